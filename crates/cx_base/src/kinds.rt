@@ -1,0 +1,75 @@
+//! The kinds of entities and of accesses.
+
+ghost use Rattle.std.specs.Prelude.{◌≡◌, IsTrue};
+ghost use Rattle.cx_base.specs.Names.{same_kind};
+
+use std::fmt;
+
+/// The type of an entity, with its number in Ceph's encodings.
+#[derive(Clone, Copy, Debug, PartialEq, Eq)]
+pub enum EntityType {
+    Mon = 1,
+    Mds = 2,
+    Osd = 4,
+    Client = 8,
+    Mgr = 16,
+    Auth = 32,
+}
+
+impl EntityType {
+    /// Whether the two types are one.
+    pub fn is(self, other: EntityType) -> bool
+        ensures { result ≡ same_kind self other }
+    {
+        match (self, other) {
+            (EntityType::Mon, EntityType::Mon) => true,
+            (EntityType::Mds, EntityType::Mds) => true,
+            (EntityType::Osd, EntityType::Osd) => true,
+            (EntityType::Client, EntityType::Client) => true,
+            (EntityType::Mgr, EntityType::Mgr) => true,
+            (EntityType::Auth, EntityType::Auth) => true,
+            _ => false,
+        }
+    }
+}
+
+impl fmt::Display for EntityType {
+    ghost use Rattle.std.specs.Prelude.{Some};
+    ghost use Rattle.cx_base.specs.Names.{type_word};
+
+    ghost output = { λ kind. Some (type_word kind) };
+
+    fn fmt<W: fmt::Write>(&self, f: &mut fmt::Formatter<W>) -> fmt::Result {
+        match self {
+            EntityType::Mon => write!(f, "mon"),
+            EntityType::Mds => write!(f, "mds"),
+            EntityType::Osd => write!(f, "osd"),
+            EntityType::Client => write!(f, "client"),
+            EntityType::Mgr => write!(f, "mgr"),
+            EntityType::Auth => write!(f, "auth"),
+        }
+    }
+}
+
+/// What an operation asks to do, with its number in a message.
+#[derive(Clone, Copy, Debug, PartialEq, Eq)]
+pub enum Access {
+    Read = 1,
+    Write = 2,
+    Exec = 4,
+}
+
+impl fmt::Display for Access {
+    ghost use Rattle.std.specs.Prelude.{Some};
+    ghost use Rattle.cx_base.specs.Names.{access_word};
+
+    ghost output = { λ access. Some (access_word access) };
+
+    fn fmt<W: fmt::Write>(&self, f: &mut fmt::Formatter<W>) -> fmt::Result {
+        match self {
+            Access::Read => write!(f, "read"),
+            Access::Write => write!(f, "write"),
+            Access::Exec => write!(f, "exec"),
+        }
+    }
+}

@@ -1,0 +1,28 @@
+//! The ground of every other crate: names, the types that own bytes, text and items, and the traits by which a program
+//! reaches what lies outside, with their objects in memory.
+#![tactic(auto)]
+
+mod copies;
+mod entity;
+mod in_memory;
+mod kinds;
+mod operations;
+mod outside;
+mod owned;
+mod refusals;
+
+pub use copies::{Duplicate, copy_items};
+pub use entity::{BadName, EntityName};
+pub use in_memory::{ByteSource, VecSink};
+pub use kinds::{Access, EntityType};
+pub use operations::Operation;
+pub use outside::{Failed, Sink, Source};
+pub use owned::{Blob, Items, Text};
+pub use refusals::TextRefusal;
+
+/// A reading of a clock, in nanoseconds. A clock and a schedule stay below 4,000,000,000 s; an expiry may reach
+/// 4,294,967,295.999999999 s.
+pub type Reading = u64;
+
+/// The nanoseconds of a second.
+pub const SECOND: u64 = 1_000_000_000;

@@ -1,0 +1,236 @@
+//! The types that own bytes, ASCII text and items. Every clause sees each of them as the list of what it holds.
+
+ghost use Rattle.std.specs.Prelude.{◌≡◌, [], ◌∷◌, ◌++◌, OnOk, OnErr, IfOk, IfErr, None, take, length};
+ghost use Rattle.std.specs.List.{position};
+ghost use Rattle.std.specs.Str.{IsAscii};
+ghost use Rattle.cx_base.specs.Owners.{is_above_ascii, IsTextCause};
+
+use crate::copies::Duplicate;
+use crate::refusals::TextRefusal;
+use std::alloc::{AllocError, Global};
+use std::fmt;
+use std::marker::Model;
+
+/// Bytes.
+#[derive(Debug, Drop)]
+pub struct Blob {
+    held: Vec<u8>,
+}
+
+impl Model for Blob {
+    ghost use Rattle.std.specs.Prelude.{ℕ, List};
+
+    ghost Value = { List ℕ };
+
+    ghost view = { λ b. b.held.items };
+}
+
+impl Blob {
+    /// No bytes.
+    pub fn new(alloc: Global) -> Blob
+        ensures { result ≡ [] }
+    {
+        Blob {
+            held: Vec::new(alloc),
+        }
+    }
+
+    /// A copy of these bytes.
+    pub fn of(alloc: Global, bytes: &[u8]) -> Result<Blob, AllocError>
+        ensures { IfOk result (λ blob. blob ≡ bytes.now) }
+    {
+        let held = Vec::from_slice(alloc, bytes)?;
+        Ok(Blob { held })
+    }
+
+    /// The bytes.
+    pub fn bytes(&self) -> &[u8]
+        ensures { result.now ≡ self.now }
+    {
+        self.held.as_slice()
+    }
+
+    /// Puts these bytes behind those that are there.
+    pub fn append(&mut self, _alloc: Global, bytes: &[u8]) -> Result<(), AllocError>
+        ensures ok { OnOk result (self.new ≡ self.old ++ bytes.now) }
+        ensures err { OnErr result (self.new ≡ self.old) }
+    {
+        self.held.extend_from_slice(bytes)
+    }
+}
+
+impl PartialEq for Blob {
+    ghost use Rattle.std.specs.Str.{bytes_eq};
+    ghost use Rattle.std.specs.Cmp;
+    ghost use Rattle.std.specs.Cmp.Lexicographic.{nat_list_eq_equiv};
+
+    ghost eq = { bytes_eq };
+
+    ghost laws = { Cmp.partial_equiv_from_equiv nat_list_eq_equiv };
+
+    fn eq(&self, other: &Self) -> bool {
+        self.bytes() == other.bytes()
+    }
+}
+
+impl Eq for Blob {
+    ghost use Rattle.std.specs.Cmp.Lexicographic.{nat_list_eq_equiv};
+
+    ghost laws = { nat_list_eq_equiv };
+}
+
+impl Duplicate for Blob {
+    fn copy(&self, alloc: Global) -> Result<Blob, AllocError> {
+        Blob::of(alloc, self.bytes())
+    }
+}
+
+/// ASCII text: no byte is above 0x7f.
+#[derive(Debug, Drop)]
+pub struct Text {
+    held: String,
+}
+
+impl Model for Text {
+    ghost use Rattle.std.specs.Prelude.{ℕ, List, string_bytes};
+    ghost use Rattle.std.specs.Str.{IsAscii};
+
+    ghost Value = { List ℕ };
+
+    ghost view = { λ t. string_bytes t.held };
+
+    ghost invariant = { λ t. IsAscii (string_bytes t.held) };
+}
+
+impl Text {
+    /// The text of these bytes.
+    pub fn of(alloc: Global, bytes: &[u8]) -> Result<Text, TextRefusal>
+        ensures ok { IfOk result (λ text. (text ≡ bytes.now) × (position is_above_ascii bytes.now ≡ None)) }
+        ensures err { IfErr result (IsTextCause bytes.now) }
+    {
+        if let Some(place) = first_above_ascii(bytes) {
+            return Err(TextRefusal::NotAscii(place));
+        }
+        let held = String::from_str(alloc, ascii(bytes))?;
+        Ok(Text { held })
+    }
+
+    /// The bytes of the text.
+    pub fn bytes(&self) -> &[u8]
+        ensures value { result.now ≡ self.now }
+        ensures ascii { IsAscii result.now }
+    {
+        self.held.as_bytes()
+    }
+
+    /// The text.
+    pub fn as_str(&self) -> &str
+        ensures { result.now ≡ self.now }
+    {
+        self.held.as_str()
+    }
+}
+
+fn first_above_ascii(bytes: &[u8]) -> Option<usize>
+    ensures { result ≡ position is_above_ascii bytes.now }
+{
+    bytes.iter().position(|b| *b > 127)
+}
+
+fn ascii(bytes: &[u8]) -> &str
+    requires { position is_above_ascii bytes.now ≡ None }
+    ensures value { result.now ≡ bytes.now }
+    ensures ascii { IsAscii result.now }
+{
+    match str::from_utf8(bytes) {
+        Ok(text) => text,
+        Err(_) => unreachable!(),
+    }
+}
+
+impl fmt::Display for Text {
+    ghost use Rattle.std.specs.Prelude.{Some};
+
+    ghost output = { λ text. Some text };
+
+    fn fmt<W: fmt::Write>(&self, f: &mut fmt::Formatter<W>) -> fmt::Result {
+        write!(f, "{}", self.held)
+    }
+}
+
+impl PartialEq for Text {
+    ghost use Rattle.std.specs.Str.{bytes_eq};
+    ghost use Rattle.std.specs.Cmp;
+    ghost use Rattle.std.specs.Cmp.Lexicographic.{nat_list_eq_equiv};
+
+    ghost eq = { bytes_eq };
+
+    ghost laws = { Cmp.partial_equiv_from_equiv nat_list_eq_equiv };
+
+    fn eq(&self, other: &Self) -> bool {
+        self.bytes() == other.bytes()
+    }
+}
+
+impl Eq for Text {
+    ghost use Rattle.std.specs.Cmp.Lexicographic.{nat_list_eq_equiv};
+
+    ghost laws = { nat_list_eq_equiv };
+}
+
+impl Duplicate for Text {
+    fn copy(&self, alloc: Global) -> Result<Text, AllocError> {
+        let held = String::from_str(alloc, self.held.as_str())?;
+        Ok(Text { held })
+    }
+}
+
+/// Items of one type, in their order.
+#[derive(Debug, Drop)]
+pub struct Items<T> {
+    held: Vec<T>,
+}
+
+impl<T> Model for Items<T> {
+    ghost use Rattle.std.specs.Prelude.{List};
+
+    ghost Value = { List T };
+
+    ghost view = { λ a. a.held.items };
+}
+
+impl<T> Items<T> {
+    /// No items.
+    pub fn new(alloc: Global) -> Items<T>
+        ensures { result ≡ [] }
+    {
+        Items {
+            held: Vec::new(alloc),
+        }
+    }
+
+    /// The items.
+    pub fn all(&self) -> &[T]
+        ensures { result.now ≡ self.now }
+    {
+        self.held.as_slice()
+    }
+}
+
+impl<T: Drop> Items<T> {
+    /// Puts the item last. Where memory is wanting the item is given up.
+    pub fn push(&mut self, _alloc: Global, item: T) -> Result<(), AllocError>
+        ensures ok { OnOk result (self.new ≡ self.old ++ item ∷ []) }
+        ensures err { OnErr result (self.new ≡ self.old) }
+    {
+        self.held.push(item)?;
+        Ok(())
+    }
+
+    /// Keeps the first `count` items and gives up the others.
+    pub fn truncate(&mut self, count: usize)
+        ensures { self.new ≡ take count self.old }
+    {
+        self.held.truncate(count);
+    }
+}
