@@ -1,0 +1,115 @@
+//! The entries of a journal.
+
+use crate::outcomes::{Outcome, Reason};
+use cx_base::{Blob, Duplicate, EntityName, EntityType, Operation, Reading, Text};
+use cx_rotate::{Generations, View};
+use std::alloc::{AllocError, Global};
+
+/// The monitor issued a ticket. Its number is its place among the issued tickets of the journal.
+#[derive(Debug, PartialEq, Eq, Drop)]
+pub struct Issued {
+    pub entity: EntityName,
+    pub service: EntityType,
+    pub gid: u64,
+    pub generation: u64,
+    pub created: Reading,
+    pub expires: Reading,
+    pub caps: Text,
+    pub blob: Blob,
+}
+
+/// A daemon took the generations of its own type, for which it had asked at this reading.
+#[derive(Debug, PartialEq, Eq, Drop)]
+pub struct Fetched {
+    pub daemon: EntityName,
+    pub asked: Reading,
+    pub generations: Generations,
+}
+
+/// A daemon looked at its view for an authorizer that came on this link.
+#[derive(Debug, PartialEq, Eq, Drop)]
+pub struct Looked {
+    pub daemon: EntityName,
+    pub link: u32,
+    pub view: View,
+}
+
+/// A daemon admitted a session for an entity, at a reading of its own.
+#[derive(Debug, PartialEq, Eq, Drop)]
+pub struct Admitted {
+    pub daemon: EntityName,
+    pub session: u64,
+    pub epoch: u64,
+    pub cookie: u64,
+    pub entity: EntityName,
+    pub gid: u64,
+    pub at: Reading,
+    pub caps: Text,
+}
+
+/// A client sent an operation in the session of this cookie.
+#[derive(Debug, PartialEq, Eq, Drop)]
+pub struct Sent {
+    pub client: EntityName,
+    pub daemon: EntityName,
+    pub cookie: u64,
+    pub seq: u64,
+    pub operation: Operation,
+}
+
+/// A daemon handled an operation in a session.
+#[derive(Debug, PartialEq, Eq, Drop)]
+pub struct Handled {
+    pub daemon: EntityName,
+    pub session: u64,
+    pub epoch: u64,
+    pub cookie: u64,
+    pub seq: u64,
+    pub operation: Operation,
+    pub outcome: Outcome,
+}
+
+/// A client got the answer to the operation of this tid.
+#[derive(Debug, PartialEq, Eq, Drop)]
+pub struct Answered {
+    pub client: EntityName,
+    pub daemon: EntityName,
+    pub cookie: u64,
+    pub tid: u64,
+    pub outcome: Outcome,
+}
+
+/// A node refused something, on this link or, at 0, on none. Where a ticket was refused its blob is here.
+#[derive(Debug, PartialEq, Eq, Drop)]
+pub struct Refused {
+    pub node: EntityName,
+    pub link: u32,
+    pub reason: Reason,
+    pub ticket: Option<Blob>,
+}
+
+/// One entry of a journal.
+#[derive(Debug, PartialEq, Eq, Drop)]
+pub enum Entry {
+    /// The monitor saved its state, with this next global id.
+    Saved(u64),
+    Issued(Issued),
+    Fetched(Fetched),
+    Looked(Looked),
+    Admitted(Admitted),
+    Sent(Sent),
+    Handled(Handled),
+    Answered(Answered),
+    Refused(Refused),
+}
+
+impl Duplicate for Fetched {
+    fn copy(&self, alloc: Global) -> Result<Fetched, AllocError> {
+        let daemon = self.daemon.copy(alloc)?;
+        Ok(Fetched {
+            daemon,
+            asked: self.asked,
+            generations: self.generations,
+        })
+    }
+}

@@ -1,0 +1,10 @@
+//! The journal of a run: what happened at each node, one entry after the other, and its text.
+#![tactic(auto)]
+
+mod entries;
+mod outcomes;
+
+pub use entries::{
+    Admitted, Answered, Entry, Fetched, Handled, Issued, Looked, Refused, Sent,
+};
+pub use outcomes::{Outcome, Reason};

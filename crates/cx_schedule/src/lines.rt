@@ -1,0 +1,42 @@
+//! The lines of a schedule.
+
+use cx_base::{Duplicate, EntityName, EntityType, Items, Operation, Reading, Text};
+use std::alloc::{AllocError, Global};
+
+/// The caps text that an entity has for a service.
+#[derive(Debug, PartialEq, Eq, Drop)]
+pub struct Grant {
+    pub service: EntityType,
+    pub caps: Text,
+}
+
+/// A line of a schedule.
+#[derive(Debug, PartialEq, Eq, Drop)]
+pub enum Line {
+    /// The life of service secrets and tickets, 1 to 31,536,000 seconds.
+    Lifetime(u64),
+    /// The life of the monitor's own secrets and tickets, 1 to 31,536,000 seconds.
+    AuthLifetime(u64),
+    /// An entity and its caps, each for another service.
+    Entity(EntityName, Items<Grant>),
+    /// The reading of all clocks from here on, below 4,000,000,000 s.
+    Clock(Reading),
+    /// A daemon fetches the generations of its type.
+    Fetch(EntityName),
+    /// A client logs in and asks for tickets of these services.
+    Login(EntityName, Items<EntityType>),
+    /// A client connects to a daemon.
+    Connect(EntityName, EntityName),
+    /// A client sends an operation to a daemon.
+    Send(EntityName, EntityName, Operation),
+}
+
+impl Duplicate for Grant {
+    fn copy(&self, alloc: Global) -> Result<Grant, AllocError> {
+        let caps = self.caps.copy(alloc)?;
+        Ok(Grant {
+            service: self.service,
+            caps,
+        })
+    }
+}
