@@ -76,3 +76,11 @@ fn byte_at(bytes: &[u8], place: usize) -> u8
 {
     if place < bytes.len() { bytes[place] } else { 0 }
 }
+
+// Values of `T` may be sent to another thread, and shared between threads.
+fn is_sendable<T: Send + Sync>() {}
+
+// A code under way may.
+fn sends_codes() {
+    is_sendable::<Mac>();
+}
