@@ -126,8 +126,7 @@ impl Generations {
     pub fn current(&self) -> Option<Generation>
         ensures { result ≡ slice_get self.now 1 }
     {
-        let three = self.held?;
-        Some(three.current)
+        self.held.map(|three| three.current)
     }
 
     /// The generation at this place, from 0.

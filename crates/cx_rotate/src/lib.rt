@@ -3,6 +3,8 @@
 
 mod generations;
 mod laws;
+#[cfg(test)]
+mod tests;
 mod views;
 
 pub use generations::{Generation, Generations};
