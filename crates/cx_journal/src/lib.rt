@@ -4,7 +4,9 @@
 mod copies;
 mod entries;
 mod journals;
+mod lines;
 mod outcomes;
+mod words;
 
 pub use entries::{
     Admitted, Answered, Entry, Fetched, Handled, Issued, Looked, Refused, Sent,

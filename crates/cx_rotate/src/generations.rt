@@ -1,6 +1,6 @@
 //! Generations of a rotating service secret.
 
-ghost use Rattle.std.specs.Prelude.{◌≡◌, []};
+ghost use Rattle.std.specs.Prelude.{◌≡◌, [], slice_get, MatchOption};
 
 use cx_base::Reading;
 use std::marker::Model;
@@ -47,5 +47,28 @@ impl Generations {
         ensures { result ≡ [] }
     {
         Generations { held: None }
+    }
+
+    /// The generation at this place, from 0.
+    pub fn get(&self, place: u8) -> Option<Generation>
+        ensures { result ≡ slice_get self.now place }
+    {
+        let three = self.held?;
+        match place {
+            0 => Some(three.previous),
+            1 => Some(three.current),
+            2 => Some(three.next),
+            _ => None,
+        }
+    }
+}
+
+impl Generations {
+    /// The three that stand.
+    pub fn all(&self) -> Option<[Generation; 3]>
+        ensures { MatchOption result (self.now ≡ []) (λ all. self.now ≡ all) }
+    {
+        let three = self.held?;
+        Some([three.previous, three.current, three.next])
     }
 }
