@@ -1,5 +1,6 @@
 pub mod Backed
 pub mod Behind
+pub mod Counts
 pub mod InSession
 pub mod JournalText
 pub mod KeepsKeys

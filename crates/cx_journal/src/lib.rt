@@ -2,6 +2,7 @@
 #![tactic(auto)]
 
 mod copies;
+mod counts;
 mod entries;
 mod journals;
 mod lines;
