@@ -66,3 +66,21 @@ different_push (x ∷ xs) c =
         true ↦ first x c true (different xs)
       | false ↦ first x c false (different xs)
     ] refl
+
+-- the place of an element that goes last where it isn't there
+placed : (n len : ℕ) (b : Bool) → n ≤ len → ltb n len ≡ b → cond b n len ≡ n
+placed n len true low e = refl
+placed n len false low e = grind (arith, nat_tests)
+
+some_below : (n : ℕ) (b : Bool) → is_some (cond b (Some n) None) ≡ b
+some_below n true = refl
+some_below n false = refl
+
+pub place_in_pushed : {X : Type 0} (p : X → Bool) (xs : List X) (y : X) (b : Bool) → p y ≡ true → is_some (position p xs) ≡ b → position p (cond b xs (xs ++ y ∷ [])) ≡ Some (position_or_len p xs)
+place_in_pushed p xs y true passes has =
+    let below : ltb (position_or_len p xs) (length xs) ≡ true = sym (some_below (position_or_len p xs) (ltb (position_or_len p xs) (length xs))) ∙ has in
+    ap (λ b. cond b (Some (position_or_len p xs)) None) below
+place_in_pushed p xs y false passes has =
+    let past : ltb (position_or_len p xs) (length xs) ≡ false = sym (some_below (position_or_len p xs) (ltb (position_or_len p xs) (length xs))) ∙ has in
+    position_push p xs y ∙ ap (λ b. cond b (position p xs) (cond (p y) (Some (length xs)) None)) has ∙ ap (λ b. cond b (Some (length xs)) None) passes
+    ∙ ap Some (placed (position_or_len p xs) (length xs) false (within p xs) past)

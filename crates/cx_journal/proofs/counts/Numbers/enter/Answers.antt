@@ -1,16 +1,12 @@
--- The numbers behind one more ticket.
-use Rattle.std.proofs.Common.{sym, ◌∙◌}
-use Rattle.cx_journal.proofs.CountsLemmas.{numbers_stay, numbers_grow}
+-- The blobs of the entries grow by that of the entry.
+use Rattle.std.proofs.Common.{sym, ◌∙◌, ap}
+use Rattle.std.specs.Option.{option_copied}
+use Rattle.cx_journal.specs.Places.{blob_of, blobs_of}
+use Rattle.cx_journal.proofs.CountsLemmas.{filter_map_push, filter_map_same}
 use Rattle.cx_journal.proofs.counts.Numbers.enter.Goals as goal
-use Rattle.cx_journal.proofs.counts.Numbers.enter.Goals.{then-not-contains_key+in_ok-key+in_ok-insert, else-not-contains_key}
 
-pub returns : goal.returns
-returns c = λ blobs h. elim c.if-not-contains_key.branch [
-    then-not-contains_key+in_ok-key+in_ok-insert w ↦
-        let updates = rw w.in_ok-key.ensures at w.in_ok-insert.ensures.updates in
-        rw w.self-is (numbers_grow c.args.self.now.numbers w.insert.new.self c.args.self.now.issued blobs c.args.blob.now
-            (sym c.contains_key.ensures ∙ w.if-not-contains_key.true) updates h)
-  | else-not-contains_key w ↦
-        rw w.self-is (numbers_stay c.args.self.now.numbers c.args.self.now.issued blobs c.args.blob.now
-            (sym c.contains_key.ensures ∙ w.if-not-contains_key.false) h)
-  ]
+pub returns-in-None : goal.returns-in-None
+returns-in-None c = λ earlier h. rw (filter_map_same blob_of earlier c.args.entry.now (sym c.in-None.ensures)) h
+
+pub returns-in-Some : goal.returns-in-Some
+returns-in-Some c = λ earlier h. rw (filter_map_push blob_of earlier c.args.entry.now c.in-Some.blob.now (sym c.in-Some.ensures)) (c.add.ensures (blobs_of earlier) h)

@@ -1,13 +1,12 @@
--- The ranks behind one more cookie.
+-- The cookies of the entries grow by that of the entry.
 use Rattle.std.proofs.Common.{sym, ◌∙◌}
-use Rattle.cx_journal.proofs.CountsLemmas.{ranks_stay, ranks_grow}
+use Rattle.std.specs.List.{filter_map}
+use Rattle.cx_journal.specs.Places.{cookie_of}
+use Rattle.cx_journal.proofs.CountsLemmas.{filter_map_push, filter_map_same}
 use Rattle.cx_journal.proofs.counts.Ranks.enter.Goals as goal
 
-pub returns-then-contains_key : goal.returns-then-contains_key
-returns-then-contains_key c = λ cookies h. ranks_stay c.args.self.now.ranks cookies c.args.cookie (sym c.contains_key.ensures ∙ c.if-contains_key.true) h
+pub returns-in-None : goal.returns-in-None
+returns-in-None c = λ earlier h. rw (filter_map_same cookie_of earlier c.args.entry.now (sym c.cookie_of.ensures ∙ c.in-None.is)) h
 
-pub returns : goal.returns
-returns c = λ cookies h.
-    let updates = rw c.len.ensures.len at c.in_ok-insert.ensures.updates in
-    ranks_grow c.args.self.now.ranks c.insert.new.self cookies c.args.cookie c.in_ok-insert.field-0
-        (sym c.contains_key.ensures ∙ c.if-contains_key.false) updates c.in_ok-insert.ensures.old c.in_ok-insert.ensures.len h
+pub returns-in-Some : goal.returns-in-Some
+returns-in-Some c = λ earlier h. rw (filter_map_push cookie_of earlier c.args.entry.now c.in-Some.cookie (sym c.cookie_of.ensures ∙ c.in-Some.is)) (c.add.ensures (filter_map cookie_of earlier) h)
