@@ -1,8 +1,8 @@
 -- The maps behind one more cookie or blob.
-use Rattle.std.proofs.Common.{◌≡◌, ℕ, ◌+◌, List, [], ◌∷◌, ◌++◌, length, Bool, true, false, cond, position, Option, Some, None, is_some, refl, sym, ◌∙◌, ap, arith, ◌==◌, length-append, append-nil}
+use Rattle.std.proofs.Common.{◌≡◌, ℕ, suc, ◌+◌, ◌≤◌, List, [], ◌∷◌, ◌++◌, length, Bool, true, false, cond, position, Option, Some, None, is_some, refl, sym, ◌∙◌, ap, arith, ◌==◌, length-append, append-nil}
 use Rattle.std.specs.List.{list_any, filter_map, cons_option}
 use Rattle.std.specs.Option.{option_map}
-use Rattle.std.specs.Ordering.{nat_cmp, is_eq}
+use Rattle.std.specs.Ordering.{nat_cmp}
 use Rattle.std.specs.declared.cmp.Ordering.{Ordering}
 use Rattle.std.specs.Str.{bytes_eq}
 use Rattle.std.specs.Cmp.{unsigned_ties}
@@ -90,7 +90,7 @@ ranks_grow m n cookies cookie old has updates was len h =
     let updated : Updates nat_cmp m n cookie (Some (length (different cookies) + 1)) = rw h.count at updates in
     record {
       place = λ q. rw more (tells_grow (λ a b. a == b) nat_cmp number_ties (λ a b e. eqb-true a b e) m n (different cookies) cookie has updated h.place q);
-      count = rw more (omega (arith, length-append (different cookies) (cookie ∷ []), h.count))
+      count = rw more (omega (arith, length-append (different cookies) (cookie ∷ []), h.count));
     }
 
 pub numbers_stay : (m : BTreeMap (List ℕ) ℕ) (issued : ℕ) (blobs : List (List ℕ)) (blob : List ℕ) → is_some (get (slice_cmp nat_cmp) m blob) ≡ true → IsNumbersOf m issued blobs → IsNumbersOf m (issued + 1) (blobs ++ blob ∷ [])
@@ -106,3 +106,12 @@ numbers_grow m n issued blobs blob has updates h =
       count = omega (arith, length-append blobs (blob ∷ []), h.count);
       place = tells_grow bytes_eq (slice_cmp nat_cmp) blob_ties blob_exact m n blobs blob has updated h.place;
     }
+
+more_or_same : {Y : Type 0} (o : Option Y) (ys : List Y) (n : ℕ) → length ys ≤ n → length (cons_option o ys) ≤ suc n
+more_or_same None ys n few = omega arith
+more_or_same (Some y) ys n few = omega arith
+
+-- no more are kept than there are
+pub no_more : {X Y : Type 0} (h : X → Option Y) (xs : List X) → length (filter_map h xs) ≤ length xs
+no_more h [] = omega arith
+no_more h (x ∷ xs) = more_or_same (h x) (filter_map h xs) (length xs) (no_more h xs)

@@ -1,6 +1,6 @@
 -- The counts behind an entry give what its line says.
-use Rattle.std.proofs.Common.{◌≡◌, ℕ, ◌+◌, List, [], ◌∷◌, ◌++◌, length, Bool, true, false, cond, position, Option, Some, None, is_some, unwrap_or, refl, sym, ◌∙◌, ap, subst, arith, ◌==◌, length-append, eqb, eq-eqb}
-use Rattle.std.specs.List.{list_any, filter_map, position_or_len}
+use Rattle.std.proofs.Common.{◌≡◌, ℕ, ◌+◌, List, [], ◌∷◌, ◌++◌, length, cond, position, Option, Some, None, unwrap_or, refl, sym, ◌∙◌, ap, arith, ◌==◌, length-append, eq-eqb}
+use Rattle.std.specs.List.{list_any, filter_map}
 use Rattle.std.specs.Option.{option_map, option_map_or}
 use Rattle.std.specs.Ordering.{nat_cmp}
 use Rattle.std.specs.Str.{bytes_eq}
@@ -24,7 +24,7 @@ rank_is : (counts : Counts) (earlier : List Entry) (e : Entry) (cookie : ℕ) �
 rank_is counts earlier e cookie tells h =
     let among = cookies_of earlier in
     let pushed : cookies_of (earlier ++ e ∷ []) ≡ cond (list_any (λ d. cookie == d) among) among (among ++ cookie ∷ []) =
-        ap different (filter_map_push cookie_of earlier e cookie tells) ∙ different_push (filter_map cookie_of earlier) cookie in
+    ap different (filter_map_push cookie_of earlier e cookie tells) ∙ different_push (filter_map cookie_of earlier) cookie in
     let place = place_in_pushed (λ d. cookie == d) among cookie (list_any (λ d. cookie == d) among) (eq-eqb cookie cookie refl) (any_is_position (λ d. cookie == d) among) in
     ap (λ o. unwrap_or o 0) (h.cookies.place cookie ∙ ap (λ ks. option_map (λ n. n + 1) (position (λ d. cookie == d) ks)) pushed ∙ ap (option_map (λ n. n + 1)) place)
 

@@ -1,12 +1,11 @@
 -- Places in lists that grow by one at the end.
-use Rattle.std.proofs.Common.{◌≡◌, ℕ, suc, ◌+◌, ◌≤◌, ◌<◌, List, [], ◌∷◌, ◌++◌, length, Bool, true, false, cond, not, ◌||◌, ◌&&◌, filter, position, Option, Some, None, is_some, refl, sym, ◌∙◌, ap, subst, eqb, ltb, arith, append-nil, nat_lt, ◌==◌, length-append}
-use Rattle.std.specs.List.{position_or_len, list_any, prefix_len}
+use Rattle.std.proofs.Common.{◌≡◌, ℕ, suc, ◌+◌, ◌≤◌, List, [], ◌∷◌, ◌++◌, length, Bool, true, false, cond, not, ◌||◌, filter, position, Some, None, is_some, refl, sym, ◌∙◌, ap, eqb, ltb, arith, append-nil, ◌==◌, length-append}
+use Rattle.std.specs.List.{position_or_len, list_any}
 use Rattle.std.proofs.lemmas.List.Folds.{position_or_len_push}
 use Rattle.std.proofs.lemmas.List.Sums.{prefix_len-le-length}
 use Rattle.std.proofs.lemmas.List.Elements.{filter-append}
 use Rattle.std.proofs.lemmas.Map.Views.{any-filter_same}
 use Rattle.std.proofs.lemmas.Bool.Decides.{nat_tests}
-use Rattle.std.proofs.lemmas.Grind.{common_steps}
 use Rattle.cx_journal.specs.Places.{different}
 
 within : {X : Type 0} (p : X → Bool) (xs : List X) → position_or_len p xs ≤ length xs
@@ -39,7 +38,7 @@ kept x c ds apart =
     let end = filter-append (λ d. not (d == x)) ds (c ∷ []) in
     let keeps : not (c == x) ≡ true = grind (arith, nat_tests) in
     rw same (elim (list_any (λ d. c == d) ds) as (λ b. filter (λ d. not (d == x)) (cond b ds (ds ++ c ∷ [])) ≡ cond b (filter (λ d. not (d == x)) ds) (filter (λ d. not (d == x)) ds ++ c ∷ [])) [
-        true ↦ refl
+      | true ↦ refl
       | false ↦ rw (end, keeps) refl
     ])
 
@@ -48,7 +47,7 @@ lost x c ds same =
     let end = filter-append (λ d. not (d == x)) ds (c ∷ []) in
     let drops : not (c == x) ≡ false = grind (arith, nat_tests) in
     elim (list_any (λ d. c == d) ds) as (λ b. filter (λ d. not (d == x)) (cond b ds (ds ++ c ∷ [])) ≡ filter (λ d. not (d == x)) ds) [
-        true ↦ refl
+      | true ↦ refl
       | false ↦ rw (end, drops) (append-nil _)
     ]
 
@@ -63,7 +62,7 @@ different_push [] c = refl
 different_push (x ∷ xs) c =
     ap (λ ds. x ∷ filter (λ d. not (d == x)) ds) (different_push xs c)
     ∙ elim (c == x) as (λ b. (c == x) ≡ b → x ∷ filter (λ d. not (d == x)) (cond (list_any (λ d. c == d) (different xs)) (different xs) (different xs ++ c ∷ [])) ≡ cond (b || list_any (λ d. c == d) (filter (λ d. not (d == x)) (different xs))) (x ∷ filter (λ d. not (d == x)) (different xs)) (x ∷ filter (λ d. not (d == x)) (different xs) ++ c ∷ [])) [
-        true ↦ first x c true (different xs)
+      | true ↦ first x c true (different xs)
       | false ↦ first x c false (different xs)
     ] refl
 

@@ -7,10 +7,10 @@ mod entries;
 mod journals;
 mod lines;
 mod outcomes;
+mod texts;
 mod words;
 
-pub use entries::{
-    Admitted, Answered, Entry, Fetched, Handled, Issued, Looked, Refused, Sent,
-};
+pub use entries::{Admitted, Answered, Entry, Fetched, Handled, Issued, Looked, Refused, Sent};
 pub use journals::Journal;
 pub use outcomes::{Outcome, Reason};
+pub use texts::put_text;

@@ -18,27 +18,52 @@ pub fn issued_line(alloc: Global, number: u64, t: &Issued) -> Result<String, All
     ensures { IfOk result (λ line. string_bytes line ≡ issued_line number t.now) }
 {
     let mut line = format!(in alloc; "issued {} {} {} {}", number, t.entity, t.service, t.gid)?;
-    write!(line, " {} {} {} \"{}\"\n", t.generation, Seconds(t.created), Seconds(t.expires), t.caps)?;
+    write!(
+        line,
+        " {} {} {} \"{}\"\n",
+        t.generation,
+        Seconds(t.created),
+        Seconds(t.expires),
+        t.caps
+    )?;
     Ok(line)
 }
 
 pub fn fetched_line(alloc: Global, f: &Fetched) -> Result<String, AllocError>
     ensures { IfOk result (λ line. string_bytes line ≡ fetched_line f.now) }
 {
-    format!(in alloc; "fetched {} {} {}\n", f.daemon, Seconds(f.asked), Ids(f.generations))
+    format!(in alloc;
+        "fetched {} {} {}\n",
+        f.daemon,
+        Seconds(f.asked),
+        Ids(f.generations)
+    )
 }
 
 pub fn looked_line(alloc: Global, l: &Looked) -> Result<String, AllocError>
     ensures { IfOk result (λ line. string_bytes line ≡ looked_line l.now) }
 {
-    format!(in alloc; "looked {} {} {} {}\n", l.daemon, l.link, Ids(l.view.generations), Asked(l.view.asked))
+    format!(in alloc;
+        "looked {} {} {} {}\n",
+        l.daemon,
+        l.link,
+        Ids(l.view.generations),
+        Asked(l.view.asked)
+    )
 }
 
 pub fn admitted_line(alloc: Global, rank: u64, a: &Admitted) -> Result<String, AllocError>
     ensures { IfOk result (λ line. string_bytes line ≡ admitted_line rank a.now) }
 {
     let mut line = format!(in alloc; "admitted {} {} {} c{}", a.daemon, a.session, a.epoch, rank)?;
-    write!(line, " {} {} {} \"{}\"\n", a.entity, a.gid, Seconds(a.at), a.caps)?;
+    write!(
+        line,
+        " {} {} {} \"{}\"\n",
+        a.entity,
+        a.gid,
+        Seconds(a.at),
+        a.caps
+    )?;
     Ok(line)
 }
 
@@ -46,7 +71,10 @@ pub fn sent_line(alloc: Global, rank: u64, s: &Sent) -> Result<String, AllocErro
     ensures { IfOk result (λ line. string_bytes line ≡ sent_line rank s.now) }
 {
     let operation = operation_text(alloc, &s.operation)?;
-    format!(in alloc; "sent {} {} c{} {} {}\n", s.client, s.daemon, rank, s.seq, operation)
+    format!(in alloc;
+        "sent {} {} c{} {} {}\n",
+        s.client, s.daemon, rank, s.seq, operation
+    )
 }
 
 pub fn handled_line(alloc: Global, rank: u64, h: &Handled) -> Result<String, AllocError>
@@ -61,7 +89,10 @@ pub fn handled_line(alloc: Global, rank: u64, h: &Handled) -> Result<String, All
 pub fn answered_line(alloc: Global, a: &Answered) -> Result<String, AllocError>
     ensures { IfOk result (λ line. string_bytes line ≡ answered_line a.now) }
 {
-    format!(in alloc; "answered {} {} {} {}\n", a.client, a.daemon, a.tid, a.outcome)
+    format!(in alloc;
+        "answered {} {} {} {}\n",
+        a.client, a.daemon, a.tid, a.outcome
+    )
 }
 
 /// The number is that of the refused ticket.

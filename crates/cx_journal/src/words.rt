@@ -74,8 +74,7 @@ pub fn operation_text(alloc: Global, operation: &Operation) -> Result<String, Al
     ensures { IfOk result (λ text. string_bytes text ≡ operation_text operation.now) }
 {
     let data = data_text(alloc, &operation.bytes)?;
-    format!(
-        in alloc;
+    format!(in alloc;
         "{} {} {} {} {}",
         operation.access,
         word_text(&operation.pool),

@@ -1,6 +1,5 @@
 -- The blobs of the entries grow by that of the entry.
-use Rattle.std.proofs.Common.{sym, ◌∙◌, ap}
-use Rattle.std.specs.Option.{option_copied}
+use Rattle.std.proofs.Common.{sym}
 use Rattle.cx_journal.specs.Places.{blob_of, blobs_of}
 use Rattle.cx_journal.proofs.CountsLemmas.{filter_map_push, filter_map_same}
 use Rattle.cx_journal.proofs.counts.Numbers.enter.Goals as goal

@@ -10,4 +10,4 @@ pub returns : goal.returns
 returns c = λ cookies h.
     let updates = rw c.len.ensures.len at c.in_ok-insert.ensures.updates in
     ranks_grow c.args.self.now.ranks c.insert.new.self cookies c.args.cookie c.in_ok-insert.field-0
-        (sym c.contains_key.ensures ∙ c.if-contains_key.false) updates c.in_ok-insert.ensures.old c.in_ok-insert.ensures.len h
+    (sym c.contains_key.ensures ∙ c.if-contains_key.false) updates c.in_ok-insert.ensures.old c.in_ok-insert.ensures.len h
