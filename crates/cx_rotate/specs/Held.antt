@@ -18,3 +18,7 @@ IsRising _ = ⊥
 abbrev pub held_of : List Generation → Option Three
 held_of (a ∷ b ∷ c ∷ []) = Some (record { previous = a; current = b; next = c })
 held_of _ = None
+
+-- three whose ids don't rise by one
+abbrev pub HasGap : List Generation → Type 0
+HasGap all = IsRising all → ⊥
