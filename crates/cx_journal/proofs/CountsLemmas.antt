@@ -14,7 +14,7 @@ use Rattle.std.proofs.lemmas.Bool.Decides.{nat_tests}
 use Rattle.std.proofs.lemmas.Slice.Eq.{bytes_eq-Decides}
 use Rattle.std.proofs.lemmas.Map.Text.{is_eq-slice_cmp}
 use Rattle.cx_journal.specs.Places.{different}
-use Rattle.cx_journal.specs.Counts.{IsRanksOf, IsNumbersOf}
+use Rattle.cx_journal.specs.Ranked.{IsRanksOf, IsNumbersOf}
 use Rattle.cx_journal.proofs.Positions.{position_push, any_is_position, different_push}
 
 module _ {X Y : Type 0} (h : X → Option Y) where

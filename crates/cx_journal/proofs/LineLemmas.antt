@@ -7,7 +7,7 @@ use Rattle.std.specs.Str.{bytes_eq}
 use Rattle.std.specs.Cmp.Lexicographic.{slice_cmp}
 use Rattle.std.specs.BTreeMap.{get}
 use Rattle.cx_journal.specs.Places.{different, cookie_of, cookies_of, blob_of, blobs_of, rank, next_number, ticket_number}
-use Rattle.cx_journal.specs.Counts.{IsCountOf}
+use Rattle.cx_journal.specs.Counted.{IsCountOf}
 use Rattle.cx_journal.specs.JournalText.{line, issued_line, admitted_line, sent_line, handled_line, refused_line}
 use Rattle.cx_journal.specs.declared.counts.Counts.{Counts}
 use Rattle.cx_journal.specs.declared.entries.Entry.{Entry}

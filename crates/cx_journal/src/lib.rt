@@ -6,7 +6,11 @@ mod counts;
 mod entries;
 mod journals;
 mod lines;
+mod numbers;
 mod outcomes;
+mod ranks;
+#[cfg(test)]
+mod tests;
 mod texts;
 mod words;
 

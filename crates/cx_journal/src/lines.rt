@@ -55,15 +55,11 @@ pub fn looked_line(alloc: Global, l: &Looked) -> Result<String, AllocError>
 pub fn admitted_line(alloc: Global, rank: u64, a: &Admitted) -> Result<String, AllocError>
     ensures { IfOk result (λ line. string_bytes line ≡ admitted_line rank a.now) }
 {
-    let mut line = format!(in alloc; "admitted {} {} {} c{}", a.daemon, a.session, a.epoch, rank)?;
-    write!(
-        line,
-        " {} {} {} \"{}\"\n",
-        a.entity,
-        a.gid,
-        Seconds(a.at),
-        a.caps
+    let mut line = format!(in alloc;
+        "admitted {} {} {} c{} {}",
+        a.daemon, a.session, a.epoch, rank, a.entity
     )?;
+    write!(line, " {} {} \"{}\"\n", a.gid, Seconds(a.at), a.caps)?;
     Ok(line)
 }
 

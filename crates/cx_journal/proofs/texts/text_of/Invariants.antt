@@ -1,5 +1,5 @@
 use Rattle.std.proofs.Common.{◌≡◌, ◌++◌, take, drop}
-use Rattle.cx_journal.specs.Counts.{IsCountOf}
+use Rattle.cx_journal.specs.Counted.{IsCountOf}
 use Rattle.cx_journal.specs.JournalText.{text_behind, journal_text}
 use Rattle.cx_journal.proofs.texts.text_of.Given as goal
 

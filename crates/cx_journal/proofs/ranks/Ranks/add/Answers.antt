@@ -1,7 +1,7 @@
 -- The ranks behind one more cookie.
 use Rattle.std.proofs.Common.{sym, ◌∙◌}
 use Rattle.cx_journal.proofs.CountsLemmas.{ranks_stay, ranks_grow}
-use Rattle.cx_journal.proofs.counts.Ranks.add.Goals as goal
+use Rattle.cx_journal.proofs.ranks.Ranks.add.Goals as goal
 
 pub returns-then-contains_key : goal.returns-then-contains_key
 returns-then-contains_key c = λ cookies h. ranks_stay c.args.self.now.ranks cookies c.args.cookie (sym c.contains_key.ensures ∙ c.if-contains_key.true) h

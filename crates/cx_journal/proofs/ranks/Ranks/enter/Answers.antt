@@ -3,7 +3,7 @@ use Rattle.std.proofs.Common.{sym, ◌∙◌}
 use Rattle.std.specs.List.{filter_map}
 use Rattle.cx_journal.specs.Places.{cookie_of}
 use Rattle.cx_journal.proofs.CountsLemmas.{filter_map_push, filter_map_same}
-use Rattle.cx_journal.proofs.counts.Ranks.enter.Goals as goal
+use Rattle.cx_journal.proofs.ranks.Ranks.enter.Goals as goal
 
 pub returns-in-None : goal.returns-in-None
 returns-in-None c = λ earlier h. rw (filter_map_same cookie_of earlier c.args.entry.now (sym c.cookie_of.ensures ∙ c.in-None.is)) h

@@ -2,7 +2,7 @@
 use Rattle.std.proofs.Common.{sym}
 use Rattle.cx_journal.specs.Places.{blob_of, blobs_of}
 use Rattle.cx_journal.proofs.CountsLemmas.{filter_map_push, filter_map_same}
-use Rattle.cx_journal.proofs.counts.Numbers.enter.Goals as goal
+use Rattle.cx_journal.proofs.numbers.Numbers.enter.Goals as goal
 
 pub returns-in-None : goal.returns-in-None
 returns-in-None c = λ earlier h. rw (filter_map_same blob_of earlier c.args.entry.now (sym c.in-None.ensures)) h

@@ -1,8 +1,8 @@
 -- The numbers behind one more ticket.
 use Rattle.std.proofs.Common.{sym, ◌∙◌}
 use Rattle.cx_journal.proofs.CountsLemmas.{numbers_stay, numbers_grow}
-use Rattle.cx_journal.proofs.counts.Numbers.add.Goals as goal
-use Rattle.cx_journal.proofs.counts.Numbers.add.Goals.{then-not-contains_key+in_ok-key+in_ok-insert, else-not-contains_key}
+use Rattle.cx_journal.proofs.numbers.Numbers.add.Goals as goal
+use Rattle.cx_journal.proofs.numbers.Numbers.add.Goals.{then-not-contains_key+in_ok-key+in_ok-insert, else-not-contains_key}
 
 pub returns : goal.returns
 returns c = λ blobs h. elim c.if-not-contains_key.branch [
