@@ -37,7 +37,8 @@ impl Counts {
     /// The next entry.
     pub fn enter(&mut self, alloc: Global, entry: &Entry) -> Result<(), AllocError>
         requires { self.old.numbers.issued + 1 < 2 ^ 64 }
-        ensures { (earlier : List Entry) → IsCountOf self.old earlier → OnOk result (IsCountOf self.new (earlier ++ entry.now ∷ [])) }
+        ensures { (earlier : List Entry) → IsCountOf self.old earlier
+            → OnOk result (IsCountOf self.new (earlier ++ entry.now ∷ [])) }
     {
         self.numbers.enter(alloc, entry)?;
         self.ranks.enter(entry)
@@ -45,7 +46,8 @@ impl Counts {
 
     /// The line of the entry that was entered last.
     pub fn line(&self, alloc: Global, entry: &Entry) -> Result<String, AllocError>
-        ensures { (earlier : List Entry) → IsCountOf self.now (earlier ++ entry.now ∷ []) → IfOk result (λ text. string_bytes text ≡ line earlier entry.now) }
+        ensures { (earlier : List Entry) → IsCountOf self.now (earlier ++ entry.now ∷ [])
+            → IfOk result (λ text. string_bytes text ≡ line earlier entry.now) }
     {
         match entry {
             Entry::Saved(next) => lines::saved_line(alloc, *next),

@@ -35,7 +35,8 @@ impl Numbers {
     /// The next entry.
     pub fn enter(&mut self, alloc: Global, entry: &Entry) -> Result<(), AllocError>
         requires { self.old.issued + 1 < 2 ^ 64 }
-        ensures { (earlier : List Entry) → IsNumbersOf self.old.numbers self.old.issued (blobs_of earlier) → OnOk result (IsNumbersOf self.new.numbers self.new.issued (blobs_of (earlier ++ entry.now ∷ []))) }
+        ensures { (earlier : List Entry) → IsNumbersOf self.old.numbers self.old.issued (blobs_of earlier)
+            → OnOk result (IsNumbersOf self.new.numbers self.new.issued (blobs_of (earlier ++ entry.now ∷ []))) }
     {
         match blob_of(entry) {
             None => Ok(()),
@@ -46,7 +47,8 @@ impl Numbers {
     // The next ticket has this blob.
     fn add(&mut self, alloc: Global, blob: &Blob) -> Result<(), AllocError>
         requires { self.old.issued + 1 < 2 ^ 64 }
-        ensures { (blobs : List (List ℕ)) → IsNumbersOf self.old.numbers self.old.issued blobs → OnOk result (IsNumbersOf self.new.numbers self.new.issued (blobs ++ blob.now ∷ [])) }
+        ensures { (blobs : List (List ℕ)) → IsNumbersOf self.old.numbers self.old.issued blobs
+            → OnOk result (IsNumbersOf self.new.numbers self.new.issued (blobs ++ blob.now ∷ [])) }
     {
         let number = self.issued + 1;
         if !self.numbers.contains_key(blob) {

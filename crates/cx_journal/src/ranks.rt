@@ -30,7 +30,8 @@ impl Ranks {
 
     /// The next entry.
     pub fn enter(&mut self, entry: &Entry) -> Result<(), AllocError>
-        ensures { (earlier : List Entry) → IsRanksOf self.old.ranks (filter_map cookie_of earlier) → OnOk result (IsRanksOf self.new.ranks (filter_map cookie_of (earlier ++ entry.now ∷ []))) }
+        ensures { (earlier : List Entry) → IsRanksOf self.old.ranks (filter_map cookie_of earlier)
+            → OnOk result (IsRanksOf self.new.ranks (filter_map cookie_of (earlier ++ entry.now ∷ []))) }
     {
         match cookie_of(entry) {
             None => Ok(()),
@@ -40,7 +41,8 @@ impl Ranks {
 
     // The next cookie.
     fn add(&mut self, cookie: u64) -> Result<(), AllocError>
-        ensures { (cookies : List ℕ) → IsRanksOf self.old.ranks cookies → OnOk result (IsRanksOf self.new.ranks (cookies ++ cookie ∷ [])) }
+        ensures { (cookies : List ℕ) → IsRanksOf self.old.ranks cookies
+            → OnOk result (IsRanksOf self.new.ranks (cookies ++ cookie ∷ [])) }
     {
         if self.ranks.contains_key(&cookie) {
             return Ok(());
