@@ -1,6 +1,6 @@
 //! Generations of a rotating service secret.
 
-ghost use Rattle.std.specs.Prelude.{◌≡◌, ◌+◌, ◌≤◌, ◌<◌, ◌^◌, ◌==◌, IsTrue, [], ◌∷◌, length, ◌↔◌, Some, find, slice_get, IfSome, IfNone};
+ghost use Rattle.std.specs.Prelude.{◌≡◌, ◌+◌, ◌≤◌, ◌<◌, ◌^◌, ◌==◌, IsTrue, [], ◌∷◌, length, ◌↔◌, Some, find, slice_get, MatchOption, IfSome, IfNone};
 ghost use Rattle.std.specs.Option.{option_map};
 ghost use Rattle.cx_rotate.specs.Held.{HasGap, IsRising, listed};
 ghost use Rattle.cx_rotate.specs.Rotation.{Rotated, rotated, additions, grown, is_current, is_full};
@@ -140,6 +140,14 @@ impl Generations {
             2 => Some(three.next),
             _ => None,
         }
+    }
+
+    /// The three that stand.
+    pub fn all(&self) -> Option<[Generation; 3]>
+        ensures { MatchOption result (self.now ≡ []) (λ all. self.now ≡ all) }
+    {
+        let three = self.held?;
+        Some([three.previous, three.current, three.next])
     }
 }
 

@@ -36,6 +36,8 @@ fn the_first_rotation_adds_three(rt: HostRuntime) {
     assert!(rt; held.find(4).is_none());
     assert!(rt; Generations::of(&[first, second, third]) == Some(held));
     assert!(rt; Generations::of(&[first, third, second]).is_none());
+    assert!(rt; held.all() == Some([first, second, third]));
+    assert!(rt; Generations::empty().all().is_none());
     let view = View {
         generations: held,
         asked: Some(1000 * SECOND),
