@@ -1,0 +1,5 @@
+pub mod Faults
+pub mod Files
+pub mod Heads
+pub mod Lines
+pub mod Places
