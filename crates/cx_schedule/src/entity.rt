@@ -3,7 +3,7 @@
 ghost use Rattle.std.specs.Prelude.{◌≡◌, ◌∷◌, [], ◌++◌, map, codes, drop, ◌%◌, ◌==◌, true, false, is_none, IfOk, IfErr, IfSome, IsTrue, length};
 ghost use Rattle.std.specs.List.{list_all};
 ghost use Rattle.cx_schedule.specs.declared.heads.Head.{Head};
-ghost use Rattle.cx_schedule.specs.Faults.{IsCause, has_bad_pair, is_bad_pair};
+ghost use Rattle.cx_schedule.specs.Faults.{IsCause, has_bad_pair, is_bad_pair, repeats_pair};
 ghost use Rattle.cx_schedule.specs.Lines.{Spells, grant_words, has_service, is_declarable, is_grant, is_open, repeats_service};
 ghost use Rattle.cx_words.specs.Words.{quoted};
 ghost use Rattle.cx_base.specs.Names.{type_word};
@@ -63,6 +63,7 @@ fn grants(alloc: Global, words: &[&[u8]]) -> Result<Option<Items<Grant>>, AllocE
     requires { length words.now % 2 ≡ 0 }
     ensures read { IfOk result (λ found. has_bad_pair (map (λ w. w.now) words.now) ≡ is_none found) }
     ensures spelled { IfOk result (λ found. IfSome found (λ grants. IsTrue (list_all is_grant grants) × (map (λ w. w.now) words.now ≡ grant_words grants))) }
+    ensures repeated { IfOk result (λ found. IfSome found (λ grants. repeats_pair (map (λ w. w.now) words.now) ≡ repeats_service grants)) }
 {
     let mut grants = Items::new(alloc);
     let mut rest = words;

@@ -43,6 +43,7 @@ impl Script {
 
 /// Reads a schedule: ASCII lines ended by LF, the last one's may be left out. Numbers of lines count from 1, and empty lines
 /// and comments count too.
+#[tactic(auto, using(crate::proofs::Whole::only_memory))]
 pub fn read(alloc: Global, bytes: &[u8]) -> Result<Script, ScheduleRefusal>
     // The lines of the bytes, or the first of them that is outside of the grammar, or too many bytes or lines.
     ensures found { IfOk result (λ s. Lines bytes.now s) }
@@ -69,7 +70,7 @@ fn read_lines(alloc: Global, bytes: &[u8]) -> Result<Items<Line>, ScheduleRefusa
     let mut earlier = Earlier::new(alloc);
     let mut number: u32 = 0;
     let mut rest = bytes;
-    while let Some((line, after)) = first_line(rest) {
+    'lines: while let Some((line, after)) = first_line(rest) {
         number += 1;
         match add(alloc, &mut earlier, line) {
             Ok(()) => {}
@@ -114,7 +115,7 @@ fn count_lines(bytes: &[u8]) -> usize
 {
     let mut count = 0;
     let mut rest = bytes;
-    while let Some((_, after)) = first_line(rest) {
+    'lines: while let Some((_, after)) = first_line(rest) {
         count += 1;
         rest = after;
     }
