@@ -36,3 +36,9 @@ ascii_id kind id h =
     let parts = and_parts _ _ h in
     let all = and_parts _ _ parts.1 in
     ascii_where is_id_byte id low_id_byte all.1
+
+pub ascii_caps : (text : List ℕ) → is_caps text ≡ true → position is_above_ascii text ≡ None
+ascii_caps text h = ascii_where is_caps_byte text low_caps_byte ((and_parts _ _ h).1)
+
+pub ascii_long_part : (text : List ℕ) → is_long_part text ≡ true → position is_above_ascii text ≡ None
+ascii_long_part text h = ascii_where is_part_byte text low_part_byte ((and_parts _ _ h).1)

@@ -3,3 +3,6 @@ pub mod Pieces
 pub mod Ascii
 pub mod NumberWords
 pub mod NameWords
+pub mod TextWords
+pub mod HexWords
+pub mod ListWords

@@ -119,7 +119,7 @@ at_end groups quoted line done longer words start i all cut is_longer =
 
 -- ---- pieces between commas
 
-pieces_behind : (front : List ℕ) (b : ℕ) (rest : List ℕ) → list_any is_comma front ≡ false → is_comma b ≡ true
+pub pieces_behind : (front : List ℕ) (b : ℕ) (rest : List ℕ) → list_any is_comma front ≡ false → is_comma b ≡ true
     → pieces_of (front ++ b ∷ rest) ≡ front ∷ pieces_of rest
 unfolding pieces_of
 pieces_behind [] b rest none hit = rw hit refl
@@ -133,7 +133,7 @@ pieces_cut bytes place e =
     let c = cut is_comma bytes place e in
     ap pieces_of c.whole ∙ pieces_behind (take place bytes) c.item (drop (place + 1) bytes) c.none c.passes
 
-pieces_alone : (bytes : List ℕ) → list_any is_comma bytes ≡ false → pieces_of bytes ≡ bytes ∷ []
+pub pieces_alone : (bytes : List ℕ) → list_any is_comma bytes ≡ false → pieces_of bytes ≡ bytes ∷ []
 unfolding pieces_of
 pieces_alone [] none = refl
 pieces_alone (b ∷ bytes) none =

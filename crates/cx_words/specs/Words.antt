@@ -200,7 +200,7 @@ is_in_marks word = nat_le 2 (length word) && (slice_index word 0 == 34) && (slic
 
 -- what stands between the first and the last byte
 abbrev pub inside : List ℕ → List ℕ
-inside word = take (length word - 2) (drop 1 word)
+inside word = take (length word - 1 - 1) (drop 1 word)
 
 -- a capability text in quotation marks
 unfoldable pub caps_of : List ℕ → Option (List ℕ)
