@@ -1,5 +1,5 @@
 -- Lists of services: what is read was spelled so, and what is spelled is read again.
-use Rattle.std.proofs.Common.{◌≡◌, ℕ, zero, suc, ◌+◌, ◌-◌, ◌<◌, ◌≤◌, Bool, true, false, cond, not, ◌&&◌, ◌||◌, List, [], ◌∷◌, ◌++◌, take, drop, length, map, nat_le, Option, Some, None, Result, Ok, Err, IsTrue, IfSome, IfOk, refl, sym, ap, ◌∙◌, arith, append_assoc, lit<}
+use Rattle.std.proofs.Common.{◌≡◌, ℕ, zero, suc, ◌+◌, ◌-◌, ◌<◌, ◌≤◌, Bool, true, false, cond, not, ◌&&◌, ◌||◌, List, [], ◌∷◌, ◌++◌, take, drop, length, map, nat_le, Option, Some, None, Result, Ok, Err, IsTrue, IfSome, IfOk, refl, sym, ap, ◌∙◌, arith, append_assoc, lit<, length-drop}
 use Rattle.std.specs.Prelude.{option_map, option_and_then}
 use Rattle.std.specs.List.{list_all, list_any, join_with_byte, position_from}
 use Rattle.std.proofs.lemmas.Bool.{and_parts, and_from, not-true}
@@ -55,8 +55,8 @@ join_pieces (b ∷ bs) = join_step b bs (is_comma b) refl (join_pieces bs)
 
 -- these words are those of these services
 record Read (words : List (List ℕ)) (kinds : List EntityType) : Type 0 where
-  words : words ≡ map type_word kinds
-  kinds : list_all is_ticket_service kinds ≡ true
+  spelled : words ≡ map type_word kinds
+  asked : list_all is_ticket_service kinds ≡ true
 
 front_cases : (kind : Option EntityType) (rest : Option (List EntityType)) (kinds : List EntityType) → in_front kind rest ≡ Some kinds
     → (k : EntityType) × (ks : List EntityType) × (kind ≡ Some k) × (rest ≡ Some ks) × (k ∷ ks ≡ kinds)
@@ -68,14 +68,14 @@ all_is : (words : List (List ℕ)) (kinds : List EntityType) → all_services wo
 unfolding all_services
 all_is [] kinds e =
     let same : [] ≡ kinds = (let p : Some [] ≡ Some kinds = e in cc) in
-    record { words = ap (map type_word) same; kinds = rw (sym same) refl }
+    record { spelled = ap (map type_word) same; asked = ap (list_all is_ticket_service) (sym same) }
 all_is (word ∷ words) kinds e =
     let parts = front_cases (ticket_service_of word) (all_services words) kinds e in
     let first = ticket_service_of-is word parts.0 parts.2 in
     let rest = all_is words parts.1 parts.3 in
     record {
-      words = ap (λ w. w ∷ words) first.1 ∙ ap (λ ws. type_word parts.0 ∷ ws) rest.words ∙ ap (map type_word) parts.4;
-      kinds = ap (list_all is_ticket_service) (sym parts.4) ∙ and_from (is_ticket_service parts.0) (list_all is_ticket_service parts.1) first.0 rest.kinds;
+      spelled = ap (λ w. w ∷ words) first.1 ∙ ap (λ ws. type_word parts.0 ∷ ws) rest.spelled ∙ ap (map type_word) parts.4;
+      asked = ap (list_all is_ticket_service) (sym parts.4) ∙ and_from (is_ticket_service parts.0) (list_all is_ticket_service parts.1) first.0 rest.asked;
     }
 
 some_kinds : (words : List (List ℕ)) (kinds : List EntityType) → words ≡ map type_word kinds → 0 < length words → nat_le 1 (length kinds) ≡ true
@@ -93,10 +93,10 @@ list_is word kinds None f e = absurd (let p : None ≡ Some kinds = e in cc)
 list_is word kinds (Some found) f e =
     let once = repeats_cases kinds found (repeats found) refl e in
     let read = all_is (pieces_of word) kinds (f ∙ ap Some once.0) in
-    let some = some_kinds (pieces_of word) kinds read.words (pieces_some word) in
+    let some = some_kinds (pieces_of word) kinds read.spelled (pieces_some word) in
     let apart : repeats kinds ≡ false = ap repeats (sym once.0) ∙ once.1 in
-    ( rw (some, read.kinds, apart) refl
-    , sym (join_pieces word) ∙ ap (join_with_byte 44) read.words
+    ( rw (some, read.asked, apart) refl
+    , sym (join_pieces word) ∙ ap (join_with_byte 44) read.spelled
     )
 
 pub services_of-is : (word : List ℕ) (kinds : List EntityType) → services_of word ≡ Some kinds
@@ -156,11 +156,15 @@ moved found more kind (Some first) (Some kinds) e is_more =
 pub after_comma : (found more : List EntityType) (kind : EntityType) (rest : List ℕ) (place : ℕ) (all : Option (List EntityType))
     → all ≡ option_map (λ kinds. found ++ kinds) (all_services (pieces_of rest)) → position_from is_comma 0 rest ≡ Some place
     → Some kind ≡ ticket_service_of (take place rest) → more ≡ found ++ kind ∷ []
-    → all ≡ option_map (λ kinds. more ++ kinds) (all_services (pieces_of (drop (place + 1) rest)))
+    → all ≡ option_map (λ kinds. more ++ kinds) (all_services (pieces_of (take (length rest - (place + 1)) (drop (place + 1) rest))))
 unfolding all_services
 after_comma found more kind rest place all is_all here is_kind is_more =
-    is_all ∙ ap (λ ws. option_map (λ kinds. found ++ kinds) (all_services ws)) (pieces_cut rest place here)
-    ∙ moved found more kind (ticket_service_of (take place rest)) (all_services (pieces_of (drop (place + 1) rest))) is_kind is_more
+    rw (take_rest (place + 1) rest)
+    (is_all ∙ ap (λ ws. option_map (λ kinds. found ++ kinds) (all_services ws)) (pieces_cut rest place here)
+    ∙ moved found more kind (ticket_service_of (take place rest)) (all_services (pieces_of (drop (place + 1) rest))) is_kind is_more)
+
+pub shorter_rest : (rest : List ℕ) (place bound : ℕ) → length rest ≤ bound → length (take (length rest - (place + 1)) (drop (place + 1) rest)) ≤ bound
+shorter_rest rest place bound le = rw (take_rest (place + 1) rest) (omega (arith, length-drop (place + 1) rest))
 
 -- a piece that names no service ends the reading
 pub refused_comma : (found : List EntityType) (rest : List ℕ) (place : ℕ) (all : Option (List EntityType))
