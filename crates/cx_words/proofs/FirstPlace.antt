@@ -1,5 +1,5 @@
 -- What stands before and behind the first item that passes a test.
-use Rattle.std.proofs.Common.{◌≡◌, ℕ, zero, suc, ◌+◌, ◌<◌, Bool, true, false, cond, ◌||◌, List, [], ◌∷◌, ◌++◌, take, drop, length, Some, None, refl, sym, ap, arith, add-one, ◌-◌, ◌∙◌, length-drop}
+use Rattle.std.proofs.Common.{◌≡◌, ℕ, zero, suc, ◌+◌, Bool, true, false, cond, List, [], ◌∷◌, ◌++◌, take, drop, length, Some, None, refl, sym, ap, arith, add-one, ◌-◌, ◌∙◌, length-drop}
 use Rattle.std.proofs.Math.Seq.{take-length}
 use Rattle.std.specs.List.{list_any, position_from}
 use Rattle.std.proofs.lemmas.Bool.{or_parts, or_from}
@@ -15,25 +15,25 @@ pub record Found {X : Type 0} (test : X → Bool) (xs : List X) (i j : ℕ) : Ty
 
 found_next : {X : Type 0} (test : X → Bool) (x : X) (xs : List X) (i j : ℕ) → test x ≡ false → Found test xs (i + 1) j → Found test (x ∷ xs) i j
 found_next test x xs i j miss f = record {
-    n = suc f.n;
-    item = f.item;
-    place = let p = f.place in omega arith;
-    whole = ap (λ ys. x ∷ ys) f.whole;
-    none = or_from (test x) (list_any test (take f.n xs)) miss f.none;
-    passes = f.passes;
-  }
+  n = suc f.n;
+  item = f.item;
+  place = let p = f.place in omega arith;
+  whole = ap (λ ys. x ∷ ys) f.whole;
+  none = or_from (test x) (list_any test (take f.n xs)) miss f.none;
+  passes = f.passes;
+}
 
 found_step : {X : Type 0} (test : X → Bool) (x : X) (xs : List X) (i j : ℕ) (b : Bool) → test x ≡ b
     → (position_from test (i + 1) xs ≡ Some j → Found test xs (i + 1) j)
     → cond b (Some i) (position_from test (i + 1) xs) ≡ Some j → Found test (x ∷ xs) i j
 found_step test x xs i j true hit more e = record {
-    n = zero;
-    item = x;
-    place = let p : i ≡ j = cc in omega arith;
-    whole = refl;
-    none = refl;
-    passes = hit;
-  }
+  n = zero;
+  item = x;
+  place = let p : i ≡ j = cc in omega arith;
+  whole = refl;
+  none = refl;
+  passes = hit;
+}
 found_step test x xs i j false miss more e = found_next test x xs i j miss (more e)
 
 pub found : {X : Type 0} (test : X → Bool) (xs : List X) (i j : ℕ) → position_from test i xs ≡ Some j → Found test xs i j
@@ -49,11 +49,11 @@ pub record Cut {X : Type 0} (test : X → Bool) (xs : List X) (place : ℕ) : Ty
 
 cut_from : {X : Type 0} (test : X → Bool) (xs : List X) (place : ℕ) (f : Found test xs 0 place) → f.n ≡ place → Cut test xs place
 cut_from test xs place f e = record {
-    item = f.item;
-    whole = rw (add-one, ← e) f.whole;
-    none = rw (← e) f.none;
-    passes = f.passes;
-  }
+  item = f.item;
+  whole = rw (add-one, ← e) f.whole;
+  none = rw (← e) f.none;
+  passes = f.passes;
+}
 
 pub cut : {X : Type 0} (test : X → Bool) (xs : List X) (place : ℕ) → position_from test 0 xs ≡ Some place → Cut test xs place
 cut test xs place e = let f = found test xs 0 place e in cut_from test xs place f (let p = f.place in omega arith)

@@ -1,11 +1,11 @@
 -- Bytes in hex: what is read was spelled so, and what is spelled is read again.
-use Rattle.std.proofs.Common.{◌≡◌, ℕ, zero, suc, ◌+◌, ◌-◌, ◌*◌, ◌/◌, ◌%◌, ◌<◌, ◌≤◌, ◌==◌, Bool, true, false, cond, ◌&&◌, List, [], ◌∷◌, length, Option, Some, None, Result, Ok, Err, IfSome, IfOk, refl, sym, ap, ◌∙◌, arith, add_comm, mul_comm}
+use Rattle.std.proofs.Common.{◌≡◌, ℕ, ◌+◌, ◌*◌, ◌/◌, ◌%◌, ◌<◌, ◌==◌, Bool, true, false, cond, List, [], ◌∷◌, length, Option, Some, None, Result, Ok, Err, IfSome, IfOk, refl, sym, ap, ◌∙◌, arith}
 use Rattle.std.specs.Prelude.{codes}
 use Rattle.std.specs.Str.{bytes_eq}
 use Rattle.std.proofs.lemmas.Bool.{and_right}
 use Rattle.std.proofs.lemmas.Bool.Decides.{nat_tests}
 use Rattle.std.proofs.lemmas.Slice.Eq.{bytes_eq-Decides}
-use Rattle.hex.specs.Hex.{decode_of, decode_pairs, digit_or_error, encode_lower, hex_digit_value, lower_digits, pair_value, value_at, IsBytes, ◌>>=◌}
+use Rattle.hex.specs.Hex.{decode_of, decode_pairs, digit_or_error, encode_lower, hex_digit_value, lower_digits, IsBytes, ◌>>=◌}
 use Rattle.hex.specs.declared.error.FromHexError.{FromHexError}
 use Rattle.hex.specs.declared.error.FromHexError.TheVariants.{OddLength}
 use Rattle.hex.proofs.HexLemmas.{decode_pairs-encode_with, IsDigits-lower_digits}
@@ -40,10 +40,10 @@ all_read i x y h l text more [] high low rest e = absurd (let p : (h * 16 + l) �
 all_read i x y h l text more (b ∷ bytes) high low rest e =
     let same : h * 16 + l ≡ b = cc in
     let less : l < 16 = digit_below y l low in
-    let tail : more ≡ bytes = cc in
-    ( high ∙ ap Some (let q : h ≡ b / 16 = omega arith in q)
-    , low ∙ ap Some (let q : l ≡ b % 16 = omega arith in q)
-    , rw (sym tail) rest
+    let tail : more ≡ bytes = cc in (
+      high ∙ ap Some (let q : h ≡ b / 16 = omega arith in q),
+      low ∙ ap Some (let q : l ≡ b % 16 = omega arith in q),
+      rw (sym tail) rest,
     )
 
 pairs_step : (i x y : ℕ) (text bytes : List ℕ) (high low : Option ℕ) (rest : Result (List ℕ) FromHexError)
@@ -69,7 +69,7 @@ pairs_is i [] (b ∷ bytes) e =
 pairs_is i (x ∷ []) bytes e = absurd (let p : Err OddLength ≡ Ok bytes = e in cc)
 pairs_is i (x ∷ y ∷ text) bytes e =
     pairs_step i x y text bytes (hex_digit_value x) (hex_digit_value y) (decode_pairs (i + 2) text) refl refl
-        (λ more r. pairs_is (i + 2) text more r) e
+    (λ more r. pairs_is (i + 2) text more r) e
 
 -- ---- words
 

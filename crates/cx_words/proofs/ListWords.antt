@@ -1,10 +1,10 @@
 -- Lists of services: what is read was spelled so, and what is spelled is read again.
-use Rattle.std.proofs.Common.{◌≡◌, ℕ, zero, suc, ◌+◌, ◌-◌, ◌<◌, ◌≤◌, Bool, true, false, cond, not, ◌&&◌, ◌||◌, List, [], ◌∷◌, ◌++◌, take, drop, length, map, nat_le, Option, Some, None, Result, Ok, Err, IsTrue, IfSome, IfOk, refl, sym, ap, ◌∙◌, arith, append_assoc, lit<, length-drop}
+use Rattle.std.proofs.Common.{◌≡◌, ℕ, ◌+◌, ◌-◌, ◌<◌, ◌≤◌, Bool, true, false, cond, List, [], ◌∷◌, ◌++◌, take, drop, length, map, nat_le, Option, Some, None, IsTrue, IfSome, refl, sym, ap, ◌∙◌, arith, append_assoc, lit<, length-drop}
 use Rattle.std.specs.Prelude.{option_map, option_and_then}
 use Rattle.std.specs.List.{list_all, list_any, join_with_byte, position_from}
 use Rattle.std.proofs.lemmas.Bool.{and_parts, and_from, not-true}
 use Rattle.std.proofs.lemmas.Bool.Decides.{nat_tests, Decides-eqb}
-use Rattle.cx_base.specs.Names.{same_kind, type_word}
+use Rattle.cx_base.specs.Names.{type_word}
 use Rattle.cx_base.specs.declared.kinds.EntityType.{EntityType}
 use Rattle.cx_base.specs.declared.kinds.EntityType.TheVariants.{Mon, Mds, Osd, Client, Mgr, Auth}
 use Rattle.cx_words.specs.Cutting.{onto_first}
@@ -94,9 +94,9 @@ list_is word kinds (Some found) f e =
     let once = repeats_cases kinds found (repeats found) refl e in
     let read = all_is (pieces_of word) kinds (f ∙ ap Some once.0) in
     let some = some_kinds (pieces_of word) kinds read.spelled (pieces_some word) in
-    let apart : repeats kinds ≡ false = ap repeats (sym once.0) ∙ once.1 in
-    ( rw (some, read.asked, apart) refl
-    , sym (join_pieces word) ∙ ap (join_with_byte 44) read.spelled
+    let apart : repeats kinds ≡ false = ap repeats (sym once.0) ∙ once.1 in (
+      rw (some, read.asked, apart) refl,
+      sym (join_pieces word) ∙ ap (join_with_byte 44) read.spelled,
     )
 
 pub services_of-is : (word : List ℕ) (kinds : List EntityType) → services_of word ≡ Some kinds

@@ -1,9 +1,7 @@
 -- Types, services, accesses and names: what is read was spelled so, and what is spelled is read again.
-use Rattle.std.proofs.Common.{◌≡◌, ℕ, ◌+◌, Bool, true, false, cond, ◌&&◌, List, [], ◌∷◌, ◌++◌, take, drop, Option, Some, None, IsTrue, IfSome, IfOk, Result, Ok, Err, length, ◌-◌, refl, sym, ap, ◌∙◌, arith}
+use Rattle.std.proofs.Common.{◌≡◌, ℕ, ◌+◌, Bool, true, false, cond, List, [], ◌∷◌, ◌++◌, take, drop, Option, Some, None, IsTrue, IfSome, IfOk, Result, Ok, Err, length, ◌-◌, refl, sym, ap, ◌∙◌, arith}
 use Rattle.std.specs.Prelude.{codes, find}
-use Rattle.std.specs.List.{list_all, list_any, position_from, position}
-use Rattle.std.specs.Str.{bytes_eq}
-use Rattle.std.proofs.lemmas.Bool.{and_parts}
+use Rattle.std.specs.List.{position_from, position}
 use Rattle.std.proofs.lemmas.Bool.Decides.{nat_tests}
 use Rattle.std.proofs.lemmas.Slice.Eq.{bytes_eq-Decides}
 use Rattle.cx_base.specs.Joined.{◌<>◌}
@@ -15,7 +13,7 @@ use Rattle.cx_base.specs.declared.kinds.Access.TheVariants.{Read, Write, Exec}
 use Rattle.cx_words.specs.Words.{access_of, is_access_word, is_point, is_service, is_ticket_service, is_type_word, kept, name_at, name_of, service_of, ticket_service_of, type_of, with_id}
 use Rattle.cx_base.specs.Owners.{is_above_ascii}
 use Rattle.cx_words.proofs.Ascii.{ascii_id}
-use Rattle.cx_words.proofs.FirstPlace.{Cut, cut, take_rest}
+use Rattle.cx_words.proofs.FirstPlace.{cut, take_rest}
 
 -- what is found passes the test
 passes_step : {X : Type 0} (test : X → Bool) (y : X) (ys : List X) (x : X) (b : Bool) → test y ≡ b
@@ -33,7 +31,7 @@ pub type_of-is : (word : List ℕ) (kind : EntityType) → type_of word ≡ Some
 unfolding type_of
 type_of-is word kind e =
     (bytes_eq-Decides word (type_word kind)).0
-        (found_passes (is_type_word word) (Mon ∷ Mds ∷ Osd ∷ Client ∷ Mgr ∷ Auth ∷ []) kind e)
+    (found_passes (is_type_word word) (Mon ∷ Mds ∷ Osd ∷ Client ∷ Mgr ∷ Auth ∷ []) kind e)
 
 pub type_of-word : (kind : EntityType) → type_of (type_word kind) ≡ Some kind
 unfolding type_of
@@ -99,9 +97,9 @@ with_id_is : (word front id : List ℕ) (name : Name) (kind : Option EntityType)
     → type_of front ≡ kind → with_id id kind ≡ Some name → IsTrue (is_id name.kind name.id) × (word ≡ name_text name)
 with_id_is word front id name None is_word t e = absurd (let p : None ≡ Some name = e in cc)
 with_id_is word front id name (Some kind) is_word t e =
-    let same = id_cases id kind name (is_id kind id) refl e in
-    ( rw (sym same.0, sym same.1) same.2
-    , is_word ∙ ap (λ f. f <> codes "." <> id) (type_of-is front kind t ∙ ap type_word same.0) ∙ ap (λ i. type_word name.kind <> codes "." <> i) same.1
+    let same = id_cases id kind name (is_id kind id) refl e in (
+      rw (sym same.0, sym same.1) same.2,
+      is_word ∙ ap (λ f. f <> codes "." <> id) (type_of-is front kind t ∙ ap type_word same.0) ∙ ap (λ i. type_word name.kind <> codes "." <> i) same.1,
     )
 
 name_is : (word : List ℕ) (name : Name) (place : Option ℕ) → position_from is_point 0 word ≡ place → name_at word place ≡ Some name
@@ -111,7 +109,7 @@ name_is word name (Some place) here e =
     let c = cut is_point word place here in
     let point : c.item ≡ 46 = grind (arith, nat_tests, c.passes) in
     with_id_is word (take place word) (drop (place + 1) word) name (type_of (take place word))
-        (c.whole ∙ ap (λ p. take place word ++ p ∷ drop (place + 1) word) point) refl e
+    (c.whole ∙ ap (λ p. take place word ++ p ∷ drop (place + 1) word) point) refl e
 
 pub name_of-is : (word : List ℕ) (name : Name) → name_of word ≡ Some name → IsTrue (is_id name.kind name.id) × (word ≡ name_text name)
 unfolding name_of

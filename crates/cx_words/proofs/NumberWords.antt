@@ -1,11 +1,11 @@
 -- Numbers and readings: what is read was spelled so, and what is spelled is read again.
-use Rattle.std.proofs.Common.{◌≡◌, ℕ, zero, suc, ◌+◌, ◌-◌, ◌*◌, ◌^◌, ◌<◌, ◌≤◌, ◌==◌, ◌⊎◌, inl, inr, Bool, true, false, cond, not, ◌&&◌, ◌||◌, List, [], ◌∷◌, ◌++◌, length, take, drop, get_or, Option, Some, None, Result, Ok, Err, IsTrue, refl, sym, ap, ◌∙◌, arith, nat_le, nat_lt, rules, lit<, lit≤, add-one}
+use Rattle.std.proofs.Common.{◌≡◌, ℕ, zero, suc, ◌+◌, ◌-◌, ◌*◌, ◌^◌, ◌<◌, ◌≤◌, ◌==◌, ◌⊎◌, inl, inr, Bool, true, false, cond, ◌&&◌, List, [], ◌∷◌, ◌++◌, length, take, drop, get_or, Option, Some, None, Result, Ok, Err, refl, sym, ap, ◌∙◌, arith, nat_lt, rules, lit<}
 use Rattle.std.specs.Prelude.{OkIff, IfSome, decimal, codes, option_and_then}
 use Rattle.std.specs.List.{list_all, list_any, position_from}
 use Rattle.std.specs.Result.{result_ok}
-use Rattle.std.specs.Str.{IsAscii, IsUtf8}
+use Rattle.std.specs.Str.{IsUtf8}
 use Rattle.std.specs.Str.Parse.{digits_value}
-use Rattle.std.proofs.lemmas.Bool.{and_parts, and_from, or_parts, or_left, or_right, or_from, cases_Bool}
+use Rattle.std.proofs.lemmas.Bool.{and_parts}
 use Rattle.std.proofs.lemmas.Bool.Decides.{nat_tests}
 use Rattle.std.proofs.lemmas.Str.{IsUtf8-from_ascii}
 use Rattle.std.proofs.lemmas.Str.Parse.{IsNumeralModel, IsDigitsTest, numerals_by_value, digits_value_short}
@@ -13,7 +13,7 @@ use Rattle.std.proofs.lemmas.Fmt.{IsAscii-from_digits, digits_decimal, digits_va
 use Rattle.std.proofs.Math.Seq.{take-append_seam, drop-append-add}
 use Rattle.cx_base.specs.Joined.{◌<>◌}
 use Rattle.cx_words.specs.Words.{below, is_digit, is_nine, is_plain, is_point, number_of, reading_at, reading_of, whole_seconds, with_nine, IsPointedWord, IsReadingWord, IsWholeWord}
-use Rattle.cx_words.proofs.FirstPlace.{Cut, cut, finds, finds_none, take_rest}
+use Rattle.cx_words.proofs.FirstPlace.{cut, finds, finds_none, take_rest}
 
 -- ---- digits
 
@@ -49,10 +49,10 @@ pub record Plain (word : List ℕ) : Type 0 where
 
 pub plain_parts : (word : List ℕ) → is_plain word ≡ true → Plain word
 plain_parts word h = record {
-    digits = grind (arith, nat_tests, h);
-    some = grind (arith, nat_tests, h);
-    first = λ zero_first. grind (arith, nat_tests, h, zero_first);
-  }
+  digits = grind (arith, nat_tests, h);
+  some = grind (arith, nat_tests, h);
+  first = λ zero_first. grind (arith, nat_tests, h, zero_first);
+}
 
 plain_from : (word : List ℕ) → list_all is_digit word ≡ true → 0 < length word → (length word ≤ 1) ⊎ (48 < get_or word 0 0) → is_plain word ≡ true
 plain_from word digits some (inl short) = grind (arith, nat_tests, digits, some, short)
@@ -116,7 +116,7 @@ pointed_is : (word front nine : List ℕ) (reading : ℕ) (number : Option ℕ) 
 pointed_is word front nine reading None is_word e w = absurd (let p : None ≡ Some reading = w in cc)
 pointed_is word front nine reading (Some seconds) is_word e w =
     let same : (seconds * 1000000000 + digits_value 10 nine ≡ reading) × ((nat_lt seconds 4000000000 && is_nine nine) ≡ true) =
-        nine_cases nine seconds reading (nat_lt seconds 4000000000 && is_nine nine) refl w in
+    nine_cases nine seconds reading (nat_lt seconds 4000000000 && is_nine nine) refl w in
     let parts = and_parts (nat_lt seconds 4000000000) (is_nine nine) same.1 in
     let low : seconds < 4000000000 = grind (arith, nat_tests, parts.0) in
     (seconds, nine, low, parts.1, is_word ∙ ap (λ f. f <> codes "." <> nine) (number_of-is front seconds e).1, sym same.0)
@@ -128,7 +128,7 @@ reading_is word reading (Some place) e w =
     let c = cut is_point word place e in
     let point : c.item ≡ 46 = grind (arith, nat_tests, c.passes) in
     inr (pointed_is word (take place word) (drop (place + 1) word) reading (number_of (take place word))
-        (c.whole ∙ ap (λ p. take place word ++ p ∷ drop (place + 1) word) point) refl w)
+    (c.whole ∙ ap (λ p. take place word ++ p ∷ drop (place + 1) word) point) refl w)
 
 pub reading_of-is : (word : List ℕ) (reading : ℕ) → reading_of word ≡ Some reading → IsReadingWord word reading
 unfolding reading_of
@@ -147,7 +147,7 @@ pointed_read word reading (seconds, nine, low, is_digits, is_word, is_reading) =
     let lt : seconds < 2 ^ 64 = omega arith in
     let hit : nat_lt seconds 4000000000 ≡ true = grind (arith, nat_tests, low) in
     let here : position_from is_point 0 (decimal seconds ++ 46 ∷ nine) ≡ Some (length (decimal seconds)) =
-        finds is_point (decimal seconds) 46 nine 0 (decimal_no_point seconds lt) refl ∙ ap Some (omega arith) in
+    finds is_point (decimal seconds) 46 nine 0 (decimal_no_point seconds lt) refl ∙ ap Some (omega arith) in
     let front : take (length (decimal seconds)) (decimal seconds ++ 46 ∷ nine) ≡ decimal seconds = take-append_seam (decimal seconds) (46 ∷ nine) in
     let behind : drop (length (decimal seconds) + 1) (decimal seconds ++ 46 ∷ nine) ≡ nine = drop-append-add (decimal seconds) (46 ∷ nine) 1 in
     rw (is_word, here, front, behind, number_of-decimal seconds lt, hit, is_digits, is_reading) refl

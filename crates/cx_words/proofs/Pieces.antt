@@ -1,12 +1,12 @@
 -- A list of bytes that is cut at a byte: the front before it is the first piece.
-use Rattle.std.proofs.Common.{◌≡◌, ℕ, zero, suc, ◌+◌, ◌-◌, ◌<◌, ◌≤◌, Bool, true, false, cond, ◌||◌, List, [], ◌∷◌, ◌++◌, take, drop, map, length, Some, None, refl, sym, ap, ◌∙◌, arith, add-one, get_or, append_assoc, drop-cons, get_or-drop, length-drop}
+use Rattle.std.proofs.Common.{◌≡◌, ℕ, ◌+◌, ◌-◌, ◌<◌, ◌≤◌, Bool, true, false, List, [], ◌∷◌, ◌++◌, take, drop, length, Some, None, refl, sym, ap, ◌∙◌, arith, add-one, get_or, append_assoc, drop-cons, get_or-drop, length-drop}
 use Rattle.std.proofs.lemmas.List.{take_more}
-use Rattle.std.specs.List.{list_any, position_from, join_with_byte}
+use Rattle.std.specs.List.{list_any, position_from}
 use Rattle.std.proofs.Math.Seq.{drop-length}
-use Rattle.std.proofs.lemmas.Bool.{or_parts, or_from}
-use Rattle.cx_words.specs.Cutting.{onto_first, is_line_end, lines_of, is_mark, parts, quoted_after, words_from, words_of}
+use Rattle.std.proofs.lemmas.Bool.{or_parts}
+use Rattle.cx_words.specs.Cutting.{onto_first, is_line_end, lines_of, parts, quoted_after, words_from}
 use Rattle.cx_words.specs.Words.{is_comma, pieces_of}
-use Rattle.cx_words.proofs.FirstPlace.{Cut, cut, none_passes}
+use Rattle.cx_words.proofs.FirstPlace.{cut, none_passes}
 
 -- ---- lines
 
@@ -87,7 +87,7 @@ pub after_blank : (groups quoted new_quoted : Bool) (line piece : List ℕ) (don
     → longer ++ onto_all (take (i + 1 - start) (drop start line)) (words_from groups new_quoted (drop (i + 1) line)) ≡ words
 after_blank groups quoted new_quoted line piece done longer words i b start lt byte hit cut is_longer is_start is_quoted =
     let next : words_from groups quoted (drop i line) ≡ [] ∷ words_from groups quoted (drop (i + 1) line) =
-        ap (words_from groups quoted) (line_at line i lt) ∙ blank_ends groups quoted (get_or line i 0) (drop (i + 1) line) (rw (← byte) hit) in
+    ap (words_from groups quoted) (line_at line i lt) ∙ blank_ends groups quoted (get_or line i 0) (drop (i + 1) line) (rw (← byte) hit) in
     let nothing : i + 1 - (i + 1) ≡ 0 = omega arith in
     let ends = onto_all-ends piece (words_from groups quoted (drop (i + 1) line)) in
     rw (is_start, is_quoted, nothing, is_longer, append_assoc) (ap (λ ws. done ++ ws) (sym ends) ∙ ap (λ ws. done ++ onto_all piece ws) (sym next) ∙ cut)
@@ -100,9 +100,9 @@ pub after_other : (groups quoted new_quoted : Bool) (line : List ℕ) (done same
 after_other groups quoted new_quoted line done same words start new_start i b le lt byte miss cut is_same is_start is_quoted =
     let rest = drop (i + 1) line in
     let next : words_from groups quoted (drop i line) ≡ onto_first b (words_from groups (quoted_after groups quoted b rest) rest) =
-        ap (words_from groups quoted) (rw (sym byte) at (line_at line i lt)) ∙ other_stays groups quoted b rest miss in
+    ap (words_from groups quoted) (rw (sym byte) at (line_at line i lt)) ∙ other_stays groups quoted b rest miss in
     let longer : take (i + 1 - start) (drop start line) ≡ take (i - start) (drop start line) ++ b ∷ [] =
-        piece_more line start i b le lt byte in
+    piece_more line start i b le lt byte in
     rw (is_same, is_start, is_quoted, longer, onto_all-more) (ap (λ ws. done ++ onto_all (take (i - start) (drop start line)) ws) (sym next) ∙ cut)
 
 -- at the end of the line the piece so far is the last word

@@ -1,14 +1,12 @@
 -- Caps texts and the parts of an object's address: what is read was spelled so, and what is spelled is read again.
-use Rattle.std.proofs.Common.{◌≡◌, ℕ, zero, suc, ◌+◌, ◌-◌, ◌<◌, ◌≤◌, ◌==◌, Bool, true, false, cond, not, ◌&&◌, List, [], ◌∷◌, ◌++◌, take, drop, length, get_or, nat_le, Option, Some, None, Result, Ok, Err, IsTrue, IfSome, IfOk, refl, sym, ap, ◌∙◌, arith, length-append, get_or-append-add}
+use Rattle.std.proofs.Common.{◌≡◌, ℕ, suc, ◌+◌, ◌-◌, ◌<◌, ◌≤◌, Bool, true, false, cond, ◌&&◌, List, [], ◌∷◌, ◌++◌, take, length, get_or, nat_le, Option, Some, None, IsTrue, IfSome, refl, sym, ap, ◌∙◌, arith, length-append, get_or-append-add}
 use Rattle.std.specs.Prelude.{codes}
-use Rattle.std.specs.List.{list_all}
 use Rattle.std.specs.Str.{bytes_eq}
 use Rattle.std.proofs.lemmas.Bool.{and_parts}
 use Rattle.std.proofs.lemmas.Bool.Decides.{nat_tests}
-use Rattle.std.proofs.lemmas.List.{take_more, take-append-drop}
+use Rattle.std.proofs.lemmas.List.{take_more}
 use Rattle.std.proofs.lemmas.Slice.Eq.{bytes_eq-Decides}
 use Rattle.std.proofs.Math.Seq.{take-append_seam, take-length}
-use Rattle.cx_base.specs.Joined.{◌<>◌}
 use Rattle.cx_words.specs.Words.{caps_of, inside, is_caps, is_in_marks, is_long_part, is_part, part_of, part_word, quoted}
 
 -- ---- caps
@@ -26,19 +24,19 @@ record Marks (word : List ℕ) : Type 0 where
 
 marks : (word : List ℕ) → is_in_marks word ≡ true → Marks word
 marks word h = record {
-    long = grind (arith, nat_tests, h);
-    first = grind (arith, nat_tests, h);
-    last = grind (arith, nat_tests, h);
-  }
+  long = grind (arith, nat_tests, h);
+  first = grind (arith, nat_tests, h);
+  last = grind (arith, nat_tests, h);
+}
 
 between : (b : ℕ) (rest : List ℕ) → Marks (b ∷ rest) → b ∷ rest ≡ quoted (inside (b ∷ rest))
 between b rest m =
     let long : 2 ≤ suc (length rest) = m.long in
     let last : get_or rest (length rest - 1) 0 ≡ 34 =
-        ap (λ j. get_or (b ∷ rest) j 0) (let e : suc (length rest - 1) ≡ suc (length rest) - 1 = omega arith in e) ∙ m.last in
+    ap (λ j. get_or (b ∷ rest) j 0) (let e : suc (length rest - 1) ≡ suc (length rest) - 1 = omega arith in e) ∙ m.last in
     let n : suc (length rest) - 1 - 1 ≡ length rest - 1 = omega arith in
     let behind : rest ≡ take (length rest - 1) rest ++ 34 ∷ [] =
-        last_apart rest (omega arith) ∙ ap (λ x. take (length rest - 1) rest ++ x ∷ []) last in
+    last_apart rest (omega arith) ∙ ap (λ x. take (length rest - 1) rest ++ x ∷ []) last in
     ap (λ x. x ∷ rest) m.first ∙ ap (λ ys. 34 ∷ ys) (behind ∙ ap (λ j. take j rest ++ 34 ∷ []) (sym n))
 
 marks_apart : (word : List ℕ) → Marks word → word ≡ quoted (inside word)
@@ -66,7 +64,7 @@ in_marks_quoted : (text : List ℕ) → is_in_marks (quoted text) ≡ true
 in_marks_quoted text =
     let n : suc (length (text ++ 34 ∷ [])) - 1 ≡ suc (length text + 0) = omega (arith, length-append text (34 ∷ [])) in
     let last : get_or (34 ∷ (text ++ 34 ∷ [])) (suc (length (text ++ 34 ∷ [])) - 1) 0 ≡ 34 =
-        ap (λ j. get_or (34 ∷ (text ++ 34 ∷ [])) j 0) n ∙ get_or-append-add text (34 ∷ []) 0 0 in
+    ap (λ j. get_or (34 ∷ (text ++ 34 ∷ [])) j 0) n ∙ get_or-append-add text (34 ∷ []) 0 0 in
     let long : nat_le 2 (suc (length (text ++ 34 ∷ []))) ≡ true = grind (arith, nat_tests, length-append text (34 ∷ [])) in
     rw (long, last) refl
 

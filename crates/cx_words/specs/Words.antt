@@ -1,6 +1,6 @@
 -- The words of a line, by what stands at a place: numbers, readings, names, services, caps, accesses, parts of an object's
 -- address and bytes in hex. Each kind has a function that reads the word; what the word is spelled like stands beside it.
-use Rattle.std.specs.Prelude.{ℕ, ◌+◌, ◌-◌, ◌*◌, ◌/◌, ◌%◌, ◌^◌, ◌<◌, ◌==◌, ◌≡◌, ◌⊎◌, Bool, true, false, not, ◌&&◌, ◌||◌, nat_le, nat_lt, if◌then◌else◌, List, [], ◌∷◌, length, take, drop, map, slice_index, codes, decimal, find, Option, Some, None, option_map, option_and_then, Result, Ok, Err, IsTrue}
+use Rattle.std.specs.Prelude.{ℕ, ◌+◌, ◌-◌, ◌*◌, ◌/◌, ◌%◌, ◌^◌, ◌<◌, ◌==◌, ◌≡◌, ◌⊎◌, Bool, true, false, not, ◌&&◌, ◌||◌, nat_le, nat_lt, if◌then◌else◌, List, [], ◌∷◌, length, take, drop, map, slice_index, codes, decimal, find, Option, Some, None, option_and_then, Result, Ok, Err, IsTrue}
 use Rattle.std.specs.List.{list_all, list_any, position_from, join_with_byte}
 use Rattle.std.specs.Str.{bytes_eq}
 use Rattle.std.specs.Str.Parse.{digits_value}

@@ -10,4 +10,4 @@ unreachable-requires c = c.in-Err.ensures.cases.0 (utf8_digits c.args.word.now c
 pub returns : goal.returns
 returns c =
     c.ok.ensures.value ∙ ok_below c.parse.result (digits_value 10 c.args.word.now) _ c.requires.some
-        (parse_digits own 64 c.args.word.now c.parse.result (rw c.in-Ok.ensures.cases.0 at c.parse.ensures.value.0) c.requires.shown)
+    (parse_digits own 64 c.args.word.now c.parse.result (rw c.in-Ok.ensures.cases.0 at c.parse.ensures.value.0) c.requires.shown)

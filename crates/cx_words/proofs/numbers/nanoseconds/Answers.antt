@@ -1,4 +1,4 @@
-use Rattle.std.proofs.Common.{sym, ◌∙◌, ◌≡◌, ◌<◌, ◌^◌, Some, None, arith}
+use Rattle.std.proofs.Common.{sym, ◌∙◌, ◌≡◌, ◌^◌, Some, None, arith}
 use Rattle.std.specs.Str.Parse.{digits_value}
 use Rattle.cx_words.proofs.NumberWords.{below_holds, below_is, nine_below}
 use Rattle.cx_words.proofs.numbers.nanoseconds.Goals as goal

@@ -1,4 +1,4 @@
-use Rattle.std.proofs.Common.{rules, sym, ◌∙◌, Some}
+use Rattle.std.proofs.Common.{rules, sym, ◌∙◌}
 use Rattle.cx_words.specs.Words.{caps_of, inside}
 use Rattle.cx_words.proofs.Ascii.{ascii_caps}
 use Rattle.cx_words.proofs.TextWords.{caps_spelled}
