@@ -1,0 +1,7 @@
+pub mod Backed
+pub mod Behind
+pub mod InSession
+pub mod JournalText
+pub mod KeepsKeys
+pub mod Places
+pub mod Words

@@ -1,2 +1,9 @@
-//! To come.
+//! The plain run of a schedule: what the monitor, the daemons and the clients do where tickets are handed over in memory,
+//! with no bytes and no keys between them.
 #![tactic(auto)]
+
+pub mod counts;
+pub mod monitors;
+pub mod nodes;
+pub mod wallets;
+

@@ -1,8 +1,8 @@
 -- The words of a line, by what stands at a place: numbers, readings, names, services, caps, accesses, parts of an object's
 -- address and bytes in hex. Each kind has a function that reads the word; what the word is spelled like stands beside it.
-use Rattle.std.specs.Prelude.{ℕ, ◌+◌, ◌-◌, ◌*◌, ◌/◌, ◌%◌, ◌^◌, ◌<◌, ◌==◌, ◌≡◌, ◌⊎◌, Bool, true, false, not, ◌&&◌, ◌||◌, nat_le, nat_lt, if◌then◌else◌, List, [], ◌∷◌, length, take, drop, map, slice_index, codes, decimal, find, Option, Some, None, option_map, option_and_then, Result, Ok, Err, IsTrue}
+use Rattle.std.specs.Prelude.{ℕ, ◌+◌, ◌-◌, ◌*◌, ◌/◌, ◌%◌, ◌^◌, ◌<◌, ◌==◌, ◌≡◌, ◌⊎◌, Bool, true, false, not, ◌&&◌, ◌||◌, nat_le, nat_lt, if◌then◌else◌, List, [], ◌∷◌, length, take, drop, map, slice_index, codes, decimal, find, Option, Some, None, option_and_then, Result, Ok, Err, IsTrue}
 use Rattle.std.specs.List.{list_all, list_any, position_from, join_with_byte}
-use Rattle.std.specs.Str.{bytes_eq, all_ascii_digits}
+use Rattle.std.specs.Str.{bytes_eq}
 use Rattle.std.specs.Str.Parse.{digits_value}
 use Rattle.hex.specs.Hex.{decode_of, encode_lower, hex_digit_value}
 use Rattle.hex.specs.declared.error.FromHexError.{FromHexError}
@@ -16,9 +16,13 @@ use Rattle.cx_words.specs.Cutting.{onto_first}
 
 -- ---- numbers
 
+-- a decimal digit
+abbrev pub is_digit : ℕ → Bool
+is_digit b = nat_le 48 b && nat_le b 57
+
 -- one decimal digit or more, the first of several no '0' (48)
 abbrev pub is_plain : List ℕ → Bool
-is_plain word = all_ascii_digits word && nat_le 1 (length word) && (nat_le (length word) 1 || not (slice_index word 0 == 48))
+is_plain word = list_all is_digit word && nat_le 1 (length word) && (nat_le (length word) 1 || not (slice_index word 0 == 48))
 
 -- the number, where it is below the bound
 abbrev pub below : ℕ → ℕ → Option ℕ
@@ -36,7 +40,7 @@ is_point b = b == 46
 
 -- nine decimal digits
 abbrev pub is_nine : List ℕ → Bool
-is_nine word = (length word == 9) && all_ascii_digits word
+is_nine word = (length word == 9) && list_all is_digit word
 
 -- the nanoseconds of whole seconds below 4,000,000,000
 abbrev pub whole_seconds : ℕ → Option ℕ
@@ -196,7 +200,7 @@ is_in_marks word = nat_le 2 (length word) && (slice_index word 0 == 34) && (slic
 
 -- what stands between the first and the last byte
 abbrev pub inside : List ℕ → List ℕ
-inside word = take (length word - 2) (drop 1 word)
+inside word = take (length word - 1 - 1) (drop 1 word)
 
 -- a capability text in quotation marks
 unfoldable pub caps_of : List ℕ → Option (List ℕ)

@@ -10,6 +10,7 @@ use cx_base::{EntityType, Items};
 use std::alloc::{AllocError, Global};
 
 /// The services that the word names, in the order written: `mds`, `osd` and `mgr` joined by commas, each at most once.
+#[tactic(auto, unfolding(crate::specs::Words::services_of))]
 pub fn services(alloc: Global, word: &[u8]) -> Result<Option<Items<EntityType>>, AllocError>
     ensures read { IfOk result (λ found. found ≡ services_of word.now) }
     ensures spelled { IfOk result (λ found. IfSome found (λ kinds. IsTrue (is_service_list kinds) × (word.now ≡ services_word kinds))) }

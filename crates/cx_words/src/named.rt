@@ -12,6 +12,7 @@ use cx_base::{Access, EntityName, EntityType, Text, TextRefusal};
 use std::alloc::{AllocError, Global};
 
 /// The type that the word names.
+#[tactic(auto, unfolding(crate::specs::Words::type_of))]
 fn type_of(word: &[u8]) -> Option<EntityType>
     ensures { result ≡ type_of word.now }
 {
@@ -77,6 +78,7 @@ fn is_ticket_service(kind: EntityType) -> bool
 }
 
 /// What an operation asks to do, `read`, `write` or `exec`, where the word names it.
+#[tactic(auto, unfolding(crate::specs::Words::access_of))]
 pub fn access(word: &[u8]) -> Option<Access>
     ensures read { result ≡ access_of word.now }
     ensures spelled { IfSome result (λ access. word.now ≡ access_word access) }

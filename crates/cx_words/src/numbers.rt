@@ -1,10 +1,9 @@
 //! Numbers and readings of a clock.
 
 ghost use Rattle.std.specs.Prelude.{◌≡◌, ◌<◌, ◌≤◌, ◌^◌, true, length, decimal, IfSome, option_and_then};
-ghost use Rattle.std.specs.List.{position_from};
-ghost use Rattle.std.specs.Str.{all_ascii_digits};
+ghost use Rattle.std.specs.List.{list_all, position_from};
 ghost use Rattle.std.specs.Str.Parse.{digits_value};
-ghost use Rattle.cx_words.specs.Words.{below, is_nine, is_plain, is_point, number_of, reading_of, whole_seconds, with_nine, IsReadingWord};
+ghost use Rattle.cx_words.specs.Words.{below, is_digit, is_nine, is_plain, is_point, number_of, reading_of, whole_seconds, with_nine, IsReadingWord};
 
 use cx_base::{Reading, SECOND};
 
@@ -29,14 +28,20 @@ fn is_plain(word: &[u8]) -> bool
 }
 
 fn all_digits(word: &[u8]) -> bool
-    ensures { result ≡ all_ascii_digits word.now }
+    ensures { result ≡ list_all is_digit word.now }
 {
-    word.iter().all(|b| b.is_ascii_digit())
+    word.iter().all(|b| is_digit(*b))
+}
+
+fn is_digit(b: u8) -> bool
+    ensures { result ≡ is_digit b }
+{
+    b >= b'0' && b <= b'9'
 }
 
 /// The number that these digits write, where it is below 2^64.
 fn digits(word: &[u8]) -> Option<u64>
-    requires shown { all_ascii_digits word.now ≡ true }
+    requires shown { list_all is_digit word.now ≡ true }
     requires some { 0 < length word.now }
     ensures { result ≡ below (2 ^ 64) (digits_value 10 word.now) }
 {
@@ -51,6 +56,7 @@ fn digits(word: &[u8]) -> Option<u64>
 pub fn reading(word: &[u8]) -> Option<Reading>
     ensures read { result ≡ reading_of word.now }
     ensures spelled { IfSome result (λ n. IsReadingWord word.now n) }
+    ensures bound { IfSome result (λ n. n < 4000000000000000000) }
 {
     match point(word) {
         Some(place) => with_nine(&word[place + 1..], number(&word[..place])),

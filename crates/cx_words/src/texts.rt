@@ -3,7 +3,7 @@
 ghost use Rattle.std.specs.Prelude.{◌≡◌, true, IfOk, IfSome, IsTrue, None};
 ghost use Rattle.std.specs.List.{list_all, position};
 ghost use Rattle.cx_base.specs.Owners.{is_above_ascii};
-ghost use Rattle.cx_words.specs.Words.{caps_of, hex_of, inside, is_caps, is_caps_byte, is_in_marks, is_long_part, is_part, is_part_byte, part_of, part_word, quoted, IsHexWord};
+ghost use Rattle.cx_words.specs.Words.{caps_of, hex_of, inside, is_caps, is_caps_byte, is_in_marks, is_long_part, is_part, is_part_byte, part_of, part_word, quoted, some_bytes, IsHexWord};
 
 use crate::cut::is_word;
 use cx_base::{Blob, Text, TextRefusal};
@@ -64,6 +64,7 @@ fn is_caps_byte(b: u8) -> bool
 
 /// The pool, namespace or object that the word spells: `-` is the empty one, else 1 to 255 bytes among letters, digits and
 /// `_ - .`.
+#[tactic(auto, using(crate::proofs::Ascii::ascii_long_part), unfolding(crate::specs::Words::part_of))]
 pub fn part(alloc: Global, word: &[u8]) -> Result<Option<Text>, AllocError>
     ensures read { IfOk result (λ found. found ≡ part_of word.now) }
     ensures spelled { IfOk result (λ found. IfSome found (λ part. IsTrue (is_part part) × (word.now ≡ part_word part))) }
@@ -103,6 +104,7 @@ fn is_part_byte(b: u8) -> bool
 }
 
 /// The bytes that the word spells in hex: `-` is none, else an even number, at least two, of hex digits in either case.
+#[tactic(auto, unfolding(crate::specs::Words::hex_of))]
 pub fn hex(alloc: Global, word: &[u8]) -> Result<Option<Blob>, AllocError>
     ensures read { IfOk result (λ found. found ≡ hex_of word.now) }
     ensures spelled { IfOk result (λ found. IfSome found (λ bytes. IsHexWord word.now bytes)) }
@@ -110,17 +112,21 @@ pub fn hex(alloc: Global, word: &[u8]) -> Result<Option<Blob>, AllocError>
     if is_word(word, "-") {
         return Ok(Some(Blob::new(alloc)));
     }
-    if word.is_empty() {
-        return Ok(None);
-    }
     match hex::decode(alloc, word) {
-        Ok(bytes) => {
-            let blob = Blob::of(alloc, bytes.as_slice())?;
-            Ok(Some(blob))
-        }
+        Ok(bytes) => some_bytes(alloc, bytes.as_slice()),
         Err(hex::FromHexError::OutOfMemory) => Err(AllocError),
         Err(hex::FromHexError::OddLength) => Ok(None),
         Err(hex::FromHexError::InvalidHexCharacter { .. }) => Ok(None),
         Err(hex::FromHexError::InvalidStringLength) => Ok(None),
     }
+}
+
+fn some_bytes(alloc: Global, bytes: &[u8]) -> Result<Option<Blob>, AllocError>
+    ensures { IfOk result (λ found. found ≡ some_bytes (Ok bytes.now)) }
+{
+    if bytes.is_empty() {
+        return Ok(None);
+    }
+    let blob = Blob::of(alloc, bytes)?;
+    Ok(Some(blob))
 }

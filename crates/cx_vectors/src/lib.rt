@@ -1,0 +1,5 @@
+//! Known answers from outside, as tests.
+#![tactic(auto)]
+
+#[cfg(test)]
+mod digest;
