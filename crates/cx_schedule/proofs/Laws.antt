@@ -74,7 +74,7 @@ clean earlier (Send client daemon o) words p =
 -- ---- words are read back
 
 -- two values where both are there
-both : {A B C : Type 0} → (A → B → C) → Option A → Option B → Option C
+abbrev both : {A B C : Type 0} → (A → B → C) → Option A → Option B → Option C
 both f None b = None
 both f (Some a) None = None
 both f (Some a) (Some b) = Some (f a b)
@@ -90,6 +90,10 @@ operation_in (Some a) (Some p) (Some n) (Some o) (Some b) =
     Some (record { access = a; pool = p; namespace = n; object = o; bytes = b })
 operation_in _ _ _ _ _ = None
 
+abbrev send_in : Option Name → Option Name → Option Operation → Option Line
+send_in (Some c) (Some d) (Some o) = Some (Send c d o)
+send_in _ _ _ = None
+
 -- the line that words behind a first word of this form spell behind some lines, if they spell one
 abbrev form_in : Head → List (List ℕ) → Option Line
 form_in LifetimeHead (w ∷ []) = option_map (λ s. Lifetime s) (number_of w)
@@ -101,7 +105,7 @@ form_in LoginHead (w ∷ []) = option_map (λ n. Login n []) (name_of w)
 form_in LoginHead (w ∷ v ∷ []) = both (λ n asked. Login n asked) (name_of w) (services_of v)
 form_in ConnectHead (w ∷ v ∷ []) = both (λ n m. Connect n m) (name_of w) (name_of v)
 form_in SendHead (w ∷ v ∷ a ∷ p ∷ n ∷ o ∷ b ∷ []) =
-    both (λ f x. f x) (both (λ c d x. Send c d x) (name_of w) (name_of v)) (operation_in (access_of a) (part_of p) (part_of n) (part_of o) (hex_of b))
+    send_in (name_of w) (name_of v) (operation_in (access_of a) (part_of p) (part_of n) (part_of o) (hex_of b))
 form_in _ _ = None
 
 abbrev line_with : Option Head → List (List ℕ) → Option Line

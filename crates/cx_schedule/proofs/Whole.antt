@@ -2,6 +2,7 @@
 use Rattle.std.proofs.Common.{◌≡◌, ℕ, zero, suc, ◌+◌, ◌-◌, ◌<◌, ◌≤◌, ◌⊎◌, Bool, true, false, IsTrue, List, [], ◌∷◌, ◌++◌, length, get_or, drop, Option, Some, None, IfErr, Result, Ok, Err, refl, sym, ap, ◌∙◌, inl, inr, arith, length-append}
 use Rattle.std.specs.List.{list_all}
 use Rattle.std.proofs.lemmas.Bool.Decides.{nat_tests}
+use Rattle.std.proofs.lemmas.List.{get_or-drop, drop-drop}
 use Rattle.std.proofs.lemmas.List.Folds.{list_all-append}
 use Rattle.cx_words.specs.Cutting.{is_skipped, lines_of}
 use Rattle.cx_words.proofs.NumberWords.{reading_below}
@@ -11,8 +12,8 @@ use Rattle.cx_schedule.specs.declared.lines.Line.{Line}
 use Rattle.cx_schedule.specs.declared.lines.Line.TheVariants.{Lifetime, AuthLifetime, Entity, Clock, Fetch, Login, Connect, Send}
 use Rattle.cx_schedule.specs.declared.refusals.ScheduleRefusal.{ScheduleRefusal}
 use Rattle.cx_schedule.specs.declared.refusals.ScheduleRefusal.TheVariants.{TooLong, BadLine, NotYet, OutOfMemory}
-use Rattle.cx_schedule.specs.Faults.{fault_of}
-use Rattle.cx_schedule.specs.Files.{Adds, IsFirstBad, IsScheduleCause, IsShort, Lines, Said, line_words}
+use Rattle.cx_schedule.specs.Faults.{begins_later, fault_of}
+use Rattle.cx_schedule.specs.Files.{Adds, IsFirstBad, IsScheduleCause, IsShort, Lines, Said, is_later_at, line_words}
 use Rattle.cx_schedule.specs.Lines.{Spells, is_in_range}
 use Rattle.cx_schedule.proofs.Laws.{clean, unique}
 
@@ -79,3 +80,61 @@ pub all_in_range : (earlier script : List Line) (lines : List (List ℕ)) → Sa
 all_in_range earlier script [] said all = rw said all
 all_in_range earlier script (line ∷ lines) (now, adds, said) all =
     all_in_range now script lines said (added_range earlier now line adds all)
+
+-- a short schedule has few lines
+pub few_in_all : (bytes : List ℕ) (script : List Line) → IsShort bytes → Lines bytes script → length script ≤ 20000
+few_in_all bytes script short said =
+    let few = few_lines [] script (lines_of bytes) said in
+    omega (arith, few, short.1)
+
+-- no bytes have no lines
+pub no_lines : lines_of [] ≡ []
+unfolding lines_of
+no_lines = refl
+
+-- the line at a place, where it is the first of what is left
+at_place : (all : List (List ℕ)) (number : ℕ) (line : List ℕ) (after : List (List ℕ)) → drop number all ≡ line ∷ after → get_or all (number + 1 - 1) [] ≡ line
+at_place all number line after left =
+    let n : number + 1 - 1 ≡ number + 0 = omega arith in
+    ap (λ k. get_or all k []) n ∙ sym (get_or-drop number all 0 []) ∙ ap (λ ls. get_or ls 0 []) left
+
+-- what is left behind one more line
+pub left_kept : (all : List (List ℕ)) (number : ℕ) (line : List ℕ) (after : List (List ℕ)) → drop number all ≡ line ∷ after → drop (number + 1) all ≡ after
+left_kept all number line after left = sym (drop-drop 1 number all) ∙ ap (λ ls. drop 1 ls) left
+
+-- how the lines so far stand to all
+pub record Reads (all : List (List ℕ)) (earlier : List Line) (number : ℕ) (rest : List (List ℕ)) : Type 0 where
+  pub said : (s : List Line) → Said earlier rest s → Said [] all s
+  pub bad : (n : ℕ) (why : LineFault) → IsFirstBad earlier rest n why → IsFirstBad [] all (number + n) why
+  pub left : drop number all ≡ rest
+  pub counted : number + length rest ≡ length all
+
+pub reads_more : (all : List (List ℕ)) (earlier now : List Line) (number : ℕ) (rest : List (List ℕ)) (line : List ℕ) (after : List (List ℕ)) → Reads all earlier number rest → rest ≡ line ∷ after → Adds earlier line now → Reads all now (number + 1) after
+reads_more all earlier now number rest line after r cut adds = record {
+    said = λ s p. r.said s (rw cut (now, adds, p));
+    bad = λ n why p. rw (plus n) at (r.bad (n + 1) why (rw cut (inr (now, adds, n, refl, p))));
+    left = left_kept all number line after (r.left ∙ cut);
+    counted = counts r.counted (ap length cut);
+  }
+  where
+    plus : (n : ℕ) → number + (n + 1) ≡ number + 1 + n
+    plus n = omega arith
+    counts : number + length rest ≡ length all → length rest ≡ length (line ∷ after) → number + 1 + length after ≡ length all
+    counts e f = omega arith
+
+-- the line that is refused is the first outside of the grammar
+pub bad_here : (all : List (List ℕ)) (earlier : List Line) (number : ℕ) (rest : List (List ℕ)) (line : List ℕ) (after : List (List ℕ)) (why : LineFault) (later : Bool) → Reads all earlier number rest → rest ≡ line ∷ after → is_skipped line ≡ false → fault_of earlier (line_words line) ≡ Some why → begins_later (line_words line) ≡ later → IsFirstBad [] all (number + 1) why × (is_later_at all (number + 1) ≡ later)
+bad_here all earlier number rest line after why later r cut kept fault is =
+    ( r.bad 1 why (rw cut (inl (refl, kept, fault)))
+    , ap (λ l. begins_later (line_words l)) (at_place all number line after (r.left ∙ cut)) ∙ is
+    )
+
+-- at the end all is said
+pub read_all : (bytes left : List ℕ) (earlier : List Line) (number : ℕ) → Reads (lines_of bytes) earlier number (lines_of left) → left ≡ [] → Lines bytes earlier
+read_all bytes left earlier number r none = r.said earlier (rw (none, no_lines) refl)
+
+-- at the end all are counted
+pub counted_all : (bytes left : List ℕ) (count : ℕ) → count + length (lines_of left) ≡ length (lines_of bytes) → left ≡ [] → count ≡ length (lines_of bytes)
+counted_all bytes left count e none =
+    let n : length (lines_of left) ≡ 0 = rw (none, no_lines) refl in
+    omega arith

@@ -25,7 +25,7 @@ line_words line = words_of (groups line) line
 abbrev pub Adds : List Line → List ℕ → List Line → Type 0
 Adds earlier line now =
     ((is_skipped line ≡ true) × (now ≡ earlier))
-    ⊎ ((is_skipped line ≡ false) × ((x : Line) × Spells earlier x (line_words line) × (now ≡ earlier ++ x ∷ [])))
+    ⊎ ((is_skipped line ≡ false) × (x : Line) × Spells earlier x (line_words line) × (now ≡ earlier ++ x ∷ []))
 
 -- why a line of the file is refused behind these lines; want of memory is free
 abbrev pub IsRefused : List Line → List ℕ → LineRefusal → Type 0
@@ -45,7 +45,7 @@ abbrev pub IsFirstBad : List Line → List (List ℕ) → ℕ → LineFault → 
 IsFirstBad earlier [] n why = ⊥
 IsFirstBad earlier (line ∷ lines) n why =
     ((n ≡ 1) × (is_skipped line ≡ false) × (fault_of earlier (line_words line) ≡ Some why))
-    ⊎ ((now : List Line) × Adds earlier line now × ((m : ℕ) × (n ≡ m + 1) × IsFirstBad now lines m why))
+    ⊎ ((now : List Line) × Adds earlier line now × (m : ℕ) × (n ≡ m + 1) × IsFirstBad now lines m why)
 
 -- the schedule isn't too long
 abbrev pub IsShort : List ℕ → Type 0
