@@ -43,7 +43,7 @@ fn entity(alloc: Global, earlier: &Earlier, word: &[u8], pairs: &[&[u8]]) -> Res
     if !is_declarable(&name) {
         return Err(Fault(LineFault::UnknownNode));
     }
-    if earlier.is_declared(&name) {
+    if earlier.is_declared(alloc, &name)? {
         return Err(Fault(LineFault::Repeated));
     }
     if repeats_service(grants.all()) {

@@ -154,7 +154,7 @@ fn fetch(alloc: Global, earlier: &Earlier, daemon: &[u8]) -> Result<Line, LineRe
     let Some(daemon) = name(alloc, daemon)? else {
         return Err(Fault(LineFault::BadName));
     };
-    if !earlier.is_daemon(&daemon) {
+    if !earlier.is_daemon(alloc, &daemon)? {
         return Err(Fault(LineFault::UnknownNode));
     }
     Ok(Line::Fetch(daemon))
@@ -183,7 +183,7 @@ fn login(alloc: Global, earlier: &Earlier, client: &[u8]) -> Result<Line, LineRe
     let Some(client) = name(alloc, client)? else {
         return Err(Fault(LineFault::BadName));
     };
-    if !earlier.is_client(&client) {
+    if !earlier.is_client(alloc, &client)? {
         return Err(Fault(LineFault::UnknownNode));
     }
     Ok(Line::Login(client, Items::new(alloc)))
@@ -199,7 +199,7 @@ fn login_for(alloc: Global, earlier: &Earlier, client: &[u8], list: &[u8]) -> Re
     let Some(asked) = services(alloc, list)? else {
         return Err(Fault(LineFault::BadText));
     };
-    if !earlier.is_client(&client) {
+    if !earlier.is_client(alloc, &client)? {
         return Err(Fault(LineFault::UnknownNode));
     }
     Ok(Line::Login(client, asked))
@@ -228,10 +228,10 @@ fn connect(alloc: Global, earlier: &Earlier, client: &[u8], daemon: &[u8]) -> Re
     let Some(daemon) = name(alloc, daemon)? else {
         return Err(Fault(LineFault::BadName));
     };
-    if !earlier.is_client(&client) {
+    if !earlier.is_client(alloc, &client)? {
         return Err(Fault(LineFault::UnknownNode));
     }
-    if !earlier.is_daemon(&daemon) {
+    if !earlier.is_daemon(alloc, &daemon)? {
         return Err(Fault(LineFault::UnknownNode));
     }
     Ok(Line::Connect(client, daemon))

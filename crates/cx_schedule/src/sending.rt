@@ -61,10 +61,10 @@ fn send(alloc: Global, earlier: &Earlier, client: &[u8], daemon: &[u8], written:
     let Some(operation) = operation(alloc, written)? else {
         return Err(Fault(LineFault::BadText));
     };
-    if !earlier.is_client(&client) {
+    if !earlier.is_client(alloc, &client)? {
         return Err(Fault(LineFault::UnknownNode));
     }
-    if !earlier.is_daemon(&daemon) {
+    if !earlier.is_daemon(alloc, &daemon)? {
         return Err(Fault(LineFault::UnknownNode));
     }
     Ok(Line::Send(client, daemon, operation))
