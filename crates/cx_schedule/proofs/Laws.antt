@@ -1,22 +1,19 @@
 -- The two laws of a line: what is spelled has no fault, and words spell one line.
-use Rattle.std.proofs.Common.{◌≡◌, ℕ, ◌+◌, ◌*◌, ◌%◌, ◌<◌, ◌≤◌, ◌^◌, Bool, true, false, ◌&&◌, IsTrue, List, [], ◌∷◌, length, Option, Some, None, refl, arith, codes}
+use Rattle.std.proofs.Common.{◌≡◌, ℕ, ◌+◌, ◌%◌, ◌<◌, ◌^◌, false, IsTrue, List, [], ◌∷◌, length, Option, Some, None, refl, arith, codes}
 use Rattle.std.specs.List.{list_all}
-use Rattle.std.specs.Str.{bytes_eq}
 use Rattle.std.specs.Option.{option_map}
 use Rattle.std.proofs.lemmas.Bool.{and_parts}
 use Rattle.std.proofs.lemmas.Bool.Decides.{nat_tests}
 use Rattle.std.proofs.lemmas.Slice.Eq.{bytes_eq-Decides}
-use Rattle.cx_base.specs.Names.{Name, name_text, type_word, is_id}
+use Rattle.cx_base.specs.Names.{Name, name_text}
 use Rattle.cx_base.specs.declared.kinds.Access.{Access}
-use Rattle.cx_base.specs.declared.kinds.EntityType.{EntityType}
 use Rattle.cx_base.specs.declared.operations.Operation.{Operation}
-use Rattle.cx_words.specs.Words.{number_of, reading_of, name_of, service_of, services_of, access_of, part_of, hex_of, caps_of, is_caps, is_service, quoted}
+use Rattle.cx_words.specs.Words.{number_of, reading_of, name_of, service_of, services_of, access_of, part_of, hex_of, caps_of, is_caps, is_service}
 use Rattle.cx_words.proofs.NumberWords.{number_of-decimal, reading_of-word}
 use Rattle.cx_words.proofs.NameWords.{name_of-text, service_of-word, access_of-word}
 use Rattle.cx_words.proofs.ListWords.{services_of-word}
 use Rattle.cx_words.proofs.TextWords.{caps_of-quoted, part_of-word}
 use Rattle.cx_words.proofs.HexWords.{hex_of-word}
-use Rattle.cx_schedule.specs.declared.faults.LineFault.{LineFault}
 use Rattle.cx_schedule.specs.declared.heads.Head.{Head}
 use Rattle.cx_schedule.specs.declared.heads.Head.TheVariants.{Lifetime as LifetimeHead, AuthLifetime as AuthLifetimeHead, Entity as EntityHead, Clock as ClockHead, Fetch as FetchHead, Login as LoginHead, Connect as ConnectHead, Send as SendHead}
 use Rattle.cx_schedule.specs.declared.lines.Grant.{Grant}

@@ -2,7 +2,6 @@
 use Rattle.std.specs.Prelude.{ℕ, ◌%◌, ◌==◌, ◌≡◌, Bool, true, false, not, ◌&&◌, ◌||◌, nat_lt, List, [], ◌∷◌, length, Option, Some, None, is_none, find}
 use Rattle.std.specs.List.{list_any}
 use Rattle.std.specs.Str.{bytes_eq}
-use Rattle.cx_base.specs.Names.{Name}
 use Rattle.cx_words.specs.Words.{name_of, service_of, caps_of}
 use Rattle.cx_schedule.specs.declared.faults.LineFault.{LineFault}
 use Rattle.cx_schedule.specs.declared.faults.LineFault.TheVariants.{UnknownWord, Missing, Extra, BadNumber, BadName, BadText, UnknownNode, Repeated, Order}

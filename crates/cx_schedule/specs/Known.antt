@@ -1,5 +1,5 @@
 -- What is kept of the lines so far, so that the next one is judged without going through them again.
-use Rattle.std.specs.Prelude.{ℕ, ◌≡◌, Bool, true, false, ◌||◌, IsTrue, min, List, Option, Some, None, String, string_bytes, count_by}
+use Rattle.std.specs.Prelude.{ℕ, ◌≡◌, Bool, false, ◌||◌, IsTrue, min, List, Option, Some, None, String, string_bytes, count_by}
 use Rattle.std.specs.List.{list_any}
 use Rattle.std.specs.Str.{bytes_eq}
 use Rattle.std.specs.BTreeSet.{BTreeSet, contains_text}

@@ -1,10 +1,10 @@
 -- What the lines of a schedule are: how each is spelled, and what the lines before it must be for that.
-use Rattle.std.specs.Prelude.{ℕ, ◌≡◌, ◌<◌, Bool, true, false, not, ◌&&◌, ◌||◌, IsTrue, nat_le, nat_lt, List, [], ◌∷◌, ◌++◌, length, count_by, codes}
+use Rattle.std.specs.Prelude.{ℕ, ◌≡◌, Bool, true, false, ◌&&◌, ◌||◌, IsTrue, nat_le, nat_lt, List, [], ◌∷◌, length, count_by, codes}
 use Rattle.std.specs.List.{list_any, list_all}
 use Rattle.std.specs.Str.{bytes_eq}
 use Rattle.std.specs.Fmt.{decimal}
 use Rattle.cx_base.specs.declared.kinds.EntityType.{EntityType}
-use Rattle.cx_base.specs.declared.kinds.EntityType.TheVariants.{Mon, Mds, Osd, Client, Mgr, Auth}
+use Rattle.cx_base.specs.declared.kinds.EntityType.TheVariants.{Mds, Osd, Client, Mgr}
 use Rattle.cx_base.specs.Names.{Name, is_id, name_text, same_kind, same_name, type_word, access_word}
 use Rattle.cx_base.specs.declared.operations.Operation.{Operation}
 use Rattle.cx_words.specs.Words.{IsReadingWord, IsHexWord, is_service, is_service_list, services_word, is_part, part_word, quoted}

@@ -1,10 +1,6 @@
 -- Which kinds of values stand at which places of a line, and when a word is none of its place.
-use Rattle.std.specs.Prelude.{ℕ, Bool, true, false, not, ◌&&◌, ◌||◌, nat_le, List, [], ◌∷◌, length, Option, Some, None, is_none}
-use Rattle.cx_base.specs.declared.kinds.EntityType.{EntityType}
-use Rattle.cx_base.specs.declared.kinds.EntityType.TheVariants.{Mon, Mds, Osd, Client, Mgr, Auth}
-use Rattle.cx_base.specs.Names.{Name, same_kind}
+use Rattle.std.specs.Prelude.{ℕ, Bool, false, not, ◌||◌, List, [], ◌∷◌, Option, Some, None, is_none}
 use Rattle.cx_words.specs.Words.{number_of, reading_of, name_of, services_of, access_of, part_of, hex_of}
-use Rattle.cx_schedule.specs.declared.limits.TheConstants.{LONGEST_LIFE, MOST_DATA}
 use Rattle.cx_schedule.specs.declared.heads.Head.{Head}
 use Rattle.cx_schedule.specs.declared.heads.Head.TheVariants.{Lifetime, AuthLifetime, Entity, Clock, Fetch, Login, Connect, Send}
 use Rattle.cx_schedule.specs.declared.lines.Line.{Line}

@@ -18,3 +18,6 @@ pub use limits::{END_OF_READINGS, LONGEST_LIFE, MOST_BYTES, MOST_DATA, MOST_ENTI
 pub use lines::{Grant, Line};
 pub use refusals::ScheduleRefusal;
 pub use script::{Script, read};
+
+#[cfg(test)]
+mod tests;

@@ -1,4 +1,4 @@
-use Rattle.std.proofs.Common.{true, false, refl}
+use Rattle.std.proofs.Common.{true, false}
 use Rattle.cx_schedule.specs.declared.faults.LineFault.TheVariants.{UnknownWord}
 use Rattle.cx_schedule.proofs.Whole.{bad_here, reads_more, read_all}
 use Rattle.cx_schedule.proofs.script.read_lines.Goals as goal
