@@ -136,6 +136,15 @@ impl Model for Text {
 }
 
 impl Text {
+    /// The empty text.
+    pub fn new(alloc: Global) -> Text
+        ensures { result ≡ [] }
+    {
+        Text {
+            held: String::new(alloc),
+        }
+    }
+
     /// The text of these bytes.
     pub fn of(alloc: Global, bytes: &[u8]) -> Result<Text, TextRefusal>
         ensures ok { IfOk result (λ text. (text ≡ bytes.now) × (position is_above_ascii bytes.now ≡ None)) }
