@@ -52,7 +52,7 @@ pub record Holds (journal : List Entry) (nodes : List Node) : Type 0 where
   pub backed : EachBehind IsBackedBy [] journal
   pub in_session : EachBehind IsInSessionBy [] journal
   pub keeps_keys : EachBehind KeepsKeysBy [] journal
-  pub nodes : AllByRecursion (IsSound journal) nodes
+  pub sound : AllByRecursion (IsSound journal) nodes
 
 -- ---- more entries behind
 
@@ -65,7 +65,7 @@ wallet-more journal more name wallet held = record {
   auth = genuine-more journal more name Auth wallet.auth held.auth;
   mds = genuine-more journal more name Mds wallet.mds held.mds;
   osd = genuine-more journal more name Osd wallet.osd held.osd;
-  mgr = genuine-more journal more name Mgr wallet.mgr held.mgr
+  mgr = genuine-more journal more name Mgr wallet.mgr held.mgr;
 }
 
 admitted-more : (journal more : List Entry) (session : Session) → WasAdmitted journal session → WasAdmitted (journal ++ more) session
@@ -75,13 +75,13 @@ admitted-more journal more session was = record {
   daemon = was.daemon;
   number = was.number;
   epoch = was.epoch;
-  cookie = was.cookie
+  cookie = was.cookie;
 }
 
 sound-more : (journal more : List Entry) (node : Node) → IsSound journal node → IsSound (journal ++ more) node
 sound-more journal more node sound = record {
   wallet = wallet-more journal more node.name node.wallet sound.wallet;
-  sessions = all-weaker (WasAdmitted journal) (WasAdmitted (journal ++ more)) (admitted-more journal more) node.sessions sound.sessions
+  sessions = all-weaker (WasAdmitted journal) (WasAdmitted (journal ++ more)) (admitted-more journal more) node.sessions sound.sessions;
 }
 
 -- one entry more, of which the three laws hold
@@ -90,7 +90,7 @@ holds-push journal nodes e holds backed in_session keeps_keys = record {
   backed = behind-push IsBackedBy [] journal e holds.backed backed;
   in_session = behind-push IsInSessionBy [] journal e holds.in_session in_session;
   keeps_keys = behind-push KeepsKeysBy [] journal e holds.keeps_keys keeps_keys;
-  nodes = all-weaker (IsSound journal) (IsSound (journal ++ e ∷ [])) (sound-more journal (e ∷ [])) nodes holds.nodes
+  sound = all-weaker (IsSound journal) (IsSound (journal ++ e ∷ [])) (sound-more journal (e ∷ [])) nodes holds.sound;
 }
 
 -- other entities of which what is held is sound
@@ -99,7 +99,7 @@ holds-nodes journal nodes others holds sound = record {
   backed = holds.backed;
   in_session = holds.in_session;
   keeps_keys = holds.keeps_keys;
-  nodes = sound
+  sound = sound;
 }
 
 -- the last entry is among them
@@ -112,10 +112,10 @@ pub empty-genuine : (journal : List Entry) (name : Name) → HoldsGenuine journa
 empty-genuine journal name = record { auth = tt; mds = tt; osd = tt; mgr = tt }
 
 pub holding-genuine : (journal : List Entry) (name : Name) (wallet : Wallet) (ticket : Issued) (service : EntityType) → HoldsGenuine journal name wallet → Contains journal (entry.Issued ticket) → ticket.entity ≡ name → ticket.service ≡ service → HoldsGenuine journal name (holding_as wallet ticket service)
-holding-genuine journal name wallet ticket Auth held issued entity service = record held { auth = (issued, entity, service) }
-holding-genuine journal name wallet ticket Mds held issued entity service = record held { mds = (issued, entity, service) }
-holding-genuine journal name wallet ticket Osd held issued entity service = record held { osd = (issued, entity, service) }
-holding-genuine journal name wallet ticket Mgr held issued entity service = record held { mgr = (issued, entity, service) }
+holding-genuine journal name wallet ticket Auth held issued entity service = record { auth = (issued, entity, service); mds = held.mds; osd = held.osd; mgr = held.mgr }
+holding-genuine journal name wallet ticket Mds held issued entity service = record { auth = held.auth; mds = (issued, entity, service); osd = held.osd; mgr = held.mgr }
+holding-genuine journal name wallet ticket Osd held issued entity service = record { auth = held.auth; mds = held.mds; osd = (issued, entity, service); mgr = held.mgr }
+holding-genuine journal name wallet ticket Mgr held issued entity service = record { auth = held.auth; mds = held.mds; osd = held.osd; mgr = (issued, entity, service) }
 holding-genuine journal name wallet ticket Mon held issued entity service = held
 holding-genuine journal name wallet ticket Client held issued entity service = held
 
@@ -147,11 +147,11 @@ none_end daemon session (e ∷ es) = rw (none_ends daemon session e) (none_end d
 -- an operation in a session that was admitted is in session
 pub handled-in_session : (journal : List Entry) (session : Session) (handled : Handled) → WasAdmitted journal session → session.daemon ≡ handled.daemon → session.place.number ≡ handled.session → handled.epoch ≡ 1 → session.place.cookie ≡ handled.cookie → IsInSessionBy journal (entry.Handled handled)
 handled-in_session journal session handled was daemon number epoch cookie =
-    let parts = contains-split journal (entry.Admitted was.admission) was.entered in
-    ( parts.0
-    , was.admission
-    , parts.1
-    , parts.2
-    , record { daemon = was.daemon ∙ daemon; session = was.number ∙ number; epoch = was.epoch ∙ sym epoch; cookie = was.cookie ∙ cookie }
-    , none_end handled.daemon handled.session parts.1
+    let parts = contains-split journal (entry.Admitted was.admission) was.entered in (
+      parts.0,
+      was.admission,
+      parts.1,
+      parts.2,
+      record { daemon = was.daemon ∙ daemon; session = was.number ∙ number; epoch = was.epoch ∙ sym epoch; cookie = was.cookie ∙ cookie },
+      none_end handled.daemon handled.session parts.1,
     )

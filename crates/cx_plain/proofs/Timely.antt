@@ -82,7 +82,7 @@ unfolding presenting looking
 presenting-times r client daemon view admitted ticket =
     let link : ℕ = r.links + 1 in
     let same =
-      judging-times (looking (record r { links = link }) daemon link view) client daemon view admitted link ticket (fault_of r.reading view ticket) in
+    judging-times (looking (record r { links = link }) daemon link view) client daemon view admitted link ticket (fault_of r.reading view ticket) in
     record { reading = same.reading; life = same.life; auth_life = same.auth_life }
 
 meeting-times : (r : Run) (client daemon : Name) (node : Option Node) (ticket : Issued) → SameTimes (meeting r client daemon node ticket) r
@@ -134,7 +134,7 @@ step-timely r (line.Clock reading) timely within =
       shortest = timely.shortest;
       longest = timely.longest;
       auth_shortest = timely.auth_shortest;
-      auth_longest = timely.auth_longest
+      auth_longest = timely.auth_longest;
     }
 step-timely r (line.Fetch daemon) timely within = kept _ r (fetch-times r daemon (node_of r daemon)) timely
 step-timely r (line.Login client asked) timely within = kept _ r (login-times r client (node_of r client) asked) timely

@@ -42,7 +42,7 @@ rotated_kept now life auth_life kept = record kept {
   mds = rotated now life zero_keys kept.mds;
   osd = rotated now life zero_keys kept.osd;
   mgr = rotated now life zero_keys kept.mgr;
-  auth = rotated now auth_life zero_keys kept.auth
+  auth = rotated now auth_life zero_keys kept.auth;
 }
 
 -- whether a generation of this id is among them

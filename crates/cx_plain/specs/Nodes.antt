@@ -51,5 +51,5 @@ new_node name grants = record {
   sessions = [];
   view = record { generations = []; asked = None };
   has_entered = false;
-  admitted = 0
+  admitted = 0;
 }

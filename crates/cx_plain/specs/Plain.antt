@@ -42,7 +42,7 @@ opening = record {
   links = 0;
   cookies = 0;
   nodes = [];
-  journal = []
+  journal = [];
 }
 
 -- the reading and the lives are within their bounds
@@ -114,7 +114,7 @@ ticket_of terms entity caps service number = record {
   created = terms.reading;
   expires = terms.reading + life_of terms service;
   caps = caps;
-  blob = to_le_bytes w64 number
+  blob = to_le_bytes w64 number;
 }
 
 -- the next ticket is issued: it is entered, and the entity holds it in place of its older one of that service
@@ -125,7 +125,7 @@ issuing terms entity caps service s =
     record {
       issued = number;
       wallet = holding s.wallet ticket;
-      journal = s.journal ++ entry.Issued ticket ∷ []
+      journal = s.journal ++ entry.Issued ticket ∷ [];
     }
 
 abbrev pub issuing_with : Terms → Name → Option (List ℕ) → EntityType → UnderWay → UnderWay
@@ -174,7 +174,7 @@ entered r name node asked =
       links = r.links + 1;
       monitor = w.monitor;
       journal = w.journal;
-      nodes = changed (is_named name) (λ n. record n { wallet = w.wallet; has_entered = true }) r.nodes
+      nodes = changed (is_named name) (λ n. record n { wallet = w.wallet; has_entered = true }) r.nodes;
     }
 
 -- ---- the lines
@@ -189,10 +189,10 @@ unfoldable pub viewing : Run → Name → Run
 viewing r daemon =
     let generations : List Generation = list_of r.monitor.kept daemon.kind in
     entering
-      (record r {
-        nodes = changed (is_named daemon) (λ n. record n { view = record { generations = generations; asked = Some r.reading } }) r.nodes
-      })
-      (entry.Fetched (record { daemon = daemon; asked = r.reading; generations = generations }))
+    (record r {
+      nodes = changed (is_named daemon) (λ n. record n { view = record { generations = generations; asked = Some r.reading } }) r.nodes;
+    })
+    (entry.Fetched (record { daemon = daemon; asked = r.reading; generations = generations }))
 
 -- the lists rotate, and the state is saved
 unfoldable pub renewing : Run → Run
@@ -217,22 +217,22 @@ admitting r client daemon admitted ticket =
     let cookie : ℕ = r.cookies + 1 in
     let session : Session = record { daemon = daemon; place = record { number = number; cookie = cookie; seq = 0 } } in
     entering
-      (record r {
-        cookies = cookie;
-        nodes =
+    (record r {
+      cookies = cookie;
+      nodes =
           changed (is_named client) (λ n. record n { sessions = n.sessions ++ session ∷ [] })
-            (changed (is_named daemon) (λ n. record n { admitted = number }) r.nodes)
-      })
-      (entry.Admitted (record {
-        daemon = daemon;
-        session = number;
-        epoch = 1;
-        cookie = cookie;
-        entity = client;
-        gid = ticket.gid;
-        at = r.reading;
-        caps = ticket.caps
-      }))
+          (changed (is_named daemon) (λ n. record n { admitted = number }) r.nodes);
+    })
+    (entry.Admitted (record {
+      daemon = daemon;
+      session = number;
+      epoch = 1;
+      cookie = cookie;
+      entity = client;
+      gid = ticket.gid;
+      at = r.reading;
+      caps = ticket.caps;
+    }))
 
 -- the daemon refuses the ticket and denies the client with code 13, no permission
 unfoldable pub denying : Run → Name → Name → ℕ → Reason → List ℕ → Run
@@ -291,7 +291,7 @@ handled_at daemon at operation =
       cookie = at.cookie;
       seq = at.seq;
       operation = operation;
-      outcome = outcome.Done
+      outcome = outcome.Done;
     })
 
 abbrev pub answered_at : Name → Name → Place → Entry
@@ -302,8 +302,8 @@ answered_at client daemon at =
 unfoldable pub with_seq : Run → Name → Name → ℕ → Run
 with_seq r client daemon seq = record r {
   nodes =
-    changed (is_named client)
-      (λ n. record n { sessions = changed (is_with daemon) (λ s. record s { place = record s.place { seq = seq } }) n.sessions }) r.nodes
+      changed (is_named client)
+      (λ n. record n { sessions = changed (is_with daemon) (λ s. record s { place = record s.place { seq = seq } }) n.sessions }) r.nodes;
 }
 
 -- an operation in a session: it is sent with the next seq, handled and answered
@@ -311,8 +311,8 @@ unfoldable pub delivering : Run → Name → Name → Place → Operation → Ru
 delivering r client daemon session operation =
     let at : Place = record session { seq = session.seq + 1 } in
     entering
-      (entering (entering (with_seq r client daemon at.seq) (sent_at client daemon at operation)) (handled_at daemon at operation))
-      (answered_at client daemon at)
+    (entering (entering (with_seq r client daemon at.seq) (sent_at client daemon at operation)) (handled_at daemon at operation))
+    (answered_at client daemon at)
 
 -- a client that has no session with the daemon is refused
 abbrev pub sending : Run → Name → Name → Option Session → Operation → Run

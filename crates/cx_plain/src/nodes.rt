@@ -80,7 +80,9 @@ impl Sessions {
 fn session_place(sessions: &[Session], daemon: &EntityName) -> Option<usize>
     ensures { result ≡ position (is_with daemon.now) sessions.now }
 {
-    sessions.iter().position(|session| session.daemon == *daemon)
+    sessions
+        .iter()
+        .position(|session| session.daemon == *daemon)
 }
 
 fn set_seq(sessions: &mut [Session], daemon: &EntityName, seq: u64)

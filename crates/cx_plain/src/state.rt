@@ -7,8 +7,13 @@ use crate::counts::{next, next_link};
 use crate::entrance::{Welcome, enter, enter_save, rotated};
 use crate::monitors::{Kept, Monitor, has_generation};
 use crate::nodes::{Node, Nodes, Place, Session};
-use cx_base::{Blob, Duplicate, EntityName, EntityType, Items, Operation, Reading, SECOND, copy_items};
-use cx_journal::{Admitted, Answered, Entry, Fetched, Handled, Issued, Journal, Looked, Outcome, Reason, Refused, Sent};
+use cx_base::{
+    Blob, Duplicate, EntityName, EntityType, Items, Operation, Reading, SECOND, copy_items,
+};
+use cx_journal::{
+    Admitted, Answered, Entry, Fetched, Handled, Issued, Journal, Looked, Outcome, Reason, Refused,
+    Sent,
+};
 use cx_rotate::View;
 use cx_schedule::{Grant, Line};
 use std::alloc::{AllocError, Global};
@@ -62,7 +67,14 @@ impl Run {
 
     // A node refuses, on a link or on none (0), a ticket or none.
     #[tactic(auto, unfolding(crate::specs::Plain::refusing))]
-    fn refuse(&mut self, alloc: Global, name: &EntityName, link: u32, why: Reason, ticket: Option<Blob>) -> Result<(), AllocError>
+    fn refuse(
+        &mut self,
+        alloc: Global,
+        name: &EntityName,
+        link: u32,
+        why: Reason,
+        ticket: Option<Blob>,
+    ) -> Result<(), AllocError>
         ensures { OnOk result (self.new ≡ refusing self.old name.now link why ticket) }
     {
         let node = name.copy(alloc)?;
@@ -79,7 +91,13 @@ impl Run {
 
     // A daemon looks at its view for an authorizer on this link.
     #[tactic(auto, unfolding(crate::specs::Plain::looking))]
-    fn look(&mut self, alloc: Global, daemon: &EntityName, link: u32, view: &View) -> Result<(), AllocError>
+    fn look(
+        &mut self,
+        alloc: Global,
+        daemon: &EntityName,
+        link: u32,
+        view: &View,
+    ) -> Result<(), AllocError>
         ensures { OnOk result (self.new ≡ looking self.old daemon.now link view.now) }
     {
         let entered = Looked {
@@ -125,7 +143,12 @@ impl Run {
 
     // An entity enters and asks for tickets of these services.
     #[tactic(auto, unfolding(crate::specs::Plain::entered))]
-    fn enter(&mut self, alloc: Global, name: &EntityName, asked: &[EntityType]) -> Result<(), AllocError>
+    fn enter(
+        &mut self,
+        alloc: Global,
+        name: &EntityName,
+        asked: &[EntityType],
+    ) -> Result<(), AllocError>
         requires { IsTimelyRun self.old }
         ensures state { OnOk result (self.new ≡ login self.old name.now (node_of self.old name.now) asked.now) }
         ensures timely { OnOk result (IsTimelyRun self.new) }
@@ -149,7 +172,12 @@ impl Run {
     }
 
     // An entity that never entered does so, and asks for no service.
-    fn arrive(&mut self, alloc: Global, name: &EntityName, has_entered: bool) -> Result<(), AllocError>
+    fn arrive(
+        &mut self,
+        alloc: Global,
+        name: &EntityName,
+        has_entered: bool,
+    ) -> Result<(), AllocError>
         requires { IsTimelyRun self.old }
         ensures state { OnOk result (self.new ≡ (if has_entered then self.old else login self.old name.now (node_of self.old name.now) [])) }
         ensures timely { OnOk result (IsTimelyRun self.new) }
@@ -176,7 +204,15 @@ impl Run {
 
     // The daemon refuses the ticket and denies the client with code 13, no permission.
     #[tactic(auto, unfolding(crate::specs::Plain::denying))]
-    fn deny(&mut self, alloc: Global, client: &EntityName, daemon: &EntityName, link: u32, why: Reason, ticket: Blob) -> Result<(), AllocError>
+    fn deny(
+        &mut self,
+        alloc: Global,
+        client: &EntityName,
+        daemon: &EntityName,
+        link: u32,
+        why: Reason,
+        ticket: Blob,
+    ) -> Result<(), AllocError>
         ensures { OnOk result (self.new ≡ denying self.old client.now daemon.now link why ticket) }
     {
         self.refuse(alloc, daemon, link, why, Some(ticket))?;
@@ -185,7 +221,14 @@ impl Run {
 
     // The daemon admits the client on its ticket, with its next session number, epoch 1 and a new cookie.
     #[tactic(auto, unfolding(crate::specs::Plain::admitting))]
-    fn admit(&mut self, alloc: Global, client: &EntityName, daemon: &EntityName, admitted: u64, ticket: Issued) -> Result<(), AllocError>
+    fn admit(
+        &mut self,
+        alloc: Global,
+        client: &EntityName,
+        daemon: &EntityName,
+        admitted: u64,
+        ticket: Issued,
+    ) -> Result<(), AllocError>
         ensures { OnOk result (self.new ≡ admitting self.old client.now daemon.now admitted ticket) }
     {
         let number = next(admitted)?;
@@ -258,7 +301,13 @@ impl Run {
     }
 
     // A client shows its ticket to the daemon of this name.
-    fn meet(&mut self, alloc: Global, client: &EntityName, daemon: &EntityName, ticket: Issued) -> Result<(), AllocError>
+    fn meet(
+        &mut self,
+        alloc: Global,
+        client: &EntityName,
+        daemon: &EntityName,
+        ticket: Issued,
+    ) -> Result<(), AllocError>
         ensures { OnOk result (self.new ≡ meeting self.old client.now daemon.now (node_of self.old daemon.now) ticket) }
     {
         let Some(node) = self.nodes.find(daemon) else {
@@ -270,7 +319,12 @@ impl Run {
     }
 
     // A client connects to a daemon.
-    fn connect(&mut self, alloc: Global, client: &EntityName, daemon: &EntityName) -> Result<(), AllocError>
+    fn connect(
+        &mut self,
+        alloc: Global,
+        client: &EntityName,
+        daemon: &EntityName,
+    ) -> Result<(), AllocError>
         ensures { OnOk result (self.new ≡ connect self.old client.now (node_of self.old client.now) daemon.now) }
     {
         let Some(node) = self.nodes.find(client) else {
@@ -305,7 +359,14 @@ impl Run {
         self.enter_answered(alloc, client, daemon, place)
     }
 
-    fn enter_sent(&mut self, alloc: Global, client: &EntityName, daemon: &EntityName, at: Place, operation: &Operation) -> Result<(), AllocError>
+    fn enter_sent(
+        &mut self,
+        alloc: Global,
+        client: &EntityName,
+        daemon: &EntityName,
+        at: Place,
+        operation: &Operation,
+    ) -> Result<(), AllocError>
         ensures { OnOk result (self.new ≡ entering self.old (sent_at client.now daemon.now at operation.now)) }
     {
         let entered = Sent {
@@ -318,7 +379,13 @@ impl Run {
         self.journal.push(alloc, Entry::Sent(entered))
     }
 
-    fn enter_handled(&mut self, alloc: Global, daemon: &EntityName, at: Place, operation: &Operation) -> Result<(), AllocError>
+    fn enter_handled(
+        &mut self,
+        alloc: Global,
+        daemon: &EntityName,
+        at: Place,
+        operation: &Operation,
+    ) -> Result<(), AllocError>
         ensures { OnOk result (self.new ≡ entering self.old (handled_at daemon.now at operation.now)) }
     {
         let entered = Handled {
@@ -333,7 +400,13 @@ impl Run {
         self.journal.push(alloc, Entry::Handled(entered))
     }
 
-    fn enter_answered(&mut self, alloc: Global, client: &EntityName, daemon: &EntityName, at: Place) -> Result<(), AllocError>
+    fn enter_answered(
+        &mut self,
+        alloc: Global,
+        client: &EntityName,
+        daemon: &EntityName,
+        at: Place,
+    ) -> Result<(), AllocError>
         ensures { OnOk result (self.new ≡ entering self.old (answered_at client.now daemon.now at)) }
     {
         let entered = Answered {
@@ -347,7 +420,13 @@ impl Run {
     }
 
     // A client sends an operation to a daemon.
-    fn send(&mut self, alloc: Global, client: &EntityName, daemon: &EntityName, operation: &Operation) -> Result<(), AllocError>
+    fn send(
+        &mut self,
+        alloc: Global,
+        client: &EntityName,
+        daemon: &EntityName,
+        operation: &Operation,
+    ) -> Result<(), AllocError>
         ensures { OnOk result (self.new ≡ send self.old client.now (node_of self.old client.now) daemon.now operation.now) }
     {
         let Some(node) = self.nodes.find(client) else {
@@ -404,7 +483,12 @@ impl Run {
     }
 
     // An entity is declared, with its caps.
-    fn declare(&mut self, alloc: Global, name: &EntityName, grants: &Items<Grant>) -> Result<(), AllocError>
+    fn declare(
+        &mut self,
+        alloc: Global,
+        name: &EntityName,
+        grants: &Items<Grant>,
+    ) -> Result<(), AllocError>
         ensures { OnOk result (self.new ≡ declared self.old name.now grants.now) }
     {
         let name = name.copy(alloc)?;

@@ -54,11 +54,22 @@ fn is_asked(asked: &[EntityType], service: EntityType) -> bool
 
 // The ticket of this number.
 #[tactic(auto, unfolding(crate::specs::Plain::ticket_of))]
-fn ticket(alloc: Global, terms: &Terms, entity: &EntityName, caps: &Text, service: EntityType, number: u64) -> Result<Issued, AllocError>
+fn ticket(
+    alloc: Global,
+    terms: &Terms,
+    entity: &EntityName,
+    caps: &Text,
+    service: EntityType,
+    number: u64,
+) -> Result<Issued, AllocError>
     requires { IsTimely terms.now.reading terms.now.life terms.now.auth_life }
     ensures { IfOk result (λ t. t ≡ ticket_of terms.now entity.now caps.now service number) }
 {
-    let life = if service.is(EntityType::Auth) { terms.auth_life } else { terms.life };
+    let life = if service.is(EntityType::Auth) {
+        terms.auth_life
+    } else {
+        terms.life
+    };
     let entity = entity.copy(alloc)?;
     let caps = caps.copy(alloc)?;
     let blob = Blob::of(alloc, &number.to_le_bytes())?;

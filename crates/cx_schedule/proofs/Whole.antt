@@ -111,23 +111,24 @@ pub record Reads (all : List (List ℕ)) (earlier : List Line) (number : ℕ) (r
 
 pub reads_more : (all : List (List ℕ)) (earlier now : List Line) (number : ℕ) (rest : List (List ℕ)) (line : List ℕ) (after : List (List ℕ)) → Reads all earlier number rest → rest ≡ line ∷ after → Adds earlier line now → Reads all now (number + 1) after
 reads_more all earlier now number rest line after r cut adds = record {
-    said = λ s p. r.said s (rw cut (now, adds, p));
-    bad = λ n why p. rw (plus n) at (r.bad (n + 1) why (rw cut (inr (now, adds, n, refl, p))));
-    left = left_kept all number line after (r.left ∙ cut);
-    counted = counts r.counted (ap length cut);
-  }
+  said = λ s p. r.said s (rw cut (now, adds, p));
+  bad = λ n why p. rw (plus n) at (r.bad (n + 1) why (rw cut (inr (now, adds, n, refl, p))));
+  left = left_kept all number line after (r.left ∙ cut);
+  counted = counts r.counted (ap length cut);
+}
   where
     plus : (n : ℕ) → number + (n + 1) ≡ number + 1 + n
     plus n = omega arith
+
     counts : number + length rest ≡ length all → length rest ≡ length (line ∷ after) → number + 1 + length after ≡ length all
     counts e f = omega arith
 
 -- the line that is refused is the first outside of the grammar
 pub bad_here : (all : List (List ℕ)) (earlier : List Line) (number : ℕ) (rest : List (List ℕ)) (line : List ℕ) (after : List (List ℕ)) (why : LineFault) (later : Bool) → Reads all earlier number rest → rest ≡ line ∷ after → is_skipped line ≡ false → fault_of earlier (line_words line) ≡ Some why → begins_later (line_words line) ≡ later → IsFirstBad [] all (number + 1) why × (is_later_at all (number + 1) ≡ later)
-bad_here all earlier number rest line after why later r cut kept fault is =
-    ( r.bad 1 why (rw cut (inl (refl, kept, fault)))
-    , ap (λ l. begins_later (line_words l)) (at_place all number line after (r.left ∙ cut)) ∙ is
-    )
+bad_here all earlier number rest line after why later r cut kept fault is = (
+  r.bad 1 why (rw cut (inl (refl, kept, fault))),
+  ap (λ l. begins_later (line_words l)) (at_place all number line after (r.left ∙ cut)) ∙ is,
+)
 
 -- at the end all is said
 pub read_all : (bytes left : List ℕ) (earlier : List Line) (number : ℕ) → Reads (lines_of bytes) earlier number (lines_of left) → left ≡ [] → Lines bytes earlier

@@ -119,7 +119,7 @@ abbrev pub SpellsOperation : Operation → List (List ℕ) → Type 0
 SpellsOperation operation words =
     (bytes_word : List ℕ) × IsOperation operation × IsHexWord bytes_word operation.bytes
     × (words ≡ access_word operation.access ∷ part_word operation.pool ∷ part_word operation.namespace
-        ∷ part_word operation.object ∷ bytes_word ∷ [])
+    ∷ part_word operation.object ∷ bytes_word ∷ [])
 
 -- the words spell the line, which may stand behind the earlier lines
 abbrev pub Spells : List Line → Line → List (List ℕ) → Type 0

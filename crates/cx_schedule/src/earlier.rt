@@ -162,7 +162,11 @@ fn counted(entities: usize, entity: bool) -> usize
     if !entity {
         return entities;
     }
-    if entities < MOST_ENTITIES { entities + 1 } else { MOST_ENTITIES }
+    if entities < MOST_ENTITIES {
+        entities + 1
+    } else {
+        MOST_ENTITIES
+    }
 }
 
 /// The text of the name, as `osd.0`.

@@ -27,7 +27,12 @@ pub fn entity_of(alloc: Global, earlier: &Earlier, words: &[&[u8]]) -> Result<Li
     entity(alloc, earlier, word, pairs)
 }
 
-fn entity(alloc: Global, earlier: &Earlier, word: &[u8], pairs: &[&[u8]]) -> Result<Line, LineRefusal>
+fn entity(
+    alloc: Global,
+    earlier: &Earlier,
+    word: &[u8],
+    pairs: &[&[u8]],
+) -> Result<Line, LineRefusal>
     ensures ok { IfOk result (λ l. Spells earlier.now l (codes "entity" ∷ word.now ∷ map (λ w. w.now) pairs.now)) }
     ensures err { IfErr result (IsCause earlier.now Head.Entity (word.now ∷ map (λ w. w.now) pairs.now)) }
 {

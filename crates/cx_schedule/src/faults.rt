@@ -38,10 +38,16 @@ impl fmt::Display for LineFault {
                 "a word is no number of its place: lifetimes are 1 to 31536000 seconds, readings are seconds below \
                 4000000000 with none or nine digits behind a point"
             ),
-            LineFault::BadName => write!(f, "a word is no name of an entity, as client.admin or osd.0"),
+            LineFault::BadName => write!(
+                f,
+                "a word is no name of an entity, as client.admin or osd.0"
+            ),
             LineFault::BadText => write!(f, "a word is no value of its place"),
             LineFault::UnknownNode => {
-                write!(f, "a name is of another type than its place, or no entity line above declares it")
+                write!(
+                    f,
+                    "a name is of another type than its place, or no entity line above declares it"
+                )
             }
             LineFault::Repeated => write!(f, "what may stand once stands a second time"),
             LineFault::Order => write!(

@@ -37,7 +37,12 @@ pub fn line_of(alloc: Global, earlier: &Earlier, words: &[&[u8]]) -> Result<Line
 }
 
 /// The line that these words behind a first word of this form spell.
-fn line_behind(alloc: Global, earlier: &Earlier, head: Head, words: &[&[u8]]) -> Result<Line, LineRefusal>
+fn line_behind(
+    alloc: Global,
+    earlier: &Earlier,
+    head: Head,
+    words: &[&[u8]],
+) -> Result<Line, LineRefusal>
     ensures ok { IfOk result (λ l. Spells earlier.now l (head_word head ∷ map (λ w. w.now) words.now)) }
     ensures err { IfErr result (IsCause earlier.now head (map (λ w. w.now) words.now)) }
 {
@@ -189,7 +194,12 @@ fn login(alloc: Global, earlier: &Earlier, client: &[u8]) -> Result<Line, LineRe
     Ok(Line::Login(client, Items::new(alloc)))
 }
 
-fn login_for(alloc: Global, earlier: &Earlier, client: &[u8], list: &[u8]) -> Result<Line, LineRefusal>
+fn login_for(
+    alloc: Global,
+    earlier: &Earlier,
+    client: &[u8],
+    list: &[u8],
+) -> Result<Line, LineRefusal>
     ensures ok { IfOk result (λ l. Spells earlier.now l (codes "login" ∷ client.now ∷ list.now ∷ [])) }
     ensures err { IfErr result (IsCause earlier.now Head.Login (client.now ∷ list.now ∷ [])) }
 {
@@ -218,7 +228,12 @@ fn connect_of(alloc: Global, earlier: &Earlier, words: &[&[u8]]) -> Result<Line,
     connect(alloc, earlier, client, daemon)
 }
 
-fn connect(alloc: Global, earlier: &Earlier, client: &[u8], daemon: &[u8]) -> Result<Line, LineRefusal>
+fn connect(
+    alloc: Global,
+    earlier: &Earlier,
+    client: &[u8],
+    daemon: &[u8],
+) -> Result<Line, LineRefusal>
     ensures ok { IfOk result (λ l. Spells earlier.now l (codes "connect" ∷ client.now ∷ daemon.now ∷ [])) }
     ensures err { IfErr result (IsCause earlier.now Head.Connect (client.now ∷ daemon.now ∷ [])) }
 {
@@ -243,5 +258,9 @@ fn life(word: &[u8]) -> Option<u64>
     ensures spelled { IfSome result (λ n. IsTrue (is_life n) × (word.now ≡ decimal n)) }
 {
     let seconds = number(word)?;
-    if 1 <= seconds && seconds <= LONGEST_LIFE { Some(seconds) } else { None }
+    if 1 <= seconds && seconds <= LONGEST_LIFE {
+        Some(seconds)
+    } else {
+        None
+    }
 }

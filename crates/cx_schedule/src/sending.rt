@@ -1,7 +1,6 @@
 //! The form of send lines.
 
 ghost use Rattle.std.specs.Prelude.{◌≡◌, ◌∷◌, [], ◌++◌, map, codes, true, false, is_none, IfOk, IfErr, IfSome, IsTrue};
-
 ghost use Rattle.cx_words.specs.Words.{IsHexWord};
 ghost use Rattle.cx_schedule.specs.declared.heads.Head.{Head};
 ghost use Rattle.cx_schedule.specs.Faults.{IsCause};
@@ -48,7 +47,13 @@ pub fn send_of(alloc: Global, earlier: &Earlier, words: &[&[u8]]) -> Result<Line
     send(alloc, earlier, client, daemon, written)
 }
 
-fn send(alloc: Global, earlier: &Earlier, client: &[u8], daemon: &[u8], written: Written) -> Result<Line, LineRefusal>
+fn send(
+    alloc: Global,
+    earlier: &Earlier,
+    client: &[u8],
+    daemon: &[u8],
+    written: Written,
+) -> Result<Line, LineRefusal>
     ensures ok { IfOk result (λ l. Spells earlier.now l (codes "send" ∷ client.now ∷ daemon.now ∷ written.entry.access.now ∷ written.entry.pool.now ∷ written.entry.namespace.now ∷ written.entry.object.now ∷ written.entry.bytes.now ∷ [])) }
     ensures err { IfErr result (IsCause earlier.now Head.Send (client.now ∷ daemon.now ∷ written.entry.access.now ∷ written.entry.pool.now ∷ written.entry.namespace.now ∷ written.entry.object.now ∷ written.entry.bytes.now ∷ [])) }
 {

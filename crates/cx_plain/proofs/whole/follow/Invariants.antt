@@ -9,5 +9,5 @@ abbrev pub invariant-loop-line : goal.invariant-loop-line
 invariant-loop-line l = record {
   behind : fold step l.run (drop l.line-index l.lines) ≡ run_of l.lines;
   timely : IsTimelyRun l.run;
-  in_range : IsTrue (list_all is_in_range (drop l.line-index l.lines))
+  in_range : IsTrue (list_all is_in_range (drop l.line-index l.lines));
 }

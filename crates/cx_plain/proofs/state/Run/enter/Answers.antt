@@ -13,4 +13,4 @@ returns-clause-state c =
 pub returns-clause-timely : goal.returns-clause-timely
 returns-clause-timely c =
     rw c.in_ok-welcome.ensures
-      (welcoming-timely c.args.self.now.reading c.in-Some.node.now c.args.asked.now c.args.self.now.monitor c.replace-journal.result c.requires)
+    (welcoming-timely c.args.self.now.reading c.in-Some.node.now c.args.asked.now c.args.self.now.monitor c.replace-journal.result c.requires)

@@ -12,4 +12,4 @@ on_ok (Err e) P Q f h = tt
 pub returns-clause-timely : goal.returns-clause-timely
 returns-clause-timely c =
     on_ok c.follow.result (c.follow.new.self ≡ step c.args.self.now c.args.line.now) (IsTimelyRun c.follow.new.self)
-      (λ same. rw same (step-timely c.args.self.now c.args.line.now c.requires.timely c.requires.in_range)) c.follow.ensures
+    (λ same. rw same (step-timely c.args.self.now c.args.line.now c.requires.timely c.requires.in_range)) c.follow.ensures
