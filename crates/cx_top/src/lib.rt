@@ -1,2 +1,9 @@
-//! To come.
+//! The top call: everything that the program does, over a source and a sink.
 #![tactic(auto)]
+
+mod input;
+mod replay;
+mod status;
+
+pub use replay::run;
+pub use status::Status;
