@@ -3,6 +3,7 @@
 
 mod input;
 mod replay;
+mod sentences;
 mod status;
 
 pub use replay::run;
