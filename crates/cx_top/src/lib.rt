@@ -5,6 +5,8 @@ mod input;
 mod replay;
 mod sentences;
 mod status;
+#[cfg(test)]
+mod tests;
 
 pub use replay::run;
 pub use status::Status;
