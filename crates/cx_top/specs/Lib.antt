@@ -1,0 +1,4 @@
+pub mod Inputs
+pub mod Refusals
+pub mod Replays
+pub mod Statuses

@@ -1,0 +1,51 @@
+-- What a replay reads and writes.
+use Rattle.std.specs.Prelude.{ℕ, ◌≡◌, List, [], ◌++◌, Option, Some, None}
+use Rattle.cx_base.specs.Streams.{Takes, TakesFront}
+use Rattle.cx_schedule.specs.declared.lines.Line.{Line}
+use Rattle.cx_schedule.specs.Files.{Lines, IsShort}
+use Rattle.cx_journal.specs.JournalText.{journal_text}
+use Rattle.cx_journal.specs.Backed.{IsBacked}
+use Rattle.cx_journal.specs.InSession.{IsInSession}
+use Rattle.cx_journal.specs.KeepsKeys.{KeepsKeys}
+use Rattle.cx_plain.specs.Plain.{journal_of}
+
+-- where the source tells what it had and has left: it gave these bytes in between
+abbrev pub Gave : Option (List ℕ) → Option (List ℕ) → List ℕ → Type 0
+Gave None now given = Unit {0}
+Gave (Some left) None given = ⊥
+Gave (Some left) (Some rest) given = left ≡ given ++ rest
+
+-- where the source tells it: these bytes are all that it had, and none are left
+abbrev pub GaveAll : Option (List ℕ) → Option (List ℕ) → List ℕ → Type 0
+GaveAll None now bytes = Unit {0}
+GaveAll (Some left) now bytes = (bytes ≡ left) × (now ≡ Some [])
+
+-- the bytes are a schedule within the limits, and the text is that of the journal of its plain run, of which the three laws
+-- hold: each admitted session rests on an unexpired issued ticket, each operation is handled in an admitted session, and no
+-- ticket is refused for a generation that the daemon's view has
+pub record Replays (bytes text : List ℕ) : Type 0 where
+  pub script : List Line
+  pub lines : Lines bytes script
+  pub short : IsShort bytes
+  pub written : text ≡ journal_text (journal_of script)
+  pub backed : IsBacked (journal_of script)
+  pub in_session : IsInSession (journal_of script)
+  pub keeps_keys : KeepsKeys (journal_of script)
+
+-- the whole input was read, and this text is that of its replay
+pub record ReplaysAll (left now : Option (List ℕ)) (text : List ℕ) : Type 0 where
+  pub bytes : List ℕ
+  pub read : GaveAll left now bytes
+  pub replays : Replays bytes text
+
+-- the whole input was read, and the text of its replay was written
+pub record WritesReplay (left now taken after : Option (List ℕ)) : Type 0 where
+  pub text : List ℕ
+  pub replay : ReplaysAll left now text
+  pub wrote : Takes taken after text
+
+-- the whole input was read, and a front of the text of its replay was written
+pub record WritesFront (left now taken after : Option (List ℕ)) : Type 0 where
+  pub text : List ℕ
+  pub replay : ReplaysAll left now text
+  pub wrote : TakesFront taken after text

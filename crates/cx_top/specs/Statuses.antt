@@ -1,0 +1,43 @@
+-- The statuses of a run.
+use Rattle.std.specs.Prelude.{ℕ}
+use Rattle.cx_schedule.specs.declared.refusals.ScheduleRefusal.{ScheduleRefusal}
+use Rattle.cx_schedule.specs.declared.refusals.ScheduleRefusal.TheVariants as refusal
+use Rattle.cx_top.specs.declared.input.Unread.{Unread}
+use Rattle.cx_top.specs.declared.input.Unread.TheVariants as unread
+use Rattle.cx_top.specs.declared.status.Status.{Status}
+use Rattle.cx_top.specs.declared.status.Status.TheVariants.{Done, Usage, BadSchedule, ReadFault, WriteFault, OutOfMemory, TooLong, NotYet}
+
+-- the number with which the program ends
+abbrev pub number_of : Status → ℕ
+number_of Done = 0
+number_of Usage = 1
+number_of (BadSchedule _ _) = 2
+number_of ReadFault = 3
+number_of WriteFault = 4
+number_of OutOfMemory = 5
+number_of TooLong = 12
+number_of (NotYet _) = 13
+
+-- the status of a refused schedule
+abbrev pub schedule_status : ScheduleRefusal → Status
+schedule_status refusal.TooLong = TooLong
+schedule_status (refusal.BadLine line why) = BadSchedule line why
+schedule_status (refusal.NotYet line) = NotYet line
+schedule_status refusal.OutOfMemory = OutOfMemory
+
+-- the status of an input that was not read to its end
+abbrev pub input_status : Unread → Status
+input_status unread.Fault = ReadFault
+input_status unread.TooLong = TooLong
+input_status unread.OutOfMemory = OutOfMemory
+
+-- the work was done, or memory was wanting
+abbrev pub IsServed : Status → Type 0
+IsServed Done = Unit {0}
+IsServed OutOfMemory = Unit {0}
+IsServed Usage = ⊥
+IsServed (BadSchedule _ _) = ⊥
+IsServed ReadFault = ⊥
+IsServed WriteFault = ⊥
+IsServed TooLong = ⊥
+IsServed (NotYet _) = ⊥

@@ -1,0 +1,89 @@
+//! How a run ended: the number and the sentence of each status.
+
+ghost use Rattle.std.specs.Prelude.{◌≡◌};
+ghost use Rattle.cx_top.specs.Statuses.{number_of};
+
+use crate::input::Unread;
+use cx_schedule::{LineFault, ScheduleRefusal};
+use std::alloc::AllocError;
+
+/// How a run ended.
+#[derive(Clone, Copy, Debug, PartialEq, Eq)]
+pub enum Status {
+    /// The command did its work.
+    Done,
+    /// The words of the command line are no command that is served.
+    Usage,
+    /// This line, from 1, is the first outside the grammar of a schedule, and the fault is the first that it has.
+    BadSchedule(u32, LineFault),
+    /// The input could not be read.
+    ReadFault,
+    /// The output could not be written; a front of it was.
+    WriteFault,
+    /// Memory was wanting.
+    OutOfMemory,
+    /// The input has more than 1,048,576 bytes or 20,000 lines.
+    TooLong,
+    /// This line, from 1, is the first outside the grammar, and its first word begins a line that is not served yet.
+    NotYet(u32),
+}
+
+impl Status {
+    /// The number with which the program ends.
+    pub fn number(self) -> u8
+        ensures { result ≡ number_of self }
+    {
+        match self {
+            Status::Done => 0,
+            Status::Usage => 1,
+            Status::BadSchedule(_, _) => 2,
+            Status::ReadFault => 3,
+            Status::WriteFault => 4,
+            Status::OutOfMemory => 5,
+            Status::TooLong => 12,
+            Status::NotYet(_) => 13,
+        }
+    }
+}
+
+impl From<AllocError> for Status {
+    ghost use Rattle.std.specs.Prelude.{◌≡◌};
+    ghost use Rattle.cx_top.specs.declared.status.Status.TheVariants.{OutOfMemory};
+
+    ghost from_gives = { λ _ status. status ≡ OutOfMemory };
+
+    fn from(_error: AllocError) -> Status {
+        Status::OutOfMemory
+    }
+}
+
+impl From<ScheduleRefusal> for Status {
+    ghost use Rattle.std.specs.Prelude.{◌≡◌};
+    ghost use Rattle.cx_top.specs.Statuses.{schedule_status};
+
+    ghost from_gives = { λ refusal status. status ≡ schedule_status refusal };
+
+    fn from(refusal: ScheduleRefusal) -> Status {
+        match refusal {
+            ScheduleRefusal::TooLong => Status::TooLong,
+            ScheduleRefusal::BadLine(line, why) => Status::BadSchedule(line, why),
+            ScheduleRefusal::NotYet(line) => Status::NotYet(line),
+            ScheduleRefusal::OutOfMemory => Status::OutOfMemory,
+        }
+    }
+}
+
+impl From<Unread> for Status {
+    ghost use Rattle.std.specs.Prelude.{◌≡◌};
+    ghost use Rattle.cx_top.specs.Statuses.{input_status};
+
+    ghost from_gives = { λ unread status. status ≡ input_status unread };
+
+    fn from(unread: Unread) -> Status {
+        match unread {
+            Unread::Fault => Status::ReadFault,
+            Unread::TooLong => Status::TooLong,
+            Unread::OutOfMemory => Status::OutOfMemory,
+        }
+    }
+}

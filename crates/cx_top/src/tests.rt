@@ -1,0 +1,347 @@
+//! Runs over a source and a sink in memory, with ample memory.
+
+use crate::replay::run;
+use crate::status::Status;
+use cx_base::{Blob, ByteSource, Sink, VecSink};
+use cx_schedule::LineFault;
+use std::alloc::{AllocError, Global};
+
+/// A schedule, the status of its replay, and the journal.
+struct Row {
+    shows: &'static str,
+    schedule: &'static str,
+    status: Status,
+    journal: &'static str,
+}
+
+const ROWS: [Row; 11] = [
+    Row {
+        shows: "a client that logs in, connects and sends is admitted and answered",
+        schedule: "entity client.a osd \"allow *\"\n\
+            entity osd.0\n\
+            clock 1000\n\
+            fetch osd.0\n\
+            login client.a osd\n\
+            connect client.a osd.0\n\
+            send client.a osd.0 read rbd - obj1 -\n",
+        status: Status::Done,
+        journal: "saved 2\n\
+            issued 1 osd.0 auth 1 2 1000 44200 \"\"\n\
+            fetched osd.0 1000 1,2,3\n\
+            saved 3\n\
+            issued 2 client.a auth 2 2 1000 44200 \"\"\n\
+            issued 3 client.a osd 2 2 1000 4600 \"allow *\"\n\
+            looked osd.0 3 1,2,3 1000\n\
+            looked osd.0 3 1,2,3 1000\n\
+            admitted osd.0 1 1 c1 client.a 2 1000 \"allow *\"\n\
+            sent client.a osd.0 c1 1 read rbd - obj1 -\n\
+            handled osd.0 1 1 c1 1 read rbd - obj1 - done\n\
+            answered client.a osd.0 1 done\n",
+    },
+    Row {
+        shows: "an empty schedule has an empty journal",
+        schedule: "",
+        status: Status::Done,
+        journal: "",
+    },
+    Row {
+        shows: "an expired ticket is refused at equality",
+        schedule: "entity client.a osd \"allow *\"\n\
+            entity osd.0\n\
+            clock 1000\n\
+            fetch osd.0\n\
+            login client.a osd\n\
+            clock 4600\n\
+            connect client.a osd.0\n",
+        status: Status::Done,
+        journal: "saved 2\n\
+            issued 1 osd.0 auth 1 2 1000 44200 \"\"\n\
+            fetched osd.0 1000 1,2,3\n\
+            saved 3\n\
+            issued 2 client.a auth 2 2 1000 44200 \"\"\n\
+            issued 3 client.a osd 2 2 1000 4600 \"allow *\"\n\
+            looked osd.0 3 1,2,3 1000\n\
+            refused osd.0 3 expired 4600 4600 ticket=3\n\
+            refused client.a 3 denied 13\n",
+    },
+    Row {
+        shows: "a ticket is good one nanosecond before it expires",
+        schedule: "entity client.a osd \"allow *\"\n\
+            entity osd.0\n\
+            clock 1000\n\
+            fetch osd.0\n\
+            login client.a osd\n\
+            clock 4599.999999999\n\
+            connect client.a osd.0\n",
+        status: Status::Done,
+        journal: "saved 2\n\
+            issued 1 osd.0 auth 1 2 1000 44200 \"\"\n\
+            fetched osd.0 1000 1,2,3\n\
+            saved 3\n\
+            issued 2 client.a auth 2 2 1000 44200 \"\"\n\
+            issued 3 client.a osd 2 2 1000 4600 \"allow *\"\n\
+            looked osd.0 3 1,2,3 1000\n\
+            looked osd.0 3 1,2,3 1000\n\
+            admitted osd.0 1 1 c1 client.a 2 4599.999999999 \"allow *\"\n",
+    },
+    Row {
+        shows: "a client that logs in again keeps its global id",
+        schedule: "entity client.a osd \"allow *\"\n\
+            clock 1000\n\
+            login client.a osd\n\
+            clock 8200\n\
+            login client.a osd\n",
+        status: Status::Done,
+        journal: "saved 2\n\
+            issued 1 client.a auth 1 2 1000 44200 \"\"\n\
+            issued 2 client.a osd 1 2 1000 4600 \"allow *\"\n\
+            saved 2\n\
+            issued 3 client.a auth 1 2 8200 51400 \"\"\n\
+            issued 4 client.a osd 1 3 8200 11800 \"allow *\"\n",
+    },
+    Row {
+        shows: "a ticket of a generation made after the daemon fetched is refused",
+        schedule: "entity client.a osd \"allow *\"\n\
+            entity osd.0\n\
+            clock 1000\n\
+            fetch osd.0\n\
+            clock 12000\n\
+            login client.a osd\n\
+            connect client.a osd.0\n",
+        status: Status::Done,
+        journal: "saved 2\n\
+            issued 1 osd.0 auth 1 2 1000 44200 \"\"\n\
+            fetched osd.0 1000 1,2,3\n\
+            saved 3\n\
+            issued 2 client.a auth 2 2 12000 55200 \"\"\n\
+            issued 3 client.a osd 2 4 12000 15600 \"allow *\"\n\
+            looked osd.0 3 1,2,3 1000\n\
+            refused osd.0 3 unknown-generation 4 ticket=3\n\
+            refused client.a 3 denied 13\n",
+    },
+    Row {
+        shows: "a ticket of the previous generation is good",
+        schedule: "entity client.a osd \"allow *\"\n\
+            entity client.b\n\
+            entity osd.0\n\
+            clock 1000\n\
+            login client.b\n\
+            clock 4998\n\
+            login client.a osd\n\
+            clock 4999\n\
+            fetch osd.0\n\
+            clock 8200\n\
+            login client.b\n\
+            clock 8597\n\
+            connect client.a osd.0\n",
+        status: Status::Done,
+        journal: "saved 2\n\
+            issued 1 client.b auth 1 2 1000 44200 \"\"\n\
+            saved 3\n\
+            issued 2 client.a auth 2 2 4998 48198 \"\"\n\
+            issued 3 client.a osd 2 2 4998 8598 \"allow *\"\n\
+            saved 4\n\
+            issued 4 osd.0 auth 3 2 4999 48199 \"\"\n\
+            fetched osd.0 4999 1,2,3\n\
+            saved 4\n\
+            issued 5 client.b auth 1 2 8200 51400 \"\"\n\
+            looked osd.0 5 1,2,3 4999\n\
+            looked osd.0 5 1,2,3 4999\n\
+            admitted osd.0 1 1 c1 client.a 2 8597 \"allow *\"\n",
+    },
+    Row {
+        shows: "a client without caps gets no ticket",
+        schedule: "entity client.b\n\
+            entity osd.0\n\
+            login client.b osd\n\
+            connect client.b osd.0\n",
+        status: Status::Done,
+        journal: "saved 2\n\
+            issued 1 client.b auth 1 2 0 43200 \"\"\n\
+            refused client.b 0 no-ticket osd\n",
+    },
+    Row {
+        shows: "an entity line behind another one is out of order",
+        schedule: "entity client.a\n\
+            clock 5\n\
+            entity osd.0\n",
+        status: Status::BadSchedule(3, LineFault::Order),
+        journal: "",
+    },
+    Row {
+        shows: "a line outside of the grammar is refused by its number",
+        schedule: "entity client.a\n\
+            clock 5\n\
+            jump 3\n",
+        status: Status::BadSchedule(3, LineFault::UnknownWord),
+        journal: "",
+    },
+    Row {
+        shows: "a line that is to come is refused by its number",
+        schedule: "entity client.a\n\
+            clock 5\n\
+            renew client.a osd\n",
+        status: Status::NotYet(3),
+        journal: "",
+    },
+];
+
+/// The room of the sink.
+const ROOM: usize = 65_536;
+
+// Runs these words over an input, of whose calls those listed fail, and a sink with so much room.
+fn run_over(
+    alloc: Global,
+    words: &[&str],
+    input: &[u8],
+    fails: &[u8],
+    room: usize,
+) -> Result<(Status, VecSink), AllocError> {
+    let mut source = ByteSource::new(Blob::of(alloc, input)?, Blob::of(alloc, fails)?);
+    let mut sink = VecSink::new(alloc, room, Blob::new(alloc))?;
+    let status = run(alloc, words, &mut source, &mut sink);
+    Ok((status, sink))
+}
+
+#[test]
+fn the_first_replay_has_ample_memory(rt: HostRuntime) -> Result<(), AllocError> {
+    let row = &ROWS[0];
+    let (status, sink) = run_over(rt.alloc(), &["replay"], row.schedule.as_bytes(), &[], ROOM)?;
+    assert_eq!(rt; status, Status::Done);
+    assert_eq!(rt; sink.taken(), row.journal.as_bytes());
+    Ok(())
+}
+
+#[test]
+fn each_schedule_has_its_status_and_journal(rt: HostRuntime) -> Result<(), AllocError> {
+    for row in &ROWS {
+        let (status, sink) = run_over(rt.alloc(), &["replay"], row.schedule.as_bytes(), &[], ROOM)?;
+        assert_eq!(rt; status, row.status, "{}", row.shows);
+        assert_eq!(rt; sink.taken(), row.journal.as_bytes(), "{}", row.shows);
+    }
+    Ok(())
+}
+
+/// Third lines behind two entity lines, each of which has one fault alone or more of which this is the first.
+const BAD_LINES: [(&str, LineFault); 26] = [
+    ("jump 3", LineFault::UnknownWord),
+    (" clock 5", LineFault::UnknownWord),
+    ("clock", LineFault::Missing),
+    ("entity client.b osd", LineFault::Missing),
+    ("send client.a osd.0 read rbd - obj1", LineFault::Missing),
+    ("clock 5 6", LineFault::Extra),
+    ("clock 5 ", LineFault::Extra),
+    ("connect client.a osd.0 lossy", LineFault::Extra),
+    ("clock 05", LineFault::BadNumber),
+    ("clock\t5", LineFault::UnknownWord),
+    ("clock 5\r", LineFault::BadNumber),
+    ("clock 4000000000", LineFault::BadNumber),
+    ("clock 5.5", LineFault::BadNumber),
+    ("lifetime 31536001", LineFault::BadNumber),
+    ("fetch osd", LineFault::BadName),
+    ("fetch osd.", LineFault::BadName),
+    ("entity client.0123456789012345678901234567890123456789012345678901234567890123x", LineFault::BadName),
+    ("login client.a osd,osd", LineFault::BadText),
+    ("entity client.b osd \"allow *", LineFault::Missing),
+    ("entity client.b osd \"allow", LineFault::BadText),
+    ("send client.a osd.0 read rbd - obj\u{e9} -", LineFault::BadText),
+    ("send client.a osd.0 read rbd - obj1 686", LineFault::BadText),
+    ("fetch osd.1", LineFault::UnknownNode),
+    ("login osd.0", LineFault::UnknownNode),
+    ("entity client.a", LineFault::Repeated),
+    ("entity client.b osd \"allow *\" osd \"allow *\"", LineFault::Repeated),
+];
+
+#[test]
+fn the_first_fault_of_a_line_is_told(rt: HostRuntime) -> Result<(), AllocError> {
+    for (line, why) in &BAD_LINES {
+        let input = format!(in rt.alloc(); "entity client.a osd \"allow *\"\nentity osd.0\n{line}\nclock 1\n")?;
+        let (status, sink) = run_over(rt.alloc(), &["replay"], input.as_bytes(), &[], ROOM)?;
+        assert_eq!(rt; status, Status::BadSchedule(3, *why), "{}", line);
+        assert_eq!(rt; sink.taken().len(), 0, "{}", line);
+    }
+    Ok(())
+}
+
+const LATER_WORDS: [&str; 14] = [
+    "seed", "modes", "renew", "drop", "tick", "do", "carry", "lose", "inject", "again", "cut",
+    "restart", "failsave", "settle",
+];
+
+#[test]
+fn each_word_that_is_to_come_is_told(rt: HostRuntime) -> Result<(), AllocError> {
+    for word in &LATER_WORDS {
+        let input = format!(in rt.alloc(); "# one line before\n{word} 1\n")?;
+        let (status, _) = run_over(rt.alloc(), &["replay"], input.as_bytes(), &[], ROOM)?;
+        assert_eq!(rt; status, Status::NotYet(2), "{}", word);
+    }
+    Ok(())
+}
+
+#[test]
+fn only_the_one_word_replay_is_served(rt: HostRuntime) -> Result<(), AllocError> {
+    let input = ROWS[0].schedule.as_bytes();
+    let (none, _) = run_over(rt.alloc(), &[], input, &[], ROOM)?;
+    let (two, _) = run_over(rt.alloc(), &["replay", "now"], input, &[], ROOM)?;
+    let (other, sink) = run_over(rt.alloc(), &["replays"], input, &[], ROOM)?;
+    assert_eq!(rt; none, Status::Usage);
+    assert_eq!(rt; two, Status::Usage);
+    assert_eq!(rt; other, Status::Usage);
+    assert_eq!(rt; sink.taken().len(), 0);
+    Ok(())
+}
+
+#[test]
+fn a_failed_read_and_a_failed_write_are_told(rt: HostRuntime) -> Result<(), AllocError> {
+    let row = &ROWS[0];
+    let input = row.schedule.as_bytes();
+    // The first call gives the whole schedule, and the second fails where the end of input is to be told.
+    let (unread, untouched) = run_over(rt.alloc(), &["replay"], input, &[2], ROOM)?;
+    assert_eq!(rt; unread, Status::ReadFault);
+    assert_eq!(rt; untouched.taken().len(), 0);
+    let (unwritten, front) = run_over(rt.alloc(), &["replay"], input, &[], 100)?;
+    assert_eq!(rt; unwritten, Status::WriteFault);
+    assert_eq!(rt; front.taken(), &row.journal.as_bytes()[..100]);
+    Ok(())
+}
+
+// So many lines, each a comment of one byte.
+fn comments(alloc: Global, count: usize) -> Result<Vec<u8>, AllocError> {
+    let mut lines = Vec::new(alloc);
+    for _ in 0..count {
+        lines.extend_from_slice("#\n".as_bytes())?;
+    }
+    Ok(lines)
+}
+
+// One comment of so many bytes.
+fn comment(alloc: Global, count: usize) -> Result<Vec<u8>, AllocError> {
+    vec![in alloc; b'#'; count]
+}
+
+#[test]
+fn both_limits_are_reached_and_not_passed(rt: HostRuntime) -> Result<(), AllocError> {
+    for (lines, wanted) in [(20_000, Status::Done), (20_001, Status::TooLong)] {
+        let input = comments(rt.alloc(), lines)?;
+        let (status, _) = run_over(rt.alloc(), &["replay"], &input, &[], ROOM)?;
+        assert_eq!(rt; status, wanted, "{} lines", lines);
+    }
+    for (bytes, wanted) in [(1_048_576, Status::Done), (1_048_577, Status::TooLong)] {
+        let input = comment(rt.alloc(), bytes)?;
+        let (status, _) = run_over(rt.alloc(), &["replay"], &input, &[], ROOM)?;
+        assert_eq!(rt; status, wanted, "{} bytes", bytes);
+    }
+    Ok(())
+}
+
+#[test]
+fn the_sentence_of_a_bad_line_has_its_number_and_its_fault(rt: HostRuntime) -> Result<(), AllocError> {
+    let sentence = format!(in rt.alloc(); "{}", Status::BadSchedule(3, LineFault::BadName))?;
+    assert_eq!(
+        rt;
+        sentence.as_str(),
+        "line 3 of the schedule is outside of its grammar: a word is no name of an entity, as client.admin or osd.0; \
+        write a type, a point and an id of 1 to 64 letters, digits or _ - . : + /, as in: osd.0"
+    );
+    Ok(())
+}
