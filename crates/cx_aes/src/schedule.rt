@@ -27,8 +27,8 @@ impl Schedule {
         let mut keys = [[0u8; 16]; 11];
         keys[0] = *key;
         let mut constant = 1u8;
-        for i in 0..10usize {
-            keys[i + 1] = next_key(&keys[i], constant);
+        for made in 0..10usize {
+            keys[made + 1] = next_key(&keys[made], constant);
             constant = doubled(constant);
         }
         Schedule { keys }
@@ -39,10 +39,10 @@ impl Schedule {
         ensures { result ≡ aes (key_of self.now) block.now }
     {
         let mut state = add(block, &self.keys[0]);
-        for i in 0..9usize {
+        for done in 0..9usize {
             state = add(
                 &mix_columns(&shift_rows(&sub_bytes(&state))),
-                &self.keys[i + 1],
+                &self.keys[done + 1],
             );
         }
         add(&shift_rows(&sub_bytes(&state)), &self.keys[10])
@@ -55,9 +55,9 @@ impl Schedule {
         ensures value { result ≡ inverse_aes (key_of self.now) block.now }
     {
         let mut state = add(block, &self.keys[10]);
-        for i in 0..9usize {
+        for undone in 0..9usize {
             state = inverse_sub_bytes(&inverse_shift_rows(&state));
-            state = inverse_mix_columns(&add(&state, &self.keys[9 - i]));
+            state = inverse_mix_columns(&add(&state, &self.keys[9 - undone]));
         }
         add(
             &inverse_sub_bytes(&inverse_shift_rows(&state)),

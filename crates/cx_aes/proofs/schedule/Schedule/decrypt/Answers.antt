@@ -6,29 +6,29 @@ use Rattle.cx_aes.proofs.Keys.{IsBlock-array, inverse_rounds_more, inverse_round
 use Rattle.cx_aes.proofs.Rounds.{aes-inverse_aes, aes-one}
 use Rattle.cx_aes.proofs.schedule.Schedule.decrypt.Goals as goal
 
-pub loop-i-init : goal.loop-i-init
+pub loop-undone-init : goal.loop-undone-init
 unfolding inverse_aes
-loop-i-init c =
+loop-undone-init c =
     let self = c.args.self.now in
     ap (λ v. inverse_rounds (key_of self) (inverse_sub_bytes (inverse_shift_rows v)) 9)
     (c.add-state.ensures ∙ ap (λ v. add c.args.block.now v) (key_at self.keys self.expanded 10 (omega arith)))
 
-pub loop-i-preserved : goal.loop-i-preserved
-loop-i-preserved c =
+pub loop-undone-preserved : goal.loop-undone-preserved
+loop-undone-preserved c =
     let self = c.args.self.now in
-    let i = c.loop-i.i in
+    let i = c.loop-undone.undone in
     let e : 9 - (i + 1) + 1 ≡ 9 - i = omega arith in
     cc (
       e,
-      inverse_rounds_more (key_of self) (inverse_sub_bytes (inverse_shift_rows c.loop-i.state)) (9 - (i + 1)),
+      inverse_rounds_more (key_of self) (inverse_sub_bytes (inverse_shift_rows c.loop-undone.state)) (9 - (i + 1)),
       key_at self.keys self.expanded (9 - i) (omega arith),
     )
 
 pub returns-clause-value : goal.returns-clause-value
 returns-clause-value c =
     let self = c.args.self.now in
-    let none : 9 - c.loop-i.i ≡ 0 = omega arith in
-    cc (none, inverse_rounds_none (key_of self) (inverse_sub_bytes (inverse_shift_rows c.loop-i.state)))
+    let none : 9 - c.loop-undone.undone ≡ 0 = omega arith in
+    cc (none, inverse_rounds_none (key_of self) (inverse_sub_bytes (inverse_shift_rows c.loop-undone.state)))
 
 pub returns-clause-encrypts : goal.returns-clause-encrypts
 returns-clause-encrypts c =
