@@ -4,4 +4,6 @@
 #[cfg(test)]
 mod aes;
 #[cfg(test)]
+mod cbc;
+#[cfg(test)]
 mod digest;
