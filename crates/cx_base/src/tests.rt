@@ -1,8 +1,8 @@
 //! What no clause says: that each call answers something other than want of memory, and how the objects in memory fail.
 
 use crate::{
-    Access, Blob, ByteSource, Duplicate, EntityName, EntityType, Items, Operation, Sink, Source, Text, TextRefusal,
-    VecSink, copy_items,
+    Access, Blob, ByteSource, Duplicate, EntityName, EntityType, Items, Operation, Sink, Source,
+    Text, TextRefusal, VecSink, copy_items,
 };
 use std::alloc::Global;
 use std::test::Fail;
@@ -19,7 +19,12 @@ fn owners_names_and_copies_answer_with_ample_memory(rt: HostRuntime) -> Result<(
     assert_eq!(rt; blob.bytes(), b"abc".as_slice());
     assert!(rt; blob.copy(alloc)? == blob);
     assert!(rt; Text::of(alloc, b"ok\x7f").is_ok());
-    assert!(rt; matches!(&Text::of(alloc, b"a\x80\xff"), Err(TextRefusal::NotAscii(1))));
+    assert!(rt;
+        matches!(
+            &Text::of(alloc, b"a\x80\xff"),
+            Err(TextRefusal::NotAscii(1))
+        )
+    );
     let mut names = Items::new(alloc);
     names.push(alloc, name(alloc, EntityType::Osd, b"0")?)?;
     names.push(alloc, name(alloc, EntityType::Mon, b"")?)?;
@@ -59,7 +64,9 @@ fn an_id_has_1_to_64_bytes_of_its_alphabet(rt: HostRuntime) -> Result<(), Fail> 
 }
 
 #[test]
-fn a_source_fails_at_its_listed_call_and_gives_the_rest_behind_it(rt: HostRuntime) -> Result<(), Fail> {
+fn a_source_fails_at_its_listed_call_and_gives_the_rest_behind_it(
+    rt: HostRuntime,
+) -> Result<(), Fail> {
     let alloc = rt.alloc();
     let mut source = ByteSource::new(Blob::of(alloc, b"abcde")?, Blob::of(alloc, &[2])?);
     let mut into = [0u8; 3];
@@ -73,7 +80,9 @@ fn a_source_fails_at_its_listed_call_and_gives_the_rest_behind_it(rt: HostRuntim
 }
 
 #[test]
-fn a_sink_takes_what_fits_and_fails_where_it_is_listed_or_full(rt: HostRuntime) -> Result<(), Fail> {
+fn a_sink_takes_what_fits_and_fails_where_it_is_listed_or_full(
+    rt: HostRuntime,
+) -> Result<(), Fail> {
     let alloc = rt.alloc();
     let mut sink = VecSink::new(alloc, 5, Blob::of(alloc, &[2])?)?;
     assert!(rt; sink.push(b"ab").is_ok());

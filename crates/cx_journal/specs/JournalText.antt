@@ -38,8 +38,8 @@ looked_line l =
 -- a cookie is told by its rank alone
 abbrev pub admitted_line : ℕ → Admitted → List ℕ
 admitted_line rank a =
-    (codes "admitted " <> name_text a.daemon <> codes " " <> decimal a.session <> codes " " <> decimal a.epoch <> codes " c" <> decimal rank)
-    <> codes " " <> name_text a.entity <> codes " " <> decimal a.gid <> codes " " <> reading_text a.at <> codes " \"" <> a.caps <> codes "\"\n"
+    (codes "admitted " <> name_text a.daemon <> codes " " <> decimal a.session <> codes " " <> decimal a.epoch <> codes " c" <> decimal rank <> codes " " <> name_text a.entity)
+    <> codes " " <> decimal a.gid <> codes " " <> reading_text a.at <> codes " \"" <> a.caps <> codes "\"\n"
 
 abbrev pub sent_line : ℕ → Sent → List ℕ
 sent_line rank s =

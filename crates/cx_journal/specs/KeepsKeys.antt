@@ -1,5 +1,5 @@
 -- The law of kept keys: a daemon says that it lacks the generation of an issued ticket only where its view lacked it.
-use Rattle.std.specs.Prelude.{ℕ, ◌≡◌, ◌==◌, ◌&&◌, Bool, true, false, List, [], ◌∷◌, ◌++◌, Contains, Option, Some, None}
+use Rattle.std.specs.Prelude.{ℕ, ◌≡◌, ◌==◌, ◌&&◌, Bool, true, false, List, [], ◌∷◌, ◌++◌, Contains, Option, Some}
 use Rattle.std.specs.List.{list_any}
 use Rattle.cx_base.specs.Names.{Name, same_name}
 use Rattle.cx_rotate.specs.declared.generations.Generation.{Generation}
@@ -8,7 +8,6 @@ use Rattle.cx_journal.specs.declared.entries.Entry.{Entry}
 use Rattle.cx_journal.specs.declared.entries.Entry.TheVariants as entry
 use Rattle.cx_journal.specs.declared.entries.Issued.{Issued}
 use Rattle.cx_journal.specs.declared.entries.Looked.{Looked}
-use Rattle.cx_journal.specs.declared.entries.Refused.{Refused}
 use Rattle.cx_journal.specs.declared.outcomes.Reason.{Reason}
 use Rattle.cx_journal.specs.declared.outcomes.Reason.TheVariants as reason
 

@@ -42,4 +42,4 @@ cookies_of entries = different (filter_map cookie_of entries)
 
 -- the rank, from 1, of a cookie behind these entries: one that they don't have comes next
 abbrev pub rank : List Entry → ℕ → ℕ
-rank earlier cookie = position_or_len (λ c. c == cookie) (cookies_of earlier) + 1
+rank earlier cookie = position_or_len (λ c. cookie == c) (cookies_of earlier) + 1

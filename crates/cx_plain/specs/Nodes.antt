@@ -1,8 +1,9 @@
 -- The daemons and clients of a run, and what they hold.
-use Rattle.std.specs.Prelude.{ℕ, Bool, List, [], Option, Some, None}
+use Rattle.std.specs.Prelude.{ℕ, Bool, false, List, [], Option, Some, None}
 use Rattle.cx_base.specs.Names.{Name, same_name}
 use Rattle.cx_base.specs.declared.kinds.EntityType.{EntityType}
 use Rattle.cx_base.specs.declared.kinds.EntityType.TheVariants.{Mon, Mds, Osd, Client, Mgr, Auth}
+use Rattle.cx_schedule.specs.declared.lines.Grant.{Grant}
 use Rattle.cx_journal.specs.declared.entries.Issued.{Issued}
 use Rattle.cx_plain.specs.declared.wallets.Wallet.{Wallet}
 use Rattle.cx_plain.specs.declared.nodes.Node.{Node}
@@ -40,3 +41,15 @@ is_named name node = same_name node.name name
 -- whether a session is with this daemon
 abbrev pub is_with : Name → Session → Bool
 is_with daemon session = same_name session.daemon daemon
+
+-- an entity that was just declared
+abbrev pub new_node : Name → List Grant → Node
+new_node name grants = record {
+  name = name;
+  grants = grants;
+  wallet = empty_wallet;
+  sessions = [];
+  view = record { generations = []; asked = None };
+  has_entered = false;
+  admitted = 0
+}

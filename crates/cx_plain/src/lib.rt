@@ -3,7 +3,9 @@
 #![tactic(auto)]
 
 pub mod counts;
+pub mod entrance;
 pub mod monitors;
 pub mod nodes;
+pub mod run;
+pub mod tickets;
 pub mod wallets;
-

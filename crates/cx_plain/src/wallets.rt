@@ -4,8 +4,9 @@ ghost use Rattle.std.specs.Prelude.{◌≡◌, IfOk};
 ghost use Rattle.std.specs.Option.{option_copied};
 ghost use Rattle.cx_plain.specs.Nodes.{held_of, holding, empty_wallet};
 
-use cx_base::EntityType;
+use cx_base::{Duplicate, EntityType};
 use cx_journal::Issued;
+use std::alloc::{AllocError, Global};
 
 /// The tickets that an entity holds, each handed over in memory as the monitor issued it.
 #[derive(Debug, Drop)]
@@ -55,5 +56,32 @@ impl Wallet {
             EntityType::Mon => {}
             EntityType::Client => {}
         }
+    }
+}
+
+fn copy_ticket(alloc: Global, ticket: &Option<Issued>) -> Result<Option<Issued>, AllocError>
+    ensures { IfOk result (λ copied. copied ≡ ticket.now) }
+{
+    match ticket {
+        None => Ok(None),
+        Some(issued) => {
+            let copied = issued.copy(alloc)?;
+            Ok(Some(copied))
+        }
+    }
+}
+
+impl Duplicate for Wallet {
+    fn copy(&self, alloc: Global) -> Result<Wallet, AllocError> {
+        let auth = copy_ticket(alloc, &self.auth)?;
+        let mds = copy_ticket(alloc, &self.mds)?;
+        let osd = copy_ticket(alloc, &self.osd)?;
+        let mgr = copy_ticket(alloc, &self.mgr)?;
+        Ok(Wallet {
+            auth,
+            mds,
+            osd,
+            mgr,
+        })
     }
 }

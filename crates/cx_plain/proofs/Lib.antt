@@ -1,0 +1,6 @@
+pub mod Behind
+pub mod Changed
+pub mod Delivers
+pub mod Names
+pub mod Presents
+pub mod Timely
