@@ -1,5 +1,5 @@
 -- The counter blocks, and the text with the key stream added, place by place.
-use Rattle.std.proofs.Common.{◌≡◌, ℕ, zero, suc, ◌<◌, ◌≤◌, ◌+◌, ◌-◌, ◌*◌, ◌/◌, ◌%◌, ◌^◌, List, [], ◌∷◌, ◌++◌, All, drop, length, get_or, take, bit_xor, refl, sym, ap, ◌∙◌, inl, inr, arith, length-append, length-take, length-drop}
+use Rattle.std.proofs.Common.{◌≡◌, ℕ, zero, suc, ◌<◌, ◌≤◌, ◌+◌, ◌-◌, ◌*◌, ◌/◌, ◌%◌, ◌^◌, List, [], ◌∷◌, ◌++◌, All, drop, length, get_or, take, bit_xor, refl, sym, ap, ◌∙◌, inl, inr, arith, length-append, length-take}
 use Rattle.std.specs.Int.{w32, from_be_bytes, to_be_bytes}
 use Rattle.std.specs.List.{flat_map, range_with_len}
 use Rattle.std.proofs.lemmas.Bool.{cases_lt}
@@ -21,7 +21,7 @@ pub IsBlock-counted : (nonce : List ℕ) (n : ℕ) → IsNonce nonce → IsBlock
 unfolding counted
 IsBlock-counted nonce n h = record {
   len = length-append nonce (to_be_bytes w32 n) ∙ ap (λ m. m + 4) h.len;
-  bytes = All-append IsByte nonce (to_be_bytes w32 n) h.bytes (bytes_of_count n)
+  bytes = All-append IsByte nonce (to_be_bytes w32 n) h.bytes (bytes_of_count n);
 }
 
 pub raised-counted : (nonce : List ℕ) (n : ℕ) → IsNonce nonce → n + 1 < 2 ^ 32 → raised (counted nonce n) ≡ counted nonce (n + 1)
@@ -30,9 +30,9 @@ raised-counted nonce n h lt =
     let counts = to_be_bytes w32 n in
     let small : (n + 1) % 2 ^ 32 ≡ n + 1 = omega arith in
     ap (λ front. front ++ to_be_bytes w32 ((from_be_bytes w32 (drop 12 (nonce ++ counts)) + 1) % 2 ^ 32)) (take_at nonce counts 12 h.len)
-      ∙ ap (λ back. nonce ++ to_be_bytes w32 ((from_be_bytes w32 back + 1) % 2 ^ 32)) (drop_at nonce counts 12 h.len)
-      ∙ ap (λ m. nonce ++ to_be_bytes w32 ((m + 1) % 2 ^ 32)) (from_be_bytes-to_be_bytes_4 n (omega arith))
-      ∙ ap (λ m. nonce ++ to_be_bytes w32 m) small
+    ∙ ap (λ back. nonce ++ to_be_bytes w32 ((from_be_bytes w32 back + 1) % 2 ^ 32)) (drop_at nonce counts 12 h.len)
+    ∙ ap (λ m. nonce ++ to_be_bytes w32 ((m + 1) % 2 ^ 32)) (from_be_bytes-to_be_bytes_4 n (omega arith))
+    ∙ ap (λ m. nonce ++ to_be_bytes w32 m) small
 
 pub nonce_block-counted : (nonce : List ℕ) → nonce_block nonce ≡ counted nonce 1
 unfolding nonce_block counted
@@ -45,7 +45,7 @@ counter_block-counted nonce first zero h lt = let e : first ≡ first + 0 = omeg
 counter_block-counted nonce first (suc i) h lt =
     let e : first + i + 1 ≡ first + suc i = omega arith in
     ap raised (counter_block-counted nonce first i h (omega arith)) ∙ raised-counted nonce (first + i) h (omega arith)
-      ∙ ap (counted nonce) e
+    ∙ ap (counted nonce) e
 
 -- blocks of 16, one after another
 pub length-blocks : (f : ℕ → List ℕ) (a n : ℕ) → ((i : ℕ) → i < a + n → length (f i) ≡ 16)
@@ -53,9 +53,9 @@ pub length-blocks : (f : ℕ → List ℕ) (a n : ℕ) → ((i : ℕ) → i < a 
 length-blocks f a zero each = refl
 length-blocks f a (suc n) each =
     length-append (f a) (flat_map f (range_with_len (a + 1) n))
-      ∙ ap (λ m. m + length (flat_map f (range_with_len (a + 1) n))) (each a (omega arith))
-      ∙ ap (λ m. 16 + m) (length-blocks f (a + 1) n (λ i lt. each i (omega arith)))
-      ∙ omega arith
+    ∙ ap (λ m. m + length (flat_map f (range_with_len (a + 1) n))) (each a (omega arith))
+    ∙ ap (λ m. 16 + m) (length-blocks f (a + 1) n (λ i lt. each i (omega arith)))
+    ∙ omega arith
 
 pub get_or-blocks : (f : ℕ → List ℕ) (a n j : ℕ) → ((i : ℕ) → i < a + n → length (f i) ≡ 16) → j < 16 * n
     → get_or (flat_map f (range_with_len a n)) j 0 ≡ get_or (f (a + j / 16)) (j % 16) 0
@@ -64,14 +64,14 @@ get_or-blocks f a (suc n) j each lt =
     let rest = flat_map f (range_with_len (a + 1) n) in
     let first : length (f a) ≡ 16 = each a (omega arith) in
     elim (cases_lt j 16) [
-    | inl small ↦
-        let e : a ≡ a + j / 16 = omega arith in
-        let d : j ≡ j % 16 = omega arith in
-        get_or_append_left (f a) rest 0 j (omega arith) ∙ ap (λ i. get_or (f i) j 0) e ∙ ap (λ k. get_or (f (a + j / 16)) k 0) d
-    | inr big ↦
-        let e : a + 1 + (j - 16) / 16 ≡ a + j / 16 = omega arith in
-        let d : (j - 16) % 16 ≡ j % 16 = omega arith in
-        get_or-append_right (f a) rest 16 j 0 first big
+      | inl small ↦
+          let e : a ≡ a + j / 16 = omega arith in
+          let d : j ≡ j % 16 = omega arith in
+          get_or_append_left (f a) rest 0 j (omega arith) ∙ ap (λ i. get_or (f i) j 0) e ∙ ap (λ k. get_or (f (a + j / 16)) k 0) d
+      | inr big ↦
+          let e : a + 1 + (j - 16) / 16 ≡ a + j / 16 = omega arith in
+          let d : (j - 16) % 16 ≡ j % 16 = omega arith in
+          get_or-append_right (f a) rest 16 j 0 first big
           ∙ get_or-blocks f (a + 1) n (j - 16) (λ i lt. each i (omega arith)) (omega arith)
           ∙ ap (λ i. get_or (f i) ((j - 16) % 16) 0) e ∙ ap (λ k. get_or (f (a + j / 16)) k 0) d
     ]
@@ -111,7 +111,7 @@ IsBlock-raised b h =
     let count = (from_be_bytes w32 (drop 12 b) + 1) % 2 ^ 32 in
     record {
       len = omega (arith, length-append (take 12 b) (to_be_bytes w32 count), length-take 12 b, h.len);
-      bytes = All-append IsByte (take 12 b) (to_be_bytes w32 count) (All-take IsByte 12 b h.bytes) (bytes_of_count count)
+      bytes = All-append IsByte (take 12 b) (to_be_bytes w32 count) (All-take IsByte 12 b h.bytes) (bytes_of_count count);
     }
 
 IsBlock-counter_block : (first : List ℕ) (i : ℕ) → IsBlock first → IsBlock (counter_block first i)
@@ -133,9 +133,9 @@ get_or-stream k nonce first n j hk hn lt small =
     let icb = counted nonce first in
     let e : 0 + j / 16 ≡ j / 16 = omega arith in
     get_or-blocks (λ i. aes k (counter_block icb i)) 0 n j
-        (λ i small. each_length k icb i hk (IsBlock-counted nonce first hn)) small
-      ∙ ap (λ i. get_or (aes k (counter_block icb i)) (j % 16) 0) e
-      ∙ ap (λ b. get_or (aes k b) (j % 16) 0) (counter_block-counted nonce first (j / 16) hn (omega arith))
+    (λ i small. each_length k icb i hk (IsBlock-counted nonce first hn)) small
+    ∙ ap (λ i. get_or (aes k (counter_block icb i)) (j % 16) 0) e
+    ∙ ap (λ b. get_or (aes k b) (j % 16) 0) (counter_block-counted nonce first (j / 16) hn (omega arith))
 
 pub gctr_is : (k first text : List ℕ) → gctr k first text ≡ add text (stream k first ((length text + 15) / 16))
 unfolding gctr stream
@@ -154,9 +154,9 @@ gctr-gctr k first text hk hf =
     let n = (length text + 15) / 16 in
     let s = stream k first n in
     gctr_is k first (gctr k first text)
-      ∙ ap (λ m. add (gctr k first text) (stream k first ((m + 15) / 16))) (length-gctr k first text hk hf)
-      ∙ ap (λ c. add c s) (gctr_is k first text)
-      ∙ add_twice text s (enough k first text hk hf)
+    ∙ ap (λ m. add (gctr k first text) (stream k first ((m + 15) / 16))) (length-gctr k first text hk hf)
+    ∙ ap (λ c. add c s) (gctr_is k first text)
+    ∙ add_twice text s (enough k first text hk hf)
 
 pub raised_nonce_block : (nonce : List ℕ) → IsNonce nonce → raised (nonce_block nonce) ≡ counted nonce 2
 raised_nonce_block nonce h = ap raised (nonce_block-counted nonce) ∙ raised-counted nonce 1 h (omega arith)
@@ -170,12 +170,12 @@ gctr_by_places k nonce text out first hk hn lt len each =
     let s = stream k (counted nonce first) n in
     let long = enough k (counted nonce first) text hk (IsBlock-counted nonce first hn) in
     ext_get_or 0 out (add text s) (len ∙ sym (length-add text s long))
-      (λ j small.
-        let inside : j < length text = omega arith in
-        each j inside
-          ∙ ap (λ b. bit_xor (get_or text j 0) b) (sym (get_or-stream k nonce first n j hk hn (omega arith) (omega arith)))
-          ∙ sym (get_or-add text s j inside long))
-      ∙ sym (gctr_is k (counted nonce first) text)
+    (λ j small.
+    let inside : j < length text = omega arith in
+    each j inside
+    ∙ ap (λ b. bit_xor (get_or text j 0) b) (sym (get_or-stream k nonce first n j hk hn (omega arith) (omega arith)))
+    ∙ sym (get_or-add text s j inside long))
+    ∙ sym (gctr_is k (counted nonce first) text)
 
 pub IsNonce-array : (nonce : List ℕ) → length nonce ≡ 12 → ((i : ℕ) → get_or nonce i 0 < 256) → IsNonce nonce
 IsNonce-array nonce len fits = record { len = len; bytes = All-from_get_or IsByte nonce 0 (λ i lt. fits i) }
@@ -200,5 +200,5 @@ pub cipher_of : (k nonce plain cipher : List ℕ) → IsBlock k → IsNonce nonc
 cipher_of k nonce plain cipher hk hn e =
     let first = raised (nonce_block nonce) in
     sym
-      (ap (λ p. gctr k first p) (e ∙ ap (λ b. gctr k b cipher) (sym (raised_nonce_block nonce hn)))
-        ∙ gctr-gctr k first cipher hk (IsBlock-first nonce hn))
+    (ap (λ p. gctr k first p) (e ∙ ap (λ b. gctr k b cipher) (sym (raised_nonce_block nonce hn)))
+    ∙ gctr-gctr k first cipher hk (IsBlock-first nonce hn))

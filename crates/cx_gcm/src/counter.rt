@@ -4,9 +4,8 @@ ghost use Rattle.std.specs.Prelude.{◌≡◌, ◌≤◌, length};
 ghost use Rattle.cx_aes.specs.KeyOf.{key_of};
 ghost use Rattle.cx_gcm.specs.Gcm.{IsNonce, counted, gctr};
 
-use cx_aes::Schedule;
-
 use crate::sealing::MAX_BYTES;
+use cx_aes::Schedule;
 
 fn counter_block(nonce: &[u8; 12], count: u32) -> [u8; 16]
     ensures { result ≡ counted nonce.now count }

@@ -7,4 +7,4 @@ mod multiples;
 mod sealing;
 
 pub use multiples::Multiples;
-pub use sealing::{one_plain_text, open_in_place, seal_in_place, BadTag, MAX_BYTES};
+pub use sealing::{BadTag, MAX_BYTES, one_plain_text, open_in_place, seal_in_place};

@@ -72,7 +72,11 @@ impl Multiples {
 fn shifted(v: u128) -> u128
     ensures { result ≡ shifted v }
 {
-    if v % 2 == 1 { (v >> 1) ^ POLYNOMIAL } else { v >> 1 }
+    if v % 2 == 1 {
+        (v >> 1) ^ POLYNOMIAL
+    } else {
+        v >> 1
+    }
 }
 
 fn shifted_by_four(v: u128) -> u128

@@ -7,15 +7,19 @@ ghost use Rattle.cx_gcm.specs.Blocks.{spelled};
 ghost use Rattle.cx_gcm.specs.Gcm.{GcmSealed, IsNonce, ghash, hashed, tag_of};
 ghost use Rattle.cx_gcm.specs.Key.{block_of};
 
-use cx_aes::Schedule;
-use thiserror::Error;
-
 use crate::blocks::{number, spelled};
 use crate::counter::add_key_stream;
 use crate::multiples::Multiples;
+use cx_aes::Schedule;
+use thiserror::Error;
 
 /// The bytes that one nonce seals, at most.
 pub const MAX_BYTES: usize = 2_097_152;
+
+// The counts of the first counter blocks: one for the tag, and from the next one on for the text.
+const TAG_COUNT: u32 = 1;
+
+const TEXT_COUNT: u32 = 2;
 
 /// The tag is not the one of the cipher text under this key and nonce.
 #[derive(Debug, Clone, Copy, PartialEq, Eq, Error)]
@@ -27,38 +31,39 @@ pub fn seal_in_place(key: &Schedule, nonce: [u8; 12], bytes: &mut [u8]) -> [u8; 
     requires { length bytes.old ≤ MAX_BYTES }
     ensures { GcmSealed (key_of key.now) nonce bytes.old bytes.new result }
 {
-    add_key_stream(key, &nonce, 2, bytes);
+    add_key_stream(key, &nonce, TEXT_COUNT, bytes);
     tag_of(key, &nonce, bytes)
 }
 
 /// Replaces a cipher text by its plain text where the tag is right. The tag is compared before
 /// anything is written.
-pub fn open_in_place(key: &Schedule, nonce: [u8; 12], bytes: &mut [u8], tag: &[u8; 16]) -> Result<(), BadTag>
+pub fn open_in_place(
+    key: &Schedule,
+    nonce: [u8; 12],
+    bytes: &mut [u8],
+    tag: &[u8; 16],
+) -> Result<(), BadTag>
     requires { length bytes.old ≤ MAX_BYTES }
     ensures ok { OnOk result (GcmSealed (key_of key.now) nonce bytes.new bytes.old tag.now) }
     ensures bad { IsErr result ↔ (tag.now ≢ tag_of (key_of key.now) nonce bytes.old) }
     ensures err { OnErr result (bytes.new ≡ bytes.old) }
 
     // What was sealed to these bytes and this tag is what stands there afterwards.
-    ensures sealed {
-      (plain : List ℕ) → GcmSealed (key_of key.now) nonce plain bytes.old tag.now → IsOk result × (bytes.new ≡ plain)
-    }
+    ensures sealed { (plain : List ℕ) → GcmSealed (key_of key.now) nonce plain bytes.old tag.now → IsOk result × (bytes.new ≡ plain) }
 {
-    if tag_of(key, &nonce, bytes) != *tag {
+    let cipher: &[u8] = bytes;
+    if *tag != tag_of(key, &nonce, cipher) {
         return Err(BadTag);
     }
-    add_key_stream(key, &nonce, 2, bytes);
+    add_key_stream(key, &nonce, TEXT_COUNT, bytes);
     Ok(())
 }
 
 /// Law: for one key, nonce and cipher text there is one plain text and one tag.
 pub fn one_plain_text()
-    ensures {
-      (k nonce p q cipher t u : List ℕ) → IsBlock k → IsNonce nonce
-        → GcmSealed k nonce p cipher t → GcmSealed k nonce q cipher u → (p ≡ q) × (t ≡ u)
-    }
-{
-}
+    ensures { (k nonce p q cipher t u : List ℕ) → IsBlock k → IsNonce nonce
+        → GcmSealed k nonce p cipher t → GcmSealed k nonce q cipher u → (p ≡ q) × (t ≡ u) }
+{}
 
 fn tag_of(key: &Schedule, nonce: &[u8; 12], cipher: &[u8]) -> [u8; 16]
     requires { length cipher.now ≤ MAX_BYTES }
@@ -66,7 +71,7 @@ fn tag_of(key: &Schedule, nonce: &[u8; 12], cipher: &[u8]) -> [u8; 16]
 {
     let multiples = Multiples::new(&key.encrypt(&[0u8; 16]));
     let mut tag = hash(&multiples, cipher);
-    add_key_stream(key, nonce, 1, &mut tag);
+    add_key_stream(key, nonce, TAG_COUNT, &mut tag);
     tag
 }
 

@@ -3,3 +3,5 @@
 
 #[cfg(test)]
 mod aes;
+#[cfg(test)]
+mod gcm;

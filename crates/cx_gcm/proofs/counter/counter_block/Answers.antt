@@ -10,4 +10,4 @@ returns c =
     let count = c.to_be_bytes-c.result in
     let four : length count ≡ 4 = ap length c.to_be_bytes-c.ensures in
     ap (λ xs. xs ++ cells 4 count) (cells-is 12 nonce c.told-nonce)
-      ∙ ap (λ ys. nonce ++ ys) (cells-is 4 count four ∙ c.to_be_bytes-c.ensures)
+    ∙ ap (λ ys. nonce ++ ys) (cells-is 4 count four ∙ c.to_be_bytes-c.ensures)

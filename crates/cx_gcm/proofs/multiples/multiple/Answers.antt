@@ -12,10 +12,10 @@ pub loop-i-preserved : goal.loop-i-preserved
 loop-i-preserved c =
     let before = c.shifted.ensures ∙ ap shifted c.loop-i.invariant in
     ap (λ s. bit_xor s c.if-bits-i-eq1.next) before
-      ∙ elim c.if-bits-i-eq1.branch [
-        | then-bits-i-eq1 w ↦ rw w.next-is (bit_set c.args.bits c.args.h c.loop-i.i w.if-bits-i-eq1.true)
-        | else-bits-i-eq1 w ↦ rw w.next-is (bit_clear c.args.bits c.args.h c.loop-i.i w.if-bits-i-eq1.false)
-        ]
+    ∙ elim c.if-bits-i-eq1.branch [
+      | then-bits-i-eq1 w ↦ rw w.next-is (bit_set c.args.bits c.args.h c.loop-i.i w.if-bits-i-eq1.true)
+      | else-bits-i-eq1 w ↦ rw w.next-is (bit_clear c.args.bits c.args.h c.loop-i.i w.if-bits-i-eq1.false)
+    ]
 
 pub returns : goal.returns
 returns c = let four : c.loop-i.i ≡ 4 = omega arith in c.loop-i.invariant ∙ ap (λ i. from_last c.args.bits c.args.h i) four

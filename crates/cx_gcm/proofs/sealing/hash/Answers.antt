@@ -15,9 +15,9 @@ loop-n-preserved c =
     let n = c.loop-n.n in
     let block = block_of_hashed cipher c.block_at.result n c.block_at.ensures.len (omega arith) c.block_at.ensures.places in
     c.product-sum.ensures
-      ∙ ap (λ s. product (bit_xor s c.number.result) h) c.loop-n.invariant
-      ∙ ap (λ b. product (bit_xor (ghash h (hashed cipher) n) b) h) (c.number.ensures ∙ ap number block)
-      ∙ sym (ghash_more h (hashed cipher) n)
+    ∙ ap (λ s. product (bit_xor s c.number.result) h) c.loop-n.invariant
+    ∙ ap (λ b. product (bit_xor (ghash h (hashed cipher) n) b) h) (c.number.ensures ∙ ap number block)
+    ∙ sym (ghash_more h (hashed cipher) n)
 
 pub returns : goal.returns
 returns c =
@@ -26,9 +26,9 @@ returns c =
     let m = (length cipher + 15) / 16 in
     let all : c.loop-n.n ≡ m = omega arith in
     c.spelled.ensures
-      ∙ ap spelled
-        (c.product.ensures
-          ∙ ap (λ s. product (bit_xor s (8 * length cipher)) h) (c.loop-n.invariant ∙ ap (λ i. ghash h (hashed cipher) i) all)
-          ∙ ap (λ b. product (bit_xor (ghash h (hashed cipher) m) b) h) (sym (last_of_hashed cipher (omega arith)))
-          ∙ sym (ghash_more h (hashed cipher) m)
-          ∙ ap (λ i. ghash h (hashed cipher) i) (sym (blocks-hashed cipher)))
+    ∙ ap spelled
+    (c.product.ensures
+    ∙ ap (λ s. product (bit_xor s (8 * length cipher)) h) (c.loop-n.invariant ∙ ap (λ i. ghash h (hashed cipher) i) all)
+    ∙ ap (λ b. product (bit_xor (ghash h (hashed cipher) m) b) h) (sym (last_of_hashed cipher (omega arith)))
+    ∙ sym (ghash_more h (hashed cipher) m)
+    ∙ ap (λ i. ghash h (hashed cipher) i) (sym (blocks-hashed cipher)))

@@ -11,18 +11,19 @@ not-false false e = cc
 
 pub returns-clause-ok : goal.returns-clause-ok
 returns-clause-ok c =
-    let same = bytes_eq-Decides c.tag_of.result c.args.tag.now in
+    let same = bytes_eq-Decides c.args.tag.now c.tag_of.result in
     record {
       is_ciphered = cipher_of (key_of c.args.key.now) c.args.nonce c.add_key_stream.new.bytes c.args.bytes.now
-        c.args.key.now.expanded.block c.add_key_stream.ensures.nonce c.add_key_stream.ensures.text;
-      is_tag = sym (same.0 (not-false _ (sym c.if-ne.false ∙ c.ne.ensures))) ∙ c.tag_of.ensures;
+          c.args.key.now.expanded.block c.add_key_stream.ensures.nonce c.add_key_stream.ensures.text;
+      is_tag = same.0 (not-false _ (sym c.if-ne.false ∙ c.ne.ensures)) ∙ c.tag_of.ensures;
     }
 
 pub returns-clause-sealed : goal.returns-clause-sealed
 returns-clause-sealed c = λ plain h.
     let key = key_of c.args.key.now in
-    let isnonce = c.add_key_stream.ensures.nonce in
-    (refl,
-     c.add_key_stream.ensures.text
-       ∙ ap (λ b. gctr key b c.args.bytes.now) (sym (raised_nonce_block c.args.nonce isnonce))
-       ∙ plain_of key c.args.nonce plain c.args.bytes.now c.args.tag.now c.args.key.now.expanded.block isnonce h)
+    let isnonce = c.add_key_stream.ensures.nonce in (
+      refl,
+      c.add_key_stream.ensures.text
+          ∙ ap (λ b. gctr key b c.args.bytes.now) (sym (raised_nonce_block c.args.nonce isnonce))
+          ∙ plain_of key c.args.nonce plain c.args.bytes.now c.args.tag.now c.args.key.now.expanded.block isnonce h,
+    )

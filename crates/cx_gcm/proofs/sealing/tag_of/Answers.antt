@@ -12,6 +12,6 @@ returns c =
     let nonce = c.args.nonce.now in
     let text = hashed c.args.cipher.now in
     c.add_key_stream.ensures.text
-      ∙ ap (λ b. gctr key b c.hash-tag.result) (sym (nonce_block-counted nonce))
-      ∙ ap (λ s. gctr key (nonce_block nonce) s)
-        (c.hash-tag.ensures ∙ ap (λ h. spelled (ghash h text (length text / 16))) (c.new-multiples.ensures ∙ ap number c.encrypt.ensures))
+    ∙ ap (λ b. gctr key b c.hash-tag.result) (sym (nonce_block-counted nonce))
+    ∙ ap (λ s. gctr key (nonce_block nonce) s)
+    (c.hash-tag.ensures ∙ ap (λ h. spelled (ghash h text (length text / 16))) (c.new-multiples.ensures ∙ ap number c.encrypt.ensures))

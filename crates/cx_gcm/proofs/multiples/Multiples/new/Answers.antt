@@ -13,7 +13,7 @@ invariant_of-result c =
     record {
       products = record {
         entries = fill_by_all (λ v. from_last v (get_or table 8 0) 4) table 16 0 filled.len
-          (λ v lt. filled.entries v (omega arith) ∙ ap (λ y. from_last v y 4) (sym first));
+            (λ v lt. filled.entries v (omega arith) ∙ ap (λ y. from_last v y 4) (sym first));
       };
     }
 

@@ -1,4 +1,4 @@
-use Rattle.std.proofs.Common.{◌≡◌, ◌+◌, ◌*◌, ◌/◌, ◌%◌, ◌^◌, bit_xor, get_or, ap, ◌∙◌, sym, arith}
+use Rattle.std.proofs.Common.{◌≡◌, ◌*◌, ◌/◌, ◌%◌, ◌^◌, bit_xor, get_or, ap, ◌∙◌, sym, arith}
 use Rattle.cx_gcm.specs.Blocks.{shifted_by}
 use Rattle.cx_gcm.specs.Multiples.{from_last}
 use Rattle.cx_gcm.specs.Key.{block_of}
@@ -12,8 +12,8 @@ pub loop-k-preserved : goal.loop-k-preserved
 loop-k-preserved c =
     let table = c.args.self.now.table in
     ap (λ s. bit_xor s (get_or table (c.args.x / 2 ^ (4 * c.loop-k.k) % 16) 0))
-        (c.shifted_by_four.ensures ∙ ap (λ s. shifted_by s 4) c.loop-k.invariant)
-      ∙ four_more c.args.x table c.loop-k.k c.args.self.now.products
+    (c.shifted_by_four.ensures ∙ ap (λ s. shifted_by s 4) c.loop-k.invariant)
+    ∙ four_more c.args.x table c.loop-k.k c.args.self.now.products
 
 pub returns : goal.returns
 returns c =
