@@ -7,3 +7,5 @@ mod aes;
 mod cbc;
 #[cfg(test)]
 mod digest;
+#[cfg(test)]
+mod gcm;
