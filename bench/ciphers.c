@@ -168,6 +168,22 @@ static void seal(const uint8_t *nonce, uint8_t *bytes, size_t length, uint8_t *t
     for (int i = 0; i < 16; i++) tag[i] ^= mask[i];
 }
 
+/* CRC-32C by a table of bytes */
+static uint32_t crc_table[256];
+
+static void make_crc_table(void) {
+    for (uint32_t i = 0; i < 256; i++) {
+        uint32_t state = i;
+        for (int bit = 0; bit < 8; bit++) state = (state >> 1) ^ (state & 1 ? 0x82f63b78u : 0);
+        crc_table[i] = state;
+    }
+}
+
+__attribute__((noinline)) static uint32_t crc32c(uint32_t state, const uint8_t *bytes, size_t length) {
+    for (size_t i = 0; i < length; i++) state = (state >> 8) ^ crc_table[(state ^ bytes[i]) & 0xff];
+    return state;
+}
+
 /* measurements */
 static double begun;
 static void start(void) {
@@ -200,9 +216,21 @@ static void measure_seal(const char *name, size_t length, int times) {
     free(bytes);
 }
 
+static void measure_crc32c(const char *name, size_t length, int times) {
+    uint8_t *bytes = malloc(length);
+    if (!bytes) exit(1);
+    memset(bytes, 90, length);
+    uint32_t sum = 0xffffffffu;
+    start();
+    for (int n = 0; n < times; n++) sum = crc32c(sum, bytes, length);
+    report(name, (double)length * times, sum);
+    free(bytes);
+}
+
 int main(void) {
     uint8_t key[16];
     make_tables();
+    make_crc_table();
     memset(key, 7, 16);
     expand(key);
     for (int turn = 0; turn < TURNS; turn++) {
@@ -211,6 +239,7 @@ int main(void) {
         measure_blocks("aes_decrypt", decrypt);
         measure_seal("gcm_seal_4_KiB", SHORT, 256);
         measure_seal("gcm_seal_1_MiB", LONG, 1);
+        measure_crc32c("crc32c_64_KiB", 65536, 64);
     }
     return 0;
 }
