@@ -50,12 +50,12 @@ impl Numbers {
         ensures { (blobs : List (List ℕ)) → IsNumbersOf self.old.numbers self.old.issued blobs
             → OnOk result (IsNumbersOf self.new.numbers self.new.issued (blobs ++ blob.now ∷ [])) }
     {
-        let number = self.issued + 1;
-        if !self.numbers.contains_key(blob) {
-            let key = blob.copy(alloc)?;
-            self.numbers.insert(key, number)?;
+        self.issued += 1;
+        if self.numbers.contains_key(blob) {
+            return Ok(());
         }
-        self.issued = number;
+        let key = blob.copy(alloc)?;
+        self.numbers.insert(key, self.issued)?;
         Ok(())
     }
 

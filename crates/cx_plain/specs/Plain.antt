@@ -31,7 +31,7 @@ use Rattle.cx_plain.specs.declared.nodes.Session.{Session}
 use Rattle.cx_plain.specs.declared.tickets.Terms.{Terms}
 use Rattle.cx_plain.specs.declared.tickets.UnderWay.{UnderWay}
 use Rattle.cx_plain.specs.declared.entrance.Welcome.{Welcome}
-use Rattle.cx_plain.specs.declared.run.Run.{Run}
+use Rattle.cx_plain.specs.declared.state.Run.{Run}
 
 -- at the start: reading 0, mark 1, four empty lists of generations, no entities, links or tickets; lives of 3,600 s and
 -- 43,200 s

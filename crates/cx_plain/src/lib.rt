@@ -6,6 +6,9 @@ pub mod counts;
 pub mod entrance;
 pub mod monitors;
 pub mod nodes;
-pub mod run;
+pub mod state;
 pub mod tickets;
 pub mod wallets;
+pub mod whole;
+
+pub use whole::{run, run_laws};

@@ -33,7 +33,8 @@ impl Run {
     /// A run at its start.
     #[tactic(auto, unfolding(crate::specs::Plain::opening))]
     pub fn new(alloc: Global) -> Run
-        ensures { result ≡ opening }
+        ensures state { result ≡ opening }
+        ensures timely { IsTimelyRun result }
     {
         let monitor = Monitor {
             life: 3_600_000_000_000,
@@ -50,6 +51,13 @@ impl Run {
             nodes: Nodes::new(alloc),
             journal: Journal::new(alloc),
         }
+    }
+
+    /// The journal.
+    pub fn into_journal(self) -> Journal
+        ensures { result ≡ self.journal }
+    {
+        self.journal
     }
 
     // A node refuses, on a link or on none (0), a ticket or none.
@@ -355,7 +363,7 @@ impl Run {
 
 impl Run {
     ghost use Rattle.std.specs.Prelude.{IsTrue};
-    ghost use Rattle.cx_schedule.specs.Files.{is_in_range};
+    ghost use Rattle.cx_schedule.specs.Lines.{is_in_range};
     ghost use Rattle.cx_plain.specs.Plain.{IsTimelyRun, step};
 
     /// What a line does.

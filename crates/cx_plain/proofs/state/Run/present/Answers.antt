@@ -1,6 +1,6 @@
 -- What the daemon judges by is what it looked at.
 use Rattle.cx_plain.proofs.Presents.{presents}
-use Rattle.cx_plain.proofs.run.Run.present.Goals as goal
+use Rattle.cx_plain.proofs.state.Run.present.Goals as goal
 
 pub returns : goal.returns
 returns c =

@@ -1,10 +1,10 @@
 -- The three entries, one behind the other.
 use Rattle.std.proofs.Common.{◌≡◌, ◌+◌, refl}
 use Rattle.cx_plain.specs.declared.nodes.Place.{Place}
-use Rattle.cx_plain.specs.declared.run.Run.{Run}
+use Rattle.cx_plain.specs.declared.state.Run.{Run}
 use Rattle.cx_plain.specs.Plain.{with_seq}
 use Rattle.cx_plain.proofs.Delivers.{delivers}
-use Rattle.cx_plain.proofs.run.Run.deliver.Goals as goal
+use Rattle.cx_plain.proofs.state.Run.deliver.Goals as goal
 
 pub returns : goal.returns
 unfolding with_seq

@@ -2,7 +2,7 @@
 use Rattle.std.proofs.Common.{◌≡◌, Some, sym, refl}
 use Rattle.cx_plain.specs.Plain.{entered, node_of}
 use Rattle.cx_plain.proofs.Timely.{welcoming-timely}
-use Rattle.cx_plain.proofs.run.Run.enter.Goals as goal
+use Rattle.cx_plain.proofs.state.Run.enter.Goals as goal
 
 pub returns-clause-state : goal.returns-clause-state
 unfolding entered
