@@ -1,8 +1,10 @@
 -- The rows of the two matrices.
-use Rattle.std.proofs.Common.{◌≡◌, ℕ, List, ◌∷◌, bit_xor, sym, ap, ◌∙◌}
+use Rattle.std.proofs.Common.{◌≡◌, ℕ, ◌<◌, List, ◌∷◌, bit_xor, get_or, length, refl, sym, ap, ◌∙◌}
 use Rattle.std.specs.Int.Bits.{xor_assoc}
 use Rattle.std.proofs.lemmas.Nat.{xor_comm}
+use Rattle.std.proofs.lemmas.List.FromFn.{fill_by_all}
 use Rattle.cx_aes.specs.Field.{times}
+use Rattle.cx_aes.specs.Inverse.{inverse_mix_column, inverse_mix_columns, turned_columns}
 use Rattle.cx_aes.specs.Cipher.{row}
 
 -- a row and a column turned by one place
@@ -29,3 +31,19 @@ turned_rows p q r s a b c d e0 e1 e2 e3 e =
       row-turned r s p q b c d a,
       row-turned s p q r c d a b,
     )
+
+-- a list of 16 that has at each place the first row of InvMixColumns times the column turned to it
+pub unmixed_by_places : (s second third fourth out : List ℕ) → second ≡ turned_columns s → third ≡ turned_columns second
+    → fourth ≡ turned_columns third → length out ≡ 16
+    → ((k : ℕ) → k < 16
+    → get_or out k 0 ≡ row 14 11 13 9 (get_or s k 0) (get_or second k 0) (get_or third k 0) (get_or fourth k 0))
+    → out ≡ inverse_mix_columns s
+unfolding turned_columns inverse_mix_column inverse_mix_columns
+unmixed_by_places s second third fourth out e2 e3 e4 len each =
+    let x : ℕ → ℕ = λ i. get_or s i 0 in
+    fill_by_all (λ k. row 14 11 13 9 (get_or s k 0) (get_or second k 0) (get_or third k 0) (get_or fourth k 0)) out 16 0 len each
+    ∙ rw (e4, e3, e2)
+    (turned_rows 14 11 13 9 (x 0) (x 1) (x 2) (x 3) refl refl refl refl
+    (turned_rows 14 11 13 9 (x 4) (x 5) (x 6) (x 7) refl refl refl refl
+    (turned_rows 14 11 13 9 (x 8) (x 9) (x 10) (x 11) refl refl refl refl
+    (turned_rows 14 11 13 9 (x 12) (x 13) (x 14) (x 15) refl refl refl refl refl))))
