@@ -4,8 +4,9 @@ use Rattle.std.specs.Int.Bits.{xor_assoc}
 use Rattle.std.proofs.lemmas.Nat.{xor_comm}
 use Rattle.std.proofs.lemmas.List.FromFn.{fill_by_all}
 use Rattle.cx_aes.specs.Field.{times}
-use Rattle.cx_aes.specs.Inverse.{inverse_mix_column, inverse_mix_columns, turned_columns}
-use Rattle.cx_aes.specs.Cipher.{row}
+use Rattle.cx_aes.specs.Columns.{turned_columns}
+use Rattle.cx_aes.specs.Inverse.{inverse_mix_column, inverse_mix_columns}
+use Rattle.cx_aes.specs.Cipher.{mix_column, mix_columns, row}
 
 -- a row and a column turned by one place
 pub row-turned : (p q r s a b c d : ℕ) → row p q r s a b c d ≡ row q r s p b c d a
@@ -31,6 +32,22 @@ turned_rows p q r s a b c d e0 e1 e2 e3 e =
       row-turned r s p q b c d a,
       row-turned s p q r c d a b,
     )
+
+-- a list of 16 that has at each place the first row of MixColumns times the column turned to it
+pub mixed_by_places : (s second third fourth out : List ℕ) → second ≡ turned_columns s → third ≡ turned_columns second
+    → fourth ≡ turned_columns third → length out ≡ 16
+    → ((k : ℕ) → k < 16
+    → get_or out k 0 ≡ row 2 3 1 1 (get_or s k 0) (get_or second k 0) (get_or third k 0) (get_or fourth k 0))
+    → out ≡ mix_columns s
+unfolding turned_columns mix_column mix_columns
+mixed_by_places s second third fourth out e2 e3 e4 len each =
+    let x : ℕ → ℕ = λ i. get_or s i 0 in
+    fill_by_all (λ k. row 2 3 1 1 (get_or s k 0) (get_or second k 0) (get_or third k 0) (get_or fourth k 0)) out 16 0 len each
+    ∙ rw (e4, e3, e2)
+    (turned_rows 2 3 1 1 (x 0) (x 1) (x 2) (x 3) refl refl refl refl
+    (turned_rows 2 3 1 1 (x 4) (x 5) (x 6) (x 7) refl refl refl refl
+    (turned_rows 2 3 1 1 (x 8) (x 9) (x 10) (x 11) refl refl refl refl
+    (turned_rows 2 3 1 1 (x 12) (x 13) (x 14) (x 15) refl refl refl refl refl))))
 
 -- a list of 16 that has at each place the first row of InvMixColumns times the column turned to it
 pub unmixed_by_places : (s second third fourth out : List ℕ) → second ≡ turned_columns s → third ≡ turned_columns second

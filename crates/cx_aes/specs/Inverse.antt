@@ -25,13 +25,6 @@ inverse_mix_columns s =
     (λ c. inverse_mix_column (slice_index s (4 * c)) (slice_index s (4 * c + 1)) (slice_index s (4 * c + 2)) (slice_index s (4 * c + 3)))
     (range_with_len 0 4)
 
--- each column turned by one place, up
-unfoldable pub turned_columns : List ℕ → List ℕ
-turned_columns s =
-    flat_map
-    (λ c. slice_index s (4 * c + 1) ∷ slice_index s (4 * c + 2) ∷ slice_index s (4 * c + 3) ∷ slice_index s (4 * c) ∷ [])
-    (range_with_len 0 4)
-
 -- the block whose state after n rounds is s
 unfoldable pub inverse_rounds : List ℕ → List ℕ → ℕ → List ℕ
 inverse_rounds k s zero = add s (round_key k 0)

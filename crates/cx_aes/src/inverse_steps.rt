@@ -2,9 +2,10 @@
 
 ghost use Rattle.std.specs.Prelude.{◌≡◌};
 ghost use Rattle.cx_aes.specs.Cipher.{row};
-ghost use Rattle.cx_aes.specs.Inverse.{inverse_mix_columns, inverse_shift_rows, inverse_sub_bytes, turned_columns};
+ghost use Rattle.cx_aes.specs.Inverse.{inverse_mix_columns, inverse_shift_rows, inverse_sub_bytes};
 
 use crate::field::{eleven_times, fourteen_times, inv_sbox, nine_times, thirteen_times};
+use crate::steps::turned;
 
 pub(crate) fn inverse_sub_bytes(s: &[u8; 16]) -> [u8; 16]
     ensures { result ≡ inverse_sub_bytes s.now }
@@ -25,22 +26,11 @@ pub(crate) fn inverse_shift_rows(s: &[u8; 16]) -> [u8; 16]
     ]
 }
 
-// The first row of the matrix times a column, as `mixed` for the cipher's matrix. The steps here go
-// over all sixteen places at once, which the compiler turns into instructions on vectors.
+// The first row of the matrix times a column, as `mixed` for the cipher's matrix.
 fn unmixed(a: u8, b: u8, c: u8, d: u8) -> u8
     ensures { result ≡ row 14 11 13 9 a b c d }
 {
     (fourteen_times(a) ^ eleven_times(b)) ^ (thirteen_times(c) ^ nine_times(d))
-}
-
-// Each column turned by one place: at the place of each byte stands the byte below it.
-fn turned(s: &[u8; 16]) -> [u8; 16]
-    ensures { result ≡ turned_columns s.now }
-{
-    [
-        s[1], s[2], s[3], s[0], s[5], s[6], s[7], s[4], s[9], s[10], s[11], s[8], s[13], s[14],
-        s[15], s[12],
-    ]
 }
 
 pub(crate) fn inverse_mix_columns(s: &[u8; 16]) -> [u8; 16]

@@ -1,7 +1,0 @@
-use Rattle.std.proofs.Common.{refl}
-use Rattle.cx_aes.specs.Inverse.{turned_columns}
-use Rattle.cx_aes.proofs.inverse_steps.turned.Goals as goal
-
-pub returns : goal.returns
-unfolding turned_columns
-returns c = refl
