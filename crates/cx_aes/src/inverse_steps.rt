@@ -26,7 +26,8 @@ pub(crate) fn inverse_shift_rows(s: &[u8; 16]) -> [u8; 16]
     ]
 }
 
-// The first row of the matrix times a column, as `mixed` for the cipher's matrix.
+// The first row of the matrix times a column. The other rows are this one turned, so that the matrix
+// times all columns is this function at each place, of the column turned to that place.
 fn unmixed(a: u8, b: u8, c: u8, d: u8) -> u8
     ensures { result ≡ row 14 11 13 9 a b c d }
 {

@@ -1,7 +1,7 @@
 // The steps of a round (FIPS 197, 5.1), each on a state of 16 bytes, column by column.
 
 ghost use Rattle.std.specs.Prelude.{◌≡◌};
-ghost use Rattle.cx_aes.specs.Cipher.{add, mix_columns, row, shift_rows, sub_bytes};
+ghost use Rattle.cx_aes.specs.Cipher.{add, mix_columns, shift_rows, sub_bytes};
 ghost use Rattle.cx_aes.specs.Columns.{turned_columns};
 
 use crate::field::{doubled, sbox};
@@ -52,24 +52,17 @@ pub(crate) fn turned(s: &[u8; 16]) -> [u8; 16]
     ]
 }
 
-// The first row of the matrix times a column. The other rows are this one turned, so that the matrix
-// times all columns is this function at each place, of the column turned to that place. The compiler
-// makes instructions on vectors of it.
-fn mixed(a: u8, b: u8, c: u8, d: u8) -> u8
-    ensures { result ≡ row 2 3 1 1 a b c d }
-{
-    (doubled(a) ^ (doubled(b) ^ b)) ^ (c ^ d)
-}
-
+// 2 a + 3 b + c + d is 2 (a + b) + b + (c + d), at each place of a column that is turned to that place.
+// The sums of neighbours are made once, and the compiler makes instructions on vectors of the loops.
 pub(crate) fn mix_columns(s: &[u8; 16]) -> [u8; 16]
     ensures { result ≡ mix_columns s.now }
 {
-    let second = turned(s);
-    let third = turned(&second);
-    let fourth = turned(&third);
+    let next = turned(s);
+    let pairs = add(s, &next);
+    let opposite = turned(&turned(&pairs));
     let mut columns = [0u8; 16];
     for i in 0..16usize {
-        columns[i] = mixed(s[i], second[i], third[i], fourth[i]);
+        columns[i] = doubled(pairs[i]) ^ next[i] ^ opposite[i];
     }
     columns
 }

@@ -5,5 +5,6 @@ use Rattle.cx_aes.proofs.steps.mix_columns.Goals as goal
 pub returns : goal.returns
 returns c =
     let all = c.loop-i.invariant in
-    mixed_by_places c.args.s.now c.turned-second.result c.turned-third.result c.turned-fourth.result c.loop-i.columns
-    c.turned-second.ensures c.turned-third.ensures c.turned-fourth.ensures all.len (λ k lt. all.places k (omega arith))
+    mixed_by_places c.args.s.now c.turned-next.result c.add-pairs.result c.turned.result c.turned-opposite.result c.loop-i.columns
+    c.told-s c.fits-s c.turned-next.ensures c.add-pairs.ensures c.turned.ensures c.turned-opposite.ensures
+    all.len (λ k lt. all.places k (omega arith))
