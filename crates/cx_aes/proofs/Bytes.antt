@@ -77,14 +77,16 @@ pub times-9 : (a : ℕ) → a < 256 → times a 9 ≡ bit_xor (xtimes (xtimes (x
 unfolding xtimes product times
 times-9 a lt = same_at_bytes (λ x. times x 9) (λ x. bit_xor (xtimes (xtimes (xtimes x))) x) refl a lt
 
-pub times-11 : (a : ℕ) → a < 256 → times a 11 ≡ bit_xor (xtimes (bit_xor (xtimes (xtimes a)) a)) a
+pub times-11 : (a : ℕ) → a < 256 → times a 11 ≡ bit_xor (bit_xor (xtimes (xtimes (xtimes a))) (xtimes a)) a
 unfolding xtimes product times
-times-11 a lt = same_at_bytes (λ x. times x 11) (λ x. bit_xor (xtimes (bit_xor (xtimes (xtimes x)) x)) x) refl a lt
+times-11 a lt = same_at_bytes (λ x. times x 11) (λ x. bit_xor (bit_xor (xtimes (xtimes (xtimes x))) (xtimes x)) x) refl a lt
 
-pub times-13 : (a : ℕ) → a < 256 → times a 13 ≡ bit_xor (xtimes (xtimes (bit_xor (xtimes a) a))) a
+pub times-13 : (a : ℕ) → a < 256 → times a 13 ≡ bit_xor (bit_xor (xtimes (xtimes (xtimes a))) (xtimes (xtimes a))) a
 unfolding xtimes product times
-times-13 a lt = same_at_bytes (λ x. times x 13) (λ x. bit_xor (xtimes (xtimes (bit_xor (xtimes x) x))) x) refl a lt
+times-13 a lt =
+    same_at_bytes (λ x. times x 13) (λ x. bit_xor (bit_xor (xtimes (xtimes (xtimes x))) (xtimes (xtimes x))) x) refl a lt
 
-pub times-14 : (a : ℕ) → a < 256 → times a 14 ≡ xtimes (bit_xor (xtimes (bit_xor (xtimes a) a)) a)
+pub times-14 : (a : ℕ) → a < 256 → times a 14 ≡ bit_xor (bit_xor (xtimes (xtimes (xtimes a))) (xtimes (xtimes a))) (xtimes a)
 unfolding xtimes product times
-times-14 a lt = same_at_bytes (λ x. times x 14) (λ x. xtimes (bit_xor (xtimes (bit_xor (xtimes x) x)) x)) refl a lt
+times-14 a lt =
+    same_at_bytes (λ x. times x 14) (λ x. bit_xor (bit_xor (xtimes (xtimes (xtimes x))) (xtimes (xtimes x))) (xtimes x)) refl a lt

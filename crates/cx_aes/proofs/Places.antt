@@ -2,7 +2,7 @@
 use Rattle.std.proofs.Common.{◌≡◌, ℕ, ◌<◌, List, map, length, get_or, bit_xor, refl, sym, ap, ◌∙◌}
 use Rattle.std.specs.List.{range_with_len}
 use Rattle.std.proofs.lemmas.List.FromFn.{fill_by_all}
-use Rattle.cx_aes.specs.Cipher.{add}
+use Rattle.cx_aes.specs.Cipher.{add, shift_rows, sub_bytes}
 
 abbrev pub cells : ℕ → List ℕ → List ℕ
 cells n s = map (λ i. get_or s i 0) (range_with_len 0 n)
@@ -24,3 +24,8 @@ unfolding add
 add_by_places s t out len tlen outlen each =
     fill_by_all (λ k. bit_xor (get_or s k 0) (get_or t k 0)) out 16 0 outlen each
     ∙ ap (λ xs. add xs (cells 16 t)) (cells-is 16 s len) ∙ ap (λ ys. add s ys) (cells-is 16 t tlen)
+
+-- the two steps may change places
+pub sub_bytes-shift_rows : (s : List ℕ) → length s ≡ 16 → sub_bytes (shift_rows s) ≡ shift_rows (sub_bytes s)
+unfolding sub_bytes shift_rows
+sub_bytes-shift_rows s len = ap (λ t. shift_rows (sub_bytes t)) (cells-is 16 s len)

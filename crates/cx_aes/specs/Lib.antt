@@ -3,3 +3,4 @@ pub mod Cipher
 pub mod Inverse
 pub mod Schedule
 pub mod KeyOf
+pub mod Columns

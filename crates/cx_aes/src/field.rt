@@ -37,17 +37,21 @@ pub(crate) fn nine_times(a: u8) -> u8
 pub(crate) fn eleven_times(a: u8) -> u8
     ensures { result ≡ times a 11 }
 {
-    doubled(doubled(doubled(a)) ^ a) ^ a
+    let two = doubled(a);
+    doubled(doubled(two)) ^ two ^ a
 }
 
 pub(crate) fn thirteen_times(a: u8) -> u8
     ensures { result ≡ times a 13 }
 {
-    doubled(doubled(doubled(a) ^ a)) ^ a
+    let four = doubled(doubled(a));
+    doubled(four) ^ four ^ a
 }
 
 pub(crate) fn fourteen_times(a: u8) -> u8
     ensures { result ≡ times a 14 }
 {
-    doubled(doubled(doubled(a) ^ a) ^ a)
+    let two = doubled(a);
+    let four = doubled(two);
+    doubled(four) ^ four ^ two
 }

@@ -7,7 +7,7 @@ ghost use Rattle.cx_aes.specs.Schedule.{IsExpanded};
 
 use crate::field::{doubled, sbox};
 use crate::inverse_steps::{inverse_mix_columns, inverse_shift_rows, inverse_sub_bytes};
-use crate::steps::{add, mix_columns, shift_rows, sub_bytes};
+use crate::steps::{add, mix_columns, substituted_rows};
 
 /// The eleven round keys of a key of 16 bytes. It is made once for a key, and is `Copy`, since
 /// nothing in it changes.
@@ -41,11 +41,11 @@ impl Schedule {
         let mut state = add(block, &self.keys[0]);
         for done in 0..9usize {
             state = add(
-                &mix_columns(&shift_rows(&sub_bytes(&state))),
+                &mix_columns(&substituted_rows(&state)),
                 &self.keys[done + 1],
             );
         }
-        add(&shift_rows(&sub_bytes(&state)), &self.keys[10])
+        add(&substituted_rows(&state), &self.keys[10])
     }
 
     /// The one block whose cipher text is `block`.
