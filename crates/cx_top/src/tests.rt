@@ -14,7 +14,7 @@ struct Row {
     journal: &'static str,
 }
 
-const ROWS: [Row; 11] = [
+const ROWS: [Row; 14] = [
     Row {
         shows: "a client that logs in, connects and sends is admitted and answered",
         schedule: "entity client.a osd \"allow *\"\n\
@@ -83,6 +83,54 @@ const ROWS: [Row; 11] = [
             looked osd.0 3 1,2,3 1000\n\
             looked osd.0 3 1,2,3 1000\n\
             admitted osd.0 1 1 c1 client.a 2 4599.999999999 \"allow *\"\n",
+    },
+    Row {
+        shows: "an expired ticket is refused one nanosecond behind",
+        schedule: "entity client.a osd \"allow *\"\n\
+            entity osd.0\n\
+            clock 1000\n\
+            fetch osd.0\n\
+            login client.a osd\n\
+            clock 4600.000000001\n\
+            connect client.a osd.0\n",
+        status: Status::Done,
+        journal: "saved 2\n\
+            issued 1 osd.0 auth 1 2 1000 44200 \"\"\n\
+            fetched osd.0 1000 1,2,3\n\
+            saved 3\n\
+            issued 2 client.a auth 2 2 1000 44200 \"\"\n\
+            issued 3 client.a osd 2 2 1000 4600 \"allow *\"\n\
+            looked osd.0 3 1,2,3 1000\n\
+            refused osd.0 3 expired 4600 4600.000000001 ticket=3\n\
+            refused client.a 3 denied 13\n",
+    },
+    Row {
+        shows: "a second connect to the same daemon is refused",
+        schedule: "entity client.a osd \"allow *\"\n\
+            entity osd.0\n\
+            fetch osd.0\n\
+            login client.a osd\n\
+            connect client.a osd.0\n\
+            connect client.a osd.0\n",
+        status: Status::Done,
+        journal: "saved 2\n\
+            issued 1 osd.0 auth 1 2 0 43200 \"\"\n\
+            fetched osd.0 0 1,2,3\n\
+            saved 3\n\
+            issued 2 client.a auth 2 2 0 43200 \"\"\n\
+            issued 3 client.a osd 2 2 0 3600 \"allow *\"\n\
+            looked osd.0 3 1,2,3 0\n\
+            looked osd.0 3 1,2,3 0\n\
+            admitted osd.0 1 1 c1 client.a 2 0 \"allow *\"\n\
+            refused client.a 0 busy\n",
+    },
+    Row {
+        shows: "an operation without a session is refused",
+        schedule: "entity client.a osd \"allow *\"\n\
+            entity osd.0\n\
+            send client.a osd.0 read rbd - obj1 -\n",
+        status: Status::Done,
+        journal: "refused client.a 0 no-session\n",
     },
     Row {
         shows: "a client that logs in again keeps its global id",
@@ -345,6 +393,30 @@ fn both_limits_are_reached_and_not_passed(rt: HostRuntime) -> Result<(), AllocEr
         let (status, _) = run_over(rt.alloc(), &["replay"], &input, &[], ROOM)?;
         assert_eq!(rt; status, wanted, "{} bytes", bytes);
     }
+    Ok(())
+}
+
+// So many entities, and a login of the thousandth.
+fn entities(alloc: Global, count: u32) -> Result<String, AllocError> {
+    let mut text = String::new(alloc);
+    for place in 1..=count {
+        let line = format!(in alloc; "entity client.c{place}\n")?;
+        text.push_str(&line)?;
+    }
+    text.push_str("login client.c1000\n")?;
+    Ok(text)
+}
+
+#[test]
+fn a_thousand_entities_are_the_most(rt: HostRuntime) -> Result<(), AllocError> {
+    let full = entities(rt.alloc(), 1000)?;
+    let (status, sink) = run_over(rt.alloc(), &["replay"], full.as_bytes(), &[], ROOM)?;
+    assert_eq!(rt; status, Status::Done);
+    let journal = "saved 2\nissued 1 client.c1000 auth 1 2 0 43200 \"\"\n";
+    assert_eq!(rt; sink.taken(), journal.as_bytes());
+    let more = entities(rt.alloc(), 1001)?;
+    let (refused, _) = run_over(rt.alloc(), &["replay"], more.as_bytes(), &[], ROOM)?;
+    assert_eq!(rt; refused, Status::BadSchedule(1001, LineFault::Repeated));
     Ok(())
 }
 
