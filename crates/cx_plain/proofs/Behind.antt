@@ -1,5 +1,5 @@
 -- Entries that come behind a journal, and lists that are changed or searched.
-use Rattle.std.proofs.Common.{◌≡◌, ℕ, zero, suc, ◌+◌, ◌<◌, List, [], ◌∷◌, ◌++◌, length, get_or, take, drop, Bool, true, false, cond, Option, Some, None, refl, ap, sym, ◌∙◌, append_assoc, arith, drop-cons}
+use Rattle.std.proofs.Common.{◌≡◌, suc, List, [], ◌∷◌, ◌++◌, take, drop, Bool, true, false, Some, refl, ap, sym, ◌∙◌, append_assoc, drop-cons}
 use Rattle.std.specs.Prelude.{find}
 use Rattle.std.specs.List.{Contains, AllByRecursion}
 use Rattle.std.proofs.lemmas.List.{append-nil, take-append-drop}

@@ -1,5 +1,5 @@
 -- An operation is entered three times.
-use Rattle.std.proofs.Common.{◌≡◌, ℕ, ◌+◌, refl}
+use Rattle.std.proofs.Common.{◌≡◌, ◌+◌, refl}
 use Rattle.cx_base.specs.Names.{Name}
 use Rattle.cx_base.specs.declared.operations.Operation.{Operation}
 use Rattle.cx_plain.specs.declared.nodes.Place.{Place}

@@ -1,7 +1,6 @@
 -- The laws hold behind every line of every schedule.
-use Rattle.std.proofs.Common.{◌≡◌, ℕ, ◌+◌, ◌<◌, ◌≤◌, List, [], ◌∷◌, ◌++◌, Option, Some, None, Bool, true, false, refl, sym, ap, ◌∙◌, arith}
+use Rattle.std.proofs.Common.{◌≡◌, ℕ, ◌+◌, ◌<◌, List, [], ◌∷◌, ◌++◌, Option, Some, None, Bool, true, false, refl, arith}
 use Rattle.std.specs.Prelude.{find, fold, nat_le, ◌==◌, if◌then◌else◌}
-use Rattle.std.specs.List.{Contains, AllByRecursion, list_any}
 use Rattle.std.proofs.lemmas.Bool.Decides.{nat_tests}
 use Rattle.std.proofs.lemmas.List.Elements.{Contains-append_left}
 use Rattle.cx_base.specs.Names.{Name}
@@ -15,8 +14,6 @@ use Rattle.cx_journal.specs.declared.entries.Issued.{Issued}
 use Rattle.cx_journal.specs.declared.entries.Looked.{Looked}
 use Rattle.cx_journal.specs.declared.entries.Admitted.{Admitted}
 use Rattle.cx_journal.specs.declared.entries.Handled.{Handled}
-use Rattle.cx_journal.specs.declared.entries.Refused.{Refused}
-use Rattle.cx_journal.specs.declared.outcomes.Reason.{Reason}
 use Rattle.cx_journal.specs.declared.outcomes.Reason.TheVariants as reason
 use Rattle.cx_journal.specs.declared.outcomes.Outcome.TheVariants as outcome
 use Rattle.cx_schedule.specs.declared.lines.Grant.{Grant}
@@ -29,10 +26,10 @@ use Rattle.cx_plain.specs.declared.state.Run.{Run}
 use Rattle.cx_plain.specs.Changes.{changed}
 use Rattle.cx_plain.specs.Monitors.{has_generation, list_of}
 use Rattle.cx_plain.specs.Nodes.{held_of, is_named, is_with, new_node}
-use Rattle.cx_plain.specs.Plain.{rotating, saved_entries, entered, login, arriving, viewing, renewing, fetch, looking, refusing, denying, admitting, judging, presenting, meeting, showing, calling, connect, with_seq, delivering, sending, send, sent_at, handled_at, answered_at, node_of, declared, step, opening, run_of}
+use Rattle.cx_plain.specs.Plain.{rotating, login, arriving, viewing, renewing, fetch, looking, refusing, denying, admitting, judging, presenting, meeting, showing, calling, connect, with_seq, delivering, sending, send, sent_at, answered_at, node_of, declared, step, opening, run_of}
 use Rattle.cx_plain.proofs.Behind.{all-push, all-changed, all-find}
 use Rattle.cx_plain.proofs.Names.{same_name_is, same_name_self}
-use Rattle.cx_plain.proofs.Laws.{IsGenuine, HoldsGenuine, WasAdmitted, IsSound, Holds, holds-push, holds-nodes, contains-last, empty-genuine, held-genuine, handled-in_session}
+use Rattle.cx_plain.proofs.Laws.{IsGenuine, HoldsGenuine, WasAdmitted, IsSound, holds-push, holds-nodes, contains-last, empty-genuine, held-genuine, handled-in_session}
 use Rattle.cx_plain.proofs.Steps.{HoldsRun, IsFound, found, entered-keeps, saved-holds}
 
 -- ---- declarations and fetches

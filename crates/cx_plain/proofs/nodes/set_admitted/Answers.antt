@@ -1,10 +1,8 @@
 -- The first one of that name is changed, if there is one.
 use Rattle.std.proofs.Common.{◌≡◌, sym}
 use Rattle.std.specs.Prelude.{Some, None, position}
-use Rattle.cx_plain.specs.Nodes.{is_named, is_with}
-use Rattle.cx_plain.specs.Changes.{changed}
+use Rattle.cx_plain.specs.Nodes.{is_named}
 use Rattle.cx_plain.specs.declared.nodes.Node.{Node}
-use Rattle.cx_plain.specs.declared.nodes.Session.{Session}
 use Rattle.cx_plain.proofs.Changed.{changed_at, changed_none}
 use Rattle.cx_plain.proofs.nodes.set_admitted.Goals as goal
 
