@@ -5,9 +5,8 @@ mod streams;
 
 use cx_top::{Status, run};
 use std::alloc::AllocError;
-use std::env;
-use std::io;
 use std::process::ExitCode;
+use std::{env, io};
 use streams::{Input, Output};
 
 fn main(rt: HostRuntime) -> ExitCode {

@@ -24,6 +24,6 @@ low b e = grind (arith, nat_tests)
 pub ascii_from_none : (bs : List ℕ) → position is_above_ascii bs ≡ None → IsAscii bs
 ascii_from_none bs none i =
     elim (cases_lt i (length bs)) as (λ _. get_or bs i 0 < 128) [
-        inl lt ↦ low (get_or bs i 0) (fails_before_first is_above_ascii bs i 0 (let far = past_all bs none in omega (arith, far)))
+      | inl lt ↦ low (get_or bs i 0) (fails_before_first is_above_ascii bs i 0 (let far = past_all bs none in omega (arith, far)))
       | inr ge ↦ rw (get_or_past bs i 0 ge) (omega arith)
     ]

@@ -68,7 +68,7 @@ abbrev pub after_pull : Giving → ℕ → Giving
 after_pull s room = record s {
   left = drop (pulled s room) s.left;
   calls = count_after s.calls;
-  faults = (if gives_next s then s.faults else count_after s.faults)
+  faults = (if gives_next s then s.faults else count_after s.faults);
 }
 
 -- which bytes a sink in memory takes of these: none where the call is listed, else those that fit
@@ -81,5 +81,5 @@ after_push s bytes = record s {
   taken = s.taken ++ taken_of s bytes;
   room = s.room - length (taken_of s bytes);
   calls = count_after s.calls;
-  faults = (if takes_all s bytes then s.faults else count_after s.faults)
+  faults = (if takes_all s bytes then s.faults else count_after s.faults);
 }

@@ -26,3 +26,24 @@ pub type Reading = u64;
 
 /// The nanoseconds of a second.
 pub const SECOND: u64 = 1_000_000_000;
+
+// Each public type may be sent to another thread and shared with one.
+fn is_sendable<T: Send + Sync>() {}
+
+fn all_are_sendable() {
+    is_sendable::<Blob>();
+    is_sendable::<Text>();
+    is_sendable::<Items<EntityName>>();
+    is_sendable::<EntityName>();
+    is_sendable::<BadName>();
+    is_sendable::<EntityType>();
+    is_sendable::<Access>();
+    is_sendable::<Operation>();
+    is_sendable::<TextRefusal>();
+    is_sendable::<Failed>();
+    is_sendable::<ByteSource>();
+    is_sendable::<VecSink>();
+}
+
+#[cfg(test)]
+mod tests;

@@ -8,6 +8,7 @@ ghost use Rattle.cx_base.specs.Owners.{is_above_ascii, IsTextCause};
 use crate::copies::Duplicate;
 use crate::refusals::TextRefusal;
 use std::alloc::{AllocError, Global};
+use std::cmp::Ordering;
 use std::fmt;
 use std::marker::Model;
 
@@ -79,6 +80,38 @@ impl Eq for Blob {
     ghost laws = { nat_list_eq_equiv };
 }
 
+impl PartialOrd for Blob {
+    ghost use Rattle.std.specs.Prelude.{Some};
+    ghost use Rattle.std.specs.Cmp.Lexicographic.{slice_cmp, texts_po};
+    ghost use Rattle.std.specs.Ordering.{nat_cmp};
+
+    ghost partial_cmp = { λ a b. Some (slice_cmp nat_cmp a b) };
+
+    ghost laws = { texts_po };
+
+    fn partial_cmp(&self, other: &Self) -> Option<Ordering> {
+        Some(self.cmp(other))
+    }
+}
+
+impl Ord for Blob {
+    ghost use Rattle.std.specs.Prelude.{refl};
+    ghost use Rattle.std.specs.Cmp.Lexicographic.{slice_cmp, nat_list_cmp_total, texts_ties};
+    ghost use Rattle.std.specs.Ordering.{nat_cmp};
+
+    ghost cmp = { slice_cmp nat_cmp };
+
+    ghost total = { nat_list_cmp_total };
+
+    ghost matches_partial_cmp = { λ a b. refl };
+
+    ghost matches_eq = { texts_ties };
+
+    fn cmp(&self, other: &Self) -> Ordering {
+        self.bytes().cmp(other.bytes())
+    }
+}
+
 impl Duplicate for Blob {
     fn copy(&self, alloc: Global) -> Result<Blob, AllocError> {
         Blob::of(alloc, self.bytes())
@@ -103,6 +136,15 @@ impl Model for Text {
 }
 
 impl Text {
+    /// The empty text.
+    pub fn new(alloc: Global) -> Text
+        ensures { result ≡ [] }
+    {
+        Text {
+            held: String::new(alloc),
+        }
+    }
+
     /// The text of these bytes.
     pub fn of(alloc: Global, bytes: &[u8]) -> Result<Text, TextRefusal>
         ensures ok { IfOk result (λ text. (text ≡ bytes.now) × (position is_above_ascii bytes.now ≡ None)) }

@@ -1,0 +1,9 @@
+pub mod Backed
+pub mod Behind
+pub mod Counted
+pub mod InSession
+pub mod JournalText
+pub mod KeepsKeys
+pub mod Places
+pub mod Ranked
+pub mod Words

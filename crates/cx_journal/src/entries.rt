@@ -1,9 +1,8 @@
 //! The entries of a journal.
 
 use crate::outcomes::{Outcome, Reason};
-use cx_base::{Blob, Duplicate, EntityName, EntityType, Operation, Reading, Text};
+use cx_base::{Blob, EntityName, EntityType, Operation, Reading, Text};
 use cx_rotate::{Generations, View};
-use std::alloc::{AllocError, Global};
 
 /// The monitor issued a ticket. Its number is its place among the issued tickets of the journal.
 #[derive(Debug, PartialEq, Eq, Drop)]
@@ -101,15 +100,4 @@ pub enum Entry {
     Handled(Handled),
     Answered(Answered),
     Refused(Refused),
-}
-
-impl Duplicate for Fetched {
-    fn copy(&self, alloc: Global) -> Result<Fetched, AllocError> {
-        let daemon = self.daemon.copy(alloc)?;
-        Ok(Fetched {
-            daemon,
-            asked: self.asked,
-            generations: self.generations,
-        })
-    }
 }

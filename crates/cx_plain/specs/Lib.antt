@@ -1,0 +1,4 @@
+pub mod Changes
+pub mod Monitors
+pub mod Nodes
+pub mod Plain

@@ -1,5 +1,5 @@
 -- How the generations of a service are held.
-use Rattle.std.specs.Prelude.{ℕ, ◌≡◌, ◌+◌, List, [], ◌∷◌, Option, Some, None}
+use Rattle.std.specs.Prelude.{◌≡◌, ◌+◌, List, [], ◌∷◌, Option, Some, None}
 use Rattle.cx_rotate.specs.declared.generations.Generation.{Generation}
 use Rattle.cx_rotate.specs.declared.generations.Three.{Three}
 
@@ -18,3 +18,7 @@ IsRising _ = ⊥
 abbrev pub held_of : List Generation → Option Three
 held_of (a ∷ b ∷ c ∷ []) = Some (record { previous = a; current = b; next = c })
 held_of _ = None
+
+-- three whose ids don't rise by one
+abbrev pub HasGap : List Generation → Type 0
+HasGap all = IsRising all → ⊥

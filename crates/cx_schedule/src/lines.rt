@@ -1,6 +1,6 @@
 //! The lines of a schedule.
 
-use cx_base::{Duplicate, EntityName, EntityType, Items, Operation, Reading, Text};
+use cx_base::{Duplicate, EntityName, EntityType, Items, Operation, Reading, Text, copy_items};
 use std::alloc::{AllocError, Global};
 
 /// The caps text that an entity has for a service.
@@ -38,5 +38,40 @@ impl Duplicate for Grant {
             service: self.service,
             caps,
         })
+    }
+}
+
+impl Duplicate for Line {
+    fn copy(&self, alloc: Global) -> Result<Line, AllocError> {
+        match self {
+            Line::Lifetime(seconds) => Ok(Line::Lifetime(*seconds)),
+            Line::AuthLifetime(seconds) => Ok(Line::AuthLifetime(*seconds)),
+            Line::Entity(name, grants) => {
+                let name = name.copy(alloc)?;
+                let grants = copy_items(alloc, grants)?;
+                Ok(Line::Entity(name, grants))
+            }
+            Line::Clock(reading) => Ok(Line::Clock(*reading)),
+            Line::Fetch(daemon) => {
+                let daemon = daemon.copy(alloc)?;
+                Ok(Line::Fetch(daemon))
+            }
+            Line::Login(client, asked) => {
+                let client = client.copy(alloc)?;
+                let asked = copy_items(alloc, asked)?;
+                Ok(Line::Login(client, asked))
+            }
+            Line::Connect(client, daemon) => {
+                let client = client.copy(alloc)?;
+                let daemon = daemon.copy(alloc)?;
+                Ok(Line::Connect(client, daemon))
+            }
+            Line::Send(client, daemon, operation) => {
+                let client = client.copy(alloc)?;
+                let daemon = daemon.copy(alloc)?;
+                let operation = operation.copy(alloc)?;
+                Ok(Line::Send(client, daemon, operation))
+            }
+        }
     }
 }

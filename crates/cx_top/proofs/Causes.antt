@@ -10,10 +10,10 @@ use Rattle.cx_top.specs.Refusals.{IsBytesCause, IsInputCause, IsTooLong}
 
 too_long : (left now : Option (List ℕ)) (bytes : List ℕ) → GaveAll left now bytes → length bytes ≤ 1048576 → IsScheduleCause bytes refusal.TooLong → IsTooLong left now
 too_long None now bytes all short cause = tt
-too_long (Some left) now bytes all short cause =
-    ( rw (← all.0) cause
-    , rw (← all.0, all.1, drop_of_length-le bytes {i = 1048577} (omega arith)) refl
-    )
+too_long (Some left) now bytes all short cause = (
+  rw (← all.0) cause,
+  rw (← all.0, all.1, drop_of_length-le bytes {i = 1048577} (omega arith)) refl,
+)
 
 status_cause : (status : Status) (left now : Option (List ℕ)) (bytes : List ℕ) (before after : ℕ) → GaveAll left now bytes → length bytes ≤ 1048576 → IsBytesCause bytes status → IsInputCause left now before after status
 status_cause TooLong left now bytes before after all short cause = too_long left now bytes all short cause

@@ -15,7 +15,7 @@ gave_more (Some left) (Some rest) new given into after n gave gives is =
 pub past_limit : (old now : Option (List ℕ)) (given : List ℕ) → Gave old now given → length given ≡ 1048577 → IsPastLimit old now
 past_limit None now given gave is = tt
 past_limit (Some left) None given gave is = absurd gave
-past_limit (Some left) (Some rest) given gave is =
-    ( (let more : length left ≡ length given + length rest = rw (gave, length-append) refl in omega arith)
-    , rw (gave, ← is, drop-append_seam given rest) refl
-    )
+past_limit (Some left) (Some rest) given gave is = (
+  (let more : length left ≡ length given + length rest = rw (gave, length-append) refl in omega arith),
+  rw (gave, ← is, drop-append_seam given rest) refl,
+)

@@ -17,12 +17,7 @@ use std::alloc::Global;
 
 /// Does what these words of the command line ask for. The one command is `replay`: it reads a schedule from `input`, up to
 /// its end or one byte above the limit, and writes its journal to `out`.
-pub fn run<I: Source, O: Sink>(
-    alloc: Global,
-    words: &[&str],
-    input: &mut I,
-    out: &mut O,
-) -> Status
+pub fn run<I: Source, O: Sink>(alloc: Global, words: &[&str], input: &mut I, out: &mut O) -> Status
     ensures usage { (result ≡ Status.Usage) ↔ (map (λ w. w.now) words.now ≢ codes "replay" ∷ []) }
 
     ensures read { result ≡ Status.ReadFault → Rose (I.faults input.old) (I.faults input.new) }

@@ -240,22 +240,36 @@ const BAD_LINES: [(&str, LineFault); 26] = [
     ("lifetime 31536001", LineFault::BadNumber),
     ("fetch osd", LineFault::BadName),
     ("fetch osd.", LineFault::BadName),
-    ("entity client.0123456789012345678901234567890123456789012345678901234567890123x", LineFault::BadName),
+    (
+        "entity client.0123456789012345678901234567890123456789012345678901234567890123x",
+        LineFault::BadName,
+    ),
     ("login client.a osd,osd", LineFault::BadText),
     ("entity client.b osd \"allow *", LineFault::Missing),
     ("entity client.b osd \"allow", LineFault::BadText),
-    ("send client.a osd.0 read rbd - obj\u{e9} -", LineFault::BadText),
-    ("send client.a osd.0 read rbd - obj1 686", LineFault::BadText),
+    (
+        "send client.a osd.0 read rbd - obj\u{e9} -",
+        LineFault::BadText,
+    ),
+    (
+        "send client.a osd.0 read rbd - obj1 686",
+        LineFault::BadText,
+    ),
     ("fetch osd.1", LineFault::UnknownNode),
     ("login osd.0", LineFault::UnknownNode),
     ("entity client.a", LineFault::Repeated),
-    ("entity client.b osd \"allow *\" osd \"allow *\"", LineFault::Repeated),
+    (
+        "entity client.b osd \"allow *\" osd \"allow *\"",
+        LineFault::Repeated,
+    ),
 ];
 
 #[test]
 fn the_first_fault_of_a_line_is_told(rt: HostRuntime) -> Result<(), AllocError> {
     for (line, why) in &BAD_LINES {
-        let input = format!(in rt.alloc(); "entity client.a osd \"allow *\"\nentity osd.0\n{line}\nclock 1\n")?;
+        let input = format!(in rt.alloc();
+            "entity client.a osd \"allow *\"\nentity osd.0\n{line}\nclock 1\n"
+        )?;
         let (status, sink) = run_over(rt.alloc(), &["replay"], input.as_bytes(), &[], ROOM)?;
         assert_eq!(rt; status, Status::BadSchedule(3, *why), "{}", line);
         assert_eq!(rt; sink.taken().len(), 0, "{}", line);
@@ -335,10 +349,11 @@ fn both_limits_are_reached_and_not_passed(rt: HostRuntime) -> Result<(), AllocEr
 }
 
 #[test]
-fn the_sentence_of_a_bad_line_has_its_number_and_its_fault(rt: HostRuntime) -> Result<(), AllocError> {
+fn the_sentence_of_a_bad_line_has_its_number_and_its_fault(
+    rt: HostRuntime,
+) -> Result<(), AllocError> {
     let sentence = format!(in rt.alloc(); "{}", Status::BadSchedule(3, LineFault::BadName))?;
-    assert_eq!(
-        rt;
+    assert_eq!(rt;
         sentence.as_str(),
         "line 3 of the schedule is outside of its grammar: a word is no name of an entity, as client.admin or osd.0; \
         write a type, a point and an id of 1 to 64 letters, digits or _ - . : + /, as in: osd.0"

@@ -9,4 +9,4 @@ returns-clause-gives c =
     let count : c.give-count.result ≡ min (length c.args.self.now.left) (length c.args.into.now) = cc in
     let front : take c.give-count.result c.give-count.new.into ≡ take c.give-count.result c.args.self.now.left = cc in
     gives_front c.self.inside.bytes c.args.self.now.left c.give-count.new.into c.self.inside.place c.give-count.result (length c.args.into.now)
-        is_left c.requires count front
+    is_left c.requires count front

@@ -1,0 +1,5 @@
+pub mod Field
+pub mod Cipher
+pub mod Inverse
+pub mod Schedule
+pub mod KeyOf

@@ -1,0 +1,5 @@
+pub mod Blocks
+pub mod Chaining
+pub mod Padding
+pub mod Contents
+pub mod Head

@@ -1,0 +1,41 @@
+use Rattle.std.proofs.Common.{◌≡◌, ◌%◌, ◌≤◌, length, sym, ap, ◌∙◌, arith}
+use Rattle.std.proofs.lemmas.List.Elements.{All-from_get_or}
+use Rattle.cx_aes.specs.KeyOf.{key_of}
+use Rattle.cx_cbc.proofs.Contents.{whole-opens, whole-decrypted, decrypted-opens, opens_found, enveloped-one, IsByte}
+use Rattle.cx_cbc.proofs.opening.open.Goals as goal
+
+pub returns-then-sealed-ne0-clause-unopened : goal.returns-then-sealed-ne0-clause-unopened
+returns-then-sealed-ne0-clause-unopened c = λ _ content opens.
+    let whole = whole-opens (key_of c.args.key.now) c.args.sealed.now content c.args.key.now.expanded.block opens in
+    let not = c.if-sealed-ne0.true in
+    omega arith
+
+pub content_of-requires : goal.content_of-requires
+content_of-requires c =
+    ap (λ xs. length xs % 16) (c.bytes.ensures ∙ c.in_ok-plain.ensures)
+    ∙ whole-decrypted (key_of c.args.key.now) c.args.sealed.now c.args.key.now.expanded.block
+    (All-from_get_or IsByte c.args.sealed.now 0 (λ i lt. omega (arith, c.type_inv.sealed i)))
+
+pub returns-in_default-clause-unopened : goal.returns-in_default-clause-unopened
+returns-in_default-clause-unopened c = λ _ content opens.
+    let none = c.in_default.ensures.none in
+    none content (c.bytes.ensures ∙ c.in_ok-plain.ensures ∙ decrypted-opens (key_of c.args.key.now) c.args.sealed.now content c.args.key.now.expanded.block opens)
+
+pub returns-then-content-gt-LONGEST-clause-unopened : goal.returns-then-content-gt-LONGEST-clause-unopened
+returns-then-content-gt-LONGEST-clause-unopened c = λ _ content opens.
+    let same : c.in-Some.content.now ≡ content = enveloped-one c.in-Some.content.now content
+    (sym c.in-Some.ensures.found ∙ c.bytes.ensures ∙ c.in_ok-plain.ensures
+    ∙ decrypted-opens (key_of c.args.key.now) c.args.sealed.now content c.args.key.now.expanded.block opens) in
+    let len : length c.in-Some.content.now ≡ length content = ap length same in
+    let size = opens.size in
+    let long = c.if-content-gt-LONGEST.true in
+    omega arith
+
+pub returns-clause-opened : goal.returns-clause-opened
+returns-clause-opened c =
+    let short : length c.in-Some.content.now ≤ 1048576 = c.if-content-gt-LONGEST.false in
+    let whole : length c.args.sealed.now % 16 ≡ 0 = omega arith in
+    let opens = opens_found (key_of c.args.key.now) c.args.sealed.now c.in-Some.content.now c.args.key.now.expanded.block
+    (All-from_get_or IsByte c.args.sealed.now 0 (λ i lt. omega (arith, c.type_inv.sealed i))) whole short
+    (sym (c.bytes.ensures ∙ c.in_ok-plain.ensures) ∙ c.in-Some.ensures.found) in
+    rw c.in_ok-content.ensures opens

@@ -1,0 +1,55 @@
+//! Cipher block chaining, both ways.
+
+ghost use Rattle.std.specs.Prelude.{◌≡◌, IfOk};
+ghost use Rattle.std.specs.List.{concat};
+ghost use Rattle.cx_aes.specs.Cipher.{add};
+ghost use Rattle.cx_aes.specs.KeyOf.{key_of};
+ghost use Rattle.cx_cbc.specs.Chain.{blocks_of, cbc, uncbc};
+ghost use Rattle.cx_cbc.specs.Envelope.{initial_vector};
+
+use cx_aes::Schedule;
+use cx_base::Blob;
+use std::alloc::{AllocError, Global};
+
+/// The initial vector of every envelope.
+pub(crate) const INITIAL_VECTOR: [u8; 16] = *b"cephsageyudagreg";
+
+// The cipher texts of the whole blocks.
+pub(crate) fn chained(alloc: Global, key: &Schedule, plain: &[u8]) -> Result<Blob, AllocError>
+    ensures { IfOk result (λ sealed. sealed ≡ concat (cbc (key_of key.now) initial_vector (blocks_of plain.now))) }
+{
+    let mut sealed = Blob::new(alloc);
+    let mut before = INITIAL_VECTOR;
+    let (blocks, _rest) = plain.as_chunks::<16>();
+    for block in blocks {
+        before = key.encrypt(&add(block, &before));
+        sealed.append(alloc, &before)?;
+    }
+    Ok(sealed)
+}
+
+// The blocks whose cipher texts these whole blocks are.
+pub(crate) fn unchained(alloc: Global, key: &Schedule, sealed: &[u8]) -> Result<Blob, AllocError>
+    ensures { IfOk result (λ plain. plain ≡ concat (uncbc (key_of key.now) initial_vector (blocks_of sealed.now))) }
+{
+    let mut plain = Blob::new(alloc);
+    let mut before = INITIAL_VECTOR;
+    let (blocks, _rest) = sealed.as_chunks::<16>();
+    for block in blocks {
+        let sum = add(&key.decrypt(block), &before);
+        plain.append(alloc, &sum)?;
+        before = *block;
+    }
+    Ok(plain)
+}
+
+// The sum of the bytes at each place.
+pub(crate) fn add(first: &[u8; 16], second: &[u8; 16]) -> [u8; 16]
+    ensures { result ≡ add first.now second.now }
+{
+    let mut sum = [0u8; 16];
+    for place in 0..16usize {
+        sum[place] = first[place] ^ second[place];
+    }
+    sum
+}

@@ -1,0 +1,68 @@
+//! The envelope before it is encrypted.
+
+ghost use Rattle.std.specs.Prelude.{◌≡◌, ◌==◌, ℕ, ◌%◌, List, IfOk, IfSome, IfNone, length};
+ghost use Rattle.std.specs.List.{list_all};
+ghost use Rattle.cx_cbc.specs.Envelope.{enveloped, padded};
+
+use cx_base::Blob;
+use std::alloc::{AllocError, Global};
+
+/// Version 1, and the magic number 0xff009cad8826aa55, its lowest byte first.
+const HEAD: [u8; 9] = [1, 0x55, 0xaa, 0x26, 0x88, 0xad, 0x9c, 0x00, 0xff];
+
+/// The fewest bytes of padding.
+const FEWEST: usize = 1;
+
+/// The most bytes of padding.
+const MOST: usize = 16;
+
+// The envelope of a content.
+pub(crate) fn enveloped(alloc: Global, content: &[u8]) -> Result<Blob, AllocError>
+    ensures { IfOk result (λ plain. plain ≡ enveloped content.now) }
+{
+    let mut plain = Blob::of(alloc, &HEAD)?;
+    plain.append(alloc, content)?;
+    let missing = 16 - plain.bytes().len() % 16;
+    let fill = [missing as u8; 16];
+    plain.append(alloc, &fill[..missing])?;
+    Ok(plain)
+}
+
+// The content of an envelope, in whole blocks.
+pub(crate) fn content_of(plain: &[u8]) -> Option<&[u8]>
+    requires { length plain.now % 16 ≡ 0 }
+    ensures found { IfSome result (λ content. plain.now ≡ enveloped content.now) }
+    ensures none { IfNone result ((content : List ℕ) → plain.now ≡ enveloped content → ⊥) }
+{
+    let bytes = without_padding(plain)?;
+    bytes.strip_prefix(&HEAD)
+}
+
+// The bytes before the padding.
+fn without_padding(plain: &[u8]) -> Option<&[u8]>
+    requires { length plain.now % 16 ≡ 0 }
+    ensures found { IfSome result (λ bytes. plain.now ≡ padded bytes.now) }
+    ensures none { IfNone result ((bytes : List ℕ) → plain.now ≡ padded bytes → ⊥) }
+{
+    let last = *plain.last()?;
+    let missing = last as usize;
+    if missing < FEWEST {
+        return None;
+    }
+    if missing > MOST {
+        return None;
+    }
+    let (bytes, fill) = plain.split_at(plain.len() - missing);
+    if is_filled(fill, last) {
+        Some(bytes)
+    } else {
+        None
+    }
+}
+
+// Whether each byte is this one.
+fn is_filled(bytes: &[u8], byte: u8) -> bool
+    ensures { result ≡ list_all (λ b. b == byte) bytes.now }
+{
+    bytes.iter().all(|b| *b == byte)
+}

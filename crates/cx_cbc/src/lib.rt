@@ -1,0 +1,16 @@
+//! The sealed envelope of a content: version and magic number in front, PKCS#7 behind, encrypted by AES-128 in cipher
+//! block chaining with a fixed initial vector.
+#![tactic(auto)]
+
+mod chain;
+mod envelope;
+mod opening;
+mod refusals;
+mod sealing;
+
+pub use opening::{open, opens_one_content};
+pub use refusals::{OpenRefusal, SealRefusal};
+pub use sealing::{seal, seal_16};
+
+/// The bytes of the longest content.
+pub const LONGEST: usize = 1_048_576;

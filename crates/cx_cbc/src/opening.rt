@@ -1,0 +1,37 @@
+//! Opening.
+
+ghost use Rattle.std.specs.Prelude.{◌≡◌, ℕ, List, IfOk};
+ghost use Rattle.cx_aes.specs.KeyOf.{key_of};
+ghost use Rattle.cx_cbc.specs.Envelope.{Opens, OpensOne};
+
+use crate::LONGEST;
+use crate::chain::unchained;
+use crate::envelope::content_of;
+use crate::refusals::OpenRefusal;
+use cx_aes::Schedule;
+use cx_base::Blob;
+use std::alloc::Global;
+
+/// The content of a sealed envelope.
+pub fn open(alloc: Global, key: &Schedule, sealed: &[u8]) -> Result<Blob, OpenRefusal>
+    ensures opened { IfOk result (λ content. Opens (key_of key.now) sealed.now content) }
+    ensures unopened { result ≡ Err OpenRefusal.Unopened → (content : List ℕ) → Opens (key_of key.now) sealed.now content → ⊥ }
+{
+    if sealed.len() % 16 != 0 {
+        return Err(OpenRefusal::Unopened);
+    }
+    let plain = unchained(alloc, key, sealed)?;
+    let Some(content) = content_of(plain.bytes()) else {
+        return Err(OpenRefusal::Unopened);
+    };
+    if content.len() > LONGEST {
+        return Err(OpenRefusal::Unopened);
+    }
+    let content = Blob::of(alloc, content)?;
+    Ok(content)
+}
+
+/// Bytes open to one content at most, under a key of 16 bytes.
+pub fn opens_one_content()
+    ensures { OpensOne }
+{}

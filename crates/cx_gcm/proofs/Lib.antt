@@ -1,0 +1,4 @@
+pub mod Shifts
+pub mod Products
+pub mod KeyStream
+pub mod Padding

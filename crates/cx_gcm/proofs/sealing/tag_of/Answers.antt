@@ -1,0 +1,17 @@
+use Rattle.std.proofs.Common.{◌/◌, length, ap, ◌∙◌, sym}
+use Rattle.cx_aes.specs.KeyOf.{key_of}
+use Rattle.cx_gcm.specs.Blocks.{number, spelled}
+use Rattle.cx_gcm.specs.Gcm.{gctr, ghash, hashed, nonce_block, subkey, tag_of}
+use Rattle.cx_gcm.proofs.KeyStream.{nonce_block-counted}
+use Rattle.cx_gcm.proofs.sealing.tag_of.Goals as goal
+
+pub returns : goal.returns
+unfolding tag_of subkey
+returns c =
+    let key = key_of c.args.key.now in
+    let nonce = c.args.nonce.now in
+    let text = hashed c.args.cipher.now in
+    c.add_key_stream.ensures.text
+    ∙ ap (λ b. gctr key b c.hash-tag.result) (sym (nonce_block-counted nonce))
+    ∙ ap (λ s. gctr key (nonce_block nonce) s)
+    (c.hash-tag.ensures ∙ ap (λ h. spelled (ghash h text (length text / 16))) (c.new-multiples.ensures ∙ ap number c.encrypt.ensures))

@@ -1,0 +1,4 @@
+pub mod Blocks
+pub mod Gcm
+pub mod Multiples
+pub mod Key

@@ -1,0 +1,109 @@
+//! The line of each kind of entry. What a line says of the entries before it is given as a number.
+
+ghost use Rattle.std.specs.Prelude.{◌≡◌, IfOk, string_bytes};
+ghost use Rattle.cx_journal.specs.JournalText.{saved_line, issued_line, fetched_line, looked_line, admitted_line, sent_line, handled_line, answered_line, ticket_text, refused_line};
+
+use crate::entries::{Admitted, Answered, Fetched, Handled, Issued, Looked, Refused, Sent};
+use crate::words::{Asked, Ids, Seconds, operation_text};
+use std::alloc::{AllocError, Global};
+use std::fmt::Write;
+
+pub fn saved_line(alloc: Global, next: u64) -> Result<String, AllocError>
+    ensures { IfOk result (λ line. string_bytes line ≡ saved_line next) }
+{
+    format!(in alloc; "saved {}\n", next)
+}
+
+pub fn issued_line(alloc: Global, number: u64, t: &Issued) -> Result<String, AllocError>
+    ensures { IfOk result (λ line. string_bytes line ≡ issued_line number t.now) }
+{
+    let mut line = format!(in alloc; "issued {} {} {} {}", number, t.entity, t.service, t.gid)?;
+    write!(
+        line,
+        " {} {} {} \"{}\"\n",
+        t.generation,
+        Seconds(t.created),
+        Seconds(t.expires),
+        t.caps
+    )?;
+    Ok(line)
+}
+
+pub fn fetched_line(alloc: Global, f: &Fetched) -> Result<String, AllocError>
+    ensures { IfOk result (λ line. string_bytes line ≡ fetched_line f.now) }
+{
+    format!(in alloc;
+        "fetched {} {} {}\n",
+        f.daemon,
+        Seconds(f.asked),
+        Ids(f.generations)
+    )
+}
+
+pub fn looked_line(alloc: Global, l: &Looked) -> Result<String, AllocError>
+    ensures { IfOk result (λ line. string_bytes line ≡ looked_line l.now) }
+{
+    format!(in alloc;
+        "looked {} {} {} {}\n",
+        l.daemon,
+        l.link,
+        Ids(l.view.generations),
+        Asked(l.view.asked)
+    )
+}
+
+pub fn admitted_line(alloc: Global, rank: u64, a: &Admitted) -> Result<String, AllocError>
+    ensures { IfOk result (λ line. string_bytes line ≡ admitted_line rank a.now) }
+{
+    let mut line = format!(in alloc;
+        "admitted {} {} {} c{} {}",
+        a.daemon, a.session, a.epoch, rank, a.entity
+    )?;
+    write!(line, " {} {} \"{}\"\n", a.gid, Seconds(a.at), a.caps)?;
+    Ok(line)
+}
+
+pub fn sent_line(alloc: Global, rank: u64, s: &Sent) -> Result<String, AllocError>
+    ensures { IfOk result (λ line. string_bytes line ≡ sent_line rank s.now) }
+{
+    let operation = operation_text(alloc, &s.operation)?;
+    format!(in alloc;
+        "sent {} {} c{} {} {}\n",
+        s.client, s.daemon, rank, s.seq, operation
+    )
+}
+
+pub fn handled_line(alloc: Global, rank: u64, h: &Handled) -> Result<String, AllocError>
+    ensures { IfOk result (λ line. string_bytes line ≡ handled_line rank h.now) }
+{
+    let operation = operation_text(alloc, &h.operation)?;
+    let mut line = format!(in alloc; "handled {} {} {} c{}", h.daemon, h.session, h.epoch, rank)?;
+    write!(line, " {} {} {}\n", h.seq, operation, h.outcome)?;
+    Ok(line)
+}
+
+pub fn answered_line(alloc: Global, a: &Answered) -> Result<String, AllocError>
+    ensures { IfOk result (λ line. string_bytes line ≡ answered_line a.now) }
+{
+    format!(in alloc;
+        "answered {} {} {} {}\n",
+        a.client, a.daemon, a.tid, a.outcome
+    )
+}
+
+/// The number is that of the refused ticket.
+pub fn refused_line(alloc: Global, number: Option<u64>, r: &Refused) -> Result<String, AllocError>
+    ensures { IfOk result (λ line. string_bytes line ≡ refused_line number r.now) }
+{
+    let ticket = ticket_text(alloc, number)?;
+    format!(in alloc; "refused {} {} {}{}\n", r.node, r.link, r.reason, ticket)
+}
+
+fn ticket_text(alloc: Global, number: Option<u64>) -> Result<String, AllocError>
+    ensures { IfOk result (λ text. string_bytes text ≡ ticket_text number) }
+{
+    match number {
+        None => String::from_str(alloc, ""),
+        Some(number) => format!(in alloc; " ticket={}", number),
+    }
+}

@@ -1,0 +1,53 @@
+-- Entries that come behind a journal, and lists that are changed or searched.
+use Rattle.std.proofs.Common.{◌≡◌, ℕ, zero, suc, ◌+◌, ◌<◌, List, [], ◌∷◌, ◌++◌, length, get_or, take, drop, Bool, true, false, cond, Option, Some, None, refl, ap, sym, ◌∙◌, append_assoc, arith, drop-cons}
+use Rattle.std.specs.Prelude.{find}
+use Rattle.std.specs.List.{Contains, AllByRecursion}
+use Rattle.std.proofs.lemmas.List.{append-nil, take-append-drop}
+use Rattle.cx_journal.specs.Behind.{EachBehind}
+use Rattle.cx_journal.specs.declared.entries.Entry.{Entry}
+use Rattle.cx_plain.specs.Changes.{changed}
+
+subst_nil : (P : List Entry → Entry → Type 0) (earlier : List Entry) (e : Entry) → P (earlier ++ []) e → P earlier e
+subst_nil P earlier e last = rw (append-nil earlier) at last
+
+-- one entry more keeps what is said of each entry, where it is said of that one
+pub behind-push : (P : List Entry → Entry → Type 0) (earlier es : List Entry) (e : Entry) → EachBehind P earlier es → P (earlier ++ es) e → EachBehind P earlier (es ++ e ∷ [])
+behind-push P earlier [] e each last = (subst_nil P earlier e last, tt)
+behind-push P earlier (x ∷ es) e each last =
+    (each.0, behind-push P (earlier ++ x ∷ []) es e each.1 (rw (append_assoc earlier (x ∷ []) es) last))
+
+-- what is contained stands between two parts
+pub contains-split : {X : Type 0} (xs : List X) (x : X) → Contains xs x → (before : List X) × (after : List X) × (xs ≡ before ++ x ∷ after)
+contains-split xs x held =
+    let whole : drop held.0 xs ≡ x ∷ drop (suc held.0) xs = drop-cons xs held.0 x held.1 ∙ ap (λ y. y ∷ drop (suc held.0) xs) held.2 in
+    (take held.0 xs, drop (suc held.0) xs, sym (take-append-drop held.0 xs) ∙ ap (λ ys. take held.0 xs ++ ys) whole)
+
+-- what holds of each item holds of each where it implies another
+pub all-weaker : {X : Type 0} (P Q : X → Type 0) → ((x : X) → P x → Q x) → (xs : List X) → AllByRecursion P xs → AllByRecursion Q xs
+all-weaker P Q weaker [] all = all
+all-weaker P Q weaker (x ∷ xs) all = (weaker x all.0, all-weaker P Q weaker xs all.1)
+
+pub all-push : {X : Type 0} (P : X → Type 0) (xs : List X) (x : X) → AllByRecursion P xs → P x → AllByRecursion P (xs ++ x ∷ [])
+all-push P [] x all last = (last, all)
+all-push P (y ∷ xs) x all last = (all.0, all-push P xs x all.1 last)
+
+all-changed_at : {X : Type 0} (P : X → Type 0) (p : X → Bool) (f : X → X) → ((x : X) → p x ≡ true → P x → P (f x)) → (x : X) (xs : List X) (b : Bool) → p x ≡ b → AllByRecursion P (x ∷ xs) → AllByRecursion P (changed p f xs) → AllByRecursion P (changed p f (x ∷ xs))
+all-changed_at P p f keeps x xs true e all behind = rw e (keeps x e all.0, all.1)
+all-changed_at P p f keeps x xs false e all behind = rw e (all.0, behind)
+
+-- a change keeps what it keeps of the item changed
+pub all-changed : {X : Type 0} (P : X → Type 0) (p : X → Bool) (f : X → X) → ((x : X) → p x ≡ true → P x → P (f x)) → (xs : List X) → AllByRecursion P xs → AllByRecursion P (changed p f xs)
+all-changed P p f keeps [] all = all
+all-changed P p f keeps (x ∷ xs) all = all-changed_at P p f keeps x xs (p x) refl all (all-changed P p f keeps xs all.1)
+
+all-find_at : {X : Type 0} (P : X → Type 0) (p : X → Bool) (y : X) (xs : List X) (x : X) (b : Bool) → p y ≡ b → AllByRecursion P (y ∷ xs) → find p (y ∷ xs) ≡ Some x → (find p xs ≡ Some x → P x × (p x ≡ true)) → P x × (p x ≡ true)
+all-find_at P p y xs x true e all found behind =
+    let there : Some y ≡ Some x = rw e at found in
+    let same : y ≡ x = cc in
+    rw (← same) (all.0, e)
+all-find_at P p y xs x false e all found behind = behind (rw e at found)
+
+-- what is found passes, and what holds of each item holds of it
+pub all-find : {X : Type 0} (P : X → Type 0) (p : X → Bool) (xs : List X) (x : X) → AllByRecursion P xs → find p xs ≡ Some x → P x × (p x ≡ true)
+all-find P p [] x all found = cc
+all-find P p (y ∷ xs) x all found = all-find_at P p y xs x (p y) refl all found (λ e. all-find P p xs x all.1 e)

@@ -1,0 +1,9 @@
+pub mod Behind
+pub mod Changed
+pub mod Delivers
+pub mod Lawful
+pub mod Laws
+pub mod Names
+pub mod Presents
+pub mod Steps
+pub mod Timely

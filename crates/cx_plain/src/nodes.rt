@@ -1,0 +1,258 @@
+//! The daemons and clients of a run.
+
+ghost use Rattle.std.specs.Prelude.{◌≡◌, [], ◌∷◌, ◌++◌, true, find, OnOk, position};
+ghost use Rattle.std.specs.Option.{option_copied};
+ghost use Rattle.cx_plain.specs.Changes.{changed};
+ghost use Rattle.cx_plain.specs.Nodes.{is_named, is_with, new_node};
+
+use crate::wallets::Wallet;
+use cx_base::{EntityName, Items};
+use cx_rotate::{Generations, View};
+use cx_schedule::Grant;
+use std::alloc::{AllocError, Global};
+use std::marker::Model;
+
+/// How far a session is.
+#[derive(Clone, Copy, Debug)]
+pub struct Place {
+    /// The daemon's number of the session, from 1.
+    pub number: u64,
+    pub cookie: u64,
+    /// The last seq that was sent; 0 at the start.
+    pub seq: u64,
+}
+
+/// A client's session with a daemon.
+#[derive(Debug, Drop)]
+pub struct Session {
+    pub daemon: EntityName,
+    pub place: Place,
+}
+
+/// A client's sessions, at most one with each daemon.
+#[derive(Debug, Drop)]
+pub struct Sessions {
+    held: Vec<Session>,
+}
+
+impl Model for Sessions {
+    ghost use Rattle.std.specs.Prelude.{List};
+    ghost use Rattle.cx_plain.specs.declared.nodes.Session.{Session};
+
+    ghost Value = { List Session };
+
+    ghost view = { λ s. s.held.items };
+}
+
+impl Sessions {
+    /// No sessions.
+    pub fn new(alloc: Global) -> Sessions
+        ensures { result ≡ [] }
+    {
+        Sessions {
+            held: Vec::new(alloc),
+        }
+    }
+
+    /// The session with this daemon.
+    pub fn find(&self, daemon: &EntityName) -> Option<&Session>
+        ensures { option_copied result ≡ find (is_with daemon.now) self.now }
+    {
+        self.held.iter().find(|session| session.daemon == *daemon)
+    }
+
+    /// Puts a session last.
+    pub fn push(&mut self, session: Session) -> Result<(), AllocError>
+        ensures { OnOk result (self.new ≡ self.old ++ session ∷ []) }
+    {
+        self.held.push(session)?;
+        Ok(())
+    }
+
+    /// Sets the last seq of the session with this daemon.
+    pub fn set_seq(&mut self, daemon: &EntityName, seq: u64)
+        ensures { self.new ≡ changed (is_with daemon.now) (λ s. record s { place = record s.place { seq = seq } }) self.old }
+    {
+        set_seq(&mut self.held, daemon, seq);
+    }
+}
+
+fn session_place(sessions: &[Session], daemon: &EntityName) -> Option<usize>
+    ensures { result ≡ position (is_with daemon.now) sessions.now }
+{
+    sessions
+        .iter()
+        .position(|session| session.daemon == *daemon)
+}
+
+fn set_seq(sessions: &mut [Session], daemon: &EntityName, seq: u64)
+    ensures { sessions.new ≡ changed (is_with daemon.now) (λ s. record s { place = record s.place { seq = seq } }) sessions.old }
+{
+    if let Some(place) = session_place(sessions, daemon) {
+        sessions[place].place.seq = seq;
+    }
+}
+
+/// An entity of the run with all that it holds.
+#[derive(Debug, Drop)]
+pub struct Node {
+    pub name: EntityName,
+    /// The caps texts that the monitor has for the entity.
+    pub grants: Items<Grant>,
+    pub wallet: Wallet,
+    /// A client's sessions.
+    pub sessions: Sessions,
+    /// A daemon's view.
+    pub view: View,
+    /// Whether the entity ever entered.
+    pub has_entered: bool,
+    /// How many sessions the daemon admitted.
+    pub admitted: u64,
+}
+
+impl Node {
+    /// An entity that was just declared.
+    pub fn new(alloc: Global, name: EntityName, grants: Items<Grant>) -> Node
+        ensures { result ≡ new_node name grants }
+    {
+        Node {
+            name,
+            grants,
+            wallet: Wallet::empty(),
+            sessions: Sessions::new(alloc),
+            view: View {
+                generations: Generations::empty(),
+                asked: None,
+            },
+            has_entered: false,
+            admitted: 0,
+        }
+    }
+}
+
+/// The entities in the order of their declaration.
+#[derive(Debug, Drop)]
+pub struct Nodes {
+    held: Vec<Node>,
+}
+
+impl Model for Nodes {
+    ghost use Rattle.std.specs.Prelude.{List};
+    ghost use Rattle.cx_plain.specs.declared.nodes.Node.{Node};
+
+    ghost Value = { List Node };
+
+    ghost view = { λ n. n.held.items };
+}
+
+impl Nodes {
+    /// No entities.
+    pub fn new(alloc: Global) -> Nodes
+        ensures { result ≡ [] }
+    {
+        Nodes {
+            held: Vec::new(alloc),
+        }
+    }
+
+    /// The entity of this name.
+    pub fn find(&self, name: &EntityName) -> Option<&Node>
+        ensures { option_copied result ≡ find (is_named name.now) self.now }
+    {
+        self.held.iter().find(|node| node.name == *name)
+    }
+
+    /// Puts an entity last.
+    pub fn push(&mut self, node: Node) -> Result<(), AllocError>
+        ensures { OnOk result (self.new ≡ self.old ++ node ∷ []) }
+    {
+        self.held.push(node)?;
+        Ok(())
+    }
+
+    /// The entity of this name has entered and holds these tickets.
+    pub fn set_wallet(&mut self, name: &EntityName, wallet: Wallet)
+        ensures { self.new ≡ changed (is_named name.now) (λ n. record n { wallet = wallet; has_entered = true }) self.old }
+    {
+        set_wallet(&mut self.held, name, wallet);
+    }
+
+    /// The daemon of this name has this view.
+    pub fn set_view(&mut self, name: &EntityName, view: View)
+        ensures { self.new ≡ changed (is_named name.now) (λ n. record n { view = view }) self.old }
+    {
+        set_view(&mut self.held, name, view);
+    }
+
+    /// The daemon of this name has admitted so many sessions.
+    pub fn set_admitted(&mut self, name: &EntityName, count: u64)
+        ensures { self.new ≡ changed (is_named name.now) (λ n. record n { admitted = count }) self.old }
+    {
+        set_admitted(&mut self.held, name, count);
+    }
+
+    /// The client of this name holds one session more.
+    pub fn add_session(&mut self, name: &EntityName, session: Session) -> Result<(), AllocError>
+        ensures { OnOk result (self.new ≡ changed (is_named name.now) (λ n. record n { sessions = n.sessions ++ session ∷ [] }) self.old) }
+    {
+        add_session(&mut self.held, name, session)
+    }
+
+    /// The client of this name has sent the operation of this seq in its session with the daemon.
+    pub fn set_seq(&mut self, name: &EntityName, daemon: &EntityName, seq: u64)
+        ensures { self.new ≡ changed (is_named name.now) (λ n. record n { sessions = changed (is_with daemon.now) (λ s. record s { place = record s.place { seq = seq } }) n.sessions }) self.old }
+    {
+        set_node_seq(&mut self.held, name, daemon, seq);
+    }
+}
+
+fn place_of(nodes: &[Node], name: &EntityName) -> Option<usize>
+    ensures { result ≡ position (is_named name.now) nodes.now }
+{
+    nodes.iter().position(|node| node.name == *name)
+}
+
+fn set_wallet(nodes: &mut [Node], name: &EntityName, wallet: Wallet)
+    ensures { nodes.new ≡ changed (is_named name.now) (λ n. record n { wallet = wallet; has_entered = true }) nodes.old }
+{
+    if let Some(place) = place_of(nodes, name) {
+        let node = &mut nodes[place];
+        node.wallet = wallet;
+        node.has_entered = true;
+    }
+}
+
+fn set_view(nodes: &mut [Node], name: &EntityName, view: View)
+    ensures { nodes.new ≡ changed (is_named name.now) (λ n. record n { view = view }) nodes.old }
+{
+    if let Some(place) = place_of(nodes, name) {
+        nodes[place].view = view;
+    }
+}
+
+fn set_admitted(nodes: &mut [Node], name: &EntityName, count: u64)
+    ensures { nodes.new ≡ changed (is_named name.now) (λ n. record n { admitted = count }) nodes.old }
+{
+    if let Some(place) = place_of(nodes, name) {
+        nodes[place].admitted = count;
+    }
+}
+
+fn add_session(nodes: &mut [Node], name: &EntityName, session: Session) -> Result<(), AllocError>
+    ensures { OnOk result (nodes.new ≡ changed (is_named name.now) (λ n. record n { sessions = n.sessions ++ session ∷ [] }) nodes.old) }
+{
+    if let Some(place) = place_of(nodes, name) {
+        let node = &mut nodes[place];
+        node.sessions.push(session)?;
+    }
+    Ok(())
+}
+
+fn set_node_seq(nodes: &mut [Node], name: &EntityName, daemon: &EntityName, seq: u64)
+    ensures { nodes.new ≡ changed (is_named name.now) (λ n. record n { sessions = changed (is_with daemon.now) (λ s. record s { place = record s.place { seq = seq } }) n.sessions }) nodes.old }
+{
+    if let Some(place) = place_of(nodes, name) {
+        let node = &mut nodes[place];
+        node.sessions.set_seq(daemon, seq);
+    }
+}

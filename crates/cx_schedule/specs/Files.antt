@@ -1,0 +1,65 @@
+-- A schedule as a file: its lines in order, and the first of them that is outside of the grammar.
+use Rattle.std.specs.Prelude.{ℕ, ◌+◌, ◌-◌, ◌≤◌, ◌≡◌, ◌⊎◌, Bool, true, false, List, [], ◌∷◌, ◌++◌, length, take, codes, Some, slice_index_or}
+use Rattle.std.specs.Str.{bytes_eq}
+use Rattle.cx_words.specs.Cutting.{lines_of, words_of, is_skipped}
+use Rattle.cx_schedule.specs.declared.limits.TheConstants.{MOST_BYTES, MOST_LINES}
+use Rattle.cx_schedule.specs.declared.faults.LineFault.{LineFault}
+use Rattle.cx_schedule.specs.declared.faults.LineFault.TheVariants.{UnknownWord}
+use Rattle.cx_schedule.specs.declared.faults.LineRefusal.{LineRefusal}
+use Rattle.cx_schedule.specs.declared.refusals.ScheduleRefusal.{ScheduleRefusal}
+use Rattle.cx_schedule.specs.declared.refusals.ScheduleRefusal.TheVariants.{TooLong, BadLine, NotYet, OutOfMemory}
+use Rattle.cx_schedule.specs.declared.lines.Line.{Line}
+use Rattle.cx_schedule.specs.Faults.{fault_of, begins_later, IsLineCause}
+use Rattle.cx_schedule.specs.Lines.{Spells}
+
+-- whether quotation marks group words: in an entity line alone
+abbrev pub groups : List ℕ → Bool
+groups line = bytes_eq (take 7 line) (codes "entity ")
+
+-- the words of a line
+abbrev pub line_words : List ℕ → List (List ℕ)
+line_words line = words_of (groups line) line
+
+-- behind this line of the file, these are the lines of the schedule: the earlier ones where it is skipped, and else those
+-- with the one that it spells
+abbrev pub Adds : List Line → List ℕ → List Line → Type 0
+Adds earlier line now =
+    ((is_skipped line ≡ true) × (now ≡ earlier))
+    ⊎ ((is_skipped line ≡ false) × (x : Line) × Spells earlier x (line_words line) × (now ≡ earlier ++ x ∷ []))
+
+-- why a line of the file is refused behind these lines; want of memory is free
+abbrev pub IsRefused : List Line → List ℕ → LineRefusal → Type 0
+IsRefused earlier line refusal = (is_skipped line ≡ false) × IsLineCause earlier (line_words line) refusal
+
+-- behind all of these lines, the schedule is this one
+abbrev pub Said : List Line → List (List ℕ) → List Line → Type 0
+Said earlier [] script = script ≡ earlier
+Said earlier (line ∷ lines) script = (now : List Line) × Adds earlier line now × Said now lines script
+
+-- the bytes are those of this schedule
+abbrev pub Lines : List ℕ → List Line → Type 0
+Lines bytes script = Said [] (lines_of bytes) script
+
+-- the n-th of these lines, from 1, is the first outside of the grammar, and has this fault
+abbrev pub IsFirstBad : List Line → List (List ℕ) → ℕ → LineFault → Type 0
+IsFirstBad earlier [] n why = ⊥
+IsFirstBad earlier (line ∷ lines) n why =
+    ((n ≡ 1) × (is_skipped line ≡ false) × (fault_of earlier (line_words line) ≡ Some why))
+    ⊎ ((now : List Line) × Adds earlier line now × (m : ℕ) × (n ≡ m + 1) × IsFirstBad now lines m why)
+
+-- the schedule isn't too long
+abbrev pub IsShort : List ℕ → Type 0
+IsShort bytes = (length bytes ≤ MOST_BYTES) × (length (lines_of bytes) ≤ MOST_LINES)
+
+-- whether the n-th of these lines, from 1, begins with a word of which only a later version's grammar speaks
+abbrev pub is_later_at : List (List ℕ) → ℕ → Bool
+is_later_at lines n = begins_later (line_words (slice_index_or lines (n - 1) []))
+
+-- why the bytes of a schedule are refused
+abbrev pub IsScheduleCause : List ℕ → ScheduleRefusal → Type 0
+IsScheduleCause bytes TooLong = IsShort bytes → ⊥
+IsScheduleCause bytes (BadLine n why) =
+    IsShort bytes × IsFirstBad [] (lines_of bytes) n why × (is_later_at (lines_of bytes) n ≡ false)
+IsScheduleCause bytes (NotYet n) =
+    IsShort bytes × IsFirstBad [] (lines_of bytes) n UnknownWord × (is_later_at (lines_of bytes) n ≡ true)
+IsScheduleCause bytes OutOfMemory = Unit {0}

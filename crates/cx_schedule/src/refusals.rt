@@ -1,0 +1,34 @@
+//! The refusals of a schedule.
+
+use crate::faults::LineFault;
+use std::alloc::AllocError;
+use thiserror::Error;
+
+/// Why bytes are no schedule.
+#[derive(Clone, Copy, Debug, PartialEq, Eq, Error)]
+pub enum ScheduleRefusal {
+    /// It has more bytes or more lines than a schedule may have.
+    #[error("a schedule has at most 1048576 bytes and 20000 lines")]
+    TooLong,
+    /// The line of this number, from 1, is the first outside of the grammar.
+    #[error("line {0}: {1}")]
+    BadLine(u32, LineFault),
+    /// The line of this number, from 1, is the first outside of the grammar, and begins with a word of which only a later
+    /// version's grammar speaks.
+    #[error("line {0}: this version doesn't serve lines that begin so")]
+    NotYet(u32),
+    /// Memory was wanting.
+    #[error("out of memory")]
+    OutOfMemory,
+}
+
+impl From<AllocError> for ScheduleRefusal {
+    ghost use Rattle.std.specs.Prelude.{◌≡◌};
+    ghost use Rattle.cx_schedule.specs.declared.refusals.ScheduleRefusal.TheVariants.{OutOfMemory};
+
+    ghost from_gives = { λ _ refusal. refusal ≡ OutOfMemory };
+
+    fn from(_error: AllocError) -> ScheduleRefusal {
+        ScheduleRefusal::OutOfMemory
+    }
+}

@@ -1,0 +1,123 @@
+//! Schedules and their reader.
+
+ghost use Rattle.std.specs.Prelude.{◌≡◌, ◌+◌, ◌≤◌, ◌↔◌, List, length, IfOk, IfErr, OnOk, OnErr, IsTrue};
+ghost use Rattle.std.specs.List.{list_all};
+ghost use Rattle.cx_words.specs.Cutting.{lines_of};
+ghost use Rattle.cx_schedule.specs.Files.{Adds, IsRefused, IsScheduleCause, IsShort, Lines, groups};
+ghost use Rattle.cx_schedule.specs.Lines.{is_in_range};
+
+use crate::earlier::Earlier;
+use crate::faults::LineRefusal;
+use crate::forms::line_of;
+use crate::limits::{MOST_BYTES, MOST_LINES};
+use crate::lines::Line;
+use crate::refusals::ScheduleRefusal;
+use cx_base::Items;
+use cx_words::{first_line, is_skipped, words};
+use std::alloc::{AllocError, Global};
+use std::marker::Model;
+
+/// A schedule: its lines in order, without those that are empty or comments.
+#[derive(Debug, Drop)]
+pub struct Script {
+    lines: Items<Line>,
+}
+
+impl Model for Script {
+    ghost use Rattle.std.specs.Prelude.{List};
+    ghost use Rattle.cx_schedule.specs.declared.lines.Line.{Line};
+
+    ghost Value = { List Line };
+
+    ghost view = { λ s. s.lines };
+}
+
+impl Script {
+    /// The lines.
+    pub fn lines(&self) -> &[Line]
+        ensures { result.now ≡ self.now }
+    {
+        self.lines.all()
+    }
+}
+
+/// Reads a schedule: ASCII lines ended by LF, the last one's may be left out. Numbers of lines count from 1, and empty lines
+/// and comments count too.
+#[tactic(auto, using(crate::proofs::Whole::only_memory))]
+pub fn read(alloc: Global, bytes: &[u8]) -> Result<Script, ScheduleRefusal>
+    // The lines of the bytes, or the first of them that is outside of the grammar, or too many bytes or lines.
+    ensures found { IfOk result (λ s. Lines bytes.now s) }
+    ensures short { OnOk result (IsShort bytes.now) }
+    ensures bad { IfErr result (IsScheduleCause bytes.now) }
+    // Where the bytes are a schedule, it is read, or memory is wanting.
+    ensures only { (s : List Line) → IsShort bytes.now → Lines bytes.now s → IfErr result (λ e. e ≡ ScheduleRefusal.OutOfMemory) }
+    // What may be relied on.
+    ensures few { IfOk result (λ s. length s ≤ 20000) }
+    ensures in_range { IfOk result (λ s. IsTrue (list_all is_in_range s)) }
+{
+    if !is_short(bytes) {
+        return Err(ScheduleRefusal::TooLong);
+    }
+    let lines = read_lines(alloc, bytes)?;
+    Ok(Script { lines })
+}
+
+fn read_lines(alloc: Global, bytes: &[u8]) -> Result<Items<Line>, ScheduleRefusal>
+    requires { IsShort bytes.now }
+    ensures found { IfOk result (λ s. Lines bytes.now s) }
+    ensures bad { IfErr result (IsScheduleCause bytes.now) }
+{
+    let mut earlier = Earlier::new(alloc);
+    let mut number: u32 = 0;
+    let mut rest = bytes;
+    'lines: while let Some((line, after)) = first_line(rest) {
+        number += 1;
+        match add(alloc, &mut earlier, line) {
+            Ok(()) => {}
+            Err(LineRefusal::Fault(why)) => return Err(ScheduleRefusal::BadLine(number, why)),
+            Err(LineRefusal::Later) => return Err(ScheduleRefusal::NotYet(number)),
+            Err(LineRefusal::OutOfMemory) => return Err(ScheduleRefusal::OutOfMemory),
+        }
+        rest = after;
+    }
+    Ok(earlier.into_lines())
+}
+
+/// Puts what the line of the file says behind the earlier lines: nothing where it is skipped.
+fn add(alloc: Global, earlier: &mut Earlier, line: &[u8]) -> Result<(), LineRefusal>
+    ensures ok { OnOk result (Adds earlier.old line.now earlier.new) }
+    ensures err { IfErr result (IsRefused earlier.old line.now) }
+{
+    if is_skipped(line) {
+        return Ok(());
+    }
+    let words = words(alloc, groups(line), line)?;
+    let read = line_of(alloc, earlier, &words)?;
+    earlier.push(alloc, read)?;
+    Ok(())
+}
+
+/// Whether quotation marks group the words of this line.
+fn groups(line: &[u8]) -> bool
+    ensures { result ≡ groups line.now }
+{
+    line.starts_with(b"entity ")
+}
+
+fn is_short(bytes: &[u8]) -> bool
+    ensures { IsTrue result ↔ IsShort bytes.now }
+{
+    bytes.len() <= MOST_BYTES && count_lines(bytes) <= MOST_LINES
+}
+
+fn count_lines(bytes: &[u8]) -> usize
+    ensures { result ≡ length (lines_of bytes.now) }
+{
+    let mut count = 0;
+    let mut rest = bytes;
+    'lines: while let Some((_, after)) = first_line(rest) {
+        count += 1;
+        rest = after;
+    }
+    count
+}

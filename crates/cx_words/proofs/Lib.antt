@@ -1,0 +1,8 @@
+pub mod FirstPlace
+pub mod Pieces
+pub mod Ascii
+pub mod NumberWords
+pub mod NameWords
+pub mod TextWords
+pub mod HexWords
+pub mod ListWords
