@@ -57,3 +57,15 @@ IsInputCause left now before after WriteFault = ⊥
 abbrev pub HasSchedule : Option (List ℕ) → Type 0
 HasSchedule None = ⊥
 HasSchedule (Some bytes) = (script : List Line) × Lines bytes script × IsShort bytes
+
+-- why these bytes are refused where memory isn't wanting
+abbrev pub IsBytesRefusal : List ℕ → ScheduleRefusal → Type 0
+IsBytesRefusal bytes refusal.TooLong = IsScheduleCause bytes refusal.TooLong
+IsBytesRefusal bytes (refusal.BadLine line why) = IsScheduleCause bytes (refusal.BadLine line why)
+IsBytesRefusal bytes (refusal.NotYet line) = IsScheduleCause bytes (refusal.NotYet line)
+IsBytesRefusal bytes refusal.OutOfMemory = ⊥
+
+-- the source tells what it has, and that must be refused for this
+abbrev pub HasRefusal : Option (List ℕ) → ScheduleRefusal → Type 0
+HasRefusal None why = ⊥
+HasRefusal (Some bytes) why = IsBytesRefusal bytes why

@@ -1,5 +1,5 @@
 -- The statuses of a run.
-use Rattle.std.specs.Prelude.{ℕ}
+use Rattle.std.specs.Prelude.{ℕ, ◌≡◌}
 use Rattle.cx_schedule.specs.declared.refusals.ScheduleRefusal.{ScheduleRefusal}
 use Rattle.cx_schedule.specs.declared.refusals.ScheduleRefusal.TheVariants as refusal
 use Rattle.cx_top.specs.declared.input.Unread.{Unread}
@@ -41,3 +41,14 @@ IsServed ReadFault = ⊥
 IsServed WriteFault = ⊥
 IsServed TooLong = ⊥
 IsServed (NotYet _) = ⊥
+
+-- this status, or want of memory
+abbrev pub IsOrMemory : Status → Status → Type 0
+IsOrMemory expected OutOfMemory = Unit {0}
+IsOrMemory expected Done = Done ≡ expected
+IsOrMemory expected Usage = Usage ≡ expected
+IsOrMemory expected (BadSchedule line why) = BadSchedule line why ≡ expected
+IsOrMemory expected ReadFault = ReadFault ≡ expected
+IsOrMemory expected WriteFault = WriteFault ≡ expected
+IsOrMemory expected TooLong = TooLong ≡ expected
+IsOrMemory expected (NotYet line) = NotYet line ≡ expected

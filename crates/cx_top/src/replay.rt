@@ -1,12 +1,13 @@
 //! The replay of a schedule.
 
-ghost use Rattle.std.specs.Prelude.{◌≡◌, ◌≢◌, ◌≤◌, ◌↔◌, List, [], ◌∷◌, map, codes, IfOk, IfErr, IsTrue};
+ghost use Rattle.std.specs.Prelude.{◌≡◌, ◌≢◌, ◌≤◌, ◌↔◌, List, [], ◌∷◌, map, codes, IfOk, IfErr, MatchResult, IsTrue};
 ghost use Rattle.cx_base.specs.Streams.{Rose};
 ghost use Rattle.cx_schedule.specs.Files.{Lines, IsShort};
 ghost use Rattle.cx_schedule.specs.declared.lines.Line.{Line};
+ghost use Rattle.cx_schedule.specs.declared.refusals.ScheduleRefusal.{ScheduleRefusal};
 ghost use Rattle.cx_top.specs.Replays.{Replays, ReplaysAll, WritesReplay, WritesFront};
-ghost use Rattle.cx_top.specs.Refusals.{HasSchedule, IsBytesCause, IsInputCause, IsScheduleStatus};
-ghost use Rattle.cx_top.specs.Statuses.{IsServed};
+ghost use Rattle.cx_top.specs.Refusals.{HasRefusal, HasSchedule, IsBytesCause, IsBytesRefusal, IsInputCause, IsScheduleStatus};
+ghost use Rattle.cx_top.specs.Statuses.{IsOrMemory, IsServed, schedule_status};
 
 use crate::input::read_all;
 use crate::status::Status;
@@ -34,6 +35,11 @@ pub fn run<I: Source, O: Sink>(alloc: Global, words: &[&str], input: &mut I, out
     ensures complete { map (λ w. w.now) words.now ≡ codes "replay" ∷ [] → HasSchedule (I.left input.old)
         → ¬ Rose (I.faults input.old) (I.faults input.new) → ¬ Rose (O.faults out.old) (O.faults out.new)
         → IsServed result }
+
+    // One that a limit or its first bad line refuses is refused so.
+    ensures exact { (why : ScheduleRefusal) → map (λ w. w.now) words.now ≡ codes "replay" ∷ []
+        → HasRefusal (I.left input.old) why → ¬ Rose (I.faults input.old) (I.faults input.new)
+        → IsOrMemory (schedule_status why) result }
 
     ensures reads { I.faults input.old ≤ I.faults input.new }
     ensures writes { O.faults out.old ≤ O.faults out.new }
@@ -72,6 +78,9 @@ fn text_from<I: Source>(alloc: Global, input: &mut I) -> Result<Blob, Status>
     ensures cause { IfErr result (IsInputCause (I.left input.old) (I.left input.new) (I.faults input.old) (I.faults input.new)) }
     ensures complete { HasSchedule (I.left input.old) → ¬ Rose (I.faults input.old) (I.faults input.new)
         → IfErr result (λ status. status ≡ Status.OutOfMemory) }
+    ensures exact { (why : ScheduleRefusal) → HasRefusal (I.left input.old) why
+        → ¬ Rose (I.faults input.old) (I.faults input.new)
+        → MatchResult result (λ text. ⊥) (IsOrMemory (schedule_status why)) }
     ensures reads { I.faults input.old ≤ I.faults input.new }
 {
     let bytes = read_all(alloc, input)?;
@@ -84,6 +93,8 @@ fn text_of(alloc: Global, bytes: &[u8]) -> Result<Blob, Status>
     ensures cause { IfErr result (IsBytesCause bytes.now) }
     ensures complete { (script : List Line) → Lines bytes.now script → IsShort bytes.now
         → IfErr result (λ status. status ≡ Status.OutOfMemory) }
+    ensures exact { (why : ScheduleRefusal) → IsBytesRefusal bytes.now why
+        → MatchResult result (λ text. ⊥) (IsOrMemory (schedule_status why)) }
 {
     let script = cx_schedule::read(alloc, bytes)?;
     let journal = cx_plain::run(alloc, script.lines())?;
