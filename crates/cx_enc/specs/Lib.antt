@@ -1,0 +1,5 @@
+pub mod Forms
+pub mod Moments
+pub mod Names
+pub mod Reading
+pub mod Values
