@@ -45,7 +45,7 @@ Took-then : (a : Spot) (x : List ℕ) (b : Spot) (y : List ℕ) (c : Spot) → T
 Took-then a x b y c p q = record {
   whole = p.whole ∙ ap (λ (t : List ℕ). x ++ t) q.whole ∙ sym (append_assoc x y c.left);
   place = q.place ∙ ap (λ (n : ℕ). n + length y) p.place ∙ omega (arith, length-append x y);
-  bytes = q.bytes
+  bytes = q.bytes;
 }
 
 bytes_takes : (n : ℕ) (s : Spot) (x : List ℕ × Spot) → IsBytes s.left → bytes_at n s ≡ Ok x → Took s x.0 x.1 × (length x.0 ≡ n) × IsBytes x.0
@@ -56,7 +56,7 @@ bytes_takes n s x fits e =
     let enough : n ≤ length s.left = ltb-false (length s.left) n g.0 in
     let len : length (take n s.left) ≡ n = omega (arith, length-take n s.left) in
     subst (λ (y : List ℕ × Spot). Took s y.0 y.1 × (length y.0 ≡ n) × IsBytes y.0) g.1
-        (record { whole = sym (take-append-drop n s.left); place = ap (λ (k : ℕ). s.place + k) (sym len); bytes = IsBytes-drop n s.left fits }, len, IsBytes-take n s.left fits)
+    (record { whole = sym (take-append-drop n s.left); place = ap (λ (k : ℕ). s.place + k) (sym len); bytes = IsBytes-drop n s.left fits }, len, IsBytes-take n s.left fits)
 
 bytes_again : (bytes : List ℕ) (n place : ℕ) (more : List ℕ) → length bytes ≡ n → bytes_at n (record { place = place; left = bytes ++ more }) ≡ Ok (bytes, record { place = place + n; left = more })
 unfolding bytes_at
@@ -67,7 +67,7 @@ bytes_again bytes n place more len =
 pub bytes-lawful : (n : ℕ) → IsLawful (bytes_form n)
 bytes-lawful n = record {
   takes = λ s x fits e. let t = bytes_takes n s x fits e in (t.0, t.1);
-  again = λ bytes place more len. bytes_again bytes n place more len ∙ ap (λ (k : ℕ). done (bytes, record { place = place + k; left = more })) (sym len)
+  again = λ bytes place more len. bytes_again bytes n place more len ∙ ap (λ (k : ℕ). done (bytes, record { place = place + k; left = more })) (sym len);
 }
 
 -- ---- numbers
@@ -91,7 +91,7 @@ wide16 = record {
   len = λ n. refl;
   back = λ bytes len fits. le_bytes_2 bytes _ len fits refl;
   again = λ n lt. from_le_bytes-to_le_bytes_2 n lt;
-  below = λ bytes fits. omega (arith, fits 0, fits 1)
+  below = λ bytes fits. omega (arith, fits 0, fits 1);
 }
 
 pub wide32 : IsWide w32 (2 ^ 32)
@@ -99,7 +99,7 @@ wide32 = record {
   len = λ n. refl;
   back = λ bytes len fits. le_bytes_4 bytes _ len fits refl;
   again = λ n lt. from_le_bytes-to_le_bytes_4 n lt;
-  below = λ bytes fits. omega (arith, fits 0, fits 1, fits 2, fits 3)
+  below = λ bytes fits. omega (arith, fits 0, fits 1, fits 2, fits 3);
 }
 
 pub wide64 : IsWide w64 (2 ^ 64)
@@ -107,7 +107,7 @@ wide64 = record {
   len = λ n. refl;
   back = λ bytes len fits. le_bytes_8 bytes _ len fits refl;
   again = λ n lt. from_le_bytes-to_le_bytes_8 n lt;
-  below = λ bytes fits. omega (arith, fits 0, fits 1, fits 2, fits 3, fits 4, fits 5, fits 6, fits 7)
+  below = λ bytes fits. omega (arith, fits 0, fits 1, fits 2, fits 3, fits 4, fits 5, fits 6, fits 7);
 }
 
 number_takes : (w : Width) (limit : ℕ) → IsWide w limit → (s : Spot) (x : ℕ × Spot) → IsBytes s.left → number_at w s ≡ Ok x → Took s (little w x.0) x.1 × (x.0 < limit)
@@ -117,7 +117,7 @@ number_takes w limit wide s x fits e =
     let t = bytes_takes (byte_len w) s a.0 fits a.1 in
     let made : ℕ × Spot = (from_le_bytes w a.0.0, a.0.1) in
     subst (λ (y : ℕ × Spot). Took s (to_le_bytes w y.0) y.1 × (y.0 < limit)) (ok_is made x a.2)
-        (subst (λ (t : List ℕ). Took s t a.0.1) (sym (wide.back a.0.0 t.1 t.2)) t.0, wide.below a.0.0 t.2)
+    (subst (λ (t : List ℕ). Took s t a.0.1) (sym (wide.back a.0.0 t.1 t.2)) t.0, wide.below a.0.0 t.2)
 
 number_again : (w : Width) (limit : ℕ) → IsWide w limit → (n place : ℕ) (more : List ℕ) → n < limit
     → number_at w (record { place = place; left = little w n ++ more }) ≡ Ok (n, record { place = place + length (little w n); left = more })
@@ -145,27 +145,27 @@ u64-lawful = number-lawful w64 (2 ^ 64) wide64
 pub pair-lawful : {A B : Type 0} (f : Form A) (g : Form B) → IsLawful f → IsLawful g → IsLawful (pair f g)
 pair-lawful {A} {B} f g hf hg = record {
   takes = λ s x fits e.
-    let a = bind_ok (f.at s) (λ a. g.at a.1 >>= λ b. Ok ((a.0, b.0), b.1)) x e in
-    let b = bind_ok (g.at a.0.1) (λ b. Ok ((a.0.0, b.0), b.1)) x a.2 in
-    let first = hf.takes s a.0 fits a.1 in
-    let second = hg.takes a.0.1 b.0 first.0.bytes b.1 in
-    let made : (A × B) × Spot = ((a.0.0, b.0.0), b.0.1) in
-    subst (λ (y : (A × B) × Spot). Took s (f.text y.0.0 ++ g.text y.0.1) y.1 × (f.Fits y.0.0 × g.Fits y.0.1)) (ok_is made x b.2)
-        (Took-then s (f.text a.0.0) a.0.1 (g.text b.0.0) b.0.1 first.0 second.0, (first.1, second.1));
+      let a = bind_ok (f.at s) (λ a. g.at a.1 >>= λ b. Ok ((a.0, b.0), b.1)) x e in
+      let b = bind_ok (g.at a.0.1) (λ b. Ok ((a.0.0, b.0), b.1)) x a.2 in
+      let first = hf.takes s a.0 fits a.1 in
+      let second = hg.takes a.0.1 b.0 first.0.bytes b.1 in
+      let made : (A × B) × Spot = ((a.0.0, b.0.0), b.0.1) in
+      subst (λ (y : (A × B) × Spot). Took s (f.text y.0.0 ++ g.text y.0.1) y.1 × (f.Fits y.0.0 × g.Fits y.0.1)) (ok_is made x b.2)
+      (Took-then s (f.text a.0.0) a.0.1 (g.text b.0.0) b.0.1 first.0 second.0, (first.1, second.1));
   again = λ x place more fits.
-    let end : place + length (f.text x.0) + length (g.text x.1) ≡ place + length (f.text x.0 ++ g.text x.1) = omega (arith, length-append (f.text x.0) (g.text x.1)) in
-    rw (append_assoc (f.text x.0) (g.text x.1) more, hf.again x.0 place (g.text x.1 ++ more) fits.0, hg.again x.1 (place + length (f.text x.0)) more fits.1, end) refl
+      let end : place + length (f.text x.0) + length (g.text x.1) ≡ place + length (f.text x.0 ++ g.text x.1) = omega (arith, length-append (f.text x.0) (g.text x.1)) in
+      rw (append_assoc (f.text x.0) (g.text x.1) more, hf.again x.0 place (g.text x.1 ++ more) fits.0, hg.again x.1 (place + length (f.text x.0)) more fits.1, end) refl;
 }
 
 pub seen-lawful : {A X : Type 0} (made : A → X) (parts : X → A) (f : Form A) → IsLawful f → ((a : A) → parts (made a) ≡ a) → ((x : X) → made (parts x) ≡ x) → IsLawful (seen made parts f)
 seen-lawful {A} {X} made parts f h back again = record {
   takes = λ s x fits e.
-    let a = bind_ok (f.at s) (λ a. Ok (made a.0, a.1)) x e in
-    let t = h.takes s a.0 fits a.1 in
-    let value : X × Spot = (made a.0.0, a.0.1) in
-    subst (λ (y : X × Spot). Took s (f.text (parts y.0)) y.1 × f.Fits (parts y.0)) (ok_is value x a.2)
-        (subst (λ (b : A). Took s (f.text b) a.0.1 × f.Fits b) (sym (back a.0.0)) t);
-  again = λ x place more fits. rw (h.again (parts x) place more fits, again x) refl
+      let a = bind_ok (f.at s) (λ a. Ok (made a.0, a.1)) x e in
+      let t = h.takes s a.0 fits a.1 in
+      let value : X × Spot = (made a.0.0, a.0.1) in
+      subst (λ (y : X × Spot). Took s (f.text (parts y.0)) y.1 × f.Fits (parts y.0)) (ok_is value x a.2)
+      (subst (λ (b : A). Took s (f.text b) a.0.1 × f.Fits b) (sym (back a.0.0)) t);
+  again = λ x place more fits. rw (h.again (parts x) place more fits, again x) refl;
 }
 
 short_ok : {A : Type 0} (place : ℕ) (r : Result A ReadFault) (x : A) → short_at place r ≡ Ok x → r ≡ Ok x
@@ -175,7 +175,7 @@ short_ok place (Err d) x e = absurd cc
 pub field-lawful : {A : Type 0} (f : Form A) → IsLawful f → IsLawful (field f)
 field-lawful f h = record {
   takes = λ s x fits e. h.takes s x fits (short_ok s.place (f.at s) x e);
-  again = λ x place more fits. rw (h.again x place more fits) refl
+  again = λ x place more fits. rw (h.again x place more fits) refl;
 }
 
 or_bad_ok : {X : Type 0} (place : ℕ) (o : Option X) (next : Spot) (x : X × Spot) → or_bad place o next ≡ Ok x → (o ≡ Some x.0) × (next ≡ x.1)
@@ -185,15 +185,15 @@ or_bad_ok place None next x e = absurd cc
 pub checked-lawful : {A X : Type 0} (made : A → Option X) (parts : X → A) (f : Form A) → IsLawful f → ((a : A) (x : X) → made a ≡ Some x → parts x ≡ a) → IsLawful (checked made parts f)
 checked-lawful {A} {X} made parts f h back = record {
   takes = λ s x fits e.
-    let a = bind_ok (f.at s) (λ a. or_bad s.place (made a.0) a.1) x e in
-    let good = or_bad_ok s.place (made a.0.0) a.0.1 x a.2 in
-    let is : parts x.0 ≡ a.0.0 = back a.0.0 x.0 good.0 in
-    let t = h.takes s a.0 fits a.1 in
-    let again : made (parts x.0) ≡ Some x.0 = ap made is ∙ good.0 in
-    let moved : Took s (f.text a.0.0) x.1 × f.Fits a.0.0 = subst (λ (next : Spot). Took s (f.text a.0.0) next × f.Fits a.0.0) good.1 t in
-    let named : Took s (f.text (parts x.0)) x.1 × f.Fits (parts x.0) = subst (λ (b : A). Took s (f.text b) x.1 × f.Fits b) (sym is) moved in
-    (named.0, (named.1, again));
-  again = λ x place more fits. rw (h.again (parts x) place more fits.0, fits.1) refl
+      let a = bind_ok (f.at s) (λ a. or_bad s.place (made a.0) a.1) x e in
+      let good = or_bad_ok s.place (made a.0.0) a.0.1 x a.2 in
+      let is : parts x.0 ≡ a.0.0 = back a.0.0 x.0 good.0 in
+      let t = h.takes s a.0 fits a.1 in
+      let again : made (parts x.0) ≡ Some x.0 = ap made is ∙ good.0 in
+      let moved : Took s (f.text a.0.0) x.1 × f.Fits a.0.0 = subst (λ (next : Spot). Took s (f.text a.0.0) next × f.Fits a.0.0) good.1 t in
+      let named : Took s (f.text (parts x.0)) x.1 × f.Fits (parts x.0) = subst (λ (b : A). Took s (f.text b) x.1 × f.Fits b) (sym is) moved in
+      (named.0, (named.1, again));
+  again = λ x place more fits. rw (h.again (parts x) place more fits.0, fits.1) refl;
 }
 
 -- ---- blobs
@@ -225,7 +225,7 @@ times_takes : {X : Type 0} (f : Form X) → IsLawful f → (n : ℕ) (s : Spot) 
 unfolding times_at
 times_takes {X} f h zero s xs fits e =
     subst (λ (y : List X × Spot). Took s (flat_map f.text y.0) y.1 × (length y.0 ≡ 0) × AllByRecursion f.Fits y.0) (ok_is ([], s) xs e)
-        (record { whole = refl; place = omega arith; bytes = fits }, refl, tt)
+    (record { whole = refl; place = omega arith; bytes = fits }, refl, tt)
 times_takes {X} f h (suc n) s xs fits e =
     let a = bind_ok (f.at s) (λ x. times_at f.at n x.1 >>= λ ys. Ok (x.0 ∷ ys.0, ys.1)) xs e in
     let b = bind_ok (times_at f.at n a.0.1) (λ ys. Ok (a.0.0 ∷ ys.0, ys.1)) xs a.2 in
@@ -234,7 +234,7 @@ times_takes {X} f h (suc n) s xs fits e =
     let both = Took-then s (f.text a.0.0) a.0.1 (flat_map f.text b.0.0) b.0.1 first.0 second.0 in
     let made : List X × Spot = (a.0.0 ∷ b.0.0, b.0.1) in
     subst (λ (y : List X × Spot). Took s (flat_map f.text y.0) y.1 × (length y.0 ≡ suc n) × AllByRecursion f.Fits y.0) (ok_is made xs b.2)
-        (rw flat_map-cons both, ap suc second.1, (first.1, second.2))
+    (rw flat_map-cons both, ap suc second.1, (first.1, second.2))
 
 times_again : {X : Type 0} (f : Form X) → IsLawful f → (xs : List X) (place : ℕ) (more : List ℕ) → AllByRecursion f.Fits xs
     → times_at f.at (length xs) (record { place = place; left = flat_map f.text xs ++ more }) ≡ Ok (xs, record { place = place + length (flat_map f.text xs); left = more })
@@ -249,12 +249,12 @@ times_again f h (x ∷ xs) place more fits =
 pub many-lawful : {X : Type 0} (f : Form X) → IsLawful f → IsLawful (many f)
 many-lawful {X} f h = record {
   takes = λ s xs fits e.
-    let a = bind_ok (number_at w32 s) (λ n. times_at f.at n.0 n.1) xs e in
-    let first = u32-lawful.takes s a.0 fits a.1 in
-    let second = times_takes f h a.0.0 a.0.1 xs first.0.bytes a.2 in
-    let counted : Took s (little w32 (length xs.0)) a.0.1 = subst (λ (n : ℕ). Took s (little w32 n) a.0.1) (sym second.1) first.0 in
-    (Took-then s (little w32 (length xs.0)) a.0.1 (flat_map f.text xs.0) xs.1 counted second.0, (omega (arith, first.1, second.1), second.2));
+      let a = bind_ok (number_at w32 s) (λ n. times_at f.at n.0 n.1) xs e in
+      let first = u32-lawful.takes s a.0 fits a.1 in
+      let second = times_takes f h a.0.0 a.0.1 xs first.0.bytes a.2 in
+      let counted : Took s (little w32 (length xs.0)) a.0.1 = subst (λ (n : ℕ). Took s (little w32 n) a.0.1) (sym second.1) first.0 in
+      (Took-then s (little w32 (length xs.0)) a.0.1 (flat_map f.text xs.0) xs.1 counted second.0, (omega (arith, first.1, second.1), second.2));
   again = λ xs place more fits.
-    let end : place + length (little w32 (length xs)) + length (flat_map f.text xs) ≡ place + length (little w32 (length xs) ++ flat_map f.text xs) = omega (arith, length-append (little w32 (length xs)) (flat_map f.text xs)) in
-    rw (append_assoc (little w32 (length xs)) (flat_map f.text xs) more, u32-lawful.again (length xs) place (flat_map f.text xs ++ more) fits.0, times_again f h xs (place + length (little w32 (length xs))) more fits.1, end) refl
+      let end : place + length (little w32 (length xs)) + length (flat_map f.text xs) ≡ place + length (little w32 (length xs) ++ flat_map f.text xs) = omega (arith, length-append (little w32 (length xs)) (flat_map f.text xs)) in
+      rw (append_assoc (little w32 (length xs)) (flat_map f.text xs) more, u32-lawful.again (length xs) place (flat_map f.text xs ++ more) fits.0, times_again f h xs (place + length (little w32 (length xs))) more fits.1, end) refl;
 }

@@ -41,12 +41,12 @@ key_back a x e =
 pub key-lawful : IsLawful key_form
 key-lawful =
     checked-lawful key_of key_parts (field (pair u16_form (pair u32_form (pair u32_form (pair u16_form (bytes_form 16))))))
-        (field-lawful (pair u16_form (pair u32_form (pair u32_form (pair u16_form (bytes_form 16)))))
-            (pair-lawful u16_form (pair u32_form (pair u32_form (pair u16_form (bytes_form 16)))) u16-lawful
-                (pair-lawful u32_form (pair u32_form (pair u16_form (bytes_form 16))) u32-lawful
-                    (pair-lawful u32_form (pair u16_form (bytes_form 16)) u32-lawful
-                        (pair-lawful u16_form (bytes_form 16) u16-lawful (bytes-lawful 16))))))
-        key_back
+    (field-lawful (pair u16_form (pair u32_form (pair u32_form (pair u16_form (bytes_form 16)))))
+    (pair-lawful u16_form (pair u32_form (pair u32_form (pair u16_form (bytes_form 16)))) u16-lawful
+    (pair-lawful u32_form (pair u32_form (pair u16_form (bytes_form 16))) u32-lawful
+    (pair-lawful u32_form (pair u16_form (bytes_form 16)) u32-lawful
+    (pair-lawful u16_form (bytes_form 16) u16-lawful (bytes-lawful 16))))))
+    key_back
 
 addr_back : (a : ℕ × (ℕ × (ℕ × (List ℕ × ℕ)))) (x : Addr) → addr_of a ≡ Some x → addr_parts x ≡ a
 addr_back a x e =
@@ -62,12 +62,12 @@ addr_back a x e =
 pub addr-lawful : IsLawful addr_form
 addr-lawful =
     checked-lawful addr_of addr_parts (field (pair u8_form (pair u32_form (pair u32_form (pair (bytes_form 4) u16_form)))))
-        (field-lawful (pair u8_form (pair u32_form (pair u32_form (pair (bytes_form 4) u16_form))))
-            (pair-lawful u8_form (pair u32_form (pair u32_form (pair (bytes_form 4) u16_form))) u8-lawful
-                (pair-lawful u32_form (pair u32_form (pair (bytes_form 4) u16_form)) u32-lawful
-                    (pair-lawful u32_form (pair (bytes_form 4) u16_form) u32-lawful
-                        (pair-lawful (bytes_form 4) u16_form (bytes-lawful 4) u16-lawful)))))
-        addr_back
+    (field-lawful (pair u8_form (pair u32_form (pair u32_form (pair (bytes_form 4) u16_form))))
+    (pair-lawful u8_form (pair u32_form (pair u32_form (pair (bytes_form 4) u16_form))) u8-lawful
+    (pair-lawful u32_form (pair u32_form (pair (bytes_form 4) u16_form)) u32-lawful
+    (pair-lawful u32_form (pair (bytes_form 4) u16_form) u32-lawful
+    (pair-lawful (bytes_form 4) u16_form (bytes-lawful 4) u16-lawful)))))
+    addr_back
 
 -- one link of the chain of numbers: this one, or the rest
 link : (b : Bool) (n k : ℕ) (v : EntityType) (rest : Option EntityType) (x : EntityType) → (b ≡ true → n ≡ k) → number_of v ≡ k → (rest ≡ Some x → number_of x ≡ n) → cond b (Some v) rest ≡ Some x → number_of x ≡ n
@@ -78,12 +78,12 @@ kind_back : (n : ℕ) (x : EntityType) → kind_of n ≡ Some x → number_of x 
 unfolding kind_of
 kind_back n x e =
     link (n == 1) n 1 Mon _ x (eqb-true n 1) refl
-        (link (n == 2) n 2 Mds _ x (eqb-true n 2) refl
-            (link (n == 4) n 4 Osd _ x (eqb-true n 4) refl
-                (link (n == 8) n 8 Client _ x (eqb-true n 8) refl
-                    (link (n == 16) n 16 Mgr _ x (eqb-true n 16) refl
-                        (link (n == 32) n 32 Auth None x (eqb-true n 32) refl (λ none. absurd cc))))))
-        e
+    (link (n == 2) n 2 Mds _ x (eqb-true n 2) refl
+    (link (n == 4) n 4 Osd _ x (eqb-true n 4) refl
+    (link (n == 8) n 8 Client _ x (eqb-true n 8) refl
+    (link (n == 16) n 16 Mgr _ x (eqb-true n 16) refl
+    (link (n == 32) n 32 Auth None x (eqb-true n 32) refl (λ none. absurd cc))))))
+    e
 
 -- each entity type has a number, and is read by it
 pub kind_again : (x : EntityType) → kind_of (number_of x) ≡ Some x

@@ -57,7 +57,7 @@ abbrev pub pair : {A B : Type 0} → Form A → Form B → Form (A × B)
 pair f g = record {
   at = λ s. f.at s >>= λ a. g.at a.1 >>= λ b. Ok ((a.0, b.0), b.1);
   text = λ x. f.text x.0 ++ g.text x.1;
-  Fits = λ x. f.Fits x.0 × g.Fits x.1
+  Fits = λ x. f.Fits x.0 × g.Fits x.1;
 }
 
 -- the same bytes, for another type
@@ -65,7 +65,7 @@ abbrev pub seen : {A X : Type 0} → (A → X) → (X → A) → Form A → Form
 seen made parts f = record {
   at = λ s. f.at s >>= λ a. Ok (made a.0, a.1);
   text = λ x. f.text (parts x);
-  Fits = λ x. f.Fits (parts x)
+  Fits = λ x. f.Fits (parts x);
 }
 
 -- a form as one field: where it can't be read, it is the field that falls short, at its own place
@@ -85,7 +85,7 @@ abbrev pub checked : {A X : Type 0} → (A → Option X) → (X → A) → Form 
 checked made parts f = record {
   at = λ s. f.at s >>= λ a. or_bad s.place (made a.0) a.1;
   text = λ x. f.text (parts x);
-  Fits = λ x. f.Fits (parts x) × (made (parts x) ≡ Some x)
+  Fits = λ x. f.Fits (parts x) × (made (parts x) ≡ Some x);
 }
 
 -- a length and so many bytes
@@ -96,7 +96,7 @@ abbrev pub blob_form : Form (List ℕ)
 blob_form = record {
   at = blob_at;
   text = λ bytes. little w32 (length bytes) ++ bytes;
-  Fits = λ bytes. length bytes < 2 ^ 32
+  Fits = λ bytes. length bytes < 2 ^ 32;
 }
 
 -- so many values of one form, one behind the other
@@ -109,7 +109,7 @@ abbrev pub many : {X : Type 0} → Form X → Form (List X)
 many f = record {
   at = λ s. number_at w32 s >>= λ n. times_at f.at n.0 n.1;
   text = λ xs. little w32 (length xs) ++ flat_map f.text xs;
-  Fits = λ xs. (length xs < 2 ^ 32) × AllByRecursion f.Fits xs
+  Fits = λ xs. (length xs < 2 ^ 32) × AllByRecursion f.Fits xs;
 }
 
 -- bytes, of which each is below 256

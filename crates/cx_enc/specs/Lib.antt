@@ -3,3 +3,4 @@ pub mod Moments
 pub mod Names
 pub mod Reading
 pub mod Values
+pub mod Whole

@@ -7,12 +7,17 @@ mod faults;
 mod fields;
 mod keys;
 mod names;
+mod puts;
 mod times;
 
 pub use composed::kind_of;
 pub use cut::Cut;
 pub use cx_base::Addr;
-pub use faults::ReadFault;
+pub use faults::{ReadFault, ReadRefusal};
 pub use keys::Key;
 pub use names::NameRef;
+pub use puts::{
+    number_of, put_addr, put_blob, put_flag, put_key, put_kind, put_name, put_time, put_u8,
+    put_u16, put_u32, put_u64,
+};
 pub use times::Time;
