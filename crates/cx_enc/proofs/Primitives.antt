@@ -17,7 +17,7 @@ some_if : {X : Type 0} (b : Bool) (v x : X) → cond b (Some v) None ≡ Some x 
 some_if true v x e = (refl, cc)
 some_if false v x e = absurd cc
 
-both_true : (a b : Bool) → (a && b) ≡ true → (a ≡ true) × (b ≡ true)
+pub both_true : (a b : Bool) → (a && b) ≡ true → (a ≡ true) × (b ≡ true)
 both_true true b e = (refl, e)
 both_true false b e = absurd cc
 

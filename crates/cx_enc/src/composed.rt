@@ -4,7 +4,7 @@ ghost use Rattle.std.specs.Prelude.{◌≡◌};
 ghost use Rattle.cx_enc.specs.Forms.{u8_form, u16_form, u32_form, u64_form};
 ghost use Rattle.cx_enc.specs.Names.{name_seen};
 ghost use Rattle.cx_enc.specs.Reading.{spot, Reads, ReadsAs};
-ghost use Rattle.cx_enc.specs.Values.{time_form, key_form, addr_form, kind_form, name_form, flag_form, kind_of};
+ghost use Rattle.cx_enc.specs.Values.{time_form, key_form, addr_form, kind_form, name_form, flag_form, kind_of, fixed};
 
 use crate::cut::Cut;
 use crate::faults::ReadFault;
@@ -94,6 +94,45 @@ impl<'a> Cut<'a> {
         }
         *self = cut;
         Ok(NameRef { kind, id })
+    }
+
+    /// A number of one byte that is always this one.
+    pub fn take_fixed_u8(&mut self, number: u8) -> Result<(), ReadFault>
+        ensures { ReadsAs (λ _. tt) (spot self.old) (spot self.new) result ((fixed number u8_form).at (spot self.old)) }
+    {
+        let mut cut = *self;
+        let read = cut.take_u8()?;
+        if read != number {
+            return Err(ReadFault::BadField(self.place));
+        }
+        *self = cut;
+        Ok(())
+    }
+
+    /// A number of two bytes that is always this one.
+    pub fn take_fixed_u16(&mut self, number: u16) -> Result<(), ReadFault>
+        ensures { ReadsAs (λ _. tt) (spot self.old) (spot self.new) result ((fixed number u16_form).at (spot self.old)) }
+    {
+        let mut cut = *self;
+        let read = cut.take_u16()?;
+        if read != number {
+            return Err(ReadFault::BadField(self.place));
+        }
+        *self = cut;
+        Ok(())
+    }
+
+    /// A number of four bytes that is always this one.
+    pub fn take_fixed_u32(&mut self, number: u32) -> Result<(), ReadFault>
+        ensures { ReadsAs (λ _. tt) (spot self.old) (spot self.new) result ((fixed number u32_form).at (spot self.old)) }
+    {
+        let mut cut = *self;
+        let read = cut.take_u32()?;
+        if read != number {
+            return Err(ReadFault::BadField(self.place));
+        }
+        *self = cut;
+        Ok(())
     }
 
     /// A flag, one byte 0 or 1.
