@@ -2,7 +2,10 @@
 use Rattle.std.proofs.Common.{◌≡◌, ℕ, suc, ◌-◌, ◌+◌, ◌≤◌, ◌<◌, List, [], ◌∷◌, ◌++◌, Result, Ok, Err, refl, sym, ap, ◌∙◌, append_assoc, arith}
 use Rattle.std.proofs.lemmas.List.{append-nil}
 use Rattle.cx_enc.specs.declared.faults.ReadFault.{ReadFault}
+use Rattle.cx_enc.specs.declared.faults.ReadRefusal.{ReadRefusal}
+use Rattle.cx_enc.specs.declared.faults.ReadRefusal.TheVariants as refusals
 use Rattle.cx_enc.specs.Forms.{Spot, ◌>>=◌, times_at}
+use Rattle.cx_enc.specs.Whole.{Takes}
 
 -- what was read before, and what is still read
 abbrev pub with_front : {X : Type 0} → List X → Result (List X × Spot) ReadFault → Result (List X × Spot) ReadFault
@@ -45,3 +48,10 @@ begins at count s = let k : count - 0 ≡ count = omega arith in rw k (all (time
     all : {X : Type 0} (read : Result (List X × Spot) ReadFault) → with_front [] read ≡ read
     all (Ok xs) = refl
     all (Err e) = refl
+
+-- one item is refused: that is the refusal of the list, read from its count
+pub refuses : {X : Type 0} (at : Spot → Result (X × Spot) ReadFault) (front : List X) (count i : ℕ) (s new old : Spot) (e : ReadRefusal) (total whole : Result (List X × Spot) ReadFault) → i < count → Takes s new (Err e) (at s)
+    → with_front front (times_at at (count - i) s) ≡ total → whole ≡ total → Takes old old (Err e) whole
+refuses at front count i s new old (refusals.Fault fault) total whole lt refused so_far is = (is ∙ ends at front count i s fault total lt refused.0 so_far, refl)
+refuses at front count i s new old (refusals.LeftOver place) total whole lt refused so_far is = refused
+refuses at front count i s new old refusals.OutOfMemory total whole lt refused so_far is = refl

@@ -48,7 +48,7 @@ drop_both n m a b e = rw e (drop-drop m n b)
 pair_sized : {A B : Type 0} (f : Form A) (g : Form B) (n m : ℕ) → IsSized f n → IsSized g m → IsSized (pair f g) (n + m)
 pair_sized {A} {B} f g n m hf hg = record {
   short = λ s lt. elim (cases_lt (length s.left) n) as (λ _. (e : ReadFault) × ((pair f g).at s ≡ Err e)) [
-      inl less ↦ let first = hf.short s less in (first.0, rw first.1 refl)
+    | inl less ↦ let first = hf.short s less in (first.0, rw first.1 refl)
     | inr enough ↦
         let first = hf.there s enough in
         let fewer : length first.0.1.left < m = rw first.2 (omega (arith, length-drop n s.left)) in
@@ -56,11 +56,11 @@ pair_sized {A} {B} f g n m hf hg = record {
         (second.0, rw (first.1, second.1) refl)
   ];
   there = λ s le.
-    let first = hf.there s (omega arith) in
-    let enough : m ≤ length first.0.1.left = rw first.2 (omega (arith, length-drop n s.left)) in
-    let second = hg.there first.0.1 enough in
-    let made : (A × B) × Spot = ((first.0.0, second.0.0), second.0.1) in
-    (made, rw (first.1, second.1) refl, second.2 ∙ drop_both n m first.0.1.left s.left first.2)
+      let first = hf.there s (omega arith) in
+      let enough : m ≤ length first.0.1.left = rw first.2 (omega (arith, length-drop n s.left)) in
+      let second = hg.there first.0.1 enough in
+      let made : (A × B) × Spot = ((first.0.0, second.0.0), second.0.1) in
+      (made, rw (first.1, second.1) refl, second.2 ∙ drop_both n m first.0.1.left s.left first.2);
 }
 
 no_fault : {X : Type 0} (r : Result X ReadFault) (x : X) (e : ReadFault) → r ≡ Ok x → r ≡ Err e → ⊥
@@ -69,13 +69,15 @@ no_fault r x e good bad = cc
 field_sized : {X : Type 0} (f : Form X) (n : ℕ) → IsSized f n → IsField (field f) (λ _. n)
 field_sized f n h = record {
   short = λ s lt. let bad = h.short s lt in rw bad.1 refl;
-  there = λ s e le bad. let good = h.there s le in absurd (no_fault (short_at s.place (f.at s)) good.0 e (rw good.1 refl) bad)
+  there = λ s e le bad. let good = h.there s le in absurd (no_fault (short_at s.place (f.at s)) good.0 e (rw good.1 refl) bad);
 }
 
 number_field : (w : Width) (f : Form ℕ) → f.at ≡ number_at w → IsField f (λ _. byte_len w)
 number_field w f is = record {
   short = λ s lt. rw is (number_short w s lt);
-  there = λ s e le bad. absurd (no_fault (f.at s) _ e (rw is (number_there w s le)) bad)
+  there = λ s e le bad.
+      let made : ℕ × Spot = (from_le_bytes w (take (byte_len w) s.left), record { place = s.place + byte_len w; left = drop (byte_len w) s.left }) in
+      absurd (no_fault (f.at s) made e (rw is (number_there w s le)) bad);
 }
 
 bad_only : {X : Type 0} (place : ℕ) (o : Option X) (next : Spot) (e : ReadFault) → or_bad place o next ≡ Err e → e ≡ BadField place
@@ -89,7 +91,7 @@ checked_there made place (Err d) e h bad = let same : d ≡ e = cc in sym same �
 checked_field : {A X : Type 0} (made : A → Option X) (parts : X → A) (f : Form A) (needs : List ℕ → ℕ) → IsField f needs → IsField (checked made parts f) needs
 checked_field made parts f needs h = record {
   short = λ s lt. rw (h.short s lt) refl;
-  there = λ s e le bad. checked_there made s.place (f.at s) e (λ d is. h.there s d le is) bad
+  there = λ s e le bad. checked_there made s.place (f.at s) e (λ d is. h.there s d le is) bad;
 }
 
 pub u8_field : IsField u8_form (λ _. 1)
@@ -107,7 +109,7 @@ u64_field = number_field w64 u64_form refl
 pub bytes_field : (n : ℕ) → IsField (bytes_form n) (λ _. n)
 bytes_field n = record {
   short = bytes_short n;
-  there = λ s e le bad. absurd (no_fault (bytes_at n s) _ e (bytes_there n s le) bad)
+  there = λ s e le bad. absurd (no_fault (bytes_at n s) _ e (bytes_there n s le) bad);
 }
 
 pub kind_field : IsField kind_form (λ _. 4)
@@ -122,20 +124,20 @@ time_field = checked_field moment_of moment_parts (field (pair u32_form u32_form
 pub key_field : IsField key_form (λ _. 28)
 key_field =
     checked_field key_of key_parts (field (pair u16_form (pair u32_form (pair u32_form (pair u16_form (bytes_form 16)))))) (λ _. 28)
-        (field_sized (pair u16_form (pair u32_form (pair u32_form (pair u16_form (bytes_form 16))))) 28
-            (pair_sized u16_form (pair u32_form (pair u32_form (pair u16_form (bytes_form 16)))) 2 26 u16_sized
-                (pair_sized u32_form (pair u32_form (pair u16_form (bytes_form 16))) 4 22 u32_sized
-                    (pair_sized u32_form (pair u16_form (bytes_form 16)) 4 18 u32_sized
-                        (pair_sized u16_form (bytes_form 16) 2 16 u16_sized (bytes_sized 16))))))
+    (field_sized (pair u16_form (pair u32_form (pair u32_form (pair u16_form (bytes_form 16))))) 28
+    (pair_sized u16_form (pair u32_form (pair u32_form (pair u16_form (bytes_form 16)))) 2 26 u16_sized
+    (pair_sized u32_form (pair u32_form (pair u16_form (bytes_form 16))) 4 22 u32_sized
+    (pair_sized u32_form (pair u16_form (bytes_form 16)) 4 18 u32_sized
+    (pair_sized u16_form (bytes_form 16) 2 16 u16_sized (bytes_sized 16))))))
 
 pub addr_field : IsField addr_form (λ _. 15)
 addr_field =
     checked_field addr_of addr_parts (field (pair u8_form (pair u32_form (pair u32_form (pair (bytes_form 4) u16_form))))) (λ _. 15)
-        (field_sized (pair u8_form (pair u32_form (pair u32_form (pair (bytes_form 4) u16_form)))) 15
-            (pair_sized u8_form (pair u32_form (pair u32_form (pair (bytes_form 4) u16_form))) 1 14 u8_sized
-                (pair_sized u32_form (pair u32_form (pair (bytes_form 4) u16_form)) 4 10 u32_sized
-                    (pair_sized u32_form (pair (bytes_form 4) u16_form) 4 6 u32_sized
-                        (pair_sized (bytes_form 4) u16_form 4 2 (bytes_sized 4) u16_sized)))))
+    (field_sized (pair u8_form (pair u32_form (pair u32_form (pair (bytes_form 4) u16_form)))) 15
+    (pair_sized u8_form (pair u32_form (pair u32_form (pair (bytes_form 4) u16_form))) 1 14 u8_sized
+    (pair_sized u32_form (pair u32_form (pair (bytes_form 4) u16_form)) 4 10 u32_sized
+    (pair_sized u32_form (pair (bytes_form 4) u16_form) 4 6 u32_sized
+    (pair_sized (bytes_form 4) u16_form 4 2 (bytes_sized 4) u16_sized)))))
 
 -- ---- blobs and names
 
@@ -149,47 +151,48 @@ blob_short : (s : Spot) → length s.left < blob_needs s.left → blob_at s ≡ 
 unfolding blob_at
 blob_short s lt =
     elim (cases_lt (length s.left) 4) as (λ _. short_at s.place (number_at w32 s >>= λ n. bytes_at n.0 n.1) ≡ Err (Short s.place)) [
-      inl less ↦ rw (number_short w32 s less) refl
-    | inr enough ↦
-        let count : ℕ = from_le_bytes w32 (take 4 s.left) in
-        let next : Spot = record { place = s.place + 4; left = drop 4 s.left } in
-        let fewer : length next.left < count = omega (arith, length-drop 4 s.left, blob_needs_more s.left enough) in
-        rw (number_there w32 s enough, bytes_short count next fewer) refl
+      | inl less ↦ rw (number_short w32 s less) refl
+      | inr enough ↦
+          let count : ℕ = from_le_bytes w32 (take 4 s.left) in
+          let next : Spot = record { place = s.place + 4; left = drop 4 s.left } in
+          let fewer : length next.left < count = omega (arith, length-drop 4 s.left, blob_needs_more s.left enough) in
+          rw (number_there w32 s enough, bytes_short count next fewer) refl
     ]
 
 blob_there : (s : Spot) → blob_needs s.left ≤ length s.left → (x : List ℕ × Spot) × (blob_at s ≡ Ok x)
 unfolding blob_at
 blob_there s le =
     elim (cases_lt (length s.left) 4) as (λ _. (x : List ℕ × Spot) × (short_at s.place (number_at w32 s >>= λ n. bytes_at n.0 n.1) ≡ Ok x)) [
-      inl less ↦ absurd (omega (arith, blob_needs_four s.left less))
-    | inr enough ↦
-        let count : ℕ = from_le_bytes w32 (take 4 s.left) in
-        let next : Spot = record { place = s.place + 4; left = drop 4 s.left } in
-        let there : count ≤ length next.left = omega (arith, length-drop 4 s.left, blob_needs_more s.left enough) in
-        (_, rw (number_there w32 s enough, bytes_there count next there) refl)
+      | inl less ↦ absurd (omega (arith, blob_needs_four s.left less))
+      | inr enough ↦
+          let count : ℕ = from_le_bytes w32 (take 4 s.left) in
+          let next : Spot = record { place = s.place + 4; left = drop 4 s.left } in
+          let there : count ≤ length next.left = omega (arith, length-drop 4 s.left, blob_needs_more s.left enough) in
+          let made : List ℕ × Spot = (take count next.left, record { place = next.place + count; left = drop count next.left }) in
+          (made, rw (number_there w32 s enough, bytes_there count next there) refl)
     ]
 
 pub blob_field : IsField blob_form blob_needs
 blob_field = record {
   short = blob_short;
-  there = λ s e le bad. let good = blob_there s le in absurd (no_fault (blob_at s) good.0 e good.1 bad)
+  there = λ s e le bad. let good = blob_there s le in absurd (no_fault (blob_at s) good.0 e good.1 bad);
 }
 
 numbered_short : (s : Spot) → length s.left < name_needs s.left → (field (pair u32_form blob_form)).at s ≡ Err (Short s.place)
 numbered_short s lt =
     elim (cases_lt (length s.left) 4) as (λ _. (field (pair u32_form blob_form)).at s ≡ Err (Short s.place)) [
-      inl less ↦ rw (number_short w32 s less) refl
-    | inr enough ↦
-        let next : Spot = record { place = s.place + 4; left = drop 4 s.left } in
-        let fewer : length next.left < blob_needs next.left = omega (arith, length-drop 4 s.left) in
-        rw (number_there w32 s enough, blob_short next fewer) refl
+      | inl less ↦ rw (number_short w32 s less) refl
+      | inr enough ↦
+          let next : Spot = record { place = s.place + 4; left = drop 4 s.left } in
+          let fewer : length next.left < blob_needs next.left = omega (arith, length-drop 4 s.left) in
+          rw (number_there w32 s enough, blob_short next fewer) refl
     ]
 
 at_least_four : (bytes : List ℕ) → 4 ≤ blob_needs bytes
 at_least_four bytes =
     elim (cases_lt (length bytes) 4) as (λ _. 4 ≤ blob_needs bytes) [
-      inl less ↦ omega (arith, blob_needs_four bytes less)
-    | inr enough ↦ omega (arith, blob_needs_more bytes enough)
+      | inl less ↦ omega (arith, blob_needs_four bytes less)
+      | inr enough ↦ omega (arith, blob_needs_more bytes enough)
     ]
 
 numbered_there : (s : Spot) → name_needs s.left ≤ length s.left → (x : (ℕ × List ℕ) × Spot) × ((field (pair u32_form blob_form)).at s ≡ Ok x)
@@ -198,10 +201,11 @@ numbered_there s le =
     let least = at_least_four (drop 4 s.left) in
     let enough : 4 ≤ length s.left = omega (arith, least) in
     let good = blob_there next (omega (arith, length-drop 4 s.left)) in
-    (_, rw (number_there w32 s enough, good.1) refl)
+    let made : (ℕ × List ℕ) × Spot = ((from_le_bytes w32 (take 4 s.left), good.0.0), good.0.1) in
+    (made, rw (number_there w32 s enough, good.1) refl)
 
 pub name_field : IsField name_form name_needs
 name_field = checked_field name_of name_parts (field (pair u32_form blob_form)) name_needs (record {
   short = numbered_short;
-  there = λ s e le bad. let good = numbered_there s le in absurd (no_fault ((field (pair u32_form blob_form)).at s) good.0 e good.1 bad)
+  there = λ s e le bad. let good = numbered_there s le in absurd (no_fault ((field (pair u32_form blob_form)).at s) good.0 e good.1 bad);
 })

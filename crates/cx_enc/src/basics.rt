@@ -12,7 +12,7 @@ use std::alloc::{AllocError, Global};
 
 impl Encoded for u64 {
     ghost use Rattle.cx_enc.specs.Forms.{u64_form};
-    ghost use Rattle.cx_enc.proofs.Lawful.{u64-lawful};
+    ghost use Rattle.cx_enc.specs.Lawful.{u64-lawful};
 
     ghost form = { u64_form };
 
@@ -30,7 +30,7 @@ impl Encoded for u64 {
 
 impl Encoded for Time {
     ghost use Rattle.cx_enc.specs.Values.{time_form};
-    ghost use Rattle.cx_enc.proofs.Primitives.{time-lawful};
+    ghost use Rattle.cx_enc.specs.Primitives.{time-lawful};
 
     ghost form = { time_form };
 
@@ -48,7 +48,7 @@ impl Encoded for Time {
 
 impl Encoded for Key {
     ghost use Rattle.cx_enc.specs.Values.{key_form};
-    ghost use Rattle.cx_enc.proofs.Primitives.{key-lawful};
+    ghost use Rattle.cx_enc.specs.Primitives.{key-lawful};
 
     ghost form = { key_form };
 
@@ -66,7 +66,7 @@ impl Encoded for Key {
 
 impl Encoded for Addr {
     ghost use Rattle.cx_enc.specs.Values.{addr_form};
-    ghost use Rattle.cx_enc.proofs.Primitives.{addr-lawful};
+    ghost use Rattle.cx_enc.specs.Primitives.{addr-lawful};
 
     ghost form = { addr_form };
 
@@ -84,7 +84,7 @@ impl Encoded for Addr {
 
 impl Encoded for EntityType {
     ghost use Rattle.cx_enc.specs.Values.{kind_form};
-    ghost use Rattle.cx_enc.proofs.Primitives.{kind-lawful};
+    ghost use Rattle.cx_enc.specs.Primitives.{kind-lawful};
 
     ghost form = { kind_form };
 
@@ -102,7 +102,7 @@ impl Encoded for EntityType {
 
 impl Encoded for EntityName {
     ghost use Rattle.cx_enc.specs.Values.{name_form};
-    ghost use Rattle.cx_enc.proofs.Primitives.{name-lawful};
+    ghost use Rattle.cx_enc.specs.Primitives.{name-lawful};
 
     ghost form = { name_form };
 
@@ -123,7 +123,7 @@ impl Encoded for EntityName {
 
 impl Encoded for Blob {
     ghost use Rattle.cx_enc.specs.Forms.{blob_form};
-    ghost use Rattle.cx_enc.proofs.Lawful.{blob-lawful};
+    ghost use Rattle.cx_enc.specs.Lawful.{blob-lawful};
 
     ghost form = { blob_form };
 
@@ -144,7 +144,7 @@ impl Encoded for Blob {
 
 impl<T: Encoded> Encoded for Items<T> {
     ghost use Rattle.cx_enc.specs.Forms.{many};
-    ghost use Rattle.cx_enc.proofs.Lawful.{many-lawful};
+    ghost use Rattle.cx_enc.specs.Lawful.{many-lawful};
 
     ghost form = { many T.form };
 

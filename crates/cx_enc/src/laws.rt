@@ -19,8 +19,7 @@ pub fn encoding_laws()
     ensures kind { IsLawful kind_form }
     ensures name { IsLawful name_form }
     ensures flag { IsLawful flag_form }
-{
-}
+{}
 
 /// Each primitive field falls short, at its own place, exactly where it needs more bytes than are left; where they are there
 /// and spell no value, it is a bad field, at its own place.
@@ -37,5 +36,4 @@ pub fn fault_laws()
     ensures kind { IsField kind_form (λ _. 4) }
     ensures name { IsField name_form name_needs }
     ensures flag { IsField flag_form (λ _. 1) }
-{
-}
+{}

@@ -1,8 +1,8 @@
 //! Two records of the tests: one of seven fields, and one with a counted list of records of three fields.
 
 use crate::{
-    Cut, Encoded, Key, ReadRefusal, Time, put_blob, put_flag, put_key, put_kind, put_many, put_name,
-    put_time, put_u8, put_u64, take_many,
+    Cut, Encoded, Key, ReadRefusal, Time, put_blob, put_flag, put_key, put_kind, put_many,
+    put_name, put_time, put_u8, put_u64, take_many,
 };
 use cx_base::{Blob, EntityName, EntityType, Items};
 use std::alloc::{AllocError, Global};
@@ -27,26 +27,22 @@ impl Encoded for Notice {
     ghost use Rattle.cx_enc.specs.Forms.{u8_form, u64_form, blob_form, pair, seen};
     ghost use Rattle.cx_enc.specs.Values.{fixed, kind_form, time_form, key_form, name_form, flag_form};
     ghost use Rattle.cx_enc.specs.declared.samples.Notice.{Notice};
-    ghost use Rattle.cx_enc.proofs.Lawful.{u8-lawful, u64-lawful, blob-lawful, pair-lawful, seen-lawful};
-    ghost use Rattle.cx_enc.proofs.Primitives.{fixed-lawful, kind-lawful, time-lawful, key-lawful, name-lawful, flag-lawful};
+    ghost use Rattle.cx_enc.specs.Lawful.{u8-lawful, u64-lawful, blob-lawful, pair-lawful, seen-lawful};
+    ghost use Rattle.cx_enc.specs.Primitives.{fixed-lawful, kind-lawful, time-lawful, key-lawful, name-lawful, flag-lawful};
 
     // a byte 9, the service, the global id, the time of making, the session key, the owner, the flag and the text
-    ghost form = {
-        seen
-            (λ (a : Unit {0} × (EntityType × (ℕ × (Moment × (Key × (Name × (Bool × List ℕ))))))). record { service = a.1.0; gid = a.1.1.0; created = a.1.1.1.0; session = a.1.1.1.1.0; owner = a.1.1.1.1.1.0; urgent = a.1.1.1.1.1.1.0; text = a.1.1.1.1.1.1.1 })
-            (λ (n : Notice). (tt, (n.service, (n.gid, (n.created, (n.session, (n.owner, (n.urgent, n.text))))))))
-            (pair (fixed 9 u8_form) (pair kind_form (pair u64_form (pair time_form (pair key_form (pair name_form (pair flag_form blob_form)))))))
-    };
+    ghost form = { seen
+        (λ (a : Unit {0} × (EntityType × (ℕ × (Moment × (Key × (Name × (Bool × List ℕ))))))). record { service = a.1.0; gid = a.1.1.0; created = a.1.1.1.0; session = a.1.1.1.1.0; owner = a.1.1.1.1.1.0; urgent = a.1.1.1.1.1.1.0; text = a.1.1.1.1.1.1.1 })
+        (λ (n : Notice). (tt, (n.service, (n.gid, (n.created, (n.session, (n.owner, (n.urgent, n.text))))))))
+        (pair (fixed 9 u8_form) (pair kind_form (pair u64_form (pair time_form (pair key_form (pair name_form (pair flag_form blob_form))))))) };
 
-    ghost lawful = {
-        seen-lawful
-            (λ (a : Unit {0} × (EntityType × (ℕ × (Moment × (Key × (Name × (Bool × List ℕ))))))). record { service = a.1.0; gid = a.1.1.0; created = a.1.1.1.0; session = a.1.1.1.1.0; owner = a.1.1.1.1.1.0; urgent = a.1.1.1.1.1.1.0; text = a.1.1.1.1.1.1.1 })
-            (λ (n : Notice). (tt, (n.service, (n.gid, (n.created, (n.session, (n.owner, (n.urgent, n.text))))))))
-            _
-            (pair-lawful _ _ (fixed-lawful 9 _ u8-lawful) (pair-lawful _ _ kind-lawful (pair-lawful _ _ u64-lawful (pair-lawful _ _ time-lawful (pair-lawful _ _ key-lawful (pair-lawful _ _ name-lawful (pair-lawful _ _ flag-lawful blob-lawful)))))))
-            (λ _. refl)
-            (λ _. refl)
-    };
+    ghost lawful = { seen-lawful
+        (λ (a : Unit {0} × (EntityType × (ℕ × (Moment × (Key × (Name × (Bool × List ℕ))))))). record { service = a.1.0; gid = a.1.1.0; created = a.1.1.1.0; session = a.1.1.1.1.0; owner = a.1.1.1.1.1.0; urgent = a.1.1.1.1.1.1.0; text = a.1.1.1.1.1.1.1 })
+        (λ (n : Notice). (tt, (n.service, (n.gid, (n.created, (n.session, (n.owner, (n.urgent, n.text))))))))
+        _
+        (pair-lawful _ _ (fixed-lawful 9 _ u8-lawful) (pair-lawful _ _ kind-lawful (pair-lawful _ _ u64-lawful (pair-lawful _ _ time-lawful (pair-lawful _ _ key-lawful (pair-lawful _ _ name-lawful (pair-lawful _ _ flag-lawful blob-lawful)))))))
+        (λ _. refl)
+        (λ _. refl) };
 
     fn take(alloc: Global, cut: &mut Cut<'_>) -> Result<Notice, ReadRefusal> {
         let mut at = *cut;
@@ -100,25 +96,21 @@ impl Encoded for Seat {
     ghost use Rattle.cx_enc.specs.Forms.{u64_form, pair, seen};
     ghost use Rattle.cx_enc.specs.Values.{time_form, key_form};
     ghost use Rattle.cx_enc.specs.declared.samples.Seat.{Seat};
-    ghost use Rattle.cx_enc.proofs.Lawful.{u64-lawful, pair-lawful, seen-lawful};
-    ghost use Rattle.cx_enc.proofs.Primitives.{time-lawful, key-lawful};
+    ghost use Rattle.cx_enc.specs.Lawful.{u64-lawful, pair-lawful, seen-lawful};
+    ghost use Rattle.cx_enc.specs.Primitives.{time-lawful, key-lawful};
 
-    ghost form = {
-        seen
-            (λ (a : ℕ × (Key × Moment)). record { id = a.0; key = a.1.0; expires = a.1.1 })
-            (λ (s : Seat). (s.id, (s.key, s.expires)))
-            (pair u64_form (pair key_form time_form))
-    };
+    ghost form = { seen
+        (λ (a : ℕ × (Key × Moment)). record { id = a.0; key = a.1.0; expires = a.1.1 })
+        (λ (s : Seat). (s.id, (s.key, s.expires)))
+        (pair u64_form (pair key_form time_form)) };
 
-    ghost lawful = {
-        seen-lawful
-            (λ (a : ℕ × (Key × Moment)). record { id = a.0; key = a.1.0; expires = a.1.1 })
-            (λ (s : Seat). (s.id, (s.key, s.expires)))
-            _
-            (pair-lawful _ _ u64-lawful (pair-lawful _ _ key-lawful time-lawful))
-            (λ _. refl)
-            (λ _. refl)
-    };
+    ghost lawful = { seen-lawful
+        (λ (a : ℕ × (Key × Moment)). record { id = a.0; key = a.1.0; expires = a.1.1 })
+        (λ (s : Seat). (s.id, (s.key, s.expires)))
+        _
+        (pair-lawful _ _ u64-lawful (pair-lawful _ _ key-lawful time-lawful))
+        (λ _. refl)
+        (λ _. refl) };
 
     fn take(_alloc: Global, cut: &mut Cut<'_>) -> Result<Seat, ReadRefusal> {
         let mut at = *cut;
@@ -151,25 +143,21 @@ impl Encoded for Roster {
     ghost use Rattle.cx_enc.specs.Forms.{pair, seen, many};
     ghost use Rattle.cx_enc.specs.Values.{kind_form};
     ghost use Rattle.cx_enc.specs.declared.samples.Roster.{Roster};
-    ghost use Rattle.cx_enc.proofs.Lawful.{pair-lawful, seen-lawful, many-lawful};
-    ghost use Rattle.cx_enc.proofs.Primitives.{kind-lawful};
+    ghost use Rattle.cx_enc.specs.Lawful.{pair-lawful, seen-lawful, many-lawful};
+    ghost use Rattle.cx_enc.specs.Primitives.{kind-lawful};
 
-    ghost form = {
-        seen
-            (λ (a : EntityType × List Seat). record { service = a.0; seats = a.1 })
-            (λ (r : Roster). (r.service, r.seats))
-            (pair kind_form (many ⟦<Seat as Encoded>⟧.form))
-    };
+    ghost form = { seen
+        (λ (a : EntityType × List Seat). record { service = a.0; seats = a.1 })
+        (λ (r : Roster). (r.service, r.seats))
+        (pair kind_form (many ⟦<Seat as Encoded>⟧.form)) };
 
-    ghost lawful = {
-        seen-lawful
-            (λ (a : EntityType × List Seat). record { service = a.0; seats = a.1 })
-            (λ (r : Roster). (r.service, r.seats))
-            _
-            (pair-lawful _ _ kind-lawful (many-lawful _ ⟦<Seat as Encoded>⟧.lawful))
-            (λ _. refl)
-            (λ _. refl)
-    };
+    ghost lawful = { seen-lawful
+        (λ (a : EntityType × List Seat). record { service = a.0; seats = a.1 })
+        (λ (r : Roster). (r.service, r.seats))
+        _
+        (pair-lawful _ _ kind-lawful (many-lawful _ ⟦<Seat as Encoded>⟧.lawful))
+        (λ _. refl)
+        (λ _. refl) };
 
     fn take(alloc: Global, cut: &mut Cut<'_>) -> Result<Roster, ReadRefusal> {
         let mut at = *cut;

@@ -1,23 +1,28 @@
 //! Fields at their edges, and the two records cut short and with a byte changed.
 
 use crate::samples::{Notice, Roster, Seat};
-use crate::{Addr, Cut, Encoded, Key, ReadFault, ReadRefusal, Time, kind_of, put_addr, put_name, read_whole};
+use crate::{
+    Addr, Cut, Encoded, Key, ReadFault, ReadRefusal, Time, kind_of, put_addr, put_name, read_whole,
+};
 use cx_base::{Blob, EntityName, EntityType, Items, SECOND, Text};
 use std::alloc::Global;
 use std::test::Fail;
 
 const NOTICE: [u8; 66] = [
-    9, 4, 0, 0, 0, 3, 0, 0, 0, 0, 0, 0, 0, 0xe8, 3, 0, 0, 0xff, 0xc9, 0x9a, 0x3b, 1, 0, 0, 0, 0, 0, 0, 0, 0,
-    0, 16, 0, 1, 2, 3, 4, 5, 6, 7, 8, 9, 10, 11, 12, 13, 14, 15, 16, 4, 0, 0, 0, 1, 0, 0, 0, b'0', 1, 3, 0, 0,
-    0, b'a', b'b', b'c',
+    9, 4, 0, 0, 0, 3, 0, 0, 0, 0, 0, 0, 0, 0xe8, 3, 0, 0, 0xff, 0xc9, 0x9a, 0x3b, 1, 0, 0, 0, 0, 0,
+    0, 0, 0, 0, 16, 0, 1, 2, 3, 4, 5, 6, 7, 8, 9, 10, 11, 12, 13, 14, 15, 16, 4, 0, 0, 0, 1, 0, 0,
+    0, b'0', 1, 3, 0, 0, 0, b'a', b'b', b'c',
 ];
+
 const NOTICE_FIELDS: [usize; 8] = [0, 1, 5, 13, 21, 49, 58, 59];
 
 const ROSTER: [u8; 96] = [
-    16, 0, 0, 0, 2, 0, 0, 0, 1, 0, 0, 0, 0, 0, 0, 0, 1, 0, 0, 0, 0, 0, 0, 0, 0, 0, 16, 0, 7, 7, 7, 7, 7, 7, 7, 7,
-    7, 7, 7, 7, 7, 7, 7, 7, 0xf8, 0x11, 0, 0, 0, 0, 0, 0, 2, 0, 0, 0, 0, 0, 0, 0, 1, 0, 0, 0, 0, 0, 0, 0, 0, 0,
-    16, 0, 8, 8, 8, 8, 8, 8, 8, 8, 8, 8, 8, 8, 8, 8, 8, 8, 8, 0x20, 0, 0, 0, 0, 0, 0,
+    16, 0, 0, 0, 2, 0, 0, 0, 1, 0, 0, 0, 0, 0, 0, 0, 1, 0, 0, 0, 0, 0, 0, 0, 0, 0, 16, 0, 7, 7, 7,
+    7, 7, 7, 7, 7, 7, 7, 7, 7, 7, 7, 7, 7, 0xf8, 0x11, 0, 0, 0, 0, 0, 0, 2, 0, 0, 0, 0, 0, 0, 0, 1,
+    0, 0, 0, 0, 0, 0, 0, 0, 0, 16, 0, 8, 8, 8, 8, 8, 8, 8, 8, 8, 8, 8, 8, 8, 8, 8, 8, 8, 0x20, 0,
+    0, 0, 0, 0, 0,
 ];
+
 const ROSTER_FIELDS: [usize; 8] = [0, 4, 8, 16, 44, 52, 60, 88];
 
 fn name(alloc: Global, kind: EntityType, id: &[u8]) -> Result<EntityName, Fail> {
@@ -91,22 +96,24 @@ fn a_record_cut_short_names_the_field(rt: HostRuntime) {
     for length in 0..66 {
         let read: Result<Notice, ReadRefusal> = read_whole(alloc, &NOTICE[..length]);
         let short = ReadFault::Short(field_of(&NOTICE_FIELDS, length));
-        assert!(rt; matches!(&read, Err(ReadRefusal::Fault(fault)) if *fault == short), "at {length}");
+        assert!(rt;
+            matches!(&read, Err(ReadRefusal::Fault(fault)) if *fault == short),
+            "at {length}"
+        );
     }
     for length in 0..96 {
         let read: Result<Roster, ReadRefusal> = read_whole(alloc, &ROSTER[..length]);
         let short = ReadFault::Short(field_of(&ROSTER_FIELDS, length));
-        assert!(rt; matches!(&read, Err(ReadRefusal::Fault(fault)) if *fault == short), "at {length}");
+        assert!(rt;
+            matches!(&read, Err(ReadRefusal::Fault(fault)) if *fault == short),
+            "at {length}"
+        );
     }
 }
 
 // Whether the answer to bytes of which one was changed, in the field at this place, is a value that is spelled by them, or a
 // refusal at that field or behind it.
-fn is_answered<T: Encoded>(
-    alloc: Global,
-    bytes: &[u8],
-    field: usize,
-) -> Result<bool, Fail> {
+fn is_answered<T: Encoded>(alloc: Global, bytes: &[u8], field: usize) -> Result<bool, Fail> {
     Ok(match read_whole::<T>(alloc, bytes) {
         Ok(_) => true,
         Err(ReadRefusal::Fault(ReadFault::BadField(place))) => place == field,
@@ -125,13 +132,19 @@ fn a_changed_byte_is_read_as_another_value_or_refused_at_its_field(
         let mut changed = NOTICE;
         changed[place] ^= 1;
         let field = field_of(&NOTICE_FIELDS, place);
-        assert!(rt; is_answered::<Notice>(alloc, &changed, field)?, "at {place}");
+        assert!(rt;
+            is_answered::<Notice>(alloc, &changed, field)?,
+            "at {place}"
+        );
     }
     for place in 0..96 {
         let mut changed = ROSTER;
         changed[place] ^= 1;
         let field = field_of(&ROSTER_FIELDS, place);
-        assert!(rt; is_answered::<Roster>(alloc, &changed, field)?, "at {place}");
+        assert!(rt;
+            is_answered::<Roster>(alloc, &changed, field)?,
+            "at {place}"
+        );
     }
     Ok(())
 }
@@ -158,7 +171,10 @@ fn fields_are_judged_at_their_edges(rt: HostRuntime) -> Result<(), Fail> {
         port: 6789,
     };
     put_addr(alloc, &mut written, &addr)?;
-    assert_eq!(rt; written.bytes(), [1, 2, 0, 0, 0, 7, 0, 0, 0, 10, 0, 0, 1, 0x85, 0x1a].as_slice());
+    assert_eq!(rt;
+        written.bytes(),
+        [1, 2, 0, 0, 0, 7, 0, 0, 0, 10, 0, 0, 1, 0x85, 0x1a].as_slice()
+    );
     let read: Addr = read_whole(alloc, written.bytes())?;
     assert!(rt; read == addr);
     assert!(rt; kind_of(32) == Some(EntityType::Auth));

@@ -10,7 +10,7 @@ use Rattle.cx_enc.specs.Moments.{Moment}
 use Rattle.cx_enc.specs.declared.keys.Key.{Key}
 use Rattle.cx_enc.specs.Forms.{Form, IsLawful, u8_form, u16_form, u32_form, bytes_form, blob_form, pair, field, checked}
 use Rattle.cx_enc.specs.Values.{moment_of, moment_parts, time_form, key_of, key_parts, key_form, addr_of, addr_parts, addr_form, number_of, kind_of, kind_form, with_id, name_of, name_parts, name_form, fixed_of, fixed, flag_of, flag_number, flag_form}
-use Rattle.cx_enc.proofs.Lawful.{u8-lawful, u16-lawful, u32-lawful, bytes-lawful, blob-lawful, pair-lawful, field-lawful, checked-lawful}
+use Rattle.cx_enc.specs.Lawful.{u8-lawful, u16-lawful, u32-lawful, bytes-lawful, blob-lawful, pair-lawful, field-lawful, checked-lawful}
 
 -- a test that makes a value
 some_if : {X : Type 0} (b : Bool) (v x : X) → cond b (Some v) None ≡ Some x → (b ≡ true) × (v ≡ x)
