@@ -1,5 +1,9 @@
 //! Two records of the tests: one of seven fields, and one with a counted list of records of three fields.
 
+ghost use Rattle.std.specs.Prelude.{◌≡◌, ◌++◌, ◌<◌, ◌^◌, length, OnOk};
+ghost use Rattle.cx_enc.specs.Forms.{blob_form, pair};
+ghost use Rattle.cx_enc.specs.Values.{name_form, flag_form};
+
 use crate::{
     Cut, Encoded, Key, ReadRefusal, Time, put_blob, put_flag, put_key, put_kind, put_many,
     put_name, put_time, put_u8, put_u64, take_many,
@@ -75,11 +79,19 @@ impl Encoded for Notice {
         put_u64(alloc, &mut spelled, self.gid)?;
         put_time(alloc, &mut spelled, &self.created)?;
         put_key(alloc, &mut spelled, &self.session)?;
-        put_name(alloc, &mut spelled, &self.owner)?;
-        put_flag(alloc, &mut spelled, self.urgent)?;
-        put_blob(alloc, &mut spelled, self.text.bytes())?;
+        put_ending(alloc, &mut spelled, self)?;
         into.append(alloc, spelled.bytes())
     }
+}
+
+// Writes the owner, the flag and the text.
+fn put_ending(alloc: Global, into: &mut Blob, notice: &Notice) -> Result<(), AllocError>
+    requires { length notice.now.text < 2 ^ 32 }
+    ensures { OnOk result (into.new ≡ into.old ++ (pair name_form (pair flag_form blob_form)).text (notice.now.owner, (notice.now.urgent, notice.now.text))) }
+{
+    put_name(alloc, into, &notice.owner)?;
+    put_flag(alloc, into, notice.urgent)?;
+    put_blob(alloc, into, notice.text.bytes())
 }
 
 #[derive(Debug, PartialEq, Eq, Drop)]
@@ -137,14 +149,16 @@ pub struct Roster {
 }
 
 impl Encoded for Roster {
-    ghost use Rattle.std.specs.Prelude.{List, refl};
+    ghost use Rattle.std.specs.Prelude.{ℕ, List, refl};
+    ghost use Rattle.cx_enc.specs.Moments.{Moment};
+    ghost use Rattle.cx_enc.specs.declared.keys.Key.{Key};
     ghost use Rattle.cx_base.specs.declared.kinds.EntityType.{EntityType};
     ghost use Rattle.cx_enc.specs.declared.samples.Seat.{Seat};
     ghost use Rattle.cx_enc.specs.Forms.{pair, seen, many};
     ghost use Rattle.cx_enc.specs.Values.{kind_form};
     ghost use Rattle.cx_enc.specs.declared.samples.Roster.{Roster};
-    ghost use Rattle.cx_enc.specs.Lawful.{pair-lawful, seen-lawful, many-lawful};
-    ghost use Rattle.cx_enc.specs.Primitives.{kind-lawful};
+    ghost use Rattle.cx_enc.specs.Lawful.{u64-lawful, pair-lawful, seen-lawful, many-lawful};
+    ghost use Rattle.cx_enc.specs.Primitives.{kind-lawful, time-lawful, key-lawful};
 
     ghost form = { seen
         (λ (a : EntityType × List Seat). record { service = a.0; seats = a.1 })
@@ -155,7 +169,7 @@ impl Encoded for Roster {
         (λ (a : EntityType × List Seat). record { service = a.0; seats = a.1 })
         (λ (r : Roster). (r.service, r.seats))
         _
-        (pair-lawful _ _ kind-lawful (many-lawful _ ⟦<Seat as Encoded>⟧.lawful))
+        (pair-lawful _ _ kind-lawful (many-lawful _ (seen-lawful (λ (a : ℕ × (Key × Moment)). record { id = a.0; key = a.1.0; expires = a.1.1 }) (λ (s : Seat). (s.id, (s.key, s.expires))) _ (pair-lawful _ _ u64-lawful (pair-lawful _ _ key-lawful time-lawful)) (λ _. refl) (λ _. refl))))
         (λ _. refl)
         (λ _. refl) };
 

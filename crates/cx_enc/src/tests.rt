@@ -29,6 +29,17 @@ fn name(alloc: Global, kind: EntityType, id: &[u8]) -> Result<EntityName, Fail> 
     Ok(EntityName::new(kind, Text::of(alloc, id)?)?)
 }
 
+fn seat(id: u64, seconds: u16, byte: u8) -> Seat {
+    Seat {
+        id,
+        key: Key {
+            created: Time::of(0),
+            secret: [byte; 16],
+        },
+        expires: Time::of(u64::from(seconds) * SECOND),
+    }
+}
+
 // The field that holds the byte at this place.
 fn field_of(fields: &[usize], place: usize) -> usize {
     let mut found = 0;
@@ -58,7 +69,7 @@ fn a_record_of_seven_fields_is_read_and_written(rt: HostRuntime) -> Result<(), F
     let read: Notice = read_whole(alloc, &NOTICE)?;
     assert!(rt; read == notice);
     let mut written = Blob::new(alloc);
-    notice.put(alloc, &mut written)?;
+    read.put(alloc, &mut written)?;
     assert_eq!(rt; written.bytes(), NOTICE.as_slice());
     Ok(())
 }
@@ -67,17 +78,8 @@ fn a_record_of_seven_fields_is_read_and_written(rt: HostRuntime) -> Result<(), F
 fn a_counted_list_of_records_is_read_and_written(rt: HostRuntime) -> Result<(), Fail> {
     let alloc = rt.alloc();
     let mut seats = Items::new(alloc);
-    for (id, seconds, byte) in [(1, 4600, 7), (2, 8200, 8)] {
-        let seat = Seat {
-            id,
-            key: Key {
-                created: Time::of(0),
-                secret: [byte; 16],
-            },
-            expires: Time::of(seconds * SECOND),
-        };
-        seats.push(alloc, seat)?;
-    }
+    seats.push(alloc, seat(1, 4600, 7))?;
+    seats.push(alloc, seat(2, 8200, 8))?;
     let roster = Roster {
         service: EntityType::Mgr,
         seats,
@@ -85,7 +87,7 @@ fn a_counted_list_of_records_is_read_and_written(rt: HostRuntime) -> Result<(), 
     let read: Roster = read_whole(alloc, &ROSTER)?;
     assert!(rt; read == roster);
     let mut written = Blob::new(alloc);
-    roster.put(alloc, &mut written)?;
+    read.put(alloc, &mut written)?;
     assert_eq!(rt; written.bytes(), ROSTER.as_slice());
     Ok(())
 }
