@@ -1,5 +1,5 @@
 -- An id of an entity is ASCII.
-use Rattle.std.proofs.Common.{◌≡◌, ℕ, ◌+◌, ◌≤◌, Bool, true, false, cond, ltb, List, [], ◌∷◌, length, Option, Some, None, refl, arith}
+use Rattle.std.proofs.Common.{◌≡◌, ℕ, Bool, true, false, cond, ltb, List, [], ◌∷◌, length, Some, None, refl, arith}
 use Rattle.std.specs.Prelude.{IsTrue, nat_le, ◌&&◌, ◌||◌}
 use Rattle.std.specs.List.{list_all, position, position_or_len}
 use Rattle.std.proofs.lemmas.Bool.{le-ltb}

@@ -1,11 +1,11 @@
 -- Which fault each primitive field has.
-use Rattle.std.proofs.Common.{◌≡◌, ℕ, ◌+◌, ◌-◌, ◌<◌, ◌≤◌, Bool, true, false, cond, ltb, List, length, take, drop, Option, Some, None, Result, Ok, Err, refl, sym, ap, ◌∙◌, arith, length-drop, inl, inr}
+use Rattle.std.proofs.Common.{◌≡◌, ℕ, ◌+◌, ◌<◌, ◌≤◌, List, length, take, drop, Option, Some, None, Result, Ok, Err, refl, sym, ◌∙◌, arith, length-drop, inl, inr}
 use Rattle.std.specs.Int.{Width, w8, w16, w32, w64, byte_len, from_le_bytes}
 use Rattle.std.proofs.lemmas.Bool.{cases_lt, lt-ltb, le-ltb}
 use Rattle.std.proofs.lemmas.List.{drop-drop}
 use Rattle.cx_enc.specs.declared.faults.ReadFault.{ReadFault}
 use Rattle.cx_enc.specs.declared.faults.ReadFault.TheVariants.{Short, BadField}
-use Rattle.cx_enc.specs.Forms.{Spot, ◌>>=◌, Form, bytes_at, bytes_form, little, number_at, u8_form, u16_form, u32_form, u64_form, pair, short_at, field, or_bad, checked, blob_at, blob_form}
+use Rattle.cx_enc.specs.Forms.{Spot, ◌>>=◌, Form, bytes_at, bytes_form, number_at, u8_form, u16_form, u32_form, u64_form, pair, short_at, field, or_bad, checked, blob_at, blob_form}
 use Rattle.cx_enc.specs.Values.{moment_of, moment_parts, time_form, key_of, key_parts, key_form, addr_of, addr_parts, addr_form, number_of, kind_of, kind_form, name_of, name_parts, name_form, flag_of, flag_number, flag_form}
 use Rattle.cx_enc.specs.Needs.{IsField, blob_needs, name_needs}
 

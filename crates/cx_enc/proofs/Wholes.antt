@@ -1,5 +1,5 @@
 -- What reads all of some bytes.
-use Rattle.std.proofs.Common.{◌≡◌, ℕ, ◌+◌, ◌<◌, List, [], ◌∷◌, ◌++◌, length, Result, Ok, Err, refl, sym, ap, ◌∙◌, arith}
+use Rattle.std.proofs.Common.{◌≡◌, ℕ, ◌+◌, List, [], ◌++◌, length, Result, Ok, Err, refl, sym, ap, ◌∙◌}
 use Rattle.std.proofs.lemmas.List.{append-nil}
 use Rattle.cx_enc.specs.declared.faults.ReadFault.{ReadFault}
 use Rattle.cx_enc.specs.Forms.{Spot, Form, IsBytes, IsLawful}

@@ -1,8 +1,8 @@
 -- What a reader answers, against what a form reads.
-use Rattle.std.specs.Prelude.{ℕ, ◌≡◌, Result, Ok, Err}
+use Rattle.std.specs.Prelude.{◌≡◌, Result, Ok, Err}
 use Rattle.cx_enc.specs.declared.faults.ReadFault.{ReadFault}
 use Rattle.cx_enc.specs.declared.cut.Cut.{Cut}
-use Rattle.cx_enc.specs.Forms.{Spot, Form}
+use Rattle.cx_enc.specs.Forms.{Spot}
 
 -- where a cut stands
 abbrev pub spot : Cut → Spot

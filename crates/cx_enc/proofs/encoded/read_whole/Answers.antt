@@ -1,5 +1,5 @@
 -- A value is spelled by all of the bytes exactly where it is read and nothing is left.
-use Rattle.std.proofs.Common.{◌≡◌, ◌≢◌, Ok, [], length, ap, sym, ◌∙◌, rules, arith}
+use Rattle.std.proofs.Common.{◌≡◌, ◌≢◌, Ok, [], length, ap, rules, arith}
 use Rattle.std.proofs.lemmas.List.{nil_from_length}
 use Rattle.std.proofs.lemmas.Result.{err_from_is_err_and}
 use Rattle.cx_enc.specs.Reading.{spot}

@@ -1,5 +1,5 @@
 -- The loop reads so many values, one behind the other.
-use Rattle.std.proofs.Common.{◌≡◌, ◌++◌, ◌∷◌, [], refl, ap, sym, ◌∙◌, rules}
+use Rattle.std.proofs.Common.{refl}
 use Rattle.std.proofs.lemmas.Result.{err_from_is_err_and}
 use Rattle.cx_enc.specs.Forms.{times_at}
 use Rattle.cx_enc.specs.Reading.{spot}

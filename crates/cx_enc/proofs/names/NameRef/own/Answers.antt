@@ -1,6 +1,4 @@
 -- An id of an entity is ASCII.
-use Rattle.std.proofs.Common.{◌≡◌}
-use Rattle.cx_base.specs.Owners.{IsTextCause}
 use Rattle.cx_enc.proofs.Ids.{id_is_ascii}
 use Rattle.cx_enc.proofs.names.NameRef.own.Goals as goal
 
