@@ -1,0 +1,4 @@
+pub mod Ids
+pub mod Loops
+pub mod Needed
+pub mod Wholes

@@ -1,0 +1,47 @@
+-- What reads all of some bytes.
+use Rattle.std.proofs.Common.{◌≡◌, ℕ, ◌+◌, List, [], ◌++◌, length, Result, Ok, Err, refl, sym, ap, ◌∙◌}
+use Rattle.std.proofs.lemmas.List.{append-nil}
+use Rattle.cx_enc.specs.declared.faults.ReadFault.{ReadFault}
+use Rattle.cx_enc.specs.Forms.{Spot, Form, IsBytes, IsLawful}
+use Rattle.cx_enc.specs.declared.faults.ReadRefusal.{ReadRefusal}
+use Rattle.cx_enc.specs.declared.faults.ReadRefusal.TheVariants as refusals
+use Rattle.cx_enc.specs.Whole.{start, Spells, Takes}
+
+-- a value behind which nothing is left is spelled by all of the bytes
+pub spelled : {X : Type 0} (form : Form X) → IsLawful form → (bytes : List ℕ) (x : X) (next : Spot) → IsBytes bytes → form.at (start bytes) ≡ Ok (x, next) → next.left ≡ [] → Spells form bytes x
+spelled form lawful bytes x next fits read none =
+    let taken = lawful.takes (start bytes) (x, next) fits read in
+    (taken.1, taken.0.whole ∙ ap (λ (rest : List ℕ). form.text x ++ rest) none ∙ append-nil (form.text x))
+
+-- what all of the bytes spell is read, and nothing is left
+pub read_again : {X : Type 0} (form : Form X) → IsLawful form → (bytes : List ℕ) (x : X) → Spells form bytes x → form.at (start bytes) ≡ Ok (x, record { place = 0 + length (form.text x); left = [] })
+read_again form lawful bytes x (fits, is) =
+    let whole : bytes ≡ form.text x ++ [] = is ∙ sym (append-nil (form.text x)) in
+    ap (λ (b : List ℕ). form.at (start b)) whole ∙ lawful.again x 0 [] fits
+
+-- where all of the bytes spell a value, that value is what is read, and nothing is left
+pub nothing_left : {X : Type 0} (form : Form X) → IsLawful form → (bytes : List ℕ) (x y : X) (next : Spot) → Spells form bytes x → form.at (start bytes) ≡ Ok (y, next) → (y ≡ x) × (next.left ≡ [])
+nothing_left {X} form lawful bytes x y next spells read =
+    let again = read_again form lawful bytes x spells in
+    let same = both_ok y x next (record { place = 0 + length (form.text x); left = [] }) (sym read ∙ again) in
+    (same.0, ap (λ (s : Spot). s.left) same.1)
+  where
+    done : {X : Type 0} → X × Spot → Result (X × Spot) ReadFault
+    done x = Ok x
+
+    ok_is : {X : Type 0} (p q : X × Spot) → done p ≡ done q → p ≡ q
+    ok_is p q e = cc
+
+    both_ok : {X : Type 0} (y x : X) (next end : Spot) → done (y, next) ≡ done (x, end) → (y ≡ x) × (next ≡ end)
+    both_ok {X} y x next end e =
+        let pairs : (y, next) ≡ (x, end) = ok_is (y, next) (x, end) e in
+        (ap (λ (p : X × Spot). p.0) pairs, ap (λ (p : X × Spot). p.1) pairs)
+
+-- where all of the bytes spell a value, a reader that refuses wants memory
+pub wants_memory : {X : Type 0} (form : Form X) → IsLawful form → (bytes : List ℕ) (x : X) (e : ReadRefusal) (old new : Spot) → Spells form bytes x → old ≡ start bytes → Takes old new (Err e) (form.at old) → e ≡ refusals.OutOfMemory
+wants_memory form lawful bytes x (refusals.Fault fault) old new spells is refused = absurd (no_fault (form.at old) _ fault (ap form.at is ∙ read_again form lawful bytes x spells) refused.0)
+  where
+    no_fault : {X : Type 0} (r : Result X ReadFault) (x : X) (e : ReadFault) → r ≡ Ok x → r ≡ Err e → ⊥
+    no_fault r x e good bad = cc
+wants_memory form lawful bytes x (refusals.LeftOver place) old new spells is refused = absurd refused
+wants_memory form lawful bytes x refusals.OutOfMemory old new spells is refused = refl

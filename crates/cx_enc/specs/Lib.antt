@@ -1,0 +1,9 @@
+pub mod Forms
+pub mod Lawful
+pub mod Moments
+pub mod Names
+pub mod Needs
+pub mod Primitives
+pub mod Reading
+pub mod Values
+pub mod Whole

@@ -1,0 +1,36 @@
+-- What a reader that may want memory answers, and what a reader of all bytes does.
+use Rattle.std.specs.Prelude.{ℕ, ◌≡◌, ◌≢◌, List, [], Result, Ok, Err}
+use Rattle.cx_enc.specs.declared.faults.ReadRefusal.{ReadRefusal}
+use Rattle.cx_enc.specs.declared.faults.ReadRefusal.TheVariants as refusals
+use Rattle.cx_enc.specs.declared.faults.ReadFault.{ReadFault}
+use Rattle.cx_enc.specs.Forms.{Spot, Form}
+
+-- the answer is what the form reads: the value, and then the new spot is the one behind it; or the fault, and then the spot
+-- is as before; want of memory is free and leaves the spot as before
+abbrev pub TakesAs : {X Y : Type 0} → (Y → X) → Spot → Spot → Result Y ReadRefusal → Result (X × Spot) ReadFault → Type 0
+TakesAs view old new (Ok y) read = read ≡ Ok (view y, new)
+TakesAs view old new (Err (refusals.Fault e)) read = (read ≡ Err e) × (new ≡ old)
+TakesAs view old new (Err (refusals.LeftOver place)) read = ⊥
+TakesAs view old new (Err refusals.OutOfMemory) read = new ≡ old
+
+abbrev pub Takes : {X : Type 0} → Spot → Spot → Result X ReadRefusal → Result (X × Spot) ReadFault → Type 0
+Takes old new answer read = TakesAs (λ x. x) old new answer read
+
+-- the beginning of some bytes
+abbrev pub start : List ℕ → Spot
+start bytes = record { place = 0; left = bytes }
+
+-- all of the bytes spell the value
+abbrev pub Spells : {X : Type 0} → Form X → List ℕ → X → Type 0
+Spells form bytes x = form.Fits x × (bytes ≡ form.text x)
+
+-- why bytes are refused: the first fault, or the place behind the value where bytes are left over; want of memory is free
+abbrev pub IsRefusedBy : {X : Type 0} → Form X → List ℕ → ReadRefusal → Type 0
+IsRefusedBy form bytes (refusals.Fault e) = form.at (start bytes) ≡ Err e
+IsRefusedBy {X} form bytes (refusals.LeftOver place) = (x : X) × (next : Spot) × (form.at (start bytes) ≡ Ok (x, next)) × (next.left ≢ []) × (place ≡ next.place)
+IsRefusedBy form bytes refusals.OutOfMemory = Unit {0}
+
+-- the answer is this value, unless memory was wanting
+abbrev pub Yields : {X : Type 0} → Result X ReadRefusal → X → Type 0
+Yields (Ok y) x = y ≡ x
+Yields (Err e) x = e ≡ refusals.OutOfMemory

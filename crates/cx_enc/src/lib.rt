@@ -1,0 +1,37 @@
+//! The primitive encodings, and the forms of which every record above is made.
+#![tactic(auto)]
+
+mod addresses;
+mod basics;
+mod composed;
+mod cut;
+mod encoded;
+mod faults;
+mod fields;
+mod id_bytes;
+mod keys;
+mod laws;
+mod many;
+mod names;
+mod owning;
+mod puts;
+#[cfg(test)]
+mod samples;
+#[cfg(test)]
+mod tests;
+mod times;
+
+pub use addresses::Addr;
+pub use composed::kind_of;
+pub use cut::Cut;
+pub use encoded::{Encoded, read_whole};
+pub use faults::{ReadFault, ReadRefusal};
+pub use keys::Key;
+pub use laws::{encoding_laws, fault_laws};
+pub use many::{put_many, take_many};
+pub use names::NameRef;
+pub use puts::{
+    number_of, put_addr, put_blob, put_flag, put_key, put_kind, put_name, put_time, put_u8,
+    put_u16, put_u32, put_u64,
+};
+pub use times::Time;

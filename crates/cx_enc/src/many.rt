@@ -1,0 +1,46 @@
+//! Lists with their count.
+
+ghost use Rattle.std.specs.Prelude.{◌≡◌, ◌++◌, OnOk, OnErr};
+ghost use Rattle.cx_enc.specs.Forms.{many};
+ghost use Rattle.cx_enc.specs.Reading.{spot};
+ghost use Rattle.cx_enc.specs.Whole.{Takes};
+
+use crate::cut::Cut;
+use crate::encoded::Encoded;
+use crate::faults::ReadRefusal;
+use crate::puts::put_u32;
+use cx_base::{Blob, Items};
+use std::alloc::{AllocError, Global};
+
+/// Takes a count and so many values. After a refusal the cut stands as before.
+pub fn take_many<T: Encoded>(alloc: Global, cut: &mut Cut<'_>) -> Result<Items<T>, ReadRefusal>
+    ensures { Takes (spot cut.old) (spot cut.new) result ((many T.form).at (spot cut.old)) }
+{
+    let mut at = *cut;
+    let count = at.take_u32()?;
+    let mut items = Items::new(alloc);
+    for _ in 0..count {
+        let item = T::take(alloc, &mut at)?;
+        items.push(alloc, item)?;
+    }
+    *cut = at;
+    Ok(items)
+}
+
+/// Writes the count of the items and each item. Where memory is wanting, the bytes stay as they were.
+pub fn put_many<T: Encoded>(
+    alloc: Global,
+    into: &mut Blob,
+    items: &Items<T>,
+) -> Result<(), AllocError>
+    requires { (many T.form).Fits items.now }
+    ensures ok { OnOk result (into.new ≡ into.old ++ (many T.form).text items.now) }
+    ensures err { OnErr result (into.new ≡ into.old) }
+{
+    let mut spelled = Blob::new(alloc);
+    put_u32(alloc, &mut spelled, items.all().len() as u32)?;
+    for item in items.all() {
+        item.put(alloc, &mut spelled)?;
+    }
+    into.append(alloc, spelled.bytes())
+}

@@ -1,0 +1,140 @@
+//! Writing fields behind some bytes. Where memory is wanting, the bytes stay as they were.
+
+ghost use Rattle.std.specs.Prelude.{◌≡◌, ◌++◌, ◌<◌, ◌^◌, length, OnOk, OnErr};
+ghost use Rattle.cx_enc.specs.Forms.{u8_form, u16_form, u32_form, u64_form, blob_form};
+ghost use Rattle.cx_enc.specs.Values.{time_form, key_form, addr_form, kind_form, name_form, flag_form, number_of};
+
+use crate::addresses::Addr;
+use crate::keys::Key;
+use crate::times::Time;
+use cx_base::{Blob, EntityName, EntityType};
+use std::alloc::{AllocError, Global};
+
+/// Writes a number of one byte.
+#[tactic(auto, unfolding(crate::specs::Forms::little))]
+pub fn put_u8(alloc: Global, into: &mut Blob, value: u8) -> Result<(), AllocError>
+    ensures ok { OnOk result (into.new ≡ into.old ++ u8_form.text value) }
+    ensures err { OnErr result (into.new ≡ into.old) }
+{
+    into.append(alloc, &value.to_le_bytes())
+}
+
+/// Writes a number of two bytes.
+#[tactic(auto, unfolding(crate::specs::Forms::little))]
+pub fn put_u16(alloc: Global, into: &mut Blob, value: u16) -> Result<(), AllocError>
+    ensures ok { OnOk result (into.new ≡ into.old ++ u16_form.text value) }
+    ensures err { OnErr result (into.new ≡ into.old) }
+{
+    into.append(alloc, &value.to_le_bytes())
+}
+
+/// Writes a number of four bytes.
+#[tactic(auto, unfolding(crate::specs::Forms::little))]
+pub fn put_u32(alloc: Global, into: &mut Blob, value: u32) -> Result<(), AllocError>
+    ensures ok { OnOk result (into.new ≡ into.old ++ u32_form.text value) }
+    ensures err { OnErr result (into.new ≡ into.old) }
+{
+    into.append(alloc, &value.to_le_bytes())
+}
+
+/// Writes a number of eight bytes.
+#[tactic(auto, unfolding(crate::specs::Forms::little))]
+pub fn put_u64(alloc: Global, into: &mut Blob, value: u64) -> Result<(), AllocError>
+    ensures ok { OnOk result (into.new ≡ into.old ++ u64_form.text value) }
+    ensures err { OnErr result (into.new ≡ into.old) }
+{
+    into.append(alloc, &value.to_le_bytes())
+}
+
+/// Writes a length and so many bytes.
+pub fn put_blob(alloc: Global, into: &mut Blob, bytes: &[u8]) -> Result<(), AllocError>
+    requires { length bytes.now < 2 ^ 32 }
+    ensures ok { OnOk result (into.new ≡ into.old ++ blob_form.text bytes.now) }
+    ensures err { OnErr result (into.new ≡ into.old) }
+{
+    let mut spelled = Blob::new(alloc);
+    put_u32(alloc, &mut spelled, bytes.len() as u32)?;
+    spelled.append(alloc, bytes)?;
+    into.append(alloc, spelled.bytes())
+}
+
+/// Writes a time.
+pub fn put_time(alloc: Global, into: &mut Blob, time: &Time) -> Result<(), AllocError>
+    ensures ok { OnOk result (into.new ≡ into.old ++ time_form.text time.now) }
+    ensures err { OnErr result (into.new ≡ into.old) }
+{
+    let mut spelled = Blob::new(alloc);
+    put_u32(alloc, &mut spelled, time.secs)?;
+    put_u32(alloc, &mut spelled, time.nanos)?;
+    into.append(alloc, spelled.bytes())
+}
+
+/// Writes a key.
+pub fn put_key(alloc: Global, into: &mut Blob, key: &Key) -> Result<(), AllocError>
+    ensures ok { OnOk result (into.new ≡ into.old ++ key_form.text key.now) }
+    ensures err { OnErr result (into.new ≡ into.old) }
+{
+    let created = &key.created;
+    let mut spelled = Blob::new(alloc);
+    put_u16(alloc, &mut spelled, 1)?;
+    put_u32(alloc, &mut spelled, created.secs)?;
+    put_u32(alloc, &mut spelled, created.nanos)?;
+    put_u16(alloc, &mut spelled, 16)?;
+    spelled.append(alloc, &key.secret)?;
+    into.append(alloc, spelled.bytes())
+}
+
+/// Writes an address.
+pub fn put_addr(alloc: Global, into: &mut Blob, addr: &Addr) -> Result<(), AllocError>
+    ensures ok { OnOk result (into.new ≡ into.old ++ addr_form.text addr.now) }
+    ensures err { OnErr result (into.new ≡ into.old) }
+{
+    let mut spelled = Blob::new(alloc);
+    put_u8(alloc, &mut spelled, 1)?;
+    put_u32(alloc, &mut spelled, 2)?;
+    put_u32(alloc, &mut spelled, addr.nonce)?;
+    spelled.append(alloc, &addr.ip)?;
+    put_u16(alloc, &mut spelled, addr.port)?;
+    into.append(alloc, spelled.bytes())
+}
+
+/// Writes the number of an entity type.
+pub fn put_kind(alloc: Global, into: &mut Blob, kind: EntityType) -> Result<(), AllocError>
+    ensures ok { OnOk result (into.new ≡ into.old ++ kind_form.text kind) }
+    ensures err { OnErr result (into.new ≡ into.old) }
+{
+    put_u32(alloc, into, number_of(kind))
+}
+
+/// Writes a name.
+pub fn put_name(alloc: Global, into: &mut Blob, name: &EntityName) -> Result<(), AllocError>
+    ensures ok { OnOk result (into.new ≡ into.old ++ name_form.text name.now) }
+    ensures err { OnErr result (into.new ≡ into.old) }
+{
+    let mut spelled = Blob::new(alloc);
+    put_kind(alloc, &mut spelled, name.kind)?;
+    put_blob(alloc, &mut spelled, name.id.bytes())?;
+    into.append(alloc, spelled.bytes())
+}
+
+/// Writes a flag.
+pub fn put_flag(alloc: Global, into: &mut Blob, flag: bool) -> Result<(), AllocError>
+    ensures ok { OnOk result (into.new ≡ into.old ++ flag_form.text flag) }
+    ensures err { OnErr result (into.new ≡ into.old) }
+{
+    put_u8(alloc, into, if flag { 1 } else { 0 })
+}
+
+/// The number of an entity type.
+pub fn number_of(kind: EntityType) -> u32
+    ensures { result ≡ number_of kind }
+{
+    match kind {
+        EntityType::Mon => 1,
+        EntityType::Mds => 2,
+        EntityType::Osd => 4,
+        EntityType::Client => 8,
+        EntityType::Mgr => 16,
+        EntityType::Auth => 32,
+    }
+}
