@@ -11,10 +11,13 @@ use cx_base::{Addr, Blob, EntityName, EntityType, Items};
 use std::alloc::{AllocError, Global};
 
 impl Encoded for u64 {
+    ghost use Rattle.std.specs.Prelude.{⊤};
     ghost use Rattle.cx_enc.specs.Forms.{u64_form};
     ghost use Rattle.cx_enc.specs.Lawful.{u64-lawful};
 
     ghost form = { u64_form };
+
+    ghost Bound = { λ _. ⊤ };
 
     ghost lawful = { u64-lawful };
 
@@ -29,10 +32,13 @@ impl Encoded for u64 {
 }
 
 impl Encoded for Time {
+    ghost use Rattle.std.specs.Prelude.{⊤};
     ghost use Rattle.cx_enc.specs.Values.{time_form};
     ghost use Rattle.cx_enc.specs.Primitives.{time-lawful};
 
     ghost form = { time_form };
+
+    ghost Bound = { λ _. ⊤ };
 
     ghost lawful = { time-lawful };
 
@@ -47,10 +53,13 @@ impl Encoded for Time {
 }
 
 impl Encoded for Key {
+    ghost use Rattle.std.specs.Prelude.{⊤};
     ghost use Rattle.cx_enc.specs.Values.{key_form};
     ghost use Rattle.cx_enc.specs.Primitives.{key-lawful};
 
     ghost form = { key_form };
+
+    ghost Bound = { λ _. ⊤ };
 
     ghost lawful = { key-lawful };
 
@@ -65,10 +74,13 @@ impl Encoded for Key {
 }
 
 impl Encoded for Addr {
+    ghost use Rattle.std.specs.Prelude.{⊤};
     ghost use Rattle.cx_enc.specs.Values.{addr_form};
     ghost use Rattle.cx_enc.specs.Primitives.{addr-lawful};
 
     ghost form = { addr_form };
+
+    ghost Bound = { λ _. ⊤ };
 
     ghost lawful = { addr-lawful };
 
@@ -83,10 +95,13 @@ impl Encoded for Addr {
 }
 
 impl Encoded for EntityType {
+    ghost use Rattle.std.specs.Prelude.{⊤};
     ghost use Rattle.cx_enc.specs.Values.{kind_form};
     ghost use Rattle.cx_enc.specs.Primitives.{kind-lawful};
 
     ghost form = { kind_form };
+
+    ghost Bound = { λ _. ⊤ };
 
     ghost lawful = { kind-lawful };
 
@@ -101,10 +116,13 @@ impl Encoded for EntityType {
 }
 
 impl Encoded for EntityName {
+    ghost use Rattle.std.specs.Prelude.{⊤};
     ghost use Rattle.cx_enc.specs.Values.{name_form};
     ghost use Rattle.cx_enc.specs.Primitives.{name-lawful};
 
     ghost form = { name_form };
+
+    ghost Bound = { λ _. ⊤ };
 
     ghost lawful = { name-lawful };
 
@@ -122,10 +140,13 @@ impl Encoded for EntityName {
 }
 
 impl Encoded for Blob {
+    ghost use Rattle.std.specs.Prelude.{length, ◌<◌, ◌^◌};
     ghost use Rattle.cx_enc.specs.Forms.{blob_form};
     ghost use Rattle.cx_enc.specs.Lawful.{blob-lawful};
 
     ghost form = { blob_form };
+
+    ghost Bound = { λ bytes. length bytes < 2 ^ 32 };
 
     ghost lawful = { blob-lawful };
 
@@ -143,10 +164,13 @@ impl Encoded for Blob {
 }
 
 impl<T: Encoded> Encoded for Items<T> {
+    ghost use Rattle.std.specs.Prelude.{length, ◌<◌, ◌^◌, All};
     ghost use Rattle.cx_enc.specs.Forms.{many};
     ghost use Rattle.cx_enc.specs.Lawful.{many-lawful};
 
     ghost form = { many T.form };
+
+    ghost Bound = { λ items. (length items < 2 ^ 32) × All T.Bound items };
 
     ghost lawful = { many-lawful T.form T.lawful };
 
