@@ -12,10 +12,13 @@ use cx_base::{Blob, EntityName, EntityType, Items};
 use std::alloc::{AllocError, Global};
 
 impl Encoded for u64 {
+    ghost use Rattle.std.specs.Prelude.{⊤};
     ghost use Rattle.cx_enc.specs.Forms.{u64_form};
     ghost use Rattle.cx_enc.specs.Lawful.{u64-lawful};
 
     ghost form = { u64_form };
+
+    ghost Bound = { λ _. ⊤ };
 
     ghost lawful = { u64-lawful };
 
@@ -30,10 +33,13 @@ impl Encoded for u64 {
 }
 
 impl Encoded for Time {
+    ghost use Rattle.std.specs.Prelude.{⊤};
     ghost use Rattle.cx_enc.specs.Values.{time_form};
     ghost use Rattle.cx_enc.specs.Primitives.{time-lawful};
 
     ghost form = { time_form };
+
+    ghost Bound = { λ _. ⊤ };
 
     ghost lawful = { time-lawful };
 
@@ -48,10 +54,13 @@ impl Encoded for Time {
 }
 
 impl Encoded for Key {
+    ghost use Rattle.std.specs.Prelude.{⊤};
     ghost use Rattle.cx_enc.specs.Values.{key_form};
     ghost use Rattle.cx_enc.specs.Primitives.{key-lawful};
 
     ghost form = { key_form };
+
+    ghost Bound = { λ _. ⊤ };
 
     ghost lawful = { key-lawful };
 
@@ -66,10 +75,13 @@ impl Encoded for Key {
 }
 
 impl Encoded for Addr {
+    ghost use Rattle.std.specs.Prelude.{⊤};
     ghost use Rattle.cx_enc.specs.Values.{addr_form};
     ghost use Rattle.cx_enc.specs.Primitives.{addr-lawful};
 
     ghost form = { addr_form };
+
+    ghost Bound = { λ _. ⊤ };
 
     ghost lawful = { addr-lawful };
 
@@ -84,10 +96,13 @@ impl Encoded for Addr {
 }
 
 impl Encoded for EntityType {
+    ghost use Rattle.std.specs.Prelude.{⊤};
     ghost use Rattle.cx_enc.specs.Values.{kind_form};
     ghost use Rattle.cx_enc.specs.Primitives.{kind-lawful};
 
     ghost form = { kind_form };
+
+    ghost Bound = { λ _. ⊤ };
 
     ghost lawful = { kind-lawful };
 
@@ -102,10 +117,13 @@ impl Encoded for EntityType {
 }
 
 impl Encoded for EntityName {
+    ghost use Rattle.std.specs.Prelude.{⊤};
     ghost use Rattle.cx_enc.specs.Values.{name_form};
     ghost use Rattle.cx_enc.specs.Primitives.{name-lawful};
 
     ghost form = { name_form };
+
+    ghost Bound = { λ _. ⊤ };
 
     ghost lawful = { name-lawful };
 
@@ -123,10 +141,13 @@ impl Encoded for EntityName {
 }
 
 impl Encoded for Blob {
+    ghost use Rattle.std.specs.Prelude.{length, ◌<◌, ◌^◌};
     ghost use Rattle.cx_enc.specs.Forms.{blob_form};
     ghost use Rattle.cx_enc.specs.Lawful.{blob-lawful};
 
     ghost form = { blob_form };
+
+    ghost Bound = { λ bytes. length bytes < 2 ^ 32 };
 
     ghost lawful = { blob-lawful };
 
@@ -144,10 +165,13 @@ impl Encoded for Blob {
 }
 
 impl<T: Encoded> Encoded for Items<T> {
+    ghost use Rattle.std.specs.Prelude.{length, ◌<◌, ◌^◌, All};
     ghost use Rattle.cx_enc.specs.Forms.{many};
     ghost use Rattle.cx_enc.specs.Lawful.{many-lawful};
 
     ghost form = { many T.form };
+
+    ghost Bound = { λ items. (length items < 2 ^ 32) × All T.Bound items };
 
     ghost lawful = { many-lawful T.form T.lawful };
 

@@ -14,13 +14,16 @@ use std::alloc::{AllocError, Global};
 pub trait Encoded: Sized + Drop {
     ghost form: { Form Self };
 
+    // what a writer's caller shows of the value, as that a length fits its number
+    ghost Bound: { Self → Type 0 };
+
     /// Takes a value from the front. After a refusal the cut stands as before.
     fn take(alloc: Global, cut: &mut Cut<'_>) -> Result<Self, ReadRefusal>
         ensures { Takes (spot cut.old) (spot cut.new) result (form.at (spot cut.old)) };
 
     /// Writes the value behind some bytes. Where memory is wanting, the bytes stay as they were.
     fn put(&self, alloc: Global, into: &mut Blob) -> Result<(), AllocError>
-        requires { form.Fits self.now }
+        requires { Bound self.now }
         ensures ok { OnOk result (into.new ≡ into.old ++ form.text self.now) }
         ensures err { OnErr result (into.new ≡ into.old) };
 

@@ -1,6 +1,6 @@
 //! Lists with their count.
 
-ghost use Rattle.std.specs.Prelude.{◌≡◌, ◌++◌, OnOk, OnErr};
+ghost use Rattle.std.specs.Prelude.{◌≡◌, ◌++◌, ◌<◌, ◌^◌, length, All, OnOk, OnErr};
 ghost use Rattle.cx_enc.specs.Forms.{many};
 ghost use Rattle.cx_enc.specs.Reading.{spot};
 ghost use Rattle.cx_enc.specs.Whole.{Takes};
@@ -33,7 +33,8 @@ pub fn put_many<T: Encoded>(
     into: &mut Blob,
     items: &Items<T>,
 ) -> Result<(), AllocError>
-    requires { (many T.form).Fits items.now }
+    requires count { length items.now < 2 ^ 32 }
+    requires items { All T.Bound items.now }
     ensures ok { OnOk result (into.new ≡ into.old ++ (many T.form).text items.now) }
     ensures err { OnErr result (into.new ≡ into.old) }
 {

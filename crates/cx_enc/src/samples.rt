@@ -23,7 +23,7 @@ pub struct Notice {
 }
 
 impl Encoded for Notice {
-    ghost use Rattle.std.specs.Prelude.{ℕ, Bool, List, refl};
+    ghost use Rattle.std.specs.Prelude.{length, ◌<◌, ◌^◌, ℕ, Bool, List, refl};
     ghost use Rattle.cx_base.specs.Names.{Name};
     ghost use Rattle.cx_base.specs.declared.kinds.EntityType.{EntityType};
     ghost use Rattle.cx_enc.specs.Moments.{Moment};
@@ -39,6 +39,8 @@ impl Encoded for Notice {
         (λ (a : Unit {0} × (EntityType × (ℕ × (Moment × (Key × (Name × (Bool × List ℕ))))))). record { service = a.1.0; gid = a.1.1.0; created = a.1.1.1.0; session = a.1.1.1.1.0; owner = a.1.1.1.1.1.0; urgent = a.1.1.1.1.1.1.0; text = a.1.1.1.1.1.1.1 })
         (λ (n : Notice). (tt, (n.service, (n.gid, (n.created, (n.session, (n.owner, (n.urgent, n.text))))))))
         (pair (fixed 9 u8_form) (pair kind_form (pair u64_form (pair time_form (pair key_form (pair name_form (pair flag_form blob_form))))))) };
+
+    ghost Bound = { λ n. length n.text < 2 ^ 32 };
 
     ghost lawful = { seen-lawful
         (λ (a : Unit {0} × (EntityType × (ℕ × (Moment × (Key × (Name × (Bool × List ℕ))))))). record { service = a.1.0; gid = a.1.1.0; created = a.1.1.1.0; session = a.1.1.1.1.0; owner = a.1.1.1.1.1.0; urgent = a.1.1.1.1.1.1.0; text = a.1.1.1.1.1.1.1 })
@@ -102,7 +104,7 @@ pub struct Seat {
 }
 
 impl Encoded for Seat {
-    ghost use Rattle.std.specs.Prelude.{ℕ, refl};
+    ghost use Rattle.std.specs.Prelude.{⊤, ℕ, refl};
     ghost use Rattle.cx_enc.specs.Moments.{Moment};
     ghost use Rattle.cx_enc.specs.declared.keys.Key.{Key};
     ghost use Rattle.cx_enc.specs.Forms.{u64_form, pair, seen};
@@ -115,6 +117,8 @@ impl Encoded for Seat {
         (λ (a : ℕ × (Key × Moment)). record { id = a.0; key = a.1.0; expires = a.1.1 })
         (λ (s : Seat). (s.id, (s.key, s.expires)))
         (pair u64_form (pair key_form time_form)) };
+
+    ghost Bound = { λ _. ⊤ };
 
     ghost lawful = { seen-lawful
         (λ (a : ℕ × (Key × Moment)). record { id = a.0; key = a.1.0; expires = a.1.1 })
@@ -149,7 +153,7 @@ pub struct Roster {
 }
 
 impl Encoded for Roster {
-    ghost use Rattle.std.specs.Prelude.{ℕ, List, refl};
+    ghost use Rattle.std.specs.Prelude.{length, ◌<◌, ◌^◌, ℕ, List, refl};
     ghost use Rattle.cx_enc.specs.Moments.{Moment};
     ghost use Rattle.cx_enc.specs.declared.keys.Key.{Key};
     ghost use Rattle.cx_base.specs.declared.kinds.EntityType.{EntityType};
@@ -164,6 +168,8 @@ impl Encoded for Roster {
         (λ (a : EntityType × List Seat). record { service = a.0; seats = a.1 })
         (λ (r : Roster). (r.service, r.seats))
         (pair kind_form (many ⟦<Seat as Encoded>⟧.form)) };
+
+    ghost Bound = { λ r. length r.seats < 2 ^ 32 };
 
     ghost lawful = { seen-lawful
         (λ (a : EntityType × List Seat). record { service = a.0; seats = a.1 })

@@ -69,7 +69,7 @@ fn a_record_of_seven_fields_is_read_and_written(rt: HostRuntime) -> Result<(), F
     let read: Notice = read_whole(alloc, &NOTICE)?;
     assert!(rt; read == notice);
     let mut written = Blob::new(alloc);
-    read.put(alloc, &mut written)?;
+    notice.put(alloc, &mut written)?;
     assert_eq!(rt; written.bytes(), NOTICE.as_slice());
     Ok(())
 }
@@ -87,7 +87,7 @@ fn a_counted_list_of_records_is_read_and_written(rt: HostRuntime) -> Result<(), 
     let read: Roster = read_whole(alloc, &ROSTER)?;
     assert!(rt; read == roster);
     let mut written = Blob::new(alloc);
-    read.put(alloc, &mut written)?;
+    roster.put(alloc, &mut written)?;
     assert_eq!(rt; written.bytes(), ROSTER.as_slice());
     Ok(())
 }
