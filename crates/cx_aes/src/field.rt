@@ -1,5 +1,5 @@
-// Bytes as elements of the field GF(2^8): the S-box and its inverse, and products by the constants
-// of MixColumns and InvMixColumns.
+//! Bytes as elements of the field GF(2^8): the S-box and its inverse, and products by the constants
+//! of MixColumns and InvMixColumns.
 
 ghost use Rattle.std.specs.Prelude.{◌≡◌, ℕ, ◌<◌};
 ghost use Rattle.cx_aes.specs.Field.{inverse_sbox, sbox, times, xtimes};

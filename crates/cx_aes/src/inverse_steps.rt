@@ -1,4 +1,4 @@
-// The steps of a round of the inverse cipher (FIPS 197, 5.3).
+//! The steps of a round of the inverse cipher (FIPS 197, 5.3).
 
 ghost use Rattle.std.specs.Prelude.{◌≡◌};
 ghost use Rattle.cx_aes.specs.Cipher.{row};

@@ -1,4 +1,4 @@
-// The block cipher AES-128 and its inverse, after FIPS 197.
+//! The block cipher AES-128 and its inverse, after FIPS 197.
 #![tactic(auto)]
 
 mod field;

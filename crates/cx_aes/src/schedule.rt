@@ -1,4 +1,4 @@
-// The key expansion (FIPS 197, 5.2), and the cipher and its inverse under it (5.1 and 5.3).
+//! The key expansion (FIPS 197, 5.2), and the cipher and its inverse under it (5.1 and 5.3).
 
 ghost use Rattle.std.specs.Prelude.{◌≡◌, ℕ, List, length};
 ghost use Rattle.cx_aes.specs.Cipher.{IsBlock, add, aes, next_key, round_constant, turned_word, word};

@@ -1,4 +1,4 @@
-// The steps of a round (FIPS 197, 5.1), each on a state of 16 bytes, column by column.
+//! The steps of a round (FIPS 197, 5.1), each on a state of 16 bytes, column by column.
 
 ghost use Rattle.std.specs.Prelude.{◌≡◌};
 ghost use Rattle.cx_aes.specs.Cipher.{add, mix_columns, shift_rows, sub_bytes};

@@ -1,6 +1,6 @@
 -- Entity types and names as Ceph's documents spell them: a type word, a point and an id ("user management",
 -- "Cephx"), with the id's alphabet of this project's profile.
-use Rattle.std.specs.Prelude.{ℕ, ◌==◌, Bool, true, false, List, [], ◌∷◌, ◌++◌, length, nat_le, codes, ◌&&◌, ◌||◌}
+use Rattle.std.specs.Prelude.{ℕ, ◌==◌, Bool, true, false, List, [], ◌∷◌, ◌++◌, length, nat_le, codes, ◌&&◌, ◌||◌, Option, Some, None, if◌then◌else◌}
 use Rattle.std.specs.List.{list_all}
 use Rattle.std.specs.Str.{bytes_eq}
 use Rattle.cx_base.specs.Joined.{◌<>◌}
@@ -50,6 +50,11 @@ is_id_byte b =
 abbrev pub is_id : EntityType → List ℕ → Bool
 is_id kind id =
     (same_kind kind Mon || nat_le 1 (length id)) && (nat_le (length id) 64 && list_all is_id_byte id)
+
+-- an id behind an entity type, as far as there is one and they make a name
+abbrev pub with_id : List ℕ → Option EntityType → Option Name
+with_id id None = None
+with_id id (Some kind) = if is_id kind id then Some (record { kind = kind; id = id }) else None
 
 -- the text of a name, as osd.0
 abbrev pub name_text : Name → List ℕ

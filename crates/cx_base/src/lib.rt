@@ -2,6 +2,7 @@
 //! reaches what lies outside, with their objects in memory.
 #![tactic(auto)]
 
+mod addresses;
 mod copies;
 mod entity;
 mod in_memory;
@@ -11,8 +12,9 @@ mod outside;
 mod owned;
 mod refusals;
 
+pub use addresses::Addr;
 pub use copies::{Duplicate, copy_items};
-pub use entity::{BadName, EntityName};
+pub use entity::{BadName, EntityName, is_id};
 pub use in_memory::{ByteSource, VecSink};
 pub use kinds::{Access, EntityType};
 pub use operations::Operation;
@@ -38,6 +40,7 @@ fn all_are_sendable() {
     is_sendable::<BadName>();
     is_sendable::<EntityType>();
     is_sendable::<Access>();
+    is_sendable::<Addr>();
     is_sendable::<Operation>();
     is_sendable::<TextRefusal>();
     is_sendable::<Failed>();

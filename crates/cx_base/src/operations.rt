@@ -5,8 +5,8 @@ use crate::kinds::Access;
 use crate::owned::{Blob, Text};
 use std::alloc::{AllocError, Global};
 
-/// An operation on an object: pool, namespace and object are empty or words of 1 to 255 bytes, and the data has at most
-/// 65,536 bytes.
+/// An operation on an object in a namespace of a pool, with its data. The type sets no bounds: who reads an operation says
+/// which texts and how many bytes it takes.
 #[derive(Debug, PartialEq, Eq, Drop)]
 pub struct Operation {
     pub access: Access,

@@ -4,12 +4,12 @@ use Rattle.std.specs.Prelude.{◌&&◌, ◌==◌, nat_lt}
 use Rattle.std.proofs.lemmas.Bool.{eqb-true}
 use Rattle.cx_base.specs.declared.kinds.EntityType.{EntityType}
 use Rattle.cx_base.specs.declared.kinds.EntityType.TheVariants.{Mon, Mds, Osd, Client, Mgr, Auth}
-use Rattle.cx_enc.specs.declared.addresses.Addr.{Addr}
-use Rattle.cx_base.specs.Names.{Name, is_id}
+use Rattle.cx_base.specs.declared.addresses.Addr.{Addr}
+use Rattle.cx_base.specs.Names.{Name, is_id, with_id}
 use Rattle.cx_enc.specs.Moments.{Moment}
 use Rattle.cx_enc.specs.declared.keys.Key.{Key}
 use Rattle.cx_enc.specs.Forms.{Form, IsLawful, u8_form, u16_form, u32_form, bytes_form, blob_form, pair, field}
-use Rattle.cx_enc.specs.Values.{moment_of, moment_parts, time_form, key_of, key_parts, key_form, addr_of, addr_parts, addr_form, number_of, kind_of, kind_form, with_id, name_of, name_parts, name_form, fixed_of, fixed, flag_of, flag_number, flag_form}
+use Rattle.cx_enc.specs.Values.{moment_of, moment_parts, time_form, key_of, key_parts, key_form, addr_of, addr_parts, addr_form, number_of, kind_of, kind_form, name_of, name_parts, name_form, fixed_of, fixed, flag_of, flag_number, flag_form}
 use Rattle.cx_enc.specs.Lawful.{u8-lawful, u16-lawful, u32-lawful, bytes-lawful, blob-lawful, pair-lawful, field-lawful, checked-lawful}
 
 -- a test that makes a value

@@ -2,8 +2,8 @@
 use Rattle.std.specs.Prelude.{ℕ, ◌==◌, ◌&&◌, List, Option, Some, None, Bool, true, false, nat_lt, if◌then◌else◌}
 use Rattle.cx_base.specs.declared.kinds.EntityType.{EntityType}
 use Rattle.cx_base.specs.declared.kinds.EntityType.TheVariants.{Mon, Mds, Osd, Client, Mgr, Auth}
-use Rattle.cx_enc.specs.declared.addresses.Addr.{Addr}
-use Rattle.cx_base.specs.Names.{Name, is_id}
+use Rattle.cx_base.specs.declared.addresses.Addr.{Addr}
+use Rattle.cx_base.specs.Names.{Name, with_id}
 use Rattle.cx_enc.specs.Moments.{Moment}
 use Rattle.cx_enc.specs.declared.keys.Key.{Key}
 use Rattle.cx_enc.specs.Forms.{Form, u8_form, u16_form, u32_form, bytes_form, blob_form, pair, field, checked}
@@ -68,10 +68,6 @@ abbrev pub kind_form : Form EntityType
 kind_form = checked kind_of number_of u32_form
 
 -- a name: the number of its type, and its id
-abbrev pub with_id : List ℕ → Option EntityType → Option Name
-with_id id None = None
-with_id id (Some kind) = if is_id kind id then Some (record { kind = kind; id = id }) else None
-
 abbrev pub name_of : ℕ × List ℕ → Option Name
 name_of x = with_id x.1 (kind_of x.0)
 

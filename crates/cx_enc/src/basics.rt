@@ -1,6 +1,5 @@
 //! The primitive fields, and lists of values with a form, as values with a form.
 
-use crate::addresses::Addr;
 use crate::cut::Cut;
 use crate::encoded::Encoded;
 use crate::faults::ReadRefusal;
@@ -8,7 +7,7 @@ use crate::keys::Key;
 use crate::many::{put_many, take_many};
 use crate::puts::{put_addr, put_blob, put_key, put_kind, put_name, put_time, put_u64};
 use crate::times::Time;
-use cx_base::{Blob, EntityName, EntityType, Items};
+use cx_base::{Addr, Blob, EntityName, EntityType, Items};
 use std::alloc::{AllocError, Global};
 
 impl Encoded for u64 {

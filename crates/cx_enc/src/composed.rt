@@ -6,15 +6,13 @@ ghost use Rattle.cx_enc.specs.Names.{name_seen};
 ghost use Rattle.cx_enc.specs.Reading.{spot, Reads, ReadsAs};
 ghost use Rattle.cx_enc.specs.Values.{time_form, key_form, addr_form, kind_form, name_form, flag_form, kind_of, fixed};
 
-use crate::addresses::Addr;
 use crate::cut::Cut;
 use crate::faults::ReadFault;
 use crate::fields::short_at;
-use crate::id_bytes::is_id;
 use crate::keys::Key;
 use crate::names::NameRef;
 use crate::times::Time;
-use cx_base::EntityType;
+use cx_base::{Addr, EntityType, is_id};
 
 impl<'a> Cut<'a> {
     /// Seconds and nanoseconds, eight bytes.

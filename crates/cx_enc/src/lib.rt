@@ -1,14 +1,12 @@
 //! The primitive encodings, and the forms of which every record above is made.
 #![tactic(auto)]
 
-mod addresses;
 mod basics;
 mod composed;
 mod cut;
 mod encoded;
 mod faults;
 mod fields;
-mod id_bytes;
 mod keys;
 mod laws;
 mod many;
@@ -21,7 +19,6 @@ mod samples;
 mod tests;
 mod times;
 
-pub use addresses::Addr;
 pub use composed::kind_of;
 pub use cut::Cut;
 pub use encoded::{Encoded, read_whole};

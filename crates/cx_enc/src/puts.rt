@@ -4,10 +4,9 @@ ghost use Rattle.std.specs.Prelude.{◌≡◌, ◌++◌, ◌<◌, ◌^◌, lengt
 ghost use Rattle.cx_enc.specs.Forms.{u8_form, u16_form, u32_form, u64_form, blob_form};
 ghost use Rattle.cx_enc.specs.Values.{time_form, key_form, addr_form, kind_form, name_form, flag_form, number_of};
 
-use crate::addresses::Addr;
 use crate::keys::Key;
 use crate::times::Time;
-use cx_base::{Blob, EntityName, EntityType};
+use cx_base::{Addr, Blob, EntityName, EntityType};
 use std::alloc::{AllocError, Global};
 
 /// Writes a number of one byte.

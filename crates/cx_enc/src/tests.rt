@@ -2,9 +2,9 @@
 
 use crate::samples::{Notice, Roster, Seat};
 use crate::{
-    Addr, Cut, Encoded, Key, ReadFault, ReadRefusal, Time, kind_of, put_addr, put_name, read_whole,
+    Cut, Encoded, Key, ReadFault, ReadRefusal, Time, kind_of, put_addr, put_name, read_whole,
 };
-use cx_base::{Blob, EntityName, EntityType, Items, SECOND, Text};
+use cx_base::{Addr, Blob, EntityName, EntityType, Items, SECOND, Text};
 use std::alloc::Global;
 use std::test::Fail;
 

@@ -1,4 +1,4 @@
-// A block of 16 bytes as a number, whose highest bit is the block's first one.
+//! A block of 16 bytes as a number, whose highest bit is the block's first one.
 
 ghost use Rattle.std.specs.Prelude.{◌≡◌};
 ghost use Rattle.cx_gcm.specs.Blocks.{number, spelled};

@@ -1,4 +1,4 @@
-// The counter blocks and the key stream (SP 800-38D, 6.2 and 6.5).
+//! The counter blocks and the key stream (SP 800-38D, 6.2 and 6.5).
 
 ghost use Rattle.std.specs.Prelude.{◌≡◌, ◌≤◌, length};
 ghost use Rattle.cx_aes.specs.KeyOf.{key_of};

@@ -1,4 +1,4 @@
-// Galois/Counter Mode with AES-128, after SP 800-38D, for texts without additional data.
+//! Galois/Counter Mode with AES-128, after SP 800-38D, for texts without additional data.
 #![tactic(auto)]
 
 mod blocks;

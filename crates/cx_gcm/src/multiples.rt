@@ -1,4 +1,4 @@
-// Products of blocks (SP 800-38D, 6.3), four bits at a time.
+//! Products of blocks (SP 800-38D, 6.3), four bits at a time.
 
 ghost use Rattle.std.specs.Prelude.{◌≡◌, ℕ, ◌<◌};
 ghost use Rattle.cx_gcm.specs.Blocks.{number, product, shifted, shifted_by, spelled};

@@ -1,4 +1,4 @@
-// Sealing and opening in place (SP 800-38D, 7.1 and 7.2).
+//! Sealing and opening in place (SP 800-38D, 7.1 and 7.2).
 
 ghost use Rattle.std.specs.Prelude.{◌≡◌, ◌≢◌, ℕ, ◌+◌, ◌*◌, ◌/◌, ◌<◌, ◌≤◌, ◌^◌, ◌↔◌, IsErr, IsOk, List, OnErr, OnOk, length, slice_index};
 ghost use Rattle.cx_aes.specs.Cipher.{IsBlock};

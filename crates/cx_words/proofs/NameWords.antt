@@ -5,12 +5,12 @@ use Rattle.std.specs.List.{position_from, position}
 use Rattle.std.proofs.lemmas.Bool.Decides.{nat_tests}
 use Rattle.std.proofs.lemmas.Slice.Eq.{bytes_eq-Decides}
 use Rattle.cx_base.specs.Joined.{◌<>◌}
-use Rattle.cx_base.specs.Names.{Name, access_word, is_id, name_text, type_word}
+use Rattle.cx_base.specs.Names.{Name, access_word, is_id, name_text, type_word, with_id}
 use Rattle.cx_base.specs.declared.kinds.EntityType.{EntityType}
 use Rattle.cx_base.specs.declared.kinds.EntityType.TheVariants.{Mon, Mds, Osd, Client, Mgr, Auth}
 use Rattle.cx_base.specs.declared.kinds.Access.{Access}
 use Rattle.cx_base.specs.declared.kinds.Access.TheVariants.{Read, Write, Exec}
-use Rattle.cx_words.specs.Words.{access_of, is_access_word, is_point, is_service, is_ticket_service, is_type_word, kept, name_at, name_of, service_of, ticket_service_of, type_of, with_id}
+use Rattle.cx_words.specs.Words.{access_of, is_access_word, is_point, is_service, is_ticket_service, is_type_word, kept, name_at, name_of, service_of, ticket_service_of, type_of}
 use Rattle.cx_base.specs.Owners.{is_above_ascii}
 use Rattle.cx_words.proofs.Ascii.{ascii_id}
 use Rattle.cx_words.proofs.FirstPlace.{cut, take_rest}

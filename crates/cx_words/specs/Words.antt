@@ -7,7 +7,7 @@ use Rattle.std.specs.Str.Parse.{digits_value}
 use Rattle.hex.specs.Hex.{decode_of, encode_lower, hex_digit_value}
 use Rattle.hex.specs.declared.error.FromHexError.{FromHexError}
 use Rattle.cx_base.specs.Joined.{◌<>◌}
-use Rattle.cx_base.specs.Names.{Name, is_id, type_word, access_word, same_kind}
+use Rattle.cx_base.specs.Names.{Name, with_id, type_word, access_word, same_kind}
 use Rattle.cx_base.specs.declared.kinds.EntityType.{EntityType}
 use Rattle.cx_base.specs.declared.kinds.EntityType.TheVariants.{Mon, Mds, Osd, Client, Mgr, Auth}
 use Rattle.cx_base.specs.declared.kinds.Access.{Access}
@@ -122,11 +122,6 @@ unfoldable pub access_of : List ℕ → Option Access
 access_of word = find (is_access_word word) (Read ∷ Write ∷ Exec ∷ [])
 
 -- ---- names
-
--- an id behind a type word, as far as they are one
-abbrev pub with_id : List ℕ → Option EntityType → Option Name
-with_id id None = None
-with_id id (Some kind) = if is_id kind id then Some (record { kind = kind; id = id }) else None
 
 -- a name whose first point stands at this place
 abbrev pub name_at : List ℕ → Option ℕ → Option Name

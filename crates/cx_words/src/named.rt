@@ -2,9 +2,9 @@
 
 ghost use Rattle.std.specs.Prelude.{◌≡◌, false, IfOk, IfSome, IsTrue, None, option_map};
 ghost use Rattle.std.specs.List.{position};
-ghost use Rattle.cx_base.specs.Names.{access_word, is_id, name_text, type_word};
+ghost use Rattle.cx_base.specs.Names.{access_word, is_id, name_text, type_word, with_id};
 ghost use Rattle.cx_base.specs.Owners.{is_above_ascii};
-ghost use Rattle.cx_words.specs.Words.{access_of, is_service, is_ticket_service, name_of, service_of, ticket_service_of, type_of, with_id};
+ghost use Rattle.cx_words.specs.Words.{access_of, is_service, is_ticket_service, name_of, service_of, ticket_service_of, type_of};
 
 use crate::cut::is_word;
 use crate::numbers::point;
