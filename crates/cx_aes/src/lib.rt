@@ -9,3 +9,4 @@ mod tables;
 
 pub use field::{inv_sbox, sbox};
 pub use schedule::Schedule;
+pub use steps::add;

@@ -6,12 +6,14 @@ ghost use Rattle.cx_aes.specs.Columns.{turned_columns};
 
 use crate::field::{doubled, sbox};
 
-pub(crate) fn add(s: &[u8; 16], key: &[u8; 16]) -> [u8; 16]
-    ensures { result ≡ add s.now key.now }
+/// The sum of two blocks, byte by byte: the exclusive or, as a round adds its key (FIPS 197, 5.1.4) and a mode of operation
+/// its chain (SP 800-38A, 6.2).
+pub fn add(first: &[u8; 16], second: &[u8; 16]) -> [u8; 16]
+    ensures { result ≡ add first.now second.now }
 {
     let mut sum = [0u8; 16];
     for i in 0..16usize {
-        sum[i] = s[i] ^ key[i];
+        sum[i] = first[i] ^ second[i];
     }
     sum
 }

@@ -1,4 +1,5 @@
--- The sealed envelope of a content. Only sealing is defined.
+-- The sealed envelope of a content, as Ceph's documents have it ("detailed cephx protocol": what is encrypted begins with
+-- a version and a magic number), in AES-128-CBC with PKCS#7 padding (RFC 5652, 6.3). Only sealing is defined.
 use Rattle.std.specs.Prelude.{◌≡◌, ℕ, ◌-◌, ◌%◌, ◌<◌, ◌≤◌, List, ◌∷◌, ◌++◌, All, length, replicate, codes}
 use Rattle.std.specs.Int.{w64, to_le_bytes}
 use Rattle.std.specs.List.{concat}
@@ -13,7 +14,7 @@ head = 1 ∷ to_le_bytes w64 0xff009cad8826aa55
 abbrev pub initial_vector : List ℕ
 initial_vector = codes "cephsageyudagreg"
 
--- PKCS#7: as many bytes as are missing to a multiple of 16, at least one, and each byte says how many
+-- PKCS#7 (RFC 5652, 6.3): as many bytes as are missing to a multiple of 16, at least one, and each byte says how many
 unfoldable pub padding : ℕ → List ℕ
 padding n = let missing = 16 - n % 16 in replicate missing missing
 

@@ -2,12 +2,11 @@
 
 ghost use Rattle.std.specs.Prelude.{◌≡◌, IfOk};
 ghost use Rattle.std.specs.List.{concat};
-ghost use Rattle.cx_aes.specs.Cipher.{add};
 ghost use Rattle.cx_aes.specs.KeyOf.{key_of};
 ghost use Rattle.cx_cbc.specs.Chain.{blocks_of, cbc, uncbc};
 ghost use Rattle.cx_cbc.specs.Envelope.{initial_vector};
 
-use cx_aes::Schedule;
+use cx_aes::{Schedule, add};
 use cx_base::Blob;
 use std::alloc::{AllocError, Global};
 
@@ -41,15 +40,4 @@ pub(crate) fn unchained(alloc: Global, key: &Schedule, sealed: &[u8]) -> Result<
         before = *block;
     }
     Ok(plain)
-}
-
-// The sum of the bytes at each place.
-pub(crate) fn add(first: &[u8; 16], second: &[u8; 16]) -> [u8; 16]
-    ensures { result ≡ add first.now second.now }
-{
-    let mut sum = [0u8; 16];
-    for place in 0..16usize {
-        sum[place] = first[place] ^ second[place];
-    }
-    sum
 }

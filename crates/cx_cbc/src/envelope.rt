@@ -8,7 +8,7 @@ use cx_base::Blob;
 use std::alloc::{AllocError, Global};
 
 /// Version 1, and the magic number 0xff009cad8826aa55, its lowest byte first.
-const HEAD: [u8; 9] = [1, 0x55, 0xaa, 0x26, 0x88, 0xad, 0x9c, 0x00, 0xff];
+pub(crate) const HEAD: [u8; 9] = [1, 0x55, 0xaa, 0x26, 0x88, 0xad, 0x9c, 0x00, 0xff];
 
 /// The fewest bytes of padding.
 const FEWEST: usize = 1;

@@ -5,10 +5,10 @@ ghost use Rattle.cx_aes.specs.KeyOf.{key_of};
 ghost use Rattle.cx_cbc.specs.Envelope.{sealed, Opens};
 
 use crate::LONGEST;
-use crate::chain::{INITIAL_VECTOR, add, chained};
-use crate::envelope::enveloped;
+use crate::chain::{INITIAL_VECTOR, chained};
+use crate::envelope::{HEAD, enveloped};
 use crate::refusals::SealRefusal;
-use cx_aes::Schedule;
+use cx_aes::{Schedule, add};
 use cx_base::Blob;
 use std::alloc::Global;
 
@@ -33,8 +33,8 @@ pub fn seal_16(key: &Schedule, content: &[u8; 16]) -> [u8; 32]
     // The head and the content are 25 bytes, so seven are missing to 32.
     let bytes = content;
     let first = [
-        1, 0x55, 0xaa, 0x26, 0x88, 0xad, 0x9c, 0x00, 0xff, bytes[0], bytes[1], bytes[2], bytes[3],
-        bytes[4], bytes[5], bytes[6],
+        HEAD[0], HEAD[1], HEAD[2], HEAD[3], HEAD[4], HEAD[5], HEAD[6], HEAD[7], HEAD[8], bytes[0],
+        bytes[1], bytes[2], bytes[3], bytes[4], bytes[5], bytes[6],
     ];
     let second = [
         bytes[7], bytes[8], bytes[9], bytes[10], bytes[11], bytes[12], bytes[13], bytes[14],

@@ -40,6 +40,17 @@ none_bad earlier script (line ∷ lines) n why (now, adds, said) (inr (other, ad
     let e : other ≡ now = added_once earlier other now line adds' adds in
     none_bad now script lines m why said (rw e at bad)
 
+-- lines say one thing
+said_once : (earlier script other : List Line) (lines : List (List ℕ)) → Said earlier lines script → Said earlier lines other → script ≡ other
+said_once earlier script other [] p q = p ∙ sym q
+said_once earlier script other (line ∷ lines) (now, adds, said) (then, adds', said') =
+    let e : then ≡ now = added_once earlier then now line adds' adds in
+    said_once now script other lines said (rw e at said')
+
+-- bytes are those of one schedule at most
+pub one_schedule : (bytes : List ℕ) (script other : List Line) → Lines bytes script → Lines bytes other → script ≡ other
+one_schedule bytes script other said said' = said_once [] script other (lines_of bytes) said said'
+
 -- where the bytes are those of a schedule, only want of memory is an answer besides it
 pub only_memory : (bytes : List ℕ) (script : List Line) (refusal : ScheduleRefusal) → IsShort bytes → Lines bytes script → IsScheduleCause bytes refusal → refusal ≡ OutOfMemory
 only_memory bytes script TooLong short said cause = absurd (cause short)

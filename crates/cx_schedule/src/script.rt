@@ -49,6 +49,8 @@ pub fn read(alloc: Global, bytes: &[u8]) -> Result<Script, ScheduleRefusal>
     ensures found { IfOk result (λ s. Lines bytes.now s) }
     ensures short { OnOk result (IsShort bytes.now) }
     ensures bad { IfErr result (IsScheduleCause bytes.now) }
+    // Bytes are those of one schedule at most.
+    ensures one { (s : List Line) → Lines bytes.now s → IfOk result (λ read. read ≡ s) }
     // Where the bytes are a schedule, it is read, or memory is wanting.
     ensures only { (s : List Line) → IsShort bytes.now → Lines bytes.now s → IfErr result (λ e. e ≡ ScheduleRefusal.OutOfMemory) }
     // What may be relied on.

@@ -3,12 +3,14 @@
 #![tactic(auto)]
 
 mod cut;
+mod laws;
 mod lists;
 mod named;
 mod numbers;
 mod texts;
 
 pub use cut::{first_line, is_skipped, is_word, words};
+pub use laws::word_laws;
 pub use lists::services;
 pub use named::{access, name, service, ticket_service};
 pub use numbers::{number, reading};

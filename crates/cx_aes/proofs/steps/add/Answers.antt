@@ -4,5 +4,5 @@ use Rattle.cx_aes.proofs.steps.add.Goals as goal
 
 pub returns : goal.returns
 returns c =
-    add_by_places c.args.s.now c.args.key.now c.loop-i.sum c.told-s c.told-key c.loop-i.invariant.len
+    add_by_places c.args.first.now c.args.second.now c.loop-i.sum c.told-first c.told-second c.loop-i.invariant.len
     (λ k lt. c.loop-i.invariant.places k (omega arith))
