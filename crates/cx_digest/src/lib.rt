@@ -2,9 +2,9 @@
 //! SHA-256 of signatures. Neither refuses anything or takes memory.
 #![tactic(auto)]
 
-pub mod checksum;
-pub mod message_code;
-pub mod whole_text;
+mod checksum;
+mod message_code;
+mod whole_text;
 
 pub use checksum::{crc32c, crc32c_goes_on};
 pub use message_code::Mac;

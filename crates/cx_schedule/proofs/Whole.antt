@@ -18,13 +18,13 @@ use Rattle.cx_schedule.specs.Lines.{Spells, is_in_range}
 use Rattle.cx_schedule.proofs.Laws.{clean, unique}
 
 -- a line that adds something has no fault
-added_clean : (earlier now : List Line) (line : List ℕ) (why : LineFault) → Adds earlier line now → is_skipped line ≡ false → fault_of earlier (line_words line) ≡ Some why → ⊥
+pub added_clean : (earlier now : List Line) (line : List ℕ) (why : LineFault) → Adds earlier line now → is_skipped line ≡ false → fault_of earlier (line_words line) ≡ Some why → ⊥
 added_clean earlier now line why (inl skipped) kept bad = absurd (let e : true ≡ false = sym skipped.0 ∙ kept in cc)
 added_clean earlier now line why (inr (kept', x, spelled, is)) kept bad =
     absurd (let e : None ≡ Some why = sym (clean earlier x (line_words line) spelled) ∙ bad in cc)
 
 -- a line adds one thing
-added_once : (earlier now other : List Line) (line : List ℕ) → Adds earlier line now → Adds earlier line other → now ≡ other
+pub added_once : (earlier now other : List Line) (line : List ℕ) → Adds earlier line now → Adds earlier line other → now ≡ other
 added_once earlier now other line (inl p) (inl q) = p.1 ∙ sym q.1
 added_once earlier now other line (inl p) (inr q) = absurd (let e : true ≡ false = sym p.0 ∙ q.0 in cc)
 added_once earlier now other line (inr p) (inl q) = absurd (let e : true ≡ false = sym q.0 ∙ p.0 in cc)

@@ -1,5 +1,5 @@
 -- A schedule as a file: its lines in order, and the first of them that is outside of the grammar.
-use Rattle.std.specs.Prelude.{ℕ, ◌+◌, ◌-◌, ◌≤◌, ◌≡◌, ◌⊎◌, Bool, true, false, List, [], ◌∷◌, ◌++◌, length, take, codes, Some, slice_index_or}
+use Rattle.std.specs.Prelude.{ℕ, ◌+◌, ◌-◌, ◌≤◌, ◌≡◌, ◌⊎◌, Bool, true, false, List, [], ◌∷◌, ◌++◌, length, take, codes, Some, slice_index_or, Result, Ok, Err}
 use Rattle.std.specs.Str.{bytes_eq}
 use Rattle.cx_words.specs.Cutting.{lines_of, words_of, is_skipped}
 use Rattle.cx_schedule.specs.declared.limits.TheConstants.{MOST_BYTES, MOST_LINES}
@@ -63,3 +63,15 @@ IsScheduleCause bytes (BadLine n why) =
 IsScheduleCause bytes (NotYet n) =
     IsShort bytes × IsFirstBad [] (lines_of bytes) n UnknownWord × (is_later_at (lines_of bytes) n ≡ true)
 IsScheduleCause bytes OutOfMemory = Unit {0}
+
+-- why the bytes of a schedule are refused where memory isn't wanting
+abbrev pub IsReason : List ℕ → ScheduleRefusal → Type 0
+IsReason bytes TooLong = IsScheduleCause bytes TooLong
+IsReason bytes (BadLine n why) = IsScheduleCause bytes (BadLine n why)
+IsReason bytes (NotYet n) = IsScheduleCause bytes (NotYet n)
+IsReason bytes OutOfMemory = ⊥
+
+-- the answer is this refusal, or want of memory
+abbrev pub Refuses : {X : Type 0} → Result X ScheduleRefusal → ScheduleRefusal → Type 0
+Refuses (Ok x) why = ⊥
+Refuses (Err got) why = (got ≡ OutOfMemory) ⊎ (got ≡ why)

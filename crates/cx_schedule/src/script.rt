@@ -3,8 +3,9 @@
 ghost use Rattle.std.specs.Prelude.{◌≡◌, ◌+◌, ◌≤◌, ◌↔◌, List, length, IfOk, IfErr, OnOk, OnErr, IsTrue};
 ghost use Rattle.std.specs.List.{list_all};
 ghost use Rattle.cx_words.specs.Cutting.{lines_of};
-ghost use Rattle.cx_schedule.specs.Files.{Adds, IsRefused, IsScheduleCause, IsShort, Lines, groups};
+ghost use Rattle.cx_schedule.specs.Files.{Adds, IsReason, IsRefused, IsScheduleCause, IsShort, Lines, Refuses, groups};
 ghost use Rattle.cx_schedule.specs.Lines.{is_in_range};
+ghost use Rattle.cx_schedule.specs.declared.refusals.ScheduleRefusal.{ScheduleRefusal};
 
 use crate::earlier::Earlier;
 use crate::faults::LineRefusal;
@@ -53,6 +54,8 @@ pub fn read(alloc: Global, bytes: &[u8]) -> Result<Script, ScheduleRefusal>
     ensures one { (s : List Line) → Lines bytes.now s → IfOk result (λ read. read ≡ s) }
     // Where the bytes are a schedule, it is read, or memory is wanting.
     ensures only { (s : List Line) → IsShort bytes.now → Lines bytes.now s → IfErr result (λ e. e ≡ ScheduleRefusal.OutOfMemory) }
+    // Where a limit or a line is a reason to refuse them, they are refused for it, or memory is wanting.
+    ensures exact { (why : ScheduleRefusal) → IsReason bytes.now why → Refuses result why }
     // What may be relied on.
     ensures few { IfOk result (λ s. length s ≤ 20000) }
     ensures in_range { IfOk result (λ s. IsTrue (list_all is_in_range s)) }

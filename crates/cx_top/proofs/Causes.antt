@@ -1,12 +1,14 @@
 -- From the bytes of an input to the input.
-use Rattle.std.proofs.Common.{◌≡◌, ℕ, ◌≤◌, List, [], length, drop, Option, Some, None, Result, Ok, Err, IfErr, arith, refl}
+use Rattle.std.proofs.Common.{◌≡◌, ℕ, ◌≤◌, ◌⊎◌, inl, inr, List, length, Option, Some, None, Result, Ok, Err, IfErr, arith, refl}
 use Rattle.std.proofs.Math.ListN.{drop_of_length-le}
 use Rattle.cx_schedule.specs.Files.{IsScheduleCause}
+use Rattle.cx_schedule.specs.declared.refusals.ScheduleRefusal.{ScheduleRefusal}
 use Rattle.cx_schedule.specs.declared.refusals.ScheduleRefusal.TheVariants as refusal
 use Rattle.cx_top.specs.declared.status.Status.{Status}
 use Rattle.cx_top.specs.declared.status.Status.TheVariants.{Done, Usage, BadSchedule, ReadFault, WriteFault, OutOfMemory, TooLong, NotYet}
 use Rattle.cx_top.specs.Replays.{GaveAll}
 use Rattle.cx_top.specs.Refusals.{IsBytesCause, IsInputCause, IsTooLong}
+use Rattle.cx_top.specs.Statuses.{IsOrMemory, schedule_status}
 
 too_long : (left now : Option (List ℕ)) (bytes : List ℕ) → GaveAll left now bytes → length bytes ≤ 1048576 → IsScheduleCause bytes refusal.TooLong → IsTooLong left now
 too_long None now bytes all short cause = tt
@@ -29,3 +31,14 @@ pub input_cause : {X : Type 0} (answer : Result X Status) (left now : Option (Li
 input_cause (Ok text) left now bytes asked before after all short same cause = tt
 input_cause (Err status) left now bytes asked before after all short same cause =
     status_cause status left now bytes before after all short (rw same at cause)
+
+own_status : (why : ScheduleRefusal) → IsOrMemory (schedule_status why) (schedule_status why)
+own_status refusal.TooLong = refl
+own_status (refusal.BadLine line why) = refl
+own_status (refusal.NotYet line) = refl
+own_status refusal.OutOfMemory = tt
+
+-- the status of what is refused for a reason is that of the reason, or want of memory
+pub status_of : (got why : ScheduleRefusal) → (got ≡ refusal.OutOfMemory) ⊎ (got ≡ why) → IsOrMemory (schedule_status why) (schedule_status got)
+status_of got why (inl memory) = rw memory tt
+status_of got why (inr same) = rw same (own_status why)

@@ -4,7 +4,7 @@ use Rattle.cx_base.specs.Streams.{Rose}
 use Rattle.cx_schedule.specs.declared.lines.Line.{Line}
 use Rattle.cx_schedule.specs.declared.refusals.ScheduleRefusal.{ScheduleRefusal}
 use Rattle.cx_schedule.specs.declared.refusals.ScheduleRefusal.TheVariants as refusal
-use Rattle.cx_schedule.specs.Files.{Lines, IsShort, IsScheduleCause}
+use Rattle.cx_schedule.specs.Files.{Lines, IsReason, IsShort, IsScheduleCause}
 use Rattle.cx_top.specs.declared.status.Status.{Status}
 use Rattle.cx_top.specs.declared.status.Status.TheVariants.{Done, Usage, BadSchedule, ReadFault, WriteFault, OutOfMemory, TooLong, NotYet}
 use Rattle.cx_top.specs.Replays.{GaveAll}
@@ -58,14 +58,7 @@ abbrev pub HasSchedule : Option (List ℕ) → Type 0
 HasSchedule None = ⊥
 HasSchedule (Some bytes) = (script : List Line) × Lines bytes script × IsShort bytes
 
--- why these bytes are refused where memory isn't wanting
-abbrev pub IsBytesRefusal : List ℕ → ScheduleRefusal → Type 0
-IsBytesRefusal bytes refusal.TooLong = IsScheduleCause bytes refusal.TooLong
-IsBytesRefusal bytes (refusal.BadLine line why) = IsScheduleCause bytes (refusal.BadLine line why)
-IsBytesRefusal bytes (refusal.NotYet line) = IsScheduleCause bytes (refusal.NotYet line)
-IsBytesRefusal bytes refusal.OutOfMemory = ⊥
-
 -- the source tells what it has, and that must be refused for this
 abbrev pub HasRefusal : Option (List ℕ) → ScheduleRefusal → Type 0
 HasRefusal None why = ⊥
-HasRefusal (Some bytes) why = IsBytesRefusal bytes why
+HasRefusal (Some bytes) why = IsReason bytes why

@@ -6,10 +6,8 @@ ghost use Rattle.cx_top.specs.Replays.{Gave, GaveAll};
 ghost use Rattle.cx_top.specs.Inputs.{IsUnread, IsUntaken};
 
 use cx_base::{Blob, Source};
+use cx_schedule::MOST_BYTES;
 use std::alloc::{AllocError, Global};
-
-/// The most bytes that an input may have.
-pub const LIMIT: usize = 1_048_576;
 
 /// How many bytes are asked for at once.
 const CHUNK: usize = 65_536;
@@ -36,17 +34,17 @@ impl From<AllocError> for Unread {
 }
 
 #[tactic(auto, using(crate::proofs::Reading::gave_more, crate::proofs::Reading::past_limit))]
-/// Reads the source to its end, or up to one byte more than the limit.
+/// Reads the source to its end, or up to one byte more than a schedule may have.
 pub fn read_all<I: Source>(alloc: Global, input: &mut I) -> Result<Blob, Unread>
     ensures all { IfOk result (GaveAll (I.left input.old) (I.left input.new)) }
-    ensures short { IfOk result (λ bytes. length bytes ≤ LIMIT) }
+    ensures short { IfOk result (λ bytes. length bytes ≤ MOST_BYTES) }
     ensures unread { IfErr result (IsUnread (I.left input.old) (I.left input.new) (I.faults input.old) (I.faults input.new)) }
     ensures later { I.faults input.old ≤ I.faults input.new }
 {
     let mut all = Blob::new(alloc);
     let mut chunk = zeros(alloc, CHUNK)?;
-    'read: while all.bytes().len() <= LIMIT {
-        let room = (LIMIT + 1 - all.bytes().len()).min(CHUNK);
+    'read: while all.bytes().len() <= MOST_BYTES {
+        let room = (MOST_BYTES + 1 - all.bytes().len()).min(CHUNK);
         let count = take_next(alloc, input, &mut chunk[..room], &mut all)?;
         if count == 0 {
             return Ok(all);

@@ -2,11 +2,11 @@
 
 ghost use Rattle.std.specs.Prelude.{◌≡◌, ◌≢◌, ◌≤◌, ◌↔◌, List, [], ◌∷◌, map, codes, IfOk, IfErr, MatchResult, IsTrue};
 ghost use Rattle.cx_base.specs.Streams.{Rose};
-ghost use Rattle.cx_schedule.specs.Files.{Lines, IsShort};
+ghost use Rattle.cx_schedule.specs.Files.{Lines, IsReason, IsShort};
 ghost use Rattle.cx_schedule.specs.declared.lines.Line.{Line};
 ghost use Rattle.cx_schedule.specs.declared.refusals.ScheduleRefusal.{ScheduleRefusal};
 ghost use Rattle.cx_top.specs.Replays.{Replays, ReplaysAll, WritesReplay, WritesFront};
-ghost use Rattle.cx_top.specs.Refusals.{HasRefusal, HasSchedule, IsBytesCause, IsBytesRefusal, IsInputCause, IsScheduleStatus};
+ghost use Rattle.cx_top.specs.Refusals.{HasRefusal, HasSchedule, IsBytesCause, IsInputCause, IsScheduleStatus};
 ghost use Rattle.cx_top.specs.Statuses.{IsOrMemory, IsServed, schedule_status};
 
 use crate::input::read_all;
@@ -93,7 +93,7 @@ fn text_of(alloc: Global, bytes: &[u8]) -> Result<Blob, Status>
     ensures cause { IfErr result (IsBytesCause bytes.now) }
     ensures complete { (script : List Line) → Lines bytes.now script → IsShort bytes.now
         → IfErr result (λ status. status ≡ Status.OutOfMemory) }
-    ensures exact { (why : ScheduleRefusal) → IsBytesRefusal bytes.now why
+    ensures exact { (why : ScheduleRefusal) → IsReason bytes.now why
         → MatchResult result (λ text. ⊥) (IsOrMemory (schedule_status why)) }
 {
     let script = cx_schedule::read(alloc, bytes)?;

@@ -1,5 +1,6 @@
-use Rattle.std.proofs.Common.{[], refl}
+use Rattle.std.proofs.Common.{◌≡◌, [], Err, refl, rules}
 use Rattle.cx_words.specs.Cutting.{lines_of}
+use Rattle.cx_schedule.proofs.Reasons.{never_both, one_reason}
 use Rattle.cx_schedule.proofs.Whole.{all_in_range, few_in_all, one_schedule}
 use Rattle.cx_schedule.proofs.script.read.Goals as goal
 
@@ -11,3 +12,12 @@ returns-clause-few c = few_in_all c.args.bytes.now c.in_ok-lines.lines (c.is_sho
 
 pub returns-clause-in_range : goal.returns-clause-in_range
 returns-clause-in_range c = all_in_range [] c.in_ok-lines.lines (lines_of c.args.bytes.now) c.in_ok-lines.ensures.found refl
+
+pub returns-in_err-lines-clause-exact : goal.returns-in_err-lines-clause-exact
+returns-in_err-lines-clause-exact c why reason =
+    let is : c.from_residual.result ≡ Err c.in_err-lines.field-0.0 = search rules in
+    rw is (one_reason c.args.bytes.now c.in_err-lines.field-0.0 why c.in_err-lines.ensures.bad reason)
+
+pub returns-clause-exact : goal.returns-clause-exact
+returns-clause-exact c why reason =
+    never_both c.args.bytes.now c.in_ok-lines.lines why (c.is_short.ensures.0 c.if-not-is_short.false) c.in_ok-lines.ensures.found reason

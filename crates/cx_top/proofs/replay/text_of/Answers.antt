@@ -1,14 +1,13 @@
--- The bytes have one reason to be refused, or none.
+-- The reader refuses for the one reason; a schedule that was read has none.
 use Rattle.std.proofs.Common.{◌≡◌, Err, rules}
-use Rattle.cx_top.proofs.Exact.{never_both, one_refusal}
+use Rattle.cx_top.proofs.Causes.{status_of}
 use Rattle.cx_top.specs.Statuses.{schedule_status}
 use Rattle.cx_top.proofs.replay.text_of.Goals as goal
 
 pub returns-in_err-script-clause-exact : goal.returns-in_err-script-clause-exact
-returns-in_err-script-clause-exact c why cause =
+returns-in_err-script-clause-exact c why reason =
     let is : c.from_residual.result ≡ Err (schedule_status c.in_err-script.field-0.0) = search rules in
-    rw is (one_refusal c.args.bytes.now c.in_err-script.field-0.0 why c.in_err-script.ensures.bad cause)
+    rw is (status_of c.in_err-script.field-0.0 why (c.in_err-script.ensures.exact why reason))
 
 pub returns-clause-exact : goal.returns-clause-exact
-returns-clause-exact c why cause =
-    never_both c.args.bytes.now c.in_ok-script.script why c.in_ok-script.ensures.short c.in_ok-script.ensures.found cause
+returns-clause-exact c why reason = c.in_ok-script.ensures.exact why reason
