@@ -1,3 +1,4 @@
+pub mod Fitting
 pub mod Ids
 pub mod Loops
 pub mod Needed

@@ -5,13 +5,17 @@ use Rattle.cx_enc.specs.declared.faults.ReadFault.{ReadFault}
 use Rattle.cx_enc.specs.Forms.{Spot, Form, IsBytes, IsLawful}
 use Rattle.cx_enc.specs.declared.faults.ReadRefusal.{ReadRefusal}
 use Rattle.cx_enc.specs.declared.faults.ReadRefusal.TheVariants as refusals
-use Rattle.cx_enc.specs.Whole.{start, Spells, Takes}
+use Rattle.cx_enc.specs.Whole.{start, Spells, Takes, IsReadAgain}
 
 -- a value behind which nothing is left is spelled by all of the bytes
 pub spelled : {X : Type 0} (form : Form X) → IsLawful form → (bytes : List ℕ) (x : X) (next : Spot) → IsBytes bytes → form.at (start bytes) ≡ Ok (x, next) → next.left ≡ [] → Spells form bytes x
 spelled form lawful bytes x next fits read none =
     let taken = lawful.takes (start bytes) (x, next) fits read in
     (taken.1, taken.0.whole ∙ ap (λ (rest : List ℕ). form.text x ++ rest) none ∙ append-nil (form.text x))
+
+-- what is spelled is read again, at any place and whatever follows it
+pub read_behind : {X : Type 0} (form : Form X) → IsLawful form → (bytes : List ℕ) (x : X) → Spells form bytes x → IsReadAgain form bytes x
+read_behind form lawful bytes x (fits, is) place more = rw is (lawful.again x place more fits)
 
 -- what all of the bytes spell is read, and nothing is left
 pub read_again : {X : Type 0} (form : Form X) → IsLawful form → (bytes : List ℕ) (x : X) → Spells form bytes x → form.at (start bytes) ≡ Ok (x, record { place = 0 + length (form.text x); left = [] })

@@ -1,5 +1,5 @@
--- What a reader that may want memory answers, and what a reader of all bytes does.
-use Rattle.std.specs.Prelude.{ℕ, ◌≡◌, ◌≢◌, List, [], Result, Ok, Err}
+-- What a reader that may want memory answers, and what a reader and a writer of all bytes do.
+use Rattle.std.specs.Prelude.{ℕ, ◌≡◌, ◌≢◌, ◌+◌, List, [], ◌++◌, length, Result, Ok, Err}
 use Rattle.cx_enc.specs.declared.faults.ReadRefusal.{ReadRefusal}
 use Rattle.cx_enc.specs.declared.faults.ReadRefusal.TheVariants as refusals
 use Rattle.cx_enc.specs.declared.faults.ReadFault.{ReadFault}
@@ -23,6 +23,11 @@ start bytes = record { place = 0; left = bytes }
 -- all of the bytes spell the value
 abbrev pub Spells : {X : Type 0} → Form X → List ℕ → X → Type 0
 Spells form bytes x = form.Fits x × (bytes ≡ form.text x)
+
+-- at any place, and whatever follows them, the bytes are read as this value, and the spot is then behind them
+abbrev pub IsReadAgain : {X : Type 0} → Form X → List ℕ → X → Type 0
+IsReadAgain form bytes x = (place : ℕ) (more : List ℕ)
+    → form.at (record { place = place; left = bytes ++ more }) ≡ Ok (x, record { place = place + length bytes; left = more })
 
 -- why bytes are refused: the first fault, or the place behind the value where bytes are left over; want of memory is free
 abbrev pub IsRefusedBy : {X : Type 0} → Form X → List ℕ → ReadRefusal → Type 0

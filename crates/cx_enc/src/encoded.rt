@@ -3,7 +3,7 @@
 ghost use Rattle.std.specs.Prelude.{◌≡◌, ◌++◌, OnOk, OnErr, IfOk, IfErr};
 ghost use Rattle.cx_enc.specs.Forms.{Form, IsLawful};
 ghost use Rattle.cx_enc.specs.Reading.{spot};
-ghost use Rattle.cx_enc.specs.Whole.{Takes, Spells, Yields, IsRefusedBy};
+ghost use Rattle.cx_enc.specs.Whole.{Takes, Spells, Yields, IsRefusedBy, IsReadAgain};
 
 use crate::cut::Cut;
 use crate::faults::ReadRefusal;
@@ -25,6 +25,8 @@ pub trait Encoded: Sized + Drop {
     fn put(&self, alloc: Global, into: &mut Blob) -> Result<(), AllocError>
         requires { Bound self.now }
         ensures ok { OnOk result (into.new ≡ into.old ++ form.text self.now) }
+        // A value that was written is one that the form fits, so by the form's law its spelling is read again.
+        ensures fits { OnOk result (form.Fits self.now) }
         ensures err { OnErr result (into.new ≡ into.old) };
 
     ghost lawful: { IsLawful form };
@@ -45,4 +47,18 @@ pub fn read_whole<T: Encoded>(alloc: Global, bytes: &[u8]) -> Result<T, ReadRefu
         return Err(ReadRefusal::LeftOver(cut.place()));
     }
     Ok(value)
+}
+
+/// Writes the value into bytes of its own, as a record that is sent or sealed by itself; `put` writes the same ones behind
+/// others. The only refusal is want of memory.
+pub fn write_whole<T: Encoded>(alloc: Global, value: &T) -> Result<Blob, AllocError>
+    requires { T.Bound value.now }
+    // What is written spells the value, so by its clause `only` `read_whole` reads this value in it, unless memory is wanting.
+    ensures spells { IfOk result (λ bytes. Spells T.form bytes value.now) }
+    // At any place, and whatever follows them, the bytes are read as this value, and no further.
+    ensures again { IfOk result (λ bytes. IsReadAgain T.form bytes value.now) }
+{
+    let mut bytes = Blob::new(alloc);
+    value.put(alloc, &mut bytes)?;
+    Ok(bytes)
 }

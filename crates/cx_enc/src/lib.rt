@@ -21,7 +21,7 @@ mod times;
 
 pub use composed::kind_of;
 pub use cut::Cut;
-pub use encoded::{Encoded, read_whole};
+pub use encoded::{Encoded, read_whole, write_whole};
 pub use faults::{ReadFault, ReadRefusal};
 pub use keys::Key;
 pub use laws::{encoding_laws, fault_laws};

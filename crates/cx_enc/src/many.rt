@@ -36,6 +36,7 @@ pub fn put_many<T: Encoded>(
     requires count { length items.now < 2 ^ 32 }
     requires items { All T.Bound items.now }
     ensures ok { OnOk result (into.new ≡ into.old ++ (many T.form).text items.now) }
+    ensures fits { OnOk result ((many T.form).Fits items.now) }
     ensures err { OnErr result (into.new ≡ into.old) }
 {
     let mut spelled = Blob::new(alloc);

@@ -13,6 +13,7 @@ use std::alloc::{AllocError, Global};
 #[tactic(auto, unfolding(crate::specs::Forms::little))]
 pub fn put_u8(alloc: Global, into: &mut Blob, value: u8) -> Result<(), AllocError>
     ensures ok { OnOk result (into.new ≡ into.old ++ u8_form.text value) }
+    ensures fits { OnOk result (u8_form.Fits value) }
     ensures err { OnErr result (into.new ≡ into.old) }
 {
     into.append(alloc, &value.to_le_bytes())
@@ -22,6 +23,7 @@ pub fn put_u8(alloc: Global, into: &mut Blob, value: u8) -> Result<(), AllocErro
 #[tactic(auto, unfolding(crate::specs::Forms::little))]
 pub fn put_u16(alloc: Global, into: &mut Blob, value: u16) -> Result<(), AllocError>
     ensures ok { OnOk result (into.new ≡ into.old ++ u16_form.text value) }
+    ensures fits { OnOk result (u16_form.Fits value) }
     ensures err { OnErr result (into.new ≡ into.old) }
 {
     into.append(alloc, &value.to_le_bytes())
@@ -31,6 +33,7 @@ pub fn put_u16(alloc: Global, into: &mut Blob, value: u16) -> Result<(), AllocEr
 #[tactic(auto, unfolding(crate::specs::Forms::little))]
 pub fn put_u32(alloc: Global, into: &mut Blob, value: u32) -> Result<(), AllocError>
     ensures ok { OnOk result (into.new ≡ into.old ++ u32_form.text value) }
+    ensures fits { OnOk result (u32_form.Fits value) }
     ensures err { OnErr result (into.new ≡ into.old) }
 {
     into.append(alloc, &value.to_le_bytes())
@@ -40,6 +43,7 @@ pub fn put_u32(alloc: Global, into: &mut Blob, value: u32) -> Result<(), AllocEr
 #[tactic(auto, unfolding(crate::specs::Forms::little))]
 pub fn put_u64(alloc: Global, into: &mut Blob, value: u64) -> Result<(), AllocError>
     ensures ok { OnOk result (into.new ≡ into.old ++ u64_form.text value) }
+    ensures fits { OnOk result (u64_form.Fits value) }
     ensures err { OnErr result (into.new ≡ into.old) }
 {
     into.append(alloc, &value.to_le_bytes())
@@ -49,6 +53,7 @@ pub fn put_u64(alloc: Global, into: &mut Blob, value: u64) -> Result<(), AllocEr
 pub fn put_blob(alloc: Global, into: &mut Blob, bytes: &[u8]) -> Result<(), AllocError>
     requires { length bytes.now < 2 ^ 32 }
     ensures ok { OnOk result (into.new ≡ into.old ++ blob_form.text bytes.now) }
+    ensures fits { OnOk result (blob_form.Fits bytes.now) }
     ensures err { OnErr result (into.new ≡ into.old) }
 {
     let mut spelled = Blob::new(alloc);
@@ -60,6 +65,7 @@ pub fn put_blob(alloc: Global, into: &mut Blob, bytes: &[u8]) -> Result<(), Allo
 /// Writes a time.
 pub fn put_time(alloc: Global, into: &mut Blob, time: &Time) -> Result<(), AllocError>
     ensures ok { OnOk result (into.new ≡ into.old ++ time_form.text time.now) }
+    ensures fits { OnOk result (time_form.Fits time.now) }
     ensures err { OnErr result (into.new ≡ into.old) }
 {
     let mut spelled = Blob::new(alloc);
@@ -71,6 +77,7 @@ pub fn put_time(alloc: Global, into: &mut Blob, time: &Time) -> Result<(), Alloc
 /// Writes a key.
 pub fn put_key(alloc: Global, into: &mut Blob, key: &Key) -> Result<(), AllocError>
     ensures ok { OnOk result (into.new ≡ into.old ++ key_form.text key.now) }
+    ensures fits { OnOk result (key_form.Fits key.now) }
     ensures err { OnErr result (into.new ≡ into.old) }
 {
     let created = &key.created;
@@ -86,6 +93,7 @@ pub fn put_key(alloc: Global, into: &mut Blob, key: &Key) -> Result<(), AllocErr
 /// Writes an address.
 pub fn put_addr(alloc: Global, into: &mut Blob, addr: &Addr) -> Result<(), AllocError>
     ensures ok { OnOk result (into.new ≡ into.old ++ addr_form.text addr.now) }
+    ensures fits { OnOk result (addr_form.Fits addr.now) }
     ensures err { OnErr result (into.new ≡ into.old) }
 {
     let mut spelled = Blob::new(alloc);
@@ -98,16 +106,20 @@ pub fn put_addr(alloc: Global, into: &mut Blob, addr: &Addr) -> Result<(), Alloc
 }
 
 /// Writes the number of an entity type.
+#[tactic(auto, using(crate::specs::Primitives::kind_fits))]
 pub fn put_kind(alloc: Global, into: &mut Blob, kind: EntityType) -> Result<(), AllocError>
     ensures ok { OnOk result (into.new ≡ into.old ++ kind_form.text kind) }
+    ensures fits { OnOk result (kind_form.Fits kind) }
     ensures err { OnErr result (into.new ≡ into.old) }
 {
     put_u32(alloc, into, number_of(kind))
 }
 
 /// Writes a name.
+#[tactic(auto, using(crate::proofs::Fitting::name_fits))]
 pub fn put_name(alloc: Global, into: &mut Blob, name: &EntityName) -> Result<(), AllocError>
     ensures ok { OnOk result (into.new ≡ into.old ++ name_form.text name.now) }
+    ensures fits { OnOk result (name_form.Fits name.now) }
     ensures err { OnErr result (into.new ≡ into.old) }
 {
     let mut spelled = Blob::new(alloc);
@@ -119,6 +131,7 @@ pub fn put_name(alloc: Global, into: &mut Blob, name: &EntityName) -> Result<(),
 /// Writes a flag.
 pub fn put_flag(alloc: Global, into: &mut Blob, flag: bool) -> Result<(), AllocError>
     ensures ok { OnOk result (into.new ≡ into.old ++ flag_form.text flag) }
+    ensures fits { OnOk result (flag_form.Fits flag) }
     ensures err { OnErr result (into.new ≡ into.old) }
 {
     put_u8(alloc, into, if flag { 1 } else { 0 })

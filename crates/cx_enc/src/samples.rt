@@ -89,7 +89,8 @@ impl Encoded for Notice {
 // Writes the owner, the flag and the text.
 fn put_ending(alloc: Global, into: &mut Blob, notice: &Notice) -> Result<(), AllocError>
     requires { length notice.now.text < 2 ^ 32 }
-    ensures { OnOk result (into.new ≡ into.old ++ (pair name_form (pair flag_form blob_form)).text (notice.now.owner, (notice.now.urgent, notice.now.text))) }
+    ensures ok { OnOk result (into.new ≡ into.old ++ (pair name_form (pair flag_form blob_form)).text (notice.now.owner, (notice.now.urgent, notice.now.text))) }
+    ensures fits { OnOk result ((pair name_form (pair flag_form blob_form)).Fits (notice.now.owner, (notice.now.urgent, notice.now.text))) }
 {
     put_name(alloc, into, &notice.owner)?;
     put_flag(alloc, into, notice.urgent)?;

@@ -3,6 +3,7 @@
 use crate::samples::{Notice, Roster, Seat};
 use crate::{
     Cut, Encoded, Key, ReadFault, ReadRefusal, Time, kind_of, put_addr, put_name, read_whole,
+    write_whole,
 };
 use cx_base::{Addr, Blob, EntityName, EntityType, Items, SECOND, Text};
 use std::alloc::Global;
@@ -89,6 +90,16 @@ fn a_counted_list_of_records_is_read_and_written(rt: HostRuntime) -> Result<(), 
     let mut written = Blob::new(alloc);
     roster.put(alloc, &mut written)?;
     assert_eq!(rt; written.bytes(), ROSTER.as_slice());
+    Ok(())
+}
+
+#[test]
+fn a_record_written_whole_is_read_back(rt: HostRuntime) -> Result<(), Fail> {
+    let alloc = rt.alloc();
+    let front_seat = seat(1, 4600, 7);
+    let written = write_whole(alloc, &front_seat)?;
+    assert_eq!(rt; written.bytes(), &ROSTER[8..52]);
+    assert!(rt; read_whole::<Seat>(alloc, written.bytes())? == front_seat);
     Ok(())
 }
 
