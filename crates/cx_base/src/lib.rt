@@ -13,7 +13,7 @@ mod owned;
 mod refusals;
 
 pub use addresses::Addr;
-pub use copies::{Duplicate, copy_items};
+pub use copies::{Duplicate, copy_items, copy_option};
 pub use entity::{BadName, EntityName, is_id};
 pub use in_memory::{ByteSource, VecSink};
 pub use kinds::{Access, EntityType};
