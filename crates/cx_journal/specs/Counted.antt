@@ -1,4 +1,4 @@
--- What is kept of the entries so far for the lines of later ones.
+-- What the loop that prints keeps of the entries so far, for the lines of later ones. No public clause speaks of it.
 use Rattle.std.specs.Prelude.{List}
 use Rattle.std.specs.List.{filter_map}
 use Rattle.cx_journal.specs.Places.{blobs_of, cookie_of}

@@ -17,40 +17,48 @@ use Rattle.cx_journal.specs.declared.entries.Handled.{Handled}
 use Rattle.cx_journal.specs.declared.entries.Answered.{Answered}
 use Rattle.cx_journal.specs.declared.entries.Refused.{Refused}
 
+-- ---- the line of each kind of entry
+
+-- of the save of a state with this next global id
 abbrev pub saved_line : ℕ → List ℕ
 saved_line next = codes "saved " <> decimal next <> codes "\n"
 
--- behind the number of the ticket
+-- of an issued ticket of this number
 abbrev pub issued_line : ℕ → Issued → List ℕ
 issued_line number t =
     (codes "issued " <> decimal number <> codes " " <> name_text t.entity <> codes " " <> type_word t.service <> codes " " <> decimal t.gid)
     <> codes " " <> decimal t.generation <> codes " " <> reading_text t.created <> codes " " <> reading_text t.expires <> codes " \"" <> t.caps <> codes "\"\n"
 
+-- of a fetch
 abbrev pub fetched_line : Fetched → List ℕ
 fetched_line f =
     codes "fetched " <> name_text f.daemon <> codes " " <> reading_text f.asked <> codes " " <> ids_text f.generations <> codes "\n"
 
+-- of a look at a view
 abbrev pub looked_line : Looked → List ℕ
 looked_line l =
     codes "looked " <> name_text l.daemon <> codes " " <> decimal l.link <> codes " " <> ids_text l.view.generations <> codes " "
     <> asked_text l.view.asked <> codes "\n"
 
--- a cookie is told by its rank alone
+-- of an admission. A cookie is told by its rank alone, here and below
 abbrev pub admitted_line : ℕ → Admitted → List ℕ
 admitted_line rank a =
     (codes "admitted " <> name_text a.daemon <> codes " " <> decimal a.session <> codes " " <> decimal a.epoch <> codes " c" <> decimal rank <> codes " " <> name_text a.entity)
     <> codes " " <> decimal a.gid <> codes " " <> reading_text a.at <> codes " \"" <> a.caps <> codes "\"\n"
 
+-- of an operation that was sent
 abbrev pub sent_line : ℕ → Sent → List ℕ
 sent_line rank s =
     codes "sent " <> name_text s.client <> codes " " <> name_text s.daemon <> codes " c" <> decimal rank <> codes " " <> decimal s.seq
     <> codes " " <> operation_text s.operation <> codes "\n"
 
+-- of an operation that was handled
 abbrev pub handled_line : ℕ → Handled → List ℕ
 handled_line rank h =
     (codes "handled " <> name_text h.daemon <> codes " " <> decimal h.session <> codes " " <> decimal h.epoch <> codes " c" <> decimal rank)
     <> codes " " <> decimal h.seq <> codes " " <> operation_text h.operation <> codes " " <> outcome_word h.outcome <> codes "\n"
 
+-- of an answer
 abbrev pub answered_line : Answered → List ℕ
 answered_line a =
     codes "answered " <> name_text a.client <> codes " " <> name_text a.daemon <> codes " " <> decimal a.tid <> codes " " <> outcome_word a.outcome
@@ -61,6 +69,7 @@ abbrev pub ticket_text : Option ℕ → List ℕ
 ticket_text None = []
 ticket_text (Some number) = codes " ticket=" <> decimal number
 
+-- of a refusal, of a ticket of this number or of none
 abbrev pub refused_line : Option ℕ → Refused → List ℕ
 refused_line number r =
     codes "refused " <> name_text r.node <> codes " " <> decimal r.link <> codes " " <> reason_text r.reason <> ticket_text number <> codes "\n"

@@ -1,4 +1,5 @@
--- What maps keep of cookies and blobs: their places in lists.
+-- What the maps of the writer keep of cookies and blobs: their places in lists. The loop that prints computes this; no public
+-- clause speaks of it.
 use Rattle.std.specs.Prelude.{ℕ, ◌≡◌, ◌+◌, ◌==◌, List, length, position}
 use Rattle.std.specs.Option.{option_map}
 use Rattle.std.specs.Ordering.{nat_cmp}

@@ -1,9 +1,9 @@
-//! Copies of the entries.
+//! Copies of the entries, and of what may be missing.
 
 ghost use Rattle.std.specs.Prelude.{◌≡◌, IfOk};
 
 use crate::entries::{Admitted, Answered, Entry, Fetched, Handled, Issued, Looked, Refused, Sent};
-use cx_base::{Blob, Duplicate};
+use cx_base::Duplicate;
 use std::alloc::{AllocError, Global};
 
 impl Duplicate for Issued {
@@ -112,7 +112,7 @@ impl Duplicate for Answered {
 impl Duplicate for Refused {
     fn copy(&self, alloc: Global) -> Result<Refused, AllocError> {
         let node = self.node.copy(alloc)?;
-        let ticket = copy_ticket(alloc, &self.ticket)?;
+        let ticket = copy_option(alloc, &self.ticket)?;
         Ok(Refused {
             node,
             link: self.link,
@@ -122,13 +122,14 @@ impl Duplicate for Refused {
     }
 }
 
-fn copy_ticket(alloc: Global, ticket: &Option<Blob>) -> Result<Option<Blob>, AllocError>
-    ensures { IfOk result (λ copied. copied ≡ ticket.now) }
+/// Copies what may be missing.
+pub fn copy_option<T: Duplicate>(alloc: Global, held: &Option<T>) -> Result<Option<T>, AllocError>
+    ensures { IfOk result (λ copied. copied ≡ held.now) }
 {
-    match ticket {
+    match held {
         None => Ok(None),
-        Some(blob) => {
-            let copied = blob.copy(alloc)?;
+        Some(item) => {
+            let copied = item.copy(alloc)?;
             Ok(Some(copied))
         }
     }

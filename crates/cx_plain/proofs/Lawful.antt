@@ -13,9 +13,7 @@ use Rattle.cx_journal.specs.declared.entries.Entry.TheVariants as entry
 use Rattle.cx_journal.specs.declared.entries.Issued.{Issued}
 use Rattle.cx_journal.specs.declared.entries.Looked.{Looked}
 use Rattle.cx_journal.specs.declared.entries.Admitted.{Admitted}
-use Rattle.cx_journal.specs.declared.entries.Handled.{Handled}
 use Rattle.cx_journal.specs.declared.outcomes.Reason.TheVariants as reason
-use Rattle.cx_journal.specs.declared.outcomes.Outcome.TheVariants as outcome
 use Rattle.cx_schedule.specs.declared.lines.Grant.{Grant}
 use Rattle.cx_schedule.specs.declared.lines.Line.{Line}
 use Rattle.cx_schedule.specs.declared.lines.Line.TheVariants as line
@@ -26,8 +24,8 @@ use Rattle.cx_plain.specs.declared.state.Run.{Run}
 use Rattle.cx_plain.specs.Changes.{changed}
 use Rattle.cx_plain.specs.Monitors.{has_generation, list_of}
 use Rattle.cx_plain.specs.Nodes.{held_of, is_named, is_with, new_node}
-use Rattle.cx_plain.specs.Plain.{rotating, login, arriving, viewing, renewing, fetch, looking, refusing, denying, admitting, judging, presenting, meeting, showing, calling, connect, with_seq, delivering, sending, send, sent_at, answered_at, node_of, declared, step, opening, run_of}
-use Rattle.cx_plain.proofs.Behind.{all-push, all-changed, all-find}
+use Rattle.cx_plain.specs.Plain.{rotating, login, arriving, viewing, renewing, fetch, looking, refusing, denying, opened, admission_at, admitting, judging, presenting, meeting, showing, calling, connect, with_seq, delivering, sending, send, sent_at, handled_at, answered_at, node_of, declared, step, opening, run_of}
+use Rattle.cx_plain.proofs.Lists.{all-push, all-changed, all-find}
 use Rattle.cx_plain.proofs.Names.{same_name_is, same_name_self}
 use Rattle.cx_plain.proofs.Laws.{IsGenuine, HoldsGenuine, WasAdmitted, IsSound, holds-push, holds-nodes, contains-last, empty-genuine, held-genuine, handled-in_session}
 use Rattle.cx_plain.proofs.Steps.{HoldsRun, IsFound, found, entered-keeps, saved-holds}
@@ -103,23 +101,13 @@ expired-keeps r client daemon link expires now blob holds =
 admitting-keeps : (r : Run) (client daemon : Name) (admitted : ℕ) (ticket : Issued) → HoldsRun r → IsGenuine r.journal client daemon.kind (Some ticket) → r.reading < ticket.expires → HoldsRun (admitting r client daemon admitted ticket)
 unfolding admitting
 admitting-keeps r client daemon admitted ticket holds genuine live =
-    let number : ℕ = admitted + 1 in
-    let cookie : ℕ = r.cookies + 1 in
-    let session : Session = record { daemon = daemon; place = record { number = number; cookie = cookie; seq = 0 } } in
-    let admission : Admitted = record {
-      daemon = daemon;
-      session = number;
-      epoch = 1;
-      cookie = cookie;
-      entity = client;
-      gid = ticket.gid;
-      at = r.reading;
-      caps = ticket.caps;
-    } in
+    let at : Place = opened r admitted in
+    let session : Session = record { daemon = daemon; place = at } in
+    let admission : Admitted = admission_at r.reading client daemon at ticket in
     let journal : List Entry = r.journal ++ entry.Admitted admission ∷ [] in
     let behind = holds-push r.journal r.nodes (entry.Admitted admission) holds
     (ticket, genuine.0, record { entity = genuine.1; gid = refl; caps = refl; service = genuine.2; live = live }) tt tt in
-    let count : Node → Node = λ n. record n { admitted = number } in
+    let count : Node → Node = λ n. record n { admitted = at.number } in
     let add : Node → Node = λ n. record n { sessions = n.sessions ++ session ∷ [] } in
     let was : WasAdmitted journal session = record {
       admission = admission;
@@ -200,15 +188,7 @@ delivering-keeps r client daemon session operation was is_daemon holds =
     let at : Place = record session.place { seq = session.place.seq + 1 } in
     let on : Run = with_seq r client daemon at.seq in
     let sent : Entry = sent_at client daemon at operation in
-    let handled : Handled = record {
-      daemon = daemon;
-      session = at.number;
-      epoch = 1;
-      cookie = at.cookie;
-      seq = at.seq;
-      operation = operation;
-      outcome = outcome.Done;
-    } in
+    let handled : Entry = handled_at daemon at operation in
     let after_sent : List Entry = r.journal ++ sent ∷ [] in
     let was_then : WasAdmitted after_sent session = record {
       admission = was.admission;
@@ -219,9 +199,8 @@ delivering-keeps r client daemon session operation was is_daemon holds =
       cookie = was.cookie;
     } in
     let first = holds-push r.journal on.nodes sent (with_seq-keeps r client daemon at.seq holds) tt tt tt in
-    let second = holds-push after_sent on.nodes (entry.Handled handled) first tt
-    (handled-in_session after_sent session handled was_then is_daemon refl refl refl) tt in
-    holds-push (after_sent ++ entry.Handled handled ∷ []) on.nodes (answered_at client daemon at) second tt tt tt
+    let second = holds-push after_sent on.nodes handled first tt (handled-in_session after_sent session daemon at.seq operation was_then is_daemon) tt in
+    holds-push (after_sent ++ handled ∷ []) on.nodes (answered_at client daemon at) second tt tt tt
 
 sending-keeps : (r : Run) (client daemon : Name) (node : Node) (session : Option Session) (operation : Operation) → find (is_with daemon) node.sessions ≡ session → IsFound r client node → HoldsRun r → HoldsRun (sending r client daemon session operation)
 unfolding refusing

@@ -1,10 +1,11 @@
 -- What every line keeps of the journal and of what the entities hold.
-use Rattle.std.proofs.Common.{◌≡◌, ℕ, List, [], ◌∷◌, ◌++◌, Option, Some, None, false, refl, sym, ◌∙◌, arith}
+use Rattle.std.proofs.Common.{◌≡◌, ℕ, List, [], ◌∷◌, ◌++◌, Option, Some, None, false, refl, ◌∙◌, arith}
 use Rattle.std.specs.List.{Contains, AllByRecursion, list_any}
 use Rattle.std.proofs.lemmas.List.Elements.{Contains-append_left, Contains-append_right}
 use Rattle.cx_base.specs.Names.{Name}
 use Rattle.cx_base.specs.declared.kinds.EntityType.{EntityType}
 use Rattle.cx_base.specs.declared.kinds.EntityType.TheVariants.{Mon, Mds, Osd, Client, Mgr, Auth}
+use Rattle.cx_base.specs.declared.operations.Operation.{Operation}
 use Rattle.cx_journal.specs.Behind.{EachBehind}
 use Rattle.cx_journal.specs.Backed.{IsBackedBy}
 use Rattle.cx_journal.specs.InSession.{IsInSessionBy, ends_session}
@@ -13,12 +14,13 @@ use Rattle.cx_journal.specs.declared.entries.Entry.{Entry}
 use Rattle.cx_journal.specs.declared.entries.Entry.TheVariants as entry
 use Rattle.cx_journal.specs.declared.entries.Issued.{Issued}
 use Rattle.cx_journal.specs.declared.entries.Admitted.{Admitted}
-use Rattle.cx_journal.specs.declared.entries.Handled.{Handled}
 use Rattle.cx_plain.specs.declared.nodes.Node.{Node}
 use Rattle.cx_plain.specs.declared.nodes.Session.{Session}
 use Rattle.cx_plain.specs.declared.wallets.Wallet.{Wallet}
 use Rattle.cx_plain.specs.Nodes.{held_of, holding_as}
-use Rattle.cx_plain.proofs.Behind.{behind-push, contains-split, all-weaker}
+use Rattle.cx_plain.specs.Plain.{handled_at}
+use Rattle.cx_journal.proofs.BehindLemmas.{EachBehind-append}
+use Rattle.cx_plain.proofs.Lists.{contains-split, all-weaker}
 
 -- a ticket that is held was issued before, to this entity and for this service
 abbrev pub IsGenuine : List Entry → Name → EntityType → Option Issued → Type 0
@@ -84,9 +86,9 @@ sound-more journal more node sound = record {
 -- one entry more, of which the three laws hold
 pub holds-push : (journal : List Entry) (nodes : List Node) (e : Entry) → Holds journal nodes → IsBackedBy journal e → IsInSessionBy journal e → KeepsKeysBy journal e → Holds (journal ++ e ∷ []) nodes
 holds-push journal nodes e holds backed in_session keeps_keys = record {
-  backed = behind-push IsBackedBy [] journal e holds.backed backed;
-  in_session = behind-push IsInSessionBy [] journal e holds.in_session in_session;
-  keeps_keys = behind-push KeepsKeysBy [] journal e holds.keeps_keys keeps_keys;
+  backed = EachBehind-append IsBackedBy [] journal (e ∷ []) holds.backed (backed, tt);
+  in_session = EachBehind-append IsInSessionBy [] journal (e ∷ []) holds.in_session (in_session, tt);
+  keeps_keys = EachBehind-append KeepsKeysBy [] journal (e ∷ []) holds.keeps_keys (keeps_keys, tt);
   sound = all-weaker (IsSound journal) (IsSound (journal ++ e ∷ [])) (sound-more journal (e ∷ [])) nodes holds.sound;
 }
 
@@ -142,13 +144,13 @@ none_end daemon session [] = refl
 none_end daemon session (e ∷ es) = rw (none_ends daemon session e) (none_end daemon session es)
 
 -- an operation in a session that was admitted is in session
-pub handled-in_session : (journal : List Entry) (session : Session) (handled : Handled) → WasAdmitted journal session → session.daemon ≡ handled.daemon → session.place.number ≡ handled.session → handled.epoch ≡ 1 → session.place.cookie ≡ handled.cookie → IsInSessionBy journal (entry.Handled handled)
-handled-in_session journal session handled was daemon number epoch cookie =
+pub handled-in_session : (journal : List Entry) (session : Session) (daemon : Name) (seq : ℕ) (operation : Operation) → WasAdmitted journal session → session.daemon ≡ daemon → IsInSessionBy journal (handled_at daemon (record session.place { seq = seq }) operation)
+handled-in_session journal session daemon seq operation was is_daemon =
     let parts = contains-split journal (entry.Admitted was.admission) was.entered in (
       parts.0,
       was.admission,
       parts.1,
       parts.2,
-      record { daemon = was.daemon ∙ daemon; session = was.number ∙ number; epoch = was.epoch ∙ sym epoch; cookie = was.cookie ∙ cookie },
-      none_end handled.daemon handled.session parts.1,
+      record { daemon = was.daemon ∙ is_daemon; session = was.number; epoch = was.epoch; cookie = was.cookie },
+      none_end daemon session.place.number parts.1,
     )

@@ -1,8 +1,8 @@
-pub mod Behind
 pub mod Changed
 pub mod Delivers
 pub mod Lawful
 pub mod Laws
+pub mod Lists
 pub mod Names
 pub mod Presents
 pub mod Steps

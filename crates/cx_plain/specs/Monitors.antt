@@ -53,10 +53,11 @@ has_generation generations id = list_any (λ g. g.id == id) generations
 abbrev pub current_id : List Generation → ℕ
 current_id generations = unwrap_or (option_map (λ g. g.id) (slice_get generations 1)) 0
 
--- whether two generations are one, and whether two lists of them are
+-- whether two generations are one
 abbrev pub same_generation : Generation → Generation → Bool
 same_generation a b = a.id == b.id && bytes_eq a.key b.key && a.expires == b.expires
 
+-- whether two lists of generations are one
 abbrev pub same_generations : List Generation → List Generation → Bool
 same_generations xs ys = pointwise same_generation xs ys
 

@@ -31,6 +31,7 @@ holding_as wallet ticket Mgr = record wallet { mgr = Some ticket }
 holding_as wallet ticket Mon = wallet
 holding_as wallet ticket Client = wallet
 
+-- the same of the ticket's own service
 abbrev pub holding : Wallet → Issued → Wallet
 holding wallet ticket = holding_as wallet ticket ticket.service
 

@@ -14,6 +14,7 @@ use Rattle.cx_rotate.specs.declared.views.View.{View}
 use Rattle.cx_journal.specs.declared.entries.Entry.{Entry}
 use Rattle.cx_journal.specs.declared.entries.Entry.TheVariants as entry
 use Rattle.cx_journal.specs.declared.entries.Issued.{Issued}
+use Rattle.cx_journal.specs.declared.entries.Admitted.{Admitted}
 use Rattle.cx_journal.specs.declared.outcomes.Reason.{Reason}
 use Rattle.cx_journal.specs.declared.outcomes.Reason.TheVariants as reason
 use Rattle.cx_journal.specs.declared.outcomes.Outcome.TheVariants as outcome
@@ -55,6 +56,7 @@ node_of r name = find (is_named name) r.nodes
 
 -- ---- what is entered into the journal
 
+-- an entry more, the last
 abbrev pub entering : Run → Entry → Run
 entering r e = record r { journal = r.journal ++ e ∷ [] }
 
@@ -128,11 +130,12 @@ issuing terms entity caps service s =
       journal = s.journal ++ entry.Issued ticket ∷ [];
     }
 
+-- the same where the entity has caps; nothing is issued where it has none
 abbrev pub issuing_with : Terms → Name → Option (List ℕ) → EntityType → UnderWay → UnderWay
 issuing_with terms entity None service s = s
 issuing_with terms entity (Some caps) service s = issuing terms entity caps service s
 
--- the same for a service that was asked for and for which the entity has caps
+-- the same where the service was asked for; nothing is issued where it was not
 unfoldable pub issuing_asked : Terms → Node → List EntityType → EntityType → UnderWay → UnderWay
 issuing_asked terms node asked service s =
     if list_any (λ a. same_kind a service) asked
@@ -210,29 +213,36 @@ abbrev pub fetch : Run → Name → Option Node → Run
 fetch r name None = r
 fetch r name (Some daemon) = viewing (renewing (arriving r name daemon daemon.has_entered)) name
 
--- the daemon admits the client on its ticket: with the daemon's next session number, epoch 1 and a new cookie
+-- where a session starts that is admitted next: it has the daemon's next session number and a new cookie
+abbrev pub opened : Run → ℕ → Place
+opened r admitted = record { number = admitted + 1; cookie = r.cookies + 1; seq = 0 }
+
+-- the admission of a client on its ticket to a session at this place, in epoch 1
+abbrev pub admission_at : ℕ → Name → Name → Place → Issued → Admitted
+admission_at now client daemon at ticket = record {
+  daemon = daemon;
+  session = at.number;
+  epoch = 1;
+  cookie = at.cookie;
+  entity = client;
+  gid = ticket.gid;
+  at = now;
+  caps = ticket.caps;
+}
+
+-- the daemon admits the client on its ticket
 unfoldable pub admitting : Run → Name → Name → ℕ → Issued → Run
 admitting r client daemon admitted ticket =
-    let number : ℕ = admitted + 1 in
-    let cookie : ℕ = r.cookies + 1 in
-    let session : Session = record { daemon = daemon; place = record { number = number; cookie = cookie; seq = 0 } } in
+    let at : Place = opened r admitted in
+    let session : Session = record { daemon = daemon; place = at } in
     entering
     (record r {
-      cookies = cookie;
+      cookies = at.cookie;
       nodes =
           changed (is_named client) (λ n. record n { sessions = n.sessions ++ session ∷ [] })
-          (changed (is_named daemon) (λ n. record n { admitted = number }) r.nodes);
+          (changed (is_named daemon) (λ n. record n { admitted = at.number }) r.nodes);
     })
-    (entry.Admitted (record {
-      daemon = daemon;
-      session = number;
-      epoch = 1;
-      cookie = cookie;
-      entity = client;
-      gid = ticket.gid;
-      at = r.reading;
-      caps = ticket.caps;
-    }))
+    (entry.Admitted (admission_at r.reading client daemon at ticket))
 
 -- the daemon refuses the ticket and denies the client with code 13, no permission
 unfoldable pub denying : Run → Name → Name → ℕ → Reason → List ℕ → Run
@@ -258,6 +268,7 @@ presenting r client daemon view admitted ticket =
     let link : ℕ = r.links + 1 in
     judging (looking (record r { links = link }) daemon link view) client daemon view admitted link ticket (fault_of r.reading view ticket)
 
+-- the same with the view of the daemon of that name
 abbrev pub meeting : Run → Name → Name → Option Node → Issued → Run
 meeting r client daemon None ticket = r
 meeting r client daemon (Some node) ticket = presenting r client daemon node.view node.admitted ticket
@@ -277,11 +288,12 @@ abbrev pub connect : Run → Name → Option Node → Name → Run
 connect r client None daemon = r
 connect r client (Some node) daemon = calling r client daemon node (find (is_with daemon) node.sessions)
 
--- the three entries of an operation at a place in a session, where it is done
+-- an operation at a place in a session, where it is done, is entered three times: it was sent
 abbrev pub sent_at : Name → Name → Place → Operation → Entry
 sent_at client daemon at operation =
     entry.Sent (record { client = client; daemon = daemon; cookie = at.cookie; seq = at.seq; operation = operation })
 
+-- it was handled
 abbrev pub handled_at : Name → Place → Operation → Entry
 handled_at daemon at operation =
     entry.Handled (record {
@@ -294,6 +306,7 @@ handled_at daemon at operation =
       outcome = outcome.Done;
     })
 
+-- it was answered
 abbrev pub answered_at : Name → Name → Place → Entry
 answered_at client daemon at =
     entry.Answered (record { client = client; daemon = daemon; cookie = at.cookie; tid = at.seq; outcome = outcome.Done })

@@ -16,7 +16,7 @@ use std::alloc::{AllocError, Global};
 
 /// What stands behind an entrance: the monitor, what the entity holds, and the journal.
 #[derive(Debug, Drop)]
-pub struct Welcome {
+pub(crate) struct Welcome {
     pub monitor: Monitor,
     pub wallet: Wallet,
     pub journal: Journal,
@@ -24,7 +24,7 @@ pub struct Welcome {
 
 /// All four lists rotate at this reading.
 #[tactic(auto, unfolding(crate::specs::Plain::rotating))]
-pub fn rotated(monitor: Monitor, now: Reading) -> Monitor
+pub(crate) fn rotated(monitor: Monitor, now: Reading) -> Monitor
     requires { IsTimely now monitor.life monitor.auth_life }
     ensures state { result ≡ rotating now monitor }
     ensures timely { IsTimely now result.life result.auth_life }
@@ -36,7 +36,11 @@ pub fn rotated(monitor: Monitor, now: Reading) -> Monitor
 
 /// Enters that the monitor saves its state, where that differs from the one saved last.
 #[tactic(auto, unfolding(crate::specs::Plain::saved_entries))]
-pub fn enter_save(alloc: Global, monitor: &Monitor, journal: &mut Journal) -> Result<(), AllocError>
+pub(crate) fn enter_save(
+    alloc: Global,
+    monitor: &Monitor,
+    journal: &mut Journal,
+) -> Result<(), AllocError>
     ensures { OnOk result (journal.new ≡ journal.old ++ saved_entries monitor.now) }
 {
     if monitor.kept.is(&monitor.saved) {
@@ -108,7 +112,7 @@ fn grant(
 /// An entity enters and asks for tickets of these services: the lists rotate, it keeps its global id or gets a new one, the
 /// state is saved, and the tickets are issued.
 #[tactic(auto, unfolding(crate::specs::Plain::welcoming))]
-pub fn enter(
+pub(crate) fn enter(
     alloc: Global,
     now: Reading,
     node: &Node,

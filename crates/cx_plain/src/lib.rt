@@ -2,13 +2,13 @@
 //! with no bytes and no keys between them.
 #![tactic(auto)]
 
-pub mod counts;
-pub mod entrance;
-pub mod monitors;
-pub mod nodes;
-pub mod state;
-pub mod tickets;
-pub mod wallets;
-pub mod whole;
+mod counts;
+mod entrance;
+mod monitors;
+mod nodes;
+mod state;
+mod tickets;
+mod wallets;
+mod whole;
 
 pub use whole::{run, run_laws};

@@ -9,7 +9,7 @@ use cx_rotate::Generations;
 
 /// What the monitor keeps: the mark of the next global id, and the generations of each service.
 #[derive(Clone, Copy, Debug, PartialEq, Eq)]
-pub struct Kept {
+pub(crate) struct Kept {
     pub next_gid: u64,
     pub mds: Generations,
     pub osd: Generations,
@@ -19,7 +19,7 @@ pub struct Kept {
 
 impl Kept {
     /// What a monitor keeps at the start: mark 1, and no generations.
-    pub fn fresh() -> Kept
+    pub(crate) fn fresh() -> Kept
         ensures { result ≡ fresh_kept }
     {
         let none = Generations::empty();
@@ -33,7 +33,7 @@ impl Kept {
     }
 
     /// The generations of a service; the others have none.
-    pub fn of(&self, service: EntityType) -> Generations
+    pub(crate) fn of(&self, service: EntityType) -> Generations
         ensures { result ≡ list_of self.now service }
     {
         match service {
@@ -47,7 +47,7 @@ impl Kept {
     }
 
     /// All four lists rotate at this reading.
-    pub fn rotate(&mut self, now: Reading, life: u64, auth_life: u64)
+    pub(crate) fn rotate(&mut self, now: Reading, life: u64, auth_life: u64)
         requires { IsTimely now life auth_life }
         ensures { self.new ≡ rotated_kept now life auth_life self.old }
     {
@@ -60,7 +60,7 @@ impl Kept {
 
     /// Whether two kept states are one.
     #[tactic(auto, unfolding(crate::specs::Monitors::same_kept))]
-    pub fn is(&self, other: &Kept) -> bool
+    pub(crate) fn is(&self, other: &Kept) -> bool
         ensures { result ≡ same_kept self.now other.now }
     {
         self.next_gid == other.next_gid
@@ -78,14 +78,14 @@ fn same_generations(a: Generations, b: Generations) -> bool
 }
 
 /// Whether a generation of this id is among them.
-pub fn has_generation(generations: Generations, id: u64) -> bool
+pub(crate) fn has_generation(generations: Generations, id: u64) -> bool
     ensures { result ≡ has_generation generations id }
 {
     generations.find(id).is_some()
 }
 
 /// The id of the current generation, the second; 0 where none stands.
-pub fn current_id(generations: Generations) -> u64
+pub(crate) fn current_id(generations: Generations) -> u64
     ensures { result ≡ current_id generations }
 {
     match generations.current() {
@@ -96,7 +96,7 @@ pub fn current_id(generations: Generations) -> u64
 
 /// The monitor between two lines.
 #[derive(Clone, Copy, Debug)]
-pub struct Monitor {
+pub(crate) struct Monitor {
     /// The life of service secrets and tickets, and that of AUTH secrets and tickets, in nanoseconds.
     pub life: u64,
     pub auth_life: u64,

@@ -14,7 +14,7 @@ use std::marker::Model;
 
 /// How far a session is.
 #[derive(Clone, Copy, Debug)]
-pub struct Place {
+pub(crate) struct Place {
     /// The daemon's number of the session, from 1.
     pub number: u64,
     pub cookie: u64,
@@ -24,14 +24,14 @@ pub struct Place {
 
 /// A client's session with a daemon.
 #[derive(Debug, Drop)]
-pub struct Session {
+pub(crate) struct Session {
     pub daemon: EntityName,
     pub place: Place,
 }
 
 /// A client's sessions, at most one with each daemon.
 #[derive(Debug, Drop)]
-pub struct Sessions {
+pub(crate) struct Sessions {
     held: Vec<Session>,
 }
 
@@ -46,7 +46,7 @@ impl Model for Sessions {
 
 impl Sessions {
     /// No sessions.
-    pub fn new(alloc: Global) -> Sessions
+    pub(crate) fn new(alloc: Global) -> Sessions
         ensures { result ≡ [] }
     {
         Sessions {
@@ -55,14 +55,14 @@ impl Sessions {
     }
 
     /// The session with this daemon.
-    pub fn find(&self, daemon: &EntityName) -> Option<&Session>
+    pub(crate) fn find(&self, daemon: &EntityName) -> Option<&Session>
         ensures { option_copied result ≡ find (is_with daemon.now) self.now }
     {
         self.held.iter().find(|session| session.daemon == *daemon)
     }
 
     /// Puts a session last.
-    pub fn push(&mut self, session: Session) -> Result<(), AllocError>
+    pub(crate) fn push(&mut self, session: Session) -> Result<(), AllocError>
         ensures { OnOk result (self.new ≡ self.old ++ session ∷ []) }
     {
         self.held.push(session)?;
@@ -70,7 +70,7 @@ impl Sessions {
     }
 
     /// Sets the last seq of the session with this daemon.
-    pub fn set_seq(&mut self, daemon: &EntityName, seq: u64)
+    pub(crate) fn set_seq(&mut self, daemon: &EntityName, seq: u64)
         ensures { self.new ≡ changed (is_with daemon.now) (λ s. record s { place = record s.place { seq = seq } }) self.old }
     {
         set_seq(&mut self.held, daemon, seq);
@@ -85,6 +85,7 @@ fn session_place(sessions: &[Session], daemon: &EntityName) -> Option<usize>
         .position(|session| session.daemon == *daemon)
 }
 
+#[tactic(auto, using(crate::proofs::Changed::changed_none))]
 fn set_seq(sessions: &mut [Session], daemon: &EntityName, seq: u64)
     ensures { sessions.new ≡ changed (is_with daemon.now) (λ s. record s { place = record s.place { seq = seq } }) sessions.old }
 {
@@ -95,7 +96,7 @@ fn set_seq(sessions: &mut [Session], daemon: &EntityName, seq: u64)
 
 /// An entity of the run with all that it holds.
 #[derive(Debug, Drop)]
-pub struct Node {
+pub(crate) struct Node {
     pub name: EntityName,
     /// The caps texts that the monitor has for the entity.
     pub grants: Items<Grant>,
@@ -112,7 +113,7 @@ pub struct Node {
 
 impl Node {
     /// An entity that was just declared.
-    pub fn new(alloc: Global, name: EntityName, grants: Items<Grant>) -> Node
+    pub(crate) fn new(alloc: Global, name: EntityName, grants: Items<Grant>) -> Node
         ensures { result ≡ new_node name grants }
     {
         Node {
@@ -132,7 +133,7 @@ impl Node {
 
 /// The entities in the order of their declaration.
 #[derive(Debug, Drop)]
-pub struct Nodes {
+pub(crate) struct Nodes {
     held: Vec<Node>,
 }
 
@@ -147,7 +148,7 @@ impl Model for Nodes {
 
 impl Nodes {
     /// No entities.
-    pub fn new(alloc: Global) -> Nodes
+    pub(crate) fn new(alloc: Global) -> Nodes
         ensures { result ≡ [] }
     {
         Nodes {
@@ -156,14 +157,14 @@ impl Nodes {
     }
 
     /// The entity of this name.
-    pub fn find(&self, name: &EntityName) -> Option<&Node>
+    pub(crate) fn find(&self, name: &EntityName) -> Option<&Node>
         ensures { option_copied result ≡ find (is_named name.now) self.now }
     {
         self.held.iter().find(|node| node.name == *name)
     }
 
     /// Puts an entity last.
-    pub fn push(&mut self, node: Node) -> Result<(), AllocError>
+    pub(crate) fn push(&mut self, node: Node) -> Result<(), AllocError>
         ensures { OnOk result (self.new ≡ self.old ++ node ∷ []) }
     {
         self.held.push(node)?;
@@ -171,35 +172,39 @@ impl Nodes {
     }
 
     /// The entity of this name has entered and holds these tickets.
-    pub fn set_wallet(&mut self, name: &EntityName, wallet: Wallet)
+    pub(crate) fn set_wallet(&mut self, name: &EntityName, wallet: Wallet)
         ensures { self.new ≡ changed (is_named name.now) (λ n. record n { wallet = wallet; has_entered = true }) self.old }
     {
         set_wallet(&mut self.held, name, wallet);
     }
 
     /// The daemon of this name has this view.
-    pub fn set_view(&mut self, name: &EntityName, view: View)
+    pub(crate) fn set_view(&mut self, name: &EntityName, view: View)
         ensures { self.new ≡ changed (is_named name.now) (λ n. record n { view = view }) self.old }
     {
         set_view(&mut self.held, name, view);
     }
 
     /// The daemon of this name has admitted so many sessions.
-    pub fn set_admitted(&mut self, name: &EntityName, count: u64)
+    pub(crate) fn set_admitted(&mut self, name: &EntityName, count: u64)
         ensures { self.new ≡ changed (is_named name.now) (λ n. record n { admitted = count }) self.old }
     {
         set_admitted(&mut self.held, name, count);
     }
 
     /// The client of this name holds one session more.
-    pub fn add_session(&mut self, name: &EntityName, session: Session) -> Result<(), AllocError>
+    pub(crate) fn add_session(
+        &mut self,
+        name: &EntityName,
+        session: Session,
+    ) -> Result<(), AllocError>
         ensures { OnOk result (self.new ≡ changed (is_named name.now) (λ n. record n { sessions = n.sessions ++ session ∷ [] }) self.old) }
     {
         add_session(&mut self.held, name, session)
     }
 
     /// The client of this name has sent the operation of this seq in its session with the daemon.
-    pub fn set_seq(&mut self, name: &EntityName, daemon: &EntityName, seq: u64)
+    pub(crate) fn set_seq(&mut self, name: &EntityName, daemon: &EntityName, seq: u64)
         ensures { self.new ≡ changed (is_named name.now) (λ n. record n { sessions = changed (is_with daemon.now) (λ s. record s { place = record s.place { seq = seq } }) n.sessions }) self.old }
     {
         set_node_seq(&mut self.held, name, daemon, seq);
@@ -212,6 +217,7 @@ fn place_of(nodes: &[Node], name: &EntityName) -> Option<usize>
     nodes.iter().position(|node| node.name == *name)
 }
 
+#[tactic(auto, using(crate::proofs::Changed::changed_none))]
 fn set_wallet(nodes: &mut [Node], name: &EntityName, wallet: Wallet)
     ensures { nodes.new ≡ changed (is_named name.now) (λ n. record n { wallet = wallet; has_entered = true }) nodes.old }
 {
@@ -222,6 +228,7 @@ fn set_wallet(nodes: &mut [Node], name: &EntityName, wallet: Wallet)
     }
 }
 
+#[tactic(auto, using(crate::proofs::Changed::changed_none))]
 fn set_view(nodes: &mut [Node], name: &EntityName, view: View)
     ensures { nodes.new ≡ changed (is_named name.now) (λ n. record n { view = view }) nodes.old }
 {
@@ -230,6 +237,7 @@ fn set_view(nodes: &mut [Node], name: &EntityName, view: View)
     }
 }
 
+#[tactic(auto, using(crate::proofs::Changed::changed_none))]
 fn set_admitted(nodes: &mut [Node], name: &EntityName, count: u64)
     ensures { nodes.new ≡ changed (is_named name.now) (λ n. record n { admitted = count }) nodes.old }
 {
@@ -238,6 +246,7 @@ fn set_admitted(nodes: &mut [Node], name: &EntityName, count: u64)
     }
 }
 
+#[tactic(auto, using(crate::proofs::Changed::changed_none))]
 fn add_session(nodes: &mut [Node], name: &EntityName, session: Session) -> Result<(), AllocError>
     ensures { OnOk result (nodes.new ≡ changed (is_named name.now) (λ n. record n { sessions = n.sessions ++ session ∷ [] }) nodes.old) }
 {
@@ -248,6 +257,7 @@ fn add_session(nodes: &mut [Node], name: &EntityName, session: Session) -> Resul
     Ok(())
 }
 
+#[tactic(auto, using(crate::proofs::Changed::changed_none))]
 fn set_node_seq(nodes: &mut [Node], name: &EntityName, daemon: &EntityName, seq: u64)
     ensures { nodes.new ≡ changed (is_named name.now) (λ n. record n { sessions = changed (is_with daemon.now) (λ s. record s { place = record s.place { seq = seq } }) n.sessions }) nodes.old }
 {

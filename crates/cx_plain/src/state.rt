@@ -21,7 +21,7 @@ use std::mem;
 
 /// All that a run holds between two lines.
 #[derive(Debug, Drop)]
-pub struct Run {
+pub(crate) struct Run {
     /// The reading of all clocks, in nanoseconds.
     pub reading: Reading,
     pub monitor: Monitor,
@@ -37,7 +37,7 @@ impl Run {
 
     /// A run at its start.
     #[tactic(auto, unfolding(crate::specs::Plain::opening))]
-    pub fn new(alloc: Global) -> Run
+    pub(crate) fn new(alloc: Global) -> Run
         ensures state { result ≡ opening }
         ensures timely { IsTimelyRun result }
     {
@@ -59,7 +59,7 @@ impl Run {
     }
 
     /// The journal.
-    pub fn into_journal(self) -> Journal
+    pub(crate) fn into_journal(self) -> Journal
         ensures { result ≡ self.journal }
     {
         self.journal
@@ -446,7 +446,7 @@ impl Run {
     ghost use Rattle.cx_plain.specs.Plain.{IsTimelyRun, step};
 
     /// What a line does.
-    pub fn step(&mut self, alloc: Global, line: &Line) -> Result<(), AllocError>
+    pub(crate) fn step(&mut self, alloc: Global, line: &Line) -> Result<(), AllocError>
         requires timely { IsTimelyRun self.old }
         requires in_range { IsTrue (is_in_range line.now) }
         ensures state { OnOk result (self.new ≡ step self.old line.now) }

@@ -19,7 +19,7 @@ use std::alloc::{AllocError, Global};
 /// The terms on which tickets are issued at one moment: the reading and the lives in nanoseconds, the monitor's state and
 /// the entity's global id.
 #[derive(Clone, Copy, Debug)]
-pub struct Terms {
+pub(crate) struct Terms {
     pub reading: Reading,
     pub life: u64,
     pub auth_life: u64,
@@ -29,7 +29,7 @@ pub struct Terms {
 
 /// What stands while tickets are issued: how many were issued so far, what the entity holds, and the journal.
 #[derive(Debug, Drop)]
-pub struct UnderWay {
+pub(crate) struct UnderWay {
     pub issued: u64,
     pub wallet: Wallet,
     pub journal: Journal,
@@ -130,7 +130,7 @@ fn issue_asked(
 
 /// Issues a ticket for AUTH, and then for each asked service for which the entity has caps, in the order MDS, OSD, MGR.
 #[tactic(auto, unfolding(crate::specs::Plain::issuing_all))]
-pub fn issue_all(
+pub(crate) fn issue_all(
     alloc: Global,
     terms: &Terms,
     node: &Node,

@@ -1,16 +1,16 @@
 //! The tickets that an entity holds: at most one for each service.
 
-ghost use Rattle.std.specs.Prelude.{◌≡◌, IfOk};
+ghost use Rattle.std.specs.Prelude.{◌≡◌};
 ghost use Rattle.std.specs.Option.{option_copied};
 ghost use Rattle.cx_plain.specs.Nodes.{held_of, holding, empty_wallet};
 
 use cx_base::{Duplicate, EntityType};
-use cx_journal::Issued;
+use cx_journal::{Issued, copy_option};
 use std::alloc::{AllocError, Global};
 
 /// The tickets that an entity holds, each handed over in memory as the monitor issued it.
 #[derive(Debug, Drop)]
-pub struct Wallet {
+pub(crate) struct Wallet {
     pub auth: Option<Issued>,
     pub mds: Option<Issued>,
     pub osd: Option<Issued>,
@@ -19,7 +19,7 @@ pub struct Wallet {
 
 impl Wallet {
     /// No tickets.
-    pub fn empty() -> Wallet
+    pub(crate) fn empty() -> Wallet
         ensures { result ≡ empty_wallet }
     {
         Wallet {
@@ -31,7 +31,7 @@ impl Wallet {
     }
 
     /// The ticket of this service.
-    pub fn of(&self, service: EntityType) -> Option<&Issued>
+    pub(crate) fn of(&self, service: EntityType) -> Option<&Issued>
         ensures { option_copied result ≡ held_of self.now service }
     {
         match service {
@@ -45,7 +45,7 @@ impl Wallet {
     }
 
     /// Holds this ticket in place of the older one of its service.
-    pub fn hold(&mut self, ticket: Issued)
+    pub(crate) fn hold(&mut self, ticket: Issued)
         ensures { self.new ≡ holding self.old ticket }
     {
         match ticket.service {
@@ -59,24 +59,12 @@ impl Wallet {
     }
 }
 
-fn copy_ticket(alloc: Global, ticket: &Option<Issued>) -> Result<Option<Issued>, AllocError>
-    ensures { IfOk result (λ copied. copied ≡ ticket.now) }
-{
-    match ticket {
-        None => Ok(None),
-        Some(issued) => {
-            let copied = issued.copy(alloc)?;
-            Ok(Some(copied))
-        }
-    }
-}
-
 impl Duplicate for Wallet {
     fn copy(&self, alloc: Global) -> Result<Wallet, AllocError> {
-        let auth = copy_ticket(alloc, &self.auth)?;
-        let mds = copy_ticket(alloc, &self.mds)?;
-        let osd = copy_ticket(alloc, &self.osd)?;
-        let mgr = copy_ticket(alloc, &self.mgr)?;
+        let auth = copy_option(alloc, &self.auth)?;
+        let mds = copy_option(alloc, &self.mds)?;
+        let osd = copy_option(alloc, &self.osd)?;
+        let mgr = copy_option(alloc, &self.mgr)?;
         Ok(Wallet {
             auth,
             mds,

@@ -1,17 +1,10 @@
--- The first one of that name is changed, if there is one.
-use Rattle.std.proofs.Common.{◌≡◌, sym, ◌++◌, ◌∷◌, []}
-use Rattle.std.specs.Prelude.{Some, None, position}
+-- The first one of that name is changed.
+use Rattle.std.proofs.Common.{sym, ◌++◌, ◌∷◌, []}
 use Rattle.cx_plain.specs.Nodes.{is_named}
 use Rattle.cx_plain.specs.declared.nodes.Node.{Node}
-use Rattle.cx_plain.proofs.Changed.{changed_at, changed_none}
+use Rattle.cx_plain.proofs.Changed.{changed_at}
 use Rattle.cx_plain.proofs.nodes.add_session.Goals as goal
 
 pub returns-in_ok-push : goal.returns-in_ok-push
 returns-in_ok-push c =
-    let found : position (is_named c.args.name.now) c.args.nodes.now ≡ Some c.in-Some.place = cc in
-    rw c.in_ok-push.ensures (sym (changed_at (is_named c.args.name.now) (λ (n : Node). record n { sessions = n.sessions ++ c.args.session ∷ [] }) c.args.nodes.now c.in-Some.place c.index-nodes-place.result found))
-
-pub returns-in_default : goal.returns-in_default
-returns-in_default c =
-    let none : position (is_named c.args.name.now) c.args.nodes.now ≡ None = cc in
-    sym (changed_none (is_named c.args.name.now) (λ (n : Node). record n { sessions = n.sessions ++ c.args.session ∷ [] }) c.args.nodes.now none)
+    rw c.in_ok-push.ensures (sym (changed_at (is_named c.args.name.now) (λ (n : Node). record n { sessions = n.sessions ++ c.args.session ∷ [] }) c.args.nodes.now c.in-Some.place c.index-nodes-place.result cc))

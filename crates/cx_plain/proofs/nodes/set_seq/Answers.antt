@@ -1,17 +1,10 @@
--- The first one of that name is changed, if there is one.
-use Rattle.std.proofs.Common.{◌≡◌, sym}
-use Rattle.std.specs.Prelude.{Some, None, position}
+-- The first one of that name is changed.
+use Rattle.std.proofs.Common.{sym}
 use Rattle.cx_plain.specs.Nodes.{is_with}
 use Rattle.cx_plain.specs.declared.nodes.Session.{Session}
-use Rattle.cx_plain.proofs.Changed.{changed_at, changed_none}
+use Rattle.cx_plain.proofs.Changed.{changed_at}
 use Rattle.cx_plain.proofs.nodes.set_seq.Goals as goal
 
 pub returns-in-Some : goal.returns-in-Some
 returns-in-Some c =
-    let found : position (is_with c.args.daemon.now) c.args.sessions.now ≡ Some c.in-Some.place = cc in
-    sym (changed_at (is_with c.args.daemon.now) (λ (s : Session). record s { place = record s.place { seq = c.args.seq } }) c.args.sessions.now c.in-Some.place c.index-sessions-place.result found)
-
-pub returns-in_default : goal.returns-in_default
-returns-in_default c =
-    let none : position (is_with c.args.daemon.now) c.args.sessions.now ≡ None = cc in
-    sym (changed_none (is_with c.args.daemon.now) (λ (s : Session). record s { place = record s.place { seq = c.args.seq } }) c.args.sessions.now none)
+    sym (changed_at (is_with c.args.daemon.now) (λ (s : Session). record s { place = record s.place { seq = c.args.seq } }) c.args.sessions.now c.in-Some.place c.index-sessions-place.result cc)

@@ -1,20 +1,9 @@
--- Entries that come behind a journal, and lists that are changed or searched.
-use Rattle.std.proofs.Common.{◌≡◌, suc, List, [], ◌∷◌, ◌++◌, take, drop, Bool, true, false, Some, refl, ap, sym, ◌∙◌, append_assoc, drop-cons}
+-- Lists that grow, are changed or searched.
+use Rattle.std.proofs.Common.{◌≡◌, suc, List, [], ◌∷◌, ◌++◌, take, drop, Bool, true, false, Some, refl, ap, sym, ◌∙◌, drop-cons}
 use Rattle.std.specs.Prelude.{find}
 use Rattle.std.specs.List.{Contains, AllByRecursion}
-use Rattle.std.proofs.lemmas.List.{append-nil, take-append-drop}
-use Rattle.cx_journal.specs.Behind.{EachBehind}
-use Rattle.cx_journal.specs.declared.entries.Entry.{Entry}
+use Rattle.std.proofs.lemmas.List.{take-append-drop}
 use Rattle.cx_plain.specs.Changes.{changed}
-
-subst_nil : (P : List Entry → Entry → Type 0) (earlier : List Entry) (e : Entry) → P (earlier ++ []) e → P earlier e
-subst_nil P earlier e last = rw (append-nil earlier) at last
-
--- one entry more keeps what is said of each entry, where it is said of that one
-pub behind-push : (P : List Entry → Entry → Type 0) (earlier es : List Entry) (e : Entry) → EachBehind P earlier es → P (earlier ++ es) e → EachBehind P earlier (es ++ e ∷ [])
-behind-push P earlier [] e each last = (subst_nil P earlier e last, tt)
-behind-push P earlier (x ∷ es) e each last =
-    (each.0, behind-push P (earlier ++ x ∷ []) es e each.1 (rw (append_assoc earlier (x ∷ []) es) last))
 
 -- what is contained stands between two parts
 pub contains-split : {X : Type 0} (xs : List X) (x : X) → Contains xs x → (before : List X) × (after : List X) × (xs ≡ before ++ x ∷ after)
