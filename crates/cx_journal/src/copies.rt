@@ -1,9 +1,7 @@
-//! Copies of the entries, and of what may be missing.
-
-ghost use Rattle.std.specs.Prelude.{◌≡◌, IfOk};
+//! Copies of the entries.
 
 use crate::entries::{Admitted, Answered, Entry, Fetched, Handled, Issued, Looked, Refused, Sent};
-use cx_base::Duplicate;
+use cx_base::{Duplicate, copy_option};
 use std::alloc::{AllocError, Global};
 
 impl Duplicate for Issued {
@@ -119,19 +117,6 @@ impl Duplicate for Refused {
             reason: self.reason,
             ticket,
         })
-    }
-}
-
-/// Copies what may be missing.
-pub fn copy_option<T: Duplicate>(alloc: Global, held: &Option<T>) -> Result<Option<T>, AllocError>
-    ensures { IfOk result (λ copied. copied ≡ held.now) }
-{
-    match held {
-        None => Ok(None),
-        Some(item) => {
-            let copied = item.copy(alloc)?;
-            Ok(Some(copied))
-        }
     }
 }
 

@@ -14,7 +14,6 @@ mod tests;
 mod texts;
 mod words;
 
-pub use copies::copy_option;
 pub use entries::{Admitted, Answered, Entry, Fetched, Handled, Issued, Looked, Refused, Sent};
 pub use journals::Journal;
 pub use outcomes::{Outcome, Reason};

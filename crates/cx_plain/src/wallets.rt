@@ -4,8 +4,8 @@ ghost use Rattle.std.specs.Prelude.{◌≡◌};
 ghost use Rattle.std.specs.Option.{option_copied};
 ghost use Rattle.cx_plain.specs.Nodes.{held_of, holding, empty_wallet};
 
-use cx_base::{Duplicate, EntityType};
-use cx_journal::{Issued, copy_option};
+use cx_base::{Duplicate, EntityType, copy_option};
+use cx_journal::Issued;
 use std::alloc::{AllocError, Global};
 
 /// The tickets that an entity holds, each handed over in memory as the monitor issued it.
