@@ -323,9 +323,10 @@ static EACH_KIND: [Row; 10] = [
 
 #[test]
 fn each_kind_of_entry_has_its_line(rt: HostRuntime) {
-    let journal = journal_of(&rt, rt.alloc(), &EACH_KIND);
-    check_text(&rt, rt.alloc(), "", &journal, &EACH_KIND);
-    assert!(rt; copy(&rt, rt.alloc(), &journal) == journal);
+    let alloc = rt.alloc();
+    let journal = journal_of(&rt, alloc, &EACH_KIND);
+    check_text(&rt, alloc, "", &journal, &EACH_KIND);
+    assert!(rt; copy(&rt, alloc, &journal) == journal);
 }
 
 static REASONS: [Row; 10] = [
@@ -391,11 +392,12 @@ static GIVEN_UP: [Row; 1] = [(Told::Issued(TICKET_TWO), "")];
 
 #[test]
 fn each_reason_has_its_words_and_a_ticket_its_first_number(rt: HostRuntime) {
-    let mut journal = journal_of(&rt, rt.alloc(), &REASONS[..3]);
-    push_all(&rt, rt.alloc(), &mut journal, &GIVEN_UP);
+    let alloc = rt.alloc();
+    let mut journal = journal_of(&rt, alloc, &REASONS[..3]);
+    push_all(&rt, alloc, &mut journal, &GIVEN_UP);
     journal.truncate(3);
-    push_all(&rt, rt.alloc(), &mut journal, &REASONS[3..]);
-    check_text(&rt, rt.alloc(), "", &journal, &REASONS);
+    push_all(&rt, alloc, &mut journal, &REASONS[3..]);
+    check_text(&rt, alloc, "", &journal, &REASONS);
 }
 
 static TWO_COOKIES: [Row; 4] = [
@@ -419,6 +421,7 @@ static TWO_COOKIES: [Row; 4] = [
 
 #[test]
 fn a_cookie_keeps_the_rank_of_its_first_appearance(rt: HostRuntime) {
-    let journal = journal_of(&rt, rt.alloc(), &TWO_COOKIES);
-    check_text(&rt, rt.alloc(), "behind:\n", &journal, &TWO_COOKIES);
+    let alloc = rt.alloc();
+    let journal = journal_of(&rt, alloc, &TWO_COOKIES);
+    check_text(&rt, alloc, "behind:\n", &journal, &TWO_COOKIES);
 }
