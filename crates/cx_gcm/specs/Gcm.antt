@@ -29,7 +29,7 @@ gctr k first text =
 unfoldable pub nonce_block : List ℕ → List ℕ
 nonce_block nonce = nonce ++ 0 ∷ 0 ∷ 0 ∷ 1 ∷ []
 
--- the counter block of a nonce and a count
+-- the counter block of a nonce and a count, as the code makes it; no public clause speaks of it
 unfoldable pub counted : List ℕ → ℕ → List ℕ
 counted nonce n = nonce ++ to_be_bytes w32 n
 

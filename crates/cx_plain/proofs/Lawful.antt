@@ -26,7 +26,7 @@ use Rattle.cx_plain.specs.Monitors.{has_generation, list_of}
 use Rattle.cx_plain.specs.Nodes.{held_of, is_named, is_with, new_node}
 use Rattle.cx_plain.specs.Plain.{rotating, login, arriving, viewing, renewing, fetch, looking, refusing, denying, opened, admission_at, admitting, judging, presenting, meeting, showing, calling, connect, with_seq, delivering, sending, send, sent_at, handled_at, answered_at, node_of, declared, step, opening, run_of}
 use Rattle.cx_plain.proofs.Lists.{all-push, all-changed, all-find}
-use Rattle.cx_plain.proofs.Names.{same_name_is, same_name_self}
+use Rattle.cx_base.proofs.Names.{same_name_is, same_name_self}
 use Rattle.cx_plain.proofs.Laws.{IsGenuine, HoldsGenuine, WasAdmitted, IsSound, holds-push, holds-nodes, contains-last, empty-genuine, held-genuine, handled-in_session}
 use Rattle.cx_plain.proofs.Steps.{HoldsRun, IsFound, found, entered-keeps, saved-holds}
 

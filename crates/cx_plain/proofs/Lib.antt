@@ -3,7 +3,6 @@ pub mod Delivers
 pub mod Lawful
 pub mod Laws
 pub mod Lists
-pub mod Names
 pub mod Presents
 pub mod Steps
 pub mod Timely

@@ -18,7 +18,7 @@ use Rattle.cx_plain.specs.Monitors.{same_kept}
 use Rattle.cx_plain.specs.Nodes.{empty_wallet, is_named}
 use Rattle.cx_plain.specs.Plain.{rotating, saved_entries, kept_gid, caps_of, terms_of, ticket_of, issuing, issuing_with, issuing_asked, issuing_all, granting, with_gid, welcoming, entered, node_of}
 use Rattle.cx_plain.proofs.Lists.{all-changed, all-find}
-use Rattle.cx_plain.proofs.Names.{same_name_is}
+use Rattle.cx_base.proofs.Names.{same_name_is}
 use Rattle.cx_plain.proofs.Laws.{HoldsGenuine, IsSound, Holds, wallet-more, holds-push, holds-nodes, contains-last, empty-genuine, holding-genuine}
 
 -- ---- issuing tickets

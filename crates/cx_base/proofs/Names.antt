@@ -1,4 +1,4 @@
--- Names that are found to be one are equal.
+-- What the tests of types and names say.
 use Rattle.std.proofs.Common.{◌≡◌, Bool, true, false, List, ℕ, refl, ap, ◌∙◌, rules}
 use Rattle.std.specs.Prelude.{◌&&◌}
 use Rattle.std.specs.Str.{bytes_eq}
@@ -7,6 +7,7 @@ use Rattle.cx_base.specs.Names.{Name, same_kind, same_name}
 use Rattle.cx_base.specs.declared.kinds.EntityType.{EntityType}
 use Rattle.cx_base.specs.declared.kinds.EntityType.TheVariants.{Mon, Mds, Osd, Client, Mgr, Auth}
 
+-- types that are found to be one are equal
 pub same_kind_is : (a b : EntityType) → same_kind a b ≡ true → a ≡ b
 same_kind_is Mon Mon e = refl
 same_kind_is Mds Mds e = refl
@@ -30,6 +31,7 @@ both true true e = (refl, refl)
 both true false e = cc
 both false b e = cc
 
+-- names that are found to be one are equal
 pub same_name_is : (a b : Name) → same_name a b ≡ true → a ≡ b
 same_name_is a b e =
     let parts = both (same_kind a.kind b.kind) (bytes_eq a.id b.id) e in
@@ -37,7 +39,8 @@ same_name_is a b e =
     let ids = same_bytes_are a.id b.id parts.1 in
     named a b kinds ids
 
-same_kind_self : (kind : EntityType) → same_kind kind kind ≡ true
+-- a type is found to be itself
+pub same_kind_self : (kind : EntityType) → same_kind kind kind ≡ true
 same_kind_self Mon = refl
 same_kind_self Mds = refl
 same_kind_self Osd = refl
