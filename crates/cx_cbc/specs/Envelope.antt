@@ -1,5 +1,5 @@
--- The sealed envelope of a content, as Ceph's documents have it ("detailed cephx protocol": what is encrypted begins with
--- a version and a magic number), in AES-128-CBC with PKCS#7 padding (RFC 5652, 6.3). Only sealing is defined.
+-- The sealed envelope of a content. The layout is this project's own profile (docs/formats.md), with the magic number and the
+-- initial vector of Ceph; the mode is SP 800-38A's and the padding PKCS#7. Only sealing is defined.
 use Rattle.std.specs.Prelude.{◌≡◌, ℕ, ◌-◌, ◌%◌, ◌<◌, ◌≤◌, List, ◌∷◌, ◌++◌, All, length, replicate, codes}
 use Rattle.std.specs.Int.{w64, to_le_bytes}
 use Rattle.std.specs.List.{concat}
