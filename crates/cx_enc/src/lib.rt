@@ -9,7 +9,7 @@ mod faults;
 mod fields;
 mod keys;
 mod laws;
-mod many;
+mod lists;
 mod names;
 mod owning;
 mod puts;
@@ -25,7 +25,7 @@ pub use encoded::{Encoded, read_whole, write_whole};
 pub use faults::{ReadFault, ReadRefusal};
 pub use keys::Key;
 pub use laws::{encoding_laws, fault_laws};
-pub use many::{put_many, take_many};
+pub use lists::{put_items, put_many, take_items, take_many};
 pub use names::NameRef;
 pub use puts::{
     number_of, put_addr, put_blob, put_flag, put_key, put_kind, put_name, put_time, put_u8,

@@ -106,7 +106,7 @@ pub fn put_addr(alloc: Global, into: &mut Blob, addr: &Addr) -> Result<(), Alloc
 }
 
 /// Writes the number of an entity type.
-#[tactic(auto, using(crate::specs::Primitives::kind_fits))]
+#[tactic(auto, using(crate::specs::FieldLaws::kind_fits))]
 pub fn put_kind(alloc: Global, into: &mut Blob, kind: EntityType) -> Result<(), AllocError>
     ensures ok { OnOk result (into.new ≡ into.old ++ kind_form.text kind) }
     ensures fits { OnOk result (kind_form.Fits kind) }

@@ -31,8 +31,8 @@ impl Encoded for Notice {
     ghost use Rattle.cx_enc.specs.Forms.{u8_form, u64_form, blob_form, pair, seen};
     ghost use Rattle.cx_enc.specs.Values.{fixed, kind_form, time_form, key_form, name_form, flag_form};
     ghost use Rattle.cx_enc.specs.declared.samples.Notice.{Notice};
-    ghost use Rattle.cx_enc.specs.Lawful.{u8-lawful, u64-lawful, blob-lawful, pair-lawful, seen-lawful};
-    ghost use Rattle.cx_enc.specs.Primitives.{fixed-lawful, kind-lawful, time-lawful, key-lawful, name-lawful, flag-lawful};
+    ghost use Rattle.cx_enc.specs.FormLaws.{u8-lawful, u64-lawful, blob-lawful, pair-lawful, seen-lawful};
+    ghost use Rattle.cx_enc.specs.FieldLaws.{fixed-lawful, kind-lawful, time-lawful, key-lawful, name-lawful, flag-lawful};
 
     // a byte 9, the service, the global id, the time of making, the session key, the owner, the flag and the text
     ghost form = { seen
@@ -111,8 +111,8 @@ impl Encoded for Seat {
     ghost use Rattle.cx_enc.specs.Forms.{u64_form, pair, seen};
     ghost use Rattle.cx_enc.specs.Values.{time_form, key_form};
     ghost use Rattle.cx_enc.specs.declared.samples.Seat.{Seat};
-    ghost use Rattle.cx_enc.specs.Lawful.{u64-lawful, pair-lawful, seen-lawful};
-    ghost use Rattle.cx_enc.specs.Primitives.{time-lawful, key-lawful};
+    ghost use Rattle.cx_enc.specs.FormLaws.{u64-lawful, pair-lawful, seen-lawful};
+    ghost use Rattle.cx_enc.specs.FieldLaws.{time-lawful, key-lawful};
 
     ghost form = { seen
         (λ (a : ℕ × (Key × Moment)). record { id = a.0; key = a.1.0; expires = a.1.1 })
@@ -162,8 +162,8 @@ impl Encoded for Roster {
     ghost use Rattle.cx_enc.specs.Forms.{pair, seen, many};
     ghost use Rattle.cx_enc.specs.Values.{kind_form};
     ghost use Rattle.cx_enc.specs.declared.samples.Roster.{Roster};
-    ghost use Rattle.cx_enc.specs.Lawful.{u64-lawful, pair-lawful, seen-lawful, many-lawful};
-    ghost use Rattle.cx_enc.specs.Primitives.{kind-lawful, time-lawful, key-lawful};
+    ghost use Rattle.cx_enc.specs.FormLaws.{u64-lawful, pair-lawful, seen-lawful, many-lawful};
+    ghost use Rattle.cx_enc.specs.FieldLaws.{kind-lawful, time-lawful, key-lawful};
 
     ghost form = { seen
         (λ (a : EntityType × List Seat). record { service = a.0; seats = a.1 })

@@ -10,7 +10,7 @@ use Rattle.cx_enc.specs.Moments.{Moment}
 use Rattle.cx_enc.specs.declared.keys.Key.{Key}
 use Rattle.cx_enc.specs.Forms.{Form, IsLawful, u8_form, u16_form, u32_form, bytes_form, blob_form, pair, field}
 use Rattle.cx_enc.specs.Values.{moment_of, moment_parts, time_form, key_of, key_parts, key_form, addr_of, addr_parts, addr_form, number_of, kind_of, kind_form, name_of, name_parts, name_form, fixed_of, fixed, flag_of, flag_number, flag_form}
-use Rattle.cx_enc.specs.Lawful.{u8-lawful, u16-lawful, u32-lawful, bytes-lawful, blob-lawful, pair-lawful, field-lawful, checked-lawful}
+use Rattle.cx_enc.specs.FormLaws.{u8-lawful, u16-lawful, u32-lawful, bytes-lawful, blob-lawful, pair-lawful, field-lawful, checked-lawful}
 
 -- a test that makes a value
 some_if : {X : Type 0} (b : Bool) (v x : X) → cond b (Some v) None ≡ Some x → (b ≡ true) × (v ≡ x)
@@ -25,7 +25,7 @@ moment_back : (a : ℕ × ℕ) (x : Moment) → moment_of a ≡ Some x → momen
 moment_back a x e = let made = some_if (nat_lt a.1 1000000000) (record { secs = a.0; nanos = a.1 }) x e in ap moment_parts (sym made.1)
 
 pub time-lawful : IsLawful time_form
-time-lawful = checked-lawful moment_of moment_parts (field (pair u32_form u32_form)) (field-lawful (pair u32_form u32_form) (pair-lawful u32_form u32_form u32-lawful u32-lawful)) moment_back
+time-lawful = checked-lawful moment_of moment_parts (field (pair u32_form u32_form)) (field-lawful (pair u32_form u32_form) (pair-lawful u32_form u32_form u32-lawful u32-lawful)) (λ a x fits. moment_back a x)
 
 key_back : (a : ℕ × (ℕ × (ℕ × (ℕ × List ℕ)))) (x : Key) → key_of a ≡ Some x → key_parts x ≡ a
 key_back a x e =
@@ -46,7 +46,7 @@ key-lawful =
     (pair-lawful u32_form (pair u32_form (pair u16_form (bytes_form 16))) u32-lawful
     (pair-lawful u32_form (pair u16_form (bytes_form 16)) u32-lawful
     (pair-lawful u16_form (bytes_form 16) u16-lawful (bytes-lawful 16))))))
-    key_back
+    (λ a x fits. key_back a x)
 
 addr_back : (a : ℕ × (ℕ × (ℕ × (List ℕ × ℕ)))) (x : Addr) → addr_of a ≡ Some x → addr_parts x ≡ a
 addr_back a x e =
@@ -67,7 +67,7 @@ addr-lawful =
     (pair-lawful u32_form (pair u32_form (pair (bytes_form 4) u16_form)) u32-lawful
     (pair-lawful u32_form (pair (bytes_form 4) u16_form) u32-lawful
     (pair-lawful (bytes_form 4) u16_form (bytes-lawful 4) u16-lawful)))))
-    addr_back
+    (λ a x fits. addr_back a x)
 
 -- one link of the chain of numbers: this one, or the rest
 link : (b : Bool) (n k : ℕ) (v : EntityType) (rest : Option EntityType) (x : EntityType) → (b ≡ true → n ≡ k) → number_of v ≡ k → (rest ≡ Some x → number_of x ≡ n) → cond b (Some v) rest ≡ Some x → number_of x ≡ n
@@ -107,7 +107,7 @@ pub kind_fits : (x : EntityType) → kind_form.Fits x
 kind_fits x = (number_fits x, kind_again x)
 
 pub kind-lawful : IsLawful kind_form
-kind-lawful = checked-lawful kind_of number_of u32_form u32-lawful kind_back
+kind-lawful = checked-lawful kind_of number_of u32_form u32-lawful (λ a x fits. kind_back a x)
 
 with_id_back : (id : List ℕ) (o : Option EntityType) (x : Name) → with_id id o ≡ Some x → (o ≡ Some x.kind) × (id ≡ x.id)
 with_id_back id None x e = absurd cc
@@ -124,13 +124,13 @@ name_back a x e =
     ap by_number number ∙ ap by_id (sym parts.1)
 
 pub name-lawful : IsLawful name_form
-name-lawful = checked-lawful name_of name_parts (field (pair u32_form blob_form)) (field-lawful (pair u32_form blob_form) (pair-lawful u32_form blob_form u32-lawful blob-lawful)) name_back
+name-lawful = checked-lawful name_of name_parts (field (pair u32_form blob_form)) (field-lawful (pair u32_form blob_form) (pair-lawful u32_form blob_form u32-lawful blob-lawful)) (λ a x fits. name_back a x)
 
 fixed_back : (n a : ℕ) (x : Unit {0}) → fixed_of n a ≡ Some x → n ≡ a
 fixed_back n a x e = sym (eqb-true a n (some_if (a == n) tt x e).0)
 
 pub fixed-lawful : (n : ℕ) (f : Form ℕ) → IsLawful f → IsLawful (fixed n f)
-fixed-lawful n f h = checked-lawful (fixed_of n) (λ _. n) f h (fixed_back n)
+fixed-lawful n f h = checked-lawful (fixed_of n) (λ _. n) f h (λ a x fits. fixed_back n a x)
 
 flag_by : (zero one : Bool) (a : ℕ) (x : Bool) → (zero ≡ true → a ≡ 0) → (one ≡ true → a ≡ 1) → cond zero (Some false) (cond one (Some true) None) ≡ Some x → flag_number x ≡ a
 flag_by true one a x is_zero is_one e = let same : false ≡ x = cc in ap flag_number (sym same) ∙ sym (is_zero refl)
@@ -141,4 +141,4 @@ flag_back : (a : ℕ) (x : Bool) → flag_of a ≡ Some x → flag_number x ≡ 
 flag_back a x e = flag_by (a == 0) (a == 1) a x (eqb-true a 0) (eqb-true a 1) e
 
 pub flag-lawful : IsLawful flag_form
-flag-lawful = checked-lawful flag_of flag_number u8_form u8-lawful flag_back
+flag-lawful = checked-lawful flag_of flag_number u8_form u8-lawful (λ a x fits. flag_back a x)
