@@ -5,10 +5,11 @@ use Rattle.cx_base.specs.declared.addresses.Addr.{Addr}
 use Rattle.cx_base.specs.Names.{Name}
 use Rattle.cx_enc.specs.Moments.{Moment}
 use Rattle.cx_enc.specs.declared.keys.Key.{Key}
+use Rattle.cx_enc.specs.declared.tickets.TicketBlob.{TicketBlob}
 use Rattle.cx_enc.specs.Forms.{Form, IsLawful, u8_form, u16_form, u32_form, u64_form, bytes_form, blob_form, pair, after, seen, checked, judged, field, times, with_count, many, counted, chain}
-use Rattle.cx_enc.specs.Values.{time_form, key_form, addr_form, kind_form, name_form, flag_form, fixed}
+use Rattle.cx_enc.specs.Values.{time_form, reading_form, key_form, secret_form, sized_form, ticket_form, count_form, addr_form, kind_form, name_form, flag_form, fixed}
 use Rattle.cx_enc.specs.FormLaws.{u8-lawful, u16-lawful, u32-lawful, u64-lawful, bytes-lawful, blob-lawful, pair-lawful, after-lawful, seen-lawful, checked-lawful, judged-lawful, field-lawful, times-lawful, with_count-lawful, many-lawful, counted-lawful, chain-lawful}
-use Rattle.cx_enc.specs.FieldLaws.{time-lawful, key-lawful, addr-lawful, kind-lawful, name-lawful, flag-lawful, fixed-lawful}
+use Rattle.cx_enc.specs.FieldLaws.{time-lawful, reading-lawful, key-lawful, secret-lawful, sized-lawful, ticket-lawful, count-lawful, addr-lawful, kind-lawful, name-lawful, flag-lawful, fixed-lawful}
 
 -- a form, and that it is lawful
 pub record Layout (X : Type 0) : Type 1 where
@@ -43,6 +44,21 @@ time_field = record { form = time_form; lawful = time-lawful }
 
 abbrev pub key_field : Layout Key
 key_field = record { form = key_form; lawful = key-lawful }
+
+abbrev pub reading_field : Layout ℕ
+reading_field = record { form = reading_form; lawful = reading-lawful }
+
+abbrev pub secret_field : Layout (List ℕ)
+secret_field = record { form = secret_form; lawful = secret-lawful }
+
+abbrev pub sized_field : ℕ → Layout (List ℕ)
+sized_field n = record { form = sized_form n; lawful = sized-lawful n }
+
+abbrev pub ticket_field : Layout TicketBlob
+ticket_field = record { form = ticket_form; lawful = ticket-lawful }
+
+abbrev pub count_field : ℕ → ℕ → Layout ℕ
+count_field least most = record { form = count_form least most; lawful = count-lawful least most }
 
 abbrev pub addr_field : Layout Addr
 addr_field = record { form = addr_form; lawful = addr-lawful }

@@ -17,6 +17,7 @@ mod puts;
 mod samples;
 #[cfg(test)]
 mod tests;
+mod tickets;
 mod times;
 
 pub use composed::kind_of;
@@ -28,7 +29,8 @@ pub use laws::{encoding_laws, fault_laws};
 pub use lists::{put_items, put_many, take_items, take_many};
 pub use names::NameRef;
 pub use puts::{
-    number_of, put_addr, put_blob, put_flag, put_key, put_kind, put_name, put_time, put_u8,
-    put_u16, put_u32, put_u64,
+    number_of, put_addr, put_blob, put_flag, put_key, put_kind, put_name, put_reading, put_secret,
+    put_sized, put_ticket, put_time, put_u8, put_u16, put_u32, put_u64,
 };
+pub use tickets::{TicketBlob, TicketRef};
 pub use times::Time;
