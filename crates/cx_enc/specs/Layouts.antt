@@ -80,18 +80,18 @@ f ⊗ g = record { form = pair f.form g.form; lawful = pair-lawful f.form g.form
 abbrev pub constant : ℕ → Layout ℕ → Layout (Unit {0})
 constant n f = record { form = fixed n f.form; lawful = fixed-lawful n f.form f.lawful }
 
--- the same bytes for another type, with the maps both ways
-abbrev pub seen_as : {A X : Type 0} (made : A → X) (parts : X → A) (f : Layout A) → ((a : A) → f.form.Fits a → parts (made a) ≡ a) → ((x : X) → f.form.Fits (parts x) → made (parts x) ≡ x) → Layout X
-seen_as made parts f back again = record { form = seen made parts f.form; lawful = seen-lawful made parts f.form f.lawful back again }
+-- the same bytes for another type: the maps both ways, and that each undoes the other
+abbrev pub seen_as : {A X : Type 0} (f : Layout A) (made : A → X) (parts : X → A) → ((a : A) → f.form.Fits a → parts (made a) ≡ a) → ((x : X) → f.form.Fits (parts x) → made (parts x) ≡ x) → Layout X
+seen_as f made parts back again = record { form = seen made parts f.form; lawful = seen-lawful made parts f.form f.lawful back again }
 
--- constants of a record, which none of its fields holds
+-- a constant in front, which no field of the record holds
 infixr 6 ◌⊳◌
 abbrev pub ◌⊳◌ : {A : Type 0} → Layout (Unit {0}) → Layout A → Layout A
-f ⊳ g = seen_as (λ a. a.1) (λ x. (tt, x)) (f ⊗ g) (λ _ _. refl) (λ _ _. refl)
+f ⊳ g = seen_as (f ⊗ g) (λ a. a.1) (λ x. (tt, x)) (λ _ _. refl) (λ _ _. refl)
 
 -- a field that is judged once all of it is there: its parts may make no value
-abbrev pub checked_as : {A X : Type 0} (made : A → Option X) (parts : X → A) (f : Layout A) → ((a : A) (x : X) → f.form.Fits a → made a ≡ Some x → parts x ≡ a) → Layout X
-checked_as made parts f back = record { form = checked made parts f.form; lawful = checked-lawful made parts f.form f.lawful back }
+abbrev pub checked_as : {A X : Type 0} (f : Layout A) (made : A → Option X) (parts : X → A) → ((a : A) (x : X) → f.form.Fits a → made a ≡ Some x → parts x ≡ a) → Layout X
+checked_as f made parts back = record { form = checked made parts f.form; lawful = checked-lawful made parts f.form f.lawful back }
 
 -- a field of which only some values are good
 abbrev pub only_if : {A : Type 0} → (A → Bool) → Layout A → Layout A
