@@ -4,7 +4,7 @@
 use crate::{
     Chained, Cut, Encoded, EncodedInPlace, Key, ReadFault, ReadRefusal, ReadsPart, TicketBlob,
     pass_items, put_addr, put_blob, put_flag, put_key, put_kind, put_many, put_name, put_reading,
-    put_secret, put_sized, put_ticket, put_u8, put_u16, put_u32, put_u64, take_items, take_many,
+    put_secret, put_sized, put_ticket, put_u8, put_u32, put_u64, take_items, take_many,
 };
 use cx_base::{Addr, Blob, EntityName, EntityType, Items, Reading};
 use std::alloc::{AllocError, Global};
@@ -227,7 +227,7 @@ impl EncodedInPlace for Tally {
     }
 }
 
-/// A notice: behind a byte 9 twelve fields.
+/// A notice: behind a byte 9 ten fields.
 #[derive(Debug, PartialEq, Eq, Drop)]
 pub struct Notice {
     pub service: EntityType,
@@ -239,22 +239,20 @@ pub struct Notice {
     pub ticket: TicketBlob,
     pub proof: [u8; 64],
     pub addr: Addr,
-    pub port: u16,
-    pub flags: u32,
     pub text: Blob,
 }
 
 impl Encoded for Notice {
     ghost use Rattle.std.specs.Prelude.{length, ◌<◌, ◌^◌, refl};
     ghost use Rattle.cx_enc.specs.Moments.{IsReading};
-    ghost use Rattle.cx_enc.specs.Layouts.{◌⊗◌, ◌⊳◌, seen_as, constant, u8_field, u16_field, u32_field, u64_field, kind_field, reading_field, secret_field, name_field, flag_field, ticket_field, sized_field, addr_field, blob_field};
+    ghost use Rattle.cx_enc.specs.Layouts.{◌⊗◌, ◌⊳◌, seen_as, constant, u8_field, u64_field, kind_field, reading_field, secret_field, name_field, flag_field, ticket_field, sized_field, addr_field, blob_field};
 
-    ghost layout = { seen_as (constant 9 u8_field ⊳ kind_field ⊗ u64_field ⊗ reading_field ⊗ secret_field ⊗ name_field ⊗ flag_field ⊗ ticket_field ⊗ sized_field 64 ⊗ addr_field ⊗ u16_field ⊗ u32_field ⊗ blob_field)
-        (λ (service, (gid, (created, (session, (owner, (urgent, (ticket, (proof, (addr, (port, (flags, text))))))))))). record {
+    ghost layout = { seen_as (constant 9 u8_field ⊳ kind_field ⊗ u64_field ⊗ reading_field ⊗ secret_field ⊗ name_field ⊗ flag_field ⊗ ticket_field ⊗ sized_field 64 ⊗ addr_field ⊗ blob_field)
+        (λ (service, (gid, (created, (session, (owner, (urgent, (ticket, (proof, (addr, text))))))))). record {
           service = service; gid = gid; created = created; session = session; owner = owner; urgent = urgent;
-          ticket = ticket; proof = proof; addr = addr; port = port; flags = flags; text = text;
+          ticket = ticket; proof = proof; addr = addr; text = text;
         })
-        (λ n. (n.service, (n.gid, (n.created, (n.session, (n.owner, (n.urgent, (n.ticket, (n.proof, (n.addr, (n.port, (n.flags, n.text))))))))))))
+        (λ n. (n.service, (n.gid, (n.created, (n.session, (n.owner, (n.urgent, (n.ticket, (n.proof, (n.addr, n.text))))))))))
         (λ _ _. refl)
         (λ _ _. refl) };
 
@@ -272,8 +270,6 @@ impl Encoded for Notice {
             ticket: cut.take_ticket()?.own(alloc)?,
             proof: cut.take_sized()?,
             addr: cut.take_addr()?,
-            port: cut.take_u16()?,
-            flags: cut.take_u32()?,
             text: Blob::of(alloc, cut.take_blob()?)?,
         })
     }
@@ -289,8 +285,6 @@ impl Encoded for Notice {
         put_ticket(alloc, into, &self.ticket)?;
         put_sized(alloc, into, &self.proof)?;
         put_addr(alloc, into, &self.addr)?;
-        put_u16(alloc, into, self.port)?;
-        put_u32(alloc, into, self.flags)?;
         put_blob(alloc, into, self.text.bytes())
     }
 }
