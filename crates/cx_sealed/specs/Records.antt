@@ -1,9 +1,12 @@
 -- The contents of the records that cephx seals, each behind a kind byte of this project's own (docs/formats.md, after "The
 -- Ceph authentication protocol" and "Cephx"). Times are readings; session keys and generations' keys are keys of the time 0.
-use Rattle.std.specs.Prelude.{ℕ, ◌≡◌, ◌+◌, ◌==◌, ◌&&◌, ◌||◌, Bool, true, false, List, [], ◌∷◌, refl}
+use Rattle.std.specs.Prelude.{ℕ, ◌≡◌, ◌+◌, ◌==◌, ◌&&◌, ◌||◌, Bool, true, false, List, [], ◌∷◌, Option, Some, None, Result, Ok, Err, refl}
 use Rattle.cx_base.specs.Texts.{is_caps}
 use Rattle.cx_rotate.specs.declared.generations.Generation.{Generation}
 use Rattle.cx_enc.specs.Moments.{IsReading}
+use Rattle.cx_enc.specs.Forms.{passed}
+use Rattle.cx_enc.specs.declared.faults.ReadFault.{ReadFault}
+use Rattle.cx_enc.specs.declared.faults.ReadFault.TheVariants.{BadField}
 use Rattle.cx_enc.specs.Layouts.{Layout, ◌⊗◌, ◌⊳◌, constant, only_if, list_by, seen_as, u8_field, u32_field, u64_field, flag_field, sized_field, blob_field, reading_field, secret_field, kind_field, name_field}
 use Rattle.cx_sealed.specs.declared.service_ticket.ServiceTicket.{ServiceTicket}
 use Rattle.cx_sealed.specs.declared.ticket_info.TicketInfo.{TicketInfo}
@@ -72,6 +75,15 @@ is_rising [] = true
 is_rising (a ∷ []) = true
 is_rising (a ∷ b ∷ gs) = (b.id == a.id + 1) && is_rising (b ∷ gs)
 
+-- none or three generations whose ids rise by one
+abbrev pub generations_layout : Layout (List Generation)
+generations_layout = only_if is_rising (list_by (only_if is_none_or_three u32_field) generation_layout)
+
+-- these generations stand, or the field that begins at this place is a bad one
+abbrev pub IsJudged : ℕ → List Generation → Result (List Generation) ReadFault → Type 0
+IsJudged place three (Ok generations) = (passed is_rising three ≡ Some three) × (generations ≡ three)
+IsJudged place three (Err e) = (passed is_rising three ≡ None) × (e ≡ BadField place)
+
 -- each expiry is one that a time can spell
 abbrev pub AreReadings : List Generation → Type 0
 AreReadings [] = Unit {0}
@@ -80,7 +92,7 @@ AreReadings (g ∷ gs) = IsReading g.expires × AreReadings gs
 -- 6: the service, and none or three generations whose ids rise by one
 abbrev pub rotating_reply_layout : Layout RotatingReply
 rotating_reply_layout =
-    seen_as (kind_byte 6 ⊳ kind_field ⊗ only_if is_rising (list_by (only_if is_none_or_three u32_field) generation_layout))
+    seen_as (kind_byte 6 ⊳ kind_field ⊗ generations_layout)
     (λ (service, generations). record { service = service; generations = generations })
     (λ r. (r.service, r.generations))
     (λ _ _. refl) (λ _ _. refl)

@@ -24,7 +24,7 @@ IsRefusal (Err e) why = (e ≡ why) ⊎ (e ≡ OutOfMemory)
 pub record IsReadFrom {X : Type 0} (form : Form X) (content : List ℕ) (result : Result X SealedRefusal) : Type 0 where
   pub found : IfOk result (Spells form content)
   pub only : (x : X) → Spells form content x → Yields result x
-  pub misread : result ≢ Err Unopened
+  pub unopened : result ≢ Err Unopened
 
 -- an opened record is what the sealed bytes open to, exactly; they are refused as unopened exactly where they open to no
 -- content, and as misread exactly where they open to a content that is no spelling of the record; each of these yields to want

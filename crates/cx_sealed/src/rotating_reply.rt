@@ -1,11 +1,12 @@
 //! The generations of a service, as a daemon is told them.
 
 ghost use Rattle.std.specs.Prelude.{◌≡◌, ◌++◌, OnOk};
-ghost use Rattle.cx_enc.specs.Layouts.{Layout, only_if, list_by, u32_field};
+ghost use Rattle.cx_enc.specs.Forms.{times};
+ghost use Rattle.cx_enc.specs.Layouts.{only_if, list_by, u32_field};
 ghost use Rattle.cx_enc.specs.Moments.{IsReading};
-ghost use Rattle.cx_enc.specs.Reading.{spot, Reads};
+ghost use Rattle.cx_enc.specs.Reading.{spot};
 ghost use Rattle.cx_enc.specs.Whole.{GivesInPlace};
-ghost use Rattle.cx_sealed.specs.Records.{generation_layout, is_none_or_three, is_rising, AreReadings};
+ghost use Rattle.cx_sealed.specs.Records.{generation_layout, generations_layout, is_none_or_three, AreReadings, IsJudged};
 
 use crate::records::Record;
 use cx_base::{Blob, EntityType};
@@ -53,26 +54,38 @@ impl Record for RotatingReply {
     ghost short = { rotating_reply_short };
 }
 
-// Takes none or three generations.
+// Takes none or three generations, whose ids rise by one.
+#[tactic(auto, unfolding(cx_enc::specs::Forms::times_at))]
 fn take_generations(cut: &mut Cut<'_>) -> Result<Generations, ReadFault>
-    ensures { GivesInPlace (spot cut.new) result ((only_if is_rising (list_by (only_if is_none_or_three u32_field) generation_layout)).form.at (spot cut.old)) }
+    ensures { GivesInPlace (spot cut.new) result (generations_layout.form.at (spot cut.old)) }
 {
     let place = cut.place();
     match cut.take_u32()? {
         0 => Ok(Generations::empty()),
-        3 => {
-            let three = [
-                take_generation(cut)?,
-                take_generation(cut)?,
-                take_generation(cut)?,
-            ];
-            let Some(generations) = Generations::of(&three) else {
-                return Err(ReadFault::BadField(place));
-            };
-            Ok(generations)
-        }
+        3 => rising(place, &take_three(cut)?),
         _ => Err(ReadFault::BadField(place)),
     }
+}
+
+// These three as generations that stand, or the fault of the field that they were read from.
+fn rising(place: usize, three: &[Generation; 3]) -> Result<Generations, ReadFault>
+    ensures { IsJudged place three.now result }
+{
+    let Some(generations) = Generations::of(three) else {
+        return Err(ReadFault::BadField(place));
+    };
+    Ok(generations)
+}
+
+// Takes three generations.
+#[tactic(auto, unfolding(cx_enc::specs::Forms::times_at))]
+fn take_three(cut: &mut Cut<'_>) -> Result<[Generation; 3], ReadFault>
+    ensures { GivesInPlace (spot cut.new) result ((times 3 generation_layout.form).at (spot cut.old)) }
+{
+    let previous = take_generation(cut)?;
+    let current = take_generation(cut)?;
+    let next = take_generation(cut)?;
+    Ok([previous, current, next])
 }
 
 fn take_generation(cut: &mut Cut<'_>) -> Result<Generation, ReadFault>
@@ -86,22 +99,33 @@ fn take_generation(cut: &mut Cut<'_>) -> Result<Generation, ReadFault>
 }
 
 // Writes how many generations there are, and these.
+#[tactic(auto, using(crate::proofs::Rising::passes))]
 fn put_generations(
     alloc: Global,
     into: &mut Blob,
     generations: &Generations,
 ) -> Result<(), AllocError>
     requires { AreReadings generations.now }
-    ensures ok { OnOk result (into.new ≡ into.old ++ (only_if is_rising (list_by (only_if is_none_or_three u32_field) generation_layout)).form.text generations.now) }
-    ensures fits { OnOk result ((only_if is_rising (list_by (only_if is_none_or_three u32_field) generation_layout)).form.Fits generations.now) }
+    ensures ok { OnOk result (into.new ≡ into.old ++ generations_layout.form.text generations.now) }
+    ensures fits { OnOk result (generations_layout.form.Fits generations.now) }
 {
-    let Some([previous, current, next]) = generations.all() else {
-        return put_u32(alloc, into, 0);
-    };
+    match generations.all() {
+        None => put_u32(alloc, into, 0),
+        Some(three) => put_three(alloc, into, &three),
+    }
+}
+
+// Writes that there are three generations, and these.
+fn put_three(alloc: Global, into: &mut Blob, three: &[Generation; 3]) -> Result<(), AllocError>
+    requires { AreReadings three.now }
+    ensures ok { OnOk result (into.new ≡ into.old ++ generations_layout.form.text three.now) }
+    ensures fits { OnOk result ((list_by (only_if is_none_or_three u32_field) generation_layout).form.Fits three.now) }
+{
+    let [previous, current, next] = three;
     put_u32(alloc, into, 3)?;
-    put_generation(alloc, into, &previous)?;
-    put_generation(alloc, into, &current)?;
-    put_generation(alloc, into, &next)
+    put_generation(alloc, into, previous)?;
+    put_generation(alloc, into, current)?;
+    put_generation(alloc, into, next)
 }
 
 fn put_generation(
