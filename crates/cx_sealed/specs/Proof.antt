@@ -8,7 +8,9 @@ use Rattle.cx_cbc.specs.Envelope.{sealed}
 abbrev pub number_at : ℕ → List ℕ → ℕ
 number_at place bytes = from_le_bytes w64 (take 8 (drop (8 * place) bytes))
 
+abbrev pub first_four_added : List ℕ → ℕ
+first_four_added bytes = bit_xor (bit_xor (bit_xor (number_at 0 bytes) (number_at 1 bytes)) (number_at 2 bytes)) (number_at 3 bytes)
+
 abbrev pub login_proof : List ℕ → ℕ → ℕ → ℕ
 login_proof key server_challenge client_challenge =
-    let bytes = to_le_bytes w32 32 ++ sealed key (to_le_bytes w64 server_challenge ++ to_le_bytes w64 client_challenge) in
-    bit_xor (bit_xor (bit_xor (number_at 0 bytes) (number_at 1 bytes)) (number_at 2 bytes)) (number_at 3 bytes)
+    first_four_added (to_le_bytes w32 32 ++ sealed key (to_le_bytes w64 server_challenge ++ to_le_bytes w64 client_challenge))

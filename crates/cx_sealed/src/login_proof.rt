@@ -1,6 +1,6 @@
 //! The proof of a login.
 
-ghost use Rattle.std.specs.Prelude.{◌≡◌, ◌≤◌, take, drop};
+ghost use Rattle.std.specs.Prelude.{◌≡◌, ◌≤◌, ◌∷◌, take, drop};
 ghost use Rattle.std.specs.Int.{w64, from_le_bytes};
 ghost use Rattle.cx_sealed.specs.Proof.{login_proof};
 
@@ -19,8 +19,14 @@ pub fn proof(key: &[u8; 16], server_challenge: u64, client_challenge: u64) -> u6
         client[0], client[1], client[2], client[3], client[4], client[5], client[6], client[7],
     ];
     let sealed = seal_16(&Schedule::new(key), &content);
-    let first = u64::from_le_bytes([32, 0, 0, 0, sealed[0], sealed[1], sealed[2], sealed[3]]);
-    first ^ number_at(&sealed, 4) ^ number_at(&sealed, 12) ^ number_at(&sealed, 20)
+    first_number(&sealed) ^ number_at(&sealed, 4) ^ number_at(&sealed, 12) ^ number_at(&sealed, 20)
+}
+
+// The first number: the length of the sealed bytes, in four bytes, and the first four of them.
+fn first_number(sealed: &[u8; 32]) -> u64
+    ensures { result ≡ from_le_bytes w64 (32 ∷ 0 ∷ 0 ∷ 0 ∷ take 4 sealed.now) }
+{
+    u64::from_le_bytes([32, 0, 0, 0, sealed[0], sealed[1], sealed[2], sealed[3]])
 }
 
 // The number in the eight bytes from this place on.

@@ -20,7 +20,7 @@ use cx_enc::{Encoded, ReadRefusal, read_whole, write_whole};
 use std::alloc::{AllocError, Global};
 
 // Opens a record.
-fn open_record<T: Record>(
+pub(crate) fn open_record<T: Record>(
     alloc: Global,
     key: &[u8; 16],
     sealed: &[u8],
@@ -47,11 +47,7 @@ fn read_content<T: Record>(alloc: Global, content: &[u8]) -> Result<T, SealedRef
 }
 
 // Seals a record.
-fn seal_record<T: Record>(
-    alloc: Global,
-    key: &[u8; 16],
-    value: &T,
-) -> Result<Blob, AllocError>
+fn seal_record<T: Record>(alloc: Global, key: &[u8; 16], value: &T) -> Result<Blob, AllocError>
     requires { T.Bound value.now }
     ensures { IfOk result (IsSealed T.layout.form key.now value.now) }
 {
@@ -121,11 +117,7 @@ pub fn open_authorize(
 }
 
 /// Seals an `Authorize`.
-pub fn seal_authorize(
-    alloc: Global,
-    key: &[u8; 16],
-    value: &Authorize,
-) -> Result<Blob, AllocError>
+pub fn seal_authorize(alloc: Global, key: &[u8; 16], value: &Authorize) -> Result<Blob, AllocError>
     requires { ⟦<Authorize as Encoded>⟧.Bound value.now }
     ensures { IfOk result (IsSealed authorize_layout.form key.now value.now) }
 {

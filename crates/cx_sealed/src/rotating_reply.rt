@@ -128,11 +128,7 @@ fn put_three(alloc: Global, into: &mut Blob, three: &[Generation; 3]) -> Result<
     put_generation(alloc, into, next)
 }
 
-fn put_generation(
-    alloc: Global,
-    into: &mut Blob,
-    generation: &Generation,
-) -> Result<(), AllocError>
+fn put_generation(alloc: Global, into: &mut Blob, generation: &Generation) -> Result<(), AllocError>
     requires { IsReading generation.now.expires }
     ensures ok { OnOk result (into.new ≡ into.old ++ generation_layout.form.text generation.now) }
     ensures fits { OnOk result (generation_layout.form.Fits generation.now) }
