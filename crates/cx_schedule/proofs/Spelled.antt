@@ -1,5 +1,5 @@
 -- The converse of the first law of a line: words without a fault spell one.
-use Rattle.std.proofs.Common.{◌≡◌, ℕ, ◌+◌, ◌%◌, ◌==◌, Bool, true, false, IsTrue, List, [], ◌∷◌, length, Option, Some, None, refl, sym, ap, ◌∙◌, arith, codes}
+use Rattle.std.proofs.Common.{◌≡◌, ℕ, ◌%◌, ◌==◌, Bool, true, false, IsTrue, List, [], ◌∷◌, length, Option, Some, None, refl, sym, ap, ◌∙◌, arith, codes}
 use Rattle.std.specs.Prelude.{◌||◌, cond, decimal, find, is_none, nat_lt, not}
 use Rattle.std.specs.List.{list_all}
 use Rattle.std.specs.Str.{bytes_eq}
@@ -9,13 +9,12 @@ use Rattle.std.proofs.lemmas.Slice.Eq.{bytes_eq-Decides}
 use Rattle.cx_base.specs.Names.{Name, name_text}
 use Rattle.cx_base.specs.declared.kinds.EntityType.{EntityType}
 use Rattle.cx_base.specs.declared.operations.Operation.{Operation}
-use Rattle.cx_words.specs.Words.{IsHexWord, access_of, caps_of, hex_of, is_service_list, name_of, number_of, part_of, reading_of, service_of, services_of}
+use Rattle.cx_words.specs.Words.{access_of, caps_of, hex_of, name_of, number_of, part_of, reading_of, service_of, services_of}
 use Rattle.cx_words.proofs.NumberWords.{number_of-is, reading_of-is}
 use Rattle.cx_words.proofs.NameWords.{name_of-is, service_of-is, access_of-is}
 use Rattle.cx_words.proofs.ListWords.{services_of-is}
 use Rattle.cx_words.proofs.TextWords.{caps_of-is, part_of-is}
 use Rattle.cx_words.proofs.HexWords.{hex_of-is}
-use Rattle.cx_schedule.specs.declared.faults.LineFault.{LineFault}
 use Rattle.cx_schedule.specs.declared.faults.LineFault.TheVariants.{UnknownWord, Missing, Extra, BadNumber, BadName, BadText, UnknownNode, Repeated, Order}
 use Rattle.cx_schedule.specs.declared.heads.Head.{Head}
 use Rattle.cx_schedule.specs.declared.heads.Head.TheVariants.{Lifetime as LifetimeHead, AuthLifetime as AuthLifetimeHead, Entity as EntityHead, Clock as ClockHead, Fetch as FetchHead, Login as LoginHead, Connect as ConnectHead, Send as SendHead}
@@ -24,7 +23,7 @@ use Rattle.cx_schedule.specs.declared.lines.Line.{Line}
 use Rattle.cx_schedule.specs.declared.lines.Line.TheVariants.{Lifetime, AuthLifetime, Entity, Clock, Fetch, Login, Connect, Send}
 use Rattle.cx_schedule.specs.Faults.{fault_behind, fault_of, fault_with, has, has_bad_pair, is_bad_pair, repeats_pair}
 use Rattle.cx_schedule.specs.Heads.{head_of, head_word, heads}
-use Rattle.cx_schedule.specs.Lines.{IsClient, IsDaemon, Spells, SpellsOperation, grant_words, has_most_entities, is_client, is_daemon, is_declarable, is_declared, is_fit, is_grant, is_life, is_name, is_open, repeats_service}
+use Rattle.cx_schedule.specs.Lines.{IsClient, Spells, SpellsOperation, grant_words, has_most_entities, is_client, is_daemon, is_declarable, is_declared, is_fit, is_grant, is_life, is_name, is_open, repeats_service}
 use Rattle.cx_schedule.specs.Places.{fails, passes}
 use Rattle.cx_schedule.proofs.Grants.{repeats_is}
 
