@@ -20,3 +20,6 @@ fn all_are_sendable() {
     is_sendable::<CapRefusal>();
     is_sendable::<Denied>();
 }
+
+#[cfg(test)]
+mod tests;

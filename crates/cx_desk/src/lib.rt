@@ -21,3 +21,6 @@ fn handlers_are_sendable(handler: &Handler) {
 fn refusals_are_sendable(refusal: &ServeRefusal) {
     is_sendable(refusal);
 }
+
+#[cfg(test)]
+mod tests;
