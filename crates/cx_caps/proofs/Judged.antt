@@ -3,9 +3,9 @@ use Rattle.std.proofs.Common.{◌≡◌, ℕ, Bool, true, false, not, ◌&&◌, 
 use Rattle.std.specs.Prelude.{◌||◌}
 use Rattle.std.specs.List.{list_all, list_any}
 use Rattle.cx_base.specs.declared.operations.Operation.{Operation}
-use Rattle.cx_caps.specs.declared.clauses.Seen.{Seen}
-use Rattle.cx_caps.specs.declared.conditions.ConditionKind.{ConditionKind}
-use Rattle.cx_caps.specs.declared.conditions.ConditionKind.TheVariants.{Pool, Namespace, ObjectPrefix}
+use Rattle.cx_caps.specs.declared.conditions.Seen.{Seen}
+use Rattle.cx_caps.specs.declared.kinds.ConditionKind.{ConditionKind}
+use Rattle.cx_caps.specs.declared.kinds.ConditionKind.TheVariants.{Pool, Namespace, ObjectPrefix}
 use Rattle.cx_caps.specs.Grammar.{Condition, same_condition_kind, repeats, is_met}
 use Rattle.cx_caps.specs.Reading.{in_front, allows_by}
 use Rattle.cx_caps.specs.Seen.{has_seen, with_seen}

@@ -6,8 +6,8 @@ use Rattle.std.specs.Str.{bytes_eq}
 use Rattle.std.proofs.lemmas.Bool.{and_parts, and_from}
 use Rattle.std.proofs.lemmas.Slice.Eq.{bytes_eq-Decides}
 use Rattle.std.proofs.lemmas.List.{take-append-drop}
-use Rattle.cx_caps.specs.declared.conditions.ConditionKind.{ConditionKind}
-use Rattle.cx_caps.specs.declared.conditions.ConditionKind.TheVariants.{Pool, Namespace, ObjectPrefix}
+use Rattle.cx_caps.specs.declared.kinds.ConditionKind.{ConditionKind}
+use Rattle.cx_caps.specs.declared.kinds.ConditionKind.TheVariants.{Pool, Namespace, ObjectPrefix}
 use Rattle.cx_caps.specs.Grammar.{Condition, condition_words, words_by, is_value}
 use Rattle.cx_caps.specs.Reading.{begins, condition_on, condition_of, conditions_from, in_front}
 

@@ -1,6 +1,6 @@
 -- What a capability text allows, by the clauses between its commas and the words between their spaces: the part of Ceph's
--- capability grammar that this project grants by ("User Management", "Capability syntax"; a `namespace` and an
--- `object_prefix` stand in the same place there). A clause outside of this grammar grants nothing.
+-- capability grammar that this project grants by ("User Management", "Authorization (capabilities)": an access
+-- specification, and a match of pool, namespace and object prefix). A clause outside of this grammar grants nothing.
 use Rattle.std.specs.Prelude.{ℕ, ◌==◌, ◌≡◌, Bool, not, ◌&&◌, ◌||◌, nat_le, nat_eq, if◌then◌else◌, List, [], ◌∷◌, length, codes, filter, count_by, Any, IsTrue, false, true}
 use Rattle.std.specs.List.{list_all, list_any, flat_map, slice_split, starts_with}
 use Rattle.std.specs.Str.{bytes_eq}
@@ -8,8 +8,8 @@ use Rattle.cx_base.specs.Joined.{◌<>◌}
 use Rattle.cx_base.specs.declared.operations.Operation.{Operation}
 use Rattle.cx_base.specs.declared.kinds.Access.{Access}
 use Rattle.cx_base.specs.declared.kinds.Access.TheVariants.{Read, Write, Exec}
-use Rattle.cx_caps.specs.declared.conditions.ConditionKind.{ConditionKind}
-use Rattle.cx_caps.specs.declared.conditions.ConditionKind.TheVariants.{Pool, Namespace, ObjectPrefix}
+use Rattle.cx_caps.specs.declared.kinds.ConditionKind.{ConditionKind}
+use Rattle.cx_caps.specs.declared.kinds.ConditionKind.TheVariants.{Pool, Namespace, ObjectPrefix}
 
 -- ---- clauses and words
 

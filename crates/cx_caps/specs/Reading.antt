@@ -4,8 +4,8 @@ use Rattle.std.specs.Prelude.{ℕ, Bool, true, false, not, ◌&&◌, if◌then�
 use Rattle.std.specs.List.{list_all, list_any}
 use Rattle.std.specs.Str.{bytes_eq}
 use Rattle.cx_base.specs.declared.operations.Operation.{Operation}
-use Rattle.cx_caps.specs.declared.conditions.ConditionKind.{ConditionKind}
-use Rattle.cx_caps.specs.declared.conditions.ConditionKind.TheVariants.{Pool, Namespace, ObjectPrefix}
+use Rattle.cx_caps.specs.declared.kinds.ConditionKind.{ConditionKind}
+use Rattle.cx_caps.specs.declared.kinds.ConditionKind.TheVariants.{Pool, Namespace, ObjectPrefix}
 use Rattle.cx_caps.specs.Grammar.{Condition, clauses_of, words_of, is_rights, has_right, is_value, repeats, is_met}
 
 -- the condition of this kind, where the word is a value

@@ -1,8 +1,8 @@
 -- The kinds of conditions that stood in a clause so far.
 use Rattle.std.specs.Prelude.{Bool, true}
-use Rattle.cx_caps.specs.declared.clauses.Seen.{Seen}
-use Rattle.cx_caps.specs.declared.conditions.ConditionKind.{ConditionKind}
-use Rattle.cx_caps.specs.declared.conditions.ConditionKind.TheVariants.{Pool, Namespace, ObjectPrefix}
+use Rattle.cx_caps.specs.declared.conditions.Seen.{Seen}
+use Rattle.cx_caps.specs.declared.kinds.ConditionKind.{ConditionKind}
+use Rattle.cx_caps.specs.declared.kinds.ConditionKind.TheVariants.{Pool, Namespace, ObjectPrefix}
 
 -- whether this kind did
 abbrev pub has_seen : Seen → ConditionKind → Bool

@@ -3,8 +3,11 @@
 
 mod clauses;
 mod conditions;
+mod cut;
+mod kinds;
 mod permits;
 mod refusals;
+mod rights;
 mod texts;
 
 pub use permits::Permitted;

@@ -29,8 +29,8 @@ IsPermitted kind permission = (permission.ask.access ≡ kind) × IsTrue (cap_al
 abbrev pub IsCallable : Access → (Global → Bor Permission → Type 0) → Type 0
 IsCallable kind pre = (alloc : Global) (ask : Bor Permission) → IsPermitted kind ask.now → pre alloc ask
 
-abbrev pub IsTrueTo : Access → (Global → Bor Permission → Result (List ℕ) AllocError → Type 0) → Type 0
-IsTrueTo kind post = (alloc : Global) (ask : Bor Permission) (result : Result (List ℕ) AllocError)
+abbrev pub IsFaithful : Access → (Global → Bor Permission → Result (List ℕ) AllocError → Type 0) → Type 0
+IsFaithful kind post = (alloc : Global) (ask : Bor Permission) (result : Result (List ℕ) AllocError)
     → IsPermitted kind ask.now → post alloc ask result → ForOk result (λ reply. Answers kind ask.now.ask reply)
 
 -- for which kinds there is a handler

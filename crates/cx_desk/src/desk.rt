@@ -3,7 +3,7 @@
 ghost use Rattle.std.specs.Prelude.{◌≡◌, IfOk};
 ghost use Rattle.std.specs.Option.{ForSome};
 ghost use Rattle.cx_base.specs.declared.kinds.Access.TheVariants.{Read, Write, Exec};
-ghost use Rattle.cx_desk.specs.Handlers.{Answers, IsPermitted, IsCallable, IsTrueTo};
+ghost use Rattle.cx_desk.specs.Handlers.{Answers, IsPermitted, IsCallable, IsFaithful};
 
 use crate::refusals::ServeRefusal;
 use cx_base::{Access, Blob};
@@ -19,7 +19,7 @@ struct Stored {
     kind: Access,
     call: Handler,
     ghost callable: { IsCallable kind (Handler.pre call) },
-    ghost is_true: { IsTrueTo kind (Handler.post call) },
+    ghost faithful: { IsFaithful kind (Handler.post call) },
 }
 
 impl Stored {
@@ -44,7 +44,7 @@ pub struct Desk {
 
 impl Desk {
     ghost use Rattle.std.specs.Prelude.{◌≡◌, is_some, IfSome, IfOk, IfErr, true, false, Err};
-    ghost use Rattle.cx_desk.specs.Handlers.{Answers, IsPermitted, IsCallable, IsTrueTo, has_handler, with_handler};
+    ghost use Rattle.cx_desk.specs.Handlers.{Answers, IsPermitted, IsCallable, IsFaithful, has_handler, with_handler};
     ghost use Rattle.cx_desk.specs.Held.{handlers_of};
     ghost use Rattle.cx_desk.specs.Causes.{IsServeCause};
 
@@ -62,7 +62,7 @@ impl Desk {
     /// Keeps the handler for operations of this kind, in place of the one that was there.
     pub fn set(&mut self, kind: Access, handler: Handler)
         requires callable { IsCallable kind (Handler.pre handler) }
-        requires is_true { IsTrueTo kind (Handler.post handler) }
+        requires faithful { IsFaithful kind (Handler.post handler) }
         ensures { handlers_of self.new ≡ with_handler kind (handlers_of self.old) }
     {
         let stored = Some(Stored {

@@ -2,7 +2,7 @@ use Rattle.std.proofs.Common.{◌≡◌, length, false}
 use Rattle.cx_caps.specs.Grammar.{words_of}
 use Rattle.cx_caps.specs.Reading.{conditions_from, allows_by}
 use Rattle.cx_caps.proofs.Judged.{judged}
-use Rattle.cx_caps.proofs.clauses.conditions_allow.Given as goal
+use Rattle.cx_caps.proofs.conditions.conditions_allow.Given as goal
 
 abbrev pub invariant-conditions : goal.invariant-conditions
 invariant-conditions l =

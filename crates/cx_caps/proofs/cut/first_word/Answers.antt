@@ -1,7 +1,7 @@
 use Rattle.std.proofs.Common.{◌≡◌, ◌<◌, ◌-◌, length, take, drop, sym, ◌∙◌, arith, rules}
 use Rattle.std.proofs.lemmas.Bool.Decides.{nat_tests, Decides-eqb}
 use Rattle.cx_caps.proofs.Words.{cut_words, no_words}
-use Rattle.cx_caps.proofs.clauses.first_word.Goals as goal
+use Rattle.cx_caps.proofs.cut.first_word.Goals as goal
 
 pub returns-then-is_empty-clause-cut : goal.returns-then-is_empty-clause-cut
 returns-then-is_empty-clause-cut c =

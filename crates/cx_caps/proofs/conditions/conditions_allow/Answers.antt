@@ -2,7 +2,7 @@ use Rattle.std.proofs.Common.{false, refl, sym, ap, ◌∙◌}
 use Rattle.cx_caps.specs.Grammar.{words_of}
 use Rattle.cx_caps.specs.Reading.{conditions_from}
 use Rattle.cx_caps.proofs.Judged.{judged, judged_first, judged_next}
-use Rattle.cx_caps.proofs.clauses.conditions_allow.Goals as goal
+use Rattle.cx_caps.proofs.conditions.conditions_allow.Goals as goal
 
 pub conditions-init : goal.conditions-init
 conditions-init c =
