@@ -1,16 +1,16 @@
 -- The test that computes says `CapAllows`.
-use Rattle.std.proofs.Common.{◌≡◌, ℕ, ◌+◌, Bool, true, false, not, ◌&&◌, List, [], ◌∷◌, length, Option, Some, None, refl, sym, ap, subst, ◌∙◌}
+use Rattle.std.proofs.Common.{◌≡◌, ℕ, ◌+◌, Bool, true, false, not, ◌&&◌, List, [], ◌∷◌, length, Option, Some, None, refl, sym, ap, ◌∙◌}
 use Rattle.std.specs.Prelude.{IsTrue, ◌↔◌, count_by, codes}
-use Rattle.std.specs.List.{list_all, list_any, flat_map}
+use Rattle.std.specs.List.{list_all}
 use Rattle.std.specs.Str.{bytes_eq}
-use Rattle.std.proofs.lemmas.Bool.{and_parts, and_from}
+use Rattle.std.proofs.lemmas.Bool.{and_parts}
 use Rattle.std.proofs.lemmas.List.Splits.{length-slice_split}
 use Rattle.std.proofs.lemmas.List.Folds.{Any-from_list_any, list_any-from_Any}
 use Rattle.std.proofs.lemmas.Slice.Eq.{bytes_eq-Decides}
 use Rattle.cx_base.specs.declared.operations.Operation.{Operation}
-use Rattle.cx_caps.specs.Grammar.{Condition, IsClause, ClauseAllows, CapAllows, is_comma, clauses_of, words_of, condition_words, is_value, is_rights, has_right, repeats, is_met}
+use Rattle.cx_caps.specs.Grammar.{Condition, IsClause, ClauseAllows, CapAllows, is_comma, clauses_of, words_of, is_rights, has_right, repeats, is_met}
 use Rattle.cx_caps.specs.Reading.{cap_allows, clause_allows, words_allow, allows_by, conditions_from}
-use Rattle.cx_caps.proofs.Read.{Spelled, conditions_from-is, conditions_from-words}
+use Rattle.cx_caps.proofs.Read.{conditions_from-is, conditions_from-words}
 
 -- what the words of a clause that allows the operation are
 record Allows (ask : Operation) (words : List (List ℕ)) : Type 0 where

@@ -1,4 +1,4 @@
-use Rattle.std.proofs.Common.{rules, ap, ◌∙◌}
+use Rattle.std.proofs.Common.{rules}
 use Rattle.cx_caps.specs.Reading.{cap_allows}
 use Rattle.cx_caps.proofs.Laws.{allows_exactly}
 use Rattle.cx_caps.proofs.texts.CapText.allows.Goals as goal
