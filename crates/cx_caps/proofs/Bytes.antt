@@ -4,7 +4,8 @@ use Rattle.std.specs.Prelude.{nat_lt}
 use Rattle.std.specs.List.{position, position_or_len, list_all}
 use Rattle.std.proofs.lemmas.List.Sums.{fails_before_first, list_all-from_AllPass}
 use Rattle.std.proofs.lemmas.Bool.Decides.{nat_tests}
-use Rattle.cx_caps.specs.Texts.{is_caps_byte, is_refused_byte}
+use Rattle.cx_base.specs.Texts.{is_caps_byte}
+use Rattle.cx_caps.specs.Texts.{is_refused_byte}
 
 fails_where_none : {X : Type 0} (b : Bool) (x : X) → cond b (Some x) None ≡ None → b ≡ false
 fails_where_none true x e = cc

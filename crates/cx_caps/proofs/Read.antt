@@ -8,22 +8,23 @@ use Rattle.std.proofs.lemmas.Slice.Eq.{bytes_eq-Decides}
 use Rattle.std.proofs.lemmas.List.{take-append-drop}
 use Rattle.cx_caps.specs.declared.kinds.ConditionKind.{ConditionKind}
 use Rattle.cx_caps.specs.declared.kinds.ConditionKind.TheVariants.{Pool, Namespace, ObjectPrefix}
-use Rattle.cx_caps.specs.Grammar.{Condition, condition_words, words_by, is_value}
+use Rattle.cx_base.specs.Texts.{is_long_part}
+use Rattle.cx_caps.specs.Grammar.{Condition, condition_words, words_by}
 use Rattle.cx_caps.specs.Reading.{begins, condition_on, condition_of, conditions_from, in_front}
 
 -- these words are those of these conditions, whose values are good
 pub record Spelled (ws : List (List ℕ)) (conditions : List Condition) : Type 0 where
   pub words : ws ≡ flat_map condition_words conditions
-  pub values : list_all (λ condition. is_value condition.value) conditions ≡ true
+  pub values : list_all (λ condition. is_long_part condition.value) conditions ≡ true
 
 -- ---- what is read
 
 -- this condition, whose value is good
 record On (kind : ConditionKind) (value : List ℕ) (condition : Condition) : Type 0 where
   same : record { kind = kind; value = value } ≡ condition
-  good : is_value value ≡ true
+  good : is_long_part value ≡ true
 
-on_cases : (kind : ConditionKind) (value : List ℕ) (condition : Condition) (b : Bool) → is_value value ≡ b
+on_cases : (kind : ConditionKind) (value : List ℕ) (condition : Condition) (b : Bool) → is_long_part value ≡ b
     → cond b (Some (record { kind = kind; value = value })) None ≡ Some condition → On kind value condition
 on_cases kind value condition true good e = record { same = cc; good = good }
 on_cases kind value condition false bad e = absurd cc
@@ -36,27 +37,27 @@ begins_is word front e =
 -- the one word of a condition
 record OneWord (word : List ℕ) (condition : Condition) : Type 0 where
   words : word ∷ [] ≡ condition_words condition
-  good : is_value condition.value ≡ true
+  good : is_long_part condition.value ≡ true
 
 one_pool : (word : List ℕ) (condition : Condition) → begins word (codes "pool=") ≡ true → On Pool (drop 5 word) condition → OneWord word condition
 one_pool word condition b on = record {
   words = ap (λ w. w ∷ []) (begins_is word (codes "pool=") b) ∙ ap condition_words on.same;
-  good = ap (λ c. is_value c.value) (sym on.same) ∙ on.good;
+  good = ap (λ c. is_long_part c.value) (sym on.same) ∙ on.good;
 }
 
 one_namespace : (word : List ℕ) (condition : Condition) → begins word (codes "namespace=") ≡ true → On Namespace (drop 10 word) condition → OneWord word condition
 one_namespace word condition b on = record {
   words = ap (λ w. w ∷ []) (begins_is word (codes "namespace=") b) ∙ ap condition_words on.same;
-  good = ap (λ c. is_value c.value) (sym on.same) ∙ on.good;
+  good = ap (λ c. is_long_part c.value) (sym on.same) ∙ on.good;
 }
 
 word_cases : (word : List ℕ) (condition : Condition) (p n : Bool) → begins word (codes "pool=") ≡ p → begins word (codes "namespace=") ≡ n
     → cond p (condition_on Pool (drop 5 word)) (cond n (condition_on Namespace (drop 10 word)) None) ≡ Some condition
     → OneWord word condition
 word_cases word condition true n is_pool other e =
-    one_pool word condition is_pool (on_cases Pool (drop 5 word) condition (is_value (drop 5 word)) refl e)
+    one_pool word condition is_pool (on_cases Pool (drop 5 word) condition (is_long_part (drop 5 word)) refl e)
 word_cases word condition false true other is_namespace e =
-    one_namespace word condition is_namespace (on_cases Namespace (drop 10 word) condition (is_value (drop 10 word)) refl e)
+    one_namespace word condition is_namespace (on_cases Namespace (drop 10 word) condition (is_long_part (drop 10 word)) refl e)
 word_cases word condition false false p n e = absurd (let q : None ≡ Some condition = e in cc)
 
 condition_of-is : (word : List ℕ) (condition : Condition) → condition_of word ≡ Some condition → OneWord word condition
@@ -88,11 +89,11 @@ whole false words = words
 whole true words = codes "object_prefix" ∷ words
 
 joined : (front : List (List ℕ)) (words : List (List ℕ)) (condition : Condition) (others conditions : List Condition)
-    → front ≡ condition_words condition → is_value condition.value ≡ true → Spelled words others → condition ∷ others ≡ conditions
+    → front ≡ condition_words condition → is_long_part condition.value ≡ true → Spelled words others → condition ∷ others ≡ conditions
     → Spelled (front ++ words) conditions
 joined front words condition others conditions is_front good s all = record {
   words = ap (λ ws. ws ++ words) is_front ∙ ap (λ ws. condition_words condition ++ ws) s.words ∙ ap (flat_map condition_words) all;
-  values = ap (list_all (λ c. is_value c.value)) (sym all) ∙ and_from (is_value condition.value) (list_all (λ c. is_value c.value) others) good s.values;
+  values = ap (list_all (λ c. is_long_part c.value)) (sym all) ∙ and_from (is_long_part condition.value) (list_all (λ c. is_long_part c.value) others) good s.values;
 }
 
 word_step : (word : List ℕ) (words : List (List ℕ)) (conditions : List Condition) (b : Bool) → bytes_eq word (codes "object_prefix") ≡ b
@@ -113,13 +114,13 @@ pub conditions_from-is : (named : Bool) (words : List (List ℕ)) (conditions : 
     → Spelled (whole named words) conditions
 conditions_from-is false [] conditions e =
     let same : [] ≡ conditions = (let p : Some [] ≡ Some conditions = e in cc) in
-    record { words = ap (flat_map condition_words) same; values = ap (list_all (λ c. is_value c.value)) (sym same) }
+    record { words = ap (flat_map condition_words) same; values = ap (list_all (λ c. is_long_part c.value)) (sym same) }
 conditions_from-is true [] conditions e = absurd (let p : None ≡ Some conditions = e in cc)
 conditions_from-is true (word ∷ words) conditions e =
     let front = front_cases (condition_on ObjectPrefix word) (conditions_from false words) conditions e in
-    let on = on_cases ObjectPrefix word front.condition (is_value word) refl front.is_first in
+    let on = on_cases ObjectPrefix word front.condition (is_long_part word) refl front.is_first in
     joined (codes "object_prefix" ∷ word ∷ []) words front.condition front.others conditions (ap condition_words on.same)
-    (ap (λ c. is_value c.value) (sym on.same) ∙ on.good) (conditions_from-is false words front.others front.is_rest) front.all
+    (ap (λ c. is_long_part c.value) (sym on.same) ∙ on.good) (conditions_from-is false words front.others front.is_rest) front.all
 conditions_from-is false (word ∷ words) conditions e =
     word_step word words conditions (bytes_eq word (codes "object_prefix")) refl e (conditions_from-is true words conditions)
     (conditions_from-is false words)
@@ -127,15 +128,15 @@ conditions_from-is false (word ∷ words) conditions e =
 -- ---- what is spelled
 
 spelled_step : (kind : ConditionKind) (value : List ℕ) (words : List (List ℕ)) (others : Option (List Condition))
-    → is_value value ≡ true → conditions_from false words ≡ others
+    → is_long_part value ≡ true → conditions_from false words ≡ others
     → conditions_from false (words_by kind value ++ words) ≡ in_front (Some (record { kind = kind; value = value })) others
 spelled_step Pool value words others good rest = rw (good, rest) refl
 spelled_step Namespace value words others good rest = rw (good, rest) refl
 spelled_step ObjectPrefix value words others good rest = rw (good, rest) refl
 
-pub conditions_from-words : (conditions : List Condition) → list_all (λ condition. is_value condition.value) conditions ≡ true
+pub conditions_from-words : (conditions : List Condition) → list_all (λ condition. is_long_part condition.value) conditions ≡ true
     → conditions_from false (flat_map condition_words conditions) ≡ Some conditions
 conditions_from-words [] good = refl
 conditions_from-words (condition ∷ conditions) good =
-    let parts = and_parts (is_value condition.value) (list_all (λ c. is_value c.value) conditions) good in
+    let parts = and_parts (is_long_part condition.value) (list_all (λ c. is_long_part c.value) conditions) good in
     spelled_step condition.kind condition.value (flat_map condition_words conditions) (Some conditions) parts.0 (conditions_from-words conditions parts.1)

@@ -5,6 +5,7 @@ use Rattle.std.specs.Prelude.{ℕ, ◌==◌, ◌≡◌, Bool, not, ◌&&◌, ◌
 use Rattle.std.specs.List.{list_all, list_any, flat_map, slice_split, starts_with}
 use Rattle.std.specs.Str.{bytes_eq}
 use Rattle.cx_base.specs.Joined.{◌<>◌}
+use Rattle.cx_base.specs.Texts.{is_long_part}
 use Rattle.cx_base.specs.declared.operations.Operation.{Operation}
 use Rattle.cx_base.specs.declared.kinds.Access.{Access}
 use Rattle.cx_base.specs.declared.kinds.Access.TheVariants.{Read, Write, Exec}
@@ -70,20 +71,6 @@ pub record Condition : Type 0 where
   pub kind : ConditionKind
   pub value : List ℕ
 
--- a letter, a digit, or one of _ - .
-abbrev pub is_value_byte : ℕ → Bool
-is_value_byte b =
-    (nat_le 97 b && nat_le b 122)
-    || (nat_le 65 b && nat_le b 90)
-    || (nat_le 48 b && nat_le b 57)
-    || (b == 95)
-    || (b == 45)
-    || (b == 46)
-
--- the word of a pool, a namespace or an object: 1 to 255 such bytes, and not '-' alone
-abbrev pub is_value : List ℕ → Bool
-is_value word = not (bytes_eq word (codes "-")) && nat_le 1 (length word) && nat_le (length word) 255 && list_all is_value_byte word
-
 -- the words of a condition
 abbrev pub words_by : ConditionKind → List ℕ → List (List ℕ)
 words_by Pool value = (codes "pool=" <> value) ∷ []
@@ -120,7 +107,7 @@ is_met ask condition = is_met_by condition.kind condition.value ask
 pub record IsClause (words : List (List ℕ)) (rights : List ℕ) (conditions : List Condition) : Type 0 where
   pub spelled : words ≡ codes "allow" ∷ rights ∷ flat_map condition_words conditions
   pub letters : IsTrue (is_rights rights)
-  pub values : IsTrue (list_all (λ condition. is_value condition.value) conditions)
+  pub values : IsTrue (list_all (λ condition. is_long_part condition.value) conditions)
   pub once : IsTrue (not (repeats conditions))
 
 -- the clause is in the grammar, has the operation's letter, and the operation meets its conditions

@@ -3,14 +3,15 @@
 use Rattle.std.specs.Prelude.{ℕ, Bool, true, false, not, ◌&&◌, if◌then◌else◌, List, [], ◌∷◌, take, drop, length, codes, Option, Some, None}
 use Rattle.std.specs.List.{list_all, list_any}
 use Rattle.std.specs.Str.{bytes_eq}
+use Rattle.cx_base.specs.Texts.{is_long_part}
 use Rattle.cx_base.specs.declared.operations.Operation.{Operation}
 use Rattle.cx_caps.specs.declared.kinds.ConditionKind.{ConditionKind}
 use Rattle.cx_caps.specs.declared.kinds.ConditionKind.TheVariants.{Pool, Namespace, ObjectPrefix}
-use Rattle.cx_caps.specs.Grammar.{Condition, clauses_of, words_of, is_rights, has_right, is_value, repeats, is_met}
+use Rattle.cx_caps.specs.Grammar.{Condition, clauses_of, words_of, is_rights, has_right, repeats, is_met}
 
--- the condition of this kind, where the word is a value
+-- the condition of this kind, where the word can be a pool, a namespace or an object's
 abbrev pub condition_on : ConditionKind → List ℕ → Option Condition
-condition_on kind value = if is_value value then Some (record { kind = kind; value = value }) else None
+condition_on kind value = if is_long_part value then Some (record { kind = kind; value = value }) else None
 
 -- whether a word begins with these bytes
 abbrev pub begins : List ℕ → List ℕ → Bool

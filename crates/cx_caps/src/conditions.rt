@@ -1,13 +1,12 @@
 //! Conditions of a clause.
 
 ghost use Rattle.std.specs.Prelude.{◌≡◌, ◌≤◌, ◌∷◌, length, IfSome, IfNone, MatchOption, Some, None, false};
-ghost use Rattle.std.specs.List.{list_all};
-ghost use Rattle.cx_caps.specs.Grammar.{is_met_by, is_value, is_value_byte, words_of};
+ghost use Rattle.cx_caps.specs.Grammar.{is_met_by, words_of};
 ghost use Rattle.cx_caps.specs.Reading.{allows_by, condition_of, condition_on, conditions_from, in_front};
 
 use crate::cut::{first_word, is_word};
 use crate::kinds::ConditionKind;
-use cx_base::Operation;
+use cx_base::{Operation, is_long_part};
 
 /// Whether these words are conditions, each kind at most once, and the operation meets them.
 pub fn conditions_allow(words: &[u8], ask: &Operation) -> bool
@@ -79,7 +78,7 @@ fn first_condition<'a>(
 {
     if is_word(word, "object_prefix") {
         let (value, behind) = first_word(rest)?;
-        if is_value(value) {
+        if is_long_part(value) {
             return Some((ConditionKind::ObjectPrefix, value, behind));
         }
         return None;
@@ -104,7 +103,7 @@ fn condition_of(word: &[u8]) -> Option<(ConditionKind, &[u8])>
 fn condition_on(kind: ConditionKind, value: &[u8]) -> Option<(ConditionKind, &[u8])>
     ensures { MatchOption result (condition_on kind value.now ≡ None) (λ found. condition_on kind value.now ≡ Some (record { kind = found.0; value = found.1.now })) }
 {
-    if is_value(value) {
+    if is_long_part(value) {
         Some((kind, value))
     } else {
         None
@@ -119,27 +118,4 @@ fn is_met_by(kind: ConditionKind, value: &[u8], ask: &Operation) -> bool
         ConditionKind::Namespace => ask.namespace.bytes() == value,
         ConditionKind::ObjectPrefix => ask.object.bytes().starts_with(value),
     }
-}
-
-fn is_value(word: &[u8]) -> bool
-    ensures { result ≡ is_value word.now }
-{
-    !is_word(word, "-") && !word.is_empty() && word.len() <= 255 && all_value_bytes(word)
-}
-
-fn all_value_bytes(word: &[u8]) -> bool
-    ensures { result ≡ list_all is_value_byte word.now }
-{
-    word.iter().all(|b| is_value_byte(*b))
-}
-
-fn is_value_byte(b: u8) -> bool
-    ensures { result ≡ is_value_byte b }
-{
-    (b >= b'a' && b <= b'z')
-        || (b >= b'A' && b <= b'Z')
-        || (b >= b'0' && b <= b'9')
-        || b == b'_'
-        || b == b'-'
-        || b == b'.'
 }

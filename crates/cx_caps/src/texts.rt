@@ -2,7 +2,8 @@
 
 ghost use Rattle.std.specs.Prelude.{◌≡◌, ◌↔◌, IfOk, IfErr, IsTrue};
 ghost use Rattle.std.specs.List.{list_any, position};
-ghost use Rattle.cx_caps.specs.Texts.{is_caps, is_refused_byte, is_caps_byte, IsCapsCause};
+ghost use Rattle.cx_base.specs.Texts.{is_caps, is_caps_byte};
+ghost use Rattle.cx_caps.specs.Texts.{is_refused_byte, IsCapsCause};
 ghost use Rattle.cx_caps.specs.Grammar.{clauses_of, CapAllows};
 ghost use Rattle.cx_caps.specs.Reading.{cap_allows, clause_allows};
 
@@ -21,7 +22,7 @@ pub struct CapText {
 
 impl Model for CapText {
     ghost use Rattle.std.specs.Prelude.{ℕ, List, IsTrue};
-    ghost use Rattle.cx_caps.specs.Texts.{is_caps};
+    ghost use Rattle.cx_base.specs.Texts.{is_caps};
 
     ghost Value = { List ℕ };
 
