@@ -6,7 +6,7 @@ use Rattle.std.proofs.lemmas.Bool.Decides.{nat_tests}
 use Rattle.cx_base.specs.declared.kinds.EntityType.TheVariants.{Mon}
 use Rattle.cx_base.specs.Names.{Name, is_id, is_id_byte, same_kind}
 use Rattle.cx_enc.specs.Values.{name_of, name_parts, name_form}
-use Rattle.cx_enc.specs.Primitives.{both_true, kind_again, kind_fits}
+use Rattle.cx_enc.specs.FieldLaws.{both_true, kind_again, kind_fits}
 
 -- a name whose id is one of its type
 pub name_fits : (name : Name) → IsTrue (is_id name.kind name.id) → name_form.Fits name

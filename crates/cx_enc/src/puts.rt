@@ -2,11 +2,13 @@
 
 ghost use Rattle.std.specs.Prelude.{◌≡◌, ◌++◌, ◌<◌, ◌^◌, length, OnOk, OnErr};
 ghost use Rattle.cx_enc.specs.Forms.{u8_form, u16_form, u32_form, u64_form, blob_form};
-ghost use Rattle.cx_enc.specs.Values.{time_form, key_form, addr_form, kind_form, name_form, flag_form, number_of};
+ghost use Rattle.cx_enc.specs.Moments.{IsReading};
+ghost use Rattle.cx_enc.specs.Values.{time_form, reading_form, key_form, secret_form, sized_form, ticket_form, addr_form, kind_form, name_form, flag_form, number_of};
 
 use crate::keys::Key;
+use crate::tickets::TicketBlob;
 use crate::times::Time;
-use cx_base::{Addr, Blob, EntityName, EntityType};
+use cx_base::{Addr, Blob, EntityName, EntityType, Reading};
 use std::alloc::{AllocError, Global};
 
 /// Writes a number of one byte.
@@ -62,6 +64,21 @@ pub fn put_blob(alloc: Global, into: &mut Blob, bytes: &[u8]) -> Result<(), Allo
     into.append(alloc, spelled.bytes())
 }
 
+/// Writes a length and these bytes, of which there are below 2^32.
+#[tactic(auto, using(crate::specs::FieldLaws::sized_fits))]
+pub fn put_sized<const N: usize>(
+    alloc: Global,
+    into: &mut Blob,
+    bytes: &[u8; N],
+) -> Result<(), AllocError>
+    requires { N < 2 ^ 32 }
+    ensures ok { OnOk result (into.new ≡ into.old ++ (sized_form N).text bytes.now) }
+    ensures fits { OnOk result ((sized_form N).Fits bytes.now) }
+    ensures err { OnErr result (into.new ≡ into.old) }
+{
+    put_blob(alloc, into, bytes)
+}
+
 /// Writes a time.
 pub fn put_time(alloc: Global, into: &mut Blob, time: &Time) -> Result<(), AllocError>
     ensures ok { OnOk result (into.new ≡ into.old ++ time_form.text time.now) }
@@ -71,6 +88,44 @@ pub fn put_time(alloc: Global, into: &mut Blob, time: &Time) -> Result<(), Alloc
     let mut spelled = Blob::new(alloc);
     put_u32(alloc, &mut spelled, time.secs)?;
     put_u32(alloc, &mut spelled, time.nanos)?;
+    into.append(alloc, spelled.bytes())
+}
+
+/// Writes a reading as a time.
+#[tactic(auto, using(crate::specs::FieldLaws::reading_fits))]
+pub fn put_reading(alloc: Global, into: &mut Blob, reading: Reading) -> Result<(), AllocError>
+    requires { IsReading reading }
+    ensures ok { OnOk result (into.new ≡ into.old ++ reading_form.text reading) }
+    ensures fits { OnOk result (reading_form.Fits reading) }
+    ensures err { OnErr result (into.new ≡ into.old) }
+{
+    put_time(alloc, into, &Time::of(reading))
+}
+
+/// Writes 16 bytes as a key that was made at the time 0.
+pub fn put_secret(alloc: Global, into: &mut Blob, secret: &[u8; 16]) -> Result<(), AllocError>
+    ensures ok { OnOk result (into.new ≡ into.old ++ secret_form.text secret.now) }
+    ensures fits { OnOk result (secret_form.Fits secret.now) }
+    ensures err { OnErr result (into.new ≡ into.old) }
+{
+    let key = Key {
+        created: Time { secs: 0, nanos: 0 },
+        secret: *secret,
+    };
+    put_key(alloc, into, &key)
+}
+
+/// Writes the blob of a ticket.
+pub fn put_ticket(alloc: Global, into: &mut Blob, ticket: &TicketBlob) -> Result<(), AllocError>
+    requires { length ticket.now.blob < 2 ^ 32 }
+    ensures ok { OnOk result (into.new ≡ into.old ++ ticket_form.text ticket.now) }
+    ensures fits { OnOk result (ticket_form.Fits ticket.now) }
+    ensures err { OnErr result (into.new ≡ into.old) }
+{
+    let mut spelled = Blob::new(alloc);
+    put_u8(alloc, &mut spelled, 1)?;
+    put_u64(alloc, &mut spelled, ticket.generation)?;
+    put_blob(alloc, &mut spelled, ticket.blob.bytes())?;
     into.append(alloc, spelled.bytes())
 }
 
@@ -106,7 +161,7 @@ pub fn put_addr(alloc: Global, into: &mut Blob, addr: &Addr) -> Result<(), Alloc
 }
 
 /// Writes the number of an entity type.
-#[tactic(auto, using(crate::specs::Primitives::kind_fits))]
+#[tactic(auto, using(crate::specs::FieldLaws::kind_fits))]
 pub fn put_kind(alloc: Global, into: &mut Blob, kind: EntityType) -> Result<(), AllocError>
     ensures ok { OnOk result (into.new ≡ into.old ++ kind_form.text kind) }
     ensures fits { OnOk result (kind_form.Fits kind) }

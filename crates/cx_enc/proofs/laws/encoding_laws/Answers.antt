@@ -1,6 +1,6 @@
 -- The laws, each by its lemma.
-use Rattle.cx_enc.specs.Lawful.{u8-lawful, u16-lawful, u32-lawful, u64-lawful, bytes-lawful, blob-lawful}
-use Rattle.cx_enc.specs.Primitives.{time-lawful, key-lawful, addr-lawful, kind-lawful, name-lawful, flag-lawful}
+use Rattle.cx_enc.specs.FormLaws.{u8-lawful, u16-lawful, u32-lawful, u64-lawful, bytes-lawful, blob-lawful}
+use Rattle.cx_enc.specs.FieldLaws.{time-lawful, key-lawful, addr-lawful, kind-lawful, name-lawful, flag-lawful}
 use Rattle.cx_enc.proofs.laws.encoding_laws.Goals as goal
 
 pub returns-clause-u8 : goal.returns-clause-u8

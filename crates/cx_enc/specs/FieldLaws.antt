@@ -1,16 +1,17 @@
--- The laws of times, keys, addresses, entity types, names, fixed numbers and flags.
-use Rattle.std.proofs.Common.{◌≡◌, ℕ, ◌^◌, ◌<◌, Bool, true, false, cond, List, Option, Some, None, refl, sym, ap, ◌∙◌, arith}
-use Rattle.std.specs.Prelude.{◌&&◌, ◌==◌, nat_lt}
-use Rattle.std.proofs.lemmas.Bool.{eqb-true}
+-- The laws of times, readings, keys, ticket blobs, addresses, entity types, names, fixed numbers and flags.
+use Rattle.std.proofs.Common.{◌≡◌, ℕ, ◌^◌, ◌/◌, ◌%◌, ◌<◌, length, eq-eqb, Bool, true, false, cond, List, Option, Some, None, refl, sym, ap, ◌∙◌, arith}
+use Rattle.std.specs.Prelude.{◌&&◌, ◌==◌, nat_lt, nat_le}
+use Rattle.std.proofs.lemmas.Bool.{eqb-true, ltb-true, lt-ltb}
 use Rattle.cx_base.specs.declared.kinds.EntityType.{EntityType}
 use Rattle.cx_base.specs.declared.kinds.EntityType.TheVariants.{Mon, Mds, Osd, Client, Mgr, Auth}
 use Rattle.cx_base.specs.declared.addresses.Addr.{Addr}
 use Rattle.cx_base.specs.Names.{Name, is_id, with_id}
 use Rattle.cx_enc.specs.Moments.{Moment}
 use Rattle.cx_enc.specs.declared.keys.Key.{Key}
-use Rattle.cx_enc.specs.Forms.{Form, IsLawful, u8_form, u16_form, u32_form, bytes_form, blob_form, pair, field}
-use Rattle.cx_enc.specs.Values.{moment_of, moment_parts, time_form, key_of, key_parts, key_form, addr_of, addr_parts, addr_form, number_of, kind_of, kind_form, name_of, name_parts, name_form, fixed_of, fixed, flag_of, flag_number, flag_form}
-use Rattle.cx_enc.specs.Lawful.{u8-lawful, u16-lawful, u32-lawful, bytes-lawful, blob-lawful, pair-lawful, field-lawful, checked-lawful}
+use Rattle.cx_enc.specs.declared.tickets.TicketBlob.{TicketBlob}
+use Rattle.cx_enc.specs.Forms.{Form, IsLawful, u8_form, u16_form, u32_form, u64_form, bytes_form, blob_form, pair, seen, field, judged}
+use Rattle.cx_enc.specs.Values.{moment_of, moment_parts, time_form, reading_of, moment_at, reading_form, secret_of, secret_key, secret_form, sized_form, ticket_of, ticket_parts, ticket_form, count_form, key_of, key_parts, key_form, addr_of, addr_parts, addr_form, number_of, kind_of, kind_form, name_of, name_parts, name_form, fixed_of, fixed, flag_of, flag_number, flag_form}
+use Rattle.cx_enc.specs.FormLaws.{u8-lawful, u16-lawful, u32-lawful, u64-lawful, bytes-lawful, blob-lawful, pair-lawful, seen-lawful, field-lawful, checked-lawful, judged-lawful}
 
 -- a test that makes a value
 some_if : {X : Type 0} (b : Bool) (v x : X) → cond b (Some v) None ≡ Some x → (b ≡ true) × (v ≡ x)
@@ -25,7 +26,7 @@ moment_back : (a : ℕ × ℕ) (x : Moment) → moment_of a ≡ Some x → momen
 moment_back a x e = let made = some_if (nat_lt a.1 1000000000) (record { secs = a.0; nanos = a.1 }) x e in ap moment_parts (sym made.1)
 
 pub time-lawful : IsLawful time_form
-time-lawful = checked-lawful moment_of moment_parts (field (pair u32_form u32_form)) (field-lawful (pair u32_form u32_form) (pair-lawful u32_form u32_form u32-lawful u32-lawful)) moment_back
+time-lawful = checked-lawful moment_of moment_parts (field (pair u32_form u32_form)) (field-lawful (pair u32_form u32_form) (pair-lawful u32_form u32_form u32-lawful u32-lawful)) (λ a x fits. moment_back a x)
 
 key_back : (a : ℕ × (ℕ × (ℕ × (ℕ × List ℕ)))) (x : Key) → key_of a ≡ Some x → key_parts x ≡ a
 key_back a x e =
@@ -46,7 +47,59 @@ key-lawful =
     (pair-lawful u32_form (pair u32_form (pair u16_form (bytes_form 16))) u32-lawful
     (pair-lawful u32_form (pair u16_form (bytes_form 16)) u32-lawful
     (pair-lawful u16_form (bytes_form 16) u16-lawful (bytes-lawful 16))))))
-    key_back
+    (λ a x fits. key_back a x)
+
+moment_is : (s n : ℕ) (a b : ℕ) → a ≡ s → b ≡ n → let t : Moment = record { secs = a; nanos = b } in let u : Moment = record { secs = s; nanos = n } in t ≡ u
+moment_is s n a b p q = cc
+
+reading_back : (t : Moment) → time_form.Fits t → moment_at (reading_of t) ≡ t
+reading_back t fits =
+    let below : t.nanos < 1000000000 = ltb-true t.nanos 1000000000 (some_if (nat_lt t.nanos 1000000000) (record { secs = t.secs; nanos = t.nanos }) t fits.1).0 in
+    moment_is t.secs t.nanos (reading_of t / 1000000000) (reading_of t % 1000000000) (omega arith) (omega arith)
+
+reading_again : (r : ℕ) → reading_of (moment_at r) ≡ r
+reading_again r = omega arith
+
+pub reading-lawful : IsLawful reading_form
+reading-lawful = seen-lawful reading_of moment_at time_form time-lawful reading_back (λ r _. reading_again r)
+
+-- the readings that are spelled: those below 4,294,967,296 s
+pub reading_fits : (r : ℕ) → r < 4294967296000000000 → reading_form.Fits r
+reading_fits r lt = ((omega arith, omega arith), rw (lt-ltb (r % 1000000000) 1000000000 (omega arith)) refl)
+
+key_is : (key : Key) (s n : ℕ) → key.created.secs ≡ s → key.created.nanos ≡ n → let k : Key = record { created = record { secs = s; nanos = n }; secret = key.secret } in k ≡ key
+key_is key s n p q =
+    let by : ℕ → ℕ → Key = λ a b. record { created = record { secs = a; nanos = b }; secret = key.secret } in
+    ap (λ a. by a n) (sym p) ∙ ap (λ b. by key.created.secs b) (sym q)
+
+secret_back : (key : Key) (bytes : List ℕ) → secret_of key ≡ Some bytes → secret_key bytes ≡ key
+secret_back key bytes e =
+    let made = some_if ((key.created.secs == 0) && (key.created.nanos == 0)) key.secret bytes e in
+    let tests = both_true (key.created.secs == 0) (key.created.nanos == 0) made.0 in
+    ap secret_key (sym made.1) ∙ key_is key 0 0 (eqb-true key.created.secs 0 tests.0) (eqb-true key.created.nanos 0 tests.1)
+
+pub secret-lawful : IsLawful secret_form
+secret-lawful = checked-lawful secret_of secret_key key_form key-lawful (λ key bytes fits. secret_back key bytes)
+
+pub sized-lawful : (n : ℕ) → IsLawful (sized_form n)
+sized-lawful n = judged-lawful (λ bytes. length bytes == n) blob_form blob-lawful
+
+pub sized_fits : (n : ℕ) (bytes : List ℕ) → n < 2 ^ 32 → length bytes ≡ n → (sized_form n).Fits bytes
+sized_fits n bytes lt is = (omega arith, rw (eq-eqb (length bytes) n is) refl)
+
+ticket_back : (a : (ℕ × ℕ) × List ℕ) (x : TicketBlob) → ticket_of a ≡ Some x → ticket_parts x ≡ a
+ticket_back a x e =
+    let made = some_if (a.0.0 == 1) (record { generation = a.0.1; blob = a.1 }) x e in
+    let by_marker : ℕ → (ℕ × ℕ) × List ℕ = λ m. ((m, a.0.1), a.1) in
+    ap ticket_parts (sym made.1) ∙ ap by_marker (sym (eqb-true a.0.0 1 made.0))
+
+pub ticket-lawful : IsLawful ticket_form
+ticket-lawful =
+    checked-lawful ticket_of ticket_parts (field (pair (pair u8_form u64_form) blob_form)) (field-lawful (pair (pair u8_form u64_form) blob_form)
+    (pair-lawful (pair u8_form u64_form) blob_form (pair-lawful u8_form u64_form u8-lawful u64-lawful) blob-lawful)) (λ a x fits. ticket_back a x)
+
+pub count-lawful : (least most : ℕ) → IsLawful (count_form least most)
+count-lawful least most = judged-lawful (λ n. nat_le least n && nat_le n most) u32_form u32-lawful
 
 addr_back : (a : ℕ × (ℕ × (ℕ × (List ℕ × ℕ)))) (x : Addr) → addr_of a ≡ Some x → addr_parts x ≡ a
 addr_back a x e =
@@ -67,7 +120,7 @@ addr-lawful =
     (pair-lawful u32_form (pair u32_form (pair (bytes_form 4) u16_form)) u32-lawful
     (pair-lawful u32_form (pair (bytes_form 4) u16_form) u32-lawful
     (pair-lawful (bytes_form 4) u16_form (bytes-lawful 4) u16-lawful)))))
-    addr_back
+    (λ a x fits. addr_back a x)
 
 -- one link of the chain of numbers: this one, or the rest
 link : (b : Bool) (n k : ℕ) (v : EntityType) (rest : Option EntityType) (x : EntityType) → (b ≡ true → n ≡ k) → number_of v ≡ k → (rest ≡ Some x → number_of x ≡ n) → cond b (Some v) rest ≡ Some x → number_of x ≡ n
@@ -107,7 +160,7 @@ pub kind_fits : (x : EntityType) → kind_form.Fits x
 kind_fits x = (number_fits x, kind_again x)
 
 pub kind-lawful : IsLawful kind_form
-kind-lawful = checked-lawful kind_of number_of u32_form u32-lawful kind_back
+kind-lawful = checked-lawful kind_of number_of u32_form u32-lawful (λ a x fits. kind_back a x)
 
 with_id_back : (id : List ℕ) (o : Option EntityType) (x : Name) → with_id id o ≡ Some x → (o ≡ Some x.kind) × (id ≡ x.id)
 with_id_back id None x e = absurd cc
@@ -124,13 +177,13 @@ name_back a x e =
     ap by_number number ∙ ap by_id (sym parts.1)
 
 pub name-lawful : IsLawful name_form
-name-lawful = checked-lawful name_of name_parts (field (pair u32_form blob_form)) (field-lawful (pair u32_form blob_form) (pair-lawful u32_form blob_form u32-lawful blob-lawful)) name_back
+name-lawful = checked-lawful name_of name_parts (field (pair u32_form blob_form)) (field-lawful (pair u32_form blob_form) (pair-lawful u32_form blob_form u32-lawful blob-lawful)) (λ a x fits. name_back a x)
 
 fixed_back : (n a : ℕ) (x : Unit {0}) → fixed_of n a ≡ Some x → n ≡ a
 fixed_back n a x e = sym (eqb-true a n (some_if (a == n) tt x e).0)
 
 pub fixed-lawful : (n : ℕ) (f : Form ℕ) → IsLawful f → IsLawful (fixed n f)
-fixed-lawful n f h = checked-lawful (fixed_of n) (λ _. n) f h (fixed_back n)
+fixed-lawful n f h = checked-lawful (fixed_of n) (λ _. n) f h (λ a x fits. fixed_back n a x)
 
 flag_by : (zero one : Bool) (a : ℕ) (x : Bool) → (zero ≡ true → a ≡ 0) → (one ≡ true → a ≡ 1) → cond zero (Some false) (cond one (Some true) None) ≡ Some x → flag_number x ≡ a
 flag_by true one a x is_zero is_one e = let same : false ≡ x = cc in ap flag_number (sym same) ∙ sym (is_zero refl)
@@ -141,4 +194,4 @@ flag_back : (a : ℕ) (x : Bool) → flag_of a ≡ Some x → flag_number x ≡ 
 flag_back a x e = flag_by (a == 0) (a == 1) a x (eqb-true a 0) (eqb-true a 1) e
 
 pub flag-lawful : IsLawful flag_form
-flag-lawful = checked-lawful flag_of flag_number u8_form u8-lawful flag_back
+flag-lawful = checked-lawful flag_of flag_number u8_form u8-lawful (λ a x fits. flag_back a x)

@@ -4,11 +4,11 @@ use Rattle.std.proofs.lemmas.Grind.{common_steps}
 use Rattle.std.proofs.lemmas.List.{take_all}
 use Rattle.std.proofs.lemmas.List.Elements.{All-more, recursion_from_All, All-same}
 use Rattle.std.proofs.lemmas.Result.{on_ok_weaker}
-use Rattle.cx_enc.proofs.many.put_many.Goals as goal
+use Rattle.cx_enc.proofs.lists.put_items.Goals as goal
 
 pub loop-item-preserved : goal.loop-item-preserved
 loop-item-preserved g c =
-    let fits = g.T.Encoded.form.Fits in
+    let fits = g.T.Encoded.layout.form.Fits in
     let items = c.args.items.now in
     let i = c.loop-item.item-index in
     let item = c.item-item.result in
@@ -20,8 +20,8 @@ loop-item-preserved g c =
 
 pub returns-clause-fits : goal.returns-clause-fits
 returns-clause-fits g c =
-    let fits = g.T.Encoded.form.Fits in
+    let fits = g.T.Encoded.layout.form.Fits in
     let items = c.args.items.now in
     let all : take c.loop-item.item-index items ≡ items = take_all c.loop-item.item-index items (omega (arith, ap length c.all-item-items.ensures)) in
     let each = recursion_from_All fits items (All-same fits items (take c.loop-item.item-index items) (sym all) c.loop-item.invariant.fits) in
-    on_ok_weaker c.append.result (λ _. (c.requires.count, each)) c.append.ensures.ok
+    on_ok_weaker c.append.result (λ _. each) c.append.ensures.ok

@@ -8,7 +8,7 @@ use Rattle.std.proofs.lemmas.List.Concat.{flat_map-cons}
 use Rattle.std.proofs.lemmas.Nat.{le_bytes_2, le_bytes_4, le_bytes_8, from_le_bytes-to_le_bytes_2, from_le_bytes-to_le_bytes_4, from_le_bytes-to_le_bytes_8}
 use Rattle.cx_enc.specs.declared.faults.ReadFault.{ReadFault}
 use Rattle.cx_enc.specs.declared.faults.ReadFault.TheVariants.{Short}
-use Rattle.cx_enc.specs.Forms.{Spot, ◌>>=◌, Form, bytes_at, bytes_form, little, number_at, u8_form, u16_form, u32_form, u64_form, pair, seen, short_at, field, or_bad, checked, blob_at, blob_form, times_at, many, IsBytes, Took, IsLawful}
+use Rattle.cx_enc.specs.Forms.{Spot, ◌>>=◌, Form, bytes_at, bytes_form, little, number_at, u8_form, u16_form, u32_form, u64_form, pair, seen, short_at, field, or_bad, checked, blob_at, blob_form, times_at, times, after, passed, judged, with_count, many, counted, chain_at, chain_text, ChainFits, chain, IsBytes, Took, IsLawful}
 
 -- ---- steps
 
@@ -142,30 +142,34 @@ u64-lawful = number-lawful w64 (2 ^ 64) wide64
 
 -- ---- forms of forms
 
-pub pair-lawful : {A B : Type 0} (f : Form A) (g : Form B) → IsLawful f → IsLawful g → IsLawful (pair f g)
-pair-lawful {A} {B} f g hf hg = record {
+pub after-lawful : {A B : Type 0} (f : Form A) (g : A → Form B) → IsLawful f → ((a : A) → IsLawful (g a)) → IsLawful (after f g)
+after-lawful {A} {B} f g hf hg = record {
   takes = λ s x fits e.
-      let a = bind_ok (f.at s) (λ a. g.at a.1 >>= λ b. Ok ((a.0, b.0), b.1)) x e in
-      let b = bind_ok (g.at a.0.1) (λ b. Ok ((a.0.0, b.0), b.1)) x a.2 in
+      let a = bind_ok (f.at s) (λ a. (g a.0).at a.1 >>= λ b. Ok ((a.0, b.0), b.1)) x e in
+      let b = bind_ok ((g a.0.0).at a.0.1) (λ b. Ok ((a.0.0, b.0), b.1)) x a.2 in
       let first = hf.takes s a.0 fits a.1 in
-      let second = hg.takes a.0.1 b.0 first.0.bytes b.1 in
+      let second = (hg a.0.0).takes a.0.1 b.0 first.0.bytes b.1 in
       let made : (A × B) × Spot = ((a.0.0, b.0.0), b.0.1) in
-      subst (λ (y : (A × B) × Spot). Took s (f.text y.0.0 ++ g.text y.0.1) y.1 × (f.Fits y.0.0 × g.Fits y.0.1)) (ok_is made x b.2)
-      (Took-then s (f.text a.0.0) a.0.1 (g.text b.0.0) b.0.1 first.0 second.0, (first.1, second.1));
+      subst (λ (y : (A × B) × Spot). Took s (f.text y.0.0 ++ (g y.0.0).text y.0.1) y.1 × (f.Fits y.0.0 × (g y.0.0).Fits y.0.1)) (ok_is made x b.2)
+      (Took-then s (f.text a.0.0) a.0.1 ((g a.0.0).text b.0.0) b.0.1 first.0 second.0, (first.1, second.1));
   again = λ x place more fits.
-      let end : place + length (f.text x.0) + length (g.text x.1) ≡ place + length (f.text x.0 ++ g.text x.1) = omega (arith, length-append (f.text x.0) (g.text x.1)) in
-      rw (append_assoc (f.text x.0) (g.text x.1) more, hf.again x.0 place (g.text x.1 ++ more) fits.0, hg.again x.1 (place + length (f.text x.0)) more fits.1, end) refl;
+      let text : List ℕ = (g x.0).text x.1 in
+      let end : place + length (f.text x.0) + length text ≡ place + length (f.text x.0 ++ text) = omega (arith, length-append (f.text x.0) text) in
+      rw (append_assoc (f.text x.0) text more, hf.again x.0 place (text ++ more) fits.0, (hg x.0).again x.1 (place + length (f.text x.0)) more fits.1, end) refl;
 }
 
-pub seen-lawful : {A X : Type 0} (made : A → X) (parts : X → A) (f : Form A) → IsLawful f → ((a : A) → parts (made a) ≡ a) → ((x : X) → made (parts x) ≡ x) → IsLawful (seen made parts f)
+pub pair-lawful : {A B : Type 0} (f : Form A) (g : Form B) → IsLawful f → IsLawful g → IsLawful (pair f g)
+pair-lawful f g hf hg = after-lawful f (λ _. g) hf (λ _. hg)
+
+pub seen-lawful : {A X : Type 0} (made : A → X) (parts : X → A) (f : Form A) → IsLawful f → ((a : A) → f.Fits a → parts (made a) ≡ a) → ((x : X) → f.Fits (parts x) → made (parts x) ≡ x) → IsLawful (seen made parts f)
 seen-lawful {A} {X} made parts f h back again = record {
   takes = λ s x fits e.
       let a = bind_ok (f.at s) (λ a. Ok (made a.0, a.1)) x e in
       let t = h.takes s a.0 fits a.1 in
       let value : X × Spot = (made a.0.0, a.0.1) in
       subst (λ (y : X × Spot). Took s (f.text (parts y.0)) y.1 × f.Fits (parts y.0)) (ok_is value x a.2)
-      (subst (λ (b : A). Took s (f.text b) a.0.1 × f.Fits b) (sym (back a.0.0)) t);
-  again = λ x place more fits. rw (h.again (parts x) place more fits, again x) refl;
+      (subst (λ (b : A). Took s (f.text b) a.0.1 × f.Fits b) (sym (back a.0.0 t.1)) t);
+  again = λ x place more fits. rw (h.again (parts x) place more fits, again x fits) refl;
 }
 
 short_ok : {A : Type 0} (place : ℕ) (r : Result A ReadFault) (x : A) → short_at place r ≡ Ok x → r ≡ Ok x
@@ -182,13 +186,13 @@ or_bad_ok : {X : Type 0} (place : ℕ) (o : Option X) (next : Spot) (x : X × Sp
 or_bad_ok {X} place (Some y) next x e = let made : (y, next) ≡ x = ok_is (y, next) x e in (ap (λ (z : X × Spot). Some z.0) made, ap (λ (z : X × Spot). z.1) made)
 or_bad_ok place None next x e = absurd cc
 
-pub checked-lawful : {A X : Type 0} (made : A → Option X) (parts : X → A) (f : Form A) → IsLawful f → ((a : A) (x : X) → made a ≡ Some x → parts x ≡ a) → IsLawful (checked made parts f)
+pub checked-lawful : {A X : Type 0} (made : A → Option X) (parts : X → A) (f : Form A) → IsLawful f → ((a : A) (x : X) → f.Fits a → made a ≡ Some x → parts x ≡ a) → IsLawful (checked made parts f)
 checked-lawful {A} {X} made parts f h back = record {
   takes = λ s x fits e.
       let a = bind_ok (f.at s) (λ a. or_bad s.place (made a.0) a.1) x e in
       let good = or_bad_ok s.place (made a.0.0) a.0.1 x a.2 in
-      let is : parts x.0 ≡ a.0.0 = back a.0.0 x.0 good.0 in
       let t = h.takes s a.0 fits a.1 in
+      let is : parts x.0 ≡ a.0.0 = back a.0.0 x.0 t.1 good.0 in
       let again : made (parts x.0) ≡ Some x.0 = ap made is ∙ good.0 in
       let moved : Took s (f.text a.0.0) x.1 × f.Fits a.0.0 = subst (λ (next : Spot). Took s (f.text a.0.0) next × f.Fits a.0.0) good.1 t in
       let named : Took s (f.text (parts x.0)) x.1 × f.Fits (parts x.0) = subst (λ (b : A). Took s (f.text b) x.1 × f.Fits b) (sym is) moved in
@@ -218,7 +222,7 @@ blob_again bytes place more fits =
 pub blob-lawful : IsLawful blob_form
 blob-lawful = record { takes = blob_takes; again = blob_again }
 
--- ---- lists with their count
+-- ---- lists
 
 times_takes : {X : Type 0} (f : Form X) → IsLawful f → (n : ℕ) (s : Spot) (xs : List X × Spot) → IsBytes s.left → times_at f.at n s ≡ Ok xs
     → Took s (flat_map f.text xs.0) xs.1 × (length xs.0 ≡ n) × AllByRecursion f.Fits xs.0
@@ -246,15 +250,67 @@ times_again f h (x ∷ xs) place more fits =
     ap (λ (t : List ℕ). times_at f.at (suc (length xs)) (record { place = place; left = t })) regrouped
     ∙ rw (h.again x place (flat_map f.text xs ++ more) fits.0, times_again f h xs (place + length (f.text x)) more fits.1, end) refl
 
-pub many-lawful : {X : Type 0} (f : Form X) → IsLawful f → IsLawful (many f)
-many-lawful {X} f h = record {
-  takes = λ s xs fits e.
-      let a = bind_ok (number_at w32 s) (λ n. times_at f.at n.0 n.1) xs e in
-      let first = u32-lawful.takes s a.0 fits a.1 in
-      let second = times_takes f h a.0.0 a.0.1 xs first.0.bytes a.2 in
-      let counted : Took s (little w32 (length xs.0)) a.0.1 = subst (λ (n : ℕ). Took s (little w32 n) a.0.1) (sym second.1) first.0 in
-      (Took-then s (little w32 (length xs.0)) a.0.1 (flat_map f.text xs.0) xs.1 counted second.0, (omega (arith, first.1, second.1), second.2));
+pub times-lawful : {X : Type 0} (n : ℕ) (f : Form X) → IsLawful f → IsLawful (times n f)
+times-lawful n f h = record {
+  takes = λ s xs fits e. let t = times_takes f h n s xs fits e in (t.0, (t.1, t.2));
   again = λ xs place more fits.
-      let end : place + length (little w32 (length xs)) + length (flat_map f.text xs) ≡ place + length (little w32 (length xs) ++ flat_map f.text xs) = omega (arith, length-append (little w32 (length xs)) (flat_map f.text xs)) in
-      rw (append_assoc (little w32 (length xs)) (flat_map f.text xs) more, u32-lawful.again (length xs) place (flat_map f.text xs ++ more) fits.0, times_again f h xs (place + length (little w32 (length xs))) more fits.1, end) refl;
+      ap (λ (k : ℕ). times_at f.at k (record { place = place; left = flat_map f.text xs ++ more })) (sym fits.0) ∙ times_again f h xs place more fits.1;
+}
+
+passed_is : {A : Type 0} (good : A → Bool) (a x : A) → passed good a ≡ Some x → x ≡ a
+passed_is {A} good a x e = by_test (good a) a x e
+  where
+    by_test : {A : Type 0} (t : Bool) (a x : A) → cond t (Some a) None ≡ Some x → x ≡ a
+    by_test true a x e = cc
+    by_test false a x e = absurd cc
+
+pub judged-lawful : {A : Type 0} (good : A → Bool) (f : Form A) → IsLawful f → IsLawful (judged good f)
+judged-lawful good f h = checked-lawful (passed good) (λ a. a) f h (λ a x fits e. passed_is good a x e)
+
+pub with_count-lawful : {X : Type 0} (count : Form ℕ) (f : Form X) → IsLawful count → IsLawful f → IsLawful (with_count count f)
+with_count-lawful {X} count f hc hf =
+    seen-lawful (λ a. a.1) (λ xs. (length xs, xs)) (after count (λ n. times n f)) (after-lawful count (λ n. times n f) hc (λ n. times-lawful n f hf))
+    (λ a fits. ap (λ (n : ℕ). let counted : ℕ × List X = (n, a.1) in counted) fits.1.0) (λ xs fits. refl)
+
+pub many-lawful : {X : Type 0} (f : Form X) → IsLawful f → IsLawful (many f)
+many-lawful f h = with_count-lawful u32_form f u32-lawful h
+
+pub counted-lawful : {X : Type 0} (good : ℕ → Bool) (f : Form X) → IsLawful f → IsLawful (counted good f)
+counted-lawful good f h = with_count-lawful (judged good u32_form) f (judged-lawful good u32_form u32-lawful) h
+
+-- ---- lists whose form goes on from item to item
+
+chain_takes : {S X : Type 0} (f : S → Form X) (next : S → X → S) → ((b : S) → IsLawful (f b)) → (n : ℕ) (before : S) (s : Spot) (xs : List X × Spot) → IsBytes s.left
+    → chain_at (λ b. (f b).at) next n before s ≡ Ok xs → Took s (chain_text (λ b. (f b).text) next before xs.0) xs.1 × (length xs.0 ≡ n) × ChainFits (λ b. (f b).Fits) next before xs.0
+unfolding chain_at chain_text
+chain_takes {S} {X} f next h zero before s xs fits e =
+    subst (λ (y : List X × Spot). Took s (chain_text (λ b. (f b).text) next before y.0) y.1 × (length y.0 ≡ 0) × ChainFits (λ b. (f b).Fits) next before y.0) (ok_is ([], s) xs e)
+    (record { whole = refl; place = omega arith; bytes = fits }, refl, tt)
+chain_takes {S} {X} f next h (suc n) before s xs fits e =
+    let a = bind_ok ((f before).at s) (λ x. chain_at (λ b. (f b).at) next n (next before x.0) x.1 >>= λ ys. Ok (x.0 ∷ ys.0, ys.1)) xs e in
+    let b = bind_ok (chain_at (λ b. (f b).at) next n (next before a.0.0) a.0.1) (λ ys. Ok (a.0.0 ∷ ys.0, ys.1)) xs a.2 in
+    let first = (h before).takes s a.0 fits a.1 in
+    let second = chain_takes f next h n (next before a.0.0) a.0.1 b.0 first.0.bytes b.1 in
+    let both = Took-then s ((f before).text a.0.0) a.0.1 (chain_text (λ b. (f b).text) next (next before a.0.0) b.0.0) b.0.1 first.0 second.0 in
+    let made : List X × Spot = (a.0.0 ∷ b.0.0, b.0.1) in
+    subst (λ (y : List X × Spot). Took s (chain_text (λ b. (f b).text) next before y.0) y.1 × (length y.0 ≡ suc n) × ChainFits (λ b. (f b).Fits) next before y.0) (ok_is made xs b.2)
+    (both, ap suc second.1, (first.1, second.2))
+
+chain_again : {S X : Type 0} (f : S → Form X) (next : S → X → S) → ((b : S) → IsLawful (f b)) → (xs : List X) (before : S) (place : ℕ) (more : List ℕ) → ChainFits (λ b. (f b).Fits) next before xs
+    → chain_at (λ b. (f b).at) next (length xs) before (record { place = place; left = chain_text (λ b. (f b).text) next before xs ++ more })
+    ≡ Ok (xs, record { place = place + length (chain_text (λ b. (f b).text) next before xs); left = more })
+unfolding chain_at chain_text
+chain_again f next h [] before place more fits = let e : place ≡ place + 0 = omega arith in ap (λ (p : ℕ). done ([], record { place = p; left = more })) e
+chain_again f next h (x ∷ xs) before place more fits =
+    let text : List ℕ = (f before).text x in
+    let rest : List ℕ = chain_text (λ b. (f b).text) next (next before x) xs in
+    let end : place + length text + length rest ≡ place + length (text ++ rest) = omega (arith, length-append text rest) in
+    rw (append_assoc text rest more, (h before).again x place (rest ++ more) fits.0, chain_again f next h xs (next before x) (place + length text) more fits.1, end) refl
+
+pub chain-lawful : {S X : Type 0} (f : S → Form X) (next : S → X → S) → ((b : S) → IsLawful (f b)) → (before : S) (n : ℕ) → IsLawful (chain f next before n)
+chain-lawful f next h before n = record {
+  takes = λ s xs fits e. let t = chain_takes f next h n before s xs fits e in (t.0, (t.1, t.2));
+  again = λ xs place more fits.
+      ap (λ (k : ℕ). chain_at (λ b. (f b).at) next k before (record { place = place; left = chain_text (λ b. (f b).text) next before xs ++ more })) (sym fits.0)
+      ∙ chain_again f next h xs before place more fits.1;
 }
