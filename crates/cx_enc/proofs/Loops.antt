@@ -5,7 +5,7 @@ use Rattle.cx_enc.specs.declared.faults.ReadFault.{ReadFault}
 use Rattle.cx_enc.specs.declared.faults.ReadRefusal.{ReadRefusal}
 use Rattle.cx_enc.specs.declared.faults.ReadRefusal.TheVariants as refusals
 use Rattle.cx_enc.specs.Forms.{Spot, ◌>>=◌, times_at, chain_at}
-use Rattle.cx_enc.specs.Whole.{Takes}
+use Rattle.cx_enc.specs.Whole.{Gives, Takes}
 
 -- what was read before, and what is still read
 abbrev pub with_front : {X : Type 0} → List X → Result (List X × Spot) ReadFault → Result (List X × Spot) ReadFault
@@ -50,9 +50,9 @@ begins at count s = let k : count - 0 ≡ count = omega arith in rw k (all (time
     all (Err e) = refl
 
 -- one item is refused: that is the refusal of the list, read from its count
-pub refuses : {X : Type 0} (at : Spot → Result (X × Spot) ReadFault) (front : List X) (count i : ℕ) (s new old : Spot) (e : ReadRefusal) (total whole : Result (List X × Spot) ReadFault) → i < count → Takes s new (Err e) (at s)
+pub refuses : {X : Type 0} (at : Spot → Result (X × Spot) ReadFault) (front : List X) (count i : ℕ) (s new old : Spot) (e : ReadRefusal) (total whole : Result (List X × Spot) ReadFault) → i < count → Gives new (Err e) (at s)
     → with_front front (times_at at (count - i) s) ≡ total → whole ≡ total → Takes old old (Err e) whole
-refuses at front count i s new old (refusals.Fault fault) total whole lt refused so_far is = (is ∙ ends at front count i s fault total lt refused.0 so_far, refl)
+refuses at front count i s new old (refusals.Fault fault) total whole lt refused so_far is = (is ∙ ends at front count i s fault total lt refused so_far, refl)
 refuses at front count i s new old (refusals.LeftOver place) total whole lt refused so_far is = refused
 refuses at front count i s new old refusals.OutOfMemory total whole lt refused so_far is = refl
 
@@ -85,8 +85,8 @@ chain_is_done {S} {X} at next front count i before s total le so_far =
     sym so_far ∙ one
 
 pub chain_refuses : {S X : Type 0} (at : S → Spot → Result (X × Spot) ReadFault) (next : S → X → S) (front : List X) (count i : ℕ) (before : S) (s new old : Spot) (e : ReadRefusal) (total : Result (List X × Spot) ReadFault)
-    → i < count → Takes s new (Err e) (at before s) → with_front front (chain_at at next (count - i) before s) ≡ total → Takes old old (Err e) total
-chain_refuses at next front count i before s new old (refusals.Fault fault) total lt refused so_far = (chain_ends at next front count i before s fault total lt refused.0 so_far, refl)
+    → i < count → Gives new (Err e) (at before s) → with_front front (chain_at at next (count - i) before s) ≡ total → Takes old old (Err e) total
+chain_refuses at next front count i before s new old (refusals.Fault fault) total lt refused so_far = (chain_ends at next front count i before s fault total lt refused so_far, refl)
 chain_refuses at next front count i before s new old (refusals.LeftOver place) total lt refused so_far = refused
 chain_refuses at next front count i before s new old refusals.OutOfMemory total lt refused so_far = refl
 

@@ -113,15 +113,19 @@ bytes_field n = record {
 }
 
 pub kind_field : IsField kind_form (λ _. 4)
+unfolding kind_form
 kind_field = checked_field kind_of number_of u32_form (λ _. 4) u32_field
 
 pub flag_field : IsField flag_form (λ _. 1)
+unfolding flag_form
 flag_field = checked_field flag_of flag_number u8_form (λ _. 1) u8_field
 
 pub time_field : IsField time_form (λ _. 8)
+unfolding time_form
 time_field = checked_field moment_of moment_parts (field (pair u32_form u32_form)) (λ _. 8) (field_sized (pair u32_form u32_form) 8 (pair_sized u32_form u32_form 4 4 u32_sized u32_sized))
 
 pub key_field : IsField key_form (λ _. 28)
+unfolding key_form
 key_field =
     checked_field key_of key_parts (field (pair u16_form (pair u32_form (pair u32_form (pair u16_form (bytes_form 16)))))) (λ _. 28)
     (field_sized (pair u16_form (pair u32_form (pair u32_form (pair u16_form (bytes_form 16))))) 28
@@ -131,6 +135,7 @@ key_field =
     (pair_sized u16_form (bytes_form 16) 2 16 u16_sized (bytes_sized 16))))))
 
 pub addr_field : IsField addr_form (λ _. 15)
+unfolding addr_form
 addr_field =
     checked_field addr_of addr_parts (field (pair u8_form (pair u32_form (pair u32_form (pair (bytes_form 4) u16_form))))) (λ _. 15)
     (field_sized (pair u8_form (pair u32_form (pair u32_form (pair (bytes_form 4) u16_form)))) 15
@@ -205,6 +210,7 @@ numbered_there s le =
     (made, rw (number_there w32 s enough, good.1) refl)
 
 pub name_field : IsField name_form name_needs
+unfolding name_form
 name_field = checked_field name_of name_parts (field (pair u32_form blob_form)) name_needs (record {
   short = numbered_short;
   there = λ s e le bad. let good = numbered_there s le in absurd (no_fault ((field (pair u32_form blob_form)).at s) good.0 e good.1 bad);

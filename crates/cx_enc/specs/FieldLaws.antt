@@ -26,6 +26,7 @@ moment_back : (a : ℕ × ℕ) (x : Moment) → moment_of a ≡ Some x → momen
 moment_back a x e = let made = some_if (nat_lt a.1 1000000000) (record { secs = a.0; nanos = a.1 }) x e in ap moment_parts (sym made.1)
 
 pub time-lawful : IsLawful time_form
+unfolding time_form
 time-lawful = checked-lawful moment_of moment_parts (field (pair u32_form u32_form)) (field-lawful (pair u32_form u32_form) (pair-lawful u32_form u32_form u32-lawful u32-lawful)) (λ a x fits. moment_back a x)
 
 key_back : (a : ℕ × (ℕ × (ℕ × (ℕ × List ℕ)))) (x : Key) → key_of a ≡ Some x → key_parts x ≡ a
@@ -40,6 +41,7 @@ key_back a x e =
     ap key_parts (sym made.1) ∙ ap by_kind (sym kind) ∙ ap by_length (sym length)
 
 pub key-lawful : IsLawful key_form
+unfolding key_form
 key-lawful =
     checked-lawful key_of key_parts (field (pair u16_form (pair u32_form (pair u32_form (pair u16_form (bytes_form 16))))))
     (field-lawful (pair u16_form (pair u32_form (pair u32_form (pair u16_form (bytes_form 16)))))
@@ -53,6 +55,7 @@ moment_is : (s n : ℕ) (a b : ℕ) → a ≡ s → b ≡ n → let t : Moment =
 moment_is s n a b p q = cc
 
 reading_back : (t : Moment) → time_form.Fits t → moment_at (reading_of t) ≡ t
+unfolding time_form
 reading_back t fits =
     let below : t.nanos < 1000000000 = ltb-true t.nanos 1000000000 (some_if (nat_lt t.nanos 1000000000) (record { secs = t.secs; nanos = t.nanos }) t fits.1).0 in
     moment_is t.secs t.nanos (reading_of t / 1000000000) (reading_of t % 1000000000) (omega arith) (omega arith)
@@ -61,10 +64,12 @@ reading_again : (r : ℕ) → reading_of (moment_at r) ≡ r
 reading_again r = omega arith
 
 pub reading-lawful : IsLawful reading_form
+unfolding reading_form
 reading-lawful = seen-lawful reading_of moment_at time_form time-lawful reading_back (λ r _. reading_again r)
 
 -- the readings that are spelled: those below 4,294,967,296 s
 pub reading_fits : (r : ℕ) → r < 4294967296000000000 → reading_form.Fits r
+unfolding reading_form time_form
 reading_fits r lt = ((omega arith, omega arith), rw (lt-ltb (r % 1000000000) 1000000000 (omega arith)) refl)
 
 key_is : (key : Key) (s n : ℕ) → key.created.secs ≡ s → key.created.nanos ≡ n → let k : Key = record { created = record { secs = s; nanos = n }; secret = key.secret } in k ≡ key
@@ -79,12 +84,15 @@ secret_back key bytes e =
     ap secret_key (sym made.1) ∙ key_is key 0 0 (eqb-true key.created.secs 0 tests.0) (eqb-true key.created.nanos 0 tests.1)
 
 pub secret-lawful : IsLawful secret_form
+unfolding secret_form
 secret-lawful = checked-lawful secret_of secret_key key_form key-lawful (λ key bytes fits. secret_back key bytes)
 
 pub sized-lawful : (n : ℕ) → IsLawful (sized_form n)
+unfolding sized_form
 sized-lawful n = judged-lawful (λ bytes. length bytes == n) blob_form blob-lawful
 
 pub sized_fits : (n : ℕ) (bytes : List ℕ) → n < 2 ^ 32 → length bytes ≡ n → (sized_form n).Fits bytes
+unfolding sized_form
 sized_fits n bytes lt is = (omega arith, rw (eq-eqb (length bytes) n is) refl)
 
 ticket_back : (a : (ℕ × ℕ) × List ℕ) (x : TicketBlob) → ticket_of a ≡ Some x → ticket_parts x ≡ a
@@ -94,6 +102,7 @@ ticket_back a x e =
     ap ticket_parts (sym made.1) ∙ ap by_marker (sym (eqb-true a.0.0 1 made.0))
 
 pub ticket-lawful : IsLawful ticket_form
+unfolding ticket_form
 ticket-lawful =
     checked-lawful ticket_of ticket_parts (field (pair (pair u8_form u64_form) blob_form)) (field-lawful (pair (pair u8_form u64_form) blob_form)
     (pair-lawful (pair u8_form u64_form) blob_form (pair-lawful u8_form u64_form u8-lawful u64-lawful) blob-lawful)) (λ a x fits. ticket_back a x)
@@ -113,6 +122,7 @@ addr_back a x e =
     ap addr_parts (sym made.1) ∙ ap by_marker (sym marker) ∙ ap by_kind (sym kind)
 
 pub addr-lawful : IsLawful addr_form
+unfolding addr_form
 addr-lawful =
     checked-lawful addr_of addr_parts (field (pair u8_form (pair u32_form (pair u32_form (pair (bytes_form 4) u16_form)))))
     (field-lawful (pair u8_form (pair u32_form (pair u32_form (pair (bytes_form 4) u16_form))))
@@ -157,9 +167,11 @@ number_fits Mgr = omega arith
 number_fits Auth = omega arith
 
 pub kind_fits : (x : EntityType) → kind_form.Fits x
+unfolding kind_form
 kind_fits x = (number_fits x, kind_again x)
 
 pub kind-lawful : IsLawful kind_form
+unfolding kind_form
 kind-lawful = checked-lawful kind_of number_of u32_form u32-lawful (λ a x fits. kind_back a x)
 
 with_id_back : (id : List ℕ) (o : Option EntityType) (x : Name) → with_id id o ≡ Some x → (o ≡ Some x.kind) × (id ≡ x.id)
@@ -177,6 +189,7 @@ name_back a x e =
     ap by_number number ∙ ap by_id (sym parts.1)
 
 pub name-lawful : IsLawful name_form
+unfolding name_form
 name-lawful = checked-lawful name_of name_parts (field (pair u32_form blob_form)) (field-lawful (pair u32_form blob_form) (pair-lawful u32_form blob_form u32-lawful blob-lawful)) (λ a x fits. name_back a x)
 
 fixed_back : (n a : ℕ) (x : Unit {0}) → fixed_of n a ≡ Some x → n ≡ a
@@ -194,4 +207,5 @@ flag_back : (a : ℕ) (x : Bool) → flag_of a ≡ Some x → flag_number x ≡ 
 flag_back a x e = flag_by (a == 0) (a == 1) a x (eqb-true a 0) (eqb-true a 1) e
 
 pub flag-lawful : IsLawful flag_form
+unfolding flag_form
 flag-lawful = checked-lawful flag_of flag_number u8_form u8-lawful (λ a x fits. flag_back a x)

@@ -267,16 +267,19 @@ passed_is {A} good a x e = by_test (good a) a x e
 pub judged-lawful : {A : Type 0} (good : A → Bool) (f : Form A) → IsLawful f → IsLawful (judged good f)
 judged-lawful good f h = checked-lawful (passed good) (λ a. a) f h (λ a x fits e. passed_is good a x e)
 
-pub with_count-lawful : {X : Type 0} (count : Form ℕ) (f : Form X) → IsLawful count → IsLawful f → IsLawful (with_count count f)
-with_count-lawful {X} count f hc hf =
-    seen-lawful (λ a. a.1) (λ xs. (length xs, xs)) (after count (λ n. times n f)) (after-lawful count (λ n. times n f) hc (λ n. times-lawful n f hf))
-    (λ a fits. ap (λ (n : ℕ). let counted : ℕ × List X = (n, a.1) in counted) fits.1.0) (λ xs fits. refl)
+pub with_count-lawful : {X : Type 0} (count : Form ℕ) (list : ℕ → Form (List X)) → IsLawful count → ((n : ℕ) → IsLawful (list n)) → ((n : ℕ) (xs : List X) → (list n).Fits xs → length xs ≡ n) → IsLawful (with_count count list)
+with_count-lawful {X} count list hc hl counts =
+    seen-lawful (λ a. a.1) (λ xs. (length xs, xs)) (after count list) (after-lawful count list hc hl)
+    (λ a fits. ap (λ (n : ℕ). let counted : ℕ × List X = (n, a.1) in counted) (counts a.0 a.1 fits.1)) (λ xs fits. refl)
+
+pub list-lawful : {X : Type 0} (count : Form ℕ) (f : Form X) → IsLawful count → IsLawful f → IsLawful (with_count count (λ n. times n f))
+list-lawful count f hc hf = with_count-lawful count (λ n. times n f) hc (λ n. times-lawful n f hf) (λ n xs fits. fits.0)
 
 pub many-lawful : {X : Type 0} (f : Form X) → IsLawful f → IsLawful (many f)
-many-lawful f h = with_count-lawful u32_form f u32-lawful h
+many-lawful f h = list-lawful u32_form f u32-lawful h
 
 pub counted-lawful : {X : Type 0} (good : ℕ → Bool) (f : Form X) → IsLawful f → IsLawful (counted good f)
-counted-lawful good f h = with_count-lawful (judged good u32_form) f (judged-lawful good u32_form u32-lawful) h
+counted-lawful good f h = list-lawful (judged good u32_form) f (judged-lawful good u32_form u32-lawful) h
 
 -- ---- lists whose form goes on from item to item
 

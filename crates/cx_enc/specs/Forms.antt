@@ -126,15 +126,15 @@ passed good a = if good a then Some a else None
 abbrev pub judged : {A : Type 0} → (A → Bool) → Form A → Form A
 judged good f = checked (passed good) (λ a. a) f
 
--- a count, in a form of its own, and so many values of one form: what is wrong with the count is found before the values
-abbrev pub with_count : {X : Type 0} → Form ℕ → Form X → Form (List X)
-with_count count f = seen (λ a. a.1) (λ xs. (length xs, xs)) (after count (λ n. times n f))
+-- a count, in a form of its own, and the list that it counts: what is wrong with the count is found before the list
+abbrev pub with_count : {X : Type 0} → Form ℕ → (ℕ → Form (List X)) → Form (List X)
+with_count count list = seen (λ a. a.1) (λ xs. (length xs, xs)) (after count list)
 
 abbrev pub many : {X : Type 0} → Form X → Form (List X)
-many f = with_count u32_form f
+many f = with_count u32_form (λ n. times n f)
 
 abbrev pub counted : {X : Type 0} → (ℕ → Bool) → Form X → Form (List X)
-counted good f = with_count (judged good u32_form) f
+counted good f = with_count (judged good u32_form) (λ n. times n f)
 
 -- so many values, each by a form that depends on what stands before it: `next` says what stands before the following one
 unfoldable pub chain_at : {S X : Type 0} → (S → Spot → Result (X × Spot) ReadFault) → (S → X → S) → ℕ → S → Spot → Result (List X × Spot) ReadFault

@@ -6,9 +6,9 @@ use Rattle.cx_base.specs.Names.{Name}
 use Rattle.cx_enc.specs.Moments.{Moment}
 use Rattle.cx_enc.specs.declared.keys.Key.{Key}
 use Rattle.cx_enc.specs.declared.tickets.TicketBlob.{TicketBlob}
-use Rattle.cx_enc.specs.Forms.{Form, IsLawful, u8_form, u16_form, u32_form, u64_form, bytes_form, blob_form, pair, after, seen, checked, judged, field, times, with_count, many, counted, chain}
+use Rattle.cx_enc.specs.Forms.{Form, IsLawful, u8_form, u16_form, u32_form, u64_form, bytes_form, blob_form, pair, after, seen, checked, judged, field, times, with_count, many, chain}
 use Rattle.cx_enc.specs.Values.{time_form, reading_form, key_form, secret_form, sized_form, ticket_form, count_form, addr_form, kind_form, name_form, flag_form, fixed}
-use Rattle.cx_enc.specs.FormLaws.{u8-lawful, u16-lawful, u32-lawful, u64-lawful, bytes-lawful, blob-lawful, pair-lawful, after-lawful, seen-lawful, checked-lawful, judged-lawful, field-lawful, times-lawful, with_count-lawful, many-lawful, counted-lawful, chain-lawful}
+use Rattle.cx_enc.specs.FormLaws.{u8-lawful, u16-lawful, u32-lawful, u64-lawful, bytes-lawful, blob-lawful, pair-lawful, after-lawful, seen-lawful, checked-lawful, judged-lawful, field-lawful, times-lawful, with_count-lawful, list-lawful, many-lawful, chain-lawful}
 use Rattle.cx_enc.specs.FieldLaws.{time-lawful, reading-lawful, key-lawful, secret-lawful, sized-lawful, ticket-lawful, count-lawful, addr-lawful, kind-lawful, name-lawful, flag-lawful, fixed-lawful}
 
 -- a form, and that it is lawful
@@ -105,23 +105,31 @@ one_field f = record { form = field f.form; lawful = field-lawful f.form f.lawfu
 abbrev pub before : {A B : Type 0} → Layout A → (A → Layout B) → Layout (A × B)
 before f g = record { form = after f.form (λ a. (g a).form); lawful = after-lawful f.form (λ a. (g a).form) f.lawful (λ a. (g a).lawful) }
 
--- so many values; a count in a layout of its own and so many; a count of four bytes and so many; the same, with a count that
--- is judged before the values
+-- so many values
 abbrev pub so_many : {X : Type 0} → ℕ → Layout X → Layout (List X)
 so_many n f = record { form = times n f.form; lawful = times-lawful n f.form f.lawful }
 
-abbrev pub list_by : {X : Type 0} → Layout ℕ → Layout X → Layout (List X)
-list_by count f = record { form = with_count count.form f.form; lawful = with_count-lawful count.form f.form count.lawful f.lawful }
-
+-- a count of four bytes and so many values
 abbrev pub list_of : {X : Type 0} → Layout X → Layout (List X)
 list_of f = record { form = many f.form; lawful = many-lawful f.form f.lawful }
 
-abbrev pub counted_list : {X : Type 0} → (ℕ → Bool) → Layout X → Layout (List X)
-counted_list good f = record { form = counted good f.form; lawful = counted-lawful good f.form f.lawful }
+-- a count in a layout of its own and so many values
+abbrev pub list_by : {X : Type 0} → Layout ℕ → Layout X → Layout (List X)
+list_by count f = record {
+  form = with_count count.form (λ n. times n f.form);
+  lawful = list-lawful count.form f.form count.lawful f.lawful;
+}
 
 -- so many values, each by a layout that depends on what stands before it
 abbrev pub chained : {S X : Type 0} → (S → Layout X) → (S → X → S) → S → ℕ → Layout (List X)
 chained f next first n = record {
   form = chain (λ b. (f b).form) next first n;
   lawful = chain-lawful (λ b. (f b).form) next (λ b. (f b).lawful) first n;
+}
+
+-- a count in a layout of its own and so many such values
+abbrev pub chain_by : {S X : Type 0} → Layout ℕ → (S → Layout X) → (S → X → S) → S → Layout (List X)
+chain_by count f next first = record {
+  form = with_count count.form (λ n. chain (λ b. (f b).form) next first n);
+  lawful = with_count-lawful count.form (λ n. chain (λ b. (f b).form) next first n) count.lawful (λ n. chain-lawful (λ b. (f b).form) next (λ b. (f b).lawful) first n) (λ n xs fits. fits.0);
 }

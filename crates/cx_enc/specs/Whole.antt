@@ -5,18 +5,27 @@ use Rattle.cx_enc.specs.declared.faults.ReadRefusal.TheVariants as refusals
 use Rattle.cx_enc.specs.declared.faults.Misspelling.{Misspelling}
 use Rattle.cx_enc.specs.declared.faults.Misspelling.TheVariants as misspellings
 use Rattle.cx_enc.specs.declared.faults.ReadFault.{ReadFault}
-use Rattle.cx_enc.specs.Forms.{Spot, Form}
+use Rattle.cx_enc.specs.Forms.{Spot, ◌>>=◌, Form}
 
--- the answer is what the form reads: the value, and then the new spot is the one behind it; or the fault, and then the spot
--- is as before; want of memory is free and leaves the spot as before
-abbrev pub TakesAs : {X Y : Type 0} → (Y → X) → Spot → Spot → Result Y ReadRefusal → Result (X × Spot) ReadFault → Type 0
-TakesAs view old new (Ok y) read = read ≡ Ok (view y, new)
-TakesAs view old new (Err (refusals.Fault e)) read = (read ≡ Err e) × (new ≡ old)
-TakesAs view old new (Err (refusals.LeftOver place)) read = ⊥
-TakesAs view old new (Err refusals.OutOfMemory) read = new ≡ old
+-- the answer is what is read: the value, and then the new spot is the one behind it; or the fault; where the answer is a
+-- refusal, the new spot is free, and so is want of memory
+abbrev pub Gives : {X : Type 0} → Spot → Result X ReadRefusal → Result (X × Spot) ReadFault → Type 0
+Gives new (Ok x) read = read ≡ Ok (x, new)
+Gives new (Err (refusals.Fault e)) read = read ≡ Err e
+Gives new (Err (refusals.LeftOver place)) read = ⊥
+Gives new (Err refusals.OutOfMemory) read = Unit {0}
 
+-- the same of a reader that wants no memory
+abbrev pub GivesInPlace : {X : Type 0} → Spot → Result X ReadFault → Result (X × Spot) ReadFault → Type 0
+GivesInPlace new (Ok x) read = read ≡ Ok (x, new)
+GivesInPlace new (Err e) read = read ≡ Err e
+
+-- the same, where after a refusal the new spot is as before
 abbrev pub Takes : {X : Type 0} → Spot → Spot → Result X ReadRefusal → Result (X × Spot) ReadFault → Type 0
-Takes old new answer read = TakesAs (λ x. x) old new answer read
+Takes old new (Ok x) read = read ≡ Ok (x, new)
+Takes old new (Err (refusals.Fault e)) read = (read ≡ Err e) × (new ≡ old)
+Takes old new (Err (refusals.LeftOver place)) read = ⊥
+Takes old new (Err refusals.OutOfMemory) read = new ≡ old
 
 -- the beginning of some bytes
 abbrev pub start : List ℕ → Spot
@@ -53,11 +62,8 @@ Yields (Err e) x = e ≡ refusals.OutOfMemory
 
 -- ---- a reader that is wider than its writer: the form reads a whole, of which the value keeps a part
 
-abbrev pub TakesPart : {V X : Type 0} → (V → X) → Spot → Spot → Result X ReadRefusal → Result (V × Spot) ReadFault → Type 0
-TakesPart {V} kept old new (Ok x) read = (v : V) × (read ≡ Ok (v, new)) × (kept v ≡ x)
-TakesPart kept old new (Err (refusals.Fault e)) read = (read ≡ Err e) × (new ≡ old)
-TakesPart kept old new (Err (refusals.LeftOver place)) read = ⊥
-TakesPart kept old new (Err refusals.OutOfMemory) read = new ≡ old
+abbrev pub part_at : {V X : Type 0} → (V → X) → Form V → Spot → Result (X × Spot) ReadFault
+part_at kept whole s = whole.at s >>= λ a. Ok (kept a.0, a.1)
 
 -- all of the bytes spell a whole of which this is the part
 abbrev pub SpellsPart : {V X : Type 0} → Form V → (V → X) → List ℕ → X → Type 0

@@ -6,8 +6,9 @@ use crate::faults::ReadRefusal;
 use crate::keys::Key;
 use crate::lists::{put_many, take_many};
 use crate::puts::{
-    put_addr, put_blob, put_flag, put_key, put_kind, put_name, put_time, put_u8, put_u16, put_u32, put_u64,
+    put_addr, put_blob, put_flag, put_key, put_kind, put_name, put_ticket, put_time, put_u8, put_u16, put_u32, put_u64,
 };
+use crate::tickets::TicketBlob;
 use crate::times::Time;
 use cx_base::{Addr, Blob, EntityName, EntityType, Items};
 use std::alloc::{AllocError, Global};
@@ -17,12 +18,12 @@ impl Encoded for u8 {
 
     ghost layout = { u8_field };
 
-    fn take(_alloc: Global, cut: &mut Cut<'_>) -> Result<u8, ReadRefusal> {
+    fn read(_alloc: Global, cut: &mut Cut<'_>) -> Result<u8, ReadRefusal> {
         let value = cut.take_u8()?;
         Ok(value)
     }
 
-    fn put(&self, alloc: Global, into: &mut Blob) -> Result<(), AllocError> {
+    fn write(&self, alloc: Global, into: &mut Blob) -> Result<(), AllocError> {
         put_u8(alloc, into, *self)
     }
 }
@@ -32,12 +33,12 @@ impl Encoded for u16 {
 
     ghost layout = { u16_field };
 
-    fn take(_alloc: Global, cut: &mut Cut<'_>) -> Result<u16, ReadRefusal> {
+    fn read(_alloc: Global, cut: &mut Cut<'_>) -> Result<u16, ReadRefusal> {
         let value = cut.take_u16()?;
         Ok(value)
     }
 
-    fn put(&self, alloc: Global, into: &mut Blob) -> Result<(), AllocError> {
+    fn write(&self, alloc: Global, into: &mut Blob) -> Result<(), AllocError> {
         put_u16(alloc, into, *self)
     }
 }
@@ -47,12 +48,12 @@ impl Encoded for u32 {
 
     ghost layout = { u32_field };
 
-    fn take(_alloc: Global, cut: &mut Cut<'_>) -> Result<u32, ReadRefusal> {
+    fn read(_alloc: Global, cut: &mut Cut<'_>) -> Result<u32, ReadRefusal> {
         let value = cut.take_u32()?;
         Ok(value)
     }
 
-    fn put(&self, alloc: Global, into: &mut Blob) -> Result<(), AllocError> {
+    fn write(&self, alloc: Global, into: &mut Blob) -> Result<(), AllocError> {
         put_u32(alloc, into, *self)
     }
 }
@@ -62,12 +63,12 @@ impl Encoded for u64 {
 
     ghost layout = { u64_field };
 
-    fn take(_alloc: Global, cut: &mut Cut<'_>) -> Result<u64, ReadRefusal> {
+    fn read(_alloc: Global, cut: &mut Cut<'_>) -> Result<u64, ReadRefusal> {
         let value = cut.take_u64()?;
         Ok(value)
     }
 
-    fn put(&self, alloc: Global, into: &mut Blob) -> Result<(), AllocError> {
+    fn write(&self, alloc: Global, into: &mut Blob) -> Result<(), AllocError> {
         put_u64(alloc, into, *self)
     }
 }
@@ -77,12 +78,12 @@ impl Encoded for bool {
 
     ghost layout = { flag_field };
 
-    fn take(_alloc: Global, cut: &mut Cut<'_>) -> Result<bool, ReadRefusal> {
+    fn read(_alloc: Global, cut: &mut Cut<'_>) -> Result<bool, ReadRefusal> {
         let value = cut.take_flag()?;
         Ok(value)
     }
 
-    fn put(&self, alloc: Global, into: &mut Blob) -> Result<(), AllocError> {
+    fn write(&self, alloc: Global, into: &mut Blob) -> Result<(), AllocError> {
         put_flag(alloc, into, *self)
     }
 }
@@ -92,12 +93,12 @@ impl Encoded for Time {
 
     ghost layout = { time_field };
 
-    fn take(_alloc: Global, cut: &mut Cut<'_>) -> Result<Time, ReadRefusal> {
+    fn read(_alloc: Global, cut: &mut Cut<'_>) -> Result<Time, ReadRefusal> {
         let value = cut.take_time()?;
         Ok(value)
     }
 
-    fn put(&self, alloc: Global, into: &mut Blob) -> Result<(), AllocError> {
+    fn write(&self, alloc: Global, into: &mut Blob) -> Result<(), AllocError> {
         put_time(alloc, into, self)
     }
 }
@@ -107,12 +108,12 @@ impl Encoded for Key {
 
     ghost layout = { key_field };
 
-    fn take(_alloc: Global, cut: &mut Cut<'_>) -> Result<Key, ReadRefusal> {
+    fn read(_alloc: Global, cut: &mut Cut<'_>) -> Result<Key, ReadRefusal> {
         let value = cut.take_key()?;
         Ok(value)
     }
 
-    fn put(&self, alloc: Global, into: &mut Blob) -> Result<(), AllocError> {
+    fn write(&self, alloc: Global, into: &mut Blob) -> Result<(), AllocError> {
         put_key(alloc, into, self)
     }
 }
@@ -122,12 +123,12 @@ impl Encoded for Addr {
 
     ghost layout = { addr_field };
 
-    fn take(_alloc: Global, cut: &mut Cut<'_>) -> Result<Addr, ReadRefusal> {
+    fn read(_alloc: Global, cut: &mut Cut<'_>) -> Result<Addr, ReadRefusal> {
         let value = cut.take_addr()?;
         Ok(value)
     }
 
-    fn put(&self, alloc: Global, into: &mut Blob) -> Result<(), AllocError> {
+    fn write(&self, alloc: Global, into: &mut Blob) -> Result<(), AllocError> {
         put_addr(alloc, into, self)
     }
 }
@@ -137,12 +138,12 @@ impl Encoded for EntityType {
 
     ghost layout = { kind_field };
 
-    fn take(_alloc: Global, cut: &mut Cut<'_>) -> Result<EntityType, ReadRefusal> {
+    fn read(_alloc: Global, cut: &mut Cut<'_>) -> Result<EntityType, ReadRefusal> {
         let value = cut.take_kind()?;
         Ok(value)
     }
 
-    fn put(&self, alloc: Global, into: &mut Blob) -> Result<(), AllocError> {
+    fn write(&self, alloc: Global, into: &mut Blob) -> Result<(), AllocError> {
         put_kind(alloc, into, *self)
     }
 }
@@ -152,12 +153,12 @@ impl<const N: usize> Encoded for [u8; N] {
 
     ghost layout = { bytes_field N };
 
-    fn take(_alloc: Global, cut: &mut Cut<'_>) -> Result<[u8; N], ReadRefusal> {
+    fn read(_alloc: Global, cut: &mut Cut<'_>) -> Result<[u8; N], ReadRefusal> {
         let value = cut.take_array::<N>()?;
         Ok(value)
     }
 
-    fn put(&self, alloc: Global, into: &mut Blob) -> Result<(), AllocError> {
+    fn write(&self, alloc: Global, into: &mut Blob) -> Result<(), AllocError> {
         into.append(alloc, self)
     }
 }
@@ -167,15 +168,13 @@ impl Encoded for EntityName {
 
     ghost layout = { name_field };
 
-    fn take(alloc: Global, cut: &mut Cut<'_>) -> Result<EntityName, ReadRefusal> {
-        let mut at = *cut;
-        let read = at.take_name()?;
-        let name = read.own(alloc)?;
-        *cut = at;
-        Ok(name)
+    fn read(alloc: Global, cut: &mut Cut<'_>) -> Result<EntityName, ReadRefusal> {
+        let name = cut.take_name()?;
+        let owned = name.own(alloc)?;
+        Ok(owned)
     }
 
-    fn put(&self, alloc: Global, into: &mut Blob) -> Result<(), AllocError> {
+    fn write(&self, alloc: Global, into: &mut Blob) -> Result<(), AllocError> {
         put_name(alloc, into, self)
     }
 }
@@ -188,16 +187,33 @@ impl Encoded for Blob {
 
     ghost Bound = { λ bytes. length bytes < 2 ^ 32 };
 
-    fn take(alloc: Global, cut: &mut Cut<'_>) -> Result<Blob, ReadRefusal> {
-        let mut at = *cut;
-        let read = at.take_blob()?;
-        let blob = Blob::of(alloc, read)?;
-        *cut = at;
+    fn read(alloc: Global, cut: &mut Cut<'_>) -> Result<Blob, ReadRefusal> {
+        let bytes = cut.take_blob()?;
+        let blob = Blob::of(alloc, bytes)?;
         Ok(blob)
     }
 
-    fn put(&self, alloc: Global, into: &mut Blob) -> Result<(), AllocError> {
+    fn write(&self, alloc: Global, into: &mut Blob) -> Result<(), AllocError> {
         put_blob(alloc, into, self.bytes())
+    }
+}
+
+impl Encoded for TicketBlob {
+    ghost use Rattle.std.specs.Prelude.{length, ◌<◌, ◌^◌};
+    ghost use Rattle.cx_enc.specs.Layouts.{ticket_field};
+
+    ghost layout = { ticket_field };
+
+    ghost Bound = { λ ticket. length ticket.blob < 2 ^ 32 };
+
+    fn read(alloc: Global, cut: &mut Cut<'_>) -> Result<TicketBlob, ReadRefusal> {
+        let ticket = cut.take_ticket()?;
+        let owned = ticket.own(alloc)?;
+        Ok(owned)
+    }
+
+    fn write(&self, alloc: Global, into: &mut Blob) -> Result<(), AllocError> {
+        put_ticket(alloc, into, self)
     }
 }
 
@@ -209,11 +225,11 @@ impl<T: Encoded> Encoded for Items<T> {
 
     ghost Bound = { λ items. (length items < 2 ^ 32) × All T.Bound items };
 
-    fn take(alloc: Global, cut: &mut Cut<'_>) -> Result<Items<T>, ReadRefusal> {
+    fn read(alloc: Global, cut: &mut Cut<'_>) -> Result<Items<T>, ReadRefusal> {
         take_many(alloc, cut)
     }
 
-    fn put(&self, alloc: Global, into: &mut Blob) -> Result<(), AllocError> {
+    fn write(&self, alloc: Global, into: &mut Blob) -> Result<(), AllocError> {
         put_many(alloc, into, self)
     }
 }

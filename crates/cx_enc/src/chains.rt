@@ -4,7 +4,7 @@ ghost use Rattle.std.specs.Prelude.{◌≡◌, ◌++◌, OnOk, OnErr};
 ghost use Rattle.cx_enc.specs.Forms.{chain, chain_text, ChainFits};
 ghost use Rattle.cx_enc.specs.Layouts.{Layout};
 ghost use Rattle.cx_enc.specs.Reading.{spot};
-ghost use Rattle.cx_enc.specs.Whole.{Takes};
+ghost use Rattle.cx_enc.specs.Whole.{Gives, Takes};
 
 use crate::cut::Cut;
 use crate::faults::ReadRefusal;
@@ -22,16 +22,15 @@ pub trait Chained<S: Copy>: Sized + Drop {
     // what a writer's caller shows of the value behind what stands before it
     ghost Bound: { S → Self → Type 0 } = { λ _ _. Unit {0} };
 
-    /// Takes a value from the front, behind what stands before it. After a refusal the cut stands as before.
-    fn take_behind(alloc: Global, before: S, cut: &mut Cut<'_>) -> Result<Self, ReadRefusal>
-        ensures { Takes (spot cut.old) (spot cut.new) result ((layout before).form.at (spot cut.old)) };
+    /// Reads a value from the front, behind what stands before it. After a refusal the cut may stand behind any of the fields.
+    fn read_behind(alloc: Global, before: S, cut: &mut Cut<'_>) -> Result<Self, ReadRefusal>
+        ensures { Gives (spot cut.new) result ((layout before).form.at (spot cut.old)) };
 
-    /// Writes the value behind some bytes. Where memory is wanting, the bytes stay as they were.
-    fn put_behind(&self, alloc: Global, before: S, into: &mut Blob) -> Result<(), AllocError>
+    /// Writes the value behind some bytes. Where memory is wanting, some fields may stand there.
+    fn write_behind(&self, alloc: Global, before: S, into: &mut Blob) -> Result<(), AllocError>
         requires { Bound before self.now }
         ensures ok { OnOk result (into.new ≡ into.old ++ (layout before).form.text self.now) }
-        ensures fits { OnOk result ((layout before).form.Fits self.now) }
-        ensures err { OnErr result (into.new ≡ into.old) };
+        ensures fits { OnOk result ((layout before).form.Fits self.now) };
 
     /// What stands before the following value.
     fn next(&self, before: S) -> S
@@ -51,7 +50,7 @@ pub fn take_chain<S: Copy, T: Chained<S>>(
     let mut before = first;
     let mut items = Items::new(alloc);
     for _ in 0..count {
-        let item = T::take_behind(alloc, before, &mut at)?;
+        let item = T::read_behind(alloc, before, &mut at)?;
         before = item.next(before);
         items.push(alloc, item)?;
     }
@@ -74,7 +73,7 @@ pub fn put_chain<S: Copy, T: Chained<S>>(
     let mut spelled = Blob::new(alloc);
     let mut before = first;
     for item in items.all() {
-        item.put_behind(alloc, before, &mut spelled)?;
+        item.write_behind(alloc, before, &mut spelled)?;
         before = item.next(before);
     }
     into.append(alloc, spelled.bytes())

@@ -17,6 +17,7 @@ use cx_base::{Addr, EntityType, Reading, is_id};
 
 impl<'a> Cut<'a> {
     /// Seconds and nanoseconds, eight bytes.
+    #[tactic(auto, unfolding(crate::specs::Values::time_form))]
     pub fn take_time(&mut self) -> Result<Time, ReadFault>
         ensures { Reads (spot self.old) (spot self.new) result (time_form.at (spot self.old)) }
     {
@@ -31,6 +32,7 @@ impl<'a> Cut<'a> {
     }
 
     /// The reading of a time, in nanoseconds, eight bytes.
+    #[tactic(auto, unfolding(crate::specs::Values::reading_form))]
     pub fn take_reading(&mut self) -> Result<Reading, ReadFault>
         ensures { Reads (spot self.old) (spot self.new) result (reading_form.at (spot self.old)) }
     {
@@ -39,6 +41,7 @@ impl<'a> Cut<'a> {
     }
 
     /// A key: type 1, the time of its making, length 16 and 16 bytes, 28 bytes in all.
+    #[tactic(auto, unfolding(crate::specs::Values::key_form))]
     pub fn take_key(&mut self) -> Result<Key, ReadFault>
         ensures { Reads (spot self.old) (spot self.new) result (key_form.at (spot self.old)) }
     {
@@ -59,6 +62,7 @@ impl<'a> Cut<'a> {
     }
 
     /// The 16 bytes of a key that was made at the time 0, 28 bytes in all. A key of another time is a bad field.
+    #[tactic(auto, unfolding(crate::specs::Values::secret_form))]
     pub fn take_secret(&mut self) -> Result<[u8; 16], ReadFault>
         ensures { Reads (spot self.old) (spot self.new) result (secret_form.at (spot self.old)) }
     {
@@ -72,6 +76,7 @@ impl<'a> Cut<'a> {
     }
 
     /// The blob of a ticket: a byte 1, the generation's id and a blob, as one field.
+    #[tactic(auto, unfolding(crate::specs::Values::ticket_form))]
     pub fn take_ticket(&mut self) -> Result<TicketRef<'a>, ReadFault>
         ensures { ReadsAs ticket_seen (spot self.old) (spot self.new) result (ticket_form.at (spot self.old)) }
     {
@@ -100,6 +105,7 @@ impl<'a> Cut<'a> {
     }
 
     /// An address: a byte 1, type 2, the nonce, four bytes of the IPv4 address and the port, 15 bytes in all.
+    #[tactic(auto, unfolding(crate::specs::Values::addr_form))]
     pub fn take_addr(&mut self) -> Result<Addr, ReadFault>
         ensures { Reads (spot self.old) (spot self.new) result (addr_form.at (spot self.old)) }
     {
@@ -117,6 +123,7 @@ impl<'a> Cut<'a> {
     }
 
     /// The number of an entity type, four bytes.
+    #[tactic(auto, unfolding(crate::specs::Values::kind_form))]
     pub fn take_kind(&mut self) -> Result<EntityType, ReadFault>
         ensures { Reads (spot self.old) (spot self.new) result (kind_form.at (spot self.old)) }
     {
@@ -130,6 +137,7 @@ impl<'a> Cut<'a> {
     }
 
     /// The number of an entity type and the id of an entity of that type.
+    #[tactic(auto, unfolding(crate::specs::Values::name_form))]
     pub fn take_name(&mut self) -> Result<NameRef<'a>, ReadFault>
         ensures { ReadsAs name_seen (spot self.old) (spot self.new) result (name_form.at (spot self.old)) }
     {
@@ -186,6 +194,7 @@ impl<'a> Cut<'a> {
     }
 
     /// A flag, one byte 0 or 1.
+    #[tactic(auto, unfolding(crate::specs::Values::flag_form))]
     pub fn take_flag(&mut self) -> Result<bool, ReadFault>
         ensures { Reads (spot self.old) (spot self.new) result (flag_form.at (spot self.old)) }
     {

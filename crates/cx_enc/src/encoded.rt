@@ -3,7 +3,7 @@
 ghost use Rattle.std.specs.Prelude.{◌≡◌, ◌++◌, OnOk, OnErr, IfOk, IfErr};
 ghost use Rattle.cx_enc.specs.Layouts.{Layout};
 ghost use Rattle.cx_enc.specs.Reading.{spot};
-ghost use Rattle.cx_enc.specs.Whole.{Takes, Spells, Yields, IsRefusedBy, IsReadAgain};
+ghost use Rattle.cx_enc.specs.Whole.{Gives, Takes, Spells, Yields, IsRefusedBy, IsReadAgain};
 
 use crate::cut::Cut;
 use crate::faults::ReadRefusal;
@@ -17,17 +17,38 @@ pub trait Encoded: Sized + Drop {
     // what a writer's caller shows of the value, as that a length fits its number
     ghost Bound: { Self → Type 0 } = { λ _. Unit {0} };
 
-    /// Takes a value from the front. After a refusal the cut stands as before.
-    fn take(alloc: Global, cut: &mut Cut<'_>) -> Result<Self, ReadRefusal>
-        ensures { Takes (spot cut.old) (spot cut.new) result (layout.form.at (spot cut.old)) };
+    /// Reads a value from the front, field by field. After a refusal the cut may stand behind any of the fields.
+    fn read(alloc: Global, cut: &mut Cut<'_>) -> Result<Self, ReadRefusal>
+        ensures { Gives (spot cut.new) result (layout.form.at (spot cut.old)) };
 
-    /// Writes the value behind some bytes. Where memory is wanting, the bytes stay as they were.
-    fn put(&self, alloc: Global, into: &mut Blob) -> Result<(), AllocError>
+    /// Writes the value behind some bytes, field by field. Where memory is wanting, some fields may stand there.
+    fn write(&self, alloc: Global, into: &mut Blob) -> Result<(), AllocError>
         requires { Bound self.now }
         ensures ok { OnOk result (into.new ≡ into.old ++ layout.form.text self.now) }
         // A value that was written is one that the form fits, so by the form's law its spelling is read again.
+        ensures fits { OnOk result (layout.form.Fits self.now) };
+
+    /// Takes a value from the front. After a refusal the cut stands as before.
+    final fn take(alloc: Global, cut: &mut Cut<'_>) -> Result<Self, ReadRefusal>
+        ensures { Takes (spot cut.old) (spot cut.new) result (layout.form.at (spot cut.old)) }
+    {
+        let mut at = *cut;
+        let value = Self::read(alloc, &mut at)?;
+        *cut = at;
+        Ok(value)
+    }
+
+    /// Puts the value behind some bytes. Where memory is wanting, the bytes stay as they were.
+    final fn put(&self, alloc: Global, into: &mut Blob) -> Result<(), AllocError>
+        requires { Bound self.now }
+        ensures ok { OnOk result (into.new ≡ into.old ++ layout.form.text self.now) }
         ensures fits { OnOk result (layout.form.Fits self.now) }
-        ensures err { OnErr result (into.new ≡ into.old) };
+        ensures err { OnErr result (into.new ≡ into.old) }
+    {
+        let mut spelled = Blob::new(alloc);
+        self.write(alloc, &mut spelled)?;
+        into.append(alloc, spelled.bytes())
+    }
 }
 
 /// The value that all of these bytes spell.
@@ -40,7 +61,7 @@ pub fn read_whole<T: Encoded>(alloc: Global, bytes: &[u8]) -> Result<T, ReadRefu
     ensures refused { IfErr result (IsRefusedBy T.layout.form bytes.now) }
 {
     let mut cut = Cut::new(bytes);
-    let value = T::take(alloc, &mut cut)?;
+    let value = T::read(alloc, &mut cut)?;
     if cut.left() > 0 {
         return Err(ReadRefusal::LeftOver(cut.place()));
     }
@@ -57,6 +78,6 @@ pub fn write_whole<T: Encoded>(alloc: Global, value: &T) -> Result<Blob, AllocEr
     ensures again { IfOk result (λ bytes. IsReadAgain T.layout.form bytes value.now) }
 {
     let mut bytes = Blob::new(alloc);
-    value.put(alloc, &mut bytes)?;
+    value.write(alloc, &mut bytes)?;
     Ok(bytes)
 }

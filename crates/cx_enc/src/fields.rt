@@ -112,6 +112,7 @@ impl<'a> Cut<'a> {
     }
 
     /// A blob of `N` bytes. One of another length is a bad field.
+    #[tactic(auto, unfolding(crate::specs::Values::sized_form))]
     pub fn take_sized<const N: usize>(&mut self) -> Result<[u8; N], ReadFault>
         ensures { Reads (spot self.old) (spot self.new) result ((sized_form N).at (spot self.old)) }
     {

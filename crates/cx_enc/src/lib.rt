@@ -28,12 +28,12 @@ pub use composed::kind_of;
 pub use cut::Cut;
 pub use encoded::{Encoded, read_whole, write_whole};
 pub use faults::{Misspelling, ReadFault, ReadRefusal};
-pub use in_place::{EncodedInPlace, pass_items, read_in_place};
+pub use in_place::{EncodedInPlace, pass_items, read_whole_in_place};
 pub use keys::Key;
 pub use laws::{encoding_laws, fault_laws};
 pub use lists::{put_items, put_many, take_items, take_many};
 pub use names::NameRef;
-pub use parts::{ReadsPart, read_part};
+pub use parts::{ReadsPart, read_whole_part};
 pub use puts::{
     number_of, put_addr, put_blob, put_flag, put_key, put_kind, put_name, put_reading, put_secret,
     put_sized, put_ticket, put_time, put_u8, put_u16, put_u32, put_u64,

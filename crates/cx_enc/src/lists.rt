@@ -24,7 +24,7 @@ pub fn take_items<T: Encoded>(
     let mut at = *cut;
     let mut items = Items::new(alloc);
     for _ in 0..count {
-        let item = T::take(alloc, &mut at)?;
+        let item = T::read(alloc, &mut at)?;
         items.push(alloc, item)?;
     }
     *cut = at;
@@ -55,7 +55,7 @@ pub fn put_items<T: Encoded>(
 {
     let mut spelled = Blob::new(alloc);
     for item in items.all() {
-        item.put(alloc, &mut spelled)?;
+        item.write(alloc, &mut spelled)?;
     }
     into.append(alloc, spelled.bytes())
 }

@@ -3,7 +3,7 @@
 ghost use Rattle.std.specs.Prelude.{◌≡◌, IfOk, IfErr};
 ghost use Rattle.cx_enc.specs.Layouts.{Layout};
 ghost use Rattle.cx_enc.specs.Reading.{spot};
-ghost use Rattle.cx_enc.specs.Whole.{TakesPart, SpellsPart, Spells, Yields, IsRefusedBy};
+ghost use Rattle.cx_enc.specs.Whole.{Gives, part_at, SpellsPart, Spells, Yields, IsRefusedBy};
 
 use crate::cut::Cut;
 use crate::faults::ReadRefusal;
@@ -18,13 +18,13 @@ pub trait ReadsPart: Sized + Drop {
     // the part of the whole that is kept
     ghost kept: { Whole → Self };
 
-    /// Takes a value from the front. After a refusal the cut stands as before.
-    fn take_part(alloc: Global, cut: &mut Cut<'_>) -> Result<Self, ReadRefusal>
-        ensures { TakesPart kept (spot cut.old) (spot cut.new) result (whole.form.at (spot cut.old)) };
+    /// Reads a value from the front, field by field. After a refusal the cut may stand behind any of the fields.
+    fn read_part(alloc: Global, cut: &mut Cut<'_>) -> Result<Self, ReadRefusal>
+        ensures { Gives (spot cut.new) result (part_at kept whole.form (spot cut.old)) };
 }
 
 /// The part of what all of these bytes spell.
-pub fn read_part<T: ReadsPart>(alloc: Global, bytes: &[u8]) -> Result<T, ReadRefusal>
+pub fn read_whole_part<T: ReadsPart>(alloc: Global, bytes: &[u8]) -> Result<T, ReadRefusal>
     // What is read is a part of what is spelled.
     ensures found { IfOk result (SpellsPart T.whole.form T.kept bytes.now) }
     // Of what is spelled the part is read, unless memory is wanting.
@@ -33,7 +33,7 @@ pub fn read_part<T: ReadsPart>(alloc: Global, bytes: &[u8]) -> Result<T, ReadRef
     ensures refused { IfErr result (IsRefusedBy T.whole.form bytes.now) }
 {
     let mut cut = Cut::new(bytes);
-    let value = T::take_part(alloc, &mut cut)?;
+    let value = T::read_part(alloc, &mut cut)?;
     if cut.left() > 0 {
         return Err(ReadRefusal::LeftOver(cut.place()));
     }

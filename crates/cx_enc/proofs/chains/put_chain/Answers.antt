@@ -5,8 +5,8 @@ use Rattle.cx_enc.specs.Forms.{chain_text, ChainFits}
 use Rattle.cx_enc.proofs.Behind.{text_goes_on, text_is_done, fits_next, fits_front, fits_done}
 use Rattle.cx_enc.proofs.chains.put_chain.Goals as goal
 
-pub put_behind-requires : goal.put_behind-requires
-put_behind-requires g c =
+pub write_behind-requires : goal.write_behind-requires
+write_behind-requires g c =
     let items = c.args.items.now in
     let item = c.item-item.result in
     let is : get_or items c.loop-item.item-index item ≡ item = cc in
@@ -24,9 +24,9 @@ loop-item-preserved g c =
     let is : get_or items i item ≡ item = cc in
     let lt : i < length items = omega (arith, ap length c.all-item-items.ensures) in
     record {
-      spelled = rw (c.in_ok-put_behind.ensures.ok, c.next-before.ensures) (sym (text_goes_on text next before items i item c.loop-item.spelled lt is) ∙ c.loop-item.invariant.spelled);
+      spelled = rw (c.in_ok-write_behind.ensures.ok, c.next-before.ensures) (sym (text_goes_on text next before items i item c.loop-item.spelled lt is) ∙ c.loop-item.invariant.spelled);
       bound = rw c.next-before.ensures ((fits_next g.T.Chained.Bound next before items i item lt is c.loop-item.invariant.bound).1);
-      fits = rw c.next-before.ensures (λ rest. c.loop-item.invariant.fits (fits_front fits next before items i item lt is c.in_ok-put_behind.ensures.fits rest));
+      fits = rw c.next-before.ensures (λ rest. c.loop-item.invariant.fits (fits_front fits next before items i item lt is c.in_ok-write_behind.ensures.fits rest));
     }
 
 pub returns-clause-ok : goal.returns-clause-ok

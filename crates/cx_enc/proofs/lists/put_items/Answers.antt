@@ -15,7 +15,7 @@ loop-item-preserved g c =
     let is : item ≡ get_or items i item = cc in
     record {
       spelled = grind (arith, common_steps);
-      fits = All-more fits items i item (omega (arith, ap length c.all-item-items.ensures)) c.loop-item.invariant.fits (subst fits is c.in_ok-put.ensures.fits);
+      fits = All-more fits items i item (omega (arith, ap length c.all-item-items.ensures)) c.loop-item.invariant.fits (subst fits is c.in_ok-write.ensures.fits);
     }
 
 pub returns-clause-fits : goal.returns-clause-fits

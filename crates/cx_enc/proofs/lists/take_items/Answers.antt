@@ -10,12 +10,12 @@ pub returns-in_err-item : goal.returns-in_err-item
 returns-in_err-item g c =
     let p = err_from_is_err_and c.from_residual.result c.from_residual.ensures.1 in
     rw (p.1, p.2)
-    (refuses g.T.Encoded.layout.form.at c.loop.items c.args.count c.loop.counter (spot c.loop.at) (spot c.take.new.cut) (spot c.args.cut.now) c.in_err-item.field-0.0 (times_at g.T.Encoded.layout.form.at c.args.count (spot c.args.cut.now)) _ c.loop-test.true c.in_err-item.ensures c.loop.invariant refl)
+    (refuses g.T.Encoded.layout.form.at c.loop.items c.args.count c.loop.counter (spot c.loop.at) (spot c.read.new.cut) (spot c.args.cut.now) c.in_err-item.field-0.0 (times_at g.T.Encoded.layout.form.at c.args.count (spot c.args.cut.now)) _ c.loop-test.true c.in_err-item.ensures c.loop.invariant refl)
 
 pub loop-preserved : goal.loop-preserved
 loop-preserved g c =
     rw c.in_ok-push.ensures.ok
-    (goes_on g.T.Encoded.layout.form.at c.loop.items c.args.count c.loop.counter (spot c.loop.at) c.in_ok-item.item (spot c.take.new.cut) (times_at g.T.Encoded.layout.form.at c.args.count (spot c.args.cut.now)) c.loop-test.true c.in_ok-item.ensures c.loop.invariant)
+    (goes_on g.T.Encoded.layout.form.at c.loop.items c.args.count c.loop.counter (spot c.loop.at) c.in_ok-item.item (spot c.read.new.cut) (times_at g.T.Encoded.layout.form.at c.args.count (spot c.args.cut.now)) c.loop-test.true c.in_ok-item.ensures c.loop.invariant)
 
 pub returns : goal.returns
 returns g c =
