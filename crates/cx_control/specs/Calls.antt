@@ -43,3 +43,10 @@ pub record IsPartReadBy {V X : Type 0} (form : Form V) (kept : V → X) (bytes :
   pub found : IfOk result (SpellsPart form kept bytes)
   pub only : (v : V) → Spells form bytes v → Yields result (kept v)
   pub refused : IfErr result (IsRefusedFor form bytes)
+
+-- a writer of such a value: it appends the spelling of a whole of which the value is the part that is kept
+pub record IsWholePutBy {V X : Type 0} (form : Form V) (kept : V → X) (whole : V) (x : X) (old new : List ℕ) (result : Result (Unit {0}) AllocError) : Type 0 where
+  pub ok : OnOk result (new ≡ old ++ form.text whole)
+  pub spells : OnOk result (SpellsPart form kept (form.text whole) x)
+  pub again : OnOk result (IsReadAgain form (form.text whole) whole)
+  pub err : OnErr result (new ≡ old)

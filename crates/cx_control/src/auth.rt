@@ -27,26 +27,20 @@ impl Encoded for AuthRequest {
 
     ghost Bound = { λ a. (length a.modes ≤ 16) × (length a.payload < 2 ^ 32) };
 
-    fn take(alloc: Global, cut: &mut Cut<'_>) -> Result<AuthRequest, ReadRefusal> {
-        let mut at = *cut;
-        let method = at.take_u32()?;
-        let count = at.take_count(0, 16)?;
-        let modes = take_items(alloc, &mut at, count)?;
-        let payload = Blob::take(alloc, &mut at)?;
-        *cut = at;
+    fn read(alloc: Global, cut: &mut Cut<'_>) -> Result<AuthRequest, ReadRefusal> {
+        let method = cut.take_u32()?;
+        let count = cut.take_count(0, 16)?;
         Ok(AuthRequest {
             method,
-            modes,
-            payload,
+            modes: take_items(alloc, cut, count)?,
+            payload: Blob::of(alloc, cut.take_blob()?)?,
         })
     }
 
-    fn put(&self, alloc: Global, into: &mut Blob) -> Result<(), AllocError> {
-        let mut spelled = Blob::new(alloc);
-        put_u32(alloc, &mut spelled, self.method)?;
-        put_many(alloc, &mut spelled, &self.modes)?;
-        put_blob(alloc, &mut spelled, self.payload.bytes())?;
-        into.append(alloc, spelled.bytes())
+    fn write(&self, alloc: Global, into: &mut Blob) -> Result<(), AllocError> {
+        put_u32(alloc, into, self.method)?;
+        put_many(alloc, into, &self.modes)?;
+        put_blob(alloc, into, self.payload.bytes())
     }
 }
 
@@ -84,12 +78,13 @@ impl Encoded for AuthReplyMore {
 
     ghost Bound = { λ a. length a.payload < 2 ^ 32 };
 
-    fn take(alloc: Global, cut: &mut Cut<'_>) -> Result<AuthReplyMore, ReadRefusal> {
-        let payload = Blob::take(alloc, cut)?;
-        Ok(AuthReplyMore { payload })
+    fn read(alloc: Global, cut: &mut Cut<'_>) -> Result<AuthReplyMore, ReadRefusal> {
+        Ok(AuthReplyMore {
+            payload: Blob::of(alloc, cut.take_blob()?)?,
+        })
     }
 
-    fn put(&self, alloc: Global, into: &mut Blob) -> Result<(), AllocError> {
+    fn write(&self, alloc: Global, into: &mut Blob) -> Result<(), AllocError> {
         put_blob(alloc, into, self.payload.bytes())
     }
 }
@@ -127,12 +122,13 @@ impl Encoded for AuthRequestMore {
 
     ghost Bound = { λ a. length a.payload < 2 ^ 32 };
 
-    fn take(alloc: Global, cut: &mut Cut<'_>) -> Result<AuthRequestMore, ReadRefusal> {
-        let payload = Blob::take(alloc, cut)?;
-        Ok(AuthRequestMore { payload })
+    fn read(alloc: Global, cut: &mut Cut<'_>) -> Result<AuthRequestMore, ReadRefusal> {
+        Ok(AuthRequestMore {
+            payload: Blob::of(alloc, cut.take_blob()?)?,
+        })
     }
 
-    fn put(&self, alloc: Global, into: &mut Blob) -> Result<(), AllocError> {
+    fn write(&self, alloc: Global, into: &mut Blob) -> Result<(), AllocError> {
         put_blob(alloc, into, self.payload.bytes())
     }
 }
@@ -172,21 +168,18 @@ impl Encoded for AuthDone {
 
     ghost Bound = { λ a. length a.payload < 2 ^ 32 };
 
-    fn take(alloc: Global, cut: &mut Cut<'_>) -> Result<AuthDone, ReadRefusal> {
-        let mut at = *cut;
-        let gid = at.take_u64()?;
-        let mode = at.take_u32()?;
-        let payload = Blob::take(alloc, &mut at)?;
-        *cut = at;
-        Ok(AuthDone { gid, mode, payload })
+    fn read(alloc: Global, cut: &mut Cut<'_>) -> Result<AuthDone, ReadRefusal> {
+        Ok(AuthDone {
+            gid: cut.take_u64()?,
+            mode: cut.take_u32()?,
+            payload: Blob::of(alloc, cut.take_blob()?)?,
+        })
     }
 
-    fn put(&self, alloc: Global, into: &mut Blob) -> Result<(), AllocError> {
-        let mut spelled = Blob::new(alloc);
-        put_u64(alloc, &mut spelled, self.gid)?;
-        put_u32(alloc, &mut spelled, self.mode)?;
-        put_blob(alloc, &mut spelled, self.payload.bytes())?;
-        into.append(alloc, spelled.bytes())
+    fn write(&self, alloc: Global, into: &mut Blob) -> Result<(), AllocError> {
+        put_u64(alloc, into, self.gid)?;
+        put_u32(alloc, into, self.mode)?;
+        put_blob(alloc, into, self.payload.bytes())
     }
 }
 
@@ -216,12 +209,13 @@ impl Encoded for AuthSignature {
 
     ghost layout = { auth_signature_layout };
 
-    fn take(_alloc: Global, cut: &mut Cut<'_>) -> Result<AuthSignature, ReadRefusal> {
-        let signature = cut.take_array()?;
-        Ok(AuthSignature { signature })
+    fn read(_alloc: Global, cut: &mut Cut<'_>) -> Result<AuthSignature, ReadRefusal> {
+        Ok(AuthSignature {
+            signature: cut.take_array()?,
+        })
     }
 
-    fn put(&self, alloc: Global, into: &mut Blob) -> Result<(), AllocError> {
+    fn write(&self, alloc: Global, into: &mut Blob) -> Result<(), AllocError> {
         into.append(alloc, &self.signature)
     }
 }

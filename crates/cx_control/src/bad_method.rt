@@ -1,10 +1,10 @@
 //! The refusal of an authentication.
 
 ghost use Rattle.std.specs.Prelude.{◌≡◌};
-ghost use Rattle.cx_control.specs.Calls.{IsPartReadBy, IsPutBy};
+ghost use Rattle.cx_control.specs.Calls.{IsPartReadBy, IsWholePutBy};
 ghost use Rattle.cx_control.specs.BadMethod.{bad_method_layout, kept_method, written_method, negated};
 
-use crate::payloads::read_payload_part;
+use crate::payloads::{WritesWhole, put_payload_whole, read_payload_part};
 use crate::refusals::WireRefusal;
 use cx_base::Blob;
 use cx_enc::{Cut, ReadRefusal, ReadsPart, pass_items, put_u32};
@@ -28,19 +28,37 @@ impl ReadsPart for AuthBadMethod {
 
     ghost kept = { kept_method };
 
-    fn take_part(_alloc: Global, cut: &mut Cut<'_>) -> Result<AuthBadMethod, ReadRefusal> {
-        let mut at = *cut;
-        let method = at.take_u32()?;
-        let written = at.take_u32()?;
-        let methods = at.take_count(0, 16)?;
-        pass_items::<u32>(&mut at, methods)?;
-        let modes = at.take_count(0, 16)?;
-        pass_items::<u32>(&mut at, modes)?;
-        *cut = at;
-        Ok(AuthBadMethod {
-            method,
-            result: negated(written),
-        })
+    fn read_part(_alloc: Global, cut: &mut Cut<'_>) -> Result<AuthBadMethod, ReadRefusal> {
+        let method = cut.take_u32()?;
+        let result = negated(cut.take_u32()?);
+        let methods = cut.take_count(0, 16)?;
+        pass_items::<u32>(cut, methods)?;
+        let modes = cut.take_count(0, 16)?;
+        pass_items::<u32>(cut, modes)?;
+        Ok(AuthBadMethod { method, result })
+    }
+}
+
+impl WritesWhole for AuthBadMethod {
+    ghost use Rattle.std.specs.Prelude.{ℕ, List};
+    ghost use Rattle.cx_control.specs.BadMethod.{bad_method_layout, kept_method, written_method};
+
+    ghost Written = { ℕ × (ℕ × (List ℕ × List ℕ)) };
+
+    ghost whole = { bad_method_layout };
+
+    ghost written = { written_method };
+
+    ghost kept = { kept_method };
+
+    fn write_whole(&self, alloc: Global, into: &mut Blob) -> Result<(), AllocError> {
+        put_u32(alloc, into, self.method)?;
+        put_u32(alloc, into, negated(self.result))?;
+        put_u32(alloc, into, 1)?;
+        put_u32(alloc, into, 2)?;
+        put_u32(alloc, into, 1)?;
+        put_u32(alloc, into, 2)?;
+        Ok(())
     }
 }
 
@@ -57,17 +75,9 @@ pub fn put_auth_bad_method(
     into: &mut Blob,
     value: &AuthBadMethod,
 ) -> Result<(), AllocError>
-    ensures written { IsPutBy bad_method_layout.form (written_method value.now) into.old into.new result }
-    ensures kept { kept_method (written_method value.now) ≡ value.now }
+    ensures { IsWholePutBy bad_method_layout.form kept_method (written_method value.now) value.now into.old into.new result }
 {
-    let mut spelled = Blob::new(alloc);
-    put_u32(alloc, &mut spelled, value.method)?;
-    put_u32(alloc, &mut spelled, negated(value.result))?;
-    put_u32(alloc, &mut spelled, 1)?;
-    put_u32(alloc, &mut spelled, 2)?;
-    put_u32(alloc, &mut spelled, 1)?;
-    put_u32(alloc, &mut spelled, 2)?;
-    into.append(alloc, spelled.bytes())
+    put_payload_whole(alloc, into, value)
 }
 
 // 2^32 minus a number, modulo 2^32.

@@ -22,19 +22,16 @@ impl Encoded for Hello {
 
     ghost layout = { hello_layout };
 
-    fn take(_alloc: Global, cut: &mut Cut<'_>) -> Result<Hello, ReadRefusal> {
-        let mut at = *cut;
-        let kind = take_kind_byte(&mut at)?;
-        let addr = at.take_addr()?;
-        *cut = at;
-        Ok(Hello { kind, addr })
+    fn read(_alloc: Global, cut: &mut Cut<'_>) -> Result<Hello, ReadRefusal> {
+        Ok(Hello {
+            kind: take_kind_byte(cut)?,
+            addr: cut.take_addr()?,
+        })
     }
 
-    fn put(&self, alloc: Global, into: &mut Blob) -> Result<(), AllocError> {
-        let mut spelled = Blob::new(alloc);
-        put_kind_byte(alloc, &mut spelled, self.kind)?;
-        put_addr(alloc, &mut spelled, &self.addr)?;
-        into.append(alloc, spelled.bytes())
+    fn write(&self, alloc: Global, into: &mut Blob) -> Result<(), AllocError> {
+        put_kind_byte(alloc, into, self.kind)?;
+        put_addr(alloc, into, &self.addr)
     }
 }
 

@@ -30,42 +30,31 @@ impl Encoded for ClientIdent {
 
     ghost layout = { client_ident_layout };
 
-    fn take(_alloc: Global, cut: &mut Cut<'_>) -> Result<ClientIdent, ReadRefusal> {
-        let mut at = *cut;
-        at.take_fixed_u32(1)?;
-        let addr = at.take_addr()?;
-        let target = at.take_addr()?;
-        let gid = at.take_u64()?;
-        let global_seq = at.take_u64()?;
-        let supported = at.take_u64()?;
-        let required = at.take_u64()?;
-        let flags = at.take_u64()?;
-        let cookie = at.take_u64()?;
-        *cut = at;
+    fn read(_alloc: Global, cut: &mut Cut<'_>) -> Result<ClientIdent, ReadRefusal> {
+        cut.take_fixed_u32(1)?;
         Ok(ClientIdent {
-            addr,
-            target,
-            gid,
-            global_seq,
-            supported,
-            required,
-            flags,
-            cookie,
+            addr: cut.take_addr()?,
+            target: cut.take_addr()?,
+            gid: cut.take_u64()?,
+            global_seq: cut.take_u64()?,
+            supported: cut.take_u64()?,
+            required: cut.take_u64()?,
+            flags: cut.take_u64()?,
+            cookie: cut.take_u64()?,
         })
     }
 
-    fn put(&self, alloc: Global, into: &mut Blob) -> Result<(), AllocError> {
-        let mut spelled = Blob::new(alloc);
-        put_u32(alloc, &mut spelled, 1)?;
-        put_addr(alloc, &mut spelled, &self.addr)?;
-        put_addr(alloc, &mut spelled, &self.target)?;
-        put_u64(alloc, &mut spelled, self.gid)?;
-        put_u64(alloc, &mut spelled, self.global_seq)?;
-        put_u64(alloc, &mut spelled, self.supported)?;
-        put_u64(alloc, &mut spelled, self.required)?;
-        put_u64(alloc, &mut spelled, self.flags)?;
-        put_u64(alloc, &mut spelled, self.cookie)?;
-        into.append(alloc, spelled.bytes())
+    fn write(&self, alloc: Global, into: &mut Blob) -> Result<(), AllocError> {
+        put_u32(alloc, into, 1)?;
+        put_addr(alloc, into, &self.addr)?;
+        put_addr(alloc, into, &self.target)?;
+        put_u64(alloc, into, self.gid)?;
+        put_u64(alloc, into, self.global_seq)?;
+        put_u64(alloc, into, self.supported)?;
+        put_u64(alloc, into, self.required)?;
+        put_u64(alloc, into, self.flags)?;
+        put_u64(alloc, into, self.cookie)?;
+        Ok(())
     }
 }
 
@@ -106,39 +95,29 @@ impl Encoded for ServerIdent {
 
     ghost layout = { server_ident_layout };
 
-    fn take(_alloc: Global, cut: &mut Cut<'_>) -> Result<ServerIdent, ReadRefusal> {
-        let mut at = *cut;
-        at.take_fixed_u32(1)?;
-        let addr = at.take_addr()?;
-        let gid = at.take_u64()?;
-        let global_seq = at.take_u64()?;
-        let supported = at.take_u64()?;
-        let required = at.take_u64()?;
-        let flags = at.take_u64()?;
-        let cookie = at.take_u64()?;
-        *cut = at;
+    fn read(_alloc: Global, cut: &mut Cut<'_>) -> Result<ServerIdent, ReadRefusal> {
+        cut.take_fixed_u32(1)?;
         Ok(ServerIdent {
-            addr,
-            gid,
-            global_seq,
-            supported,
-            required,
-            flags,
-            cookie,
+            addr: cut.take_addr()?,
+            gid: cut.take_u64()?,
+            global_seq: cut.take_u64()?,
+            supported: cut.take_u64()?,
+            required: cut.take_u64()?,
+            flags: cut.take_u64()?,
+            cookie: cut.take_u64()?,
         })
     }
 
-    fn put(&self, alloc: Global, into: &mut Blob) -> Result<(), AllocError> {
-        let mut spelled = Blob::new(alloc);
-        put_u32(alloc, &mut spelled, 1)?;
-        put_addr(alloc, &mut spelled, &self.addr)?;
-        put_u64(alloc, &mut spelled, self.gid)?;
-        put_u64(alloc, &mut spelled, self.global_seq)?;
-        put_u64(alloc, &mut spelled, self.supported)?;
-        put_u64(alloc, &mut spelled, self.required)?;
-        put_u64(alloc, &mut spelled, self.flags)?;
-        put_u64(alloc, &mut spelled, self.cookie)?;
-        into.append(alloc, spelled.bytes())
+    fn write(&self, alloc: Global, into: &mut Blob) -> Result<(), AllocError> {
+        put_u32(alloc, into, 1)?;
+        put_addr(alloc, into, &self.addr)?;
+        put_u64(alloc, into, self.gid)?;
+        put_u64(alloc, into, self.global_seq)?;
+        put_u64(alloc, into, self.supported)?;
+        put_u64(alloc, into, self.required)?;
+        put_u64(alloc, into, self.flags)?;
+        put_u64(alloc, into, self.cookie)?;
+        Ok(())
     }
 }
 
@@ -171,12 +150,13 @@ impl Encoded for IdentMissingFeatures {
 
     ghost layout = { ident_missing_features_layout };
 
-    fn take(_alloc: Global, cut: &mut Cut<'_>) -> Result<IdentMissingFeatures, ReadRefusal> {
-        let features = cut.take_u64()?;
-        Ok(IdentMissingFeatures { features })
+    fn read(_alloc: Global, cut: &mut Cut<'_>) -> Result<IdentMissingFeatures, ReadRefusal> {
+        Ok(IdentMissingFeatures {
+            features: cut.take_u64()?,
+        })
     }
 
-    fn put(&self, alloc: Global, into: &mut Blob) -> Result<(), AllocError> {
+    fn write(&self, alloc: Global, into: &mut Blob) -> Result<(), AllocError> {
         put_u64(alloc, into, self.features)
     }
 }

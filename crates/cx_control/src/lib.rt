@@ -23,7 +23,7 @@ pub use idents::{
     ClientIdent, IdentMissingFeatures, ServerIdent, put_client_ident, put_ident_missing_features,
     put_server_ident, read_client_ident, read_ident_missing_features, read_server_ident,
 };
-pub use payloads::{put_payload, read_payload, read_payload_part};
+pub use payloads::{WritesWhole, put_payload, put_payload_whole, read_payload, read_payload_part};
 pub use reconnects::{
     SessionReconnect, SessionReconnectOk, SessionReset, SessionRetry, SessionRetryGlobal,
     put_session_reconnect, put_session_reconnect_ok, put_session_reset, put_session_retry,

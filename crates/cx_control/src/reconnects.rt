@@ -26,36 +26,27 @@ impl Encoded for SessionReconnect {
 
     ghost layout = { session_reconnect_layout };
 
-    fn take(_alloc: Global, cut: &mut Cut<'_>) -> Result<SessionReconnect, ReadRefusal> {
-        let mut at = *cut;
-        at.take_fixed_u32(1)?;
-        let addr = at.take_addr()?;
-        let client_cookie = at.take_u64()?;
-        let server_cookie = at.take_u64()?;
-        let global_seq = at.take_u64()?;
-        let connect_seq = at.take_u64()?;
-        let msg_seq = at.take_u64()?;
-        *cut = at;
+    fn read(_alloc: Global, cut: &mut Cut<'_>) -> Result<SessionReconnect, ReadRefusal> {
+        cut.take_fixed_u32(1)?;
         Ok(SessionReconnect {
-            addr,
-            client_cookie,
-            server_cookie,
-            global_seq,
-            connect_seq,
-            msg_seq,
+            addr: cut.take_addr()?,
+            client_cookie: cut.take_u64()?,
+            server_cookie: cut.take_u64()?,
+            global_seq: cut.take_u64()?,
+            connect_seq: cut.take_u64()?,
+            msg_seq: cut.take_u64()?,
         })
     }
 
-    fn put(&self, alloc: Global, into: &mut Blob) -> Result<(), AllocError> {
-        let mut spelled = Blob::new(alloc);
-        put_u32(alloc, &mut spelled, 1)?;
-        put_addr(alloc, &mut spelled, &self.addr)?;
-        put_u64(alloc, &mut spelled, self.client_cookie)?;
-        put_u64(alloc, &mut spelled, self.server_cookie)?;
-        put_u64(alloc, &mut spelled, self.global_seq)?;
-        put_u64(alloc, &mut spelled, self.connect_seq)?;
-        put_u64(alloc, &mut spelled, self.msg_seq)?;
-        into.append(alloc, spelled.bytes())
+    fn write(&self, alloc: Global, into: &mut Blob) -> Result<(), AllocError> {
+        put_u32(alloc, into, 1)?;
+        put_addr(alloc, into, &self.addr)?;
+        put_u64(alloc, into, self.client_cookie)?;
+        put_u64(alloc, into, self.server_cookie)?;
+        put_u64(alloc, into, self.global_seq)?;
+        put_u64(alloc, into, self.connect_seq)?;
+        put_u64(alloc, into, self.msg_seq)?;
+        Ok(())
     }
 }
 
@@ -88,12 +79,13 @@ impl Encoded for SessionReset {
 
     ghost layout = { session_reset_layout };
 
-    fn take(_alloc: Global, cut: &mut Cut<'_>) -> Result<SessionReset, ReadRefusal> {
-        let full = cut.take_flag()?;
-        Ok(SessionReset { full })
+    fn read(_alloc: Global, cut: &mut Cut<'_>) -> Result<SessionReset, ReadRefusal> {
+        Ok(SessionReset {
+            full: cut.take_flag()?,
+        })
     }
 
-    fn put(&self, alloc: Global, into: &mut Blob) -> Result<(), AllocError> {
+    fn write(&self, alloc: Global, into: &mut Blob) -> Result<(), AllocError> {
         put_flag(alloc, into, self.full)
     }
 }
@@ -127,12 +119,13 @@ impl Encoded for SessionRetry {
 
     ghost layout = { session_retry_layout };
 
-    fn take(_alloc: Global, cut: &mut Cut<'_>) -> Result<SessionRetry, ReadRefusal> {
-        let connect_seq = cut.take_u64()?;
-        Ok(SessionRetry { connect_seq })
+    fn read(_alloc: Global, cut: &mut Cut<'_>) -> Result<SessionRetry, ReadRefusal> {
+        Ok(SessionRetry {
+            connect_seq: cut.take_u64()?,
+        })
     }
 
-    fn put(&self, alloc: Global, into: &mut Blob) -> Result<(), AllocError> {
+    fn write(&self, alloc: Global, into: &mut Blob) -> Result<(), AllocError> {
         put_u64(alloc, into, self.connect_seq)
     }
 }
@@ -166,12 +159,13 @@ impl Encoded for SessionRetryGlobal {
 
     ghost layout = { session_retry_global_layout };
 
-    fn take(_alloc: Global, cut: &mut Cut<'_>) -> Result<SessionRetryGlobal, ReadRefusal> {
-        let global_seq = cut.take_u64()?;
-        Ok(SessionRetryGlobal { global_seq })
+    fn read(_alloc: Global, cut: &mut Cut<'_>) -> Result<SessionRetryGlobal, ReadRefusal> {
+        Ok(SessionRetryGlobal {
+            global_seq: cut.take_u64()?,
+        })
     }
 
-    fn put(&self, alloc: Global, into: &mut Blob) -> Result<(), AllocError> {
+    fn write(&self, alloc: Global, into: &mut Blob) -> Result<(), AllocError> {
         put_u64(alloc, into, self.global_seq)
     }
 }
@@ -208,12 +202,13 @@ impl Encoded for SessionReconnectOk {
 
     ghost layout = { session_reconnect_ok_layout };
 
-    fn take(_alloc: Global, cut: &mut Cut<'_>) -> Result<SessionReconnectOk, ReadRefusal> {
-        let seq = cut.take_u64()?;
-        Ok(SessionReconnectOk { seq })
+    fn read(_alloc: Global, cut: &mut Cut<'_>) -> Result<SessionReconnectOk, ReadRefusal> {
+        Ok(SessionReconnectOk {
+            seq: cut.take_u64()?,
+        })
     }
 
-    fn put(&self, alloc: Global, into: &mut Blob) -> Result<(), AllocError> {
+    fn write(&self, alloc: Global, into: &mut Blob) -> Result<(), AllocError> {
         put_u64(alloc, into, self.seq)
     }
 }

@@ -19,11 +19,11 @@ impl Encoded for Wait {
 
     ghost layout = { wait_layout };
 
-    fn take(_alloc: Global, _cut: &mut Cut<'_>) -> Result<Wait, ReadRefusal> {
+    fn read(_alloc: Global, _cut: &mut Cut<'_>) -> Result<Wait, ReadRefusal> {
         Ok(Wait)
     }
 
-    fn put(&self, alloc: Global, into: &mut Blob) -> Result<(), AllocError> {
+    fn write(&self, alloc: Global, into: &mut Blob) -> Result<(), AllocError> {
         into.append(alloc, &[])
     }
 }
@@ -56,12 +56,13 @@ impl Encoded for Keepalive2 {
 
     ghost Bound = { λ k. IsReading k.time };
 
-    fn take(_alloc: Global, cut: &mut Cut<'_>) -> Result<Keepalive2, ReadRefusal> {
-        let time = cut.take_reading()?;
-        Ok(Keepalive2 { time })
+    fn read(_alloc: Global, cut: &mut Cut<'_>) -> Result<Keepalive2, ReadRefusal> {
+        Ok(Keepalive2 {
+            time: cut.take_reading()?,
+        })
     }
 
-    fn put(&self, alloc: Global, into: &mut Blob) -> Result<(), AllocError> {
+    fn write(&self, alloc: Global, into: &mut Blob) -> Result<(), AllocError> {
         put_reading(alloc, into, self.time)
     }
 }
@@ -95,12 +96,13 @@ impl Encoded for Keepalive2Ack {
 
     ghost Bound = { λ k. IsReading k.time };
 
-    fn take(_alloc: Global, cut: &mut Cut<'_>) -> Result<Keepalive2Ack, ReadRefusal> {
-        let time = cut.take_reading()?;
-        Ok(Keepalive2Ack { time })
+    fn read(_alloc: Global, cut: &mut Cut<'_>) -> Result<Keepalive2Ack, ReadRefusal> {
+        Ok(Keepalive2Ack {
+            time: cut.take_reading()?,
+        })
     }
 
-    fn put(&self, alloc: Global, into: &mut Blob) -> Result<(), AllocError> {
+    fn write(&self, alloc: Global, into: &mut Blob) -> Result<(), AllocError> {
         put_reading(alloc, into, self.time)
     }
 }
@@ -135,12 +137,13 @@ impl Encoded for Ack {
 
     ghost layout = { ack_layout };
 
-    fn take(_alloc: Global, cut: &mut Cut<'_>) -> Result<Ack, ReadRefusal> {
-        let seq = cut.take_u64()?;
-        Ok(Ack { seq })
+    fn read(_alloc: Global, cut: &mut Cut<'_>) -> Result<Ack, ReadRefusal> {
+        Ok(Ack {
+            seq: cut.take_u64()?,
+        })
     }
 
-    fn put(&self, alloc: Global, into: &mut Blob) -> Result<(), AllocError> {
+    fn write(&self, alloc: Global, into: &mut Blob) -> Result<(), AllocError> {
         put_u64(alloc, into, self.seq)
     }
 }
