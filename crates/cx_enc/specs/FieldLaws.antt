@@ -72,6 +72,10 @@ pub reading_fits : (r : ℕ) → r < 4294967296000000000 → reading_form.Fits r
 unfolding reading_form time_form
 reading_fits r lt = ((omega arith, omega arith), rw (lt-ltb (r % 1000000000) 1000000000 (omega arith)) refl)
 
+pub reading_is : (r : ℕ) → reading_form.Fits r → r < 4294967296000000000
+unfolding reading_form time_form
+reading_is r fits = let seconds : r / 1000000000 < 2 ^ 32 = fits.0.0 in omega arith
+
 key_is : (key : Key) (s n : ℕ) → key.created.secs ≡ s → key.created.nanos ≡ n → let k : Key = record { created = record { secs = s; nanos = n }; secret = key.secret } in k ≡ key
 key_is key s n p q =
     let by : ℕ → ℕ → Key = λ a b. record { created = record { secs = a; nanos = b }; secret = key.secret } in

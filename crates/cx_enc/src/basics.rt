@@ -6,7 +6,8 @@ use crate::faults::ReadRefusal;
 use crate::keys::Key;
 use crate::lists::{put_many, take_many};
 use crate::puts::{
-    put_addr, put_blob, put_flag, put_key, put_kind, put_name, put_ticket, put_time, put_u8, put_u16, put_u32, put_u64,
+    put_addr, put_blob, put_flag, put_key, put_kind, put_name, put_ticket, put_time, put_u8,
+    put_u16, put_u32, put_u64,
 };
 use crate::tickets::TicketBlob;
 use crate::times::Time;

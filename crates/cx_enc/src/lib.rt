@@ -40,3 +40,18 @@ pub use puts::{
 };
 pub use tickets::{TicketBlob, TicketRef};
 pub use times::Time;
+
+// Each public type may be sent to another thread and shared with one.
+fn is_sendable<T: Send + Sync>() {}
+
+fn all_are_sendable() {
+    is_sendable::<Cut<'static>>();
+    is_sendable::<ReadFault>();
+    is_sendable::<ReadRefusal>();
+    is_sendable::<Misspelling>();
+    is_sendable::<Time>();
+    is_sendable::<Key>();
+    is_sendable::<NameRef<'static>>();
+    is_sendable::<TicketRef<'static>>();
+    is_sendable::<TicketBlob>();
+}

@@ -135,11 +135,7 @@ impl Chained<u64> for Rung {
 
     ghost Bound = { λ last r. last < r.id };
 
-    fn read_behind(
-        _alloc: Global,
-        before: u64,
-        cut: &mut Cut<'_>,
-    ) -> Result<Rung, ReadRefusal> {
+    fn read_behind(_alloc: Global, before: u64, cut: &mut Cut<'_>) -> Result<Rung, ReadRefusal> {
         let place = cut.place();
         let id = cut.take_u64()?;
         if id <= before {
@@ -249,8 +245,16 @@ impl Encoded for Notice {
 
     ghost layout = { seen_as (constant 9 u8_field ⊳ kind_field ⊗ u64_field ⊗ reading_field ⊗ secret_field ⊗ name_field ⊗ flag_field ⊗ ticket_field ⊗ sized_field 64 ⊗ addr_field ⊗ blob_field)
         (λ (service, (gid, (created, (session, (owner, (urgent, (ticket, (proof, (addr, text))))))))). record {
-          service = service; gid = gid; created = created; session = session; owner = owner; urgent = urgent;
-          ticket = ticket; proof = proof; addr = addr; text = text;
+          service = service;
+          gid = gid;
+          created = created;
+          session = session;
+          owner = owner;
+          urgent = urgent;
+          ticket = ticket;
+          proof = proof;
+          addr = addr;
+          text = text;
         })
         (λ n. (n.service, (n.gid, (n.created, (n.session, (n.owner, (n.urgent, (n.ticket, (n.proof, (n.addr, n.text))))))))))
         (λ _ _. refl)
