@@ -9,6 +9,8 @@ mod kind_bytes;
 mod payloads;
 mod reconnects;
 mod refusals;
+#[cfg(test)]
+mod tests;
 mod upkeep;
 
 pub use auth::{
@@ -35,3 +37,29 @@ pub use upkeep::{
     Ack, Keepalive2, Keepalive2Ack, Wait, put_ack, put_keepalive2, put_keepalive2_ack, put_wait,
     read_ack, read_keepalive2, read_keepalive2_ack, read_wait,
 };
+
+// Each public type may be sent to another thread and shared with one.
+fn is_sendable<T: Send + Sync>() {}
+
+fn all_are_sendable() {
+    is_sendable::<Hello>();
+    is_sendable::<AuthRequest>();
+    is_sendable::<AuthBadMethod>();
+    is_sendable::<AuthReplyMore>();
+    is_sendable::<AuthRequestMore>();
+    is_sendable::<AuthDone>();
+    is_sendable::<AuthSignature>();
+    is_sendable::<ClientIdent>();
+    is_sendable::<ServerIdent>();
+    is_sendable::<IdentMissingFeatures>();
+    is_sendable::<SessionReconnect>();
+    is_sendable::<SessionReset>();
+    is_sendable::<SessionRetry>();
+    is_sendable::<SessionRetryGlobal>();
+    is_sendable::<SessionReconnectOk>();
+    is_sendable::<Wait>();
+    is_sendable::<Keepalive2>();
+    is_sendable::<Keepalive2Ack>();
+    is_sendable::<Ack>();
+    is_sendable::<WireRefusal>();
+}
