@@ -3,6 +3,7 @@
 
 mod auth;
 mod bad_method;
+mod copies;
 mod hello;
 mod idents;
 mod kind_bytes;

@@ -11,10 +11,10 @@ static HELLO: [u8; 16] = [
     0x04, 0x01, 0x02, 0x00, 0x00, 0x00, 0x00, 0x00, 0x00, 0x00, 0x00, 0x00, 0x00, 0x00, 0x00, 0x00,
 ];
 
-static AUTH_REQUEST: [u8; 34] = [
-    0x02, 0x00, 0x00, 0x00, 0x01, 0x00, 0x00, 0x00, 0x02, 0x00, 0x00, 0x00, 0x12, 0x00, 0x00, 0x00,
-    0x0a, 0x04, 0x00, 0x00, 0x00, 0x01, 0x00, 0x00, 0x00, 0x30, 0x00, 0x00, 0x00, 0x00, 0x00, 0x00,
-    0x00, 0x00,
+static AUTH_REQUEST: [u8; 38] = [
+    0x02, 0x00, 0x00, 0x00, 0x02, 0x00, 0x00, 0x00, 0x01, 0x00, 0x00, 0x00, 0x02, 0x00, 0x00, 0x00,
+    0x12, 0x00, 0x00, 0x00, 0x0a, 0x08, 0x00, 0x00, 0x00, 0x01, 0x00, 0x00, 0x00, 0x61, 0x00, 0x00,
+    0x00, 0x00, 0x00, 0x00, 0x00, 0x00,
 ];
 
 static AUTH_BAD_METHOD: [u8; 24] = [
@@ -100,10 +100,11 @@ const NOWHERE: Addr = Addr {
 macro_rules! is_known {
     ($rt:ident, $alloc:ident, $bytes:expr, $value:expr, $read:ident, $put:ident) => {{
         let value = $value;
-        assert!($rt; $read($alloc, $bytes)? == value);
+        let bytes: &[u8] = $bytes.as_slice();
+        assert!($rt; $read($alloc, bytes)? == value);
         let mut written = Blob::new($alloc);
         $put($alloc, &mut written, &value)?;
-        assert_eq!($rt; written.bytes(), $bytes);
+        assert_eq!($rt; written.bytes(), bytes);
     }};
 }
 
@@ -148,7 +149,7 @@ fn hello_is_read_and_written(rt: HostRuntime) -> Result<(), Fail> {
         kind: EntityType::Osd,
         addr: NOWHERE,
     };
-    is_known!(rt, alloc, &HELLO, hello, read_hello, put_hello);
+    is_known!(rt, alloc, HELLO, hello, read_hello, put_hello);
     Ok(())
 }
 
@@ -156,8 +157,8 @@ fn hello_is_read_and_written(rt: HostRuntime) -> Result<(), Fail> {
 fn a_request_of_authentication_is_read_and_written(rt: HostRuntime) -> Result<(), Fail> {
     let alloc = rt.alloc();
     let mut modes = Items::new(alloc);
-    modes.push(alloc, 2)?;
     modes.push(alloc, 1)?;
+    modes.push(alloc, 2)?;
     let request = AuthRequest {
         method: 2,
         modes,
@@ -166,7 +167,7 @@ fn a_request_of_authentication_is_read_and_written(rt: HostRuntime) -> Result<()
     is_known!(
         rt,
         alloc,
-        &AUTH_REQUEST,
+        AUTH_REQUEST,
         request,
         read_auth_request,
         put_auth_request
@@ -183,7 +184,7 @@ fn what_follows_in_authentication_is_read_and_written(rt: HostRuntime) -> Result
     is_known!(
         rt,
         alloc,
-        &AUTH_REPLY_MORE,
+        AUTH_REPLY_MORE,
         reply,
         read_auth_reply_more,
         put_auth_reply_more
@@ -194,7 +195,7 @@ fn what_follows_in_authentication_is_read_and_written(rt: HostRuntime) -> Result
     is_known!(
         rt,
         alloc,
-        &AUTH_REQUEST_MORE,
+        AUTH_REQUEST_MORE,
         more,
         read_auth_request_more,
         put_auth_request_more
@@ -204,14 +205,14 @@ fn what_follows_in_authentication_is_read_and_written(rt: HostRuntime) -> Result
         mode: 2,
         payload: Blob::of(alloc, &AUTH_DONE[16..])?,
     };
-    is_known!(rt, alloc, &AUTH_DONE, done, read_auth_done, put_auth_done);
+    is_known!(rt, alloc, AUTH_DONE, done, read_auth_done, put_auth_done);
     let signature = AuthSignature {
         signature: AUTH_SIGNATURE,
     };
     is_known!(
         rt,
         alloc,
-        &AUTH_SIGNATURE,
+        AUTH_SIGNATURE,
         signature,
         read_auth_signature,
         put_auth_signature
@@ -229,7 +230,7 @@ fn a_refused_method_is_read_and_written(rt: HostRuntime) -> Result<(), Fail> {
     is_known!(
         rt,
         alloc,
-        &AUTH_BAD_METHOD,
+        AUTH_BAD_METHOD,
         refused,
         read_auth_bad_method,
         put_auth_bad_method
@@ -260,7 +261,7 @@ fn idents_are_read_and_written(rt: HostRuntime) -> Result<(), Fail> {
     is_known!(
         rt,
         alloc,
-        &CLIENT_IDENT,
+        CLIENT_IDENT,
         client,
         read_client_ident,
         put_client_ident
@@ -277,7 +278,7 @@ fn idents_are_read_and_written(rt: HostRuntime) -> Result<(), Fail> {
     is_known!(
         rt,
         alloc,
-        &SERVER_IDENT,
+        SERVER_IDENT,
         server,
         read_server_ident,
         put_server_ident
@@ -286,7 +287,7 @@ fn idents_are_read_and_written(rt: HostRuntime) -> Result<(), Fail> {
     is_known!(
         rt,
         alloc,
-        &IDENT_MISSING_FEATURES,
+        IDENT_MISSING_FEATURES,
         missing,
         read_ident_missing_features,
         put_ident_missing_features
@@ -308,7 +309,7 @@ fn what_resumes_a_session_is_read_and_written(rt: HostRuntime) -> Result<(), Fai
     is_known!(
         rt,
         alloc,
-        &SESSION_RECONNECT,
+        SESSION_RECONNECT,
         reconnect,
         read_session_reconnect,
         put_session_reconnect
@@ -317,7 +318,7 @@ fn what_resumes_a_session_is_read_and_written(rt: HostRuntime) -> Result<(), Fai
     is_known!(
         rt,
         alloc,
-        &SESSION_RESET,
+        SESSION_RESET,
         reset,
         read_session_reset,
         put_session_reset
@@ -326,7 +327,7 @@ fn what_resumes_a_session_is_read_and_written(rt: HostRuntime) -> Result<(), Fai
     is_known!(
         rt,
         alloc,
-        &SESSION_RETRY,
+        SESSION_RETRY,
         retry,
         read_session_retry,
         put_session_retry
@@ -335,7 +336,7 @@ fn what_resumes_a_session_is_read_and_written(rt: HostRuntime) -> Result<(), Fai
     is_known!(
         rt,
         alloc,
-        &SESSION_RETRY_GLOBAL,
+        SESSION_RETRY_GLOBAL,
         global,
         read_session_retry_global,
         put_session_retry_global
@@ -344,7 +345,7 @@ fn what_resumes_a_session_is_read_and_written(rt: HostRuntime) -> Result<(), Fai
     is_known!(
         rt,
         alloc,
-        &SESSION_RECONNECT_OK,
+        SESSION_RECONNECT_OK,
         resumed,
         read_session_reconnect_ok,
         put_session_reconnect_ok
@@ -362,7 +363,7 @@ fn what_keeps_a_connection_is_read_and_written(rt: HostRuntime) -> Result<(), Fa
     is_known!(
         rt,
         alloc,
-        &KEEPALIVE2,
+        KEEPALIVE2,
         asked,
         read_keepalive2,
         put_keepalive2
@@ -373,13 +374,13 @@ fn what_keeps_a_connection_is_read_and_written(rt: HostRuntime) -> Result<(), Fa
     is_known!(
         rt,
         alloc,
-        &KEEPALIVE2_ACK,
+        KEEPALIVE2_ACK,
         answered,
         read_keepalive2_ack,
         put_keepalive2_ack
     );
     let taken = Ack { seq: 1 };
-    is_known!(rt, alloc, &ACK, taken, read_ack, put_ack);
+    is_known!(rt, alloc, ACK, taken, read_ack, put_ack);
     Ok(())
 }
 

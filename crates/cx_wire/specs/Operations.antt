@@ -42,7 +42,7 @@ operation_layout = seen_as (access_field ⊗ part_field ⊗ part_field ⊗ part_
     (λ _ _. refl) (λ _ _. refl)
 
 -- an operation that can be written
-pub record IsSendable (ask : Operation) : Type 0 where
+pub record IsWritable (ask : Operation) : Type 0 where
   pub pool : IsTrue (is_part ask.pool)
   pub namespace : IsTrue (is_part ask.namespace)
   pub object : IsTrue (is_part ask.object)

@@ -5,10 +5,13 @@ mod answers;
 mod authorizers;
 mod bodies;
 mod contents;
+mod copies;
 mod headers;
 mod logins;
 mod operations;
 mod refusals;
+#[cfg(test)]
+mod tests;
 mod tickets;
 
 pub use answers::{Answer, put_answer, read_answer};
@@ -27,3 +30,22 @@ pub use logins::{
 pub use operations::{put_operation, read_operation};
 pub use refusals::BodyRefusal;
 pub use tickets::TicketPart;
+
+// Each public type may be sent to another thread and shared with one.
+fn is_sendable<T: Send + Sync>() {}
+
+fn all_are_sendable() {
+    is_sendable::<LoginHello>();
+    is_sendable::<ServerChallenge>();
+    is_sendable::<Authenticate>();
+    is_sendable::<LoginDone>();
+    is_sendable::<TicketPart>();
+    is_sendable::<Authorizer>();
+    is_sendable::<AuthorizeChallenge>();
+    is_sendable::<AuthorizeReply>();
+    is_sendable::<Header>();
+    is_sendable::<Request>();
+    is_sendable::<Reply>();
+    is_sendable::<Answer>();
+    is_sendable::<BodyRefusal>();
+}

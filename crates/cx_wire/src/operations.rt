@@ -5,7 +5,7 @@ ghost use Rattle.std.specs.List.{position};
 ghost use Rattle.cx_base.specs.Owners.{is_above_ascii};
 ghost use Rattle.cx_enc.specs.Reading.{spot, Reads, ReadsAs};
 ghost use Rattle.cx_control.specs.Calls.{IsReadBy, IsPutBy};
-ghost use Rattle.cx_wire.specs.Operations.{access_number, access_of, access_field, part_field, data_field, operation_layout, IsSendable};
+ghost use Rattle.cx_wire.specs.Operations.{access_number, access_of, access_field, part_field, data_field, operation_layout, IsWritable};
 
 use cx_base::{Access, Blob, Operation, Text, is_part};
 use cx_control::{WireRefusal, read_payload};
@@ -20,11 +20,11 @@ struct Asked {
 
 impl Encoded for Asked {
     ghost use Rattle.cx_wire.specs.Asked.{asked_layout};
-    ghost use Rattle.cx_wire.specs.Operations.{IsSendable};
+    ghost use Rattle.cx_wire.specs.Operations.{IsWritable};
 
     ghost layout = { asked_layout };
 
-    ghost Bound = { λ asked. IsSendable asked.ask };
+    ghost Bound = { λ asked. IsWritable asked.ask };
 
     fn read(alloc: Global, cut: &mut Cut<'_>) -> Result<Asked, ReadRefusal> {
         Ok(Asked {
@@ -44,7 +44,7 @@ impl Encoded for Asked {
 }
 
 fn write_operation(alloc: Global, into: &mut Blob, ask: &Operation) -> Result<(), AllocError>
-    requires { IsSendable ask.now }
+    requires { IsWritable ask.now }
     ensures ok { OnOk result (into.new ≡ into.old ++ operation_layout.form.text ask.now) }
     ensures fits { OnOk result (operation_layout.form.Fits ask.now) }
 {
@@ -123,7 +123,7 @@ pub fn read_operation(alloc: Global, bytes: &[u8]) -> Result<Operation, WireRefu
 /// Writes the body of message 42 behind some bytes.
 #[tactic(auto, using(crate::proofs::Asking::operation_again))]
 pub fn put_operation(alloc: Global, into: &mut Blob, value: &Operation) -> Result<(), AllocError>
-    requires { IsSendable value.now }
+    requires { IsWritable value.now }
     ensures { IsPutBy operation_layout.form value.now into.old into.new result }
 {
     let mut spelled = Blob::new(alloc);
