@@ -1,1 +1,4 @@
+mod Finding
+mod Keeping
+mod Placing
 mod Queues
