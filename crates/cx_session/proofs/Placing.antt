@@ -8,7 +8,7 @@ use Rattle.std.specs.List.{AllByRecursion}
 use Rattle.std.specs.List.Sorted.{IsStrictlySortedBy}
 use Rattle.std.specs.Map.{lookup, set_value, remove_entry, keys_of}
 use Rattle.cx_session.specs.declared.session.Session.{Session}
-use Rattle.cx_session.specs.Book.{with_number, changed}
+use Rattle.cx_session.specs.Book.{with_number, changed, IsInOrder}
 use Rattle.cx_session.specs.Kept.{sessions, IsPlaced}
 
 compared_from : (k e : ℕ) (a b : Bool) → nat_lt k e ≡ a → (k == e) ≡ b → ((k < e) × (nat_cmp k e ≡ Less)) ⊎ (((k ≡ e) × (nat_cmp k e ≡ Equal)) ⊎ ((e < k) × (nat_cmp k e ≡ Greater)))
@@ -66,6 +66,10 @@ module _ {O : Type 0} where
   RisesFrom-lower low less [] below rises = tt
   RisesFrom-lower low less (s ∷ ss) below rises = (omega arith, rises.1)
 
+  in_order_lower : (low less next : ℕ) (ss : List (Session O)) → less ≤ low → IsInOrder low next ss → IsInOrder less next ss
+  in_order_lower low less next [] below order = tt
+  in_order_lower low less next (s ∷ ss) below order = (omega arith, order.1, order.2)
+
   -- so do the numbers of the sessions
   pub numbers_rise : (next low : ℕ) (es : List (ℕ × Option (Session O))) → IsPlaced next es → KeysFrom low es → RisesFrom low (sessions es)
   numbers_rise next low [] placed keys = tt
@@ -75,6 +79,16 @@ module _ {O : Type 0} where
       let rest : RisesFrom (k + 1) (sessions es) = numbers_rise next (k + 1) es placed.2 keys.1 in
       let same : s.number ≡ k = placed.0 in
       (rw same keys.0, rw same rest)
+
+  -- and they stay below the next number
+  pub stands_in_order : (next low : ℕ) (es : List (ℕ × Option (Session O))) → IsPlaced next es → KeysFrom low es → IsInOrder low next (sessions es)
+  stands_in_order next low [] placed keys = tt
+  stands_in_order next low ((k, None) ∷ es) placed keys =
+      in_order_lower (k + 1) low next (sessions es) (omega arith) (stands_in_order next (k + 1) es placed.1 keys.1)
+  stands_in_order next low ((k, Some s) ∷ es) placed keys =
+      let rest : IsInOrder (k + 1) next (sessions es) = stands_in_order next (k + 1) es placed.2 keys.1 in
+      let same : s.number ≡ k = placed.0 in
+      (rw same keys.0, rw same placed.1, rw same rest)
 
   -- of sessions whose numbers are all above one, none has it
   pub none_below : (n low : ℕ) (ss : List (Session O)) → RisesFrom low ss → n < low → with_number n ss ≡ None

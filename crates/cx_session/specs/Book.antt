@@ -1,7 +1,7 @@
 -- The sessions that a daemon keeps ("msgr2 protocol": client and server cookie, global_seq, connect_seq, and the replies
 -- to a client that reconnects): the next number, and the list of live sessions in the order of their numbers. Each reply
 -- is a distinction of cases on that list.
-use Rattle.std.specs.Prelude.{ℕ, ◌≡◌, ◌+◌, ◌^◌, ◌-◌, ◌==◌, ◌&&◌, Bool, true, false, not, List, [], ◌∷◌, ◌++◌, length, find, filter, map, nat_lt, nat_le, if◌then◌else◌, Option, Some, None, Result, Ok, Err}
+use Rattle.std.specs.Prelude.{ℕ, ◌≡◌, ◌+◌, ◌<◌, ◌≤◌, ◌^◌, ◌-◌, ◌==◌, ◌&&◌, Bool, true, false, not, List, [], ◌∷◌, ◌++◌, length, find, filter, map, nat_lt, nat_le, if◌then◌else◌, Option, Some, None, Result, Ok, Err}
 use Rattle.cx_base.specs.Names.{Name, same_name}
 use Rattle.cx_session.specs.declared.session.Session.{Session}
 use Rattle.cx_session.specs.declared.faults.AdmitFault.{AdmitFault}
@@ -34,6 +34,11 @@ module _ {O : Type 0} where
   -- the live session with these two cookies
   abbrev pub with_cookies : ℕ → ℕ → List (Session O) → Option (Session O)
   with_cookies client server live = find (λ s. (s.client_cookie == client) && (s.server_cookie == server)) live
+
+  -- the numbers of the sessions rise from `low` on, and stay below the next one
+  abbrev pub IsInOrder : ℕ → ℕ → List (Session O) → Type 0
+  IsInOrder low next [] = Unit {0}
+  IsInOrder low next (s ∷ live) = (low ≤ s.number) × (s.number < next) × IsInOrder (s.number + 1) next live
 
   -- What an admission answers: the number and epoch 1. Of these causes the first that holds refuses it: the client cookie
   -- is a live session's, 4,096 sessions live, the last number was given.

@@ -2,7 +2,7 @@
 
 ghost use Rattle.std.specs.Prelude.{◌≡◌, ◌≢◌, ◌≤◌, IfSome, None, Some, length};
 ghost use Rattle.std.specs.Option.{option_copied, option_map};
-ghost use Rattle.cx_session.specs.Book.{Book, empty_book, with_number, with_client_cookie, with_cookies};
+ghost use Rattle.cx_session.specs.Book.{Book, empty_book, IsInOrder, with_number, with_client_cookie, with_cookies};
 
 use crate::numbers::Numbers;
 use crate::places::Places;
@@ -46,10 +46,11 @@ impl<O> SessionBook<O> {
         }
     }
 
-    // How many sessions live.
-    pub(crate) fn count(&self) -> usize
+    /// How many sessions live.
+    pub fn count(&self) -> usize
         ensures count { result ≡ length self.now.live }
         ensures few { result ≤ 4096 }
+        ensures order { IsInOrder 0 self.now.next self.now.live }
     {
         self.count
     }

@@ -143,8 +143,8 @@ impl<O: Owner> SessionBook<O> {
         Ok(())
     }
 
-    // Raises the last message taken of a live session.
-    fn raise(&mut self, number: u64, seq: u64)
+    /// Raises the last message taken of a live session.
+    pub fn raise(&mut self, number: u64, seq: u64)
         requires { IsSome (with_number number self.old.live) }
         ensures { self.new ≡ taken self.old number seq }
     {
@@ -228,8 +228,8 @@ impl<O: Owner> SessionBook<O> {
         Ok(given)
     }
 
-    // Gives a live session to its owner again, in a new epoch.
-    fn renew(&mut self, number: u64, owner: O, global_seq: u64, connect_seq: u64)
+    /// Gives a live session to its owner again, in a new epoch.
+    pub fn renew(&mut self, number: u64, owner: O, global_seq: u64, connect_seq: u64)
         requires live { IsSome (with_number number self.old.live) }
         requires epoch { IfSome (with_number number self.old.live) (λ s. s.epoch + 1 < 2 ^ 64) }
         ensures { self.new ≡ resumed self.old number owner global_seq connect_seq }
