@@ -238,8 +238,8 @@ impl<O: Owner> SessionBook<O> {
     }
 }
 
-// What the owner of a link is answered who would resume this session.
-fn resumption<O: Owner>(
+// What an owner is answered who would resume this session.
+pub(crate) fn resumption<O: Owner>(
     alloc: Global,
     session: &Session<O>,
     owner: &O,

@@ -35,3 +35,6 @@ fn all_are_sendable() {
     is_sendable::<QueueFault>();
     is_sendable::<QueueRefusal>();
 }
+
+#[cfg(test)]
+mod tests;

@@ -36,8 +36,8 @@ pub struct QueueRefusal {
 /// by one.
 #[derive(Debug, Drop)]
 pub struct Outbox {
-    last: u64,
-    waiting: Vec<(u64, Operation)>,
+    pub(crate) last: u64,
+    pub(crate) waiting: Vec<(u64, Operation)>,
 }
 
 impl Model for Outbox {
