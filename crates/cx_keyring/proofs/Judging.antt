@@ -10,7 +10,7 @@ use Rattle.cx_keyring.specs.declared.faults.KeyringFault.{KeyringFault}
 use Rattle.cx_keyring.specs.declared.judge.Judged.{Judged}
 use Rattle.cx_keyring.specs.declared.lines.Line.{Line}
 use Rattle.cx_keyring.specs.declared.lines.Line.TheVariants as lines
-use Rattle.cx_keyring.specs.Faults.{body_of, fault_at, fault_of, first_bad, is_key, is_repeated, is_section, is_section_of, key_follows, or_later}
+use Rattle.cx_keyring.specs.Faults.{body_of, fault_at, fault_of, first_bad, is_keyless, is_repeated, is_section, is_section_of, or_later}
 use Rattle.cx_keyring.specs.Indexed.{place_of}
 use Rattle.cx_keyring.specs.Judged.{Judges}
 
@@ -40,7 +40,7 @@ drop_take {X} start i xs under within =
 pub judged_line : (judged : Judged) (all : List Line) (i : ℕ) (line : Line) (repeated keyless : Bool) (fault : Option KeyringFault)
     → i < length all → line ≡ get_or all i line → Judges judged (take i all)
     → repeated ≡ is_repeated (λ name. is_some (place_of judged.names.ids name)) (take (i - judged.start) (drop judged.start all)) line
-    → keyless ≡ (is_section line && not (key_follows (take (length all - (i + 1)) (drop (i + 1) all))))
+    → keyless ≡ is_keyless line (take (length all - (i + 1)) (drop (i + 1) all))
     → fault ≡ fault_of judged.begun repeated keyless line
     → first_bad (take i all) (drop i all) ≡ or_later (i + 1) fault (first_bad (take (i + 1) all) (drop (i + 1) all))
 judged_line judged all i line repeated keyless fault here is judges is_rep is_less is_fault =
@@ -51,7 +51,7 @@ judged_line judged all i line repeated keyless fault here is judges is_rep is_le
     let more : take i all ++ line ∷ [] ≡ take (i + 1) all = ap (λ (x : Line). take i all ++ x ∷ []) is ∙ sym (take_more all i line here) in
     let same = is_repeated_same (λ name. is_some (place_of judged.names.ids name)) (λ name. list_any (is_section_of name) (take i all)) (body_of (take i all)) line judges.named in
     let repeats = is_rep ∙ ap (λ (b : List Line). is_repeated (λ name. is_some (place_of judged.names.ids name)) b line) body ∙ same in
-    let less = is_less ∙ ap (λ (after : List Line). is_section line && not (key_follows after)) (take_rest (i + 1) all) in
+    let less = is_less ∙ ap (is_keyless line) (take_rest (i + 1) all) in
     let wrong : fault ≡ fault_at (take i all) line (drop (i + 1) all) =
         is_fault ∙ ap (λ b. fault_of b repeated keyless line) judges.begun
         ∙ ap (λ b. fault_of (list_any is_section (take i all)) b keyless line) repeats

@@ -1,5 +1,5 @@
 -- The faults of a keyring's lines, and the first line that is wrong.
-use Rattle.std.specs.Prelude.{ℕ, ◌+◌, Bool, true, false, not, ◌&&◌, ◌||◌, if◌then◌else◌, List, [], ◌∷◌, ◌++◌, length, Option, Some, None, is_none, find, fold}
+use Rattle.std.specs.Prelude.{ℕ, ◌+◌, Bool, true, false, not, ◌&&◌, if◌then◌else◌, List, [], ◌∷◌, ◌++◌, length, Option, Some, None, is_none, find, fold}
 use Rattle.std.specs.List.{list_any}
 use Rattle.cx_base.specs.Names.{Name, same_kind, same_name}
 use Rattle.cx_base.specs.declared.kinds.EntityType.{EntityType}
@@ -66,10 +66,14 @@ is_repeated is_known body (lines.Key key) = list_any is_key body
 is_repeated is_known body (lines.Caps (Some service) text) = list_any (is_caps_for service) body
 is_repeated is_known body _ = false
 
--- whether a key is given before the next section begins
-abbrev pub key_follows : List Line → Bool
-key_follows [] = false
-key_follows (line ∷ after) = is_key line || (not (is_section line) && key_follows after)
+-- of these lines those that stand before the next section
+abbrev pub section_lines : List Line → List Line
+section_lines [] = []
+section_lines (line ∷ after) = if is_section line then [] else line ∷ section_lines after
+
+-- it begins a section that has no key
+abbrev pub is_keyless : Line → List Line → Bool
+is_keyless line after = is_section line && not (list_any is_key (section_lines after))
 
 -- ---- faults
 
@@ -103,7 +107,7 @@ body_of before = fold body_after [] before
 abbrev pub fault_at : List Line → Line → List Line → Option KeyringFault
 fault_at before line after =
     fault_of (list_any is_section before) (is_repeated (λ name. list_any (is_section_of name) before) (body_of before) line)
-    (is_section line && not (key_follows after)) line
+    (is_keyless line after) line
 
 -- a line that is wrong, by its number, or else what is wrong later
 abbrev pub or_later : ℕ → Option KeyringFault → Option (ℕ × KeyringFault) → Option (ℕ × KeyringFault)

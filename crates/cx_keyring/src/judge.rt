@@ -1,9 +1,9 @@
 //! Finding the first line that is wrong.
 
-ghost use Rattle.std.specs.Prelude.{◌≡◌, ◌+◌, [], ◌∷◌, ◌++◌, ◌&&◌, ◌||◌, ◌<◌, if◌then◌else◌, ◌^◌, List, None, Some, drop, length, is_some, not, IfErr, OnOk};
+ghost use Rattle.std.specs.Prelude.{◌≡◌, ◌+◌, [], ◌∷◌, ◌++◌, ◌||◌, ◌<◌, if◌then◌else◌, ◌^◌, List, None, Some, drop, length, is_some, IfErr, OnOk};
 ghost use Rattle.std.specs.List.{list_any};
 ghost use Rattle.cx_base.specs.Names.{Name};
-ghost use Rattle.cx_keyring.specs.Faults.{fault_of, first_bad, has_bad_caps, has_bad_key, has_bad_name, has_bad_service, is_caps_for, is_inner, is_key, is_other, is_repeated, is_section, is_section_of, key_follows};
+ghost use Rattle.cx_keyring.specs.Faults.{fault_of, first_bad, has_bad_caps, has_bad_key, has_bad_name, has_bad_service, is_caps_for, is_inner, is_key, is_keyless, is_other, is_repeated, is_section, is_section_of};
 ghost use Rattle.cx_keyring.specs.Indexed.{place_of};
 ghost use Rattle.cx_keyring.specs.Judged.{IsBadLine, Judges};
 ghost use Rattle.cx_keyring.specs.declared.lines.Line.{Line};
@@ -12,6 +12,7 @@ use crate::faults::KeyringFault;
 use crate::index::Index;
 use crate::lines::Line;
 use crate::refusals::KeyringRefusal;
+use crate::sections::{is_section, section_lines};
 use cx_base::EntityType;
 use std::alloc::{AllocError, Global};
 
@@ -91,9 +92,9 @@ fn start_after(start: usize, line: &Line, place: usize) -> usize
 
 /// Whether the line begins a section that has no key.
 fn is_keyless(line: &Line, after: &[Line]) -> bool
-    ensures { result ≡ (is_section line.now && not (key_follows after.now)) }
+    ensures { result ≡ is_keyless line.now after.now }
 {
-    is_section(line) && !key_follows(after)
+    is_section(line) && !has_key(section_lines(after))
 }
 
 /// The first fault of the line.
@@ -148,28 +149,6 @@ fn has_caps_for(service: EntityType, lines: &[Line]) -> bool
     ensures { result ≡ list_any (is_caps_for service) lines.now }
 {
     lines.iter().any(|line| is_caps_for(service, line))
-}
-
-fn key_follows(lines: &[Line]) -> bool
-    ensures { result ≡ key_follows lines.now }
-{
-    let mut rest = lines;
-    while let [line, after @ ..] = rest {
-        if is_key(line) {
-            return true;
-        }
-        if is_section(line) {
-            return false;
-        }
-        rest = after;
-    }
-    false
-}
-
-fn is_section(line: &Line) -> bool
-    ensures { result ≡ is_section line.now }
-{
-    matches!(line, Line::Section(_))
 }
 
 fn is_key(line: &Line) -> bool

@@ -1,4 +1,4 @@
-//! Keyrings: the files that name entities with their secret keys and capabilities.
+//! Keyrings: the files that name entities with their secret keys and their capabilities.
 #![tactic(auto)]
 
 mod cut;
@@ -6,14 +6,19 @@ mod entries;
 mod faults;
 mod index;
 mod judge;
+mod keyring;
 mod keys;
+mod limits;
 mod lines;
+mod printing;
+mod reading;
 mod refusals;
+mod sections;
 
-pub use cut::line_of;
 pub use entries::{Entry, Grant};
 pub use faults::KeyringFault;
-pub use index::Index;
-pub use judge::judge as first_bad_of;
-pub use lines::Line;
+pub use keyring::Keyring;
+pub use limits::MOST_ENTRIES;
+pub use printing::print;
+pub use reading::parse;
 pub use refusals::{AddRefusal, KeyringRefusal};
