@@ -11,7 +11,7 @@ use Rattle.cx_keyring.specs.declared.entries.Entry.{Entry}
 use Rattle.cx_keyring.specs.Entries.{are_apart, are_grants, is_named, is_ring}
 use Rattle.cx_keyring.proofs.Places.{position_push}
 
-not_true : (b : Bool) → not b ≡ true → b ≡ false
+pub not_true : (b : Bool) → not b ≡ true → b ≡ false
 not_true true e = absurd cc
 not_true false e = refl
 

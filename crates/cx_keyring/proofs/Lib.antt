@@ -3,6 +3,9 @@ pub mod Blanks
 pub mod GoodLines
 pub mod GoodRings
 pub mod Judging
+pub mod KeyTexts
 pub mod Places
 pub mod Printed
+pub mod PrintedLines
+pub mod SaidRings
 pub mod SectionLines

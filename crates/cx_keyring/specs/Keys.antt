@@ -1,5 +1,6 @@
 -- Keys as keyrings write them: base64 (RFC 4648, section 4) of the 28 bytes of Ceph's encoding of a key.
-use Rattle.std.specs.Prelude.{ℕ, List, [], ◌∷◌, Option, Some, None, Result, Ok, Err}
+use Rattle.std.specs.Prelude.{ℕ, ◌≡◌, ◌&&◌, Bool, nat_le, IsTrue, List, [], ◌∷◌, Option, Some, None, Result, Ok, Err}
+use Rattle.std.specs.List.{list_all}
 use Rattle.base64.specs.Engines.{standard}
 use Rattle.base64.specs.GeneralPurpose.{decode_of, encode_of}
 use Rattle.base64.specs.declared.decode.DecodeError.{DecodeError}
@@ -31,3 +32,11 @@ decoded_key (Err e) = None
 -- the key that a text is the base64 of: with its padding, and no bits left over
 unfoldable pub key_of : List ℕ → Option Key
 key_of text = decoded_key (decode_of standard text)
+
+-- a byte that can be seen, from 0x21 to 0x7e
+abbrev pub is_ink : ℕ → Bool
+is_ink b = nat_le 33 b && nat_le b 126
+
+-- the text of the key has no other bytes, and is read as the key again
+abbrev pub HasText : Key → Type 0
+HasText key = IsTrue (list_all is_ink (key_text key)) × (key_of (key_text key) ≡ Some key)

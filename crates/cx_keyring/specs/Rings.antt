@@ -1,9 +1,9 @@
 -- Keyrings as texts: what bytes mean, why they are none, and how a keyring is printed (Ceph's "user management": keyring
 -- files, with the faults of this project's profile).
-use Rattle.std.specs.Prelude.{ℕ, ◌<◌, ◌≡◌, ◌⊎◌, List, [], length, codes, Some, None, Result, Ok, Err}
+use Rattle.std.specs.Prelude.{ℕ, ◌<◌, ◌≡◌, ◌⊎◌, List, [], length, codes, Some, None, Result, Ok, Err, IsTrue}
 use Rattle.std.specs.List.{flat_map}
 use Rattle.cx_base.specs.Joined.{◌<>◌}
-use Rattle.cx_base.specs.Names.{name_text, type_word}
+use Rattle.cx_base.specs.Names.{is_id, name_text, type_word}
 use Rattle.cx_keyring.specs.declared.entries.Entry.{Entry}
 use Rattle.cx_keyring.specs.declared.entries.Grant.{Grant}
 use Rattle.cx_keyring.specs.declared.limits.TheConstants.{MOST_ENTRIES}
@@ -11,7 +11,7 @@ use Rattle.cx_keyring.specs.declared.refusals.KeyringRefusal.{KeyringRefusal}
 use Rattle.cx_keyring.specs.declared.refusals.KeyringRefusal.TheVariants.{BadLine, TooMany, OutOfMemory}
 use Rattle.cx_keyring.specs.Entries.{entries_of}
 use Rattle.cx_keyring.specs.Faults.{first_bad}
-use Rattle.cx_keyring.specs.Keys.{key_text}
+use Rattle.cx_keyring.specs.Keys.{key_text, HasText}
 use Rattle.cx_keyring.specs.Lines.{lines_said}
 
 -- the bytes are a keyring of these entries: no line is wrong, and the lines give them
@@ -50,3 +50,7 @@ printed_entry entry = printed_head entry <> flat_map printed_grant entry.caps
 -- the printed form of a keyring: its entries in order, each with its key and then its caps in order
 abbrev pub printed_keyring : List Entry → List ℕ
 printed_keyring ring = flat_map printed_entry ring
+
+-- its name and its key have a printed form that is read again
+abbrev pub IsPrintable : Entry → Type 0
+IsPrintable entry = IsTrue (is_id entry.name.kind entry.name.id) × HasText entry.key

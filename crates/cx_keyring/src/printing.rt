@@ -1,11 +1,11 @@
 //! Printing a keyring.
 
 ghost use Rattle.std.specs.Prelude.{◌≡◌, ◌++◌, IfOk, IsTrue, OnOk, string_bytes};
-ghost use Rattle.std.specs.List.{flat_map};
-ghost use Rattle.cx_base.specs.Names.{is_id};
-ghost use Rattle.cx_enc.specs.Values.{key_form};
-ghost use Rattle.cx_keyring.specs.Keys.{key_text};
-ghost use Rattle.cx_keyring.specs.Rings.{KeyringText, printed_entry, printed_grant, printed_head, printed_keyring};
+ghost use Rattle.std.specs.List.{flat_map, list_all, AllByRecursion};
+ghost use Rattle.base64.specs.Engines.{standard};
+ghost use Rattle.base64.specs.GeneralPurpose.{decode_of, encode_of};
+ghost use Rattle.cx_keyring.specs.Keys.{is_ink, key_text, HasText};
+ghost use Rattle.cx_keyring.specs.Rings.{IsPrintable, KeyringText, printed_entry, printed_grant, printed_head, printed_keyring};
 
 use crate::entries::{Entry, Grant};
 use crate::keyring::Keyring;
@@ -16,12 +16,20 @@ use std::alloc::{AllocError, Global};
 
 /// The printed form of the keyring: for each entry a line `[NAME]`, a line `key = TEXT` and a line `caps SERVICE = "TEXT"` for
 /// each of its caps in their order, the latter two behind a tab.
+#[tactic(auto, using(crate::proofs::Printed::printed_again))]
 pub fn print(alloc: Global, ring: &Keyring) -> Result<Blob, AllocError>
     ensures text { IfOk result (λ bytes. bytes ≡ printed_keyring ring.now) }
     // The printed form is a keyring of these entries, so that `parse` reads this one in it, where it isn't too long.
     ensures again { IfOk result (λ bytes. KeyringText bytes ring.now) }
 {
-    let entries = ring.entries();
+    let text = printed(alloc, ring.entries())?;
+    Ok(text)
+}
+
+fn printed(alloc: Global, entries: &[Entry]) -> Result<Blob, AllocError>
+    ensures text { IfOk result (λ bytes. bytes ≡ printed_keyring entries.now) }
+    ensures good { IfOk result (λ _. AllByRecursion IsPrintable entries.now) }
+{
     let mut text = Blob::new(alloc);
     for entry in entries {
         append_entry(alloc, &mut text, entry)?;
@@ -31,8 +39,7 @@ pub fn print(alloc: Global, ring: &Keyring) -> Result<Blob, AllocError>
 
 fn append_entry(alloc: Global, into: &mut Blob, entry: &Entry) -> Result<(), AllocError>
     ensures text { OnOk result (into.new ≡ into.old ++ printed_entry entry.now) }
-    ensures good { OnOk result (IsTrue (is_id entry.now.name.kind entry.now.name.id)) }
-    ensures fits { OnOk result (key_form.Fits entry.now.key) }
+    ensures good { OnOk result (IsPrintable entry.now) }
 {
     let head = head(alloc, entry)?;
     into.append(alloc, head.as_bytes())?;
@@ -51,8 +58,7 @@ fn append_grants(alloc: Global, into: &mut Blob, grants: &[Grant]) -> Result<(),
 
 fn head(alloc: Global, entry: &Entry) -> Result<String, AllocError>
     ensures text { IfOk result (λ text. string_bytes text ≡ printed_head entry.now) }
-    ensures good { IfOk result (λ _. IsTrue (is_id entry.now.name.kind entry.now.name.id)) }
-    ensures fits { IfOk result (λ _. key_form.Fits entry.now.key) }
+    ensures good { IfOk result (λ _. IsPrintable entry.now) }
 {
     let name = &entry.name;
     let key = key_text(alloc, &entry.key)?;
@@ -62,10 +68,21 @@ fn head(alloc: Global, entry: &Entry) -> Result<String, AllocError>
 /// The key in base64.
 fn key_text(alloc: Global, key: &Key) -> Result<String, AllocError>
     ensures text { IfOk result (λ text. string_bytes text ≡ key_text key.now) }
-    ensures fits { IfOk result (λ _. key_form.Fits key.now) }
+    ensures keyed { IfOk result (λ _. HasText key.now) }
 {
     let bytes = write_whole(alloc, key)?;
-    STANDARD.encode(alloc, bytes.bytes())
+    let text = encoded(alloc, bytes.bytes())?;
+    Ok(text)
+}
+
+/// The bytes in base64.
+fn encoded(alloc: Global, bytes: &[u8]) -> Result<String, AllocError>
+    ensures text { IfOk result (λ text. string_bytes text ≡ encode_of standard bytes.now) }
+    ensures again { IfOk result (λ text. decode_of standard (string_bytes text) ≡ Ok bytes.now) }
+    ensures inked { IfOk result (λ text. IsTrue (list_all is_ink (string_bytes text))) }
+{
+    let text = STANDARD.encode(alloc, bytes)?;
+    Ok(text)
 }
 
 fn grant_line(alloc: Global, grant: &Grant) -> Result<String, AllocError>

@@ -1,8 +1,7 @@
 use Rattle.std.proofs.Common.{◌≡◌, ◌++◌, drop, take}
 use Rattle.std.specs.List.{AllByRecursion}
-use Rattle.cx_keyring.specs.Rings.{printed_keyring}
-use Rattle.cx_keyring.proofs.Printed.{IsPrintable}
-use Rattle.cx_keyring.proofs.printing.print.Given as goal
+use Rattle.cx_keyring.specs.Rings.{IsPrintable, printed_keyring}
+use Rattle.cx_keyring.proofs.printing.printed.Given as goal
 
 abbrev pub invariant-loop-entry : goal.invariant-loop-entry
 invariant-loop-entry l = record {
