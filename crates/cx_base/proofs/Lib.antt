@@ -1,3 +1,4 @@
 pub mod Ascii
+pub mod AsciiTexts
 pub mod Given
 pub mod Names

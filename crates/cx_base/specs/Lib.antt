@@ -2,3 +2,4 @@ pub mod Joined
 pub mod Names
 pub mod Owners
 pub mod Streams
+pub mod Texts

@@ -1,6 +1,6 @@
 -- Entity types and names as Ceph's documents spell them: a type word, a point and an id ("user management",
 -- "Cephx"), with the id's alphabet of this project's profile.
-use Rattle.std.specs.Prelude.{ℕ, ◌==◌, Bool, true, false, List, [], ◌∷◌, ◌++◌, length, nat_le, codes, ◌&&◌, ◌||◌, Option, Some, None, if◌then◌else◌}
+use Rattle.std.specs.Prelude.{ℕ, ◌==◌, Bool, true, false, List, length, nat_le, codes, ◌&&◌, ◌||◌, Option, Some, None, if◌then◌else◌}
 use Rattle.std.specs.List.{list_all}
 use Rattle.std.specs.Str.{bytes_eq}
 use Rattle.cx_base.specs.Joined.{◌<>◌}

@@ -1,5 +1,5 @@
 -- When the types that own bytes and text refuse.
-use Rattle.std.specs.Prelude.{ℕ, ◌≡◌, Bool, true, false, List, Some, nat_lt}
+use Rattle.std.specs.Prelude.{ℕ, ◌≡◌, Bool, List, Some, nat_lt}
 use Rattle.std.specs.List.{position}
 use Rattle.cx_base.specs.declared.refusals.TextRefusal.{TextRefusal}
 use Rattle.cx_base.specs.declared.refusals.TextRefusal.TheVariants.{NotAscii, OutOfMemory}

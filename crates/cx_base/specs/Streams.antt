@@ -1,5 +1,5 @@
 -- What a source gave and a sink took, and when a fault of theirs counts.
-use Rattle.std.specs.Prelude.{ℕ, ◌+◌, ◌-◌, ◌^◌, ◌≤◌, ◌≡◌, min, List, [], ◌++◌, length, take, drop, Option, Some, None, Result, Bool, OnErr, not, nat_le, ◌&&◌, ◌==◌, if◌then◌else◌}
+use Rattle.std.specs.Prelude.{ℕ, ◌+◌, ◌-◌, ◌^◌, ◌<◌, ◌≤◌, ◌≡◌, min, List, [], ◌++◌, length, take, drop, Option, Some, None, Result, Bool, OnErr, not, nat_le, ◌&&◌, ◌==◌, if◌then◌else◌}
 use Rattle.std.specs.List.{list_any}
 
 -- a count of faults rose; one that stands at the last value of a u64 counts as risen
@@ -12,10 +12,10 @@ pub record HasCause {X E : Type 0} (before now : ℕ) (answer : Result X E) : Ty
   pub failed : OnErr answer (Rose before now)
 
 -- where the source tells what it has left: the n bytes given are its next ones, they stand at the beginning of `into`,
--- and none are given at the end of input alone
+-- and where `into` has room, none are given at the end of input alone
 abbrev pub Gives : Option (List ℕ) → Option (List ℕ) → List ℕ → ℕ → Type 0
 Gives None new into n = Unit {0}
-Gives (Some bytes) new into n = (n ≤ length bytes) × (take n into ≡ take n bytes) × (new ≡ Some (drop n bytes)) × (n ≡ 0 → bytes ≡ [])
+Gives (Some bytes) new into n = (n ≤ length bytes) × (take n into ≡ take n bytes) × (new ≡ Some (drop n bytes)) × (0 < length into → n ≡ 0 → bytes ≡ [])
 
 -- where the sink tells what it took: all of the bytes, behind what it had
 abbrev pub Takes : Option (List ℕ) → Option (List ℕ) → List ℕ → Type 0

@@ -1,8 +1,9 @@
 //! Names of entities.
 
-ghost use Rattle.std.specs.Prelude.{◌≡◌, false, IfOk, OnErr, IsTrue};
-ghost use Rattle.std.specs.List.{list_all};
+ghost use Rattle.std.specs.Prelude.{◌≡◌, false, true, None, IfOk, OnErr, IsTrue};
+ghost use Rattle.std.specs.List.{list_all, position};
 ghost use Rattle.cx_base.specs.Names.{is_id, is_id_byte, same_name, name_text};
+ghost use Rattle.cx_base.specs.Owners.{is_above_ascii};
 
 use crate::copies::Duplicate;
 use crate::kinds::EntityType;
@@ -53,9 +54,18 @@ impl EntityName {
 
 /// Whether these bytes are an id of an entity of this type.
 pub fn is_id(kind: EntityType, id: &[u8]) -> bool
-    ensures { result ≡ is_id kind id.now }
+    ensures value { result ≡ is_id kind id.now }
+    ensures ascii { result ≡ true → position is_above_ascii id.now ≡ None }
 {
-    (kind.is(EntityType::Mon) || !id.is_empty()) && id.len() <= 64 && all_id_bytes(id)
+    (kind.is(EntityType::Mon) || !id.is_empty()) && id.len() <= 64 && are_id_bytes(id)
+}
+
+#[tactic(auto, using(crate::proofs::AsciiTexts::ascii_id_bytes))]
+fn are_id_bytes(id: &[u8]) -> bool
+    ensures value { result ≡ list_all is_id_byte id.now }
+    ensures ascii { result ≡ true → position is_above_ascii id.now ≡ None }
+{
+    all_id_bytes(id)
 }
 
 fn all_id_bytes(id: &[u8]) -> bool

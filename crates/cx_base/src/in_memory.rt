@@ -1,6 +1,6 @@
 //! A source and a sink in memory, which tell all that they give and take, and fail where they are told to.
 
-ghost use Rattle.std.specs.Prelude.{◌≡◌, ◌<◌, ◌≤◌, ◌-◌, [], ◌++◌, length, take, drop, min, IfOk, OnOk, OnErr, is_ok, if◌then◌else◌, Some};
+ghost use Rattle.std.specs.Prelude.{◌≡◌, ◌≤◌, ◌-◌, [], ◌++◌, length, take, drop, min, IfOk, OnOk, OnErr, is_ok, if◌then◌else◌, Some};
 ghost use Rattle.cx_base.specs.Streams.{Gives, Takes, TakesFront, HasCause, is_listed, gives_next, pulled, after_pull, takes_all, after_push};
 
 use crate::outside::{Failed, Sink, Source};
@@ -53,7 +53,6 @@ impl Source for ByteSource {
 
     /// Fails exactly where the number of this call is listed.
     fn pull(&mut self, into: &mut [u8]) -> Result<usize, Failed>
-        requires { 0 < length into.old }
         ensures bound { IfOk result (λ n. n ≤ length into.old) }
         ensures gives { IfOk result (Gives (Some self.old.left) (Some self.new.left) into.new) }
         ensures cause { HasCause self.old.faults self.new.faults result }

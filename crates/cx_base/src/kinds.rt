@@ -5,15 +5,15 @@ ghost use Rattle.cx_base.specs.Names.{same_kind};
 
 use std::fmt;
 
-/// The type of an entity, with its number in Ceph's encodings.
+/// The type of an entity. Its number stands with the encodings of names.
 #[derive(Clone, Copy, Debug, PartialEq, Eq)]
 pub enum EntityType {
-    Mon = 1,
-    Mds = 2,
-    Osd = 4,
-    Client = 8,
-    Mgr = 16,
-    Auth = 32,
+    Mon,
+    Mds,
+    Osd,
+    Client,
+    Mgr,
+    Auth,
 }
 
 impl EntityType {
@@ -51,12 +51,12 @@ impl fmt::Display for EntityType {
     }
 }
 
-/// What an operation asks to do, with its number in a message.
+/// What an operation asks to do. Its number stands with the bodies of messages.
 #[derive(Clone, Copy, Debug, PartialEq, Eq)]
 pub enum Access {
-    Read = 1,
-    Write = 2,
-    Exec = 4,
+    Read,
+    Write,
+    Exec,
 }
 
 impl fmt::Display for Access {

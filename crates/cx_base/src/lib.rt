@@ -10,7 +10,9 @@ mod kinds;
 mod operations;
 mod outside;
 mod owned;
+mod owner;
 mod refusals;
+mod texts;
 
 pub use addresses::Addr;
 pub use copies::{Duplicate, copy_items, copy_option};
@@ -20,7 +22,9 @@ pub use kinds::{Access, EntityType};
 pub use operations::Operation;
 pub use outside::{Failed, Sink, Source};
 pub use owned::{Blob, Items, Text};
+pub use owner::Owner;
 pub use refusals::TextRefusal;
+pub use texts::{is_caps, is_long_part, is_part};
 
 /// A reading of a clock, in nanoseconds. A clock and a schedule stay below 4,000,000,000 s; an expiry may reach
 /// 4,294,967,295.999999999 s.

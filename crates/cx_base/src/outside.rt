@@ -1,6 +1,6 @@
 //! What lies outside of the program: where bytes come from and where they go.
 
-ghost use Rattle.std.specs.Prelude.{ℕ, ◌<◌, ◌≤◌, List, length, Option, IfOk, OnOk, OnErr};
+ghost use Rattle.std.specs.Prelude.{ℕ, ◌≤◌, List, length, Option, IfOk, OnOk, OnErr};
 ghost use Rattle.cx_base.specs.Streams.{Gives, Takes, TakesFront, HasCause};
 
 use thiserror::Error;
@@ -16,9 +16,9 @@ pub trait Source {
 
     ghost faults: { Self → ℕ };
 
-    /// Writes the next bytes at the beginning of `into` and answers how many: at least one, save at the end of input.
+    /// Writes the next bytes at the beginning of `into` and answers how many: at least one, save at the end of input and
+    /// where `into` has no room.
     fn pull(&mut self, into: &mut [u8]) -> Result<usize, Failed>
-        requires { 0 < length into.old }
         ensures bound { IfOk result (λ n. n ≤ length into.old) }
         ensures gives { IfOk result (Gives (left self.old) (left self.new) into.new) }
         ensures cause { HasCause (faults self.old) (faults self.new) result };

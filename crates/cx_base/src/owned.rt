@@ -60,6 +60,17 @@ impl Blob {
     }
 }
 
+impl From<Vec<u8>> for Blob {
+    ghost use Rattle.std.specs.Prelude.{◌≡◌};
+
+    ghost from_gives = { λ bytes blob. blob ≡ bytes.items };
+
+    /// The bytes of a `Vec`, which are not copied.
+    fn from(bytes: Vec<u8>) -> Blob {
+        Blob { held: bytes }
+    }
+}
+
 impl PartialEq for Blob {
     ghost use Rattle.std.specs.Str.{bytes_eq};
     ghost use Rattle.std.specs.Cmp;
@@ -153,6 +164,15 @@ impl Text {
         if let Some(place) = first_above_ascii(bytes) {
             return Err(TextRefusal::NotAscii(place));
         }
+        let held = String::from_str(alloc, ascii(bytes))?;
+        Ok(Text { held })
+    }
+
+    /// The text of bytes that are known to be ASCII.
+    pub fn from_ascii(alloc: Global, bytes: &[u8]) -> Result<Text, AllocError>
+        requires { position is_above_ascii bytes.now ≡ None }
+        ensures { IfOk result (λ text. text ≡ bytes.now) }
+    {
         let held = String::from_str(alloc, ascii(bytes))?;
         Ok(Text { held })
     }

@@ -22,6 +22,49 @@ fn bytes_are_appended_and_copied(rt: HostRuntime) -> Result<(), Fail> {
     Ok(())
 }
 
+/// More of anything than a number of 16 bits counts.
+const MANY: usize = 70_000;
+
+#[test]
+fn bytes_grow_past_every_round_number(rt: HostRuntime) -> Result<(), Fail> {
+    let alloc = rt.alloc();
+    let mut blob = Blob::new(alloc);
+    for _ in 0..MANY {
+        blob.append(alloc, b"x")?;
+    }
+    assert_eq!(rt; blob.bytes().len(), MANY);
+    assert!(rt; blob.copy(alloc)? == blob);
+    assert_eq!(rt; Text::of(alloc, blob.bytes())?.bytes().len(), MANY);
+    Ok(())
+}
+
+#[test]
+fn items_grow_past_every_round_number(rt: HostRuntime) -> Result<(), Fail> {
+    let alloc = rt.alloc();
+    let mut numbers = Items::new(alloc);
+    for number in 0..70_000u64 {
+        numbers.push(alloc, number)?;
+    }
+    assert_eq!(rt; numbers.all().len(), MANY);
+    assert!(rt; copy_items(alloc, &numbers)? == numbers);
+    Ok(())
+}
+
+#[test]
+fn a_vec_of_bytes_is_taken_as_it_is(rt: HostRuntime) -> Result<(), Fail> {
+    let bytes = Vec::from_slice(rt.alloc(), b"ab")?;
+    let blob: Blob = bytes.into();
+    assert_eq!(rt; blob.bytes(), b"ab".as_slice());
+    Ok(())
+}
+
+#[test]
+fn ascii_is_taken_as_text(rt: HostRuntime) -> Result<(), Fail> {
+    let text = Text::from_ascii(rt.alloc(), b"ok")?;
+    assert_eq!(rt; text.as_str(), "ok");
+    Ok(())
+}
+
 #[test]
 fn text_is_ascii(rt: HostRuntime) {
     let alloc = rt.alloc();
@@ -118,6 +161,13 @@ fn a_source_fails_at_its_listed_call_and_gives_the_rest_behind_it(
     assert!(rt; source.pull(&mut into) == Ok(2));
     assert!(rt; into == *b"dec");
     assert!(rt; source.pull(&mut into) == Ok(0));
+    Ok(())
+}
+
+#[test]
+fn a_source_gives_nothing_into_no_room(rt: HostRuntime) -> Result<(), Fail> {
+    let mut source = source(rt.alloc())?;
+    assert!(rt; source.pull(&mut []) == Ok(0));
     Ok(())
 }
 

@@ -8,7 +8,8 @@ use Rattle.std.proofs.lemmas.Slice.Eq.{bytes_eq-Decides}
 use Rattle.cx_base.specs.Names.{Name, name_text}
 use Rattle.cx_base.specs.declared.kinds.Access.{Access}
 use Rattle.cx_base.specs.declared.operations.Operation.{Operation}
-use Rattle.cx_words.specs.Words.{number_of, reading_of, name_of, service_of, services_of, access_of, part_of, hex_of, caps_of, is_caps, is_service}
+use Rattle.cx_words.specs.Words.{number_of, reading_of, name_of, service_of, services_of, access_of, part_of, hex_of, caps_of, is_service}
+use Rattle.cx_base.specs.Texts.{is_caps}
 use Rattle.cx_words.proofs.NumberWords.{number_of-decimal, reading_of-word}
 use Rattle.cx_words.proofs.NameWords.{name_of-text, service_of-word, access_of-word}
 use Rattle.cx_words.proofs.ListWords.{services_of-word}

@@ -7,7 +7,8 @@ use Rattle.cx_base.specs.declared.kinds.EntityType.{EntityType}
 use Rattle.cx_base.specs.declared.kinds.EntityType.TheVariants.{Mds, Osd, Client, Mgr}
 use Rattle.cx_base.specs.Names.{Name, is_id, name_text, same_kind, same_name, type_word, access_word}
 use Rattle.cx_base.specs.declared.operations.Operation.{Operation}
-use Rattle.cx_words.specs.Words.{IsReadingWord, IsHexWord, is_service, is_service_list, services_word, is_part, part_word, quoted}
+use Rattle.cx_words.specs.Words.{IsReadingWord, IsHexWord, is_service, is_service_list, services_word, part_word, quoted}
+use Rattle.cx_base.specs.Texts.{is_part}
 use Rattle.cx_schedule.specs.declared.limits.TheConstants.{MOST_DATA, MOST_ENTITIES, LONGEST_LIFE, END_OF_READINGS}
 use Rattle.cx_schedule.specs.declared.lines.Grant.{Grant}
 use Rattle.cx_schedule.specs.declared.lines.Line.{Line}

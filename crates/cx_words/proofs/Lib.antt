@@ -1,6 +1,5 @@
 pub mod FirstPlace
 pub mod Pieces
-pub mod Ascii
 pub mod NumberWords
 pub mod NameWords
 pub mod TextWords

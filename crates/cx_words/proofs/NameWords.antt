@@ -12,7 +12,7 @@ use Rattle.cx_base.specs.declared.kinds.Access.{Access}
 use Rattle.cx_base.specs.declared.kinds.Access.TheVariants.{Read, Write, Exec}
 use Rattle.cx_words.specs.Words.{access_of, is_access_word, is_point, is_service, is_ticket_service, is_type_word, kept, name_at, name_of, service_of, ticket_service_of, type_of}
 use Rattle.cx_base.specs.Owners.{is_above_ascii}
-use Rattle.cx_words.proofs.Ascii.{ascii_id}
+use Rattle.cx_base.proofs.AsciiTexts.{ascii_id}
 use Rattle.cx_words.proofs.FirstPlace.{cut, take_rest}
 
 -- what is found passes the test

@@ -7,7 +7,8 @@ use Rattle.std.proofs.lemmas.Bool.Decides.{nat_tests}
 use Rattle.std.proofs.lemmas.List.{take_more}
 use Rattle.std.proofs.lemmas.Slice.Eq.{bytes_eq-Decides}
 use Rattle.std.proofs.Math.Seq.{take-append_seam, take-length}
-use Rattle.cx_words.specs.Words.{caps_of, inside, is_caps, is_in_marks, is_long_part, is_part, part_of, part_word, quoted}
+use Rattle.cx_base.specs.Texts.{is_caps, is_long_part, is_part}
+use Rattle.cx_words.specs.Words.{caps_of, inside, is_in_marks, part_of, part_word, quoted}
 
 -- ---- caps
 

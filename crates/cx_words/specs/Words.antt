@@ -8,6 +8,7 @@ use Rattle.hex.specs.Hex.{decode_of, encode_lower, hex_digit_value}
 use Rattle.hex.specs.declared.error.FromHexError.{FromHexError}
 use Rattle.cx_base.specs.Joined.{◌<>◌}
 use Rattle.cx_base.specs.Names.{Name, with_id, type_word, access_word, same_kind}
+use Rattle.cx_base.specs.Texts.{is_caps, is_long_part}
 use Rattle.cx_base.specs.declared.kinds.EntityType.{EntityType}
 use Rattle.cx_base.specs.declared.kinds.EntityType.TheVariants.{Mon, Mds, Osd, Client, Mgr, Auth}
 use Rattle.cx_base.specs.declared.kinds.Access.{Access}
@@ -177,14 +178,6 @@ services_word kinds = join_with_byte 44 (map type_word kinds)
 
 -- ---- caps
 
--- 0x20 to 0x7e, and no quotation mark (34) and no backslash (92)
-abbrev pub is_caps_byte : ℕ → Bool
-is_caps_byte b = nat_le 32 b && nat_le b 126 && not (b == 34) && not (b == 92)
-
--- a capability text: at most 4,096 such bytes
-abbrev pub is_caps : List ℕ → Bool
-is_caps text = nat_le (length text) 4096 && list_all is_caps_byte text
-
 -- the word of a capability text: it stands in quotation marks
 abbrev pub quoted : List ℕ → List ℕ
 quoted text = codes "\"" <> text <> codes "\""
@@ -202,25 +195,6 @@ unfoldable pub caps_of : List ℕ → Option (List ℕ)
 caps_of word = if is_in_marks word && is_caps (inside word) then Some (inside word) else None
 
 -- ---- pools, namespaces and objects
-
--- a letter, a digit, or one of _ - .
-abbrev pub is_part_byte : ℕ → Bool
-is_part_byte b =
-    (nat_le 97 b && nat_le b 122)
-    || (nat_le 65 b && nat_le b 90)
-    || (nat_le 48 b && nat_le b 57)
-    || (b == 95)
-    || (b == 45)
-    || (b == 46)
-
--- 1 to 255 such bytes, and not '-' alone
-abbrev pub is_long_part : List ℕ → Bool
-is_long_part text = not (bytes_eq text (codes "-")) && nat_le 1 (length text) && nat_le (length text) 255 && list_all is_part_byte text
-
--- a pool, a namespace or an object: empty, or such a text
-abbrev pub is_part : List ℕ → Bool
-is_part [] = true
-is_part (b ∷ bs) = is_long_part (b ∷ bs)
 
 -- its word: '-' where it is empty
 abbrev pub part_word : List ℕ → List ℕ

@@ -3,7 +3,8 @@
 ghost use Rattle.std.specs.Prelude.{◌≡◌, ◌<◌, ◌^◌, decimal, IsTrue};
 ghost use Rattle.cx_base.specs.Names.{access_word, is_id, name_text, type_word};
 ghost use Rattle.cx_words.specs.Laws.{IsReadExactly};
-ghost use Rattle.cx_words.specs.Words.{access_of, caps_of, hex_of, is_caps, is_part, is_service, is_service_list, is_ticket_service, name_of, number_of, part_of, part_word, quoted, reading_of, service_of, services_of, services_word, ticket_service_of, IsHexWord, IsReadingWord};
+ghost use Rattle.cx_base.specs.Texts.{is_caps, is_part};
+ghost use Rattle.cx_words.specs.Words.{access_of, caps_of, hex_of, is_service, is_service_list, is_ticket_service, name_of, number_of, part_of, part_word, quoted, reading_of, service_of, services_of, services_word, ticket_service_of, IsHexWord, IsReadingWord};
 
 /// Each kind of word is read as a value exactly where it spells that value. So a word has one value at most, and each reader
 /// gives it wherever there is one, but for want of memory.

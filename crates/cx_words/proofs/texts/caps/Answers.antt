@@ -1,6 +1,5 @@
-use Rattle.std.proofs.Common.{rules, sym, ◌∙◌}
-use Rattle.cx_words.specs.Words.{caps_of, inside}
-use Rattle.cx_words.proofs.Ascii.{ascii_caps}
+use Rattle.std.proofs.Common.{rules}
+use Rattle.cx_words.specs.Words.{caps_of}
 use Rattle.cx_words.proofs.TextWords.{caps_spelled}
 use Rattle.cx_words.proofs.texts.caps.Goals as goal
 
@@ -11,9 +10,6 @@ returns-then-not-is_in_marks-clause-read c = search rules
 pub returns-then-not-is_caps-clause-read : goal.returns-then-not-is_caps-clause-read
 unfolding caps_of
 returns-then-not-is_caps-clause-read c = search rules
-
-pub text-requires : goal.text-requires
-text-requires c = ascii_caps (inside c.args.word.now) (sym c.is_caps.ensures ∙ c.if-not-is_caps.false)
 
 pub returns-clause-read : goal.returns-clause-read
 unfolding caps_of
