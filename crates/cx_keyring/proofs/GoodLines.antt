@@ -5,13 +5,14 @@ use Rattle.std.specs.List.{list_all, position_from}
 use Rattle.std.specs.Str.{bytes_eq}
 use Rattle.std.specs.Prelude.{codes}
 use Rattle.cx_base.specs.declared.kinds.EntityType.{EntityType}
-use Rattle.cx_words.specs.Words.{caps_of, is_caps, is_service, name_of, inside, quoted, service_of}
+use Rattle.cx_base.specs.Texts.{is_caps}
+use Rattle.cx_words.specs.Words.{caps_of, is_service, name_of, inside, service_of}
 use Rattle.cx_words.proofs.NameWords.{service_of-is}
 use Rattle.cx_words.proofs.TextWords.{caps_of-is}
 use Rattle.cx_keyring.specs.declared.lines.Line.{Line}
 use Rattle.cx_keyring.specs.declared.lines.Line.TheVariants as lines
 use Rattle.cx_keyring.specs.Keys.{key_of}
-use Rattle.cx_keyring.specs.Lines.{begins_caps, caps_text_of, first_of, is_bracketed, is_equals, is_skipped, line_of, lines_said, said_by, setting, setting_at, trimmed, without_cr}
+use Rattle.cx_keyring.specs.Lines.{begins_caps, caps_text_of, first_of, is_bracketed, is_equals, is_skipped, line_of, plain_caps, said_by, setting, setting_at, trimmed, without_cr}
 
 -- caps that are read are such as an entry may have
 abbrev pub is_line : Line → Bool
@@ -33,10 +34,14 @@ first_good : (first second : Option (List ℕ)) (caps : List ℕ) → ((text : L
 first_good (Some text) second caps p q e = p caps e
 first_good None second caps p q e = q caps e
 
+plain_good : (text caps : List ℕ) (b : Bool) → is_caps text ≡ b → cond b (Some text) None ≡ Some caps → is_caps caps ≡ true
+plain_good text caps true is e = let same : text ≡ caps = cc in ap is_caps (sym same) ∙ is
+plain_good text caps false is e = absurd (let p : None ≡ Some caps = e in cc)
+
 text_good : (text caps : List ℕ) → caps_text_of text ≡ Some caps → is_caps caps ≡ true
 unfolding caps_text_of
 text_good text caps e =
-    first_good (caps_of text) (caps_of (quoted text)) caps (λ t p. (caps_of-is text t p).0) (λ t p. (caps_of-is (quoted text) t p).0) e
+    first_good (caps_of text) (plain_caps text) caps (λ t p. (caps_of-is text t p).0) (λ t p. plain_good text t (is_caps text) refl p) e
 
 setting_good : (left right : List ℕ) → is_line (setting left right) ≡ true
 unfolding setting

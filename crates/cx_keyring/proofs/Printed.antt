@@ -9,7 +9,8 @@ use Rattle.cx_base.specs.Names.{Name, is_id, is_id_byte, name_text, same_kind, t
 use Rattle.cx_base.specs.declared.kinds.EntityType.{EntityType}
 use Rattle.cx_base.specs.declared.kinds.EntityType.TheVariants.{Mon, Mds, Osd, Client, Mgr, Auth}
 use Rattle.cx_words.specs.Cutting.{is_line_end, lines_of, onto_first}
-use Rattle.cx_words.specs.Words.{is_caps, is_caps_byte, is_service}
+use Rattle.cx_base.specs.Texts.{is_caps, is_caps_byte}
+use Rattle.cx_words.specs.Words.{is_service}
 use Rattle.cx_keyring.specs.declared.entries.Entry.{Entry}
 use Rattle.cx_keyring.specs.declared.entries.Grant.{Grant}
 use Rattle.cx_keyring.specs.declared.lines.Line.{Line}

@@ -10,7 +10,8 @@ use Rattle.cx_base.specs.Names.{Name, is_id, is_id_byte, name_text, type_word}
 use Rattle.cx_base.specs.declared.kinds.EntityType.{EntityType}
 use Rattle.cx_base.specs.declared.kinds.EntityType.TheVariants.{Mon, Mds, Osd, Client, Mgr, Auth}
 use Rattle.cx_words.specs.Cutting.{is_line_end}
-use Rattle.cx_words.specs.Words.{caps_of, inside, is_caps, is_caps_byte, is_service, name_of, quoted, service_of}
+use Rattle.cx_base.specs.Texts.{is_caps, is_caps_byte}
+use Rattle.cx_words.specs.Words.{caps_of, inside, is_service, name_of, quoted, service_of}
 use Rattle.cx_words.proofs.NameWords.{name_of-text, service_of-word}
 use Rattle.cx_words.proofs.TextWords.{caps_of-quoted}
 use Rattle.cx_keyring.specs.declared.lines.Line.{Line}

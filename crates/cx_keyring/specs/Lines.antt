@@ -3,7 +3,8 @@ use Rattle.std.specs.Prelude.{ℕ, ◌+◌, ◌-◌, ◌==◌, Bool, true, false
 use Rattle.std.specs.List.{list_all, position_from}
 use Rattle.std.specs.Str.{bytes_eq}
 use Rattle.cx_words.specs.Cutting.{lines_of}
-use Rattle.cx_words.specs.Words.{caps_of, inside, name_of, quoted, service_of}
+use Rattle.cx_base.specs.Texts.{is_caps}
+use Rattle.cx_words.specs.Words.{caps_of, inside, name_of, service_of}
 use Rattle.cx_keyring.specs.declared.lines.Line.{Line}
 use Rattle.cx_keyring.specs.declared.lines.Line.TheVariants as lines
 use Rattle.cx_keyring.specs.Keys.{key_of}
@@ -47,9 +48,13 @@ abbrev pub first_of : Option (List ℕ) → Option (List ℕ) → Option (List �
 first_of (Some text) other = Some text
 first_of None other = other
 
+-- a capability text without quotation marks
+abbrev pub plain_caps : List ℕ → Option (List ℕ)
+plain_caps text = if is_caps text then Some text else None
+
 -- a capability text, in quotation marks or plain
 unfoldable pub caps_text_of : List ℕ → Option (List ℕ)
-caps_text_of text = first_of (caps_of text) (caps_of (quoted text))
+caps_text_of text = first_of (caps_of text) (plain_caps text)
 
 -- "caps" and a blank, and something behind
 abbrev pub begins_caps : List ℕ → Bool

@@ -7,7 +7,7 @@ ghost use Rattle.cx_keyring.specs.Lines.{begins_caps, caps_text_of, is_blank, is
 
 use crate::keys::key;
 use crate::lines::Line;
-use cx_base::{Blob, Text};
+use cx_base::{Text, is_caps};
 use cx_words::{caps, is_word, name, service};
 use std::alloc::{AllocError, Global};
 
@@ -61,10 +61,11 @@ fn caps_text(alloc: Global, text: &[u8]) -> Result<Option<Text>, AllocError>
     if let Some(found) = caps(alloc, text)? {
         return Ok(Some(found));
     }
-    let mut quoted = Blob::of(alloc, b"\"")?;
-    quoted.append(alloc, text)?;
-    quoted.append(alloc, b"\"")?;
-    caps(alloc, quoted.bytes())
+    if !is_caps(text) {
+        return Ok(None);
+    }
+    let plain = Text::from_ascii(alloc, text)?;
+    Ok(Some(plain))
 }
 
 fn is_skipped(line: &[u8]) -> bool

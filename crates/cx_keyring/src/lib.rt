@@ -22,3 +22,15 @@ pub use limits::MOST_ENTRIES;
 pub use printing::print;
 pub use reading::parse;
 pub use refusals::{AddRefusal, KeyringRefusal};
+
+// Each public type may be sent to another thread and shared with one.
+fn is_sendable<T: Send + Sync>() {}
+
+fn all_are_sendable() {
+    is_sendable::<Grant>();
+    is_sendable::<Entry>();
+    is_sendable::<Keyring>();
+    is_sendable::<KeyringFault>();
+    is_sendable::<KeyringRefusal>();
+    is_sendable::<AddRefusal>();
+}

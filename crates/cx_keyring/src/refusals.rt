@@ -3,15 +3,19 @@
 use crate::entries::Entry;
 use crate::faults::KeyringFault;
 use std::alloc::AllocError;
+use thiserror::Error;
 
 /// Why bytes are not read as a keyring.
-#[derive(Clone, Copy, Debug, PartialEq, Eq)]
+#[derive(Clone, Copy, Debug, PartialEq, Eq, Error)]
 pub enum KeyringRefusal {
     /// The first line that is wrong, counted from 1, and what is wrong with it.
+    #[error("line {line}: {why}")]
     BadLine { line: u64, why: KeyringFault },
     /// There are more sections than this.
+    #[error("a keyring has at most {0} sections")]
     TooMany(usize),
     /// Memory was wanting.
+    #[error("out of memory")]
     OutOfMemory,
 }
 
@@ -27,11 +31,13 @@ impl From<AllocError> for KeyringRefusal {
 }
 
 /// Why an entry isn't added to a keyring.
-#[derive(Debug, PartialEq, Eq, Drop)]
+#[derive(Debug, PartialEq, Eq, Drop, Error)]
 pub enum AddRefusal {
     /// The keyring has an entry of this name. The new one comes back.
+    #[error("the keyring has an entry of this name")]
     Repeated(Entry),
     /// Memory was wanting, and the entry is given up.
+    #[error("out of memory")]
     OutOfMemory,
 }
 
