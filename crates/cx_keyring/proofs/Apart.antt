@@ -1,7 +1,8 @@
 -- Entries of different names.
-use Rattle.std.proofs.Common.{◌≡◌, ℕ, zero, suc, ◌+◌, ◌<◌, ◌≤◌, Bool, true, false, cond, List, [], ◌∷◌, ◌++◌, length, take, get_or, Option, Some, None, refl, sym, ap, ◌∙◌, arith, append_assoc, IsTrue}
+use Rattle.std.proofs.Common.{◌≡◌, ℕ, zero, suc, ◌+◌, ◌<◌, ◌≤◌, Bool, true, false, cond, List, [], ◌∷◌, ◌++◌, length, take, get_or, Option, Some, None, refl, sym, ap, ◌∙◌, arith, append_assoc, Bor, IfSome, IsTrue}
 use Rattle.std.specs.Prelude.{◌&&◌, ◌||◌, not, find, is_some, position}
 use Rattle.std.specs.List.{list_all, list_any}
+use Rattle.std.specs.Option.{option_copied}
 use Rattle.std.proofs.lemmas.Bool.{and_parts}
 use Rattle.std.proofs.lemmas.List.{append-nil}
 use Rattle.std.proofs.lemmas.List.Folds.{list_all-append}
@@ -69,3 +70,20 @@ placed_by name other entries entry old false same is fresh placed =
 pub placed_more : (name other : Name) (entries : List Entry) (entry : Entry) (old : Option ℕ) → entry.name ≡ name → position (is_named name) entries ≡ None → old ≡ position (is_named other) entries
     → cond (same_name name other) (Some (length entries)) old ≡ position (is_named other) (entries ++ entry ∷ [])
 placed_more name other entries entry old is fresh placed = placed_by name other entries entry old (same_name name other) refl is fresh placed
+
+good_by : (name : Name) (x : Entry) (xs : List Entry) (entry : Entry) (b : Bool) → is_named name x ≡ b → cond b (Some x) (find (is_named name) xs) ≡ Some entry → are_grants x.caps ≡ true
+    → (find (is_named name) xs ≡ Some entry → are_grants entry.caps ≡ true) → are_grants entry.caps ≡ true
+good_by name x xs entry true is e good more = let same : x ≡ entry = cc in ap (λ (y : Entry). are_grants y.caps) (sym same) ∙ good
+good_by name x xs entry false is e good more = more e
+
+all_good : (name : Name) (xs : List Entry) (entry : Entry) → list_all (λ (e : Entry). are_grants e.caps) xs ≡ true → find (is_named name) xs ≡ Some entry → are_grants entry.caps ≡ true
+all_good name [] entry good e = absurd (let p : None ≡ Some entry = e in cc)
+all_good name (x ∷ xs) entry good e =
+    let parts = and_parts (are_grants x.caps) (list_all (λ (y : Entry). are_grants y.caps) xs) good in
+    good_by name x xs entry (is_named name x) refl e parts.0 (all_good name xs entry parts.1)
+
+-- the caps of an entry that is found are such as an entry may have
+pub found_good : (found : Option (Bor Entry)) (name : Name) (ring : List Entry) → option_copied found ≡ find (is_named name) ring → IsTrue (is_ring ring) → IfSome found (λ entry. IsTrue (are_grants entry.now.caps))
+found_good None name ring is good = tt
+found_good (Some entry) name ring is good =
+    all_good name ring entry.now (and_parts (list_all (λ (e : Entry). are_grants e.caps) ring) (are_apart [] ring) good).0 (sym is)

@@ -79,8 +79,8 @@ apart_keyed before earlier rest name (Some key) caps known fresh later =
     let entry : Entry = record { name = name; key = key; caps = caps } in
     let none = impossible (list_any (is_named name) earlier) (list_any (is_section_of name) before) (known name) fresh in
     let more = later (earlier ++ entry ∷ []) (λ n e.
-        list_any-append (is_section_of n) before (lines.Section (Some name) ∷ [])
-        ∙ or_both (list_any (is_named n) earlier) (list_any (is_section_of n) before) (list_any (is_named n) (entry ∷ [])) (known n) (sym (list_any-append (is_named n) earlier (entry ∷ [])) ∙ e)) in
+    list_any-append (is_section_of n) before (lines.Section (Some name) ∷ [])
+    ∙ or_both (list_any (is_named n) earlier) (list_any (is_section_of n) before) (list_any (is_named n) (entry ∷ [])) (known n) (sym (list_any-append (is_named n) earlier (entry ∷ [])) ∙ e)) in
     rw (none, more) refl
 
 apart_law : (before : List Line) (earlier : List Entry) (all : List Line)
@@ -110,9 +110,9 @@ differ_law before earlier (lines.Caps (Some service) (Some text) ∷ after) know
     let fresh = caps_fresh before service text after parts.0 in
     let none = impossible (has_service service earlier) (list_any (is_caps_for service) (body_of before)) (known service) fresh in
     let more = differ_law (before ++ line ∷ []) (earlier ++ grant ∷ []) after (λ s e.
-        ap (list_any (is_caps_for s)) (body_push before line)
-        ∙ list_any-append (is_caps_for s) (body_of before) (line ∷ [])
-        ∙ or_both (has_service s earlier) (list_any (is_caps_for s) (body_of before)) (has_service s (grant ∷ [])) (known s) (sym (list_any-append (λ (g : Grant). same_kind s g.service) earlier (grant ∷ [])) ∙ e)) parts.1 in
+    ap (list_any (is_caps_for s)) (body_push before line)
+    ∙ list_any-append (is_caps_for s) (body_of before) (line ∷ [])
+    ∙ or_both (has_service s earlier) (list_any (is_caps_for s) (body_of before)) (has_service s (grant ∷ [])) (known s) (sym (list_any-append (λ (g : Grant). same_kind s g.service) earlier (grant ∷ [])) ∙ e)) parts.1 in
     rw (none, more) refl
 differ_law before earlier (line ∷ after) known good =
     let parts = good_here before line after good in

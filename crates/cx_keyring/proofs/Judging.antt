@@ -53,9 +53,9 @@ judged_line judged all i line repeated keyless fault here is judges is_rep is_le
     let repeats = is_rep ∙ ap (λ (b : List Line). is_repeated (λ name. is_some (place_of judged.names.ids name)) b line) body ∙ same in
     let less = is_less ∙ ap (is_keyless line) (take_rest (i + 1) all) in
     let wrong : fault ≡ fault_at (take i all) line (drop (i + 1) all) =
-        is_fault ∙ ap (λ b. fault_of b repeated keyless line) judges.begun
-        ∙ ap (λ b. fault_of (list_any is_section (take i all)) b keyless line) repeats
-        ∙ ap (λ b. fault_of (list_any is_section (take i all)) (is_repeated (λ name. list_any (is_section_of name) (take i all)) (body_of (take i all)) line) b line) less in
+    is_fault ∙ ap (λ b. fault_of b repeated keyless line) judges.begun
+    ∙ ap (λ b. fault_of (list_any is_section (take i all)) b keyless line) repeats
+    ∙ ap (λ b. fault_of (list_any is_section (take i all)) (is_repeated (λ name. list_any (is_section_of name) (take i all)) (body_of (take i all)) line) b line) less in
     ap (first_bad (take i all)) cut
     ∙ ap (λ k. or_later (k + 1) (fault_at (take i all) line (drop (i + 1) all)) (first_bad (take i all ++ line ∷ []) (drop (i + 1) all))) n
     ∙ ap (λ f. or_later (i + 1) f (first_bad (take i all ++ line ∷ []) (drop (i + 1) all))) (sym wrong)

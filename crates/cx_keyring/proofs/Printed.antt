@@ -61,7 +61,7 @@ grant_said grant rest good =
     let whole : printed_grant grant ++ rest ≡ line ++ 10 ∷ rest = simp append_assoc in
     let caps = in_line is_caps_byte grant.caps caps_high (and_parts (nat_le (length grant.caps) 4096) (list_all is_caps_byte grant.caps) parts.1).1 in
     let none : list_any is_line_end line ≡ false =
-        joined (type_word grant.service) (codes " = \"" ++ (grant.caps ++ 34 ∷ [])) (word_in_line grant.service) (joined grant.caps (34 ∷ []) caps refl) in
+    joined (type_word grant.service) (codes " = \"" ++ (grant.caps ++ 34 ∷ [])) (word_in_line grant.service) (joined grant.caps (34 ∷ []) caps refl) in
     ap lines_said whole ∙ said_behind line rest (said_grant grant) none (caps_line grant.service grant.caps parts.0 parts.1)
 
 grants_said : (grants : List Grant) (rest : List ℕ) → list_all is_grant grants ≡ true → lines_said (flat_map printed_grant grants ++ rest) ≡ map said_grant grants ++ lines_said rest

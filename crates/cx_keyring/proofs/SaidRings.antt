@@ -83,10 +83,10 @@ grants_clean before earlier (grant ∷ grants) rest begun known apart next =
     let fresh : list_any (is_caps_for grant.service) (body_of before) ≡ false = known grant.service ∙ not_true (has_service grant.service earlier) parts.0 in
     let good : fault_at before line (map said_grant grants ++ rest) ≡ None = rw (begun, fresh) refl in
     let wider : (s : EntityType) → list_any (is_caps_for s) (body_of (before ++ line ∷ [])) ≡ has_service s (earlier ++ grant ∷ []) =
-        λ s. ap (list_any (is_caps_for s)) (body_push before line)
-        ∙ list_any-append (is_caps_for s) (body_of before) (line ∷ [])
-        ∙ ap (λ b. b || (same_kind s grant.service || false)) (known s)
-        ∙ sym (list_any-append (λ (g : Grant). same_kind s g.service) earlier (grant ∷ [])) in
+    λ s. ap (list_any (is_caps_for s)) (body_push before line)
+    ∙ list_any-append (is_caps_for s) (body_of before) (line ∷ [])
+    ∙ ap (λ b. b || (same_kind s grant.service || false)) (known s)
+    ∙ sym (list_any-append (λ (g : Grant). same_kind s g.service) earlier (grant ∷ [])) in
     goes_on before line (map said_grant grants ++ rest) good
     (grants_clean (before ++ line ∷ []) (earlier ++ grant ∷ []) grants rest (stands before line true begun refl) wider parts.1
     (λ behind same. next behind (λ name. same name ∙ same_names before line name refl)))
@@ -128,9 +128,9 @@ ring_clean before earlier (entry ∷ ring) known good apart =
     let parts = and_parts (not (list_any (is_named entry.name) earlier)) (are_apart (earlier ++ entry ∷ []) ring) apart in
     let fresh : list_any (is_section_of entry.name) before ≡ false = known entry.name ∙ not_true (list_any (is_named entry.name) earlier) parts.0 in
     entry_clean before entry (said_ring ring) fresh own.1 (λ behind same.
-        ring_clean behind (earlier ++ entry ∷ []) ring
-        (λ name. same name ∙ ap (λ b. b || (same_name name entry.name || false)) (known name) ∙ sym (list_any-append (is_named name) earlier (entry ∷ [])))
-        all.1 parts.1)
+    ring_clean behind (earlier ++ entry ∷ []) ring
+    (λ name. same name ∙ ap (λ b. b || (same_name name entry.name || false)) (known name) ∙ sym (list_any-append (is_named name) earlier (entry ∷ [])))
+    all.1 parts.1)
 
 pub said_clean : (ring : List Entry) → IsTrue (is_ring ring) → first_bad [] (said_ring ring) ≡ None
 said_clean ring good =

@@ -65,7 +65,8 @@ impl Keyring {
 
     /// The entry of the name.
     pub fn find(&self, name: &EntityName) -> Option<&Entry>
-        ensures { option_copied result ≡ find (is_named name.now) self.now }
+        ensures found { option_copied result ≡ find (is_named name.now) self.now }
+        ensures good { IfSome result (λ entry. IsTrue (are_grants entry.now.caps)) }
     {
         entry_at(self.entries.all(), self.names.find(name))
     }

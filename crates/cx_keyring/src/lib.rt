@@ -34,3 +34,6 @@ fn all_are_sendable() {
     is_sendable::<KeyringRefusal>();
     is_sendable::<AddRefusal>();
 }
+
+#[cfg(test)]
+mod tests;

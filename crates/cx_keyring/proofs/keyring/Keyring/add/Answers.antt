@@ -19,6 +19,6 @@ invariant_of-self-in_default c =
     record {
       ring = rw pushed (ring_push old entry c.self.invariant.ring c.requires none);
       placed = λ n.
-        let put : place_of c.put.new.self.ids n ≡ cond (same_name entry.name n) (Some (length old)) (place_of c.self.inside.names.ids n) = search rules in
-        put ∙ placed_more entry.name n old entry (place_of c.self.inside.names.ids n) refl (position_none (is_named entry.name) old none) (c.self.invariant.placed n) ∙ sym (ap (λ (es : List Entry). position (is_named n) es) pushed);
+          let put : place_of c.put.new.self.ids n ≡ cond (same_name entry.name n) (Some (length old)) (place_of c.self.inside.names.ids n) = search rules in
+          put ∙ placed_more entry.name n old entry (place_of c.self.inside.names.ids n) refl (position_none (is_named entry.name) old none) (c.self.invariant.placed n) ∙ sym (ap (λ (es : List Entry). position (is_named n) es) pushed);
     }
