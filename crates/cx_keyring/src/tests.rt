@@ -9,189 +9,251 @@ use crate::{
 use cx_base::{Duplicate, EntityName, EntityType, Items, Text};
 use cx_enc::{Key, Time};
 use std::alloc::Global;
+use std::process::Abort;
 use std::test::Fail;
 
 /// A key of time 0 whose bytes are 0 to 15.
 const KEY: &str = "AQAAAAAAAAAAABAAAAECAwQFBgcICQoLDA0ODw==";
 
-/// Keyrings and what is printed of them; `KEY` stands for the key in both.
-static KEYRINGS: [(&str, &str); 6] = [
-    (
-        "[client.vm]\nkey = KEY\ncaps mon = \"profile rbd\"\ncaps osd = \"profile rbd pool=vms, allow r pool=images\"\n",
-        "[client.vm]\n\tkey = KEY\n\tcaps mon = \"profile rbd\"\n\tcaps osd = \"profile rbd pool=vms, allow r pool=images\"\n",
-    ),
-    ("", ""),
-    (
-        "# caf\u{e9}\r\n\r\n ; any = thing\r\n\t[osd.0] \r\n key=KEY \t\r\ncaps\t mon  =\tallow r, allow w\r\ncaps mgr =",
-        "[osd.0]\n\tkey = KEY\n\tcaps mon = \"allow r, allow w\"\n\tcaps mgr = \"\"\n",
-    ),
-    ("[mon.]\nkey = KEY", "[mon.]\n\tkey = KEY\n"),
-    (
-        "[mgr.x]\ncaps osd = \" allow * \"\nkey = KEY\ncaps mds = a=b\n",
-        "[mgr.x]\n\tkey = KEY\n\tcaps osd = \" allow * \"\n\tcaps mds = \"a=b\"\n",
-    ),
-    (
-        "[client.a]\nkey = KEY\n[osd.a]\nkey = KEY\n",
-        "[client.a]\n\tkey = KEY\n[osd.a]\n\tkey = KEY\n",
-    ),
+/// A keyring and its printed form. `KEY` stands for the key.
+struct Printed {
+    text: &'static str,
+    printed: &'static str,
+}
+
+static KEYRINGS: [Printed; 6] = [
+    Printed {
+        text: "[client.vm]\nkey = KEY\ncaps mon = \"profile rbd\"\ncaps osd = \"profile rbd pool=vms, allow r pool=images\"\n",
+        printed: "[client.vm]\n\tkey = KEY\n\tcaps mon = \"profile rbd\"\n\tcaps osd = \"profile rbd pool=vms, allow r pool=images\"\n",
+    },
+    Printed {
+        text: "",
+        printed: "",
+    },
+    Printed {
+        text: "# caf\u{e9}\r\n\r\n ; any = thing\r\n\t[osd.0] \r\n key=KEY \t\r\ncaps\t mon  =\tallow r, allow w\r\ncaps mgr =",
+        printed: "[osd.0]\n\tkey = KEY\n\tcaps mon = \"allow r, allow w\"\n\tcaps mgr = \"\"\n",
+    },
+    Printed {
+        text: "[mon.]\nkey = KEY",
+        printed: "[mon.]\n\tkey = KEY\n",
+    },
+    Printed {
+        text: "[mgr.x]\ncaps osd = \" allow * \"\nkey = KEY\ncaps mds = a=b\n",
+        printed: "[mgr.x]\n\tkey = KEY\n\tcaps osd = \" allow * \"\n\tcaps mds = \"a=b\"\n",
+    },
+    Printed {
+        text: "[client.a]\nkey = KEY\n[osd.a]\nkey = KEY\n",
+        printed: "[client.a]\n\tkey = KEY\n[osd.a]\n\tkey = KEY\n",
+    },
 ];
+
+fn check_printed(rt: &impl Abort, alloc: Global, row: &Printed) -> Result<(), Fail> {
+    let text = row.text.replace(alloc, "KEY", KEY)?;
+    let wanted = row.printed.replace(alloc, "KEY", KEY)?;
+    let ring = parse(alloc, text.as_bytes())?;
+    let printed = print(alloc, &ring)?;
+    assert_eq!(rt; printed.bytes(), wanted.as_bytes());
+    Ok(())
+}
 
 #[test]
 fn keyrings_are_printed_in_one_form(rt: HostRuntime) -> Result<(), Fail> {
-    let alloc = rt.alloc();
-    for (text, printed) in KEYRINGS {
-        let text = text.replace(alloc, "KEY", KEY)?;
-        let printed_text = printed.replace(alloc, "KEY", KEY)?;
-        let ring = parse(alloc, text.as_bytes())?;
-        let once = print(alloc, &ring)?;
-        assert_eq!(rt; once.bytes(), printed_text.as_bytes());
-        let again = parse(alloc, once.bytes())?;
-        let twice = print(alloc, &again)?;
-        assert!(rt; twice == once);
+    for row in &KEYRINGS {
+        check_printed(&rt, rt.alloc(), row)?;
     }
     Ok(())
 }
 
-/// Files, the number of the first line that is wrong, and its fault; `KEY` stands for a key.
-static BAD_FILES: [(&str, u64, KeyringFault); 33] = [
-    (
-        "key = KEY\n[client.a]\nkey = KEY",
-        1,
-        KeyringFault::NoSection,
-    ),
-    ("\n# a\nany\n", 3, KeyringFault::NoSection),
-    ("[client.a\nkey = KEY", 1, KeyringFault::NoSection),
-    ("[global]\nkey = KEY", 1, KeyringFault::BadName),
-    ("[ client.a ]\nkey = KEY", 1, KeyringFault::BadName),
-    ("[]", 1, KeyringFault::BadName),
-    ("[client.]\n", 1, KeyringFault::BadName),
-    ("[client.a]\nkey =\n", 2, KeyringFault::BadKey),
-    ("[client.a]\nkey = KEY KEY", 2, KeyringFault::BadKey),
-    ("[client.a]\nkey = \"KEY\"", 2, KeyringFault::BadKey),
-    (
-        "[client.a]\nkey = AQAAAAAAAAAAABAAAAECAwQFBgcICQoLDA0ODx==",
-        2,
-        KeyringFault::BadKey,
-    ),
-    (
-        "[client.a]\nkey = AQAAAAAAAAAAABAAAAECAwQFBgcICQoLDA0ODw",
-        2,
-        KeyringFault::BadKey,
-    ),
-    (
-        "[client.a]\nkey = AgAAAAAAAAAAABAAAAECAwQFBgcICQoLDA0ODw==",
-        2,
-        KeyringFault::BadKey,
-    ),
-    (
-        "[client.a]\nkey = AQAAAAAAAMqaOxAAAAECAwQFBgcICQoLDA0ODw==",
-        2,
-        KeyringFault::BadKey,
-    ),
-    (
-        "[client.a]\nkey = AQAAAAAAAAAAABAAAAECAwQFBgcICQoLDA0ODxA=",
-        2,
-        KeyringFault::BadKey,
-    ),
-    (
-        "[client.a]\nkey = KEY\ncaps rgw = allow *",
-        3,
-        KeyringFault::BadService,
-    ),
-    (
-        "[client.a]\nkey = KEY\ncaps mon osd = allow *",
-        3,
-        KeyringFault::BadService,
-    ),
-    (
-        "[client.a]\nkey = KEY\ncaps client = a\"b",
-        3,
-        KeyringFault::BadService,
-    ),
-    (
-        "[client.a]\nkey = KEY\ncaps mon = \"a",
-        3,
-        KeyringFault::BadCaps,
-    ),
-    (
-        "[client.a]\nkey = KEY\ncaps mon = \"a\" b\"",
-        3,
-        KeyringFault::BadCaps,
-    ),
-    (
-        "[client.a]\nkey = KEY\ncaps mon = a\\b",
-        3,
-        KeyringFault::BadCaps,
-    ),
-    (
-        "[client.a]\nkey = KEY\ncaps mon = a\tb",
-        3,
-        KeyringFault::BadCaps,
-    ),
-    (
-        "[client.a]\nkey = KEY\n[client.b]\nkey = KEY\n[client.a]\n",
-        5,
-        KeyringFault::Repeated,
-    ),
-    (
-        "[client.a]\nkey = KEY\nkey = KEY",
-        3,
-        KeyringFault::Repeated,
-    ),
-    (
-        "[client.a]\ncaps mon = a\nkey = KEY\n\ncaps mon = b",
-        5,
-        KeyringFault::Repeated,
-    ),
-    ("[client.a]", 1, KeyringFault::NoKey),
-    (
-        "[client.a]\ncaps mon = a\n[client.b]\nkey = KEY",
-        1,
-        KeyringFault::NoKey,
-    ),
-    (
-        "[client.a]\nany\n[client.b]\nkey = KEY",
-        1,
-        KeyringFault::NoKey,
-    ),
-    (
-        "[client.a]\nauid = 0\nkey = KEY",
-        2,
-        KeyringFault::Unreadable,
-    ),
-    (
-        "[client.a]\nkey = KEY\ncaps = allow *",
-        3,
-        KeyringFault::Unreadable,
-    ),
-    (
-        "[client.a]\nkey = KEY\ncaps mon",
-        3,
-        KeyringFault::Unreadable,
-    ),
-    (
-        "[client.a]\nkey: KEY\nkey = KEY",
-        2,
-        KeyringFault::Unreadable,
-    ),
-    (
-        "[client.a]\nany\n\nkey = KEY\n\n[osd.0]\nkey = KEY\n\nkey = KEY\n",
-        2,
-        KeyringFault::Unreadable,
-    ),
+/// A file, the number of its first line that is wrong, and that line's fault. `KEY` stands for a key.
+struct Bad {
+    text: &'static str,
+    line: u64,
+    why: KeyringFault,
+}
+
+static BAD_FILES: [Bad; 33] = [
+    Bad {
+        text: "key = KEY\n[client.a]\nkey = KEY",
+        line: 1,
+        why: KeyringFault::NoSection,
+    },
+    Bad {
+        text: "\n# a\nany\n",
+        line: 3,
+        why: KeyringFault::NoSection,
+    },
+    Bad {
+        text: "[client.a\nkey = KEY",
+        line: 1,
+        why: KeyringFault::NoSection,
+    },
+    Bad {
+        text: "[global]\nkey = KEY",
+        line: 1,
+        why: KeyringFault::BadName,
+    },
+    Bad {
+        text: "[ client.a ]\nkey = KEY",
+        line: 1,
+        why: KeyringFault::BadName,
+    },
+    Bad {
+        text: "[]",
+        line: 1,
+        why: KeyringFault::BadName,
+    },
+    Bad {
+        text: "[client.]\n",
+        line: 1,
+        why: KeyringFault::BadName,
+    },
+    Bad {
+        text: "[client.a]\nkey =\n",
+        line: 2,
+        why: KeyringFault::BadKey,
+    },
+    Bad {
+        text: "[client.a]\nkey = KEY KEY",
+        line: 2,
+        why: KeyringFault::BadKey,
+    },
+    Bad {
+        text: "[client.a]\nkey = \"KEY\"",
+        line: 2,
+        why: KeyringFault::BadKey,
+    },
+    Bad {
+        text: "[client.a]\nkey = AQAAAAAAAAAAABAAAAECAwQFBgcICQoLDA0ODx==",
+        line: 2,
+        why: KeyringFault::BadKey,
+    },
+    Bad {
+        text: "[client.a]\nkey = AQAAAAAAAAAAABAAAAECAwQFBgcICQoLDA0ODw",
+        line: 2,
+        why: KeyringFault::BadKey,
+    },
+    Bad {
+        text: "[client.a]\nkey = AgAAAAAAAAAAABAAAAECAwQFBgcICQoLDA0ODw==",
+        line: 2,
+        why: KeyringFault::BadKey,
+    },
+    Bad {
+        text: "[client.a]\nkey = AQAAAAAAAMqaOxAAAAECAwQFBgcICQoLDA0ODw==",
+        line: 2,
+        why: KeyringFault::BadKey,
+    },
+    Bad {
+        text: "[client.a]\nkey = AQAAAAAAAAAAABAAAAECAwQFBgcICQoLDA0ODxA=",
+        line: 2,
+        why: KeyringFault::BadKey,
+    },
+    Bad {
+        text: "[client.a]\nkey = KEY\ncaps rgw = allow *",
+        line: 3,
+        why: KeyringFault::BadService,
+    },
+    Bad {
+        text: "[client.a]\nkey = KEY\ncaps mon osd = allow *",
+        line: 3,
+        why: KeyringFault::BadService,
+    },
+    Bad {
+        text: "[client.a]\nkey = KEY\ncaps client = a\"b",
+        line: 3,
+        why: KeyringFault::BadService,
+    },
+    Bad {
+        text: "[client.a]\nkey = KEY\ncaps mon = \"a",
+        line: 3,
+        why: KeyringFault::BadCaps,
+    },
+    Bad {
+        text: "[client.a]\nkey = KEY\ncaps mon = \"a\" b\"",
+        line: 3,
+        why: KeyringFault::BadCaps,
+    },
+    Bad {
+        text: "[client.a]\nkey = KEY\ncaps mon = a\\b",
+        line: 3,
+        why: KeyringFault::BadCaps,
+    },
+    Bad {
+        text: "[client.a]\nkey = KEY\ncaps mon = a\tb",
+        line: 3,
+        why: KeyringFault::BadCaps,
+    },
+    Bad {
+        text: "[client.a]\nkey = KEY\n[client.b]\nkey = KEY\n[client.a]\n",
+        line: 5,
+        why: KeyringFault::Repeated,
+    },
+    Bad {
+        text: "[client.a]\nkey = KEY\nkey = KEY",
+        line: 3,
+        why: KeyringFault::Repeated,
+    },
+    Bad {
+        text: "[client.a]\ncaps mon = a\nkey = KEY\n\ncaps mon = b",
+        line: 5,
+        why: KeyringFault::Repeated,
+    },
+    Bad {
+        text: "[client.a]",
+        line: 1,
+        why: KeyringFault::NoKey,
+    },
+    Bad {
+        text: "[client.a]\ncaps mon = a\n[client.b]\nkey = KEY",
+        line: 1,
+        why: KeyringFault::NoKey,
+    },
+    Bad {
+        text: "[client.a]\nany\n[client.b]\nkey = KEY",
+        line: 1,
+        why: KeyringFault::NoKey,
+    },
+    Bad {
+        text: "[client.a]\nauid = 0\nkey = KEY",
+        line: 2,
+        why: KeyringFault::Unreadable,
+    },
+    Bad {
+        text: "[client.a]\nkey = KEY\ncaps = allow *",
+        line: 3,
+        why: KeyringFault::Unreadable,
+    },
+    Bad {
+        text: "[client.a]\nkey = KEY\ncaps mon",
+        line: 3,
+        why: KeyringFault::Unreadable,
+    },
+    Bad {
+        text: "[client.a]\nkey: KEY\nkey = KEY",
+        line: 2,
+        why: KeyringFault::Unreadable,
+    },
+    Bad {
+        text: "[client.a]\nany\n\nkey = KEY\n\n[osd.0]\nkey = KEY\n\nkey = KEY\n",
+        line: 2,
+        why: KeyringFault::Unreadable,
+    },
 ];
+
+fn check_bad(rt: &impl Abort, alloc: Global, row: &Bad) -> Result<(), Fail> {
+    let text = row.text.replace(alloc, "KEY", KEY)?;
+    let bad = KeyringRefusal::BadLine {
+        line: row.line,
+        why: row.why,
+    };
+    assert_eq!(rt; parse(alloc, text.as_bytes()).err(), Some(bad), "{text}");
+    Ok(())
+}
 
 #[test]
 fn the_first_line_that_is_wrong_is_named_with_its_first_fault(rt: HostRuntime) -> Result<(), Fail> {
-    let alloc = rt.alloc();
-    for (text, line, why) in BAD_FILES {
-        let text = text.replace(alloc, "KEY", KEY)?;
-        let refusal = parse(alloc, text.as_bytes()).err();
-        assert_eq!(rt;
-            refusal,
-            Some(KeyringRefusal::BadLine { line, why }),
-            "{text}"
-        );
+    for row in &BAD_FILES {
+        check_bad(&rt, rt.alloc(), row)?;
     }
     Ok(())
 }
