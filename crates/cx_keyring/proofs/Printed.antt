@@ -1,5 +1,5 @@
 -- The printed form of a keyring is a keyring.
-use Rattle.std.proofs.Common.{◌≡◌, ℕ, Bool, true, false, List, [], ◌∷◌, ◌++◌, Some, map, length, refl, sym, ap, ◌∙◌, IsTrue, append_assoc}
+use Rattle.std.proofs.Common.{◌≡◌, ℕ, Bool, true, false, List, [], ◌∷◌, ◌++◌, Some, map, length, refl, sym, ap, ◌∙◌, subst, IsTrue, append_assoc}
 use Rattle.std.specs.Prelude.{◌&&◌, ◌||◌, codes, nat_le}
 use Rattle.std.specs.List.{flat_map, list_all, list_any, AllByRecursion}
 use Rattle.std.proofs.lemmas.Bool.{and_parts, or_from, or_parts}
@@ -15,13 +15,12 @@ use Rattle.cx_keyring.specs.declared.entries.Entry.{Entry}
 use Rattle.cx_keyring.specs.declared.entries.Grant.{Grant}
 use Rattle.cx_keyring.specs.declared.lines.Line.{Line}
 use Rattle.cx_keyring.specs.declared.lines.Line.TheVariants as lines
-use Rattle.cx_keyring.specs.Entries.{are_grants, differ, entries_of, is_grant, is_ring}
-use Rattle.cx_keyring.specs.Faults.{first_bad}
+use Rattle.cx_keyring.specs.Entries.{are_grants, differ, is_grant, is_ring, IsKeyring}
 use Rattle.cx_keyring.specs.Keys.{is_ink, key_of, key_text, HasText}
 use Rattle.cx_keyring.specs.Lines.{line_of, lines_said}
 use Rattle.cx_keyring.specs.Rings.{IsPrintable, KeyringText, printed_entry, printed_grant, printed_head, printed_keyring}
 use Rattle.cx_keyring.proofs.PrintedLines.{caps_high, caps_line, id_high, in_line, ink_high, key_line, section_line}
-use Rattle.cx_keyring.proofs.SaidRings.{said_again, said_clean, said_entry, said_grant, said_ring}
+use Rattle.cx_keyring.proofs.SaidRings.{said_grant, said_keyring, said_ring}
 
 -- ---- texts that end no line
 
@@ -103,4 +102,4 @@ ring_said (entry ∷ ring) good (own, all) =
 pub printed_again : (ring : List Entry) → IsTrue (is_ring ring) → AllByRecursion IsPrintable ring → KeyringText (printed_keyring ring) ring
 printed_again ring good all =
     let said = ring_said ring (and_parts _ _ good).0 all in
-    (ap (first_bad []) said ∙ said_clean ring good, sym (ap entries_of said ∙ said_again ring))
+    subst (λ (ls : List Line). IsKeyring ls ring) (sym said) (said_keyring ring good)

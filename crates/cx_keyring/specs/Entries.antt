@@ -1,5 +1,5 @@
 -- What the lines of a keyring mean, and which entries a keyring may have.
-use Rattle.std.specs.Prelude.{Bool, true, false, not, ◌&&◌, List, [], ◌∷◌, ◌++◌, Option, Some, None}
+use Rattle.std.specs.Prelude.{◌≡◌, Bool, true, false, not, ◌&&◌, List, [], ◌∷◌, ◌++◌, Some, None, is_some, IsTrue}
 use Rattle.std.specs.List.{flat_map, list_all, list_any}
 use Rattle.cx_base.specs.Names.{Name, same_kind, same_name}
 use Rattle.cx_base.specs.declared.kinds.EntityType.{EntityType}
@@ -11,43 +11,6 @@ use Rattle.cx_keyring.specs.declared.entries.Grant.{Grant}
 use Rattle.cx_keyring.specs.declared.lines.Line.{Line}
 use Rattle.cx_keyring.specs.declared.lines.Line.TheVariants as lines
 use Rattle.cx_keyring.specs.Faults.{section_lines}
-
--- ---- what lines mean
-
--- the key that a line gives
-abbrev pub key_by : Line → Option Key
-key_by (lines.Key key) = key
-key_by _ = None
-
--- the one that is there, the first of two
-abbrev pub or_key : Option Key → Option Key → Option Key
-or_key (Some key) other = Some key
-or_key None other = other
-
--- the first key that the lines of a section give
-abbrev pub key_in : List Line → Option Key
-key_in [] = None
-key_in (line ∷ body) = or_key (key_by line) (key_in body)
-
--- the caps that a line gives
-abbrev pub granted_by : Line → List Grant
-granted_by (lines.Caps (Some service) (Some text)) = record { service = service; caps = text } ∷ []
-granted_by _ = []
-
--- the entry of this name, where there is a key
-abbrev pub keyed : Name → Option Key → List Grant → List Entry
-keyed name None caps = []
-keyed name (Some key) caps = record { name = name; key = key; caps = caps } ∷ []
-
--- the entry that a line gives which begins a section: its name, and the key and the caps of the lines up to the next section
-abbrev pub entry_by : Line → List Line → List Entry
-entry_by (lines.Section (Some name)) after = keyed name (key_in (section_lines after)) (flat_map granted_by (section_lines after))
-entry_by _ after = []
-
--- the entries that the lines give, in their order
-abbrev pub entries_of : List Line → List Entry
-entries_of [] = []
-entries_of (line ∷ after) = entry_by line after ++ entries_of after
 
 -- ---- entries
 
@@ -79,3 +42,46 @@ are_apart earlier (entry ∷ entries) =
 -- entries of different names, each with caps that one may have
 abbrev pub is_ring : List Entry → Bool
 is_ring entries = list_all (λ entry. are_grants entry.caps) entries && are_apart [] entries
+
+-- ---- what lines mean
+
+-- the key that a line gives
+abbrev pub key_by : Line → List Key
+key_by (lines.Key (Some key)) = key ∷ []
+key_by _ = []
+
+-- the caps that a line gives
+abbrev pub granted_by : Line → List Grant
+granted_by (lines.Caps (Some service) (Some text)) = record { service = service; caps = text } ∷ []
+granted_by _ = []
+
+-- it says nothing
+abbrev pub is_skipped_line : Line → Bool
+is_skipped_line lines.Skipped = true
+is_skipped_line _ = false
+
+-- it has one of the forms, and all of its parts can be read
+abbrev pub is_whole : Line → Bool
+is_whole lines.Skipped = true
+is_whole (lines.Section name) = is_some name
+is_whole (lines.Key key) = is_some key
+is_whole (lines.Caps service text) = is_some service && is_some text
+is_whole lines.Other = false
+
+-- the lines give these entries: one for each section, in their order, of its name, with the one key and the caps that the
+-- lines up to the next section give
+abbrev pub Gives : List Line → List Entry → Type 0
+Gives [] ring = ring ≡ []
+Gives (lines.Section (Some name) ∷ after) [] = ⊥
+Gives (lines.Section (Some name) ∷ after) (entry ∷ entries) =
+    (entry.name ≡ name) × (flat_map key_by (section_lines after) ≡ entry.key ∷ [])
+    × (flat_map granted_by (section_lines after) ≡ entry.caps) × Gives after entries
+Gives (_ ∷ after) ring = Gives after ring
+
+-- the lines are a keyring of these entries: each line can be read, none but skipped ones stand before the first section, and
+-- they give the entries, which are those of a keyring
+pub record IsKeyring (all : List Line) (ring : List Entry) : Type 0 where
+  pub whole : IsTrue (list_all is_whole all)
+  pub begins : IsTrue (list_all is_skipped_line (section_lines all))
+  pub gives : Gives all ring
+  pub good : IsTrue (is_ring ring)

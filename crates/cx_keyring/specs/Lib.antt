@@ -1,3 +1,4 @@
+pub mod Collected
 pub mod Entries
 pub mod Faults
 pub mod Indexed

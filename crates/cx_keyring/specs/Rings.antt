@@ -1,28 +1,27 @@
 -- Keyrings as texts: what bytes mean, why they are none, and how a keyring is printed (Ceph's "user management": keyring
 -- files, with the faults of this project's profile).
-use Rattle.std.specs.Prelude.{ℕ, ◌<◌, ◌≡◌, ◌⊎◌, List, [], length, codes, Some, None, Result, Ok, Err, IsTrue}
+use Rattle.std.specs.Prelude.{ℕ, ◌<◌, ◌≡◌, ◌⊎◌, List, [], length, codes, Some, Result, Ok, Err, IsTrue}
 use Rattle.std.specs.List.{flat_map}
 use Rattle.cx_base.specs.Joined.{◌<>◌}
 use Rattle.cx_base.specs.Names.{is_id, name_text, type_word}
 use Rattle.cx_keyring.specs.declared.entries.Entry.{Entry}
 use Rattle.cx_keyring.specs.declared.entries.Grant.{Grant}
-use Rattle.cx_keyring.specs.declared.limits.TheConstants.{MOST_ENTRIES}
 use Rattle.cx_keyring.specs.declared.refusals.KeyringRefusal.{KeyringRefusal}
 use Rattle.cx_keyring.specs.declared.refusals.KeyringRefusal.TheVariants.{BadLine, TooMany, OutOfMemory}
-use Rattle.cx_keyring.specs.Entries.{entries_of}
+use Rattle.cx_keyring.specs.Entries.{IsKeyring}
 use Rattle.cx_keyring.specs.Faults.{first_bad}
 use Rattle.cx_keyring.specs.Keys.{key_text, HasText}
 use Rattle.cx_keyring.specs.Lines.{lines_said}
 
--- the bytes are a keyring of these entries: no line is wrong, and the lines give them
+-- the bytes are a keyring of these entries
 abbrev pub KeyringText : List ℕ → List Entry → Type 0
-KeyringText bytes ring = (first_bad [] (lines_said bytes) ≡ None) × (ring ≡ entries_of (lines_said bytes))
+KeyringText bytes ring = IsKeyring (lines_said bytes) ring
 
 -- why bytes are not read as a keyring: this line is the first that is wrong, or they are a keyring of more entries than may
 -- be; want of memory is free
 abbrev pub IsKeyringCause : List ℕ → KeyringRefusal → Type 0
 IsKeyringCause bytes (BadLine n why) = first_bad [] (lines_said bytes) ≡ Some (n, why)
-IsKeyringCause bytes (TooMany limit) = (limit ≡ MOST_ENTRIES) × (ring : List Entry) × KeyringText bytes ring × (MOST_ENTRIES < length ring)
+IsKeyringCause bytes (TooMany limit) = (limit ≡ 4096) × (ring : List Entry) × KeyringText bytes ring × (4096 < length ring)
 IsKeyringCause bytes OutOfMemory = Unit {0}
 
 -- why they are not read where memory isn't wanting

@@ -8,6 +8,7 @@ ghost use Rattle.cx_keyring.specs.declared.entries.Entry.{Entry};
 ghost use Rattle.cx_keyring.specs.declared.refusals.KeyringRefusal.{KeyringRefusal};
 
 use crate::cut::line_of;
+use crate::entries::Entry;
 use crate::judge::judge;
 use crate::keyring::Keyring;
 use crate::limits::MOST_ENTRIES;
@@ -20,6 +21,7 @@ use std::alloc::{AllocError, Global};
 
 /// Reads a keyring: ASCII lines ended by LF, the last one's may be left out. Numbers of lines count from 1, and empty lines
 /// and comments count too.
+#[tactic(auto, using(crate::proofs::Reasons::only_memory))]
 pub fn parse(alloc: Global, bytes: &[u8]) -> Result<Keyring, KeyringRefusal>
     // The keyring that the bytes are, or the first line that is wrong with its first fault, or too many sections.
     ensures found { IfOk result (λ ring. KeyringText bytes.now ring) }
@@ -34,14 +36,23 @@ pub fn parse(alloc: Global, bytes: &[u8]) -> Result<Keyring, KeyringRefusal>
     // What may be relied on: names differ, and caps are such as an entry may have.
     ensures ring { IfOk result (λ ring. IsTrue (is_ring ring)) }
 {
-    let lines = lines_said(alloc, bytes)?;
-    judge(alloc, lines.all())?;
-    let entries = entries_of(alloc, lines.all())?;
+    let entries = entries_in(alloc, bytes)?;
     if entries.all().len() > MOST_ENTRIES {
         return Err(KeyringRefusal::TooMany(MOST_ENTRIES));
     }
     let ring = Keyring::of(alloc, entries)?;
     Ok(ring)
+}
+
+/// The entries of a keyring of any length.
+fn entries_in(alloc: Global, bytes: &[u8]) -> Result<Items<Entry>, KeyringRefusal>
+    ensures found { IfOk result (λ entries. KeyringText bytes.now entries) }
+    ensures bad { IfErr result (IsKeyringCause bytes.now) }
+{
+    let lines = lines_said(alloc, bytes)?;
+    judge(alloc, lines.all())?;
+    let entries = entries_of(alloc, lines.all())?;
+    Ok(entries)
 }
 
 /// What each line says.

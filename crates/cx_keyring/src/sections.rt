@@ -2,7 +2,8 @@
 
 ghost use Rattle.std.specs.Prelude.{◌≡◌, ◌<◌, ◌++◌, length, IfOk, IfSome, OnOk};
 ghost use Rattle.std.specs.List.{flat_map, position_from};
-ghost use Rattle.cx_keyring.specs.Entries.{entries_of, entry_by, granted_by, key_by, key_in};
+ghost use Rattle.cx_keyring.specs.Collected.{entries_of, entry_by, key_in, key_of_line};
+ghost use Rattle.cx_keyring.specs.Entries.{granted_by};
 ghost use Rattle.cx_keyring.specs.Faults.{is_section, section_lines};
 
 use crate::entries::{Entry, Grant};
@@ -50,15 +51,15 @@ fn key_in(body: &[Line]) -> Option<Key>
     ensures { result ≡ key_in body.now }
 {
     for line in body {
-        if let Some(key) = key_by(line) {
+        if let Some(key) = key_of_line(line) {
             return Some(key);
         }
     }
     None
 }
 
-fn key_by(line: &Line) -> Option<Key>
-    ensures { result ≡ key_by line.now }
+fn key_of_line(line: &Line) -> Option<Key>
+    ensures { result ≡ key_of_line line.now }
 {
     match line {
         Line::Key(key) => *key,

@@ -1,5 +1,5 @@
 use Rattle.std.proofs.Common.{◌≡◌, ◌++◌, length}
-use Rattle.cx_keyring.specs.Entries.{entries_of}
+use Rattle.cx_keyring.specs.Collected.{entries_of}
 use Rattle.cx_keyring.proofs.sections.entries_of.Given as goal
 
 abbrev pub invariant-loop-rest : goal.invariant-loop-rest

@@ -1,5 +1,5 @@
 use Rattle.std.proofs.Common.{◌≡◌, drop}
-use Rattle.cx_keyring.specs.Entries.{key_in}
+use Rattle.cx_keyring.specs.Collected.{key_in}
 use Rattle.cx_keyring.proofs.sections.key_in.Given as goal
 
 abbrev pub invariant-loop-line : goal.invariant-loop-line
