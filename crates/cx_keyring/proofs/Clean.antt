@@ -1,5 +1,5 @@
 -- Where lines are a keyring, none of them is wrong.
-use Rattle.std.proofs.Common.{◌≡◌, ◌⊎◌, ◌+◌, ℕ, inl, inr, subst, Bool, true, false, List, [], ◌∷◌, ◌++◌, length, Option, Some, None, refl, sym, ap, ◌∙◌, IsTrue, append_assoc}
+use Rattle.std.proofs.Common.{◌≡◌, ◌⊎◌, ◌+◌, ℕ, inl, inr, subst, Bool, true, false, List, [], ◌∷◌, ◌++◌, length, Option, Some, None, refl, sym, ap, ◌∙◌, append_assoc}
 use Rattle.std.specs.Prelude.{◌&&◌, ◌||◌, not, is_some, fold}
 use Rattle.std.specs.List.{flat_map, list_all, list_any}
 use Rattle.std.proofs.lemmas.Bool.{and_parts}
@@ -13,7 +13,7 @@ use Rattle.cx_keyring.specs.declared.entries.Grant.{Grant}
 use Rattle.cx_keyring.specs.declared.faults.KeyringFault.{KeyringFault}
 use Rattle.cx_keyring.specs.declared.lines.Line.{Line}
 use Rattle.cx_keyring.specs.declared.lines.Line.TheVariants as lines
-use Rattle.cx_keyring.specs.Entries.{are_apart, are_grants, differ, granted_by, has_service, is_grant, is_named, is_ring, is_skipped_line, is_whole, key_by, Gives, IsKeyring}
+use Rattle.cx_keyring.specs.Entries.{are_apart, are_grants, differ, granted_by, has_service, is_grant, is_named, is_skipped_line, is_whole, key_by, Gives, IsKeyring}
 use Rattle.cx_keyring.specs.Faults.{body_after, body_of, fault_at, first_bad, is_caps_for, is_key, is_section, is_section_of, or_later, section_lines}
 use Rattle.cx_keyring.proofs.Apart.{not_true}
 use Rattle.cx_keyring.proofs.GoodRings.{body_push}
@@ -125,7 +125,7 @@ stands_on : (before : List Line) (line : Line) (after : List Line) → is_sectio
 stands_on before line after none (inl (begun, body)) =
     let lines_of_it : section_lines (line ∷ after) ≡ line ∷ section_lines after = rw none refl in
     let same : body_of before ++ section_lines (line ∷ after) ≡ body_of (before ++ line ∷ []) ++ section_lines after =
-        ap (λ (ls : List Line). body_of before ++ ls) lines_of_it ∙ body_on before line after none in
+    ap (λ (ls : List Line). body_of before ++ ls) lines_of_it ∙ body_on before line after none in
     inl (begun_on before line begun, subst IsBody same body)
 stands_on before line after none (inr skipped) =
     let lines_of_it : section_lines (line ∷ after) ≡ line ∷ section_lines after = rw none refl in
@@ -185,13 +185,13 @@ clean_from before earlier (lines.Section (Some name) ∷ after) (entry ∷ ring)
     let own = and_parts (list_all is_grant entry.caps) (differ [] entry.caps) all.0 in
     let parts = and_parts (not (list_any (is_named entry.name) earlier)) (are_apart (earlier ++ entry ∷ []) ring) apart in
     let fresh : list_any (is_section_of name) before ≡ false =
-        known name ∙ ap (λ (n : Name). list_any (is_named n) earlier) (sym named) ∙ not_true (list_any (is_named entry.name) earlier) parts.0 in
+    known name ∙ ap (λ (n : Name). list_any (is_named n) earlier) (sym named) ∙ not_true (list_any (is_named entry.name) earlier) parts.0 in
     let differs : differ [] (flat_map granted_by (section_lines after)) ≡ true = ap (differ []) caps ∙ own.1 in
     let knows : Knows (before ++ head ∷ []) (earlier ++ entry ∷ []) = λ n.
-        list_any-append (is_section_of n) before (head ∷ [])
-        ∙ ap (λ b. b || (same_name n name || false)) (known n)
-        ∙ ap (λ (m : Name). list_any (is_named n) earlier || (same_name n m || false)) (sym named)
-        ∙ sym (list_any-append (is_named n) earlier (entry ∷ [])) in
+    list_any-append (is_section_of n) before (head ∷ [])
+    ∙ ap (λ b. b || (same_name n name || false)) (known n)
+    ∙ ap (λ (m : Name). list_any (is_named n) earlier || (same_name n m || false)) (sym named)
+    ∙ sym (list_any-append (is_named n) earlier (entry ∷ [])) in
     goes_on before head after (section_clean before name after entry.key fresh one)
     (clean_from (before ++ head ∷ []) (earlier ++ entry ∷ []) after ring (whole_on before head read refl) knows (section_stands before name after entry.key one differs) whole gives all.1 parts.1)
 clean_from before earlier (lines.Section None ∷ after) ring read known stands whole gives good apart = absurd (let p : false ≡ true = whole in cc)

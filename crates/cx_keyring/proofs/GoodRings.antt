@@ -1,11 +1,11 @@
 -- Where no line is wrong, the entries that the lines give are those of a keyring.
-use Rattle.std.proofs.Common.{◌≡◌, ℕ, ◌+◌, Bool, true, false, cond, List, [], ◌∷◌, ◌++◌, length, Option, Some, None, map, refl, sym, ap, ◌∙◌, subst, IsTrue}
-use Rattle.std.specs.Prelude.{◌&&◌, ◌||◌, not, fold}
+use Rattle.std.proofs.Common.{◌≡◌, ℕ, ◌+◌, Bool, true, false, List, [], ◌∷◌, ◌++◌, length, Option, Some, None, refl, sym, ap, ◌∙◌, subst}
+use Rattle.std.specs.Prelude.{◌||◌, not}
 use Rattle.std.specs.List.{flat_map, list_all, list_any}
 use Rattle.std.proofs.lemmas.Bool.{and_parts}
-use Rattle.std.proofs.lemmas.List.Folds.{list_all-append, list_any-append}
+use Rattle.std.proofs.lemmas.List.Folds.{list_any-append}
 use Rattle.std.proofs.lemmas.List.Sums.{fold-append}
-use Rattle.cx_base.specs.Names.{Name, same_kind, same_name}
+use Rattle.cx_base.specs.Names.{Name, same_kind}
 use Rattle.cx_base.specs.declared.kinds.EntityType.{EntityType}
 use Rattle.cx_enc.specs.declared.keys.Key.{Key}
 use Rattle.cx_words.specs.Cutting.{lines_of}
@@ -14,10 +14,10 @@ use Rattle.cx_keyring.specs.declared.entries.Grant.{Grant}
 use Rattle.cx_keyring.specs.declared.faults.KeyringFault.{KeyringFault}
 use Rattle.cx_keyring.specs.declared.lines.Line.{Line}
 use Rattle.cx_keyring.specs.declared.lines.Line.TheVariants as lines
-use Rattle.cx_keyring.specs.Collected.{entries_of, entry_by, keyed, key_in}
-use Rattle.cx_keyring.specs.Entries.{are_apart, are_grants, differ, granted_by, has_service, is_grant, is_named, is_ring, is_skipped_line, is_whole, key_by, Gives, IsKeyring}
+use Rattle.cx_keyring.specs.Collected.{entries_of, keyed, key_in}
+use Rattle.cx_keyring.specs.Entries.{are_apart, are_grants, differ, granted_by, has_service, is_grant, is_named, is_skipped_line, is_whole, key_by, Gives}
 use Rattle.cx_keyring.specs.Faults.{body_after, body_of, fault_at, fault_of, first_bad, is_caps_for, is_inner, is_key, is_keyless, is_repeated, is_section, is_section_of, or_later, section_lines}
-use Rattle.cx_keyring.specs.Lines.{line_of, lines_said}
+use Rattle.cx_keyring.specs.Lines.{lines_said}
 use Rattle.cx_keyring.specs.Rings.{KeyringText}
 use Rattle.cx_keyring.proofs.GoodLines.{all_lines_good, is_line}
 

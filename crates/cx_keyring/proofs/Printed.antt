@@ -1,14 +1,13 @@
 -- The printed form of a keyring is a keyring.
-use Rattle.std.proofs.Common.{◌≡◌, ℕ, Bool, true, false, List, [], ◌∷◌, ◌++◌, Some, map, length, refl, sym, ap, ◌∙◌, subst, IsTrue, append_assoc}
+use Rattle.std.proofs.Common.{◌≡◌, ℕ, true, false, List, [], ◌∷◌, ◌++◌, Some, map, length, refl, sym, ap, ◌∙◌, subst, IsTrue, append_assoc}
 use Rattle.std.specs.Prelude.{◌&&◌, ◌||◌, codes, nat_le}
 use Rattle.std.specs.List.{flat_map, list_all, list_any, AllByRecursion}
 use Rattle.std.proofs.lemmas.Bool.{and_parts, or_from, or_parts}
-use Rattle.std.proofs.lemmas.List.{append-nil}
 use Rattle.std.proofs.lemmas.List.Folds.{list_any-append}
 use Rattle.cx_base.specs.Names.{Name, is_id, is_id_byte, name_text, same_kind, type_word}
 use Rattle.cx_base.specs.declared.kinds.EntityType.{EntityType}
 use Rattle.cx_base.specs.declared.kinds.EntityType.TheVariants.{Mon, Mds, Osd, Client, Mgr, Auth}
-use Rattle.cx_words.specs.Cutting.{is_line_end, lines_of, onto_first}
+use Rattle.cx_words.specs.Cutting.{is_line_end, lines_of}
 use Rattle.cx_base.specs.Texts.{is_caps, is_caps_byte}
 use Rattle.cx_words.specs.Words.{is_service}
 use Rattle.cx_keyring.specs.declared.entries.Entry.{Entry}
@@ -16,9 +15,9 @@ use Rattle.cx_keyring.specs.declared.entries.Grant.{Grant}
 use Rattle.cx_keyring.specs.declared.lines.Line.{Line}
 use Rattle.cx_keyring.specs.declared.lines.Line.TheVariants as lines
 use Rattle.cx_keyring.specs.Entries.{are_grants, differ, is_grant, is_ring, IsKeyring}
-use Rattle.cx_keyring.specs.Keys.{is_ink, key_of, key_text, HasText}
+use Rattle.cx_keyring.specs.Keys.{is_ink, key_text}
 use Rattle.cx_keyring.specs.Lines.{line_of, lines_said}
-use Rattle.cx_keyring.specs.Rings.{IsPrintable, KeyringText, printed_entry, printed_grant, printed_head, printed_keyring}
+use Rattle.cx_keyring.specs.Rings.{IsPrintable, KeyringText, printed_grant, printed_head, printed_keyring}
 use Rattle.cx_keyring.proofs.PrintedLines.{caps_high, caps_line, id_high, in_line, ink_high, key_line, section_line}
 use Rattle.cx_keyring.proofs.SaidRings.{said_grant, said_keyring, said_ring}
 

@@ -1,7 +1,7 @@
 -- The lines of a printed keyring are read as what they were printed from.
-use Rattle.std.proofs.Common.{◌≡◌, ℕ, zero, suc, ◌+◌, ◌-◌, ◌<◌, ◌≤◌, Bool, true, false, cond, List, [], ◌∷◌, ◌++◌, length, take, drop, get_or, Option, Some, None, map, refl, sym, ap, ◌∙◌, arith, IsTrue, length-append, get_or-append-add, append_assoc}
-use Rattle.std.specs.Prelude.{◌==◌, ◌&&◌, ◌||◌, codes, nat_le, nat_lt}
-use Rattle.std.specs.List.{list_all, list_any, position_from}
+use Rattle.std.proofs.Common.{◌≡◌, ℕ, suc, ◌+◌, ◌-◌, Bool, true, false, List, [], ◌∷◌, ◌++◌, length, take, get_or, Some, refl, sym, ap, ◌∙◌, arith, IsTrue, length-append, get_or-append-add}
+use Rattle.std.specs.Prelude.{◌==◌, ◌&&◌, codes, nat_le}
+use Rattle.std.specs.List.{list_all, list_any}
 use Rattle.std.proofs.lemmas.Bool.{and_parts, or_from}
 use Rattle.std.proofs.lemmas.Bool.Decides.{nat_tests}
 use Rattle.std.proofs.lemmas.List.Folds.{list_all-append}
@@ -11,13 +11,12 @@ use Rattle.cx_base.specs.declared.kinds.EntityType.{EntityType}
 use Rattle.cx_base.specs.declared.kinds.EntityType.TheVariants.{Mon, Mds, Osd, Client, Mgr, Auth}
 use Rattle.cx_words.specs.Cutting.{is_line_end}
 use Rattle.cx_base.specs.Texts.{is_caps, is_caps_byte}
-use Rattle.cx_words.specs.Words.{caps_of, inside, is_service, name_of, quoted, service_of}
+use Rattle.cx_words.specs.Words.{inside, is_service, quoted}
 use Rattle.cx_words.proofs.NameWords.{name_of-text, service_of-word}
 use Rattle.cx_words.proofs.TextWords.{caps_of-quoted}
-use Rattle.cx_keyring.specs.declared.lines.Line.{Line}
 use Rattle.cx_keyring.specs.declared.lines.Line.TheVariants as lines
 use Rattle.cx_keyring.specs.Keys.{is_ink, key_of}
-use Rattle.cx_keyring.specs.Lines.{caps_text_of, is_blank, is_bracketed, line_of, said_by, setting, trimmed, without_back, without_cr, without_front}
+use Rattle.cx_keyring.specs.Lines.{caps_text_of, is_blank, is_bracketed, line_of, said_by, setting, trimmed, without_cr, without_front}
 use Rattle.cx_keyring.proofs.Blanks.{kept_end}
 
 -- ---- bytes that are no blank, and those that end no line

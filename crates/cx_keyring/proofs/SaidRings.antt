@@ -41,8 +41,7 @@ caps_passed (grant ∷ grants) rest ring gives = caps_passed grants rest ring gi
 said_gives : (ring : List Entry) → Gives (said_ring ring) ring
 said_gives [] = refl
 said_gives (entry ∷ ring) =
-    let body = caps_lines entry.caps ring in
-    (
+    let body = caps_lines entry.caps ring in (
       refl,
       ap (λ (ls : List Line). entry.key ∷ flat_map key_by ls) body ∙ ap (λ (ks : List Key). entry.key ∷ ks) (no_keys entry.caps),
       ap (flat_map granted_by) body ∙ caps_again entry.caps,

@@ -1,5 +1,5 @@
 -- What the lines of a keyring mean, and which entries a keyring may have.
-use Rattle.std.specs.Prelude.{◌≡◌, Bool, true, false, not, ◌&&◌, List, [], ◌∷◌, ◌++◌, Some, None, is_some, IsTrue}
+use Rattle.std.specs.Prelude.{◌≡◌, Bool, true, false, not, ◌&&◌, List, [], ◌∷◌, ◌++◌, Some, is_some, IsTrue}
 use Rattle.std.specs.List.{flat_map, list_all, list_any}
 use Rattle.cx_base.specs.Names.{Name, same_kind, same_name}
 use Rattle.cx_base.specs.declared.kinds.EntityType.{EntityType}

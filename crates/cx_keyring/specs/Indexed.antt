@@ -1,5 +1,5 @@
 -- Where names stand in a list, as the index keeps it.
-use Rattle.std.specs.Prelude.{ℕ, ◌≡◌, Bool, List, Option, Some, None, String}
+use Rattle.std.specs.Prelude.{ℕ, Option, Some, None, String}
 use Rattle.std.specs.BTreeMap.{BTreeMap, get_by_text}
 use Rattle.std.specs.declared.alloc.Global.{Global}
 use Rattle.cx_base.specs.Names.{Name}

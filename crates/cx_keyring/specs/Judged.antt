@@ -1,5 +1,5 @@
 -- What is kept of the lines before the one that is judged.
-use Rattle.std.specs.Prelude.{ℕ, ◌≡◌, ◌≤◌, Bool, List, length, drop, Option, Some, is_some}
+use Rattle.std.specs.Prelude.{ℕ, ◌≡◌, ◌≤◌, List, length, drop, Option, Some, is_some}
 use Rattle.std.specs.List.{list_any}
 use Rattle.cx_base.specs.Names.{Name}
 use Rattle.cx_keyring.specs.declared.faults.KeyringFault.{KeyringFault}

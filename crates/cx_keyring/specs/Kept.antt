@@ -1,5 +1,5 @@
 -- What a keyring keeps beside its entries, and why an entry isn't added.
-use Rattle.std.specs.Prelude.{◌≡◌, List, Option, String, IsSome, IsTrue, find, position}
+use Rattle.std.specs.Prelude.{◌≡◌, List, String, IsSome, IsTrue, find, position}
 use Rattle.std.specs.BTreeMap.{BTreeMap}
 use Rattle.std.specs.declared.alloc.Global.{Global}
 use Rattle.cx_base.specs.Names.{Name}

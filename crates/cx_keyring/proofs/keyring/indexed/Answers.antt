@@ -1,9 +1,9 @@
-use Rattle.std.proofs.Common.{◌≡◌, ℕ, ◌+◌, List, [], ◌∷◌, ◌++◌, cond, Option, Some, None, get_or, refl, sym, ap, ◌∙◌, arith, take, length}
-use Rattle.std.specs.Prelude.{find, position}
-use Rattle.std.specs.List.{list_any, list_all}
+use Rattle.std.proofs.Common.{◌≡◌, ◌+◌, List, [], ◌∷◌, ◌++◌, cond, Some, refl, sym, ap, ◌∙◌, arith, take, length}
+use Rattle.std.specs.Prelude.{position}
+use Rattle.std.specs.List.{list_all}
 use Rattle.std.proofs.lemmas.Bool.{and_parts}
 use Rattle.std.proofs.lemmas.List.{length-take-le, take_more}
-use Rattle.cx_base.specs.Names.{Name, same_name}
+use Rattle.cx_base.specs.Names.{same_name}
 use Rattle.cx_keyring.specs.declared.entries.Entry.{Entry}
 use Rattle.cx_keyring.specs.Entries.{are_apart, are_grants, is_named}
 use Rattle.cx_keyring.specs.Indexed.{place_of}

@@ -1,4 +1,4 @@
-use Rattle.std.proofs.Common.{List, ℕ, arith, ap, ◌∙◌}
+use Rattle.std.proofs.Common.{arith, ap, ◌∙◌}
 use Rattle.std.specs.List.{list_all}
 use Rattle.cx_keyring.specs.Keys.{is_ink}
 use Rattle.cx_keyring.proofs.KeyTexts.{encoded_inked}

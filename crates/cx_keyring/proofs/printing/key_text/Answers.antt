@@ -1,4 +1,4 @@
-use Rattle.std.proofs.Common.{◌≡◌, Ok, ◌∙◌, rules}
+use Rattle.std.proofs.Common.{◌≡◌, Ok, rules}
 use Rattle.std.specs.Prelude.{string_bytes}
 use Rattle.base64.specs.Engines.{standard}
 use Rattle.base64.specs.GeneralPurpose.{decode_of, encode_of}

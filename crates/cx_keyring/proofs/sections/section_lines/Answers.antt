@@ -1,4 +1,4 @@
-use Rattle.std.proofs.Common.{sym, ◌∙◌}
+use Rattle.std.proofs.Common.{sym}
 use Rattle.cx_keyring.proofs.SectionLines.{section_cut, section_whole}
 use Rattle.cx_keyring.proofs.sections.section_lines.Goals as goal
 

@@ -1,7 +1,6 @@
-use Rattle.std.proofs.Common.{◌≡◌, ℕ, List, [], ◌∷◌, ◌++◌, Option, None, Some, cond, length, sym, ap, ◌∙◌, rules, refl}
+use Rattle.std.proofs.Common.{◌≡◌, List, [], ◌∷◌, ◌++◌, None, Some, cond, length, sym, ap, ◌∙◌, rules, refl}
 use Rattle.std.specs.Prelude.{find, position}
-use Rattle.std.specs.List.{list_any}
-use Rattle.cx_base.specs.Names.{Name, same_name}
+use Rattle.cx_base.specs.Names.{same_name}
 use Rattle.cx_keyring.specs.declared.entries.Entry.{Entry}
 use Rattle.cx_keyring.specs.Entries.{is_named}
 use Rattle.cx_keyring.specs.Indexed.{place_of}
