@@ -10,7 +10,7 @@ impl fmt::Display for Status {
         match self {
             Status::Done => Ok(()),
             Status::Usage => write!(f, "{}", USAGE),
-            Status::BadSchedule(line, why) => write!(
+            Status::BadSchedule { line, why } => write!(
                 f,
                 "line {} of the schedule is outside of its grammar: {}; {}",
                 line,
@@ -36,7 +36,7 @@ impl fmt::Display for Status {
                 "the schedule is too long: at most 1,048,576 bytes and 20,000 lines are read; cut it into schedules of \
                 their own"
             ),
-            Status::NotYet(line) => write!(
+            Status::NotYet { line } => write!(
                 f,
                 "line {} of the schedule begins with a word whose lines are not served yet, one of seed, modes, renew, \
                 drop, tick, do, carry, lose, inject, again, cut, restart, failsave and settle; leave it out",

@@ -14,8 +14,8 @@ pub enum Status {
     Done,
     /// The words of the command line are no command that is served.
     Usage,
-    /// This line, from 1, is the first outside the grammar of a schedule, and the fault is the first that it has.
-    BadSchedule(u32, LineFault),
+    /// This line, from 1, is the first outside the grammar of a schedule, and `why` is the first fault that it has.
+    BadSchedule { line: u32, why: LineFault },
     /// The input could not be read.
     ReadFault,
     /// The output could not be written; a front of it was.
@@ -25,7 +25,7 @@ pub enum Status {
     /// The input has more than 1,048,576 bytes or 20,000 lines.
     TooLong,
     /// This line, from 1, is the first outside the grammar, and its first word begins a line that is not served yet.
-    NotYet(u32),
+    NotYet { line: u32 },
 }
 
 impl Status {
@@ -36,12 +36,12 @@ impl Status {
         match self {
             Status::Done => 0,
             Status::Usage => 1,
-            Status::BadSchedule(_, _) => 2,
+            Status::BadSchedule { .. } => 2,
             Status::ReadFault => 3,
             Status::WriteFault => 4,
             Status::OutOfMemory => 5,
             Status::TooLong => 12,
-            Status::NotYet(_) => 13,
+            Status::NotYet { .. } => 13,
         }
     }
 }
@@ -66,8 +66,8 @@ impl From<ScheduleRefusal> for Status {
     fn from(refusal: ScheduleRefusal) -> Status {
         match refusal {
             ScheduleRefusal::TooLong => Status::TooLong,
-            ScheduleRefusal::BadLine(line, why) => Status::BadSchedule(line, why),
-            ScheduleRefusal::NotYet(line) => Status::NotYet(line),
+            ScheduleRefusal::BadLine { line, why } => Status::BadSchedule { line, why },
+            ScheduleRefusal::NotYet { line } => Status::NotYet { line },
             ScheduleRefusal::OutOfMemory => Status::OutOfMemory,
         }
     }
@@ -86,4 +86,11 @@ impl From<Unread> for Status {
             Unread::OutOfMemory => Status::OutOfMemory,
         }
     }
+}
+
+// It goes to another thread, and is seen by several.
+fn is_sendable<T: Send + Sync>() {}
+
+fn status_is_sendable() {
+    is_sendable::<Status>();
 }

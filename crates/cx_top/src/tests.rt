@@ -5,6 +5,7 @@ use crate::status::Status;
 use cx_base::{Blob, ByteSource, Sink, VecSink};
 use cx_schedule::LineFault;
 use std::alloc::{AllocError, Global};
+use std::process::Abort;
 
 /// A schedule, the status of its replay, and the journal.
 struct Row {
@@ -213,7 +214,10 @@ const ROWS: [Row; 14] = [
         schedule: "entity client.a\n\
             clock 5\n\
             entity osd.0\n",
-        status: Status::BadSchedule(3, LineFault::Order),
+        status: Status::BadSchedule {
+            line: 3,
+            why: LineFault::Order,
+        },
         journal: "",
     },
     Row {
@@ -221,7 +225,10 @@ const ROWS: [Row; 14] = [
         schedule: "entity client.a\n\
             clock 5\n\
             jump 3\n",
-        status: Status::BadSchedule(3, LineFault::UnknownWord),
+        status: Status::BadSchedule {
+            line: 3,
+            why: LineFault::UnknownWord,
+        },
         journal: "",
     },
     Row {
@@ -229,7 +236,7 @@ const ROWS: [Row; 14] = [
         schedule: "entity client.a\n\
             clock 5\n\
             renew client.a osd\n",
-        status: Status::NotYet(3),
+        status: Status::NotYet { line: 3 },
         journal: "",
     },
 ];
@@ -319,7 +326,12 @@ fn the_first_fault_of_a_line_is_told(rt: HostRuntime) -> Result<(), AllocError> 
             "entity client.a osd \"allow *\"\nentity osd.0\n{line}\nclock 1\n"
         )?;
         let (status, sink) = run_over(rt.alloc(), &["replay"], input.as_bytes(), &[], ROOM)?;
-        assert_eq!(rt; status, Status::BadSchedule(3, *why), "{}", line);
+        assert_eq!(rt;
+            status,
+            Status::BadSchedule { line: 3, why: *why },
+            "{}",
+            line
+        );
         assert_eq!(rt; sink.taken().len(), 0, "{}", line);
     }
     Ok(())
@@ -335,7 +347,7 @@ fn each_word_that_is_to_come_is_told(rt: HostRuntime) -> Result<(), AllocError> 
     for word in &LATER_WORDS {
         let input = format!(in rt.alloc(); "# one line before\n{word} 1\n")?;
         let (status, _) = run_over(rt.alloc(), &["replay"], input.as_bytes(), &[], ROOM)?;
-        assert_eq!(rt; status, Status::NotYet(2), "{}", word);
+        assert_eq!(rt; status, Status::NotYet { line: 2 }, "{}", word);
     }
     Ok(())
 }
@@ -416,7 +428,13 @@ fn a_thousand_entities_are_the_most(rt: HostRuntime) -> Result<(), AllocError> {
     assert_eq!(rt; sink.taken(), journal.as_bytes());
     let more = entities(rt.alloc(), 1001)?;
     let (refused, _) = run_over(rt.alloc(), &["replay"], more.as_bytes(), &[], ROOM)?;
-    assert_eq!(rt; refused, Status::BadSchedule(1001, LineFault::Repeated));
+    assert_eq!(rt;
+        refused,
+        Status::BadSchedule {
+            line: 1001,
+            why: LineFault::Repeated
+        }
+    );
     Ok(())
 }
 
@@ -424,11 +442,95 @@ fn a_thousand_entities_are_the_most(rt: HostRuntime) -> Result<(), AllocError> {
 fn the_sentence_of_a_bad_line_has_its_number_and_its_fault(
     rt: HostRuntime,
 ) -> Result<(), AllocError> {
-    let sentence = format!(in rt.alloc(); "{}", Status::BadSchedule(3, LineFault::BadName))?;
+    let sentence = format!(in rt.alloc();
+        "{}",
+        Status::BadSchedule {
+            line: 3,
+            why: LineFault::BadName
+        }
+    )?;
     assert_eq!(rt;
         sentence.as_str(),
         "line 3 of the schedule is outside of its grammar: a word is no name of an entity, as client.admin or osd.0; \
         write a type, a point and an id of 1 to 64 letters, digits or _ - . : + /, as in: osd.0"
     );
     Ok(())
+}
+
+// How the lines of a long schedule come: so many logins for three services, connects of fifty clients to fifty daemons, and
+// sends of one client.
+struct Long {
+    logins: u32,
+    connects: u32,
+    sends: u32,
+}
+
+// Fifty clients and fifty daemons that fetched, and then these lines.
+fn long_schedule(alloc: Global, long: &Long) -> Result<String, AllocError> {
+    let mut text = String::new(alloc);
+    for id in 0..50 {
+        let line = format!(in alloc;
+            "entity client.{id} mds \"allow *\" osd \"allow *\" mgr \"allow *\"\nentity osd.{id}\n"
+        )?;
+        text.push_str(&line)?;
+    }
+    for id in 0..50 {
+        let line = format!(in alloc; "fetch osd.{id}\n")?;
+        text.push_str(&line)?;
+    }
+    for turn in 0..long.logins {
+        let id = turn % 50;
+        let line = format!(in alloc; "login client.{id} mds,osd,mgr\n")?;
+        text.push_str(&line)?;
+    }
+    for turn in 0..long.connects {
+        let client = turn % 50;
+        let daemon = turn / 50;
+        let line = format!(in alloc; "connect client.{client} osd.{daemon}\n")?;
+        text.push_str(&line)?;
+    }
+    for turn in 0..long.sends {
+        let line = format!(in alloc; "send client.0 osd.0 read p - o{turn} -\n")?;
+        text.push_str(&line)?;
+    }
+    Ok(text)
+}
+
+const MANY_LOGINS: Long = Long {
+    logins: 17_348,
+    connects: 2_500,
+    sends: 2,
+};
+
+const MANY_SENDS: Long = Long {
+    logins: 50,
+    connects: 2_500,
+    sends: 17_300,
+};
+
+const LAST_LOGINS: &str = "answered client.0 osd.0 2 done\n";
+
+const LAST_SENDS: &str = "sent client.0 osd.0 c1 17300 read p - o17299 -\n\
+    handled osd.0 1 1 c1 17300 read p - o17299 - done\n\
+    answered client.0 osd.0 17300 done\n";
+
+// The journal of a long schedule has so many lines and ends so.
+fn check_long(rt: &impl Abort, alloc: Global, long: &Long, lines: usize, last: &str) {
+    let schedule = long_schedule(alloc, long).expect(rt, "memory");
+    let (status, sink) = run_over(alloc, &["replay"], schedule.as_bytes(), &[], 16_777_216).expect(
+        rt, "memory",
+    );
+    assert_eq!(rt; status, Status::Done);
+    let ends = sink.taken().iter().filter(|byte| **byte == b'\n').count();
+    assert_eq!(rt; ends, lines);
+    assert!(rt; sink.taken().ends_with(last.as_bytes()));
+}
+
+// Each of the fifty fetches has three lines, a client's first login five and each other one four, a connect three, and a
+// send three.
+#[test]
+fn schedules_of_20_000_lines_are_replayed(rt: HostRuntime) {
+    let alloc = rt.alloc();
+    check_long(&rt, alloc, &MANY_LOGINS, 77_098, LAST_LOGINS);
+    check_long(&rt, alloc, &MANY_SENDS, 59_800, LAST_SENDS);
 }
