@@ -8,7 +8,7 @@ ghost use Rattle.cx_gcm.specs.Gcm.{IsNonce, counted, gctr};
 ghost use Rattle.cx_gcm.specs.Masks.{IsMasked};
 
 use crate::gcm_key::MAX_BYTES;
-use cx_aes::Schedule;
+use cx_aes::{Schedule, add};
 use std::simd::prelude::*;
 
 // GCTR in place, whose first counter block is the nonce with the count `first`: 64 bytes at a time, and then the rest byte by byte.
@@ -26,17 +26,31 @@ pub(crate) fn add_key_stream(key: &Schedule, nonce: &[u8; 12], first: u32, bytes
         add_mask(bytes, 64 * n + 32, &masks[2]);
         add_mask(bytes, 64 * n + 48, &masks[3]);
     }
-    let masks = four_masks(key, nonce, first + 4 * fours as u32);
+    let mut mask = [0u8; 16];
     for i in 64 * fours..bytes.len() {
-        bytes[i] ^= masks[(i - 64 * fours) / 16][i % 16];
+        if i % 16 == 0 {
+            mask = key.encrypt(&counter_block(nonce, first + (i / 16) as u32));
+        }
+        bytes[i] ^= mask[i % 16];
     }
+}
+
+// GCTR of one block, whose counter block is the nonce with a count.
+pub(crate) fn with_one_mask(
+    key: &Schedule,
+    nonce: &[u8; 12],
+    count: u32,
+    block: &[u8; 16],
+) -> [u8; 16]
+    ensures { result ≡ gctr (key_of key.now) (counted nonce.now count) block.now }
+{
+    add(block, &key.encrypt(&counter_block(nonce, count)))
 }
 
 // Four blocks of the key stream.
 fn four_masks(key: &Schedule, nonce: &[u8; 12], count: u32) -> [[u8; 16]; 4]
     requires { count < 2 ^ 31 }
-    ensures masks { result ≡ map (λ i. aes (key_of key.now) (counted nonce.now (count + i))) (range_with_len 0 4) }
-    ensures nonce { IsNonce nonce.now }
+    ensures { result ≡ map (λ i. aes (key_of key.now) (counted nonce.now (count + i))) (range_with_len 0 4) }
 {
     key.encrypt_four(&[
         counter_block(nonce, count),

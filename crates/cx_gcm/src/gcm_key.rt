@@ -5,7 +5,7 @@ ghost use Rattle.cx_aes.specs.KeyOf.{key_of};
 ghost use Rattle.cx_gcm.specs.Gcm.{GcmSealed, tag_of};
 ghost use Rattle.cx_gcm.specs.Prepared.{IsPrepared};
 
-use crate::counter::add_key_stream;
+use crate::counter::{add_key_stream, with_one_mask};
 use crate::hashing::{hash, is_same_tag};
 use cx_aes::Schedule;
 use cx_ghash::Powers;
@@ -91,9 +91,12 @@ impl GcmKey {
         requires { length cipher.now ≤ MAX_BYTES }
         ensures { result ≡ tag_of (gcm_key_of self.now) nonce.now cipher.now }
     {
-        let mut tag = hash(&self.powers, cipher);
-        add_key_stream(&self.schedule, nonce, TAG_COUNT, &mut tag);
-        tag
+        with_one_mask(
+            &self.schedule,
+            nonce,
+            TAG_COUNT,
+            &hash(&self.powers, cipher),
+        )
     }
 }
 

@@ -1,5 +1,7 @@
-use Rattle.std.proofs.Common.{◌*◌}
+use Rattle.std.proofs.Common.{◌≡◌, ◌<◌, ◌+◌, ◌*◌, ◌/◌, ◌%◌}
+use Rattle.cx_aes.specs.Cipher.{aes}
 use Rattle.cx_aes.specs.KeyOf.{key_of}
+use Rattle.cx_gcm.specs.Gcm.{counted}
 use Rattle.cx_gcm.proofs.Passing.{IsPassed}
 use Rattle.cx_gcm.proofs.counter.add_key_stream.Given as goal
 
@@ -7,4 +9,7 @@ abbrev pub invariant-loop-n : goal.invariant-loop-n
 invariant-loop-n l = IsPassed (key_of l.key) l.nonce l.first l.fn.bytes l.bytes (64 * l.n)
 
 abbrev pub invariant-loop-i : goal.invariant-loop-i
-invariant-loop-i l = IsPassed (key_of l.key) l.nonce l.first l.fn.bytes l.bytes l.i
+invariant-loop-i l = record {
+  passed : IsPassed (key_of l.key) l.nonce l.first l.fn.bytes l.bytes l.i;
+  mask : 0 < l.i % 16 → l.mask ≡ aes (key_of l.key) (counted l.nonce (l.first + l.i / 16));
+}

@@ -11,6 +11,6 @@ returns c =
     let key = gcm_key_of c.args.self.now in
     let nonce = c.args.nonce.now in
     let text = hashed c.args.cipher.now in
-    c.add_key_stream.ensures.text
-    ∙ ap (λ b. gctr key b c.hash-tag.result) (sym (nonce_block-counted nonce))
-    ∙ ap (λ s. gctr key (nonce_block nonce) s) (c.hash-tag.ensures ∙ ap (λ h. spelled (ghash h text (length text / 16))) c.args.self.now.prepared)
+    c.with_one_mask.ensures
+    ∙ ap (λ b. gctr key b c.hash.result) (sym (nonce_block-counted nonce))
+    ∙ ap (λ s. gctr key (nonce_block nonce) s) (c.hash.ensures ∙ ap (λ h. spelled (ghash h text (length text / 16))) c.args.self.now.prepared)
