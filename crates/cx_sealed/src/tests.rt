@@ -52,13 +52,13 @@ fn service_ticket(rt: &impl Abort, alloc: Global) -> ServiceTicket
     }
 }
 
-// The generation that begins at this place of the content.
+// A generation whose key stands at this place of the content.
 fn generation(rt: &impl Abort, id: u64, place: usize, expires: u64) -> Generation
     ensures { result.expires ≡ expires }
 {
     Generation {
         id,
-        key: array(rt, ROTATING_REPLY.content, place + 20),
+        key: array(rt, ROTATING_REPLY.content, place),
         expires,
     }
 }
@@ -67,9 +67,9 @@ fn rotating_reply(rt: &impl Abort) -> RotatingReply
     ensures { ⟦<RotatingReply as cx_enc::Encoded>⟧.Bound result }
 {
     let three = [
-        generation(rt, 1, 9, 4600 * SECOND),
-        generation(rt, 2, 53, 8200 * SECOND),
-        generation(rt, 3, 97, 11_800 * SECOND),
+        generation(rt, 1, 29, 4600 * SECOND),
+        generation(rt, 2, 73, 8200 * SECOND),
+        generation(rt, 3, 117, 11_800 * SECOND),
     ];
     RotatingReply {
         service: EntityType::Osd,
