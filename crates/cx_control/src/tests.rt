@@ -2,7 +2,7 @@
 //! of ACK are those of a run that an independent implementation wrote; the others were written by hand.
 
 use super::*;
-use cx_base::{Addr, Blob, EntityType, Items};
+use cx_base::{Addr, Blob, Duplicate, EntityType, Items};
 use cx_enc::Encoded;
 use std::alloc::Global;
 use std::test::Fail;
@@ -414,12 +414,12 @@ fn a_payload_that_is_cut_or_lengthened_is_refused_at_its_place(
     Ok(())
 }
 
-// AUTH_REQUEST with the first so many modes, and a count of so many.
-fn request_of(alloc: Global, count: usize) -> Result<Blob, Fail> {
+// AUTH_REQUEST with these modes, and this count of them.
+fn request_of(alloc: Global, count: u32, modes: &[u32]) -> Result<Blob, Fail> {
     let mut bytes = Blob::new(alloc);
     cx_enc::put_u32(alloc, &mut bytes, 2)?;
-    cx_enc::put_u32(alloc, &mut bytes, count as u32)?;
-    for mode in &MODES[..count] {
+    cx_enc::put_u32(alloc, &mut bytes, count)?;
+    for mode in modes {
         cx_enc::put_u32(alloc, &mut bytes, *mode)?;
     }
     cx_enc::put_u32(alloc, &mut bytes, 0)?;
@@ -429,17 +429,17 @@ fn request_of(alloc: Global, count: usize) -> Result<Blob, Fail> {
 #[test]
 fn at_most_sixteen_modes_are_read(rt: HostRuntime) -> Result<(), Fail> {
     let alloc = rt.alloc();
-    let none = request_of(alloc, 0)?;
+    let none = request_of(alloc, 0, &[])?;
     assert_eq!(rt;
         read_auth_request(alloc, none.bytes())?.modes.all().len(),
         0
     );
-    let most = request_of(alloc, 16)?;
+    let most = request_of(alloc, 16, &MODES[..16])?;
     assert_eq!(rt;
         read_auth_request(alloc, most.bytes())?.modes.all(),
         &MODES[..16]
     );
-    let more = request_of(alloc, 17)?;
+    let more = request_of(alloc, 17, &MODES)?;
     assert!(rt; read_auth_request(alloc, more.bytes()) == Err(WireRefusal::Malformed(4)));
     Ok(())
 }
@@ -466,6 +466,20 @@ fn a_wrong_value_is_refused_at_its_field(rt: HostRuntime) {
     assert!(rt; read_session_reset(alloc, &[2]) == Err(WireRefusal::Malformed(0)));
     assert!(rt; read_hello(alloc, &AUTH_SIGNATURE[..16]) == Err(WireRefusal::Malformed(0)));
     assert!(rt; read_client_ident(alloc, &AUTH_REQUEST) == Err(WireRefusal::Malformed(0)));
+}
+
+#[test]
+fn a_copy_equals_its_original(rt: HostRuntime) -> Result<(), Fail> {
+    let alloc = rt.alloc();
+    let request = read_auth_request(alloc, &AUTH_REQUEST)?;
+    assert!(rt; request.copy(alloc)? == request);
+    let reply = read_auth_reply_more(alloc, &AUTH_REPLY_MORE)?;
+    assert!(rt; reply.copy(alloc)? == reply);
+    let more = read_auth_request_more(alloc, &AUTH_REQUEST_MORE)?;
+    assert!(rt; more.copy(alloc)? == more);
+    let done = read_auth_done(alloc, &AUTH_DONE)?;
+    assert!(rt; done.copy(alloc)? == done);
+    Ok(())
 }
 
 #[test]

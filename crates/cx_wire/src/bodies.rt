@@ -127,8 +127,8 @@ pub fn read_reply(alloc: Global, bytes: &[u8]) -> Result<Reply, BodyRefusal>
     read_body(alloc, bytes)
 }
 
-/// Writes the body of message 18 behind some bytes. Tickets that take 2^32 bytes or more together fit no body, and are answered as
-/// want of memory.
+/// Writes the body of message 18 behind some bytes. A reply that takes 2^32 bytes or more fits no blob, and is answered as want of
+/// memory.
 pub fn put_reply(alloc: Global, into: &mut Blob, value: &Reply) -> Result<(), AllocError>
     requires { IsShortReply value.now }
     ensures { IsPutBy reply_layout.form value.now into.old into.new result }

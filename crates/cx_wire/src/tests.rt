@@ -2,7 +2,7 @@
 //! that an independent implementation wrote; a request for tickets and its reply are made of parts of them.
 
 use super::*;
-use cx_base::{Access, Blob, EntityName, EntityType, Items, Operation, Text};
+use cx_base::{Access, Blob, Duplicate, EntityName, EntityType, Items, Operation, Text};
 use cx_control::read_payload;
 use cx_enc::{Encoded, TicketBlob, put_blob, put_u32};
 use std::alloc::Global;
@@ -123,66 +123,81 @@ static ANSWER_BODY: [u8; 9] = [0x00, 0x04, 0x00, 0x00, 0x00, 0x6f, 0x62, 0x6a, 0
 
 static REQUEST_TICKETS: [u8; 11] = [7, 0, 0, 0, 0x00, 0x02, 1, 0x14, 0, 0, 0];
 
-// A list of services, and the place at which it is refused, 0 where it is taken.
+// A count and a list of services, and the place at which it is refused, 0 where it is taken.
 struct Order {
+    count: u32,
     services: &'static [u32],
     place: usize,
 }
 
 static ORDERS: [Order; 14] = [
     Order {
+        count: 1,
         services: &[32],
         place: 0,
     },
     Order {
+        count: 2,
         services: &[32, 16],
         place: 0,
     },
     Order {
+        count: 3,
         services: &[32, 2, 16],
         place: 0,
     },
     Order {
+        count: 4,
         services: &[32, 2, 4, 16],
         place: 0,
     },
     Order {
+        count: 0,
         services: &[],
         place: 7,
     },
     Order {
+        count: 1,
         services: &[4],
         place: 11,
     },
     Order {
+        count: 2,
         services: &[2, 32],
         place: 11,
     },
     Order {
+        count: 2,
         services: &[32, 32],
         place: 35,
     },
     Order {
+        count: 2,
         services: &[32, 8],
         place: 35,
     },
     Order {
+        count: 2,
         services: &[32, 1],
         place: 35,
     },
     Order {
+        count: 2,
         services: &[32, 7],
         place: 35,
     },
     Order {
+        count: 3,
         services: &[32, 4, 2],
         place: 59,
     },
     Order {
+        count: 3,
         services: &[32, 16, 16],
         place: 59,
     },
     Order {
+        count: 5,
         services: &[32, 2, 4, 16, 16],
         place: 107,
     },
@@ -599,9 +614,9 @@ fn a_request_is_refused_for_its_code_or_its_place(rt: HostRuntime) {
 }
 
 // A LoginDone whose entries, of 24 bytes each, are for these services.
-fn login_of(alloc: Global, services: &[u32]) -> Result<Blob, Fail> {
+fn login_of(alloc: Global, count: u32, services: &[u32]) -> Result<Blob, Fail> {
     let mut bytes = Blob::of(alloc, &LOGIN_DONE[..7])?;
-    put_u32(alloc, &mut bytes, services.len() as u32)?;
+    put_u32(alloc, &mut bytes, count)?;
     for service in services {
         put_u32(alloc, &mut bytes, *service)?;
         bytes.append(
@@ -619,7 +634,7 @@ fn login_of(alloc: Global, services: &[u32]) -> Result<Blob, Fail> {
 fn tickets_are_read_in_their_order_alone(rt: HostRuntime) -> Result<(), Fail> {
     let alloc = rt.alloc();
     for row in &ORDERS {
-        let bytes = login_of(alloc, row.services)?;
+        let bytes = login_of(alloc, row.count, row.services)?;
         match read_login_done(alloc, bytes.bytes()) {
             Ok(done) => assert!(rt;
                 row.place == 0 && done.tickets.all().len() == row.services.len()
@@ -635,6 +650,31 @@ fn tickets_are_read_in_their_order_alone(rt: HostRuntime) -> Result<(), Fail> {
     assert!(rt;
         matches!(read_reply(alloc, reply.bytes())?, Reply::Tickets(tickets) if tickets.all().len() == 1)
     );
+    Ok(())
+}
+
+#[test]
+fn a_copy_equals_its_original(rt: HostRuntime) -> Result<(), Fail> {
+    let alloc = rt.alloc();
+    let hello = read_login_hello(alloc, &LOGIN_HELLO)?;
+    assert!(rt; hello.copy(alloc)? == hello);
+    let authenticate = read_authenticate(alloc, &AUTHENTICATE_TO_KEEP)?;
+    assert!(rt; authenticate.copy(alloc)? == authenticate);
+    let done = read_login_done(alloc, &LOGIN_DONE)?;
+    assert!(rt; done.copy(alloc)? == done);
+    let authorizer = read_authorizer(alloc, &AUTHORIZER)?;
+    assert!(rt; authorizer.copy(alloc)? == authorizer);
+    let challenge = read_authorize_challenge(alloc, &AUTHORIZE_CHALLENGE)?;
+    assert!(rt; challenge.copy(alloc)? == challenge);
+    let reply = read_authorize_reply(alloc, &AUTHORIZE_REPLY)?;
+    assert!(rt; reply.copy(alloc)? == reply);
+    let answer = read_answer(alloc, &ANSWER_BODY)?;
+    assert!(rt; answer.copy(alloc)? == answer);
+    let sealed = read_reply(alloc, &REPLY_ROTATING)?;
+    assert!(rt; sealed.copy(alloc)? == sealed);
+    let body = reply_of(alloc, 189)?;
+    let tickets = read_reply(alloc, body.bytes())?;
+    assert!(rt; tickets.copy(alloc)? == tickets);
     Ok(())
 }
 
