@@ -2,6 +2,8 @@
 #![tactic(auto)]
 
 mod streams;
+#[cfg(test)]
+mod tests;
 
 use cx_top::{Status, run};
 use std::alloc::AllocError;

@@ -39,6 +39,11 @@ AreBlocks-cbc key before (block ∷ blocks) k b are =
     let h = IsBlock-aes key (add block before) k (IsBlock-add block before are.0 b) in
     (h, AreBlocks-cbc key sealed blocks k h are.1)
 
+pub length-cbc : (key before : List ℕ) (blocks : List (List ℕ)) → length (cbc key before blocks) ≡ length blocks
+unfolding cbc
+length-cbc key before [] = refl
+length-cbc key before (block ∷ blocks) = ap suc (length-cbc key (aes key (add block before)) blocks)
+
 pub AreBlocks-uncbc : (key before : List ℕ) (blocks : List (List ℕ)) → IsBlock key → IsBlock before → AreBlocks blocks → AreBlocks (uncbc key before blocks)
 unfolding uncbc
 AreBlocks-uncbc key before [] k b are = tt

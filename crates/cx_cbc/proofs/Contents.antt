@@ -1,13 +1,13 @@
 -- What opens, and that it opens to one content.
-use Rattle.std.proofs.Common.{◌≡◌, ℕ, ◌-◌, ◌%◌, ◌<◌, ◌≤◌, List, [], ◌∷◌, ◌++◌, All, length, refl, ap, sym, ◌∙◌, subst, arith}
+use Rattle.std.proofs.Common.{◌≡◌, ℕ, ◌+◌, ◌-◌, ◌/◌, ◌%◌, ◌<◌, ◌≤◌, List, [], ◌∷◌, ◌++◌, All, length, replicate, length-append, refl, ap, sym, ◌∙◌, subst, arith}
 use Rattle.std.specs.List.{AllByRecursion, concat}
-use Rattle.std.proofs.lemmas.List.{append_cancel_left, take_at}
+use Rattle.std.proofs.lemmas.List.{append_cancel_left, take_at, length-replicate}
 use Rattle.std.proofs.lemmas.List.Elements.{All-append, All-take, All-drop, All-replicate, All-from_recursion}
 use Rattle.cx_aes.specs.Cipher.{IsBlock}
 use Rattle.cx_cbc.specs.Chain.{blocks_of, cbc, uncbc}
 use Rattle.cx_cbc.specs.Envelope.{head, initial_vector, padding, padded, enveloped, sealed, Opens, OpensOne}
-use Rattle.cx_cbc.proofs.Blocks.{AreBlocks, AreBlocks-blocks_of, concat-blocks_of, blocks_of-concat, whole-concat}
-use Rattle.cx_cbc.proofs.Chaining.{uncbc-cbc, cbc-uncbc, AreBlocks-cbc, AreBlocks-uncbc}
+use Rattle.cx_cbc.proofs.Blocks.{AreBlocks, AreBlocks-blocks_of, concat-blocks_of, blocks_of-concat, whole-concat, length-concat, length-first_chunks}
+use Rattle.cx_cbc.proofs.Chaining.{uncbc-cbc, cbc-uncbc, AreBlocks-cbc, AreBlocks-uncbc, length-cbc}
 use Rattle.cx_cbc.proofs.Padding.{padded-one, whole-padded}
 
 abbrev pub IsByte : ℕ → Type 0
@@ -55,6 +55,21 @@ whole-opens key bytes content k opens =
     ap (λ xs. length xs % 16) opens.is_sealed
     ∙ whole-concat (cbc key initial_vector blocks)
     (AreBlocks-cbc key initial_vector blocks k IsBlock-initial_vector (AreBlocks-blocks_of (enveloped content) (octets-enveloped content opens.octets)))
+
+length-enveloped : (content : List ℕ) → length (enveloped content) ≤ length content + 25
+unfolding enveloped padded padding
+length-enveloped content =
+    let missing : ℕ = 16 - length (head ++ content) % 16 in
+    omega (arith, length-append (head ++ content) (replicate missing missing), length-append head content, length-replicate missing missing)
+
+-- bytes that open are no longer than the longest envelope
+pub length-opens : (key bytes content : List ℕ) → IsBlock key → Opens key bytes content → length bytes ≤ 1048592
+unfolding sealed
+length-opens key bytes content k opens =
+    let blocks : List (List ℕ) = blocks_of (enveloped content) in
+    let are = AreBlocks-cbc key initial_vector blocks k IsBlock-initial_vector (AreBlocks-blocks_of (enveloped content) (octets-enveloped content opens.octets)) in
+    let size = opens.size in
+    omega (arith, ap length opens.is_sealed, length-concat (cbc key initial_vector blocks) are, length-cbc key initial_vector blocks, length-first_chunks (length (enveloped content) / 16) (enveloped content), length-enveloped content)
 
 -- what bytes that open decrypt to
 pub decrypted-opens : (key bytes content : List ℕ) → IsBlock key → Opens key bytes content →

@@ -12,11 +12,17 @@ use cx_aes::Schedule;
 use cx_base::Blob;
 use std::alloc::Global;
 
-/// The content of a sealed envelope.
+// The bytes of the longest envelope: 9 of the head, the longest content and 7 of padding.
+const LONGEST_ENVELOPE: usize = 1_048_592;
+
+/// The content of a sealed envelope. What is longer than any envelope is refused before anything is decrypted.
 pub fn open(alloc: Global, key: &Schedule, sealed: &[u8]) -> Result<Blob, OpenRefusal>
     ensures opened { IfOk result (λ content. Opens (key_of key.now) sealed.now content) }
     ensures unopened { result ≡ Err OpenRefusal.Unopened → (content : List ℕ) → Opens (key_of key.now) sealed.now content → ⊥ }
 {
+    if sealed.len() > LONGEST_ENVELOPE {
+        return Err(OpenRefusal::Unopened);
+    }
     if sealed.len() % 16 != 0 {
         return Err(OpenRefusal::Unopened);
     }

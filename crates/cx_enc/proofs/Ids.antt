@@ -8,7 +8,7 @@ use Rattle.cx_base.specs.declared.kinds.EntityType.{EntityType}
 use Rattle.cx_base.specs.declared.kinds.EntityType.TheVariants.{Mon}
 use Rattle.cx_base.specs.Names.{is_id, is_id_byte, same_kind}
 use Rattle.cx_base.specs.Owners.{is_above_ascii}
-use Rattle.cx_enc.specs.Primitives.{both_true}
+use Rattle.cx_enc.specs.FieldLaws.{both_true}
 
 low : (b : ℕ) → is_id_byte b ≡ true → is_above_ascii b ≡ false
 low b e = grind (arith, nat_tests)

@@ -1,5 +1,5 @@
 -- Forms of encodings: how a value is read at a place of some bytes, how it is spelled, and which values have a spelling.
-use Rattle.std.specs.Prelude.{ℕ, zero, suc, ◌≡◌, ◌+◌, ◌^◌, ◌<◌, List, [], ◌∷◌, ◌++◌, length, take, drop, Option, Some, None, Result, Ok, Err, nat_lt, if◌then◌else◌, slice_index}
+use Rattle.std.specs.Prelude.{ℕ, zero, suc, ◌≡◌, ◌+◌, ◌^◌, ◌<◌, List, [], ◌∷◌, ◌++◌, length, take, drop, Bool, Option, Some, None, Result, Ok, Err, nat_lt, if◌then◌else◌, slice_index}
 use Rattle.std.specs.List.{AllByRecursion, flat_map}
 use Rattle.std.specs.Int.{Width, w8, w16, w32, w64, byte_len, to_le_bytes, from_le_bytes}
 use Rattle.cx_enc.specs.declared.faults.ReadFault.{ReadFault}
@@ -104,12 +104,56 @@ unfoldable pub times_at : {X : Type 0} → (Spot → Result (X × Spot) ReadFaul
 times_at at zero s = Ok ([], s)
 times_at at (suc n) s = at s >>= λ x. times_at at n x.1 >>= λ xs. Ok (x.0 ∷ xs.0, xs.1)
 
--- a count and so many values of one form
+abbrev pub times : {X : Type 0} → ℕ → Form X → Form (List X)
+times n f = record {
+  at = times_at f.at n;
+  text = flat_map f.text;
+  Fits = λ xs. (length xs ≡ n) × AllByRecursion f.Fits xs;
+}
+
+-- a form and, behind it, one that depends on what was read by it
+abbrev pub after : {A B : Type 0} → Form A → (A → Form B) → Form (A × B)
+after f g = record {
+  at = λ s. f.at s >>= λ a. (g a.0).at a.1 >>= λ b. Ok ((a.0, b.0), b.1);
+  text = λ x. f.text x.0 ++ (g x.0).text x.1;
+  Fits = λ x. f.Fits x.0 × (g x.0).Fits x.1;
+}
+
+-- a field of which only some values are good
+abbrev pub passed : {A : Type 0} → (A → Bool) → A → Option A
+passed good a = if good a then Some a else None
+
+abbrev pub judged : {A : Type 0} → (A → Bool) → Form A → Form A
+judged good f = checked (passed good) (λ a. a) f
+
+-- a count, in a form of its own, and the list that it counts: what is wrong with the count is found before the list
+abbrev pub with_count : {X : Type 0} → Form ℕ → (ℕ → Form (List X)) → Form (List X)
+with_count count list = seen (λ a. a.1) (λ xs. (length xs, xs)) (after count list)
+
 abbrev pub many : {X : Type 0} → Form X → Form (List X)
-many f = record {
-  at = λ s. number_at w32 s >>= λ n. times_at f.at n.0 n.1;
-  text = λ xs. little w32 (length xs) ++ flat_map f.text xs;
-  Fits = λ xs. (length xs < 2 ^ 32) × AllByRecursion f.Fits xs;
+many f = with_count u32_form (λ n. times n f)
+
+abbrev pub counted : {X : Type 0} → (ℕ → Bool) → Form X → Form (List X)
+counted good f = with_count (judged good u32_form) (λ n. times n f)
+
+-- so many values, each by a form that depends on what stands before it: `next` says what stands before the following one
+unfoldable pub chain_at : {S X : Type 0} → (S → Spot → Result (X × Spot) ReadFault) → (S → X → S) → ℕ → S → Spot → Result (List X × Spot) ReadFault
+chain_at at next zero before s = Ok ([], s)
+chain_at at next (suc n) before s = at before s >>= λ x. chain_at at next n (next before x.0) x.1 >>= λ xs. Ok (x.0 ∷ xs.0, xs.1)
+
+unfoldable pub chain_text : {S X : Type 0} → (S → X → List ℕ) → (S → X → S) → S → List X → List ℕ
+chain_text text next before [] = []
+chain_text text next before (x ∷ xs) = text before x ++ chain_text text next (next before x) xs
+
+abbrev pub ChainFits : {S X : Type 0} → (S → X → Type 0) → (S → X → S) → S → List X → Type 0
+ChainFits fits next before [] = Unit {0}
+ChainFits fits next before (x ∷ xs) = fits before x × ChainFits fits next (next before x) xs
+
+abbrev pub chain : {S X : Type 0} → (S → Form X) → (S → X → S) → S → ℕ → Form (List X)
+chain f next before n = record {
+  at = chain_at (λ b. (f b).at) next n before;
+  text = chain_text (λ b. (f b).text) next before;
+  Fits = λ xs. (length xs ≡ n) × ChainFits (λ b. (f b).Fits) next before xs;
 }
 
 -- bytes, of which each is below 256

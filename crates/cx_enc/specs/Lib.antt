@@ -1,9 +1,10 @@
+pub mod FieldLaws
+pub mod FormLaws
 pub mod Forms
-pub mod Lawful
+pub mod Layouts
 pub mod Moments
 pub mod Names
 pub mod Needs
-pub mod Primitives
 pub mod Reading
 pub mod Values
 pub mod Whole

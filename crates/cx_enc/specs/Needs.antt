@@ -18,3 +18,7 @@ blob_needs bytes = if nat_lt (length bytes) 4 then 4 else 4 + from_le_bytes w32 
 -- a name needs the number of its type and a blob
 abbrev pub name_needs : List ℕ → ℕ
 name_needs bytes = 4 + blob_needs (drop 4 bytes)
+
+-- the blob of a ticket needs a byte, an id and a blob
+abbrev pub ticket_needs : List ℕ → ℕ
+ticket_needs bytes = 9 + blob_needs (drop 9 bytes)

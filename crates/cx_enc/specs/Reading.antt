@@ -1,6 +1,7 @@
 -- What a reader answers, against what a form reads.
-use Rattle.std.specs.Prelude.{◌≡◌, Result, Ok, Err}
+use Rattle.std.specs.Prelude.{ℕ, ◌≡◌, Result, Ok, Err}
 use Rattle.cx_enc.specs.declared.faults.ReadFault.{ReadFault}
+use Rattle.cx_enc.specs.declared.faults.ReadFault.TheVariants.{Short, BadField}
 use Rattle.cx_enc.specs.declared.cut.Cut.{Cut}
 use Rattle.cx_enc.specs.Forms.{Spot}
 
@@ -16,3 +17,13 @@ ReadsAs view old new (Err e) read = (read ≡ Err e) × (new ≡ old)
 
 abbrev pub Reads : {X : Type 0} → Spot → Spot → Result X ReadFault → Result (X × Spot) ReadFault → Type 0
 Reads old new answer read = ReadsAs (λ x. x) old new answer read
+
+-- so many values were read and none is kept: the answer is as of a reader of them
+abbrev pub Passes : {V : Type 0} → Spot → Spot → Result (Unit {0}) ReadFault → Result (V × Spot) ReadFault → Type 0
+Passes {V} old new (Ok _) read = (v : V) × (read ≡ Ok (v, new))
+Passes old new (Err e) read = (read ≡ Err e) × (new ≡ old)
+
+-- the place at which the field begins that can't be read
+abbrev pub fault_place : ReadFault → ℕ
+fault_place (Short place) = place
+fault_place (BadField place) = place

@@ -1,12 +1,13 @@
--- The primitive fields that hold more than a number or bytes: times, keys, addresses and names of entities.
-use Rattle.std.specs.Prelude.{ℕ, ◌==◌, ◌&&◌, List, Option, Some, None, Bool, true, false, nat_lt, if◌then◌else◌}
+-- The primitive fields that hold more than a number or bytes: times, keys, ticket blobs, addresses and names of entities.
+use Rattle.std.specs.Prelude.{ℕ, ◌+◌, ◌*◌, ◌/◌, ◌%◌, ◌==◌, ◌&&◌, List, Option, Some, None, Bool, true, false, length, nat_lt, nat_le, if◌then◌else◌}
 use Rattle.cx_base.specs.declared.kinds.EntityType.{EntityType}
 use Rattle.cx_base.specs.declared.kinds.EntityType.TheVariants.{Mon, Mds, Osd, Client, Mgr, Auth}
 use Rattle.cx_base.specs.declared.addresses.Addr.{Addr}
 use Rattle.cx_base.specs.Names.{Name, with_id}
 use Rattle.cx_enc.specs.Moments.{Moment}
 use Rattle.cx_enc.specs.declared.keys.Key.{Key}
-use Rattle.cx_enc.specs.Forms.{Form, u8_form, u16_form, u32_form, bytes_form, blob_form, pair, field, checked}
+use Rattle.cx_enc.specs.declared.tickets.TicketBlob.{TicketBlob}
+use Rattle.cx_enc.specs.Forms.{Form, u8_form, u16_form, u32_form, u64_form, bytes_form, blob_form, pair, seen, field, checked, judged}
 
 -- a time: seconds, and nanoseconds below 1,000,000,000
 abbrev pub moment_of : ℕ × ℕ → Option Moment
@@ -15,7 +16,7 @@ moment_of x = if nat_lt x.1 1000000000 then Some (record { secs = x.0; nanos = x
 abbrev pub moment_parts : Moment → ℕ × ℕ
 moment_parts t = (t.secs, t.nanos)
 
-abbrev pub time_form : Form Moment
+unfoldable pub time_form : Form Moment
 time_form = checked moment_of moment_parts (field (pair u32_form u32_form))
 
 -- a key: type 1, the time of its making, length 16 and 16 bytes
@@ -28,8 +29,46 @@ key_of x =
 abbrev pub key_parts : Key → ℕ × (ℕ × (ℕ × (ℕ × List ℕ)))
 key_parts key = (1, (key.created.secs, (key.created.nanos, (16, key.secret))))
 
-abbrev pub key_form : Form Key
+unfoldable pub key_form : Form Key
 key_form = checked key_of key_parts (field (pair u16_form (pair u32_form (pair u32_form (pair u16_form (bytes_form 16))))))
+
+-- a reading of a clock, in nanoseconds, as the time of its seconds and nanoseconds
+abbrev pub reading_of : Moment → ℕ
+reading_of t = t.secs * 1000000000 + t.nanos
+
+abbrev pub moment_at : ℕ → Moment
+moment_at reading = record { secs = reading / 1000000000; nanos = reading % 1000000000 }
+
+unfoldable pub reading_form : Form ℕ
+reading_form = seen reading_of moment_at time_form
+
+-- 16 bytes as a key made at the time 0: session keys and the keys of generations are written so
+abbrev pub secret_of : Key → Option (List ℕ)
+secret_of key = if (key.created.secs == 0) && (key.created.nanos == 0) then Some key.secret else None
+
+abbrev pub secret_key : List ℕ → Key
+secret_key bytes = record { created = record { secs = 0; nanos = 0 }; secret = bytes }
+
+unfoldable pub secret_form : Form (List ℕ)
+secret_form = checked secret_of secret_key key_form
+
+-- a blob of so many bytes
+unfoldable pub sized_form : ℕ → Form (List ℕ)
+sized_form n = judged (λ bytes. length bytes == n) blob_form
+
+-- the blob of a ticket: a byte 1, the id of the generation that sealed it, and the sealed ticket
+abbrev pub ticket_of : (ℕ × ℕ) × List ℕ → Option TicketBlob
+ticket_of x = if x.0.0 == 1 then Some (record { generation = x.0.1; blob = x.1 }) else None
+
+abbrev pub ticket_parts : TicketBlob → (ℕ × ℕ) × List ℕ
+ticket_parts ticket = ((1, ticket.generation), ticket.blob)
+
+unfoldable pub ticket_form : Form TicketBlob
+ticket_form = checked ticket_of ticket_parts (field (pair (pair u8_form u64_form) blob_form))
+
+-- a count of values, four bytes, that is within these bounds
+abbrev pub count_form : ℕ → ℕ → Form ℕ
+count_form least most = judged (λ n. nat_le least n && nat_le n most) u32_form
 
 -- an address: a byte 1, type 2, the nonce, the four bytes of an IPv4 address and the port
 abbrev pub addr_of : ℕ × (ℕ × (ℕ × (List ℕ × ℕ))) → Option Addr
@@ -41,7 +80,7 @@ addr_of x =
 abbrev pub addr_parts : Addr → ℕ × (ℕ × (ℕ × (List ℕ × ℕ)))
 addr_parts addr = (1, (2, (addr.nonce, (addr.ip, addr.port))))
 
-abbrev pub addr_form : Form Addr
+unfoldable pub addr_form : Form Addr
 addr_form = checked addr_of addr_parts (field (pair u8_form (pair u32_form (pair u32_form (pair (bytes_form 4) u16_form)))))
 
 -- the number of an entity type
@@ -64,7 +103,7 @@ kind_of n =
     else None
 
 -- an entity type by its number
-abbrev pub kind_form : Form EntityType
+unfoldable pub kind_form : Form EntityType
 kind_form = checked kind_of number_of u32_form
 
 -- a name: the number of its type, and its id
@@ -74,7 +113,7 @@ name_of x = with_id x.1 (kind_of x.0)
 abbrev pub name_parts : Name → ℕ × List ℕ
 name_parts name = (number_of name.kind, name.id)
 
-abbrev pub name_form : Form Name
+unfoldable pub name_form : Form Name
 name_form = checked name_of name_parts (field (pair u32_form blob_form))
 
 -- a number that is always the same
@@ -92,5 +131,5 @@ abbrev pub flag_number : Bool → ℕ
 flag_number false = 0
 flag_number true = 1
 
-abbrev pub flag_form : Form Bool
+unfoldable pub flag_form : Form Bool
 flag_form = checked flag_of flag_number u8_form

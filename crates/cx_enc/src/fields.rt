@@ -3,6 +3,7 @@
 ghost use Rattle.std.specs.Prelude.{◌≡◌, length, IfOk};
 ghost use Rattle.cx_enc.specs.Forms.{u8_form, u16_form, u32_form, u64_form, bytes_form, blob_form, short_at};
 ghost use Rattle.cx_enc.specs.Reading.{spot, Reads, ReadsAs};
+ghost use Rattle.cx_enc.specs.Values.{sized_form};
 
 use crate::cut::Cut;
 use crate::faults::ReadFault;
@@ -108,6 +109,20 @@ impl<'a> Cut<'a> {
         let bytes = short_at(self.place, cut.take(length as usize))?;
         *self = cut;
         Ok(bytes)
+    }
+
+    /// A blob of `N` bytes. One of another length is a bad field.
+    #[tactic(auto, unfolding(crate::specs::Values::sized_form))]
+    pub fn take_sized<const N: usize>(&mut self) -> Result<[u8; N], ReadFault>
+        ensures { Reads (spot self.old) (spot self.new) result ((sized_form N).at (spot self.old)) }
+    {
+        let mut cut = *self;
+        let blob = cut.take_blob()?;
+        let Some((bytes, [])) = blob.split_first_chunk::<N>() else {
+            return Err(ReadFault::BadField(self.place));
+        };
+        *self = cut;
+        Ok(*bytes)
     }
 }
 

@@ -2,11 +2,13 @@
 
 ghost use Rattle.std.specs.Prelude.{◌≡◌, ◌++◌, ◌<◌, ◌^◌, length, OnOk, OnErr};
 ghost use Rattle.cx_enc.specs.Forms.{u8_form, u16_form, u32_form, u64_form, blob_form};
-ghost use Rattle.cx_enc.specs.Values.{time_form, key_form, addr_form, kind_form, name_form, flag_form, number_of};
+ghost use Rattle.cx_enc.specs.Moments.{IsReading};
+ghost use Rattle.cx_enc.specs.Values.{time_form, reading_form, key_form, secret_form, sized_form, ticket_form, addr_form, kind_form, name_form, flag_form, number_of};
 
 use crate::keys::Key;
+use crate::tickets::TicketBlob;
 use crate::times::Time;
-use cx_base::{Addr, Blob, EntityName, EntityType};
+use cx_base::{Addr, Blob, EntityName, EntityType, Reading};
 use std::alloc::{AllocError, Global};
 
 /// Writes a number of one byte.
@@ -62,7 +64,23 @@ pub fn put_blob(alloc: Global, into: &mut Blob, bytes: &[u8]) -> Result<(), Allo
     into.append(alloc, spelled.bytes())
 }
 
+/// Writes a length and these bytes, of which there are below 2^32.
+#[tactic(auto, using(crate::specs::FieldLaws::sized_fits), unfolding(crate::specs::Values::sized_form))]
+pub fn put_sized<const N: usize>(
+    alloc: Global,
+    into: &mut Blob,
+    bytes: &[u8; N],
+) -> Result<(), AllocError>
+    requires { N < 2 ^ 32 }
+    ensures ok { OnOk result (into.new ≡ into.old ++ (sized_form N).text bytes.now) }
+    ensures fits { OnOk result ((sized_form N).Fits bytes.now) }
+    ensures err { OnErr result (into.new ≡ into.old) }
+{
+    put_blob(alloc, into, bytes)
+}
+
 /// Writes a time.
+#[tactic(auto, unfolding(crate::specs::Values::time_form))]
 pub fn put_time(alloc: Global, into: &mut Blob, time: &Time) -> Result<(), AllocError>
     ensures ok { OnOk result (into.new ≡ into.old ++ time_form.text time.now) }
     ensures fits { OnOk result (time_form.Fits time.now) }
@@ -74,7 +92,48 @@ pub fn put_time(alloc: Global, into: &mut Blob, time: &Time) -> Result<(), Alloc
     into.append(alloc, spelled.bytes())
 }
 
+/// Writes a reading as a time.
+#[tactic(auto, using(crate::specs::FieldLaws::reading_fits), unfolding(crate::specs::Values::reading_form))]
+pub fn put_reading(alloc: Global, into: &mut Blob, reading: Reading) -> Result<(), AllocError>
+    requires { IsReading reading }
+    ensures ok { OnOk result (into.new ≡ into.old ++ reading_form.text reading) }
+    ensures fits { OnOk result (reading_form.Fits reading) }
+    ensures err { OnErr result (into.new ≡ into.old) }
+{
+    put_time(alloc, into, &Time::of(reading))
+}
+
+/// Writes 16 bytes as a key that was made at the time 0.
+#[tactic(auto, unfolding(crate::specs::Values::secret_form))]
+pub fn put_secret(alloc: Global, into: &mut Blob, secret: &[u8; 16]) -> Result<(), AllocError>
+    ensures ok { OnOk result (into.new ≡ into.old ++ secret_form.text secret.now) }
+    ensures fits { OnOk result (secret_form.Fits secret.now) }
+    ensures err { OnErr result (into.new ≡ into.old) }
+{
+    let key = Key {
+        created: Time { secs: 0, nanos: 0 },
+        secret: *secret,
+    };
+    put_key(alloc, into, &key)
+}
+
+/// Writes the blob of a ticket.
+#[tactic(auto, unfolding(crate::specs::Values::ticket_form))]
+pub fn put_ticket(alloc: Global, into: &mut Blob, ticket: &TicketBlob) -> Result<(), AllocError>
+    requires { length ticket.now.blob < 2 ^ 32 }
+    ensures ok { OnOk result (into.new ≡ into.old ++ ticket_form.text ticket.now) }
+    ensures fits { OnOk result (ticket_form.Fits ticket.now) }
+    ensures err { OnErr result (into.new ≡ into.old) }
+{
+    let mut spelled = Blob::new(alloc);
+    put_u8(alloc, &mut spelled, 1)?;
+    put_u64(alloc, &mut spelled, ticket.generation)?;
+    put_blob(alloc, &mut spelled, ticket.blob.bytes())?;
+    into.append(alloc, spelled.bytes())
+}
+
 /// Writes a key.
+#[tactic(auto, unfolding(crate::specs::Values::key_form))]
 pub fn put_key(alloc: Global, into: &mut Blob, key: &Key) -> Result<(), AllocError>
     ensures ok { OnOk result (into.new ≡ into.old ++ key_form.text key.now) }
     ensures fits { OnOk result (key_form.Fits key.now) }
@@ -91,6 +150,7 @@ pub fn put_key(alloc: Global, into: &mut Blob, key: &Key) -> Result<(), AllocErr
 }
 
 /// Writes an address.
+#[tactic(auto, unfolding(crate::specs::Values::addr_form))]
 pub fn put_addr(alloc: Global, into: &mut Blob, addr: &Addr) -> Result<(), AllocError>
     ensures ok { OnOk result (into.new ≡ into.old ++ addr_form.text addr.now) }
     ensures fits { OnOk result (addr_form.Fits addr.now) }
@@ -106,7 +166,7 @@ pub fn put_addr(alloc: Global, into: &mut Blob, addr: &Addr) -> Result<(), Alloc
 }
 
 /// Writes the number of an entity type.
-#[tactic(auto, using(crate::specs::Primitives::kind_fits))]
+#[tactic(auto, using(crate::specs::FieldLaws::kind_fits), unfolding(crate::specs::Values::kind_form))]
 pub fn put_kind(alloc: Global, into: &mut Blob, kind: EntityType) -> Result<(), AllocError>
     ensures ok { OnOk result (into.new ≡ into.old ++ kind_form.text kind) }
     ensures fits { OnOk result (kind_form.Fits kind) }
@@ -116,19 +176,20 @@ pub fn put_kind(alloc: Global, into: &mut Blob, kind: EntityType) -> Result<(), 
 }
 
 /// Writes a name.
-#[tactic(auto, using(crate::proofs::Fitting::name_fits))]
+#[tactic(auto, using(crate::proofs::Fitting::name_fits), unfolding(crate::specs::Values::name_form))]
 pub fn put_name(alloc: Global, into: &mut Blob, name: &EntityName) -> Result<(), AllocError>
     ensures ok { OnOk result (into.new ≡ into.old ++ name_form.text name.now) }
     ensures fits { OnOk result (name_form.Fits name.now) }
     ensures err { OnErr result (into.new ≡ into.old) }
 {
     let mut spelled = Blob::new(alloc);
-    put_kind(alloc, &mut spelled, name.kind)?;
+    put_u32(alloc, &mut spelled, number_of(name.kind))?;
     put_blob(alloc, &mut spelled, name.id.bytes())?;
     into.append(alloc, spelled.bytes())
 }
 
 /// Writes a flag.
+#[tactic(auto, unfolding(crate::specs::Values::flag_form))]
 pub fn put_flag(alloc: Global, into: &mut Blob, flag: bool) -> Result<(), AllocError>
     ensures ok { OnOk result (into.new ≡ into.old ++ flag_form.text flag) }
     ensures fits { OnOk result (flag_form.Fits flag) }

@@ -6,7 +6,7 @@ use Rattle.std.specs.Ordering.{nat_cmp}
 use Rattle.std.specs.Str.{bytes_eq}
 use Rattle.std.specs.Cmp.Lexicographic.{slice_cmp}
 use Rattle.std.specs.BTreeMap.{get}
-use Rattle.cx_journal.specs.Places.{different, cookie_of, cookies_of, blob_of, blobs_of, rank, next_number, ticket_number}
+use Rattle.cx_journal.specs.Places.{different, cookie_of, cookies_of, blob_of, blobs_of, rank, next_number, ticket_number, ticket_of}
 use Rattle.cx_journal.specs.Counted.{IsCountOf}
 use Rattle.cx_journal.specs.JournalText.{line, issued_line, admitted_line, sent_line, handled_line, refused_line}
 use Rattle.cx_journal.specs.declared.counts.Counts.{Counts}
@@ -56,5 +56,5 @@ numbers_as : (counts : Counts) (earlier : List Entry) (e : Entry) (ticket : Opti
 numbers_as counts earlier e None has h = refl
 numbers_as counts earlier e (Some blob) has h = ap Some (ticket_is counts earlier e blob has h)
 
-pub refused_as : (counts : Counts) (earlier : List Entry) (e : Entry) (r : Refused) (n : Option ℕ) → e ≡ entry.Refused r → n ≡ option_map (λ blob. unwrap_or (get (slice_cmp nat_cmp) counts.numbers.numbers blob) 0) r.ticket → IsCountOf counts (earlier ++ e ∷ []) → line earlier e ≡ refused_line n r
-refused_as counts earlier e r n is told h = ap (line earlier) is ∙ ap (λ k. refused_line k r) (sym (told ∙ numbers_as counts earlier e r.ticket (ap blob_of is) h))
+pub refused_as : (counts : Counts) (earlier : List Entry) (e : Entry) (r : Refused) (n : Option ℕ) → e ≡ entry.Refused r → n ≡ option_map (λ blob. unwrap_or (get (slice_cmp nat_cmp) counts.numbers.numbers blob) 0) (ticket_of r.reason) → IsCountOf counts (earlier ++ e ∷ []) → line earlier e ≡ refused_line n r
+refused_as counts earlier e r n is told h = ap (line earlier) is ∙ ap (λ k. refused_line k r) (sym (told ∙ numbers_as counts earlier e (ticket_of r.reason) (ap blob_of is) h))

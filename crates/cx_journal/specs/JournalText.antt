@@ -5,7 +5,7 @@ use Rattle.std.specs.Fmt.{decimal}
 use Rattle.cx_base.specs.Joined.{◌<>◌}
 use Rattle.cx_base.specs.Names.{name_text, type_word}
 use Rattle.cx_journal.specs.Words.{reading_text, asked_text, ids_text, operation_text, outcome_word, reason_text}
-use Rattle.cx_journal.specs.Places.{next_number, ticket_number, rank}
+use Rattle.cx_journal.specs.Places.{next_number, ticket_number, ticket_of, rank}
 use Rattle.cx_journal.specs.declared.entries.Entry.{Entry}
 use Rattle.cx_journal.specs.declared.entries.Entry.TheVariants as entry
 use Rattle.cx_journal.specs.declared.entries.Issued.{Issued}
@@ -64,7 +64,7 @@ answered_line a =
     codes "answered " <> name_text a.client <> codes " " <> name_text a.daemon <> codes " " <> decimal a.tid <> codes " " <> outcome_word a.outcome
     <> codes "\n"
 
--- what a refusal says of its ticket, by its number: nothing where it has none
+-- what a refusal says of the ticket that it refuses, by its number: nothing where it refuses none
 abbrev pub ticket_text : Option ℕ → List ℕ
 ticket_text None = []
 ticket_text (Some number) = codes " ticket=" <> decimal number
@@ -84,7 +84,7 @@ line earlier (entry.Admitted a) = admitted_line (rank earlier a.cookie) a
 line earlier (entry.Sent s) = sent_line (rank earlier s.cookie) s
 line earlier (entry.Handled h) = handled_line (rank earlier h.cookie) h
 line earlier (entry.Answered a) = answered_line a
-line earlier (entry.Refused r) = refused_line (option_map (ticket_number earlier) r.ticket) r
+line earlier (entry.Refused r) = refused_line (option_map (ticket_number earlier) (ticket_of r.reason)) r
 
 -- the lines of entries that stand behind the earlier ones
 abbrev pub text_behind : List Entry → List Entry → List ℕ

@@ -1,5 +1,5 @@
 -- The law of kept keys: a daemon says that it lacks the generation of an issued ticket only where its view lacked it.
-use Rattle.std.specs.Prelude.{ℕ, ◌≡◌, ◌==◌, ◌&&◌, Bool, true, false, List, [], ◌∷◌, ◌++◌, Contains, Option, Some}
+use Rattle.std.specs.Prelude.{ℕ, ◌≡◌, ◌==◌, ◌&&◌, Bool, true, false, List, [], ◌∷◌, ◌++◌, Contains}
 use Rattle.std.specs.List.{list_any}
 use Rattle.cx_base.specs.Names.{Name, same_name}
 use Rattle.cx_rotate.specs.declared.generations.Generation.{Generation}
@@ -10,6 +10,8 @@ use Rattle.cx_journal.specs.declared.entries.Issued.{Issued}
 use Rattle.cx_journal.specs.declared.entries.Looked.{Looked}
 use Rattle.cx_journal.specs.declared.outcomes.Reason.{Reason}
 use Rattle.cx_journal.specs.declared.outcomes.Reason.TheVariants as reason
+use Rattle.cx_journal.specs.declared.outcomes.TicketFault.{TicketFault}
+use Rattle.cx_journal.specs.declared.outcomes.TicketFault.TheVariants as fault
 
 -- one of the entries issued a ticket with this blob, for this daemon's type as its service, under this generation
 pub record WasIssued (entries : List Entry) (daemon : Name) (generation : ℕ) (blob : List ℕ) : Type 0 where
@@ -25,8 +27,8 @@ is_look daemon link (entry.Looked look) = same_name look.daemon daemon && look.l
 is_look daemon link _ = false
 
 -- whether one of the generations has this id
-abbrev pub is_listed : ℕ → List Generation → Bool
-is_listed id generations = list_any (λ g. g.id == id) generations
+abbrev pub has_generation : List Generation → ℕ → Bool
+has_generation generations id = list_any (λ g. g.id == id) generations
 
 -- some entry is a look of this daemon for this link, and the latest of these doesn't list the generation
 pub record LacksKey (entries : List Entry) (daemon : Name) (link : ℕ) (generation : ℕ) : Type 0 where
@@ -36,18 +38,23 @@ pub record LacksKey (entries : List Entry) (daemon : Name) (link : ℕ) (generat
   pub place : entries ≡ before ++ entry.Looked look ∷ after
   pub looked : is_look daemon link (entry.Looked look) ≡ true
   pub latest : list_any (is_look daemon link) after ≡ false
-  pub lacks : is_listed generation look.view.generations ≡ false
+  pub lacks : has_generation look.view.generations generation ≡ false
 
--- what a refusal for this reason needs, with this ticket
-abbrev pub NeedsLook : List Entry → Name → ℕ → Reason → Option (List ℕ) → Type 0
-NeedsLook earlier daemon link (reason.UnknownGeneration generation) (Some blob) =
+-- what a refusal of the ticket of this blob for this fault needs
+abbrev pub NeedsLook : List Entry → Name → ℕ → TicketFault → List ℕ → Type 0
+NeedsLook earlier daemon link (fault.UnknownGeneration generation) blob =
     WasIssued earlier daemon generation blob → LacksKey earlier daemon link generation
-NeedsLook earlier daemon link _ _ = Unit {0}
+NeedsLook earlier daemon link (fault.Expired expires now) blob = Unit {0}
+
+-- what a refusal for this reason needs
+abbrev pub NeedsFor : List Entry → Name → ℕ → Reason → Type 0
+NeedsFor earlier daemon link (reason.Ticket why blob) = NeedsLook earlier daemon link why blob
+NeedsFor earlier daemon link _ = Unit {0}
 
 -- where the entry refuses a ticket for its unknown generation, and one of the earlier entries issued that ticket, the
 -- daemon's latest look for that link doesn't list the generation
 abbrev pub KeepsKeysBy : List Entry → Entry → Type 0
-KeepsKeysBy earlier (entry.Refused r) = NeedsLook earlier r.node r.link r.reason r.ticket
+KeepsKeysBy earlier (entry.Refused r) = NeedsFor earlier r.node r.link r.reason
 KeepsKeysBy earlier _ = Unit {0}
 
 -- each refusal of the journal for an unknown generation keeps this law

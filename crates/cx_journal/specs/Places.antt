@@ -5,6 +5,8 @@ use Rattle.std.specs.Option.{option_map_or}
 use Rattle.std.specs.Str.{bytes_eq}
 use Rattle.cx_journal.specs.declared.entries.Entry.{Entry}
 use Rattle.cx_journal.specs.declared.entries.Entry.TheVariants as entry
+use Rattle.cx_journal.specs.declared.outcomes.Reason.{Reason}
+use Rattle.cx_journal.specs.declared.outcomes.Reason.TheVariants as reason
 
 -- the blob of an issued ticket
 abbrev pub blob_of : Entry → Option (List ℕ)
@@ -22,6 +24,14 @@ next_number earlier = length (blobs_of earlier) + 1
 -- the number of the first ticket among these entries that has the blob; 0 where there is none
 abbrev pub ticket_number : List Entry → List ℕ → ℕ
 ticket_number earlier blob = option_map_or (λ place. place + 1) (position (bytes_eq blob) (blobs_of earlier)) 0
+
+-- the blob of the ticket that was refused, where one was
+abbrev pub ticket_of : Reason → Option (List ℕ)
+ticket_of reason.Busy = None
+ticket_of (reason.NoTicket service) = None
+ticket_of reason.NoSession = None
+ticket_of (reason.Ticket why blob) = Some blob
+ticket_of (reason.Denied code) = None
 
 -- the cookie that an entry tells
 abbrev pub cookie_of : Entry → Option ℕ

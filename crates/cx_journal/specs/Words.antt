@@ -11,6 +11,8 @@ use Rattle.cx_journal.specs.declared.outcomes.Outcome.{Outcome}
 use Rattle.cx_journal.specs.declared.outcomes.Outcome.TheVariants as outcome
 use Rattle.cx_journal.specs.declared.outcomes.Reason.{Reason}
 use Rattle.cx_journal.specs.declared.outcomes.Reason.TheVariants as reason
+use Rattle.cx_journal.specs.declared.outcomes.TicketFault.{TicketFault}
+use Rattle.cx_journal.specs.declared.outcomes.TicketFault.TheVariants as fault
 
 -- a number below 10^9 in nine digits
 abbrev pub nine_digits : ℕ → List ℕ
@@ -55,11 +57,15 @@ outcome_word outcome.Done = codes "done"
 outcome_word outcome.Denied = codes "denied"
 outcome_word outcome.NoHandler = codes "no-handler"
 
+-- why a ticket was refused
+abbrev pub ticket_fault_text : TicketFault → List ℕ
+ticket_fault_text (fault.UnknownGeneration id) = codes "unknown-generation " <> decimal id
+ticket_fault_text (fault.Expired expires now) = codes "expired " <> reading_text expires <> codes " " <> reading_text now
+
 -- why something was refused
 abbrev pub reason_text : Reason → List ℕ
 reason_text reason.Busy = codes "busy"
 reason_text (reason.NoTicket service) = codes "no-ticket " <> type_word service
 reason_text reason.NoSession = codes "no-session"
-reason_text (reason.UnknownGeneration id) = codes "unknown-generation " <> decimal id
-reason_text (reason.Expired expires now) = codes "expired " <> reading_text expires <> codes " " <> reading_text now
+reason_text (reason.Ticket why blob) = ticket_fault_text why
 reason_text (reason.Denied code) = codes "denied " <> decimal code

@@ -1,7 +1,8 @@
 //! Copies of the entries.
 
 use crate::entries::{Admitted, Answered, Entry, Fetched, Handled, Issued, Looked, Refused, Sent};
-use cx_base::{Duplicate, copy_option};
+use crate::outcomes::Reason;
+use cx_base::Duplicate;
 use std::alloc::{AllocError, Global};
 
 impl Duplicate for Issued {
@@ -110,13 +111,27 @@ impl Duplicate for Answered {
 impl Duplicate for Refused {
     fn copy(&self, alloc: Global) -> Result<Refused, AllocError> {
         let node = self.node.copy(alloc)?;
-        let ticket = copy_option(alloc, &self.ticket)?;
+        let reason = self.reason.copy(alloc)?;
         Ok(Refused {
             node,
             link: self.link,
-            reason: self.reason,
-            ticket,
+            reason,
         })
+    }
+}
+
+impl Duplicate for Reason {
+    fn copy(&self, alloc: Global) -> Result<Reason, AllocError> {
+        match self {
+            Reason::Busy => Ok(Reason::Busy),
+            Reason::NoTicket(service) => Ok(Reason::NoTicket(*service)),
+            Reason::NoSession => Ok(Reason::NoSession),
+            Reason::Ticket(fault, blob) => {
+                let blob = blob.copy(alloc)?;
+                Ok(Reason::Ticket(*fault, blob))
+            }
+            Reason::Denied(code) => Ok(Reason::Denied(*code)),
+        }
     }
 }
 

@@ -7,13 +7,14 @@ ghost use Rattle.std.specs.BTreeMap.{get};
 ghost use Rattle.std.specs.Cmp.Lexicographic.{slice_cmp};
 ghost use Rattle.cx_journal.specs.JournalText.{line};
 ghost use Rattle.cx_journal.specs.Counted.{IsCountOf};
+ghost use Rattle.cx_journal.specs.Places.{ticket_of};
 ghost use Rattle.cx_journal.specs.declared.entries.Entry.{Entry};
 
 use crate::entries::Entry;
 use crate::lines;
 use crate::numbers::Numbers;
+use crate::outcomes::Reason;
 use crate::ranks::Ranks;
-use cx_base::Blob;
 use std::alloc::{AllocError, Global};
 
 /// The counts of the entries so far.
@@ -59,18 +60,22 @@ impl Counts {
             Entry::Handled(h) => lines::handled_line(alloc, self.ranks.rank(h.cookie), h),
             Entry::Answered(a) => lines::answered_line(alloc, a),
             Entry::Refused(r) => {
-                let number = self.number_of(&r.ticket);
+                let number = self.ticket_number(&r.reason);
                 lines::refused_line(alloc, number, r)
             }
         }
     }
 
-    fn number_of(&self, ticket: &Option<Blob>) -> Option<u64>
-        ensures { result ≡ option_map (λ blob. unwrap_or (get (slice_cmp nat_cmp) self.now.numbers.numbers blob) 0) ticket.now }
+    // The number of the ticket that was refused, where one was.
+    fn ticket_number(&self, reason: &Reason) -> Option<u64>
+        ensures { result ≡ option_map (λ blob. unwrap_or (get (slice_cmp nat_cmp) self.now.numbers.numbers blob) 0) (ticket_of reason.now) }
     {
-        match ticket {
-            None => None,
-            Some(blob) => Some(self.numbers.number(blob)),
+        match reason {
+            Reason::Busy => None,
+            Reason::NoTicket(_) => None,
+            Reason::NoSession => None,
+            Reason::Ticket(_, blob) => Some(self.numbers.number(blob)),
+            Reason::Denied(_) => None,
         }
     }
 }

@@ -78,13 +78,12 @@ pub struct Answered {
     pub outcome: Outcome,
 }
 
-/// A node refused something, on this link or, at 0, on none. Where a ticket was refused its blob is here.
+/// A node refused something, on this link or, at 0, on none.
 #[derive(Debug, PartialEq, Eq, Drop)]
 pub struct Refused {
     pub node: EntityName,
     pub link: u32,
     pub reason: Reason,
-    pub ticket: Option<Blob>,
 }
 
 /// One entry of a journal.

@@ -3,7 +3,7 @@
 ghost use Rattle.std.specs.Prelude.{◌≡◌, [], ◌∷◌, ◌++◌, OnOk, OnErr, take};
 
 use crate::entries::{Admitted, Answered, Entry, Fetched, Handled, Issued, Looked, Refused, Sent};
-use crate::outcomes::{Outcome, Reason};
+use crate::outcomes::{Outcome, Reason, TicketFault};
 use cx_base::{Duplicate, Items, copy_items};
 use std::alloc::{AllocError, Global};
 use std::marker::Model;
@@ -78,6 +78,7 @@ fn are_sendable() {
     is_sendable::<Entry>();
     is_sendable::<Outcome>();
     is_sendable::<Reason>();
+    is_sendable::<TicketFault>();
     is_sendable::<Journal>();
 }
 

@@ -16,5 +16,5 @@ mod words;
 
 pub use entries::{Admitted, Answered, Entry, Fetched, Handled, Issued, Looked, Refused, Sent};
 pub use journals::Journal;
-pub use outcomes::{Outcome, Reason};
+pub use outcomes::{Outcome, Reason, TicketFault};
 pub use texts::put_text;

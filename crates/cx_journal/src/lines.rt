@@ -91,7 +91,7 @@ pub fn answered_line(alloc: Global, a: &Answered) -> Result<String, AllocError>
     )
 }
 
-/// The number is that of the refused ticket.
+/// The number is that of the refused ticket, where one was refused.
 pub fn refused_line(alloc: Global, number: Option<u64>, r: &Refused) -> Result<String, AllocError>
     ensures { IfOk result (λ line. string_bytes line ≡ refused_line number r.now) }
 {

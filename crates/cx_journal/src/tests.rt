@@ -3,7 +3,7 @@
 
 use crate::{
     Admitted, Answered, Entry, Fetched, Handled, Issued, Journal, Looked, Outcome, Reason, Refused,
-    Sent, put_text,
+    Sent, TicketFault, put_text,
 };
 use cx_base::{Access, Blob, Duplicate, EntityName, EntityType, Operation, Reading, SECOND, Text};
 use cx_rotate::{Generation, Generations, View};
@@ -42,8 +42,17 @@ enum Told {
     Handled(u64, Asked, Outcome),
     /// A cookie and how the operation ended.
     Answered(u64, Outcome),
-    /// The type of `osd.0` or `client.a`, a link, a reason and the blob of a ticket.
-    Refused(EntityType, u32, Reason, Option<&'static [u8]>),
+    /// The type of `osd.0` or `client.a`, a link and a reason.
+    Refused(EntityType, u32, Why),
+}
+
+/// Why something was refused: for a fault of the ticket of this blob, or for another reason.
+enum Why {
+    Ticket(TicketFault, &'static [u8]),
+    Busy,
+    NoTicket(EntityType),
+    NoSession,
+    Denied(u32),
 }
 
 /// An entry and its line.
@@ -212,23 +221,18 @@ fn answered(rt: &impl Abort, alloc: Global, cookie: u64, outcome: Outcome) -> En
     })
 }
 
-fn refused(
-    rt: &impl Abort,
-    alloc: Global,
-    node: EntityType,
-    link: u32,
-    reason: Reason,
-    ticket: Option<&[u8]>,
-) -> Entry {
-    let ticket = match ticket {
-        None => None,
-        Some(bytes) => Some(blob(rt, alloc, bytes)),
+fn refused(rt: &impl Abort, alloc: Global, node: EntityType, link: u32, why: &Why) -> Entry {
+    let reason = match why {
+        Why::Ticket(fault, bytes) => Reason::Ticket(*fault, blob(rt, alloc, bytes)),
+        Why::Busy => Reason::Busy,
+        Why::NoTicket(service) => Reason::NoTicket(*service),
+        Why::NoSession => Reason::NoSession,
+        Why::Denied(code) => Reason::Denied(*code),
     };
     Entry::Refused(Refused {
         node: name(rt, alloc, node),
         link,
         reason,
-        ticket,
     })
 }
 
@@ -242,9 +246,7 @@ fn entry(rt: &impl Abort, alloc: Global, told: &Told) -> Entry {
         Told::Sent(cookie, asked) => sent(rt, alloc, *cookie, asked),
         Told::Handled(cookie, asked, outcome) => handled(rt, alloc, *cookie, asked, *outcome),
         Told::Answered(cookie, outcome) => answered(rt, alloc, *cookie, *outcome),
-        Told::Refused(node, link, reason, ticket) => refused(
-            rt, alloc, *node, *link, *reason, *ticket,
-        ),
+        Told::Refused(node, link, why) => refused(rt, alloc, *node, *link, why),
     }
 }
 
@@ -350,8 +352,10 @@ static REASONS: [Row; 10] = [
         Told::Refused(
             EntityType::Osd,
             3,
-            Reason::Expired(4600 * SECOND, 4600 * SECOND + 1),
-            Some(b"two"),
+            Why::Ticket(
+                TicketFault::Expired(4600 * SECOND, 4600 * SECOND + 1),
+                b"two",
+            ),
         ),
         "refused osd.0 3 expired 4600 4600.000000001 ticket=2\n",
     ),
@@ -359,30 +363,24 @@ static REASONS: [Row; 10] = [
         Told::Refused(
             EntityType::Osd,
             3,
-            Reason::UnknownGeneration(4),
-            Some(b"three"),
+            Why::Ticket(TicketFault::UnknownGeneration(4), b"three"),
         ),
         "refused osd.0 3 unknown-generation 4 ticket=0\n",
     ),
     (
-        Told::Refused(EntityType::Client, 3, Reason::Denied(13), None),
+        Told::Refused(EntityType::Client, 3, Why::Denied(13)),
         "refused client.a 3 denied 13\n",
     ),
     (
-        Told::Refused(
-            EntityType::Client,
-            0,
-            Reason::NoTicket(EntityType::Mds),
-            None,
-        ),
+        Told::Refused(EntityType::Client, 0, Why::NoTicket(EntityType::Mds)),
         "refused client.a 0 no-ticket mds\n",
     ),
     (
-        Told::Refused(EntityType::Client, 0, Reason::NoSession, None),
+        Told::Refused(EntityType::Client, 0, Why::NoSession),
         "refused client.a 0 no-session\n",
     ),
     (
-        Told::Refused(EntityType::Client, 0, Reason::Busy, None),
+        Told::Refused(EntityType::Client, 0, Why::Busy),
         "refused client.a 0 busy\n",
     ),
 ];
@@ -424,4 +422,44 @@ fn a_cookie_keeps_the_rank_of_its_first_appearance(rt: HostRuntime) {
     let alloc = rt.alloc();
     let journal = journal_of(&rt, alloc, &TWO_COOKIES);
     check_text(&rt, alloc, "behind:\n", &journal, &TWO_COOKIES);
+}
+
+/// A ticket whose blob is this number.
+fn numbered(rt: &impl Abort, alloc: Global, number: u64) -> Entry {
+    Entry::Issued(Issued {
+        entity: name(rt, alloc, EntityType::Client),
+        service: EntityType::Osd,
+        gid: 2,
+        generation: 2,
+        created: 0,
+        expires: SECOND,
+        caps: text(rt, alloc, ""),
+        blob: blob(rt, alloc, &number.to_le_bytes()),
+    })
+}
+
+/// So many tickets, each of a blob of its own, and so many operations sent, each with a cookie of its own.
+fn long_journal(rt: &impl Abort, alloc: Global, count: u64) -> Journal {
+    let mut journal = Journal::new(alloc);
+    for number in 1..=count {
+        journal
+            .push(alloc, numbered(rt, alloc, number))
+            .expect(rt, "memory");
+        journal
+            .push(alloc, sent(rt, alloc, number, &READING))
+            .expect(rt, "memory");
+    }
+    journal
+}
+
+const LAST_LINES: &str =
+    "issued 70000 client.a osd 2 2 0 1 \"\"\nsent client.a osd.0 c70000 1 read rbd - obj1 -\n";
+
+#[test]
+fn a_journal_of_140_000_entries_is_written(rt: HostRuntime) {
+    let alloc = rt.alloc();
+    let journal = long_journal(&rt, alloc, 70_000);
+    assert_eq!(rt; copy(&rt, alloc, &journal).all().len(), 140_000);
+    let text = text_behind(&rt, alloc, "", &journal);
+    assert!(rt; text.bytes().ends_with(LAST_LINES.as_bytes()));
 }

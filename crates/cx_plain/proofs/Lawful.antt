@@ -7,13 +7,14 @@ use Rattle.cx_base.specs.Names.{Name}
 use Rattle.cx_base.specs.declared.kinds.EntityType.{EntityType}
 use Rattle.cx_base.specs.declared.operations.Operation.{Operation}
 use Rattle.cx_rotate.specs.declared.views.View.{View}
-use Rattle.cx_journal.specs.KeepsKeys.{LacksKey}
+use Rattle.cx_journal.specs.KeepsKeys.{LacksKey, has_generation}
 use Rattle.cx_journal.specs.declared.entries.Entry.{Entry}
 use Rattle.cx_journal.specs.declared.entries.Entry.TheVariants as entry
 use Rattle.cx_journal.specs.declared.entries.Issued.{Issued}
 use Rattle.cx_journal.specs.declared.entries.Looked.{Looked}
 use Rattle.cx_journal.specs.declared.entries.Admitted.{Admitted}
 use Rattle.cx_journal.specs.declared.outcomes.Reason.TheVariants as reason
+use Rattle.cx_journal.specs.declared.outcomes.TicketFault.TheVariants as fault
 use Rattle.cx_schedule.specs.declared.lines.Grant.{Grant}
 use Rattle.cx_schedule.specs.declared.lines.Line.{Line}
 use Rattle.cx_schedule.specs.declared.lines.Line.TheVariants as line
@@ -22,7 +23,7 @@ use Rattle.cx_plain.specs.declared.nodes.Place.{Place}
 use Rattle.cx_plain.specs.declared.nodes.Session.{Session}
 use Rattle.cx_plain.specs.declared.state.Run.{Run}
 use Rattle.cx_plain.specs.Changes.{changed}
-use Rattle.cx_plain.specs.Monitors.{has_generation, list_of}
+use Rattle.cx_plain.specs.Monitors.{list_of}
 use Rattle.cx_plain.specs.Nodes.{held_of, is_named, is_with, new_node}
 use Rattle.cx_plain.specs.Plain.{rotating, login, arriving, viewing, renewing, fetch, looking, refusing, denying, opened, admission_at, admitting, judging, presenting, meeting, showing, calling, connect, with_seq, delivering, sending, send, sent_at, handled_at, answered_at, node_of, declared, step, opening, run_of}
 use Rattle.cx_plain.proofs.Lists.{all-push, all-changed, all-find}
@@ -73,12 +74,12 @@ same_number : (n : ℕ) → (n == n) ≡ true
 same_number n = grind (arith, nat_tests)
 
 -- behind a look that doesn't list the generation, its refusal keeps the law
-unknown-keeps : (r : Run) (client daemon : Name) (link : ℕ) (view : View) (generation : ℕ) (blob : List ℕ) → HoldsRun r → has_generation view.generations generation ≡ false → HoldsRun (denying (looking r daemon link view) client daemon link (reason.UnknownGeneration generation) blob)
+unknown-keeps : (r : Run) (client daemon : Name) (link : ℕ) (view : View) (generation : ℕ) (blob : List ℕ) → HoldsRun r → has_generation view.generations generation ≡ false → HoldsRun (denying (looking r daemon link view) client daemon link (fault.UnknownGeneration generation) blob)
 unfolding denying refusing looking
 unknown-keeps r client daemon link view generation blob holds lacks =
     let look : Looked = record { daemon = daemon; link = link; view = view } in
     let looked : List Entry = r.journal ++ entry.Looked look ∷ [] in
-    let refused : Entry = entry.Refused (record { node = daemon; link = link; reason = reason.UnknownGeneration generation; ticket = Some blob }) in
+    let refused : Entry = entry.Refused (record { node = daemon; link = link; reason = reason.Ticket (fault.UnknownGeneration generation) blob }) in
     let lacks_key : LacksKey looked daemon link generation = record {
       before = r.journal;
       look = look;
@@ -91,10 +92,10 @@ unknown-keeps r client daemon link view generation blob holds lacks =
     holds-push (looked ++ refused ∷ []) r.nodes _
     (holds-push looked r.nodes refused (holds-push r.journal r.nodes (entry.Looked look) holds tt tt tt) tt tt (λ _. lacks_key)) tt tt tt
 
-expired-keeps : (r : Run) (client daemon : Name) (link expires now : ℕ) (blob : List ℕ) → HoldsRun r → HoldsRun (denying r client daemon link (reason.Expired expires now) blob)
+expired-keeps : (r : Run) (client daemon : Name) (link expires now : ℕ) (blob : List ℕ) → HoldsRun r → HoldsRun (denying r client daemon link (fault.Expired expires now) blob)
 unfolding denying refusing
 expired-keeps r client daemon link expires now blob holds =
-    let refused : Entry = entry.Refused (record { node = daemon; link = link; reason = reason.Expired expires now; ticket = Some blob }) in
+    let refused : Entry = entry.Refused (record { node = daemon; link = link; reason = reason.Ticket (fault.Expired expires now) blob }) in
     holds-push (r.journal ++ refused ∷ []) r.nodes _ (holds-push r.journal r.nodes refused holds tt tt tt) tt tt tt
 
 -- a session that is admitted on a genuine ticket before it expires is backed
@@ -126,7 +127,7 @@ admitting-keeps r client daemon admitted ticket holds genuine live =
 later : (expires now : ℕ) → nat_le expires now ≡ false → now < expires
 later expires now e = grind (arith, nat_tests)
 
-judged-keeps : (r : Run) (client daemon : Name) (view : View) (admitted link : ℕ) (ticket : Issued) (listed passed : Bool) → has_generation view.generations ticket.generation ≡ listed → nat_le ticket.expires r.reading ≡ passed → IsGenuine r.journal client daemon.kind (Some ticket) → HoldsRun r → HoldsRun (judging (looking r daemon link view) client daemon view admitted link ticket (if listed then (if passed then Some (reason.Expired ticket.expires r.reading) else None) else Some (reason.UnknownGeneration ticket.generation)))
+judged-keeps : (r : Run) (client daemon : Name) (view : View) (admitted link : ℕ) (ticket : Issued) (listed passed : Bool) → has_generation view.generations ticket.generation ≡ listed → nat_le ticket.expires r.reading ≡ passed → IsGenuine r.journal client daemon.kind (Some ticket) → HoldsRun r → HoldsRun (judging (looking r daemon link view) client daemon view admitted link ticket (if listed then (if passed then Some (fault.Expired ticket.expires r.reading) else None) else Some (fault.UnknownGeneration ticket.generation)))
 unfolding looking
 judged-keeps r client daemon view admitted link ticket false passed is_listed is_passed genuine holds =
     unknown-keeps r client daemon link view ticket.generation ticket.blob holds is_listed

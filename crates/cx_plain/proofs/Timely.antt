@@ -8,7 +8,7 @@ use Rattle.cx_base.specs.declared.operations.Operation.{Operation}
 use Rattle.cx_rotate.specs.declared.views.View.{View}
 use Rattle.cx_journal.specs.declared.entries.Entry.{Entry}
 use Rattle.cx_journal.specs.declared.entries.Issued.{Issued}
-use Rattle.cx_journal.specs.declared.outcomes.Reason.{Reason}
+use Rattle.cx_journal.specs.declared.outcomes.TicketFault.{TicketFault}
 use Rattle.cx_schedule.specs.Lines.{is_in_range, is_life}
 use Rattle.cx_schedule.specs.declared.lines.Line.{Line}
 use Rattle.cx_schedule.specs.declared.lines.Line.TheVariants as line
@@ -18,7 +18,7 @@ use Rattle.cx_plain.specs.declared.nodes.Session.{Session}
 use Rattle.cx_plain.specs.declared.state.Run.{Run}
 use Rattle.cx_plain.specs.Monitors.{IsTimely}
 use Rattle.cx_plain.specs.Nodes.{held_of, is_with}
-use Rattle.cx_plain.specs.Plain.{rotating, granting, with_gid, welcoming, entered, kept_gid, login, arriving, fetch, viewing, renewing, denying, refusing, admitting, looking, judging, presenting, meeting, showing, calling, connect, sending, send, delivering, with_seq, fault_of, node_of, step, IsTimelyRun}
+use Rattle.cx_plain.specs.Plain.{rotating, granting, with_gid, welcoming, entered, kept_gid, login, arriving, fetch, viewing, renewing, denying, refusing, admitting, looking, judging, presenting, meeting, showing, calling, connect, sending, send, delivering, with_seq, ticket_fault, node_of, step, IsTimelyRun}
 
 -- the life and the AUTH life are as before
 record SameLives (a b : Monitor) : Type 0 where
@@ -72,7 +72,7 @@ fetch-times r name (Some node) =
     let same = arriving-times r name node node.has_entered in
     record { reading = same.reading; life = same.life; auth_life = same.auth_life }
 
-judging-times : (r : Run) (client daemon : Name) (view : View) (admitted link : ℕ) (ticket : Issued) (why : Option Reason) → SameTimes (judging r client daemon view admitted link ticket why) r
+judging-times : (r : Run) (client daemon : Name) (view : View) (admitted link : ℕ) (ticket : Issued) (why : Option TicketFault) → SameTimes (judging r client daemon view admitted link ticket why) r
 unfolding denying refusing admitting looking
 judging-times r client daemon view admitted link ticket (Some why) = record { reading = refl; life = refl; auth_life = refl }
 judging-times r client daemon view admitted link ticket None = record { reading = refl; life = refl; auth_life = refl }
@@ -82,7 +82,7 @@ unfolding presenting looking
 presenting-times r client daemon view admitted ticket =
     let link : ℕ = r.links + 1 in
     let same =
-    judging-times (looking (record r { links = link }) daemon link view) client daemon view admitted link ticket (fault_of r.reading view ticket) in
+    judging-times (looking (record r { links = link }) daemon link view) client daemon view admitted link ticket (ticket_fault r.reading view ticket) in
     record { reading = same.reading; life = same.life; auth_life = same.auth_life }
 
 meeting-times : (r : Run) (client daemon : Name) (node : Option Node) (ticket : Issued) → SameTimes (meeting r client daemon node ticket) r

@@ -1,7 +1,6 @@
 -- The monitor's rotating service secrets and global ids ("Cephx", "detailed cephx protocol"). In a plain run keys are zero
 -- bytes and are not used.
 use Rattle.std.specs.Prelude.{ℕ, ◌<◌, ◌≤◌, ◌==◌, ◌&&◌, Bool, List, [], replicate, slice_get, unwrap_or}
-use Rattle.std.specs.List.{list_any}
 use Rattle.std.specs.Option.{option_map}
 use Rattle.std.specs.Str.{bytes_eq}
 use Rattle.std.specs.Cmp.Lexicographic.{pointwise}
@@ -44,10 +43,6 @@ rotated_kept now life auth_life kept = record kept {
   mgr = rotated now life zero_keys kept.mgr;
   auth = rotated now auth_life zero_keys kept.auth;
 }
-
--- whether a generation of this id is among them
-abbrev pub has_generation : List Generation → ℕ → Bool
-has_generation generations id = list_any (λ g. g.id == id) generations
 
 -- the id of the current generation, the second; 0 where none stands
 abbrev pub current_id : List Generation → ℕ

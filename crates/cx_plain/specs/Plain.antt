@@ -17,12 +17,15 @@ use Rattle.cx_journal.specs.declared.entries.Issued.{Issued}
 use Rattle.cx_journal.specs.declared.entries.Admitted.{Admitted}
 use Rattle.cx_journal.specs.declared.outcomes.Reason.{Reason}
 use Rattle.cx_journal.specs.declared.outcomes.Reason.TheVariants as reason
+use Rattle.cx_journal.specs.declared.outcomes.TicketFault.{TicketFault}
+use Rattle.cx_journal.specs.declared.outcomes.TicketFault.TheVariants as fault
+use Rattle.cx_journal.specs.KeepsKeys.{has_generation}
 use Rattle.cx_journal.specs.declared.outcomes.Outcome.TheVariants as outcome
 use Rattle.cx_schedule.specs.declared.lines.Grant.{Grant}
 use Rattle.cx_schedule.specs.declared.lines.Line.{Line}
 use Rattle.cx_schedule.specs.declared.lines.Line.TheVariants as line
 use Rattle.cx_plain.specs.Changes.{changed}
-use Rattle.cx_plain.specs.Monitors.{list_of, rotated_kept, fresh_kept, has_generation, current_id, same_kept, IsTimely}
+use Rattle.cx_plain.specs.Monitors.{list_of, rotated_kept, fresh_kept, current_id, same_kept, IsTimely}
 use Rattle.cx_plain.specs.Nodes.{empty_wallet, held_of, holding, is_named, is_with, new_node}
 use Rattle.cx_plain.specs.declared.monitors.Monitor.{Monitor}
 use Rattle.cx_plain.specs.declared.wallets.Wallet.{Wallet}
@@ -60,9 +63,9 @@ node_of r name = find (is_named name) r.nodes
 abbrev pub entering : Run → Entry → Run
 entering r e = record r { journal = r.journal ++ e ∷ [] }
 
--- a node refuses, on a link or on none (0), a ticket or none
-unfoldable pub refusing : Run → Name → ℕ → Reason → Option (List ℕ) → Run
-refusing r name link why ticket = entering r (entry.Refused (record { node = name; link = link; reason = why; ticket = ticket }))
+-- a node refuses, on a link or on none (0)
+unfoldable pub refusing : Run → Name → ℕ → Reason → Run
+refusing r name link why = entering r (entry.Refused (record { node = name; link = link; reason = why }))
 
 -- a daemon looks at its view for an authorizer on this link
 unfoldable pub looking : Run → Name → ℕ → View → Run
@@ -142,10 +145,14 @@ issuing_asked terms node asked service s =
     then issuing_with terms node.name (caps_of node.grants service) service s
     else s
 
--- for AUTH, then for the asked services in the order MDS, OSD, MGR
+-- the services for which tickets may be asked, in the order in which they are issued
+abbrev pub ticket_services : List EntityType
+ticket_services = Mds ∷ Osd ∷ Mgr ∷ []
+
+-- for AUTH, then for the asked services in their order
 unfoldable pub issuing_all : Terms → Node → List EntityType → UnderWay → UnderWay
 issuing_all terms node asked s =
-    issuing_asked terms node asked Mgr (issuing_asked terms node asked Osd (issuing_asked terms node asked Mds (issuing terms node.name [] Auth s)))
+    fold (λ under_way service. issuing_asked terms node asked service under_way) (issuing terms node.name [] Auth s) ticket_services
 
 -- ---- entering
 
@@ -245,20 +252,19 @@ admitting r client daemon admitted ticket =
     (entry.Admitted (admission_at r.reading client daemon at ticket))
 
 -- the daemon refuses the ticket and denies the client with code 13, no permission
-unfoldable pub denying : Run → Name → Name → ℕ → Reason → List ℕ → Run
-denying r client daemon link why ticket =
-    refusing (refusing r daemon link why (Some ticket)) client link (reason.Denied 13) None
+unfoldable pub denying : Run → Name → Name → ℕ → TicketFault → List ℕ → Run
+denying r client daemon link why blob = refusing (refusing r daemon link (reason.Ticket why blob)) client link (reason.Denied 13)
 
 -- why a daemon with this view refuses a ticket at this reading: it lacks the generation; or else, the ticket doesn't expire
 -- after the reading
-abbrev pub fault_of : ℕ → View → Issued → Option Reason
-fault_of now view ticket =
+abbrev pub ticket_fault : ℕ → View → Issued → Option TicketFault
+ticket_fault now view ticket =
     if has_generation view.generations ticket.generation
-    then (if nat_le ticket.expires now then Some (reason.Expired ticket.expires now) else None)
-    else Some (reason.UnknownGeneration ticket.generation)
+    then (if nat_le ticket.expires now then Some (fault.Expired ticket.expires now) else None)
+    else Some (fault.UnknownGeneration ticket.generation)
 
 -- the daemon denies the client, or looks again at its view and admits it
-abbrev pub judging : Run → Name → Name → View → ℕ → ℕ → Issued → Option Reason → Run
+abbrev pub judging : Run → Name → Name → View → ℕ → ℕ → Issued → Option TicketFault → Run
 judging r client daemon view admitted link ticket (Some why) = denying r client daemon link why ticket.blob
 judging r client daemon view admitted link ticket None = admitting (looking r daemon link view) client daemon admitted ticket
 
@@ -266,7 +272,7 @@ judging r client daemon view admitted link ticket None = admitting (looking r da
 unfoldable pub presenting : Run → Name → Name → View → ℕ → Issued → Run
 presenting r client daemon view admitted ticket =
     let link : ℕ = r.links + 1 in
-    judging (looking (record r { links = link }) daemon link view) client daemon view admitted link ticket (fault_of r.reading view ticket)
+    judging (looking (record r { links = link }) daemon link view) client daemon view admitted link ticket (ticket_fault r.reading view ticket)
 
 -- the same with the view of the daemon of that name
 abbrev pub meeting : Run → Name → Name → Option Node → Issued → Run
@@ -275,12 +281,12 @@ meeting r client daemon (Some node) ticket = presenting r client daemon node.vie
 
 -- a client that holds no ticket of the daemon's service is refused
 abbrev pub showing : Run → Name → Name → Option Issued → Run
-showing r client daemon None = refusing r client 0 (reason.NoTicket daemon.kind) None
+showing r client daemon None = refusing r client 0 (reason.NoTicket daemon.kind)
 showing r client daemon (Some ticket) = meeting r client daemon (node_of r daemon) ticket
 
 -- a client that has a session with the daemon is refused
 abbrev pub calling : Run → Name → Name → Node → Option Session → Run
-calling r client daemon node (Some session) = refusing r client 0 reason.Busy None
+calling r client daemon node (Some session) = refusing r client 0 reason.Busy
 calling r client daemon node None = showing r client daemon (held_of node.wallet daemon.kind)
 
 -- a client connects to a daemon
@@ -329,7 +335,7 @@ delivering r client daemon session operation =
 
 -- a client that has no session with the daemon is refused
 abbrev pub sending : Run → Name → Name → Option Session → Operation → Run
-sending r client daemon None operation = refusing r client 0 reason.NoSession None
+sending r client daemon None operation = refusing r client 0 reason.NoSession
 sending r client daemon (Some session) operation = delivering r client daemon session.place operation
 
 -- a client sends an operation to a daemon

@@ -2,7 +2,8 @@
 
 ghost use Rattle.std.specs.Prelude.{◌≡◌, OnOk, ◌++◌};
 ghost use Rattle.std.specs.List.{list_any};
-ghost use Rattle.cx_plain.specs.Monitors.{list_of, rotated_kept, fresh_kept, has_generation, current_id, same_generations, same_kept, IsTimely};
+ghost use Rattle.cx_journal.specs.KeepsKeys.{has_generation};
+ghost use Rattle.cx_plain.specs.Monitors.{list_of, rotated_kept, fresh_kept, current_id, same_generations, same_kept, IsTimely};
 
 use cx_base::{EntityType, Reading};
 use cx_rotate::Generations;

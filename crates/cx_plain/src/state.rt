@@ -1,7 +1,7 @@
 //! The state of a run, and what one line does to it.
 
 ghost use Rattle.std.specs.Prelude.{◌≡◌, [], OnOk, if◌then◌else◌};
-ghost use Rattle.cx_plain.specs.Plain.{opening, refusing, looking, entering, declared, fault_of, sent_at, handled_at, answered_at};
+ghost use Rattle.cx_plain.specs.Plain.{opening, refusing, looking, entering, declared, ticket_fault, sent_at, handled_at, answered_at};
 
 use crate::counts::{next, next_link};
 use crate::entrance::{Welcome, enter, enter_save, rotated};
@@ -12,7 +12,7 @@ use cx_base::{
 };
 use cx_journal::{
     Admitted, Answered, Entry, Fetched, Handled, Issued, Journal, Looked, Outcome, Reason, Refused,
-    Sent,
+    Sent, TicketFault,
 };
 use cx_rotate::View;
 use cx_schedule::{Grant, Line};
@@ -65,7 +65,7 @@ impl Run {
         self.journal
     }
 
-    // A node refuses, on a link or on none (0), a ticket or none.
+    // A node refuses, on a link or on none (0).
     #[tactic(auto, unfolding(crate::specs::Plain::refusing))]
     fn refuse(
         &mut self,
@@ -73,9 +73,8 @@ impl Run {
         name: &EntityName,
         link: u32,
         why: Reason,
-        ticket: Option<Blob>,
     ) -> Result<(), AllocError>
-        ensures { OnOk result (self.new ≡ refusing self.old name.now link why ticket) }
+        ensures { OnOk result (self.new ≡ refusing self.old name.now link why) }
     {
         let node = name.copy(alloc)?;
         self.journal.push(
@@ -84,7 +83,6 @@ impl Run {
                 node,
                 link,
                 reason: why,
-                ticket,
             }),
         )
     }
@@ -210,13 +208,13 @@ impl Run {
         client: &EntityName,
         daemon: &EntityName,
         link: u32,
-        why: Reason,
-        ticket: Blob,
+        why: TicketFault,
+        blob: Blob,
     ) -> Result<(), AllocError>
-        ensures { OnOk result (self.new ≡ denying self.old client.now daemon.now link why ticket) }
+        ensures { OnOk result (self.new ≡ denying self.old client.now daemon.now link why blob) }
     {
-        self.refuse(alloc, daemon, link, why, Some(ticket))?;
-        self.refuse(alloc, client, link, Reason::Denied(13), None)
+        self.refuse(alloc, daemon, link, Reason::Ticket(why, blob))?;
+        self.refuse(alloc, client, link, Reason::Denied(13))
     }
 
     // The daemon admits the client on its ticket, with its next session number, epoch 1 and a new cookie.
@@ -273,7 +271,7 @@ impl Run {
         let link = next_link(self.links)?;
         self.links = link;
         self.look(alloc, daemon, link, view)?;
-        let why = fault_of(self.reading, view, &ticket);
+        let why = ticket_fault(self.reading, view, &ticket);
         self.judge(alloc, client, daemon, view, admitted, link, ticket, why)
     }
 
@@ -287,7 +285,7 @@ impl Run {
         admitted: u64,
         link: u32,
         ticket: Issued,
-        why: Option<Reason>,
+        why: Option<TicketFault>,
     ) -> Result<(), AllocError>
         ensures { OnOk result (self.new ≡ judging self.old client.now daemon.now view.now admitted link ticket why) }
     {
@@ -331,10 +329,10 @@ impl Run {
             return Ok(());
         };
         if let Some(_) = node.sessions.find(daemon) {
-            return self.refuse(alloc, client, 0, Reason::Busy, None);
+            return self.refuse(alloc, client, 0, Reason::Busy);
         }
         let Some(held) = node.wallet.of(daemon.kind) else {
-            return self.refuse(alloc, client, 0, Reason::NoTicket(daemon.kind), None);
+            return self.refuse(alloc, client, 0, Reason::NoTicket(daemon.kind));
         };
         let ticket = held.copy(alloc)?;
         self.meet(alloc, client, daemon, ticket)
@@ -433,7 +431,7 @@ impl Run {
             return Ok(());
         };
         let Some(session) = node.sessions.find(daemon) else {
-            return self.refuse(alloc, client, 0, Reason::NoSession, None);
+            return self.refuse(alloc, client, 0, Reason::NoSession);
         };
         let place = session.place;
         self.deliver(alloc, client, daemon, place, operation)
@@ -498,14 +496,14 @@ impl Run {
 }
 
 // Why a daemon with this view refuses a ticket at this reading, if it does.
-fn fault_of(now: Reading, view: &View, ticket: &Issued) -> Option<Reason>
-    ensures { result ≡ fault_of now view.now ticket.now }
+fn ticket_fault(now: Reading, view: &View, ticket: &Issued) -> Option<TicketFault>
+    ensures { result ≡ ticket_fault now view.now ticket.now }
 {
     if !has_generation(view.generations, ticket.generation) {
-        return Some(Reason::UnknownGeneration(ticket.generation));
+        return Some(TicketFault::UnknownGeneration(ticket.generation));
     }
     if ticket.expires <= now {
-        return Some(Reason::Expired(ticket.expires, now));
+        return Some(TicketFault::Expired(ticket.expires, now));
     }
     None
 }

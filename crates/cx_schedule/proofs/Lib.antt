@@ -2,3 +2,4 @@ pub mod Grants
 pub mod Laws
 pub mod Whole
 pub mod Reasons
+pub mod Spelled

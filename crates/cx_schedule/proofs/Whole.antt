@@ -13,15 +13,18 @@ use Rattle.cx_schedule.specs.declared.lines.Line.TheVariants.{Lifetime, AuthLife
 use Rattle.cx_schedule.specs.declared.refusals.ScheduleRefusal.{ScheduleRefusal}
 use Rattle.cx_schedule.specs.declared.refusals.ScheduleRefusal.TheVariants.{TooLong, BadLine, NotYet, OutOfMemory}
 use Rattle.cx_schedule.specs.Faults.{begins_later, fault_of}
-use Rattle.cx_schedule.specs.Files.{Adds, IsFirstBad, IsScheduleCause, IsShort, Lines, Said, is_later_at, line_words}
+use Rattle.cx_schedule.specs.Files.{Adds, IsFirstBad, IsFirstOutside, IsScheduleCause, IsShort, Lines, Said, SpellNone, is_later_at, line_words}
 use Rattle.cx_schedule.specs.Lines.{Spells, is_in_range}
 use Rattle.cx_schedule.proofs.Laws.{clean, unique}
 
--- a line that adds something has no fault
-pub added_clean : (earlier now : List Line) (line : List ℕ) (why : LineFault) → Adds earlier line now → is_skipped line ≡ false → fault_of earlier (line_words line) ≡ Some why → ⊥
-added_clean earlier now line why (inl skipped) kept bad = absurd (let e : true ≡ false = sym skipped.0 ∙ kept in cc)
-added_clean earlier now line why (inr (kept', x, spelled, is)) kept bad =
-    absurd (let e : None ≡ Some why = sym (clean earlier x (line_words line) spelled) ∙ bad in cc)
+-- words with a fault spell no line
+pub fault_spells_none : (earlier : List Line) (words : List (List ℕ)) (why : LineFault) → fault_of earlier words ≡ Some why → SpellNone earlier words
+fault_spells_none earlier words why bad = λ x spelled. let e : None ≡ Some why = sym (clean earlier x words spelled) ∙ bad in absurd (cc)
+
+-- a line that adds something spells one
+pub added_spells : (earlier now : List Line) (line : List ℕ) → Adds earlier line now → is_skipped line ≡ false → SpellNone earlier (line_words line) → ⊥
+added_spells earlier now line (inl skipped) kept none = absurd (let e : true ≡ false = sym skipped.0 ∙ kept in cc)
+added_spells earlier now line (inr (kept', x, spelled, is)) kept none = none x spelled
 
 -- a line adds one thing
 pub added_once : (earlier now other : List Line) (line : List ℕ) → Adds earlier line now → Adds earlier line other → now ≡ other
@@ -32,13 +35,22 @@ added_once earlier now other line (inr (kp, x, sx, p)) (inr (kq, y, sy, q)) =
     let e : x ≡ y = unique earlier earlier x y (line_words line) sx sy in
     p ∙ ap (λ l. earlier ++ l ∷ []) e ∙ sym q
 
+-- the first bad line is the first outside of the grammar
+pub bad_is_outside : (earlier : List Line) (lines : List (List ℕ)) (n : ℕ) (why : LineFault) → IsFirstBad earlier lines n why → IsFirstOutside earlier lines n
+bad_is_outside earlier [] n why bad = bad
+bad_is_outside earlier (line ∷ lines) n why (inl here) = inl (here.0, here.1, here.2.0)
+bad_is_outside earlier (line ∷ lines) n why (inr (now, adds, m, is, bad)) = inr (now, adds, m, is, bad_is_outside now lines m why bad)
+
 -- where all lines are said, none is outside of the grammar
-pub none_bad : (earlier script : List Line) (lines : List (List ℕ)) (n : ℕ) (why : LineFault) → Said earlier lines script → IsFirstBad earlier lines n why → ⊥
-none_bad earlier script [] n why said bad = bad
-none_bad earlier script (line ∷ lines) n why (now, adds, said) (inl here) = added_clean earlier now line why adds here.1 here.2
-none_bad earlier script (line ∷ lines) n why (now, adds, said) (inr (other, adds', m, is, bad)) =
+pub none_outside : (earlier script : List Line) (lines : List (List ℕ)) (n : ℕ) → Said earlier lines script → IsFirstOutside earlier lines n → ⊥
+none_outside earlier script [] n said outside = outside
+none_outside earlier script (line ∷ lines) n (now, adds, said) (inl here) = added_spells earlier now line adds here.1 here.2
+none_outside earlier script (line ∷ lines) n (now, adds, said) (inr (other, adds', m, is, outside)) =
     let e : other ≡ now = added_once earlier other now line adds' adds in
-    none_bad now script lines m why said (rw e at bad)
+    none_outside now script lines m said (rw e at outside)
+
+pub none_bad : (earlier script : List Line) (lines : List (List ℕ)) (n : ℕ) (why : LineFault) → Said earlier lines script → IsFirstBad earlier lines n why → ⊥
+none_bad earlier script lines n why said bad = none_outside earlier script lines n said (bad_is_outside earlier lines n why bad)
 
 -- lines say one thing
 said_once : (earlier script other : List Line) (lines : List (List ℕ)) → Said earlier lines script → Said earlier lines other → script ≡ other
@@ -137,7 +149,7 @@ reads_more all earlier now number rest line after r cut adds = record {
 -- the line that is refused is the first outside of the grammar
 pub bad_here : (all : List (List ℕ)) (earlier : List Line) (number : ℕ) (rest : List (List ℕ)) (line : List ℕ) (after : List (List ℕ)) (why : LineFault) (later : Bool) → Reads all earlier number rest → rest ≡ line ∷ after → is_skipped line ≡ false → fault_of earlier (line_words line) ≡ Some why → begins_later (line_words line) ≡ later → IsFirstBad [] all (number + 1) why × (is_later_at all (number + 1) ≡ later)
 bad_here all earlier number rest line after why later r cut kept fault is = (
-  r.bad 1 why (rw cut (inl (refl, kept, fault))),
+  r.bad 1 why (rw cut (inl (refl, kept, (fault_spells_none earlier (line_words line) why fault, fault)))),
   ap (λ l. begins_later (line_words l)) (at_place all number line after (r.left ∙ cut)) ∙ is,
 )
 

@@ -11,7 +11,7 @@ use Rattle.cx_schedule.specs.declared.heads.Head.{Head}
 use Rattle.cx_schedule.specs.declared.heads.Head.TheVariants.{Lifetime, AuthLifetime, Entity, Clock, Fetch, Login, Connect, Send}
 use Rattle.cx_schedule.specs.declared.lines.Line.{Line}
 use Rattle.cx_schedule.specs.Heads.{head_of, stands_first, is_later_word}
-use Rattle.cx_schedule.specs.Lines.{is_declared, is_full, is_begun, is_lifetime, is_auth_lifetime, is_open}
+use Rattle.cx_schedule.specs.Lines.{is_declared, has_most_entities, is_begun, is_lifetime, is_auth_lifetime, is_open}
 use Rattle.cx_schedule.specs.Places.{places, at_any, passes, bad_number, bad_name, bad_text, unknown}
 
 -- how few words may stand behind the first
@@ -77,7 +77,7 @@ abbrev pub is_repeated : List Line → Head → List (List ℕ) → Bool
 is_repeated earlier Lifetime words = list_any is_lifetime earlier
 is_repeated earlier AuthLifetime words = list_any is_auth_lifetime earlier
 is_repeated earlier Entity [] = false
-is_repeated earlier Entity (name ∷ pairs) = repeats_name earlier name || (repeats_pair pairs || is_full earlier)
+is_repeated earlier Entity (name ∷ pairs) = repeats_name earlier name || (repeats_pair pairs || has_most_entities earlier)
 is_repeated earlier _ words = false
 
 -- whether the words behind the first have this fault

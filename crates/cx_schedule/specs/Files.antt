@@ -2,7 +2,6 @@
 use Rattle.std.specs.Prelude.{ℕ, ◌+◌, ◌-◌, ◌≤◌, ◌≡◌, ◌⊎◌, Bool, true, false, List, [], ◌∷◌, ◌++◌, length, take, codes, Some, slice_index_or, Result, Ok, Err}
 use Rattle.std.specs.Str.{bytes_eq}
 use Rattle.cx_words.specs.Cutting.{lines_of, words_of, is_skipped}
-use Rattle.cx_schedule.specs.declared.limits.TheConstants.{MOST_BYTES, MOST_LINES}
 use Rattle.cx_schedule.specs.declared.faults.LineFault.{LineFault}
 use Rattle.cx_schedule.specs.declared.faults.LineFault.TheVariants.{UnknownWord}
 use Rattle.cx_schedule.specs.declared.faults.LineRefusal.{LineRefusal}
@@ -28,8 +27,8 @@ Adds earlier line now =
     ⊎ ((is_skipped line ≡ false) × (x : Line) × Spells earlier x (line_words line) × (now ≡ earlier ++ x ∷ []))
 
 -- why a line of the file is refused behind these lines; want of memory is free
-abbrev pub IsRefused : List Line → List ℕ → LineRefusal → Type 0
-IsRefused earlier line refusal = (is_skipped line ≡ false) × IsLineCause earlier (line_words line) refusal
+abbrev pub IsFileLineCause : List Line → List ℕ → LineRefusal → Type 0
+IsFileLineCause earlier line refusal = (is_skipped line ≡ false) × IsLineCause earlier (line_words line) refusal
 
 -- behind all of these lines, the schedule is this one
 abbrev pub Said : List Line → List (List ℕ) → List Line → Type 0
@@ -40,16 +39,32 @@ Said earlier (line ∷ lines) script = (now : List Line) × Adds earlier line no
 abbrev pub Lines : List ℕ → List Line → Type 0
 Lines bytes script = Said [] (lines_of bytes) script
 
--- the n-th of these lines, from 1, is the first outside of the grammar, and has this fault
-abbrev pub IsFirstBad : List Line → List (List ℕ) → ℕ → LineFault → Type 0
-IsFirstBad earlier [] n why = ⊥
-IsFirstBad earlier (line ∷ lines) n why =
-    ((n ≡ 1) × (is_skipped line ≡ false) × (fault_of earlier (line_words line) ≡ Some why))
-    ⊎ ((now : List Line) × Adds earlier line now × (m : ℕ) × (n ≡ m + 1) × IsFirstBad now lines m why)
+-- the n-th of these lines, from 1, is the first that adds nothing, and this holds of its words and the lines before it
+abbrev pub IsFirst : (List Line → List (List ℕ) → Type 0) → List Line → List (List ℕ) → ℕ → Type 0
+IsFirst P earlier [] n = ⊥
+IsFirst P earlier (line ∷ lines) n =
+    ((n ≡ 1) × (is_skipped line ≡ false) × P earlier (line_words line))
+    ⊎ ((now : List Line) × Adds earlier line now × (m : ℕ) × (n ≡ m + 1) × IsFirst P now lines m)
 
--- the schedule isn't too long
+-- the words are outside of the grammar: behind these lines they spell none
+abbrev pub SpellNone : List Line → List (List ℕ) → Type 0
+SpellNone earlier words = (x : Line) → Spells earlier x words → ⊥
+
+-- the same, and this is the first of their faults
+abbrev pub SpellNoneFor : LineFault → List Line → List (List ℕ) → Type 0
+SpellNoneFor why earlier words = SpellNone earlier words × (fault_of earlier words ≡ Some why)
+
+-- the n-th of these lines, from 1, is the first outside of the grammar
+abbrev pub IsFirstOutside : List Line → List (List ℕ) → ℕ → Type 0
+IsFirstOutside earlier lines n = IsFirst SpellNone earlier lines n
+
+-- the same, and this is the first of its faults
+abbrev pub IsFirstBad : List Line → List (List ℕ) → ℕ → LineFault → Type 0
+IsFirstBad earlier lines n why = IsFirst (SpellNoneFor why) earlier lines n
+
+-- the schedule isn't too long: at most 1,048,576 bytes, and 20,000 lines
 abbrev pub IsShort : List ℕ → Type 0
-IsShort bytes = (length bytes ≤ MOST_BYTES) × (length (lines_of bytes) ≤ MOST_LINES)
+IsShort bytes = (length bytes ≤ 1048576) × (length (lines_of bytes) ≤ 20000)
 
 -- whether the n-th of these lines, from 1, begins with a word of which only a later version's grammar speaks
 abbrev pub is_later_at : List (List ℕ) → ℕ → Bool
@@ -75,3 +90,15 @@ IsReason bytes OutOfMemory = ⊥
 abbrev pub Refuses : {X : Type 0} → Result X ScheduleRefusal → ScheduleRefusal → Type 0
 Refuses (Ok x) why = ⊥
 Refuses (Err got) why = (got ≡ OutOfMemory) ⊎ (got ≡ why)
+
+-- the refusal names this line, or is want of memory
+abbrev pub IsRefusalAt : ℕ → ScheduleRefusal → Type 0
+IsRefusalAt n TooLong = ⊥
+IsRefusalAt n (BadLine line why) = line ≡ n
+IsRefusalAt n (NotYet line) = line ≡ n
+IsRefusalAt n OutOfMemory = Unit {0}
+
+-- the answer is such a refusal
+abbrev pub RefusesAt : {X : Type 0} → Result X ScheduleRefusal → ℕ → Type 0
+RefusesAt (Ok x) n = ⊥
+RefusesAt (Err got) n = IsRefusalAt n got

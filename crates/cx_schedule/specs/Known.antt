@@ -5,7 +5,6 @@ use Rattle.std.specs.Str.{bytes_eq}
 use Rattle.std.specs.BTreeSet.{BTreeSet, contains_text}
 use Rattle.std.specs.declared.alloc.Global.{Global}
 use Rattle.cx_base.specs.Names.{Name, name_text}
-use Rattle.cx_schedule.specs.declared.limits.TheConstants.{MOST_ENTITIES}
 use Rattle.cx_schedule.specs.declared.lines.Line.{Line}
 use Rattle.cx_schedule.specs.Lines.{declares, is_auth_lifetime, is_begun, is_declared, is_entity, is_lifetime, is_name}
 
@@ -13,7 +12,7 @@ use Rattle.cx_schedule.specs.Lines.{declares, is_auth_lifetime, is_begun, is_dec
 -- a lifetime line, an auth-lifetime line and a line that is no head line stand
 pub record Knows (lines : List Line) (names : BTreeSet (String Global)) (entities : ℕ) (lifetime auth_lifetime begun : Bool) : Type 0 where
   pub named : (n : Name) → IsTrue (is_name n) → contains_text names (name_text n) ≡ is_declared lines n
-  pub counted : entities ≡ min MOST_ENTITIES (count_by is_entity lines)
+  pub counted : entities ≡ min 1000 (count_by is_entity lines)
   pub lived : lifetime ≡ list_any is_lifetime lines
   pub auth_lived : auth_lifetime ≡ list_any is_auth_lifetime lines
   pub started : begun ≡ is_begun lines

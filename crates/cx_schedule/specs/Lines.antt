@@ -1,4 +1,5 @@
--- What the lines of a schedule are: how each is spelled, and what the lines before it must be for that.
+-- What the lines of a schedule are: how each is spelled, and what the lines before it must be for that. The lines and their
+-- bounds are those of docs/guide.md, "The lines of a schedule".
 use Rattle.std.specs.Prelude.{ℕ, ◌≡◌, Bool, true, false, ◌&&◌, ◌||◌, IsTrue, nat_le, nat_lt, List, [], ◌∷◌, length, count_by, codes}
 use Rattle.std.specs.List.{list_any, list_all}
 use Rattle.std.specs.Str.{bytes_eq}
@@ -9,18 +10,17 @@ use Rattle.cx_base.specs.Names.{Name, is_id, name_text, same_kind, same_name, ty
 use Rattle.cx_base.specs.declared.operations.Operation.{Operation}
 use Rattle.cx_words.specs.Words.{IsReadingWord, IsHexWord, is_service, is_service_list, services_word, part_word, quoted}
 use Rattle.cx_base.specs.Texts.{is_part}
-use Rattle.cx_schedule.specs.declared.limits.TheConstants.{MOST_DATA, MOST_ENTITIES, LONGEST_LIFE, END_OF_READINGS}
 use Rattle.cx_schedule.specs.declared.lines.Grant.{Grant}
 use Rattle.cx_schedule.specs.declared.lines.Line.{Line}
 use Rattle.cx_schedule.specs.declared.lines.Line.TheVariants.{Lifetime, AuthLifetime, Entity, Clock, Fetch, Login, Connect, Send}
 
--- seconds of a lifetime: at least one, at most a year
+-- seconds of a lifetime: at least one, at most those of a year of 365 days
 abbrev pub is_life : ℕ → Bool
-is_life seconds = nat_le 1 seconds && nat_le seconds LONGEST_LIFE
+is_life seconds = nat_le 1 seconds && nat_le seconds 31536000
 
--- data that a send line may hold
+-- data that a send line may hold: at most 65,536 bytes
 abbrev pub is_fit : List ℕ → Bool
-is_fit bytes = nat_le (length bytes) MOST_DATA
+is_fit bytes = nat_le (length bytes) 65536
 
 -- the types of entities that a schedule declares
 abbrev pub is_declarable : Name → Bool
@@ -60,9 +60,9 @@ abbrev pub is_entity : Line → Bool
 is_entity (Entity name grants) = true
 is_entity _ = false
 
--- whether as many entities are declared as may be
-abbrev pub is_full : List Line → Bool
-is_full earlier = nat_le MOST_ENTITIES (count_by is_entity earlier)
+-- whether as many entities are declared as may be: a thousand
+abbrev pub has_most_entities : List Line → Bool
+has_most_entities earlier = nat_le 1000 (count_by is_entity earlier)
 
 -- a line that is no head line
 abbrev pub is_step : Line → Bool
@@ -132,7 +132,7 @@ Spells earlier (AuthLifetime seconds) words =
     × (words ≡ codes "auth-lifetime" ∷ decimal seconds ∷ [])
 Spells earlier (Entity name grants) words =
     IsTrue (is_name name) × IsTrue (list_all is_grant grants) × IsTrue (is_declarable name)
-    × (is_declared earlier name ≡ false) × (repeats_service grants ≡ false) × (is_full earlier ≡ false)
+    × (is_declared earlier name ≡ false) × (repeats_service grants ≡ false) × (has_most_entities earlier ≡ false)
     × (is_begun earlier ≡ false) × (words ≡ codes "entity" ∷ name_text name ∷ grant_words grants)
 Spells earlier (Clock reading) words =
     (word : List ℕ) × IsReadingWord word reading × (words ≡ codes "clock" ∷ word ∷ [])
@@ -148,9 +148,9 @@ Spells earlier (Send client daemon operation) words =
     (rest : List (List ℕ)) × IsClient earlier client × IsDaemon earlier daemon × SpellsOperation operation rest
     × (words ≡ codes "send" ∷ name_text client ∷ name_text daemon ∷ rest)
 
--- the numbers of a line are in their ranges
+-- the numbers of a line are in their ranges; a reading is below 4,000,000,000 s, in nanoseconds
 abbrev pub is_in_range : Line → Bool
 is_in_range (Lifetime seconds) = is_life seconds
 is_in_range (AuthLifetime seconds) = is_life seconds
-is_in_range (Clock reading) = nat_lt reading END_OF_READINGS
+is_in_range (Clock reading) = nat_lt reading 4000000000000000000
 is_in_range _ = true

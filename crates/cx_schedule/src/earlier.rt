@@ -5,7 +5,7 @@ ghost use Rattle.std.specs.List.{list_any};
 ghost use Rattle.std.specs.BTreeSet.{IsUnchanged};
 ghost use Rattle.cx_base.specs.Names.{name_text};
 ghost use Rattle.cx_schedule.specs.Known.{IsDeclaredText, Notes};
-ghost use Rattle.cx_schedule.specs.Lines.{is_auth_lifetime, is_begun, is_client, is_daemon, is_daemon_kind, is_declared, is_entity, is_full, is_lifetime, is_name, is_step};
+ghost use Rattle.cx_schedule.specs.Lines.{is_auth_lifetime, is_begun, is_client, is_daemon, is_daemon_kind, is_declared, is_entity, has_most_entities, is_lifetime, is_name, is_step};
 
 use crate::limits::MOST_ENTITIES;
 use crate::lines::Line;
@@ -123,8 +123,8 @@ impl Earlier {
     }
 
     /// Whether as many entity lines stand as may.
-    pub fn is_full(&self) -> bool
-        ensures { result ≡ is_full self.now }
+    pub fn has_most_entities(&self) -> bool
+        ensures { result ≡ has_most_entities self.now }
     {
         self.entities >= MOST_ENTITIES
     }
@@ -157,7 +157,7 @@ fn note(names: &mut BTreeSet<String>, text: Option<String>) -> Result<(), AllocE
 
 /// One more where the line is an entity line, up to the most that may stand.
 fn counted(entities: usize, entity: bool) -> usize
-    ensures { result ≡ (if entity then min MOST_ENTITIES (entities + 1) else entities) }
+    ensures { result ≡ (if entity then min 1000 (entities + 1) else entities) }
 {
     if !entity {
         return entities;

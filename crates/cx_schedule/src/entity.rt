@@ -54,7 +54,7 @@ fn entity(
     if repeats_service(grants.all()) {
         return Err(Fault(LineFault::Repeated));
     }
-    if earlier.is_full() {
+    if earlier.has_most_entities() {
         return Err(Fault(LineFault::Repeated));
     }
     if earlier.is_begun() {

@@ -5,6 +5,7 @@ mod earlier;
 mod entity;
 mod faults;
 mod forms;
+mod grammar;
 mod heads;
 mod limits;
 mod lines;
@@ -13,8 +14,9 @@ mod script;
 mod sending;
 
 pub use faults::LineFault;
+pub use grammar::line_laws;
 pub use heads::Head;
-pub use limits::{END_OF_READINGS, LONGEST_LIFE, MOST_BYTES, MOST_DATA, MOST_ENTITIES, MOST_LINES};
+pub use limits::{LONGEST_LIFE, MOST_BYTES, MOST_DATA, MOST_ENTITIES, MOST_LINES};
 pub use lines::{Grant, Line};
 pub use refusals::ScheduleRefusal;
 pub use script::{Script, read};

@@ -14,6 +14,3 @@ pub const MOST_DATA: usize = 65_536;
 
 /// The longest lifetime, in seconds: a year of 365 days.
 pub const LONGEST_LIFE: u64 = 31_536_000;
-
-/// No reading is as late as this, in nanoseconds.
-pub const END_OF_READINGS: u64 = 4_000_000_000_000_000_000;

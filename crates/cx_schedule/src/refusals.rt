@@ -10,13 +10,13 @@ pub enum ScheduleRefusal {
     /// It has more bytes or more lines than a schedule may have.
     #[error("a schedule has at most 1048576 bytes and 20000 lines")]
     TooLong,
-    /// The line of this number, from 1, is the first outside of the grammar.
-    #[error("line {0}: {1}")]
-    BadLine(u32, LineFault),
-    /// The line of this number, from 1, is the first outside of the grammar, and begins with a word of which only a later
-    /// version's grammar speaks.
-    #[error("line {0}: this version doesn't serve lines that begin so")]
-    NotYet(u32),
+    /// This line, from 1, is the first outside of the grammar, and `why` is the first of its faults.
+    #[error("line {line}: {why}")]
+    BadLine { line: u32, why: LineFault },
+    /// This line, from 1, is the first outside of the grammar, and begins with a word of which only a later version's
+    /// grammar speaks.
+    #[error("line {line}: this version doesn't serve lines that begin so")]
+    NotYet { line: u32 },
     /// Memory was wanting.
     #[error("out of memory")]
     OutOfMemory,

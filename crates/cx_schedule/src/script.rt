@@ -1,19 +1,20 @@
 //! Schedules and their reader.
 
-ghost use Rattle.std.specs.Prelude.{◌≡◌, ◌+◌, ◌≤◌, ◌↔◌, List, length, IfOk, IfErr, OnOk, OnErr, IsTrue};
+ghost use Rattle.std.specs.Prelude.{ℕ, ◌≡◌, ◌+◌, ◌≤◌, ◌↔◌, List, [], length, IfOk, IfErr, OnOk, OnErr, IsTrue};
 ghost use Rattle.std.specs.List.{list_all};
 ghost use Rattle.cx_words.specs.Cutting.{lines_of};
-ghost use Rattle.cx_schedule.specs.Files.{Adds, IsReason, IsRefused, IsScheduleCause, IsShort, Lines, Refuses, groups};
+ghost use Rattle.cx_schedule.specs.Files.{Adds, IsFileLineCause, IsFirstOutside, IsReason, IsScheduleCause, IsShort, Lines, Refuses, RefusesAt, groups};
 ghost use Rattle.cx_schedule.specs.Lines.{is_in_range};
 ghost use Rattle.cx_schedule.specs.declared.refusals.ScheduleRefusal.{ScheduleRefusal};
 
 use crate::earlier::Earlier;
-use crate::faults::LineRefusal;
+use crate::faults::{LineFault, LineRefusal};
 use crate::forms::line_of;
+use crate::heads::Head;
 use crate::limits::{MOST_BYTES, MOST_LINES};
-use crate::lines::Line;
+use crate::lines::{Grant, Line};
 use crate::refusals::ScheduleRefusal;
-use cx_base::Items;
+use cx_base::{Duplicate, Items, copy_items};
 use cx_words::{first_line, is_skipped, words};
 use std::alloc::{AllocError, Global};
 use std::marker::Model;
@@ -42,6 +43,13 @@ impl Script {
     }
 }
 
+impl Duplicate for Script {
+    fn copy(&self, alloc: Global) -> Result<Script, AllocError> {
+        let lines = copy_items(alloc, &self.lines)?;
+        Ok(Script { lines })
+    }
+}
+
 /// Reads a schedule: ASCII lines ended by LF, the last one's may be left out. Numbers of lines count from 1, and empty lines
 /// and comments count too.
 #[tactic(auto, using(crate::proofs::Whole::only_memory))]
@@ -54,8 +62,10 @@ pub fn read(alloc: Global, bytes: &[u8]) -> Result<Script, ScheduleRefusal>
     ensures one { (s : List Line) → Lines bytes.now s → IfOk result (λ read. read ≡ s) }
     // Where the bytes are a schedule, it is read, or memory is wanting.
     ensures only { (s : List Line) → IsShort bytes.now → Lines bytes.now s → IfErr result (λ e. e ≡ ScheduleRefusal.OutOfMemory) }
-    // Where a limit or a line is a reason to refuse them, they are refused for it, or memory is wanting.
+    // Where a limit or a line is a reason to refuse them, they are refused for it, or memory is wanting. The n-th line is one
+    // exactly where it is the first that spells none.
     ensures exact { (why : ScheduleRefusal) → IsReason bytes.now why → Refuses result why }
+    ensures outside { (n : ℕ) → IsShort bytes.now → IsFirstOutside [] (lines_of bytes.now) n → RefusesAt result n }
     // What may be relied on.
     ensures few { IfOk result (λ s. length s ≤ 20000) }
     ensures in_range { IfOk result (λ s. IsTrue (list_all is_in_range s)) }
@@ -79,8 +89,10 @@ fn read_lines(alloc: Global, bytes: &[u8]) -> Result<Items<Line>, ScheduleRefusa
         number += 1;
         match add(alloc, &mut earlier, line) {
             Ok(()) => {}
-            Err(LineRefusal::Fault(why)) => return Err(ScheduleRefusal::BadLine(number, why)),
-            Err(LineRefusal::Later) => return Err(ScheduleRefusal::NotYet(number)),
+            Err(LineRefusal::Fault(why)) => {
+                return Err(ScheduleRefusal::BadLine { line: number, why });
+            }
+            Err(LineRefusal::Later) => return Err(ScheduleRefusal::NotYet { line: number }),
             Err(LineRefusal::OutOfMemory) => return Err(ScheduleRefusal::OutOfMemory),
         }
         rest = after;
@@ -91,7 +103,7 @@ fn read_lines(alloc: Global, bytes: &[u8]) -> Result<Items<Line>, ScheduleRefusa
 /// Puts what the line of the file says behind the earlier lines: nothing where it is skipped.
 fn add(alloc: Global, earlier: &mut Earlier, line: &[u8]) -> Result<(), LineRefusal>
     ensures ok { OnOk result (Adds earlier.old line.now earlier.new) }
-    ensures err { IfErr result (IsRefused earlier.old line.now) }
+    ensures err { IfErr result (IsFileLineCause earlier.old line.now) }
 {
     if is_skipped(line) {
         return Ok(());
@@ -126,3 +138,15 @@ fn count_lines(bytes: &[u8]) -> usize
     }
     count
 }
+
+// Each of these goes to another thread, and is seen by several.
+fn are_sendable() {
+    is_sendable::<Grant>();
+    is_sendable::<Head>();
+    is_sendable::<Line>();
+    is_sendable::<LineFault>();
+    is_sendable::<ScheduleRefusal>();
+    is_sendable::<Script>();
+}
+
+fn is_sendable<T: Send + Sync>() {}

@@ -92,7 +92,10 @@ const BAD_LINES: [(&str, u32, LineFault); 34] = [
 #[test]
 fn the_first_fault_of_the_first_bad_line_is_answered(rt: HostRuntime) -> Result<(), Fail> {
     for (lines, number, why) in &BAD_LINES {
-        let wanted = Some(ScheduleRefusal::BadLine(*number, *why));
+        let wanted = Some(ScheduleRefusal::BadLine {
+            line: *number,
+            why: *why,
+        });
         assert!(rt; refused(rt.alloc(), lines)? == wanted, "{}", lines);
     }
     Ok(())
@@ -109,7 +112,11 @@ fn a_word_of_a_later_version_is_not_yet_served(rt: HostRuntime) -> Result<(), Fa
     for word in &LATER_WORDS {
         let line = format!(in rt.alloc(); "clock 1\n{} osd.0\nfly", word)?;
         let answer = refused(rt.alloc(), line.as_str())?;
-        assert!(rt; answer == Some(ScheduleRefusal::NotYet(5)), "{}", word);
+        assert!(rt;
+            answer == Some(ScheduleRefusal::NotYet { line: 5 }),
+            "{}",
+            word
+        );
     }
     Ok(())
 }
@@ -156,12 +163,47 @@ fn the_limit_of_data_is_met_at_its_last_value(rt: HostRuntime) -> Result<(), Fai
     Ok(())
 }
 
+/// A schedule of 20,000 lines: a thousand entities, a reading, and rounds of a login, a connect and a send.
+fn longest(alloc: Global) -> Result<String, Fail> {
+    let mut text = String::new(alloc);
+    for id in 0..500 {
+        let line = format!(in alloc; "entity client.{id} osd \"allow *\"\nentity osd.{id}\n")?;
+        text.push_str(&line)?;
+    }
+    text.push_str("clock 1\n")?;
+    for round in 0..6_333 {
+        let id = round % 500;
+        let line = format!(in alloc;
+            "login client.{id} osd\nconnect client.{id} osd.0\nsend client.{id} osd.0 read p - o {round:06}\n"
+        )?;
+        text.push_str(&line)?;
+    }
+    Ok(text)
+}
+
+#[test]
+fn the_longest_schedule_is_read_and_copied(rt: HostRuntime) -> Result<(), Fail> {
+    let alloc = rt.alloc();
+    let text = longest(alloc)?;
+    let script = read(alloc, text.as_bytes())?;
+    assert_eq!(rt; script.lines().len(), 20_000);
+    let copied = script.copy(alloc)?;
+    assert!(rt; copied.lines() == script.lines());
+    Ok(())
+}
+
 #[test]
 fn a_refusal_is_a_sentence_with_the_number_of_its_line(rt: HostRuntime) -> Result<(), Fail> {
     let alloc = rt.alloc();
-    let bad = format!(in alloc; "{}", ScheduleRefusal::BadLine(3, LineFault::Missing))?;
+    let bad = format!(in alloc;
+        "{}",
+        ScheduleRefusal::BadLine {
+            line: 3,
+            why: LineFault::Missing
+        }
+    )?;
     assert_eq!(rt; bad.as_str(), "line 3: a word is missing");
-    let late = format!(in alloc; "{}", ScheduleRefusal::NotYet(7))?;
+    let late = format!(in alloc; "{}", ScheduleRefusal::NotYet { line: 7 })?;
     assert_eq!(rt;
         late.as_str(),
         "line 7: this version doesn't serve lines that begin so"

@@ -4,6 +4,7 @@ ghost use Rattle.std.specs.Prelude.{◌≡◌};
 ghost use Rattle.cx_top.specs.Statuses.{number_of};
 
 use crate::input::Unread;
+use cx_keyring::{KeyringFault, KeyringRefusal};
 use cx_schedule::{LineFault, ScheduleRefusal};
 use std::alloc::AllocError;
 
@@ -14,18 +15,24 @@ pub enum Status {
     Done,
     /// The words of the command line are no command that is served.
     Usage,
-    /// This line, from 1, is the first outside the grammar of a schedule, and the fault is the first that it has.
-    BadSchedule(u32, LineFault),
+    /// This line, from 1, is the first outside the grammar of a schedule, and `why` is the first fault that it has.
+    BadSchedule { line: u32, why: LineFault },
     /// The input could not be read.
     ReadFault,
     /// The output could not be written; a front of it was.
     WriteFault,
     /// Memory was wanting.
     OutOfMemory,
+    /// This line, from 1, is the first of the keyring that is wrong, and `why` is the first fault that it has. The line 0 has
+    /// none: there are more than 4,096 sections.
+    BadKeyring {
+        line: u64,
+        why: Option<KeyringFault>,
+    },
     /// The input has more than 1,048,576 bytes or 20,000 lines.
     TooLong,
     /// This line, from 1, is the first outside the grammar, and its first word begins a line that is not served yet.
-    NotYet(u32),
+    NotYet { line: u32 },
 }
 
 impl Status {
@@ -36,12 +43,13 @@ impl Status {
         match self {
             Status::Done => 0,
             Status::Usage => 1,
-            Status::BadSchedule(_, _) => 2,
+            Status::BadSchedule { .. } => 2,
             Status::ReadFault => 3,
             Status::WriteFault => 4,
             Status::OutOfMemory => 5,
+            Status::BadKeyring { .. } => 6,
             Status::TooLong => 12,
-            Status::NotYet(_) => 13,
+            Status::NotYet { .. } => 13,
         }
     }
 }
@@ -66,9 +74,27 @@ impl From<ScheduleRefusal> for Status {
     fn from(refusal: ScheduleRefusal) -> Status {
         match refusal {
             ScheduleRefusal::TooLong => Status::TooLong,
-            ScheduleRefusal::BadLine(line, why) => Status::BadSchedule(line, why),
-            ScheduleRefusal::NotYet(line) => Status::NotYet(line),
+            ScheduleRefusal::BadLine { line, why } => Status::BadSchedule { line, why },
+            ScheduleRefusal::NotYet { line } => Status::NotYet { line },
             ScheduleRefusal::OutOfMemory => Status::OutOfMemory,
+        }
+    }
+}
+
+impl From<KeyringRefusal> for Status {
+    ghost use Rattle.std.specs.Prelude.{◌≡◌};
+    ghost use Rattle.cx_top.specs.Statuses.{keyring_status};
+
+    ghost from_gives = { λ refusal status. status ≡ keyring_status refusal };
+
+    fn from(refusal: KeyringRefusal) -> Status {
+        match refusal {
+            KeyringRefusal::BadLine { line, why } => Status::BadKeyring {
+                line,
+                why: Some(why),
+            },
+            KeyringRefusal::TooMany(_) => Status::BadKeyring { line: 0, why: None },
+            KeyringRefusal::OutOfMemory => Status::OutOfMemory,
         }
     }
 }
@@ -86,4 +112,11 @@ impl From<Unread> for Status {
             Unread::OutOfMemory => Status::OutOfMemory,
         }
     }
+}
+
+// It goes to another thread, and is seen by several.
+fn is_sendable<T: Send + Sync>() {}
+
+fn status_is_sendable() {
+    is_sendable::<Status>();
 }

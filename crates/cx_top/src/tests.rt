@@ -3,8 +3,10 @@
 use crate::replay::run;
 use crate::status::Status;
 use cx_base::{Blob, ByteSource, Sink, VecSink};
+use cx_keyring::KeyringFault;
 use cx_schedule::LineFault;
 use std::alloc::{AllocError, Global};
+use std::process::Abort;
 
 /// A schedule, the status of its replay, and the journal.
 struct Row {
@@ -213,7 +215,10 @@ const ROWS: [Row; 14] = [
         schedule: "entity client.a\n\
             clock 5\n\
             entity osd.0\n",
-        status: Status::BadSchedule(3, LineFault::Order),
+        status: Status::BadSchedule {
+            line: 3,
+            why: LineFault::Order,
+        },
         journal: "",
     },
     Row {
@@ -221,7 +226,10 @@ const ROWS: [Row; 14] = [
         schedule: "entity client.a\n\
             clock 5\n\
             jump 3\n",
-        status: Status::BadSchedule(3, LineFault::UnknownWord),
+        status: Status::BadSchedule {
+            line: 3,
+            why: LineFault::UnknownWord,
+        },
         journal: "",
     },
     Row {
@@ -229,7 +237,7 @@ const ROWS: [Row; 14] = [
         schedule: "entity client.a\n\
             clock 5\n\
             renew client.a osd\n",
-        status: Status::NotYet(3),
+        status: Status::NotYet { line: 3 },
         journal: "",
     },
 ];
@@ -319,7 +327,12 @@ fn the_first_fault_of_a_line_is_told(rt: HostRuntime) -> Result<(), AllocError> 
             "entity client.a osd \"allow *\"\nentity osd.0\n{line}\nclock 1\n"
         )?;
         let (status, sink) = run_over(rt.alloc(), &["replay"], input.as_bytes(), &[], ROOM)?;
-        assert_eq!(rt; status, Status::BadSchedule(3, *why), "{}", line);
+        assert_eq!(rt;
+            status,
+            Status::BadSchedule { line: 3, why: *why },
+            "{}",
+            line
+        );
         assert_eq!(rt; sink.taken().len(), 0, "{}", line);
     }
     Ok(())
@@ -335,16 +348,120 @@ fn each_word_that_is_to_come_is_told(rt: HostRuntime) -> Result<(), AllocError> 
     for word in &LATER_WORDS {
         let input = format!(in rt.alloc(); "# one line before\n{word} 1\n")?;
         let (status, _) = run_over(rt.alloc(), &["replay"], input.as_bytes(), &[], ROOM)?;
-        assert_eq!(rt; status, Status::NotYet(2), "{}", word);
+        assert_eq!(rt; status, Status::NotYet { line: 2 }, "{}", word);
     }
     Ok(())
 }
 
+/// A keyring, the status of its reading, and what is written.
+struct Keyring {
+    shows: &'static str,
+    text: &'static str,
+    status: Status,
+    printed: &'static str,
+}
+
+static KEYRINGS: [Keyring; 5] = [
+    Keyring {
+        shows: "a keyring of one entity is printed with tabs",
+        text: "[client.vm]\nkey = AQAAAAAAAAAAABAAAAECAwQFBgcICQoLDA0ODw==\ncaps mon = \"profile rbd\"\n\
+            caps osd = \"profile rbd pool=vms, allow r pool=images\"\n",
+        status: Status::Done,
+        printed: "[client.vm]\n\tkey = AQAAAAAAAAAAABAAAAECAwQFBgcICQoLDA0ODw==\n\tcaps mon = \"profile rbd\"\n\
+            \tcaps osd = \"profile rbd pool=vms, allow r pool=images\"\n",
+    },
+    Keyring {
+        shows: "an empty keyring is one",
+        text: "",
+        status: Status::Done,
+        printed: "",
+    },
+    Keyring {
+        shows: "of two lines that are wrong the first is named",
+        text: "[client.a]\nkey AQAA\n\tkey = AQAAAAAAAAAAABAAAAECAwQFBgcICQoLDA0ODw==\n\n\n\n\n\nany\n",
+        status: Status::BadKeyring {
+            line: 2,
+            why: Some(KeyringFault::Unreadable),
+        },
+        printed: "",
+    },
+    Keyring {
+        shows: "a section without a key is named by its own line",
+        text: "[client.a]\n\tcaps mon = \"allow r\"\n",
+        status: Status::BadKeyring {
+            line: 1,
+            why: Some(KeyringFault::NoKey),
+        },
+        printed: "",
+    },
+    Keyring {
+        shows: "a schedule is no keyring",
+        text: "entity client.a\n",
+        status: Status::BadKeyring {
+            line: 1,
+            why: Some(KeyringFault::NoSection),
+        },
+        printed: "",
+    },
+];
+
+fn check_keyring(rt: &impl Abort, alloc: Global, row: &Keyring) -> Result<(), AllocError> {
+    let (status, sink) = run_over(alloc, &["keyring"], row.text.as_bytes(), &[], ROOM)?;
+    assert_eq!(rt; status, row.status, "{}", row.shows);
+    assert_eq!(rt; sink.taken(), row.printed.as_bytes(), "{}", row.shows);
+    Ok(())
+}
+
 #[test]
-fn only_the_one_word_replay_is_served(rt: HostRuntime) -> Result<(), AllocError> {
+fn each_keyring_has_its_status_and_printed_form(rt: HostRuntime) -> Result<(), AllocError> {
+    for row in &KEYRINGS {
+        check_keyring(&rt, rt.alloc(), row)?;
+    }
+    Ok(())
+}
+
+// So many sections.
+fn sections(alloc: Global, count: u32) -> Result<String, AllocError> {
+    let mut text = String::new(alloc);
+    for place in 0..count {
+        let section = format!(in alloc;
+            "[client.c{place}]\n\tkey = AQAAAAAAAAAAABAAAAECAwQFBgcICQoLDA0ODw==\n"
+        )?;
+        text.push_str(&section)?;
+    }
+    Ok(text)
+}
+
+#[test]
+fn a_keyring_of_4096_sections_is_printed_and_no_longer_one(
+    rt: HostRuntime,
+) -> Result<(), AllocError> {
+    let most = sections(rt.alloc(), 4096)?;
+    let (status, sink) = run_over(rt.alloc(), &["keyring"], most.as_bytes(), &[], most.len())?;
+    assert_eq!(rt; status, Status::Done);
+    assert!(rt; sink.taken() == most.as_bytes());
+    let more = sections(rt.alloc(), 4097)?;
+    let (status, _) = run_over(rt.alloc(), &["keyring"], more.as_bytes(), &[], ROOM)?;
+    assert_eq!(rt; status, Status::BadKeyring { line: 0, why: None });
+    Ok(())
+}
+
+#[test]
+fn the_limits_of_an_input_go_before_its_lines(rt: HostRuntime) -> Result<(), AllocError> {
+    let many = comments(rt.alloc(), 20_001)?;
+    let (long, _) = run_over(rt.alloc(), &["keyring"], &many, &[], ROOM)?;
+    assert_eq!(rt; long, Status::TooLong);
+    let fewer = comments(rt.alloc(), 20_000)?;
+    let (short, _) = run_over(rt.alloc(), &["keyring"], &fewer, &[], ROOM)?;
+    assert_eq!(rt; short, Status::Done);
+    Ok(())
+}
+
+#[test]
+fn only_the_one_word_of_a_command_is_served(rt: HostRuntime) -> Result<(), AllocError> {
     let input = ROWS[0].schedule.as_bytes();
     let (none, _) = run_over(rt.alloc(), &[], input, &[], ROOM)?;
-    let (two, _) = run_over(rt.alloc(), &["replay", "now"], input, &[], ROOM)?;
+    let (two, _) = run_over(rt.alloc(), &["replay", "keyring"], input, &[], ROOM)?;
     let (other, sink) = run_over(rt.alloc(), &["replays"], input, &[], ROOM)?;
     assert_eq!(rt; none, Status::Usage);
     assert_eq!(rt; two, Status::Usage);
@@ -416,7 +533,13 @@ fn a_thousand_entities_are_the_most(rt: HostRuntime) -> Result<(), AllocError> {
     assert_eq!(rt; sink.taken(), journal.as_bytes());
     let more = entities(rt.alloc(), 1001)?;
     let (refused, _) = run_over(rt.alloc(), &["replay"], more.as_bytes(), &[], ROOM)?;
-    assert_eq!(rt; refused, Status::BadSchedule(1001, LineFault::Repeated));
+    assert_eq!(rt;
+        refused,
+        Status::BadSchedule {
+            line: 1001,
+            why: LineFault::Repeated
+        }
+    );
     Ok(())
 }
 
@@ -424,11 +547,95 @@ fn a_thousand_entities_are_the_most(rt: HostRuntime) -> Result<(), AllocError> {
 fn the_sentence_of_a_bad_line_has_its_number_and_its_fault(
     rt: HostRuntime,
 ) -> Result<(), AllocError> {
-    let sentence = format!(in rt.alloc(); "{}", Status::BadSchedule(3, LineFault::BadName))?;
+    let sentence = format!(in rt.alloc();
+        "{}",
+        Status::BadSchedule {
+            line: 3,
+            why: LineFault::BadName
+        }
+    )?;
     assert_eq!(rt;
         sentence.as_str(),
         "line 3 of the schedule is outside of its grammar: a word is no name of an entity, as client.admin or osd.0; \
         write a type, a point and an id of 1 to 64 letters, digits or _ - . : + /, as in: osd.0"
     );
     Ok(())
+}
+
+// How the lines of a long schedule come: so many logins for three services, connects of fifty clients to fifty daemons, and
+// sends of one client.
+struct Long {
+    logins: u32,
+    connects: u32,
+    sends: u32,
+}
+
+// Fifty clients and fifty daemons that fetched, and then these lines.
+fn long_schedule(alloc: Global, long: &Long) -> Result<String, AllocError> {
+    let mut text = String::new(alloc);
+    for id in 0..50 {
+        let line = format!(in alloc;
+            "entity client.{id} mds \"allow *\" osd \"allow *\" mgr \"allow *\"\nentity osd.{id}\n"
+        )?;
+        text.push_str(&line)?;
+    }
+    for id in 0..50 {
+        let line = format!(in alloc; "fetch osd.{id}\n")?;
+        text.push_str(&line)?;
+    }
+    for turn in 0..long.logins {
+        let id = turn % 50;
+        let line = format!(in alloc; "login client.{id} mds,osd,mgr\n")?;
+        text.push_str(&line)?;
+    }
+    for turn in 0..long.connects {
+        let client = turn % 50;
+        let daemon = turn / 50;
+        let line = format!(in alloc; "connect client.{client} osd.{daemon}\n")?;
+        text.push_str(&line)?;
+    }
+    for turn in 0..long.sends {
+        let line = format!(in alloc; "send client.0 osd.0 read p - o{turn} -\n")?;
+        text.push_str(&line)?;
+    }
+    Ok(text)
+}
+
+const MANY_LOGINS: Long = Long {
+    logins: 17_348,
+    connects: 2_500,
+    sends: 2,
+};
+
+const MANY_SENDS: Long = Long {
+    logins: 50,
+    connects: 2_500,
+    sends: 17_300,
+};
+
+const LAST_LOGINS: &str = "answered client.0 osd.0 2 done\n";
+
+const LAST_SENDS: &str = "sent client.0 osd.0 c1 17300 read p - o17299 -\n\
+    handled osd.0 1 1 c1 17300 read p - o17299 - done\n\
+    answered client.0 osd.0 17300 done\n";
+
+// The journal of a long schedule has so many lines and ends so.
+fn check_long(rt: &impl Abort, alloc: Global, long: &Long, lines: usize, last: &str) {
+    let schedule = long_schedule(alloc, long).expect(rt, "memory");
+    let (status, sink) = run_over(alloc, &["replay"], schedule.as_bytes(), &[], 16_777_216).expect(
+        rt, "memory",
+    );
+    assert_eq!(rt; status, Status::Done);
+    let ends = sink.taken().iter().filter(|byte| **byte == b'\n').count();
+    assert_eq!(rt; ends, lines);
+    assert!(rt; sink.taken().ends_with(last.as_bytes()));
+}
+
+// Each of the fifty fetches has three lines, a client's first login five and each other one four, a connect three, and a
+// send three.
+#[test]
+fn schedules_of_20_000_lines_are_replayed(rt: HostRuntime) {
+    let alloc = rt.alloc();
+    check_long(&rt, alloc, &MANY_LOGINS, 77_098, LAST_LOGINS);
+    check_long(&rt, alloc, &MANY_SENDS, 59_800, LAST_SENDS);
 }

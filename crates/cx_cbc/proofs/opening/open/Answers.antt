@@ -1,8 +1,14 @@
 use Rattle.std.proofs.Common.{◌≡◌, ◌%◌, ◌≤◌, length, sym, ap, ◌∙◌, arith}
 use Rattle.std.proofs.lemmas.List.Elements.{All-from_get_or}
 use Rattle.cx_aes.specs.KeyOf.{key_of}
-use Rattle.cx_cbc.proofs.Contents.{whole-opens, whole-decrypted, decrypted-opens, opens_found, enveloped-one, IsByte}
+use Rattle.cx_cbc.proofs.Contents.{whole-opens, length-opens, whole-decrypted, decrypted-opens, opens_found, enveloped-one, IsByte}
 use Rattle.cx_cbc.proofs.opening.open.Goals as goal
+
+pub returns-then-sealed-gt-LONGEST_ENVELOPE-clause-unopened : goal.returns-then-sealed-gt-LONGEST_ENVELOPE-clause-unopened
+returns-then-sealed-gt-LONGEST_ENVELOPE-clause-unopened c = λ _ content opens.
+    let most = length-opens (key_of c.args.key.now) c.args.sealed.now content c.args.key.now.expanded.block opens in
+    let long = c.if-sealed-gt-LONGEST_ENVELOPE.true in
+    omega arith
 
 pub returns-then-sealed-ne0-clause-unopened : goal.returns-then-sealed-ne0-clause-unopened
 returns-then-sealed-ne0-clause-unopened c = λ _ content opens.

@@ -6,5 +6,5 @@ use Rattle.cx_enc.proofs.encoded.write_whole.Goals as goal
 
 pub returns-clause-again : goal.returns-clause-again
 returns-clause-again g c =
-    let spells : Spells g.T.Encoded.form c.put.new.into c.args.value.now = search rules in
-    read_behind g.T.Encoded.form g.met.T.Encoded.lawful c.put.new.into c.args.value.now spells
+    let spells : Spells g.T.Encoded.layout.form c.write.new.into c.args.value.now = search rules in
+    read_behind g.T.Encoded.layout.form g.T.Encoded.layout.lawful c.write.new.into c.args.value.now spells

@@ -1,7 +1,7 @@
 use Rattle.std.proofs.Common.{◌≡◌, [], Err, refl, rules}
 use Rattle.cx_words.specs.Cutting.{lines_of}
-use Rattle.cx_schedule.proofs.Reasons.{never_both, one_reason}
-use Rattle.cx_schedule.proofs.Whole.{all_in_range, few_in_all, one_schedule}
+use Rattle.cx_schedule.proofs.Reasons.{never_both, one_reason, refused_at}
+use Rattle.cx_schedule.proofs.Whole.{all_in_range, few_in_all, none_outside, one_schedule}
 use Rattle.cx_schedule.proofs.script.read.Goals as goal
 
 pub returns-clause-one : goal.returns-clause-one
@@ -21,3 +21,12 @@ returns-in_err-lines-clause-exact c why reason =
 pub returns-clause-exact : goal.returns-clause-exact
 returns-clause-exact c why reason =
     never_both c.args.bytes.now c.in_ok-lines.lines why (c.is_short.ensures.0 c.if-not-is_short.false) c.in_ok-lines.ensures.found reason
+
+pub returns-in_err-lines-clause-outside : goal.returns-in_err-lines-clause-outside
+returns-in_err-lines-clause-outside c n short outside =
+    let is : c.from_residual.result ≡ Err c.in_err-lines.field-0.0 = search rules in
+    rw is (refused_at c.args.bytes.now c.in_err-lines.field-0.0 n c.in_err-lines.ensures.bad short outside)
+
+pub returns-clause-outside : goal.returns-clause-outside
+returns-clause-outside c n short outside =
+    none_outside [] c.in_ok-lines.lines (lines_of c.args.bytes.now) n c.in_ok-lines.ensures.found outside

@@ -15,4 +15,4 @@ pub returns-in-Handled : goal.returns-in-Handled
 returns-in-Handled c = λ earlier h. rw (handled_as c.args.self.now earlier c.args.entry.now c.in-Handled.h c.rank-in-Handled.result c.in-Handled.is c.rank-in-Handled.ensures h) c.handled_line.ensures
 
 pub returns-in-Refused : goal.returns-in-Refused
-returns-in-Refused c = λ earlier h. rw (refused_as c.args.self.now earlier c.args.entry.now c.in-Refused.r c.number_of-number.result c.in-Refused.is c.number_of-number.ensures h) c.refused_line.ensures
+returns-in-Refused c = λ earlier h. rw (refused_as c.args.self.now earlier c.args.entry.now c.in-Refused.r c.ticket_number-number.result c.in-Refused.is c.ticket_number-number.ensures h) c.refused_line.ensures
