@@ -1,5 +1,5 @@
 -- Sessions found by their cookies.
-use Rattle.std.proofs.Common.{ℕ, ◌≡◌, ◌+◌, ◌≤◌, ◌<◌, ◌==◌, Bool, true, false, List, [], ◌∷◌, ◌++◌, filter, not, Option, Some, None, IsSome, arith, refl, sym, ◌∙◌, ap, if◌then◌else◌}
+use Rattle.std.proofs.Common.{ℕ, ◌≡◌, ◌+◌, ◌==◌, Bool, true, false, List, [], ◌∷◌, ◌++◌, filter, not, Option, Some, None, IsSome, arith, refl, ◌∙◌, ap, if◌then◌else◌}
 use Rattle.std.proofs.lemmas.Bool.Decides.{nat_tests}
 use Rattle.cx_session.specs.declared.session.Session.{Session}
 use Rattle.cx_session.specs.Book.{with_number, with_client_cookie, with_cookies, changed}

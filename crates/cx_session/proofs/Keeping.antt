@@ -1,5 +1,5 @@
 -- A book stays kept by each change.
-use Rattle.std.proofs.Common.{ℕ, ◌≡◌, ◌+◌, ◌-◌, ◌≤◌, ◌<◌, ◌==◌, Bool, true, false, List, [], ◌∷◌, ◌++◌, length, filter, not, Option, Some, None, IsSome, IfSome, is_some, IsOk, nat_le, arith, refl, sym, ◌∙◌, ap, if◌then◌else◌, length-append}
+use Rattle.std.proofs.Common.{ℕ, ◌≡◌, ◌+◌, ◌-◌, ◌<◌, ◌==◌, Bool, true, false, List, [], ◌∷◌, ◌++◌, length, filter, not, Option, Some, None, IsSome, IfSome, is_some, IsOk, nat_le, arith, refl, sym, ◌∙◌, ap, length-append}
 use Rattle.std.proofs.lemmas.Bool.Decides.{nat_tests}
 use Rattle.std.specs.BTreeMap.{BTreeMap, get, is_at, IsOrdered}
 use Rattle.std.specs.Map.{lookup, set_value, remove_entry}
@@ -9,7 +9,7 @@ use Rattle.cx_session.specs.declared.session.Session.{Session}
 use Rattle.cx_session.specs.Book.{with_number, with_client_cookie, changed, admission}
 use Rattle.cx_session.specs.Kept.{sessions, IsPlaced, IsFound, IsKept}
 use Rattle.cx_session.proofs.Placing.{held, RisesFrom, numbers_rise, keys_rise, number_is, changed_is, changed-placed, stays_there, removed_is, removed-length, removed-placed, removed-there, stands_below}
-use Rattle.cx_session.proofs.Finding.{by_number, of_client, client_is, found-kept, found-other, found-push, found-filter, found-changed, found-at, number_gone}
+use Rattle.cx_session.proofs.Finding.{client_is, found-kept, found-other, found-push, found-filter, found-changed, found-at, number_gone}
 
 -- what an option holds that is no `None`
 pub some_of : {X : Type 0} → (o : Option X) → IsSome o → (x : X) × (o ≡ Some x)

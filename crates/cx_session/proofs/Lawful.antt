@@ -1,13 +1,11 @@
 -- The laws of a book.
-use Rattle.std.proofs.Common.{ℕ, ◌≡◌, ◌+◌, ◌-◌, ◌^◌, ◌≤◌, ◌<◌, ◌==◌, ◌&&◌, Bool, true, false, nat_le, nat_lt, List, [], ◌∷◌, ◌++◌, length, filter, not, Option, Some, None, Result, Ok, Err, arith, refl, sym, ◌∙◌, ap, subst, if◌then◌else◌}
-use Rattle.std.specs.Option.{option_map}
+use Rattle.std.proofs.Common.{ℕ, ◌≡◌, ◌+◌, ◌-◌, ◌^◌, ◌≤◌, ◌==◌, ◌&&◌, Bool, true, false, nat_le, nat_lt, List, [], ◌∷◌, ◌++◌, length, filter, not, Option, Some, None, Result, Ok, Err, arith, refl, sym, ◌∙◌, ap, subst, if◌then◌else◌}
 use Rattle.std.proofs.lemmas.Bool.Decides.{nat_tests}
 use Rattle.cx_base.specs.Names.{Name, same_name}
 use Rattle.cx_base.proofs.Names.{same_name_is}
 use Rattle.cx_session.specs.declared.session.Session.{Session}
 use Rattle.cx_session.specs.declared.call.BookCall.{BookCall}
 use Rattle.cx_session.specs.declared.call.BookCall.TheVariants.{Admit, Resume, Check, Take, End}
-use Rattle.cx_session.specs.declared.call.BookReply.{BookReply}
 use Rattle.cx_session.specs.declared.faults.AdmitFault.{AdmitFault}
 use Rattle.cx_session.specs.declared.faults.AdmitFault.TheVariants as admit
 use Rattle.cx_session.specs.declared.faults.ResumeFault.{ResumeFault}
@@ -15,7 +13,7 @@ use Rattle.cx_session.specs.declared.faults.ResumeFault.TheVariants as resume
 use Rattle.cx_session.specs.declared.faults.TakeRefusal.{TakeRefusal}
 use Rattle.cx_session.specs.declared.faults.TakeRefusal.TheVariants as message
 use Rattle.cx_session.specs.Book.{Book, with_number, with_client_cookie, with_cookies, admission, admit_reply, opened, admitted, changed, taking, take_reply, taken, raised, renewed, same_owner, resumption, resume_reply, resumed, ended}
-use Rattle.cx_session.specs.Answers.{admission_reply, resumption_reply, message_reply, refused_admission, refused_resumption, refused_message, behind, replied, after}
+use Rattle.cx_session.specs.Answers.{admission_reply, resumption_reply, message_reply, refused_admission, behind, after}
 use Rattle.cx_session.specs.Lawful.{given_by, AreRisingFrom, numbers_given, GivesNumbersOnce, NeverFalls, TakesTheNext, KeepsOwner}
 use Rattle.cx_session.proofs.Finding.{number_of, number_gone}
 

@@ -1,5 +1,5 @@
 -- The calls of a book as values: the reply to each, and the book behind it.
-use Rattle.std.specs.Prelude.{ℕ, ◌≡◌, Bool, List, Option, Some, None, Result, Ok, Err, is_some, ◌⊎◌}
+use Rattle.std.specs.Prelude.{ℕ, ◌≡◌, Bool, Result, Ok, Err, is_some, ◌⊎◌}
 use Rattle.cx_base.specs.Names.{Name}
 use Rattle.cx_session.specs.declared.call.BookCall.{BookCall}
 use Rattle.cx_session.specs.declared.call.BookCall.TheVariants.{Admit, Resume, Check, Take, End}

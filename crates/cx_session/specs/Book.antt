@@ -1,7 +1,7 @@
 -- The sessions that a daemon keeps ("msgr2 protocol": client and server cookie, global_seq, connect_seq, and the replies
 -- to a client that reconnects): the next number, and the list of live sessions in the order of their numbers. Each reply
 -- is a distinction of cases on that list.
-use Rattle.std.specs.Prelude.{ℕ, ◌≡◌, ◌+◌, ◌<◌, ◌≤◌, ◌^◌, ◌-◌, ◌==◌, ◌&&◌, Bool, true, false, not, List, [], ◌∷◌, ◌++◌, length, find, filter, map, nat_lt, nat_le, if◌then◌else◌, Option, Some, None, Result, Ok, Err}
+use Rattle.std.specs.Prelude.{ℕ, ◌+◌, ◌<◌, ◌≤◌, ◌^◌, ◌-◌, ◌==◌, ◌&&◌, Bool, not, List, [], ◌∷◌, ◌++◌, length, find, filter, map, nat_lt, nat_le, if◌then◌else◌, Option, Some, None, Result, Ok, Err}
 use Rattle.cx_base.specs.Names.{Name, same_name}
 use Rattle.cx_session.specs.declared.session.Session.{Session}
 use Rattle.cx_session.specs.declared.faults.AdmitFault.{AdmitFault}

@@ -1,6 +1,6 @@
 -- What a client has sent in a session and no acknowledgement has covered ("msgr2 protocol": a client keeps each message
 -- until its ACK, and sends what is left again after a reconnect).
-use Rattle.std.specs.Prelude.{ℕ, ◌≡◌, ◌+◌, ◌^◌, ◌-◌, ◌==◌, Bool, List, [], ◌∷◌, ◌++◌, length, filter, nat_lt, nat_le, if◌then◌else◌, Result, Ok, Err}
+use Rattle.std.specs.Prelude.{ℕ, ◌≡◌, ◌+◌, ◌^◌, ◌-◌, ◌==◌, List, [], ◌∷◌, ◌++◌, length, filter, nat_lt, nat_le, if◌then◌else◌, Result, Ok, Err}
 use Rattle.cx_base.specs.declared.operations.Operation.{Operation}
 use Rattle.cx_session.specs.declared.outbox.QueueFault.{QueueFault}
 use Rattle.cx_session.specs.declared.outbox.QueueFault.TheVariants.{QueueFull, Spent}

@@ -1,6 +1,4 @@
-use Rattle.std.proofs.Common.{◌≡◌, None, false, sym, ◌∙◌}
-use Rattle.std.specs.BTreeMap.{get}
-use Rattle.std.specs.Ordering.{nat_cmp}
+use Rattle.std.proofs.Common.{sym, ◌∙◌}
 use Rattle.cx_session.proofs.Placing.{readied_is, readied-placed}
 use Rattle.cx_session.proofs.Keeping.{none_of}
 use Rattle.cx_session.proofs.places.make_ready.Goals as goal

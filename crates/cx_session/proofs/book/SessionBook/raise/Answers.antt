@@ -1,6 +1,5 @@
-use Rattle.std.proofs.Common.{◌≡◌, Some, IsSome, refl, ap}
-use Rattle.cx_session.specs.Book.{with_number, raised}
-use Rattle.cx_session.specs.Kept.{sessions}
+use Rattle.std.proofs.Common.{refl}
+use Rattle.cx_session.specs.Book.{raised}
 use Rattle.cx_session.proofs.Keeping.{kept-changed}
 use Rattle.cx_session.proofs.book.SessionBook.raise.Goals as goal
 

@@ -2,8 +2,8 @@ use Rattle.std.proofs.Common.{◌≡◌, ◌==◌, true, false, refl, arith}
 use Rattle.std.proofs.lemmas.Bool.Decides.{nat_tests}
 use Rattle.std.specs.BTreeMap.{get}
 use Rattle.std.specs.Ordering.{nat_cmp}
-use Rattle.cx_session.specs.Book.{with_client_cookie, with_cookies}
-use Rattle.cx_session.proofs.Finding.{of_client, of_server, by_number, kept_client_is, kept_cookies_is}
+use Rattle.cx_session.specs.Book.{with_client_cookie}
+use Rattle.cx_session.proofs.Finding.{of_client, by_number, kept_client_is}
 use Rattle.cx_session.proofs.book.SessionBook.session_of_client.Goals as goal
 
 pub returns-in_err-number-clause-found : goal.returns-in_err-number-clause-found
