@@ -1,5 +1,6 @@
-/* The ciphers as portable C, for bench/ciphers: AES-128 with one table of 256 bytes, AES-128 with four
-   tables of 32-bit words, and GCM with the first of them and four bits of the product at a time.
+/* The ciphers and digests as portable C, for bench/ciphers: AES-128 with one table of 256 bytes, AES-128 with four
+   tables of 32-bit words, GCM with each of them and four bits of the product at a time, CRC-32C by a table of bytes
+   and by slicing by eight, and HMAC with SHA-256.
    Each measurement is one function, and a line of `main`. It prints NAME BYTES NANOSECONDS SUM. */
 #include <stdint.h>
 #include <stdio.h>
@@ -144,7 +145,9 @@ static void multiply(uint8_t *x) {
     store(x, (uint32_t)(zh >> 32)), store(x + 4, (uint32_t)zh), store(x + 8, (uint32_t)(zl >> 32)), store(x + 12, (uint32_t)zl);
 }
 
-static void seal(const uint8_t *nonce, uint8_t *bytes, size_t length, uint8_t *tag) {
+typedef void cipher_of_block(const uint8_t *, uint8_t *);
+
+static void seal(cipher_of_block *encrypt, const uint8_t *nonce, uint8_t *bytes, size_t length, uint8_t *tag) {
     uint8_t counter[16], mask[16], zero[16] = {0};
     encrypt(zero, mask);
     make_multiples(mask);
@@ -168,20 +171,81 @@ static void seal(const uint8_t *nonce, uint8_t *bytes, size_t length, uint8_t *t
     for (int i = 0; i < 16; i++) tag[i] ^= mask[i];
 }
 
-/* CRC-32C by a table of bytes */
-static uint32_t crc_table[256];
+/* CRC-32C by a table of bytes, and by slicing by eight */
+static uint32_t crc_table[256], crc_tables[8][256];
 
 static void make_crc_table(void) {
     for (uint32_t i = 0; i < 256; i++) {
         uint32_t state = i;
         for (int bit = 0; bit < 8; bit++) state = (state >> 1) ^ (state & 1 ? 0x82f63b78u : 0);
-        crc_table[i] = state;
+        crc_table[i] = crc_tables[0][i] = state;
     }
+    for (int k = 1; k < 8; k++)
+        for (int i = 0; i < 256; i++)
+            crc_tables[k][i] = (crc_tables[k - 1][i] >> 8) ^ crc_table[crc_tables[k - 1][i] & 0xff];
 }
 
 __attribute__((noinline)) static uint32_t crc32c(uint32_t state, const uint8_t *bytes, size_t length) {
     for (size_t i = 0; i < length; i++) state = (state >> 8) ^ crc_table[(state ^ bytes[i]) & 0xff];
     return state;
+}
+
+__attribute__((noinline)) static uint32_t crc32c_by_eight(uint32_t state, const uint8_t *bytes, size_t length) {
+    for (; length >= 8; bytes += 8, length -= 8) {
+        uint32_t a = state ^ (bytes[0] | bytes[1] << 8 | bytes[2] << 16 | (uint32_t)bytes[3] << 24);
+        state = crc_tables[7][a & 0xff] ^ crc_tables[6][a >> 8 & 0xff] ^ crc_tables[5][a >> 16 & 0xff] ^ crc_tables[4][a >> 24] ^
+                crc_tables[3][bytes[4]] ^ crc_tables[2][bytes[5]] ^ crc_tables[1][bytes[6]] ^ crc_tables[0][bytes[7]];
+    }
+    return crc32c(state, bytes, length);
+}
+
+/* SHA-256 (FIPS 180-4) and HMAC (RFC 2104) */
+static const uint32_t sha_k[64] = {
+    0x428a2f98, 0x71374491, 0xb5c0fbcf, 0xe9b5dba5, 0x3956c25b, 0x59f111f1, 0x923f82a4, 0xab1c5ed5, 0xd807aa98, 0x12835b01, 0x243185be,
+    0x550c7dc3, 0x72be5d74, 0x80deb1fe, 0x9bdc06a7, 0xc19bf174, 0xe49b69c1, 0xefbe4786, 0x0fc19dc6, 0x240ca1cc, 0x2de92c6f, 0x4a7484aa,
+    0x5cb0a9dc, 0x76f988da, 0x983e5152, 0xa831c66d, 0xb00327c8, 0xbf597fc7, 0xc6e00bf3, 0xd5a79147, 0x06ca6351, 0x14292967, 0x27b70a85,
+    0x2e1b2138, 0x4d2c6dfc, 0x53380d13, 0x650a7354, 0x766a0abb, 0x81c2c92e, 0x92722c85, 0xa2bfe8a1, 0xa81a664b, 0xc24b8b70, 0xc76c51a3,
+    0xd192e819, 0xd6990624, 0xf40e3585, 0x106aa070, 0x19a4c116, 0x1e376c08, 0x2748774c, 0x34b0bcb5, 0x391c0cb3, 0x4ed8aa4a, 0x5b9cca4f,
+    0x682e6ff3, 0x748f82ee, 0x78a5636f, 0x84c87814, 0x8cc70208, 0x90befffa, 0xa4506ceb, 0xbef9a3f7, 0xc67178f2};
+
+static uint32_t turned(uint32_t x, int n) { return x >> n | x << (32 - n); }
+
+static void sha_block(uint32_t *h, const uint8_t *p) {
+    uint32_t w[64], v[8];
+    for (int i = 0; i < 16; i++) w[i] = load(p + 4 * i);
+    for (int i = 16; i < 64; i++)
+        w[i] = w[i - 16] + w[i - 7] + (turned(w[i - 15], 7) ^ turned(w[i - 15], 18) ^ w[i - 15] >> 3) +
+               (turned(w[i - 2], 17) ^ turned(w[i - 2], 19) ^ w[i - 2] >> 10);
+    memcpy(v, h, sizeof v);
+    for (int i = 0; i < 64; i++) {
+        uint32_t t = v[7] + (turned(v[4], 6) ^ turned(v[4], 11) ^ turned(v[4], 25)) + ((v[4] & v[5]) ^ (~v[4] & v[6])) + sha_k[i] + w[i];
+        uint32_t u = (turned(v[0], 2) ^ turned(v[0], 13) ^ turned(v[0], 22)) + ((v[0] & v[1]) ^ (v[0] & v[2]) ^ (v[1] & v[2]));
+        memmove(v + 1, v, 28);
+        v[4] += t, v[0] = t + u;
+    }
+    for (int i = 0; i < 8; i++) h[i] += v[i];
+}
+
+/* of a block of 64 bytes and the bytes behind it */
+static void sha_behind(const uint8_t *first, const uint8_t *bytes, size_t length, uint8_t *out) {
+    uint32_t h[8] = {0x6a09e667, 0xbb67ae85, 0x3c6ef372, 0xa54ff53a, 0x510e527f, 0x9b05688c, 0x1f83d9ab, 0x5be0cd19};
+    uint8_t last[128] = {0};
+    uint64_t bits = 8 * (uint64_t)(64 + length);
+    sha_block(h, first);
+    for (; length >= 64; bytes += 64, length -= 64) sha_block(h, bytes);
+    memcpy(last, bytes, length);
+    last[length] = 0x80;
+    size_t end = length < 56 ? 64 : 128;
+    for (int i = 0; i < 8; i++) last[end - 8 + i] = (uint8_t)(bits >> (56 - 8 * i));
+    for (size_t at = 0; at < end; at += 64) sha_block(h, last + at);
+    for (int i = 0; i < 8; i++) store(out + 4 * i, h[i]);
+}
+
+__attribute__((noinline)) static void hmac(const uint8_t *key, size_t key_length, const uint8_t *bytes, size_t length, uint8_t *out) {
+    uint8_t inner[64], outer[64], digest[32];
+    for (size_t i = 0; i < 64; i++) inner[i] = (i < key_length ? key[i] : 0) ^ 0x36, outer[i] = (i < key_length ? key[i] : 0) ^ 0x5c;
+    sha_behind(inner, bytes, length, digest);
+    sha_behind(outer, digest, 32, out);
 }
 
 /* measurements */
@@ -205,25 +269,37 @@ static void measure_blocks(const char *name, void (*cipher)(const uint8_t *, uin
     report(name, 16.0 * BLOCKS, block[0]);
 }
 
-static void measure_seal(const char *name, size_t length, int times) {
+static void measure_seal(const char *name, cipher_of_block *cipher, size_t length, int times) {
     uint8_t nonce[12], tag[16];
     uint8_t *bytes = calloc(length, 1);
     if (!bytes) exit(1);
     memset(nonce, 9, 12);
     start();
-    for (int n = 0; n < times; n++) seal(nonce, bytes, length, tag);
+    for (int n = 0; n < times; n++) seal(cipher, nonce, bytes, length, tag);
     report(name, (double)length * times, tag[0]);
     free(bytes);
 }
 
-static void measure_crc32c(const char *name, size_t length, int times) {
+static void measure_crc32c(const char *name, uint32_t (*sum_of)(uint32_t, const uint8_t *, size_t), size_t length, int times) {
     uint8_t *bytes = malloc(length);
     if (!bytes) exit(1);
     memset(bytes, 90, length);
     uint32_t sum = 0xffffffffu;
     start();
-    for (int n = 0; n < times; n++) sum = crc32c(sum, bytes, length);
+    for (int n = 0; n < times; n++) sum = sum_of(sum, bytes, length);
     report(name, (double)length * times, sum);
+    free(bytes);
+}
+
+static void measure_hmac(const char *name, size_t length, int times) {
+    uint8_t key[20], code[32] = {0};
+    uint8_t *bytes = malloc(length);
+    if (!bytes) exit(1);
+    memset(key, 9, 20);
+    memset(bytes, 90, length);
+    start();
+    for (int n = 0; n < times; n++) hmac(key, 20, bytes, length, code);
+    report(name, (double)length * times, code[0]);
     free(bytes);
 }
 
@@ -237,9 +313,14 @@ int main(void) {
         measure_blocks("aes_encrypt", encrypt);
         measure_blocks("aes_encrypt_by_words", encrypt_by_words);
         measure_blocks("aes_decrypt", decrypt);
-        measure_seal("gcm_seal_4_KiB", SHORT, 32);
-        measure_seal("gcm_seal_1_MiB", LONG, 1);
-        measure_crc32c("crc32c_64_KiB", 65536, 64);
+        measure_seal("gcm_seal_64", encrypt, 64, 2000);
+        measure_seal("gcm_seal_4_KiB", encrypt, SHORT, 32);
+        measure_seal("gcm_seal_4_KiB_by_words", encrypt_by_words, SHORT, 32);
+        measure_seal("gcm_seal_1_MiB", encrypt, LONG, 1);
+        measure_seal("gcm_seal_1_MiB_by_words", encrypt_by_words, LONG, 1);
+        measure_crc32c("crc32c_64_KiB", crc32c, 65536, 64);
+        measure_crc32c("crc32c_64_KiB_by_eight", crc32c_by_eight, 65536, 64);
+        measure_hmac("hmac_64_KiB", 65536, 64);
     }
     return 0;
 }

@@ -1,20 +1,11 @@
 -- Facts on single bytes, each by computing both sides at all 256 of them.
-use Rattle.std.proofs.Common.{◌≡◌, ℕ, ◌<◌, ◌*◌, ◌/◌, ◌%◌, List, true, map, get_or, bit_xor, refl, sym, ap, ◌∙◌, arith}
-use Rattle.std.specs.List.{range_with_len}
+use Rattle.std.proofs.Common.{◌≡◌, ℕ, ◌<◌, ◌*◌, ◌/◌, ◌%◌, true, map, get_or, bit_xor, refl, sym, ap, ◌∙◌, arith}
 use Rattle.std.proofs.lemmas.List.FromFn.{get_or-map-range_with_len}
 use Rattle.std.specs.Prelude.{nat_lt}
 use borrow.Author.Tests.{ltb-true}
+pub use Rattle.cx_permute.proofs.Bytes.{bytes, same_at_bytes}
 use Rattle.cx_aes.specs.declared.tables.TheConstants.{SBOX, INVERSE_SBOX}
 use Rattle.cx_aes.specs.Field.{xtimes, product, times, inverse, affine_bit, affine, sbox, inverse_affine_bit, inverse_affine, inverse_sbox}
-
-abbrev pub bytes : List ℕ
-bytes = range_with_len 0 256
-
--- two functions that give equal lists over all bytes are equal at a byte
-pub same_at_bytes : {X : Type 0} (f g : ℕ → X) → map f bytes ≡ map g bytes → (a : ℕ) → a < 256 → f a ≡ g a
-same_at_bytes f g e a lt =
-    sym (get_or-map-range_with_len f 0 256 a a (f a) lt (omega arith)) ∙ ap (λ xs. get_or xs a (f a)) e
-    ∙ get_or-map-range_with_len g 0 256 a a (f a) lt (omega arith)
 
 pub doubled-is : (a : ℕ) → a < 256 → bit_xor (a * 2 % 256) (27 * (a / 128)) ≡ xtimes a
 unfolding xtimes

@@ -6,3 +6,8 @@ pub mod Columns
 pub mod Blocks
 pub mod Rounds
 pub mod Keys
+pub mod Substitutions
+pub mod Mixing
+pub mod Ends
+pub mod Undoing
+pub mod Walks

@@ -4,3 +4,5 @@ pub mod Inverse
 pub mod Schedule
 pub mod KeyOf
 pub mod Columns
+pub mod Basis
+pub mod InverseBasis

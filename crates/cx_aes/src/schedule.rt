@@ -1,20 +1,22 @@
-//! The key expansion (FIPS 197, 5.2), and the cipher and its inverse under it (5.1 and 5.3).
+//! The cipher and its inverse under an expanded key (FIPS 197, 5.1 and 5.3).
 
-ghost use Rattle.std.specs.Prelude.{◌≡◌, ℕ, List, length};
-ghost use Rattle.cx_aes.specs.Cipher.{IsBlock, add, aes, next_key, round_constant, turned_word, word};
+ghost use Rattle.std.specs.Prelude.{◌≡◌, ℕ, List, map};
+ghost use Rattle.cx_aes.specs.Cipher.{IsBlock, aes};
 ghost use Rattle.cx_aes.specs.Inverse.{inverse_aes};
 ghost use Rattle.cx_aes.specs.Schedule.{IsExpanded};
 
-use crate::field::{doubled, sbox};
-use crate::inverse_steps::{inverse_mix_columns, inverse_shift_rows, inverse_sub_bytes};
-use crate::steps::{add, mix_columns, substituted_rows};
+use crate::cipher_rounds::{first_sum, last_round, round};
+use crate::expansion::{backward_keys, forward_keys, round_keys};
+use crate::inverse_rounds::{inverse_round, last_inverse_round, last_sum};
+use std::simd::prelude::*;
 
-/// The eleven round keys of a key of 16 bytes. It is made once for a key, and is `Copy`, since
+/// The round keys of a key of 16 bytes, as encryption and decryption want them. It is made once for a key, and is `Copy`, since
 /// nothing in it changes.
 #[derive(Clone, Copy)]
 pub struct Schedule {
-    keys: [[u8; 16]; 11],
-    ghost expanded: { IsExpanded keys },
+    forward: [[u8; 16]; 11],
+    backward: [[u8; 16]; 11],
+    ghost expanded: { IsExpanded forward backward },
 }
 
 impl Schedule {
@@ -24,28 +26,47 @@ impl Schedule {
     pub fn new(key: &[u8; 16]) -> Schedule
         ensures { key_of result ≡ key.now }
     {
-        let mut keys = [[0u8; 16]; 11];
-        keys[0] = *key;
-        let mut constant = 1u8;
-        for made in 0..10usize {
-            keys[made + 1] = next_key(&keys[made], constant);
-            constant = doubled(constant);
+        let keys = round_keys(key);
+        Schedule {
+            forward: forward_keys(&keys),
+            backward: backward_keys(&keys),
         }
-        Schedule { keys }
     }
 
     /// The cipher text of a block.
     pub fn encrypt(&self, block: &[u8; 16]) -> [u8; 16]
         ensures { result ≡ aes (key_of self.now) block.now }
     {
-        let mut state = add(block, &self.keys[0]);
+        let mut state = first_sum(block, u8x16::from_array(self.forward[0]));
         for done in 0..9usize {
-            state = add(
-                &mix_columns(&substituted_rows(&state)),
-                &self.keys[done + 1],
-            );
+            state = round(state, u8x16::from_array(self.forward[done + 1]));
         }
-        add(&substituted_rows(&state), &self.keys[10])
+        last_round(state, u8x16::from_array(self.forward[10])).to_array()
+    }
+
+    /// The cipher texts of four blocks, which take less time together.
+    pub fn encrypt_four(&self, blocks: &[[u8; 16]; 4]) -> [[u8; 16]; 4]
+        ensures { result ≡ map (aes (key_of self.now)) blocks.now }
+    {
+        let key = u8x16::from_array(self.forward[0]);
+        let mut a = first_sum(&blocks[0], key);
+        let mut b = first_sum(&blocks[1], key);
+        let mut c = first_sum(&blocks[2], key);
+        let mut d = first_sum(&blocks[3], key);
+        for done in 0..9usize {
+            let key = u8x16::from_array(self.forward[done + 1]);
+            a = round(a, key);
+            b = round(b, key);
+            c = round(c, key);
+            d = round(d, key);
+        }
+        let key = u8x16::from_array(self.forward[10]);
+        [
+            last_round(a, key).to_array(),
+            last_round(b, key).to_array(),
+            last_round(c, key).to_array(),
+            last_round(d, key).to_array(),
+        ]
     }
 
     /// The one block whose cipher text is `block`.
@@ -54,40 +75,43 @@ impl Schedule {
         ensures only { (b : List ℕ) → IsBlock b → aes (key_of self.now) b ≡ block.now → b ≡ result }
         ensures value { result ≡ inverse_aes (key_of self.now) block.now }
     {
-        let mut state = add(block, &self.keys[10]);
+        let mut state = last_sum(block, u8x16::from_array(self.backward[10]));
         for undone in 0..9usize {
-            state = inverse_sub_bytes(&inverse_shift_rows(&state));
-            state = inverse_mix_columns(&add(&state, &self.keys[9 - undone]));
+            state = inverse_round(state, u8x16::from_array(self.backward[9 - undone]));
         }
-        add(
-            &inverse_sub_bytes(&inverse_shift_rows(&state)),
-            &self.keys[0],
-        )
+        last_inverse_round(state, u8x16::from_array(self.backward[0])).to_array()
+    }
+
+    /// The four blocks whose cipher texts these are, each as `decrypt` gives it.
+    pub fn decrypt_four(&self, blocks: &[[u8; 16]; 4]) -> [[u8; 16]; 4]
+        ensures { result ≡ map (inverse_aes (key_of self.now)) blocks.now }
+    {
+        let key = u8x16::from_array(self.backward[10]);
+        let mut a = last_sum(&blocks[0], key);
+        let mut b = last_sum(&blocks[1], key);
+        let mut c = last_sum(&blocks[2], key);
+        let mut d = last_sum(&blocks[3], key);
+        for undone in 0..9usize {
+            let key = u8x16::from_array(self.backward[9 - undone]);
+            a = inverse_round(a, key);
+            b = inverse_round(b, key);
+            c = inverse_round(c, key);
+            d = inverse_round(d, key);
+        }
+        let key = u8x16::from_array(self.backward[0]);
+        [
+            last_inverse_round(a, key).to_array(),
+            last_inverse_round(b, key).to_array(),
+            last_inverse_round(c, key).to_array(),
+            last_inverse_round(d, key).to_array(),
+        ]
     }
 }
 
-fn add_word(a: &[u8; 4], b: &[u8; 4]) -> [u8; 4]
-    ensures { result ≡ add a.now b.now }
-{
-    [a[0] ^ b[0], a[1] ^ b[1], a[2] ^ b[2], a[3] ^ b[3]]
-}
+// Values of `T` may be sent to another thread, and shared between threads.
+fn is_sendable<T: Send + Sync>() {}
 
-fn turned_word(w: &[u8; 4], constant: u8) -> [u8; 4]
-    ensures { (n : ℕ) → constant ≡ round_constant n → result ≡ turned_word w.now n }
-{
-    [sbox(w[1]) ^ constant, sbox(w[2]), sbox(w[3]), sbox(w[0])]
-}
-
-fn next_key(k: &[u8; 16], constant: u8) -> [u8; 16]
-    ensures { (n : ℕ) → constant ≡ round_constant n → result ≡ next_key k.now n }
-{
-    let turned = turned_word(&[k[12], k[13], k[14], k[15]], constant);
-    let a = add_word(&[k[0], k[1], k[2], k[3]], &turned);
-    let b = add_word(&[k[4], k[5], k[6], k[7]], &a);
-    let c = add_word(&[k[8], k[9], k[10], k[11]], &b);
-    let d = add_word(&[k[12], k[13], k[14], k[15]], &c);
-    [
-        a[0], a[1], a[2], a[3], b[0], b[1], b[2], b[3], c[0], c[1], c[2], c[3], d[0], d[1], d[2],
-        d[3],
-    ]
+// A schedule may.
+fn sends_schedules() {
+    is_sendable::<Schedule>();
 }

@@ -1,3 +1,4 @@
 pub mod Sums
 pub mod Register
 pub mod Masks
+pub mod Blocks

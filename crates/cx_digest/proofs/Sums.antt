@@ -18,11 +18,11 @@ pub goes_on : GoesOn
 unfolding crc32c
 goes_on seed first second = ap (after_bits seed) (message_bits-append first second) ∙ after_bits-append seed (message_bits first) (message_bits second)
 
-crc32c_none : (state : ℕ) → crc32c state [] ≡ state
+pub crc32c_none : (state : ℕ) → crc32c state [] ≡ state
 unfolding crc32c message_bits after_bits
 crc32c_none state = refl
 
-crc32c_first : (state b : ℕ) (bytes : List ℕ) → crc32c state (b ∷ bytes) ≡ crc32c (after_bits state (low_bits 8 b)) bytes
+pub crc32c_first : (state b : ℕ) (bytes : List ℕ) → crc32c state (b ∷ bytes) ≡ crc32c (after_bits state (low_bits 8 b)) bytes
 unfolding crc32c message_bits
 crc32c_first state b bytes = after_bits-append state (low_bits 8 b) (message_bits bytes)
 

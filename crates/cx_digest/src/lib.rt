@@ -4,6 +4,7 @@
 
 mod checksum;
 mod message_code;
+mod tables;
 mod whole_text;
 
 pub use checksum::{crc32c, crc32c_goes_on};

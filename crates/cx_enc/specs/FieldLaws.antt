@@ -9,7 +9,7 @@ use Rattle.cx_base.specs.Names.{Name, is_id, with_id}
 use Rattle.cx_enc.specs.Moments.{Moment}
 use Rattle.cx_enc.specs.declared.keys.Key.{Key}
 use Rattle.cx_enc.specs.declared.tickets.TicketBlob.{TicketBlob}
-use Rattle.cx_enc.specs.Forms.{Form, IsLawful, u8_form, u16_form, u32_form, u64_form, bytes_form, blob_form, pair, seen, field, judged}
+use Rattle.cx_enc.specs.Forms.{Form, IsLawful, u8_form, u16_form, u32_form, u64_form, bytes_form, blob_form, pair, field}
 use Rattle.cx_enc.specs.Values.{moment_of, moment_parts, time_form, reading_of, moment_at, reading_form, secret_of, secret_key, secret_form, sized_form, ticket_of, ticket_parts, ticket_form, count_form, key_of, key_parts, key_form, addr_of, addr_parts, addr_form, number_of, kind_of, kind_form, name_of, name_parts, name_form, fixed_of, fixed, flag_of, flag_number, flag_form}
 use Rattle.cx_enc.specs.FormLaws.{u8-lawful, u16-lawful, u32-lawful, u64-lawful, bytes-lawful, blob-lawful, pair-lawful, seen-lawful, field-lawful, checked-lawful, judged-lawful}
 

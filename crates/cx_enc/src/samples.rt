@@ -4,7 +4,7 @@
 use crate::{
     Chained, Cut, Encoded, EncodedInPlace, Key, ReadFault, ReadRefusal, ReadsPart, TicketBlob,
     pass_items, put_addr, put_blob, put_flag, put_key, put_kind, put_many, put_name, put_reading,
-    put_secret, put_sized, put_ticket, put_u8, put_u32, put_u64, take_items, take_many,
+    put_secret, put_sized, put_ticket, put_u8, put_u32, put_u64, take_counted, take_many,
 };
 use cx_base::{Addr, Blob, EntityName, EntityType, Items, Reading};
 use std::alloc::{AllocError, Global};
@@ -98,11 +98,9 @@ impl Encoded for Offer {
     ghost Bound = { λ o. (length o.modes ≤ 16) × (length o.payload < 2 ^ 32) };
 
     fn read(alloc: Global, cut: &mut Cut<'_>) -> Result<Offer, ReadRefusal> {
-        let method = cut.take_u32()?;
-        let count = cut.take_count(0, 16)?;
         Ok(Offer {
-            method,
-            modes: take_items(alloc, cut, count)?,
+            method: cut.take_u32()?,
+            modes: take_counted(alloc, cut, 0, 16)?,
             payload: Blob::of(alloc, cut.take_blob()?)?,
         })
     }

@@ -1,4 +1,3 @@
-pub mod Shifts
-pub mod Products
 pub mod KeyStream
 pub mod Padding
+pub mod Passing

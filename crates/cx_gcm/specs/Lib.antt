@@ -1,4 +1,4 @@
-pub mod Blocks
 pub mod Gcm
-pub mod Multiples
-pub mod Key
+pub mod Masks
+pub mod Prepared
+pub mod GcmKeyOf

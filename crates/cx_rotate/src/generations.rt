@@ -144,7 +144,8 @@ impl Generations {
 
     /// The three that stand.
     pub fn all(&self) -> Option<[Generation; 3]>
-        ensures { MatchOption result (self.now ≡ []) (λ all. self.now ≡ all) }
+        ensures held { MatchOption result (self.now ≡ []) (λ all. self.now ≡ all) }
+        ensures rising { IsRising self.now }
     {
         let three = self.held?;
         Some([three.previous, three.current, three.next])

@@ -1,4 +1,5 @@
+pub mod Causes
+pub mod Commands
 pub mod Inputs
-pub mod Refusals
 pub mod Replays
 pub mod Statuses

@@ -1,6 +1,5 @@
--- What a replay reads and writes.
+-- What a source gave, and what a replay makes of it.
 use Rattle.std.specs.Prelude.{ℕ, ◌≡◌, List, [], ◌++◌, Option, Some, None}
-use Rattle.cx_base.specs.Streams.{Takes, TakesFront}
 use Rattle.cx_schedule.specs.declared.lines.Line.{Line}
 use Rattle.cx_schedule.specs.Files.{Lines, IsShort}
 use Rattle.cx_journal.specs.JournalText.{journal_text}
@@ -31,21 +30,3 @@ pub record Replays (bytes text : List ℕ) : Type 0 where
   pub backed : IsBacked (journal_of script)
   pub in_session : IsInSession (journal_of script)
   pub keeps_keys : KeepsKeys (journal_of script)
-
--- the whole input was read, and this text is that of its replay
-pub record ReplaysAll (left now : Option (List ℕ)) (text : List ℕ) : Type 0 where
-  pub bytes : List ℕ
-  pub read : GaveAll left now bytes
-  pub replays : Replays bytes text
-
--- the whole input was read, and the text of its replay was written
-pub record WritesReplay (left now taken after : Option (List ℕ)) : Type 0 where
-  pub text : List ℕ
-  pub replay : ReplaysAll left now text
-  pub wrote : Takes taken after text
-
--- the whole input was read, and a front of the text of its replay was written
-pub record WritesFront (left now taken after : Option (List ℕ)) : Type 0 where
-  pub text : List ℕ
-  pub replay : ReplaysAll left now text
-  pub wrote : TakesFront taken after text

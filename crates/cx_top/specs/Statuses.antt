@@ -1,11 +1,13 @@
 -- The statuses of a run.
-use Rattle.std.specs.Prelude.{ℕ, ◌≡◌}
+use Rattle.std.specs.Prelude.{ℕ, ◌≡◌, Some, None}
+use Rattle.cx_keyring.specs.declared.refusals.KeyringRefusal.{KeyringRefusal}
+use Rattle.cx_keyring.specs.declared.refusals.KeyringRefusal.TheVariants as keyring
 use Rattle.cx_schedule.specs.declared.refusals.ScheduleRefusal.{ScheduleRefusal}
 use Rattle.cx_schedule.specs.declared.refusals.ScheduleRefusal.TheVariants as refusal
 use Rattle.cx_top.specs.declared.input.Unread.{Unread}
 use Rattle.cx_top.specs.declared.input.Unread.TheVariants as unread
 use Rattle.cx_top.specs.declared.status.Status.{Status}
-use Rattle.cx_top.specs.declared.status.Status.TheVariants.{Done, Usage, BadSchedule, ReadFault, WriteFault, OutOfMemory, TooLong, NotYet}
+use Rattle.cx_top.specs.declared.status.Status.TheVariants.{Done, Usage, BadSchedule, ReadFault, WriteFault, OutOfMemory, BadKeyring, TooLong, NotYet}
 
 -- the number with which the program ends
 abbrev pub number_of : Status → ℕ
@@ -15,6 +17,7 @@ number_of (BadSchedule _ _) = 2
 number_of ReadFault = 3
 number_of WriteFault = 4
 number_of OutOfMemory = 5
+number_of (BadKeyring _ _) = 6
 number_of TooLong = 12
 number_of (NotYet _) = 13
 
@@ -24,6 +27,12 @@ schedule_status refusal.TooLong = TooLong
 schedule_status (refusal.BadLine line why) = BadSchedule line why
 schedule_status (refusal.NotYet line) = NotYet line
 schedule_status refusal.OutOfMemory = OutOfMemory
+
+-- the status of a refused keyring
+abbrev pub keyring_status : KeyringRefusal → Status
+keyring_status (keyring.BadLine line why) = BadKeyring line (Some why)
+keyring_status (keyring.TooMany limit) = BadKeyring 0 None
+keyring_status keyring.OutOfMemory = OutOfMemory
 
 -- the status of an input that was not read to its end
 abbrev pub input_status : Unread → Status
@@ -39,6 +48,7 @@ IsServed Usage = ⊥
 IsServed (BadSchedule _ _) = ⊥
 IsServed ReadFault = ⊥
 IsServed WriteFault = ⊥
+IsServed (BadKeyring _ _) = ⊥
 IsServed TooLong = ⊥
 IsServed (NotYet _) = ⊥
 
@@ -50,5 +60,6 @@ IsOrMemory expected Usage = Usage ≡ expected
 IsOrMemory expected (BadSchedule line why) = BadSchedule line why ≡ expected
 IsOrMemory expected ReadFault = ReadFault ≡ expected
 IsOrMemory expected WriteFault = WriteFault ≡ expected
+IsOrMemory expected (BadKeyring line why) = BadKeyring line why ≡ expected
 IsOrMemory expected TooLong = TooLong ≡ expected
 IsOrMemory expected (NotYet line) = NotYet line ≡ expected

@@ -1,12 +1,15 @@
 //! The top call: everything that the program does, over a source and a sink.
 #![tactic(auto)]
 
+mod commands;
 mod input;
+mod keyring;
 mod replay;
 mod sentences;
 mod status;
 #[cfg(test)]
 mod tests;
+mod top;
 
-pub use replay::run;
 pub use status::Status;
+pub use top::run;

@@ -17,24 +17,31 @@ impl fmt::Display for Status {
                 why,
                 remedy(*why)
             ),
+            Status::BadKeyring {
+                line,
+                why: Some(why),
+            } => write!(f, "line {} of the keyring is wrong: {}", line, why),
+            Status::BadKeyring { why: None, .. } => write!(
+                f,
+                "the keyring has more than 4,096 sections; keep those of the entities that are in use"
+            ),
             Status::ReadFault => write!(
                 f,
-                "the schedule could not be read from standard input, and nothing was written; give a file that can be \
-                read, as in: cephx_cli replay < FILE"
+                "standard input could not be read, and nothing was written; give a file that can be read, as in: \
+                cephx_cli replay < FILE"
             ),
             Status::WriteFault => write!(
                 f,
-                "the journal could not be written whole to standard output; see that there is room for it and that \
-                its reader doesn't end early, and run the schedule again"
+                "standard output could not take the whole text; see that there is room for it and that its reader \
+                doesn't end early, and run the command again"
             ),
             Status::OutOfMemory => write!(
                 f,
-                "memory was wanting, and nothing was written; give the program more memory, or a shorter schedule"
+                "memory was wanting, and nothing was written; give the program more memory, or a shorter input"
             ),
             Status::TooLong => write!(
                 f,
-                "the schedule is too long: at most 1,048,576 bytes and 20,000 lines are read; cut it into schedules of \
-                their own"
+                "the input is too long: at most 1,048,576 bytes and 20,000 lines are read; cut it into files of their own"
             ),
             Status::NotYet { line } => write!(
                 f,
@@ -53,7 +60,12 @@ const USAGE: &str = "these words name no command; the commands that are served a
       printf 'entity client.a\\nclock 1000\\nlogin client.a\\n' | cephx_cli replay
       cephx_cli replay < examples/first_login.schedule
 
-docs/guide.md says what the lines of a schedule and of a journal mean";
+  cephx_cli keyring
+      reads a keyring from standard input, and writes it to standard output in its printed form, as in:
+      cephx_cli keyring < /etc/ceph/ceph.client.admin.keyring
+      cephx_cli keyring < examples/keyrings/two_entities.keyring
+
+docs/guide.md says what the lines of a schedule, of a journal and of a keyring mean";
 
 // What to try where a line has this fault.
 fn remedy(why: LineFault) -> &'static str {

@@ -4,6 +4,7 @@ ghost use Rattle.std.specs.Prelude.{◌≡◌};
 ghost use Rattle.cx_top.specs.Statuses.{number_of};
 
 use crate::input::Unread;
+use cx_keyring::{KeyringFault, KeyringRefusal};
 use cx_schedule::{LineFault, ScheduleRefusal};
 use std::alloc::AllocError;
 
@@ -22,6 +23,12 @@ pub enum Status {
     WriteFault,
     /// Memory was wanting.
     OutOfMemory,
+    /// This line, from 1, is the first of the keyring that is wrong, and `why` is the first fault that it has. The line 0 has
+    /// none: there are more than 4,096 sections.
+    BadKeyring {
+        line: u64,
+        why: Option<KeyringFault>,
+    },
     /// The input has more than 1,048,576 bytes or 20,000 lines.
     TooLong,
     /// This line, from 1, is the first outside the grammar, and its first word begins a line that is not served yet.
@@ -40,6 +47,7 @@ impl Status {
             Status::ReadFault => 3,
             Status::WriteFault => 4,
             Status::OutOfMemory => 5,
+            Status::BadKeyring { .. } => 6,
             Status::TooLong => 12,
             Status::NotYet { .. } => 13,
         }
@@ -69,6 +77,24 @@ impl From<ScheduleRefusal> for Status {
             ScheduleRefusal::BadLine { line, why } => Status::BadSchedule { line, why },
             ScheduleRefusal::NotYet { line } => Status::NotYet { line },
             ScheduleRefusal::OutOfMemory => Status::OutOfMemory,
+        }
+    }
+}
+
+impl From<KeyringRefusal> for Status {
+    ghost use Rattle.std.specs.Prelude.{◌≡◌};
+    ghost use Rattle.cx_top.specs.Statuses.{keyring_status};
+
+    ghost from_gives = { λ refusal status. status ≡ keyring_status refusal };
+
+    fn from(refusal: KeyringRefusal) -> Status {
+        match refusal {
+            KeyringRefusal::BadLine { line, why } => Status::BadKeyring {
+                line,
+                why: Some(why),
+            },
+            KeyringRefusal::TooMany(_) => Status::BadKeyring { line: 0, why: None },
+            KeyringRefusal::OutOfMemory => Status::OutOfMemory,
         }
     }
 }

@@ -3,6 +3,7 @@
 use crate::replay::run;
 use crate::status::Status;
 use cx_base::{Blob, ByteSource, Sink, VecSink};
+use cx_keyring::KeyringFault;
 use cx_schedule::LineFault;
 use std::alloc::{AllocError, Global};
 use std::process::Abort;
@@ -352,11 +353,115 @@ fn each_word_that_is_to_come_is_told(rt: HostRuntime) -> Result<(), AllocError> 
     Ok(())
 }
 
+/// A keyring, the status of its reading, and what is written.
+struct Keyring {
+    shows: &'static str,
+    text: &'static str,
+    status: Status,
+    printed: &'static str,
+}
+
+static KEYRINGS: [Keyring; 5] = [
+    Keyring {
+        shows: "a keyring of one entity is printed with tabs",
+        text: "[client.vm]\nkey = AQAAAAAAAAAAABAAAAECAwQFBgcICQoLDA0ODw==\ncaps mon = \"profile rbd\"\n\
+            caps osd = \"profile rbd pool=vms, allow r pool=images\"\n",
+        status: Status::Done,
+        printed: "[client.vm]\n\tkey = AQAAAAAAAAAAABAAAAECAwQFBgcICQoLDA0ODw==\n\tcaps mon = \"profile rbd\"\n\
+            \tcaps osd = \"profile rbd pool=vms, allow r pool=images\"\n",
+    },
+    Keyring {
+        shows: "an empty keyring is one",
+        text: "",
+        status: Status::Done,
+        printed: "",
+    },
+    Keyring {
+        shows: "of two lines that are wrong the first is named",
+        text: "[client.a]\nkey AQAA\n\tkey = AQAAAAAAAAAAABAAAAECAwQFBgcICQoLDA0ODw==\n\n\n\n\n\nany\n",
+        status: Status::BadKeyring {
+            line: 2,
+            why: Some(KeyringFault::Unreadable),
+        },
+        printed: "",
+    },
+    Keyring {
+        shows: "a section without a key is named by its own line",
+        text: "[client.a]\n\tcaps mon = \"allow r\"\n",
+        status: Status::BadKeyring {
+            line: 1,
+            why: Some(KeyringFault::NoKey),
+        },
+        printed: "",
+    },
+    Keyring {
+        shows: "a schedule is no keyring",
+        text: "entity client.a\n",
+        status: Status::BadKeyring {
+            line: 1,
+            why: Some(KeyringFault::NoSection),
+        },
+        printed: "",
+    },
+];
+
+fn check_keyring(rt: &impl Abort, alloc: Global, row: &Keyring) -> Result<(), AllocError> {
+    let (status, sink) = run_over(alloc, &["keyring"], row.text.as_bytes(), &[], ROOM)?;
+    assert_eq!(rt; status, row.status, "{}", row.shows);
+    assert_eq!(rt; sink.taken(), row.printed.as_bytes(), "{}", row.shows);
+    Ok(())
+}
+
 #[test]
-fn only_the_one_word_replay_is_served(rt: HostRuntime) -> Result<(), AllocError> {
+fn each_keyring_has_its_status_and_printed_form(rt: HostRuntime) -> Result<(), AllocError> {
+    for row in &KEYRINGS {
+        check_keyring(&rt, rt.alloc(), row)?;
+    }
+    Ok(())
+}
+
+// So many sections.
+fn sections(alloc: Global, count: u32) -> Result<String, AllocError> {
+    let mut text = String::new(alloc);
+    for place in 0..count {
+        let section = format!(in alloc;
+            "[client.c{place}]\n\tkey = AQAAAAAAAAAAABAAAAECAwQFBgcICQoLDA0ODw==\n"
+        )?;
+        text.push_str(&section)?;
+    }
+    Ok(text)
+}
+
+#[test]
+fn a_keyring_of_4096_sections_is_printed_and_no_longer_one(
+    rt: HostRuntime,
+) -> Result<(), AllocError> {
+    let most = sections(rt.alloc(), 4096)?;
+    let (status, sink) = run_over(rt.alloc(), &["keyring"], most.as_bytes(), &[], most.len())?;
+    assert_eq!(rt; status, Status::Done);
+    assert!(rt; sink.taken() == most.as_bytes());
+    let more = sections(rt.alloc(), 4097)?;
+    let (status, _) = run_over(rt.alloc(), &["keyring"], more.as_bytes(), &[], ROOM)?;
+    assert_eq!(rt; status, Status::BadKeyring { line: 0, why: None });
+    Ok(())
+}
+
+#[test]
+fn the_limits_of_an_input_go_before_its_lines(rt: HostRuntime) -> Result<(), AllocError> {
+    let many = comments(rt.alloc(), 20_001)?;
+    let (long, _) = run_over(rt.alloc(), &["keyring"], &many, &[], ROOM)?;
+    assert_eq!(rt; long, Status::TooLong);
+    let fewer = comments(rt.alloc(), 20_000)?;
+    let (short, _) = run_over(rt.alloc(), &["keyring"], &fewer, &[], ROOM)?;
+    assert_eq!(rt; short, Status::Done);
+    Ok(())
+}
+
+#[test]
+fn only_the_one_word_of_a_command_is_served(rt: HostRuntime) -> Result<(), AllocError> {
     let input = ROWS[0].schedule.as_bytes();
     let (none, _) = run_over(rt.alloc(), &[], input, &[], ROOM)?;
-    let (two, _) = run_over(rt.alloc(), &["replay", "now"], input, &[], ROOM)?;
+    let (two, _) = run_over(rt.alloc(), &["replay", "keyring"], input, &[], ROOM)?;
     let (other, sink) = run_over(rt.alloc(), &["replays"], input, &[], ROOM)?;
     assert_eq!(rt; none, Status::Usage);
     assert_eq!(rt; two, Status::Usage);

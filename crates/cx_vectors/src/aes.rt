@@ -309,3 +309,17 @@ fn each_bit_of_the_plain_text_and_of_the_key_counts_as_in_openssl(rt: HostRuntim
         assert!(rt; encrypts_to(bit, 0, BY_KEY_BIT[i]), "key bit {i}");
     }
 }
+
+// Four different blocks at once, in the order in which they came.
+#[test]
+fn four_blocks_are_four_times_one(rt: HostRuntime) {
+    let schedule = Schedule::new(&[0; 16]);
+    let mut plain = [[0u8; 16]; 4];
+    let mut cipher = [[0u8; 16]; 4];
+    for i in 0..4usize {
+        plain[i] = (1u128 << (127 - 40 * i)).to_be_bytes();
+        cipher[i] = BY_PLAIN_BIT[40 * i].to_be_bytes();
+    }
+    assert!(rt; schedule.encrypt_four(&plain) == cipher);
+    assert!(rt; schedule.decrypt_four(&cipher) == plain);
+}

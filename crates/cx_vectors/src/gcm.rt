@@ -3,7 +3,7 @@
 ghost use Rattle.std.specs.Prelude.{◌≡◌, IfOk, vec_len};
 
 use cx_aes::Schedule;
-use cx_gcm::{BadTag, Multiples, open_in_place, seal_in_place};
+use cx_gcm::{BadTag, GcmKey, Multiples, open_in_place, seal_in_place};
 use std::alloc::{AllocError, Global};
 use std::test::Fail;
 
@@ -119,20 +119,20 @@ fn the_published_cases_hold_both_ways(rt: HostRuntime) -> Result<(), Fail> {
 
 #[test]
 fn texts_of_ten_lengths_seal_as_in_openssl_and_open_again(rt: HostRuntime) -> Result<(), Fail> {
-    let key = schedule_of(OPENSSL_KEY);
+    let key = GcmKey::new(&OPENSSL_KEY.to_be_bytes());
     let front = bytes_of(rt.alloc(), &BYTES_80)?;
     for (length, tag) in BY_LENGTH.iter() {
         assert!(rt; *length <= 4096);
         let plain = text_of_length(rt.alloc(), *length)?;
         let mut bytes = text_of_length(rt.alloc(), *length)?;
-        let sealed = seal_in_place(&key, OPENSSL_NONCE, &mut bytes);
+        let sealed = key.seal_in_place(OPENSSL_NONCE, &mut bytes);
         assert_eq!(rt; u128::from_be_bytes(sealed), *tag, "at {length}");
         assert!(rt;
             bytes.starts_with(&front) || front.starts_with(&bytes),
             "at {length}"
         );
         assert_eq!(rt;
-            open_in_place(&key, OPENSSL_NONCE, &mut bytes, &sealed),
+            key.open_in_place(OPENSSL_NONCE, &mut bytes, &sealed),
             Ok(()),
             "at {length}"
         );

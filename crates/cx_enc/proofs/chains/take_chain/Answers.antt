@@ -1,5 +1,4 @@
 -- The loop reads so many values, each behind what stands before it.
-use Rattle.std.proofs.Common.{refl}
 use Rattle.std.proofs.lemmas.Result.{err_from_is_err_and}
 use Rattle.cx_enc.specs.Forms.{chain_at}
 use Rattle.cx_enc.specs.Reading.{spot}

@@ -1,5 +1,5 @@
 -- The part of a value that is spelled by all of the bytes is read exactly where that value is there and nothing is left.
-use Rattle.std.proofs.Common.{◌≡◌, Ok, sym, ap, ◌∙◌, arith}
+use Rattle.std.proofs.Common.{sym, ap, ◌∙◌, arith}
 use Rattle.std.proofs.lemmas.Result.{err_from_is_err_and}
 use Rattle.cx_enc.specs.Reading.{spot}
 use Rattle.cx_enc.specs.Whole.{start}

@@ -1,53 +1,23 @@
-use Rattle.std.proofs.Common.{◌≡◌, ◌+◌, [], get_or, refl, ap, ◌∙◌, sym, subst, inl, inr, arith, length-set, get_or-set_same, get_or-set_other}
-use Rattle.std.proofs.lemmas.Bool.{cases_lt}
-use Rattle.std.proofs.lemmas.List.FromFn.{fill_by_all}
-use Rattle.cx_aes.specs.Field.{xtimes}
-use Rattle.cx_aes.specs.Cipher.{IsBlock, next_key, round_constant, round_key}
-use Rattle.cx_aes.proofs.Keys.{IsBlock-array, round_constant_more, round_key_more, round_key_none}
+use Rattle.std.proofs.Common.{◌≡◌, [], get_or, sym, subst}
+use Rattle.cx_aes.specs.Cipher.{IsBlock}
+use Rattle.cx_aes.specs.Schedule.{AreBackward, AreForward}
+use Rattle.cx_aes.proofs.Keys.{IsBlock-array}
 use Rattle.cx_aes.proofs.schedule.Schedule.new.Goals as goal
-
-pub loop-made-init : goal.loop-made-init
-unfolding round_constant round_key
-loop-made-init c = record {
-  len = refl;
-  constant = refl;
-  expanded = λ k le. let zero : k ≡ 0 = omega arith in rw zero refl;
-}
-
-pub loop-made-preserved : goal.loop-made-preserved
-loop-made-preserved c =
-    let i = c.loop-made.made in
-    let before = c.loop-made.invariant in
-    record {
-      len = length-set _ _ _ ∙ before.len;
-      constant = c.doubled-constant.ensures ∙ ap xtimes before.constant ∙ sym (round_constant_more i);
-      expanded = λ k le.
-          elim (cases_lt k (i + 1)) [
-            | inl lt ↦
-                get_or-set_other c.loop-made.keys (i + 1) k c.next_key.result [] (omega arith) ∙ before.expanded k (omega arith)
-            | inr ge ↦
-                let here : k ≡ i + 1 = omega arith in
-                rw here
-                (get_or-set_same c.loop-made.keys (i + 1) c.next_key.result [] (omega arith)
-                ∙ c.next_key.ensures (i + 1) before.constant
-                ∙ ap (λ v. next_key v (i + 1)) (before.expanded i (omega arith))
-                ∙ sym (round_key_more c.args.key.now i))
-          ];
-    }
 
 pub invariant_of-result : goal.invariant_of-result
 invariant_of-result c =
     let key = c.args.key.now in
-    let keys = c.loop-made.keys in
-    let filled = c.loop-made.invariant in
-    let first : get_or keys 0 [] ≡ key = filled.expanded 0 (omega arith) ∙ round_key_none key in
+    let forward = c.forward_keys.result in
+    let backward = c.backward_keys.result in
+    let are_backward = c.backward_keys.ensures key c.round_keys-keys.ensures in
+    let same : key ≡ get_or backward 0 [] = sym are_backward.first in
     record {
       expanded = record {
-        block = subst IsBlock (sym first) (IsBlock-array key c.told-key c.fits-key);
-        keys = fill_by_all (round_key (get_or keys 0 [])) keys 11 [] filled.len
-            (λ k lt. filled.expanded k (omega arith) ∙ ap (λ v. round_key v k) (sym first));
+        block = subst IsBlock same (IsBlock-array key c.told-key c.fits-key);
+        are_forward = subst (λ k. AreForward k forward) same (c.forward_keys.ensures key c.round_keys-keys.ensures);
+        are_backward = subst (λ k. AreBackward k backward) same are_backward;
       };
     }
 
 pub returns : goal.returns
-returns c = let filled = c.loop-made.invariant in filled.expanded 0 (omega arith) ∙ round_key_none c.args.key.now
+returns c = let are_backward = c.backward_keys.ensures c.args.key.now c.round_keys-keys.ensures in are_backward.first

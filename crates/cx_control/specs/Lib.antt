@@ -1,0 +1,9 @@
+pub mod Auth
+pub mod BadMethod
+pub mod Calls
+pub mod Hello
+pub mod Idents
+pub mod KindByte
+pub mod Reconnects
+pub mod Refusing
+pub mod Upkeep

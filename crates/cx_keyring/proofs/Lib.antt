@@ -1,0 +1,13 @@
+pub mod Apart
+pub mod Blanks
+pub mod Clean
+pub mod GoodLines
+pub mod GoodRings
+pub mod Judging
+pub mod KeyTexts
+pub mod Places
+pub mod Printed
+pub mod PrintedLines
+pub mod Reasons
+pub mod SaidRings
+pub mod SectionLines

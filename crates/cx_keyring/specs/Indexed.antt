@@ -1,0 +1,25 @@
+-- Where names stand in a list, as the index keeps it.
+use Rattle.std.specs.Prelude.{ℕ, Option, Some, None, String}
+use Rattle.std.specs.BTreeMap.{BTreeMap, get_by_text}
+use Rattle.std.specs.declared.alloc.Global.{Global}
+use Rattle.cx_base.specs.Names.{Name}
+use Rattle.cx_base.specs.declared.kinds.EntityType.{EntityType}
+use Rattle.cx_base.specs.declared.kinds.EntityType.TheVariants.{Mon, Mds, Osd, Client, Mgr, Auth}
+use Rattle.cx_keyring.specs.declared.index.Places.{Places}
+
+-- the place of the name of a type
+abbrev pub place_at : Places → EntityType → Option ℕ
+place_at places Mon = places.mon
+place_at places Mds = places.mds
+place_at places Osd = places.osd
+place_at places Client = places.client
+place_at places Mgr = places.mgr
+place_at places Auth = places.auth
+
+abbrev pub place_among : Option Places → EntityType → Option ℕ
+place_among None kind = None
+place_among (Some places) kind = place_at places kind
+
+-- the place of a name
+abbrev pub place_of : BTreeMap (String Global) Places → Name → Option ℕ
+place_of ids name = place_among (get_by_text ids name.id) name.kind

@@ -1,0 +1,4 @@
+pub mod Bytes
+pub mod Swizzles
+pub mod Maps
+pub mod Places

@@ -1,0 +1,5 @@
+pub mod Kinds
+pub mod Lengths
+pub mod Proof
+pub mod Records
+pub mod Sealing

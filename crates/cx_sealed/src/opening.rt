@@ -1,0 +1,217 @@
+//! Opening and sealing.
+
+ghost use Rattle.std.specs.Prelude.{IfOk};
+ghost use Rattle.cx_sealed.specs.Records.{service_ticket_layout, ticket_info_layout, authorize_layout, authorize_challenge_layout, authorize_reply_layout, rotating_reply_layout, connection_secret_layout};
+ghost use Rattle.cx_sealed.specs.Sealing.{IsOpened, IsReadFrom, IsSealed};
+
+use crate::authorize::Authorize;
+use crate::authorize_challenge::AuthorizeChallenge;
+use crate::authorize_reply::AuthorizeReply;
+use crate::connection_secret::ConnectionSecret;
+use crate::records::Record;
+use crate::refusals::SealedRefusal;
+use crate::rotating_reply::RotatingReply;
+use crate::service_ticket::ServiceTicket;
+use crate::ticket_info::TicketInfo;
+use cx_aes::Schedule;
+use cx_base::Blob;
+use cx_cbc::{OpenRefusal, SealRefusal, open, seal};
+use cx_enc::{Encoded, ReadRefusal, read_whole, write_whole};
+use std::alloc::{AllocError, Global};
+
+// Opens a record.
+pub(crate) fn open_record<T: Record>(
+    alloc: Global,
+    key: &[u8; 16],
+    sealed: &[u8],
+) -> Result<T, SealedRefusal>
+    ensures { IsOpened T.layout.form key.now sealed.now result }
+{
+    match open(alloc, &Schedule::new(key), sealed) {
+        Ok(content) => read_content(alloc, content.bytes()),
+        Err(OpenRefusal::Unopened) => Err(SealedRefusal::Unopened),
+        Err(OpenRefusal::OutOfMemory) => Err(SealedRefusal::OutOfMemory),
+    }
+}
+
+// Reads the content of a record.
+fn read_content<T: Record>(alloc: Global, content: &[u8]) -> Result<T, SealedRefusal>
+    ensures { IsReadFrom T.layout.form content.now result }
+{
+    match read_whole(alloc, content) {
+        Ok(value) => Ok(value),
+        Err(ReadRefusal::OutOfMemory) => Err(SealedRefusal::OutOfMemory),
+        Err(ReadRefusal::Fault(_)) => Err(SealedRefusal::Misread),
+        Err(ReadRefusal::LeftOver(_)) => Err(SealedRefusal::Misread),
+    }
+}
+
+// Seals a record.
+fn seal_record<T: Record>(alloc: Global, key: &[u8; 16], value: &T) -> Result<Blob, AllocError>
+    requires { T.Bound value.now }
+    ensures { IfOk result (IsSealed T.layout.form key.now value.now) }
+{
+    let content = write_whole(alloc, value)?;
+    match seal(alloc, &Schedule::new(key), content.bytes()) {
+        Ok(sealed) => Ok(sealed),
+        Err(SealRefusal::OutOfMemory) => Err(AllocError),
+        Err(SealRefusal::TooLong) => unreachable!(),
+    }
+}
+
+/// Opens a `ServiceTicket`.
+pub fn open_service_ticket(
+    alloc: Global,
+    key: &[u8; 16],
+    sealed: &[u8],
+) -> Result<ServiceTicket, SealedRefusal>
+    ensures { IsOpened service_ticket_layout.form key.now sealed.now result }
+{
+    open_record(alloc, key, sealed)
+}
+
+/// Seals a `ServiceTicket`.
+pub fn seal_service_ticket(
+    alloc: Global,
+    key: &[u8; 16],
+    value: &ServiceTicket,
+) -> Result<Blob, AllocError>
+    requires { ⟦<ServiceTicket as Encoded>⟧.Bound value.now }
+    ensures { IfOk result (IsSealed service_ticket_layout.form key.now value.now) }
+{
+    seal_record(alloc, key, value)
+}
+
+/// Opens a `TicketInfo`.
+pub fn open_ticket_info(
+    alloc: Global,
+    key: &[u8; 16],
+    sealed: &[u8],
+) -> Result<TicketInfo, SealedRefusal>
+    ensures { IsOpened ticket_info_layout.form key.now sealed.now result }
+{
+    open_record(alloc, key, sealed)
+}
+
+/// Seals a `TicketInfo`.
+pub fn seal_ticket_info(
+    alloc: Global,
+    key: &[u8; 16],
+    value: &TicketInfo,
+) -> Result<Blob, AllocError>
+    requires { ⟦<TicketInfo as Encoded>⟧.Bound value.now }
+    ensures { IfOk result (IsSealed ticket_info_layout.form key.now value.now) }
+{
+    seal_record(alloc, key, value)
+}
+
+/// Opens an `Authorize`.
+pub fn open_authorize(
+    alloc: Global,
+    key: &[u8; 16],
+    sealed: &[u8],
+) -> Result<Authorize, SealedRefusal>
+    ensures { IsOpened authorize_layout.form key.now sealed.now result }
+{
+    open_record(alloc, key, sealed)
+}
+
+/// Seals an `Authorize`.
+pub fn seal_authorize(alloc: Global, key: &[u8; 16], value: &Authorize) -> Result<Blob, AllocError>
+    requires { ⟦<Authorize as Encoded>⟧.Bound value.now }
+    ensures { IfOk result (IsSealed authorize_layout.form key.now value.now) }
+{
+    seal_record(alloc, key, value)
+}
+
+/// Opens an `AuthorizeChallenge`.
+pub fn open_authorize_challenge(
+    alloc: Global,
+    key: &[u8; 16],
+    sealed: &[u8],
+) -> Result<AuthorizeChallenge, SealedRefusal>
+    ensures { IsOpened authorize_challenge_layout.form key.now sealed.now result }
+{
+    open_record(alloc, key, sealed)
+}
+
+/// Seals an `AuthorizeChallenge`.
+pub fn seal_authorize_challenge(
+    alloc: Global,
+    key: &[u8; 16],
+    value: &AuthorizeChallenge,
+) -> Result<Blob, AllocError>
+    requires { ⟦<AuthorizeChallenge as Encoded>⟧.Bound value.now }
+    ensures { IfOk result (IsSealed authorize_challenge_layout.form key.now value.now) }
+{
+    seal_record(alloc, key, value)
+}
+
+/// Opens an `AuthorizeReply`.
+pub fn open_authorize_reply(
+    alloc: Global,
+    key: &[u8; 16],
+    sealed: &[u8],
+) -> Result<AuthorizeReply, SealedRefusal>
+    ensures { IsOpened authorize_reply_layout.form key.now sealed.now result }
+{
+    open_record(alloc, key, sealed)
+}
+
+/// Seals an `AuthorizeReply`.
+pub fn seal_authorize_reply(
+    alloc: Global,
+    key: &[u8; 16],
+    value: &AuthorizeReply,
+) -> Result<Blob, AllocError>
+    requires { ⟦<AuthorizeReply as Encoded>⟧.Bound value.now }
+    ensures { IfOk result (IsSealed authorize_reply_layout.form key.now value.now) }
+{
+    seal_record(alloc, key, value)
+}
+
+/// Opens a `RotatingReply`.
+pub fn open_rotating_reply(
+    alloc: Global,
+    key: &[u8; 16],
+    sealed: &[u8],
+) -> Result<RotatingReply, SealedRefusal>
+    ensures { IsOpened rotating_reply_layout.form key.now sealed.now result }
+{
+    open_record(alloc, key, sealed)
+}
+
+/// Seals a `RotatingReply`.
+pub fn seal_rotating_reply(
+    alloc: Global,
+    key: &[u8; 16],
+    value: &RotatingReply,
+) -> Result<Blob, AllocError>
+    requires { ⟦<RotatingReply as Encoded>⟧.Bound value.now }
+    ensures { IfOk result (IsSealed rotating_reply_layout.form key.now value.now) }
+{
+    seal_record(alloc, key, value)
+}
+
+/// Opens a `ConnectionSecret`.
+pub fn open_connection_secret(
+    alloc: Global,
+    key: &[u8; 16],
+    sealed: &[u8],
+) -> Result<ConnectionSecret, SealedRefusal>
+    ensures { IsOpened connection_secret_layout.form key.now sealed.now result }
+{
+    open_record(alloc, key, sealed)
+}
+
+/// Seals a `ConnectionSecret`.
+pub fn seal_connection_secret(
+    alloc: Global,
+    key: &[u8; 16],
+    value: &ConnectionSecret,
+) -> Result<Blob, AllocError>
+    requires { ⟦<ConnectionSecret as Encoded>⟧.Bound value.now }
+    ensures { IfOk result (IsSealed connection_secret_layout.form key.now value.now) }
+{
+    seal_record(alloc, key, value)
+}

@@ -1,0 +1,5 @@
+mod Finding
+mod Keeping
+mod Lawful
+mod Placing
+mod Queues

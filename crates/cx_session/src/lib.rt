@@ -1,0 +1,40 @@
+//! What the two ends of a session keep of it: a daemon its book of sessions, a client its outbox.
+#![tactic(auto)]
+
+mod answers;
+mod book;
+mod call;
+mod calls;
+mod faults;
+mod laws;
+mod numbers;
+mod outbox;
+mod places;
+mod session;
+
+pub use book::SessionBook;
+pub use call::{BookCall, BookFault, BookReply};
+pub use faults::{AdmitFault, AdmitRefusal, ResumeFault, ResumeRefusal, TakeRefusal};
+pub use laws::book_laws;
+pub use outbox::{Outbox, QueueFault, QueueRefusal};
+
+// Each public type may be sent to another thread and shared with one.
+fn is_sendable<T: Send + Sync>() {}
+
+fn all_are_sendable() {
+    is_sendable::<SessionBook<u64>>();
+    is_sendable::<BookCall<u64>>();
+    is_sendable::<BookReply>();
+    is_sendable::<BookFault>();
+    is_sendable::<AdmitFault>();
+    is_sendable::<AdmitRefusal<u64>>();
+    is_sendable::<ResumeFault>();
+    is_sendable::<ResumeRefusal<u64>>();
+    is_sendable::<TakeRefusal>();
+    is_sendable::<Outbox>();
+    is_sendable::<QueueFault>();
+    is_sendable::<QueueRefusal>();
+}
+
+#[cfg(test)]
+mod tests;

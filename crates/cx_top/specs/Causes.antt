@@ -1,0 +1,95 @@
+-- Why a command refuses its input, and how it must end where nothing is in its way.
+use Rattle.std.specs.Prelude.{ℕ, ◌<◌, ◌≤◌, ◌≡◌, List, length, drop, Option, Some, None}
+use Rattle.cx_base.specs.Streams.{Rose}
+use Rattle.cx_keyring.specs.declared.entries.Entry.{Entry}
+use Rattle.cx_keyring.specs.declared.faults.KeyringFault.{KeyringFault}
+use Rattle.cx_keyring.specs.declared.refusals.KeyringRefusal.TheVariants as keyring
+use Rattle.cx_keyring.specs.Rings.{KeyringText, IsKeyringCause}
+use Rattle.cx_schedule.specs.declared.lines.Line.{Line}
+use Rattle.cx_schedule.specs.declared.refusals.ScheduleRefusal.TheVariants as schedule
+use Rattle.cx_schedule.specs.Files.{Lines, IsShort, IsScheduleCause}
+use Rattle.cx_top.specs.declared.commands.Command.{Command}
+use Rattle.cx_top.specs.declared.commands.Command.TheVariants.{Replay, Keyring}
+use Rattle.cx_top.specs.declared.status.Status.{Status}
+use Rattle.cx_top.specs.declared.status.Status.TheVariants.{Done, Usage, BadSchedule, ReadFault, WriteFault, OutOfMemory, BadKeyring, TooLong, NotYet}
+use Rattle.cx_top.specs.Replays.{GaveAll}
+
+-- ---- the bytes
+
+-- this line is the first of the keyring that is wrong, with this fault; or, at line 0 and with no fault, the bytes are a
+-- keyring of more than 4,096 entries
+abbrev pub IsBadKeyring : List ℕ → ℕ → Option KeyringFault → Type 0
+IsBadKeyring bytes line (Some why) = IsKeyringCause bytes (keyring.BadLine line why)
+IsBadKeyring bytes line None = (line ≡ 0) × (ring : List Entry) × KeyringText bytes ring × (4096 < length ring)
+
+-- these bytes must be refused with this status
+abbrev pub IsReasonFor : Command → List ℕ → Status → Type 0
+IsReasonFor command bytes TooLong = IsShort bytes → ⊥
+IsReasonFor Replay bytes (BadSchedule line why) = IsScheduleCause bytes (schedule.BadLine line why)
+IsReasonFor Replay bytes (NotYet line) = IsScheduleCause bytes (schedule.NotYet line)
+IsReasonFor Keyring bytes (BadKeyring line why) = IsShort bytes × IsBadKeyring bytes line why
+IsReasonFor command bytes _ = ⊥
+
+-- why these bytes are refused; want of memory is free
+abbrev pub IsBytesCause : Command → List ℕ → Status → Type 0
+IsBytesCause command bytes OutOfMemory = Unit {0}
+IsBytesCause command bytes Done = ⊥
+IsBytesCause command bytes Usage = ⊥
+IsBytesCause command bytes ReadFault = ⊥
+IsBytesCause command bytes WriteFault = ⊥
+IsBytesCause command bytes TooLong = IsReasonFor command bytes TooLong
+IsBytesCause command bytes (BadSchedule line why) = IsReasonFor command bytes (BadSchedule line why)
+IsBytesCause command bytes (NotYet line) = IsReasonFor command bytes (NotYet line)
+IsBytesCause command bytes (BadKeyring line why) = IsReasonFor command bytes (BadKeyring line why)
+
+-- the bytes are a schedule or a keyring within the limits
+abbrev pub IsAnswered : Command → List ℕ → Type 0
+IsAnswered Replay bytes = (script : List Line) × Lines bytes script × IsShort bytes
+IsAnswered Keyring bytes = (ring : List Entry) × KeyringText bytes ring × (length ring ≤ 4096) × IsShort bytes
+
+-- ---- the input
+
+-- the whole input was read, and must be refused with this status
+pub record IsRefused (command : Command) (left now : Option (List ℕ)) (status : Status) : Type 0 where
+  pub bytes : List ℕ
+  pub read : GaveAll left now bytes
+  pub cause : IsReasonFor command bytes status
+
+-- where the source tells it: the input passes a limit, and no more was taken of it than one byte above the limit of bytes
+abbrev pub IsTooLong : Option (List ℕ) → Option (List ℕ) → Type 0
+IsTooLong None now = Unit {0}
+IsTooLong (Some left) now = (IsShort left → ⊥) × (now ≡ Some (drop 1048577 left))
+
+-- why the input is refused: by a limit, or at a line. The other statuses don't speak of it
+abbrev pub IsRefusedStatus : Command → Option (List ℕ) → Option (List ℕ) → Status → Type 0
+IsRefusedStatus command left now TooLong = IsTooLong left now
+IsRefusedStatus command left now (BadSchedule line why) = IsRefused command left now (BadSchedule line why)
+IsRefusedStatus command left now (NotYet line) = IsRefused command left now (NotYet line)
+IsRefusedStatus command left now (BadKeyring line why) = IsRefused command left now (BadKeyring line why)
+IsRefusedStatus command left now Done = Unit {0}
+IsRefusedStatus command left now Usage = Unit {0}
+IsRefusedStatus command left now ReadFault = Unit {0}
+IsRefusedStatus command left now WriteFault = Unit {0}
+IsRefusedStatus command left now OutOfMemory = Unit {0}
+
+-- why there is no text for this input: the count of its faults rose, or it is refused; want of memory is free
+abbrev pub IsInputCause : Command → Option (List ℕ) → Option (List ℕ) → ℕ → ℕ → Status → Type 0
+IsInputCause command left now before after ReadFault = Rose before after
+IsInputCause command left now before after TooLong = IsTooLong left now
+IsInputCause command left now before after (BadSchedule line why) = IsRefused command left now (BadSchedule line why)
+IsInputCause command left now before after (NotYet line) = IsRefused command left now (NotYet line)
+IsInputCause command left now before after (BadKeyring line why) = IsRefused command left now (BadKeyring line why)
+IsInputCause command left now before after OutOfMemory = Unit {0}
+IsInputCause command left now before after Done = ⊥
+IsInputCause command left now before after Usage = ⊥
+IsInputCause command left now before after WriteFault = ⊥
+
+-- the source tells what it has, and that is a schedule or a keyring within the limits
+abbrev pub HasAnswer : Command → Option (List ℕ) → Type 0
+HasAnswer command None = ⊥
+HasAnswer command (Some bytes) = IsAnswered command bytes
+
+-- the source tells what it has, and that must be refused with this status
+abbrev pub HasReason : Command → Option (List ℕ) → Status → Type 0
+HasReason command None why = ⊥
+HasReason command (Some bytes) why = IsReasonFor command bytes why

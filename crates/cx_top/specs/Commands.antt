@@ -1,0 +1,45 @@
+-- The commands: their words, and what each makes of its input.
+use Rattle.std.specs.Prelude.{ℕ, ◌≤◌, ◌≡◌, List, length, codes, Option}
+use Rattle.cx_base.specs.Streams.{Takes, TakesFront}
+use Rattle.cx_keyring.specs.declared.entries.Entry.{Entry}
+use Rattle.cx_keyring.specs.Rings.{KeyringText, printed_keyring}
+use Rattle.cx_schedule.specs.Files.{IsShort}
+use Rattle.cx_top.specs.declared.commands.Command.{Command}
+use Rattle.cx_top.specs.declared.commands.Command.TheVariants.{Replay, Keyring}
+use Rattle.cx_top.specs.Replays.{GaveAll, Replays}
+
+-- the word of a command
+abbrev pub command_word : Command → List ℕ
+command_word Replay = codes "replay"
+command_word Keyring = codes "keyring"
+
+-- the bytes are a keyring within the limits, of at most 4,096 entries, and the text is its printed form
+pub record Prints (bytes text : List ℕ) : Type 0 where
+  pub ring : List Entry
+  pub keyring : KeyringText bytes ring
+  pub few : length ring ≤ 4096
+  pub short : IsShort bytes
+  pub written : text ≡ printed_keyring ring
+
+-- the command makes this text of the bytes
+abbrev pub Makes : Command → List ℕ → List ℕ → Type 0
+Makes Replay bytes text = Replays bytes text
+Makes Keyring bytes text = Prints bytes text
+
+-- the whole input was read, and the command makes this text of it
+pub record MakesOfAll (command : Command) (left now : Option (List ℕ)) (text : List ℕ) : Type 0 where
+  pub bytes : List ℕ
+  pub read : GaveAll left now bytes
+  pub makes : Makes command bytes text
+
+-- the whole input was read, and what the command makes of it was written
+pub record Writes (command : Command) (left now taken after : Option (List ℕ)) : Type 0 where
+  pub text : List ℕ
+  pub made : MakesOfAll command left now text
+  pub wrote : Takes taken after text
+
+-- the whole input was read, and a front of what the command makes of it was written
+pub record WritesFront (command : Command) (left now taken after : Option (List ℕ)) : Type 0 where
+  pub text : List ℕ
+  pub made : MakesOfAll command left now text
+  pub wrote : TakesFront taken after text

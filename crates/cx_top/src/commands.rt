@@ -1,0 +1,38 @@
+//! The commands, by the words of the command line.
+
+ghost use Rattle.std.specs.Prelude.{◌≡◌, ◌≢◌, [], ◌∷◌, map, IsTrue, MatchOption, ◌↔◌};
+ghost use Rattle.cx_top.specs.Commands.{command_word};
+ghost use Rattle.cx_top.specs.declared.commands.Command.{Command};
+
+/// What the program does with its input.
+#[derive(Clone, Copy, Debug, PartialEq, Eq)]
+pub enum Command {
+    /// Reads a schedule, and writes the journal of its run.
+    Replay,
+    /// Reads a keyring, and writes it in its printed form.
+    Keyring,
+}
+
+/// The command whose one word these words are.
+pub fn command_of(words: &[&str]) -> Option<Command>
+    ensures { MatchOption result
+        ((command : Command) → map (λ w. w.now) words.now ≢ command_word command ∷ [])
+        (λ command. map (λ w. w.now) words.now ≡ command_word command ∷ []) }
+{
+    let [word] = words else {
+        return None;
+    };
+    if is_word(word, "replay") {
+        return Some(Command::Replay);
+    }
+    if is_word(word, "keyring") {
+        return Some(Command::Keyring);
+    }
+    None
+}
+
+fn is_word(word: &str, wanted: &str) -> bool
+    ensures { IsTrue result ↔ (word.now ≡ wanted.now) }
+{
+    word == wanted
+}

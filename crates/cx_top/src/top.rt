@@ -1,0 +1,90 @@
+//! The top call.
+
+ghost use Rattle.std.specs.Prelude.{◌≡◌, ◌≢◌, ◌≤◌, ◌↔◌, [], ◌∷◌, map, IfOk, IfErr, MatchResult};
+ghost use Rattle.cx_base.specs.Streams.{Rose};
+ghost use Rattle.cx_top.specs.Causes.{HasAnswer, HasReason, IsAnswered, IsBytesCause, IsInputCause, IsReasonFor, IsRefusedStatus};
+ghost use Rattle.cx_top.specs.Commands.{command_word, Makes, MakesOfAll, Writes, WritesFront};
+ghost use Rattle.cx_top.specs.Statuses.{IsOrMemory, IsServed};
+ghost use Rattle.cx_top.specs.declared.commands.Command.{Command};
+ghost use Rattle.cx_top.specs.declared.status.Status.{Status};
+
+use crate::commands::{Command, command_of};
+use crate::input::read_all;
+use crate::keyring::printed;
+use crate::replay::replayed;
+use crate::status::Status;
+use cx_base::{Blob, Sink, Source};
+use std::alloc::Global;
+
+/// Does what these words of the command line ask for: `replay` reads a schedule from `input` and writes its journal to `out`,
+/// `keyring` reads a keyring and writes it in its printed form. Each reads up to the end of the input or one byte above the
+/// limit.
+pub fn run<I: Source, O: Sink>(alloc: Global, words: &[&str], input: &mut I, out: &mut O) -> Status
+    ensures usage { (result ≡ Status.Usage) ↔ ((command : Command) → map (λ w. w.now) words.now ≢ command_word command ∷ []) }
+
+    ensures read { result ≡ Status.ReadFault → Rose (I.faults input.old) (I.faults input.new) }
+    ensures refused { (command : Command) → map (λ w. w.now) words.now ≡ command_word command ∷ []
+        → IsRefusedStatus command (I.left input.old) (I.left input.new) result }
+    ensures write { result ≡ Status.WriteFault → Rose (O.faults out.old) (O.faults out.new) }
+
+    ensures done { result ≡ Status.Done → (command : Command) → map (λ w. w.now) words.now ≡ command_word command ∷ []
+        → Writes command (I.left input.old) (I.left input.new) (O.taken out.old) (O.taken out.new) }
+    ensures front { result ≡ Status.WriteFault → (command : Command) → map (λ w. w.now) words.now ≡ command_word command ∷ []
+        → WritesFront command (I.left input.old) (I.left input.new) (O.taken out.old) (O.taken out.new) }
+    ensures untouched { result ≢ Status.Done → result ≢ Status.WriteFault → out.new ≡ out.old }
+    ensures unread { result ≡ Status.Usage → input.new ≡ input.old }
+
+    // A schedule or a keyring within the limits is served, where memory isn't wanting and no count of faults rose.
+    ensures complete { (command : Command) → map (λ w. w.now) words.now ≡ command_word command ∷ []
+        → HasAnswer command (I.left input.old)
+        → ¬ Rose (I.faults input.old) (I.faults input.new) → ¬ Rose (O.faults out.old) (O.faults out.new)
+        → IsServed result }
+
+    // One that a limit or a line refuses is refused so.
+    ensures exact { (command : Command) (why : Status) → map (λ w. w.now) words.now ≡ command_word command ∷ []
+        → HasReason command (I.left input.old) why → ¬ Rose (I.faults input.old) (I.faults input.new)
+        → IsOrMemory why result }
+
+    ensures reads { I.faults input.old ≤ I.faults input.new }
+    ensures writes { O.faults out.old ≤ O.faults out.new }
+{
+    let Some(command) = command_of(words) else {
+        return Status::Usage;
+    };
+    let text = match text_from(alloc, command, input) {
+        Ok(text) => text,
+        Err(status) => return status,
+    };
+    match out.push(text.bytes()) {
+        Ok(()) => Status::Done,
+        Err(_) => Status::WriteFault,
+    }
+}
+
+// What the command makes of this input.
+fn text_from<I: Source>(alloc: Global, command: Command, input: &mut I) -> Result<Blob, Status>
+    ensures makes { IfOk result (MakesOfAll command (I.left input.old) (I.left input.new)) }
+    ensures cause { IfErr result (IsInputCause command (I.left input.old) (I.left input.new) (I.faults input.old) (I.faults input.new)) }
+    ensures complete { HasAnswer command (I.left input.old) → ¬ Rose (I.faults input.old) (I.faults input.new)
+        → IfErr result (λ status. status ≡ Status.OutOfMemory) }
+    ensures exact { (why : Status) → HasReason command (I.left input.old) why
+        → ¬ Rose (I.faults input.old) (I.faults input.new)
+        → MatchResult result (λ text. ⊥) (IsOrMemory why) }
+    ensures reads { I.faults input.old ≤ I.faults input.new }
+{
+    let bytes = read_all(alloc, input)?;
+    text_of(alloc, command, bytes.bytes())
+}
+
+// What the command makes of these bytes.
+fn text_of(alloc: Global, command: Command, bytes: &[u8]) -> Result<Blob, Status>
+    ensures makes { IfOk result (Makes command bytes.now) }
+    ensures cause { IfErr result (IsBytesCause command bytes.now) }
+    ensures complete { IsAnswered command bytes.now → IfErr result (λ status. status ≡ Status.OutOfMemory) }
+    ensures exact { (why : Status) → IsReasonFor command bytes.now why → MatchResult result (λ text. ⊥) (IsOrMemory why) }
+{
+    match command {
+        Command::Replay => replayed(alloc, bytes),
+        Command::Keyring => printed(alloc, bytes),
+    }
+}

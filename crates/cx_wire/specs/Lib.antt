@@ -1,0 +1,9 @@
+pub mod Asked
+pub mod Bodies
+pub mod BodyCalls
+pub mod CodeLaws
+pub mod Codes
+pub mod Headers
+pub mod Logins
+pub mod Operations
+pub mod Services
