@@ -16,7 +16,10 @@ pub enum Status {
     /// The words of the command line are no command that is served.
     Usage,
     /// This line, from 1, is the first outside the grammar of a schedule, and `why` is the first fault that it has.
-    BadSchedule { line: u32, why: LineFault },
+    BadSchedule {
+        line: u32,
+        why: LineFault,
+    },
     /// The input could not be read.
     ReadFault,
     /// The output could not be written; a front of it was.
@@ -32,7 +35,9 @@ pub enum Status {
     /// The input has more than 1,048,576 bytes or 20,000 lines.
     TooLong,
     /// This line, from 1, is the first outside the grammar, and its first word begins a line that is not served yet.
-    NotYet { line: u32 },
+    NotYet {
+        line: u32,
+    },
 }
 
 impl Status {

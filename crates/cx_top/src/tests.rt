@@ -1,7 +1,7 @@
 //! Runs over a source and a sink in memory, with ample memory.
 
-use crate::replay::run;
 use crate::status::Status;
+use crate::top::run;
 use cx_base::{Blob, ByteSource, Sink, VecSink};
 use cx_keyring::KeyringFault;
 use cx_schedule::LineFault;
