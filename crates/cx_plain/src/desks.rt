@@ -12,7 +12,7 @@ use std::alloc::{AllocError, Global};
 
 /// The capability text of a ticket. A schedule's caps are capability texts; where a ticket's were not, the answer would be
 /// want of memory, since a run has no other.
-pub(crate) fn caps_of(alloc: Global, text: &Text) -> Result<CapText, AllocError>
+pub(crate) fn caps_text(alloc: Global, text: &Text) -> Result<CapText, AllocError>
     ensures { IfOk result (λ caps. caps ≡ text.now) }
 {
     match CapText::read(alloc, text) {

@@ -5,7 +5,7 @@ ghost use Rattle.cx_desk.specs.Held.{handlers_of};
 ghost use Rattle.cx_plain.specs.Plain.{opening, refusing, looking, entering, declared, ticket_fault, sent_at, handled_at, answered_at};
 
 use crate::counts::{next, next_link};
-use crate::desks::{caps_of, handle};
+use crate::desks::{caps_text, handle};
 use crate::entrance::{Welcome, enter, enter_save, rotated};
 use crate::monitors::{Kept, Monitor, has_generation};
 use crate::nodes::{Node, Nodes, Place, Session};
@@ -234,7 +234,7 @@ impl Run {
     {
         let number = next(admitted)?;
         let cookie = next(self.cookies)?;
-        let caps = caps_of(alloc, &ticket.caps)?;
+        let caps = caps_text(alloc, &ticket.caps)?;
         let session = Session {
             daemon: daemon.copy(alloc)?,
             place: Place {
