@@ -5,8 +5,11 @@ mod streams;
 #[cfg(test)]
 mod tests;
 
+use cx_base::{Access, Blob};
+use cx_caps::Permitted;
+use cx_desk::Desk;
 use cx_top::{Status, run};
-use std::alloc::AllocError;
+use std::alloc::{AllocError, Global};
 use std::process::ExitCode;
 use std::{env, io};
 use streams::{Input, Output};
@@ -42,7 +45,18 @@ fn serve(rt: &HostRuntime, words: &[String]) -> Result<Status, AllocError> {
     for word in words {
         texts.push(word.as_str())?;
     }
+    let mut desk = Desk::empty();
+    let read = |alloc: Global, ask: &Permitted| Blob::of(alloc, ask.operation().object.bytes());
+    desk.set(Access::Read, Box::new(rt.alloc(), read)?);
+    let write = |alloc: Global, ask: &Permitted| -> Result<Blob, AllocError> {
+        let count = ask.operation().bytes.bytes().len();
+        let printed = format!(in alloc; "{count}")?;
+        Blob::of(alloc, printed.as_bytes())
+    };
+    desk.set(Access::Write, Box::new(rt.alloc(), write)?);
+    let exec = |alloc: Global, ask: &Permitted| Blob::of(alloc, ask.operation().bytes.bytes());
+    desk.set(Access::Exec, Box::new(rt.alloc(), exec)?);
     let mut input = Input::new(rt.stdin());
     let mut output = Output::new(rt.stdout());
-    Ok(run(rt.alloc(), &texts, &mut input, &mut output))
+    Ok(run(rt.alloc(), &texts, &mut input, &mut output, &desk))
 }

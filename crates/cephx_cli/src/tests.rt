@@ -2,6 +2,7 @@
 //! is interrupted, and a writer that does so.
 
 use crate::streams::{Input, Output};
+use cx_desk::Desk;
 use cx_top::{Status, run};
 use std::alloc::Global;
 use std::io;
@@ -164,7 +165,7 @@ fn check(rt: &impl Abort, alloc: Global, row: &Row) {
         is_flushed: row.is_flushed,
     };
     let mut output = Output::new(&mut kept);
-    let status = run(alloc, &["replay"], &mut input, &mut output);
+    let status = run(alloc, &["replay"], &mut input, &mut output, &Desk::empty());
     assert_eq!(rt; status, row.status, "{}", row.shows);
     assert_eq!(rt; kept.bytes.as_slice(), row.kept.as_bytes(), "{}", row.shows);
 }

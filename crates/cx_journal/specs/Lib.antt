@@ -1,6 +1,7 @@
 pub mod Backed
 pub mod Behind
 pub mod Counted
+pub mod Enforced
 pub mod InSession
 pub mod JournalText
 pub mod KeepsKeys

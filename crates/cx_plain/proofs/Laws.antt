@@ -1,26 +1,35 @@
 -- What every line keeps of the journal and of what the entities hold.
-use Rattle.std.proofs.Common.{◌≡◌, ℕ, List, [], ◌∷◌, ◌++◌, Option, Some, None, false, refl, ◌∙◌, arith}
+use Rattle.std.proofs.Common.{◌≡◌, ℕ, ◌+◌, ◌<◌, ◌≤◌, List, [], ◌∷◌, ◌++◌, Option, Some, None, Bool, true, false, refl, ap, ◌∙◌, append_assoc, arith}
+use Rattle.std.specs.Prelude.{◌==◌, if◌then◌else◌}
 use Rattle.std.specs.List.{Contains, AllByRecursion, list_any}
+use Rattle.std.proofs.lemmas.Bool.Decides.{nat_tests}
 use Rattle.std.proofs.lemmas.List.Elements.{Contains-append_left, Contains-append_right}
 use Rattle.cx_base.specs.Names.{Name}
 use Rattle.cx_base.specs.declared.kinds.EntityType.{EntityType}
 use Rattle.cx_base.specs.declared.kinds.EntityType.TheVariants.{Mon, Mds, Osd, Client, Mgr, Auth}
 use Rattle.cx_base.specs.declared.operations.Operation.{Operation}
+use Rattle.cx_caps.specs.Reading.{cap_allows}
+use Rattle.cx_caps.proofs.Laws.{allowed, denied}
+use Rattle.cx_desk.specs.Handlers.{Handlers}
 use Rattle.cx_journal.specs.Behind.{EachBehind}
 use Rattle.cx_journal.specs.Backed.{IsBackedBy}
 use Rattle.cx_journal.specs.InSession.{IsInSessionBy, ends_session}
 use Rattle.cx_journal.specs.KeepsKeys.{KeepsKeysBy}
+use Rattle.cx_journal.specs.Enforced.{IsEnforcedBy, IsOutcome, is_admission}
 use Rattle.cx_journal.specs.declared.entries.Entry.{Entry}
 use Rattle.cx_journal.specs.declared.entries.Entry.TheVariants as entry
 use Rattle.cx_journal.specs.declared.entries.Issued.{Issued}
 use Rattle.cx_journal.specs.declared.entries.Admitted.{Admitted}
+use Rattle.cx_journal.specs.declared.entries.Handled.{Handled}
+use Rattle.cx_journal.specs.declared.outcomes.Outcome.{Outcome}
+use Rattle.cx_journal.specs.declared.outcomes.Outcome.TheVariants as outcome
 use Rattle.cx_plain.specs.declared.nodes.Node.{Node}
 use Rattle.cx_plain.specs.declared.nodes.Session.{Session}
 use Rattle.cx_plain.specs.declared.wallets.Wallet.{Wallet}
 use Rattle.cx_plain.specs.Nodes.{held_of, holding_as}
-use Rattle.cx_plain.specs.Plain.{handled_at}
+use Rattle.cx_plain.specs.Plain.{handled_at, outcome_of, serves}
 use Rattle.cx_journal.proofs.BehindLemmas.{EachBehind-append}
-use Rattle.cx_plain.proofs.Lists.{contains-split, all-weaker}
+use Rattle.cx_plain.proofs.Lists.{all-push, all-weaker}
 
 -- a ticket that is held was issued before, to this entity and for this service
 abbrev pub IsGenuine : List Entry → Name → EntityType → Option Issued → Type 0
@@ -33,25 +42,41 @@ pub record HoldsGenuine (journal : List Entry) (name : Name) (wallet : Wallet) :
   pub osd : IsGenuine journal name Osd wallet.osd
   pub mgr : IsGenuine journal name Mgr wallet.mgr
 
--- a session was admitted before
-pub record WasAdmitted (journal : List Entry) (session : Session) : Type 0 where
+-- the entry admits no session of this cookie
+abbrev pub IsOther : ℕ → Entry → Type 0
+IsOther cookie (entry.Admitted a) = (a.cookie == cookie) ≡ false
+IsOther cookie _ = Unit {0}
+
+-- what the entry admits has a cookie that wasn't drawn so far
+abbrev pub IsNew : ℕ → Entry → Type 0
+IsNew cookies (entry.Admitted a) = cookies < a.cookie
+IsNew cookies _ = Unit {0}
+
+-- a session was admitted before, none of its cookie was since, and its cookie is one of those drawn
+pub record WasAdmitted (cookies : ℕ) (journal : List Entry) (session : Session) : Type 0 where
+  pub before : List Entry
   pub admission : Admitted
-  pub entered : Contains journal (entry.Admitted admission)
+  pub between : List Entry
+  pub entered : journal ≡ before ++ entry.Admitted admission ∷ between
+  pub latest : AllByRecursion (IsOther session.place.cookie) between
+  pub drawn : session.place.cookie ≤ cookies
   pub daemon : admission.daemon ≡ session.daemon
   pub number : admission.session ≡ session.place.number
   pub epoch : admission.epoch ≡ 1
   pub cookie : admission.cookie ≡ session.place.cookie
+  pub caps : admission.caps ≡ session.caps
 
-pub record IsSound (journal : List Entry) (node : Node) : Type 0 where
+pub record IsSound (cookies : ℕ) (journal : List Entry) (node : Node) : Type 0 where
   pub wallet : HoldsGenuine journal node.name node.wallet
-  pub sessions : AllByRecursion (WasAdmitted journal) node.sessions
+  pub sessions : AllByRecursion (WasAdmitted cookies journal) node.sessions
 
--- the three laws hold of the journal, and the entities hold what it says
-pub record Holds (journal : List Entry) (nodes : List Node) : Type 0 where
+-- the four laws hold of the journal, and the entities hold what it says
+pub record Holds (handlers : Handlers) (cookies : ℕ) (journal : List Entry) (nodes : List Node) : Type 0 where
   pub backed : EachBehind IsBackedBy [] journal
   pub in_session : EachBehind IsInSessionBy [] journal
   pub keeps_keys : EachBehind KeepsKeysBy [] journal
-  pub sound : AllByRecursion (IsSound journal) nodes
+  pub enforced : EachBehind (IsEnforcedBy (serves handlers)) [] journal
+  pub sound : AllByRecursion (IsSound cookies journal) nodes
 
 -- ---- more entries behind
 
@@ -67,38 +92,90 @@ wallet-more journal more name wallet held = record {
   mgr = genuine-more journal more name Mgr wallet.mgr held.mgr;
 }
 
-admitted-more : (journal more : List Entry) (session : Session) → WasAdmitted journal session → WasAdmitted (journal ++ more) session
-admitted-more journal more session was = record {
+-- a cookie that was drawn isn't a new one
+other : (cookie cookies : ℕ) (e : Entry) → cookie ≤ cookies → IsNew cookies e → IsOther cookie e
+other cookie cookies (entry.Saved _) drawn new = tt
+other cookie cookies (entry.Issued _) drawn new = tt
+other cookie cookies (entry.Fetched _) drawn new = tt
+other cookie cookies (entry.Looked _) drawn new = tt
+other cookie cookies (entry.Admitted a) drawn new = grind (arith, nat_tests, drawn, new)
+other cookie cookies (entry.Sent _) drawn new = tt
+other cookie cookies (entry.Handled _) drawn new = tt
+other cookie cookies (entry.Answered _) drawn new = tt
+other cookie cookies (entry.Refused _) drawn new = tt
+
+pub admitted-more : (cookies : ℕ) (journal : List Entry) (e : Entry) → IsNew cookies e → (session : Session) → WasAdmitted cookies journal session → WasAdmitted cookies (journal ++ e ∷ []) session
+admitted-more cookies journal e new session was = record {
+  before = was.before;
   admission = was.admission;
-  entered = Contains-append_left journal more (entry.Admitted was.admission) was.entered;
+  between = was.between ++ e ∷ [];
+  entered = ap (λ es. es ++ e ∷ []) was.entered ∙ append_assoc was.before (entry.Admitted was.admission ∷ was.between) (e ∷ []);
+  latest = all-push (IsOther session.place.cookie) was.between e was.latest (other session.place.cookie cookies e was.drawn new);
+  drawn = was.drawn;
   daemon = was.daemon;
   number = was.number;
   epoch = was.epoch;
   cookie = was.cookie;
+  caps = was.caps;
 }
 
-sound-more : (journal more : List Entry) (node : Node) → IsSound journal node → IsSound (journal ++ more) node
-sound-more journal more node sound = record {
-  wallet = wallet-more journal more node.name node.wallet sound.wallet;
-  sessions = all-weaker (WasAdmitted journal) (WasAdmitted (journal ++ more)) (admitted-more journal more) node.sessions sound.sessions;
+sound-more : (cookies : ℕ) (journal : List Entry) (e : Entry) → IsNew cookies e → (node : Node) → IsSound cookies journal node → IsSound cookies (journal ++ e ∷ []) node
+sound-more cookies journal e new node sound = record {
+  wallet = wallet-more journal (e ∷ []) node.name node.wallet sound.wallet;
+  sessions =
+      all-weaker (WasAdmitted cookies journal) (WasAdmitted cookies (journal ++ e ∷ [])) (admitted-more cookies journal e new) node.sessions
+      sound.sessions;
 }
 
--- one entry more, of which the three laws hold
-pub holds-push : (journal : List Entry) (nodes : List Node) (e : Entry) → Holds journal nodes → IsBackedBy journal e → IsInSessionBy journal e → KeepsKeysBy journal e → Holds (journal ++ e ∷ []) nodes
-holds-push journal nodes e holds backed in_session keeps_keys = record {
+-- one entry more, of which the four laws hold, and which admits no session of a cookie that was drawn
+pub holds-push : {handlers : Handlers} {cookies : ℕ} (journal : List Entry) (nodes : List Node) (e : Entry) → Holds handlers cookies journal nodes → IsBackedBy journal e → IsInSessionBy journal e → KeepsKeysBy journal e → IsEnforcedBy (serves handlers) journal e → IsNew cookies e → Holds handlers cookies (journal ++ e ∷ []) nodes
+holds-push {handlers} {cookies} journal nodes e holds backed in_session keeps_keys enforced new = record {
   backed = EachBehind-append IsBackedBy [] journal (e ∷ []) holds.backed (backed, tt);
   in_session = EachBehind-append IsInSessionBy [] journal (e ∷ []) holds.in_session (in_session, tt);
   keeps_keys = EachBehind-append KeepsKeysBy [] journal (e ∷ []) holds.keeps_keys (keeps_keys, tt);
-  sound = all-weaker (IsSound journal) (IsSound (journal ++ e ∷ [])) (sound-more journal (e ∷ [])) nodes holds.sound;
+  enforced = EachBehind-append (IsEnforcedBy (serves handlers)) [] journal (e ∷ []) holds.enforced (enforced, tt);
+  sound = all-weaker (IsSound cookies journal) (IsSound cookies (journal ++ e ∷ [])) (sound-more cookies journal e new) nodes holds.sound;
 }
 
 -- other entities of which what is held is sound
-pub holds-nodes : (journal : List Entry) (nodes others : List Node) → Holds journal nodes → AllByRecursion (IsSound journal) others → Holds journal others
+pub holds-nodes : {handlers : Handlers} {cookies : ℕ} (journal : List Entry) (nodes others : List Node) → Holds handlers cookies journal nodes → AllByRecursion (IsSound cookies journal) others → Holds handlers cookies journal others
 holds-nodes journal nodes others holds sound = record {
   backed = holds.backed;
   in_session = holds.in_session;
   keeps_keys = holds.keeps_keys;
+  enforced = holds.enforced;
   sound = sound;
+}
+
+-- one cookie more is drawn
+admitted-drawn : (cookies : ℕ) (journal : List Entry) (session : Session) → WasAdmitted cookies journal session → WasAdmitted (cookies + 1) journal session
+admitted-drawn cookies journal session was = record {
+  before = was.before;
+  admission = was.admission;
+  between = was.between;
+  entered = was.entered;
+  latest = was.latest;
+  drawn = (let drawn = was.drawn in omega (arith, drawn));
+  daemon = was.daemon;
+  number = was.number;
+  epoch = was.epoch;
+  cookie = was.cookie;
+  caps = was.caps;
+}
+
+pub sound-drawn : (cookies : ℕ) (journal : List Entry) (node : Node) → IsSound cookies journal node → IsSound (cookies + 1) journal node
+sound-drawn cookies journal node sound = record {
+  wallet = sound.wallet;
+  sessions = all-weaker (WasAdmitted cookies journal) (WasAdmitted (cookies + 1) journal) (admitted-drawn cookies journal) node.sessions sound.sessions;
+}
+
+pub holds-drawn : {handlers : Handlers} {cookies : ℕ} (journal : List Entry) (nodes : List Node) → Holds handlers cookies journal nodes → Holds handlers (cookies + 1) journal nodes
+holds-drawn {handlers} {cookies} journal nodes holds = record {
+  backed = holds.backed;
+  in_session = holds.in_session;
+  keeps_keys = holds.keeps_keys;
+  enforced = holds.enforced;
+  sound = all-weaker (IsSound cookies journal) (IsSound (cookies + 1) journal) (sound-drawn cookies journal) nodes holds.sound;
 }
 
 -- the last entry is among them
@@ -144,13 +221,54 @@ none_end daemon session [] = refl
 none_end daemon session (e ∷ es) = rw (none_ends daemon session e) (none_end daemon session es)
 
 -- an operation in a session that was admitted is in session
-pub handled-in_session : (journal : List Entry) (session : Session) (daemon : Name) (seq : ℕ) (operation : Operation) → WasAdmitted journal session → session.daemon ≡ daemon → IsInSessionBy journal (handled_at daemon (record session.place { seq = seq }) operation)
-handled-in_session journal session daemon seq operation was is_daemon =
-    let parts = contains-split journal (entry.Admitted was.admission) was.entered in (
-      parts.0,
-      was.admission,
-      parts.1,
-      parts.2,
-      record { daemon = was.daemon ∙ is_daemon; session = was.number; epoch = was.epoch; cookie = was.cookie },
-      none_end daemon session.place.number parts.1,
-    )
+pub handled-in_session : (cookies : ℕ) (journal : List Entry) (session : Session) (daemon : Name) (seq : ℕ) (operation : Operation) (ended : Outcome) → WasAdmitted cookies journal session → session.daemon ≡ daemon → IsInSessionBy journal (handled_at daemon (record session.place { seq = seq }) operation ended)
+handled-in_session cookies journal session daemon seq operation ended was is_daemon = (
+  was.before,
+  was.admission,
+  was.between,
+  was.entered,
+  record { daemon = was.daemon ∙ is_daemon; session = was.number; epoch = was.epoch; cookie = was.cookie },
+  none_end daemon session.place.number was.between,
+)
+
+-- ---- outcomes
+
+none_admits : (handled : Handled) (es : List Entry) → AllByRecursion (IsOther handled.cookie) es → list_any (is_admission handled) es ≡ false
+none_admits handled [] all = refl
+none_admits handled (entry.Saved _ ∷ es) all = none_admits handled es all.1
+none_admits handled (entry.Issued _ ∷ es) all = none_admits handled es all.1
+none_admits handled (entry.Fetched _ ∷ es) all = none_admits handled es all.1
+none_admits handled (entry.Looked _ ∷ es) all = none_admits handled es all.1
+none_admits handled (entry.Admitted a ∷ es) all = rw all.0 (none_admits handled es all.1)
+none_admits handled (entry.Sent _ ∷ es) all = none_admits handled es all.1
+none_admits handled (entry.Handled _ ∷ es) all = none_admits handled es all.1
+none_admits handled (entry.Answered _ ∷ es) all = none_admits handled es all.1
+none_admits handled (entry.Refused _ ∷ es) all = none_admits handled es all.1
+
+outcome_by : (handlers : Handlers) (caps : List ℕ) (operation : Operation) (allows has : Bool) → cap_allows caps operation ≡ allows → serves handlers operation.access ≡ has → IsOutcome (serves handlers) caps operation (if allows then (if has then outcome.Done else outcome.NoHandler) else outcome.Denied)
+outcome_by handlers caps operation false has refused is = denied caps operation refused
+outcome_by handlers caps operation true false passed is = (allowed caps operation passed, is)
+outcome_by handlers caps operation true true passed is = (allowed caps operation passed, is)
+
+-- the outcome in a session is the one under the caps that it was admitted with
+pub handled-enforced : (handlers : Handlers) (cookies : ℕ) (journal : List Entry) (session : Session) (daemon : Name) (seq : ℕ) (operation : Operation) → WasAdmitted cookies journal session → session.daemon ≡ daemon → IsEnforcedBy (serves handlers) journal (handled_at daemon (record session.place { seq = seq }) operation (outcome_of handlers session.caps operation))
+handled-enforced handlers cookies journal session daemon seq operation was is_daemon =
+    let handled : Handled = record {
+      daemon = daemon;
+      session = session.place.number;
+      epoch = 1;
+      cookie = session.place.cookie;
+      seq = seq;
+      operation = operation;
+      outcome = outcome_of handlers session.caps operation;
+    } in
+    record {
+      before = was.before;
+      admission = was.admission;
+      between = was.between;
+      place = was.entered;
+      admits = record { daemon = was.daemon ∙ is_daemon; session = was.number; epoch = was.epoch; cookie = was.cookie };
+      latest = none_admits handled was.between was.latest;
+      outcome =
+          rw was.caps (outcome_by handlers session.caps operation (cap_allows session.caps operation) (serves handlers operation.access) refl refl);
+    }

@@ -1,15 +1,8 @@
 -- Lists that grow, are changed or searched.
-use Rattle.std.proofs.Common.{◌≡◌, suc, List, [], ◌∷◌, ◌++◌, take, drop, Bool, true, false, Some, refl, ap, sym, ◌∙◌, drop-cons}
+use Rattle.std.proofs.Common.{◌≡◌, List, [], ◌∷◌, ◌++◌, Bool, true, false, Some, refl}
 use Rattle.std.specs.Prelude.{find}
-use Rattle.std.specs.List.{Contains, AllByRecursion}
-use Rattle.std.proofs.lemmas.List.{take-append-drop}
+use Rattle.std.specs.List.{AllByRecursion}
 use Rattle.cx_plain.specs.Changes.{changed}
-
--- what is contained stands between two parts
-pub contains-split : {X : Type 0} (xs : List X) (x : X) → Contains xs x → (before : List X) × (after : List X) × (xs ≡ before ++ x ∷ after)
-contains-split xs x held =
-    let whole : drop held.0 xs ≡ x ∷ drop (suc held.0) xs = drop-cons xs held.0 x held.1 ∙ ap (λ y. y ∷ drop (suc held.0) xs) held.2 in
-    (take held.0 xs, drop (suc held.0) xs, sym (take-append-drop held.0 xs) ∙ ap (λ ys. take held.0 xs ++ ys) whole)
 
 -- what holds of each item holds of each where it implies another
 pub all-weaker : {X : Type 0} (P Q : X → Type 0) → ((x : X) → P x → Q x) → (xs : List X) → AllByRecursion P xs → AllByRecursion Q xs

@@ -5,6 +5,7 @@ use Rattle.std.proofs.lemmas.Bool.Decides.{nat_tests}
 use Rattle.cx_base.specs.Names.{Name}
 use Rattle.cx_base.specs.declared.kinds.EntityType.{EntityType}
 use Rattle.cx_base.specs.declared.operations.Operation.{Operation}
+use Rattle.cx_desk.specs.Handlers.{Handlers}
 use Rattle.cx_rotate.specs.declared.views.View.{View}
 use Rattle.cx_journal.specs.declared.entries.Entry.{Entry}
 use Rattle.cx_journal.specs.declared.entries.Issued.{Issued}
@@ -103,14 +104,14 @@ connect-times : (r : Run) (client : Name) (node : Option Node) (daemon : Name) �
 connect-times r client None daemon = record { reading = refl; life = refl; auth_life = refl }
 connect-times r client (Some node) daemon = calling-times r client daemon node (find (is_with daemon) node.sessions)
 
-sending-times : (r : Run) (client daemon : Name) (session : Option Session) (operation : Operation) → SameTimes (sending r client daemon session operation) r
+sending-times : (handlers : Handlers) (r : Run) (client daemon : Name) (session : Option Session) (operation : Operation) → SameTimes (sending handlers r client daemon session operation) r
 unfolding refusing delivering with_seq
-sending-times r client daemon None operation = record { reading = refl; life = refl; auth_life = refl }
-sending-times r client daemon (Some session) operation = record { reading = refl; life = refl; auth_life = refl }
+sending-times handlers r client daemon None operation = record { reading = refl; life = refl; auth_life = refl }
+sending-times handlers r client daemon (Some session) operation = record { reading = refl; life = refl; auth_life = refl }
 
-send-times : (r : Run) (client : Name) (node : Option Node) (daemon : Name) (operation : Operation) → SameTimes (send r client node daemon operation) r
-send-times r client None daemon operation = record { reading = refl; life = refl; auth_life = refl }
-send-times r client (Some node) daemon operation = sending-times r client daemon (find (is_with daemon) node.sessions) operation
+send-times : (handlers : Handlers) (r : Run) (client : Name) (node : Option Node) (daemon : Name) (operation : Operation) → SameTimes (send handlers r client node daemon operation) r
+send-times handlers r client None daemon operation = record { reading = refl; life = refl; auth_life = refl }
+send-times handlers r client (Some node) daemon operation = sending-times handlers r client daemon (find (is_with daemon) node.sessions) operation
 
 life_bounds : (seconds : ℕ) → IsTrue (is_life seconds) → (1000000000 ≤ seconds * 1000000000) × (seconds * 1000000000 ≤ 31536000000000000)
 life_bounds seconds within = grind (arith, nat_tests)
@@ -119,16 +120,16 @@ reading_bound : (reading : ℕ) → IsTrue (nat_lt reading 4000000000000000000) 
 reading_bound reading within = grind (arith, nat_tests)
 
 -- a line within its range keeps the reading and the lives within their bounds
-pub step-timely : (r : Run) (l : Line) → IsTimelyRun r → IsTrue (is_in_range l) → IsTimelyRun (step r l)
+pub step-timely : (handlers : Handlers) (r : Run) (l : Line) → IsTimelyRun r → IsTrue (is_in_range l) → IsTimelyRun (step handlers r l)
 unfolding step
-step-timely r (line.Lifetime seconds) timely within =
+step-timely handlers r (line.Lifetime seconds) timely within =
     let bounds = life_bounds seconds within in
     record { now_bound = timely.now_bound; shortest = bounds.0; longest = bounds.1; auth_shortest = timely.auth_shortest; auth_longest = timely.auth_longest }
-step-timely r (line.AuthLifetime seconds) timely within =
+step-timely handlers r (line.AuthLifetime seconds) timely within =
     let bounds = life_bounds seconds within in
     record { now_bound = timely.now_bound; shortest = timely.shortest; longest = timely.longest; auth_shortest = bounds.0; auth_longest = bounds.1 }
-step-timely r (line.Entity name grants) timely within = timely
-step-timely r (line.Clock reading) timely within =
+step-timely handlers r (line.Entity name grants) timely within = timely
+step-timely handlers r (line.Clock reading) timely within =
     record {
       now_bound = reading_bound reading within;
       shortest = timely.shortest;
@@ -136,7 +137,7 @@ step-timely r (line.Clock reading) timely within =
       auth_shortest = timely.auth_shortest;
       auth_longest = timely.auth_longest;
     }
-step-timely r (line.Fetch daemon) timely within = kept _ r (fetch-times r daemon (node_of r daemon)) timely
-step-timely r (line.Login client asked) timely within = kept _ r (login-times r client (node_of r client) asked) timely
-step-timely r (line.Connect client daemon) timely within = kept _ r (connect-times r client (node_of r client) daemon) timely
-step-timely r (line.Send client daemon operation) timely within = kept _ r (send-times r client (node_of r client) daemon operation) timely
+step-timely handlers r (line.Fetch daemon) timely within = kept _ r (fetch-times r daemon (node_of r daemon)) timely
+step-timely handlers r (line.Login client asked) timely within = kept _ r (login-times r client (node_of r client) asked) timely
+step-timely handlers r (line.Connect client daemon) timely within = kept _ r (connect-times r client (node_of r client) daemon) timely
+step-timely handlers r (line.Send client daemon operation) timely within = kept _ r (send-times handlers r client (node_of r client) daemon operation) timely

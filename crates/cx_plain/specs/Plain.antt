@@ -1,6 +1,7 @@
 -- The plain run of a schedule: a fold over its lines, with tickets handed over in memory. It follows the documents "Cephx"
 -- and "detailed cephx protocol" step by step: who asks enters with a new link, the monitor rotates its secrets, keeps or
--- gives a global id, saves, and issues tickets; a daemon fetches its generations and admits on a live ticket.
+-- gives a global id, saves, and issues tickets; a daemon fetches its generations, admits on a live ticket, and handles
+-- what the ticket's caps allow.
 use Rattle.std.specs.Prelude.{ℕ, ◌+◌, ◌*◌, nat_lt, nat_le, ◌&&◌, Bool, true, false, if◌then◌else◌, List, [], ◌∷◌, ◌++◌, find, fold, Option, Some, None}
 use Rattle.std.specs.List.{list_any}
 use Rattle.std.specs.Option.{option_map}
@@ -9,6 +10,9 @@ use Rattle.cx_base.specs.Names.{Name, same_kind}
 use Rattle.cx_base.specs.declared.kinds.EntityType.{EntityType}
 use Rattle.cx_base.specs.declared.kinds.EntityType.TheVariants.{Mds, Osd, Mgr, Auth}
 use Rattle.cx_base.specs.declared.operations.Operation.{Operation}
+use Rattle.cx_base.specs.declared.kinds.Access.{Access}
+use Rattle.cx_caps.specs.Reading.{cap_allows}
+use Rattle.cx_desk.specs.Handlers.{Handlers, has_handler}
 use Rattle.cx_rotate.specs.declared.generations.Generation.{Generation}
 use Rattle.cx_rotate.specs.declared.views.View.{View}
 use Rattle.cx_journal.specs.declared.entries.Entry.{Entry}
@@ -20,6 +24,7 @@ use Rattle.cx_journal.specs.declared.outcomes.Reason.TheVariants as reason
 use Rattle.cx_journal.specs.declared.outcomes.TicketFault.{TicketFault}
 use Rattle.cx_journal.specs.declared.outcomes.TicketFault.TheVariants as fault
 use Rattle.cx_journal.specs.KeepsKeys.{has_generation}
+use Rattle.cx_journal.specs.declared.outcomes.Outcome.{Outcome}
 use Rattle.cx_journal.specs.declared.outcomes.Outcome.TheVariants as outcome
 use Rattle.cx_schedule.specs.declared.lines.Grant.{Grant}
 use Rattle.cx_schedule.specs.declared.lines.Line.{Line}
@@ -241,7 +246,7 @@ admission_at now client daemon at ticket = record {
 unfoldable pub admitting : Run → Name → Name → ℕ → Issued → Run
 admitting r client daemon admitted ticket =
     let at : Place = opened r admitted in
-    let session : Session = record { daemon = daemon; place = at } in
+    let session : Session = record { daemon = daemon; place = at; caps = ticket.caps } in
     entering
     (record r {
       cookies = at.cookie;
@@ -294,14 +299,26 @@ abbrev pub connect : Run → Name → Option Node → Name → Run
 connect r client None daemon = r
 connect r client (Some node) daemon = calling r client daemon node (find (is_with daemon) node.sessions)
 
--- an operation at a place in a session, where it is done, is entered three times: it was sent
+-- whether operations of this kind have a handler
+abbrev pub serves : Handlers → Access → Bool
+serves handlers kind = has_handler kind handlers
+
+-- how an operation ends in a session of these caps: it is denied where they don't allow it; else it is done where its kind
+-- has a handler
+abbrev pub outcome_of : Handlers → List ℕ → Operation → Outcome
+outcome_of handlers caps operation =
+    if cap_allows caps operation
+    then (if serves handlers operation.access then outcome.Done else outcome.NoHandler)
+    else outcome.Denied
+
+-- an operation at a place in a session is entered three times: it was sent
 abbrev pub sent_at : Name → Name → Place → Operation → Entry
 sent_at client daemon at operation =
     entry.Sent (record { client = client; daemon = daemon; cookie = at.cookie; seq = at.seq; operation = operation })
 
 -- it was handled
-abbrev pub handled_at : Name → Place → Operation → Entry
-handled_at daemon at operation =
+abbrev pub handled_at : Name → Place → Operation → Outcome → Entry
+handled_at daemon at operation ended =
     entry.Handled (record {
       daemon = daemon;
       session = at.number;
@@ -309,13 +326,13 @@ handled_at daemon at operation =
       cookie = at.cookie;
       seq = at.seq;
       operation = operation;
-      outcome = outcome.Done;
+      outcome = ended;
     })
 
 -- it was answered
-abbrev pub answered_at : Name → Name → Place → Entry
-answered_at client daemon at =
-    entry.Answered (record { client = client; daemon = daemon; cookie = at.cookie; tid = at.seq; outcome = outcome.Done })
+abbrev pub answered_at : Name → Name → Place → Outcome → Entry
+answered_at client daemon at ended =
+    entry.Answered (record { client = client; daemon = daemon; cookie = at.cookie; tid = at.seq; outcome = ended })
 
 -- the session with the daemon is at this seq
 unfoldable pub with_seq : Run → Name → Name → ℕ → Run
@@ -325,43 +342,44 @@ with_seq r client daemon seq = record r {
       (λ n. record n { sessions = changed (is_with daemon) (λ s. record s { place = record s.place { seq = seq } }) n.sessions }) r.nodes;
 }
 
--- an operation in a session: it is sent with the next seq, handled and answered
-unfoldable pub delivering : Run → Name → Name → Place → Operation → Run
-delivering r client daemon session operation =
+-- an operation in a session: it is sent with the next seq, handled with this outcome and answered
+unfoldable pub delivering : Run → Name → Name → Place → Operation → Outcome → Run
+delivering r client daemon session operation ended =
     let at : Place = record session { seq = session.seq + 1 } in
     entering
-    (entering (entering (with_seq r client daemon at.seq) (sent_at client daemon at operation)) (handled_at daemon at operation))
-    (answered_at client daemon at)
+    (entering (entering (with_seq r client daemon at.seq) (sent_at client daemon at operation)) (handled_at daemon at operation ended))
+    (answered_at client daemon at ended)
 
 -- a client that has no session with the daemon is refused
-abbrev pub sending : Run → Name → Name → Option Session → Operation → Run
-sending r client daemon None operation = refusing r client 0 reason.NoSession
-sending r client daemon (Some session) operation = delivering r client daemon session.place operation
+abbrev pub sending : Handlers → Run → Name → Name → Option Session → Operation → Run
+sending handlers r client daemon None operation = refusing r client 0 reason.NoSession
+sending handlers r client daemon (Some session) operation =
+    delivering r client daemon session.place operation (outcome_of handlers session.caps operation)
 
 -- a client sends an operation to a daemon
-abbrev pub send : Run → Name → Option Node → Name → Operation → Run
-send r client None daemon operation = r
-send r client (Some node) daemon operation = sending r client daemon (find (is_with daemon) node.sessions) operation
+abbrev pub send : Handlers → Run → Name → Option Node → Name → Operation → Run
+send handlers r client None daemon operation = r
+send handlers r client (Some node) daemon operation = sending handlers r client daemon (find (is_with daemon) node.sessions) operation
 
 -- an entity is declared, with its caps
 abbrev pub declared : Run → Name → List Grant → Run
 declared r name grants = record r { nodes = r.nodes ++ new_node name grants ∷ [] }
 
--- one line
-unfoldable pub step : Run → Line → Run
-step r (line.Lifetime seconds) = record r { monitor = record r.monitor { life = seconds * 1000000000 } }
-step r (line.AuthLifetime seconds) = record r { monitor = record r.monitor { auth_life = seconds * 1000000000 } }
-step r (line.Entity name grants) = declared r name grants
-step r (line.Clock reading) = record r { reading = reading }
-step r (line.Fetch daemon) = fetch r daemon (node_of r daemon)
-step r (line.Login client asked) = login r client (node_of r client) asked
-step r (line.Connect client daemon) = connect r client (node_of r client) daemon
-step r (line.Send client daemon operation) = send r client (node_of r client) daemon operation
+-- one line, where these kinds of operations have a handler
+unfoldable pub step : Handlers → Run → Line → Run
+step handlers r (line.Lifetime seconds) = record r { monitor = record r.monitor { life = seconds * 1000000000 } }
+step handlers r (line.AuthLifetime seconds) = record r { monitor = record r.monitor { auth_life = seconds * 1000000000 } }
+step handlers r (line.Entity name grants) = declared r name grants
+step handlers r (line.Clock reading) = record r { reading = reading }
+step handlers r (line.Fetch daemon) = fetch r daemon (node_of r daemon)
+step handlers r (line.Login client asked) = login r client (node_of r client) asked
+step handlers r (line.Connect client daemon) = connect r client (node_of r client) daemon
+step handlers r (line.Send client daemon operation) = send handlers r client (node_of r client) daemon operation
 
 -- the run behind these lines
-abbrev pub run_of : List Line → Run
-run_of lines = fold step opening lines
+abbrev pub run_of : Handlers → List Line → Run
+run_of handlers lines = fold (step handlers) opening lines
 
 -- the journal of the plain run of a schedule
-abbrev pub journal_of : List Line → List Entry
-journal_of lines = (run_of lines).journal
+abbrev pub journal_of : Handlers → List Line → List Entry
+journal_of handlers lines = (run_of handlers lines).journal

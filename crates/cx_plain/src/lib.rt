@@ -3,6 +3,7 @@
 #![tactic(auto)]
 
 mod counts;
+mod desks;
 mod entrance;
 mod monitors;
 mod nodes;

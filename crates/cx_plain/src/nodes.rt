@@ -7,6 +7,7 @@ ghost use Rattle.cx_plain.specs.Nodes.{is_named, is_with, new_node};
 
 use crate::wallets::Wallet;
 use cx_base::{EntityName, Items};
+use cx_caps::CapText;
 use cx_rotate::{Generations, View};
 use cx_schedule::Grant;
 use std::alloc::{AllocError, Global};
@@ -27,6 +28,8 @@ pub(crate) struct Place {
 pub(crate) struct Session {
     pub daemon: EntityName,
     pub place: Place,
+    /// The capability text of the ticket that it was admitted on.
+    pub caps: CapText,
 }
 
 /// A client's sessions, at most one with each daemon.

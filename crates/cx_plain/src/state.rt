@@ -1,15 +1,18 @@
 //! The state of a run, and what one line does to it.
 
 ghost use Rattle.std.specs.Prelude.{◌≡◌, [], OnOk, if◌then◌else◌};
+ghost use Rattle.cx_desk.specs.Held.{handlers_of};
 ghost use Rattle.cx_plain.specs.Plain.{opening, refusing, looking, entering, declared, ticket_fault, sent_at, handled_at, answered_at};
 
 use crate::counts::{next, next_link};
+use crate::desks::{caps_text, handle};
 use crate::entrance::{Welcome, enter, enter_save, rotated};
 use crate::monitors::{Kept, Monitor, has_generation};
 use crate::nodes::{Node, Nodes, Place, Session};
 use cx_base::{
     Blob, Duplicate, EntityName, EntityType, Items, Operation, Reading, SECOND, copy_items,
 };
+use cx_desk::Desk;
 use cx_journal::{
     Admitted, Answered, Entry, Fetched, Handled, Issued, Journal, Looked, Outcome, Reason, Refused,
     Sent, TicketFault,
@@ -231,6 +234,7 @@ impl Run {
     {
         let number = next(admitted)?;
         let cookie = next(self.cookies)?;
+        let caps = caps_text(alloc, &ticket.caps)?;
         let session = Session {
             daemon: daemon.copy(alloc)?,
             place: Place {
@@ -238,6 +242,7 @@ impl Run {
                 cookie,
                 seq: 0,
             },
+            caps,
         };
         let entered = Admitted {
             daemon: daemon.copy(alloc)?,
@@ -338,7 +343,7 @@ impl Run {
         self.meet(alloc, client, daemon, ticket)
     }
 
-    // An operation in a session is sent with the next seq, handled and answered.
+    // An operation in a session is sent with the next seq, handled with this outcome and answered.
     fn deliver(
         &mut self,
         alloc: Global,
@@ -346,15 +351,16 @@ impl Run {
         daemon: &EntityName,
         session: Place,
         operation: &Operation,
+        ended: Outcome,
     ) -> Result<(), AllocError>
-        ensures { OnOk result (self.new ≡ delivering self.old client.now daemon.now session operation.now) }
+        ensures { OnOk result (self.new ≡ delivering self.old client.now daemon.now session operation.now ended) }
     {
         let seq = next(session.seq)?;
         let place = Place { seq, ..session };
         self.nodes.set_seq(client, daemon, seq);
         self.enter_sent(alloc, client, daemon, place, operation)?;
-        self.enter_handled(alloc, daemon, place, operation)?;
-        self.enter_answered(alloc, client, daemon, place)
+        self.enter_handled(alloc, daemon, place, operation, ended)?;
+        self.enter_answered(alloc, client, daemon, place, ended)
     }
 
     fn enter_sent(
@@ -383,8 +389,9 @@ impl Run {
         daemon: &EntityName,
         at: Place,
         operation: &Operation,
+        ended: Outcome,
     ) -> Result<(), AllocError>
-        ensures { OnOk result (self.new ≡ entering self.old (handled_at daemon.now at operation.now)) }
+        ensures { OnOk result (self.new ≡ entering self.old (handled_at daemon.now at operation.now ended)) }
     {
         let entered = Handled {
             daemon: daemon.copy(alloc)?,
@@ -393,7 +400,7 @@ impl Run {
             cookie: at.cookie,
             seq: at.seq,
             operation: operation.copy(alloc)?,
-            outcome: Outcome::Done,
+            outcome: ended,
         };
         self.journal.push(alloc, Entry::Handled(entered))
     }
@@ -404,15 +411,16 @@ impl Run {
         client: &EntityName,
         daemon: &EntityName,
         at: Place,
+        ended: Outcome,
     ) -> Result<(), AllocError>
-        ensures { OnOk result (self.new ≡ entering self.old (answered_at client.now daemon.now at)) }
+        ensures { OnOk result (self.new ≡ entering self.old (answered_at client.now daemon.now at ended)) }
     {
         let entered = Answered {
             client: client.copy(alloc)?,
             daemon: daemon.copy(alloc)?,
             cookie: at.cookie,
             tid: at.seq,
-            outcome: Outcome::Done,
+            outcome: ended,
         };
         self.journal.push(alloc, Entry::Answered(entered))
     }
@@ -424,8 +432,9 @@ impl Run {
         client: &EntityName,
         daemon: &EntityName,
         operation: &Operation,
+        desk: &Desk,
     ) -> Result<(), AllocError>
-        ensures { OnOk result (self.new ≡ send self.old client.now (node_of self.old client.now) daemon.now operation.now) }
+        ensures { OnOk result (self.new ≡ send (handlers_of desk.now) self.old client.now (node_of self.old client.now) daemon.now operation.now) }
     {
         let Some(node) = self.nodes.find(client) else {
             return Ok(());
@@ -434,7 +443,8 @@ impl Run {
             return self.refuse(alloc, client, 0, Reason::NoSession);
         };
         let place = session.place;
-        self.deliver(alloc, client, daemon, place, operation)
+        let ended = handle(alloc, desk, &session.caps, operation)?;
+        self.deliver(alloc, client, daemon, place, operation, ended)
     }
 }
 
@@ -444,20 +454,20 @@ impl Run {
     ghost use Rattle.cx_plain.specs.Plain.{IsTimelyRun, step};
 
     /// What a line does.
-    pub(crate) fn step(&mut self, alloc: Global, line: &Line) -> Result<(), AllocError>
+    pub(crate) fn step(&mut self, alloc: Global, line: &Line, desk: &Desk) -> Result<(), AllocError>
         requires timely { IsTimelyRun self.old }
         requires in_range { IsTrue (is_in_range line.now) }
-        ensures state { OnOk result (self.new ≡ step self.old line.now) }
+        ensures state { OnOk result (self.new ≡ step (handlers_of desk.now) self.old line.now) }
         ensures timely { OnOk result (IsTimelyRun self.new) }
     {
-        self.follow(alloc, line)
+        self.follow(alloc, line, desk)
     }
 
     #[tactic(auto, unfolding(crate::specs::Plain::step))]
-    fn follow(&mut self, alloc: Global, line: &Line) -> Result<(), AllocError>
+    fn follow(&mut self, alloc: Global, line: &Line, desk: &Desk) -> Result<(), AllocError>
         requires timely { IsTimelyRun self.old }
         requires in_range { IsTrue (is_in_range line.now) }
-        ensures { OnOk result (self.new ≡ step self.old line.now) }
+        ensures { OnOk result (self.new ≡ step (handlers_of desk.now) self.old line.now) }
     {
         match line {
             Line::Lifetime(seconds) => {
@@ -476,7 +486,9 @@ impl Run {
             Line::Fetch(daemon) => self.fetch(alloc, daemon),
             Line::Login(client, asked) => self.enter(alloc, client, asked.all()),
             Line::Connect(client, daemon) => self.connect(alloc, client, daemon),
-            Line::Send(client, daemon, operation) => self.send(alloc, client, daemon, operation),
+            Line::Send(client, daemon, operation) => self.send(
+                alloc, client, daemon, operation, desk,
+            ),
         }
     }
 

@@ -1,10 +1,9 @@
 -- The two laws of a line: what is spelled has no fault, and words spell one line.
-use Rattle.std.proofs.Common.{◌≡◌, ℕ, ◌+◌, ◌%◌, ◌<◌, ◌^◌, false, IsTrue, List, [], ◌∷◌, length, Option, Some, None, refl, arith, codes}
+use Rattle.std.proofs.Common.{◌≡◌, ℕ, ◌+◌, ◌%◌, ◌<◌, ◌^◌, false, IsTrue, List, [], ◌∷◌, length, Option, Some, None, refl, arith}
 use Rattle.std.specs.List.{list_all}
 use Rattle.std.specs.Option.{option_map}
 use Rattle.std.proofs.lemmas.Bool.{and_parts}
 use Rattle.std.proofs.lemmas.Bool.Decides.{nat_tests}
-use Rattle.std.proofs.lemmas.Slice.Eq.{bytes_eq-Decides}
 use Rattle.cx_base.specs.Names.{Name, name_text}
 use Rattle.cx_base.specs.declared.kinds.Access.{Access}
 use Rattle.cx_base.specs.declared.operations.Operation.{Operation}
@@ -22,16 +21,13 @@ use Rattle.cx_schedule.specs.declared.lines.Line.{Line}
 use Rattle.cx_schedule.specs.declared.lines.Line.TheVariants.{Lifetime, AuthLifetime, Entity, Clock, Fetch, Login, Connect, Send}
 use Rattle.cx_schedule.specs.Faults.{fault_of, has_bad_pair, is_missing}
 use Rattle.cx_schedule.specs.Heads.{head_of}
-use Rattle.cx_schedule.specs.Lines.{Spells, grant_words, is_grant, is_life, is_open}
+use Rattle.cx_schedule.specs.Lines.{Spells, grant_words, is_grant, is_life}
 use Rattle.cx_schedule.proofs.Grants.{repeats_is}
 
 -- ---- what the words of pairs are
 
 life_below : (seconds : ℕ) → IsTrue (is_life seconds) → seconds < 2 ^ 64
 life_below seconds h = grind (arith, nat_tests, h)
-
-open_caps : (caps : List ℕ) → IsTrue (is_open caps) → IsTrue (is_caps caps)
-open_caps caps h = let e : caps ≡ codes "allow *" = (bytes_eq-Decides caps (codes "allow *")).0 h in rw e refl
 
 even_words : (gs : List Grant) → length (grant_words gs) % 2 ≡ 0
 even_words [] = refl
@@ -49,8 +45,8 @@ good_words : (gs : List Grant) → IsTrue (list_all is_grant gs) → has_bad_pai
 good_words [] h = refl
 good_words (g ∷ gs) h =
     let parts = and_parts (is_grant g) (list_all is_grant gs) h in
-    let own = and_parts (is_service g.service) (is_open g.caps) parts.0 in
-    rw (service_of-word g.service own.0, caps_of-quoted g.caps (open_caps g.caps own.1), own.1, good_words gs parts.1) refl
+    let own = and_parts (is_service g.service) (is_caps g.caps) parts.0 in
+    rw (service_of-word g.service own.0, caps_of-quoted g.caps own.1, good_words gs parts.1) refl
 
 -- ---- what is spelled has no fault
 
@@ -118,8 +114,8 @@ grants_undone : (gs : List Grant) → IsTrue (list_all is_grant gs) → grants_i
 grants_undone [] h = refl
 grants_undone (g ∷ gs) h =
     let parts = and_parts (is_grant g) (list_all is_grant gs) h in
-    let own = and_parts (is_service g.service) (is_open g.caps) parts.0 in
-    rw (service_of-word g.service own.0, caps_of-quoted g.caps (open_caps g.caps own.1), grants_undone gs parts.1) refl
+    let own = and_parts (is_service g.service) (is_caps g.caps) parts.0 in
+    rw (service_of-word g.service own.0, caps_of-quoted g.caps own.1, grants_undone gs parts.1) refl
 
 undone : (earlier : List Line) (line : Line) (words : List (List ℕ)) → Spells earlier line words → line_in words ≡ Some line
 undone earlier (Lifetime s) words p = rw (p.3, number_of-decimal s (life_below s p.0)) refl

@@ -23,7 +23,7 @@ use Rattle.cx_schedule.specs.declared.lines.Line.{Line}
 use Rattle.cx_schedule.specs.declared.lines.Line.TheVariants.{Lifetime, AuthLifetime, Entity, Clock, Fetch, Login, Connect, Send}
 use Rattle.cx_schedule.specs.Faults.{fault_behind, fault_of, fault_with, has, has_bad_pair, is_bad_pair, repeats_pair}
 use Rattle.cx_schedule.specs.Heads.{head_of, head_word, heads}
-use Rattle.cx_schedule.specs.Lines.{IsClient, Spells, SpellsOperation, grant_words, has_most_entities, is_client, is_daemon, is_declarable, is_declared, is_fit, is_grant, is_life, is_name, is_open, repeats_service}
+use Rattle.cx_schedule.specs.Lines.{IsClient, Spells, SpellsOperation, grant_words, has_most_entities, is_client, is_daemon, is_declarable, is_declared, is_fit, is_grant, is_life, is_name, repeats_service}
 use Rattle.cx_schedule.specs.Places.{fails, passes}
 use Rattle.cx_schedule.proofs.Grants.{repeats_is}
 
@@ -89,15 +89,15 @@ grants_in [] even good = ([], refl, refl)
 grants_in (word ∷ []) even good = absurd (let e : true ≡ false = even in cc)
 grants_in (first ∷ second ∷ pairs) even good =
     let parts = or_parts (is_bad_pair first second) (has_bad_pair pairs) good in
-    let own = or_parts (is_none (service_of first)) (not (passes is_open (caps_of second))) parts.0 in
+    let own = or_parts (is_none (service_of first)) (is_none (caps_of second)) parts.0 in
     let service = there (service_of first) own.0 in
-    let caps = passed is_open (caps_of second) own.1 in
+    let caps = there (caps_of second) own.1 in
     let n : length (first ∷ second ∷ pairs) % 2 ≡ length pairs % 2 = omega arith in
     let rest = grants_in pairs (rw n at even) parts.1 in
     let grant : Grant = record { service = service.0; caps = caps.0 } in
     let is_first = service_of-is first service.0 service.1 in
-    let is_second = (caps_of-is second caps.0 caps.1).1 in
-    (grant ∷ rest.0, rw (is_first.0, caps.2, rest.1) refl, (let a = is_first.1 in let c = rest.2 in cc))
+    let is_second = caps_of-is second caps.0 caps.1 in
+    (grant ∷ rest.0, rw (is_first.0, is_second.0, rest.1) refl, (let a = is_first.1 in let b = is_second.1 in let c = rest.2 in cc))
 
 -- ---- the forms
 

@@ -1,5 +1,5 @@
 -- Why words are no line: the first fault of a fixed list that they have.
-use Rattle.std.specs.Prelude.{ℕ, ◌%◌, ◌==◌, ◌≡◌, Bool, true, false, not, ◌&&◌, ◌||◌, nat_lt, List, [], ◌∷◌, length, Option, Some, None, is_none, find}
+use Rattle.std.specs.Prelude.{ℕ, ◌%◌, ◌==◌, ◌≡◌, Bool, true, false, ◌&&◌, ◌||◌, nat_lt, List, [], ◌∷◌, length, Option, Some, None, is_none, find}
 use Rattle.std.specs.List.{list_any}
 use Rattle.std.specs.Str.{bytes_eq}
 use Rattle.cx_words.specs.Words.{name_of, service_of, caps_of}
@@ -11,7 +11,7 @@ use Rattle.cx_schedule.specs.declared.heads.Head.{Head}
 use Rattle.cx_schedule.specs.declared.heads.Head.TheVariants.{Lifetime, AuthLifetime, Entity, Clock, Fetch, Login, Connect, Send}
 use Rattle.cx_schedule.specs.declared.lines.Line.{Line}
 use Rattle.cx_schedule.specs.Heads.{head_of, stands_first, is_later_word}
-use Rattle.cx_schedule.specs.Lines.{is_declared, has_most_entities, is_begun, is_lifetime, is_auth_lifetime, is_open}
+use Rattle.cx_schedule.specs.Lines.{is_declared, has_most_entities, is_begun, is_lifetime, is_auth_lifetime}
 use Rattle.cx_schedule.specs.Places.{places, at_any, passes, bad_number, bad_name, bad_text, unknown}
 
 -- how few words may stand behind the first
@@ -45,9 +45,9 @@ is_extra Login words = nat_lt 2 (length words)
 is_extra Connect words = nat_lt 2 (length words)
 is_extra Send words = nat_lt 7 (length words)
 
--- a pair of words that is no service with caps that a schedule may give
+-- a pair of words that is no service with its caps
 abbrev pub is_bad_pair : List ℕ → List ℕ → Bool
-is_bad_pair service caps = is_none (service_of service) || not (passes is_open (caps_of caps))
+is_bad_pair service caps = is_none (service_of service) || is_none (caps_of caps)
 
 -- whether one of the pairs is none
 abbrev pub has_bad_pair : List (List ℕ) → Bool

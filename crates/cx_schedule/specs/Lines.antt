@@ -2,14 +2,13 @@
 -- bounds are those of docs/guide.md, "The lines of a schedule".
 use Rattle.std.specs.Prelude.{ℕ, ◌≡◌, Bool, true, false, ◌&&◌, ◌||◌, IsTrue, nat_le, nat_lt, List, [], ◌∷◌, length, count_by, codes}
 use Rattle.std.specs.List.{list_any, list_all}
-use Rattle.std.specs.Str.{bytes_eq}
 use Rattle.std.specs.Fmt.{decimal}
 use Rattle.cx_base.specs.declared.kinds.EntityType.{EntityType}
 use Rattle.cx_base.specs.declared.kinds.EntityType.TheVariants.{Mds, Osd, Client, Mgr}
 use Rattle.cx_base.specs.Names.{Name, is_id, name_text, same_kind, same_name, type_word, access_word}
 use Rattle.cx_base.specs.declared.operations.Operation.{Operation}
 use Rattle.cx_words.specs.Words.{IsReadingWord, IsHexWord, is_service, is_service_list, services_word, part_word, quoted}
-use Rattle.cx_base.specs.Texts.{is_part}
+use Rattle.cx_base.specs.Texts.{is_caps, is_part}
 use Rattle.cx_schedule.specs.declared.lines.Grant.{Grant}
 use Rattle.cx_schedule.specs.declared.lines.Line.{Line}
 use Rattle.cx_schedule.specs.declared.lines.Line.TheVariants.{Lifetime, AuthLifetime, Entity, Clock, Fetch, Login, Connect, Send}
@@ -75,13 +74,9 @@ is_step _ = true
 abbrev pub is_begun : List Line → Bool
 is_begun earlier = list_any is_step earlier
 
--- the caps text that a schedule may give: it grants everything
-abbrev pub is_open : List ℕ → Bool
-is_open caps = bytes_eq caps (codes "allow *")
-
 -- a pair of a service and its caps that a schedule may give
 abbrev pub is_grant : Grant → Bool
-is_grant grant = is_service grant.service && is_open grant.caps
+is_grant grant = is_service grant.service && is_caps grant.caps
 
 -- whether one of these pairs is of this service
 abbrev pub has_service : EntityType → List Grant → Bool

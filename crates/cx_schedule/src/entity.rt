@@ -4,7 +4,7 @@ ghost use Rattle.std.specs.Prelude.{◌≡◌, ◌∷◌, [], ◌++◌, map, cod
 ghost use Rattle.std.specs.List.{list_all};
 ghost use Rattle.cx_schedule.specs.declared.heads.Head.{Head};
 ghost use Rattle.cx_schedule.specs.Faults.{IsCause, has_bad_pair, is_bad_pair, repeats_pair};
-ghost use Rattle.cx_schedule.specs.Lines.{Spells, grant_words, has_service, is_declarable, is_grant, is_open, repeats_service};
+ghost use Rattle.cx_schedule.specs.Lines.{Spells, grant_words, has_service, is_declarable, is_grant, repeats_service};
 ghost use Rattle.cx_words.specs.Words.{quoted};
 ghost use Rattle.cx_base.specs.Names.{type_word};
 
@@ -13,7 +13,7 @@ use crate::faults::LineRefusal::Fault;
 use crate::faults::{LineFault, LineRefusal};
 use crate::lines::{Grant, Line};
 use cx_base::{EntityName, EntityType, Items};
-use cx_words::{caps, is_word, name, service};
+use cx_words::{caps, name, service};
 use std::alloc::{AllocError, Global};
 
 /// The line that these words behind `entity` spell.
@@ -93,9 +93,6 @@ fn grant(alloc: Global, first: &[u8], second: &[u8]) -> Result<Option<Grant>, Al
     let Some(caps) = caps(alloc, second)? else {
         return Ok(None);
     };
-    if !is_word(caps.bytes(), "allow *") {
-        return Ok(None);
-    }
     Ok(Some(Grant { service, caps }))
 }
 

@@ -26,7 +26,7 @@ fn repeated(alloc: Global, bytes: &[u8], count: usize) -> Result<Vec<u8>, Fail> 
 
 /// A schedule of all forms, with a comment, an empty line and no last LF.
 const ALL_FORMS: &str =
-    "#\tany \u{e9}\nlifetime 1\nauth-lifetime 31536000\n\nentity client.a mon \"allow *\" osd \"allow *\"\nentity osd.0\nclock 12.000000005\nfetch osd.0\nlogin client.a\nlogin client.a osd,mgr\nconnect client.a osd.0\nsend client.a osd.0 write rbd - o 00Ff\nsend client.a osd.0 read - - - -";
+    "#\tany \u{e9}\nlifetime 1\nauth-lifetime 31536000\n\nentity client.a mon \"allow r pool=rbd, profile rbd\" osd \"\"\nentity osd.0\nclock 12.000000005\nfetch osd.0\nlogin client.a\nlogin client.a osd,mgr\nconnect client.a osd.0\nsend client.a osd.0 write rbd - o 00Ff\nsend client.a osd.0 read - - - -";
 
 #[test]
 fn a_schedule_of_all_forms_is_read(rt: HostRuntime) -> Result<(), Fail> {
@@ -40,7 +40,7 @@ fn a_schedule_of_all_forms_is_read(rt: HostRuntime) -> Result<(), Fail> {
 }
 
 /// Lines below the declarations, the number of the first bad one and its first fault.
-const BAD_LINES: [(&str, u32, LineFault); 34] = [
+const BAD_LINES: [(&str, u32, LineFault); 36] = [
     ("fly client.a", 4, LineFault::UnknownWord),
     ("login", 4, LineFault::Missing),
     ("entity mds.a osd", 4, LineFault::Missing),
@@ -50,7 +50,9 @@ const BAD_LINES: [(&str, u32, LineFault); 34] = [
     ("lifetime 31536001", 4, LineFault::BadNumber),
     ("fetch osd", 4, LineFault::BadName),
     ("login client.a osd,osd", 4, LineFault::BadText),
-    ("entity mds.a osd \"allow r\"", 4, LineFault::BadText),
+    ("entity mds.a osd allow", 4, LineFault::BadText),
+    ("entity mds.a osd \"a\\b\"", 4, LineFault::BadText),
+    ("entity mds.a osd \"\u{7f}\"", 4, LineFault::BadText),
     ("send client.a osd.0 erase p n o -", 4, LineFault::BadText),
     ("login client.b", 4, LineFault::UnknownNode),
     ("login osd.0", 4, LineFault::UnknownNode),
@@ -141,6 +143,22 @@ fn the_limits_of_bytes_and_lines_are_met_at_their_last_values(rt: HostRuntime) -
         assert!(rt;
             is_read(rt.alloc(), text.as_slice()) == good,
             "{} lines",
+            count
+        );
+    }
+    Ok(())
+}
+
+#[test]
+fn the_limit_of_a_capability_text_is_met_at_its_last_value(rt: HostRuntime) -> Result<(), Fail> {
+    for (count, good) in [(4_095, true), (4_096, true), (4_097, false)] {
+        let caps = repeated(rt.alloc(), b"~", count)?;
+        let mut text = Vec::from_slice(rt.alloc(), b"entity mds.a osd \"")?;
+        text.extend_from_slice(caps.as_slice())?;
+        text.extend_from_slice(b"\"")?;
+        assert!(rt;
+            is_read(rt.alloc(), text.as_slice()) == good,
+            "{} bytes of caps",
             count
         );
     }

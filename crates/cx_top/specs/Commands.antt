@@ -1,6 +1,7 @@
 -- The commands: their words, and what each makes of its input.
 use Rattle.std.specs.Prelude.{ℕ, ◌≤◌, ◌≡◌, List, length, codes, Option}
 use Rattle.cx_base.specs.Streams.{Takes, TakesFront}
+use Rattle.cx_desk.specs.Handlers.{Handlers}
 use Rattle.cx_keyring.specs.declared.entries.Entry.{Entry}
 use Rattle.cx_keyring.specs.Rings.{KeyringText, printed_keyring}
 use Rattle.cx_schedule.specs.Files.{IsShort}
@@ -21,25 +22,25 @@ pub record Prints (bytes text : List ℕ) : Type 0 where
   pub short : IsShort bytes
   pub written : text ≡ printed_keyring ring
 
--- the command makes this text of the bytes
-abbrev pub Makes : Command → List ℕ → List ℕ → Type 0
-Makes Replay bytes text = Replays bytes text
-Makes Keyring bytes text = Prints bytes text
+-- the command makes this text of the bytes, where these kinds of operations have a handler
+abbrev pub Makes : Handlers → Command → List ℕ → List ℕ → Type 0
+Makes handlers Replay bytes text = Replays handlers bytes text
+Makes handlers Keyring bytes text = Prints bytes text
 
 -- the whole input was read, and the command makes this text of it
-pub record MakesOfAll (command : Command) (left now : Option (List ℕ)) (text : List ℕ) : Type 0 where
+pub record MakesOfAll (handlers : Handlers) (command : Command) (left now : Option (List ℕ)) (text : List ℕ) : Type 0 where
   pub bytes : List ℕ
   pub read : GaveAll left now bytes
-  pub makes : Makes command bytes text
+  pub makes : Makes handlers command bytes text
 
 -- the whole input was read, and what the command makes of it was written
-pub record Writes (command : Command) (left now taken after : Option (List ℕ)) : Type 0 where
+pub record Writes (handlers : Handlers) (command : Command) (left now taken after : Option (List ℕ)) : Type 0 where
   pub text : List ℕ
-  pub made : MakesOfAll command left now text
+  pub made : MakesOfAll handlers command left now text
   pub wrote : Takes taken after text
 
 -- the whole input was read, and a front of what the command makes of it was written
-pub record WritesFront (command : Command) (left now taken after : Option (List ℕ)) : Type 0 where
+pub record WritesFront (handlers : Handlers) (command : Command) (left now taken after : Option (List ℕ)) : Type 0 where
   pub text : List ℕ
-  pub made : MakesOfAll command left now text
+  pub made : MakesOfAll handlers command left now text
   pub wrote : TakesFront taken after text

@@ -1,12 +1,14 @@
 -- What a source gave, and what a replay makes of it.
 use Rattle.std.specs.Prelude.{ℕ, ◌≡◌, List, [], ◌++◌, Option, Some, None}
+use Rattle.cx_desk.specs.Handlers.{Handlers}
 use Rattle.cx_schedule.specs.declared.lines.Line.{Line}
 use Rattle.cx_schedule.specs.Files.{Lines, IsShort}
 use Rattle.cx_journal.specs.JournalText.{journal_text}
 use Rattle.cx_journal.specs.Backed.{IsBacked}
 use Rattle.cx_journal.specs.InSession.{IsInSession}
 use Rattle.cx_journal.specs.KeepsKeys.{KeepsKeys}
-use Rattle.cx_plain.specs.Plain.{journal_of}
+use Rattle.cx_journal.specs.Enforced.{IsEnforced}
+use Rattle.cx_plain.specs.Plain.{journal_of, serves}
 
 -- where the source tells what it had and has left: it gave these bytes in between
 abbrev pub Gave : Option (List ℕ) → Option (List ℕ) → List ℕ → Type 0
@@ -19,14 +21,16 @@ abbrev pub GaveAll : Option (List ℕ) → Option (List ℕ) → List ℕ → Ty
 GaveAll None now bytes = Unit {0}
 GaveAll (Some left) now bytes = (bytes ≡ left) × (now ≡ Some [])
 
--- the bytes are a schedule within the limits, and the text is that of the journal of its plain run, of which the three laws
--- hold: each admitted session rests on an unexpired issued ticket, each operation is handled in an admitted session, and no
--- ticket is refused for a generation that the daemon's view has
-pub record Replays (bytes text : List ℕ) : Type 0 where
+-- the bytes are a schedule within the limits, and the text is that of the journal of its plain run over these handlers, of
+-- which the four laws hold: each admitted session rests on an unexpired issued ticket, each operation is handled in an
+-- admitted session, no ticket is refused for a generation that the daemon's view has, and each operation ends as the caps of
+-- its session and the handlers say
+pub record Replays (handlers : Handlers) (bytes text : List ℕ) : Type 0 where
   pub script : List Line
   pub lines : Lines bytes script
   pub short : IsShort bytes
-  pub written : text ≡ journal_text (journal_of script)
-  pub backed : IsBacked (journal_of script)
-  pub in_session : IsInSession (journal_of script)
-  pub keeps_keys : KeepsKeys (journal_of script)
+  pub written : text ≡ journal_text (journal_of handlers script)
+  pub backed : IsBacked (journal_of handlers script)
+  pub in_session : IsInSession (journal_of handlers script)
+  pub keeps_keys : KeepsKeys (journal_of handlers script)
+  pub enforced : IsEnforced (serves handlers) (journal_of handlers script)

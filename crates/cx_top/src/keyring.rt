@@ -4,7 +4,7 @@ ghost use Rattle.std.specs.Prelude.{◌≡◌, ◌≤◌, length, IfOk, IfErr, I
 ghost use Rattle.cx_schedule.specs.Files.{IsShort};
 ghost use Rattle.cx_words.specs.Cutting.{lines_of};
 ghost use Rattle.cx_top.specs.Causes.{IsAnswered, IsBytesCause, IsReasonFor};
-ghost use Rattle.cx_top.specs.Commands.{Makes};
+ghost use Rattle.cx_top.specs.Commands.{Prints};
 ghost use Rattle.cx_top.specs.Statuses.{IsOrMemory};
 ghost use Rattle.cx_top.specs.declared.commands.Command.TheVariants.{Keyring};
 ghost use Rattle.cx_top.specs.declared.status.Status.{Status};
@@ -18,7 +18,7 @@ use std::alloc::Global;
 
 /// The printed form of the keyring that these bytes are.
 pub fn printed(alloc: Global, bytes: &[u8]) -> Result<Blob, Status>
-    ensures makes { IfOk result (Makes Keyring bytes.now) }
+    ensures makes { IfOk result (Prints bytes.now) }
     ensures cause { IfErr result (IsBytesCause Keyring bytes.now) }
     ensures complete { IsAnswered Keyring bytes.now → IfErr result (λ status. status ≡ Status.OutOfMemory) }
     ensures exact { (why : Status) → IsReasonFor Keyring bytes.now why → MatchResult result (λ text. ⊥) (IsOrMemory why) }

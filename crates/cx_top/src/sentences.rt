@@ -86,7 +86,7 @@ fn remedy(why: LineFault) -> &'static str {
             "write a type, a point and an id of 1 to 64 letters, digits or _ - . : + /, as in: osd.0"
         }
         LineFault::BadText => {
-            "write caps as \"allow *\", services as mds,osd,mgr, an access as read, write or exec, nothing as -, and \
+            "write caps in quotation marks, as \"allow *\", at most 4,096 bytes without a backslash or a tab, services as mds,osd,mgr, an access as read, write or exec, nothing as -, and \
             data as two hexadecimal digits a byte"
         }
         LineFault::UnknownNode => {

@@ -2,7 +2,9 @@
 
 use crate::status::Status;
 use crate::top::run;
-use cx_base::{Blob, ByteSource, Sink, VecSink};
+use cx_base::{Access, Blob, ByteSource, Sink, VecSink};
+use cx_caps::Permitted;
+use cx_desk::Desk;
 use cx_keyring::KeyringFault;
 use cx_schedule::LineFault;
 use std::alloc::{AllocError, Global};
@@ -16,7 +18,7 @@ struct Row {
     journal: &'static str,
 }
 
-const ROWS: [Row; 14] = [
+const ROWS: [Row; 16] = [
     Row {
         shows: "a client that logs in, connects and sends is admitted and answered",
         schedule: "entity client.a osd \"allow *\"\n\
@@ -222,6 +224,60 @@ const ROWS: [Row; 14] = [
         journal: "",
     },
     Row {
+        shows: "caps for reads deny a write",
+        schedule: "entity client.a osd \"allow r pool=rbd\"\n\
+            entity osd.0\n\
+            clock 1000\n\
+            fetch osd.0\n\
+            login client.a osd\n\
+            connect client.a osd.0\n\
+            send client.a osd.0 write rbd - obj1 -\n",
+        status: Status::Done,
+        journal: "saved 2\n\
+            issued 1 osd.0 auth 1 2 1000 44200 \"\"\n\
+            fetched osd.0 1000 1,2,3\n\
+            saved 3\n\
+            issued 2 client.a auth 2 2 1000 44200 \"\"\n\
+            issued 3 client.a osd 2 2 1000 4600 \"allow r pool=rbd\"\n\
+            looked osd.0 3 1,2,3 1000\n\
+            looked osd.0 3 1,2,3 1000\n\
+            admitted osd.0 1 1 c1 client.a 2 1000 \"allow r pool=rbd\"\n\
+            sent client.a osd.0 c1 1 write rbd - obj1 -\n\
+            handled osd.0 1 1 c1 1 write rbd - obj1 - denied\n\
+            answered client.a osd.0 1 denied\n",
+    },
+    Row {
+        shows: "a profile grants nothing, and the clause beside it grants what it says",
+        schedule: "entity client.vm mon \"profile rbd\" osd \"profile rbd pool=vms, allow r pool=images\"\n\
+            entity osd.0\n\
+            clock 1000\n\
+            fetch osd.0\n\
+            login client.vm osd\n\
+            connect client.vm osd.0\n\
+            send client.vm osd.0 read images - o -\n\
+            send client.vm osd.0 read vms - o -\n\
+            send client.vm osd.0 write images - o 00\n",
+        status: Status::Done,
+        journal: "saved 2\n\
+            issued 1 osd.0 auth 1 2 1000 44200 \"\"\n\
+            fetched osd.0 1000 1,2,3\n\
+            saved 3\n\
+            issued 2 client.vm auth 2 2 1000 44200 \"\"\n\
+            issued 3 client.vm osd 2 2 1000 4600 \"profile rbd pool=vms, allow r pool=images\"\n\
+            looked osd.0 3 1,2,3 1000\n\
+            looked osd.0 3 1,2,3 1000\n\
+            admitted osd.0 1 1 c1 client.vm 2 1000 \"profile rbd pool=vms, allow r pool=images\"\n\
+            sent client.vm osd.0 c1 1 read images - o -\n\
+            handled osd.0 1 1 c1 1 read images - o - done\n\
+            answered client.vm osd.0 1 done\n\
+            sent client.vm osd.0 c1 2 read vms - o -\n\
+            handled osd.0 1 1 c1 2 read vms - o - denied\n\
+            answered client.vm osd.0 2 denied\n\
+            sent client.vm osd.0 c1 3 write images - o 00\n\
+            handled osd.0 1 1 c1 3 write images - o 00 denied\n\
+            answered client.vm osd.0 3 denied\n",
+    },
+    Row {
         shows: "a line outside of the grammar is refused by its number",
         schedule: "entity client.a\n\
             clock 5\n\
@@ -245,7 +301,7 @@ const ROWS: [Row; 14] = [
 /// The room of the sink.
 const ROOM: usize = 65_536;
 
-// Runs these words over an input, of whose calls those listed fail, and a sink with so much room.
+// Runs these words over an input, of whose calls those listed fail, a sink with so much room, and the three handlers.
 fn run_over(
     alloc: Global,
     words: &[&str],
@@ -253,10 +309,62 @@ fn run_over(
     fails: &[u8],
     room: usize,
 ) -> Result<(Status, VecSink), AllocError> {
+    let mut desk = Desk::empty();
+    let read = |alloc: Global, ask: &Permitted| Blob::of(alloc, ask.operation().object.bytes());
+    desk.set(Access::Read, Box::new(alloc, read)?);
+    let write = |alloc: Global, ask: &Permitted| -> Result<Blob, AllocError> {
+        let count = ask.operation().bytes.bytes().len();
+        let printed = format!(in alloc; "{count}")?;
+        Blob::of(alloc, printed.as_bytes())
+    };
+    desk.set(Access::Write, Box::new(alloc, write)?);
+    let exec = |alloc: Global, ask: &Permitted| Blob::of(alloc, ask.operation().bytes.bytes());
+    desk.set(Access::Exec, Box::new(alloc, exec)?);
     let mut source = ByteSource::new(Blob::of(alloc, input)?, Blob::of(alloc, fails)?);
     let mut sink = VecSink::new(alloc, room, Blob::new(alloc))?;
-    let status = run(alloc, words, &mut source, &mut sink);
+    let status = run(alloc, words, &mut source, &mut sink, &desk);
     Ok((status, sink))
+}
+
+/// A read and an exec, each allowed, and the journal where reads alone have a handler.
+const READ_AND_EXEC: &str = "entity client.a osd \"allow *\"\n\
+    entity osd.0\n\
+    clock 1000\n\
+    fetch osd.0\n\
+    login client.a osd\n\
+    connect client.a osd.0\n\
+    send client.a osd.0 read rbd - o -\n\
+    send client.a osd.0 exec rbd - o 6f6b\n";
+
+const NO_EXEC: &str = "saved 2\n\
+    issued 1 osd.0 auth 1 2 1000 44200 \"\"\n\
+    fetched osd.0 1000 1,2,3\n\
+    saved 3\n\
+    issued 2 client.a auth 2 2 1000 44200 \"\"\n\
+    issued 3 client.a osd 2 2 1000 4600 \"allow *\"\n\
+    looked osd.0 3 1,2,3 1000\n\
+    looked osd.0 3 1,2,3 1000\n\
+    admitted osd.0 1 1 c1 client.a 2 1000 \"allow *\"\n\
+    sent client.a osd.0 c1 1 read rbd - o -\n\
+    handled osd.0 1 1 c1 1 read rbd - o - done\n\
+    answered client.a osd.0 1 done\n\
+    sent client.a osd.0 c1 2 exec rbd - o 6f6b\n\
+    handled osd.0 1 1 c1 2 exec rbd - o 6f6b no-handler\n\
+    answered client.a osd.0 2 no-handler\n";
+
+#[test]
+fn an_operation_without_a_handler_is_told_in_both_lines(rt: HostRuntime) -> Result<(), AllocError> {
+    let alloc = rt.alloc();
+    let mut desk = Desk::empty();
+    let read = |alloc: Global, ask: &Permitted| Blob::of(alloc, ask.operation().object.bytes());
+    desk.set(Access::Read, Box::new(alloc, read)?);
+    let schedule = Blob::of(alloc, READ_AND_EXEC.as_bytes())?;
+    let mut source = ByteSource::new(schedule, Blob::new(alloc));
+    let mut sink = VecSink::new(alloc, ROOM, Blob::new(alloc))?;
+    let status = run(alloc, &["replay"], &mut source, &mut sink, &desk);
+    assert_eq!(rt; status, Status::Done);
+    assert_eq!(rt; sink.taken(), NO_EXEC.as_bytes());
+    Ok(())
 }
 
 #[test]

@@ -2,6 +2,7 @@
 
 ghost use Rattle.std.specs.Prelude.{◌≡◌, ◌≢◌, ◌≤◌, ◌↔◌, [], ◌∷◌, map, IfOk, IfErr, MatchResult};
 ghost use Rattle.cx_base.specs.Streams.{Rose};
+ghost use Rattle.cx_desk.specs.Held.{handlers_of};
 ghost use Rattle.cx_top.specs.Causes.{HasAnswer, HasReason, IsAnswered, IsBytesCause, IsInputCause, IsReasonFor, IsRefusedStatus};
 ghost use Rattle.cx_top.specs.Commands.{command_word, Makes, MakesOfAll, Writes, WritesFront};
 ghost use Rattle.cx_top.specs.Statuses.{IsOrMemory, IsServed};
@@ -14,12 +15,19 @@ use crate::keyring::printed;
 use crate::replay::replayed;
 use crate::status::Status;
 use cx_base::{Blob, Sink, Source};
+use cx_desk::Desk;
 use std::alloc::Global;
 
 /// Does what these words of the command line ask for: `replay` reads a schedule from `input` and writes its journal to `out`,
 /// `keyring` reads a keyring and writes it in its printed form. Each reads up to the end of the input or one byte above the
-/// limit.
-pub fn run<I: Source, O: Sink>(alloc: Global, words: &[&str], input: &mut I, out: &mut O) -> Status
+/// limit. The operations of a schedule are served by `desk`.
+pub fn run<I: Source, O: Sink>(
+    alloc: Global,
+    words: &[&str],
+    input: &mut I,
+    out: &mut O,
+    desk: &Desk,
+) -> Status
     ensures usage { (result ≡ Status.Usage) ↔ ((command : Command) → map (λ w. w.now) words.now ≢ command_word command ∷ []) }
 
     ensures read { result ≡ Status.ReadFault → Rose (I.faults input.old) (I.faults input.new) }
@@ -28,9 +36,9 @@ pub fn run<I: Source, O: Sink>(alloc: Global, words: &[&str], input: &mut I, out
     ensures write { result ≡ Status.WriteFault → Rose (O.faults out.old) (O.faults out.new) }
 
     ensures done { result ≡ Status.Done → (command : Command) → map (λ w. w.now) words.now ≡ command_word command ∷ []
-        → Writes command (I.left input.old) (I.left input.new) (O.taken out.old) (O.taken out.new) }
+        → Writes (handlers_of desk.now) command (I.left input.old) (I.left input.new) (O.taken out.old) (O.taken out.new) }
     ensures front { result ≡ Status.WriteFault → (command : Command) → map (λ w. w.now) words.now ≡ command_word command ∷ []
-        → WritesFront command (I.left input.old) (I.left input.new) (O.taken out.old) (O.taken out.new) }
+        → WritesFront (handlers_of desk.now) command (I.left input.old) (I.left input.new) (O.taken out.old) (O.taken out.new) }
     ensures untouched { result ≢ Status.Done → result ≢ Status.WriteFault → out.new ≡ out.old }
     ensures unread { result ≡ Status.Usage → input.new ≡ input.old }
 
@@ -51,7 +59,7 @@ pub fn run<I: Source, O: Sink>(alloc: Global, words: &[&str], input: &mut I, out
     let Some(command) = command_of(words) else {
         return Status::Usage;
     };
-    let text = match text_from(alloc, command, input) {
+    let text = match text_from(alloc, command, input, desk) {
         Ok(text) => text,
         Err(status) => return status,
     };
@@ -62,8 +70,13 @@ pub fn run<I: Source, O: Sink>(alloc: Global, words: &[&str], input: &mut I, out
 }
 
 // What the command makes of this input.
-fn text_from<I: Source>(alloc: Global, command: Command, input: &mut I) -> Result<Blob, Status>
-    ensures makes { IfOk result (MakesOfAll command (I.left input.old) (I.left input.new)) }
+fn text_from<I: Source>(
+    alloc: Global,
+    command: Command,
+    input: &mut I,
+    desk: &Desk,
+) -> Result<Blob, Status>
+    ensures makes { IfOk result (MakesOfAll (handlers_of desk.now) command (I.left input.old) (I.left input.new)) }
     ensures cause { IfErr result (IsInputCause command (I.left input.old) (I.left input.new) (I.faults input.old) (I.faults input.new)) }
     ensures complete { HasAnswer command (I.left input.old) → ¬ Rose (I.faults input.old) (I.faults input.new)
         → IfErr result (λ status. status ≡ Status.OutOfMemory) }
@@ -73,18 +86,18 @@ fn text_from<I: Source>(alloc: Global, command: Command, input: &mut I) -> Resul
     ensures reads { I.faults input.old ≤ I.faults input.new }
 {
     let bytes = read_all(alloc, input)?;
-    text_of(alloc, command, bytes.bytes())
+    text_of(alloc, command, bytes.bytes(), desk)
 }
 
 // What the command makes of these bytes.
-fn text_of(alloc: Global, command: Command, bytes: &[u8]) -> Result<Blob, Status>
-    ensures makes { IfOk result (Makes command bytes.now) }
+fn text_of(alloc: Global, command: Command, bytes: &[u8], desk: &Desk) -> Result<Blob, Status>
+    ensures makes { IfOk result (Makes (handlers_of desk.now) command bytes.now) }
     ensures cause { IfErr result (IsBytesCause command bytes.now) }
     ensures complete { IsAnswered command bytes.now → IfErr result (λ status. status ≡ Status.OutOfMemory) }
     ensures exact { (why : Status) → IsReasonFor command bytes.now why → MatchResult result (λ text. ⊥) (IsOrMemory why) }
 {
     match command {
-        Command::Replay => replayed(alloc, bytes),
+        Command::Replay => replayed(alloc, bytes, desk),
         Command::Keyring => printed(alloc, bytes),
     }
 }

@@ -15,6 +15,6 @@ returns c =
     let is_at : at ≡ next = rw c.in_ok-seq.ensures refl in
     let is_on : on ≡ with_seq c.args.self.now c.args.client.now c.args.daemon.now c.in_ok-seq.seq = rw c.set_seq.ensures refl in
     let same =
-    delivers c.args.self.now on c.enter_sent.new.self c.enter_handled.new.self c.args.client.now c.args.daemon.now c.args.session at c.args.operation.now
+    delivers c.args.self.now on c.enter_sent.new.self c.enter_handled.new.self c.args.client.now c.args.daemon.now c.args.session at c.args.operation.now c.args.ended
     is_at is_on c.in_ok-enter_sent.ensures c.in_ok-enter_handled.ensures in
     rw (← same) c.enter_answered.ensures
