@@ -1,6 +1,5 @@
 -- From a reader's reasons to those of the command.
-use Rattle.std.proofs.Common.{◌≡◌, ℕ, ◌⊎◌, inl, inr, List, Option, Some, None, refl, sym, ap, ◌∙◌}
-use Rattle.cx_keyring.specs.declared.faults.KeyringFault.{KeyringFault}
+use Rattle.std.proofs.Common.{◌≡◌, ℕ, ◌⊎◌, inl, inr, List, Some, None, refl, sym, ap, ◌∙◌}
 use Rattle.cx_keyring.specs.declared.refusals.KeyringRefusal.{KeyringRefusal}
 use Rattle.cx_keyring.specs.declared.refusals.KeyringRefusal.TheVariants as keyring
 use Rattle.cx_keyring.specs.Rings as rings
