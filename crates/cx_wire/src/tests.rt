@@ -121,6 +121,11 @@ static OPERATION_BODY: [u8; 24] = [
 
 static ANSWER_BODY: [u8; 9] = [0x00, 0x04, 0x00, 0x00, 0x00, 0x6f, 0x62, 0x6a, 0x31];
 
+static REPLY_TICKETS: [u8; 35] = [
+    31, 0, 0, 0, 0x00, 0x02, 1, 1, 0, 0, 0, 4, 0, 0, 0, 1, 1, 0, 0, 0, b'i', 1, 2, 0, 0, 0, 0, 0,
+    0, 0, 1, 0, 0, 0, b'b',
+];
+
 static REQUEST_TICKETS: [u8; 11] = [7, 0, 0, 0, 0x00, 0x02, 1, 0x14, 0, 0, 0];
 
 // A count and a list of services, and the place at which it is refused, 0 where it is taken.
@@ -493,24 +498,6 @@ fn requests_and_replies_are_read_and_written(rt: HostRuntime) -> Result<(), Fail
     Ok(())
 }
 
-// Tickets for AUTH and an OSD are in order, and written.
-fn put_two(alloc: Global) -> Result<(Blob, Blob), Fail> {
-    let mut tickets = Items::new(alloc);
-    tickets.push(alloc, ticket_of(alloc, EntityType::Auth, b"info", b"blob")?)?;
-    tickets.push(alloc, ticket_of(alloc, EntityType::Osd, b"info", b"blob")?)?;
-    let mut done = Blob::new(alloc);
-    let value = LoginDone {
-        tickets,
-        connection_secret: Blob::of(alloc, b"secret")?,
-    };
-    put_login_done(alloc, &mut done, &value)?;
-    let mut others = Items::new(alloc);
-    others.push(alloc, ticket_of(alloc, EntityType::Osd, b"info", b"blob")?)?;
-    let mut reply = Blob::new(alloc);
-    put_reply(alloc, &mut reply, &Reply::Tickets(others))?;
-    Ok((done, reply))
-}
-
 #[test]
 fn headers_operations_and_answers_are_read_and_written(rt: HostRuntime) -> Result<(), Fail> {
     let alloc = rt.alloc();
@@ -630,26 +617,74 @@ fn login_of(alloc: Global, count: u32, services: &[u32]) -> Result<Blob, Fail> {
     Ok(bytes)
 }
 
+// The place at which a LoginDone is refused, 0 where it is read.
+fn refused_at(alloc: Global, bytes: &[u8]) -> usize {
+    match read_login_done(alloc, bytes) {
+        Ok(_) => 0,
+        Err(WireRefusal::Malformed(place)) => place,
+        Err(WireRefusal::OutOfMemory) => usize::MAX,
+    }
+}
+
 #[test]
 fn tickets_are_read_in_their_order_alone(rt: HostRuntime) -> Result<(), Fail> {
     let alloc = rt.alloc();
     for row in &ORDERS {
         let bytes = login_of(alloc, row.count, row.services)?;
-        match read_login_done(alloc, bytes.bytes()) {
-            Ok(done) => assert!(rt;
-                row.place == 0 && done.tickets.all().len() == row.services.len()
-            ),
-            Err(refusal) => assert!(rt; refusal == WireRefusal::Malformed(row.place), "{refusal}"),
-        }
+        assert_eq!(rt; refused_at(alloc, bytes.bytes()), row.place);
     }
-    let (done, reply) = put_two(alloc)?;
-    assert_eq!(rt;
-        read_login_done(alloc, done.bytes())?.tickets.all().len(),
-        2
-    );
-    assert!(rt;
-        matches!(read_reply(alloc, reply.bytes())?, Reply::Tickets(tickets) if tickets.all().len() == 1)
-    );
+    Ok(())
+}
+
+#[test]
+fn tickets_of_a_login_are_written_in_their_order(rt: HostRuntime) -> Result<(), Fail> {
+    let alloc = rt.alloc();
+    let auth = TicketPart {
+        service: EntityType::Auth,
+        info: Blob::of(alloc, b"i")?,
+        ticket: TicketBlob {
+            generation: 2,
+            blob: Blob::of(alloc, b"b")?,
+        },
+    };
+    let osd = TicketPart {
+        service: EntityType::Osd,
+        info: Blob::of(alloc, b"i")?,
+        ticket: TicketBlob {
+            generation: 2,
+            blob: Blob::of(alloc, b"b")?,
+        },
+    };
+    let mut tickets = Items::new(alloc);
+    tickets.push(alloc, auth)?;
+    tickets.push(alloc, osd)?;
+    let done = LoginDone {
+        tickets,
+        connection_secret: Blob::new(alloc),
+    };
+    let mut written = Blob::new(alloc);
+    put_login_done(alloc, &mut written, &done)?;
+    let bytes = login_of(alloc, 2, &[32, 4])?;
+    assert_eq!(rt; written.bytes(), bytes.bytes());
+    Ok(())
+}
+
+#[test]
+fn a_ticket_of_a_reply_is_written(rt: HostRuntime) -> Result<(), Fail> {
+    let alloc = rt.alloc();
+    let osd = TicketPart {
+        service: EntityType::Osd,
+        info: Blob::of(alloc, b"i")?,
+        ticket: TicketBlob {
+            generation: 2,
+            blob: Blob::of(alloc, b"b")?,
+        },
+    };
+    let mut tickets = Items::new(alloc);
+    tickets.push(alloc, osd)?;
+    let mut written = Blob::new(alloc);
+    put_reply(alloc, &mut written, &Reply::Tickets(tickets))?;
+    assert_eq!(rt; written.bytes(), REPLY_TICKETS.as_slice());
     Ok(())
 }
 
