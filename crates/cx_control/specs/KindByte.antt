@@ -1,5 +1,5 @@
 -- An entity type in one byte.
-use Rattle.std.specs.Prelude.{ℕ, ◌≡◌, Option, Some}
+use Rattle.std.specs.Prelude.{ℕ, ◌≡◌, Some}
 use Rattle.std.proofs.Common.{arith}
 use Rattle.cx_base.specs.declared.kinds.EntityType.{EntityType}
 use Rattle.cx_enc.specs.Values.{kind_of, number_of}
