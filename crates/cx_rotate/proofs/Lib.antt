@@ -1,3 +1,4 @@
 pub mod Determined
+pub mod Lasting
 pub mod Opened
 pub mod Results

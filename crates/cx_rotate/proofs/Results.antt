@@ -11,7 +11,7 @@ use Rattle.cx_rotate.proofs.Determined.{counted, computed}
 use Rattle.cx_rotate.proofs.Opened.{opened}
 
 -- three that stay
-kept : (a b c : Generation) (now life : ℕ) (keys : List (List ℕ)) → (is_full (a ∷ b ∷ c ∷ []) ≡ false → IsTrue (is_current now (a ∷ b ∷ c ∷ []))) → Rotated (a ∷ b ∷ c ∷ []) now life keys (a ∷ b ∷ c ∷ []) 0
+pub kept : (a b c : Generation) (now life : ℕ) (keys : List (List ℕ)) → (is_full (a ∷ b ∷ c ∷ []) ≡ false → IsTrue (is_current now (a ∷ b ∷ c ∷ []))) → Rotated (a ∷ b ∷ c ∷ []) now life keys (a ∷ b ∷ c ∷ []) 0
 kept a b c now life keys stays = record {
   grows = refl;
   full = λ _. refl;
@@ -29,7 +29,7 @@ least_of_two a b c now life k keys expired next (suc zero) small early = cc
 least_of_two a b c now life k keys expired next (suc (suc m)) small early = absurd (omega arith)
 
 -- three that gain one
-gained : (a b c : Generation) (now life : ℕ) (k : List ℕ) (keys : List (List ℕ)) → is_full (a ∷ b ∷ c ∷ []) ≡ false → is_current now (a ∷ b ∷ c ∷ []) ≡ false → nat_lt now c.expires ≡ true → Rotated (a ∷ b ∷ c ∷ []) now life (k ∷ keys) (grown now life (k ∷ []) (a ∷ b ∷ c ∷ [])) 1
+pub gained : (a b c : Generation) (now life : ℕ) (k : List ℕ) (keys : List (List ℕ)) → is_full (a ∷ b ∷ c ∷ []) ≡ false → is_current now (a ∷ b ∷ c ∷ []) ≡ false → nat_lt now c.expires ≡ true → Rotated (a ∷ b ∷ c ∷ []) now life (k ∷ keys) (grown now life (k ∷ []) (a ∷ b ∷ c ∷ [])) 1
 gained a b c now life k keys room expired next = record {
   grows = refl;
   full = λ full. cc (full, room);
@@ -38,7 +38,7 @@ gained a b c now life k keys room expired next = record {
 }
 
 -- three that gain two
-gained_two : (a b c : Generation) (now life : ℕ) (k l : List ℕ) (keys : List (List ℕ)) → 0 < life → is_full (a ∷ b ∷ c ∷ []) ≡ false → is_current now (a ∷ b ∷ c ∷ []) ≡ false → nat_lt now c.expires ≡ false → Rotated (a ∷ b ∷ c ∷ []) now life (k ∷ l ∷ keys) (grown now life (k ∷ l ∷ []) (a ∷ b ∷ c ∷ [])) 2
+pub gained_two : (a b c : Generation) (now life : ℕ) (k l : List ℕ) (keys : List (List ℕ)) → 0 < life → is_full (a ∷ b ∷ c ∷ []) ≡ false → is_current now (a ∷ b ∷ c ∷ []) ≡ false → nat_lt now c.expires ≡ false → Rotated (a ∷ b ∷ c ∷ []) now life (k ∷ l ∷ keys) (grown now life (k ∷ l ∷ []) (a ∷ b ∷ c ∷ [])) 2
 gained_two a b c now life k l keys some room expired next = record {
   grows = refl;
   full = λ full. cc (full, room);

@@ -2,6 +2,7 @@
 use Rattle.std.specs.Prelude.{ℕ, ◌≡◌, ◌+◌, ◌*◌, ◌<◌, ◌≤◌, max, false, IsTrue, List, [], ◌∷◌, length}
 use Rattle.cx_rotate.specs.declared.generations.Generation.{Generation}
 use Rattle.cx_rotate.specs.Held.{IsRising}
+use Rattle.cx_rotate.specs.Keeping.{IsLife, IsLasting}
 use Rattle.cx_rotate.specs.Rotation.{Rotated, rotated, additions, is_current, is_full}
 
 -- a rotation has one result
@@ -45,3 +46,9 @@ abbrev pub IsNeverFull : Type 0
 IsNeverFull =
     (old : List Generation) (until life : ℕ) → IsPaced until life old → until < 4000000000000000000
     → 1000000000 ≤ life → life ≤ 31536000000000000 → is_full old ≡ false
+
+-- generations that can be kept are rotated to such ones
+abbrev pub StaysLasting : Type 0
+StaysLasting =
+    (old : List Generation) (now life : ℕ) (keys : List (List ℕ)) → IsLasting old → now < 4000000000000000000 → IsLife life
+    → length keys ≡ 3 → IsLasting (rotated now life keys old)

@@ -1,6 +1,6 @@
 //! Rotations with known figures, and each call once.
 
-use crate::{Generation, Generations, View, rotation_laws};
+use crate::{Generation, Generations, KeptState, View, rotation_laws};
 use cx_base::SECOND;
 use std::test::Fail;
 
@@ -87,4 +87,22 @@ fn nothing_is_added_at_the_bounds(rt: HostRuntime) {
             .map(|held| held.rotate(100 * SECOND, HOUR, &KEYS));
         assert!(rt; count == Some(added), "at {newest} and {seconds}");
     }
+}
+
+#[test]
+fn a_state_is_told_from_another(rt: HostRuntime) {
+    let none = Generations::empty();
+    let state = KeptState {
+        next_gid: 1,
+        life: HOUR,
+        auth_life: 12 * HOUR,
+        mds: none,
+        osd: none,
+        mgr: none,
+        auth: none,
+    };
+    let mut later = state;
+    assert!(rt; later == state);
+    later.next_gid = 2;
+    assert!(rt; later != state);
 }

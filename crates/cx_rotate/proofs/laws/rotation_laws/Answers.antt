@@ -1,4 +1,5 @@
 -- The laws, each by its lemma.
+use Rattle.cx_rotate.proofs.Lasting.{stays_lasting}
 use Rattle.cx_rotate.proofs.Results.{one_result, has_result, stands_current, keeps_pace, never_full}
 use Rattle.cx_rotate.proofs.laws.rotation_laws.Goals as goal
 
@@ -16,3 +17,6 @@ returns-clause-paced c = keeps_pace
 
 pub returns-clause-never_full : goal.returns-clause-never_full
 returns-clause-never_full c = never_full
+
+pub returns-clause-lasting : goal.returns-clause-lasting
+returns-clause-lasting c = stays_lasting
