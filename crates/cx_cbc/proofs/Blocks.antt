@@ -1,8 +1,8 @@
 -- Bytes and their blocks.
-use Rattle.std.proofs.Common.{◌≡◌, ℕ, zero, suc, ◌+◌, ◌*◌, ◌/◌, ◌%◌, ◌<◌, ◌≤◌, List, [], ◌∷◌, ◌++◌, All, length, take, drop, refl, ap, sym, ◌∙◌, arith, length-append, length-drop}
-use Rattle.std.specs.List.{AllByRecursion, concat}
+use Rattle.std.proofs.Common.{◌≡◌, ℕ, zero, suc, ◌+◌, ◌*◌, ◌/◌, ◌%◌, ◌<◌, ◌≤◌, List, [], ◌∷◌, ◌++◌, All, length, take, drop, refl, ap, sym, ◌∙◌, arith, append_assoc, length-append, length-drop}
+use Rattle.std.specs.List.{AllByRecursion, concat, flat_map}
 use Rattle.std.specs.Simd.{first_chunks}
-use Rattle.std.proofs.lemmas.List.{nil_from_length, take-append-drop, length-take-le, take_at, drop_at}
+use Rattle.std.proofs.lemmas.List.{nil_from_length, take-append-drop, length-take-le, take_at, drop_at, drop-drop}
 use Rattle.std.proofs.lemmas.List.Elements.{All-take, All-drop}
 use Rattle.cx_aes.specs.Cipher.{IsBlock}
 use Rattle.cx_cbc.specs.Chain.{blocks_of}
@@ -56,3 +56,14 @@ blocks_of-concat blocks are =
 
 pub whole-concat : (blocks : List (List ℕ)) → AreBlocks blocks → length (concat blocks) % 16 ≡ 0
 whole-concat blocks are = let len : length (concat blocks) ≡ length blocks * 16 = length-concat blocks are in omega arith
+
+-- fours of blocks and the blocks behind them are the blocks
+pub fours-and-rest : (n : ℕ) (blocks : List (List ℕ)) → n * 4 ≤ length blocks → flat_map (λ x. x) (first_chunks 4 n blocks) ++ drop (n * 4) blocks ≡ blocks
+fours-and-rest zero blocks enough = refl
+fours-and-rest (suc n) blocks enough =
+    let more : List (List ℕ) = flat_map (λ x. x) (first_chunks 4 n (drop 4 blocks)) in
+    let e : suc n * 4 ≡ 4 + n * 4 = omega arith in
+    append_assoc (take 4 blocks) more (drop (suc n * 4) blocks)
+    ∙ ap (λ rest. take 4 blocks ++ (more ++ rest)) (ap (λ k. drop k blocks) e ∙ sym (drop-drop (n * 4) 4 blocks))
+    ∙ ap (λ rest. take 4 blocks ++ rest) (fours-and-rest n (drop 4 blocks) (omega (arith, length-drop 4 blocks)))
+    ∙ take-append-drop 4 blocks

@@ -1,7 +1,9 @@
 -- Chaining is undone both ways, and goes block by block.
-use Rattle.std.proofs.Common.{◌≡◌, ℕ, suc, ◌+◌, ◌<◌, ◌≤◌, List, [], ◌∷◌, ◌++◌, length, drop, get_or, refl, ap, sym, ◌∙◌, drop-cons, length-drop, arith, append_assoc}
-use Rattle.std.specs.List.{concat}
+use Rattle.std.proofs.Common.{◌≡◌, ℕ, suc, ◌+◌, ◌<◌, ◌≤◌, List, [], ◌∷◌, ◌++◌, length, drop, get_or, map, refl, ap, sym, subst, ◌∙◌, drop-cons, length-drop, arith, append_assoc}
+use Rattle.std.specs.List.{concat, flat_map}
 use Rattle.std.proofs.lemmas.List.{nil_from_length, append-nil}
+use Rattle.std.proofs.lemmas.List.FromFn.{fill_by_all}
+use Rattle.std.proofs.lemmas.List.Folds.{concat-append}
 use Rattle.cx_aes.specs.Cipher.{IsBlock, add, aes}
 use Rattle.cx_aes.specs.Inverse.{inverse_aes}
 use Rattle.cx_aes.proofs.Blocks.{IsBlock-add}
@@ -83,3 +85,51 @@ pub uncbc_all : (out key before : List ℕ) (blocks : List (List ℕ)) (i : ℕ)
 unfolding uncbc
 uncbc_all out key before blocks i le =
     ap (λ left. out ++ concat (uncbc key before left)) (nil_from_length (drop i blocks) (omega (arith, length-drop i blocks))) ∙ append-nil out
+
+-- ---- four at a time
+
+-- what holds of four written out holds of a list of four
+of_four : (P : List (List ℕ) → Type 0) → ((a b c d : List ℕ) → P (a ∷ b ∷ c ∷ d ∷ [])) → (four : List (List ℕ)) → length four ≡ 4 → P four
+of_four P each four len =
+    subst P (sym (fill_by_all (λ i. get_or four i []) four 4 [] len (λ k lt. refl)))
+    (each (get_or four 0 []) (get_or four 1 []) (get_or four 2 []) (get_or four 3 []))
+
+-- each of the four added to the cipher text before it
+pub four_back : (key before : List ℕ) (four inner : List (List ℕ)) → length four ≡ 4 → inner ≡ map (inverse_aes key) four →
+    add (get_or inner 0 []) before ∷ add (get_or inner 1 []) (get_or four 0 []) ∷ add (get_or inner 2 []) (get_or four 1 [])
+    ∷ add (get_or inner 3 []) (get_or four 2 []) ∷ [] ≡ uncbc key before four
+unfolding uncbc
+four_back key before four inner len is =
+    ap (λ xs. add (get_or xs 0 []) before ∷ add (get_or xs 1 []) (get_or four 0 []) ∷ add (get_or xs 2 []) (get_or four 1 [])
+    ∷ add (get_or xs 3 []) (get_or four 2 []) ∷ []) is
+    ∙ of_four (λ f.
+    add (get_or (map (inverse_aes key) f) 0 []) before ∷ add (get_or (map (inverse_aes key) f) 1 []) (get_or f 0 [])
+    ∷ add (get_or (map (inverse_aes key) f) 2 []) (get_or f 1 []) ∷ add (get_or (map (inverse_aes key) f) 3 []) (get_or f 2 []) ∷ []
+    ≡ uncbc key before f) (λ a b c d. refl) four len
+
+four_first : (key before : List ℕ) (four tail : List (List ℕ)) → length four ≡ 4 →
+    uncbc key before (four ++ tail) ≡ uncbc key before four ++ uncbc key (get_or four 3 []) tail
+unfolding uncbc
+four_first key before four tail len =
+    of_four (λ f. uncbc key before (f ++ tail) ≡ uncbc key before f ++ uncbc key (get_or f 3 []) tail) (λ a b c d. refl) four len
+
+pub fours_more : (out key before : List ℕ) (fours : List (List (List ℕ))) (rest : List (List ℕ)) (i : ℕ) → i < length fours →
+    (four : List (List ℕ)) → get_or fours i [] ≡ four → length four ≡ 4 →
+    (out ++ concat (uncbc key before four)) ++ concat (uncbc key (get_or four 3 []) (flat_map (λ x. x) (drop (i + 1) fours) ++ rest))
+    ≡ out ++ concat (uncbc key before (flat_map (λ x. x) (drop i fours) ++ rest))
+fours_more out key before fours rest i lt four is len =
+    let e : i + 1 ≡ suc i = omega arith in
+    let more : List (List ℕ) = flat_map (λ x. x) (drop (suc i) fours) in
+    let last : List ℕ = get_or four 3 [] in
+    append_assoc out (concat (uncbc key before four)) (concat (uncbc key last (flat_map (λ x. x) (drop (i + 1) fours) ++ rest)))
+    ∙ ap (λ n. out ++ (concat (uncbc key before four) ++ concat (uncbc key last (flat_map (λ x. x) (drop n fours) ++ rest)))) e
+    ∙ ap (λ xs. out ++ xs)
+    (sym (concat-append (uncbc key before four) (uncbc key last (more ++ rest)))
+    ∙ ap concat (sym (four_first key before four (more ++ rest) len))
+    ∙ ap (λ xs. concat (uncbc key before xs)) (sym (append_assoc four more rest)))
+    ∙ sym (rw (drop-cons fours i [], is))
+
+pub fours_all : (out key before : List ℕ) (fours : List (List (List ℕ))) (rest : List (List ℕ)) (i : ℕ) → length fours ≤ i →
+    out ++ concat (uncbc key before (flat_map (λ x. x) (drop i fours) ++ rest)) ≡ out ++ concat (uncbc key before rest)
+fours_all out key before fours rest i le =
+    ap (λ left. out ++ concat (uncbc key before (flat_map (λ x. x) left ++ rest))) (nil_from_length (drop i fours) (omega (arith, length-drop i fours)))

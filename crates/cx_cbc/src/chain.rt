@@ -1,6 +1,6 @@
 //! Cipher block chaining, both ways.
 
-ghost use Rattle.std.specs.Prelude.{◌≡◌, IfOk};
+ghost use Rattle.std.specs.Prelude.{◌≡◌, IfOk, length};
 ghost use Rattle.std.specs.List.{concat};
 ghost use Rattle.cx_aes.specs.KeyOf.{key_of};
 ghost use Rattle.cx_cbc.specs.Chain.{blocks_of, cbc, uncbc};
@@ -27,17 +27,37 @@ pub(crate) fn chained(alloc: Global, key: &Schedule, plain: &[u8]) -> Result<Blo
     Ok(sealed)
 }
 
-// The blocks whose cipher texts these whole blocks are.
+// The blocks whose cipher texts these whole blocks are: four at a time, and then one by one.
 pub(crate) fn unchained(alloc: Global, key: &Schedule, sealed: &[u8]) -> Result<Blob, AllocError>
     ensures { IfOk result (λ plain. plain ≡ concat (uncbc (key_of key.now) initial_vector (blocks_of sealed.now))) }
 {
     let mut plain = Blob::new(alloc);
     let mut before = INITIAL_VECTOR;
     let (blocks, _rest) = sealed.as_chunks::<16>();
-    for block in blocks {
+    let (fours, rest) = blocks.as_chunks::<4>();
+    for four in fours {
+        let sums = four_unchained(key, &before, four);
+        plain.append(alloc, sums.as_flattened())?;
+        before = four[3];
+    }
+    for block in rest {
         let sum = add(&key.decrypt(block), &before);
         plain.append(alloc, &sum)?;
         before = *block;
     }
     Ok(plain)
+}
+
+// The four blocks whose cipher texts these are, behind the cipher text before them.
+fn four_unchained(key: &Schedule, before: &[u8; 16], sealed: &[[u8; 16]; 4]) -> [[u8; 16]; 4]
+    ensures sums { result ≡ uncbc (key_of key.now) before.now sealed.now }
+    ensures len { length sealed.now ≡ 4 }
+{
+    let inner = key.decrypt_four(sealed);
+    [
+        add(&inner[0], before),
+        add(&inner[1], &sealed[0]),
+        add(&inner[2], &sealed[1]),
+        add(&inner[3], &sealed[2]),
+    ]
 }
