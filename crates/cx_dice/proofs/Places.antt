@@ -1,10 +1,10 @@
 -- Where the draws of a seed stand in its stream.
-use Rattle.std.proofs.Common.{◌≡◌, ℕ, zero, suc, ◌+◌, ◌*◌, ◌%◌, ◌^◌, List, [], ◌++◌, length, take, refl, sym, ap, ◌∙◌, arith, length-append}
+use Rattle.std.proofs.Common.{◌≡◌, ℕ, zero, suc, ◌+◌, ◌*◌, ◌%◌, ◌^◌, List, length, take, refl, ap, ◌∙◌, arith, length-append}
 use Rattle.std.specs.Int.{w32, to_le_bytes}
 use Rattle.std.proofs.Math.Seq.{take-length}
-use Rattle.rand_core.specs.Steps.{word_bytes, fill_via_u32}
-use Rattle.rand_chacha.specs.ChaCha.{ChaCha, next_word, word_at, key_of, of_seed}
-use Rattle.cx_dice.specs.Rolls.{AreSeedDraws, draws_of, rolled, seed_bytes, seed_draw, words_from}
+use Rattle.rand_core.specs.Steps.{word_bytes}
+use Rattle.rand_chacha.specs.ChaCha.{ChaCha, next_word, key_of}
+use Rattle.cx_dice.specs.Rolls.{AreSeedDraws, draws_of, rolled, seed_bytes, words_from}
 
 -- the generator of a key at a place
 

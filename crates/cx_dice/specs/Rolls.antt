@@ -1,5 +1,5 @@
 -- What dice give, and the dice in memory, which roll a generator.
-use Rattle.std.specs.Prelude.{ℕ, zero, suc, ◌≡◌, ◌+◌, ◌*◌, ◌%◌, ◌^◌, ◌≤◌, Bool, not, List, [], ◌++◌, length, Option, Some, None, if◌then◌else◌, replicate}
+use Rattle.std.specs.Prelude.{ℕ, zero, suc, ◌≡◌, ◌+◌, ◌*◌, ◌%◌, ◌^◌, Bool, not, List, [], ◌++◌, Option, Some, None, if◌then◌else◌, replicate}
 use Rattle.std.specs.Int.{w32, w64, to_le_bytes}
 use Rattle.rand_core.specs.Steps.{fill_via_u32}
 use Rattle.rand_chacha.specs.ChaCha.{ChaCha, next_word, word_at, key_of, of_seed}
