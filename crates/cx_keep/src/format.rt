@@ -112,11 +112,7 @@ fn take_life(cut: &mut Cut<'_>) -> Result<u64, ReadFault>
 
 // The lives of a state of this format, which are these where it holds none.
 #[tactic(auto, unfolding(cx_enc::specs::Forms::times_at))]
-fn take_lives(
-    cut: &mut Cut<'_>,
-    format: u8,
-    handed: (u64, u64),
-) -> Result<(u64, u64), ReadFault>
+fn take_lives(cut: &mut Cut<'_>, format: u8, handed: (u64, u64)) -> Result<(u64, u64), ReadFault>
     requires { IsTrue (is_format format) }
     ensures { GivesInPlace (spot cut.new) result (part_at (lives_of handed) (times (lives_in format) life_field.form) (spot cut.old)) }
 {
