@@ -16,10 +16,6 @@ mod names;
 mod owning;
 mod parts;
 mod puts;
-#[cfg(test)]
-mod samples;
-#[cfg(test)]
-mod tests;
 mod tickets;
 mod times;
 

@@ -1,12 +1,12 @@
 //! Records of the tests, one of each kind: of few fields, with a list, with a list whose count is judged, with fields in an
 //! order, read more widely than written, owning nothing, and of ten fields.
 
-use crate::{
+use cx_base::{Addr, Blob, EntityName, EntityType, Items, Reading};
+use cx_enc::{
     Chained, Cut, Encoded, EncodedInPlace, Key, ReadFault, ReadRefusal, ReadsPart, TicketBlob,
     pass_items, put_addr, put_blob, put_flag, put_key, put_kind, put_many, put_name, put_reading,
     put_secret, put_sized, put_ticket, put_u8, put_u32, put_u64, take_counted, take_many,
 };
-use cx_base::{Addr, Blob, EntityName, EntityType, Items, Reading};
 use std::alloc::{AllocError, Global};
 
 /// A seat: its id, its key and its expiry.
