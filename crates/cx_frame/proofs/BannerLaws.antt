@@ -1,0 +1,1 @@
+-- What is read as a banner stands there, and what stands there is read.

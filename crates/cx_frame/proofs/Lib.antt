@@ -1,0 +1,5 @@
+pub mod BannerLaws
+pub mod Cutting
+pub mod Fours
+pub mod PreambleLaws
+pub mod RestLaws
