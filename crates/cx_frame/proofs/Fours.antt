@@ -1,7 +1,8 @@
 -- Numbers in bytes, and lists of four.
 use Rattle.std.proofs.Common.{◌≡◌, ℕ, zero, suc, ◌+◌, ◌<◌, ◌≤◌, ◌^◌, List, [], ◌∷◌, ◌++◌, length, slice_index, get_or, take, refl, sym, ap, ◌∙◌, arith}
-use Rattle.std.specs.Int.{w16, w32, to_le_bytes, from_le_bytes}
-use Rattle.std.proofs.lemmas.Nat.{le_bytes_2, le_bytes_4}
+use Rattle.std.specs.Int.{w16, w32, w64, to_le_bytes, from_le_bytes}
+use Rattle.std.proofs.lemmas.Nat.{le_bytes_2, le_bytes_4, le_bytes_8}
+use Rattle.cx_frame.specs.Banners.{number64}
 use Rattle.cx_frame.specs.Preambles.{number16, number32}
 
 -- bytes
@@ -26,6 +27,23 @@ pub spelled32 : (b : List ℕ) → AreBytes b → (i : ℕ) → to_le_bytes w32 
 spelled32 b are i =
     le_bytes_4 (slice_index b i ∷ slice_index b (i + 1) ∷ slice_index b (i + 2) ∷ slice_index b (i + 3) ∷ []) (number32 b i) refl
     (four_small (slice_index b i) (slice_index b (i + 1)) (slice_index b (i + 2)) (slice_index b (i + 3)) (are i) (are (i + 1)) (are (i + 2)) (are (i + 3))) refl
+
+eight_small : (a b c d x y z w : ℕ) → a < 256 → b < 256 → c < 256 → d < 256 → x < 256 → y < 256 → z < 256 → w < 256
+    → (i : ℕ) → get_or (a ∷ b ∷ c ∷ d ∷ x ∷ y ∷ z ∷ w ∷ []) i 0 < 256
+eight_small a b c d x y z w ha hb hc hd hx hy hz hw zero = ha
+eight_small a b c d x y z w ha hb hc hd hx hy hz hw (suc zero) = hb
+eight_small a b c d x y z w ha hb hc hd hx hy hz hw (suc (suc zero)) = hc
+eight_small a b c d x y z w ha hb hc hd hx hy hz hw (suc (suc (suc zero))) = hd
+eight_small a b c d x y z w ha hb hc hd hx hy hz hw (suc (suc (suc (suc i)))) = four_small x y z w hx hy hz hw i
+
+pub spelled64 : (b : List ℕ) → AreBytes b → (i : ℕ) → to_le_bytes w64 (number64 b i)
+    ≡ slice_index b i ∷ slice_index b (i + 1) ∷ slice_index b (i + 2) ∷ slice_index b (i + 3) ∷ slice_index b (i + 4) ∷ slice_index b (i + 5) ∷ slice_index b (i + 6) ∷ slice_index b (i + 7) ∷ []
+spelled64 b are i =
+    le_bytes_8
+    (slice_index b i ∷ slice_index b (i + 1) ∷ slice_index b (i + 2) ∷ slice_index b (i + 3) ∷ slice_index b (i + 4) ∷ slice_index b (i + 5) ∷ slice_index b (i + 6) ∷ slice_index b (i + 7) ∷ [])
+    (number64 b i) refl
+    (eight_small (slice_index b i) (slice_index b (i + 1)) (slice_index b (i + 2)) (slice_index b (i + 3)) (slice_index b (i + 4)) (slice_index b (i + 5)) (slice_index b (i + 6)) (slice_index b (i + 7))
+    (are i) (are (i + 1)) (are (i + 2)) (are (i + 3)) (are (i + 4)) (are (i + 5)) (are (i + 6)) (are (i + 7))) refl
 
 pub below16 : (b : List ℕ) → AreBytes b → (i : ℕ) → number16 b i < 2 ^ 16
 below16 b are i = omega (arith, are i, are (i + 1))

@@ -4,6 +4,7 @@
 mod banner;
 mod banners;
 mod frame;
+mod laws;
 mod plain;
 mod preamble;
 mod preambles;
@@ -12,6 +13,7 @@ mod refusals;
 pub use banner::Banner;
 pub use banners::{put_banner, read_banner};
 pub use frame::{Frame, Segment};
+pub use laws::frame_laws;
 pub use plain::{put_frame, put_preamble, read_rest, rest_len};
 pub use preamble::Preamble;
 pub use preambles::{MAX_PLAIN, read_preamble, read_preamble_within};
