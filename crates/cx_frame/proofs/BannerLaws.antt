@@ -12,7 +12,7 @@ use Rattle.cx_frame.specs.declared.banner.Banner.{Banner}
 use Rattle.cx_frame.specs.declared.refusals.BannerRefusal.{BannerRefusal}
 use Rattle.cx_frame.specs.declared.refusals.BannerRefusal.TheVariants.{BadBanner, Features}
 use Rattle.cx_frame.specs.Preambles.{number16}
-use Rattle.cx_frame.specs.Banners.{IsBanner, bad_place, banner_at, banner_text, banner_word, behind_word, judged, number64, sized}
+use Rattle.cx_frame.specs.Banners.{IsBanner, bad_place, banner_at, banner_text, banner_word, behind_word, by_features, number64, sized}
 use Rattle.cx_frame.proofs.Fours.{AreBytes, spelled16, spelled64}
 
 -- ---- the word
@@ -41,9 +41,9 @@ Read = Result (Option (Banner × ℕ)) BannerRefusal
 ok_is : (o p : Option (Banner × ℕ)) → (let r : Read = Ok o in let q : Read = Ok p in r ≡ q) → o ≡ p
 ok_is o p e = cc
 
-judged_found : (b : Banner) (n : ℕ) (o : Option (Banner × ℕ)) → judged b n ≡ Ok o → o ≡ Some (b, n)
-unfolding judged
-judged_found b n o e = cases (nat_lt 1 b.required) (b.supported % 2 == 0) (b.required - b.required % 2) (Some (b, n)) o e
+by_features_found : (b : Banner) (n : ℕ) (o : Option (Banner × ℕ)) → by_features b n ≡ Ok o → o ≡ Some (b, n)
+unfolding by_features
+by_features_found b n o e = cases (nat_lt 1 b.required) (b.supported % 2 == 0) (b.required - b.required % 2) (Some (b, n)) o e
   where
     cases : (s t : Bool) (m : ℕ) (p o : Option (Banner × ℕ)) → (let r : Read = (if s then Err (Features m) else if t then Err (Features 1) else Ok p) in r ≡ Ok o) → o ≡ p
     cases true t m p o e = absurd cc
@@ -103,11 +103,11 @@ by_place b o None are is read =
     let n : ℕ = number16 b 8 in
     let value : Banner = record { supported = number64 b 10; required = number64 b 18 } in
     let Held : Option (Banner × ℕ) → Type 0 = λ p. IfSome p (λ x. IsBanner b x.0 x.1) in
-    elim (there (nat_lt (length b) 10) (nat_lt n 16 || nat_lt 256 n) (nat_lt (length b) (10 + n)) (judged value (10 + n)) o read) [
+    elim (there (nat_lt (length b) 10) (nat_lt n 16 || nat_lt 256 n) (nat_lt (length b) (10 + n)) (by_features value (10 + n)) o read) [
       | inl none ↦ subst Held (sym none) tt
       | inr all ↦
           let size = or_false (nat_lt n 16) (nat_lt 256 n) all.1 in
-          subst Held (sym (judged_found value (10 + n) o all.3))
+          subst Held (sym (by_features_found value (10 + n) o all.3))
           (read_found b are is (ltb-false (length b) 10 all.0) (ltb-false n 16 size.0) (ltb-false 256 n size.1) (ltb-false (length b) (10 + n) all.2))
     ]
 
@@ -123,7 +123,7 @@ no_bad_place b skipped more = refl
 
 fields_again : (b : Banner) (skipped more : List ℕ) → length skipped ≤ 240 → b.supported < 2 ^ 64 → b.required < 2 ^ 64
     → let t : List ℕ = banner_text b skipped ++ more in
-      (number16 t 8 ≡ 16 + length skipped) × (number64 t 10 ≡ b.supported) × (number64 t 18 ≡ b.required)
+    (number16 t 8 ≡ 16 + length skipped) × (number64 t 10 ≡ b.supported) × (number64 t 18 ≡ b.required)
 unfolding banner_text
 fields_again b skipped more few hs hr =
     (from_le_bytes-to_le_bytes_2 (16 + length skipped) (omega arith), from_le_bytes-to_le_bytes_8 b.supported hs, from_le_bytes-to_le_bytes_8 b.required hr)
@@ -140,7 +140,7 @@ same_banner b s r e f =
     let made : ℕ → ℕ → Banner = λ x y. record { supported = x; required = y } in
     ap (λ x. made x r) e ∙ ap (λ y. made b.supported y) f
 
-pub banner_again : (bytes : List ℕ) (b : Banner) (n : ℕ) → b.supported < 2 ^ 64 → b.required < 2 ^ 64 → IsBanner bytes b n → banner_at bytes ≡ judged b n
+pub banner_again : (bytes : List ℕ) (b : Banner) (n : ℕ) → b.supported < 2 ^ 64 → b.required < 2 ^ 64 → IsBanner bytes b n → banner_at bytes ≡ by_features b n
 unfolding banner_at behind_word sized
 banner_again bytes b n hs hr is =
     let more : List ℕ = drop n bytes in
@@ -156,8 +156,8 @@ banner_again bytes b n hs hr is =
     let all : 10 + number16 bytes 8 ≤ length bytes = subst (λ k. k ≤ length bytes) (sym end) is.there in
     let value : Banner = record { supported = number64 bytes 10; required = number64 bytes 18 } in
     ap (behind_word bytes) place
-    ∙ all_there _ _ _ (judged value (10 + number16 bytes 8)) (judged b n)
-        (le-ltb (length bytes) 10 (omega (arith, is.len, is.there)))
-        (or_none _ _ (le-ltb (number16 bytes 8) 16 long) (le-ltb 256 (number16 bytes 8) short))
-        (le-ltb (length bytes) (10 + number16 bytes 8) all)
-        (ap (λ (x : Banner). judged x (10 + number16 bytes 8)) (same_banner b _ _ supported required) ∙ ap (judged b) end)
+    ∙ all_there _ _ _ (by_features value (10 + number16 bytes 8)) (by_features b n)
+    (le-ltb (length bytes) 10 (omega (arith, is.len, is.there)))
+    (or_none _ _ (le-ltb (number16 bytes 8) 16 long) (le-ltb 256 (number16 bytes 8) short))
+    (le-ltb (length bytes) (10 + number16 bytes 8) all)
+    (ap (λ (x : Banner). by_features x (10 + number16 bytes 8)) (same_banner b _ _ supported required) ∙ ap (by_features b) end)

@@ -16,7 +16,7 @@ use Rattle.std.specs.Prelude.{if◌then◌else◌, ◌==◌}
 use Rattle.cx_frame.specs.declared.frame.Frame.{Frame}
 use Rattle.cx_frame.specs.declared.preamble.Preamble.{Preamble}
 use Rattle.std.specs.Int.{w16, w32, to_le_bytes}
-use Rattle.cx_frame.specs.Frames.{segments_of, others_len, first_len, behind_first, total, IsWritable, Yields}
+use Rattle.cx_frame.specs.Frames.{segments_of, others_len, first_len, behind_first, total, IsAnnounceable, Agrees}
 use Rattle.cx_frame.specs.Preambles.{descriptors, IsAllowed, length_of, align_of, four, preamble_of}
 
 -- a part of a list of numbers has no larger sum
@@ -39,7 +39,7 @@ pub same_ranges : (p : Preamble) → IsAllowed 65536 p → length (slice_range p
 same_ranges p fine = omega (arith, length-take (p.count - 1) (drop 1 p.aligns), length-take (p.count - 1) (drop 1 p.lengths), length-drop 1 p.aligns, length-drop 1 p.lengths, fine.four_lengths, fine.four_aligns)
 
 -- few segments that are not too long have few bytes together
-pub total_small : (f : Frame) → IsWritable f → sum_by length_of f.segments < 2 ^ 64
+pub total_small : (f : Frame) → IsAnnounceable f → sum_by length_of f.segments < 2 ^ 64
 total_small f fine =
     let each : All (λ s. length_of s ≤ 2 ^ 32) f.segments = All-weaker (λ s. length s.bytes < 2 ^ 32) (λ s. length_of s ≤ 2 ^ 32) (λ s lt. omega arith) f.segments fine.each in
     let most : sum_by length_of f.segments ≤ length f.segments * 2 ^ 32 = sum_by-le length_of (2 ^ 32) f.segments each in
@@ -51,7 +51,7 @@ sum-cons n ns = sum_by-cons (λ m. m) n ns
 -- one segment more is cut off
 pub cut_more : (ns aligns bytes : List ℕ) (i : ℕ) → i < length ns → length aligns ≡ length ns
     → segments_of (drop i ns) (drop i aligns) bytes
-        ≡ (let s : Segment = record { align = slice_index aligns i; bytes = take (slice_index ns i) bytes } in s) ∷ segments_of (drop (i + 1) ns) (drop (i + 1) aligns) (drop (slice_index ns i) bytes)
+    ≡ (let s : Segment = record { align = slice_index aligns i; bytes = take (slice_index ns i) bytes } in s) ∷ segments_of (drop (i + 1) ns) (drop (i + 1) aligns) (drop (slice_index ns i) bytes)
 unfolding segments_of
 cut_more ns aligns bytes i lt same =
     let too : i < length aligns = omega arith in
@@ -113,7 +113,7 @@ first_large n some = elim (cases_eq n 0) [ inl e ↦ absurd (some (rw e refl)) |
 
 -- a fault of the first segment is the frame's
 pub first_refused : (p : Preamble) (left : List ℕ) (e : FrameRefusal) (read : Result Segment FrameRefusal)
-    → (let answer : Result Segment FrameRefusal = Err e in Yields answer read) → (let answer : Result Frame FrameRefusal = Err e in Yields answer (behind_first p left read))
+    → (let answer : Result Segment FrameRefusal = Err e in Agrees answer read) → (let answer : Result Frame FrameRefusal = Err e in Agrees answer (behind_first p left read))
 unfolding behind_first
 first_refused p left BadCrc read is = ap (behind_first p left) is
 first_refused p left BadShape read is = ap (behind_first p left) is
@@ -128,8 +128,15 @@ made : (limit t n k l m o p q r s : ℕ) → 1 ≤ t → t ≤ 20 → 1 ≤ n �
     → k < 2 ^ 32 → l < 2 ^ 32 → m < 2 ^ 32 → o < 2 ^ 32 → p < 2 ^ 16 → q < 2 ^ 16 → r < 2 ^ 16 → s < 2 ^ 16
     → (let h : Preamble = record { tag = t; count = n; lengths = k ∷ l ∷ m ∷ o ∷ []; aligns = p ∷ q ∷ r ∷ s ∷ [] } in IsAllowed limit h)
 made limit t n k l m o p q r s t1 t2 n1 n2 no_l no_a sum hk hl hm ho hp hq hr hs = record {
-  tag_low = t1; tag_high = t2; count_low = n1; count_high = n2; no_lengths = no_l; no_aligns = no_a;
-  total = omega arith; four_lengths = refl; four_aligns = refl;
+  tag_low = t1;
+  tag_high = t2;
+  count_low = n1;
+  count_high = n2;
+  no_lengths = no_l;
+  no_aligns = no_a;
+  total = omega arith;
+  four_lengths = refl;
+  four_aligns = refl;
   each_length = each_below (2 ^ 32) k l m o (omega arith) hk hl hm ho;
   each_align = each_below (2 ^ 16) p q r s (omega arith) hp hq hr hs;
 }
@@ -157,7 +164,7 @@ allowed_segments limit t (a ∷ b ∷ c ∷ []) t1 t2 n1 n2 are within = fields_
 allowed_segments limit t (a ∷ b ∷ c ∷ d ∷ []) t1 t2 n1 n2 are within = fields_made limit t 4 (map length_of (a ∷ b ∷ c ∷ d ∷ [])) (map align_of (a ∷ b ∷ c ∷ d ∷ [])) t1 t2 n1 n2 are.lengths are.aligns refl refl (omega arith)
 allowed_segments limit t _ t1 t2 n1 n2 are within = absurd (omega arith)
 
-pub allowed_frame : (limit : ℕ) (f : Frame) → IsWritable f → AreFields f.segments → total f ≤ limit → IsAllowed limit (preamble_of f)
+pub allowed_frame : (limit : ℕ) (f : Frame) → IsAnnounceable f → AreFields f.segments → total f ≤ limit → IsAllowed limit (preamble_of f)
 allowed_frame limit f fine are within = allowed_segments limit f.tag f.segments fine.tag_low fine.tag_high fine.count_low fine.count_high are within
 
 four_cases : (P : ℕ → Type 0) → P 0 → P 1 → P 2 → P 3 → (i : ℕ) → i < 4 → P i

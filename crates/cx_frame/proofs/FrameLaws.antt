@@ -47,10 +47,10 @@ one_frame limit f g more rest ff fg e =
     let p : Preamble = preamble_of f in
     let q : Preamble = preamble_of g in
     let split : preamble_text p ++ (rest_text f.segments ++ more) ≡ preamble_text q ++ (rest_text g.segments ++ rest) =
-        sym (append_assoc (preamble_text p) (rest_text f.segments) more) ∙ e ∙ append_assoc (preamble_text q) (rest_text g.segments) rest
+    sym (append_assoc (preamble_text p) (rest_text f.segments) more) ∙ e ∙ append_assoc (preamble_text q) (rest_text g.segments) rest
     in
     let heads = same_fronts (preamble_text p) (rest_text f.segments ++ more) (preamble_text q) (rest_text g.segments ++ rest) 32
-        (length-preamble_text p ff.four_lengths ff.four_aligns) (length-preamble_text q fg.four_lengths fg.four_aligns) split
+    (length-preamble_text p ff.four_lengths ff.four_aligns) (length-preamble_text q fg.four_lengths fg.four_aligns) split
     in
     let same : p ≡ q = preamble_is p q (sym (preamble_again limit (preamble_text p) p ff refl) ∙ ap (preamble_at limit) heads.0 ∙ preamble_again limit (preamble_text q) q fg refl) in
     let rests = same_fronts (rest_text f.segments) more (rest_text g.segments) rest (rest_len p) (length-rest_text limit f ff) (length-rest_text limit g fg ∙ ap rest_len (sym same)) heads.1 in

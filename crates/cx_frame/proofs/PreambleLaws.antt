@@ -13,7 +13,7 @@ use Rattle.cx_digest.specs.Checksum.{crc32c}
 use Rattle.cx_frame.specs.declared.preamble.Preamble.{Preamble}
 use Rattle.cx_frame.specs.declared.refusals.FrameRefusal.{FrameRefusal}
 use Rattle.cx_frame.specs.declared.refusals.FrameRefusal.TheVariants.{BadCrc, BadShape, TooLong}
-use Rattle.cx_frame.specs.Preambles.{IsAllowed, descriptors, front_text, preamble_text, number16, number32, fields_of, is_four_bytes, has_sum, is_shaped, is_plain, preamble_at}
+use Rattle.cx_frame.specs.Preambles.{IsAllowed, descriptors, front_text, preamble_text, number16, number32, fields_of, is_four_bytes, has_sum, is_shaped, ends_in_zeros, preamble_at}
 use Rattle.cx_frame.proofs.Fours.{AreBytes, spelled16, spelled32, below16, below32, each_below}
 
 -- these bytes are this number exactly where they are its spelling
@@ -79,10 +79,10 @@ allowed limit b are shaped within =
     }
 
 pub preamble_found : (limit : ℕ) (b : List ℕ) (p : Preamble) → AreBytes b → length b ≡ 32 → preamble_at limit b ≡ Ok p → IsAllowed limit p × (b ≡ preamble_text p)
-unfolding preamble_at has_sum is_plain preamble_text
+unfolding preamble_at has_sum ends_in_zeros preamble_text
 preamble_found limit b p are len e =
     let parts = passed _ _ _ _ (fields_of b) p e in
-    let shape = and_parts (is_shaped (fields_of b)) (is_plain b) parts.1 in
+    let shape = and_parts (is_shaped (fields_of b)) (ends_in_zeros b) parts.1 in
     let zeros = and_parts (slice_index b 26 == 0) (slice_index b 27 == 0) shape.1 in
     let front : front_text (fields_of b) ≡ take 28 b = front_found b are len (eqb-true (slice_index b 26) 0 zeros.0) (eqb-true (slice_index b 27) 0 zeros.1) in
     let stored : drop 28 b ≡ to_le_bytes w32 (crc32c 0 (take 28 b)) = four_bytes (drop 28 b) (crc32c 0 (take 28 b)) parts.0 in
@@ -93,11 +93,19 @@ preamble_found limit b p are len e =
 
 front_again : (t c : ℕ) (k l m n p q r s : ℕ) (more : List ℕ) → k < 2 ^ 32 → l < 2 ^ 32 → m < 2 ^ 32 → n < 2 ^ 32 → p < 2 ^ 16 → q < 2 ^ 16 → r < 2 ^ 16 → s < 2 ^ 16
     → let h : Preamble = record { tag = t; count = c; lengths = k ∷ l ∷ m ∷ n ∷ []; aligns = p ∷ q ∷ r ∷ s ∷ [] } in
-      fields_of (front_text h ++ more) ≡ h
+    fields_of (front_text h ++ more) ≡ h
 unfolding front_text fields_of descriptors
 front_again t c k l m n p q r s more hk hl hm hn hp hq hr hs =
-    rw (from_le_bytes-to_le_bytes_4 k hk, from_le_bytes-to_le_bytes_4 l hl, from_le_bytes-to_le_bytes_4 m hm, from_le_bytes-to_le_bytes_4 n hn,
-    from_le_bytes-to_le_bytes_2 p hp, from_le_bytes-to_le_bytes_2 q hq, from_le_bytes-to_le_bytes_2 r hr, from_le_bytes-to_le_bytes_2 s hs) refl
+    rw (
+      from_le_bytes-to_le_bytes_4 k hk,
+      from_le_bytes-to_le_bytes_4 l hl,
+      from_le_bytes-to_le_bytes_4 m hm,
+      from_le_bytes-to_le_bytes_4 n hn,
+      from_le_bytes-to_le_bytes_2 p hp,
+      from_le_bytes-to_le_bytes_2 q hq,
+      from_le_bytes-to_le_bytes_2 r hr,
+      from_le_bytes-to_le_bytes_2 s hs,
+    ) refl
 
 shaped : (limit : ℕ) (p : Preamble) → IsAllowed limit p → is_shaped p ≡ true
 unfolding is_shaped
@@ -113,12 +121,12 @@ all_pass s h l n q p es eh el e = rw (es, eh, el, e) refl
 
 again_of : (limit t c : ℕ) (ns aligns : List ℕ) → let h : Preamble = record { tag = t; count = c; lengths = ns; aligns = aligns } in
     IsAllowed limit h → preamble_at limit (preamble_text h) ≡ Ok h
-unfolding preamble_at preamble_text has_sum is_plain front_text descriptors
+unfolding preamble_at preamble_text has_sum ends_in_zeros front_text descriptors
 again_of limit t c (k ∷ l ∷ m ∷ n ∷ []) (p ∷ q ∷ r ∷ s ∷ []) fine =
     let h : Preamble = record { tag = t; count = c; lengths = k ∷ l ∷ m ∷ n ∷ []; aligns = p ∷ q ∷ r ∷ s ∷ [] } in
     let tail : List ℕ = to_le_bytes w32 (crc32c 0 (front_text h)) in
     let fields : fields_of (front_text h ++ tail) ≡ h =
-        front_again t c k l m n p q r s tail (fine.each_length 0) (fine.each_length 1) (fine.each_length 2) (fine.each_length 3) (fine.each_align 0) (fine.each_align 1) (fine.each_align 2) (fine.each_align 3)
+    front_again t c k l m n p q r s tail (fine.each_length 0) (fine.each_length 1) (fine.each_length 2) (fine.each_length 3) (fine.each_align 0) (fine.each_align 1) (fine.each_align 2) (fine.each_align 3)
     in
     all_pass _ _ _ _ (fields_of (front_text h ++ tail)) h
     (is_four tail (crc32c 0 (front_text h)) refl)

@@ -85,7 +85,7 @@ first_found n align bytes s len read = elim (cases_eq n 0) [
       let body_len : length body ≡ n = omega (arith, length-take (length bytes - 4) bytes) in
       let body_some : (length body == 0) ≡ false = ne_eqb (length body) 0 (λ e. some (sym body_len ∙ e)) in
       let text : bytes ≡ first_text body =
-          sym (take-append-drop (length bytes - 4) bytes) ∙ ap (λ t. body ++ t) (four_bytes stored (check_sum body) ok.0) ∙ sym (rw body_some refl)
+      sym (take-append-drop (length bytes - 4) bytes) ∙ ap (λ t. body ++ t) (four_bytes stored (check_sum body) ok.0) ∙ sym (rw body_some refl)
       in
       let found : FirstFound n align bytes made = record { len = body_len; same = refl; text = text } in
       Rattle.std.proofs.Common.subst (FirstFound n align bytes) ok.1 found
@@ -224,22 +224,22 @@ length-range ns count len low high = omega (arith, length-take (count - 1) (drop
 -- ---- a frame
 
 -- the preamble of a first segment and others
-announced : (limit : ℕ) (p : Preamble) (first : Segment) (others : List Segment) → IsAllowed limit p
+pub announced : (limit : ℕ) (p : Preamble) (first : Segment) (others : List Segment) → IsAllowed limit p
     → length first.bytes ≡ slice_index p.lengths 0 → first.align ≡ slice_index p.aligns 0
     → map length_of others ≡ slice_range p.lengths 1 p.count → map align_of others ≡ slice_range p.aligns 1 p.count
     → (let f : Frame = record { tag = p.tag; segments = first ∷ others } in preamble_of f ≡ p)
 unfolding preamble_of
 announced limit p first others fine len align lens aligns =
     let lengths : four (length first.bytes ∷ map length_of others) ≡ p.lengths =
-        ap (λ n. four (n ∷ map length_of others)) len ∙ ap (λ ns. four (slice_index p.lengths 0 ∷ ns)) lens
-        ∙ four_back p.lengths p.count fine.four_lengths fine.count_low fine.count_high fine.no_lengths
+    ap (λ n. four (n ∷ map length_of others)) len ∙ ap (λ ns. four (slice_index p.lengths 0 ∷ ns)) lens
+    ∙ four_back p.lengths p.count fine.four_lengths fine.count_low fine.count_high fine.no_lengths
     in
     let as_aligns : four (first.align ∷ map align_of others) ≡ p.aligns =
-        ap (λ n. four (n ∷ map align_of others)) align ∙ ap (λ ns. four (slice_index p.aligns 0 ∷ ns)) aligns
-        ∙ four_back p.aligns p.count fine.four_aligns fine.count_low fine.count_high fine.no_aligns
+    ap (λ n. four (n ∷ map align_of others)) align ∙ ap (λ ns. four (slice_index p.aligns 0 ∷ ns)) aligns
+    ∙ four_back p.aligns p.count fine.four_aligns fine.count_low fine.count_high fine.no_aligns
     in
     let count : suc (length others) ≡ p.count =
-        omega (arith, length-map others length_of, ap length lens, length-range p.lengths p.count fine.four_lengths fine.count_low fine.count_high)
+    omega (arith, length-map others length_of, ap length lens, length-range p.lengths p.count fine.four_lengths fine.count_low fine.count_high)
     in
     same_preamble p.tag (suc (length others)) p.count _ _ _ _ count lengths as_aligns
   where
@@ -283,9 +283,9 @@ behind_found limit p left first f fine len first_len first_align read = elim (ca
       let end_len : length end ≡ 13 = omega (arith, length-drop (length left - 13) left) in
       let some : (length others == 0) ≡ false = ne_eqb (length others) 0 (λ e. several (omega (arith, length-map others length_of, ap length lens))) in
       let text : left ≡ flat_map bytes_of others ++ epilogue others =
-          sym (take-append-drop (length left - 13) left)
-          ∙ ap (λ t. t ++ end) (sym (cut_found ns aligns bodies same all))
-          ∙ ap (λ t. flat_map bytes_of others ++ t) (epilogue_found others end end_len ok.0)
+      sym (take-append-drop (length left - 13) left)
+      ∙ ap (λ t. t ++ end) (sym (cut_found ns aligns bodies same all))
+      ∙ ap (λ t. flat_map bytes_of others ++ t) (epilogue_found others end end_len ok.0)
       in
       (ap preamble_of (sym ok.1) ∙ announced limit p first others fine first_len first_align lens (cut_aligns ns aligns bodies same), others, sym ok.1, text ∙ sym (rw some refl))
 ]
@@ -301,7 +301,7 @@ first_ok limit p bytes f first fine len read_first read =
     let found = first_found (slice_index p.lengths 0) (slice_index p.aligns 0) (take n bytes) first front_len read_first in
     let behind = behind_found limit p (drop n bytes) first f fine left_len found.len found.same read in
     let text : bytes ≡ first_text first.bytes ++ others_text behind.1 =
-        sym (take-append-drop n bytes) ∙ ap (λ t. t ++ drop n bytes) found.text ∙ ap (λ t. first_text first.bytes ++ t) behind.3
+    sym (take-append-drop n bytes) ∙ ap (λ t. t ++ drop n bytes) found.text ∙ ap (λ t. first_text first.bytes ++ t) behind.3
     in
     record { head = behind.0; text = text ∙ ap (λ (g : Frame). rest_text g.segments) (sym behind.2) }
 
@@ -324,13 +324,12 @@ length-bodies [] = refl
 length-bodies (s ∷ ss) = length-append s.bytes (flat_map bytes_of ss) ∙ ap (λ n. length s.bytes + n) (length-bodies ss) ∙ sym (sum-cons (length s.bytes) (map length_of ss))
 
 -- the preamble of a frame with a first segment and others
-announces : (t : ℕ) (s : Segment) (ss : List Segment) → length ss ≤ 3 → let f : Frame = record { tag = t; segments = s ∷ ss } in
+pub announces : (t : ℕ) (s : Segment) (ss : List Segment) → length ss ≤ 3 → let f : Frame = record { tag = t; segments = s ∷ ss } in
     (slice_range (preamble_of f).lengths 1 (preamble_of f).count ≡ map length_of ss) × (slice_range (preamble_of f).aligns 1 (preamble_of f).count ≡ map align_of ss)
 unfolding preamble_of
 announces t s ss few =
     let of_lengths : suc (length ss) ≡ suc (length (map length_of ss)) = ap suc (sym (length-map ss length_of)) in
-    let of_aligns : suc (length ss) ≡ suc (length (map align_of ss)) = ap suc (sym (length-map ss align_of)) in
-    (
+    let of_aligns : suc (length ss) ≡ suc (length (map align_of ss)) = ap suc (sym (length-map ss align_of)) in (
       ap (λ n. slice_range (four (length s.bytes ∷ map length_of ss)) 1 n) of_lengths ∙ range_back (length s.bytes) (map length_of ss) (omega (arith, length-map ss length_of)),
       ap (λ n. slice_range (four (s.align ∷ map align_of ss)) 1 n) of_aligns ∙ range_back s.align (map align_of ss) (omega (arith, length-map ss align_of)),
     )
@@ -386,11 +385,11 @@ first_of : (t : ℕ) (s : Segment) (ss : List Segment) → let p : Preamble = pr
 unfolding preamble_of
 first_of t s ss = (refl, refl)
 
-no_frame : (limit t : ℕ) → let f : Frame = record { tag = t; segments = [] } in IsAllowed limit (preamble_of f) → ⊥
+pub no_frame : (limit t : ℕ) → let f : Frame = record { tag = t; segments = [] } in IsAllowed limit (preamble_of f) → ⊥
 unfolding preamble_of
 no_frame limit t fine = let low : 1 ≤ 0 = fine.count_low in omega arith
 
-few_others : (limit t : ℕ) (s : Segment) (ss : List Segment) → IsAllowed limit (preamble_of (framed t s ss)) → length ss ≤ 3
+pub few_others : (limit t : ℕ) (s : Segment) (ss : List Segment) → IsAllowed limit (preamble_of (framed t s ss)) → length ss ≤ 3
 unfolding preamble_of
 few_others limit t s ss fine = let high : suc (length ss) ≤ 4 = fine.count_high in omega arith
 
@@ -403,8 +402,7 @@ behind_again t s (o ∷ os) few =
     let ranges = announces t s ss few in
     let end_len : length (epilogue ss) ≡ 13 = length-epilogue ss in
     let all : length (flat_map bytes_of ss ++ epilogue ss) ≡ sum (map length_of ss) + 13 = length-append (flat_map bytes_of ss) (epilogue ss) ∙ omega (arith, length-bodies ss) in
-    let ok : Frame → Result Frame FrameRefusal = λ g. Ok g in
-    (
+    let ok : Frame → Result Frame FrameRefusal = λ g. Ok g in (
       ap length (text_of o os) ∙ all ∙ ap (λ ns. sum ns + 13) (sym ranges.0) ∙ sym (len_of t s o os),
       joined (preamble_of (framed t s ss)) (others_text ss) s ss (map length_of ss) (map align_of ss) (flat_map bytes_of ss) (epilogue ss)
           (count_of t s o os) (text_of o os) end_len ranges.0 ranges.1 (cut_again ss) (epilogue_again ss)
@@ -425,9 +423,8 @@ again_of t s ss few =
     let front : take n (first ++ others) ≡ first = ap (λ k. take k (first ++ others)) n_is ∙ take_at first others (length first) refl in
     let left : drop n (first ++ others) ≡ others = ap (λ k. drop k (first ++ others)) n_is ∙ drop_at first others (length first) refl in
     let read : first_at (slice_index p.aligns 0) (take n (first ++ others)) ≡ Ok s =
-        ap (λ b. first_at (slice_index p.aligns 0) b) front ∙ ap (λ a. first_at a first) (first_of t s ss).1 ∙ first_again s
-    in
-    (
+    ap (λ b. first_at (slice_index p.aligns 0) b) front ∙ ap (λ a. first_at a first) (first_of t s ss).1 ∙ first_again s
+    in (
       length-append first others ∙ ap (λ k. k + length others) (sym n_is) ∙ ap (λ k. n + k) behind.0,
       ap (λ b. behind_first p b (first_at (slice_index p.aligns 0) (take n (first ++ others)))) left
           ∙ ap (λ (r : Result Segment FrameRefusal). behind_first p others r) read ∙ behind.1,

@@ -53,7 +53,7 @@ unfoldable pub frame_text : Frame → List ℕ
 frame_text f = preamble_text (preamble_of f) ++ rest_text f.segments
 
 -- a frame that a preamble can announce
-pub record IsWritable (f : Frame) : Type 0 where
+pub record IsAnnounceable (f : Frame) : Type 0 where
   pub tag_low : 1 ≤ f.tag
   pub tag_high : f.tag ≤ 20
   pub count_low : 1 ≤ length f.segments
@@ -103,7 +103,7 @@ unfoldable pub epilogue_fault : List Segment → List ℕ → Option FrameRefusa
 epilogue_fault others bytes =
     if slice_index bytes 0 == 0x0e
     then or_next (sum_fault (slice_get others 0) (slice_range bytes 1 5))
-        (or_next (sum_fault (slice_get others 1) (slice_range bytes 5 9)) (sum_fault (slice_get others 2) (slice_range bytes 9 13)))
+    (or_next (sum_fault (slice_get others 1) (slice_range bytes 5 9)) (sum_fault (slice_get others 2) (slice_range bytes 9 13)))
     else if slice_index bytes 0 == 0x01 then Some Aborted
     else Some BadShape
 
@@ -117,7 +117,7 @@ behind_first p left (Err e) = Err e
 behind_first p left (Ok first) =
     if p.count == 1 then Ok (record { tag = p.tag; segments = first ∷ [] })
     else let others = segments_of (slice_range p.lengths 1 p.count) (slice_range p.aligns 1 p.count) (take (length left - 13) left) in
-        unless (epilogue_fault others (drop (length left - 13) left)) (record { tag = p.tag; segments = first ∷ others })
+    unless (epilogue_fault others (drop (length left - 13) left)) (record { tag = p.tag; segments = first ∷ others })
 
 -- the frame whose preamble this is, in what stands behind it, or the first check that fails: the check sum of the first segment,
 -- the late status, and then the other check sums
@@ -129,10 +129,10 @@ rest_at p bytes =
 -- ---- what the calls answer
 
 -- the answer is this one, unless memory was wanting
-abbrev pub Yields : {X : Type 0} → Result X FrameRefusal → Result X FrameRefusal → Type 0
-Yields (Ok x) expected = expected ≡ Ok x
-Yields (Err OutOfMemory) expected = Unit {0}
-Yields (Err e) expected = expected ≡ Err e
+abbrev pub Agrees : {X : Type 0} → Result X FrameRefusal → Result X FrameRefusal → Type 0
+Agrees (Ok x) expected = expected ≡ Ok x
+Agrees (Err OutOfMemory) expected = Unit {0}
+Agrees (Err e) expected = expected ≡ Err e
 
 -- the preamble announces this frame, and these bytes are the rest of it
 pub record IsRest (p : Preamble) (bytes : List ℕ) (f : Frame) : Type 0 where
@@ -140,7 +140,7 @@ pub record IsRest (p : Preamble) (bytes : List ℕ) (f : Frame) : Type 0 where
   pub text : bytes ≡ rest_text f.segments
 
 -- why a frame isn't written: its segments have so many bytes together, which is above the limit; want of memory is free
-abbrev pub IsTooLong : ℕ → Frame → FrameRefusal → Type 0
-IsTooLong limit f (TooLong n) = (n ≡ total f) × (limit < n)
-IsTooLong limit f OutOfMemory = Unit {0}
-IsTooLong limit f _ = ⊥
+abbrev pub IsAboveLimit : ℕ → Frame → FrameRefusal → Type 0
+IsAboveLimit limit f (TooLong n) = (n ≡ total f) × (limit < n)
+IsAboveLimit limit f OutOfMemory = Unit {0}
+IsAboveLimit limit f _ = ⊥

@@ -77,16 +77,16 @@ is_shaped p =
     && (list_all (λ n. n == 0) (drop p.count p.lengths) && list_all (λ a. a == 0) (drop p.count p.aligns)))))
 
 -- flags and the reserved byte are 0
-unfoldable pub is_plain : List ℕ → Bool
-is_plain b = (slice_index b 26 == 0) && (slice_index b 27 == 0)
+unfoldable pub ends_in_zeros : List ℕ → Bool
+ends_in_zeros b = (slice_index b 26 == 0) && (slice_index b 27 == 0)
 
 -- the preamble in 32 bytes, where the segments may have so many bytes together, or the first check that fails
 unfoldable pub preamble_at : ℕ → List ℕ → Result Preamble FrameRefusal
 preamble_at limit b =
     if has_sum b
-    then (if is_shaped (fields_of b) && is_plain b
-        then (if nat_lt limit (sum (fields_of b).lengths) then Err (TooLong (sum (fields_of b).lengths)) else Ok (fields_of b))
-        else Err BadShape)
+    then (if is_shaped (fields_of b) && ends_in_zeros b
+    then (if nat_lt limit (sum (fields_of b).lengths) then Err (TooLong (sum (fields_of b).lengths)) else Ok (fields_of b))
+    else Err BadShape)
     else Err BadCrc
 
 -- what the checks behind the check sum let through, where the segments may have so many bytes together

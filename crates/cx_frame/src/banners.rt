@@ -1,7 +1,7 @@
 //! Reading and writing the banner.
 
 ghost use Rattle.std.specs.Prelude.{◌≡◌, ◌≢◌, ℕ, ◌+◌, ◌<◌, ◌≤◌, ◌^◌, List, [], ◌++◌, IfOk, IfSome, OnOk, OnErr, length};
-ghost use Rattle.cx_frame.specs.Banners.{IsBanner, banner_text, bad_place, banner_at, judged, sized};
+ghost use Rattle.cx_frame.specs.Banners.{IsBanner, banner_text, bad_place, banner_at, by_features, sized};
 ghost use Rattle.cx_frame.specs.declared.banner.Banner.{Banner};
 
 use crate::banner::Banner;
@@ -34,7 +34,7 @@ pub fn read_banner(bytes: &[u8]) -> Result<Option<(Banner, usize)>, BannerRefusa
     // What is read stands there.
     ensures found { IfOk result (λ read. IfSome read (λ x. IsBanner bytes.now x.0 x.1)) }
     // What stands there is read, whatever follows it, and its features are judged.
-    ensures only { (b : Banner) (n : ℕ) → b.supported < 2 ^ 64 → b.required < 2 ^ 64 → IsBanner bytes.now b n → result ≡ judged b n }
+    ensures only { (b : Banner) (n : ℕ) → b.supported < 2 ^ 64 → b.required < 2 ^ 64 → IsBanner bytes.now b n → result ≡ by_features b n }
     // It is refused for the first byte of the text that differs, for its length, or for the features; nothing is answered where it
     // isn't all there.
     ensures exact { result ≡ banner_at bytes.now }
@@ -77,17 +77,21 @@ fn sized(bytes: &[u8], length: u16) -> Result<Option<(Banner, usize)>, BannerRef
     let b = bytes;
     let supported = u64::from_le_bytes([b[10], b[11], b[12], b[13], b[14], b[15], b[16], b[17]]);
     let required = u64::from_le_bytes([b[18], b[19], b[20], b[21], b[22], b[23], b[24], b[25]]);
-    judged(Banner { supported, required }, end)
+    by_features(
+        Banner {
+            supported,
+            required,
+        },
+        end,
+    )
 }
 
-#[tactic(auto, unfolding(crate::specs::Banners::judged))]
-fn judged(banner: Banner, end: usize) -> Result<Option<(Banner, usize)>, BannerRefusal>
-    ensures { result ≡ judged banner end }
+#[tactic(auto, unfolding(crate::specs::Banners::by_features))]
+fn by_features(banner: Banner, end: usize) -> Result<Option<(Banner, usize)>, BannerRefusal>
+    ensures { result ≡ by_features banner end }
 {
     if 1 < banner.required {
-        return Err(BannerRefusal::Features(
-            banner.required - banner.required % 2,
-        ));
+        return Err(BannerRefusal::Features(banner.required - banner.required % 2));
     }
     if banner.supported % 2 == 0 {
         return Err(BannerRefusal::Features(1));

@@ -2,11 +2,12 @@
 
 ghost use Rattle.std.specs.Prelude.{◌≡◌, Ok, IfOk, ◌==◌, sum};
 ghost use Rattle.std.specs.List.{list_all};
-ghost use Rattle.cx_frame.specs.Preambles.{IsAllowed, preamble_text, preamble_at, fields_of, is_shaped, has_sum, is_four_bytes, is_plain};
+ghost use Rattle.cx_frame.specs.Preambles.{IsAllowed, preamble_text, preamble_at, fields_of, is_shaped, has_sum, ends_in_zeros};
 ghost use Rattle.cx_frame.specs.declared.preamble.Preamble.{Preamble};
 
 use crate::preamble::Preamble;
 use crate::refusals::FrameRefusal;
+use crate::sums::is_four_bytes;
 use cx_digest::crc32c;
 
 /// The bytes that the segments of a plain frame have together, at most.
@@ -44,7 +45,7 @@ fn checked(bytes: &[u8; 32], limit: u64) -> Result<Preamble, FrameRefusal>
         return Err(FrameRefusal::BadCrc);
     }
     let head = fields_of(bytes);
-    if !(is_shaped(&head) && is_plain(bytes)) {
+    if !(is_shaped(&head) && ends_in_zeros(bytes)) {
         return Err(FrameRefusal::BadShape);
     }
     let total = total(&head);
@@ -60,14 +61,6 @@ fn has_sum(bytes: &[u8; 32]) -> bool
 {
     let (front, stored) = bytes.split_at(FRONT);
     is_four_bytes(stored, crc32c(0, front))
-}
-
-// Whether these bytes are this number.
-#[tactic(auto, unfolding(crate::specs::Preambles::is_four_bytes))]
-pub(crate) fn is_four_bytes(bytes: &[u8], number: u32) -> bool
-    ensures { result ≡ is_four_bytes bytes.now number }
-{
-    bytes == &number.to_le_bytes()[..]
 }
 
 #[tactic(auto, unfolding(crate::specs::Preambles::fields_of))]
@@ -118,9 +111,9 @@ fn are_no_aligns(aligns: &[u16]) -> bool
     aligns.iter().all(|a| *a == 0)
 }
 
-#[tactic(auto, unfolding(crate::specs::Preambles::is_plain))]
-fn is_plain(bytes: &[u8; 32]) -> bool
-    ensures { result ≡ is_plain bytes.now }
+#[tactic(auto, unfolding(crate::specs::Preambles::ends_in_zeros))]
+fn ends_in_zeros(bytes: &[u8; 32]) -> bool
+    ensures { result ≡ ends_in_zeros bytes.now }
 {
     bytes[26] == 0 && bytes[27] == 0
 }

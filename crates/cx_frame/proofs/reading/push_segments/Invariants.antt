@@ -1,6 +1,6 @@
 use Rattle.std.proofs.Common.{◌≡◌, ◌≤◌, ◌++◌, drop, length, sum}
 use Rattle.cx_frame.specs.Frames.{segments_of}
-use Rattle.cx_frame.proofs.plain.push_segments.Given as goal
+use Rattle.cx_frame.proofs.reading.push_segments.Given as goal
 
 abbrev pub invariant-loop-i : goal.invariant-loop-i
 invariant-loop-i l = record {

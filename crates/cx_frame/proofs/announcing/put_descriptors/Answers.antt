@@ -1,6 +1,6 @@
 use Rattle.std.proofs.Common.{◌++◌, ap, ◌∙◌}
 use Rattle.cx_frame.proofs.Cutting.{descriptor_on, all_described}
-use Rattle.cx_frame.proofs.plain.put_descriptors.Goals as goal
+use Rattle.cx_frame.proofs.announcing.put_descriptors.Goals as goal
 
 pub loop-i-preserved : goal.loop-i-preserved
 loop-i-preserved c =

@@ -1,9 +1,9 @@
 use Rattle.std.proofs.Common.{◌≡◌, List, ℕ, Result, Err, length, take, drop, slice_index, subst, ap, ◌∙◌}
 use Rattle.cx_frame.specs.declared.frame.Segment.{Segment}
 use Rattle.cx_frame.specs.declared.refusals.FrameRefusal.{FrameRefusal}
-use Rattle.cx_frame.specs.Frames.{Yields, first_at, first_len, rest_at}
+use Rattle.cx_frame.specs.Frames.{Agrees, first_at, first_len, rest_at}
 use Rattle.cx_frame.proofs.Cutting.{first_large, first_refused}
-use Rattle.cx_frame.proofs.plain.rest_at.Goals as goal
+use Rattle.cx_frame.proofs.reading.rest_at.Goals as goal
 
 pub first_at-requires : goal.first_at-requires
 first_at-requires c = λ some.
@@ -17,4 +17,4 @@ returns-in-Err c =
     let align : ℕ = slice_index c.args.head.now.aligns 0 in
     let answer : Result Segment FrameRefusal = Err c.in-Err.refusal in
     let e : c.split_at.result.0.now ≡ take n c.args.bytes.now = c.split_at.ensures.front ∙ ap (λ k. take k c.args.bytes.now) c.first_len.ensures.value in
-    first_refused c.args.head.now (drop n c.args.bytes.now) c.in-Err.refusal (first_at align (take n c.args.bytes.now)) (subst (λ (b : List ℕ). Yields answer (first_at align b)) e c.in-Err.ensures)
+    first_refused c.args.head.now (drop n c.args.bytes.now) c.in-Err.refusal (first_at align (take n c.args.bytes.now)) (subst (λ (b : List ℕ). Agrees answer (first_at align b)) e c.in-Err.ensures)

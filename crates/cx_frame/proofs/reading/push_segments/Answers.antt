@@ -1,7 +1,7 @@
 use Rattle.std.proofs.Common.{List, ℕ, [], ◌∷◌, ◌++◌, slice_index, ap, ◌∙◌, arith}
 use Rattle.cx_frame.specs.declared.frame.Segment.{Segment}
 use Rattle.cx_frame.proofs.Cutting.{segment_on, all_cut, room_more}
-use Rattle.cx_frame.proofs.plain.push_segments.Goals as goal
+use Rattle.cx_frame.proofs.reading.push_segments.Goals as goal
 
 pub loop-i-preserved : goal.loop-i-preserved
 loop-i-preserved c =
