@@ -1,5 +1,5 @@
 -- What an answer says of its value.
-use Rattle.std.proofs.Common.{◌≡◌, Result, Ok, Err, Option, Some, None, refl, subst, sym, ap, ◌∙◌}
+use Rattle.std.proofs.Common.{◌≡◌, Result, Ok, Err, refl}
 use Rattle.std.specs.Prelude.{IfOk}
 use Rattle.cx_frame.specs.declared.refusals.FrameRefusal.{FrameRefusal}
 use Rattle.cx_frame.specs.Frames.{Agrees}

@@ -1,7 +1,7 @@
 -- Bytes cut into segments.
-use Rattle.std.proofs.Common.{◌≡◌, ℕ, zero, suc, ◌+◌, ◌-◌, ◌<◌, ◌≤◌, List, [], ◌∷◌, ◌++◌, length, slice_index, get_or, take, drop, sum, refl, sym, ap, ◌∙◌, arith, add-one, length-take, length-drop, Bool, true, false, All, sum_by, ◌*◌, ◌^◌, ◌≢◌, append_assoc, map, inl, inr}
+use Rattle.std.proofs.Common.{◌≡◌, ℕ, zero, suc, ◌+◌, ◌-◌, ◌<◌, ◌≤◌, List, [], ◌∷◌, ◌++◌, length, slice_index, take, drop, sum, refl, sym, ap, ◌∙◌, arith, add-one, length-take, length-drop, Bool, true, false, All, sum_by, ◌*◌, ◌^◌, ◌≢◌, append_assoc, map, inl, inr}
 use Rattle.std.proofs.Math.Seq.{drop-cons}
-use Rattle.std.specs.Prelude.{Option, Some, None, Result, Ok, Err}
+use Rattle.std.specs.Prelude.{Result, Err}
 use Rattle.std.specs.List.{list_all}
 use Rattle.std.proofs.lemmas.Bool.{cases_eq, ne_eqb}
 use Rattle.std.proofs.lemmas.List.{append-nil, at_drop_all}

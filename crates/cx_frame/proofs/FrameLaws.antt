@@ -1,5 +1,5 @@
 -- One frame at most is spelled by given bytes, whatever follows it.
-use Rattle.std.proofs.Common.{◌≡◌, ℕ, suc, ◌+◌, List, [], ◌∷◌, ◌++◌, length, take, drop, Result, Ok, Err, refl, sym, ap, subst, ◌∙◌, arith, append_assoc, length-append}
+use Rattle.std.proofs.Common.{◌≡◌, ℕ, suc, ◌+◌, List, [], ◌∷◌, ◌++◌, length, take, drop, Result, Ok, refl, sym, ap, ◌∙◌, arith, append_assoc, length-append}
 use Rattle.std.proofs.lemmas.List.{take_at, drop_at}
 use Rattle.std.specs.Int.{w32, to_le_bytes}
 use Rattle.cx_digest.specs.Checksum.{crc32c}
@@ -7,7 +7,7 @@ use Rattle.cx_frame.specs.declared.frame.Frame.{Frame}
 use Rattle.cx_frame.specs.declared.preamble.Preamble.{Preamble}
 use Rattle.cx_frame.specs.declared.refusals.FrameRefusal.{FrameRefusal}
 use Rattle.cx_frame.specs.Preambles.{IsAllowed, descriptors, front_text, preamble_at, preamble_of, preamble_text}
-use Rattle.cx_frame.specs.Frames.{IsRest, frame_text, rest_at, rest_len, rest_text}
+use Rattle.cx_frame.specs.Frames.{frame_text, rest_at, rest_len, rest_text}
 use Rattle.cx_frame.proofs.PreambleLaws.{preamble_again}
 use Rattle.cx_frame.proofs.RestLaws.{length-rest_text, rest_again}
 

@@ -1,10 +1,10 @@
 -- What is read as a preamble was spelled so, and what is spelled is read again.
 use Rattle.std.proofs.Common.{◌≡◌, ℕ, zero, suc, ◌+◌, ◌<◌, ◌≤◌, ◌^◌, Bool, true, false, IsTrue, List, [], ◌∷◌, ◌++◌, length, slice_index, get_or, take, drop, map, sum, Result, Ok, Err, refl, sym, ap, ◌∙◌, arith, length-take, eq-eqb}
-use Rattle.std.specs.Prelude.{◌&&◌, ◌==◌, nat_lt, nat_le, if◌then◌else◌}
+use Rattle.std.specs.Prelude.{◌==◌, nat_lt, if◌then◌else◌}
 use Rattle.std.specs.List.{list_all}
 use Rattle.std.specs.Int.{w16, w32, to_le_bytes, from_le_bytes}
 use Rattle.std.specs.Str.{bytes_eq}
-use Rattle.std.proofs.lemmas.Bool.{and_parts, and_from, eqb-true, leb-true, ltb-true, le-leb, lt-ltb, le-ltb, ltb-false}
+use Rattle.std.proofs.lemmas.Bool.{and_parts, and_from, eqb-true, leb-true, le-leb, le-ltb, ltb-false}
 use Rattle.std.proofs.lemmas.List.{get_or-take, take-append-drop}
 use Rattle.std.proofs.lemmas.List.FromFn.{fill_by_all}
 use Rattle.std.proofs.lemmas.Nat.{from_le_bytes-to_le_bytes_2, from_le_bytes-to_le_bytes_4}
@@ -13,7 +13,7 @@ use Rattle.cx_digest.specs.Checksum.{crc32c}
 use Rattle.cx_frame.specs.declared.preamble.Preamble.{Preamble}
 use Rattle.cx_frame.specs.declared.refusals.FrameRefusal.{FrameRefusal}
 use Rattle.cx_frame.specs.declared.refusals.FrameRefusal.TheVariants.{BadCrc, BadShape, TooLong}
-use Rattle.cx_frame.specs.Preambles.{IsAllowed, descriptors, front_text, preamble_text, number16, number32, fields_of, is_four_bytes, has_sum, is_shaped, ends_in_zeros, preamble_at}
+use Rattle.cx_frame.specs.Preambles.{IsAllowed, descriptors, front_text, preamble_text, fields_of, is_four_bytes, has_sum, is_shaped, ends_in_zeros, preamble_at}
 use Rattle.cx_frame.proofs.Fours.{AreBytes, spelled16, spelled32, below16, below32, each_below}
 
 -- these bytes are this number exactly where they are its spelling

@@ -1,15 +1,15 @@
 -- What is read behind a preamble was spelled so, and what is spelled is read again.
 use Rattle.std.proofs.Common.{◌≡◌, ◌≢◌, ℕ, zero, suc, ◌+◌, ◌-◌, ◌<◌, ◌≤◌, ◌^◌, Bool, true, false, List, [], ◌∷◌, ◌++◌, length, slice_index, get_or, take, drop, map, sum, Option, Some, None, Result, Ok, Err, refl, sym, ap, ◌∙◌, arith, inl, inr, length-take, length-drop, length-append, append_assoc, eq-eqb}
-use Rattle.std.specs.Prelude.{◌&&◌, ◌==◌, slice_get, if◌then◌else◌}
+use Rattle.std.specs.Prelude.{◌==◌, slice_get, if◌then◌else◌}
 use Rattle.std.specs.List.{list_all, flat_map, slice_range}
 use Rattle.std.specs.Int.{w32, to_le_bytes}
 use Rattle.std.proofs.lemmas.Bool.{and_parts, eqb-true, cases_eq, ne_eqb}
-use Rattle.std.proofs.lemmas.List.{append-nil, length-map, nil_from_length, take-append-drop, take_at, drop_at}
+use Rattle.std.proofs.lemmas.List.{length-map, nil_from_length, take-append-drop, take_at, drop_at}
 use Rattle.cx_frame.specs.declared.frame.Segment.{Segment}
 use Rattle.cx_frame.specs.declared.frame.Frame.{Frame}
 use Rattle.cx_frame.specs.declared.preamble.Preamble.{Preamble}
 use Rattle.cx_frame.specs.declared.refusals.FrameRefusal.{FrameRefusal}
-use Rattle.cx_frame.specs.declared.refusals.FrameRefusal.TheVariants.{BadCrc, BadShape, TooLong, Aborted}
+use Rattle.cx_frame.specs.declared.refusals.FrameRefusal.TheVariants.{BadCrc, BadShape, Aborted}
 use Rattle.cx_frame.specs.Preambles.{IsAllowed, four, length_of, align_of, preamble_of, is_four_bytes}
 use Rattle.cx_frame.specs.Frames.{IsRest, behind_first, bytes_of, check_sum, epilogue, epilogue_fault, first_at, first_len, first_text, or_next, others_len, others_text, rest_at, rest_len, rest_text, segments_of, sum_fault, sum_text, unless}
 use Rattle.cx_frame.proofs.Cutting.{sum-cons}

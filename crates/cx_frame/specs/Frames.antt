@@ -1,8 +1,7 @@
 -- Plain frames ("msgr2 protocol", frame format): the spelling of a frame, and the reading of what stands behind its preamble.
-use Rattle.std.specs.Prelude.{ℕ, ◌≡◌, ◌+◌, ◌-◌, ◌^◌, ◌<◌, ◌≤◌, ◌==◌, List, [], ◌∷◌, ◌++◌, All, length, take, drop, sum, sum_by, slice_index, slice_get, nat_lt, Option, Some, None, Result, Ok, Err, if◌then◌else◌}
+use Rattle.std.specs.Prelude.{ℕ, ◌≡◌, ◌+◌, ◌-◌, ◌^◌, ◌<◌, ◌≤◌, ◌==◌, List, [], ◌∷◌, ◌++◌, All, length, take, drop, sum, sum_by, slice_index, slice_get, Option, Some, None, Result, Ok, Err, if◌then◌else◌}
 use Rattle.std.specs.List.{flat_map, slice_range}
 use Rattle.std.specs.Int.{w32, to_le_bytes}
-use Rattle.std.specs.Str.{bytes_eq}
 use Rattle.cx_digest.specs.Checksum.{crc32c}
 use Rattle.cx_frame.specs.Preambles.{length_of, preamble_of, preamble_text, is_four_bytes}
 use Rattle.cx_frame.specs.declared.frame.Segment.{Segment}

@@ -1,4 +1,4 @@
-use Rattle.std.proofs.Common.{◌≡◌, Ok, subst}
+use Rattle.std.proofs.Common.{subst}
 use Rattle.cx_frame.specs.Frames.{Agrees, IsRest, rest_at}
 use Rattle.cx_frame.proofs.Answering.{agrees_ok}
 use Rattle.cx_frame.proofs.RestLaws.{rest_found, rest_again}
