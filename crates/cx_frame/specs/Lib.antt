@@ -1,0 +1,3 @@
+pub mod Banners
+pub mod Frames
+pub mod Preambles

@@ -1,0 +1,117 @@
+//! What the preamble of a frame announces, and its bytes.
+
+ghost use Rattle.std.specs.Prelude.{◌≡◌, ℕ, ◌<◌, ◌≤◌, ◌^◌, ◌++◌, All, map, OnOk, OnErr, length, sum_by, slice_index};
+ghost use Rattle.cx_frame.specs.Preambles.{IsAllowed, align_of, descriptors, front_text, length_of, preamble_of, preamble_text};
+ghost use Rattle.cx_frame.specs.Frames.{IsAnnounceable, total};
+
+use crate::frame::{Frame, Segment};
+use crate::preamble::Preamble;
+use cx_base::Blob;
+use cx_digest::crc32c;
+use std::alloc::{AllocError, Global};
+
+/// The bytes that the segments of a frame have together.
+#[tactic(auto, using(crate::proofs::Cutting::total_small))]
+pub fn total(frame: &Frame) -> u64
+    requires { IsAnnounceable frame.now }
+    ensures { result ≡ total frame.now }
+{
+    total_of(frame.segments.all())
+}
+
+fn total_of(segments: &[Segment]) -> u64
+    requires { sum_by length_of segments.now < 2 ^ 64 }
+    ensures { result ≡ sum_by length_of segments.now }
+{
+    segments.iter().map(|s| s.bytes.bytes().len() as u64).sum()
+}
+
+/// What the preamble of a frame announces.
+#[tactic(auto, unfolding(crate::specs::Preambles::preamble_of))]
+pub fn preamble_of(frame: &Frame) -> Preamble
+    requires { IsAnnounceable frame.now }
+    ensures value { result ≡ preamble_of frame.now }
+    // It passes the checks of a preamble where the segments are within the limit.
+    ensures allowed { (limit : ℕ) → total frame.now ≤ limit → IsAllowed limit (preamble_of frame.now) }
+{
+    let segments = frame.segments.all();
+    Preamble {
+        tag: frame.tag,
+        count: segments.len() as u8,
+        lengths: [
+            length_at(segments, 0),
+            length_at(segments, 1),
+            length_at(segments, 2),
+            length_at(segments, 3),
+        ],
+        aligns: [
+            align_at(segments, 0),
+            align_at(segments, 1),
+            align_at(segments, 2),
+            align_at(segments, 3),
+        ],
+    }
+}
+
+// The length of the segment at a place, 0 where there is none.
+fn length_at(segments: &[Segment], place: usize) -> u32
+    requires { All (λ s. length s.bytes < 2 ^ 32) segments.now }
+    ensures { result ≡ slice_index (map length_of segments.now) place }
+{
+    if place < segments.len() {
+        segments[place].bytes.bytes().len() as u32
+    } else {
+        0
+    }
+}
+
+// Its alignment.
+fn align_at(segments: &[Segment], place: usize) -> u16
+    ensures { result ≡ slice_index (map align_of segments.now) place }
+{
+    if place < segments.len() {
+        segments[place].align
+    } else {
+        0
+    }
+}
+
+/// Writes the preamble of a frame behind some bytes. Where memory is wanting, the bytes stay as they were.
+#[tactic(auto, unfolding(crate::specs::Preambles::preamble_text))]
+pub fn put_preamble(alloc: Global, into: &mut Blob, head: &Preamble) -> Result<(), AllocError>
+    ensures ok { OnOk result (into.new ≡ into.old ++ preamble_text head.now) }
+    ensures err { OnErr result (into.new ≡ into.old) }
+{
+    let mut text = Blob::new(alloc);
+    put_front(alloc, &mut text, head)?;
+    let sum = crc32c(0, text.bytes());
+    text.append(alloc, &sum.to_le_bytes())?;
+    into.append(alloc, text.bytes())
+}
+
+// The bytes that the check sum of a preamble covers.
+#[tactic(auto, unfolding(crate::specs::Preambles::front_text))]
+fn put_front(alloc: Global, into: &mut Blob, head: &Preamble) -> Result<(), AllocError>
+    ensures { OnOk result (into.new ≡ into.old ++ front_text head.now) }
+{
+    into.append(alloc, &[head.tag, head.count])?;
+    put_descriptors(alloc, into, &head.lengths, &head.aligns)?;
+    into.append(alloc, &[0, 0])
+}
+
+#[tactic(auto, using(crate::proofs::Cutting::descriptors_more))]
+fn put_descriptors(
+    alloc: Global,
+    into: &mut Blob,
+    lengths: &[u32],
+    aligns: &[u16],
+) -> Result<(), AllocError>
+    requires { length aligns.now ≡ length lengths.now }
+    ensures { OnOk result (into.new ≡ into.old ++ descriptors lengths.now aligns.now) }
+{
+    for i in 0..lengths.len() {
+        into.append(alloc, &lengths[i].to_le_bytes())?;
+        into.append(alloc, &aligns[i].to_le_bytes())?;
+    }
+    Ok(())
+}
