@@ -10,8 +10,6 @@ mod kind_bytes;
 mod payloads;
 mod reconnects;
 mod refusals;
-#[cfg(test)]
-mod tests;
 mod upkeep;
 
 pub use auth::{

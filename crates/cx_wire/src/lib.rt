@@ -10,8 +10,6 @@ mod headers;
 mod logins;
 mod operations;
 mod refusals;
-#[cfg(test)]
-mod tests;
 mod tickets;
 
 pub use answers::{Answer, put_answer, read_answer};

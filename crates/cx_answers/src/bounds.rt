@@ -1,0 +1,38 @@
+//! What a writer asks of a value, tested of one that was read.
+
+ghost use Rattle.std.specs.Prelude.{length, ◌<◌, ◌^◌, IsTrue, OnOk};
+ghost use Rattle.cx_base.specs.Texts.{is_part};
+ghost use Rattle.cx_enc.specs.Moments.{IsReading};
+
+use crate::answered::Refused;
+use cx_base::{Blob, Reading, SECOND, Text, is_part};
+
+/// That a blob field can hold these bytes.
+pub fn is_short(bytes: &Blob) -> Result<(), Refused>
+    ensures { OnOk result (length bytes.now < 2 ^ 32) }
+{
+    if bytes.bytes().len() > 0xffff_ffff {
+        return Err(Refused::Unfit);
+    }
+    Ok(())
+}
+
+/// That a time field can hold this reading.
+pub fn is_reading(reading: Reading) -> Result<(), Refused>
+    ensures { OnOk result (IsReading reading) }
+{
+    if reading >= 4_294_967_296 * SECOND {
+        return Err(Refused::Unfit);
+    }
+    Ok(())
+}
+
+/// That this is a pool, a namespace or an object.
+pub fn is_name(part: &Text) -> Result<(), Refused>
+    ensures { OnOk result (IsTrue (is_part part.now)) }
+{
+    if !is_part(part.bytes()) {
+        return Err(Refused::Unfit);
+    }
+    Ok(())
+}
