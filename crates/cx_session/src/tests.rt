@@ -66,14 +66,20 @@ fn admission(alloc: Global, client_cookie: u64) -> Result<BookCall<Holder>, Fail
     })
 }
 
-fn resumption_of(owner: Holder, global_seq: u64, connect_seq: u64) -> BookCall<Holder> {
-    BookCall::Resume {
-        owner,
+fn resumption_of(
+    alloc: Global,
+    id: u8,
+    gid: u64,
+    global_seq: u64,
+    connect_seq: u64,
+) -> Result<BookCall<Holder>, Fail> {
+    Ok(BookCall::Resume {
+        owner: owned_by(alloc, id, gid)?,
         client_cookie: 7,
         server_cookie: 9,
         global_seq,
         connect_seq,
-    }
+    })
 }
 
 fn write(alloc: Global) -> Operation {
@@ -84,6 +90,28 @@ fn write(alloc: Global) -> Operation {
         object: Text::new(alloc),
         bytes: Blob::new(alloc),
     }
+}
+
+// A book's answer. The contracts are proved elsewhere: nothing of them is carried on from call to call of a test.
+fn answered(
+    alloc: Global,
+    book: &mut SessionBook<Holder>,
+    call: Result<BookCall<Holder>, Fail>,
+) -> Result<BookReply, Fail> {
+    Ok(book.answer(alloc, call?))
+}
+
+// An outbox's answer to an operation more.
+fn pushed(alloc: Global, outbox: &mut Outbox) -> Result<u64, QueueFault> {
+    match outbox.push(alloc, write(alloc)) {
+        Ok(number) => Ok(number),
+        Err(refusal) => Err(refusal.fault),
+    }
+}
+
+// The session is ended.
+fn ended(book: &mut SessionBook<Holder>, number: u64) -> bool {
+    book.end(number)
 }
 
 // A book of no sessions that has given all numbers below this one.
@@ -105,64 +133,93 @@ fn a_session_is_not_resumed_by_another_owner(rt: HostRuntime) -> Result<(), Fail
         number: 1,
         epoch: 1,
     };
-    assert!(rt; book.answer(alloc, admission(alloc, 7)?) == admitted);
+    assert!(rt; answered(alloc, &mut book, admission(alloc, 7))? == admitted);
     let differs = BookReply::Refused(BookFault::OwnerDiffers {
         entity: name(alloc, b'a')?,
         gid: 2,
     });
-    let other = resumption_of(owned_by(alloc, b'b', 5)?, 5, 1);
-    assert!(rt; book.answer(alloc, other) == differs);
-    let other_gid = resumption_of(owned_by(alloc, b'a', 5)?, 5, 1);
-    assert!(rt; book.answer(alloc, other_gid) == differs);
+    let other = resumption_of(alloc, b'b', 5, 5, 1);
+    assert!(rt; answered(alloc, &mut book, other)? == differs);
+    let other_gid = resumption_of(alloc, b'a', 5, 5, 1);
+    assert!(rt; answered(alloc, &mut book, other_gid)? == differs);
     let resumed = BookReply::Resumed {
         number: 1,
         epoch: 2,
         last: 0,
         lossy: true,
     };
-    let same = resumption_of(owned_by(alloc, b'a', 2)?, 5, 1);
-    assert!(rt; book.answer(alloc, same) == resumed);
+    let same = resumption_of(alloc, b'a', 2, 5, 1);
+    assert!(rt; answered(alloc, &mut book, same)? == resumed);
     let stale = BookReply::Refused(BookFault::StaleConnect { kept: 1 });
-    let again = resumption_of(owned_by(alloc, b'a', 2)?, 5, 1);
-    assert!(rt; book.answer(alloc, again) == stale);
+    let again = resumption_of(alloc, b'a', 2, 5, 1);
+    assert!(rt; answered(alloc, &mut book, again)? == stale);
     let behind = BookReply::Refused(BookFault::StaleGlobal { kept: 5 });
-    let older = resumption_of(owned_by(alloc, b'a', 2)?, 4, 2);
-    assert!(rt; book.answer(alloc, older) == behind);
+    let older = resumption_of(alloc, b'a', 2, 4, 2);
+    assert!(rt; answered(alloc, &mut book, older)? == behind);
     Ok(())
+}
+
+// What comes of an admission under the client cookie 7: the fault, and the global id of the owner that is given back.
+fn admission_refused(
+    alloc: Global,
+    book: &mut SessionBook<Holder>,
+    gid: u64,
+) -> Result<Option<(AdmitFault, u64)>, Fail> {
+    match book.admit(alloc, owned_by(alloc, b'a', gid)?, 7, 9, 5, false) {
+        Ok(_) => Ok(None),
+        Err(refusal) => Ok(Some((refusal.fault, refusal.owner.gid()))),
+    }
+}
+
+// The same of taking the session of the client cookie 7 up again.
+fn resumption_refused(
+    alloc: Global,
+    book: &mut SessionBook<Holder>,
+    gid: u64,
+    server_cookie: u64,
+) -> Result<Option<(ResumeFault, u64)>, Fail> {
+    match book.resume(alloc, owned_by(alloc, b'a', gid)?, 7, server_cookie, 5, 1) {
+        Ok(_) => Ok(None),
+        Err(refusal) => Ok(Some((refusal.fault, refusal.owner.gid()))),
+    }
 }
 
 #[test]
 fn an_owner_is_given_back(rt: HostRuntime) -> Result<(), Fail> {
     let alloc = rt.alloc();
     let mut book = SessionBook::new(alloc);
-    assert!(rt;
-        book.admit(alloc, owned_by(alloc, b'a', 2)?, 7, 9, 5, false)
-            .is_ok()
+    assert!(rt; admission_refused(alloc, &mut book, 2)?.is_none());
+    let (fault, gid) = admission_refused(alloc, &mut book, 3)?.expect(
+        &rt,
+        "a cookie was admitted twice",
     );
-    match book.admit(alloc, owned_by(alloc, b'b', 3)?, 7, 9, 5, false) {
-        Ok(_) => return Err(Fail::new("a cookie was admitted twice")),
-        Err(refusal) => {
-            assert!(rt; refusal.fault == AdmitFault::CookieInUse { number: 1 });
-            assert!(rt; refusal.owner.gid() == 3);
-        }
-    }
-    match book.resume(alloc, owned_by(alloc, b'b', 3)?, 7, 8, 5, 1) {
-        Ok(_) => return Err(Fail::new("a session was resumed by another cookie")),
-        Err(refusal) => {
-            assert!(rt; refusal.fault == ResumeFault::Unknown);
-            assert!(rt; refusal.owner.gid() == 3);
-        }
-    }
-    assert!(rt;
-        book.resume(alloc, owned_by(alloc, b'a', 2)?, 7, 9, 5, 1)
-            .is_ok()
+    assert!(rt; fault == AdmitFault::CookieInUse { number: 1 });
+    assert_eq!(rt; gid, 3);
+    let (fault, gid) = resumption_refused(alloc, &mut book, 3, 8)?.expect(
+        &rt,
+        "a session was resumed by another cookie",
     );
+    assert!(rt; fault == ResumeFault::Unknown);
+    assert_eq!(rt; gid, 3);
+    assert!(rt; resumption_refused(alloc, &mut book, 2, 9)?.is_none());
+    Ok(())
+}
+
+// Admits a session for which room was reserved.
+fn is_reserved(book: &mut SessionBook<Holder>) -> bool {
+    book.reserve(8).is_ok() && book.admit_reply(8) == Ok((2, 1))
+}
+
+#[test]
+fn sessions_are_told_and_ended(rt: HostRuntime) -> Result<(), Fail> {
+    let alloc = rt.alloc();
+    let mut book = SessionBook::new(alloc);
+    assert!(rt; admission_refused(alloc, &mut book, 2)?.is_none());
     assert!(rt; book.owner(1).is_some());
     assert!(rt; book.owner(2).is_none());
-    assert!(rt; book.reserve(8).is_ok());
-    assert!(rt; book.admit_reply(8) == Ok((2, 1)));
-    assert!(rt; book.end(1));
-    assert!(rt; !book.end(1));
+    assert!(rt; is_reserved(&mut book));
+    assert!(rt; ended(&mut book, 1));
+    assert!(rt; !ended(&mut book, 1));
     assert_eq!(rt; book.count(), 0);
     book_laws::<Holder>();
     Ok(())
@@ -177,19 +234,19 @@ fn at_most_4096_sessions_live(rt: HostRuntime) -> Result<(), Fail> {
             number: cookie,
             epoch: 1,
         };
-        assert!(rt; book.answer(alloc, admission(alloc, cookie)?) == admitted);
+        assert!(rt; answered(alloc, &mut book, admission(alloc, cookie))? == admitted);
     }
     let full = BookReply::Refused(BookFault::BookFull { limit: 4096 });
-    assert!(rt; book.answer(alloc, admission(alloc, 4097)?) == full);
+    assert!(rt; answered(alloc, &mut book, admission(alloc, 4097))? == full);
     let held = BookReply::Refused(BookFault::CookieInUse { number: 9 });
-    assert!(rt; book.answer(alloc, admission(alloc, 9)?) == held);
+    assert!(rt; answered(alloc, &mut book, admission(alloc, 9))? == held);
     for number in 1..66000u64 {
-        assert!(rt; book.end(number));
+        assert!(rt; ended(&mut book, number));
         let admitted = BookReply::Admitted {
             number: number + 4096,
             epoch: 1,
         };
-        assert!(rt; book.answer(alloc, admission(alloc, number + 4096)?) == admitted);
+        assert!(rt; answered(alloc, &mut book, admission(alloc, number + 4096))? == admitted);
     }
     Ok(())
 }
@@ -203,8 +260,8 @@ fn nothing_comes_behind_the_last_value(rt: HostRuntime) -> Result<(), Fail> {
         number: u64::MAX - 1,
         epoch: 1,
     };
-    assert!(rt; book.answer(alloc, admission(alloc, 7)?) == last);
-    assert!(rt; book.answer(alloc, admission(alloc, 8)?) == spent);
+    assert!(rt; answered(alloc, &mut book, admission(alloc, 7))? == last);
+    assert!(rt; answered(alloc, &mut book, admission(alloc, 8))? == spent);
     let session = Session {
         number: 1,
         epoch: u64::MAX,
@@ -223,7 +280,7 @@ fn nothing_comes_behind_the_last_value(rt: HostRuntime) -> Result<(), Fail> {
         last: u64::MAX - 1,
         waiting: Vec::new(alloc),
     };
-    assert!(rt; outbox.push(alloc, write(alloc)) == Ok(u64::MAX));
+    assert!(rt; pushed(alloc, &mut outbox) == Ok(u64::MAX));
     match outbox.push(alloc, write(alloc)) {
         Ok(_) => Err(Fail::new("a number came behind the last")),
         Err(refusal) => {
@@ -239,20 +296,17 @@ fn at_most_1024_operations_wait(rt: HostRuntime) {
     let alloc = rt.alloc();
     let mut outbox = Outbox::new(alloc);
     for number in 1..1025u64 {
-        assert!(rt; outbox.push(alloc, write(alloc)) == Ok(number));
+        assert!(rt; pushed(alloc, &mut outbox) == Ok(number));
     }
-    match outbox.push(alloc, write(alloc)) {
-        Ok(_) => panic!(rt; "1,025 operations wait"),
-        Err(refusal) => assert!(rt; refusal.fault == QueueFault::QueueFull { limit: 1024 }),
-    }
+    assert!(rt; pushed(alloc, &mut outbox) == Err(QueueFault::QueueFull { limit: 1024 }));
     outbox.acknowledge(1022);
     assert_eq!(rt; outbox.waiting().len(), 2);
     for number in 1025..67000u64 {
         outbox.acknowledge(number - 2);
-        assert!(rt; outbox.push(alloc, write(alloc)) == Ok(number));
+        assert!(rt; pushed(alloc, &mut outbox) == Ok(number));
     }
     assert_eq!(rt; outbox.waiting().len(), 2);
-    assert!(rt; outbox.push(alloc, write(alloc)) == Ok(67000));
+    assert!(rt; pushed(alloc, &mut outbox) == Ok(67000));
 }
 
 // The call that these bits make of a book whose newest session has this number.
@@ -340,7 +394,7 @@ fn a_thousand_calls_are_answered_as_by_a_plain_list(rt: HostRuntime) -> Result<(
         state = state
             .wrapping_mul(6364136223846793005)
             .wrapping_add(1442695040888963407);
-        let reply = book.answer(alloc, call_of(alloc, state >> 33, newest)?);
+        let reply = answered(alloc, &mut book, call_of(alloc, state >> 33, newest))?;
         if let BookReply::Admitted { number, .. } = &reply {
             newest = *number;
         }
