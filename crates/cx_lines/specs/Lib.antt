@@ -1,0 +1,5 @@
+pub mod Faults
+pub mod Heads
+pub mod Known
+pub mod Lines
+pub mod Places
