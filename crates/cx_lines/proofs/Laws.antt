@@ -1,6 +1,6 @@
 -- The laws of a line: what is spelled has no fault, words without a fault spell a line, and words spell one line.
 use Rattle.std.proofs.Common.{◌≡◌, ℕ, ◌+◌, Bool, true, false, IsTrue, List, [], ◌∷◌, ◌++◌, map, length, Option, Some, None, refl, sym, ap, ◌∙◌, arith, cond}
-use Rattle.std.specs.Prelude.{nat_le, find}
+use Rattle.std.specs.Prelude.{nat_le, nat_lt, find}
 use Rattle.std.specs.Option.{option_map}
 use Rattle.std.specs.Str.{bytes_eq}
 use Rattle.std.proofs.lemmas.Bool.Decides.{nat_tests}
@@ -8,6 +8,9 @@ use Rattle.std.proofs.lemmas.Slice.Eq.{bytes_eq-Decides}
 use Rattle.cx_base.specs.Names.{Name}
 use Rattle.cx_base.specs.declared.kinds.EntityType.{EntityType}
 use Rattle.cx_base.specs.declared.operations.Operation.{Operation}
+use Rattle.cx_words.specs.Words.{IsReadingWord}
+use Rattle.cx_words.proofs.NumberWords.{reading_below}
+use Rattle.cx_lines.specs.declared.faults.FaultAt.{FaultAt}
 use Rattle.cx_lines.specs.declared.heads.Head.{Head}
 use Rattle.cx_lines.specs.declared.heads.Head.TheVariants as head
 use Rattle.cx_lines.specs.declared.lines.Grant.{Grant}
@@ -17,8 +20,9 @@ use Rattle.cx_lines.specs.declared.places.Place.{Place}
 use Rattle.cx_lines.specs.declared.places.Place.TheVariants as at
 use Rattle.cx_lines.specs.Faults.{fault_of, fault_with, unknown_word}
 use Rattle.cx_lines.specs.Heads.{head_of, head_word, heads}
-use Rattle.cx_lines.specs.Lines.{Item, LifeOf, ReadingOf, EntityOf, ServiceOf, CapsOf, ClientOf, DaemonOf, ServicesOf, AccessOf, PartOf, DataOf, Spells, SpellsBehind, SpellsItems, form_of, grant_items, items}
+use Rattle.cx_lines.specs.Lines.{Item, LifeOf, ReadingOf, EntityOf, ServiceOf, CapsOf, ClientOf, DaemonOf, ServicesOf, AccessOf, PartOf, DataOf, Spells, SpellsBehind, SpellsItems, form_of, grant_items, is_in_range, items}
 use Rattle.cx_lines.specs.Places.{are_good, pair_places, places}
+use Rattle.cx_lines.specs.Sights.{bad_word_of, described}
 use Rattle.cx_lines.proofs.Faultless.{faultless, none_behind}
 use Rattle.cx_lines.proofs.ValueLemmas.{Values, all_good, as_many, items_back, place_of, read_items, values_in}
 
@@ -204,3 +208,40 @@ with_head e word words (Some form) is none =
 pub spelled : (earlier : List Line) (words : List (List ℕ)) → fault_of earlier words ≡ None → (line : Line) × Spells earlier line words
 spelled e [] none = absurd (let x : Some unknown_word ≡ None = none in cc)
 spelled e (word ∷ words) none = with_head e word words (head_of word) refl none
+
+-- ---- what stands where a line is wrong
+
+pub sees_none : (earlier : List Line) (words : List (List ℕ)) (found : Option FaultAt) → fault_of earlier words ≡ found → bad_word_of earlier words ≡ None → fault_of earlier words ≡ None
+sees_none e words None is none = is
+sees_none e words (Some fault) is none = absurd (let x : Some (described words fault) ≡ None = sym (ap (option_map (described words)) is) ∙ none in cc)
+
+-- words of which nothing is bad spell a line
+pub seen_spelled : (earlier : List Line) (words : List (List ℕ)) → bad_word_of earlier words ≡ None → (line : Line) × Spells earlier line words
+seen_spelled e words none = spelled e words (sees_none e words (fault_of e words) refl none)
+
+-- of what is spelled nothing is bad
+pub seen_clean : (earlier : List Line) (line : Line) (words : List (List ℕ)) → Spells earlier line words → bad_word_of earlier words ≡ None
+seen_clean e line words p = ap (option_map (described words)) (clean e line words p)
+
+-- ---- the numbers of a line
+
+reading_range : (word : List ℕ) (reading : ℕ) → IsReadingWord word reading → nat_lt reading 4000000000000000000 ≡ true
+reading_range word reading is = let low = reading_below word reading is in grind (arith, nat_tests, low)
+
+-- what is spelled is in its ranges
+pub in_range : (earlier : List Line) (line : Line) (words : List (List ℕ)) → Spells earlier line words → is_in_range line ≡ true
+in_range e line [] p = absurd p
+in_range e line (w ∷ ws) p = items_range line ws p.1
+  where
+    items_range : (line : Line) (ws : List (List ℕ)) → SpellsItems e [] (items line) ws → is_in_range line ≡ true
+    items_range (Lifetime s) [] p = absurd p
+    items_range (Lifetime s) (v ∷ vs) p = p.0.0
+    items_range (AuthLifetime s) [] p = absurd p
+    items_range (AuthLifetime s) (v ∷ vs) p = p.0.0
+    items_range (Entity n gs) ws p = refl
+    items_range (Clock r) [] p = absurd p
+    items_range (Clock r) (v ∷ vs) p = reading_range v r p.0
+    items_range (Fetch d) ws p = refl
+    items_range (Login c ks) ws p = refl
+    items_range (Connect c d) ws p = refl
+    items_range (Send c d o) ws p = refl

@@ -1,7 +1,7 @@
 -- Steps along the places and the words of a line.
-use Rattle.std.proofs.Common.{◌≡◌, ℕ, ◌+◌, ◌<◌, Bool, true, false, cond, List, [], ◌∷◌, ◌++◌, map, length, get_or, take, drop, Option, Some, None, refl, sym, ap, ◌∙◌, arith}
+use Rattle.std.proofs.Common.{◌≡◌, ℕ, ◌+◌, ◌<◌, ◌≤◌, ◌-◌, suc, replicate, slice_set, append_assoc, Bool, true, false, cond, List, [], ◌∷◌, ◌++◌, map, length, get_or, take, drop, Option, Some, None, refl, sym, ap, ◌∙◌, arith}
 use Rattle.std.specs.List.{list_any}
-use Rattle.std.proofs.lemmas.List.{drop_more, map_more, length-take, length-map}
+use Rattle.std.proofs.lemmas.List.{drop_more, map_more, take_more, length-take, length-map, set-append_right}
 use Rattle.cx_lines.specs.declared.faults.LineFault.{LineFault}
 use Rattle.cx_lines.specs.declared.lines.Line.{Line}
 use Rattle.cx_lines.specs.declared.places.Place.{Place}
@@ -25,3 +25,13 @@ first_step f earlier why ps ws i p w h same =
     let k : i < length ps = omega arith in
     let n : length (map f (take i ws)) ≡ i = counted f ws i h in
     rw (drop_more ps i p k, drop_more ws i w h, map_more f ws i w h, n) refl
+
+-- one byte more of a word that is shown
+pub shown_more : (w : List ℕ) (i : ℕ) → i < length w → i < 40 → slice_set (take i w ++ replicate (40 - i) 0) i (get_or w i 0) ≡ take (i + 1) w ++ replicate (40 - (i + 1)) 0
+shown_more w i h small =
+    let e : 40 - i ≡ suc (39 - i) = omega arith in
+    let f : 40 - (i + 1) ≡ 39 - i = omega arith in
+    let n : length (take i w) ≡ i = simp length-take (omega arith) in
+    let z : i - i ≡ 0 = omega arith in
+    let low : i ≤ i = omega arith in
+    rw (e, f, set-append_right (take i w) (0 ∷ replicate (39 - i) 0) i i (get_or w i 0) n low, z, take_more w i 0 h, append_assoc) refl

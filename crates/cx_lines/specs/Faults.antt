@@ -3,13 +3,13 @@ use Rattle.std.specs.Prelude.{ℕ, ◌+◌, ◌≡◌, Bool, true, false, nat_lt
 use Rattle.cx_lines.specs.declared.faults.LineFault.{LineFault}
 use Rattle.cx_lines.specs.declared.faults.LineFault.TheVariants.{UnknownWord, Missing, Extra, BadNumber, BadName, BadText, UnknownNode, Repeated, Order}
 use Rattle.cx_lines.specs.declared.faults.FaultAt.{FaultAt}
-use Rattle.cx_lines.specs.declared.faults.LineRefusal.{LineRefusal}
-use Rattle.cx_lines.specs.declared.faults.LineRefusal.TheVariants.{Fault, Later, OutOfMemory}
 use Rattle.cx_lines.specs.declared.heads.Head.{Head}
 use Rattle.cx_lines.specs.declared.lines.Line.{Line}
 use Rattle.cx_lines.specs.declared.places.Place.{Place}
-use Rattle.cx_lines.specs.Heads.{head_of, is_later_word}
-use Rattle.cx_lines.specs.Lines.{is_late, is_spent, SpellsBehind}
+use Rattle.cx_lines.specs.declared.reading.Judged.{Judged}
+use Rattle.cx_lines.specs.declared.reading.Judged.TheVariants.{Spelled, Faulty}
+use Rattle.cx_lines.specs.Heads.{head_of}
+use Rattle.cx_lines.specs.Lines.{is_late, is_spent, Spells, SpellsBehind}
 use Rattle.cx_lines.specs.Places.{places, word_fault}
 
 -- whether two faults are one
@@ -106,11 +106,6 @@ abbrev pub fault_of : List Line → List (List ℕ) → Option FaultAt
 fault_of earlier [] = Some unknown_word
 fault_of earlier (word ∷ words) = fault_with earlier words (head_of word)
 
--- whether the words begin with one of which only a later version's grammar speaks
-abbrev pub begins_later : List (List ℕ) → Bool
-begins_later [] = false
-begins_later (word ∷ words) = is_later_word word
-
 -- the words behind a first word of this form spell the line, which may stand behind the earlier lines
 abbrev pub SpellsHere : List Line → Head → List (List ℕ) → Line → Type 0
 SpellsHere earlier form words line =
@@ -120,14 +115,12 @@ SpellsHere earlier form words line =
 abbrev pub IsFaulty : List Line → Head → List (List ℕ) → Type 0
 IsFaulty earlier form words = fault_behind earlier form words ≡ None → ⊥
 
--- why the words behind a first word of this form are refused; want of memory is free
-abbrev pub IsCause : List Line → Head → List (List ℕ) → LineRefusal → Type 0
-IsCause earlier form words (Fault fault) = fault_behind earlier form words ≡ Some fault
-IsCause earlier form words Later = ⊥
-IsCause earlier form words OutOfMemory = Unit {0}
+-- what the words behind a first word of this form are found to be
+abbrev pub IsJudgedBehind : List Line → Head → List (List ℕ) → Judged → Type 0
+IsJudgedBehind earlier form words (Spelled line) = SpellsHere earlier form words line
+IsJudgedBehind earlier form words (Faulty fault) = fault_behind earlier form words ≡ Some fault
 
--- why the words of a line are refused; want of memory is free
-abbrev pub IsLineCause : List Line → List (List ℕ) → LineRefusal → Type 0
-IsLineCause earlier words (Fault fault) = (fault_of earlier words ≡ Some fault) × (begins_later words ≡ false)
-IsLineCause earlier words Later = (fault_of earlier words ≡ Some unknown_word) × (begins_later words ≡ true)
-IsLineCause earlier words OutOfMemory = Unit {0}
+-- what the words of a line are found to be: a line, or words with this first fault
+abbrev pub IsJudged : List Line → List (List ℕ) → Judged → Type 0
+IsJudged earlier words (Spelled line) = Spells earlier line words
+IsJudged earlier words (Faulty fault) = fault_of earlier words ≡ Some fault

@@ -1,7 +1,5 @@
 //! What can be wrong with a line, and at which word.
 
-use std::alloc::AllocError;
-
 /// Why words are no line. Where several hold, a line has the first of them.
 #[derive(Clone, Copy, Debug, PartialEq, Eq)]
 pub enum LineFault {
@@ -32,26 +30,4 @@ pub struct FaultAt {
     /// The number, from 1, of the first word from the left that has the fault. Where words are missing, how many the line
     /// must have.
     pub word: usize,
-}
-
-/// Why a line isn't read.
-#[derive(Clone, Copy, Debug, PartialEq, Eq)]
-pub enum LineRefusal {
-    /// It is outside of the grammar.
-    Fault(FaultAt),
-    /// It begins with a word of which only a later version's grammar speaks.
-    Later,
-    /// Memory was wanting.
-    OutOfMemory,
-}
-
-impl From<AllocError> for LineRefusal {
-    ghost use Rattle.std.specs.Prelude.{◌≡◌};
-    ghost use Rattle.cx_lines.specs.declared.faults.LineRefusal.TheVariants.{OutOfMemory};
-
-    ghost from_gives = { λ _ refusal. refusal ≡ OutOfMemory };
-
-    fn from(_error: AllocError) -> LineRefusal {
-        LineRefusal::OutOfMemory
-    }
 }

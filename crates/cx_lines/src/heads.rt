@@ -1,6 +1,6 @@
 //! The first words of lines.
 
-ghost use Rattle.std.specs.Prelude.{◌≡◌, false, IfSome};
+ghost use Rattle.std.specs.Prelude.{◌≡◌, IfSome};
 ghost use Rattle.cx_lines.specs.Heads.{head_of, head_word, is_later_word, stands_first};
 ghost use Rattle.cx_lines.specs.Lines.{form_of};
 
@@ -24,7 +24,6 @@ pub enum Head {
 pub fn head_of(word: &[u8]) -> Option<Head>
     ensures read { result ≡ head_of word.now }
     ensures spelled { IfSome result (λ head. word.now ≡ head_word head) }
-    ensures served { IfSome result (λ _. is_later_word word.now ≡ false) }
 {
     if is_word(word, "lifetime") {
         return Some(Head::Lifetime);

@@ -1,16 +1,18 @@
 //! Reading the words of one line.
 
-ghost use Rattle.std.specs.Prelude.{◌≡◌, map, IfOk, IfErr, IfNone, IfSome, if◌then◌else◌};
-ghost use Rattle.cx_lines.specs.Faults.{unknown_word, IsCause, IsFaulty, IsLineCause, SpellsHere};
-ghost use Rattle.cx_lines.specs.Heads.{is_later_word};
+ghost use Rattle.std.specs.Prelude.{◌≡◌, map, IfOk, IfErr, IfNone, IfSome};
+ghost use Rattle.cx_lines.specs.Faults.{unknown_word, IsFaulty, IsJudged, IsJudgedBehind, SpellsHere};
 ghost use Rattle.cx_lines.specs.Lines.{Spells};
+ghost use Rattle.cx_lines.specs.Refusals.{IsLineCause, refused_at};
 
 use crate::earlier::Earlier;
-use crate::faults::{FaultAt, LineFault, LineRefusal};
+use crate::faults::{FaultAt, LineFault};
 use crate::forms::form;
 use crate::heads::{Head, head_of, is_later_word};
 use crate::judge::fault_behind;
 use crate::lines::Line;
+use crate::refusals::LineRefusal;
+use crate::sight::{BadWord, described};
 use std::alloc::{AllocError, Global};
 
 /// The line that these words spell behind the earlier lines.
@@ -18,24 +20,47 @@ pub fn line_of(alloc: Global, earlier: &Earlier, words: &[&[u8]]) -> Result<Line
     ensures ok { IfOk result (λ l. Spells earlier.now l (map (λ w. w.now) words.now)) }
     ensures err { IfErr result (IsLineCause earlier.now (map (λ w. w.now) words.now)) }
 {
-    let [first, rest @ ..] = words else {
-        return Err(LineRefusal::Fault(unknown_word()));
-    };
-    let Some(head) = head_of(first) else {
-        return Err(unknown(first));
-    };
-    line_behind(alloc, earlier, head, rest)
+    match judge_words(alloc, earlier, words)? {
+        Judged::Spelled(line) => Ok(line),
+        Judged::Faulty(fault) => {
+            let bad = described(alloc, words, fault)?;
+            Err(refused_at(words, bad))
+        }
+    }
 }
 
-/// Why a line is refused whose first word begins none.
-fn unknown(first: &[u8]) -> LineRefusal
-    ensures { result ≡ (if is_later_word first.now then LineRefusal.Later else LineRefusal.Fault unknown_word) }
+/// The refusal of a line whose first fault is this one.
+fn refused_at(words: &[&[u8]], bad: BadWord) -> LineRefusal
+    ensures { result ≡ refused_at (map (λ w. w.now) words.now) bad }
 {
+    let [first, ..] = words else {
+        return LineRefusal::Fault(bad);
+    };
     if is_later_word(first) {
         LineRefusal::Later
     } else {
-        LineRefusal::Fault(unknown_word())
+        LineRefusal::Fault(bad)
     }
+}
+
+/// What words are found to be.
+#[derive(Debug, Drop)]
+pub enum Judged {
+    Spelled(Line),
+    Faulty(FaultAt),
+}
+
+/// The line that these words spell behind the earlier lines, or their first fault.
+fn judge_words(alloc: Global, earlier: &Earlier, words: &[&[u8]]) -> Result<Judged, AllocError>
+    ensures { IfOk result (IsJudged earlier.now (map (λ w. w.now) words.now)) }
+{
+    let [first, rest @ ..] = words else {
+        return Ok(Judged::Faulty(unknown_word()));
+    };
+    let Some(head) = head_of(first) else {
+        return Ok(Judged::Faulty(unknown_word()));
+    };
+    judge_behind(alloc, earlier, head, rest)
 }
 
 fn unknown_word() -> FaultAt
@@ -47,21 +72,20 @@ fn unknown_word() -> FaultAt
     }
 }
 
-/// The line that these words behind a first word of this form spell.
-fn line_behind(
+/// The same of words behind a first word of this form.
+fn judge_behind(
     alloc: Global,
     earlier: &Earlier,
     head: Head,
     words: &[&[u8]],
-) -> Result<Line, LineRefusal>
-    ensures ok { IfOk result (λ l. SpellsHere earlier.now head (map (λ w. w.now) words.now) l) }
-    ensures err { IfErr result (IsCause earlier.now head (map (λ w. w.now) words.now)) }
+) -> Result<Judged, AllocError>
+    ensures { IfOk result (IsJudgedBehind earlier.now head (map (λ w. w.now) words.now)) }
 {
     if let Some(line) = good_line(alloc, earlier, head, words)? {
-        return Ok(line);
+        return Ok(Judged::Spelled(line));
     }
     match fault_behind(alloc, earlier, head, words)? {
-        Some(fault) => Err(LineRefusal::Fault(fault)),
+        Some(fault) => Ok(Judged::Faulty(fault)),
         None => unreachable!(),
     }
 }
