@@ -85,11 +85,8 @@ fn read_lines(alloc: Global, bytes: &[u8]) -> Result<Items<Line>, ScheduleRefusa
         number += 1;
         match add(alloc, &mut earlier, line) {
             Ok(()) => {}
-            Err(LineRefusal::Fault(fault)) => {
-                return Err(ScheduleRefusal::BadLine {
-                    line: number,
-                    fault,
-                });
+            Err(LineRefusal::Fault(bad)) => {
+                return Err(ScheduleRefusal::BadLine { line: number, bad });
             }
             Err(LineRefusal::Later) => return Err(ScheduleRefusal::NotYet { line: number }),
             Err(LineRefusal::OutOfMemory) => return Err(ScheduleRefusal::OutOfMemory),
