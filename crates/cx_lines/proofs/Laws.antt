@@ -22,6 +22,9 @@ use Rattle.cx_lines.specs.Faults.{fault_of, fault_with, unknown_word}
 use Rattle.cx_lines.specs.Heads.{head_of, head_word, heads}
 use Rattle.cx_lines.specs.Lines.{Item, LifeOf, ReadingOf, EntityOf, ServiceOf, CapsOf, ClientOf, DaemonOf, ServicesOf, AccessOf, PartOf, DataOf, Spells, SpellsBehind, SpellsItems, form_of, grant_items, is_in_range, items}
 use Rattle.cx_lines.specs.Places.{are_good, pair_places, places}
+use Rattle.cx_lines.specs.declared.refusals.LineRefusal.TheVariants.{Fault, Later}
+use Rattle.cx_lines.specs.declared.sight.BadWord.{BadWord}
+use Rattle.cx_lines.specs.Refusals.{begins_later, refused_at, IsLineCause}
 use Rattle.cx_lines.specs.Sights.{bad_word_of, described}
 use Rattle.cx_lines.proofs.Faultless.{faultless, none_behind}
 use Rattle.cx_lines.proofs.ValueLemmas.{Values, all_good, as_many, items_back, place_of, read_items, values_in}
@@ -245,3 +248,13 @@ in_range e line (w ∷ ws) p = items_range line ws p.1
     items_range (Login c ks) ws p = refl
     items_range (Connect c d) ws p = refl
     items_range (Send c d o) ws p = refl
+
+-- ---- why words are refused
+
+caused_as : (earlier : List Line) (words : List (List ℕ)) (bad : BadWord) (later : Bool) → begins_later words ≡ later → bad_word_of earlier words ≡ Some bad → IsLineCause earlier words (cond later Later (Fault bad))
+caused_as e words bad true is found = (bad, found, is)
+caused_as e words bad false is found = (found, is)
+
+-- words of this first fault are refused for it
+pub caused : (earlier : List Line) (words : List (List ℕ)) (fault : FaultAt) (bad : BadWord) → fault_of earlier words ≡ Some fault → bad ≡ described words fault → IsLineCause earlier words (refused_at words bad)
+caused e words fault bad found is = caused_as e words bad (begins_later words) refl (ap (option_map (described words)) found ∙ ap (λ b. Some b) (sym is))

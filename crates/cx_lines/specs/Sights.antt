@@ -19,9 +19,9 @@ abbrev pub form_in : List (List ℕ) → Option Head
 form_in [] = None
 form_in (word ∷ words) = head_of word
 
--- the word of this number, from 1; nothing where there is none
+-- the word of this number, from 1, or the last one where there are fewer
 abbrev pub word_at : List (List ℕ) → ℕ → List ℕ
-word_at words number = if nat_le 1 number && nat_le number (length words) then slice_index_or words (number - 1) [] else []
+word_at words number = slice_index_or words (min number (length words) - 1) []
 
 -- the place of the word of this number among those behind the first word, which has none itself
 abbrev pub place_at : List Place → ℕ → Option Place
@@ -54,22 +54,31 @@ hint_of word =
     else if is_foreign word then Some NotAscii
     else None
 
--- the first 40 bytes, zero bytes behind them up to 40, how many they are, and whether the word goes on
+-- the first 40 bytes, with zero bytes behind them up to 40, how many they are, and whether the word goes on
 abbrev pub shown_of : List ℕ → Shown
 shown_of word = record {
   bytes = take (min (length word) 40) word ++ replicate (40 - min (length word) 40) 0;
   length = min (length word) 40;
   is_cut = nat_lt 40 (length word);
-  hint = hint_of word;
 }
 
+-- the hint at the first of these words that has one
+abbrev pub or_hint : Option Hint → Option Hint → Option Hint
+or_hint None other = other
+or_hint (Some hint) other = Some hint
+
+abbrev pub first_hint : List (List ℕ) → Option Hint
+first_hint [] = None
+first_hint (word ∷ words) = or_hint (hint_of word) (first_hint words)
+
 -- what stands where these words have this fault
-abbrev pub described : List (List ℕ) → FaultAt → BadWord
+unfoldable pub described : List (List ℕ) → FaultAt → BadWord
 described words fault = record {
   fault = fault;
   form = form_in words;
   takes = takes_at (form_in words) words fault.word;
   shown = shown_of (word_at words fault.word);
+  hint = first_hint (word_at words fault.word ∷ words);
 }
 
 -- the first fault of a line's words behind the earlier lines, and what stands there

@@ -1,5 +1,8 @@
 //! The lines of a schedule.
 
+use crate::heads::Head;
+use crate::places::Place;
+use crate::sight::BadWord;
 use cx_base::{Duplicate, EntityName, EntityType, Items, Operation, Reading, Text, copy_items};
 use std::alloc::{AllocError, Global};
 
@@ -75,3 +78,14 @@ impl Duplicate for Line {
         }
     }
 }
+
+// Each of these goes to another thread, and is seen by several.
+fn are_sendable() {
+    is_sendable::<Grant>();
+    is_sendable::<Line>();
+    is_sendable::<Head>();
+    is_sendable::<Place>();
+    is_sendable::<BadWord>();
+}
+
+fn is_sendable<T: Send + Sync>() {}

@@ -1,8 +1,8 @@
 //! What stands where a line is wrong, as a sentence needs it.
 
-ghost use Rattle.std.specs.Prelude.{◌≡◌, ◌==◌, map, IfOk};
+ghost use Rattle.std.specs.Prelude.{◌≡◌, ◌==◌, ◌∷◌, map, IfOk};
 ghost use Rattle.std.specs.List.{list_any};
-ghost use Rattle.cx_lines.specs.Sights.{described, form_in, has_mark, hint_of, is_foreign, place_at, shown_of, takes_at, word_at};
+ghost use Rattle.cx_lines.specs.Sights.{described, first_hint, form_in, has_mark, hint_of, is_foreign, place_at, shown_of, takes_at, word_at};
 
 use crate::faults::FaultAt;
 use crate::heads::{Head, head_of};
@@ -33,7 +33,6 @@ pub struct Shown {
     pub length: usize,
     /// Whether the word goes on.
     pub is_cut: bool,
-    pub hint: Option<Hint>,
 }
 
 /// The first fault of a line, where it is, and what stands there.
@@ -44,11 +43,14 @@ pub struct BadWord {
     pub form: Option<Head>,
     /// What the place of the word takes, if it has one.
     pub takes: Option<Place>,
-    /// The word; nothing where none stands there.
+    /// The word; where words are missing, the last one of the line.
     pub shown: Shown,
+    /// What is to be hinted at in the word, or else in the first word of the line that has such a thing.
+    pub hint: Option<Hint>,
 }
 
 /// What stands where these words have this fault.
+#[tactic(auto, unfolding(crate::specs::Sights::described))]
 pub fn described(
     alloc: Global,
     words: &[&[u8]],
@@ -58,12 +60,35 @@ pub fn described(
 {
     let form = form_in(words);
     let takes = takes_at(alloc, form, words, fault.word)?;
+    let word = word_at(words, fault.word);
     Ok(BadWord {
         fault,
         form,
         takes,
-        shown: shown_of(word_at(words, fault.word)),
+        shown: shown_of(word),
+        hint: hint_in(word, words),
     })
+}
+
+/// The hint at this word, or else at the first of these that has one.
+fn hint_in(word: &[u8], words: &[&[u8]]) -> Option<Hint>
+    ensures { result ≡ first_hint (word.now ∷ map (λ w. w.now) words.now) }
+{
+    match hint_of(word) {
+        Some(hint) => Some(hint),
+        None => first_hint(words),
+    }
+}
+
+fn first_hint(words: &[&[u8]]) -> Option<Hint>
+    ensures { result ≡ first_hint (map (λ w. w.now) words.now) }
+{
+    for word in words {
+        if let Some(hint) = hint_of(word) {
+            return Some(hint);
+        }
+    }
+    None
 }
 
 /// The form that the first of these words begins.
@@ -76,14 +101,23 @@ fn form_in(words: &[&[u8]]) -> Option<Head>
     head_of(first)
 }
 
-/// The word of this number, from 1.
+/// The word of this number, from 1, or the last one where there are fewer.
 fn word_at<'a>(words: &[&'a [u8]], number: usize) -> &'a [u8]
     ensures { result.now ≡ word_at (map (λ w. w.now) words.now) number }
 {
-    if 1 <= number && number <= words.len() {
-        words[number - 1]
-    } else {
-        &[]
+    let last = number.min(words.len());
+    if last == 0 {
+        return first_of(words);
+    }
+    words[last - 1]
+}
+
+fn first_of<'a>(words: &[&'a [u8]]) -> &'a [u8]
+    ensures { result.now ≡ word_at (map (λ w. w.now) words.now) 0 }
+{
+    match words {
+        [] => &[],
+        [first, ..] => first,
     }
 }
 
@@ -129,7 +163,6 @@ fn shown_of(word: &[u8]) -> Shown
         bytes,
         length,
         is_cut: 40 < word.len(),
-        hint: hint_of(word),
     }
 }
 
