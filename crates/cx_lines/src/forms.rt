@@ -61,11 +61,7 @@ fn clock_of(_earlier: &Earlier, words: &[&[u8]]) -> Option<Line>
     Some(Line::Clock(reading(word)?))
 }
 
-fn fetch_of(
-    alloc: Global,
-    earlier: &Earlier,
-    words: &[&[u8]],
-) -> Result<Option<Line>, AllocError>
+fn fetch_of(alloc: Global, earlier: &Earlier, words: &[&[u8]]) -> Result<Option<Line>, AllocError>
     ensures { IfOk result (IsForm earlier.now Head.Fetch (map (λ w. w.now) words.now)) }
 {
     let [word] = words else {
@@ -77,11 +73,7 @@ fn fetch_of(
     Ok(Some(Line::Fetch(daemon)))
 }
 
-fn login_of(
-    alloc: Global,
-    earlier: &Earlier,
-    words: &[&[u8]],
-) -> Result<Option<Line>, AllocError>
+fn login_of(alloc: Global, earlier: &Earlier, words: &[&[u8]]) -> Result<Option<Line>, AllocError>
     ensures { IfOk result (IsForm earlier.now Head.Login (map (λ w. w.now) words.now)) }
 {
     match words {
@@ -117,11 +109,7 @@ fn login_for(
     Ok(Some(Line::Login(client, asked)))
 }
 
-fn connect_of(
-    alloc: Global,
-    earlier: &Earlier,
-    words: &[&[u8]],
-) -> Result<Option<Line>, AllocError>
+fn connect_of(alloc: Global, earlier: &Earlier, words: &[&[u8]]) -> Result<Option<Line>, AllocError>
     ensures { IfOk result (IsForm earlier.now Head.Connect (map (λ w. w.now) words.now)) }
 {
     let [from, to] = words else {

@@ -101,7 +101,11 @@ fn has(
         Place::Services => Ok(fails(why, LineFault::BadText, services(alloc, word)?.is_some())),
         Place::Access => Ok(fails(why, LineFault::BadText, access(word).is_some())),
         Place::Part => Ok(fails(why, LineFault::BadText, part(alloc, word)?.is_some())),
-        Place::Data => Ok(fails(why, LineFault::BadText, operation_data(alloc, word)?.is_some())),
+        Place::Data => Ok(fails(
+            why,
+            LineFault::BadText,
+            operation_data(alloc, word)?.is_some(),
+        )),
     }
 }
 

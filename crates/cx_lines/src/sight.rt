@@ -51,11 +51,7 @@ pub struct BadWord {
 
 /// What stands where these words have this fault.
 #[tactic(auto, unfolding(crate::specs::Sights::described))]
-pub fn described(
-    alloc: Global,
-    words: &[&[u8]],
-    fault: FaultAt,
-) -> Result<BadWord, AllocError>
+pub fn described(alloc: Global, words: &[&[u8]], fault: FaultAt) -> Result<BadWord, AllocError>
     ensures { IfOk result (λ bad. bad ≡ described (map (λ w. w.now) words.now) fault) }
 {
     let form = form_in(words);

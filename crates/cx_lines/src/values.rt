@@ -27,7 +27,11 @@ pub fn life(word: &[u8]) -> Option<u64>
 }
 
 /// The name that an entity line declares: none that is declared already.
-pub fn new_entity(alloc: Global, earlier: &Earlier, word: &[u8]) -> Result<Option<EntityName>, AllocError>
+pub fn new_entity(
+    alloc: Global,
+    earlier: &Earlier,
+    word: &[u8],
+) -> Result<Option<EntityName>, AllocError>
     ensures read { IfOk result (λ found. is_some found ≡ is_good earlier.now [] Place.Entity word.now) }
     ensures spelled { IfOk result (λ found. IfSome found (λ name. SpellsItem earlier.now [] (EntityOf name) word.now)) }
 {
@@ -58,7 +62,11 @@ pub fn new_service(before: &[&[u8]], word: &[u8]) -> Option<EntityType>
     ensures spelled { IfSome result (λ kind. SpellsItem [] (map (λ w. w.now) before.now) (ServiceOf kind) word.now) }
 {
     let kind = service(word)?;
-    if stands(before, word) { None } else { Some(kind) }
+    if stands(before, word) {
+        None
+    } else {
+        Some(kind)
+    }
 }
 
 /// Whether the word is one of these.
@@ -75,7 +83,11 @@ fn any_is(words: &[&[u8]], word: &[u8]) -> bool
 }
 
 /// The name of a declared client.
-pub fn client(alloc: Global, earlier: &Earlier, word: &[u8]) -> Result<Option<EntityName>, AllocError>
+pub fn client(
+    alloc: Global,
+    earlier: &Earlier,
+    word: &[u8],
+) -> Result<Option<EntityName>, AllocError>
     ensures read { IfOk result (λ found. is_some found ≡ is_good earlier.now [] Place.Client word.now) }
     ensures spelled { IfOk result (λ found. IfSome found (λ name. SpellsItem earlier.now [] (ClientOf name) word.now)) }
 {
@@ -90,7 +102,11 @@ pub fn client(alloc: Global, earlier: &Earlier, word: &[u8]) -> Result<Option<En
 }
 
 /// The name of a declared daemon.
-pub fn daemon(alloc: Global, earlier: &Earlier, word: &[u8]) -> Result<Option<EntityName>, AllocError>
+pub fn daemon(
+    alloc: Global,
+    earlier: &Earlier,
+    word: &[u8],
+) -> Result<Option<EntityName>, AllocError>
     ensures read { IfOk result (λ found. is_some found ≡ is_good earlier.now [] Place.Daemon word.now) }
     ensures spelled { IfOk result (λ found. IfSome found (λ name. SpellsItem earlier.now [] (DaemonOf name) word.now)) }
 {

@@ -135,7 +135,8 @@ fn number_problem(bad: &BadWord) -> &'static str {
     let digits = are_digits(&bad.shown);
     match bad.takes {
         Some(Place::Life) if digits => "is out of bounds: a lifetime is 1 to 31,536,000 seconds",
-        Some(Place::Life) => "is no number: a lifetime is 1 to 31,536,000 seconds, in decimal digits alone, as 3600",
+        Some(Place::Life) =>
+            "is no number: a lifetime is 1 to 31,536,000 seconds, in decimal digits alone, as 3600",
         _ if digits => "is too large: a reading is below 4,000,000,000 seconds",
         _ => {
             "is no reading: a reading is a number of seconds, as 4599, or one with a point and nine digits, as \
@@ -163,7 +164,8 @@ fn text_problem(bad: &BadWord) -> &'static str {
         Some(Place::Part) => {
             "is no pool, namespace or object: 1 to 255 letters, digits or _ - . , and - where there is none"
         }
-        _ => "is no data: two hexadecimal digits a byte, at most 65,536 bytes, and - where there is none",
+        _ =>
+            "is no data: two hexadecimal digits a byte, at most 65,536 bytes, and - where there is none",
     }
 }
 
@@ -177,13 +179,16 @@ fn node_problem(bad: &BadWord) -> &'static str {
     }
 }
 
-const UNDECLARED: &str = "is declared by no line above: write an entity line for it, above all lines that aren't head lines";
+const UNDECLARED: &str =
+    "is declared by no line above: write an entity line for it, above all lines that aren't head lines";
 
 fn again_problem(place: Option<Place>) -> &'static str {
     match place {
         Some(Place::Entity) => "is declared by a line above already; give it all of its caps there",
-        Some(Place::Service) => "stands in this line already; give it one text, with commas between its clauses",
-        _ => "begins a line that stands once in a schedule, and one stands above already; leave one of them out",
+        Some(Place::Service) =>
+            "stands in this line already; give it one text, with commas between its clauses",
+        _ =>
+            "begins a line that stands once in a schedule, and one stands above already; leave one of them out",
     }
 }
 
@@ -201,7 +206,8 @@ fn form(form: Option<Head>) -> &'static str {
         }
         Head::Clock => "; its form is: clock SECONDS, as in: clock 4599.999999999",
         Head::Fetch => "; its form is: fetch DAEMON, as in: fetch osd.0",
-        Head::Login => "; its form is: login CLIENT or login CLIENT SERVICES, as in: login client.a osd,mgr",
+        Head::Login =>
+            "; its form is: login CLIENT or login CLIENT SERVICES, as in: login client.a osd,mgr",
         Head::Connect => "; its form is: connect CLIENT DAEMON, as in: connect client.a osd.0",
         Head::Send => {
             "; its form is: send CLIENT DAEMON ACCESS POOL NAMESPACE OBJECT DATA, as in: send client.a osd.0 write rbd - \
@@ -269,7 +275,12 @@ fn has_leading_zero(shown: &Shown) -> bool {
 }
 
 fn are_digits(shown: &Shown) -> bool {
-    shown.length > 0 && shown.bytes.iter().take(shown.length).all(|b| b.is_ascii_digit())
+    shown.length > 0
+        && shown
+            .bytes
+            .iter()
+            .take(shown.length)
+            .all(|b| b.is_ascii_digit())
 }
 
 fn has(shown: &Shown, byte: u8) -> bool {

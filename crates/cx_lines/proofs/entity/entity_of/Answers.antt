@@ -28,6 +28,8 @@ returns-then-at-words c =
 pub returns : goal.returns
 returns c =
     let some : 1 ≤ length c.args.words.now = omega (arith, c.pairs.invariant.within, c.pairs.invariant.some) in
-    let name = rw c.in-Some.is at c.in_ok-name.ensures.spelled in
-    (refl, named_front c.args.earlier.now (λ (w : Bor (List ℕ)). w.now) c.args.words.now _ c.in-Some.name c.pairs.grants some name
-    (all_read c.args.earlier.now (λ (w : Bor (List ℕ)). w.now) c.args.words.now c.pairs.at c.pairs.grants c.pairs.invariant c.if-at-words.false))
+    let name = rw c.in-Some.is at c.in_ok-name.ensures.spelled in (
+      refl,
+      named_front c.args.earlier.now (λ (w : Bor (List ℕ)). w.now) c.args.words.now _ c.in-Some.name c.pairs.grants some name
+          (all_read c.args.earlier.now (λ (w : Bor (List ℕ)). w.now) c.args.words.now c.pairs.at c.pairs.grants c.pairs.invariant c.if-at-words.false),
+    )

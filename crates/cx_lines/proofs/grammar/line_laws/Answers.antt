@@ -1,5 +1,4 @@
 use Rattle.cx_lines.proofs.Laws.{clean, spelled, unique}
-
 use Rattle.cx_lines.proofs.grammar.line_laws.Goals as goal
 
 pub returns-clause-faultless : goal.returns-clause-faultless
