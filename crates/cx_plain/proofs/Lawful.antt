@@ -17,9 +17,9 @@ use Rattle.cx_journal.specs.declared.entries.Admitted.{Admitted}
 use Rattle.cx_journal.specs.declared.outcomes.Outcome.{Outcome}
 use Rattle.cx_journal.specs.declared.outcomes.Reason.TheVariants as reason
 use Rattle.cx_journal.specs.declared.outcomes.TicketFault.TheVariants as fault
-use Rattle.cx_schedule.specs.declared.lines.Grant.{Grant}
-use Rattle.cx_schedule.specs.declared.lines.Line.{Line}
-use Rattle.cx_schedule.specs.declared.lines.Line.TheVariants as line
+use Rattle.cx_lines.specs.declared.lines.Grant.{Grant}
+use Rattle.cx_lines.specs.declared.lines.Line.{Line}
+use Rattle.cx_lines.specs.declared.lines.Line.TheVariants as line
 use Rattle.cx_plain.specs.declared.nodes.Node.{Node}
 use Rattle.cx_plain.specs.declared.nodes.Place.{Place}
 use Rattle.cx_plain.specs.declared.nodes.Session.{Session}

@@ -10,9 +10,9 @@ use Rattle.cx_rotate.specs.declared.views.View.{View}
 use Rattle.cx_journal.specs.declared.entries.Entry.{Entry}
 use Rattle.cx_journal.specs.declared.entries.Issued.{Issued}
 use Rattle.cx_journal.specs.declared.outcomes.TicketFault.{TicketFault}
-use Rattle.cx_schedule.specs.Lines.{is_in_range, is_life}
-use Rattle.cx_schedule.specs.declared.lines.Line.{Line}
-use Rattle.cx_schedule.specs.declared.lines.Line.TheVariants as line
+use Rattle.cx_lines.specs.Lines.{is_in_range, is_life}
+use Rattle.cx_lines.specs.declared.lines.Line.{Line}
+use Rattle.cx_lines.specs.declared.lines.Line.TheVariants as line
 use Rattle.cx_plain.specs.declared.monitors.Monitor.{Monitor}
 use Rattle.cx_plain.specs.declared.nodes.Node.{Node}
 use Rattle.cx_plain.specs.declared.nodes.Session.{Session}

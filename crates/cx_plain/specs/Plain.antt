@@ -26,9 +26,9 @@ use Rattle.cx_journal.specs.declared.outcomes.TicketFault.TheVariants as fault
 use Rattle.cx_journal.specs.KeepsKeys.{has_generation}
 use Rattle.cx_journal.specs.declared.outcomes.Outcome.{Outcome}
 use Rattle.cx_journal.specs.declared.outcomes.Outcome.TheVariants as outcome
-use Rattle.cx_schedule.specs.declared.lines.Grant.{Grant}
-use Rattle.cx_schedule.specs.declared.lines.Line.{Line}
-use Rattle.cx_schedule.specs.declared.lines.Line.TheVariants as line
+use Rattle.cx_lines.specs.declared.lines.Grant.{Grant}
+use Rattle.cx_lines.specs.declared.lines.Line.{Line}
+use Rattle.cx_lines.specs.declared.lines.Line.TheVariants as line
 use Rattle.cx_plain.specs.Changes.{changed}
 use Rattle.cx_plain.specs.Monitors.{list_of, rotated_kept, fresh_kept, current_id, same_kept, IsTimely}
 use Rattle.cx_plain.specs.Nodes.{empty_wallet, held_of, holding, is_named, is_with, new_node}

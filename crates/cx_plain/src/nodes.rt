@@ -9,7 +9,7 @@ use crate::wallets::Wallet;
 use cx_base::{EntityName, Items};
 use cx_caps::CapText;
 use cx_rotate::{Generations, View};
-use cx_schedule::Grant;
+use cx_lines::Grant;
 use std::alloc::{AllocError, Global};
 use std::marker::Model;
 

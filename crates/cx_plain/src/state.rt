@@ -18,7 +18,7 @@ use cx_journal::{
     Sent, TicketFault,
 };
 use cx_rotate::View;
-use cx_schedule::{Grant, Line};
+use cx_lines::{Grant, Line};
 use std::alloc::{AllocError, Global};
 use std::mem;
 
@@ -450,7 +450,7 @@ impl Run {
 
 impl Run {
     ghost use Rattle.std.specs.Prelude.{IsTrue};
-    ghost use Rattle.cx_schedule.specs.Lines.{is_in_range};
+    ghost use Rattle.cx_lines.specs.Lines.{is_in_range};
     ghost use Rattle.cx_plain.specs.Plain.{IsTimelyRun, step};
 
     /// What a line does.

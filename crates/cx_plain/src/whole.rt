@@ -2,8 +2,8 @@
 
 ghost use Rattle.std.specs.Prelude.{◌≡◌, List, IsTrue, IfOk};
 ghost use Rattle.std.specs.List.{list_all};
-ghost use Rattle.cx_schedule.specs.Lines.{is_in_range};
-ghost use Rattle.cx_schedule.specs.declared.lines.Line.{Line};
+ghost use Rattle.cx_lines.specs.Lines.{is_in_range};
+ghost use Rattle.cx_lines.specs.declared.lines.Line.{Line};
 ghost use Rattle.cx_desk.specs.Handlers.{Handlers};
 ghost use Rattle.cx_desk.specs.Held.{handlers_of};
 ghost use Rattle.cx_journal.specs.Backed.{IsBacked};
@@ -15,7 +15,7 @@ ghost use Rattle.cx_plain.specs.Plain.{journal_of, serves};
 use crate::state::Run;
 use cx_desk::Desk;
 use cx_journal::Journal;
-use cx_schedule::Line;
+use cx_lines::Line;
 use std::alloc::{AllocError, Global};
 
 /// The journal of the plain run of these lines over this desk of handlers, in which each admitted session is backed by a

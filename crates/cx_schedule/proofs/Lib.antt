@@ -1,5 +1,2 @@
-pub mod Grants
-pub mod Laws
-pub mod Whole
 pub mod Reasons
-pub mod Spelled
+pub mod Whole

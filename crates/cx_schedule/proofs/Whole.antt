@@ -5,21 +5,19 @@ use Rattle.std.proofs.lemmas.Bool.Decides.{nat_tests}
 use Rattle.std.proofs.lemmas.List.{get_or-drop, drop-drop}
 use Rattle.std.proofs.lemmas.List.Folds.{list_all-append}
 use Rattle.cx_words.specs.Cutting.{is_skipped, lines_of}
-use Rattle.cx_words.proofs.NumberWords.{reading_below}
-use Rattle.cx_schedule.specs.declared.faults.LineFault.{LineFault}
-use Rattle.cx_schedule.specs.declared.faults.LineFault.TheVariants.{UnknownWord}
-use Rattle.cx_schedule.specs.declared.lines.Line.{Line}
-use Rattle.cx_schedule.specs.declared.lines.Line.TheVariants.{Lifetime, AuthLifetime, Entity, Clock, Fetch, Login, Connect, Send}
+use Rattle.cx_lines.specs.declared.sight.BadWord.{BadWord}
+use Rattle.cx_lines.specs.declared.lines.Line.{Line}
 use Rattle.cx_schedule.specs.declared.refusals.ScheduleRefusal.{ScheduleRefusal}
 use Rattle.cx_schedule.specs.declared.refusals.ScheduleRefusal.TheVariants.{TooLong, BadLine, NotYet, OutOfMemory}
-use Rattle.cx_schedule.specs.Faults.{begins_later, fault_of}
+use Rattle.cx_lines.specs.Refusals.{begins_later}
+use Rattle.cx_lines.specs.Sights.{bad_word_of}
 use Rattle.cx_schedule.specs.Files.{Adds, IsFirstBad, IsFirstOutside, IsScheduleCause, IsShort, Lines, Said, SpellNone, is_later_at, line_words}
-use Rattle.cx_schedule.specs.Lines.{Spells, is_in_range}
-use Rattle.cx_schedule.proofs.Laws.{clean, unique}
+use Rattle.cx_lines.specs.Lines.{Spells, is_in_range}
+use Rattle.cx_lines.proofs.Laws.{in_range, seen_clean, unique}
 
 -- words with a fault spell no line
-pub fault_spells_none : (earlier : List Line) (words : List (List ℕ)) (why : LineFault) → fault_of earlier words ≡ Some why → SpellNone earlier words
-fault_spells_none earlier words why bad = λ x spelled. let e : None ≡ Some why = sym (clean earlier x words spelled) ∙ bad in absurd (cc)
+pub fault_spells_none : (earlier : List Line) (words : List (List ℕ)) (why : BadWord) → bad_word_of earlier words ≡ Some why → SpellNone earlier words
+fault_spells_none earlier words why bad = λ x spelled. let e : None ≡ Some why = sym (seen_clean earlier x words spelled) ∙ bad in absurd (cc)
 
 -- a line that adds something spells one
 pub added_spells : (earlier now : List Line) (line : List ℕ) → Adds earlier line now → is_skipped line ≡ false → SpellNone earlier (line_words line) → ⊥
@@ -36,7 +34,7 @@ added_once earlier now other line (inr (kp, x, sx, p)) (inr (kq, y, sy, q)) =
     p ∙ ap (λ l. earlier ++ l ∷ []) e ∙ sym q
 
 -- the first bad line is the first outside of the grammar
-pub bad_is_outside : (earlier : List Line) (lines : List (List ℕ)) (n : ℕ) (why : LineFault) → IsFirstBad earlier lines n why → IsFirstOutside earlier lines n
+pub bad_is_outside : (earlier : List Line) (lines : List (List ℕ)) (n : ℕ) (why : BadWord) → IsFirstBad earlier lines n why → IsFirstOutside earlier lines n
 bad_is_outside earlier [] n why bad = bad
 bad_is_outside earlier (line ∷ lines) n why (inl here) = inl (here.0, here.1, here.2.0)
 bad_is_outside earlier (line ∷ lines) n why (inr (now, adds, m, is, bad)) = inr (now, adds, m, is, bad_is_outside now lines m why bad)
@@ -49,7 +47,7 @@ none_outside earlier script (line ∷ lines) n (now, adds, said) (inr (other, ad
     let e : other ≡ now = added_once earlier other now line adds' adds in
     none_outside now script lines m said (rw e at outside)
 
-pub none_bad : (earlier script : List Line) (lines : List (List ℕ)) (n : ℕ) (why : LineFault) → Said earlier lines script → IsFirstBad earlier lines n why → ⊥
+pub none_bad : (earlier script : List Line) (lines : List (List ℕ)) (n : ℕ) (why : BadWord) → Said earlier lines script → IsFirstBad earlier lines n why → ⊥
 none_bad earlier script lines n why said bad = none_outside earlier script lines n said (bad_is_outside earlier lines n why bad)
 
 -- lines say one thing
@@ -67,7 +65,7 @@ one_schedule bytes script other said said' = said_once [] script other (lines_of
 pub only_memory : (bytes : List ℕ) (script : List Line) (refusal : ScheduleRefusal) → IsShort bytes → Lines bytes script → IsScheduleCause bytes refusal → refusal ≡ OutOfMemory
 only_memory bytes script TooLong short said cause = absurd (cause short)
 only_memory bytes script (BadLine n why) short said cause = absurd (none_bad [] script (lines_of bytes) n why said cause.1)
-only_memory bytes script (NotYet n) short said cause = absurd (none_bad [] script (lines_of bytes) n UnknownWord said cause.1)
+only_memory bytes script (NotYet n) short said cause = absurd (none_outside [] script (lines_of bytes) n said cause.1)
 only_memory bytes script OutOfMemory short said cause = refl
 
 -- a schedule has at most as many lines as the file
@@ -82,21 +80,11 @@ few_lines earlier script (line ∷ lines) (now, adds, said) =
     added_length earlier now line (inl p) = rw p.1 (omega arith)
     added_length earlier now line (inr (kept, x, spelled, is)) = rw (is, length-append) (omega arith)
 
--- what is spelled is in its ranges
-spelled_range : (earlier : List Line) (line : Line) (words : List (List ℕ)) → Spells earlier line words → is_in_range line ≡ true
-spelled_range earlier (Lifetime s) words p = p.0
-spelled_range earlier (AuthLifetime s) words p = p.0
-spelled_range earlier (Entity name gs) words p = refl
-spelled_range earlier (Clock reading) words p = let low = reading_below p.0 reading p.1 in grind (arith, nat_tests, low)
-spelled_range earlier (Fetch daemon) words p = refl
-spelled_range earlier (Login client asked) words p = refl
-spelled_range earlier (Connect client daemon) words p = refl
-spelled_range earlier (Send client daemon o) words p = refl
-
+-- what a line adds is in its ranges
 added_range : (earlier now : List Line) (line : List ℕ) → Adds earlier line now → list_all is_in_range earlier ≡ true → list_all is_in_range now ≡ true
 added_range earlier now line (inl p) all = rw p.1 all
 added_range earlier now line (inr (kept, x, spelled, is)) all =
-    let one = spelled_range earlier x (line_words line) spelled in
+    let one = in_range earlier x (line_words line) spelled in
     rw (is, list_all-append, all, one) refl
 
 pub all_in_range : (earlier script : List Line) (lines : List (List ℕ)) → Said earlier lines script → list_all is_in_range earlier ≡ true → list_all is_in_range script ≡ true
@@ -128,7 +116,7 @@ left_kept all number line after left = sym (drop-drop 1 number all) ∙ ap (λ l
 -- how the lines so far stand to all
 pub record Reads (all : List (List ℕ)) (earlier : List Line) (number : ℕ) (rest : List (List ℕ)) : Type 0 where
   pub said : (s : List Line) → Said earlier rest s → Said [] all s
-  pub bad : (n : ℕ) (why : LineFault) → IsFirstBad earlier rest n why → IsFirstBad [] all (number + n) why
+  pub bad : (n : ℕ) (why : BadWord) → IsFirstBad earlier rest n why → IsFirstBad [] all (number + n) why
   pub left : drop number all ≡ rest
   pub counted : number + length rest ≡ length all
 
@@ -147,7 +135,7 @@ reads_more all earlier now number rest line after r cut adds = record {
     counts e f = omega arith
 
 -- the line that is refused is the first outside of the grammar
-pub bad_here : (all : List (List ℕ)) (earlier : List Line) (number : ℕ) (rest : List (List ℕ)) (line : List ℕ) (after : List (List ℕ)) (why : LineFault) (later : Bool) → Reads all earlier number rest → rest ≡ line ∷ after → is_skipped line ≡ false → fault_of earlier (line_words line) ≡ Some why → begins_later (line_words line) ≡ later → IsFirstBad [] all (number + 1) why × (is_later_at all (number + 1) ≡ later)
+pub bad_here : (all : List (List ℕ)) (earlier : List Line) (number : ℕ) (rest : List (List ℕ)) (line : List ℕ) (after : List (List ℕ)) (why : BadWord) (later : Bool) → Reads all earlier number rest → rest ≡ line ∷ after → is_skipped line ≡ false → bad_word_of earlier (line_words line) ≡ Some why → begins_later (line_words line) ≡ later → IsFirstBad [] all (number + 1) why × (is_later_at all (number + 1) ≡ later)
 bad_here all earlier number rest line after why later r cut kept fault is = (
   r.bad 1 why (rw cut (inl (refl, kept, (fault_spells_none earlier (line_words line) why fault, fault)))),
   ap (λ l. begins_later (line_words l)) (at_place all number line after (r.left ∙ cut)) ∙ is,

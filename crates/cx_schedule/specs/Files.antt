@@ -2,14 +2,14 @@
 use Rattle.std.specs.Prelude.{ℕ, ◌+◌, ◌-◌, ◌≤◌, ◌≡◌, ◌⊎◌, Bool, true, false, List, [], ◌∷◌, ◌++◌, length, take, codes, Some, slice_index_or, Result, Ok, Err}
 use Rattle.std.specs.Str.{bytes_eq}
 use Rattle.cx_words.specs.Cutting.{lines_of, words_of, is_skipped}
-use Rattle.cx_schedule.specs.declared.faults.LineFault.{LineFault}
-use Rattle.cx_schedule.specs.declared.faults.LineFault.TheVariants.{UnknownWord}
-use Rattle.cx_schedule.specs.declared.faults.LineRefusal.{LineRefusal}
+use Rattle.cx_lines.specs.declared.sight.BadWord.{BadWord}
+use Rattle.cx_lines.specs.declared.refusals.LineRefusal.{LineRefusal}
 use Rattle.cx_schedule.specs.declared.refusals.ScheduleRefusal.{ScheduleRefusal}
 use Rattle.cx_schedule.specs.declared.refusals.ScheduleRefusal.TheVariants.{TooLong, BadLine, NotYet, OutOfMemory}
-use Rattle.cx_schedule.specs.declared.lines.Line.{Line}
-use Rattle.cx_schedule.specs.Faults.{fault_of, begins_later, IsLineCause}
-use Rattle.cx_schedule.specs.Lines.{Spells}
+use Rattle.cx_lines.specs.declared.lines.Line.{Line}
+use Rattle.cx_lines.specs.Refusals.{begins_later, IsLineCause}
+use Rattle.cx_lines.specs.Sights.{bad_word_of}
+use Rattle.cx_lines.specs.Lines.{Spells}
 
 -- whether quotation marks group words: in an entity line alone
 abbrev pub groups : List ℕ → Bool
@@ -50,17 +50,17 @@ IsFirst P earlier (line ∷ lines) n =
 abbrev pub SpellNone : List Line → List (List ℕ) → Type 0
 SpellNone earlier words = (x : Line) → Spells earlier x words → ⊥
 
--- the same, and this is the first of their faults
-abbrev pub SpellNoneFor : LineFault → List Line → List (List ℕ) → Type 0
-SpellNoneFor why earlier words = SpellNone earlier words × (fault_of earlier words ≡ Some why)
+-- the same, and this is the first of their faults, with its word
+abbrev pub SpellNoneFor : BadWord → List Line → List (List ℕ) → Type 0
+SpellNoneFor bad earlier words = SpellNone earlier words × (bad_word_of earlier words ≡ Some bad)
 
 -- the n-th of these lines, from 1, is the first outside of the grammar
 abbrev pub IsFirstOutside : List Line → List (List ℕ) → ℕ → Type 0
 IsFirstOutside earlier lines n = IsFirst SpellNone earlier lines n
 
--- the same, and this is the first of its faults
-abbrev pub IsFirstBad : List Line → List (List ℕ) → ℕ → LineFault → Type 0
-IsFirstBad earlier lines n why = IsFirst (SpellNoneFor why) earlier lines n
+-- the same, and this is the first of its faults, with its word
+abbrev pub IsFirstBad : List Line → List (List ℕ) → ℕ → BadWord → Type 0
+IsFirstBad earlier lines n bad = IsFirst (SpellNoneFor bad) earlier lines n
 
 -- the schedule isn't too long: at most 1,048,576 bytes, and 20,000 lines
 abbrev pub IsShort : List ℕ → Type 0
@@ -73,16 +73,16 @@ is_later_at lines n = begins_later (line_words (slice_index_or lines (n - 1) [])
 -- why the bytes of a schedule are refused
 abbrev pub IsScheduleCause : List ℕ → ScheduleRefusal → Type 0
 IsScheduleCause bytes TooLong = IsShort bytes → ⊥
-IsScheduleCause bytes (BadLine n why) =
-    IsShort bytes × IsFirstBad [] (lines_of bytes) n why × (is_later_at (lines_of bytes) n ≡ false)
+IsScheduleCause bytes (BadLine n bad) =
+    IsShort bytes × IsFirstBad [] (lines_of bytes) n bad × (is_later_at (lines_of bytes) n ≡ false)
 IsScheduleCause bytes (NotYet n) =
-    IsShort bytes × IsFirstBad [] (lines_of bytes) n UnknownWord × (is_later_at (lines_of bytes) n ≡ true)
+    IsShort bytes × IsFirstOutside [] (lines_of bytes) n × (is_later_at (lines_of bytes) n ≡ true)
 IsScheduleCause bytes OutOfMemory = Unit {0}
 
 -- why the bytes of a schedule are refused where memory isn't wanting
 abbrev pub IsReason : List ℕ → ScheduleRefusal → Type 0
 IsReason bytes TooLong = IsScheduleCause bytes TooLong
-IsReason bytes (BadLine n why) = IsScheduleCause bytes (BadLine n why)
+IsReason bytes (BadLine n bad) = IsScheduleCause bytes (BadLine n bad)
 IsReason bytes (NotYet n) = IsScheduleCause bytes (NotYet n)
 IsReason bytes OutOfMemory = ⊥
 
@@ -94,7 +94,7 @@ Refuses (Err got) why = (got ≡ OutOfMemory) ⊎ (got ≡ why)
 -- the refusal names this line, or is want of memory
 abbrev pub IsRefusalAt : ℕ → ScheduleRefusal → Type 0
 IsRefusalAt n TooLong = ⊥
-IsRefusalAt n (BadLine line why) = line ≡ n
+IsRefusalAt n (BadLine line bad) = line ≡ n
 IsRefusalAt n (NotYet line) = line ≡ n
 IsRefusalAt n OutOfMemory = Unit {0}
 

@@ -1,6 +1,6 @@
 //! The refusals of a schedule.
 
-use crate::faults::LineFault;
+use cx_lines::BadWord;
 use std::alloc::AllocError;
 use thiserror::Error;
 
@@ -10,9 +10,9 @@ pub enum ScheduleRefusal {
     /// It has more bytes or more lines than a schedule may have.
     #[error("a schedule has at most 1048576 bytes and 20000 lines")]
     TooLong,
-    /// This line, from 1, is the first outside of the grammar, and `why` is the first of its faults.
-    #[error("line {line}: {why}")]
-    BadLine { line: u32, why: LineFault },
+    /// This line, from 1, is the first outside of the grammar, and this is the first of its faults with its word.
+    #[error("line {line} is outside of the grammar")]
+    BadLine { line: u32, bad: BadWord },
     /// This line, from 1, is the first outside of the grammar, and begins with a word of which only a later version's
     /// grammar speaks.
     #[error("line {line}: this version doesn't serve lines that begin so")]

@@ -4,17 +4,13 @@ ghost use Rattle.std.specs.Prelude.{ℕ, ◌≡◌, ◌+◌, ◌≤◌, ◌↔�
 ghost use Rattle.std.specs.List.{list_all};
 ghost use Rattle.cx_words.specs.Cutting.{lines_of};
 ghost use Rattle.cx_schedule.specs.Files.{Adds, IsFileLineCause, IsFirstOutside, IsReason, IsScheduleCause, IsShort, Lines, Refuses, RefusesAt, groups};
-ghost use Rattle.cx_schedule.specs.Lines.{is_in_range};
+ghost use Rattle.cx_lines.specs.Lines.{is_in_range};
 ghost use Rattle.cx_schedule.specs.declared.refusals.ScheduleRefusal.{ScheduleRefusal};
 
-use crate::earlier::Earlier;
-use crate::faults::{LineFault, LineRefusal};
-use crate::forms::line_of;
-use crate::heads::Head;
 use crate::limits::{MOST_BYTES, MOST_LINES};
-use crate::lines::{Grant, Line};
 use crate::refusals::ScheduleRefusal;
 use cx_base::{Duplicate, Items, copy_items};
+use cx_lines::{Earlier, Line, LineRefusal, line_of};
 use cx_words::{first_line, is_skipped, words};
 use std::alloc::{AllocError, Global};
 use std::marker::Model;
@@ -27,7 +23,7 @@ pub struct Script {
 
 impl Model for Script {
     ghost use Rattle.std.specs.Prelude.{List};
-    ghost use Rattle.cx_schedule.specs.declared.lines.Line.{Line};
+    ghost use Rattle.cx_lines.specs.declared.lines.Line.{Line};
 
     ghost Value = { List Line };
 
@@ -89,8 +85,8 @@ fn read_lines(alloc: Global, bytes: &[u8]) -> Result<Items<Line>, ScheduleRefusa
         number += 1;
         match add(alloc, &mut earlier, line) {
             Ok(()) => {}
-            Err(LineRefusal::Fault(why)) => {
-                return Err(ScheduleRefusal::BadLine { line: number, why });
+            Err(LineRefusal::Fault(bad)) => {
+                return Err(ScheduleRefusal::BadLine { line: number, bad });
             }
             Err(LineRefusal::Later) => return Err(ScheduleRefusal::NotYet { line: number }),
             Err(LineRefusal::OutOfMemory) => return Err(ScheduleRefusal::OutOfMemory),
@@ -141,10 +137,6 @@ fn count_lines(bytes: &[u8]) -> usize
 
 // Each of these goes to another thread, and is seen by several.
 fn are_sendable() {
-    is_sendable::<Grant>();
-    is_sendable::<Head>();
-    is_sendable::<Line>();
-    is_sendable::<LineFault>();
     is_sendable::<ScheduleRefusal>();
     is_sendable::<Script>();
 }

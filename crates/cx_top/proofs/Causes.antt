@@ -17,7 +17,7 @@ too_long (Some left) now bytes all short cause = (
 
 status_cause : (command : Command) (status : Status) (left now : Option (List ℕ)) (bytes : List ℕ) (before after : ℕ) → GaveAll left now bytes → length bytes ≤ 1048576 → IsBytesCause command bytes status → IsInputCause command left now before after status
 status_cause command TooLong left now bytes before after all short cause = too_long left now bytes all short cause
-status_cause command (BadSchedule line why) left now bytes before after all short cause = record { bytes = bytes; read = all; cause = cause }
+status_cause command (BadSchedule line bad) left now bytes before after all short cause = record { bytes = bytes; read = all; cause = cause }
 status_cause command (NotYet line) left now bytes before after all short cause = record { bytes = bytes; read = all; cause = cause }
 status_cause command (BadKeyring line why) left now bytes before after all short cause = record { bytes = bytes; read = all; cause = cause }
 status_cause command OutOfMemory left now bytes before after all short cause = tt

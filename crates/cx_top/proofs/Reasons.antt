@@ -25,7 +25,7 @@ or_schedule schedule.OutOfMemory why status is (inr same) = tt
 pub schedule_reason : (bytes : List ℕ) (got : ScheduleRefusal) (status : Status) → IsReasonFor Replay bytes status
     → ((why : ScheduleRefusal) → files.IsReason bytes why → (got ≡ schedule.OutOfMemory) ⊎ (got ≡ why)) → IsOrMemory status (schedule_status got)
 schedule_reason bytes got TooLong reason exact = or_schedule got schedule.TooLong TooLong refl (exact schedule.TooLong reason)
-schedule_reason bytes got (BadSchedule line why) reason exact = or_schedule got (schedule.BadLine line why) (BadSchedule line why) refl (exact (schedule.BadLine line why) reason)
+schedule_reason bytes got (BadSchedule line bad) reason exact = or_schedule got (schedule.BadLine line bad) (BadSchedule line bad) refl (exact (schedule.BadLine line bad) reason)
 schedule_reason bytes got (NotYet line) reason exact = or_schedule got (schedule.NotYet line) (NotYet line) refl (exact (schedule.NotYet line) reason)
 schedule_reason bytes got Done reason exact = absurd reason
 schedule_reason bytes got Usage reason exact = absurd reason
@@ -37,7 +37,7 @@ schedule_reason bytes got (BadKeyring line why) reason exact = absurd reason
 -- a schedule that is read has no reason to be refused
 pub schedule_read : (bytes : List ℕ) (status : Status) → IsReasonFor Replay bytes status → ((why : ScheduleRefusal) → files.IsReason bytes why → ⊥) → ⊥
 schedule_read bytes TooLong reason exact = exact schedule.TooLong reason
-schedule_read bytes (BadSchedule line why) reason exact = exact (schedule.BadLine line why) reason
+schedule_read bytes (BadSchedule line bad) reason exact = exact (schedule.BadLine line bad) reason
 schedule_read bytes (NotYet line) reason exact = exact (schedule.NotYet line) reason
 schedule_read bytes Done reason exact = reason
 schedule_read bytes Usage reason exact = reason
@@ -64,7 +64,7 @@ keyring_reason bytes got (BadKeyring line (Some why)) short reason exact =
     or_keyring got (keyring.BadLine line why) (BadKeyring line (Some why)) refl (exact (keyring.BadLine line why) reason.1)
 keyring_reason bytes got (BadKeyring line None) short (_, (is, ring, text, long)) exact =
     or_keyring got (keyring.TooMany 4096) (BadKeyring line None) (zero_line line is) (exact (keyring.TooMany 4096) (refl, ring, text, long))
-keyring_reason bytes got (BadSchedule line why) short reason exact = absurd reason
+keyring_reason bytes got (BadSchedule line bad) short reason exact = absurd reason
 keyring_reason bytes got (NotYet line) short reason exact = absurd reason
 keyring_reason bytes got Done short reason exact = absurd reason
 keyring_reason bytes got Usage short reason exact = absurd reason
@@ -77,7 +77,7 @@ pub keyring_read : (bytes : List ℕ) (status : Status) → files.IsShort bytes 
 keyring_read bytes TooLong short reason exact = reason short
 keyring_read bytes (BadKeyring line (Some why)) short reason exact = exact (keyring.BadLine line why) reason.1
 keyring_read bytes (BadKeyring line None) short (_, (is, ring, text, long)) exact = exact (keyring.TooMany 4096) (refl, ring, text, long)
-keyring_read bytes (BadSchedule line why) short reason exact = reason
+keyring_read bytes (BadSchedule line bad) short reason exact = reason
 keyring_read bytes (NotYet line) short reason exact = reason
 keyring_read bytes Done short reason exact = reason
 keyring_read bytes Usage short reason exact = reason

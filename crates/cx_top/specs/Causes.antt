@@ -5,7 +5,7 @@ use Rattle.cx_keyring.specs.declared.entries.Entry.{Entry}
 use Rattle.cx_keyring.specs.declared.faults.KeyringFault.{KeyringFault}
 use Rattle.cx_keyring.specs.declared.refusals.KeyringRefusal.TheVariants as keyring
 use Rattle.cx_keyring.specs.Rings.{KeyringText, IsKeyringCause}
-use Rattle.cx_schedule.specs.declared.lines.Line.{Line}
+use Rattle.cx_lines.specs.declared.lines.Line.{Line}
 use Rattle.cx_schedule.specs.declared.refusals.ScheduleRefusal.TheVariants as schedule
 use Rattle.cx_schedule.specs.Files.{Lines, IsShort, IsScheduleCause}
 use Rattle.cx_top.specs.declared.commands.Command.{Command}
@@ -25,7 +25,7 @@ IsBadKeyring bytes line None = (line ≡ 0) × (ring : List Entry) × KeyringTex
 -- these bytes must be refused with this status
 abbrev pub IsReasonFor : Command → List ℕ → Status → Type 0
 IsReasonFor command bytes TooLong = IsShort bytes → ⊥
-IsReasonFor Replay bytes (BadSchedule line why) = IsScheduleCause bytes (schedule.BadLine line why)
+IsReasonFor Replay bytes (BadSchedule line bad) = IsScheduleCause bytes (schedule.BadLine line bad)
 IsReasonFor Replay bytes (NotYet line) = IsScheduleCause bytes (schedule.NotYet line)
 IsReasonFor Keyring bytes (BadKeyring line why) = IsShort bytes × IsBadKeyring bytes line why
 IsReasonFor command bytes _ = ⊥
@@ -38,7 +38,7 @@ IsBytesCause command bytes Usage = ⊥
 IsBytesCause command bytes ReadFault = ⊥
 IsBytesCause command bytes WriteFault = ⊥
 IsBytesCause command bytes TooLong = IsReasonFor command bytes TooLong
-IsBytesCause command bytes (BadSchedule line why) = IsReasonFor command bytes (BadSchedule line why)
+IsBytesCause command bytes (BadSchedule line bad) = IsReasonFor command bytes (BadSchedule line bad)
 IsBytesCause command bytes (NotYet line) = IsReasonFor command bytes (NotYet line)
 IsBytesCause command bytes (BadKeyring line why) = IsReasonFor command bytes (BadKeyring line why)
 
@@ -63,7 +63,7 @@ IsTooLong (Some left) now = (IsShort left → ⊥) × (now ≡ Some (drop 104857
 -- why the input is refused: by a limit, or at a line. The other statuses don't speak of it
 abbrev pub IsRefusedStatus : Command → Option (List ℕ) → Option (List ℕ) → Status → Type 0
 IsRefusedStatus command left now TooLong = IsTooLong left now
-IsRefusedStatus command left now (BadSchedule line why) = IsRefused command left now (BadSchedule line why)
+IsRefusedStatus command left now (BadSchedule line bad) = IsRefused command left now (BadSchedule line bad)
 IsRefusedStatus command left now (NotYet line) = IsRefused command left now (NotYet line)
 IsRefusedStatus command left now (BadKeyring line why) = IsRefused command left now (BadKeyring line why)
 IsRefusedStatus command left now Done = Unit {0}
@@ -76,7 +76,7 @@ IsRefusedStatus command left now OutOfMemory = Unit {0}
 abbrev pub IsInputCause : Command → Option (List ℕ) → Option (List ℕ) → ℕ → ℕ → Status → Type 0
 IsInputCause command left now before after ReadFault = Rose before after
 IsInputCause command left now before after TooLong = IsTooLong left now
-IsInputCause command left now before after (BadSchedule line why) = IsRefused command left now (BadSchedule line why)
+IsInputCause command left now before after (BadSchedule line bad) = IsRefused command left now (BadSchedule line bad)
 IsInputCause command left now before after (NotYet line) = IsRefused command left now (NotYet line)
 IsInputCause command left now before after (BadKeyring line why) = IsRefused command left now (BadKeyring line why)
 IsInputCause command left now before after OutOfMemory = Unit {0}

@@ -1,7 +1,7 @@
 -- What a source gave, and what a replay makes of it.
 use Rattle.std.specs.Prelude.{ℕ, ◌≡◌, List, [], ◌++◌, Option, Some, None}
 use Rattle.cx_desk.specs.Handlers.{Handlers}
-use Rattle.cx_schedule.specs.declared.lines.Line.{Line}
+use Rattle.cx_lines.specs.declared.lines.Line.{Line}
 use Rattle.cx_schedule.specs.Files.{Lines, IsShort}
 use Rattle.cx_journal.specs.JournalText.{journal_text}
 use Rattle.cx_journal.specs.Backed.{IsBacked}

@@ -24,7 +24,7 @@ number_of (NotYet _) = 13
 -- the status of a refused schedule
 abbrev pub schedule_status : ScheduleRefusal → Status
 schedule_status refusal.TooLong = TooLong
-schedule_status (refusal.BadLine line why) = BadSchedule line why
+schedule_status (refusal.BadLine line bad) = BadSchedule line bad
 schedule_status (refusal.NotYet line) = NotYet line
 schedule_status refusal.OutOfMemory = OutOfMemory
 
@@ -57,7 +57,7 @@ abbrev pub IsOrMemory : Status → Status → Type 0
 IsOrMemory expected OutOfMemory = Unit {0}
 IsOrMemory expected Done = Done ≡ expected
 IsOrMemory expected Usage = Usage ≡ expected
-IsOrMemory expected (BadSchedule line why) = BadSchedule line why ≡ expected
+IsOrMemory expected (BadSchedule line bad) = BadSchedule line bad ≡ expected
 IsOrMemory expected ReadFault = ReadFault ≡ expected
 IsOrMemory expected WriteFault = WriteFault ≡ expected
 IsOrMemory expected (BadKeyring line why) = BadKeyring line why ≡ expected

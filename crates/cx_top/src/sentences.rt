@@ -1,7 +1,8 @@
-//! What a user reads of each status: what was wrong, and what to try.
+//! What a user reads of each status: what was wrong, and what to try. All sentences on a schedule stand in this file: what is
+//! wrong with a word, what its place takes, and the form of its line with an example.
 
 use crate::status::Status;
-use cx_schedule::LineFault;
+use cx_lines::{BadWord, Head, Hint, LineFault, Place, Shown};
 use std::fmt;
 
 /// A sentence for each status but `Done`, which has none; for wrong words the commands that are served, with examples.
@@ -10,13 +11,9 @@ impl fmt::Display for Status {
         match self {
             Status::Done => Ok(()),
             Status::Usage => write!(f, "{}", USAGE),
-            Status::BadSchedule { line, why } => write!(
-                f,
-                "line {} of the schedule is outside of its grammar: {}; {}",
-                line,
-                why,
-                remedy(*why)
-            ),
+            Status::BadSchedule { line, bad } => {
+                write!(f, "line {} of the schedule: {}", line, Wrong(bad))
+            }
             Status::BadKeyring {
                 line,
                 why: Some(why),
@@ -53,7 +50,7 @@ impl fmt::Display for Status {
     }
 }
 
-const USAGE: &str = "these words name no command; the commands that are served are:
+const USAGE: &str = "the commands are:
 
   cephx_cli replay
       reads a schedule from standard input, and writes the journal of its run to standard output, as in:
@@ -67,35 +64,233 @@ const USAGE: &str = "these words name no command; the commands that are served a
 
 docs/guide.md says what the lines of a schedule, of a journal and of a keyring mean";
 
-// What to try where a line has this fault.
-fn remedy(why: LineFault) -> &'static str {
-    match why {
-        LineFault::UnknownWord => {
-            "begin it with lifetime, auth-lifetime, entity, clock, fetch, login, connect or send, or a comment with #"
+/// What is wrong with a line of a schedule.
+#[derive(Clone, Copy)]
+struct Wrong<'a>(&'a BadWord);
+
+impl fmt::Display for Wrong<'_> {
+    fn fmt<W: fmt::Write>(&self, f: &mut fmt::Formatter<W>) -> fmt::Result {
+        let bad = self.0;
+        let number = bad.fault.word;
+        match bad.fault.why {
+            LineFault::UnknownWord => write!(
+                f,
+                "its first word, {}, begins no line{}; a line begins with lifetime, auth-lifetime, entity, clock, fetch, \
+                login, connect or send, and a comment with #",
+                Word(&bad.shown),
+                hint(bad.hint)
+            ),
+            LineFault::Missing => write!(
+                f,
+                "it ends with {}{}, and has too few words: {} at least are wanted{}",
+                Word(&bad.shown),
+                hint(bad.hint),
+                number,
+                form(bad.form)
+            ),
+            LineFault::Extra => write!(
+                f,
+                "word {}, {}, is one too many{}{}",
+                number,
+                Word(&bad.shown),
+                hint(bad.hint),
+                form(bad.form)
+            ),
+            LineFault::Order => write!(
+                f,
+                "it stands too low: lifetime, auth-lifetime and entity lines stand above all others; move it up{}",
+                form(bad.form)
+            ),
+            _ => write!(
+                f,
+                "word {}, {}, {}{}{}",
+                number,
+                Word(&bad.shown),
+                problem(bad),
+                hint(bad.hint),
+                form(bad.form)
+            ),
         }
-        LineFault::Missing => {
-            "write every word of its form, as in: send client.a osd.0 read rbd - obj1 -"
-        }
-        LineFault::Extra => {
-            "end it behind the last word of its form, and put one space between two words"
-        }
-        LineFault::BadNumber => {
-            "write digits without a leading zero, as in: lifetime 3600, or: clock 4599.999999999"
-        }
-        LineFault::BadName => {
-            "write a type, a point and an id of 1 to 64 letters, digits or _ - . : + /, as in: osd.0"
-        }
-        LineFault::BadText => {
-            "write caps in quotation marks, as \"allow *\", at most 4,096 bytes without a backslash or a tab, services as mds,osd,mgr, an access as read, write or exec, nothing as -, and \
-            data as two hexadecimal digits a byte"
-        }
-        LineFault::UnknownNode => {
-            "declare it by an earlier line, as in: entity osd.0, and name a client or a daemon where its form has one"
-        }
-        LineFault::Repeated => {
-            "leave it out: each lifetime, each entity and each service of an entity stands once, and 1,000 entities \
-            are the most"
-        }
-        LineFault::Order => "move it above the first line that is none of these",
     }
+}
+
+/// What is wrong with the word at its place.
+fn problem(bad: &BadWord) -> &'static str {
+    match bad.fault.why {
+        LineFault::BadNumber => number_problem(bad),
+        LineFault::BadName => {
+            "is no name: a name is a type, client, mds, osd or mgr, a point and an id of 1 to 64 letters, digits or \
+            _ - . : + /, as client.admin or osd.0"
+        }
+        LineFault::BadText => text_problem(bad),
+        LineFault::UnknownNode => node_problem(bad),
+        _ => again_problem(bad.takes),
+    }
+}
+
+fn number_problem(bad: &BadWord) -> &'static str {
+    if has_leading_zero(&bad.shown) {
+        return "has a leading zero; write it without";
+    }
+    let digits = are_digits(&bad.shown);
+    match bad.takes {
+        Some(Place::Life) if digits => "is out of bounds: a lifetime is 1 to 31,536,000 seconds",
+        Some(Place::Life) =>
+            "is no number: a lifetime is 1 to 31,536,000 seconds, in decimal digits alone, as 3600",
+        _ if digits => "is too large: a reading is below 4,000,000,000 seconds",
+        _ => {
+            "is no reading: a reading is a number of seconds, as 4599, or one with a point and nine digits, as \
+            4599.999999999"
+        }
+    }
+}
+
+fn text_problem(bad: &BadWord) -> &'static str {
+    match bad.takes {
+        Some(Place::Service) => "is no service that has caps: mon, mds, osd or mgr",
+        Some(Place::Caps) if begins(&bad.shown, b"\"") => {
+            "is no text of caps: it ends with a quotation mark too, and has at most 4,096 bytes from the space to ~, \
+            without a quotation mark or a backslash"
+        }
+        Some(Place::Caps) => "is no text of caps: caps stand in quotation marks, as \"allow *\"",
+        Some(Place::Services) => {
+            "is no list of services: mds, osd and mgr, joined by commas without a space, each at most once, as mds,osd"
+        }
+        Some(Place::Access) => "is no access: read, write or exec",
+        Some(Place::Part) if has(&bad.shown, b'/') => {
+            "has a slash: pool, namespace and object are three words, each of 1 to 255 letters, digits or _ - . , and - where \
+            there is none"
+        }
+        Some(Place::Part) => {
+            "is no pool, namespace or object: 1 to 255 letters, digits or _ - . , and - where there is none"
+        }
+        _ =>
+            "is no data: two hexadecimal digits a byte, at most 65,536 bytes, and - where there is none",
+    }
+}
+
+fn node_problem(bad: &BadWord) -> &'static str {
+    match bad.takes {
+        Some(Place::Entity) => "can't be declared: an entity is a client, an mds, an osd or a mgr",
+        Some(Place::Client) if begins(&bad.shown, b"client.") => UNDECLARED,
+        Some(Place::Client) => "is no client: a client's name begins with client.",
+        _ if is_daemon(&bad.shown) => UNDECLARED,
+        _ => "is no daemon: a daemon's name begins with mds., osd. or mgr.",
+    }
+}
+
+const UNDECLARED: &str =
+    "is declared by no line above: write an entity line for it, above all lines that aren't head lines";
+
+fn again_problem(place: Option<Place>) -> &'static str {
+    match place {
+        Some(Place::Entity) => "is declared by a line above already; give it all of its caps there",
+        Some(Place::Service) =>
+            "stands in this line already; give it one text, with commas between its clauses",
+        _ =>
+            "begins a line that stands once in a schedule, and one stands above already; leave one of them out",
+    }
+}
+
+/// The form of a line with an example.
+fn form(form: Option<Head>) -> &'static str {
+    let Some(form) = form else {
+        return "";
+    };
+    match form {
+        Head::Lifetime => "; its form is: lifetime SECONDS, as in: lifetime 3600",
+        Head::AuthLifetime => "; its form is: auth-lifetime SECONDS, as in: auth-lifetime 43200",
+        Head::Entity => {
+            "; its form is: entity NAME, and then any number of SERVICE \"CAPS\", as in: entity client.a mon \"allow r\" osd \
+            \"allow *\"; a quotation mark that isn't closed holds no words together"
+        }
+        Head::Clock => "; its form is: clock SECONDS, as in: clock 4599.999999999",
+        Head::Fetch => "; its form is: fetch DAEMON, as in: fetch osd.0",
+        Head::Login =>
+            "; its form is: login CLIENT or login CLIENT SERVICES, as in: login client.a osd,mgr",
+        Head::Connect => "; its form is: connect CLIENT DAEMON, as in: connect client.a osd.0",
+        Head::Send => {
+            "; its form is: send CLIENT DAEMON ACCESS POOL NAMESPACE OBJECT DATA, as in: send client.a osd.0 write rbd - \
+            obj1 6869"
+        }
+    }
+}
+
+/// What an eye may not see in a word.
+fn hint(hint: Option<Hint>) -> &'static str {
+    let Some(hint) = hint else {
+        return "";
+    };
+    match hint {
+        Hint::Empty => " (two spaces stand together, or one stands at an end of the line)",
+        Hint::ByteOrderMark => " (the file begins with a byte-order mark; save it without one)",
+        Hint::CarriageReturn => {
+            " (it has a CR, as the line ends of Windows; save the file with line ends of an LF alone)"
+        }
+        Hint::Tab => " (it has a tab; one space parts two words)",
+        Hint::NotAscii => {
+            " (it has a character outside of ASCII, as a curly quotation mark; write a plain one)"
+        }
+    }
+}
+
+/// A word as it is shown: blanks and control bytes made visible, cut at 40 bytes.
+#[derive(Clone, Copy)]
+struct Word<'a>(&'a Shown);
+
+impl fmt::Display for Word<'_> {
+    fn fmt<W: fmt::Write>(&self, f: &mut fmt::Formatter<W>) -> fmt::Result {
+        let shown = self.0;
+        if shown.length == 0 {
+            return write!(f, "an empty word");
+        }
+        write!(f, "`")?;
+        for byte in shown.bytes.iter().take(shown.length) {
+            write!(f, "{}", Byte(*byte))?;
+        }
+        if shown.is_cut {
+            write!(f, "..")?;
+        }
+        write!(f, "`")
+    }
+}
+
+#[derive(Clone, Copy)]
+struct Byte(u8);
+
+impl fmt::Display for Byte {
+    fn fmt<W: fmt::Write>(&self, f: &mut fmt::Formatter<W>) -> fmt::Result {
+        match self.0 {
+            b' ' => write!(f, "<space>"),
+            b'\t' => write!(f, "<tab>"),
+            b'\r' => write!(f, "<CR>"),
+            b'!'..=b'~' => write!(f, "{}", char::from(self.0)),
+            byte => write!(f, "<{:02x}>", byte),
+        }
+    }
+}
+
+fn has_leading_zero(shown: &Shown) -> bool {
+    shown.length > 1 && shown.bytes[0] == b'0' && are_digits(shown)
+}
+
+fn are_digits(shown: &Shown) -> bool {
+    shown.length > 0
+        && shown
+            .bytes
+            .iter()
+            .take(shown.length)
+            .all(|b| b.is_ascii_digit())
+}
+
+fn has(shown: &Shown, byte: u8) -> bool {
+    shown.bytes.iter().any(|b| *b == byte)
+}
+
+fn begins(shown: &Shown, front: &[u8]) -> bool {
+    shown.bytes.starts_with(front)
+}
+
+fn is_daemon(shown: &Shown) -> bool {
+    begins(shown, b"mds.") || begins(shown, b"osd.") || begins(shown, b"mgr.")
 }

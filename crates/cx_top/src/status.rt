@@ -5,7 +5,8 @@ ghost use Rattle.cx_top.specs.Statuses.{number_of};
 
 use crate::input::Unread;
 use cx_keyring::{KeyringFault, KeyringRefusal};
-use cx_schedule::{LineFault, ScheduleRefusal};
+use cx_lines::BadWord;
+use cx_schedule::ScheduleRefusal;
 use std::alloc::AllocError;
 
 /// How a run ended.
@@ -15,10 +16,11 @@ pub enum Status {
     Done,
     /// The words of the command line are no command that is served.
     Usage,
-    /// This line, from 1, is the first outside the grammar of a schedule, and `why` is the first fault that it has.
+    /// This line, from 1, is the first outside the grammar of a schedule, and `bad` is its first fault, with the word that
+    /// has it.
     BadSchedule {
         line: u32,
-        why: LineFault,
+        bad: BadWord,
     },
     /// The input could not be read.
     ReadFault,
@@ -79,7 +81,7 @@ impl From<ScheduleRefusal> for Status {
     fn from(refusal: ScheduleRefusal) -> Status {
         match refusal {
             ScheduleRefusal::TooLong => Status::TooLong,
-            ScheduleRefusal::BadLine { line, why } => Status::BadSchedule { line, why },
+            ScheduleRefusal::BadLine { line, bad } => Status::BadSchedule { line, bad },
             ScheduleRefusal::NotYet { line } => Status::NotYet { line },
             ScheduleRefusal::OutOfMemory => Status::OutOfMemory,
         }

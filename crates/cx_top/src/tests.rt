@@ -6,7 +6,6 @@ use cx_base::{Access, Blob, ByteSource, Sink, VecSink};
 use cx_caps::Permitted;
 use cx_desk::Desk;
 use cx_keyring::KeyringFault;
-use cx_schedule::LineFault;
 use std::alloc::{AllocError, Global};
 use std::process::Abort;
 
@@ -18,7 +17,7 @@ struct Row {
     journal: &'static str,
 }
 
-const ROWS: [Row; 16] = [
+const ROWS: [Row; 14] = [
     Row {
         shows: "a client that logs in, connects and sends is admitted and answered",
         schedule: "entity client.a osd \"allow *\"\n\
@@ -213,17 +212,6 @@ const ROWS: [Row; 16] = [
             refused client.b 0 no-ticket osd\n",
     },
     Row {
-        shows: "an entity line behind another one is out of order",
-        schedule: "entity client.a\n\
-            clock 5\n\
-            entity osd.0\n",
-        status: Status::BadSchedule {
-            line: 3,
-            why: LineFault::Order,
-        },
-        journal: "",
-    },
-    Row {
         shows: "caps for reads deny a write",
         schedule: "entity client.a osd \"allow r pool=rbd\"\n\
             entity osd.0\n\
@@ -276,17 +264,6 @@ const ROWS: [Row; 16] = [
             sent client.vm osd.0 c1 3 write images - o 00\n\
             handled osd.0 1 1 c1 3 write images - o 00 denied\n\
             answered client.vm osd.0 3 denied\n",
-    },
-    Row {
-        shows: "a line outside of the grammar is refused by its number",
-        schedule: "entity client.a\n\
-            clock 5\n\
-            jump 3\n",
-        status: Status::BadSchedule {
-            line: 3,
-            why: LineFault::UnknownWord,
-        },
-        journal: "",
     },
     Row {
         shows: "a line that is to come is refused by its number",
@@ -382,66 +359,6 @@ fn each_schedule_has_its_status_and_journal(rt: HostRuntime) -> Result<(), Alloc
         let (status, sink) = run_over(rt.alloc(), &["replay"], row.schedule.as_bytes(), &[], ROOM)?;
         assert_eq!(rt; status, row.status, "{}", row.shows);
         assert_eq!(rt; sink.taken(), row.journal.as_bytes(), "{}", row.shows);
-    }
-    Ok(())
-}
-
-/// Third lines behind two entity lines, each of which has one fault alone or more of which this is the first.
-const BAD_LINES: [(&str, LineFault); 26] = [
-    ("jump 3", LineFault::UnknownWord),
-    (" clock 5", LineFault::UnknownWord),
-    ("clock", LineFault::Missing),
-    ("entity client.b osd", LineFault::Missing),
-    ("send client.a osd.0 read rbd - obj1", LineFault::Missing),
-    ("clock 5 6", LineFault::Extra),
-    ("clock 5 ", LineFault::Extra),
-    ("connect client.a osd.0 lossy", LineFault::Extra),
-    ("clock 05", LineFault::BadNumber),
-    ("clock\t5", LineFault::UnknownWord),
-    ("clock 5\r", LineFault::BadNumber),
-    ("clock 4000000000", LineFault::BadNumber),
-    ("clock 5.5", LineFault::BadNumber),
-    ("lifetime 31536001", LineFault::BadNumber),
-    ("fetch osd", LineFault::BadName),
-    ("fetch osd.", LineFault::BadName),
-    (
-        "entity client.0123456789012345678901234567890123456789012345678901234567890123x",
-        LineFault::BadName,
-    ),
-    ("login client.a osd,osd", LineFault::BadText),
-    ("entity client.b osd \"allow *", LineFault::Missing),
-    ("entity client.b osd \"allow", LineFault::BadText),
-    (
-        "send client.a osd.0 read rbd - obj\u{e9} -",
-        LineFault::BadText,
-    ),
-    (
-        "send client.a osd.0 read rbd - obj1 686",
-        LineFault::BadText,
-    ),
-    ("fetch osd.1", LineFault::UnknownNode),
-    ("login osd.0", LineFault::UnknownNode),
-    ("entity client.a", LineFault::Repeated),
-    (
-        "entity client.b osd \"allow *\" osd \"allow *\"",
-        LineFault::Repeated,
-    ),
-];
-
-#[test]
-fn the_first_fault_of_a_line_is_told(rt: HostRuntime) -> Result<(), AllocError> {
-    for (line, why) in &BAD_LINES {
-        let input = format!(in rt.alloc();
-            "entity client.a osd \"allow *\"\nentity osd.0\n{line}\nclock 1\n"
-        )?;
-        let (status, sink) = run_over(rt.alloc(), &["replay"], input.as_bytes(), &[], ROOM)?;
-        assert_eq!(rt;
-            status,
-            Status::BadSchedule { line: 3, why: *why },
-            "{}",
-            line
-        );
-        assert_eq!(rt; sink.taken().len(), 0, "{}", line);
     }
     Ok(())
 }
@@ -618,55 +535,6 @@ fn both_limits_are_reached_and_not_passed(rt: HostRuntime) -> Result<(), AllocEr
         let (status, _) = run_over(rt.alloc(), &["replay"], &input, &[], ROOM)?;
         assert_eq!(rt; status, wanted, "{} bytes", bytes);
     }
-    Ok(())
-}
-
-// So many entities, and a login of the thousandth.
-fn entities(alloc: Global, count: u32) -> Result<String, AllocError> {
-    let mut text = String::new(alloc);
-    for place in 1..=count {
-        let line = format!(in alloc; "entity client.c{place}\n")?;
-        text.push_str(&line)?;
-    }
-    text.push_str("login client.c1000\n")?;
-    Ok(text)
-}
-
-#[test]
-fn a_thousand_entities_are_the_most(rt: HostRuntime) -> Result<(), AllocError> {
-    let full = entities(rt.alloc(), 1000)?;
-    let (status, sink) = run_over(rt.alloc(), &["replay"], full.as_bytes(), &[], ROOM)?;
-    assert_eq!(rt; status, Status::Done);
-    let journal = "saved 2\nissued 1 client.c1000 auth 1 2 0 43200 \"\"\n";
-    assert_eq!(rt; sink.taken(), journal.as_bytes());
-    let more = entities(rt.alloc(), 1001)?;
-    let (refused, _) = run_over(rt.alloc(), &["replay"], more.as_bytes(), &[], ROOM)?;
-    assert_eq!(rt;
-        refused,
-        Status::BadSchedule {
-            line: 1001,
-            why: LineFault::Repeated
-        }
-    );
-    Ok(())
-}
-
-#[test]
-fn the_sentence_of_a_bad_line_has_its_number_and_its_fault(
-    rt: HostRuntime,
-) -> Result<(), AllocError> {
-    let sentence = format!(in rt.alloc();
-        "{}",
-        Status::BadSchedule {
-            line: 3,
-            why: LineFault::BadName
-        }
-    )?;
-    assert_eq!(rt;
-        sentence.as_str(),
-        "line 3 of the schedule is outside of its grammar: a word is no name of an entity, as client.admin or osd.0; \
-        write a type, a point and an id of 1 to 64 letters, digits or _ - . : + /, as in: osd.0"
-    );
     Ok(())
 }
 

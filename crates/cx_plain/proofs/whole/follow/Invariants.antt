@@ -2,7 +2,7 @@ use Rattle.std.proofs.Common.{◌≡◌, drop, IsTrue}
 use Rattle.std.specs.Prelude.{fold}
 use Rattle.std.specs.List.{list_all}
 use Rattle.cx_desk.specs.Held.{handlers_of}
-use Rattle.cx_schedule.specs.Lines.{is_in_range}
+use Rattle.cx_lines.specs.Lines.{is_in_range}
 use Rattle.cx_plain.specs.Plain.{step, run_of, IsTimelyRun}
 use Rattle.cx_plain.proofs.whole.follow.Given as goal
 

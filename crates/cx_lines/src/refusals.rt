@@ -1,0 +1,26 @@
+//! Why a line isn't read.
+
+use crate::sight::BadWord;
+use std::alloc::AllocError;
+
+/// Why a line isn't read.
+#[derive(Clone, Copy, Debug, PartialEq, Eq)]
+pub enum LineRefusal {
+    /// It is outside of the grammar.
+    Fault(BadWord),
+    /// It begins with a word of which only a later version's grammar speaks.
+    Later,
+    /// Memory was wanting.
+    OutOfMemory,
+}
+
+impl From<AllocError> for LineRefusal {
+    ghost use Rattle.std.specs.Prelude.{◌≡◌};
+    ghost use Rattle.cx_lines.specs.declared.refusals.LineRefusal.TheVariants.{OutOfMemory};
+
+    ghost from_gives = { λ _ refusal. refusal ≡ OutOfMemory };
+
+    fn from(_error: AllocError) -> LineRefusal {
+        LineRefusal::OutOfMemory
+    }
+}
