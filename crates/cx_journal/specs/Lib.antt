@@ -8,6 +8,7 @@ pub mod JournalText
 pub mod KeepsKeys
 pub mod Leaks
 pub mod Legal
+pub mod Nodes
 pub mod Places
 pub mod PrefixOfSent
 pub mod Ranked

@@ -3,23 +3,17 @@ use Rattle.std.specs.Prelude.{ℕ, ◌≡◌, ◌==◌, ◌&&◌, ◌||◌, Bool
 use Rattle.std.specs.List.{list_any}
 use Rattle.std.specs.Option.{option_or}
 use Rattle.cx_base.specs.Names.{Name, same_name}
+use Rattle.cx_journal.specs.Nodes.{is_node_of}
 use Rattle.cx_journal.specs.declared.entries.Entry.{Entry}
 use Rattle.cx_journal.specs.declared.entries.Entry.TheVariants as entry
 use Rattle.cx_journal.specs.declared.entries.Admitted.{Admitted}
 use Rattle.cx_journal.specs.declared.entries.Handled.{Handled}
-use Rattle.cx_journal.specs.declared.node_names.NodeName.{NodeName}
-use Rattle.cx_journal.specs.declared.node_names.NodeName.TheVariants as node
 
 -- the session that an entry admits or resumes
 abbrev pub session_of : Entry → Option Admitted
 session_of (entry.Admitted a) = Some a
 session_of (entry.Resumed a) = Some a
 session_of _ = None
-
--- whether the node is that of this entity
-abbrev pub is_node_of : Name → NodeName → Bool
-is_node_of name node.Monitor = false
-is_node_of name (node.Entity other) = same_name other name
 
 -- whether an entry ends the session of this number at this daemon as it was before: the session ended or was resumed, or the
 -- daemon restarted

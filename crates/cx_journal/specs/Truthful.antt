@@ -1,10 +1,9 @@
 -- The law of answers: a client is told only how an operation of its own ended, by a daemon of the type that it asked, and of
 -- each operation once.
-use Rattle.std.specs.Prelude.{◌≡◌, ◌≢◌, Bool, true, false, List, [], ◌∷◌, ◌++◌, IsTrue, Contains}
-use Rattle.cx_base.specs.declared.kinds.EntityType.{EntityType}
-use Rattle.cx_base.specs.declared.kinds.EntityType.TheVariants.{Mds, Osd, Mgr}
+use Rattle.std.specs.Prelude.{◌≡◌, ◌≢◌, List, [], ◌∷◌, ◌++◌, IsTrue, Contains}
 use Rattle.cx_journal.specs.Behind.{EachBehind}
 use Rattle.cx_journal.specs.Leaks.{IsUnleaked}
+use Rattle.cx_journal.specs.Nodes.{is_daemon_type}
 use Rattle.cx_journal.specs.Sessions.{IsHandledIn}
 use Rattle.cx_journal.specs.declared.entries.Entry.{Entry}
 use Rattle.cx_journal.specs.declared.entries.Entry.TheVariants as entry
@@ -12,17 +11,10 @@ use Rattle.cx_journal.specs.declared.entries.Admitted.{Admitted}
 use Rattle.cx_journal.specs.declared.entries.Answered.{Answered}
 use Rattle.cx_journal.specs.declared.entries.Handled.{Handled}
 
--- whether it is a type of daemons
-abbrev pub is_daemon : EntityType → Bool
-is_daemon Mds = true
-is_daemon Osd = true
-is_daemon Mgr = true
-is_daemon _ = false
-
 -- an answer from a daemon to a client that didn't leak
 pub record IsTold (entries : List Entry) (answered : Answered) : Type 0 where
   pub client : IsUnleaked entries answered.client
-  pub daemon : IsTrue (is_daemon answered.daemon.kind)
+  pub daemon : IsTrue (is_daemon_type answered.daemon.kind)
 
 -- One of the earlier entries handled the answered operation: at a daemon of the type that was asked, with the answer's tid as
 -- its seq, its outcome and its cookie, in a session of the client that got the answer. Which daemon of the type it was isn't

@@ -272,16 +272,6 @@ static LOGIN: [LoginFault; 10] = [
     },
 ];
 
-static SESSION: [SessionFault; 7] = [
-    SessionFault::BookFull,
-    SessionFault::CookieInUse(1),
-    SessionFault::UnknownSession,
-    SessionFault::StaleConnect(2),
-    SessionFault::StaleGlobal(3),
-    SessionFault::Gap(4),
-    SessionFault::Stale(5),
-];
-
 static TICKET: [TicketFault; 6] = [
     TicketFault::UnknownGeneration(4),
     TicketFault::TicketUnopened(2),
@@ -297,26 +287,6 @@ static TICKET: [TicketFault; 6] = [
     },
 ];
 
-static OTHERS: [Reason; 14] = [
-    Reason::LinksFull,
-    Reason::NotADaemon,
-    Reason::BadRequest,
-    Reason::BadReply,
-    Reason::Denied(13),
-    Reason::Reset,
-    Reason::Lost,
-    Reason::NoTicket(EntityType::Mds),
-    Reason::NoSession,
-    Reason::NoLink,
-    Reason::Busy,
-    Reason::QueueFull,
-    Reason::Spent,
-    Reason::WrongService {
-        kept: EntityType::Osd,
-        got: EntityType::Mgr,
-    },
-];
-
 fn refuse(rt: &impl Abort, alloc: Global, journal: &mut Journal, node: NodeName, reason: Reason) {
     let refused = Refused {
         node,
@@ -328,6 +298,16 @@ fn refuse(rt: &impl Abort, alloc: Global, journal: &mut Journal, node: NodeName,
 
 fn refuse_at_monitor(rt: &impl Abort, alloc: Global, journal: &mut Journal, reason: Reason) {
     refuse(rt, alloc, journal, NodeName::Monitor, reason);
+}
+
+fn refuse_at_client(rt: &impl Abort, alloc: Global, journal: &mut Journal, reason: Reason) {
+    refuse(
+        rt,
+        alloc,
+        journal,
+        NodeName::Entity(client(rt, alloc)),
+        reason,
+    );
 }
 
 fn refuse_at_daemon(rt: &impl Abort, alloc: Global, journal: &mut Journal, reason: Reason) {
@@ -347,32 +327,56 @@ fn push_refusals(rt: &impl Abort, alloc: Global, journal: &mut Journal) {
     for fault in &LOGIN {
         refuse_at_monitor(rt, alloc, journal, Reason::Login(*fault));
     }
-    for reason in &OTHERS {
-        let copied = reason.copy(alloc).expect(rt, "memory");
-        refuse_at_monitor(rt, alloc, journal, copied);
-    }
+    refuse_at_monitor(rt, alloc, journal, Reason::LinksFull);
+    refuse_at_monitor(rt, alloc, journal, Reason::NotADaemon);
+    refuse_at_monitor(rt, alloc, journal, Reason::BadRequest);
 }
 
-fn push_daemon_refusals(rt: &impl Abort, alloc: Global, journal: &mut Journal) {
-    for fault in &SESSION {
-        let copied = fault.copy(alloc).expect(rt, "memory");
-        refuse_at_daemon(rt, alloc, journal, Reason::Session(copied));
-    }
+fn push_client_refusals(rt: &impl Abort, alloc: Global, journal: &mut Journal) {
+    refuse_at_client(rt, alloc, journal, Reason::BadReply);
+    refuse_at_client(rt, alloc, journal, Reason::Denied(13));
+    refuse_at_client(rt, alloc, journal, Reason::Reset);
+    refuse_at_client(rt, alloc, journal, Reason::Lost);
+    refuse_at_client(rt, alloc, journal, Reason::NoTicket(EntityType::Mds));
+    refuse_at_client(rt, alloc, journal, Reason::NoSession);
+    refuse_at_client(rt, alloc, journal, Reason::NoLink);
+    refuse_at_client(rt, alloc, journal, Reason::Busy);
+    refuse_at_client(rt, alloc, journal, Reason::QueueFull);
+    refuse_at_client(rt, alloc, journal, Reason::Spent);
+}
+
+fn refuse_session(rt: &impl Abort, alloc: Global, journal: &mut Journal, fault: SessionFault) {
+    let copied = fault.copy(alloc).expect(rt, "memory");
+    refuse_at_daemon(rt, alloc, journal, Reason::Session(copied));
+}
+
+fn push_session_refusals(rt: &impl Abort, alloc: Global, journal: &mut Journal) {
+    refuse_session(rt, alloc, journal, SessionFault::BookFull);
+    refuse_session(rt, alloc, journal, SessionFault::CookieInUse(1));
+    refuse_session(rt, alloc, journal, SessionFault::UnknownSession);
     let differs = SessionFault::OwnerDiffers {
         entity: client(rt, alloc),
         gid: 2,
     };
-    refuse_at_daemon(rt, alloc, journal, Reason::Session(differs));
+    refuse_session(rt, alloc, journal, differs);
+    refuse_session(rt, alloc, journal, SessionFault::StaleConnect(2));
+    refuse_session(rt, alloc, journal, SessionFault::StaleGlobal(3));
+    refuse_session(rt, alloc, journal, SessionFault::Gap(4));
+    refuse_session(rt, alloc, journal, SessionFault::Stale(5));
+}
+
+fn push_ticket_refusals(rt: &impl Abort, alloc: Global, journal: &mut Journal) {
     for fault in &TICKET {
-        refuse_at_daemon(
-            rt,
-            alloc,
-            journal,
-            Reason::Ticket(*fault, blob(rt, alloc, b"two")),
-        );
+        let reason = Reason::Ticket(*fault, blob(rt, alloc, b"two"));
+        refuse_at_daemon(rt, alloc, journal, reason);
     }
     let unknown = Reason::Ticket(TicketFault::AuthorizerUnopened, blob(rt, alloc, b"six"));
     refuse_at_daemon(rt, alloc, journal, unknown);
+    let wrong = Reason::WrongService {
+        kept: EntityType::Osd,
+        got: EntityType::Mgr,
+    };
+    refuse_at_daemon(rt, alloc, journal, wrong);
 }
 
 /// This text with the text of the journal behind it.
@@ -457,17 +461,24 @@ refused mon 3 nonce-wrong 5 6
 refused mon 3 links-full 1024
 refused mon 3 not-a-daemon
 refused mon 3 bad-request
-refused mon 3 bad-reply
-refused mon 3 denied 13
-refused mon 3 reset
-refused mon 3 lost
-refused mon 3 no-ticket mds
-refused mon 3 no-session
-refused mon 3 no-link
-refused mon 3 busy
-refused mon 3 queue-full 1024
-refused mon 3 spent
-refused mon 3 wrong-service osd mgr
+refused client.a 3 bad-reply
+refused client.a 3 denied 13
+refused client.a 3 reset
+refused client.a 3 lost
+refused client.a 3 no-ticket mds
+refused client.a 3 no-session
+refused client.a 3 no-link
+refused client.a 3 busy
+refused client.a 3 queue-full 1024
+refused client.a 3 spent
+refused osd.0 3 book-full 4096
+refused osd.0 3 cookie-in-use 1
+refused osd.0 3 unknown-session
+refused osd.0 3 owner-differs client.a 2
+refused osd.0 3 stale-connect 2
+refused osd.0 3 stale-global 3
+refused osd.0 3 gap 4
+refused osd.0 3 stale 5
 ";
 
 #[test]
@@ -475,21 +486,15 @@ fn each_reason_has_its_words(rt: HostRuntime) {
     let alloc = rt.alloc();
     let mut journal = Journal::new(alloc);
     push_refusals(&rt, alloc, &mut journal);
+    push_client_refusals(&rt, alloc, &mut journal);
+    push_session_refusals(&rt, alloc, &mut journal);
     check_text(&rt, alloc, &journal, REFUSALS);
 }
 
-const DAEMON_REFUSALS: &str = "behind
+const TICKET_REFUSALS: &str = "behind
 issued 1 client.a osd 2 2 1000 4600 \"\"
 issued 2 client.a osd 2 2 1000 4600 \"\"
 issued 3 client.a mgr 2 2 1000 4600 \"\"
-refused osd.0 3 book-full 4096
-refused osd.0 3 cookie-in-use 1
-refused osd.0 3 unknown-session
-refused osd.0 3 stale-connect 2
-refused osd.0 3 stale-global 3
-refused osd.0 3 gap 4
-refused osd.0 3 stale 5
-refused osd.0 3 owner-differs client.a 2
 refused osd.0 3 unknown-generation 4 ticket=2
 refused osd.0 3 ticket-unopened 2 ticket=2
 refused osd.0 3 gid-differs 3 2 ticket=2
@@ -497,6 +502,7 @@ refused osd.0 3 expired 4600 4600.000000001 ticket=2
 refused osd.0 3 authorizer-unopened ticket=2
 refused osd.0 3 challenge-wrong 7 8 ticket=2
 refused osd.0 3 authorizer-unopened ticket=0
+refused osd.0 3 wrong-service osd mgr
 ";
 
 #[test]
@@ -528,8 +534,8 @@ fn a_refused_ticket_has_the_number_of_its_first_issue(rt: HostRuntime) {
         &mut journal,
         issued(&rt, alloc, EntityType::Mgr, "", b"two"),
     );
-    push_daemon_refusals(&rt, alloc, &mut journal);
-    check_text(&rt, alloc, &journal, DAEMON_REFUSALS);
+    push_ticket_refusals(&rt, alloc, &mut journal);
+    check_text(&rt, alloc, &journal, TICKET_REFUSALS);
 }
 
 /// So many tickets, each of a blob of its own, and so many operations sent, each with a cookie of its own.
