@@ -8,7 +8,7 @@ use Rattle.std.specs.Cmp.Lexicographic.{slice_cmp}
 use Rattle.std.specs.BTreeMap.{get}
 use Rattle.cx_journal.specs.Places.{different, cookie_of, cookies_of, blob_of, blobs_of, rank, next_number, ticket_number, ticket_of}
 use Rattle.cx_journal.specs.Counted.{IsCountOf}
-use Rattle.cx_journal.specs.JournalText.{line, issued_line, admitted_line, sent_line, handled_line, refused_line}
+use Rattle.cx_journal.specs.JournalText.{line, issued_line, admitted_line, resumed_line, sent_line, handled_line, refused_line}
 use Rattle.cx_journal.specs.declared.counts.Counts.{Counts}
 use Rattle.cx_journal.specs.declared.entries.Entry.{Entry}
 use Rattle.cx_journal.specs.declared.entries.Entry.TheVariants as entry
@@ -45,6 +45,9 @@ issued_as counts earlier e t n is told h = ap (line earlier) is ∙ ap (λ k. is
 
 pub admitted_as : (counts : Counts) (earlier : List Entry) (e : Entry) (a : Admitted) (n : ℕ) → e ≡ entry.Admitted a → n ≡ unwrap_or (get nat_cmp counts.ranks.ranks a.cookie) 0 → IsCountOf counts (earlier ++ e ∷ []) → line earlier e ≡ admitted_line n a
 admitted_as counts earlier e a n is told h = ap (line earlier) is ∙ ap (λ k. admitted_line k a) (sym (told ∙ rank_is counts earlier e a.cookie (ap cookie_of is) h))
+
+pub resumed_as : (counts : Counts) (earlier : List Entry) (e : Entry) (a : Admitted) (n : ℕ) → e ≡ entry.Resumed a → n ≡ unwrap_or (get nat_cmp counts.ranks.ranks a.cookie) 0 → IsCountOf counts (earlier ++ e ∷ []) → line earlier e ≡ resumed_line n a
+resumed_as counts earlier e a n is told h = ap (line earlier) is ∙ ap (λ k. resumed_line k a) (sym (told ∙ rank_is counts earlier e a.cookie (ap cookie_of is) h))
 
 pub sent_as : (counts : Counts) (earlier : List Entry) (e : Entry) (s : Sent) (n : ℕ) → e ≡ entry.Sent s → n ≡ unwrap_or (get nat_cmp counts.ranks.ranks s.cookie) 0 → IsCountOf counts (earlier ++ e ∷ []) → line earlier e ≡ sent_line n s
 sent_as counts earlier e s n is told h = ap (line earlier) is ∙ ap (λ k. sent_line k s) (sym (told ∙ rank_is counts earlier e s.cookie (ap cookie_of is) h))

@@ -1,12 +1,10 @@
 -- The law of capabilities: each operation is handled as the caps of its session and the stored handlers say.
-use Rattle.std.specs.Prelude.{ℕ, ◌≡◌, ◌==◌, ◌&&◌, Bool, true, false, List, [], ◌∷◌, ◌++◌}
-use Rattle.std.specs.List.{list_any}
-use Rattle.cx_base.specs.Names.{same_name}
+use Rattle.std.specs.Prelude.{ℕ, ◌≡◌, Bool, true, false, List, []}
 use Rattle.cx_base.specs.declared.kinds.Access.{Access}
 use Rattle.cx_base.specs.declared.operations.Operation.{Operation}
 use Rattle.cx_caps.specs.Grammar.{CapAllows}
 use Rattle.cx_journal.specs.Behind.{EachBehind}
-use Rattle.cx_journal.specs.InSession.{Admits}
+use Rattle.cx_journal.specs.Sessions.{IsHandledIn}
 use Rattle.cx_journal.specs.declared.entries.Entry.{Entry}
 use Rattle.cx_journal.specs.declared.entries.Entry.TheVariants as entry
 use Rattle.cx_journal.specs.declared.entries.Admitted.{Admitted}
@@ -21,21 +19,11 @@ IsOutcome has_handler caps ask outcome.Denied = CapAllows caps ask → ⊥
 IsOutcome has_handler caps ask outcome.NoHandler = CapAllows caps ask × (has_handler ask.access ≡ false)
 IsOutcome has_handler caps ask outcome.Done = CapAllows caps ask × (has_handler ask.access ≡ true)
 
--- whether the entry admits the session of the handled operation: with its cookie, daemon, number and epoch
-abbrev pub is_admission : Handled → Entry → Bool
-is_admission handled (entry.Admitted a) =
-    (a.cookie == handled.cookie) && same_name a.daemon handled.daemon && (a.session == handled.session) && (a.epoch == handled.epoch)
-is_admission handled _ = false
-
--- an earlier entry admitted the operation's session, and the outcome is the one under the caps of the latest that did
+-- the operation was handled in a session, and its outcome is the one under the caps of that session
 pub record Enforces (has_handler : Access → Bool) (earlier : List Entry) (handled : Handled) : Type 0 where
-  pub before : List Entry
-  pub admission : Admitted
-  pub between : List Entry
-  pub place : earlier ≡ before ++ entry.Admitted admission ∷ between
-  pub admits : Admits admission handled
-  pub latest : list_any (is_admission handled) between ≡ false
-  pub outcome : IsOutcome has_handler admission.caps handled.operation handled.outcome
+  pub session : Admitted
+  pub handled_in : IsHandledIn earlier handled session
+  pub outcome : IsOutcome has_handler session.caps handled.operation handled.outcome
 
 -- where the entry handles an operation, its outcome is that one
 abbrev pub IsEnforcedBy : (Access → Bool) → List Entry → Entry → Type 0

@@ -3,8 +3,8 @@ use Rattle.std.specs.Prelude.{ℕ, List, [], ◌∷◌, ◌++◌, codes, Option,
 use Rattle.std.specs.Option.{option_map}
 use Rattle.std.specs.Fmt.{decimal}
 use Rattle.cx_base.specs.Joined.{◌<>◌}
-use Rattle.cx_base.specs.Names.{name_text, type_word}
-use Rattle.cx_journal.specs.Words.{reading_text, asked_text, ids_text, operation_text, outcome_word, reason_text}
+use Rattle.cx_base.specs.Names.{Name, name_text, type_word}
+use Rattle.cx_journal.specs.Words.{reading_text, asked_text, ids_text, operation_text, outcome_word, reason_text, node_text, premise_word, key_kind_word}
 use Rattle.cx_journal.specs.Places.{next_number, ticket_number, ticket_of, rank}
 use Rattle.cx_journal.specs.declared.entries.Entry.{Entry}
 use Rattle.cx_journal.specs.declared.entries.Entry.TheVariants as entry
@@ -16,6 +16,9 @@ use Rattle.cx_journal.specs.declared.entries.Sent.{Sent}
 use Rattle.cx_journal.specs.declared.entries.Handled.{Handled}
 use Rattle.cx_journal.specs.declared.entries.Answered.{Answered}
 use Rattle.cx_journal.specs.declared.entries.Refused.{Refused}
+use Rattle.cx_journal.specs.declared.entries.Ended.{Ended}
+use Rattle.cx_journal.specs.declared.node_names.NodeName.{NodeName}
+use Rattle.cx_journal.specs.declared.premises.Broken.{Broken}
 
 -- ---- the line of each kind of entry
 
@@ -40,11 +43,19 @@ looked_line l =
     codes "looked " <> name_text l.daemon <> codes " " <> decimal l.link <> codes " " <> ids_text l.view.generations <> codes " "
     <> asked_text l.view.asked <> codes "\n"
 
--- of an admission. A cookie is told by its rank alone, here and below
+-- what is said of a session. A cookie is told by its rank alone, here and below
+abbrev pub session_text : ℕ → Admitted → List ℕ
+session_text rank a =
+    (name_text a.daemon <> codes " " <> decimal a.session <> codes " " <> decimal a.epoch <> codes " c" <> decimal rank <> codes " " <> name_text a.entity)
+    <> codes " " <> decimal a.gid <> codes " " <> reading_text a.at <> codes " \"" <> a.caps <> codes "\""
+
+-- of an admission
 abbrev pub admitted_line : ℕ → Admitted → List ℕ
-admitted_line rank a =
-    (codes "admitted " <> name_text a.daemon <> codes " " <> decimal a.session <> codes " " <> decimal a.epoch <> codes " c" <> decimal rank <> codes " " <> name_text a.entity)
-    <> codes " " <> decimal a.gid <> codes " " <> reading_text a.at <> codes " \"" <> a.caps <> codes "\"\n"
+admitted_line rank a = codes "admitted " <> session_text rank a <> codes "\n"
+
+-- of a resumption
+abbrev pub resumed_line : ℕ → Admitted → List ℕ
+resumed_line rank a = codes "resumed " <> session_text rank a <> codes "\n"
 
 -- of an operation that was sent
 abbrev pub sent_line : ℕ → Sent → List ℕ
@@ -72,7 +83,25 @@ ticket_text (Some number) = codes " ticket=" <> decimal number
 -- of a refusal, of a ticket of this number or of none
 abbrev pub refused_line : Option ℕ → Refused → List ℕ
 refused_line number r =
-    codes "refused " <> name_text r.node <> codes " " <> decimal r.link <> codes " " <> reason_text r.reason <> ticket_text number <> codes "\n"
+    codes "refused " <> node_text r.node <> codes " " <> decimal r.link <> codes " " <> reason_text r.reason <> ticket_text number <> codes "\n"
+
+-- of the end of a session
+abbrev pub ended_line : Ended → List ℕ
+ended_line e = codes "ended " <> name_text e.daemon <> codes " " <> decimal e.session <> codes "\n"
+
+-- of a restart
+abbrev pub restarted_line : NodeName → List ℕ
+restarted_line node = codes "restarted " <> node_text node <> codes "\n"
+
+-- of a broken premise
+abbrev pub broken_line : Broken → List ℕ
+broken_line b =
+    codes "broken " <> premise_word b.why <> codes " " <> node_text b.node <> codes " " <> key_kind_word b.kind <> codes " " <> decimal b.line
+    <> codes "\n"
+
+-- of a leaked client
+abbrev pub leaked_line : Name → List ℕ
+leaked_line client = codes "leaked " <> name_text client <> codes "\n"
 
 -- the line of an entry that stands behind these
 abbrev pub line : List Entry → Entry → List ℕ
@@ -81,10 +110,15 @@ line earlier (entry.Issued t) = issued_line (next_number earlier) t
 line earlier (entry.Fetched f) = fetched_line f
 line earlier (entry.Looked l) = looked_line l
 line earlier (entry.Admitted a) = admitted_line (rank earlier a.cookie) a
+line earlier (entry.Resumed a) = resumed_line (rank earlier a.cookie) a
 line earlier (entry.Sent s) = sent_line (rank earlier s.cookie) s
 line earlier (entry.Handled h) = handled_line (rank earlier h.cookie) h
 line earlier (entry.Answered a) = answered_line a
 line earlier (entry.Refused r) = refused_line (option_map (ticket_number earlier) (ticket_of r.reason)) r
+line earlier (entry.Ended e) = ended_line e
+line earlier (entry.Restarted node) = restarted_line node
+line earlier (entry.Broken b) = broken_line b
+line earlier (entry.Leaked client) = leaked_line client
 
 -- the lines of entries that stand behind the earlier ones
 abbrev pub text_behind : List Entry → List Entry → List ℕ

@@ -1,4 +1,5 @@
--- The law of kept keys: a daemon says that it lacks the generation of an issued ticket only where its view lacked it.
+-- The law of kept keys: a daemon says that it lacks the generation of an issued ticket, or can't open the ticket under it,
+-- only where its view lacked it.
 use Rattle.std.specs.Prelude.{ℕ, ◌≡◌, ◌==◌, ◌&&◌, Bool, true, false, List, [], ◌∷◌, ◌++◌, Contains}
 use Rattle.std.specs.List.{list_any}
 use Rattle.cx_base.specs.Names.{Name, same_name}
@@ -8,6 +9,8 @@ use Rattle.cx_journal.specs.declared.entries.Entry.{Entry}
 use Rattle.cx_journal.specs.declared.entries.Entry.TheVariants as entry
 use Rattle.cx_journal.specs.declared.entries.Issued.{Issued}
 use Rattle.cx_journal.specs.declared.entries.Looked.{Looked}
+use Rattle.cx_journal.specs.declared.node_names.NodeName.{NodeName}
+use Rattle.cx_journal.specs.declared.node_names.NodeName.TheVariants as node
 use Rattle.cx_journal.specs.declared.outcomes.Reason.{Reason}
 use Rattle.cx_journal.specs.declared.outcomes.Reason.TheVariants as reason
 use Rattle.cx_journal.specs.declared.outcomes.TicketFault.{TicketFault}
@@ -40,23 +43,29 @@ pub record LacksKey (entries : List Entry) (daemon : Name) (link : ℕ) (generat
   pub latest : list_any (is_look daemon link) after ≡ false
   pub lacks : has_generation look.view.generations generation ≡ false
 
--- what a refusal of the ticket of this blob for this fault needs
+-- where one of the entries issued the ticket of this blob for the daemon's service under this generation, the daemon's latest
+-- look for this link doesn't list the generation
+abbrev pub LacksIssued : List Entry → Name → ℕ → ℕ → List ℕ → Type 0
+LacksIssued earlier daemon link generation blob = WasIssued earlier daemon generation blob → LacksKey earlier daemon link generation
+
+-- what a refusal of the ticket of this blob for this fault needs: where the view is said to lack its generation, and where
+-- the ticket is said not to open under it, the view lacks it
 abbrev pub NeedsLook : List Entry → Name → ℕ → TicketFault → List ℕ → Type 0
-NeedsLook earlier daemon link (fault.UnknownGeneration generation) blob =
-    WasIssued earlier daemon generation blob → LacksKey earlier daemon link generation
-NeedsLook earlier daemon link (fault.Expired expires now) blob = Unit {0}
+NeedsLook earlier daemon link (fault.UnknownGeneration generation) blob = LacksIssued earlier daemon link generation blob
+NeedsLook earlier daemon link (fault.TicketUnopened generation) blob = LacksIssued earlier daemon link generation blob
+NeedsLook earlier daemon link _ blob = Unit {0}
 
--- what a refusal for this reason needs
-abbrev pub NeedsFor : List Entry → Name → ℕ → Reason → Type 0
-NeedsFor earlier daemon link (reason.Ticket why blob) = NeedsLook earlier daemon link why blob
-NeedsFor earlier daemon link _ = Unit {0}
+-- what a refusal by this node for this reason needs: only daemons refuse tickets
+abbrev pub NeedsFor : List Entry → NodeName → ℕ → Reason → Type 0
+NeedsFor earlier (node.Entity daemon) link (reason.Ticket why blob) = NeedsLook earlier daemon link why blob
+NeedsFor earlier _ link _ = Unit {0}
 
--- where the entry refuses a ticket for its unknown generation, and one of the earlier entries issued that ticket, the
--- daemon's latest look for that link doesn't list the generation
+-- where the entry refuses a ticket for its generation, and one of the earlier entries issued that ticket, the daemon's latest
+-- look for that link doesn't list the generation
 abbrev pub KeepsKeysBy : List Entry → Entry → Type 0
 KeepsKeysBy earlier (entry.Refused r) = NeedsFor earlier r.node r.link r.reason
 KeepsKeysBy earlier _ = Unit {0}
 
--- each refusal of the journal for an unknown generation keeps this law
+-- each refusal of the journal for a generation keeps this law
 abbrev pub KeepsKeys : List Entry → Type 0
 KeepsKeys entries = EachBehind KeepsKeysBy [] entries

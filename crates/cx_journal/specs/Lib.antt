@@ -2,9 +2,16 @@ pub mod Backed
 pub mod Behind
 pub mod Counted
 pub mod Enforced
+pub mod GidOnce
 pub mod InSession
 pub mod JournalText
 pub mod KeepsKeys
+pub mod Leaks
+pub mod Legal
+pub mod Nodes
 pub mod Places
+pub mod PrefixOfSent
 pub mod Ranked
+pub mod Sessions
+pub mod Truthful
 pub mod Words

@@ -27,15 +27,13 @@ ticket_number earlier blob = option_map_or (λ place. place + 1) (position (byte
 
 -- the blob of the ticket that was refused, where one was
 abbrev pub ticket_of : Reason → Option (List ℕ)
-ticket_of reason.Busy = None
-ticket_of (reason.NoTicket service) = None
-ticket_of reason.NoSession = None
 ticket_of (reason.Ticket why blob) = Some blob
-ticket_of (reason.Denied code) = None
+ticket_of _ = None
 
 -- the cookie that an entry tells
 abbrev pub cookie_of : Entry → Option ℕ
 cookie_of (entry.Admitted a) = Some a.cookie
+cookie_of (entry.Resumed a) = Some a.cookie
 cookie_of (entry.Sent s) = Some s.cookie
 cookie_of (entry.Handled h) = Some h.cookie
 cookie_of (entry.Answered a) = Some a.cookie

@@ -1,6 +1,8 @@
 //! Copies of the entries.
 
-use crate::entries::{Admitted, Answered, Entry, Fetched, Handled, Issued, Looked, Refused, Sent};
+use crate::entries::{
+    Admitted, Answered, Ended, Entry, Fetched, Handled, Issued, Looked, Refused, Sent,
+};
 use crate::outcomes::Reason;
 use cx_base::Duplicate;
 use std::alloc::{AllocError, Global};
@@ -120,17 +122,43 @@ impl Duplicate for Refused {
     }
 }
 
+impl Duplicate for Ended {
+    fn copy(&self, alloc: Global) -> Result<Ended, AllocError> {
+        let daemon = self.daemon.copy(alloc)?;
+        Ok(Ended {
+            daemon,
+            session: self.session,
+        })
+    }
+}
+
 impl Duplicate for Reason {
     fn copy(&self, alloc: Global) -> Result<Reason, AllocError> {
         match self {
-            Reason::Busy => Ok(Reason::Busy),
+            Reason::Bytes(fault) => Ok(Reason::Bytes(*fault)),
+            Reason::LinksFull => Ok(Reason::LinksFull),
+            Reason::Login(fault) => Ok(Reason::Login(*fault)),
+            Reason::NotADaemon => Ok(Reason::NotADaemon),
+            Reason::BadRequest => Ok(Reason::BadRequest),
+            Reason::BadReply => Ok(Reason::BadReply),
+            Reason::Denied(code) => Ok(Reason::Denied(*code)),
+            Reason::Reset => Ok(Reason::Reset),
+            Reason::Lost => Ok(Reason::Lost),
             Reason::NoTicket(service) => Ok(Reason::NoTicket(*service)),
             Reason::NoSession => Ok(Reason::NoSession),
+            Reason::NoLink => Ok(Reason::NoLink),
+            Reason::Busy => Ok(Reason::Busy),
+            Reason::QueueFull => Ok(Reason::QueueFull),
+            Reason::Spent => Ok(Reason::Spent),
+            Reason::Session(fault) => Ok(Reason::Session(fault.copy(alloc)?)),
+            Reason::WrongService { kept, got } => Ok(Reason::WrongService {
+                kept: *kept,
+                got: *got,
+            }),
             Reason::Ticket(fault, blob) => {
                 let blob = blob.copy(alloc)?;
                 Ok(Reason::Ticket(*fault, blob))
             }
-            Reason::Denied(code) => Ok(Reason::Denied(*code)),
         }
     }
 }
@@ -139,38 +167,19 @@ impl Duplicate for Entry {
     fn copy(&self, alloc: Global) -> Result<Entry, AllocError> {
         match self {
             Entry::Saved(next) => Ok(Entry::Saved(*next)),
-            Entry::Issued(entry) => {
-                let copied = entry.copy(alloc)?;
-                Ok(Entry::Issued(copied))
-            }
-            Entry::Fetched(entry) => {
-                let copied = entry.copy(alloc)?;
-                Ok(Entry::Fetched(copied))
-            }
-            Entry::Looked(entry) => {
-                let copied = entry.copy(alloc)?;
-                Ok(Entry::Looked(copied))
-            }
-            Entry::Admitted(entry) => {
-                let copied = entry.copy(alloc)?;
-                Ok(Entry::Admitted(copied))
-            }
-            Entry::Sent(entry) => {
-                let copied = entry.copy(alloc)?;
-                Ok(Entry::Sent(copied))
-            }
-            Entry::Handled(entry) => {
-                let copied = entry.copy(alloc)?;
-                Ok(Entry::Handled(copied))
-            }
-            Entry::Answered(entry) => {
-                let copied = entry.copy(alloc)?;
-                Ok(Entry::Answered(copied))
-            }
-            Entry::Refused(entry) => {
-                let copied = entry.copy(alloc)?;
-                Ok(Entry::Refused(copied))
-            }
+            Entry::Issued(entry) => Ok(Entry::Issued(entry.copy(alloc)?)),
+            Entry::Fetched(entry) => Ok(Entry::Fetched(entry.copy(alloc)?)),
+            Entry::Looked(entry) => Ok(Entry::Looked(entry.copy(alloc)?)),
+            Entry::Admitted(entry) => Ok(Entry::Admitted(entry.copy(alloc)?)),
+            Entry::Resumed(entry) => Ok(Entry::Resumed(entry.copy(alloc)?)),
+            Entry::Sent(entry) => Ok(Entry::Sent(entry.copy(alloc)?)),
+            Entry::Handled(entry) => Ok(Entry::Handled(entry.copy(alloc)?)),
+            Entry::Answered(entry) => Ok(Entry::Answered(entry.copy(alloc)?)),
+            Entry::Refused(entry) => Ok(Entry::Refused(entry.copy(alloc)?)),
+            Entry::Ended(entry) => Ok(Entry::Ended(entry.copy(alloc)?)),
+            Entry::Restarted(node) => Ok(Entry::Restarted(node.copy(alloc)?)),
+            Entry::Broken(entry) => Ok(Entry::Broken(entry.copy(alloc)?)),
+            Entry::Leaked(client) => Ok(Entry::Leaked(client.copy(alloc)?)),
         }
     }
 }

@@ -1,7 +1,7 @@
 //! What is kept of the entries so far for the lines of later ones.
 
 ghost use Rattle.std.specs.Prelude.{◌≡◌, ◌+◌, ◌<◌, ◌^◌, List, [], ◌∷◌, ◌++◌, IfOk, OnOk, unwrap_or, string_bytes};
-ghost use Rattle.std.specs.Option.{option_map};
+ghost use Rattle.std.specs.Option.{option_copied, option_map};
 ghost use Rattle.std.specs.Ordering.{nat_cmp};
 ghost use Rattle.std.specs.BTreeMap.{get};
 ghost use Rattle.std.specs.Cmp.Lexicographic.{slice_cmp};
@@ -15,6 +15,7 @@ use crate::lines;
 use crate::numbers::Numbers;
 use crate::outcomes::Reason;
 use crate::ranks::Ranks;
+use cx_base::Blob;
 use std::alloc::{AllocError, Global};
 
 /// The counts of the entries so far.
@@ -56,6 +57,7 @@ impl Counts {
             Entry::Fetched(f) => lines::fetched_line(alloc, f),
             Entry::Looked(l) => lines::looked_line(alloc, l),
             Entry::Admitted(a) => lines::admitted_line(alloc, self.ranks.rank(a.cookie), a),
+            Entry::Resumed(a) => lines::resumed_line(alloc, self.ranks.rank(a.cookie), a),
             Entry::Sent(s) => lines::sent_line(alloc, self.ranks.rank(s.cookie), s),
             Entry::Handled(h) => lines::handled_line(alloc, self.ranks.rank(h.cookie), h),
             Entry::Answered(a) => lines::answered_line(alloc, a),
@@ -63,6 +65,10 @@ impl Counts {
                 let number = self.ticket_number(&r.reason);
                 lines::refused_line(alloc, number, r)
             }
+            Entry::Ended(e) => lines::ended_line(alloc, e),
+            Entry::Restarted(node) => lines::restarted_line(alloc, node),
+            Entry::Broken(b) => lines::broken_line(alloc, b),
+            Entry::Leaked(client) => lines::leaked_line(alloc, client),
         }
     }
 
@@ -70,12 +76,18 @@ impl Counts {
     fn ticket_number(&self, reason: &Reason) -> Option<u64>
         ensures { result ≡ option_map (λ blob. unwrap_or (get (slice_cmp nat_cmp) self.now.numbers.numbers blob) 0) (ticket_of reason.now) }
     {
-        match reason {
-            Reason::Busy => None,
-            Reason::NoTicket(_) => None,
-            Reason::NoSession => None,
-            Reason::Ticket(_, blob) => Some(self.numbers.number(blob)),
-            Reason::Denied(_) => None,
+        match ticket_of(reason) {
+            None => None,
+            Some(blob) => Some(self.numbers.number(blob)),
         }
+    }
+}
+
+fn ticket_of(reason: &Reason) -> Option<&Blob>
+    ensures { option_copied result ≡ ticket_of reason.now }
+{
+    match reason {
+        Reason::Ticket(_, blob) => Some(blob),
+        _ => None,
     }
 }

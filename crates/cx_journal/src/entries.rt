@@ -1,6 +1,8 @@
 //! The entries of a journal.
 
+use crate::node_names::NodeName;
 use crate::outcomes::{Outcome, Reason};
+use crate::premises::Broken;
 use cx_base::{Blob, EntityName, EntityType, Operation, Reading, Text};
 use cx_rotate::{Generations, View};
 
@@ -33,7 +35,8 @@ pub struct Looked {
     pub view: View,
 }
 
-/// A daemon admitted a session for an entity, at a reading of its own.
+/// A daemon admitted a session for an entity, or resumed it under another epoch, at a reading of its own: what the session's
+/// ticket gives from then on.
 #[derive(Debug, PartialEq, Eq, Drop)]
 pub struct Admitted {
     pub daemon: EntityName,
@@ -81,9 +84,16 @@ pub struct Answered {
 /// A node refused something, on this link or, at 0, on none.
 #[derive(Debug, PartialEq, Eq, Drop)]
 pub struct Refused {
-    pub node: EntityName,
+    pub node: NodeName,
     pub link: u32,
     pub reason: Reason,
+}
+
+/// A daemon ended a session.
+#[derive(Debug, PartialEq, Eq, Drop)]
+pub struct Ended {
+    pub daemon: EntityName,
+    pub session: u64,
 }
 
 /// One entry of a journal.
@@ -95,8 +105,16 @@ pub enum Entry {
     Fetched(Fetched),
     Looked(Looked),
     Admitted(Admitted),
+    Resumed(Admitted),
     Sent(Sent),
     Handled(Handled),
     Answered(Answered),
     Refused(Refused),
+    Ended(Ended),
+    /// A node began anew, from what it keeps.
+    Restarted(NodeName),
+    /// A premise of the run was broken.
+    Broken(Broken),
+    /// The secret of this client, and all that is sealed for it, count as known to whoever wrote the schedule.
+    Leaked(EntityName),
 }

@@ -2,8 +2,13 @@
 
 ghost use Rattle.std.specs.Prelude.{◌≡◌, [], ◌∷◌, ◌++◌, OnOk, OnErr, take};
 
-use crate::entries::{Admitted, Answered, Entry, Fetched, Handled, Issued, Looked, Refused, Sent};
+use crate::entries::{
+    Admitted, Answered, Ended, Entry, Fetched, Handled, Issued, Looked, Refused, Sent,
+};
+use crate::faults::{BytesFault, LoginFault, SessionFault};
+use crate::node_names::NodeName;
 use crate::outcomes::{Outcome, Reason, TicketFault};
+use crate::premises::{Broken, KeyKind, Premise};
 use cx_base::{Duplicate, Items, copy_items};
 use std::alloc::{AllocError, Global};
 use std::marker::Model;
@@ -75,10 +80,18 @@ fn are_sendable() {
     is_sendable::<Handled>();
     is_sendable::<Answered>();
     is_sendable::<Refused>();
+    is_sendable::<Ended>();
+    is_sendable::<NodeName>();
+    is_sendable::<Broken>();
+    is_sendable::<Premise>();
+    is_sendable::<KeyKind>();
     is_sendable::<Entry>();
     is_sendable::<Outcome>();
     is_sendable::<Reason>();
     is_sendable::<TicketFault>();
+    is_sendable::<BytesFault>();
+    is_sendable::<LoginFault>();
+    is_sendable::<SessionFault>();
     is_sendable::<Journal>();
 }
 

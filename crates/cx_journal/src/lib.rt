@@ -4,17 +4,27 @@
 mod copies;
 mod counts;
 mod entries;
+mod faults;
 mod journals;
+mod laws;
 mod lines;
+mod node_names;
 mod numbers;
 mod outcomes;
+mod premises;
 mod ranks;
 #[cfg(test)]
 mod tests;
 mod texts;
 mod words;
 
-pub use entries::{Admitted, Answered, Entry, Fetched, Handled, Issued, Looked, Refused, Sent};
+pub use entries::{
+    Admitted, Answered, Ended, Entry, Fetched, Handled, Issued, Looked, Refused, Sent,
+};
+pub use faults::{BytesFault, LoginFault, SessionFault};
 pub use journals::Journal;
+pub use laws::session_laws;
+pub use node_names::NodeName;
 pub use outcomes::{Outcome, Reason, TicketFault};
+pub use premises::{Broken, KeyKind, Premise};
 pub use texts::put_text;

@@ -1,10 +1,13 @@
 //! The line of each kind of entry. What a line says of the entries before it is given as a number.
 
 ghost use Rattle.std.specs.Prelude.{◌≡◌, IfOk, string_bytes};
-ghost use Rattle.cx_journal.specs.JournalText.{saved_line, issued_line, fetched_line, looked_line, admitted_line, sent_line, handled_line, answered_line, ticket_text, refused_line};
+ghost use Rattle.cx_journal.specs.JournalText.{saved_line, issued_line, fetched_line, looked_line, admitted_line, resumed_line, session_text, sent_line, handled_line, answered_line, ticket_text, refused_line, ended_line, restarted_line, broken_line, leaked_line};
 
-use crate::entries::{Admitted, Answered, Fetched, Handled, Issued, Looked, Refused, Sent};
+use crate::entries::{Admitted, Answered, Ended, Fetched, Handled, Issued, Looked, Refused, Sent};
+use crate::node_names::NodeName;
+use crate::premises::Broken;
 use crate::words::{Asked, Ids, Seconds, operation_text};
+use cx_base::EntityName;
 use std::alloc::{AllocError, Global};
 use std::fmt::Write;
 
@@ -55,12 +58,26 @@ pub fn looked_line(alloc: Global, l: &Looked) -> Result<String, AllocError>
 pub fn admitted_line(alloc: Global, rank: u64, a: &Admitted) -> Result<String, AllocError>
     ensures { IfOk result (λ line. string_bytes line ≡ admitted_line rank a.now) }
 {
-    let mut line = format!(in alloc;
-        "admitted {} {} {} c{} {}",
+    let session = session_text(alloc, rank, a)?;
+    format!(in alloc; "admitted {}\n", session)
+}
+
+pub fn resumed_line(alloc: Global, rank: u64, a: &Admitted) -> Result<String, AllocError>
+    ensures { IfOk result (λ line. string_bytes line ≡ resumed_line rank a.now) }
+{
+    let session = session_text(alloc, rank, a)?;
+    format!(in alloc; "resumed {}\n", session)
+}
+
+fn session_text(alloc: Global, rank: u64, a: &Admitted) -> Result<String, AllocError>
+    ensures { IfOk result (λ text. string_bytes text ≡ session_text rank a.now) }
+{
+    let mut text = format!(in alloc;
+        "{} {} {} c{} {}",
         a.daemon, a.session, a.epoch, rank, a.entity
     )?;
-    write!(line, " {} {} \"{}\"\n", a.gid, Seconds(a.at), a.caps)?;
-    Ok(line)
+    write!(text, " {} {} \"{}\"", a.gid, Seconds(a.at), a.caps)?;
+    Ok(text)
 }
 
 pub fn sent_line(alloc: Global, rank: u64, s: &Sent) -> Result<String, AllocError>
@@ -106,4 +123,28 @@ fn ticket_text(alloc: Global, number: Option<u64>) -> Result<String, AllocError>
         None => String::from_str(alloc, ""),
         Some(number) => format!(in alloc; " ticket={}", number),
     }
+}
+
+pub fn ended_line(alloc: Global, e: &Ended) -> Result<String, AllocError>
+    ensures { IfOk result (λ line. string_bytes line ≡ ended_line e.now) }
+{
+    format!(in alloc; "ended {} {}\n", e.daemon, e.session)
+}
+
+pub fn restarted_line(alloc: Global, node: &NodeName) -> Result<String, AllocError>
+    ensures { IfOk result (λ line. string_bytes line ≡ restarted_line node.now) }
+{
+    format!(in alloc; "restarted {}\n", node)
+}
+
+pub fn broken_line(alloc: Global, b: &Broken) -> Result<String, AllocError>
+    ensures { IfOk result (λ line. string_bytes line ≡ broken_line b.now) }
+{
+    format!(in alloc; "broken {} {} {} {}\n", b.why, b.node, b.kind, b.line)
+}
+
+pub fn leaked_line(alloc: Global, client: &EntityName) -> Result<String, AllocError>
+    ensures { IfOk result (λ line. string_bytes line ≡ leaked_line client.now) }
+{
+    format!(in alloc; "leaked {}\n", client)
 }

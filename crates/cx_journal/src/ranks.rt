@@ -65,6 +65,7 @@ fn cookie_of(entry: &Entry) -> Option<u64>
 {
     match entry {
         Entry::Admitted(a) => Some(a.cookie),
+        Entry::Resumed(a) => Some(a.cookie),
         Entry::Sent(s) => Some(s.cookie),
         Entry::Handled(h) => Some(h.cookie),
         Entry::Answered(a) => Some(a.cookie),

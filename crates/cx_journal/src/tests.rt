@@ -1,101 +1,15 @@
-//! What no clause says: the text of each kind of entry, reason and outcome, against lines that were written by hand, and
-//! each call once with ample memory.
+//! What no clause says: the text of each kind of entry and of each reason, against lines that were written by hand, and each
+//! call once with ample memory.
 
 use crate::{
-    Admitted, Answered, Entry, Fetched, Handled, Issued, Journal, Looked, Outcome, Reason, Refused,
-    Sent, TicketFault, put_text,
+    Admitted, Answered, Broken, BytesFault, Ended, Entry, Fetched, Handled, Issued, Journal,
+    KeyKind, LoginFault, Looked, NodeName, Outcome, Premise, Reason, Refused, Sent, SessionFault,
+    TicketFault, put_text, session_laws,
 };
 use cx_base::{Access, Blob, Duplicate, EntityName, EntityType, Operation, Reading, SECOND, Text};
 use cx_rotate::{Generation, Generations, View};
 use std::alloc::Global;
 use std::process::Abort;
-
-/// A ticket of `osd.0` or `client.a`.
-struct Ticket {
-    entity: EntityType,
-    service: EntityType,
-    gid: u64,
-    caps: &'static str,
-    blob: &'static [u8],
-}
-
-/// An operation on the object `obj1` in no namespace.
-struct Asked {
-    access: Access,
-    pool: &'static str,
-    bytes: &'static [u8],
-}
-
-/// What tells an entry from the others of its kind. Its daemon is `osd.0`, its client `client.a`.
-enum Told {
-    /// A next global id.
-    Saved(u64),
-    Issued(Ticket),
-    Fetched,
-    /// A link, and whether the view has generations.
-    Looked(u32, bool),
-    /// A cookie and a reading.
-    Admitted(u64, Reading),
-    /// A cookie and an operation.
-    Sent(u64, Asked),
-    /// A cookie, an operation and how it ended.
-    Handled(u64, Asked, Outcome),
-    /// A cookie and how the operation ended.
-    Answered(u64, Outcome),
-    /// The type of `osd.0` or `client.a`, a link and a reason.
-    Refused(EntityType, u32, Why),
-}
-
-/// Why something was refused: for a fault of the ticket of this blob, or for another reason.
-enum Why {
-    Ticket(TicketFault, &'static [u8]),
-    Busy,
-    NoTicket(EntityType),
-    NoSession,
-    Denied(u32),
-}
-
-/// An entry and its line.
-type Row = (Told, &'static str);
-
-const DAEMON_TICKET: Ticket = Ticket {
-    entity: EntityType::Osd,
-    service: EntityType::Auth,
-    gid: 1,
-    caps: "",
-    blob: b"one",
-};
-
-const TICKET_ONE: Ticket = Ticket {
-    entity: EntityType::Client,
-    service: EntityType::Osd,
-    gid: 2,
-    caps: "allow *",
-    blob: b"one",
-};
-
-const TICKET_TWO: Ticket = Ticket {
-    blob: b"two",
-    ..TICKET_ONE
-};
-
-const MANAGER_TICKET_TWO: Ticket = Ticket {
-    service: EntityType::Mgr,
-    caps: "allow r",
-    ..TICKET_TWO
-};
-
-const READING: Asked = Asked {
-    access: Access::Read,
-    pool: "rbd",
-    bytes: b"",
-};
-
-const WRITING: Asked = Asked {
-    access: Access::Write,
-    pool: "",
-    bytes: b"hi\xff",
-};
 
 fn text(rt: &impl Abort, alloc: Global, word: &str) -> Text {
     Text::of(alloc, word.as_bytes()).expect(rt, "ASCII")
@@ -105,361 +19,550 @@ fn blob(rt: &impl Abort, alloc: Global, bytes: &[u8]) -> Blob {
     Blob::of(alloc, bytes).expect(rt, "memory")
 }
 
-/// `osd.0`, or `client.a`.
-fn name(rt: &impl Abort, alloc: Global, kind: EntityType) -> EntityName {
-    let id = if kind.is(EntityType::Osd) { "0" } else { "a" };
-    EntityName::new(kind, text(rt, alloc, id)).expect(rt, "an id")
+fn client(rt: &impl Abort, alloc: Global) -> EntityName {
+    EntityName::new(EntityType::Client, text(rt, alloc, "a")).expect(rt, "an id")
 }
 
-fn generations(rt: &impl Abort) -> Generations {
-    let first = Generation {
-        id: 1,
-        key: [1; 16],
-        expires: 4600 * SECOND,
-    };
-    let second = Generation { id: 2, ..first };
-    let third = Generation { id: 3, ..first };
-    Generations::of(&[first, second, third]).expect(rt, "ids that rise by one")
+fn daemon(rt: &impl Abort, alloc: Global) -> EntityName {
+    EntityName::new(EntityType::Osd, text(rt, alloc, "0")).expect(rt, "an id")
 }
 
-/// The view of a daemon that fetched its generations, or of one that did not.
-fn view(rt: &impl Abort, is_fetched: bool) -> View {
-    if is_fetched {
-        View {
-            generations: generations(rt),
-            asked: Some(1000 * SECOND),
-        }
-    } else {
-        View {
-            generations: Generations::empty(),
-            asked: None,
-        }
-    }
+fn push(rt: &impl Abort, alloc: Global, journal: &mut Journal, entry: Entry) {
+    journal.push(alloc, entry).expect(rt, "memory");
 }
 
-fn operation(rt: &impl Abort, alloc: Global, asked: &Asked) -> Operation {
-    Operation {
-        access: asked.access,
-        pool: text(rt, alloc, asked.pool),
-        namespace: text(rt, alloc, ""),
-        object: text(rt, alloc, "obj1"),
-        bytes: blob(rt, alloc, asked.bytes),
-    }
-}
-
-fn issued(rt: &impl Abort, alloc: Global, ticket: &Ticket) -> Entry {
+fn issued(rt: &impl Abort, alloc: Global, service: EntityType, caps: &str, bytes: &[u8]) -> Entry {
     Entry::Issued(Issued {
-        entity: name(rt, alloc, ticket.entity),
-        service: ticket.service,
-        gid: ticket.gid,
+        entity: client(rt, alloc),
+        service,
+        gid: 2,
         generation: 2,
         created: 1000 * SECOND,
         expires: 4600 * SECOND,
-        caps: text(rt, alloc, ticket.caps),
-        blob: blob(rt, alloc, ticket.blob),
+        caps: text(rt, alloc, caps),
+        blob: blob(rt, alloc, bytes),
     })
 }
 
-fn fetched(rt: &impl Abort, alloc: Global) -> Entry {
-    Entry::Fetched(Fetched {
-        daemon: name(rt, alloc, EntityType::Osd),
+const OPENING: [Generation; 3] = [
+    Generation {
+        id: 1,
+        key: [1; 16],
+        expires: 4600 * SECOND,
+    },
+    Generation {
+        id: 2,
+        key: [2; 16],
+        expires: 8200 * SECOND,
+    },
+    Generation {
+        id: 3,
+        key: [3; 16],
+        expires: 11800 * SECOND,
+    },
+];
+
+fn generations(rt: &impl Abort) -> Generations {
+    Generations::of(&OPENING).expect(rt, "ids that rise by one")
+}
+
+fn looked(rt: &impl Abort, alloc: Global, link: u32, view: View) -> Entry {
+    Entry::Looked(Looked {
+        daemon: daemon(rt, alloc),
+        link,
+        view,
+    })
+}
+
+fn push_tickets(rt: &impl Abort, alloc: Global, journal: &mut Journal) {
+    push(rt, alloc, journal, Entry::Leaked(client(rt, alloc)));
+    push(rt, alloc, journal, Entry::Saved(u64::MAX));
+    push(
+        rt,
+        alloc,
+        journal,
+        issued(rt, alloc, EntityType::Auth, "", b"one"),
+    );
+    push(
+        rt,
+        alloc,
+        journal,
+        issued(rt, alloc, EntityType::Osd, "allow *", b"two"),
+    );
+    push(
+        rt,
+        alloc,
+        journal,
+        issued(rt, alloc, EntityType::Mgr, "allow r", b"two"),
+    );
+    let fetched = Fetched {
+        daemon: daemon(rt, alloc),
         asked: 1000 * SECOND,
         generations: generations(rt),
-    })
+    };
+    push(rt, alloc, journal, Entry::Fetched(fetched));
+    let view = View {
+        generations: generations(rt),
+        asked: Some(1000 * SECOND),
+    };
+    push(rt, alloc, journal, looked(rt, alloc, 3, view));
+    let empty = View {
+        generations: Generations::empty(),
+        asked: None,
+    };
+    push(rt, alloc, journal, looked(rt, alloc, 4, empty));
 }
 
-fn looked(rt: &impl Abort, alloc: Global, link: u32, is_fetched: bool) -> Entry {
-    Entry::Looked(Looked {
-        daemon: name(rt, alloc, EntityType::Osd),
-        link,
-        view: view(rt, is_fetched),
-    })
-}
-
-fn admitted(rt: &impl Abort, alloc: Global, cookie: u64, at: Reading) -> Entry {
-    Entry::Admitted(Admitted {
-        daemon: name(rt, alloc, EntityType::Osd),
+fn session(rt: &impl Abort, alloc: Global, epoch: u64, cookie: u64, at: Reading) -> Admitted {
+    Admitted {
+        daemon: daemon(rt, alloc),
         session: 1,
-        epoch: 1,
+        epoch,
         cookie,
-        entity: name(rt, alloc, EntityType::Client),
+        entity: client(rt, alloc),
         gid: 2,
         at,
         caps: text(rt, alloc, "allow *"),
-    })
+    }
 }
 
-fn sent(rt: &impl Abort, alloc: Global, cookie: u64, asked: &Asked) -> Entry {
+fn operation(
+    rt: &impl Abort,
+    alloc: Global,
+    access: Access,
+    pool: &str,
+    bytes: &[u8],
+) -> Operation {
+    Operation {
+        access,
+        pool: text(rt, alloc, pool),
+        namespace: text(rt, alloc, ""),
+        object: text(rt, alloc, "obj1"),
+        bytes: blob(rt, alloc, bytes),
+    }
+}
+
+fn sent(rt: &impl Abort, alloc: Global, cookie: u64) -> Entry {
     Entry::Sent(Sent {
-        client: name(rt, alloc, EntityType::Client),
-        daemon: name(rt, alloc, EntityType::Osd),
+        client: client(rt, alloc),
+        daemon: daemon(rt, alloc),
         cookie,
         seq: 1,
-        operation: operation(rt, alloc, asked),
+        operation: operation(rt, alloc, Access::Read, "rbd", b""),
     })
 }
 
-fn handled(rt: &impl Abort, alloc: Global, cookie: u64, asked: &Asked, outcome: Outcome) -> Entry {
+fn handled(rt: &impl Abort, alloc: Global, cookie: u64, outcome: Outcome) -> Entry {
     Entry::Handled(Handled {
-        daemon: name(rt, alloc, EntityType::Osd),
+        daemon: daemon(rt, alloc),
         session: 1,
         epoch: 1,
         cookie,
         seq: 1,
-        operation: operation(rt, alloc, asked),
+        operation: operation(rt, alloc, Access::Write, "", b"hi\xff"),
         outcome,
     })
 }
 
 fn answered(rt: &impl Abort, alloc: Global, cookie: u64, outcome: Outcome) -> Entry {
     Entry::Answered(Answered {
-        client: name(rt, alloc, EntityType::Client),
-        daemon: name(rt, alloc, EntityType::Osd),
+        client: client(rt, alloc),
+        daemon: daemon(rt, alloc),
         cookie,
         tid: 1,
         outcome,
     })
 }
 
-fn refused(rt: &impl Abort, alloc: Global, node: EntityType, link: u32, why: &Why) -> Entry {
-    let reason = match why {
-        Why::Ticket(fault, bytes) => Reason::Ticket(*fault, blob(rt, alloc, bytes)),
-        Why::Busy => Reason::Busy,
-        Why::NoTicket(service) => Reason::NoTicket(*service),
-        Why::NoSession => Reason::NoSession,
-        Why::Denied(code) => Reason::Denied(*code),
+fn push_sessions(rt: &impl Abort, alloc: Global, journal: &mut Journal) {
+    push(rt, alloc, journal, answered(rt, alloc, 9, Outcome::Denied));
+    push(
+        rt,
+        alloc,
+        journal,
+        Entry::Resumed(session(rt, alloc, 2, 8, 4_599_999_999_999)),
+    );
+    push(
+        rt,
+        alloc,
+        journal,
+        Entry::Admitted(session(rt, alloc, 1, 0, 1000 * SECOND)),
+    );
+    push(rt, alloc, journal, sent(rt, alloc, 0));
+    push(
+        rt,
+        alloc,
+        journal,
+        handled(rt, alloc, 8, Outcome::NoHandler),
+    );
+    push(rt, alloc, journal, handled(rt, alloc, 9, Outcome::Done));
+    let ended = Ended {
+        daemon: daemon(rt, alloc),
+        session: 1,
     };
-    Entry::Refused(Refused {
-        node: name(rt, alloc, node),
-        link,
+    push(rt, alloc, journal, Entry::Ended(ended));
+    push(rt, alloc, journal, Entry::Restarted(NodeName::Monitor));
+    push(
+        rt,
+        alloc,
+        journal,
+        Entry::Restarted(NodeName::Entity(client(rt, alloc))),
+    );
+}
+
+static KINDS: [KeyKind; 11] = [
+    KeyKind::Principal,
+    KeyKind::Auth,
+    KeyKind::Service,
+    KeyKind::Session,
+    KeyKind::Connection,
+    KeyKind::Proof,
+    KeyKind::Signature,
+    KeyKind::Challenge,
+    KeyKind::Nonce,
+    KeyKind::Cookie,
+    KeyKind::Rotation,
+];
+
+fn push_broken(rt: &impl Abort, alloc: Global, journal: &mut Journal) {
+    for kind in &KINDS {
+        let broken = Broken {
+            why: Premise::Draw,
+            node: NodeName::Entity(client(rt, alloc)),
+            kind: *kind,
+            line: 7,
+        };
+        push(rt, alloc, journal, Entry::Broken(broken));
+    }
+    let broken = Broken {
+        why: Premise::Sealing,
+        node: NodeName::Monitor,
+        kind: KeyKind::Proof,
+        line: 8,
+    };
+    push(rt, alloc, journal, Entry::Broken(broken));
+}
+
+static BYTES: [BytesFault; 10] = [
+    BytesFault::BadBanner,
+    BytesFault::Features(2),
+    BytesFault::BadCrc,
+    BytesFault::BadShape,
+    BytesFault::TooLong,
+    BytesFault::BadTag,
+    BytesFault::Aborted,
+    BytesFault::CounterSpent,
+    BytesFault::Unexpected(17),
+    BytesFault::Malformed(4),
+];
+
+static LOGIN: [LoginFault; 10] = [
+    LoginFault::Method,
+    LoginFault::Mode,
+    LoginFault::UnknownEntity,
+    LoginFault::WrongProof,
+    LoginFault::Reclaim(1),
+    LoginFault::GidsSpent,
+    LoginFault::IdsSpent,
+    LoginFault::SignatureWrong,
+    LoginFault::Unopened,
+    LoginFault::NonceWrong {
+        expected: 5,
+        got: 6,
+    },
+];
+
+static TICKET: [TicketFault; 6] = [
+    TicketFault::UnknownGeneration(4),
+    TicketFault::TicketUnopened(2),
+    TicketFault::GidDiffers {
+        claimed: 3,
+        sealed: 2,
+    },
+    TicketFault::Expired(4600 * SECOND, 4600 * SECOND + 1),
+    TicketFault::AuthorizerUnopened,
+    TicketFault::ChallengeWrong {
+        expected: 7,
+        got: 8,
+    },
+];
+
+fn refuse(rt: &impl Abort, alloc: Global, journal: &mut Journal, node: NodeName, reason: Reason) {
+    let refused = Refused {
+        node,
+        link: 3,
         reason,
-    })
+    };
+    push(rt, alloc, journal, Entry::Refused(refused));
 }
 
-fn entry(rt: &impl Abort, alloc: Global, told: &Told) -> Entry {
-    match told {
-        Told::Saved(next) => Entry::Saved(*next),
-        Told::Issued(ticket) => issued(rt, alloc, ticket),
-        Told::Fetched => fetched(rt, alloc),
-        Told::Looked(link, is_fetched) => looked(rt, alloc, *link, *is_fetched),
-        Told::Admitted(cookie, at) => admitted(rt, alloc, *cookie, *at),
-        Told::Sent(cookie, asked) => sent(rt, alloc, *cookie, asked),
-        Told::Handled(cookie, asked, outcome) => handled(rt, alloc, *cookie, asked, *outcome),
-        Told::Answered(cookie, outcome) => answered(rt, alloc, *cookie, *outcome),
-        Told::Refused(node, link, why) => refused(rt, alloc, *node, *link, why),
+fn refuse_at_monitor(rt: &impl Abort, alloc: Global, journal: &mut Journal, reason: Reason) {
+    refuse(rt, alloc, journal, NodeName::Monitor, reason);
+}
+
+fn refuse_at_client(rt: &impl Abort, alloc: Global, journal: &mut Journal, reason: Reason) {
+    refuse(
+        rt,
+        alloc,
+        journal,
+        NodeName::Entity(client(rt, alloc)),
+        reason,
+    );
+}
+
+fn refuse_at_daemon(rt: &impl Abort, alloc: Global, journal: &mut Journal, reason: Reason) {
+    refuse(
+        rt,
+        alloc,
+        journal,
+        NodeName::Entity(daemon(rt, alloc)),
+        reason,
+    );
+}
+
+fn push_refusals(rt: &impl Abort, alloc: Global, journal: &mut Journal) {
+    for fault in &BYTES {
+        refuse_at_monitor(rt, alloc, journal, Reason::Bytes(*fault));
     }
-}
-
-fn push_all(rt: &impl Abort, alloc: Global, journal: &mut Journal, rows: &[Row]) {
-    for (told, _) in rows {
-        journal
-            .push(alloc, entry(rt, alloc, told))
-            .expect(rt, "memory");
+    for fault in &LOGIN {
+        refuse_at_monitor(rt, alloc, journal, Reason::Login(*fault));
     }
+    refuse_at_monitor(rt, alloc, journal, Reason::LinksFull);
+    refuse_at_monitor(rt, alloc, journal, Reason::NotADaemon);
+    refuse_at_monitor(rt, alloc, journal, Reason::BadRequest);
 }
 
-fn journal_of(rt: &impl Abort, alloc: Global, rows: &[Row]) -> Journal {
-    let mut journal = Journal::new(alloc);
-    push_all(rt, alloc, &mut journal, rows);
-    journal
+fn push_client_refusals(rt: &impl Abort, alloc: Global, journal: &mut Journal) {
+    refuse_at_client(rt, alloc, journal, Reason::BadReply);
+    refuse_at_client(rt, alloc, journal, Reason::Denied(13));
+    refuse_at_client(rt, alloc, journal, Reason::Reset);
+    refuse_at_client(rt, alloc, journal, Reason::Lost);
+    refuse_at_client(rt, alloc, journal, Reason::NoTicket(EntityType::Mds));
+    refuse_at_client(rt, alloc, journal, Reason::NoSession);
+    refuse_at_client(rt, alloc, journal, Reason::NoLink);
+    refuse_at_client(rt, alloc, journal, Reason::Busy);
+    refuse_at_client(rt, alloc, journal, Reason::QueueFull);
+    refuse_at_client(rt, alloc, journal, Reason::Spent);
 }
 
-/// These bytes with the rows' lines behind them.
-fn lines_behind(rt: &impl Abort, alloc: Global, before: &str, rows: &[Row]) -> String {
-    let mut text = String::from_str(alloc, before).expect(rt, "memory");
-    for (_, line) in rows {
-        text.push_str(line).expect(rt, "memory");
+fn refuse_session(rt: &impl Abort, alloc: Global, journal: &mut Journal, fault: SessionFault) {
+    let copied = fault.copy(alloc).expect(rt, "memory");
+    refuse_at_daemon(rt, alloc, journal, Reason::Session(copied));
+}
+
+fn push_session_refusals(rt: &impl Abort, alloc: Global, journal: &mut Journal) {
+    refuse_session(rt, alloc, journal, SessionFault::BookFull);
+    refuse_session(rt, alloc, journal, SessionFault::CookieInUse(1));
+    refuse_session(rt, alloc, journal, SessionFault::UnknownSession);
+    let differs = SessionFault::OwnerDiffers {
+        entity: client(rt, alloc),
+        gid: 2,
+    };
+    refuse_session(rt, alloc, journal, differs);
+    refuse_session(rt, alloc, journal, SessionFault::StaleConnect(2));
+    refuse_session(rt, alloc, journal, SessionFault::StaleGlobal(3));
+    refuse_session(rt, alloc, journal, SessionFault::Gap(4));
+    refuse_session(rt, alloc, journal, SessionFault::Stale(5));
+}
+
+fn push_ticket_refusals(rt: &impl Abort, alloc: Global, journal: &mut Journal) {
+    for fault in &TICKET {
+        let reason = Reason::Ticket(*fault, blob(rt, alloc, b"two"));
+        refuse_at_daemon(rt, alloc, journal, reason);
     }
-    text
+    let unknown = Reason::Ticket(TicketFault::AuthorizerUnopened, blob(rt, alloc, b"six"));
+    refuse_at_daemon(rt, alloc, journal, unknown);
+    let wrong = Reason::WrongService {
+        kept: EntityType::Osd,
+        got: EntityType::Mgr,
+    };
+    refuse_at_daemon(rt, alloc, journal, wrong);
 }
 
-/// These bytes with the text of the journal behind them.
+/// This text with the text of the journal behind it.
 fn text_behind(rt: &impl Abort, alloc: Global, before: &str, journal: &Journal) -> Blob {
     let mut text = blob(rt, alloc, before.as_bytes());
     put_text(alloc, journal, &mut text).expect(rt, "memory");
     text
 }
 
-/// The text of the journal, put behind these bytes, has the rows' lines.
-fn check_text(rt: &impl Abort, alloc: Global, before: &str, journal: &Journal, rows: &[Row]) {
-    let text = text_behind(rt, alloc, before, journal);
-    let wanted = lines_behind(rt, alloc, before, rows);
+fn check_text(rt: &impl Abort, alloc: Global, journal: &Journal, wanted: &str) {
+    let text = text_behind(rt, alloc, "behind\n", journal);
     let printed = str::from_utf8(text.bytes()).expect(rt, "UTF-8");
-    assert!(rt; printed == wanted.as_str(), "printed:\n{}", printed);
+    assert!(rt; printed == wanted, "printed:\n{}", printed);
 }
 
-fn copy(rt: &impl Abort, alloc: Global, journal: &Journal) -> Journal {
-    journal.copy(alloc).expect(rt, "memory")
-}
-
-static EACH_KIND: [Row; 10] = [
-    (Told::Saved(2), "saved 2\n"),
-    (
-        Told::Issued(DAEMON_TICKET),
-        "issued 1 osd.0 auth 1 2 1000 4600 \"\"\n",
-    ),
-    (Told::Fetched, "fetched osd.0 1000 1,2,3\n"),
-    (
-        Told::Issued(TICKET_TWO),
-        "issued 2 client.a osd 2 2 1000 4600 \"allow *\"\n",
-    ),
-    (Told::Looked(3, true), "looked osd.0 3 1,2,3 1000\n"),
-    (Told::Looked(4, false), "looked osd.0 4 - -\n"),
-    (
-        Told::Admitted(77, 1000 * SECOND),
-        "admitted osd.0 1 1 c1 client.a 2 1000 \"allow *\"\n",
-    ),
-    (
-        Told::Sent(77, READING),
-        "sent client.a osd.0 c1 1 read rbd - obj1 -\n",
-    ),
-    (
-        Told::Handled(77, READING, Outcome::Done),
-        "handled osd.0 1 1 c1 1 read rbd - obj1 - done\n",
-    ),
-    (
-        Told::Answered(77, Outcome::Done),
-        "answered client.a osd.0 1 done\n",
-    ),
-];
+const ENTRIES: &str = "behind
+leaked client.a
+saved 18446744073709551615
+issued 1 client.a auth 2 2 1000 4600 \"\"
+issued 2 client.a osd 2 2 1000 4600 \"allow *\"
+issued 3 client.a mgr 2 2 1000 4600 \"allow r\"
+fetched osd.0 1000 1,2,3
+looked osd.0 3 1,2,3 1000
+looked osd.0 4 - -
+answered client.a osd.0 1 denied
+resumed osd.0 1 2 c2 client.a 2 4599.999999999 \"allow *\"
+admitted osd.0 1 1 c3 client.a 2 1000 \"allow *\"
+sent client.a osd.0 c3 1 read rbd - obj1 -
+handled osd.0 1 1 c2 1 write - - obj1 6869ff no-handler
+handled osd.0 1 1 c1 1 write - - obj1 6869ff done
+ended osd.0 1
+restarted mon
+restarted client.a
+broken draw client.a principal 7
+broken draw client.a auth 7
+broken draw client.a service 7
+broken draw client.a session 7
+broken draw client.a connection 7
+broken draw client.a proof 7
+broken draw client.a signature 7
+broken draw client.a challenge 7
+broken draw client.a nonce 7
+broken draw client.a cookie 7
+broken draw client.a rotation 7
+broken sealing mon proof 8
+";
 
 #[test]
 fn each_kind_of_entry_has_its_line(rt: HostRuntime) {
     let alloc = rt.alloc();
-    let journal = journal_of(&rt, alloc, &EACH_KIND);
-    check_text(&rt, alloc, "", &journal, &EACH_KIND);
-    assert!(rt; copy(&rt, alloc, &journal) == journal);
+    let mut journal = Journal::new(alloc);
+    push_tickets(&rt, alloc, &mut journal);
+    push_sessions(&rt, alloc, &mut journal);
+    push_broken(&rt, alloc, &mut journal);
+    check_text(&rt, alloc, &journal, ENTRIES);
+    let copied = journal.copy(alloc).expect(&rt, "memory");
+    assert!(rt; copied == journal);
+    session_laws();
 }
 
-static REASONS: [Row; 10] = [
-    (
-        Told::Saved(18446744073709551615),
-        "saved 18446744073709551615\n",
-    ),
-    (
-        Told::Issued(TICKET_ONE),
-        "issued 1 client.a osd 2 2 1000 4600 \"allow *\"\n",
-    ),
-    (
-        Told::Issued(TICKET_TWO),
-        "issued 2 client.a osd 2 2 1000 4600 \"allow *\"\n",
-    ),
-    (
-        Told::Issued(MANAGER_TICKET_TWO),
-        "issued 3 client.a mgr 2 2 1000 4600 \"allow r\"\n",
-    ),
-    (
-        Told::Refused(
-            EntityType::Osd,
-            3,
-            Why::Ticket(
-                TicketFault::Expired(4600 * SECOND, 4600 * SECOND + 1),
-                b"two",
-            ),
-        ),
-        "refused osd.0 3 expired 4600 4600.000000001 ticket=2\n",
-    ),
-    (
-        Told::Refused(
-            EntityType::Osd,
-            3,
-            Why::Ticket(TicketFault::UnknownGeneration(4), b"three"),
-        ),
-        "refused osd.0 3 unknown-generation 4 ticket=0\n",
-    ),
-    (
-        Told::Refused(EntityType::Client, 3, Why::Denied(13)),
-        "refused client.a 3 denied 13\n",
-    ),
-    (
-        Told::Refused(EntityType::Client, 0, Why::NoTicket(EntityType::Mds)),
-        "refused client.a 0 no-ticket mds\n",
-    ),
-    (
-        Told::Refused(EntityType::Client, 0, Why::NoSession),
-        "refused client.a 0 no-session\n",
-    ),
-    (
-        Told::Refused(EntityType::Client, 0, Why::Busy),
-        "refused client.a 0 busy\n",
-    ),
-];
-
-/// A ticket that is given up again.
-static GIVEN_UP: [Row; 1] = [(Told::Issued(TICKET_TWO), "")];
+const REFUSALS: &str = "behind
+refused mon 3 bad-banner
+refused mon 3 features 2
+refused mon 3 bad-crc
+refused mon 3 bad-shape
+refused mon 3 too-long
+refused mon 3 bad-tag
+refused mon 3 aborted
+refused mon 3 counter-spent
+refused mon 3 unexpected 17
+refused mon 3 malformed 4
+refused mon 3 method
+refused mon 3 mode
+refused mon 3 unknown-entity
+refused mon 3 wrong-proof
+refused mon 3 reclaim 1
+refused mon 3 gids-spent
+refused mon 3 ids-spent
+refused mon 3 signature-wrong
+refused mon 3 unopened
+refused mon 3 nonce-wrong 5 6
+refused mon 3 links-full 1024
+refused mon 3 not-a-daemon
+refused mon 3 bad-request
+refused client.a 3 bad-reply
+refused client.a 3 denied 13
+refused client.a 3 reset
+refused client.a 3 lost
+refused client.a 3 no-ticket mds
+refused client.a 3 no-session
+refused client.a 3 no-link
+refused client.a 3 busy
+refused client.a 3 queue-full 1024
+refused client.a 3 spent
+refused osd.0 3 book-full 4096
+refused osd.0 3 cookie-in-use 1
+refused osd.0 3 unknown-session
+refused osd.0 3 owner-differs client.a 2
+refused osd.0 3 stale-connect 2
+refused osd.0 3 stale-global 3
+refused osd.0 3 gap 4
+refused osd.0 3 stale 5
+";
 
 #[test]
-fn each_reason_has_its_words_and_a_ticket_its_first_number(rt: HostRuntime) {
+fn each_reason_has_its_words(rt: HostRuntime) {
     let alloc = rt.alloc();
-    let mut journal = journal_of(&rt, alloc, &REASONS[..3]);
-    push_all(&rt, alloc, &mut journal, &GIVEN_UP);
-    journal.truncate(3);
-    push_all(&rt, alloc, &mut journal, &REASONS[3..]);
-    check_text(&rt, alloc, "", &journal, &REASONS);
+    let mut journal = Journal::new(alloc);
+    push_refusals(&rt, alloc, &mut journal);
+    push_client_refusals(&rt, alloc, &mut journal);
+    push_session_refusals(&rt, alloc, &mut journal);
+    check_text(&rt, alloc, &journal, REFUSALS);
 }
 
-static TWO_COOKIES: [Row; 4] = [
-    (
-        Told::Answered(9, Outcome::Denied),
-        "answered client.a osd.0 1 denied\n",
-    ),
-    (
-        Told::Admitted(0, 4599999999999),
-        "admitted osd.0 1 1 c2 client.a 2 4599.999999999 \"allow *\"\n",
-    ),
-    (
-        Told::Sent(9, WRITING),
-        "sent client.a osd.0 c1 1 write - - obj1 6869ff\n",
-    ),
-    (
-        Told::Handled(0, WRITING, Outcome::NoHandler),
-        "handled osd.0 1 1 c2 1 write - - obj1 6869ff no-handler\n",
-    ),
-];
+const TICKET_REFUSALS: &str = "behind
+issued 1 client.a osd 2 2 1000 4600 \"\"
+issued 2 client.a osd 2 2 1000 4600 \"\"
+issued 3 client.a mgr 2 2 1000 4600 \"\"
+refused osd.0 3 unknown-generation 4 ticket=2
+refused osd.0 3 ticket-unopened 2 ticket=2
+refused osd.0 3 gid-differs 3 2 ticket=2
+refused osd.0 3 expired 4600 4600.000000001 ticket=2
+refused osd.0 3 authorizer-unopened ticket=2
+refused osd.0 3 challenge-wrong 7 8 ticket=2
+refused osd.0 3 authorizer-unopened ticket=0
+refused osd.0 3 wrong-service osd mgr
+";
 
 #[test]
-fn a_cookie_keeps_the_rank_of_its_first_appearance(rt: HostRuntime) {
+fn a_refused_ticket_has_the_number_of_its_first_issue(rt: HostRuntime) {
     let alloc = rt.alloc();
-    let journal = journal_of(&rt, alloc, &TWO_COOKIES);
-    check_text(&rt, alloc, "behind:\n", &journal, &TWO_COOKIES);
-}
-
-/// A ticket whose blob is this number.
-fn numbered(rt: &impl Abort, alloc: Global, number: u64) -> Entry {
-    Entry::Issued(Issued {
-        entity: name(rt, alloc, EntityType::Client),
-        service: EntityType::Osd,
-        gid: 2,
-        generation: 2,
-        created: 0,
-        expires: SECOND,
-        caps: text(rt, alloc, ""),
-        blob: blob(rt, alloc, &number.to_le_bytes()),
-    })
+    let mut journal = Journal::new(alloc);
+    push(
+        &rt,
+        alloc,
+        &mut journal,
+        issued(&rt, alloc, EntityType::Osd, "", b"one"),
+    );
+    push(
+        &rt,
+        alloc,
+        &mut journal,
+        issued(&rt, alloc, EntityType::Osd, "", b"two"),
+    );
+    push(
+        &rt,
+        alloc,
+        &mut journal,
+        issued(&rt, alloc, EntityType::Osd, "", b"six"),
+    );
+    journal.truncate(2);
+    push(
+        &rt,
+        alloc,
+        &mut journal,
+        issued(&rt, alloc, EntityType::Mgr, "", b"two"),
+    );
+    push_ticket_refusals(&rt, alloc, &mut journal);
+    check_text(&rt, alloc, &journal, TICKET_REFUSALS);
 }
 
 /// So many tickets, each of a blob of its own, and so many operations sent, each with a cookie of its own.
 fn long_journal(rt: &impl Abort, alloc: Global, count: u64) -> Journal {
     let mut journal = Journal::new(alloc);
     for number in 1..=count {
-        journal
-            .push(alloc, numbered(rt, alloc, number))
-            .expect(rt, "memory");
-        journal
-            .push(alloc, sent(rt, alloc, number, &READING))
-            .expect(rt, "memory");
+        let bytes = number.to_le_bytes();
+        push(
+            rt,
+            alloc,
+            &mut journal,
+            issued(rt, alloc, EntityType::Osd, "", &bytes),
+        );
+        push(rt, alloc, &mut journal, sent(rt, alloc, number));
     }
     journal
 }
 
 const LAST_LINES: &str =
-    "issued 70000 client.a osd 2 2 0 1 \"\"\nsent client.a osd.0 c70000 1 read rbd - obj1 -\n";
+    "issued 70000 client.a osd 2 2 1000 4600 \"\"\nsent client.a osd.0 c70000 1 read rbd - obj1 -\n";
 
 #[test]
 fn a_journal_of_140_000_entries_is_written(rt: HostRuntime) {
     let alloc = rt.alloc();
     let journal = long_journal(&rt, alloc, 70_000);
-    assert_eq!(rt; copy(&rt, alloc, &journal).all().len(), 140_000);
-    let text = text_behind(&rt, alloc, "", &journal);
+    assert_eq!(rt; journal.all().len(), 140_000);
+    let copied = journal.copy(alloc).expect(&rt, "memory");
+    let text = text_behind(&rt, alloc, "", &copied);
     assert!(rt; text.bytes().ends_with(LAST_LINES.as_bytes()));
 }

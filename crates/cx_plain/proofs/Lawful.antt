@@ -15,6 +15,7 @@ use Rattle.cx_journal.specs.declared.entries.Issued.{Issued}
 use Rattle.cx_journal.specs.declared.entries.Looked.{Looked}
 use Rattle.cx_journal.specs.declared.entries.Admitted.{Admitted}
 use Rattle.cx_journal.specs.declared.outcomes.Outcome.{Outcome}
+use Rattle.cx_journal.specs.declared.node_names.NodeName.TheVariants as node
 use Rattle.cx_journal.specs.declared.outcomes.Reason.TheVariants as reason
 use Rattle.cx_journal.specs.declared.outcomes.TicketFault.TheVariants as fault
 use Rattle.cx_lines.specs.declared.lines.Grant.{Grant}
@@ -81,7 +82,7 @@ unfolding denying refusing looking
 unknown-keeps r client daemon link view generation blob holds lacks =
     let look : Looked = record { daemon = daemon; link = link; view = view } in
     let looked : List Entry = r.journal ++ entry.Looked look ∷ [] in
-    let refused : Entry = entry.Refused (record { node = daemon; link = link; reason = reason.Ticket (fault.UnknownGeneration generation) blob }) in
+    let refused : Entry = entry.Refused (record { node = node.Entity daemon; link = link; reason = reason.Ticket (fault.UnknownGeneration generation) blob }) in
     let lacks_key : LacksKey looked daemon link generation = record {
       before = r.journal;
       look = look;
@@ -97,7 +98,7 @@ unknown-keeps r client daemon link view generation blob holds lacks =
 expired-keeps : {handlers : Handlers} (r : Run) (client daemon : Name) (link expires now : ℕ) (blob : List ℕ) → HoldsRun handlers r → HoldsRun handlers (denying r client daemon link (fault.Expired expires now) blob)
 unfolding denying refusing
 expired-keeps r client daemon link expires now blob holds =
-    let refused : Entry = entry.Refused (record { node = daemon; link = link; reason = reason.Ticket (fault.Expired expires now) blob }) in
+    let refused : Entry = entry.Refused (record { node = node.Entity daemon; link = link; reason = reason.Ticket (fault.Expired expires now) blob }) in
     holds-push (r.journal ++ refused ∷ []) r.nodes _ (holds-push r.journal r.nodes refused holds tt tt tt tt tt) tt tt tt tt tt
 
 -- a session that is admitted on a genuine ticket before it expires is backed

@@ -13,9 +13,10 @@ use Rattle.cx_caps.proofs.Laws.{allowed, denied}
 use Rattle.cx_desk.specs.Handlers.{Handlers}
 use Rattle.cx_journal.specs.Behind.{EachBehind}
 use Rattle.cx_journal.specs.Backed.{IsBackedBy}
-use Rattle.cx_journal.specs.InSession.{IsInSessionBy, ends_session}
+use Rattle.cx_journal.specs.InSession.{IsInSessionBy}
+use Rattle.cx_journal.specs.Sessions.{IsHandledIn, ends_session, is_opening}
 use Rattle.cx_journal.specs.KeepsKeys.{KeepsKeysBy}
-use Rattle.cx_journal.specs.Enforced.{IsEnforcedBy, IsOutcome, is_admission}
+use Rattle.cx_journal.specs.Enforced.{IsEnforcedBy, IsOutcome}
 use Rattle.cx_journal.specs.declared.entries.Entry.{Entry}
 use Rattle.cx_journal.specs.declared.entries.Entry.TheVariants as entry
 use Rattle.cx_journal.specs.declared.entries.Issued.{Issued}
@@ -42,14 +43,20 @@ pub record HoldsGenuine (journal : List Entry) (name : Name) (wallet : Wallet) :
   pub osd : IsGenuine journal name Osd wallet.osd
   pub mgr : IsGenuine journal name Mgr wallet.mgr
 
--- the entry admits no session of this cookie
+-- the entry admits no session of this cookie. A plain run resumes and ends none, and restarts no node
 abbrev pub IsOther : ℕ → Entry → Type 0
 IsOther cookie (entry.Admitted a) = (a.cookie == cookie) ≡ false
+IsOther cookie (entry.Resumed _) = ⊥
+IsOther cookie (entry.Ended _) = ⊥
+IsOther cookie (entry.Restarted _) = ⊥
 IsOther cookie _ = Unit {0}
 
 -- what the entry admits has a cookie that wasn't drawn so far
 abbrev pub IsNew : ℕ → Entry → Type 0
 IsNew cookies (entry.Admitted a) = cookies < a.cookie
+IsNew cookies (entry.Resumed _) = ⊥
+IsNew cookies (entry.Ended _) = ⊥
+IsNew cookies (entry.Restarted _) = ⊥
 IsNew cookies _ = Unit {0}
 
 -- a session was admitted before, none of its cookie was since, and its cookie is one of those drawn
@@ -99,10 +106,15 @@ other cookie cookies (entry.Issued _) drawn new = tt
 other cookie cookies (entry.Fetched _) drawn new = tt
 other cookie cookies (entry.Looked _) drawn new = tt
 other cookie cookies (entry.Admitted a) drawn new = grind (arith, nat_tests, drawn, new)
+other cookie cookies (entry.Resumed _) drawn new = new
 other cookie cookies (entry.Sent _) drawn new = tt
 other cookie cookies (entry.Handled _) drawn new = tt
 other cookie cookies (entry.Answered _) drawn new = tt
 other cookie cookies (entry.Refused _) drawn new = tt
+other cookie cookies (entry.Ended _) drawn new = new
+other cookie cookies (entry.Restarted _) drawn new = new
+other cookie cookies (entry.Broken _) drawn new = tt
+other cookie cookies (entry.Leaked _) drawn new = tt
 
 pub admitted-more : (cookies : ℕ) (journal : List Entry) (e : Entry) → IsNew cookies e → (session : Session) → WasAdmitted cookies journal session → WasAdmitted cookies (journal ++ e ∷ []) session
 admitted-more cookies journal e new session was = record {
@@ -205,45 +217,56 @@ held-genuine journal name wallet Client held = tt
 
 -- ---- sessions
 
-none_ends : (daemon : Name) (session : ℕ) (e : Entry) → ends_session daemon session e ≡ false
-none_ends daemon session (entry.Saved _) = refl
-none_ends daemon session (entry.Issued _) = refl
-none_ends daemon session (entry.Fetched _) = refl
-none_ends daemon session (entry.Looked _) = refl
-none_ends daemon session (entry.Admitted _) = refl
-none_ends daemon session (entry.Sent _) = refl
-none_ends daemon session (entry.Handled _) = refl
-none_ends daemon session (entry.Answered _) = refl
-none_ends daemon session (entry.Refused _) = refl
+none_ends : (cookie : ℕ) (daemon : Name) (session : ℕ) (e : Entry) → IsOther cookie e → ends_session daemon session e ≡ false
+none_ends cookie daemon session (entry.Resumed _) is = absurd is
+none_ends cookie daemon session (entry.Ended _) is = absurd is
+none_ends cookie daemon session (entry.Restarted _) is = absurd is
+none_ends cookie daemon session _ is = refl
 
-none_end : (daemon : Name) (session : ℕ) (es : List Entry) → list_any (ends_session daemon session) es ≡ false
-none_end daemon session [] = refl
-none_end daemon session (e ∷ es) = rw (none_ends daemon session e) (none_end daemon session es)
+none_end : (cookie : ℕ) (daemon : Name) (session : ℕ) (es : List Entry) → AllByRecursion (IsOther cookie) es → list_any (ends_session daemon session) es ≡ false
+none_end cookie daemon session [] all = refl
+none_end cookie daemon session (e ∷ es) all = rw (none_ends cookie daemon session e all.0) (none_end cookie daemon session es all.1)
 
--- an operation in a session that was admitted is in session
+no_opening : (handled : Handled) (e : Entry) → IsOther handled.cookie e → is_opening handled e ≡ false
+no_opening handled (entry.Admitted a) is = rw is refl
+no_opening handled (entry.Resumed _) is = absurd is
+no_opening handled _ is = refl
+
+none_opens : (handled : Handled) (es : List Entry) → AllByRecursion (IsOther handled.cookie) es → list_any (is_opening handled) es ≡ false
+none_opens handled [] all = refl
+none_opens handled (e ∷ es) all = rw (no_opening handled e all.0) (none_opens handled es all.1)
+
+-- an operation at this seq of the session
+abbrev handling : Name → Session → ℕ → Operation → Outcome → Handled
+handling daemon session seq operation ended = record {
+  daemon = daemon;
+  session = session.place.number;
+  epoch = 1;
+  cookie = session.place.cookie;
+  seq = seq;
+  operation = operation;
+  outcome = ended;
+}
+
+-- it is handled in the session that was admitted
+handled-in : (cookies : ℕ) (journal : List Entry) (session : Session) (daemon : Name) (seq : ℕ) (operation : Operation) (ended : Outcome) → (was : WasAdmitted cookies journal session) → session.daemon ≡ daemon → IsHandledIn journal (handling daemon session seq operation ended) was.admission
+handled-in cookies journal session daemon seq operation ended was is_daemon = record {
+  before = was.before;
+  opening = entry.Admitted was.admission;
+  between = was.between;
+  place = was.entered;
+  opens = refl;
+  admits = record { daemon = was.daemon ∙ is_daemon; session = was.number; epoch = was.epoch; cookie = was.cookie };
+  stands = none_end session.place.cookie daemon session.place.number was.between was.latest;
+  latest = none_opens (handling daemon session seq operation ended) was.between was.latest;
+}
+
+-- so it is in session
 pub handled-in_session : (cookies : ℕ) (journal : List Entry) (session : Session) (daemon : Name) (seq : ℕ) (operation : Operation) (ended : Outcome) → WasAdmitted cookies journal session → session.daemon ≡ daemon → IsInSessionBy journal (handled_at daemon (record session.place { seq = seq }) operation ended)
-handled-in_session cookies journal session daemon seq operation ended was is_daemon = (
-  was.before,
-  was.admission,
-  was.between,
-  was.entered,
-  record { daemon = was.daemon ∙ is_daemon; session = was.number; epoch = was.epoch; cookie = was.cookie },
-  none_end daemon session.place.number was.between,
-)
+handled-in_session cookies journal session daemon seq operation ended was is_daemon =
+    (was.admission, handled-in cookies journal session daemon seq operation ended was is_daemon)
 
 -- ---- outcomes
-
-none_admits : (handled : Handled) (es : List Entry) → AllByRecursion (IsOther handled.cookie) es → list_any (is_admission handled) es ≡ false
-none_admits handled [] all = refl
-none_admits handled (entry.Saved _ ∷ es) all = none_admits handled es all.1
-none_admits handled (entry.Issued _ ∷ es) all = none_admits handled es all.1
-none_admits handled (entry.Fetched _ ∷ es) all = none_admits handled es all.1
-none_admits handled (entry.Looked _ ∷ es) all = none_admits handled es all.1
-none_admits handled (entry.Admitted a ∷ es) all = rw all.0 (none_admits handled es all.1)
-none_admits handled (entry.Sent _ ∷ es) all = none_admits handled es all.1
-none_admits handled (entry.Handled _ ∷ es) all = none_admits handled es all.1
-none_admits handled (entry.Answered _ ∷ es) all = none_admits handled es all.1
-none_admits handled (entry.Refused _ ∷ es) all = none_admits handled es all.1
 
 outcome_by : (handlers : Handlers) (caps : List ℕ) (operation : Operation) (allows has : Bool) → cap_allows caps operation ≡ allows → serves handlers operation.access ≡ has → IsOutcome (serves handlers) caps operation (if allows then (if has then outcome.Done else outcome.NoHandler) else outcome.Denied)
 outcome_by handlers caps operation false has refused is = denied caps operation refused
@@ -252,23 +275,8 @@ outcome_by handlers caps operation true true passed is = (allowed caps operation
 
 -- the outcome in a session is the one under the caps that it was admitted with
 pub handled-enforced : (handlers : Handlers) (cookies : ℕ) (journal : List Entry) (session : Session) (daemon : Name) (seq : ℕ) (operation : Operation) → WasAdmitted cookies journal session → session.daemon ≡ daemon → IsEnforcedBy (serves handlers) journal (handled_at daemon (record session.place { seq = seq }) operation (outcome_of handlers session.caps operation))
-handled-enforced handlers cookies journal session daemon seq operation was is_daemon =
-    let handled : Handled = record {
-      daemon = daemon;
-      session = session.place.number;
-      epoch = 1;
-      cookie = session.place.cookie;
-      seq = seq;
-      operation = operation;
-      outcome = outcome_of handlers session.caps operation;
-    } in
-    record {
-      before = was.before;
-      admission = was.admission;
-      between = was.between;
-      place = was.entered;
-      admits = record { daemon = was.daemon ∙ is_daemon; session = was.number; epoch = was.epoch; cookie = was.cookie };
-      latest = none_admits handled was.between was.latest;
-      outcome =
-          rw was.caps (outcome_by handlers session.caps operation (cap_allows session.caps operation) (serves handlers operation.access) refl refl);
-    }
+handled-enforced handlers cookies journal session daemon seq operation was is_daemon = record {
+  session = was.admission;
+  handled_in = handled-in cookies journal session daemon seq operation (outcome_of handlers session.caps operation) was is_daemon;
+  outcome = rw was.caps (outcome_by handlers session.caps operation (cap_allows session.caps operation) (serves handlers operation.access) refl refl);
+}

@@ -19,6 +19,7 @@ use Rattle.cx_journal.specs.declared.entries.Entry.{Entry}
 use Rattle.cx_journal.specs.declared.entries.Entry.TheVariants as entry
 use Rattle.cx_journal.specs.declared.entries.Issued.{Issued}
 use Rattle.cx_journal.specs.declared.entries.Admitted.{Admitted}
+use Rattle.cx_journal.specs.declared.node_names.NodeName.TheVariants as node
 use Rattle.cx_journal.specs.declared.outcomes.Reason.{Reason}
 use Rattle.cx_journal.specs.declared.outcomes.Reason.TheVariants as reason
 use Rattle.cx_journal.specs.declared.outcomes.TicketFault.{TicketFault}
@@ -70,7 +71,7 @@ entering r e = record r { journal = r.journal ++ e ∷ [] }
 
 -- a node refuses, on a link or on none (0)
 unfoldable pub refusing : Run → Name → ℕ → Reason → Run
-refusing r name link why = entering r (entry.Refused (record { node = name; link = link; reason = why }))
+refusing r name link why = entering r (entry.Refused (record { node = node.Entity name; link = link; reason = why }))
 
 -- a daemon looks at its view for an authorizer on this link
 unfoldable pub looking : Run → Name → ℕ → View → Run

@@ -1,0 +1,5 @@
+pub mod Breach
+pub mod Draws
+pub mod Nothing
+pub mod Onto
+pub mod Premises
