@@ -1,6 +1,6 @@
 -- Who gets which ticket, and under which secrets it is sealed ("Cephx": the monitor issues a principal a ticket for a service,
 -- sealed under the rotating secret of that service, and tells it the session key under a key that it shares with the principal).
-use Rattle.std.specs.Prelude.{ℕ, ◌≡◌, ◌+◌, nat_lt, List, [], ◌∷◌, Option, Some, None, Result, Ok, Err, find, if◌then◌else◌}
+use Rattle.std.specs.Prelude.{ℕ, ◌≡◌, ◌+◌, Bool, true, false, nat_lt, List, [], ◌∷◌, Option, Some, None, Result, Ok, Err, find, if◌then◌else◌}
 use Rattle.std.specs.Option.{option_map}
 use Rattle.cx_base.specs.declared.kinds.EntityType.{EntityType}
 use Rattle.cx_base.specs.declared.kinds.EntityType.TheVariants.{Auth}
@@ -133,14 +133,17 @@ IsIssued expected (Err NoCaps) = expected ≡ Err NoCaps
 IsIssued expected (Err IdsSpent) = expected ≡ Err IdsSpent
 IsIssued expected (Err OutOfMemory) = Unit {0}
 
--- what stands behind an issue: the rotation stays, whatever was answered, save that want of memory changes nothing
-abbrev pub Stands : Server → Server → Server → Result Ticket IssueRefusal → Type 0
-Stands old rotated new (Ok ticket) = new ≡ rotated
-Stands old rotated new (Err UnknownEntity) = new ≡ rotated
-Stands old rotated new (Err NotAService) = new ≡ rotated
-Stands old rotated new (Err NoCaps) = new ≡ rotated
-Stands old rotated new (Err IdsSpent) = new ≡ rotated
-Stands old rotated new (Err OutOfMemory) = new ≡ old
+abbrev pub wants_memory : Result Ticket IssueRefusal → Bool
+wants_memory (Ok ticket) = false
+wants_memory (Err UnknownEntity) = false
+wants_memory (Err NotAService) = false
+wants_memory (Err NoCaps) = false
+wants_memory (Err IdsSpent) = false
+wants_memory (Err OutOfMemory) = true
+
+-- the server behind an answer: the rotation stays, whatever was answered, save that want of memory changes nothing
+abbrev pub server_behind : Server → ℕ → List ℕ → Result Ticket IssueRefusal → Server
+server_behind server now draw answer = if wants_memory answer then server else rotated_server now draw server
 
 -- the two sealed parts of a ticket open to its fields, under these keys
 pub record OpensUnder (generation_key entity_key : List ℕ) (ticket : Ticket) : Type 0 where

@@ -7,13 +7,15 @@ ghost use Rattle.cx_base.specs.Names.{same_kind};
 ghost use Rattle.cx_base.specs.Texts.{is_caps};
 ghost use Rattle.cx_keyring.specs.Entries.{are_grants};
 ghost use Rattle.cx_dice.specs.Draws.{has_keys};
-ghost use Rattle.cx_keyserver.specs.Issuing.{OpensUnder, asked_for, caps_for, current_at, fields_of, sealed_by, telling_key};
+ghost use Rattle.cx_rotate.specs.Keeping.{IsKeptState};
+ghost use Rattle.cx_keyserver.specs.Issuing.{IsIssued, IsOpenable, OpensUnder, asked_for, caps_for, current_at, fields_of, issued, sealed_by, telling_key, wants_memory};
 ghost use Rattle.cx_keyserver.specs.Servers.{generations_of, life_of};
 
+use crate::refusals::IssueRefusal;
 use crate::tickets::Ticket;
 use cx_base::{Blob, Duplicate, EntityName, EntityType, Reading, Text};
 use cx_dice::Draw;
-use cx_keyring::{Entry, Grant};
+use cx_keyring::{Entry, Grant, Keyring};
 use cx_rotate::{Generation, Generations, KeptState};
 use cx_sealed::{ServiceTicket, TicketInfo, seal_service_ticket, seal_ticket_info};
 use std::alloc::{AllocError, Global};
@@ -30,8 +32,51 @@ pub(crate) struct TicketRequest<'a> {
     pub(crate) draw: &'a Draw,
 }
 
-/// Whether there are tickets for the service.
-pub(crate) fn has_keys(service: EntityType) -> bool
+/// The ticket that is asked for, of an entity of the ring, under the generations of the state.
+pub(crate) fn issued(
+    alloc: Global,
+    ring: &Keyring,
+    state: &KeptState,
+    asked: &TicketRequest<'_>,
+) -> Result<Ticket, IssueRefusal>
+    requires now { asked.now.reading < 4000000000000000000 }
+    requires kept { IsKeptState state.now }
+    ensures issued { IsIssued (issued (record { ring = ring.now; state = state.now }) (asked_for asked.now)) result }
+    ensures opens { IfOk result (IsOpenable (record { ring = ring.now; state = state.now }) (asked_for asked.now)) }
+{
+    let Some(entry) = ring.find(asked.name) else {
+        return Err(IssueRefusal::UnknownEntity);
+    };
+    if !has_keys(asked.service) {
+        return Err(IssueRefusal::NotAService);
+    }
+    let Some(caps) = caps_for(alloc, asked.service, entry)? else {
+        return Err(IssueRefusal::NoCaps);
+    };
+    let generations = generations_of(state, asked.service);
+    let Some(generation) = current_at(asked.reading, &generations) else {
+        return Err(IssueRefusal::IdsSpent);
+    };
+    let ticket = ticket(alloc, state, asked, entry, caps, &generation)?;
+    Ok(ticket)
+}
+
+/// Whether memory was wanting.
+pub(crate) fn wants_memory(answer: &Result<Ticket, IssueRefusal>) -> bool
+    ensures { result ≡ wants_memory answer.now }
+{
+    match answer {
+        Ok(_) => false,
+        Err(IssueRefusal::UnknownEntity) => false,
+        Err(IssueRefusal::NotAService) => false,
+        Err(IssueRefusal::NoCaps) => false,
+        Err(IssueRefusal::IdsSpent) => false,
+        Err(IssueRefusal::OutOfMemory) => true,
+    }
+}
+
+// Whether there are tickets for the service.
+fn has_keys(service: EntityType) -> bool
     ensures { result ≡ has_keys service }
 {
     match service {
@@ -58,8 +103,8 @@ pub(crate) fn generations_of(state: &KeptState, service: EntityType) -> Generati
     }
 }
 
-/// How long the secrets and tickets of a service live.
-pub(crate) fn life_of(state: &KeptState, service: EntityType) -> u64
+// How long the secrets and tickets of a service live.
+fn life_of(state: &KeptState, service: EntityType) -> u64
     ensures { result ≡ life_of state.now service }
 {
     if service.is(EntityType::Auth) {
@@ -69,8 +114,8 @@ pub(crate) fn life_of(state: &KeptState, service: EntityType) -> u64
     }
 }
 
-/// The current generation, while it is unexpired.
-pub(crate) fn current_at(now: Reading, generations: &Generations) -> Option<Generation>
+// The current generation, while it is unexpired.
+fn current_at(now: Reading, generations: &Generations) -> Option<Generation>
     ensures { result ≡ current_at now generations.now }
 {
     let [_, second, _] = generations.all()?;
@@ -80,9 +125,9 @@ pub(crate) fn current_at(now: Reading, generations: &Generations) -> Option<Gene
     None
 }
 
-/// The caps of an entity for a service.
+// The caps of an entity for a service.
 #[tactic(auto, using(crate::proofs::Grants::is_caps_text))]
-pub(crate) fn caps_for(
+fn caps_for(
     alloc: Global,
     service: EntityType,
     entry: &Entry,
@@ -109,7 +154,7 @@ fn grant_for(service: EntityType, grants: &[Grant]) -> Option<&Grant>
     grants.iter().find(|grant| service.is(grant.service))
 }
 
-/// The key under which the entity is told of its ticket.
+// The key under which the entity is told of its ticket.
 fn telling_key(entry: &Entry, asked: &TicketRequest<'_>) -> [u8; 16]
     ensures { result ≡ telling_key entry.now (asked_for asked.now) }
 {
@@ -120,8 +165,8 @@ fn telling_key(entry: &Entry, asked: &TicketRequest<'_>) -> [u8; 16]
     }
 }
 
-/// The ticket of the entity of this entry, with these caps and under this generation.
-pub(crate) fn ticket(
+// The ticket of the entity of this entry, with these caps and under this generation.
+fn ticket(
     alloc: Global,
     state: &KeptState,
     asked: &TicketRequest<'_>,

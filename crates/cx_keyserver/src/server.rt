@@ -6,7 +6,7 @@ ghost use Rattle.cx_keyring.specs.Entries.{is_named};
 ghost use Rattle.cx_rotate.specs.Keeping.{IsKeptState};
 ghost use Rattle.cx_keyserver.specs.Servers.{has_daemons};
 
-use crate::issuing::{TicketRequest, caps_for, current_at, generations_of, has_keys, ticket};
+use crate::issuing::{TicketRequest, generations_of, issued, wants_memory};
 use crate::refusals::{GidsSpent, IssueRefusal, NotADaemon};
 use crate::rotation::rotate;
 use crate::tickets::Ticket;
@@ -38,7 +38,7 @@ impl Model for KeyServer {
 
 impl KeyServer {
     ghost use Rattle.cx_keyserver.specs.Servers.{Server, adds_any, rotated_server, secrets_of};
-    ghost use Rattle.cx_keyserver.specs.Issuing.{Asked, IsIssued, IsOpenable, Stands, asked_for, issued};
+    ghost use Rattle.cx_keyserver.specs.Issuing.{Asked, IsIssued, IsOpenable, issued, server_behind};
 
     /// The key server of this keyring and this state.
     pub fn new(ring: Keyring, state: KeptState) -> KeyServer
@@ -126,48 +126,23 @@ impl KeyServer {
           reading = now;
           draw = draw.now.bytes;
         } in IfOk result (IsOpenable (rotated_server now draw.now.bytes self.old) asked) }
-        ensures stands { Stands self.old (rotated_server now draw.now.bytes self.old) self.new result }
+        ensures stands { self.new ≡ server_behind self.old now draw.now.bytes result }
     {
-        let before = self.state;
-        self.rotate(now, draw);
-        let answer = self.ticket(
-            alloc,
-            &TicketRequest {
-                name,
-                service,
-                gid,
-                auth_session,
-                reading: now,
-                draw,
-            },
-        );
-        if matches!(answer, Err(IssueRefusal::OutOfMemory)) {
-            self.state = before;
+        let mut rotated = self.state;
+        rotate(&mut rotated, now, draw);
+        let request = TicketRequest {
+            name,
+            service,
+            gid,
+            auth_session,
+            reading: now,
+            draw,
+        };
+        let answer = issued(alloc, &self.ring, &rotated, &request);
+        if !wants_memory(&answer) {
+            self.state = rotated;
         }
         answer
-    }
-
-    // The ticket that is asked for, under the generations that stand.
-    fn ticket(&self, alloc: Global, asked: &TicketRequest<'_>) -> Result<Ticket, IssueRefusal>
-        requires { asked.now.reading < 4000000000000000000 }
-        ensures issued { IsIssued (issued self.now (asked_for asked.now)) result }
-        ensures opens { IfOk result (IsOpenable self.now (asked_for asked.now)) }
-    {
-        let Some(entry) = self.ring.find(asked.name) else {
-            return Err(IssueRefusal::UnknownEntity);
-        };
-        if !has_keys(asked.service) {
-            return Err(IssueRefusal::NotAService);
-        }
-        let Some(caps) = caps_for(alloc, asked.service, entry)? else {
-            return Err(IssueRefusal::NoCaps);
-        };
-        let generations = generations_of(&self.state, asked.service);
-        let Some(generation) = current_at(asked.reading, &generations) else {
-            return Err(IssueRefusal::IdsSpent);
-        };
-        let ticket = ticket(alloc, &self.state, asked, entry, caps, &generation)?;
-        Ok(ticket)
     }
 
     /// The generations of a daemon's own type, which it is told.
