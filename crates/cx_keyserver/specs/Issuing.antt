@@ -32,16 +32,19 @@ pub record Asked : Type 0 where
   pub reading : ℕ
   pub draw : List ℕ
 
+abbrev pub asking : Name → EntityType → ℕ → List ℕ → ℕ → List ℕ → Asked
+asking name service gid auth_session reading draw = record {
+  name = name;
+  service = service;
+  gid = gid;
+  auth_session = auth_session;
+  reading = reading;
+  draw = draw;
+}
+
 -- what is asked for, without where it lies
 abbrev pub asked_for : TicketRequest → Asked
-asked_for asked = record {
-  name = asked.name.now;
-  service = asked.service;
-  gid = asked.gid;
-  auth_session = asked.auth_session.now;
-  reading = asked.reading;
-  draw = asked.draw.now.bytes;
-}
+asked_for asked = asking asked.name.now asked.service asked.gid asked.auth_session.now asked.reading asked.draw.now.bytes
 
 -- the caps of an entity for a service, as the keyring has them; a ticket for AUTH has the empty text
 abbrev pub caps_for : EntityType → Entry → Option (List ℕ)

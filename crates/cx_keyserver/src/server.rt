@@ -38,7 +38,7 @@ impl Model for KeyServer {
 
 impl KeyServer {
     ghost use Rattle.cx_keyserver.specs.Servers.{Server, adds_any, rotated_server, secrets_of};
-    ghost use Rattle.cx_keyserver.specs.Issuing.{Asked, IsIssued, IsOpenable, issued, server_behind};
+    ghost use Rattle.cx_keyserver.specs.Issuing.{IsIssued, IsOpenable, asking, issued, server_behind};
 
     /// The key server of this keyring and this state.
     pub fn new(ring: Keyring, state: KeptState) -> KeyServer
@@ -110,22 +110,8 @@ impl KeyServer {
         draw: &Draw,
     ) -> Result<Ticket, IssueRefusal>
         requires { now < 4000000000000000000 }
-        ensures issued { let asked : Asked = record {
-          name = name.now;
-          service = service;
-          gid = gid;
-          auth_session = auth_session.now;
-          reading = now;
-          draw = draw.now.bytes;
-        } in IsIssued (issued (rotated_server now draw.now.bytes self.old) asked) result }
-        ensures opens { let asked : Asked = record {
-          name = name.now;
-          service = service;
-          gid = gid;
-          auth_session = auth_session.now;
-          reading = now;
-          draw = draw.now.bytes;
-        } in IfOk result (IsOpenable (rotated_server now draw.now.bytes self.old) asked) }
+        ensures issued { IsIssued (issued (rotated_server now draw.now.bytes self.old) (asking name.now service gid auth_session.now now draw.now.bytes)) result }
+        ensures opens { IfOk result (IsOpenable (rotated_server now draw.now.bytes self.old) (asking name.now service gid auth_session.now now draw.now.bytes)) }
         ensures stands { self.new ≡ server_behind self.old now draw.now.bytes result }
     {
         let mut rotated = self.state;
