@@ -1,5 +1,5 @@
 -- The caps that a keyring's entry has are capability texts.
-use Rattle.std.proofs.Common.{◌≡◌, Bool, true, false, cond, List, [], ◌∷◌, ℕ, Option, Some, None, sym, ap, ◌∙◌}
+use Rattle.std.proofs.Common.{◌≡◌, Bool, true, false, cond, List, [], ◌∷◌, Option, Some, sym, ap, ◌∙◌}
 use Rattle.std.specs.Prelude.{find, ◌&&◌, IsTrue}
 use Rattle.std.specs.List.{list_all}
 use Rattle.cx_base.specs.declared.kinds.EntityType.{EntityType}

@@ -1,5 +1,5 @@
 -- The monitor's key server ("Cephx": the monitor keeps the keyring, the rotating secrets of the services, and the next global id).
-use Rattle.std.specs.Prelude.{ℕ, ◌+◌, Bool, ◌&&◌, ◌||◌, nat_lt, List, [], Option, Result, Ok, Err, is_some, find, if◌then◌else◌}
+use Rattle.std.specs.Prelude.{ℕ, Bool, ◌&&◌, ◌||◌, nat_lt, List, [], Result, Ok, Err, is_some, find, if◌then◌else◌}
 use Rattle.cx_base.specs.declared.kinds.EntityType.{EntityType}
 use Rattle.cx_base.specs.declared.kinds.EntityType.TheVariants.{Mon, Mds, Osd, Client, Mgr, Auth}
 use Rattle.cx_base.specs.Names.{Name, same_kind}
@@ -64,4 +64,4 @@ abbrev pub secrets_of : Server → Name → Result (List Generation) NotADaemon
 secrets_of server name =
     if is_some (find (is_named name) server.ring) && has_daemons name.kind
     then Ok (generations_of server.state name.kind)
-    else Err (record { })
+    else Err (record {})

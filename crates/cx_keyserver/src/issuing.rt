@@ -127,11 +127,7 @@ fn current_at(now: Reading, generations: &Generations) -> Option<Generation>
 
 // The caps of an entity for a service.
 #[tactic(auto, using(crate::proofs::Grants::is_caps_text))]
-fn caps_for(
-    alloc: Global,
-    service: EntityType,
-    entry: &Entry,
-) -> Result<Option<Text>, AllocError>
+fn caps_for(alloc: Global, service: EntityType, entry: &Entry) -> Result<Option<Text>, AllocError>
     requires { IsTrue (are_grants entry.now.caps) }
     ensures caps { IfOk result (λ caps. caps ≡ caps_for service entry.now) }
     ensures good { IfOk result (λ caps. IfSome caps (λ text. IsTrue (is_caps text))) }
@@ -205,13 +201,7 @@ fn ticket(
 }
 
 // A ticket of its parts.
-fn made(
-    shown: ServiceTicket,
-    told: TicketInfo,
-    generation: u64,
-    info: Blob,
-    blob: Blob,
-) -> Ticket
+fn made(shown: ServiceTicket, told: TicketInfo, generation: u64, info: Blob, blob: Blob) -> Ticket
     ensures { result ≡ record {
       entity = shown.name;
       service = told.service;

@@ -80,7 +80,15 @@ fn log_in(rt: &impl Abort, alloc: Global, server: &mut KeyServer, login: &Login,
     assert!(rt; auth.copy(alloc).expect(rt, "ample memory") == auth);
     if let Some(known) = &login.osd {
         let osd = server
-            .issue(alloc, &who, EntityType::Osd, gid, &auth.session, now, &drawn)
+            .issue(
+                alloc,
+                &who,
+                EntityType::Osd,
+                gid,
+                &auth.session,
+                now,
+                &drawn,
+            )
             .expect(rt, "a ticket for OSD");
         assert!(rt; is_sealed(&osd, known));
     }
