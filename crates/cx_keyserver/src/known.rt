@@ -345,3 +345,7 @@ pub(crate) static AGAIN: Login = Login {
 /// The keyring of both runs.
 pub(crate) static KEYRING: &[u8] =
     b"[client.a]\n\tkey = AQAAAAAAAAAAABAAowgHm7EDEgDCotkYAYULGA==\n\tcaps osd = \"allow *\"\n[osd.0]\n\tkey = AQAAAAAAAAAAABAA9bgURXl1avNZ9215An96qg==\n";
+
+/// The beginning of a keyring, up to the text of the caps of its one client.
+pub(crate) static LONG_KEYRING: &[u8] =
+    b"[client.a]\n\tkey = AQAAAAAAAAAAABAAowgHm7EDEgDCotkYAYULGA==\n\tcaps osd = \"";

@@ -3,12 +3,12 @@
 ghost use Rattle.std.specs.Prelude.{◌≡◌, ◌≤◌};
 ghost use Rattle.cx_rotate.specs.Keeping.{IsKeptState};
 
-use crate::known::{AGAIN, CLIENT, DAEMON, KEPT, KEYRING, Login, Sealed};
+use crate::known::{AGAIN, CLIENT, DAEMON, KEPT, KEYRING, LONG_KEYRING, Login, Sealed};
 use crate::{GidsSpent, IssueRefusal, KeyServer, NotADaemon, Ticket};
 use cx_base::{Blob, Duplicate, EntityName, EntityType, Reading, SECOND, Text};
 use cx_dice::{Dice, Draw, SeedDice};
 use cx_keep::decode_state;
-use cx_keyring::parse;
+use cx_keyring::{Keyring, parse};
 use cx_rotate::{Generation, Generations, KeptState};
 use std::alloc::Global;
 use std::process::Abort;
@@ -199,4 +199,35 @@ fn what_a_server_tells(rt: HostRuntime) {
     assert!(rt; server.key_of(&stranger).is_none());
     server.restore(opening());
     assert!(rt; server.state() == opening());
+}
+
+// The keyring of a client with caps of 4,096 bytes.
+fn long_keyring(rt: &impl Abort, alloc: Global) -> Keyring {
+    let mut text = Blob::of(alloc, LONG_KEYRING).expect(rt, "ample memory");
+    for _ in 0..4096 {
+        text.append(alloc, b"x").expect(rt, "ample memory");
+    }
+    text.append(alloc, b"\"\n").expect(rt, "ample memory");
+    parse(alloc, text.bytes()).expect(rt, "a keyring")
+}
+
+#[test]
+fn the_longest_caps_are_issued(rt: HostRuntime) {
+    let alloc = rt.alloc();
+    let mut server = KeyServer::new(long_keyring(&rt, alloc), opening());
+    let a = client(&rt, alloc);
+    let drawn = draw(&rt, alloc, 0);
+    let ticket = server
+        .issue(
+            alloc,
+            &a,
+            EntityType::Osd,
+            1,
+            &[0; 16],
+            1000 * SECOND,
+            &drawn,
+        )
+        .expect(&rt, "a ticket for OSD");
+    assert!(rt; ticket.caps.bytes().len() == 4096);
+    assert!(rt; ticket.blob.bytes().len() == 4176);
 }
