@@ -145,3 +145,22 @@ fn a_save_that_fails_leaves_the_old_or_the_new(rt: HostRuntime) {
     assert!(rt; left(&rt, alloc, 34, true).bytes() == SECOND_FORMAT.as_slice());
     assert!(rt; left(&rt, alloc, 33, true).bytes() == b"x".as_slice());
 }
+
+// More bytes than a number of 16 bits counts.
+#[test]
+fn a_keyring_of_70000_bytes_is_loaded(rt: HostRuntime) {
+    let alloc = rt.alloc();
+    let mut ring = Blob::new(alloc);
+    for _ in 0..70_000 {
+        ring.append(alloc, b"x").expect(&rt, "ample memory");
+    }
+    let kept = VecKeeper::new(alloc, None, None, 70_000, Blob::new(alloc), false);
+    let mut keeper = kept.expect(&rt, "ample memory");
+    keeper
+        .save(Slot::Keyring, ring.bytes())
+        .expect(&rt, "it fits");
+    let loaded = keeper
+        .load(alloc, Slot::Keyring)
+        .expect(&rt, "no call fails");
+    assert!(rt; loaded == Some(ring));
+}

@@ -1,0 +1,27 @@
+//! The monitor's key server: who gets which ticket, sealed under which secret.
+#![tactic(auto)]
+
+mod issuing;
+#[cfg(test)]
+mod known;
+mod refusals;
+mod rotation;
+mod server;
+#[cfg(test)]
+mod tests;
+mod tickets;
+
+pub use refusals::{GidsSpent, IssueRefusal, NotADaemon};
+pub use server::KeyServer;
+pub use tickets::Ticket;
+
+// Each public type may be sent to another thread and shared with one.
+fn is_sendable<T: Send + Sync>() {}
+
+fn all_are_sendable() {
+    is_sendable::<Ticket>();
+    is_sendable::<KeyServer>();
+    is_sendable::<IssueRefusal>();
+    is_sendable::<GidsSpent>();
+    is_sendable::<NotADaemon>();
+}
