@@ -23,7 +23,7 @@ use Rattle.cx_login.proofs.Logging.{login_with, told_secret}
 -- a ticket that is told is held as what is told of it
 held_told : (key : List ℕ) (ticket : Handed) (held : Held) → IsToldUnder key ticket → IsHeld key ticket.part held → held ≡ held_of ticket
 held_told key ticket held told (info, tried, is) =
-    is ∙ ap (held_as ticket.part) (tried_is ticket_info_layout.form key ticket.part.info info ticket.info tried told.opens)
+    is ∙ ap (held_as ticket.part) (tried_is ticket_info_layout.form key ticket.part.info info ticket.info tried told)
 
 all_held_told : (key : List ℕ) (tickets : List Handed) (held : List Held) → AllByRecursion (IsToldUnder key) tickets → AllZip (IsHeld key) (map part_of tickets) held → held ≡ map held_of tickets
 all_held_told key [] [] told all = refl
@@ -36,7 +36,7 @@ told_at : (key : List ℕ) (tickets : List Handed) (k : ℕ) (x : TicketPart) �
 told_at key [] k x told lt is untold = absurd (omega arith)
 told_at key (ticket ∷ tickets) zero x told lt is untold =
     let here : IsUntold key ticket.part = subst (IsUntold key) (sym is) untold in
-    here ticket.info told.0.opens
+    here ticket.info told.0
 told_at key (ticket ∷ tickets) (suc k) x told lt is untold = told_at key tickets k x told.1 (omega arith) is untold
 
 none_untold : (key : List ℕ) (tickets : List Handed) → AllByRecursion (IsToldUnder key) tickets → Any (IsUntold key) (map part_of tickets) → ⊥
@@ -53,7 +53,7 @@ login_told secret auth others connection payload out login opens =
     let all = subst (λ (key : List ℕ). AllZip (IsHeld key) (map part_of others) login.tickets) session opens.1 in
     let tried = subst (λ (key : List ℕ). IsTried connection_secret_layout.form key out.sealed (Some (told_secret login.secret))) session opens.2 in
     let last : told_secret login.secret ≡ told_secret connection =
-    tried_is connection_secret_layout.form auth.info.session out.sealed (told_secret login.secret) (told_secret connection) tried out.connection_told.opens in
+    tried_is connection_secret_layout.form auth.info.session out.sealed (told_secret login.secret) (told_secret connection) tried out.connection_told in
     ap (λ (x : Held). login_with x login.tickets login.secret) first
     ∙ ap (λ (xs : List Held). login_with (held_of auth) xs login.secret) (all_held_told auth.info.session others login.tickets out.others_told all)
     ∙ ap (λ (x : ConnectionSecret). login_with (held_of auth) (map held_of others) x.secret) last
@@ -61,13 +61,13 @@ login_told secret auth others connection payload out login opens =
 none_behind : (secret : List ℕ) (auth : Handed) (others : List Handed) (connection payload : List ℕ) (out : IsHandedOut secret auth others connection payload)
     → Any (IsUntold auth.info.session) (map part_of others) ⊎ IsShut connection_secret_layout.form auth.info.session out.sealed → ⊥
 none_behind secret auth others connection payload out (inl untold) = none_untold auth.info.session others out.others_told untold
-none_behind secret auth others connection payload out (inr shut) = shut (record { secret = connection }) out.connection_told.opens
+none_behind secret auth others connection payload out (inr shut) = shut (record { secret = connection }) out.connection_told
 
 none_shut : (secret : List ℕ) (auth : Handed) (others : List Handed) (connection payload : List ℕ) (out : IsHandedOut secret auth others connection payload)
     → HasShut secret (auth.part ∷ map part_of others) out.sealed → ⊥
-none_shut secret auth others connection payload out (inl untold) = untold auth.info out.auth_told.opens
+none_shut secret auth others connection payload out (inl untold) = untold auth.info out.auth_told
 none_shut secret auth others connection payload out (inr (info, tried, why)) =
-    let same : info ≡ auth.info = tried_is ticket_info_layout.form secret auth.part.info info auth.info tried out.auth_told.opens in
+    let same : info ≡ auth.info = tried_is ticket_info_layout.form secret auth.part.info info auth.info tried out.auth_told in
     let session : info.session ≡ auth.info.session = ap (λ (i : TicketInfo). i.session) same in
     none_behind secret auth others connection payload out
     (subst (λ (key : List ℕ). Any (IsUntold key) (map part_of others) ⊎ IsShut connection_secret_layout.form key out.sealed) session why)

@@ -3,7 +3,7 @@ use Rattle.std.specs.Prelude.{ℕ, List, ◌∷◌, map, Result}
 use Rattle.std.specs.List.{AllByRecursion}
 use Rattle.cx_enc.specs.Whole.{Spells}
 use Rattle.cx_sealed.specs.Records.{ticket_info_layout, connection_secret_layout}
-use Rattle.cx_sealed.specs.Sealing.{IsSealed}
+use Rattle.cx_sealed.specs.Sealing.{OpensTo}
 use Rattle.cx_sealed.specs.declared.ticket_info.TicketInfo.{TicketInfo}
 use Rattle.cx_wire.specs.Logins.{login_done_layout}
 use Rattle.cx_wire.specs.declared.tickets.TicketPart.{TicketPart}
@@ -18,7 +18,7 @@ pub record Handed : Type 0 where
 
 -- it is told under this key
 abbrev pub IsToldUnder : List ℕ → Handed → Type 0
-IsToldUnder key ticket = IsSealed ticket_info_layout.form key ticket.info ticket.part.info
+IsToldUnder key ticket = OpensTo ticket_info_layout.form key ticket.part.info ticket.info
 
 -- the ticket as its client holds it
 abbrev pub held_of : Handed → Held
@@ -33,7 +33,7 @@ pub record IsHandedOut (secret : List ℕ) (auth : Handed) (others : List Handed
   pub sealed : List ℕ
   pub auth_told : IsToldUnder secret auth
   pub others_told : AllByRecursion (IsToldUnder auth.info.session) others
-  pub connection_told : IsSealed connection_secret_layout.form auth.info.session (record { secret = connection }) sealed
+  pub connection_told : OpensTo connection_secret_layout.form auth.info.session sealed (record { secret = connection })
   pub spells : Spells login_done_layout.form payload (record { tickets = auth.part ∷ map part_of others; connection_secret = sealed })
 
 -- the login that its client is due
