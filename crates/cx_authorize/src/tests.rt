@@ -93,11 +93,11 @@ fn changed(rt: &impl Abort, alloc: Global, bytes: &[u8], at: usize) -> Blob {
 fn is_fault<T: Drop>(
     rt: &impl Abort,
     alloc: Global,
-    result: Result<T, AuthRefusal>,
+    answer: Result<T, AuthRefusal>,
     fault: AuthFault,
 ) -> bool {
     let shown = read_authorizer(alloc, FIRST.as_slice()).expect(rt, "an authorizer");
-    match result {
+    match answer {
         Err(AuthRefusal::Ticket { fault: found, blob }) => found == fault
             && blob == shown.ticket.blob,
         _ => false,
