@@ -1,5 +1,5 @@
 -- What the key server hands out is read as exactly these tickets and this secret.
-use Rattle.std.proofs.Common.{◌≡◌, ◌⊎◌, ℕ, zero, suc, ◌+◌, ◌<◌, List, [], ◌∷◌, length, map, Option, Some, None, Result, Ok, Err, refl, sym, ap, subst, ◌∙◌, arith, inl, inr}
+use Rattle.std.proofs.Common.{◌≡◌, ◌⊎◌, ℕ, zero, suc, ◌<◌, List, [], ◌∷◌, length, map, Some, Result, Ok, Err, refl, sym, ap, subst, ◌∙◌, arith, inl, inr}
 use Rattle.std.specs.Prelude.{Any, slice_index_or}
 use Rattle.std.specs.List.{AllZip, AllByRecursion}
 use Rattle.cx_sealed.specs.Records.{ticket_info_layout, connection_secret_layout}
@@ -9,7 +9,7 @@ use Rattle.cx_wire.specs.Logins.{login_done_layout}
 use Rattle.cx_wire.specs.declared.logins.LoginDone.{LoginDone}
 use Rattle.cx_wire.specs.declared.tickets.TicketPart.{TicketPart}
 use Rattle.cx_login.specs.Opening.{IsShut, IsTried}
-use Rattle.cx_login.specs.Held.{Held, held_as, IsHeld, IsUntold, Yields}
+use Rattle.cx_login.specs.Held.{Held, held_as, IsHeld, IsUntold}
 use Rattle.cx_login.specs.Client.{Opens, HasShut, IsDone}
 use Rattle.cx_login.specs.Handed.{Handed, IsToldUnder, held_of, part_of, IsHandedOut, login_of, TakesHandedOut}
 use Rattle.cx_login.specs.declared.client.LoggedIn.{LoggedIn}

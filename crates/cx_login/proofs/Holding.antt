@@ -1,5 +1,5 @@
 -- Tickets are held as their entries are told.
-use Rattle.std.proofs.Common.{◌≡◌, ℕ, zero, suc, ◌+◌, ◌<◌, ◌≤◌, ◌^◌, List, [], ◌∷◌, All, length, take, get_or, Option, Some, None, Result, Ok, Err, refl, sym, ap, subst, ◌∙◌, arith}
+use Rattle.std.proofs.Common.{◌≡◌, ℕ, zero, suc, ◌+◌, ◌<◌, ◌≤◌, List, [], ◌∷◌, All, length, take, get_or, Option, Some, None, Ok, Err, refl, sym, ap, subst, ◌∙◌, arith}
 use Rattle.std.specs.Prelude.{◌++◌, ◌&&◌, Any, slice_index_or, nat_le}
 use Rattle.std.specs.List.{AllZip, AllByRecursion}
 use Rattle.std.proofs.lemmas.List.{take_more}
@@ -8,13 +8,11 @@ use Rattle.cx_base.specs.declared.kinds.EntityType.{EntityType}
 use Rattle.cx_enc.specs.Forms.{ChainFits, passed}
 use Rattle.cx_enc.specs.Values.{ticket_form}
 use Rattle.cx_sealed.specs.Records.{ticket_info_layout}
-use Rattle.cx_sealed.specs.declared.ticket_info.TicketInfo.{TicketInfo}
 use Rattle.cx_wire.specs.Logins.{login_done_layout}
 use Rattle.cx_wire.specs.Services.{ticket_part_layout, behind}
 use Rattle.cx_wire.specs.declared.logins.LoginDone.{LoginDone}
 use Rattle.cx_wire.specs.declared.tickets.TicketPart.{TicketPart}
 use Rattle.cx_login.specs.Held.{Held, held_as, IsHeld, IsUntold, IsShort, AreTried, AreHeldBy}
-use Rattle.cx_login.specs.declared.refusals.LoginRefusal.{LoginRefusal}
 use Rattle.cx_login.specs.declared.refusals.LoginRefusal.TheVariants.{Unopened, OutOfMemory}
 use Rattle.cx_login.proofs.Tried.{tried_is, none_is_none}
 

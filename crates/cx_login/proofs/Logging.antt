@@ -1,5 +1,5 @@
 -- A LoginDone is taken exactly where each of its parts opens.
-use Rattle.std.proofs.Common.{◌≡◌, ◌⊎◌, ℕ, List, [], ◌∷◌, Option, Some, None, Result, Ok, Err, refl, sym, ap, subst, ◌∙◌, inl, inr}
+use Rattle.std.proofs.Common.{◌≡◌, ◌⊎◌, ℕ, List, [], ◌∷◌, Some, None, Ok, Err, refl, sym, ap, subst, ◌∙◌, inl, inr}
 use Rattle.std.specs.Prelude.{Any}
 use Rattle.std.specs.List.{AllZip}
 use Rattle.cx_sealed.specs.Sealing.{OpensTo}
@@ -16,7 +16,6 @@ use Rattle.cx_login.specs.Opening.{IsShut, IsTried}
 use Rattle.cx_login.specs.Held.{Held, held_as, IsHeld, IsUntold}
 use Rattle.cx_login.specs.Client.{Opens, HasShut, AreOpened, IsDone}
 use Rattle.cx_login.specs.declared.client.LoggedIn.{LoggedIn}
-use Rattle.cx_login.specs.declared.refusals.LoginRefusal.{LoginRefusal}
 use Rattle.cx_login.specs.declared.refusals.LoginRefusal.TheVariants.{Malformed, Unopened, OutOfMemory}
 use Rattle.cx_login.proofs.Tried.{tried_is, spells_one}
 use Rattle.cx_login.proofs.Holding.{held_is, all_held_is, none_held}

@@ -1,5 +1,5 @@
 -- Written bytes.
-use Rattle.std.proofs.Common.{ℕ, List, [], Result, Ok, sym, subst}
+use Rattle.std.proofs.Common.{ℕ, List, [], Ok, sym, subst}
 use Rattle.cx_enc.specs.Forms.{Form}
 use Rattle.cx_enc.specs.Whole.{Spells}
 use Rattle.cx_control.specs.Calls.{IsPutBy}

@@ -1,6 +1,6 @@
 -- The client's side of a login ("detailed cephx protocol": the client answers the monitor's challenge by an Authenticate, and opens
 -- what it is given).
-use Rattle.std.specs.Prelude.{ℕ, ◌≡◌, ◌⊎◌, List, [], ◌∷◌, Any, Option, Some, None, Result, Ok, Err, IfOk, IfErr}
+use Rattle.std.specs.Prelude.{ℕ, ◌≡◌, ◌⊎◌, List, [], ◌∷◌, Any, Option, Some, None, Result, IfOk, IfErr}
 use Rattle.std.specs.List.{AllZip}
 use Rattle.cx_enc.specs.Whole.{Spells}
 use Rattle.cx_enc.specs.declared.tickets.TicketBlob.{TicketBlob}
