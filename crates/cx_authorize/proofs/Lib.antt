@@ -1,0 +1,4 @@
+pub mod Agreeing
+pub mod Living
+pub mod Short
+pub mod Verdicts

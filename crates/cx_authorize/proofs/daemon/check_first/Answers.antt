@@ -1,0 +1,10 @@
+use Rattle.std.proofs.Common.{refl}
+use Rattle.cx_authorize.proofs.Living.{passed_by, refused_by}
+use Rattle.cx_authorize.proofs.daemon.check_first.Goals as goal
+
+pub returns-in_ok-bytes-in-Ok : goal.returns-in_ok-bytes-in-Ok
+returns-in_ok-bytes-in-Ok c =
+    passed_by _ _ _ c.in-Ok.shown _ (rw c.in-Ok.is at c.in_ok-shown.ensures) (refl, c.in_ok-bytes-in-Ok.ensures)
+
+pub returns-in-Err : goal.returns-in-Err
+returns-in-Err c = refused_by _ _ _ c.in-Err.refusal (rw c.in-Err.is at c.in_ok-shown.ensures)

@@ -1,0 +1,5 @@
+pub mod Agreement
+pub mod Answers
+pub mod Client
+pub mod Daemon
+pub mod Verdict

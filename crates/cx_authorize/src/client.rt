@@ -1,0 +1,167 @@
+//! The client's side of an authorizer.
+
+ghost use Rattle.std.specs.Prelude.{◌≡◌, Some, None, IfOk};
+ghost use Rattle.cx_authorize.specs.Answers.{shown_as};
+ghost use Rattle.cx_authorize.specs.Client.{Presents, IsAnswered, IsAgreed};
+
+use crate::judging::raised;
+use crate::opening::{tried_challenge, tried_reply};
+use crate::refusals::PresentRefusal;
+use crate::sealing::authorizer_bytes;
+use cx_base::{Blob, Duplicate};
+use cx_login::HeldTicket;
+use cx_sealed::Authorize;
+use cx_wire::{WireRefusal, read_authorize_challenge, read_authorize_reply};
+use std::alloc::{AllocError, Global};
+use std::marker::Model;
+
+/// A client that showed its ticket and awaits the daemon's challenge. It is not copied: one challenge is answered once.
+#[derive(Drop)]
+pub struct Presenting {
+    held: HeldTicket,
+    gid: u64,
+    nonce: u64,
+}
+
+impl Model for Presenting {
+    ghost use Rattle.cx_authorize.specs.Client.{Presented};
+
+    ghost Value = { Presented };
+
+    ghost view = { λ p. record { held = p.held; gid = p.gid; nonce = p.nonce } };
+}
+
+impl Presenting {
+    /// Shows a held ticket for this global id, and answers the bytes of the first authorizer.
+    pub fn new(
+        alloc: Global,
+        held: &HeldTicket,
+        gid: u64,
+        nonce: u64,
+    ) -> Result<(Presenting, Blob), AllocError>
+        ensures { IfOk result (Presents held.now gid nonce) }
+    {
+        let bytes = authorizer_bytes(alloc, held, gid, &shown_first(nonce))?;
+        let held = held.copy(alloc)?;
+        Ok((Presenting { held, gid, nonce }, bytes))
+    }
+
+    /// Answers the AuthorizeChallenge of this payload by the bytes of the second authorizer.
+    pub fn challenged(
+        self,
+        alloc: Global,
+        payload: &[u8],
+    ) -> Result<(Answering, Blob), PresentRefusal>
+        ensures { IsAnswered self payload.now result }
+    {
+        answer(alloc, &self.held, self.gid, self.nonce, payload)
+    }
+}
+
+// Answers a challenge to this ticket, shown for this global id with this nonce.
+fn answer(
+    alloc: Global,
+    held: &HeldTicket,
+    gid: u64,
+    nonce: u64,
+    payload: &[u8],
+) -> Result<(Answering, Blob), PresentRefusal>
+    ensures { IsAnswered (record { held = held.now; gid = gid; nonce = nonce }) payload.now result }
+{
+    let sent = match read_authorize_challenge(alloc, payload) {
+        Ok(sent) => sent,
+        Err(WireRefusal::Malformed(place)) => return Err(PresentRefusal::Malformed(place)),
+        Err(WireRefusal::OutOfMemory) => return Err(PresentRefusal::OutOfMemory),
+    };
+    let session = held.session;
+    let Some(asked) = tried_challenge(alloc, &session, sent.sealed.bytes())? else {
+        return Err(PresentRefusal::Unopened);
+    };
+    let shown = shown_again(nonce, asked.challenge);
+    let bytes = authorizer_bytes(alloc, held, gid, &shown)?;
+    Ok((Answering { session, nonce }, bytes))
+}
+
+// What the first authorizer shows.
+fn shown_first(nonce: u64) -> Authorize
+    ensures { result ≡ shown_as nonce None }
+{
+    Authorize {
+        nonce,
+        have_challenge: false,
+        server_challenge_plus_one: 0,
+    }
+}
+
+// What the second authorizer shows.
+fn shown_again(nonce: u64, challenge: u64) -> Authorize
+    ensures { result ≡ shown_as nonce (Some challenge) }
+{
+    Authorize {
+        nonce,
+        have_challenge: true,
+        server_challenge_plus_one: raised(challenge),
+    }
+}
+
+/// A client that answered the challenge and awaits the daemon's reply. It is not copied: one connection comes of it.
+#[derive(Drop)]
+pub struct Answering {
+    session: [u8; 16],
+    nonce: u64,
+}
+
+impl Model for Answering {
+    ghost use Rattle.cx_authorize.specs.Client.{Answered};
+
+    ghost Value = { Answered };
+
+    ghost view = { λ a. record { session = a.session; nonce = a.nonce } };
+}
+
+/// What a client agreed on with a daemon.
+#[derive(Clone, Copy, Debug, PartialEq, Eq)]
+pub struct Agreed {
+    /// The secret of the connection.
+    pub secret: [u8; 64],
+    /// The session key of the ticket.
+    pub session: [u8; 16],
+}
+
+impl Answering {
+    /// Opens the AuthorizeReply of this payload.
+    pub fn done(self, alloc: Global, payload: &[u8]) -> Result<Agreed, PresentRefusal>
+        ensures { IsAgreed self payload.now result }
+    {
+        agree(alloc, &self.session, self.nonce, payload)
+    }
+}
+
+// Takes the reply under this session key to this nonce.
+fn agree(
+    alloc: Global,
+    session: &[u8; 16],
+    nonce: u64,
+    payload: &[u8],
+) -> Result<Agreed, PresentRefusal>
+    ensures { IsAgreed (record { session = session.now; nonce = nonce }) payload.now result }
+{
+    let sent = match read_authorize_reply(alloc, payload) {
+        Ok(sent) => sent,
+        Err(WireRefusal::Malformed(place)) => return Err(PresentRefusal::Malformed(place)),
+        Err(WireRefusal::OutOfMemory) => return Err(PresentRefusal::OutOfMemory),
+    };
+    let Some(reply) = tried_reply(alloc, session, sent.sealed.bytes())? else {
+        return Err(PresentRefusal::Unopened);
+    };
+    let expected = raised(nonce);
+    if reply.nonce_plus_one != expected {
+        return Err(PresentRefusal::NonceWrong {
+            expected,
+            got: reply.nonce_plus_one,
+        });
+    }
+    let secret = reply.secret;
+    let session = *session;
+    Ok(Agreed { secret, session })
+}

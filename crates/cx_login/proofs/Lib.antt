@@ -1,0 +1,5 @@
+pub mod Handing
+pub mod Holding
+pub mod Logging
+pub mod Put
+pub mod Tried

@@ -1,0 +1,34 @@
+//! Both sides of a login: what is proved was proved, and what is logged in was opened.
+#![tactic(auto)]
+
+mod client;
+mod held;
+#[cfg(test)]
+mod known;
+mod monitor;
+mod opening;
+mod proving;
+mod refusals;
+#[cfg(test)]
+mod tests;
+
+pub use client::{Asking, Challenged, LoggedIn};
+pub use held::{HeldTicket, held_tickets};
+pub use monitor::{Offered, Proved, Reclaim};
+pub use opening::tried_ticket;
+pub use refusals::{LoginRefusal, WrongProof};
+
+// Each public type may be sent to another thread and shared with one.
+fn is_sendable<T: Send + Sync>() {}
+
+fn all_are_sendable() {
+    is_sendable::<HeldTicket>();
+    is_sendable::<Asking>();
+    is_sendable::<Challenged>();
+    is_sendable::<LoggedIn>();
+    is_sendable::<Offered>();
+    is_sendable::<Proved>();
+    is_sendable::<Reclaim>();
+    is_sendable::<LoginRefusal>();
+    is_sendable::<WrongProof>();
+}
