@@ -224,11 +224,13 @@ fn a_second_authorizer_answers_its_own_challenge(rt: HostRuntime) {
 
 // The client's first authorizer with this nonce.
 fn presented(rt: &impl Abort, alloc: Global, nonce: u64) -> (Presenting, Blob) {
-    let shown = read_authorizer(alloc, FIRST.as_slice()).expect(rt, "an authorizer");
+    // The blob stands behind a byte, the global id, the service, a byte, the generation and its own length.
+    let blob = Blob::of(alloc, &FIRST[26..122]).expect(rt, "ample memory");
+    assert!(rt; blob.bytes().len() == 96);
     let held = HeldTicket {
         service: EntityType::Osd,
         generation: 2,
-        blob: shown.ticket.blob,
+        blob,
         session: SESSION,
         expires: EXPIRY,
     };
