@@ -1,10 +1,12 @@
 #!/usr/bin/env python3
 """What the program of this crate has to print: crates/cx_answers/expected.py < stdin > stdout
 
-Reads the rows by the tables of docs/formats.md, on its own: nothing of it was taken from the crates.
+Reads the rows by the tables of docs/formats.md, on its own: nothing of it was taken from the crates. Envelopes are sealed and opened
+by openssl.
 """
 
 import re
+import subprocess
 import sys
 
 KINDS = {1: "mon", 2: "mds", 4: "osd", 8: "client", 16: "mgr", 32: "auth"}
@@ -277,6 +279,115 @@ def complaint(f):
     return told
 
 
+def aes(way, key, data):
+    command = ["openssl", "enc", way, "-aes-128-cbc", "-nopad", "-K", key.hex(), "-iv", b"cephsageyudagreg".hex()]
+    return subprocess.run(command, input=data, capture_output=True, check=True).stdout
+
+
+HEAD = b"\x01" + (0xFF009CAD8826AA55).to_bytes(8, "little")
+
+
+def sealed(key, content):
+    fill = 16 - (len(HEAD) + len(content)) % 16
+    return aes("-e", key, HEAD + content + bytes([fill]) * fill)
+
+
+def unsealed(key, envelope):
+    if not envelope or len(envelope) % 16:
+        raise Refused("unopened", None)
+    plain = aes("-d", key, envelope)
+    fill = plain[-1]
+    body, end = plain[: len(plain) - fill], plain[len(plain) - fill :]
+    if not 1 <= fill <= 16 or end != bytes([fill]) * fill or not body.startswith(HEAD):
+        raise Refused("unopened", None)
+    return body[len(HEAD) :]
+
+
+def service_ticket(f):
+    f.fixed(1, 1)
+    told = f"session {f.session_key()} name {f.name()} {f.named('gid', 8)} created {f.time()} expires {f.time()}"
+    at = f.place
+    caps = f.blob()
+    f.good(at, len(caps) <= 4096 and all(0x20 <= byte <= 0x7E and byte not in b'"\\' for byte in caps))
+    return f"{told} caps {shown(caps)}"
+
+
+def ticket_info(f):
+    f.fixed(1, 2)
+    return f"service {f.kind()} session {f.session_key()} created {f.time()} expires {f.time()}"
+
+
+def authorize(f):
+    f.fixed(1, 3)
+    return f"{f.named('nonce', 8)} challenge {f.flag()} {f.number(8)}"
+
+
+def sealed_challenge(f):
+    f.fixed(1, 4)
+    return f.named("challenge", 8)
+
+
+def sealed_reply(f):
+    f.fixed(1, 5)
+    return f"{f.named('nonce_plus_one', 8)} secret {f.sized(64)}"
+
+
+def rotating_reply(f):
+    f.fixed(1, 6)
+    told = f"service {f.kind()}"
+    at = f.place
+    count = f.number(4)
+    f.good(at, count in (0, 3))
+    before = None
+    for _ in range(count):
+        number = f.number(8)
+        f.good(at, before in (None, number - 1))
+        before = number
+        told += f" id {number} key {f.session_key()} expires {f.time()}"
+    return told
+
+
+def connection_secret(f):
+    f.fixed(1, 7)
+    return f"secret {f.sized(64)}"
+
+
+RECORDS = {
+    "service-ticket": service_ticket,
+    "ticket-info": ticket_info,
+    "authorize": authorize,
+    "sealed-challenge": sealed_challenge,
+    "sealed-reply": sealed_reply,
+    "rotating-reply": rotating_reply,
+    "connection-secret": connection_secret,
+}
+
+
+def record(kind, data):
+    """A sealed record, by its key and its content; `open-KIND` by its key and its envelope."""
+    key, rest = data[:16], data[16:]
+    if len(key) < 16:
+        raise Refused("no key", None)
+    is_open = kind.startswith("open-")
+    content = unsealed(key, rest) if is_open else rest
+    try:
+        told = read_to_the_end(RECORDS[kind.removeprefix("open-")], Fields(content))
+    except Refused:
+        raise Refused("misread", None) from None
+    return told if is_open else f"{told} envelope {shown(sealed(key, content))}"
+
+
+def proof(f):
+    """What the client shows of its key: the exclusive or of the first four numbers of the length and the sealed challenges."""
+    key, content = f.bytes(16), f.bytes(8) + f.bytes(8)
+    data = (32).to_bytes(4, "little") + sealed(key, content)
+    told = 0
+    for at in range(0, 32, 8):
+        told ^= int.from_bytes(data[at : at + 8], "little")
+    f.place = len(f.data)
+    return str(told)
+
+
 READERS = {
     "hello": lambda f: f"kind {f.kind(1)} addr {f.addr()}",
     "auth-request": auth_request,
@@ -327,6 +438,7 @@ SAMPLES = {
     "key": key,
     "ticket": lambda f: f.ticket(),
     "addr": lambda f: f.addr(),
+    "proof": proof,
 }
 
 
@@ -365,11 +477,15 @@ def meaning(kind, data):
         if data:
             raise Refused("left over", 41)
         return "nothing"
+    if kind.removeprefix("open-") in RECORDS:
+        return record(kind, data)
     return read_to_the_end(SAMPLES.get(kind) or READERS[kind], Fields(data))
 
 
 def told_of(kind, refused):
     how, place = refused.args
+    if place is None:
+        return how
     if kind in SAMPLES or how == "for the code":
         return f"{how} at {place}" if kind in SAMPLES else f"{how} {place}"
     return f"at {place}"
@@ -381,7 +497,7 @@ def written(kind, data):
         return data[:8] + bytes.fromhex("01000000020000000100000002000000")
     if kind == "header":
         return data[:18] + bytes.fromhex("7f00010000000000000000000000000000000001000000")
-    return data
+    return data[16:] if kind.startswith("open-") else data
 
 
 def why(kind, data):

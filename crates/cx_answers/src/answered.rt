@@ -1,10 +1,11 @@
 //! What is told of bytes of a kind.
 
-use cx_base::Blob;
+use cx_base::{Blob, Duplicate};
 use cx_control::WireRefusal;
 use cx_enc::{Misspelling, ReadFault, ReadRefusal};
+use cx_sealed::SealedRefusal;
 use cx_wire::BodyRefusal;
-use std::alloc::AllocError;
+use std::alloc::{AllocError, Global};
 use std::fmt;
 
 /// What bytes mean, and the bytes that are written for it.
@@ -25,6 +26,12 @@ pub enum Refused {
     Bad(usize),
     /// Bytes are left over from this place on.
     LeftOver(usize),
+    /// They hold no key.
+    NoKey,
+    /// They don't open.
+    Unopened,
+    /// They open to a content that spells no such record.
+    Misread,
     /// They are a body of another code.
     Code(u16),
     OutOfMemory,
@@ -41,6 +48,9 @@ impl fmt::Display for Refused {
             Refused::Short(place) => write!(f, "short at {place}"),
             Refused::Bad(place) => write!(f, "bad at {place}"),
             Refused::LeftOver(place) => write!(f, "left over at {place}"),
+            Refused::NoKey => write!(f, "no key"),
+            Refused::Unopened => write!(f, "unopened"),
+            Refused::Misread => write!(f, "misread"),
             Refused::Code(code) => write!(f, "for the code {code}"),
             Refused::OutOfMemory => write!(f, "out of memory"),
             Refused::Unfit => write!(f, "fits no field"),
@@ -96,10 +106,26 @@ impl From<BodyRefusal> for Refused {
     }
 }
 
+impl From<SealedRefusal> for Refused {
+    fn from(refusal: SealedRefusal) -> Refused {
+        match refusal {
+            SealedRefusal::Unopened => Refused::Unopened,
+            SealedRefusal::Misread => Refused::Misread,
+            SealedRefusal::OutOfMemory => Refused::OutOfMemory,
+        }
+    }
+}
+
 impl From<AllocError> for Refused {
     fn from(_: AllocError) -> Refused {
         Refused::OutOfMemory
     }
+}
+
+/// A copy of what was read, to stand in its place.
+pub fn copied<T: Duplicate>(alloc: Global, read: T) -> Result<T, Refused> {
+    let copy = read.copy(alloc)?;
+    Ok(copy)
 }
 
 // The value that was read is written again and printed.

@@ -1,11 +1,11 @@
 //! What a writer asks of a value, tested of one that was read.
 
-ghost use Rattle.std.specs.Prelude.{length, ◌<◌, ◌^◌, IsTrue, OnOk};
-ghost use Rattle.cx_base.specs.Texts.{is_part};
+ghost use Rattle.std.specs.Prelude.{length, ◌<◌, ◌≤◌, ◌^◌, IsTrue, OnOk};
+ghost use Rattle.cx_base.specs.Texts.{is_caps, is_part};
 ghost use Rattle.cx_enc.specs.Moments.{IsReading};
 
 use crate::answered::Refused;
-use cx_base::{Blob, Reading, SECOND, Text, is_part};
+use cx_base::{Blob, Items, Reading, SECOND, Text, is_caps, is_part};
 
 /// That a blob field can hold these bytes.
 pub fn is_short(bytes: &Blob) -> Result<(), Refused>
@@ -17,11 +17,31 @@ pub fn is_short(bytes: &Blob) -> Result<(), Refused>
     Ok(())
 }
 
+/// That these are no more modes than a request has.
+pub fn is_few(modes: &Items<u32>) -> Result<(), Refused>
+    ensures { OnOk result (length modes.now ≤ 16) }
+{
+    if modes.all().len() > 16 {
+        return Err(Refused::Unfit);
+    }
+    Ok(())
+}
+
 /// That a time field can hold this reading.
 pub fn is_reading(reading: Reading) -> Result<(), Refused>
     ensures { OnOk result (IsReading reading) }
 {
     if reading >= 4_294_967_296 * SECOND {
+        return Err(Refused::Unfit);
+    }
+    Ok(())
+}
+
+/// That these are caps.
+pub fn is_capped(caps: &Text) -> Result<(), Refused>
+    ensures { OnOk result (IsTrue (is_caps caps.now)) }
+{
+    if !is_caps(caps.bytes()) {
         return Err(Refused::Unfit);
     }
     Ok(())

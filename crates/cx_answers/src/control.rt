@@ -1,9 +1,9 @@
 //! The payloads of control frames, by the names of their tags.
 
-use crate::answered::{Answered, Refused, answered};
-use crate::bounds::is_reading;
+use crate::answered::{Answered, Refused, answered, copied};
+use crate::bounds::{is_few, is_reading, is_short};
 use crate::shown::{Hex, Numbers, Place};
-use cx_base::{Blob, Duplicate};
+use cx_base::Blob;
 use cx_control::{
     put_ack, put_auth_bad_method, put_auth_done, put_auth_reply_more, put_auth_request,
     put_auth_request_more, put_auth_signature, put_client_ident, put_hello,
@@ -61,9 +61,12 @@ fn hello(alloc: Global, bytes: &[u8]) -> Result<Answered, Refused> {
 }
 
 fn auth_request(alloc: Global, bytes: &[u8]) -> Result<Answered, Refused> {
+    let x = copied(alloc, read_auth_request(alloc, bytes)?)?;
+    is_few(&x.modes)?;
+    is_short(&x.payload)?;
     answered!(
         alloc,
-        x = read_auth_request(alloc, bytes)?.copy(alloc)?,
+        x = x,
         put_auth_request,
         "method {} modes{} payload {}",
         x.method,
@@ -84,9 +87,11 @@ fn auth_bad_method(alloc: Global, bytes: &[u8]) -> Result<Answered, Refused> {
 }
 
 fn auth_reply_more(alloc: Global, bytes: &[u8]) -> Result<Answered, Refused> {
+    let x = copied(alloc, read_auth_reply_more(alloc, bytes)?)?;
+    is_short(&x.payload)?;
     answered!(
         alloc,
-        x = read_auth_reply_more(alloc, bytes)?.copy(alloc)?,
+        x = x,
         put_auth_reply_more,
         "payload {}",
         Hex(x.payload.bytes())
@@ -94,9 +99,11 @@ fn auth_reply_more(alloc: Global, bytes: &[u8]) -> Result<Answered, Refused> {
 }
 
 fn auth_request_more(alloc: Global, bytes: &[u8]) -> Result<Answered, Refused> {
+    let x = copied(alloc, read_auth_request_more(alloc, bytes)?)?;
+    is_short(&x.payload)?;
     answered!(
         alloc,
-        x = read_auth_request_more(alloc, bytes)?.copy(alloc)?,
+        x = x,
         put_auth_request_more,
         "payload {}",
         Hex(x.payload.bytes())
@@ -104,9 +111,11 @@ fn auth_request_more(alloc: Global, bytes: &[u8]) -> Result<Answered, Refused> {
 }
 
 fn auth_done(alloc: Global, bytes: &[u8]) -> Result<Answered, Refused> {
+    let x = copied(alloc, read_auth_done(alloc, bytes)?)?;
+    is_short(&x.payload)?;
     answered!(
         alloc,
-        x = read_auth_done(alloc, bytes)?.copy(alloc)?,
+        x = x,
         put_auth_done,
         "gid {} mode {} payload {}",
         x.gid,

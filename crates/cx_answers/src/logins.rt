@@ -1,6 +1,6 @@
 //! The payloads of cephx in frames of authentication.
 
-use crate::answered::{Answered, Refused, answered};
+use crate::answered::{Answered, Refused, answered, copied};
 use crate::bounds::is_short;
 use crate::shown::{Hex, Ticket, Tickets};
 use cx_base::{Blob, Duplicate};
@@ -29,7 +29,7 @@ pub fn login(alloc: Global, kind: &str, bytes: &[u8]) -> Result<Answered, Refuse
 fn login_hello(alloc: Global, bytes: &[u8]) -> Result<Answered, Refused> {
     answered!(
         alloc,
-        x = read_login_hello(alloc, bytes)?.copy(alloc)?,
+        x = copied(alloc, read_login_hello(alloc, bytes)?)?,
         put_login_hello,
         "name {} gid {}",
         x.name,
@@ -48,7 +48,10 @@ fn server_challenge(alloc: Global, bytes: &[u8]) -> Result<Answered, Refused> {
 }
 
 fn authenticate(alloc: Global, bytes: &[u8]) -> Result<Answered, Refused> {
-    let x = read_authenticate(alloc, bytes)?.copy(alloc)?;
+    let x = copied(alloc, read_authenticate(alloc, bytes)?)?;
+    if x.version != 2 && x.version != 3 {
+        return Err(Refused::Unfit);
+    }
     is_short(&x.old_ticket.blob)?;
     answered!(
         alloc,
@@ -75,7 +78,7 @@ fn login_done(alloc: Global, bytes: &[u8]) -> Result<Answered, Refused> {
 }
 
 fn authorizer(alloc: Global, bytes: &[u8]) -> Result<Answered, Refused> {
-    let x = read_authorizer(alloc, bytes)?.copy(alloc)?;
+    let x = copied(alloc, read_authorizer(alloc, bytes)?)?;
     is_short(&x.ticket.blob)?;
     is_short(&x.authorize)?;
     answered!(
@@ -91,9 +94,11 @@ fn authorizer(alloc: Global, bytes: &[u8]) -> Result<Answered, Refused> {
 }
 
 fn authorize_challenge(alloc: Global, bytes: &[u8]) -> Result<Answered, Refused> {
+    let x = copied(alloc, read_authorize_challenge(alloc, bytes)?)?;
+    is_short(&x.sealed)?;
     answered!(
         alloc,
-        x = read_authorize_challenge(alloc, bytes)?.copy(alloc)?,
+        x = x,
         put_authorize_challenge,
         "sealed {}",
         Hex(x.sealed.bytes())
@@ -101,9 +106,11 @@ fn authorize_challenge(alloc: Global, bytes: &[u8]) -> Result<Answered, Refused>
 }
 
 fn authorize_reply(alloc: Global, bytes: &[u8]) -> Result<Answered, Refused> {
+    let x = copied(alloc, read_authorize_reply(alloc, bytes)?)?;
+    is_short(&x.sealed)?;
     answered!(
         alloc,
-        x = read_authorize_reply(alloc, bytes)?.copy(alloc)?,
+        x = x,
         put_authorize_reply,
         "sealed {}",
         Hex(x.sealed.bytes())

@@ -9,6 +9,7 @@ mod logins;
 mod messages;
 mod rows;
 mod samples;
+mod sealed;
 mod shown;
 
 use rows::told;

@@ -1,9 +1,9 @@
 //! The segments of messages.
 
-use crate::answered::{Answered, Refused, answered};
+use crate::answered::{Answered, Refused, answered, copied};
 use crate::bounds::is_name;
 use crate::shown::{Hex, Tickets};
-use cx_base::{Blob, Duplicate, Operation};
+use cx_base::{Blob, Duplicate};
 use cx_enc::put_blob;
 use cx_wire::{
     Reply, Request, put_answer, put_header, put_operation, put_reply, put_request, read_answer,
@@ -62,7 +62,7 @@ fn reply(alloc: Global, bytes: &[u8]) -> Result<Answered, Refused> {
 }
 
 fn operation(alloc: Global, bytes: &[u8]) -> Result<Answered, Refused> {
-    let x = operation_of(alloc, bytes)?;
+    let x = copied(alloc, read_operation(alloc, bytes)?)?;
     is_name(&x.pool)?;
     is_name(&x.namespace)?;
     is_name(&x.object)?;
@@ -82,15 +82,14 @@ fn operation(alloc: Global, bytes: &[u8]) -> Result<Answered, Refused> {
     )
 }
 
-fn operation_of(alloc: Global, bytes: &[u8]) -> Result<Operation, Refused> {
-    let operation = read_operation(alloc, bytes)?.copy(alloc)?;
-    Ok(operation)
-}
-
 fn answer(alloc: Global, bytes: &[u8]) -> Result<Answered, Refused> {
+    let x = copied(alloc, read_answer(alloc, bytes)?)?;
+    if x.outcome > 2 || x.bytes.bytes().len() > 65_536 {
+        return Err(Refused::Unfit);
+    }
     answered!(
         alloc,
-        x = read_answer(alloc, bytes)?.copy(alloc)?,
+        x = x,
         put_answer,
         "outcome {} bytes {}",
         x.outcome,

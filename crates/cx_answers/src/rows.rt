@@ -5,6 +5,7 @@ use crate::control::control;
 use crate::logins::login;
 use crate::messages::message;
 use crate::samples::sample;
+use crate::sealed::record;
 use crate::shown::Hex;
 use cx_base::Blob;
 use std::alloc::{AllocError, Global};
@@ -53,7 +54,11 @@ fn answer(alloc: Global, kind: &str, bytes: &[u8]) -> Result<Answered, Refused> 
         answered => return answered,
     }
     match message(alloc, kind, bytes) {
-        Err(Refused::NoKind) => sample(alloc, kind, bytes),
+        Err(Refused::NoKind) => {}
+        answered => return answered,
+    }
+    match sample(alloc, kind, bytes) {
+        Err(Refused::NoKind) => record(alloc, kind, bytes),
         answered => answered,
     }
 }

@@ -6,16 +6,12 @@ mod authorize_challenge;
 mod authorize_reply;
 mod connection_secret;
 mod kinds;
-#[cfg(test)]
-mod known;
 mod login_proof;
 mod opening;
 mod records;
 mod refusals;
 mod rotating_reply;
 mod service_ticket;
-#[cfg(test)]
-mod tests;
 mod ticket_info;
 
 pub use authorize::Authorize;
