@@ -14,8 +14,8 @@ use cx_base::{
 };
 use cx_desk::Desk;
 use cx_journal::{
-    Admitted, Answered, Entry, Fetched, Handled, Issued, Journal, Looked, NodeName, Outcome, Reason,
-    Refused, Sent, TicketFault,
+    Admitted, Answered, Entry, Fetched, Handled, Issued, Journal, Looked, NodeName, Outcome,
+    Reason, Refused, Sent, TicketFault,
 };
 use cx_rotate::View;
 use cx_lines::{Grant, Line};

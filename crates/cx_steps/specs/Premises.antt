@@ -1,7 +1,7 @@
 -- The two premises of a run, over its whole log: nothing opens that wasn't sealed, and no draw repeats. They stand in the place
 -- of what no proof can say: that the ciphers resist and that draws are random. What opens under the keys of a leaked client is
 -- excepted, where it opens at the monitor or at a daemon.
-use Rattle.std.specs.Prelude.{ℕ, ◌≡◌, Bool, true, List, [], Option, Some, None, IsTrue, Contains, ◌⊎◌}
+use Rattle.std.specs.Prelude.{ℕ, ◌≡◌, Bool, true, List, [], Some, IsTrue, Contains, ◌⊎◌}
 use Rattle.cx_base.specs.Names.{Name}
 use Rattle.cx_journal.specs.Nodes.{is_daemon_type}
 use Rattle.cx_journal.specs.declared.node_names.NodeName.{NodeName}

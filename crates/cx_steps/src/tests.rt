@@ -1,6 +1,8 @@
 //! Each call once, with ample memory.
 
-use crate::{Command, DrawMark, Effects, Event, Logged, Peer, Piece, SealEntry, SealMark, seal_laws};
+use crate::{
+    Command, DrawMark, Effects, Event, Logged, Peer, Piece, SealEntry, SealMark, seal_laws,
+};
 use cx_base::{Access, Blob, Duplicate, EntityName, EntityType, Operation, Text};
 use cx_journal::{Entry, KeyKind, NodeName};
 use std::alloc::Global;
@@ -88,7 +90,12 @@ fn push_draws(rt: &impl Abort, alloc: Global, effects: &mut Effects) {
         for_whom: daemon(rt, alloc),
     };
     seal(rt, alloc, effects, SealEntry::Drawn(session));
-    seal(rt, alloc, effects, SealEntry::Drawn(DrawMark::Rotation([5; 16])));
+    seal(
+        rt,
+        alloc,
+        effects,
+        SealEntry::Drawn(DrawMark::Rotation([5; 16])),
+    );
     seal(rt, alloc, effects, SealEntry::Drawn(DrawMark::Challenge(6)));
     seal(rt, alloc, effects, SealEntry::Drawn(DrawMark::Nonce(7)));
     seal(rt, alloc, effects, SealEntry::Drawn(DrawMark::Cookie(8)));
@@ -104,7 +111,10 @@ fn push_seals(rt: &impl Abort, alloc: Global, effects: &mut Effects) {
 fn push_links(rt: &impl Abort, alloc: Global, effects: &mut Effects) {
     let asked = Peer::Daemon(daemon(rt, alloc));
     effects.opens.push(alloc, asked).expect(rt, "memory");
-    effects.opens.push(alloc, Peer::Monitor).expect(rt, "memory");
+    effects
+        .opens
+        .push(alloc, Peer::Monitor)
+        .expect(rt, "memory");
     let piece = Piece {
         link: 1,
         bytes: blob(rt, alloc),
@@ -113,7 +123,10 @@ fn push_links(rt: &impl Abort, alloc: Global, effects: &mut Effects) {
     for link in 0..70_000u32 {
         effects.shuts.push(alloc, link).expect(rt, "memory");
     }
-    effects.entries.push(alloc, Entry::Saved(2)).expect(rt, "memory");
+    effects
+        .entries
+        .push(alloc, Entry::Saved(2))
+        .expect(rt, "memory");
 }
 
 #[test]
