@@ -1,9 +1,8 @@
 -- Both sides agree.
-use Rattle.std.proofs.Common.{◌≡◌, ◌⊎◌, ℕ, ◌<◌, Bool, true, false, List, Option, Some, None, Result, Ok, Err, refl, sym, ap, subst, ◌∙◌, arith, inl, inr}
-use Rattle.std.specs.Prelude.{◌==◌, MatchBool, IfOk, IfErr}
+use Rattle.std.proofs.Common.{◌≡◌, ℕ, ◌<◌, Bool, true, false, List, Option, Some, None, Result, Ok, Err, refl, sym, ap, subst, ◌∙◌, inl, inr}
+use Rattle.std.specs.Prelude.{MatchBool}
 use Rattle.std.proofs.lemmas.Bool.{eq-eqb, lt-leb}
 use Rattle.cx_base.specs.Names.{same_kind}
-use Rattle.cx_enc.specs.Whole.{Spells}
 use Rattle.cx_sealed.specs.Records.{service_ticket_layout, authorize_layout, authorize_challenge_layout, authorize_reply_layout}
 use Rattle.cx_sealed.specs.Sealing.{OpensTo}
 use Rattle.cx_sealed.specs.declared.service_ticket.ServiceTicket.{ServiceTicket}
@@ -14,16 +13,14 @@ use Rattle.cx_wire.specs.Logins as payload
 use Rattle.cx_wire.specs.declared.authorizers.Authorizer.{Authorizer}
 use Rattle.cx_wire.specs.declared.authorizers.AuthorizeChallenge as challenge_payload
 use Rattle.cx_wire.specs.declared.authorizers.AuthorizeReply as reply_payload
-use Rattle.cx_login.specs.Held.{Held}
 use Rattle.cx_login.specs.Opening.{IsShut, IsTried, generation_key}
 use Rattle.cx_login.proofs.Tried.{tried_is, spells_one}
-use Rattle.cx_authorize.specs.Verdict.{raised, answering, fault_of, with_blob, IsJudgedByFault, IsJudgedByTicket, IsJudgedByKey, IsJudgedByService, IsVerdict}
-use Rattle.cx_authorize.specs.Answers.{shown_as, authorizer_of, IsAuthorizer, IsChallenge, IsReply}
-use Rattle.cx_authorize.specs.Client.{Presented, Answered, Answers, IsNoChallenge, IsAnswered, Replies, Agrees, IsNoReply, IsAgreed}
-use Rattle.cx_authorize.specs.Agreement.{HoldsTicket, IsWelcome, IsAccepted, AnswersChallenge, TakesReply}
+use Rattle.cx_authorize.specs.Verdict.{raised, answering, fault_of, with_blob, IsJudgedByFault, IsJudgedByTicket, IsJudgedByKey, IsJudgedByService}
+use Rattle.cx_authorize.specs.Answers.{shown_as, authorizer_of, IsAuthorizer, IsReply}
+use Rattle.cx_authorize.specs.Client.{Answered, Replies}
+use Rattle.cx_authorize.specs.Agreement.{IsAccepted, AnswersChallenge, TakesReply}
 use Rattle.cx_authorize.specs.declared.refusals.AuthFault.{AuthFault}
 use Rattle.cx_authorize.specs.declared.refusals.AuthRefusal.{AuthRefusal}
-use Rattle.cx_authorize.specs.declared.refusals.PresentRefusal.{PresentRefusal}
 use Rattle.cx_authorize.specs.declared.refusals.PresentRefusal.TheVariants as present
 use Rattle.cx_authorize.specs.declared.judging.Terms.{Terms}
 use Rattle.cx_authorize.specs.declared.judging.Shown.{Shown}

@@ -1,9 +1,8 @@
 -- What passes was opened under a generation of the view, and is live.
-use Rattle.std.proofs.Common.{◌≡◌, ◌⊎◌, ℕ, ◌<◌, Bool, true, false, cond, List, Option, Some, None, Result, Ok, Err, refl, sym, ap, subst, ◌∙◌, inl, inr}
+use Rattle.std.proofs.Common.{◌≡◌, ℕ, ◌<◌, Bool, true, false, cond, List, Option, Some, None, Result, Ok, Err, refl, sym, ap, subst, ◌∙◌, inl, inr}
 use Rattle.std.specs.Prelude.{◌==◌, ◌&&◌, not, nat_le, MatchBool}
 use Rattle.std.proofs.lemmas.Bool.{leb-false}
 use Rattle.cx_base.specs.Names.{same_kind}
-use Rattle.cx_rotate.specs.declared.views.View.{View}
 use Rattle.cx_sealed.specs.Records.{service_ticket_layout}
 use Rattle.cx_sealed.specs.Sealing.{OpensTo}
 use Rattle.cx_sealed.specs.declared.service_ticket.ServiceTicket.{ServiceTicket}
@@ -13,10 +12,10 @@ use Rattle.cx_login.specs.Opening.{IsTried, generation_key}
 use Rattle.cx_authorize.specs.declared.refusals.AuthFault.{AuthFault}
 use Rattle.cx_authorize.specs.declared.refusals.AuthFault.TheVariants.{GidDiffers, Expired, ChallengeWrong}
 use Rattle.cx_authorize.specs.declared.refusals.AuthRefusal.{AuthRefusal}
-use Rattle.cx_authorize.specs.declared.refusals.AuthRefusal.TheVariants.{Malformed, WrongService, Ticket, OutOfMemory}
+use Rattle.cx_authorize.specs.declared.refusals.AuthRefusal.TheVariants.{Malformed, WrongService}
 use Rattle.cx_authorize.specs.declared.judging.Terms.{Terms}
 use Rattle.cx_authorize.specs.declared.judging.Shown.{Shown}
-use Rattle.cx_authorize.specs.Verdict.{raised, answering, fault_of, with_blob, IsJudgedByFault, IsJudgedByTicket, IsJudgedByKey, IsJudgedByService, IsVerdict}
+use Rattle.cx_authorize.specs.Verdict.{raised, answering, fault_of, with_blob, IsJudgedByFault, IsJudgedByTicket, IsJudgedByKey, IsVerdict}
 use Rattle.cx_authorize.specs.Daemon.{IsLive, IsChecked}
 use Rattle.cx_authorize.proofs.Verdicts.{refused_only}
 

@@ -1,5 +1,5 @@
 -- There is one verdict on an authorizer.
-use Rattle.std.proofs.Common.{◌≡◌, ◌⊎◌, ℕ, Bool, true, false, List, Option, Some, None, Result, Ok, Err, refl, sym, ap, subst, ◌∙◌, inl, inr}
+use Rattle.std.proofs.Common.{◌≡◌, ◌⊎◌, ℕ, Bool, true, false, List, Option, Some, None, Result, Ok, Err, sym, ap, subst, ◌∙◌, inl, inr}
 use Rattle.std.specs.Prelude.{MatchBool, IfErr}
 use Rattle.cx_base.specs.Names.{same_kind}
 use Rattle.cx_sealed.specs.Records.{service_ticket_layout, authorize_layout}
@@ -7,10 +7,9 @@ use Rattle.cx_sealed.specs.declared.service_ticket.ServiceTicket.{ServiceTicket}
 use Rattle.cx_sealed.specs.declared.authorize.Authorize.{Authorize}
 use Rattle.cx_wire.specs.Logins.{authorizer_layout}
 use Rattle.cx_wire.specs.declared.authorizers.Authorizer.{Authorizer}
-use Rattle.cx_login.specs.Opening.{IsTried, generation_key}
+use Rattle.cx_login.specs.Opening.{generation_key}
 use Rattle.cx_login.proofs.Tried.{tried_one, spells_one}
 use Rattle.cx_authorize.specs.declared.refusals.AuthFault.{AuthFault}
-use Rattle.cx_authorize.specs.declared.refusals.AuthFault.TheVariants.{UnknownGeneration, TicketUnopened}
 use Rattle.cx_authorize.specs.declared.refusals.AuthRefusal.{AuthRefusal}
 use Rattle.cx_authorize.specs.declared.refusals.AuthRefusal.TheVariants.{Malformed, WrongService, OutOfMemory}
 use Rattle.cx_authorize.specs.declared.judging.Terms.{Terms}

@@ -1,5 +1,5 @@
 -- A client that holds what the key server issued, and a daemon whose view has that generation, agree.
-use Rattle.std.specs.Prelude.{ℕ, ◌≡◌, ◌<◌, Bool, true, List, Some, Result, Ok, IfOk, IfErr}
+use Rattle.std.specs.Prelude.{ℕ, ◌≡◌, ◌<◌, true, List, Some, Result, Ok, IfOk, IfErr}
 use Rattle.cx_base.specs.Names.{same_kind}
 use Rattle.cx_sealed.specs.Records.{service_ticket_layout}
 use Rattle.cx_sealed.specs.Sealing.{OpensTo}

@@ -1,6 +1,6 @@
 -- The client's side of an authorizer ("detailed cephx protocol": the client shows its ticket, answers the daemon's challenge, and
 -- takes the reply to its own nonce).
-use Rattle.std.specs.Prelude.{ℕ, ◌≡◌, ◌≢◌, List, Option, Some, None, Result, Ok, Err, IfOk, IfErr}
+use Rattle.std.specs.Prelude.{ℕ, ◌≡◌, ◌≢◌, List, Some, None, Result, IfOk, IfErr}
 use Rattle.cx_enc.specs.Whole.{Spells}
 use Rattle.cx_control.specs.Calls.{IsRefusedFor}
 use Rattle.cx_control.specs.declared.refusals.WireRefusal.TheVariants as wire

@@ -1,7 +1,6 @@
 -- The daemon's side of an authorizer ("detailed cephx protocol": the daemon challenges the first authorizer, and answers the second).
 use Rattle.std.specs.Prelude.{ℕ, ◌≡◌, ◌<◌, ◌⊎◌, List, Some, Result, Ok, Err, IfOk, IfErr}
 use Rattle.cx_base.specs.declared.kinds.EntityType.{EntityType}
-use Rattle.cx_rotate.specs.declared.generations.Generation.{Generation}
 use Rattle.cx_rotate.specs.declared.views.View.{View}
 use Rattle.cx_sealed.specs.Records.{service_ticket_layout}
 use Rattle.cx_sealed.specs.Sealing.{OpensTo}

@@ -14,7 +14,7 @@ use Rattle.cx_login.specs.Opening.{IsTried, generation_key}
 use Rattle.cx_authorize.specs.declared.refusals.AuthFault.{AuthFault}
 use Rattle.cx_authorize.specs.declared.refusals.AuthFault.TheVariants.{UnknownGeneration, TicketUnopened, GidDiffers, Expired, AuthorizerUnopened, ChallengeWrong}
 use Rattle.cx_authorize.specs.declared.refusals.AuthRefusal.{AuthRefusal}
-use Rattle.cx_authorize.specs.declared.refusals.AuthRefusal.TheVariants.{Malformed, WrongService, Ticket, OutOfMemory}
+use Rattle.cx_authorize.specs.declared.refusals.AuthRefusal.TheVariants.{Malformed, WrongService, Ticket}
 use Rattle.cx_authorize.specs.declared.judging.Terms.{Terms}
 use Rattle.cx_authorize.specs.declared.judging.Shown.{Shown}
 
