@@ -1,0 +1,47 @@
+use Rattle.std.proofs.Common.{◌≡◌, ◌-◌, ◌≤◌, length, slice_index, ap, ◌∙◌, arith}
+use Rattle.cx_secure.specs.Plains.{last_len, one_if, second_len, tagged}
+use Rattle.cx_secure.proofs.Lengths.{behind_len, last_small, one_if_tagged, parts_front, second_room, tagged_large, tagged_most, tagged_text}
+use Rattle.cx_secure.proofs.opening.rest_of.Goals as goal
+
+pub opened_some-requires-clause-long : goal.opened_some-requires-clause-long
+opened_some-requires-clause-long c = λ some.
+    let e : length c.split_at.result.0.now ≡ tagged c.second_len.result = c.split_at.ensures.front_len ∙ c.tagged-front.ensures.value in
+    rw e (tagged_large c.second_len.result (λ z. some (e ∙ z)))
+
+pub overflow_add-way : goal.overflow_add-way
+overflow_add-way c =
+    let p = c.args.head.now.preamble in
+    let e : c.one_if.result ≡ one_if (tagged (second_len p)) = c.one_if.ensures.value ∙ ap (λ n. one_if n) (c.tagged-front.ensures.value ∙ ap tagged c.second_len.ensures.value) in
+    omega (arith, e, parts_front p, c.requires.counter)
+
+pub opened_some-requires-2-clause-long : goal.opened_some-requires-2-clause-long
+opened_some-requires-2-clause-long c = λ some.
+    let p = c.args.head.now.preamble in
+    let e : length c.split_at.result.1.now ≡ tagged (last_len p) =
+        behind_len p (length c.args.bytes.now) (length c.split_at.result.1.now) c.requires.len (let front : c.tagged-front.result ≡ tagged (second_len p) = c.tagged-front.ensures.value ∙ ap tagged c.second_len.ensures.value in omega (arith, c.split_at.ensures.back_len, front))
+    in
+    rw e (tagged_large (last_len p) (λ z. some (e ∙ z)))
+
+pub opened_some-requires-2-clause-short : goal.opened_some-requires-2-clause-short
+opened_some-requires-2-clause-short c =
+    let p = c.args.head.now.preamble in
+    let e : length c.split_at.result.1.now ≡ tagged (last_len p) =
+        behind_len p (length c.args.bytes.now) (length c.split_at.result.1.now) c.requires.len (let front : c.tagged-front.result ≡ tagged (second_len p) = c.tagged-front.ensures.value ∙ ap tagged c.second_len.ensures.value in omega (arith, c.split_at.ensures.back_len, front))
+    in
+    omega (arith, e, tagged_most (last_len p), last_small p c.requires.allowed)
+
+pub frame_at-requires-clause-room : goal.frame_at-requires-clause-room
+frame_at-requires-clause-room c =
+    let p = c.args.head.now.preamble in
+    let e : length c.split_at.result.0.now ≡ tagged (second_len p) = c.split_at.ensures.front_len ∙ c.tagged-front.ensures.value ∙ ap tagged c.second_len.ensures.value in
+    let second : length c.in_ok-second.second ≡ second_len p = c.in_ok-second.ensures.len ∙ ap (λ n. n - 16) e ∙ tagged_text (second_len p) in
+    let seen : length c.bytes.result.now ≡ length c.in_ok-second.second = ap length c.bytes.ensures in
+    omega (arith, second_room p, c.in_ok-room.ensures.len, second, seen)
+
+pub frame_at-requires-clause-last : goal.frame_at-requires-clause-last
+frame_at-requires-clause-last c =
+    let p = c.args.head.now.preamble in
+    let e : length c.split_at.result.1.now ≡ tagged (last_len p) =
+        behind_len p (length c.args.bytes.now) (length c.split_at.result.1.now) c.requires.len (let front : c.tagged-front.result ≡ tagged (second_len p) = c.tagged-front.ensures.value ∙ ap tagged c.second_len.ensures.value in omega (arith, c.split_at.ensures.back_len, front))
+    in
+    c.in_ok-last.ensures.len ∙ ap (λ n. n - 16) e ∙ tagged_text (last_len p)
