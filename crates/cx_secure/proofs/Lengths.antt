@@ -115,9 +115,9 @@ pub tagged_most : (n : ℕ) → tagged n ≤ n + 16
 unfolding tagged
 tagged_most n = elim (cases_eq n 0) [ inl e ↦ rw e (omega arith) | inr ne ↦ rw (ne_eqb n 0 ne) (omega arith) ]
 
-pub parts_front : (p : Preamble) → one_if (tagged (second_len p)) ≤ rest_parts p
+pub parts_front : (p : Preamble) → one_if (second_len p) ≤ rest_parts p
 unfolding rest_parts
-parts_front p = omega (arith, one_if_tagged (second_len p))
+parts_front p = omega arith
 
 pub behind_len : (p : Preamble) (all k : ℕ) → all ≡ rest_len p → k ≡ all - tagged (second_len p) → k ≡ tagged (last_len p)
 unfolding rest_len

@@ -32,16 +32,18 @@ with_parts h (Some second) (Some last) = frame_at h.preamble (h.inline ++ second
 with_parts h (Some second) None = Err BadTag
 with_parts h None last = Err BadTag
 
--- the frame in what stands behind its head: all tags are minded before anything else
-unfoldable pub rest_of : List ℕ → List ℕ → ℕ → Head → List ℕ → Result Frame SecureRefusal
-rest_of key fixed counter h bytes =
+-- the frame in what stands behind its head, whose parts have these nonces: all tags are minded before anything else
+unfoldable pub rest_of : List ℕ → List ℕ → List ℕ → Head → List ℕ → Result Frame SecureRefusal
+rest_of key first next h bytes =
     let n = tagged (second_len h.preamble) in
-    with_parts h (opened_some key (nonce_at fixed counter) (take n bytes)) (opened_some key (nonce_at fixed (counter + one_if n)) (drop n bytes))
+    with_parts h (opened_some key first (take n bytes)) (opened_some key next (drop n bytes))
 
 -- the same, where its parts come from this counter on
 unfoldable pub rest_step : List ℕ → List ℕ → ℕ → Head → List ℕ → Result Frame SecureRefusal
 rest_step key fixed counter h bytes =
-    if nat_lt (2 ^ 64 - 1) (counter + rest_parts h.preamble) then Err CounterSpent else rest_of key fixed counter h bytes
+    if nat_lt (2 ^ 64 - 1) (counter + rest_parts h.preamble)
+    then Err CounterSpent
+    else rest_of key (nonce_at fixed counter) (nonce_at fixed (counter + one_if (second_len h.preamble))) h bytes
 
 -- 96 bytes are a head, sealed under this nonce
 pub record IsHead (key nonce bytes : List ℕ) (h : Head) : Type 0 where

@@ -1,6 +1,6 @@
 -- The plain texts of a secure frame's parts, and the frame that is read in them.
 use Rattle.std.specs.Prelude.{ℕ, ◌≡◌, ◌+◌, ◌-◌, ◌*◌, ◌/◌, ◌==◌, ◌&&◌, Bool, true, List, [], ◌∷◌, ◌++◌, length, take, drop, replicate, sum_by, slice_index, Result, Ok, Err, if◌then◌else◌}
-use Rattle.std.specs.List.{list_all, slice_range}
+use Rattle.std.specs.List.{flat_map, list_all, slice_range}
 use Rattle.cx_frame.specs.declared.frame.Segment.{Segment}
 use Rattle.cx_frame.specs.declared.frame.Frame.{Frame}
 use Rattle.cx_frame.specs.declared.preamble.Preamble.{Preamble}
@@ -24,14 +24,17 @@ abbrev pub nonempty : List ℕ → List (List ℕ)
 nonempty [] = []
 nonempty (b ∷ bs) = (b ∷ bs) ∷ []
 
--- the segments from the second on, each filled to a multiple of 16
-unfoldable pub bodies : List Segment → List ℕ
-bodies [] = []
-bodies (s ∷ ss) = filled (up16 (length s.bytes)) s.bytes ++ bodies ss
+-- a segment filled to a multiple of 16
+unfoldable pub padded : Segment → List ℕ
+padded s = filled (up16 (length s.bytes)) s.bytes
 
--- the last part: these segments, and 16 bytes, the late status 0x0e and zeros
+-- the segments from the second on
+abbrev pub bodies : List Segment → List ℕ
+bodies others = flat_map padded others
+
+-- the last part: these segments, and the late status 0x0e, filled to 16 bytes
 unfoldable pub last_plain : List Segment → List ℕ
-last_plain others = if length others == 0 then [] else bodies others ++ (0x0e ∷ replicate 15 0)
+last_plain others = if length others == 0 then [] else bodies others ++ filled 16 (0x0e ∷ [])
 
 -- what of the first segment stands in the first part: 48 bytes, with zeros where it is shorter
 unfoldable pub inline_of : List ℕ → List ℕ
@@ -41,10 +44,13 @@ inline_of bytes = filled 48 (take 48 bytes)
 unfoldable pub second_plain : List ℕ → List ℕ
 second_plain bytes = filled (up16 (length bytes - 48)) (drop 48 bytes)
 
--- the parts of a frame with this preamble
+-- the parts of a frame with this preamble, first segment and others
+unfoldable pub parts_of : List ℕ → List ℕ → List Segment → List (List ℕ)
+parts_of preamble first others = (preamble ++ inline_of first) ∷ nonempty (second_plain first) ++ nonempty (last_plain others)
+
 unfoldable pub plains_of : List ℕ → List Segment → List (List ℕ)
-plains_of front [] = []
-plains_of front (s ∷ ss) = (front ++ inline_of s.bytes) ∷ nonempty (second_plain s.bytes) ++ nonempty (last_plain ss)
+plains_of preamble [] = []
+plains_of preamble (s ∷ ss) = parts_of preamble s.bytes ss
 
 unfoldable pub plains : Frame → List (List ℕ)
 plains f = plains_of (preamble_text (preamble_of f)) f.segments

@@ -3,12 +3,13 @@
 
 mod opening;
 mod parts;
+mod putting;
 mod refusals;
 mod rooms;
 mod sealing;
 mod starting;
 
-pub use opening::rest_len;
+pub use opening::{MAX_SECURE, rest_len};
 pub use refusals::SecureRefusal;
 pub use sealing::{Head, Sealing, Way};
 

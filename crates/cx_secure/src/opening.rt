@@ -136,7 +136,7 @@ fn inline_of(plain: &[u8; 80]) -> [u8; 48]
 }
 
 // The frame behind a head, whose parts come from the counter on.
-#[tactic(auto, unfolding(crate::specs::Opening::rest_step))]
+#[tactic(auto, using(crate::proofs::Lengths::parts_front), unfolding(crate::specs::Opening::rest_step))]
 fn rest_step(
     alloc: Global,
     key: &GcmKey,
@@ -152,29 +152,30 @@ fn rest_step(
     if way.counter > u64::MAX - rest_parts(&head.preamble) {
         return Err(SecureRefusal::CounterSpent);
     }
-    rest_of(alloc, key, way, head, bytes)
+    let next = way.counter + one_if(second_len(&head.preamble));
+    let first_nonce = nonce_at(way.fixed, way.counter);
+    let next_nonce = nonce_at(way.fixed, next);
+    rest_of(alloc, key, first_nonce, next_nonce, head, bytes)
 }
 
-// The frame in what stands behind its head.
-#[tactic(auto, unfolding(crate::specs::Opening::rest_of, crate::specs::Opening::with_parts, crate::specs::Plains::rest_len, crate::specs::Plains::rest_parts))]
+// The frame in what stands behind its head, whose parts have these nonces.
+#[tactic(auto, unfolding(crate::specs::Opening::rest_of, crate::specs::Opening::with_parts, crate::specs::Plains::rest_len))]
 fn rest_of(
     alloc: Global,
     key: &GcmKey,
-    way: &Way,
+    first: [u8; 12],
+    next: [u8; 12],
     head: &Head,
     bytes: &[u8],
 ) -> Result<Frame, SecureRefusal>
     requires allowed { IsAllowed 1048576 head.now.preamble }
     requires len { length bytes.now ≡ rest_len head.now.preamble }
-    requires counter { way.now.counter + rest_parts head.now.preamble < 2 ^ 64 }
-    ensures { Agrees result (rest_of (gcm_key_of key.now) way.now.fixed way.now.counter head.now bytes.now) }
+    ensures { Agrees result (rest_of (gcm_key_of key.now) first next head.now bytes.now) }
 {
     let front = tagged(second_len(&head.preamble));
     let (second, last) = bytes.split_at(front);
-    let first_nonce = nonce_at(way.fixed, way.counter);
-    let second = opened_some(alloc, key, first_nonce, second)?;
-    let next_nonce = nonce_at(way.fixed, way.counter + one_if(front));
-    let last = opened_some(alloc, key, next_nonce, last)?;
+    let second = opened_some(alloc, key, first, second)?;
+    let last = opened_some(alloc, key, next, last)?;
     let room = room_of(alloc, &head.inline, second.bytes())?;
     frame_at(alloc, &head.preamble, room, last.bytes())
 }

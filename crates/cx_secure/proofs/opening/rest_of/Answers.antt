@@ -8,12 +8,6 @@ opened_some-requires-clause-long c = λ some.
     let e : length c.split_at.result.0.now ≡ tagged c.second_len.result = c.split_at.ensures.front_len ∙ c.tagged-front.ensures.value in
     rw e (tagged_large c.second_len.result (λ z. some (e ∙ z)))
 
-pub overflow_add-way : goal.overflow_add-way
-overflow_add-way c =
-    let p = c.args.head.now.preamble in
-    let e : c.one_if.result ≡ one_if (tagged (second_len p)) = c.one_if.ensures.value ∙ ap (λ n. one_if n) (c.tagged-front.ensures.value ∙ ap tagged c.second_len.ensures.value) in
-    omega (arith, e, parts_front p, c.requires.counter)
-
 pub opened_some-requires-2-clause-long : goal.opened_some-requires-2-clause-long
 opened_some-requires-2-clause-long c = λ some.
     let p = c.args.head.now.preamble in
@@ -44,4 +38,4 @@ frame_at-requires-clause-last c =
     let e : length c.split_at.result.1.now ≡ tagged (last_len p) =
         behind_len p (length c.args.bytes.now) (length c.split_at.result.1.now) c.requires.len (let front : c.tagged-front.result ≡ tagged (second_len p) = c.tagged-front.ensures.value ∙ ap tagged c.second_len.ensures.value in omega (arith, c.split_at.ensures.back_len, front))
     in
-    c.in_ok-last.ensures.len ∙ ap (λ n. n - 16) e ∙ tagged_text (last_len p)
+    ap length c.bytes-2.ensures ∙ c.in_ok-last.ensures.len ∙ ap (λ n. n - 16) e ∙ tagged_text (last_len p)
