@@ -1,3 +1,4 @@
+pub mod HeadLaws
 pub mod Lengths
 pub mod Lists
 pub mod PartLaws

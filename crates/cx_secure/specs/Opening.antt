@@ -45,6 +45,12 @@ rest_step key fixed counter h bytes =
     then Err CounterSpent
     else rest_of key (nonce_at fixed counter) (nonce_at fixed (counter + one_if (second_len h.preamble))) h bytes
 
+-- the plain bytes of a first part are this head
+pub record IsPlainHead (plain : List ℕ) (h : Head) : Type 0 where
+  pub allowed : IsAllowed 1048576 h.preamble
+  pub inline : length h.inline ≡ 48
+  pub text : plain ≡ preamble_text h.preamble ++ h.inline
+
 -- 96 bytes are a head, sealed under this nonce
 pub record IsHead (key nonce bytes : List ℕ) (h : Head) : Type 0 where
   pub allowed : IsAllowed 1048576 h.preamble

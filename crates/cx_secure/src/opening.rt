@@ -5,7 +5,7 @@ ghost use Rattle.cx_gcm.specs.GcmKeyOf.{gcm_key_of};
 ghost use Rattle.cx_frame.specs.Preambles.{IsAllowed, preamble_text};
 ghost use Rattle.cx_frame.specs.declared.frame.Frame.{Frame};
 ghost use Rattle.cx_frame.specs.declared.preamble.Preamble.{Preamble};
-ghost use Rattle.cx_secure.specs.Opening.{IsHead, IsRestBehind, head_of, head_step, rest_of, rest_step, with_inline};
+ghost use Rattle.cx_secure.specs.Opening.{IsHead, IsPlainHead, IsRestBehind, head_of, head_step, rest_of, rest_step, with_inline};
 ghost use Rattle.cx_secure.specs.Parts.{nonce_at, part};
 ghost use Rattle.cx_secure.specs.Plains.{rest_len, rest_parts};
 ghost use Rattle.cx_secure.specs.Refusing.{Agrees};
@@ -36,6 +36,11 @@ pub fn rest_len(head: &Head) -> usize
 impl Sealing {
     /// Opens the head of a frame. It wants no memory.
     pub fn open_head(&mut self, bytes: &[u8; 96]) -> Result<Head, SecureRefusal>
+        // What is read was sealed so, under the counter of this direction.
+        ensures found { IfOk result (IsHead (connection_key self.old) (nonce_at self.old.into.fixed self.old.into.counter) bytes.now) }
+        // What was sealed so is read.
+        ensures only { (h : Head) → self.old.kept ≡ None → self.old.into.counter + 1 < 2 ^ 64
+            → IsHead (connection_key self.old) (nonce_at self.old.into.fixed self.old.into.counter) bytes.now h → result ≡ Ok h }
         // It is refused for what was refused before, then for the counter, the tag, and the first check of the preamble that fails.
         ensures exact { result ≡ open_head_at self.old bytes.now }
         ensures after { self.new ≡ after_head self.old result }
@@ -93,11 +98,13 @@ impl Sealing {
 fn head_step(key: &GcmKey, way: &Way, bytes: &[u8; 96]) -> Result<Head, SecureRefusal>
     ensures value { result ≡ head_step (gcm_key_of key.now) way.now.fixed way.now.counter bytes.now }
     ensures below { IfOk result (λ _. way.now.counter + 1 < 2 ^ 64) }
+    ensures found { IfOk result (IsHead (gcm_key_of key.now) (nonce_at way.now.fixed way.now.counter) bytes.now) }
+    ensures only { (h : Head) → way.now.counter + 1 < 2 ^ 64 → IsHead (gcm_key_of key.now) (nonce_at way.now.fixed way.now.counter) bytes.now h → result ≡ Ok h }
 {
     if way.counter == u64::MAX {
         return Err(SecureRefusal::CounterSpent);
     }
-    match opened_head(key, nonce_at(way.fixed, way.counter), bytes) {
+    match opened_head(key, nonce_at(&way.fixed, way.counter), bytes) {
         Some(plain) => head_of(&plain),
         None => Err(SecureRefusal::BadTag),
     }
@@ -106,7 +113,8 @@ fn head_step(key: &GcmKey, way: &Way, bytes: &[u8; 96]) -> Result<Head, SecureRe
 // The head in the plain bytes of the first part.
 #[tactic(auto, unfolding(crate::specs::Opening::head_of, crate::specs::Opening::with_inline))]
 fn head_of(plain: &[u8; 80]) -> Result<Head, SecureRefusal>
-    ensures { result ≡ head_of (Some plain.now) }
+    ensures value { result ≡ head_of (Some plain.now) }
+    ensures found { IfOk result (IsPlainHead plain.now) }
 {
     let preamble = read_preamble_within(&front_of(plain), MAX_SECURE)?;
     Ok(Head {
@@ -153,8 +161,8 @@ fn rest_step(
         return Err(SecureRefusal::CounterSpent);
     }
     let next = way.counter + one_if(second_len(&head.preamble));
-    let first_nonce = nonce_at(way.fixed, way.counter);
-    let next_nonce = nonce_at(way.fixed, next);
+    let first_nonce = nonce_at(&way.fixed, way.counter);
+    let next_nonce = nonce_at(&way.fixed, next);
     rest_of(alloc, key, first_nonce, next_nonce, head, bytes)
 }
 

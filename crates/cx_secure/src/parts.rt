@@ -3,6 +3,7 @@
 ghost use Rattle.std.specs.Prelude.{◌≡◌, ◌≢◌, ℕ, ◌+◌, ◌-◌, ◌≤◌, ◌++◌, List, Some, None, OnOk, IfOk, length};
 ghost use Rattle.std.specs.Bool.{OnTrue, OnFalse};
 ghost use Rattle.cx_gcm.specs.GcmKeyOf.{gcm_key_of};
+ghost use Rattle.cx_gcm.specs.Gcm.{IsNonce};
 ghost use Rattle.cx_secure.specs.Parts.{nonce_at, opened, opened_some, opened_text, part, sealed_parts};
 ghost use Rattle.cx_secure.specs.Plains.{nonempty};
 ghost use Rattle.cx_secure.specs.Refusing.{Opens};
@@ -17,8 +18,9 @@ pub(crate) const TAG: usize = 16;
 
 // The nonce of the part with this counter.
 #[tactic(auto, using(crate::proofs::Lists::four_front), unfolding(crate::specs::Parts::nonce_at))]
-pub(crate) fn nonce_at(fixed: [u8; 4], counter: u64) -> [u8; 12]
-    ensures { result ≡ nonce_at fixed counter }
+pub(crate) fn nonce_at(fixed: &[u8; 4], counter: u64) -> [u8; 12]
+    ensures value { result ≡ nonce_at fixed.now counter }
+    ensures nonce { IsNonce (nonce_at fixed.now counter) }
 {
     let c = counter.to_le_bytes();
     [
@@ -49,12 +51,12 @@ pub(crate) fn seal_some(
     alloc: Global,
     into: &mut Blob,
     key: &GcmKey,
-    fixed: [u8; 4],
+    fixed: &[u8; 4],
     counter: u64,
     text: &mut [u8],
 ) -> Result<(), AllocError>
     requires { length text.old ≤ 2097152 }
-    ensures { OnOk result (into.new ≡ into.old ++ sealed_parts (gcm_key_of key.now) fixed counter (nonempty text.old)) }
+    ensures { OnOk result (into.new ≡ into.old ++ sealed_parts (gcm_key_of key.now) fixed.now counter (nonempty text.old)) }
 {
     if text.is_empty() {
         return Ok(());

@@ -107,9 +107,9 @@ fn sealed_behind(
     let next = way.counter + 1;
     let behind = next + one_if(first.len().saturating_sub(INLINE));
     let mut text = Blob::new(alloc);
-    seal_part(alloc, &mut text, key, nonce_at(way.fixed, way.counter), &mut head)?;
-    seal_some(alloc, &mut text, key, way.fixed, next, &mut second)?;
-    seal_some(alloc, &mut text, key, way.fixed, behind, &mut last)?;
+    seal_part(alloc, &mut text, key, nonce_at(&way.fixed, way.counter), &mut head)?;
+    seal_some(alloc, &mut text, key, &way.fixed, next, &mut second)?;
+    seal_some(alloc, &mut text, key, &way.fixed, behind, &mut last)?;
     Ok(text)
 }
 
