@@ -3,3 +3,5 @@ pub mod Lengths
 pub mod Lists
 pub mod PartLaws
 pub mod PlainLaws
+pub mod RestLaws
+pub mod RoomLaws

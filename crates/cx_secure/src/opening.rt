@@ -65,6 +65,11 @@ impl Sealing {
     ) -> Result<Frame, SecureRefusal>
         requires allowed { IsAllowed 1048576 head.preamble }
         requires len { length bytes.now ≡ rest_len head.preamble }
+        // What is read was sealed so, behind this head and under the counter of this direction.
+        ensures found { IfOk result (IsRestBehind (connection_key self.old) self.old.into.fixed self.old.into.counter head bytes.now) }
+        // What was sealed so is read.
+        ensures only { (f : Frame) → self.old.kept ≡ None → self.old.into.counter + rest_parts head.preamble < 2 ^ 64
+            → IsRestBehind (connection_key self.old) self.old.into.fixed self.old.into.counter head bytes.now f → Agrees result (Ok f) }
         // It is refused for what was refused before, then for the counter, the tags, the fills, and the late status.
         ensures exact { Agrees result (open_rest_at self.old head bytes.now) }
         ensures after { self.new ≡ after_opening self.old (rest_parts head.preamble) result }
@@ -156,6 +161,9 @@ fn rest_step(
     requires len { length bytes.now ≡ rest_len head.now.preamble }
     ensures value { Agrees result (rest_step (gcm_key_of key.now) way.now.fixed way.now.counter head.now bytes.now) }
     ensures below { IfOk result (λ _. way.now.counter + rest_parts head.now.preamble < 2 ^ 64) }
+    ensures found { IfOk result (IsRestBehind (gcm_key_of key.now) way.now.fixed way.now.counter head.now bytes.now) }
+    ensures only { (f : Frame) → way.now.counter + rest_parts head.now.preamble < 2 ^ 64
+        → IsRestBehind (gcm_key_of key.now) way.now.fixed way.now.counter head.now bytes.now f → Agrees result (Ok f) }
 {
     if way.counter > u64::MAX - rest_parts(&head.preamble) {
         return Err(SecureRefusal::CounterSpent);
