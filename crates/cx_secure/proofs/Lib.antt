@@ -1,3 +1,4 @@
+pub mod Answering
 pub mod HeadLaws
 pub mod Lengths
 pub mod Lists
@@ -5,3 +6,4 @@ pub mod PartLaws
 pub mod PlainLaws
 pub mod RestLaws
 pub mod RoomLaws
+pub mod SealedLaws

@@ -186,7 +186,8 @@ fn rest_of(
 ) -> Result<Frame, SecureRefusal>
     requires allowed { IsAllowed 1048576 head.now.preamble }
     requires len { length bytes.now ≡ rest_len head.now.preamble }
-    ensures { Agrees result (rest_of (gcm_key_of key.now) first next head.now bytes.now) }
+    ensures value { Agrees result (rest_of (gcm_key_of key.now) first next head.now bytes.now) }
+    ensures inline { IfOk result (λ _. length head.now.inline ≡ 48) }
 {
     let front = tagged(second_len(&head.preamble));
     let (second, last) = bytes.split_at(front);

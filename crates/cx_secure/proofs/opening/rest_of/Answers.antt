@@ -1,4 +1,5 @@
-use Rattle.std.proofs.Common.{◌≡◌, ◌-◌, ◌≤◌, length, slice_index, ap, ◌∙◌, arith}
+use Rattle.std.proofs.Common.{◌≡◌, ◌+◌, ◌-◌, ◌++◌, ◌≤◌, length, slice_index, ap, sym, ◌∙◌, arith, length-append}
+use Rattle.cx_secure.proofs.Answering.{always}
 use Rattle.cx_secure.specs.Plains.{last_len, one_if, second_len, tagged}
 use Rattle.cx_secure.proofs.Lengths.{behind_len, last_small, one_if_tagged, parts_front, second_room, tagged_large, tagged_most, tagged_text}
 use Rattle.cx_secure.proofs.opening.rest_of.Goals as goal
@@ -39,3 +40,8 @@ frame_at-requires-clause-last c =
         behind_len p (length c.args.bytes.now) (length c.split_at.result.1.now) c.requires.len (let front : c.tagged-front.result ≡ tagged (second_len p) = c.tagged-front.ensures.value ∙ ap tagged c.second_len.ensures.value in omega (arith, c.split_at.ensures.back_len, front))
     in
     ap length c.bytes-2.ensures ∙ c.in_ok-last.ensures.len ∙ ap (λ n. n - 16) e ∙ tagged_text (last_len p)
+
+pub returns-clause-inline : goal.returns-clause-inline
+returns-clause-inline c =
+    let all : length (c.args.head.now.inline ++ c.bytes.result.now) ≡ 48 + length c.bytes.result.now = ap length (sym c.in_ok-room.ensures.text) ∙ c.in_ok-room.ensures.len in
+    always c.frame_at.result (omega (arith, all, length-append c.args.head.now.inline c.bytes.result.now))
