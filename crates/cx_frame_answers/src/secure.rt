@@ -23,14 +23,14 @@ pub fn secure(alloc: Global, words: &str) -> Result<String, AllocError> {
     let mut left = bytes.bytes();
     for _ in 0..100 {
         match opened(alloc, &mut opening, left) {
-            Opened::Frame(frame, behind) => {
+            Outcome::Frame(frame, behind) => {
                 write!(told, "  ")?;
                 tell_frame(&mut told, &frame)?;
                 put_again(alloc, &mut told, &mut sending, &mut again, &frame)?;
                 left = behind;
             }
-            Opened::Short => break,
-            Opened::Refused(refusal) => {
+            Outcome::Short => break,
+            Outcome::Refused(refusal) => {
                 write!(told, "  refused: {refusal}\n")?;
                 break;
             }
@@ -40,29 +40,29 @@ pub fn secure(alloc: Global, words: &str) -> Result<String, AllocError> {
     Ok(told)
 }
 
-enum Opened<'a> {
+enum Outcome<'a> {
     Frame(Frame, &'a [u8]),
     Short,
     Refused(SecureRefusal),
 }
 
 // The frame at the front.
-fn opened<'a>(alloc: Global, opening: &mut Sealing, bytes: &'a [u8]) -> Opened<'a> {
+fn opened<'a>(alloc: Global, opening: &mut Sealing, bytes: &'a [u8]) -> Outcome<'a> {
     let Some((front, behind)) = bytes.split_first_chunk::<96>() else {
-        return Opened::Short;
+        return Outcome::Short;
     };
     let head = match opening.open_head(front) {
         Ok(head) => head,
-        Err(refusal) => return Opened::Refused(refusal),
+        Err(refusal) => return Outcome::Refused(refusal),
     };
     let wanted = rest_len(&head);
     if behind.len() < wanted {
-        return Opened::Short;
+        return Outcome::Short;
     }
     let (rest, behind) = behind.split_at(wanted);
     match opening.open_rest(alloc, head, rest) {
-        Ok(frame) => Opened::Frame(frame, behind),
-        Err(refusal) => Opened::Refused(refusal),
+        Ok(frame) => Outcome::Frame(frame, behind),
+        Err(refusal) => Outcome::Refused(refusal),
     }
 }
 

@@ -9,6 +9,7 @@ use std::alloc::{AllocError, Global};
 use std::fmt;
 
 /// Bytes in hexadecimal; of more than 64 their number.
+#[derive(Clone, Copy)]
 pub struct Hex<'a>(pub &'a [u8]);
 
 impl fmt::Display for Hex<'_> {
