@@ -14,11 +14,23 @@ pub fn banner(alloc: Global, digits: &str) -> Result<String, AllocError> {
     let bytes = bytes.bytes();
     match read_banner(bytes) {
         Ok(Some((banner, end))) => {
-            let mut told = format!(in alloc; "banner supported {} required {} in {} bytes", banner.supported, banner.required, end)?;
+            let mut told = format!(in alloc;
+                "banner supported {} required {} in {} bytes",
+                banner.supported, banner.required, end
+            )?;
             let mut again = Blob::new(alloc);
             put_banner(alloc, &mut again, &banner)?;
-            let words = if again.bytes() == bytes { "again" } else { "otherwise" };
-            write!(told, ", written {}; cut, not yet x{}\n", words, waiting(bytes))?;
+            let words = if again.bytes() == bytes {
+                "again"
+            } else {
+                "otherwise"
+            };
+            write!(
+                told,
+                ", written {}; cut, not yet x{}\n",
+                words,
+                waiting(bytes)
+            )?;
             Ok(told)
         }
         Ok(None) => format!(in alloc; "banner not yet\n"),

@@ -19,7 +19,11 @@ pub fn plain(alloc: Global, digits: &str) -> Result<String, AllocError> {
     };
     let wanted = rest_len(&head);
     if rest.len() != wanted {
-        return format!(in alloc; "plain: {} bytes behind the preamble, not {}\n", rest.len(), wanted);
+        return format!(in alloc;
+            "plain: {} bytes behind the preamble, not {}\n",
+            rest.len(),
+            wanted
+        );
     }
     match read_rest(alloc, &head, rest) {
         Ok(frame) => {
@@ -63,6 +67,9 @@ pub fn plain_of(alloc: Global, words: &str) -> Result<String, AllocError> {
     let mut text = Blob::new(alloc);
     match put_frame(alloc, &mut text, &frame) {
         Ok(()) => format!(in alloc; "plain-of {} bytes\n", text.bytes().len()),
-        Err(refusal) => format!(in alloc; "plain-of refused: {refusal}, {} bytes\n", text.bytes().len()),
+        Err(refusal) => format!(in alloc;
+            "plain-of refused: {refusal}, {} bytes\n",
+            text.bytes().len()
+        ),
     }
 }

@@ -132,7 +132,10 @@ pub fn secure_of(alloc: Global, words: &str) -> Result<String, AllocError> {
     let answer = sending.put_frame(alloc, &mut text, &frame);
     let mut told = match answer {
         Ok(()) => format!(in alloc; "secure-of {} bytes", text.bytes().len())?,
-        Err(refusal) => format!(in alloc; "secure-of refused: {refusal}, {} bytes", text.bytes().len())?,
+        Err(refusal) => format!(in alloc;
+            "secure-of refused: {refusal}, {} bytes",
+            text.bytes().len()
+        )?,
     };
     match sending.kept() {
         Some(refusal) => write!(told, "; kept: {refusal}\n")?,

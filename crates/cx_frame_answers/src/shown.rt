@@ -48,7 +48,9 @@ pub fn is_announceable(frame: &Frame) -> bool
 fn are_short(segments: &[Segment]) -> bool
     ensures { IsTrue result ↔ All (λ s. length s.bytes < 2 ^ 32) segments.now }
 {
-    segments.iter().all(|s| s.bytes.bytes().len() < 0x1_0000_0000)
+    segments
+        .iter()
+        .all(|s| s.bytes.bytes().len() < 0x1_0000_0000)
 }
 
 /// A frame with segments of these lengths, whose bytes are all 0x55: the first word is its tag. None where a word is no number.

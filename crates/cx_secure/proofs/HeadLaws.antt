@@ -1,22 +1,17 @@
 -- What is read as a head was sealed so, and what was sealed so is read.
-use Rattle.std.proofs.Common.{◌≡◌, ℕ, ◌+◌, ◌-◌, ◌<◌, ◌≤◌, ◌^◌, Bool, true, false, List, [], ◌∷◌, ◌++◌, length, take, drop, Option, Some, None, Result, Ok, Err, refl, sym, ap, subst, ◌∙◌, arith, length-append}
-use Rattle.std.specs.Prelude.{nat_lt, if◌then◌else◌}
-use Rattle.std.proofs.lemmas.Bool.{le-ltb}
-use Rattle.std.proofs.lemmas.List.{take_at, drop_at, take-append-drop}
+use Rattle.std.proofs.Common.{◌≡◌, ℕ, ◌+◌, ◌<◌, List, ◌++◌, length, take, drop, Some, Ok, sym, ap, ◌∙◌, arith, length-append}
+use Rattle.std.proofs.lemmas.List.{take_at, drop_at}
 use Rattle.std.proofs.Common.{get_or}
 use Rattle.std.specs.Int.{w64, to_le_bytes}
 use Rattle.std.proofs.lemmas.List.Elements.{All-append, All-from_get_or, All-from_recursion}
 use Rattle.cx_gcm.proofs.KeyStream.{IsByte}
 use Rattle.cx_aes.specs.Cipher.{IsBlock}
 use Rattle.cx_gcm.specs.Gcm.{IsNonce}
-use Rattle.cx_frame.specs.declared.preamble.Preamble.{Preamble}
 use Rattle.cx_frame.specs.Preambles.{IsAllowed, preamble_at, preamble_text}
 use Rattle.cx_frame.proofs.FrameLaws.{length-preamble_text}
 use Rattle.cx_frame.proofs.PreambleLaws.{preamble_again}
 use Rattle.cx_secure.specs.declared.sealing.Head.{Head}
-use Rattle.cx_secure.specs.declared.refusals.SecureRefusal.{SecureRefusal}
-use Rattle.cx_secure.specs.declared.refusals.SecureRefusal.TheVariants.{CounterSpent}
-use Rattle.cx_secure.specs.Opening.{IsHead, IsPlainHead, head_of, head_step, with_inline}
+use Rattle.cx_secure.specs.Opening.{IsHead, IsPlainHead, head_of, with_inline}
 use Rattle.cx_secure.specs.Parts.{nonce_at, opened, part}
 use Rattle.cx_secure.proofs.PartLaws.{opened_part, part_opened}
 

@@ -1,5 +1,5 @@
 -- How long parts are.
-use Rattle.std.proofs.Common.{◌≡◌, ℕ, zero, suc, ◌+◌, ◌-◌, ◌*◌, ◌/◌, ◌<◌, ◌≤◌, List, [], ◌∷◌, length, slice_index, take, drop, sum, sum_by, refl, sym, ap, ◌∙◌, arith, length-take, length-drop}
+use Rattle.std.proofs.Common.{◌≡◌, ℕ, ◌+◌, ◌-◌, ◌*◌, ◌<◌, ◌≤◌, List, [], ◌∷◌, length, slice_index, take, drop, sum, sum_by, refl, sym, ap, ◌∙◌, arith, length-take, length-drop}
 use Rattle.std.specs.List.{slice_range}
 use Rattle.std.proofs.lemmas.List.Sums.{sum_by-cons, sum_by_push}
 use Rattle.std.proofs.lemmas.List.{take_more}
@@ -37,7 +37,6 @@ few_last p fine =
 pub sum_more : (ns : List ℕ) (i : ℕ) → i < length ns → sum_by up16 (take (i + 1) ns) ≡ sum_by up16 (take i ns) + up16 (slice_index ns i)
 sum_more ns i lt = ap (sum_by up16) (take_more ns i 0 lt) ∙ sum_by_push up16 (take i ns) (slice_index ns i)
 
-
 -- what is left, one room later
 pub room_more : (ns : List ℕ) (i : ℕ) → i < length ns → sum_by up16 (drop i ns) ≡ up16 (slice_index ns i) + sum_by up16 (drop (i + 1) ns)
 room_more ns i lt = ap (sum_by up16) (drop_next ns i lt) ∙ sum_by-cons up16 (slice_index ns i) (drop (i + 1) ns)
@@ -52,7 +51,7 @@ fills_more ns bytes i lt = rw (drop-cons ns i 0, add-one) refl
 
 pub cut_more : (ns aligns bytes : List ℕ) (i : ℕ) → i < length ns → length aligns ≡ length ns
     → cut_of (drop i ns) (drop i aligns) bytes
-        ≡ (let s : Segment = record { align = slice_index aligns i; bytes = take (slice_index ns i) bytes } in s) ∷ cut_of (drop (i + 1) ns) (drop (i + 1) aligns) (drop (up16 (slice_index ns i)) bytes)
+    ≡ (let s : Segment = record { align = slice_index aligns i; bytes = take (slice_index ns i) bytes } in s) ∷ cut_of (drop (i + 1) ns) (drop (i + 1) aligns) (drop (up16 (slice_index ns i)) bytes)
 unfolding cut_of
 cut_more ns aligns bytes i lt same = let too : i < length aligns = omega arith in rw (drop-cons ns i 0, drop-cons aligns i 0, add-one) refl
 

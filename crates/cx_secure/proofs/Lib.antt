@@ -7,3 +7,4 @@ pub mod PlainLaws
 pub mod RestLaws
 pub mod RoomLaws
 pub mod SealedLaws
+pub mod WholeLaws

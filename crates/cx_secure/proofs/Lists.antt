@@ -1,8 +1,8 @@
 -- Lists whose length is known.
-use Rattle.std.proofs.Common.{◌≡◌, ℕ, List, [], ◌∷◌, ◌++◌, length, slice_index, take, drop, ◌-◌, ◌≤◌, min, sym, ap, ◌∙◌, zero, suc, length-drop, length-take, inl, inr, arith, refl}
+use Rattle.std.proofs.Common.{◌≡◌, ℕ, List, [], ◌∷◌, ◌++◌, length, slice_index, take, drop, ◌-◌, ◌≤◌, min, ap, ◌∙◌, zero, suc, length-drop, arith, refl}
 use Rattle.std.specs.Prelude.{replicate}
 use Rattle.cx_secure.specs.Plains.{filled, up16}
-use Rattle.std.proofs.lemmas.List.{append-nil, nil_from_length, take-replicate}
+use Rattle.std.proofs.lemmas.List.{nil_from_length, take-replicate}
 use Rattle.std.proofs.lemmas.List.{take_all}
 
 pub four_front : (xs ys : List ℕ) → length xs ≡ 4 → xs ++ ys ≡ slice_index xs 0 ∷ slice_index xs 1 ∷ slice_index xs 2 ∷ slice_index xs 3 ∷ ys

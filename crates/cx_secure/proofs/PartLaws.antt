@@ -1,14 +1,13 @@
 -- What is sealed is opened again, and what opens was sealed so.
-use Rattle.std.proofs.Common.{◌≡◌, ℕ, ◌+◌, ◌-◌, ◌<◌, ◌≤◌, ◌^◌, Bool, true, false, List, [], ◌∷◌, ◌++◌, length, take, drop, Option, Some, None, refl, sym, ap, subst, ◌∙◌, arith, append_assoc, length-take}
+use Rattle.std.proofs.Common.{◌≡◌, ℕ, ◌+◌, ◌≤◌, Bool, true, false, List, [], ◌∷◌, ◌++◌, length, take, drop, Option, Some, None, refl, sym, ap, ◌∙◌, arith, append_assoc, length-take}
 use Rattle.std.specs.Prelude.{if◌then◌else◌}
-use Rattle.std.specs.Int.{w64, to_le_bytes}
 use Rattle.std.specs.Str.{bytes_eq}
 use Rattle.std.proofs.lemmas.Slice.Eq.{bytes_eq-Decides}
 use Rattle.std.proofs.lemmas.List.{take_at, drop_at, take-append-drop}
 use Rattle.cx_aes.specs.Cipher.{IsBlock}
 use Rattle.cx_gcm.specs.Gcm.{GcmSealed, IsNonce, counted, gctr, nonce_block, raised, tag_of}
 use Rattle.cx_gcm.proofs.KeyStream.{IsBlock-counted, length-gctr, plain_of, raised_nonce_block}
-use Rattle.cx_secure.specs.Parts.{ciphered, nonce_at, opened, opened_some, opened_text, part, sealed_parts}
+use Rattle.cx_secure.specs.Parts.{ciphered, nonce_at, opened, opened_text, part, sealed_parts}
 
 -- a cipher text that opens is opened to its plain text
 pub opens_text : (key nonce old new tag : List ℕ) → IsBlock key → IsNonce nonce → GcmSealed key nonce new old tag → opened_text key nonce old tag ≡ Some new
@@ -57,8 +56,7 @@ opened_part key nonce n bytes plain block is_nonce le e =
     let cipher : List ℕ = take n bytes in
     let both = told (bytes_eq (drop n bytes) (tag_of key nonce cipher)) (ciphered key nonce cipher) plain e in
     let tag : drop n bytes ≡ tag_of key nonce cipher = (bytes_eq-Decides (drop n bytes) (tag_of key nonce cipher)).0 both.0 in
-    let text : cipher ≡ ciphered key nonce plain = sym (ciphered_twice key nonce cipher block is_nonce) ∙ ap (ciphered key nonce) both.1 in
-    (
+    let text : cipher ≡ ciphered key nonce plain = sym (ciphered_twice key nonce cipher block is_nonce) ∙ ap (ciphered key nonce) both.1 in (
       sym (take-append-drop n bytes) ∙ ap (λ t. cipher ++ t) tag ∙ ap (λ c. c ++ tag_of key nonce c) text,
       ap length (sym both.1) ∙ length-ciphered key nonce cipher block is_nonce ∙ omega (arith, length-take n bytes),
     )

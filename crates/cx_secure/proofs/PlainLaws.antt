@@ -1,6 +1,6 @@
 -- The plain texts of a frame's parts.
-use Rattle.std.proofs.Common.{◌≡◌, ◌≢◌, ℕ, zero, suc, ◌+◌, ◌-◌, ◌*◌, ◌/◌, ◌<◌, ◌≤◌, ◌^◌, Bool, true, false, List, [], ◌∷◌, ◌++◌, length, slice_index, get_or, take, drop, refl, sym, ap, subst, ◌∙◌, arith, inl, inr, sum_by, append_assoc, length-append, length-take, length-drop}
-use Rattle.std.specs.Prelude.{replicate, ◌==◌, if◌then◌else◌}
+use Rattle.std.proofs.Common.{◌≡◌, ℕ, suc, ◌+◌, ◌-◌, ◌*◌, ◌/◌, ◌≤◌, false, List, [], ◌∷◌, ◌++◌, length, get_or, take, drop, refl, sym, ap, ◌∙◌, arith, inl, inr, sum_by, append_assoc, length-append, length-take, length-drop}
+use Rattle.std.specs.Prelude.{replicate, ◌==◌}
 use Rattle.std.proofs.lemmas.Bool.{cases_eq, ne_eqb}
 use Rattle.std.proofs.lemmas.List.{length-replicate}
 use Rattle.std.proofs.lemmas.List.Sums.{sum_by-cons}
@@ -8,7 +8,6 @@ use Rattle.cx_frame.specs.declared.frame.Segment.{Segment}
 use Rattle.cx_frame.specs.declared.frame.Frame.{Frame}
 use Rattle.cx_frame.specs.Preambles.{length_of, preamble_of, preamble_text}
 use Rattle.cx_frame.proofs.FrameLaws.{length-preamble_text}
-use Rattle.cx_frame.specs.Frames.{IsAnnounceable}
 use Rattle.cx_secure.specs.Parts.{nonce_at, part, sealed_parts}
 use Rattle.cx_secure.proofs.PartLaws.{sealed-append}
 use Rattle.cx_secure.specs.Plains.{bodies, filled, inline_of, last_plain, nonempty, one_if, padded, parts_of, plains, plains_of, second_plain, up16}
@@ -97,7 +96,7 @@ pub inline_len : (bytes : List ℕ) → length (inline_of bytes) ≡ 48
 unfolding inline_of
 inline_len bytes = length-filled 48 (take 48 bytes) (omega (arith, length-take 48 bytes))
 
-length-padded : (s : Segment) → length (padded s) ≡ up16 (length s.bytes)
+pub length-padded : (s : Segment) → length (padded s) ≡ up16 (length s.bytes)
 unfolding padded
 length-padded s = length-filled (up16 (length s.bytes)) s.bytes (up16_least (length s.bytes))
 

@@ -1,8 +1,8 @@
 -- The frame that is read in the plain bytes of its parts, both ways.
-use Rattle.std.proofs.Common.{◌≡◌, ◌≢◌, ℕ, zero, suc, ◌+◌, ◌-◌, ◌<◌, ◌≤◌, Bool, true, false, List, [], ◌∷◌, ◌++◌, length, slice_index, take, drop, map, sum_by, Result, Ok, Err, refl, sym, ap, subst, ◌∙◌, arith, inl, inr, length-append, length-take, length-drop, eq-eqb}
+use Rattle.std.proofs.Common.{◌≡◌, ◌≢◌, ℕ, suc, ◌+◌, ◌-◌, ◌≤◌, Bool, true, false, List, [], ◌∷◌, ◌++◌, length, slice_index, take, drop, map, sum_by, Result, Ok, Err, refl, sym, ap, subst, ◌∙◌, arith, inl, inr, length-append, length-take, length-drop, eq-eqb}
 use Rattle.std.specs.Prelude.{◌==◌, ◌&&◌, if◌then◌else◌}
 use Rattle.std.specs.List.{slice_range}
-use Rattle.std.proofs.lemmas.Bool.{and_parts, and_from, cases_eq, ne_eqb}
+use Rattle.std.proofs.lemmas.Bool.{and_parts, cases_eq, ne_eqb}
 use Rattle.std.proofs.lemmas.List.{length-map, nil_from_length, take_at, drop_at, take-append-drop}
 use Rattle.cx_frame.specs.declared.frame.Segment.{Segment}
 use Rattle.cx_frame.specs.declared.frame.Frame.{Frame}
@@ -61,8 +61,8 @@ last_found p first last f fine several len read =
     let lens : map length_of others ≡ ns = cut_lengths ns aligns body same (omega arith) in
     let some : (length others == 0) ≡ false = ne_eqb (length others) 0 (λ e. several (omega (arith, length-map others length_of, ap length lens))) in
     let text : last ≡ bodies others ++ filled 16 (0x0e ∷ []) =
-        sym (take-append-drop (length last - 16) last) ∙ ap (λ t. t ++ end) (sym (fills_found ns aligns body same body_len zeros.0))
-        ∙ ap (λ t. bodies others ++ t) (end_found end end_len late.0 zeros.1)
+    sym (take-append-drop (length last - 16) last) ∙ ap (λ t. t ++ end) (sym (fills_found ns aligns body same body_len zeros.0))
+    ∙ ap (λ t. bodies others ++ t) (end_found end end_len late.0 zeros.1)
     in
     record { others = others; frame = sym late.1; lengths = lens; aligns = cut_aligns ns aligns body same; text = text ∙ sym (rw some refl) }
 
@@ -120,7 +120,7 @@ last_joined p last first ss ns aligns body end is end_len en ea fills zeros late
     let front : take (length last - 16) last ≡ body = ap (λ j. take j last) k ∙ ap (λ t. take (length body) t) is ∙ take_at body end (length body) refl in
     let behind : drop (length last - 16) last ≡ end = ap (λ j. drop j last) k ∙ ap (λ t. drop (length body) t) is ∙ drop_at body end (length body) refl in
     let read : List ℕ → List ℕ → List ℕ → List ℕ → Result Frame SecureRefusal = λ n a b e.
-        if have_zero_fills n b && are_zeros (drop 1 e) then by_late (slice_index e 0) (framed p.tag first (cut_of n a b)) else Err BadShape
+    if have_zero_fills n b && are_zeros (drop 1 e) then by_late (slice_index e 0) (framed p.tag first (cut_of n a b)) else Err BadShape
     in
     let ok : Frame → Result Frame SecureRefusal = λ f. Ok f in
     ap (λ b. read (slice_range p.lengths 1 p.count) (slice_range p.aligns 1 p.count) b (drop (length last - 16) last)) front

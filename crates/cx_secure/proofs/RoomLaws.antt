@@ -1,7 +1,7 @@
 -- Fills: what is read in filled bytes was filled so, and what was filled is read again.
-use Rattle.std.proofs.Common.{◌≡◌, ◌≢◌, ℕ, zero, suc, ◌+◌, ◌-◌, ◌<◌, ◌≤◌, Bool, true, false, List, [], ◌∷◌, ◌++◌, length, slice_index, take, drop, map, sum_by, Result, Ok, Err, refl, sym, ap, subst, ◌∙◌, arith, inl, inr, append_assoc, length-append, length-take, length-drop}
-use Rattle.std.specs.Prelude.{replicate, ◌==◌, ◌&&◌, if◌then◌else◌}
-use Rattle.std.specs.List.{list_all, flat_map, slice_range}
+use Rattle.std.proofs.Common.{◌≡◌, ℕ, zero, suc, ◌+◌, ◌-◌, ◌≤◌, Bool, true, false, List, [], ◌∷◌, ◌++◌, length, slice_index, take, drop, map, sum_by, Result, Ok, Err, refl, sym, ap, subst, ◌∙◌, arith, inl, inr, append_assoc, length-append, length-take, length-drop}
+use Rattle.std.specs.Prelude.{replicate, ◌==◌, if◌then◌else◌}
+use Rattle.std.specs.List.{list_all}
 use Rattle.std.proofs.Math.Seq.{take-append-add, drop-append-add}
 use Rattle.std.proofs.lemmas.Bool.{and_parts, and_from, cases_lt, eqb-true}
 use Rattle.std.proofs.lemmas.List.{append-nil, length-replicate, nil_from_length, take_all, take_at, drop_at, take-append-drop, take-take}
@@ -118,7 +118,7 @@ room_again bytes = elim (cases_lt (length bytes) 48) [
       let fill : List ℕ = replicate k 0 in
       let front : inline_of bytes ≡ take 48 bytes = filled_full 48 (take 48 bytes) (omega (arith, length-take 48 bytes)) in
       let text : inline_of bytes ++ second_plain bytes ≡ bytes ++ fill =
-          ap (λ t. t ++ (rest ++ fill)) front ∙ sym (append_assoc (take 48 bytes) rest fill) ∙ ap (λ t. t ++ fill) (take-append-drop 48 bytes)
+      ap (λ t. t ++ (rest ++ fill)) front ∙ sym (append_assoc (take 48 bytes) rest fill) ∙ ap (λ t. t ++ fill) (take-append-drop 48 bytes)
       in
       same_room bytes (inline_of bytes ++ second_plain bytes) fill text (zeros_again k)
 ]
@@ -136,8 +136,8 @@ fills_found (n ∷ ns) (a ∷ more) b same all zeros =
     let inside : take n room ≡ take n b = take-take n (up16 n) b (up16_least n) in
     let len : length (take n b) ≡ n = omega (arith, sum_by-cons up16 n ns, up16_least n, length-take n b) in
     let first : filled (up16 (length (take n b))) (take n b) ≡ room =
-        ap (λ k. filled (up16 k) (take n b)) len ∙ ap (λ k. filled k (take n b)) (sym room_len) ∙ ap (filled (length room)) (sym inside)
-        ∙ sym (filled_found n room (omega (arith, up16_least n)) both.0)
+    ap (λ k. filled (up16 k) (take n b)) len ∙ ap (λ k. filled k (take n b)) (sym room_len) ∙ ap (filled (length room)) (sym inside)
+    ∙ sym (filled_found n room (omega (arith, up16_least n)) both.0)
     in
     let rest : sum_by up16 ns ≡ length (drop (up16 n) b) = omega (arith, sum_by-cons up16 n ns, length-drop (up16 n) b) in
     ap (λ t. t ++ bodies (cut_of ns more (drop (up16 n) b))) first ∙ ap (λ t. room ++ t) (fills_found ns more (drop (up16 n) b) (omega arith) rest both.1) ∙ take-append-drop (up16 n) b
@@ -186,7 +186,7 @@ cut_again (s ∷ ss) =
     let n : ℕ = up16 (length s.bytes) in
     let whole : List ℕ = padded s ++ bodies ss in
     let front : take (length s.bytes) whole ≡ s.bytes =
-        sym (take-take (length s.bytes) n whole (up16_least (length s.bytes))) ∙ ap (take (length s.bytes)) (take_at (padded s) (bodies ss) n (length-padded s)) ∙ text s
+    sym (take-take (length s.bytes) n whole (up16_least (length s.bytes))) ∙ ap (take (length s.bytes)) (take_at (padded s) (bodies ss) n (length-padded s)) ∙ text s
     in
     let behind : drop n whole ≡ bodies ss = drop_at (padded s) (bodies ss) n (length-padded s) in
     let made : List ℕ → Segment = λ b. record { align = s.align; bytes = b } in

@@ -1,28 +1,28 @@
 -- What stands behind a head: what is read was sealed so, and what was sealed so is read.
-use Rattle.std.proofs.Common.{◌≡◌, ◌≢◌, ℕ, zero, suc, ◌+◌, ◌-◌, ◌/◌, ◌<◌, ◌≤◌, Bool, true, false, List, [], ◌∷◌, ◌++◌, length, slice_index, take, drop, Option, Some, None, Result, Ok, Err, refl, sym, ap, subst, ◌∙◌, arith, inl, inr, length-append, length-take, length-drop, eq-eqb}
+use Rattle.std.proofs.Common.{◌≡◌, ◌≢◌, ℕ, ◌+◌, ◌-◌, ◌/◌, ◌≤◌, false, List, [], ◌∷◌, ◌++◌, length, take, drop, Option, Some, None, Result, Ok, refl, sym, ap, subst, ◌∙◌, arith, inl, inr, length-append, length-take, length-drop, eq-eqb, map, sum_by}
+use Rattle.std.proofs.lemmas.List.Sums.{sum_by-cons}
 use Rattle.std.specs.Prelude.{◌==◌, if◌then◌else◌}
 use Rattle.std.proofs.lemmas.Bool.{cases_eq, ne_eqb}
 use Rattle.std.proofs.lemmas.List.{append-nil, nil_from_length, take_at, drop_at, take-append-drop}
 use Rattle.cx_aes.specs.Cipher.{IsBlock}
 use Rattle.cx_ghash.specs.Blocks.{spelled}
 use Rattle.cx_ghash.proofs.Digits.{length-spelled}
-use Rattle.cx_gcm.specs.Gcm.{IsNonce, counted, gctr, ghash, hashed, nonce_block, subkey, tag_of}
+use Rattle.cx_gcm.specs.Gcm.{IsNonce, counted, gctr, ghash, hashed, subkey, tag_of}
 use Rattle.cx_gcm.proofs.KeyStream.{IsBlock-counted, length-gctr, nonce_block-counted}
 use Rattle.cx_frame.specs.declared.frame.Segment.{Segment}
 use Rattle.cx_frame.specs.declared.frame.Frame.{Frame}
 use Rattle.cx_frame.specs.declared.preamble.Preamble.{Preamble}
-use Rattle.cx_frame.specs.Preambles.{IsAllowed, preamble_of, preamble_text}
+use Rattle.cx_frame.specs.Preambles.{IsAllowed, length_of, preamble_of, preamble_text}
 use Rattle.cx_frame.proofs.FrameLaws.{length-preamble_text, same_fronts}
-use Rattle.cx_frame.proofs.RestLaws.{few_others, framed, no_frame}
+use Rattle.cx_frame.proofs.RestLaws.{announces, few_others, framed, no_frame}
 use Rattle.cx_secure.specs.declared.sealing.Head.{Head}
 use Rattle.cx_secure.specs.declared.refusals.SecureRefusal.{SecureRefusal}
-use Rattle.cx_secure.specs.declared.refusals.SecureRefusal.TheVariants.{BadTag}
 use Rattle.cx_secure.specs.Opening.{IsRestBehind, rest_of, with_parts}
 use Rattle.cx_secure.specs.Parts.{ciphered, nonce_at, opened, opened_some, part, sealed_parts}
-use Rattle.cx_secure.specs.Plains.{frame_at, inline_of, last_len, last_plain, nonempty, one_if, parts_of, plains, plains_of, rest_len, second_len, second_plain, tagged, up16}
+use Rattle.cx_secure.specs.Plains.{bodies, filled, padded, frame_at, inline_of, last_len, last_plain, nonempty, one_if, parts_of, plains, plains_of, rest_len, second_len, second_plain, tagged, up16}
 use Rattle.cx_secure.proofs.Lengths.{behind_len}
 use Rattle.cx_secure.proofs.PartLaws.{length-ciphered, opened_part, part_opened, sealed-append}
-use Rattle.cx_secure.proofs.PlainLaws.{length-nonempty, length-second_plain}
+use Rattle.cx_secure.proofs.PlainLaws.{length-filled, length-nonempty, length-padded, length-second_plain}
 use Rattle.cx_secure.proofs.RestLaws.{frame_again, frame_found}
 
 -- ---- a part that may be missing
@@ -152,13 +152,38 @@ rest_found key fixed counter h bytes f block first next fine inline len read =
 cons_is : (x y : List ℕ) (xs ys : List (List ℕ)) → x ∷ xs ≡ y ∷ ys → (x ≡ y) × (xs ≡ ys)
 cons_is x y xs ys e = (cc, cc)
 
-parts_is : (t : ℕ) (s : Segment) (ss : List Segment) → plains (framed t s ss) ≡ (preamble_text (preamble_of (framed t s ss)) ++ inline_of s.bytes) ∷ nonempty (second_plain s.bytes) ++ nonempty (last_plain ss)
+pub parts_is : (t : ℕ) (s : Segment) (ss : List Segment) → plains (framed t s ss) ≡ (preamble_text (preamble_of (framed t s ss)) ++ inline_of s.bytes) ∷ nonempty (second_plain s.bytes) ++ nonempty (last_plain ss)
 unfolding plains plains_of parts_of
 parts_is t s ss = refl
 
-second_is : (t : ℕ) (s : Segment) (ss : List Segment) → second_len (preamble_of (framed t s ss)) ≡ length (second_plain s.bytes)
+pub second_is : (t : ℕ) (s : Segment) (ss : List Segment) → second_len (preamble_of (framed t s ss)) ≡ length (second_plain s.bytes)
 unfolding second_len preamble_of
 second_is t s ss = sym (length-second_plain s.bytes)
+
+none_is : (t : ℕ) (s : Segment) → last_len (preamble_of (framed t s [])) ≡ length (last_plain [])
+unfolding last_len last_plain preamble_of
+none_is t s = refl
+
+bodies_len : (ss : List Segment) → length (bodies ss) ≡ sum_by up16 (map length_of ss)
+bodies_len [] = refl
+bodies_len (s ∷ ss) = length-append (padded s) (bodies ss) ∙ omega (arith, length-padded s, bodies_len ss, sum_by-cons up16 (length s.bytes) (map length_of ss))
+
+several_is : (t : ℕ) (s o : Segment) (os : List Segment) → ((preamble_of (framed t s (o ∷ os))).count == 1) ≡ false
+unfolding preamble_of
+several_is t s o os = ne_eqb (length (s ∷ o ∷ os)) 1 (λ e. omega arith)
+
+some_last : (t : ℕ) (s o : Segment) (os : List Segment) → length (o ∷ os) ≤ 3 → last_len (preamble_of (framed t s (o ∷ os))) ≡ length (last_plain (o ∷ os))
+unfolding last_len last_plain
+some_last t s o os few =
+    let ss : List Segment = o ∷ os in
+    let end : List ℕ = filled 16 (0x0e ∷ []) in
+    let some : (length ss == 0) ≡ false = ne_eqb (length ss) 0 (λ e. omega arith) in
+    let text_len : length (bodies ss ++ end) ≡ sum_by up16 (map length_of ss) + 16 = length-append (bodies ss) end ∙ omega (arith, bodies_len ss, length-filled 16 (0x0e ∷ []) (omega arith)) in
+    rw (several_is t s o os) (ap (λ ns. sum_by up16 ns + 16) (announces t s ss few).0) ∙ sym text_len ∙ sym (rw some refl)
+
+pub last_is : (t : ℕ) (s : Segment) (ss : List Segment) → length ss ≤ 3 → last_len (preamble_of (framed t s ss)) ≡ length (last_plain ss)
+last_is t s [] few = none_is t s
+last_is t s (o ∷ os) few = some_last t s o os few
 
 opens_parts : (h : Head) (second last : List ℕ) → with_parts h (Some second) (Some last) ≡ frame_at h.preamble (h.inline ++ second) last
 unfolding with_parts
@@ -175,7 +200,7 @@ framed_again key fixed counter t s ss h bytes block first next fine few is =
     let heads = cons_is _ _ (nonempty second ++ nonempty last) is.others (sym (parts_is t s ss) ∙ is.parts) in
     let allowed : IsAllowed 1048576 (preamble_of (framed t s ss)) = subst (IsAllowed 1048576) (sym is.head) fine in
     let fronts = same_fronts (preamble_text (preamble_of (framed t s ss))) (inline_of s.bytes) (preamble_text p) h.inline 32
-        (length-preamble_text (preamble_of (framed t s ss)) allowed.four_lengths allowed.four_aligns) (length-preamble_text p fine.four_lengths fine.four_aligns) heads.0
+    (length-preamble_text (preamble_of (framed t s ss)) allowed.four_lengths allowed.four_aligns) (length-preamble_text p fine.four_lengths fine.four_aligns) heads.0
     in
     let size : second_len p ≡ length second = ap second_len (sym is.head) ∙ second_is t s ss in
     let after : ℕ = counter + one_if (second_len p) in
@@ -183,7 +208,7 @@ framed_again key fixed counter t s ss h bytes block first next fine few is =
     let a : List ℕ = sealed_parts key fixed counter (nonempty second) in
     let b : List ℕ = sealed_parts key fixed after (nonempty last) in
     let text : bytes ≡ a ++ b =
-        is.text ∙ ap (sealed_parts key fixed counter) (sym heads.1) ∙ sealed-append key fixed counter (nonempty second) (nonempty last) ∙ ap (λ m. a ++ sealed_parts key fixed m (nonempty last)) count
+    is.text ∙ ap (sealed_parts key fixed counter) (sym heads.1) ∙ sealed-append key fixed counter (nonempty second) (nonempty last) ∙ ap (λ m. a ++ sealed_parts key fixed m (nonempty last)) count
     in
     let n : ℕ = tagged (second_len p) in
     let a_len : length a ≡ n = length-sealed key fixed counter second block first ∙ ap tagged (sym size) in

@@ -1,11 +1,11 @@
 -- Opening a secure frame: first its head, then its rest.
-use Rattle.std.specs.Prelude.{ℕ, ◌≡◌, ◌+◌, ◌-◌, ◌^◌, List, [], ◌∷◌, ◌++◌, length, take, drop, Option, Some, None, Result, Ok, Err, nat_lt, if◌then◌else◌}
+use Rattle.std.specs.Prelude.{ℕ, ◌≡◌, ◌+◌, ◌-◌, ◌^◌, ◌<◌, List, ◌∷◌, ◌++◌, length, slice_index, take, drop, Option, Some, None, Result, Ok, Err, nat_lt, if◌then◌else◌}
 use Rattle.cx_frame.specs.declared.frame.Frame.{Frame}
 use Rattle.cx_frame.specs.declared.preamble.Preamble.{Preamble}
 use Rattle.cx_frame.specs.declared.refusals.FrameRefusal.{FrameRefusal}
 use Rattle.cx_frame.specs.Preambles.{IsAllowed, preamble_at, preamble_of, preamble_text}
 use Rattle.cx_secure.specs.Parts.{nonce_at, opened, opened_some, part, sealed_parts}
-use Rattle.cx_secure.specs.Plains.{frame_at, one_if, plains, rest_parts, second_len, tagged}
+use Rattle.cx_secure.specs.Plains.{frame_at, one_if, plains, rest_len, rest_parts, second_len, secure_text, tagged}
 use Rattle.cx_secure.specs.Refusing.{secured}
 use Rattle.cx_secure.specs.declared.sealing.Head.{Head}
 use Rattle.cx_secure.specs.declared.refusals.SecureRefusal.{SecureRefusal}
@@ -63,3 +63,21 @@ pub record IsRestBehind (key fixed : List ℕ) (counter : ℕ) (h : Head) (bytes
   pub others : List (List ℕ)
   pub parts : plains f ≡ (preamble_text h.preamble ++ h.inline) ∷ others
   pub text : bytes ≡ sealed_parts key fixed counter others
+
+-- ---- a whole frame
+
+-- the four fixed bytes of a nonce
+pub record IsFixed (fixed : List ℕ) : Type 0 where
+  pub len : length fixed ≡ 4
+  pub bytes : (i : ℕ) → slice_index fixed i < 256
+
+-- a secure frame is the 96 bytes of a head and, as many as that says, the bytes of its rest
+pub record IsSplit (key fixed : List ℕ) (counter : ℕ) (f : Frame) : Type 0 where
+  pub head : Head
+  pub first : List ℕ
+  pub rest : List ℕ
+  pub text : secure_text key fixed counter f ≡ first ++ rest
+  pub first_len : length first ≡ 96
+  pub rest_is : length rest ≡ rest_len head.preamble
+  pub is_head : IsHead key (nonce_at fixed counter) first head
+  pub is_rest : IsRestBehind key fixed (counter + 1) head rest f

@@ -1,5 +1,5 @@
 -- The plain texts of a secure frame's parts, and the frame that is read in them.
-use Rattle.std.specs.Prelude.{ℕ, ◌≡◌, ◌+◌, ◌-◌, ◌*◌, ◌/◌, ◌==◌, ◌&&◌, Bool, true, List, [], ◌∷◌, ◌++◌, length, take, drop, replicate, sum_by, slice_index, Result, Ok, Err, if◌then◌else◌}
+use Rattle.std.specs.Prelude.{ℕ, ◌+◌, ◌-◌, ◌*◌, ◌/◌, ◌==◌, ◌&&◌, Bool, true, List, [], ◌∷◌, ◌++◌, length, take, drop, replicate, sum_by, slice_index, Result, Ok, Err, if◌then◌else◌}
 use Rattle.std.specs.List.{flat_map, list_all, slice_range}
 use Rattle.cx_frame.specs.declared.frame.Segment.{Segment}
 use Rattle.cx_frame.specs.declared.frame.Frame.{Frame}

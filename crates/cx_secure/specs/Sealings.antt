@@ -5,7 +5,7 @@ use Rattle.cx_frame.specs.declared.frame.Frame.{Frame}
 use Rattle.cx_frame.specs.Frames.{total}
 use Rattle.cx_frame.specs.Banners.{number64}
 use Rattle.cx_secure.specs.Opening.{head_step, rest_step}
-use Rattle.cx_secure.specs.Plains.{plains, rest_parts}
+use Rattle.cx_secure.specs.Plains.{plains}
 use Rattle.cx_secure.specs.declared.sealing.Head.{Head}
 use Rattle.cx_secure.specs.declared.sealing.Sealing.{Sealing}
 use Rattle.cx_secure.specs.declared.sealing.Way.{Way}

@@ -1,6 +1,7 @@
 //! Secure frames of messenger v2.1: sealed under the key of a connection, each part under a counter of its own.
 #![tactic(auto)]
 
+mod laws;
 mod opening;
 mod parts;
 mod putting;
@@ -9,6 +10,7 @@ mod rooms;
 mod sealing;
 mod starting;
 
+pub use laws::secure_laws;
 pub use opening::{MAX_SECURE, rest_len};
 pub use refusals::SecureRefusal;
 pub use sealing::{Head, Sealing, Way};

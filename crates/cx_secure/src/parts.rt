@@ -117,12 +117,7 @@ fn sixteen(bytes: &[u8]) -> [u8; 16]
 
 // The plain text of a part.
 #[tactic(auto, unfolding(crate::specs::Parts::opened))]
-fn opened(
-    alloc: Global,
-    key: &GcmKey,
-    nonce: [u8; 12],
-    bytes: &[u8],
-) -> Result<Blob, SecureRefusal>
+fn opened(alloc: Global, key: &GcmKey, nonce: [u8; 12], bytes: &[u8]) -> Result<Blob, SecureRefusal>
     requires long { 16 ≤ length bytes.now }
     requires short { length bytes.now ≤ 2097168 }
     ensures text { Opens result (opened (gcm_key_of key.now) nonce (length bytes.now - 16) bytes.now) }

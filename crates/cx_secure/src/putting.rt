@@ -81,7 +81,14 @@ fn sealed(alloc: Global, key: &GcmKey, way: &Way, frame: &Frame) -> Result<Blob,
     let [first, others @ ..] = frame.segments.all() else {
         return Ok(preamble);
     };
-    sealed_behind(alloc, key, way, preamble.bytes(), first.bytes.bytes(), others)
+    sealed_behind(
+        alloc,
+        key,
+        way,
+        preamble.bytes(),
+        first.bytes.bytes(),
+        others,
+    )
 }
 
 // The parts of a frame with this preamble.
@@ -107,7 +114,13 @@ fn sealed_behind(
     let next = way.counter + 1;
     let behind = next + one_if(first.len().saturating_sub(INLINE));
     let mut text = Blob::new(alloc);
-    seal_part(alloc, &mut text, key, nonce_at(&way.fixed, way.counter), &mut head)?;
+    seal_part(
+        alloc,
+        &mut text,
+        key,
+        nonce_at(&way.fixed, way.counter),
+        &mut head,
+    )?;
     seal_some(alloc, &mut text, key, &way.fixed, next, &mut second)?;
     seal_some(alloc, &mut text, key, &way.fixed, behind, &mut last)?;
     Ok(text)

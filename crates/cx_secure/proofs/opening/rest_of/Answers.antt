@@ -1,7 +1,7 @@
-use Rattle.std.proofs.Common.{◌≡◌, ◌+◌, ◌-◌, ◌++◌, ◌≤◌, length, slice_index, ap, sym, ◌∙◌, arith, length-append}
+use Rattle.std.proofs.Common.{◌≡◌, ◌+◌, ◌-◌, ◌++◌, length, ap, sym, ◌∙◌, arith, length-append}
 use Rattle.cx_secure.proofs.Answering.{always}
-use Rattle.cx_secure.specs.Plains.{last_len, one_if, second_len, tagged}
-use Rattle.cx_secure.proofs.Lengths.{behind_len, last_small, one_if_tagged, parts_front, second_room, tagged_large, tagged_most, tagged_text}
+use Rattle.cx_secure.specs.Plains.{last_len, second_len, tagged}
+use Rattle.cx_secure.proofs.Lengths.{behind_len, last_small, second_room, tagged_large, tagged_most, tagged_text}
 use Rattle.cx_secure.proofs.opening.rest_of.Goals as goal
 
 pub opened_some-requires-clause-long : goal.opened_some-requires-clause-long
@@ -13,7 +13,7 @@ pub opened_some-requires-2-clause-long : goal.opened_some-requires-2-clause-long
 opened_some-requires-2-clause-long c = λ some.
     let p = c.args.head.now.preamble in
     let e : length c.split_at.result.1.now ≡ tagged (last_len p) =
-        behind_len p (length c.args.bytes.now) (length c.split_at.result.1.now) c.requires.len (let front : c.tagged-front.result ≡ tagged (second_len p) = c.tagged-front.ensures.value ∙ ap tagged c.second_len.ensures.value in omega (arith, c.split_at.ensures.back_len, front))
+    behind_len p (length c.args.bytes.now) (length c.split_at.result.1.now) c.requires.len (let front : c.tagged-front.result ≡ tagged (second_len p) = c.tagged-front.ensures.value ∙ ap tagged c.second_len.ensures.value in omega (arith, c.split_at.ensures.back_len, front))
     in
     rw e (tagged_large (last_len p) (λ z. some (e ∙ z)))
 
@@ -21,7 +21,7 @@ pub opened_some-requires-2-clause-short : goal.opened_some-requires-2-clause-sho
 opened_some-requires-2-clause-short c =
     let p = c.args.head.now.preamble in
     let e : length c.split_at.result.1.now ≡ tagged (last_len p) =
-        behind_len p (length c.args.bytes.now) (length c.split_at.result.1.now) c.requires.len (let front : c.tagged-front.result ≡ tagged (second_len p) = c.tagged-front.ensures.value ∙ ap tagged c.second_len.ensures.value in omega (arith, c.split_at.ensures.back_len, front))
+    behind_len p (length c.args.bytes.now) (length c.split_at.result.1.now) c.requires.len (let front : c.tagged-front.result ≡ tagged (second_len p) = c.tagged-front.ensures.value ∙ ap tagged c.second_len.ensures.value in omega (arith, c.split_at.ensures.back_len, front))
     in
     omega (arith, e, tagged_most (last_len p), last_small p c.requires.allowed)
 
@@ -37,7 +37,7 @@ pub frame_at-requires-clause-last : goal.frame_at-requires-clause-last
 frame_at-requires-clause-last c =
     let p = c.args.head.now.preamble in
     let e : length c.split_at.result.1.now ≡ tagged (last_len p) =
-        behind_len p (length c.args.bytes.now) (length c.split_at.result.1.now) c.requires.len (let front : c.tagged-front.result ≡ tagged (second_len p) = c.tagged-front.ensures.value ∙ ap tagged c.second_len.ensures.value in omega (arith, c.split_at.ensures.back_len, front))
+    behind_len p (length c.args.bytes.now) (length c.split_at.result.1.now) c.requires.len (let front : c.tagged-front.result ≡ tagged (second_len p) = c.tagged-front.ensures.value ∙ ap tagged c.second_len.ensures.value in omega (arith, c.split_at.ensures.back_len, front))
     in
     ap length c.bytes-2.ensures ∙ c.in_ok-last.ensures.len ∙ ap (λ n. n - 16) e ∙ tagged_text (last_len p)
 

@@ -1,4 +1,4 @@
-use Rattle.std.proofs.Common.{◌≡◌, ℕ, List, Result, Ok, ◌+◌, length, subst, sym, ap, ◌∙◌}
+use Rattle.std.proofs.Common.{◌≡◌, ℕ, List, Result, ◌+◌, subst, sym, ap, ◌∙◌}
 use Rattle.cx_frame.specs.declared.frame.Frame.{Frame}
 use Rattle.cx_gcm.specs.GcmKeyOf.{gcm_key_of}
 use Rattle.cx_gcm.specs.Gcm.{IsNonce}
@@ -36,8 +36,8 @@ returns-clause-found c =
     let after : counter + c.one_if.result ≡ counter + one_if (second_len h.preamble) = ap (λ m. counter + m) (c.one_if.ensures.value ∙ ap (λ m. one_if m) c.second_len.ensures.value) in
     let next : IsNonce (nonce_at fixed (counter + one_if (second_len h.preamble))) = subst (λ m. IsNonce (nonce_at fixed m)) after c.nonce_at-next_nonce.ensures.nonce in
     let same : rest_of key (nonce_at fixed counter) (nonce_at fixed (counter + one_if (second_len h.preamble))) h bytes ≡ rest_of key c.nonce_at-first_nonce.result c.nonce_at-next_nonce.result h bytes =
-        ap (λ n. rest_of key n (nonce_at fixed (counter + one_if (second_len h.preamble))) h bytes) (sym c.nonce_at-first_nonce.ensures.value)
-        ∙ ap (λ n. rest_of key c.nonce_at-first_nonce.result n h bytes) (sym (c.nonce_at-next_nonce.ensures.value ∙ ap (nonce_at fixed) after))
+    ap (λ n. rest_of key n (nonce_at fixed (counter + one_if (second_len h.preamble))) h bytes) (sym c.nonce_at-first_nonce.ensures.value)
+    ∙ ap (λ n. rest_of key c.nonce_at-first_nonce.result n h bytes) (sym (c.nonce_at-next_nonce.ensures.value ∙ ap (nonce_at fixed) after))
     in
     agrees_ok c.rest_of.result (rest_of key c.nonce_at-first_nonce.result c.nonce_at-next_nonce.result h bytes) (IsRestBehind key fixed counter h bytes) c.rest_of.ensures.value c.rest_of.ensures.inline
     (λ f inline read. rest_found key fixed counter h bytes f c.args.key.now.schedule.expanded.block c.nonce_at-first_nonce.ensures.nonce next c.requires.allowed inline c.requires.len (same ∙ read))

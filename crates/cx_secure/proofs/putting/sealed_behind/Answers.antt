@@ -1,4 +1,4 @@
-use Rattle.std.proofs.Common.{◌≡◌, ℕ, List, ◌+◌, ◌++◌, length, ap, ◌∙◌, arith, length-append}
+use Rattle.std.proofs.Common.{ℕ, List, ◌+◌, ◌++◌, length, ap, ◌∙◌, arith, length-append}
 use Rattle.cx_gcm.specs.GcmKeyOf.{gcm_key_of}
 use Rattle.cx_secure.specs.Parts.{nonce_at, part, sealed_parts}
 use Rattle.cx_secure.specs.Plains.{inline_of, nonempty, one_if}

@@ -1,5 +1,5 @@
-use Rattle.std.proofs.Common.{◌≡◌, take, drop, slice_index, ap, sym, ◌∙◌, arith}
-use Rattle.cx_secure.specs.Plains.{are_zeros, up16}
+use Rattle.std.proofs.Common.{take, drop, ap, sym, ◌∙◌, arith}
+use Rattle.cx_secure.specs.Plains.{are_zeros}
 use Rattle.cx_secure.proofs.Lengths.{all_filled, fill_on, fill_stops, room_more}
 use Rattle.cx_secure.proofs.rooms.have_zero_fills.Goals as goal
 
