@@ -1,0 +1,2 @@
+pub mod PlainFronts
+pub mod PlainStands

@@ -1,0 +1,23 @@
+//! The bytes of a connection as a stream: first a banner, then plain frames, then secure ones.
+#![tactic(auto)]
+
+mod faults;
+mod greeting;
+mod laws;
+mod plain;
+mod stages;
+
+pub use faults::StreamFault;
+pub use laws::stream_laws;
+pub use stages::{Ended, Greeted, Greeting, Plain};
+
+// Each public type may be sent to another thread and shared with one.
+fn is_sendable<T: Send + Sync>() {}
+
+fn all_are_sendable() {
+    is_sendable::<StreamFault>();
+    is_sendable::<Greeting>();
+    is_sendable::<Greeted>();
+    is_sendable::<Plain>();
+    is_sendable::<Ended>();
+}
