@@ -1,6 +1,6 @@
 -- The plain frame at the front of some bytes: what is read there stands there, what was put is read again, and what is answered stays so.
-use Rattle.std.proofs.Common.{◌≡◌, ℕ, ◌+◌, ◌≤◌, ◌<◌, Bool, false, List, [], ◌∷◌, ◌++◌, length, take, drop, Option, Some, None, Result, Ok, Err, refl, sym, ap, subst, ◌∙◌, inl, inr, arith, append_assoc, length-append, length-take, length-drop}
-use Rattle.std.specs.Prelude.{nat_lt, if◌then◌else◌, All, IfOk, IfSome}
+use Rattle.std.proofs.Common.{◌≡◌, ℕ, ◌+◌, ◌≤◌, Bool, false, List, [], ◌∷◌, ◌++◌, length, take, drop, Option, Some, None, Result, Ok, Err, refl, sym, ap, subst, ◌∙◌, inl, inr, arith, append_assoc, length-append, length-drop}
+use Rattle.std.specs.Prelude.{if◌then◌else◌, IfOk, IfSome}
 use Rattle.std.specs.List.{flat_map}
 use Rattle.std.proofs.Math.Seq.{take-add}
 use Rattle.std.proofs.lemmas.Bool.{le-ltb, lt-ltb, cases_lt}
@@ -11,11 +11,12 @@ use Rattle.cx_frame.specs.declared.preamble.Preamble.{Preamble}
 use Rattle.cx_frame.specs.declared.refusals.FrameRefusal.{FrameRefusal}
 use Rattle.cx_frame.specs.declared.refusals.FrameRefusal.TheVariants.{BadCrc, BadShape, TooLong, Aborted, OutOfMemory}
 use Rattle.cx_frame.specs.Preambles.{IsAllowed, preamble_at, preamble_of, preamble_text}
-use Rattle.cx_frame.specs.Frames.{Agrees, IsRest, frame_text, rest_at, rest_len, rest_text}
+use Rattle.cx_frame.specs.Frames.{Agrees, frame_text, rest_at, rest_len, rest_text}
 use Rattle.cx_frame.proofs.FrameLaws.{length-preamble_text, one_frame}
 use Rattle.cx_frame.proofs.PreambleLaws.{preamble_again}
 use Rattle.cx_frame.proofs.RestLaws.{length-rest_text, rest_again}
-use Rattle.cx_stream.specs.PlainStreams.{IsPlain, IsPlainAt, IsPlainBehind, IsPlainStream, behind_preamble, plain_frame_at, with_length}
+use Rattle.cx_stream.specs.Fronts.{with_length}
+use Rattle.cx_stream.specs.PlainStreams.{IsPlain, IsPlainAt, IsPlainBehind, IsPlainStream, behind_preamble, plain_frame_at}
 
 abbrev pub Read : Type 0
 Read = Result (Option (Frame × ℕ)) FrameRefusal

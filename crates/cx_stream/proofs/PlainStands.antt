@@ -1,6 +1,5 @@
 -- What a stream of plain frames stands for behind a turn.
-use Rattle.std.proofs.Common.{◌≡◌, ℕ, ◌+◌, ◌≤◌, List, [], ◌∷◌, ◌++◌, length, take, drop, Option, Some, None, Result, Ok, Err, refl, sym, ap, subst, ◌∙◌, append_assoc, append-nil}
-use Rattle.std.specs.Prelude.{All}
+use Rattle.std.proofs.Common.{◌≡◌, ℕ, ◌+◌, List, [], ◌∷◌, ◌++◌, take, drop, Option, Some, None, Result, Ok, Err, sym, ap, subst, ◌∙◌, append_assoc, append-nil}
 use Rattle.std.specs.List.{flat_map}
 use Rattle.std.proofs.Math.Seq.{take-add}
 use Rattle.std.proofs.lemmas.Grind.{flat_map-append}
@@ -10,7 +9,8 @@ use Rattle.cx_frame.specs.Banners.{banner_text}
 use Rattle.cx_frame.specs.Frames.{frame_text}
 use Rattle.cx_frame.specs.declared.frame.Frame.{Frame}
 use Rattle.cx_stream.specs.Received.{Received}
-use Rattle.cx_stream.specs.PlainStreams.{AgreesPlain, BeginsNoPlain, IsPlain, IsPlainAt, Stands, Takes, TakesGiven, frame_in, given_by, plain_frame_at}
+use Rattle.cx_stream.specs.Fronts.{frame_in, given_by}
+use Rattle.cx_stream.specs.PlainStreams.{AgreesPlain, BeginsNoPlain, IsPlain, IsPlainAt, Stands, Takes, TakesGiven, plain_frame_at}
 use Rattle.cx_stream.specs.declared.faults.StreamFault.{StreamFault}
 use Rattle.cx_stream.proofs.PlainFronts.{plain_again}
 
@@ -42,11 +42,11 @@ given_one new old f fed given takes s =
       few = s.few;
       plain = All-append IsPlain given (f ∷ []) s.plain (All-cons IsPlain f [] takes.front.plain (All-nil IsPlain));
       taken =
-        takes.taken ∙ ap (λ t. t ++ front) s.taken ∙ append_assoc banner (flat_map frame_text given) front
-        ∙ ap (λ t. banner ++ (flat_map frame_text given ++ t)) one ∙ ap (λ t. banner ++ t) (sym (flat_map-append frame_text given (f ∷ [])));
+          takes.taken ∙ ap (λ t. t ++ front) s.taken ∙ append_assoc banner (flat_map frame_text given) front
+          ∙ ap (λ t. banner ++ (flat_map frame_text given ++ t)) one ∙ ap (λ t. banner ++ t) (sym (flat_map-append frame_text given (f ∷ [])));
       whole =
-        s.whole ∙ ap (λ r. old.taken ++ r) (sym (take-append-drop takes.len old.rest)) ∙ sym (append_assoc old.taken front behind)
-        ∙ ap (λ t. t ++ behind) (sym takes.taken) ∙ ap (λ r. new.taken ++ r) (sym takes.rest);
+          s.whole ∙ ap (λ r. old.taken ++ r) (sym (take-append-drop takes.len old.rest)) ∙ sym (append_assoc old.taken front behind)
+          ∙ ap (λ t. t ++ behind) (sym takes.taken) ∙ ap (λ r. new.taken ++ r) (sym takes.rest);
     }
 
 as_before : (new old : Received) (fed : List ℕ) (given : List Frame) → new ≡ old → Stands old fed given → Stands new fed (given ++ [])

@@ -1,5 +1,5 @@
 -- The banner at the front of a stream ("msgr2 protocol", banner phase).
-use Rattle.std.specs.Prelude.{ℕ, ◌≡◌, List, [], length, Option, Some, None, Ok, Err}
+use Rattle.std.specs.Prelude.{ℕ, ◌≡◌, List, [], length, Some, None, Ok, Err}
 use Rattle.cx_frame.specs.Banners.{banner_at}
 use Rattle.cx_stream.specs.PlainStreams.{Stands}
 use Rattle.cx_stream.specs.declared.faults.StreamFault.TheVariants as fault

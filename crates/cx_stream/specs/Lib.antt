@@ -1,3 +1,7 @@
-pub mod Received
-pub mod PlainStreams
+pub mod Fronts
 pub mod Greetings
+pub mod Held
+pub mod PlainStreams
+pub mod Received
+pub mod SecureStreams
+pub mod Turning

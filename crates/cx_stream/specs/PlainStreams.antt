@@ -1,6 +1,6 @@
 -- Plain frames in a stream ("msgr2 protocol", frame format): which frame stands at the front of some bytes, and what a stream of them has
 -- been fed and has given.
-use Rattle.std.specs.Prelude.{ℕ, ◌≡◌, ◌+◌, ◌≤◌, List, [], ◌∷◌, ◌++◌, All, length, take, drop, nat_lt, Option, Some, None, Result, Ok, Err, if◌then◌else◌}
+use Rattle.std.specs.Prelude.{ℕ, ◌≡◌, ◌+◌, ◌≤◌, List, ◌++◌, All, length, take, drop, nat_lt, Option, Some, None, Result, Ok, Err, if◌then◌else◌}
 use Rattle.std.specs.List.{flat_map}
 use Rattle.cx_frame.specs.declared.banner.Banner.{Banner}
 use Rattle.cx_frame.specs.declared.frame.Frame.{Frame}
@@ -10,6 +10,7 @@ use Rattle.cx_frame.specs.declared.refusals.FrameRefusal.TheVariants.{OutOfMemor
 use Rattle.cx_frame.specs.Banners.{banner_text}
 use Rattle.cx_frame.specs.Preambles.{IsAllowed, preamble_at, preamble_of}
 use Rattle.cx_frame.specs.Frames.{IsRest, frame_text, rest_at, rest_len}
+use Rattle.cx_stream.specs.Fronts.{with_length}
 use Rattle.cx_stream.specs.Received.{Received}
 use Rattle.cx_stream.specs.declared.faults.StreamFault.{StreamFault}
 use Rattle.cx_stream.specs.declared.faults.StreamFault.TheVariants.{Plain}
@@ -31,10 +32,6 @@ pub record IsPlainBehind (p : Preamble) (left : List ℕ) (f : Frame) (n : ℕ) 
   pub len : n ≡ 32 + rest_len p
   pub there : rest_len p ≤ length left
   pub behind : IsRest p (take (rest_len p) left) f
-
-unfoldable pub with_length : ℕ → Result Frame FrameRefusal → Result (Option (Frame × ℕ)) FrameRefusal
-with_length n (Ok f) = Ok (Some (f, n))
-with_length n (Err e) = Err e
 
 -- the frame whose preamble was read, in what stands behind that
 unfoldable pub behind_preamble : List ℕ → Result Preamble FrameRefusal → Result (Option (Frame × ℕ)) FrameRefusal
@@ -67,12 +64,6 @@ pub record Stands (s : Received) (fed : List ℕ) (given : List Frame) : Type 0 
   pub taken : s.taken ≡ banner_text banner skipped ++ flat_map frame_text given
   pub whole : fed ≡ s.taken ++ s.rest
 
--- the frame without its length
-abbrev pub frame_in : {E : Type 0} → Result (Option (Frame × ℕ)) E → Result (Option Frame) E
-frame_in (Ok (Some x)) = Ok (Some x.0)
-frame_in (Ok None) = Ok None
-frame_in (Err e) = Err e
-
 -- the answer is this one, unless memory was wanting
 abbrev pub AgreesPlain : {X : Type 0} → Result X StreamFault → Result X FrameRefusal → Type 0
 AgreesPlain (Ok x) expected = expected ≡ Ok x
@@ -92,9 +83,3 @@ abbrev pub TakesGiven : {E : Type 0} → Received → Received → Result (Optio
 TakesGiven old new (Ok (Some f)) = Takes old new f
 TakesGiven old new (Ok None) = new ≡ old
 TakesGiven old new (Err e) = new ≡ old
-
--- the frames given so far, with the one that an answer gives
-abbrev pub given_by : {E : Type 0} → Result (Option Frame) E → List Frame
-given_by (Ok (Some f)) = f ∷ []
-given_by (Ok None) = []
-given_by (Err e) = []

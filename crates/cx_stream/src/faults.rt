@@ -1,6 +1,7 @@
 //! Why a stream is given up.
 
 use cx_frame::{BannerRefusal, FrameRefusal};
+use cx_secure::SecureRefusal;
 use thiserror::Error;
 
 /// What refused the next bytes of a stream. All but want of memory is the peer's doing, or that of one who changed the bytes on their way;
@@ -13,4 +14,7 @@ pub enum StreamFault {
     /// A plain frame was refused.
     #[error("{0}")]
     Plain(FrameRefusal),
+    /// A secure frame was refused.
+    #[error("{0}")]
+    Secure(SecureRefusal),
 }

@@ -4,11 +4,13 @@ ghost use Rattle.std.specs.Prelude.{◌≡◌, ℕ, List, Ok, None, ◌++◌, If
 ghost use Rattle.cx_frame.specs.Preambles.{IsAllowed};
 ghost use Rattle.cx_frame.specs.Frames.{Agrees};
 ghost use Rattle.cx_frame.specs.declared.frame.Frame.{Frame};
-ghost use Rattle.cx_stream.specs.PlainStreams.{AgreesPlain, BeginsNoPlain, IsPlainAt, IsPlainBehind, Stands, TakesGiven, behind_preamble, frame_in, given_by, plain_frame_at};
+ghost use Rattle.cx_stream.specs.Fronts.{frame_in, given_by};
+ghost use Rattle.cx_stream.specs.PlainStreams.{AgreesPlain, BeginsNoPlain, IsPlainAt, IsPlainBehind, Stands, TakesGiven, behind_preamble, plain_frame_at};
 
 use crate::faults::StreamFault;
-use crate::stages::{Ended, Plain};
+use crate::stages::{Ended, Plain, Secure};
 use cx_frame::{Frame, FrameRefusal, Preamble, read_preamble, read_rest, rest_len};
+use cx_secure::Sealing;
 use std::alloc::{AllocError, Global};
 
 /// The bytes of a preamble.
@@ -75,6 +77,20 @@ impl Plain {
         self.bytes.len() - self.taken
     }
 
+    /// Goes on to secure frames. The bytes that weren't taken yet are the first of them. It takes no memory.
+    pub fn secure(self, sealing: Sealing) -> Secure
+        ensures { result ≡ record { sealing = sealing; head = None; rest = self.rest } }
+    {
+        let Plain { bytes, taken } = self;
+        let mut rest = bytes;
+        rest.advance(taken);
+        Secure {
+            sealing,
+            head: None,
+            rest,
+        }
+    }
+
     /// Ends the stream, with all bytes that it holds.
     pub fn end(self) -> Ended {
         Ended
@@ -97,7 +113,7 @@ fn plain_frame_at(alloc: Global, bytes: &[u8]) -> Result<Option<(Frame, usize)>,
 }
 
 // The frame whose preamble was read, in what stands behind that.
-#[tactic(auto, unfolding(crate::specs::PlainStreams::behind_preamble, crate::specs::PlainStreams::with_length))]
+#[tactic(auto, unfolding(crate::specs::PlainStreams::behind_preamble, crate::specs::Fronts::with_length))]
 fn behind_preamble(
     alloc: Global,
     head: &Preamble,

@@ -3,6 +3,7 @@
 use crate::faults::StreamFault;
 use bytes::BytesMut;
 use cx_frame::Banner;
+use cx_secure::{Head, Sealing};
 use std::marker::Model;
 
 /// A stream whose banner isn't all there yet. Contracts see it as the bytes that it was fed.
@@ -36,6 +37,26 @@ impl Model for Plain {
     ghost view = { λ s. record { taken = take s.taken s.bytes.items; rest = drop s.taken s.bytes.items } };
 
     ghost invariant = { λ s. s.taken ≤ length s.bytes.items };
+}
+
+/// A stream of secure frames. It gives up the bytes that it took, and keeps a head that it opened until the rest of that frame is there.
+#[derive(Drop)]
+pub struct Secure {
+    pub(crate) sealing: Sealing,
+    /// The head of the next frame, where it was opened.
+    pub(crate) head: Option<Head>,
+    /// The bytes that were not taken yet.
+    pub(crate) rest: BytesMut,
+}
+
+impl Model for Secure {
+    ghost use Rattle.cx_stream.specs.Held.{Held, IsSteady};
+
+    ghost Value = { Held };
+
+    ghost view = { λ s. record { sealing = s.sealing; head = s.head; rest = s.rest.items } };
+
+    ghost invariant = { λ s. IsSteady s.sealing s.head };
 }
 
 /// A stream that is over.

@@ -1,4 +1,4 @@
-use Rattle.std.proofs.Common.{◌≡◌, ℕ, ◌≤◌, List, length, take, drop, arith}
+use Rattle.std.proofs.Common.{arith}
 use Rattle.cx_stream.proofs.PlainFronts.{found_whole, refused_front}
 use Rattle.cx_stream.proofs.plain.plain_frame_at.Goals as goal
 

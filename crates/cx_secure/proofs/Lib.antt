@@ -1,0 +1,10 @@
+pub mod Answering
+pub mod HeadLaws
+pub mod Lengths
+pub mod Lists
+pub mod PartLaws
+pub mod PlainLaws
+pub mod RestLaws
+pub mod RoomLaws
+pub mod SealedLaws
+pub mod WholeLaws

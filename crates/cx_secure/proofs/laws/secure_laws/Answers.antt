@@ -1,0 +1,8 @@
+use Rattle.cx_secure.proofs.WholeLaws.{frame_split, one_secure}
+use Rattle.cx_secure.proofs.laws.secure_laws.Goals as goal
+
+pub returns-clause-split : goal.returns-clause-split
+returns-clause-split c = frame_split
+
+pub returns-clause-one : goal.returns-clause-one
+returns-clause-one c = one_secure

@@ -1,0 +1,5 @@
+pub mod Opening
+pub mod Parts
+pub mod Plains
+pub mod Refusing
+pub mod Sealings

@@ -1,0 +1,208 @@
+//! Opening secure frames.
+
+ghost use Rattle.std.specs.Prelude.{◌≡◌, ◌≢◌, ℕ, ◌+◌, ◌<◌, ◌≤◌, ◌^◌, ◌++◌, List, Some, None, Ok, IfOk, length, take, drop};
+ghost use Rattle.cx_gcm.specs.GcmKeyOf.{gcm_key_of};
+ghost use Rattle.cx_frame.specs.Preambles.{IsAllowed, preamble_text};
+ghost use Rattle.cx_frame.specs.declared.frame.Frame.{Frame};
+ghost use Rattle.cx_frame.specs.declared.preamble.Preamble.{Preamble};
+ghost use Rattle.cx_secure.specs.Opening.{IsHead, IsPlainHead, IsRestBehind, head_of, head_step, rest_of, rest_step, with_inline};
+ghost use Rattle.cx_secure.specs.Parts.{nonce_at, part};
+ghost use Rattle.cx_secure.specs.Plains.{rest_len, rest_parts};
+ghost use Rattle.cx_secure.specs.Refusing.{Agrees};
+ghost use Rattle.cx_secure.specs.Sealings.{after_head, after_opening, connection_key, open_head_at, open_rest_at};
+ghost use Rattle.cx_secure.specs.declared.sealing.Head.{Head};
+
+use crate::parts::{nonce_at, opened_head, opened_some};
+use crate::refusals::SecureRefusal;
+use crate::rooms::{frame_at, last_len, one_if, rest_parts, second_len, tagged};
+use crate::sealing::{Head, Sealing, Way};
+use cx_frame::{Frame, read_preamble_within};
+use cx_gcm::GcmKey;
+use std::alloc::{AllocError, Global};
+
+/// The bytes that the segments of a secure frame have together, at most.
+pub const MAX_SECURE: u64 = 1_048_576;
+
+/// The number of bytes that stand behind the head of a secure frame.
+#[tactic(auto, unfolding(crate::specs::Plains::rest_len))]
+pub fn rest_len(head: &Head) -> usize
+    requires { IsAllowed 1048576 head.now.preamble }
+    ensures { result ≡ rest_len head.now.preamble }
+{
+    let preamble = &head.preamble;
+    tagged(second_len(preamble)) + tagged(last_len(preamble))
+}
+
+impl Sealing {
+    /// Opens the head of a frame. It wants no memory.
+    pub fn open_head(&mut self, bytes: &[u8; 96]) -> Result<Head, SecureRefusal>
+        // What is read was sealed so, under the counter of this direction.
+        ensures found { IfOk result (IsHead (connection_key self.old) (nonce_at self.old.into.fixed self.old.into.counter) bytes.now) }
+        // What was sealed so is read.
+        ensures only { (h : Head) → self.old.kept ≡ None → self.old.into.counter + 1 < 2 ^ 64
+            → IsHead (connection_key self.old) (nonce_at self.old.into.fixed self.old.into.counter) bytes.now h → result ≡ Ok h }
+        // It is refused for what was refused before, then for the counter, the tag, and the first check of the preamble that fails.
+        ensures exact { result ≡ open_head_at self.old bytes.now }
+        ensures after { self.new ≡ after_head self.old result }
+    {
+        if let Some(refusal) = self.kept {
+            return Err(refusal);
+        }
+        let head = head_step(&self.key, &self.into, bytes);
+        match head {
+            Ok(_) => self.into.counter += 1,
+            Err(refusal) => self.kept = Some(refusal),
+        }
+        head
+    }
+
+    /// Opens what stands behind a head.
+    pub fn open_rest(
+        &mut self,
+        alloc: Global,
+        head: Head,
+        bytes: &[u8],
+    ) -> Result<Frame, SecureRefusal>
+        requires allowed { IsAllowed 1048576 head.preamble }
+        requires len { length bytes.now ≡ rest_len head.preamble }
+        // What is read was sealed so, behind this head and under the counter of this direction.
+        ensures found { IfOk result (IsRestBehind (connection_key self.old) self.old.into.fixed self.old.into.counter head bytes.now) }
+        // What was sealed so is read.
+        ensures only { (f : Frame) → self.old.kept ≡ None → self.old.into.counter + rest_parts head.preamble < 2 ^ 64
+            → IsRestBehind (connection_key self.old) self.old.into.fixed self.old.into.counter head bytes.now f → Agrees result (Ok f) }
+        // It is refused for what was refused before, then for the counter, the tags, the fills, and the late status.
+        ensures exact { Agrees result (open_rest_at self.old head bytes.now) }
+        ensures after { self.new ≡ after_opening self.old (rest_parts head.preamble) result }
+    {
+        if let Some(refusal) = self.kept {
+            return Err(refusal);
+        }
+        match rest_step(alloc, &self.key, &self.into, &head, bytes) {
+            Ok(frame) => {
+                self.into.counter += rest_parts(&head.preamble);
+                Ok(frame)
+            }
+            Err(SecureRefusal::OutOfMemory) => Err(SecureRefusal::OutOfMemory),
+            Err(refusal) => {
+                self.kept = Some(refusal);
+                Err(refusal)
+            }
+        }
+    }
+
+    /// The refusal that every later call answers.
+    pub fn kept(&self) -> Option<SecureRefusal>
+        ensures { result ≡ self.now.kept }
+    {
+        self.kept
+    }
+}
+
+// The head in 96 bytes, which comes under the counter.
+#[tactic(auto, unfolding(crate::specs::Opening::head_step, crate::specs::Opening::head_of))]
+fn head_step(key: &GcmKey, way: &Way, bytes: &[u8; 96]) -> Result<Head, SecureRefusal>
+    ensures value { result ≡ head_step (gcm_key_of key.now) way.now.fixed way.now.counter bytes.now }
+    ensures below { IfOk result (λ _. way.now.counter + 1 < 2 ^ 64) }
+    ensures found { IfOk result (IsHead (gcm_key_of key.now) (nonce_at way.now.fixed way.now.counter) bytes.now) }
+    ensures only { (h : Head) → way.now.counter + 1 < 2 ^ 64 → IsHead (gcm_key_of key.now) (nonce_at way.now.fixed way.now.counter) bytes.now h → result ≡ Ok h }
+{
+    if way.counter == u64::MAX {
+        return Err(SecureRefusal::CounterSpent);
+    }
+    match opened_head(key, nonce_at(&way.fixed, way.counter), bytes) {
+        Some(plain) => head_of(&plain),
+        None => Err(SecureRefusal::BadTag),
+    }
+}
+
+// The head in the plain bytes of the first part.
+#[tactic(auto, unfolding(crate::specs::Opening::head_of, crate::specs::Opening::with_inline))]
+fn head_of(plain: &[u8; 80]) -> Result<Head, SecureRefusal>
+    ensures value { result ≡ head_of (Some plain.now) }
+    ensures found { IfOk result (IsPlainHead plain.now) }
+{
+    let preamble = read_preamble_within(&front_of(plain), MAX_SECURE)?;
+    Ok(Head {
+        preamble,
+        inline: inline_of(plain),
+    })
+}
+
+fn front_of(plain: &[u8; 80]) -> [u8; 32]
+    ensures { result ≡ take 32 plain.now }
+{
+    let Some((front, _)) = plain.split_first_chunk::<32>() else {
+        unreachable!();
+    };
+    *front
+}
+
+#[tactic(auto, using(crate::proofs::Lists::all_taken))]
+fn inline_of(plain: &[u8; 80]) -> [u8; 48]
+    ensures { result ≡ drop 32 plain.now }
+{
+    let (_, rest) = plain.split_at(32);
+    let Some((inline, _)) = rest.split_first_chunk::<48>() else {
+        unreachable!();
+    };
+    *inline
+}
+
+// The frame behind a head, whose parts come from the counter on.
+#[tactic(auto, using(crate::proofs::Lengths::parts_front), unfolding(crate::specs::Opening::rest_step))]
+fn rest_step(
+    alloc: Global,
+    key: &GcmKey,
+    way: &Way,
+    head: &Head,
+    bytes: &[u8],
+) -> Result<Frame, SecureRefusal>
+    requires allowed { IsAllowed 1048576 head.now.preamble }
+    requires len { length bytes.now ≡ rest_len head.now.preamble }
+    ensures value { Agrees result (rest_step (gcm_key_of key.now) way.now.fixed way.now.counter head.now bytes.now) }
+    ensures below { IfOk result (λ _. way.now.counter + rest_parts head.now.preamble < 2 ^ 64) }
+    ensures found { IfOk result (IsRestBehind (gcm_key_of key.now) way.now.fixed way.now.counter head.now bytes.now) }
+    ensures only { (f : Frame) → way.now.counter + rest_parts head.now.preamble < 2 ^ 64
+        → IsRestBehind (gcm_key_of key.now) way.now.fixed way.now.counter head.now bytes.now f → Agrees result (Ok f) }
+{
+    if way.counter > u64::MAX - rest_parts(&head.preamble) {
+        return Err(SecureRefusal::CounterSpent);
+    }
+    let next = way.counter + one_if(second_len(&head.preamble));
+    let first_nonce = nonce_at(&way.fixed, way.counter);
+    let next_nonce = nonce_at(&way.fixed, next);
+    rest_of(alloc, key, first_nonce, next_nonce, head, bytes)
+}
+
+// The frame in what stands behind its head, whose parts have these nonces.
+#[tactic(auto, unfolding(crate::specs::Opening::rest_of, crate::specs::Opening::with_parts, crate::specs::Plains::rest_len))]
+fn rest_of(
+    alloc: Global,
+    key: &GcmKey,
+    first: [u8; 12],
+    next: [u8; 12],
+    head: &Head,
+    bytes: &[u8],
+) -> Result<Frame, SecureRefusal>
+    requires allowed { IsAllowed 1048576 head.now.preamble }
+    requires len { length bytes.now ≡ rest_len head.now.preamble }
+    ensures value { Agrees result (rest_of (gcm_key_of key.now) first next head.now bytes.now) }
+    ensures inline { IfOk result (λ _. length head.now.inline ≡ 48) }
+{
+    let front = tagged(second_len(&head.preamble));
+    let (second, last) = bytes.split_at(front);
+    let second = opened_some(alloc, key, first, second)?;
+    let last = opened_some(alloc, key, next, last)?;
+    let room = room_of(alloc, &head.inline, second.bytes())?;
+    frame_at(alloc, &head.preamble, room, last.bytes())
+}
+
+// The first segment with its fill.
+fn room_of(alloc: Global, inline: &[u8; 48], second: &[u8]) -> Result<Vec<u8>, AllocError>
+    ensures text { IfOk result (λ room. room.items ≡ inline.now ++ second.now) }
+    ensures len { IfOk result (λ room. length room.items ≡ 48 + length second.now) }
+{
+    let mut room = Vec::from_slice(alloc, inline)?;
+    room.extend_from_slice(second)?;
+    Ok(room)
+}

@@ -1,0 +1,202 @@
+//! Sealing frames.
+
+ghost use Rattle.std.specs.Prelude.{◌≡◌, ◌≢◌, ℕ, ◌+◌, ◌-◌, ◌<◌, ◌≤◌, ◌^◌, ◌++◌, List, All, None, IfOk, IfErr, OnOk, OnErr, length, sum_by};
+ghost use Rattle.cx_gcm.specs.GcmKeyOf.{gcm_key_of};
+ghost use Rattle.cx_frame.specs.Frames.{IsAnnounceable, total};
+ghost use Rattle.cx_frame.specs.Preambles.{IsAllowed, length_of, preamble_of};
+ghost use Rattle.cx_secure.specs.Parts.{sealed_parts};
+ghost use Rattle.cx_secure.specs.Plains.{bodies, filled, inline_of, last_plain, padded, parts_of, plains, second_plain, secure_text};
+ghost use Rattle.cx_secure.specs.Refusing.{IsRefusal};
+ghost use Rattle.cx_secure.specs.Sealings.{after_putting, connection_key, put_refusal};
+
+use crate::opening::MAX_SECURE;
+use crate::parts::{nonce_at, seal_part, seal_some};
+use crate::refusals::SecureRefusal;
+use crate::rooms::{COMPLETE, END, INLINE, one_if, up16};
+use crate::sealing::{Sealing, Way};
+use cx_base::Blob;
+use cx_frame::{Frame, Segment, preamble_of, put_preamble, total};
+use cx_gcm::GcmKey;
+use std::alloc::{AllocError, Global};
+
+impl Sealing {
+    /// Seals a frame, and puts it behind some bytes. After a refusal the bytes are as before.
+    pub fn put_frame(
+        &mut self,
+        alloc: Global,
+        into: &mut Blob,
+        frame: &Frame,
+    ) -> Result<(), SecureRefusal>
+        requires { IsAnnounceable frame.now }
+        ensures ok { OnOk result (into.new ≡ into.old ++ secure_text (connection_key self.old) self.old.out.fixed self.old.out.counter frame.now) }
+        // A frame that is sealed is one that a preamble announces within the limit.
+        ensures allowed { OnOk result (IsAllowed 1048576 (preamble_of frame.now)) }
+        ensures free { OnOk result (put_refusal self.old frame.now ≡ None) }
+        // It is refused for what was refused before, then for the counter, then for the limit.
+        ensures refused { IfErr result (IsRefusal (put_refusal self.old frame.now)) }
+        ensures after { self.new ≡ after_putting self.old frame.now result }
+        ensures err { OnErr result (into.new ≡ into.old) }
+    {
+        if let Some(refusal) = self.kept {
+            return Err(refusal);
+        }
+        let parts = parts_of(frame);
+        if self.out.counter > u64::MAX - parts {
+            self.kept = Some(SecureRefusal::CounterSpent);
+            return Err(SecureRefusal::CounterSpent);
+        }
+        let total = total(frame);
+        if total > MAX_SECURE {
+            return Err(SecureRefusal::TooLong(total));
+        }
+        let text = sealed(alloc, &self.key, &self.out, frame)?;
+        into.append(alloc, text.bytes())?;
+        self.out.counter += parts;
+        Ok(())
+    }
+}
+
+// The number of parts.
+fn parts_of(frame: &Frame) -> u64
+    requires { IsAnnounceable frame.now }
+    ensures value { result ≡ length (plains frame.now) }
+    ensures small { result ≤ 3 }
+{
+    let segments = frame.segments.all();
+    let first = segments[0].bytes.bytes().len();
+    1 + one_if(first.saturating_sub(INLINE)) + one_if(segments.len() - 1)
+}
+
+// The parts of a frame, one behind the other.
+#[tactic(auto, using(crate::proofs::PlainLaws::preamble_len), unfolding(crate::specs::Plains::plains, crate::specs::Plains::plains_of))]
+fn sealed(alloc: Global, key: &GcmKey, way: &Way, frame: &Frame) -> Result<Blob, AllocError>
+    requires fine { IsAnnounceable frame.now }
+    requires short { total frame.now ≤ 1048576 }
+    requires counter { way.now.counter + length (plains frame.now) < 2 ^ 64 }
+    ensures allowed { OnOk result (IsAllowed 1048576 (preamble_of frame.now)) }
+    ensures text { IfOk result (λ text. text ≡ secure_text (gcm_key_of key.now) way.now.fixed way.now.counter frame.now) }
+{
+    let mut preamble = Blob::new(alloc);
+    put_preamble(alloc, &mut preamble, &preamble_of(frame))?;
+    let [first, others @ ..] = frame.segments.all() else {
+        return Ok(preamble);
+    };
+    sealed_behind(
+        alloc,
+        key,
+        way,
+        preamble.bytes(),
+        first.bytes.bytes(),
+        others,
+    )
+}
+
+// The parts of a frame with this preamble.
+#[tactic(auto, using(crate::proofs::PlainLaws::parts_before))]
+fn sealed_behind(
+    alloc: Global,
+    key: &GcmKey,
+    way: &Way,
+    preamble: &[u8],
+    first: &[u8],
+    others: &[Segment],
+) -> Result<Blob, AllocError>
+    requires preamble { length preamble.now ≡ 32 }
+    requires first { length first.now ≤ 1048576 }
+    requires others { sum_by length_of others.now ≤ 1048576 }
+    requires few { length others.now ≤ 3 }
+    requires counter { way.now.counter + length (parts_of preamble.now first.now others.now) < 2 ^ 64 }
+    ensures { IfOk result (λ text. text ≡ sealed_parts (gcm_key_of key.now) way.now.fixed way.now.counter (parts_of preamble.now first.now others.now)) }
+{
+    let mut head = head_plain(alloc, preamble, first)?;
+    let mut second = second_plain(alloc, first)?;
+    let mut last = last_plain(alloc, others)?;
+    let next = way.counter + 1;
+    let behind = next + one_if(first.len().saturating_sub(INLINE));
+    let mut text = Blob::new(alloc);
+    seal_part(
+        alloc,
+        &mut text,
+        key,
+        nonce_at(&way.fixed, way.counter),
+        &mut head,
+    )?;
+    seal_some(alloc, &mut text, key, &way.fixed, next, &mut second)?;
+    seal_some(alloc, &mut text, key, &way.fixed, behind, &mut last)?;
+    Ok(text)
+}
+
+// The plain bytes of the first part.
+#[tactic(auto, using(crate::proofs::Lists::take_min), unfolding(crate::specs::Plains::inline_of))]
+fn head_plain(alloc: Global, preamble: &[u8], first: &[u8]) -> Result<Vec<u8>, AllocError>
+    ensures { IfOk result (λ plain. plain.items ≡ preamble.now ++ inline_of first.now) }
+{
+    let mut plain = Vec::from_slice(alloc, preamble)?;
+    let (inline, _) = first.split_at(first.len().min(INLINE));
+    put_filled(&mut plain, inline, INLINE)?;
+    Ok(plain)
+}
+
+// The plain bytes of the second part.
+#[tactic(auto, using(crate::proofs::Lists::nothing_filled), unfolding(crate::specs::Plains::second_plain))]
+fn second_plain(alloc: Global, first: &[u8]) -> Result<Vec<u8>, AllocError>
+    requires { length first.now ≤ 1048576 }
+    ensures { IfOk result (λ plain. plain.items ≡ second_plain first.now) }
+{
+    if first.len() <= INLINE {
+        return Ok(Vec::new(alloc));
+    }
+    let (_, rest) = first.split_at(INLINE);
+    let mut plain = Vec::new(alloc);
+    put_filled(&mut plain, rest, up16(rest.len()))?;
+    Ok(plain)
+}
+
+// The plain bytes of the last part.
+#[tactic(auto, unfolding(crate::specs::Plains::last_plain))]
+fn last_plain(alloc: Global, others: &[Segment]) -> Result<Vec<u8>, AllocError>
+    requires { sum_by length_of others.now ≤ 1048576 }
+    ensures { IfOk result (λ plain. plain.items ≡ last_plain others.now) }
+{
+    let mut plain = Vec::new(alloc);
+    if others.is_empty() {
+        return Ok(plain);
+    }
+    put_bodies(&mut plain, others)?;
+    put_filled(&mut plain, &[COMPLETE], END)?;
+    Ok(plain)
+}
+
+// The segments, each filled to a multiple of 16.
+fn put_bodies(into: &mut Vec<u8>, others: &[Segment]) -> Result<(), AllocError>
+    requires { sum_by length_of others.now ≤ 1048576 }
+    ensures { OnOk result (into.new.items ≡ into.old.items ++ bodies others.now) }
+{
+    for segment in others {
+        put_padded(into, segment)?;
+    }
+    Ok(())
+}
+
+// A segment filled to a multiple of 16.
+#[tactic(auto, unfolding(crate::specs::Plains::padded))]
+fn put_padded(into: &mut Vec<u8>, segment: &Segment) -> Result<(), AllocError>
+    requires { length segment.now.bytes ≤ 1048576 }
+    ensures { OnOk result (into.new.items ≡ into.old.items ++ padded segment.now) }
+{
+    let bytes = segment.bytes.bytes();
+    put_filled(into, bytes, up16(bytes.len()))
+}
+
+// Bytes filled with zeros.
+#[tactic(auto, using(crate::proofs::Lists::zeros_taken), unfolding(crate::specs::Plains::filled))]
+fn put_filled(into: &mut Vec<u8>, bytes: &[u8], room: usize) -> Result<(), AllocError>
+    requires { room ≤ length bytes.now + 64 }
+    ensures { OnOk result (into.new.items ≡ into.old.items ++ filled room bytes.now) }
+{
+    let zeros = [0u8; 64];
+    let (fill, _) = zeros.split_at(room.saturating_sub(bytes.len()));
+    into.extend_from_slice(bytes)?;
+    into.extend_from_slice(fill)?;
+    Ok(())
+}

@@ -1,0 +1,29 @@
+//! What one end of a connection holds to seal and to open.
+
+use crate::refusals::SecureRefusal;
+use cx_frame::Preamble;
+use cx_gcm::GcmKey;
+
+/// One direction: the four fixed bytes of its nonces, and the counter of its next part.
+#[derive(Clone, Copy)]
+pub struct Way {
+    pub(crate) fixed: [u8; 4],
+    pub(crate) counter: u64,
+}
+
+/// The head of a secure frame: its preamble, and the first 48 bytes of its first segment with their fill.
+#[derive(Clone, Copy, Debug, PartialEq, Eq)]
+pub struct Head {
+    pub preamble: Preamble,
+    pub inline: [u8; 48],
+}
+
+/// The key of a connection, made ready once, with both directions, and the refusal that ended it. It takes 2,500 bytes. It is `Copy`, but
+/// two copies that both send use a nonce twice: send with one alone.
+#[derive(Clone, Copy)]
+pub struct Sealing {
+    pub(crate) key: GcmKey,
+    pub(crate) out: Way,
+    pub(crate) into: Way,
+    pub(crate) kept: Option<SecureRefusal>,
+}
