@@ -1,0 +1,5 @@
+pub mod PlainFronts
+pub mod PlainStands
+pub mod Sealed
+pub mod SecureFronts
+pub mod SecureTurns

@@ -1,0 +1,53 @@
+use Rattle.std.proofs.Common.{◌≡◌, ◌<◌, ◌++◌, ℕ, List, Ok, Result, Err, length, take, drop, refl, sym, subst, ap, ◌∙◌, arith, length-take}
+use Rattle.std.proofs.lemmas.List.{take-append-drop}
+use Rattle.cx_secure.specs.declared.sealing.Head.{Head}
+use Rattle.cx_secure.specs.declared.sealing.Sealing.{Sealing}
+use Rattle.cx_secure.specs.declared.refusals.SecureRefusal.{SecureRefusal}
+use Rattle.cx_stream.specs.Held.{IsOpen}
+use Rattle.cx_stream.proofs.SecureTurns.{already_open, head_read, none_ready, now_open, refuses_head, steady_now}
+use Rattle.cx_stream.proofs.stages.Secure.ready.Goals as goal
+
+pub returns-in-Some-head : goal.returns-in-Some-head
+returns-in-Some-head c =
+    already_open c.args.self.now c.self.inside.sealing c.self.inside.head c.in-Some-head.head c.self.inside.rest.items c.self.view_is c.in-Some-head.is (sym c.in_default.ensures) c.self.invariant
+
+pub returns-in_default-split_first_chunk : goal.returns-in_default-split_first_chunk
+returns-in_default-split_first_chunk c =
+    let short : length c.self.inside.rest.items < 96 = omega (arith, ap length c.as_slice.ensures, c.in_default-split_first_chunk.ensures.cases) in
+    let both = none_ready c.args.self.now c.self.inside.sealing c.self.inside.head c.self.inside.rest.items c.self.view_is c.in_default-head.is (sym c.in_default.ensures) short in
+    (refl, both.0, both.1)
+
+pub invariant_of-self : goal.invariant_of-self
+invariant_of-self c =
+    let parts = c.in-Some-split_first_chunk.ensures.cases in
+    let front : List ℕ = c.in-Some-split_first_chunk.front.now in
+    let len : length front ≡ 96 = omega (arith, ap length parts.0, length-take 96 c.as_slice.result.now, parts.2) in
+    let answer : Result Head SecureRefusal = Ok c.in-Ok.head in
+    subst (λ (x : Sealing). IsOpen x c.in-Ok.head) (sym c.in-Ok.ensures.after)
+    (steady_now c.self.inside.sealing front c.in-Ok.head len (head_read c.self.inside.sealing front answer (sym c.in_default.ensures) c.in-Ok.ensures.exact) c.in-Ok.ensures.found)
+
+pub returns-in-Ok : goal.returns-in-Ok
+returns-in-Ok c =
+    let parts = c.in-Some-split_first_chunk.ensures.cases in
+    let front : List ℕ = c.in-Some-split_first_chunk.front.now in
+    let left : List ℕ = c.advance.new.self.items in
+    let len : length front ≡ 96 = omega (arith, ap length parts.0, length-take 96 c.as_slice.result.now, parts.2) in
+    let answer : Result Head SecureRefusal = Ok c.in-Ok.head in
+    let bytes_are : c.self.inside.rest.items ≡ front ++ left =
+    sym (take-append-drop 96 c.self.inside.rest.items) ∙ ap (λ b. b ++ drop 96 c.self.inside.rest.items) (ap (take 96) (sym c.as_slice.ensures) ∙ sym parts.0) ∙ ap (λ b. front ++ b) (sym c.advance.ensures.items)
+    in
+    now_open c.args.self.now _ c.self.inside.sealing c.open_head.new.self c.self.inside.head c.self.inside.rest.items front left c.in-Ok.head c.self.view_is c.in_default-head.is refl
+    bytes_are len (sym c.in_default.ensures) c.in-Ok.ensures.after
+    (head_read c.self.inside.sealing front answer (sym c.in_default.ensures) c.in-Ok.ensures.exact) c.in-Ok.ensures.found
+
+pub returns-in-Err : goal.returns-in-Err
+returns-in-Err c =
+    let parts = c.in-Some-split_first_chunk.ensures.cases in
+    let rest : List ℕ = c.self.inside.rest.items in
+    let front : List ℕ = c.in-Some-split_first_chunk.front.now in
+    let len : length front ≡ 96 = omega (arith, ap length parts.0, length-take 96 c.as_slice.result.now, parts.2) in
+    let answer : Result Head SecureRefusal = Err c.in-Err.refusal in
+    let bytes_are : rest ≡ front ++ drop 96 rest = sym (take-append-drop 96 rest) ∙ ap (λ b. b ++ drop 96 rest) (ap (take 96) (sym c.as_slice.ensures) ∙ sym parts.0) in
+    refuses_head c.args.self.now _ c.self.inside.sealing c.open_head.new.self c.self.inside.head rest front (drop 96 rest) c.in-Err.refusal c.self.view_is c.in_default-head.is refl
+    bytes_are len (sym c.in_default.ensures) c.in-Err.ensures.after
+    (head_read c.self.inside.sealing front answer (sym c.in_default.ensures) c.in-Err.ensures.exact)

@@ -1,0 +1,7 @@
+pub mod Fronts
+pub mod Greetings
+pub mod Held
+pub mod PlainStreams
+pub mod Received
+pub mod SecureStreams
+pub mod Turning

@@ -1,0 +1,145 @@
+//! The stage of secure frames.
+
+ghost use Rattle.std.specs.Prelude.{◌≡◌, ℕ, List, Ok, Some, None, ◌++◌, OnOk, OnErr, IfErr, length};
+ghost use Rattle.cx_frame.specs.Frames.{IsAnnounceable};
+ghost use Rattle.cx_frame.specs.Preambles.{IsAllowed};
+ghost use Rattle.cx_frame.specs.declared.frame.Frame.{Frame};
+ghost use Rattle.cx_secure.specs.Plains.{secure_text};
+ghost use Rattle.cx_secure.specs.Sealings.{connection_key, put_refusal, unless_kept};
+ghost use Rattle.cx_stream.specs.Fronts.{frame_in, given_by};
+ghost use Rattle.cx_stream.specs.SecureStreams.{AgreesSecure, BeginsNoSecure, Holds, IsKeyed, IsPutFault, IsSecure, KeepsFault, PassesGiven, after_put, ahead, secure_frame_at};
+ghost use Rattle.cx_stream.specs.Turning.{Finished, Readied};
+
+use crate::faults::StreamFault;
+use crate::stages::{Ended, Secure};
+use cx_base::Blob;
+use cx_frame::Frame;
+use cx_secure::{Head, SecureRefusal, rest_len};
+use std::alloc::{AllocError, Global};
+
+/// The bytes of a head, as it is sealed.
+const HEAD: usize = 96;
+
+impl Secure {
+    /// Puts bytes that came behind those that are there. Where memory is wanting, all is as before.
+    pub fn feed(&mut self, _alloc: Global, bytes: &[u8]) -> Result<(), AllocError>
+        ensures ok { OnOk result (self.new ≡ record self.old { rest = self.old.rest ++ bytes.now }) }
+        ensures err { OnErr result (self.new ≡ self.old) }
+        // Fed so much more, it stands for that.
+        ensures holds { (fed : List ℕ) (given : List Frame) → Holds (ahead self.old) fed given → OnOk result (Holds (ahead self.new) (fed ++ bytes.now) given) }
+    {
+        self.push(bytes)
+    }
+
+    fn push(&mut self, bytes: &[u8]) -> Result<(), AllocError>
+        ensures ok { OnOk result (self.new ≡ record self.old { rest = self.old.rest ++ bytes.now }) }
+        ensures err { OnErr result (self.new ≡ self.old) }
+    {
+        self.rest.extend_from_slice(bytes)
+    }
+
+    /// Gives the next frame, where all of it is there. A fault is answered again by every later call; want of memory changes nothing.
+    pub fn turn(&mut self, alloc: Global) -> Result<Option<Frame>, StreamFault>
+        // It is the frame at the front of what stands behind the frames that were given, or the first check of it that fails; a fault that is
+        // kept goes before.
+        ensures exact { AgreesSecure result (unless_kept self.old.sealing.kept (frame_in (secure_frame_at (ahead self.old)))) }
+        ensures passes { PassesGiven (ahead self.old) (ahead self.new) result }
+        ensures kept { KeepsFault self.old.sealing.kept self.new.sealing.kept result }
+        // Having given so many more, it stands for that.
+        ensures holds { (fed : List ℕ) (given : List Frame) → Holds (ahead self.old) fed given → Holds (ahead self.new) fed (given ++ given_by result) }
+        // Nothing is given where no whole frame is there.
+        ensures none { IsKeyed (ahead self.old) → result ≡ Ok None → BeginsNoSecure (ahead self.old) }
+    {
+        self.next(alloc)
+    }
+
+    fn next(&mut self, alloc: Global) -> Result<Option<Frame>, StreamFault>
+        ensures exact { AgreesSecure result (unless_kept self.old.sealing.kept (frame_in (secure_frame_at (ahead self.old)))) }
+        ensures passes { PassesGiven (ahead self.old) (ahead self.new) result }
+        ensures kept { KeepsFault self.old.sealing.kept self.new.sealing.kept result }
+    {
+        match self.ready() {
+            Ok(Some(head)) => match self.finish(alloc, head) {
+                Ok(given) => Ok(given),
+                Err(refusal) => Err(StreamFault::Secure(refusal)),
+            },
+            Ok(None) => Ok(None),
+            Err(refusal) => Err(StreamFault::Secure(refusal)),
+        }
+    }
+
+    // The head of the next frame, where it is there: it is opened once.
+    fn ready(&mut self) -> Result<Option<Head>, SecureRefusal>
+        ensures { Readied self.old self.new result }
+    {
+        if let Some(refusal) = self.sealing.kept() {
+            return Err(refusal);
+        }
+        if let Some(head) = self.head {
+            return Ok(Some(head));
+        }
+        let Some((front, _)) = self.rest.as_slice().split_first_chunk::<HEAD>() else {
+            return Ok(None);
+        };
+        match self.sealing.open_head(front) {
+            Ok(head) => {
+                self.rest.advance(HEAD);
+                self.head = Some(head);
+                Ok(Some(head))
+            }
+            Err(refusal) => Err(refusal),
+        }
+    }
+
+    // The frame behind its head, where it is there.
+    fn finish(&mut self, alloc: Global, head: Head) -> Result<Option<Frame>, SecureRefusal>
+        requires allowed { IsAllowed 1048576 head.preamble }
+        requires free { self.old.sealing.kept ≡ None }
+        ensures { Finished self.old self.new head result }
+    {
+        let length = rest_len(&head);
+        if self.rest.len() < length {
+            return Ok(None);
+        }
+        let (behind, _) = self.rest.as_slice().split_at(length);
+        match self.sealing.open_rest(alloc, head, behind) {
+            Ok(frame) => {
+                self.rest.advance(length);
+                self.head = None;
+                Ok(Some(frame))
+            }
+            Err(refusal) => Err(refusal),
+        }
+    }
+
+    /// Seals a frame, and puts it behind some bytes. After a refusal the bytes are as before.
+    pub fn put(&mut self, alloc: Global, into: &mut Blob, frame: &Frame) -> Result<(), StreamFault>
+        requires { IsAnnounceable frame.now }
+        ensures ok { OnOk result (into.new ≡ into.old ++ secure_text (connection_key self.old.sealing) self.old.sealing.out.fixed self.old.sealing.out.counter frame.now) }
+        // A frame that is put is one that is read.
+        ensures secure { OnOk result (IsSecure frame.now) }
+        ensures free { OnOk result (put_refusal self.old.sealing frame.now ≡ None) }
+        // It is refused for what was refused before, then for the counter, then for the limit.
+        ensures refused { IfErr result (IsPutFault (put_refusal self.old.sealing frame.now)) }
+        // The counter rises by the parts of the frame; nothing else is touched.
+        ensures after { self.new ≡ record self.old { sealing = after_put self.old.sealing frame.now result } }
+        ensures err { OnErr result (into.new ≡ into.old) }
+    {
+        match self.sealing.put_frame(alloc, into, frame) {
+            Ok(()) => Ok(()),
+            Err(refusal) => Err(StreamFault::Secure(refusal)),
+        }
+    }
+
+    /// The number of bytes that were fed and not taken. A head that was opened is taken.
+    pub fn kept(&self) -> usize
+        ensures { result ≡ length self.now.rest }
+    {
+        self.rest.len()
+    }
+
+    /// Ends the stream, with all bytes that it holds.
+    pub fn end(self) -> Ended {
+        Ended
+    }
+}
