@@ -17,8 +17,8 @@ use cx_journal::{
     Admitted, Answered, Entry, Fetched, Handled, Issued, Journal, Looked, NodeName, Outcome,
     Reason, Refused, Sent, TicketFault,
 };
-use cx_rotate::View;
 use cx_lines::{Grant, Line};
+use cx_rotate::View;
 use std::alloc::{AllocError, Global};
 use std::mem;
 
