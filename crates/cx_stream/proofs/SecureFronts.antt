@@ -1,73 +1,29 @@
 -- The secure frame at the front of some bytes: what was put is read again, and what is answered stays so.
-use Rattle.std.proofs.Common.{◌≡◌, ℕ, ◌+◌, ◌-◌, ◌≤◌, ◌<◌, ◌^◌, false, List, [], ◌∷◌, ◌++◌, length, take, drop, map, Option, Some, None, Result, Ok, Err, refl, sym, ap, subst, ◌∙◌, inl, inr, arith, append_assoc, length-append}
-use Rattle.std.specs.Prelude.{◌==◌, nat_lt, sum_by}
-use Rattle.std.specs.List.{flat_map, slice_range}
-use Rattle.std.proofs.lemmas.Bool.{le-ltb, lt-ltb, cases_lt, ne_eqb}
+use Rattle.std.proofs.Common.{◌≡◌, ℕ, ◌+◌, ◌-◌, ◌≤◌, ◌<◌, ◌^◌, Bool, false, List, [], ◌∷◌, ◌++◌, length, take, drop, Option, Some, None, Result, Ok, Err, refl, sym, ap, subst, ◌∙◌, inl, inr, arith, append_assoc, length-append}
+use Rattle.std.specs.Prelude.{nat_lt}
+use Rattle.std.specs.List.{flat_map}
+use Rattle.std.proofs.lemmas.Bool.{le-ltb, lt-ltb, cases_lt}
 use Rattle.std.proofs.lemmas.List.{take_at, drop_at, take-append-le, drop-append-le}
 use Rattle.std.proofs.lemmas.List.Elements.{All-head, All-tail}
-use Rattle.std.proofs.lemmas.List.Sums.{sum_by-cons}
 use Rattle.cx_aes.specs.Cipher.{IsBlock}
 use Rattle.cx_gcm.specs.Gcm.{IsNonce}
-use Rattle.cx_frame.specs.declared.frame.Segment.{Segment}
 use Rattle.cx_frame.specs.declared.frame.Frame.{Frame}
 use Rattle.cx_frame.specs.declared.preamble.Preamble.{Preamble}
-use Rattle.cx_frame.specs.Preambles.{IsAllowed, length_of, preamble_of, preamble_text}
-use Rattle.cx_frame.proofs.RestLaws.{announces, few_others, framed, no_frame}
+use Rattle.cx_frame.specs.Preambles.{IsAllowed}
 use Rattle.cx_secure.specs.declared.sealing.Head.{Head}
 use Rattle.cx_secure.specs.declared.refusals.SecureRefusal.{SecureRefusal}
 use Rattle.cx_secure.specs.Opening.{IsHead, IsRestBehind, head_step, rest_step}
-use Rattle.cx_secure.specs.Parts.{nonce_at, part, sealed_parts}
-use Rattle.cx_secure.specs.Plains.{bodies, filled, inline_of, last_len, last_plain, nonempty, one_if, padded, parts_of, plains, plains_of, rest_len, rest_parts, second_len, second_plain, secure_text, tagged, up16}
-use Rattle.cx_secure.proofs.HeadLaws.{opened_again}
-use Rattle.cx_secure.proofs.Lengths.{up16_least}
-use Rattle.cx_secure.proofs.PartLaws.{sealed-append}
-use Rattle.cx_secure.proofs.PlainLaws.{inline_len, length-filled, length-second_plain, preamble_len}
-use Rattle.cx_secure.proofs.SealedLaws.{length-part, length-sealed, rest_again}
+use Rattle.cx_secure.specs.Parts.{nonce_at, sealed_parts}
+use Rattle.cx_secure.specs.Plains.{one_if, plains, rest_len, rest_parts, second_len, secure_text}
 use Rattle.cx_secure.specs.Sealings.{unless_kept}
+use Rattle.cx_secure.proofs.HeadLaws.{nonce_is, opened_again}
+use Rattle.cx_secure.proofs.PartLaws.{sealed-append}
+use Rattle.cx_secure.proofs.SealedLaws.{rest_again}
+use Rattle.cx_secure.proofs.WholeLaws.{frame_split}
 use Rattle.cx_stream.specs.Fronts.{frame_in, with_length}
 use Rattle.cx_stream.specs.SecureStreams.{AgreesSecure, Ahead, BeginsNoSecure, IsKeyed, IsSecure, IsSecureStream, behind_head, secure_frame_at}
 use Rattle.cx_stream.proofs.Sealed.{parts_behind}
 use Rattle.cx_stream.proofs.SecureTurns.{Answer, Read, at_head, behind_all, free_answer, short_of, sized, there}
-
--- ---- lengths
-
-length_padded : (s : Segment) → length (padded s) ≡ up16 (length s.bytes)
-unfolding padded
-length_padded s = length-filled (up16 (length s.bytes)) s.bytes (up16_least (length s.bytes))
-
-length_bodies : (ss : List Segment) → length (bodies ss) ≡ sum_by up16 (map length_of ss)
-length_bodies [] = refl
-length_bodies (s ∷ ss) = length-append (padded s) (bodies ss) ∙ omega (arith, length_padded s, length_bodies ss, sum_by-cons up16 (length s.bytes) (map length_of ss))
-
-length_last : (t : ℕ) (s : Segment) (ss : List Segment) → length ss ≤ 3 → length (last_plain ss) ≡ last_len (preamble_of (framed t s ss))
-unfolding last_plain last_len preamble_of
-length_last t s [] few = refl
-length_last t s (o ∷ os) few =
-    let ss : List Segment = o ∷ os in
-    let p : Preamble = preamble_of (framed t s ss) in
-    let many : (p.count == 1) ≡ false = ne_eqb p.count 1 (λ e. omega arith) in
-    let some : (length ss == 0) ≡ false = ne_eqb (length ss) 0 (λ e. omega arith) in
-    let ranges = announces t s ss few in
-    let size : length (bodies ss ++ filled 16 (0x0e ∷ [])) ≡ sum_by up16 (slice_range p.lengths 1 p.count) + 16 =
-    length-append (bodies ss) (filled 16 (0x0e ∷ [])) ∙ omega (arith, length-filled 16 (0x0e ∷ []) (omega arith), length_bodies ss, ap (sum_by up16) ranges.0)
-    in
-    rw (some, many) size
-
-second_is : (t : ℕ) (s : Segment) (ss : List Segment) → up16 (length s.bytes - 48) ≡ second_len (preamble_of (framed t s ss))
-unfolding second_len preamble_of
-second_is t s ss = refl
-
-length_others : (key fixed : List ℕ) (n : ℕ) (t : ℕ) (s : Segment) (ss : List Segment) → IsBlock key → ((m : ℕ) → IsNonce (nonce_at fixed m)) → length ss ≤ 3
-    → length (sealed_parts key fixed n (nonempty (second_plain s.bytes) ++ nonempty (last_plain ss))) ≡ rest_len (preamble_of (framed t s ss))
-unfolding rest_len
-length_others key fixed n t s ss block nonces few =
-    let a : List ℕ = second_plain s.bytes in
-    let b : List ℕ = last_plain ss in
-    let m : ℕ = n + length (nonempty a) in
-    ap length (sealed-append key fixed n (nonempty a) (nonempty b))
-    ∙ length-append (sealed_parts key fixed n (nonempty a)) (sealed_parts key fixed m (nonempty b))
-    ∙ ap (λ k. k + length (sealed_parts key fixed m (nonempty b))) (length-sealed key fixed n a block (nonces n) ∙ ap tagged (length-second_plain s.bytes ∙ second_is t s ss))
-    ∙ ap (λ k. tagged (second_len (preamble_of (framed t s ss))) + k) (length-sealed key fixed m b block (nonces m) ∙ ap tagged (length_last t s ss few))
 
 -- ---- again
 
@@ -85,57 +41,27 @@ behind_again key fixed n h bytes f block nonces fine below is =
     let free : nat_lt (2 ^ 64 - 1) (n + rest_parts h.preamble) ≡ false = le-ltb (2 ^ 64 - 1) (n + rest_parts h.preamble) (omega arith) in
     rw free (rest_again key fixed n h bytes f block (nonces n) (nonces (n + one_if (second_len h.preamble))) fine is)
 
-plains_is : (t : ℕ) (s : Segment) (ss : List Segment) → plains (framed t s ss) ≡ (preamble_text (preamble_of (framed t s ss)) ++ inline_of s.bytes) ∷ nonempty (second_plain s.bytes) ++ nonempty (last_plain ss)
-unfolding plains plains_of parts_of
-plains_is t s ss = refl
-
-framed_again : (key fixed more : List ℕ) (n t : ℕ) (s : Segment) (ss : List Segment) → IsBlock key → ((m : ℕ) → IsNonce (nonce_at fixed m)) → IsSecure (framed t s ss)
-    → n + length (plains (framed t s ss)) < 2 ^ 64
-    → (let a : Ahead = record { key = key; fixed = fixed; counter = n; bytes = secure_text key fixed n (framed t s ss) ++ more } in
-    secure_frame_at a ≡ Ok (Some (framed t s ss, length (secure_text key fixed n (framed t s ss)))))
-unfolding sealed_parts
-framed_again key fixed more n t s ss block nonces fine below =
-    let f : Frame = framed t s ss in
-    let p : Preamble = preamble_of f in
-    let few : length ss ≤ 3 = few_others 1048576 t s ss fine in
-    let first : List ℕ = preamble_text p ++ inline_of s.bytes in
-    let others : List (List ℕ) = nonempty (second_plain s.bytes) ++ nonempty (last_plain ss) in
-    let h : Head = record { preamble = p; inline = inline_of s.bytes } in
-    let front : List ℕ = part key (nonce_at fixed n) first in
-    let rest : List ℕ = sealed_parts key fixed (n + 1) others in
-    let text : secure_text key fixed n f ≡ front ++ rest = ap (λ (ps : List (List ℕ)). sealed_parts key fixed n ps) (plains_is t s ss) in
-    let first_len : length first ≡ 80 = length-append (preamble_text p) (inline_of s.bytes) ∙ omega (arith, preamble_len f, inline_len s.bytes) in
-    let front_len : length front ≡ 96 = length-part key (nonce_at fixed n) first block (nonces n) ∙ ap (λ k. k + 16) first_len in
-    let rest_is : length rest ≡ rest_len p = length_others key fixed (n + 1) t s ss block nonces few in
-    let parts : length (plains f) ≡ 1 + rest_parts p = parts_behind f p refl fine in
-    let a : Ahead = record { key = key; fixed = fixed; counter = n; bytes = secure_text key fixed n f ++ more } in
-    let b : Ahead = record { key = key; fixed = fixed; counter = n + 1; bytes = rest ++ more } in
-    let opened_head : head_step key fixed n front ≡ Ok h =
-    head_again key fixed n front h block (nonces n) (omega (arith, parts)) (record { allowed = fine; inline = inline_len s.bytes; text = refl })
-    in
-    let behind_read : rest_step key fixed (n + 1) h rest ≡ Ok f =
-    behind_again key fixed (n + 1) h rest f block nonces fine (omega (arith, parts)) (record { head = refl; others = others; parts = plains_is t s ss; text = refl })
-    in
-    let long : rest_len p ≤ length (rest ++ more) = omega (arith, length-append rest more) in
-    let behind_all_is : behind_head b (Ok h) ≡ with_length (96 + rest_len p) (let r : Result Frame SecureRefusal = Ok f in r) =
-    behind_all b h (Ok f) long (ap (λ c. rest_step key fixed (n + 1) h c) (take_at rest more (rest_len p) rest_is) ∙ behind_read)
-    in
-    let size : 96 + rest_len p ≡ length (secure_text key fixed n f) = sym (ap length text ∙ length-append front rest ∙ omega (arith, front_len, rest_is)) in
-    let whole : ℕ → Read = λ k. Ok (Some (f, k)) in
-    at_head a front (rest ++ more) (Ok h) (ap (λ c. c ++ more) text ∙ append_assoc front rest more) front_len opened_head ∙ behind_all_is ∙ sized (96 + rest_len p) f ∙ ap whole size
-
-by_segments : (key fixed more : List ℕ) (n t : ℕ) (ss : List Segment) → IsBlock key → ((m : ℕ) → IsNonce (nonce_at fixed m))
-    → (let f : Frame = record { tag = t; segments = ss } in IsSecure f) → (let f : Frame = record { tag = t; segments = ss } in n + length (plains f) < 2 ^ 64)
-    → (let f : Frame = record { tag = t; segments = ss } in
-    let a : Ahead = record { key = key; fixed = fixed; counter = n; bytes = secure_text key fixed n f ++ more } in
-    secure_frame_at a ≡ Ok (Some (f, length (secure_text key fixed n f))))
-by_segments key fixed more n t [] block nonces fine below = absurd (no_frame 1048576 t fine)
-by_segments key fixed more n t (s ∷ ss) block nonces fine below = framed_again key fixed more n t s ss block nonces fine below
-
 pub secure_again : (a : Ahead) (f : Frame) (more : List ℕ) → IsKeyed a → IsSecure f → a.counter + length (plains f) < 2 ^ 64 → a.bytes ≡ secure_text a.key a.fixed a.counter f ++ more
     → secure_frame_at a ≡ Ok (Some (f, length (secure_text a.key a.fixed a.counter f)))
 secure_again a f more keyed fine below text =
-    ap (λ b. secure_frame_at (record a { bytes = b })) text ∙ by_segments a.key a.fixed more a.counter f.tag f.segments keyed.key keyed.nonces fine below
+    let n : ℕ = a.counter in
+    let is = frame_split a.key a.fixed n f keyed.key keyed.fixed fine in
+    let p : Preamble = is.head.preamble in
+    let nonces : (m : ℕ) → IsNonce (nonce_at a.fixed m) = λ m. nonce_is a.fixed m keyed.fixed.len keyed.fixed.bytes in
+    let parts : length (plains f) ≡ 1 + rest_parts p = parts_behind f p is.is_rest.head is.is_head.allowed in
+    let b : Ahead = record a { counter = n + 1; bytes = is.rest ++ more } in
+    let opened_head : head_step a.key a.fixed n is.first ≡ Ok is.head = head_again a.key a.fixed n is.first is.head keyed.key (nonces n) (omega (arith, parts)) is.is_head in
+    let behind_read : rest_step a.key a.fixed (n + 1) is.head is.rest ≡ Ok f =
+      behind_again a.key a.fixed (n + 1) is.head is.rest f keyed.key nonces is.is_head.allowed (omega (arith, parts)) is.is_rest
+    in
+    let long : rest_len p ≤ length (is.rest ++ more) = omega (arith, length-append is.rest more, is.rest_is) in
+    let behind_is : behind_head b (Ok is.head) ≡ with_length (96 + rest_len p) (let r : Result Frame SecureRefusal = Ok f in r) =
+      behind_all b is.head (Ok f) long (ap (λ c. rest_step a.key a.fixed (n + 1) is.head c) (take_at is.rest more (rest_len p) is.rest_is) ∙ behind_read)
+    in
+    let size : 96 + rest_len p ≡ length (secure_text a.key a.fixed n f) = sym (ap length is.text ∙ length-append is.first is.rest ∙ omega (arith, is.first_len, is.rest_is)) in
+    let whole : ℕ → Read = λ k. Ok (Some (f, k)) in
+    at_head a is.first (is.rest ++ more) (Ok is.head) (text ∙ ap (λ c. c ++ more) is.text ∙ append_assoc is.first is.rest more) is.first_len opened_head
+    ∙ behind_is ∙ sized (96 + rest_len p) f ∙ ap whole size
 
 -- ---- settled
 
@@ -238,7 +164,7 @@ one_way a (f ∷ fs) (g ∷ gs) rest left keyed s t =
     behind ∙ ap (λ (h : Frame). sealed_parts a.key a.fixed (n + length (plains h)) (flat_map plains gs) ++ left) (sym same)
     in
     let other : IsSecureStream a (f ∷ gs) left = subst (λ (h : Frame). IsSecureStream a (h ∷ gs) left) (sym same) t in
-    let more = one_way (record a { counter = n + length (plains f); bytes = behind_f }) fs gs rest left (record { key = keyed.key; nonces = keyed.nonces })
+    let more = one_way (record a { counter = n + length (plains f); bytes = behind_f }) fs gs rest left (record { key = keyed.key; fixed = keyed.fixed })
     (tail_of a f fs rest behind_f s refl) (tail_of a f gs left behind_f other behind_at)
     in
     (ap (λ h. h ∷ fs) same ∙ ap (λ hs. g ∷ hs) more.0, more.1)

@@ -3,15 +3,14 @@
 use Rattle.std.specs.Prelude.{ℕ, ◌≡◌, ◌+◌, ◌-◌, ◌^◌, ◌<◌, ◌≤◌, List, ◌++◌, All, length, take, drop, nat_lt, Option, Some, None, Result, Ok, Err, if◌then◌else◌}
 use Rattle.std.specs.List.{flat_map}
 use Rattle.cx_aes.specs.Cipher.{IsBlock}
-use Rattle.cx_gcm.specs.Gcm.{IsNonce}
 use Rattle.cx_frame.specs.declared.frame.Frame.{Frame}
 use Rattle.cx_frame.specs.Preambles.{IsAllowed, preamble_of}
 use Rattle.cx_secure.specs.declared.sealing.Head.{Head}
 use Rattle.cx_secure.specs.declared.sealing.Sealing.{Sealing}
 use Rattle.cx_secure.specs.declared.refusals.SecureRefusal.{SecureRefusal}
 use Rattle.cx_secure.specs.declared.refusals.SecureRefusal.TheVariants.{TooLong, OutOfMemory}
-use Rattle.cx_secure.specs.Opening.{head_step, rest_step}
-use Rattle.cx_secure.specs.Parts.{nonce_at, sealed_parts}
+use Rattle.cx_secure.specs.Opening.{IsFixed, head_step, rest_step}
+use Rattle.cx_secure.specs.Parts.{sealed_parts}
 use Rattle.cx_secure.specs.Plains.{plains, rest_len, secure_text}
 use Rattle.cx_secure.specs.Sealings.{after_sealed, connection_key}
 use Rattle.cx_stream.specs.Fronts.{with_length}
@@ -35,7 +34,7 @@ pub record Ahead : Type 0 where
 -- a key and fixed bytes as each sealing has them
 pub record IsKeyed (a : Ahead) : Type 0 where
   pub key : IsBlock a.key
-  pub nonces : (m : ℕ) → IsNonce (nonce_at a.fixed m)
+  pub fixed : IsFixed a.fixed
 
 -- the first n bytes are this frame
 pub record IsSecureAt (a : Ahead) (f : Frame) (n : ℕ) : Type 0 where

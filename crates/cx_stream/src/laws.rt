@@ -9,14 +9,14 @@ ghost use Rattle.cx_stream.specs.SecureStreams.{Ahead, IsKeyed, IsSecure, IsSecu
 
 /// A plain frame that was put is read again, whatever follows it. What is answered to some bytes, a frame or a fault, is answered whatever
 /// follows them. Bytes are frames and a rest in one way at most.
-pub fn plain_laws()
+pub fn plain_stream_laws()
     ensures again { (f : Frame) (more : List ℕ) → IsPlain f → plain_frame_at (frame_text f ++ more) ≡ Ok (Some (f, length (frame_text f))) }
     ensures settled { (bytes more : List ℕ) → (plain_frame_at bytes ≡ Ok None → ⊥) → plain_frame_at (bytes ++ more) ≡ plain_frame_at bytes }
     ensures one { (bytes : List ℕ) (fs gs : List Frame) (rest left : List ℕ) → IsPlainStream bytes fs rest → IsPlainStream bytes gs left → (fs ≡ gs) × (rest ≡ left) }
 {}
 
 /// The same of secure frames.
-pub fn secure_laws()
+pub fn secure_stream_laws()
     ensures again { (a : Ahead) (f : Frame) (more : List ℕ) → IsKeyed a → IsSecure f → a.counter + length (plains f) < 2 ^ 64
         → a.bytes ≡ secure_text a.key a.fixed a.counter f ++ more → secure_frame_at a ≡ Ok (Some (f, length (secure_text a.key a.fixed a.counter f))) }
     ensures settled { (a : Ahead) (more : List ℕ) → (secure_frame_at a ≡ Ok None → ⊥) → secure_frame_at (record a { bytes = a.bytes ++ more }) ≡ secure_frame_at a }

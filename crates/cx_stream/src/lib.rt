@@ -9,7 +9,7 @@ mod secure;
 mod stages;
 
 pub use faults::StreamFault;
-pub use laws::{plain_laws, secure_laws};
+pub use laws::{plain_stream_laws, secure_stream_laws};
 pub use stages::{Ended, Greeted, Greeting, Plain, Secure};
 
 // Each public type may be sent to another thread and shared with one.

@@ -1,5 +1,5 @@
 use Rattle.cx_stream.proofs.PlainFronts.{one_way, plain_again, settled}
-use Rattle.cx_stream.proofs.laws.plain_laws.Goals as goal
+use Rattle.cx_stream.proofs.laws.plain_stream_laws.Goals as goal
 
 pub returns-clause-again : goal.returns-clause-again
 returns-clause-again c = plain_again

@@ -1,5 +1,5 @@
 use Rattle.cx_stream.proofs.SecureFronts.{one_way, secure_again, settled}
-use Rattle.cx_stream.proofs.laws.secure_laws.Goals as goal
+use Rattle.cx_stream.proofs.laws.secure_stream_laws.Goals as goal
 
 pub returns-clause-again : goal.returns-clause-again
 returns-clause-again c = secure_again
