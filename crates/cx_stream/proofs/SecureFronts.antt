@@ -52,11 +52,11 @@ secure_again a f more keyed fine below text =
     let b : Ahead = record a { counter = n + 1; bytes = is.rest ++ more } in
     let opened_head : head_step a.key a.fixed n is.first ≡ Ok is.head = head_again a.key a.fixed n is.first is.head keyed.key (nonces n) (omega (arith, parts)) is.is_head in
     let behind_read : rest_step a.key a.fixed (n + 1) is.head is.rest ≡ Ok f =
-      behind_again a.key a.fixed (n + 1) is.head is.rest f keyed.key nonces is.is_head.allowed (omega (arith, parts)) is.is_rest
+    behind_again a.key a.fixed (n + 1) is.head is.rest f keyed.key nonces is.is_head.allowed (omega (arith, parts)) is.is_rest
     in
     let long : rest_len p ≤ length (is.rest ++ more) = omega (arith, length-append is.rest more, is.rest_is) in
     let behind_is : behind_head b (Ok is.head) ≡ with_length (96 + rest_len p) (let r : Result Frame SecureRefusal = Ok f in r) =
-      behind_all b is.head (Ok f) long (ap (λ c. rest_step a.key a.fixed (n + 1) is.head c) (take_at is.rest more (rest_len p) is.rest_is) ∙ behind_read)
+    behind_all b is.head (Ok f) long (ap (λ c. rest_step a.key a.fixed (n + 1) is.head c) (take_at is.rest more (rest_len p) is.rest_is) ∙ behind_read)
     in
     let size : 96 + rest_len p ≡ length (secure_text a.key a.fixed n f) = sym (ap length is.text ∙ length-append is.first is.rest ∙ omega (arith, is.first_len, is.rest_is)) in
     let whole : ℕ → Read = λ k. Ok (Some (f, k)) in
