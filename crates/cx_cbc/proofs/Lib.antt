@@ -3,3 +3,4 @@ pub mod Chaining
 pub mod Padding
 pub mod Contents
 pub mod Head
+pub mod OpeningLaws

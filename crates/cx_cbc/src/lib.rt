@@ -8,7 +8,7 @@ mod opening;
 mod refusals;
 mod sealing;
 
-pub use opening::{open, opens_one_content};
+pub use opening::{open, opening_laws, opens_one_content};
 pub use refusals::{OpenRefusal, SealRefusal};
 pub use sealing::{seal, seal_16};
 

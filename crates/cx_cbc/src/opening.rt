@@ -1,8 +1,10 @@
 //! Opening.
 
-ghost use Rattle.std.specs.Prelude.{◌≡◌, ℕ, List, IfOk};
+ghost use Rattle.std.specs.Prelude.{◌≡◌, ℕ, List, Some, IfOk};
+ghost use Rattle.cx_aes.specs.Cipher.{IsBlock};
 ghost use Rattle.cx_aes.specs.KeyOf.{key_of};
 ghost use Rattle.cx_cbc.specs.Envelope.{Opens, OpensOne};
+ghost use Rattle.cx_cbc.specs.Opened.{opened};
 
 use crate::LONGEST;
 use crate::chain::unchained;
@@ -40,4 +42,10 @@ pub fn open(alloc: Global, key: &Schedule, sealed: &[u8]) -> Result<Blob, OpenRe
 /// Bytes open to one content at most, under a key of 16 bytes.
 pub fn opens_one_content()
     ensures { OpensOne }
+{}
+
+/// The content that is found, as a function of key and bytes, is the one that opens.
+pub fn opening_laws()
+    ensures found { (key bytes content : List ℕ) → opened key bytes ≡ Some content → Opens key bytes content }
+    ensures only { (key bytes content : List ℕ) → IsBlock key → Opens key bytes content → opened key bytes ≡ Some content }
 {}
