@@ -4,3 +4,4 @@ pub mod Held
 pub mod Monitor
 pub mod Opening
 pub mod Proving
+pub mod Unlocking

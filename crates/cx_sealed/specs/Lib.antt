@@ -3,3 +3,4 @@ pub mod Lengths
 pub mod Proof
 pub mod Records
 pub mod Sealing
+pub mod Unsealing

@@ -13,6 +13,7 @@ mod refusals;
 mod rotating_reply;
 mod service_ticket;
 mod ticket_info;
+mod unsealed;
 
 pub use authorize::Authorize;
 pub use authorize_challenge::AuthorizeChallenge;
@@ -30,6 +31,7 @@ pub use refusals::SealedRefusal;
 pub use rotating_reply::RotatingReply;
 pub use service_ticket::ServiceTicket;
 pub use ticket_info::TicketInfo;
+pub use unsealed::Unsealed;
 
 // Each public type may be sent to another thread and shared with one.
 fn is_sendable<T: Send + Sync>() {}
@@ -43,4 +45,5 @@ fn all_are_sendable() {
     is_sendable::<RotatingReply>();
     is_sendable::<ConnectionSecret>();
     is_sendable::<SealedRefusal>();
+    is_sendable::<Unsealed<ServiceTicket>>();
 }

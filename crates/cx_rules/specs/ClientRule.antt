@@ -1,0 +1,109 @@
+-- What a client does at each event, as far as its login goes.
+use Rattle.std.specs.Prelude.{ℕ, Bool, false, List, [], ◌∷◌, map, Option, Some, None, if◌then◌else◌}
+use Rattle.std.specs.List.{list_all}
+use Rattle.cx_journal.specs.declared.entries.Entry.{Entry}
+use Rattle.cx_journal.specs.declared.entries.Entry.TheVariants as entry
+use Rattle.cx_journal.specs.declared.node_names.NodeName.{NodeName}
+use Rattle.cx_journal.specs.declared.node_names.NodeName.TheVariants as node
+use Rattle.cx_journal.specs.declared.outcomes.Reason.{Reason}
+use Rattle.cx_journal.specs.declared.outcomes.Reason.TheVariants.{Lost, NoLink as NoLinkOpened}
+use Rattle.cx_steps.specs.Nothing.{nothing}
+use Rattle.cx_steps.specs.declared.events.Command.{Command}
+use Rattle.cx_steps.specs.declared.events.Command.TheVariants as command
+use Rattle.cx_steps.specs.declared.events.Peer.{Peer}
+use Rattle.cx_steps.specs.declared.events.Peer.TheVariants as peer
+use Rattle.cx_rules.specs.Connector.{Stage, AwaitsBanner, is_open, turned_at}
+use Rattle.cx_rules.specs.Holdings.{Asker, afresh}
+use Rattle.cx_rules.specs.Inputs.{Input, Opened, NoLink, Bytes, Turn, Gone, Look, Tick, Submit, Restart}
+use Rattle.cx_rules.specs.Links.{Link, link_of}
+use Rattle.cx_rules.specs.Rows.{Node, Outcome, arrival, carried_out, fed, forgotten, goes_on, idles, lifted_turn, new_link, turns}
+use Rattle.cx_rules.specs.Words.{own_banner}
+
+-- a client: itself as one that logs in, and the sum of the services for which its last login asks tickets
+pub record Client : Type 0 where
+  pub asker : Asker
+  pub asked : ℕ
+
+abbrev pub ClientNode : Type 0
+ClientNode = Node Client Stage
+
+abbrev pub me : Client → NodeName
+me client = node.Entity client.asker.name
+
+-- ---- a turn
+
+abbrev pub with_asker : Client → Asker → Client
+with_asker client asker = record client { asker = asker }
+
+abbrev pub turn : ClientNode → ℕ → List ℕ → Option (Link Stage) → Outcome ClientNode
+turn c reading draw None = idles c
+turn c reading draw (Some link) =
+    turns c (arrival (me c.own) c.own link reading draw)
+        (lifted_turn (with_asker c.own) (turned_at (arrival (me c.own) c.own.asker link reading draw) link.stage))
+
+-- ---- Login
+
+abbrev pub number_of : Link Stage → ℕ
+number_of link = link.number
+
+-- the older links to the monitor are shut, and a new one is opened
+abbrev pub logs_in : ClientNode → ℕ → Outcome ClientNode
+logs_in c services = record {
+  state = record { own = record c.own { asked = services }; links = [] };
+  out = record nothing { opens = peer.Monitor ∷ []; shuts = map number_of c.links };
+}
+
+abbrev pub submits : ClientNode → Command → Outcome ClientNode
+submits c (command.Login services) = logs_in c services
+submits c (command.Renew services) = idles c
+submits c command.Fetch = idles c
+submits c (command.Connect daemon lossy) = idles c
+submits c (command.Send daemon operation) = idles c
+submits c (command.Drop session) = idles c
+
+-- ---- links that open, that can't be opened, and that are gone
+
+-- the banner is sent on a link to the monitor
+abbrev pub opens : ClientNode → ℕ → List ℕ → ℕ → Option Peer → Outcome ClientNode
+opens c reading draw number None = idles c
+opens c reading draw number (Some (peer.Daemon daemon)) = idles c
+opens c reading draw number (Some peer.Monitor) =
+    let stage : Stage = AwaitsBanner c.own.asked in
+    carried_out c number false (goes_on (arrival (me c.own) c.own (new_link number stage) reading draw) stage own_banner [])
+
+abbrev pub refused_entry : Client → ℕ → Reason → Entry
+refused_entry client link why = entry.Refused (record { node = me client; link = link; reason = why })
+
+-- that a link is lost is entered where it wasn't open yet
+abbrev pub loses : ClientNode → Option (Link Stage) → Outcome ClientNode
+loses c None = idles c
+loses c (Some link) = record {
+  state = forgotten c link.number;
+  out = record nothing { entries = if is_open link.stage then [] else refused_entry c.own link.number Lost ∷ [] };
+}
+
+abbrev pub opens_none : ClientNode → Outcome ClientNode
+opens_none c = record { state = c; out = record nothing { entries = refused_entry c.own 0 NoLinkOpened ∷ [] } }
+
+-- a client begins anew, with its name and its secret
+abbrev pub restarted : ClientNode → Outcome ClientNode
+restarted c = record {
+  state = record { own = record { asker = afresh c.own.asker; asked = 0 }; links = [] };
+  out = record nothing { entries = entry.Restarted (me c.own) ∷ [] };
+}
+
+-- what a client does at an event with this reading and this draw
+abbrev pub client_rule : ClientNode → Input → ℕ → List ℕ → Outcome ClientNode
+client_rule c (Opened number peer) reading draw = opens c reading draw number peer
+client_rule c (NoLink peer) reading draw = opens_none c
+client_rule c (Bytes number bytes) reading draw = fed c bytes (link_of number c.links)
+client_rule c (Turn number) reading draw = turn c reading draw (link_of number c.links)
+client_rule c (Gone number) reading draw = loses c (link_of number c.links)
+client_rule c (Submit command) reading draw = submits c command
+client_rule c Restart reading draw = restarted c
+client_rule c (Look view) reading draw = idles c
+client_rule c Tick reading draw = idles c
+
+-- a client is idle where no live link waits to be open
+abbrev pub is_idle : ClientNode → Bool
+is_idle c = list_all (λ link. is_open link.stage) c.links

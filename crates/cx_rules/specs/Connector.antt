@@ -1,0 +1,216 @@
+-- What a client or a daemon does on its link to the monitor ("msgr2 protocol"; "detailed cephx protocol"): the rows of a login, in the order
+-- of a connection.
+use Rattle.std.specs.Prelude.{ℕ, ◌==◌, not, Bool, true, false, List, [], ◌∷◌, ◌++◌, take, Option, Some, None, Result, Ok, Err, if◌then◌else◌}
+use Rattle.std.specs.Int.{w64, to_le_bytes}
+use Rattle.cx_control.specs.Auth.{auth_done_layout, auth_reply_more_layout, auth_request_layout, auth_request_more_layout, auth_signature_layout}
+use Rattle.cx_control.specs.BadMethod.{bad_method_layout, kept_method}
+use Rattle.cx_control.specs.Hello.{hello_layout}
+use Rattle.cx_control.specs.Idents.{client_ident_layout, ident_missing_features_layout, server_ident_layout}
+use Rattle.cx_control.specs.declared.auth.AuthDone.{AuthDone}
+use Rattle.cx_control.specs.declared.auth.AuthReplyMore.{AuthReplyMore}
+use Rattle.cx_control.specs.declared.auth.AuthSignature.{AuthSignature}
+use Rattle.cx_control.specs.declared.hello.Hello.{Hello}
+use Rattle.cx_control.specs.declared.idents.IdentMissingFeatures.{IdentMissingFeatures}
+use Rattle.cx_control.specs.declared.idents.ServerIdent.{ServerIdent}
+use Rattle.cx_dice.specs.Draws.{challenge_of, cookie_of}
+use Rattle.cx_frame.specs.declared.frame.Frame.{Frame}
+use Rattle.cx_journal.specs.declared.faults.BytesFault.{BytesFault}
+use Rattle.cx_journal.specs.declared.faults.BytesFault.TheVariants.{Features}
+use Rattle.cx_journal.specs.declared.faults.LoginFault.TheVariants.{Mode, SignatureWrong, Unopened}
+use Rattle.cx_journal.specs.declared.outcomes.Reason.TheVariants as reason
+use Rattle.cx_journal.specs.declared.premises.KeyKind.TheVariants as kind
+use Rattle.cx_login.specs.Client.{Ask, authenticate}
+use Rattle.cx_login.specs.Unlocking.{login_in}
+use Rattle.cx_login.specs.declared.client.LoggedIn.{LoggedIn}
+use Rattle.cx_steps.specs.declared.seals.DrawMark.TheVariants as draw
+use Rattle.cx_steps.specs.declared.seals.SealEntry.{SealEntry}
+use Rattle.cx_steps.specs.declared.seals.SealEntry.TheVariants as entry
+use Rattle.cx_wire.specs.Logins.{authenticate_layout, login_done_layout, login_hello_layout, server_challenge_layout}
+use Rattle.cx_wire.specs.declared.logins.LoginDone.{LoginDone}
+use Rattle.cx_wire.specs.declared.logins.ServerChallenge.{ServerChallenge}
+use Rattle.cx_rules.specs.Fronts.{banner_next, plain_next, secure_next}
+use Rattle.cx_rules.specs.Holdings.{Asker, Holdings, hello_gid, held_login, holds_nothing, unexpired}
+use Rattle.cx_rules.specs.Links.{Link}
+use Rattle.cx_rules.specs.Payloads.{control, due, payload, whole}
+use Rattle.cx_rules.specs.Rows.{Arrival, Row, Turned, goes_on, refuses, refuses_bytes, sends_plain, sends_secure, turned_by, with_opened}
+use Rattle.cx_rules.specs.Secured.{Keys, Sealed, Secured, connector_keys, is_signed, signature_found, signed_frame}
+use Rattle.cx_rules.specs.Upkeep.{on_upkeep}
+use Rattle.cx_rules.specs.Words.{no_addr, own_hello}
+
+-- a login that was opened, and its global id, until the monitor's signature is found right
+pub record Login : Type 0 where
+  pub gid : ℕ
+  pub opened : LoggedIn
+
+-- how far a link to the monitor has come: what it waits for. A number is the sum of the services for which tickets are asked
+pub data Stage : Type 0 where
+  AwaitsBanner : ℕ → Stage
+  AwaitsHello : ℕ → Stage
+  AwaitsChallenge : ℕ → Stage
+  AwaitsDone : Stage
+  AwaitsSignature : Secured → Login → Stage
+  AwaitsIdent : Secured → Stage
+  Open : Secured → Stage
+
+abbrev pub AskerArrival : Type 0
+AskerArrival = Arrival Asker Stage
+
+abbrev pub AskerRow : Type 0
+AskerRow = Row Asker Stage
+
+-- with what it holds from now on
+abbrev pub holding : AskerArrival → Holdings → AskerArrival
+holding a holdings = record a { own = record a.own { holdings = holdings } }
+
+-- ---- banner, HELLO
+
+-- the peer's banner: HELLO is sent
+abbrev pub on_banner : AskerArrival → ℕ → AskerRow
+on_banner a asked = sends_plain a (AwaitsHello asked) [] (own_hello a.own.name.kind)
+
+-- AUTH_REQUEST with a LoginHello: method 2, cephx; the modes; the name, and the global id that is held
+abbrev pub login_request : Asker → Frame
+login_request asker = control 2 auth_request_layout.form (record {
+  method = 2;
+  modes = asker.modes;
+  payload = login_hello_layout.form.text (record { name = asker.name; gid = hello_gid asker.holdings.auth asker.holdings.gid });
+})
+
+abbrev pub on_hello : AskerArrival → ℕ → Result Hello BytesFault → AskerRow
+on_hello a asked (Err why) = refuses_bytes a why []
+on_hello a asked (Ok hello) = sends_plain a (AwaitsChallenge asked) [] (login_request a.own)
+
+-- ---- AUTH_REPLY_MORE
+
+-- both challenges, which a proof signs
+abbrev pub proof_made : List ℕ → ℕ → ℕ → SealEntry
+proof_made secret server client = entry.Signed (record { key = secret; kind = kind.Proof; content = to_le_bytes w64 server ++ to_le_bytes w64 client })
+
+-- the challenge is answered by an Authenticate, with the ticket for AUTH that is held as old ticket while it is good
+abbrev pub on_challenge : AskerArrival → ℕ → Result ServerChallenge BytesFault → AskerRow
+on_challenge a asked (Err why) = refuses_bytes a why []
+on_challenge a asked (Ok server) =
+    let client = challenge_of a.draw in
+    let ask : Ask = record { secret = a.own.secret; old = unexpired a.reading a.own.holdings.auth; other_keys = asked } in
+    sends_plain a AwaitsDone (entry.Drawn (draw.Challenge client) ∷ proof_made a.own.secret server.challenge client ∷ [])
+        (control 5 auth_request_more_layout.form (record { payload = authenticate_layout.form.text (authenticate ask server.challenge client) }))
+
+abbrev pub on_reply_more : AskerArrival → ℕ → Result AuthReplyMore BytesFault → AskerRow
+on_reply_more a asked (Err why) = refuses_bytes a why []
+on_reply_more a asked (Ok more) = on_challenge a asked (whole server_challenge_layout.form more.payload)
+
+-- ---- AUTH_BAD_METHOD
+
+-- at the code 13 the monitor doesn't take what is held: all of it is forgotten
+abbrev pub on_denial : AskerArrival → ℕ → AskerRow
+on_denial a code = refuses (if code == 13 then holding a holds_nothing else a) (reason.Denied code) []
+
+abbrev pub on_bad_method : AskerArrival → Result (ℕ × (ℕ × (List ℕ × List ℕ))) BytesFault → AskerRow
+on_bad_method a (Err why) = refuses_bytes a why []
+on_bad_method a (Ok fields) = on_denial a (kept_method fields).result
+
+-- ---- AUTH_DONE
+
+-- AUTH_SIGNATURE is sent; the peer's has to cover all that was sent before
+abbrev pub signs : AskerArrival → Login → List SealEntry → Result Sealed BytesFault → AskerRow
+signs a login opened (Err why) = refuses_bytes a why opened
+signs a login opened (Ok sealed) =
+    goes_on a (AwaitsSignature (record { keys = sealed.keys; session = login.opened.auth.session; covered = a.link.sent }) login)
+        sealed.bytes (opened ++ sealed.seals)
+
+-- the parts of a LoginDone were opened, each to its record, or one wasn't
+abbrev pub on_opened : AskerArrival → ℕ → List SealEntry → Option LoggedIn → AskerRow
+on_opened a gid opened None = refuses a (reason.Login Unopened) opened
+on_opened a gid opened (Some logged_in) =
+    signs a (record { gid = gid; opened = logged_in }) opened
+        (signed_frame (connector_keys logged_in.secret) logged_in.auth.session (take a.link.taken a.link.received))
+
+abbrev pub on_login_done : AskerArrival → ℕ → Result LoginDone BytesFault → AskerRow
+on_login_done a gid (Err why) = refuses_bytes a why []
+on_login_done a gid (Ok done) = let unlocked = login_in a.own.secret done in on_opened a gid unlocked.seals unlocked.value
+
+abbrev pub on_done : AskerArrival → Result AuthDone BytesFault → AskerRow
+on_done a (Err why) = refuses_bytes a why []
+on_done a (Ok done) =
+    if not (done.mode == 2) then refuses a (reason.Login Mode) []
+    else on_login_done a done.gid (whole login_done_layout.form done.payload)
+
+-- ---- AUTH_SIGNATURE
+
+-- CLIENT_IDENT: the session with the monitor is lossy
+abbrev pub client_ident : Asker → ℕ → ℕ → Frame
+client_ident asker gid cookie = control 8 client_ident_layout.form (record {
+  addr = asker.address;
+  target = no_addr;
+  gid = gid;
+  global_seq = asker.global_seq;
+  supported = 0;
+  required = 0;
+  flags = 1;
+  cookie = cookie;
+})
+
+-- the login is held, and CLIENT_IDENT is sent with a drawn cookie
+abbrev pub identifies : AskerArrival → Secured → Login → AskerRow
+identifies a s login =
+    let cookie = cookie_of a.draw in
+    sends_secure (holding a (held_login a.own.holdings login.gid login.opened)) s AwaitsIdent
+        (signature_found s ∷ entry.Drawn (draw.Cookie cookie) ∷ []) (client_ident a.own login.gid cookie)
+
+abbrev pub on_signature : AskerArrival → Secured → Login → Result AuthSignature BytesFault → AskerRow
+on_signature a s login (Err why) = refuses_bytes a why []
+on_signature a s login (Ok found) =
+    if is_signed s found.signature then identifies a s login else refuses a (reason.Login SignatureWrong) []
+
+-- ---- SERVER_IDENT, IDENT_MISSING_FEATURES
+
+-- the link is open
+abbrev pub on_server_ident : AskerArrival → Secured → Result ServerIdent BytesFault → AskerRow
+on_server_ident a s (Err why) = refuses_bytes a why []
+on_server_ident a s (Ok ident) = goes_on a (Open s) [] []
+
+abbrev pub on_missing_features : AskerArrival → Result IdentMissingFeatures BytesFault → AskerRow
+on_missing_features a (Err why) = refuses_bytes a why []
+on_missing_features a (Ok missing) = refuses_bytes a (Features missing.features) []
+
+-- ---- a turn
+
+-- the link behind what was taken of it
+abbrev pub at : AskerArrival → Link Stage → AskerArrival
+at a link = record a { link = link }
+
+abbrev pub under : Secured → Keys → Secured
+under s keys = record s { keys = keys }
+
+abbrev pub while_challenged : AskerArrival → ℕ → Frame → AskerRow
+while_challenged a asked f =
+    if f.tag == 3 then on_bad_method a (payload bad_method_layout.form f)
+    else on_reply_more a asked (due 4 auth_reply_more_layout.form f)
+
+abbrev pub while_proved : AskerArrival → Frame → AskerRow
+while_proved a f =
+    if f.tag == 3 then on_bad_method a (payload bad_method_layout.form f)
+    else on_done a (due 6 auth_done_layout.form f)
+
+abbrev pub while_identified : AskerArrival → Secured → Frame → AskerRow
+while_identified a s f =
+    if f.tag == 10 then on_missing_features a (payload ident_missing_features_layout.form f)
+    else on_server_ident a s (due 9 server_ident_layout.form f)
+
+-- by the stage of the link
+abbrev pub turned_at : AskerArrival → Stage → Turned Asker Stage
+turned_at a (AwaitsBanner asked) = turned_by (λ link _. on_banner (at a link) asked) (banner_next a.link)
+turned_at a (AwaitsHello asked) = turned_by (λ (link, f) _. on_hello (at a link) asked (due 1 hello_layout.form f)) (plain_next a.link)
+turned_at a (AwaitsChallenge asked) = turned_by (λ (link, f) _. while_challenged (at a link) asked f) (plain_next a.link)
+turned_at a AwaitsDone = turned_by (λ (link, f) _. while_proved (at a link) f) (plain_next a.link)
+turned_at a (AwaitsSignature s login) =
+    turned_by (λ (link, f, keys) opened. with_opened opened (on_signature (at a link) (under s keys) login (due 7 auth_signature_layout.form f))) (secure_next s.keys a.link)
+turned_at a (AwaitsIdent s) =
+    turned_by (λ (link, f, keys) opened. with_opened opened (while_identified (at a link) (under s keys) f)) (secure_next s.keys a.link)
+turned_at a (Open s) =
+    turned_by (λ (link, f, keys) opened. with_opened opened (on_upkeep (at a link) (under s keys) Open f)) (secure_next s.keys a.link)
+
+-- whether a link is open
+abbrev pub is_open : Stage → Bool
+is_open (Open s) = true
+is_open _ = false

@@ -1,0 +1,66 @@
+-- What an entity's node has as one that logs in: a client, or a daemon towards the monitor.
+use Rattle.std.specs.Prelude.{ℕ, ◌==◌, List, [], ◌∷◌, nat_lt, Option, Some, None, if◌then◌else◌}
+use Rattle.cx_base.specs.Names.{Name}
+use Rattle.cx_base.specs.declared.addresses.Addr.{Addr}
+use Rattle.cx_base.specs.declared.kinds.EntityType.{EntityType}
+use Rattle.cx_base.specs.declared.kinds.EntityType.TheVariants.{Mon, Mds, Osd, Client, Mgr, Auth}
+use Rattle.cx_login.specs.Held.{Held}
+use Rattle.cx_login.specs.declared.client.LoggedIn.{LoggedIn}
+
+-- the global id, once one was given, and the tickets, one a service
+pub record Holdings : Type 0 where
+  pub gid : Option ℕ
+  pub auth : Option Held
+  pub mds : Option Held
+  pub osd : Option Held
+  pub mgr : Option Held
+
+abbrev pub holds_nothing : Holdings
+holds_nothing = record { gid = None; auth = None; mds = None; osd = None; mgr = None }
+
+-- a ticket in place of the older one of its service
+abbrev pub put_ticket : Holdings → Held → EntityType → Holdings
+put_ticket h ticket Auth = record h { auth = Some ticket }
+put_ticket h ticket Mds = record h { mds = Some ticket }
+put_ticket h ticket Osd = record h { osd = Some ticket }
+put_ticket h ticket Mgr = record h { mgr = Some ticket }
+put_ticket h ticket Mon = h
+put_ticket h ticket Client = h
+
+abbrev pub put_tickets : Holdings → List Held → Holdings
+put_tickets h [] = h
+put_tickets h (ticket ∷ tickets) = put_tickets (put_ticket h ticket ticket.service) tickets
+
+-- the holdings as far as they are of this global id: of another one all is forgotten
+abbrev pub of_gid : Holdings → ℕ → Option ℕ → Holdings
+of_gid h gid None = record holds_nothing { gid = Some gid }
+of_gid h gid (Some before) = if before == gid then h else record holds_nothing { gid = Some gid }
+
+-- a login is held: its global id, and its tickets
+abbrev pub held_login : Holdings → ℕ → LoggedIn → Holdings
+held_login h gid login = put_tickets (of_gid h gid h.gid) (login.auth ∷ login.tickets)
+
+-- the global id that stands in a LoginHello: the one that is held beside a ticket for AUTH, else 0
+abbrev pub hello_gid : Option Held → Option ℕ → ℕ
+hello_gid None gid = 0
+hello_gid (Some auth) None = 0
+hello_gid (Some auth) (Some gid) = gid
+
+-- an old ticket is shown while it is good
+abbrev pub unexpired : ℕ → Option Held → Option Held
+unexpired reading None = None
+unexpired reading (Some ticket) = if nat_lt reading ticket.expires then Some ticket else None
+
+-- one that logs in: its name and its secret, its address, the modes that it offers (1 crc, 2 secure), its count of connections to daemons,
+-- and what it holds
+pub record Asker : Type 0 where
+  pub name : Name
+  pub secret : List ℕ
+  pub address : Addr
+  pub modes : List ℕ
+  pub global_seq : ℕ
+  pub holdings : Holdings
+
+-- as it is at its start
+abbrev pub afresh : Asker → Asker
+afresh asker = record asker { global_seq = 0; holdings = holds_nothing }

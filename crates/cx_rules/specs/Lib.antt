@@ -1,0 +1,17 @@
+pub mod Acceptor
+pub mod ClientRule
+pub mod Connector
+pub mod Fronts
+pub mod Holdings
+pub mod Inputs
+pub mod KeptStates
+pub mod Links
+pub mod Monitor
+pub mod MonitorLogin
+pub mod MonitorRule
+pub mod Payloads
+pub mod Rows
+pub mod Secured
+pub mod Tickets
+pub mod Upkeep
+pub mod Words

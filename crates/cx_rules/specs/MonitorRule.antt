@@ -1,0 +1,125 @@
+-- What the monitor does at each event.
+use Rattle.std.specs.Prelude.{ℕ, ◌==◌, List, [], ◌∷◌, length, true, false, nat_le, Option, Some, None, Result, Ok, Err, if◌then◌else◌}
+use Rattle.cx_base.specs.declared.kinds.EntityType.TheVariants.{Mon}
+use Rattle.cx_control.specs.Auth.{auth_request_layout, auth_request_more_layout, auth_signature_layout}
+use Rattle.cx_control.specs.Hello.{hello_layout}
+use Rattle.cx_control.specs.Idents.{client_ident_layout, server_ident_layout}
+use Rattle.cx_control.specs.Reconnects.{session_reconnect_layout, session_reset_layout}
+use Rattle.cx_control.specs.declared.auth.AuthRequestMore.{AuthRequestMore}
+use Rattle.cx_control.specs.declared.idents.ClientIdent.{ClientIdent}
+use Rattle.cx_control.specs.declared.reconnects.SessionReconnect.{SessionReconnect}
+use Rattle.cx_frame.specs.declared.frame.Frame.{Frame}
+use Rattle.cx_journal.specs.declared.entries.Entry.TheVariants as entry
+use Rattle.cx_journal.specs.declared.faults.BytesFault.{BytesFault}
+use Rattle.cx_journal.specs.declared.faults.BytesFault.TheVariants.{Unexpected}
+use Rattle.cx_journal.specs.declared.node_names.NodeName.TheVariants as node
+use Rattle.cx_journal.specs.declared.outcomes.Reason.TheVariants.{LinksFull}
+use Rattle.cx_steps.specs.Nothing.{nothing}
+use Rattle.cx_wire.specs.Logins.{authenticate_layout, login_hello_layout}
+use Rattle.cx_rules.specs.Acceptor.{AwaitsBanner, AwaitsHello, AwaitsRequest, AwaitsProof, AwaitsSignature, AwaitsIdent, Open, misses, on_auth_request, on_banner, on_hello, on_signature}
+use Rattle.cx_rules.specs.Fronts.{banner_next, plain_next, secure_next}
+use Rattle.cx_rules.specs.Inputs.{Input, Opened, NoLink, Bytes, Turn, Gone, Look, Tick, Submit, Restart}
+use Rattle.cx_rules.specs.Links.{Link, link_of}
+use Rattle.cx_rules.specs.Monitor.{Entity, Monitor, MonitorArrival, MonitorNode, MonitorRow, MonitorStage, Offered}
+use Rattle.cx_rules.specs.MonitorLogin.{on_authenticate, on_login_hello}
+use Rattle.cx_rules.specs.Payloads.{control, due, payload, whole}
+use Rattle.cx_rules.specs.Rows.{Outcome, Turned, arrival, carried_out, fed, forgotten, goes_on, idles, new_link, refuses, refuses_bytes, sends_secure, turned_by, turns, with_opened}
+use Rattle.cx_rules.specs.Secured.{Keys, Secured}
+use Rattle.cx_rules.specs.Upkeep.{on_upkeep}
+use Rattle.cx_rules.specs.Words.{own_banner}
+
+-- ---- CLIENT_IDENT, SESSION_RECONNECT
+
+-- SERVER_IDENT: the monitor's sessions are lossy, and have no cookie
+abbrev pub server_ident : Monitor → Frame
+server_ident m = control 9 server_ident_layout.form (record { addr = m.address; gid = 0; global_seq = 0; supported = 0; required = 0; flags = 1; cookie = 0 })
+
+abbrev pub on_client_ident : MonitorArrival → Secured → Entity → Result ClientIdent BytesFault → MonitorRow
+on_client_ident a s entity (Err why) = refuses_bytes a why []
+on_client_ident a s entity (Ok ident) =
+    if ident.required == 0 then sends_secure a s (λ behind. Open behind entity) [] (server_ident a.own) else misses a s ident.required
+
+-- the monitor has no session to go on with: SESSION_RESET is sent, and CLIENT_IDENT is waited for
+abbrev pub on_session_reconnect : MonitorArrival → Secured → Entity → Result SessionReconnect BytesFault → MonitorRow
+on_session_reconnect a s entity (Err why) = refuses_bytes a why []
+on_session_reconnect a s entity (Ok reconnect) =
+    sends_secure a s (λ behind. AwaitsIdent behind entity) [] (control 12 session_reset_layout.form (record { full = true }))
+
+abbrev pub on_ident : MonitorArrival → Secured → Entity → Frame → MonitorRow
+on_ident a s entity f =
+    if f.tag == 8 then on_client_ident a s entity (payload client_ident_layout.form f)
+    else if f.tag == 11 then on_session_reconnect a s entity (payload session_reconnect_layout.form f)
+    else refuses_bytes a (Unexpected f.tag) []
+
+-- ---- what is for the monitor in AUTH_REQUEST and AUTH_REQUEST_MORE
+
+abbrev pub on_request_payload : MonitorArrival → List ℕ → MonitorRow
+on_request_payload a bytes = on_login_hello a (whole login_hello_layout.form bytes)
+
+abbrev pub on_auth_request_more : MonitorArrival → Offered → Result AuthRequestMore BytesFault → MonitorRow
+on_auth_request_more a offered (Err why) = refuses_bytes a why []
+on_auth_request_more a offered (Ok more) = on_authenticate a offered (whole authenticate_layout.form more.payload)
+
+-- ---- a turn
+
+-- the link behind what was taken of it
+abbrev pub at : MonitorArrival → Link MonitorStage → MonitorArrival
+at a link = record a { link = link }
+
+abbrev pub under : Secured → Keys → Secured
+under s keys = record s { keys = keys }
+
+-- by the stage of the link
+abbrev pub turned_at : MonitorArrival → MonitorStage → Turned Monitor MonitorStage
+turned_at a AwaitsBanner = turned_by (λ link _. on_banner Mon (at a link)) (banner_next a.link)
+turned_at a AwaitsHello = turned_by (λ (link, f) _. on_hello (at a link) (due 1 hello_layout.form f)) (plain_next a.link)
+turned_at a AwaitsRequest = turned_by (λ (link, f) _. on_auth_request on_request_payload (at a link) (due 2 auth_request_layout.form f)) (plain_next a.link)
+turned_at a (AwaitsProof offered) = turned_by (λ (link, f) _. on_auth_request_more (at a link) offered (due 5 auth_request_more_layout.form f)) (plain_next a.link)
+turned_at a (AwaitsSignature s entity) =
+    turned_by (λ (link, f, keys) opened. with_opened opened (on_signature (at a link) (under s keys) entity (due 7 auth_signature_layout.form f))) (secure_next s.keys a.link)
+turned_at a (AwaitsIdent s entity) =
+    turned_by (λ (link, f, keys) opened. with_opened opened (on_ident (at a link) (under s keys) entity f)) (secure_next s.keys a.link)
+turned_at a (Open s entity) =
+    turned_by (λ (link, f, keys) opened. with_opened opened (on_upkeep (at a link) (under s keys) (λ behind. Open behind entity) f)) (secure_next s.keys a.link)
+
+-- ---- events
+
+abbrev pub turn : MonitorNode → ℕ → List ℕ → Option (Link MonitorStage) → Outcome MonitorNode
+turn m reading draw None = idles m
+turn m reading draw (Some link) = let a = arrival node.Monitor m.own link reading draw in turns m a (turned_at a link.stage)
+
+-- a link opens: the banner is sent, unless 1,024 links live
+abbrev pub opens : MonitorNode → ℕ → List ℕ → Link MonitorStage → Outcome MonitorNode
+opens m reading draw link =
+    let a = arrival node.Monitor m.own link reading draw in
+    carried_out m link.number false (if nat_le 1024 (length m.links) then refuses a LinksFull [] else goes_on a AwaitsBanner own_banner [])
+
+-- the monitor begins anew, from what it saved last
+abbrev pub restarted : MonitorNode → Outcome MonitorNode
+restarted m = record {
+  state = record { own = record m.own { server = record m.own.server { state = m.own.saved } }; links = [] };
+  out = record nothing { entries = entry.Restarted node.Monitor ∷ [] };
+}
+
+-- before a step what was saved last is noted
+abbrev pub noted : MonitorNode → MonitorNode
+noted m = record m { own = record m.own { saved_before = m.own.saved } }
+
+abbrev pub monitor_step : MonitorNode → Input → ℕ → List ℕ → Outcome MonitorNode
+monitor_step m (Opened number peer) reading draw = opens m reading draw (new_link number AwaitsBanner)
+monitor_step m (Bytes number bytes) reading draw = fed m bytes (link_of number m.links)
+monitor_step m (Turn number) reading draw = turn m reading draw (link_of number m.links)
+monitor_step m (Gone number) reading draw = idles (forgotten m number)
+monitor_step m Restart reading draw = restarted m
+monitor_step m (NoLink peer) reading draw = idles m
+monitor_step m (Look view) reading draw = idles m
+monitor_step m Tick reading draw = idles m
+monitor_step m (Submit command) reading draw = idles m
+
+-- what the monitor does at an event with this reading and this draw
+abbrev pub monitor_rule : MonitorNode → Input → ℕ → List ℕ → Outcome MonitorNode
+monitor_rule m input reading draw = monitor_step (noted m) input reading draw
+
+-- what was saved by the last step is taken back
+abbrev pub unsaved : MonitorNode → MonitorNode
+unsaved m = record m { own = record m.own { saved = m.own.saved_before } }

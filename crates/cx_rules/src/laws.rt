@@ -1,0 +1,6 @@
+//! Laws of the rules.
+
+/// Nothing yet.
+pub fn rule_laws()
+    ensures { Unit {0} }
+{}

@@ -1,0 +1,6 @@
+//! The rules of the nodes, as definitions.
+#![tactic(auto)]
+
+mod laws;
+
+pub use laws::rule_laws;
