@@ -4,6 +4,7 @@ pub mod Connector
 pub mod Fronts
 pub mod Holdings
 pub mod Inputs
+pub mod Judged
 pub mod KeptStates
 pub mod Links
 pub mod Monitor

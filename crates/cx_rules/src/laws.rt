@@ -1,6 +1,18 @@
-//! Laws of the rules.
+//! What a step may answer at most: laws of the definitions, of every state, event, reading and draw.
 
-/// Nothing yet.
+ghost use Rattle.std.specs.Prelude.{ℕ, List};
+ghost use Rattle.cx_rules.specs.ClientRule.{ClientNode, client_rule};
+ghost use Rattle.cx_rules.specs.Inputs.{Input};
+ghost use Rattle.cx_rules.specs.Judged.{IsJudged, NamesLinks};
+ghost use Rattle.cx_rules.specs.Monitor.{MonitorNode};
+ghost use Rattle.cx_rules.specs.MonitorRule.{monitor_rule};
+
+/// Of every step of the monitor, and of a client.
 pub fn rule_laws()
-    ensures { Unit {0} }
+    // The monitor hands out tickets only behind a proof that was found equal, on a link that goes on, once what there is is saved; and a step
+    // that denies or refuses hands out nothing, seals no ticket and saves nothing.
+    ensures judged { (m : MonitorNode) (input : Input) (reading : ℕ) (draw : List ℕ) → IsJudged m (monitor_rule m input reading draw) }
+    // Effects name links that live, or the one that opens.
+    ensures monitor_links { (m : MonitorNode) (input : Input) (reading : ℕ) (draw : List ℕ) → NamesLinks m input (monitor_rule m input reading draw).out }
+    ensures client_links { (c : ClientNode) (input : Input) (reading : ℕ) (draw : List ℕ) → NamesLinks c input (client_rule c input reading draw).out }
 {}

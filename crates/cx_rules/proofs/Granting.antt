@@ -1,0 +1,145 @@
+-- Rows of the monitor: each hands out nothing, or tickets, behind a proof that was found equal.
+use Rattle.std.proofs.Common.{◌≡◌, ℕ, ◌+◌, ◌==◌, ◌⊎◌, inl, inr, Bool, true, false, List, [], ◌∷◌, ◌++◌, map, Option, Some, None, Result, Ok, Err, refl, sym, ap, ◌∙◌, eqb-true, rules}
+use Rattle.std.specs.Prelude.{◌&&◌, find, not, nat_le, length, if◌then◌else◌}
+use Rattle.std.specs.Str.{bytes_eq}
+use Rattle.std.proofs.lemmas.Bool.{and_parts}
+use Rattle.std.proofs.lemmas.Slice.Eq.{bytes_eq-Decides}
+use Rattle.std.specs.List.{AllByRecursion, flat_map, list_any}
+use Rattle.cx_base.specs.declared.kinds.EntityType.TheVariants.{Mds, Osd, Mgr, Auth, Mon}
+use Rattle.cx_control.specs.Auth.{auth_request_layout, auth_request_more_layout, auth_signature_layout}
+use Rattle.cx_control.specs.Hello.{hello_layout}
+use Rattle.cx_frame.specs.declared.frame.Frame.{Frame}
+use Rattle.cx_journal.specs.declared.entries.Entry.{Entry}
+use Rattle.cx_journal.specs.declared.faults.BytesFault.{BytesFault}
+use Rattle.cx_journal.specs.declared.faults.LoginFault.{LoginFault}
+use Rattle.cx_keyring.specs.declared.entries.Entry.{Entry as Principal}
+use Rattle.cx_keyserver.specs.Servers.{Server}
+use Rattle.cx_keyserver.specs.declared.tickets.Ticket.{Ticket}
+use Rattle.cx_login.specs.Monitor.{Proven}
+use Rattle.cx_login.specs.Unlocking.{Unlocked}
+use Rattle.cx_rotate.specs.declared.generations.Generation.{Generation}
+use Rattle.cx_rotate.specs.declared.states.KeptState.{KeptState}
+use Rattle.cx_sealed.specs.declared.service_ticket.ServiceTicket.{ServiceTicket}
+use Rattle.cx_steps.specs.Onto.{SomeOf}
+use Rattle.cx_steps.specs.declared.seals.SealEntry.{SealEntry}
+use Rattle.cx_rules.specs.Acceptor.{Finished, denies}
+use Rattle.cx_rules.specs.Judged.{IsHandedOut, IsEnvelopeSealed, IsProofFound, NoneOf}
+use Rattle.cx_rules.specs.KeptStates.{changed, saved_behind, same_generation, same_generations, same_state}
+use Rattle.cx_rules.specs.Links.{Link}
+use Rattle.cx_rules.specs.Monitor.{Monitor, MonitorArrival, MonitorRow, MonitorStage}
+use Rattle.cx_rules.specs.MonitorLogin.{Granted, Numbered, granted, hands_out, issues, issues_to, numbers, tells, with_server}
+use Rattle.cx_rules.proofs.Quiet.{Quiet, none-append, quiet-refuses_bytes}
+
+-- ---- the state that is saved
+
+same_bytes : (xs ys : List ℕ) → bytes_eq xs ys ≡ true → xs ≡ ys
+same_bytes xs ys e = search (rules, bytes_eq-Decides)
+
+generation : ℕ → List ℕ → ℕ → Generation
+generation id key expires = record { id = id; key = key; expires = expires }
+
+generation_of : (g h : Generation) → g.id ≡ h.id → g.key ≡ h.key → g.expires ≡ h.expires → g ≡ h
+unfolding generation
+generation_of g h a b c =
+    ap (λ (x : ℕ). generation x g.key g.expires) a ∙ ap (λ (x : List ℕ). generation h.id x g.expires) b ∙ ap (λ (x : ℕ). generation h.id h.key x) c
+
+state : ℕ → ℕ → ℕ → List Generation → List Generation → List Generation → List Generation → KeptState
+state gid life auth_life mds osd mgr auth = record { next_gid = gid; life = life; auth_life = auth_life; mds = mds; osd = osd; mgr = mgr; auth = auth }
+
+state_of : (s t : KeptState) → s.next_gid ≡ t.next_gid → s.life ≡ t.life → s.auth_life ≡ t.auth_life → s.mds ≡ t.mds → s.osd ≡ t.osd → s.mgr ≡ t.mgr → s.auth ≡ t.auth → s ≡ t
+unfolding state
+state_of s t a b c d f g h =
+    ap (λ (x : ℕ). state x s.life s.auth_life s.mds s.osd s.mgr s.auth) a
+    ∙ ap (λ (x : ℕ). state t.next_gid x s.auth_life s.mds s.osd s.mgr s.auth) b
+    ∙ ap (λ (x : ℕ). state t.next_gid t.life x s.mds s.osd s.mgr s.auth) c
+    ∙ ap (λ (x : List Generation). state t.next_gid t.life t.auth_life x s.osd s.mgr s.auth) d
+    ∙ ap (λ (x : List Generation). state t.next_gid t.life t.auth_life t.mds x s.mgr s.auth) f
+    ∙ ap (λ (x : List Generation). state t.next_gid t.life t.auth_life t.mds t.osd x s.auth) g
+    ∙ ap (λ (x : List Generation). state t.next_gid t.life t.auth_life t.mds t.osd t.mgr x) h
+
+generation_is : (g h : Generation) → same_generation g h ≡ true → g ≡ h
+generation_is g h e =
+    let id = and_parts (g.id == h.id) (bytes_eq g.key h.key && (g.expires == h.expires)) e in
+    let rest = and_parts (bytes_eq g.key h.key) (g.expires == h.expires) id.1 in
+    generation_of g h (eqb-true g.id h.id id.0) (same_bytes g.key h.key rest.0) (eqb-true g.expires h.expires rest.1)
+
+generations_are : (gs hs : List Generation) → same_generations gs hs ≡ true → gs ≡ hs
+generations_are [] [] e = refl
+generations_are [] (h ∷ hs) e = absurd cc
+generations_are (g ∷ gs) [] e = absurd cc
+generations_are (g ∷ gs) (h ∷ hs) e =
+    let parts = and_parts (same_generation g h) (same_generations gs hs) e in
+    let a : g ≡ h = generation_is g h parts.0 in
+    let b : gs ≡ hs = generations_are gs hs parts.1 in
+    cc
+
+state_is : (s t : KeptState) → same_state s t ≡ true → s ≡ t
+state_is s t e =
+    let p1 = and_parts (s.next_gid == t.next_gid) _ e in
+    let p2 = and_parts (s.life == t.life) _ p1.1 in
+    let p3 = and_parts (s.auth_life == t.auth_life) _ p2.1 in
+    let p4 = and_parts (same_generations s.mds t.mds) _ p3.1 in
+    let p5 = and_parts (same_generations s.osd t.osd) _ p4.1 in
+    let p6 = and_parts (same_generations s.mgr t.mgr) (same_generations s.auth t.auth) p5.1 in
+    state_of s t (eqb-true s.next_gid t.next_gid p1.0) (eqb-true s.life t.life p2.0) (eqb-true s.auth_life t.auth_life p3.0)
+        (generations_are s.mds t.mds p4.0) (generations_are s.osd t.osd p5.0) (generations_are s.mgr t.mgr p6.0) (generations_are s.auth t.auth p6.1)
+
+saved_by : (test : Bool) (saved state : KeptState) → same_state state saved ≡ test
+    → saved_behind saved (if test then None else Some state) ≡ state
+saved_by true saved state e = sym (state_is state saved e)
+saved_by false saved state e = refl
+
+-- what was saved last, behind a step that saves what has changed, is what there is
+pub saved-changed : (saved state : KeptState) → saved_behind saved (changed saved state) ≡ state
+saved-changed saved state = saved_by (same_state state saved) saved state refl
+
+-- ---- rows
+
+-- a row that hands out tickets
+pub record Grants (saved : KeptState) (row : MonitorRow) : Type 0 where
+  pub proven : SomeOf IsProofFound row.seals
+  pub link : Link MonitorStage
+  pub goes : row.link ≡ Some link
+  pub save : row.save ≡ changed saved row.own.server.state
+  pub saved_is : row.own.saved ≡ row.own.server.state
+
+abbrev pub Judged : KeptState → MonitorRow → Type 0
+Judged saved row = Quiet saved row ⊎ Grants saved row
+
+pub some-append : {X : Type 0} (P : X → Type 0) (xs ys : List X) → SomeOf P xs → SomeOf P (xs ++ ys)
+some-append P [] ys h = absurd h
+some-append P (x ∷ xs) ys (inl h) = inl h
+some-append P (x ∷ xs) ys (inr h) = inr (some-append P xs ys h)
+
+pub quiet-denies : (a : MonitorArrival) (code : ℕ) (why : LoginFault) (seals : List SealEntry) → NoneOf IsEnvelopeSealed seals → Quiet a.own.saved (denies a code why seals)
+quiet-denies a code why seals h = record { entries = (λ x. x, tt); seals = h; save = refl; saved_is = refl }
+
+-- a proof was found equal, and no ticket is sealed yet
+pub record Ready (seals : List SealEntry) : Type 0 where
+  pub proven : SomeOf IsProofFound seals
+  pub none : NoneOf IsEnvelopeSealed seals
+
+hands_out-judged : (a : MonitorArrival) (grant : Granted) (tickets : List Ticket) (sealed : List SealEntry) (done : Result Finished BytesFault)
+    → Ready grant.seals → Judged a.own.saved (hands_out a grant tickets sealed (changed a.own.saved a.own.server.state) done)
+hands_out-judged a grant tickets sealed (Err why) r = inl (quiet-refuses_bytes a why grant.seals r.none)
+hands_out-judged a grant tickets sealed (Ok done) r = inr (record {
+  proven = some-append IsProofFound grant.seals (sealed ++ done.seals) r.proven;
+  link = _;
+  goes = refl;
+  save = refl;
+  saved_is = saved-changed a.own.saved a.own.server.state;
+})
+
+issues-judged : (a : MonitorArrival) (grant : Granted) (principal : Principal) (tickets : Result (List Ticket) LoginFault)
+    → Ready grant.seals → Judged a.own.saved (issues a grant principal tickets)
+issues-judged a grant principal (Err why) r = inl (quiet-denies a 13 why grant.seals r.none)
+issues-judged a grant principal (Ok tickets) r = hands_out-judged a grant tickets _ _ r
+
+issues_to-judged : (a : MonitorArrival) (grant : Granted) (principal : Option Principal) → Ready grant.seals → Judged a.own.saved (issues_to a grant principal)
+issues_to-judged a grant None r = inl (quiet-denies a 13 _ grant.seals r.none)
+issues_to-judged a grant (Some principal) r = issues-judged a grant principal _ r
+
+pub numbers-judged : (a : MonitorArrival) (proven : Proven) (seals : List SealEntry) (n : Result Numbered LoginFault)
+    → Ready seals → Judged a.own.saved (numbers a proven seals n)
+numbers-judged a proven seals (Err why) r = inl (quiet-denies a 13 why seals r.none)
+numbers-judged a proven seals (Ok n) r = issues_to-judged (with_server a n.server) (granted proven seals n.gid) _ r

@@ -1,0 +1,4 @@
+pub mod Granting
+pub mod MonitorRows
+pub mod Naming
+pub mod Quiet

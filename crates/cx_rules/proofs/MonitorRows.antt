@@ -1,0 +1,274 @@
+-- Each row of the monitor, in the order of a connection, and a turn of a link.
+use Rattle.std.proofs.Common.{◌≡◌, ℕ, ◌+◌, ◌==◌, inl, inr, Bool, true, false, List, [], ◌∷◌, ◌++◌, map, take, Option, Some, None, Result, Ok, Err, refl}
+use Rattle.std.specs.Prelude.{find, not, if◌then◌else◌}
+use Rattle.std.specs.List.{AllByRecursion, flat_map, list_any}
+use Rattle.cx_base.specs.declared.kinds.EntityType.{EntityType}
+use Rattle.cx_base.specs.declared.kinds.EntityType.TheVariants.{Mds, Osd, Mgr, Auth, Mon}
+use Rattle.cx_control.specs.Auth.{auth_reply_more_layout, auth_request_layout, auth_request_more_layout, auth_signature_layout}
+use Rattle.cx_control.specs.Hello.{hello_layout}
+use Rattle.cx_control.specs.Idents.{client_ident_layout, ident_missing_features_layout}
+use Rattle.cx_control.specs.Reconnects.{session_reconnect_layout, session_reset_layout}
+use Rattle.cx_control.specs.Upkeep.{keepalive2_layout, keepalive2_ack_layout}
+use Rattle.cx_control.specs.declared.auth.AuthRequest.{AuthRequest}
+use Rattle.cx_control.specs.declared.auth.AuthRequestMore.{AuthRequestMore}
+use Rattle.cx_control.specs.declared.auth.AuthSignature.{AuthSignature}
+use Rattle.cx_control.specs.declared.hello.Hello.{Hello}
+use Rattle.cx_control.specs.declared.idents.ClientIdent.{ClientIdent}
+use Rattle.cx_control.specs.declared.reconnects.SessionReconnect.{SessionReconnect}
+use Rattle.cx_control.specs.declared.upkeep.Keepalive2.{Keepalive2}
+use Rattle.cx_control.specs.declared.upkeep.Keepalive2Ack.{Keepalive2Ack}
+use Rattle.cx_frame.specs.declared.banner.Banner.{Banner}
+use Rattle.cx_frame.specs.declared.frame.Frame.{Frame}
+use Rattle.cx_frame.specs.declared.refusals.BannerRefusal.{BannerRefusal}
+use Rattle.cx_frame.specs.declared.refusals.FrameRefusal.{FrameRefusal}
+use Rattle.cx_journal.specs.declared.faults.BytesFault.{BytesFault}
+use Rattle.cx_journal.specs.declared.faults.BytesFault.TheVariants.{Unexpected}
+use Rattle.cx_journal.specs.declared.faults.LoginFault.TheVariants.{Method, Mode, SignatureWrong}
+use Rattle.cx_journal.specs.declared.faults.LoginFault.TheVariants as login
+use Rattle.cx_journal.specs.declared.outcomes.Reason.TheVariants.{Login}
+use Rattle.cx_journal.specs.declared.premises.KeyKind.{KeyKind}
+use Rattle.cx_journal.specs.declared.premises.KeyKind.TheVariants as kind
+use Rattle.cx_dice.specs.Draws.{challenge_of, rotation_of}
+use Rattle.cx_frame.specs.Banners.{banner_at}
+use Rattle.cx_keyring.specs.Entries.{is_named}
+use Rattle.cx_keyserver.specs.Servers.{generations_of, life_of, rotated_server}
+use Rattle.cx_rotate.specs.Rotation.{additions}
+use Rattle.cx_sealed.specs.Records.{service_ticket_layout}
+use Rattle.cx_sealed.specs.Unsealing.{unsealed}
+use Rattle.cx_wire.specs.Logins.{authenticate_layout, login_hello_layout, server_challenge_layout}
+use Rattle.cx_rules.specs.Words.{own_hello}
+use Rattle.cx_keyring.specs.declared.entries.Entry.{Entry as Principal}
+use Rattle.cx_login.specs.Monitor.{Offer, Proven, kept_gid, proving, reclaimed}
+use Rattle.cx_login.specs.Opening.{generation_key}
+use Rattle.cx_login.specs.Unlocking.{Unlocked, old_under, old_ticket, unlocked_as}
+use Rattle.cx_login.specs.declared.refusals.WrongProof.{WrongProof}
+use Rattle.cx_rotate.specs.declared.generations.Generation.{Generation}
+use Rattle.cx_rotate.specs.declared.states.KeptState.{KeptState}
+use Rattle.cx_sealed.specs.declared.service_ticket.ServiceTicket.{ServiceTicket}
+use Rattle.cx_sealed.specs.declared.unsealed.Unsealed.{Unsealed}
+use Rattle.cx_secure.specs.declared.refusals.SecureRefusal.{SecureRefusal}
+use Rattle.cx_steps.specs.Onto.{SomeOf}
+use Rattle.cx_steps.specs.declared.seals.DrawMark.TheVariants as draw
+use Rattle.cx_steps.specs.declared.seals.SealEntry.{SealEntry}
+use Rattle.cx_steps.specs.declared.seals.SealEntry.TheVariants.{Drawn, Opened}
+use Rattle.cx_stream.specs.Openings.{front_contents}
+use Rattle.cx_stream.specs.PlainStreams.{plain_frame_at}
+use Rattle.cx_stream.specs.SecureStreams.{Ahead, secure_frame_at}
+use Rattle.cx_wire.specs.declared.logins.Authenticate.{Authenticate}
+use Rattle.cx_wire.specs.declared.logins.LoginHello.{LoginHello}
+use Rattle.cx_rules.specs.Acceptor.{Stage, AwaitsBanner, AwaitsHello, AwaitsRequest, AwaitsProof, AwaitsSignature, AwaitsIdent, Open, denies, misses, missing_told, on_auth_request, on_banner, on_hello, on_signature}
+use Rattle.cx_rules.specs.Fronts.{Front, NotYet, Broken, Next, ahead_of, banner_next, banner_read, opened_parts, plain_next, plain_read, secure_next, secure_read, sealed_ahead}
+use Rattle.cx_rules.specs.Judged.{IsEnvelopeSealed, IsProofFound, NoneOf}
+use Rattle.cx_rules.specs.Links.{Link}
+use Rattle.cx_rules.specs.Monitor.{Entity, Monitor, MonitorArrival, MonitorRow, MonitorStage, Offered}
+use Rattle.cx_rules.specs.MonitorLogin.{challenges, numbered, on_authenticate, on_login_hello, proof_found, proves, reclaims, rotates, with_server}
+use Rattle.cx_rules.specs.MonitorRule.{on_auth_request_more, on_client_ident, on_ident, on_request_payload, on_session_reconnect, server_ident, turned_at, at, under}
+use Rattle.cx_rules.specs.Payloads.{control, due, payload, whole}
+use Rattle.cx_rules.specs.Rows.{goes_on, refuses, refuses_bytes, sends_secure, Turned, Waits, Refuses, Handles, turned_by, with_opened}
+use Rattle.cx_rules.specs.Secured.{Keys, Sealed, Secured, is_signed, secure_frame, signature_found}
+use Rattle.cx_rules.specs.Tickets.{drawn_for, rotation_drawn}
+use Rattle.cx_rules.specs.Upkeep.{on_keepalive, on_keepalive_ack, on_upkeep}
+use Rattle.cx_rules.proofs.Granting.{Grants, Judged, Ready, numbers-judged, quiet-denies, some-append}
+use Rattle.cx_rules.proofs.Quiet.{NoneIn, Quiet, none-append, none-flat_map, none-map, none-secure_frame, quiet-goes_on, quiet-refuses, quiet-refuses_bytes, quiet-sends_plain, quiet-sends_secure, quiet-with_opened}
+
+-- ---- LoginHello, Authenticate
+
+challenges-quiet : (a : MonitorArrival) (hello : LoginHello) (principal : Option Principal) → Quiet a.own.saved (challenges a hello principal)
+challenges-quiet a hello None = quiet-denies a 13 login.UnknownEntity [] tt
+challenges-quiet a hello (Some principal) =
+    let challenge = challenge_of a.draw in
+    let offer : Offer = record { name = hello.name; secret = principal.key.secret; challenge = challenge } in
+    let none : NoneOf IsEnvelopeSealed (Drawn (draw.Challenge challenge) ∷ []) = (λ x. x, tt) in
+    quiet-sends_plain a (AwaitsProof (record { offer = offer; gid = hello.gid })) (Drawn (draw.Challenge challenge) ∷ [])
+        (control 4 auth_reply_more_layout.form (record { payload = server_challenge_layout.form.text (record { challenge = challenge }) })) none
+
+login_hello-quiet : (a : MonitorArrival) (hello : Result LoginHello BytesFault) → Quiet a.own.saved (on_login_hello a hello)
+login_hello-quiet a (Err why) = quiet-refuses_bytes a why [] tt
+login_hello-quiet a (Ok hello) = challenges-quiet a hello (find (is_named hello.name) a.own.server.ring)
+
+none_drawn : (keys : List (List ℕ)) (n : ℕ) → NoneOf IsEnvelopeSealed (map (λ key. Drawn (draw.Rotation key)) (take n keys))
+none_drawn keys n = none-map IsEnvelopeSealed (λ key. Drawn (draw.Rotation key)) (take n keys) (λ key x. x)
+
+rotation-none : (reading : ℕ) (draw : List ℕ) (state : KeptState) → NoneOf IsEnvelopeSealed (rotation_drawn reading draw state)
+rotation-none reading draw state =
+    none-flat_map IsEnvelopeSealed (drawn_for reading draw state) (Mds ∷ Osd ∷ Mgr ∷ Auth ∷ []) (λ service. none_drawn (rotation_of service draw) (additions reading (life_of state service) (rotation_of service draw) (generations_of state service)))
+
+unlocked-none : (kind : KeyKind) (key : List ℕ) (found : Option (Unsealed ServiceTicket)) → NoneOf IsEnvelopeSealed (unlocked_as kind key found).seals
+unlocked-none kind key None = tt
+unlocked-none kind key (Some u) = (λ x. x, tt)
+
+old-none : (key : Option (List ℕ)) (blob : List ℕ) → NoneOf IsEnvelopeSealed (old_under key blob).seals
+old-none None blob = tt
+old-none (Some key) blob = unlocked-none kind.Auth key (unsealed service_ticket_layout.form key blob)
+
+reclaims-judged : (a : MonitorArrival) (hello_gid : ℕ) (proven : Proven) (seals : List SealEntry) (old : Unlocked ServiceTicket)
+    → Ready seals → NoneOf IsEnvelopeSealed old.seals → Judged a.own.saved (reclaims a hello_gid proven seals old)
+reclaims-judged a hello_gid proven seals old r n =
+    numbers-judged a proven (seals ++ old.seals)
+        (numbered a.own.server (reclaimed hello_gid proven.ask.version (kept_gid proven.offer.name a.reading old.value)))
+        (record { proven = some-append IsProofFound seals old.seals r.proven; none = none-append IsEnvelopeSealed seals old.seals r.none n })
+
+rotates-judged : (a : MonitorArrival) (hello_gid : ℕ) (proven : Proven) → Judged a.own.saved (rotates a hello_gid proven)
+rotates-judged a hello_gid proven =
+    let server = rotated_server a.reading a.draw a.own.server in
+    let found = proof_found proven.offer proven.ask.client_challenge in
+    let drawn = rotation_drawn a.reading a.draw a.own.server.state in
+    let first : IsProofFound found = refl in
+    let ready : Ready (found ∷ drawn) = record { proven = inl first; none = (λ x. x, rotation-none a.reading a.draw a.own.server.state) } in
+    reclaims-judged (with_server a server) hello_gid proven (found ∷ drawn) (old_ticket server.state.auth proven.ask.old_ticket) ready
+        (old-none (generation_key server.state.auth proven.ask.old_ticket.generation) proven.ask.old_ticket.blob)
+
+proves-judged : (a : MonitorArrival) (hello_gid : ℕ) (proven : Result Proven WrongProof) → Judged a.own.saved (proves a hello_gid proven)
+proves-judged a hello_gid (Err wrong) = inl (quiet-denies a 13 login.WrongProof [] tt)
+proves-judged a hello_gid (Ok proven) = rotates-judged a hello_gid proven
+
+authenticate-judged : (a : MonitorArrival) (offered : Offered) (ask : Result Authenticate BytesFault) → Judged a.own.saved (on_authenticate a offered ask)
+authenticate-judged a offered (Err why) = inl (quiet-refuses_bytes a why [] tt)
+authenticate-judged a offered (Ok ask) = proves-judged a offered.gid (proving offered.offer ask)
+
+-- ---- the other rows
+
+hello-quiet : (a : MonitorArrival) (hello : Result Hello BytesFault) → Quiet a.own.saved (on_hello a hello)
+hello-quiet a (Ok hello) = quiet-goes_on a AwaitsRequest [] [] tt
+hello-quiet a (Err why) = quiet-refuses_bytes a why [] tt
+
+request-quiet : (a : MonitorArrival) (request : Result AuthRequest BytesFault) → Quiet a.own.saved (on_auth_request on_request_payload a request)
+request-quiet a (Err why) = quiet-refuses_bytes a why [] tt
+request-quiet a (Ok request) = by_tests (not (request.method == 2)) (not (list_any (λ mode. mode == 2) request.modes))
+  where
+    by_tests : (other plain : Bool) → Quiet a.own.saved (if other then denies a 95 Method [] else if plain then denies a 95 Mode [] else on_request_payload a request.payload)
+    by_tests true plain = quiet-denies a 95 Method [] tt
+    by_tests false true = quiet-denies a 95 Mode [] tt
+    by_tests false false = login_hello-quiet a (whole login_hello_layout.form request.payload)
+
+request_more-judged : (a : MonitorArrival) (offered : Offered) (more : Result AuthRequestMore BytesFault) → Judged a.own.saved (on_auth_request_more a offered more)
+request_more-judged a offered (Err why) = inl (quiet-refuses_bytes a why [] tt)
+request_more-judged a offered (Ok more) = authenticate-judged a offered (whole authenticate_layout.form more.payload)
+
+signature-quiet : (a : MonitorArrival) (s : Secured) (entity : Entity) (found : Result AuthSignature BytesFault) → Quiet a.own.saved (on_signature a s entity found)
+signature-quiet a s entity (Err why) = quiet-refuses_bytes a why [] tt
+signature-quiet a s entity (Ok found) = by_test (is_signed s found.signature)
+  where
+    by_test : (right : Bool) → Quiet a.own.saved (if right then goes_on a (AwaitsIdent s entity) [] (signature_found s ∷ []) else refuses a (Login SignatureWrong) [])
+    by_test true = quiet-goes_on a (AwaitsIdent s entity) [] (signature_found s ∷ []) (λ x. x, tt)
+    by_test false = quiet-refuses a (Login SignatureWrong) [] tt
+
+missing-quiet : (a : MonitorArrival) (features : ℕ) (sealed : Result Sealed BytesFault) → NoneIn sealed → Quiet a.own.saved (missing_told a features sealed)
+missing-quiet a features (Err why) n = quiet-refuses_bytes a why [] tt
+missing-quiet a features (Ok sealed) n = record { entries = (λ x. x, tt); seals = n; save = refl; saved_is = refl }
+
+client_ident-quiet : (a : MonitorArrival) (s : Secured) (entity : Entity) (ident : Result ClientIdent BytesFault) → Quiet a.own.saved (on_client_ident a s entity ident)
+client_ident-quiet a s entity (Err why) = quiet-refuses_bytes a why [] tt
+client_ident-quiet a s entity (Ok ident) = by_test (ident.required == 0)
+  where
+    by_test : (plain : Bool) → Quiet a.own.saved (if plain then sends_secure a s (λ behind. Open behind entity) [] (server_ident a.own) else misses a s ident.required)
+    by_test true = quiet-sends_secure a s (λ behind. Open behind entity) [] (server_ident a.own) tt
+    by_test false =
+        let f = control 10 ident_missing_features_layout.form (record { features = ident.required }) in
+        missing-quiet a ident.required (secure_frame s.keys f) (none-secure_frame s.keys f)
+
+reconnect-quiet : (a : MonitorArrival) (s : Secured) (entity : Entity) (reconnect : Result SessionReconnect BytesFault) → Quiet a.own.saved (on_session_reconnect a s entity reconnect)
+reconnect-quiet a s entity (Err why) = quiet-refuses_bytes a why [] tt
+reconnect-quiet a s entity (Ok reconnect) =
+    quiet-sends_secure a s (λ behind. AwaitsIdent behind entity) [] (control 12 session_reset_layout.form (record { full = true })) tt
+
+ident-quiet : (a : MonitorArrival) (s : Secured) (entity : Entity) (f : Frame) → Quiet a.own.saved (on_ident a s entity f)
+ident-quiet a s entity f = by_tests (f.tag == 8) (f.tag == 11)
+  where
+    by_tests : (client reconnect : Bool) → Quiet a.own.saved (if client then on_client_ident a s entity (payload client_ident_layout.form f)
+        else if reconnect then on_session_reconnect a s entity (payload session_reconnect_layout.form f) else refuses_bytes a (Unexpected f.tag) [])
+    by_tests true reconnect = client_ident-quiet a s entity (payload client_ident_layout.form f)
+    by_tests false true = reconnect-quiet a s entity (payload session_reconnect_layout.form f)
+    by_tests false false = quiet-refuses_bytes a (Unexpected f.tag) [] tt
+
+keepalive-quiet : (a : MonitorArrival) (s : Secured) (open_under : Secured → MonitorStage) (keepalive : Result Keepalive2 BytesFault) → Quiet a.own.saved (on_keepalive a s open_under keepalive)
+keepalive-quiet a s open_under (Err why) = quiet-refuses_bytes a why [] tt
+keepalive-quiet a s open_under (Ok keepalive) =
+    quiet-sends_secure a s open_under [] (control 19 keepalive2_ack_layout.form (record { time = keepalive.time })) tt
+
+keepalive_ack-quiet : (a : MonitorArrival) (s : Secured) (open_under : Secured → MonitorStage) (ack : Result Keepalive2Ack BytesFault) → Quiet a.own.saved (on_keepalive_ack a s open_under ack)
+keepalive_ack-quiet a s open_under (Err why) = quiet-refuses_bytes a why [] tt
+keepalive_ack-quiet a s open_under (Ok ack) = quiet-goes_on a (open_under s) [] [] tt
+
+upkeep-quiet : (a : MonitorArrival) (s : Secured) (open_under : Secured → MonitorStage) (f : Frame) → Quiet a.own.saved (on_upkeep a s open_under f)
+upkeep-quiet a s open_under f = by_tests (f.tag == 18) (f.tag == 19)
+  where
+    by_tests : (ask ack : Bool) → Quiet a.own.saved (if ask then on_keepalive a s open_under (payload keepalive2_layout.form f)
+        else if ack then on_keepalive_ack a s open_under (payload keepalive2_ack_layout.form f) else refuses_bytes a (Unexpected f.tag) [])
+    by_tests true ack = keepalive-quiet a s open_under (payload keepalive2_layout.form f)
+    by_tests false true = keepalive_ack-quiet a s open_under (payload keepalive2_ack_layout.form f)
+    by_tests false false = quiet-refuses_bytes a (Unexpected f.tag) [] tt
+
+-- ---- a turn
+
+-- what opened at the front is no ticket that was sealed
+abbrev pub FrontNone : {X : Type 0} → Front X → Type 0
+FrontNone NotYet = Unit {0}
+FrontNone (Broken why opened) = NoneOf IsEnvelopeSealed opened
+FrontNone (Next x opened) = NoneOf IsEnvelopeSealed opened
+
+banner-none : (link : Link MonitorStage) (r : Result (Option (Banner × ℕ)) BannerRefusal) → FrontNone (banner_read link r)
+banner-none link (Ok None) = tt
+banner-none link (Ok (Some (b, n))) = tt
+banner-none link (Err e) = tt
+
+plain-none : (link : Link MonitorStage) (r : Result (Option (Frame × ℕ)) FrameRefusal) → FrontNone (plain_read link r)
+plain-none link (Ok None) = tt
+plain-none link (Ok (Some (f, n))) = tt
+plain-none link (Err e) = tt
+
+opened-none : (ahead : Ahead) → NoneOf IsEnvelopeSealed (opened_parts ahead)
+opened-none ahead =
+    none-map IsEnvelopeSealed (λ content. Opened (record { key = ahead.key; kind = kind.Connection; content = content })) (front_contents ahead) (λ content x. x)
+
+secure-none : (keys : Keys) (link : Link MonitorStage) (opened : List SealEntry) (r : Result (Option (Frame × ℕ)) SecureRefusal)
+    → NoneOf IsEnvelopeSealed opened → FrontNone (secure_read keys link opened r)
+secure-none keys link opened (Ok None) h = tt
+secure-none keys link opened (Ok (Some (f, n))) h = h
+secure-none keys link opened (Err e) h = h
+
+secure-next-none : (keys : Keys) (link : Link MonitorStage) → FrontNone (secure_next keys link)
+secure-next-none keys link =
+    secure-none keys link (opened_parts (sealed_ahead keys link)) (secure_frame_at (sealed_ahead keys link)) (opened-none (sealed_ahead keys link))
+
+-- a turn that hands out nothing, or tickets behind a proof that was found equal
+abbrev pub TurnJudged : KeptState → Turned Monitor MonitorStage → Type 0
+TurnJudged saved Waits = Unit {0}
+TurnJudged saved (Refuses why opened) = NoneOf IsEnvelopeSealed opened
+TurnJudged saved (Handles row) = Judged saved row
+
+by-front : {X : Type 0} (saved : KeptState) (row : X → List SealEntry → MonitorRow) (front : Front X) → FrontNone front
+    → ((x : X) (opened : List SealEntry) → NoneOf IsEnvelopeSealed opened → Judged saved (row x opened)) → TurnJudged saved (turned_by row front)
+by-front saved row NotYet n h = tt
+by-front saved row (Broken why opened) n h = n
+by-front saved row (Next x opened) n h = h x opened n
+
+pub turned-judged : (a : MonitorArrival) (stage : MonitorStage) → TurnJudged a.own.saved (turned_at a stage)
+turned-judged a AwaitsBanner =
+    by-front a.own.saved (λ link _. on_banner Mon (at a link)) (banner_next a.link) (banner-none a.link (banner_at (ahead_of a.link)))
+        (λ link opened n. inl (quiet-sends_plain (at a link) AwaitsHello [] (own_hello Mon) tt))
+turned-judged a AwaitsHello =
+    by-front a.own.saved (λ (link, f) _. on_hello (at a link) (due 1 hello_layout.form f)) (plain_next a.link) (plain-none a.link (plain_frame_at (ahead_of a.link)))
+        (λ (link, f) opened n. inl (hello-quiet (at a link) (due 1 hello_layout.form f)))
+turned-judged a AwaitsRequest =
+    by-front a.own.saved (λ (link, f) _. on_auth_request on_request_payload (at a link) (due 2 auth_request_layout.form f)) (plain_next a.link)
+        (plain-none a.link (plain_frame_at (ahead_of a.link)))
+        (λ (link, f) opened n. inl (request-quiet (at a link) (due 2 auth_request_layout.form f)))
+turned-judged a (AwaitsProof offered) =
+    by-front a.own.saved (λ (link, f) _. on_auth_request_more (at a link) offered (due 5 auth_request_more_layout.form f)) (plain_next a.link)
+        (plain-none a.link (plain_frame_at (ahead_of a.link)))
+        (λ (link, f) opened n. request_more-judged (at a link) offered (due 5 auth_request_more_layout.form f))
+turned-judged a (AwaitsSignature s entity) =
+    by-front a.own.saved (λ (link, f, keys) opened. with_opened opened (on_signature (at a link) (under s keys) entity (due 7 auth_signature_layout.form f)))
+        (secure_next s.keys a.link) (secure-next-none s.keys a.link)
+        (λ (link, f, keys) opened n. inl (quiet-with_opened a.own.saved opened (on_signature (at a link) (under s keys) entity (due 7 auth_signature_layout.form f)) n
+            (signature-quiet (at a link) (under s keys) entity (due 7 auth_signature_layout.form f))))
+turned-judged a (AwaitsIdent s entity) =
+    by-front a.own.saved (λ (link, f, keys) opened. with_opened opened (on_ident (at a link) (under s keys) entity f))
+        (secure_next s.keys a.link) (secure-next-none s.keys a.link)
+        (λ (link, f, keys) opened n. inl (quiet-with_opened a.own.saved opened (on_ident (at a link) (under s keys) entity f) n (ident-quiet (at a link) (under s keys) entity f)))
+turned-judged a (Open s entity) =
+    by-front a.own.saved (λ (link, f, keys) opened. with_opened opened (on_upkeep (at a link) (under s keys) (λ behind. Open behind entity) f))
+        (secure_next s.keys a.link) (secure-next-none s.keys a.link)
+        (λ (link, f, keys) opened n. inl (quiet-with_opened a.own.saved opened (on_upkeep (at a link) (under s keys) (λ behind. Open behind entity) f) n
+            (upkeep-quiet (at a link) (under s keys) (λ behind. Open behind entity) f)))

@@ -1,0 +1,79 @@
+-- What a step may answer at most, of every state, event, reading and draw.
+use Rattle.std.specs.Prelude.{ℕ, ◌≡◌, ◌≢◌, ◌⊎◌, List, [], Option, Some, None, IsSome}
+use Rattle.std.specs.List.{AllByRecursion}
+use Rattle.cx_journal.specs.declared.entries.Entry.{Entry}
+use Rattle.cx_journal.specs.declared.entries.Entry.TheVariants as entry
+use Rattle.cx_journal.specs.declared.premises.KeyKind.{KeyKind}
+use Rattle.cx_journal.specs.declared.premises.KeyKind.TheVariants as kind
+use Rattle.cx_rotate.specs.declared.states.KeptState.{KeptState}
+use Rattle.cx_steps.specs.Onto.{SomeOf}
+use Rattle.cx_steps.specs.declared.effects.Effects.{Effects}
+use Rattle.cx_steps.specs.declared.effects.Piece.{Piece}
+use Rattle.cx_steps.specs.declared.seals.SealEntry.{SealEntry}
+use Rattle.cx_steps.specs.declared.seals.SealEntry.TheVariants as seal
+use Rattle.cx_rules.specs.ClientRule.{ClientNode}
+use Rattle.cx_rules.specs.Inputs.{Input, Opened}
+use Rattle.cx_rules.specs.KeptStates.{changed}
+use Rattle.cx_rules.specs.Links.{Link, link_of}
+use Rattle.cx_rules.specs.Monitor.{MonitorNode}
+use Rattle.cx_rules.specs.Rows.{Node, Outcome}
+
+-- ---- what is handed out
+
+-- it is entered that a ticket was issued, or that the state was saved
+abbrev pub IsHandedOut : Entry → Type 0
+IsHandedOut (entry.Issued ticket) = Unit {0}
+IsHandedOut (entry.Saved gid) = Unit {0}
+IsHandedOut _ = ⊥
+
+-- the kinds of key that seal tickets, what is told of them, and connection secrets: all but the key of a connection
+abbrev pub IsEnvelopeKind : KeyKind → Type 0
+IsEnvelopeKind kind.Principal = Unit {0}
+IsEnvelopeKind kind.Auth = Unit {0}
+IsEnvelopeKind kind.Service = Unit {0}
+IsEnvelopeKind kind.Session = Unit {0}
+IsEnvelopeKind _ = ⊥
+
+abbrev pub IsEnvelopeSealed : SealEntry → Type 0
+IsEnvelopeSealed (seal.Sealed mark) = IsEnvelopeKind mark.kind
+IsEnvelopeSealed _ = ⊥
+
+-- a proof was found equal
+abbrev pub IsProofFound : SealEntry → Type 0
+IsProofFound (seal.Checked mark) = mark.kind ≡ kind.Proof
+IsProofFound _ = ⊥
+
+-- none of these items is so
+abbrev pub NoneOf : {X : Type 0} → (X → Type 0) → List X → Type 0
+NoneOf P xs = AllByRecursion (λ x. P x → ⊥) xs
+
+-- a step that hands out nothing: no ticket is entered, and none is sealed; nothing is saved
+pub record IsQuiet (before : MonitorNode) (o : Outcome MonitorNode) : Type 0 where
+  pub entries : NoneOf IsHandedOut o.out.entries
+  pub seals : NoneOf IsEnvelopeSealed o.out.seals
+  pub save : o.out.save ≡ None
+  pub saved : o.state.own.saved ≡ before.own.saved
+
+-- a step that hands out tickets: a proof was found equal; its link goes on; what there is then is what is saved, and it is saved where it
+-- differs from what was
+pub record IsGranting (before : MonitorNode) (o : Outcome MonitorNode) : Type 0 where
+  pub proven : SomeOf IsProofFound o.out.seals
+  pub shuts : o.out.shuts ≡ []
+  pub save : o.out.save ≡ changed before.own.saved o.state.own.server.state
+  pub saved : o.state.own.saved ≡ o.state.own.server.state
+
+-- a restart hands out nothing either, and begins from what was saved
+abbrev pub IsJudged : MonitorNode → Outcome MonitorNode → Type 0
+IsJudged before o = IsQuiet before o ⊎ IsGranting before o
+
+-- ---- links
+
+-- the link lives, or it is the one that opens
+abbrev pub IsThere : {Own Stage : Type 0} → Node Own Stage → Input → ℕ → Type 0
+IsThere node (Opened number peer) n = (n ≡ number) ⊎ IsSome (link_of n node.links)
+IsThere node _ n = IsSome (link_of n node.links)
+
+-- what is sent is sent on links that are there, and links that are shut are there
+pub record NamesLinks {Own Stage : Type 0} (node : Node Own Stage) (input : Input) (out : Effects) : Type 0 where
+  pub sends : AllByRecursion (λ (p : Piece). IsThere node input p.link) out.sends
+  pub shuts : AllByRecursion (IsThere node input) out.shuts
