@@ -1,34 +1,25 @@
 -- Rows of the monitor: each hands out nothing, or tickets, behind a proof that was found equal.
-use Rattle.std.proofs.Common.{◌≡◌, ℕ, ◌+◌, ◌==◌, ◌⊎◌, inl, inr, Bool, true, false, List, [], ◌∷◌, ◌++◌, map, Option, Some, None, Result, Ok, Err, refl, sym, ap, ◌∙◌, eqb-true, rules}
-use Rattle.std.specs.Prelude.{◌&&◌, find, not, nat_le, length, if◌then◌else◌}
+use Rattle.std.proofs.Common.{◌≡◌, ℕ, ◌==◌, ◌⊎◌, inl, inr, Bool, true, false, List, [], ◌∷◌, ◌++◌, Option, Some, None, Result, Ok, Err, refl, sym, ap, ◌∙◌, eqb-true, rules}
+use Rattle.std.specs.Prelude.{◌&&◌, if◌then◌else◌}
 use Rattle.std.specs.Str.{bytes_eq}
 use Rattle.std.proofs.lemmas.Bool.{and_parts}
 use Rattle.std.proofs.lemmas.Slice.Eq.{bytes_eq-Decides}
-use Rattle.std.specs.List.{AllByRecursion, flat_map, list_any}
-use Rattle.cx_base.specs.declared.kinds.EntityType.TheVariants.{Mds, Osd, Mgr, Auth, Mon}
-use Rattle.cx_control.specs.Auth.{auth_request_layout, auth_request_more_layout, auth_signature_layout}
-use Rattle.cx_control.specs.Hello.{hello_layout}
-use Rattle.cx_frame.specs.declared.frame.Frame.{Frame}
-use Rattle.cx_journal.specs.declared.entries.Entry.{Entry}
 use Rattle.cx_journal.specs.declared.faults.BytesFault.{BytesFault}
 use Rattle.cx_journal.specs.declared.faults.LoginFault.{LoginFault}
 use Rattle.cx_keyring.specs.declared.entries.Entry.{Entry as Principal}
-use Rattle.cx_keyserver.specs.Servers.{Server}
 use Rattle.cx_keyserver.specs.declared.tickets.Ticket.{Ticket}
 use Rattle.cx_login.specs.Monitor.{Proven}
-use Rattle.cx_login.specs.Unlocking.{Unlocked}
 use Rattle.cx_rotate.specs.declared.generations.Generation.{Generation}
 use Rattle.cx_rotate.specs.declared.states.KeptState.{KeptState}
-use Rattle.cx_sealed.specs.declared.service_ticket.ServiceTicket.{ServiceTicket}
 use Rattle.cx_steps.specs.Onto.{SomeOf}
 use Rattle.cx_steps.specs.declared.seals.SealEntry.{SealEntry}
 use Rattle.cx_rules.specs.Acceptor.{Finished, denies}
-use Rattle.cx_rules.specs.Judged.{IsHandedOut, IsEnvelopeSealed, IsProofFound, NoneOf}
+use Rattle.cx_rules.specs.Judged.{IsEnvelopeSealed, IsProofFound, NoneOf}
 use Rattle.cx_rules.specs.KeptStates.{changed, saved_behind, same_generation, same_generations, same_state}
 use Rattle.cx_rules.specs.Links.{Link}
-use Rattle.cx_rules.specs.Monitor.{Monitor, MonitorArrival, MonitorRow, MonitorStage}
-use Rattle.cx_rules.specs.MonitorLogin.{Granted, Numbered, granted, hands_out, issues, issues_to, numbers, tells, with_server}
-use Rattle.cx_rules.proofs.Quiet.{Quiet, none-append, quiet-refuses_bytes}
+use Rattle.cx_rules.specs.Monitor.{MonitorArrival, MonitorRow, MonitorStage}
+use Rattle.cx_rules.specs.MonitorLogin.{Granted, Numbered, granted, hands_out, issues, issues_to, numbers, with_server}
+use Rattle.cx_rules.proofs.Quiet.{Quiet, quiet-refuses_bytes}
 
 -- ---- the state that is saved
 

@@ -1,3 +1,5 @@
+pub mod AskerDrawing
+pub mod Drawing
 pub mod Granting
 pub mod MonitorRows
 pub mod Naming

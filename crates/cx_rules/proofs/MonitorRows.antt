@@ -1,8 +1,7 @@
 -- Each row of the monitor, in the order of a connection, and a turn of a link.
-use Rattle.std.proofs.Common.{◌≡◌, ℕ, ◌+◌, ◌==◌, inl, inr, Bool, true, false, List, [], ◌∷◌, ◌++◌, map, take, Option, Some, None, Result, Ok, Err, refl}
+use Rattle.std.proofs.Common.{ℕ, ◌==◌, inl, Bool, true, false, List, [], ◌∷◌, ◌++◌, map, take, Option, Some, None, Result, Ok, Err, refl}
 use Rattle.std.specs.Prelude.{find, not, if◌then◌else◌}
-use Rattle.std.specs.List.{AllByRecursion, flat_map, list_any}
-use Rattle.cx_base.specs.declared.kinds.EntityType.{EntityType}
+use Rattle.std.specs.List.{list_any}
 use Rattle.cx_base.specs.declared.kinds.EntityType.TheVariants.{Mds, Osd, Mgr, Auth, Mon}
 use Rattle.cx_control.specs.Auth.{auth_reply_more_layout, auth_request_layout, auth_request_more_layout, auth_signature_layout}
 use Rattle.cx_control.specs.Hello.{hello_layout}
@@ -36,18 +35,16 @@ use Rattle.cx_rotate.specs.Rotation.{additions}
 use Rattle.cx_sealed.specs.Records.{service_ticket_layout}
 use Rattle.cx_sealed.specs.Unsealing.{unsealed}
 use Rattle.cx_wire.specs.Logins.{authenticate_layout, login_hello_layout, server_challenge_layout}
-use Rattle.cx_rules.specs.Words.{own_hello}
+use Rattle.cx_rules.specs.Greetings.{own_hello}
 use Rattle.cx_keyring.specs.declared.entries.Entry.{Entry as Principal}
 use Rattle.cx_login.specs.Monitor.{Offer, Proven, kept_gid, proving, reclaimed}
 use Rattle.cx_login.specs.Opening.{generation_key}
 use Rattle.cx_login.specs.Unlocking.{Unlocked, old_under, old_ticket, unlocked_as}
 use Rattle.cx_login.specs.declared.refusals.WrongProof.{WrongProof}
-use Rattle.cx_rotate.specs.declared.generations.Generation.{Generation}
 use Rattle.cx_rotate.specs.declared.states.KeptState.{KeptState}
 use Rattle.cx_sealed.specs.declared.service_ticket.ServiceTicket.{ServiceTicket}
 use Rattle.cx_sealed.specs.declared.unsealed.Unsealed.{Unsealed}
 use Rattle.cx_secure.specs.declared.refusals.SecureRefusal.{SecureRefusal}
-use Rattle.cx_steps.specs.Onto.{SomeOf}
 use Rattle.cx_steps.specs.declared.seals.DrawMark.TheVariants as draw
 use Rattle.cx_steps.specs.declared.seals.SealEntry.{SealEntry}
 use Rattle.cx_steps.specs.declared.seals.SealEntry.TheVariants.{Drawn, Opened}
@@ -56,19 +53,19 @@ use Rattle.cx_stream.specs.PlainStreams.{plain_frame_at}
 use Rattle.cx_stream.specs.SecureStreams.{Ahead, secure_frame_at}
 use Rattle.cx_wire.specs.declared.logins.Authenticate.{Authenticate}
 use Rattle.cx_wire.specs.declared.logins.LoginHello.{LoginHello}
-use Rattle.cx_rules.specs.Acceptor.{Stage, AwaitsBanner, AwaitsHello, AwaitsRequest, AwaitsProof, AwaitsSignature, AwaitsIdent, Open, denies, misses, missing_told, on_auth_request, on_banner, on_hello, on_signature}
+use Rattle.cx_rules.specs.Acceptor.{AwaitsBanner, AwaitsHello, AwaitsRequest, AwaitsProof, AwaitsSignature, AwaitsIdent, Open, denies, misses, missing_told, on_auth_request, on_banner, on_hello, on_signature}
 use Rattle.cx_rules.specs.Fronts.{Front, NotYet, Broken, Next, ahead_of, banner_next, banner_read, opened_parts, plain_next, plain_read, secure_next, secure_read, sealed_ahead}
 use Rattle.cx_rules.specs.Judged.{IsEnvelopeSealed, IsProofFound, NoneOf}
 use Rattle.cx_rules.specs.Links.{Link}
 use Rattle.cx_rules.specs.Monitor.{Entity, Monitor, MonitorArrival, MonitorRow, MonitorStage, Offered}
 use Rattle.cx_rules.specs.MonitorLogin.{challenges, numbered, on_authenticate, on_login_hello, proof_found, proves, reclaims, rotates, with_server}
-use Rattle.cx_rules.specs.MonitorRule.{on_auth_request_more, on_client_ident, on_ident, on_request_payload, on_session_reconnect, server_ident, turned_at, at, under}
+use Rattle.cx_rules.specs.MonitorRule.{on_auth_request_more, on_client_ident, on_ident, on_request_payload, on_session_reconnect, server_ident, turned_at}
 use Rattle.cx_rules.specs.Payloads.{control, due, payload, whole}
-use Rattle.cx_rules.specs.Rows.{goes_on, refuses, refuses_bytes, sends_secure, Turned, Waits, Refuses, Handles, turned_by, with_opened}
-use Rattle.cx_rules.specs.Secured.{Keys, Sealed, Secured, is_signed, secure_frame, signature_found}
+use Rattle.cx_rules.specs.Rows.{at, goes_on, refuses, refuses_bytes, sends_secure, Turned, Waits, Refuses, Handles, turned_by, with_opened}
+use Rattle.cx_rules.specs.Secured.{Keys, SealedFrame, Secured, is_signed, secure_frame, signature_found, under}
 use Rattle.cx_rules.specs.Tickets.{drawn_for, rotation_drawn}
 use Rattle.cx_rules.specs.Upkeep.{on_keepalive, on_keepalive_ack, on_upkeep}
-use Rattle.cx_rules.proofs.Granting.{Grants, Judged, Ready, numbers-judged, quiet-denies, some-append}
+use Rattle.cx_rules.proofs.Granting.{Judged, Ready, numbers-judged, quiet-denies, some-append}
 use Rattle.cx_rules.proofs.Quiet.{NoneIn, Quiet, none-append, none-flat_map, none-map, none-secure_frame, quiet-goes_on, quiet-refuses, quiet-refuses_bytes, quiet-sends_plain, quiet-sends_secure, quiet-with_opened}
 
 -- ---- LoginHello, Authenticate
@@ -153,7 +150,7 @@ signature-quiet a s entity (Ok found) = by_test (is_signed s found.signature)
     by_test true = quiet-goes_on a (AwaitsIdent s entity) [] (signature_found s ∷ []) (λ x. x, tt)
     by_test false = quiet-refuses a (Login SignatureWrong) [] tt
 
-missing-quiet : (a : MonitorArrival) (features : ℕ) (sealed : Result Sealed BytesFault) → NoneIn sealed → Quiet a.own.saved (missing_told a features sealed)
+missing-quiet : (a : MonitorArrival) (features : ℕ) (sealed : Result SealedFrame BytesFault) → NoneIn sealed → Quiet a.own.saved (missing_told a features sealed)
 missing-quiet a features (Err why) n = quiet-refuses_bytes a why [] tt
 missing-quiet a features (Ok sealed) n = record { entries = (λ x. x, tt); seals = n; save = refl; saved_is = refl }
 

@@ -1,8 +1,7 @@
 -- The links that effects name, and what a step of the monitor comes to.
-use Rattle.std.proofs.Common.{◌≡◌, ℕ, ◌==◌, ◌⊎◌, inl, inr, Bool, true, false, List, [], ◌∷◌, map, Option, Some, None, refl, ap, subst, eqb-true, eq-eqb}
-use Rattle.std.specs.Prelude.{IsSome, find, nat_le, length, if◌then◌else◌}
+use Rattle.std.proofs.Common.{◌≡◌, ℕ, ◌==◌, inl, inr, Bool, true, false, List, [], ◌∷◌, map, Option, Some, None, refl, ap, subst, eqb-true, eq-eqb}
+use Rattle.std.specs.Prelude.{IsSome, nat_le, length, if◌then◌else◌}
 use Rattle.std.specs.List.{AllByRecursion}
-use Rattle.cx_journal.specs.declared.faults.BytesFault.{BytesFault}
 use Rattle.cx_journal.specs.declared.node_names.NodeName.TheVariants as node
 use Rattle.cx_journal.specs.declared.outcomes.Reason.TheVariants.{LinksFull}
 use Rattle.cx_steps.specs.declared.effects.Piece.{Piece}
@@ -10,19 +9,18 @@ use Rattle.cx_steps.specs.declared.events.Command.{Command}
 use Rattle.cx_steps.specs.declared.events.Command.TheVariants as command
 use Rattle.cx_steps.specs.declared.events.Peer.{Peer}
 use Rattle.cx_steps.specs.declared.events.Peer.TheVariants as peer
-use Rattle.cx_steps.specs.declared.seals.SealEntry.{SealEntry}
 use Rattle.cx_rules.specs.Acceptor.{AwaitsBanner}
-use Rattle.cx_rules.specs.ClientRule.{ClientNode, client_rule, me, number_of, opens, submits, turn, with_asker, loses}
+use Rattle.cx_rules.specs.ClientRule.{ClientNode, client_rule, me, opens, submits, turn, with_asker, loses}
 use Rattle.cx_rules.specs.Connector.{Stage, turned_at}
 use Rattle.cx_rules.specs.Inputs.{Input, Opened, NoLink, Bytes, Turn, Gone, Look, Tick, Submit, Restart}
-use Rattle.cx_rules.specs.Judged.{IsGranting, IsJudged, IsQuiet, IsThere, NamesLinks}
+use Rattle.cx_rules.specs.Judged.{IsJudged, IsThere, NamesLinks}
 use Rattle.cx_rules.specs.Links.{Link, link_of}
 use Rattle.cx_rules.specs.Monitor.{Monitor, MonitorArrival, MonitorNode, MonitorRow, MonitorStage}
 use Rattle.cx_rules.specs.MonitorRule.{monitor_rule, noted}
 use Rattle.cx_rules.specs.MonitorRule as monitor
 use Rattle.cx_rules.specs.Rows.{Arrival, Node, Row, Turned, Waits, Refuses, Handles, arrival, carried_out, fed, goes_on, lifted_turn, new_link, piece, refuses, refuses_bytes, shuts, turns}
-use Rattle.cx_rules.specs.Words.{own_banner}
-use Rattle.cx_rules.proofs.Granting.{Grants, Judged}
+use Rattle.cx_rules.specs.Greetings.{own_banner}
+use Rattle.cx_rules.proofs.Granting.{Judged}
 use Rattle.cx_rules.proofs.MonitorRows.{TurnJudged, turned-judged}
 use Rattle.cx_rotate.specs.declared.states.KeptState.{KeptState}
 use Rattle.cx_rules.proofs.Quiet.{Quiet, quiet-goes_on, quiet-refuses, quiet-refuses_bytes}
@@ -143,7 +141,7 @@ pub monitor-judged : (m : MonitorNode) (input : Input) (reading : ℕ) (draw : L
 monitor-judged m (Opened n p) reading draw =
     let link : Link MonitorStage = new_link n AwaitsBanner in
     opens-judged m (arrival node.Monitor (noted m).own link reading draw) (nat_le 1024 (length m.links)) refl
-monitor-judged m (NoLink p) reading draw = inl (record { entries = tt; seals = tt; save = refl; saved = refl })
+monitor-judged m (NoLink p) reading draw = inl (record { entries = (λ x. x, tt); seals = tt; save = refl; saved = refl })
 monitor-judged m (Bytes n bytes) reading draw = fed-judged m bytes (link_of n m.links)
 monitor-judged m (Turn n) reading draw = monitor-turn-judged m reading draw (link_of n m.links)
 monitor-judged m (Gone n) reading draw = inl (record { entries = tt; seals = tt; save = refl; saved = refl })

@@ -1,7 +1,7 @@
 -- Rows that hand out nothing.
-use Rattle.std.proofs.Common.{◌≡◌, ℕ, ◌+◌, Bool, true, false, List, [], ◌∷◌, ◌++◌, map, Option, Some, None, Result, Ok, Err, refl}
+use Rattle.std.proofs.Common.{◌≡◌, ℕ, ◌+◌, Bool, true, false, List, [], ◌∷◌, ◌++◌, map, None, Result, Ok, Err, refl}
 use Rattle.std.specs.Prelude.{◌-◌, ◌^◌, length, nat_lt, if◌then◌else◌}
-use Rattle.std.specs.List.{AllByRecursion, flat_map}
+use Rattle.std.specs.List.{flat_map}
 use Rattle.cx_frame.specs.Frames.{total}
 use Rattle.cx_secure.specs.Plains.{plains}
 use Rattle.cx_journal.specs.declared.faults.BytesFault.TheVariants.{CounterSpent, TooLong}
@@ -11,9 +11,9 @@ use Rattle.cx_journal.specs.declared.outcomes.Reason.{Reason}
 use Rattle.cx_rotate.specs.declared.states.KeptState.{KeptState}
 use Rattle.cx_steps.specs.declared.seals.SealEntry.{SealEntry}
 use Rattle.cx_rules.specs.Judged.{IsHandedOut, IsEnvelopeSealed, NoneOf}
-use Rattle.cx_rules.specs.Monitor.{Monitor, MonitorArrival, MonitorRow, MonitorStage}
-use Rattle.cx_rules.specs.Rows.{Arrival, Row, Turned, Waits, Refuses, Handles, goes_on, refuses, refuses_bytes, plain_sent, sends_plain, secure_sent, sends_secure, turned_by, with_opened}
-use Rattle.cx_rules.specs.Secured.{Keys, Sealed, Secured, plain_frame, secure_frame, sealed_parts, sealed_under}
+use Rattle.cx_rules.specs.Monitor.{MonitorArrival, MonitorRow, MonitorStage}
+use Rattle.cx_rules.specs.Rows.{goes_on, refuses, refuses_bytes, plain_sent, sends_plain, secure_sent, sends_secure, with_opened}
+use Rattle.cx_rules.specs.Secured.{Keys, SealedFrame, Secured, plain_frame, secure_frame, part_seals, sealed_under}
 
 -- ---- lists of which no item is so
 
@@ -56,15 +56,15 @@ quiet-sends_plain a stage seals f h = plain-case a stage seals (plain_frame f) h
 
 -- ---- frames that are sealed
 
-pub none-sealed_parts : (key fixed : List ℕ) (counter : ℕ) (plains : List (List ℕ)) → NoneOf IsEnvelopeSealed (sealed_parts key fixed counter plains)
-none-sealed_parts key fixed counter [] = tt
-none-sealed_parts key fixed counter (plain ∷ plains) = (λ x. x, none-sealed_parts key fixed (counter + 1) plains)
+pub none-part_seals : (key fixed : List ℕ) (counter : ℕ) (plains : List (List ℕ)) → NoneOf IsEnvelopeSealed (part_seals key fixed counter plains)
+none-part_seals key fixed counter [] = tt
+none-part_seals key fixed counter (plain ∷ plains) = (λ x. x, none-part_seals key fixed (counter + 1) plains)
 
 none-signing : (keys : Keys) (f : Frame) → NoneOf IsEnvelopeSealed (sealed_under keys f).seals
-none-signing keys f = none-sealed_parts keys.key keys.out.fixed keys.out.counter (plains f)
+none-signing keys f = none-part_seals keys.key keys.out.fixed keys.out.counter (plains f)
 
 -- what is logged of a frame that is sealed, if it is
-abbrev pub NoneIn : Result Sealed BytesFault → Type 0
+abbrev pub NoneIn : Result SealedFrame BytesFault → Type 0
 NoneIn (Ok s) = NoneOf IsEnvelopeSealed s.seals
 NoneIn (Err why) = Unit {0}
 
@@ -76,7 +76,7 @@ none-secure_frame keys f = by_test (nat_lt (2 ^ 64 - 1) (keys.out.counter + leng
     by_test false true = tt
     by_test false false = none-signing keys f
 
-secure-case : (a : MonitorArrival) (s : Secured) (stage : Secured → MonitorStage) (seals : List SealEntry) (r : Result Sealed BytesFault)
+secure-case : (a : MonitorArrival) (s : Secured) (stage : Secured → MonitorStage) (seals : List SealEntry) (r : Result SealedFrame BytesFault)
     → NoneOf IsEnvelopeSealed seals → NoneIn r → Quiet a.own.saved (secure_sent a s stage seals r)
 secure-case a s stage seals (Ok sealed) h n = quiet-goes_on a (stage (record s { keys = sealed.keys })) sealed.bytes (seals ++ sealed.seals) (none-append IsEnvelopeSealed seals sealed.seals h n)
 secure-case a s stage seals (Err why) h n = quiet-refuses_bytes a why seals h

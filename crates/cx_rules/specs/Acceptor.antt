@@ -19,8 +19,8 @@ use Rattle.cx_steps.specs.declared.seals.SealEntry.{SealEntry}
 use Rattle.cx_rules.specs.Links.{Link}
 use Rattle.cx_rules.specs.Payloads.{control}
 use Rattle.cx_rules.specs.Rows.{Arrival, Row, goes_on, refuses, refuses_bytes, sends_plain}
-use Rattle.cx_rules.specs.Secured.{Sealed, Secured, acceptor_keys, is_signed, plain_frame, secure_frame, signature_found, signed_frame}
-use Rattle.cx_rules.specs.Words.{own_hello}
+use Rattle.cx_rules.specs.Secured.{SealedFrame, Secured, acceptor_keys, is_signed, plain_frame, secure_frame, signature_found, signed_frame}
+use Rattle.cx_rules.specs.Greetings.{own_hello}
 
 -- how far a link has come: what it waits for. Of a role are `Pending`, what it knows of a peer that has still to prove itself, and `Peer`,
 -- what it knows of one that has
@@ -69,7 +69,7 @@ module _ {Own Pending Peer : Type 0} where
       else refuses a (Login SignatureWrong) []
 
   -- a peer that requires features is told that they are missing, and refused for them
-  abbrev pub missing_told : Arrival Own (Stage Pending Peer) → ℕ → Result Sealed BytesFault → Row Own (Stage Pending Peer)
+  abbrev pub missing_told : Arrival Own (Stage Pending Peer) → ℕ → Result SealedFrame BytesFault → Row Own (Stage Pending Peer)
   missing_told a features (Err why) = refuses_bytes a why []
   missing_told a features (Ok sealed) = record (refuses_bytes a (Features features) sealed.seals) { sends = sealed.bytes }
 
@@ -84,7 +84,7 @@ pub record Finished : Type 0 where
   pub seals : List SealEntry
   pub secured : Secured
 
-abbrev pub joined : List ℕ → List ℕ → Result (List ℕ) BytesFault → Result Sealed BytesFault → Result Finished BytesFault
+abbrev pub joined : List ℕ → List ℕ → Result (List ℕ) BytesFault → Result SealedFrame BytesFault → Result Finished BytesFault
 joined session sent (Err why) signed = Err why
 joined session sent (Ok done) (Err why) = Err why
 joined session sent (Ok done) (Ok signed) = Ok (record {

@@ -1,12 +1,10 @@
 -- What a client does at each event, as far as its login goes.
 use Rattle.std.specs.Prelude.{ℕ, Bool, false, List, [], ◌∷◌, map, Option, Some, None, if◌then◌else◌}
 use Rattle.std.specs.List.{list_all}
-use Rattle.cx_journal.specs.declared.entries.Entry.{Entry}
 use Rattle.cx_journal.specs.declared.entries.Entry.TheVariants as entry
 use Rattle.cx_journal.specs.declared.node_names.NodeName.{NodeName}
 use Rattle.cx_journal.specs.declared.node_names.NodeName.TheVariants as node
-use Rattle.cx_journal.specs.declared.outcomes.Reason.{Reason}
-use Rattle.cx_journal.specs.declared.outcomes.Reason.TheVariants.{Lost, NoLink as NoLinkOpened}
+use Rattle.cx_journal.specs.declared.outcomes.Reason.TheVariants.{Lost}
 use Rattle.cx_steps.specs.Nothing.{nothing}
 use Rattle.cx_steps.specs.declared.events.Command.{Command}
 use Rattle.cx_steps.specs.declared.events.Command.TheVariants as command
@@ -16,8 +14,8 @@ use Rattle.cx_rules.specs.Connector.{Stage, AwaitsBanner, is_open, turned_at}
 use Rattle.cx_rules.specs.Holdings.{Asker, afresh}
 use Rattle.cx_rules.specs.Inputs.{Input, Opened, NoLink, Bytes, Turn, Gone, Look, Tick, Submit, Restart}
 use Rattle.cx_rules.specs.Links.{Link, link_of}
-use Rattle.cx_rules.specs.Rows.{Node, Outcome, arrival, carried_out, fed, forgotten, goes_on, idles, lifted_turn, new_link, turns}
-use Rattle.cx_rules.specs.Words.{own_banner}
+use Rattle.cx_rules.specs.Rows.{Node, Outcome, arrival, carried_out, fed, forgotten, goes_on, idles, lifted_turn, new_link, opens_none, refused_entry, turns}
+use Rattle.cx_rules.specs.Greetings.{own_banner}
 
 -- a client: itself as one that logs in, and the sum of the services for which its last login asks tickets
 pub record Client : Type 0 where
@@ -43,14 +41,11 @@ turn c reading draw (Some link) =
 
 -- ---- Login
 
-abbrev pub number_of : Link Stage → ℕ
-number_of link = link.number
-
--- the older links to the monitor are shut, and a new one is opened
+-- the older links are shut, which are all to the monitor so far, and a new one is opened
 abbrev pub logs_in : ClientNode → ℕ → Outcome ClientNode
 logs_in c services = record {
   state = record { own = record c.own { asked = services }; links = [] };
-  out = record nothing { opens = peer.Monitor ∷ []; shuts = map number_of c.links };
+  out = record nothing { opens = peer.Monitor ∷ []; shuts = map (λ link. link.number) c.links };
 }
 
 abbrev pub submits : ClientNode → Command → Outcome ClientNode
@@ -71,31 +66,29 @@ opens c reading draw number (Some peer.Monitor) =
     let stage : Stage = AwaitsBanner c.own.asked in
     carried_out c number false (goes_on (arrival (me c.own) c.own (new_link number stage) reading draw) stage own_banner [])
 
-abbrev pub refused_entry : Client → ℕ → Reason → Entry
-refused_entry client link why = entry.Refused (record { node = me client; link = link; reason = why })
-
 -- that a link is lost is entered where it wasn't open yet
 abbrev pub loses : ClientNode → Option (Link Stage) → Outcome ClientNode
 loses c None = idles c
 loses c (Some link) = record {
   state = forgotten c link.number;
-  out = record nothing { entries = if is_open link.stage then [] else refused_entry c.own link.number Lost ∷ [] };
+  out = record nothing { entries = if is_open link.stage then [] else refused_entry (me c.own) link.number Lost ∷ [] };
 }
 
-abbrev pub opens_none : ClientNode → Outcome ClientNode
-opens_none c = record { state = c; out = record nothing { entries = refused_entry c.own 0 NoLinkOpened ∷ [] } }
+-- a client as it begins
+abbrev pub opening_client : Asker → ClientNode
+opening_client asker = record { own = record { asker = afresh asker; asked = 0 }; links = [] }
 
--- a client begins anew, with its name and its secret
+-- a client begins anew, with its name, its secret, its address and its modes
 abbrev pub restarted : ClientNode → Outcome ClientNode
 restarted c = record {
-  state = record { own = record { asker = afresh c.own.asker; asked = 0 }; links = [] };
+  state = opening_client c.own.asker;
   out = record nothing { entries = entry.Restarted (me c.own) ∷ [] };
 }
 
 -- what a client does at an event with this reading and this draw
 abbrev pub client_rule : ClientNode → Input → ℕ → List ℕ → Outcome ClientNode
 client_rule c (Opened number peer) reading draw = opens c reading draw number peer
-client_rule c (NoLink peer) reading draw = opens_none c
+client_rule c (NoLink peer) reading draw = opens_none c (me c.own)
 client_rule c (Bytes number bytes) reading draw = fed c bytes (link_of number c.links)
 client_rule c (Turn number) reading draw = turn c reading draw (link_of number c.links)
 client_rule c (Gone number) reading draw = loses c (link_of number c.links)

@@ -30,12 +30,11 @@ use Rattle.cx_wire.specs.declared.logins.LoginDone.{LoginDone}
 use Rattle.cx_wire.specs.declared.logins.ServerChallenge.{ServerChallenge}
 use Rattle.cx_rules.specs.Fronts.{banner_next, plain_next, secure_next}
 use Rattle.cx_rules.specs.Holdings.{Asker, Holdings, hello_gid, held_login, holds_nothing, unexpired}
-use Rattle.cx_rules.specs.Links.{Link}
 use Rattle.cx_rules.specs.Payloads.{control, due, payload, whole}
-use Rattle.cx_rules.specs.Rows.{Arrival, Row, Turned, goes_on, refuses, refuses_bytes, sends_plain, sends_secure, turned_by, with_opened}
-use Rattle.cx_rules.specs.Secured.{Keys, Sealed, Secured, connector_keys, is_signed, signature_found, signed_frame}
+use Rattle.cx_rules.specs.Rows.{Arrival, Row, Turned, at, goes_on, refuses, refuses_bytes, sends_plain, sends_secure, turned_by, with_opened}
+use Rattle.cx_rules.specs.Secured.{SealedFrame, Secured, plain_frame, under, connector_keys, is_signed, signature_found, signed_frame}
 use Rattle.cx_rules.specs.Upkeep.{on_upkeep}
-use Rattle.cx_rules.specs.Words.{no_addr, own_hello}
+use Rattle.cx_rules.specs.Greetings.{no_addr, own_hello}
 
 -- a login that was opened, and its global id, until the monitor's signature is found right
 pub record Login : Type 0 where
@@ -86,14 +85,19 @@ on_hello a asked (Ok hello) = sends_plain a (AwaitsChallenge asked) [] (login_re
 abbrev pub proof_made : List ℕ → ℕ → ℕ → SealEntry
 proof_made secret server client = entry.Signed (record { key = secret; kind = kind.Proof; content = to_le_bytes w64 server ++ to_le_bytes w64 client })
 
+-- one's own challenge is drawn, and the proof of both is sent
+abbrev pub proves : AskerArrival → ℕ → Result (List ℕ) BytesFault → AskerRow
+proves a server (Err why) = refuses_bytes a why (entry.Drawn (draw.Challenge (challenge_of a.draw)) ∷ [])
+proves a server (Ok bytes) =
+    goes_on a AwaitsDone bytes (entry.Drawn (draw.Challenge (challenge_of a.draw)) ∷ proof_made a.own.secret server (challenge_of a.draw) ∷ [])
+
 -- the challenge is answered by an Authenticate, with the ticket for AUTH that is held as old ticket while it is good
 abbrev pub on_challenge : AskerArrival → ℕ → Result ServerChallenge BytesFault → AskerRow
 on_challenge a asked (Err why) = refuses_bytes a why []
 on_challenge a asked (Ok server) =
-    let client = challenge_of a.draw in
     let ask : Ask = record { secret = a.own.secret; old = unexpired a.reading a.own.holdings.auth; other_keys = asked } in
-    sends_plain a AwaitsDone (entry.Drawn (draw.Challenge client) ∷ proof_made a.own.secret server.challenge client ∷ [])
-        (control 5 auth_request_more_layout.form (record { payload = authenticate_layout.form.text (authenticate ask server.challenge client) }))
+    proves a server.challenge (plain_frame (control 5 auth_request_more_layout.form
+        (record { payload = authenticate_layout.form.text (authenticate ask server.challenge (challenge_of a.draw)) })))
 
 abbrev pub on_reply_more : AskerArrival → ℕ → Result AuthReplyMore BytesFault → AskerRow
 on_reply_more a asked (Err why) = refuses_bytes a why []
@@ -101,7 +105,7 @@ on_reply_more a asked (Ok more) = on_challenge a asked (whole server_challenge_l
 
 -- ---- AUTH_BAD_METHOD
 
--- at the code 13 the monitor doesn't take what is held: all of it is forgotten
+-- at the code 13 the global id and all tickets are forgotten
 abbrev pub on_denial : AskerArrival → ℕ → AskerRow
 on_denial a code = refuses (if code == 13 then holding a holds_nothing else a) (reason.Denied code) []
 
@@ -112,7 +116,7 @@ on_bad_method a (Ok fields) = on_denial a (kept_method fields).result
 -- ---- AUTH_DONE
 
 -- AUTH_SIGNATURE is sent; the peer's has to cover all that was sent before
-abbrev pub signs : AskerArrival → Login → List SealEntry → Result Sealed BytesFault → AskerRow
+abbrev pub signs : AskerArrival → Login → List SealEntry → Result SealedFrame BytesFault → AskerRow
 signs a login opened (Err why) = refuses_bytes a why opened
 signs a login opened (Ok sealed) =
     goes_on a (AwaitsSignature (record { keys = sealed.keys; session = login.opened.auth.session; covered = a.link.sent }) login)
@@ -174,13 +178,6 @@ on_missing_features a (Err why) = refuses_bytes a why []
 on_missing_features a (Ok missing) = refuses_bytes a (Features missing.features) []
 
 -- ---- a turn
-
--- the link behind what was taken of it
-abbrev pub at : AskerArrival → Link Stage → AskerArrival
-at a link = record a { link = link }
-
-abbrev pub under : Secured → Keys → Secured
-under s keys = record s { keys = keys }
 
 abbrev pub while_challenged : AskerArrival → ℕ → Frame → AskerRow
 while_challenged a asked f =

@@ -58,8 +58,8 @@ abbrev pub opened_parts : Ahead → List SealEntry
 opened_parts ahead = map (λ content. entry.Opened (record { key = ahead.key; kind = kind.Connection; content = content })) (front_contents ahead)
 
 -- the keys behind a frame: each part raises the counter
-abbrev pub raised : Keys → Frame → Keys
-raised keys f = record keys { into = record keys.into { counter = keys.into.counter + length (plains f) } }
+abbrev pub keys_behind : Keys → Frame → Keys
+keys_behind keys f = record keys { into = record keys.into { counter = keys.into.counter + length (plains f) } }
 
 module _ {Stage : Type 0} where
   -- the bytes behind what was taken
@@ -94,7 +94,7 @@ module _ {Stage : Type 0} where
 
   abbrev pub secure_read : Keys → Link Stage → List SealEntry → Result (Option (Frame × ℕ)) SecureRefusal → Front (Link Stage × Frame × Keys)
   secure_read keys link opened (Ok None) = NotYet
-  secure_read keys link opened (Ok (Some (f, n))) = Next (taking link n, f, raised keys f) opened
+  secure_read keys link opened (Ok (Some (f, n))) = Next (taking link n, f, keys_behind keys f) opened
   secure_read keys link opened (Err e) = Broken (secure_fault e) opened
 
   -- a secure frame

@@ -1,5 +1,5 @@
 -- What an entity's node has as one that logs in: a client, or a daemon towards the monitor.
-use Rattle.std.specs.Prelude.{ℕ, ◌==◌, List, [], ◌∷◌, nat_lt, Option, Some, None, if◌then◌else◌}
+use Rattle.std.specs.Prelude.{ℕ, Bool, true, false, ◌==◌, List, [], ◌∷◌, nat_lt, Option, Some, None, if◌then◌else◌}
 use Rattle.cx_base.specs.Names.{Name}
 use Rattle.cx_base.specs.declared.addresses.Addr.{Addr}
 use Rattle.cx_base.specs.declared.kinds.EntityType.{EntityType}
@@ -31,9 +31,9 @@ abbrev pub put_tickets : Holdings → List Held → Holdings
 put_tickets h [] = h
 put_tickets h (ticket ∷ tickets) = put_tickets (put_ticket h ticket ticket.service) tickets
 
--- the holdings as far as they are of this global id: of another one all is forgotten
+-- the holdings under a global id: where that is another one than before, all else is forgotten
 abbrev pub of_gid : Holdings → ℕ → Option ℕ → Holdings
-of_gid h gid None = record holds_nothing { gid = Some gid }
+of_gid h gid None = record h { gid = Some gid }
 of_gid h gid (Some before) = if before == gid then h else record holds_nothing { gid = Some gid }
 
 -- a login is held: its global id, and its tickets
@@ -50,6 +50,13 @@ hello_gid (Some auth) (Some gid) = gid
 abbrev pub unexpired : ℕ → Option Held → Option Held
 unexpired reading None = None
 unexpired reading (Some ticket) = if nat_lt reading ticket.expires then Some ticket else None
+
+-- the modes of a client's offer: crc, and then the secure one
+abbrev pub modes_of : Bool → Bool → List ℕ
+modes_of true true = 1 ∷ 2 ∷ []
+modes_of true false = 1 ∷ []
+modes_of false true = 2 ∷ []
+modes_of false false = []
 
 -- one that logs in: its name and its secret, its address, the modes that it offers (1 crc, 2 secure), its count of connections to daemons,
 -- and what it holds

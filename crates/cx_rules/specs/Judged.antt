@@ -1,22 +1,28 @@
 -- What a step may answer at most, of every state, event, reading and draw.
-use Rattle.std.specs.Prelude.{ℕ, ◌≡◌, ◌≢◌, ◌⊎◌, List, [], Option, Some, None, IsSome}
+use Rattle.std.specs.Prelude.{ℕ, ◌≡◌, ◌⊎◌, List, [], take, Option, Some, None, IsSome}
 use Rattle.std.specs.List.{AllByRecursion}
 use Rattle.cx_journal.specs.declared.entries.Entry.{Entry}
 use Rattle.cx_journal.specs.declared.entries.Entry.TheVariants as entry
 use Rattle.cx_journal.specs.declared.premises.KeyKind.{KeyKind}
 use Rattle.cx_journal.specs.declared.premises.KeyKind.TheVariants as kind
-use Rattle.cx_rotate.specs.declared.states.KeptState.{KeptState}
 use Rattle.cx_steps.specs.Onto.{SomeOf}
 use Rattle.cx_steps.specs.declared.effects.Effects.{Effects}
 use Rattle.cx_steps.specs.declared.effects.Piece.{Piece}
 use Rattle.cx_steps.specs.declared.seals.SealEntry.{SealEntry}
 use Rattle.cx_steps.specs.declared.seals.SealEntry.TheVariants as seal
-use Rattle.cx_rules.specs.ClientRule.{ClientNode}
+use Rattle.cx_base.specs.declared.kinds.EntityType.TheVariants.{Auth}
+use Rattle.cx_dice.specs.Draws.{challenge_of, connection_of, cookie_of, session_of}
+use Rattle.cx_steps.specs.declared.seals.DrawMark.{DrawMark}
+use Rattle.cx_steps.specs.declared.seals.DrawMark.TheVariants as draw
+use Rattle.cx_rules.specs.Acceptor.{AwaitsProof, AwaitsSignature, AwaitsIdent, Open}
+use Rattle.cx_rules.specs.Connector.{AskerArrival}
+use Rattle.cx_rules.specs.Connector as connector
+use Rattle.cx_rules.specs.Holdings.{Asker}
 use Rattle.cx_rules.specs.Inputs.{Input, Opened}
 use Rattle.cx_rules.specs.KeptStates.{changed}
 use Rattle.cx_rules.specs.Links.{Link, link_of}
-use Rattle.cx_rules.specs.Monitor.{MonitorNode}
-use Rattle.cx_rules.specs.Rows.{Node, Outcome}
+use Rattle.cx_rules.specs.Monitor.{Monitor, MonitorArrival, MonitorNode, MonitorStage}
+use Rattle.cx_rules.specs.Rows.{Node, Outcome, Turned, Waits, Refuses, Handles}
 
 -- ---- what is handed out
 
@@ -77,3 +83,52 @@ IsThere node _ n = IsSome (link_of n node.links)
 pub record NamesLinks {Own Stage : Type 0} (node : Node Own Stage) (input : Input) (out : Effects) : Type 0 where
   pub sends : AllByRecursion (λ (p : Piece). IsThere node input p.link) out.sends
   pub shuts : AllByRecursion (IsThere node input) out.shuts
+
+-- ---- what is drawn
+
+-- these entries log the draw
+abbrev pub LogsDraw : DrawMark → List SealEntry → Type 0
+LogsDraw mark seals = SomeOf (λ logged. logged ≡ seal.Drawn mark) seals
+
+-- the key of a link that is secured
+abbrev pub has_key : MonitorStage → List ℕ → Type 0
+has_key (AwaitsSignature s entity) key = s.keys.key ≡ key
+has_key (AwaitsIdent s entity) key = s.keys.key ≡ key
+has_key (Open s entity) key = s.keys.key ≡ key
+has_key _ key = ⊥
+
+-- the stage in which a link goes on holds what was drawn, and that is logged: a challenge, the key of the connection, and the session key
+-- that signs; later stages have the key of before
+abbrev pub LogsStage : MonitorArrival → List SealEntry → MonitorStage → Type 0
+LogsStage a seals (AwaitsProof offered) = (offered.offer.challenge ≡ challenge_of a.draw) × LogsDraw (draw.Challenge (challenge_of a.draw)) seals
+LogsStage a seals (AwaitsSignature s entity) =
+    (s.keys.key ≡ take 16 (connection_of a.draw)) × LogsDraw (draw.Connection (connection_of a.draw) entity.name) seals
+    × (s.session ≡ session_of Auth a.draw) × LogsDraw (draw.Session (session_of Auth a.draw) entity.name) seals
+LogsStage a seals (AwaitsIdent s entity) = has_key a.link.stage s.keys.key
+LogsStage a seals (Open s entity) = has_key a.link.stage s.keys.key
+LogsStage a seals _ = Unit {0}
+
+abbrev pub LogsLink : MonitorArrival → List SealEntry → Option (Link MonitorStage) → Type 0
+LogsLink a seals (Some link) = LogsStage a seals link.stage
+LogsLink a seals None = Unit {0}
+
+-- a turn at the monitor logs what it draws
+abbrev pub LogsTurn : MonitorArrival → Turned Monitor MonitorStage → Type 0
+LogsTurn a Waits = Unit {0}
+LogsTurn a (Refuses why opened) = Unit {0}
+LogsTurn a (Handles row) = LogsLink a row.seals row.link
+
+-- so does one at a connector: the challenge of its proof, and the cookie of its CLIENT_IDENT
+abbrev pub AskerLogsStage : AskerArrival → List SealEntry → connector.Stage → Type 0
+AskerLogsStage a seals connector.AwaitsDone = LogsDraw (draw.Challenge (challenge_of a.draw)) seals
+AskerLogsStage a seals (connector.AwaitsIdent s) = LogsDraw (draw.Cookie (cookie_of a.draw)) seals
+AskerLogsStage a seals _ = Unit {0}
+
+abbrev pub AskerLogsLink : AskerArrival → List SealEntry → Option (Link connector.Stage) → Type 0
+AskerLogsLink a seals (Some link) = AskerLogsStage a seals link.stage
+AskerLogsLink a seals None = Unit {0}
+
+abbrev pub AskerLogsTurn : AskerArrival → Turned Asker connector.Stage → Type 0
+AskerLogsTurn a Waits = Unit {0}
+AskerLogsTurn a (Refuses why opened) = Unit {0}
+AskerLogsTurn a (Handles row) = AskerLogsLink a row.seals row.link

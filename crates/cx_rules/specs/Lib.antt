@@ -2,6 +2,7 @@ pub mod Acceptor
 pub mod ClientRule
 pub mod Connector
 pub mod Fronts
+pub mod Greetings
 pub mod Holdings
 pub mod Inputs
 pub mod Judged
@@ -15,4 +16,3 @@ pub mod Rows
 pub mod Secured
 pub mod Tickets
 pub mod Upkeep
-pub mod Words

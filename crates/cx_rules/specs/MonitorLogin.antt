@@ -134,7 +134,7 @@ tells a grant principal tickets =
     let content = connection_secret_layout.form.text (record { secret = secret }) in
     hands_out a grant tickets
         (flat_map (ticket_seals a.own.server principal.key.secret session) tickets
-        ++ Drawn (draw.Connection secret principal.name) ∷ Sealed (record { key = session; kind = kind.Session; content = content }) ∷ [])
+        ++ Drawn (draw.Connection secret grant.proven.offer.name) ∷ Sealed (record { key = session; kind = kind.Session; content = content }) ∷ [])
         (changed a.own.saved a.own.server.state)
         (finished a.link session secret (auth_done grant.gid tickets (sealed session content)))
 

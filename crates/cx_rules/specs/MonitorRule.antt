@@ -1,5 +1,5 @@
 -- What the monitor does at each event.
-use Rattle.std.specs.Prelude.{ℕ, ◌==◌, List, [], ◌∷◌, length, true, false, nat_le, Option, Some, None, Result, Ok, Err, if◌then◌else◌}
+use Rattle.std.specs.Prelude.{ℕ, ◌==◌, List, [], ◌∷◌, length, Bool, true, false, nat_le, Option, Some, None, Result, Ok, Err, if◌then◌else◌}
 use Rattle.cx_base.specs.declared.kinds.EntityType.TheVariants.{Mon}
 use Rattle.cx_control.specs.Auth.{auth_request_layout, auth_request_more_layout, auth_signature_layout}
 use Rattle.cx_control.specs.Hello.{hello_layout}
@@ -14,6 +14,8 @@ use Rattle.cx_journal.specs.declared.faults.BytesFault.{BytesFault}
 use Rattle.cx_journal.specs.declared.faults.BytesFault.TheVariants.{Unexpected}
 use Rattle.cx_journal.specs.declared.node_names.NodeName.TheVariants as node
 use Rattle.cx_journal.specs.declared.outcomes.Reason.TheVariants.{LinksFull}
+use Rattle.cx_base.specs.declared.addresses.Addr.{Addr}
+use Rattle.cx_keyserver.specs.Servers.{Server}
 use Rattle.cx_steps.specs.Nothing.{nothing}
 use Rattle.cx_wire.specs.Logins.{authenticate_layout, login_hello_layout}
 use Rattle.cx_rules.specs.Acceptor.{AwaitsBanner, AwaitsHello, AwaitsRequest, AwaitsProof, AwaitsSignature, AwaitsIdent, Open, misses, on_auth_request, on_banner, on_hello, on_signature}
@@ -23,10 +25,10 @@ use Rattle.cx_rules.specs.Links.{Link, link_of}
 use Rattle.cx_rules.specs.Monitor.{Entity, Monitor, MonitorArrival, MonitorNode, MonitorRow, MonitorStage, Offered}
 use Rattle.cx_rules.specs.MonitorLogin.{on_authenticate, on_login_hello}
 use Rattle.cx_rules.specs.Payloads.{control, due, payload, whole}
-use Rattle.cx_rules.specs.Rows.{Outcome, Turned, arrival, carried_out, fed, forgotten, goes_on, idles, new_link, refuses, refuses_bytes, sends_secure, turned_by, turns, with_opened}
-use Rattle.cx_rules.specs.Secured.{Keys, Secured}
+use Rattle.cx_rules.specs.Rows.{Outcome, Turned, arrival, at, carried_out, fed, forgotten, goes_on, idles, new_link, opens_none, refuses, refuses_bytes, sends_secure, turned_by, turns, with_opened}
+use Rattle.cx_rules.specs.Secured.{Secured, under}
 use Rattle.cx_rules.specs.Upkeep.{on_upkeep}
-use Rattle.cx_rules.specs.Words.{own_banner}
+use Rattle.cx_rules.specs.Greetings.{own_banner}
 
 -- ---- CLIENT_IDENT, SESSION_RECONNECT
 
@@ -61,13 +63,6 @@ on_auth_request_more a offered (Err why) = refuses_bytes a why []
 on_auth_request_more a offered (Ok more) = on_authenticate a offered (whole authenticate_layout.form more.payload)
 
 -- ---- a turn
-
--- the link behind what was taken of it
-abbrev pub at : MonitorArrival → Link MonitorStage → MonitorArrival
-at a link = record a { link = link }
-
-abbrev pub under : Secured → Keys → Secured
-under s keys = record s { keys = keys }
 
 -- by the stage of the link
 abbrev pub turned_at : MonitorArrival → MonitorStage → Turned Monitor MonitorStage
@@ -111,7 +106,7 @@ monitor_step m (Bytes number bytes) reading draw = fed m bytes (link_of number m
 monitor_step m (Turn number) reading draw = turn m reading draw (link_of number m.links)
 monitor_step m (Gone number) reading draw = idles (forgotten m number)
 monitor_step m Restart reading draw = restarted m
-monitor_step m (NoLink peer) reading draw = idles m
+monitor_step m (NoLink peer) reading draw = opens_none m node.Monitor
 monitor_step m (Look view) reading draw = idles m
 monitor_step m Tick reading draw = idles m
 monitor_step m (Submit command) reading draw = idles m
@@ -123,3 +118,12 @@ monitor_rule m input reading draw = monitor_step (noted m) input reading draw
 -- what was saved by the last step is taken back
 abbrev pub unsaved : MonitorNode → MonitorNode
 unsaved m = record m { own = record m.own { saved = m.own.saved_before } }
+
+-- the monitor as it begins, with a key server whose state was kept or is the first one
+abbrev pub opening_monitor : Server → Addr → MonitorNode
+opening_monitor server address =
+    record { own = record { server = server; saved = server.state; saved_before = server.state; address = address }; links = [] }
+
+-- the monitor waits for nothing
+abbrev pub is_idle : MonitorNode → Bool
+is_idle m = true

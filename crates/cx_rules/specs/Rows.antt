@@ -6,7 +6,7 @@ use Rattle.cx_journal.specs.declared.entries.Entry.TheVariants as entry
 use Rattle.cx_journal.specs.declared.faults.BytesFault.{BytesFault}
 use Rattle.cx_journal.specs.declared.node_names.NodeName.{NodeName}
 use Rattle.cx_journal.specs.declared.outcomes.Reason.{Reason}
-use Rattle.cx_journal.specs.declared.outcomes.Reason.TheVariants.{Bytes}
+use Rattle.cx_journal.specs.declared.outcomes.Reason.TheVariants.{Bytes, NoLink}
 use Rattle.cx_rotate.specs.declared.states.KeptState.{KeptState}
 use Rattle.cx_steps.specs.Nothing.{nothing}
 use Rattle.cx_steps.specs.declared.effects.Effects.{Effects}
@@ -14,7 +14,7 @@ use Rattle.cx_steps.specs.declared.effects.Piece.{Piece}
 use Rattle.cx_steps.specs.declared.seals.SealEntry.{SealEntry}
 use Rattle.cx_rules.specs.Fronts.{Front, NotYet, Broken, Next}
 use Rattle.cx_rules.specs.Links.{Link, put_link, without_link}
-use Rattle.cx_rules.specs.Secured.{Sealed, Secured, plain_frame, secure_frame}
+use Rattle.cx_rules.specs.Secured.{SealedFrame, Secured, plain_frame, secure_frame}
 
 -- a node: what it has of its own, and its live links in the order of their numbers
 pub record Node (Own Stage : Type 0) : Type 0 where
@@ -36,6 +36,14 @@ pub record Arrival (Own Stage : Type 0) : Type 0 where
 
 abbrev pub arrival : {Own Stage : Type 0} → NodeName → Own → Link Stage → ℕ → List ℕ → Arrival Own Stage
 arrival me own link reading draw = record { me = me; own = own; link = link; reading = reading; draw = draw }
+
+-- the same behind what was taken of its link
+abbrev pub at : {Own Stage : Type 0} → Arrival Own Stage → Link Stage → Arrival Own Stage
+at a link = record a { link = link }
+
+-- that a node refused something, on a link or, at 0, on none
+abbrev pub refused_entry : NodeName → ℕ → Reason → Entry
+refused_entry me link why = entry.Refused (record { node = me; link = link; reason = why })
 
 -- what a row says: what the node has of its own behind it; the link as it goes on, or none where it is shut; the bytes that are sent on it;
 -- the state that is saved; and what is entered in the journal and the log
@@ -66,7 +74,7 @@ module _ {Own Stage : Type 0} where
     link = None;
     sends = [];
     save = None;
-    entries = entry.Refused (record { node = a.me; link = a.link.number; reason = why }) ∷ [];
+    entries = refused_entry a.me a.link.number why ∷ [];
     seals = seals;
   }
 
@@ -83,7 +91,7 @@ module _ {Own Stage : Type 0} where
   sends_plain a stage seals f = plain_sent a stage seals (plain_frame f)
 
   -- a secure frame is sent, and the link goes on in a stage, with the keys behind it
-  abbrev pub secure_sent : Arrival Own Stage → Secured → (Secured → Stage) → List SealEntry → Result Sealed BytesFault → Row Own Stage
+  abbrev pub secure_sent : Arrival Own Stage → Secured → (Secured → Stage) → List SealEntry → Result SealedFrame BytesFault → Row Own Stage
   secure_sent a s stage seals (Ok sealed) = goes_on a (stage (record s { keys = sealed.keys })) sealed.bytes (seals ++ sealed.seals)
   secure_sent a s stage seals (Err why) = refuses_bytes a why seals
 
@@ -145,6 +153,11 @@ module _ {Own Stage : Type 0} where
   -- a link is gone
   abbrev pub forgotten : Node Own Stage → ℕ → Node Own Stage
   forgotten node number = record node { links = without_link number node.links }
+
+module _ {Own Stage : Type 0} where
+  -- a link could not be opened
+  abbrev pub opens_none : Node Own Stage → NodeName → Outcome (Node Own Stage)
+  opens_none node me = record { state = node; out = record nothing { entries = refused_entry me 0 NoLink ∷ [] } }
 
 -- what a turn comes to: nothing where not all of a banner or frame is there; a refusal, which handles nothing; or a row
 pub data Turned (Own Stage : Type 0) : Type 0 where

@@ -37,26 +37,26 @@ abbrev pub plain_frame : Frame → Result (List ℕ) BytesFault
 plain_frame f = if nat_lt 65536 (total f) then Err TooLong else Ok (frame_text f)
 
 -- a frame as it was sealed: its bytes, what is logged of it, and the keys behind it
-pub record Sealed : Type 0 where
+pub record SealedFrame : Type 0 where
   pub bytes : List ℕ
   pub seals : List SealEntry
   pub keys : Keys
 
 -- each part is logged: its nonce and its plain bytes
-abbrev pub sealed_parts : List ℕ → List ℕ → ℕ → List (List ℕ) → List SealEntry
-sealed_parts key fixed counter [] = []
-sealed_parts key fixed counter (plain ∷ plains) =
-    entry.Sealed (record { key = key; kind = kind.Connection; content = nonce_at fixed counter ++ plain }) ∷ sealed_parts key fixed (counter + 1) plains
+abbrev pub part_seals : List ℕ → List ℕ → ℕ → List (List ℕ) → List SealEntry
+part_seals key fixed counter [] = []
+part_seals key fixed counter (plain ∷ plains) =
+    entry.Sealed (record { key = key; kind = kind.Connection; content = nonce_at fixed counter ++ plain }) ∷ part_seals key fixed (counter + 1) plains
 
-abbrev pub sealed_under : Keys → Frame → Sealed
+abbrev pub sealed_under : Keys → Frame → SealedFrame
 sealed_under keys f = record {
   bytes = secure_text keys.key keys.out.fixed keys.out.counter f;
-  seals = sealed_parts keys.key keys.out.fixed keys.out.counter (plains f);
+  seals = part_seals keys.key keys.out.fixed keys.out.counter (plains f);
   keys = record keys { out = record keys.out { counter = keys.out.counter + length (plains f) } };
 }
 
 -- a secure frame, where counters are left for its parts; its segments have at most 1,048,576 bytes together
-abbrev pub secure_frame : Keys → Frame → Result Sealed BytesFault
+abbrev pub secure_frame : Keys → Frame → Result SealedFrame BytesFault
 secure_frame keys f =
     if nat_lt (2 ^ 64 - 1) (keys.out.counter + length (plains f)) then Err CounterSpent
     else if nat_lt 1048576 (total f) then Err TooLong
@@ -71,18 +71,22 @@ pub record Secured : Type 0 where
   pub session : List ℕ
   pub covered : List ℕ
 
+-- the same with the keys behind a frame
+abbrev pub under : Secured → Keys → Secured
+under s keys = record s { keys = keys }
+
 abbrev pub signature : List ℕ → List ℕ → SealEntry
 signature session covered = entry.Signed (record { key = session; kind = kind.Signature; content = covered })
 
 abbrev pub signature_found : Secured → SealEntry
 signature_found s = entry.Checked (record { key = s.session; kind = kind.Signature; content = s.covered })
 
-abbrev pub signing : List ℕ → List ℕ → Result Sealed BytesFault → Result Sealed BytesFault
+abbrev pub signing : List ℕ → List ℕ → Result SealedFrame BytesFault → Result SealedFrame BytesFault
 signing session received (Err why) = Err why
 signing session received (Ok s) = Ok (record s { seals = signature session received ∷ s.seals })
 
 -- AUTH_SIGNATURE: it covers all bytes that were received before the peer's
-abbrev pub signed_frame : Keys → List ℕ → List ℕ → Result Sealed BytesFault
+abbrev pub signed_frame : Keys → List ℕ → List ℕ → Result SealedFrame BytesFault
 signed_frame keys session received =
     signing session received (secure_frame keys (control 7 auth_signature_layout.form (record { signature = hmac session received })))
 

@@ -12,12 +12,12 @@ use Rattle.cx_journal.specs.declared.faults.LoginFault.{LoginFault}
 use Rattle.cx_journal.specs.declared.faults.LoginFault.TheVariants as login
 use Rattle.cx_journal.specs.declared.premises.KeyKind.{KeyKind}
 use Rattle.cx_journal.specs.declared.premises.KeyKind.TheVariants as kind
-use Rattle.cx_keyserver.specs.Issuing.{Asked, issued, service_ticket_of, ticket_info_of}
+use Rattle.cx_keyserver.specs.Issuing.{Asked, current_at, issued, service_ticket_of, ticket_info_of}
 use Rattle.cx_keyserver.specs.Servers.{Server, generations_of, life_of}
 use Rattle.cx_keyserver.specs.declared.refusals.IssueRefusal.{IssueRefusal}
 use Rattle.cx_keyserver.specs.declared.refusals.IssueRefusal.TheVariants as issue
 use Rattle.cx_keyserver.specs.declared.tickets.Ticket.{Ticket}
-use Rattle.cx_login.specs.Opening.{generation_key}
+use Rattle.cx_rotate.specs.declared.generations.Generation.{Generation}
 use Rattle.cx_rotate.specs.Rotation.{additions}
 use Rattle.cx_rotate.specs.declared.states.KeptState.{KeptState}
 use Rattle.cx_sealed.specs.Records.{service_ticket_layout, ticket_info_layout}
@@ -81,16 +81,17 @@ abbrev pub info_key : List ℕ → List ℕ → EntityType → List ℕ
 info_key secret auth_session Auth = secret
 info_key secret auth_session _ = auth_session
 
-abbrev pub blob_sealed : Option (List ℕ) → Ticket → List SealEntry
+-- the blob, under the generation that was current when the ticket was made
+abbrev pub blob_sealed : Option Generation → Ticket → List SealEntry
 blob_sealed None ticket = []
-blob_sealed (Some key) ticket =
-    Sealed (record { key = key; kind = blob_kind ticket.service; content = service_ticket_layout.form.text (service_ticket_of ticket) }) ∷ []
+blob_sealed (Some generation) ticket =
+    Sealed (record { key = generation.key; kind = blob_kind ticket.service; content = service_ticket_layout.form.text (service_ticket_of ticket) }) ∷ []
 
--- a ticket: its session key is drawn, its blob is sealed by the generation that it names, its TicketInfo by the key that tells the entity
+-- a ticket: its session key is drawn, its blob is sealed by its generation, its TicketInfo by the key that tells the entity
 abbrev pub ticket_seals : Server → List ℕ → List ℕ → Ticket → List SealEntry
 ticket_seals server secret auth_session ticket =
     Drawn (draw.Session ticket.session ticket.entity)
-    ∷ blob_sealed (generation_key (generations_of server.state ticket.service) ticket.generation) ticket
+    ∷ blob_sealed (current_at ticket.created (generations_of server.state ticket.service)) ticket
     ++ Sealed (record {
       key = info_key secret auth_session ticket.service;
       kind = info_kind ticket.service;

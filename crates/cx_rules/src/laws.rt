@@ -3,9 +3,11 @@
 ghost use Rattle.std.specs.Prelude.{ℕ, List};
 ghost use Rattle.cx_rules.specs.ClientRule.{ClientNode, client_rule};
 ghost use Rattle.cx_rules.specs.Inputs.{Input};
-ghost use Rattle.cx_rules.specs.Judged.{IsJudged, NamesLinks};
-ghost use Rattle.cx_rules.specs.Monitor.{MonitorNode};
-ghost use Rattle.cx_rules.specs.MonitorRule.{monitor_rule};
+ghost use Rattle.cx_rules.specs.Connector as connector;
+ghost use Rattle.cx_rules.specs.Connector.{AskerArrival};
+ghost use Rattle.cx_rules.specs.Judged.{AskerLogsTurn, IsJudged, LogsTurn, NamesLinks};
+ghost use Rattle.cx_rules.specs.Monitor.{MonitorArrival, MonitorNode};
+ghost use Rattle.cx_rules.specs.MonitorRule.{monitor_rule, turned_at};
 
 /// Of every step of the monitor, and of a client.
 pub fn rule_laws()
@@ -15,4 +17,7 @@ pub fn rule_laws()
     // Effects name links that live, or the one that opens.
     ensures monitor_links { (m : MonitorNode) (input : Input) (reading : ℕ) (draw : List ℕ) → NamesLinks m input (monitor_rule m input reading draw).out }
     ensures client_links { (c : ClientNode) (input : Input) (reading : ℕ) (draw : List ℕ) → NamesLinks c input (client_rule c input reading draw).out }
+    // What a turn draws is logged.
+    ensures monitor_draws { (a : MonitorArrival) → LogsTurn a (turned_at a a.link.stage) }
+    ensures asker_draws { (a : AskerArrival) → AskerLogsTurn a (connector.turned_at a a.link.stage) }
 {}

@@ -1,3 +1,5 @@
+use Rattle.cx_rules.proofs.AskerDrawing.{asker-logs}
+use Rattle.cx_rules.proofs.Drawing.{monitor-logs}
 use Rattle.cx_rules.proofs.Naming.{client-names, monitor-judged, monitor-names}
 use Rattle.cx_rules.proofs.laws.rule_laws.Goals as goal
 
@@ -9,3 +11,9 @@ returns-clause-monitor_links c = monitor-names
 
 pub returns-clause-client_links : goal.returns-clause-client_links
 returns-clause-client_links c = client-names
+
+pub returns-clause-monitor_draws : goal.returns-clause-monitor_draws
+returns-clause-monitor_draws c = monitor-logs
+
+pub returns-clause-asker_draws : goal.returns-clause-asker_draws
+returns-clause-asker_draws c = λ a. asker-logs a a.link.stage
