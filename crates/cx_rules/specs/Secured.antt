@@ -1,9 +1,10 @@
 -- The keys of a connection, frames that are sealed under them, and the signatures by which both ends agree on all that came before
 -- ("msgr2 protocol": secure mode, and AUTH_SIGNATURE).
-use Rattle.std.specs.Prelude.{ℕ, ◌+◌, ◌-◌, ◌^◌, Bool, List, [], ◌∷◌, ◌++◌, length, take, nat_lt, Result, Ok, Err, if◌then◌else◌}
+use Rattle.std.specs.Prelude.{ℕ, ◌+◌, ◌-◌, ◌^◌, Bool, List, [], ◌∷◌, ◌++◌, length, slice_index, take, nat_lt, Result, Ok, Err, if◌then◌else◌}
 use Rattle.std.specs.Str.{bytes_eq}
 use Rattle.cx_control.specs.Auth.{auth_signature_layout}
 use Rattle.cx_digest.specs.Code.{hmac}
+use Rattle.cx_frame.specs.Banners.{number64}
 use Rattle.cx_frame.specs.Frames.{frame_text, total}
 use Rattle.cx_frame.specs.declared.frame.Frame.{Frame}
 use Rattle.cx_journal.specs.declared.faults.BytesFault.{BytesFault}
@@ -11,11 +12,21 @@ use Rattle.cx_journal.specs.declared.faults.BytesFault.TheVariants.{CounterSpent
 use Rattle.cx_journal.specs.declared.premises.KeyKind.TheVariants as kind
 use Rattle.cx_secure.specs.Parts.{nonce_at}
 use Rattle.cx_secure.specs.Plains.{plains, secure_text}
-use Rattle.cx_secure.specs.Sealings.{way_at}
-use Rattle.cx_secure.specs.declared.sealing.Way.{Way}
 use Rattle.cx_steps.specs.declared.seals.SealEntry.{SealEntry}
 use Rattle.cx_steps.specs.declared.seals.SealEntry.TheVariants as entry
 use Rattle.cx_rules.specs.Payloads.{control}
+
+-- the nonce of the next part that is sent or received: four fixed bytes and a counter
+pub record Way : Type 0 where
+  pub fixed : List ℕ
+  pub counter : ℕ
+
+-- the one that stands at a place of a connection secret
+abbrev pub way_at : List ℕ → ℕ → Way
+way_at secret i = record {
+  fixed = slice_index secret i ∷ slice_index secret (i + 1) ∷ slice_index secret (i + 2) ∷ slice_index secret (i + 3) ∷ [];
+  counter = number64 secret (i + 4);
+}
 
 -- the key of a connection, and the nonces with which this end sends and receives next
 pub record Keys : Type 0 where
