@@ -4,7 +4,7 @@ ghost use Rattle.std.specs.Prelude.{◌≡◌};
 ghost use Rattle.cx_caps.specs.Reading.{clause_allows};
 
 use crate::conditions::conditions_allow;
-use crate::cut::{first_word, is_word};
+use crate::cut::first_word;
 use crate::rights::{has_right, is_rights};
 use cx_base::Operation;
 
@@ -18,7 +18,7 @@ pub fn clause_allows(clause: &[u8], ask: &Operation) -> bool
     let Some((rights, rest)) = first_word(rest) else {
         return false;
     };
-    is_word(first, "allow")
+    first == b"allow".as_slice()
         && is_rights(rights)
         && has_right(rights, ask.access)
         && conditions_allow(rest, ask)

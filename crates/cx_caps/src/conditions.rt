@@ -4,7 +4,7 @@ ghost use Rattle.std.specs.Prelude.{◌≡◌, ◌≤◌, ◌∷◌, length, IfS
 ghost use Rattle.cx_caps.specs.Grammar.{is_met_by, words_of};
 ghost use Rattle.cx_caps.specs.Reading.{allows_by, condition_of, condition_on, conditions_from, in_front};
 
-use crate::cut::{first_word, is_word};
+use crate::cut::first_word;
 use crate::kinds::ConditionKind;
 use cx_base::{Operation, is_long_part};
 
@@ -76,7 +76,7 @@ fn first_condition<'a>(
     ensures some { IfSome result (λ found. conditions_from false (word.now ∷ words_of rest.now) ≡ in_front (Some (record { kind = found.0; value = found.1.now })) (conditions_from false (words_of found.2.now))) }
     ensures shorter { IfSome result (λ found. length found.2.now ≤ length rest.now) }
 {
-    if is_word(word, "object_prefix") {
+    if word == b"object_prefix".as_slice() {
         let (value, behind) = first_word(rest)?;
         if is_long_part(value) {
             return Some((ConditionKind::ObjectPrefix, value, behind));

@@ -2,7 +2,6 @@
 
 ghost use Rattle.std.specs.Prelude.{◌≡◌, ◌<◌, ◌≤◌, [], ◌∷◌, length, not, IfSome, MatchOption};
 ghost use Rattle.std.specs.List.{take_while};
-ghost use Rattle.std.specs.Str.{bytes_eq};
 ghost use Rattle.cx_caps.specs.Grammar.{is_space, words_of};
 
 /// The first word of a clause and what stands behind it.
@@ -31,11 +30,4 @@ fn word_len(bytes: &[u8]) -> usize
     ensures bound { result ≤ length bytes.now }
 {
     bytes.iter().take_while(|b| **b != b' ').count()
-}
-
-/// Whether the word is this text.
-pub fn is_word(word: &[u8], text: &str) -> bool
-    ensures { result ≡ bytes_eq word.now text.now }
-{
-    word == text.as_bytes()
 }

@@ -4,7 +4,6 @@ ghost use Rattle.std.specs.Prelude.{◌≡◌, ◌==◌, ◌&&◌};
 ghost use Rattle.std.specs.List.{list_any, list_all};
 ghost use Rattle.cx_caps.specs.Grammar.{count_of, has_right, is_letter, is_letters, is_rights, letter_of, letters_of};
 
-use crate::cut::is_word;
 use cx_base::Access;
 
 /// Whether the word gives rights: `*`, `all`, or one to three different letters of r, w and x.
@@ -25,10 +24,9 @@ pub fn has_right(word: &[u8], access: Access) -> bool
 fn letters_of(word: &[u8]) -> &[u8]
     ensures { result.now ≡ letters_of word.now }
 {
-    if is_word(word, "*") || is_word(word, "all") {
-        b"rwx"
-    } else {
-        word
+    match word {
+        b"*" | b"all" => b"rwx",
+        _ => word,
     }
 }
 
@@ -48,7 +46,7 @@ fn all_letters_once(word: &[u8]) -> bool
 fn is_letter(b: u8) -> bool
     ensures { result ≡ is_letter b }
 {
-    b == b'r' || b == b'w' || b == b'x'
+    matches!(b, b'r' | b'w' | b'x')
 }
 
 fn count_of(word: &[u8], b: u8) -> usize

@@ -3,7 +3,6 @@ pub mod BadMethod
 pub mod Calls
 pub mod Hello
 pub mod Idents
-pub mod KindByte
 pub mod Reconnects
 pub mod Refusing
 pub mod Upkeep

@@ -20,9 +20,6 @@ pub struct AuthRequest {
 }
 
 impl Encoded for AuthRequest {
-    ghost use Rattle.std.specs.Prelude.{length, ◌<◌, ◌^◌, ◌≤◌};
-    ghost use Rattle.cx_control.specs.Auth.{auth_request_layout};
-
     ghost layout = { auth_request_layout };
 
     ghost Bound = { λ a. (length a.modes ≤ 16) × (length a.payload < 2 ^ 32) };
@@ -71,9 +68,6 @@ pub struct AuthReplyMore {
 }
 
 impl Encoded for AuthReplyMore {
-    ghost use Rattle.std.specs.Prelude.{length, ◌<◌, ◌^◌};
-    ghost use Rattle.cx_control.specs.Auth.{auth_reply_more_layout};
-
     ghost layout = { auth_reply_more_layout };
 
     ghost Bound = { λ a. length a.payload < 2 ^ 32 };
@@ -115,9 +109,6 @@ pub struct AuthRequestMore {
 }
 
 impl Encoded for AuthRequestMore {
-    ghost use Rattle.std.specs.Prelude.{length, ◌<◌, ◌^◌};
-    ghost use Rattle.cx_control.specs.Auth.{auth_request_more_layout};
-
     ghost layout = { auth_request_more_layout };
 
     ghost Bound = { λ a. length a.payload < 2 ^ 32 };
@@ -161,9 +152,6 @@ pub struct AuthDone {
 }
 
 impl Encoded for AuthDone {
-    ghost use Rattle.std.specs.Prelude.{length, ◌<◌, ◌^◌};
-    ghost use Rattle.cx_control.specs.Auth.{auth_done_layout};
-
     ghost layout = { auth_done_layout };
 
     ghost Bound = { λ a. length a.payload < 2 ^ 32 };
@@ -205,8 +193,6 @@ pub struct AuthSignature {
 }
 
 impl Encoded for AuthSignature {
-    ghost use Rattle.cx_control.specs.Auth.{auth_signature_layout};
-
     ghost layout = { auth_signature_layout };
 
     fn read(_alloc: Global, cut: &mut Cut<'_>) -> Result<AuthSignature, ReadRefusal> {

@@ -1,6 +1,6 @@
 //! The refusal of an authentication.
 
-ghost use Rattle.std.specs.Prelude.{◌≡◌};
+ghost use Rattle.std.specs.Prelude.{◌≡◌, ℕ, List};
 ghost use Rattle.cx_control.specs.Calls.{IsPartReadBy, IsWholePutBy};
 ghost use Rattle.cx_control.specs.BadMethod.{bad_method_layout, kept_method, written_method, negated};
 
@@ -19,9 +19,6 @@ pub struct AuthBadMethod {
 }
 
 impl ReadsPart for AuthBadMethod {
-    ghost use Rattle.std.specs.Prelude.{ℕ, List};
-    ghost use Rattle.cx_control.specs.BadMethod.{bad_method_layout, kept_method};
-
     ghost Whole = { ℕ × (ℕ × (List ℕ × List ℕ)) };
 
     ghost whole = { bad_method_layout };
@@ -40,9 +37,6 @@ impl ReadsPart for AuthBadMethod {
 }
 
 impl WritesWhole for AuthBadMethod {
-    ghost use Rattle.std.specs.Prelude.{ℕ, List};
-    ghost use Rattle.cx_control.specs.BadMethod.{bad_method_layout, kept_method, written_method};
-
     ghost Written = { ℕ × (ℕ × (List ℕ × List ℕ)) };
 
     ghost whole = { bad_method_layout };

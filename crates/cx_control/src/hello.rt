@@ -3,11 +3,10 @@
 ghost use Rattle.cx_control.specs.Calls.{IsReadBy, IsPutBy};
 ghost use Rattle.cx_control.specs.Hello.{hello_layout};
 
-use crate::kind_bytes::{put_kind_byte, take_kind_byte};
 use crate::payloads::{put_payload, read_payload};
 use crate::refusals::WireRefusal;
 use cx_base::{Addr, Blob, EntityType};
-use cx_enc::{Cut, Encoded, ReadRefusal, put_addr};
+use cx_enc::{Cut, Encoded, ReadFault, ReadRefusal, kind_of, number_of, put_addr, put_u8};
 use std::alloc::{AllocError, Global};
 
 /// HELLO: the type of its sender, and an address of its peer, which is written with zeros and read as any.
@@ -18,19 +17,22 @@ pub struct Hello {
 }
 
 impl Encoded for Hello {
-    ghost use Rattle.cx_control.specs.Hello.{hello_layout};
-
     ghost layout = { hello_layout };
 
     fn read(_alloc: Global, cut: &mut Cut<'_>) -> Result<Hello, ReadRefusal> {
+        let place = cut.place();
+        let Some(kind) = kind_of(u32::from(cut.take_u8()?)) else {
+            return Err(ReadRefusal::Fault(ReadFault::BadField(place)));
+        };
         Ok(Hello {
-            kind: take_kind_byte(cut)?,
+            kind,
             addr: cut.take_addr()?,
         })
     }
 
+    #[tactic(auto, using(cx_enc::specs::FieldLaws::kind_again))]
     fn write(&self, alloc: Global, into: &mut Blob) -> Result<(), AllocError> {
-        put_kind_byte(alloc, into, self.kind)?;
+        put_u8(alloc, into, number_of(self.kind) as u8)?;
         put_addr(alloc, into, &self.addr)
     }
 }

@@ -26,8 +26,6 @@ pub struct ClientIdent {
 }
 
 impl Encoded for ClientIdent {
-    ghost use Rattle.cx_control.specs.Idents.{client_ident_layout};
-
     ghost layout = { client_ident_layout };
 
     fn read(_alloc: Global, cut: &mut Cut<'_>) -> Result<ClientIdent, ReadRefusal> {
@@ -91,8 +89,6 @@ pub struct ServerIdent {
 }
 
 impl Encoded for ServerIdent {
-    ghost use Rattle.cx_control.specs.Idents.{server_ident_layout};
-
     ghost layout = { server_ident_layout };
 
     fn read(_alloc: Global, cut: &mut Cut<'_>) -> Result<ServerIdent, ReadRefusal> {
@@ -146,8 +142,6 @@ pub struct IdentMissingFeatures {
 }
 
 impl Encoded for IdentMissingFeatures {
-    ghost use Rattle.cx_control.specs.Idents.{ident_missing_features_layout};
-
     ghost layout = { ident_missing_features_layout };
 
     fn read(_alloc: Global, cut: &mut Cut<'_>) -> Result<IdentMissingFeatures, ReadRefusal> {

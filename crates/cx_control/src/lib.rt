@@ -6,7 +6,6 @@ mod bad_method;
 mod copies;
 mod hello;
 mod idents;
-mod kind_bytes;
 mod payloads;
 mod reconnects;
 mod refusals;
@@ -41,24 +40,10 @@ pub use upkeep::{
 fn is_sendable<T: Send + Sync>() {}
 
 fn all_are_sendable() {
-    is_sendable::<Hello>();
-    is_sendable::<AuthRequest>();
-    is_sendable::<AuthBadMethod>();
-    is_sendable::<AuthReplyMore>();
-    is_sendable::<AuthRequestMore>();
-    is_sendable::<AuthDone>();
-    is_sendable::<AuthSignature>();
-    is_sendable::<ClientIdent>();
-    is_sendable::<ServerIdent>();
-    is_sendable::<IdentMissingFeatures>();
-    is_sendable::<SessionReconnect>();
-    is_sendable::<SessionReset>();
-    is_sendable::<SessionRetry>();
-    is_sendable::<SessionRetryGlobal>();
-    is_sendable::<SessionReconnectOk>();
-    is_sendable::<Wait>();
-    is_sendable::<Keepalive2>();
-    is_sendable::<Keepalive2Ack>();
-    is_sendable::<Ack>();
-    is_sendable::<WireRefusal>();
+    is_sendable::<(Hello, AuthRequest, AuthBadMethod, AuthReplyMore)>();
+    is_sendable::<(AuthRequestMore, AuthDone, AuthSignature, ClientIdent)>();
+    is_sendable::<(ServerIdent, IdentMissingFeatures, SessionReconnect)>();
+    is_sendable::<(SessionReset, SessionRetry, SessionRetryGlobal)>();
+    is_sendable::<(SessionReconnectOk, Wait, Keepalive2, Keepalive2Ack)>();
+    is_sendable::<(Ack, WireRefusal)>();
 }

@@ -22,8 +22,6 @@ pub struct SessionReconnect {
 }
 
 impl Encoded for SessionReconnect {
-    ghost use Rattle.cx_control.specs.Reconnects.{session_reconnect_layout};
-
     ghost layout = { session_reconnect_layout };
 
     fn read(_alloc: Global, cut: &mut Cut<'_>) -> Result<SessionReconnect, ReadRefusal> {
@@ -75,8 +73,6 @@ pub struct SessionReset {
 }
 
 impl Encoded for SessionReset {
-    ghost use Rattle.cx_control.specs.Reconnects.{session_reset_layout};
-
     ghost layout = { session_reset_layout };
 
     fn read(_alloc: Global, cut: &mut Cut<'_>) -> Result<SessionReset, ReadRefusal> {
@@ -115,8 +111,6 @@ pub struct SessionRetry {
 }
 
 impl Encoded for SessionRetry {
-    ghost use Rattle.cx_control.specs.Reconnects.{session_retry_layout};
-
     ghost layout = { session_retry_layout };
 
     fn read(_alloc: Global, cut: &mut Cut<'_>) -> Result<SessionRetry, ReadRefusal> {
@@ -155,8 +149,6 @@ pub struct SessionRetryGlobal {
 }
 
 impl Encoded for SessionRetryGlobal {
-    ghost use Rattle.cx_control.specs.Reconnects.{session_retry_global_layout};
-
     ghost layout = { session_retry_global_layout };
 
     fn read(_alloc: Global, cut: &mut Cut<'_>) -> Result<SessionRetryGlobal, ReadRefusal> {
@@ -198,8 +190,6 @@ pub struct SessionReconnectOk {
 }
 
 impl Encoded for SessionReconnectOk {
-    ghost use Rattle.cx_control.specs.Reconnects.{session_reconnect_ok_layout};
-
     ghost layout = { session_reconnect_ok_layout };
 
     fn read(_alloc: Global, cut: &mut Cut<'_>) -> Result<SessionReconnectOk, ReadRefusal> {

@@ -15,16 +15,14 @@ use std::alloc::{AllocError, Global};
 pub struct Wait;
 
 impl Encoded for Wait {
-    ghost use Rattle.cx_control.specs.Upkeep.{wait_layout};
-
     ghost layout = { wait_layout };
 
     fn read(_alloc: Global, _cut: &mut Cut<'_>) -> Result<Wait, ReadRefusal> {
         Ok(Wait)
     }
 
-    fn write(&self, alloc: Global, into: &mut Blob) -> Result<(), AllocError> {
-        into.append(alloc, &[])
+    fn write(&self, _alloc: Global, _into: &mut Blob) -> Result<(), AllocError> {
+        Ok(())
     }
 }
 
@@ -49,9 +47,6 @@ pub struct Keepalive2 {
 }
 
 impl Encoded for Keepalive2 {
-    ghost use Rattle.cx_enc.specs.Moments.{IsReading};
-    ghost use Rattle.cx_control.specs.Upkeep.{keepalive2_layout};
-
     ghost layout = { keepalive2_layout };
 
     ghost Bound = { λ k. IsReading k.time };
@@ -89,9 +84,6 @@ pub struct Keepalive2Ack {
 }
 
 impl Encoded for Keepalive2Ack {
-    ghost use Rattle.cx_enc.specs.Moments.{IsReading};
-    ghost use Rattle.cx_control.specs.Upkeep.{keepalive2_ack_layout};
-
     ghost layout = { keepalive2_ack_layout };
 
     ghost Bound = { λ k. IsReading k.time };
@@ -133,8 +125,6 @@ pub struct Ack {
 }
 
 impl Encoded for Ack {
-    ghost use Rattle.cx_control.specs.Upkeep.{ack_layout};
-
     ghost layout = { ack_layout };
 
     fn read(_alloc: Global, cut: &mut Cut<'_>) -> Result<Ack, ReadRefusal> {

@@ -1,5 +1,5 @@
 //! The message code, HMAC with SHA-256.
-ghost use Rattle.std.specs.Prelude.{◌≡◌, ℕ, ◌≤◌, List, [], ◌++◌, length, slice_index};
+ghost use Rattle.std.specs.Prelude.{◌≡◌, ℕ, ◌≤◌, List, [], ◌++◌, length};
 ghost use Rattle.cx_digest.specs.Code.{hmac, masked};
 
 use sha2::{Digest, Sha256};
@@ -65,16 +65,9 @@ fn masked(pad: u8, key: &[u8]) -> [u8; 64]
 {
     let mut block = [0; 64];
     for place in 0..64usize {
-        block[place] = pad ^ byte_at(key, place);
+        block[place] = pad ^ key.get(place).copied().unwrap_or(0);
     }
     block
-}
-
-// The byte at this place, 0 past the end.
-fn byte_at(bytes: &[u8], place: usize) -> u8
-    ensures { result ≡ slice_index bytes.now place }
-{
-    if place < bytes.len() { bytes[place] } else { 0 }
 }
 
 // Values of `T` may be sent to another thread, and shared between threads.

@@ -41,15 +41,9 @@ fn block_at(bytes: &[u8], start: usize) -> [u8; 16]
 {
     let mut block = [0u8; 16];
     for k in 0..16usize {
-        block[k] = byte_at(bytes, start + k);
+        block[k] = bytes.get(start + k).copied().unwrap_or(0);
     }
     block
-}
-
-fn byte_at(bytes: &[u8], k: usize) -> u8
-    ensures { result ≡ slice_index bytes.now k }
-{
-    if k < bytes.len() { bytes[k] } else { 0 }
 }
 
 // All sixteen differences are looked at, whatever the first ones are.

@@ -71,16 +71,13 @@ fn caps_text(alloc: Global, text: &[u8]) -> Result<Option<Text>, AllocError>
 fn is_skipped(line: &[u8]) -> bool
     ensures { result ≡ is_skipped line.now }
 {
-    if line.is_empty() {
-        return true;
-    }
-    line[0] == b'#' || line[0] == b';'
+    matches!(line, [] | [b'#' | b';', ..])
 }
 
 fn is_bracketed(line: &[u8]) -> bool
     ensures { result ≡ is_bracketed line.now }
 {
-    line.len() >= 2 && line[0] == b'[' && line[line.len() - 1] == b']'
+    matches!(line, [b'[', .., b']'])
 }
 
 fn begins_caps(left: &[u8]) -> bool
@@ -146,5 +143,5 @@ fn without_back(text: &[u8]) -> &[u8]
 fn is_blank(b: u8) -> bool
     ensures { result ≡ is_blank b }
 {
-    b == b' ' || b == b'\t'
+    matches!(b, b' ' | b'\t')
 }

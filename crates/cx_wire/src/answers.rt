@@ -1,10 +1,8 @@
 //! The body by which a daemon answers an operation.
 
 ghost use Rattle.std.specs.Prelude.{length, ◌≤◌};
-ghost use Rattle.cx_enc.specs.Layouts.{only_if, u8_field};
-ghost use Rattle.cx_enc.specs.Reading.{spot, Reads};
 ghost use Rattle.cx_control.specs.Calls.{IsReadBy, IsPutBy};
-ghost use Rattle.cx_wire.specs.Operations.{answer_layout, is_outcome};
+ghost use Rattle.cx_wire.specs.Operations.{answer_layout};
 
 use crate::operations::take_data;
 use cx_base::Blob;
@@ -20,16 +18,18 @@ pub struct Answer {
 }
 
 impl Encoded for Answer {
-    ghost use Rattle.std.specs.Prelude.{length, ◌≤◌};
-    ghost use Rattle.cx_wire.specs.Operations.{answer_layout};
-
     ghost layout = { answer_layout };
 
     ghost Bound = { λ a. (a.outcome ≤ 2) × (length a.bytes ≤ 65536) };
 
     fn read(alloc: Global, cut: &mut Cut<'_>) -> Result<Answer, ReadRefusal> {
+        let place = cut.place();
+        let outcome = cut.take_u8()?;
+        if outcome > 2 {
+            return Err(ReadRefusal::Fault(ReadFault::BadField(place)));
+        }
         Ok(Answer {
-            outcome: take_outcome(cut)?,
+            outcome,
             bytes: Blob::of(alloc, take_data(cut)?)?,
         })
     }
@@ -38,20 +38,6 @@ impl Encoded for Answer {
         put_u8(alloc, into, self.outcome)?;
         put_blob(alloc, into, self.bytes.bytes())
     }
-}
-
-// An outcome, one byte, at most 2.
-fn take_outcome(cut: &mut Cut<'_>) -> Result<u8, ReadFault>
-    ensures { Reads (spot cut.old) (spot cut.new) result ((only_if is_outcome u8_field).form.at (spot cut.old)) }
-{
-    let mut at = *cut;
-    let place = at.place();
-    let outcome = at.take_u8()?;
-    if outcome > 2 {
-        return Err(ReadFault::BadField(place));
-    }
-    *cut = at;
-    Ok(outcome)
 }
 
 /// Reads the body of message 43.

@@ -21,9 +21,6 @@ pub struct Authorizer {
 }
 
 impl Encoded for Authorizer {
-    ghost use Rattle.std.specs.Prelude.{length, ◌<◌, ◌^◌};
-    ghost use Rattle.cx_wire.specs.Logins.{authorizer_layout};
-
     ghost layout = { authorizer_layout };
 
     ghost Bound = { λ a. (length a.ticket.blob < 2 ^ 32) × (length a.authorize < 2 ^ 32) };
@@ -70,9 +67,6 @@ pub struct AuthorizeChallenge {
 }
 
 impl Encoded for AuthorizeChallenge {
-    ghost use Rattle.std.specs.Prelude.{length, ◌<◌, ◌^◌};
-    ghost use Rattle.cx_wire.specs.Logins.{authorize_challenge_layout};
-
     ghost layout = { authorize_challenge_layout };
 
     ghost Bound = { λ c. length c.sealed < 2 ^ 32 };
@@ -117,9 +111,6 @@ pub struct AuthorizeReply {
 }
 
 impl Encoded for AuthorizeReply {
-    ghost use Rattle.std.specs.Prelude.{length, ◌<◌, ◌^◌};
-    ghost use Rattle.cx_wire.specs.Logins.{authorize_reply_layout};
-
     ghost layout = { authorize_reply_layout };
 
     ghost Bound = { λ r. length r.sealed < 2 ^ 32 };

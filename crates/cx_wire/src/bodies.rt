@@ -3,7 +3,7 @@
 ghost use Rattle.std.specs.Prelude.{Some};
 ghost use Rattle.cx_base.specs.declared.kinds.EntityType.TheVariants.{Auth};
 ghost use Rattle.cx_control.specs.Calls.{IsPutBy};
-ghost use Rattle.cx_wire.specs.Bodies.{request_layout, reply_layout, IsShortReply};
+ghost use Rattle.cx_wire.specs.Bodies.{request_layout, reply_layout, IsShortReply, request_content, reply_content};
 ghost use Rattle.cx_wire.specs.BodyCalls.{IsBodyReadBy};
 
 use crate::contents::{ROTATING, TICKETS, put_body, read_body};
@@ -25,8 +25,6 @@ pub enum Request {
 }
 
 impl Encoded for Request {
-    ghost use Rattle.cx_wire.specs.Bodies.{request_content};
-
     ghost layout = { request_content };
 
     fn read(_alloc: Global, cut: &mut Cut<'_>) -> Result<Request, ReadRefusal> {
@@ -83,8 +81,6 @@ pub enum Reply {
 }
 
 impl Encoded for Reply {
-    ghost use Rattle.cx_wire.specs.Bodies.{reply_content, IsShortReply};
-
     ghost layout = { reply_content };
 
     ghost Bound = { IsShortReply };

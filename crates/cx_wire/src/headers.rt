@@ -3,7 +3,7 @@
 ghost use Rattle.std.specs.Prelude.{◌≡◌, ◌++◌, ◌↔◌, [], IsOk, IfErr, OnOk};
 ghost use Rattle.cx_control.specs.Calls.{IsPartReadBy, IsWholePutBy};
 ghost use Rattle.cx_control.specs.declared.refusals.WireRefusal.TheVariants.{Malformed};
-ghost use Rattle.cx_wire.specs.Headers.{header_layout, kept_header, written_header, rest_layout, written_rest};
+ghost use Rattle.cx_wire.specs.Headers.{header_layout, kept_header, written_header, rest_layout, written_rest, Fields};
 
 use cx_base::Blob;
 use cx_control::{WireRefusal, WritesWhole, put_payload_whole, read_payload_part};
@@ -32,8 +32,6 @@ pub struct Header {
 }
 
 impl ReadsPart for Header {
-    ghost use Rattle.cx_wire.specs.Headers.{Fields, header_layout, kept_header};
-
     ghost Whole = { Fields };
 
     ghost whole = { header_layout };
@@ -57,8 +55,6 @@ impl ReadsPart for Header {
 }
 
 impl WritesWhole for Header {
-    ghost use Rattle.cx_wire.specs.Headers.{Fields, header_layout, kept_header, written_header};
-
     ghost Written = { Fields };
 
     ghost whole = { header_layout };

@@ -33,17 +33,8 @@ pub use tickets::TicketPart;
 fn is_sendable<T: Send + Sync>() {}
 
 fn all_are_sendable() {
-    is_sendable::<LoginHello>();
-    is_sendable::<ServerChallenge>();
-    is_sendable::<Authenticate>();
-    is_sendable::<LoginDone>();
-    is_sendable::<TicketPart>();
-    is_sendable::<Authorizer>();
-    is_sendable::<AuthorizeChallenge>();
-    is_sendable::<AuthorizeReply>();
-    is_sendable::<Header>();
-    is_sendable::<Request>();
-    is_sendable::<Reply>();
-    is_sendable::<Answer>();
-    is_sendable::<BodyRefusal>();
+    is_sendable::<(LoginHello, ServerChallenge, Authenticate)>();
+    is_sendable::<(LoginDone, TicketPart, Authorizer)>();
+    is_sendable::<(AuthorizeChallenge, AuthorizeReply, Header)>();
+    is_sendable::<(Request, Reply, Answer, BodyRefusal)>();
 }

@@ -1,8 +1,6 @@
 //! The payloads of a login at the monitor.
 
 ghost use Rattle.std.specs.Prelude.{length, ◌≤◌, ◌<◌, ◌^◌, IsTrue, None};
-ghost use Rattle.cx_enc.specs.Layouts.{only_if, u8_field};
-ghost use Rattle.cx_enc.specs.Reading.{spot, Reads};
 ghost use Rattle.cx_control.specs.Calls.{IsReadBy, IsPutBy};
 ghost use Rattle.cx_wire.specs.Logins.{login_hello_layout, server_challenge_layout, authenticate_layout, is_version, login_done_layout};
 ghost use Rattle.cx_wire.specs.Services.{AreTickets};
@@ -24,8 +22,6 @@ pub struct LoginHello {
 }
 
 impl Encoded for LoginHello {
-    ghost use Rattle.cx_wire.specs.Logins.{login_hello_layout};
-
     ghost layout = { login_hello_layout };
 
     fn read(alloc: Global, cut: &mut Cut<'_>) -> Result<LoginHello, ReadRefusal> {
@@ -64,8 +60,6 @@ pub struct ServerChallenge {
 }
 
 impl Encoded for ServerChallenge {
-    ghost use Rattle.cx_wire.specs.Logins.{server_challenge_layout};
-
     ghost layout = { server_challenge_layout };
 
     fn read(_alloc: Global, cut: &mut Cut<'_>) -> Result<ServerChallenge, ReadRefusal> {
@@ -112,17 +106,19 @@ pub struct Authenticate {
 }
 
 impl Encoded for Authenticate {
-    ghost use Rattle.std.specs.Prelude.{length, ◌<◌, ◌^◌, IsTrue};
-    ghost use Rattle.cx_wire.specs.Logins.{authenticate_layout, is_version};
-
     ghost layout = { authenticate_layout };
 
     ghost Bound = { λ a. IsTrue (is_version a.version) × (length a.old_ticket.blob < 2 ^ 32) };
 
     fn read(alloc: Global, cut: &mut Cut<'_>) -> Result<Authenticate, ReadRefusal> {
         cut.take_fixed_u16(0x0100)?;
+        let place = cut.place();
+        let version = cut.take_u8()?;
+        if version != 2 && version != 3 {
+            return Err(ReadRefusal::Fault(ReadFault::BadField(place)));
+        }
         Ok(Authenticate {
-            version: take_version(cut)?,
+            version,
             client_challenge: cut.take_u64()?,
             key: cut.take_u64()?,
             old_ticket: cut.take_ticket()?.own(alloc)?,
@@ -138,20 +134,6 @@ impl Encoded for Authenticate {
         put_ticket(alloc, into, &self.old_ticket)?;
         put_u32(alloc, into, self.other_keys)
     }
-}
-
-// The version of an Authenticate, one byte, 2 or 3.
-fn take_version(cut: &mut Cut<'_>) -> Result<u8, ReadFault>
-    ensures { Reads (spot cut.old) (spot cut.new) result ((only_if is_version u8_field).form.at (spot cut.old)) }
-{
-    let mut at = *cut;
-    let place = at.place();
-    let version = at.take_u8()?;
-    if version != 2 && version != 3 {
-        return Err(ReadFault::BadField(place));
-    }
-    *cut = at;
-    Ok(version)
 }
 
 /// Reads an Authenticate.
@@ -183,10 +165,6 @@ pub struct LoginDone {
 }
 
 impl Encoded for LoginDone {
-    ghost use Rattle.std.specs.Prelude.{length, ◌≤◌, ◌<◌, ◌^◌, None};
-    ghost use Rattle.cx_wire.specs.Logins.{login_done_layout};
-    ghost use Rattle.cx_wire.specs.Services.{AreTickets};
-
     ghost layout = { login_done_layout };
 
     ghost Bound = { λ d. (1 ≤ length d.tickets) × AreTickets None d.tickets × (length d.connection_secret < 2 ^ 32) };

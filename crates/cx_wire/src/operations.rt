@@ -3,9 +3,11 @@
 ghost use Rattle.std.specs.Prelude.{◌≡◌, ◌++◌, OnOk, OnErr, IfOk, None};
 ghost use Rattle.std.specs.List.{position};
 ghost use Rattle.cx_base.specs.Owners.{is_above_ascii};
-ghost use Rattle.cx_enc.specs.Reading.{spot, Reads, ReadsAs};
+ghost use Rattle.cx_enc.specs.Reading.{spot, ReadsAs};
+ghost use Rattle.cx_enc.specs.Whole.{GivesInPlace};
 ghost use Rattle.cx_control.specs.Calls.{IsReadBy, IsPutBy};
 ghost use Rattle.cx_wire.specs.Operations.{access_number, access_of, access_field, part_field, data_field, operation_layout, IsWritable};
+ghost use Rattle.cx_wire.specs.Asked.{asked_layout};
 
 use cx_base::{Access, Blob, Operation, Text, is_part};
 use cx_control::{WireRefusal, read_payload};
@@ -19,9 +21,6 @@ struct Asked {
 }
 
 impl Encoded for Asked {
-    ghost use Rattle.cx_wire.specs.Asked.{asked_layout};
-    ghost use Rattle.cx_wire.specs.Operations.{IsWritable};
-
     ghost layout = { asked_layout };
 
     ghost Bound = { λ asked. IsWritable asked.ask };
@@ -57,18 +56,15 @@ fn write_operation(alloc: Global, into: &mut Blob, ask: &Operation) -> Result<()
 
 // An access, one byte.
 fn take_access(cut: &mut Cut<'_>) -> Result<Access, ReadFault>
-    ensures { Reads (spot cut.old) (spot cut.new) result (access_field.form.at (spot cut.old)) }
+    ensures { GivesInPlace (spot cut.new) result (access_field.form.at (spot cut.old)) }
 {
-    let mut at = *cut;
-    let place = at.place();
-    let access = match at.take_u8()? {
-        1 => Access::Read,
-        2 => Access::Write,
-        4 => Access::Exec,
-        _ => return Err(ReadFault::BadField(place)),
-    };
-    *cut = at;
-    Ok(access)
+    let place = cut.place();
+    match cut.take_u8()? {
+        1 => Ok(Access::Read),
+        2 => Ok(Access::Write),
+        4 => Ok(Access::Exec),
+        _ => Err(ReadFault::BadField(place)),
+    }
 }
 
 fn access_number(access: Access) -> u8

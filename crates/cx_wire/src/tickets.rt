@@ -1,7 +1,7 @@
 //! Entries of a list of tickets.
 
 ghost use Rattle.std.specs.Prelude.{◌≡◌};
-ghost use Rattle.cx_wire.specs.Services.{rank, follows};
+ghost use Rattle.cx_wire.specs.Services.{rank, follows, ticket_part_layout, behind, IsNextTicket};
 
 use cx_base::{Blob, EntityType};
 use cx_enc::{
@@ -18,8 +18,6 @@ pub struct TicketPart {
 }
 
 impl Chained<Option<EntityType>> for TicketPart {
-    ghost use Rattle.cx_wire.specs.Services.{ticket_part_layout, behind, IsNextTicket};
-
     ghost layout = { ticket_part_layout };
 
     ghost next = { behind };
