@@ -1,7 +1,7 @@
 //! The calls of a book as values, and their answers.
 
 ghost use Rattle.std.specs.Prelude.{◌≡◌, ◌≢◌};
-ghost use Rattle.cx_session.specs.Answers.{refused_admission, refused_resumption, refused_message, replied, after, IsAnswer};
+ghost use Rattle.cx_session.specs.Answers.{refused_admission, refused_resumption, message_reply, replied, after, IsAnswer};
 
 use crate::book::SessionBook;
 use crate::call::{BookCall, BookFault, BookReply};
@@ -56,14 +56,8 @@ impl<O: Owner> SessionBook<O> {
                 },
                 Err(refusal) => refused_resumption(refusal.fault),
             },
-            BookCall::Check { number, epoch, seq } => match self.check(number, epoch, seq) {
-                Ok(()) => BookReply::Fine,
-                Err(refusal) => refused_message(refusal),
-            },
-            BookCall::Take { number, epoch, seq } => match self.take(number, epoch, seq) {
-                Ok(()) => BookReply::Fine,
-                Err(refusal) => refused_message(refusal),
-            },
+            BookCall::Check { number, epoch, seq } => message_reply(self.check(number, epoch, seq)),
+            BookCall::Take { number, epoch, seq } => message_reply(self.take(number, epoch, seq)),
             BookCall::End { number } => BookReply::Ended(self.end(number)),
         }
     }
@@ -96,12 +90,13 @@ fn refused_resumption(fault: ResumeFault) -> BookReply
     }
 }
 
-fn refused_message(refusal: TakeRefusal) -> BookReply
-    ensures { result ≡ refused_message refusal }
+fn message_reply(answer: Result<(), TakeRefusal>) -> BookReply
+    ensures { result ≡ message_reply answer }
 {
-    match refusal {
-        TakeRefusal::Stale { epoch } => BookReply::Refused(BookFault::Stale { epoch }),
-        TakeRefusal::Repeat { last } => BookReply::Refused(BookFault::Repeat { last }),
-        TakeRefusal::Gap { expected } => BookReply::Refused(BookFault::Gap { expected }),
+    match answer {
+        Ok(()) => BookReply::Fine,
+        Err(TakeRefusal::Stale { epoch }) => BookReply::Refused(BookFault::Stale { epoch }),
+        Err(TakeRefusal::Repeat { last }) => BookReply::Refused(BookFault::Repeat { last }),
+        Err(TakeRefusal::Gap { expected }) => BookReply::Refused(BookFault::Gap { expected }),
     }
 }
