@@ -8,14 +8,20 @@ use Rattle.cx_frame.specs.Preambles.{IsAllowed, preamble_of, preamble_text}
 use Rattle.cx_frame.proofs.FrameLaws.{length-preamble_text, same_fronts}
 use Rattle.cx_frame.proofs.RestLaws.{few_others, framed, no_frame}
 use Rattle.cx_secure.specs.declared.sealing.Head.{Head}
+use Rattle.cx_secure.specs.declared.sealing.Sealing.{Sealing}
 use Rattle.cx_secure.specs.declared.refusals.SecureRefusal.{SecureRefusal}
-use Rattle.cx_secure.specs.Opening.{IsFixed, IsSplit, head_of, rest_of}
-use Rattle.cx_secure.specs.Parts.{nonce_at, opened, part, sealed_parts}
+use Rattle.cx_secure.specs.Opening.{IsSplit, head_of, rest_of}
+use Rattle.cx_secure.specs.Parts.{IsFixed, nonce_at, opened, part, sealed_parts}
 use Rattle.cx_secure.specs.Plains.{inline_of, last_len, last_plain, nonempty, one_if, rest_len, second_len, second_plain, secure_text, tagged}
+use Rattle.cx_secure.specs.Sealings.{connection_key}
 use Rattle.cx_secure.proofs.HeadLaws.{nonce_is, opened_again}
 use Rattle.cx_secure.proofs.PartLaws.{sealed-append}
 use Rattle.cx_secure.proofs.PlainLaws.{inline_len}
 use Rattle.cx_secure.proofs.SealedLaws.{last_is, length-part, length-sealed, parts_is, rest_again, second_is}
+
+-- the key of a sealing has 16 bytes, and its nonces four fixed ones
+pub sealing_keyed : (s : Sealing) → IsBlock (connection_key s) × IsFixed s.out.fixed × IsFixed s.into.fixed
+sealing_keyed s = (s.key.schedule.expanded.block, s.out.four, s.into.four)
 
 framed_split : (key fixed : List ℕ) (counter t : ℕ) (s : Segment) (ss : List Segment) → IsBlock key → IsFixed fixed → IsAllowed 1048576 (preamble_of (framed t s ss)) → IsSplit key fixed counter (framed t s ss)
 unfolding sealed_parts rest_len

@@ -1,5 +1,5 @@
 -- Opening a secure frame: first its head, then its rest.
-use Rattle.std.specs.Prelude.{ℕ, ◌≡◌, ◌+◌, ◌-◌, ◌^◌, ◌<◌, List, ◌∷◌, ◌++◌, length, slice_index, take, drop, Option, Some, None, Result, Ok, Err, nat_lt, if◌then◌else◌}
+use Rattle.std.specs.Prelude.{ℕ, ◌≡◌, ◌+◌, ◌-◌, ◌^◌, List, ◌∷◌, ◌++◌, length, take, drop, Option, Some, None, Result, Ok, Err, nat_lt, if◌then◌else◌}
 use Rattle.cx_frame.specs.declared.frame.Frame.{Frame}
 use Rattle.cx_frame.specs.declared.preamble.Preamble.{Preamble}
 use Rattle.cx_frame.specs.declared.refusals.FrameRefusal.{FrameRefusal}
@@ -65,11 +65,6 @@ pub record IsRestBehind (key fixed : List ℕ) (counter : ℕ) (h : Head) (bytes
   pub text : bytes ≡ sealed_parts key fixed counter others
 
 -- ---- a whole frame
-
--- the four fixed bytes of a nonce
-pub record IsFixed (fixed : List ℕ) : Type 0 where
-  pub len : length fixed ≡ 4
-  pub bytes : (i : ℕ) → slice_index fixed i < 256
 
 -- a secure frame is the 96 bytes of a head and, as many as that says, the bytes of its rest
 pub record IsSplit (key fixed : List ℕ) (counter : ℕ) (f : Frame) : Type 0 where

@@ -1,11 +1,16 @@
 -- The parts that travel ("msgr2 protocol", secure mode): each is sealed by AES-128-GCM under the key of the connection and a nonce of its
 -- own, which holds a counter that rises by one a part.
-use Rattle.std.specs.Prelude.{ℕ, ◌+◌, ◌-◌, ◌==◌, List, [], ◌∷◌, ◌++◌, length, take, drop, Option, Some, None, if◌then◌else◌}
+use Rattle.std.specs.Prelude.{ℕ, ◌≡◌, ◌+◌, ◌-◌, ◌<◌, ◌==◌, List, [], ◌∷◌, ◌++◌, length, slice_index, take, drop, Option, Some, None, if◌then◌else◌}
 use Rattle.std.specs.Int.{w64, to_le_bytes}
 use Rattle.std.specs.Str.{bytes_eq}
 use Rattle.cx_gcm.specs.Gcm.{gctr, nonce_block, raised, tag_of}
 
--- the nonce of the part with this counter: four fixed bytes, and the counter in eight
+-- the four fixed bytes of a nonce
+pub record IsFixed (fixed : List ℕ) : Type 0 where
+  pub len : length fixed ≡ 4
+  pub bytes : (i : ℕ) → slice_index fixed i < 256
+
+-- the nonce of the part with this counter: these four bytes, and the counter in eight
 unfoldable pub nonce_at : List ℕ → ℕ → List ℕ
 nonce_at fixed counter = fixed ++ to_le_bytes w64 counter
 

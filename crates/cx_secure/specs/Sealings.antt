@@ -16,19 +16,17 @@ use Rattle.cx_secure.specs.declared.refusals.SecureRefusal.TheVariants.{CounterS
 abbrev pub connection_key : Sealing → List ℕ
 connection_key s = gcm_key_of s.key
 
--- the first nonce of a side, at a place of the connection's secret: four fixed bytes and a counter
-abbrev pub way_at : List ℕ → ℕ → Way
-way_at secret i = record {
-  fixed = slice_index secret i ∷ slice_index secret (i + 1) ∷ slice_index secret (i + 2) ∷ slice_index secret (i + 3) ∷ [];
-  counter = number64 secret (i + 4);
-}
+-- a way begins with the nonce at a place of the connection's secret: four fixed bytes and a counter
+pub record IsWayAt (secret : List ℕ) (i : ℕ) (w : Way) : Type 0 where
+  pub fixed : w.fixed ≡ slice_index secret i ∷ slice_index secret (i + 1) ∷ slice_index secret (i + 2) ∷ slice_index secret (i + 3) ∷ []
+  pub counter : w.counter ≡ number64 secret (i + 4)
 
 -- the sealing of a side: the first 16 bytes of the secret are the key, the acceptor sends from the nonce at byte 16 on, and the
 -- connector from the one at byte 28 on
 pub record Starts (secret : List ℕ) (connector : Bool) (s : Sealing) : Type 0 where
   pub key : connection_key s ≡ take 16 secret
-  pub out : s.out ≡ way_at secret (if connector then 28 else 16)
-  pub into : s.into ≡ way_at secret (if connector then 16 else 28)
+  pub out : IsWayAt secret (if connector then 28 else 16) s.out
+  pub into : IsWayAt secret (if connector then 16 else 28) s.into
   pub kept : s.kept ≡ None
 
 -- a refusal that is kept is the answer

@@ -50,7 +50,7 @@ impl Sealing {
         }
         let head = head_step(&self.key, &self.into, bytes);
         match head {
-            Ok(_) => self.into.counter += 1,
+            Ok(_) => self.into.raise(1),
             Err(refusal) => self.kept = Some(refusal),
         }
         head
@@ -79,7 +79,7 @@ impl Sealing {
         }
         match rest_step(alloc, &self.key, &self.into, &head, bytes) {
             Ok(frame) => {
-                self.into.counter += rest_parts(&head.preamble);
+                self.into.raise(rest_parts(&head.preamble));
                 Ok(frame)
             }
             Err(SecureRefusal::OutOfMemory) => Err(SecureRefusal::OutOfMemory),

@@ -51,7 +51,7 @@ impl Sealing {
         }
         let text = sealed(alloc, &self.key, &self.out, frame)?;
         into.append(alloc, text.bytes())?;
-        self.out.counter += parts;
+        self.out.raise(parts);
         Ok(())
     }
 }

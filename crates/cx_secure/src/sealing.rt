@@ -1,5 +1,7 @@
 //! What one end of a connection holds to seal and to open.
 
+ghost use Rattle.cx_secure.specs.Parts.{IsFixed};
+
 use crate::refusals::SecureRefusal;
 use cx_frame::Preamble;
 use cx_gcm::GcmKey;
@@ -9,6 +11,19 @@ use cx_gcm::GcmKey;
 pub struct Way {
     pub(crate) fixed: [u8; 4],
     pub(crate) counter: u64,
+    pub ghost four: { IsFixed fixed },
+}
+
+impl Way {
+    ghost use Rattle.std.specs.Prelude.{◌≡◌, ◌+◌, ◌<◌, ◌^◌};
+
+    // So many parts more were sealed or opened.
+    pub(crate) fn raise(&mut self, parts: u64)
+        requires { self.old.counter + parts < 2 ^ 64 }
+        ensures { self.new ≡ record self.old { counter = self.old.counter + parts } }
+    {
+        self.counter += parts;
+    }
 }
 
 /// The head of a secure frame: its preamble, and the first 48 bytes of its first segment with their fill.

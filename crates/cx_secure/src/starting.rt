@@ -2,7 +2,7 @@
 
 ghost use Rattle.std.specs.Prelude.{◌≡◌, take};
 ghost use Rattle.cx_gcm.specs.GcmKeyOf.{gcm_key_of};
-ghost use Rattle.cx_secure.specs.Sealings.{Starts, way_at};
+ghost use Rattle.cx_secure.specs.Sealings.{IsWayAt, Starts};
 
 use crate::sealing::{Sealing, Way};
 use cx_gcm::GcmKey;
@@ -43,7 +43,7 @@ fn key_of(secret: &[u8; 64]) -> GcmKey
 
 // The way on which the acceptor sends.
 fn acceptor_way(s: &[u8; 64]) -> Way
-    ensures { result ≡ way_at s.now 16 }
+    ensures { IsWayAt s.now 16 result }
 {
     Way {
         fixed: [s[16], s[17], s[18], s[19]],
@@ -53,7 +53,7 @@ fn acceptor_way(s: &[u8; 64]) -> Way
 
 // The way on which the connector sends.
 fn connector_way(s: &[u8; 64]) -> Way
-    ensures { result ≡ way_at s.now 28 }
+    ensures { IsWayAt s.now 28 result }
 {
     Way {
         fixed: [s[28], s[29], s[30], s[31]],

@@ -19,11 +19,16 @@ use Rattle.cx_secure.specs.Sealings.{unless_kept}
 use Rattle.cx_secure.proofs.HeadLaws.{nonce_is, opened_again}
 use Rattle.cx_secure.proofs.PartLaws.{sealed-append}
 use Rattle.cx_secure.proofs.SealedLaws.{rest_again}
-use Rattle.cx_secure.proofs.WholeLaws.{frame_split}
+use Rattle.cx_secure.proofs.WholeLaws.{frame_split, sealing_keyed}
 use Rattle.cx_stream.specs.Fronts.{frame_in, with_length}
-use Rattle.cx_stream.specs.SecureStreams.{AgreesSecure, Ahead, BeginsNoSecure, IsKeyed, IsSecure, IsSecureStream, behind_head, secure_frame_at}
+use Rattle.cx_stream.specs.Held.{Held}
+use Rattle.cx_stream.specs.SecureStreams.{AgreesSecure, Ahead, BeginsNoSecure, IsKeyed, IsSecure, IsSecureStream, ahead, behind_head, secure_frame_at}
 use Rattle.cx_stream.proofs.Sealed.{parts_behind}
 use Rattle.cx_stream.proofs.SecureTurns.{Answer, Read, at_head, behind_all, free_answer, short_of, sized, there}
+
+-- each stream of secure frames has a key of 16 bytes, and four fixed bytes of its nonces
+pub stream_keyed : (s : Held) → IsKeyed (ahead s)
+stream_keyed s = let keyed = sealing_keyed s.sealing in record { key = keyed.0; fixed = keyed.2 }
 
 -- ---- again
 

@@ -9,8 +9,8 @@ use Rattle.cx_secure.specs.declared.sealing.Head.{Head}
 use Rattle.cx_secure.specs.declared.sealing.Sealing.{Sealing}
 use Rattle.cx_secure.specs.declared.refusals.SecureRefusal.{SecureRefusal}
 use Rattle.cx_secure.specs.declared.refusals.SecureRefusal.TheVariants.{TooLong, OutOfMemory}
-use Rattle.cx_secure.specs.Opening.{IsFixed, head_step, rest_step}
-use Rattle.cx_secure.specs.Parts.{sealed_parts}
+use Rattle.cx_secure.specs.Opening.{head_step, rest_step}
+use Rattle.cx_secure.specs.Parts.{IsFixed, sealed_parts}
 use Rattle.cx_secure.specs.Plains.{plains, rest_len, secure_text}
 use Rattle.cx_secure.specs.Sealings.{after_sealed, connection_key}
 use Rattle.cx_stream.specs.Fronts.{with_length}
@@ -31,7 +31,7 @@ pub record Ahead : Type 0 where
   pub counter : ℕ
   pub bytes : List ℕ
 
--- a key and fixed bytes as each sealing has them
+-- a key of 16 bytes and the four fixed bytes of nonces, as each sealing has them
 pub record IsKeyed (a : Ahead) : Type 0 where
   pub key : IsBlock a.key
   pub fixed : IsFixed a.fixed

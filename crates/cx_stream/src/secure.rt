@@ -7,7 +7,7 @@ ghost use Rattle.cx_frame.specs.declared.frame.Frame.{Frame};
 ghost use Rattle.cx_secure.specs.Plains.{secure_text};
 ghost use Rattle.cx_secure.specs.Sealings.{connection_key, put_refusal, unless_kept};
 ghost use Rattle.cx_stream.specs.Fronts.{frame_in, given_by};
-ghost use Rattle.cx_stream.specs.SecureStreams.{AgreesSecure, BeginsNoSecure, Holds, IsKeyed, IsPutFault, IsSecure, KeepsFault, PassesGiven, after_put, ahead, secure_frame_at};
+ghost use Rattle.cx_stream.specs.SecureStreams.{AgreesSecure, BeginsNoSecure, Holds, IsPutFault, IsSecure, KeepsFault, PassesGiven, after_put, ahead, secure_frame_at};
 ghost use Rattle.cx_stream.specs.Turning.{Finished, Readied};
 
 use crate::faults::StreamFault;
@@ -48,7 +48,7 @@ impl Secure {
         // Having given so many more, it stands for that.
         ensures holds { (fed : List ℕ) (given : List Frame) → Holds (ahead self.old) fed given → Holds (ahead self.new) fed (given ++ given_by result) }
         // Nothing is given where no whole frame is there.
-        ensures none { IsKeyed (ahead self.old) → result ≡ Ok None → BeginsNoSecure (ahead self.old) }
+        ensures none { result ≡ Ok None → BeginsNoSecure (ahead self.old) }
     {
         self.next(alloc)
     }

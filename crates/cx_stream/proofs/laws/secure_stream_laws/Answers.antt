@@ -1,5 +1,8 @@
-use Rattle.cx_stream.proofs.SecureFronts.{one_way, secure_again, settled}
+use Rattle.cx_stream.proofs.SecureFronts.{one_way, secure_again, settled, stream_keyed}
 use Rattle.cx_stream.proofs.laws.secure_stream_laws.Goals as goal
+
+pub returns-clause-keyed : goal.returns-clause-keyed
+returns-clause-keyed c = stream_keyed
 
 pub returns-clause-again : goal.returns-clause-again
 returns-clause-again c = secure_again
