@@ -1,5 +1,6 @@
--- What opens where a secure frame is taken or refused: of each part whose tag is right its content, which is its nonce and its plain bytes.
-use Rattle.std.specs.Prelude.{ℕ, ◌+◌, ◌-◌, ◌^◌, List, [], ◌∷◌, ◌++◌, length, take, drop, nat_lt, Option, Some, None, Result, Ok, Err, if◌then◌else◌}
+-- What opens where a secure frame is taken or refused: of each part, up to the first whose tag is wrong, its content, which is its nonce and
+-- its plain bytes.
+use Rattle.std.specs.Prelude.{ℕ, ◌+◌, ◌-◌, ◌^◌, ◌==◌, List, [], ◌∷◌, ◌++◌, length, take, drop, nat_lt, Option, Some, None, Result, Ok, Err, if◌then◌else◌}
 use Rattle.cx_frame.specs.declared.preamble.Preamble.{Preamble}
 use Rattle.cx_frame.specs.declared.refusals.FrameRefusal.{FrameRefusal}
 use Rattle.cx_frame.specs.Preambles.{preamble_at}
@@ -18,14 +19,19 @@ part_content a counter [] = []
 part_content a counter (b ∷ bytes) =
     content_of (nonce_at a.fixed counter) (opened a.key (nonce_at a.fixed counter) (length (b ∷ bytes) - 16) (b ∷ bytes))
 
--- the parts behind a head with this preamble; where its counters don't suffice none is opened
+-- a part and, where it opens, what stands behind it
+abbrev pub and_behind : List (List ℕ) → ℕ → List (List ℕ) → List (List ℕ)
+and_behind [] n behind = if n == 0 then behind else []
+and_behind (content ∷ contents) n behind = content ∷ behind
+
+-- the parts behind a head with this preamble, up to the first whose tag is wrong; where the counters don't suffice none is opened
 unfoldable pub rest_contents : Ahead → Result Preamble FrameRefusal → List (List ℕ)
 rest_contents a (Err e) = []
 rest_contents a (Ok p) =
     let bytes = take (rest_len p) (drop 96 a.bytes) in
     let n = tagged (second_len p) in
     if nat_lt (2 ^ 64 - 1) (a.counter + 1 + rest_parts p) then []
-    else part_content a (a.counter + 1) (take n bytes) ++ part_content a (a.counter + 1 + one_if (second_len p)) (drop n bytes)
+    else and_behind (part_content a (a.counter + 1) (take n bytes)) n (part_content a (a.counter + 1 + one_if (second_len p)) (drop n bytes))
 
 unfoldable pub head_contents : Ahead → Option (List ℕ) → List (List ℕ)
 head_contents a None = []
