@@ -1,5 +1,5 @@
 -- The content that is found is the one that opens.
-use Rattle.std.proofs.Common.{◌≡◌, ℕ, ◌+◌, ◌-◌, ◌<◌, ◌≤◌, ◌&&◌, Bool, true, false, List, ◌∷◌, ◌++◌, All, length, take, drop, get_or, Option, Some, None, length-append, refl, ap, sym, ◌∙◌, arith, rules}
+use Rattle.std.proofs.Common.{◌≡◌, ℕ, ◌-◌, ◌&&◌, Bool, true, false, List, ◌++◌, All, length, take, drop, get_or, Option, Some, None, refl, ap, ◌∙◌, arith, rules}
 use Rattle.std.specs.Prelude.{slice_index, nat_lt, nat_le, if◌then◌else◌}
 use Rattle.std.specs.List.{concat, list_all}
 use Rattle.std.specs.Str.{bytes_eq}
@@ -75,3 +75,11 @@ Opens-opened key bytes content k opens =
     ap (λ plain. if_sealed key bytes (stripped plain)) (decrypted-opens key bytes content k opens)
     ∙ ap (if_sealed key bytes) (stripped-enveloped content)
     ∙ if_sealed-Opens key bytes content opens
+
+-- what opens to no content
+pub opened-none : (key bytes : List ℕ) → ((content : List ℕ) → Opens key bytes content → ⊥) → opened key bytes ≡ None
+opened-none key bytes none = by_found (opened key bytes) refl
+  where
+    by_found : (o : Option (List ℕ)) → opened key bytes ≡ o → o ≡ None
+    by_found None e = refl
+    by_found (Some content) e = absurd (none content (opened-Opens key bytes content e))

@@ -1,6 +1,6 @@
 //! Opening.
 
-ghost use Rattle.std.specs.Prelude.{◌≡◌, ℕ, List, Some, IfOk};
+ghost use Rattle.std.specs.Prelude.{◌≡◌, ℕ, List, Some, None, IfOk};
 ghost use Rattle.cx_aes.specs.Cipher.{IsBlock};
 ghost use Rattle.cx_aes.specs.KeyOf.{key_of};
 ghost use Rattle.cx_cbc.specs.Envelope.{Opens, OpensOne};
@@ -21,6 +21,8 @@ const LONGEST_ENVELOPE: usize = 1_048_592;
 pub fn open(alloc: Global, key: &Schedule, sealed: &[u8]) -> Result<Blob, OpenRefusal>
     ensures opened { IfOk result (λ content. Opens (key_of key.now) sealed.now content) }
     ensures unopened { result ≡ Err OpenRefusal.Unopened → (content : List ℕ) → Opens (key_of key.now) sealed.now content → ⊥ }
+    ensures exact { IfOk result (λ content. opened (key_of key.now) sealed.now ≡ Some content) }
+    ensures none { result ≡ Err OpenRefusal.Unopened → opened (key_of key.now) sealed.now ≡ None }
 {
     if sealed.len() > LONGEST_ENVELOPE {
         return Err(OpenRefusal::Unopened);

@@ -1,5 +1,5 @@
 pub mod Handing
 pub mod Holding
-pub mod Logging
+pub mod Unlocking
 pub mod Put
 pub mod Tried

@@ -1,21 +1,18 @@
 -- The client's side of a login ("detailed cephx protocol": the client answers the monitor's challenge by an Authenticate, and opens
 -- what it is given).
-use Rattle.std.specs.Prelude.{ℕ, ◌≡◌, ◌⊎◌, List, [], ◌∷◌, Any, Option, Some, None, Result, IfOk, IfErr}
-use Rattle.std.specs.List.{AllZip}
+use Rattle.std.specs.Prelude.{ℕ, ◌≡◌, List, [], Option, Some, None, Result, Ok, Err, IfOk, IfErr}
 use Rattle.cx_enc.specs.Whole.{Spells}
 use Rattle.cx_enc.specs.declared.tickets.TicketBlob.{TicketBlob}
 use Rattle.cx_control.specs.Calls.{IsRefusedFor}
 use Rattle.cx_control.specs.declared.refusals.WireRefusal.TheVariants as wire
-use Rattle.cx_sealed.specs.Records.{ticket_info_layout, connection_secret_layout}
-use Rattle.cx_sealed.specs.declared.ticket_info.TicketInfo.{TicketInfo}
+use Rattle.cx_steps.specs.declared.seals.SealEntry.{SealEntry}
 use Rattle.cx_wire.specs.Logins.{server_challenge_layout, authenticate_layout, login_done_layout}
 use Rattle.cx_wire.specs.declared.logins.ServerChallenge.{ServerChallenge}
 use Rattle.cx_wire.specs.declared.logins.Authenticate.{Authenticate}
 use Rattle.cx_wire.specs.declared.logins.LoginDone.{LoginDone}
-use Rattle.cx_wire.specs.declared.tickets.TicketPart.{TicketPart}
 use Rattle.cx_login.specs.Proving.{due_proof}
-use Rattle.cx_login.specs.Opening.{IsShut, IsTried}
-use Rattle.cx_login.specs.Held.{Held, IsHeld, IsUntold, Yields}
+use Rattle.cx_login.specs.Held.{Held}
+use Rattle.cx_login.specs.Unlocking.{Made, login_in}
 use Rattle.cx_login.specs.declared.refusals.LoginRefusal.{LoginRefusal}
 use Rattle.cx_login.specs.declared.refusals.LoginRefusal.TheVariants.{Malformed, Unopened, OutOfMemory}
 use Rattle.cx_login.specs.declared.client.LoggedIn.{LoggedIn}
@@ -64,39 +61,10 @@ pub record IsAnswered (ask : Ask) (payload : List ℕ) (client : ℕ) (result : 
   pub only : (server : ServerChallenge) → Spells server_challenge_layout.form payload server → IfErr result (λ e. e ≡ OutOfMemory)
   pub refused : IfErr result (IsNoChallenge payload)
 
--- What a LoginDone holds, opened: the ticket for AUTH is told under the client's secret; the other tickets, and the secret of the
--- connection, under the session key of the AUTH ticket.
-abbrev pub Opens : List ℕ → List TicketPart → List ℕ → LoggedIn → Type 0
-Opens secret [] connection login = ⊥
-Opens secret (auth ∷ parts) connection login =
-    IsHeld secret auth login.auth × AllZip (IsHeld login.auth.session) parts login.tickets
-    × IsTried connection_secret_layout.form login.auth.session connection (Some (record { secret = login.secret }))
-
--- one of these parts doesn't open under the key that is due
-abbrev pub HasShut : List ℕ → List TicketPart → List ℕ → Type 0
-HasShut secret [] connection = ⊥
-HasShut secret (auth ∷ parts) connection =
-    IsUntold secret auth
-    ⊎ ((info : TicketInfo) × IsTried ticket_info_layout.form secret auth.info (Some info)
-    × (Any (IsUntold info.session) parts ⊎ IsShut connection_secret_layout.form info.session connection))
-
--- the login that these parts open to, or none where one of them doesn't open
-abbrev pub AreOpened : List ℕ → List TicketPart → List ℕ → Option LoggedIn → Type 0
-AreOpened secret parts connection None = HasShut secret parts connection
-AreOpened secret parts connection (Some login) = Opens secret parts connection login
-
--- why a payload is no login
-abbrev pub IsNoLogin : List ℕ → List ℕ → LoginRefusal → Type 0
-IsNoLogin secret payload (Malformed place) = IsRefusedFor login_done_layout.form payload (wire.Malformed place)
-IsNoLogin secret payload Unopened = (done : LoginDone) × Spells login_done_layout.form payload done × HasShut secret done.tickets done.connection_secret
-IsNoLogin secret payload OutOfMemory = Unit {0}
-
--- the login of the LoginDone that a payload spells
-abbrev pub IsLogin : List ℕ → List ℕ → LoggedIn → Type 0
-IsLogin secret payload login = (done : LoginDone) × Spells login_done_layout.form payload done × Opens secret done.tickets done.connection_secret login
-
--- a client is logged in exactly where the payload spells a LoginDone of which each part opens
-pub record IsDone (secret payload : List ℕ) (result : Result LoggedIn LoginRefusal) : Type 0 where
-  pub found : IfOk result (IsLogin secret payload)
-  pub only : (login : LoggedIn) → IsLogin secret payload login → Yields result login
-  pub refused : IfErr result (IsNoLogin secret payload)
+-- A client is logged in exactly where the payload spells a LoginDone of which each part opens to its record; where it spells none, nothing
+-- is opened.
+abbrev pub IsDone : List ℕ → List ℕ → List SealEntry → List SealEntry → Result LoggedIn LoginRefusal → Type 0
+IsDone secret payload old new (Ok login) = (done : LoginDone) × Spells login_done_layout.form payload done × Made (login_in secret done) old new (Some login)
+IsDone secret payload old new (Err Unopened) = (done : LoginDone) × Spells login_done_layout.form payload done × Made (login_in secret done) old new None
+IsDone secret payload old new (Err (Malformed place)) = IsRefusedFor login_done_layout.form payload (wire.Malformed place) × (new ≡ old)
+IsDone secret payload old new (Err OutOfMemory) = Unit {0}

@@ -1,12 +1,9 @@
 -- The monitor's side of a login ("detailed cephx protocol": the proof is compared, and the global id of an old ticket is kept).
 use Rattle.std.specs.Prelude.{ℕ, ◌≡◌, ◌==◌, ◌&&◌, not, List, Option, Some, None, Result, Ok, Err, nat_lt, if◌then◌else◌}
 use Rattle.cx_base.specs.Names.{Name, same_name}
-use Rattle.cx_rotate.specs.declared.generations.Generation.{Generation}
-use Rattle.cx_sealed.specs.Records.{service_ticket_layout}
 use Rattle.cx_sealed.specs.declared.service_ticket.ServiceTicket.{ServiceTicket}
 use Rattle.cx_wire.specs.declared.logins.Authenticate.{Authenticate}
 use Rattle.cx_login.specs.Proving.{due_proof}
-use Rattle.cx_login.specs.Opening.{IsTriedUnder, generation_key}
 use Rattle.cx_login.specs.declared.monitor.Reclaim.{Reclaim}
 use Rattle.cx_login.specs.declared.monitor.Reclaim.TheVariants.{Kept, Fresh, Denied}
 use Rattle.cx_login.specs.declared.refusals.WrongProof.{WrongProof}
@@ -46,10 +43,3 @@ kept_gid name now (Some ticket) = if same_name ticket.name name && nat_lt now ti
 abbrev pub reclaimed : ℕ → ℕ → Option ℕ → Reclaim
 reclaimed hello version (Some gid) = Kept gid
 reclaimed hello version None = if (version == 3) && not (hello == 0) then Denied hello else Fresh
-
--- the same for the entity of this name and its Authenticate, by what the old ticket opens to under its generation of AUTH
-abbrev pub IsReclaimed : Name → Authenticate → ℕ → List Generation → ℕ → Reclaim → Type 0
-IsReclaimed name ask hello auth now reclaim =
-    (ticket : Option ServiceTicket)
-    × IsTriedUnder service_ticket_layout.form (generation_key auth ask.old_ticket.generation) ask.old_ticket.blob ticket
-    × (reclaim ≡ reclaimed hello ask.version (kept_gid name now ticket))

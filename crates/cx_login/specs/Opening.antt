@@ -1,5 +1,5 @@
 -- What comes of opening a sealed record.
-use Rattle.std.specs.Prelude.{ℕ, ◌≡◌, ◌==◌, List, Option, Some, None, IfSome, find}
+use Rattle.std.specs.Prelude.{ℕ, ◌≡◌, ◌==◌, List, Option, Some, IfSome, find}
 use Rattle.std.specs.Option.{option_map}
 use Rattle.cx_enc.specs.Forms.{Form}
 use Rattle.cx_rotate.specs.declared.generations.Generation.{Generation}
@@ -13,11 +13,6 @@ IsShut {X} form key bytes = (x : X) → OpensTo form key bytes x → ⊥
 pub record IsTried {X : Type 0} (form : Form X) (key bytes : List ℕ) (opened : Option X) : Type 0 where
   pub found : IfSome opened (OpensTo form key bytes)
   pub only : (x : X) → OpensTo form key bytes x → opened ≡ Some x
-
--- the same under a key, where there is one
-abbrev pub IsTriedUnder : {X : Type 0} → Form X → Option (List ℕ) → List ℕ → Option X → Type 0
-IsTriedUnder form None bytes opened = opened ≡ None
-IsTriedUnder form (Some key) bytes opened = IsTried form key bytes opened
 
 -- the key of the generation with this id
 abbrev pub generation_key : List Generation → ℕ → Option (List ℕ)

@@ -1,6 +1,7 @@
 -- What a login opens, as a function: each thing that opens is an entry of the log, in order, up to the first that opens to no spelling of
 -- its record ("detailed cephx protocol": the client opens what it is given; the monitor opens an old ticket).
-use Rattle.std.specs.Prelude.{ℕ, List, [], ◌∷◌, ◌++◌, Option, Some, None}
+use Rattle.std.specs.Prelude.{ℕ, ◌≡◌, List, [], ◌∷◌, ◌++◌, Option, Some, None, Result, Ok, Err}
+use Rattle.std.specs.declared.alloc.AllocError.{AllocError}
 use Rattle.cx_enc.specs.Forms.{Form}
 use Rattle.cx_enc.specs.declared.tickets.TicketBlob.{TicketBlob}
 use Rattle.cx_journal.specs.declared.premises.KeyKind.{KeyKind}
@@ -17,6 +18,8 @@ use Rattle.cx_wire.specs.declared.tickets.TicketPart.{TicketPart}
 use Rattle.cx_login.specs.Held.{Held, held_as}
 use Rattle.cx_login.specs.Opening.{generation_key}
 use Rattle.cx_login.specs.declared.client.LoggedIn.{LoggedIn}
+use Rattle.cx_login.specs.declared.refusals.LoginRefusal.{LoginRefusal}
+use Rattle.cx_login.specs.declared.refusals.LoginRefusal.TheVariants.{Malformed, Unopened, OutOfMemory}
 
 -- what opened, and what it makes, where each part opened to its record
 pub record Unlocked (X : Type 0) : Type 0 where
@@ -79,3 +82,21 @@ old_under (Some key) blob = unlocked service_ticket_layout.form kind.Auth key bl
 
 abbrev pub old_ticket : List Generation → TicketBlob → Unlocked ServiceTicket
 old_ticket auth old = old_under (generation_key auth old.generation) old.blob
+
+-- ---- what calls answer
+
+-- the value is the one that is made, and what opened is appended to the log
+abbrev pub Made : {X : Type 0} → Unlocked X → List SealEntry → List SealEntry → Option X → Type 0
+Made u old new value = (value ≡ u.value) × (new ≡ old ++ u.seals)
+
+-- the same, unless memory was wanting
+abbrev pub Unlocks : {X : Type 0} → Unlocked X → List SealEntry → List SealEntry → Result (Option X) AllocError → Type 0
+Unlocks u old new (Ok value) = Made u old new value
+Unlocks u old new (Err e) = Unit {0}
+
+-- the tickets of a list are held exactly where each of them is told
+abbrev pub AreHeld : List ℕ → List TicketPart → List SealEntry → List SealEntry → Result (List Held) LoginRefusal → Type 0
+AreHeld key parts old new (Ok held) = Made (told_each key parts) old new (Some held)
+AreHeld key parts old new (Err Unopened) = Made (told_each key parts) old new None
+AreHeld key parts old new (Err (Malformed place)) = ⊥
+AreHeld key parts old new (Err OutOfMemory) = Unit {0}

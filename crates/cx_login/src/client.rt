@@ -1,18 +1,22 @@
 //! The client's side of a login.
 
 ghost use Rattle.std.specs.Prelude.{◌≡◌, ◌≤◌, ◌<◌, ◌^◌, ◌∷◌, All, length, IsTrue, IfOk};
+ghost use Rattle.cx_aes.specs.Cipher.{IsBlock};
 ghost use Rattle.cx_enc.specs.Whole.{Spells};
 ghost use Rattle.cx_wire.specs.Logins.{authenticate_layout, login_done_layout, is_version};
 ghost use Rattle.cx_login.specs.Held.{IsShort};
-ghost use Rattle.cx_login.specs.Client.{version_of, shown_ticket, authenticate, IsAnswered, AreOpened, IsDone};
+ghost use Rattle.cx_login.specs.Client.{version_of, shown_ticket, authenticate, IsAnswered, IsDone};
 ghost use Rattle.cx_login.specs.Handed.{TakesHandedOut};
+ghost use Rattle.cx_login.specs.Unlocking.{login_of_parts, login_in, Unlocks};
 
-use crate::held::{HeldTicket, held_as, tried_tickets};
-use crate::opening::{tried_info, tried_secret};
+use crate::held::{HeldTicket, told, told_each};
+use crate::opening::unlocked_secret;
 use crate::proving::due_proof;
 use crate::refusals::LoginRefusal;
 use cx_base::{Blob, Duplicate, Items};
 use cx_enc::{Key, TicketBlob};
+use cx_journal::KeyKind;
+use cx_steps::SealEntry;
 use cx_wire::{
     Authenticate, LoginDone, TicketPart, WireRefusal, put_authenticate, read_login_done,
     read_server_challenge,
@@ -146,24 +150,34 @@ impl Model for Challenged {
 }
 
 impl Challenged {
-    /// Opens the LoginDone of this payload.
-    #[tactic(auto, using(crate::proofs::Handing::taken_by))]
-    pub fn done(self, alloc: Global, payload: &[u8]) -> Result<LoggedIn, LoginRefusal>
-        ensures login { IsDone self payload.now result }
+    /// Opens the LoginDone of this payload. What opened is appended to the log, also where the login is refused.
+    pub fn done(
+        self,
+        alloc: Global,
+        payload: &[u8],
+        seals: &mut Items<SealEntry>,
+    ) -> Result<LoggedIn, LoginRefusal>
+        ensures login { IsDone self payload.now seals.old seals.new result }
         // What the key server hands out to the entity of this secret is read as exactly that.
         ensures handed { TakesHandedOut self payload.now result }
     {
-        taken(alloc, &self.key.secret, payload)
+        taken(alloc, &self.key.secret, payload, seals)
     }
 }
 
 // Takes the LoginDone of this payload.
-#[tactic(auto, using(crate::proofs::Logging::malformed_by, crate::proofs::Logging::wanting_by))]
-fn taken(alloc: Global, secret: &[u8; 16], payload: &[u8]) -> Result<LoggedIn, LoginRefusal>
-    ensures { IsDone secret.now payload.now result }
+#[tactic(auto, using(crate::proofs::Handing::is_block))]
+fn taken(
+    alloc: Global,
+    secret: &[u8; 16],
+    payload: &[u8],
+    seals: &mut Items<SealEntry>,
+) -> Result<LoggedIn, LoginRefusal>
+    ensures login { IsDone secret.now payload.now seals.old seals.new result }
+    ensures block { IsBlock secret.now }
 {
     match read_login_done(alloc, payload) {
-        Ok(done) => match opened(alloc, secret, &done)? {
+        Ok(done) => match login_in(alloc, secret, &done, seals)? {
             Some(login) => Ok(login),
             None => Err(LoginRefusal::Unopened),
         },
@@ -183,48 +197,47 @@ pub struct LoggedIn {
     pub secret: [u8; 64],
 }
 
-// Opens what a LoginDone holds.
+// The login of a LoginDone.
 #[tactic(auto, using(crate::proofs::Holding::some_tickets, crate::proofs::Holding::short_tickets))]
-fn opened(
+fn login_in(
     alloc: Global,
     secret: &[u8; 16],
     done: &LoginDone,
+    seals: &mut Items<SealEntry>,
 ) -> Result<Option<LoggedIn>, AllocError>
     requires { login_done_layout.form.Fits done.now }
-    ensures { IfOk result (AreOpened secret.now done.now.tickets done.now.connection_secret) }
+    ensures { Unlocks (login_in secret.now done.now) seals.old seals.new result }
 {
+    let connection = done.connection_secret.bytes();
     match done.tickets.all().split_first() {
-        Some((auth, parts)) => {
-            opened_parts(alloc, secret, auth, parts, done.connection_secret.bytes())
-        }
+        Some((auth, parts)) => login_of_parts(alloc, secret, auth, parts, connection, seals),
         None => unreachable!(),
     }
 }
 
 // Opens the TicketInfo for AUTH under the secret, and all else under the session key that it tells.
-#[tactic(auto, using(crate::proofs::Tried::shut_of))]
-fn opened_parts(
+fn login_of_parts(
     alloc: Global,
     own: &[u8; 16],
     auth: &TicketPart,
     parts: &[TicketPart],
     connection: &[u8],
+    seals: &mut Items<SealEntry>,
 ) -> Result<Option<LoggedIn>, AllocError>
     requires auth { IsShort auth.now }
     requires parts { All IsShort parts.now }
-    ensures { IfOk result (AreOpened own.now (auth.now ∷ parts.now) connection.now) }
+    ensures { Unlocks (login_of_parts own.now (auth.now ∷ parts.now) connection.now) seals.old seals.new result }
 {
-    let Some(info) = tried_info(alloc, own, auth.info.bytes())? else {
+    let Some(auth) = told(alloc, KeyKind::Principal, own, auth, seals)? else {
         return Ok(None);
     };
-    let auth = held_as(alloc, auth, &info)?;
-    let Some(tickets) = tried_tickets(alloc, &info.session, parts)? else {
+    let Some(tickets) = told_each(alloc, &auth.session, parts, seals)? else {
         return Ok(None);
     };
-    let Some(told) = tried_secret(alloc, &info.session, connection)? else {
+    let Some(opened) = unlocked_secret(alloc, &auth.session, connection, seals)? else {
         return Ok(None);
     };
-    let secret = told.secret;
+    let secret = opened.secret;
     Ok(Some(LoggedIn {
         auth,
         tickets,

@@ -1,12 +1,15 @@
 //! Tickets as a client holds them.
 
 ghost use Rattle.std.specs.Prelude.{◌≡◌, ◌<◌, ◌^◌, All, length, IfOk};
-ghost use Rattle.cx_login.specs.Held.{held_as, IsShort, AreTried, AreHeldBy};
+ghost use Rattle.cx_login.specs.Held.{held_as, IsShort};
+ghost use Rattle.cx_login.specs.Unlocking.{told, told_each, Unlocks, AreHeld};
 
-use crate::opening::tried_info;
+use crate::opening::unlocked_info;
 use crate::refusals::LoginRefusal;
 use cx_base::{Blob, Duplicate, EntityType, Items, Reading};
+use cx_journal::KeyKind;
 use cx_sealed::TicketInfo;
+use cx_steps::SealEntry;
 use cx_wire::TicketPart;
 use std::alloc::{AllocError, Global};
 use std::marker::Model;
@@ -67,37 +70,55 @@ pub(crate) fn held_as(
 }
 
 /// The tickets of a list, each with what its TicketInfo tells under this key: of a LoginDone those behind the one for AUTH, and
-/// those of a Reply, under the session key of the AUTH ticket.
-#[tactic(auto, using(crate::proofs::Holding::held_by, crate::proofs::Holding::untold_by, crate::proofs::Holding::wanting_by))]
+/// those of a Reply, under the session key of the AUTH ticket. What opened is appended to the log.
 pub fn held_tickets(
     alloc: Global,
     key: &[u8; 16],
     parts: &[TicketPart],
+    seals: &mut Items<SealEntry>,
 ) -> Result<Items<HeldTicket>, LoginRefusal>
     requires { All IsShort parts.now }
-    ensures { AreHeldBy key.now parts.now result }
+    ensures { AreHeld key.now parts.now seals.old seals.new result }
 {
-    match tried_tickets(alloc, key, parts)? {
+    match told_each(alloc, key, parts, seals)? {
         Some(held) => Ok(held),
         None => Err(LoginRefusal::Unopened),
     }
 }
 
+// The ticket of an entry, or none where its TicketInfo doesn't open.
+pub(crate) fn told(
+    alloc: Global,
+    kind: KeyKind,
+    key: &[u8; 16],
+    part: &TicketPart,
+    seals: &mut Items<SealEntry>,
+) -> Result<Option<HeldTicket>, AllocError>
+    requires { IsShort part.now }
+    ensures { Unlocks (told kind key.now part.now) seals.old seals.new result }
+{
+    let Some(info) = unlocked_info(alloc, kind, key, part.info.bytes(), seals)? else {
+        return Ok(None);
+    };
+    let held = held_as(alloc, part, &info)?;
+    Ok(Some(held))
+}
+
 // The tickets of a list, or none where the TicketInfo of one of them doesn't open.
-pub(crate) fn tried_tickets(
+pub(crate) fn told_each(
     alloc: Global,
     key: &[u8; 16],
     parts: &[TicketPart],
+    seals: &mut Items<SealEntry>,
 ) -> Result<Option<Items<HeldTicket>>, AllocError>
     requires { All IsShort parts.now }
-    ensures { IfOk result (AreTried key.now parts.now) }
+    ensures { Unlocks (told_each key.now parts.now) seals.old seals.new result }
 {
     let mut held = Items::new(alloc);
     for part in parts {
-        let Some(info) = tried_info(alloc, key, part.info.bytes())? else {
+        let Some(ticket) = told(alloc, KeyKind::Session, key, part, seals)? else {
             return Ok(None);
         };
-        let ticket = held_as(alloc, part, &info)?;
         held.push(alloc, ticket)?;
     }
     Ok(Some(held))

@@ -1,15 +1,17 @@
 //! The monitor's side of a login.
 
-ghost use Rattle.std.specs.Prelude.{◌≡◌, IfOk};
-ghost use Rattle.cx_login.specs.Monitor.{IsProved, proving, kept_gid, reclaimed, IsReclaimed};
+ghost use Rattle.std.specs.Prelude.{◌≡◌, ◌++◌, IfOk, OnOk};
+ghost use Rattle.cx_login.specs.Monitor.{IsProved, proving, kept_gid, reclaimed};
+ghost use Rattle.cx_login.specs.Unlocking.{old_ticket, Unlocks};
 
-use crate::opening::tried_ticket_under;
+use crate::opening::unlocked_ticket;
 use crate::proving::due_proof;
 use crate::refusals::WrongProof;
-use cx_base::{EntityName, Reading};
-use cx_enc::Key;
+use cx_base::{EntityName, Items, Reading};
+use cx_enc::{Key, TicketBlob};
 use cx_rotate::Generations;
 use cx_sealed::ServiceTicket;
+use cx_steps::SealEntry;
 use cx_wire::Authenticate;
 use std::alloc::{AllocError, Global};
 use std::marker::Model;
@@ -102,34 +104,37 @@ impl Proved {
     }
 
     /// Whether the global id is kept: by its old ticket, which one of these generations of AUTH sealed for it and which expires
-    /// after this reading. `hello_gid` is the global id of the entity's LoginHello.
+    /// after this reading. `hello_gid` is the global id of the entity's LoginHello. Where the old ticket opens, that is appended to
+    /// the log.
     pub fn reclaim(
         &self,
         alloc: Global,
         hello_gid: u64,
         auth: &Generations,
         now: Reading,
+        seals: &mut Items<SealEntry>,
     ) -> Result<Reclaim, AllocError>
-        ensures { IfOk result (IsReclaimed self.now.offer.name self.now.ask hello_gid auth.now now) }
+        ensures reclaimed { IfOk result (λ reclaim. reclaim ≡ reclaimed hello_gid self.now.ask.version
+            (kept_gid self.now.offer.name now (old_ticket auth.now self.now.ask.old_ticket).value)) }
+        ensures opened { OnOk result (seals.new ≡ seals.old ++ (old_ticket auth.now self.now.ask.old_ticket).seals) }
     {
-        decided(alloc, &self.offered.name, &self.ask, hello_gid, auth, now)
+        let ticket = old_ticket(alloc, auth, &self.ask.old_ticket, seals)?;
+        let kept = kept_gid(&self.offered.name, now, &ticket);
+        Ok(reclaimed(hello_gid, self.ask.version, kept))
     }
 }
 
-fn decided(
+// An old ticket, under its generation of AUTH, where that is there.
+fn old_ticket(
     alloc: Global,
-    name: &EntityName,
-    ask: &Authenticate,
-    hello_gid: u64,
     auth: &Generations,
-    now: Reading,
-) -> Result<Reclaim, AllocError>
-    ensures { IfOk result (IsReclaimed name.now ask.now hello_gid auth.now now) }
+    old: &TicketBlob,
+    seals: &mut Items<SealEntry>,
+) -> Result<Option<ServiceTicket>, AllocError>
+    ensures { Unlocks (old_ticket auth.now old.now) seals.old seals.new result }
 {
-    let old = &ask.old_ticket;
-    let ticket = tried_ticket_under(alloc, auth.find(old.generation), old.blob.bytes())?;
-    let kept = kept_gid(name, now, &ticket);
-    Ok(reclaimed(hello_gid, ask.version, kept))
+    let key = auth.find(old.generation);
+    unlocked_ticket(alloc, key, old.blob.bytes(), seals)
 }
 
 // The global id of an old ticket, where it is this entity's and expires after the reading.

@@ -1,13 +1,19 @@
-//! What comes of opening a sealed record: the record, or none where the bytes open to no spelling of it.
+//! What comes of opening a sealed record: the record, or none where the bytes open to no spelling of it; and what opened, as an entry
+//! of the log.
 
 ghost use Rattle.std.specs.Prelude.{IfOk};
 ghost use Rattle.cx_sealed.specs.Records.{service_ticket_layout, ticket_info_layout, connection_secret_layout};
-ghost use Rattle.cx_login.specs.Opening.{IsTried, IsTriedUnder};
+ghost use Rattle.cx_journal.specs.declared.premises.KeyKind.TheVariants.{Session};
+ghost use Rattle.cx_login.specs.Opening.{IsTried};
+ghost use Rattle.cx_login.specs.Unlocking.{unlocked_as, unlocked, old_under, Unlocks};
 
+use cx_base::Items;
+use cx_journal::KeyKind;
 use cx_sealed::{
-    ConnectionSecret, SealedRefusal, ServiceTicket, TicketInfo, open_connection_secret,
-    open_service_ticket, open_ticket_info,
+    ConnectionSecret, SealedRefusal, ServiceTicket, TicketInfo, Unsealed, open_service_ticket,
+    unseal_connection_secret, unseal_service_ticket, unseal_ticket_info,
 };
+use cx_steps::{SealEntry, SealMark};
 use std::alloc::{AllocError, Global};
 
 /// Tries to open a `ServiceTicket`.
@@ -28,52 +34,70 @@ pub fn tried_ticket(
     }
 }
 
-// Tries to open a `ServiceTicket` under a key, where there is one.
-pub(crate) fn tried_ticket_under(
+// What was found in bytes that are sealed by this key: what opened is appended to the log, and its record is answered, where there
+// is one.
+fn logged<T: Drop>(
+    alloc: Global,
+    kind: KeyKind,
+    key: &[u8; 16],
+    found: Option<Unsealed<T>>,
+    seals: &mut Items<SealEntry>,
+) -> Result<Option<T>, AllocError>
+    ensures { Unlocks (unlocked_as kind key.now found) seals.old seals.new result }
+{
+    let Some(found) = found else {
+        return Ok(None);
+    };
+    let content = found.content;
+    let value = found.value;
+    let mark = SealMark {
+        key: *key,
+        kind,
+        content,
+    };
+    seals.push(alloc, SealEntry::Opened(mark))?;
+    Ok(value)
+}
+
+// The `ServiceTicket` that these bytes open to under a generation of AUTH, where that is there.
+pub(crate) fn unlocked_ticket(
     alloc: Global,
     key: Option<[u8; 16]>,
     sealed: &[u8],
+    seals: &mut Items<SealEntry>,
 ) -> Result<Option<ServiceTicket>, AllocError>
-    ensures { IfOk result (IsTriedUnder service_ticket_layout.form key sealed.now) }
+    ensures { Unlocks (old_under key sealed.now) seals.old seals.new result }
 {
-    match key {
-        None => Ok(None),
-        Some(key) => tried_ticket(alloc, &key, sealed),
-    }
+    let Some(key) = key else {
+        return Ok(None);
+    };
+    let found = unseal_service_ticket(alloc, &key, sealed)?;
+    logged(alloc, KeyKind::Auth, &key, found, seals)
 }
 
-// Tries to open a `TicketInfo`.
-pub(crate) fn tried_info(
+// The `TicketInfo` that these bytes open to.
+pub(crate) fn unlocked_info(
     alloc: Global,
+    kind: KeyKind,
     key: &[u8; 16],
     sealed: &[u8],
+    seals: &mut Items<SealEntry>,
 ) -> Result<Option<TicketInfo>, AllocError>
-    ensures { IfOk result (IsTried ticket_info_layout.form key.now sealed.now) }
+    ensures { Unlocks (unlocked ticket_info_layout.form kind key.now sealed.now) seals.old seals.new result }
 {
-    match open_ticket_info(alloc, key, sealed) {
-        Ok(info) => Ok(Some(info)),
-        Err(refusal) => match refusal {
-            SealedRefusal::Unopened => Ok(None),
-            SealedRefusal::Misread => Ok(None),
-            SealedRefusal::OutOfMemory => Err(AllocError),
-        },
-    }
+    let found = unseal_ticket_info(alloc, key, sealed)?;
+    logged(alloc, kind, key, found, seals)
 }
 
-// Tries to open a `ConnectionSecret`.
-pub(crate) fn tried_secret(
+// The `ConnectionSecret` that these bytes open to under a session key.
+pub(crate) fn unlocked_secret(
     alloc: Global,
     key: &[u8; 16],
     sealed: &[u8],
+    seals: &mut Items<SealEntry>,
 ) -> Result<Option<ConnectionSecret>, AllocError>
-    ensures { IfOk result (IsTried connection_secret_layout.form key.now sealed.now) }
+    ensures { Unlocks (unlocked connection_secret_layout.form Session key.now sealed.now) seals.old seals.new result }
 {
-    match open_connection_secret(alloc, key, sealed) {
-        Ok(secret) => Ok(Some(secret)),
-        Err(refusal) => match refusal {
-            SealedRefusal::Unopened => Ok(None),
-            SealedRefusal::Misread => Ok(None),
-            SealedRefusal::OutOfMemory => Err(AllocError),
-        },
-    }
+    let found = unseal_connection_secret(alloc, key, sealed)?;
+    logged(alloc, KeyKind::Session, key, found, seals)
 }

@@ -7,7 +7,7 @@ use crate::known::{
 use crate::{
     Asking, Challenged, HeldTicket, LoggedIn, LoginRefusal, Offered, Proved, Reclaim, WrongProof,
 };
-use cx_base::{Blob, Duplicate, EntityName, EntityType, Reading, SECOND, Text};
+use cx_base::{Blob, Duplicate, EntityName, EntityType, Items, Reading, SECOND, Text};
 use cx_enc::{Key, Time};
 use cx_rotate::{Generation, Generations};
 use cx_wire::read_authenticate;
@@ -47,7 +47,8 @@ fn done(
     payload: &[u8],
 ) -> Result<LoggedIn, LoginRefusal> {
     let (challenged, _bytes) = answered(rt, alloc, secret);
-    challenged.done(alloc, payload)
+    let mut seals = Items::new(alloc);
+    challenged.done(alloc, payload, &mut seals)
 }
 
 fn is_ticket(held: &HeldTicket, service: EntityType, expires: Reading, session: &[u8; 16]) -> bool {
@@ -62,13 +63,15 @@ fn a_client_logs_in_as_in_the_run(rt: HostRuntime) {
     let alloc = rt.alloc();
     let (challenged, bytes) = answered(&rt, alloc, &SECRET);
     assert_eq!(rt; bytes.bytes(), FIRST_AUTHENTICATE.as_slice());
+    let mut seals = Items::new(alloc);
     let LoggedIn {
         auth,
         tickets,
         secret,
     } = challenged
-        .done(alloc, FIRST_DONE.as_slice())
+        .done(alloc, FIRST_DONE.as_slice(), &mut seals)
         .expect(&rt, "a login");
+    assert_eq!(rt; seals.all().len(), 3);
     assert!(rt; is_ticket(&auth, EntityType::Auth, 44_200 * SECOND, &AUTH_SESSION));
     assert_eq!(rt; tickets.all().len(), 1);
     assert!(rt;
@@ -135,6 +138,7 @@ fn proved(
 
 // What becomes of the global id 1 that this entity asks to keep by the second Authenticate.
 fn reclaimed(rt: &impl Abort, alloc: Global, id: u8, auth: &Generations, now: Reading) -> Reclaim {
+    let mut seals = Items::new(alloc);
     proved(
         rt,
         alloc,
@@ -142,7 +146,7 @@ fn reclaimed(rt: &impl Abort, alloc: Global, id: u8, auth: &Generations, now: Re
         SECOND_AUTHENTICATE.as_slice(),
     )
     .expect(rt, "a proof")
-    .reclaim(alloc, 1, auth, now)
+    .reclaim(alloc, 1, auth, now, &mut seals)
     .expect(rt, "ample memory")
 }
 
@@ -178,8 +182,9 @@ fn a_monitor_proves_as_in_the_run(rt: HostRuntime) {
     assert_eq!(rt; proven.name().id.bytes(), b"a".as_slice());
     assert_eq!(rt; proven.asked(), 4);
     // Version 2 gets a new global id, whatever is held.
+    let mut seals = Items::new(alloc);
     let fresh = proven
-        .reclaim(alloc, 1, &generations(&rt, &AUTH_GENERATION), 0)
+        .reclaim(alloc, 1, &generations(&rt, &AUTH_GENERATION), 0, &mut seals)
         .expect(&rt, "ample memory");
     assert!(rt; fresh == Reclaim::Fresh);
     let second = offered(&rt, alloc, b'a', FIRST_SERVER + 1);

@@ -1,43 +1,141 @@
--- What an opened record is read from.
-use Rattle.std.proofs.Common.{◌≡◌, ℕ, List, Result, Ok, Err, refl, sym, subst, inl, inr}
-use Rattle.std.specs.Prelude.{IfOk}
+-- What bytes open to, as a function, and as the record that they are opened as.
+use Rattle.std.proofs.Common.{◌≡◌, ◌≢◌, ℕ, ◌<◌, All, length, List, [], ◌∷◌, Option, Some, None, Result, Ok, Err, refl, sym, ap, ◌∙◌, inl, inr, subst, arith}
+use Rattle.std.proofs.lemmas.Bool.{cases_lt}
+use Rattle.std.proofs.lemmas.List.{get_or_past}
+use Rattle.std.proofs.lemmas.List.Elements.{All-get_or}
 use Rattle.cx_aes.specs.Cipher.{IsBlock}
 use Rattle.cx_cbc.specs.Envelope.{Opens}
+use Rattle.cx_cbc.specs.Opened.{opened}
 use Rattle.cx_cbc.proofs.Contents.{opens_one}
-use Rattle.cx_enc.specs.Forms.{Form}
-use Rattle.cx_enc.specs.Whole.{Spells}
-use Rattle.cx_sealed.specs.declared.refusals.SealedRefusal.{SealedRefusal}
-use Rattle.cx_sealed.specs.declared.refusals.SealedRefusal.TheVariants.{Unopened, Misread, OutOfMemory}
-use Rattle.cx_sealed.specs.Sealing.{OpensTo, Yields, IsRefusal, IsReadFrom, IsOpened}
+use Rattle.cx_cbc.proofs.OpeningLaws.{opened-Opens, Opens-opened}
+use Rattle.cx_enc.specs.declared.faults.ReadFault.{ReadFault}
+use Rattle.cx_enc.specs.declared.faults.ReadRefusal.{ReadRefusal}
+use Rattle.cx_enc.specs.declared.faults.ReadRefusal.TheVariants as refusals
+use Rattle.cx_enc.specs.Forms.{Spot, Form, IsBytes, IsLawful}
+use Rattle.cx_enc.specs.Whole.{start, Spells, IsRefusedBy}
+use Rattle.cx_enc.proofs.Wholes.{spelled, read_again}
+use Rattle.cx_sealed.specs.declared.refusals.SealedRefusal.TheVariants.{Unopened, Misread}
+use Rattle.cx_sealed.specs.declared.unsealed.Unsealed.{Unsealed}
+use Rattle.cx_sealed.specs.Sealing.{OpensTo, IsOpened}
+use Rattle.cx_sealed.specs.Unsealing.{unless_left, read_to_end, spelled_by, unsealed_as, unsealed}
 
-opens_to : {X : Type 0} (form : Form X) (key bytes content : List ℕ) (result : Result X SealedRefusal) → Opens key bytes content → IfOk result (Spells form content) → IfOk result (OpensTo form key bytes)
-opens_to form key bytes content (Ok x) opens spells = (content, opens, spells)
-opens_to form key bytes content (Err e) opens spells = tt
+-- ---- the record that a content spells
 
-misread_is : {X : Type 0} (form : Form X) (content : List ℕ) (result : Result X SealedRefusal) → IsReadFrom form content result → ((x : X) → Spells form content x → ⊥) → IsRefusal result Misread
-misread_is form content (Ok x) read none = none x read.found
-misread_is form content (Err Unopened) read none = absurd (read.unopened refl)
-misread_is form content (Err Misread) read none = inl refl
-misread_is form content (Err OutOfMemory) read none = inr refl
+-- bytes, and nothing behind their end
+octets_everywhere : (bytes : List ℕ) → All (λ b. b < 256) bytes → IsBytes bytes
+octets_everywhere bytes octets i = elim (cases_lt i (length bytes)) [
+  | inl within ↦ All-get_or (λ b. b < 256) bytes i 0 within octets
+  | inr past ↦ omega (arith, get_or_past bytes i 0 past)
+]
 
-spells_none : {X : Type 0} (form : Form X) (content : List ℕ) (result : Result X SealedRefusal) → IsReadFrom form content result → result ≡ Err Misread → (x : X) → Spells form content x → ⊥
-spells_none form content (Ok y) read is x spells = cc
-spells_none form content (Err e) read is x spells = let memory : e ≡ OutOfMemory = read.only x spells in let same : e ≡ Misread = cc in differ e same memory
+pub spelled_only : {X : Type 0} (form : Form X) → IsLawful form → (content : List ℕ) (x : X) → Spells form content x → spelled_by form content ≡ Some x
+spelled_only form lawful content x spells = ap read_to_end (read_again form lawful content x spells)
+
+pub spelled_found : {X : Type 0} (form : Form X) → IsLawful form → (content : List ℕ) (x : X) → All (λ b. b < 256) content → spelled_by form content ≡ Some x → Spells form content x
+spelled_found {X} form lawful content x octets e = by_read (form.at (start content)) refl e
   where
-    differ : (e : SealedRefusal) → e ≡ Misread → e ≡ OutOfMemory → ⊥
-    differ e a b = cc
+    by_left : (y : X) (next : Spot) (left : List ℕ) → next.left ≡ left → form.at (start content) ≡ Ok (y, next) → unless_left y left ≡ Some x → Spells form content x
+    by_left y next [] none read is =
+        let same : y ≡ x = cc in
+        rw same at (spelled form lawful content y next (octets_everywhere content octets) read none)
+    by_left y next (b ∷ left) more read is = absurd cc
 
--- bytes that open to a content are opened as what is read from that content
-pub opened_from : {X : Type 0} (form : Form X) (key bytes content : List ℕ) (result : Result X SealedRefusal) → IsBlock key → Opens key bytes content → IsReadFrom form content result → IsOpened form key bytes result
-opened_from {X} form key bytes content result block opens read = record {
-  found = opens_to form key bytes content result opens read.found;
-  only = λ x to.
-      let same : to.0 ≡ content = opens_one key bytes to.0 content block to.1 opens in
-      read.only x (subst (λ (c : List ℕ). Spells form c x) same to.2);
-  unopened = λ is. absurd (read.unopened is);
-  unopened_only = λ none. absurd (none content opens);
-  misread = λ is. (content, opens, spells_none form content result read is);
-  misread_only = λ other other_opens none.
-      let same : other ≡ content = opens_one key bytes other content block other_opens opens in
-      misread_is form content result read (λ x spells. none x (subst (λ (c : List ℕ). Spells form c x) (sym same) spells));
+    by_read : (r : Result (X × Spot) ReadFault) → form.at (start content) ≡ r → read_to_end r ≡ Some x → Spells form content x
+    by_read (Ok (y, next)) read is = by_left y next next.left refl read is
+    by_read (Err fault) read is = absurd cc
+
+-- bytes that a reader refuses spell none
+pub spelled_none : {X : Type 0} (form : Form X) (content : List ℕ) (why : ReadRefusal) → why ≢ refusals.OutOfMemory → IsRefusedBy form content why → None ≡ spelled_by form content
+spelled_none form content (refusals.Fault fault) not is = sym (ap read_to_end is)
+spelled_none {X} form content (refusals.LeftOver place) not (x, next, read, some, at) = sym (ap read_to_end read ∙ by_left next.left some)
+  where
+    by_left : (left : List ℕ) → left ≢ [] → unless_left x left ≡ None
+    by_left [] some = absurd (some refl)
+    by_left (b ∷ left) some = refl
+spelled_none form content refusals.OutOfMemory not is = absurd (not refl)
+
+-- ---- the record that bytes are opened as
+
+-- where they open to no content
+pub is_unopened : {X : Type 0} (form : Form X) (key bytes : List ℕ) → IsBlock key → None ≡ unsealed form key bytes → IsOpened form key bytes (Err Unopened)
+is_unopened {X} form key bytes block is = record {
+  found = tt;
+  only = λ x to. absurd (none to.0 to.1);
+  unopened = λ _. none;
+  unopened_only = λ _. inl refl;
+  misread = λ e. absurd cc;
+  misread_only = λ content opens _. absurd (none content opens);
 }
+  where
+    shut : (o : Option (List ℕ)) (content : List ℕ) → o ≡ Some content → None ≡ unsealed_as form o → ⊥
+    shut None content e none = cc
+    shut (Some other) content e none = cc
+
+    none : (content : List ℕ) → Opens key bytes content → ⊥
+    none content opens = shut (opened key bytes) content (Opens-opened key bytes content block opens) is
+
+-- what bytes open to, and the record that it spells
+record AreParts {X : Type 0} (form : Form X) (key bytes : List ℕ) (u : Unsealed X) : Type 0 where
+  opens : Opens key bytes u.content
+  spells : spelled_by form u.content ≡ u.value
+
+parts : {X : Type 0} (form : Form X) (key bytes : List ℕ) (u : Unsealed X) → Some u ≡ unsealed form key bytes → AreParts form key bytes u
+parts {X} form key bytes u is = by_opened (opened key bytes) refl is
+  where
+    by_opened : (o : Option (List ℕ)) → opened key bytes ≡ o → Some u ≡ unsealed_as form o → AreParts form key bytes u
+    by_opened None e is = absurd cc
+    by_opened (Some content) e is =
+        let same : u ≡ record { content = content; value = spelled_by form content } = cc in
+        let first : content ≡ u.content = ap (λ (v : Unsealed X). v.content) (sym same) in
+        record {
+          opens = opened-Opens key bytes u.content (e ∙ ap (λ (c : List ℕ). Some c) first);
+          spells = ap (spelled_by form) (sym first) ∙ ap (λ (v : Unsealed X). v.value) (sym same);
+        }
+
+-- where the content spells no record
+pub is_misread : {X : Type 0} (form : Form X) → IsLawful form → (key bytes : List ℕ) → IsBlock key → (u : Unsealed X) → Some u ≡ unsealed form key bytes → u.value ≡ None → IsOpened form key bytes (Err Misread)
+is_misread {X} form lawful key bytes block u is value = record {
+  found = tt;
+  only = λ x to. absurd (none x (subst (λ (c : List ℕ). Spells form c x) (opens_one key bytes to.0 u.content block to.1 p.opens) to.2));
+  unopened = λ e. absurd cc;
+  unopened_only = λ shut. absurd (shut u.content p.opens);
+  misread = λ _. (u.content, p.opens, none);
+  misread_only = λ _ _ _. inl refl;
+}
+  where
+    p : AreParts form key bytes u
+    p = parts form key bytes u is
+
+    none : (x : X) → Spells form u.content x → ⊥
+    none x spells = let found : None ≡ Some x = sym value ∙ sym p.spells ∙ spelled_only form lawful u.content x spells in cc
+
+-- where it spells one
+pub is_found : {X : Type 0} (form : Form X) → IsLawful form → (key bytes : List ℕ) → IsBlock key → (u : Unsealed X) (x : X) → Some u ≡ unsealed form key bytes → u.value ≡ Some x → IsOpened form key bytes (Ok x)
+is_found {X} form lawful key bytes block u x is value = record {
+  found = (u.content, p.opens, spells);
+  only = λ y to.
+      let again : Spells form u.content y = subst (λ (c : List ℕ). Spells form c y) (opens_one key bytes to.0 u.content block to.1 p.opens) to.2 in
+      let same : Some x ≡ Some y = sym value ∙ sym p.spells ∙ spelled_only form lawful u.content y again in
+      cc;
+  unopened = λ e. absurd cc;
+  unopened_only = λ shut. shut u.content p.opens;
+  misread = λ e. absurd cc;
+  misread_only = λ content opens none. none x (subst (λ (c : List ℕ). Spells form c x) (opens_one key bytes u.content content block p.opens opens) spells);
+}
+  where
+    p : AreParts form key bytes u
+    p = parts form key bytes u is
+
+    spells : Spells form u.content x
+    spells = spelled_found form lawful u.content x p.opens.octets (p.spells ∙ value)
+
+-- ---- bytes that open to a record
+
+-- what they open to as a function
+pub unsealed_only : {X : Type 0} (form : Form X) → IsLawful form → (key bytes : List ℕ) (x : X) → IsBlock key → (to : OpensTo form key bytes x) → unsealed form key bytes ≡ Some (record { content = to.0; value = Some x })
+unsealed_only {X} form lawful key bytes x block to =
+    ap (unsealed_as form) (Opens-opened key bytes to.0 block to.1)
+    ∙ ap (λ (v : Option X). Some (unsealed_with to.0 v)) (spelled_only form lawful to.0 x to.2)
+  where
+    unsealed_with : List ℕ → Option X → Unsealed X
+    unsealed_with content value = record { content = content; value = value }

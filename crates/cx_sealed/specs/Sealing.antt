@@ -1,5 +1,5 @@
 -- What opening and sealing a record answer.
-use Rattle.std.specs.Prelude.{ℕ, ◌≡◌, ◌≢◌, ◌⊎◌, List, Result, Ok, Err, IfOk}
+use Rattle.std.specs.Prelude.{ℕ, ◌≡◌, ◌⊎◌, List, Result, Ok, Err, IfOk}
 use Rattle.cx_cbc.specs.Envelope.{sealed, Opens}
 use Rattle.cx_enc.specs.Forms.{Form}
 use Rattle.cx_enc.specs.Whole.{Spells}
@@ -19,12 +19,6 @@ Yields (Err e) x = e ≡ OutOfMemory
 abbrev pub IsRefusal : {X : Type 0} → Result X SealedRefusal → SealedRefusal → Type 0
 IsRefusal (Ok x) why = ⊥
 IsRefusal (Err e) why = (e ≡ why) ⊎ (e ≡ OutOfMemory)
-
--- a content is read as the value that it spells; where it spells none it is misread
-pub record IsReadFrom {X : Type 0} (form : Form X) (content : List ℕ) (result : Result X SealedRefusal) : Type 0 where
-  pub found : IfOk result (Spells form content)
-  pub only : (x : X) → Spells form content x → Yields result x
-  pub unopened : result ≢ Err Unopened
 
 -- an opened record is what the sealed bytes open to, exactly; they are refused as unopened exactly where they open to no
 -- content, and as misread exactly where they open to a content that is no spelling of the record; each of these yields to want

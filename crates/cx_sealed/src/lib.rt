@@ -14,6 +14,7 @@ mod rotating_reply;
 mod service_ticket;
 mod ticket_info;
 mod unsealed;
+mod unsealing;
 
 pub use authorize::Authorize;
 pub use authorize_challenge::AuthorizeChallenge;
@@ -32,6 +33,10 @@ pub use rotating_reply::RotatingReply;
 pub use service_ticket::ServiceTicket;
 pub use ticket_info::TicketInfo;
 pub use unsealed::Unsealed;
+pub use unsealing::{
+    unseal_authorize, unseal_authorize_challenge, unseal_authorize_reply, unseal_connection_secret,
+    unseal_rotating_reply, unseal_service_ticket, unseal_ticket_info,
+};
 
 // Each public type may be sent to another thread and shared with one.
 fn is_sendable<T: Send + Sync>() {}

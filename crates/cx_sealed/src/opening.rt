@@ -2,7 +2,7 @@
 
 ghost use Rattle.std.specs.Prelude.{IfOk};
 ghost use Rattle.cx_sealed.specs.Records.{service_ticket_layout, ticket_info_layout, authorize_layout, authorize_challenge_layout, authorize_reply_layout, rotating_reply_layout, connection_secret_layout};
-ghost use Rattle.cx_sealed.specs.Sealing.{IsOpened, IsReadFrom, IsSealed};
+ghost use Rattle.cx_sealed.specs.Sealing.{IsOpened, IsSealed};
 
 use crate::authorize::Authorize;
 use crate::authorize_challenge::AuthorizeChallenge;
@@ -13,10 +13,11 @@ use crate::refusals::SealedRefusal;
 use crate::rotating_reply::RotatingReply;
 use crate::service_ticket::ServiceTicket;
 use crate::ticket_info::TicketInfo;
+use crate::unsealing::unseal;
 use cx_aes::Schedule;
 use cx_base::Blob;
-use cx_cbc::{OpenRefusal, SealRefusal, open, seal};
-use cx_enc::{Encoded, ReadRefusal, read_whole, write_whole};
+use cx_cbc::{SealRefusal, seal};
+use cx_enc::{Encoded, write_whole};
 use std::alloc::{AllocError, Global};
 
 // Opens a record.
@@ -27,22 +28,13 @@ pub(crate) fn open_record<T: Record>(
 ) -> Result<T, SealedRefusal>
     ensures { IsOpened T.layout.form key.now sealed.now result }
 {
-    match open(alloc, &Schedule::new(key), sealed) {
-        Ok(content) => read_content(alloc, content.bytes()),
-        Err(OpenRefusal::Unopened) => Err(SealedRefusal::Unopened),
-        Err(OpenRefusal::OutOfMemory) => Err(SealedRefusal::OutOfMemory),
-    }
-}
-
-// Reads the content of a record.
-fn read_content<T: Record>(alloc: Global, content: &[u8]) -> Result<T, SealedRefusal>
-    ensures { IsReadFrom T.layout.form content.now result }
-{
-    match read_whole(alloc, content) {
-        Ok(value) => Ok(value),
-        Err(ReadRefusal::OutOfMemory) => Err(SealedRefusal::OutOfMemory),
-        Err(ReadRefusal::Fault(_)) => Err(SealedRefusal::Misread),
-        Err(ReadRefusal::LeftOver(_)) => Err(SealedRefusal::Misread),
+    let Some(found) = unseal(alloc, key, sealed)? else {
+        return Err(SealedRefusal::Unopened);
+    };
+    let value = found.value;
+    match value {
+        Some(value) => Ok(value),
+        None => Err(SealedRefusal::Misread),
     }
 }
 

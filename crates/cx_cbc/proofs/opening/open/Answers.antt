@@ -2,6 +2,7 @@ use Rattle.std.proofs.Common.{◌≡◌, ◌%◌, ◌≤◌, length, sym, ap, �
 use Rattle.std.proofs.lemmas.List.Elements.{All-from_get_or}
 use Rattle.cx_aes.specs.KeyOf.{key_of}
 use Rattle.cx_cbc.proofs.Contents.{whole-opens, length-opens, whole-decrypted, decrypted-opens, opens_found, enveloped-one, IsByte}
+use Rattle.cx_cbc.proofs.OpeningLaws.{Opens-opened, opened-none}
 use Rattle.cx_cbc.proofs.opening.open.Goals as goal
 
 pub returns-then-sealed-gt-LONGEST_ENVELOPE-clause-unopened : goal.returns-then-sealed-gt-LONGEST_ENVELOPE-clause-unopened
@@ -45,3 +46,18 @@ returns-clause-opened c =
     (All-from_get_or IsByte c.args.sealed.now 0 (λ i lt. omega (arith, c.type_inv.sealed i))) whole short
     (sym (c.bytes.ensures ∙ c.in_ok-plain.ensures) ∙ c.in-Some.ensures.found) in
     rw c.in_ok-content.ensures opens
+
+pub returns-then-sealed-gt-LONGEST_ENVELOPE-clause-none : goal.returns-then-sealed-gt-LONGEST_ENVELOPE-clause-none
+returns-then-sealed-gt-LONGEST_ENVELOPE-clause-none c = λ is. opened-none (key_of c.args.key.now) c.args.sealed.now (returns-then-sealed-gt-LONGEST_ENVELOPE-clause-unopened c is)
+
+pub returns-then-sealed-ne0-clause-none : goal.returns-then-sealed-ne0-clause-none
+returns-then-sealed-ne0-clause-none c = λ is. opened-none (key_of c.args.key.now) c.args.sealed.now (returns-then-sealed-ne0-clause-unopened c is)
+
+pub returns-in_default-clause-none : goal.returns-in_default-clause-none
+returns-in_default-clause-none c = λ is. opened-none (key_of c.args.key.now) c.args.sealed.now (returns-in_default-clause-unopened c is)
+
+pub returns-then-content-gt-LONGEST-clause-none : goal.returns-then-content-gt-LONGEST-clause-none
+returns-then-content-gt-LONGEST-clause-none c = λ is. opened-none (key_of c.args.key.now) c.args.sealed.now (returns-then-content-gt-LONGEST-clause-unopened c is)
+
+pub returns-clause-exact : goal.returns-clause-exact
+returns-clause-exact c = Opens-opened (key_of c.args.key.now) c.args.sealed.now c.in_ok-content.content c.args.key.now.expanded.block (returns-clause-opened c)

@@ -1,14 +1,17 @@
--- The content is the one to which the bytes open.
-use Rattle.std.proofs.Common.{rules}
-use Rattle.cx_aes.specs.Cipher.{IsBlock}
-use Rattle.cx_cbc.specs.Envelope.{Opens}
-use Rattle.cx_sealed.specs.Sealing.{IsReadFrom}
-use Rattle.cx_sealed.proofs.Found.{opened_from}
+-- The record that is opened is the one that the content spells.
+use Rattle.std.proofs.Common.{sym, ◌∙◌}
+use Rattle.cx_aes.proofs.Keys.{IsBlock-array}
+use Rattle.cx_sealed.proofs.Found.{is_unopened, is_misread, is_found}
 use Rattle.cx_sealed.proofs.opening.open_record.Goals as goal
 
-pub returns-in-Ok : goal.returns-in-Ok
-returns-in-Ok g c =
-    let block : IsBlock c.args.key.now = rw c.new.ensures at c.new.result.expanded.block in
-    let opens : Opens c.args.key.now c.args.sealed.now c.in-Ok.content = rw c.new.ensures at c.in-Ok.ensures.opened in
-    let read : IsReadFrom g.T.Encoded.layout.form c.in-Ok.content c.read_content.result = rw c.bytes.ensures at c.read_content.ensures in
-    opened_from g.T.Encoded.layout.form c.args.key.now c.args.sealed.now c.in-Ok.content c.read_content.result block opens read
+pub returns-in_default : goal.returns-in_default
+returns-in_default g c =
+    is_unopened g.T.Encoded.layout.form c.args.key.now c.args.sealed.now (IsBlock-array c.args.key.now c.told-key c.fits-key) (sym c.in_default.is ∙ c.in_ok-found.ensures)
+
+pub returns-in-Some-value : goal.returns-in-Some-value
+returns-in-Some-value g c =
+    is_found g.T.Encoded.layout.form g.T.Encoded.layout.lawful c.args.key.now c.args.sealed.now (IsBlock-array c.args.key.now c.told-key c.fits-key) c.in-Some.found c.in-Some-value.value (sym c.in-Some.is ∙ c.in_ok-found.ensures) c.in-Some-value.is
+
+pub returns : goal.returns
+returns g c =
+    is_misread g.T.Encoded.layout.form g.T.Encoded.layout.lawful c.args.key.now c.args.sealed.now (IsBlock-array c.args.key.now c.told-key c.fits-key) c.in-Some.found (sym c.in-Some.is ∙ c.in_ok-found.ensures) c.in-None.is

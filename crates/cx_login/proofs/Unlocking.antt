@@ -1,0 +1,103 @@
+-- One part opens and then the next.
+use Rattle.std.proofs.Common.{◌≡◌, ℕ, suc, ◌+◌, ◌<◌, ◌≤◌, List, [], ◌∷◌, ◌++◌, length, get_or, drop, Option, Some, None, refl, sym, ap, subst, ◌∙◌, append_assoc, drop-cons, length-drop, arith}
+use Rattle.std.specs.Option.{option_map}
+use Rattle.std.proofs.lemmas.List.{append-nil, nil_from_length}
+use Rattle.cx_journal.specs.declared.premises.KeyKind.TheVariants as kind
+use Rattle.cx_steps.specs.declared.seals.SealEntry.{SealEntry}
+use Rattle.cx_wire.specs.declared.tickets.TicketPart.{TicketPart}
+use Rattle.cx_login.specs.Held.{Held}
+use Rattle.cx_login.specs.Unlocking.{Unlocked, made, going_on, ◌>>=◌, told, told_each, Made}
+
+-- nothing more opens
+pub made_now : {X : Type 0} (old new : List SealEntry) (x : X) → new ≡ old → Made (made x) old new (Some x)
+made_now old new x is = (refl, is ∙ sym (append-nil old))
+
+-- the first part doesn't open to its record
+pub none_first : {A B : Type 0} (u : Unlocked A) (next : A → Unlocked B) (old new : List SealEntry) → Made u old new None → Made (u >>= next) old new None
+none_first {A} {B} u next old new is = by_value u.value is.0
+  where
+    by_value : (v : Option A) → None ≡ v → Made (going_on u.seals v next) old new None
+    by_value None e = (refl, is.1)
+    by_value (Some a) e = absurd cc
+
+-- it does, and then the others are opened
+pub some_first : {A B : Type 0} (u : Unlocked A) (next : A → Unlocked B) (a : A) (old mid new : List SealEntry) (value : Option B) → Made u old mid (Some a) → Made (next a) mid new value → Made (u >>= next) old new value
+some_first {A} {B} u next a old mid new value first then = by_value u.value first.0
+  where
+    by_value : (v : Option A) → Some a ≡ v → Made (going_on u.seals v next) old new value
+    by_value None e = absurd cc
+    by_value (Some b) e =
+        let same : a ≡ b = cc in
+        let whole : Made (going_on u.seals (Some a) next) old new value =
+        (then.0, then.1 ∙ ap (λ (s : List SealEntry). s ++ (next a).seals) first.1 ∙ append_assoc old u.seals (next a).seals) in
+        subst (λ (x : A). Made (going_on u.seals (Some x) next) old new value) same whole
+
+-- ---- the tickets of a list
+
+-- the log and the tickets, where these stand before what is still to be opened
+pub record Ahead : Type 0 where
+  pub seals : List SealEntry
+  pub held : Option (List Held)
+
+abbrev pub ahead : List SealEntry → List Held → Unlocked (List Held) → Ahead
+ahead seals held u = record { seals = seals ++ u.seals; held = option_map (λ rest. held ++ rest) u.value }
+
+abbrev at : List SealEntry → Option (List Held) → Ahead
+at seals held = record { seals = seals; held = held }
+
+-- the ticket of one entry, and then those of the others
+abbrev pub one_told : Unlocked Held → Unlocked (List Held) → Unlocked (List Held)
+one_told first others = first >>= λ held. others >>= λ rest. made (held ∷ rest)
+
+pub told_each_at : (key : List ℕ) (parts : List TicketPart) (i : ℕ) (part : TicketPart) → i < length parts → part ≡ get_or parts i part
+    → told_each key (drop i parts) ≡ one_told (told kind.Session key part) (told_each key (drop (i + 1) parts))
+told_each_at key parts i part lt is =
+    let e : suc i ≡ i + 1 = omega arith in
+    ap (told_each key) (drop-cons parts i part lt ∙ ap (λ (p : TicketPart). p ∷ drop (suc i) parts) (sym is) ∙ ap (λ n. part ∷ drop n parts) e)
+
+-- one ticket more
+pub ahead_more : (first : Unlocked Held) (others : Unlocked (List Held)) (h : Held) (held more : List Held) (old new : List SealEntry)
+    → Made first old new (Some h) → more ≡ held ++ h ∷ [] → ahead new more others ≡ ahead old held (one_told first others)
+ahead_more first others h held more old new is pushed = by_value first.value is.0
+  where
+    by_others : (o : Option (List Held)) → at (new ++ others.seals) (option_map (λ rest. more ++ rest) o)
+        ≡ ahead old held (going_on first.seals (Some h) (λ x. going_on others.seals o (λ rest. made (x ∷ rest))))
+    by_others None = ap (λ (s : List SealEntry). at s None) (ap (λ (s : List SealEntry). s ++ others.seals) is.1 ∙ append_assoc old first.seals others.seals)
+    by_others (Some rest) =
+        ap (λ (s : List SealEntry). at s (Some (more ++ rest)))
+        (ap (λ (s : List SealEntry). s ++ others.seals) is.1 ∙ append_assoc old first.seals others.seals ∙ ap (λ (s : List SealEntry). old ++ (first.seals ++ s)) (sym (append-nil others.seals)))
+        ∙ ap (λ (hs : List Held). at (old ++ (first.seals ++ (others.seals ++ []))) (Some hs))
+        (ap (λ (hs : List Held). hs ++ rest) pushed ∙ append_assoc held (h ∷ []) rest)
+
+    by_value : (v : Option Held) → Some h ≡ v → ahead new more others ≡ ahead old held (going_on first.seals v (λ x. others >>= λ rest. made (x ∷ rest)))
+    by_value None e = absurd cc
+    by_value (Some x) e =
+        let same : h ≡ x = cc in
+        subst (λ (y : Held). ahead new more others ≡ ahead old held (going_on first.seals (Some y) (λ x. others >>= λ rest. made (x ∷ rest)))) same (by_others others.value)
+
+-- one that isn't told
+pub ahead_none : (first : Unlocked Held) (others all : Unlocked (List Held)) (held : List Held) (before old new : List SealEntry)
+    → Made first old new None → ahead old held (one_told first others) ≡ ahead before [] all → Made all before new None
+ahead_none first others all held before old new is e = by_value first.value is.0 e
+  where
+    of_all : (v : Option (List Held)) → at (old ++ first.seals) None ≡ at (before ++ all.seals) (option_map (λ rest. [] ++ rest) v) → None ≡ v
+    of_all None e = refl
+    of_all (Some rest) e = let no : None ≡ Some rest = ap (λ (a : Ahead). a.held) e in absurd cc
+
+    by_value : (v : Option Held) → None ≡ v → ahead old held (going_on first.seals v (λ x. others >>= λ rest. made (x ∷ rest))) ≡ ahead before [] all → Made all before new None
+    by_value None none e = (of_all all.value e, is.1 ∙ ap (λ (a : Ahead). a.seals) e)
+    by_value (Some x) none e = absurd cc
+
+-- all of them
+pub ahead_all : (key : List ℕ) (parts : List TicketPart) (i : ℕ) (all : Unlocked (List Held)) (held : List Held) (before new : List SealEntry)
+    → length parts ≤ i → ahead new held (told_each key (drop i parts)) ≡ ahead before [] all → Made all before new (Some held)
+ahead_all key parts i all held before new le e =
+    by_left (drop i parts) (nil_from_length (drop i parts) (omega (arith, length-drop i parts))) e
+  where
+    of_all : (v : Option (List Held)) → Some (held ++ []) ≡ option_map (λ rest. [] ++ rest) v → Some held ≡ v
+    of_all None e = absurd cc
+    of_all (Some rest) e = let same : held ++ [] ≡ rest = cc in ap (λ (hs : List Held). Some hs) (sym (append-nil held) ∙ same)
+
+    by_left : (left : List TicketPart) → left ≡ [] → ahead new held (told_each key left) ≡ ahead before [] all → Made all before new (Some held)
+    by_left [] none e = (of_all all.value (ap (λ (a : Ahead). a.held) e), sym (append-nil new) ∙ ap (λ (a : Ahead). a.seals) e)
+    by_left (p ∷ left) none e = absurd cc
