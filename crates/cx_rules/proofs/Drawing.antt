@@ -303,9 +303,9 @@ logs-client_ident : (a : MonitorArrival) (s : Secured) (entity : Entity) (ident 
 logs-client_ident a s entity (Err why) h = tt
 logs-client_ident a s entity (Ok ident) h = by_test (ident.required == 0)
   where
-    by_test : (plain : Bool) → Logs a (if plain then sends_secure a s (λ behind. Open behind entity) [] (server_ident a.own) else misses a s ident.required)
+    by_test : (plain : Bool) → Logs a (if plain then sends_secure a s (λ behind. Open behind entity) [] (server_ident a.own.address) else misses a s ident.required)
     by_test true =
-        logs-secure a s (λ behind. Open behind entity) (secure_frame s.keys (server_ident a.own)) (keeps-secure_frame s.keys (server_ident a.own))
+        logs-secure a s (λ behind. Open behind entity) (secure_frame s.keys (server_ident a.own.address)) (keeps-secure_frame s.keys (server_ident a.own.address))
             (λ t seals e. key-moved a.link.stage s.keys.key t.keys.key e h)
     by_test false = logs-missing a ident.required (secure_frame s.keys (control 10 ident_missing_features_layout.form (record { features = ident.required })))
 

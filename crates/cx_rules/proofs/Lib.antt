@@ -4,3 +4,4 @@ pub mod Granting
 pub mod MonitorRows
 pub mod Naming
 pub mod Quiet
+pub mod Recording

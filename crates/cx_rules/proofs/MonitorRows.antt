@@ -158,8 +158,8 @@ client_ident-quiet : (a : MonitorArrival) (s : Secured) (entity : Entity) (ident
 client_ident-quiet a s entity (Err why) = quiet-refuses_bytes a why [] tt
 client_ident-quiet a s entity (Ok ident) = by_test (ident.required == 0)
   where
-    by_test : (plain : Bool) → Quiet a.own.saved (if plain then sends_secure a s (λ behind. Open behind entity) [] (server_ident a.own) else misses a s ident.required)
-    by_test true = quiet-sends_secure a s (λ behind. Open behind entity) [] (server_ident a.own) tt
+    by_test : (plain : Bool) → Quiet a.own.saved (if plain then sends_secure a s (λ behind. Open behind entity) [] (server_ident a.own.address) else misses a s ident.required)
+    by_test true = quiet-sends_secure a s (λ behind. Open behind entity) [] (server_ident a.own.address) tt
     by_test false =
         let f = control 10 ident_missing_features_layout.form (record { features = ident.required }) in
         missing-quiet a ident.required (secure_frame s.keys f) (none-secure_frame s.keys f)

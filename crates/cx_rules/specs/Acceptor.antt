@@ -33,11 +33,15 @@ pub data Stage (Pending Peer : Type 0) : Type 0 where
   AwaitsIdent : Secured → Peer → Stage Pending Peer
   Open : Secured → Peer → Stage Pending Peer
 
+-- AUTH_BAD_METHOD with a code: the method is cephx
+abbrev pub bad_method : ℕ → Frame
+bad_method code = control 3 bad_method_layout.form (written_method (record { method = 2; result = code }))
+
 module _ {Own Pending Peer : Type 0} where
   -- AUTH_BAD_METHOD is sent, with a code; the link is shut, and why is entered
   abbrev pub denies : Arrival Own (Stage Pending Peer) → ℕ → LoginFault → List SealEntry → Row Own (Stage Pending Peer)
   denies a code why seals =
-      record (refuses a (Login why) seals) { sends = frame_text (control 3 bad_method_layout.form (written_method (record { method = 2; result = code }))) }
+      record (refuses a (Login why) seals) { sends = frame_text (bad_method code) }
 
   -- ---- banner, HELLO, AUTH_REQUEST
 

@@ -33,19 +33,23 @@ use Rattle.cx_rules.specs.Greetings.{own_banner}
 -- ---- CLIENT_IDENT, SESSION_RECONNECT
 
 -- SERVER_IDENT: the monitor's sessions are lossy, and have no cookie
-abbrev pub server_ident : Monitor → Frame
-server_ident m = control 9 server_ident_layout.form (record { addr = m.address; gid = 0; global_seq = 0; supported = 0; required = 0; flags = 1; cookie = 0 })
+abbrev pub server_ident : Addr → Frame
+server_ident address = control 9 server_ident_layout.form (record { addr = address; gid = 0; global_seq = 0; supported = 0; required = 0; flags = 1; cookie = 0 })
 
 abbrev pub on_client_ident : MonitorArrival → Secured → Entity → Result ClientIdent BytesFault → MonitorRow
 on_client_ident a s entity (Err why) = refuses_bytes a why []
 on_client_ident a s entity (Ok ident) =
-    if ident.required == 0 then sends_secure a s (λ behind. Open behind entity) [] (server_ident a.own) else misses a s ident.required
+    if ident.required == 0 then sends_secure a s (λ behind. Open behind entity) [] (server_ident a.own.address) else misses a s ident.required
+
+-- SESSION_RESET: all of the session is forgotten
+abbrev pub session_reset : Frame
+session_reset = control 12 session_reset_layout.form (record { full = true })
 
 -- the monitor has no session to go on with: SESSION_RESET is sent, and CLIENT_IDENT is waited for
 abbrev pub on_session_reconnect : MonitorArrival → Secured → Entity → Result SessionReconnect BytesFault → MonitorRow
 on_session_reconnect a s entity (Err why) = refuses_bytes a why []
 on_session_reconnect a s entity (Ok reconnect) =
-    sends_secure a s (λ behind. AwaitsIdent behind entity) [] (control 12 session_reset_layout.form (record { full = true }))
+    sends_secure a s (λ behind. AwaitsIdent behind entity) [] session_reset
 
 abbrev pub on_ident : MonitorArrival → Secured → Entity → Frame → MonitorRow
 on_ident a s entity f =

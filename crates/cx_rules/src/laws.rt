@@ -8,6 +8,7 @@ ghost use Rattle.cx_rules.specs.Connector.{AskerArrival};
 ghost use Rattle.cx_rules.specs.Judged.{AskerLogsTurn, IsJudged, LogsTurn, NamesLinks};
 ghost use Rattle.cx_rules.specs.Monitor.{MonitorArrival, MonitorNode};
 ghost use Rattle.cx_rules.specs.MonitorRule.{monitor_rule, turned_at};
+ghost use Rattle.cx_rules.specs.Recorded.{WritesAsRecorded};
 
 /// Of every step of the monitor, and of a client.
 pub fn rule_laws()
@@ -20,4 +21,9 @@ pub fn rule_laws()
     // What a turn draws is logged.
     ensures monitor_draws { (a : MonitorArrival) → LogsTurn a (turned_at a a.link.stage) }
     ensures asker_draws { (a : AskerArrival) → AskerLogsTurn a (connector.turned_at a a.link.stage) }
+{}
+
+/// The banner and the payloads that don't hang on a draw are those of recorded runs, byte by byte.
+pub fn recorded_bytes()
+    ensures { WritesAsRecorded }
 {}
