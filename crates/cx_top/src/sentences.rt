@@ -2,7 +2,8 @@
 //! wrong with a word, what its place takes, and the form of its line with an example.
 
 use crate::status::Status;
-use cx_lines::{BadWord, Head, Hint, LineFault, Place, Shown};
+use cx_lines::{BadWord, Head, LinkForm, NodeForm, SettingForm};
+use cx_places::{CommandForm, Hint, LineFault, Place, Shown};
 use std::fmt;
 
 /// A sentence for each status but `Done`, which has none; for wrong words the commands that are served, with examples.
@@ -42,8 +43,9 @@ impl fmt::Display for Status {
             ),
             Status::NotYet { line } => write!(
                 f,
-                "line {} of the schedule begins with a word whose lines are not served yet, one of seed, modes, renew, \
-                drop, tick, do, carry, lose, inject, again, cut, restart, failsave and settle; leave it out",
+                "line {} of the schedule is a good one, but not served yet: seed, modes, leak, renew, drop, tick, do, carry, \
+                lose, inject, again, cut, restart, failsave and settle lines are to come, and so are lossy sessions and \
+                clocks of one node; leave it out",
                 line
             ),
         }
@@ -75,8 +77,9 @@ impl fmt::Display for Wrong<'_> {
         match bad.fault.why {
             LineFault::UnknownWord => write!(
                 f,
-                "its first word, {}, begins no line{}; a line begins with lifetime, auth-lifetime, entity, clock, fetch, \
-                login, connect or send, and a comment with #",
+                "its first word, {}, begins no line{}; a line begins with lifetime, auth-lifetime, entity, seed, modes, leak, \
+                clock, fetch, login, renew, connect, send, drop, tick, do, carry, lose, inject, again, cut, restart, failsave \
+                or settle, and a comment with #",
                 Word(&bad.shown),
                 hint(bad.hint)
             ),
@@ -98,7 +101,8 @@ impl fmt::Display for Wrong<'_> {
             ),
             LineFault::Order => write!(
                 f,
-                "it stands too low: lifetime, auth-lifetime and entity lines stand above all others; move it up{}",
+                "it stands too low: lifetime, auth-lifetime, entity, seed, modes and leak lines stand above all others; move \
+                it up{}",
                 form(bad.form)
             ),
             _ => write!(
@@ -118,13 +122,22 @@ impl fmt::Display for Wrong<'_> {
 fn problem(bad: &BadWord) -> &'static str {
     match bad.fault.why {
         LineFault::BadNumber => number_problem(bad),
-        LineFault::BadName => {
-            "is no name: a name is a type, client, mds, osd or mgr, a point and an id of 1 to 64 letters, digits or \
-            _ - . : + /, as client.admin or osd.0"
-        }
+        LineFault::BadName => name_problem(bad.takes),
         LineFault::BadText => text_problem(bad),
         LineFault::UnknownNode => node_problem(bad),
         _ => again_problem(bad.takes),
+    }
+}
+
+fn name_problem(place: Option<Place>) -> &'static str {
+    match place {
+        Some(Place::Node) | Some(Place::Unseeded) => {
+            "is no node: a node is mon, the monitor, or an entity's, by its name, as client.admin or osd.0"
+        }
+        _ => {
+            "is no name: a name is a type, client, mds, osd or mgr, a point and an id of 1 to 64 letters, digits or \
+            _ - . : + /, as client.admin or osd.0"
+        }
     }
 }
 
@@ -137,6 +150,10 @@ fn number_problem(bad: &BadWord) -> &'static str {
         Some(Place::Life) if digits => "is out of bounds: a lifetime is 1 to 31,536,000 seconds",
         Some(Place::Life) =>
             "is no number: a lifetime is 1 to 31,536,000 seconds, in decimal digits alone, as 3600",
+        Some(Place::Number) if digits => {
+            "is too large: a number is below 18,446,744,073,709,551,616"
+        }
+        Some(Place::Number) => "is no number: a number is decimal digits alone, as 1",
         _ if digits => "is too large: a reading is below 4,000,000,000 seconds",
         _ => {
             "is no reading: a reading is a number of seconds, as 4599, or one with a point and nine digits, as \
@@ -164,6 +181,16 @@ fn text_problem(bad: &BadWord) -> &'static str {
         Some(Place::Part) => {
             "is no pool, namespace or object: 1 to 255 letters, digits or _ - . , and - where there is none"
         }
+        Some(Place::Bytes) => {
+            "is no bytes: two hexadecimal digits a byte, and - where there is none"
+        }
+        Some(Place::Modes) => "is no list of modes: crc, secure or crc,secure",
+        Some(Place::Side) => "is no side of a link: c, the connector's, or a, the acceptor's",
+        Some(Place::Lossy) => "may not stand there: nothing but lossy stands behind the daemon",
+        Some(Place::LeftState) => "is no state that a failed save leaves: old or new",
+        Some(Place::Command) => {
+            "begins no line that may stand behind do: fetch, login, renew, connect or send"
+        }
         _ =>
             "is no data: two hexadecimal digits a byte, at most 65,536 bytes, and - where there is none",
     }
@@ -172,10 +199,14 @@ fn text_problem(bad: &BadWord) -> &'static str {
 fn node_problem(bad: &BadWord) -> &'static str {
     match bad.takes {
         Some(Place::Entity) => "can't be declared: an entity is a client, an mds, an osd or a mgr",
-        Some(Place::Client) if begins(&bad.shown, b"client.") => UNDECLARED,
-        Some(Place::Client) => "is no client: a client's name begins with client.",
-        _ if is_daemon(&bad.shown) => UNDECLARED,
-        _ => "is no daemon: a daemon's name begins with mds., osd. or mgr.",
+        Some(Place::Daemon) if is_daemon(&bad.shown) => UNDECLARED,
+        Some(Place::Daemon) => "is no daemon: a daemon's name begins with mds., osd. or mgr.",
+        Some(Place::Node) | Some(Place::Unseeded) => {
+            "is declared by no line above: write mon for the monitor, and an entity line for any other node, above all lines \
+            that aren't head lines"
+        }
+        _ if begins(&bad.shown, b"client.") => UNDECLARED,
+        _ => "is no client: a client's name begins with client.",
     }
 }
 
@@ -187,6 +218,9 @@ fn again_problem(place: Option<Place>) -> &'static str {
         Some(Place::Entity) => "is declared by a line above already; give it all of its caps there",
         Some(Place::Service) =>
             "stands in this line already; give it one text, with commas between its clauses",
+        Some(Place::Unseeded) => "has a seed by a line above already; leave one of them out",
+        Some(Place::Unmoded) => "has its modes by a line above already; leave one of them out",
+        Some(Place::Unleaked) => "is leaked by a line above already; leave one of them out",
         _ =>
             "begins a line that stands once in a schedule, and one stands above already; leave one of them out",
     }
@@ -194,25 +228,74 @@ fn again_problem(place: Option<Place>) -> &'static str {
 
 /// The form of a line with an example.
 fn form(form: Option<Head>) -> &'static str {
-    let Some(form) = form else {
-        return "";
-    };
     match form {
-        Head::Lifetime => "; its form is: lifetime SECONDS, as in: lifetime 3600",
-        Head::AuthLifetime => "; its form is: auth-lifetime SECONDS, as in: auth-lifetime 43200",
-        Head::Entity => {
+        None => "",
+        Some(Head::Setting(form)) => setting_form(form),
+        Some(Head::Submit(form)) => command_form(form),
+        Some(Head::Do) => {
+            "; its form is: do, and a fetch, login, renew, connect or send line behind it, as in: do login client.a"
+        }
+        Some(Head::Link(form)) => link_form(form),
+        Some(Head::Node(form)) => node_form(form),
+    }
+}
+
+fn setting_form(form: SettingForm) -> &'static str {
+    match form {
+        SettingForm::Lifetime => "; its form is: lifetime SECONDS, as in: lifetime 3600",
+        SettingForm::AuthLifetime =>
+            "; its form is: auth-lifetime SECONDS, as in: auth-lifetime 43200",
+        SettingForm::Entity => {
             "; its form is: entity NAME, and then any number of SERVICE \"CAPS\", as in: entity client.a mon \"allow r\" osd \
             \"allow *\"; a quotation mark that isn't closed holds no words together"
         }
-        Head::Clock => "; its form is: clock SECONDS, as in: clock 4599.999999999",
-        Head::Fetch => "; its form is: fetch DAEMON, as in: fetch osd.0",
-        Head::Login =>
+        SettingForm::Seed => "; its form is: seed NODE NUMBER, as in: seed client.a 5",
+        SettingForm::Modes => "; its form is: modes CLIENT MODES, as in: modes client.a crc,secure",
+        SettingForm::Leak => "; its form is: leak CLIENT, as in: leak client.a",
+    }
+}
+
+fn command_form(form: CommandForm) -> &'static str {
+    match form {
+        CommandForm::Fetch => "; its form is: fetch DAEMON, as in: fetch osd.0",
+        CommandForm::Login =>
             "; its form is: login CLIENT or login CLIENT SERVICES, as in: login client.a osd,mgr",
-        Head::Connect => "; its form is: connect CLIENT DAEMON, as in: connect client.a osd.0",
-        Head::Send => {
+        CommandForm::Renew =>
+            "; its form is: renew CLIENT SERVICES, as in: renew client.a osd,mgr",
+        CommandForm::Connect => {
+            "; its form is: connect CLIENT DAEMON, or that with lossy behind it, as in: connect client.a osd.0"
+        }
+        CommandForm::Send => {
             "; its form is: send CLIENT DAEMON ACCESS POOL NAMESPACE OBJECT DATA, as in: send client.a osd.0 write rbd - \
             obj1 6869"
         }
+    }
+}
+
+fn link_form(form: LinkForm) -> &'static str {
+    match form {
+        LinkForm::Carry => {
+            "; its form is: carry LINK SIDE or carry LINK SIDE BYTES, as in: carry 1 c"
+        }
+        LinkForm::Lose => "; its form is: lose LINK SIDE, as in: lose 1 c",
+        LinkForm::Inject => "; its form is: inject LINK SIDE DATA, as in: inject 1 c 00ff",
+        LinkForm::Again => "; its form is: again LINK SIDE PIECE LINK, as in: again 1 c 2 3",
+        LinkForm::Cut => "; its form is: cut LINK, as in: cut 1",
+    }
+}
+
+fn node_form(form: NodeForm) -> &'static str {
+    match form {
+        NodeForm::Clock => {
+            "; its form is: clock SECONDS or clock NODE SECONDS, as in: clock 4599.999999999"
+        }
+        NodeForm::DropSession => "; its form is: drop DAEMON SESSION, as in: drop osd.0 1",
+        NodeForm::Tick => "; its form is: tick NODE, as in: tick osd.0",
+        NodeForm::Restart => "; its form is: restart NODE, as in: restart mon",
+        NodeForm::FailSave => {
+            "; its form is: failsave old or failsave new, as in: failsave old"
+        }
+        NodeForm::Settle => "; its form is: settle, alone",
     }
 }
 
