@@ -1,3 +1,4 @@
+pub mod Behind
 pub mod CommandLaws
 pub mod Faulty
 pub mod Laws
@@ -5,4 +6,3 @@ pub mod LinkLaws
 pub mod NodeLaws
 pub mod Pairs
 pub mod SettingLaws
-pub mod Walks

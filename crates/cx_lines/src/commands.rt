@@ -1,6 +1,6 @@
 //! Lines by which a client or a daemon is told to do something.
 
-ghost use Rattle.std.specs.Prelude.{ℕ, ◌≡◌, ◌∷◌, [], List, map, IfOk};
+ghost use Rattle.std.specs.Prelude.{◌≡◌, ◌∷◌, [], map, IfOk};
 ghost use Rattle.cx_places.specs.declared.choices.CommandForm.{CommandForm};
 ghost use Rattle.cx_lines.specs.Commands.{command_form, command_places, IsCommand};
 
@@ -84,7 +84,7 @@ pub fn command_of(
     form: CommandForm,
     words: &[&[u8]],
 ) -> Result<Option<Command>, AllocError>
-    ensures { (before : List (List ℕ)) → IfOk result (IsCommand known.now before form (map (λ w. w.now) words.now)) }
+    ensures { IfOk result (IsCommand known.now [] form (map (λ w. w.now) words.now)) }
 {
     match form {
         CommandForm::Fetch => fetch_of(alloc, known, words),
@@ -96,7 +96,7 @@ pub fn command_of(
 }
 
 fn fetch_of(alloc: Global, known: &Known, words: &[&[u8]]) -> Result<Option<Command>, AllocError>
-    ensures { (before : List (List ℕ)) → IfOk result (IsCommand known.now before CommandForm.Fetch (map (λ w. w.now) words.now)) }
+    ensures { IfOk result (IsCommand known.now [] CommandForm.Fetch (map (λ w. w.now) words.now)) }
 {
     let [word] = words else {
         return Ok(None);
@@ -108,7 +108,7 @@ fn fetch_of(alloc: Global, known: &Known, words: &[&[u8]]) -> Result<Option<Comm
 }
 
 fn login_of(alloc: Global, known: &Known, words: &[&[u8]]) -> Result<Option<Command>, AllocError>
-    ensures { (before : List (List ℕ)) → IfOk result (IsCommand known.now before CommandForm.Login (map (λ w. w.now) words.now)) }
+    ensures { IfOk result (IsCommand known.now [] CommandForm.Login (map (λ w. w.now) words.now)) }
 {
     match words {
         [word] => login(alloc, known, word),
@@ -118,7 +118,7 @@ fn login_of(alloc: Global, known: &Known, words: &[&[u8]]) -> Result<Option<Comm
 }
 
 fn login(alloc: Global, known: &Known, word: &[u8]) -> Result<Option<Command>, AllocError>
-    ensures { (before : List (List ℕ)) → IfOk result (IsCommand known.now before CommandForm.Login (word.now ∷ [])) }
+    ensures { IfOk result (IsCommand known.now [] CommandForm.Login (word.now ∷ [])) }
 {
     let Some(client) = client(alloc, known, word)? else {
         return Ok(None);
@@ -132,7 +132,7 @@ fn login_for(
     word: &[u8],
     list: &[u8],
 ) -> Result<Option<Command>, AllocError>
-    ensures { (before : List (List ℕ)) → IfOk result (IsCommand known.now before CommandForm.Login (word.now ∷ list.now ∷ [])) }
+    ensures { IfOk result (IsCommand known.now [] CommandForm.Login (word.now ∷ list.now ∷ [])) }
 {
     let Some(client) = client(alloc, known, word)? else {
         return Ok(None);
@@ -144,7 +144,7 @@ fn login_for(
 }
 
 fn renew_of(alloc: Global, known: &Known, words: &[&[u8]]) -> Result<Option<Command>, AllocError>
-    ensures { (before : List (List ℕ)) → IfOk result (IsCommand known.now before CommandForm.Renew (map (λ w. w.now) words.now)) }
+    ensures { IfOk result (IsCommand known.now [] CommandForm.Renew (map (λ w. w.now) words.now)) }
 {
     let [word, list] = words else {
         return Ok(None);
@@ -159,7 +159,7 @@ fn renew_of(alloc: Global, known: &Known, words: &[&[u8]]) -> Result<Option<Comm
 }
 
 fn connect_of(alloc: Global, known: &Known, words: &[&[u8]]) -> Result<Option<Command>, AllocError>
-    ensures { (before : List (List ℕ)) → IfOk result (IsCommand known.now before CommandForm.Connect (map (λ w. w.now) words.now)) }
+    ensures { IfOk result (IsCommand known.now [] CommandForm.Connect (map (λ w. w.now) words.now)) }
 {
     match words {
         [from, to] => connect(alloc, known, from, to),
@@ -174,7 +174,7 @@ fn connect(
     from: &[u8],
     to: &[u8],
 ) -> Result<Option<Command>, AllocError>
-    ensures { (before : List (List ℕ)) → IfOk result (IsCommand known.now before CommandForm.Connect (from.now ∷ to.now ∷ [])) }
+    ensures { IfOk result (IsCommand known.now [] CommandForm.Connect (from.now ∷ to.now ∷ [])) }
 {
     let Some(client) = client(alloc, known, from)? else {
         return Ok(None);
@@ -192,7 +192,7 @@ fn connect_lossy(
     to: &[u8],
     word: &[u8],
 ) -> Result<Option<Command>, AllocError>
-    ensures { (before : List (List ℕ)) → IfOk result (IsCommand known.now before CommandForm.Connect (from.now ∷ to.now ∷ word.now ∷ [])) }
+    ensures { IfOk result (IsCommand known.now [] CommandForm.Connect (from.now ∷ to.now ∷ word.now ∷ [])) }
 {
     let Some(client) = client(alloc, known, from)? else {
         return Ok(None);

@@ -113,11 +113,16 @@ fn do_places(alloc: Global, words: &[&[u8]]) -> Result<Vec<Place>, AllocError>
 }
 
 /// A place for each word, whatever it is.
-#[tactic(auto, using(crate::proofs::Walks::anything_seen))]
 fn anything(alloc: Global, words: &[&[u8]]) -> Result<Vec<Place>, AllocError>
     ensures { IfOk result (λ found. found.items ≡ anything (map (λ w. w.now) words.now)) }
 {
-    words.iter().map(|_| Place::Anything).collect(alloc)
+    let mut found = Vec::new(alloc);
+    let mut rest = words;
+    while let [_, after @ ..] = rest {
+        found.push(Place::Anything)?;
+        rest = after;
+    }
+    Ok(found)
 }
 
 /// The line that these words behind a first word of this form spell; none where one of them isn't good at its place.
@@ -133,7 +138,7 @@ pub fn line_behind(
         Head::Setting(form) => Ok(setting_of(alloc, known, form, words)?.map(Line::Setting)),
         Head::Submit(form) => Ok(command_of(alloc, known, form, words)?.map(Line::Submit)),
         Head::Do => Ok(do_of(alloc, known, words)?.map(Line::Do)),
-        Head::Link(form) => Ok(link_step_of(alloc, form, words)?.map(Line::Link)),
+        Head::Link(form) => Ok(link_step_of(alloc, known, form, words)?.map(Line::Link)),
         Head::Node(form) => Ok(node_step_of(alloc, known, form, words)?.map(Line::Node)),
     }
 }
@@ -145,6 +150,17 @@ fn do_of(alloc: Global, known: &Known, words: &[&[u8]]) -> Result<Option<Command
     let [first, rest @ ..] = words else {
         return Ok(None);
     };
+    do_behind(alloc, known, first, rest)
+}
+
+fn do_behind(
+    alloc: Global,
+    known: &Known,
+    first: &[u8],
+    rest: &[&[u8]],
+) -> Result<Option<Command>, AllocError>
+    ensures { IfOk result (IsDo known.now (first.now ∷ map (λ w. w.now) rest.now)) }
+{
     let Some(form) = command_named(first) else {
         return Ok(None);
     };

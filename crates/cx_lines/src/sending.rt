@@ -1,6 +1,6 @@
 //! The form of send lines.
 
-ghost use Rattle.std.specs.Prelude.{ℕ, ◌≡◌, ◌∷◌, [], List, map, is_some, IfOk, IfSome};
+ghost use Rattle.std.specs.Prelude.{◌≡◌, ◌∷◌, [], map, is_some, IfOk, IfSome};
 ghost use Rattle.cx_places.specs.declared.choices.CommandForm.{CommandForm};
 ghost use Rattle.cx_places.specs.Known.{nothing};
 ghost use Rattle.cx_places.specs.Places.{are_good};
@@ -40,7 +40,7 @@ pub fn send_of(
     known: &Known,
     words: &[&[u8]],
 ) -> Result<Option<Command>, AllocError>
-    ensures { (before : List (List ℕ)) → IfOk result (IsCommand known.now before CommandForm.Send (map (λ w. w.now) words.now)) }
+    ensures { IfOk result (IsCommand known.now [] CommandForm.Send (map (λ w. w.now) words.now)) }
 {
     let [from, to, access, pool, namespace, object, bytes] = words else {
         return Ok(None);
@@ -62,7 +62,7 @@ fn send(
     to: &[u8],
     written: Written,
 ) -> Result<Option<Command>, AllocError>
-    ensures { (before : List (List ℕ)) → IfOk result (IsCommand known.now before CommandForm.Send (from.now ∷ to.now ∷ written.entry.access.now ∷ written.entry.pool.now ∷ written.entry.namespace.now ∷ written.entry.object.now ∷ written.entry.bytes.now ∷ [])) }
+    ensures { IfOk result (IsCommand known.now [] CommandForm.Send (from.now ∷ to.now ∷ written.entry.access.now ∷ written.entry.pool.now ∷ written.entry.namespace.now ∷ written.entry.object.now ∷ written.entry.bytes.now ∷ [])) }
 {
     let Some(client) = client(alloc, known, from)? else {
         return Ok(None);
