@@ -1,6 +1,10 @@
 //! What a user reads of each status: what was wrong, and what to try. All sentences on a schedule stand in this file: what is
 //! wrong with a word, what its place takes, and the form of its line with an example.
 
+ghost use Rattle.std.specs.Prelude.{◌≡◌, ◌==◌};
+ghost use Rattle.std.specs.List.{list_all, list_any};
+ghost use Rattle.cx_top.specs.Sentences.{again_problem, are_digits, begins, caps_problem, client_problem, command_form_text, daemon_problem, form_text, front, has_leading_zero, has_slash, hint_text, is_daemon_word, is_digit_byte, link_form_text, name_problem, no_number, node_form_text, node_problem, number_problem, part_problem, problem_as, setting_form_text, text_at, too_large, undeclared};
+
 use crate::status::Status;
 use cx_lines::{BadWord, Head, LinkForm, NodeForm, SettingForm};
 use cx_places::{CommandForm, Hint, LineFault, Place, Shown};
@@ -119,17 +123,21 @@ impl fmt::Display for Wrong<'_> {
 }
 
 /// What is wrong with the word at its place.
-fn problem(bad: &BadWord) -> &'static str {
+fn problem(bad: &BadWord) -> &'static str
+    ensures { result.now ≡ problem_as bad.now.fault.why bad.now }
+{
     match bad.fault.why {
         LineFault::BadNumber => number_problem(bad),
         LineFault::BadName => name_problem(bad.takes),
-        LineFault::BadText => text_problem(bad),
-        LineFault::UnknownNode => node_problem(bad),
+        LineFault::BadText => text_at(bad.takes, &bad.shown),
+        LineFault::UnknownNode => node_problem(bad.takes, &bad.shown),
         _ => again_problem(bad.takes),
     }
 }
 
-fn name_problem(place: Option<Place>) -> &'static str {
+fn name_problem(place: Option<Place>) -> &'static str
+    ensures { result.now ≡ name_problem place }
+{
     match place {
         Some(Place::Node) | Some(Place::Unseeded) => {
             "is no node: a node is mon, the monitor, or an entity's, by its name, as client.admin or osd.0"
@@ -141,20 +149,35 @@ fn name_problem(place: Option<Place>) -> &'static str {
     }
 }
 
-fn number_problem(bad: &BadWord) -> &'static str {
+fn number_problem(bad: &BadWord) -> &'static str
+    ensures { result.now ≡ number_problem bad.now }
+{
     if has_leading_zero(&bad.shown) {
         return "has a leading zero; write it without";
     }
-    let digits = are_digits(&bad.shown);
-    match bad.takes {
-        Some(Place::Life) if digits => "is out of bounds: a lifetime is 1 to 31,536,000 seconds",
+    if are_digits(&bad.shown) {
+        return too_large(bad.takes);
+    }
+    no_number(bad.takes)
+}
+
+fn too_large(place: Option<Place>) -> &'static str
+    ensures { result.now ≡ too_large place }
+{
+    match place {
+        Some(Place::Life) => "is out of bounds: a lifetime is 1 to 31,536,000 seconds",
+        Some(Place::Number) => "is too large: a number is below 18,446,744,073,709,551,616",
+        _ => "is too large: a reading is below 4,000,000,000 seconds",
+    }
+}
+
+fn no_number(place: Option<Place>) -> &'static str
+    ensures { result.now ≡ no_number place }
+{
+    match place {
         Some(Place::Life) =>
             "is no number: a lifetime is 1 to 31,536,000 seconds, in decimal digits alone, as 3600",
-        Some(Place::Number) if digits => {
-            "is too large: a number is below 18,446,744,073,709,551,616"
-        }
         Some(Place::Number) => "is no number: a number is decimal digits alone, as 1",
-        _ if digits => "is too large: a reading is below 4,000,000,000 seconds",
         _ => {
             "is no reading: a reading is a number of seconds, as 4599, or one with a point and nine digits, as \
             4599.999999999"
@@ -162,25 +185,17 @@ fn number_problem(bad: &BadWord) -> &'static str {
     }
 }
 
-fn text_problem(bad: &BadWord) -> &'static str {
-    match bad.takes {
+fn text_at(place: Option<Place>, shown: &Shown) -> &'static str
+    ensures { result.now ≡ text_at place shown.now }
+{
+    match place {
         Some(Place::Service) => "is no service that has caps: mon, mds, osd or mgr",
-        Some(Place::Caps) if begins(&bad.shown, b"\"") => {
-            "is no text of caps: it ends with a quotation mark too, and has at most 4,096 bytes from the space to ~, \
-            without a quotation mark or a backslash"
-        }
-        Some(Place::Caps) => "is no text of caps: caps stand in quotation marks, as \"allow *\"",
+        Some(Place::Caps) => caps_problem(begins(shown, "\"")),
         Some(Place::Services) => {
             "is no list of services: mds, osd and mgr, joined by commas without a space, each at most once, as mds,osd"
         }
         Some(Place::Access) => "is no access: read, write or exec",
-        Some(Place::Part) if has(&bad.shown, b'/') => {
-            "has a slash: pool, namespace and object are three words, each of 1 to 255 letters, digits or _ - . , and - where \
-            there is none"
-        }
-        Some(Place::Part) => {
-            "is no pool, namespace or object: 1 to 255 letters, digits or _ - . , and - where there is none"
-        }
+        Some(Place::Part) => part_problem(has_slash(shown)),
         Some(Place::Bytes) => {
             "is no bytes: two hexadecimal digits a byte, and - where there is none"
         }
@@ -196,24 +211,67 @@ fn text_problem(bad: &BadWord) -> &'static str {
     }
 }
 
-fn node_problem(bad: &BadWord) -> &'static str {
-    match bad.takes {
+fn caps_problem(is_open: bool) -> &'static str
+    ensures { result.now ≡ caps_problem is_open }
+{
+    if is_open {
+        return "is no text of caps: it ends with a quotation mark too, and has at most 4,096 bytes from the space to ~, \
+        without a quotation mark or a backslash";
+    }
+    "is no text of caps: caps stand in quotation marks, as \"allow *\""
+}
+
+fn part_problem(has_slash: bool) -> &'static str
+    ensures { result.now ≡ part_problem has_slash }
+{
+    if has_slash {
+        return "has a slash: pool, namespace and object are three words, each of 1 to 255 letters, digits or _ - . , and - where \
+        there is none";
+    }
+    "is no pool, namespace or object: 1 to 255 letters, digits or _ - . , and - where there is none"
+}
+
+fn node_problem(place: Option<Place>, shown: &Shown) -> &'static str
+    ensures { result.now ≡ node_problem place shown.now }
+{
+    match place {
         Some(Place::Entity) => "can't be declared: an entity is a client, an mds, an osd or a mgr",
-        Some(Place::Daemon) if is_daemon(&bad.shown) => UNDECLARED,
-        Some(Place::Daemon) => "is no daemon: a daemon's name begins with mds., osd. or mgr.",
+        Some(Place::Daemon) => daemon_problem(is_daemon_word(shown)),
         Some(Place::Node) | Some(Place::Unseeded) => {
             "is declared by no line above: write mon for the monitor, and an entity line for any other node, above all lines \
             that aren't head lines"
         }
-        _ if begins(&bad.shown, b"client.") => UNDECLARED,
-        _ => "is no client: a client's name begins with client.",
+        _ => client_problem(begins(shown, "client.")),
     }
 }
 
-const UNDECLARED: &str =
-    "is declared by no line above: write an entity line for it, above all lines that aren't head lines";
+fn daemon_problem(is_daemon: bool) -> &'static str
+    ensures { result.now ≡ daemon_problem is_daemon }
+{
+    if is_daemon {
+        return undeclared();
+    }
+    "is no daemon: a daemon's name begins with mds., osd. or mgr."
+}
 
-fn again_problem(place: Option<Place>) -> &'static str {
+fn client_problem(is_client: bool) -> &'static str
+    ensures { result.now ≡ client_problem is_client }
+{
+    if is_client {
+        return undeclared();
+    }
+    "is no client: a client's name begins with client."
+}
+
+fn undeclared() -> &'static str
+    ensures { result.now ≡ undeclared }
+{
+    "is declared by no line above: write an entity line for it, above all lines that aren't head lines"
+}
+
+fn again_problem(place: Option<Place>) -> &'static str
+    ensures { result.now ≡ again_problem place }
+{
     match place {
         Some(Place::Entity) => "is declared by a line above already; give it all of its caps there",
         Some(Place::Service) =>
@@ -227,7 +285,9 @@ fn again_problem(place: Option<Place>) -> &'static str {
 }
 
 /// The form of a line with an example.
-fn form(form: Option<Head>) -> &'static str {
+fn form(form: Option<Head>) -> &'static str
+    ensures { result.now ≡ form_text form }
+{
     match form {
         None => "",
         Some(Head::Setting(form)) => setting_form(form),
@@ -240,7 +300,9 @@ fn form(form: Option<Head>) -> &'static str {
     }
 }
 
-fn setting_form(form: SettingForm) -> &'static str {
+fn setting_form(form: SettingForm) -> &'static str
+    ensures { result.now ≡ setting_form_text form }
+{
     match form {
         SettingForm::Lifetime => "; its form is: lifetime SECONDS, as in: lifetime 3600",
         SettingForm::AuthLifetime =>
@@ -255,7 +317,9 @@ fn setting_form(form: SettingForm) -> &'static str {
     }
 }
 
-fn command_form(form: CommandForm) -> &'static str {
+fn command_form(form: CommandForm) -> &'static str
+    ensures { result.now ≡ command_form_text form }
+{
     match form {
         CommandForm::Fetch => "; its form is: fetch DAEMON, as in: fetch osd.0",
         CommandForm::Login =>
@@ -272,7 +336,9 @@ fn command_form(form: CommandForm) -> &'static str {
     }
 }
 
-fn link_form(form: LinkForm) -> &'static str {
+fn link_form(form: LinkForm) -> &'static str
+    ensures { result.now ≡ link_form_text form }
+{
     match form {
         LinkForm::Carry => {
             "; its form is: carry LINK SIDE or carry LINK SIDE BYTES, as in: carry 1 c"
@@ -284,7 +350,9 @@ fn link_form(form: LinkForm) -> &'static str {
     }
 }
 
-fn node_form(form: NodeForm) -> &'static str {
+fn node_form(form: NodeForm) -> &'static str
+    ensures { result.now ≡ node_form_text form }
+{
     match form {
         NodeForm::Clock => {
             "; its form is: clock SECONDS or clock NODE SECONDS, as in: clock 4599.999999999"
@@ -300,18 +368,18 @@ fn node_form(form: NodeForm) -> &'static str {
 }
 
 /// What an eye may not see in a word.
-fn hint(hint: Option<Hint>) -> &'static str {
-    let Some(hint) = hint else {
-        return "";
-    };
+fn hint(hint: Option<Hint>) -> &'static str
+    ensures { result.now ≡ hint_text hint }
+{
     match hint {
-        Hint::Empty => " (two spaces stand together, or one stands at an end of the line)",
-        Hint::ByteOrderMark => " (the file begins with a byte-order mark; save it without one)",
-        Hint::CarriageReturn => {
+        None => "",
+        Some(Hint::Empty) => " (two spaces stand together, or one stands at an end of the line)",
+        Some(Hint::ByteOrderMark) => " (the file begins with a byte-order mark; save it without one)",
+        Some(Hint::CarriageReturn) => {
             " (it has a CR, as the line ends of Windows; save the file with line ends of an LF alone)"
         }
-        Hint::Tab => " (it has a tab; one space parts two words)",
-        Hint::NotAscii => {
+        Some(Hint::Tab) => " (it has a tab; one space parts two words)",
+        Some(Hint::NotAscii) => {
             " (it has a character outside of ASCII, as a curly quotation mark; write a plain one)"
         }
     }
@@ -328,7 +396,7 @@ impl fmt::Display for Word<'_> {
             return write!(f, "an empty word");
         }
         write!(f, "`")?;
-        for byte in shown.bytes.iter().take(shown.length) {
+        for byte in front(shown) {
             write!(f, "{}", Byte(*byte))?;
         }
         if shown.is_cut {
@@ -353,27 +421,58 @@ impl fmt::Display for Byte {
     }
 }
 
-fn has_leading_zero(shown: &Shown) -> bool {
+fn has_leading_zero(shown: &Shown) -> bool
+    ensures { result ≡ has_leading_zero shown.now }
+{
     shown.length > 1 && shown.bytes[0] == b'0' && are_digits(shown)
 }
 
-fn are_digits(shown: &Shown) -> bool {
-    shown.length > 0
-        && shown
-            .bytes
-            .iter()
-            .take(shown.length)
-            .all(|b| b.is_ascii_digit())
+fn are_digits(shown: &Shown) -> bool
+    ensures { result ≡ are_digits shown.now }
+{
+    shown.length > 0 && all_digits(front(shown))
 }
 
-fn has(shown: &Shown, byte: u8) -> bool {
-    shown.bytes.iter().any(|b| *b == byte)
+fn all_digits(bytes: &[u8]) -> bool
+    ensures { result ≡ list_all is_digit_byte bytes.now }
+{
+    bytes.iter().all(|b| is_digit_byte(*b))
 }
 
-fn begins(shown: &Shown, front: &[u8]) -> bool {
-    shown.bytes.starts_with(front)
+fn is_digit_byte(byte: u8) -> bool
+    ensures { result ≡ is_digit_byte byte }
+{
+    byte >= b'0' && byte <= b'9'
 }
 
-fn is_daemon(shown: &Shown) -> bool {
-    begins(shown, b"mds.") || begins(shown, b"osd.") || begins(shown, b"mgr.")
+fn has_slash(shown: &Shown) -> bool
+    ensures { result ≡ has_slash shown.now }
+{
+    any_slash(front(shown))
+}
+
+fn any_slash(bytes: &[u8]) -> bool
+    ensures { result ≡ list_any (λ b. b == 47) bytes.now }
+{
+    bytes.iter().any(|b| *b == b'/')
+}
+
+fn begins(shown: &Shown, text: &str) -> bool
+    ensures { result ≡ begins text.now shown.now }
+{
+    front(shown).starts_with(text.as_bytes())
+}
+
+fn is_daemon_word(shown: &Shown) -> bool
+    ensures { result ≡ is_daemon_word shown.now }
+{
+    begins(shown, "mds.") || begins(shown, "osd.") || begins(shown, "mgr.")
+}
+
+/// The bytes that are shown.
+fn front(shown: &Shown) -> &[u8]
+    ensures { result.now ≡ front shown.now }
+{
+    let length = shown.length.min(40);
+    &shown.bytes[..length]
 }
