@@ -7,3 +7,4 @@ pub mod Kept
 pub mod Keys
 pub mod Lines
 pub mod Rings
+pub mod Sentences

@@ -25,6 +25,11 @@ pub enum KeyringFault {
 
 /// A part of a sentence: what is wrong, and what to write instead.
 impl fmt::Display for KeyringFault {
+    ghost use Rattle.std.specs.Prelude.{Some};
+    ghost use Rattle.cx_keyring.specs.Sentences.{fault_text};
+
+    ghost output = { λ fault. Some (fault_text fault) };
+
     fn fmt<W: fmt::Write>(&self, f: &mut fmt::Formatter<W>) -> fmt::Result {
         match self {
             KeyringFault::NoSection => write!(

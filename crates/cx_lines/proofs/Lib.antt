@@ -1,5 +1,8 @@
-pub mod Faultless
+pub mod Behind
+pub mod CommandLaws
+pub mod Faulty
 pub mod Laws
+pub mod LinkLaws
+pub mod NodeLaws
 pub mod Pairs
-pub mod ValueLemmas
-pub mod Walks
+pub mod SettingLaws

@@ -4,13 +4,15 @@ use Rattle.std.specs.Prelude.{◌&&◌}
 use Rattle.std.proofs.lemmas.Bool.{and_parts}
 use Rattle.std.proofs.lemmas.List.{drop_more, map_more}
 use Rattle.cx_base.specs.Names.{Name}
-use Rattle.cx_lines.specs.declared.heads.Head.TheVariants as head
-use Rattle.cx_lines.specs.declared.lines.Grant.{Grant}
-use Rattle.cx_lines.specs.declared.lines.Line.{Line}
-use Rattle.cx_lines.specs.declared.places.Place.{Place}
-use Rattle.cx_lines.specs.declared.places.Place.TheVariants as at
-use Rattle.cx_lines.specs.Lines.{Item, EntityOf, ServiceOf, CapsOf, SpellsItem, SpellsItems, grant_items}
-use Rattle.cx_lines.specs.Places.{are_good, is_good, is_whole, pair_places}
+use Rattle.cx_lines.specs.declared.entity.Grant.{Grant}
+use Rattle.cx_lines.specs.declared.settings.SettingForm.TheVariants as form
+use Rattle.cx_lines.specs.Settings.{grant_items, pair_places, setting_places}
+use Rattle.cx_places.specs.declared.known.Known.{Known}
+use Rattle.cx_places.specs.declared.places.Place.{Place}
+use Rattle.cx_places.specs.declared.places.Place.TheVariants as at
+use Rattle.cx_places.specs.Known.{nothing}
+use Rattle.cx_places.specs.Places.{are_good, is_good, is_whole}
+use Rattle.cx_places.specs.Values.{Item, EntityOf, ServiceOf, CapsOf, SpellsItem, SpellsItems}
 
 -- the places of a pair of which one word is there
 pub one_left : {A : Type 0} (f : A → List ℕ) (ps : List Place) (ws : List A) → length ws < 2 → 0 < length ws → (ps ++ at.Service ∷ []) ++ at.Caps ∷ [] ≡ ps ++ pair_places (map f ws)
@@ -21,11 +23,11 @@ one_left f ps (w ∷ v ∷ ws) few some = absurd (omega arith)
 -- ---- reading the pairs
 
 -- how the pairs so far stand to the words behind the name
-pub record Reads {A : Type 0} (earlier : List Line) (f : A → List ℕ) (ws : List A) (place : ℕ) (grants : List Grant) : Type 0 where
+pub record Reads {A : Type 0} (known : Known) (f : A → List ℕ) (ws : List A) (place : ℕ) (grants : List Grant) : Type 0 where
   pub within : place ≤ length ws
   pub some : 1 ≤ place
-  pub good : are_good earlier (map f (take place ws)) (pair_places (map f (drop place ws))) (map f (drop place ws)) ≡ are_good earlier (map f (take 1 ws)) (pair_places (map f (drop 1 ws))) (map f (drop 1 ws))
-  pub spelled : (items : List Item) → SpellsItems earlier (map f (take place ws)) items (map f (drop place ws)) → SpellsItems earlier (map f (take 1 ws)) (grant_items grants ++ items) (map f (drop 1 ws))
+  pub good : are_good known (map f (take place ws)) (pair_places (map f (drop place ws))) (map f (drop place ws)) ≡ are_good known (map f (take 1 ws)) (pair_places (map f (drop 1 ws))) (map f (drop 1 ws))
+  pub spelled : (items : List Item) → SpellsItems known (map f (take place ws)) items (map f (drop place ws)) → SpellsItems known (map f (take 1 ws)) (grant_items grants ++ items) (map f (drop 1 ws))
 
 -- two words in front of the rest
 two_left : {A : Type 0} (f : A → List ℕ) (ws : List A) (i : ℕ) (d x : A) → i + 1 < length ws → map f (drop i ws) ≡ f (get_or ws i d) ∷ f (get_or ws (i + 1) x) ∷ map f (drop (i + 2) ws)
@@ -43,12 +45,12 @@ pushed : (gs : List Grant) (g : Grant) (items : List Item) → grant_items (gs +
 pushed [] g items = refl
 pushed (h ∷ gs) g items = rw (pushed gs g items) refl
 
-pub reads_more : {A : Type 0} (e : List Line) (f : A → List ℕ) (ws : List A) (i : ℕ) (gs : List Grant) (g : Grant) (d x : A) → Reads e f ws i gs → i + 1 < length ws
-    → (is_good [] (map f (take i ws)) at.Service (f (get_or ws i d)) && is_good [] [] at.Caps (f (get_or ws (i + 1) x))) ≡ true
-    → SpellsItem [] (map f (take i ws)) (ServiceOf g.service) (f (get_or ws i d)) → SpellsItem [] [] (CapsOf g.caps) (f (get_or ws (i + 1) x))
+pub reads_more : {A : Type 0} (e : Known) (f : A → List ℕ) (ws : List A) (i : ℕ) (gs : List Grant) (g : Grant) (d x : A) → Reads e f ws i gs → i + 1 < length ws
+    → (is_good nothing (map f (take i ws)) at.Service (f (get_or ws i d)) && is_good nothing [] at.Caps (f (get_or ws (i + 1) x))) ≡ true
+    → SpellsItem nothing (map f (take i ws)) (ServiceOf g.service) (f (get_or ws i d)) → SpellsItem nothing [] (CapsOf g.caps) (f (get_or ws (i + 1) x))
     → Reads e f ws (i + 2) (gs ++ g ∷ [])
 reads_more e f ws i gs g d x r h good service caps =
-    let parts = and_parts (is_good [] (map f (take i ws)) at.Service (f (get_or ws i d))) (is_good [] [] at.Caps (f (get_or ws (i + 1) x))) good in
+    let parts = and_parts (is_good nothing (map f (take i ws)) at.Service (f (get_or ws i d))) (is_good nothing [] at.Caps (f (get_or ws (i + 1) x))) good in
     let left = two_left f ws i d x h in
     let before = two_before f ws i d x h in
     let here : are_good e (map f (take i ws)) (pair_places (map f (drop i ws))) (map f (drop i ws)) ≡ are_good e ((map f (take i ws) ++ f (get_or ws i d) ∷ []) ++ f (get_or ws (i + 1) x) ∷ []) (pair_places (map f (drop (i + 2) ws))) (map f (drop (i + 2) ws)) = rw (left, parts.0, parts.1) refl in
@@ -64,12 +66,12 @@ and_false true = refl
 and_false false = refl
 
 -- a pair that isn't good
-pub bad_pair : {A : Type 0} (e : List Line) (f : A → List ℕ) (ws : List A) (i : ℕ) (gs : List Grant) (d x : A) → Reads e f ws i gs → i + 1 < length ws
-    → (is_good [] (map f (take i ws)) at.Service (f (get_or ws i d)) && is_good [] [] at.Caps (f (get_or ws (i + 1) x))) ≡ false
+pub bad_pair : {A : Type 0} (e : Known) (f : A → List ℕ) (ws : List A) (i : ℕ) (gs : List Grant) (d x : A) → Reads e f ws i gs → i + 1 < length ws
+    → (is_good nothing (map f (take i ws)) at.Service (f (get_or ws i d)) && is_good nothing [] at.Caps (f (get_or ws (i + 1) x))) ≡ false
     → are_good e (map f (take 1 ws)) (pair_places (map f (drop 1 ws))) (map f (drop 1 ws)) ≡ false
 bad_pair e f ws i gs d x r h bad =
     let left = two_left f ws i d x h in
-    let here : are_good e (map f (take i ws)) (pair_places (map f (drop i ws))) (map f (drop i ws)) ≡ false = rw left (either (is_good [] (map f (take i ws)) at.Service (f (get_or ws i d))) (is_good [] [] at.Caps (f (get_or ws (i + 1) x))) (are_good e ((map f (take i ws) ++ f (get_or ws i d) ∷ []) ++ f (get_or ws (i + 1) x) ∷ []) (pair_places (map f (drop (i + 2) ws))) (map f (drop (i + 2) ws))) bad) in
+    let here : are_good e (map f (take i ws)) (pair_places (map f (drop i ws))) (map f (drop i ws)) ≡ false = rw left (either (is_good nothing (map f (take i ws)) at.Service (f (get_or ws i d))) (is_good nothing [] at.Caps (f (get_or ws (i + 1) x))) (are_good e ((map f (take i ws) ++ f (get_or ws i d) ∷ []) ++ f (get_or ws (i + 1) x) ∷ []) (pair_places (map f (drop (i + 2) ws))) (map f (drop (i + 2) ws))) bad) in
     sym r.good ∙ here
   where
     either : (a b c : Bool) → (a && b) ≡ false → (a && (b && c)) ≡ false
@@ -78,24 +80,24 @@ bad_pair e f ws i gs d x r h bad =
     either false b c is = refl
 
 -- one word behind the last pair
-pub half_pair : {A : Type 0} (e : List Line) (f : A → List ℕ) (ws : List A) (i : ℕ) (gs : List Grant) → Reads e f ws i gs → i < length ws → length ws ≤ i + 1
+pub half_pair : {A : Type 0} (e : Known) (f : A → List ℕ) (ws : List A) (i : ℕ) (gs : List Grant) → Reads e f ws i gs → i < length ws → length ws ≤ i + 1
     → are_good e (map f (take 1 ws)) (pair_places (map f (drop 1 ws))) (map f (drop 1 ws)) ≡ false
 half_pair {A = A} e f ws i gs r h last =
     let n : length (drop i ws) ≡ 1 = simp length-drop (omega arith) in
     sym r.good ∙ one_bad e (map f (take i ws)) (drop i ws) n
   where
-    one_bad : (e : List Line) (before : List (List ℕ)) (rest : List A) → length rest ≡ 1 → are_good e before (pair_places (map f rest)) (map f rest) ≡ false
+    one_bad : (e : Known) (before : List (List ℕ)) (rest : List A) → length rest ≡ 1 → are_good e before (pair_places (map f rest)) (map f rest) ≡ false
     one_bad e before [] n = absurd (omega arith)
     one_bad e before (w ∷ []) n = and_false (is_good e before at.Service (f w))
     one_bad e before (w ∷ v ∷ rest) n = absurd (omega arith)
 
 -- words behind a name that aren't good
-pub not_whole : {A : Type 0} (e : List Line) (f : A → List ℕ) (ws : List A) → 1 ≤ length ws → are_good e (map f (take 1 ws)) (pair_places (map f (drop 1 ws))) (map f (drop 1 ws)) ≡ false → is_whole e head.Entity (map f ws) ≡ false
+pub not_whole : {A : Type 0} (e : Known) (f : A → List ℕ) (ws : List A) → 1 ≤ length ws → are_good e (map f (take 1 ws)) (pair_places (map f (drop 1 ws))) (map f (drop 1 ws)) ≡ false → is_whole e [] (setting_places form.Entity (map f ws)) (map f ws) ≡ false
 not_whole e f [] some bad = absurd (omega arith)
 not_whole e f (w ∷ ws) some bad = rw (bad, and_false (is_good e [] at.Entity (f w))) (and_false _)
 
 -- all pairs are read
-pub all_read : {A : Type 0} (e : List Line) (f : A → List ℕ) (ws : List A) (i : ℕ) (gs : List Grant) → Reads e f ws i gs → length ws ≤ i → SpellsItems e (map f (take 1 ws)) (grant_items gs) (map f (drop 1 ws))
+pub all_read : {A : Type 0} (e : Known) (f : A → List ℕ) (ws : List A) (i : ℕ) (gs : List Grant) → Reads e f ws i gs → length ws ≤ i → SpellsItems e (map f (take 1 ws)) (grant_items gs) (map f (drop 1 ws))
 all_read {A = A} e f ws i gs r last =
     let n : length (drop i ws) ≡ 0 = simp length-drop (omega arith) in
     rw append-nil at (r.spelled [] (none_left (drop i ws) n))
@@ -105,6 +107,6 @@ all_read {A = A} e f ws i gs r last =
     none_left (w ∷ rest) n = absurd (omega arith)
 
 -- a name and the pairs behind it
-pub named_front : {A : Type 0} (e : List Line) (f : A → List ℕ) (ws : List A) (d : A) (n : Name) (gs : List Grant) → 1 ≤ length ws → SpellsItem e [] (EntityOf n) (f (get_or ws 0 d)) → SpellsItems e (map f (take 1 ws)) (grant_items gs) (map f (drop 1 ws)) → SpellsItems e [] (EntityOf n ∷ grant_items gs) (map f ws)
+pub named_front : {A : Type 0} (e : Known) (f : A → List ℕ) (ws : List A) (d : A) (n : Name) (gs : List Grant) → 1 ≤ length ws → SpellsItem e [] (EntityOf n) (f (get_or ws 0 d)) → SpellsItems e (map f (take 1 ws)) (grant_items gs) (map f (drop 1 ws)) → SpellsItems e [] (EntityOf n ∷ grant_items gs) (map f ws)
 named_front e f [] d n gs some name pairs = absurd (omega arith)
 named_front e f (w ∷ ws) d n gs some name pairs = (name, pairs)

@@ -1,7 +1,9 @@
-pub mod Faults
-pub mod Heads
-pub mod Known
+pub mod Commands
+pub mod Found
+pub mod Knowing
 pub mod Lines
-pub mod Places
+pub mod LinkSteps
+pub mod NodeSteps
 pub mod Refusals
+pub mod Settings
 pub mod Sights

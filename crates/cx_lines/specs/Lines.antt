@@ -1,186 +1,170 @@
--- What the lines of a schedule are: how each is spelled, and what the lines before it must be for that. The lines and their
--- bounds are those of docs/guide.md, "The lines of a schedule".
-use Rattle.std.specs.Prelude.{ℕ, ◌≡◌, Bool, true, false, ◌&&◌, ◌||◌, not, IsTrue, nat_le, nat_lt, List, [], ◌∷◌, ◌++◌, length, codes}
-use Rattle.std.specs.List.{list_any, list_all}
+-- What the lines of a schedule are: how each is spelled, and when it may stand; and the first fault of words that are none.
+-- The lines are those of docs/guide.md, "The lines of a schedule".
+use Rattle.std.specs.Prelude.{ℕ, ◌≡◌, Bool, true, false, IsTrue, nat_lt, List, [], ◌∷◌, ◌++◌, map, codes, Option, Some, None, if◌then◌else◌}
+use Rattle.std.specs.Option.{option_map}
 use Rattle.std.specs.Str.{bytes_eq}
-use Rattle.std.specs.Fmt.{decimal}
-use Rattle.cx_base.specs.declared.kinds.Access.{Access}
-use Rattle.cx_base.specs.declared.kinds.EntityType.{EntityType}
-use Rattle.cx_base.specs.declared.kinds.EntityType.TheVariants.{Mds, Osd, Client, Mgr}
-use Rattle.cx_base.specs.Names.{Name, is_id, name_text, same_kind, same_name, type_word, access_word}
-use Rattle.cx_base.specs.declared.operations.Operation.{Operation}
-use Rattle.cx_words.specs.Words.{IsReadingWord, IsHexWord, is_service, is_service_list, services_word, part_word, quoted}
-use Rattle.cx_base.specs.Texts.{is_caps, is_part}
-use Rattle.cx_lines.specs.declared.heads.Head.{Head}
-use Rattle.cx_lines.specs.declared.heads.Head.TheVariants as head
-use Rattle.cx_lines.specs.declared.lines.Grant.{Grant}
+use Rattle.cx_places.specs.declared.choices.CommandForm.{CommandForm}
+use Rattle.cx_places.specs.declared.faults.FaultAt.{FaultAt}
+use Rattle.cx_places.specs.declared.faults.LineFault.TheVariants.{UnknownWord}
+use Rattle.cx_places.specs.declared.known.Known.{Known}
+use Rattle.cx_places.specs.declared.places.Place.{Place}
+use Rattle.cx_places.specs.declared.places.Place.TheVariants as at
+use Rattle.cx_places.specs.Choices.{command_form_of, command_word}
+use Rattle.cx_places.specs.Faults.{fault_among, fault_at}
+use Rattle.cx_places.specs.Places.{is_whole}
+use Rattle.cx_places.specs.Values.{Item, CommandOf, SpellsItems, is_life}
+use Rattle.cx_lines.specs.declared.commands.Command.{Command}
+use Rattle.cx_lines.specs.declared.lines.Head.{Head}
+use Rattle.cx_lines.specs.declared.lines.Head.TheVariants as head
 use Rattle.cx_lines.specs.declared.lines.Line.{Line}
-use Rattle.cx_lines.specs.declared.lines.Line.TheVariants.{Lifetime, AuthLifetime, Entity, Clock, Fetch, Login, Connect, Send}
-use Rattle.cx_lines.specs.Heads.{head_word, stands_first}
+use Rattle.cx_lines.specs.declared.lines.Line.TheVariants.{Setting, Submit, Do, Link, Node}
+use Rattle.cx_lines.specs.declared.lines.Numbered.{Numbered}
+use Rattle.cx_lines.specs.declared.node_steps.NodeStep.TheVariants as node
+use Rattle.cx_lines.specs.declared.reading.Judged.{Judged}
+use Rattle.cx_lines.specs.declared.reading.Judged.TheVariants.{Spelled, Faulty}
+use Rattle.cx_lines.specs.declared.settings.Setting.TheVariants as setting
+use Rattle.cx_lines.specs.Commands.{command_form, command_items, command_places}
+use Rattle.cx_lines.specs.Found.{Family, IsFound, SpellsIn}
+use Rattle.cx_lines.specs.Knowing.{is_late, is_spent}
+use Rattle.cx_lines.specs.LinkSteps.{link_form, link_form_of, link_items, link_places, link_word}
+use Rattle.cx_lines.specs.NodeSteps.{node_form, node_form_of, node_items, node_places, node_step_word}
+use Rattle.cx_lines.specs.Settings.{setting_form, setting_form_of, setting_items, setting_places, setting_word}
 
--- ---- what the lines before it say
+-- ---- the first word
 
--- whether a line declares this name
-abbrev pub declares : Name → Line → Bool
-declares name (Entity declared grants) = same_name declared name
-declares name _ = false
+-- the word that a line of each form begins with
+abbrev pub head_word : Head → List ℕ
+head_word (head.Setting form) = setting_word form
+head_word (head.Submit form) = command_word form
+head_word head.Do = codes "do"
+head_word (head.Link form) = link_word form
+head_word (head.Node form) = node_step_word form
 
--- whether one of these lines does
-abbrev pub is_declared : List Line → Name → Bool
-is_declared earlier name = list_any (declares name) earlier
+-- the one, or else the other
+abbrev pub or_head : Option Head → Option Head → Option Head
+or_head None other = other
+or_head (Some form) other = Some form
 
--- the types of entities that a schedule declares
-abbrev pub is_declarable : Name → Bool
-is_declarable name =
-    same_kind name.kind Client || (same_kind name.kind Mds || (same_kind name.kind Osd || same_kind name.kind Mgr))
-
--- the types of daemons
-abbrev pub is_daemon_kind : EntityType → Bool
-is_daemon_kind kind = same_kind kind Mds || (same_kind kind Osd || same_kind kind Mgr)
-
--- a declared client
-abbrev pub is_client : List Line → Name → Bool
-is_client earlier name = same_kind name.kind Client && is_declared earlier name
-
--- a declared daemon
-abbrev pub is_daemon : List Line → Name → Bool
-is_daemon earlier name = is_daemon_kind name.kind && is_declared earlier name
-
-abbrev pub is_lifetime : Line → Bool
-is_lifetime (Lifetime seconds) = true
-is_lifetime _ = false
-
-abbrev pub is_auth_lifetime : Line → Bool
-is_auth_lifetime (AuthLifetime seconds) = true
-is_auth_lifetime _ = false
-
--- whether a line of this form may stand once, and stands already
-abbrev pub is_spent : List Line → Head → Bool
-is_spent earlier head.Lifetime = list_any is_lifetime earlier
-is_spent earlier head.AuthLifetime = list_any is_auth_lifetime earlier
-is_spent earlier _ = false
-
--- ---- what stands at the places of a line
-
--- seconds of a lifetime: at least one, at most those of a year of 365 days
-abbrev pub is_life : ℕ → Bool
-is_life seconds = nat_le 1 seconds && nat_le seconds 31536000
-
--- data that a send line may hold: at most 65,536 bytes
-abbrev pub is_fit : List ℕ → Bool
-is_fit bytes = nat_le (length bytes) 65536
-
--- a name that can be written
-abbrev pub is_name : Name → Bool
-is_name name = is_id name.kind name.id
-
--- a value at its place: seconds of a lifetime, a reading, the name that an entity line declares, a service and its caps, a
--- client, a daemon, a list of services, an access, a part of an object's address, data
-pub data Item : Type 0 where
-  LifeOf : ℕ → Item
-  ReadingOf : ℕ → Item
-  EntityOf : Name → Item
-  ServiceOf : EntityType → Item
-  CapsOf : List ℕ → Item
-  ClientOf : Name → Item
-  DaemonOf : Name → Item
-  ServicesOf : List EntityType → Item
-  AccessOf : Access → Item
-  PartOf : List ℕ → Item
-  DataOf : List ℕ → Item
-
--- the word spells the value, behind the earlier lines and the words before it in its line
-abbrev pub SpellsItem : List Line → List (List ℕ) → Item → List ℕ → Type 0
-SpellsItem earlier before (LifeOf seconds) word = IsTrue (is_life seconds) × (word ≡ decimal seconds)
-SpellsItem earlier before (ReadingOf reading) word = IsReadingWord word reading
-SpellsItem earlier before (EntityOf name) word =
-    IsTrue (is_name name) × IsTrue (is_declarable name) × (is_declared earlier name ≡ false) × (word ≡ name_text name)
-SpellsItem earlier before (ServiceOf kind) word =
-    IsTrue (is_service kind) × (list_any (bytes_eq word) before ≡ false) × (word ≡ type_word kind)
-SpellsItem earlier before (CapsOf caps) word = IsTrue (is_caps caps) × (word ≡ quoted caps)
-SpellsItem earlier before (ClientOf name) word =
-    IsTrue (is_name name) × IsTrue (is_client earlier name) × (word ≡ name_text name)
-SpellsItem earlier before (DaemonOf name) word =
-    IsTrue (is_name name) × IsTrue (is_daemon earlier name) × (word ≡ name_text name)
-SpellsItem earlier before (ServicesOf kinds) word = IsTrue (is_service_list kinds) × (word ≡ services_word kinds)
-SpellsItem earlier before (AccessOf access) word = word ≡ access_word access
-SpellsItem earlier before (PartOf part) word = IsTrue (is_part part) × (word ≡ part_word part)
-SpellsItem earlier before (DataOf bytes) word = IsTrue (is_fit bytes) × IsHexWord word bytes
-
--- the words spell the values one by one
-abbrev pub SpellsItems : List Line → List (List ℕ) → List Item → List (List ℕ) → Type 0
-SpellsItems earlier before [] [] = Unit {0}
-SpellsItems earlier before [] (word ∷ words) = ⊥
-SpellsItems earlier before (item ∷ items) [] = ⊥
-SpellsItems earlier before (item ∷ items) (word ∷ words) =
-    SpellsItem earlier before item word × SpellsItems earlier (before ++ word ∷ []) items words
-
--- ---- the lines
+-- the form that a first word begins, if it begins one
+abbrev pub head_of : List ℕ → Option Head
+head_of word =
+    or_head (option_map head.Submit (command_form_of word))
+    (or_head (option_map head.Setting (setting_form_of word))
+    (or_head (if bytes_eq word (codes "do") then Some head.Do else None)
+    (or_head (option_map head.Link (link_form_of word)) (option_map head.Node (node_form_of word)))))
 
 -- the form of a line
 abbrev pub form_of : Line → Head
-form_of (Lifetime seconds) = head.Lifetime
-form_of (AuthLifetime seconds) = head.AuthLifetime
-form_of (Entity name grants) = head.Entity
-form_of (Clock reading) = head.Clock
-form_of (Fetch daemon) = head.Fetch
-form_of (Login client services) = head.Login
-form_of (Connect client daemon) = head.Connect
-form_of (Send client daemon operation) = head.Send
+form_of (Setting setting) = head.Setting (setting_form setting)
+form_of (Submit command) = head.Submit (command_form command)
+form_of (Do command) = head.Do
+form_of (Link step) = head.Link (link_form step)
+form_of (Node step) = head.Node (node_form step)
 
--- pairs of a service and its caps
-abbrev pub grant_items : List Grant → List Item
-grant_items [] = []
-grant_items (grant ∷ grants) = ServiceOf grant.service ∷ CapsOf grant.caps ∷ grant_items grants
+-- ---- what stands behind it
 
--- an operation: its access, pool, namespace and object, and its data
-abbrev pub operation_items : Operation → List Item
-operation_items operation =
-    AccessOf operation.access ∷ PartOf operation.pool ∷ PartOf operation.namespace ∷ PartOf operation.object
-    ∷ DataOf operation.bytes ∷ []
+-- a place for each word, whatever it is
+abbrev pub anything : List (List ℕ) → List Place
+anything words = map (λ word. at.Anything) words
 
--- services, where some are asked for
-abbrev pub asked_items : List EntityType → List Item
-asked_items [] = []
-asked_items (service ∷ services) = ServicesOf (service ∷ services) ∷ []
+-- the places behind a word that begins this command, or none
+abbrev pub behind_do : Option CommandForm → List (List ℕ) → List Place
+behind_do None words = anything words
+behind_do (Some form) words = command_places form words
+
+-- the places behind do: those of a whole command
+abbrev pub do_places : List (List ℕ) → List Place
+do_places [] = at.Command ∷ []
+do_places (word ∷ words) = at.Command ∷ behind_do (command_form_of word) words
+
+-- the places behind the first word, in the form that these words come closest to
+abbrev pub places : Head → List (List ℕ) → List Place
+places (head.Setting form) words = setting_places form words
+places (head.Submit form) words = command_places form words
+places head.Do words = do_places words
+places (head.Link form) words = link_places form words
+places (head.Node form) words = node_places form words
+
+-- what stands behind do
+abbrev pub do_items : Command → List Item
+do_items command = CommandOf (command_form command) ∷ command_items command
 
 -- what stands behind the first word
 abbrev pub items : Line → List Item
-items (Lifetime seconds) = LifeOf seconds ∷ []
-items (AuthLifetime seconds) = LifeOf seconds ∷ []
-items (Entity name grants) = EntityOf name ∷ grant_items grants
-items (Clock reading) = ReadingOf reading ∷ []
-items (Fetch daemon) = DaemonOf daemon ∷ []
-items (Login client services) = ClientOf client ∷ asked_items services
-items (Connect client daemon) = ClientOf client ∷ DaemonOf daemon ∷ []
-items (Send client daemon operation) = ClientOf client ∷ DaemonOf daemon ∷ operation_items operation
+items (Setting setting) = setting_items setting
+items (Submit command) = command_items command
+items (Do command) = do_items command
+items (Link step) = link_items step
+items (Node step) = node_items step
 
--- a line that is no head line
-abbrev pub is_step : Line → Bool
-is_step line = not (stands_first (form_of line))
+-- all lines as a family
+abbrev pub all_lines : Family Head Line
+all_lines = record { places = places; form = form_of; items = items }
 
--- whether such a line stands already
-abbrev pub is_begun : List Line → Bool
-is_begun earlier = list_any is_step earlier
+-- what words behind a first word of this form are found to be
+abbrev pub IsLine : Known → Head → List (List ℕ) → Option Line → Type 0
+IsLine known form words found = IsFound all_lines known [] form words found
 
--- whether a line of this form is too late: a head line behind a line that is none
-abbrev pub is_late : List Line → Head → Bool
-is_late earlier form = stands_first form && is_begun earlier
+-- what words behind do are found to be
+abbrev pub IsDo : Known → List (List ℕ) → Option Command → Type 0
+IsDo known words None = is_whole known [] (do_places words) words ≡ false
+IsDo known words (Some command) = SpellsItems known [] (do_items command) words
 
--- the words behind a first word of this form spell the line
-abbrev pub SpellsBehind : List Line → Head → List (List ℕ) → Line → Type 0
-SpellsBehind earlier form words line = (form ≡ form_of line) × SpellsItems earlier [] (items line) words
+-- the words spell the line, which may stand where this is known of the lines above
+abbrev pub Spells : Known → Line → List (List ℕ) → Type 0
+Spells known line [] = ⊥
+Spells known line (word ∷ words) =
+    (word ≡ head_word (form_of line)) × SpellsItems known [] (items line) words
+    × (is_spent known (form_of line) ≡ false) × (is_late known (form_of line) ≡ false)
 
--- the words spell the line, which may stand behind the earlier lines
-abbrev pub Spells : List Line → Line → List (List ℕ) → Type 0
-Spells earlier line [] = ⊥
-Spells earlier line (word ∷ words) =
-    (word ≡ head_word (form_of line)) × SpellsItems earlier [] (items line) words
-    × (is_spent earlier (form_of line) ≡ false) × (is_late earlier (form_of line) ≡ false)
+-- the words behind a first word of this form spell the line, which may stand here
+abbrev pub SpellsHere : Known → Head → List (List ℕ) → Line → Type 0
+SpellsHere known form words line =
+    SpellsIn all_lines known [] form words line × (is_spent known form ≡ false) × (is_late known form ≡ false)
 
 -- the numbers of a line are in their ranges; a reading is below 4,000,000,000 s, in nanoseconds
 abbrev pub is_in_range : Line → Bool
-is_in_range (Lifetime seconds) = is_life seconds
-is_in_range (AuthLifetime seconds) = is_life seconds
-is_in_range (Clock reading) = nat_lt reading 4000000000000000000
+is_in_range (Setting (setting.Lifetime seconds)) = is_life seconds
+is_in_range (Setting (setting.AuthLifetime seconds)) = is_life seconds
+is_in_range (Node (node.Clock reading)) = nat_lt reading 4000000000000000000
+is_in_range (Node (node.ClockOf node reading)) = nat_lt reading 4000000000000000000
 is_in_range _ = true
+
+-- the same of a line with its number
+abbrev pub is_numbered_in_range : Numbered → Bool
+is_numbered_in_range numbered = is_in_range numbered.line
+
+-- ---- the first fault
+
+-- the first fault of the words behind a first word of this form
+abbrev pub fault_behind : Known → Head → List (List ℕ) → Option FaultAt
+fault_behind known form words =
+    fault_among known (is_spent known form) (is_late known form) (places form words) words
+
+-- the first word begins no line
+abbrev pub unknown_word : FaultAt
+unknown_word = fault_at UnknownWord 1
+
+-- the first fault where the first word may begin no line
+abbrev pub fault_with : Known → List (List ℕ) → Option Head → Option FaultAt
+fault_with known words None = Some unknown_word
+fault_with known words (Some form) = fault_behind known form words
+
+-- the first fault of a line's words
+abbrev pub fault_of : Known → List (List ℕ) → Option FaultAt
+fault_of known [] = Some unknown_word
+fault_of known (word ∷ words) = fault_with known words (head_of word)
+
+-- such words have a fault
+abbrev pub IsFaulty : Known → Head → List (List ℕ) → Type 0
+IsFaulty known form words = fault_behind known form words ≡ None → ⊥
+
+-- what the words behind a first word of this form are found to be
+abbrev pub IsJudgedBehind : Known → Head → List (List ℕ) → Judged → Type 0
+IsJudgedBehind known form words (Spelled line) = SpellsHere known form words line
+IsJudgedBehind known form words (Faulty fault) = fault_behind known form words ≡ Some fault
+
+-- what the words of a line are found to be: a line, or words with this first fault
+abbrev pub IsJudged : Known → List (List ℕ) → Judged → Type 0
+IsJudged known words (Spelled line) = Spells known line words
+IsJudged known words (Faulty fault) = fault_of known words ≡ Some fault

@@ -1,36 +1,76 @@
 //! The form of entity lines.
 
-ghost use Rattle.std.specs.Prelude.{◌≡◌, ◌∷◌, [], ◌++◌, ◌&&◌, map, is_some, IfOk, IfSome};
-ghost use Rattle.cx_lines.specs.Lines.{CapsOf, ServiceOf, SpellsItem};
-ghost use Rattle.cx_lines.specs.Places.{is_good, IsForm};
-ghost use Rattle.cx_lines.specs.declared.heads.Head.{Head};
-ghost use Rattle.cx_lines.specs.declared.places.Place.{Place};
+ghost use Rattle.std.specs.Prelude.{◌≡◌, ◌∷◌, [], ◌++◌, ◌&&◌, map, is_some, length, IfOk, IfSome};
+ghost use Rattle.cx_places.specs.Known.{nothing};
+ghost use Rattle.cx_places.specs.Places.{is_good};
+ghost use Rattle.cx_places.specs.Values.{CapsOf, ServiceOf, SpellsItem};
+ghost use Rattle.cx_places.specs.declared.places.Place.{Place};
+ghost use Rattle.cx_lines.specs.Settings.{entity_places, pair_places, IsSetting};
+ghost use Rattle.cx_lines.specs.declared.settings.SettingForm.{SettingForm};
 
-use crate::earlier::Earlier;
-use crate::lines::{Grant, Line};
-use crate::values::{new_entity, new_service};
-use cx_base::Items;
+use crate::settings::Setting;
+use cx_base::{Duplicate, EntityType, Items, Text};
+use cx_places::{Known, Place, new_entity, new_service};
 use cx_words::caps;
 use std::alloc::{AllocError, Global};
 
-/// The line that these words behind `entity` spell.
+/// The caps text that an entity has for a service.
+#[derive(Debug, PartialEq, Eq, Drop)]
+pub struct Grant {
+    pub service: EntityType,
+    pub caps: Text,
+}
+
+impl Duplicate for Grant {
+    fn copy(&self, alloc: Global) -> Result<Grant, AllocError> {
+        let caps = self.caps.copy(alloc)?;
+        Ok(Grant {
+            service: self.service,
+            caps,
+        })
+    }
+}
+
+/// The places behind `entity`, where these words stand there.
+pub fn entity_places(alloc: Global, words: &[&[u8]]) -> Result<Vec<Place>, AllocError>
+    ensures { IfOk result (λ found. found.items ≡ entity_places (map (λ w. w.now) words.now)) }
+{
+    let mut found = Vec::from_slice(alloc, &[Place::Entity])?;
+    let [_, pairs @ ..] = words else {
+        return Ok(found);
+    };
+    let mut rest = pairs;
+    while let [_, _, after @ ..] = rest {
+        found.push(Place::Service)?;
+        found.push(Place::Caps)?;
+        rest = after;
+    }
+    if rest.is_empty() {
+        return Ok(found);
+    }
+    found.push(Place::Service)?;
+    found.push(Place::Caps)?;
+    Ok(found)
+}
+
+/// The head line that these words behind `entity` spell.
 pub fn entity_of(
     alloc: Global,
-    earlier: &Earlier,
+    known: &Known,
     words: &[&[u8]],
-) -> Result<Option<Line>, AllocError>
-    ensures { IfOk result (IsForm earlier.now Head.Entity (map (λ w. w.now) words.now)) }
+) -> Result<Option<Setting>, AllocError>
+    ensures { IfOk result (IsSetting known.now SettingForm.Entity (map (λ w. w.now) words.now)) }
 {
     if words.is_empty() {
         return Ok(None);
     }
-    let Some(name) = new_entity(alloc, earlier, words[0])? else {
+    let Some(name) = new_entity(alloc, known, words[0])? else {
         return Ok(None);
     };
     let mut grants = Items::new(alloc);
     let mut at = 1;
     'pairs: while at + 1 < words.len() {
-        let Some(grant) = grant(alloc, &words[..at], words[at], words[at + 1])? else {
+        let Some(grant) = grant_of(alloc, &words[..at], words[at], words[at + 1])? else {
             return Ok(None);
         };
         grants.push(alloc, grant)?;
@@ -39,18 +79,18 @@ pub fn entity_of(
     if at < words.len() {
         return Ok(None);
     }
-    Ok(Some(Line::Entity(name, grants)))
+    Ok(Some(Setting::Entity(name, grants)))
 }
 
 /// The service and its caps that two words spell behind the words before them.
-fn grant(
+fn grant_of(
     alloc: Global,
     before: &[&[u8]],
     first: &[u8],
     second: &[u8],
 ) -> Result<Option<Grant>, AllocError>
-    ensures read { IfOk result (λ found. is_some found ≡ (is_good [] (map (λ w. w.now) before.now) Place.Service first.now && is_good [] [] Place.Caps second.now)) }
-    ensures spelled { IfOk result (λ found. IfSome found (λ grant. SpellsItem [] (map (λ w. w.now) before.now) (ServiceOf grant.service) first.now × SpellsItem [] [] (CapsOf grant.caps) second.now)) }
+    ensures read { IfOk result (λ found. is_some found ≡ (is_good nothing (map (λ w. w.now) before.now) Place.Service first.now && is_good nothing [] Place.Caps second.now)) }
+    ensures spelled { IfOk result (λ found. IfSome found (λ grant. SpellsItem nothing (map (λ w. w.now) before.now) (ServiceOf grant.service) first.now × SpellsItem nothing [] (CapsOf grant.caps) second.now)) }
 {
     let Some(service) = new_service(before, first) else {
         return Ok(None);

@@ -1,29 +1,27 @@
 //! The lines of a schedule: their forms, and what is wrong with words that are none.
 #![tactic(auto)]
 
-mod earlier;
+mod commands;
 mod entity;
-mod faults;
-mod forms;
 mod grammar;
-mod heads;
-mod judge;
-mod limits;
+mod knowing;
 mod lines;
-mod places;
+mod link_steps;
+mod node_steps;
 mod reading;
 mod refusals;
 mod sending;
+mod settings;
 mod sight;
-mod values;
 
-pub use earlier::Earlier;
-pub use faults::{FaultAt, LineFault};
+pub use commands::Command;
+pub use entity::Grant;
 pub use grammar::line_laws;
-pub use heads::Head;
-pub use limits::{LONGEST_LIFE, MOST_DATA};
-pub use lines::{Grant, Line};
-pub use places::Place;
+pub use knowing::note;
+pub use lines::{Head, Line, Numbered};
+pub use link_steps::{LinkForm, LinkStep};
+pub use node_steps::{NodeForm, NodeStep};
 pub use reading::line_of;
 pub use refusals::LineRefusal;
-pub use sight::{BadWord, Hint, Shown};
+pub use settings::{Setting, SettingForm};
+pub use sight::BadWord;

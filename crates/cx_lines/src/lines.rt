@@ -1,81 +1,206 @@
 //! The lines of a schedule.
 
-use crate::heads::Head;
-use crate::places::Place;
-use crate::sight::BadWord;
-use cx_base::{Duplicate, EntityName, EntityType, Items, Operation, Reading, Text, copy_items};
-use std::alloc::{AllocError, Global};
+ghost use Rattle.std.specs.Prelude.{ℕ, ◌≡◌, ◌∷◌, [], ◌++◌, List, map, IfOk, IfSome};
+ghost use Rattle.cx_lines.specs.Lines.{anything, do_places, form_of, head_of, head_word, places, IsDo, IsLine};
 
-/// The caps text that an entity has for a service.
-#[derive(Debug, PartialEq, Eq, Drop)]
-pub struct Grant {
-    pub service: EntityType,
-    pub caps: Text,
-}
+use crate::commands::{Command, command_of, command_places};
+use crate::entity::Grant;
+use crate::link_steps::{LinkForm, LinkStep, link_places, link_step_named, link_step_of};
+use crate::node_steps::{NodeForm, NodeStep, node_places, node_step_named, node_step_of};
+use crate::settings::{Setting, SettingForm, setting_named, setting_of, setting_places};
+use crate::sight::BadWord;
+use cx_base::Duplicate;
+use cx_places::{CommandForm, Known, Place, command_named};
+use cx_words::is_word;
+use std::alloc::{AllocError, Global};
 
 /// A line of a schedule.
 #[derive(Debug, PartialEq, Eq, Drop)]
 pub enum Line {
-    /// The life of service secrets and tickets, 1 to 31,536,000 seconds.
-    Lifetime(u64),
-    /// The life of the monitor's own secrets and tickets, 1 to 31,536,000 seconds.
-    AuthLifetime(u64),
-    /// An entity and its caps, each for another service.
-    Entity(EntityName, Items<Grant>),
-    /// The reading of all clocks from here on, below 4,000,000,000 s.
-    Clock(Reading),
-    /// A daemon fetches the generations of its type.
-    Fetch(EntityName),
-    /// A client logs in and asks for tickets of these services.
-    Login(EntityName, Items<EntityType>),
-    /// A client connects to a daemon.
-    Connect(EntityName, EntityName),
-    /// A client sends an operation to a daemon.
-    Send(EntityName, EntityName, Operation),
+    /// A head line.
+    Setting(Setting),
+    /// A node is told to do something, and then all settles.
+    Submit(Command),
+    /// A node is told to do something, and nothing settles.
+    Do(Command),
+    /// Something happens to a link.
+    Link(LinkStep),
+    /// Something happens to a clock, a node or a save.
+    Node(NodeStep),
 }
 
-impl Duplicate for Grant {
-    fn copy(&self, alloc: Global) -> Result<Grant, AllocError> {
-        let caps = self.caps.copy(alloc)?;
-        Ok(Grant {
-            service: self.service,
-            caps,
-        })
+/// The form of a line, told by its first word.
+#[derive(Clone, Copy, Debug, PartialEq, Eq)]
+pub enum Head {
+    Setting(SettingForm),
+    Submit(CommandForm),
+    Do,
+    Link(LinkForm),
+    Node(NodeForm),
+}
+
+/// A line with its number in its file, from 1.
+#[derive(Debug, PartialEq, Eq, Drop)]
+pub struct Numbered {
+    pub number: u32,
+    pub line: Line,
+}
+
+/// The form that the first word begins.
+pub fn head_of(word: &[u8]) -> Option<Head>
+    ensures read { result ≡ head_of word.now }
+    ensures spelled { IfSome result (λ head. word.now ≡ head_word head) }
+{
+    if let Some(form) = command_named(word) {
+        return Some(Head::Submit(form));
     }
+    if let Some(form) = setting_named(word) {
+        return Some(Head::Setting(form));
+    }
+    if is_word(word, "do") {
+        return Some(Head::Do);
+    }
+    if let Some(form) = link_step_named(word) {
+        return Some(Head::Link(form));
+    }
+    if let Some(form) = node_step_named(word) {
+        return Some(Head::Node(form));
+    }
+    None
+}
+
+impl Line {
+    /// The form of the line.
+    pub fn form(&self) -> Head
+        ensures { result ≡ form_of self.now }
+    {
+        match self {
+            Line::Setting(setting) => Head::Setting(setting.form()),
+            Line::Submit(command) => Head::Submit(command.form()),
+            Line::Do(_) => Head::Do,
+            Line::Link(step) => Head::Link(step.form()),
+            Line::Node(step) => Head::Node(step.form()),
+        }
+    }
+}
+
+/// The places behind the first word, in the form that these words come closest to.
+pub fn places(alloc: Global, form: Head, words: &[&[u8]]) -> Result<Vec<Place>, AllocError>
+    ensures { IfOk result (λ found. found.items ≡ places form (map (λ w. w.now) words.now)) }
+{
+    match form {
+        Head::Setting(form) => setting_places(alloc, form, words),
+        Head::Submit(form) => command_places(alloc, form, words),
+        Head::Do => do_places(alloc, words),
+        Head::Link(form) => link_places(alloc, form, words),
+        Head::Node(form) => node_places(alloc, form, words),
+    }
+}
+
+fn do_places(alloc: Global, words: &[&[u8]]) -> Result<Vec<Place>, AllocError>
+    ensures { IfOk result (λ found. found.items ≡ do_places (map (λ w. w.now) words.now)) }
+{
+    let mut found = Vec::from_slice(alloc, &[Place::Command])?;
+    let [first, rest @ ..] = words else {
+        return Ok(found);
+    };
+    let behind = match command_named(first) {
+        Some(form) => command_places(alloc, form, rest)?,
+        None => anything(alloc, rest)?,
+    };
+    found.extend_from_slice(behind.as_slice())?;
+    Ok(found)
+}
+
+/// A place for each word, whatever it is.
+fn anything(alloc: Global, words: &[&[u8]]) -> Result<Vec<Place>, AllocError>
+    ensures { IfOk result (λ found. found.items ≡ anything (map (λ w. w.now) words.now)) }
+{
+    let mut found = Vec::new(alloc);
+    let mut rest = words;
+    while let [_, after @ ..] = rest {
+        found.push(Place::Anything)?;
+        rest = after;
+    }
+    Ok(found)
+}
+
+/// The line that these words behind a first word of this form spell; none where one of them isn't good at its place.
+pub fn line_behind(
+    alloc: Global,
+    known: &Known,
+    form: Head,
+    words: &[&[u8]],
+) -> Result<Option<Line>, AllocError>
+    ensures { IfOk result (IsLine known.now form (map (λ w. w.now) words.now)) }
+{
+    match form {
+        Head::Setting(form) => Ok(setting_of(alloc, known, form, words)?.map(Line::Setting)),
+        Head::Submit(form) => Ok(command_of(alloc, known, form, words)?.map(Line::Submit)),
+        Head::Do => Ok(do_of(alloc, known, words)?.map(Line::Do)),
+        Head::Link(form) => Ok(link_step_of(alloc, known, form, words)?.map(Line::Link)),
+        Head::Node(form) => Ok(node_step_of(alloc, known, form, words)?.map(Line::Node)),
+    }
+}
+
+/// The command that these words behind `do` spell.
+fn do_of(alloc: Global, known: &Known, words: &[&[u8]]) -> Result<Option<Command>, AllocError>
+    ensures { IfOk result (IsDo known.now (map (λ w. w.now) words.now)) }
+{
+    let [first, rest @ ..] = words else {
+        return Ok(None);
+    };
+    do_behind(alloc, known, first, rest)
+}
+
+fn do_behind(
+    alloc: Global,
+    known: &Known,
+    first: &[u8],
+    rest: &[&[u8]],
+) -> Result<Option<Command>, AllocError>
+    ensures { IfOk result (IsDo known.now (first.now ∷ map (λ w. w.now) rest.now)) }
+{
+    let Some(form) = command_named(first) else {
+        return Ok(None);
+    };
+    command_of(alloc, known, form, rest)
 }
 
 impl Duplicate for Line {
     fn copy(&self, alloc: Global) -> Result<Line, AllocError> {
         match self {
-            Line::Lifetime(seconds) => Ok(Line::Lifetime(*seconds)),
-            Line::AuthLifetime(seconds) => Ok(Line::AuthLifetime(*seconds)),
-            Line::Entity(name, grants) => {
-                let name = name.copy(alloc)?;
-                let grants = copy_items(alloc, grants)?;
-                Ok(Line::Entity(name, grants))
+            Line::Setting(setting) => {
+                let setting = setting.copy(alloc)?;
+                Ok(Line::Setting(setting))
             }
-            Line::Clock(reading) => Ok(Line::Clock(*reading)),
-            Line::Fetch(daemon) => {
-                let daemon = daemon.copy(alloc)?;
-                Ok(Line::Fetch(daemon))
+            Line::Submit(command) => {
+                let command = command.copy(alloc)?;
+                Ok(Line::Submit(command))
             }
-            Line::Login(client, asked) => {
-                let client = client.copy(alloc)?;
-                let asked = copy_items(alloc, asked)?;
-                Ok(Line::Login(client, asked))
+            Line::Do(command) => {
+                let command = command.copy(alloc)?;
+                Ok(Line::Do(command))
             }
-            Line::Connect(client, daemon) => {
-                let client = client.copy(alloc)?;
-                let daemon = daemon.copy(alloc)?;
-                Ok(Line::Connect(client, daemon))
+            Line::Link(step) => {
+                let step = step.copy(alloc)?;
+                Ok(Line::Link(step))
             }
-            Line::Send(client, daemon, operation) => {
-                let client = client.copy(alloc)?;
-                let daemon = daemon.copy(alloc)?;
-                let operation = operation.copy(alloc)?;
-                Ok(Line::Send(client, daemon, operation))
+            Line::Node(step) => {
+                let step = step.copy(alloc)?;
+                Ok(Line::Node(step))
             }
         }
+    }
+}
+
+impl Duplicate for Numbered {
+    fn copy(&self, alloc: Global) -> Result<Numbered, AllocError> {
+        let line = self.line.copy(alloc)?;
+        Ok(Numbered {
+            number: self.number,
+            line,
+        })
     }
 }
 
@@ -83,8 +208,8 @@ impl Duplicate for Line {
 fn are_sendable() {
     is_sendable::<Grant>();
     is_sendable::<Line>();
+    is_sendable::<Numbered>();
     is_sendable::<Head>();
-    is_sendable::<Place>();
     is_sendable::<BadWord>();
 }
 

@@ -1,45 +1,27 @@
 //! Reading the words of one line.
 
 ghost use Rattle.std.specs.Prelude.{◌≡◌, map, IfOk, IfErr, IfNone, IfSome};
-ghost use Rattle.cx_lines.specs.Faults.{unknown_word, IsFaulty, IsJudged, IsJudgedBehind, SpellsHere};
-ghost use Rattle.cx_lines.specs.Lines.{Spells};
-ghost use Rattle.cx_lines.specs.Refusals.{IsLineCause, refused_at};
+ghost use Rattle.cx_lines.specs.Lines.{unknown_word, IsFaulty, IsJudged, IsJudgedBehind, Spells, SpellsHere, fault_behind};
+ghost use Rattle.cx_lines.specs.Refusals.{IsLineCause};
 
-use crate::earlier::Earlier;
-use crate::faults::{FaultAt, LineFault};
-use crate::forms::form;
-use crate::heads::{Head, head_of, is_later_word};
-use crate::judge::fault_behind;
-use crate::lines::Line;
+use crate::knowing::{is_late, is_spent};
+use crate::lines::{Head, Line, head_of, line_behind, places};
 use crate::refusals::LineRefusal;
-use crate::sight::{BadWord, described};
+use crate::sight::described;
+use cx_places::{FaultAt, Known, LineFault, first_fault};
 use std::alloc::{AllocError, Global};
 
-/// The line that these words spell behind the earlier lines.
-pub fn line_of(alloc: Global, earlier: &Earlier, words: &[&[u8]]) -> Result<Line, LineRefusal>
-    ensures ok { IfOk result (λ l. Spells earlier.now l (map (λ w. w.now) words.now)) }
-    ensures err { IfErr result (IsLineCause earlier.now (map (λ w. w.now) words.now)) }
+/// The line that these words spell, where this is known of the lines above.
+pub fn line_of(alloc: Global, known: &Known, words: &[&[u8]]) -> Result<Line, LineRefusal>
+    ensures ok { IfOk result (λ l. Spells known.now l (map (λ w. w.now) words.now)) }
+    ensures err { IfErr result (IsLineCause known.now (map (λ w. w.now) words.now)) }
 {
-    match judge_words(alloc, earlier, words)? {
+    match judge_words(alloc, known, words)? {
         Judged::Spelled(line) => Ok(line),
         Judged::Faulty(fault) => {
             let bad = described(alloc, words, fault)?;
-            Err(refused_at(words, bad))
+            Err(LineRefusal::Fault(bad))
         }
-    }
-}
-
-/// The refusal of a line whose first fault is this one.
-fn refused_at(words: &[&[u8]], bad: BadWord) -> LineRefusal
-    ensures { result ≡ refused_at (map (λ w. w.now) words.now) bad }
-{
-    let [first, ..] = words else {
-        return LineRefusal::Fault(bad);
-    };
-    if is_later_word(first) {
-        LineRefusal::Later
-    } else {
-        LineRefusal::Fault(bad)
     }
 }
 
@@ -50,9 +32,9 @@ pub enum Judged {
     Faulty(FaultAt),
 }
 
-/// The line that these words spell behind the earlier lines, or their first fault.
-fn judge_words(alloc: Global, earlier: &Earlier, words: &[&[u8]]) -> Result<Judged, AllocError>
-    ensures { IfOk result (IsJudged earlier.now (map (λ w. w.now) words.now)) }
+/// The line that these words spell, or their first fault.
+fn judge_words(alloc: Global, known: &Known, words: &[&[u8]]) -> Result<Judged, AllocError>
+    ensures { IfOk result (IsJudged known.now (map (λ w. w.now) words.now)) }
 {
     let [first, rest @ ..] = words else {
         return Ok(Judged::Faulty(unknown_word()));
@@ -60,7 +42,7 @@ fn judge_words(alloc: Global, earlier: &Earlier, words: &[&[u8]]) -> Result<Judg
     let Some(head) = head_of(first) else {
         return Ok(Judged::Faulty(unknown_word()));
     };
-    judge_behind(alloc, earlier, head, rest)
+    judge_behind(alloc, known, head, rest)
 }
 
 fn unknown_word() -> FaultAt
@@ -75,39 +57,59 @@ fn unknown_word() -> FaultAt
 /// The same of words behind a first word of this form.
 fn judge_behind(
     alloc: Global,
-    earlier: &Earlier,
+    known: &Known,
     head: Head,
     words: &[&[u8]],
 ) -> Result<Judged, AllocError>
-    ensures { IfOk result (IsJudgedBehind earlier.now head (map (λ w. w.now) words.now)) }
+    ensures { IfOk result (IsJudgedBehind known.now head (map (λ w. w.now) words.now)) }
 {
-    if let Some(line) = good_line(alloc, earlier, head, words)? {
+    if let Some(line) = good_line(alloc, known, head, words)? {
         return Ok(Judged::Spelled(line));
     }
-    match fault_behind(alloc, earlier, head, words)? {
+    match fault_behind(alloc, known, head, words)? {
         Some(fault) => Ok(Judged::Faulty(fault)),
         None => unreachable!(),
     }
 }
 
-/// The same; none where one of the words isn't good, or the line may not stand here.
+/// The line; none where one of the words isn't good, or the line may not stand here.
 fn good_line(
     alloc: Global,
-    earlier: &Earlier,
+    known: &Known,
     head: Head,
     words: &[&[u8]],
 ) -> Result<Option<Line>, AllocError>
-    ensures some { IfOk result (λ found. IfSome found (SpellsHere earlier.now head (map (λ w. w.now) words.now))) }
-    ensures none { IfOk result (λ found. IfNone found (IsFaulty earlier.now head (map (λ w. w.now) words.now))) }
+    ensures some { IfOk result (λ found. IfSome found (SpellsHere known.now head (map (λ w. w.now) words.now))) }
+    ensures none { IfOk result (λ found. IfNone found (IsFaulty known.now head (map (λ w. w.now) words.now))) }
 {
-    let Some(line) = form(alloc, earlier, head, words)? else {
+    let Some(line) = line_behind(alloc, known, head, words)? else {
         return Ok(None);
     };
-    if earlier.is_spent(head) {
+    if is_spent(known, head) {
         return Ok(None);
     }
-    if earlier.is_late(head) {
+    if is_late(known, head) {
         return Ok(None);
     }
     Ok(Some(line))
+}
+
+/// The first fault of the words, and the word that has it.
+fn fault_behind(
+    alloc: Global,
+    known: &Known,
+    head: Head,
+    words: &[&[u8]],
+) -> Result<Option<FaultAt>, AllocError>
+    ensures { IfOk result (λ found. found ≡ fault_behind known.now head (map (λ w. w.now) words.now)) }
+{
+    let wanted = places(alloc, head, words)?;
+    first_fault(
+        alloc,
+        known,
+        is_spent(known, head),
+        is_late(known, head),
+        wanted.as_slice(),
+        words,
+    )
 }

@@ -8,8 +8,6 @@ use std::alloc::AllocError;
 pub enum LineRefusal {
     /// It is outside of the grammar.
     Fault(BadWord),
-    /// It begins with a word of which only a later version's grammar speaks.
-    Later,
     /// Memory was wanting.
     OutOfMemory,
 }

@@ -1,16 +1,28 @@
 //! The form of send lines.
 
 ghost use Rattle.std.specs.Prelude.{◌≡◌, ◌∷◌, [], map, is_some, IfOk, IfSome};
-ghost use Rattle.cx_lines.specs.Lines.{SpellsItems, operation_items};
-ghost use Rattle.cx_lines.specs.Places.{are_good, operation_places, IsForm};
+ghost use Rattle.cx_places.specs.declared.choices.CommandForm.{CommandForm};
+ghost use Rattle.cx_places.specs.Known.{nothing};
+ghost use Rattle.cx_places.specs.Places.{are_good};
+ghost use Rattle.cx_places.specs.Values.{SpellsItems};
+ghost use Rattle.cx_lines.specs.Commands.{operation_items, operation_places, IsCommand};
 
-use crate::earlier::Earlier;
-use crate::heads::Head;
-use crate::lines::Line;
-use crate::values::{client, daemon, operation_data};
+use crate::commands::Command;
 use cx_base::Operation;
+use cx_places::{Known, Place, client, daemon, operation_data};
 use cx_words::{access, part};
 use std::alloc::{AllocError, Global};
+
+/// The places of a send line.
+pub const SEND_PLACES: [Place; 7] = [
+    Place::Client,
+    Place::Daemon,
+    Place::Access,
+    Place::Part,
+    Place::Part,
+    Place::Part,
+    Place::Data,
+];
 
 /// The words of an operation.
 #[derive(Clone, Copy)]
@@ -22,13 +34,13 @@ struct Written<'a> {
     bytes: &'a [u8],
 }
 
-/// The line that these words behind `send` spell.
+/// The command that these words behind `send` spell.
 pub fn send_of(
     alloc: Global,
-    earlier: &Earlier,
+    known: &Known,
     words: &[&[u8]],
-) -> Result<Option<Line>, AllocError>
-    ensures { IfOk result (IsForm earlier.now Head.Send (map (λ w. w.now) words.now)) }
+) -> Result<Option<Command>, AllocError>
+    ensures { IfOk result (IsCommand known.now [] CommandForm.Send (map (λ w. w.now) words.now)) }
 {
     let [from, to, access, pool, namespace, object, bytes] = words else {
         return Ok(None);
@@ -40,34 +52,34 @@ pub fn send_of(
         object,
         bytes,
     };
-    send(alloc, earlier, from, to, written)
+    send(alloc, known, from, to, written)
 }
 
 fn send(
     alloc: Global,
-    earlier: &Earlier,
+    known: &Known,
     from: &[u8],
     to: &[u8],
     written: Written,
-) -> Result<Option<Line>, AllocError>
-    ensures { IfOk result (IsForm earlier.now Head.Send (from.now ∷ to.now ∷ written.entry.access.now ∷ written.entry.pool.now ∷ written.entry.namespace.now ∷ written.entry.object.now ∷ written.entry.bytes.now ∷ [])) }
+) -> Result<Option<Command>, AllocError>
+    ensures { IfOk result (IsCommand known.now [] CommandForm.Send (from.now ∷ to.now ∷ written.entry.access.now ∷ written.entry.pool.now ∷ written.entry.namespace.now ∷ written.entry.object.now ∷ written.entry.bytes.now ∷ [])) }
 {
-    let Some(client) = client(alloc, earlier, from)? else {
+    let Some(client) = client(alloc, known, from)? else {
         return Ok(None);
     };
-    let Some(daemon) = daemon(alloc, earlier, to)? else {
+    let Some(daemon) = daemon(alloc, known, to)? else {
         return Ok(None);
     };
     let Some(operation) = operation(alloc, written)? else {
         return Ok(None);
     };
-    Ok(Some(Line::Send(client, daemon, operation)))
+    Ok(Some(Command::Send(client, daemon, operation)))
 }
 
 /// The operation that the words spell; none where one of them is no value of its place.
 fn operation(alloc: Global, written: Written) -> Result<Option<Operation>, AllocError>
-    ensures read { IfOk result (λ found. is_some found ≡ are_good [] [] operation_places (written.entry.access.now ∷ written.entry.pool.now ∷ written.entry.namespace.now ∷ written.entry.object.now ∷ written.entry.bytes.now ∷ [])) }
-    ensures spelled { IfOk result (λ found. IfSome found (λ operation. SpellsItems [] [] (operation_items operation) (written.entry.access.now ∷ written.entry.pool.now ∷ written.entry.namespace.now ∷ written.entry.object.now ∷ written.entry.bytes.now ∷ []))) }
+    ensures read { IfOk result (λ found. is_some found ≡ are_good nothing [] operation_places (written.entry.access.now ∷ written.entry.pool.now ∷ written.entry.namespace.now ∷ written.entry.object.now ∷ written.entry.bytes.now ∷ [])) }
+    ensures spelled { IfOk result (λ found. IfSome found (λ operation. SpellsItems nothing [] (operation_items operation) (written.entry.access.now ∷ written.entry.pool.now ∷ written.entry.namespace.now ∷ written.entry.object.now ∷ written.entry.bytes.now ∷ []))) }
 {
     let Some(access) = access(written.access) else {
         return Ok(None);

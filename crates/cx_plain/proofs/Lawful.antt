@@ -18,9 +18,9 @@ use Rattle.cx_journal.specs.declared.outcomes.Outcome.{Outcome}
 use Rattle.cx_journal.specs.declared.node_names.NodeName.TheVariants as node
 use Rattle.cx_journal.specs.declared.outcomes.Reason.TheVariants as reason
 use Rattle.cx_journal.specs.declared.outcomes.TicketFault.TheVariants as fault
-use Rattle.cx_lines.specs.declared.lines.Grant.{Grant}
-use Rattle.cx_lines.specs.declared.lines.Line.{Line}
-use Rattle.cx_lines.specs.declared.lines.Line.TheVariants as line
+use Rattle.cx_lines.specs.declared.entity.Grant.{Grant}
+use Rattle.cx_plain.specs.declared.lines.PlainLine.{PlainLine}
+use Rattle.cx_plain.specs.declared.lines.PlainLine.TheVariants as line
 use Rattle.cx_plain.specs.declared.nodes.Node.{Node}
 use Rattle.cx_plain.specs.declared.nodes.Place.{Place}
 use Rattle.cx_plain.specs.declared.nodes.Session.{Session}
@@ -235,7 +235,7 @@ send-keeps handlers r client daemon (Some node) operation e holds =
 
 -- ---- the run
 
-step-keeps : (handlers : Handlers) (r : Run) (l : Line) → HoldsRun handlers r → HoldsRun handlers (step handlers r l)
+step-keeps : (handlers : Handlers) (r : Run) (l : PlainLine) → HoldsRun handlers r → HoldsRun handlers (step handlers r l)
 unfolding step
 step-keeps handlers r (line.Lifetime seconds) holds = holds
 step-keeps handlers r (line.AuthLifetime seconds) holds = holds
@@ -246,7 +246,7 @@ step-keeps handlers r (line.Login client asked) holds = login-keeps r client ask
 step-keeps handlers r (line.Connect client daemon) holds = connect-keeps r client daemon (node_of r client) refl holds
 step-keeps handlers r (line.Send client daemon operation) holds = send-keeps handlers r client daemon (node_of r client) operation refl holds
 
-fold-keeps : (handlers : Handlers) (r : Run) (lines : List Line) → HoldsRun handlers r → HoldsRun handlers (fold (step handlers) r lines)
+fold-keeps : (handlers : Handlers) (r : Run) (lines : List PlainLine) → HoldsRun handlers r → HoldsRun handlers (fold (step handlers) r lines)
 fold-keeps handlers r [] holds = holds
 fold-keeps handlers r (l ∷ lines) holds = fold-keeps handlers (step handlers r l) lines (step-keeps handlers r l holds)
 
@@ -254,5 +254,5 @@ opening-holds : (handlers : Handlers) → HoldsRun handlers opening
 unfolding opening
 opening-holds handlers = record { backed = tt; in_session = tt; keeps_keys = tt; enforced = tt; sound = tt }
 
-pub run-holds : (handlers : Handlers) (lines : List Line) → HoldsRun handlers (run_of handlers lines)
+pub run-holds : (handlers : Handlers) (lines : List PlainLine) → HoldsRun handlers (run_of handlers lines)
 run-holds handlers lines = fold-keeps handlers opening lines (opening-holds handlers)

@@ -5,4 +5,5 @@ pub mod Laws
 pub mod Lists
 pub mod Presents
 pub mod Steps
+pub mod Taken
 pub mod Timely

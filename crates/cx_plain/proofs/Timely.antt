@@ -10,9 +10,10 @@ use Rattle.cx_rotate.specs.declared.views.View.{View}
 use Rattle.cx_journal.specs.declared.entries.Entry.{Entry}
 use Rattle.cx_journal.specs.declared.entries.Issued.{Issued}
 use Rattle.cx_journal.specs.declared.outcomes.TicketFault.{TicketFault}
-use Rattle.cx_lines.specs.Lines.{is_in_range, is_life}
-use Rattle.cx_lines.specs.declared.lines.Line.{Line}
-use Rattle.cx_lines.specs.declared.lines.Line.TheVariants as line
+use Rattle.cx_places.specs.Values.{is_life}
+use Rattle.cx_plain.specs.PlainLines.{is_plain_in_range}
+use Rattle.cx_plain.specs.declared.lines.PlainLine.{PlainLine}
+use Rattle.cx_plain.specs.declared.lines.PlainLine.TheVariants as line
 use Rattle.cx_plain.specs.declared.monitors.Monitor.{Monitor}
 use Rattle.cx_plain.specs.declared.nodes.Node.{Node}
 use Rattle.cx_plain.specs.declared.nodes.Session.{Session}
@@ -120,7 +121,7 @@ reading_bound : (reading : ℕ) → IsTrue (nat_lt reading 4000000000000000000) 
 reading_bound reading within = grind (arith, nat_tests)
 
 -- a line within its range keeps the reading and the lives within their bounds
-pub step-timely : (handlers : Handlers) (r : Run) (l : Line) → IsTimelyRun r → IsTrue (is_in_range l) → IsTimelyRun (step handlers r l)
+pub step-timely : (handlers : Handlers) (r : Run) (l : PlainLine) → IsTimelyRun r → IsTrue (is_plain_in_range l) → IsTimelyRun (step handlers r l)
 unfolding step
 step-timely handlers r (line.Lifetime seconds) timely within =
     let bounds = life_bounds seconds within in

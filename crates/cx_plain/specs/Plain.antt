@@ -27,9 +27,9 @@ use Rattle.cx_journal.specs.declared.outcomes.TicketFault.TheVariants as fault
 use Rattle.cx_journal.specs.KeepsKeys.{has_generation}
 use Rattle.cx_journal.specs.declared.outcomes.Outcome.{Outcome}
 use Rattle.cx_journal.specs.declared.outcomes.Outcome.TheVariants as outcome
-use Rattle.cx_lines.specs.declared.lines.Grant.{Grant}
-use Rattle.cx_lines.specs.declared.lines.Line.{Line}
-use Rattle.cx_lines.specs.declared.lines.Line.TheVariants as line
+use Rattle.cx_lines.specs.declared.entity.Grant.{Grant}
+use Rattle.cx_plain.specs.declared.lines.PlainLine.{PlainLine}
+use Rattle.cx_plain.specs.declared.lines.PlainLine.TheVariants as line
 use Rattle.cx_plain.specs.Changes.{changed}
 use Rattle.cx_plain.specs.Monitors.{list_of, rotated_kept, fresh_kept, current_id, same_kept, IsTimely}
 use Rattle.cx_plain.specs.Nodes.{empty_wallet, held_of, holding, is_named, is_with, new_node}
@@ -367,7 +367,7 @@ abbrev pub declared : Run → Name → List Grant → Run
 declared r name grants = record r { nodes = r.nodes ++ new_node name grants ∷ [] }
 
 -- one line, where these kinds of operations have a handler
-unfoldable pub step : Handlers → Run → Line → Run
+unfoldable pub step : Handlers → Run → PlainLine → Run
 step handlers r (line.Lifetime seconds) = record r { monitor = record r.monitor { life = seconds * 1000000000 } }
 step handlers r (line.AuthLifetime seconds) = record r { monitor = record r.monitor { auth_life = seconds * 1000000000 } }
 step handlers r (line.Entity name grants) = declared r name grants
@@ -378,9 +378,9 @@ step handlers r (line.Connect client daemon) = connect r client (node_of r clien
 step handlers r (line.Send client daemon operation) = send handlers r client (node_of r client) daemon operation
 
 -- the run behind these lines
-abbrev pub run_of : Handlers → List Line → Run
+abbrev pub run_of : Handlers → List PlainLine → Run
 run_of handlers lines = fold (step handlers) opening lines
 
 -- the journal of the plain run of a schedule
-abbrev pub journal_of : Handlers → List Line → List Entry
+abbrev pub journal_of : Handlers → List PlainLine → List Entry
 journal_of handlers lines = (run_of handlers lines).journal

@@ -5,11 +5,15 @@
 mod counts;
 mod desks;
 mod entrance;
+mod lines;
 mod monitors;
 mod nodes;
+mod refusals;
 mod state;
 mod tickets;
 mod wallets;
 mod whole;
 
+pub use lines::{PlainLine, plain_of};
+pub use refusals::PlainRefusal;
 pub use whole::{run, run_laws};

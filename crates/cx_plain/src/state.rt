@@ -8,6 +8,7 @@ use crate::counts::{next, next_link};
 use crate::desks::{caps_text, handle};
 use crate::entrance::{Welcome, enter, enter_save, rotated};
 use crate::monitors::{Kept, Monitor, has_generation};
+use crate::lines::PlainLine;
 use crate::nodes::{Node, Nodes, Place, Session};
 use cx_base::{
     Blob, Duplicate, EntityName, EntityType, Items, Operation, Reading, SECOND, copy_items,
@@ -17,7 +18,7 @@ use cx_journal::{
     Admitted, Answered, Entry, Fetched, Handled, Issued, Journal, Looked, NodeName, Outcome,
     Reason, Refused, Sent, TicketFault,
 };
-use cx_lines::{Grant, Line};
+use cx_lines::Grant;
 use cx_rotate::View;
 use std::alloc::{AllocError, Global};
 use std::mem;
@@ -450,13 +451,13 @@ impl Run {
 
 impl Run {
     ghost use Rattle.std.specs.Prelude.{IsTrue};
-    ghost use Rattle.cx_lines.specs.Lines.{is_in_range};
+    ghost use Rattle.cx_plain.specs.PlainLines.{is_plain_in_range};
     ghost use Rattle.cx_plain.specs.Plain.{IsTimelyRun, step};
 
     /// What a line does.
-    pub(crate) fn step(&mut self, alloc: Global, line: &Line, desk: &Desk) -> Result<(), AllocError>
+    pub(crate) fn step(&mut self, alloc: Global, line: &PlainLine, desk: &Desk) -> Result<(), AllocError>
         requires timely { IsTimelyRun self.old }
-        requires in_range { IsTrue (is_in_range line.now) }
+        requires in_range { IsTrue (is_plain_in_range line.now) }
         ensures state { OnOk result (self.new ≡ step (handlers_of desk.now) self.old line.now) }
         ensures timely { OnOk result (IsTimelyRun self.new) }
     {
@@ -464,29 +465,29 @@ impl Run {
     }
 
     #[tactic(auto, unfolding(crate::specs::Plain::step))]
-    fn follow(&mut self, alloc: Global, line: &Line, desk: &Desk) -> Result<(), AllocError>
+    fn follow(&mut self, alloc: Global, line: &PlainLine, desk: &Desk) -> Result<(), AllocError>
         requires timely { IsTimelyRun self.old }
-        requires in_range { IsTrue (is_in_range line.now) }
+        requires in_range { IsTrue (is_plain_in_range line.now) }
         ensures { OnOk result (self.new ≡ step (handlers_of desk.now) self.old line.now) }
     {
         match line {
-            Line::Lifetime(seconds) => {
+            PlainLine::Lifetime(seconds) => {
                 self.monitor.life = *seconds * SECOND;
                 Ok(())
             }
-            Line::AuthLifetime(seconds) => {
+            PlainLine::AuthLifetime(seconds) => {
                 self.monitor.auth_life = *seconds * SECOND;
                 Ok(())
             }
-            Line::Entity(name, grants) => self.declare(alloc, name, grants),
-            Line::Clock(reading) => {
+            PlainLine::Entity(name, grants) => self.declare(alloc, name, grants),
+            PlainLine::Clock(reading) => {
                 self.reading = *reading;
                 Ok(())
             }
-            Line::Fetch(daemon) => self.fetch(alloc, daemon),
-            Line::Login(client, asked) => self.enter(alloc, client, asked.all()),
-            Line::Connect(client, daemon) => self.connect(alloc, client, daemon),
-            Line::Send(client, daemon, operation) => self.send(
+            PlainLine::Fetch(daemon) => self.fetch(alloc, daemon),
+            PlainLine::Login(client, asked) => self.enter(alloc, client, asked.all()),
+            PlainLine::Connect(client, daemon) => self.connect(alloc, client, daemon),
+            PlainLine::Send(client, daemon, operation) => self.send(
                 alloc, client, daemon, operation, desk,
             ),
         }

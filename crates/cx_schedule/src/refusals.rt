@@ -13,10 +13,6 @@ pub enum ScheduleRefusal {
     /// This line, from 1, is the first outside of the grammar, and this is the first of its faults with its word.
     #[error("line {line} is outside of the grammar")]
     BadLine { line: u32, bad: BadWord },
-    /// This line, from 1, is the first outside of the grammar, and begins with a word of which only a later version's
-    /// grammar speaks.
-    #[error("line {line}: this version doesn't serve lines that begin so")]
-    NotYet { line: u32 },
     /// Memory was wanting.
     #[error("out of memory")]
     OutOfMemory,

@@ -4,35 +4,38 @@ ghost use Rattle.std.specs.Prelude.{ℕ, ◌≡◌, ◌+◌, ◌≤◌, ◌↔�
 ghost use Rattle.std.specs.List.{list_all};
 ghost use Rattle.cx_words.specs.Cutting.{lines_of};
 ghost use Rattle.cx_schedule.specs.Files.{Adds, IsFileLineCause, IsFirstOutside, IsReason, IsScheduleCause, IsShort, Lines, Refuses, RefusesAt, groups};
-ghost use Rattle.cx_lines.specs.Lines.{is_in_range};
+ghost use Rattle.cx_lines.specs.Knowing.{known_of};
+ghost use Rattle.cx_lines.specs.Lines.{is_numbered_in_range};
+ghost use Rattle.cx_lines.specs.declared.lines.Numbered.{Numbered};
 ghost use Rattle.cx_schedule.specs.declared.refusals.ScheduleRefusal.{ScheduleRefusal};
 
 use crate::limits::{MOST_BYTES, MOST_LINES};
 use crate::refusals::ScheduleRefusal;
 use cx_base::{Duplicate, Items, copy_items};
-use cx_lines::{Earlier, Line, LineRefusal, line_of};
+use cx_lines::{LineRefusal, Numbered, line_of, note};
+use cx_places::Known;
 use cx_words::{first_line, is_skipped, words};
 use std::alloc::{AllocError, Global};
 use std::marker::Model;
 
-/// A schedule: its lines in order, without those that are empty or comments.
+/// A schedule: its lines in order with their numbers, without those that are empty or comments.
 #[derive(Debug, Drop)]
 pub struct Script {
-    lines: Items<Line>,
+    lines: Items<Numbered>,
 }
 
 impl Model for Script {
     ghost use Rattle.std.specs.Prelude.{List};
-    ghost use Rattle.cx_lines.specs.declared.lines.Line.{Line};
+    ghost use Rattle.cx_lines.specs.declared.lines.Numbered.{Numbered};
 
-    ghost Value = { List Line };
+    ghost Value = { List Numbered };
 
     ghost view = { λ s. s.lines };
 }
 
 impl Script {
     /// The lines.
-    pub fn lines(&self) -> &[Line]
+    pub fn lines(&self) -> &[Numbered]
         ensures { result.now ≡ self.now }
     {
         self.lines.all()
@@ -55,16 +58,16 @@ pub fn read(alloc: Global, bytes: &[u8]) -> Result<Script, ScheduleRefusal>
     ensures short { OnOk result (IsShort bytes.now) }
     ensures bad { IfErr result (IsScheduleCause bytes.now) }
     // Bytes are those of one schedule at most.
-    ensures one { (s : List Line) → Lines bytes.now s → IfOk result (λ read. read ≡ s) }
+    ensures one { (s : List Numbered) → Lines bytes.now s → IfOk result (λ read. read ≡ s) }
     // Where the bytes are a schedule, it is read, or memory is wanting.
-    ensures only { (s : List Line) → IsShort bytes.now → Lines bytes.now s → IfErr result (λ e. e ≡ ScheduleRefusal.OutOfMemory) }
+    ensures only { (s : List Numbered) → IsShort bytes.now → Lines bytes.now s → IfErr result (λ e. e ≡ ScheduleRefusal.OutOfMemory) }
     // Where a limit or a line is a reason to refuse them, they are refused for it, or memory is wanting. The n-th line is one
     // exactly where it is the first that spells none.
     ensures exact { (why : ScheduleRefusal) → IsReason bytes.now why → Refuses result why }
-    ensures outside { (n : ℕ) → IsShort bytes.now → IsFirstOutside [] (lines_of bytes.now) n → RefusesAt result n }
+    ensures outside { (n : ℕ) → IsShort bytes.now → IsFirstOutside 1 [] (lines_of bytes.now) n → RefusesAt result n }
     // What may be relied on.
     ensures few { IfOk result (λ s. length s ≤ 20000) }
-    ensures in_range { IfOk result (λ s. IsTrue (list_all is_in_range s)) }
+    ensures in_range { IfOk result (λ s. IsTrue (list_all is_numbered_in_range s)) }
 {
     if !is_short(bytes) {
         return Err(ScheduleRefusal::TooLong);
@@ -73,40 +76,49 @@ pub fn read(alloc: Global, bytes: &[u8]) -> Result<Script, ScheduleRefusal>
     Ok(Script { lines })
 }
 
-fn read_lines(alloc: Global, bytes: &[u8]) -> Result<Items<Line>, ScheduleRefusal>
+fn read_lines(alloc: Global, bytes: &[u8]) -> Result<Items<Numbered>, ScheduleRefusal>
     requires { IsShort bytes.now }
     ensures found { IfOk result (λ s. Lines bytes.now s) }
     ensures bad { IfErr result (IsScheduleCause bytes.now) }
 {
-    let mut earlier = Earlier::new(alloc);
-    let mut number: u32 = 0;
+    let mut known = Known::new(alloc);
+    let mut script: Items<Numbered> = Items::new(alloc);
+    let mut number: u32 = 1;
     let mut rest = bytes;
     'lines: while let Some((line, after)) = first_line(rest) {
-        number += 1;
-        match add(alloc, &mut earlier, line) {
+        match add(alloc, &mut known, &mut script, number, line) {
             Ok(()) => {}
             Err(LineRefusal::Fault(bad)) => {
                 return Err(ScheduleRefusal::BadLine { line: number, bad });
             }
-            Err(LineRefusal::Later) => return Err(ScheduleRefusal::NotYet { line: number }),
             Err(LineRefusal::OutOfMemory) => return Err(ScheduleRefusal::OutOfMemory),
         }
+        number += 1;
         rest = after;
     }
-    Ok(earlier.into_lines())
+    Ok(script)
 }
 
 /// Puts what the line of the file says behind the earlier lines: nothing where it is skipped.
-fn add(alloc: Global, earlier: &mut Earlier, line: &[u8]) -> Result<(), LineRefusal>
-    ensures ok { OnOk result (Adds earlier.old line.now earlier.new) }
-    ensures err { IfErr result (IsFileLineCause earlier.old line.now) }
+fn add(
+    alloc: Global,
+    known: &mut Known,
+    script: &mut Items<Numbered>,
+    number: u32,
+    line: &[u8],
+) -> Result<(), LineRefusal>
+    requires { known.old ≡ known_of script.old }
+    ensures ok { OnOk result (Adds number script.old line.now script.new) }
+    ensures known { OnOk result (known.new ≡ known_of script.new) }
+    ensures err { IfErr result (IsFileLineCause script.old line.now) }
 {
     if is_skipped(line) {
         return Ok(());
     }
     let words = words(alloc, groups(line), line)?;
-    let read = line_of(alloc, earlier, &words)?;
-    earlier.push(alloc, read)?;
+    let read = line_of(alloc, known, &words)?;
+    note(alloc, known, &read)?;
+    script.push(alloc, Numbered { number, line: read })?;
     Ok(())
 }
 

@@ -3,14 +3,18 @@ use Rattle.std.proofs.Common.{◌≡◌, ℕ, ◌⊎◌, inl, inr, List, Some, N
 use Rattle.cx_keyring.specs.declared.refusals.KeyringRefusal.{KeyringRefusal}
 use Rattle.cx_keyring.specs.declared.refusals.KeyringRefusal.TheVariants as keyring
 use Rattle.cx_keyring.specs.Rings as rings
+use Rattle.cx_lines.specs.declared.lines.Numbered.{Numbered}
+use Rattle.cx_plain.specs.PlainLines.{first_untaken, IsPlainCause}
+use Rattle.cx_plain.specs.declared.refusals.PlainRefusal.{PlainRefusal}
+use Rattle.cx_plain.specs.declared.refusals.PlainRefusal.TheVariants as plain
 use Rattle.cx_schedule.specs.Files as files
 use Rattle.cx_schedule.specs.declared.refusals.ScheduleRefusal.{ScheduleRefusal}
 use Rattle.cx_schedule.specs.declared.refusals.ScheduleRefusal.TheVariants as schedule
 use Rattle.cx_top.specs.declared.commands.Command.TheVariants.{Replay, Keyring}
 use Rattle.cx_top.specs.declared.status.Status.{Status}
 use Rattle.cx_top.specs.declared.status.Status.TheVariants.{Done, Usage, BadSchedule, ReadFault, WriteFault, OutOfMemory, BadKeyring, TooLong, NotYet}
-use Rattle.cx_top.specs.Causes.{IsReasonFor}
-use Rattle.cx_top.specs.Statuses.{IsOrMemory, keyring_status, schedule_status}
+use Rattle.cx_top.specs.Causes.{IsAnswered, IsBytesCause, IsReasonFor}
+use Rattle.cx_top.specs.Statuses.{IsOrMemory, keyring_status, plain_status, schedule_status}
 
 -- ---- schedules
 
@@ -19,32 +23,65 @@ or_schedule : (got why : ScheduleRefusal) (status : Status) → schedule_status 
 or_schedule got why status is (inl memory) = rw memory tt
 or_schedule schedule.TooLong why status is (inr same) = ap schedule_status same ∙ is
 or_schedule (schedule.BadLine line fault) why status is (inr same) = ap schedule_status same ∙ is
-or_schedule (schedule.NotYet line) why status is (inr same) = ap schedule_status same ∙ is
 or_schedule schedule.OutOfMemory why status is (inr same) = tt
 
 pub schedule_reason : (bytes : List ℕ) (got : ScheduleRefusal) (status : Status) → IsReasonFor Replay bytes status
-    → ((why : ScheduleRefusal) → files.IsReason bytes why → (got ≡ schedule.OutOfMemory) ⊎ (got ≡ why)) → IsOrMemory status (schedule_status got)
-schedule_reason bytes got TooLong reason exact = or_schedule got schedule.TooLong TooLong refl (exact schedule.TooLong reason)
-schedule_reason bytes got (BadSchedule line bad) reason exact = or_schedule got (schedule.BadLine line bad) (BadSchedule line bad) refl (exact (schedule.BadLine line bad) reason)
-schedule_reason bytes got (NotYet line) reason exact = or_schedule got (schedule.NotYet line) (NotYet line) refl (exact (schedule.NotYet line) reason)
-schedule_reason bytes got Done reason exact = absurd reason
-schedule_reason bytes got Usage reason exact = absurd reason
-schedule_reason bytes got ReadFault reason exact = absurd reason
-schedule_reason bytes got WriteFault reason exact = absurd reason
-schedule_reason bytes got OutOfMemory reason exact = absurd reason
-schedule_reason bytes got (BadKeyring line why) reason exact = absurd reason
+    → ((why : ScheduleRefusal) → files.IsReason bytes why → (got ≡ schedule.OutOfMemory) ⊎ (got ≡ why))
+    → ((script : List Numbered) → files.IsShort bytes → files.Lines bytes script → got ≡ schedule.OutOfMemory) → IsOrMemory status (schedule_status got)
+schedule_reason bytes got TooLong reason exact only = or_schedule got schedule.TooLong TooLong refl (exact schedule.TooLong reason)
+schedule_reason bytes got (BadSchedule line bad) reason exact only = or_schedule got (schedule.BadLine line bad) (BadSchedule line bad) refl (exact (schedule.BadLine line bad) reason)
+schedule_reason bytes got (NotYet line) (short, (script, lines, untaken)) exact only = rw (only script short lines) tt
+schedule_reason bytes got Done reason exact only = absurd reason
+schedule_reason bytes got Usage reason exact only = absurd reason
+schedule_reason bytes got ReadFault reason exact only = absurd reason
+schedule_reason bytes got WriteFault reason exact only = absurd reason
+schedule_reason bytes got OutOfMemory reason exact only = absurd reason
+schedule_reason bytes got (BadKeyring line why) reason exact only = absurd reason
 
--- a schedule that is read has no reason to be refused
-pub schedule_read : (bytes : List ℕ) (status : Status) → IsReasonFor Replay bytes status → ((why : ScheduleRefusal) → files.IsReason bytes why → ⊥) → ⊥
-schedule_read bytes TooLong reason exact = exact schedule.TooLong reason
-schedule_read bytes (BadSchedule line bad) reason exact = exact (schedule.BadLine line bad) reason
-schedule_read bytes (NotYet line) reason exact = exact (schedule.NotYet line) reason
-schedule_read bytes Done reason exact = reason
-schedule_read bytes Usage reason exact = reason
-schedule_read bytes ReadFault reason exact = reason
-schedule_read bytes WriteFault reason exact = reason
-schedule_read bytes OutOfMemory reason exact = reason
-schedule_read bytes (BadKeyring line why) reason exact = reason
+-- a schedule that is read is refused at the first line that isn't taken, or memory is wanting
+or_plain : (script other : List Numbered) (got : PlainRefusal) (line : ℕ) → IsPlainCause script got → script ≡ other → first_untaken other ≡ Some line → IsOrMemory (NotYet line) (plain_status got)
+or_plain script other (plain.NotYet n) line cause same untaken =
+    let e : Some n ≡ Some line = sym cause ∙ ap first_untaken same ∙ untaken in
+    let is : n ≡ line = cc in
+    ap (λ k. NotYet k) is
+or_plain script other plain.OutOfMemory line cause same untaken = tt
+
+pub plain_reason : (bytes : List ℕ) (script : List Numbered) (got : PlainRefusal) (status : Status) → IsReasonFor Replay bytes status → IsPlainCause script got
+    → ((other : List Numbered) → files.Lines bytes other → script ≡ other) → ((why : ScheduleRefusal) → files.IsReason bytes why → ⊥) → IsOrMemory status (plain_status got)
+plain_reason bytes script got TooLong reason cause one exact = absurd (exact schedule.TooLong reason)
+plain_reason bytes script got (BadSchedule line bad) reason cause one exact = absurd (exact (schedule.BadLine line bad) reason)
+plain_reason bytes script got (NotYet line) (short, (other, lines, untaken)) cause one exact = or_plain script other got line cause (one other lines) untaken
+plain_reason bytes script got Done reason cause one exact = absurd reason
+plain_reason bytes script got Usage reason cause one exact = absurd reason
+plain_reason bytes script got ReadFault reason cause one exact = absurd reason
+plain_reason bytes script got WriteFault reason cause one exact = absurd reason
+plain_reason bytes script got OutOfMemory reason cause one exact = absurd reason
+plain_reason bytes script got (BadKeyring line why) reason cause one exact = absurd reason
+
+-- a schedule of which all lines are taken has no reason to be refused
+pub schedule_read : (bytes : List ℕ) (script : List Numbered) (status : Status) → IsReasonFor Replay bytes status → first_untaken script ≡ None
+    → ((other : List Numbered) → files.Lines bytes other → script ≡ other) → ((why : ScheduleRefusal) → files.IsReason bytes why → ⊥) → ⊥
+schedule_read bytes script TooLong reason taken one exact = exact schedule.TooLong reason
+schedule_read bytes script (BadSchedule line bad) reason taken one exact = exact (schedule.BadLine line bad) reason
+schedule_read bytes script (NotYet line) (short, (other, lines, untaken)) taken one exact =
+    absurd (let e : None ≡ Some line = sym taken ∙ ap first_untaken (one other lines) ∙ untaken in cc)
+schedule_read bytes script Done reason taken one exact = reason
+schedule_read bytes script Usage reason taken one exact = reason
+schedule_read bytes script ReadFault reason taken one exact = reason
+schedule_read bytes script WriteFault reason taken one exact = reason
+schedule_read bytes script OutOfMemory reason taken one exact = reason
+schedule_read bytes script (BadKeyring line why) reason taken one exact = reason
+
+-- why there is no plain run is why the bytes are refused
+pub plain_cause : (bytes : List ℕ) (script : List Numbered) (got : PlainRefusal) → files.IsShort bytes → files.Lines bytes script → IsPlainCause script got → IsBytesCause Replay bytes (plain_status got)
+plain_cause bytes script (plain.NotYet n) short lines cause = (short, (script, lines, cause))
+plain_cause bytes script plain.OutOfMemory short lines cause = tt
+
+-- there is a plain run of a schedule of which all lines are taken, or memory is wanting
+pub plain_answered : (bytes : List ℕ) (script : List Numbered) (got : PlainRefusal) → ((other : List Numbered) → files.Lines bytes other → script ≡ other) → IsPlainCause script got → IsAnswered Replay bytes → plain_status got ≡ OutOfMemory
+plain_answered bytes script (plain.NotYet n) one cause (other, lines, taken, short) =
+    absurd (let e : None ≡ Some n = sym taken ∙ ap first_untaken (sym (one other lines)) ∙ cause in cc)
+plain_answered bytes script plain.OutOfMemory one cause answered = refl
 
 -- ---- keyrings
 

@@ -5,7 +5,8 @@ use Rattle.cx_keyring.specs.declared.entries.Entry.{Entry}
 use Rattle.cx_keyring.specs.declared.faults.KeyringFault.{KeyringFault}
 use Rattle.cx_keyring.specs.declared.refusals.KeyringRefusal.TheVariants as keyring
 use Rattle.cx_keyring.specs.Rings.{KeyringText, IsKeyringCause}
-use Rattle.cx_lines.specs.declared.lines.Line.{Line}
+use Rattle.cx_lines.specs.declared.lines.Numbered.{Numbered}
+use Rattle.cx_plain.specs.PlainLines.{first_untaken}
 use Rattle.cx_schedule.specs.declared.refusals.ScheduleRefusal.TheVariants as schedule
 use Rattle.cx_schedule.specs.Files.{Lines, IsShort, IsScheduleCause}
 use Rattle.cx_top.specs.declared.commands.Command.{Command}
@@ -22,11 +23,15 @@ abbrev pub IsBadKeyring : List ℕ → ℕ → Option KeyringFault → Type 0
 IsBadKeyring bytes line (Some why) = IsKeyringCause bytes (keyring.BadLine line why)
 IsBadKeyring bytes line None = (line ≡ 0) × (ring : List Entry) × KeyringText bytes ring × (4096 < length ring)
 
+-- the bytes are a schedule, and this line is its first that the plain run doesn't take
+abbrev pub IsUntakenAt : List ℕ → ℕ → Type 0
+IsUntakenAt bytes line = (script : List Numbered) × Lines bytes script × (first_untaken script ≡ Some line)
+
 -- these bytes must be refused with this status
 abbrev pub IsReasonFor : Command → List ℕ → Status → Type 0
 IsReasonFor command bytes TooLong = IsShort bytes → ⊥
 IsReasonFor Replay bytes (BadSchedule line bad) = IsScheduleCause bytes (schedule.BadLine line bad)
-IsReasonFor Replay bytes (NotYet line) = IsScheduleCause bytes (schedule.NotYet line)
+IsReasonFor Replay bytes (NotYet line) = IsShort bytes × IsUntakenAt bytes line
 IsReasonFor Keyring bytes (BadKeyring line why) = IsShort bytes × IsBadKeyring bytes line why
 IsReasonFor command bytes _ = ⊥
 
@@ -42,9 +47,9 @@ IsBytesCause command bytes (BadSchedule line bad) = IsReasonFor command bytes (B
 IsBytesCause command bytes (NotYet line) = IsReasonFor command bytes (NotYet line)
 IsBytesCause command bytes (BadKeyring line why) = IsReasonFor command bytes (BadKeyring line why)
 
--- the bytes are a schedule or a keyring within the limits
+-- the bytes are a schedule that the plain run takes, or a keyring, within the limits
 abbrev pub IsAnswered : Command → List ℕ → Type 0
-IsAnswered Replay bytes = (script : List Line) × Lines bytes script × IsShort bytes
+IsAnswered Replay bytes = (script : List Numbered) × Lines bytes script × (first_untaken script ≡ None) × IsShort bytes
 IsAnswered Keyring bytes = (ring : List Entry) × KeyringText bytes ring × (length ring ≤ 4096) × IsShort bytes
 
 -- ---- the input

@@ -1,7 +1,7 @@
 -- What a source gave, and what a replay makes of it.
 use Rattle.std.specs.Prelude.{ℕ, ◌≡◌, List, [], ◌++◌, Option, Some, None}
 use Rattle.cx_desk.specs.Handlers.{Handlers}
-use Rattle.cx_lines.specs.declared.lines.Line.{Line}
+use Rattle.cx_lines.specs.declared.lines.Numbered.{Numbered}
 use Rattle.cx_schedule.specs.Files.{Lines, IsShort}
 use Rattle.cx_journal.specs.JournalText.{journal_text}
 use Rattle.cx_journal.specs.Backed.{IsBacked}
@@ -9,6 +9,7 @@ use Rattle.cx_journal.specs.InSession.{IsInSession}
 use Rattle.cx_journal.specs.KeepsKeys.{KeepsKeys}
 use Rattle.cx_journal.specs.Enforced.{IsEnforced}
 use Rattle.cx_plain.specs.Plain.{journal_of, serves}
+use Rattle.cx_plain.specs.PlainLines.{first_untaken, plain_lines}
 
 -- where the source tells what it had and has left: it gave these bytes in between
 abbrev pub Gave : Option (List ℕ) → Option (List ℕ) → List ℕ → Type 0
@@ -26,11 +27,12 @@ GaveAll (Some left) now bytes = (bytes ≡ left) × (now ≡ Some [])
 -- admitted session, no ticket is refused for a generation that the daemon's view has, and each operation ends as the caps of
 -- its session and the handlers say
 pub record Replays (handlers : Handlers) (bytes text : List ℕ) : Type 0 where
-  pub script : List Line
+  pub script : List Numbered
   pub lines : Lines bytes script
   pub short : IsShort bytes
-  pub written : text ≡ journal_text (journal_of handlers script)
-  pub backed : IsBacked (journal_of handlers script)
-  pub in_session : IsInSession (journal_of handlers script)
-  pub keeps_keys : KeepsKeys (journal_of handlers script)
-  pub enforced : IsEnforced (serves handlers) (journal_of handlers script)
+  pub taken : first_untaken script ≡ None
+  pub written : text ≡ journal_text (journal_of handlers (plain_lines script))
+  pub backed : IsBacked (journal_of handlers (plain_lines script))
+  pub in_session : IsInSession (journal_of handlers (plain_lines script))
+  pub keeps_keys : KeepsKeys (journal_of handlers (plain_lines script))
+  pub enforced : IsEnforced (serves handlers) (journal_of handlers (plain_lines script))

@@ -2,6 +2,8 @@
 use Rattle.std.specs.Prelude.{ℕ, ◌≡◌, Some, None}
 use Rattle.cx_keyring.specs.declared.refusals.KeyringRefusal.{KeyringRefusal}
 use Rattle.cx_keyring.specs.declared.refusals.KeyringRefusal.TheVariants as keyring
+use Rattle.cx_plain.specs.declared.refusals.PlainRefusal.{PlainRefusal}
+use Rattle.cx_plain.specs.declared.refusals.PlainRefusal.TheVariants as plain
 use Rattle.cx_schedule.specs.declared.refusals.ScheduleRefusal.{ScheduleRefusal}
 use Rattle.cx_schedule.specs.declared.refusals.ScheduleRefusal.TheVariants as refusal
 use Rattle.cx_top.specs.declared.input.Unread.{Unread}
@@ -25,8 +27,12 @@ number_of (NotYet _) = 13
 abbrev pub schedule_status : ScheduleRefusal → Status
 schedule_status refusal.TooLong = TooLong
 schedule_status (refusal.BadLine line bad) = BadSchedule line bad
-schedule_status (refusal.NotYet line) = NotYet line
 schedule_status refusal.OutOfMemory = OutOfMemory
+
+-- the status of a schedule of which there is no plain run
+abbrev pub plain_status : PlainRefusal → Status
+plain_status (plain.NotYet line) = NotYet line
+plain_status plain.OutOfMemory = OutOfMemory
 
 -- the status of a refused keyring
 abbrev pub keyring_status : KeyringRefusal → Status

@@ -6,6 +6,7 @@ ghost use Rattle.cx_top.specs.Statuses.{number_of};
 use crate::input::Unread;
 use cx_keyring::{KeyringFault, KeyringRefusal};
 use cx_lines::BadWord;
+use cx_plain::PlainRefusal;
 use cx_schedule::ScheduleRefusal;
 use std::alloc::AllocError;
 
@@ -36,7 +37,7 @@ pub enum Status {
     },
     /// The input has more than 1,048,576 bytes or 20,000 lines.
     TooLong,
-    /// This line, from 1, is the first outside the grammar, and its first word begins a line that is not served yet.
+    /// The input is a schedule, and this line, from 1, is its first that is not served yet.
     NotYet {
         line: u32,
     },
@@ -82,8 +83,21 @@ impl From<ScheduleRefusal> for Status {
         match refusal {
             ScheduleRefusal::TooLong => Status::TooLong,
             ScheduleRefusal::BadLine { line, bad } => Status::BadSchedule { line, bad },
-            ScheduleRefusal::NotYet { line } => Status::NotYet { line },
             ScheduleRefusal::OutOfMemory => Status::OutOfMemory,
+        }
+    }
+}
+
+impl From<PlainRefusal> for Status {
+    ghost use Rattle.std.specs.Prelude.{◌≡◌};
+    ghost use Rattle.cx_top.specs.Statuses.{plain_status};
+
+    ghost from_gives = { λ refusal status. status ≡ plain_status refusal };
+
+    fn from(refusal: PlainRefusal) -> Status {
+        match refusal {
+            PlainRefusal::NotYet { line } => Status::NotYet { line },
+            PlainRefusal::OutOfMemory => Status::OutOfMemory,
         }
     }
 }

@@ -1,11 +1,9 @@
 use Rattle.std.proofs.Common.{◌≡◌, ◌+◌, ◌-◌, ◌<◌, ◌≤◌, [], ◌∷◌, ◌++◌, map, length, take, drop, get_or, List}
-use Rattle.cx_lines.specs.Lines.{SpellsItems, grant_items, Item}
-use Rattle.cx_lines.specs.Places.{are_good, pair_places}
 use Rattle.cx_lines.proofs.Pairs.{Reads}
 use Rattle.cx_lines.proofs.entity.entity_of.Given as goal
 
 abbrev pub invariant-pairs : goal.invariant-pairs
-invariant-pairs l = Reads l.earlier (λ w. w.now) l.words l.at l.grants
+invariant-pairs l = Reads l.known (λ w. w.now) l.words l.at l.grants
 
 abbrev pub decreases-pairs : goal.decreases-pairs
 decreases-pairs l = length l.words - l.at

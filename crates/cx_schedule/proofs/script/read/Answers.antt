@@ -11,7 +11,7 @@ pub returns-clause-few : goal.returns-clause-few
 returns-clause-few c = few_in_all c.args.bytes.now c.in_ok-lines.lines (c.is_short.ensures.0 c.if-not-is_short.false) c.in_ok-lines.ensures.found
 
 pub returns-clause-in_range : goal.returns-clause-in_range
-returns-clause-in_range c = all_in_range [] c.in_ok-lines.lines (lines_of c.args.bytes.now) c.in_ok-lines.ensures.found refl
+returns-clause-in_range c = all_in_range 1 [] c.in_ok-lines.lines (lines_of c.args.bytes.now) c.in_ok-lines.ensures.found refl
 
 pub returns-in_err-lines-clause-exact : goal.returns-in_err-lines-clause-exact
 returns-in_err-lines-clause-exact c why reason =
@@ -29,4 +29,4 @@ returns-in_err-lines-clause-outside c n short outside =
 
 pub returns-clause-outside : goal.returns-clause-outside
 returns-clause-outside c n short outside =
-    none_outside [] c.in_ok-lines.lines (lines_of c.args.bytes.now) n c.in_ok-lines.ensures.found outside
+    none_outside 1 [] c.in_ok-lines.lines (lines_of c.args.bytes.now) n c.in_ok-lines.ensures.found outside

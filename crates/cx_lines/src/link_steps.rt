@@ -1,0 +1,225 @@
+//! Lines on links and on what is in flight there.
+
+ghost use Rattle.std.specs.Prelude.{◌≡◌, ◌∷◌, [], map, IfOk, IfSome};
+ghost use Rattle.cx_lines.specs.LinkSteps.{link_form, link_form_of, link_places, link_word, IsLinkStep};
+ghost use Rattle.cx_lines.specs.declared.link_steps.LinkForm.{LinkForm};
+
+use cx_base::{Blob, Duplicate};
+use cx_places::{Known, Place, Side, side_named};
+use cx_words::{hex, is_word, number};
+use std::alloc::{AllocError, Global};
+
+/// What happens to a link. A link has its number, a side of it says from where the bytes come.
+#[derive(Debug, PartialEq, Eq, Drop)]
+pub enum LinkStep {
+    /// The oldest piece in flight from a side arrives, or so many first bytes of it.
+    Carry(u64, Side, Option<u64>),
+    /// The oldest piece in flight from a side is lost.
+    Lose(u64, Side),
+    /// These bytes arrive as if from a side.
+    Inject(u64, Side, Blob),
+    /// The piece of this number, from 1, that a side ever sent arrives once more, at the other end of the link named last.
+    Again(u64, Side, u64, u64),
+    /// The link is cut.
+    Cut(u64),
+}
+
+/// The form of a line on a link, told by its first word.
+#[derive(Clone, Copy, Debug, PartialEq, Eq)]
+pub enum LinkForm {
+    Carry,
+    Lose,
+    Inject,
+    Again,
+    Cut,
+}
+
+/// The form of a line on a link that begins with the word.
+#[tactic(auto, unfolding(crate::specs::LinkSteps::link_form_of))]
+pub fn link_step_named(word: &[u8]) -> Option<LinkForm>
+    ensures read { result ≡ link_form_of word.now }
+    ensures spelled { IfSome result (λ form. word.now ≡ link_word form) }
+{
+    if is_word(word, "carry") {
+        return Some(LinkForm::Carry);
+    }
+    if is_word(word, "lose") {
+        return Some(LinkForm::Lose);
+    }
+    if is_word(word, "inject") {
+        return Some(LinkForm::Inject);
+    }
+    if is_word(word, "again") {
+        return Some(LinkForm::Again);
+    }
+    if is_word(word, "cut") {
+        return Some(LinkForm::Cut);
+    }
+    None
+}
+
+impl LinkStep {
+    /// The form of the line.
+    pub fn form(&self) -> LinkForm
+        ensures { result ≡ link_form self.now }
+    {
+        match self {
+            LinkStep::Carry(_, _, _) => LinkForm::Carry,
+            LinkStep::Lose(_, _) => LinkForm::Lose,
+            LinkStep::Inject(_, _, _) => LinkForm::Inject,
+            LinkStep::Again(_, _, _, _) => LinkForm::Again,
+            LinkStep::Cut(_) => LinkForm::Cut,
+        }
+    }
+}
+
+const AGAIN_PLACES: [Place; 4] = [Place::Number, Place::Side, Place::Number, Place::Number];
+
+/// The places behind the first word, where these words stand there.
+pub fn link_places(
+    alloc: Global,
+    form: LinkForm,
+    words: &[&[u8]],
+) -> Result<Vec<Place>, AllocError>
+    ensures { IfOk result (λ found. found.items ≡ link_places form (map (λ w. w.now) words.now)) }
+{
+    match form {
+        LinkForm::Carry => carry_places(alloc, words),
+        LinkForm::Lose => Vec::from_slice(alloc, &[Place::Number, Place::Side]),
+        LinkForm::Inject => Vec::from_slice(alloc, &[Place::Number, Place::Side, Place::Bytes]),
+        LinkForm::Again => Vec::from_slice(alloc, &AGAIN_PLACES),
+        LinkForm::Cut => Vec::from_slice(alloc, &[Place::Number]),
+    }
+}
+
+fn carry_places(alloc: Global, words: &[&[u8]]) -> Result<Vec<Place>, AllocError>
+    ensures { IfOk result (λ found. found.items ≡ link_places LinkForm.Carry (map (λ w. w.now) words.now)) }
+{
+    if words.len() <= 2 {
+        Vec::from_slice(alloc, &[Place::Number, Place::Side])
+    } else {
+        Vec::from_slice(alloc, &[Place::Number, Place::Side, Place::Number])
+    }
+}
+
+/// The line that these words behind a first word of this form spell; none where one of them isn't good at its place.
+pub fn link_step_of(
+    alloc: Global,
+    known: &Known,
+    form: LinkForm,
+    words: &[&[u8]],
+) -> Result<Option<LinkStep>, AllocError>
+    ensures { IfOk result (IsLinkStep known.now form (map (λ w. w.now) words.now)) }
+{
+    match form {
+        LinkForm::Carry => Ok(carry_of(known, words)),
+        LinkForm::Lose => Ok(lose_of(known, words)),
+        LinkForm::Inject => inject_of(alloc, known, words),
+        LinkForm::Again => Ok(again_of(known, words)),
+        LinkForm::Cut => Ok(cut_of(known, words)),
+    }
+}
+
+fn carry_of(known: &Known, words: &[&[u8]]) -> Option<LinkStep>
+    ensures { IsLinkStep known.now LinkForm.Carry (map (λ w. w.now) words.now) result }
+{
+    match words {
+        [link, from] => carry(known, link, from),
+        [link, from, count] => carry_some(known, link, from, count),
+        _ => None,
+    }
+}
+
+fn carry(_known: &Known, link: &[u8], from: &[u8]) -> Option<LinkStep>
+    ensures { IsLinkStep _known.now LinkForm.Carry (link.now ∷ from.now ∷ []) result }
+{
+    let link = number(link)?;
+    let from = side_named(from)?;
+    Some(LinkStep::Carry(link, from, None))
+}
+
+fn carry_some(
+    _known: &Known,
+    link: &[u8],
+    from: &[u8],
+    count: &[u8],
+) -> Option<LinkStep>
+    ensures { IsLinkStep _known.now LinkForm.Carry (link.now ∷ from.now ∷ count.now ∷ []) result }
+{
+    let link = number(link)?;
+    let from = side_named(from)?;
+    let count = number(count)?;
+    Some(LinkStep::Carry(link, from, Some(count)))
+}
+
+fn lose_of(_known: &Known, words: &[&[u8]]) -> Option<LinkStep>
+    ensures { IsLinkStep _known.now LinkForm.Lose (map (λ w. w.now) words.now) result }
+{
+    let [link, from] = words else {
+        return None;
+    };
+    let link = number(link)?;
+    let from = side_named(from)?;
+    Some(LinkStep::Lose(link, from))
+}
+
+fn inject_of(
+    alloc: Global,
+    _known: &Known,
+    words: &[&[u8]],
+) -> Result<Option<LinkStep>, AllocError>
+    ensures { IfOk result (IsLinkStep _known.now LinkForm.Inject (map (λ w. w.now) words.now)) }
+{
+    let [link, from, bytes] = words else {
+        return Ok(None);
+    };
+    let Some(link) = number(link) else {
+        return Ok(None);
+    };
+    let Some(from) = side_named(from) else {
+        return Ok(None);
+    };
+    let Some(bytes) = hex(alloc, bytes)? else {
+        return Ok(None);
+    };
+    Ok(Some(LinkStep::Inject(link, from, bytes)))
+}
+
+fn again_of(_known: &Known, words: &[&[u8]]) -> Option<LinkStep>
+    ensures { IsLinkStep _known.now LinkForm.Again (map (λ w. w.now) words.now) result }
+{
+    let [link, from, piece, other] = words else {
+        return None;
+    };
+    let link = number(link)?;
+    let from = side_named(from)?;
+    let piece = number(piece)?;
+    let other = number(other)?;
+    Some(LinkStep::Again(link, from, piece, other))
+}
+
+fn cut_of(_known: &Known, words: &[&[u8]]) -> Option<LinkStep>
+    ensures { IsLinkStep _known.now LinkForm.Cut (map (λ w. w.now) words.now) result }
+{
+    let [link] = words else {
+        return None;
+    };
+    Some(LinkStep::Cut(number(link)?))
+}
+
+impl Duplicate for LinkStep {
+    fn copy(&self, alloc: Global) -> Result<LinkStep, AllocError> {
+        match self {
+            LinkStep::Carry(link, from, count) => Ok(LinkStep::Carry(*link, *from, *count)),
+            LinkStep::Lose(link, from) => Ok(LinkStep::Lose(*link, *from)),
+            LinkStep::Inject(link, from, bytes) => {
+                let bytes = bytes.copy(alloc)?;
+                Ok(LinkStep::Inject(*link, *from, bytes))
+            }
+            LinkStep::Again(link, from, piece, other) => {
+                Ok(LinkStep::Again(*link, *from, *piece, *other))
+            }
+            LinkStep::Cut(link) => Ok(LinkStep::Cut(*link)),
+        }
+    }
+}

@@ -1,0 +1,79 @@
+//! The lines that the plain run takes.
+
+ghost use Rattle.std.specs.Prelude.{◌≡◌, true, IfOk, IfSome, IsTrue};
+ghost use Rattle.cx_lines.specs.Lines.{is_in_range};
+ghost use Rattle.cx_plain.specs.PlainLines.{is_plain_in_range, plain_of, plain_command};
+
+use cx_base::{Duplicate, EntityName, EntityType, Items, Operation, Reading, copy_items};
+use cx_lines::{Command, Grant, Line, NodeStep, Setting};
+use std::alloc::{AllocError, Global};
+
+/// A line that the plain run takes.
+#[derive(Debug, PartialEq, Eq, Drop)]
+pub enum PlainLine {
+    /// The life of service secrets and tickets, in seconds.
+    Lifetime(u64),
+    /// The life of the monitor's own secrets and tickets, in seconds.
+    AuthLifetime(u64),
+    /// An entity and its caps.
+    Entity(EntityName, Items<Grant>),
+    /// The reading of all clocks from here on.
+    Clock(Reading),
+    /// A daemon fetches the generations of its type.
+    Fetch(EntityName),
+    /// A client logs in and asks for tickets of these services.
+    Login(EntityName, Items<EntityType>),
+    /// A client connects to a daemon.
+    Connect(EntityName, EntityName),
+    /// A client sends an operation to a daemon.
+    Send(EntityName, EntityName, Operation),
+}
+
+/// The line as the plain run takes it; none where it doesn't.
+pub fn plain_of(alloc: Global, line: &Line) -> Result<Option<PlainLine>, AllocError>
+    ensures taken { IfOk result (λ found. found ≡ plain_of line.now) }
+    ensures in_range { is_in_range line.now ≡ true → IfOk result (λ found. IfSome found (λ plain. IsTrue (is_plain_in_range plain))) }
+{
+    match line {
+        Line::Setting(Setting::Lifetime(seconds)) => Ok(Some(PlainLine::Lifetime(*seconds))),
+        Line::Setting(Setting::AuthLifetime(seconds)) => Ok(Some(PlainLine::AuthLifetime(*seconds))),
+        Line::Setting(Setting::Entity(name, grants)) => {
+            let name = name.copy(alloc)?;
+            let grants = copy_items(alloc, grants)?;
+            Ok(Some(PlainLine::Entity(name, grants)))
+        }
+        Line::Node(NodeStep::Clock(reading)) => Ok(Some(PlainLine::Clock(*reading))),
+        Line::Submit(command) => plain_command(alloc, command),
+        _ => Ok(None),
+    }
+}
+
+fn plain_command(alloc: Global, command: &Command) -> Result<Option<PlainLine>, AllocError>
+    ensures taken { IfOk result (λ found. found ≡ plain_command command.now) }
+    ensures in_range { IfOk result (λ found. IfSome found (λ plain. IsTrue (is_plain_in_range plain))) }
+{
+    match command {
+        Command::Fetch(daemon) => {
+            let daemon = daemon.copy(alloc)?;
+            Ok(Some(PlainLine::Fetch(daemon)))
+        }
+        Command::Login(client, asked) => {
+            let client = client.copy(alloc)?;
+            let asked = copy_items(alloc, asked)?;
+            Ok(Some(PlainLine::Login(client, asked)))
+        }
+        Command::Connect(client, daemon, false) => {
+            let client = client.copy(alloc)?;
+            let daemon = daemon.copy(alloc)?;
+            Ok(Some(PlainLine::Connect(client, daemon)))
+        }
+        Command::Send(client, daemon, operation) => {
+            let client = client.copy(alloc)?;
+            let daemon = daemon.copy(alloc)?;
+            let operation = operation.copy(alloc)?;
+            Ok(Some(PlainLine::Send(client, daemon, operation)))
+        }
+        Command::Renew(_, _) => Ok(None),
+        Command::Connect(_, _, true) => Ok(None),
+    }
+}
