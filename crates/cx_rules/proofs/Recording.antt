@@ -1,8 +1,12 @@
 -- What the rules write is computed.
 use Rattle.std.proofs.Common.{refl}
+use Rattle.cx_enc.specs.Forms.{little}
+use Rattle.cx_enc.specs.Values.{addr_form, flag_form, name_form}
+use Rattle.cx_frame.specs.Banners.{banner_text}
 use Rattle.cx_rules.specs.Recorded.{WritesAsRecorded}
 
 pub as-recorded : WritesAsRecorded
+unfolding banner_text little addr_form name_form flag_form
 as-recorded = record {
   banner = refl;
   hello = record { tag_is = refl; segments = refl };
