@@ -98,12 +98,12 @@ is_head word h some =
     let last = or_head (option_map head.Link (link_form_of word)) (option_map head.Node (node_form_of word)) in
     let told = cond (bytes_eq word (codes "do")) (Some head.Do) None in
     elim (either_head (option_map head.Submit (command_form_of word)) _ h some) [
-      inl e ↦ in_family head.Submit command_word word (command_form_of word) h (λ f i. command_form_of-is word f i) (λ f. refl) e
-    | inr more ↦ elim (either_head (option_map head.Setting (setting_form_of word)) (or_head told last) h more) [
-        inl e ↦ in_family head.Setting (λ f. head_word (head.Setting f)) word (setting_form_of word) h (λ f i. setting_form_of-is word f i) (λ f. refl) e
-      | inr more ↦ elim (either_head told last h more) [
-          inl e ↦ do_is word (bytes_eq word (codes "do")) h refl e
-        | inr more ↦ is_node_head word h (either_head (option_map head.Link (link_form_of word)) (option_map head.Node (node_form_of word)) h more)
+      | inl e ↦ in_family head.Submit command_word word (command_form_of word) h (λ f i. command_form_of-is word f i) (λ f. refl) e
+      | inr more ↦ elim (either_head (option_map head.Setting (setting_form_of word)) (or_head told last) h more) [
+        | inl e ↦ in_family head.Setting (λ f. head_word (head.Setting f)) word (setting_form_of word) h (λ f i. setting_form_of-is word f i) (λ f. refl) e
+        | inr more ↦ elim (either_head told last h more) [
+          | inl e ↦ do_is word (bytes_eq word (codes "do")) h refl e
+          | inr more ↦ is_node_head word h (either_head (option_map head.Link (link_form_of word)) (option_map head.Node (node_form_of word)) h more)
         ]
       ]
     ]

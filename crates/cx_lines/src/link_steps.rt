@@ -76,11 +76,7 @@ impl LinkStep {
 const AGAIN_PLACES: [Place; 4] = [Place::Number, Place::Side, Place::Number, Place::Number];
 
 /// The places behind the first word, where these words stand there.
-pub fn link_places(
-    alloc: Global,
-    form: LinkForm,
-    words: &[&[u8]],
-) -> Result<Vec<Place>, AllocError>
+pub fn link_places(alloc: Global, form: LinkForm, words: &[&[u8]]) -> Result<Vec<Place>, AllocError>
     ensures { IfOk result (λ found. found.items ≡ link_places form (map (λ w. w.now) words.now)) }
 {
     match form {
@@ -138,12 +134,7 @@ fn carry(_known: &Known, link: &[u8], from: &[u8]) -> Option<LinkStep>
     Some(LinkStep::Carry(link, from, None))
 }
 
-fn carry_some(
-    _known: &Known,
-    link: &[u8],
-    from: &[u8],
-    count: &[u8],
-) -> Option<LinkStep>
+fn carry_some(_known: &Known, link: &[u8], from: &[u8], count: &[u8]) -> Option<LinkStep>
     ensures { IsLinkStep _known.now LinkForm.Carry (link.now ∷ from.now ∷ count.now ∷ []) result }
 {
     let link = number(link)?;
@@ -163,11 +154,7 @@ fn lose_of(_known: &Known, words: &[&[u8]]) -> Option<LinkStep>
     Some(LinkStep::Lose(link, from))
 }
 
-fn inject_of(
-    alloc: Global,
-    _known: &Known,
-    words: &[&[u8]],
-) -> Result<Option<LinkStep>, AllocError>
+fn inject_of(alloc: Global, _known: &Known, words: &[&[u8]]) -> Result<Option<LinkStep>, AllocError>
     ensures { IfOk result (IsLinkStep _known.now LinkForm.Inject (map (λ w. w.now) words.now)) }
 {
     let [link, from, bytes] = words else {

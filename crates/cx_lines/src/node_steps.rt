@@ -84,11 +84,7 @@ impl NodeStep {
 }
 
 /// The places behind the first word, where these words stand there.
-pub fn node_places(
-    alloc: Global,
-    form: NodeForm,
-    words: &[&[u8]],
-) -> Result<Vec<Place>, AllocError>
+pub fn node_places(alloc: Global, form: NodeForm, words: &[&[u8]]) -> Result<Vec<Place>, AllocError>
     ensures { IfOk result (λ found. found.items ≡ node_places form (map (λ w. w.now) words.now)) }
 {
     match form {
@@ -190,11 +186,7 @@ fn tick_of(alloc: Global, known: &Known, words: &[&[u8]]) -> Result<Option<NodeS
     Ok(Some(NodeStep::Tick(node)))
 }
 
-fn restart_of(
-    alloc: Global,
-    known: &Known,
-    words: &[&[u8]],
-) -> Result<Option<NodeStep>, AllocError>
+fn restart_of(alloc: Global, known: &Known, words: &[&[u8]]) -> Result<Option<NodeStep>, AllocError>
     ensures { IfOk result (IsNodeStep known.now NodeForm.Restart (map (λ w. w.now) words.now)) }
 {
     let [word] = words else {

@@ -35,11 +35,7 @@ struct Written<'a> {
 }
 
 /// The command that these words behind `send` spell.
-pub fn send_of(
-    alloc: Global,
-    known: &Known,
-    words: &[&[u8]],
-) -> Result<Option<Command>, AllocError>
+pub fn send_of(alloc: Global, known: &Known, words: &[&[u8]]) -> Result<Option<Command>, AllocError>
     ensures { IfOk result (IsCommand known.now [] CommandForm.Send (map (λ w. w.now) words.now)) }
 {
     let [from, to, access, pool, namespace, object, bytes] = words else {

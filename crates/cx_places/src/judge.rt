@@ -146,12 +146,7 @@ fn known_fails(why: LineFault, known: bool, again: bool) -> bool
     }
 }
 
-fn entity_has(
-    alloc: Global,
-    known: &Known,
-    why: LineFault,
-    word: &[u8],
-) -> Result<bool, AllocError>
+fn entity_has(alloc: Global, known: &Known, why: LineFault, word: &[u8]) -> Result<bool, AllocError>
     ensures { IfOk result (λ has. has ≡ is_fault why (word_fault known.now [] Place.Entity word.now)) }
 {
     let Some(name) = name(alloc, word)? else {
@@ -161,12 +156,7 @@ fn entity_has(
     Ok(known_fails(why, is_declarable(&name), again))
 }
 
-fn client_has(
-    alloc: Global,
-    known: &Known,
-    why: LineFault,
-    word: &[u8],
-) -> Result<bool, AllocError>
+fn client_has(alloc: Global, known: &Known, why: LineFault, word: &[u8]) -> Result<bool, AllocError>
     ensures { IfOk result (λ has. has ≡ is_fault why (word_fault known.now [] Place.Client word.now)) }
 {
     let Some(name) = name(alloc, word)? else {
@@ -208,12 +198,7 @@ fn unleaked_has(
     Ok(known_fails(why, is_known, again))
 }
 
-fn daemon_has(
-    alloc: Global,
-    known: &Known,
-    why: LineFault,
-    word: &[u8],
-) -> Result<bool, AllocError>
+fn daemon_has(alloc: Global, known: &Known, why: LineFault, word: &[u8]) -> Result<bool, AllocError>
     ensures { IfOk result (λ has. has ≡ is_fault why (word_fault known.now [] Place.Daemon word.now)) }
 {
     let Some(name) = name(alloc, word)? else {
@@ -223,12 +208,7 @@ fn daemon_has(
     Ok(known_fails(why, is_known, false))
 }
 
-fn node_has(
-    alloc: Global,
-    known: &Known,
-    why: LineFault,
-    word: &[u8],
-) -> Result<bool, AllocError>
+fn node_has(alloc: Global, known: &Known, why: LineFault, word: &[u8]) -> Result<bool, AllocError>
     ensures { IfOk result (λ has. has ≡ is_fault why (word_fault known.now [] Place.Node word.now)) }
 {
     let Some(node) = named_node(alloc, word)? else {

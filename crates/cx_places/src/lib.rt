@@ -13,7 +13,9 @@ mod places;
 mod sight;
 mod values;
 
-pub use choices::{CommandForm, LeftState, Modes, Side, command_named, modes_named, side_named, state_named};
+pub use choices::{
+    CommandForm, LeftState, Modes, Side, command_named, modes_named, side_named, state_named,
+};
 pub use faults::{FaultAt, LineFault};
 pub use judge::first_fault;
 pub use known::Known;
@@ -23,6 +25,6 @@ pub use nodes::Node;
 pub use places::Place;
 pub use sight::{Hint, Shown, first_hint, hint_in, shown_of, word_at};
 pub use values::{
-    client, daemon, is_lossy, life, new_entity, new_service, known_node, operation_data, unleaked, unmoded,
-    unseeded,
+    client, daemon, is_lossy, known_node, life, new_entity, new_service, operation_data, unleaked,
+    unmoded, unseeded,
 };

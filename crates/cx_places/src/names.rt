@@ -80,4 +80,3 @@ fn text_of(alloc: Global, name: &EntityName) -> Result<String, AllocError>
 {
     format!(in alloc; "{}.{}", name.kind, name.id)
 }
-

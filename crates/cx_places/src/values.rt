@@ -85,11 +85,7 @@ fn any_is(words: &[&[u8]], word: &[u8]) -> bool
 }
 
 /// The name of a declared client.
-pub fn client(
-    alloc: Global,
-    known: &Known,
-    word: &[u8],
-) -> Result<Option<EntityName>, AllocError>
+pub fn client(alloc: Global, known: &Known, word: &[u8]) -> Result<Option<EntityName>, AllocError>
     ensures read { IfOk result (λ found. is_some found ≡ is_good known.now [] Place.Client word.now) }
     ensures spelled { IfOk result (λ found. IfSome found (λ name. SpellsItem known.now [] (ClientOf name) word.now)) }
 {
@@ -104,11 +100,7 @@ pub fn client(
 }
 
 /// The name of a declared client whose modes aren't given.
-pub fn unmoded(
-    alloc: Global,
-    known: &Known,
-    word: &[u8],
-) -> Result<Option<EntityName>, AllocError>
+pub fn unmoded(alloc: Global, known: &Known, word: &[u8]) -> Result<Option<EntityName>, AllocError>
     ensures read { IfOk result (λ found. is_some found ≡ is_good known.now [] Place.Unmoded word.now) }
     ensures spelled { IfOk result (λ found. IfSome found (λ name. SpellsItem known.now [] (UnmodedOf name) word.now)) }
 {
@@ -125,11 +117,7 @@ pub fn unmoded(
 }
 
 /// The name of a declared client that isn't leaked.
-pub fn unleaked(
-    alloc: Global,
-    known: &Known,
-    word: &[u8],
-) -> Result<Option<EntityName>, AllocError>
+pub fn unleaked(alloc: Global, known: &Known, word: &[u8]) -> Result<Option<EntityName>, AllocError>
     ensures read { IfOk result (λ found. is_some found ≡ is_good known.now [] Place.Unleaked word.now) }
     ensures spelled { IfOk result (λ found. IfSome found (λ name. SpellsItem known.now [] (UnleakedOf name) word.now)) }
 {
@@ -146,11 +134,7 @@ pub fn unleaked(
 }
 
 /// The name of a declared daemon.
-pub fn daemon(
-    alloc: Global,
-    known: &Known,
-    word: &[u8],
-) -> Result<Option<EntityName>, AllocError>
+pub fn daemon(alloc: Global, known: &Known, word: &[u8]) -> Result<Option<EntityName>, AllocError>
     ensures read { IfOk result (λ found. is_some found ≡ is_good known.now [] Place.Daemon word.now) }
     ensures spelled { IfOk result (λ found. IfSome found (λ name. SpellsItem known.now [] (DaemonOf name) word.now)) }
 {

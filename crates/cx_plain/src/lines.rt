@@ -36,7 +36,9 @@ pub fn plain_of(alloc: Global, line: &Line) -> Result<Option<PlainLine>, AllocEr
 {
     match line {
         Line::Setting(Setting::Lifetime(seconds)) => Ok(Some(PlainLine::Lifetime(*seconds))),
-        Line::Setting(Setting::AuthLifetime(seconds)) => Ok(Some(PlainLine::AuthLifetime(*seconds))),
+        Line::Setting(Setting::AuthLifetime(seconds)) => Ok(Some(PlainLine::AuthLifetime(
+            *seconds,
+        ))),
         Line::Setting(Setting::Entity(name, grants)) => {
             let name = name.copy(alloc)?;
             let grants = copy_items(alloc, grants)?;

@@ -7,8 +7,8 @@ ghost use Rattle.cx_plain.specs.Plain.{opening, refusing, looking, entering, dec
 use crate::counts::{next, next_link};
 use crate::desks::{caps_text, handle};
 use crate::entrance::{Welcome, enter, enter_save, rotated};
-use crate::monitors::{Kept, Monitor, has_generation};
 use crate::lines::PlainLine;
+use crate::monitors::{Kept, Monitor, has_generation};
 use crate::nodes::{Node, Nodes, Place, Session};
 use cx_base::{
     Blob, Duplicate, EntityName, EntityType, Items, Operation, Reading, SECOND, copy_items,
@@ -455,7 +455,12 @@ impl Run {
     ghost use Rattle.cx_plain.specs.Plain.{IsTimelyRun, step};
 
     /// What a line does.
-    pub(crate) fn step(&mut self, alloc: Global, line: &PlainLine, desk: &Desk) -> Result<(), AllocError>
+    pub(crate) fn step(
+        &mut self,
+        alloc: Global,
+        line: &PlainLine,
+        desk: &Desk,
+    ) -> Result<(), AllocError>
         requires timely { IsTimelyRun self.old }
         requires in_range { IsTrue (is_plain_in_range line.now) }
         ensures state { OnOk result (self.new ≡ step (handlers_of desk.now) self.old line.now) }

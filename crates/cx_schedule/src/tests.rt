@@ -27,7 +27,8 @@ fn repeated(alloc: Global, bytes: &[u8], count: usize) -> Result<Vec<u8>, Fail> 
 }
 
 /// A schedule of all forms, with a comment, an empty line and no last LF.
-const ALL_FORMS: &str = "#\tany \u{e9}\nlifetime 1\nauth-lifetime 31536000\n\nentity client.a mon \"allow r pool=rbd, profile rbd\" osd \"\"\nentity osd.0\n\
+const ALL_FORMS: &str =
+    "#\tany \u{e9}\nlifetime 1\nauth-lifetime 31536000\n\nentity client.a mon \"allow r pool=rbd, profile rbd\" osd \"\"\nentity osd.0\n\
     seed mon 18446744073709551615\nseed client.a 0\nmodes client.a crc,secure\nleak client.a\n\
     clock 12.000000005\nclock mon 0\nclock osd.0 1\nfetch osd.0\nlogin client.a\nlogin client.a osd,mgr\nrenew client.a mds\n\
     connect client.a osd.0\nconnect client.a osd.0 lossy\n\
@@ -55,7 +56,12 @@ type Bad = (&'static str, u32, LineFault, usize);
 static BAD_LINES: [Bad; 107] = [
     ("fly client.a", 4, LineFault::UnknownWord, 1),
     ("login", 4, LineFault::Missing, 2),
-    ("send client.a osd.0 read rbd - obj1", 4, LineFault::Missing, 8),
+    (
+        "send client.a osd.0 read rbd - obj1",
+        4,
+        LineFault::Missing,
+        8,
+    ),
     ("entity mds.a osd", 4, LineFault::Missing, 4),
     ("connect client.a osd.0 lossy x", 4, LineFault::Extra, 5),
     ("clock 1.5", 4, LineFault::BadNumber, 2),
@@ -68,10 +74,30 @@ static BAD_LINES: [Bad; 107] = [
     ("entity mds.a osd allow", 4, LineFault::BadText, 4),
     ("entity mds.a osd \"a\\b\"", 4, LineFault::BadText, 4),
     ("entity mds.a osd \"\u{7f}\"", 4, LineFault::BadText, 4),
-    ("entity mds.a osd \"allow *\" auth \"allow *\"", 4, LineFault::BadText, 5),
-    ("send client.a osd.0 erase p n o -", 4, LineFault::BadText, 4),
-    ("send client.a osd.0 read p/n - o -", 4, LineFault::BadText, 5),
-    ("send client.a osd.0 read p n o 123", 4, LineFault::BadText, 8),
+    (
+        "entity mds.a osd \"allow *\" auth \"allow *\"",
+        4,
+        LineFault::BadText,
+        5,
+    ),
+    (
+        "send client.a osd.0 erase p n o -",
+        4,
+        LineFault::BadText,
+        4,
+    ),
+    (
+        "send client.a osd.0 read p/n - o -",
+        4,
+        LineFault::BadText,
+        5,
+    ),
+    (
+        "send client.a osd.0 read p n o 123",
+        4,
+        LineFault::BadText,
+        8,
+    ),
     ("login client.b", 4, LineFault::UnknownNode, 2),
     ("login osd.0", 4, LineFault::UnknownNode, 2),
     ("connect client.a osd.1", 4, LineFault::UnknownNode, 3),
@@ -79,18 +105,33 @@ static BAD_LINES: [Bad; 107] = [
     ("entity mon.a", 4, LineFault::UnknownNode, 2),
     ("entity osd.0", 4, LineFault::Repeated, 2),
     ("lifetime 1\n\n#\nlifetime 1", 7, LineFault::Repeated, 1),
-    ("entity mds.a osd \"allow *\" mon \"allow *\" osd \"allow *\"", 4, LineFault::Repeated, 7),
+    (
+        "entity mds.a osd \"allow *\" mon \"allow *\" osd \"allow *\"",
+        4,
+        LineFault::Repeated,
+        7,
+    ),
     ("clock 1\nentity mds.a", 5, LineFault::Order, 1),
     ("clock 1\nentity osd.0", 5, LineFault::Repeated, 2),
     ("connect client osd.9 x y", 4, LineFault::Extra, 5),
-    ("send client.b osd.0 write p n o 0\nfly", 4, LineFault::BadText, 8),
+    (
+        "send client.b osd.0 write p n o 0\nfly",
+        4,
+        LineFault::BadText,
+        8,
+    ),
     ("clock 01", 4, LineFault::BadNumber, 2),
     ("clock  1", 4, LineFault::BadName, 2),
     ("clock 1 ", 4, LineFault::BadNumber, 3),
     ("clock\t1", 4, LineFault::UnknownWord, 1),
     ("entity mds.a osd \"allow *", 4, LineFault::Missing, 6),
     ("fetch osd.", 4, LineFault::BadName, 2),
-    ("fetch osd.aaaaaaaaaaaaaaaaaaaaaaaaaaaaaaaaaaaaaaaaaaaaaaaaaaaaaaaaaaaaaaaaa", 4, LineFault::BadName, 2),
+    (
+        "fetch osd.aaaaaaaaaaaaaaaaaaaaaaaaaaaaaaaaaaaaaaaaaaaaaaaaaaaaaaaaaaaaaaaaa",
+        4,
+        LineFault::BadName,
+        2,
+    ),
     ("clock 4000000000", 4, LineFault::BadNumber, 2),
     ("clock 1\r", 4, LineFault::BadNumber, 2),
     ("login client.\u{e9}", 4, LineFault::BadName, 2),
@@ -109,7 +150,12 @@ static BAD_LINES: [Bad; 107] = [
     ("modes client.a", 4, LineFault::Missing, 3),
     ("modes client.a secure,crc", 4, LineFault::BadText, 3),
     ("modes osd.0 crc", 4, LineFault::UnknownNode, 2),
-    ("modes client.a crc\nmodes client.a secure", 5, LineFault::Repeated, 2),
+    (
+        "modes client.a crc\nmodes client.a secure",
+        5,
+        LineFault::Repeated,
+        2,
+    ),
     ("tick mon\nmodes client.a crc", 5, LineFault::Order, 1),
     ("leak", 4, LineFault::Missing, 2),
     ("leak osd.0", 4, LineFault::UnknownNode, 2),
@@ -137,7 +183,12 @@ static BAD_LINES: [Bad; 107] = [
     ("do login client.a osd x", 4, LineFault::Extra, 5),
     ("do login client.b", 4, LineFault::UnknownNode, 3),
     ("do connect client.a osd.0 x", 4, LineFault::BadText, 5),
-    ("do send client.a osd.0 read p n o 0", 4, LineFault::BadText, 9),
+    (
+        "do send client.a osd.0 read p n o 0",
+        4,
+        LineFault::BadText,
+        9,
+    ),
     ("carry 1", 4, LineFault::Missing, 3),
     ("carry x c", 4, LineFault::BadNumber, 2),
     ("carry 1 b", 4, LineFault::BadText, 3),

@@ -324,8 +324,7 @@ fn command_form(form: CommandForm) -> &'static str
         CommandForm::Fetch => "; its form is: fetch DAEMON, as in: fetch osd.0",
         CommandForm::Login =>
             "; its form is: login CLIENT or login CLIENT SERVICES, as in: login client.a osd,mgr",
-        CommandForm::Renew =>
-            "; its form is: renew CLIENT SERVICES, as in: renew client.a osd,mgr",
+        CommandForm::Renew => "; its form is: renew CLIENT SERVICES, as in: renew client.a osd,mgr",
         CommandForm::Connect => {
             "; its form is: connect CLIENT DAEMON, or that with lossy behind it, as in: connect client.a osd.0"
         }
@@ -360,9 +359,7 @@ fn node_form(form: NodeForm) -> &'static str
         NodeForm::DropSession => "; its form is: drop DAEMON SESSION, as in: drop osd.0 1",
         NodeForm::Tick => "; its form is: tick NODE, as in: tick osd.0",
         NodeForm::Restart => "; its form is: restart NODE, as in: restart mon",
-        NodeForm::FailSave => {
-            "; its form is: failsave old or failsave new, as in: failsave old"
-        }
+        NodeForm::FailSave => { "; its form is: failsave old or failsave new, as in: failsave old" }
         NodeForm::Settle => "; its form is: settle, alone",
     }
 }
@@ -374,7 +371,8 @@ fn hint(hint: Option<Hint>) -> &'static str
     match hint {
         None => "",
         Some(Hint::Empty) => " (two spaces stand together, or one stands at an end of the line)",
-        Some(Hint::ByteOrderMark) => " (the file begins with a byte-order mark; save it without one)",
+        Some(Hint::ByteOrderMark) =>
+            " (the file begins with a byte-order mark; save it without one)",
         Some(Hint::CarriageReturn) => {
             " (it has a CR, as the line ends of Windows; save the file with line ends of an LF alone)"
         }
