@@ -63,17 +63,13 @@ impl Sealing {
         if let Some(refusal) = self.kept {
             return Err(refusal);
         }
-        match head_step(alloc, &self.key, &self.into, bytes, contents) {
-            Ok(head) => {
-                self.into.raise(1);
-                Ok(head)
-            }
-            Err(SecureRefusal::OutOfMemory) => Err(SecureRefusal::OutOfMemory),
-            Err(refusal) => {
-                self.kept = Some(refusal);
-                Err(refusal)
-            }
+        let head = head_step(alloc, &self.key, &self.into, bytes, contents);
+        match head {
+            Ok(_) => self.into.raise(1),
+            Err(SecureRefusal::OutOfMemory) => {}
+            Err(refusal) => self.kept = Some(refusal),
         }
+        head
     }
 
     /// The content of a head that was opened last: its nonce and its plain bytes.
