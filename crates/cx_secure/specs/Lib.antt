@@ -1,3 +1,4 @@
+pub mod Contents
 pub mod Opening
 pub mod Parts
 pub mod Plains

@@ -22,10 +22,3 @@ Agrees (Err e) expected = expected ≡ Err e
 abbrev pub IsRefusal : Option SecureRefusal → SecureRefusal → Type 0
 IsRefusal expected OutOfMemory = Unit {0}
 IsRefusal expected e = expected ≡ Some e
-
--- a part that was opened to this plain text, or whose tag is wrong; want of memory is free
-abbrev pub Opens : Result (List ℕ) SecureRefusal → Option (List ℕ) → Type 0
-Opens (Ok plain) expected = expected ≡ Some plain
-Opens (Err OutOfMemory) expected = Unit {0}
-Opens (Err BadTag) expected = expected ≡ None
-Opens (Err e) expected = ⊥

@@ -47,11 +47,6 @@ after_opened s n = record s { into = record s.into { counter = s.into.counter + 
 abbrev pub after_sealed : Sealing → ℕ → Sealing
 after_sealed s n = record s { out = record s.out { counter = s.out.counter + n } }
 
--- the sealing behind a head: a refusal is kept
-abbrev pub after_head : Sealing → Result Head SecureRefusal → Sealing
-after_head s (Ok h) = after_opened s 1
-after_head s (Err e) = record s { kept = Some e }
-
 -- the sealing behind an answer that opened so many parts: a refusal is kept, but for want of memory
 abbrev pub after_opening : {X : Type 0} → Sealing → ℕ → Result X SecureRefusal → Sealing
 after_opening s n (Ok x) = after_opened s n

@@ -1,22 +1,26 @@
 //! Opening secure frames.
 
-ghost use Rattle.std.specs.Prelude.{◌≡◌, ◌≢◌, ℕ, ◌+◌, ◌<◌, ◌≤◌, ◌^◌, ◌++◌, List, Some, None, Ok, IfOk, length, take, drop};
+ghost use Rattle.std.specs.Prelude.{◌≡◌, ◌≢◌, ℕ, ◌+◌, ◌<◌, ◌≤◌, ◌^◌, ◌++◌, List, [], ◌∷◌, Some, None, Ok, Err, IfOk, OnOk, length, take, drop};
 ghost use Rattle.cx_gcm.specs.GcmKeyOf.{gcm_key_of};
 ghost use Rattle.cx_frame.specs.Preambles.{IsAllowed, preamble_text};
 ghost use Rattle.cx_frame.specs.declared.frame.Frame.{Frame};
 ghost use Rattle.cx_frame.specs.declared.preamble.Preamble.{Preamble};
+ghost use Rattle.cx_secure.specs.Contents.{head_content, head_contents, parts_contents, rest_contents};
 ghost use Rattle.cx_secure.specs.Opening.{IsHead, IsPlainHead, IsRestBehind, head_of, head_step, rest_of, rest_step, with_inline};
 ghost use Rattle.cx_secure.specs.Parts.{nonce_at, part};
 ghost use Rattle.cx_secure.specs.Plains.{rest_len, rest_parts};
 ghost use Rattle.cx_secure.specs.Refusing.{Agrees};
-ghost use Rattle.cx_secure.specs.Sealings.{after_head, after_opening, connection_key, open_head_at, open_rest_at};
+ghost use Rattle.cx_secure.specs.Sealings.{after_opening, connection_key, open_head_at, open_rest_at};
+ghost use Rattle.cx_secure.specs.declared.refusals.SecureRefusal.{SecureRefusal};
+ghost use Rattle.cx_secure.specs.declared.refusals.SecureRefusal.TheVariants.{OutOfMemory};
 ghost use Rattle.cx_secure.specs.declared.sealing.Head.{Head};
 
-use crate::parts::{nonce_at, opened_head, opened_some};
+use crate::parts::{hand_out, nonce_at, opened_head, opened_some};
 use crate::refusals::SecureRefusal;
 use crate::rooms::{frame_at, last_len, one_if, rest_parts, second_len, tagged};
 use crate::sealing::{Head, Sealing, Way};
-use cx_frame::{Frame, read_preamble_within};
+use cx_base::{Blob, Items};
+use cx_frame::{Frame, put_preamble, read_preamble_within};
 use cx_gcm::GcmKey;
 use std::alloc::{AllocError, Global};
 
@@ -34,34 +38,58 @@ pub fn rest_len(head: &Head) -> usize
 }
 
 impl Sealing {
-    /// Opens the head of a frame. It wants no memory.
-    pub fn open_head(&mut self, bytes: &[u8; 96]) -> Result<Head, SecureRefusal>
+    /// Opens the head of a frame. Where it opens and is refused, its content is handed out, which wants memory; the content of one that is
+    /// answered is `head_content`.
+    pub fn open_head(
+        &mut self,
+        alloc: Global,
+        bytes: &[u8; 96],
+        contents: &mut Items<Blob>,
+    ) -> Result<Head, SecureRefusal>
         // What is read was sealed so, under the counter of this direction.
         ensures found { IfOk result (IsHead (connection_key self.old) (nonce_at self.old.into.fixed self.old.into.counter) bytes.now) }
         // What was sealed so is read.
         ensures only { (h : Head) → self.old.kept ≡ None → self.old.into.counter + 1 < 2 ^ 64
             → IsHead (connection_key self.old) (nonce_at self.old.into.fixed self.old.into.counter) bytes.now h → result ≡ Ok h }
         // It is refused for what was refused before, then for the counter, the tag, and the first check of the preamble that fails.
-        ensures exact { result ≡ open_head_at self.old bytes.now }
-        ensures after { self.new ≡ after_head self.old result }
+        ensures exact { Agrees result (open_head_at self.old bytes.now) }
+        ensures after { self.new ≡ after_opening self.old 1 result }
+        // What opened and is refused is handed out.
+        ensures handed { (refusal : SecureRefusal) → self.old.kept ≡ None → result ≡ Err refusal → refusal ≢ OutOfMemory
+            → contents.new ≡ contents.old ++ head_contents (connection_key self.old) self.old.into.fixed self.old.into.counter bytes.now }
+        ensures read { OnOk result (contents.new ≡ contents.old) }
+        ensures still { (refusal : SecureRefusal) → self.old.kept ≡ Some refusal → contents.new ≡ contents.old }
     {
         if let Some(refusal) = self.kept {
             return Err(refusal);
         }
-        let head = head_step(&self.key, &self.into, bytes);
+        let head = head_step(alloc, &self.key, &self.into, bytes, contents);
         match head {
             Ok(_) => self.into.raise(1),
+            Err(SecureRefusal::OutOfMemory) => {}
             Err(refusal) => self.kept = Some(refusal),
         }
         head
     }
 
-    /// Opens what stands behind a head.
+    /// The content of a head that was opened last: its nonce and its plain bytes.
+    pub fn head_content(&self, alloc: Global, head: &Head) -> Result<Blob, AllocError>
+        ensures { IfOk result (λ content. content ≡ head_content self.now.into head.now) }
+    {
+        let nonce = nonce_at(&self.into.fixed, self.into.counter.saturating_sub(1));
+        let mut content = Blob::of(alloc, &nonce)?;
+        put_preamble(alloc, &mut content, &head.preamble)?;
+        content.append(alloc, &head.inline)?;
+        Ok(content)
+    }
+
+    /// Opens what stands behind a head. The content of each part that opens is handed out, also where a frame is refused.
     pub fn open_rest(
         &mut self,
         alloc: Global,
         head: Head,
         bytes: &[u8],
+        contents: &mut Items<Blob>,
     ) -> Result<Frame, SecureRefusal>
         requires allowed { IsAllowed 1048576 head.preamble }
         requires len { length bytes.now ≡ rest_len head.preamble }
@@ -73,11 +101,15 @@ impl Sealing {
         // It is refused for what was refused before, then for the counter, the tags, the fills, and the late status.
         ensures exact { Agrees result (open_rest_at self.old head bytes.now) }
         ensures after { self.new ≡ after_opening self.old (rest_parts head.preamble) result }
+        // What opened is handed out, but for want of memory.
+        ensures handed { self.old.kept ≡ None → result ≢ Err OutOfMemory
+            → contents.new ≡ contents.old ++ rest_contents (connection_key self.old) self.old.into.fixed self.old.into.counter head.preamble bytes.now }
+        ensures still { (refusal : SecureRefusal) → self.old.kept ≡ Some refusal → contents.new ≡ contents.old }
     {
         if let Some(refusal) = self.kept {
             return Err(refusal);
         }
-        match rest_step(alloc, &self.key, &self.into, &head, bytes) {
+        match rest_step(alloc, &self.key, &self.into, &head, bytes, contents) {
             Ok(frame) => {
                 self.into.raise(rest_parts(&head.preamble));
                 Ok(frame)
@@ -99,19 +131,51 @@ impl Sealing {
 }
 
 // The head in 96 bytes, which comes under the counter.
-#[tactic(auto, unfolding(crate::specs::Opening::head_step, crate::specs::Opening::head_of))]
-fn head_step(key: &GcmKey, way: &Way, bytes: &[u8; 96]) -> Result<Head, SecureRefusal>
-    ensures value { result ≡ head_step (gcm_key_of key.now) way.now.fixed way.now.counter bytes.now }
+#[tactic(auto, unfolding(crate::specs::Opening::head_step, crate::specs::Opening::head_of, crate::specs::Contents::head_contents))]
+fn head_step(
+    alloc: Global,
+    key: &GcmKey,
+    way: &Way,
+    bytes: &[u8; 96],
+    contents: &mut Items<Blob>,
+) -> Result<Head, SecureRefusal>
+    ensures value { Agrees result (head_step (gcm_key_of key.now) way.now.fixed way.now.counter bytes.now) }
     ensures below { IfOk result (λ _. way.now.counter + 1 < 2 ^ 64) }
     ensures found { IfOk result (IsHead (gcm_key_of key.now) (nonce_at way.now.fixed way.now.counter) bytes.now) }
     ensures only { (h : Head) → way.now.counter + 1 < 2 ^ 64 → IsHead (gcm_key_of key.now) (nonce_at way.now.fixed way.now.counter) bytes.now h → result ≡ Ok h }
+    ensures handed { (refusal : SecureRefusal) → result ≡ Err refusal → refusal ≢ OutOfMemory
+        → contents.new ≡ contents.old ++ head_contents (gcm_key_of key.now) way.now.fixed way.now.counter bytes.now }
+    ensures read { OnOk result (contents.new ≡ contents.old) }
 {
     if way.counter == u64::MAX {
         return Err(SecureRefusal::CounterSpent);
     }
-    match opened_head(key, nonce_at(&way.fixed, way.counter), bytes) {
-        Some(plain) => head_of(&plain),
+    let nonce = nonce_at(&way.fixed, way.counter);
+    match opened_head(key, nonce, bytes) {
+        Some(plain) => head_in(alloc, &nonce, &plain, contents),
         None => Err(SecureRefusal::BadTag),
+    }
+}
+
+// The head in the plain bytes of the first part, which has this nonce. Where it is refused, its content is handed out.
+fn head_in(
+    alloc: Global,
+    nonce: &[u8; 12],
+    plain: &[u8; 80],
+    contents: &mut Items<Blob>,
+) -> Result<Head, SecureRefusal>
+    ensures value { Agrees result (head_of (Some plain.now)) }
+    ensures found { IfOk result (IsPlainHead plain.now) }
+    ensures only { (h : Head) → head_of (Some plain.now) ≡ Ok h → result ≡ Ok h }
+    ensures handed { (refusal : SecureRefusal) → result ≡ Err refusal → refusal ≢ OutOfMemory → contents.new ≡ contents.old ++ (nonce.now ++ plain.now) ∷ [] }
+    ensures read { OnOk result (contents.new ≡ contents.old) }
+{
+    match head_of(plain) {
+        Ok(head) => Ok(head),
+        Err(refusal) => {
+            hand_out(alloc, nonce, plain, contents)?;
+            Err(refusal)
+        }
     }
 }
 
@@ -149,13 +213,14 @@ fn inline_of(plain: &[u8; 80]) -> [u8; 48]
 }
 
 // The frame behind a head, whose parts come from the counter on.
-#[tactic(auto, using(crate::proofs::Lengths::parts_front), unfolding(crate::specs::Opening::rest_step))]
+#[tactic(auto, using(crate::proofs::Lengths::parts_front), unfolding(crate::specs::Opening::rest_step, crate::specs::Contents::rest_contents))]
 fn rest_step(
     alloc: Global,
     key: &GcmKey,
     way: &Way,
     head: &Head,
     bytes: &[u8],
+    contents: &mut Items<Blob>,
 ) -> Result<Frame, SecureRefusal>
     requires allowed { IsAllowed 1048576 head.now.preamble }
     requires len { length bytes.now ≡ rest_len head.now.preamble }
@@ -164,6 +229,8 @@ fn rest_step(
     ensures found { IfOk result (IsRestBehind (gcm_key_of key.now) way.now.fixed way.now.counter head.now bytes.now) }
     ensures only { (f : Frame) → way.now.counter + rest_parts head.now.preamble < 2 ^ 64
         → IsRestBehind (gcm_key_of key.now) way.now.fixed way.now.counter head.now bytes.now f → Agrees result (Ok f) }
+    ensures handed { result ≢ Err OutOfMemory
+        → contents.new ≡ contents.old ++ rest_contents (gcm_key_of key.now) way.now.fixed way.now.counter head.now.preamble bytes.now }
 {
     if way.counter > u64::MAX - rest_parts(&head.preamble) {
         return Err(SecureRefusal::CounterSpent);
@@ -171,11 +238,11 @@ fn rest_step(
     let next = way.counter + one_if(second_len(&head.preamble));
     let first_nonce = nonce_at(&way.fixed, way.counter);
     let next_nonce = nonce_at(&way.fixed, next);
-    rest_of(alloc, key, first_nonce, next_nonce, head, bytes)
+    rest_of(alloc, key, first_nonce, next_nonce, head, bytes, contents)
 }
 
 // The frame in what stands behind its head, whose parts have these nonces.
-#[tactic(auto, unfolding(crate::specs::Opening::rest_of, crate::specs::Opening::with_parts, crate::specs::Plains::rest_len))]
+#[tactic(auto, unfolding(crate::specs::Opening::rest_of, crate::specs::Opening::with_parts, crate::specs::Plains::rest_len, crate::specs::Contents::parts_contents))]
 fn rest_of(
     alloc: Global,
     key: &GcmKey,
@@ -183,16 +250,24 @@ fn rest_of(
     next: [u8; 12],
     head: &Head,
     bytes: &[u8],
+    contents: &mut Items<Blob>,
 ) -> Result<Frame, SecureRefusal>
     requires allowed { IsAllowed 1048576 head.now.preamble }
     requires len { length bytes.now ≡ rest_len head.now.preamble }
     ensures value { Agrees result (rest_of (gcm_key_of key.now) first next head.now bytes.now) }
     ensures inline { IfOk result (λ _. length head.now.inline ≡ 48) }
+    ensures handed { result ≢ Err OutOfMemory → contents.new ≡ contents.old ++ parts_contents (gcm_key_of key.now) first next head.now.preamble bytes.now }
 {
     let front = tagged(second_len(&head.preamble));
     let (second, last) = bytes.split_at(front);
-    let second = opened_some(alloc, key, first, second)?;
-    let last = opened_some(alloc, key, next, last)?;
+    let second = opened_some(alloc, key, first, second, contents)?;
+    let last = opened_some(alloc, key, next, last, contents)?;
+    let Some(second) = second else {
+        return Err(SecureRefusal::BadTag);
+    };
+    let Some(last) = last else {
+        return Err(SecureRefusal::BadTag);
+    };
     let room = room_of(alloc, &head.inline, second.bytes())?;
     frame_at(alloc, &head.preamble, room, last.bytes())
 }

@@ -1,15 +1,14 @@
 //! Parts: sealed and opened, each under a nonce of its own.
 
-ghost use Rattle.std.specs.Prelude.{◌≡◌, ◌≢◌, ℕ, ◌+◌, ◌-◌, ◌≤◌, ◌++◌, List, Some, None, OnOk, IfOk, length};
+ghost use Rattle.std.specs.Prelude.{◌≡◌, ◌≢◌, ℕ, ◌+◌, ◌-◌, ◌≤◌, ◌++◌, List, [], ◌∷◌, Some, None, OnOk, IfOk, IfSome, length};
 ghost use Rattle.std.specs.Bool.{OnTrue, OnFalse};
 ghost use Rattle.cx_gcm.specs.GcmKeyOf.{gcm_key_of};
 ghost use Rattle.cx_gcm.specs.Gcm.{IsNonce};
+ghost use Rattle.cx_secure.specs.Contents.{content_of, part_content};
 ghost use Rattle.cx_secure.specs.Parts.{nonce_at, opened, opened_some, opened_text, part, sealed_parts};
 ghost use Rattle.cx_secure.specs.Plains.{nonempty};
-ghost use Rattle.cx_secure.specs.Refusing.{Opens};
 
-use crate::refusals::SecureRefusal;
-use cx_base::Blob;
+use cx_base::{Blob, Items};
 use cx_gcm::GcmKey;
 use std::alloc::{AllocError, Global};
 
@@ -115,38 +114,76 @@ fn sixteen(bytes: &[u8]) -> [u8; 16]
     *all
 }
 
-// The plain text of a part.
+// The plain text of a part, where its tag is right.
 #[tactic(auto, unfolding(crate::specs::Parts::opened))]
-fn opened(alloc: Global, key: &GcmKey, nonce: [u8; 12], bytes: &[u8]) -> Result<Blob, SecureRefusal>
+fn opened(
+    alloc: Global,
+    key: &GcmKey,
+    nonce: [u8; 12],
+    bytes: &[u8],
+) -> Result<Option<Blob>, AllocError>
     requires long { 16 ≤ length bytes.now }
     requires short { length bytes.now ≤ 2097168 }
-    ensures text { Opens result (opened (gcm_key_of key.now) nonce (length bytes.now - 16) bytes.now) }
-    ensures len { IfOk result (λ plain. length plain ≡ length bytes.now - 16) }
+    ensures text { IfOk result (λ plain. plain ≡ opened (gcm_key_of key.now) nonce (length bytes.now - 16) bytes.now) }
+    ensures len { IfOk result (λ plain. IfSome plain (λ text. length text ≡ length bytes.now - 16)) }
 {
     let (cipher, tag) = bytes.split_at(bytes.len() - TAG);
     let mut plain = Vec::from_slice(alloc, cipher)?;
     if open_in_place(key, &nonce, &mut plain, &sixteen(tag)) {
-        Ok(Blob::from(plain))
+        Ok(Some(Blob::from(plain)))
     } else {
-        Err(SecureRefusal::BadTag)
+        Ok(None)
     }
 }
 
-// The plain text of a part, where there may be none.
-#[tactic(auto, unfolding(crate::specs::Parts::opened_some))]
+// The plain text of a part, where there may be none. What opens is handed out.
+#[tactic(auto, unfolding(crate::specs::Parts::opened_some, crate::specs::Contents::part_content))]
 pub(crate) fn opened_some(
     alloc: Global,
     key: &GcmKey,
     nonce: [u8; 12],
     bytes: &[u8],
-) -> Result<Blob, SecureRefusal>
+    contents: &mut Items<Blob>,
+) -> Result<Option<Blob>, AllocError>
     requires long { length bytes.now ≢ 0 → 16 ≤ length bytes.now }
     requires short { length bytes.now ≤ 2097168 }
-    ensures text { Opens result (opened_some (gcm_key_of key.now) nonce bytes.now) }
-    ensures len { IfOk result (λ plain. length plain ≡ length bytes.now - 16) }
+    ensures text { IfOk result (λ plain. plain ≡ opened_some (gcm_key_of key.now) nonce bytes.now) }
+    ensures len { IfOk result (λ plain. IfSome plain (λ text. length text ≡ length bytes.now - 16)) }
+    ensures handed { OnOk result (contents.new ≡ contents.old ++ part_content (gcm_key_of key.now) nonce bytes.now) }
 {
     if bytes.is_empty() {
-        return Ok(Blob::new(alloc));
+        return Ok(Some(Blob::new(alloc)));
     }
-    opened(alloc, key, nonce, bytes)
+    let plain = opened(alloc, key, nonce, bytes)?;
+    hand_out_some(alloc, &nonce, &plain, contents)?;
+    Ok(plain)
+}
+
+// Hands out the content of a part, where it opened.
+fn hand_out_some(
+    alloc: Global,
+    nonce: &[u8; 12],
+    plain: &Option<Blob>,
+    contents: &mut Items<Blob>,
+) -> Result<(), AllocError>
+    ensures { OnOk result (contents.new ≡ contents.old ++ content_of nonce.now plain.now) }
+{
+    match plain {
+        Some(plain) => hand_out(alloc, nonce, plain.bytes(), contents),
+        None => Ok(()),
+    }
+}
+
+// Hands out the content of a part with this nonce and these plain bytes.
+pub(crate) fn hand_out(
+    alloc: Global,
+    nonce: &[u8; 12],
+    plain: &[u8],
+    contents: &mut Items<Blob>,
+) -> Result<(), AllocError>
+    ensures { OnOk result (contents.new ≡ contents.old ++ (nonce.now ++ plain.now) ∷ []) }
+{
+    let mut content = Blob::of(alloc, nonce)?;
+    content.append(alloc, plain)?;
+    contents.push(alloc, content)
 }

@@ -1,3 +1,4 @@
+pub mod Contents
 pub mod PlainFronts
 pub mod PlainStands
 pub mod Sealed

@@ -114,6 +114,7 @@ steady_now s front h len read is =
     record {
       low = omega arith;
       allowed = is.allowed;
+      inline = is.inline;
       len = ap length text ∙ len;
       read = ap (head_step (connection_key s) s.into.fixed (n + 1 - 1)) text ∙ ap (λ c. head_step (connection_key s) s.into.fixed c front) back ∙ read;
     }
@@ -150,52 +151,40 @@ none_ready old s o rest seen none free short =
     let seen_none : held s None rest ≡ old = ap (λ (p : Option Head). held s p rest) (sym none) ∙ seen in
     (ap (λ (x : Held). x.sealing.kept) (sym seen_none) ∙ free, ap (λ (x : Held). secure_frame_at (ahead x)) (sym seen_none) ∙ no_head (ahead (held s None rest)) short)
 
-no_preamble_wanted : (sum shape long : Bool) (n : ℕ) (p : Preamble) (inline : List ℕ)
-    → (let read : Result Preamble FrameRefusal = if sum then (if shape then (if long then Err (plain.TooLong n) else Ok p) else Err plain.BadShape) else Err plain.BadCrc in
-    with_inline inline read ≡ Err OutOfMemory) → ⊥
-unfolding with_inline
-no_preamble_wanted true true true n p inline e = cc
-no_preamble_wanted true true false n p inline e = cc
-no_preamble_wanted true false long n p inline e = cc
-no_preamble_wanted false shape long n p inline e = cc
-
-no_head_wanted : (found : Option (List ℕ)) → head_of found ≡ Err OutOfMemory → ⊥
-unfolding head_of preamble_at
-no_head_wanted None e = cc
-no_head_wanted (Some text) e = no_preamble_wanted (has_sum (take 32 text)) (is_shaped (fields_of (take 32 text)) && ends_in_zeros (take 32 text)) _ _ (fields_of (take 32 text)) (drop 32 text) e
-
-spent_or : (spent : Bool) (r : Result Head SecureRefusal) → (r ≡ Err OutOfMemory → ⊥) → (if spent then Err CounterSpent else r) ≡ Err OutOfMemory → ⊥
-spent_or true r other e = cc
-spent_or false r other e = other e
-
--- no head wants memory
-none_wanted : (key fixed : List ℕ) (counter : ℕ) (bytes : List ℕ) → head_step key fixed counter bytes ≡ Err OutOfMemory → ⊥
-unfolding head_step
-none_wanted key fixed counter bytes e = spent_or (nat_lt (2 ^ 64 - 1) (counter + 1)) (head_of (opened key (nonce_at fixed counter) 80 bytes)) (no_head_wanted (opened key (nonce_at fixed counter) 80 bytes)) e
-
 head_refused : (a : Ahead) (e : SecureRefusal) → behind_head a (Err e) ≡ Err e
 unfolding behind_head
 head_refused a e = refl
 
-pub refuses_head : (old new : Held) (s t : Sealing) (o : Option Head) (rest front left : List ℕ) (e : SecureRefusal) → held s o rest ≡ old → o ≡ None → held t o rest ≡ new
-    → rest ≡ front ++ left → length front ≡ 96 → s.kept ≡ None → t ≡ record s { kept = Some e }
-    → head_step (connection_key s) s.into.fixed s.into.counter front ≡ Err e
-    → (let r : Result (Option Head) SecureRefusal = Err e in Readied old new r)
-refuses_head old new s t o rest front left e seen none made rest_is len free after read =
-    let before : Held = held s None rest in
-    let seen_none : before ≡ old = ap (λ (p : Option Head). held s p rest) (sym none) ∙ seen in
-    let next : secure_frame_at (ahead before) ≡ Err e = at_head (ahead before) front left (Err e) rest_is len read ∙ head_refused _ e in (
-      sym made ∙ ap (λ (x : Sealing). held x o rest) after ∙ ap (λ (x : Held). refusing x e) seen,
-      ap (λ (x : Held). unless_kept x.sealing.kept (secure_frame_at (ahead x))) (sym seen_none) ∙ unkept s.kept (secure_frame_at (ahead before)) free ∙ next,
-      λ want. absurd (none_wanted (connection_key s) s.into.fixed s.into.counter front (read ∙ ap (λ (x : SecureRefusal). let r : Result Head SecureRefusal = Err x in r) want)),
-    )
+read_free : {X : Type 0} (kept : Option SecureRefusal) (r answer : Result X SecureRefusal) → kept ≡ None → unless_kept kept r ≡ answer → r ≡ answer
+read_free kept r answer free e = sym (unkept kept r free) ∙ e
 
-read_free : {X : Type 0} (kept : Option SecureRefusal) (r answer : Result X SecureRefusal) → kept ≡ None → answer ≡ unless_kept kept r → r ≡ answer
-read_free kept r answer free e = sym (unkept kept r free) ∙ sym e
-
-pub head_read : (s : Sealing) (front : List ℕ) (answer : Result Head SecureRefusal) → s.kept ≡ None → answer ≡ open_head_at s front
+pub head_read : (s : Sealing) (front : List ℕ) (answer : Result Head SecureRefusal) → s.kept ≡ None → open_head_at s front ≡ answer
     → head_step (connection_key s) s.into.fixed s.into.counter front ≡ answer
 head_read s front answer free e = read_free s.kept (head_step (connection_key s) s.into.fixed s.into.counter front) answer free e
+
+head_keeps : (old new : Held) (s t : Sealing) (o : Option Head) (rest front left : List ℕ) (e : SecureRefusal) → held s o rest ≡ old → o ≡ None → held t o rest ≡ new
+    → rest ≡ front ++ left → length front ≡ 96 → s.kept ≡ None → t ≡ record s { kept = Some e }
+    → (let r : Result Head SecureRefusal = Err e in open_head_at s front ≡ r)
+    → (new ≡ refusing old e) × (unless_kept old.sealing.kept (secure_frame_at (ahead old)) ≡ Err e)
+head_keeps old new s t o rest front left e seen none made rest_is len free after read =
+    let before : Held = held s None rest in
+    let seen_none : before ≡ old = ap (λ (p : Option Head). held s p rest) (sym none) ∙ seen in
+    let next : secure_frame_at (ahead before) ≡ Err e = at_head (ahead before) front left (Err e) rest_is len (head_read s front (Err e) free read) ∙ head_refused _ e in (
+      sym made ∙ ap (λ (x : Sealing). held x o rest) after ∙ ap (λ (x : Held). refusing x e) seen,
+      ap (λ (x : Held). unless_kept x.sealing.kept (secure_frame_at (ahead x))) (sym seen_none) ∙ unkept s.kept (secure_frame_at (ahead before)) free ∙ next,
+    )
+
+pub refuses_head : (old new : Held) (s t : Sealing) (o : Option Head) (rest front left : List ℕ) (e : SecureRefusal) → held s o rest ≡ old → o ≡ None → held t o rest ≡ new
+    → rest ≡ front ++ left → length front ≡ 96 → s.kept ≡ None
+    → (let r : Result Head SecureRefusal = Err e in t ≡ after_opening s 1 r) → (let r : Result Head SecureRefusal = Err e in Agrees r (open_head_at s front))
+    → (let r : Result (Option Head) SecureRefusal = Err e in Readied old new r)
+refuses_head old new s t o rest front left CounterSpent seen none made rest_is len free after read = head_keeps old new s t o rest front left CounterSpent seen none made rest_is len free after read
+refuses_head old new s t o rest front left BadTag seen none made rest_is len free after read = head_keeps old new s t o rest front left BadTag seen none made rest_is len free after read
+refuses_head old new s t o rest front left BadCrc seen none made rest_is len free after read = head_keeps old new s t o rest front left BadCrc seen none made rest_is len free after read
+refuses_head old new s t o rest front left BadShape seen none made rest_is len free after read = head_keeps old new s t o rest front left BadShape seen none made rest_is len free after read
+refuses_head old new s t o rest front left (TooLong n) seen none made rest_is len free after read = head_keeps old new s t o rest front left (TooLong n) seen none made rest_is len free after read
+refuses_head old new s t o rest front left Aborted seen none made rest_is len free after read = head_keeps old new s t o rest front left Aborted seen none made rest_is len free after read
+refuses_head old new s t o rest front left OutOfMemory seen none made rest_is len free after read = sym made ∙ ap (λ (x : Sealing). held x o rest) after ∙ seen
 
 -- ---- the step of the rest
 
@@ -342,6 +331,7 @@ same_into s t (Some h) key into is =
     record {
       low = subst (λ (w : Way). 1 ≤ w.counter) into is.low;
       allowed = is.allowed;
+      inline = is.inline;
       len = ap length (sym (ap (λ k. with k s.into) key ∙ ap (with (connection_key t)) into)) ∙ is.len;
       read =
           sym (ap (λ k. head_step k s.into.fixed (s.into.counter - 1) (with k s.into)) key ∙ ap (λ (w : Way). head_step (connection_key t) w.fixed (w.counter - 1) (with (connection_key t) w)) into)

@@ -22,6 +22,7 @@ sealed_head s None = []
 pub record IsOpen (s : Sealing) (h : Head) : Type 0 where
   pub low : 1 ≤ s.into.counter
   pub allowed : IsAllowed 1048576 h.preamble
+  pub inline : length h.inline ≡ 48
   pub len : length (sealed_head s (Some h)) ≡ 96
   pub read : head_step (connection_key s) s.into.fixed (s.into.counter - 1) (sealed_head s (Some h)) ≡ Ok h
 

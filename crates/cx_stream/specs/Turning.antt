@@ -30,7 +30,8 @@ pub record Opened (old new : Held) (h : Head) : Type 0 where
 abbrev pub Readied : Held → Held → Result (Option Head) SecureRefusal → Type 0
 Readied old new (Ok (Some h)) = Opened old new h
 Readied old new (Ok None) = (new ≡ old) × (old.sealing.kept ≡ None) × (secure_frame_at (ahead old) ≡ Ok None)
-Readied old new (Err e) = (new ≡ refusing old e) × (unless_kept old.sealing.kept (secure_frame_at (ahead old)) ≡ Err e) × (e ≡ OutOfMemory → new ≡ old)
+Readied old new (Err OutOfMemory) = new ≡ old
+Readied old new (Err e) = (new ≡ refusing old e) × (unless_kept old.sealing.kept (secure_frame_at (ahead old)) ≡ Err e)
 
 -- the frame behind its head was opened and taken
 pub record Given (old new : Held) (h : Head) (f : Frame) : Type 0 where

@@ -1,18 +1,21 @@
 //! The stage of secure frames.
 
-ghost use Rattle.std.specs.Prelude.{◌≡◌, ℕ, List, Ok, Some, None, ◌++◌, OnOk, OnErr, IfErr, length};
+ghost use Rattle.std.specs.Prelude.{◌≡◌, ◌≢◌, ℕ, List, Ok, Err, Some, None, ◌++◌, OnOk, OnErr, IfErr, length};
 ghost use Rattle.cx_frame.specs.Frames.{IsAnnounceable};
 ghost use Rattle.cx_frame.specs.Preambles.{IsAllowed};
 ghost use Rattle.cx_frame.specs.declared.frame.Frame.{Frame};
 ghost use Rattle.cx_secure.specs.Plains.{secure_text};
 ghost use Rattle.cx_secure.specs.Sealings.{connection_key, put_refusal, unless_kept};
+ghost use Rattle.cx_secure.specs.declared.refusals.SecureRefusal.{SecureRefusal};
+ghost use Rattle.cx_secure.specs.declared.refusals.SecureRefusal.TheVariants.{OutOfMemory};
 ghost use Rattle.cx_stream.specs.Fronts.{frame_in, given_by};
+ghost use Rattle.cx_stream.specs.Openings.{front_contents, open_contents};
 ghost use Rattle.cx_stream.specs.SecureStreams.{AgreesSecure, BeginsNoSecure, Holds, IsPutFault, IsSecure, KeepsFault, PassesGiven, after_put, ahead, secure_frame_at};
 ghost use Rattle.cx_stream.specs.Turning.{Finished, Readied};
 
 use crate::faults::StreamFault;
 use crate::stages::{Ended, Secure};
-use cx_base::Blob;
+use cx_base::{Blob, Items};
 use cx_frame::Frame;
 use cx_secure::{Head, SecureRefusal, rest_len};
 use std::alloc::{AllocError, Global};
@@ -38,8 +41,13 @@ impl Secure {
         self.rest.extend_from_slice(bytes)
     }
 
-    /// Gives the next frame, where all of it is there. A fault is answered again by every later call; want of memory changes nothing.
-    pub fn turn(&mut self, alloc: Global) -> Result<Option<Frame>, StreamFault>
+    /// Gives the next frame, where all of it is there. A fault is answered again by every later call; want of memory changes nothing of the
+    /// stream. The content of each part that opened, its nonce and its plain bytes, is handed out once, with the frame or the fault.
+    pub fn turn(
+        &mut self,
+        alloc: Global,
+        opened: &mut Items<Blob>,
+    ) -> Result<Option<Frame>, StreamFault>
         // It is the frame at the front of what stands behind the frames that were given, or the first check of it that fails; a fault that is
         // kept goes before.
         ensures exact { AgreesSecure result (unless_kept self.old.sealing.kept (frame_in (secure_frame_at (ahead self.old)))) }
@@ -49,17 +57,30 @@ impl Secure {
         ensures holds { (fed : List ℕ) (given : List Frame) → Holds (ahead self.old) fed given → Holds (ahead self.new) fed (given ++ given_by result) }
         // Nothing is given where no whole frame is there.
         ensures none { result ≡ Ok None → BeginsNoSecure (ahead self.old) }
+        // What opened is handed out where a frame is given or refused, but for want of memory.
+        ensures opened { self.old.sealing.kept ≡ None → result ≢ Ok None → result ≢ Err (StreamFault.Secure OutOfMemory)
+            → opened.new ≡ opened.old ++ front_contents (ahead self.old) }
+        ensures waits { result ≡ Ok None → opened.new ≡ opened.old }
+        ensures still { (refusal : SecureRefusal) → self.old.sealing.kept ≡ Some refusal → opened.new ≡ opened.old }
     {
-        self.next(alloc)
+        self.next(alloc, opened)
     }
 
-    fn next(&mut self, alloc: Global) -> Result<Option<Frame>, StreamFault>
+    fn next(
+        &mut self,
+        alloc: Global,
+        opened: &mut Items<Blob>,
+    ) -> Result<Option<Frame>, StreamFault>
         ensures exact { AgreesSecure result (unless_kept self.old.sealing.kept (frame_in (secure_frame_at (ahead self.old)))) }
         ensures passes { PassesGiven (ahead self.old) (ahead self.new) result }
         ensures kept { KeepsFault self.old.sealing.kept self.new.sealing.kept result }
+        ensures opened { self.old.sealing.kept ≡ None → result ≢ Ok None → result ≢ Err (StreamFault.Secure OutOfMemory)
+            → opened.new ≡ opened.old ++ front_contents (ahead self.old) }
+        ensures waits { result ≡ Ok None → opened.new ≡ opened.old }
+        ensures still { (refusal : SecureRefusal) → self.old.sealing.kept ≡ Some refusal → opened.new ≡ opened.old }
     {
-        match self.ready() {
-            Ok(Some(head)) => match self.finish(alloc, head) {
+        match self.ready(alloc, opened) {
+            Ok(Some(head)) => match self.finish(alloc, head, opened) {
                 Ok(given) => Ok(given),
                 Err(refusal) => Err(StreamFault::Secure(refusal)),
             },
@@ -68,9 +89,17 @@ impl Secure {
         }
     }
 
-    // The head of the next frame, where it is there: it is opened once.
-    fn ready(&mut self) -> Result<Option<Head>, SecureRefusal>
-        ensures { Readied self.old self.new result }
+    // The head of the next frame, where it is there: it is opened once. What opened of one that is refused is handed out.
+    fn ready(
+        &mut self,
+        alloc: Global,
+        opened: &mut Items<Blob>,
+    ) -> Result<Option<Head>, SecureRefusal>
+        ensures readied { Readied self.old self.new result }
+        ensures handed { (refusal : SecureRefusal) → self.old.sealing.kept ≡ None → result ≡ Err refusal → refusal ≢ OutOfMemory
+            → opened.new ≡ opened.old ++ front_contents (ahead self.old) }
+        ensures read { OnOk result (opened.new ≡ opened.old) }
+        ensures still { (refusal : SecureRefusal) → self.old.sealing.kept ≡ Some refusal → opened.new ≡ opened.old }
     {
         if let Some(refusal) = self.sealing.kept() {
             return Err(refusal);
@@ -81,7 +110,7 @@ impl Secure {
         let Some((front, _)) = self.rest.as_slice().split_first_chunk::<HEAD>() else {
             return Ok(None);
         };
-        match self.sealing.open_head(front) {
+        match self.sealing.open_head(alloc, front, opened) {
             Ok(head) => {
                 self.rest.advance(HEAD);
                 self.head = Some(head);
@@ -91,18 +120,27 @@ impl Secure {
         }
     }
 
-    // The frame behind its head, where it is there.
-    fn finish(&mut self, alloc: Global, head: Head) -> Result<Option<Frame>, SecureRefusal>
+    // The frame behind its head, where it is there. What opened of the whole frame is handed out.
+    fn finish(
+        &mut self,
+        alloc: Global,
+        head: Head,
+        opened: &mut Items<Blob>,
+    ) -> Result<Option<Frame>, SecureRefusal>
         requires allowed { IsAllowed 1048576 head.preamble }
         requires free { self.old.sealing.kept ≡ None }
-        ensures { Finished self.old self.new head result }
+        ensures finished { Finished self.old self.new head result }
+        ensures handed { result ≢ Ok None → result ≢ Err OutOfMemory → opened.new ≡ opened.old ++ open_contents self.old head }
+        ensures waits { result ≡ Ok None → opened.new ≡ opened.old }
     {
         let length = rest_len(&head);
         if self.rest.len() < length {
             return Ok(None);
         }
         let (behind, _) = self.rest.as_slice().split_at(length);
-        match self.sealing.open_rest(alloc, head, behind) {
+        let content = self.sealing.head_content(alloc, &head)?;
+        opened.push(alloc, content)?;
+        match self.sealing.open_rest(alloc, head, behind, opened) {
             Ok(frame) => {
                 self.rest.advance(length);
                 self.head = None;

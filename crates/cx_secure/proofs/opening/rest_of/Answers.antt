@@ -29,8 +29,9 @@ pub frame_at-requires-clause-room : goal.frame_at-requires-clause-room
 frame_at-requires-clause-room c =
     let p = c.args.head.now.preamble in
     let e : length c.split_at.result.0.now ≡ tagged (second_len p) = c.split_at.ensures.front_len ∙ c.tagged-front.ensures.value ∙ ap tagged c.second_len.ensures.value in
-    let second : length c.in_ok-second.second ≡ second_len p = c.in_ok-second.ensures.len ∙ ap (λ n. n - 16) e ∙ tagged_text (second_len p) in
-    let seen : length c.bytes.result.now ≡ length c.in_ok-second.second = ap length c.bytes.ensures in
+    let len : length c.in-Some.second ≡ length c.split_at.result.0.now - 16 = rw c.in-Some.is at c.in_ok-second.ensures.len in
+    let second : length c.in-Some.second ≡ second_len p = len ∙ ap (λ n. n - 16) e ∙ tagged_text (second_len p) in
+    let seen : length c.bytes.result.now ≡ length c.in-Some.second = ap length c.bytes.ensures in
     omega (arith, second_room p, c.in_ok-room.ensures.len, second, seen)
 
 pub frame_at-requires-clause-last : goal.frame_at-requires-clause-last
@@ -39,7 +40,8 @@ frame_at-requires-clause-last c =
     let e : length c.split_at.result.1.now ≡ tagged (last_len p) =
     behind_len p (length c.args.bytes.now) (length c.split_at.result.1.now) c.requires.len (let front : c.tagged-front.result ≡ tagged (second_len p) = c.tagged-front.ensures.value ∙ ap tagged c.second_len.ensures.value in omega (arith, c.split_at.ensures.back_len, front))
     in
-    ap length c.bytes-2.ensures ∙ c.in_ok-last.ensures.len ∙ ap (λ n. n - 16) e ∙ tagged_text (last_len p)
+    let len : length c.in-Some-last.last ≡ length c.split_at.result.1.now - 16 = rw c.in-Some-last.is at c.in_ok-last.ensures.len in
+    ap length c.bytes-2.ensures ∙ len ∙ ap (λ n. n - 16) e ∙ tagged_text (last_len p)
 
 pub returns-clause-inline : goal.returns-clause-inline
 returns-clause-inline c =

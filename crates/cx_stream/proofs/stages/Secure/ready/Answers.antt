@@ -1,18 +1,20 @@
-use Rattle.std.proofs.Common.{◌≡◌, ◌<◌, ◌++◌, ℕ, List, Ok, Result, Err, length, take, drop, refl, sym, subst, ap, ◌∙◌, arith, length-take}
+use Rattle.std.proofs.Common.{◌≡◌, ◌<◌, ◌++◌, ℕ, List, Option, Ok, Result, Err, length, take, drop, refl, sym, subst, ap, ◌∙◌, arith, length-take}
 use Rattle.std.proofs.lemmas.List.{take-append-drop}
 use Rattle.cx_secure.specs.declared.sealing.Head.{Head}
 use Rattle.cx_secure.specs.declared.sealing.Sealing.{Sealing}
 use Rattle.cx_secure.specs.declared.refusals.SecureRefusal.{SecureRefusal}
+use Rattle.cx_secure.specs.declared.refusals.SecureRefusal.TheVariants.{OutOfMemory}
 use Rattle.cx_stream.specs.Held.{IsOpen}
+use Rattle.cx_stream.proofs.Contents.{err_is, refused_front}
 use Rattle.cx_stream.proofs.SecureTurns.{already_open, head_read, none_ready, now_open, refuses_head, steady_now}
 use Rattle.cx_stream.proofs.stages.Secure.ready.Goals as goal
 
-pub returns-in-Some-head : goal.returns-in-Some-head
-returns-in-Some-head c =
+pub returns-in-Some-head-clause-readied : goal.returns-in-Some-head-clause-readied
+returns-in-Some-head-clause-readied c =
     already_open c.args.self.now c.self.inside.sealing c.self.inside.head c.in-Some-head.head c.self.inside.rest.items c.self.view_is c.in-Some-head.is (sym c.in_default.ensures) c.self.invariant
 
-pub returns-in_default-split_first_chunk : goal.returns-in_default-split_first_chunk
-returns-in_default-split_first_chunk c =
+pub returns-in_default-split_first_chunk-clause-readied : goal.returns-in_default-split_first_chunk-clause-readied
+returns-in_default-split_first_chunk-clause-readied c =
     let short : length c.self.inside.rest.items < 96 = omega (arith, ap length c.as_slice.ensures, c.in_default-split_first_chunk.ensures.cases) in
     let both = none_ready c.args.self.now c.self.inside.sealing c.self.inside.head c.self.inside.rest.items c.self.view_is c.in_default-head.is (sym c.in_default.ensures) short in
     (refl, both.0, both.1)
@@ -26,8 +28,8 @@ invariant_of-self c =
     subst (λ (x : Sealing). IsOpen x c.in-Ok.head) (sym c.in-Ok.ensures.after)
     (steady_now c.self.inside.sealing front c.in-Ok.head len (head_read c.self.inside.sealing front answer (sym c.in_default.ensures) c.in-Ok.ensures.exact) c.in-Ok.ensures.found)
 
-pub returns-in-Ok : goal.returns-in-Ok
-returns-in-Ok c =
+pub returns-in-Ok-clause-readied : goal.returns-in-Ok-clause-readied
+returns-in-Ok-clause-readied c =
     let parts = c.in-Some-split_first_chunk.ensures.cases in
     let front : List ℕ = c.in-Some-split_first_chunk.front.now in
     let left : List ℕ = c.advance.new.self.items in
@@ -40,14 +42,24 @@ returns-in-Ok c =
     bytes_are len (sym c.in_default.ensures) c.in-Ok.ensures.after
     (head_read c.self.inside.sealing front answer (sym c.in_default.ensures) c.in-Ok.ensures.exact) c.in-Ok.ensures.found
 
-pub returns-in-Err : goal.returns-in-Err
-returns-in-Err c =
+pub returns-in-Err-clause-readied : goal.returns-in-Err-clause-readied
+returns-in-Err-clause-readied c =
     let parts = c.in-Some-split_first_chunk.ensures.cases in
     let rest : List ℕ = c.self.inside.rest.items in
     let front : List ℕ = c.in-Some-split_first_chunk.front.now in
     let len : length front ≡ 96 = omega (arith, ap length parts.0, length-take 96 c.as_slice.result.now, parts.2) in
-    let answer : Result Head SecureRefusal = Err c.in-Err.refusal in
     let bytes_are : rest ≡ front ++ drop 96 rest = sym (take-append-drop 96 rest) ∙ ap (λ b. b ++ drop 96 rest) (ap (take 96) (sym c.as_slice.ensures) ∙ sym parts.0) in
     refuses_head c.args.self.now _ c.self.inside.sealing c.open_head.new.self c.self.inside.head rest front (drop 96 rest) c.in-Err.refusal c.self.view_is c.in_default-head.is refl
-    bytes_are len (sym c.in_default.ensures) c.in-Err.ensures.after
-    (head_read c.self.inside.sealing front answer (sym c.in_default.ensures) c.in-Err.ensures.exact)
+    bytes_are len (sym c.in_default.ensures) c.in-Err.ensures.after c.in-Err.ensures.exact
+
+pub returns-in-Err-clause-handed : goal.returns-in-Err-clause-handed
+returns-in-Err-clause-handed c = λ refusal free is not.
+    let parts = c.in-Some-split_first_chunk.ensures.cases in
+    let rest : List ℕ = c.self.inside.rest.items in
+    let front : List ℕ = c.in-Some-split_first_chunk.front.now in
+    let len : length front ≡ 96 = omega (arith, ap length parts.0, length-take 96 c.as_slice.result.now, parts.2) in
+    let bytes_are : rest ≡ front ++ drop 96 rest = sym (take-append-drop 96 rest) ∙ ap (λ b. b ++ drop 96 rest) (ap (take 96) (sym c.as_slice.ensures) ∙ sym parts.0) in
+    let memory : c.in-Err.refusal ≡ OutOfMemory → ⊥ = λ want. not (sym (err_is {X = Option Head} c.in-Err.refusal refusal is) ∙ want) in
+    c.in-Err.ensures.handed c.in-Err.refusal (sym c.in_default.ensures) refl memory
+    ∙ ap (λ (cs : List (List ℕ)). c.args.opened.now ++ cs)
+    (sym (refused_front c.args.self.now c.self.inside.sealing c.self.inside.head rest front (drop 96 rest) c.in-Err.refusal c.self.view_is c.in_default-head.is bytes_are len (sym c.in_default.ensures) memory c.in-Err.ensures.exact))
