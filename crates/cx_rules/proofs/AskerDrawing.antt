@@ -99,7 +99,7 @@ logs-challenge a asked (Err why) = tt
 logs-challenge a asked (Ok server) =
     let ask : Ask = record { secret = a.own.secret; old = unexpired a.reading a.own.holdings.auth; other_keys = asked } in
     logs-proves a server.challenge (plain_frame (control 5 auth_request_more_layout.form
-        (record { payload = authenticate_layout.form.text (authenticate ask server.challenge (challenge_of a.draw)) })))
+    (record { payload = authenticate_layout.form.text (authenticate ask server.challenge (challenge_of a.draw)) })))
 
 logs-reply_more : (a : AskerArrival) (asked : ℕ) (more : Result AuthReplyMore BytesFault) → Logs a (on_reply_more a asked more)
 logs-reply_more a asked (Err why) = tt
@@ -146,7 +146,7 @@ logs-proved a f = by_test (f.tag == 3)
 
 logs-ident : (a b : AskerArrival) (s : Secured) (r : Result SealedFrame BytesFault) → b.draw ≡ a.draw
     → AskerLogsLink b (secure_sent a s AwaitsIdent (signature_found s ∷ Drawn (draw.Cookie (cookie_of b.draw)) ∷ []) r).seals
-        (secure_sent a s AwaitsIdent (signature_found s ∷ Drawn (draw.Cookie (cookie_of b.draw)) ∷ []) r).link
+    (secure_sent a s AwaitsIdent (signature_found s ∷ Drawn (draw.Cookie (cookie_of b.draw)) ∷ []) r).link
 logs-ident a b s (Ok sealed) e = inr (inl refl)
 logs-ident a b s (Err why) e = tt
 
@@ -157,7 +157,7 @@ logs-signature a s login (Ok found) = by_test (is_signed s found.signature)
     by_test : (right : Bool) → Logs a (if right then identifies a s login else refuses a (reason.Login SignatureWrong) [])
     by_test true =
         logs-ident (record a { own = record a.own { holdings = held_login a.own.holdings login.gid login.opened } }) a s
-            (secure_frame s.keys (client_ident a.own login.gid (cookie_of a.draw))) refl
+        (secure_frame s.keys (client_ident a.own login.gid (cookie_of a.draw))) refl
     by_test false = tt
 
 logs-server_ident : (a : AskerArrival) (s : Secured) (ident : Result ServerIdent BytesFault) → Logs a (on_server_ident a s ident)
@@ -228,6 +228,6 @@ asker-logs a (AwaitsChallenge asked) = logs-frame a (λ b f. while_challenged b 
 asker-logs a AwaitsDone = logs-frame a (λ b f. while_proved b f) (plain_next a.link) (λ b f. logs-proved b f)
 asker-logs a (AwaitsSignature s login) =
     logs-secure_frame a s (λ b t f. on_signature b t login (due 7 auth_signature_layout.form f)) (secure_next s.keys a.link)
-        (λ b t f. logs-signature b t login (due 7 auth_signature_layout.form f))
+    (λ b t f. logs-signature b t login (due 7 auth_signature_layout.form f))
 asker-logs a (AwaitsIdent s) = logs-secure_frame a s (λ b t f. while_identified b t f) (secure_next s.keys a.link) (λ b t f. logs-identified b t f)
 asker-logs a (Open s) = logs-secure_frame a s (λ b t f. on_upkeep b t Open f) (secure_next s.keys a.link) (λ b t f. logs-upkeep b t f)

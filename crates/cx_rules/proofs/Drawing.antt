@@ -105,7 +105,7 @@ finished-joined session sent secret (Ok done) (Ok signed) h = (h, refl)
 pub finished-by : {S : Type 0} (link : Link S) (session secret : List ℕ) (done : Frame) → IsFinishedBy session secret (finished link session secret done)
 finished-by link session secret done =
     finished-joined session link.sent secret (plain_frame done) (signed_frame (acceptor_keys secret) session (take link.taken link.received))
-        (keeps-signing (take 16 secret) session (take link.taken link.received) (secure_frame (acceptor_keys secret) _) (keeps-secure_frame (acceptor_keys secret) _))
+    (keeps-signing (take 16 secret) session (take link.taken link.received) (secure_frame (acceptor_keys secret) _) (keeps-secure_frame (acceptor_keys secret) _))
 
 -- ---- entries that are logged stay logged
 
@@ -126,9 +126,12 @@ stage-behind a opened seals AwaitsBanner h = tt
 stage-behind a opened seals AwaitsHello h = tt
 stage-behind a opened seals AwaitsRequest h = tt
 stage-behind a opened seals (AwaitsProof offered) h = (h.0, logged-behind (draw.Challenge (challenge_of a.draw)) opened seals h.1)
-stage-behind a opened seals (AwaitsSignature s entity) h =
-    (h.0, logged-behind (draw.Connection (connection_of a.draw) entity.name) opened seals h.1, h.2,
-        logged-behind (draw.Session (session_of Auth a.draw) entity.name) opened seals h.3)
+stage-behind a opened seals (AwaitsSignature s entity) h = (
+  h.0,
+  logged-behind (draw.Connection (connection_of a.draw) entity.name) opened seals h.1,
+  h.2,
+  logged-behind (draw.Session (session_of Auth a.draw) entity.name) opened seals h.3,
+)
 stage-behind a opened seals (AwaitsIdent s entity) h = h
 stage-behind a opened seals (Open s entity) h = h
 
@@ -165,8 +168,8 @@ logs-challenges a hello (Some principal) =
     let challenge = challenge_of a.draw in
     let offer : Offer = record { name = hello.name; secret = principal.key.secret; challenge = challenge } in
     logs-plain a (AwaitsProof (record { offer = offer; gid = hello.gid })) (Drawn (draw.Challenge challenge) ∷ [])
-        (plain_frame (control 4 auth_reply_more_layout.form (record { payload = server_challenge_layout.form.text (record { challenge = challenge }) })))
-        (refl, inl refl)
+    (plain_frame (control 4 auth_reply_more_layout.form (record { payload = server_challenge_layout.form.text (record { challenge = challenge }) })))
+    (refl, inl refl)
 
 logs-login_hello : (a : MonitorArrival) (hello : Result LoginHello BytesFault) → Logs a (on_login_hello a hello)
 logs-login_hello a (Err why) = tt
@@ -214,11 +217,12 @@ logs-hands_out a grant tickets sealed save (Err why) c s f = tt
 logs-hands_out a grant tickets sealed save (Ok done) c s f =
     let name = grant.proven.offer.name in
     let connection = draw.Connection (connection_of a.draw) name in
-    let session = draw.Session (session_of Auth a.draw) name in
-    (f.0,
-        some-right (λ logged. logged ≡ Drawn connection) grant.seals (sealed ++ done.seals) (some-left (λ logged. logged ≡ Drawn connection) sealed done.seals c),
-        f.1,
-        some-right (λ logged. logged ≡ Drawn session) grant.seals (sealed ++ done.seals) (some-left (λ logged. logged ≡ Drawn session) sealed done.seals s))
+    let session = draw.Session (session_of Auth a.draw) name in (
+      f.0,
+      some-right (λ logged. logged ≡ Drawn connection) grant.seals (sealed ++ done.seals) (some-left (λ logged. logged ≡ Drawn connection) sealed done.seals c),
+      f.1,
+      some-right (λ logged. logged ≡ Drawn session) grant.seals (sealed ++ done.seals) (some-left (λ logged. logged ≡ Drawn session) sealed done.seals s),
+    )
 
 drawn-for : (session key : List ℕ) (name other : Name) → session ≡ key → name ≡ other → Drawn (draw.Session session name) ≡ Drawn (draw.Session key other)
 drawn-for session key name other a b = ap (λ (k : List ℕ). Drawn (draw.Session k name)) a ∙ ap (λ (n : Name). Drawn (draw.Session key n)) b
@@ -236,10 +240,10 @@ logs-issues a grant principal (Ok (ticket ∷ tickets)) h =
     let last : List SealEntry = Drawn (draw.Connection secret name) ∷ Sealed (record { key = session; kind = kind.Session; content = content }) ∷ [] in
     let is : Drawn (draw.Session ticket.session ticket.entity) ≡ Drawn (draw.Session session name) = drawn-for ticket.session session ticket.entity name h.0 h.1 in
     logs-hands_out a grant (ticket ∷ tickets) (told ++ last) (changed a.own.saved a.own.server.state)
-        (finished a.link session secret (auth_done grant.gid (ticket ∷ tickets) (sealed session content)))
-        (some-right (λ logged. logged ≡ Drawn (draw.Connection secret name)) told last (inl refl))
-        (inl is)
-        (finished-by a.link session secret (auth_done grant.gid (ticket ∷ tickets) (sealed session content)))
+    (finished a.link session secret (auth_done grant.gid (ticket ∷ tickets) (sealed session content)))
+    (some-right (λ logged. logged ≡ Drawn (draw.Connection secret name)) told last (inl refl))
+    (inl is)
+    (finished-by a.link session secret (auth_done grant.gid (ticket ∷ tickets) (sealed session content)))
 
 logs-issues_to : (a : MonitorArrival) (grant : Granted) (principal : Option Principal) → Logs a (issues_to a grant principal)
 logs-issues_to a grant None = tt
@@ -248,8 +252,8 @@ logs-issues_to a grant (Some principal) =
     let ask = λ (service : EntityType). asking name service grant.gid (session_of Auth a.draw) a.reading a.draw in
     let rest = filter (is_asked grant.proven.ask.other_keys) (Mds ∷ Osd ∷ Mgr ∷ []) in
     logs-issues a grant principal (issued_for a.own.server ask (services_for grant.proven.ask.other_keys))
-        (auth-before name a.draw (issued a.own.server (ask Auth)) (issued_for a.own.server ask rest)
-            (auth-issued a.own.server name grant.gid (session_of Auth a.draw) a.reading a.draw))
+    (auth-before name a.draw (issued a.own.server (ask Auth)) (issued_for a.own.server ask rest)
+    (auth-issued a.own.server name grant.gid (session_of Auth a.draw) a.reading a.draw))
 
 logs-numbers : (a : MonitorArrival) (proven : Proven) (seals : List SealEntry) (n : Result Numbered LoginFault) → Logs a (numbers a proven seals n)
 logs-numbers a proven seals (Err why) = tt
@@ -262,7 +266,7 @@ logs-proves a hello_gid (Ok proven) =
     let old = old_ticket server.state.auth proven.ask.old_ticket in
     let seals = proof_found proven.offer proven.ask.client_challenge ∷ rotation_drawn a.reading a.draw a.own.server.state in
     logs-numbers (with_server a server) proven (seals ++ old.seals)
-        (numbered server (reclaimed hello_gid proven.ask.version (kept_gid proven.offer.name a.reading old.value)))
+    (numbered server (reclaimed hello_gid proven.ask.version (kept_gid proven.offer.name a.reading old.value)))
 
 logs-authenticate : (a : MonitorArrival) (offered : Offered) (ask : Result Authenticate BytesFault) → Logs a (on_authenticate a offered ask)
 logs-authenticate a offered (Err why) = tt
@@ -306,7 +310,7 @@ logs-client_ident a s entity (Ok ident) h = by_test (ident.required == 0)
     by_test : (plain : Bool) → Logs a (if plain then sends_secure a s (λ behind. Open behind entity) [] (server_ident a.own.address) else misses a s ident.required)
     by_test true =
         logs-secure a s (λ behind. Open behind entity) (secure_frame s.keys (server_ident a.own.address)) (keeps-secure_frame s.keys (server_ident a.own.address))
-            (λ t seals e. key-moved a.link.stage s.keys.key t.keys.key e h)
+        (λ t seals e. key-moved a.link.stage s.keys.key t.keys.key e h)
     by_test false = logs-missing a ident.required (secure_frame s.keys (control 10 ident_missing_features_layout.form (record { features = ident.required })))
 
 logs-reconnect : (a : MonitorArrival) (s : Secured) (entity : Entity) (reconnect : Result SessionReconnect BytesFault) → IsUnder a s → Logs a (on_session_reconnect a s entity reconnect)
@@ -415,34 +419,34 @@ logs-secure_frame a s rows (Next (link, f, keys) opened) h u each =
     let row = rows (at a link) (under s keys) f in
     let here : has_key link.stage s.keys.key = subst (λ (stage : MonitorStage). has_key stage s.keys.key) (sym h.0) u in
     logs-moved a link (opened ++ row.seals) row.link h.0
-        (logs-with_opened (at a link) opened row.seals row.link (each (at a link) (under s keys) f (key-moved link.stage s.keys.key keys.key h.1 here)))
+    (logs-with_opened (at a link) opened row.seals row.link (each (at a link) (under s keys) f (key-moved link.stage s.keys.key keys.key h.1 here)))
 
 turned-logs : (a : MonitorArrival) (stage : MonitorStage) → a.link.stage ≡ stage → LogsTurn a (turned_at a stage)
 turned-logs a AwaitsBanner e = logs-banner a (banner_next a.link) (banner-stays a.link (banner_at (ahead_of a.link)))
 turned-logs a AwaitsHello e =
     logs-frame a (λ b f. on_hello b (due 1 hello_layout.form f)) (plain_next a.link) (plain-stays a.link (plain_frame_at (ahead_of a.link)))
-        (λ b f. logs-hello b (due 1 hello_layout.form f))
+    (λ b f. logs-hello b (due 1 hello_layout.form f))
 turned-logs a AwaitsRequest e =
     logs-frame a (λ b f. on_auth_request on_request_payload b (due 2 auth_request_layout.form f)) (plain_next a.link) (plain-stays a.link (plain_frame_at (ahead_of a.link)))
-        (λ b f. logs-request b (due 2 auth_request_layout.form f))
+    (λ b f. logs-request b (due 2 auth_request_layout.form f))
 turned-logs a (AwaitsProof offered) e =
     logs-frame a (λ b f. on_auth_request_more b offered (due 5 auth_request_more_layout.form f)) (plain_next a.link) (plain-stays a.link (plain_frame_at (ahead_of a.link)))
-        (λ b f. logs-request_more b offered (due 5 auth_request_more_layout.form f))
+    (λ b f. logs-request_more b offered (due 5 auth_request_more_layout.form f))
 turned-logs a (AwaitsSignature s entity) e =
     logs-secure_frame a s (λ b t f. on_signature b t entity (due 7 auth_signature_layout.form f)) (secure_next s.keys a.link)
-        (keys-stay s.keys a.link (opened_parts (sealed_ahead s.keys a.link)) (secure_frame_at (sealed_ahead s.keys a.link)))
-        (subst (λ (stage : MonitorStage). has_key stage s.keys.key) (sym e) refl)
-        (λ b t f u. logs-signature b t entity (due 7 auth_signature_layout.form f) u)
+    (keys-stay s.keys a.link (opened_parts (sealed_ahead s.keys a.link)) (secure_frame_at (sealed_ahead s.keys a.link)))
+    (subst (λ (stage : MonitorStage). has_key stage s.keys.key) (sym e) refl)
+    (λ b t f u. logs-signature b t entity (due 7 auth_signature_layout.form f) u)
 turned-logs a (AwaitsIdent s entity) e =
     logs-secure_frame a s (λ b t f. on_ident b t entity f) (secure_next s.keys a.link)
-        (keys-stay s.keys a.link (opened_parts (sealed_ahead s.keys a.link)) (secure_frame_at (sealed_ahead s.keys a.link)))
-        (subst (λ (stage : MonitorStage). has_key stage s.keys.key) (sym e) refl)
-        (λ b t f u. logs-ident b t entity f u)
+    (keys-stay s.keys a.link (opened_parts (sealed_ahead s.keys a.link)) (secure_frame_at (sealed_ahead s.keys a.link)))
+    (subst (λ (stage : MonitorStage). has_key stage s.keys.key) (sym e) refl)
+    (λ b t f u. logs-ident b t entity f u)
 turned-logs a (Open s entity) e =
     logs-secure_frame a s (λ b t f. on_upkeep b t (λ behind. Open behind entity) f) (secure_next s.keys a.link)
-        (keys-stay s.keys a.link (opened_parts (sealed_ahead s.keys a.link)) (secure_frame_at (sealed_ahead s.keys a.link)))
-        (subst (λ (stage : MonitorStage). has_key stage s.keys.key) (sym e) refl)
-        (λ b t f u. logs-upkeep b t entity f u)
+    (keys-stay s.keys a.link (opened_parts (sealed_ahead s.keys a.link)) (secure_frame_at (sealed_ahead s.keys a.link)))
+    (subst (λ (stage : MonitorStage). has_key stage s.keys.key) (sym e) refl)
+    (λ b t f u. logs-upkeep b t entity f u)
 
 pub monitor-logs : (a : MonitorArrival) → LogsTurn a (turned_at a a.link.stage)
 monitor-logs a = turned-logs a a.link.stage refl

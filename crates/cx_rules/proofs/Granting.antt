@@ -73,7 +73,7 @@ state_is s t e =
     let p5 = and_parts (same_generations s.osd t.osd) _ p4.1 in
     let p6 = and_parts (same_generations s.mgr t.mgr) (same_generations s.auth t.auth) p5.1 in
     state_of s t (eqb-true s.next_gid t.next_gid p1.0) (eqb-true s.life t.life p2.0) (eqb-true s.auth_life t.auth_life p3.0)
-        (generations_are s.mds t.mds p4.0) (generations_are s.osd t.osd p5.0) (generations_are s.mgr t.mgr p6.0) (generations_are s.auth t.auth p6.1)
+    (generations_are s.mds t.mds p4.0) (generations_are s.osd t.osd p5.0) (generations_are s.mgr t.mgr p6.0) (generations_are s.auth t.auth p6.1)
 
 saved_by : (test : Bool) (saved state : KeptState) → same_state state saved ≡ test
     → saved_behind saved (if test then None else Some state) ≡ state

@@ -77,7 +77,7 @@ challenges-quiet a hello (Some principal) =
     let offer : Offer = record { name = hello.name; secret = principal.key.secret; challenge = challenge } in
     let none : NoneOf IsEnvelopeSealed (Drawn (draw.Challenge challenge) ∷ []) = (λ x. x, tt) in
     quiet-sends_plain a (AwaitsProof (record { offer = offer; gid = hello.gid })) (Drawn (draw.Challenge challenge) ∷ [])
-        (control 4 auth_reply_more_layout.form (record { payload = server_challenge_layout.form.text (record { challenge = challenge }) })) none
+    (control 4 auth_reply_more_layout.form (record { payload = server_challenge_layout.form.text (record { challenge = challenge }) })) none
 
 login_hello-quiet : (a : MonitorArrival) (hello : Result LoginHello BytesFault) → Quiet a.own.saved (on_login_hello a hello)
 login_hello-quiet a (Err why) = quiet-refuses_bytes a why [] tt
@@ -102,8 +102,8 @@ reclaims-judged : (a : MonitorArrival) (hello_gid : ℕ) (proven : Proven) (seal
     → Ready seals → NoneOf IsEnvelopeSealed old.seals → Judged a.own.saved (reclaims a hello_gid proven seals old)
 reclaims-judged a hello_gid proven seals old r n =
     numbers-judged a proven (seals ++ old.seals)
-        (numbered a.own.server (reclaimed hello_gid proven.ask.version (kept_gid proven.offer.name a.reading old.value)))
-        (record { proven = some-append IsProofFound seals old.seals r.proven; none = none-append IsEnvelopeSealed seals old.seals r.none n })
+    (numbered a.own.server (reclaimed hello_gid proven.ask.version (kept_gid proven.offer.name a.reading old.value)))
+    (record { proven = some-append IsProofFound seals old.seals r.proven; none = none-append IsEnvelopeSealed seals old.seals r.none n })
 
 rotates-judged : (a : MonitorArrival) (hello_gid : ℕ) (proven : Proven) → Judged a.own.saved (rotates a hello_gid proven)
 rotates-judged a hello_gid proven =
@@ -113,7 +113,7 @@ rotates-judged a hello_gid proven =
     let first : IsProofFound found = refl in
     let ready : Ready (found ∷ drawn) = record { proven = inl first; none = (λ x. x, rotation-none a.reading a.draw a.own.server.state) } in
     reclaims-judged (with_server a server) hello_gid proven (found ∷ drawn) (old_ticket server.state.auth proven.ask.old_ticket) ready
-        (old-none (generation_key server.state.auth proven.ask.old_ticket.generation) proven.ask.old_ticket.blob)
+    (old-none (generation_key server.state.auth proven.ask.old_ticket.generation) proven.ask.old_ticket.blob)
 
 proves-judged : (a : MonitorArrival) (hello_gid : ℕ) (proven : Result Proven WrongProof) → Judged a.own.saved (proves a hello_gid proven)
 proves-judged a hello_gid (Err wrong) = inl (quiet-denies a 13 login.WrongProof [] tt)
@@ -243,29 +243,29 @@ by-front saved row (Next x opened) n h = h x opened n
 pub turned-judged : (a : MonitorArrival) (stage : MonitorStage) → TurnJudged a.own.saved (turned_at a stage)
 turned-judged a AwaitsBanner =
     by-front a.own.saved (λ link _. on_banner Mon (at a link)) (banner_next a.link) (banner-none a.link (banner_at (ahead_of a.link)))
-        (λ link opened n. inl (quiet-sends_plain (at a link) AwaitsHello [] (own_hello Mon) tt))
+    (λ link opened n. inl (quiet-sends_plain (at a link) AwaitsHello [] (own_hello Mon) tt))
 turned-judged a AwaitsHello =
     by-front a.own.saved (λ (link, f) _. on_hello (at a link) (due 1 hello_layout.form f)) (plain_next a.link) (plain-none a.link (plain_frame_at (ahead_of a.link)))
-        (λ (link, f) opened n. inl (hello-quiet (at a link) (due 1 hello_layout.form f)))
+    (λ (link, f) opened n. inl (hello-quiet (at a link) (due 1 hello_layout.form f)))
 turned-judged a AwaitsRequest =
     by-front a.own.saved (λ (link, f) _. on_auth_request on_request_payload (at a link) (due 2 auth_request_layout.form f)) (plain_next a.link)
-        (plain-none a.link (plain_frame_at (ahead_of a.link)))
-        (λ (link, f) opened n. inl (request-quiet (at a link) (due 2 auth_request_layout.form f)))
+    (plain-none a.link (plain_frame_at (ahead_of a.link)))
+    (λ (link, f) opened n. inl (request-quiet (at a link) (due 2 auth_request_layout.form f)))
 turned-judged a (AwaitsProof offered) =
     by-front a.own.saved (λ (link, f) _. on_auth_request_more (at a link) offered (due 5 auth_request_more_layout.form f)) (plain_next a.link)
-        (plain-none a.link (plain_frame_at (ahead_of a.link)))
-        (λ (link, f) opened n. request_more-judged (at a link) offered (due 5 auth_request_more_layout.form f))
+    (plain-none a.link (plain_frame_at (ahead_of a.link)))
+    (λ (link, f) opened n. request_more-judged (at a link) offered (due 5 auth_request_more_layout.form f))
 turned-judged a (AwaitsSignature s entity) =
     by-front a.own.saved (λ (link, f, keys) opened. with_opened opened (on_signature (at a link) (under s keys) entity (due 7 auth_signature_layout.form f)))
-        (secure_next s.keys a.link) (secure-next-none s.keys a.link)
-        (λ (link, f, keys) opened n. inl (quiet-with_opened a.own.saved opened (on_signature (at a link) (under s keys) entity (due 7 auth_signature_layout.form f)) n
-            (signature-quiet (at a link) (under s keys) entity (due 7 auth_signature_layout.form f))))
+    (secure_next s.keys a.link) (secure-next-none s.keys a.link)
+    (λ (link, f, keys) opened n. inl (quiet-with_opened a.own.saved opened (on_signature (at a link) (under s keys) entity (due 7 auth_signature_layout.form f)) n
+    (signature-quiet (at a link) (under s keys) entity (due 7 auth_signature_layout.form f))))
 turned-judged a (AwaitsIdent s entity) =
     by-front a.own.saved (λ (link, f, keys) opened. with_opened opened (on_ident (at a link) (under s keys) entity f))
-        (secure_next s.keys a.link) (secure-next-none s.keys a.link)
-        (λ (link, f, keys) opened n. inl (quiet-with_opened a.own.saved opened (on_ident (at a link) (under s keys) entity f) n (ident-quiet (at a link) (under s keys) entity f)))
+    (secure_next s.keys a.link) (secure-next-none s.keys a.link)
+    (λ (link, f, keys) opened n. inl (quiet-with_opened a.own.saved opened (on_ident (at a link) (under s keys) entity f) n (ident-quiet (at a link) (under s keys) entity f)))
 turned-judged a (Open s entity) =
     by-front a.own.saved (λ (link, f, keys) opened. with_opened opened (on_upkeep (at a link) (under s keys) (λ behind. Open behind entity) f))
-        (secure_next s.keys a.link) (secure-next-none s.keys a.link)
-        (λ (link, f, keys) opened n. inl (quiet-with_opened a.own.saved opened (on_upkeep (at a link) (under s keys) (λ behind. Open behind entity) f) n
-            (upkeep-quiet (at a link) (under s keys) (λ behind. Open behind entity) f)))
+    (secure_next s.keys a.link) (secure-next-none s.keys a.link)
+    (λ (link, f, keys) opened n. inl (quiet-with_opened a.own.saved opened (on_upkeep (at a link) (under s keys) (λ behind. Open behind entity) f) n
+    (upkeep-quiet (at a link) (under s keys) (λ behind. Open behind entity) f)))

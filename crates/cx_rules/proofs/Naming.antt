@@ -156,7 +156,7 @@ client-turn : (c : ClientNode) (n reading : ℕ) (draw : List ℕ) (found : Opti
 client-turn c n reading draw None e = record { sends = tt; shuts = tt }
 client-turn c n reading draw (Some link) e =
     names-turns c c (Turn n) (arrival (me c.own) c.own link reading draw)
-        (lifted_turn (with_asker c.own) (turned_at (arrival (me c.own) c.own.asker link reading draw) link.stage)) (found-there n c.links link e)
+    (lifted_turn (with_asker c.own) (turned_at (arrival (me c.own) c.own.asker link reading draw) link.stage)) (found-there n c.links link e)
 
 client-opens : (c : ClientNode) (n reading : ℕ) (draw : List ℕ) (p : Option Peer) → NamesLinks c (Opened n p) (opens c reading draw n p).out
 client-opens c n reading draw None = record { sends = tt; shuts = tt }

@@ -37,7 +37,7 @@ abbrev pub turn : ClientNode → ℕ → List ℕ → Option (Link Stage) → Ou
 turn c reading draw None = idles c
 turn c reading draw (Some link) =
     turns c (arrival (me c.own) c.own link reading draw)
-        (lifted_turn (with_asker c.own) (turned_at (arrival (me c.own) c.own.asker link reading draw) link.stage))
+    (lifted_turn (with_asker c.own) (turned_at (arrival (me c.own) c.own.asker link reading draw) link.stage))
 
 -- ---- Login
 

@@ -97,7 +97,7 @@ on_challenge a asked (Err why) = refuses_bytes a why []
 on_challenge a asked (Ok server) =
     let ask : Ask = record { secret = a.own.secret; old = unexpired a.reading a.own.holdings.auth; other_keys = asked } in
     proves a server.challenge (plain_frame (control 5 auth_request_more_layout.form
-        (record { payload = authenticate_layout.form.text (authenticate ask server.challenge (challenge_of a.draw)) })))
+    (record { payload = authenticate_layout.form.text (authenticate ask server.challenge (challenge_of a.draw)) })))
 
 abbrev pub on_reply_more : AskerArrival → ℕ → Result AuthReplyMore BytesFault → AskerRow
 on_reply_more a asked (Err why) = refuses_bytes a why []
@@ -120,14 +120,14 @@ abbrev pub signs : AskerArrival → Login → List SealEntry → Result SealedFr
 signs a login opened (Err why) = refuses_bytes a why opened
 signs a login opened (Ok sealed) =
     goes_on a (AwaitsSignature (record { keys = sealed.keys; session = login.opened.auth.session; covered = a.link.sent }) login)
-        sealed.bytes (opened ++ sealed.seals)
+    sealed.bytes (opened ++ sealed.seals)
 
 -- the parts of a LoginDone were opened, each to its record, or one wasn't
 abbrev pub on_opened : AskerArrival → ℕ → List SealEntry → Option LoggedIn → AskerRow
 on_opened a gid opened None = refuses a (reason.Login Unopened) opened
 on_opened a gid opened (Some logged_in) =
     signs a (record { gid = gid; opened = logged_in }) opened
-        (signed_frame (connector_keys logged_in.secret) logged_in.auth.session (take a.link.taken a.link.received))
+    (signed_frame (connector_keys logged_in.secret) logged_in.auth.session (take a.link.taken a.link.received))
 
 abbrev pub on_login_done : AskerArrival → ℕ → Result LoginDone BytesFault → AskerRow
 on_login_done a gid (Err why) = refuses_bytes a why []
@@ -159,7 +159,7 @@ abbrev pub identifies : AskerArrival → Secured → Login → AskerRow
 identifies a s login =
     let cookie = cookie_of a.draw in
     sends_secure (holding a (held_login a.own.holdings login.gid login.opened)) s AwaitsIdent
-        (signature_found s ∷ entry.Drawn (draw.Cookie cookie) ∷ []) (client_ident a.own login.gid cookie)
+    (signature_found s ∷ entry.Drawn (draw.Cookie cookie) ∷ []) (client_ident a.own login.gid cookie)
 
 abbrev pub on_signature : AskerArrival → Secured → Login → Result AuthSignature BytesFault → AskerRow
 on_signature a s login (Err why) = refuses_bytes a why []

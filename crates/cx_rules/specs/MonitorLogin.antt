@@ -49,7 +49,7 @@ challenges a hello (Some principal) =
     let challenge = challenge_of a.draw in
     let offer : Offer = record { name = hello.name; secret = principal.key.secret; challenge = challenge } in
     sends_plain a (AwaitsProof (record { offer = offer; gid = hello.gid })) (Drawn (draw.Challenge challenge) ∷ [])
-        (control 4 auth_reply_more_layout.form (record { payload = server_challenge_layout.form.text (record { challenge = challenge }) }))
+    (control 4 auth_reply_more_layout.form (record { payload = server_challenge_layout.form.text (record { challenge = challenge }) }))
 
 abbrev pub on_login_hello : MonitorArrival → Result LoginHello BytesFault → MonitorRow
 on_login_hello a (Err why) = refuses_bytes a why []
@@ -133,10 +133,10 @@ tells a grant principal tickets =
     let secret = connection_of a.draw in
     let content = connection_secret_layout.form.text (record { secret = secret }) in
     hands_out a grant tickets
-        (flat_map (ticket_seals a.own.server principal.key.secret session) tickets
-        ++ Drawn (draw.Connection secret grant.proven.offer.name) ∷ Sealed (record { key = session; kind = kind.Session; content = content }) ∷ [])
-        (changed a.own.saved a.own.server.state)
-        (finished a.link session secret (auth_done grant.gid tickets (sealed session content)))
+    (flat_map (ticket_seals a.own.server principal.key.secret session) tickets
+    ++ Drawn (draw.Connection secret grant.proven.offer.name) ∷ Sealed (record { key = session; kind = kind.Session; content = content }) ∷ [])
+    (changed a.own.saved a.own.server.state)
+    (finished a.link session secret (auth_done grant.gid tickets (sealed session content)))
 
 abbrev pub issues : MonitorArrival → Granted → Principal → Result (List Ticket) LoginFault → MonitorRow
 issues a grant principal (Err why) = denies a 13 why grant.seals
@@ -147,8 +147,8 @@ abbrev pub issues_to : MonitorArrival → Granted → Option Principal → Monit
 issues_to a grant None = denies a 13 login.UnknownEntity grant.seals
 issues_to a grant (Some principal) =
     issues a grant principal (issued_for a.own.server
-        (λ service. asking grant.proven.offer.name service grant.gid (session_of Auth a.draw) a.reading a.draw)
-        (services_for grant.proven.ask.other_keys))
+    (λ service. asking grant.proven.offer.name service grant.gid (session_of Auth a.draw) a.reading a.draw)
+    (services_for grant.proven.ask.other_keys))
 
 abbrev pub numbers : MonitorArrival → Proven → List SealEntry → Result Numbered LoginFault → MonitorRow
 numbers a proven seals (Err why) = denies a 13 why seals
@@ -159,15 +159,15 @@ numbers a proven seals (Ok n) =
 abbrev pub reclaims : MonitorArrival → ℕ → Proven → List SealEntry → Unlocked ServiceTicket → MonitorRow
 reclaims a hello_gid proven seals old =
     numbers a proven (seals ++ old.seals)
-        (numbered a.own.server (reclaimed hello_gid proven.ask.version (kept_gid proven.offer.name a.reading old.value)))
+    (numbered a.own.server (reclaimed hello_gid proven.ask.version (kept_gid proven.offer.name a.reading old.value)))
 
 -- the secrets are rotated, whatever comes of the login
 abbrev pub rotates : MonitorArrival → ℕ → Proven → MonitorRow
 rotates a hello_gid proven =
     let server = rotated_server a.reading a.draw a.own.server in
     reclaims (with_server a server) hello_gid proven
-        (proof_found proven.offer proven.ask.client_challenge ∷ rotation_drawn a.reading a.draw a.own.server.state)
-        (old_ticket server.state.auth proven.ask.old_ticket)
+    (proof_found proven.offer proven.ask.client_challenge ∷ rotation_drawn a.reading a.draw a.own.server.state)
+    (old_ticket server.state.auth proven.ask.old_ticket)
 
 abbrev pub proves : MonitorArrival → ℕ → Result Proven WrongProof → MonitorRow
 proves a hello_gid (Err wrong) = denies a 13 login.WrongProof []
