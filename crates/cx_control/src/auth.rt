@@ -30,7 +30,7 @@ impl Encoded for AuthRequest {
         Ok(AuthRequest {
             method,
             modes: take_items(alloc, cut, count)?,
-            payload: Blob::of(alloc, cut.take_blob()?)?,
+            payload: Blob::read(alloc, cut)?,
         })
     }
 
@@ -74,7 +74,7 @@ impl Encoded for AuthReplyMore {
 
     fn read(alloc: Global, cut: &mut Cut<'_>) -> Result<AuthReplyMore, ReadRefusal> {
         Ok(AuthReplyMore {
-            payload: Blob::of(alloc, cut.take_blob()?)?,
+            payload: Blob::read(alloc, cut)?,
         })
     }
 
@@ -115,7 +115,7 @@ impl Encoded for AuthRequestMore {
 
     fn read(alloc: Global, cut: &mut Cut<'_>) -> Result<AuthRequestMore, ReadRefusal> {
         Ok(AuthRequestMore {
-            payload: Blob::of(alloc, cut.take_blob()?)?,
+            payload: Blob::read(alloc, cut)?,
         })
     }
 
@@ -160,7 +160,7 @@ impl Encoded for AuthDone {
         Ok(AuthDone {
             gid: cut.take_u64()?,
             mode: cut.take_u32()?,
-            payload: Blob::of(alloc, cut.take_blob()?)?,
+            payload: Blob::read(alloc, cut)?,
         })
     }
 

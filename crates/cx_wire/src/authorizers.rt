@@ -30,8 +30,8 @@ impl Encoded for Authorizer {
         Ok(Authorizer {
             gid: cut.take_u64()?,
             service: cut.take_kind()?,
-            ticket: cut.take_ticket()?.own(alloc)?,
-            authorize: Blob::of(alloc, cut.take_blob()?)?,
+            ticket: TicketBlob::read(alloc, cut)?,
+            authorize: Blob::read(alloc, cut)?,
         })
     }
 
@@ -73,7 +73,7 @@ impl Encoded for AuthorizeChallenge {
 
     fn read(alloc: Global, cut: &mut Cut<'_>) -> Result<AuthorizeChallenge, ReadRefusal> {
         Ok(AuthorizeChallenge {
-            sealed: Blob::of(alloc, cut.take_blob()?)?,
+            sealed: Blob::read(alloc, cut)?,
         })
     }
 
@@ -117,7 +117,7 @@ impl Encoded for AuthorizeReply {
 
     fn read(alloc: Global, cut: &mut Cut<'_>) -> Result<AuthorizeReply, ReadRefusal> {
         Ok(AuthorizeReply {
-            sealed: Blob::of(alloc, cut.take_blob()?)?,
+            sealed: Blob::read(alloc, cut)?,
         })
     }
 

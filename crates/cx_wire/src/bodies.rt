@@ -94,7 +94,7 @@ impl Encoded for Reply {
                 let tickets = take_chain(alloc, cut, Some(EntityType::Auth), count)?;
                 Ok(Reply::Tickets(tickets))
             }
-            ROTATING => Ok(Reply::Rotating(Blob::of(alloc, cut.take_blob()?)?)),
+            ROTATING => Ok(Reply::Rotating(Blob::read(alloc, cut)?)),
             _ => Err(ReadRefusal::Fault(ReadFault::BadField(place))),
         }
     }

@@ -27,7 +27,7 @@ impl Encoded for LoginHello {
     fn read(alloc: Global, cut: &mut Cut<'_>) -> Result<LoginHello, ReadRefusal> {
         cut.take_fixed_u8(10)?;
         Ok(LoginHello {
-            name: cut.take_name()?.own(alloc)?,
+            name: EntityName::read(alloc, cut)?,
             gid: cut.take_u64()?,
         })
     }
@@ -121,7 +121,7 @@ impl Encoded for Authenticate {
             version,
             client_challenge: cut.take_u64()?,
             key: cut.take_u64()?,
-            old_ticket: cut.take_ticket()?.own(alloc)?,
+            old_ticket: TicketBlob::read(alloc, cut)?,
             other_keys: cut.take_u32()?,
         })
     }
@@ -176,7 +176,7 @@ impl Encoded for LoginDone {
         let count = cut.take_count(1, u32::MAX)?;
         Ok(LoginDone {
             tickets: take_chain(alloc, cut, None, count)?,
-            connection_secret: Blob::of(alloc, cut.take_blob()?)?,
+            connection_secret: Blob::read(alloc, cut)?,
         })
     }
 

@@ -5,7 +5,8 @@ ghost use Rattle.cx_wire.specs.Services.{rank, follows, ticket_part_layout, behi
 
 use cx_base::{Blob, EntityType};
 use cx_enc::{
-    Chained, Cut, ReadFault, ReadRefusal, TicketBlob, put_blob, put_kind, put_ticket, put_u8,
+    Chained, Cut, Encoded, ReadFault, ReadRefusal, TicketBlob, put_blob, put_kind, put_ticket,
+    put_u8,
 };
 use std::alloc::{AllocError, Global};
 
@@ -37,8 +38,8 @@ impl Chained<Option<EntityType>> for TicketPart {
         cut.take_fixed_u8(1)?;
         Ok(TicketPart {
             service,
-            info: Blob::of(alloc, cut.take_blob()?)?,
-            ticket: cut.take_ticket()?.own(alloc)?,
+            info: Blob::read(alloc, cut)?,
+            ticket: TicketBlob::read(alloc, cut)?,
         })
     }
 
