@@ -1,7 +1,7 @@
 //! Rows of secure frames: the secret of the connection, the side that sent them, `c` or `a`, and the bytes.
 
 use crate::shown::{bytes_of, is_announceable, made, tell_frame};
-use cx_base::Blob;
+use cx_base::{Blob, Items};
 use cx_frame::Frame;
 use cx_secure::{Sealing, SecureRefusal, rest_len};
 use std::alloc::{AllocError, Global};
@@ -51,7 +51,8 @@ fn opened<'a>(alloc: Global, opening: &mut Sealing, bytes: &'a [u8]) -> Outcome<
     let Some((front, behind)) = bytes.split_first_chunk::<96>() else {
         return Outcome::Short;
     };
-    let head = match opening.open_head(front) {
+    let mut contents = Items::new(alloc);
+    let head = match opening.open_head(alloc, front, &mut contents) {
         Ok(head) => head,
         Err(refusal) => return Outcome::Refused(refusal),
     };
@@ -60,7 +61,7 @@ fn opened<'a>(alloc: Global, opening: &mut Sealing, bytes: &'a [u8]) -> Outcome<
         return Outcome::Short;
     }
     let (rest, behind) = behind.split_at(wanted);
-    match opening.open_rest(alloc, head, rest) {
+    match opening.open_rest(alloc, head, rest, &mut contents) {
         Ok(frame) => Outcome::Frame(frame, behind),
         Err(refusal) => Outcome::Refused(refusal),
     }

@@ -1,7 +1,7 @@
 //! A stream that is driven to its end.
 
 use crate::shown::{Shown, name_of};
-use cx_base::Blob;
+use cx_base::{Blob, Items};
 use cx_frame::Frame;
 use cx_secure::Sealing;
 use cx_stream::{Greeted, Greeting, Plain, Secure, StreamFault};
@@ -172,10 +172,11 @@ fn secure(
     stage: &mut Stage,
     mut stream: Secure,
 ) -> Result<bool, AllocError> {
-    let given = stream.turn(alloc);
+    let mut opened = Items::new(alloc);
+    let given = stream.turn(alloc, &mut opened);
     let came = put_given(told, &given)?;
     if given.is_err() {
-        let again = stream.turn(alloc);
+        let again = stream.turn(alloc, &mut opened);
         put_given(told, &again)?;
     }
     *stage = Stage::Secure(stream);
