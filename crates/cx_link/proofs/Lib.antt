@@ -1,0 +1,3 @@
+pub mod PlainTurns
+pub mod SecureTurns
+pub mod Securing
