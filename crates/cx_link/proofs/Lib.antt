@@ -1,3 +1,4 @@
 pub mod PlainTurns
 pub mod SecureTurns
+pub mod SealedFrames
 pub mod Securing

@@ -1,5 +1,5 @@
 -- What is sent on a link, and what is logged of it.
-use Rattle.std.specs.Prelude.{ℕ, ◌≡◌, ◌≤◌, List, length, Result, Ok, Err}
+use Rattle.std.specs.Prelude.{ℕ, ◌≡◌, ◌≤◌, List, ◌++◌, length, Result, Ok, Err}
 use Rattle.cx_frame.specs.declared.frame.Frame.{Frame}
 use Rattle.cx_journal.specs.declared.faults.BytesFault.{BytesFault}
 use Rattle.cx_journal.specs.declared.premises.KeyKind.TheVariants as kind
@@ -36,6 +36,11 @@ Sends ahead (Ok s) expected =
     (expected ≡ Ok (record { bytes = s.bytes; seals = s.seals; keys = s.link.keys })) × (s.link.ahead ≡ ahead)
 Sends ahead (Err (Fault why)) expected = expected ≡ Err why
 Sends ahead (Err OutOfMemory) expected = Unit {0}
+
+-- with these entries before those of the frame
+abbrev pub logged_behind : List SealEntry → Result SealedFrame BytesFault → Result SealedFrame BytesFault
+logged_behind before (Ok s) = Ok (record s { seals = before ++ s.seals })
+logged_behind before (Err why) = Err why
 
 -- an acceptor's link is finished so
 abbrev pub Finishes : List ℕ → Result FinishedLink LinkRefusal → Result Finished BytesFault → Type 0

@@ -7,6 +7,7 @@ ghost use Rattle.cx_link.specs.Wires.{ahead_in, keys_of_side};
 use crate::links::{PlainLink, SecureLink};
 use crate::refusals::LinkRefusal;
 use crate::turns::LinkTurn;
+use cx_base::Blob;
 use cx_secure::Sealing;
 use std::alloc::{AllocError, Global};
 
@@ -62,11 +63,21 @@ impl PlainLink {
     pub fn secure(self, secret: &[u8; 64], connector: bool) -> SecureLink
         ensures { result ≡ record { keys = keys_of_side connector secret.now; ahead = ahead_in self } }
     {
-        let PlainLink { stream, sent: _ } = self;
-        SecureLink {
+        let (link, _) = self.secured(secret, connector);
+        link
+    }
+
+    // The secured link, and all bytes that were sent.
+    pub(crate) fn secured(self, secret: &[u8; 64], connector: bool) -> (SecureLink, Blob)
+        ensures link { result.0 ≡ record { keys = keys_of_side connector secret.now; ahead = ahead_in self } }
+        ensures sent { result.1 ≡ self.sent }
+    {
+        let PlainLink { stream, sent } = self;
+        let link = SecureLink {
             key: key_of(secret),
             stream: stream.secure(Sealing::new(secret, connector)),
-        }
+        };
+        (link, sent)
     }
 }
 
