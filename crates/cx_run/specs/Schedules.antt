@@ -91,11 +91,11 @@ node_in place.Monitor = node.Monitor
 node_in (place.Entity name) = node.Entity name
 
 abbrev pub all_read : ℕ → World → World
-all_read reading w = record w { seats = map (λ seat. record seat { reading = reading }) w.seats }
+all_read reading w = record w { seats = map (λ (seat : Seat). record seat { reading = reading }) w.seats }
 
 abbrev pub one_reads : NodeName → ℕ → World → World
 one_reads who reading w =
-    record w { seats = map (λ seat. if same_node seat.node who then record seat { reading = reading } else seat) w.seats }
+    record w { seats = map (λ (seat : Seat). if same_node seat.node who then record seat { reading = reading } else seat) w.seats }
 
 abbrev pub on_node : World → NodeStep → World
 on_node w (step.Clock reading) = all_read reading w
