@@ -50,7 +50,7 @@ pub fn forgetting_laws()
     ensures client_twice { (s : ClientNode) → abridged_client (abridged_client s) ≡ abridged_client s }
 {}
 
-/// The banner and the payloads that don't hang on a draw are those of recorded runs, byte by byte.
+/// The banner is that of this project's profile, byte by byte, and the payloads of the first frames of a login are those of recorded runs.
 pub fn recorded_bytes()
     ensures { WritesAsRecorded }
 {}
