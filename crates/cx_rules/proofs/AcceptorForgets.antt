@@ -1,7 +1,8 @@
 -- What may be forgotten of an acceptor's link, and its rows in which acceptors don't differ.
-use Rattle.std.proofs.Common.{◌≡◌, ℕ, ◌==◌, ◌++◌, Bool, true, false, List, [], ◌∷◌, drop, Result, Ok, Err, refl, sym, ap}
+use Rattle.std.proofs.Common.{◌≡◌, ℕ, ◌==◌, ◌++◌, Bool, true, false, List, [], ◌∷◌, map, Result, Ok, Err, refl, sym, ap}
 use Rattle.std.specs.Prelude.{not, if◌then◌else◌}
 use Rattle.std.specs.List.{list_any}
+use Rattle.std.specs.Option.{option_map}
 use Rattle.std.proofs.lemmas.List.{drop-append-le}
 use Rattle.cx_control.specs.Idents.{ident_missing_features_layout}
 use Rattle.cx_control.specs.declared.auth.AuthRequest.{AuthRequest}
@@ -14,11 +15,11 @@ use Rattle.cx_journal.specs.declared.outcomes.Reason.TheVariants as reason
 use Rattle.cx_steps.specs.declared.seals.SealEntry.{SealEntry}
 use Rattle.cx_rules.specs.Abridged.{IsWithin, abridged_at, abridged_link, cut, unsigned}
 use Rattle.cx_rules.specs.Acceptor.{Stage, AwaitsBanner, AwaitsHello, AwaitsRequest, AwaitsProof, AwaitsSignature, AwaitsIdent, Open, denies, misses, missing_told, on_auth_request, on_hello, on_signature}
-use Rattle.cx_rules.specs.Links.{Link}
+use Rattle.cx_rules.specs.Links.{Link, link_of, put_link, without_link}
 use Rattle.cx_rules.specs.Payloads.{control}
 use Rattle.cx_rules.specs.Rows.{Arrival, Row, at, goes_on, refused_entry, refuses, refuses_bytes}
 use Rattle.cx_rules.specs.Secured.{SealedFrame, Secured, is_signed, secure_frame, signature_found}
-use Rattle.cx_rules.proofs.Abridging.{Alike, Forgets}
+use Rattle.cx_rules.proofs.Abridging.{Alike, Forgets, link_of_map, put_link_map, without_link_map}
 use Rattle.cx_rules.proofs.AlikeRows.{RowWithin, SameAhead, cut-fed, goes-alike, refuses-alike}
 
 module _ {Pending Peer : Type 0} where
@@ -70,6 +71,17 @@ module _ {Pending Peer : Type 0} where
     sends = λ l bytes. sends-of l l.stage bytes;
     comes = λ l bytes w. comes-of l l.stage bytes w;
   }
+
+  -- ---- a table of them
+
+  pub acceptor_link_of : (n : ℕ) (links : List (Link (Stage Pending Peer))) → link_of n (map abridged_link links) ≡ option_map abridged_link (link_of n links)
+  acceptor_link_of n links = link_of_map abridged_link acceptor-forgets.number n links
+
+  pub acceptor_put_link : (l : Link (Stage Pending Peer)) (links : List (Link (Stage Pending Peer))) → put_link (abridged_link l) (map abridged_link links) ≡ map abridged_link (put_link l links)
+  acceptor_put_link l links = put_link_map abridged_link acceptor-forgets.number l links
+
+  pub acceptor_without_link : (n : ℕ) (links : List (Link (Stage Pending Peer))) → without_link n (map abridged_link links) ≡ map abridged_link (without_link n links)
+  acceptor_without_link n links = without_link_map abridged_link acceptor-forgets.number n links
 
 module _ {Own Pending Peer : Type 0} where
   -- ---- rows with plain frames

@@ -1,6 +1,7 @@
 -- What may be forgotten of the link of one that logs in, and its rows.
-use Rattle.std.proofs.Common.{◌≡◌, ℕ, ◌==◌, ◌++◌, Bool, true, false, List, [], ◌∷◌, take, Option, Some, None, Result, Ok, Err, refl}
+use Rattle.std.proofs.Common.{◌≡◌, ℕ, ◌==◌, ◌++◌, Bool, true, false, List, [], ◌∷◌, map, Option, Some, None, Result, Ok, Err, refl}
 use Rattle.std.specs.Prelude.{not, if◌then◌else◌}
+use Rattle.std.specs.Option.{option_map}
 use Rattle.cx_control.specs.Auth.{auth_done_layout, auth_reply_more_layout, auth_request_more_layout, auth_signature_layout}
 use Rattle.cx_control.specs.BadMethod.{bad_method_layout}
 use Rattle.cx_control.specs.Hello.{hello_layout}
@@ -28,12 +29,12 @@ use Rattle.cx_rules.specs.Abridged.{IsWithin, abridged_asker_at, abridged_asker_
 use Rattle.cx_rules.specs.Connector.{AskerArrival, AskerRow, Login, Stage, AwaitsBanner, AwaitsHello, AwaitsChallenge, AwaitsDone, AwaitsSignature, AwaitsIdent, Open, client_ident, holding, identifies, login_request, on_bad_method, on_banner, on_challenge, on_done, on_hello, on_login_done, on_missing_features, on_opened, on_reply_more, on_server_ident, on_signature, proves, signs, turned_at, while_challenged, while_identified, while_proved}
 use Rattle.cx_rules.specs.Greetings.{own_hello}
 use Rattle.cx_rules.specs.Holdings.{Asker, held_login}
-use Rattle.cx_rules.specs.Links.{Link}
+use Rattle.cx_rules.specs.Links.{Link, link_of, put_link, without_link}
 use Rattle.cx_rules.specs.Payloads.{due, payload, whole}
 use Rattle.cx_rules.specs.Rows.{at, refuses}
 use Rattle.cx_rules.specs.Secured.{Keys, SealedFrame, Secured, is_signed, plain_frame, secure_frame, signature_found, under}
 use Rattle.cx_rules.specs.Upkeep.{on_upkeep}
-use Rattle.cx_rules.proofs.Abridging.{Alike, Forgets}
+use Rattle.cx_rules.proofs.Abridging.{Alike, Forgets, link_of_map, put_link_map, without_link_map}
 use Rattle.cx_rules.proofs.AlikeRows.{RowWithin, SameAhead, SameTurn, banner-turn, cut-fed, goes-alike, plain-turn, plain_sent-within, refuses-alike, same-turn, secure-alike, secure-turn, upkeep-alike}
 
 -- ---- a link
@@ -85,6 +86,17 @@ asker-forgets = record {
   sends = λ l bytes. sends-of l l.stage bytes;
   comes = λ l bytes w. comes-of l l.stage bytes w;
 }
+
+-- ---- a table of them
+
+pub asker_link_of : (n : ℕ) (links : List (Link Stage)) → link_of n (map abridged_asker_link links) ≡ option_map abridged_asker_link (link_of n links)
+asker_link_of n links = link_of_map abridged_asker_link asker-forgets.number n links
+
+pub asker_put_link : (l : Link Stage) (links : List (Link Stage)) → put_link (abridged_asker_link l) (map abridged_asker_link links) ≡ map abridged_asker_link (put_link l links)
+asker_put_link l links = put_link_map abridged_asker_link asker-forgets.number l links
+
+pub asker_without_link : (n : ℕ) (links : List (Link Stage)) → without_link n (map abridged_asker_link links) ≡ map abridged_asker_link (without_link n links)
+asker_without_link n links = without_link_map abridged_asker_link asker-forgets.number n links
 
 -- ---- rows with plain frames: their links are whole
 

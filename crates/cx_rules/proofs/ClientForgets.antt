@@ -16,9 +16,9 @@ use Rattle.cx_rules.specs.Holdings.{Asker}
 use Rattle.cx_rules.specs.Inputs.{Input, Opened, NoLink, Bytes, Turn, Gone, Look, Tick, Submit, Restart}
 use Rattle.cx_rules.specs.Links.{Link, link_of}
 use Rattle.cx_rules.specs.Rows.{Arrival, Outcome, Row, Turned, Waits, Refuses, Handles, arrival, at, forgotten, goes_on, lifted, lifted_turn, new_link}
-use Rattle.cx_rules.proofs.Abridging.{Agree, Alike, carried-alike, fed-agree, found-within, gone-held, gone-stands, idles-agree, link_of-map, node-twice, without-within}
+use Rattle.cx_rules.proofs.Abridging.{Agree, Alike, carried-alike, fed-agree, found-within, gone-held, gone-stands, idles-agree, node-twice, without-within}
 use Rattle.cx_rules.proofs.AlikeRows.{SameTurn, turns-agree}
-use Rattle.cx_rules.proofs.AskerForgets.{asker-forgets, turned-alike}
+use Rattle.cx_rules.proofs.AskerForgets.{asker-forgets, asker_link_of, turned-alike}
 
 -- ---- a turn
 
@@ -110,14 +110,14 @@ client-agrees c (Opened n p) reading draw h = opens-agree c reading draw n p h
 client-agrees c (NoLink p) reading draw h = record { out = refl; state = record { held = node-twice abridged_asker_link asker-forgets c; within = h } }
 client-agrees c (Bytes n bytes) reading draw h =
     let fed-at = fed-agree abridged_asker_link asker-forgets c bytes (link_of n c.links) h (found-within n c.links h) in
-    rw (link_of-map abridged_asker_link asker-forgets.number n c.links) fed-at
+    rw (asker_link_of n c.links) fed-at
 client-agrees c (Turn n) reading draw h =
     subst (λ (found : Option (Link Stage)). ClientsAgree (turn (abridged_client c) reading draw found) (turn c reading draw (link_of n c.links)))
-    (sym (link_of-map abridged_asker_link asker-forgets.number n c.links))
+    (sym (asker_link_of n c.links))
     (turn-agrees c reading draw (link_of n c.links) h (found-within n c.links h))
 client-agrees c (Gone n) reading draw h =
     subst (λ (found : Option (Link Stage)). ClientsAgree (loses (abridged_client c) found) (loses c (link_of n c.links)))
-    (sym (link_of-map abridged_asker_link asker-forgets.number n c.links))
+    (sym (asker_link_of n c.links))
     (loses-agree c (link_of n c.links) h)
 client-agrees c (Submit command) reading draw h = submits-agree c command h
 client-agrees c Restart reading draw h = record { out = refl; state = record { held = refl; within = tt } }

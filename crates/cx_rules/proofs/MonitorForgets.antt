@@ -1,11 +1,12 @@
 -- What the monitor may forget of its links makes no difference to what it does.
-use Rattle.std.proofs.Common.{◌≡◌, ℕ, ◌==◌, Bool, true, false, List, [], ◌∷◌, length, map, Option, Some, None, Result, Ok, Err, refl, sym, ap, subst, ◌∙◌}
+use Rattle.std.proofs.Common.{◌≡◌, ℕ, ◌==◌, Bool, true, false, List, [], ◌∷◌, ◌++◌, length, map, Option, Some, None, Result, Ok, Err, refl, sym, ap, subst, ◌∙◌, arith}
 use Rattle.std.specs.Prelude.{IfSome, nat_le, if◌then◌else◌}
-use Rattle.std.specs.List.{AllByRecursion}
+use Rattle.std.specs.List.{AllByRecursion, flat_map}
 use Rattle.std.specs.Option.{option_map}
 use Rattle.std.proofs.lemmas.List.{length-map}
 use Rattle.cx_base.specs.declared.addresses.Addr.{Addr}
-use Rattle.cx_base.specs.declared.kinds.EntityType.TheVariants.{Mon}
+use Rattle.cx_base.specs.declared.kinds.EntityType.TheVariants.{Mon, Auth}
+use Rattle.cx_cbc.specs.Envelope.{sealed}
 use Rattle.cx_control.specs.Auth.{auth_request_layout, auth_request_more_layout, auth_signature_layout}
 use Rattle.cx_control.specs.Hello.{hello_layout}
 use Rattle.cx_control.specs.Idents.{client_ident_layout}
@@ -13,35 +14,42 @@ use Rattle.cx_control.specs.Reconnects.{session_reconnect_layout}
 use Rattle.cx_control.specs.declared.auth.AuthRequestMore.{AuthRequestMore}
 use Rattle.cx_control.specs.declared.idents.ClientIdent.{ClientIdent}
 use Rattle.cx_control.specs.declared.reconnects.SessionReconnect.{SessionReconnect}
+use Rattle.cx_dice.specs.Draws.{connection_of, session_of}
 use Rattle.cx_frame.specs.declared.frame.Frame.{Frame}
 use Rattle.cx_journal.specs.declared.faults.BytesFault.{BytesFault}
 use Rattle.cx_journal.specs.declared.faults.BytesFault.TheVariants.{Unexpected}
 use Rattle.cx_journal.specs.declared.faults.LoginFault.{LoginFault}
 use Rattle.cx_journal.specs.declared.node_names.NodeName.TheVariants as node
 use Rattle.cx_journal.specs.declared.outcomes.Reason.TheVariants as reason
+use Rattle.cx_journal.specs.declared.premises.KeyKind.TheVariants as kind
 use Rattle.cx_keyring.specs.declared.entries.Entry.{Entry as Principal}
 use Rattle.cx_keyserver.specs.Servers.{Server}
 use Rattle.cx_keyserver.specs.declared.tickets.Ticket.{Ticket}
 use Rattle.cx_login.specs.Monitor.{Proven}
 use Rattle.cx_login.specs.declared.refusals.WrongProof.{WrongProof}
 use Rattle.cx_rotate.specs.declared.states.KeptState.{KeptState}
+use Rattle.cx_sealed.specs.Records.{connection_secret_layout}
+use Rattle.cx_steps.specs.declared.seals.DrawMark.TheVariants as draw
 use Rattle.cx_steps.specs.declared.seals.SealEntry.{SealEntry}
+use Rattle.cx_steps.specs.declared.seals.SealEntry.TheVariants.{Drawn, Sealed}
 use Rattle.cx_wire.specs.declared.logins.Authenticate.{Authenticate}
 use Rattle.cx_wire.specs.declared.logins.LoginHello.{LoginHello}
 use Rattle.cx_rules.specs.Abridged.{IsWithin, MonitorStandsFor, abridged_link, abridged_monitor, unsigned}
-use Rattle.cx_rules.specs.Acceptor.{AwaitsBanner, AwaitsHello, AwaitsRequest, AwaitsProof, AwaitsSignature, AwaitsIdent, Open, Finished, misses, on_auth_request, on_banner, on_hello, on_signature}
+use Rattle.cx_rules.specs.Acceptor.{AwaitsBanner, AwaitsHello, AwaitsRequest, AwaitsProof, AwaitsSignature, AwaitsIdent, Open, Finished, finished, misses, on_auth_request, on_banner, on_hello, on_signature}
 use Rattle.cx_rules.specs.Greetings.{own_banner, own_hello}
 use Rattle.cx_rules.specs.Inputs.{Input, Opened, NoLink, Bytes, Turn, Gone, Look, Tick, Submit, Restart}
+use Rattle.cx_rules.specs.KeptStates.{changed}
 use Rattle.cx_rules.specs.Links.{Link, link_of}
 use Rattle.cx_rules.specs.Monitor.{Entity, Monitor, MonitorArrival, MonitorNode, MonitorRow, MonitorStage, Offered}
-use Rattle.cx_rules.specs.MonitorLogin.{Granted, Numbered, challenges, granted, hands_out, issues, issues_to, numbers, on_authenticate, on_login_hello, proves, with_server}
+use Rattle.cx_rules.specs.MonitorLogin.{Granted, Numbered, auth_done, challenges, granted, hands_out, issues, issues_to, numbers, on_authenticate, on_login_hello, proves, with_server}
 use Rattle.cx_rules.specs.MonitorRule.{monitor_rule, noted, on_auth_request_more, on_client_ident, on_ident, on_request_payload, on_session_reconnect, opening_monitor, server_ident, session_reset, turn, turned_at, unsaved}
 use Rattle.cx_rules.specs.Payloads.{due, payload, whole}
 use Rattle.cx_rules.specs.Rows.{Outcome, arrival, at, carried_out, forgotten, goes_on, new_link, plain_sent, refuses, refuses_bytes, sends_secure}
 use Rattle.cx_rules.specs.Secured.{Keys, Secured, plain_frame, secure_frame, under}
+use Rattle.cx_rules.specs.Tickets.{ticket_seals}
 use Rattle.cx_rules.specs.Upkeep.{on_upkeep}
-use Rattle.cx_rules.proofs.Abridging.{Agree, Alike, carried-alike, fed-agree, found-within, gone-held, gone-stands, idles-agree, link_of-map, node-twice, without-within}
-use Rattle.cx_rules.proofs.AcceptorForgets.{acceptor-forgets, hello-within, misses-alike, request-within, signature-alike}
+use Rattle.cx_rules.proofs.Abridging.{Agree, Alike, carried-alike, fed-agree, found-within, gone-held, gone-stands, idles-agree, node-twice, without-within}
+use Rattle.cx_rules.proofs.AcceptorForgets.{acceptor-forgets, acceptor_link_of, hello-within, misses-alike, request-within, signature-alike}
 use Rattle.cx_rules.proofs.AlikeRows.{RowWithin, SameAhead, SameTurn, TurnWithin, banner-turn, plain-turn, plain_sent-within, refuses-alike, same-turn, secure-alike, secure-turn, turns-agree, upkeep-alike}
 
 -- ---- rows with plain frames: their links are whole
@@ -54,14 +62,23 @@ login_hello-within a (Ok hello) w = by_entity _
     by_entity None = tt
     by_entity (Some principal) = plain_sent-within a _ _ _ w
 
-hands_out-within : (a : MonitorArrival) (grant : Granted) (tickets : List Ticket) (sealed : List SealEntry) (save : Option KeptState) (done : Result Finished BytesFault)
-    → IsWithin a.link → RowWithin (hands_out a grant tickets sealed save done)
-hands_out-within a grant tickets sealed save (Err why) w = tt
-hands_out-within a grant tickets sealed save (Ok done) w = w
+hands_out-within : (a : MonitorArrival) (grant : Granted) (tickets : List Ticket) (seals : List SealEntry) (save : Option KeptState) (done : Result Finished BytesFault)
+    → IsWithin a.link → RowWithin (hands_out a grant tickets seals save done)
+hands_out-within a grant tickets seals save (Err why) w = tt
+hands_out-within a grant tickets seals save (Ok done) w = w
 
 issues-within : (a : MonitorArrival) (grant : Granted) (principal : Principal) (tickets : Result (List Ticket) LoginFault) → IsWithin a.link → RowWithin (issues a grant principal tickets)
 issues-within a grant principal (Err why) w = tt
-issues-within a grant principal (Ok tickets) w = hands_out-within a grant tickets _ _ _ w
+issues-within a grant principal (Ok tickets) w =
+    let session : List ℕ = session_of Auth a.draw in
+    let secret : List ℕ = connection_of a.draw in
+    let content : List ℕ = connection_secret_layout.form.text (record { secret = secret }) in
+    hands_out-within a grant tickets
+    (flat_map (ticket_seals a.own.server principal.key.secret session) tickets
+    ++ Drawn (draw.Connection secret grant.proven.offer.name) ∷ Sealed (record { key = session; kind = kind.Session; content = content }) ∷ [])
+    (changed a.own.saved a.own.server.state)
+    (finished a.link session secret (auth_done grant.gid tickets (sealed session content)))
+    w
 
 issues_to-within : (a : MonitorArrival) (grant : Granted) (principal : Option Principal) → IsWithin a.link → RowWithin (issues_to a grant principal)
 issues_to-within a grant None w = tt
@@ -177,8 +194,10 @@ turn-agrees s reading draw (Some link) h w =
 opens-agree : (s : MonitorNode) (a : MonitorArrival) (full : Bool) → AllByRecursion IsWithin s.links → IsWithin a.link
     → let row : MonitorRow = (if full then refuses a reason.LinksFull [] else goes_on a AwaitsBanner own_banner []) in
     MonitorsAgree (carried_out (abridged_monitor s) a.link.number false row) (carried_out s a.link.number false row)
-opens-agree s a true h w = carried-alike abridged_link acceptor-forgets s a.link.number false _ _ h (record { kept = refl; within = tt })
-opens-agree s a false h w = carried-alike abridged_link acceptor-forgets s a.link.number false _ _ h (record { kept = refl; within = w })
+opens-agree s a true h w =
+    let row : MonitorRow = refuses a reason.LinksFull [] in carried-alike abridged_link acceptor-forgets s a.link.number false row row h (record { kept = refl; within = tt })
+opens-agree s a false h w =
+    let row : MonitorRow = goes_on a AwaitsBanner own_banner [] in carried-alike abridged_link acceptor-forgets s a.link.number false row row h (record { kept = refl; within = w })
 
 monitor-agrees : (s : MonitorNode) (input : Input) (reading : ℕ) (draw : List ℕ) → AllByRecursion IsWithin s.links
     → MonitorsAgree (monitor_rule (abridged_monitor s) input reading draw) (monitor_rule s input reading draw)
@@ -193,10 +212,10 @@ monitor-agrees s (Opened n p) reading draw h =
 monitor-agrees s (NoLink p) reading draw h = record { out = refl; state = record { held = node-twice abridged_link acceptor-forgets (noted s); within = h } }
 monitor-agrees s (Bytes n bytes) reading draw h =
     let fed-at = fed-agree abridged_link acceptor-forgets (noted s) bytes (link_of n s.links) h (found-within n s.links h) in
-    rw (link_of-map abridged_link acceptor-forgets.number n s.links) fed-at
+    rw (acceptor_link_of n s.links) fed-at
 monitor-agrees s (Turn n) reading draw h =
     subst (λ (found : Option (Link MonitorStage)). MonitorsAgree (turn (noted (abridged_monitor s)) reading draw found) (turn (noted s) reading draw (link_of n s.links)))
-    (sym (link_of-map abridged_link acceptor-forgets.number n s.links))
+    (sym (acceptor_link_of n s.links))
     (turn-agrees (noted s) reading draw (link_of n s.links) h (found-within n s.links h))
 monitor-agrees s (Gone n) reading draw h =
     let t : MonitorNode = noted s in
