@@ -1,14 +1,14 @@
 -- A table of links, abridged: looking up, putting and leaving out go along with it, and what a row makes of an abridged table is what it
 -- makes of the table, abridged.
-use Rattle.std.proofs.Common.{◌≡◌, ℕ, ◌==◌, ◌+◌, ◌≤◌, Bool, true, false, cond, List, [], ◌∷◌, ◌++◌, length, map, Option, Some, None, refl, sym, ap, subst, ◌∙◌, arith, length-append}
-use Rattle.std.specs.Prelude.{not, nat_lt, filter, find, IfSome}
+use Rattle.std.proofs.Common.{◌≡◌, ℕ, ◌==◌, Bool, true, false, cond, List, [], ◌∷◌, ◌++◌, map, Option, Some, None, refl, sym, ap, ◌∙◌, arith, length-append}
+use Rattle.std.specs.Prelude.{not, nat_lt, filter, IfSome}
 use Rattle.std.specs.List.{AllByRecursion}
 use Rattle.std.specs.Option.{option_map}
 use Rattle.std.proofs.lemmas.List.{map-append}
 use Rattle.cx_steps.specs.declared.effects.Effects.{Effects}
 use Rattle.cx_rules.specs.Abridged.{IsWithin, StandsFor, abridged_node, abridged_row}
 use Rattle.cx_rules.specs.Links.{Link, link_of, put_link, without_link}
-use Rattle.cx_rules.specs.Rows.{Node, Outcome, Row, carried_out, fed, forgotten, idles, links_behind, piece, shuts}
+use Rattle.cx_rules.specs.Rows.{Node, Outcome, Row, carried_out, fed, forgotten, idles, links_behind}
 
 -- ---- lists
 

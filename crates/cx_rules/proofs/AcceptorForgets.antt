@@ -1,9 +1,8 @@
 -- What may be forgotten of an acceptor's link, and its rows in which acceptors don't differ.
-use Rattle.std.proofs.Common.{◌≡◌, ℕ, ◌==◌, ◌++◌, Bool, true, false, List, [], ◌∷◌, map, Result, Ok, Err, refl, sym, ap}
+use Rattle.std.proofs.Common.{◌≡◌, ℕ, ◌==◌, ◌++◌, Bool, true, false, List, [], ◌∷◌, map, Result, Ok, Err, refl, ap}
 use Rattle.std.specs.Prelude.{not, if◌then◌else◌}
 use Rattle.std.specs.List.{list_any}
 use Rattle.std.specs.Option.{option_map}
-use Rattle.std.proofs.lemmas.List.{drop-append-le}
 use Rattle.cx_control.specs.Idents.{ident_missing_features_layout}
 use Rattle.cx_control.specs.declared.auth.AuthRequest.{AuthRequest}
 use Rattle.cx_control.specs.declared.auth.AuthSignature.{AuthSignature}
@@ -12,12 +11,11 @@ use Rattle.cx_journal.specs.declared.faults.BytesFault.{BytesFault}
 use Rattle.cx_journal.specs.declared.faults.BytesFault.TheVariants.{Features}
 use Rattle.cx_journal.specs.declared.faults.LoginFault.TheVariants.{Method, Mode, SignatureWrong}
 use Rattle.cx_journal.specs.declared.outcomes.Reason.TheVariants as reason
-use Rattle.cx_steps.specs.declared.seals.SealEntry.{SealEntry}
-use Rattle.cx_rules.specs.Abridged.{IsWithin, abridged_at, abridged_link, cut, unsigned}
+use Rattle.cx_rules.specs.Abridged.{IsWithin, abridged_at, abridged_link, unsigned}
 use Rattle.cx_rules.specs.Acceptor.{Stage, AwaitsBanner, AwaitsHello, AwaitsRequest, AwaitsProof, AwaitsSignature, AwaitsIdent, Open, denies, misses, missing_told, on_auth_request, on_hello, on_signature}
 use Rattle.cx_rules.specs.Links.{Link, link_of, put_link, without_link}
 use Rattle.cx_rules.specs.Payloads.{control}
-use Rattle.cx_rules.specs.Rows.{Arrival, Row, at, goes_on, refused_entry, refuses, refuses_bytes}
+use Rattle.cx_rules.specs.Rows.{Arrival, Row, at, goes_on, refused_entry, refuses}
 use Rattle.cx_rules.specs.Secured.{SealedFrame, Secured, is_signed, secure_frame, signature_found}
 use Rattle.cx_rules.proofs.Abridging.{Alike, Forgets, link_of_map, put_link_map, without_link_map}
 use Rattle.cx_rules.proofs.AlikeRows.{RowWithin, SameAhead, cut-fed, goes-alike, refuses-alike}

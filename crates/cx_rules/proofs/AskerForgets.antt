@@ -2,7 +2,7 @@
 use Rattle.std.proofs.Common.{◌≡◌, ℕ, ◌==◌, ◌++◌, Bool, true, false, List, [], ◌∷◌, map, Option, Some, None, Result, Ok, Err, refl}
 use Rattle.std.specs.Prelude.{not, if◌then◌else◌}
 use Rattle.std.specs.Option.{option_map}
-use Rattle.cx_control.specs.Auth.{auth_done_layout, auth_reply_more_layout, auth_request_more_layout, auth_signature_layout}
+use Rattle.cx_control.specs.Auth.{auth_done_layout, auth_reply_more_layout, auth_signature_layout}
 use Rattle.cx_control.specs.BadMethod.{bad_method_layout}
 use Rattle.cx_control.specs.Hello.{hello_layout}
 use Rattle.cx_control.specs.Idents.{ident_missing_features_layout, server_ident_layout}
@@ -25,10 +25,10 @@ use Rattle.cx_steps.specs.declared.seals.SealEntry.TheVariants.{Drawn}
 use Rattle.cx_wire.specs.Logins.{login_done_layout, server_challenge_layout}
 use Rattle.cx_wire.specs.declared.logins.LoginDone.{LoginDone}
 use Rattle.cx_wire.specs.declared.logins.ServerChallenge.{ServerChallenge}
-use Rattle.cx_rules.specs.Abridged.{IsWithin, abridged_asker_at, abridged_asker_link, cut, unsigned}
+use Rattle.cx_rules.specs.Abridged.{IsWithin, abridged_asker_at, abridged_asker_link, unsigned}
 use Rattle.cx_rules.specs.Connector.{AskerArrival, AskerRow, Login, Stage, AwaitsBanner, AwaitsHello, AwaitsChallenge, AwaitsDone, AwaitsSignature, AwaitsIdent, Open, client_ident, holding, identifies, login_request, on_bad_method, on_banner, on_challenge, on_done, on_hello, on_login_done, on_missing_features, on_opened, on_reply_more, on_server_ident, on_signature, proves, signs, turned_at, while_challenged, while_identified, while_proved}
 use Rattle.cx_rules.specs.Greetings.{own_hello}
-use Rattle.cx_rules.specs.Holdings.{Asker, held_login}
+use Rattle.cx_rules.specs.Holdings.{held_login}
 use Rattle.cx_rules.specs.Links.{Link, link_of, put_link, without_link}
 use Rattle.cx_rules.specs.Payloads.{due, payload, whole}
 use Rattle.cx_rules.specs.Rows.{at, refuses}

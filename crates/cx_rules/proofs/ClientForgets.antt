@@ -1,6 +1,6 @@
 -- What a client may forget of its links makes no difference to what it does.
-use Rattle.std.proofs.Common.{◌≡◌, ℕ, Bool, true, false, List, [], ◌∷◌, map, Option, Some, None, refl, sym, ap, subst, ◌∙◌, arith}
-use Rattle.std.specs.Prelude.{IfSome, ◌&&◌, if◌then◌else◌}
+use Rattle.std.proofs.Common.{◌≡◌, ℕ, false, List, [], ◌∷◌, map, Option, Some, None, refl, sym, ap, subst, ◌∙◌, arith}
+use Rattle.std.specs.Prelude.{IfSome}
 use Rattle.std.specs.List.{AllByRecursion, list_all}
 use Rattle.std.specs.Option.{option_map}
 use Rattle.cx_steps.specs.declared.effects.Effects.{Effects}
@@ -15,8 +15,8 @@ use Rattle.cx_rules.specs.Greetings.{own_banner}
 use Rattle.cx_rules.specs.Holdings.{Asker}
 use Rattle.cx_rules.specs.Inputs.{Input, Opened, NoLink, Bytes, Turn, Gone, Look, Tick, Submit, Restart}
 use Rattle.cx_rules.specs.Links.{Link, link_of}
-use Rattle.cx_rules.specs.Rows.{Arrival, Outcome, Row, Turned, Waits, Refuses, Handles, arrival, at, forgotten, goes_on, lifted, lifted_turn, new_link}
-use Rattle.cx_rules.proofs.Abridging.{Agree, Alike, carried-alike, fed-agree, found-within, gone-held, gone-stands, idles-agree, node-twice, without-within}
+use Rattle.cx_rules.specs.Rows.{Outcome, Row, Turned, Waits, Refuses, Handles, arrival, at, forgotten, goes_on, lifted, lifted_turn, new_link}
+use Rattle.cx_rules.proofs.Abridging.{Agree, carried-alike, fed-agree, found-within, gone-held, gone-stands, idles-agree, node-twice, without-within}
 use Rattle.cx_rules.proofs.AlikeRows.{SameTurn, turns-agree}
 use Rattle.cx_rules.proofs.AskerForgets.{asker-forgets, asker_link_of, turned-alike}
 

@@ -1,6 +1,6 @@
 -- A banner or a frame that is read is no longer than the bytes in which it is read.
 use Rattle.std.proofs.Common.{◌≡◌, ℕ, ◌+◌, ◌≤◌, Bool, true, false, List, length, take, drop, Option, Some, None, Result, Ok, Err, refl, arith, length-drop}
-use Rattle.std.specs.Prelude.{◌||◌, ◌==◌, ◌-◌, ◌%◌, nat_lt, slice_index, if◌then◌else◌}
+use Rattle.std.specs.Prelude.{◌||◌, ◌==◌, ◌-◌, ◌%◌, nat_lt, if◌then◌else◌}
 use Rattle.std.proofs.lemmas.Bool.{ltb-false}
 use Rattle.cx_frame.specs.declared.banner.Banner.{Banner}
 use Rattle.cx_frame.specs.declared.frame.Frame.{Frame}

@@ -1,5 +1,5 @@
 -- What the monitor may forget of its links makes no difference to what it does.
-use Rattle.std.proofs.Common.{◌≡◌, ℕ, ◌==◌, Bool, true, false, List, [], ◌∷◌, ◌++◌, length, map, Option, Some, None, Result, Ok, Err, refl, sym, ap, subst, ◌∙◌, arith}
+use Rattle.std.proofs.Common.{◌≡◌, ℕ, ◌==◌, Bool, true, false, List, [], ◌∷◌, ◌++◌, length, Option, Some, None, Result, Ok, Err, refl, sym, ap, subst, ◌∙◌, arith}
 use Rattle.std.specs.Prelude.{IfSome, nat_le, if◌then◌else◌}
 use Rattle.std.specs.List.{AllByRecursion, flat_map}
 use Rattle.std.specs.Option.{option_map}
@@ -40,17 +40,17 @@ use Rattle.cx_rules.specs.Greetings.{own_banner, own_hello}
 use Rattle.cx_rules.specs.Inputs.{Input, Opened, NoLink, Bytes, Turn, Gone, Look, Tick, Submit, Restart}
 use Rattle.cx_rules.specs.KeptStates.{changed}
 use Rattle.cx_rules.specs.Links.{Link, link_of}
-use Rattle.cx_rules.specs.Monitor.{Entity, Monitor, MonitorArrival, MonitorNode, MonitorRow, MonitorStage, Offered}
+use Rattle.cx_rules.specs.Monitor.{Entity, MonitorArrival, MonitorNode, MonitorRow, MonitorStage, Offered}
 use Rattle.cx_rules.specs.MonitorLogin.{Granted, Numbered, auth_done, challenges, granted, hands_out, issues, issues_to, numbers, on_authenticate, on_login_hello, proves, with_server}
 use Rattle.cx_rules.specs.MonitorRule.{monitor_rule, noted, on_auth_request_more, on_client_ident, on_ident, on_request_payload, on_session_reconnect, opening_monitor, server_ident, session_reset, turn, turned_at, unsaved}
-use Rattle.cx_rules.specs.Payloads.{due, payload, whole}
-use Rattle.cx_rules.specs.Rows.{Outcome, arrival, at, carried_out, forgotten, goes_on, new_link, plain_sent, refuses, refuses_bytes, sends_secure}
+use Rattle.cx_rules.specs.Payloads.{due, payload}
+use Rattle.cx_rules.specs.Rows.{Outcome, arrival, at, carried_out, forgotten, goes_on, new_link, refuses, refuses_bytes, sends_secure}
 use Rattle.cx_rules.specs.Secured.{Keys, Secured, plain_frame, secure_frame, under}
 use Rattle.cx_rules.specs.Tickets.{ticket_seals}
 use Rattle.cx_rules.specs.Upkeep.{on_upkeep}
 use Rattle.cx_rules.proofs.Abridging.{Agree, Alike, carried-alike, fed-agree, found-within, gone-held, gone-stands, idles-agree, node-twice, without-within}
 use Rattle.cx_rules.proofs.AcceptorForgets.{acceptor-forgets, acceptor_link_of, hello-within, misses-alike, request-within, signature-alike}
-use Rattle.cx_rules.proofs.AlikeRows.{RowWithin, SameAhead, SameTurn, TurnWithin, banner-turn, plain-turn, plain_sent-within, refuses-alike, same-turn, secure-alike, secure-turn, turns-agree, upkeep-alike}
+use Rattle.cx_rules.proofs.AlikeRows.{RowWithin, SameAhead, SameTurn, banner-turn, plain-turn, plain_sent-within, refuses-alike, same-turn, secure-alike, secure-turn, turns-agree, upkeep-alike}
 
 -- ---- rows with plain frames: their links are whole
 
