@@ -1,0 +1,4 @@
+pub mod Ranks
+pub mod Lists
+pub mod Slots
+pub mod Edits
