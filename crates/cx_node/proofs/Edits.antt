@@ -177,9 +177,9 @@ module _ {L : Type 0} (f : L → ℕ) where
   is_left n slots i s kept found read none =
       let here = stands n slots i s kept found read in
       let same : links_in slots ≡ without f n (links_in slots) =
-          ap (λ (all : List (Slot L)). links_in all) here.whole ∙ links_around f s (take i slots) (drop (i + 1) slots) ∙ rw none refl
-          ∙ sym (left_here f s (take i slots) (drop (i + 1) slots) here.kept here.below here.above)
-          ∙ ap (λ (k : ℕ). without f k (links_in (take i slots ++ s ∷ drop (i + 1) slots))) here.number ∙ ap (λ (all : List (Slot L)). without f n (links_in all)) (sym here.whole) in
+      ap (λ (all : List (Slot L)). links_in all) here.whole ∙ links_around f s (take i slots) (drop (i + 1) slots) ∙ rw none refl
+      ∙ sym (left_here f s (take i slots) (drop (i + 1) slots) here.kept here.below here.above)
+      ∙ ap (λ (k : ℕ). without f k (links_in (take i slots ++ s ∷ drop (i + 1) slots))) here.number ∙ ap (λ (all : List (Slot L)). without f n (links_in all)) (sym here.whole) in
       record { links = same; kept = kept; empty = refl }
 
   -- where there is no place, nothing is gone
@@ -188,6 +188,6 @@ module _ {L : Type 0} (f : L → ℕ) where
       let whole : slots ≡ take i slots ++ drop i slots = sym (take-append-drop i slots) in
       let P : List (Slot L) → Type 0 = AreKept f in
       let same : links_in slots ≡ without f n (links_in slots) =
-          ap (λ (all : List (Slot L)). links_in all) whole ∙ sym (left_nowhere f n (take i slots) (drop i slots) (subst P whole kept) missing.below missing.above)
-          ∙ ap (λ (all : List (Slot L)). without f n (links_in all)) (sym whole) in
+      ap (λ (all : List (Slot L)). links_in all) whole ∙ sym (left_nowhere f n (take i slots) (drop i slots) (subst P whole kept) missing.below missing.above)
+      ∙ ap (λ (all : List (Slot L)). without f n (links_in all)) (sym whole) in
       record { links = same; kept = kept; empty = refl }

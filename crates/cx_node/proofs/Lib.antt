@@ -1,4 +1,6 @@
-pub mod Ranks
-pub mod Lists
-pub mod Slots
+pub mod Denials
 pub mod Edits
+pub mod Lists
+pub mod Ranks
+pub mod Slots
+pub mod Wholes

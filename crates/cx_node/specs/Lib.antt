@@ -1,2 +1,4 @@
+pub mod Made
+pub mod Parts
 pub mod Places
 pub mod Tables

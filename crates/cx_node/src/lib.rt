@@ -1,11 +1,21 @@
 //! What a step of any node is made of: the table of its links, rows and their effects, control frames and payloads.
 #![tactic(auto)]
 
+mod carrying;
+mod controls;
 mod keeping;
 mod links;
+mod making;
 mod numbered;
+mod payloads;
 mod places;
+mod rows;
 mod searching;
 
+pub use carrying::{Carried, carried_out, enters, loses};
+pub use controls::{bad_method, control, control_whole};
 pub use links::Links;
+pub use making::{denies, goes_on, refused_entry, refuses, refuses_bytes, with_opened};
 pub use numbered::Numbered;
+pub use payloads::{due, payload, payload_part, whole, whole_part};
+pub use rows::Row;
