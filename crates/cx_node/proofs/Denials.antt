@@ -1,5 +1,5 @@
 -- AUTH_BAD_METHOD is short.
-use Rattle.std.proofs.Common.{ℕ, ◌≡◌, ◌<◌, ◌^◌, List, [], ◌∷◌, length, refl, arith}
+use Rattle.std.proofs.Common.{ℕ, ◌≡◌, ◌<◌, ◌^◌, List, [], length, refl, arith}
 use Rattle.std.proofs.lemmas.List.Elements.{All-cons, All-nil}
 use Rattle.cx_control.specs.BadMethod.{bad_method_layout, written_method}
 use Rattle.cx_enc.specs.Forms.{little}

@@ -1,9 +1,9 @@
 -- What is done with the place of a number, by where it stands.
-use Rattle.std.proofs.Common.{ℕ, ◌≡◌, ◌+◌, ◌<◌, List, [], ◌∷◌, ◌++◌, length, Option, Some, None, IfSome, get_or, set, take, drop, suc, add-one, arith, refl, subst, sym, ap, ◌∙◌}
-use Rattle.std.proofs.lemmas.List.{drop_more, set_split, take-append-drop, append-nil}
+use Rattle.std.proofs.Common.{ℕ, ◌≡◌, ◌+◌, ◌<◌, List, [], ◌∷◌, ◌++◌, length, Option, Some, None, get_or, set, take, drop, add-one, refl, subst, sym, ap, ◌∙◌}
+use Rattle.std.proofs.lemmas.List.{drop_more, set_split, take-append-drop}
 use Rattle.std.specs.List.{insert, remove}
 use Rattle.cx_node.specs.Places.{Slot, links_in, rooms_in, room_of, AreBelow, AreFrom, AreKept, IsFoundAt, IsMissingAt, IsVacated, IsFilled, IsGivenUp, IsRemoved}
-use Rattle.cx_node.specs.Tables.{with_number, put, without}
+use Rattle.cx_node.specs.Tables.{with_number, without}
 use Rattle.cx_node.proofs.Slots.{IsEmptyAlone, empty_alone, kept_there, nil_parts, rooms_joined, filled_in, rooms_around, rooms_without, rooms_same, link_here, link_nowhere, left_here, left_nowhere, put_here, put_nowhere, kept_changed, kept_removed, kept_inserted, links_around, links_beside}
 
 module _ {L : Type 0} (f : L → ℕ) where

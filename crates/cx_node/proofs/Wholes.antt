@@ -1,5 +1,5 @@
 -- Payloads that spell a value are read as it.
-use Rattle.std.proofs.Common.{ℕ, ◌≡◌, List, [], ◌++◌, length, Result, Ok, Err, ap, ◌∙◌}
+use Rattle.std.proofs.Common.{ℕ, ◌≡◌, List, Ok, ap, ◌∙◌}
 use Rattle.cx_enc.specs.Forms.{Form, IsLawful}
 use Rattle.cx_enc.specs.Whole.{Spells, SpellsPart}
 use Rattle.cx_enc.proofs.Wholes.{read_again}

@@ -1,4 +1,4 @@
-use Rattle.std.proofs.Common.{◌≡◌, Bool, true, false, Option, Some, None, refl, sym, ◌∙◌}
+use Rattle.std.proofs.Common.{◌≡◌, true, false, Option, Some, None, sym, ◌∙◌}
 use Rattle.std.specs.Option.{is_some, option_copied}
 use denote.Ref.{Bor}
 use Rattle.cx_node.proofs.Edits.{is_removed, is_left, is_as_before}

@@ -1,5 +1,5 @@
 -- The first place that isn't below the number is its own, or it has none.
-use Rattle.std.proofs.Common.{◌≡◌, ◌<◌, length, arith, sym, ◌∙◌}
+use Rattle.std.proofs.Common.{◌<◌, length, arith, sym, ◌∙◌}
 use Rattle.cx_node.proofs.Ranks.{found_at, missing_at}
 use Rattle.cx_node.proofs.searching.place_of.Goals as goal
 

@@ -1,5 +1,5 @@
 -- The places of lower numbers stand in front.
-use Rattle.std.proofs.Common.{ltb, arith, rules}
+use Rattle.std.proofs.Common.{ltb, rules}
 use Rattle.std.proofs.lemmas.List.Sorted.{IsPartitionPoint-from_clause}
 use Rattle.cx_node.proofs.Ranks.{parts, all_below, all_from}
 use Rattle.cx_node.proofs.searching.rank.Goals as goal
