@@ -1,3 +1,4 @@
+pub mod Abridged
 pub mod Acceptor
 pub mod ClientRule
 pub mod Connector
