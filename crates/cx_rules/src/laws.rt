@@ -1,14 +1,14 @@
-//! What a step may answer at most: laws of the definitions, of every state, event, reading and draw.
+//! What a step may answer at most, and what a machine may forget: laws of the definitions, of every state, event, reading and draw.
 
 ghost use Rattle.std.specs.Prelude.{◌≡◌, ℕ, List};
 ghost use Rattle.cx_base.specs.declared.addresses.Addr.{Addr};
 ghost use Rattle.cx_keyserver.specs.Servers.{Server};
 ghost use Rattle.cx_rules.specs.Abridged.{ClientStandsFor, MonitorStandsFor, abridged_client, abridged_monitor};
 ghost use Rattle.cx_rules.specs.ClientRule.{ClientNode, client_rule, is_idle, opening_client};
-ghost use Rattle.cx_rules.specs.Holdings.{Asker};
-ghost use Rattle.cx_rules.specs.Inputs.{Input};
 ghost use Rattle.cx_rules.specs.Connector as connector;
 ghost use Rattle.cx_rules.specs.Connector.{AskerArrival};
+ghost use Rattle.cx_rules.specs.Holdings.{Asker};
+ghost use Rattle.cx_rules.specs.Inputs.{Input};
 ghost use Rattle.cx_rules.specs.Judged.{AskerLogsTurn, IsJudged, LogsTurn, NamesLinks};
 ghost use Rattle.cx_rules.specs.Monitor.{MonitorArrival, MonitorNode};
 ghost use Rattle.cx_rules.specs.MonitorRule.{monitor_rule, noted, opening_monitor, turned_at, unsaved};
