@@ -20,6 +20,17 @@ pub(crate) struct Login {
 pub(crate) static KEYRING: &[u8] =
     b"[client.a]\n\tkey = AQAAAAAAAAAAABAAowgHm7EDEgDCotkYAYULGA==\n\tcaps osd = \"allow *\"\n[osd.0]\n\tkey = AQAAAAAAAAAAABAA9bgURXl1avNZ9215An96qg==\n";
 
+/// The beginning of a keyring of its client.
+pub(crate) static LONG_KEYRING: &[u8] =
+    b"[client.a]\n\tkey = AQAAAAAAAAAAABAAowgHm7EDEgDCotkYAYULGA==\n";
+
+/// The beginning of the client's caps for each service.
+pub(crate) static LONG_CAPS: [&[u8]; 3] = [
+    b"\tcaps mds = \"",
+    b"\tcaps osd = \"",
+    b"\tcaps mgr = \"",
+];
+
 // The daemon's login of the first run: the first rotation.
 pub(crate) static DAEMON: Login = Login {
     draw: 11,

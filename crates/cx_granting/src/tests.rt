@@ -3,19 +3,19 @@
 ghost use Rattle.std.specs.Prelude.{◌≡◌, ◌≤◌};
 ghost use Rattle.cx_rotate.specs.Keeping.{IsKeptState};
 
-use crate::known::{CLIENT, DAEMON, FIRST, KEPT, KEYRING, Login};
+use crate::known::{CLIENT, DAEMON, FIRST, KEPT, KEYRING, LONG_CAPS, LONG_KEYRING, Login};
 use crate::{HandedOut, Occasion, Verdict, granting_laws, log_in, saved_behind};
 use cx_base::{Blob, EntityName, EntityType, Reading, SECOND, Text};
 use cx_dice::{Dice, Draw, SeedDice};
 use cx_enc::{Key, Time};
 use cx_journal::{Entry, LoginFault};
 use cx_keep::decode_state;
-use cx_keyring::parse;
+use cx_keyring::{Keyring, parse};
 use cx_keyserver::KeyServer;
 use cx_login::{Offered, Proved};
 use cx_rotate::{Generations, KeptState};
 use cx_steps::{DrawMark, SealEntry, SealMark};
-use cx_wire::read_authenticate;
+use cx_wire::{Authenticate, read_authenticate};
 use hex::FromHex;
 use std::alloc::Global;
 use std::process::Abort;
@@ -79,15 +79,18 @@ fn name(rt: &impl Abort, alloc: Global, is_client: bool) -> EntityName {
     EntityName::new(kind, text).expect(rt, "an id of its type")
 }
 
-// The entity of this name that answered the login's challenge.
-fn proved(rt: &impl Abort, alloc: Global, name: EntityName, login: &Login) -> Proved {
+fn ask(rt: &impl Abort, alloc: Global, login: &Login) -> Authenticate {
+    let authenticate = bytes(rt, alloc, login.authenticate);
+    read_authenticate(alloc, authenticate.bytes()).expect(rt, "an Authenticate")
+}
+
+// The entity of this name that answered the login's challenge by this Authenticate.
+fn proved(rt: &impl Abort, name: EntityName, login: &Login, ask: Authenticate) -> Proved {
     let secret = <[u8; 16] as FromHex>::from_hex(login.secret).expect(rt, "a key");
     let key = Key {
         created: Time::of(0),
         secret,
     };
-    let authenticate = bytes(rt, alloc, login.authenticate);
-    let ask = read_authenticate(alloc, authenticate.bytes()).expect(rt, "an Authenticate");
     Offered::new(name, key, login.challenge)
         .prove(ask)
         .expect(rt, "a proof")
@@ -149,17 +152,16 @@ fn check_handed(
     login: &Login,
     handed: &HandedOut,
 ) {
-    let state = server.state();
     let saved = bytes(rt, alloc, login.state);
-    assert!(rt; decode_state(saved.bytes(), SECOND, SECOND) == Ok(state));
-    assert!(rt; handed.save == Some(state));
+    assert!(rt; decode_state(saved.bytes(), SECOND, SECOND) == Ok(server.state()));
+    assert!(rt; handed.save == Some(server.state()));
     assert!(rt; handed.gid == login.gid);
     assert!(rt; handed.payload == bytes(rt, alloc, login.payload));
     let before = handed.seals.all().len();
     assert!(rt; before <= login.log.len());
     check_log(rt, alloc, &login.log[..before], handed.seals.all());
     check_log(rt, alloc, &login.log[before..], handed.sealed.all());
-    check_entries(rt, state.next_gid, login, handed.entries.all());
+    check_entries(rt, server.state().next_gid, login, handed.entries.all());
 }
 
 // The login of a run; the state that was saved is the server's before it.
@@ -179,7 +181,12 @@ fn check_login(
         reading,
         draw: &drawn,
     };
-    let who = proved(rt, alloc, name(rt, alloc, login.is_client), login);
+    let who = proved(
+        rt,
+        name(rt, alloc, login.is_client),
+        login,
+        ask(rt, alloc, login),
+    );
     match log_in(alloc, server, &who, login.hello_gid, &at).expect(rt, "ample memory") {
         Verdict::Granted(handed) => {
             check_handed(rt, alloc, server, login, &handed);
@@ -224,7 +231,7 @@ fn denied(
         reading: 1000 * SECOND,
         draw: &drawn,
     };
-    let who = proved(rt, alloc, name, login);
+    let who = proved(rt, name, login, ask(rt, alloc, login));
     let verdict = log_in(alloc, &mut server, &who, login.hello_gid, &at).expect(rt, "ample memory");
     assert!(rt; server.state().auth.current().is_some());
     match verdict {
@@ -247,4 +254,43 @@ fn each_denial_comes_by_its_condition_and_the_rotation_stays(rt: HostRuntime) {
     let id = Text::of(alloc, b"b").expect(&rt, "an id is ASCII");
     let stranger = EntityName::new(EntityType::Client, id).expect(&rt, "an id of its type");
     assert!(rt; denied(&rt, alloc, 1, stranger, &FIRST) == LoginFault::UnknownEntity);
+}
+
+// A keyring of the client with caps of 4,096 bytes for each service.
+fn long_keyring(rt: &impl Abort, alloc: Global) -> Keyring {
+    let mut text = Blob::of(alloc, LONG_KEYRING).expect(rt, "ample memory");
+    for caps in LONG_CAPS {
+        text.append(alloc, caps).expect(rt, "ample memory");
+        for _ in 0..4096 {
+            text.append(alloc, b"x").expect(rt, "ample memory");
+        }
+        text.append(alloc, b"\"\n").expect(rt, "ample memory");
+    }
+    parse(alloc, text.bytes()).expect(rt, "a keyring")
+}
+
+#[test]
+fn four_tickets_with_the_longest_caps(rt: HostRuntime) {
+    let alloc = rt.alloc();
+    let state = opening(1);
+    let mut server = KeyServer::new(long_keyring(&rt, alloc), state);
+    let drawn = draw(&rt, alloc, FIRST.draw);
+    let at = Occasion {
+        saved: &state,
+        reading: 1000 * SECOND,
+        draw: &drawn,
+    };
+    let mut ask = ask(&rt, alloc, &FIRST);
+    ask.other_keys = 2 + 4 + 16;
+    let who = proved(&rt, name(&rt, alloc, true), &FIRST, ask);
+    match log_in(alloc, &mut server, &who, 0, &at).expect(&rt, "ample memory") {
+        Verdict::Granted(handed) => {
+            assert!(rt; handed.seals.all().len() == 13);
+            assert!(rt; handed.sealed.all().len() == 14);
+            assert!(rt; handed.entries.all().len() == 5);
+            // 16 bytes of AUTH_DONE, 11 of LoginDone, a part of 166 for AUTH, three of 4,262, and 84 for the sealed secret.
+            assert!(rt; handed.payload.bytes().len() == 13_063);
+        }
+        Verdict::Denied { .. } => assert!(rt; false),
+    }
 }
