@@ -8,14 +8,14 @@ use Rattle.std.specs.List.Sorted.{IsNonDecreasingBy, IsPartitionedBy}
 use Rattle.cx_node.specs.Places.{Slot, IsRising, AreBelow, AreFrom, IsFoundAt, IsMissingAt}
 
 module _ {L : Type 0} where
-  -- the numbers from any place on are at least the first one
+  from_lower : (high low : ℕ) (slots : List (Slot L)) → low ≤ high → AreFrom high slots → AreFrom low slots
+  from_lower high low [] le from = tt
+  from_lower high low (s ∷ slots) le from = (omega (arith, from.0), from_lower high low slots le from.1)
+
+  -- the numbers are at least the one from which they rise
   pub rising_from : (low : ℕ) (slots : List (Slot L)) → IsRising low slots → AreFrom low slots
   rising_from low [] rising = tt
-  rising_from low (s ∷ slots) rising = (rising.0, raised (s.number + 1) low slots (omega (arith, rising.0)) (rising_from (s.number + 1) slots rising.1))
-    where
-      raised : (high low : ℕ) (slots : List (Slot L)) → low ≤ high → AreFrom high slots → AreFrom low slots
-      raised high low [] le from = tt
-      raised high low (s ∷ slots) le from = (omega (arith, from.0), raised high low slots le from.1)
+  rising_from low (s ∷ slots) rising = (rising.0, from_lower (s.number + 1) low slots (omega (arith, rising.0)) (rising_from (s.number + 1) slots rising.1))
 
   least : (low : ℕ) (slots : List (Slot L)) → IsRising low slots → (j : ℕ) (d : Slot L) → j < length slots → low ≤ (get_or slots j d).number
   least low [] rising j d within = absurd (omega arith)
@@ -78,11 +78,7 @@ module _ {L : Type 0} where
       let both : IsRising from (s ∷ rest) = rw is at rising in
       let low : AreFrom n (s ∷ rest) = rw is at least in
       let first : n + 1 ≤ s.number = omega (arith, low.0, other) in
-      rw is (first, raised_to (s.number + 1) (n + 1) rest (omega arith) (rising_from (s.number + 1) rest both.1))
-    where
-      raised_to : (high low : ℕ) (slots : List (Slot L)) → low ≤ high → AreFrom high slots → AreFrom low slots
-      raised_to high low [] le from = tt
-      raised_to high low (s ∷ slots) le from = (omega (arith, from.0), raised_to high low slots le from.1)
+      rw is (first, from_lower (s.number + 1) (n + 1) rest (omega arith) (rising_from (s.number + 1) rest both.1))
 
   pub missing_at : (n : ℕ) (slots : List (Slot L)) (i : ℕ) (s : Slot L) → IsRising 0 slots → AreBelow n (take i slots) → AreFrom n (drop i slots) → i < length slots → s ≡ get_or slots i s → s.number ≢ n → IsMissingAt n slots i
   missing_at n slots i s rising below least within read other =
