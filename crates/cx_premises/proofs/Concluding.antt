@@ -1,6 +1,5 @@
 -- What is found in a log, with one entry more.
-use Rattle.std.proofs.Common.{◌≡◌, ℕ, Bool, true, false, cond, List, [], ◌∷◌, ◌++◌, Option, Some, None, ◌⊎◌, inl, inr, refl, sym, ap, ◌∙◌, subst}
-use Rattle.std.specs.Prelude.{is_some}
+use Rattle.std.proofs.Common.{◌≡◌, List, [], ◌∷◌, ◌++◌, Option, Some, None, ◌⊎◌, inl, inr, refl, sym, subst}
 use Rattle.cx_base.specs.Names.{Name}
 use Rattle.cx_journal.specs.declared.premises.Broken.{Broken}
 use Rattle.cx_premises.proofs.Walks.{behind, each_more, some_stays}

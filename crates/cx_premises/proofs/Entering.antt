@@ -5,20 +5,20 @@ use Rattle.cx_base.specs.Names.{Name}
 use Rattle.cx_journal.specs.declared.node_names.NodeName.{NodeName}
 use Rattle.cx_journal.specs.declared.premises.Broken.{Broken}
 use Rattle.cx_journal.specs.declared.premises.Premise.TheVariants as premise
-use Rattle.cx_premises.proofs.Concluding.{Keeps, found_broken, found_kept, found_suspect}
+use Rattle.cx_premises.proofs.Concluding.{found_broken, found_kept, found_suspect}
 use Rattle.cx_premises.proofs.Leaving.{leaks_left, left_leaks, left_seals, left_signs, seals_left, signs_left}
 use Rattle.cx_premises.proofs.Ordering.{left_more, left_same}
 use Rattle.cx_premises.proofs.Repeating.{is_then_repeated, repeated_is}
 use Rattle.cx_premises.proofs.Walks.{behind, from_newest, some_from, some_stays, to_newest}
-use Rattle.cx_premises.specs.Facts.{AreLeft, HasLeft, draw_fact, fact_of, is_kept, is_repeated, sealed_fact, signed_fact}
-use Rattle.cx_premises.specs.Findings.{AreFound, ComeTo, IsFoundIn, LeakIn, demanded, drawn, first_of}
-use Rattle.cx_premises.specs.Ledgers.{Enters, EntersAt, StandsFor, Takes, Finds, breach_at, suspect_at}
+use Rattle.cx_premises.specs.Facts.{AreLeft, draw_fact, fact_of, is_kept, is_repeated, sealed_fact, signed_fact}
+use Rattle.cx_premises.specs.Findings.{AreFound, ComeTo, IsFoundIn, demanded, drawn, first_of}
+use Rattle.cx_premises.specs.Ledgers.{Enters, EntersAt, StandsFor, breach_at, suspect_at}
 use Rattle.cx_premises.specs.declared.facts.Fact.{Fact}
 use Rattle.cx_premises.specs.declared.facts.Fact.TheVariants as fact
 use Rattle.cx_premises.specs.declared.findings.Findings.{Findings}
 use Rattle.cx_premises.specs.declared.findings.Suspect.{Suspect}
 use Rattle.cx_premises.specs.declared.ledger.Ledger.{Ledger}
-use Rattle.cx_steps.specs.Breach.{IsBreach, IsFound, kind_of}
+use Rattle.cx_steps.specs.Breach.{IsBreach, IsFound}
 use Rattle.cx_steps.specs.Premises.{DrawsLeaked, HasSealed, HasSigned, IsExcepted, IsLeakedKey, IsNew, Owes, Seals, Signs, is_server}
 use Rattle.cx_steps.specs.declared.seals.DrawMark.{DrawMark}
 use Rattle.cx_steps.specs.declared.seals.Logged.{Logged}
@@ -65,7 +65,6 @@ module _ (leaked : List Name) (log : List Logged) (facts : BTreeSet Fact) (held 
       (paid : (whole : List Logged) → Owes leaked whole at.node (behind [] log) at.entry → IsExcepted leaked whole at.node mark.key ⊎ Paid)
       (new : IsNew (behind [] log) at.entry)
       (due_is : is_kept facts due ≡ true → Paid) (is_then_due : Paid → is_kept facts due ≡ true) where
-
     unpaid : (whole : List Logged) → is_kept facts due ≡ false → (IsExcepted leaked whole at.node mark.key → ⊥) → IsExcepted leaked whole at.node mark.key ⊎ Paid → ⊥
     unpaid whole none excused (inl excepted) = excused excepted
     unpaid whole none excused (inr there) =

@@ -1,6 +1,6 @@
 -- What the premises ask of the earlier entries, by what these left.
-use Rattle.std.proofs.Common.{◌≡◌, ℕ, Bool, true, false, cond, List, [], ◌∷◌, ◌++◌, Option, Some, None, ◌⊎◌, inl, inr, refl, sym, ap, ◌∙◌, subst, take}
-use Rattle.std.specs.Prelude.{Contains, IsTrue, ◌↔◌, ◌||◌}
+use Rattle.std.proofs.Common.{◌≡◌, ℕ, Bool, true, false, List, Option, Some, None, refl, sym, ap, ◌∙◌, take}
+use Rattle.std.specs.Prelude.{Contains}
 use Rattle.std.specs.Cmp.{IsEquivalence}
 use Rattle.std.proofs.lemmas.Bool.Decides.{same_from_decides}
 use Rattle.std.proofs.lemmas.Map.Views.{Contains-from_any, list_any-from_Contains}
@@ -10,8 +10,8 @@ use Rattle.cx_places.specs.Named.{is_among}
 use Rattle.cx_premises.specs.Facts.{draw_fact, fact_of, key_fact, sealed_fact, signed_fact}
 use Rattle.cx_premises.specs.declared.facts.Fact.{Fact}
 use Rattle.cx_premises.specs.declared.facts.Fact.TheVariants as fact
-use Rattle.cx_steps.specs.Draws.{IsSameKey, Repeats, for_whom, key_of}
-use Rattle.cx_steps.specs.Premises.{DrawsLeaked, RepeatsIn, Seals, Signs}
+use Rattle.cx_steps.specs.Draws.{for_whom, key_of}
+use Rattle.cx_steps.specs.Premises.{DrawsLeaked, Seals, Signs}
 use Rattle.cx_steps.specs.declared.seals.DrawMark.{DrawMark}
 use Rattle.cx_steps.specs.declared.seals.DrawMark.TheVariants as draw
 use Rattle.cx_steps.specs.declared.seals.SealEntry.{SealEntry}

@@ -1,7 +1,6 @@
 -- The order of facts tells them apart, so that a set of them grows by one fact at a time.
-use Rattle.std.proofs.Common.{◌≡◌, ℕ, Bool, true, false, cond, List, [], ◌∷◌, ◌++◌, Option, Some, None, ◌⊎◌, inl, inr, refl, sym, ap, ◌∙◌}
-use Rattle.std.specs.Prelude.{IsTrue, ◌↔◌}
-use Rattle.std.specs.BTreeSet.{BTreeSet, IsUnchanged, IsEmpty}
+use Rattle.std.proofs.Common.{◌≡◌, ℕ, Bool, true, false, cond, List, [], ◌∷◌, ◌++◌, Some, None, ◌⊎◌, inl, inr, refl, sym, ap, ◌∙◌}
+use Rattle.std.specs.BTreeSet.{BTreeSet, IsUnchanged}
 use Rattle.std.specs.List.{list_any}
 use Rattle.std.specs.Cmp.Lexicographic.{slice_cmp}
 use Rattle.std.specs.Ordering.{is_eq, nat_cmp, ordering_then}
@@ -74,9 +73,10 @@ module _ (leaked : List Name) (log : List Logged) (at : Logged) (old new : BTree
   -- the entry left what was added
   pub left_more : (added : Fact) → fact_of leaked at.entry ≡ Some added → Adds old new added → AreLeft leaked log old → AreLeft leaked (log ++ at ∷ []) new
   left_more added is adds held = record {
-    each = λ left.
-        ( (λ kept. left_before added left (is_at (order added) left) refl is held (sym (adds.0 left) ∙ kept))
-        , (λ there. adds.0 left ∙ kept_now added left is held (some_cases (λ a. fact_of leaked a.entry ≡ Some left) log at there)) );
+    each = λ left. (
+      (λ kept. left_before added left (is_at (order added) left) refl is held (sym (adds.0 left) ∙ kept)),
+      (λ there. adds.0 left ∙ kept_now added left is held (some_cases (λ a. fact_of leaked a.entry ≡ Some left) log at there)),
+    );
   }
 
   left_again : (left : Fact) → fact_of leaked at.entry ≡ None → HasLeft leaked log left ⊎ (fact_of leaked at.entry ≡ Some left) → HasLeft leaked log left
@@ -87,7 +87,8 @@ module _ (leaked : List Name) (log : List Logged) (at : Logged) (old new : BTree
   pub left_same : fact_of leaked at.entry ≡ None → IsUnchanged old new → AreLeft leaked log old → AreLeft leaked (log ++ at ∷ []) new
   left_same none unchanged held = record {
     each = λ left.
-        let same : is_kept new left ≡ is_kept old left = ap (list_any (is_at (order left))) unchanged in
-        ( (λ kept. some_stays (λ a. fact_of leaked a.entry ≡ Some left) log at ((held.each left).0 (sym same ∙ kept)))
-        , (λ there. same ∙ (held.each left).1 (left_again left none (some_cases (λ a. fact_of leaked a.entry ≡ Some left) log at there))) );
+        let same : is_kept new left ≡ is_kept old left = ap (list_any (is_at (order left))) unchanged in (
+          (λ kept. some_stays (λ a. fact_of leaked a.entry ≡ Some left) log at ((held.each left).0 (sym same ∙ kept))),
+          (λ there. same ∙ (held.each left).1 (left_again left none (some_cases (λ a. fact_of leaked a.entry ≡ Some left) log at there))),
+        );
   }

@@ -1,17 +1,17 @@
 -- A draw repeats an earlier one exactly where what it leaves is there, or the same key in the other form.
-use Rattle.std.proofs.Common.{◌≡◌, ℕ, Bool, true, false, cond, List, [], ◌∷◌, ◌++◌, Option, Some, None, ◌⊎◌, inl, inr, refl, sym, ap, ◌∙◌, subst, take}
-use Rattle.std.specs.Prelude.{IsTrue, ◌↔◌, ◌||◌}
+use Rattle.std.proofs.Common.{◌≡◌, ℕ, Bool, true, false, List, [], ◌∷◌, Option, Some, None, ◌⊎◌, inl, inr, refl, sym, ap, ◌∙◌, subst, take}
+use Rattle.std.specs.Prelude.{◌||◌}
 use Rattle.std.specs.BTreeSet.{BTreeSet}
 use Rattle.std.proofs.lemmas.Bool.{or_cases}
 use Rattle.cx_base.specs.Names.{Name}
-use Rattle.cx_premises.proofs.Leaving.{draw_is_drawn, is_drawn, key_in, key_in_draw, undrawn}
+use Rattle.cx_premises.proofs.Leaving.{is_drawn, key_in, key_in_draw, undrawn}
 use Rattle.cx_premises.proofs.Walks.{behind, from_newest, some_from, to_newest}
 use Rattle.cx_premises.specs.Facts.{AreLeft, HasLeft, draw_fact, fact_of, is_kept, is_repeated}
 use Rattle.cx_premises.specs.declared.facts.Fact.{Fact}
 use Rattle.cx_premises.specs.declared.facts.Fact.TheVariants as fact
 use Rattle.cx_steps.specs.Draws.{IsSameKey, Repeats, key_of}
 use Rattle.cx_steps.specs.Onto.{SomeOf}
-use Rattle.cx_steps.specs.Premises.{IsNew, RepeatsIn}
+use Rattle.cx_steps.specs.Premises.{RepeatsIn}
 use Rattle.cx_steps.specs.declared.seals.DrawMark.{DrawMark}
 use Rattle.cx_steps.specs.declared.seals.DrawMark.TheVariants as draw
 use Rattle.cx_steps.specs.declared.seals.Logged.{Logged}

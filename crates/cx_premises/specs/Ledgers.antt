@@ -1,5 +1,5 @@
 -- What a ledger holds of a log, and what an entry changes in it.
-use Rattle.std.specs.Prelude.{◌≡◌, List, ◌++◌, ◌∷◌, []}
+use Rattle.std.specs.Prelude.{◌≡◌, List}
 use Rattle.std.specs.BTreeSet.{IsUnchanged}
 use Rattle.cx_base.specs.Names.{Name}
 use Rattle.cx_journal.specs.declared.premises.Broken.{Broken}

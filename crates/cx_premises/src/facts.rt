@@ -9,16 +9,10 @@ use cx_steps::{DrawMark, SealMark};
 use std::alloc::{AllocError, Global};
 
 /// What an entry of a log leaves behind.
-#[derive(Debug, PartialEq, Eq, PartialOrd, Ord, Drop)]
+#[derive(PartialEq, Eq, PartialOrd, Ord, Drop)]
 pub enum Fact {
-    Sealed {
-        key: [u8; 16],
-        content: Blob,
-    },
-    Signed {
-        key: [u8; 16],
-        content: Blob,
-    },
+    Sealed { key: [u8; 16], content: Blob },
+    Signed { key: [u8; 16], content: Blob },
     /// A key was drawn, and not for a leaked client.
     Key([u8; 16]),
     /// A key was drawn for a leaked client.

@@ -12,14 +12,14 @@ use std::alloc::{AllocError, Global};
 
 /// Something that opened or was found equal at the monitor or at a daemon, though nothing sealed or signed it: a breach unless
 /// its key leaks.
-#[derive(Debug, Drop)]
+#[derive(Drop)]
 pub struct Suspect {
     pub key: [u8; 16],
     pub broken: Broken,
 }
 
 /// The suspects before the first breach that no leak excuses, and that breach.
-#[derive(Debug, Drop)]
+#[derive(Drop)]
 pub struct Findings {
     suspects: Items<Suspect>,
     breach: Option<Broken>,

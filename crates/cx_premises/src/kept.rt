@@ -9,7 +9,7 @@ use std::alloc::{AllocError, Global};
 use std::collections::BTreeSet;
 
 /// The facts that a log left, in order, so that none is looked for by going through the log.
-#[derive(Debug, Drop)]
+#[derive(Drop)]
 pub struct Kept {
     facts: BTreeSet<Fact>,
 }

@@ -1,4 +1,4 @@
-use Rattle.std.proofs.Common.{◌≡◌, take}
+use Rattle.std.proofs.Common.{take}
 use Rattle.cx_premises.specs.Ledgers.{StandsFor}
 use Rattle.cx_premises.proofs.judge.first_breach.Given as goal
 

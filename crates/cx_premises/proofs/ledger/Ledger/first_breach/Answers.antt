@@ -1,4 +1,4 @@
-use Rattle.std.proofs.Common.{◌≡◌, subst, sym}
+use Rattle.std.proofs.Common.{subst, sym}
 use Rattle.cx_steps.specs.Breach.{IsFound}
 use Rattle.cx_premises.proofs.Entering.{told_in_the_end}
 use Rattle.cx_premises.proofs.ledger.Ledger.first_breach.Goals as goal
