@@ -1,0 +1,6 @@
+pub mod Concluding
+pub mod Entering
+pub mod Leaving
+pub mod Ordering
+pub mod Repeating
+pub mod Walks

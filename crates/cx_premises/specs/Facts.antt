@@ -1,0 +1,70 @@
+-- What an entry of a log leaves behind, by which later entries are judged.
+use Rattle.std.specs.Prelude.{ℕ, ◌≡◌, Bool, true, false, List, Option, Some, None, IsTrue, ◌↔◌, ◌||◌, take}
+use Rattle.std.specs.BTreeSet.{BTreeSet, contains, Updates}
+use Rattle.std.specs.declared.cmp.Ordering.{Ordering}
+use Rattle.cx_base.specs.Names.{Name}
+use Rattle.cx_places.specs.Named.{is_among}
+use Rattle.cx_premises.specs.declared.facts.Fact.{Fact}
+use Rattle.cx_premises.specs.declared.facts.Fact.TheVariants as fact
+use Rattle.cx_premises.specs.contracts.facts.FactOrd.TheImpl as fact_order
+use Rattle.cx_steps.specs.Onto.{SomeOf}
+use Rattle.cx_steps.specs.declared.seals.DrawMark.{DrawMark}
+use Rattle.cx_steps.specs.declared.seals.DrawMark.TheVariants as draw
+use Rattle.cx_steps.specs.declared.seals.Logged.{Logged}
+use Rattle.cx_steps.specs.declared.seals.SealEntry.{SealEntry}
+use Rattle.cx_steps.specs.declared.seals.SealEntry.TheVariants as entry
+use Rattle.cx_steps.specs.declared.seals.SealMark.{SealMark}
+
+abbrev pub sealed_fact : SealMark → Fact
+sealed_fact mark = fact.Sealed mark.key mark.content
+
+abbrev pub signed_fact : SealMark → Fact
+signed_fact mark = fact.Signed mark.key mark.content
+
+-- a key that was drawn, for a leaked client or not
+abbrev pub key_fact : Bool → List ℕ → Fact
+key_fact true key = fact.LeakedKey key
+key_fact false key = fact.Key key
+
+-- what a draw leaves, where these clients leaked
+abbrev pub draw_fact : List Name → DrawMark → Fact
+draw_fact leaked (draw.Principal secret whose) = key_fact (is_among leaked whose) secret
+draw_fact leaked (draw.Connection secret whose) = key_fact (is_among leaked whose) (take 16 secret)
+draw_fact leaked (draw.Session key whose) = key_fact (is_among leaked whose) key
+draw_fact leaked (draw.Rotation key) = fact.Key key
+draw_fact leaked (draw.Challenge value) = fact.Challenge value
+draw_fact leaked (draw.Nonce value) = fact.Nonce value
+draw_fact leaked (draw.Cookie value) = fact.Cookie value
+
+-- what an entry leaves
+abbrev pub fact_of : List Name → SealEntry → Option Fact
+fact_of leaked (entry.Sealed mark) = Some (sealed_fact mark)
+fact_of leaked (entry.Signed mark) = Some (signed_fact mark)
+fact_of leaked (entry.Drawn mark) = Some (draw_fact leaked mark)
+fact_of leaked _ = None
+
+-- ---- what is kept of a log
+
+abbrev pub order : Fact → Fact → Ordering
+order = (fact_order.ghosts).cmp
+
+abbrev pub is_kept : BTreeSet Fact → Fact → Bool
+is_kept facts wanted = contains order facts wanted
+
+-- whether what is kept has a draw that this one repeats
+abbrev pub is_repeated : BTreeSet Fact → Fact → Bool
+is_repeated facts (fact.Key key) = is_kept facts (fact.Key key) || is_kept facts (fact.LeakedKey key)
+is_repeated facts (fact.LeakedKey key) = is_kept facts (fact.Key key) || is_kept facts (fact.LeakedKey key)
+is_repeated facts drawn = is_kept facts drawn
+
+-- the fact is among them now, and the others are those that were
+abbrev pub Adds : BTreeSet Fact → BTreeSet Fact → Fact → Type 0
+Adds old new added = Updates order old new added true
+
+-- an entry of the log left this
+abbrev pub HasLeft : List Name → List Logged → Fact → Type 0
+HasLeft leaked log left = SomeOf (λ at. fact_of leaked at.entry ≡ Some left) log
+
+-- what is kept is what the log left: what was sealed and signed, the keys that were drawn, and the other draws by their kinds
+pub record AreLeft (leaked : List Name) (log : List Logged) (facts : BTreeSet Fact) : Type 0 where
+  pub each : (left : Fact) → IsTrue (is_kept facts left) ↔ HasLeft leaked log left

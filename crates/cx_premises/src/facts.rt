@@ -1,0 +1,91 @@
+//! What the ledger keeps of an entry, by which later entries are judged.
+
+ghost use Rattle.std.specs.Prelude.{◌≡◌, take, IfOk, true};
+ghost use Rattle.cx_premises.specs.Facts.{sealed_fact, signed_fact, key_fact, draw_fact};
+
+use cx_base::{Blob, Duplicate};
+use cx_places::Names;
+use cx_steps::{DrawMark, SealMark};
+use std::alloc::{AllocError, Global};
+
+/// What an entry of a log leaves behind.
+#[derive(PartialEq, Eq, PartialOrd, Ord, Drop)]
+pub enum Fact {
+    Sealed { key: [u8; 16], content: Blob },
+    Signed { key: [u8; 16], content: Blob },
+    /// A key was drawn, and not for a leaked client.
+    Key([u8; 16]),
+    /// A key was drawn for a leaked client.
+    LeakedKey([u8; 16]),
+    Challenge(u64),
+    Nonce(u64),
+    Cookie(u64),
+}
+
+impl Fact {
+    /// What the sealing of this mark leaves.
+    pub fn sealed(alloc: Global, mark: &SealMark) -> Result<Fact, AllocError>
+        ensures { IfOk result (λ fact. fact ≡ sealed_fact mark.now) }
+    {
+        let content = mark.content.copy(alloc)?;
+        Ok(Fact::Sealed {
+            key: mark.key,
+            content,
+        })
+    }
+
+    /// What the signing of this mark leaves.
+    pub fn signed(alloc: Global, mark: &SealMark) -> Result<Fact, AllocError>
+        ensures { IfOk result (λ fact. fact ≡ signed_fact mark.now) }
+    {
+        let content = mark.content.copy(alloc)?;
+        Ok(Fact::Signed {
+            key: mark.key,
+            content,
+        })
+    }
+
+    /// What a draw leaves where these clients leaked.
+    pub fn drawn(alloc: Global, leaked: &Names, mark: &DrawMark) -> Result<Fact, AllocError>
+        ensures { IfOk result (λ fact. fact ≡ draw_fact leaked.now mark.now) }
+    {
+        match mark {
+            DrawMark::Principal { secret, for_whom } => {
+                let is_leaked = leaked.has(alloc, for_whom)?;
+                Ok(Fact::of_key(is_leaked, *secret))
+            }
+            DrawMark::Connection { secret, for_whom } => {
+                let is_leaked = leaked.has(alloc, for_whom)?;
+                Ok(Fact::of_key(is_leaked, front_of(secret)))
+            }
+            DrawMark::Session { key, for_whom } => {
+                let is_leaked = leaked.has(alloc, for_whom)?;
+                Ok(Fact::of_key(is_leaked, *key))
+            }
+            DrawMark::Rotation(key) => Ok(Fact::Key(*key)),
+            DrawMark::Challenge(value) => Ok(Fact::Challenge(*value)),
+            DrawMark::Nonce(value) => Ok(Fact::Nonce(*value)),
+            DrawMark::Cookie(value) => Ok(Fact::Cookie(*value)),
+        }
+    }
+
+    fn of_key(is_leaked: bool, key: [u8; 16]) -> Fact
+        ensures { result ≡ key_fact is_leaked key }
+    {
+        if is_leaked {
+            Fact::LeakedKey(key)
+        } else {
+            Fact::Key(key)
+        }
+    }
+}
+
+/// The key of a connection: the first 16 bytes of its secret.
+fn front_of(secret: &[u8; 64]) -> [u8; 16]
+    ensures { result ≡ take 16 secret.now }
+{
+    let Some((key, _)) = secret.split_first_chunk::<16>() else {
+        unreachable!()
+    };
+    *key
+}

@@ -1,0 +1,21 @@
+//! Known answers of logs. A row `log CLIENT..` begins a log in which these clients leaked; a row `NODE LINE WHAT ..` is an entry of it, as
+//! the README lists them; a row `told` prints what is found in the log so far.
+#![tactic(auto)]
+
+mod entries;
+mod marks;
+mod rows;
+
+use rows::Rows;
+use std::io;
+
+fn main(rt: HostRuntime) -> io::Result<()> {
+    let alloc = rt.alloc();
+    let text = io::read_to_string(alloc, rt.stdin())?;
+    let mut rows = Rows::new(alloc)?;
+    for row in text.lines() {
+        let told = rows.told(alloc, row)?;
+        print!(rt; "{told}")?;
+    }
+    Ok(())
+}

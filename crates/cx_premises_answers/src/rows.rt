@@ -1,0 +1,61 @@
+//! Rows of logs, and what is told of them.
+
+use crate::entries::entry_of;
+use cx_base::Items;
+use cx_premises::Ledger;
+use cx_words::name;
+use std::alloc::{AllocError, Global};
+
+/// The ledger of the log that was begun last.
+#[derive(Drop)]
+pub struct Rows {
+    ledger: Ledger,
+}
+
+impl Rows {
+    /// An empty log, in which no client leaked.
+    pub fn new(alloc: Global) -> Result<Rows, AllocError> {
+        let ledger = Ledger::new(alloc, &[])?;
+        Ok(Rows { ledger })
+    }
+
+    /// What is told of a row: an empty one and one that begins with `#` as they are, and nothing of an entry.
+    pub fn told(&mut self, alloc: Global, row: &str) -> Result<String, AllocError> {
+        if row.is_empty() || row.starts_with('#') {
+            return format!(in alloc; "{row}\n");
+        }
+        let (first, rest) = row.split_once(' ').unwrap_or((row, ""));
+        match first {
+            "log" => self.begin(alloc, rest),
+            "told" => self.found(alloc),
+            _ => self.enter(alloc, first, rest),
+        }
+    }
+
+    fn begin(&mut self, alloc: Global, clients: &str) -> Result<String, AllocError> {
+        let mut leaked = Items::new(alloc);
+        for word in clients.split_ascii_whitespace() {
+            let Some(client) = name(alloc, word.as_bytes())? else {
+                return format!(in alloc; "no such client\n");
+            };
+            leaked.push(alloc, client)?;
+        }
+        self.ledger = Ledger::new(alloc, leaked.all())?;
+        Ok(String::new(alloc))
+    }
+
+    fn enter(&mut self, alloc: Global, node: &str, rest: &str) -> Result<String, AllocError> {
+        let Some(at) = entry_of(alloc, node, rest)? else {
+            return format!(in alloc; "no entry: {node} {rest}\n");
+        };
+        self.ledger.enter(alloc, &at)?;
+        Ok(String::new(alloc))
+    }
+
+    fn found(&self, alloc: Global) -> Result<String, AllocError> {
+        match self.ledger.first_breach() {
+            None => format!(in alloc; "sound and fresh\n"),
+            Some(b) => { format!(in alloc; "broken {} {} {} {}\n", b.why, b.node, b.kind, b.line) }
+        }
+    }
+}
