@@ -1,0 +1,59 @@
+-- The monitor as its machine holds it.
+use Rattle.std.specs.Prelude.{◌≡◌, ℕ, List, Option, Some, None, map}
+use Rattle.cx_rules.specs.Abridged.{abridged_link}
+use Rattle.cx_rules.specs.Inputs.{Input, Opened, NoLink, Bytes, Turn, Gone, Look, Tick, Submit, Restart}
+use Rattle.cx_rules.specs.Links.{Link}
+use Rattle.cx_rules.specs.Monitor.{Monitor, MonitorNode, MonitorStage}
+use Rattle.cx_rules.specs.MonitorRule.{noted}
+use Rattle.cx_rules.specs.Rows.{forgotten}
+use Rattle.cx_steps.specs.Nothing.{nothing}
+use Rattle.cx_steps.specs.declared.effects.Effects.{Effects}
+
+abbrev pub node_of : Monitor → List (Link MonitorStage) → MonitorNode
+node_of own links = record { own = own; links = links }
+
+-- of none of these links more can be forgotten
+abbrev pub AreAbridged : List (Link MonitorStage) → Type 0
+AreAbridged links = map abridged_link links ≡ links
+
+-- all but what is kept and what was saved last is as before
+abbrev pub IsSameBut : Monitor → Monitor → Type 0
+IsSameBut old new = old ≡ record new { server = record new.server { state = old.server.state }; saved = old.saved }
+
+-- ---- want of memory
+
+-- the link that an event is about
+abbrev pub link_in : Input → Option ℕ
+link_in (Opened number peer) = Some number
+link_in (Bytes number bytes) = Some number
+link_in (Turn number) = Some number
+link_in (Gone number) = Some number
+link_in _ = None
+
+abbrev pub without_lost : Option ℕ → MonitorNode → MonitorNode
+without_lost None m = m
+without_lost (Some number) m = forgotten m number
+
+-- where memory is wanting, the event's link is forgotten, and nothing else happens than that the step begins
+abbrev pub lost : MonitorNode → Input → MonitorNode
+lost m input = without_lost (link_in input) (noted m)
+
+abbrev pub losing : Input → Effects
+losing input = record nothing { lost = link_in input }
+
+-- ---- steps
+
+-- what a step gave, and the monitor behind it, are those of the rules, abridged
+pub record IsStep (m : MonitorNode) (due : Outcome MonitorNode) (out : Effects) : Type 0 where
+  pub out : out ≡ due.out
+  pub state : m ≡ abridged_monitor due.state
+
+-- the link was taken out of all of them, and these are left
+pub record IsOutOf (link : Link MonitorStage) (left all : List (Link MonitorStage)) : Type 0 where
+  pub left : left ≡ without_link link.number all
+  pub held : AreAbridged all
+  pub place : put_link link all ≡ all
+
+-- what is done on a link that opens
+abbrev pub opening : Bool → MonitorArrival → MonitorRow
+opening full a = if full then refuses a LinksFull [] else goes_on a AwaitsBanner own_banner []
