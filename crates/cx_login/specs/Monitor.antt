@@ -1,7 +1,11 @@
 -- The monitor's side of a login ("detailed cephx protocol": the proof is compared, and the global id of an old ticket is kept).
-use Rattle.std.specs.Prelude.{ℕ, ◌≡◌, ◌==◌, ◌&&◌, not, List, Option, Some, None, Result, Ok, Err, nat_lt, if◌then◌else◌}
+use Rattle.std.specs.Prelude.{ℕ, ◌≡◌, ◌==◌, ◌&&◌, ◌++◌, not, List, Option, Some, None, Result, Ok, Err, nat_lt, if◌then◌else◌}
+use Rattle.std.specs.Int.{w64, to_le_bytes}
 use Rattle.cx_base.specs.Names.{Name, same_name}
+use Rattle.cx_journal.specs.declared.premises.KeyKind.TheVariants.{Proof}
 use Rattle.cx_sealed.specs.declared.service_ticket.ServiceTicket.{ServiceTicket}
+use Rattle.cx_steps.specs.declared.seals.SealEntry.{SealEntry}
+use Rattle.cx_steps.specs.declared.seals.SealEntry.TheVariants.{Checked}
 use Rattle.cx_wire.specs.declared.logins.Authenticate.{Authenticate}
 use Rattle.cx_login.specs.Proving.{due_proof}
 use Rattle.cx_login.specs.declared.monitor.Reclaim.{Reclaim}
@@ -32,6 +36,14 @@ compared due offer ask =
 
 abbrev pub proving : Offer → Authenticate → Result Proven WrongProof
 proving offer ask = compared (due_proof offer.secret offer.challenge ask.client_challenge) offer ask
+
+-- what is found equal: the content of a proof, which is both challenges, under the entity's secret
+abbrev pub proof_found : Offer → ℕ → SealEntry
+proof_found offer client_challenge = Checked (record {
+  key = offer.secret;
+  kind = Proof;
+  content = to_le_bytes w64 offer.challenge ++ to_le_bytes w64 client_challenge;
+})
 
 -- the global id that an opened old ticket keeps: it is the proved entity's, and expires after the reading
 abbrev pub kept_gid : Name → ℕ → Option ServiceTicket → Option ℕ

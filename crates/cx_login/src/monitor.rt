@@ -1,17 +1,18 @@
 //! The monitor's side of a login.
 
 ghost use Rattle.std.specs.Prelude.{◌≡◌, ◌++◌, IfOk, OnOk};
-ghost use Rattle.cx_login.specs.Monitor.{IsProved, proving, kept_gid, reclaimed};
+ghost use Rattle.cx_login.specs.Monitor.{IsProved, proving, proof_found, kept_gid, reclaimed};
 ghost use Rattle.cx_login.specs.Unlocking.{old_ticket, Unlocks};
 
 use crate::opening::unlocked_ticket;
 use crate::proving::due_proof;
 use crate::refusals::WrongProof;
-use cx_base::{EntityName, Items, Reading};
+use cx_base::{Blob, EntityName, Items, Reading};
 use cx_enc::{Key, TicketBlob};
+use cx_journal::KeyKind;
 use cx_rotate::Generations;
 use cx_sealed::ServiceTicket;
-use cx_steps::SealEntry;
+use cx_steps::{SealEntry, SealMark};
 use cx_wire::Authenticate;
 use std::alloc::{AllocError, Global};
 use std::marker::Model;
@@ -94,6 +95,19 @@ impl Proved {
         ensures proved { IsProved self.now.offer self.now.ask }
     {
         &self.offered.name
+    }
+
+    /// What was found equal, as an entry of the log: under the entity's key both challenges, the monitor's first.
+    pub fn found(&self, alloc: Global) -> Result<SealEntry, AllocError>
+        ensures { IfOk result (λ entry. entry ≡ proof_found self.now.offer self.now.ask.client_challenge) }
+    {
+        let mut content = Blob::of(alloc, &self.offered.challenge.to_le_bytes())?;
+        content.append(alloc, &self.ask.client_challenge.to_le_bytes())?;
+        Ok(SealEntry::Checked(SealMark {
+            key: self.offered.key.secret,
+            kind: KeyKind::Proof,
+            content,
+        }))
     }
 
     /// The services for which it asks tickets, as the sum of their numbers.

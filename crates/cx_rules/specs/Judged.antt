@@ -32,7 +32,7 @@ IsHandedOut (entry.Issued ticket) = Unit {0}
 IsHandedOut (entry.Saved gid) = Unit {0}
 IsHandedOut _ = ⊥
 
--- the kinds of key that seal tickets, what is told of them, and connection secrets: all but the key of a connection
+-- the kinds of key that seal tickets, what is told of them, and connection secrets
 abbrev pub IsEnvelopeKind : KeyKind → Type 0
 IsEnvelopeKind kind.Principal = Unit {0}
 IsEnvelopeKind kind.Auth = Unit {0}
@@ -60,15 +60,15 @@ pub record IsQuiet (before : MonitorNode) (o : Outcome MonitorNode) : Type 0 whe
   pub save : o.out.save ≡ None
   pub saved : o.state.own.saved ≡ before.own.saved
 
--- a step that hands out tickets: a proof was found equal; its link goes on; what there is then is what is saved, and it is saved where it
--- differs from what was
+-- a step that hands out tickets: a proof was found equal; its link goes on; behind it the saved state is the key server's, and it is saved
+-- where it differs from the one that was saved before
 pub record IsGranting (before : MonitorNode) (o : Outcome MonitorNode) : Type 0 where
   pub proven : SomeOf IsProofFound o.out.seals
   pub shuts : o.out.shuts ≡ []
   pub save : o.out.save ≡ changed before.own.saved o.state.own.server.state
   pub saved : o.state.own.saved ≡ o.state.own.server.state
 
--- a restart hands out nothing either, and begins from what was saved
+-- each step does the one or the other
 abbrev pub IsJudged : MonitorNode → Outcome MonitorNode → Type 0
 IsJudged before o = IsQuiet before o ⊎ IsGranting before o
 
@@ -112,7 +112,7 @@ abbrev pub LogsLink : MonitorArrival → List SealEntry → Option (Link Monitor
 LogsLink a seals (Some link) = LogsStage a seals link.stage
 LogsLink a seals None = Unit {0}
 
--- a turn at the monitor logs what it draws
+-- a turn at the monitor logs these draws, which its link goes on with
 abbrev pub LogsTurn : MonitorArrival → Turned Monitor MonitorStage → Type 0
 LogsTurn a Waits = Unit {0}
 LogsTurn a (Refuses why opened) = Unit {0}

@@ -1,4 +1,4 @@
--- What the rules write, against the bytes of a recorded run: the banner, and payloads of frames.
+-- What the rules write, in bytes: the banner of this project's profile, and payloads of frames as two recorded runs have them.
 use Rattle.std.specs.Prelude.{ℕ, ◌≡◌, List, [], ◌∷◌}
 use Rattle.cx_base.specs.declared.addresses.Addr.{Addr}
 use Rattle.cx_base.specs.declared.kinds.EntityType.TheVariants.{Mon, Osd, Client}
@@ -17,13 +17,15 @@ pub record IsControl (frame : Frame) (tag : ℕ) (bytes : List ℕ) : Type 0 whe
 abbrev pub local : ℕ → ℕ → Addr
 local nonce port = record { nonce = nonce; ip = 127 ∷ 0 ∷ 0 ∷ 1 ∷ []; port = port }
 
--- the daemon osd.0 of that run, which offers the secure mode, and a client client.a that offers crc alone
+-- the daemon osd.0 of the one run, which offers the secure mode, and the client client.a of the other, which offers crc alone
 abbrev pub osd_0 : Asker
 osd_0 = record { name = record { kind = Osd; id = 48 ∷ [] }; secret = []; address = local 2 0; modes = 2 ∷ []; global_seq = 0; holdings = holds_nothing }
 
 abbrev pub client_a : Asker
 client_a = record { name = record { kind = Client; id = 97 ∷ [] }; secret = []; address = local 1 0; modes = 1 ∷ []; global_seq = 0; holdings = holds_nothing }
 
+-- The recorded runs write a banner that requires nothing; that field alone is the profile's own. No recorded run has a SESSION_RESET: its
+-- byte is that of a flag that is set.
 pub record WritesAsRecorded : Type 0 where
   pub banner : own_banner ≡ 99 ∷ 101 ∷ 112 ∷ 104 ∷ 32 ∷ 118 ∷ 50 ∷ 10 ∷ 16 ∷ 0 ∷ 1 ∷ 0 ∷ 0 ∷ 0 ∷ 0 ∷ 0 ∷ 0 ∷ 0 ∷ 1 ∷ 0 ∷ 0 ∷ 0 ∷ 0 ∷ 0 ∷ 0 ∷ 0 ∷ []
   pub hello : IsControl (own_hello Mon) 1 (1 ∷ 1 ∷ 2 ∷ 0 ∷ 0 ∷ 0 ∷ 0 ∷ 0 ∷ 0 ∷ 0 ∷ 0 ∷ 0 ∷ 0 ∷ 0 ∷ 0 ∷ 0 ∷ [])

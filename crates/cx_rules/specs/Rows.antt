@@ -107,8 +107,8 @@ abbrev pub links_behind : {Stage : Type 0} → List (Link Stage) → ℕ → Lis
 links_behind links number bytes (Some link) = put_link (record link { sent = link.sent ++ bytes }) links
 links_behind links number bytes None = without_link number links
 
-abbrev pub shuts : {Stage : Type 0} → ℕ → Option (Link Stage) → List ℕ
-shuts number (Some link) = []
+abbrev pub shuts : {X : Type 0} → ℕ → Option X → List ℕ
+shuts number (Some x) = []
 shuts number None = number ∷ []
 
 -- what is sent on a link, in one piece

@@ -23,7 +23,7 @@ pub fn rule_laws()
     ensures asker_draws { (a : AskerArrival) → AskerLogsTurn a (connector.turned_at a a.link.stage) }
 {}
 
-/// The banner and the payloads that don't hang on a draw are those of recorded runs, byte by byte.
+/// The banner is that of this project's profile, byte by byte, and the payloads of the first frames of a login are those of recorded runs.
 pub fn recorded_bytes()
     ensures { WritesAsRecorded }
 {}

@@ -8,6 +8,7 @@ use Rattle.cx_frame.specs.declared.frame.Segment.{Segment}
 use Rattle.cx_frame.specs.declared.frame.Frame.{Frame}
 use Rattle.cx_frame.specs.Preambles.{length_of, preamble_of, preamble_text}
 use Rattle.cx_frame.proofs.FrameLaws.{length-preamble_text}
+use Rattle.cx_secure.specs.Contents.{sealed_contents}
 use Rattle.cx_secure.specs.Parts.{nonce_at, part, sealed_parts}
 use Rattle.cx_secure.proofs.PartLaws.{sealed-append}
 use Rattle.cx_secure.specs.Plains.{bodies, filled, inline_of, last_plain, nonempty, one_if, padded, parts_of, plains, plains_of, second_plain, up16}
@@ -91,6 +92,30 @@ three_sealed key fixed counter behind preamble first others t u v et eu ev eb =
     ∙ ap (λ n. (head ++ sealed_parts key fixed (counter + 1) second) ++ sealed_parts key fixed n last) count
     ∙ append_assoc head (sealed_parts key fixed (counter + 1) second) (sealed_parts key fixed (counter + 1 + length second) last)
     ∙ ap (λ s. head ++ s) (sym (sealed-append key fixed (counter + 1) second last))
+
+contents-append : (fixed : List ℕ) (counter : ℕ) (ps qs : List (List ℕ))
+    → sealed_contents fixed counter (ps ++ qs) ≡ sealed_contents fixed counter ps ++ sealed_contents fixed (counter + length ps) qs
+unfolding sealed_contents
+contents-append fixed counter [] qs = let same : counter + length {A = List ℕ} [] ≡ counter = omega arith in rw same refl
+contents-append fixed counter (p ∷ ps) qs =
+    let same : counter + 1 + length ps ≡ counter + length (p ∷ ps) = omega arith in
+    ap (λ cs. (nonce_at fixed counter ++ p) ∷ cs) (contents-append fixed (counter + 1) ps qs ∙ ap (λ n. sealed_contents fixed (counter + 1) ps ++ sealed_contents fixed n qs) same)
+
+-- the contents of three parts, one behind the other
+pub three_contents : (fixed : List ℕ) (counter behind : ℕ) (preamble first : List ℕ) (others : List Segment) (t u v : List (List ℕ))
+    → t ≡ (nonce_at fixed counter ++ (preamble ++ inline_of first)) ∷ []
+    → u ≡ t ++ sealed_contents fixed (counter + 1) (nonempty (second_plain first))
+    → v ≡ u ++ sealed_contents fixed behind (nonempty (last_plain others))
+    → behind ≡ counter + 1 + one_if (length first - 48) → v ≡ sealed_contents fixed counter (parts_of preamble first others)
+unfolding parts_of sealed_contents
+three_contents fixed counter behind preamble first others t u v et eu ev eb =
+    let second : List (List ℕ) = nonempty (second_plain first) in
+    let last : List (List ℕ) = nonempty (last_plain others) in
+    let head : List ℕ = nonce_at fixed counter ++ (preamble ++ inline_of first) in
+    let count : behind ≡ counter + 1 + length second = eb ∙ ap (λ n. counter + 1 + n) (sym (second_counted first)) in
+    ev ∙ ap (λ s. s ++ sealed_contents fixed behind last) (eu ∙ ap (λ s. s ++ sealed_contents fixed (counter + 1) second) et)
+    ∙ ap (λ n. (head ∷ sealed_contents fixed (counter + 1) second) ++ sealed_contents fixed n last) count
+    ∙ ap (λ s. head ∷ s) (sym (contents-append fixed (counter + 1) second last))
 
 pub inline_len : (bytes : List ℕ) → length (inline_of bytes) ≡ 48
 unfolding inline_of

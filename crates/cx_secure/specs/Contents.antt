@@ -1,10 +1,11 @@
 -- What opens of a secure frame: of each part whose tag is right its content, which is its nonce and its plain bytes, whether or not a frame
--- is read from it.
+-- is read from it. And what of one was sealed.
 use Rattle.std.specs.Prelude.{ℕ, ◌+◌, ◌-◌, ◌^◌, ◌==◌, List, [], ◌∷◌, ◌++◌, length, take, drop, nat_lt, Option, Some, None, if◌then◌else◌}
+use Rattle.cx_frame.specs.declared.frame.Frame.{Frame}
 use Rattle.cx_frame.specs.declared.preamble.Preamble.{Preamble}
 use Rattle.cx_frame.specs.Preambles.{preamble_text}
 use Rattle.cx_secure.specs.Parts.{nonce_at, opened}
-use Rattle.cx_secure.specs.Plains.{one_if, rest_parts, second_len, tagged}
+use Rattle.cx_secure.specs.Plains.{one_if, plains, rest_parts, second_len, tagged}
 use Rattle.cx_secure.specs.declared.sealing.Head.{Head}
 use Rattle.cx_secure.specs.declared.sealing.Way.{Way}
 
@@ -38,3 +39,12 @@ rest_contents key fixed counter p bytes =
 -- the content of a head that was opened last in this way
 abbrev pub head_content : Way → Head → List ℕ
 head_content way h = nonce_at way.fixed (way.counter - 1) ++ (preamble_text h.preamble ++ h.inline)
+
+-- of plain texts, each sealed under the counter behind the one before it
+unfoldable pub sealed_contents : List ℕ → ℕ → List (List ℕ) → List (List ℕ)
+sealed_contents fixed counter [] = []
+sealed_contents fixed counter (plain ∷ plains) = (nonce_at fixed counter ++ plain) ∷ sealed_contents fixed (counter + 1) plains
+
+-- of a frame that was sealed last in this way
+abbrev pub frame_contents : Way → Frame → List (List ℕ)
+frame_contents way f = sealed_contents way.fixed (way.counter - length (plains f)) (plains f)

@@ -4,17 +4,18 @@ ghost use Rattle.std.specs.Prelude.{◌≡◌, ◌≢◌, ℕ, ◌+◌, ◌-◌,
 ghost use Rattle.cx_gcm.specs.GcmKeyOf.{gcm_key_of};
 ghost use Rattle.cx_frame.specs.Frames.{IsAnnounceable, total};
 ghost use Rattle.cx_frame.specs.Preambles.{IsAllowed, length_of, preamble_of};
+ghost use Rattle.cx_secure.specs.Contents.{frame_contents, sealed_contents};
 ghost use Rattle.cx_secure.specs.Parts.{sealed_parts};
-ghost use Rattle.cx_secure.specs.Plains.{bodies, filled, inline_of, last_plain, padded, parts_of, plains, second_plain, secure_text};
+ghost use Rattle.cx_secure.specs.Plains.{bodies, filled, inline_of, last_plain, nonempty, padded, parts_of, plains, second_plain, secure_text};
 ghost use Rattle.cx_secure.specs.Refusing.{IsRefusal};
 ghost use Rattle.cx_secure.specs.Sealings.{after_putting, connection_key, put_refusal};
 
 use crate::opening::MAX_SECURE;
-use crate::parts::{nonce_at, seal_part, seal_some};
+use crate::parts::{hand_out, nonce_at, seal_part, seal_some};
 use crate::refusals::SecureRefusal;
 use crate::rooms::{COMPLETE, END, INLINE, one_if, up16};
 use crate::sealing::{Sealing, Way};
-use cx_base::Blob;
+use cx_base::{Blob, Items};
 use cx_frame::{Frame, Segment, preamble_of, put_preamble, total};
 use cx_gcm::GcmKey;
 use std::alloc::{AllocError, Global};
@@ -53,6 +54,23 @@ impl Sealing {
         into.append(alloc, text.bytes())?;
         self.out.raise(parts);
         Ok(())
+    }
+
+    /// The content of each part of the frame that was put last: its nonce and its plain bytes.
+    pub fn put_contents(&self, alloc: Global, frame: &Frame) -> Result<Items<Blob>, AllocError>
+        requires announced { IsAnnounceable frame.now }
+        requires short { total frame.now ≤ 1048576 }
+        ensures { IfOk result (λ contents. contents ≡ frame_contents self.now.out frame.now) }
+    {
+        let counter = self.out.counter.saturating_sub(parts_of(frame));
+        contents(alloc, &self.out.fixed, counter, frame)
+    }
+
+    /// The number of parts that can still be sealed.
+    pub fn parts_left(&self) -> u64
+        ensures { result ≡ 2 ^ 64 - 1 - self.now.out.counter }
+    {
+        u64::MAX - self.out.counter
     }
 }
 
@@ -124,6 +142,79 @@ fn sealed_behind(
     seal_some(alloc, &mut text, key, &way.fixed, next, &mut second)?;
     seal_some(alloc, &mut text, key, &way.fixed, behind, &mut last)?;
     Ok(text)
+}
+
+// The contents of a frame's parts.
+#[tactic(auto, using(crate::proofs::PlainLaws::preamble_len), unfolding(crate::specs::Plains::plains, crate::specs::Plains::plains_of))]
+fn contents(
+    alloc: Global,
+    fixed: &[u8; 4],
+    counter: u64,
+    frame: &Frame,
+) -> Result<Items<Blob>, AllocError>
+    requires announced { IsAnnounceable frame.now }
+    requires short { total frame.now ≤ 1048576 }
+    requires counter { counter + length (plains frame.now) < 2 ^ 64 }
+    ensures { IfOk result (λ contents. contents ≡ sealed_contents fixed.now counter (plains frame.now)) }
+{
+    let mut preamble = Blob::new(alloc);
+    put_preamble(alloc, &mut preamble, &preamble_of(frame))?;
+    let [first, others @ ..] = frame.segments.all() else {
+        return Ok(Items::new(alloc));
+    };
+    contents_behind(
+        alloc,
+        fixed,
+        counter,
+        preamble.bytes(),
+        first.bytes.bytes(),
+        others,
+    )
+}
+
+// The contents of the parts of a frame with this preamble.
+#[tactic(auto, using(crate::proofs::PlainLaws::parts_before))]
+fn contents_behind(
+    alloc: Global,
+    fixed: &[u8; 4],
+    counter: u64,
+    preamble: &[u8],
+    first: &[u8],
+    others: &[Segment],
+) -> Result<Items<Blob>, AllocError>
+    requires preamble { length preamble.now ≡ 32 }
+    requires first { length first.now ≤ 1048576 }
+    requires others { sum_by length_of others.now ≤ 1048576 }
+    requires counter { counter + length (parts_of preamble.now first.now others.now) < 2 ^ 64 }
+    ensures { IfOk result (λ contents. contents ≡ sealed_contents fixed.now counter (parts_of preamble.now first.now others.now)) }
+{
+    let head = head_plain(alloc, preamble, first)?;
+    let second = second_plain(alloc, first)?;
+    let last = last_plain(alloc, others)?;
+    let next = counter + 1;
+    let behind = next + one_if(first.len().saturating_sub(INLINE));
+    let mut contents = Items::new(alloc);
+    hand_out(alloc, &nonce_at(fixed, counter), &head, &mut contents)?;
+    hand_out_nonempty(alloc, fixed, next, &second, &mut contents)?;
+    hand_out_nonempty(alloc, fixed, behind, &last, &mut contents)?;
+    Ok(contents)
+}
+
+// Hands out the content of a part with this counter, where there is one.
+#[tactic(auto, unfolding(crate::specs::Contents::sealed_contents))]
+fn hand_out_nonempty(
+    alloc: Global,
+    fixed: &[u8; 4],
+    counter: u64,
+    plain: &[u8],
+    contents: &mut Items<Blob>,
+) -> Result<(), AllocError>
+    ensures { OnOk result (contents.new ≡ contents.old ++ sealed_contents fixed.now counter (nonempty plain.now)) }
+{
+    if plain.is_empty() {
+        return Ok(());
+    }
+    hand_out(alloc, &nonce_at(fixed, counter), plain, contents)
 }
 
 // The plain bytes of the first part.

@@ -1,9 +1,10 @@
 //! The stage of secure frames.
 
-ghost use Rattle.std.specs.Prelude.{◌≡◌, ◌≢◌, ℕ, List, Ok, Err, Some, None, ◌++◌, OnOk, OnErr, IfErr, length};
-ghost use Rattle.cx_frame.specs.Frames.{IsAnnounceable};
+ghost use Rattle.std.specs.Prelude.{◌≡◌, ◌≢◌, ◌≤◌, ◌-◌, ◌^◌, ℕ, List, Ok, Err, Some, None, ◌++◌, IfOk, OnOk, OnErr, IfErr, length};
+ghost use Rattle.cx_frame.specs.Frames.{IsAnnounceable, total};
 ghost use Rattle.cx_frame.specs.Preambles.{IsAllowed};
 ghost use Rattle.cx_frame.specs.declared.frame.Frame.{Frame};
+ghost use Rattle.cx_secure.specs.Contents.{frame_contents};
 ghost use Rattle.cx_secure.specs.Plains.{secure_text};
 ghost use Rattle.cx_secure.specs.Sealings.{connection_key, put_refusal, unless_kept};
 ghost use Rattle.cx_secure.specs.declared.refusals.SecureRefusal.{SecureRefusal};
@@ -62,6 +63,8 @@ impl Secure {
             → opened.new ≡ opened.old ++ front_contents (ahead self.old) }
         ensures waits { result ≡ Ok None → opened.new ≡ opened.old }
         ensures still { (refusal : SecureRefusal) → self.old.sealing.kept ≡ Some refusal → opened.new ≡ opened.old }
+        // What is sent the other way isn't touched.
+        ensures out { self.new.sealing.out ≡ self.old.sealing.out }
     {
         self.next(alloc, opened)
     }
@@ -78,6 +81,7 @@ impl Secure {
             → opened.new ≡ opened.old ++ front_contents (ahead self.old) }
         ensures waits { result ≡ Ok None → opened.new ≡ opened.old }
         ensures still { (refusal : SecureRefusal) → self.old.sealing.kept ≡ Some refusal → opened.new ≡ opened.old }
+        ensures out { self.new.sealing.out ≡ self.old.sealing.out }
     {
         match self.ready(alloc, opened) {
             Ok(Some(head)) => match self.finish(alloc, head, opened) {
@@ -100,6 +104,7 @@ impl Secure {
             → opened.new ≡ opened.old ++ front_contents (ahead self.old) }
         ensures read { OnOk result (opened.new ≡ opened.old) }
         ensures still { (refusal : SecureRefusal) → self.old.sealing.kept ≡ Some refusal → opened.new ≡ opened.old }
+        ensures out { self.new.sealing.out ≡ self.old.sealing.out }
     {
         if let Some(refusal) = self.sealing.kept() {
             return Err(refusal);
@@ -132,6 +137,7 @@ impl Secure {
         ensures finished { Finished self.old self.new head result }
         ensures handed { result ≢ Ok None → result ≢ Err OutOfMemory → opened.new ≡ opened.old ++ open_contents self.old head }
         ensures waits { result ≡ Ok None → opened.new ≡ opened.old }
+        ensures out { self.new.sealing.out ≡ self.old.sealing.out }
     {
         let length = rest_len(&head);
         if self.rest.len() < length {
@@ -167,6 +173,22 @@ impl Secure {
             Ok(()) => Ok(()),
             Err(refusal) => Err(StreamFault::Secure(refusal)),
         }
+    }
+
+    /// The content of each part of the frame that was put last: its nonce and its plain bytes.
+    pub fn put_contents(&self, alloc: Global, frame: &Frame) -> Result<Items<Blob>, AllocError>
+        requires announced { IsAnnounceable frame.now }
+        requires short { total frame.now ≤ 1048576 }
+        ensures { IfOk result (λ contents. contents ≡ frame_contents self.now.sealing.out frame.now) }
+    {
+        self.sealing.put_contents(alloc, frame)
+    }
+
+    /// The number of parts that can still be sealed.
+    pub fn parts_left(&self) -> u64
+        ensures { result ≡ 2 ^ 64 - 1 - self.now.sealing.out.counter }
+    {
+        self.sealing.parts_left()
     }
 
     /// The number of bytes that were fed and not taken. A head that was opened is taken.

@@ -5,275 +5,30 @@ use crate::top::run;
 use cx_base::{Access, Blob, ByteSource, Sink, VecSink};
 use cx_caps::Permitted;
 use cx_desk::Desk;
-use cx_keyring::KeyringFault;
 use std::alloc::{AllocError, Global};
 use std::process::Abort;
 
-/// A schedule, the status of its replay, and the journal.
-struct Row {
-    shows: &'static str,
-    schedule: &'static str,
-    status: Status,
-    journal: &'static str,
-}
+/// The first journal. The other worked schedules are those of `examples/`, which `examples/check` runs through the program.
+const FIRST: &str = "entity client.a osd \"allow *\"\n\
+    entity osd.0\n\
+    clock 1000\n\
+    fetch osd.0\n\
+    login client.a osd\n\
+    connect client.a osd.0\n\
+    send client.a osd.0 read rbd - obj1 -\n";
 
-const ROWS: [Row; 14] = [
-    Row {
-        shows: "a client that logs in, connects and sends is admitted and answered",
-        schedule: "entity client.a osd \"allow *\"\n\
-            entity osd.0\n\
-            clock 1000\n\
-            fetch osd.0\n\
-            login client.a osd\n\
-            connect client.a osd.0\n\
-            send client.a osd.0 read rbd - obj1 -\n",
-        status: Status::Done,
-        journal: "saved 2\n\
-            issued 1 osd.0 auth 1 2 1000 44200 \"\"\n\
-            fetched osd.0 1000 1,2,3\n\
-            saved 3\n\
-            issued 2 client.a auth 2 2 1000 44200 \"\"\n\
-            issued 3 client.a osd 2 2 1000 4600 \"allow *\"\n\
-            looked osd.0 3 1,2,3 1000\n\
-            looked osd.0 3 1,2,3 1000\n\
-            admitted osd.0 1 1 c1 client.a 2 1000 \"allow *\"\n\
-            sent client.a osd.0 c1 1 read rbd - obj1 -\n\
-            handled osd.0 1 1 c1 1 read rbd - obj1 - done\n\
-            answered client.a osd.0 1 done\n",
-    },
-    Row {
-        shows: "an empty schedule has an empty journal",
-        schedule: "",
-        status: Status::Done,
-        journal: "",
-    },
-    Row {
-        shows: "an expired ticket is refused at equality",
-        schedule: "entity client.a osd \"allow *\"\n\
-            entity osd.0\n\
-            clock 1000\n\
-            fetch osd.0\n\
-            login client.a osd\n\
-            clock 4600\n\
-            connect client.a osd.0\n",
-        status: Status::Done,
-        journal: "saved 2\n\
-            issued 1 osd.0 auth 1 2 1000 44200 \"\"\n\
-            fetched osd.0 1000 1,2,3\n\
-            saved 3\n\
-            issued 2 client.a auth 2 2 1000 44200 \"\"\n\
-            issued 3 client.a osd 2 2 1000 4600 \"allow *\"\n\
-            looked osd.0 3 1,2,3 1000\n\
-            refused osd.0 3 expired 4600 4600 ticket=3\n\
-            refused client.a 3 denied 13\n",
-    },
-    Row {
-        shows: "a ticket is good one nanosecond before it expires",
-        schedule: "entity client.a osd \"allow *\"\n\
-            entity osd.0\n\
-            clock 1000\n\
-            fetch osd.0\n\
-            login client.a osd\n\
-            clock 4599.999999999\n\
-            connect client.a osd.0\n",
-        status: Status::Done,
-        journal: "saved 2\n\
-            issued 1 osd.0 auth 1 2 1000 44200 \"\"\n\
-            fetched osd.0 1000 1,2,3\n\
-            saved 3\n\
-            issued 2 client.a auth 2 2 1000 44200 \"\"\n\
-            issued 3 client.a osd 2 2 1000 4600 \"allow *\"\n\
-            looked osd.0 3 1,2,3 1000\n\
-            looked osd.0 3 1,2,3 1000\n\
-            admitted osd.0 1 1 c1 client.a 2 4599.999999999 \"allow *\"\n",
-    },
-    Row {
-        shows: "an expired ticket is refused one nanosecond behind",
-        schedule: "entity client.a osd \"allow *\"\n\
-            entity osd.0\n\
-            clock 1000\n\
-            fetch osd.0\n\
-            login client.a osd\n\
-            clock 4600.000000001\n\
-            connect client.a osd.0\n",
-        status: Status::Done,
-        journal: "saved 2\n\
-            issued 1 osd.0 auth 1 2 1000 44200 \"\"\n\
-            fetched osd.0 1000 1,2,3\n\
-            saved 3\n\
-            issued 2 client.a auth 2 2 1000 44200 \"\"\n\
-            issued 3 client.a osd 2 2 1000 4600 \"allow *\"\n\
-            looked osd.0 3 1,2,3 1000\n\
-            refused osd.0 3 expired 4600 4600.000000001 ticket=3\n\
-            refused client.a 3 denied 13\n",
-    },
-    Row {
-        shows: "a second connect to the same daemon is refused",
-        schedule: "entity client.a osd \"allow *\"\n\
-            entity osd.0\n\
-            fetch osd.0\n\
-            login client.a osd\n\
-            connect client.a osd.0\n\
-            connect client.a osd.0\n",
-        status: Status::Done,
-        journal: "saved 2\n\
-            issued 1 osd.0 auth 1 2 0 43200 \"\"\n\
-            fetched osd.0 0 1,2,3\n\
-            saved 3\n\
-            issued 2 client.a auth 2 2 0 43200 \"\"\n\
-            issued 3 client.a osd 2 2 0 3600 \"allow *\"\n\
-            looked osd.0 3 1,2,3 0\n\
-            looked osd.0 3 1,2,3 0\n\
-            admitted osd.0 1 1 c1 client.a 2 0 \"allow *\"\n\
-            refused client.a 0 busy\n",
-    },
-    Row {
-        shows: "an operation without a session is refused",
-        schedule: "entity client.a osd \"allow *\"\n\
-            entity osd.0\n\
-            send client.a osd.0 read rbd - obj1 -\n",
-        status: Status::Done,
-        journal: "refused client.a 0 no-session\n",
-    },
-    Row {
-        shows: "a client that logs in again keeps its global id",
-        schedule: "entity client.a osd \"allow *\"\n\
-            clock 1000\n\
-            login client.a osd\n\
-            clock 8200\n\
-            login client.a osd\n",
-        status: Status::Done,
-        journal: "saved 2\n\
-            issued 1 client.a auth 1 2 1000 44200 \"\"\n\
-            issued 2 client.a osd 1 2 1000 4600 \"allow *\"\n\
-            saved 2\n\
-            issued 3 client.a auth 1 2 8200 51400 \"\"\n\
-            issued 4 client.a osd 1 3 8200 11800 \"allow *\"\n",
-    },
-    Row {
-        shows: "a ticket of a generation made after the daemon fetched is refused",
-        schedule: "entity client.a osd \"allow *\"\n\
-            entity osd.0\n\
-            clock 1000\n\
-            fetch osd.0\n\
-            clock 12000\n\
-            login client.a osd\n\
-            connect client.a osd.0\n",
-        status: Status::Done,
-        journal: "saved 2\n\
-            issued 1 osd.0 auth 1 2 1000 44200 \"\"\n\
-            fetched osd.0 1000 1,2,3\n\
-            saved 3\n\
-            issued 2 client.a auth 2 2 12000 55200 \"\"\n\
-            issued 3 client.a osd 2 4 12000 15600 \"allow *\"\n\
-            looked osd.0 3 1,2,3 1000\n\
-            refused osd.0 3 unknown-generation 4 ticket=3\n\
-            refused client.a 3 denied 13\n",
-    },
-    Row {
-        shows: "a ticket of the previous generation is good",
-        schedule: "entity client.a osd \"allow *\"\n\
-            entity client.b\n\
-            entity osd.0\n\
-            clock 1000\n\
-            login client.b\n\
-            clock 4998\n\
-            login client.a osd\n\
-            clock 4999\n\
-            fetch osd.0\n\
-            clock 8200\n\
-            login client.b\n\
-            clock 8597\n\
-            connect client.a osd.0\n",
-        status: Status::Done,
-        journal: "saved 2\n\
-            issued 1 client.b auth 1 2 1000 44200 \"\"\n\
-            saved 3\n\
-            issued 2 client.a auth 2 2 4998 48198 \"\"\n\
-            issued 3 client.a osd 2 2 4998 8598 \"allow *\"\n\
-            saved 4\n\
-            issued 4 osd.0 auth 3 2 4999 48199 \"\"\n\
-            fetched osd.0 4999 1,2,3\n\
-            saved 4\n\
-            issued 5 client.b auth 1 2 8200 51400 \"\"\n\
-            looked osd.0 5 1,2,3 4999\n\
-            looked osd.0 5 1,2,3 4999\n\
-            admitted osd.0 1 1 c1 client.a 2 8597 \"allow *\"\n",
-    },
-    Row {
-        shows: "a client without caps gets no ticket",
-        schedule: "entity client.b\n\
-            entity osd.0\n\
-            login client.b osd\n\
-            connect client.b osd.0\n",
-        status: Status::Done,
-        journal: "saved 2\n\
-            issued 1 client.b auth 1 2 0 43200 \"\"\n\
-            refused client.b 0 no-ticket osd\n",
-    },
-    Row {
-        shows: "caps for reads deny a write",
-        schedule: "entity client.a osd \"allow r pool=rbd\"\n\
-            entity osd.0\n\
-            clock 1000\n\
-            fetch osd.0\n\
-            login client.a osd\n\
-            connect client.a osd.0\n\
-            send client.a osd.0 write rbd - obj1 -\n",
-        status: Status::Done,
-        journal: "saved 2\n\
-            issued 1 osd.0 auth 1 2 1000 44200 \"\"\n\
-            fetched osd.0 1000 1,2,3\n\
-            saved 3\n\
-            issued 2 client.a auth 2 2 1000 44200 \"\"\n\
-            issued 3 client.a osd 2 2 1000 4600 \"allow r pool=rbd\"\n\
-            looked osd.0 3 1,2,3 1000\n\
-            looked osd.0 3 1,2,3 1000\n\
-            admitted osd.0 1 1 c1 client.a 2 1000 \"allow r pool=rbd\"\n\
-            sent client.a osd.0 c1 1 write rbd - obj1 -\n\
-            handled osd.0 1 1 c1 1 write rbd - obj1 - denied\n\
-            answered client.a osd.0 1 denied\n",
-    },
-    Row {
-        shows: "a profile grants nothing, and the clause beside it grants what it says",
-        schedule: "entity client.vm mon \"profile rbd\" osd \"profile rbd pool=vms, allow r pool=images\"\n\
-            entity osd.0\n\
-            clock 1000\n\
-            fetch osd.0\n\
-            login client.vm osd\n\
-            connect client.vm osd.0\n\
-            send client.vm osd.0 read images - o -\n\
-            send client.vm osd.0 read vms - o -\n\
-            send client.vm osd.0 write images - o 00\n",
-        status: Status::Done,
-        journal: "saved 2\n\
-            issued 1 osd.0 auth 1 2 1000 44200 \"\"\n\
-            fetched osd.0 1000 1,2,3\n\
-            saved 3\n\
-            issued 2 client.vm auth 2 2 1000 44200 \"\"\n\
-            issued 3 client.vm osd 2 2 1000 4600 \"profile rbd pool=vms, allow r pool=images\"\n\
-            looked osd.0 3 1,2,3 1000\n\
-            looked osd.0 3 1,2,3 1000\n\
-            admitted osd.0 1 1 c1 client.vm 2 1000 \"profile rbd pool=vms, allow r pool=images\"\n\
-            sent client.vm osd.0 c1 1 read images - o -\n\
-            handled osd.0 1 1 c1 1 read images - o - done\n\
-            answered client.vm osd.0 1 done\n\
-            sent client.vm osd.0 c1 2 read vms - o -\n\
-            handled osd.0 1 1 c1 2 read vms - o - denied\n\
-            answered client.vm osd.0 2 denied\n\
-            sent client.vm osd.0 c1 3 write images - o 00\n\
-            handled osd.0 1 1 c1 3 write images - o 00 denied\n\
-            answered client.vm osd.0 3 denied\n",
-    },
-    Row {
-        shows: "a line that is to come is refused by its number",
-        schedule: "entity client.a\n\
-            clock 5\n\
-            renew client.a osd\n",
-        status: Status::NotYet { line: 3 },
-        journal: "",
-    },
-];
+const FIRST_JOURNAL: &str = "saved 2\n\
+    issued 1 osd.0 auth 1 2 1000 44200 \"\"\n\
+    fetched osd.0 1000 1,2,3\n\
+    saved 3\n\
+    issued 2 client.a auth 2 2 1000 44200 \"\"\n\
+    issued 3 client.a osd 2 2 1000 4600 \"allow *\"\n\
+    looked osd.0 3 1,2,3 1000\n\
+    looked osd.0 3 1,2,3 1000\n\
+    admitted osd.0 1 1 c1 client.a 2 1000 \"allow *\"\n\
+    sent client.a osd.0 c1 1 read rbd - obj1 -\n\
+    handled osd.0 1 1 c1 1 read rbd - obj1 - done\n\
+    answered client.a osd.0 1 done\n";
 
 /// The room of the sink.
 const ROOM: usize = 65_536;
@@ -346,20 +101,9 @@ fn an_operation_without_a_handler_is_told_in_both_lines(rt: HostRuntime) -> Resu
 
 #[test]
 fn the_first_replay_has_ample_memory(rt: HostRuntime) -> Result<(), AllocError> {
-    let row = &ROWS[0];
-    let (status, sink) = run_over(rt.alloc(), &["replay"], row.schedule.as_bytes(), &[], ROOM)?;
+    let (status, sink) = run_over(rt.alloc(), &["replay"], FIRST.as_bytes(), &[], ROOM)?;
     assert_eq!(rt; status, Status::Done);
-    assert_eq!(rt; sink.taken(), row.journal.as_bytes());
-    Ok(())
-}
-
-#[test]
-fn each_schedule_has_its_status_and_journal(rt: HostRuntime) -> Result<(), AllocError> {
-    for row in &ROWS {
-        let (status, sink) = run_over(rt.alloc(), &["replay"], row.schedule.as_bytes(), &[], ROOM)?;
-        assert_eq!(rt; status, row.status, "{}", row.shows);
-        assert_eq!(rt; sink.taken(), row.journal.as_bytes(), "{}", row.shows);
-    }
+    assert_eq!(rt; sink.taken(), FIRST_JOURNAL.as_bytes());
     Ok(())
 }
 
@@ -394,70 +138,18 @@ fn the_first_line_that_is_not_served_yet_is_told(rt: HostRuntime) -> Result<(), 
     Ok(())
 }
 
-/// A keyring, the status of its reading, and what is written.
-struct Keyring {
-    shows: &'static str,
-    text: &'static str,
-    status: Status,
-    printed: &'static str,
-}
+/// A keyring and its printed form. Others are those of `examples/keyrings`.
+const KEYRING: &str =
+    "[client.vm]\nkey = AQAAAAAAAAAAABAAAAECAwQFBgcICQoLDA0ODw==\ncaps mon = \"profile rbd\"\n";
 
-static KEYRINGS: [Keyring; 5] = [
-    Keyring {
-        shows: "a keyring of one entity is printed with tabs",
-        text: "[client.vm]\nkey = AQAAAAAAAAAAABAAAAECAwQFBgcICQoLDA0ODw==\ncaps mon = \"profile rbd\"\n\
-            caps osd = \"profile rbd pool=vms, allow r pool=images\"\n",
-        status: Status::Done,
-        printed: "[client.vm]\n\tkey = AQAAAAAAAAAAABAAAAECAwQFBgcICQoLDA0ODw==\n\tcaps mon = \"profile rbd\"\n\
-            \tcaps osd = \"profile rbd pool=vms, allow r pool=images\"\n",
-    },
-    Keyring {
-        shows: "an empty keyring is one",
-        text: "",
-        status: Status::Done,
-        printed: "",
-    },
-    Keyring {
-        shows: "of two lines that are wrong the first is named",
-        text: "[client.a]\nkey AQAA\n\tkey = AQAAAAAAAAAAABAAAAECAwQFBgcICQoLDA0ODw==\n\n\n\n\n\nany\n",
-        status: Status::BadKeyring {
-            line: 2,
-            why: Some(KeyringFault::Unreadable),
-        },
-        printed: "",
-    },
-    Keyring {
-        shows: "a section without a key is named by its own line",
-        text: "[client.a]\n\tcaps mon = \"allow r\"\n",
-        status: Status::BadKeyring {
-            line: 1,
-            why: Some(KeyringFault::NoKey),
-        },
-        printed: "",
-    },
-    Keyring {
-        shows: "a schedule is no keyring",
-        text: "entity client.a\n",
-        status: Status::BadKeyring {
-            line: 1,
-            why: Some(KeyringFault::NoSection),
-        },
-        printed: "",
-    },
-];
-
-fn check_keyring(rt: &impl Abort, alloc: Global, row: &Keyring) -> Result<(), AllocError> {
-    let (status, sink) = run_over(alloc, &["keyring"], row.text.as_bytes(), &[], ROOM)?;
-    assert_eq!(rt; status, row.status, "{}", row.shows);
-    assert_eq!(rt; sink.taken(), row.printed.as_bytes(), "{}", row.shows);
-    Ok(())
-}
+const PRINTED: &str =
+    "[client.vm]\n\tkey = AQAAAAAAAAAAABAAAAECAwQFBgcICQoLDA0ODw==\n\tcaps mon = \"profile rbd\"\n";
 
 #[test]
-fn each_keyring_has_its_status_and_printed_form(rt: HostRuntime) -> Result<(), AllocError> {
-    for row in &KEYRINGS {
-        check_keyring(&rt, rt.alloc(), row)?;
-    }
+fn a_keyring_is_printed_with_ample_memory(rt: HostRuntime) -> Result<(), AllocError> {
+    let (status, sink) = run_over(rt.alloc(), &["keyring"], KEYRING.as_bytes(), &[], ROOM)?;
+    assert_eq!(rt; status, Status::Done);
+    assert_eq!(rt; sink.taken(), PRINTED.as_bytes());
     Ok(())
 }
 
@@ -500,7 +192,7 @@ fn the_limits_of_an_input_go_before_its_lines(rt: HostRuntime) -> Result<(), All
 
 #[test]
 fn only_the_one_word_of_a_command_is_served(rt: HostRuntime) -> Result<(), AllocError> {
-    let input = ROWS[0].schedule.as_bytes();
+    let input = FIRST.as_bytes();
     let (none, _) = run_over(rt.alloc(), &[], input, &[], ROOM)?;
     let (two, _) = run_over(rt.alloc(), &["replay", "keyring"], input, &[], ROOM)?;
     let (other, sink) = run_over(rt.alloc(), &["replays"], input, &[], ROOM)?;
@@ -513,15 +205,15 @@ fn only_the_one_word_of_a_command_is_served(rt: HostRuntime) -> Result<(), Alloc
 
 #[test]
 fn a_failed_read_and_a_failed_write_are_told(rt: HostRuntime) -> Result<(), AllocError> {
-    let row = &ROWS[0];
-    let input = row.schedule.as_bytes();
+    let input = FIRST.as_bytes();
     // The first call gives the whole schedule, and the second fails where the end of input is to be told.
     let (unread, untouched) = run_over(rt.alloc(), &["replay"], input, &[2], ROOM)?;
     assert_eq!(rt; unread, Status::ReadFault);
     assert_eq!(rt; untouched.taken().len(), 0);
     let (unwritten, front) = run_over(rt.alloc(), &["replay"], input, &[], 100)?;
     assert_eq!(rt; unwritten, Status::WriteFault);
-    assert_eq!(rt; front.taken(), &row.journal.as_bytes()[..100]);
+    assert_eq!(rt; front.taken().len(), 100);
+    assert!(rt; FIRST_JOURNAL.as_bytes().starts_with(front.taken()));
     Ok(())
 }
 
