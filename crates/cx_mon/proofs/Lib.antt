@@ -1,1 +1,4 @@
+pub mod Behind
+pub mod Controls
 pub mod Stages
+pub mod Turning

@@ -1,11 +1,14 @@
 -- The monitor as its machine holds it.
-use Rattle.std.specs.Prelude.{◌≡◌, ℕ, List, Option, Some, None, map}
-use Rattle.cx_rules.specs.Abridged.{abridged_link}
+use Rattle.std.specs.Prelude.{◌≡◌, ℕ, Bool, List, [], Option, Some, None, map, if◌then◌else◌}
+use Rattle.cx_journal.specs.declared.outcomes.Reason.TheVariants.{LinksFull}
+use Rattle.cx_rules.specs.Abridged.{abridged_link, abridged_monitor}
+use Rattle.cx_rules.specs.Acceptor.{AwaitsBanner}
+use Rattle.cx_rules.specs.Greetings.{own_banner}
 use Rattle.cx_rules.specs.Inputs.{Input, Opened, NoLink, Bytes, Turn, Gone, Look, Tick, Submit, Restart}
-use Rattle.cx_rules.specs.Links.{Link}
-use Rattle.cx_rules.specs.Monitor.{Monitor, MonitorNode, MonitorStage}
+use Rattle.cx_rules.specs.Links.{Link, put_link, without_link}
+use Rattle.cx_rules.specs.Monitor.{Monitor, MonitorArrival, MonitorNode, MonitorRow, MonitorStage}
 use Rattle.cx_rules.specs.MonitorRule.{noted}
-use Rattle.cx_rules.specs.Rows.{forgotten}
+use Rattle.cx_rules.specs.Rows.{Outcome, forgotten, goes_on, refuses}
 use Rattle.cx_steps.specs.Nothing.{nothing}
 use Rattle.cx_steps.specs.declared.effects.Effects.{Effects}
 

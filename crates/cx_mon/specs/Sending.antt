@@ -2,7 +2,7 @@
 use Rattle.std.specs.Prelude.{◌≡◌, ◌++◌, List, ℕ, Result, Ok, Err}
 use Rattle.cx_journal.specs.declared.faults.BytesFault.{BytesFault}
 use Rattle.cx_link.specs.Wires.{SecureWire, Wire}
-use Rattle.cx_link.specs.declared.sending.SentFrame.{SentFrame}
+use Rattle.cx_link.specs.declared.links.SentFrame.{SentFrame}
 use Rattle.cx_rules.specs.Secured.{SealedFrame}
 use Rattle.cx_mon.specs.declared.sending.SentPlain.{SentPlain}
 

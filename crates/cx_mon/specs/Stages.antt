@@ -1,7 +1,8 @@
 -- The links as the monitor holds them, each as the link of the rules that it is, abridged.
 use Rattle.std.specs.Prelude.{ℕ, []}
-use Rattle.cx_link.specs.Wires.{SecureWire, Wire, secured_link, secured_of, wired}
-use Rattle.cx_link.specs.declared.signing.Signing.{Signing}
+use Rattle.cx_link.specs.Sending.{secured_of}
+use Rattle.cx_link.specs.Wires.{SecureWire, Wire, secured_link, wired}
+use Rattle.cx_link.specs.declared.links.Signing.{Signing}
 use Rattle.cx_login.specs.Monitor.{Offer}
 use Rattle.cx_rules.specs.Acceptor.{AwaitsBanner, AwaitsHello, AwaitsRequest, AwaitsProof, AwaitsSignature, AwaitsIdent, Open}
 use Rattle.cx_rules.specs.Links.{Link}

@@ -14,7 +14,7 @@ use cx_base::{Addr, Blob, EntityType, Items};
 use cx_control::Hello;
 use cx_journal::{BytesFault, NodeName};
 use cx_link::PlainLink;
-use cx_node::{Row, control, goes_on, refuses_bytes};
+use cx_node::{Row, goes_on, refuses_bytes};
 use std::alloc::{AllocError, Global};
 
 // The peer's banner: HELLO is sent, with one's own type and nothing of the peer's address.
@@ -35,8 +35,7 @@ pub(crate) fn on_banner(
         kind: EntityType::Mon,
         addr: nothing_said,
     };
-    let frame = control(alloc, 1, &hello)?;
-    match send_plain(alloc, link, &frame)? {
+    match send_plain(alloc, link, 1, &hello)? {
         Ok(sent) => Ok(goes_on(alloc, Stage::AwaitsHello(sent.link), sent.bytes, Items::new(alloc))),
         Err(why) => refuses_bytes(alloc, &NodeName::Monitor, at.number, why, Items::new(alloc)),
     }

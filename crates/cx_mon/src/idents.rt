@@ -1,12 +1,11 @@
 //! CLIENT_IDENT and SESSION_RECONNECT.
 
-ghost use Rattle.std.specs.Prelude.{◌≡◌, IfOk};
-ghost use Rattle.cx_control.specs.Idents.{client_ident_layout};
-ghost use Rattle.cx_link.specs.Wires.{secured_link};
-ghost use Rattle.cx_rules.specs.Acceptor.{AwaitsIdent, misses};
-ghost use Rattle.cx_rules.specs.MonitorRule.{on_client_ident, on_ident, on_session_reconnect};
-ghost use Rattle.cx_mon.specs.Rows.{arrived, due, ident_arrived, made_row};
-ghost use Rattle.cx_mon.specs.Stages.{keys_alone};
+ghost use Rattle.std.specs.Prelude.{◌≡◌, [], IfOk};
+ghost use Rattle.cx_rules.specs.Acceptor.{Open, misses};
+ghost use Rattle.cx_rules.specs.MonitorRule.{on_client_ident, on_ident, on_session_reconnect, server_ident};
+ghost use Rattle.cx_rules.specs.Rows.{sends_secure};
+ghost use Rattle.cx_mon.specs.Rows.{arrived, due, made_row};
+ghost use Rattle.cx_mon.specs.Stages.{awaiting_ident, keys_alone};
 
 use crate::arrivals::Moment;
 use crate::links::{Entity, Stage};
@@ -17,7 +16,7 @@ use cx_control::{ClientIdent, IdentMissingFeatures, ServerIdent, SessionReconnec
 use cx_frame::Frame;
 use cx_journal::{BytesFault, NodeName};
 use cx_link::SecureLink;
-use cx_node::{Row, control, goes_on, payload, refuses_bytes};
+use cx_node::{Row, goes_on, payload, refuses_bytes};
 use std::alloc::{AllocError, Global};
 
 // A frame behind the peer's signature.
@@ -87,8 +86,7 @@ fn opens_to(
         flags: 1,
         cookie: 0,
     };
-    let frame = control(alloc, 9, &ident)?;
-    match send_secure(alloc, link, &frame)? {
+    match send_secure(alloc, link, 9, &ident)? {
         Ok(sent) => Ok(goes_on(alloc, Stage::Open(sent.link, entity), sent.bytes, sent.seals)),
         Err(why) => refuses_bytes(alloc, &NodeName::Monitor, at.number, why, Items::new(alloc)),
     }
@@ -105,8 +103,7 @@ fn misses(
 ) -> Result<Row<Stage>, AllocError>
     ensures { IfOk result (λ row. made_row own.now at.now.number row ≡ due (misses (arrived own.now at.now (awaiting_ident at.now.number link entity)) (keys_alone link.keys) features)) }
 {
-    let frame = control(alloc, 10, &IdentMissingFeatures { features })?;
-    match send_secure(alloc, link, &frame)? {
+    match send_secure(alloc, link, 10, &IdentMissingFeatures { features })? {
         Ok(sent) => {
             let why = BytesFault::Features(features);
             let refusal = refuses_bytes(alloc, &NodeName::Monitor, at.number, why, sent.seals)?;
@@ -130,8 +127,7 @@ pub(crate) fn on_session_reconnect(
     if let Err(why) = read {
         return refuses_bytes(alloc, &NodeName::Monitor, at.number, why, Items::new(alloc));
     }
-    let frame = control(alloc, 12, &SessionReset { full: true })?;
-    match send_secure(alloc, link, &frame)? {
+    match send_secure(alloc, link, 12, &SessionReset { full: true })? {
         Ok(sent) => Ok(goes_on(alloc, Stage::AwaitsIdent(sent.link, entity), sent.bytes, sent.seals)),
         Err(why) => refuses_bytes(alloc, &NodeName::Monitor, at.number, why, Items::new(alloc)),
     }

@@ -68,7 +68,6 @@ impl Link {
     ghost use Rattle.std.specs.Prelude.{◌≡◌, ◌++◌, IfOk};
 
     // The link behind more bytes.
-    #[tactic(auto, using(crate::proofs::Stages::fed_held))]
     pub(crate) fn fed(self, alloc: Global, bytes: &[u8]) -> Result<Link, AllocError>
         ensures { IfOk result (λ link. link ≡ record self { received = self.received ++ bytes.now }) }
     {

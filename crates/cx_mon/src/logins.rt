@@ -3,12 +3,13 @@
 ghost use Rattle.std.specs.Prelude.{◌≡◌, ◌<◌, find, IfOk, OnErr};
 ghost use Rattle.cx_granting.specs.Rows.{done_frame, row_by};
 ghost use Rattle.cx_link.specs.Wires.{wired};
-ghost use Rattle.cx_node.specs.Controls.{IsControl};
+ghost use Rattle.cx_granting.specs.declared.verdicts.Verdict.TheVariants.{Granted};
+ghost use Rattle.cx_link.specs.Sending.{IsControl};
 ghost use Rattle.cx_rules.specs.Acceptor.{AwaitsRequest};
 ghost use Rattle.cx_rules.specs.Monitor.{MonitorStage};
 ghost use Rattle.cx_rules.specs.MonitorLogin.{on_authenticate, on_login_hello, rotates};
 ghost use Rattle.cx_rules.specs.MonitorRule.{on_auth_request_more};
-ghost use Rattle.cx_mon.specs.Rows.{arrived, challenge_frame, challenged, due, made_row, saving};
+ghost use Rattle.cx_mon.specs.Rows.{arrived, challenged, due, made_row, saving};
 ghost use Rattle.cx_mon.specs.Stages.{awaiting_proof};
 
 use crate::arrivals::Moment;
@@ -23,7 +24,7 @@ use cx_granting::{HandedOut, Occasion, Verdict, log_in, saved_behind};
 use cx_journal::{BytesFault, LoginFault, NodeName};
 use cx_link::{Finished, LinkRefusal, PlainLink};
 use cx_login::{Offered, Proved};
-use cx_node::{Row, control, denies, goes_on, refuses_bytes, whole};
+use cx_node::{Row, denies, goes_on, refuses_bytes, whole};
 use cx_steps::{DrawMark, SealEntry};
 use cx_wire::{Authenticate, LoginHello, ServerChallenge};
 use std::alloc::{AllocError, Global};
@@ -64,8 +65,8 @@ fn challenges(
         return denies(alloc, &NodeName::Monitor, at.number, 13, LoginFault::UnknownEntity, seals);
     };
     let challenge = at.draw.challenge();
-    let frame = challenge_frame(alloc, challenge)?;
-    match send_plain(alloc, link, &frame)? {
+    let payload = write_whole(alloc, &ServerChallenge { challenge })?;
+    match send_plain(alloc, link, 4, &AuthReplyMore { payload })? {
         Ok(sent) => {
             let offered = Offered::new(hello.name, key, challenge);
             seals.push(alloc, SealEntry::Drawn(DrawMark::Challenge(challenge)))?;
@@ -77,15 +78,6 @@ fn challenges(
             refuses_bytes(alloc, &NodeName::Monitor, at.number, why, seals)
         }
     }
-}
-
-// AUTH_REPLY_MORE with a ServerChallenge.
-fn challenge_frame(alloc: Global, challenge: u64) -> Result<Frame, AllocError>
-    ensures frame { IfOk result (λ frame. frame ≡ challenge_frame challenge) }
-    ensures control { IfOk result IsControl }
-{
-    let payload = write_whole(alloc, &ServerChallenge { challenge })?;
-    control(alloc, 4, &AuthReplyMore { payload })
 }
 
 // AUTH_REQUEST_MORE holds an Authenticate.
@@ -194,15 +186,15 @@ fn hands_over(
     handed: HandedOut,
 ) -> Result<Row<Stage>, AllocError>
     ensures { (stage : MonitorStage) → IfOk result (λ row. made_row (saving own.now row.save) at.now.number row
-        ≡ due (row_by (arrived own.now at.now (wired at.now.number link stage)) (Verdict.Granted handed))) }
+        ≡ due (row_by (arrived own.now at.now (wired at.now.number link stage)) (Granted handed))) }
 {
     let HandedOut { name, gid, session, secret, payload, mut seals, sealed, save, entries } = handed;
     let done = done_frame(alloc, payload)?;
     match link.finish(alloc, &session, &secret, &done) {
         Ok(finished) => {
             let Finished { bytes, seals: signed, signing } = finished;
-            log_behind(alloc, &mut seals, sealed)?;
-            log_behind(alloc, &mut seals, signed)?;
+            log_behind(alloc, &mut seals, sealed.all())?;
+            log_behind(alloc, &mut seals, signed.all())?;
             let entity = Entity { name, gid };
             Ok(Row { link: Some(Stage::AwaitsSignature(signing, entity)), sends: bytes, save, entries, seals })
         }
@@ -213,7 +205,8 @@ fn hands_over(
 
 // AUTH_DONE with a payload.
 fn done_frame(alloc: Global, payload: Blob) -> Result<Frame, AllocError>
-    ensures { IfOk result (λ frame. frame ≡ done_frame payload) }
+    ensures frame { IfOk result (λ frame. frame ≡ done_frame payload) }
+    ensures control { IfOk result IsControl }
 {
     let mut segments = Items::new(alloc);
     segments.push(alloc, Segment { align: 8, bytes: payload })?;

@@ -27,7 +27,7 @@ impl Model for Own {
 }
 
 /// What a login may change: the state of the key server, and the state that was saved last.
-#[derive(Clone, Copy)]
+#[derive(Clone, Copy, Debug)]
 pub struct Mark {
     state: KeptState,
     saved: KeptState,
@@ -45,10 +45,11 @@ impl Own {
         ensures { result ≡ record { server = server; saved = server.state; saved_before = server.state; address = address } }
     {
         let saved = server.state();
+        let saved_before = server.state();
         Own {
             server,
             saved,
-            saved_before: saved,
+            saved_before,
             address,
         }
     }
@@ -78,6 +79,27 @@ impl Own {
         ensures { self.new ≡ record self.old { saved = self.old.saved_before } }
     {
         self.saved = self.saved_before;
+    }
+
+    /// What a login may change.
+    pub fn mark(&self) -> Mark
+        ensures state { result.state ≡ self.now.server.state }
+        ensures saved { result.saved ≡ self.now.saved }
+        ensures kept { IsKeptState result.state × IsKeptState result.saved }
+    {
+        Mark {
+            state: self.server.state(),
+            saved: self.saved,
+        }
+    }
+
+    /// Takes back what a login changed.
+    pub fn go_back(&mut self, mark: &Mark)
+        requires { IsKeptState mark.now.state × IsKeptState mark.now.saved }
+        ensures { self.new ≡ record self.old { server = record self.old.server { state = mark.now.state }; saved = mark.now.saved } }
+    {
+        self.server.restore(mark.state);
+        self.saved = mark.saved;
     }
 
     /// The key server goes on from what was saved last.

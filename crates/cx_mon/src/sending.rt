@@ -1,14 +1,15 @@
 //! What is sent on a link.
 
-ghost use Rattle.std.specs.Prelude.{◌≡◌, ◌++◌, IfOk, OnOk};
-ghost use Rattle.cx_node.specs.Controls.{IsControl};
+ghost use Rattle.std.specs.Prelude.{◌≡◌, ◌≤◌, ◌++◌, IfOk, OnOk};
+ghost use Rattle.cx_rules.specs.Payloads.{control};
 ghost use Rattle.cx_rules.specs.Secured.{plain_frame, secure_frame};
 ghost use Rattle.cx_mon.specs.Sending.{SendsPlain, SendsSecure};
 
 use cx_base::{Blob, Duplicate, Items};
-use cx_frame::Frame;
+use cx_enc::Encoded;
 use cx_journal::BytesFault;
 use cx_link::{LinkRefusal, PlainLink, SecureLink, SentFrame, plain_bytes};
+use cx_node::control;
 use cx_steps::SealEntry;
 use std::alloc::{AllocError, Global};
 
@@ -19,16 +20,21 @@ pub struct SentPlain {
     pub bytes: Blob,
 }
 
-// Sends a plain frame on a link, or says why it can't be written.
-pub(crate) fn send_plain(
+// Sends a plain control frame on a link, or says why it can't be written.
+#[tactic(auto, using(crate::proofs::Controls::control_frame))]
+pub(crate) fn send_plain<T: Encoded>(
     alloc: Global,
     mut link: PlainLink,
-    frame: &Frame,
+    tag: u8,
+    value: &T,
 ) -> Result<Result<SentPlain, BytesFault>, AllocError>
-    requires { IsControl frame.now }
-    ensures { IfOk result (SendsPlain link (plain_frame frame.now)) }
+    requires bound { T.Bound value.now }
+    requires low { 1 ≤ tag }
+    requires high { tag ≤ 20 }
+    ensures { IfOk result (SendsPlain link (plain_frame (control tag T.layout.form value.now))) }
 {
-    match plain_bytes(alloc, frame) {
+    let frame = control(alloc, tag, value)?;
+    match plain_bytes(alloc, &frame) {
         Ok(bytes) => {
             link.send(alloc, bytes.bytes())?;
             Ok(Ok(SentPlain { link, bytes }))
@@ -38,16 +44,21 @@ pub(crate) fn send_plain(
     }
 }
 
-// Sends a frame on a secured link, or says why it can't be written.
-pub(crate) fn send_secure(
+// Sends a control frame on a secured link, or says why it can't be written.
+#[tactic(auto, using(crate::proofs::Controls::control_frame))]
+pub(crate) fn send_secure<T: Encoded>(
     alloc: Global,
     link: SecureLink,
-    frame: &Frame,
+    tag: u8,
+    value: &T,
 ) -> Result<Result<SentFrame, BytesFault>, AllocError>
-    requires { IsControl frame.now }
-    ensures { IfOk result (SendsSecure link (secure_frame link.keys frame.now)) }
+    requires bound { T.Bound value.now }
+    requires low { 1 ≤ tag }
+    requires high { tag ≤ 20 }
+    ensures { IfOk result (SendsSecure link (secure_frame link.keys (control tag T.layout.form value.now))) }
 {
-    match link.put(alloc, frame) {
+    let frame = control(alloc, tag, value)?;
+    match link.put(alloc, &frame) {
         Ok(sent) => Ok(Ok(sent)),
         Err(LinkRefusal::Fault(why)) => Ok(Err(why)),
         Err(LinkRefusal::OutOfMemory) => Err(AllocError),
@@ -58,11 +69,11 @@ pub(crate) fn send_secure(
 pub(crate) fn log_behind(
     alloc: Global,
     log: &mut Items<SealEntry>,
-    entries: Items<SealEntry>,
+    entries: &[SealEntry],
 ) -> Result<(), AllocError>
-    ensures { OnOk result (log.new ≡ log.old ++ entries) }
+    ensures { OnOk result (log.new ≡ log.old ++ entries.now) }
 {
-    for entry in entries.all() {
+    for entry in entries {
         let copied = entry.copy(alloc)?;
         log.push(alloc, copied)?;
     }

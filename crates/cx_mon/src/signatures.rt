@@ -1,9 +1,10 @@
 //! AUTH_SIGNATURE.
 
 ghost use Rattle.std.specs.Prelude.{◌≡◌, IfOk};
-ghost use Rattle.cx_link.specs.Wires.{secured_link, secured_of};
-ghost use Rattle.cx_rules.specs.Acceptor.{AwaitsSignature, on_signature};
+ghost use Rattle.cx_link.specs.Sending.{secured_of};
+ghost use Rattle.cx_rules.specs.Acceptor.{on_signature};
 ghost use Rattle.cx_mon.specs.Rows.{arrived, due, made_row};
+ghost use Rattle.cx_mon.specs.Stages.{awaiting_signature};
 
 use crate::arrivals::Moment;
 use crate::links::{Entity, Stage};
