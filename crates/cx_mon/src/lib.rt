@@ -10,6 +10,7 @@ mod own;
 mod requests;
 mod sending;
 mod signatures;
+mod turns;
 mod upkeep;
 
 

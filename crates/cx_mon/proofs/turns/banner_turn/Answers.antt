@@ -1,0 +1,5 @@
+use Rattle.cx_mon.proofs.Turning.{banner_turns}
+use Rattle.cx_mon.proofs.turns.banner_turn.Goals as goal
+
+pub returns-in-Takes : goal.returns-in-Takes
+returns-in-Takes c = banner_turns c.args.own.now c.args.at.now c.args.link c.in-Takes.link c.in_ok-on_banner.value c.in-Takes.ensures c.in_ok-on_banner.ensures
