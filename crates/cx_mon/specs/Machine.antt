@@ -1,11 +1,11 @@
 -- The monitor as its machine holds it.
-use Rattle.std.specs.Prelude.{◌≡◌, ℕ, Bool, List, [], Option, Some, None, map, if◌then◌else◌}
+use Rattle.std.specs.Prelude.{◌≡◌, ◌≤◌, ◌+◌, ℕ, Bool, List, [], ◌∷◌, Option, Some, None, map, if◌then◌else◌}
 use Rattle.cx_journal.specs.declared.outcomes.Reason.TheVariants.{LinksFull}
 use Rattle.cx_rules.specs.Abridged.{abridged_link, abridged_monitor}
 use Rattle.cx_rules.specs.Acceptor.{AwaitsBanner}
 use Rattle.cx_rules.specs.Greetings.{own_banner}
 use Rattle.cx_rules.specs.Inputs.{Input, Opened, NoLink, Bytes, Turn, Gone, Look, Tick, Submit, Restart}
-use Rattle.cx_rules.specs.Links.{Link, put_link, without_link}
+use Rattle.cx_rules.specs.Links.{Link, link_of, without_link}
 use Rattle.cx_rules.specs.Monitor.{Monitor, MonitorArrival, MonitorNode, MonitorRow, MonitorStage}
 use Rattle.cx_rules.specs.MonitorRule.{noted}
 use Rattle.cx_rules.specs.Rows.{Outcome, forgotten, goes_on, refuses}
@@ -18,6 +18,16 @@ node_of own links = record { own = own; links = links }
 -- of none of these links more can be forgotten
 abbrev pub AreAbridged : List (Link MonitorStage) → Type 0
 AreAbridged links = map abridged_link links ≡ links
+
+-- the numbers of these links rise, from this one on
+abbrev pub AreRising : ℕ → List (Link MonitorStage) → Type 0
+AreRising low [] = Unit {0}
+AreRising low (l ∷ links) = (low ≤ l.number) × AreRising (l.number + 1) links
+
+-- how the monitor holds its links
+pub record AreHeld (links : List (Link MonitorStage)) : Type 0 where
+  pub abridged : AreAbridged links
+  pub rising : AreRising 0 links
 
 -- all but what is kept and what was saved last is as before
 abbrev pub IsSameBut : Monitor → Monitor → Type 0
@@ -54,8 +64,8 @@ pub record IsStep (m : MonitorNode) (due : Outcome MonitorNode) (out : Effects) 
 -- the link was taken out of all of them, and these are left
 pub record IsOutOf (link : Link MonitorStage) (left all : List (Link MonitorStage)) : Type 0 where
   pub left : left ≡ without_link link.number all
-  pub held : AreAbridged all
-  pub place : put_link link all ≡ all
+  pub found : link_of link.number all ≡ Some link
+  pub held : AreHeld all
 
 -- what is done on a link that opens
 abbrev pub opening : Bool → MonitorArrival → MonitorRow
