@@ -1,11 +1,12 @@
 -- A login: its row, by what was decided, and that it leaves the keyring as it is.
-use Rattle.std.proofs.Common.{◌≡◌, ◌∙◌, ℕ, ◌==◌, ◌^◌, ◌-◌, ◌+◌, Bool, true, false, List, ◌∷◌, ◌++◌, Option, Some, None, Result, Ok, Err, refl, sym, ap}
+use Rattle.std.proofs.Common.{◌≡◌, ◌∙◌, ℕ, ◌==◌, ◌^◌, ◌-◌, ◌+◌, Bool, true, false, ◌⊎◌, inl, inr, List, ◌∷◌, ◌++◌, Option, Some, None, Result, Ok, Err, refl, sym, ap}
 use Rattle.std.specs.Prelude.{if◌then◌else◌}
 use Rattle.cx_enc.specs.declared.keys.Key.{Key}
-use Rattle.cx_granting.specs.Occasions.{Entrant, Occasion, entrant}
+use Rattle.cx_granting.specs.Occasions.{Entrant, Occasion, asking_for, entrant}
 use Rattle.cx_granting.specs.Rows.{IsRow, occasion, row_by}
-use Rattle.cx_granting.specs.Verdicts.{issues, issues_to, key_of, numbers, reclaims, rotates}
+use Rattle.cx_granting.specs.Verdicts.{Decided, issues, issues_to, key_of, numbers, rotates}
 use Rattle.cx_granting.specs.declared.verdicts.Verdict.{Verdict}
+use Rattle.cx_granting.specs.declared.verdicts.Verdict.TheVariants as verdict
 use Rattle.cx_journal.specs.declared.faults.LoginFault.{LoginFault}
 use Rattle.cx_journal.specs.declared.faults.LoginFault.TheVariants as login
 use Rattle.cx_keyserver.specs.Servers.{Server, rotated_server}
@@ -16,10 +17,12 @@ use Rattle.cx_login.specs.Unlocking.{Unlocked, old_ticket}
 use Rattle.cx_login.specs.declared.monitor.Reclaim.{Reclaim}
 use Rattle.cx_login.specs.declared.monitor.Reclaim.TheVariants.{Kept, Fresh, Denied}
 use Rattle.cx_node.specs.declared.rows.Row.{Row as Made}
+use Rattle.cx_rotate.specs.declared.states.KeptState.{KeptState}
+use Rattle.cx_rules.specs.KeptStates.{same_state}
 use Rattle.cx_rules.specs.Monitor.{Monitor}
 use Rattle.cx_rules.specs.MonitorLogin as rules
 use Rattle.cx_rules.specs.MonitorLogin.{Numbered, next_number, numbered}
-use Rattle.cx_rules.specs.Tickets.{rotation_drawn}
+use Rattle.cx_rules.specs.Tickets.{issued_for, rotation_drawn, services_for}
 use Rattle.cx_sealed.specs.declared.service_ticket.ServiceTicket.{ServiceTicket}
 use Rattle.cx_steps.specs.declared.seals.SealEntry.{SealEntry}
 use Rattle.cx_mon.specs.Rows.{arrived, due, made_row, saving}
@@ -77,3 +80,39 @@ rotates-ring at server gid proven =
     let seals : List SealEntry = proof_found proven.offer proven.ask.client_challenge ∷ rotation_drawn at.reading at.draw server.state in
     let reclaim : Reclaim = reclaimed gid proven.ask.version (kept_gid proven.offer.name at.reading old.value) in
     numbers-ring at rotated proven (seals ++ old.seals) (numbered rotated reclaim) (numbered-ring rotated reclaim)
+
+-- ---- what is saved
+
+-- what a login saves is the state of its key server, if anything
+abbrev pub saves : Verdict → Option KeptState
+saves (verdict.Denied why seals) = None
+saves (verdict.Granted h) = h.save
+
+abbrev SavesState : Decided → Type 0
+SavesState d = (saves d.verdict ≡ None) ⊎ (saves d.verdict ≡ Some d.server.state)
+
+changed-saves : (saved state : KeptState) (b : Bool) → ((if b then None else Some state) ≡ None) ⊎ ((if b then None else Some state) ≡ Some state)
+changed-saves saved state true = inl refl
+changed-saves saved state false = inr refl
+
+issues-saves : (at : Occasion) (server : Server) (e : Entrant) (own : List ℕ) (tickets : Result (List Ticket) LoginFault) → SavesState (issues at server e own tickets)
+issues-saves at server e own (Err why) = inl refl
+issues-saves at server e own (Ok tickets) = changed-saves at.saved server.state (same_state server.state at.saved)
+
+issues_to-saves : (at : Occasion) (server : Server) (e : Entrant) (own : Option Key) → SavesState (issues_to at server e own)
+issues_to-saves at server e None = inl refl
+issues_to-saves at server e (Some own) =
+    issues-saves at server e own.secret (issued_for server (asking_for at e.name e.gid) (services_for e.asked))
+
+numbers-saves : (at : Occasion) (server : Server) (proven : Proven) (seals : List SealEntry) (r : Result Numbered LoginFault) → SavesState (numbers at server proven seals r)
+numbers-saves at server proven seals (Err why) = inl refl
+numbers-saves at server proven seals (Ok n) =
+    issues_to-saves at n.server (entrant proven.offer.name n.gid proven.ask.other_keys seals) (key_of n.server proven.offer.name)
+
+pub rotates-saves : (at : Occasion) (server : Server) (gid : ℕ) (proven : Proven) → SavesState (rotates at server gid proven)
+rotates-saves at server gid proven =
+    let rotated : Server = rotated_server at.reading at.draw server in
+    let old : Unlocked ServiceTicket = old_ticket rotated.state.auth proven.ask.old_ticket in
+    let seals : List SealEntry = proof_found proven.offer proven.ask.client_challenge ∷ rotation_drawn at.reading at.draw server.state in
+    numbers-saves at rotated proven (seals ++ old.seals)
+    (numbered rotated (reclaimed gid proven.ask.version (kept_gid proven.offer.name at.reading old.value)))

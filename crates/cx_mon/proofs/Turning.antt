@@ -1,5 +1,5 @@
 -- A turn of a link comes to the row of what stands ahead on it.
-use Rattle.std.proofs.Common.{◌≡◌, ◌∙◌, ℕ, ◌+◌, List, [], ◌++◌, drop, Option, Some, None, Result, Ok, Err, refl, sym, ap}
+use Rattle.std.proofs.Common.{◌≡◌, ◌∙◌, ℕ, ◌+◌, List, [], ◌++◌, drop, Option, Some, None, Result, Ok, Err, refl, sym, ap, arith}
 use Rattle.cx_control.specs.Auth.{auth_request_layout, auth_request_more_layout, auth_signature_layout}
 use Rattle.cx_control.specs.Hello.{hello_layout}
 use Rattle.cx_control.specs.declared.auth.AuthRequest.{AuthRequest}
@@ -90,8 +90,9 @@ signature_turns own at old entity link f opened read row back t r m b =
       next = AwaitsSignature (secured_of next) entity;
     } in
     let k = rw (t.behind, r) at m in
+    let none : 0 + t.len ≡ t.len = omega arith in
     record {
-      made = rw (b, t.opened, t.front) (ap (opening (opened_parts (secure_ahead old.link)))
+      made = rw (b, t.opened, t.front, none) (ap (opening (opened_parts (secure_ahead old.link)))
         (k ∙ sym (signature-same h (secured_of next) entity (payload.due 7 auth_signature_layout.form f))));
       stays = tt;
     }
@@ -111,8 +112,9 @@ ident_turns own at old link entity f opened row back t m b =
       next = AwaitsIdent (keys_alone (behind old f t.len).keys) entity;
     } in
     let k = rw t.behind at m in
+    let none : 0 + t.len ≡ t.len = omega arith in
     record {
-      made = rw (b, t.opened, t.front) (ap (opening (opened_parts (secure_ahead old))) (k ∙ sym (ident-same h (keys_alone (behind old f t.len).keys) entity f)));
+      made = rw (b, t.opened, t.front, none) (ap (opening (opened_parts (secure_ahead old))) (k ∙ sym (ident-same h (keys_alone (behind old f t.len).keys) entity f)));
       stays = tt;
     }
 
@@ -131,7 +133,8 @@ upkeep_turns own at old link entity f opened row back t m b =
       next = Open (keys_alone (behind old f t.len).keys) entity;
     } in
     let k = rw t.behind at m in
+    let none : 0 + t.len ≡ t.len = omega arith in
     record {
-      made = rw (b, t.opened, t.front) (ap (opening (opened_parts (secure_ahead old))) (k ∙ sym (upkeep-same h (keys_alone (behind old f t.len).keys) entity f)));
+      made = rw (b, t.opened, t.front, none) (ap (opening (opened_parts (secure_ahead old))) (k ∙ sym (upkeep-same h (keys_alone (behind old f t.len).keys) entity f)));
       stays = tt;
     }

@@ -20,7 +20,7 @@ use cx_base::{Blob, Items};
 use cx_control::{AuthReplyMore, AuthRequestMore};
 use cx_enc::{Key, write_whole};
 use cx_frame::{Frame, Segment};
-use cx_granting::{HandedOut, Occasion, Verdict, log_in, saved_behind};
+use cx_granting::{HandedOut, Occasion, Verdict, granting_laws, log_in, saved_behind};
 use cx_journal::{BytesFault, LoginFault, NodeName};
 use cx_link::{Finished, LinkRefusal, PlainLink};
 use cx_login::{Offered, Proved};
@@ -141,6 +141,7 @@ fn proves(
     ensures row { IfOk result (λ row. made_row own.new at.now.number row ≡ due (rotates (arrived own.old at.now (awaiting_proof at.now.number link proved.now.offer gid)) gid proved.now)) }
     ensures err { OnErr result (own.new ≡ own.old) }
 {
+    granting_laws();
     let before = own.server.state();
     let occasion = Occasion {
         saved: &own.saved,
