@@ -6,7 +6,6 @@ use Rattle.cx_granting.specs.Occasions.{Entrant, Occasion, asking_for, entrant}
 use Rattle.cx_granting.specs.Rows.{IsRow, occasion, row_by}
 use Rattle.cx_granting.specs.Verdicts.{Decided, issues, issues_to, key_of, numbers, rotates}
 use Rattle.cx_granting.specs.declared.verdicts.Verdict.{Verdict}
-use Rattle.cx_granting.specs.declared.verdicts.Verdict.TheVariants as verdict
 use Rattle.cx_journal.specs.declared.faults.LoginFault.{LoginFault}
 use Rattle.cx_journal.specs.declared.faults.LoginFault.TheVariants as login
 use Rattle.cx_keyserver.specs.Servers.{Server, rotated_server}
@@ -25,7 +24,7 @@ use Rattle.cx_rules.specs.MonitorLogin.{Numbered, next_number, numbered}
 use Rattle.cx_rules.specs.Tickets.{issued_for, rotation_drawn, services_for}
 use Rattle.cx_sealed.specs.declared.service_ticket.ServiceTicket.{ServiceTicket}
 use Rattle.cx_steps.specs.declared.seals.SealEntry.{SealEntry}
-use Rattle.cx_mon.specs.Rows.{arrived, due, made_row, saving}
+use Rattle.cx_mon.specs.Rows.{arrived, due, made_row, saves, saving}
 use Rattle.cx_mon.specs.Stages.{awaiting_proof}
 use Rattle.cx_mon.specs.declared.arrivals.Moment.{Moment}
 use Rattle.cx_mon.specs.declared.links.Stage.{Stage}
@@ -84,10 +83,6 @@ rotates-ring at server gid proven =
 -- ---- what is saved
 
 -- what a login saves is the state of its key server, if anything
-abbrev pub saves : Verdict → Option KeptState
-saves (verdict.Denied why seals) = None
-saves (verdict.Granted h) = h.save
-
 abbrev SavesState : Decided → Type 0
 SavesState d = (saves d.verdict ≡ None) ⊎ (saves d.verdict ≡ Some d.server.state)
 
@@ -116,3 +111,13 @@ rotates-saves at server gid proven =
     let seals : List SealEntry = proof_found proven.offer proven.ask.client_challenge ∷ rotation_drawn at.reading at.draw server.state in
     numbers-saves at rotated proven (seals ++ old.seals)
     (numbered rotated (reclaimed gid proven.ask.version (kept_gid proven.offer.name at.reading old.value)))
+
+pub saved-state : (verdict : Verdict) (server : Server) (save : Option KeptState) (at : Occasion) (old : Server) (gid : ℕ) (proven : Proven)
+    → verdict ≡ (rotates at old gid proven).verdict → server ≡ (rotates at old gid proven).server
+    → (save ≡ None) ⊎ (save ≡ saves verdict) → (save ≡ None) ⊎ (save ≡ Some server.state)
+saved-state verdict server save at old gid proven v s (inl none) = inl none
+saved-state verdict server save at old gid proven v s (inr some) = by_state (rotates-saves at old gid proven)
+  where
+    by_state : SavesState (rotates at old gid proven) → (save ≡ None) ⊎ (save ≡ Some server.state)
+    by_state (inl none) = inl (some ∙ ap saves v ∙ none)
+    by_state (inr is) = inr (some ∙ ap saves v ∙ is ∙ sym (ap (λ (x : Server). Some x.state) s))

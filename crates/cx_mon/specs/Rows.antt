@@ -5,6 +5,8 @@ use Rattle.cx_control.specs.Auth.{auth_reply_more_layout}
 use Rattle.cx_dice.specs.Draws.{challenge_of}
 use Rattle.cx_enc.specs.declared.keys.Key.{Key}
 use Rattle.cx_frame.specs.declared.frame.Frame.{Frame}
+use Rattle.cx_granting.specs.declared.verdicts.Verdict.{Verdict}
+use Rattle.cx_granting.specs.declared.verdicts.Verdict.TheVariants as verdict
 use Rattle.cx_journal.specs.declared.faults.LoginFault.TheVariants as login
 use Rattle.cx_journal.specs.declared.node_names.NodeName.TheVariants as node
 use Rattle.cx_login.specs.Monitor.{Offer}
@@ -56,6 +58,11 @@ made_row own number row = record {
 -- the monitor, behind a step that saves this or nothing
 abbrev pub saving : Monitor → Option KeptState → Monitor
 saving own save = record own { saved = saved_behind own.saved save }
+
+-- what is saved behind a verdict
+abbrev pub saves : Verdict → Option KeptState
+saves (verdict.Denied why seals) = None
+saves (verdict.Granted handed) = handed.save
 
 -- AUTH_REPLY_MORE with a challenge
 abbrev pub challenge_frame : ℕ → Frame

@@ -1,6 +1,6 @@
 //! LoginHello and Authenticate.
 
-ghost use Rattle.std.specs.Prelude.{◌≡◌, ◌<◌, find, IfOk, OnErr};
+ghost use Rattle.std.specs.Prelude.{◌≡◌, ◌<◌, ◌⊎◌, None, IfOk, OnErr};
 ghost use Rattle.cx_granting.specs.Rows.{done_frame, row_by};
 ghost use Rattle.cx_link.specs.Wires.{wired};
 ghost use Rattle.cx_granting.specs.declared.verdicts.Verdict.TheVariants.{Granted};
@@ -9,7 +9,7 @@ ghost use Rattle.cx_rules.specs.Acceptor.{AwaitsRequest};
 ghost use Rattle.cx_rules.specs.Monitor.{MonitorStage};
 ghost use Rattle.cx_rules.specs.MonitorLogin.{on_authenticate, on_login_hello, rotates};
 ghost use Rattle.cx_rules.specs.MonitorRule.{on_auth_request_more};
-ghost use Rattle.cx_mon.specs.Rows.{arrived, challenged, due, made_row, saving};
+ghost use Rattle.cx_mon.specs.Rows.{arrived, challenged, due, made_row, saves, saving};
 ghost use Rattle.cx_mon.specs.Stages.{awaiting_proof};
 
 use crate::arrivals::Moment;
@@ -20,7 +20,7 @@ use cx_base::{Blob, Items};
 use cx_control::{AuthReplyMore, AuthRequestMore};
 use cx_enc::{Key, write_whole};
 use cx_frame::{Frame, Segment};
-use cx_granting::{HandedOut, Occasion, Verdict, granting_laws, log_in, saved_behind};
+use cx_granting::{HandedOut, Occasion, Verdict, granting_laws, log_in};
 use cx_journal::{BytesFault, LoginFault, NodeName};
 use cx_link::{Finished, LinkRefusal, PlainLink};
 use cx_login::{Offered, Proved};
@@ -151,7 +151,7 @@ fn proves(
     let verdict = log_in(alloc, &mut own.server, proved, gid, &occasion)?;
     match told(alloc, own, at, link, verdict) {
         Ok(row) => {
-            own.saved = saved_behind(&own.saved, &row.save);
+            own.note_saved(&row.save);
             Ok(row)
         }
         Err(error) => {
@@ -169,8 +169,9 @@ fn told(
     link: PlainLink,
     verdict: Verdict,
 ) -> Result<Row<Stage>, AllocError>
-    ensures { (stage : MonitorStage) → IfOk result (λ row. made_row (saving own.now row.save) at.now.number row
+    ensures row { (stage : MonitorStage) → IfOk result (λ row. made_row (saving own.now row.save) at.now.number row
         ≡ due (row_by (arrived own.now at.now (wired at.now.number link stage)) verdict)) }
+    ensures save { IfOk result (λ row. (row.save ≡ None) ⊎ (row.save ≡ saves verdict)) }
 {
     match verdict {
         Verdict::Denied { why, seals } => denies(alloc, &NodeName::Monitor, at.number, 13, why, seals),
@@ -186,8 +187,9 @@ fn hands_over(
     link: PlainLink,
     handed: HandedOut,
 ) -> Result<Row<Stage>, AllocError>
-    ensures { (stage : MonitorStage) → IfOk result (λ row. made_row (saving own.now row.save) at.now.number row
+    ensures row { (stage : MonitorStage) → IfOk result (λ row. made_row (saving own.now row.save) at.now.number row
         ≡ due (row_by (arrived own.now at.now (wired at.now.number link stage)) (Granted handed))) }
+    ensures save { IfOk result (λ row. (row.save ≡ None) ⊎ (row.save ≡ handed.save)) }
 {
     let HandedOut { name, gid, session, secret, payload, mut seals, sealed, save, entries } = handed;
     let done = done_frame(alloc, payload)?;

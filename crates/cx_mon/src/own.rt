@@ -34,11 +34,12 @@ pub struct Mark {
 }
 
 impl Own {
-    ghost use Rattle.std.specs.Prelude.{◌≡◌, find};
+    ghost use Rattle.std.specs.Prelude.{◌≡◌, ◌⊎◌, None, Some, find};
     ghost use Rattle.std.specs.Option.{option_map};
     ghost use Rattle.cx_keyring.specs.Entries.{is_named};
     ghost use Rattle.cx_keyserver.specs.Servers.{Server};
     ghost use Rattle.cx_rotate.specs.Keeping.{IsKeptState};
+    ghost use Rattle.cx_rules.specs.KeptStates.{saved_behind};
 
     /// As the monitor begins.
     pub fn new(server: KeyServer, address: Addr) -> Own
@@ -72,6 +73,17 @@ impl Own {
         ensures { self.new ≡ record self.old { saved_before = self.old.saved } }
     {
         self.saved_before = self.saved;
+    }
+
+    /// A step saves the state of the key server, or nothing.
+    pub fn note_saved(&mut self, save: &Option<KeptState>)
+        requires { (save.now ≡ None) ⊎ (save.now ≡ Some self.old.server.state) }
+        ensures { self.new ≡ record self.old { saved = saved_behind self.old.saved save.now } }
+    {
+        match save {
+            None => (),
+            Some(_) => self.saved = self.server.state(),
+        }
     }
 
     /// What was saved by the last step is taken back.
