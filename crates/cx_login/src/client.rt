@@ -150,6 +150,13 @@ impl Model for Challenged {
 }
 
 impl Challenged {
+    /// A client of this key whose own stage says that it answered the challenge.
+    pub fn of(key: Key) -> Challenged
+        ensures { result ≡ key.secret }
+    {
+        Challenged { key }
+    }
+
     /// Opens the LoginDone of this payload. What opened is appended to the log, also where the login is refused.
     pub fn done(
         self,

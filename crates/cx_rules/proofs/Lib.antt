@@ -1,6 +1,13 @@
+pub mod Abridging
+pub mod AcceptorForgets
+pub mod AlikeRows
 pub mod AskerDrawing
+pub mod AskerForgets
+pub mod ClientForgets
 pub mod Drawing
+pub mod Fitting
 pub mod Granting
+pub mod MonitorForgets
 pub mod MonitorRows
 pub mod Naming
 pub mod Quiet

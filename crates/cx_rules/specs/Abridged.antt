@@ -1,6 +1,6 @@
 -- What a machine may forget of its links once they are secured: the bytes that it took and those that it sent, and, behind the peer's
 -- signature, what signatures cover. As long as frames are plain it forgets nothing: AUTH_SIGNATURE covers all that came and was sent.
-use Rattle.std.specs.Prelude.{◌≡◌, ◌≤◌, List, [], length, map}
+use Rattle.std.specs.Prelude.{◌≡◌, ◌≤◌, [], length, map}
 use Rattle.std.specs.List.{AllByRecursion}
 use Rattle.std.specs.Option.{option_map}
 use Rattle.cx_rules.specs.Acceptor.{Stage, AwaitsSignature, AwaitsIdent, Open}

@@ -1,0 +1,9 @@
+pub mod Drawn
+pub mod Envelopes
+pub mod One
+pub mod Ordered
+pub mod RowLaw
+pub mod Short
+pub mod Steps
+pub mod Still
+pub mod Whole

@@ -1,0 +1,30 @@
+//! What one that logs in holds, and what it writes of itself in a login: a client, or a daemon towards the monitor.
+#![tactic(auto)]
+
+mod answers;
+mod askers;
+#[cfg(test)]
+mod known;
+mod offers;
+mod pending;
+mod steps;
+#[cfg(test)]
+mod tests;
+mod tickets;
+
+pub use answers::Answer;
+pub use askers::Asker;
+pub use offers::Modes;
+pub use pending::Login;
+pub use tickets::Holdings;
+
+// Each public type may be sent to another thread and shared with one.
+fn is_sendable<T: Send + Sync>() {}
+
+fn all_are_sendable() {
+    is_sendable::<Modes>();
+    is_sendable::<Login>();
+    is_sendable::<Holdings>();
+    is_sendable::<Asker>();
+    is_sendable::<Answer>();
+}

@@ -1,0 +1,4 @@
+pub mod PlainTurns
+pub mod SecureTurns
+pub mod SealedFrames
+pub mod Securing

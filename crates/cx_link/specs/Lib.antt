@@ -1,0 +1,5 @@
+pub mod Checking
+pub mod Refusing
+pub mod Sending
+pub mod Turning
+pub mod Wires

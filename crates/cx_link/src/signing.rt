@@ -1,0 +1,178 @@
+//! Signatures, by which both ends agree on all that came before.
+
+ghost use Rattle.std.specs.Prelude.{◌≡◌, [], ◌∷◌, ◌++◌, IfOk, OnOk, take};
+ghost use Rattle.cx_control.specs.Auth.{auth_signature_layout};
+ghost use Rattle.cx_digest.specs.Code.{hmac};
+ghost use Rattle.cx_link.specs.Checking.{IsChecked};
+ghost use Rattle.cx_link.specs.Sending.{Finishes, IsControl, Sends, Signs};
+ghost use Rattle.cx_link.specs.Wires.{ahead_in, keys_of_side};
+ghost use Rattle.cx_rules.specs.Acceptor.{joined};
+ghost use Rattle.cx_rules.specs.Payloads.{control};
+ghost use Rattle.cx_rules.specs.Secured.{acceptor_keys, connector_keys, plain_frame, signature, signed_frame};
+
+use crate::links::{Checked, Finished, PlainLink, SecureLink, SentFrame, Signing};
+use crate::refusals::LinkRefusal;
+use crate::sending::plain_bytes;
+use cx_base::{Blob, Items};
+use cx_control::{AuthSignature, put_auth_signature};
+use cx_digest::Mac;
+use cx_frame::{Frame, Segment};
+use cx_journal::KeyKind;
+use cx_steps::{SealEntry, SealMark};
+use std::alloc::{AllocError, Global};
+
+/// The tag of AUTH_SIGNATURE.
+const AUTH_SIGNATURE: u8 = 7;
+
+impl SecureLink {
+    /// Seals AUTH_SIGNATURE, which covers these bytes that were received, under the session key. That it is signed is logged first.
+    pub fn sign(
+        self,
+        alloc: Global,
+        session: &[u8; 16],
+        received: &[u8],
+    ) -> Result<SentFrame, LinkRefusal>
+        ensures { Sends self.ahead result (signed_frame self.keys session.now received.now) }
+    {
+        let frame = signature_frame(alloc, session, received)?;
+        let signed = signed(alloc, session, received)?;
+        self.put_behind(alloc, &frame, signed)
+    }
+}
+
+impl PlainLink {
+    /// Finishes authentication as the acceptor, by AUTH_DONE and AUTH_SIGNATURE, under the session key and the secret of the connection.
+    pub fn finish(
+        mut self,
+        alloc: Global,
+        session: &[u8; 16],
+        secret: &[u8; 64],
+        done: &Frame,
+    ) -> Result<Finished, LinkRefusal>
+        requires { IsControl done.now }
+        ensures { Finishes (ahead_in self) result
+            (joined session.now self.sent (plain_frame done.now) (signed_frame (acceptor_keys secret.now) session.now (take self.taken self.received))) }
+    {
+        let mut bytes = plain_bytes(alloc, done)?;
+        self.send(alloc, bytes.bytes())?;
+        let Finished {
+            bytes: signature,
+            seals,
+            signing,
+        } = self.signed(alloc, session, secret, false)?;
+        bytes.append(alloc, signature.bytes())?;
+        Ok(Finished {
+            bytes,
+            seals,
+            signing,
+        })
+    }
+
+    /// Answers AUTH_DONE as the connector, by AUTH_SIGNATURE, under the session key and the secret of the connection.
+    pub fn sign(
+        self,
+        alloc: Global,
+        session: &[u8; 16],
+        secret: &[u8; 64],
+    ) -> Result<Finished, LinkRefusal>
+        ensures { Signs session.now self.sent (ahead_in self) result
+            (signed_frame (connector_keys secret.now) session.now (take self.taken self.received)) }
+    {
+        self.signed(alloc, session, secret, true)
+    }
+
+    // AUTH_SIGNATURE of a side.
+    fn signed(
+        self,
+        alloc: Global,
+        session: &[u8; 16],
+        secret: &[u8; 64],
+        connector: bool,
+    ) -> Result<Finished, LinkRefusal>
+        ensures { Signs session.now self.sent (ahead_in self) result
+            (signed_frame (keys_of_side connector secret.now) session.now (take self.taken self.received)) }
+    {
+        let frame = signature_frame(alloc, session, self.taken())?;
+        let signed = signed(alloc, session, self.taken())?;
+        let (link, covered) = self.secured(secret, connector);
+        let SentFrame { link, bytes, seals } = link.put_behind(alloc, &frame, signed)?;
+        let signing = Signing {
+            link,
+            session: *session,
+            covered,
+        };
+        Ok(Finished {
+            bytes,
+            seals,
+            signing,
+        })
+    }
+}
+
+impl Signing {
+    /// Goes on exactly where this is the signature over what was sent to the peer. It wants no memory.
+    pub fn check(self, signature: &[u8; 32]) -> Option<Checked>
+        ensures { IsChecked self signature.now result }
+    {
+        let Signing {
+            link,
+            session,
+            covered,
+        } = self;
+        if *signature != code_of(&session, covered.bytes()) {
+            return None;
+        }
+        let entry = SealEntry::Checked(SealMark {
+            key: session,
+            kind: KeyKind::Signature,
+            content: covered,
+        });
+        Some(Checked { link, entry })
+    }
+}
+
+// The code of some bytes under a session key.
+fn code_of(session: &[u8; 16], bytes: &[u8]) -> [u8; 32]
+    ensures { result ≡ hmac session.now bytes.now }
+{
+    let mut code = Mac::new(session);
+    code.update(bytes);
+    code.finish()
+}
+
+// AUTH_SIGNATURE over these bytes.
+fn signature_frame(alloc: Global, session: &[u8; 16], received: &[u8]) -> Result<Frame, AllocError>
+    ensures value { IfOk result (λ f. f ≡ control 7 auth_signature_layout.form (record { signature = hmac session.now received.now })) }
+    ensures control { IfOk result (λ f. IsControl f) }
+{
+    let signature = AuthSignature {
+        signature: code_of(session, received),
+    };
+    let mut bytes = Blob::new(alloc);
+    put_auth_signature(alloc, &mut bytes, &signature)?;
+    let mut segments = Items::new(alloc);
+    segments.push(alloc, Segment { align: 8, bytes })?;
+    Ok(Frame {
+        tag: AUTH_SIGNATURE,
+        segments,
+    })
+}
+
+// That these bytes are signed, as an entry of the log.
+fn signed(
+    alloc: Global,
+    session: &[u8; 16],
+    received: &[u8],
+) -> Result<Items<SealEntry>, AllocError>
+    ensures { IfOk result (λ entries. entries ≡ signature session.now received.now ∷ []) }
+{
+    let content = Blob::of(alloc, received)?;
+    let mark = SealMark {
+        key: *session,
+        kind: KeyKind::Signature,
+        content,
+    };
+    let mut entries = Items::new(alloc);
+    entries.push(alloc, SealEntry::Signed(mark))?;
+    Ok(entries)
+}

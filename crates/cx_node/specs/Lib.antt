@@ -1,0 +1,5 @@
+pub mod Made
+pub mod Parts
+pub mod Places
+pub mod Rules
+pub mod Tables

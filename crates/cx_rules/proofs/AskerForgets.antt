@@ -1,0 +1,233 @@
+-- What may be forgotten of the link of one that logs in, and its rows.
+use Rattle.std.proofs.Common.{◌≡◌, ℕ, ◌==◌, ◌++◌, Bool, true, false, List, [], ◌∷◌, map, Option, Some, None, Result, Ok, Err, refl}
+use Rattle.std.specs.Prelude.{not, if◌then◌else◌}
+use Rattle.std.specs.Option.{option_map}
+use Rattle.cx_control.specs.Auth.{auth_done_layout, auth_reply_more_layout, auth_signature_layout}
+use Rattle.cx_control.specs.BadMethod.{bad_method_layout}
+use Rattle.cx_control.specs.Hello.{hello_layout}
+use Rattle.cx_control.specs.Idents.{ident_missing_features_layout, server_ident_layout}
+use Rattle.cx_control.specs.declared.auth.AuthDone.{AuthDone}
+use Rattle.cx_control.specs.declared.auth.AuthReplyMore.{AuthReplyMore}
+use Rattle.cx_control.specs.declared.auth.AuthSignature.{AuthSignature}
+use Rattle.cx_control.specs.declared.hello.Hello.{Hello}
+use Rattle.cx_control.specs.declared.idents.IdentMissingFeatures.{IdentMissingFeatures}
+use Rattle.cx_control.specs.declared.idents.ServerIdent.{ServerIdent}
+use Rattle.cx_dice.specs.Draws.{cookie_of}
+use Rattle.cx_frame.specs.declared.frame.Frame.{Frame}
+use Rattle.cx_journal.specs.declared.faults.BytesFault.{BytesFault}
+use Rattle.cx_journal.specs.declared.faults.BytesFault.TheVariants.{Features}
+use Rattle.cx_journal.specs.declared.faults.LoginFault.TheVariants.{Mode, SignatureWrong}
+use Rattle.cx_journal.specs.declared.outcomes.Reason.TheVariants as reason
+use Rattle.cx_login.specs.declared.client.LoggedIn.{LoggedIn}
+use Rattle.cx_steps.specs.declared.seals.DrawMark.TheVariants as draw
+use Rattle.cx_steps.specs.declared.seals.SealEntry.{SealEntry}
+use Rattle.cx_steps.specs.declared.seals.SealEntry.TheVariants.{Drawn}
+use Rattle.cx_wire.specs.Logins.{login_done_layout, server_challenge_layout}
+use Rattle.cx_wire.specs.declared.logins.LoginDone.{LoginDone}
+use Rattle.cx_wire.specs.declared.logins.ServerChallenge.{ServerChallenge}
+use Rattle.cx_rules.specs.Abridged.{IsWithin, abridged_asker_at, abridged_asker_link, unsigned}
+use Rattle.cx_rules.specs.Connector.{AskerArrival, AskerRow, Login, Stage, AwaitsBanner, AwaitsHello, AwaitsChallenge, AwaitsDone, AwaitsSignature, AwaitsIdent, Open, client_ident, holding, identifies, login_request, on_bad_method, on_banner, on_challenge, on_done, on_hello, on_login_done, on_missing_features, on_opened, on_reply_more, on_server_ident, on_signature, proves, signs, turned_at, while_challenged, while_identified, while_proved}
+use Rattle.cx_rules.specs.Greetings.{own_hello}
+use Rattle.cx_rules.specs.Holdings.{held_login}
+use Rattle.cx_rules.specs.Links.{Link, link_of, put_link, without_link}
+use Rattle.cx_rules.specs.Payloads.{due, payload, whole}
+use Rattle.cx_rules.specs.Rows.{at, refuses}
+use Rattle.cx_rules.specs.Secured.{Keys, SealedFrame, Secured, is_signed, plain_frame, secure_frame, signature_found, under}
+use Rattle.cx_rules.specs.Upkeep.{on_upkeep}
+use Rattle.cx_rules.proofs.Abridging.{Alike, Forgets, link_of_map, put_link_map, without_link_map}
+use Rattle.cx_rules.proofs.AlikeRows.{RowWithin, SameAhead, SameTurn, banner-turn, cut-fed, goes-alike, plain-turn, plain_sent-within, refuses-alike, same-turn, secure-alike, secure-turn, upkeep-alike}
+
+-- ---- a link
+
+number-of : (l : Link Stage) (stage : Stage) → (abridged_asker_at l stage).number ≡ l.number
+number-of l (AwaitsBanner asked) = refl
+number-of l (AwaitsHello asked) = refl
+number-of l (AwaitsChallenge asked) = refl
+number-of l AwaitsDone = refl
+number-of l (AwaitsSignature s login) = refl
+number-of l (AwaitsIdent s) = refl
+number-of l (Open s) = refl
+
+twice-of : (l : Link Stage) (stage : Stage) → (let k : Link Stage = record l { stage = stage } in abridged_asker_link (abridged_asker_link k)) ≡ abridged_asker_link (record l { stage = stage })
+twice-of l (AwaitsBanner asked) = refl
+twice-of l (AwaitsHello asked) = refl
+twice-of l (AwaitsChallenge asked) = refl
+twice-of l AwaitsDone = refl
+twice-of l (AwaitsSignature s login) = refl
+twice-of l (AwaitsIdent s) = refl
+twice-of l (Open s) = refl
+
+sends-of : (l : Link Stage) (stage : Stage) (bytes : List ℕ)
+    → (let k : Link Stage = abridged_asker_link (record l { stage = stage }) in abridged_asker_link (record k { sent = k.sent ++ bytes }))
+    ≡ abridged_asker_link (record l { sent = l.sent ++ bytes; stage = stage })
+sends-of l (AwaitsBanner asked) bytes = refl
+sends-of l (AwaitsHello asked) bytes = refl
+sends-of l (AwaitsChallenge asked) bytes = refl
+sends-of l AwaitsDone bytes = refl
+sends-of l (AwaitsSignature s login) bytes = refl
+sends-of l (AwaitsIdent s) bytes = refl
+sends-of l (Open s) bytes = refl
+
+comes-of : (l : Link Stage) (stage : Stage) (bytes : List ℕ) → IsWithin l
+    → (let k : Link Stage = abridged_asker_link (record l { stage = stage }) in abridged_asker_link (record k { received = k.received ++ bytes }))
+    ≡ abridged_asker_link (record l { received = l.received ++ bytes; stage = stage })
+comes-of l (AwaitsBanner asked) bytes w = refl
+comes-of l (AwaitsHello asked) bytes w = refl
+comes-of l (AwaitsChallenge asked) bytes w = refl
+comes-of l AwaitsDone bytes w = refl
+comes-of l (AwaitsSignature s login) bytes w = cut-fed l (AwaitsSignature s login) bytes w
+comes-of l (AwaitsIdent s) bytes w = cut-fed l (AwaitsIdent (unsigned s)) bytes w
+comes-of l (Open s) bytes w = cut-fed l (Open (unsigned s)) bytes w
+
+pub asker-forgets : Forgets abridged_asker_link
+asker-forgets = record {
+  number = λ l. number-of l l.stage;
+  twice = λ l. twice-of l l.stage;
+  sends = λ l bytes. sends-of l l.stage bytes;
+  comes = λ l bytes w. comes-of l l.stage bytes w;
+}
+
+-- ---- a table of them
+
+pub asker_link_of : (n : ℕ) (links : List (Link Stage)) → link_of n (map abridged_asker_link links) ≡ option_map abridged_asker_link (link_of n links)
+asker_link_of n links = link_of_map abridged_asker_link asker-forgets.number n links
+
+pub asker_put_link : (l : Link Stage) (links : List (Link Stage)) → put_link (abridged_asker_link l) (map abridged_asker_link links) ≡ map abridged_asker_link (put_link l links)
+asker_put_link l links = put_link_map abridged_asker_link asker-forgets.number l links
+
+pub asker_without_link : (n : ℕ) (links : List (Link Stage)) → without_link n (map abridged_asker_link links) ≡ map abridged_asker_link (without_link n links)
+asker_without_link n links = without_link_map abridged_asker_link asker-forgets.number n links
+
+-- ---- rows with plain frames: their links are whole
+
+hello-within : (a : AskerArrival) (asked : ℕ) (hello : Result Hello BytesFault) → IsWithin a.link → RowWithin (on_hello a asked hello)
+hello-within a asked (Err why) w = tt
+hello-within a asked (Ok hello) w = plain_sent-within a (AwaitsChallenge asked) [] (plain_frame (login_request a.own)) w
+
+proves-within : (a : AskerArrival) (server : ℕ) (r : Result (List ℕ) BytesFault) → IsWithin a.link → RowWithin (proves a server r)
+proves-within a server (Err why) w = tt
+proves-within a server (Ok bytes) w = w
+
+challenge-within : (a : AskerArrival) (asked : ℕ) (server : Result ServerChallenge BytesFault) → IsWithin a.link → RowWithin (on_challenge a asked server)
+challenge-within a asked (Err why) w = tt
+challenge-within a asked (Ok server) w = proves-within a server.challenge _ w
+
+reply_more-within : (a : AskerArrival) (asked : ℕ) (more : Result AuthReplyMore BytesFault) → IsWithin a.link → RowWithin (on_reply_more a asked more)
+reply_more-within a asked (Err why) w = tt
+reply_more-within a asked (Ok more) w = challenge-within a asked (whole server_challenge_layout.form more.payload) w
+
+bad_method-within : (a : AskerArrival) (fields : Result (ℕ × (ℕ × (List ℕ × List ℕ))) BytesFault) → RowWithin (on_bad_method a fields)
+bad_method-within a (Err why) = tt
+bad_method-within a (Ok fields) = tt
+
+challenged-within : (a : AskerArrival) (asked : ℕ) (f : Frame) → IsWithin a.link → RowWithin (while_challenged a asked f)
+challenged-within a asked f w = by_test (f.tag == 3)
+  where
+    by_test : (denied : Bool) → RowWithin (if denied then on_bad_method a (payload bad_method_layout.form f) else on_reply_more a asked (due 4 auth_reply_more_layout.form f))
+    by_test true = bad_method-within a (payload bad_method_layout.form f)
+    by_test false = reply_more-within a asked (due 4 auth_reply_more_layout.form f) w
+
+signs-within : (a : AskerArrival) (login : Login) (opened : List SealEntry) (r : Result SealedFrame BytesFault) → IsWithin a.link → RowWithin (signs a login opened r)
+signs-within a login opened (Err why) w = tt
+signs-within a login opened (Ok sealed) w = w
+
+opened-within : (a : AskerArrival) (gid : ℕ) (opened : List SealEntry) (value : Option LoggedIn) → IsWithin a.link → RowWithin (on_opened a gid opened value)
+opened-within a gid opened None w = tt
+opened-within a gid opened (Some logged_in) w = signs-within a _ opened _ w
+
+login_done-within : (a : AskerArrival) (gid : ℕ) (done : Result LoginDone BytesFault) → IsWithin a.link → RowWithin (on_login_done a gid done)
+login_done-within a gid (Err why) w = tt
+login_done-within a gid (Ok done) w = opened-within a gid _ _ w
+
+done-within : (a : AskerArrival) (done : Result AuthDone BytesFault) → IsWithin a.link → RowWithin (on_done a done)
+done-within a (Err why) w = tt
+done-within a (Ok done) w = by_test (not (done.mode == 2))
+  where
+    by_test : (other : Bool) → RowWithin (if other then refuses a (reason.Login Mode) [] else on_login_done a done.gid (whole login_done_layout.form done.payload))
+    by_test true = tt
+    by_test false = login_done-within a done.gid (whole login_done_layout.form done.payload) w
+
+proved-within : (a : AskerArrival) (f : Frame) → IsWithin a.link → RowWithin (while_proved a f)
+proved-within a f w = by_test (f.tag == 3)
+  where
+    by_test : (denied : Bool) → RowWithin (if denied then on_bad_method a (payload bad_method_layout.form f) else on_done a (due 6 auth_done_layout.form f))
+    by_test true = bad_method-within a (payload bad_method_layout.form f)
+    by_test false = done-within a (due 6 auth_done_layout.form f) w
+
+-- ---- AUTH_SIGNATURE
+
+signature-alike : (a : AskerArrival) (l : Link Stage) (s : Secured) (login : Login) (found : Result AuthSignature BytesFault) → SameAhead l a.link → IsWithin a.link
+    → Alike abridged_asker_link (on_signature (at a l) s login found) (on_signature a s login found)
+signature-alike a l s login (Err why) e w = refuses-alike abridged_asker_link a l (reason.Bytes why) [] e.number
+signature-alike a l s login (Ok found) e w = by_test (is_signed s found.signature)
+  where
+    by_test : (right : Bool) → Alike abridged_asker_link
+        (if right then identifies (at a l) s login else refuses (at a l) (reason.Login SignatureWrong) [])
+        (if right then identifies a s login else refuses a (reason.Login SignatureWrong) [])
+    by_test true =
+        secure-alike abridged_asker_link (holding a (held_login a.own.holdings login.gid login.opened)) l s s AwaitsIdent
+        (signature_found s ∷ Drawn (draw.Cookie (cookie_of a.draw)) ∷ []) (secure_frame s.keys (client_ident a.own login.gid (cookie_of a.draw))) e w (λ x k. refl)
+    by_test false = refuses-alike abridged_asker_link a l (reason.Login SignatureWrong) [] e.number
+
+-- ---- SERVER_IDENT, IDENT_MISSING_FEATURES
+
+server_ident-alike : (a : AskerArrival) (l : Link Stage) (s : Secured) (ident : Result ServerIdent BytesFault) → SameAhead l a.link → IsWithin a.link
+    → Alike abridged_asker_link (on_server_ident (at a l) (unsigned s) ident) (on_server_ident a s ident)
+server_ident-alike a l s (Err why) e w = refuses-alike abridged_asker_link a l (reason.Bytes why) [] e.number
+server_ident-alike a l s (Ok ident) e w = goes-alike abridged_asker_link a l (Open (unsigned s)) (Open s) (Open (unsigned s)) [] [] e w (λ k. refl) (λ k. refl)
+
+missing-alike : (a : AskerArrival) (l : Link Stage) (missing : Result IdentMissingFeatures BytesFault) → SameAhead l a.link
+    → Alike abridged_asker_link (on_missing_features (at a l) missing) (on_missing_features a missing)
+missing-alike a l (Err why) e = refuses-alike abridged_asker_link a l (reason.Bytes why) [] e.number
+missing-alike a l (Ok missing) e = refuses-alike abridged_asker_link a l (reason.Bytes (Features missing.features)) [] e.number
+
+identified-alike : (a : AskerArrival) (l : Link Stage) (s : Secured) (f : Frame) → SameAhead l a.link → IsWithin a.link
+    → Alike abridged_asker_link (while_identified (at a l) (unsigned s) f) (while_identified a s f)
+identified-alike a l s f e w = by_test (f.tag == 10)
+  where
+    by_test : (lacks : Bool) → Alike abridged_asker_link
+        (if lacks then on_missing_features (at a l) (payload ident_missing_features_layout.form f) else on_server_ident (at a l) (unsigned s) (due 9 server_ident_layout.form f))
+        (if lacks then on_missing_features a (payload ident_missing_features_layout.form f) else on_server_ident a s (due 9 server_ident_layout.form f))
+    by_test true = missing-alike a l (payload ident_missing_features_layout.form f) e
+    by_test false = server_ident-alike a l s (due 9 server_ident_layout.form f) e w
+
+-- ---- a turn
+
+-- of a link in this stage
+abbrev pub TurnsAlike : AskerArrival → Stage → Type 0
+TurnsAlike a stage =
+    let k : Link Stage = record a.link { stage = stage } in
+    let l : Link Stage = abridged_asker_link k in
+    SameTurn abridged_asker_link (turned_at (at a l) l.stage) (turned_at (at a k) stage)
+
+pub turned-alike : (a : AskerArrival) (stage : Stage) → IsWithin a.link → TurnsAlike a stage
+turned-alike a (AwaitsBanner asked) w =
+    let k : Link Stage = record a.link { stage = AwaitsBanner asked } in
+    same-turn abridged_asker_link (turned_at (at a k) (AwaitsBanner asked))
+    (banner-turn (at a k) (λ b. on_banner b asked) w (λ l v. plain_sent-within (at a l) (AwaitsHello asked) [] (plain_frame (own_hello a.own.name.kind)) v))
+turned-alike a (AwaitsHello asked) w =
+    let k : Link Stage = record a.link { stage = AwaitsHello asked } in
+    same-turn abridged_asker_link (turned_at (at a k) (AwaitsHello asked))
+    (plain-turn (at a k) (λ b f. on_hello b asked (due 1 hello_layout.form f)) w (λ l f v. hello-within (at a l) asked (due 1 hello_layout.form f) v))
+turned-alike a (AwaitsChallenge asked) w =
+    let k : Link Stage = record a.link { stage = AwaitsChallenge asked } in
+    same-turn abridged_asker_link (turned_at (at a k) (AwaitsChallenge asked))
+    (plain-turn (at a k) (λ b f. while_challenged b asked f) w (λ l f v. challenged-within (at a l) asked f v))
+turned-alike a AwaitsDone w =
+    let k : Link Stage = record a.link { stage = AwaitsDone } in
+    same-turn abridged_asker_link (turned_at (at a k) AwaitsDone) (plain-turn (at a k) (λ b f. while_proved b f) w (λ l f v. proved-within (at a l) f v))
+turned-alike a (AwaitsSignature s login) w =
+    let k : Link Stage = record a.link { stage = AwaitsSignature s login } in
+    let row : AskerArrival → Keys → Frame → AskerRow = λ b keys f. on_signature b (under s keys) login (due 7 auth_signature_layout.form f) in
+    secure-turn abridged_asker_link (at a k) (AwaitsSignature s login) s.keys row row w
+    (λ l n keys f e v. signature-alike (at a n) l (under s keys) login (due 7 auth_signature_layout.form f) e v)
+turned-alike a (AwaitsIdent s) w =
+    let k : Link Stage = record a.link { stage = AwaitsIdent s } in
+    let row : Secured → AskerArrival → Keys → Frame → AskerRow = λ t b keys f. while_identified b (under t keys) f in
+    secure-turn abridged_asker_link (at a k) (AwaitsIdent (unsigned s)) s.keys (row (unsigned s)) (row s) w
+    (λ l n keys f e v. identified-alike (at a n) l (under s keys) f e v)
+turned-alike a (Open s) w =
+    let k : Link Stage = record a.link { stage = Open s } in
+    let row : Secured → AskerArrival → Keys → Frame → AskerRow = λ t b keys f. on_upkeep b (under t keys) Open f in
+    secure-turn abridged_asker_link (at a k) (Open (unsigned s)) s.keys (row (unsigned s)) (row s) w
+    (λ l n keys f e v. upkeep-alike abridged_asker_link (at a n) l (under s keys) Open f e v (λ x k. refl))

@@ -1,0 +1,251 @@
+-- What the monitor may forget of its links makes no difference to what it does.
+use Rattle.std.proofs.Common.{◌≡◌, ℕ, ◌==◌, Bool, true, false, List, [], ◌∷◌, ◌++◌, length, Option, Some, None, Result, Ok, Err, refl, sym, ap, subst, ◌∙◌, arith}
+use Rattle.std.specs.Prelude.{IfSome, nat_le, if◌then◌else◌}
+use Rattle.std.specs.List.{AllByRecursion, flat_map}
+use Rattle.std.specs.Option.{option_map}
+use Rattle.std.proofs.lemmas.List.{length-map}
+use Rattle.cx_base.specs.declared.addresses.Addr.{Addr}
+use Rattle.cx_base.specs.declared.kinds.EntityType.TheVariants.{Mon, Auth}
+use Rattle.cx_cbc.specs.Envelope.{sealed}
+use Rattle.cx_control.specs.Auth.{auth_request_layout, auth_request_more_layout, auth_signature_layout}
+use Rattle.cx_control.specs.Hello.{hello_layout}
+use Rattle.cx_control.specs.Idents.{client_ident_layout}
+use Rattle.cx_control.specs.Reconnects.{session_reconnect_layout}
+use Rattle.cx_control.specs.declared.auth.AuthRequestMore.{AuthRequestMore}
+use Rattle.cx_control.specs.declared.idents.ClientIdent.{ClientIdent}
+use Rattle.cx_control.specs.declared.reconnects.SessionReconnect.{SessionReconnect}
+use Rattle.cx_dice.specs.Draws.{connection_of, session_of}
+use Rattle.cx_frame.specs.declared.frame.Frame.{Frame}
+use Rattle.cx_journal.specs.declared.faults.BytesFault.{BytesFault}
+use Rattle.cx_journal.specs.declared.faults.BytesFault.TheVariants.{Unexpected}
+use Rattle.cx_journal.specs.declared.faults.LoginFault.{LoginFault}
+use Rattle.cx_journal.specs.declared.node_names.NodeName.TheVariants as node
+use Rattle.cx_journal.specs.declared.outcomes.Reason.TheVariants as reason
+use Rattle.cx_journal.specs.declared.premises.KeyKind.TheVariants as kind
+use Rattle.cx_keyring.specs.declared.entries.Entry.{Entry as Principal}
+use Rattle.cx_keyserver.specs.Servers.{Server}
+use Rattle.cx_keyserver.specs.declared.tickets.Ticket.{Ticket}
+use Rattle.cx_login.specs.Monitor.{Proven}
+use Rattle.cx_login.specs.declared.refusals.WrongProof.{WrongProof}
+use Rattle.cx_rotate.specs.declared.states.KeptState.{KeptState}
+use Rattle.cx_sealed.specs.Records.{connection_secret_layout}
+use Rattle.cx_steps.specs.declared.seals.DrawMark.TheVariants as draw
+use Rattle.cx_steps.specs.declared.seals.SealEntry.{SealEntry}
+use Rattle.cx_steps.specs.declared.seals.SealEntry.TheVariants.{Drawn, Sealed}
+use Rattle.cx_wire.specs.declared.logins.Authenticate.{Authenticate}
+use Rattle.cx_wire.specs.declared.logins.LoginHello.{LoginHello}
+use Rattle.cx_rules.specs.Abridged.{IsWithin, MonitorStandsFor, abridged_link, abridged_monitor, unsigned}
+use Rattle.cx_rules.specs.Acceptor.{AwaitsBanner, AwaitsHello, AwaitsRequest, AwaitsProof, AwaitsSignature, AwaitsIdent, Open, Finished, finished, misses, on_auth_request, on_banner, on_hello, on_signature}
+use Rattle.cx_rules.specs.Greetings.{own_banner, own_hello}
+use Rattle.cx_rules.specs.Inputs.{Input, Opened, NoLink, Bytes, Turn, Gone, Look, Tick, Submit, Restart}
+use Rattle.cx_rules.specs.KeptStates.{changed}
+use Rattle.cx_rules.specs.Links.{Link, link_of}
+use Rattle.cx_rules.specs.Monitor.{Entity, MonitorArrival, MonitorNode, MonitorRow, MonitorStage, Offered}
+use Rattle.cx_rules.specs.MonitorLogin.{Granted, Numbered, auth_done, challenges, granted, hands_out, issues, issues_to, numbers, on_authenticate, on_login_hello, proves, with_server}
+use Rattle.cx_rules.specs.MonitorRule.{monitor_rule, noted, on_auth_request_more, on_client_ident, on_ident, on_request_payload, on_session_reconnect, opening_monitor, server_ident, session_reset, turn, turned_at, unsaved}
+use Rattle.cx_rules.specs.Payloads.{due, payload}
+use Rattle.cx_rules.specs.Rows.{Outcome, arrival, at, carried_out, forgotten, goes_on, new_link, refuses, refuses_bytes, sends_secure}
+use Rattle.cx_rules.specs.Secured.{Keys, Secured, plain_frame, secure_frame, under}
+use Rattle.cx_rules.specs.Tickets.{ticket_seals}
+use Rattle.cx_rules.specs.Upkeep.{on_upkeep}
+use Rattle.cx_rules.proofs.Abridging.{Agree, Alike, carried-alike, fed-agree, found-within, gone-held, gone-stands, idles-agree, node-twice, without-within}
+use Rattle.cx_rules.proofs.AcceptorForgets.{acceptor-forgets, acceptor_link_of, hello-within, misses-alike, request-within, signature-alike}
+use Rattle.cx_rules.proofs.AlikeRows.{RowWithin, SameAhead, SameTurn, banner-turn, plain-turn, plain_sent-within, refuses-alike, same-turn, secure-alike, secure-turn, turns-agree, upkeep-alike}
+
+-- ---- rows with plain frames: their links are whole
+
+login_hello-within : (a : MonitorArrival) (hello : Result LoginHello BytesFault) → IsWithin a.link → RowWithin (on_login_hello a hello)
+login_hello-within a (Err why) w = tt
+login_hello-within a (Ok hello) w = by_entity _
+  where
+    by_entity : (principal : Option Principal) → RowWithin (challenges a hello principal)
+    by_entity None = tt
+    by_entity (Some principal) = plain_sent-within a _ _ _ w
+
+hands_out-within : (a : MonitorArrival) (grant : Granted) (tickets : List Ticket) (seals : List SealEntry) (save : Option KeptState) (done : Result Finished BytesFault)
+    → IsWithin a.link → RowWithin (hands_out a grant tickets seals save done)
+hands_out-within a grant tickets seals save (Err why) w = tt
+hands_out-within a grant tickets seals save (Ok done) w = w
+
+issues-within : (a : MonitorArrival) (grant : Granted) (principal : Principal) (tickets : Result (List Ticket) LoginFault) → IsWithin a.link → RowWithin (issues a grant principal tickets)
+issues-within a grant principal (Err why) w = tt
+issues-within a grant principal (Ok tickets) w =
+    let session : List ℕ = session_of Auth a.draw in
+    let secret : List ℕ = connection_of a.draw in
+    let content : List ℕ = connection_secret_layout.form.text (record { secret = secret }) in
+    hands_out-within a grant tickets
+    (flat_map (ticket_seals a.own.server principal.key.secret session) tickets
+    ++ Drawn (draw.Connection secret grant.proven.offer.name) ∷ Sealed (record { key = session; kind = kind.Session; content = content }) ∷ [])
+    (changed a.own.saved a.own.server.state)
+    (finished a.link session secret (auth_done grant.gid tickets (sealed session content)))
+    w
+
+issues_to-within : (a : MonitorArrival) (grant : Granted) (principal : Option Principal) → IsWithin a.link → RowWithin (issues_to a grant principal)
+issues_to-within a grant None w = tt
+issues_to-within a grant (Some principal) w = issues-within a grant principal _ w
+
+numbers-within : (a : MonitorArrival) (proven : Proven) (seals : List SealEntry) (n : Result Numbered LoginFault) → IsWithin a.link → RowWithin (numbers a proven seals n)
+numbers-within a proven seals (Err why) w = tt
+numbers-within a proven seals (Ok n) w = issues_to-within (with_server a n.server) (granted proven seals n.gid) _ w
+
+proves-within : (a : MonitorArrival) (gid : ℕ) (r : Result Proven WrongProof) → IsWithin a.link → RowWithin (proves a gid r)
+proves-within a gid (Err wrong) w = tt
+proves-within a gid (Ok proven) w = numbers-within (with_server a _) proven _ _ w
+
+authenticate-within : (a : MonitorArrival) (offered : Offered) (ask : Result Authenticate BytesFault) → IsWithin a.link → RowWithin (on_authenticate a offered ask)
+authenticate-within a offered (Err why) w = tt
+authenticate-within a offered (Ok ask) w = proves-within a offered.gid _ w
+
+request_more-within : (a : MonitorArrival) (offered : Offered) (more : Result AuthRequestMore BytesFault) → IsWithin a.link → RowWithin (on_auth_request_more a offered more)
+request_more-within a offered (Err why) w = tt
+request_more-within a offered (Ok more) w = authenticate-within a offered _ w
+
+-- ---- CLIENT_IDENT, SESSION_RECONNECT
+
+client_ident-alike : (a : MonitorArrival) (l : Link MonitorStage) (s : Secured) (entity : Entity) (ident : Result ClientIdent BytesFault) → SameAhead l a.link → IsWithin a.link
+    → Alike abridged_link (on_client_ident (at a l) (unsigned s) entity ident) (on_client_ident a s entity ident)
+client_ident-alike a l s entity (Err why) e w = refuses-alike abridged_link a l (reason.Bytes why) [] e.number
+client_ident-alike a l s entity (Ok ident) e w = by_test (ident.required == 0)
+  where
+    by_test : (plain : Bool) → Alike abridged_link
+        (if plain then sends_secure (at a l) (unsigned s) (λ behind. Open behind entity) [] (server_ident a.own.address) else misses (at a l) (unsigned s) ident.required)
+        (if plain then sends_secure a s (λ behind. Open behind entity) [] (server_ident a.own.address) else misses a s ident.required)
+    by_test true =
+        secure-alike abridged_link a l (unsigned s) s (λ behind. Open behind entity) [] (secure_frame s.keys (server_ident a.own.address)) e w (λ x k. refl)
+    by_test false = misses-alike a l s ident.required e
+
+reconnect-alike : (a : MonitorArrival) (l : Link MonitorStage) (s : Secured) (entity : Entity) (reconnect : Result SessionReconnect BytesFault) → SameAhead l a.link → IsWithin a.link
+    → Alike abridged_link (on_session_reconnect (at a l) (unsigned s) entity reconnect) (on_session_reconnect a s entity reconnect)
+reconnect-alike a l s entity (Err why) e w = refuses-alike abridged_link a l (reason.Bytes why) [] e.number
+reconnect-alike a l s entity (Ok reconnect) e w =
+    secure-alike abridged_link a l (unsigned s) s (λ behind. AwaitsIdent behind entity) [] (secure_frame s.keys session_reset) e w (λ x k. refl)
+
+ident-alike : (a : MonitorArrival) (l : Link MonitorStage) (s : Secured) (entity : Entity) (f : Frame) → SameAhead l a.link → IsWithin a.link
+    → Alike abridged_link (on_ident (at a l) (unsigned s) entity f) (on_ident a s entity f)
+ident-alike a l s entity f e w = by_tests (f.tag == 8) (f.tag == 11)
+  where
+    by_tests : (client reconnect : Bool) → Alike abridged_link
+        (if client then on_client_ident (at a l) (unsigned s) entity (payload client_ident_layout.form f)
+        else if reconnect then on_session_reconnect (at a l) (unsigned s) entity (payload session_reconnect_layout.form f) else refuses_bytes (at a l) (Unexpected f.tag) [])
+        (if client then on_client_ident a s entity (payload client_ident_layout.form f)
+        else if reconnect then on_session_reconnect a s entity (payload session_reconnect_layout.form f) else refuses_bytes a (Unexpected f.tag) [])
+    by_tests true reconnect = client_ident-alike a l s entity (payload client_ident_layout.form f) e w
+    by_tests false true = reconnect-alike a l s entity (payload session_reconnect_layout.form f) e w
+    by_tests false false = refuses-alike abridged_link a l (reason.Bytes (Unexpected f.tag)) [] e.number
+
+-- ---- a turn
+
+-- of a link in this stage
+abbrev pub TurnsAlike : MonitorArrival → MonitorStage → Type 0
+TurnsAlike a stage =
+    let k : Link MonitorStage = record a.link { stage = stage } in
+    let l : Link MonitorStage = abridged_link k in
+    SameTurn abridged_link (turned_at (at a l) l.stage) (turned_at (at a k) stage)
+
+turned-alike : (a : MonitorArrival) (stage : MonitorStage) → IsWithin a.link → TurnsAlike a stage
+turned-alike a AwaitsBanner w =
+    let k : Link MonitorStage = record a.link { stage = AwaitsBanner } in
+    same-turn abridged_link (turned_at (at a k) AwaitsBanner)
+    (banner-turn (at a k) (on_banner Mon) w (λ l v. plain_sent-within (at a l) AwaitsHello [] (plain_frame (own_hello Mon)) v))
+turned-alike a AwaitsHello w =
+    let k : Link MonitorStage = record a.link { stage = AwaitsHello } in
+    same-turn abridged_link (turned_at (at a k) AwaitsHello)
+    (plain-turn (at a k) (λ b f. on_hello b (due 1 hello_layout.form f)) w (λ l f v. hello-within (at a l) (due 1 hello_layout.form f) v))
+turned-alike a AwaitsRequest w =
+    let k : Link MonitorStage = record a.link { stage = AwaitsRequest } in
+    same-turn abridged_link (turned_at (at a k) AwaitsRequest)
+    (plain-turn (at a k) (λ b f. on_auth_request on_request_payload b (due 2 auth_request_layout.form f)) w
+    (λ l f v. request-within on_request_payload (at a l) (due 2 auth_request_layout.form f) (λ bytes. login_hello-within (at a l) _ v)))
+turned-alike a (AwaitsProof offered) w =
+    let k : Link MonitorStage = record a.link { stage = AwaitsProof offered } in
+    same-turn abridged_link (turned_at (at a k) (AwaitsProof offered))
+    (plain-turn (at a k) (λ b f. on_auth_request_more b offered (due 5 auth_request_more_layout.form f)) w
+    (λ l f v. request_more-within (at a l) offered (due 5 auth_request_more_layout.form f) v))
+turned-alike a (AwaitsSignature s entity) w =
+    let k : Link MonitorStage = record a.link { stage = AwaitsSignature s entity } in
+    let row : MonitorArrival → Keys → Frame → MonitorRow = λ b keys f. on_signature b (under s keys) entity (due 7 auth_signature_layout.form f) in
+    secure-turn abridged_link (at a k) (AwaitsSignature s entity) s.keys row row w
+    (λ l n keys f e v. signature-alike (at a n) l (under s keys) entity (due 7 auth_signature_layout.form f) e v)
+turned-alike a (AwaitsIdent s entity) w =
+    let k : Link MonitorStage = record a.link { stage = AwaitsIdent s entity } in
+    let row : Secured → MonitorArrival → Keys → Frame → MonitorRow = λ t b keys f. on_ident b (under t keys) entity f in
+    secure-turn abridged_link (at a k) (AwaitsIdent (unsigned s) entity) s.keys (row (unsigned s)) (row s) w
+    (λ l n keys f e v. ident-alike (at a n) l (under s keys) entity f e v)
+turned-alike a (Open s entity) w =
+    let k : Link MonitorStage = record a.link { stage = Open s entity } in
+    let row : Secured → MonitorArrival → Keys → Frame → MonitorRow = λ t b keys f. on_upkeep b (under t keys) (λ behind. Open behind entity) f in
+    secure-turn abridged_link (at a k) (Open (unsigned s) entity) s.keys (row (unsigned s)) (row s) w
+    (λ l n keys f e v. upkeep-alike abridged_link (at a n) l (under s keys) (λ behind. Open behind entity) f e v (λ x k. refl))
+
+-- ---- events
+
+-- two outcomes of the monitor of which it keeps the same
+abbrev pub MonitorsAgree : Outcome MonitorNode → Outcome MonitorNode → Type 0
+MonitorsAgree o p = Agree abridged_link o p
+
+turn-agrees : (s : MonitorNode) (reading : ℕ) (draw : List ℕ) (found : Option (Link MonitorStage)) → AllByRecursion IsWithin s.links → IfSome found IsWithin
+    → MonitorsAgree (turn (abridged_monitor s) reading draw (option_map abridged_link found)) (turn s reading draw found)
+turn-agrees s reading draw None h w = idles-agree abridged_link acceptor-forgets s h
+turn-agrees s reading draw (Some link) h w =
+    let a : MonitorArrival = arrival node.Monitor s.own link reading draw in
+    let l : Link MonitorStage = abridged_link link in
+    turns-agree abridged_link acceptor-forgets s a l (turned_at (at a l) l.stage) (turned_at a link.stage) (acceptor-forgets.number link) h (turned-alike a link.stage w)
+
+opens-agree : (s : MonitorNode) (a : MonitorArrival) (full : Bool) → AllByRecursion IsWithin s.links → IsWithin a.link
+    → let row : MonitorRow = (if full then refuses a reason.LinksFull [] else goes_on a AwaitsBanner own_banner []) in
+    MonitorsAgree (carried_out (abridged_monitor s) a.link.number false row) (carried_out s a.link.number false row)
+opens-agree s a true h w =
+    let row : MonitorRow = refuses a reason.LinksFull [] in carried-alike abridged_link acceptor-forgets s a.link.number false row row h (record { kept = refl; within = tt })
+opens-agree s a false h w =
+    let row : MonitorRow = goes_on a AwaitsBanner own_banner [] in carried-alike abridged_link acceptor-forgets s a.link.number false row row h (record { kept = refl; within = w })
+
+monitor-agrees : (s : MonitorNode) (input : Input) (reading : ℕ) (draw : List ℕ) → AllByRecursion IsWithin s.links
+    → MonitorsAgree (monitor_rule (abridged_monitor s) input reading draw) (monitor_rule s input reading draw)
+monitor-agrees s (Opened n p) reading draw h =
+    let link : Link MonitorStage = new_link n AwaitsBanner in
+    let a : MonitorArrival = arrival node.Monitor (noted s).own link reading draw in
+    let opened : ℕ → Outcome MonitorNode = λ live.
+    carried_out (noted (abridged_monitor s)) n false (if nat_le 1024 live then refuses a reason.LinksFull [] else goes_on a AwaitsBanner own_banner [])
+    in
+    subst (λ (o : Outcome MonitorNode). MonitorsAgree o (monitor_rule s (Opened n p) reading draw)) (ap opened (sym (length-map s.links abridged_link)))
+    (opens-agree (noted s) a (nat_le 1024 (length s.links)) h (omega arith))
+monitor-agrees s (NoLink p) reading draw h = record { out = refl; state = record { held = node-twice abridged_link acceptor-forgets (noted s); within = h } }
+monitor-agrees s (Bytes n bytes) reading draw h =
+    let fed-at = fed-agree abridged_link acceptor-forgets (noted s) bytes (link_of n s.links) h (found-within n s.links h) in
+    rw (acceptor_link_of n s.links) fed-at
+monitor-agrees s (Turn n) reading draw h =
+    subst (λ (found : Option (Link MonitorStage)). MonitorsAgree (turn (noted (abridged_monitor s)) reading draw found) (turn (noted s) reading draw (link_of n s.links)))
+    (sym (acceptor_link_of n s.links))
+    (turn-agrees (noted s) reading draw (link_of n s.links) h (found-within n s.links h))
+monitor-agrees s (Gone n) reading draw h =
+    let t : MonitorNode = noted s in
+    record {
+      out = refl;
+      state = record { held = ap abridged_monitor (gone-held abridged_link acceptor-forgets t n) ∙ node-twice abridged_link acceptor-forgets (forgotten t n); within = without-within n s.links h };
+    }
+monitor-agrees s (Look view) reading draw h = idles-agree abridged_link acceptor-forgets (noted s) h
+monitor-agrees s Tick reading draw h = idles-agree abridged_link acceptor-forgets (noted s) h
+monitor-agrees s (Submit command) reading draw h = idles-agree abridged_link acceptor-forgets (noted s) h
+monitor-agrees s Restart reading draw h = record { out = refl; state = record { held = refl; within = tt } }
+
+-- what the monitor does from what it holds is what it does from all that the rules hold
+pub monitor-forgets : (m s : MonitorNode) (input : Input) (reading : ℕ) (draw : List ℕ) → MonitorStandsFor m s
+    → ((monitor_rule m input reading draw).out ≡ (monitor_rule s input reading draw).out)
+    × MonitorStandsFor (abridged_monitor (monitor_rule m input reading draw).state) (monitor_rule s input reading draw).state
+monitor-forgets m s input reading draw stands =
+    let both : MonitorsAgree (monitor_rule m input reading draw) (monitor_rule s input reading draw) =
+    subst (λ (n : MonitorNode). MonitorsAgree (monitor_rule n input reading draw) (monitor_rule s input reading draw)) (sym stands.held) (monitor-agrees s input reading draw stands.within)
+    in
+    (both.out, both.state)
+
+pub monitor-unsaved : (m s : MonitorNode) → MonitorStandsFor m s → MonitorStandsFor (unsaved m) (unsaved s)
+monitor-unsaved m s stands = record { held = ap unsaved stands.held; within = stands.within }
+
+pub monitor-lost : (m s : MonitorNode) (n : ℕ) → MonitorStandsFor m s → MonitorStandsFor (forgotten (noted m) n) (forgotten (noted s) n)
+monitor-lost m s n stands = gone-stands abridged_link acceptor-forgets (noted m) (noted s) n (record { held = ap noted stands.held; within = stands.within })
+
+pub monitor-opening : (server : Server) (address : Addr) → MonitorStandsFor (opening_monitor server address) (opening_monitor server address)
+monitor-opening server address = record { held = refl; within = tt }
+
+pub monitor-twice : (s : MonitorNode) → abridged_monitor (abridged_monitor s) ≡ abridged_monitor s
+monitor-twice s = node-twice abridged_link acceptor-forgets s

@@ -1,0 +1,164 @@
+-- How a run begins: what the head lines of a schedule say of the nodes.
+use Rattle.std.specs.Prelude.{ℕ, ◌+◌, ◌*◌, ◌^◌, suc, true, false, List, [], ◌∷◌, ◌++◌, length, map, take, Option, Some, None, unwrap_or, if◌then◌else◌}
+use Rattle.std.specs.List.{flat_map}
+use Rattle.cx_base.specs.Names.{Name, same_kind, same_name}
+use Rattle.cx_base.specs.declared.addresses.Addr.{Addr}
+use Rattle.cx_base.specs.declared.kinds.EntityType.TheVariants.{Client}
+use Rattle.cx_dice.specs.Rolls.{seed_draw}
+use Rattle.cx_journal.specs.declared.entries.Entry.TheVariants as entry
+use Rattle.cx_journal.specs.declared.node_names.NodeName.TheVariants as node
+use Rattle.cx_keyring.specs.declared.entries.Entry.{Entry as Principal}
+use Rattle.cx_lines.specs.declared.entity.Grant.{Grant}
+use Rattle.cx_lines.specs.declared.lines.Line.{Line}
+use Rattle.cx_lines.specs.declared.lines.Line.TheVariants as line
+use Rattle.cx_lines.specs.declared.lines.Numbered.{Numbered}
+use Rattle.cx_lines.specs.declared.settings.Setting.{Setting}
+use Rattle.cx_lines.specs.declared.settings.Setting.TheVariants as setting
+use Rattle.cx_places.specs.declared.choices.Modes.{Modes}
+use Rattle.cx_places.specs.declared.choices.Modes.TheVariants.{Crc, Secure, Both}
+use Rattle.cx_places.specs.declared.nodes.Node.{Node}
+use Rattle.cx_places.specs.declared.nodes.Node.TheVariants as place
+use Rattle.cx_rotate.specs.declared.states.KeptState.{KeptState}
+use Rattle.cx_rules.specs.ClientRule.{ClientNode, opening_client}
+use Rattle.cx_rules.specs.Holdings.{Asker, holds_nothing, modes_of}
+use Rattle.cx_rules.specs.Monitor.{MonitorNode}
+use Rattle.cx_rules.specs.MonitorRule.{opening_monitor}
+use Rattle.cx_steps.specs.declared.seals.DrawMark.TheVariants as draw
+use Rattle.cx_steps.specs.declared.seals.Logged.{Logged}
+use Rattle.cx_steps.specs.declared.seals.SealEntry.TheVariants as seal
+use Rattle.cx_run.specs.Happenings.{Entered, Nodes}
+use Rattle.cx_run.specs.Worlds.{Seat, World}
+
+-- ---- what head lines say
+
+-- an entity: which one it is of those that are declared, from 1; its line; its name and its caps; the seed of its dice, where one is told; and
+-- the modes that it offers
+pub record Declared : Type 0 where
+  pub number : ℕ
+  pub line : ℕ
+  pub name : Name
+  pub grants : List Grant
+  pub seed : Option ℕ
+  pub modes : Modes
+
+-- a client that is leaked, and the line that says so
+pub record Leak : Type 0 where
+  pub line : ℕ
+  pub client : Name
+
+-- what the head lines say: both lives in seconds, the entities, the seed of the monitor's dice, and the leaked clients
+pub record Setup : Type 0 where
+  pub life : ℕ
+  pub auth_life : ℕ
+  pub entities : List Declared
+  pub monitor_seed : ℕ
+  pub leaks : List Leak
+
+-- where nothing is said
+abbrev pub plain_setup : Setup
+plain_setup = record { life = 3600; auth_life = 43200; entities = []; monitor_seed = 0; leaks = [] }
+
+-- the entity of a name is changed
+abbrev pub changed : Name → (Declared → Declared) → Setup → Setup
+changed name change setup = record setup { entities = map (λ e. if same_name e.name name then change e else e) setup.entities }
+
+abbrev pub seeded : Node → ℕ → Setup → Setup
+seeded place.Monitor seed setup = record setup { monitor_seed = seed }
+seeded (place.Entity name) seed setup = changed name (λ e. record e { seed = Some seed }) setup
+
+abbrev pub declared : ℕ → Name → List Grant → Setup → Setup
+declared number name grants setup = record setup {
+  entities = setup.entities ++ record { number = suc (length setup.entities); line = number; name = name; grants = grants; seed = None; modes = Both } ∷ [];
+}
+
+-- what a line with this number says
+abbrev pub set_up_by : Setup → ℕ → Setting → Setup
+set_up_by setup number (setting.Lifetime seconds) = record setup { life = seconds }
+set_up_by setup number (setting.AuthLifetime seconds) = record setup { auth_life = seconds }
+set_up_by setup number (setting.Entity name grants) = declared number name grants setup
+set_up_by setup number (setting.Seed who seed) = seeded who seed setup
+set_up_by setup number (setting.Modes name modes) = changed name (λ e. record e { modes = modes }) setup
+set_up_by setup number (setting.Leak name) = record setup { leaks = setup.leaks ++ record { line = number; client = name } ∷ [] }
+
+abbrev pub set_up_line : Setup → ℕ → Line → Setup
+set_up_line setup number (line.Setting setting) = set_up_by setup number setting
+set_up_line setup number _ = setup
+
+abbrev pub set_up : Setup → List Numbered → Setup
+set_up setup [] = setup
+set_up setup (l ∷ lines) = set_up (set_up_line setup l.number l.line) lines
+
+-- ---- the nodes
+
+-- the secret of an entity: the first 16 bytes that the seed 2^63 and its number give
+abbrev pub secret_of : Declared → List ℕ
+secret_of e = take 16 (seed_draw (2 ^ 63 + e.number) 0)
+
+-- an address on this machine: the monitor has nonce 0 and port 6789, an entity its number as nonce and port 0
+abbrev pub local : ℕ → ℕ → Addr
+local nonce port = record { nonce = nonce; ip = 127 ∷ 0 ∷ 0 ∷ 1 ∷ []; port = port }
+
+-- the entity in the monitor's keyring
+abbrev pub principal_of : Declared → Principal
+principal_of e = record {
+  name = e.name;
+  key = record { created = record { secs = 0; nanos = 0 }; secret = secret_of e };
+  caps = map (λ grant. record { service = grant.service; caps = grant.caps }) e.grants;
+}
+
+-- the state with which the monitor begins
+abbrev pub first_state : Setup → KeptState
+first_state setup = record {
+  next_gid = 1;
+  life = setup.life * 1000000000;
+  auth_life = setup.auth_life * 1000000000;
+  mds = [];
+  osd = [];
+  mgr = [];
+  auth = [];
+}
+
+abbrev pub monitor_of : Setup → MonitorNode
+monitor_of setup = opening_monitor (record { ring = map principal_of setup.entities; state = first_state setup }) (local 0 6789)
+
+abbrev pub modes_in : Modes → List ℕ
+modes_in Crc = modes_of true false
+modes_in Secure = modes_of false true
+modes_in Both = modes_of true true
+
+abbrev pub asker_of : Declared → Asker
+asker_of e = record { name = e.name; secret = secret_of e; address = local e.number 0; modes = modes_in e.modes; global_seq = 0; holdings = holds_nothing }
+
+-- daemons have no rules yet
+abbrev pub client_in : Declared → List ClientNode
+client_in e = if same_kind e.name.kind Client then opening_client (asker_of e) ∷ [] else []
+
+abbrev pub nodes_of : Setup → Nodes
+nodes_of setup = record { monitor = monitor_of setup; clients = flat_map client_in setup.entities }
+
+-- the seed of an entity's dice is its number, where none is told
+abbrev pub seat_for : Declared → Seat
+seat_for e = record { node = node.Entity e.name; reading = 0; seed = unwrap_or e.seed e.number; rolled = 0 }
+
+abbrev pub seats_of : Setup → List Seat
+seats_of setup = record { node = node.Monitor; reading = 0; seed = setup.monitor_seed; rolled = 0 } ∷ map seat_for setup.entities
+
+-- the world before anything happened
+abbrev pub opening_world : Setup → World
+opening_world setup = record { nodes = nodes_of setup; seats = seats_of setup; wires = []; left = None; line = 0; past = [] }
+
+-- ---- what stands in journal and log before all events
+
+-- each leaked client is entered
+abbrev pub leaks_entered : Setup → List Entered
+leaks_entered setup = map (λ leak. record { line = leak.line; reading = 0; entry = entry.Leaked leak.client }) setup.leaks
+
+abbrev pub leaked_of : Setup → List Name
+leaked_of setup = map (λ leak. leak.client) setup.leaks
+
+-- the secret of an entity counts as drawn at its line
+abbrev pub secret_drawn : Declared → Logged
+secret_drawn e = record { node = node.Entity e.name; line = e.line; entry = seal.Drawn (draw.Principal (secret_of e) e.name) }
+
+abbrev pub secrets_drawn : Setup → List Logged
+secrets_drawn setup = map secret_drawn setup.entities
