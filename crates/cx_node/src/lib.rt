@@ -15,12 +15,12 @@ mod searching;
 #[cfg(test)]
 mod tests;
 
-pub use carrying::{Carried, carried_out, enters, loses};
+pub use carrying::{Carried, carried_out, enters, loses, noted};
 pub use controls::{bad_method, control, control_whole};
 pub use laws::node_laws;
 pub use links::Links;
 pub use making::{denies, goes_on, refused_entry, refuses, refuses_bytes, with_opened};
-pub use numbered::Numbered;
+pub use numbered::{Noting, Numbered};
 pub use payloads::{due, payload, payload_part, whole, whole_part};
 pub use rows::Row;
 

@@ -3,18 +3,18 @@
 ghost use Rattle.std.specs.Prelude.{◌≡◌, None, ℕ};
 
 use crate::{
-    Links, Numbered, Row, carried_out, control, denies, due, enters, goes_on, loses, node_laws,
-    payload_part, refused_entry, refuses, refuses_bytes, whole, with_opened,
+    Links, Noting, Numbered, Row, carried_out, control, denies, due, enters, goes_on, loses,
+    node_laws, noted, payload_part, refused_entry, refuses, refuses_bytes, whole, with_opened,
 };
 use cx_base::{Addr, Blob, EntityType, Items};
 use cx_control::{AuthBadMethod, Hello};
 use cx_frame::{Frame, Segment};
 use cx_journal::{BytesFault, Entry, KeyKind, LoginFault, NodeName, Reason, Refused};
 use cx_steps::{Effects, SealEntry, SealMark};
-use std::alloc::Global;
+use std::alloc::{AllocError, Global};
 use std::process::Abort;
 
-#[derive(Debug, PartialEq, Eq, Drop)]
+#[derive(Drop)]
 struct Wire {
     number: u32,
     stage: u8,
@@ -25,6 +25,15 @@ impl Numbered for Wire {
 
     fn number(&self) -> u32 {
         self.number
+    }
+}
+
+impl Noting for Wire {
+    ghost with_sent = { λ w bytes. record w { stage = 2 } };
+
+    fn note_sent(&mut self, _alloc: Global, _bytes: &[u8]) -> Result<(), AllocError> {
+        self.stage = 2;
+        Ok(())
     }
 }
 
@@ -115,7 +124,11 @@ fn seals(rt: &impl Abort, alloc: Global, content: &[u8]) -> Items<SealEntry> {
 }
 
 fn out(rt: &impl Abort, alloc: Global, turned: bool, row: Row<Wire>) -> Effects {
+    let row = noted(alloc, row).expect(rt, "memory");
     let carried = carried_out(alloc, 7, turned, row).expect(rt, "memory");
+    if let Some(link) = carried.link {
+        assert_eq!(rt; link.stage, 2);
+    }
     carried.out
 }
 
