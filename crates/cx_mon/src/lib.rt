@@ -2,10 +2,12 @@
 #![tactic(auto)]
 
 mod arrivals;
+mod events;
 mod greeting;
 mod idents;
 mod links;
 mod logins;
+mod monitor;
 mod own;
 mod requests;
 mod sending;
@@ -14,3 +16,11 @@ mod turns;
 mod upkeep;
 
 
+pub use monitor::Monitor;
+
+// The monitor may be sent to another thread and shared with one.
+fn is_sendable<T: Send + Sync>() {}
+
+fn all_are_sendable() {
+    is_sendable::<Monitor>();
+}
