@@ -1,5 +1,5 @@
 -- What a turn comes to is carried out as the rules have it.
-use Rattle.std.proofs.Common.{◌≡◌, ◌∙◌, ℕ, Bool, true, false, List, [], ◌∷◌, ◌++◌, map, Option, Some, None, refl, sym, ap}
+use Rattle.std.proofs.Common.{◌≡◌, ◌∙◌, ℕ, Bool, true, false, List, [], ◌∷◌, ◌++◌, map, Option, Some, None, refl, sym, ap, subst}
 use Rattle.std.specs.Option.{option_map}
 use Rattle.cx_journal.specs.declared.faults.BytesFault.{BytesFault}
 use Rattle.cx_journal.specs.declared.node_names.NodeName.TheVariants as node
@@ -19,11 +19,11 @@ use Rattle.cx_mon.specs.Stages.{link_held}
 use Rattle.cx_mon.specs.declared.arrivals.Moment.{Moment}
 use Rattle.cx_mon.specs.declared.arrivals.Turned.TheVariants as made
 use Rattle.cx_mon.specs.declared.links.Stage.{Stage}
-use Rattle.cx_mon.proofs.Tables.{put-map, without-map}
+use Rattle.cx_mon.proofs.Tables.{put_mapped, without_mapped}
 
-shuts-map : {X Y : Type 0} (number : ℕ) (f : X → Y) (x : Option X) → shuts number (option_map f x) ≡ shuts number x
-shuts-map number f None = refl
-shuts-map number f (Some x) = refl
+shuts_mapped : {X Y : Type 0} (number : ℕ) (f : X → Y) (x : Option X) → shuts number (option_map f x) ≡ shuts number x
+shuts_mapped number f None = refl
+shuts_mapped number f (Some x) = refl
 
 -- the effects of a row
 abbrev effects : ℕ → Bool → List ℕ → MonitorRow → Effects
@@ -38,71 +38,72 @@ effects number turned shut row = record {
   lost = None;
 }
 
-pub row-out : (new : Monitor) (number : ℕ) (turned : Bool) (m : MonitorNode) (row : Made Stage) (R : MonitorRow) → made_row new number row ≡ due R
+pub row_out : (new : Monitor) (number : ℕ) (turned : Bool) (m : MonitorNode) (row : Made Stage) (R : MonitorRow) → made_row new number row ≡ due R
     → out_of number turned row ≡ (carried_out m number turned R).out
-row-out new number turned m row R e =
+row_out new number turned m row R e =
     let whole : MonitorRow → Effects = λ r. effects number turned (shuts number r.link) r in
     let shut : List ℕ → Effects = λ s. effects number turned s R in
     let held : List ℕ → Effects = λ s. effects number turned s (made_row new number row) in
-    sym (ap held (shuts-map number (link_held number) row.link)) ∙ ap whole e ∙ ap shut (shuts-map number (link_behind R.sends) R.link)
+    sym (ap held (shuts_mapped number (link_held number) row.link)) ∙ ap whole e ∙ ap shut (shuts_mapped number (link_behind R.sends) R.link)
 
-behind-due : (all : List (Link MonitorStage)) (number : ℕ) (bytes : List ℕ) (x : Option (Link MonitorStage)) → AreAbridged all
+behind_due : (all : List (Link MonitorStage)) (number : ℕ) (bytes : List ℕ) (x : Option (Link MonitorStage)) → AreAbridged all
     → behind (λ l. l.number) number (option_map (link_behind bytes) x) all ≡ map abridged_link (links_behind all number bytes x)
-behind-due all number bytes None held = sym (without-map number all ∙ ap (without_link number) held)
-behind-due all number bytes (Some l) held = sym (put-map (record l { sent = l.sent ++ bytes }) all ∙ ap (put_link (link_behind bytes l)) held)
+behind_due all number bytes None held = sym (without_mapped number all ∙ ap (without_link number) held)
+behind_due all number bytes (Some l) held = sym (put_mapped (record l { sent = l.sent ++ bytes }) all ∙ ap (put_link (link_behind bytes l)) held)
 
-pub row-state : (old new : Monitor) (number : ℕ) (turned : Bool) (all links : List (Link MonitorStage)) (row : Made Stage) (R : MonitorRow)
+pub row_state : (old new : Monitor) (number : ℕ) (turned : Bool) (all links : List (Link MonitorStage)) (row : Made Stage) (R : MonitorRow)
     → made_row new number row ≡ due R → AreAbridged all
     → links ≡ behind (λ l. l.number) number (option_map (link_held number) row.link) all
     → node_of new links ≡ abridged_monitor (carried_out (node_of old all) number turned R).state
-row-state old new number turned all links row R e held l =
+row_state old new number turned all links row R e held l =
     let state : MonitorRow → MonitorNode = λ r. node_of r.own (behind (λ l. l.number) number r.link all) in
     let tables : List (Link MonitorStage) → MonitorNode = λ ls. node_of R.own ls in
-    ap (λ ls. node_of new ls) l ∙ ap state e ∙ ap tables (behind-due all number R.sends R.link held)
+    ap (λ ls. node_of new ls) l ∙ ap state e ∙ ap tables (behind_due all number R.sends R.link held)
 
 -- a row is carried out on its link
-pub row-step : (old new : Monitor) (number : ℕ) (turned : Bool) (all links : List (Link MonitorStage)) (row : Made Stage) (R : MonitorRow) (out : Effects)
+pub row_step : (old new : Monitor) (number : ℕ) (turned : Bool) (all links : List (Link MonitorStage)) (row : Made Stage) (R : MonitorRow) (out : Effects)
     → made_row new number row ≡ due R → AreAbridged all
     → links ≡ behind (λ l. l.number) number (option_map (link_held number) row.link) all
     → out ≡ out_of number turned row
     → IsStep (node_of new links) (carried_out (node_of old all) number turned R) out
-row-step old new number turned all links row R out e held l o = record {
-  out = o ∙ row-out new number turned (node_of old all) row R e;
-  state = row-state old new number turned all links row R e held l;
+row_step old new number turned all links row R out e held l o = record {
+  out = o ∙ row_out new number turned (node_of old all) row R e;
+  state = row_state old new number turned all links row R e held l;
 }
 
 -- ---- turns
 
-pub handles-step : (old new : Monitor) (at : Moment) (link : Link MonitorStage) (all links : List (Link MonitorStage)) (row : Made Stage) (out : Effects)
+pub handles_step : (old new : Monitor) (at : Moment) (link : Link MonitorStage) (all links : List (Link MonitorStage)) (row : Made Stage) (out : Effects)
     (T : Turned Monitor MonitorStage) → turn_made new at.number (made.Handles row) ≡ turn_due T → link.number ≡ at.number → AreAbridged all
     → links ≡ behind (λ l. l.number) at.number (option_map (link_held at.number) row.link) all
     → out ≡ out_of at.number true row
     → IsStep (node_of new links) (turns (node_of old all) (arrived old at link) T) out
-handles-step old new at link all links row out Waits e n held l o = absurd (cc)
-handles-step old new at link all links row out (Refuses why opened) e n held l o = absurd (cc)
-handles-step old new at link all links row out (Handles R) e n held l o =
+handles_step old new at link all links row out Waits e n held l o = absurd (cc)
+handles_step old new at link all links row out (Refuses why opened) e n held l o = absurd (cc)
+handles_step old new at link all links row out (Handles R) e n held l o =
     let k : made_row new at.number row ≡ due R = cc in
-    rw n (row-step old new at.number true all links row R out k held l o)
+    rw n (row_step old new at.number true all links row R out k held l o)
 
-pub refuses-step : (old new : Monitor) (at : Moment) (link : Link MonitorStage) (all links : List (Link MonitorStage)) (why : BytesFault) (seals : List SealEntry)
+pub refuses_step : (old new : Monitor) (at : Moment) (link : Link MonitorStage) (all links : List (Link MonitorStage)) (why : BytesFault) (seals : List SealEntry)
     (row : Made Stage) (out : Effects) (T : Turned Monitor MonitorStage) → turn_made new at.number (made.Refuses why seals) ≡ turn_due T → new ≡ old
     → link.number ≡ at.number → AreAbridged all → row ≡ refusing_bytes node.Monitor at.number why seals
     → links ≡ behind (λ l. l.number) at.number (option_map (link_held at.number) row.link) all
     → out ≡ out_of at.number false row
     → IsStep (node_of new links) (turns (node_of old all) (arrived old at link) T) out
-refuses-step old new at link all links why seals row out Waits e same n held r l o = absurd (cc)
-refuses-step old new at link all links why seals row out (Handles R) e same n held r l o = absurd (cc)
-refuses-step old new at link all links why seals row out (Refuses due_why opened) e same n held r l o =
+refuses_step old new at link all links why seals row out Waits e same n held r l o = absurd (cc)
+refuses_step old new at link all links why seals row out (Handles R) e same n held r l o = absurd (cc)
+refuses_step old new at link all links why seals row out (Refuses due_why opened) e same n held r l o =
     let first : why ≡ due_why = cc in
     let second : seals ≡ opened = cc in
     let k : made_row new at.number row ≡ due (refuses_bytes (arrived old at link) due_why opened) = rw (r, same, n, first, second) refl in
-    rw n (row-step old new at.number false all links row (refuses_bytes (arrived old at link) due_why opened) out k held l o)
+    let P : ℕ → Type 0 = λ m. IsStep (node_of new links) (carried_out (node_of old all) m false (refuses_bytes (arrived old at link) due_why opened)) out in
+    subst P (sym n) (row_step old new at.number false all links row (refuses_bytes (arrived old at link) due_why opened) out k held l o)
 
-pub waits-step : (old new : Monitor) (at : Moment) (link : Link MonitorStage) (all links : List (Link MonitorStage)) (stage : Stage) (out : Effects)
+pub waits_step : (old new : Monitor) (at : Moment) (link : Link MonitorStage) (all links : List (Link MonitorStage)) (stage : Stage) (out : Effects)
     (T : Turned Monitor MonitorStage) → turn_made new at.number (made.Waits stage) ≡ turn_due T → new ≡ old → AreAbridged all → links ≡ all → out ≡ nothing
     → IsStep (node_of new links) (turns (node_of old all) (arrived old at link) T) out
-waits-step old new at link all links stage out Waits e same held l o =
+waits_step old new at link all links stage out Waits e same held l o =
     let state : Monitor → List (Link MonitorStage) → MonitorNode = λ m ls. node_of m ls in
     record { out = o; state = ap (λ m. state m links) same ∙ ap (state old) (l ∙ sym held) }
-waits-step old new at link all links stage out (Refuses why opened) e same held l o = absurd (cc)
-waits-step old new at link all links stage out (Handles R) e same held l o = absurd (cc)
+waits_step old new at link all links stage out (Refuses why opened) e same held l o = absurd (cc)
+waits_step old new at link all links stage out (Handles R) e same held l o = absurd (cc)

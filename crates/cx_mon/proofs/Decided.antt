@@ -8,6 +8,7 @@ use Rattle.cx_granting.specs.Verdicts.{Decided, issues, issues_to, key_of, numbe
 use Rattle.cx_granting.specs.declared.verdicts.Verdict.{Verdict}
 use Rattle.cx_journal.specs.declared.faults.LoginFault.{LoginFault}
 use Rattle.cx_journal.specs.declared.faults.LoginFault.TheVariants as login
+use Rattle.cx_keyring.specs.declared.entries.Entry.{Entry}
 use Rattle.cx_keyserver.specs.Servers.{Server, rotated_server}
 use Rattle.cx_keyserver.specs.declared.tickets.Ticket.{Ticket}
 use Rattle.cx_link.specs.Wires.{Wire}
@@ -24,6 +25,7 @@ use Rattle.cx_rules.specs.MonitorLogin.{Numbered, next_number, numbered}
 use Rattle.cx_rules.specs.Tickets.{issued_for, rotation_drawn, services_for}
 use Rattle.cx_sealed.specs.declared.service_ticket.ServiceTicket.{ServiceTicket}
 use Rattle.cx_steps.specs.declared.seals.SealEntry.{SealEntry}
+use Rattle.cx_mon.specs.Machine.{IsSameBut}
 use Rattle.cx_mon.specs.Rows.{arrived, due, made_row, saves, saving}
 use Rattle.cx_mon.specs.Stages.{awaiting_proof}
 use Rattle.cx_mon.specs.declared.arrivals.Moment.{Moment}
@@ -79,6 +81,12 @@ rotates-ring at server gid proven =
     let seals : List SealEntry = proof_found proven.offer proven.ask.client_challenge ∷ rotation_drawn at.reading at.draw server.state in
     let reclaim : Reclaim = reclaimed gid proven.ask.version (kept_gid proven.offer.name at.reading old.value) in
     numbers-ring at rotated proven (seals ++ old.seals) (numbered rotated reclaim) (numbered-ring rotated reclaim)
+
+-- behind a login all but what is kept and what was saved last is as before
+pub same_but : (old : Monitor) (server : Server) (saved : KeptState) → server.ring ≡ old.server.ring
+    → IsSameBut old (record old { server = server; saved = saved })
+same_but old server saved e =
+    let with : List Entry → Monitor = λ ring. record old { server = record old.server { ring = ring } } in sym (ap with e)
 
 -- ---- what is saved
 

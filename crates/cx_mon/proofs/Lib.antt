@@ -4,5 +4,6 @@ pub mod Controls
 pub mod Decided
 pub mod Rising
 pub mod Stages
+pub mod Steps
 pub mod Tables
 pub mod Turning

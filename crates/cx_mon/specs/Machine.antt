@@ -12,20 +12,23 @@ use Rattle.cx_rules.specs.Rows.{Outcome, forgotten, goes_on, refuses}
 use Rattle.cx_steps.specs.Nothing.{nothing}
 use Rattle.cx_steps.specs.declared.effects.Effects.{Effects}
 
-abbrev pub node_of : Monitor → List (Link MonitorStage) → MonitorNode
+abbrev pub MonitorLink : Type 0
+MonitorLink = Link MonitorStage
+
+abbrev pub node_of : Monitor → List MonitorLink → MonitorNode
 node_of own links = record { own = own; links = links }
 
 -- of none of these links more can be forgotten
-abbrev pub AreAbridged : List (Link MonitorStage) → Type 0
+abbrev pub AreAbridged : List MonitorLink → Type 0
 AreAbridged links = map abridged_link links ≡ links
 
 -- the numbers of these links rise, from this one on
-abbrev pub AreRising : ℕ → List (Link MonitorStage) → Type 0
+abbrev pub AreRising : ℕ → List MonitorLink → Type 0
 AreRising low [] = Unit {0}
 AreRising low (l ∷ links) = (low ≤ l.number) × AreRising (l.number + 1) links
 
 -- how the monitor holds its links
-pub record AreHeld (links : List (Link MonitorStage)) : Type 0 where
+pub record AreHeld (links : List MonitorLink) : Type 0 where
   pub abridged : AreAbridged links
   pub rising : AreRising 0 links
 
@@ -57,14 +60,14 @@ losing input = record nothing { lost = link_in input }
 -- ---- steps
 
 -- what a step gave, and the monitor behind it, are those of the rules, abridged
-pub record IsStep (m : MonitorNode) (due : Outcome MonitorNode) (out : Effects) : Type 0 where
-  pub out : out ≡ due.out
+pub record IsStep (m : MonitorNode) (due : Outcome MonitorNode) (given : Effects) : Type 0 where
+  pub out : given ≡ due.out
   pub state : m ≡ abridged_monitor due.state
 
--- the link was taken out of all of them, and these are left
-pub record IsOutOf (link : Link MonitorStage) (left all : List (Link MonitorStage)) : Type 0 where
-  pub left : left ≡ without_link link.number all
-  pub found : link_of link.number all ≡ Some link
+-- the link of this number was taken out of all of them, and these are left
+pub record IsOutOf (number : ℕ) (link : MonitorLink) (rest all : List MonitorLink) : Type 0 where
+  pub left : rest ≡ without_link number all
+  pub found : link_of number all ≡ Some link
   pub held : AreHeld all
 
 -- what is done on a link that opens

@@ -8,13 +8,12 @@ ghost use Rattle.cx_node.specs.Made.{out_of};
 ghost use Rattle.cx_node.specs.Tables.{behind};
 ghost use Rattle.cx_rules.specs.Acceptor.{AwaitsBanner};
 ghost use Rattle.cx_rules.specs.Inputs.{input_of};
-ghost use Rattle.cx_rules.specs.Links.{Link, link_of, without_link};
-ghost use Rattle.cx_rules.specs.Monitor.{MonitorStage};
+ghost use Rattle.cx_rules.specs.Links.{link_of, without_link};
 ghost use Rattle.cx_rules.specs.MonitorRule as rule;
 ghost use Rattle.cx_rules.specs.Rows as rows;
 ghost use Rattle.cx_rules.specs.Rows.{forgotten};
 ghost use Rattle.cx_steps.specs.Nothing.{nothing};
-ghost use Rattle.cx_mon.specs.Machine.{AreHeld, IsOutOf, IsSameBut, IsStep, link_in, node_of, opening, without_lost};
+ghost use Rattle.cx_mon.specs.Machine.{AreHeld, IsOutOf, IsSameBut, IsStep, MonitorLink, link_in, node_of, opening, without_lost};
 ghost use Rattle.cx_mon.specs.Rows.{arrived, due, made_row};
 ghost use Rattle.cx_mon.specs.Stages.{link_held};
 
@@ -106,6 +105,7 @@ fn opens_none(alloc: Global) -> Result<Effects, AllocError>
 }
 
 // A link is gone.
+#[tactic(auto, using(crate::proofs::Steps::goes_step, crate::proofs::Steps::without_held))]
 fn goes(alloc: Global, own: &Own, links: &mut Links<Link>, number: u32) -> Effects
     requires room { links.old.room ≡ None }
     requires held { AreHeld links.old.links }
@@ -120,6 +120,7 @@ fn goes(alloc: Global, own: &Own, links: &mut Links<Link>, number: u32) -> Effec
 // ---- a link opens
 
 // The banner is sent, unless as many links live as there are places.
+#[tactic(auto, using(crate::proofs::Steps::without_held))]
 fn opens(
     alloc: Global,
     own: &Own,
@@ -157,19 +158,32 @@ fn greets(
     ensures room { links.new.room ≡ None }
     ensures held { AreHeld links.new.links }
 {
-    let row = greeting(alloc, own, at, links.len() >= MOST_LINKS)?;
+    let full = links.len() >= MOST_LINKS;
+    let row = greeting(alloc, own, at, full)?;
     let Carried { link, out } = carried_out(alloc, at.number, false, row)?;
-    match link {
-        Some(stage) => {
-            let link = Link {
-                number: at.number,
-                stage,
-            };
-            links.put(alloc, link)?;
-        }
-        None => links.remove(at.number),
-    }
+    stands(alloc, links, at.number, link)?;
     Ok(out)
+}
+
+// The link of this number stands in the table, where it goes on.
+fn stands(
+    alloc: Global,
+    links: &mut Links<Link>,
+    number: u32,
+    stage: Option<Stage>,
+) -> Result<(), AllocError>
+    requires { links.old.room ≡ None }
+    ensures ok { OnOk result (links.new.links ≡ behind (λ l. l.number) number (option_map (link_held number) stage) links.old.links) }
+    ensures err { OnErr result (links.new ≡ links.old) }
+    ensures room { links.new.room ≡ None }
+{
+    match stage {
+        Some(stage) => links.put(alloc, Link { number, stage }),
+        None => {
+            links.remove(number);
+            Ok(())
+        }
+    }
 }
 
 // The row of a link that opens where the places are full, or aren't.
@@ -194,6 +208,7 @@ fn greeting(
 // ---- bytes come
 
 // Bytes come on a link, if it lives.
+#[tactic(auto, using(crate::proofs::Steps::fed_step, crate::proofs::Steps::unfed_step, crate::proofs::Steps::put_held, crate::proofs::Steps::without_held))]
 fn comes(
     alloc: Global,
     own: &Own,
@@ -214,7 +229,7 @@ fn comes(
     };
     match link.fed(alloc, bytes) {
         Ok(link) => {
-            links.put_back(link);
+            links.settle(number, Some(link));
             Ok(Effects::new(alloc))
         }
         Err(error) => {
@@ -227,6 +242,7 @@ fn comes(
 // ---- a turn
 
 // One banner or frame of what came on a link is handled, if it lives.
+#[tactic(auto, using(crate::proofs::Steps::idles_step, crate::proofs::Steps::without_held))]
 fn turn(
     alloc: Global,
     own: &mut Own,
@@ -245,8 +261,9 @@ fn turn(
     let Some(link) = links.take(at.number) else {
         return Ok(Effects::new(alloc));
     };
+    let Link { number: _, stage } = link;
     let before = own.mark();
-    match turns(alloc, own, links, at, link) {
+    match turns(alloc, own, links, at, stage) {
         Ok(out) => Ok(out),
         Err(error) => {
             links.give_up();
@@ -262,29 +279,27 @@ fn turns(
     own: &mut Own,
     links: &mut Links<Link>,
     at: &Moment<'_>,
-    link: Link,
+    stage: Stage,
 ) -> Result<Effects, AllocError>
     requires reading { at.now.reading < 4000000000000000000 }
     requires room { links.old.room ≡ Some at.now.number }
-    requires number { link.number ≡ at.now.number }
-    ensures step { (all : List (Link MonitorStage)) → IsOutOf link links.old.links all → IfOk result (IsStep (node_of own.new links.new.links)
-        (rule.turn (node_of own.old all) at.now.reading at.now.draw.now.bytes (Some link))) }
-    ensures held { (all : List (Link MonitorStage)) → IsOutOf link links.old.links all → OnOk result (AreHeld links.new.links) }
+    ensures step { (all : List MonitorLink) → IsOutOf at.now.number (link_held at.now.number stage) links.old.links all → IfOk result (IsStep (node_of own.new links.new.links)
+        (rule.turn (node_of own.old all) at.now.reading at.now.draw.now.bytes (Some (link_held at.now.number stage)))) }
+    ensures held { (all : List MonitorLink) → IsOutOf at.now.number (link_held at.now.number stage) links.old.links all → OnOk result (AreHeld links.new.links) }
     ensures same { IsSameBut own.old own.new }
     ensures err { OnErr result (links.new ≡ links.old) }
     ensures room { OnOk result (links.new.room ≡ None) }
 {
-    let Link { number, stage } = link;
     match turned(alloc, own, at, stage)? {
         Turned::Waits(stage) => {
-            links.put_back(Link { number, stage });
+            links.settle(at.number, Some(Link { number: at.number, stage }));
             Ok(Effects::new(alloc))
         }
         Turned::Refuses(why, seals) => {
-            let row = refuses_bytes(alloc, &NodeName::Monitor, number, why, seals)?;
-            settles(alloc, links, number, false, row)
+            let row = refuses_bytes(alloc, &NodeName::Monitor, at.number, why, seals)?;
+            settles(alloc, links, at.number, false, row)
         }
-        Turned::Handles(row) => settles(alloc, links, number, true, row),
+        Turned::Handles(row) => settles(alloc, links, at.number, true, row),
     }
 }
 
@@ -298,7 +313,7 @@ fn settles(
 ) -> Result<Effects, AllocError>
     requires { links.old.room ≡ Some number }
     ensures out { IfOk result (λ out. out ≡ out_of number handled row) }
-    ensures links { (all : List (Link MonitorStage)) → links.old.links ≡ without_link number all
+    ensures links { (all : List MonitorLink) → links.old.links ≡ without_link number all
         → OnOk result (links.new.links ≡ behind (λ l. l.number) number (option_map (link_held number) row.link) all) }
     ensures err { OnErr result (links.new ≡ links.old) }
     ensures room { OnOk result (links.new.room ≡ None) }

@@ -66,10 +66,13 @@ impl Numbered for Link {
 
 impl Link {
     ghost use Rattle.std.specs.Prelude.{◌≡◌, ◌++◌, IfOk};
+    ghost use Rattle.cx_rules.specs.Abridged.{abridged_link};
 
-    // The link behind more bytes.
+    // The link behind more bytes. No more of it can be forgotten.
+    #[tactic(auto, using(crate::proofs::Stages::held_abridged))]
     pub(crate) fn fed(self, alloc: Global, bytes: &[u8]) -> Result<Link, AllocError>
-        ensures { IfOk result (λ link. link ≡ record self { received = self.received ++ bytes.now }) }
+        ensures fed { IfOk result (λ link. link ≡ record self { received = self.received ++ bytes.now }) }
+        ensures held { IfOk result (λ link. abridged_link link ≡ link) }
     {
         let Link { number, stage } = self;
         let stage = match stage {

@@ -1,6 +1,6 @@
 //! LoginHello and Authenticate.
 
-ghost use Rattle.std.specs.Prelude.{◌≡◌, ◌<◌, ◌⊎◌, None, IfOk, OnErr};
+ghost use Rattle.std.specs.Prelude.{◌≡◌, ◌<◌, ◌⊎◌, None, IfOk, OnOk, OnErr};
 ghost use Rattle.cx_granting.specs.Rows.{done_frame, row_by};
 ghost use Rattle.cx_link.specs.Wires.{wired};
 ghost use Rattle.cx_granting.specs.declared.verdicts.Verdict.TheVariants.{Granted};
@@ -9,6 +9,7 @@ ghost use Rattle.cx_rules.specs.Acceptor.{AwaitsRequest};
 ghost use Rattle.cx_rules.specs.Monitor.{MonitorStage};
 ghost use Rattle.cx_rules.specs.MonitorLogin.{on_authenticate, on_login_hello, rotates};
 ghost use Rattle.cx_rules.specs.MonitorRule.{on_auth_request_more};
+ghost use Rattle.cx_mon.specs.Machine.{IsSameBut};
 ghost use Rattle.cx_mon.specs.Rows.{arrived, challenged, due, made_row, saves, saving};
 ghost use Rattle.cx_mon.specs.Stages.{awaiting_proof};
 
@@ -93,6 +94,7 @@ pub(crate) fn on_auth_request_more(
     requires { at.now.reading < 4000000000000000000 }
     ensures row { IfOk result (λ row. made_row own.new at.now.number row
         ≡ due (on_auth_request_more (arrived own.old at.now (awaiting_proof at.now.number link offered gid)) (record { offer = offered; gid = gid }) read)) }
+    ensures same { OnOk result (IsSameBut own.old own.new) }
     ensures err { OnErr result (own.new ≡ own.old) }
 {
     match read {
@@ -117,6 +119,7 @@ pub(crate) fn on_authenticate(
     requires { at.now.reading < 4000000000000000000 }
     ensures row { IfOk result (λ row. made_row own.new at.now.number row
         ≡ due (on_authenticate (arrived own.old at.now (awaiting_proof at.now.number link offered gid)) (record { offer = offered; gid = gid }) read)) }
+    ensures same { OnOk result (IsSameBut own.old own.new) }
     ensures err { OnErr result (own.new ≡ own.old) }
 {
     match read {
@@ -139,6 +142,7 @@ fn proves(
 ) -> Result<Row<Stage>, AllocError>
     requires { at.now.reading < 4000000000000000000 }
     ensures row { IfOk result (λ row. made_row own.new at.now.number row ≡ due (rotates (arrived own.old at.now (awaiting_proof at.now.number link proved.now.offer gid)) gid proved.now)) }
+    ensures same { OnOk result (IsSameBut own.old own.new) }
     ensures err { OnErr result (own.new ≡ own.old) }
 {
     granting_laws();

@@ -1,8 +1,9 @@
 //! A turn of a link, by its stage.
 
-ghost use Rattle.std.specs.Prelude.{◌≡◌, ◌<◌, IfOk, OnErr};
+ghost use Rattle.std.specs.Prelude.{◌≡◌, ◌<◌, IfOk, OnOk, OnErr};
 ghost use Rattle.cx_link.specs.Wires.{wired};
 ghost use Rattle.cx_rules.specs.Acceptor.{AwaitsBanner, AwaitsHello, AwaitsRequest};
+ghost use Rattle.cx_mon.specs.Machine.{IsSameBut};
 ghost use Rattle.cx_mon.specs.Rows.{Turns};
 ghost use Rattle.cx_mon.specs.Stages.{awaiting_ident, awaiting_proof, awaiting_signature, link_held, open_link};
 
@@ -31,6 +32,7 @@ pub(crate) fn turned(
 ) -> Result<Turned, AllocError>
     requires { at.now.reading < 4000000000000000000 }
     ensures turned { IfOk result (Turns own.old at.now (link_held at.now.number stage) own.new) }
+    ensures same { OnOk result (IsSameBut own.old own.new) }
     ensures err { OnErr result (own.new ≡ own.old) }
 {
     match stage {
@@ -105,6 +107,7 @@ fn proof_turn(
 ) -> Result<Turned, AllocError>
     requires { at.now.reading < 4000000000000000000 }
     ensures turned { IfOk result (Turns own.old at.now (awaiting_proof at.now.number link offered gid) own.new) }
+    ensures same { OnOk result (IsSameBut own.old own.new) }
     ensures err { OnErr result (own.new ≡ own.old) }
 {
     match link.turn(alloc)? {

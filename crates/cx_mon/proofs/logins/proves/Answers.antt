@@ -4,7 +4,8 @@ use Rattle.cx_granting.specs.Occasions.{Occasion}
 use Rattle.cx_keyserver.specs.Servers.{Server}
 use Rattle.cx_rules.specs.Acceptor.{AwaitsProof}
 use Rattle.cx_rules.specs.Monitor.{Monitor, MonitorStage}
-use Rattle.cx_mon.proofs.Decided.{login_row, rotates-ring, saved-state}
+use Rattle.cx_rules.specs.KeptStates.{saved_behind}
+use Rattle.cx_mon.proofs.Decided.{login_row, rotates-ring, same_but, saved-state}
 use Rattle.cx_mon.proofs.logins.proves.Goals as goal
 
 pub note_saved-requires : goal.note_saved-requires
@@ -29,3 +30,11 @@ returns-in-Ok-clause-row c =
     rw (c.note_saved.ensures, ← c.own.view_is)
     (login_row old c.args.at.now c.args.link c.args.gid c.args.proved.now c.log_in.new.server c.in_ok-verdict.verdict c.in-Ok.row c.granting_laws.ensures
     c.in_ok-verdict.ensures.verdict c.in_ok-verdict.ensures.server (c.in-Ok.ensures.row stage))
+
+pub returns-in-Ok-clause-same : goal.returns-in-Ok-clause-same
+returns-in-Ok-clause-same c =
+    let at : Occasion = record { saved = c.own.inside.saved; reading = c.args.at.now.reading; draw = c.args.at.now.draw.now.bytes } in
+    let old : Monitor = record { server = c.own.inside.server; saved = c.own.inside.saved; saved_before = c.own.inside.saved_before; address = c.own.inside.address } in
+    let ring : c.log_in.new.server.ring ≡ c.own.inside.server.ring =
+        ap (λ (s : Server). s.ring) c.in_ok-verdict.ensures.server ∙ rotates-ring at c.own.inside.server c.args.gid c.args.proved.now in
+    rw (c.note_saved.ensures, ← c.own.view_is) (same_but old c.log_in.new.server (saved_behind old.saved c.in-Ok.row.save) ring)
