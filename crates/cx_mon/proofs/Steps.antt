@@ -1,5 +1,5 @@
 -- What happens at an event, over plain values: each step is that of the rules, abridged, and the links are held behind it as before.
-use Rattle.std.proofs.Common.{◌≡◌, ◌∙◌, ℕ, Bool, true, false, List, [], ◌∷◌, ◌++◌, map, Option, Some, None, refl, sym, ap}
+use Rattle.std.proofs.Common.{◌≡◌, ◌∙◌, ℕ, Bool, true, false, List, [], ◌∷◌, ◌++◌, map, Option, Some, None, Result, Ok, Err, IfOk, OnOk, refl, sym, ap}
 use Rattle.std.specs.Option.{option_map}
 use Rattle.cx_base.specs.declared.addresses.Addr.{Addr}
 use Rattle.cx_journal.specs.declared.entries.Entry.TheVariants as entry
@@ -90,19 +90,26 @@ waited old new at held stage all links given t h found l g =
     waits_step old new at link all links stage given (turned_at (arrived old at link) link.stage) t.made t.stays.1 h.abridged
     (l ∙ ap put back ∙ found_put 0 at.number all link h.rising found) g
 
-pub refused : (old new : Monitor) (at : Moment) (held : Stage) (why : BytesFault) (seals : List SealEntry) (row : Made Stage) (all links : List MonitorLink)
-    (given : Effects) → Turns old at (link_held at.number held) new (made.Refuses why seals) → AreHeld all
+pub refused : {E : Type 0} (old new : Monitor) (at : Moment) (held : Stage) (why : BytesFault) (seals : List SealEntry) (row : Made Stage)
+    (all links : List MonitorLink) (r : Result Effects E) → Turns old at (link_held at.number held) new (made.Refuses why seals) → AreHeld all
     → row ≡ refusing_bytes node.Monitor at.number why seals
-    → links ≡ behind (λ l. l.number) at.number (option_map (link_held at.number) row.link) all → given ≡ out_of at.number false row
-    → turn_step old new at (link_held at.number held) all links given
-refused old new at held why seals row all links given t h r l g =
+    → OnOk r (links ≡ behind (λ l. l.number) at.number (option_map (link_held at.number) row.link) all) → IfOk r (λ out. out ≡ out_of at.number false row)
+    → IfOk r (turn_step old new at (link_held at.number held) all links)
+refused old new at held why seals row all links (Err e) t h is l g = tt
+refused old new at held why seals row all links (Ok given) t h is l g =
     let link : MonitorLink = link_held at.number held in
-    refuses_step old new at link all links why seals row given (turned_at (arrived old at link) link.stage) t.made t.stays (number_held at.number held) h.abridged r l g
+    refuses_step old new at link all links why seals row given (turned_at (arrived old at link) link.stage) t.made t.stays (number_held at.number held) h.abridged is l g
 
-pub handled : (old new : Monitor) (at : Moment) (held : Stage) (row : Made Stage) (all links : List MonitorLink) (given : Effects)
+pub handled : {E : Type 0} (old new : Monitor) (at : Moment) (held : Stage) (row : Made Stage) (all links : List MonitorLink) (r : Result Effects E)
     → Turns old at (link_held at.number held) new (made.Handles row) → AreHeld all
-    → links ≡ behind (λ l. l.number) at.number (option_map (link_held at.number) row.link) all → given ≡ out_of at.number true row
-    → turn_step old new at (link_held at.number held) all links given
-handled old new at held row all links given t h l g =
+    → OnOk r (links ≡ behind (λ l. l.number) at.number (option_map (link_held at.number) row.link) all) → IfOk r (λ out. out ≡ out_of at.number true row)
+    → IfOk r (turn_step old new at (link_held at.number held) all links)
+handled old new at held row all links (Err e) t h l g = tt
+handled old new at held row all links (Ok given) t h l g =
     let link : MonitorLink = link_held at.number held in
     handles_step old new at link all links row given (turned_at (arrived old at link) link.stage) t.made (number_held at.number held) h.abridged l g
+
+pub settled : {E : Type 0} (number : ℕ) (all links : List MonitorLink) (o : Option Stage) (r : Result Effects E) → AreHeld all
+    → OnOk r (links ≡ behind (λ l. l.number) number (option_map (link_held number) o) all) → OnOk r (AreHeld links)
+settled number all links o (Err e) h l = tt
+settled number all links o (Ok given) h l = behind_held number all links o h l

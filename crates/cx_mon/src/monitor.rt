@@ -1,6 +1,7 @@
 //! The monitor.
 
-ghost use Rattle.std.specs.Prelude.{◌≡◌, ◌<◌, OnOk, OnErr};
+ghost use Rattle.std.specs.Prelude.{◌≡◌, ◌<◌, IfOk, IfSome, OnOk, OnErr};
+ghost use Rattle.cx_rotate.specs.Keeping.{IsKeptState};
 ghost use Rattle.cx_rules.specs.Abridged.{MonitorStandsFor, abridged_monitor};
 ghost use Rattle.cx_rules.specs.Inputs.{input_of};
 ghost use Rattle.cx_rules.specs.Monitor.{MonitorNode};
@@ -14,7 +15,7 @@ use cx_base::{Addr, Reading};
 use cx_dice::Draw;
 use cx_keyserver::KeyServer;
 use cx_node::{Links, loses};
-use cx_rules::forgetting_laws;
+use cx_rules::{forgetting_laws, rule_laws};
 use cx_steps::{Effects, Event};
 use std::alloc::{AllocError, Global};
 use std::marker::Model;
@@ -45,6 +46,7 @@ impl Monitor {
         ensures value { result ≡ opening_monitor server me }
         ensures stands { MonitorStandsFor result (opening_monitor server me) }
     {
+        forgetting_laws();
         Monitor {
             own: Own::new(server, me),
             links: Links::new(alloc),
@@ -69,6 +71,8 @@ impl Monitor {
         ensures effects { (s : MonitorNode) → MonitorStandsFor self.old s → OnOk result (out.new ≡ (monitor_rule s (input_of event.entry) now draw.now.bytes).out) }
         ensures stands { (s : MonitorNode) → MonitorStandsFor self.old s
             → OnOk result (MonitorStandsFor self.new (monitor_rule s (input_of event.entry) now draw.now.bytes).state) }
+        // A state that it saves may be kept.
+        ensures kept { IfOk result (λ _. IfSome out.new.save IsKeptState) }
         // Where memory is wanting, the event's link is forgotten, and nothing else happens.
         ensures losing { OnErr result (out.new ≡ losing (input_of event.entry)) }
         ensures lost { OnErr result (self.new ≡ lost self.old (input_of event.entry)) }
@@ -88,13 +92,16 @@ impl Monitor {
         requires { now < 4000000000000000000 }
         ensures out { OnOk result (out.new ≡ (monitor_rule self.old (input_of event.entry) now draw.now.bytes).out) }
         ensures state { OnOk result (self.new ≡ abridged_monitor (monitor_rule self.old (input_of event.entry) now draw.now.bytes).state) }
+        ensures kept { IfOk result (λ _. IfSome out.new.save IsKeptState) }
         ensures losing { OnErr result (out.new ≡ losing (input_of event.entry)) }
         ensures lost { OnErr result (self.new ≡ lost self.old (input_of event.entry)) }
     {
+        rule_laws();
         self.own.note();
         let link = link_in(&event);
         match happens(alloc, &mut self.own, &mut self.links, event, now, draw) {
             Ok(effects) => {
+                self.own.is_kept();
                 *out = effects;
                 Ok(())
             }
@@ -113,6 +120,7 @@ impl Monitor {
         ensures value { self.new ≡ unsaved self.old }
         ensures stands { (s : MonitorNode) → MonitorStandsFor self.old s → MonitorStandsFor self.new (unsaved s) }
     {
+        forgetting_laws();
         self.own.unsave();
     }
 

@@ -68,6 +68,12 @@ impl Own {
         self.address
     }
 
+    /// What was saved last is a state that may be kept.
+    pub fn is_kept(&self)
+        ensures { IsKeptState self.now.saved }
+    {
+    }
+
     /// What was saved last is noted, before a step.
     pub fn note(&mut self)
         ensures { self.new ≡ record self.old { saved_before = self.old.saved } }
