@@ -1,11 +1,12 @@
 //! What the monitor does at each event.
 
-ghost use Rattle.std.specs.Prelude.{◌≡◌, ◌<◌, List, [], ◌∷◌, Some, None, IfOk, OnOk, OnErr};
+ghost use Rattle.std.specs.Prelude.{◌≡◌, ◌<◌, List, [], ◌∷◌, Some, None, IfOk, IfSome, OnOk, OnErr};
 ghost use Rattle.std.specs.Option.{option_map};
 ghost use Rattle.cx_journal.specs.declared.node_names.NodeName.TheVariants as node;
 ghost use Rattle.cx_journal.specs.declared.outcomes.Reason.TheVariants as reason;
 ghost use Rattle.cx_node.specs.Made.{out_of};
 ghost use Rattle.cx_node.specs.Tables.{behind};
+ghost use Rattle.cx_rotate.specs.Keeping.{IsKeptState};
 ghost use Rattle.cx_rules.specs.Acceptor.{AwaitsBanner};
 ghost use Rattle.cx_rules.specs.Inputs.{input_of};
 ghost use Rattle.cx_rules.specs.Links.{link_of, without_link};
@@ -13,7 +14,7 @@ ghost use Rattle.cx_rules.specs.MonitorRule as rule;
 ghost use Rattle.cx_rules.specs.Rows as rows;
 ghost use Rattle.cx_rules.specs.Rows.{forgotten};
 ghost use Rattle.cx_steps.specs.Nothing.{nothing};
-ghost use Rattle.cx_mon.specs.Machine.{AreHeld, IsOutOf, IsSameBut, IsStep, MonitorLink, link_in, node_of, opening, without_lost};
+ghost use Rattle.cx_mon.specs.Machine.{AreHeld, IsOutOf, IsSameBut, IsStep, MonitorLink, link_in, lost, node_of, opening, without_lost};
 ghost use Rattle.cx_mon.specs.Rows.{arrived, due, made_row};
 ghost use Rattle.cx_mon.specs.Stages.{link_held};
 
@@ -28,6 +29,7 @@ use cx_link::{BannerLink, own_banner};
 use cx_node::{
     Carried, Links, Row, carried_out, enters, goes_on, refused_entry, refuses, refuses_bytes,
 };
+use cx_rules::rule_laws;
 use cx_steps::{Effects, Event};
 use std::alloc::{AllocError, Global};
 
@@ -51,8 +53,33 @@ pub(crate) fn link_in(event: &Event<'_>) -> Option<u32>
     }
 }
 
-// What the monitor does at an event, at the start of which it noted what was saved last.
-pub(crate) fn happens(
+// What the monitor does at an event. What was saved last is noted before.
+pub(crate) fn steps(
+    alloc: Global,
+    own: &mut Own,
+    links: &mut Links<Link>,
+    event: Event<'_>,
+    now: Reading,
+    draw: &Draw,
+) -> Result<Effects, AllocError>
+    requires reading { now < 4000000000000000000 }
+    requires room { links.old.room ≡ None }
+    requires held { AreHeld links.old.links }
+    ensures step { IfOk result (IsStep (node_of own.new links.new.links)
+        (rule.monitor_rule (node_of own.old links.old.links) (input_of event.entry) now draw.now.bytes)) }
+    ensures kept { IfOk result (λ out. IfSome out.save IsKeptState) }
+    ensures lost { OnErr result (node_of own.new links.new.links ≡ lost (node_of own.old links.old.links) (input_of event.entry)) }
+    ensures room { links.new.room ≡ None }
+    ensures held { AreHeld links.new.links }
+{
+    rule_laws();
+    own.note();
+    let out = happens(alloc, own, links, event, now, draw)?;
+    own.is_kept();
+    Ok(out)
+}
+
+fn happens(
     alloc: Global,
     own: &mut Own,
     links: &mut Links<Link>,

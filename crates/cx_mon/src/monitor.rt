@@ -8,14 +8,14 @@ ghost use Rattle.cx_rules.specs.Monitor.{MonitorNode};
 ghost use Rattle.cx_rules.specs.MonitorRule.{is_idle, monitor_rule, opening_monitor, unsaved};
 ghost use Rattle.cx_mon.specs.Machine.{losing, lost};
 
-use crate::events::{happens, link_in};
+use crate::events::{link_in, steps};
 use crate::links::Link;
 use crate::own::Own;
 use cx_base::{Addr, Reading};
 use cx_dice::Draw;
 use cx_keyserver::KeyServer;
 use cx_node::{Links, loses};
-use cx_rules::{forgetting_laws, rule_laws};
+use cx_rules::forgetting_laws;
 use cx_steps::{Effects, Event};
 use std::alloc::{AllocError, Global};
 use std::marker::Model;
@@ -96,12 +96,9 @@ impl Monitor {
         ensures losing { OnErr result (out.new ≡ losing (input_of event.entry)) }
         ensures lost { OnErr result (self.new ≡ lost self.old (input_of event.entry)) }
     {
-        rule_laws();
-        self.own.note();
         let link = link_in(&event);
-        match happens(alloc, &mut self.own, &mut self.links, event, now, draw) {
+        match steps(alloc, &mut self.own, &mut self.links, event, now, draw) {
             Ok(effects) => {
-                self.own.is_kept();
                 *out = effects;
                 Ok(())
             }

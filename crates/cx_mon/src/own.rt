@@ -72,6 +72,7 @@ impl Own {
     pub fn is_kept(&self)
         ensures { IsKeptState self.now.saved }
     {
+        let _ = &self.saved;
     }
 
     /// What was saved last is noted, before a step.
