@@ -41,8 +41,8 @@ pub login_row : (old : Monitor) (at : Moment) (wire : Wire) (gid : ℕ) (proven 
     ≡ due (rules.rotates (arrived old at (awaiting_proof at.number wire proven.offer gid)) gid proven)
 login_row old at wire gid proven server verdict row law v s m =
     let decided : due (row_by (arrived (record old { server = server }) at (awaiting_proof at.number wire proven.offer gid)) verdict)
-        ≡ due (rules.rotates (arrived old at (awaiting_proof at.number wire proven.offer gid)) gid proven) =
-        rw (v, s) (sym (ap due (law (arrived old at (awaiting_proof at.number wire proven.offer gid)) gid proven))) in
+    ≡ due (rules.rotates (arrived old at (awaiting_proof at.number wire proven.offer gid)) gid proven) =
+    rw (v, s) (sym (ap due (law (arrived old at (awaiting_proof at.number wire proven.offer gid)) gid proven))) in
     m ∙ decided
 
 -- ---- the keyring
@@ -57,9 +57,9 @@ issues_to-ring at server e (Some own) = issues-ring at server e own.secret _
 
 next-ring : (server : Server) (n : Numbered) (b : Bool)
     → (if b then Err login.GidsSpent else Ok (record {
-        server = record server { state = record server.state { next_gid = server.state.next_gid + 1 } };
-        gid = server.state.next_gid;
-      })) ≡ Ok n → n.server.ring ≡ server.ring
+      server = record server { state = record server.state { next_gid = server.state.next_gid + 1 } };
+      gid = server.state.next_gid;
+    })) ≡ Ok n → n.server.ring ≡ server.ring
 next-ring server n true e = absurd (cc)
 next-ring server n false e = let k : n ≡ record { server = record server { state = record server.state { next_gid = server.state.next_gid + 1 } }; gid = server.state.next_gid } = cc in ap (λ (x : Numbered). x.server.ring) k
 

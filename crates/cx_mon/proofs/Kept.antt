@@ -17,7 +17,7 @@ judged_saves : (before : MonitorNode) (o : Outcome MonitorNode) (s : KeptState) 
 judged_saves before o s (inl quiet) e = let none : o.out.save ≡ None = quiet.save in absurd (cc)
 judged_saves before o s (inr granting) e =
     let is : s ≡ o.state.own.server.state =
-        changed_is (same_state o.state.own.server.state before.own.saved) o.state.own.server.state s (sym granting.save ∙ e) in
+    changed_is (same_state o.state.own.server.state before.own.saved) o.state.own.server.state s (sym granting.save ∙ e) in
     is ∙ sym granting.saved
 
 some_kept : (save : Option KeptState) (saved : KeptState) → ((s : KeptState) → save ≡ Some s → s ≡ saved) → IsKeptState saved → IfSome save IsKeptState

@@ -76,7 +76,7 @@ pub signature_turns : (own : Monitor) (at : Moment) (old : Signing) (entity : En
     (read : Result AuthSignature BytesFault) (row back : Made Stage)
     → TakesSecure old.link link f [] opened → read ≡ payload.due 7 auth_signature_layout.form f
     → made_row own at.number row ≡ due (on_signature (arrived own at (awaiting_signature at.number (record old { link = link }) entity))
-        (secured_of (record old { link = link })) entity read)
+    (secured_of (record old { link = link })) entity read)
     → back ≡ behind_opened opened row
     → Turns own at (awaiting_signature at.number old entity) own (made.Handles back)
 signature_turns own at old entity link f opened read row back t r m b =
@@ -93,7 +93,7 @@ signature_turns own at old entity link f opened read row back t r m b =
     let none : 0 + t.len ≡ t.len = omega arith in
     record {
       made = rw (b, t.opened, t.front, none) (ap (opening (opened_parts (secure_ahead old.link)))
-        (k ∙ sym (signature-same h (secured_of next) entity (payload.due 7 auth_signature_layout.form f))));
+          (k ∙ sym (signature-same h (secured_of next) entity (payload.due 7 auth_signature_layout.form f))));
       stays = tt;
     }
 

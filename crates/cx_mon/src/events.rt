@@ -214,17 +214,18 @@ fn stands(
 }
 
 // The row of a link that opens where the places are full, or aren't.
-fn greeting(
-    alloc: Global,
-    own: &Own,
-    at: &Moment<'_>,
-    full: bool,
-) -> Result<Row<Stage>, AllocError>
+fn greeting(alloc: Global, own: &Own, at: &Moment<'_>, full: bool) -> Result<Row<Stage>, AllocError>
     ensures { IfOk result (λ row. made_row own.now at.now.number row ≡ due (opening full (arrived own.now at.now (rows.new_link at.now.number AwaitsBanner)))) }
 {
     let seals = Items::new(alloc);
     if full {
-        return refuses(alloc, &NodeName::Monitor, at.number, Reason::LinksFull, seals);
+        return refuses(
+            alloc,
+            &NodeName::Monitor,
+            at.number,
+            Reason::LinksFull,
+            seals,
+        );
     }
     let banner = own_banner(alloc)?;
     let mut link = BannerLink::new(alloc);
@@ -319,7 +320,13 @@ fn turns(
 {
     match turned(alloc, own, at, stage)? {
         Turned::Waits(stage) => {
-            links.settle(at.number, Some(Link { number: at.number, stage }));
+            links.settle(
+                at.number,
+                Some(Link {
+                    number: at.number,
+                    stage,
+                }),
+            );
             Ok(Effects::new(alloc))
         }
         Turned::Refuses(why, seals) => {
@@ -356,11 +363,7 @@ fn settles(
 // ---- the monitor begins anew
 
 // The monitor begins anew, from what it saved last.
-fn restarts(
-    alloc: Global,
-    own: &mut Own,
-    links: &mut Links<Link>,
-) -> Result<Effects, AllocError>
+fn restarts(alloc: Global, own: &mut Own, links: &mut Links<Link>) -> Result<Effects, AllocError>
     requires room { links.old.room ≡ None }
     requires held { AreHeld links.old.links }
     ensures step { IfOk result (IsStep (node_of own.new links.new.links) (rule.restarted (node_of own.old links.old.links))) }

@@ -36,7 +36,12 @@ pub(crate) fn on_banner(
         addr: nothing_said,
     };
     match send_plain(alloc, link, 1, &hello)? {
-        Ok(sent) => Ok(goes_on(alloc, Stage::AwaitsHello(sent.link), sent.bytes, Items::new(alloc))),
+        Ok(sent) => Ok(goes_on(
+            alloc,
+            Stage::AwaitsHello(sent.link),
+            sent.bytes,
+            Items::new(alloc),
+        )),
         Err(why) => refuses_bytes(alloc, &NodeName::Monitor, at.number, why, Items::new(alloc)),
     }
 }
@@ -51,7 +56,12 @@ pub(crate) fn on_hello(
     ensures { IfOk result (λ row. made_row own.now at.now.number row ≡ due (on_hello (arrived own.now at.now (wired at.now.number link AwaitsHello)) read)) }
 {
     match read {
-        Ok(_) => Ok(goes_on(alloc, Stage::AwaitsRequest(link), Blob::new(alloc), Items::new(alloc))),
+        Ok(_) => Ok(goes_on(
+            alloc,
+            Stage::AwaitsRequest(link),
+            Blob::new(alloc),
+            Items::new(alloc),
+        )),
         Err(why) => refuses_bytes(alloc, &NodeName::Monitor, at.number, why, Items::new(alloc)),
     }
 }

@@ -39,7 +39,13 @@ pub(crate) fn on_ident(
             let read = payload::<SessionReconnect>(alloc, frame)?;
             on_session_reconnect(alloc, own, at, link, entity, read)
         }
-        tag => refuses_bytes(alloc, &NodeName::Monitor, at.number, BytesFault::Unexpected(tag), Items::new(alloc)),
+        tag => refuses_bytes(
+            alloc,
+            &NodeName::Monitor,
+            at.number,
+            BytesFault::Unexpected(tag),
+            Items::new(alloc),
+        ),
     }
 }
 
@@ -87,7 +93,12 @@ fn opens_to(
         cookie: 0,
     };
     match send_secure(alloc, link, 9, &ident)? {
-        Ok(sent) => Ok(goes_on(alloc, Stage::Open(sent.link, entity), sent.bytes, sent.seals)),
+        Ok(sent) => Ok(goes_on(
+            alloc,
+            Stage::Open(sent.link, entity),
+            sent.bytes,
+            sent.seals,
+        )),
         Err(why) => refuses_bytes(alloc, &NodeName::Monitor, at.number, why, Items::new(alloc)),
     }
 }
@@ -107,7 +118,10 @@ fn misses(
         Ok(sent) => {
             let why = BytesFault::Features(features);
             let refusal = refuses_bytes(alloc, &NodeName::Monitor, at.number, why, sent.seals)?;
-            Ok(Row { sends: sent.bytes, ..refusal })
+            Ok(Row {
+                sends: sent.bytes,
+                ..refusal
+            })
         }
         Err(why) => refuses_bytes(alloc, &NodeName::Monitor, at.number, why, Items::new(alloc)),
     }
@@ -128,7 +142,12 @@ pub(crate) fn on_session_reconnect(
         return refuses_bytes(alloc, &NodeName::Monitor, at.number, why, Items::new(alloc));
     }
     match send_secure(alloc, link, 12, &SessionReset { full: true })? {
-        Ok(sent) => Ok(goes_on(alloc, Stage::AwaitsIdent(sent.link, entity), sent.bytes, sent.seals)),
+        Ok(sent) => Ok(goes_on(
+            alloc,
+            Stage::AwaitsIdent(sent.link, entity),
+            sent.bytes,
+            sent.seals,
+        )),
         Err(why) => refuses_bytes(alloc, &NodeName::Monitor, at.number, why, Items::new(alloc)),
     }
 }

@@ -12,9 +12,10 @@ mod own;
 mod requests;
 mod sending;
 mod signatures;
+#[cfg(test)]
+mod tests;
 mod turns;
 mod upkeep;
-
 
 pub use monitor::Monitor;
 

@@ -63,7 +63,14 @@ fn challenges(
 {
     let mut seals = Items::new(alloc);
     let Some(key) = key else {
-        return denies(alloc, &NodeName::Monitor, at.number, 13, LoginFault::UnknownEntity, seals);
+        return denies(
+            alloc,
+            &NodeName::Monitor,
+            at.number,
+            13,
+            LoginFault::UnknownEntity,
+            seals,
+        );
     };
     let challenge = at.draw.challenge();
     let payload = write_whole(alloc, &ServerChallenge { challenge })?;
@@ -126,7 +133,14 @@ pub(crate) fn on_authenticate(
         Err(why) => refuses_bytes(alloc, &NodeName::Monitor, at.number, why, Items::new(alloc)),
         Ok(ask) => match offered.prove(ask) {
             Ok(proved) => proves(alloc, own, at, link, &proved, gid),
-            Err(_) => denies(alloc, &NodeName::Monitor, at.number, 13, LoginFault::WrongProof, Items::new(alloc)),
+            Err(_) => denies(
+                alloc,
+                &NodeName::Monitor,
+                at.number,
+                13,
+                LoginFault::WrongProof,
+                Items::new(alloc),
+            ),
         },
     }
 }
@@ -178,7 +192,14 @@ fn told(
     ensures save { IfOk result (λ row. (row.save ≡ None) ⊎ (row.save ≡ saves verdict)) }
 {
     match verdict {
-        Verdict::Denied { why, seals } => denies(alloc, &NodeName::Monitor, at.number, 13, why, seals),
+        Verdict::Denied { why, seals } => denies(
+            alloc,
+            &NodeName::Monitor,
+            at.number,
+            13,
+            why,
+            seals,
+        ),
         Verdict::Granted(handed) => hands_over(alloc, own, at, link, handed),
     }
 }
@@ -195,17 +216,43 @@ fn hands_over(
         ≡ due (row_by (arrived own.now at.now (wired at.now.number link stage)) (Granted handed))) }
     ensures save { IfOk result (λ row. (row.save ≡ None) ⊎ (row.save ≡ handed.save)) }
 {
-    let HandedOut { name, gid, session, secret, payload, mut seals, sealed, save, entries } = handed;
+    let HandedOut {
+        name,
+        gid,
+        session,
+        secret,
+        payload,
+        mut seals,
+        sealed,
+        save,
+        entries,
+    } = handed;
     let done = done_frame(alloc, payload)?;
     match link.finish(alloc, &session, &secret, &done) {
         Ok(finished) => {
-            let Finished { bytes, seals: signed, signing } = finished;
+            let Finished {
+                bytes,
+                seals: signed,
+                signing,
+            } = finished;
             log_behind(alloc, &mut seals, sealed.all())?;
             log_behind(alloc, &mut seals, signed.all())?;
             let entity = Entity { name, gid };
-            Ok(Row { link: Some(Stage::AwaitsSignature(signing, entity)), sends: bytes, save, entries, seals })
+            Ok(Row {
+                link: Some(Stage::AwaitsSignature(signing, entity)),
+                sends: bytes,
+                save,
+                entries,
+                seals,
+            })
         }
-        Err(LinkRefusal::Fault(why)) => refuses_bytes(alloc, &NodeName::Monitor, at.number, why, seals),
+        Err(LinkRefusal::Fault(why)) => refuses_bytes(
+            alloc,
+            &NodeName::Monitor,
+            at.number,
+            why,
+            seals,
+        ),
         Err(LinkRefusal::OutOfMemory) => Err(AllocError),
     }
 }
@@ -216,6 +263,12 @@ fn done_frame(alloc: Global, payload: Blob) -> Result<Frame, AllocError>
     ensures control { IfOk result IsControl }
 {
     let mut segments = Items::new(alloc);
-    segments.push(alloc, Segment { align: 8, bytes: payload })?;
+    segments.push(
+        alloc,
+        Segment {
+            align: 8,
+            bytes: payload,
+        },
+    )?;
     Ok(Frame { tag: 6, segments })
 }

@@ -35,9 +35,23 @@ pub(crate) fn on_auth_request(
         Err(why) => refuses_bytes(alloc, &NodeName::Monitor, at.number, why, seals),
         Ok(request) => {
             if request.method != 2 {
-                denies(alloc, &NodeName::Monitor, at.number, 95, LoginFault::Method, seals)
+                denies(
+                    alloc,
+                    &NodeName::Monitor,
+                    at.number,
+                    95,
+                    LoginFault::Method,
+                    seals,
+                )
             } else if !offers_secure(request.modes.all()) {
-                denies(alloc, &NodeName::Monitor, at.number, 95, LoginFault::Mode, seals)
+                denies(
+                    alloc,
+                    &NodeName::Monitor,
+                    at.number,
+                    95,
+                    LoginFault::Mode,
+                    seals,
+                )
             } else {
                 let hello = whole::<LoginHello>(alloc, request.payload.bytes())?;
                 on_login_hello(alloc, own, at, link, hello)

@@ -37,7 +37,13 @@ pub(crate) fn on_signature(
                 seals.push(alloc, checked.entry)?;
                 Ok(goes_on(alloc, stage, Blob::new(alloc), seals))
             }
-            None => refuses(alloc, &NodeName::Monitor, at.number, Reason::Login(LoginFault::SignatureWrong), seals),
+            None => refuses(
+                alloc,
+                &NodeName::Monitor,
+                at.number,
+                Reason::Login(LoginFault::SignatureWrong),
+                seals,
+            ),
         },
     }
 }

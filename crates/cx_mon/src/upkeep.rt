@@ -43,15 +43,18 @@ pub(crate) fn on_upkeep(
             let read = payload::<Keepalive2Ack>(alloc, frame)?;
             on_keepalive_ack(alloc, own, at, link, entity, read)
         }
-        tag => refuses_bytes(alloc, &NodeName::Monitor, at.number, BytesFault::Unexpected(tag), Items::new(alloc)),
+        tag => refuses_bytes(
+            alloc,
+            &NodeName::Monitor,
+            at.number,
+            BytesFault::Unexpected(tag),
+            Items::new(alloc),
+        ),
     }
 }
 
 // The payload of KEEPALIVE2: a time that can be spelled again.
-fn keepalive_of(
-    alloc: Global,
-    frame: &Frame,
-) -> Result<Result<Keepalive2, BytesFault>, AllocError>
+fn keepalive_of(alloc: Global, frame: &Frame) -> Result<Result<Keepalive2, BytesFault>, AllocError>
     ensures read { IfOk result (λ read. read ≡ payload keepalive2_layout.form frame.now) }
     ensures time { IfOk result (λ read. IfOk read (λ keepalive. IsReading keepalive.time)) }
 {
@@ -61,10 +64,7 @@ fn keepalive_of(
     }
 }
 
-fn keepalive_in(
-    alloc: Global,
-    bytes: &[u8],
-) -> Result<Result<Keepalive2, BytesFault>, AllocError>
+fn keepalive_in(alloc: Global, bytes: &[u8]) -> Result<Result<Keepalive2, BytesFault>, AllocError>
     ensures read { IfOk result (λ read. read ≡ whole keepalive2_layout.form bytes.now) }
     ensures time { IfOk result (λ read. IfOk read (λ keepalive. IsReading keepalive.time)) }
 {
@@ -97,8 +97,19 @@ fn on_keepalive(
                 time: keepalive.time,
             };
             match send_secure(alloc, link, 19, &ack)? {
-                Ok(sent) => Ok(goes_on(alloc, Stage::Open(sent.link, entity), sent.bytes, sent.seals)),
-                Err(why) => refuses_bytes(alloc, &NodeName::Monitor, at.number, why, Items::new(alloc)),
+                Ok(sent) => Ok(goes_on(
+                    alloc,
+                    Stage::Open(sent.link, entity),
+                    sent.bytes,
+                    sent.seals,
+                )),
+                Err(why) => refuses_bytes(
+                    alloc,
+                    &NodeName::Monitor,
+                    at.number,
+                    why,
+                    Items::new(alloc),
+                ),
             }
         }
     }
@@ -117,6 +128,11 @@ fn on_keepalive_ack(
 {
     match read {
         Err(why) => refuses_bytes(alloc, &NodeName::Monitor, at.number, why, Items::new(alloc)),
-        Ok(_) => Ok(goes_on(alloc, Stage::Open(link, entity), Blob::new(alloc), Items::new(alloc))),
+        Ok(_) => Ok(goes_on(
+            alloc,
+            Stage::Open(link, entity),
+            Blob::new(alloc),
+            Items::new(alloc),
+        )),
     }
 }

@@ -18,7 +18,7 @@ pub returns-in-Err-clause-err : goal.returns-in-Err-clause-err
 returns-in-Err-clause-err c =
     let at : Occasion = record { saved = c.own.inside.saved; reading = c.args.at.now.reading; draw = c.args.at.now.draw.now.bytes } in
     let ring : c.log_in.new.server.ring ≡ c.own.inside.server.ring =
-        ap (λ (s : Server). s.ring) c.in_ok-verdict.ensures.server ∙ rotates-ring at c.own.inside.server c.args.gid c.args.proved.now in
+    ap (λ (s : Server). s.ring) c.in_ok-verdict.ensures.server ∙ rotates-ring at c.own.inside.server c.args.gid c.args.proved.now in
     let back : c.restore.new.self ≡ c.own.inside.server = rw (ring, c.state-before.ensures.value) at c.restore.ensures in
     let with : Server → Monitor = λ s. record { server = s; saved = c.own.inside.saved; saved_before = c.own.inside.saved_before; address = c.own.inside.address } in
     ap with back ∙ c.own.view_is
@@ -36,5 +36,5 @@ returns-in-Ok-clause-same c =
     let at : Occasion = record { saved = c.own.inside.saved; reading = c.args.at.now.reading; draw = c.args.at.now.draw.now.bytes } in
     let old : Monitor = record { server = c.own.inside.server; saved = c.own.inside.saved; saved_before = c.own.inside.saved_before; address = c.own.inside.address } in
     let ring : c.log_in.new.server.ring ≡ c.own.inside.server.ring =
-        ap (λ (s : Server). s.ring) c.in_ok-verdict.ensures.server ∙ rotates-ring at c.own.inside.server c.args.gid c.args.proved.now in
+    ap (λ (s : Server). s.ring) c.in_ok-verdict.ensures.server ∙ rotates-ring at c.own.inside.server c.args.gid c.args.proved.now in
     rw (c.note_saved.ensures, ← c.own.view_is) (same_but old c.log_in.new.server (saved_behind old.saved c.in-Ok.row.save) ring)
