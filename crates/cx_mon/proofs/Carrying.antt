@@ -1,5 +1,5 @@
 -- What a turn comes to is carried out as the rules have it.
-use Rattle.std.proofs.Common.{◌≡◌, ◌∙◌, ℕ, Bool, true, false, List, [], ◌∷◌, ◌++◌, map, Option, Some, None, refl, sym, ap, subst}
+use Rattle.std.proofs.Common.{◌≡◌, ◌∙◌, ℕ, Bool, true, false, List, [], ◌++◌, map, Option, Some, None, refl, sym, ap, subst}
 use Rattle.std.specs.Option.{option_map}
 use Rattle.cx_journal.specs.declared.faults.BytesFault.{BytesFault}
 use Rattle.cx_journal.specs.declared.node_names.NodeName.TheVariants as node

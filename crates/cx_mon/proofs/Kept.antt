@@ -1,10 +1,10 @@
 -- What a step saves may be kept: it is what was saved last, behind the step.
-use Rattle.std.proofs.Common.{◌≡◌, Bool, true, false, ◌⊎◌, inl, inr, Option, Some, None, IfSome, refl, sym, subst, ◌∙◌}
+use Rattle.std.proofs.Common.{◌≡◌, Bool, true, false, inl, inr, Option, Some, None, IfSome, refl, sym, subst, ◌∙◌}
 use Rattle.std.specs.Prelude.{if◌then◌else◌}
 use Rattle.cx_rotate.specs.Keeping.{IsKeptState}
 use Rattle.cx_rotate.specs.declared.states.KeptState.{KeptState}
-use Rattle.cx_rules.specs.Judged.{IsGranting, IsJudged, IsQuiet}
-use Rattle.cx_rules.specs.KeptStates.{changed, same_state}
+use Rattle.cx_rules.specs.Judged.{IsJudged}
+use Rattle.cx_rules.specs.KeptStates.{same_state}
 use Rattle.cx_rules.specs.Monitor.{MonitorNode}
 use Rattle.cx_rules.specs.Rows.{Outcome}
 use Rattle.cx_steps.specs.declared.effects.Effects.{Effects}

@@ -1,8 +1,6 @@
 -- What happens at an event, over plain values: each step is that of the rules, abridged, and the links are held behind it as before.
-use Rattle.std.proofs.Common.{◌≡◌, ◌∙◌, ℕ, Bool, true, false, List, [], ◌∷◌, ◌++◌, map, Option, Some, None, Result, Ok, Err, IfOk, OnOk, refl, sym, ap}
+use Rattle.std.proofs.Common.{◌≡◌, ◌∙◌, ℕ, true, false, List, ◌++◌, map, Option, Some, None, Result, Ok, Err, IfOk, OnOk, refl, sym, ap}
 use Rattle.std.specs.Option.{option_map}
-use Rattle.cx_base.specs.declared.addresses.Addr.{Addr}
-use Rattle.cx_journal.specs.declared.entries.Entry.TheVariants as entry
 use Rattle.cx_journal.specs.declared.faults.BytesFault.{BytesFault}
 use Rattle.cx_journal.specs.declared.node_names.NodeName.TheVariants as node
 use Rattle.cx_node.specs.Made.{out_of, refusing_bytes}
@@ -11,12 +9,12 @@ use Rattle.cx_node.specs.declared.rows.Row.{Row as Made}
 use Rattle.cx_rules.specs.Abridged.{abridged_link}
 use Rattle.cx_rules.specs.Links.{link_of, put_link, without_link}
 use Rattle.cx_rules.specs.Monitor.{Monitor, MonitorNode}
-use Rattle.cx_rules.specs.MonitorRule.{restarted, turned_at}
+use Rattle.cx_rules.specs.MonitorRule.{turned_at}
 use Rattle.cx_rules.specs.Rows.{fed, forgotten, idles, turns}
 use Rattle.cx_steps.specs.Nothing.{nothing}
 use Rattle.cx_steps.specs.declared.effects.Effects.{Effects}
 use Rattle.cx_steps.specs.declared.seals.SealEntry.{SealEntry}
-use Rattle.cx_mon.specs.Machine.{AreHeld, IsOutOf, IsStep, MonitorLink, node_of}
+use Rattle.cx_mon.specs.Machine.{AreHeld, IsStep, MonitorLink, node_of}
 use Rattle.cx_mon.specs.Rows.{Turns, arrived}
 use Rattle.cx_mon.specs.Stages.{link_held}
 use Rattle.cx_mon.specs.declared.arrivals.Moment.{Moment}

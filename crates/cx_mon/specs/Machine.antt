@@ -4,7 +4,7 @@ use Rattle.cx_journal.specs.declared.outcomes.Reason.TheVariants.{LinksFull}
 use Rattle.cx_rules.specs.Abridged.{abridged_link, abridged_monitor}
 use Rattle.cx_rules.specs.Acceptor.{AwaitsBanner}
 use Rattle.cx_rules.specs.Greetings.{own_banner}
-use Rattle.cx_rules.specs.Inputs.{Input, Opened, NoLink, Bytes, Turn, Gone, Look, Tick, Submit, Restart}
+use Rattle.cx_rules.specs.Inputs.{Input, Opened, Bytes, Turn, Gone}
 use Rattle.cx_rules.specs.Links.{Link, link_of, without_link}
 use Rattle.cx_rules.specs.Monitor.{Monitor, MonitorArrival, MonitorNode, MonitorRow, MonitorStage}
 use Rattle.cx_rules.specs.MonitorRule.{noted}

@@ -1,5 +1,5 @@
 -- A value that was read is one that its form fits.
-use Rattle.std.proofs.Common.{◌≡◌, sym}
+use Rattle.std.proofs.Common.{sym}
 use Rattle.cx_control.specs.Upkeep.{keepalive2_layout}
 use Rattle.cx_mon.proofs.Controls.{whole_spelled}
 use Rattle.cx_mon.proofs.upkeep.keepalive_in.Goals as goal
