@@ -1,0 +1,4 @@
+pub mod Machine
+pub mod Rows
+pub mod Sending
+pub mod Stages

@@ -1,0 +1,67 @@
+//! The banner and HELLO.
+
+ghost use Rattle.std.specs.Prelude.{◌≡◌, IfOk};
+ghost use Rattle.cx_base.specs.declared.kinds.EntityType.TheVariants.{Mon};
+ghost use Rattle.cx_link.specs.Wires.{wired};
+ghost use Rattle.cx_rules.specs.Acceptor.{AwaitsBanner, AwaitsHello, on_banner, on_hello};
+ghost use Rattle.cx_mon.specs.Rows.{arrived, due, made_row};
+
+use crate::arrivals::Moment;
+use crate::links::Stage;
+use crate::own::Own;
+use crate::sending::send_plain;
+use cx_base::{Addr, Blob, EntityType, Items};
+use cx_control::Hello;
+use cx_journal::{BytesFault, NodeName};
+use cx_link::PlainLink;
+use cx_node::{Row, goes_on, refuses_bytes};
+use std::alloc::{AllocError, Global};
+
+// The peer's banner: HELLO is sent, with one's own type and nothing of the peer's address.
+pub(crate) fn on_banner(
+    alloc: Global,
+    own: &Own,
+    at: &Moment<'_>,
+    link: PlainLink,
+) -> Result<Row<Stage>, AllocError>
+    ensures { IfOk result (λ row. made_row own.now at.now.number row ≡ due (on_banner Mon (arrived own.now at.now (wired at.now.number link AwaitsBanner)))) }
+{
+    let nothing_said = Addr {
+        nonce: 0,
+        ip: [0; 4],
+        port: 0,
+    };
+    let hello = Hello {
+        kind: EntityType::Mon,
+        addr: nothing_said,
+    };
+    match send_plain(alloc, link, 1, &hello)? {
+        Ok(sent) => Ok(goes_on(
+            alloc,
+            Stage::AwaitsHello(sent.link),
+            sent.bytes,
+            Items::new(alloc),
+        )),
+        Err(why) => refuses_bytes(alloc, &NodeName::Monitor, at.number, why, Items::new(alloc)),
+    }
+}
+
+pub(crate) fn on_hello(
+    alloc: Global,
+    own: &Own,
+    at: &Moment<'_>,
+    link: PlainLink,
+    read: Result<Hello, BytesFault>,
+) -> Result<Row<Stage>, AllocError>
+    ensures { IfOk result (λ row. made_row own.now at.now.number row ≡ due (on_hello (arrived own.now at.now (wired at.now.number link AwaitsHello)) read)) }
+{
+    match read {
+        Ok(_) => Ok(goes_on(
+            alloc,
+            Stage::AwaitsRequest(link),
+            Blob::new(alloc),
+            Items::new(alloc),
+        )),
+        Err(why) => refuses_bytes(alloc, &NodeName::Monitor, at.number, why, Items::new(alloc)),
+    }
+}

@@ -1,0 +1,27 @@
+//! The monitor: what it has of its own, its links, and what it does at each event.
+#![tactic(auto)]
+
+mod arrivals;
+mod events;
+mod greeting;
+mod idents;
+mod links;
+mod logins;
+mod monitor;
+mod own;
+mod requests;
+mod sending;
+mod signatures;
+#[cfg(test)]
+mod tests;
+mod turns;
+mod upkeep;
+
+pub use monitor::Monitor;
+
+// The monitor may be sent to another thread and shared with one.
+fn is_sendable<T: Send + Sync>() {}
+
+fn all_are_sendable() {
+    is_sendable::<Monitor>();
+}
