@@ -1,6 +1,6 @@
 -- A command behind do is judged as it is alone: what stands before its words decides nothing.
 use Rattle.std.proofs.Common.{◌≡◌, ℕ, ◌+◌, Bool, true, false, List, [], ◌∷◌, ◌++◌, length, Option, Some, None, Result, Ok, Err, IfOk, refl, sym, ap, ◌∙◌, arith, add-one, suc}
-use Rattle.std.specs.Prelude.{◌==◌, ◌&&◌, not, nat_le, cond}
+use Rattle.std.specs.Prelude.{◌==◌, ◌&&◌, nat_le, cond}
 use Rattle.std.specs.List.{list_all}
 use Rattle.std.proofs.lemmas.Bool.{and_parts}
 use Rattle.std.proofs.lemmas.Bool.Decides.{nat_tests}
@@ -11,12 +11,12 @@ use Rattle.cx_places.specs.declared.places.Place.{Place}
 use Rattle.cx_places.specs.declared.places.Place.TheVariants as at
 use Rattle.cx_places.specs.Choices.{command_form_of, command_word}
 use Rattle.cx_places.specs.Places.{are_good, is_good, is_whole}
-use Rattle.cx_places.specs.Values.{Item, ServiceOf, CommandOf, SpellsItem, SpellsItems}
+use Rattle.cx_places.specs.Values.{Item, ServiceOf, SpellsItem, SpellsItems}
 use Rattle.cx_places.proofs.ChoiceLemmas.{command_form_of-is}
 use Rattle.cx_lines.specs.declared.commands.Command.{Command}
 use Rattle.cx_lines.specs.declared.commands.Command.TheVariants.{Fetch, Login, Renew, Connect, Send}
-use Rattle.cx_lines.specs.Commands.{command_form, command_items, command_places, IsCommand}
-use Rattle.cx_lines.specs.Lines.{behind_do, do_items, do_places, IsDo}
+use Rattle.cx_lines.specs.Commands.{command_items, command_places, IsCommand}
+use Rattle.cx_lines.specs.Lines.{behind_do, do_places, IsDo}
 
 -- whether the words before it decide nothing at a place
 abbrev is_free : Place → Bool

@@ -1,5 +1,5 @@
 -- The laws of a line: what is spelled has no fault, words without a fault spell a line, and words spell one line.
-use Rattle.std.proofs.Common.{◌≡◌, ℕ, ◌+◌, ◌⊎◌, inl, inr, Bool, true, false, cond, IsTrue, List, [], ◌∷◌, ◌++◌, map, length, Option, Some, None, refl, sym, ap, ◌∙◌, arith}
+use Rattle.std.proofs.Common.{◌≡◌, ℕ, ◌⊎◌, inl, inr, Bool, true, false, cond, List, [], ◌∷◌, ◌++◌, map, length, Option, Some, None, refl, sym, ap, ◌∙◌, arith}
 use Rattle.std.specs.Prelude.{nat_lt, codes}
 use Rattle.std.specs.Option.{option_map}
 use Rattle.std.specs.Str.{bytes_eq}
@@ -7,11 +7,9 @@ use Rattle.std.proofs.lemmas.Bool.Decides.{nat_tests}
 use Rattle.std.proofs.lemmas.Slice.Eq.{bytes_eq-Decides}
 use Rattle.cx_words.specs.Words.{IsReadingWord}
 use Rattle.cx_words.proofs.NumberWords.{reading_below}
-use Rattle.cx_places.specs.declared.choices.CommandForm.{CommandForm}
 use Rattle.cx_places.specs.declared.choices.CommandForm.TheVariants as command
 use Rattle.cx_places.specs.declared.faults.FaultAt.{FaultAt}
 use Rattle.cx_places.specs.declared.known.Known.{Known}
-use Rattle.cx_places.specs.declared.places.Place.{Place}
 use Rattle.cx_places.specs.declared.places.Place.TheVariants as at
 use Rattle.cx_places.specs.Choices.{command_form_of, command_word}
 use Rattle.cx_places.specs.Places.{are_good}
@@ -33,7 +31,7 @@ use Rattle.cx_lines.specs.declared.sight.BadWord.{BadWord}
 use Rattle.cx_lines.specs.Commands.{command_form, command_places}
 use Rattle.cx_lines.specs.Found.{SpellsIn}
 use Rattle.cx_lines.specs.Knowing.{is_late, is_spent}
-use Rattle.cx_lines.specs.Lines.{all_lines, anything, behind_do, do_places, fault_of, fault_with, form_of, head_of, head_word, is_in_range, items, or_head, places, Spells, unknown_word}
+use Rattle.cx_lines.specs.Lines.{all_lines, behind_do, do_places, fault_of, fault_with, form_of, head_of, head_word, is_in_range, items, or_head, places, Spells, unknown_word}
 use Rattle.cx_lines.specs.LinkSteps.{link_form_of}
 use Rattle.cx_lines.specs.NodeSteps.{node_form_of}
 use Rattle.cx_lines.specs.Settings.{setting_form_of}

@@ -1,5 +1,5 @@
 -- Head lines: their words, their places, and that their values and their words determine them.
-use Rattle.std.proofs.Common.{◌≡◌, ℕ, List, [], ◌∷◌, ◌++◌, map, Option, Some, None, refl, sym, ap, ◌∙◌}
+use Rattle.std.proofs.Common.{◌≡◌, ℕ, List, [], ◌∷◌, ◌++◌, map, Option, Some, None, refl, ap}
 use Rattle.std.specs.Option.{option_map}
 use Rattle.cx_places.specs.declared.known.Known.{Known}
 use Rattle.cx_places.specs.declared.places.Place.TheVariants as at

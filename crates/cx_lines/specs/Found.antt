@@ -1,5 +1,5 @@
 -- What words are found to be where a form has these places and its lines these values.
-use Rattle.std.specs.Prelude.{ℕ, ◌≡◌, false, List, [], Option, Some, None}
+use Rattle.std.specs.Prelude.{ℕ, ◌≡◌, false, List, Option, Some, None}
 use Rattle.cx_places.specs.declared.known.Known.{Known}
 use Rattle.cx_places.specs.declared.places.Place.{Place}
 use Rattle.cx_places.specs.Places.{is_whole}

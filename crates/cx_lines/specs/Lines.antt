@@ -1,6 +1,6 @@
 -- What the lines of a schedule are: how each is spelled, and when it may stand; and the first fault of words that are none.
 -- The lines are those of docs/guide.md, "The lines of a schedule".
-use Rattle.std.specs.Prelude.{ℕ, ◌≡◌, Bool, true, false, IsTrue, nat_lt, List, [], ◌∷◌, ◌++◌, map, codes, Option, Some, None, if◌then◌else◌}
+use Rattle.std.specs.Prelude.{ℕ, ◌≡◌, Bool, true, false, nat_lt, List, [], ◌∷◌, map, codes, Option, Some, None, if◌then◌else◌}
 use Rattle.std.specs.Option.{option_map}
 use Rattle.std.specs.Str.{bytes_eq}
 use Rattle.cx_places.specs.declared.choices.CommandForm.{CommandForm}

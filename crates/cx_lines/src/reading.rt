@@ -82,16 +82,13 @@ fn good_line(
     ensures some { IfOk result (λ found. IfSome found (SpellsHere known.now head (map (λ w. w.now) words.now))) }
     ensures none { IfOk result (λ found. IfNone found (IsFaulty known.now head (map (λ w. w.now) words.now))) }
 {
-    let Some(line) = line_behind(alloc, known, head, words)? else {
-        return Ok(None);
-    };
     if is_spent(known, head) {
         return Ok(None);
     }
     if is_late(known, head) {
         return Ok(None);
     }
-    Ok(Some(line))
+    line_behind(alloc, known, head, words)
 }
 
 /// The first fault of the words, and the word that has it.

@@ -1,6 +1,4 @@
-use Rattle.std.proofs.Common.{◌≡◌, ◌≤◌, ◌+◌, ◌∙◌, sym, refl, arith, length, map, Bor, List, ℕ, rules, append-nil, false}
-use Rattle.std.proofs.lemmas.Grind.{common_steps}
-use Rattle.cx_lines.specs.declared.entity.Grant.{Grant}
+use Rattle.std.proofs.Common.{◌≤◌, ◌+◌, sym, refl, arith, length, Bor, List, ℕ}
 use Rattle.cx_lines.proofs.Pairs.{all_read, bad_pair, half_pair, named_front, not_whole, reads_more}
 use Rattle.cx_lines.proofs.entity.entity_of.Goals as goal
 

@@ -1,4 +1,4 @@
-use Rattle.std.proofs.Common.{◌≡◌, ◌+◌, ◌-◌, ◌<◌, ◌≤◌, [], ◌∷◌, ◌++◌, map, length, take, drop, get_or, List}
+use Rattle.std.proofs.Common.{◌-◌, length}
 use Rattle.cx_lines.proofs.Pairs.{Reads}
 use Rattle.cx_lines.proofs.entity.entity_of.Given as goal
 

@@ -1,4 +1,4 @@
-use Rattle.std.proofs.Common.{◌≡◌, ◌<◌, ◌∙◌, arith, length, Bor, List, ℕ}
+use Rattle.std.proofs.Common.{◌<◌, ◌∙◌, arith, length, Bor, List, ℕ}
 use Rattle.std.proofs.lemmas.Grind.{common_steps}
 use Rattle.cx_lines.proofs.Pairs.{one_left}
 use Rattle.cx_lines.proofs.entity.entity_places.Goals as goal

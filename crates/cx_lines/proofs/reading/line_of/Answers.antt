@@ -1,4 +1,4 @@
-use Rattle.std.proofs.Common.{◌≡◌, map}
+use Rattle.std.proofs.Common.{map}
 use Rattle.cx_lines.proofs.Laws.{caused}
 use Rattle.cx_lines.proofs.reading.line_of.Goals as goal
 
