@@ -3,13 +3,9 @@
 
 mod answers;
 mod askers;
-#[cfg(test)]
-mod known;
 mod offers;
 mod pending;
 mod steps;
-#[cfg(test)]
-mod tests;
 mod tickets;
 
 pub use answers::Answer;

@@ -1,0 +1,4 @@
+pub mod Carrying
+pub mod Idle
+pub mod Rising
+pub mod Steps

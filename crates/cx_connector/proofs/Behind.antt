@@ -1,0 +1,124 @@
+-- What a row says of a secured link hangs on the bytes that are left on it alone, and not on those that were taken, and on its keys alone once
+-- the peer's signature was found right.
+use Rattle.std.proofs.Common.{◌≡◌, ℕ, ◌==◌, Bool, true, false, List, [], ◌∷◌, drop, Result, Ok, Err, refl}
+use Rattle.std.specs.Prelude.{if◌then◌else◌}
+use Rattle.cx_control.specs.Idents.{ident_missing_features_layout, server_ident_layout}
+use Rattle.cx_control.specs.Upkeep.{keepalive2_layout, keepalive2_ack_layout}
+use Rattle.cx_control.specs.declared.auth.AuthSignature.{AuthSignature}
+use Rattle.cx_control.specs.declared.idents.IdentMissingFeatures.{IdentMissingFeatures}
+use Rattle.cx_control.specs.declared.idents.ServerIdent.{ServerIdent}
+use Rattle.cx_control.specs.declared.upkeep.Keepalive2.{Keepalive2}
+use Rattle.cx_control.specs.declared.upkeep.Keepalive2Ack.{Keepalive2Ack}
+use Rattle.cx_dice.specs.Draws.{cookie_of}
+use Rattle.cx_frame.specs.declared.frame.Frame.{Frame}
+use Rattle.cx_journal.specs.declared.faults.BytesFault.{BytesFault}
+use Rattle.cx_journal.specs.declared.faults.BytesFault.TheVariants.{Unexpected}
+use Rattle.cx_journal.specs.declared.faults.LoginFault.TheVariants.{SignatureWrong}
+use Rattle.cx_journal.specs.declared.outcomes.Reason.TheVariants as reason
+use Rattle.cx_rules.specs.Connector.{AskerArrival, AskerRow, Stage, AwaitsIdent, Open, Login, client_ident, holding, identifies, on_missing_features, on_server_ident, on_signature, while_identified}
+use Rattle.cx_rules.specs.Holdings.{Holdings, held_login}
+use Rattle.cx_rules.specs.Payloads as payload
+use Rattle.cx_rules.specs.Payloads.{control}
+use Rattle.cx_rules.specs.Rows.{at, refuses, refuses_bytes, secure_sent}
+use Rattle.cx_rules.specs.Secured.{SealedFrame, Secured, is_signed, secure_frame, signature_found}
+use Rattle.cx_rules.specs.Upkeep.{on_keepalive, on_keepalive_ack, on_upkeep}
+use Rattle.cx_steps.specs.declared.seals.DrawMark.TheVariants as draw
+use Rattle.cx_steps.specs.declared.seals.SealEntry.{SealEntry}
+use Rattle.cx_steps.specs.declared.seals.SealEntry.TheVariants.{Drawn}
+use Rattle.cx_connector.specs.Rows.{due, identified}
+use Rattle.cx_connector.specs.Stages.{keys_alone}
+
+-- an arrival on a secured link of this number, on which these bytes came, and of which so many were taken; and another stage
+pub record Coming : Type 0 where
+  pub a : AskerArrival
+  pub number : ℕ
+  pub came : List ℕ
+  pub n : ℕ
+  pub stage : Stage
+  pub next : Stage
+
+abbrev pub taken : Coming → AskerArrival
+taken h = at h.a (record { number = h.number; received = h.came; taken = h.n; sent = []; stage = h.stage })
+
+-- the same on the link that holds what is left, in the other stage
+abbrev pub left : Coming → AskerArrival
+left h = at h.a (record { number = h.number; received = drop h.n h.came; taken = 0; sent = []; stage = h.next })
+
+abbrev pub Same : Coming → (AskerArrival → AskerRow) → Type 0
+Same h row = due (row (taken h)) ≡ due (row (left h))
+
+-- ---- AUTH_SIGNATURE
+
+-- what is logged before CLIENT_IDENT
+abbrev ident_seals : Secured → List ℕ → List SealEntry
+ident_seals s drawn = signature_found s ∷ Drawn (draw.Cookie (cookie_of drawn)) ∷ []
+
+ident_sent : (h : Coming) (s : Secured) (holdings : Holdings) (seals : List SealEntry) (r : Result SealedFrame BytesFault)
+    → Same h (λ a. secure_sent (holding a holdings) s AwaitsIdent seals r)
+ident_sent h s holdings seals (Ok sealed) = refl
+ident_sent h s holdings seals (Err why) = refl
+
+signed : (h : Coming) (s : Secured) (login : Login) (b : Bool)
+    → Same h (λ a. if b then identifies a s login else refuses a (reason.Login SignatureWrong) [])
+signed h s login true =
+    ident_sent h s (held_login h.a.own.holdings login.gid login.opened) (ident_seals s h.a.draw) (secure_frame s.keys (client_ident h.a.own login.gid (cookie_of h.a.draw)))
+signed h s login false = refl
+
+pub signature-same : (h : Coming) (s : Secured) (login : Login) (read : Result AuthSignature BytesFault) → Same h (λ a. on_signature a s login read)
+signature-same h s login (Err why) = refl
+signature-same h s login (Ok found) = signed h s login (is_signed s found.signature)
+
+-- only the keys of the link matter
+keys_matter : (a : AskerArrival) (s : Secured) (seals : List SealEntry) (r : Result SealedFrame BytesFault)
+    → due (secure_sent a s AwaitsIdent seals r) ≡ due (secure_sent a (keys_alone s.keys) AwaitsIdent seals r)
+keys_matter a s seals (Ok sealed) = refl
+keys_matter a s seals (Err why) = refl
+
+pub identified-is : (a : AskerArrival) (s : Secured) (login : Login) → due (identifies a s login) ≡ due (identified a s.keys (signature_found s) login)
+identified-is a s login =
+    keys_matter (holding a (held_login a.own.holdings login.gid login.opened)) s (ident_seals s a.draw) (secure_frame s.keys (client_ident a.own login.gid (cookie_of a.draw)))
+
+-- ---- SERVER_IDENT, IDENT_MISSING_FEATURES
+
+server-same : (h : Coming) (s : Secured) (read : Result ServerIdent BytesFault) → Same h (λ a. on_server_ident a s read)
+server-same h s (Err why) = refl
+server-same h s (Ok ident) = refl
+
+missing-same : (h : Coming) (read : Result IdentMissingFeatures BytesFault) → Same h (λ a. on_missing_features a read)
+missing-same h (Err why) = refl
+missing-same h (Ok missing) = refl
+
+tags-same : (h : Coming) (s : Secured) (f : Frame) (b : Bool) → Same h (λ a.
+    if b then on_missing_features a (payload.payload ident_missing_features_layout.form f)
+    else on_server_ident a s (payload.due 9 server_ident_layout.form f))
+tags-same h s f true = missing-same h (payload.payload ident_missing_features_layout.form f)
+tags-same h s f false = server-same h s (payload.due 9 server_ident_layout.form f)
+
+pub ident-same : (h : Coming) (s : Secured) (f : Frame) → Same h (λ a. while_identified a s f)
+ident-same h s f = tags-same h s f (f.tag == 10)
+
+-- ---- KEEPALIVE2, KEEPALIVE2_ACK
+
+open_sent : (h : Coming) (s : Secured) (r : Result SealedFrame BytesFault) → Same h (λ a. secure_sent a s Open [] r)
+open_sent h s (Ok sealed) = refl
+open_sent h s (Err why) = refl
+
+keepalive-same : (h : Coming) (s : Secured) (read : Result Keepalive2 BytesFault) → Same h (λ a. on_keepalive a s Open read)
+keepalive-same h s (Err why) = refl
+keepalive-same h s (Ok keepalive) =
+    open_sent h s (secure_frame s.keys (control 19 keepalive2_ack_layout.form (record { time = keepalive.time })))
+
+ack-same : (h : Coming) (s : Secured) (read : Result Keepalive2Ack BytesFault) → Same h (λ a. on_keepalive_ack a s Open read)
+ack-same h s (Err why) = refl
+ack-same h s (Ok ack) = refl
+
+kept-same : (h : Coming) (s : Secured) (f : Frame) (b c : Bool) → Same h (λ a.
+    if b then on_keepalive a s Open (payload.payload keepalive2_layout.form f)
+    else if c then on_keepalive_ack a s Open (payload.payload keepalive2_ack_layout.form f)
+    else refuses_bytes a (Unexpected f.tag) [])
+kept-same h s f true c = keepalive-same h s (payload.payload keepalive2_layout.form f)
+kept-same h s f false true = ack-same h s (payload.payload keepalive2_ack_layout.form f)
+kept-same h s f false false = refl
+
+pub upkeep-same : (h : Coming) (s : Secured) (f : Frame) → Same h (λ a. on_upkeep a s Open f)
+upkeep-same h s f = kept-same h s f (f.tag == 18) (f.tag == 19)

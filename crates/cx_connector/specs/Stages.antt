@@ -1,0 +1,38 @@
+-- The links to the monitor as they are held, each as the link of the rules that it is, abridged.
+use Rattle.std.specs.Prelude.{ℕ, []}
+use Rattle.cx_link.specs.Sending.{secured_of}
+use Rattle.cx_link.specs.Wires.{SecureWire, secured_link, wired}
+use Rattle.cx_link.specs.declared.links.Signing.{Signing}
+use Rattle.cx_rules.specs.Connector as connector
+use Rattle.cx_rules.specs.Connector.{Login}
+use Rattle.cx_rules.specs.Links.{Link}
+use Rattle.cx_rules.specs.Secured.{Keys, Secured}
+use Rattle.cx_connector.specs.declared.links.Stage.{Stage}
+use Rattle.cx_connector.specs.declared.links.Stage.TheVariants as held
+
+-- a link to the monitor, as the rules have it
+abbrev pub AskerLink : Type 0
+AskerLink = Link connector.Stage
+
+-- of a link whose peer has proved itself the keys alone are held
+abbrev pub keys_alone : Keys → Secured
+keys_alone keys = record { keys = keys; session = []; covered = [] }
+
+-- the links of each later stage
+abbrev pub awaiting_signature : ℕ → Signing → Login → AskerLink
+awaiting_signature number signing login = secured_link number signing.link.ahead (connector.AwaitsSignature (secured_of signing) login)
+
+abbrev pub awaiting_ident : ℕ → SecureWire → AskerLink
+awaiting_ident number link = secured_link number link.ahead (connector.AwaitsIdent (keys_alone link.keys))
+
+abbrev pub open_link : ℕ → SecureWire → AskerLink
+open_link number link = secured_link number link.ahead (connector.Open (keys_alone link.keys))
+
+abbrev pub link_held : ℕ → Stage → AskerLink
+link_held number (held.AwaitsBanner wire asked) = wired number wire (connector.AwaitsBanner asked)
+link_held number (held.AwaitsHello wire asked) = wired number wire (connector.AwaitsHello asked)
+link_held number (held.AwaitsChallenge wire asked) = wired number wire (connector.AwaitsChallenge asked)
+link_held number (held.AwaitsDone wire) = wired number wire connector.AwaitsDone
+link_held number (held.AwaitsSignature signing login) = awaiting_signature number signing login
+link_held number (held.AwaitsIdent link) = awaiting_ident number link
+link_held number (held.Open link) = open_link number link

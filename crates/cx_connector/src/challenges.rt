@@ -1,0 +1,153 @@
+//! AUTH_REPLY_MORE: the monitor's challenge is answered by an Authenticate.
+
+ghost use Rattle.std.specs.Prelude.{◌≡◌, IfOk};
+ghost use Rattle.cx_control.specs.Auth.{auth_request_more_layout};
+ghost use Rattle.cx_link.specs.Wires.{wired};
+ghost use Rattle.cx_rules.specs.Connector as connector;
+ghost use Rattle.cx_rules.specs.Connector.{AwaitsChallenge, on_challenge, on_reply_more, proof_made, proves, while_challenged};
+ghost use Rattle.cx_rules.specs.Payloads.{control, whole};
+ghost use Rattle.cx_rules.specs.Secured.{plain_frame};
+ghost use Rattle.cx_wire.specs.Logins.{server_challenge_layout};
+ghost use Rattle.cx_connector.specs.Rows.{arrived, due, row_of};
+ghost use Rattle.cx_connector.specs.Sending.{SendsPlain};
+
+use crate::arrivals::Moment;
+use crate::denials::on_bad_method;
+use crate::links::Stage;
+use crate::making::{goes_on, refuses_bytes};
+use crate::rows::AskerRow;
+use crate::sending::{SentPlain, send_plain};
+use cx_base::{Blob, Items};
+use cx_control::{AuthBadMethod, AuthReplyMore, AuthRequestMore};
+use cx_frame::Frame;
+use cx_holdings::{Answer, Asker};
+use cx_journal::{BytesFault, KeyKind};
+use cx_link::PlainLink;
+use cx_node::{due, payload_part};
+use cx_steps::{DrawMark, SealEntry, SealMark};
+use std::alloc::{AllocError, Global};
+
+/// The segments of a plain frame have at most so many bytes together.
+const MAX_PLAIN: usize = 65_536;
+
+// A frame behind AUTH_REQUEST.
+pub(crate) fn while_challenged(
+    alloc: Global,
+    asker: &Asker,
+    at: &Moment<'_>,
+    link: PlainLink,
+    asked: u32,
+    frame: &Frame,
+) -> Result<AskerRow, AllocError>
+    ensures { IfOk result (λ row. row_of asker.now at.now.number row
+        ≡ due (while_challenged (arrived asker.now at.now (wired at.now.number link (AwaitsChallenge asked))) asked frame.now)) }
+{
+    if frame.tag == 3 {
+        let read = payload_part::<AuthBadMethod>(alloc, frame)?;
+        on_bad_method(alloc, asker, at, read)
+    } else {
+        let read = due::<AuthReplyMore>(alloc, 4, frame)?;
+        on_reply_more(alloc, asker, at, link, asked, read)
+    }
+}
+
+// AUTH_REPLY_MORE holds a ServerChallenge.
+fn on_reply_more(
+    alloc: Global,
+    asker: &Asker,
+    at: &Moment<'_>,
+    link: PlainLink,
+    asked: u32,
+    read: Result<AuthReplyMore, BytesFault>,
+) -> Result<AskerRow, AllocError>
+    ensures { IfOk result (λ row. row_of asker.now at.now.number row
+        ≡ due (on_reply_more (arrived asker.now at.now (wired at.now.number link (AwaitsChallenge asked))) asked read)) }
+{
+    match read {
+        Ok(more) => on_challenge(alloc, asker, at, link, asked, more.payload.bytes()),
+        Err(why) => refuses_bytes(alloc, asker, at, why, Items::new(alloc)),
+    }
+}
+
+// The challenge of this payload is answered, with the ticket for AUTH that is held as old ticket while it is good.
+fn on_challenge(
+    alloc: Global,
+    asker: &Asker,
+    at: &Moment<'_>,
+    link: PlainLink,
+    asked: u32,
+    payload: &[u8],
+) -> Result<AskerRow, AllocError>
+    ensures { IfOk result (λ row. row_of asker.now at.now.number row
+        ≡ due (on_challenge (arrived asker.now at.now (wired at.now.number link (AwaitsChallenge asked))) asked (whole server_challenge_layout.form payload.now))) }
+{
+    let challenge = at.draw.challenge();
+    match asker.answered(alloc, payload, asked, at.reading, challenge)? {
+        Ok(answer) => proves(alloc, asker, at, link, answer),
+        Err(why) => refuses_bytes(alloc, asker, at, why, Items::new(alloc)),
+    }
+}
+
+// One's own challenge was drawn, and the proof of both is sent.
+fn proves(
+    alloc: Global,
+    asker: &Asker,
+    at: &Moment<'_>,
+    link: PlainLink,
+    answer: Answer,
+) -> Result<AskerRow, AllocError>
+    ensures { (stage : connector.Stage) → IfOk result (λ row. row_of asker.now at.now.number row
+        ≡ due (proves (arrived asker.now at.now (wired at.now.number link stage)) answer.server.challenge
+        (plain_frame (control 5 auth_request_more_layout.form (record { payload = answer.bytes }))))) }
+{
+    let challenge = at.draw.challenge();
+    let mut seals = Items::new(alloc);
+    seals.push(alloc, SealEntry::Drawn(DrawMark::Challenge(challenge)))?;
+    match send_proof(alloc, link, answer.bytes)? {
+        Ok(sent) => {
+            let proof = proof_made(alloc, asker, answer.server.challenge, challenge)?;
+            seals.push(alloc, proof)?;
+            Ok(goes_on(alloc, Stage::AwaitsDone(sent.link), sent.bytes, seals))
+        }
+        Err(why) => refuses_bytes(alloc, asker, at, why, seals),
+    }
+}
+
+// Sends AUTH_REQUEST_MORE with an Authenticate. An old ticket may be too long for it.
+fn send_proof(
+    alloc: Global,
+    link: PlainLink,
+    authenticate: Blob,
+) -> Result<Result<SentPlain, BytesFault>, AllocError>
+    ensures { IfOk result (SendsPlain link (plain_frame (control 5 auth_request_more_layout.form (record { payload = authenticate })))) }
+{
+    if authenticate.bytes().len() > MAX_PLAIN {
+        return Ok(Err(BytesFault::TooLong));
+    }
+    send_plain(
+        alloc,
+        link,
+        5,
+        &AuthRequestMore {
+            payload: authenticate,
+        },
+    )
+}
+
+// Both challenges, which the proof signs under one's own secret, as an entry of the log: the monitor's is the first.
+fn proof_made(
+    alloc: Global,
+    asker: &Asker,
+    server: u64,
+    client: u64,
+) -> Result<SealEntry, AllocError>
+    ensures { IfOk result (λ entry. entry ≡ proof_made asker.now.secret server client) }
+{
+    let mut content = Blob::of(alloc, &server.to_le_bytes())?;
+    content.append(alloc, &client.to_le_bytes())?;
+    Ok(SealEntry::Signed(SealMark {
+        key: asker.secret(),
+        kind: KeyKind::Proof,
+        content,
+    }))
+}

@@ -1,0 +1,121 @@
+//! The links to the monitor: a number, and a stage with all that is held of the link.
+
+ghost use Rattle.std.specs.Prelude.{ℕ, ◌≡◌};
+ghost use Rattle.cx_rules.specs.Connector.{is_open};
+ghost use Rattle.cx_connector.specs.Stages.{link_held};
+
+use cx_holdings::Login;
+use cx_link::{BannerLink, PlainLink, SecureLink, Signing};
+use cx_node::Numbered;
+use std::alloc::{AllocError, Global};
+use std::marker::Model;
+
+/// What a link waits for, with what is held of it. A number is the sum of the services for which tickets are asked (2 mds, 4 osd, 16 mgr).
+#[derive(Drop)]
+pub enum Stage {
+    AwaitsBanner(BannerLink, u32),
+    AwaitsHello(PlainLink, u32),
+    AwaitsChallenge(PlainLink, u32),
+    AwaitsDone(PlainLink),
+    /// The login that was opened, until the monitor's signature is found right.
+    AwaitsSignature(Signing, Login),
+    AwaitsIdent(SecureLink),
+    Open(SecureLink),
+}
+
+impl Stage {
+    /// Whether the link is open.
+    pub fn is_open(&self) -> bool
+        ensures { (number : ℕ) → result ≡ is_open (link_held number self.now).stage }
+    {
+        match self {
+            Stage::AwaitsBanner(_, _) => false,
+            Stage::AwaitsHello(_, _) => false,
+            Stage::AwaitsChallenge(_, _) => false,
+            Stage::AwaitsDone(_) => false,
+            Stage::AwaitsSignature(_, _) => false,
+            Stage::AwaitsIdent(_) => false,
+            Stage::Open(_) => true,
+        }
+    }
+}
+
+/// A live link to the monitor.
+#[derive(Drop)]
+pub struct Link {
+    pub number: u32,
+    pub stage: Stage,
+}
+
+impl Model for Link {
+    ghost use Rattle.cx_rules.specs.Connector as connector;
+    ghost use Rattle.cx_rules.specs.Links as links;
+
+    ghost Value = { links.Link connector.Stage };
+
+    ghost use Rattle.cx_connector.specs.Stages.{link_held};
+
+    ghost view = { λ l. link_held l.number l.stage };
+}
+
+impl Numbered for Link {
+    ghost number_of = { λ l. l.number };
+
+    #[tactic(auto, using(crate::proofs::Stages::number_held))]
+    fn number(&self) -> u32 {
+        self.number
+    }
+}
+
+impl Link {
+    ghost use Rattle.std.specs.Prelude.{◌≡◌, ◌++◌, IfOk};
+    ghost use Rattle.cx_rules.specs.Abridged.{abridged_asker_link};
+    ghost use Rattle.cx_rules.specs.Connector.{is_open};
+
+    /// Whether it is open.
+    pub fn is_open(&self) -> bool
+        ensures { result ≡ is_open self.now.stage }
+    {
+        self.stage.is_open()
+    }
+
+    /// The link behind more bytes. No more of it can be forgotten.
+    #[tactic(auto, using(crate::proofs::Stages::held_abridged))]
+    pub fn fed(self, alloc: Global, bytes: &[u8]) -> Result<Link, AllocError>
+        ensures fed { IfOk result (λ link. link ≡ record self { received = self.received ++ bytes.now }) }
+        ensures held { IfOk result (λ link. abridged_asker_link link ≡ link) }
+    {
+        let Link { number, stage } = self;
+        let stage = match stage {
+            Stage::AwaitsBanner(mut link, asked) => {
+                link.feed(alloc, bytes)?;
+                Stage::AwaitsBanner(link, asked)
+            }
+            Stage::AwaitsHello(mut link, asked) => {
+                link.feed(alloc, bytes)?;
+                Stage::AwaitsHello(link, asked)
+            }
+            Stage::AwaitsChallenge(mut link, asked) => {
+                link.feed(alloc, bytes)?;
+                Stage::AwaitsChallenge(link, asked)
+            }
+            Stage::AwaitsDone(mut link) => {
+                link.feed(alloc, bytes)?;
+                Stage::AwaitsDone(link)
+            }
+            Stage::AwaitsSignature(mut signing, login) => {
+                signing.link.feed(alloc, bytes)?;
+                Stage::AwaitsSignature(signing, login)
+            }
+            Stage::AwaitsIdent(mut link) => {
+                link.feed(alloc, bytes)?;
+                Stage::AwaitsIdent(link)
+            }
+            Stage::Open(mut link) => {
+                link.feed(alloc, bytes)?;
+                Stage::Open(link)
+            }
+        };
+        Ok(Link { number, stage })
+    }
+}

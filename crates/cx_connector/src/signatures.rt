@@ -1,0 +1,78 @@
+//! AUTH_SIGNATURE.
+
+ghost use Rattle.std.specs.Prelude.{◌≡◌, IfOk};
+ghost use Rattle.cx_link.specs.Sending.{secured_of};
+ghost use Rattle.cx_link.specs.Wires.{secured_link};
+ghost use Rattle.cx_rules.specs.Connector as connector;
+ghost use Rattle.cx_rules.specs.Connector.{on_signature};
+ghost use Rattle.cx_connector.specs.Rows.{arrived, due, identified, row_of};
+ghost use Rattle.cx_connector.specs.Stages.{awaiting_signature};
+
+use crate::arrivals::Moment;
+use crate::links::Stage;
+use crate::making::{goes_on, refuses, refuses_bytes};
+use crate::rows::AskerRow;
+use crate::sending::{log_behind, send_secure};
+use cx_base::Items;
+use cx_control::AuthSignature;
+use cx_holdings::{Asker, Login};
+use cx_journal::{BytesFault, LoginFault, Reason};
+use cx_link::{Checked, Signing};
+use cx_steps::{DrawMark, SealEntry};
+use std::alloc::{AllocError, Global};
+
+// The peer's signature has to cover all that was sent before one's own.
+pub(crate) fn on_signature(
+    alloc: Global,
+    asker: &Asker,
+    at: &Moment<'_>,
+    signing: Signing,
+    login: Login,
+    read: Result<AuthSignature, BytesFault>,
+) -> Result<AskerRow, AllocError>
+    ensures { IfOk result (λ row. row_of asker.now at.now.number row
+        ≡ due (on_signature (arrived asker.now at.now (awaiting_signature at.now.number signing login)) (secured_of signing) login read)) }
+{
+    match read {
+        Err(why) => refuses_bytes(alloc, asker, at, why, Items::new(alloc)),
+        Ok(found) => match signing.check(&found.signature) {
+            Some(checked) => identifies(alloc, asker, at, checked, login),
+            None => refuses(
+                alloc,
+                asker,
+                at,
+                Reason::Login(LoginFault::SignatureWrong),
+                Items::new(alloc),
+            ),
+        },
+    }
+}
+
+// The login is held, and CLIENT_IDENT is sent with a drawn cookie.
+fn identifies(
+    alloc: Global,
+    asker: &Asker,
+    at: &Moment<'_>,
+    checked: Checked,
+    login: Login,
+) -> Result<AskerRow, AllocError>
+    ensures { (stage : connector.Stage) → IfOk result (λ row. row_of asker.now at.now.number row
+        ≡ due (identified (arrived asker.now at.now (secured_link at.now.number checked.link.ahead stage)) checked.link.keys checked.entry login)) }
+{
+    let Checked { link, entry } = checked;
+    let cookie = at.draw.cookie();
+    let mut seals = Items::new(alloc);
+    seals.push(alloc, entry)?;
+    seals.push(alloc, SealEntry::Drawn(DrawMark::Cookie(cookie)))?;
+    match send_secure(alloc, link, 8, &asker.client_ident(login.gid(), cookie))? {
+        Ok(sent) => {
+            log_behind(alloc, &mut seals, sent.seals.all())?;
+            let kept = goes_on(alloc, Stage::AwaitsIdent(sent.link), sent.bytes, seals);
+            Ok(kept.holding(login))
+        }
+        Err(why) => {
+            let kept = refuses_bytes(alloc, asker, at, why, seals)?;
+            Ok(kept.holding(login))
+        }
+    }
+}
