@@ -1,6 +1,6 @@
 -- The nodes of a world are those to which its events lead: each thing that is done to a world keeps that.
-use Rattle.std.proofs.Common.{◌≡◌, ℕ, ◌==◌, Bool, true, false, List, [], ◌∷◌, ◌++◌, Option, Some, None, refl, ap, zero, suc}
-use Rattle.std.specs.Prelude.{drop, filter, length, replicate, if◌then◌else◌}
+use Rattle.std.proofs.Common.{◌≡◌, ℕ, ◌==◌, Bool, true, false, List, [], ◌∷◌, ◌++◌, Option, Some, None, refl, ap}
+use Rattle.std.specs.Prelude.{filter, length, replicate, if◌then◌else◌}
 use Rattle.cx_journal.specs.declared.node_names.NodeName.{NodeName}
 use Rattle.cx_journal.specs.declared.node_names.NodeName.TheVariants as node
 use Rattle.cx_lines.specs.declared.commands.Command.{Command}

@@ -1,1 +1,6 @@
 pub mod Led
+pub mod Taking
+pub mod MonitorTakes
+pub mod ClientTakes
+pub mod Turning
+pub mod Untaken

@@ -1,7 +1,6 @@
 -- What each line of a schedule does to the world. Lines that no rule serves yet do nothing: fetches, renewals, connects, sends, drops and ticks.
-use Rattle.std.specs.Prelude.{ℕ, zero, suc, ◌+◌, List, [], ◌∷◌, drop, map, sum_by, Option, Some, None, if◌then◌else◌}
+use Rattle.std.specs.Prelude.{ℕ, zero, suc, List, [], ◌∷◌, map, sum_by, Option, Some, None, if◌then◌else◌}
 use Rattle.std.specs.List.{slice_get}
-use Rattle.cx_base.specs.Names.{Name}
 use Rattle.cx_base.specs.declared.kinds.EntityType.{EntityType}
 use Rattle.cx_enc.specs.Values.{number_of}
 use Rattle.cx_journal.specs.declared.node_names.NodeName.{NodeName}

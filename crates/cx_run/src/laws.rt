@@ -1,13 +1,39 @@
 //! Laws of the definition of a run.
 
-ghost use Rattle.std.specs.Prelude.{◌≡◌, List};
+ghost use Rattle.std.specs.Prelude.{◌≡◌, ◌≤◌, ◌<◌, ℕ, List, length, true, if◌then◌else◌};
+ghost use Rattle.cx_journal.specs.declared.node_names.NodeName.{NodeName};
 ghost use Rattle.cx_lines.specs.declared.lines.Numbered.{Numbered};
-ghost use Rattle.cx_run.specs.Happenings.{nodes_behind};
+ghost use Rattle.cx_rules.specs.Abridged.{ClientStandsFor, MonitorStandsFor};
+ghost use Rattle.cx_rules.specs.ClientRule.{ClientNode};
+ghost use Rattle.cx_rules.specs.Inputs.{Turn};
+ghost use Rattle.cx_rules.specs.Links.{link_of};
+ghost use Rattle.cx_rules.specs.Monitor.{MonitorNode};
+ghost use Rattle.cx_run.specs.Deliveries.{came_at, followed, gives, turns};
+ghost use Rattle.cx_run.specs.Happenings.{Nodes, nodes_behind};
 ghost use Rattle.cx_run.specs.Opening.{nodes_of, opening_world};
 ghost use Rattle.cx_run.specs.Runs.{setup_of, trace};
 ghost use Rattle.cx_run.specs.Schedules.{after_lines};
+ghost use Rattle.cx_run.specs.Turning.{untaken_at, untaken_on};
+ghost use Rattle.cx_run.specs.Worlds.{World};
 
 /// The nodes at the end of a run are those that its events lead to: nothing else changes a node.
 pub fn run_laws()
     ensures { (script : List Numbered) → (after_lines (opening_world (setup_of script)) script).nodes ≡ nodes_behind (nodes_of (setup_of script)) (trace script) }
+{}
+
+/// The list that bounds the turns behind what arrived is no bound at all: a node is turned until it handles nothing.
+pub fn turning_laws()
+    // With a list that is as long as what is left to be taken, one turn comes, and then, where it handled something, all further ones with the
+    // same list.
+    ensures unrolls { (w : World) (who : NodeName) (number : ℕ) (fuel : List ℕ) → length (untaken_at w.nodes number who) ≤ length fuel
+        → turns w who number fuel
+        ≡ (let g = gives w who (Turn number) in if g.out.turned then turns (followed who g) who number fuel else followed who g) }
+    // A turn that handles something takes some of it.
+    ensures takes { (w : World) (who : NodeName) (number : ℕ) → (let g = gives w who (Turn number) in g.out.turned ≡ true
+        → length (untaken_at (followed who g).nodes number who) < length (untaken_at w.nodes number who)) }
+    // No more is left than came.
+    ensures enough { (nodes : Nodes) (number : ℕ) (who : NodeName) → length (untaken_at nodes number who) ≤ length (came_at nodes number who) }
+    // As much is left to be taken of the links that a machine holds as of those of the rules for which they stand.
+    ensures monitor_held { (m s : MonitorNode) (number : ℕ) → MonitorStandsFor m s → untaken_on (link_of number m.links) ≡ untaken_on (link_of number s.links) }
+    ensures client_held { (c s : ClientNode) (number : ℕ) → ClientStandsFor c s → untaken_on (link_of number c.links) ≡ untaken_on (link_of number s.links) }
 {}

@@ -3,4 +3,4 @@
 
 mod laws;
 
-pub use laws::run_laws;
+pub use laws::{run_laws, turning_laws};

@@ -1,0 +1,22 @@
+//! The nodes of a run with their clocks and dice, and what one event of one node comes to.
+#![tactic(auto)]
+
+mod made;
+mod members;
+mod nodes;
+mod seats;
+
+pub use made::Made;
+pub use members::Member;
+pub use nodes::Nodes;
+pub use seats::Seat;
+
+// Each public type may be sent to another thread and shared with one.
+fn is_sendable<T: Send + Sync>() {}
+
+fn all_are_sendable() {
+    is_sendable::<Made>();
+    is_sendable::<Member>();
+    is_sendable::<Nodes>();
+    is_sendable::<Seat>();
+}

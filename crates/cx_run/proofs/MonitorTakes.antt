@@ -1,0 +1,165 @@
+-- The rows of the monitor keep their link, and a turn of it takes some of what is ahead.
+use Rattle.std.proofs.Common.{ℕ, ◌==◌, Bool, true, false, List, [], ◌∷◌, ◌++◌, Option, Some, None, Result, Ok, Err, refl}
+use Rattle.std.specs.Prelude.{not, if◌then◌else◌}
+use Rattle.std.specs.List.{flat_map, list_any}
+use Rattle.cx_control.specs.Auth.{auth_request_layout, auth_request_more_layout, auth_signature_layout}
+use Rattle.cx_control.specs.Hello.{hello_layout}
+use Rattle.cx_control.specs.Idents.{client_ident_layout}
+use Rattle.cx_control.specs.Reconnects.{session_reconnect_layout}
+use Rattle.cx_control.specs.declared.auth.AuthRequest.{AuthRequest}
+use Rattle.cx_control.specs.declared.auth.AuthRequestMore.{AuthRequestMore}
+use Rattle.cx_control.specs.declared.auth.AuthSignature.{AuthSignature}
+use Rattle.cx_control.specs.declared.hello.Hello.{Hello}
+use Rattle.cx_control.specs.declared.idents.ClientIdent.{ClientIdent}
+use Rattle.cx_control.specs.declared.reconnects.SessionReconnect.{SessionReconnect}
+use Rattle.cx_frame.specs.declared.frame.Frame.{Frame}
+use Rattle.cx_journal.specs.declared.faults.BytesFault.{BytesFault}
+use Rattle.cx_journal.specs.declared.faults.BytesFault.TheVariants.{Unexpected}
+use Rattle.cx_journal.specs.declared.faults.LoginFault.{LoginFault}
+use Rattle.cx_journal.specs.declared.faults.LoginFault.TheVariants.{Method, Mode, SignatureWrong}
+use Rattle.cx_journal.specs.declared.outcomes.Reason.TheVariants.{Login}
+use Rattle.cx_keyring.specs.declared.entries.Entry.{Entry as Principal}
+use Rattle.cx_keyserver.specs.declared.tickets.Ticket.{Ticket}
+use Rattle.cx_login.specs.Monitor.{Proven}
+use Rattle.cx_login.specs.declared.refusals.WrongProof.{WrongProof}
+use Rattle.cx_rotate.specs.declared.states.KeptState.{KeptState}
+use Rattle.cx_steps.specs.declared.seals.SealEntry.{SealEntry}
+use Rattle.cx_wire.specs.declared.logins.Authenticate.{Authenticate}
+use Rattle.cx_wire.specs.declared.logins.LoginHello.{LoginHello}
+use Rattle.cx_rules.specs.Acceptor.{AwaitsBanner, AwaitsHello, AwaitsRequest, AwaitsProof, AwaitsSignature, AwaitsIdent, Open, Finished, denies, finished, misses, missing_told, on_auth_request, on_banner, on_hello, on_signature}
+use Rattle.cx_rules.specs.Monitor.{Entity, MonitorArrival, MonitorStage, Offered}
+use Rattle.cx_rules.specs.MonitorLogin.{Granted, Numbered, auth_done, challenges, granted, hands_out, issues, issues_to, numbers, on_authenticate, on_login_hello, proves, with_server}
+use Rattle.cx_rules.specs.MonitorRule.{on_auth_request_more, on_client_ident, on_ident, on_request_payload, on_session_reconnect, server_ident, turned_at}
+use Rattle.cx_rules.specs.Payloads.{due, payload}
+use Rattle.cx_rules.specs.Rows.{at, goes_on, refuses, refuses_bytes, sends_secure, with_opened}
+use Rattle.cx_rules.specs.Secured.{SealedFrame, Secured, is_signed, signature_found, under}
+use Rattle.cx_rules.specs.Upkeep.{on_upkeep}
+use Rattle.cx_rules.specs.KeptStates.{changed}
+use Rattle.cx_rules.specs.Tickets.{ticket_seals}
+use Rattle.cx_cbc.specs.Envelope.{sealed}
+use Rattle.cx_dice.specs.Draws.{connection_of, session_of}
+use Rattle.cx_journal.specs.declared.premises.KeyKind.TheVariants as kind
+use Rattle.cx_sealed.specs.Records.{connection_secret_layout}
+use Rattle.cx_steps.specs.declared.seals.DrawMark.TheVariants as draw
+use Rattle.cx_steps.specs.declared.seals.SealEntry.TheVariants.{Drawn, Sealed}
+use Rattle.cx_run.proofs.Taking.{Keeps, TurnTakes, banner-takes, plain-takes, plain_sent-keeps, secure-takes, secure_sent-keeps, upkeep-keeps}
+use Rattle.cx_base.specs.declared.kinds.EntityType.TheVariants.{Auth, Mon}
+
+-- ---- HELLO, AUTH_REQUEST
+
+hello-keeps : (a : MonitorArrival) (hello : Result Hello BytesFault) → Keeps a.link (on_hello a hello)
+hello-keeps a (Ok hello) = record { number = refl; ahead = refl }
+hello-keeps a (Err why) = tt
+
+challenges-keeps : (a : MonitorArrival) (hello : LoginHello) (principal : Option Principal) → Keeps a.link (challenges a hello principal)
+challenges-keeps a hello None = tt
+challenges-keeps a hello (Some principal) = plain_sent-keeps a _ _ _
+
+login_hello-keeps : (a : MonitorArrival) (hello : Result LoginHello BytesFault) → Keeps a.link (on_login_hello a hello)
+login_hello-keeps a (Err why) = tt
+login_hello-keeps a (Ok hello) = challenges-keeps a hello _
+
+request-keeps : (a : MonitorArrival) (request : Result AuthRequest BytesFault) → Keeps a.link (on_auth_request on_request_payload a request)
+request-keeps a (Err why) = tt
+request-keeps a (Ok request) = by_tests (not (request.method == 2)) (not (list_any (λ mode. mode == 2) request.modes))
+  where
+    by_tests : (other plain : Bool) → Keeps a.link (if other then denies a 95 Method [] else if plain then denies a 95 Mode [] else on_request_payload a request.payload)
+    by_tests true plain = tt
+    by_tests false true = tt
+    by_tests false false = login_hello-keeps a _
+
+-- ---- AUTH_REQUEST_MORE
+
+hands_out-keeps : (a : MonitorArrival) (grant : Granted) (tickets : List Ticket) (seals : List SealEntry) (save : Option KeptState) (done : Result Finished BytesFault)
+    → Keeps a.link (hands_out a grant tickets seals save done)
+hands_out-keeps a grant tickets seals save (Err why) = tt
+hands_out-keeps a grant tickets seals save (Ok done) = record { number = refl; ahead = refl }
+
+issues-keeps : (a : MonitorArrival) (grant : Granted) (principal : Principal) (tickets : Result (List Ticket) LoginFault) → Keeps a.link (issues a grant principal tickets)
+issues-keeps a grant principal (Err why) = tt
+issues-keeps a grant principal (Ok tickets) =
+    let session : List ℕ = session_of Auth a.draw in
+    let secret : List ℕ = connection_of a.draw in
+    let content : List ℕ = connection_secret_layout.form.text (record { secret = secret }) in
+    hands_out-keeps a grant tickets
+    (flat_map (ticket_seals a.own.server principal.key.secret session) tickets
+    ++ Drawn (draw.Connection secret grant.proven.offer.name) ∷ Sealed (record { key = session; kind = kind.Session; content = content }) ∷ [])
+    (changed a.own.saved a.own.server.state)
+    (finished a.link session secret (auth_done grant.gid tickets (sealed session content)))
+
+issues_to-keeps : (a : MonitorArrival) (grant : Granted) (principal : Option Principal) → Keeps a.link (issues_to a grant principal)
+issues_to-keeps a grant None = tt
+issues_to-keeps a grant (Some principal) = issues-keeps a grant principal _
+
+numbers-keeps : (a : MonitorArrival) (proven : Proven) (seals : List SealEntry) (n : Result Numbered LoginFault) → Keeps a.link (numbers a proven seals n)
+numbers-keeps a proven seals (Err why) = tt
+numbers-keeps a proven seals (Ok n) = issues_to-keeps (with_server a n.server) (granted proven seals n.gid) _
+
+proves-keeps : (a : MonitorArrival) (gid : ℕ) (r : Result Proven WrongProof) → Keeps a.link (proves a gid r)
+proves-keeps a gid (Err wrong) = tt
+proves-keeps a gid (Ok proven) = numbers-keeps (with_server a _) proven _ _
+
+authenticate-keeps : (a : MonitorArrival) (offered : Offered) (ask : Result Authenticate BytesFault) → Keeps a.link (on_authenticate a offered ask)
+authenticate-keeps a offered (Err why) = tt
+authenticate-keeps a offered (Ok ask) = proves-keeps a offered.gid _
+
+request_more-keeps : (a : MonitorArrival) (offered : Offered) (more : Result AuthRequestMore BytesFault) → Keeps a.link (on_auth_request_more a offered more)
+request_more-keeps a offered (Err why) = tt
+request_more-keeps a offered (Ok more) = authenticate-keeps a offered _
+
+-- ---- AUTH_SIGNATURE, CLIENT_IDENT, SESSION_RECONNECT
+
+signature-keeps : (a : MonitorArrival) (s : Secured) (entity : Entity) (found : Result AuthSignature BytesFault) → Keeps a.link (on_signature a s entity found)
+signature-keeps a s entity (Err why) = tt
+signature-keeps a s entity (Ok found) = by_test (is_signed s found.signature)
+  where
+    by_test : (right : Bool) → Keeps a.link (if right then goes_on a (AwaitsIdent s entity) [] (signature_found s ∷ []) else refuses a (Login SignatureWrong) [])
+    by_test true = record { number = refl; ahead = refl }
+    by_test false = tt
+
+missing-keeps : (a : MonitorArrival) (features : ℕ) (sealed : Result SealedFrame BytesFault) → Keeps a.link (missing_told a features sealed)
+missing-keeps a features (Err why) = tt
+missing-keeps a features (Ok sealed) = tt
+
+client_ident-keeps : (a : MonitorArrival) (s : Secured) (entity : Entity) (ident : Result ClientIdent BytesFault) → Keeps a.link (on_client_ident a s entity ident)
+client_ident-keeps a s entity (Err why) = tt
+client_ident-keeps a s entity (Ok ident) = by_test (ident.required == 0)
+  where
+    by_test : (plain : Bool) → Keeps a.link (if plain then sends_secure a s (λ behind. Open behind entity) [] (server_ident a.own.address) else misses a s ident.required)
+    by_test true = secure_sent-keeps a s (λ behind. Open behind entity) [] _
+    by_test false = missing-keeps a ident.required _
+
+reconnect-keeps : (a : MonitorArrival) (s : Secured) (entity : Entity) (reconnect : Result SessionReconnect BytesFault) → Keeps a.link (on_session_reconnect a s entity reconnect)
+reconnect-keeps a s entity (Err why) = tt
+reconnect-keeps a s entity (Ok reconnect) = secure_sent-keeps a s (λ behind. AwaitsIdent behind entity) [] _
+
+ident-keeps : (a : MonitorArrival) (s : Secured) (entity : Entity) (f : Frame) → Keeps a.link (on_ident a s entity f)
+ident-keeps a s entity f = by_tests (f.tag == 8) (f.tag == 11)
+  where
+    by_tests : (client reconnect : Bool) → Keeps a.link (if client then on_client_ident a s entity (payload client_ident_layout.form f)
+        else if reconnect then on_session_reconnect a s entity (payload session_reconnect_layout.form f) else refuses_bytes a (Unexpected f.tag) [])
+    by_tests true reconnect = client_ident-keeps a s entity (payload client_ident_layout.form f)
+    by_tests false true = reconnect-keeps a s entity (payload session_reconnect_layout.form f)
+    by_tests false false = tt
+
+-- ---- a turn
+
+pub monitor-takes : (a : MonitorArrival) (stage : MonitorStage) → TurnTakes a.link (turned_at a stage)
+monitor-takes a AwaitsBanner = banner-takes a.link (λ link _. on_banner Mon (at a link)) (λ l opened. plain_sent-keeps (at a l) AwaitsHello [] _)
+monitor-takes a AwaitsHello =
+    plain-takes a.link (λ (link, f) _. on_hello (at a link) (due 1 hello_layout.form f)) (λ l f opened. hello-keeps (at a l) (due 1 hello_layout.form f))
+monitor-takes a AwaitsRequest =
+    plain-takes a.link (λ (link, f) _. on_auth_request on_request_payload (at a link) (due 2 auth_request_layout.form f))
+    (λ l f opened. request-keeps (at a l) (due 2 auth_request_layout.form f))
+monitor-takes a (AwaitsProof offered) =
+    plain-takes a.link (λ (link, f) _. on_auth_request_more (at a link) offered (due 5 auth_request_more_layout.form f))
+    (λ l f opened. request_more-keeps (at a l) offered (due 5 auth_request_more_layout.form f))
+monitor-takes a (AwaitsSignature s entity) =
+    secure-takes s.keys a.link (λ (link, f, keys) opened. with_opened opened (on_signature (at a link) (under s keys) entity (due 7 auth_signature_layout.form f)))
+    (λ l f keys opened. signature-keeps (at a l) (under s keys) entity (due 7 auth_signature_layout.form f))
+monitor-takes a (AwaitsIdent s entity) =
+    secure-takes s.keys a.link (λ (link, f, keys) opened. with_opened opened (on_ident (at a link) (under s keys) entity f))
+    (λ l f keys opened. ident-keeps (at a l) (under s keys) entity f)
+monitor-takes a (Open s entity) =
+    secure-takes s.keys a.link (λ (link, f, keys) opened. with_opened opened (on_upkeep (at a link) (under s keys) (λ behind. Open behind entity) f))
+    (λ l f keys opened. upkeep-keeps (at a l) (under s keys) (λ behind. Open behind entity) f)

@@ -1,0 +1,357 @@
+-- A turn that handles something leaves less to be taken of its link, so a list that is as long as what is left bounds no turns.
+use Rattle.std.proofs.Common.{◌≡◌, ℕ, ◌<◌, ◌≤◌, ◌==◌, Bool, true, false, cond, List, [], ◌∷◌, ◌++◌, length, map, Option, Some, None, refl, sym, ap, subst, ◌∙◌, arith, eqb-true, eq-eqb, length-drop}
+use Rattle.std.specs.Prelude.{filter, find, nat_lt, not, if◌then◌else◌}
+use Rattle.std.proofs.lemmas.Bool.{ltb-true}
+use Rattle.cx_base.proofs.Names.{same_name_is}
+use Rattle.cx_base.specs.Names.{Name}
+use Rattle.cx_journal.specs.declared.node_names.NodeName.{NodeName}
+use Rattle.cx_journal.specs.declared.node_names.NodeName.TheVariants as node
+use Rattle.cx_places.specs.declared.choices.LeftState.{LeftState}
+use Rattle.cx_places.specs.declared.choices.LeftState.TheVariants as left
+use Rattle.cx_places.specs.declared.choices.Side.{Side}
+use Rattle.cx_rotate.specs.declared.states.KeptState.{KeptState}
+use Rattle.cx_rules.specs.ClientRule.{Client, ClientNode, client_rule, me, with_asker}
+use Rattle.cx_rules.specs.ClientRule as client
+use Rattle.cx_rules.specs.Connector as connector
+use Rattle.cx_rules.specs.Fronts.{ahead_of}
+use Rattle.cx_rules.specs.Inputs.{Input, Turn, Gone, Restart}
+use Rattle.cx_rules.specs.Links.{Link, link_of, put_link, without_link}
+use Rattle.cx_rules.specs.Monitor.{MonitorArrival, MonitorNode, MonitorStage}
+use Rattle.cx_rules.specs.MonitorRule.{monitor_rule, noted, turn, turned_at}
+use Rattle.cx_rules.specs.Rows.{Arrival, Node, Outcome, Turned, Waits, Refuses, Handles, arrival, links_behind, lifted_turn}
+use Rattle.cx_rules.specs.Rows as rows
+use Rattle.cx_steps.specs.declared.events.Peer.{Peer}
+use Rattle.cx_run.specs.Deliveries.{Given, came_at, came_on, came_to, far_side, followed, given, gives, open_all, restarts, tells, tells_gone, turns, vanish}
+use Rattle.cx_run.specs.Happenings.{Happening, Nodes, Stepped, client_of, client_steps, is_of, monitor_steps, steps, steps_of}
+use Rattle.cx_run.specs.Turning.{untaken_at, untaken_on, untaken_to}
+use Rattle.cx_run.specs.Wires.{Wire, end_of, ended, has_end, node_at, same_node, with_wire}
+use Rattle.cx_run.specs.Worlds.{Seat, World, carried, happening, opened_wires, seat_of}
+use Rattle.cx_run.proofs.ClientTakes.{asker-takes, lifted-takes}
+use Rattle.cx_run.proofs.MonitorTakes.{monitor-takes}
+use Rattle.cx_run.proofs.Taking.{Takes, TurnTakes}
+
+-- ---- a table of links
+
+module _ {Stage : Type 0} where
+  found-number : (n : ℕ) (links : List (Link Stage)) (l : Link Stage) → link_of n links ≡ Some l → l.number ≡ n
+  found-number n [] l e = absurd cc
+  found-number n (x ∷ links) l e = by_test (x.number == n) refl (found-number n links l)
+    where
+      by_test : (t : Bool) → (x.number == n) ≡ t → (link_of n links ≡ Some l → l.number ≡ n) → l.number ≡ n
+      by_test true t later = let here : Some x ≡ Some l = rw t at e in let same : x ≡ l = cc in subst (λ (y : Link Stage). y.number ≡ n) same (eqb-true x.number n t)
+      by_test false t later = later (rw t at e)
+
+  -- what was put is found
+  put-found : (l : Link Stage) (links above : List (Link Stage)) → link_of l.number (filter (λ k. nat_lt k.number l.number) links ++ l ∷ above) ≡ Some l
+  put-found l [] above = rw (eq-eqb l.number l.number refl) refl
+  put-found l (x ∷ links) above = by_test (nat_lt x.number l.number) refl (put-found l links above)
+    where
+      by_number : (b : Bool) → (x.number == l.number) ≡ b → x.number < l.number → link_of l.number (filter (λ k. nat_lt k.number l.number) links ++ l ∷ above) ≡ Some l → cond b (Some x) (link_of l.number (filter (λ k. nat_lt k.number l.number) links ++ l ∷ above)) ≡ Some l
+      by_number true e less later = let same = eqb-true x.number l.number e in absurd (omega arith)
+      by_number false e less later = later
+
+      by_test : (t : Bool) → nat_lt x.number l.number ≡ t → link_of l.number (filter (λ k. nat_lt k.number l.number) links ++ l ∷ above) ≡ Some l
+          → link_of l.number (cond t (x ∷ filter (λ k. nat_lt k.number l.number) links) (filter (λ k. nat_lt k.number l.number) links) ++ l ∷ above) ≡ Some l
+      by_test true t later = by_number (x.number == l.number) refl (ltb-true x.number l.number t) later
+      by_test false t later = later
+
+  -- what was left out isn't found
+  left-out : (n : ℕ) (links : List (Link Stage)) → link_of n (without_link n links) ≡ None
+  left-out n [] = refl
+  left-out n (x ∷ links) = by_test (x.number == n) refl (left-out n links)
+    where
+      by_test : (t : Bool) → (x.number == n) ≡ t → link_of n (without_link n links) ≡ None → link_of n (cond (not t) (x ∷ without_link n links) (without_link n links)) ≡ None
+      by_test true t later = later
+      by_test false t later = subst (λ (b : Bool). cond b (Some x) (link_of n (without_link n links)) ≡ None) (sym t) later
+
+  -- what is found behind others are left out was there before
+  left-less : (n k : ℕ) (links : List (Link Stage)) → length (untaken_on (link_of n (without_link k links))) ≤ length (untaken_on (link_of n links))
+  left-less n k [] = omega arith
+  left-less n k (x ∷ links) = by_tests (x.number == n) (x.number == k) refl refl (left-less n k links)
+    where
+      by_tests : (t u : Bool) → (x.number == n) ≡ t → (x.number == k) ≡ u → length (untaken_on (link_of n (without_link k links))) ≤ length (untaken_on (link_of n links))
+          → length (untaken_on (link_of n (cond (not u) (x ∷ without_link k links) (without_link k links)))) ≤ length (untaken_on (cond t (Some x) (link_of n links)))
+      by_tests true true a b later =
+          let same = eqb-true x.number n a in
+          let other = eqb-true x.number k b in
+          let none : link_of n (without_link k links) ≡ None = subst (λ (m : ℕ). link_of n (without_link m links) ≡ None) (sym same ∙ other) (left-out n links) in
+          subst (λ (o : Option (Link Stage)). length (untaken_on o) ≤ length (ahead_of x)) (sym none) (omega arith)
+      by_tests false true a b later = later
+      by_tests true false a b later =
+          subst (λ (c : Bool). length (untaken_on (cond c (Some x) (link_of n (without_link k links)))) ≤ length (ahead_of x)) (sym a) (omega arith)
+      by_tests false false a b later =
+          subst (λ (c : Bool). length (untaken_on (cond c (Some x) (link_of n (without_link k links)))) ≤ length (untaken_on (link_of n links))) (sym a) later
+
+  -- what a row that took of a link leaves
+  links-less : (links : List (Link Stage)) (n : ℕ) (bytes : List ℕ) (link : Link Stage) (kept : Option (Link Stage)) → link.number ≡ n → Takes link kept
+      → length (untaken_on (link_of n (links_behind links link.number bytes kept))) < length (ahead_of link)
+  links-less links n bytes link None e h =
+      let none : link_of n (without_link link.number links) ≡ None = subst (λ (m : ℕ). link_of n (without_link m links) ≡ None) (sym e) (left-out n links) in
+      subst (λ (o : Option (Link Stage)). length (untaken_on o) < length (ahead_of link)) (sym none) h
+  links-less links n bytes link (Some l) e h =
+      let sent : Link Stage = record l { sent = l.sent ++ bytes } in
+      let same : l.number ≡ n = h.0 ∙ e in
+      let there : link_of n (put_link sent links) ≡ Some sent =
+      subst (λ (m : ℕ). link_of m (put_link sent links) ≡ Some sent) same (put-found sent links (filter (λ k. nat_lt sent.number k.number) links))
+      in
+      subst (λ (o : Option (Link Stage)). length (untaken_on o) < length (ahead_of link)) (sym there) h.1
+
+-- ---- a turn
+
+module _ {Own Stage : Type 0} where
+  turns-less : (before : Node Own Stage) (n : ℕ) (a : Arrival Own Stage) (t : Turned Own Stage) → a.link.number ≡ n → TurnTakes a.link t
+      → (rows.turns before a t).out.turned ≡ true → length (untaken_on (link_of n (rows.turns before a t).state.links)) < length (ahead_of a.link)
+  turns-less before n a Waits e h t = absurd cc
+  turns-less before n a (Refuses why opened) e h t = absurd cc
+  turns-less before n a (Handles row) e h t = links-less before.links n row.sends a.link row.link e h
+
+  turns-open : (before : Node Own Stage) (a : Arrival Own Stage) (t : Turned Own Stage) → (rows.turns before a t).out.opens ≡ []
+  turns-open before a Waits = refl
+  turns-open before a (Refuses why opened) = refl
+  turns-open before a (Handles row) = refl
+
+-- a turn of a node opens no link, and takes of its own where it handles something
+pub record TurnsLess {Own Stage : Type 0} (n : ℕ) (found : Option (Link Stage)) (o : Outcome (Node Own Stage)) : Type 0 where
+  pub opens : o.out.opens ≡ []
+  pub less : o.out.turned ≡ true → length (untaken_on (link_of n o.state.links)) < length (untaken_on found)
+
+monitor-less : (m : MonitorNode) (n reading : ℕ) (draw : List ℕ) (found : Option (Link MonitorStage)) → link_of n m.links ≡ found → TurnsLess n found (turn m reading draw found)
+monitor-less m n reading draw None e = record { opens = refl; less = λ t. absurd cc }
+monitor-less m n reading draw (Some link) e =
+    let a : MonitorArrival = arrival node.Monitor m.own link reading draw in
+    record {
+      opens = turns-open m a (turned_at a link.stage);
+      less = turns-less m n a (turned_at a link.stage) (found-number n m.links link e) (monitor-takes a link.stage);
+    }
+
+client-less : (c : ClientNode) (n reading : ℕ) (draw : List ℕ) (found : Option (Link connector.Stage)) → link_of n c.links ≡ found
+    → TurnsLess n found (client.turn c reading draw found)
+client-less c n reading draw None e = record { opens = refl; less = λ t. absurd cc }
+client-less c n reading draw (Some link) e =
+    let a : Arrival Client connector.Stage = arrival (me c.own) c.own link reading draw in
+    let t : Turned Client connector.Stage = lifted_turn (with_asker c.own) (connector.turned_at (arrival (me c.own) c.own.asker link reading draw) link.stage) in
+    record {
+      opens = turns-open c a t;
+      less = turns-less c n a t (found-number n c.links link e)
+          (lifted-takes (with_asker c.own) link (connector.turned_at (arrival (me c.own) c.own.asker link reading draw) link.stage) (asker-takes (arrival (me c.own) c.own.asker link reading draw) link.stage));
+    }
+
+-- ---- a step
+
+-- so does the step of a node among the others; only the monitor's save fails
+pub record StepsLess (nodes : Nodes) (n : ℕ) (who : NodeName) (s : Stepped) : Type 0 where
+  pub opens : s.out.opens ≡ []
+  pub failed : s.failed ≡ true → who ≡ node.Monitor
+  pub less : s.out.turned ≡ true → length (untaken_at s.nodes n who) < length (untaken_at nodes n who)
+
+monitor-steps : (nodes : Nodes) (n : ℕ) (o : Outcome MonitorNode) (leaving : Option LeftState) (saved : Option KeptState) → TurnsLess n (link_of n nodes.monitor.links) o
+    → StepsLess nodes n node.Monitor (monitor_steps nodes o leaving saved)
+monitor-steps nodes n o (Some left.Old) (Some saved) h = record { opens = refl; failed = λ t. refl; less = h.less }
+monitor-steps nodes n o (Some left.New) (Some saved) h = record { opens = refl; failed = λ t. refl; less = h.less }
+monitor-steps nodes n o (Some leaving) None h = record { opens = h.opens; failed = λ t. refl; less = h.less }
+monitor-steps nodes n o None (Some saved) h = record { opens = h.opens; failed = λ t. refl; less = h.less }
+monitor-steps nodes n o None None h = record { opens = h.opens; failed = λ t. refl; less = h.less }
+
+-- the client of a name, where all of that name are replaced
+replaced : (P : Option ClientNode → Type 0) (name : Name) (c : ClientNode) (clients : List ClientNode) → P None → P (Some c)
+    → P (find (is_of name) (map (λ x. if is_of name x then c else x) clients))
+replaced P name c [] none some = none
+replaced P name c (x ∷ clients) none some = by_test (is_of name x) refl (replaced P name c clients none some)
+  where
+    by_own : (b : Bool) → P (find (is_of name) (map (λ x. if is_of name x then c else x) clients))
+        → P (cond b (Some c) (find (is_of name) (map (λ x. if is_of name x then c else x) clients)))
+    by_own true later = some
+    by_own false later = later
+
+    by_test : (t : Bool) → is_of name x ≡ t → P (find (is_of name) (map (λ x. if is_of name x then c else x) clients))
+        → P (cond (is_of name (cond t c x)) (Some (cond t c x)) (find (is_of name) (map (λ x. if is_of name x then c else x) clients)))
+    by_test true t later = by_own (is_of name c) later
+    by_test false t later = subst (λ (b : Bool). P (cond b (Some x) (find (is_of name) (map (λ x. if is_of name x then c else x) clients)))) (sym t) later
+
+client-steps : (w : World) (n : ℕ) (seat : Seat) (name : Name) (found : Option ClientNode) → client_of name w.nodes ≡ found
+    → StepsLess w.nodes n (node.Entity name) (client_steps w.nodes (happening w (Turn n) seat) name found)
+client-steps w n seat name None e = record { opens = refl; failed = λ t. absurd cc; less = λ t. absurd cc }
+client-steps w n seat name (Some c) e =
+    let h : Happening = happening w (Turn n) seat in
+    let o : Outcome ClientNode = client_rule c (Turn n) h.reading h.draw in
+    let turned : TurnsLess n (link_of n c.links) o = client-less c n h.reading h.draw (link_of n c.links) refl in
+    let IsLess : Option ClientNode → Type 0 = λ x. length (untaken_to n x) < length (untaken_to n (client_of name w.nodes)) in
+    record {
+      opens = turned.opens;
+      failed = λ t. absurd cc;
+      less = λ t.
+          let own : IsLess (Some o.state) = subst (λ (x : Option ClientNode). length (untaken_to n (Some o.state)) < length (untaken_to n x)) (sym e) (turned.less t) in
+          let none : IsLess None = omega arith in
+          replaced IsLess name o.state w.nodes.clients none own;
+    }
+
+steps-less : (w : World) (n : ℕ) (seat : Seat) (who : NodeName) → StepsLess w.nodes n who (steps_of w.nodes (happening w (Turn n) seat) who)
+steps-less w n seat node.Monitor =
+    let h : Happening = happening w (Turn n) seat in
+    let m : MonitorNode = w.nodes.monitor in
+    let o : Outcome MonitorNode = monitor_rule m (Turn n) h.reading h.draw in
+    monitor-steps w.nodes n o h.left o.out.save (monitor-less (noted m) n h.reading h.draw (link_of n m.links) refl)
+steps-less w n seat (node.Entity name) = client-steps w n seat name (client_of name w.nodes) refl
+
+-- ---- the node of a seat
+
+same-is : (a b : NodeName) → same_node a b ≡ true → a ≡ b
+same-is node.Monitor node.Monitor e = refl
+same-is (node.Entity a) (node.Entity b) e = ap (λ (x : Name). node.Entity x) (same_name_is a b e)
+same-is node.Monitor (node.Entity b) e = absurd cc
+same-is (node.Entity a) node.Monitor e = absurd cc
+
+seat-is : (who : NodeName) (seats : List Seat) (seat : Seat) → seat_of who seats ≡ Some seat → seat.node ≡ who
+seat-is who [] seat e = absurd cc
+seat-is who (x ∷ seats) seat e = by_test (same_node x.node who) refl e (seat-is who seats seat)
+  where
+    by_test : (t : Bool) → same_node x.node who ≡ t → cond t (Some x) (seat_of who seats) ≡ Some seat → (seat_of who seats ≡ Some seat → seat.node ≡ who) → seat.node ≡ who
+    by_test true t e later = let same : x ≡ seat = cc in subst (λ (y : Seat). y.node ≡ who) same (same-is x.node who t)
+    by_test false t e later = later e
+
+-- ---- a monitor that starts again, and links that vanish
+
+module _ (n : ℕ) where
+  -- how much is left to be taken of this link at the monitor
+  abbrev left_there : World → ℕ
+  left_there w = length (untaken_on (link_of n w.nodes.monitor.links))
+
+  monitor-links : (nodes : Nodes) (o : Outcome MonitorNode) (leaving : Option LeftState) (saved : Option KeptState)
+      → (monitor_steps nodes o leaving saved).nodes.monitor.links ≡ o.state.links
+  monitor-links nodes o (Some left.Old) (Some saved) = refl
+  monitor-links nodes o (Some left.New) (Some saved) = refl
+  monitor-links nodes o (Some leaving) None = refl
+  monitor-links nodes o None (Some saved) = refl
+  monitor-links nodes o None None = refl
+
+  client-apart : (nodes : Nodes) (h : Happening) (name : Name) (found : Option ClientNode) → (client_steps nodes h name found).nodes.monitor ≡ nodes.monitor
+  client-apart nodes h name None = refl
+  client-apart nodes h name (Some c) = refl
+
+  -- an event that leaves the monitor no more than before
+  step-less : (w : World) (input : Input) (seat : Seat) (who : NodeName)
+      → ((reading : ℕ) (draw : List ℕ) → length (untaken_on (link_of n (monitor_rule w.nodes.monitor input reading draw).state.links)) ≤ left_there w)
+      → length (untaken_on (link_of n (steps_of w.nodes (happening w input seat) who).nodes.monitor.links)) ≤ left_there w
+  step-less w input seat node.Monitor each =
+      let h : Happening = happening w input seat in
+      let o : Outcome MonitorNode = monitor_rule w.nodes.monitor input h.reading h.draw in
+      subst (λ (links : List (Link MonitorStage)). length (untaken_on (link_of n links)) ≤ left_there w) (sym (monitor-links w.nodes o h.left o.out.save)) (each h.reading h.draw)
+  step-less w input seat (node.Entity name) each =
+      subst (λ (m : MonitorNode). length (untaken_on (link_of n m.links)) ≤ left_there w) (sym (client-apart w.nodes (happening w input seat) name (client_of name w.nodes))) (omega arith)
+
+  given-less : (w : World) (input : Input) (seat : Option Seat)
+      → ((reading : ℕ) (draw : List ℕ) → length (untaken_on (link_of n (monitor_rule w.nodes.monitor input reading draw).state.links)) ≤ left_there w)
+      → left_there (given w input seat).world ≤ left_there w
+  given-less w input None each = omega arith
+  given-less w input (Some seat) each = step-less w input seat seat.node each
+
+  tells-gone-less : (w : World) (who : NodeName) (k : ℕ) → left_there (tells w who (Gone k)) ≤ left_there w
+  tells-gone-less w who k = given-less w (Gone k) (seat_of who w.seats) (λ reading draw. left-less n k w.nodes.monitor.links)
+
+  gone-less : (w : World) (wire : Wire) (side : Side) → left_there (tells_gone w wire side) ≤ left_there w
+  gone-less w wire side = by_test (end_of wire side).lives
+    where
+      by_test : (lives : Bool) → left_there (if lives then tells w (node_at wire side) (Gone wire.number) else w) ≤ left_there w
+      by_test true = tells-gone-less w (node_at wire side) wire.number
+      by_test false = omega arith
+
+  vanish-less : (who : NodeName) (w : World) (wires : List Wire) → left_there (vanish who w wires) ≤ left_there w
+  vanish-less who w [] = omega arith
+  vanish-less who w (wire ∷ wires) =
+      let away : World = record w { wires = with_wire w.wires (ended wire) } in
+      let next : World = tells_gone away wire (far_side who wire) in
+      let first : left_there next ≤ left_there w = gone-less away wire (far_side who wire) in
+      let rest : left_there (vanish who next wires) ≤ left_there next = vanish-less who next wires in
+      omega arith
+
+  restarts-less : (w : World) (who : NodeName) → left_there (restarts w who) ≤ left_there w
+  restarts-less w who =
+      let began : World = tells w who Restart in
+      let first : left_there began ≤ left_there w = given-less w Restart (seat_of who w.seats) (λ reading draw. omega arith) in
+      let rest : left_there (restarts w who) ≤ left_there began = vanish-less who began (filter (has_end who) began.wires) in
+      omega arith
+
+-- ---- all that follows of a turn
+
+followed-less : (who : NodeName) (g : Given) (n : ℕ) → g.out.opens ≡ [] → (g.failed ≡ true → who ≡ node.Monitor)
+    → length (untaken_at (followed who g).nodes n who) ≤ length (untaken_at g.world.nodes n who)
+followed-less who g n opens failed = by_test g.failed failed
+  where
+    by_test : (f : Bool) → (f ≡ true → who ≡ node.Monitor)
+        → length (untaken_at (if f then restarts (record g.world { left = None }) who else open_all (carried g.world who g.out) (opened_wires who (length g.world.wires) g.out.opens)).nodes n who)
+        ≤ length (untaken_at g.world.nodes n who)
+    by_test true f =
+        subst (λ (x : NodeName). length (untaken_at (restarts (record g.world { left = None }) x).nodes n x) ≤ length (untaken_at g.world.nodes n x)) (sym (f refl))
+        (restarts-less n (record g.world { left = None }) node.Monitor)
+    by_test false f =
+        subst (λ (peers : List Peer). length (untaken_at (open_all (carried g.world who g.out) (opened_wires who (length g.world.wires) peers)).nodes n who) ≤ length (untaken_at g.world.nodes n who))
+        (sym opens) (omega arith)
+
+pub takes : (w : World) (who : NodeName) (n : ℕ) → (gives w who (Turn n)).out.turned ≡ true
+    → length (untaken_at (followed who (gives w who (Turn n))).nodes n who) < length (untaken_at w.nodes n who)
+takes w who n = by_seat (seat_of who w.seats) refl
+  where
+    by_seat : (found : Option Seat) → seat_of who w.seats ≡ found → (given w (Turn n) found).out.turned ≡ true
+        → length (untaken_at (followed who (given w (Turn n) found)).nodes n who) < length (untaken_at w.nodes n who)
+    by_seat None e t = absurd cc
+    by_seat (Some seat) e t =
+        let s : Stepped = steps w.nodes (happening w (Turn n) seat) in
+        let stepped : StepsLess w.nodes n who s = subst (λ (x : NodeName). StepsLess w.nodes n x s) (seat-is who w.seats seat e) (steps-less w n seat seat.node) in
+        let first = stepped.less t in
+        let rest = followed-less who (given w (Turn n) (Some seat)) n stepped.opens stepped.failed in
+        omega arith
+
+-- ---- turns
+
+-- a list that is longer than what is left is no better
+longer : (w : World) (who : NodeName) (n : ℕ) (fuel : List ℕ) (x : ℕ) → length (untaken_at w.nodes n who) ≤ length fuel → turns w who n (x ∷ fuel) ≡ turns w who n fuel
+longer w who n [] x le = by_turned (gives w who (Turn n)).out.turned (takes w who n)
+  where
+    by_turned : (t : Bool) → (t ≡ true → length (untaken_at (followed who (gives w who (Turn n))).nodes n who) < length (untaken_at w.nodes n who))
+        → (if t then turns (followed who (gives w who (Turn n))) who n [] else followed who (gives w who (Turn n))) ≡ followed who (gives w who (Turn n))
+    by_turned true less = let some = less refl in absurd (omega arith)
+    by_turned false less = refl
+longer w who n (y ∷ fuel) x le = by_turned (gives w who (Turn n)).out.turned (takes w who n) (longer (followed who (gives w who (Turn n))) who n fuel y)
+  where
+    by_turned : (t : Bool) → (t ≡ true → length (untaken_at (followed who (gives w who (Turn n))).nodes n who) < length (untaken_at w.nodes n who))
+        → (length (untaken_at (followed who (gives w who (Turn n))).nodes n who) ≤ length fuel
+        → turns (followed who (gives w who (Turn n))) who n (y ∷ fuel) ≡ turns (followed who (gives w who (Turn n))) who n fuel)
+        → (if t then turns (followed who (gives w who (Turn n))) who n (y ∷ fuel) else followed who (gives w who (Turn n)))
+        ≡ (if t then turns (followed who (gives w who (Turn n))) who n fuel else followed who (gives w who (Turn n)))
+    by_turned true less later = let some = less refl in later (omega arith)
+    by_turned false less later = refl
+
+pub unrolls : (w : World) (who : NodeName) (n : ℕ) (fuel : List ℕ) → length (untaken_at w.nodes n who) ≤ length fuel
+    → turns w who n fuel ≡ (if (gives w who (Turn n)).out.turned then turns (followed who (gives w who (Turn n))) who n fuel else followed who (gives w who (Turn n)))
+unrolls w who n [] le = sym (longer w who n [] 0 le)
+unrolls w who n (x ∷ fuel) le = by_turned (gives w who (Turn n)).out.turned (takes w who n)
+  where
+    by_turned : (t : Bool) → (t ≡ true → length (untaken_at (followed who (gives w who (Turn n))).nodes n who) < length (untaken_at w.nodes n who))
+        → (if t then turns (followed who (gives w who (Turn n))) who n fuel else followed who (gives w who (Turn n)))
+        ≡ (if t then turns (followed who (gives w who (Turn n))) who n (x ∷ fuel) else followed who (gives w who (Turn n)))
+    by_turned true less =
+        let some = less refl in
+        let few : length (untaken_at (followed who (gives w who (Turn n))).nodes n who) ≤ length fuel = omega arith in
+        sym (longer (followed who (gives w who (Turn n))) who n fuel x few)
+    by_turned false less = refl
+
+-- ---- what came
+
+link-enough : {Stage : Type 0} (l : Link Stage) → length (ahead_of l) ≤ length l.received
+link-enough l = omega (arith, length-drop l.taken l.received)
+
+pub enough : (nodes : Nodes) (n : ℕ) (who : NodeName) → length (untaken_at nodes n who) ≤ length (came_at nodes n who)
+enough nodes n node.Monitor = by_link (link_of n nodes.monitor.links)
+  where
+    by_link : (found : Option (Link MonitorStage)) → length (untaken_on found) ≤ length (came_on found)
+    by_link None = omega arith
+    by_link (Some l) = link-enough l
+enough nodes n (node.Entity name) = by_client (client_of name nodes)
+  where
+    by_link : (found : Option (Link connector.Stage)) → length (untaken_on found) ≤ length (came_on found)
+    by_link None = omega arith
+    by_link (Some l) = link-enough l
+
+    by_client : (found : Option ClientNode) → length (untaken_to n found) ≤ length (came_to n found)
+    by_client None = omega arith
+    by_client (Some c) = by_link (link_of n c.links)

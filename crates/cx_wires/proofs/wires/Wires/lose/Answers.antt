@@ -1,0 +1,22 @@
+use Rattle.std.proofs.Common.{◌≡◌, ℕ, ◌<◌, ◌+◌, List, length, get_or, Some, refl, ap, ◌∙◌}
+use Rattle.cx_run.specs.Wires.{Wire, wire_of}
+use Rattle.cx_wires.proofs.Numbers.{Stands, stands, lost_there, pieces_number}
+use Rattle.cx_wires.proofs.wires.Wires.lose.Goals as goal
+
+pub invariant_of-self : goal.invariant_of-self
+invariant_of-self c =
+    let items : List Wire = c.self.inside.held.items in
+    let old : Wire = c.index_mut-wire.result.now in
+    let new : Wire = c.lose_first.new.self in
+    let within = rw c.as_slice.ensures.value at c.in-Some.ensures.some.0 in
+    let at : Stands items c.args.number c.in-Some.place old new = stands items c.args.number c.in-Some.place old new c.self.invariant within c.in-Some.ensures.some.1 c.index_mut-wire.ensures.value (ap (λ (w : Wire). w.number) c.lose_first.ensures ∙ pieces_number c.args.side old _) in
+    at.numbered
+
+pub returns-in-Some : goal.returns-in-Some
+returns-in-Some c =
+    let items : List Wire = c.self.inside.held.items in
+    let old : Wire = c.index_mut-wire.result.now in
+    let new : Wire = c.lose_first.new.self in
+    let within = rw c.as_slice.ensures.value at c.in-Some.ensures.some.0 in
+    let at : Stands items c.args.number c.in-Some.place old new = stands items c.args.number c.in-Some.place old new c.self.invariant within c.in-Some.ensures.some.1 c.index_mut-wire.ensures.value (ap (λ (w : Wire). w.number) c.lose_first.ensures ∙ pieces_number c.args.side old _) in
+    rw (← c.self.view_is) (lost_there items c.args.number c.in-Some.place old new at c.index_mut-wire.ensures.value c.args.side c.lose_first.ensures)

@@ -1,0 +1,231 @@
+//! The links of a run.
+
+ghost use Rattle.std.specs.Prelude.{ℕ, suc, ◌≡◌, ◌<◌, List, [], ◌∷◌, ◌++◌, drop, length, Some, None, IfOk, OnOk, OnErr};
+ghost use Rattle.std.specs.Option.{option_copied};
+ghost use Rattle.cx_run.specs.Deliveries.{under_way};
+ghost use Rattle.cx_run.specs.Schedules.{ever_sent};
+ghost use Rattle.cx_run.specs.Wires.{ended, gone_at, new_wire, wire_of};
+ghost use Rattle.cx_run.specs.Worlds.{sends_all, sends_piece, shuts_all, shuts_link};
+ghost use Rattle.cx_wires.specs.Ends.{arriving};
+ghost use Rattle.cx_wires.specs.Tables.{AreNumbered, IsSentInPart, lost_on, owed, taken_on, with_changed};
+
+use crate::places::place_of;
+use crate::wire::Wire;
+use cx_base::Blob;
+use cx_journal::NodeName;
+use cx_places::Side;
+use cx_steps::Piece;
+use std::alloc::{AllocError, Global};
+use std::marker::Model;
+
+/// The links of a run, numbered from 1 in the order in which they opened. A link stays here when both of its ends are gone.
+#[derive(Drop)]
+pub struct Wires {
+    held: Vec<Wire>,
+}
+
+impl Model for Wires {
+    ghost use Rattle.std.specs.Prelude.{List};
+    ghost use Rattle.cx_run.specs.Wires.{Wire as Link};
+
+    ghost Value = { List Link };
+
+    ghost use Rattle.cx_wires.specs.Tables.{AreNumbered};
+
+    ghost view = { λ w. w.held.items };
+
+    ghost invariant = { λ w. AreNumbered 1 w.held.items };
+}
+
+impl Wires {
+    /// No links.
+    pub fn new(alloc: Global) -> Wires
+        ensures { result ≡ [] }
+    {
+        Wires {
+            held: Vec::new(alloc),
+        }
+    }
+
+    /// How many links there are, which is the number of the last one.
+    pub fn len(&self) -> usize
+        ensures value { result ≡ length self.now }
+        ensures numbered { AreNumbered 1 self.now }
+    {
+        self.held.len()
+    }
+
+    /// The link of a number.
+    pub fn get(&self, number: u64) -> Option<&Wire>
+        ensures { option_copied result ≡ wire_of number self.now }
+    {
+        match place_of(self.held.as_slice(), number) {
+            Some(place) => Some(&self.held[place]),
+            None => None,
+        }
+    }
+
+    /// How many pieces are under way from a side of a link.
+    pub fn under_way(&self, number: u64, side: Side) -> usize
+        ensures { result ≡ length (under_way side (wire_of number self.now)) }
+    {
+        match self.get(number) {
+            Some(wire) => wire.under_way(side),
+            None => 0,
+        }
+    }
+
+    /// Whether the other end of a link is still to be told that this one is gone.
+    pub fn owes_gone(&self, number: u64, side: Side) -> bool
+        ensures { result ≡ owed side (wire_of number self.now) }
+    {
+        match self.get(number) {
+            Some(wire) => wire.owes_gone(side),
+            None => false,
+        }
+    }
+
+    /// The piece of a number, from 1, among all that a side of a link ever sent.
+    pub fn ever_sent(&self, number: u64, side: Side, place: u64) -> Option<&Blob>
+        ensures { option_copied result ≡ ever_sent place side (wire_of number self.now) }
+    {
+        let wire = self.get(number)?;
+        if place == 0 {
+            return None;
+        }
+        wire.ever_sent(side, (place - 1) as usize)
+    }
+
+    /// A link opens. It gets the next number; where none is left, memory counts as wanting.
+    pub fn open(
+        &mut self,
+        alloc: Global,
+        connecting: NodeName,
+        accepting: NodeName,
+    ) -> Result<u32, AllocError>
+        ensures number { IfOk result (λ number. number ≡ suc (length self.old)) }
+        ensures ok { OnOk result (self.new ≡ self.old ++ new_wire (suc (length self.old)) connecting accepting ∷ []) }
+        ensures err { OnErr result (self.new ≡ self.old) }
+    {
+        let before = self.held.len();
+        if before >= u32::MAX as usize {
+            return Err(AllocError);
+        }
+        let number = before as u32 + 1;
+        let wire = Wire::new(alloc, number, connecting, accepting);
+        self.held.push(wire)?;
+        Ok(number)
+    }
+
+    /// A node sends these pieces, each on its link. Where memory is wanting, some of the first ones were sent.
+    pub fn send(
+        &mut self,
+        alloc: Global,
+        who: &NodeName,
+        pieces: &[Piece],
+    ) -> Result<(), AllocError>
+        ensures ok { OnOk result (self.new ≡ sends_all who.now self.old pieces.now) }
+        ensures err { OnErr result (IsSentInPart who.now self.old pieces.now self.new) }
+    {
+        for piece in pieces {
+            self.send_piece(alloc, who, piece)?;
+        }
+        Ok(())
+    }
+
+    fn send_piece(&mut self, alloc: Global, who: &NodeName, piece: &Piece) -> Result<(), AllocError>
+        ensures ok { OnOk result (self.new ≡ sends_piece who.now self.old piece.now (wire_of piece.now.link self.old)) }
+        ensures err { OnErr result (self.new ≡ self.old) }
+    {
+        match place_of(self.held.as_slice(), u64::from(piece.link)) {
+            Some(place) => {
+                let wire = &mut self.held[place];
+                let side = wire.side_of(who);
+                wire.send(alloc, side, &piece.bytes)
+            }
+            None => Ok(()),
+        }
+    }
+
+    /// A node shuts these links: each is gone at its end.
+    pub fn shut(&mut self, who: &NodeName, numbers: &[u32])
+        ensures { self.new ≡ shuts_all who.now self.old numbers.now }
+    {
+        for number in numbers {
+            self.shut_link(who, *number);
+        }
+    }
+
+    fn shut_link(&mut self, who: &NodeName, number: u32)
+        ensures { self.new ≡ shuts_link who.now self.old (wire_of number self.old) }
+    {
+        match place_of(self.held.as_slice(), u64::from(number)) {
+            Some(place) => {
+                let wire = &mut self.held[place];
+                let side = wire.side_of(who);
+                wire.go(side);
+            }
+            None => {}
+        }
+    }
+
+    /// A link is gone at an end.
+    pub fn go(&mut self, number: u64, side: Side)
+        ensures { self.new ≡ with_changed (λ w. gone_at w side) number self.old }
+    {
+        match place_of(self.held.as_slice(), number) {
+            Some(place) => {
+                let wire = &mut self.held[place];
+                wire.go(side);
+            }
+            None => {}
+        }
+    }
+
+    /// A link is gone at both ends.
+    pub fn end(&mut self, number: u64)
+        ensures { self.new ≡ with_changed ended number self.old }
+    {
+        match place_of(self.held.as_slice(), number) {
+            Some(place) => {
+                let wire = &mut self.held[place];
+                wire.end_both();
+            }
+            None => {}
+        }
+    }
+
+    /// The oldest piece under way from a side of a link is lost, if there is one.
+    pub fn lose(&mut self, number: u64, side: Side)
+        ensures { self.new ≡ lost_on side self.old (wire_of number self.old) }
+    {
+        match place_of(self.held.as_slice(), number) {
+            Some(place) => {
+                let wire = &mut self.held[place];
+                wire.lose_first(side);
+            }
+            None => {}
+        }
+    }
+
+    /// The oldest piece under way from a side of a link arrives, or so many first bytes of it: these are given.
+    pub fn take(
+        &mut self,
+        alloc: Global,
+        number: u64,
+        side: Side,
+        n: Option<u64>,
+    ) -> Result<Option<Blob>, AllocError>
+        ensures value { IfOk result (λ bytes. bytes ≡ arriving n (under_way side (wire_of number self.old))) }
+        ensures ok { OnOk result (self.new ≡ taken_on side n self.old (wire_of number self.old)) }
+        ensures err { OnErr result (self.new ≡ self.old) }
+    {
+        match place_of(self.held.as_slice(), number) {
+            Some(place) => {
+                let wire = &mut self.held[place];
+                wire.take(alloc, side, n)
+            }
+            None => Ok(None),
+        }
+    }
+}
