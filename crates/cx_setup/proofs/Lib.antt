@@ -1,0 +1,5 @@
+pub mod Changing
+pub mod Enrolling
+pub mod Following
+pub mod Held
+pub mod Naming

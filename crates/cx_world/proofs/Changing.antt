@@ -1,0 +1,25 @@
+-- A world whose links, or whose failing save or line, are changed.
+use Rattle.std.proofs.Common.{◌≡◌, ℕ, false, List, length, Option, Some, None, refl, arith}
+use Rattle.std.proofs.lemmas.Bool.Decides.{nat_tests}
+use Rattle.cx_places.specs.declared.choices.LeftState.{LeftState}
+use Rattle.cx_run.specs.Wires.{Wire}
+use Rattle.cx_run.specs.Worlds.{World}
+use Rattle.cx_world.specs.Carried.{Began, Carries}
+use Rattle.cx_world.specs.declared.world.World.{World as Held}
+
+module _ (b : Began) (seen : Option ℕ) (held : Held) (w : World) (k : Carries b seen held w) where
+  pub wired : (new wires : List Wire) → new ≡ wires → (let h : Held = record held { wires = new } in let v : World = record w { wires = wires } in Carries b seen h v)
+  wired new wires e = record { nodes = k.nodes; led = k.led; wires = e; left = k.left; line = k.line; told = k.told; stirred = k.stirred }
+
+  pub leaves : (left : Option LeftState) → (let h : Held = record held { left = left } in let v : World = record w { left = left } in Carries b seen h v)
+  leaves left = record { nodes = k.nodes; led = k.led; wires = k.wires; left = refl; line = k.line; told = k.told; stirred = k.stirred }
+
+  pub at_line : (line : ℕ) → (let h : Held = record held { line = line } in let v : World = record w { line = line } in Carries b seen h v)
+  at_line line = record { nodes = k.nodes; led = k.led; wires = k.wires; left = k.left; line = refl; told = k.told; stirred = k.stirred }
+
+  pub unasked : Carries b None held w
+  unasked = record { nodes = k.nodes; led = k.led; wires = k.wires; left = k.left; line = k.line; told = k.told; stirred = tt }
+
+  -- from here on it is asked whether something happens
+  pub asked : (let h : Held = record held { stirred = false } in Carries b (Some (length w.past)) h w)
+  asked = record { nodes = k.nodes; led = k.led; wires = k.wires; left = k.left; line = k.line; told = k.told; stirred = (omega arith, grind (arith, nat_tests)) }

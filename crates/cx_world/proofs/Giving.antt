@@ -1,0 +1,133 @@
+-- A world behind an event of one node.
+use Rattle.std.proofs.Common.{◌≡◌, ℕ, ◌+◌, ◌≤◌, Bool, true, false, List, [], ◌∷◌, ◌++◌, length, map, Option, Some, None, refl, sym, subst, ap, ◌∙◌, arith, append-nil, append_assoc, length-append}
+use Rattle.std.specs.Prelude.{◌==◌, ◌||◌, not}
+use Rattle.std.proofs.lemmas.Bool.Decides.{nat_tests}
+use Rattle.std.proofs.lemmas.List.{map-append}
+use Rattle.cx_journal.specs.declared.entries.Entry.{Entry}
+use Rattle.cx_journal.specs.declared.node_names.NodeName.{NodeName}
+use Rattle.cx_nodes.proofs.Keyed.{key_found, same_node_is}
+use Rattle.cx_nodes.specs.Held.{IsGiven, is_seated}
+use Rattle.cx_nodes.specs.declared.made.Made.{Made}
+use Rattle.cx_nodes.specs.declared.nodes.Nodes.{Nodes as HeldNodes}
+use Rattle.cx_premises.specs.Ledgers.{StandsFor}
+use Rattle.cx_rules.specs.Inputs.{Input}
+use Rattle.cx_run.specs.Deliveries.{Given, given, gives}
+use Rattle.cx_run.specs.Happenings.{Entered, Happening, Nodes, Stepped, entered_by, journal_from, logged_by, nodes_behind, seals_from, steps}
+use Rattle.cx_run.specs.Wires.{same_node}
+use Rattle.cx_run.specs.Worlds.{Seat, World, happened, happening, seat_of}
+use Rattle.cx_steps.specs.Nothing.{nothing}
+use Rattle.cx_steps.specs.declared.effects.Effects.{Effects}
+use Rattle.cx_steps.specs.declared.seals.Logged.{Logged}
+use Rattle.cx_steps.specs.declared.seals.SealEntry.{SealEntry}
+use Rattle.cx_world.specs.Carried.{Began, Carries, HasStirred, IsGivenTo, IsNoted}
+use Rattle.cx_world.specs.Logs.{logged_at}
+use Rattle.cx_world.specs.declared.world.World.{World as Held}
+
+-- ---- one event more
+
+nodes_more : (start : Nodes) (hs : List Happening) (h : Happening) → nodes_behind start (hs ++ h ∷ []) ≡ (steps (nodes_behind start hs) h).nodes
+nodes_more start [] h = refl
+nodes_more start (x ∷ hs) h = nodes_more (steps start x).nodes hs h
+
+journal_more : (start : Nodes) (hs : List Happening) (h : Happening) → journal_from start (hs ++ h ∷ []) ≡ journal_from start hs ++ entered_by h (steps (nodes_behind start hs) h).out
+journal_more start [] h = append-nil (entered_by h (steps start h).out)
+journal_more start (x ∷ hs) h =
+    ap (λ (es : List Entered). entered_by x (steps start x).out ++ es) (journal_more (steps start x).nodes hs h)
+    ∙ sym (append_assoc (entered_by x (steps start x).out) (journal_from (steps start x).nodes hs) (entered_by h (steps (nodes_behind (steps start x).nodes hs) h).out))
+
+seals_more : (start : Nodes) (hs : List Happening) (h : Happening) → seals_from start (hs ++ h ∷ []) ≡ seals_from start hs ++ logged_by h (steps (nodes_behind start hs) h).out
+seals_more start [] h = append-nil (logged_by h (steps start h).out)
+seals_more start (x ∷ hs) h =
+    ap (λ (es : List Logged). logged_by x (steps start x).out ++ es) (seals_more (steps start x).nodes hs h)
+    ∙ sym (append_assoc (logged_by x (steps start x).out) (seals_from (steps start x).nodes hs) (logged_by h (steps (nodes_behind (steps start x).nodes hs) h).out))
+
+entries_of : (h : Happening) (entries : List Entry) → map (λ (e : Entered). e.entry) (map (λ (e : Entry). let x : Entered = record { line = h.line; reading = h.reading; entry = e } in x) entries) ≡ entries
+entries_of h [] = refl
+entries_of h (e ∷ entries) = ap (λ (rest : List Entry). e ∷ rest) (entries_of h entries)
+
+-- ---- what is told of it
+
+stirs_more : (seen : Option ℕ) (old new : Bool) (past : List Happening) (h : Happening) → new ≡ true → HasStirred old seen past → HasStirred new seen (past ++ h ∷ [])
+stirs_more None old new past h e k = tt
+stirs_more (Some n) old new past h e k =
+    let l : length (past ++ h ∷ []) ≡ length past + 1 = length-append past (h ∷ []) in
+    let m : n ≤ length past = k.0 in
+    (omega arith, rw (e, l) (grind (arith, nat_tests)))
+
+stirs_same : (seen : Option ℕ) (old new : Bool) (past : List Happening) → new ≡ old → HasStirred old seen past → HasStirred new seen past
+stirs_same None old new past e k = tt
+stirs_same (Some n) old new past e k = (k.0, e ∙ k.1)
+
+module _ (b : Began) (seen : Option ℕ) (old new : Held) (nodes : HeldNodes) (who : NodeName) (made : Made)
+    (noted : (let there : Held = record old { nodes = nodes } in IsNoted who made there new)) (w : World) (k : Carries b seen old w) (input : Input) where
+  nothing_came : IsGiven nodes made None (given w input None) → IsGivenTo b seen new made (given w input None)
+  nothing_came g =
+      let out : made.out ≡ nothing = g.out in
+      let quiet : made.happened ≡ false = g.happened in
+      let entries : made.out.entries ≡ [] = ap (λ (o : Effects). o.entries) out in
+      let seals : made.out.seals ≡ [] = ap (λ (o : Effects). o.seals) out in
+      let logged : SealEntry → Logged = λ e. logged_at who old.line e in
+      let P : List Logged → Type 0 = StandsFor new.told.ledger b.leaked in
+      let log : List Logged = b.log ++ seals_from b.nodes w.past in
+      record {
+        world = record {
+          nodes = rw noted.nodes g.nodes;
+          led = k.led;
+          wires = noted.wires ∙ k.wires;
+          left = noted.left ∙ k.left;
+          line = noted.line ∙ k.line;
+          told = record {
+            journal = noted.journal ∙ ap (λ (es : List Entry). old.told.journal ++ es) entries ∙ append-nil old.told.journal ∙ k.told.journal;
+            ledger = subst P (ap (λ (es : List SealEntry). log ++ map logged es) seals ∙ append-nil log) (noted.ledger b.leaked log k.told.ledger);
+          };
+          stirred = stirs_same seen old.stirred new.stirred w.past (noted.stirred ∙ ap (λ (x : Bool). x || old.stirred) quiet) k.stirred;
+        };
+        out = g.out;
+        failed = g.failed;
+      }
+
+  something_came : (seat : Seat) → seat_of who w.seats ≡ Some seat → IsGiven nodes made (Some seat) (given w input (Some seat)) → IsGivenTo b seen new made (given w input (Some seat))
+  something_came seat found g =
+      let h : Happening = happening w input seat in
+      let named : seat.node ≡ who = same_node_is seat.node who (key_found (λ (s : Seat). s.node) same_node w.seats who seat found) in
+      let happens : made.happened ≡ true = g.happened in
+      let out : made.out ≡ (steps w.nodes h).out = g.out in
+      let start : steps w.nodes h ≡ steps (nodes_behind b.nodes w.past) h = ap (λ (n : Nodes). steps n h) k.led in
+      let line : old.line ≡ w.line = k.line in
+      let entries : made.out.entries ≡ map (λ (e : Entered). e.entry) (entered_by h (steps (nodes_behind b.nodes w.past) h).out) =
+      ap (λ (o : Effects). o.entries) (out ∙ ap (λ (s : Stepped). s.out) start) ∙ sym (entries_of h (steps (nodes_behind b.nodes w.past) h).out.entries) in
+      let logged : SealEntry → Logged = λ e. logged_at who old.line e in
+      let logs : map logged made.out.seals ≡ logged_by h (steps (nodes_behind b.nodes w.past) h).out =
+      ap (λ (n : NodeName). map (λ (e : SealEntry). logged_at n old.line e) made.out.seals) (sym named)
+      ∙ ap (λ (l : ℕ). map (λ (e : SealEntry). logged_at seat.node l e) made.out.seals) line
+      ∙ ap (λ (o : Effects). map (λ (e : SealEntry). logged_at seat.node w.line e) o.seals) (out ∙ ap (λ (s : Stepped). s.out) start) in
+      let P : List Logged → Type 0 = StandsFor new.told.ledger b.leaked in
+      let log : List Logged = b.log ++ seals_from b.nodes w.past in
+      record {
+        world = record {
+          nodes = rw noted.nodes g.nodes;
+          led = ap (λ (s : Stepped). s.nodes) start ∙ sym (nodes_more b.nodes w.past h);
+          wires = noted.wires ∙ k.wires;
+          left = noted.left ∙ k.left;
+          line = noted.line ∙ k.line;
+          told = record {
+            journal = noted.journal ∙ ap (λ (es : List Entry). es ++ made.out.entries) k.told.journal
+                ∙ append_assoc b.journal (map (λ (e : Entered). e.entry) (journal_from b.nodes w.past)) made.out.entries
+                ∙ ap (λ (es : List Entry). b.journal ++ es) (ap (λ (es : List Entry). map (λ (e : Entered). e.entry) (journal_from b.nodes w.past) ++ es) entries
+                ∙ sym (map-append (λ (e : Entered). e.entry) (journal_from b.nodes w.past) (entered_by h (steps (nodes_behind b.nodes w.past) h).out))
+                ∙ ap (λ (es : List Entered). map (λ (e : Entered). e.entry) es) (sym (journal_more b.nodes w.past h)));
+            ledger = subst P (ap (λ (es : List Logged). log ++ es) logs ∙ append_assoc b.log (seals_from b.nodes w.past) (logged_by h (steps (nodes_behind b.nodes w.past) h).out)
+                ∙ ap (λ (es : List Logged). b.log ++ es) (sym (seals_more b.nodes w.past h))) (noted.ledger b.leaked log k.told.ledger);
+          };
+          stirred = stirs_more seen old.stirred new.stirred w.past h (noted.stirred ∙ ap (λ (x : Bool). x || old.stirred) happens) k.stirred;
+        };
+        out = g.out;
+        failed = g.failed;
+      }
+
+  pub given_to : IsGiven nodes made (seat_of who w.seats) (gives w who input) → IsGivenTo b seen new made (gives w who input)
+  given_to g = by (seat_of who w.seats) refl g
+    where
+      by : (seat : Option Seat) → seat_of who w.seats ≡ seat → IsGiven nodes made seat (given w input seat) → IsGivenTo b seen new made (given w input seat)
+      by None e g = nothing_came g
+      by (Some seat) e g = something_came seat e g

@@ -1,0 +1,11 @@
+pub mod Arrivals
+pub mod Carrying
+pub mod Changing
+pub mod Giving
+pub mod Logging
+pub mod Making
+pub mod Quiet
+pub mod Rounds
+pub mod Started
+pub mod Turns
+pub mod Vanishing

@@ -1,0 +1,6 @@
+use Rattle.cx_world.specs.Carried.{Makes}
+use Rattle.cx_world.specs.Settling.{delivers_many}
+use Rattle.cx_world.proofs.world.World.drain.Given as goal
+
+abbrev pub invariant-loop : goal.invariant-loop
+invariant-loop l = Makes l.fn.self l.self (delivers_many l.counter l.number l.side)

@@ -1,0 +1,27 @@
+-- The end of a link, as it is told of what comes.
+use Rattle.std.specs.Prelude.{ℕ, Bool, List, if◌then◌else◌}
+use Rattle.cx_journal.specs.declared.node_names.NodeName.{NodeName}
+use Rattle.cx_places.specs.declared.choices.Side.{Side}
+use Rattle.cx_rules.specs.Inputs.{Gone}
+use Rattle.cx_run.specs.Deliveries.{arrives, tells}
+use Rattle.cx_run.specs.Wires.{Wire, end_of, gone_at, node_at, other}
+use Rattle.cx_run.specs.Worlds.{World}
+use Rattle.cx_wires.specs.Tables.{with_changed}
+use Rattle.cx_world.specs.declared.ends.LinkEnd.{LinkEnd}
+
+-- an end of a link as it is now
+abbrev pub end_seen : Wire → Side → LinkEnd
+end_seen wire side = record { number = wire.number; node = node_at wire side; lives = (end_of wire side).lives }
+
+-- it is told that the link is gone, where it lives
+abbrev pub tells_end : World → LinkEnd → World
+tells_end w end = if end.lives then tells w end.node (Gone end.number) else w
+
+-- bytes come to it, where it lives
+abbrev pub arrives_end : World → LinkEnd → List ℕ → World
+arrives_end w end bytes = if end.lives then arrives w end.node end.number bytes else w
+
+-- where it is owed, that a side of the link of a number is gone arrives at its other end
+abbrev pub gone_arriving : Bool → ℕ → Side → LinkEnd → World → World
+gone_arriving owed number side far w =
+    if owed then tells_end (record w { wires = with_changed (λ wire. gone_at wire (other side)) number w.wires }) far else w

@@ -1,0 +1,7 @@
+pub mod Arriving
+pub mod Beginning
+pub mod Carried
+pub mod Ends
+pub mod Events
+pub mod Logs
+pub mod Settling

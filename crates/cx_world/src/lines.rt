@@ -1,0 +1,100 @@
+//! What each line of a schedule does. Lines that no rule serves yet do nothing: fetches, renewals, connects, sends, drops and ticks.
+
+ghost use Rattle.std.specs.Prelude.{◌≡◌, ℕ, Option, IfOk, IsTrue, OnOk};
+ghost use Rattle.cx_rules.specs.Inputs.{Submit};
+ghost use Rattle.cx_journal.specs.declared.node_names.NodeName.TheVariants as node;
+ghost use Rattle.cx_lines.specs.Lines.{is_in_range, is_numbered_in_range};
+ghost use Rattle.cx_lines.specs.declared.commands.Command.TheVariants as command;
+ghost use Rattle.cx_run.specs.Schedules.{acts_on, after_line, services_sum, submits, submitted};
+ghost use Rattle.cx_run.specs.Worlds.{World as RunWorld};
+ghost use Rattle.cx_world.specs.Carried.{Began, Carries, Makes, MakesAlone};
+
+use crate::world::World;
+use cx_base::{Duplicate, EntityName, EntityType};
+use cx_enc::number_of;
+use cx_journal::NodeName;
+use cx_lines::{Command, Line, Numbered};
+use cx_steps::{Command as Told, Event};
+use std::alloc::{AllocError, Global};
+
+// The sum of services, by the numbers of their types. Where it is above those of 32 bits, memory counts as wanting.
+fn services_sum(services: &[EntityType]) -> Result<u32, AllocError>
+    ensures { IfOk result (λ sum. sum ≡ services_sum services.now) }
+{
+    let mut sum: u32 = 0;
+    for service in services {
+        match sum.checked_add(number_of(*service)) {
+            Some(more) => sum = more,
+            None => return Err(AllocError),
+        }
+    }
+    Ok(sum)
+}
+
+impl World {
+    /// A client logs in.
+    fn login(
+        &mut self,
+        alloc: Global,
+        client: &EntityName,
+        services: &[EntityType],
+    ) -> Result<(), AllocError>
+        ensures { OnOk result (Makes self.old self.new (λ w. submitted w (command.Login client.now services.now))) }
+    {
+        let sum = services_sum(services)?;
+        let who = NodeName::Entity(client.copy(alloc)?);
+        self.come(alloc, &who, Event::Submit(Told::Login(sum)))
+    }
+
+    /// A client logs in; the other commands do nothing yet.
+    fn submit(&mut self, alloc: Global, command: &Command) -> Result<(), AllocError>
+        ensures { OnOk result (Makes self.old self.new (λ w. submitted w command.now)) }
+    {
+        match command {
+            Command::Login(client, services) => self.login(alloc, client, services.all()),
+            Command::Fetch(_) => Ok(()),
+            Command::Renew(_, _) => Ok(()),
+            Command::Connect(_, _, _) => Ok(()),
+            Command::Send(_, _, _) => Ok(()),
+        }
+    }
+
+    /// The same, and then all settles.
+    fn submit_and_settle(&mut self, alloc: Global, command: &Command) -> Result<(), AllocError>
+        ensures { OnOk result (MakesAlone self.old self.new (λ w. submits w command.now)) }
+    {
+        match command {
+            Command::Login(client, services) => {
+                self.login(alloc, client, services.all())?;
+                self.settle(alloc)
+            }
+            Command::Fetch(_) => Ok(()),
+            Command::Renew(_, _) => Ok(()),
+            Command::Connect(_, _, _) => Ok(()),
+            Command::Send(_, _, _) => Ok(()),
+        }
+    }
+
+    /// What a line does, once its number was noted.
+    fn act_on(&mut self, alloc: Global, line: &Line) -> Result<(), AllocError>
+        requires { IsTrue (is_in_range line.now) }
+        ensures { OnOk result (MakesAlone self.old self.new (λ w. acts_on w line.now)) }
+    {
+        match line {
+            Line::Setting(_) => Ok(()),
+            Line::Submit(command) => self.submit_and_settle(alloc, command),
+            Line::Do(command) => self.submit(alloc, command),
+            Line::Link(step) => self.act_on_link(alloc, step),
+            Line::Node(step) => self.act_on_node(alloc, step),
+        }
+    }
+
+    /// What a line does.
+    pub(crate) fn act(&mut self, alloc: Global, line: &Numbered) -> Result<(), AllocError>
+        requires { IsTrue (is_numbered_in_range line.now) }
+        ensures { OnOk result (MakesAlone self.old self.new (λ w. after_line w line.now)) }
+    {
+        self.line = line.number;
+        self.act_on(alloc, &line.line)
+    }
+}

@@ -1,0 +1,86 @@
+//! What a line does to clocks, nodes and saves.
+
+ghost use Rattle.std.specs.Prelude.{◌≡◌, ◌<◌, ℕ, Option, Some, IfOk, IsTrue, OnOk};
+ghost use Rattle.cx_lines.specs.Lines.{is_in_range};
+ghost use Rattle.cx_lines.specs.declared.lines.Line.TheVariants as line;
+ghost use Rattle.cx_run.specs.Schedules.{all_read, node_in, on_node, one_reads};
+ghost use Rattle.cx_run.specs.Deliveries.{restarts};
+ghost use Rattle.cx_run.specs.Worlds.{World as RunWorld};
+ghost use Rattle.cx_world.specs.Carried.{Began, Carries, Makes, MakesAlone};
+
+use crate::world::World;
+use cx_base::{Duplicate, Reading};
+use cx_journal::NodeName;
+use cx_lines::NodeStep;
+use cx_places::{LeftState, Node};
+use std::alloc::{AllocError, Global};
+
+// The node that a line names.
+fn node_in(alloc: Global, node: &Node) -> Result<NodeName, AllocError>
+    ensures { IfOk result (λ who. who ≡ node_in node.now) }
+{
+    match node {
+        Node::Monitor => Ok(NodeName::Monitor),
+        Node::Entity(name) => {
+            let copied = name.copy(alloc)?;
+            Ok(NodeName::Entity(copied))
+        }
+    }
+}
+
+impl World {
+    /// All clocks read this from here on.
+    fn set_clocks(&mut self, reading: Reading)
+        requires { reading < 4000000000000000000 }
+        ensures { Makes self.old self.new (all_read reading) }
+    {
+        self.nodes.read_all(reading);
+    }
+
+    /// The clock of one node reads this from here on.
+    fn set_clock(&mut self, alloc: Global, who: &Node, reading: Reading) -> Result<(), AllocError>
+        requires { reading < 4000000000000000000 }
+        ensures { OnOk result (Makes self.old self.new (one_reads (node_in who.now) reading)) }
+    {
+        let node = node_in(alloc, who)?;
+        self.nodes.read_one(&node, reading);
+        Ok(())
+    }
+
+    /// A node starts again.
+    fn restart_node(&mut self, alloc: Global, who: &Node) -> Result<(), AllocError>
+        ensures { OnOk result (Makes self.old self.new (λ w. restarts w (node_in who.now))) }
+    {
+        let node = node_in(alloc, who)?;
+        self.restart(alloc, &node)
+    }
+
+    /// The monitor's next save fails, and leaves this state.
+    fn fail_save(&mut self, left: LeftState)
+        ensures { Makes self.old self.new (λ w. record w { left = Some left }) }
+    {
+        self.left = Some(left);
+    }
+
+    /// What a line does to clocks, nodes and saves.
+    pub(crate) fn act_on_node(&mut self, alloc: Global, step: &NodeStep) -> Result<(), AllocError>
+        requires { IsTrue (is_in_range (line.Node step.now)) }
+        ensures { OnOk result (MakesAlone self.old self.new (λ w. on_node w step.now)) }
+    {
+        match step {
+            NodeStep::Clock(reading) => {
+                self.set_clocks(*reading);
+                Ok(())
+            }
+            NodeStep::ClockOf(who, reading) => self.set_clock(alloc, who, *reading),
+            NodeStep::DropSession(_, _) => Ok(()),
+            NodeStep::Tick(_) => Ok(()),
+            NodeStep::Restart(who) => self.restart_node(alloc, who),
+            NodeStep::FailSave(left) => {
+                self.fail_save(*left);
+                Ok(())
+            }
+            NodeStep::Settle => self.settle(alloc),
+        }
+    }
+}

@@ -1,0 +1,72 @@
+//! What is entered in the journal and logged.
+
+ghost use Rattle.std.specs.Prelude.{◌≡◌, ◌∷◌, [], ◌++◌, List, map, OnOk};
+ghost use Rattle.cx_base.specs.Names.{Name};
+ghost use Rattle.cx_premises.specs.Ledgers.{StandsFor};
+ghost use Rattle.cx_steps.specs.declared.seals.Logged.{Logged as LogEntry};
+ghost use Rattle.cx_steps.specs.declared.seals.SealEntry.{SealEntry as Seal};
+ghost use Rattle.cx_world.specs.Logs.{logged_at};
+
+use cx_base::Duplicate;
+use cx_journal::{Entry, Journal, NodeName};
+use cx_premises::Ledger;
+use cx_steps::{Logged, SealEntry};
+use std::alloc::{AllocError, Global};
+
+/// The journal so far, and the ledger of the log.
+#[derive(Drop)]
+pub struct Record {
+    pub journal: Journal,
+    pub ledger: Ledger,
+}
+
+// These entries come behind those of the journal.
+pub(crate) fn enter(
+    alloc: Global,
+    journal: &mut Journal,
+    entries: &[Entry],
+) -> Result<(), AllocError>
+    ensures { OnOk result (journal.new ≡ journal.old ++ entries.now) }
+{
+    for entry in entries {
+        let copied = entry.copy(alloc)?;
+        journal.push(alloc, copied)?;
+    }
+    Ok(())
+}
+
+// A node logs these at a line.
+pub(crate) fn log(
+    alloc: Global,
+    ledger: &mut Ledger,
+    who: &NodeName,
+    line: u32,
+    seals: &[SealEntry],
+) -> Result<(), AllocError>
+    ensures { (leaked : List Name) (log : List LogEntry) → StandsFor ledger.old leaked log
+        → OnOk result (StandsFor ledger.new leaked (log ++ map (λ (e : Seal). logged_at who.now line e) seals.now)) }
+{
+    for seal in seals {
+        let logged = Logged {
+            node: who.copy(alloc)?,
+            line,
+            entry: seal.copy(alloc)?,
+        };
+        ledger.enter(alloc, &logged)?;
+    }
+    Ok(())
+}
+
+// These log entries come behind those of the ledger.
+pub(crate) fn log_all(
+    alloc: Global,
+    ledger: &mut Ledger,
+    entries: &[Logged],
+) -> Result<(), AllocError>
+    ensures { (leaked : List Name) (log : List LogEntry) → StandsFor ledger.old leaked log → OnOk result (StandsFor ledger.new leaked (log ++ entries.now)) }
+{
+    for entry in entries {
+        ledger.enter(alloc, entry)?;
+    }
+    Ok(())
+}

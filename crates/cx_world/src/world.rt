@@ -1,0 +1,95 @@
+//! The world of a run.
+
+ghost use Rattle.std.specs.Prelude.{◌≡◌, ◌||◌};
+
+use crate::records::{Record, enter, log};
+use cx_journal::NodeName;
+use cx_nodes::{Made, Nodes};
+use cx_places::LeftState;
+use cx_steps::{Effects, Event};
+use cx_wires::Wires;
+use std::alloc::{AllocError, Global};
+
+fn either(a: bool, b: bool) -> bool
+    ensures { result ≡ (a || b) }
+{
+    a || b
+}
+
+/// The world of a run: its nodes, the links between them, the state that the monitor's next save is to leave where that is to fail, the line,
+/// journal and log so far, and whether something happened since that was last asked.
+#[derive(Drop)]
+pub struct World {
+    pub nodes: Nodes,
+    pub wires: Wires,
+    pub left: Option<LeftState>,
+    pub line: u32,
+    pub told: Record,
+    pub stirred: bool,
+}
+
+impl World {
+    ghost use Rattle.std.specs.Prelude.{ℕ, ◌≡◌, Option, IfOk, OnOk};
+    ghost use Rattle.cx_rules.specs.Inputs.{input_of};
+    ghost use Rattle.cx_run.specs.Deliveries.{gives, tells};
+    ghost use Rattle.cx_run.specs.Worlds.{World as RunWorld, carried};
+    ghost use Rattle.cx_world.specs.Carried.{Began, Carries, IsGivenTo, IsNoted, Makes};
+
+    /// One event of one node.
+    pub(crate) fn give(
+        &mut self,
+        alloc: Global,
+        who: &NodeName,
+        event: Event<'_>,
+    ) -> Result<Made, AllocError>
+        ensures { (b : Began) (seen : Option ℕ) (w : RunWorld) → Carries b seen self.old w
+            → IfOk result (λ made. IsGivenTo b seen self.new made (gives w who.now (input_of event.entry))) }
+    {
+        let made = self.nodes.step(alloc, who, event, self.left)?;
+        self.note(alloc, who, &made)?;
+        Ok(made)
+    }
+
+    // What an event came to is entered and logged.
+    fn note(&mut self, alloc: Global, who: &NodeName, made: &Made) -> Result<(), AllocError>
+        ensures { OnOk result (IsNoted who.now made.now self.old self.new) }
+    {
+        self.stirred = either(made.happened, self.stirred);
+        enter(alloc, &mut self.told.journal, made.out.entries.all())?;
+        log(
+            alloc,
+            &mut self.told.ledger,
+            who,
+            self.line,
+            made.out.seals.all(),
+        )?;
+        Ok(())
+    }
+
+    /// What an event sends and shuts is carried out.
+    pub(crate) fn carry(
+        &mut self,
+        alloc: Global,
+        who: &NodeName,
+        out: &Effects,
+    ) -> Result<(), AllocError>
+        ensures { OnOk result (Makes self.old self.new (λ w. carried w who.now out.now)) }
+    {
+        self.wires.send(alloc, who, out.sends.all())?;
+        self.wires.shut(who, out.shuts.all());
+        Ok(())
+    }
+
+    /// An event at which no link opens and nothing is saved.
+    pub(crate) fn tell(
+        &mut self,
+        alloc: Global,
+        who: &NodeName,
+        event: Event<'_>,
+    ) -> Result<(), AllocError>
+        ensures { OnOk result (Makes self.old self.new (λ w. tells w who.now (input_of event.entry))) }
+    {
+        let made = self.give(alloc, who, event)?;
+        self.carry(alloc, who, &made.out)
+    }
+}
