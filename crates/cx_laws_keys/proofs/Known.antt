@@ -1,0 +1,134 @@
+-- What is known of a run so far: what each key is for, and that all that is sealed and signed under it says what its use allows.
+use Rattle.std.proofs.Common.{◌≡◌, ℕ, ◌≤◌, List, take, Some, subst}
+use Rattle.std.specs.Prelude.{Contains}
+use Rattle.std.specs.List.{AllByRecursion}
+use Rattle.cx_base.specs.Names.{Name}
+use Rattle.cx_base.specs.declared.kinds.EntityType.{EntityType}
+use Rattle.cx_journal.specs.declared.entries.Entry.{Entry}
+use Rattle.cx_journal.specs.declared.entries.Entry.TheVariants as journal
+use Rattle.cx_journal.specs.declared.entries.Issued.{Issued}
+use Rattle.cx_journal.specs.declared.node_names.NodeName.{NodeName}
+use Rattle.cx_journal.specs.declared.node_names.NodeName.TheVariants as node
+use Rattle.cx_sealed.specs.Records.{connection_secret_layout, service_ticket_layout, ticket_info_layout}
+use Rattle.cx_sealed.specs.Unsealing.{spelled_by}
+use Rattle.cx_sealed.specs.declared.connection_secret.ConnectionSecret.{ConnectionSecret}
+use Rattle.cx_sealed.specs.declared.service_ticket.ServiceTicket.{ServiceTicket}
+use Rattle.cx_sealed.specs.declared.ticket_info.TicketInfo.{TicketInfo}
+use Rattle.cx_steps.specs.Onto.{SomeOf}
+use Rattle.cx_steps.specs.Premises.{HasSealed, HasSigned, IsLeakedKey, Seals, Signs}
+use Rattle.cx_steps.specs.declared.seals.Logged.{Logged}
+use Rattle.cx_steps.specs.declared.seals.SealEntry.{SealEntry}
+use Rattle.cx_steps.specs.declared.seals.SealEntry.TheVariants as entry
+use Rattle.cx_steps.specs.declared.seals.SealMark.{SealMark}
+use Rattle.cx_laws_keys.proofs.Lists.{some-of, some-with}
+use Rattle.cx_laws_keys.proofs.Uses.{Use, Secret, Generated, Login, Ticketed, Connected, Uses, Means, Grows, HasDrawn, HasSecret, session_use, whose}
+
+-- ---- what is said under a key
+
+-- the journal has the ticket for this service that this one says
+pub record HasTicket (entries : List Entry) (service : EntityType) (x : ServiceTicket) : Type 0 where
+  pub ticket : Issued
+  pub issued : Contains entries (journal.Issued ticket)
+  pub service_is : ticket.service ≡ service
+  pub entity : ticket.entity ≡ x.name
+  pub gid : ticket.gid ≡ x.gid
+  pub expires : x.expires ≤ ticket.expires
+
+-- what may be sealed under a key of this use, by what is read of it: an entity is told the session key of its own ticket for AUTH; under that
+-- key those of its other tickets, and the secret of its link to the monitor; under a generation stand issued tickets of its service
+abbrev pub Says : Uses → List Entry → Use → List ℕ → Type 0
+Says us entries (Secret name) content = (x : TicketInfo) → spelled_by ticket_info_layout.form content ≡ Some x → Means us x.session (Login name)
+Says us entries (Generated service id) content =
+    (x : ServiceTicket) → spelled_by service_ticket_layout.form content ≡ Some x → HasTicket entries service x × Means us x.session (session_use x.name service)
+Says us entries (Login name) content =
+    ((x : TicketInfo) → spelled_by ticket_info_layout.form content ≡ Some x → Means us x.session (Ticketed name x.service))
+    × ((x : ConnectionSecret) → spelled_by connection_secret_layout.form content ≡ Some x → Means us (take 16 x.secret) (Connected name))
+Says us entries (Ticketed name service) content = Unit {0}
+Says us entries (Connected name) content = Unit {0}
+
+-- under an entity's secret only its own node signs
+abbrev pub SignedAt : NodeName → Use → Type 0
+SignedAt at (Secret name) = at ≡ node.Entity name
+SignedAt at _ = Unit {0}
+
+-- what is sealed or signed is so under a key of some use, as that use allows
+abbrev pub IsAllowed : Uses → List Entry → NodeName → SealEntry → Type 0
+IsAllowed us entries at (entry.Sealed mark) = (u : Use) × Means us mark.key u × Says us entries u mark.content
+IsAllowed us entries at (entry.Signed mark) = (u : Use) × Means us mark.key u × SignedAt at u
+IsAllowed us entries at _ = Unit {0}
+
+-- ---- what is known
+
+-- each global id is one entity's
+abbrev pub AreOwn : List Entry → Type 0
+AreOwn entries = (s t : Issued) → Contains entries (journal.Issued s) → Contains entries (journal.Issued t) → s.gid ≡ t.gid → s.entity ≡ t.entity
+
+-- of a log, the newest entries first, and a journal, the oldest first, where these clients leaked in the whole run: each key with a use was drawn
+-- for whom its use says, an entity's secret as such; it has one use, and is leaked only where its entity is; all that is sealed and signed is allowed; each global id is one entity's
+pub record Inv (leaked : List Name) (whole : List Logged) (us : Uses) (log : List Logged) (entries : List Entry) : Type 0 where
+  pub held : (key : List ℕ) (u : Use) → Means us key u → HasDrawn log (whose u) key
+  pub secrets : (key : List ℕ) (name : Name) → Means us key (Secret name) → HasSecret log name key
+  pub one : (key : List ℕ) (u v : Use) → Means us key u → Means us key v → u ≡ v
+  pub leaks : (key : List ℕ) (u : Use) → Means us key u → IsLeakedKey leaked whole key → (name : Name) × (whose u ≡ Some name) × Contains leaked name
+  pub allowed : AllByRecursion (λ (at : Logged). IsAllowed us entries at.node at.entry) log
+  pub own : AreOwn entries
+
+-- ---- what is known stays so
+
+pub record Within (J K : List Entry) : Type 0 where
+  pub has : (e : Entry) → Contains J e → Contains K e
+
+says-grows : (us vs : Uses) (J K : List Entry) → Grows us vs → Within J K → (u : Use) (content : List ℕ) → Says us J u content → Says vs K u content
+says-grows us vs J K g w (Secret name) content s = λ x is. g.means x.session (Login name) (s x is)
+says-grows us vs J K g w (Generated service id) content s = λ x is.
+    let h : HasTicket J service x = (s x is).0 in (
+      record { ticket = h.ticket; issued = w.has (journal.Issued h.ticket) h.issued; service_is = h.service_is; entity = h.entity; gid = h.gid; expires = h.expires },
+      g.means x.session (session_use x.name service) (s x is).1,
+    )
+says-grows us vs J K g w (Login name) content s =
+    (λ x is. g.means x.session (Ticketed name x.service) (s.0 x is), λ x is. g.means (take 16 x.secret) (Connected name) (s.1 x is))
+says-grows us vs J K g w (Ticketed name service) content s = tt
+says-grows us vs J K g w (Connected name) content s = tt
+
+pub allowed-grows : (us vs : Uses) (J K : List Entry) → Grows us vs → Within J K → (at : NodeName) (e : SealEntry) → IsAllowed us J at e → IsAllowed vs K at e
+allowed-grows us vs J K g w at (entry.Sealed mark) h = (h.0, g.means mark.key h.0 h.1, says-grows us vs J K g w h.0 mark.content h.2)
+allowed-grows us vs J K g w at (entry.Signed mark) h = (h.0, g.means mark.key h.0 h.1, h.2)
+allowed-grows us vs J K g w at (entry.Opened mark) h = tt
+allowed-grows us vs J K g w at (entry.Checked mark) h = tt
+allowed-grows us vs J K g w at (entry.Drawn mark) h = tt
+
+-- ---- what opens, and what is found equal
+
+module _ (leaked : List Name) (whole : List Logged) (us : Uses) (log : List Logged) (J : List Entry) where
+  -- what was sealed under a key says what the key's use allows
+  pub opened_says : Inv leaked whole us log J → (mark : SealMark) → HasSealed log mark → (u : Use) → Means us mark.key u → Says us J u mark.content
+  opened_says i mark sealed u h =
+      some-of (λ (at : Logged). Seals mark at.entry) (λ (at : Logged). IsAllowed us J at.node at.entry) (Says us J u mark.content)
+      (λ at s a. by_entry at.node at.entry s a) log sealed i.allowed
+    where
+      by_entry : (n : NodeName) (e : SealEntry) → Seals mark e → IsAllowed us J n e → Says us J u mark.content
+      by_entry n (entry.Sealed other) same a =
+          let means : Means us mark.key a.0 = subst (λ (k : List ℕ). Means us k a.0) same.key a.1 in
+          let purpose : a.0 ≡ u = i.one mark.key a.0 u means h in
+          subst (λ (c : List ℕ). Says us J u c) same.content (subst (λ (v : Use). Says us J v other.content) purpose a.2)
+      by_entry n (entry.Signed other) same a = absurd same
+      by_entry n (entry.Opened other) same a = absurd same
+      by_entry n (entry.Checked other) same a = absurd same
+      by_entry n (entry.Drawn other) same a = absurd same
+
+  -- what was signed under an entity's secret, its own node signed
+  pub signed_own : Inv leaked whole us log J → (mark : SealMark) (name : Name) → HasSigned log mark → Means us mark.key (Secret name)
+      → SomeOf (λ (at : Logged). (at.node ≡ node.Entity name) × Signs mark at.entry) log
+  signed_own i mark name signed h =
+      some-with (λ (at : Logged). Signs mark at.entry) (λ (at : Logged). IsAllowed us J at.node at.entry) (λ (at : Logged). (at.node ≡ node.Entity name) × Signs mark at.entry)
+      (λ at s a. (by_entry at.node at.entry s a, s)) log signed i.allowed
+    where
+      by_entry : (n : NodeName) (e : SealEntry) → Signs mark e → IsAllowed us J n e → n ≡ node.Entity name
+      by_entry n (entry.Signed other) same a =
+          let means : Means us mark.key a.0 = subst (λ (k : List ℕ). Means us k a.0) same.key a.1 in
+          let purpose : a.0 ≡ Secret name = i.one mark.key a.0 (Secret name) means h in
+          subst (λ (v : Use). SignedAt n v) purpose a.2
+      by_entry n (entry.Sealed other) same a = absurd same
+      by_entry n (entry.Opened other) same a = absurd same
+      by_entry n (entry.Checked other) same a = absurd same
+      by_entry n (entry.Drawn other) same a = absurd same

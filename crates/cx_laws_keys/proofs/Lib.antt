@@ -1,0 +1,7 @@
+pub mod Reading
+pub mod Lists
+pub mod Uses
+pub mod Known
+pub mod Premises
+pub mod Steps
+pub mod Journal

@@ -1,0 +1,322 @@
+-- Each row of one that logs in.
+use Rattle.std.proofs.Common.{◌≡◌, ℕ, ◌==◌, Bool, true, false, List, [], ◌∷◌, ◌++◌, take, Option, Some, None, Result, Ok, Err, refl, sym, subst}
+use Rattle.std.specs.Prelude.{not, if◌then◌else◌}
+use Rattle.cx_base.specs.Names.{Name}
+use Rattle.cx_control.specs.Auth.{auth_done_layout, auth_reply_more_layout, auth_request_more_layout}
+use Rattle.cx_control.specs.BadMethod.{bad_method_layout, kept_method}
+use Rattle.cx_control.specs.Idents.{ident_missing_features_layout, server_ident_layout}
+use Rattle.cx_control.specs.Upkeep.{keepalive2_layout, keepalive2_ack_layout}
+use Rattle.cx_control.specs.declared.auth.AuthDone.{AuthDone}
+use Rattle.cx_control.specs.declared.auth.AuthReplyMore.{AuthReplyMore}
+use Rattle.cx_control.specs.declared.auth.AuthSignature.{AuthSignature}
+use Rattle.cx_control.specs.declared.hello.Hello.{Hello}
+use Rattle.cx_control.specs.declared.idents.IdentMissingFeatures.{IdentMissingFeatures}
+use Rattle.cx_control.specs.declared.idents.ServerIdent.{ServerIdent}
+use Rattle.cx_control.specs.declared.upkeep.Keepalive2.{Keepalive2}
+use Rattle.cx_control.specs.declared.upkeep.Keepalive2Ack.{Keepalive2Ack}
+use Rattle.cx_dice.specs.Draws.{challenge_of, cookie_of}
+use Rattle.cx_frame.specs.declared.frame.Frame.{Frame}
+use Rattle.cx_journal.specs.declared.entries.Entry.{Entry}
+use Rattle.cx_journal.specs.declared.faults.BytesFault.{BytesFault}
+use Rattle.cx_journal.specs.declared.faults.BytesFault.TheVariants.{Features, Unexpected}
+use Rattle.cx_journal.specs.declared.faults.LoginFault.TheVariants.{Mode, SignatureWrong, Unopened}
+use Rattle.cx_journal.specs.declared.node_names.NodeName.{NodeName}
+use Rattle.cx_journal.specs.declared.node_names.NodeName.TheVariants as node
+use Rattle.cx_journal.specs.declared.outcomes.Reason.TheVariants as reason
+use Rattle.cx_journal.specs.declared.premises.KeyKind.{KeyKind}
+use Rattle.cx_journal.specs.declared.premises.KeyKind.TheVariants as kind
+use Rattle.cx_login.specs.Client.{Ask, authenticate}
+use Rattle.cx_login.specs.Held.{Held, held_as}
+use Rattle.cx_login.specs.Unlocking.{Unlocked, ◌>>=◌, going_on, login_in, login_of_parts, made, told, told_each, unlocked}
+use Rattle.cx_login.specs.declared.client.LoggedIn.{LoggedIn}
+use Rattle.cx_rules.specs.Connector.{Stage, AwaitsHello, AwaitsChallenge, AwaitsDone, AwaitsSignature, AwaitsIdent, Open, AskerArrival, AskerRow, Login as Opening, client_ident, holding, identifies, login_request, on_bad_method, on_banner, on_challenge, on_denial, on_done, on_hello, on_login_done, on_missing_features, on_opened, on_reply_more, on_server_ident, on_signature, proof_made, proves, signs, while_challenged, while_identified, while_proved}
+use Rattle.cx_rules.specs.Greetings.{own_hello}
+use Rattle.cx_rules.specs.Holdings.{Asker, held_login, holds_nothing, unexpired}
+use Rattle.cx_rules.specs.Payloads.{control, due, payload, whole}
+use Rattle.cx_rules.specs.Rows.{refuses, refuses_bytes}
+use Rattle.cx_rules.specs.Secured.{SealedFrame, Secured, connector_keys, is_signed, plain_frame, secure_frame, signature_found, signed_frame}
+use Rattle.cx_rules.specs.Upkeep.{on_keepalive, on_keepalive_ack, on_upkeep}
+use Rattle.cx_sealed.specs.Records.{connection_secret_layout, ticket_info_layout}
+use Rattle.cx_sealed.specs.declared.connection_secret.ConnectionSecret.{ConnectionSecret}
+use Rattle.cx_sealed.specs.declared.ticket_info.TicketInfo.{TicketInfo}
+use Rattle.cx_steps.specs.Premises.{IsExcepted}
+use Rattle.cx_steps.specs.declared.seals.DrawMark.TheVariants as draw
+use Rattle.cx_steps.specs.declared.seals.Logged.{Logged}
+use Rattle.cx_steps.specs.declared.seals.SealEntry.{SealEntry}
+use Rattle.cx_steps.specs.declared.seals.SealEntry.TheVariants as entry
+use Rattle.cx_wire.specs.Logins.{authenticate_layout, login_done_layout, server_challenge_layout}
+use Rattle.cx_wire.specs.declared.logins.LoginDone.{LoginDone}
+use Rattle.cx_wire.specs.declared.logins.ServerChallenge.{ServerChallenge}
+use Rattle.cx_wire.specs.declared.tickets.TicketPart.{TicketPart}
+use Rattle.cx_laws_keys.proofs.Known.{Inv, IsAllowed}
+use Rattle.cx_laws_keys.proofs.Lists.{all-append}
+use Rattle.cx_laws_keys.proofs.Premises.{AreGranted, behind, granted-first, granted-rest}
+use Rattle.cx_laws_keys.proofs.Steps.{inv-all}
+use Rattle.cx_laws_keys.proofs.Uses.{Connected, Login, Means, Secret, Uses}
+use Rattle.cx_laws_login.proofs.Facts.{AskerOk, AskerStageOk, HasConnection, asker-entered, asker_stage-grows}
+use Rattle.cx_laws_login.proofs.Opens.{unlocked-allowed, unlocked_says}
+use Rattle.cx_laws_login.proofs.Rows.{AfterRow, Allowed, FrameOk, Saying, Simple, after-simple, frame-ok, signing-ok, simple-goes_on, simple-plain, simple-refuses, simple-refuses_bytes, simple-secure}
+
+abbrev pub asker_says : List Entry → Saying Asker Stage
+asker_says before = record { Owns = AskerOk before; Stands = AskerStageOk; own_enters = asker-entered before; stage_grows = asker_stage-grows }
+
+-- ---- what a login opens
+
+module _ (leaked : List Name) (whole_log : List Logged) (n : NodeName) (line : ℕ) (us : Uses) (J : List Entry) (free : (key : List ℕ) → IsExcepted leaked whole_log n key → ⊥) where
+  -- what is said of a value that opened, wherever that is
+  abbrev Tells : {X : Type 0} → Unlocked X → (X → Type 0) → Type 0
+  Tells {X} u P = (log : List Logged) → Inv leaked whole_log us log J → AreGranted leaked whole_log n line log u.seals → (x : X) → u.value ≡ Some x → P x
+
+  allowed-then : {A B : Type 0} (first : Unlocked A) (next : A → Unlocked B) → Allowed us J n first.seals → ((a : A) → Allowed us J n (next a).seals) → Allowed us J n (first >>= next).seals
+  allowed-then {A} {B} first next al more = by_value first.value
+    where
+      by_value : (v : Option A) → Allowed us J n (going_on first.seals v next).seals
+      by_value None = al
+      by_value (Some a) = all-append (IsAllowed us J n) first.seals (next a).seals al (more a)
+
+  tells-then : {A B : Type 0} (first : Unlocked A) (next : A → Unlocked B) (P : A → Type 0) (Q : B → Type 0) → Allowed us J n first.seals → Tells first P
+      → ((a : A) → P a → Tells (next a) Q) → Tells (first >>= next) Q
+  tells-then {A} {B} first next P Q al says more log i g x e = by_value first.value refl g e
+    where
+      by_value : (v : Option A) → first.value ≡ v → AreGranted leaked whole_log n line log (going_on first.seals v next).seals → (going_on first.seals v next).value ≡ Some x → Q x
+      by_value None is g e = absurd cc
+      by_value (Some a) is g e =
+          more a (says log i (granted-first leaked whole_log n line log first.seals (next a).seals g) a is) (behind n line first.seals log)
+          (inv-all leaked whole_log us log J n line first.seals i al) (granted-rest leaked whole_log n line log first.seals (next a).seals g) x e
+
+  told-allowed : (k : KeyKind) (key : List ℕ) (part : TicketPart) → Allowed us J n (told k key part).seals
+  told-allowed k key part =
+      allowed-then (unlocked ticket_info_layout.form k key part.info) (λ info. made (held_as part info)) (unlocked-allowed leaked whole_log n line us [] J ticket_info_layout.form k key part.info) (λ info. tt)
+
+  each-allowed : (key : List ℕ) (parts : List TicketPart) → Allowed us J n (told_each key parts).seals
+  each-allowed key [] = tt
+  each-allowed key (part ∷ parts) =
+      allowed-then (told kind.Session key part) (λ held. told_each key parts >>= λ rest. made (held ∷ rest)) (told-allowed kind.Session key part)
+      (λ held. allowed-then (told_each key parts) (λ rest. made (held ∷ rest)) (each-allowed key parts) (λ rest. tt))
+
+  -- the ticket for AUTH, told under the entity's own secret
+  auth-tells : (name : Name) (secret : List ℕ) (part : TicketPart) → Means us secret (Secret name) → Tells (told kind.Principal secret part) (λ held. Means us held.session (Login name))
+  auth-tells name secret part means =
+      tells-then (unlocked ticket_info_layout.form kind.Principal secret part.info) (λ info. made (held_as part info)) (λ info. Means us info.session (Login name)) (λ held. Means us held.session (Login name))
+      (unlocked-allowed leaked whole_log n line us [] J ticket_info_layout.form kind.Principal secret part.info)
+      (λ log i g x e. let s = unlocked_says leaked whole_log n line us log J ticket_info_layout.form kind.Principal secret part.info (Secret name) i means (free secret) g x e in s.2 x s.1)
+      (λ info m log i g x e. held_means info x m e)
+    where
+      held_means : (info : TicketInfo) (x : Held) → Means us info.session (Login name) → Some (held_as part info) ≡ Some x → Means us x.session (Login name)
+      held_means info x m e = let same : held_as part info ≡ x = cc in subst (λ (h : Held). Means us h.session (Login name)) same m
+
+  -- the secret of the connection, under the session key of that ticket
+  abbrev IsLogin : Name → LoggedIn → Type 0
+  IsLogin name login = Means us login.auth.session (Login name) × HasConnection us (take 16 login.secret)
+
+  connection-tells : (name : Name) (auth : Held) (tickets : List Held) (connection : List ℕ) → Means us auth.session (Login name)
+      → Tells (unlocked connection_secret_layout.form kind.Session auth.session connection >>= λ opened. made (record { auth = auth; tickets = tickets; secret = opened.secret })) (IsLogin name)
+  connection-tells name auth tickets connection means =
+      tells-then (unlocked connection_secret_layout.form kind.Session auth.session connection) (λ opened. made (record { auth = auth; tickets = tickets; secret = opened.secret }))
+      (λ opened. Means us (take 16 opened.secret) (Connected name)) (IsLogin name)
+      (unlocked-allowed leaked whole_log n line us [] J connection_secret_layout.form kind.Session auth.session connection)
+      (λ log i g x e. let s = unlocked_says leaked whole_log n line us log J connection_secret_layout.form kind.Session auth.session connection (Login name) i means (free auth.session) g x e in s.2.1 x s.1)
+      (λ opened m log i g x e. login_means opened x m e)
+    where
+      login_means : (opened : ConnectionSecret) (x : LoggedIn) → Means us (take 16 opened.secret) (Connected name)
+          → Some (record { auth = auth; tickets = tickets; secret = opened.secret }) ≡ Some x → IsLogin name x
+      login_means opened x m e =
+          let login : LoggedIn = record { auth = auth; tickets = tickets; secret = opened.secret } in
+          let same : login ≡ x = cc in
+          subst (IsLogin name) same (means, record { name = name; means = m })
+
+  login-allowed : (secret : List ℕ) (parts : List TicketPart) (connection : List ℕ) → Allowed us J n (login_of_parts secret parts connection).seals
+  login-allowed secret [] connection = tt
+  login-allowed secret (first ∷ parts) connection =
+      allowed-then (told kind.Principal secret first)
+      (λ auth. told_each auth.session parts >>= λ tickets. unlocked connection_secret_layout.form kind.Session auth.session connection >>= λ opened. made (record { auth = auth; tickets = tickets; secret = opened.secret }))
+      (told-allowed kind.Principal secret first)
+      (λ auth. allowed-then (told_each auth.session parts)
+      (λ tickets. unlocked connection_secret_layout.form kind.Session auth.session connection >>= λ opened. made (record { auth = auth; tickets = tickets; secret = opened.secret }))
+      (each-allowed auth.session parts)
+      (λ tickets. allowed-then (unlocked connection_secret_layout.form kind.Session auth.session connection) (λ opened. made (record { auth = auth; tickets = tickets; secret = opened.secret }))
+      (unlocked-allowed leaked whole_log n line us [] J connection_secret_layout.form kind.Session auth.session connection) (λ opened. tt)))
+
+  login-tells : (name : Name) (secret : List ℕ) (parts : List TicketPart) (connection : List ℕ) → Means us secret (Secret name) → Tells (login_of_parts secret parts connection) (IsLogin name)
+  login-tells name secret [] connection means = λ log i g x e. absurd cc
+  login-tells name secret (first ∷ parts) connection means =
+      tells-then (told kind.Principal secret first)
+      (λ auth. told_each auth.session parts >>= λ tickets. unlocked connection_secret_layout.form kind.Session auth.session connection >>= λ opened. made (record { auth = auth; tickets = tickets; secret = opened.secret }))
+      (λ auth. Means us auth.session (Login name)) (IsLogin name) (told-allowed kind.Principal secret first) (auth-tells name secret first means)
+      (λ auth m. tells-then (told_each auth.session parts)
+      (λ tickets. unlocked connection_secret_layout.form kind.Session auth.session connection >>= λ opened. made (record { auth = auth; tickets = tickets; secret = opened.secret }))
+      (λ tickets. Unit {0}) (IsLogin name) (each-allowed auth.session parts) (λ log i g x e. tt) (λ tickets _. connection-tells name auth tickets connection m))
+
+-- ---- rows
+
+module _ (leaked : List Name) (whole_log : List Logged) (n : NodeName) (line : ℕ) (us : Uses) (log : List Logged) (J before : List Entry) where
+  abbrev IsSimple : AskerRow → Type 0
+  IsSimple row = Simple (asker_says before) us J n row
+
+  -- it stands at its own node
+  abbrev pub IsAt : Asker → Type 0
+  IsAt asker = n ≡ node.Entity asker.name
+
+  refuses-simple : (a : AskerArrival) (why : BytesFault) (seals : List SealEntry) → AskerOk before us J a.own → Allowed us J n seals → IsSimple (refuses_bytes a why seals)
+  refuses-simple a why seals ok al = simple-refuses_bytes (asker_says before) us J n a why seals ok al
+
+  pub banner-simple : (a : AskerArrival) (asked : ℕ) → AskerOk before us J a.own → IsSimple (on_banner a asked)
+  banner-simple a asked ok = simple-plain (asker_says before) us J n a (AwaitsHello asked) [] (own_hello a.own.name.kind) ok tt tt
+
+  pub hello-simple : (a : AskerArrival) (asked : ℕ) (hello : Result Hello BytesFault) → AskerOk before us J a.own → IsSimple (on_hello a asked hello)
+  hello-simple a asked (Err why) ok = refuses-simple a why [] ok tt
+  hello-simple a asked (Ok hello) ok = simple-plain (asker_says before) us J n a (AwaitsChallenge asked) [] (login_request a.own) ok tt tt
+
+  -- ---- AUTH_REPLY_MORE, AUTH_BAD_METHOD
+
+  proves-simple : (a : AskerArrival) (server : ℕ) (bytes : Result (List ℕ) BytesFault) → AskerOk before us J a.own → IsAt a.own → IsSimple (proves a server bytes)
+  proves-simple a server (Err why) ok here = refuses-simple a why (entry.Drawn (draw.Challenge (challenge_of a.draw)) ∷ []) ok (tt, tt)
+  proves-simple a server (Ok bytes) ok here =
+      simple-goes_on (asker_says before) us J n a AwaitsDone bytes (entry.Drawn (draw.Challenge (challenge_of a.draw)) ∷ proof_made a.own.secret server (challenge_of a.draw) ∷ []) ok tt
+      (tt, ((Secret a.own.name, ok.secret, here), tt))
+
+  challenge-simple : (a : AskerArrival) (asked : ℕ) (server : Result ServerChallenge BytesFault) → AskerOk before us J a.own → IsAt a.own → IsSimple (on_challenge a asked server)
+  challenge-simple a asked (Err why) ok here = refuses-simple a why [] ok tt
+  challenge-simple a asked (Ok server) ok here =
+      let ask : Ask = record { secret = a.own.secret; old = unexpired a.reading a.own.holdings.auth; other_keys = asked } in
+      let f : Frame = control 5 auth_request_more_layout.form (record { payload = authenticate_layout.form.text (authenticate ask server.challenge (challenge_of a.draw)) }) in
+      proves-simple a server.challenge (plain_frame f) ok here
+
+  reply_more-simple : (a : AskerArrival) (asked : ℕ) (more : Result AuthReplyMore BytesFault) → AskerOk before us J a.own → IsAt a.own → IsSimple (on_reply_more a asked more)
+  reply_more-simple a asked (Err why) ok here = refuses-simple a why [] ok tt
+  reply_more-simple a asked (Ok more) ok here = challenge-simple a asked (whole server_challenge_layout.form more.payload) ok here
+
+  denial-simple : (a : AskerArrival) (code : ℕ) → AskerOk before us J a.own → IsSimple (on_denial a code)
+  denial-simple a code ok = by_test (code == 13)
+    where
+      by_test : (t : Bool) → IsSimple (refuses (if t then holding a holds_nothing else a) (reason.Denied code) [])
+      by_test true = simple-refuses (asker_says before) us J n (holding a holds_nothing) (reason.Denied code) [] tt (record { client = ok.client; secret = ok.secret; quiet = ok.quiet; count = ok.count }) tt
+      by_test false = simple-refuses (asker_says before) us J n a (reason.Denied code) [] tt ok tt
+
+  bad_method-simple : (a : AskerArrival) (r : Result (ℕ × (ℕ × (List ℕ × List ℕ))) BytesFault) → AskerOk before us J a.own → IsSimple (on_bad_method a r)
+  bad_method-simple a (Err why) ok = refuses-simple a why [] ok tt
+  bad_method-simple a (Ok fields) ok = denial-simple a (kept_method fields).result ok
+
+  pub challenged-simple : (a : AskerArrival) (asked : ℕ) (f : Frame) → AskerOk before us J a.own → IsAt a.own → IsSimple (while_challenged a asked f)
+  challenged-simple a asked f ok here = by_test (f.tag == 3)
+    where
+      by_test : (t : Bool) → IsSimple (if t then on_bad_method a (payload bad_method_layout.form f) else on_reply_more a asked (due 4 auth_reply_more_layout.form f))
+      by_test true = bad_method-simple a (payload bad_method_layout.form f) ok
+      by_test false = reply_more-simple a asked (due 4 auth_reply_more_layout.form f) ok here
+
+  -- ---- AUTH_DONE
+
+  abbrev AfterAsker : AskerRow → Type 0
+  AfterAsker row = AfterRow (asker_says before) leaked whole_log n line us log J row
+
+  abbrev Grants : List SealEntry → Type 0
+  Grants es = AreGranted leaked whole_log n line log es
+
+  signs-simple : (a : AskerArrival) (login : Opening) (opened : List SealEntry) (r : Result SealedFrame BytesFault) (key : List ℕ) → AskerOk before us J a.own → Allowed us J n opened
+      → HasConnection us key → FrameOk us J n key r → IsSimple (signs a login opened r)
+  signs-simple a login opened (Err why) key ok al has f = refuses-simple a why opened ok al
+  signs-simple a login opened (Ok sealed) key ok al has f =
+      simple-goes_on (asker_says before) us J n a (AwaitsSignature (record { keys = sealed.keys; session = login.opened.auth.session; covered = a.link.sent }) login) sealed.bytes (opened ++ sealed.seals) ok
+      (subst (λ (k : List ℕ). HasConnection us k) (sym f.1) has) (all-append (IsAllowed us J n) opened sealed.seals al f.0)
+
+  opened-simple : (a : AskerArrival) (gid : ℕ) (name : Name) (opened : List SealEntry) (value : Option LoggedIn) → AskerOk before us J a.own → Allowed us J n opened
+      → ((x : LoggedIn) → value ≡ Some x → Means us x.auth.session (Login name) × HasConnection us (take 16 x.secret)) → IsSimple (on_opened a gid opened value)
+  opened-simple a gid name opened None ok al says = simple-refuses (asker_says before) us J n a (reason.Login Unopened) opened tt ok al
+  opened-simple a gid name opened (Some x) ok al says =
+      let m = says x refl in
+      let key : List ℕ = take 16 x.secret in
+      signs-simple a (record { gid = gid; opened = x }) opened (signed_frame (connector_keys x.secret) x.auth.session (take a.link.taken a.link.received)) key ok al m.1
+      (signing-ok us J n name key x.auth.session (take a.link.taken a.link.received) (secure_frame (connector_keys x.secret) _) m.0 (frame-ok us J n (connector_keys x.secret) _ m.1))
+
+  -- what opened is granted, whatever comes of it
+  opened-granted : (a : AskerArrival) (gid : ℕ) (opened : List SealEntry) (value : Option LoggedIn) → Grants (on_opened a gid opened value).seals → Grants opened
+  opened-granted a gid opened None g = g
+  opened-granted a gid opened (Some x) g = by_signed (signed_frame (connector_keys x.secret) x.auth.session (take a.link.taken a.link.received)) g
+    where
+      by_signed : (r : Result SealedFrame BytesFault) → Grants (signs a (record { gid = gid; opened = x }) opened r).seals → Grants opened
+      by_signed (Err why) g = g
+      by_signed (Ok sealed) g = granted-first leaked whole_log n line log opened sealed.seals g
+
+  login_done-after : (a : AskerArrival) (gid : ℕ) (done : Result LoginDone BytesFault) → ((key : List ℕ) → IsExcepted leaked whole_log n key → ⊥) → Inv leaked whole_log us log J
+      → AskerOk before us J a.own → Grants (on_login_done a gid done).seals → AfterAsker (on_login_done a gid done)
+  login_done-after a gid (Err why) free i ok g = after-simple (asker_says before) leaked whole_log n line us log J (refuses_bytes a why []) i (refuses-simple a why [] ok tt)
+  login_done-after a gid (Ok done) free i ok g =
+      let u : Unlocked LoggedIn = login_in a.own.secret done in
+      let al : Allowed us J n u.seals = login-allowed leaked whole_log n line us J free a.own.secret done.tickets done.connection_secret in
+      let granted : Grants u.seals = opened-granted a gid u.seals u.value g in
+      after-simple (asker_says before) leaked whole_log n line us log J (on_opened a gid u.seals u.value) i
+      (opened-simple a gid a.own.name u.seals u.value ok al
+      (λ x e. login-tells leaked whole_log n line us J free a.own.name a.own.secret done.tickets done.connection_secret ok.secret log i granted x e))
+
+  done-after : (a : AskerArrival) (done : Result AuthDone BytesFault) → ((key : List ℕ) → IsExcepted leaked whole_log n key → ⊥) → Inv leaked whole_log us log J
+      → AskerOk before us J a.own → Grants (on_done a done).seals → AfterAsker (on_done a done)
+  done-after a (Err why) free i ok g = after-simple (asker_says before) leaked whole_log n line us log J (refuses_bytes a why []) i (refuses-simple a why [] ok tt)
+  done-after a (Ok done) free i ok g = by_test (not (done.mode == 2)) g
+    where
+      by_test : (t : Bool) → Grants (if t then refuses a (reason.Login Mode) [] else on_login_done a done.gid (whole login_done_layout.form done.payload)).seals
+          → AfterAsker (if t then refuses a (reason.Login Mode) [] else on_login_done a done.gid (whole login_done_layout.form done.payload))
+      by_test true g =
+          after-simple (asker_says before) leaked whole_log n line us log J (refuses a (reason.Login Mode) []) i (simple-refuses (asker_says before) us J n a (reason.Login Mode) [] tt ok tt)
+      by_test false g = login_done-after a done.gid (whole login_done_layout.form done.payload) free i ok g
+
+  pub proved-after : (a : AskerArrival) (f : Frame) → ((key : List ℕ) → IsExcepted leaked whole_log n key → ⊥) → Inv leaked whole_log us log J → AskerOk before us J a.own
+      → Grants (while_proved a f).seals → AfterAsker (while_proved a f)
+  proved-after a f free i ok g = by_test (f.tag == 3) g
+    where
+      by_test : (t : Bool) → Grants (if t then on_bad_method a (payload bad_method_layout.form f) else on_done a (due 6 auth_done_layout.form f)).seals
+          → AfterAsker (if t then on_bad_method a (payload bad_method_layout.form f) else on_done a (due 6 auth_done_layout.form f))
+      by_test true g =
+          after-simple (asker_says before) leaked whole_log n line us log J (on_bad_method a (payload bad_method_layout.form f)) i (bad_method-simple a (payload bad_method_layout.form f) ok)
+      by_test false g = done-after a (due 6 auth_done_layout.form f) free i ok g
+
+  -- ---- AUTH_SIGNATURE, SERVER_IDENT, KEEPALIVE2
+
+  same_connection : (key other : List ℕ) → other ≡ key → HasConnection us key → HasConnection us other
+  same_connection key other same h = subst (λ (k : List ℕ). HasConnection us k) (sym same) h
+
+  identifies-simple : (a : AskerArrival) (s : Secured) (login : Opening) → AskerOk before us J a.own → HasConnection us s.keys.key → IsSimple (identifies a s login)
+  identifies-simple a s login ok has =
+      simple-secure (asker_says before) us J n (holding a (held_login a.own.holdings login.gid login.opened)) s AwaitsIdent (signature_found s ∷ entry.Drawn (draw.Cookie (cookie_of a.draw)) ∷ [])
+      (client_ident a.own login.gid (cookie_of a.draw)) (record { client = ok.client; secret = ok.secret; quiet = ok.quiet; count = ok.count }) has (λ t same. same_connection s.keys.key t.keys.key same has) (tt, (tt, tt))
+
+  pub signature-simple : (a : AskerArrival) (s : Secured) (login : Opening) (found : Result AuthSignature BytesFault) → AskerOk before us J a.own → HasConnection us s.keys.key
+      → IsSimple (on_signature a s login found)
+  signature-simple a s login (Err why) ok has = refuses-simple a why [] ok tt
+  signature-simple a s login (Ok found) ok has = by_test (is_signed s found.signature)
+    where
+      by_test : (t : Bool) → IsSimple (if t then identifies a s login else refuses a (reason.Login SignatureWrong) [])
+      by_test true = identifies-simple a s login ok has
+      by_test false = simple-refuses (asker_says before) us J n a (reason.Login SignatureWrong) [] tt ok tt
+
+  server_ident-simple : (a : AskerArrival) (s : Secured) (ident : Result ServerIdent BytesFault) → AskerOk before us J a.own → HasConnection us s.keys.key → IsSimple (on_server_ident a s ident)
+  server_ident-simple a s (Err why) ok has = refuses-simple a why [] ok tt
+  server_ident-simple a s (Ok ident) ok has = simple-goes_on (asker_says before) us J n a (Open s) [] [] ok has tt
+
+  missing-simple : (a : AskerArrival) (missing : Result IdentMissingFeatures BytesFault) → AskerOk before us J a.own → IsSimple (on_missing_features a missing)
+  missing-simple a (Err why) ok = refuses-simple a why [] ok tt
+  missing-simple a (Ok missing) ok = refuses-simple a (Features missing.features) [] ok tt
+
+  pub identified-simple : (a : AskerArrival) (s : Secured) (f : Frame) → AskerOk before us J a.own → HasConnection us s.keys.key → IsSimple (while_identified a s f)
+  identified-simple a s f ok has = by_test (f.tag == 10)
+    where
+      by_test : (t : Bool) → IsSimple (if t then on_missing_features a (payload ident_missing_features_layout.form f) else on_server_ident a s (due 9 server_ident_layout.form f))
+      by_test true = missing-simple a (payload ident_missing_features_layout.form f) ok
+      by_test false = server_ident-simple a s (due 9 server_ident_layout.form f) ok has
+
+  keepalive-simple : (a : AskerArrival) (s : Secured) (keepalive : Result Keepalive2 BytesFault) → AskerOk before us J a.own → HasConnection us s.keys.key → IsSimple (on_keepalive a s Open keepalive)
+  keepalive-simple a s (Err why) ok has = refuses-simple a why [] ok tt
+  keepalive-simple a s (Ok keepalive) ok has =
+      simple-secure (asker_says before) us J n a s Open [] (control 19 keepalive2_ack_layout.form (record { time = keepalive.time })) ok has (λ t same. same_connection s.keys.key t.keys.key same has) tt
+
+  keepalive_ack-simple : (a : AskerArrival) (s : Secured) (ack : Result Keepalive2Ack BytesFault) → AskerOk before us J a.own → HasConnection us s.keys.key → IsSimple (on_keepalive_ack a s Open ack)
+  keepalive_ack-simple a s (Err why) ok has = refuses-simple a why [] ok tt
+  keepalive_ack-simple a s (Ok ack) ok has = simple-goes_on (asker_says before) us J n a (Open s) [] [] ok has tt
+
+  pub upkeep-simple : (a : AskerArrival) (s : Secured) (f : Frame) → AskerOk before us J a.own → HasConnection us s.keys.key → IsSimple (on_upkeep a s Open f)
+  upkeep-simple a s f ok has = by_tests (f.tag == 18) (f.tag == 19)
+    where
+      by_tests : (ask ack : Bool) → IsSimple (if ask then on_keepalive a s Open (payload keepalive2_layout.form f)
+          else if ack then on_keepalive_ack a s Open (payload keepalive2_ack_layout.form f) else refuses_bytes a (Unexpected f.tag) [])
+      by_tests true ack = keepalive-simple a s (payload keepalive2_layout.form f) ok has
+      by_tests false true = keepalive_ack-simple a s (payload keepalive2_ack_layout.form f) ok has
+      by_tests false false = refuses-simple a (Unexpected f.tag) [] ok tt

@@ -1,0 +1,364 @@
+-- The monitor's row of an Authenticate: what it draws, seals, issues and saves, and what it refuses.
+use Rattle.std.proofs.Common.{◌≡◌, ℕ, ◌==◌, ◌<◌, ◌≤◌, ◌^◌, Bool, true, false, List, [], ◌∷◌, ◌++◌, length, take, Option, Some, None, Result, Ok, Err, refl, sym, ap, subst, arith}
+use Rattle.std.specs.Prelude.{find, if◌then◌else◌}
+use Rattle.std.specs.List.{flat_map}
+use Rattle.cx_base.specs.Names.{Name}
+use Rattle.cx_base.specs.declared.kinds.EntityType.TheVariants.{Auth}
+use Rattle.cx_cbc.specs.Envelope.{sealed}
+use Rattle.cx_dice.specs.Draws.{connection_of, session_of}
+use Rattle.cx_enc.specs.Values.{name_form}
+use Rattle.cx_frame.specs.declared.frame.Frame.{Frame}
+use Rattle.cx_journal.specs.declared.entries.Entry.{Entry}
+use Rattle.cx_journal.specs.declared.faults.BytesFault.{BytesFault}
+use Rattle.cx_journal.specs.declared.faults.LoginFault.{LoginFault}
+use Rattle.cx_journal.specs.declared.faults.LoginFault.TheVariants as login
+use Rattle.cx_journal.specs.declared.node_names.NodeName.{NodeName}
+use Rattle.cx_journal.specs.declared.premises.KeyKind.TheVariants as kind
+use Rattle.cx_keyring.specs.Entries.{is_named}
+use Rattle.cx_keyring.specs.declared.entries.Entry.{Entry as Principal}
+use Rattle.cx_keyserver.specs.Issuing.{asking}
+use Rattle.cx_keyserver.specs.Servers.{rotated_server, rotated_state}
+use Rattle.cx_keyserver.specs.declared.tickets.Ticket.{Ticket}
+use Rattle.cx_login.specs.Monitor.{Offer, Proven, kept_gid, proving, reclaimed}
+use Rattle.cx_login.specs.Opening.{generation_key}
+use Rattle.cx_login.specs.Proving.{due_proof}
+use Rattle.cx_login.specs.Unlocking.{old_ticket, old_under}
+use Rattle.cx_rotate.specs.declared.generations.Generation.{Generation}
+use Rattle.cx_rotate.specs.declared.states.KeptState.{KeptState}
+use Rattle.cx_rules.proofs.Granting.{saved-changed}
+use Rattle.cx_rules.specs.Acceptor.{Finished, denies, finished, joined}
+use Rattle.cx_rules.specs.KeptStates.{changed, saved_behind}
+use Rattle.cx_rules.specs.Links.{Link}
+use Rattle.cx_rules.specs.Monitor.{Monitor, MonitorArrival, MonitorRow, MonitorStage, Offered}
+use Rattle.cx_rules.specs.MonitorLogin.{Granted, Numbered, auth_done, granted, hands_out, issues, issues_to, login_entries, numbered, numbers, on_authenticate, proof_found, proves, rotates, with_server}
+use Rattle.cx_rules.specs.Payloads.{whole}
+use Rattle.cx_rules.specs.Rows.{refuses_bytes}
+use Rattle.cx_rules.specs.Secured.{SealedFrame, acceptor_keys, plain_frame, signed_frame, secure_frame}
+use Rattle.cx_rules.specs.Tickets.{issued_for, rotation_drawn, services_for, ticket_seals}
+use Rattle.cx_sealed.specs.Records.{connection_secret_layout, service_ticket_layout}
+use Rattle.cx_sealed.specs.declared.service_ticket.ServiceTicket.{ServiceTicket}
+use Rattle.cx_steps.specs.declared.seals.DrawMark.TheVariants as draw
+use Rattle.cx_steps.specs.declared.seals.Logged.{Logged}
+use Rattle.cx_steps.specs.declared.seals.SealEntry.{SealEntry}
+use Rattle.cx_steps.specs.declared.seals.SealEntry.TheVariants.{Sealed, Drawn}
+use Rattle.cx_control.specs.declared.auth.AuthRequestMore.{AuthRequestMore}
+use Rattle.cx_rules.specs.MonitorRule.{on_auth_request_more}
+use Rattle.cx_wire.specs.Logins.{authenticate_layout}
+use Rattle.cx_wire.specs.declared.logins.Authenticate.{Authenticate}
+use Rattle.cx_journal.specs.Behind.{EachBehind}
+use Rattle.cx_laws_keys.proofs.Journal.{After, EntryLaw, Reached, after-then, entered, reached-then}
+use Rattle.cx_laws_keys.proofs.Known.{HasTicket, Inv}
+use Rattle.cx_laws_keys.proofs.Premises.{AreGranted, behind, behind-append, granted-first, granted-rest, logged}
+use Rattle.cx_laws_keys.proofs.Steps.{inv-all, inv-allowed}
+use Rattle.cx_laws_keys.proofs.Uses.{Connected, Generated, Grows, Login, Means, Secret, Uses, grows-then, stays}
+use Rattle.cx_laws_login.proofs.Entering.{login-entered}
+use Rattle.cx_laws_login.proofs.Facts.{AreBelow, OfferOk, OwnOk, own-grows}
+use Rattle.cx_laws_login.proofs.Generations.{StateOk, rotates_all}
+use Rattle.cx_laws_login.proofs.Issuing.{AreIssued, FirstOk, all-issued}
+use Rattle.cx_laws_login.proofs.Keeping.{IsGiven, NumbersOk, numbered-ok}
+use Rattle.cx_laws_login.proofs.MonitorRows.{monitor_says, simple-denies}
+use Rattle.cx_laws_login.proofs.Named.{found_secret}
+use Rattle.cx_laws_login.proofs.Opens.{generation-free, generation_means, unlocked-allowed, unlocked_says}
+use Rattle.cx_laws_login.proofs.Rows.{AfterRow, Allowed, FrameOk, after-refuses, after-simple, frame-ok, signing-ok, simple-refuses_bytes}
+use Rattle.cx_laws_login.proofs.Sealing.{connection-sealed, tickets-sealed}
+
+module _ (leaked : List Name) (whole_log : List Logged) (n : NodeName) (line : ℕ) (before : KeptState) (us : Uses) (log : List Logged) (J : List Entry) where
+  abbrev pub AfterMonitor : MonitorRow → Type 0
+  AfterMonitor row = AfterRow (monitor_says before) leaked whole_log n line us log J row
+
+  abbrev Granted_ : List SealEntry → Type 0
+  Granted_ es = AreGranted leaked whole_log n line log es
+
+  -- what is reached behind what was logged so far, once that is granted
+  abbrev First : List SealEntry → (Uses → Type 0) → Type 0
+  First seals F = Granted_ seals → Reached leaked whole_log n line us log J seals F
+
+  refused : (a : MonitorArrival) (why : LoginFault) (seals : List SealEntry) (F : Uses → Type 0) → First seals F → ((vs : Uses) → F vs → OwnOk before vs J a.own)
+      → Granted_ seals → AfterMonitor (denies a 13 why seals)
+  refused a why seals F first own g =
+      let r = first g in
+      after-refuses (monitor_says before) leaked whole_log n line us log J a (denies a 13 why seals) F ((tt, tt), tt) refl r (own r.uses r.facts)
+
+  -- ---- what is handed out
+
+  -- behind the proof, the rotation and the old ticket, with the key server behind the global id
+  record HandsOk (a : MonitorArrival) (name : Name) (gid : ℕ) (secret : List ℕ) (vs : Uses) : Type 0 where
+    own : OwnOk before vs J a.own
+    below : gid < a.own.server.state.next_gid
+    given : IsGiven J name gid a.reading
+    told : Means vs secret (Secret name)
+
+  -- a link that is finished under a key
+  abbrev FinishedOk : Uses → List Entry → List ℕ → Result Finished BytesFault → Type 0
+  FinishedOk vs K key (Ok done) = Allowed vs K n done.seals × (done.secured.keys.key ≡ key)
+  FinishedOk vs K key (Err why) = Unit {0}
+
+  joined-ok : (vs : Uses) (K : List Entry) (key session sent : List ℕ) (done : Result (List ℕ) BytesFault) (signed : Result SealedFrame BytesFault) → FrameOk vs K n key signed
+      → FinishedOk vs K key (joined session sent done signed)
+  joined-ok vs K key session sent (Err why) signed h = tt
+  joined-ok vs K key session sent (Ok done) (Err why) h = tt
+  joined-ok vs K key session sent (Ok done) (Ok signed) h = h
+
+  finished-ok : (vs : Uses) (K : List Entry) (name : Name) (link : Link MonitorStage) (session secret : List ℕ) (f : Frame) → Means vs session (Login name)
+      → Means vs (take 16 secret) (Connected name) → FinishedOk vs K (take 16 secret) (finished link session secret f)
+  finished-ok vs K name link session secret f means connection =
+      joined-ok vs K (take 16 secret) session link.sent (plain_frame f) (signed_frame (acceptor_keys secret) session (take link.taken link.received))
+      (signing-ok vs K n name (take 16 secret) session (take link.taken link.received) (secure_frame (acceptor_keys secret) _) means
+      (frame-ok vs K n (acceptor_keys secret) _ (record { name = name; means = connection })))
+
+  -- what is drawn and sealed with these tickets
+  abbrev last_seals : MonitorArrival → Name → List SealEntry
+  last_seals a name =
+      Drawn (draw.Connection (connection_of a.draw) name)
+      ∷ Sealed (record { key = session_of Auth a.draw; kind = kind.Session; content = connection_secret_layout.form.text (record { secret = connection_of a.draw }) }) ∷ []
+
+  abbrev told_seals : MonitorArrival → List ℕ → List Ticket → List SealEntry
+  told_seals a secret ts = flat_map (ticket_seals a.own.server secret (session_of Auth a.draw)) ts
+
+  -- with what a finished link was made, its parts are allowed
+  abbrev Finishes : MonitorArrival → Name → Finished → Type 0
+  Finishes a name done =
+      (vs : Uses) (K : List Entry) → Means vs (session_of Auth a.draw) (Login name) → Means vs (take 16 (connection_of a.draw)) (Connected name)
+      → Allowed vs K n done.seals × (done.secured.keys.key ≡ take 16 (connection_of a.draw))
+
+  -- the monitor's own behind it, and the key of the link
+  record HandedOk (a : MonitorArrival) (name : Name) (key : List ℕ) (vs : Uses) (K : List Entry) : Type 0 where
+    own : OwnOk before vs K (record a.own { saved = saved_behind a.own.saved (changed a.own.saved a.own.server.state) })
+    key_is : Means vs key (Connected name)
+
+  saved-own : (a : MonitorArrival) (vs : Uses) (K : List Entry) → OwnOk before vs J a.own → AreBelow K a.own.server.state.next_gid
+      → OwnOk before vs K (record a.own { saved = saved_behind a.own.saved (changed a.own.saved a.own.server.state) })
+  saved-own a vs K ok below =
+      let state : KeptState = a.own.server.state in
+      let saved : KeptState = saved_behind a.own.saved (changed a.own.saved state) in
+      let is : saved ≡ state = saved-changed a.own.saved state in
+      let before_saved : before.next_gid ≤ a.own.saved.next_gid = ok.grown in
+      let saved_state : a.own.saved.next_gid ≤ state.next_gid = ok.rises in
+      let same : saved.next_gid ≡ state.next_gid = ap (λ (s : KeptState). s.next_gid) is in
+      record {
+        ring = ok.ring;
+        present = ok.present;
+        saved = subst (λ (s : KeptState). StateOk vs s) (sym is) ok.present;
+        before_is = ok.before_is;
+        grown = omega arith;
+        below = subst (λ (s : KeptState). AreBelow K s.next_gid) (sym is) below;
+        rises = omega arith;
+      }
+
+  -- behind all that is sealed but the parts of AUTH_SIGNATURE
+  finishing : (a : MonitorArrival) (name : Name) (done : Finished) (vs ws : Uses) (log1 : List Logged) (all : List SealEntry) (js : List Entry) → Finishes a name done → Grows vs ws
+      → Inv leaked whole_log ws (behind n line all log1) (entered J js) → EachBehind EntryLaw J js → OwnOk before ws J a.own → AreBelow (entered J js) a.own.server.state.next_gid
+      → Means ws (session_of Auth a.draw) (Login name) → Means ws (take 16 (connection_of a.draw)) (Connected name)
+      → After leaked whole_log n line vs log1 J (all ++ done.seals) js (HandedOk a name done.secured.keys.key)
+  finishing a name done vs ws log1 all js fin grows i laws own below session connection =
+      let K : List Entry = entered J js in
+      let f = fin ws K session connection in
+      let inv : Inv leaked whole_log ws (behind n line done.seals (behind n line all log1)) K = inv-all leaked whole_log ws (behind n line all log1) K n line done.seals i f.0 in
+      record {
+        uses = ws;
+        grows = grows;
+        inv = subst (λ (l : List Logged). Inv leaked whole_log ws l K) (sym (behind-append n line all done.seals log1)) inv;
+        laws = laws;
+        good = record {
+          own = saved-own a ws K own below;
+          key_is = subst (λ (k : List ℕ). Means ws k (Connected name)) (sym f.1) connection;
+        };
+      }
+
+  -- behind the proof, the rotation and the old ticket
+  handed_behind : (a : MonitorArrival) (name : Name) (gid : ℕ) (secret : List ℕ) (t : Ticket) (ts : List Ticket) (done : Finished) (vs : Uses) (log1 : List Logged)
+      → name_form.Fits name → length a.draw ≡ 384 → FirstOk name gid a.reading a.draw t ts → HandsOk a name gid secret vs → Inv leaked whole_log vs log1 J → Finishes a name done
+      → AreGranted leaked whole_log n line log1 ((told_seals a secret (t ∷ ts) ++ last_seals a name) ++ done.seals)
+      → After leaked whole_log n line vs log1 J ((told_seals a secret (t ∷ ts) ++ last_seals a name) ++ done.seals)
+      (login_entries (changed a.own.saved a.own.server.state) (t ∷ ts)) (HandedOk a name done.secured.keys.key)
+  handed_behind a name gid secret t ts done vs log1 named drawn ok h i fin g =
+      let state : KeptState = a.own.server.state in
+      let session : List ℕ = session_of Auth a.draw in
+      let told : List SealEntry = told_seals a secret (t ∷ ts) in
+      let last : List SealEntry = last_seals a name in
+      let numbered = h.own.present.numbered in
+      let low : gid < state.next_gid = h.below in
+      let wide : gid < 2 ^ 64 = omega arith in
+      let rises : a.own.saved.next_gid ≤ state.next_gid = h.own.rises in
+      let below : AreBelow J state.next_gid = λ s has. let b : s.gid < a.own.saved.next_gid = h.own.below s has in omega arith in
+      let js : List Entry = login_entries (changed a.own.saved state) (t ∷ ts) in
+      let K : List Entry = entered J js in
+      let e = login-entered leaked whole_log vs log1 name gid a.reading a.draw state.next_gid J (changed a.own.saved state) t ts ok low h.given i below in
+      let g3 = granted-first leaked whole_log n line log1 (told ++ last) done.seals g in
+      let s1 = tickets-sealed leaked whole_log n line a.own.server secret session name gid a.reading a.draw K named wide drawn vs log1 t ts e.numbered.inv ok.first ok.auth refl ok.others e.has
+      (record { generated = h.own.present.generated; told = h.told }) (granted-first leaked whole_log n line log1 told last g3) in
+      let s2 = connection-sealed leaked whole_log n line a.own.server secret session name gid a.reading a.draw K named wide drawn s1.uses (behind n line told log1) s1.inv s1.facts
+      (granted-rest leaked whole_log n line log1 told last g3) in
+      let grows = grows-then vs s1.uses s2.uses s1.grows s2.grows in
+      let inv : Inv leaked whole_log s2.uses (behind n line (told ++ last) log1) K =
+      subst (λ (l : List Logged). Inv leaked whole_log s2.uses l K) (sym (behind-append n line told last log1)) s2.inv in
+      finishing a name done vs s2.uses log1 (told ++ last) js fin grows inv e.laws (own-grows before vs s2.uses J a.own grows h.own) e.numbered.below s2.facts.session s2.facts.connection
+
+  handed : (a : MonitorArrival) (grant : Granted) (secret : List ℕ) (t : Ticket) (ts : List Ticket) (r : Result Finished BytesFault)
+      → name_form.Fits grant.proven.offer.name → length a.draw ≡ 384 → FirstOk grant.proven.offer.name grant.gid a.reading a.draw t ts
+      → First grant.seals (HandsOk a grant.proven.offer.name grant.gid secret)
+      → ((done : Finished) → r ≡ Ok done → Finishes a grant.proven.offer.name done)
+      → Granted_ (hands_out a grant (t ∷ ts) (told_seals a secret (t ∷ ts) ++ last_seals a grant.proven.offer.name) (changed a.own.saved a.own.server.state) r).seals
+      → AfterMonitor (hands_out a grant (t ∷ ts) (told_seals a secret (t ∷ ts) ++ last_seals a grant.proven.offer.name) (changed a.own.saved a.own.server.state) r)
+  handed a grant secret t ts (Err why) named drawn ok first fin g =
+      let r = first g in
+      after-refuses (monitor_says before) leaked whole_log n line us log J a (refuses_bytes a why grant.seals) (HandsOk a grant.proven.offer.name grant.gid secret) ((tt, tt), tt) refl r r.facts.own
+  handed a grant secret t ts (Ok done) named drawn ok first fin g =
+      let name : Name = grant.proven.offer.name in
+      let all : List SealEntry = told_seals a secret (t ∷ ts) ++ last_seals a name in
+      let js : List Entry = login_entries (changed a.own.saved a.own.server.state) (t ∷ ts) in
+      let r1 = first (granted-first leaked whole_log n line log grant.seals (all ++ done.seals) g) in
+      let rest = granted-rest leaked whole_log n line log grant.seals (all ++ done.seals) g in
+      let h = handed_behind a name grant.gid secret t ts done r1.uses (behind n line grant.seals log) named drawn ok r1.facts r1.inv (fin done refl) rest in
+      let whole_step = after-then leaked whole_log n line us log J grant.seals (all ++ done.seals) js (HandsOk a name grant.gid secret) (HandedOk a name done.secured.keys.key) r1 h in
+      record {
+        uses = whole_step.uses;
+        grows = whole_step.grows;
+        inv = whole_step.inv;
+        laws = whole_step.laws;
+        good = record { own = whole_step.good.own; link = whole_step.good.key_is };
+      }
+
+  finished-fin : (a : MonitorArrival) (name : Name) (f : Frame) (done : Finished) → finished a.link (session_of Auth a.draw) (connection_of a.draw) f ≡ Ok done → Finishes a name done
+  finished-fin a name f done is = λ vs K session connection.
+      subst (FinishedOk vs K (take 16 (connection_of a.draw))) is
+      (finished-ok vs K name a.link (session_of Auth a.draw) (connection_of a.draw) f session connection)
+
+  -- ---- issuing
+
+  issued-after : (a : MonitorArrival) (grant : Granted) (principal : Principal) (tickets : Result (List Ticket) LoginFault) → name_form.Fits grant.proven.offer.name → length a.draw ≡ 384
+      → AreIssued a.own.server grant.proven.offer.name grant.gid (session_of Auth a.draw) a.reading a.draw tickets
+      → First grant.seals (HandsOk a grant.proven.offer.name grant.gid principal.key.secret)
+      → Granted_ (issues a grant principal tickets).seals → AfterMonitor (issues a grant principal tickets)
+  issued-after a grant principal (Err why) named drawn ok first g =
+      refused a why grant.seals (HandsOk a grant.proven.offer.name grant.gid principal.key.secret) first (λ vs h. h.own) g
+  issued-after a grant principal (Ok []) named drawn ok first g = absurd ok
+  issued-after a grant principal (Ok (t ∷ ts)) named drawn ok first g =
+      let session : List ℕ = session_of Auth a.draw in
+      let secret : List ℕ = connection_of a.draw in
+      let content : List ℕ = connection_secret_layout.form.text (record { secret = secret }) in
+      let f : Frame = auth_done grant.gid (t ∷ ts) (sealed session content) in
+      handed a grant principal.key.secret t ts (finished a.link session secret f) named drawn ok first (λ done is. finished-fin a grant.proven.offer.name f done is) g
+
+  issues_to-after : (a : MonitorArrival) (grant : Granted) (found : Option Principal) → find (is_named grant.proven.offer.name) a.own.server.ring ≡ found
+      → name_form.Fits grant.proven.offer.name → length a.draw ≡ 384
+      → First grant.seals (λ vs. OwnOk before vs J a.own × (grant.gid < a.own.server.state.next_gid) × IsGiven J grant.proven.offer.name grant.gid a.reading)
+      → Granted_ (issues_to a grant found).seals → AfterMonitor (issues_to a grant found)
+  issues_to-after a grant None is named drawn first g =
+      refused a login.UnknownEntity grant.seals (λ vs. OwnOk before vs J a.own × (grant.gid < a.own.server.state.next_gid) × IsGiven J grant.proven.offer.name grant.gid a.reading) first (λ vs h. h.0) g
+  issues_to-after a grant (Some principal) is named drawn first g =
+      let name : Name = grant.proven.offer.name in
+      issued-after a grant principal (issued_for a.own.server (λ service. asking name service grant.gid (session_of Auth a.draw) a.reading a.draw) (services_for grant.proven.ask.other_keys)) named drawn
+      (all-issued a.own.server name grant.gid (session_of Auth a.draw) a.reading a.draw grant.proven.ask.other_keys) more g
+    where
+      more : First grant.seals (HandsOk a grant.proven.offer.name grant.gid principal.key.secret)
+      more granted =
+          let r = first granted in
+          record {
+            uses = r.uses;
+            grows = r.grows;
+            inv = r.inv;
+            facts = record {
+              own = r.facts.0;
+              below = r.facts.1;
+              given = r.facts.2;
+              told = found_secret r.uses grant.proven.offer.name a.own.server.ring principal r.facts.0.ring is;
+            };
+          }
+
+  numbers-after : (a : MonitorArrival) (proven : Proven) (seals : List SealEntry) (r : Result Numbered LoginFault) → name_form.Fits proven.offer.name → length a.draw ≡ 384
+      → First seals (λ vs. OwnOk before vs J a.own × NumbersOk before vs J a.own proven.offer.name a.reading r)
+      → Granted_ (numbers a proven seals r).seals → AfterMonitor (numbers a proven seals r)
+  numbers-after a proven seals (Err why) named drawn first g =
+      refused a why seals (λ vs. OwnOk before vs J a.own × Unit {0}) first (λ vs h. h.0) g
+  numbers-after a proven seals (Ok n) named drawn first g =
+      issues_to-after (with_server a n.server) (granted proven seals n.gid) (find (is_named proven.offer.name) n.server.ring) refl named drawn more g
+    where
+      more : First seals (λ vs. OwnOk before vs J (with_server a n.server).own × (n.gid < n.server.state.next_gid) × IsGiven J proven.offer.name n.gid a.reading)
+      more granted = let r = first granted in record { uses = r.uses; grows = r.grows; inv = r.inv; facts = (r.facts.1.owns, r.facts.1.below, r.facts.1.given) }
+
+  -- ---- the proof, the rotation and the old ticket
+
+  -- the old ticket, under a generation of AUTH
+  old-reached : (vs : Uses) (log1 : List Logged) (gs : List Generation) (key : Option (List ℕ)) (blob : List ℕ) → Inv leaked whole_log vs log1 J
+      → ((k : List ℕ) → key ≡ Some k → (id : ℕ) × Means vs k (Generated Auth id)) → AreGranted leaked whole_log n line log1 (old_under key blob).seals
+      → Inv leaked whole_log vs (behind n line (old_under key blob).seals log1) J × ((x : ServiceTicket) → (old_under key blob).value ≡ Some x → HasTicket J Auth x)
+  old-reached vs log1 gs None blob i means g = (i, λ x e. absurd cc)
+  old-reached vs log1 gs (Some key) blob i means g =
+      let m = means key refl in
+      let form = service_ticket_layout.form in (
+        inv-all leaked whole_log vs log1 J n line (old_under (Some key) blob).seals i (unlocked-allowed leaked whole_log n line vs log1 J form kind.Auth key blob),
+        λ x e.
+            let s = unlocked_says leaked whole_log n line vs log1 J form kind.Auth key blob (Generated Auth m.0) i m.1
+            (generation-free leaked whole_log n line vs log1 J key Auth m.0 i m.1) g x e in
+            (s.2 x s.1).0,
+      )
+
+  abbrev rotated_own : MonitorArrival → Monitor
+  rotated_own a = record a.own { server = rotated_server a.reading a.draw a.own.server }
+
+  own-rotated : (a : MonitorArrival) (vs : Uses) → Grows us vs → OwnOk before us J a.own → StateOk vs (rotated_state a.reading a.draw a.own.server.state) → OwnOk before vs J (rotated_own a)
+  own-rotated a vs grows ok state =
+      let more : OwnOk before vs J a.own = own-grows before us vs J a.own grows ok in
+      record { ring = more.ring; present = state; saved = more.saved; before_is = more.before_is; grown = more.grown; below = more.below; rises = more.rises }
+
+  rotates-after : (a : MonitorArrival) (hello_gid : ℕ) (proven : Proven) → Inv leaked whole_log us log J → OwnOk before us J a.own → name_form.Fits proven.offer.name → length a.draw ≡ 384
+      → Granted_ (rotates a hello_gid proven).seals → AfterMonitor (rotates a hello_gid proven)
+  rotates-after a hello_gid proven i ok named drawn g =
+      numbers-after (with_server a (rotated_server a.reading a.draw a.own.server)) proven
+      ((proof_found proven.offer proven.ask.client_challenge ∷ rotation_drawn a.reading a.draw a.own.server.state)
+      ++ (old_ticket (rotated_state a.reading a.draw a.own.server.state).auth proven.ask.old_ticket).seals)
+      (numbered (rotated_server a.reading a.draw a.own.server) (reclaimed hello_gid proven.ask.version
+      (kept_gid proven.offer.name a.reading (old_ticket (rotated_state a.reading a.draw a.own.server.state).auth proven.ask.old_ticket).value)))
+      named drawn first g
+    where
+      first : First
+          ((proof_found proven.offer proven.ask.client_challenge ∷ rotation_drawn a.reading a.draw a.own.server.state)
+          ++ (old_ticket (rotated_state a.reading a.draw a.own.server.state).auth proven.ask.old_ticket).seals)
+          (λ vs. OwnOk before vs J (rotated_own a) × NumbersOk before vs J (rotated_own a) proven.offer.name a.reading
+          (numbered (rotated_server a.reading a.draw a.own.server) (reclaimed hello_gid proven.ask.version
+          (kept_gid proven.offer.name a.reading (old_ticket (rotated_state a.reading a.draw a.own.server.state).auth proven.ask.old_ticket).value))))
+      first granted =
+          let proof : SealEntry = proof_found proven.offer proven.ask.client_challenge in
+          let rotation : List SealEntry = rotation_drawn a.reading a.draw a.own.server.state in
+          let gs : List Generation = (rotated_state a.reading a.draw a.own.server.state).auth in
+          let ticket = proven.ask.old_ticket in
+          let key : Option (List ℕ) = generation_key gs ticket.generation in
+          let opened : List SealEntry = (old_under key ticket.blob).seals in
+          let log1 : List Logged = logged n line proof ∷ log in
+          let i1 : Inv leaked whole_log us log1 J = inv-allowed leaked whole_log us log J n line proof i tt in
+          let r = rotates_all leaked whole_log n line J a.reading a.draw a.own.server.state us log1 i1 ok.present (granted-first leaked whole_log n line log1 rotation opened granted.1) in
+          let o = old-reached r.uses (behind n line rotation log1) gs key ticket.blob r.inv
+          (λ k is. generation_means r.uses Auth gs ticket.generation k (r.facts.generated Auth) is) (granted-rest leaked whole_log n line log1 rotation opened granted.1) in
+          let own : OwnOk before r.uses J (rotated_own a) = own-rotated a r.uses r.grows ok r.facts in
+          let until : Reached leaked whole_log n line us log J (proof ∷ rotation) (λ vs. StateOk vs (rotated_state a.reading a.draw a.own.server.state)) =
+          record { uses = r.uses; grows = r.grows; inv = r.inv; facts = r.facts } in
+          reached-then leaked whole_log n line us log J (proof ∷ rotation) opened (λ vs. StateOk vs (rotated_state a.reading a.draw a.own.server.state)) _ until (record {
+            uses = r.uses;
+            grows = stays r.uses;
+            inv = o.0;
+            facts = (own, numbered-ok before r.uses J (rotated_own a) proven.offer.name a.reading hello_gid proven.ask.version (old_under key ticket.blob).value own r.inv.own o.1);
+          })
+
+  proves-after : (a : MonitorArrival) (hello_gid : ℕ) (offer : Offer) (ask : Authenticate) → Inv leaked whole_log us log J → OwnOk before us J a.own → OfferOk us offer → length a.draw ≡ 384
+      → Granted_ (proves a hello_gid (proving offer ask)).seals → AfterMonitor (proves a hello_gid (proving offer ask))
+  proves-after a hello_gid offer ask i ok o drawn g = by_test (due_proof offer.secret offer.challenge ask.client_challenge == ask.key) g
+    where
+      by_test : (t : Bool)
+          → Granted_ (proves a hello_gid (if t then Ok (record { offer = offer; ask = ask }) else Err (record { expected = due_proof offer.secret offer.challenge ask.client_challenge; got = ask.key }))).seals
+          → AfterMonitor (proves a hello_gid (if t then Ok (record { offer = offer; ask = ask }) else Err (record { expected = due_proof offer.secret offer.challenge ask.client_challenge; got = ask.key })))
+      by_test true g = rotates-after a hello_gid (record { offer = offer; ask = ask }) i ok o.named drawn g
+      by_test false g =
+          after-simple (monitor_says before) leaked whole_log n line us log J (denies a 13 login.WrongProof []) i (simple-denies before us J n a 13 login.WrongProof [] ok tt)
+
+  authenticate-after : (a : MonitorArrival) (offered : Offered) (ask : Result Authenticate BytesFault) → Inv leaked whole_log us log J → OwnOk before us J a.own → OfferOk us offered.offer
+      → length a.draw ≡ 384 → Granted_ (on_authenticate a offered ask).seals → AfterMonitor (on_authenticate a offered ask)
+  authenticate-after a offered (Err why) i ok o drawn g =
+      after-simple (monitor_says before) leaked whole_log n line us log J (refuses_bytes a why []) i (simple-refuses_bytes (monitor_says before) us J n a why [] ok tt)
+  authenticate-after a offered (Ok ask) i ok o drawn g = proves-after a offered.gid offered.offer ask i ok o drawn g
+
+  pub request_more-after : (a : MonitorArrival) (offered : Offered) (more : Result AuthRequestMore BytesFault) → Inv leaked whole_log us log J → OwnOk before us J a.own
+      → OfferOk us offered.offer → length a.draw ≡ 384 → Granted_ (on_auth_request_more a offered more).seals → AfterMonitor (on_auth_request_more a offered more)
+  request_more-after a offered (Err why) i ok o drawn g =
+      after-simple (monitor_says before) leaked whole_log n line us log J (refuses_bytes a why []) i (simple-refuses_bytes (monitor_says before) us J n a why [] ok tt)
+  request_more-after a offered (Ok more) i ok o drawn g = authenticate-after a offered (whole authenticate_layout.form more.payload) i ok o drawn g

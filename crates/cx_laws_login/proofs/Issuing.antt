@@ -1,0 +1,172 @@
+-- The tickets of a login: the first is for AUTH, and no other is; whose they are, and what their keys are.
+use Rattle.std.proofs.Common.{◌≡◌, ℕ, ◌+◌, ◌<◌, ◌≤◌, ◌^◌, Bool, true, false, cond, List, [], ◌∷◌, ◌++◌, length, drop, filter, Option, Some, None, Result, Ok, Err, refl, sym, ◌∙◌, arith, length-take, length-drop, length-append}
+use Rattle.std.specs.Prelude.{find}
+use Rattle.std.specs.List.{AllByRecursion}
+use Rattle.cx_base.specs.Names.{Name}
+use Rattle.cx_base.specs.declared.kinds.EntityType.{EntityType}
+use Rattle.cx_base.specs.declared.kinds.EntityType.TheVariants.{Mon, Mds, Osd, Client, Mgr, Auth}
+use Rattle.cx_dice.specs.Draws.{connection_of, counter_0, has_keys, nonce_start, part, session_of}
+use Rattle.cx_enc.specs.Forms.{passed}
+use Rattle.cx_journal.specs.declared.faults.LoginFault.{LoginFault}
+use Rattle.cx_keyring.specs.Entries.{is_named}
+use Rattle.cx_keyring.specs.declared.entries.Entry.{Entry as Principal}
+use Rattle.cx_keyserver.specs.Issuing.{Asked, ◌>>=◌, asking, caps_for, current_at, fields_of, issued, or_else, sealed_by, telling_key}
+use Rattle.cx_keyserver.specs.Servers.{Server, generations_of}
+use Rattle.cx_keyserver.specs.declared.refusals.IssueRefusal.{IssueRefusal}
+use Rattle.cx_keyserver.specs.declared.refusals.IssueRefusal.TheVariants as issue
+use Rattle.cx_keyserver.specs.declared.tickets.Ticket.{Ticket}
+use Rattle.cx_rotate.specs.declared.generations.Generation.{Generation}
+use Rattle.cx_rules.specs.Tickets.{is_asked, issued_before, issued_for, services_for}
+use Rattle.cx_laws_login.proofs.Rows.{all-filter}
+
+-- a ticket of this entity under this global id, made at this reading, with the session key that was drawn for its service
+pub record TicketOk (name : Name) (gid reading : ℕ) (block : List ℕ) (t : Ticket) : Type 0 where
+  pub entity : t.entity ≡ name
+  pub gid_is : t.gid ≡ gid
+  pub created : t.created ≡ reading
+  pub session : t.session ≡ session_of t.service block
+  pub keyed : has_keys t.service ≡ true
+
+-- one for AUTH, and the others for other services
+abbrev pub IsOther : Name → ℕ → ℕ → List ℕ → Ticket → Type 0
+IsOther name gid reading block t = TicketOk name gid reading block t × (t.service ≡ Auth → ⊥)
+
+pub record FirstOk (name : Name) (gid reading : ℕ) (block : List ℕ) (t : Ticket) (ts : List Ticket) : Type 0 where
+  pub first : TicketOk name gid reading block t
+  pub auth : t.service ≡ Auth
+  pub others : AllByRecursion (IsOther name gid reading block) ts
+
+module _ (server : Server) (name : Name) (gid : ℕ) (auth_session : List ℕ) (reading : ℕ) (block : List ℕ) where
+  abbrev ask : EntityType → Asked
+  ask service = asking name service gid auth_session reading block
+
+  abbrev IsIssued : EntityType → Result Ticket IssueRefusal → Type 0
+  IsIssued service (Ok t) = TicketOk name gid reading block t × (t.service ≡ service)
+  IsIssued service (Err why) = Unit {0}
+
+  issued-ok : (service : EntityType) → IsIssued service (issued server (ask service))
+  issued-ok service = by_found (find (is_named name) server.ring)
+    where
+      rest : Principal → Result Ticket IssueRefusal
+      rest entry =
+          or_else issue.NotAService (passed has_keys service) >>= λ s.
+          or_else issue.NoCaps (caps_for s entry) >>= λ caps.
+          or_else issue.IdsSpent (current_at reading (generations_of server.state s)) >>= λ generation.
+          Ok (sealed_by generation.key (telling_key entry (ask service)) (fields_of server.state (ask service) caps generation))
+
+      by_current : (keyed : has_keys service ≡ true) (entry : Principal) (caps : List ℕ) (current : Option Generation) → IsIssued service
+          (or_else issue.IdsSpent current >>= λ generation. Ok (sealed_by generation.key (telling_key entry (ask service)) (fields_of server.state (ask service) caps generation)))
+      by_current keyed entry caps None = tt
+      by_current keyed entry caps (Some g) = (record { entity = refl; gid_is = refl; created = refl; session = refl; keyed = keyed }, refl)
+
+      by_caps : (keyed : has_keys service ≡ true) (entry : Principal) (s : EntityType) (caps : Option (List ℕ)) → IsIssued service
+          (or_else issue.NoCaps caps >>= λ caps. or_else issue.IdsSpent (current_at reading (generations_of server.state s)) >>= λ generation.
+          Ok (sealed_by generation.key (telling_key entry (ask service)) (fields_of server.state (ask service) caps generation)))
+      by_caps keyed entry s None = tt
+      by_caps keyed entry s (Some caps) = by_current keyed entry caps (current_at reading (generations_of server.state s))
+
+      by_keys : (entry : Principal) (t : Bool) → has_keys service ≡ t → IsIssued service
+          (or_else issue.NotAService (cond t (Some service) None) >>= λ s.
+          or_else issue.NoCaps (caps_for s entry) >>= λ caps.
+          or_else issue.IdsSpent (current_at reading (generations_of server.state s)) >>= λ generation.
+          Ok (sealed_by generation.key (telling_key entry (ask service)) (fields_of server.state (ask service) caps generation)))
+      by_keys entry true keyed = by_caps keyed entry service (caps_for service entry)
+      by_keys entry false keyed = tt
+
+      by_found : (found : Option Principal) → IsIssued service
+          (or_else issue.UnknownEntity found >>= λ entry.
+          or_else issue.NotAService (passed has_keys service) >>= λ s.
+          or_else issue.NoCaps (caps_for s entry) >>= λ caps.
+          or_else issue.IdsSpent (current_at reading (generations_of server.state s)) >>= λ generation.
+          Ok (sealed_by generation.key (telling_key entry (ask service)) (fields_of server.state (ask service) caps generation)))
+      by_found None = tt
+      by_found (Some entry) = by_keys entry (has_keys service) refl
+
+  -- for AUTH the entity needs no capabilities
+  abbrev IsAuth : Result Ticket IssueRefusal → Type 0
+  IsAuth (Ok t) = Unit {0}
+  IsAuth (Err issue.UnknownEntity) = Unit {0}
+  IsAuth (Err issue.IdsSpent) = Unit {0}
+  IsAuth (Err _) = ⊥
+
+  auth-issued : IsAuth (issued server (ask Auth))
+  auth-issued = by_found (find (is_named name) server.ring) (current_at reading (generations_of server.state Auth))
+    where
+      by_found : (found : Option Principal) (current : Option Generation) → IsAuth
+          (or_else issue.UnknownEntity found >>= λ entry. or_else issue.IdsSpent current >>= λ generation.
+          Ok (sealed_by generation.key (telling_key entry (ask Auth)) (fields_of server.state (ask Auth) [] generation)))
+      by_found None current = tt
+      by_found (Some entry) None = tt
+      by_found (Some entry) (Some generation) = tt
+
+  abbrev AreOthers : Result (List Ticket) LoginFault → Type 0
+  AreOthers (Ok ts) = AllByRecursion (IsOther name gid reading block) ts
+  AreOthers (Err why) = Unit {0}
+
+  others-before : (service : EntityType) (first : Result Ticket IssueRefusal) (rest : Result (List Ticket) LoginFault) → (service ≡ Auth → ⊥) → IsIssued service first
+      → AreOthers rest → AreOthers (issued_before first rest)
+  others-before service (Ok t) (Ok ts) other is h = ((is.0, λ auth. other (sym is.1 ∙ auth)), h)
+  others-before service (Ok t) (Err why) other is h = tt
+  others-before service (Err issue.NoCaps) rest other is h = h
+  others-before service (Err issue.IdsSpent) rest other is h = tt
+  others-before service (Err issue.UnknownEntity) rest other is h = tt
+  others-before service (Err issue.NotAService) rest other is h = h
+  others-before service (Err issue.OutOfMemory) rest other is h = h
+
+  others-issued : (services : List EntityType) → AllByRecursion (λ (s : EntityType). s ≡ Auth → ⊥) services → AreOthers (issued_for server ask services)
+  others-issued [] h = tt
+  others-issued (s ∷ services) h = others-before s (issued server (ask s)) (issued_for server ask services) h.0 (issued-ok s) (others-issued services h.1)
+
+  -- what is issued at a login
+  abbrev pub AreIssued : Result (List Ticket) LoginFault → Type 0
+  AreIssued (Ok (t ∷ ts)) = FirstOk name gid reading block t ts
+  AreIssued (Ok []) = ⊥
+  AreIssued (Err why) = Unit {0}
+
+  first-before : (first : Result Ticket IssueRefusal) (rest : Result (List Ticket) LoginFault) → IsAuth first → IsIssued Auth first → AreOthers rest → AreIssued (issued_before first rest)
+  first-before (Ok t) (Ok ts) a is h = record { first = is.0; auth = is.1; others = h }
+  first-before (Ok t) (Err why) a is h = tt
+  first-before (Err issue.UnknownEntity) rest a is h = tt
+  first-before (Err issue.IdsSpent) rest a is h = tt
+  first-before (Err issue.NoCaps) rest a is h = absurd a
+  first-before (Err issue.NotAService) rest a is h = absurd a
+  first-before (Err issue.OutOfMemory) rest a is h = absurd a
+
+  pub all-issued : (keys : ℕ) → AreIssued (issued_for server ask (services_for keys))
+  all-issued keys =
+      let others : List EntityType = filter (is_asked keys) (Mds ∷ Osd ∷ Mgr ∷ []) in
+      let apart : AllByRecursion (λ (s : EntityType). s ≡ Auth → ⊥) (Mds ∷ Osd ∷ Mgr ∷ []) = ((λ e. cc), ((λ e. cc), ((λ e. cc), tt))) in
+      first-before (issued server (ask Auth)) (issued_for server ask others) auth-issued (issued-ok Auth)
+      (others-issued others (all-filter (λ (s : EntityType). s ≡ Auth → ⊥) (is_asked keys) (Mds ∷ Osd ∷ Mgr ∷ []) apart))
+
+-- ---- the lengths of what is drawn
+
+length-part : (place count : ℕ) (block : List ℕ) → place + count ≤ length block → length (part place count block) ≡ count
+length-part place count block h = omega (arith, length-take count (drop place block), length-drop place block)
+
+pub length-session : (service : EntityType) (block : List ℕ) → length block ≡ 384 → has_keys service ≡ true → length (session_of service block) ≡ 16
+length-session Auth block h e = length-part 80 16 block (omega arith)
+length-session Mds block h e = length-part 96 16 block (omega arith)
+length-session Osd block h e = length-part 112 16 block (omega arith)
+length-session Mgr block h e = length-part 128 16 block (omega arith)
+length-session Mon block h e = absurd cc
+length-session Client block h e = absurd cc
+
+short-part : (place count : ℕ) (block : List ℕ) → length (part place count block) ≤ count
+short-part place count block = omega (arith, length-take count (drop place block))
+
+pub short-connection : (block : List ℕ) → length (connection_of block) < 2 ^ 32
+short-connection block =
+    let a : List ℕ = counter_0 ++ part 56 24 block in
+    let b : List ℕ = counter_0 ++ (nonce_start 128 44 block ++ a) in
+    let c : List ℕ = nonce_start 0 32 block ++ b in
+    omega (
+      arith,
+      length-append (part 16 16 block) c,
+      length-append (part 33 3 block) b,
+      length-append (part 45 3 block) a,
+      short-part 16 16 block,
+      short-part 33 3 block,
+      short-part 45 3 block,
+      short-part 56 24 block,
+    )

@@ -1,0 +1,16 @@
+pub mod Generations
+pub mod Facts
+pub mod Rows
+pub mod Named
+pub mod MonitorRows
+pub mod Opens
+pub mod Issuing
+pub mod Keeping
+pub mod Entering
+pub mod Sealing
+pub mod Authenticating
+pub mod Turns
+pub mod MonitorStep
+pub mod AskerRows
+pub mod ClientStep
+pub mod Proving

@@ -1,0 +1,7 @@
+pub mod Journals
+pub mod Saves
+pub mod Events
+pub mod Opening
+pub mod Draws
+pub mod Challenges
+pub mod Logins
