@@ -4,7 +4,7 @@ use Rattle.std.proofs.Math.ListN.{drop_of_length-le}
 use Rattle.cx_schedule.specs.Files.{IsShort}
 use Rattle.cx_top.specs.declared.commands.Command.{Command}
 use Rattle.cx_top.specs.declared.status.Status.{Status}
-use Rattle.cx_top.specs.declared.status.Status.TheVariants.{Done, Usage, BadSchedule, ReadFault, WriteFault, OutOfMemory, BadKeyring, TooLong, NotYet}
+use Rattle.cx_top.specs.declared.status.Status.TheVariants.{Done, Usage, BadSchedule, ReadFault, WriteFault, OutOfMemory, BadKeyring, Broken, TooLong, NotYet}
 use Rattle.cx_top.specs.Replays.{GaveAll}
 use Rattle.cx_top.specs.Causes.{IsBytesCause, IsInputCause, IsTooLong}
 
@@ -25,6 +25,7 @@ status_cause command Done left now bytes before after all short cause = cause
 status_cause command Usage left now bytes before after all short cause = cause
 status_cause command ReadFault left now bytes before after all short cause = absurd cause
 status_cause command WriteFault left now bytes before after all short cause = cause
+status_cause command Broken left now bytes before after all short cause = cause
 
 pub input_cause : {X : Type 0} (command : Command) (answer : Result X Status) (left now : Option (List ℕ)) (bytes asked : List ℕ) (before after : ℕ) → GaveAll left now bytes → length bytes ≤ 1048576 → asked ≡ bytes → IfErr answer (IsBytesCause command asked) → IfErr answer (IsInputCause command left now before after)
 input_cause command (Ok text) left now bytes asked before after all short same cause = tt

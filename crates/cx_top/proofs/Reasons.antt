@@ -4,17 +4,17 @@ use Rattle.cx_keyring.specs.declared.refusals.KeyringRefusal.{KeyringRefusal}
 use Rattle.cx_keyring.specs.declared.refusals.KeyringRefusal.TheVariants as keyring
 use Rattle.cx_keyring.specs.Rings as rings
 use Rattle.cx_lines.specs.declared.lines.Numbered.{Numbered}
-use Rattle.cx_plain.specs.PlainLines.{first_untaken, IsPlainCause}
-use Rattle.cx_plain.specs.declared.refusals.PlainRefusal.{PlainRefusal}
-use Rattle.cx_plain.specs.declared.refusals.PlainRefusal.TheVariants as plain
+use Rattle.cx_replay.specs.Serving.{IsReplayCause, first_unserved}
+use Rattle.cx_replay.specs.declared.refusals.ReplayRefusal.{ReplayRefusal}
+use Rattle.cx_replay.specs.declared.refusals.ReplayRefusal.TheVariants as replay
 use Rattle.cx_schedule.specs.Files as files
 use Rattle.cx_schedule.specs.declared.refusals.ScheduleRefusal.{ScheduleRefusal}
 use Rattle.cx_schedule.specs.declared.refusals.ScheduleRefusal.TheVariants as schedule
 use Rattle.cx_top.specs.declared.commands.Command.TheVariants.{Replay, Keyring}
 use Rattle.cx_top.specs.declared.status.Status.{Status}
-use Rattle.cx_top.specs.declared.status.Status.TheVariants.{Done, Usage, BadSchedule, ReadFault, WriteFault, OutOfMemory, BadKeyring, TooLong, NotYet}
+use Rattle.cx_top.specs.declared.status.Status.TheVariants.{Done, Usage, BadSchedule, ReadFault, WriteFault, OutOfMemory, BadKeyring, Broken, TooLong, NotYet}
 use Rattle.cx_top.specs.Causes.{IsAnswered, IsBytesCause, IsReasonFor}
-use Rattle.cx_top.specs.Statuses.{IsOrMemory, keyring_status, plain_status, schedule_status}
+use Rattle.cx_top.specs.Statuses.{IsOrMemory, keyring_status, replay_status, schedule_status}
 
 -- ---- schedules
 
@@ -35,53 +35,56 @@ schedule_reason bytes got Done reason exact only = absurd reason
 schedule_reason bytes got Usage reason exact only = absurd reason
 schedule_reason bytes got ReadFault reason exact only = absurd reason
 schedule_reason bytes got WriteFault reason exact only = absurd reason
+schedule_reason bytes got Broken reason exact only = absurd reason
 schedule_reason bytes got OutOfMemory reason exact only = absurd reason
 schedule_reason bytes got (BadKeyring line why) reason exact only = absurd reason
 
--- a schedule that is read is refused at the first line that isn't taken, or memory is wanting
-or_plain : (script other : List Numbered) (got : PlainRefusal) (line : ℕ) → IsPlainCause script got → script ≡ other → first_untaken other ≡ Some line → IsOrMemory (NotYet line) (plain_status got)
-or_plain script other (plain.NotYet n) line cause same untaken =
-    let e : Some n ≡ Some line = sym cause ∙ ap first_untaken same ∙ untaken in
+-- a schedule that is read is refused at the first line that isn't served, or memory is wanting
+or_replay : (script other : List Numbered) (got : ReplayRefusal) (line : ℕ) → IsReplayCause script got → script ≡ other → first_unserved other ≡ Some line → IsOrMemory (NotYet line) (replay_status got)
+or_replay script other (replay.NotYet n) line cause same untaken =
+    let e : Some n ≡ Some line = sym cause ∙ ap first_unserved same ∙ untaken in
     let is : n ≡ line = cc in
     ap (λ k. NotYet k) is
-or_plain script other plain.OutOfMemory line cause same untaken = tt
+or_replay script other replay.OutOfMemory line cause same untaken = tt
 
-pub plain_reason : (bytes : List ℕ) (script : List Numbered) (got : PlainRefusal) (status : Status) → IsReasonFor Replay bytes status → IsPlainCause script got
-    → ((other : List Numbered) → files.Lines bytes other → script ≡ other) → ((why : ScheduleRefusal) → files.IsReason bytes why → ⊥) → IsOrMemory status (plain_status got)
-plain_reason bytes script got TooLong reason cause one exact = absurd (exact schedule.TooLong reason)
-plain_reason bytes script got (BadSchedule line bad) reason cause one exact = absurd (exact (schedule.BadLine line bad) reason)
-plain_reason bytes script got (NotYet line) (short, (other, lines, untaken)) cause one exact = or_plain script other got line cause (one other lines) untaken
-plain_reason bytes script got Done reason cause one exact = absurd reason
-plain_reason bytes script got Usage reason cause one exact = absurd reason
-plain_reason bytes script got ReadFault reason cause one exact = absurd reason
-plain_reason bytes script got WriteFault reason cause one exact = absurd reason
-plain_reason bytes script got OutOfMemory reason cause one exact = absurd reason
-plain_reason bytes script got (BadKeyring line why) reason cause one exact = absurd reason
+pub replay_reason : (bytes : List ℕ) (script : List Numbered) (got : ReplayRefusal) (status : Status) → IsReasonFor Replay bytes status → IsReplayCause script got
+    → ((other : List Numbered) → files.Lines bytes other → script ≡ other) → ((why : ScheduleRefusal) → files.IsReason bytes why → ⊥) → IsOrMemory status (replay_status got)
+replay_reason bytes script got TooLong reason cause one exact = absurd (exact schedule.TooLong reason)
+replay_reason bytes script got (BadSchedule line bad) reason cause one exact = absurd (exact (schedule.BadLine line bad) reason)
+replay_reason bytes script got (NotYet line) (short, (other, lines, untaken)) cause one exact = or_replay script other got line cause (one other lines) untaken
+replay_reason bytes script got Done reason cause one exact = absurd reason
+replay_reason bytes script got Usage reason cause one exact = absurd reason
+replay_reason bytes script got ReadFault reason cause one exact = absurd reason
+replay_reason bytes script got WriteFault reason cause one exact = absurd reason
+replay_reason bytes script got Broken reason cause one exact = absurd reason
+replay_reason bytes script got OutOfMemory reason cause one exact = absurd reason
+replay_reason bytes script got (BadKeyring line why) reason cause one exact = absurd reason
 
--- a schedule of which all lines are taken has no reason to be refused
-pub schedule_read : (bytes : List ℕ) (script : List Numbered) (status : Status) → IsReasonFor Replay bytes status → first_untaken script ≡ None
+-- a schedule that is served has no reason to be refused
+pub schedule_read : (bytes : List ℕ) (script : List Numbered) (status : Status) → IsReasonFor Replay bytes status → first_unserved script ≡ None
     → ((other : List Numbered) → files.Lines bytes other → script ≡ other) → ((why : ScheduleRefusal) → files.IsReason bytes why → ⊥) → ⊥
 schedule_read bytes script TooLong reason taken one exact = exact schedule.TooLong reason
 schedule_read bytes script (BadSchedule line bad) reason taken one exact = exact (schedule.BadLine line bad) reason
 schedule_read bytes script (NotYet line) (short, (other, lines, untaken)) taken one exact =
-    absurd (let e : None ≡ Some line = sym taken ∙ ap first_untaken (one other lines) ∙ untaken in cc)
+    absurd (let e : None ≡ Some line = sym taken ∙ ap first_unserved (one other lines) ∙ untaken in cc)
 schedule_read bytes script Done reason taken one exact = reason
 schedule_read bytes script Usage reason taken one exact = reason
 schedule_read bytes script ReadFault reason taken one exact = reason
 schedule_read bytes script WriteFault reason taken one exact = reason
+schedule_read bytes script Broken reason taken one exact = reason
 schedule_read bytes script OutOfMemory reason taken one exact = reason
 schedule_read bytes script (BadKeyring line why) reason taken one exact = reason
 
--- why there is no plain run is why the bytes are refused
-pub plain_cause : (bytes : List ℕ) (script : List Numbered) (got : PlainRefusal) → files.IsShort bytes → files.Lines bytes script → IsPlainCause script got → IsBytesCause Replay bytes (plain_status got)
-plain_cause bytes script (plain.NotYet n) short lines cause = (short, (script, lines, cause))
-plain_cause bytes script plain.OutOfMemory short lines cause = tt
+-- why there is no replay is why the bytes are refused
+pub replay_cause : (bytes : List ℕ) (script : List Numbered) (got : ReplayRefusal) → files.IsShort bytes → files.Lines bytes script → IsReplayCause script got → IsBytesCause Replay bytes (replay_status got)
+replay_cause bytes script (replay.NotYet n) short lines cause = (short, (script, lines, cause))
+replay_cause bytes script replay.OutOfMemory short lines cause = tt
 
--- there is a plain run of a schedule of which all lines are taken, or memory is wanting
-pub plain_answered : (bytes : List ℕ) (script : List Numbered) (got : PlainRefusal) → ((other : List Numbered) → files.Lines bytes other → script ≡ other) → IsPlainCause script got → IsAnswered Replay bytes → plain_status got ≡ OutOfMemory
-plain_answered bytes script (plain.NotYet n) one cause (other, lines, taken, short) =
-    absurd (let e : None ≡ Some n = sym taken ∙ ap first_untaken (sym (one other lines)) ∙ cause in cc)
-plain_answered bytes script plain.OutOfMemory one cause answered = refl
+-- a schedule that is served is replayed, or memory is wanting
+pub replay_answered : (bytes : List ℕ) (script : List Numbered) (got : ReplayRefusal) → ((other : List Numbered) → files.Lines bytes other → script ≡ other) → IsReplayCause script got → IsAnswered Replay bytes → replay_status got ≡ OutOfMemory
+replay_answered bytes script (replay.NotYet n) one cause (other, lines, taken, short) =
+    absurd (let e : None ≡ Some n = sym taken ∙ ap first_unserved (sym (one other lines)) ∙ cause in cc)
+replay_answered bytes script replay.OutOfMemory one cause answered = refl
 
 -- ---- keyrings
 
@@ -107,6 +110,7 @@ keyring_reason bytes got Done short reason exact = absurd reason
 keyring_reason bytes got Usage short reason exact = absurd reason
 keyring_reason bytes got ReadFault short reason exact = absurd reason
 keyring_reason bytes got WriteFault short reason exact = absurd reason
+keyring_reason bytes got Broken short reason exact = absurd reason
 keyring_reason bytes got OutOfMemory short reason exact = absurd reason
 
 -- a keyring that is read has no reason to be refused
@@ -120,4 +124,5 @@ keyring_read bytes Done short reason exact = reason
 keyring_read bytes Usage short reason exact = reason
 keyring_read bytes ReadFault short reason exact = reason
 keyring_read bytes WriteFault short reason exact = reason
+keyring_read bytes Broken short reason exact = reason
 keyring_read bytes OutOfMemory short reason exact = reason

@@ -6,13 +6,13 @@ use Rattle.cx_keyring.specs.declared.faults.KeyringFault.{KeyringFault}
 use Rattle.cx_keyring.specs.declared.refusals.KeyringRefusal.TheVariants as keyring
 use Rattle.cx_keyring.specs.Rings.{KeyringText, IsKeyringCause}
 use Rattle.cx_lines.specs.declared.lines.Numbered.{Numbered}
-use Rattle.cx_plain.specs.PlainLines.{first_untaken}
+use Rattle.cx_replay.specs.Serving.{first_unserved}
 use Rattle.cx_schedule.specs.declared.refusals.ScheduleRefusal.TheVariants as schedule
 use Rattle.cx_schedule.specs.Files.{Lines, IsShort, IsScheduleCause}
 use Rattle.cx_top.specs.declared.commands.Command.{Command}
 use Rattle.cx_top.specs.declared.commands.Command.TheVariants.{Replay, Keyring}
 use Rattle.cx_top.specs.declared.status.Status.{Status}
-use Rattle.cx_top.specs.declared.status.Status.TheVariants.{Done, Usage, BadSchedule, ReadFault, WriteFault, OutOfMemory, BadKeyring, TooLong, NotYet}
+use Rattle.cx_top.specs.declared.status.Status.TheVariants.{Done, Usage, BadSchedule, ReadFault, WriteFault, OutOfMemory, BadKeyring, Broken, TooLong, NotYet}
 use Rattle.cx_top.specs.Replays.{GaveAll}
 
 -- ---- the bytes
@@ -23,15 +23,15 @@ abbrev pub IsBadKeyring : List ℕ → ℕ → Option KeyringFault → Type 0
 IsBadKeyring bytes line (Some why) = IsKeyringCause bytes (keyring.BadLine line why)
 IsBadKeyring bytes line None = (line ≡ 0) × (ring : List Entry) × KeyringText bytes ring × (4096 < length ring)
 
--- the bytes are a schedule, and this line is its first that the plain run doesn't take
-abbrev pub IsUntakenAt : List ℕ → ℕ → Type 0
-IsUntakenAt bytes line = (script : List Numbered) × Lines bytes script × (first_untaken script ≡ Some line)
+-- the bytes are a schedule, and this line is the first for which it isn't served yet
+abbrev pub IsUnservedAt : List ℕ → ℕ → Type 0
+IsUnservedAt bytes line = (script : List Numbered) × Lines bytes script × (first_unserved script ≡ Some line)
 
 -- these bytes must be refused with this status
 abbrev pub IsReasonFor : Command → List ℕ → Status → Type 0
 IsReasonFor command bytes TooLong = IsShort bytes → ⊥
 IsReasonFor Replay bytes (BadSchedule line bad) = IsScheduleCause bytes (schedule.BadLine line bad)
-IsReasonFor Replay bytes (NotYet line) = IsShort bytes × IsUntakenAt bytes line
+IsReasonFor Replay bytes (NotYet line) = IsShort bytes × IsUnservedAt bytes line
 IsReasonFor Keyring bytes (BadKeyring line why) = IsShort bytes × IsBadKeyring bytes line why
 IsReasonFor command bytes _ = ⊥
 
@@ -42,14 +42,15 @@ IsBytesCause command bytes Done = ⊥
 IsBytesCause command bytes Usage = ⊥
 IsBytesCause command bytes ReadFault = ⊥
 IsBytesCause command bytes WriteFault = ⊥
+IsBytesCause command bytes Broken = ⊥
 IsBytesCause command bytes TooLong = IsReasonFor command bytes TooLong
 IsBytesCause command bytes (BadSchedule line bad) = IsReasonFor command bytes (BadSchedule line bad)
 IsBytesCause command bytes (NotYet line) = IsReasonFor command bytes (NotYet line)
 IsBytesCause command bytes (BadKeyring line why) = IsReasonFor command bytes (BadKeyring line why)
 
--- the bytes are a schedule that the plain run takes, or a keyring, within the limits
+-- the bytes are a schedule that is served, or a keyring, within the limits
 abbrev pub IsAnswered : Command → List ℕ → Type 0
-IsAnswered Replay bytes = (script : List Numbered) × Lines bytes script × (first_untaken script ≡ None) × IsShort bytes
+IsAnswered Replay bytes = (script : List Numbered) × Lines bytes script × (first_unserved script ≡ None) × IsShort bytes
 IsAnswered Keyring bytes = (ring : List Entry) × KeyringText bytes ring × (length ring ≤ 4096) × IsShort bytes
 
 -- ---- the input
@@ -75,6 +76,7 @@ IsRefusedStatus command left now Done = Unit {0}
 IsRefusedStatus command left now Usage = Unit {0}
 IsRefusedStatus command left now ReadFault = Unit {0}
 IsRefusedStatus command left now WriteFault = Unit {0}
+IsRefusedStatus command left now Broken = Unit {0}
 IsRefusedStatus command left now OutOfMemory = Unit {0}
 
 -- why there is no text for this input: the count of its faults rose, or it is refused; want of memory is free
@@ -88,6 +90,7 @@ IsInputCause command left now before after OutOfMemory = Unit {0}
 IsInputCause command left now before after Done = ⊥
 IsInputCause command left now before after Usage = ⊥
 IsInputCause command left now before after WriteFault = ⊥
+IsInputCause command left now before after Broken = ⊥
 
 -- the source tells what it has, and that is a schedule or a keyring within the limits
 abbrev pub HasAnswer : Command → Option (List ℕ) → Type 0

@@ -2,14 +2,14 @@
 use Rattle.std.specs.Prelude.{ℕ, ◌≡◌, Some, None}
 use Rattle.cx_keyring.specs.declared.refusals.KeyringRefusal.{KeyringRefusal}
 use Rattle.cx_keyring.specs.declared.refusals.KeyringRefusal.TheVariants as keyring
-use Rattle.cx_plain.specs.declared.refusals.PlainRefusal.{PlainRefusal}
-use Rattle.cx_plain.specs.declared.refusals.PlainRefusal.TheVariants as plain
+use Rattle.cx_replay.specs.declared.refusals.ReplayRefusal.{ReplayRefusal}
+use Rattle.cx_replay.specs.declared.refusals.ReplayRefusal.TheVariants as replay
 use Rattle.cx_schedule.specs.declared.refusals.ScheduleRefusal.{ScheduleRefusal}
 use Rattle.cx_schedule.specs.declared.refusals.ScheduleRefusal.TheVariants as refusal
 use Rattle.cx_top.specs.declared.input.Unread.{Unread}
 use Rattle.cx_top.specs.declared.input.Unread.TheVariants as unread
 use Rattle.cx_top.specs.declared.status.Status.{Status}
-use Rattle.cx_top.specs.declared.status.Status.TheVariants.{Done, Usage, BadSchedule, ReadFault, WriteFault, OutOfMemory, BadKeyring, TooLong, NotYet}
+use Rattle.cx_top.specs.declared.status.Status.TheVariants.{Done, Usage, BadSchedule, ReadFault, WriteFault, OutOfMemory, BadKeyring, Broken, TooLong, NotYet}
 
 -- the number with which the program ends
 abbrev pub number_of : Status → ℕ
@@ -20,6 +20,7 @@ number_of ReadFault = 3
 number_of WriteFault = 4
 number_of OutOfMemory = 5
 number_of (BadKeyring _ _) = 6
+number_of Broken = 7
 number_of TooLong = 12
 number_of (NotYet _) = 13
 
@@ -29,10 +30,10 @@ schedule_status refusal.TooLong = TooLong
 schedule_status (refusal.BadLine line bad) = BadSchedule line bad
 schedule_status refusal.OutOfMemory = OutOfMemory
 
--- the status of a schedule of which there is no plain run
-abbrev pub plain_status : PlainRefusal → Status
-plain_status (plain.NotYet line) = NotYet line
-plain_status plain.OutOfMemory = OutOfMemory
+-- the status of a schedule that isn't replayed
+abbrev pub replay_status : ReplayRefusal → Status
+replay_status (replay.NotYet line) = NotYet line
+replay_status replay.OutOfMemory = OutOfMemory
 
 -- the status of a refused keyring
 abbrev pub keyring_status : KeyringRefusal → Status
@@ -46,9 +47,10 @@ input_status unread.Fault = ReadFault
 input_status unread.TooLong = TooLong
 input_status unread.OutOfMemory = OutOfMemory
 
--- the work was done, or memory was wanting
+-- the work was done, whether or not a run broke a premise, or memory was wanting
 abbrev pub IsServed : Status → Type 0
 IsServed Done = Unit {0}
+IsServed Broken = Unit {0}
 IsServed OutOfMemory = Unit {0}
 IsServed Usage = ⊥
 IsServed (BadSchedule _ _) = ⊥
@@ -67,5 +69,6 @@ IsOrMemory expected (BadSchedule line bad) = BadSchedule line bad ≡ expected
 IsOrMemory expected ReadFault = ReadFault ≡ expected
 IsOrMemory expected WriteFault = WriteFault ≡ expected
 IsOrMemory expected (BadKeyring line why) = BadKeyring line why ≡ expected
+IsOrMemory expected Broken = Broken ≡ expected
 IsOrMemory expected TooLong = TooLong ≡ expected
 IsOrMemory expected (NotYet line) = NotYet line ≡ expected

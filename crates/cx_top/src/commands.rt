@@ -4,6 +4,8 @@ ghost use Rattle.std.specs.Prelude.{◌≡◌, ◌≢◌, [], ◌∷◌, map, Is
 ghost use Rattle.cx_top.specs.Commands.{command_word};
 ghost use Rattle.cx_top.specs.declared.commands.Command.{Command};
 
+use cx_base::Blob;
+
 /// What the program does with its input.
 #[derive(Clone, Copy, Debug, PartialEq, Eq)]
 pub enum Command {
@@ -11,6 +13,13 @@ pub enum Command {
     Replay,
     /// Reads a keyring, and writes it in its printed form.
     Keyring,
+}
+
+/// What a command makes of its input: the text that is to be written, and whether a run broke a premise.
+#[derive(Debug, Drop)]
+pub struct Made {
+    pub text: Blob,
+    pub is_broken: bool,
 }
 
 /// The command whose one word these words are.

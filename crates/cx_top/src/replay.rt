@@ -8,22 +8,24 @@ ghost use Rattle.cx_top.specs.Statuses.{IsOrMemory};
 ghost use Rattle.cx_top.specs.declared.commands.Command.TheVariants.{Replay};
 ghost use Rattle.cx_top.specs.declared.status.Status.{Status};
 
+use crate::commands::Made;
 use crate::status::Status;
 use cx_base::Blob;
 use cx_desk::Desk;
-use cx_journal::put_text;
+use cx_replay::put_report;
 use std::alloc::Global;
 
-/// The text of the journal of the schedule that these bytes are, run over this desk.
-pub fn replayed(alloc: Global, bytes: &[u8], desk: &Desk) -> Result<Blob, Status>
-    ensures makes { IfOk result (Makes (handlers_of desk.now) Replay bytes.now) }
+/// The text of the journal of the schedule that these bytes are, run over this desk, and behind it, where a premise is broken, the first breach.
+pub fn replayed(alloc: Global, bytes: &[u8], desk: &Desk) -> Result<Made, Status>
+    ensures makes { IfOk result (λ made. Makes (handlers_of desk.now) Replay bytes.now made.is_broken made.text) }
     ensures cause { IfErr result (IsBytesCause Replay bytes.now) }
     ensures complete { IsAnswered Replay bytes.now → IfErr result (λ status. status ≡ Status.OutOfMemory) }
-    ensures exact { (why : Status) → IsReasonFor Replay bytes.now why → MatchResult result (λ text. ⊥) (IsOrMemory why) }
+    ensures exact { (why : Status) → IsReasonFor Replay bytes.now why → MatchResult result (λ made. ⊥) (IsOrMemory why) }
 {
     let script = cx_schedule::read(alloc, bytes)?;
-    let journal = cx_plain::run(alloc, script.lines(), desk)?;
+    let report = cx_replay::replay(alloc, &script, desk)?;
+    let is_broken = report.broken.is_some();
     let mut text = Blob::new(alloc);
-    put_text(alloc, &journal, &mut text)?;
-    Ok(text)
+    put_report(alloc, report, &mut text)?;
+    Ok(Made { text, is_broken })
 }

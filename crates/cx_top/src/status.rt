@@ -6,7 +6,7 @@ ghost use Rattle.cx_top.specs.Statuses.{number_of};
 use crate::input::Unread;
 use cx_keyring::{KeyringFault, KeyringRefusal};
 use cx_lines::BadWord;
-use cx_plain::PlainRefusal;
+use cx_replay::ReplayRefusal;
 use cx_schedule::ScheduleRefusal;
 use std::alloc::AllocError;
 
@@ -35,9 +35,11 @@ pub enum Status {
         line: u64,
         why: Option<KeyringFault>,
     },
+    /// A premise of the run is broken. The whole journal was written, and the first breach as its last line.
+    Broken,
     /// The input has more than 1,048,576 bytes or 20,000 lines.
     TooLong,
-    /// The input is a schedule, and this line, from 1, is its first that is not served yet.
+    /// The input is a schedule, and this line, from 1, is the first for which it is not served yet.
     NotYet {
         line: u32,
     },
@@ -56,6 +58,7 @@ impl Status {
             Status::WriteFault => 4,
             Status::OutOfMemory => 5,
             Status::BadKeyring { .. } => 6,
+            Status::Broken => 7,
             Status::TooLong => 12,
             Status::NotYet { .. } => 13,
         }
@@ -88,16 +91,16 @@ impl From<ScheduleRefusal> for Status {
     }
 }
 
-impl From<PlainRefusal> for Status {
+impl From<ReplayRefusal> for Status {
     ghost use Rattle.std.specs.Prelude.{◌≡◌};
-    ghost use Rattle.cx_top.specs.Statuses.{plain_status};
+    ghost use Rattle.cx_top.specs.Statuses.{replay_status};
 
-    ghost from_gives = { λ refusal status. status ≡ plain_status refusal };
+    ghost from_gives = { λ refusal status. status ≡ replay_status refusal };
 
-    fn from(refusal: PlainRefusal) -> Status {
+    fn from(refusal: ReplayRefusal) -> Status {
         match refusal {
-            PlainRefusal::NotYet { line } => Status::NotYet { line },
-            PlainRefusal::OutOfMemory => Status::OutOfMemory,
+            ReplayRefusal::NotYet { line } => Status::NotYet { line },
+            ReplayRefusal::OutOfMemory => Status::OutOfMemory,
         }
     }
 }

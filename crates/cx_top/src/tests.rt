@@ -128,13 +128,49 @@ static LATER_LINES: [&str; 17] = [
     "settle",
 ];
 
+/// Good lines that no run serves.
+static AHEAD: [&str; 8] = [
+    "renew client.a osd",
+    "do fetch osd.0",
+    "do renew client.a osd",
+    "do connect client.a osd.0",
+    "do send client.a osd.0 read p n o -",
+    "drop osd.0 1",
+    "tick mon",
+    "restart osd.0",
+];
+
+// A schedule of these two lines below two entities is refused at the first of the two.
+fn check_ahead(rt: &impl Abort, alloc: Global, line: &str, below: &str) -> Result<(), AllocError> {
+    let input = format!(in alloc; "entity client.a\n\nentity osd.0\n{line}\n{below}\n")?;
+    let (status, _) = run_over(alloc, &["replay"], input.as_bytes(), &[], ROOM)?;
+    assert_eq!(rt; status, Status::NotYet { line: 4 }, "{}", line);
+    Ok(())
+}
+
 #[test]
 fn the_first_line_that_is_not_served_yet_is_told(rt: HostRuntime) -> Result<(), AllocError> {
     for line in &LATER_LINES {
-        let input = format!(in rt.alloc(); "entity client.a\n\nentity osd.0\n{line}\nsettle\n")?;
-        let (status, _) = run_over(rt.alloc(), &["replay"], input.as_bytes(), &[], ROOM)?;
-        assert_eq!(rt; status, Status::NotYet { line: 4 }, "{}", line);
+        check_ahead(&rt, rt.alloc(), line, "fetch osd.0")?;
     }
+    for line in &AHEAD {
+        check_ahead(&rt, rt.alloc(), line, "settle")?;
+    }
+    Ok(())
+}
+
+/// Two clients with one seed draw one challenge.
+const ONE_SEED: &str =
+    "entity client.a\nentity client.b\nseed client.a 5\nseed client.b 5\nclock 1000\nlogin client.a\nlogin client.b\n";
+
+#[test]
+fn a_breach_stands_behind_the_journal(rt: HostRuntime) -> Result<(), AllocError> {
+    let (status, sink) = run_over(rt.alloc(), &["replay"], ONE_SEED.as_bytes(), &[], ROOM)?;
+    assert_eq!(rt; status, Status::Broken);
+    assert!(rt;
+        sink.taken()
+            .ends_with(b"broken draw client.b challenge 7\n")
+    );
     Ok(())
 }
 

@@ -1,6 +1,6 @@
 //! The top call.
 
-ghost use Rattle.std.specs.Prelude.{◌≡◌, ◌≢◌, ◌≤◌, ◌↔◌, [], ◌∷◌, map, IfOk, IfErr, MatchResult};
+ghost use Rattle.std.specs.Prelude.{◌≡◌, ◌≢◌, ◌≤◌, ◌↔◌, [], ◌∷◌, false, true, map, IfOk, IfErr, MatchResult};
 ghost use Rattle.cx_base.specs.Streams.{Rose};
 ghost use Rattle.cx_desk.specs.Held.{handlers_of};
 ghost use Rattle.cx_top.specs.Causes.{HasAnswer, HasReason, IsAnswered, IsBytesCause, IsInputCause, IsReasonFor, IsRefusedStatus};
@@ -9,12 +9,12 @@ ghost use Rattle.cx_top.specs.Statuses.{IsOrMemory, IsServed};
 ghost use Rattle.cx_top.specs.declared.commands.Command.{Command};
 ghost use Rattle.cx_top.specs.declared.status.Status.{Status};
 
-use crate::commands::{Command, command_of};
+use crate::commands::{Command, Made, command_of};
 use crate::input::read_all;
 use crate::keyring::printed;
 use crate::replay::replayed;
 use crate::status::Status;
-use cx_base::{Blob, Sink, Source};
+use cx_base::{Sink, Source};
 use cx_desk::Desk;
 use std::alloc::Global;
 
@@ -36,10 +36,12 @@ pub fn run<I: Source, O: Sink>(
     ensures write { result ≡ Status.WriteFault → Rose (O.faults out.old) (O.faults out.new) }
 
     ensures done { result ≡ Status.Done → (command : Command) → map (λ w. w.now) words.now ≡ command_word command ∷ []
-        → Writes (handlers_of desk.now) command (I.left input.old) (I.left input.new) (O.taken out.old) (O.taken out.new) }
+        → Writes (handlers_of desk.now) command false (I.left input.old) (I.left input.new) (O.taken out.old) (O.taken out.new) }
+    ensures broken { result ≡ Status.Broken → (command : Command) → map (λ w. w.now) words.now ≡ command_word command ∷ []
+        → Writes (handlers_of desk.now) command true (I.left input.old) (I.left input.new) (O.taken out.old) (O.taken out.new) }
     ensures front { result ≡ Status.WriteFault → (command : Command) → map (λ w. w.now) words.now ≡ command_word command ∷ []
         → WritesFront (handlers_of desk.now) command (I.left input.old) (I.left input.new) (O.taken out.old) (O.taken out.new) }
-    ensures untouched { result ≢ Status.Done → result ≢ Status.WriteFault → out.new ≡ out.old }
+    ensures untouched { result ≢ Status.Done → result ≢ Status.Broken → result ≢ Status.WriteFault → out.new ≡ out.old }
     ensures unread { result ≡ Status.Usage → input.new ≡ input.old }
 
     // A schedule or a keyring within the limits is served, where memory isn't wanting and no count of faults rose.
@@ -59,13 +61,17 @@ pub fn run<I: Source, O: Sink>(
     let Some(command) = command_of(words) else {
         return Status::Usage;
     };
-    let text = match text_from(alloc, command, input, desk) {
-        Ok(text) => text,
+    let Made { text, is_broken } = match text_from(alloc, command, input, desk) {
+        Ok(made) => made,
         Err(status) => return status,
     };
-    match out.push(text.bytes()) {
-        Ok(()) => Status::Done,
-        Err(_) => Status::WriteFault,
+    if out.push(text.bytes()).is_err() {
+        return Status::WriteFault;
+    }
+    if is_broken {
+        Status::Broken
+    } else {
+        Status::Done
     }
 }
 
@@ -75,14 +81,14 @@ fn text_from<I: Source>(
     command: Command,
     input: &mut I,
     desk: &Desk,
-) -> Result<Blob, Status>
-    ensures makes { IfOk result (MakesOfAll (handlers_of desk.now) command (I.left input.old) (I.left input.new)) }
+) -> Result<Made, Status>
+    ensures makes { IfOk result (λ made. MakesOfAll (handlers_of desk.now) command (I.left input.old) (I.left input.new) made.is_broken made.text) }
     ensures cause { IfErr result (IsInputCause command (I.left input.old) (I.left input.new) (I.faults input.old) (I.faults input.new)) }
     ensures complete { HasAnswer command (I.left input.old) → ¬ Rose (I.faults input.old) (I.faults input.new)
         → IfErr result (λ status. status ≡ Status.OutOfMemory) }
     ensures exact { (why : Status) → HasReason command (I.left input.old) why
         → ¬ Rose (I.faults input.old) (I.faults input.new)
-        → MatchResult result (λ text. ⊥) (IsOrMemory why) }
+        → MatchResult result (λ made. ⊥) (IsOrMemory why) }
     ensures reads { I.faults input.old ≤ I.faults input.new }
 {
     let bytes = read_all(alloc, input)?;
@@ -90,14 +96,20 @@ fn text_from<I: Source>(
 }
 
 // What the command makes of these bytes.
-fn text_of(alloc: Global, command: Command, bytes: &[u8], desk: &Desk) -> Result<Blob, Status>
-    ensures makes { IfOk result (Makes (handlers_of desk.now) command bytes.now) }
+fn text_of(alloc: Global, command: Command, bytes: &[u8], desk: &Desk) -> Result<Made, Status>
+    ensures makes { IfOk result (λ made. Makes (handlers_of desk.now) command bytes.now made.is_broken made.text) }
     ensures cause { IfErr result (IsBytesCause command bytes.now) }
     ensures complete { IsAnswered command bytes.now → IfErr result (λ status. status ≡ Status.OutOfMemory) }
-    ensures exact { (why : Status) → IsReasonFor command bytes.now why → MatchResult result (λ text. ⊥) (IsOrMemory why) }
+    ensures exact { (why : Status) → IsReasonFor command bytes.now why → MatchResult result (λ made. ⊥) (IsOrMemory why) }
 {
     match command {
         Command::Replay => replayed(alloc, bytes, desk),
-        Command::Keyring => printed(alloc, bytes),
+        Command::Keyring => {
+            let text = printed(alloc, bytes)?;
+            Ok(Made {
+                text,
+                is_broken: false,
+            })
+        }
     }
 }

@@ -1,0 +1,62 @@
+//! The run that serves a schedule.
+
+ghost use Rattle.std.specs.Prelude.{◌≡◌, None, true, false, IfErr, IfOk, IsTrue, OnOk};
+ghost use Rattle.std.specs.List.{list_all};
+ghost use Rattle.cx_desk.specs.Held.{handlers_of};
+ghost use Rattle.cx_lines.specs.Lines.{is_numbered_in_range};
+ghost use Rattle.cx_plain.specs.PlainLines.{first_untaken};
+ghost use Rattle.cx_setup.specs.Beginning.{IsSchedule};
+ghost use Rattle.cx_replay.specs.declared.refusals.ReplayRefusal.TheVariants.{OutOfMemory};
+ghost use Rattle.cx_replay.specs.Serving.{IsReplayBy, IsReplayCause, IsReplayOf, IsUnservedBy, first_unserved};
+
+use crate::lines::{first_ahead, has_daemon_line};
+use crate::refusals::ReplayRefusal;
+use cx_desk::Desk;
+use cx_laws_run::{journal_laws, login_laws};
+use cx_schedule::Script;
+use cx_world::Report;
+use std::alloc::Global;
+
+/// The run of a schedule: through bytes where it has no fetch, connect or send line, and else the plain run, over this desk of handlers. Where it
+/// has a line that its run doesn't serve yet, it is refused at the first of these.
+pub fn replay(alloc: Global, script: &Script, desk: &Desk) -> Result<Report, ReplayRefusal>
+    requires schedule { IsSchedule script.now }
+    requires in_range { IsTrue (list_all is_numbered_in_range script.now) }
+    ensures replayed { IfOk result (λ report. IsReplayOf (handlers_of desk.now) script.now report.journal report.broken) }
+    ensures served { OnOk result (first_unserved script.now ≡ None) }
+    ensures refused { IfErr result (IsReplayCause script.now) }
+{
+    if has_daemon_line(script.lines()) {
+        return plainly(alloc, script, desk);
+    }
+    if let Some(line) = first_ahead(script.lines()) {
+        return Err(ReplayRefusal::NotYet { line });
+    }
+    through_bytes(alloc, script, desk)
+}
+
+/// The run through bytes. Where it keeps both premises, the laws over every run hold of its journal.
+fn through_bytes(alloc: Global, script: &Script, desk: &Desk) -> Result<Report, ReplayRefusal>
+    requires { IsSchedule script.now }
+    ensures replayed { IfOk result (λ report. IsReplayBy false (handlers_of desk.now) script.now report.journal report.broken) }
+    ensures memory { IfErr result (λ why. why ≡ OutOfMemory) }
+{
+    journal_laws();
+    login_laws();
+    let report = cx_world::run(alloc, script)?;
+    Ok(report)
+}
+
+/// The plain run, which breaks no premise.
+fn plainly(alloc: Global, script: &Script, desk: &Desk) -> Result<Report, ReplayRefusal>
+    requires { IsTrue (list_all is_numbered_in_range script.now) }
+    ensures replayed { IfOk result (λ report. IsReplayBy true (handlers_of desk.now) script.now report.journal report.broken) }
+    ensures served { OnOk result (first_untaken script.now ≡ None) }
+    ensures refused { IfErr result (IsUnservedBy (first_untaken script.now)) }
+{
+    let journal = cx_plain::run(alloc, script.lines(), desk)?;
+    Ok(Report {
+        journal,
+        broken: None,
+    })
+}

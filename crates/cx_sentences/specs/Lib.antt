@@ -1,0 +1,5 @@
+pub mod Forms
+pub mod Hints
+pub mod Problems
+pub mod Words
+pub mod Wrong
