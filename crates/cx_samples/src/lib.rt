@@ -1,4 +1,4 @@
-//! A record of each kind that the layouts of cx_enc make.
+//! A record of each kind that layouts make, and the lists and readers of cx_enc.
 #![tactic(auto)]
 
 mod samples;

@@ -19,8 +19,8 @@ pub struct Seat {
 
 impl Encoded for Seat {
     ghost use Rattle.std.specs.Prelude.{refl};
-    ghost use Rattle.cx_enc.specs.Moments.{IsReading};
-    ghost use Rattle.cx_enc.specs.Layouts.{◌⊗◌, seen_as, u64_field, key_field, reading_field};
+    ghost use Rattle.cx_forms.specs.Moments.{IsReading};
+    ghost use Rattle.cx_layouts.specs.Layouts.{◌⊗◌, seen_as, u64_field, key_field, reading_field};
 
     ghost layout = { seen_as (u64_field ⊗ key_field ⊗ reading_field)
         (λ (id, (key, expires)). record { id = id; key = key; expires = expires })
@@ -54,7 +54,7 @@ pub struct Roster {
 
 impl Encoded for Roster {
     ghost use Rattle.std.specs.Prelude.{length, ◌<◌, ◌^◌, All, refl};
-    ghost use Rattle.cx_enc.specs.Layouts.{◌⊗◌, seen_as, kind_field, list_of};
+    ghost use Rattle.cx_layouts.specs.Layouts.{◌⊗◌, seen_as, kind_field, list_of};
 
     ghost layout = { seen_as (kind_field ⊗ list_of ⟦<Seat as Encoded>⟧.layout)
         (λ (service, seats). record { service = service; seats = seats })
@@ -87,7 +87,7 @@ pub struct Offer {
 
 impl Encoded for Offer {
     ghost use Rattle.std.specs.Prelude.{length, ◌≤◌, ◌<◌, ◌^◌, refl};
-    ghost use Rattle.cx_enc.specs.Layouts.{◌⊗◌, seen_as, u32_field, count_field, list_by, blob_field};
+    ghost use Rattle.cx_layouts.specs.Layouts.{◌⊗◌, seen_as, u32_field, count_field, list_by, blob_field};
 
     ghost layout = { seen_as (u32_field ⊗ list_by (count_field 0 16) u32_field ⊗ blob_field)
         (λ (method, (modes, payload)). record { method = method; modes = modes; payload = payload })
@@ -121,7 +121,7 @@ pub struct Rung {
 
 impl Chained<u64> for Rung {
     ghost use Rattle.std.specs.Prelude.{◌<◌, nat_lt, refl};
-    ghost use Rattle.cx_enc.specs.Layouts.{◌⊗◌, seen_as, only_if, u32_field, u64_field};
+    ghost use Rattle.cx_layouts.specs.Layouts.{◌⊗◌, seen_as, only_if, u32_field, u64_field};
 
     ghost layout = { λ last. seen_as (only_if (nat_lt last) u64_field ⊗ u32_field)
         (λ (id, height). record { id = id; height = height })
@@ -162,7 +162,7 @@ pub struct Complaint {
 
 impl ReadsPart for Complaint {
     ghost use Rattle.std.specs.Prelude.{ℕ, List};
-    ghost use Rattle.cx_enc.specs.Layouts.{◌⊗◌, u32_field, count_field, list_by};
+    ghost use Rattle.cx_layouts.specs.Layouts.{◌⊗◌, u32_field, count_field, list_by};
 
     ghost Whole = { ℕ × (ℕ × (List ℕ × List ℕ)) };
 
@@ -191,7 +191,7 @@ pub struct Tally {
 
 impl Encoded for Tally {
     ghost use Rattle.std.specs.Prelude.{refl};
-    ghost use Rattle.cx_enc.specs.Layouts.{◌⊗◌, seen_as, u64_field, flag_field, bytes_field};
+    ghost use Rattle.cx_layouts.specs.Layouts.{◌⊗◌, seen_as, u64_field, flag_field, bytes_field};
 
     ghost layout = { seen_as (u64_field ⊗ flag_field ⊗ bytes_field 4)
         (λ (number, (closed, mark)). record { number = number; closed = closed; mark = mark })
@@ -238,8 +238,8 @@ pub struct Notice {
 
 impl Encoded for Notice {
     ghost use Rattle.std.specs.Prelude.{length, ◌<◌, ◌^◌, refl};
-    ghost use Rattle.cx_enc.specs.Moments.{IsReading};
-    ghost use Rattle.cx_enc.specs.Layouts.{◌⊗◌, ◌⊳◌, seen_as, constant, u8_field, u64_field, kind_field, reading_field, secret_field, name_field, flag_field, ticket_field, sized_field, addr_field, blob_field};
+    ghost use Rattle.cx_forms.specs.Moments.{IsReading};
+    ghost use Rattle.cx_layouts.specs.Layouts.{◌⊗◌, ◌⊳◌, seen_as, constant, u8_field, u64_field, kind_field, reading_field, secret_field, name_field, flag_field, ticket_field, sized_field, addr_field, blob_field};
 
     ghost layout = { seen_as (constant 9 u8_field ⊳ kind_field ⊗ u64_field ⊗ reading_field ⊗ secret_field ⊗ name_field ⊗ flag_field ⊗ ticket_field ⊗ sized_field 64 ⊗ addr_field ⊗ blob_field)
         (λ (service, (gid, (created, (session, (owner, (urgent, (ticket, (proof, (addr, text))))))))). record {
