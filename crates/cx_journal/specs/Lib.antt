@@ -9,6 +9,7 @@ pub mod KeepsKeys
 pub mod Leaks
 pub mod Legal
 pub mod Nodes
+pub mod Numbered
 pub mod Places
 pub mod PrefixOfSent
 pub mod Ranked

@@ -5,6 +5,7 @@ use crate::outcomes::{Outcome, Reason};
 use crate::premises::Broken;
 use cx_base::{Blob, EntityName, EntityType, Operation, Reading, Text};
 use cx_rotate::{Generations, View};
+use std::fmt;
 
 /// The monitor issued a ticket. Its number is its place among the issued tickets of the journal.
 #[derive(Debug, PartialEq, Eq, Drop)]
@@ -97,7 +98,7 @@ pub struct Ended {
 }
 
 /// One entry of a journal.
-#[derive(Debug, PartialEq, Eq, Drop)]
+#[derive(PartialEq, Eq, Drop)]
 pub enum Entry {
     /// The monitor saved its state, with this next global id.
     Saved(u64),
@@ -117,4 +118,32 @@ pub enum Entry {
     Broken(Broken),
     /// The secret of this client, and all that is sealed for it, count as known to whoever wrote the schedule.
     Leaked(EntityName),
+}
+
+impl Entry {
+    fn kind(&self) -> &'static str {
+        match self {
+            Entry::Saved(_) => "Saved",
+            Entry::Issued(_) => "Issued",
+            Entry::Fetched(_) => "Fetched",
+            Entry::Looked(_) => "Looked",
+            Entry::Admitted(_) => "Admitted",
+            Entry::Resumed(_) => "Resumed",
+            Entry::Sent(_) => "Sent",
+            Entry::Handled(_) => "Handled",
+            Entry::Answered(_) => "Answered",
+            Entry::Refused(_) => "Refused",
+            Entry::Ended(_) => "Ended",
+            Entry::Restarted(_) => "Restarted",
+            Entry::Broken(_) => "Broken",
+            Entry::Leaked(_) => "Leaked",
+        }
+    }
+}
+
+/// The kind of entry alone: `put_text` writes what it says.
+impl fmt::Debug for Entry {
+    fn fmt<W: fmt::Write>(&self, f: &mut fmt::Formatter<W>) -> fmt::Result {
+        f.write_str(self.kind())
+    }
 }

@@ -1,11 +1,16 @@
 //! What was wrong with the bytes of a link, with a login or with a session.
 
+ghost use Rattle.std.specs.Prelude.{◌≡◌, None};
+ghost use Rattle.cx_journal.specs.Numbered.{numbered, bytes_number, login_numbers, session_number, IsSessionFault};
+ghost use Rattle.cx_journal.specs.Words.{bytes_fault_text, login_fault_text};
+
+use crate::words::put_numbered;
 use cx_base::{Duplicate, EntityName};
 use std::alloc::{AllocError, Global};
 use std::fmt;
 
 /// What came on a link is no banner, frame or payload, or none that is due.
-#[derive(Clone, Copy, Debug, PartialEq, Eq)]
+#[derive(Clone, Copy, PartialEq, Eq)]
 pub enum BytesFault {
     BadBanner,
     /// The peer requires features that aren't had, or lacks one that is required; these are their bits.
@@ -23,6 +28,36 @@ pub enum BytesFault {
     Malformed(usize),
 }
 
+impl BytesFault {
+    fn word(&self) -> &'static str
+        ensures { numbered result.now (bytes_number self.now) None ≡ bytes_fault_text self.now }
+    {
+        match self {
+            BytesFault::BadBanner => "bad-banner",
+            BytesFault::Features(_) => "features",
+            BytesFault::BadCrc => "bad-crc",
+            BytesFault::BadShape => "bad-shape",
+            BytesFault::TooLong => "too-long",
+            BytesFault::BadTag => "bad-tag",
+            BytesFault::Aborted => "aborted",
+            BytesFault::CounterSpent => "counter-spent",
+            BytesFault::Unexpected(_) => "unexpected",
+            BytesFault::Malformed(_) => "malformed",
+        }
+    }
+
+    fn number(&self) -> Option<u64>
+        ensures { result ≡ bytes_number self.now }
+    {
+        match self {
+            BytesFault::Features(bits) => Some(*bits),
+            BytesFault::Unexpected(tag) => Some(u64::from(*tag)),
+            BytesFault::Malformed(place) => Some(*place as u64),
+            _ => None,
+        }
+    }
+}
+
 impl fmt::Display for BytesFault {
     ghost use Rattle.std.specs.Prelude.{Some};
     ghost use Rattle.cx_journal.specs.Words.{bytes_fault_text};
@@ -30,23 +65,18 @@ impl fmt::Display for BytesFault {
     ghost output = { λ fault. Some (bytes_fault_text fault) };
 
     fn fmt<W: fmt::Write>(&self, f: &mut fmt::Formatter<W>) -> fmt::Result {
-        match self {
-            BytesFault::BadBanner => write!(f, "bad-banner"),
-            BytesFault::Features(bits) => write!(f, "features {}", *bits),
-            BytesFault::BadCrc => write!(f, "bad-crc"),
-            BytesFault::BadShape => write!(f, "bad-shape"),
-            BytesFault::TooLong => write!(f, "too-long"),
-            BytesFault::BadTag => write!(f, "bad-tag"),
-            BytesFault::Aborted => write!(f, "aborted"),
-            BytesFault::CounterSpent => write!(f, "counter-spent"),
-            BytesFault::Unexpected(tag) => write!(f, "unexpected {}", *tag),
-            BytesFault::Malformed(place) => write!(f, "malformed {}", *place),
-        }
+        put_numbered(f, self.word(), self.number(), None)
+    }
+}
+
+impl fmt::Debug for BytesFault {
+    fn fmt<W: fmt::Write>(&self, f: &mut fmt::Formatter<W>) -> fmt::Result {
+        fmt::Display::fmt(self, f)
     }
 }
 
 /// Why an acceptor denied a login, or one of its ends went no further with it.
-#[derive(Clone, Copy, Debug, PartialEq, Eq)]
+#[derive(Clone, Copy, PartialEq, Eq)]
 pub enum LoginFault {
     /// The method isn't cephx.
     Method,
@@ -67,6 +97,35 @@ pub enum LoginFault {
     NonceWrong { expected: u64, got: u64 },
 }
 
+impl LoginFault {
+    fn word(&self) -> &'static str
+        ensures { numbered result.now (login_numbers self.now).0 (login_numbers self.now).1 ≡ login_fault_text self.now }
+    {
+        match self {
+            LoginFault::Method => "method",
+            LoginFault::Mode => "mode",
+            LoginFault::UnknownEntity => "unknown-entity",
+            LoginFault::WrongProof => "wrong-proof",
+            LoginFault::Reclaim(_) => "reclaim",
+            LoginFault::GidsSpent => "gids-spent",
+            LoginFault::IdsSpent => "ids-spent",
+            LoginFault::SignatureWrong => "signature-wrong",
+            LoginFault::Unopened => "unopened",
+            LoginFault::NonceWrong { .. } => "nonce-wrong",
+        }
+    }
+
+    fn numbers(&self) -> (Option<u64>, Option<u64>)
+        ensures { result ≡ login_numbers self.now }
+    {
+        match self {
+            LoginFault::Reclaim(gid) => (Some(*gid), None),
+            LoginFault::NonceWrong { expected, got } => (Some(*expected), Some(*got)),
+            _ => (None, None),
+        }
+    }
+}
+
 impl fmt::Display for LoginFault {
     ghost use Rattle.std.specs.Prelude.{Some};
     ghost use Rattle.cx_journal.specs.Words.{login_fault_text};
@@ -74,25 +133,19 @@ impl fmt::Display for LoginFault {
     ghost output = { λ fault. Some (login_fault_text fault) };
 
     fn fmt<W: fmt::Write>(&self, f: &mut fmt::Formatter<W>) -> fmt::Result {
-        match self {
-            LoginFault::Method => write!(f, "method"),
-            LoginFault::Mode => write!(f, "mode"),
-            LoginFault::UnknownEntity => write!(f, "unknown-entity"),
-            LoginFault::WrongProof => write!(f, "wrong-proof"),
-            LoginFault::Reclaim(gid) => write!(f, "reclaim {}", *gid),
-            LoginFault::GidsSpent => write!(f, "gids-spent"),
-            LoginFault::IdsSpent => write!(f, "ids-spent"),
-            LoginFault::SignatureWrong => write!(f, "signature-wrong"),
-            LoginFault::Unopened => write!(f, "unopened"),
-            LoginFault::NonceWrong { expected, got } => {
-                write!(f, "nonce-wrong {} {}", *expected, *got)
-            }
-        }
+        let (first, second) = self.numbers();
+        put_numbered(f, self.word(), first, second)
+    }
+}
+
+impl fmt::Debug for LoginFault {
+    fn fmt<W: fmt::Write>(&self, f: &mut fmt::Formatter<W>) -> fmt::Result {
+        fmt::Display::fmt(self, f)
     }
 }
 
 /// Why a daemon took no session or no message of one.
-#[derive(Debug, PartialEq, Eq, Drop)]
+#[derive(PartialEq, Eq, Drop)]
 pub enum SessionFault {
     /// As many sessions live as a daemon has places.
     BookFull,
@@ -111,6 +164,37 @@ pub enum SessionFault {
     Stale(u64),
 }
 
+impl SessionFault {
+    // The first word alone, where the text has a name.
+    fn word(&self) -> &'static str
+        ensures { IsSessionFault self.now (numbered result.now (session_number self.now) None) }
+    {
+        match self {
+            SessionFault::BookFull => "book-full 4096",
+            SessionFault::CookieInUse(_) => "cookie-in-use",
+            SessionFault::UnknownSession => "unknown-session",
+            SessionFault::OwnerDiffers { .. } => "owner-differs",
+            SessionFault::StaleConnect(_) => "stale-connect",
+            SessionFault::StaleGlobal(_) => "stale-global",
+            SessionFault::Gap(_) => "gap",
+            SessionFault::Stale(_) => "stale",
+        }
+    }
+
+    fn number(&self) -> Option<u64>
+        ensures { result ≡ session_number self.now }
+    {
+        match self {
+            SessionFault::CookieInUse(session) => Some(*session),
+            SessionFault::StaleConnect(kept) => Some(*kept),
+            SessionFault::StaleGlobal(kept) => Some(*kept),
+            SessionFault::Gap(expected) => Some(*expected),
+            SessionFault::Stale(epoch) => Some(*epoch),
+            _ => None,
+        }
+    }
+}
+
 impl fmt::Display for SessionFault {
     ghost use Rattle.std.specs.Prelude.{Some};
     ghost use Rattle.cx_journal.specs.Words.{session_fault_text};
@@ -119,17 +203,17 @@ impl fmt::Display for SessionFault {
 
     fn fmt<W: fmt::Write>(&self, f: &mut fmt::Formatter<W>) -> fmt::Result {
         match self {
-            SessionFault::BookFull => write!(f, "book-full 4096"),
-            SessionFault::CookieInUse(session) => write!(f, "cookie-in-use {}", *session),
-            SessionFault::UnknownSession => write!(f, "unknown-session"),
             SessionFault::OwnerDiffers { entity, gid } => {
                 write!(f, "owner-differs {} {}", entity, *gid)
             }
-            SessionFault::StaleConnect(kept) => write!(f, "stale-connect {}", *kept),
-            SessionFault::StaleGlobal(kept) => write!(f, "stale-global {}", *kept),
-            SessionFault::Gap(expected) => write!(f, "gap {}", *expected),
-            SessionFault::Stale(epoch) => write!(f, "stale {}", *epoch),
+            _ => put_numbered(f, self.word(), self.number(), None),
         }
+    }
+}
+
+impl fmt::Debug for SessionFault {
+    fn fmt<W: fmt::Write>(&self, f: &mut fmt::Formatter<W>) -> fmt::Result {
+        fmt::Display::fmt(self, f)
     }
 }
 

@@ -13,8 +13,6 @@ mod numbers;
 mod outcomes;
 mod premises;
 mod ranks;
-#[cfg(test)]
-mod tests;
 mod texts;
 mod words;
 

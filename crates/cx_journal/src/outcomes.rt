@@ -1,16 +1,32 @@
 //! How an operation ended, and why something was refused.
 
+ghost use Rattle.std.specs.Prelude.{◌≡◌};
+ghost use Rattle.cx_journal.specs.Numbered.{numbered, ticket_numbers, IsTicketFault, IsReason};
+ghost use Rattle.cx_journal.specs.Words.{outcome_word};
+
 use crate::faults::{BytesFault, LoginFault, SessionFault};
-use crate::words::Seconds;
+use crate::words::{Seconds, put_numbered};
 use cx_base::{Blob, EntityType, Reading};
 use std::fmt;
 
 /// How a daemon answered an operation.
-#[derive(Clone, Copy, Debug, PartialEq, Eq)]
+#[derive(Clone, Copy, PartialEq, Eq)]
 pub enum Outcome {
     Done,
     Denied,
     NoHandler,
+}
+
+impl Outcome {
+    fn word(self) -> &'static str
+        ensures { result.now ≡ outcome_word self }
+    {
+        match self {
+            Outcome::Done => "done",
+            Outcome::Denied => "denied",
+            Outcome::NoHandler => "no-handler",
+        }
+    }
 }
 
 impl fmt::Display for Outcome {
@@ -20,16 +36,18 @@ impl fmt::Display for Outcome {
     ghost output = { λ outcome. Some (outcome_word outcome) };
 
     fn fmt<W: fmt::Write>(&self, f: &mut fmt::Formatter<W>) -> fmt::Result {
-        match self {
-            Outcome::Done => write!(f, "done"),
-            Outcome::Denied => write!(f, "denied"),
-            Outcome::NoHandler => write!(f, "no-handler"),
-        }
+        f.write_str(self.word())
+    }
+}
+
+impl fmt::Debug for Outcome {
+    fn fmt<W: fmt::Write>(&self, f: &mut fmt::Formatter<W>) -> fmt::Result {
+        f.write_str(self.word())
     }
 }
 
 /// Why a daemon refused a ticket, or the authorizer that came with it.
-#[derive(Clone, Copy, Debug, PartialEq, Eq)]
+#[derive(Clone, Copy, PartialEq, Eq)]
 pub enum TicketFault {
     /// The daemon's view lacks the ticket's generation, whose id this is.
     UnknownGeneration(u64),
@@ -45,6 +63,34 @@ pub enum TicketFault {
     ChallengeWrong { expected: u64, got: u64 },
 }
 
+impl TicketFault {
+    // The first word alone, where the text has readings.
+    fn word(&self) -> &'static str
+        ensures { IsTicketFault self.now (numbered result.now (ticket_numbers self.now).0 (ticket_numbers self.now).1) }
+    {
+        match self {
+            TicketFault::UnknownGeneration(_) => "unknown-generation",
+            TicketFault::TicketUnopened(_) => "ticket-unopened",
+            TicketFault::GidDiffers { .. } => "gid-differs",
+            TicketFault::Expired(..) => "expired",
+            TicketFault::AuthorizerUnopened => "authorizer-unopened",
+            TicketFault::ChallengeWrong { .. } => "challenge-wrong",
+        }
+    }
+
+    fn numbers(&self) -> (Option<u64>, Option<u64>)
+        ensures { result ≡ ticket_numbers self.now }
+    {
+        match self {
+            TicketFault::UnknownGeneration(id) => (Some(*id), None),
+            TicketFault::TicketUnopened(id) => (Some(*id), None),
+            TicketFault::GidDiffers { claimed, sealed } => (Some(*claimed), Some(*sealed)),
+            TicketFault::ChallengeWrong { expected, got } => (Some(*expected), Some(*got)),
+            _ => (None, None),
+        }
+    }
+}
+
 impl fmt::Display for TicketFault {
     ghost use Rattle.std.specs.Prelude.{Some};
     ghost use Rattle.cx_journal.specs.Words.{ticket_fault_text};
@@ -53,24 +99,25 @@ impl fmt::Display for TicketFault {
 
     fn fmt<W: fmt::Write>(&self, f: &mut fmt::Formatter<W>) -> fmt::Result {
         match self {
-            TicketFault::UnknownGeneration(id) => write!(f, "unknown-generation {}", *id),
-            TicketFault::TicketUnopened(id) => write!(f, "ticket-unopened {}", *id),
-            TicketFault::GidDiffers { claimed, sealed } => {
-                write!(f, "gid-differs {} {}", *claimed, *sealed)
-            }
             TicketFault::Expired(expires, now) => {
                 write!(f, "expired {} {}", Seconds(*expires), Seconds(*now))
             }
-            TicketFault::AuthorizerUnopened => write!(f, "authorizer-unopened"),
-            TicketFault::ChallengeWrong { expected, got } => {
-                write!(f, "challenge-wrong {} {}", *expected, *got)
+            _ => {
+                let (first, second) = self.numbers();
+                put_numbered(f, self.word(), first, second)
             }
         }
     }
 }
 
+impl fmt::Debug for TicketFault {
+    fn fmt<W: fmt::Write>(&self, f: &mut fmt::Formatter<W>) -> fmt::Result {
+        fmt::Display::fmt(self, f)
+    }
+}
+
 /// Why something was refused, with what the journal says of it.
-#[derive(Debug, PartialEq, Eq, Drop)]
+#[derive(PartialEq, Eq, Drop)]
 pub enum Reason {
     Bytes(BytesFault),
     /// As many links live as a node has places.
@@ -107,6 +154,28 @@ pub enum Reason {
     Ticket(TicketFault, Blob),
 }
 
+impl Reason {
+    // Nothing where the text is a fault's, or has words that differ.
+    fn word(&self) -> &'static str
+        ensures { IsReason self.now result.now }
+    {
+        match self {
+            Reason::LinksFull => "links-full 1024",
+            Reason::NotADaemon => "not-a-daemon",
+            Reason::BadRequest => "bad-request",
+            Reason::BadReply => "bad-reply",
+            Reason::Reset => "reset",
+            Reason::Lost => "lost",
+            Reason::NoSession => "no-session",
+            Reason::NoLink => "no-link",
+            Reason::Busy => "busy",
+            Reason::QueueFull => "queue-full 1024",
+            Reason::Spent => "spent",
+            _ => "",
+        }
+    }
+}
+
 /// The words of the reason, without the number of a ticket, which the entries before it tell.
 impl fmt::Display for Reason {
     ghost use Rattle.std.specs.Prelude.{Some};
@@ -116,24 +185,20 @@ impl fmt::Display for Reason {
 
     fn fmt<W: fmt::Write>(&self, f: &mut fmt::Formatter<W>) -> fmt::Result {
         match self {
-            Reason::Bytes(fault) => write!(f, "{}", *fault),
-            Reason::LinksFull => write!(f, "links-full 1024"),
-            Reason::Login(fault) => write!(f, "{}", *fault),
-            Reason::NotADaemon => write!(f, "not-a-daemon"),
-            Reason::BadRequest => write!(f, "bad-request"),
-            Reason::BadReply => write!(f, "bad-reply"),
-            Reason::Denied(code) => write!(f, "denied {}", *code),
-            Reason::Reset => write!(f, "reset"),
-            Reason::Lost => write!(f, "lost"),
+            Reason::Bytes(fault) => fmt::Display::fmt(fault, f),
+            Reason::Login(fault) => fmt::Display::fmt(fault, f),
+            Reason::Denied(code) => put_numbered(f, "denied", Some(u64::from(*code)), None),
             Reason::NoTicket(service) => write!(f, "no-ticket {}", *service),
-            Reason::NoSession => write!(f, "no-session"),
-            Reason::NoLink => write!(f, "no-link"),
-            Reason::Busy => write!(f, "busy"),
-            Reason::QueueFull => write!(f, "queue-full 1024"),
-            Reason::Spent => write!(f, "spent"),
-            Reason::Session(fault) => write!(f, "{}", fault),
+            Reason::Session(fault) => fmt::Display::fmt(fault, f),
             Reason::WrongService { kept, got } => write!(f, "wrong-service {} {}", *kept, *got),
-            Reason::Ticket(fault, _) => write!(f, "{}", *fault),
+            Reason::Ticket(fault, _) => fmt::Display::fmt(fault, f),
+            _ => f.write_str(self.word()),
         }
+    }
+}
+
+impl fmt::Debug for Reason {
+    fn fmt<W: fmt::Write>(&self, f: &mut fmt::Formatter<W>) -> fmt::Result {
+        fmt::Display::fmt(self, f)
     }
 }

@@ -1,17 +1,31 @@
 //! The two premises of a run, and what breaks them.
 
+ghost use Rattle.std.specs.Prelude.{◌≡◌};
+ghost use Rattle.cx_journal.specs.Words.{premise_word, key_kind_word};
+
 use crate::node_names::NodeName;
 use cx_base::Duplicate;
 use std::alloc::{AllocError, Global};
 use std::fmt;
 
 /// What the laws of a run rest on.
-#[derive(Clone, Copy, Debug, PartialEq, Eq)]
+#[derive(Clone, Copy, PartialEq, Eq)]
 pub enum Premise {
     /// What opens was sealed before, and what is found equal was signed before, with the same key and content.
     Sealing,
     /// No draw repeats.
     Draw,
+}
+
+impl Premise {
+    fn word(self) -> &'static str
+        ensures { result.now ≡ premise_word self }
+    {
+        match self {
+            Premise::Sealing => "sealing",
+            Premise::Draw => "draw",
+        }
+    }
 }
 
 impl fmt::Display for Premise {
@@ -21,15 +35,18 @@ impl fmt::Display for Premise {
     ghost output = { λ premise. Some (premise_word premise) };
 
     fn fmt<W: fmt::Write>(&self, f: &mut fmt::Formatter<W>) -> fmt::Result {
-        match self {
-            Premise::Sealing => write!(f, "sealing"),
-            Premise::Draw => write!(f, "draw"),
-        }
+        f.write_str(self.word())
+    }
+}
+
+impl fmt::Debug for Premise {
+    fn fmt<W: fmt::Write>(&self, f: &mut fmt::Formatter<W>) -> fmt::Result {
+        f.write_str(self.word())
     }
 }
 
 /// What a key is for under which something is sealed or signed, or what a drawn value is.
-#[derive(Clone, Copy, Debug, PartialEq, Eq)]
+#[derive(Clone, Copy, PartialEq, Eq)]
 pub enum KeyKind {
     /// An entity's own secret.
     Principal,
@@ -52,6 +69,26 @@ pub enum KeyKind {
     Rotation,
 }
 
+impl KeyKind {
+    fn word(self) -> &'static str
+        ensures { result.now ≡ key_kind_word self }
+    {
+        match self {
+            KeyKind::Principal => "principal",
+            KeyKind::Auth => "auth",
+            KeyKind::Service => "service",
+            KeyKind::Session => "session",
+            KeyKind::Connection => "connection",
+            KeyKind::Proof => "proof",
+            KeyKind::Signature => "signature",
+            KeyKind::Challenge => "challenge",
+            KeyKind::Nonce => "nonce",
+            KeyKind::Cookie => "cookie",
+            KeyKind::Rotation => "rotation",
+        }
+    }
+}
+
 impl fmt::Display for KeyKind {
     ghost use Rattle.std.specs.Prelude.{Some};
     ghost use Rattle.cx_journal.specs.Words.{key_kind_word};
@@ -59,19 +96,13 @@ impl fmt::Display for KeyKind {
     ghost output = { λ kind. Some (key_kind_word kind) };
 
     fn fmt<W: fmt::Write>(&self, f: &mut fmt::Formatter<W>) -> fmt::Result {
-        match self {
-            KeyKind::Principal => write!(f, "principal"),
-            KeyKind::Auth => write!(f, "auth"),
-            KeyKind::Service => write!(f, "service"),
-            KeyKind::Session => write!(f, "session"),
-            KeyKind::Connection => write!(f, "connection"),
-            KeyKind::Proof => write!(f, "proof"),
-            KeyKind::Signature => write!(f, "signature"),
-            KeyKind::Challenge => write!(f, "challenge"),
-            KeyKind::Nonce => write!(f, "nonce"),
-            KeyKind::Cookie => write!(f, "cookie"),
-            KeyKind::Rotation => write!(f, "rotation"),
-        }
+        f.write_str(self.word())
+    }
+}
+
+impl fmt::Debug for KeyKind {
+    fn fmt<W: fmt::Write>(&self, f: &mut fmt::Formatter<W>) -> fmt::Result {
+        f.write_str(self.word())
     }
 }
 

@@ -1,6 +1,8 @@
 //! The words of a journal's lines.
 
 ghost use Rattle.std.specs.Prelude.{◌≡◌, IfOk, string_bytes};
+ghost use Rattle.std.specs.Fmt.{WritesOnOk};
+ghost use Rattle.cx_journal.specs.Numbered.{numbered};
 ghost use Rattle.cx_journal.specs.Words.{word_text, data_text, operation_text};
 
 use cx_base::{Blob, Operation, Reading, SECOND, Text};
@@ -66,6 +68,24 @@ impl fmt::Display for Ids {
                 write!(f, "{},{},{}", first, second, third)
             }
         }
+    }
+}
+
+/// Writes a word, and the numbers behind it: a second one only behind a first.
+pub fn put_numbered<W: fmt::Write>(
+    f: &mut fmt::Formatter<W>,
+    word: &str,
+    first: Option<u64>,
+    second: Option<u64>,
+) -> fmt::Result
+    ensures { WritesOnOk W.write_str_gives f.old result (numbered word.now first second) f.new }
+{
+    match first {
+        None => f.write_str(word),
+        Some(first) => match second {
+            None => write!(f, "{} {}", word, first),
+            Some(second) => write!(f, "{} {} {}", word, first, second),
+        },
     }
 }
 

@@ -15,7 +15,7 @@ use cx_rotate::Generations;
 use std::alloc::{AllocError, Global};
 
 /// What stands behind an entrance: the monitor, what the entity holds, and the journal.
-#[derive(Debug, Drop)]
+#[derive(Drop)]
 pub(crate) struct Welcome {
     pub monitor: Monitor,
     pub wallet: Wallet,

@@ -1,15 +1,16 @@
 //! The lines that the plain run takes.
 
-ghost use Rattle.std.specs.Prelude.{◌≡◌, true, IfOk, IfSome, IsTrue};
+ghost use Rattle.std.specs.Prelude.{◌≡◌, true, Some, IfOk, IfSome, IsTrue};
 ghost use Rattle.cx_lines.specs.Lines.{is_in_range};
 ghost use Rattle.cx_plain.specs.PlainLines.{is_plain_in_range, plain_of, plain_command};
 
 use cx_base::{Duplicate, EntityName, EntityType, Items, Operation, Reading, copy_items};
 use cx_lines::{Command, Grant, Line, NodeStep, Setting};
 use std::alloc::{AllocError, Global};
+use std::fmt;
 
 /// A line that the plain run takes.
-#[derive(Debug, PartialEq, Eq, Drop)]
+#[derive(PartialEq, Eq, Drop)]
 pub enum PlainLine {
     /// The life of service secrets and tickets, in seconds.
     Lifetime(u64),
@@ -27,6 +28,28 @@ pub enum PlainLine {
     Connect(EntityName, EntityName),
     /// A client sends an operation to a daemon.
     Send(EntityName, EntityName, Operation),
+}
+
+impl PlainLine {
+    fn kind(&self) -> &'static str {
+        match self {
+            PlainLine::Lifetime(_) => "Lifetime",
+            PlainLine::AuthLifetime(_) => "AuthLifetime",
+            PlainLine::Entity(..) => "Entity",
+            PlainLine::Clock(_) => "Clock",
+            PlainLine::Fetch(_) => "Fetch",
+            PlainLine::Login(..) => "Login",
+            PlainLine::Connect(..) => "Connect",
+            PlainLine::Send(..) => "Send",
+        }
+    }
+}
+
+/// The kind of line alone.
+impl fmt::Debug for PlainLine {
+    fn fmt<W: fmt::Write>(&self, f: &mut fmt::Formatter<W>) -> fmt::Result {
+        f.write_str(self.kind())
+    }
 }
 
 /// The line as the plain run takes it; none where it doesn't.
@@ -55,27 +78,66 @@ fn plain_command(alloc: Global, command: &Command) -> Result<Option<PlainLine>, 
     ensures in_range { IfOk result (λ found. IfSome found (λ plain. IsTrue (is_plain_in_range plain))) }
 {
     match command {
-        Command::Fetch(daemon) => {
-            let daemon = daemon.copy(alloc)?;
-            Ok(Some(PlainLine::Fetch(daemon)))
-        }
-        Command::Login(client, asked) => {
-            let client = client.copy(alloc)?;
-            let asked = copy_items(alloc, asked)?;
-            Ok(Some(PlainLine::Login(client, asked)))
-        }
-        Command::Connect(client, daemon, false) => {
-            let client = client.copy(alloc)?;
-            let daemon = daemon.copy(alloc)?;
-            Ok(Some(PlainLine::Connect(client, daemon)))
-        }
-        Command::Send(client, daemon, operation) => {
-            let client = client.copy(alloc)?;
-            let daemon = daemon.copy(alloc)?;
-            let operation = operation.copy(alloc)?;
-            Ok(Some(PlainLine::Send(client, daemon, operation)))
-        }
+        Command::Fetch(daemon) => plain_fetch(alloc, daemon),
+        Command::Login(client, asked) => plain_login(alloc, client, asked),
+        Command::Connect(client, daemon, false) => plain_connect(alloc, client, daemon),
+        Command::Send(client, daemon, operation) => plain_send(alloc, client, daemon, operation),
         Command::Renew(_, _) => Ok(None),
         Command::Connect(_, _, true) => Ok(None),
     }
+}
+
+fn plain_fetch(alloc: Global, daemon: &EntityName) -> Result<Option<PlainLine>, AllocError>
+    ensures { IfOk result (λ found. found ≡ Some (PlainLine.Fetch daemon.now)) }
+{
+    let daemon = daemon.copy(alloc)?;
+    Ok(Some(PlainLine::Fetch(daemon)))
+}
+
+fn plain_login(
+    alloc: Global,
+    client: &EntityName,
+    asked: &Items<EntityType>,
+) -> Result<Option<PlainLine>, AllocError>
+    ensures { IfOk result (λ found. found ≡ Some (PlainLine.Login client.now asked.now)) }
+{
+    let client = client.copy(alloc)?;
+    let asked = copy_items(alloc, asked)?;
+    Ok(Some(PlainLine::Login(client, asked)))
+}
+
+fn plain_connect(
+    alloc: Global,
+    client: &EntityName,
+    daemon: &EntityName,
+) -> Result<Option<PlainLine>, AllocError>
+    ensures { IfOk result (λ found. found ≡ Some (PlainLine.Connect client.now daemon.now)) }
+{
+    let (client, daemon) = copy_names(alloc, client, daemon)?;
+    Ok(Some(PlainLine::Connect(client, daemon)))
+}
+
+fn plain_send(
+    alloc: Global,
+    client: &EntityName,
+    daemon: &EntityName,
+    operation: &Operation,
+) -> Result<Option<PlainLine>, AllocError>
+    ensures { IfOk result (λ found. found ≡ Some (PlainLine.Send client.now daemon.now operation.now)) }
+{
+    let (client, daemon) = copy_names(alloc, client, daemon)?;
+    let operation = operation.copy(alloc)?;
+    Ok(Some(PlainLine::Send(client, daemon, operation)))
+}
+
+fn copy_names(
+    alloc: Global,
+    client: &EntityName,
+    daemon: &EntityName,
+) -> Result<(EntityName, EntityName), AllocError>
+    ensures { IfOk result (λ names. names ≡ (client.now, daemon.now)) }
+{
+    let client = client.copy(alloc)?;
+    let daemon = daemon.copy(alloc)?;
+    Ok((client, daemon))
 }

@@ -9,7 +9,7 @@ use cx_base::{EntityType, Reading};
 use cx_rotate::Generations;
 
 /// What the monitor keeps: the mark of the next global id, and the generations of each service.
-#[derive(Clone, Copy, Debug, PartialEq, Eq)]
+#[derive(Clone, Copy)]
 pub(crate) struct Kept {
     pub next_gid: u64,
     pub mds: Generations,
@@ -96,7 +96,7 @@ pub(crate) fn current_id(generations: Generations) -> u64
 }
 
 /// The monitor between two lines.
-#[derive(Clone, Copy, Debug)]
+#[derive(Clone, Copy)]
 pub(crate) struct Monitor {
     /// The life of service secrets and tickets, and that of AUTH secrets and tickets, in nanoseconds.
     pub life: u64,

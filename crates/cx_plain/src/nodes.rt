@@ -14,7 +14,7 @@ use std::alloc::{AllocError, Global};
 use std::marker::Model;
 
 /// How far a session is.
-#[derive(Clone, Copy, Debug)]
+#[derive(Clone, Copy)]
 pub(crate) struct Place {
     /// The daemon's number of the session, from 1.
     pub number: u64,
@@ -24,7 +24,7 @@ pub(crate) struct Place {
 }
 
 /// A client's session with a daemon.
-#[derive(Debug, Drop)]
+#[derive(Drop)]
 pub(crate) struct Session {
     pub daemon: EntityName,
     pub place: Place,
@@ -33,7 +33,7 @@ pub(crate) struct Session {
 }
 
 /// A client's sessions, at most one with each daemon.
-#[derive(Debug, Drop)]
+#[derive(Drop)]
 pub(crate) struct Sessions {
     held: Vec<Session>,
 }
@@ -98,7 +98,7 @@ fn set_seq(sessions: &mut [Session], daemon: &EntityName, seq: u64)
 }
 
 /// An entity of the run with all that it holds.
-#[derive(Debug, Drop)]
+#[derive(Drop)]
 pub(crate) struct Node {
     pub name: EntityName,
     /// The caps texts that the monitor has for the entity.
@@ -135,7 +135,7 @@ impl Node {
 }
 
 /// The entities in the order of their declaration.
-#[derive(Debug, Drop)]
+#[derive(Drop)]
 pub(crate) struct Nodes {
     held: Vec<Node>,
 }

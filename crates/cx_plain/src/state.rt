@@ -1,8 +1,8 @@
 //! The state of a run, and what one line does to it.
 
-ghost use Rattle.std.specs.Prelude.{◌≡◌, [], OnOk, if◌then◌else◌};
+ghost use Rattle.std.specs.Prelude.{◌≡◌, [], IfOk, OnOk, if◌then◌else◌};
 ghost use Rattle.cx_desk.specs.Held.{handlers_of};
-ghost use Rattle.cx_plain.specs.Plain.{opening, refusing, looking, entering, declared, ticket_fault, sent_at, handled_at, answered_at};
+ghost use Rattle.cx_plain.specs.Plain.{opening, refusing, looking, entering, declared, admission_at, ticket_fault, sent_at, handled_at, answered_at};
 
 use crate::counts::{next, next_link};
 use crate::desks::{caps_text, handle};
@@ -11,7 +11,7 @@ use crate::lines::PlainLine;
 use crate::monitors::{Kept, Monitor, has_generation};
 use crate::nodes::{Node, Nodes, Place, Session};
 use cx_base::{
-    Blob, Duplicate, EntityName, EntityType, Items, Operation, Reading, SECOND, copy_items,
+    Blob, Duplicate, EntityName, EntityType, Items, Operation, Reading, SECOND, Text, copy_items,
 };
 use cx_desk::Desk;
 use cx_journal::{
@@ -24,7 +24,7 @@ use std::alloc::{AllocError, Global};
 use std::mem;
 
 /// All that a run holds between two lines.
-#[derive(Debug, Drop)]
+#[derive(Drop)]
 pub(crate) struct Run {
     /// The reading of all clocks, in nanoseconds.
     pub reading: Reading,
@@ -229,32 +229,19 @@ impl Run {
         client: &EntityName,
         daemon: &EntityName,
         admitted: u64,
-        ticket: Issued,
+        ticket: &Issued,
     ) -> Result<(), AllocError>
-        ensures { OnOk result (self.new ≡ admitting self.old client.now daemon.now admitted ticket) }
+        ensures { OnOk result (self.new ≡ admitting self.old client.now daemon.now admitted ticket.now) }
     {
         let number = next(admitted)?;
         let cookie = next(self.cookies)?;
-        let caps = caps_text(alloc, &ticket.caps)?;
-        let session = Session {
-            daemon: daemon.copy(alloc)?,
-            place: Place {
-                number,
-                cookie,
-                seq: 0,
-            },
-            caps,
-        };
-        let entered = Admitted {
-            daemon: daemon.copy(alloc)?,
-            session: number,
-            epoch: 1,
+        let at = Place {
+            number,
             cookie,
-            entity: client.copy(alloc)?,
-            gid: ticket.gid,
-            at: self.reading,
-            caps: ticket.caps,
+            seq: 0,
         };
+        let session = session_at(alloc, daemon, at, &ticket.caps)?;
+        let entered = admission_at(alloc, self.reading, client, daemon, at, ticket)?;
         self.cookies = cookie;
         self.nodes.set_admitted(daemon, number);
         self.nodes.add_session(client, session)?;
@@ -299,7 +286,7 @@ impl Run {
             Some(why) => self.deny(alloc, client, daemon, link, why, ticket.blob),
             None => {
                 self.look(alloc, daemon, link, view)?;
-                self.admit(alloc, client, daemon, admitted, ticket)
+                self.admit(alloc, client, daemon, admitted, &ticket)
             }
         }
     }
@@ -511,6 +498,50 @@ impl Run {
         let grants = copy_items(alloc, grants)?;
         self.nodes.push(Node::new(alloc, name, grants))
     }
+}
+
+// A session at this place, with these caps.
+fn session_at(
+    alloc: Global,
+    daemon: &EntityName,
+    at: Place,
+    caps: &Text,
+) -> Result<Session, AllocError>
+    ensures { IfOk result (λ session. session ≡ record { daemon = daemon.now; place = at; caps = caps.now }) }
+{
+    let caps = caps_text(alloc, caps)?;
+    let daemon = daemon.copy(alloc)?;
+    Ok(Session {
+        daemon,
+        place: at,
+        caps,
+    })
+}
+
+// The admission of a client on its ticket to a session at this place, in epoch 1.
+fn admission_at(
+    alloc: Global,
+    now: Reading,
+    client: &EntityName,
+    daemon: &EntityName,
+    at: Place,
+    ticket: &Issued,
+) -> Result<Admitted, AllocError>
+    ensures { IfOk result (λ admitted. admitted ≡ admission_at now client.now daemon.now at ticket.now) }
+{
+    let daemon = daemon.copy(alloc)?;
+    let entity = client.copy(alloc)?;
+    let caps = ticket.caps.copy(alloc)?;
+    Ok(Admitted {
+        daemon,
+        session: at.number,
+        epoch: 1,
+        cookie: at.cookie,
+        entity,
+        gid: ticket.gid,
+        at: now,
+        caps,
+    })
 }
 
 // Why a daemon with this view refuses a ticket at this reading, if it does.

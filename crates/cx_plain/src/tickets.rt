@@ -18,7 +18,7 @@ use std::alloc::{AllocError, Global};
 
 /// The terms on which tickets are issued at one moment: the reading and the lives in nanoseconds, the monitor's state and
 /// the entity's global id.
-#[derive(Clone, Copy, Debug)]
+#[derive(Clone, Copy)]
 pub(crate) struct Terms {
     pub reading: Reading,
     pub life: u64,
@@ -28,7 +28,7 @@ pub(crate) struct Terms {
 }
 
 /// What stands while tickets are issued: how many were issued so far, what the entity holds, and the journal.
-#[derive(Debug, Drop)]
+#[derive(Drop)]
 pub(crate) struct UnderWay {
     pub issued: u64,
     pub wallet: Wallet,

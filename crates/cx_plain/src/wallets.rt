@@ -1,6 +1,6 @@
 //! The tickets that an entity holds: at most one for each service.
 
-ghost use Rattle.std.specs.Prelude.{◌≡◌};
+ghost use Rattle.std.specs.Prelude.{◌≡◌, Some, IfOk};
 ghost use Rattle.std.specs.Option.{option_copied};
 ghost use Rattle.cx_plain.specs.Nodes.{held_of, holding, empty_wallet};
 
@@ -9,7 +9,7 @@ use cx_journal::Issued;
 use std::alloc::{AllocError, Global};
 
 /// The tickets that an entity holds, each handed over in memory as the monitor issued it.
-#[derive(Debug, Drop)]
+#[derive(Drop)]
 pub(crate) struct Wallet {
     pub auth: Option<Issued>,
     pub mds: Option<Issued>,
@@ -49,22 +49,26 @@ impl Wallet {
         ensures { self.new ≡ holding self.old ticket }
     {
         match ticket.service {
-            EntityType::Auth => self.auth = Some(ticket),
-            EntityType::Mds => self.mds = Some(ticket),
-            EntityType::Osd => self.osd = Some(ticket),
-            EntityType::Mgr => self.mgr = Some(ticket),
+            EntityType::Auth => put(&mut self.auth, ticket),
+            EntityType::Mds => put(&mut self.mds, ticket),
+            EntityType::Osd => put(&mut self.osd, ticket),
+            EntityType::Mgr => put(&mut self.mgr, ticket),
             EntityType::Mon => {}
             EntityType::Client => {}
         }
     }
 }
 
+fn put(held: &mut Option<Issued>, ticket: Issued)
+    ensures { held.new ≡ Some ticket }
+{
+    *held = Some(ticket);
+}
+
 impl Duplicate for Wallet {
     fn copy(&self, alloc: Global) -> Result<Wallet, AllocError> {
-        let auth = copy_option(alloc, &self.auth)?;
-        let mds = copy_option(alloc, &self.mds)?;
-        let osd = copy_option(alloc, &self.osd)?;
-        let mgr = copy_option(alloc, &self.mgr)?;
+        let (auth, mds) = copy_two(alloc, &self.auth, &self.mds)?;
+        let (osd, mgr) = copy_two(alloc, &self.osd, &self.mgr)?;
         Ok(Wallet {
             auth,
             mds,
@@ -72,4 +76,16 @@ impl Duplicate for Wallet {
             mgr,
         })
     }
+}
+
+fn copy_two(
+    alloc: Global,
+    first: &Option<Issued>,
+    second: &Option<Issued>,
+) -> Result<(Option<Issued>, Option<Issued>), AllocError>
+    ensures { IfOk result (λ copied. copied ≡ (first.now, second.now)) }
+{
+    let first = copy_option(alloc, first)?;
+    let second = copy_option(alloc, second)?;
+    Ok((first, second))
 }
