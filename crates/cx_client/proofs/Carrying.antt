@@ -1,9 +1,9 @@
 -- What a turn comes to is carried out as the rules have it.
-use Rattle.std.proofs.Common.{◌≡◌, ◌∙◌, ℕ, Bool, true, false, List, [], ◌++◌, map, Option, Some, None, refl, sym, ap, subst}
+use Rattle.std.proofs.Common.{◌≡◌, ◌∙◌, ℕ, Bool, true, false, List, [], Some, refl, sym, ap, subst}
 use Rattle.std.specs.Option.{option_map}
-use Rattle.cx_connector.specs.Rows.{changed, due, link_behind, made_row, opening_row, turn_due, turn_made}
+use Rattle.cx_connector.specs.Rows.{changed, due, made_row, opening_row, turn_due, turn_made}
 use Rattle.cx_connector.specs.Stages.{link_held}
-use Rattle.cx_connector.specs.declared.arrivals.Moment.{Moment}
+use Rattle.cx_ends.specs.declared.moments.Moment.{Moment}
 use Rattle.cx_connector.specs.declared.arrivals.Turned.TheVariants as made
 use Rattle.cx_connector.specs.declared.links.Stage.{Stage as Held}
 use Rattle.cx_connector.specs.declared.rows.AskerRow.{AskerRow}
@@ -11,19 +11,19 @@ use Rattle.cx_journal.specs.declared.faults.BytesFault.{BytesFault}
 use Rattle.cx_node.specs.Made.{out_of, refusing_bytes}
 use Rattle.cx_node.specs.Tables.{behind}
 use Rattle.cx_node.specs.declared.rows.Row.{Row as Made}
-use Rattle.cx_rules.specs.Abridged.{abridged_asker_link, abridged_client}
+use Rattle.cx_rules.specs.Abridged.{abridged_asker_link}
 use Rattle.cx_rules.specs.ClientRule.{Client, ClientNode, me, opens, with_asker}
 use Rattle.cx_rules.specs.Connector.{Stage, AwaitsBanner}
 use Rattle.cx_rules.specs.Greetings.{own_banner}
 use Rattle.cx_rules.specs.Holdings.{Asker}
-use Rattle.cx_rules.specs.Links.{put_link, without_link}
-use Rattle.cx_rules.specs.Rows.{Arrival, Row, Turned, Waits, Refuses, Handles, arrival, carried_out, goes_on, lifted, lifted_turn, links_behind, new_link, piece, refuses_bytes, shuts, turns}
+use Rattle.cx_rules.specs.Rows.{Arrival, Row, Turned, Waits, Refuses, Handles, arrival, carried_out, goes_on, lifted, lifted_turn, new_link, refuses_bytes, turns}
 use Rattle.cx_steps.specs.Nothing.{nothing}
 use Rattle.cx_steps.specs.declared.effects.Effects.{Effects}
 use Rattle.cx_steps.specs.declared.events.Peer.TheVariants.{Monitor}
 use Rattle.cx_steps.specs.declared.seals.SealEntry.{SealEntry}
 use Rattle.cx_client.specs.Machine.{AreAbridged, ClientLink, IsStep, node_of}
-use Rattle.cx_rules.proofs.AskerForgets.{asker_put_link, asker_without_link}
+use Rattle.cx_ends.proofs.Carrying.{row_out, row_state}
+use Rattle.cx_rules.proofs.AskerForgets.{asker-forgets}
 
 abbrev ClientRow : Type 0
 ClientRow = Row Client Stage
@@ -32,46 +32,6 @@ ClientRow = Row Client Stage
 abbrev pub coming : Client → Moment → ClientLink → Arrival Client Stage
 coming own at link = arrival (me own) own link at.reading at.draw.now.bytes
 
-shuts_mapped : {X Y : Type 0} (number : ℕ) (f : X → Y) (x : Option X) → shuts number (option_map f x) ≡ shuts number x
-shuts_mapped number f None = refl
-shuts_mapped number f (Some x) = refl
-
--- the effects of a row
-abbrev effects : ℕ → Bool → List ℕ → ClientRow → Effects
-effects number turned shut row = record {
-  opens = [];
-  save = row.save;
-  sends = piece number row.sends;
-  shuts = shut;
-  entries = row.entries;
-  seals = row.seals;
-  turned = turned;
-  lost = None;
-}
-
-row_out : (new : Client) (number : ℕ) (turned : Bool) (c : ClientNode) (row : Made Held) (R : ClientRow) → made_row new number row ≡ due R
-    → out_of number turned row ≡ (carried_out c number turned R).out
-row_out new number turned c row R e =
-    let whole : ClientRow → Effects = λ r. effects number turned (shuts number r.link) r in
-    let shut : List ℕ → Effects = λ s. effects number turned s R in
-    let held : List ℕ → Effects = λ s. effects number turned s (made_row new number row) in
-    sym (ap held (shuts_mapped number (link_held number) row.link)) ∙ ap whole e ∙ ap shut (shuts_mapped number (link_behind R.sends) R.link)
-
-behind_due : (all : List ClientLink) (number : ℕ) (bytes : List ℕ) (x : Option ClientLink) → AreAbridged all
-    → behind (λ l. l.number) number (option_map (link_behind bytes) x) all ≡ map abridged_asker_link (links_behind all number bytes x)
-behind_due all number bytes None held = sym (sym (asker_without_link number all) ∙ ap (without_link number) held)
-behind_due all number bytes (Some l) held =
-    sym (sym (asker_put_link (record l { sent = l.sent ++ bytes }) all) ∙ ap (put_link (link_behind bytes l)) held)
-
-row_state : (old new : Client) (number : ℕ) (turned : Bool) (all links : List ClientLink) (row : Made Held) (R : ClientRow)
-    → made_row new number row ≡ due R → AreAbridged all
-    → links ≡ behind (λ l. l.number) number (option_map (link_held number) row.link) all
-    → node_of new links ≡ abridged_client (carried_out (node_of old all) number turned R).state
-row_state old new number turned all links row R e held l =
-    let state : ClientRow → ClientNode = λ r. node_of r.own (behind (λ l. l.number) number r.link all) in
-    let tables : List ClientLink → ClientNode = λ ls. node_of R.own ls in
-    ap (λ ls. node_of new ls) l ∙ ap state e ∙ ap tables (behind_due all number R.sends R.link held)
-
 -- a row is carried out on its link
 pub row_step : (old new : Client) (number : ℕ) (turned : Bool) (all links : List ClientLink) (row : Made Held) (R : ClientRow) (out : Effects)
     → made_row new number row ≡ due R → AreAbridged all
@@ -79,8 +39,8 @@ pub row_step : (old new : Client) (number : ℕ) (turned : Bool) (all links : Li
     → out ≡ out_of number turned row
     → IsStep (node_of new links) (carried_out (node_of old all) number turned R) out
 row_step old new number turned all links row R out e held l o = record {
-  out = o ∙ row_out new number turned (node_of old all) row R e;
-  state = row_state old new number turned all links row R e held l;
+  out = o ∙ row_out abridged_asker_link link_held new number turned (node_of old all) row R e;
+  state = row_state abridged_asker_link link_held asker-forgets old new number turned all links row R e held l;
 }
 
 -- the banner is sent on a link that opens

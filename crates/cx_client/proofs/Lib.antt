@@ -1,4 +1,3 @@
 pub mod Carrying
 pub mod Idle
-pub mod Rising
 pub mod Steps

@@ -4,7 +4,7 @@ use Rattle.std.specs.Prelude.{if◌then◌else◌}
 use Rattle.std.specs.Option.{option_map}
 use Rattle.cx_connector.specs.Rows.{Turns, arrived, changed}
 use Rattle.cx_connector.specs.Stages.{link_held}
-use Rattle.cx_connector.specs.declared.arrivals.Moment.{Moment}
+use Rattle.cx_ends.specs.declared.moments.Moment.{Moment}
 use Rattle.cx_connector.specs.declared.arrivals.Turned.TheVariants as made
 use Rattle.cx_connector.specs.declared.links.Stage.{Stage}
 use Rattle.cx_connector.specs.declared.rows.AskerRow.{AskerRow}
@@ -24,7 +24,7 @@ use Rattle.cx_steps.specs.declared.effects.Effects.{Effects}
 use Rattle.cx_steps.specs.declared.seals.SealEntry.{SealEntry}
 use Rattle.cx_client.specs.Machine.{AreHeld, ClientLink, IsStep, node_of}
 use Rattle.cx_client.proofs.Carrying.{handles_step, refuses_step, waits_step}
-use Rattle.cx_client.proofs.Rising.{found_put, put_rising, without_rising}
+use Rattle.cx_ends.proofs.Rising.{found_put, put_rising, without_rising}
 use Rattle.cx_rules.proofs.AskerForgets.{asker_put_link, asker_without_link}
 
 -- ---- the links are held

@@ -1,17 +1,18 @@
 -- The client as its machine holds it.
-use Rattle.std.specs.Prelude.{◌≡◌, ◌≤◌, ◌+◌, ℕ, List, [], ◌∷◌, Option, Some, None, map}
+use Rattle.std.specs.Prelude.{◌≡◌, ℕ, List, Option, Some, None, map}
 use Rattle.cx_base.specs.Names.{Name}
 use Rattle.cx_base.specs.declared.addresses.Addr.{Addr}
-use Rattle.cx_enc.specs.declared.keys.Key.{Key}
+use Rattle.cx_forms.specs.declared.keys.Key.{Key}
+use Rattle.cx_ends.specs.Events.{link_in}
+use Rattle.cx_ends.specs.Stages.{AreRising}
 use Rattle.cx_holdings.specs.declared.offers.Modes.{Modes}
 use Rattle.cx_rules.specs.Abridged.{abridged_asker_link, abridged_client}
 use Rattle.cx_rules.specs.ClientRule.{Client, ClientNode}
 use Rattle.cx_rules.specs.Connector.{Stage}
 use Rattle.cx_rules.specs.Holdings.{Asker, holds_nothing, modes_of}
-use Rattle.cx_rules.specs.Inputs.{Input, Opened, Bytes, Turn, Gone}
+use Rattle.cx_rules.specs.Inputs.{Input}
 use Rattle.cx_rules.specs.Links.{Link, link_of, without_link}
 use Rattle.cx_rules.specs.Rows.{Outcome, forgotten}
-use Rattle.cx_steps.specs.Nothing.{nothing}
 use Rattle.cx_steps.specs.declared.effects.Effects.{Effects}
 
 abbrev pub ClientLink : Type 0
@@ -35,25 +36,12 @@ opening_asker name key modes address = record {
 abbrev pub AreAbridged : List ClientLink → Type 0
 AreAbridged links = map abridged_asker_link links ≡ links
 
--- the numbers of these links rise, from this one on
-abbrev pub AreRising : {S : Type 0} → ℕ → List (Link S) → Type 0
-AreRising low [] = Unit {0}
-AreRising low (l ∷ links) = (low ≤ l.number) × AreRising (l.number + 1) links
-
 -- how a client holds its links
 pub record AreHeld (links : List ClientLink) : Type 0 where
   pub abridged : AreAbridged links
   pub rising : AreRising 0 links
 
 -- ---- want of memory
-
--- the link that an event is about
-abbrev pub link_in : Input → Option ℕ
-link_in (Opened number peer) = Some number
-link_in (Bytes number bytes) = Some number
-link_in (Turn number) = Some number
-link_in (Gone number) = Some number
-link_in _ = None
 
 abbrev pub without_lost : Option ℕ → ClientNode → ClientNode
 without_lost None c = c
@@ -62,9 +50,6 @@ without_lost (Some number) c = forgotten c number
 -- where memory is wanting, the event's link is forgotten, and nothing else happens
 abbrev pub lost : ClientNode → Input → ClientNode
 lost c input = without_lost (link_in input) c
-
-abbrev pub losing : Input → Effects
-losing input = record nothing { lost = link_in input }
 
 -- ---- steps
 

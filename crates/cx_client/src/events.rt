@@ -8,35 +8,19 @@ ghost use Rattle.cx_rules.specs.Inputs.{input_of};
 ghost use Rattle.cx_rules.specs.Links.{link_of, without_link};
 ghost use Rattle.cx_rules.specs.Rows as rows;
 ghost use Rattle.cx_steps.specs.Nothing.{nothing};
-ghost use Rattle.cx_client.specs.Machine.{AreHeld, IsStep, link_in, lost, node_of};
+ghost use Rattle.cx_client.specs.Machine.{AreHeld, IsStep, lost, node_of};
 
 use crate::commands::submits;
 use crate::own::Own;
 use crate::turns::{opens, turn};
 use cx_base::Reading;
-use cx_connector::{Link, Moment};
+use cx_connector::Link;
 use cx_dice::Draw;
+use cx_ends::Moment;
 use cx_journal::{Entry, Reason};
 use cx_node::{Links, enters, refused_entry};
 use cx_steps::{Effects, Event};
 use std::alloc::{AllocError, Global};
-
-/// The link that an event is about.
-pub(crate) fn link_in(event: &Event<'_>) -> Option<u32>
-    ensures { result ≡ link_in (input_of event.now) }
-{
-    match event {
-        Event::Opened(number, _) => Some(*number),
-        Event::Bytes(number, _) => Some(*number),
-        Event::Turn(number) => Some(*number),
-        Event::Gone(number) => Some(*number),
-        Event::Restart => None,
-        Event::NoLink(_) => None,
-        Event::Look(_) => None,
-        Event::Tick => None,
-        Event::Submit(_) => None,
-    }
-}
 
 // What the client does at an event.
 #[tactic(auto, using(crate::proofs::Steps::idles_step))]

@@ -11,7 +11,8 @@ ghost use Rattle.cx_steps.specs.declared.events.Peer.TheVariants.{Monitor};
 ghost use Rattle.cx_client.specs.Machine.{AreHeld, ClientLink, IsOutOf, IsStep, node_of};
 
 use crate::own::Own;
-use cx_connector::{AskerRow, Link, Moment, Stage, Turned, greeting, turned};
+use cx_connector::{AskerRow, Link, Stage, Turned, greeting, turned};
+use cx_ends::Moment;
 use cx_node::{Carried, Links, Row, carried_out, refuses_bytes};
 use cx_steps::{Effects, Peer};
 use std::alloc::{AllocError, Global};

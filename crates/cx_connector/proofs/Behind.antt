@@ -1,32 +1,29 @@
 -- What a row says of a secured link hangs on the bytes that are left on it alone, and not on those that were taken, and on its keys alone once
 -- the peer's signature was found right.
-use Rattle.std.proofs.Common.{◌≡◌, ℕ, ◌==◌, Bool, true, false, List, [], ◌∷◌, drop, Result, Ok, Err, refl}
+use Rattle.std.proofs.Common.{◌≡◌, ℕ, ◌==◌, Bool, true, false, List, [], ◌∷◌, drop, Result, Ok, Err, refl, sym, ap, ◌∙◌}
 use Rattle.std.specs.Prelude.{if◌then◌else◌}
 use Rattle.cx_control.specs.Idents.{ident_missing_features_layout, server_ident_layout}
-use Rattle.cx_control.specs.Upkeep.{keepalive2_layout, keepalive2_ack_layout}
 use Rattle.cx_control.specs.declared.auth.AuthSignature.{AuthSignature}
 use Rattle.cx_control.specs.declared.idents.IdentMissingFeatures.{IdentMissingFeatures}
 use Rattle.cx_control.specs.declared.idents.ServerIdent.{ServerIdent}
-use Rattle.cx_control.specs.declared.upkeep.Keepalive2.{Keepalive2}
-use Rattle.cx_control.specs.declared.upkeep.Keepalive2Ack.{Keepalive2Ack}
 use Rattle.cx_dice.specs.Draws.{cookie_of}
+use Rattle.cx_ends.proofs.Keeping.{upkept-row}
+use Rattle.cx_ends.specs.Stages.{keys_alone}
+use Rattle.cx_ends.specs.Upkeep.{upkept}
 use Rattle.cx_frame.specs.declared.frame.Frame.{Frame}
 use Rattle.cx_journal.specs.declared.faults.BytesFault.{BytesFault}
-use Rattle.cx_journal.specs.declared.faults.BytesFault.TheVariants.{Unexpected}
 use Rattle.cx_journal.specs.declared.faults.LoginFault.TheVariants.{SignatureWrong}
 use Rattle.cx_journal.specs.declared.outcomes.Reason.TheVariants as reason
 use Rattle.cx_rules.specs.Connector.{AskerArrival, AskerRow, Stage, AwaitsIdent, Open, Login, client_ident, holding, identifies, on_missing_features, on_server_ident, on_signature, while_identified}
 use Rattle.cx_rules.specs.Holdings.{Holdings, held_login}
 use Rattle.cx_rules.specs.Payloads as payload
-use Rattle.cx_rules.specs.Payloads.{control}
-use Rattle.cx_rules.specs.Rows.{at, refuses, refuses_bytes, secure_sent}
-use Rattle.cx_rules.specs.Secured.{SealedFrame, Secured, is_signed, secure_frame, signature_found}
-use Rattle.cx_rules.specs.Upkeep.{on_keepalive, on_keepalive_ack, on_upkeep}
+use Rattle.cx_rules.specs.Rows.{at, refuses, secure_sent}
+use Rattle.cx_rules.specs.Secured.{Keys, SealedFrame, Secured, is_signed, secure_frame, signature_found}
+use Rattle.cx_rules.specs.Upkeep.{on_upkeep}
 use Rattle.cx_steps.specs.declared.seals.DrawMark.TheVariants as draw
 use Rattle.cx_steps.specs.declared.seals.SealEntry.{SealEntry}
 use Rattle.cx_steps.specs.declared.seals.SealEntry.TheVariants.{Drawn}
 use Rattle.cx_connector.specs.Rows.{due, identified}
-use Rattle.cx_connector.specs.Stages.{keys_alone}
 
 -- an arrival on a secured link of this number, on which these bytes came, and of which so many were taken; and another stage
 pub record Coming : Type 0 where
@@ -103,22 +100,6 @@ open_sent : (h : Coming) (s : Secured) (r : Result SealedFrame BytesFault) → S
 open_sent h s (Ok sealed) = refl
 open_sent h s (Err why) = refl
 
-keepalive-same : (h : Coming) (s : Secured) (read : Result Keepalive2 BytesFault) → Same h (λ a. on_keepalive a s Open read)
-keepalive-same h s (Err why) = refl
-keepalive-same h s (Ok keepalive) =
-    open_sent h s (secure_frame s.keys (control 19 keepalive2_ack_layout.form (record { time = keepalive.time })))
-
-ack-same : (h : Coming) (s : Secured) (read : Result Keepalive2Ack BytesFault) → Same h (λ a. on_keepalive_ack a s Open read)
-ack-same h s (Err why) = refl
-ack-same h s (Ok ack) = refl
-
-kept-same : (h : Coming) (s : Secured) (f : Frame) (b c : Bool) → Same h (λ a.
-    if b then on_keepalive a s Open (payload.payload keepalive2_layout.form f)
-    else if c then on_keepalive_ack a s Open (payload.payload keepalive2_ack_layout.form f)
-    else refuses_bytes a (Unexpected f.tag) [])
-kept-same h s f true c = keepalive-same h s (payload.payload keepalive2_layout.form f)
-kept-same h s f false true = ack-same h s (payload.payload keepalive2_ack_layout.form f)
-kept-same h s f false false = refl
-
-pub upkeep-same : (h : Coming) (s : Secured) (f : Frame) → Same h (λ a. on_upkeep a s Open f)
-upkeep-same h s f = kept-same h s f (f.tag == 18) (f.tag == 19)
+pub upkeep-same : (h : Coming) (keys : Keys) (f : Frame) → Same h (λ a. on_upkeep a (keys_alone keys) Open f)
+upkeep-same h keys f =
+    ap due (upkept-row (taken h) keys Open f) ∙ open_sent h (keys_alone keys) (upkept keys f) ∙ sym (ap due (upkept-row (left h) keys Open f))

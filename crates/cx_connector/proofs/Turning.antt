@@ -19,8 +19,9 @@ use Rattle.cx_rules.specs.Rows.{Turned, Handles, with_opened}
 use Rattle.cx_rules.specs.Upkeep.{on_upkeep}
 use Rattle.cx_steps.specs.declared.seals.SealEntry.{SealEntry}
 use Rattle.cx_connector.specs.Rows.{Turns, arrived, due, row_of}
-use Rattle.cx_connector.specs.Stages.{awaiting_ident, awaiting_signature, keys_alone, open_link}
-use Rattle.cx_connector.specs.declared.arrivals.Moment.{Moment}
+use Rattle.cx_connector.specs.Stages.{awaiting_ident, awaiting_signature, open_link}
+use Rattle.cx_ends.specs.Stages.{keys_alone}
+use Rattle.cx_ends.specs.declared.moments.Moment.{Moment}
 use Rattle.cx_connector.specs.declared.arrivals.Turned.TheVariants as made
 use Rattle.cx_connector.specs.declared.rows.AskerRow.{AskerRow as RowMade}
 use Rattle.cx_connector.proofs.Behind.{Coming, ident-same, signature-same, upkeep-same}
@@ -127,6 +128,6 @@ upkeep_turns asker at old link f opened row back t m b =
     let k = rw t.behind at m in
     let none : 0 + t.len ≡ t.len = omega arith in
     record {
-      made = rw (b, t.opened, t.front, none) (ap (opening (opened_parts (secure_ahead old))) (k ∙ sym (upkeep-same h (keys_alone (behind old f t.len).keys) f)));
+      made = rw (b, t.opened, t.front, none) (ap (opening (opened_parts (secure_ahead old))) (k ∙ sym (upkeep-same h (behind old f t.len).keys f)));
       stays = tt;
     }

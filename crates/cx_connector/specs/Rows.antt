@@ -4,6 +4,8 @@ use Rattle.std.specs.Prelude.{◌≡◌, ℕ, List, [], ◌∷◌, ◌++◌, Res
 use Rattle.std.specs.Option.{option_map}
 use Rattle.cx_control.specs.declared.bad_method.AuthBadMethod.{AuthBadMethod}
 use Rattle.cx_dice.specs.Draws.{cookie_of}
+use Rattle.cx_ends.specs.Stages.{keys_alone}
+use Rattle.cx_ends.specs.declared.moments.Moment.{Moment}
 use Rattle.cx_journal.specs.declared.faults.BytesFault.{BytesFault}
 use Rattle.cx_journal.specs.declared.node_names.NodeName.TheVariants as node
 use Rattle.cx_link.specs.Wires.{new_wire}
@@ -19,8 +21,7 @@ use Rattle.cx_rules.specs.Secured.{Keys}
 use Rattle.cx_steps.specs.declared.seals.DrawMark.TheVariants as draw
 use Rattle.cx_steps.specs.declared.seals.SealEntry.{SealEntry}
 use Rattle.cx_steps.specs.declared.seals.SealEntry.TheVariants.{Drawn}
-use Rattle.cx_connector.specs.Stages.{AskerLink, keys_alone, link_held}
-use Rattle.cx_connector.specs.declared.arrivals.Moment.{Moment}
+use Rattle.cx_connector.specs.Stages.{AskerLink, link_held}
 use Rattle.cx_connector.specs.declared.arrivals.Turned.{Turned as TurnMade}
 use Rattle.cx_connector.specs.declared.arrivals.Turned.TheVariants as made
 use Rattle.cx_connector.specs.declared.links.Stage.{Stage}

@@ -1,22 +1,18 @@
 -- The links to the monitor as they are held, each as the link of the rules that it is, abridged.
-use Rattle.std.specs.Prelude.{ℕ, []}
+use Rattle.std.specs.Prelude.{ℕ}
+use Rattle.cx_ends.specs.Stages.{keys_alone}
 use Rattle.cx_link.specs.Sending.{secured_of}
 use Rattle.cx_link.specs.Wires.{SecureWire, secured_link, wired}
 use Rattle.cx_link.specs.declared.links.Signing.{Signing}
 use Rattle.cx_rules.specs.Connector as connector
 use Rattle.cx_rules.specs.Connector.{Login}
 use Rattle.cx_rules.specs.Links.{Link}
-use Rattle.cx_rules.specs.Secured.{Keys, Secured}
 use Rattle.cx_connector.specs.declared.links.Stage.{Stage}
 use Rattle.cx_connector.specs.declared.links.Stage.TheVariants as held
 
 -- a link to the monitor, as the rules have it
 abbrev pub AskerLink : Type 0
 AskerLink = Link connector.Stage
-
--- of a link whose peer has proved itself the keys alone are held
-abbrev pub keys_alone : Keys → Secured
-keys_alone keys = record { keys = keys; session = []; covered = [] }
 
 -- the links of each later stage
 abbrev pub awaiting_signature : ℕ → Signing → Login → AskerLink

@@ -9,16 +9,15 @@ ghost use Rattle.cx_rules.specs.Payloads.{control, whole};
 ghost use Rattle.cx_rules.specs.Secured.{plain_frame};
 ghost use Rattle.cx_wire.specs.Logins.{server_challenge_layout};
 ghost use Rattle.cx_connector.specs.Rows.{arrived, due, row_of};
-ghost use Rattle.cx_connector.specs.Sending.{SendsPlain};
+ghost use Rattle.cx_ends.specs.Sending.{SendsPlain};
 
-use crate::arrivals::Moment;
 use crate::denials::on_bad_method;
 use crate::links::Stage;
 use crate::making::{goes_on, refuses_bytes};
 use crate::rows::AskerRow;
-use crate::sending::{SentPlain, send_plain};
 use cx_base::{Blob, Items};
 use cx_control::{AuthBadMethod, AuthReplyMore, AuthRequestMore};
+use cx_ends::{Moment, SentPlain, send_plain};
 use cx_frame::Frame;
 use cx_holdings::{Answer, Asker};
 use cx_journal::{BytesFault, KeyKind};

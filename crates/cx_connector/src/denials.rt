@@ -5,11 +5,11 @@ ghost use Rattle.cx_link.specs.Wires.{Wire, wired};
 ghost use Rattle.cx_rules.specs.Connector.{Stage, on_denial};
 ghost use Rattle.cx_connector.specs.Rows.{arrived, denied, due, row_of};
 
-use crate::arrivals::Moment;
 use crate::making::{refuses, refuses_bytes};
 use crate::rows::AskerRow;
 use cx_base::Items;
 use cx_control::AuthBadMethod;
+use cx_ends::Moment;
 use cx_holdings::Asker;
 use cx_journal::{BytesFault, Reason};
 use std::alloc::{AllocError, Global};

@@ -8,14 +8,13 @@ ghost use Rattle.cx_rules.specs.Secured.{connector_keys, signed_frame};
 ghost use Rattle.cx_wire.specs.Logins.{login_done_layout};
 ghost use Rattle.cx_connector.specs.Rows.{arrived, due, row_of};
 
-use crate::arrivals::Moment;
 use crate::denials::on_bad_method;
 use crate::links::Stage;
 use crate::making::{goes_on, refuses, refuses_bytes};
 use crate::rows::AskerRow;
-use crate::sending::log_behind;
 use cx_base::Items;
 use cx_control::{AuthBadMethod, AuthDone};
+use cx_ends::{Moment, log_behind};
 use cx_frame::Frame;
 use cx_holdings::{Asker, Login};
 use cx_journal::{BytesFault, LoginFault, Reason};

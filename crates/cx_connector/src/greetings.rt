@@ -6,13 +6,12 @@ ghost use Rattle.cx_rules.specs.Connector.{AwaitsBanner, AwaitsHello, AwaitsChal
 ghost use Rattle.cx_rules.specs.Rows.{sends_plain};
 ghost use Rattle.cx_connector.specs.Rows.{arrived, due, opening_row, row_of};
 
-use crate::arrivals::Moment;
 use crate::links::Stage;
 use crate::making::{goes_on, refuses_bytes};
 use crate::rows::AskerRow;
-use crate::sending::send_plain;
 use cx_base::{Addr, Items};
 use cx_control::Hello;
+use cx_ends::{Moment, send_plain};
 use cx_holdings::Asker;
 use cx_journal::BytesFault;
 use cx_link::{BannerLink, PlainLink, own_banner};

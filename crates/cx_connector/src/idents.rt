@@ -5,14 +5,15 @@ ghost use Rattle.cx_link.specs.Wires.{secured_link};
 ghost use Rattle.cx_rules.specs.Connector as connector;
 ghost use Rattle.cx_rules.specs.Connector.{on_missing_features, on_server_ident, while_identified};
 ghost use Rattle.cx_connector.specs.Rows.{arrived, due, row_of};
-ghost use Rattle.cx_connector.specs.Stages.{awaiting_ident, keys_alone};
+ghost use Rattle.cx_connector.specs.Stages.{awaiting_ident};
+ghost use Rattle.cx_ends.specs.Stages.{keys_alone};
 
-use crate::arrivals::Moment;
 use crate::links::Stage;
 use crate::making::{goes_on, refuses_bytes};
 use crate::rows::AskerRow;
 use cx_base::{Blob, Items};
 use cx_control::{IdentMissingFeatures, ServerIdent};
+use cx_ends::Moment;
 use cx_frame::Frame;
 use cx_holdings::Asker;
 use cx_journal::BytesFault;

@@ -10,12 +10,11 @@ mod idents;
 mod links;
 mod making;
 mod rows;
-mod sending;
 mod signatures;
 mod turns;
 mod upkeep;
 
-pub use arrivals::{Moment, Turned};
+pub use arrivals::Turned;
 pub use greetings::greeting;
 pub use links::{Link, Stage};
 pub use rows::{AskerRow, Change};

@@ -5,10 +5,10 @@ ghost use Rattle.cx_journal.specs.declared.node_names.NodeName.TheVariants as no
 ghost use Rattle.cx_node.specs.Made.{behind_opened, going_on, refusing, refusing_bytes};
 ghost use Rattle.cx_connector.specs.Rows.{keeping};
 
-use crate::arrivals::Moment;
 use crate::links::Stage;
 use crate::rows::{AskerRow, Change};
 use cx_base::{Blob, Duplicate, Items};
+use cx_ends::Moment;
 use cx_holdings::Asker;
 use cx_journal::{BytesFault, NodeName, Reason};
 use cx_steps::SealEntry;

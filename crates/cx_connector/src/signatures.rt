@@ -8,13 +8,12 @@ ghost use Rattle.cx_rules.specs.Connector.{on_signature};
 ghost use Rattle.cx_connector.specs.Rows.{arrived, due, identified, row_of};
 ghost use Rattle.cx_connector.specs.Stages.{awaiting_signature};
 
-use crate::arrivals::Moment;
 use crate::links::Stage;
 use crate::making::{goes_on, refuses, refuses_bytes};
 use crate::rows::AskerRow;
-use crate::sending::{log_behind, send_secure};
 use cx_base::Items;
 use cx_control::AuthSignature;
+use cx_ends::{Moment, log_behind, send_secure};
 use cx_holdings::{Asker, Login};
 use cx_journal::{BytesFault, LoginFault, Reason};
 use cx_link::{Checked, Signing};

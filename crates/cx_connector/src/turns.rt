@@ -6,7 +6,7 @@ ghost use Rattle.cx_rules.specs.Connector.{AwaitsBanner, AwaitsHello, AwaitsChal
 ghost use Rattle.cx_connector.specs.Rows.{Turns};
 ghost use Rattle.cx_connector.specs.Stages.{awaiting_ident, awaiting_signature, link_held, open_link};
 
-use crate::arrivals::{Moment, Turned};
+use crate::arrivals::Turned;
 use crate::challenges::while_challenged;
 use crate::dones::while_proved;
 use crate::greetings::{on_banner, on_hello};
@@ -17,6 +17,7 @@ use crate::signatures::on_signature;
 use crate::upkeep::on_upkeep;
 use cx_base::Items;
 use cx_control::{AuthSignature, Hello};
+use cx_ends::Moment;
 use cx_holdings::{Asker, Login};
 use cx_link::{BannerLink, BannerTurn, LinkTurn, PlainLink, SecureLink, Signing};
 use cx_node::due;

@@ -7,7 +7,7 @@ use Rattle.cx_aes.specs.Cipher.{add, aes, round_key, rounds, shift_rows, sub_byt
 use Rattle.cx_cbc.proofs.Blocks.{length-first_chunks}
 use Rattle.cx_cbc.specs.Chain.{blocks_of, cbc}
 use Rattle.cx_cbc.specs.Envelope.{enveloped, head, initial_vector, padded, padding, sealed}
-use Rattle.cx_enc.specs.Forms.{Form}
+use Rattle.cx_forms.specs.Forms.{Form}
 use Rattle.cx_sealed.specs.Sealing.{OpensTo}
 
 length-add : (s t : List ℕ) → length (add s t) ≤ length s

@@ -7,7 +7,7 @@ use Rattle.cx_base.specs.Names.{Name}
 use Rattle.cx_base.specs.declared.kinds.EntityType.{EntityType}
 use Rattle.cx_base.specs.declared.kinds.EntityType.TheVariants.{Mds, Osd, Mgr, Auth}
 use Rattle.cx_dice.specs.Draws.{has_keys}
-use Rattle.cx_enc.specs.Forms.{passed}
+use Rattle.cx_forms.specs.Forms.{passed}
 use Rattle.cx_journal.specs.declared.faults.LoginFault.{LoginFault}
 use Rattle.cx_keyring.specs.Entries.{is_named}
 use Rattle.cx_keyring.specs.declared.entries.Entry.{Entry}

@@ -2,9 +2,9 @@
 use Rattle.std.proofs.Common.{◌≡◌, ℕ, ◌+◌, ◌*◌, ◌^◌, ◌<◌, ◌≤◌, List, [], ◌∷◌, All, length, map, Option, None, length-append, arith}
 use Rattle.std.proofs.lemmas.List.Elements.{All-cons, All-head, All-nil, All-tail}
 use Rattle.cx_base.specs.declared.kinds.EntityType.{EntityType}
-use Rattle.cx_enc.specs.Forms.{blob_form, chain_text, little}
-use Rattle.cx_enc.specs.Values.{kind_form, ticket_form}
-use Rattle.cx_enc.specs.declared.tickets.TicketBlob.{TicketBlob}
+use Rattle.cx_forms.specs.Forms.{blob_form, chain_text, little}
+use Rattle.cx_forms.specs.Values.{kind_form, ticket_form}
+use Rattle.cx_forms.specs.declared.tickets.TicketBlob.{TicketBlob}
 use Rattle.cx_keyserver.specs.declared.tickets.Ticket.{Ticket}
 use Rattle.cx_rules.specs.Tickets.{ticket_part}
 use Rattle.cx_wire.proofs.FewTickets.{few}

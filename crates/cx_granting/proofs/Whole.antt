@@ -1,9 +1,9 @@
 -- A ticket that a key server issued is whole.
 use Rattle.std.proofs.Common.{◌≡◌, ℕ, ◌/◌, ◌^◌, ◌<◌, Bool, true, false, cond, Some, None, refl, arith}
 use Rattle.cx_base.specs.Texts.{is_caps}
-use Rattle.cx_enc.specs.Forms.{passed}
-use Rattle.cx_enc.specs.Moments.{IsReading}
-use Rattle.cx_enc.specs.Values.{reading_form, time_form}
+use Rattle.cx_forms.specs.Forms.{passed}
+use Rattle.cx_forms.specs.Moments.{IsReading}
+use Rattle.cx_forms.specs.Values.{reading_form, time_form}
 use Rattle.cx_keyserver.specs.Issuing.{Asked, IsOpenable, service_ticket_of, ticket_info_of}
 use Rattle.cx_keyserver.specs.Servers.{Server}
 use Rattle.cx_keyserver.specs.declared.tickets.Ticket.{Ticket}

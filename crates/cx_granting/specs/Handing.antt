@@ -1,7 +1,7 @@
 -- Which tickets can be spelled and sealed: those that a key server issues.
 use Rattle.std.specs.Prelude.{◌≤◌, List, None, All, length, map, IsTrue}
 use Rattle.cx_base.specs.Texts.{is_caps}
-use Rattle.cx_enc.specs.Moments.{IsReading}
+use Rattle.cx_forms.specs.Moments.{IsReading}
 use Rattle.cx_keyserver.specs.declared.tickets.Ticket.{Ticket}
 use Rattle.cx_rules.specs.Tickets.{ticket_part}
 use Rattle.cx_wire.specs.Services.{AreTickets}

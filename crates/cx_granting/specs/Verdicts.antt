@@ -9,7 +9,7 @@ use Rattle.cx_base.specs.declared.kinds.EntityType.TheVariants.{Auth}
 use Rattle.cx_cbc.specs.Envelope.{sealed}
 use Rattle.cx_control.specs.Auth.{auth_done_layout}
 use Rattle.cx_dice.specs.Draws.{connection_of, session_of}
-use Rattle.cx_enc.specs.declared.keys.Key.{Key}
+use Rattle.cx_forms.specs.declared.keys.Key.{Key}
 use Rattle.cx_journal.specs.declared.faults.LoginFault.{LoginFault}
 use Rattle.cx_journal.specs.declared.faults.LoginFault.TheVariants.{UnknownEntity}
 use Rattle.cx_keyring.specs.Entries.{is_named}

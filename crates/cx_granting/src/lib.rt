@@ -3,8 +3,6 @@
 
 mod entries;
 mod issuing;
-#[cfg(test)]
-mod known;
 mod laws;
 mod logging;
 mod logins;
@@ -13,8 +11,6 @@ mod occasions;
 mod payloads;
 mod rotating;
 mod saving;
-#[cfg(test)]
-mod tests;
 mod verdicts;
 
 pub use laws::granting_laws;

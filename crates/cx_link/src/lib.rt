@@ -2,16 +2,12 @@
 #![tactic(auto)]
 
 mod banner;
-#[cfg(test)]
-mod known;
 mod links;
 mod plain;
 mod refusals;
 mod secure;
 mod sending;
 mod signing;
-#[cfg(test)]
-mod tests;
 mod turns;
 
 pub use links::{BannerLink, Checked, Finished, PlainLink, SecureLink, SentFrame, Signing};

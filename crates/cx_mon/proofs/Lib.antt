@@ -1,10 +1,3 @@
-pub mod Behind
 pub mod Carrying
-pub mod Controls
-pub mod Decided
 pub mod Kept
-pub mod Rising
-pub mod Stages
 pub mod Steps
-pub mod Tables
-pub mod Turning

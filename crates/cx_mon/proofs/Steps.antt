@@ -15,21 +15,21 @@ use Rattle.cx_steps.specs.Nothing.{nothing}
 use Rattle.cx_steps.specs.declared.effects.Effects.{Effects}
 use Rattle.cx_steps.specs.declared.seals.SealEntry.{SealEntry}
 use Rattle.cx_mon.specs.Machine.{AreHeld, IsStep, MonitorLink, node_of}
-use Rattle.cx_mon.specs.Rows.{Turns, arrived}
-use Rattle.cx_mon.specs.Stages.{link_held}
-use Rattle.cx_mon.specs.declared.arrivals.Moment.{Moment}
-use Rattle.cx_mon.specs.declared.arrivals.Turned.TheVariants as made
-use Rattle.cx_mon.specs.declared.links.Stage.{Stage}
+use Rattle.cx_acceptor.specs.Rows.{Turns, arrived}
+use Rattle.cx_acceptor.specs.Stages.{link_held}
+use Rattle.cx_ends.specs.declared.moments.Moment.{Moment}
+use Rattle.cx_acceptor.specs.declared.arrivals.Turned.TheVariants as made
+use Rattle.cx_acceptor.specs.declared.links.Stage.{Stage}
 use Rattle.cx_mon.proofs.Carrying.{handles_step, refuses_step, waits_step}
-use Rattle.cx_mon.proofs.Rising.{found_put, put_rising, without_rising}
-use Rattle.cx_mon.proofs.Stages.{held_abridged, number_held}
-use Rattle.cx_mon.proofs.Tables.{put_mapped, without_mapped}
+use Rattle.cx_ends.proofs.Rising.{found_put, put_rising, without_rising}
+use Rattle.cx_acceptor.proofs.Stages.{held_abridged, number_held}
+use Rattle.cx_rules.proofs.AcceptorForgets.{acceptor_put_link, acceptor_without_link}
 
 -- ---- the links are held
 
 pub without_held : (number : ℕ) (all links : List MonitorLink) → AreHeld all → links ≡ without_link number all → AreHeld links
 without_held number all links h l = rw l (record {
-  abridged = without_mapped number all ∙ ap (without_link number) h.abridged;
+  abridged = sym (acceptor_without_link number all) ∙ ap (without_link number) h.abridged;
   rising = without_rising 0 number all h.rising;
 })
 
@@ -37,7 +37,7 @@ pub put_held : (link : MonitorLink) (all links : List MonitorLink) → abridged_
 put_held link all links same h l =
     let first : MonitorLink → List MonitorLink = λ k. put_link k (map abridged_link all) in
     rw l (record {
-      abridged = put_mapped link all ∙ ap first same ∙ ap (put_link link) h.abridged;
+      abridged = sym (acceptor_put_link link all) ∙ ap first same ∙ ap (put_link link) h.abridged;
       rising = put_rising link all h.rising;
     })
 

@@ -1,4 +1,1 @@
 pub mod Machine
-pub mod Rows
-pub mod Sending
-pub mod Stages

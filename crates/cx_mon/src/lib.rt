@@ -1,21 +1,9 @@
 //! The monitor: what it has of its own, its links, and what it does at each event.
 #![tactic(auto)]
 
-mod arrivals;
 mod events;
-mod greeting;
-mod idents;
-mod links;
-mod logins;
 mod monitor;
-mod own;
-mod requests;
-mod sending;
-mod signatures;
-#[cfg(test)]
-mod tests;
 mod turns;
-mod upkeep;
 
 pub use monitor::Monitor;
 

@@ -6,13 +6,14 @@ ghost use Rattle.cx_rules.specs.Abridged.{MonitorStandsFor, abridged_monitor};
 ghost use Rattle.cx_rules.specs.Inputs.{input_of};
 ghost use Rattle.cx_rules.specs.Monitor.{MonitorNode};
 ghost use Rattle.cx_rules.specs.MonitorRule.{is_idle, monitor_rule, opening_monitor, unsaved};
-ghost use Rattle.cx_mon.specs.Machine.{losing, lost};
+ghost use Rattle.cx_ends.specs.Events.{losing};
+ghost use Rattle.cx_mon.specs.Machine.{lost};
 
-use crate::events::{link_in, steps};
-use crate::links::Link;
-use crate::own::Own;
+use crate::events::steps;
+use cx_acceptor::{Link, Own};
 use cx_base::{Addr, Reading};
 use cx_dice::Draw;
+use cx_ends::link_in;
 use cx_keyserver::KeyServer;
 use cx_node::{Links, loses};
 use cx_rules::forgetting_laws;

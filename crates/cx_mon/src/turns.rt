@@ -1,200 +1,185 @@
-//! A turn of a link, by its stage.
+//! A link that opens, and a turn of one.
 
-ghost use Rattle.std.specs.Prelude.{◌≡◌, ◌<◌, IfOk, OnOk, OnErr};
-ghost use Rattle.cx_link.specs.Wires.{wired};
-ghost use Rattle.cx_rules.specs.Acceptor.{AwaitsBanner, AwaitsHello, AwaitsRequest};
-ghost use Rattle.cx_mon.specs.Machine.{IsSameBut};
-ghost use Rattle.cx_mon.specs.Rows.{Turns};
-ghost use Rattle.cx_mon.specs.Stages.{awaiting_ident, awaiting_proof, awaiting_signature, link_held, open_link};
+ghost use Rattle.std.specs.Prelude.{◌≡◌, ◌<◌, List, Some, None, IfOk, OnOk, OnErr};
+ghost use Rattle.std.specs.Option.{option_map};
+ghost use Rattle.cx_acceptor.specs.Rows.{IsSameBut};
+ghost use Rattle.cx_acceptor.specs.Stages.{link_held};
+ghost use Rattle.cx_node.specs.Made.{out_of};
+ghost use Rattle.cx_node.specs.Tables.{behind};
+ghost use Rattle.cx_rules.specs.Acceptor.{AwaitsBanner};
+ghost use Rattle.cx_rules.specs.Links.{link_of, without_link};
+ghost use Rattle.cx_rules.specs.MonitorRule as rule;
+ghost use Rattle.cx_rules.specs.Rows.{forgotten, new_link};
+ghost use Rattle.cx_mon.specs.Machine.{AreHeld, IsOutOf, IsStep, MonitorLink, node_of};
 
-use crate::arrivals::{Moment, Turned};
-use crate::greeting::{on_banner, on_hello};
-use crate::idents::on_ident;
-use crate::links::{Entity, Stage};
-use crate::logins::on_auth_request_more;
-use crate::own::Own;
-use crate::requests::on_auth_request;
-use crate::signatures::on_signature;
-use crate::upkeep::on_upkeep;
-use cx_base::Items;
-use cx_control::{AuthRequest, AuthRequestMore, AuthSignature, Hello};
-use cx_link::{BannerLink, BannerTurn, LinkTurn, PlainLink, SecureLink, Signing};
-use cx_login::Offered;
-use cx_node::{due, with_opened};
+use cx_acceptor::{Link, Own, Stage, Turned, greeting, turned};
+use cx_ends::Moment;
+use cx_journal::NodeName;
+use cx_node::{Carried, Links, Row, carried_out, refuses_bytes};
+use cx_steps::Effects;
 use std::alloc::{AllocError, Global};
 
-// What stands next on a link, by its stage.
-pub(crate) fn turned(
+/// The links that a node has places for.
+const MOST_LINKS: usize = 1024;
+
+// ---- a link opens
+
+// The banner is sent, unless as many links live as there are places.
+#[tactic(auto, using(crate::proofs::Steps::without_held))]
+pub(crate) fn opens(
     alloc: Global,
-    own: &mut Own,
+    own: &Own,
+    links: &mut Links<Link>,
     at: &Moment<'_>,
-    stage: Stage,
-) -> Result<Turned, AllocError>
-    requires { at.now.reading < 4000000000000000000 }
-    ensures turned { IfOk result (Turns own.old at.now (link_held at.now.number stage) own.new) }
-    ensures same { OnOk result (IsSameBut own.old own.new) }
-    ensures err { OnErr result (own.new ≡ own.old) }
+) -> Result<Effects, AllocError>
+    requires room { links.old.room ≡ None }
+    requires held { AreHeld links.old.links }
+    ensures step { IfOk result (IsStep (node_of own.now links.new.links)
+        (rule.opens (node_of own.now links.old.links) at.now.reading at.now.draw.now.bytes (new_link at.now.number AwaitsBanner))) }
+    ensures lost { OnErr result (links.new.links ≡ without_link at.now.number links.old.links) }
+    ensures room { links.new.room ≡ None }
+    ensures held { AreHeld links.new.links }
+{
+    match greets(alloc, own, links, at) {
+        Ok(out) => Ok(out),
+        Err(error) => {
+            links.remove(at.number);
+            Err(error)
+        }
+    }
+}
+
+fn greets(
+    alloc: Global,
+    own: &Own,
+    links: &mut Links<Link>,
+    at: &Moment<'_>,
+) -> Result<Effects, AllocError>
+    requires room { links.old.room ≡ None }
+    requires held { AreHeld links.old.links }
+    ensures step { IfOk result (IsStep (node_of own.now links.new.links)
+        (rule.opens (node_of own.now links.old.links) at.now.reading at.now.draw.now.bytes (new_link at.now.number AwaitsBanner))) }
+    ensures err { OnErr result (links.new ≡ links.old) }
+    ensures room { links.new.room ≡ None }
+    ensures held { AreHeld links.new.links }
+{
+    let full = links.len() >= MOST_LINKS;
+    let row = greeting(alloc, own, at, full)?;
+    let Carried { link, out } = carried_out(alloc, at.number, false, row)?;
+    stands(alloc, links, at.number, link)?;
+    Ok(out)
+}
+
+// The link of this number stands in the table, where it goes on.
+fn stands(
+    alloc: Global,
+    links: &mut Links<Link>,
+    number: u32,
+    stage: Option<Stage>,
+) -> Result<(), AllocError>
+    requires { links.old.room ≡ None }
+    ensures ok { OnOk result (links.new.links ≡ behind (λ l. l.number) number (option_map (link_held number) stage) links.old.links) }
+    ensures err { OnErr result (links.new ≡ links.old) }
+    ensures room { links.new.room ≡ None }
 {
     match stage {
-        Stage::AwaitsBanner(link) => banner_turn(alloc, own, at, link),
-        Stage::AwaitsHello(link) => hello_turn(alloc, own, at, link),
-        Stage::AwaitsRequest(link) => request_turn(alloc, own, at, link),
-        Stage::AwaitsProof(link, offered, gid) => proof_turn(alloc, own, at, link, offered, gid),
-        Stage::AwaitsSignature(signing, entity) => signature_turn(alloc, own, at, signing, entity),
-        Stage::AwaitsIdent(link, entity) => ident_turn(alloc, own, at, link, entity),
-        Stage::Open(link, entity) => open_turn(alloc, own, at, link, entity),
-    }
-}
-
-fn banner_turn(
-    alloc: Global,
-    own: &Own,
-    at: &Moment<'_>,
-    link: BannerLink,
-) -> Result<Turned, AllocError>
-    ensures { IfOk result (Turns own.now at.now (wired at.now.number link AwaitsBanner) own.now) }
-{
-    match link.turn() {
-        BannerTurn::Waits(link) => Ok(Turned::Waits(Stage::AwaitsBanner(link))),
-        BannerTurn::Refuses(why) => Ok(Turned::Refuses(why, Items::new(alloc))),
-        BannerTurn::Takes(link) => Ok(Turned::Handles(on_banner(alloc, own, at, link)?)),
-    }
-}
-
-fn hello_turn(
-    alloc: Global,
-    own: &Own,
-    at: &Moment<'_>,
-    link: PlainLink,
-) -> Result<Turned, AllocError>
-    ensures { IfOk result (Turns own.now at.now (wired at.now.number link AwaitsHello) own.now) }
-{
-    match link.turn(alloc)? {
-        LinkTurn::Waits(link) => Ok(Turned::Waits(Stage::AwaitsHello(link))),
-        LinkTurn::Refuses(why) => Ok(Turned::Refuses(why, Items::new(alloc))),
-        LinkTurn::Takes(link, frame) => {
-            let hello = due::<Hello>(alloc, 1, &frame)?;
-            Ok(Turned::Handles(on_hello(alloc, own, at, link, hello)?))
+        Some(stage) => links.put(alloc, Link { number, stage }),
+        None => {
+            links.remove(number);
+            Ok(())
         }
     }
 }
 
-fn request_turn(
-    alloc: Global,
-    own: &Own,
-    at: &Moment<'_>,
-    link: PlainLink,
-) -> Result<Turned, AllocError>
-    ensures { IfOk result (Turns own.now at.now (wired at.now.number link AwaitsRequest) own.now) }
-{
-    match link.turn(alloc)? {
-        LinkTurn::Waits(link) => Ok(Turned::Waits(Stage::AwaitsRequest(link))),
-        LinkTurn::Refuses(why) => Ok(Turned::Refuses(why, Items::new(alloc))),
-        LinkTurn::Takes(link, frame) => {
-            let request = due::<AuthRequest>(alloc, 2, &frame)?;
-            Ok(Turned::Handles(on_auth_request(alloc, own, at, link, request)?))
-        }
-    }
-}
+// ---- a turn
 
-fn proof_turn(
+// One banner or frame of what came on a link is handled, if it lives.
+#[tactic(auto, using(crate::proofs::Steps::idles_step, crate::proofs::Steps::without_held))]
+pub(crate) fn turn(
     alloc: Global,
     own: &mut Own,
+    links: &mut Links<Link>,
     at: &Moment<'_>,
-    link: PlainLink,
-    offered: Offered,
-    gid: u64,
-) -> Result<Turned, AllocError>
-    requires { at.now.reading < 4000000000000000000 }
-    ensures turned { IfOk result (Turns own.old at.now (awaiting_proof at.now.number link offered gid) own.new) }
-    ensures same { OnOk result (IsSameBut own.old own.new) }
-    ensures err { OnErr result (own.new ≡ own.old) }
+) -> Result<Effects, AllocError>
+    requires reading { at.now.reading < 4000000000000000000 }
+    requires room { links.old.room ≡ None }
+    requires held { AreHeld links.old.links }
+    ensures step { IfOk result (IsStep (node_of own.new links.new.links)
+        (rule.turn (node_of own.old links.old.links) at.now.reading at.now.draw.now.bytes (link_of at.now.number links.old.links))) }
+    ensures lost { OnErr result (node_of own.new links.new.links ≡ forgotten (node_of own.old links.old.links) at.now.number) }
+    ensures room { links.new.room ≡ None }
+    ensures held { AreHeld links.new.links }
 {
-    match link.turn(alloc)? {
-        LinkTurn::Waits(link) => Ok(Turned::Waits(Stage::AwaitsProof(link, offered, gid))),
-        LinkTurn::Refuses(why) => Ok(Turned::Refuses(why, Items::new(alloc))),
-        LinkTurn::Takes(link, frame) => {
-            let more = due::<AuthRequestMore>(alloc, 5, &frame)?;
-            let row = on_auth_request_more(alloc, own, at, link, offered, gid, more)?;
-            Ok(Turned::Handles(row))
+    let Some(link) = links.take(at.number) else {
+        return Ok(Effects::new(alloc));
+    };
+    let Link { number: _, stage } = link;
+    let before = own.mark();
+    match turns(alloc, own, links, at, stage) {
+        Ok(out) => Ok(out),
+        Err(error) => {
+            links.give_up();
+            own.go_back(&before);
+            Err(error)
         }
     }
 }
 
-fn signature_turn(
+// The link that was taken out is turned, and settled.
+fn turns(
     alloc: Global,
-    own: &Own,
+    own: &mut Own,
+    links: &mut Links<Link>,
     at: &Moment<'_>,
-    signing: Signing,
-    entity: Entity,
-) -> Result<Turned, AllocError>
-    ensures { IfOk result (Turns own.now at.now (awaiting_signature at.now.number signing entity) own.now) }
+    stage: Stage,
+) -> Result<Effects, AllocError>
+    requires reading { at.now.reading < 4000000000000000000 }
+    requires room { links.old.room ≡ Some at.now.number }
+    ensures step { (all : List MonitorLink) → IsOutOf at.now.number (link_held at.now.number stage) links.old.links all → IfOk result (IsStep (node_of own.new links.new.links)
+        (rule.turn (node_of own.old all) at.now.reading at.now.draw.now.bytes (Some (link_held at.now.number stage)))) }
+    ensures held { (all : List MonitorLink) → IsOutOf at.now.number (link_held at.now.number stage) links.old.links all → OnOk result (AreHeld links.new.links) }
+    ensures same { IsSameBut own.old own.new }
+    ensures err { OnErr result (links.new ≡ links.old) }
+    ensures room { OnOk result (links.new.room ≡ None) }
 {
-    let Signing {
-        link,
-        session,
-        covered,
-    } = signing;
-    let mut opened = Items::new(alloc);
-    match link.turn(alloc, &mut opened)? {
-        LinkTurn::Waits(link) => {
-            let signing = Signing {
-                link,
-                session,
-                covered,
-            };
-            Ok(Turned::Waits(Stage::AwaitsSignature(signing, entity)))
+    match turned(alloc, own, at, stage)? {
+        Turned::Waits(stage) => {
+            links.settle(
+                at.number,
+                Some(Link {
+                    number: at.number,
+                    stage,
+                }),
+            );
+            Ok(Effects::new(alloc))
         }
-        LinkTurn::Refuses(why) => Ok(Turned::Refuses(why, opened)),
-        LinkTurn::Takes(link, frame) => {
-            let found = due::<AuthSignature>(alloc, 7, &frame)?;
-            let signing = Signing {
-                link,
-                session,
-                covered,
-            };
-            let row = on_signature(alloc, own, at, signing, entity, found)?;
-            Ok(Turned::Handles(with_opened(alloc, opened, row)?))
+        Turned::Refuses(why, seals) => {
+            let row = refuses_bytes(alloc, &NodeName::Monitor, at.number, why, seals)?;
+            settles(alloc, links, at.number, false, row)
         }
+        Turned::Handles(row) => settles(alloc, links, at.number, true, row),
     }
 }
 
-fn ident_turn(
+// A row is carried out on the link that was taken out: it comes back, or is shut.
+fn settles(
     alloc: Global,
-    own: &Own,
-    at: &Moment<'_>,
-    link: SecureLink,
-    entity: Entity,
-) -> Result<Turned, AllocError>
-    ensures { IfOk result (Turns own.now at.now (awaiting_ident at.now.number link entity) own.now) }
+    links: &mut Links<Link>,
+    number: u32,
+    handled: bool,
+    row: Row<Stage>,
+) -> Result<Effects, AllocError>
+    requires { links.old.room ≡ Some number }
+    ensures out { IfOk result (λ out. out ≡ out_of number handled row) }
+    ensures links { (all : List MonitorLink) → links.old.links ≡ without_link number all
+        → OnOk result (links.new.links ≡ behind (λ l. l.number) number (option_map (link_held number) row.link) all) }
+    ensures err { OnErr result (links.new ≡ links.old) }
+    ensures room { OnOk result (links.new.room ≡ None) }
 {
-    let mut opened = Items::new(alloc);
-    match link.turn(alloc, &mut opened)? {
-        LinkTurn::Waits(link) => Ok(Turned::Waits(Stage::AwaitsIdent(link, entity))),
-        LinkTurn::Refuses(why) => Ok(Turned::Refuses(why, opened)),
-        LinkTurn::Takes(link, frame) => {
-            let row = on_ident(alloc, own, at, link, entity, &frame)?;
-            Ok(Turned::Handles(with_opened(alloc, opened, row)?))
-        }
+    let Carried { link, out } = carried_out(alloc, number, handled, row)?;
+    match link {
+        Some(stage) => links.settle(number, Some(Link { number, stage })),
+        None => links.settle(number, None),
     }
-}
-
-fn open_turn(
-    alloc: Global,
-    own: &Own,
-    at: &Moment<'_>,
-    link: SecureLink,
-    entity: Entity,
-) -> Result<Turned, AllocError>
-    ensures { IfOk result (Turns own.now at.now (open_link at.now.number link entity) own.now) }
-{
-    let mut opened = Items::new(alloc);
-    match link.turn(alloc, &mut opened)? {
-        LinkTurn::Waits(link) => Ok(Turned::Waits(Stage::Open(link, entity))),
-        LinkTurn::Refuses(why) => Ok(Turned::Refuses(why, opened)),
-        LinkTurn::Takes(link, frame) => {
-            let row = on_upkeep(alloc, own, at, link, entity, &frame)?;
-            Ok(Turned::Handles(with_opened(alloc, opened, row)?))
-        }
-    }
+    Ok(out)
 }

@@ -12,8 +12,6 @@ mod payloads;
 mod places;
 mod rows;
 mod searching;
-#[cfg(test)]
-mod tests;
 
 pub use carrying::{Carried, carried_out, enters, loses, noted};
 pub use controls::{bad_method, control, control_whole};

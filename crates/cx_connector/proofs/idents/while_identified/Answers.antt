@@ -1,6 +1,7 @@
 use Rattle.cx_rules.specs.Connector.{AskerArrival, AwaitsIdent, on_missing_features, while_identified}
 use Rattle.cx_connector.specs.Rows.{arrived, due}
-use Rattle.cx_connector.specs.Stages.{awaiting_ident, keys_alone}
+use Rattle.cx_connector.specs.Stages.{awaiting_ident}
+use Rattle.cx_ends.specs.Stages.{keys_alone}
 use Rattle.cx_connector.proofs.Choices.{features_missing, told_as}
 use Rattle.cx_connector.proofs.idents.while_identified.Goals as goal
 

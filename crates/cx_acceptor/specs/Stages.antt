@@ -1,0 +1,34 @@
+-- The links as the monitor holds them, each as the link of the rules that it is, abridged.
+use Rattle.std.specs.Prelude.{ℕ}
+use Rattle.cx_ends.specs.Stages.{keys_alone}
+use Rattle.cx_link.specs.Sending.{secured_of}
+use Rattle.cx_link.specs.Wires.{SecureWire, Wire, secured_link, wired}
+use Rattle.cx_link.specs.declared.links.Signing.{Signing}
+use Rattle.cx_login.specs.Monitor.{Offer}
+use Rattle.cx_rules.specs.Acceptor.{AwaitsBanner, AwaitsHello, AwaitsRequest, AwaitsProof, AwaitsSignature, AwaitsIdent, Open}
+use Rattle.cx_rules.specs.Links.{Link}
+use Rattle.cx_rules.specs.Monitor.{Entity, MonitorStage}
+use Rattle.cx_acceptor.specs.declared.links.Stage.{Stage}
+use Rattle.cx_acceptor.specs.declared.links.Stage.TheVariants as held
+
+-- the links of each later stage
+abbrev pub awaiting_proof : ℕ → Wire → Offer → ℕ → Link MonitorStage
+awaiting_proof number wire offer gid = wired number wire (AwaitsProof (record { offer = offer; gid = gid }))
+
+abbrev pub awaiting_signature : ℕ → Signing → Entity → Link MonitorStage
+awaiting_signature number signing entity = secured_link number signing.link.ahead (AwaitsSignature (secured_of signing) entity)
+
+abbrev pub awaiting_ident : ℕ → SecureWire → Entity → Link MonitorStage
+awaiting_ident number link entity = secured_link number link.ahead (AwaitsIdent (keys_alone link.keys) entity)
+
+abbrev pub open_link : ℕ → SecureWire → Entity → Link MonitorStage
+open_link number link entity = secured_link number link.ahead (Open (keys_alone link.keys) entity)
+
+abbrev pub link_held : ℕ → Stage → Link MonitorStage
+link_held number (held.AwaitsBanner wire) = wired number wire AwaitsBanner
+link_held number (held.AwaitsHello wire) = wired number wire AwaitsHello
+link_held number (held.AwaitsRequest wire) = wired number wire AwaitsRequest
+link_held number (held.AwaitsProof wire offer gid) = awaiting_proof number wire offer gid
+link_held number (held.AwaitsSignature signing entity) = awaiting_signature number signing entity
+link_held number (held.AwaitsIdent link entity) = awaiting_ident number link entity
+link_held number (held.Open link entity) = open_link number link entity

@@ -1,0 +1,110 @@
+//! The links of the monitor: a number, and a stage with all that it holds of the link.
+
+use cx_base::EntityName;
+use cx_link::{BannerLink, PlainLink, SecureLink, Signing};
+use cx_login::Offered;
+use cx_node::Numbered;
+use std::alloc::{AllocError, Global};
+use std::marker::Model;
+
+/// An entity that has logged in on a link, under its global id.
+#[derive(Debug, Drop)]
+pub struct Entity {
+    pub name: EntityName,
+    pub gid: u64,
+}
+
+impl Model for Entity {
+    ghost use Rattle.cx_rules.specs.Monitor.{Entity as Named};
+
+    ghost Value = { Named };
+
+    ghost view = { λ e. record { name = e.name; gid = e.gid } };
+
+    ghost inverse = { λ e. record { name = e.name; gid = e.gid } };
+}
+
+/// What a link waits for, with what the monitor has of it.
+#[derive(Drop)]
+pub enum Stage {
+    AwaitsBanner(BannerLink),
+    AwaitsHello(PlainLink),
+    AwaitsRequest(PlainLink),
+    /// The challenge that was offered, and the global id of the LoginHello.
+    AwaitsProof(PlainLink, Offered, u64),
+    AwaitsSignature(Signing, Entity),
+    AwaitsIdent(SecureLink, Entity),
+    Open(SecureLink, Entity),
+}
+
+/// A live link of the monitor.
+#[derive(Drop)]
+pub struct Link {
+    pub number: u32,
+    pub stage: Stage,
+}
+
+impl Model for Link {
+    ghost use Rattle.cx_rules.specs.Links.{Link};
+    ghost use Rattle.cx_rules.specs.Monitor.{MonitorStage};
+
+    ghost Value = { Link MonitorStage };
+
+    ghost use Rattle.cx_acceptor.specs.Stages.{link_held};
+
+    ghost view = { λ l. link_held l.number l.stage };
+}
+
+impl Numbered for Link {
+    ghost number_of = { λ l. l.number };
+
+    #[tactic(auto, using(crate::proofs::Stages::number_held))]
+    fn number(&self) -> u32 {
+        self.number
+    }
+}
+
+impl Link {
+    ghost use Rattle.std.specs.Prelude.{◌≡◌, ◌++◌, IfOk};
+    ghost use Rattle.cx_rules.specs.Abridged.{abridged_link};
+
+    /// The link behind more bytes. No more of it can be forgotten.
+    #[tactic(auto, using(crate::proofs::Stages::held_abridged))]
+    pub fn fed(self, alloc: Global, bytes: &[u8]) -> Result<Link, AllocError>
+        ensures fed { IfOk result (λ link. link ≡ record self { received = self.received ++ bytes.now }) }
+        ensures held { IfOk result (λ link. abridged_link link ≡ link) }
+    {
+        let Link { number, stage } = self;
+        let stage = match stage {
+            Stage::AwaitsBanner(mut link) => {
+                link.feed(alloc, bytes)?;
+                Stage::AwaitsBanner(link)
+            }
+            Stage::AwaitsHello(mut link) => {
+                link.feed(alloc, bytes)?;
+                Stage::AwaitsHello(link)
+            }
+            Stage::AwaitsRequest(mut link) => {
+                link.feed(alloc, bytes)?;
+                Stage::AwaitsRequest(link)
+            }
+            Stage::AwaitsProof(mut link, offered, gid) => {
+                link.feed(alloc, bytes)?;
+                Stage::AwaitsProof(link, offered, gid)
+            }
+            Stage::AwaitsSignature(mut signing, entity) => {
+                signing.link.feed(alloc, bytes)?;
+                Stage::AwaitsSignature(signing, entity)
+            }
+            Stage::AwaitsIdent(mut link, entity) => {
+                link.feed(alloc, bytes)?;
+                Stage::AwaitsIdent(link, entity)
+            }
+            Stage::Open(mut link, entity) => {
+                link.feed(alloc, bytes)?;
+                Stage::Open(link, entity)
+            }
+        };
+        Ok(Link { number, stage })
+    }
+}

@@ -1,0 +1,4 @@
+pub mod Carrying
+pub mod Controls
+pub mod Keeping
+pub mod Rising

@@ -1,0 +1,4 @@
+pub mod Events
+pub mod Sending
+pub mod Stages
+pub mod Upkeep

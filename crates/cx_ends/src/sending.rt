@@ -1,0 +1,81 @@
+//! What is sent on a link.
+
+ghost use Rattle.std.specs.Prelude.{◌≡◌, ◌≤◌, ◌++◌, IfOk, OnOk};
+ghost use Rattle.cx_rules.specs.Payloads.{control};
+ghost use Rattle.cx_rules.specs.Secured.{plain_frame, secure_frame};
+ghost use Rattle.cx_ends.specs.Sending.{SendsPlain, SendsSecure};
+
+use cx_base::{Blob, Duplicate, Items};
+use cx_enc::Encoded;
+use cx_journal::BytesFault;
+use cx_link::{LinkRefusal, PlainLink, SecureLink, SentFrame, plain_bytes};
+use cx_node::control;
+use cx_steps::SealEntry;
+use std::alloc::{AllocError, Global};
+
+/// A link on which a plain frame was sent, and the bytes of that.
+#[derive(Drop)]
+pub struct SentPlain {
+    pub link: PlainLink,
+    pub bytes: Blob,
+}
+
+/// Sends a plain control frame on a link, or says why it can't be written. The link keeps the bytes, which a signature will have to cover.
+#[tactic(auto, using(crate::proofs::Controls::control_frame))]
+pub fn send_plain<T: Encoded>(
+    alloc: Global,
+    mut link: PlainLink,
+    tag: u8,
+    value: &T,
+) -> Result<Result<SentPlain, BytesFault>, AllocError>
+    requires bound { T.Bound value.now }
+    requires low { 1 ≤ tag }
+    requires high { tag ≤ 20 }
+    ensures { IfOk result (SendsPlain link (plain_frame (control tag T.layout.form value.now))) }
+{
+    let frame = control(alloc, tag, value)?;
+    match plain_bytes(alloc, &frame) {
+        Ok(bytes) => {
+            link.send(alloc, bytes.bytes())?;
+            Ok(Ok(SentPlain { link, bytes }))
+        }
+        Err(LinkRefusal::Fault(why)) => Ok(Err(why)),
+        Err(LinkRefusal::OutOfMemory) => Err(AllocError),
+    }
+}
+
+/// Sends a control frame on a secured link, or says why it can't be written: then the link is given up.
+#[tactic(auto, using(crate::proofs::Controls::control_frame))]
+pub fn send_secure<T: Encoded>(
+    alloc: Global,
+    link: SecureLink,
+    tag: u8,
+    value: &T,
+) -> Result<Result<SentFrame, BytesFault>, AllocError>
+    requires bound { T.Bound value.now }
+    requires low { 1 ≤ tag }
+    requires high { tag ≤ 20 }
+    ensures { IfOk result (SendsSecure link (secure_frame link.keys (control tag T.layout.form value.now))) }
+{
+    let frame = control(alloc, tag, value)?;
+    match link.put(alloc, &frame) {
+        Ok(sent) => Ok(Ok(sent)),
+        Err(LinkRefusal::Fault(why)) => Ok(Err(why)),
+        Err(LinkRefusal::OutOfMemory) => Err(AllocError),
+    }
+}
+
+/// Puts these entries behind those of the log. Where memory is wanting, some of them may stand there.
+pub fn log_behind(
+    alloc: Global,
+    log: &mut Items<SealEntry>,
+    entries: &[SealEntry],
+) -> Result<(), AllocError>
+    ensures { OnOk result (log.new ≡ log.old ++ entries.now) }
+{
+    for entry in entries {
+        let copied = entry.copy(alloc)?;
+        log.push(alloc, copied)?;
+    }
+    Ok(())
+}

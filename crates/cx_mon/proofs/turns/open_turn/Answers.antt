@@ -1,8 +1,0 @@
-use Rattle.cx_mon.proofs.Turning.{upkeep_turns}
-use Rattle.cx_mon.proofs.turns.open_turn.Goals as goal
-
-pub returns-in_ok-with_opened-in-Takes : goal.returns-in_ok-with_opened-in-Takes
-returns-in_ok-with_opened-in-Takes c =
-    let t = rw (c.in-Takes.is, c.new-opened.ensures) at c.in_ok-link.ensures in
-    upkeep_turns c.args.own.now c.args.at.now c.args.link c.in-Takes.link c.args.entity c.in-Takes.frame c.turn.new.seals
-    c.in_ok-row-in-Takes.row c.in_ok-with_opened-in-Takes.field-0 t c.in_ok-row-in-Takes.ensures c.in_ok-with_opened-in-Takes.ensures
