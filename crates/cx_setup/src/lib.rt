@@ -9,8 +9,6 @@ mod monitor;
 mod places;
 mod secrets;
 mod setup;
-#[cfg(test)]
-mod tests;
 
 pub use declared::Declared;
 pub use leaks::Leak;

@@ -1,3 +1,4 @@
+pub mod Calming
 pub mod Numbers
 pub mod Parts
 pub mod Sending

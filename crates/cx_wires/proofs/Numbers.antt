@@ -1,6 +1,6 @@
 -- Links that are numbered from 1 stand in the places of their numbers.
-use Rattle.std.proofs.Common.{◌≡◌, ℕ, ◌+◌, ◌<◌, ◌≤◌, ◌⊎◌, inl, inr, Bool, true, false, eqb, suc, zero, List, [], ◌∷◌, ◌++◌, length, map, set, get_or, drop, Option, Some, None, refl, sym, ap, ◌∙◌, subst, arith, add-one}
-use Rattle.std.specs.Prelude.{find, ◌==◌, if◌then◌else◌}
+use Rattle.std.proofs.Common.{◌≡◌, ℕ, ◌+◌, ◌<◌, ◌≤◌, ◌⊎◌, inl, inr, true, false, suc, zero, List, [], ◌∷◌, ◌++◌, length, set, get_or, drop, Option, Some, None, refl, sym, ap, ◌∙◌, subst, arith}
+use Rattle.std.specs.Prelude.{◌==◌, if◌then◌else◌}
 use Rattle.std.specs.List.{slice_get}
 use Rattle.std.proofs.lemmas.Bool.Decides.{nat_tests}
 use Rattle.std.proofs.lemmas.List.{set-get_or}
@@ -8,7 +8,6 @@ use Rattle.std.proofs.lemmas.Option.{slice_get_read}
 use Rattle.cx_wires.specs.Ends.{staying}
 use Rattle.cx_places.specs.declared.choices.Side.{Side}
 use Rattle.cx_places.specs.declared.choices.Side.TheVariants.{Connector, Acceptor}
-use Rattle.cx_run.specs.Deliveries.{stay}
 use Rattle.cx_run.specs.Wires.{End, Wire, gone_at, pieces_from, wire_of, with_pieces, with_wire}
 use Rattle.cx_wires.specs.Tables.{AreNumbered, lost_from, lost_on, taken_from, taken_on, with_changed}
 
@@ -74,25 +73,48 @@ still_numbered first place [] changed k n = tt
 still_numbered first zero (wire ∷ wires) changed k n = (omega arith, k.1)
 still_numbered first (suc place) (wire ∷ wires) changed k n = (k.0, still_numbered (suc first) place wires changed k.1 (omega arith))
 
+elsewhere_from : (first place n : ℕ) (wires : List Wire) (changed : Wire) → AreNumbered first wires → changed.number ≡ first + place → (n == (first + place)) ≡ false
+    → wire_of n (set wires place changed) ≡ wire_of n wires
+elsewhere_from first place n [] changed k m e = refl
+elsewhere_from first zero n (wire ∷ wires) changed k m e =
+    let was : wire.number ≡ first = k.0 in
+    let one : (changed.number == n) ≡ false = grind (arith, nat_tests) in
+    let other : (wire.number == n) ≡ false = grind (arith, nat_tests) in
+    rw (one, other) refl
+elsewhere_from first (suc place) n (wire ∷ wires) changed k m e =
+    let i : first + suc place ≡ suc first + place = omega arith in
+    let rest : wire_of n (set wires place changed) ≡ wire_of n wires = elsewhere_from (suc first) place n wires changed k.1 (m ∙ i) (rw i at e) in
+    ap (λ (o : Option Wire). if (wire.number == n) then Some wire else o) rest
+
 number_at : (first place : ℕ) (wires : List Wire) (wire : Wire) → AreNumbered first wires → place < length wires → get_or wires place wire ≡ wire → wire.number ≡ first + place
 number_at first place [] wire k h e = absurd (omega arith)
 number_at first zero (w ∷ wires) wire k h e = ap (λ (x : Wire). x.number) (sym e) ∙ k.0 ∙ omega arith
 number_at first (suc place) (w ∷ wires) wire k h e = number_at (suc first) place wires wire k.1 (omega arith) e ∙ omega arith
+
+put_there : (place : ℕ) (wires : List Wire) (wire : Wire) → place < length wires → slice_get (set wires place wire) place ≡ Some wire
+put_there place [] wire h = absurd (omega arith)
+put_there zero (w ∷ wires) wire h = refl
+put_there (suc place) (w ∷ wires) wire h = put_there place wires wire (omega arith)
 
 -- the link in a place, and one of its number in its place
 pub record Stands (wires : List Wire) (number place : ℕ) (old new : Wire) : Type 0 where
   pub found : wire_of number wires ≡ Some old
   pub changed : with_wire wires new ≡ set wires place new
   pub numbered : AreNumbered 1 (set wires place new)
+  pub here : wire_of number (set wires place new) ≡ Some new
+  pub elsewhere : (n : ℕ) → (n == number) ≡ false → wire_of n (set wires place new) ≡ wire_of n wires
 
 pub stands : (wires : List Wire) (number place : ℕ) (old new : Wire) → AreNumbered 1 wires → place < length wires → number ≡ place + 1 → old ≡ get_or wires place old → new.number ≡ old.number → Stands wires number place old new
 stands wires number place old new k h n e same =
     let o : old.number ≡ 1 + place = number_at 1 place wires old k h (sym e) in
     let m : new.number ≡ 1 + place = same ∙ o in
+    let at : number ≡ 1 + place = omega arith in
     record {
       found = found_here number place wires k n ∙ slice_get_read wires (length wires) place old refl h e;
       changed = set_from 1 place wires new k m;
       numbered = still_numbered 1 place wires new k m;
+      here = found_here number place (set wires place new) (still_numbered 1 place wires new k m) n ∙ put_there place wires new h;
+      elsewhere = λ i d. elsewhere_from 1 place i wires new k m (subst (λ (j : ℕ). (i == j) ≡ false) at d);
     }
 
 pub one_more : (first : ℕ) (wires : List Wire) (wire : Wire) → AreNumbered first wires → wire.number ≡ first + length wires → AreNumbered first (wires ++ wire ∷ [])

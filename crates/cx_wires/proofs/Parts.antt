@@ -1,8 +1,8 @@
 -- What of the pieces that an end sent is under way.
-use Rattle.std.proofs.Common.{◌≡◌, ℕ, ◌+◌, ◌-◌, ◌<◌, ◌≤◌, zero, suc, List, [], ◌∷◌, ◌++◌, length, get_or, take, drop, Some, None, refl, sym, ap, ◌∙◌, subst, arith, add-one}
+use Rattle.std.proofs.Common.{◌≡◌, ℕ, ◌+◌, ◌-◌, ◌<◌, List, [], ◌∷◌, length, get_or, drop, Some, refl, sym, ap, ◌∙◌, subst}
 use Rattle.std.proofs.lemmas.List.{drop_more, drop-drop, length-drop}
-use Rattle.cx_run.specs.Deliveries.{before_others, stay}
-use Rattle.cx_wires.specs.Ends.{IsWithin, staying, without_bytes}
+use Rattle.cx_run.specs.Deliveries.{before_others}
+use Rattle.cx_wires.specs.Ends.{staying, without_bytes}
 
 none_taken : (pieces : List (List ℕ)) → without_bytes 0 pieces ≡ pieces
 none_taken [] = refl

@@ -5,7 +5,7 @@ use Rattle.cx_journal.specs.declared.node_names.NodeName.{NodeName}
 use Rattle.cx_steps.specs.declared.effects.Piece.{Piece}
 use Rattle.cx_run.specs.Deliveries.{stay}
 use Rattle.cx_run.specs.Wires.{Wire, owes_gone, pieces_from, wire_of, with_pieces, with_wire}
-use Rattle.cx_run.specs.Worlds.{sends_all}
+use Rattle.cx_run.specs.Worlds.{sends_all, shuts_all}
 
 -- the numbers go up by one, from this one on
 abbrev pub AreNumbered : ℕ → List Wire → Type 0
@@ -49,3 +49,9 @@ pub record IsSentInPart (who : NodeName) (old : List Wire) (pieces : List Piece)
   pub count : ℕ
   pub within : count < length pieces
   pub sent : new ≡ sends_all who old (take count pieces)
+
+-- the first ones of these links were shut, and not all
+pub record IsShutInPart (who : NodeName) (old : List Wire) (numbers : List ℕ) (new : List Wire) : Type 0 where
+  pub count : ℕ
+  pub within : count < length numbers
+  pub shut : new ≡ shuts_all who old (take count numbers)

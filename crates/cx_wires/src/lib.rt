@@ -1,11 +1,10 @@
 //! What is under way between the ends of links.
 #![tactic(auto)]
 
+mod busy_links;
 mod ends;
 mod names;
 mod places;
-#[cfg(test)]
-mod tests;
 mod wire;
 mod wires;
 

@@ -1,8 +1,9 @@
 //! A link between two nodes.
 
-ghost use Rattle.std.specs.Prelude.{ℕ, ◌≡◌, [], ◌∷◌, drop, length, slice_get, IfOk, OnOk, OnErr};
+ghost use Rattle.std.specs.Prelude.{ℕ, ◌≡◌, [], ◌∷◌, true, drop, length, slice_get, IfOk, OnOk, OnErr};
 ghost use Rattle.std.specs.Option.{option_copied};
 ghost use Rattle.cx_run.specs.Wires.{end_of, ended, gone_at, has_end, new_wire, node_at, other, owes_gone, pieces_from, sent_from, side_of, with_pieces};
+ghost use Rattle.cx_wires.specs.Calm.{IsCalm, is_quiet};
 ghost use Rattle.cx_wires.specs.Ends.{arriving, staying};
 
 use crate::ends::End;
@@ -133,6 +134,20 @@ impl Wire {
         ensures { result ≡ owes_gone self.now side }
     {
         !self.lives(side) && self.lives(other(side))
+    }
+
+    /// Whether all that was sent on it came or was lost, and no end is still to be told that the other one is gone.
+    #[tactic(auto, using(crate::proofs::Calming::calm_by))]
+    pub(crate) fn is_calm(&self) -> bool
+        ensures { result ≡ true → IsCalm self.now }
+    {
+        self.is_quiet(Side::Connector) && self.is_quiet(Side::Acceptor)
+    }
+
+    fn is_quiet(&self, side: Side) -> bool
+        ensures { result ≡ is_quiet self.now side }
+    {
+        self.under_way(side) == 0 && !self.owes_gone(side)
     }
 
     /// A piece is sent from a side.

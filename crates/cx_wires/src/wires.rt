@@ -1,14 +1,16 @@
 //! The links of a run.
 
-ghost use Rattle.std.specs.Prelude.{ℕ, suc, ◌≡◌, ◌<◌, List, [], ◌∷◌, ◌++◌, drop, length, Some, None, IfOk, OnOk, OnErr};
+ghost use Rattle.std.specs.Prelude.{ℕ, suc, ◌≡◌, ◌<◌, ◌≤◌, true, List, [], ◌∷◌, ◌++◌, drop, length, Some, None, IfOk, IfSome, IfNone, OnOk, OnErr};
 ghost use Rattle.std.specs.Option.{option_copied};
 ghost use Rattle.cx_run.specs.Deliveries.{under_way};
 ghost use Rattle.cx_run.specs.Schedules.{ever_sent};
 ghost use Rattle.cx_run.specs.Wires.{ended, gone_at, new_wire, wire_of};
 ghost use Rattle.cx_run.specs.Worlds.{sends_all, sends_piece, shuts_all, shuts_link};
+ghost use Rattle.cx_wires.specs.Calm.{AreCalm, IsCalmAt};
 ghost use Rattle.cx_wires.specs.Ends.{arriving};
-ghost use Rattle.cx_wires.specs.Tables.{AreNumbered, IsSentInPart, lost_on, owed, taken_on, with_changed};
+ghost use Rattle.cx_wires.specs.Tables.{AreNumbered, IsSentInPart, IsShutInPart, lost_on, owed, taken_on, with_changed};
 
+use crate::busy_links::Busy;
 use crate::places::place_of;
 use crate::wire::Wire;
 use cx_base::Blob;
@@ -22,6 +24,8 @@ use std::marker::Model;
 #[derive(Drop)]
 pub struct Wires {
     held: Vec<Wire>,
+    // Each link on which something is under way, or of which an end is still to be told that it is gone, is among these.
+    busy: Busy,
 }
 
 impl Model for Wires {
@@ -30,11 +34,11 @@ impl Model for Wires {
 
     ghost Value = { List Link };
 
-    ghost use Rattle.cx_wires.specs.Tables.{AreNumbered};
+    ghost use Rattle.cx_wires.specs.Calm.{IsTable};
 
     ghost view = { λ w. w.held.items };
 
-    ghost invariant = { λ w. AreNumbered 1 w.held.items };
+    ghost invariant = { λ w. IsTable w.busy w.held.items };
 }
 
 impl Wires {
@@ -44,6 +48,7 @@ impl Wires {
     {
         Wires {
             held: Vec::new(alloc),
+            busy: Busy::new(alloc),
         }
     }
 
@@ -96,6 +101,38 @@ impl Wires {
         wire.ever_sent(side, (place - 1) as usize)
     }
 
+    /// The least number behind one and up to another of a link on which something may still come. The links between are calm.
+    pub fn next_busy(&self, after: u64, last: u64) -> Option<u64>
+        ensures some { IfSome result (λ number. (after < number) × (number ≤ last) × AreCalm after number self.now) }
+        ensures none { IfNone result (AreCalm after (suc last) self.now) }
+    {
+        if after >= last {
+            return None;
+        }
+        match self.busy.first_from(after + 1) {
+            Some(number) => { if number <= last { Some(number) } else { None } }
+            None => None,
+        }
+    }
+
+    fn is_calm(&self, number: u64) -> bool
+        ensures { result ≡ true → IsCalmAt number self.now }
+    {
+        match self.get(number) {
+            Some(wire) => wire.is_calm(),
+            None => true,
+        }
+    }
+
+    /// A link on which nothing more comes isn't looked at again until something is sent or shut on it.
+    pub fn rest(&mut self, number: u64)
+        ensures { self.new ≡ self.old }
+    {
+        if self.is_calm(number) {
+            self.busy.remove(number);
+        }
+    }
+
     /// A link opens. It gets the next number; where none is left, memory counts as wanting.
     pub fn open(
         &mut self,
@@ -139,6 +176,7 @@ impl Wires {
     {
         match place_of(self.held.as_slice(), u64::from(piece.link)) {
             Some(place) => {
+                self.busy.add(u64::from(piece.link))?;
                 let wire = &mut self.held[place];
                 let side = wire.side_of(who);
                 wire.send(alloc, side, &piece.bytes)
@@ -147,38 +185,46 @@ impl Wires {
         }
     }
 
-    /// A node shuts these links: each is gone at its end.
-    pub fn shut(&mut self, who: &NodeName, numbers: &[u32])
-        ensures { self.new ≡ shuts_all who.now self.old numbers.now }
+    /// A node shuts these links: each is gone at its end. Where memory is wanting, some of the first ones were shut.
+    pub fn shut(&mut self, who: &NodeName, numbers: &[u32]) -> Result<(), AllocError>
+        ensures ok { OnOk result (self.new ≡ shuts_all who.now self.old numbers.now) }
+        ensures err { OnErr result (IsShutInPart who.now self.old numbers.now self.new) }
     {
         for number in numbers {
-            self.shut_link(who, *number);
+            self.shut_link(who, *number)?;
         }
+        Ok(())
     }
 
-    fn shut_link(&mut self, who: &NodeName, number: u32)
-        ensures { self.new ≡ shuts_link who.now self.old (wire_of number self.old) }
+    fn shut_link(&mut self, who: &NodeName, number: u32) -> Result<(), AllocError>
+        ensures ok { OnOk result (self.new ≡ shuts_link who.now self.old (wire_of number self.old)) }
+        ensures err { OnErr result (self.new ≡ self.old) }
     {
         match place_of(self.held.as_slice(), u64::from(number)) {
             Some(place) => {
+                self.busy.add(u64::from(number))?;
                 let wire = &mut self.held[place];
                 let side = wire.side_of(who);
                 wire.go(side);
+                Ok(())
             }
-            None => {}
+            None => Ok(()),
         }
     }
 
     /// A link is gone at an end.
-    pub fn go(&mut self, number: u64, side: Side)
-        ensures { self.new ≡ with_changed (λ w. gone_at w side) number self.old }
+    pub fn go(&mut self, number: u64, side: Side) -> Result<(), AllocError>
+        ensures ok { OnOk result (self.new ≡ with_changed (λ w. gone_at w side) number self.old) }
+        ensures err { OnErr result (self.new ≡ self.old) }
     {
         match place_of(self.held.as_slice(), number) {
             Some(place) => {
+                self.busy.add(number)?;
                 let wire = &mut self.held[place];
                 wire.go(side);
+                Ok(())
             }
-            None => {}
+            None => Ok(()),
         }
     }
 

@@ -1,11 +1,13 @@
 -- Links that are drained, and rounds of that.
 use Rattle.std.proofs.Common.{◌≡◌, ℕ, ◌+◌, ◌<◌, ◌≤◌, ◌==◌, Bool, true, false, suc, zero, List, [], ◌∷◌, length, Option, Some, None, refl, sym, ap, ◌∙◌, subst, arith, add-one, zero-add}
-use Rattle.std.specs.Prelude.{◌-◌, not, replicate}
+use Rattle.std.specs.Prelude.{◌-◌, not, replicate, IfSome}
 use Rattle.std.proofs.lemmas.Bool.Decides.{nat_tests}
 use Rattle.cx_places.specs.declared.choices.Side.{Side}
-use Rattle.cx_run.specs.Deliveries.{delivers, drains, drains_side, round, rounds, settles, under_way}
-use Rattle.cx_run.specs.Wires.{Wire, wire_of}
+use Rattle.cx_places.specs.declared.choices.Side.TheVariants.{Connector, Acceptor}
+use Rattle.cx_run.specs.Deliveries.{delivers, delivers_on, delivers_piece, drains, drains_side, gone_arrives, round, rounds, settles, under_way}
+use Rattle.cx_run.specs.Wires.{Wire, owes_gone, wire_of}
 use Rattle.cx_run.specs.Worlds.{World as RunWorld}
+use Rattle.cx_wires.specs.Calm.{AreCalm, IsCalm, IsCalmAt}
 use Rattle.cx_wires.specs.Tables.{AreNumbered}
 use Rattle.cx_world.specs.Carried.{Began, Carries, Makes}
 use Rattle.cx_world.specs.Settling.{delivers_many, drains_both, drains_links}
@@ -61,11 +63,66 @@ went_round b seen held after w count k n c h =
     let is : drains_links count w ≡ round w w.wires = ap (λ (x : ℕ). drains_links x w) many ∙ links_from 0 w w.wires numbered in
     subst (λ (x : RunWorld). Carries b seen after x) is h
 
-pub drained_one_more : (old held after : Held) (count : ℕ) → Makes old held (drains_links count)
-    → Makes held after (drains_both (count + 1)) → Makes old after (drains_links (count + 1))
-drained_one_more old held after count first next =
-    let more : Makes held after (drains_both (suc count)) = rw add-one at next in
-    rw add-one (λ (b : Began) (seen : Option ℕ) (w : RunWorld) (k : Carries b seen old w). more b seen (drains_links count w) (first b seen w k))
+-- ---- links on which nothing is to come
+
+-- a table with the same links carries the same worlds
+pub same_wires : (b : Began) (seen : Option ℕ) (held : Held) (w : RunWorld) (new : List Wire) → new ≡ held.wires → Carries b seen held w
+    → (let h : Held = record held { wires = new } in Carries b seen h w)
+same_wires b seen held w new e k =
+    record { nodes = k.nodes; led = k.led; wires = e ∙ k.wires; left = k.left; line = k.line; told = k.told; stirred = k.stirred }
+
+none_sent : (side : Side) (found : Option Wire) → IfSome found IsCalm → under_way side found ≡ []
+none_sent side None k = refl
+none_sent side (Some wire) k = k.sent side
+
+none_comes : (w : RunWorld) (side : Side) (found : Option Wire) → IfSome found IsCalm → delivers_on w side None found ≡ w
+none_comes w side None k = refl
+none_comes w side (Some wire) k =
+    ap (λ (pieces : List (List ℕ)). delivers_piece w wire side None pieces) (k.sent side)
+    ∙ if_not (owes_gone wire side) (gone_arrives w wire side) w (k.told side)
+
+calm_side : (w : RunWorld) (number : ℕ) (side : Side) → IsCalmAt number w.wires → drains_side w number side ≡ w
+calm_side w number side k =
+    ap (λ (pieces : List (List ℕ)). drains w number side pieces) (none_sent side (wire_of number w.wires) k)
+    ∙ none_comes w side (wire_of number w.wires) k
+
+-- a calm link is drained without a change
+calm_both : (w : RunWorld) (number : ℕ) → IsCalmAt number w.wires → drains_both number w ≡ w
+calm_both w number k = ap (λ (x : RunWorld). drains_side x number Acceptor) (calm_side w number Connector k) ∙ calm_side w number Acceptor k
+
+passed_over : (more count : ℕ) (w : RunWorld) → AreCalm count (suc (count + more)) (drains_links count w).wires → drains_links (count + more) w ≡ drains_links count w
+passed_over zero count w k = let none : count + 0 ≡ count = omega arith in ap (λ (n : ℕ). drains_links n w) none
+passed_over (suc more) count w k =
+    let next : count + suc more ≡ suc (count + more) = omega arith in
+    let here : RunWorld = drains_links count w in
+    let before : drains_links (count + more) w ≡ here = passed_over more count w (λ n a c. k n a (omega arith)) in
+    ap (λ (n : ℕ). drains_links n w) next ∙ ap (λ (x : RunWorld). drains_both (suc (count + more)) x) before
+    ∙ calm_both here (suc (count + more)) (k (suc (count + more)) (omega arith) (omega arith))
+
+all_passed : (after last : ℕ) (w : RunWorld) → after ≤ last → AreCalm after (suc last) (drains_links after w).wires → drains_links last w ≡ drains_links after w
+all_passed after last w h k =
+    let more : last ≡ after + (last - after) = omega arith in
+    let calm : AreCalm after (suc (after + (last - after))) (drains_links after w).wires = subst (λ (n : ℕ). AreCalm after (suc n) (drains_links after w).wires) more k in
+    ap (λ (n : ℕ). drains_links n w) more ∙ passed_over (last - after) after w calm
+
+-- the next link that may not be calm was drained
+pub drained_next : (old held behind : Held) (after number : ℕ) → after < number → AreCalm after number held.wires → Makes old held (drains_links after)
+    → Makes held behind (drains_both number) → Makes old behind (drains_links number)
+drained_next old held behind after zero h k first next = absurd (omega arith)
+drained_next old held behind after (suc before) h k first next = λ b seen w c.
+    let here : RunWorld = drains_links after w in
+    let d : Carries b seen held here = first b seen w c in
+    let calm : AreCalm after (suc before) here.wires = subst (λ (ws : List Wire). AreCalm after (suc before) ws) d.wires k in
+    let is : drains_links before w ≡ here = all_passed after before w (omega arith) calm in
+    subst (λ (x : RunWorld). Carries b seen behind (drains_both (suc before) x)) (sym is) (next b seen here d)
+
+-- no link is left that may not be calm
+pub rested : (old held : Held) (after last : ℕ) → after ≤ last → AreCalm after (suc last) held.wires → Makes old held (drains_links after) → Makes old held (drains_links last)
+rested old held after last h k first = λ b seen w c.
+    let here : RunWorld = drains_links after w in
+    let d : Carries b seen held here = first b seen w c in
+    let calm : AreCalm after (suc last) here.wires = subst (λ (ws : List Wire). AreCalm after (suc last) ws) d.wires k in
+    subst (λ (x : RunWorld). Carries b seen held x) (sym (all_passed after last w h calm)) d
 
 -- ---- rounds
 

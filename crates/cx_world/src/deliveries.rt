@@ -104,7 +104,7 @@ impl World {
         if !owes_gone(&self.wires, number, side) {
             return Ok(());
         }
-        self.wires.go(number, there);
+        self.wires.go(number, there)?;
         self.tell_there(alloc, &far)
     }
 

@@ -29,15 +29,25 @@ impl World {
         ensures { OnOk result (Makes self.old self.new (drains_both number)) }
     {
         self.drain(alloc, number, Side::Connector)?;
-        self.drain(alloc, number, Side::Acceptor)
+        self.drain(alloc, number, Side::Acceptor)?;
+        self.wires.rest(number);
+        Ok(())
     }
 
-    /// For each link that there is, in order, what was sent on it arrives.
+    /// For each link that there is, in order, what was sent on it arrives. Calm links are passed over.
     fn round(&mut self, alloc: Global) -> Result<(), AllocError>
         ensures { OnOk result (Makes self.old self.new (λ w. round w w.wires)) }
     {
-        for place in 0..self.wires.len() {
-            self.drain_both(alloc, place as u64 + 1)?;
+        let last = self.wires.len() as u64;
+        let mut drained = 0;
+        for _ in 0..last {
+            match self.wires.next_busy(drained, last) {
+                Some(number) => {
+                    self.drain_both(alloc, number)?;
+                    drained = number;
+                }
+                None => return Ok(()),
+            }
         }
         Ok(())
     }

@@ -76,7 +76,7 @@ impl World {
         ensures { OnOk result (Makes self.old self.new (λ w. carried w who.now out.now)) }
     {
         self.wires.send(alloc, who, out.sends.all())?;
-        self.wires.shut(who, out.shuts.all());
+        self.wires.shut(who, out.shuts.all())?;
         Ok(())
     }
 

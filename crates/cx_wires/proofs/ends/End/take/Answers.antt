@@ -1,4 +1,4 @@
-use Rattle.std.proofs.Common.{◌≡◌, ℕ, ◌+◌, ◌-◌, ◌<◌, ◌≤◌, List, length, take, drop, get_or, Some, ap, sym, ◌∙◌, arith, length-take}
+use Rattle.std.proofs.Common.{◌≡◌, ℕ, ◌<◌, List, length, drop, get_or, ap, arith, length-take}
 use Rattle.cx_run.specs.Wires.{End}
 use Rattle.cx_wires.proofs.Parts.{taken_on}
 use Rattle.cx_wires.proofs.ends.End.take.Goals as goal

@@ -1,4 +1,4 @@
-use Rattle.std.proofs.Common.{◌≡◌, ◌<◌, List, length, get_or, refl, sym, ◌∙◌}
+use Rattle.std.proofs.Common.{◌<◌, List, length, refl, sym, ◌∙◌}
 use Rattle.std.proofs.lemmas.Option.{slice_get_read}
 use Rattle.cx_run.specs.Wires.{Wire}
 use Rattle.cx_wires.proofs.Numbers.{found_here}
@@ -9,4 +9,4 @@ returns-in-Some c =
     let items : List Wire = c.self.inside.held.items in
     let place = c.in-Some.place in
     let within : place < length items = rw c.as_slice.ensures.value at c.in-Some.ensures.some.0 in
-    rw (← c.self.view_is) (sym (found_here c.args.number place items c.self.invariant c.in-Some.ensures.some.1 ∙ slice_get_read items (length items) place c.index.result.now refl within c.index.ensures))
+    rw (← c.self.view_is) (sym (found_here c.args.number place items c.self.invariant.numbered c.in-Some.ensures.some.1 ∙ slice_get_read items (length items) place c.index.result.now refl within c.index.ensures))

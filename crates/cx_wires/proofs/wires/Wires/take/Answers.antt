@@ -1,6 +1,7 @@
-use Rattle.std.proofs.Common.{◌≡◌, ℕ, ◌<◌, ◌+◌, List, length, get_or, Some, refl, ap, ◌∙◌}
+use Rattle.std.proofs.Common.{List}
 use Rattle.std.proofs.lemmas.Result.{on_ok_weaker}
-use Rattle.cx_run.specs.Wires.{Wire, wire_of}
+use Rattle.cx_run.specs.Wires.{Wire}
+use Rattle.cx_wires.proofs.Calming.{table_kept, taken_here}
 use Rattle.cx_wires.proofs.Numbers.{Stands, stands, taken_there}
 use Rattle.cx_wires.proofs.wires.Wires.take.Goals as goal
 
@@ -10,8 +11,8 @@ invariant_of-self c =
     let old : Wire = c.index_mut-wire.result.now in
     let new : Wire = c.take.new.self in
     let within = rw c.as_slice.ensures.value at c.in-Some.ensures.some.0 in
-    let at : Stands items c.args.number c.in-Some.place old new = stands items c.args.number c.in-Some.place old new c.self.invariant within c.in-Some.ensures.some.1 c.index_mut-wire.ensures.value c.take.ensures.number in
-    at.numbered
+    let at : Stands items c.args.number c.in-Some.place old new = stands items c.args.number c.in-Some.place old new c.self.invariant.numbered within c.in-Some.ensures.some.1 c.index_mut-wire.ensures.value c.take.ensures.number in
+    table_kept items c.args.number c.in-Some.place old new at c.self.inside.busy c.self.invariant (taken_here c.take.result old new c.args.side c.args.n c.take.ensures.ok c.take.ensures.err)
 
 pub returns-in-Some-clause-value : goal.returns-in-Some-clause-value
 returns-in-Some-clause-value c =
@@ -19,7 +20,7 @@ returns-in-Some-clause-value c =
     let old : Wire = c.index_mut-wire.result.now in
     let new : Wire = c.take.new.self in
     let within = rw c.as_slice.ensures.value at c.in-Some.ensures.some.0 in
-    let at : Stands items c.args.number c.in-Some.place old new = stands items c.args.number c.in-Some.place old new c.self.invariant within c.in-Some.ensures.some.1 c.index_mut-wire.ensures.value c.take.ensures.number in
+    let at : Stands items c.args.number c.in-Some.place old new = stands items c.args.number c.in-Some.place old new c.self.invariant.numbered within c.in-Some.ensures.some.1 c.index_mut-wire.ensures.value c.take.ensures.number in
     rw (← c.self.view_is, at.found) c.take.ensures.value
 
 pub returns-in-Some-clause-ok : goal.returns-in-Some-clause-ok
@@ -28,5 +29,5 @@ returns-in-Some-clause-ok c =
     let old : Wire = c.index_mut-wire.result.now in
     let new : Wire = c.take.new.self in
     let within = rw c.as_slice.ensures.value at c.in-Some.ensures.some.0 in
-    let at : Stands items c.args.number c.in-Some.place old new = stands items c.args.number c.in-Some.place old new c.self.invariant within c.in-Some.ensures.some.1 c.index_mut-wire.ensures.value c.take.ensures.number in
+    let at : Stands items c.args.number c.in-Some.place old new = stands items c.args.number c.in-Some.place old new c.self.invariant.numbered within c.in-Some.ensures.some.1 c.index_mut-wire.ensures.value c.take.ensures.number in
     rw (← c.self.view_is) (on_ok_weaker c.take.result (taken_there items c.args.number c.in-Some.place old new at c.index_mut-wire.ensures.value c.args.side c.args.n) c.take.ensures.ok)

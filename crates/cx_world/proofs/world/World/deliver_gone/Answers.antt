@@ -19,5 +19,5 @@ returns c = ok_makes c.tell_there.result (record c.args.self.now { wires = c.go.
     (λ b seen w h m. gone_comes b seen c.args.self.now c.tell_there.new.self w c.args.number c.args.side c.go.new.self c.in_ok-far.far h
     (sym c.owes_gone.ensures ∙ c.if-not-owes_gone.false)
     (c.in_ok-far.ensures ∙ ap (λ (s : Side). seen_at s (wire_of c.args.number c.args.self.now.wires)) c.other-there.ensures)
-    (c.go.ensures ∙ ap (λ (s : Side). with_changed (λ x. gone_at x s) c.args.number c.args.self.now.wires) c.other-there.ensures)
+    (c.in_ok-go.ensures.ok ∙ ap (λ (s : Side). with_changed (λ x. gone_at x s) c.args.number c.args.self.now.wires) c.other-there.ensures)
     m)

@@ -1,16 +1,28 @@
-use Rattle.std.proofs.Common.{◌≡◌, ◌∙◌, arith}
-use Rattle.cx_world.proofs.Rounds.{drained_one_more, went_round}
+use Rattle.std.proofs.Common.{◌≡◌, ◌<◌, ◌≤◌, ◌∙◌, arith}
+use Rattle.cx_world.proofs.Rounds.{drained_next, rested, went_round}
 use Rattle.cx_world.proofs.world.World.round.Goals as goal
 
-pub loop-place-init : goal.loop-place-init
-loop-place-init c = λ b seen w h. h
+pub loop-init : goal.loop-init
+loop-init c = (λ b seen w h. h, omega arith, omega arith)
 
-pub loop-place-preserved : goal.loop-place-preserved
-loop-place-preserved c =
-    drained_one_more c.args.self.now c.loop-place.self c.drain_both.new.self c.loop-place.place c.loop-place.invariant c.in_ok-drain_both.ensures
+pub loop-preserved : goal.loop-preserved
+loop-preserved c =
+    let behind : c.loop.counter ≤ c.loop.drained = c.loop.invariant.1 in
+    let above : c.loop.drained < c.in-Some.number = c.in-Some.ensures.some.0 in (
+      drained_next c.args.self.now c.loop.self c.drain_both.new.self c.loop.drained c.in-Some.number above c.in-Some.ensures.some.2 c.loop.invariant.0 c.in_ok-drain_both-in-Some.ensures,
+      omega arith,
+      c.in-Some.ensures.some.1,
+    )
+
+pub returns-in-None : goal.returns-in-None
+returns-in-None c = λ b seen w h.
+    went_round b seen c.args.self.now c.loop.self w c.len-last.result h c.len-last.ensures.numbered c.len-last.ensures.value
+    (rested c.args.self.now c.loop.self c.loop.drained c.len-last.result c.loop.invariant.2 c.in-None.ensures.none c.loop.invariant.0 b seen w h)
 
 pub returns : goal.returns
 returns c =
-    let same : c.loop-place.place ≡ c.len-place-end.result = omega arith in
-    λ b seen w h. went_round b seen c.args.self.now c.loop-place.self w c.loop-place.place h c.len-place-end.ensures.numbered
-    (same ∙ c.len-place-end.ensures.value) (c.loop-place.invariant b seen w h)
+    let behind : c.loop.counter ≤ c.loop.drained = c.loop.invariant.1 in
+    let within : c.loop.drained ≤ c.len-last.result = c.loop.invariant.2 in
+    let same : c.loop.drained ≡ c.len-last.result = omega arith in
+    λ b seen w h. went_round b seen c.args.self.now c.loop.self w c.loop.drained h c.len-last.ensures.numbered
+    (same ∙ c.len-last.ensures.value) (c.loop.invariant.0 b seen w h)
