@@ -6,14 +6,10 @@ mod authorized;
 mod client;
 mod daemon;
 mod judging;
-#[cfg(test)]
-mod known;
 mod laws;
 mod opening;
 mod refusals;
 mod sealing;
-#[cfg(test)]
-mod tests;
 
 pub use authorized::Authorized;
 pub use client::{Agreed, Answering, Presenting};

@@ -23,6 +23,3 @@ fn all_are_sendable() {
     is_sendable::<CapRefusal>();
     is_sendable::<Denied>();
 }
-
-#[cfg(test)]
-mod tests;

@@ -5,10 +5,6 @@ mod commits;
 mod format;
 mod in_memory;
 mod keeper;
-#[cfg(test)]
-mod known;
-#[cfg(test)]
-mod tests;
 
 pub use commits::{CommitRefusal, commit};
 pub use format::{BadState, decode_state, encode_state};

@@ -34,6 +34,3 @@ fn all_are_sendable() {
     is_sendable::<KeyringRefusal>();
     is_sendable::<AddRefusal>();
 }
-
-#[cfg(test)]
-mod tests;

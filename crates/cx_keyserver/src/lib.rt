@@ -2,13 +2,9 @@
 #![tactic(auto)]
 
 mod issuing;
-#[cfg(test)]
-mod known;
 mod refusals;
 mod rotation;
 mod server;
-#[cfg(test)]
-mod tests;
 mod tickets;
 
 pub use refusals::{GidsSpent, IssueRefusal, NotADaemon};

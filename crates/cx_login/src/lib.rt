@@ -3,14 +3,10 @@
 
 mod client;
 mod held;
-#[cfg(test)]
-mod known;
 mod monitor;
 mod opening;
 mod proving;
 mod refusals;
-#[cfg(test)]
-mod tests;
 
 pub use client::{Asking, Challenged, LoggedIn};
 pub use held::{HeldTicket, held_tickets};

@@ -16,6 +16,3 @@ fn is_sendable<T: Send + Sync>() {}
 fn all_are_sendable() {
     is_sendable::<Ledger>();
 }
-
-#[cfg(test)]
-mod tests;

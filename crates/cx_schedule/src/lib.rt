@@ -8,6 +8,3 @@ mod script;
 pub use limits::{MOST_BYTES, MOST_LINES};
 pub use refusals::ScheduleRefusal;
 pub use script::{Script, read};
-
-#[cfg(test)]
-mod tests;

@@ -35,6 +35,3 @@ fn all_are_sendable() {
     is_sendable::<QueueFault>();
     is_sendable::<QueueRefusal>();
 }
-
-#[cfg(test)]
-mod tests;

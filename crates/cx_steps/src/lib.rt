@@ -6,8 +6,6 @@ mod effects;
 mod events;
 mod laws;
 mod seals;
-#[cfg(test)]
-mod tests;
 
 pub use effects::{Effects, Piece};
 pub use events::{Command, Event, Peer};

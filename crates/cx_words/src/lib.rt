@@ -15,6 +15,3 @@ pub use lists::services;
 pub use named::{access, name, service, ticket_service};
 pub use numbers::{number, reading};
 pub use texts::{caps, hex, part};
-
-#[cfg(test)]
-mod tests;

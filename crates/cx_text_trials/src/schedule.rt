@@ -1,30 +1,10 @@
-//! What no clause says: that schedules are read with ample memory, and what the faults, the limits and the sentences are.
+//! Schedules: that a file of all forms and the longest one are read, which fault of which word a bad line has, and the limits.
 
-use crate::{ScheduleRefusal, read};
 use cx_base::Duplicate;
 use cx_places::LineFault;
+use cx_schedule::{ScheduleRefusal, Script, read};
 use std::alloc::Global;
-use std::process::Abort;
 use std::test::Fail;
-
-/// What stands above the lines under test: three lines.
-const DECLARED: &str =
-    "entity client.a mon \"allow *\" osd \"allow *\"\nentity osd.0\nentity mgr.x\n";
-
-/// The refusal of these lines below the declarations; none where they are read.
-fn refused(alloc: Global, lines: &str) -> Result<Option<ScheduleRefusal>, Fail> {
-    let text = format!(in alloc; "{}{}", DECLARED, lines)?;
-    Ok(read(alloc, text.as_bytes()).err())
-}
-
-/// So many copies of the bytes.
-fn repeated(alloc: Global, bytes: &[u8], count: usize) -> Result<Vec<u8>, Fail> {
-    let mut text = Vec::new(alloc);
-    for _ in 0..count {
-        text.extend_from_slice(bytes)?;
-    }
-    Ok(text)
-}
 
 /// A schedule of all forms, with a comment, an empty line and no last LF.
 const ALL_FORMS: &str =
@@ -37,18 +17,27 @@ const ALL_FORMS: &str =
     drop osd.0 1\ntick mon\ntick osd.0\ncarry 1 c\ncarry 1 a 0\nlose 2 a\ninject 1 c -\ninject 1 a 0aB0\nagain 1 c 2 3\ncut 4\n\
     restart mon\nrestart client.a\nfailsave old\nfailsave new\nsettle";
 
+// What is read of a text, without what the contract says of it.
+fn script(alloc: Global, text: &str) -> Result<Script, Fail> {
+    Ok(read(alloc, text.as_bytes())?)
+}
+
 #[test]
 fn a_schedule_of_all_forms_is_read(rt: HostRuntime) -> Result<(), Fail> {
-    let alloc = rt.alloc();
-    let script = read(alloc, ALL_FORMS.as_bytes())?;
-    assert_eq!(rt; script.lines().len(), 39);
-    assert_eq!(rt; script.lines()[0].number, 2);
-    assert_eq!(rt; script.lines()[38].number, 41);
-    for line in script.lines() {
-        assert!(rt; line.copy(alloc)? == *line);
-    }
+    let script = script(rt.alloc(), ALL_FORMS)?;
+    let lines = script.lines();
+    let numbers = (
+        lines.first().map(|line| line.number),
+        lines.last().map(|line| line.number),
+    );
+    assert!(rt; lines.len() == 39);
+    assert!(rt; numbers == (Some(2), Some(41)));
     Ok(())
 }
+
+/// What stands above the lines under test: three lines.
+const DECLARED: &str =
+    "entity client.a mon \"allow *\" osd \"allow *\"\nentity osd.0\nentity mgr.x\n";
 
 /// Lines below the declarations, the number of the first bad one, its first fault and the number of the word that has it.
 type Bad = (&'static str, u32, LineFault, usize);
@@ -213,21 +202,19 @@ static BAD_LINES: [Bad; 107] = [
     ("settled", 4, LineFault::UnknownWord, 1),
 ];
 
-fn check_bad(rt: &impl Abort, alloc: Global, row: &Bad) -> Result<(), Fail> {
-    let (lines, number, why, place) = *row;
-    let (line, fault) = told(refused(alloc, lines)?);
-    assert_eq!(rt; line, number, "{}", lines);
-    assert_eq!(rt; fault, Some((why, place)), "{}", lines);
-    Ok(())
+/// The refusal of these lines below the declarations; none where they are read.
+fn refusal(alloc: Global, lines: &str) -> Result<Option<ScheduleRefusal>, Fail> {
+    let text = format!(in alloc; "{}{}", DECLARED, lines)?;
+    Ok(read(alloc, text.as_bytes()).err())
 }
 
-/// The number of the line, its fault and the number of the word.
-fn told(found: Option<ScheduleRefusal>) -> (u32, Option<(LineFault, usize)>) {
-    match found {
+fn is_bad(alloc: Global, row: &Bad) -> Result<bool, Fail> {
+    let (lines, number, why, word) = *row;
+    match refusal(alloc, lines)? {
         Some(ScheduleRefusal::BadLine { line, bad }) => {
-            (line, Some((bad.fault.why, bad.fault.word)))
+            Ok(line == number && bad.fault.why == why && bad.fault.word == word)
         }
-        _ => (0, None),
+        _ => Ok(false),
     }
 }
 
@@ -236,65 +223,54 @@ fn the_first_fault_of_the_first_bad_line_is_answered_with_its_word(
     rt: HostRuntime,
 ) -> Result<(), Fail> {
     for row in &BAD_LINES {
-        check_bad(&rt, rt.alloc(), row)?;
+        assert!(rt; is_bad(rt.alloc(), row)?, "{}", row.0);
     }
     Ok(())
 }
 
-/// Whether the bytes are read.
-fn is_read(alloc: Global, bytes: &[u8]) -> bool {
-    read(alloc, bytes).is_ok()
+/// Whether a schedule of so many times this piece between two texts is read.
+fn reads(
+    alloc: Global,
+    before: &str,
+    piece: &str,
+    count: usize,
+    behind: &str,
+) -> Result<bool, Fail> {
+    let mut text = String::from_str(alloc, before)?;
+    for _ in 0..count {
+        text.push_str(piece)?;
+    }
+    text.push_str(behind)?;
+    Ok(read(alloc, text.as_bytes()).is_ok())
+}
+
+/// What stands before a piece, the piece, what stands behind it, and how many of it are read at most.
+type Limit = (&'static str, &'static str, &'static str, usize);
+
+static LIMITS: [Limit; 4] = [
+    ("", "#", "", 1_048_576),
+    ("", "\n", "", 20_000),
+    ("entity mds.a osd \"", "~", "\"", 4_096),
+    (
+        "entity client.a\nentity osd.0\nsend client.a osd.0 write p n o ",
+        "0a",
+        "",
+        65_536,
+    ),
+];
+
+fn is_limit(alloc: Global, row: &Limit) -> Result<bool, Fail> {
+    let (before, piece, behind, most) = *row;
+    Ok(
+        reads(alloc, before, piece, most, behind)?
+            && !reads(alloc, before, piece, most.saturating_add(1), behind)?,
+    )
 }
 
 #[test]
-fn the_limits_of_bytes_and_lines_are_met_at_their_last_values(rt: HostRuntime) -> Result<(), Fail> {
-    for (count, good) in [(1_048_575, true), (1_048_576, true), (1_048_577, false)] {
-        let text = repeated(rt.alloc(), b"#", count)?;
-        assert!(rt;
-            is_read(rt.alloc(), text.as_slice()) == good,
-            "{} bytes",
-            count
-        );
-    }
-    for (count, good) in [(19_999, true), (20_000, true), (20_001, false)] {
-        let text = repeated(rt.alloc(), b"\n", count)?;
-        assert!(rt;
-            is_read(rt.alloc(), text.as_slice()) == good,
-            "{} lines",
-            count
-        );
-    }
-    Ok(())
-}
-
-#[test]
-fn the_limit_of_a_capability_text_is_met_at_its_last_value(rt: HostRuntime) -> Result<(), Fail> {
-    for (count, good) in [(4_095, true), (4_096, true), (4_097, false)] {
-        let caps = repeated(rt.alloc(), b"~", count)?;
-        let mut text = Vec::from_slice(rt.alloc(), b"entity mds.a osd \"")?;
-        text.extend_from_slice(caps.as_slice())?;
-        text.extend_from_slice(b"\"")?;
-        assert!(rt;
-            is_read(rt.alloc(), text.as_slice()) == good,
-            "{} bytes of caps",
-            count
-        );
-    }
-    Ok(())
-}
-
-#[test]
-fn the_limit_of_data_is_met_at_its_last_value(rt: HostRuntime) -> Result<(), Fail> {
-    for (count, good) in [(65_535, true), (65_536, true), (65_537, false)] {
-        let digits = repeated(rt.alloc(), b"0a", count)?;
-        let mut text = Vec::from_slice(rt.alloc(), DECLARED.as_bytes())?;
-        text.extend_from_slice(b"send client.a osd.0 write p n o ")?;
-        text.extend_from_slice(digits.as_slice())?;
-        assert!(rt;
-            is_read(rt.alloc(), text.as_slice()) == good,
-            "{} bytes of data",
-            count
-        );
+fn the_limits_are_met_at_their_last_values(rt: HostRuntime) -> Result<(), Fail> {
+    for row in &LIMITS {
+        assert!(rt; is_limit(rt.alloc(), row)?, "{} {}", row.1, row.3);
     }
     Ok(())
 }
@@ -303,27 +279,28 @@ fn the_limit_of_data_is_met_at_its_last_value(rt: HostRuntime) -> Result<(), Fai
 fn longest(alloc: Global) -> Result<String, Fail> {
     let mut text = String::new(alloc);
     for id in 0..500 {
-        let line = format!(in alloc; "entity client.{id} osd \"allow *\"\nentity osd.{id}\n")?;
-        text.push_str(&line)?;
+        write!(
+            text,
+            "entity client.{id} osd \"allow *\"\nentity osd.{id}\n"
+        )?;
     }
     text.push_str("clock 1\n")?;
     for round in 0..6_333 {
         let id = round % 500;
-        let line = format!(in alloc;
-            "login client.{id} osd\nconnect client.{id} osd.0\nsend client.{id} osd.0 read p - o {round:06}\n"
-        )?;
-        text.push_str(&line)?;
+        write!(text, "login client.{id} osd\nconnect client.{id} osd.0\n")?;
+        write!(text, "send client.{id} osd.0 read p - o {round:06}\n")?;
     }
     Ok(text)
 }
 
+/// How many lines the copy of what is read has.
+fn lines_copied(alloc: Global, text: &str) -> Result<usize, Fail> {
+    Ok(read(alloc, text.as_bytes())?.copy(alloc)?.lines().len())
+}
+
 #[test]
 fn the_longest_schedule_is_read_and_copied(rt: HostRuntime) -> Result<(), Fail> {
-    let alloc = rt.alloc();
-    let text = longest(alloc)?;
-    let script = read(alloc, text.as_bytes())?;
-    assert_eq!(rt; script.lines().len(), 20_000);
-    let copied = script.copy(alloc)?;
-    assert!(rt; copied.lines() == script.lines());
+    let text = longest(rt.alloc())?;
+    assert!(rt; lines_copied(rt.alloc(), &text)? == 20_000);
     Ok(())
 }

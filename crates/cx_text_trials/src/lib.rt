@@ -1,0 +1,11 @@
+//! Tests of the crates of text files, a module for each crate, and nothing besides.
+#![tactic(auto)]
+
+#[cfg(test)]
+mod journal;
+#[cfg(test)]
+mod schedule;
+#[cfg(test)]
+mod steps;
+#[cfg(test)]
+mod words;
