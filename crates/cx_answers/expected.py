@@ -352,6 +352,45 @@ def connection_secret(f):
     return f"secret {f.sized(64)}"
 
 
+def life(f):
+    at = f.place
+    nanos = f.number(8)
+    f.good(at, 10**9 <= nanos <= 31536000 * 10**9)
+    return nanos
+
+
+def generations(f):
+    at = f.place
+    count = f.number(1)
+    f.good(at, count in (0, 3))
+    told, last, latest = "", None, None
+    for _ in range(count):
+        at = f.place
+        number = f.number(8)
+        f.good(at, number >= 1 and last in (None, number - 1))
+        secret = f.session_key()
+        at = f.place
+        expires = f.time()
+        f.good(at, latest is None or expires > latest)
+        last, latest = number, expires
+        told += f" id {number} key {secret} expires {expires}"
+    return told
+
+
+def state(f):
+    """The state that a monitor keeps. One of format 1 has no lives, and is read with those of 1 and 12 hours."""
+    f.fixed(4, int.from_bytes(b"cxst", "little"))
+    is_old = f.one_of({1: True, 2: False})
+    at = f.place
+    gid = f.number(8)
+    f.good(at, gid >= 1)
+    lives = OLD_LIVES if is_old else (life(f), life(f))
+    told = f"gid {gid} life {lives[0]} auth_life {lives[1]}"
+    return told + "".join(f" {service}{generations(f)}" for service in ("mds", "osd", "mgr", "auth"))
+
+
+OLD_LIVES = 3600 * 10**9, 43200 * 10**9
+
 RECORDS = {
     "service-ticket": service_ticket,
     "ticket-info": ticket_info,
@@ -415,6 +454,7 @@ READERS = {
     "authorizer": authorizer,
     "authorize-challenge": lambda f: f"sealed {shown(f.blob())}",
     "authorize-reply": lambda f: f"sealed {shown(f.blob())}",
+    "state": state,
     "header": header,
     "operation": operation,
     "answer": lambda f: f"outcome {f.one_of({0: 0, 1: 1, 2: 2})} bytes {f.data_blob()}",
@@ -497,6 +537,9 @@ def written(kind, data):
         return data[:8] + bytes.fromhex("01000000020000000100000002000000")
     if kind == "header":
         return data[:18] + bytes.fromhex("7f00010000000000000000000000000000000001000000")
+    if kind == "state" and data[4] == 1:
+        lives = b"".join(nanos.to_bytes(8, "little") for nanos in OLD_LIVES)
+        return data[:4] + bytes([2]) + data[5:13] + lives + data[13:]
     return data[16:] if kind.startswith("open-") else data
 
 

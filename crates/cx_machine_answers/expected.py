@@ -17,6 +17,7 @@ import struct
 import sys
 
 RUNS = {
+    "first_login": "a daemon's login, of which the monitor's part is played, and a client's",
     "kept_gid": "a second login with an old ticket, after a rotation",
     "reclaim_denied": "a client whose global id isn't kept is denied, forgets its tickets, and logs in anew",
     "failed_save_old": "a save fails and leaves the old state",
@@ -25,6 +26,20 @@ RUNS = {
     "leaked_client": "an Authenticate that was forged",
     "crc_alone": "a client that offers crc alone is denied",
 }
+
+# The machines serve logins alone. Left out are a daemon's own steps, a message on a link that is open, and what comes behind the last login:
+# events by these first words, by these numbers, and from this number on.
+LEFT_OUT = {"first_login": ("osd.", {37, 38}, 80)}
+
+# What was drawn, sealed, opened, signed and found equal stands before all else that an event gave, in its own order. It is told of the
+# recorded runs, and not of what is tried behind one.
+SEALS = ("drawn ", "sealed ", "opened ", "signed ", "checked ")
+
+# Entries of a journal that the machines don't make.
+UNTOLD = ("leaked", "broken", "fetched", "looked", "admitted", "sent", "handled", "answered")
+
+# Behind this run its first login is tried with frames that are cut and broken.
+BEHIND = "kept_gid"
 
 RECORDED = "636570682076320a100001000000000000000000000000000000"
 WRITTEN = "636570682076320a100001000000000000000100000000000000"
@@ -131,20 +146,28 @@ def renewed(text):
     assert len(signatures) == len(parts)
     # One that was sealed in a step whose save failed was never sent.
     assert sum(old in text for old, _ in parts) >= len(parts) - text.count("the save fails")
-    for old, new in parts:
+    for old, new in parts + signatures:
         text = text.replace(old, new)
     return text.replace(RECORDED, WRITTEN)
 
 
-def blocks_of(text):
+def is_left_out(name, number, node):
+    others, numbers, end = LEFT_OUT.get(name, ("-", (), 1 << 32))
+    return node.startswith(others) or number in numbers or number >= end
+
+
+def blocks_of(name, text):
     """The events, each with what the node did, and the lines of the journal."""
     body, journal = text.rstrip("\n").split("\njournal")
-    blocks = []
+    blocks, block = [], None
     for line in body.split("\n"):
         if line.startswith("event "):
-            blocks.append((line.split()[2:], []))
+            _, number, *words = line.split()
+            block = words, []
+            if not is_left_out(name, int(number), words[0]):
+                blocks.append(block)
         else:
-            blocks[-1][1].append(line.strip())
+            block[1].append(line.strip())
     return blocks, [line for line in journal.split("\n") if line]
 
 
@@ -197,7 +220,263 @@ def key_text(secret):
     return base64.b64encode(struct.pack("<HIIH", 1, 0, 0, 16) + secret).decode()
 
 
+# ---- a login whose frames are cut and broken, one by one
+
+
+def crc(start, data):
+    """CRC-32C with this seed, and nothing inverted behind it (RFC 3720, B.4, has the polynomial)."""
+    for byte in data:
+        start ^= byte
+        for _ in range(8):
+            start = start >> 1 ^ (0x82F63B78 if start & 1 else 0)
+    return struct.pack("<I", start)
+
+
+class Unit:
+    """A banner or a frame that a node handles at a turn: its bytes, and where it is sealed the key, and of each part nonce and content."""
+
+    def __init__(self, event, came, start, kind, key=None, parts=()):
+        self.event, self.came, self.start, self.kind, self.key, self.parts = event, came, start, kind, key, list(parts)
+        self.bytes = b""
+
+    def preamble(self):
+        return self.bytes[:32] if self.kind == "plain" else self.parts[0][1][:32]
+
+    def segment(self):
+        """A plain frame has one segment, and its sum behind it."""
+        return self.bytes[32:-4]
+
+
+def units_of(blocks):
+    """What each node handles, turn by turn, of what came to it in how many earlier pieces."""
+    units, came, taken, turns = [], {}, {}, {}
+    for event, (words, told) in enumerate(blocks):
+        node, kind = words[0], words[1]
+        if kind == "bytes":
+            came[node] = (event, bytes.fromhex(words[3]))
+            taken[node] = 0
+        if kind == "turn":
+            parts = [line.split() for line in told if line.startswith("opened connection")]
+            at, piece = came[node]
+            start = taken[node]
+            if parts:
+                contents = [bytes.fromhex(part[5]) for part in parts]
+                unit = Unit(event, at, start, "sealed", bytes.fromhex(parts[0][3]), [(c[:12], c[12:]) for c in contents])
+                length = sum(len(content) + 16 for _, content in unit.parts)
+            elif turns.get(node, 0) == 0:
+                unit = Unit(event, at, start, "banner")
+                length = 26
+            else:
+                unit = Unit(event, at, start, "plain")
+                length = 36 + struct.unpack("<I", piece[start + 2 : start + 6])[0]
+            turns[node] = turns.get(node, 0) + 1
+            unit.bytes = piece[start : start + length]
+            taken[node] = start + length
+            if unit.kind == "plain":
+                assert unit.bytes == plain(unit.preamble()[:28], unit.segment())
+            if unit.kind == "sealed":
+                assert unit.bytes == sealed_parts(unit, [content for _, content in unit.parts])
+            units.append(unit)
+    return units
+
+
+def plain(preamble, segment):
+    """A plain frame of these first 28 bytes of a preamble and this segment, with the sums that are due."""
+    return preamble + crc(0, preamble) + segment + crc(0xFFFFFFFF, segment)
+
+
+def sealed_parts(unit, contents):
+    return b"".join(sealed(unit.key, nonce, content) for (nonce, _), content in zip(unit.parts, contents))
+
+
+def changed(data, place, new):
+    return data[:place] + new + data[place + len(new) :]
+
+
+def flipped(data, place):
+    return changed(data, place, bytes([data[place] ^ 1]))
+
+
+# In the payloads of a login that have blobs: the place of each blob's length, and the place of the field that can't be read where that is too large.
+# Those of cephx stand in a blob, and places in them count from there: the place of that blob's bytes comes first.
+LENGTHS = {
+    2: [(0, 4, 4, "count"), (0, 16, 16, "blob"), (20, 5, 1, "name")],
+    4: [(0, 0, 0, "blob")],
+    5: [(0, 0, 0, "blob"), (4, 28, 19, "ticket blob")],
+    6: [(0, 12, 12, "blob"), (16, 16, 16, "sealed record")],
+}
+
+
+def broken_banner(unit):
+    yield "another text", flipped(unit.bytes, 6), "bad-banner"
+    yield "a length that is too large", changed(unit.bytes, 8, struct.pack("<H", 257)), "bad-banner"
+    yield "a feature that is required and unknown", changed(unit.bytes, 18, struct.pack("<Q", 5)), "features 4"
+
+
+def broken_plain(unit):
+    head, segment = unit.preamble()[:28], unit.segment()
+    tag = head[0]
+    yield "a wrong sum of the preamble", flipped(unit.bytes, 28), "bad-crc"
+    yield "a wrong sum of the segment", flipped(unit.bytes, len(unit.bytes) - 1), "bad-crc"
+    yield "another byte of the segment", flipped(unit.bytes, 32), "bad-crc"
+    yield "a length that is too large", plain(changed(head, 2, struct.pack("<I", 65537)), segment), "too-long"
+    yield "a tag that there isn't", plain(changed(head, 0, b"\x15"), segment), "bad-shape"
+    yield "a tag that isn't due", plain(changed(head, 0, b"\x14"), segment), "unexpected 20"
+    for base, place, fault, field in LENGTHS.get(tag, []):
+        long = changed(segment, base + place, struct.pack("<I", 65536))
+        yield f"a length of a {field} that is too large", plain(head, long), f"malformed {fault}"
+
+
+def blob_at(segment, place):
+    """The place of a blob's bytes, whose length stands at this place, and that behind it."""
+    start = place + 4
+    return start, start + struct.unpack("<I", segment[place:start])[0]
+
+
+def sealed_parts_of(segment):
+    """The sealed parts of an AUTH_DONE that a client opens, each from its first byte to its last: each ticket's info, and the secret."""
+    place = 4 + 8 + 4 + 2 + 4 + 1
+    count = struct.unpack("<I", segment[place : place + 4])[0]
+    place += 4
+    for _ in range(count):
+        start, place = blob_at(segment, place + 4 + 1)
+        yield "a ticket's info", start, place
+        _, place = blob_at(segment, place + 1 + 8)
+    start, end = blob_at(segment, place)
+    assert end == len(segment)
+    yield "the secret", start, end
+
+
+def wrong_plain(unit):
+    """Frames that are well formed, and wrong in what they hold; of those that are denied the code."""
+    head, segment = unit.preamble()[:28], unit.segment()
+    if head[0] == 2:
+        yield "another method", plain(head, flipped(segment, 0)), "method", 95
+        yield "modes without the secure one", plain(head, changed(segment, 8, bytes(4) * segment[4])), "mode", 95
+    if head[0] == 5:
+        yield "another proof", plain(head, flipped(segment, 4 + 2 + 1 + 8)), "wrong-proof", 13
+    if head[0] == 6:
+        yield "another mode", plain(head, changed(segment, 8, b"\x01")), "mode", None
+        for what, start, end in sealed_parts_of(segment):
+            for place in (start, end - 1):
+                yield f"another byte of {what}", plain(head, flipped(segment, place)), "unopened", None
+
+
+def denial(head, code):
+    payload = struct.pack("<6I", 2, 2**32 - code, 1, 2, 1, 2)
+    return plain(changed(changed(head, 0, b"\x03"), 2, struct.pack("<I", len(payload))), payload)
+
+
+def broken_sealed(unit):
+    contents = [content for _, content in unit.parts]
+    head = contents[0][:28]
+
+    def anew(changed_head):
+        return sealed_parts(unit, [changed_head + crc(0, changed_head) + contents[0][32:]] + contents[1:])
+
+    ends = [sum(len(content) + 16 for content in contents[: i + 1]) for i in range(len(contents))]
+    for i, end in enumerate(ends):
+        yield f"a wrong tag of part {i + 1}", flipped(unit.bytes, end - 1), "bad-tag"
+    yield "another byte", flipped(unit.bytes, 0), "bad-tag"
+    yield "a wrong sum of the preamble", sealed_parts(unit, [flipped(contents[0], 28)] + contents[1:]), "bad-crc"
+    yield "a length that is too large", anew(changed(head, 2, struct.pack("<I", 1048577))), "too-long"
+    yield "a tag that there isn't", anew(changed(head, 0, b"\x15")), "bad-shape"
+    yield "a tag that isn't due", anew(changed(head, 0, b"\x14")), "unexpected 20"
+
+
+BROKEN = {"banner": broken_banner, "plain": broken_plain, "sealed": broken_sealed}
+
+
+def title(unit, blocks):
+    tag = "banner" if unit.kind == "banner" else f"frame {unit.preamble()[0]}"
+    return f"{tag} at {blocks[unit.event][0][0]}"
+
+
+def tried(blocks, journal):
+    """What is tried behind a recorded login: rows, each with what has to be printed for it."""
+    blocks = blocks[: next(i for i, (words, _) in enumerate(blocks) if words[1] == "submit" and i > 0)]
+    heads = rows_before(blocks)
+    units = units_of(blocks)
+    counts = [sum(line.startswith("entry ") for line in told) for _, told in blocks]
+    yield from byte_by_byte(blocks, units, heads, journal[: sum(counts)])
+    for unit in units:
+        node = blocks[unit.event][0][0]
+        so_far = journal[: sum(counts[: unit.event])]
+        half = unit.bytes[: len(unit.bytes) // 2]
+        lost = ["refused client.a 1 lost"] if node == "client.a" else []
+        yield from again(unit, blocks, heads, "its first half, and then the link is gone", half)
+        yield f"{row_of(blocks[unit.event][0])}", [f"{node} turn 1"]
+        yield f"at {node} 1000 0 gone 1", [f"{node} gone 1"] + ["  entries 1"] * len(lost)
+        yield "journal", so_far + lost
+        for what, new, reason in BROKEN[unit.kind](unit):
+            yield from again(unit, blocks, heads, what, new)
+            yield f"{row_of(blocks[unit.event][0])}", [f"{node} turn 1", "  entries 1", "  shut 1"]
+            yield "journal", so_far + [f"refused {node} 1 {reason}"]
+        for what, new, reason, code in wrong_plain(unit) if unit.kind == "plain" else ():
+            yield from again(unit, blocks, heads, what, new)
+            sent = [f"  send 1 {denial(unit.preamble()[:28], code).hex()}"] if code else []
+            yield row_of(blocks[unit.event][0]), [f"{node} turn 1", "  entries 1", *sent, "  shut 1"]
+            yield "journal", so_far + [f"refused {node} 1 {reason}"]
+
+
+def rows_before(blocks):
+    """How many rows of the run stand before its first event."""
+    return 5
+
+
+def again(unit, blocks, heads, what, new):
+    """The login once more, up to the piece that has this unit, of which another one comes in its place."""
+    words = blocks[unit.came][0]
+    piece = bytes.fromhex(words[3])[: unit.start] + new
+    yield (row := f"again {heads + unit.came} {title(unit, blocks)}: {what}"), [row]
+    yield row_of(words, piece.hex()), [f"{words[0]} bytes 1"]
+    for words, told in blocks[unit.came + 1 : unit.event]:
+        yield row_of(words), [line for line in event_told(words, told)]
+
+
+def byte_by_byte(blocks, units, heads, journal):
+    """Each unit comes byte by byte, with a turn behind each: at each length but its own nothing is handled."""
+    first = min(unit.came for unit in units)
+    yield (row := f"again {heads + first} each byte comes alone"), [row]
+    for event, (words, told) in enumerate(blocks[first:], first):
+        if words[1] == "bytes":
+            continue
+        mine = [unit for unit in units if unit.event == event]
+        if not mine:
+            yield row_of(words), event_told(words, told)
+        for unit in mine:
+            node, _, reading, draw = words[0], *place_of(words)
+            shown = event_told(words, told)[1:]
+            yield f"drip {node} {reading} {draw} bytes 1 {unit.bytes.hex()}", [f"{node} bytes 1"] + ([f"  at {len(unit.bytes)}"] if shown else []) + shown
+    yield "journal", journal
+
+
 # ---- rows and answers
+
+
+def place_of(words):
+    at = words.index("line")
+    return words[at + 1], words[at + 3], words[at + 5]
+
+
+def row_of(words, piece=None):
+    _, reading, draw = place_of(words)
+    what = words[1 : words.index("line")]
+    return f"at {words[0]} {reading} {draw} {' '.join(what if piece is None else what[:2] + [piece])}"
+
+
+def event_told(words, told, logs=False):
+    """What is printed for an event."""
+    lines = [f"{words[0]} {' '.join(words[1 : min(words.index('line'), 3)])}"]
+    entries = sum(line.startswith("entry ") for line in told)
+    lines += [f"  {line}" for line in told if logs and line.startswith(SEALS)]
+    for kind in ("save ", "the save fails", "send ", "open ", "shut "):
+        if kind == "send " and entries:
+            lines.append(f"  entries {entries}")
+        for line in told:
+            if line.startswith(kind):
+                lines.append("  fails" if kind == "the save fails" else f"  {line}")
+    return lines
 
 
 def rows(name, schedule, blocks):
@@ -211,12 +490,13 @@ def rows(name, schedule, blocks):
             yield f"ring caps {service} = {caps}"
     yield f"monitor {seeds.get('mon', 0)} 3600 {life}"
     for i, (entity, _) in enumerate(entities):
+        if not entity.startswith("client."):
+            continue
         yield f"client {entity} {seeds.get(entity, i + 1)} {i + 1} {modes.get(entity, 'crc,secure')}"
     for words, told in blocks:
-        at = words.index("line")
         if any(line.startswith("the save fails") for line in told):
             yield f"fails {name.rsplit('_', 1)[1]}"
-        yield f"at {words[0]} {words[at + 3]} {words[at + 5]} {' '.join(words[1:at])}"
+        yield row_of(words)
     yield "journal"
 
 
@@ -225,17 +505,9 @@ def answers(name, schedule, blocks, journal):
         if row.startswith(("#", "monitor", "client")):
             yield row
     for words, told in blocks:
-        at = words.index("line")
-        yield f"{words[0]} {' '.join(words[1 : min(at, 3)])}"
-        entries = sum(line.startswith("entry ") for line in told)
-        for kind in ("save ", "the save fails", "send ", "open ", "shut "):
-            if kind == "send " and entries:
-                yield f"  entries {entries}"
-            for line in told:
-                if line.startswith(kind):
-                    yield "  fails" if kind == "the save fails" else f"  {line}"
+        yield from event_told(words, told, logs=True)
     for line in journal:
-        if not line.startswith(("leaked", "broken")):
+        if not line.startswith(UNTOLD):
             yield line
 
 
@@ -245,10 +517,14 @@ def main():
         with open(f"{folder}/{name}.schedule") as f:
             schedule = f.read()
         with open(f"{folder}/{name}.trace") as f:
-            blocks, journal = blocks_of(renewed(f.read()))
+            blocks, journal = blocks_of(name, renewed(f.read()))
         lines = rows(name, schedule, blocks) if sys.argv[1] == "rows" else answers(name, schedule, blocks, journal)
         for line in lines:
             print(line)
+        if name == BEHIND:
+            for row, told in tried(blocks, journal):
+                for line in [row] if sys.argv[1] == "rows" else told:
+                    print(line)
 
 
 main()

@@ -1,7 +1,8 @@
 #!/usr/bin/env python3
 """What cx_premises_answers has to print: `expected.py < stdin > stdout`.
 
-Written from the two premises as README.md of cx_steps has them, by going through the whole log for each entry.
+Written from the two premises as README.md of cx_steps has them: a leaked key counts for the whole log, what was made or drawn for what
+comes behind it.
 """
 
 import sys
@@ -17,34 +18,25 @@ def key_of(entry):
     return None
 
 
-def is_leaked(log, leaked, key):
-    return any(key_of(e) == key and e["whose"] in leaked for e in log)
-
-
-def has(earlier, what, entry):
-    return any((e["what"], e.get("key"), e.get("content")) == (what, entry["key"], entry["content"]) for e in earlier)
-
-
-def premise_broken(log, leaked, earlier, entry):
-    """The premise that this entry breaks, behind the earlier ones."""
-    due = {"opened": "sealed", "checked": "signed"}.get(entry["what"])
-    if due:
-        server = entry["node"] == "mon" or entry["node"].startswith(SERVERS)
-        excepted = server and is_leaked(log, leaked, entry["key"])
-        return None if excepted or has(earlier, due, entry) else "sealing"
-    if entry["what"] != "drawn":
-        return None
-    draws = [e for e in earlier if e["what"] == "drawn"]
-    if entry["kind"] in KEYS:
-        again = any(key_of(e) == key_of(entry) for e in draws)
-    else:
-        again = any((e["kind"], e["value"]) == (entry["kind"], entry["value"]) for e in draws)
-    return "draw" if again else None
-
-
 def first_breach(log, leaked):
-    for place, entry in enumerate(log):
-        why = premise_broken(log, leaked, log[:place], entry)
+    leaked_keys = {key_of(e) for e in log if key_of(e) and e["whose"] in leaked}
+    made, keys, values = set(), set(), set()
+    for entry in log:
+        why = None
+        if entry["what"] in ("sealed", "signed"):
+            made.add((entry["what"], entry["key"], entry["content"]))
+        elif entry["what"] in ("opened", "checked"):
+            due = {"opened": "sealed", "checked": "signed"}[entry["what"]]
+            server = entry["node"] == "mon" or entry["node"].startswith(SERVERS)
+            if (due, entry["key"], entry["content"]) not in made and not (server and entry["key"] in leaked_keys):
+                why = "sealing"
+        elif entry["kind"] in KEYS:
+            why = "draw" if key_of(entry) in keys else None
+            keys.add(key_of(entry))
+        else:
+            value = entry["kind"], entry["value"]
+            why = "draw" if value in values else None
+            values.add(value)
         if why:
             return f"broken {why} {entry['node']} {entry['kind']} {entry['line']}"
     return "sound and fresh"
@@ -67,5 +59,7 @@ for row in sys.stdin.read().splitlines():
         log, leaked = [], words[1:]
     elif words[0] == "told":
         print(first_breach(log, leaked))
+    elif words[0] == "many":
+        log += [entry_of(words[2:] + [f"{number:08}"]) for number in range(int(words[1]))]
     else:
         log.append(entry_of(words))

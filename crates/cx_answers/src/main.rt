@@ -11,6 +11,7 @@ mod rows;
 mod samples;
 mod sealed;
 mod shown;
+mod states;
 
 use rows::told;
 use std::io;

@@ -7,6 +7,7 @@ use crate::messages::message;
 use crate::samples::sample;
 use crate::sealed::record;
 use crate::shown::Hex;
+use crate::states::state;
 use cx_base::Blob;
 use std::alloc::{AllocError, Global};
 
@@ -58,6 +59,10 @@ fn answer(alloc: Global, kind: &str, bytes: &[u8]) -> Result<Answered, Refused> 
         answered => return answered,
     }
     match sample(alloc, kind, bytes) {
+        Err(Refused::NoKind) => {}
+        answered => return answered,
+    }
+    match state(alloc, kind, bytes) {
         Err(Refused::NoKind) => record(alloc, kind, bytes),
         answered => answered,
     }

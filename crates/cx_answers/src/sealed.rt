@@ -1,7 +1,7 @@
 //! Sealed records, and the proof of a login. The bytes of a record are a key of 16 bytes and the content, which is sealed under it.
 
 ghost use Rattle.std.specs.Prelude.{IfOk};
-ghost use Rattle.cx_enc.specs.Moments.{IsReading};
+ghost use Rattle.cx_forms.specs.Moments.{IsReading};
 ghost use Rattle.cx_sealed.specs.Records.{AreReadings};
 
 use crate::answered::{Answered, Refused, copied};
@@ -174,9 +174,9 @@ fn held(generations: &Generations) -> Result<Generations, Refused>
     }
 }
 
-// Generations, each as ` id ID key KEY expires READING`.
+/// Generations, each as ` id ID key KEY expires READING`.
 #[derive(Clone, Copy)]
-struct Each<'a>(&'a Generations);
+pub struct Each<'a>(pub &'a Generations);
 
 impl fmt::Display for Each<'_> {
     fn fmt<W: fmt::Write>(&self, f: &mut fmt::Formatter<W>) -> fmt::Result {

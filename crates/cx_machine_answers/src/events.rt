@@ -38,9 +38,14 @@ impl<'a> Coming<'a> {
         }
     }
 
+    /// The link on which it comes.
+    pub fn link(&self) -> u32 {
+        number_of(self.first)
+    }
+
     /// The event, with these bytes where bytes come.
     pub fn event<'b>(&self, bytes: &'b [u8]) -> Event<'b> {
-        let link = number_of(self.first);
+        let link = self.link();
         match self.what {
             "submit" => Event::Submit(Command::Login(number_of(self.second))),
             "opened" => Event::Opened(link, peer_of(self.second)),

@@ -5,7 +5,7 @@ ghost use Rattle.cx_rotate.specs.Keeping.{IsKeptState};
 
 use cx_keep::encode_state;
 use cx_rotate::KeptState;
-use cx_steps::{Effects, Peer};
+use cx_steps::{DrawMark, Effects, Peer, SealEntry, SealMark};
 use std::alloc::{AllocError, Global};
 use std::fmt;
 use std::fmt::Write;
@@ -35,6 +35,42 @@ impl fmt::Display for Ascii<'_> {
         }
         Ok(())
     }
+}
+
+/// Prints what was drawn, sealed, opened, signed and found equal.
+pub fn put_seals(told: &mut String, out: &Effects) -> Result<(), AllocError> {
+    for entry in out.seals.all() {
+        match entry {
+            SealEntry::Sealed(mark) => put_mark(told, "sealed", mark)?,
+            SealEntry::Opened(mark) => put_mark(told, "opened", mark)?,
+            SealEntry::Signed(mark) => put_mark(told, "signed", mark)?,
+            SealEntry::Checked(mark) => put_mark(told, "checked", mark)?,
+            SealEntry::Drawn(mark) => put_draw(told, mark)?,
+        }
+    }
+    Ok(())
+}
+
+fn put_mark(told: &mut String, what: &str, mark: &SealMark) -> Result<(), AllocError> {
+    let key = Hex(&mark.key);
+    let content = Hex(mark.content.bytes());
+    write!(told, "  {what} {} key {key} content {content}\n", mark.kind)
+}
+
+fn put_draw(told: &mut String, mark: &DrawMark) -> Result<(), AllocError> {
+    match mark {
+        DrawMark::Principal { secret, .. } => put_drawn(told, "principal", secret),
+        DrawMark::Connection { secret, .. } => put_drawn(told, "connection", secret),
+        DrawMark::Session { key, .. } => put_drawn(told, "session", key),
+        DrawMark::Rotation(key) => put_drawn(told, "rotation", key),
+        DrawMark::Challenge(number) => put_drawn(told, "challenge", &number.to_le_bytes()),
+        DrawMark::Nonce(number) => put_drawn(told, "nonce", &number.to_le_bytes()),
+        DrawMark::Cookie(number) => put_drawn(told, "cookie", &number.to_le_bytes()),
+    }
+}
+
+fn put_drawn(told: &mut String, kind: &str, value: &[u8]) -> Result<(), AllocError> {
+    write!(told, "  drawn {kind} {}\n", Hex(value))
 }
 
 /// Prints the state that is saved.

@@ -1,5 +1,5 @@
-//! Known answers of logs. A row `log CLIENT..` begins a log in which these clients leaked; a row `NODE LINE WHAT ..` is an entry of it, as
-//! the README lists them; a row `told` prints what is found in the log so far.
+//! Known answers of logs. A row `log CLIENT..` begins a log in which these clients leaked; a row `NODE LINE WHAT ..` is an entry of it, and
+//! `many` is many of them, as the README lists them; a row `told` prints what is found in the log so far.
 #![tactic(auto)]
 
 mod entries;

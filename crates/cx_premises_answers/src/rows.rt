@@ -28,6 +28,7 @@ impl Rows {
         match first {
             "log" => self.begin(alloc, rest),
             "told" => self.found(alloc),
+            "many" => self.enter_many(alloc, rest),
             _ => self.enter(alloc, first, rest),
         }
     }
@@ -49,6 +50,20 @@ impl Rows {
             return format!(in alloc; "no entry: {node} {rest}\n");
         };
         self.ledger.enter(alloc, &at)?;
+        Ok(String::new(alloc))
+    }
+
+    // So many entries of one kind and key, whose contents are the numbers from 0 on, eight digits each.
+    fn enter_many(&mut self, alloc: Global, rest: &str) -> Result<String, AllocError> {
+        let (count, rest) = rest.split_once(' ').unwrap_or((rest, ""));
+        let (node, parts) = rest.split_once(' ').unwrap_or((rest, ""));
+        for number in 0..count.parse::<u32>().unwrap_or(0) {
+            let entry = format!(in alloc; "{parts} {number:08}")?;
+            let told = self.enter(alloc, node, &entry)?;
+            if !told.is_empty() {
+                return Ok(told);
+            }
+        }
         Ok(String::new(alloc))
     }
 
