@@ -123,9 +123,34 @@ impl From<AllocError> for Refused {
 }
 
 /// A copy of what was read, to stand in its place.
-pub fn copied<T: Duplicate>(alloc: Global, read: T) -> Result<T, Refused> {
-    let copy = read.copy(alloc)?;
+pub fn copied<T: Duplicate, E>(alloc: Global, read: Result<T, E>) -> Result<T, Refused>
+where
+    Refused: From<E>,
+{
+    let copy = read?.copy(alloc)?;
     Ok(copy)
+}
+
+/// What was written into these bytes, and what they mean.
+pub fn told(
+    put: Result<(), AllocError>,
+    again: Blob,
+    meaning: Result<String, AllocError>,
+) -> Result<Answered, Refused> {
+    put?;
+    let meaning = meaning?;
+    Ok(Answered { meaning, again })
+}
+
+/// What was written whole or sealed, and what it means.
+pub fn told_whole<E>(
+    again: Result<Blob, E>,
+    meaning: Result<String, AllocError>,
+) -> Result<Answered, Refused>
+where
+    Refused: From<E>,
+{
+    told(Ok(()), again?, meaning)
 }
 
 // The value that was read is written again and printed.
@@ -133,9 +158,8 @@ macro_rules! answered {
     ($alloc:ident, $value:ident = $read:expr, $put:ident, $($format:tt)*) => {{
         let $value = $read;
         let mut again = Blob::new($alloc);
-        $put($alloc, &mut again, &$value)?;
-        let meaning = format!(in $alloc; $($format)*)?;
-        Ok(Answered { meaning, again })
+        let put = $put($alloc, &mut again, &$value);
+        crate::answered::told(put, again, format!(in $alloc; $($format)*))
     }};
 }
 
@@ -143,9 +167,8 @@ macro_rules! answered {
 macro_rules! spelled {
     ($alloc:ident, $value:ident = $read:expr, $($format:tt)*) => {{
         let $value = $read;
-        let again = write_whole($alloc, &$value)?;
-        let meaning = format!(in $alloc; $($format)*)?;
-        Ok(Answered { meaning, again })
+        let again = write_whole($alloc, &$value);
+        crate::answered::told_whole(again, format!(in $alloc; $($format)*))
     }};
 }
 

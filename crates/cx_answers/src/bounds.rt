@@ -3,9 +3,10 @@
 ghost use Rattle.std.specs.Prelude.{length, ◌<◌, ◌≤◌, ◌^◌, IsTrue, OnOk};
 ghost use Rattle.cx_base.specs.Texts.{is_caps, is_part};
 ghost use Rattle.cx_forms.specs.Moments.{IsReading};
+ghost use Rattle.cx_wire.specs.Operations.{IsWritable};
 
 use crate::answered::Refused;
-use cx_base::{Blob, Items, Reading, SECOND, Text, is_caps, is_part};
+use cx_base::{Blob, Items, Operation, Reading, SECOND, Text, is_caps, is_part};
 
 /// That a blob field can hold these bytes.
 pub fn is_short(bytes: &Blob) -> Result<(), Refused>
@@ -47,8 +48,21 @@ pub fn is_capped(caps: &Text) -> Result<(), Refused>
     Ok(())
 }
 
-/// That this is a pool, a namespace or an object.
-pub fn is_name(part: &Text) -> Result<(), Refused>
+/// That its pool, namespace and object are such, and a message can hold its bytes.
+pub fn is_operation(operation: &Operation) -> Result<(), Refused>
+    ensures { OnOk result (IsWritable operation.now) }
+{
+    is_name(&operation.pool)?;
+    is_name(&operation.namespace)?;
+    is_name(&operation.object)?;
+    if operation.bytes.bytes().len() > 65_536 {
+        return Err(Refused::Unfit);
+    }
+    Ok(())
+}
+
+// That this is a pool, a namespace or an object.
+fn is_name(part: &Text) -> Result<(), Refused>
     ensures { OnOk result (IsTrue (is_part part.now)) }
 {
     if !is_part(part.bytes()) {

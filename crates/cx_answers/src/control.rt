@@ -61,7 +61,7 @@ fn hello(alloc: Global, bytes: &[u8]) -> Result<Answered, Refused> {
 }
 
 fn auth_request(alloc: Global, bytes: &[u8]) -> Result<Answered, Refused> {
-    let x = copied(alloc, read_auth_request(alloc, bytes)?)?;
+    let x = copied(alloc, read_auth_request(alloc, bytes))?;
     is_few(&x.modes)?;
     is_short(&x.payload)?;
     answered!(
@@ -87,7 +87,7 @@ fn auth_bad_method(alloc: Global, bytes: &[u8]) -> Result<Answered, Refused> {
 }
 
 fn auth_reply_more(alloc: Global, bytes: &[u8]) -> Result<Answered, Refused> {
-    let x = copied(alloc, read_auth_reply_more(alloc, bytes)?)?;
+    let x = copied(alloc, read_auth_reply_more(alloc, bytes))?;
     is_short(&x.payload)?;
     answered!(
         alloc,
@@ -99,7 +99,7 @@ fn auth_reply_more(alloc: Global, bytes: &[u8]) -> Result<Answered, Refused> {
 }
 
 fn auth_request_more(alloc: Global, bytes: &[u8]) -> Result<Answered, Refused> {
-    let x = copied(alloc, read_auth_request_more(alloc, bytes)?)?;
+    let x = copied(alloc, read_auth_request_more(alloc, bytes))?;
     is_short(&x.payload)?;
     answered!(
         alloc,
@@ -111,7 +111,7 @@ fn auth_request_more(alloc: Global, bytes: &[u8]) -> Result<Answered, Refused> {
 }
 
 fn auth_done(alloc: Global, bytes: &[u8]) -> Result<Answered, Refused> {
-    let x = copied(alloc, read_auth_done(alloc, bytes)?)?;
+    let x = copied(alloc, read_auth_done(alloc, bytes))?;
     is_short(&x.payload)?;
     answered!(
         alloc,

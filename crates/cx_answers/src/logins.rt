@@ -29,7 +29,7 @@ pub fn login(alloc: Global, kind: &str, bytes: &[u8]) -> Result<Answered, Refuse
 fn login_hello(alloc: Global, bytes: &[u8]) -> Result<Answered, Refused> {
     answered!(
         alloc,
-        x = copied(alloc, read_login_hello(alloc, bytes)?)?,
+        x = copied(alloc, read_login_hello(alloc, bytes))?,
         put_login_hello,
         "name {} gid {}",
         x.name,
@@ -48,7 +48,7 @@ fn server_challenge(alloc: Global, bytes: &[u8]) -> Result<Answered, Refused> {
 }
 
 fn authenticate(alloc: Global, bytes: &[u8]) -> Result<Answered, Refused> {
-    let x = copied(alloc, read_authenticate(alloc, bytes)?)?;
+    let x = copied(alloc, read_authenticate(alloc, bytes))?;
     if x.version != 2 && x.version != 3 {
         return Err(Refused::Unfit);
     }
@@ -78,7 +78,7 @@ fn login_done(alloc: Global, bytes: &[u8]) -> Result<Answered, Refused> {
 }
 
 fn authorizer(alloc: Global, bytes: &[u8]) -> Result<Answered, Refused> {
-    let x = copied(alloc, read_authorizer(alloc, bytes)?)?;
+    let x = copied(alloc, read_authorizer(alloc, bytes))?;
     is_short(&x.ticket.blob)?;
     is_short(&x.authorize)?;
     answered!(
@@ -94,7 +94,7 @@ fn authorizer(alloc: Global, bytes: &[u8]) -> Result<Answered, Refused> {
 }
 
 fn authorize_challenge(alloc: Global, bytes: &[u8]) -> Result<Answered, Refused> {
-    let x = copied(alloc, read_authorize_challenge(alloc, bytes)?)?;
+    let x = copied(alloc, read_authorize_challenge(alloc, bytes))?;
     is_short(&x.sealed)?;
     answered!(
         alloc,
@@ -106,7 +106,7 @@ fn authorize_challenge(alloc: Global, bytes: &[u8]) -> Result<Answered, Refused>
 }
 
 fn authorize_reply(alloc: Global, bytes: &[u8]) -> Result<Answered, Refused> {
-    let x = copied(alloc, read_authorize_reply(alloc, bytes)?)?;
+    let x = copied(alloc, read_authorize_reply(alloc, bytes))?;
     is_short(&x.sealed)?;
     answered!(
         alloc,

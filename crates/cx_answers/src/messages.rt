@@ -1,7 +1,7 @@
 //! The segments of messages.
 
-use crate::answered::{Answered, Refused, answered, copied};
-use crate::bounds::is_name;
+use crate::answered::{Answered, Refused, answered, copied, told};
+use crate::bounds::is_operation;
 use crate::shown::{Hex, Tickets};
 use cx_base::{Blob, Duplicate};
 use cx_enc::put_blob;
@@ -42,33 +42,28 @@ fn header(alloc: Global, bytes: &[u8]) -> Result<Answered, Refused> {
 fn request(alloc: Global, bytes: &[u8]) -> Result<Answered, Refused> {
     let request = read_request(alloc, bytes)?;
     let mut again = Blob::new(alloc);
-    put_request(alloc, &mut again, &request)?;
+    let put = put_request(alloc, &mut again, &request);
     let meaning = match request {
-        Request::Tickets(keys) => format!(in alloc; "tickets {keys}")?,
-        Request::Rotating => String::from_str(alloc, "rotating")?,
+        Request::Tickets(keys) => format!(in alloc; "tickets {keys}"),
+        Request::Rotating => String::from_str(alloc, "rotating"),
     };
-    Ok(Answered { meaning, again })
+    told(put, again, meaning)
 }
 
 fn reply(alloc: Global, bytes: &[u8]) -> Result<Answered, Refused> {
     let reply = read_reply(alloc, bytes)?.copy(alloc)?;
     let mut again = Blob::new(alloc);
-    put_reply(alloc, &mut again, &reply)?;
+    let put = put_reply(alloc, &mut again, &reply);
     let meaning = match &reply {
-        Reply::Tickets(tickets) => format!(in alloc; "tickets{}", Tickets(tickets))?,
-        Reply::Rotating(sealed) => format!(in alloc; "rotating {}", Hex(sealed.bytes()))?,
+        Reply::Tickets(tickets) => format!(in alloc; "tickets{}", Tickets(tickets)),
+        Reply::Rotating(sealed) => format!(in alloc; "rotating {}", Hex(sealed.bytes())),
     };
-    Ok(Answered { meaning, again })
+    told(put, again, meaning)
 }
 
 fn operation(alloc: Global, bytes: &[u8]) -> Result<Answered, Refused> {
-    let x = copied(alloc, read_operation(alloc, bytes)?)?;
-    is_name(&x.pool)?;
-    is_name(&x.namespace)?;
-    is_name(&x.object)?;
-    if x.bytes.bytes().len() > 65_536 {
-        return Err(Refused::Unfit);
-    }
+    let x = copied(alloc, read_operation(alloc, bytes))?;
+    is_operation(&x)?;
     answered!(
         alloc,
         x = x,
@@ -83,7 +78,7 @@ fn operation(alloc: Global, bytes: &[u8]) -> Result<Answered, Refused> {
 }
 
 fn answer(alloc: Global, bytes: &[u8]) -> Result<Answered, Refused> {
-    let x = copied(alloc, read_answer(alloc, bytes)?)?;
+    let x = copied(alloc, read_answer(alloc, bytes))?;
     if x.outcome > 2 || x.bytes.bytes().len() > 65_536 {
         return Err(Refused::Unfit);
     }

@@ -1,6 +1,6 @@
 //! The primitive fields, and a record of each kind that layouts make.
 
-use crate::answered::{Answered, Refused, spelled};
+use crate::answered::{Answered, Refused, spelled, told, told_whole};
 use crate::bounds::{is_reading, is_short};
 use crate::shown::{Hex, Numbers, Place, Ticket};
 use cx_base::{Addr, Blob, EntityName, EntityType, Items};
@@ -118,8 +118,8 @@ fn roster(alloc: Global, bytes: &[u8]) -> Result<Answered, Refused> {
     let mut again = Blob::new(alloc);
     put_kind(alloc, &mut again, x.service)?;
     put_seats(alloc, &mut again, x.seats.all())?;
-    let meaning = format!(in alloc; "service {}{}", x.service, EachSeat(x.seats.all()))?;
-    Ok(Answered { meaning, again })
+    let meaning = format!(in alloc; "service {}{}", x.service, EachSeat(x.seats.all()));
+    told(Ok(()), again, meaning)
 }
 
 // The list of these seats.
@@ -157,8 +157,11 @@ fn rungs(alloc: Global, bytes: &[u8]) -> Result<Answered, Refused> {
     let mut again = Blob::new(alloc);
     put_u32(alloc, &mut again, count)?;
     put_rungs(alloc, &mut again, rungs.all())?;
-    let meaning = format!(in alloc; "rungs{}", EachRung(rungs.all()))?;
-    Ok(Answered { meaning, again })
+    told(
+        Ok(()),
+        again,
+        format!(in alloc; "rungs{}", EachRung(rungs.all())),
+    )
 }
 
 fn put_rungs(alloc: Global, into: &mut Blob, rungs: &[Rung]) -> Result<(), Refused> {
@@ -175,9 +178,8 @@ fn put_rungs(alloc: Global, into: &mut Blob, rungs: &[Rung]) -> Result<(), Refus
 
 fn complaint(alloc: Global, bytes: &[u8]) -> Result<Answered, Refused> {
     let x = read_whole_part::<Complaint>(alloc, bytes)?;
-    let again = Blob::of(alloc, bytes)?;
-    let meaning = format!(in alloc; "method {} result {}", x.method, x.result)?;
-    Ok(Answered { meaning, again })
+    let meaning = format!(in alloc; "method {} result {}", x.method, x.result);
+    told_whole(Blob::of(alloc, bytes), meaning)
 }
 
 fn tally(alloc: Global, bytes: &[u8]) -> Result<Answered, Refused> {
@@ -196,9 +198,7 @@ fn notice(alloc: Global, bytes: &[u8]) -> Result<Answered, Refused> {
     is_reading(x.created)?;
     is_short(&x.ticket.blob)?;
     is_short(&x.text)?;
-    let again = write_whole(alloc, &x)?;
-    let meaning = shown_notice(alloc, &x)?;
-    Ok(Answered { meaning, again })
+    told_whole(write_whole(alloc, &x), shown_notice(alloc, &x))
 }
 
 fn shown_notice(alloc: Global, x: &Notice) -> Result<String, AllocError> {

@@ -4,7 +4,7 @@ ghost use Rattle.std.specs.Prelude.{IfOk};
 ghost use Rattle.cx_forms.specs.Moments.{IsReading};
 ghost use Rattle.cx_sealed.specs.Records.{AreReadings};
 
-use crate::answered::{Answered, Refused, copied};
+use crate::answered::{Answered, Refused, copied, told_whole};
 use crate::bounds::{is_capped, is_reading};
 use crate::shown::Hex;
 use cx_aes::Schedule;
@@ -76,88 +76,83 @@ fn opened(alloc: Global, kind: &str, key: &[u8; 16], envelope: &[u8]) -> Result<
 }
 
 fn service_ticket(alloc: Global, key: &[u8; 16], envelope: &[u8]) -> Result<Answered, Refused> {
-    let x = copied(alloc, open_service_ticket(alloc, key, envelope)?)?;
+    let x = copied(alloc, open_service_ticket(alloc, key, envelope))?;
     is_reading(x.created)?;
     is_reading(x.expires)?;
     is_capped(&x.caps)?;
-    let again = seal_service_ticket(alloc, key, &x)?;
-    let mut meaning = format!(in alloc;
-        "session {} name {} gid {}",
+    let again = seal_service_ticket(alloc, key, &x);
+    let meaning = format!(in alloc;
+        "session {} name {} gid {} created {} expires {} caps {}",
         Hex(&x.session),
         x.name,
-        x.gid
-    )?;
-    write!(
-        meaning,
-        " created {} expires {} caps {}",
+        x.gid,
         x.created,
         x.expires,
         Hex(x.caps.bytes())
-    )?;
-    Ok(Answered { meaning, again })
+    );
+    told_whole(again, meaning)
 }
 
 fn ticket_info(alloc: Global, key: &[u8; 16], envelope: &[u8]) -> Result<Answered, Refused> {
     let x = open_ticket_info(alloc, key, envelope)?;
     is_reading(x.created)?;
     is_reading(x.expires)?;
-    let again = seal_ticket_info(alloc, key, &x)?;
+    let again = seal_ticket_info(alloc, key, &x);
     let meaning = format!(in alloc;
         "service {} session {} created {} expires {}",
         x.service,
         Hex(&x.session),
         x.created,
         x.expires
-    )?;
-    Ok(Answered { meaning, again })
+    );
+    told_whole(again, meaning)
 }
 
 fn authorize(alloc: Global, key: &[u8; 16], envelope: &[u8]) -> Result<Answered, Refused> {
     let x = open_authorize(alloc, key, envelope)?;
-    let again = seal_authorize(alloc, key, &x)?;
+    let again = seal_authorize(alloc, key, &x);
     let meaning = format!(in alloc;
         "nonce {} challenge {} {}",
         x.nonce, x.have_challenge, x.server_challenge_plus_one
-    )?;
-    Ok(Answered { meaning, again })
+    );
+    told_whole(again, meaning)
 }
 
 fn challenge(alloc: Global, key: &[u8; 16], envelope: &[u8]) -> Result<Answered, Refused> {
     let x = open_authorize_challenge(alloc, key, envelope)?;
-    let again = seal_authorize_challenge(alloc, key, &x)?;
-    let meaning = format!(in alloc; "challenge {}", x.challenge)?;
-    Ok(Answered { meaning, again })
+    let again = seal_authorize_challenge(alloc, key, &x);
+    let meaning = format!(in alloc; "challenge {}", x.challenge);
+    told_whole(again, meaning)
 }
 
 fn reply(alloc: Global, key: &[u8; 16], envelope: &[u8]) -> Result<Answered, Refused> {
     let x = open_authorize_reply(alloc, key, envelope)?;
-    let again = seal_authorize_reply(alloc, key, &x)?;
+    let again = seal_authorize_reply(alloc, key, &x);
     let meaning = format!(in alloc;
         "nonce_plus_one {} secret {}",
         x.nonce_plus_one,
         Hex(&x.secret)
-    )?;
-    Ok(Answered { meaning, again })
+    );
+    told_whole(again, meaning)
 }
 
 fn connection_secret(alloc: Global, key: &[u8; 16], envelope: &[u8]) -> Result<Answered, Refused> {
     let x = open_connection_secret(alloc, key, envelope)?;
-    let again = seal_connection_secret(alloc, key, &x)?;
-    let meaning = format!(in alloc; "secret {}", Hex(&x.secret))?;
-    Ok(Answered { meaning, again })
+    let again = seal_connection_secret(alloc, key, &x);
+    let meaning = format!(in alloc; "secret {}", Hex(&x.secret));
+    told_whole(again, meaning)
 }
 
 fn rotating_reply(alloc: Global, key: &[u8; 16], envelope: &[u8]) -> Result<Answered, Refused> {
     let opened = open_rotating_reply(alloc, key, envelope)?;
     let service = opened.service;
     let generations = held(&opened.generations)?;
-    let meaning = format!(in alloc; "service {service}{}", Each(&generations))?;
+    let meaning = format!(in alloc; "service {service}{}", Each(&generations));
     let reply = RotatingReply {
         service,
         generations,
     };
-    let again = seal_rotating_reply(alloc, key, &reply)?;
-    Ok(Answered { meaning, again })
+    told_whole(seal_rotating_reply(alloc, key, &reply), meaning)
 }
 
 // The same generations, whose expiries time fields can hold.
