@@ -9,52 +9,70 @@ use cx_journal::{
 };
 use cx_rotate::{Generation, Generations, View};
 use std::alloc::Global;
-use std::test::Fail;
+use std::process::Abort;
 
-fn name(alloc: Global, kind: EntityType, id: &[u8]) -> Result<EntityName, Fail> {
-    Ok(EntityName::new(kind, Text::of(alloc, id)?)?)
+fn blob(rt: &impl Abort, alloc: Global, bytes: &[u8]) -> Blob {
+    Blob::of(alloc, bytes).expect(rt, "memory is ample")
 }
 
-fn client(alloc: Global) -> Result<EntityName, Fail> {
-    name(alloc, EntityType::Client, b"a")
+fn text(rt: &impl Abort, alloc: Global, bytes: &[u8]) -> Text {
+    Text::of(alloc, bytes).expect(rt, "ASCII")
 }
 
-fn daemon(alloc: Global) -> Result<EntityName, Fail> {
-    name(alloc, EntityType::Osd, b"0")
+fn name(rt: &impl Abort, alloc: Global, kind: EntityType, id: &[u8]) -> EntityName {
+    EntityName::new(kind, text(rt, alloc, id)).expect(rt, "a name")
+}
+
+fn client(rt: &impl Abort, alloc: Global) -> EntityName {
+    name(rt, alloc, EntityType::Client, b"a")
+}
+
+fn daemon(rt: &impl Abort, alloc: Global) -> EntityName {
+    name(rt, alloc, EntityType::Osd, b"0")
+}
+
+/// The text of a journal behind what stands there, without what the contract says of it.
+fn put(rt: &impl Abort, alloc: Global, journal: &Journal, printed: &mut Blob) {
+    put_text(alloc, journal, printed).expect(rt, "memory is ample");
 }
 
 /// Whether a journal has this text.
-fn has_text(alloc: Global, journal: &Journal, text: &str) -> Result<bool, Fail> {
+fn has_text(rt: &impl Abort, alloc: Global, journal: &Journal, text: &str) -> bool {
     let mut printed = Blob::new(alloc);
-    put_text(alloc, journal, &mut printed)?;
-    Ok(printed.bytes() == text.as_bytes())
+    put(rt, alloc, journal, &mut printed);
+    printed.bytes() == text.as_bytes()
 }
 
-fn journal_of(alloc: Global, entry: Entry) -> Result<Journal, Fail> {
+fn push(rt: &impl Abort, alloc: Global, journal: &mut Journal, entry: Entry) {
+    journal.push(alloc, entry).expect(rt, "memory is ample");
+}
+
+/// A journal of this entry alone.
+fn journal_of(rt: &impl Abort, alloc: Global, entry: Entry) -> Journal {
     let mut journal = Journal::new(alloc);
-    journal.push(alloc, entry)?;
-    Ok(journal)
+    push(rt, alloc, &mut journal, entry);
+    journal
 }
 
-/// Whether a journal of this entry alone has this text.
-fn is_line(alloc: Global, entry: Entry, text: &str) -> Result<bool, Fail> {
-    let journal = journal_of(alloc, entry)?;
-    has_text(alloc, &journal, text)
+/// A journal of this entry alone has this text.
+fn expect_line(rt: &impl Abort, alloc: Global, entry: Entry, text: &str) {
+    let journal = journal_of(rt, alloc, entry);
+    assert!(rt; has_text(rt, alloc, &journal, text), "{text}");
 }
 
 // ---- kinds of entries
 
-fn issued(alloc: Global, service: EntityType, blob: &[u8]) -> Result<Entry, Fail> {
-    Ok(Entry::Issued(Issued {
-        entity: client(alloc)?,
+fn issued(rt: &impl Abort, alloc: Global, service: EntityType, ticket: &[u8]) -> Entry {
+    Entry::Issued(Issued {
+        entity: client(rt, alloc),
         service,
         gid: 2,
         generation: 2,
         created: 1000 * SECOND,
         expires: 4600 * SECOND,
-        caps: Text::of(alloc, b"allow *")?,
-        blob: Blob::of(alloc, blob)?,
-    }))
+        caps: text(rt, alloc, b"allow *"),
+        blob: blob(rt, alloc, ticket),
+    })
 }
 
 fn generation(id: u64) -> Generation {
@@ -65,127 +83,161 @@ fn generation(id: u64) -> Generation {
     }
 }
 
-fn generations() -> Result<Generations, Fail> {
+fn generations(rt: &impl Abort) -> Generations {
     let three = [generation(1), generation(2), generation(3)];
-    Ok(Generations::of(&three).ok_or("ids don't rise by one")?)
+    Generations::of(&three).expect(rt, "the ids rise by one")
 }
 
-fn fetched(alloc: Global) -> Result<Entry, Fail> {
-    Ok(Entry::Fetched(Fetched {
-        daemon: daemon(alloc)?,
+fn fetched(rt: &impl Abort, alloc: Global) -> Entry {
+    Entry::Fetched(Fetched {
+        daemon: daemon(rt, alloc),
         asked: 1000 * SECOND,
-        generations: generations()?,
-    }))
+        generations: generations(rt),
+    })
 }
 
-fn looked(alloc: Global, generations: Generations, asked: Option<Reading>) -> Result<Entry, Fail> {
-    Ok(Entry::Looked(Looked {
-        daemon: daemon(alloc)?,
+fn looked(rt: &impl Abort, alloc: Global, view: View) -> Entry {
+    Entry::Looked(Looked {
+        daemon: daemon(rt, alloc),
         link: 3,
-        view: View { generations, asked },
-    }))
+        view,
+    })
 }
+
+fn full_view(rt: &impl Abort) -> View {
+    View {
+        generations: generations(rt),
+        asked: Some(1000 * SECOND),
+    }
+}
+
+fn empty_view() -> View {
+    View {
+        generations: Generations::empty(),
+        asked: None,
+    }
+}
+
+fn expect_looked(rt: &impl Abort, alloc: Global, view: View, text: &str) {
+    expect_line(rt, alloc, looked(rt, alloc, view), text);
+}
+
+const ISSUED: &str = "issued 1 client.a osd 2 2 1000 4600 \"allow *\"\n";
 
 #[test]
-fn what_is_issued_and_fetched_has_its_line(rt: HostRuntime) -> Result<(), Fail> {
+fn what_is_issued_and_fetched_has_its_line(rt: HostRuntime) {
     let alloc = rt.alloc();
-    assert!(rt;
-        is_line(
-            alloc,
-            Entry::Saved(u64::MAX),
-            "saved 18446744073709551615\n"
-        )?
+    let saved = Entry::Saved(u64::MAX);
+    expect_line(&rt, alloc, saved, "saved 18446744073709551615\n");
+    expect_line(
+        &rt,
+        alloc,
+        issued(&rt, alloc, EntityType::Osd, b"one"),
+        ISSUED,
     );
-    assert!(rt;
-        is_line(
-            alloc,
-            issued(alloc, EntityType::Osd, b"one")?,
-            "issued 1 client.a osd 2 2 1000 4600 \"allow *\"\n"
-        )?
+    expect_line(
+        &rt,
+        alloc,
+        fetched(&rt, alloc),
+        "fetched osd.0 1000 1,2,3\n",
     );
-    assert!(rt; is_line(alloc, fetched(alloc)?, "fetched osd.0 1000 1,2,3\n")?);
-    let full = looked(alloc, generations()?, Some(1000 * SECOND))?;
-    assert!(rt; is_line(alloc, full, "looked osd.0 3 1,2,3 1000\n")?);
-    let empty = looked(alloc, Generations::empty(), None)?;
-    assert!(rt; is_line(alloc, empty, "looked osd.0 3 - -\n")?);
-    Ok(())
+    expect_looked(&rt, alloc, full_view(&rt), "looked osd.0 3 1,2,3 1000\n");
+    expect_looked(&rt, alloc, empty_view(), "looked osd.0 3 - -\n");
 }
 
-fn admitted(alloc: Global, epoch: u64, cookie: u64, at: Reading) -> Result<Admitted, Fail> {
-    Ok(Admitted {
-        daemon: daemon(alloc)?,
+fn admitted(rt: &impl Abort, alloc: Global, epoch: u64, cookie: u64, at: Reading) -> Admitted {
+    Admitted {
+        daemon: daemon(rt, alloc),
         session: 1,
         epoch,
         cookie,
-        entity: client(alloc)?,
+        entity: client(rt, alloc),
         gid: 2,
         at,
-        caps: Text::of(alloc, b"allow *")?,
-    })
+        caps: text(rt, alloc, b"allow *"),
+    }
 }
 
-fn operation(alloc: Global, access: Access, bytes: &[u8]) -> Result<Operation, Fail> {
-    Ok(Operation {
+fn operation(rt: &impl Abort, alloc: Global, access: Access, bytes: &[u8]) -> Operation {
+    Operation {
         access,
-        pool: Text::of(alloc, b"rbd")?,
+        pool: text(rt, alloc, b"rbd"),
         namespace: Text::new(alloc),
-        object: Text::of(alloc, b"obj1")?,
-        bytes: Blob::of(alloc, bytes)?,
-    })
+        object: text(rt, alloc, b"obj1"),
+        bytes: blob(rt, alloc, bytes),
+    }
 }
 
-fn sent(alloc: Global, cookie: u64) -> Result<Entry, Fail> {
-    Ok(Entry::Sent(Sent {
-        client: client(alloc)?,
-        daemon: daemon(alloc)?,
+fn sent(rt: &impl Abort, alloc: Global, cookie: u64) -> Entry {
+    Entry::Sent(Sent {
+        client: client(rt, alloc),
+        daemon: daemon(rt, alloc),
         cookie,
         seq: 1,
-        operation: operation(alloc, Access::Read, b"")?,
-    }))
+        operation: operation(rt, alloc, Access::Read, b""),
+    })
 }
 
-fn handled(alloc: Global, cookie: u64, outcome: Outcome) -> Result<Entry, Fail> {
-    Ok(Entry::Handled(Handled {
-        daemon: daemon(alloc)?,
+fn handled(rt: &impl Abort, alloc: Global, cookie: u64, outcome: Outcome) -> Entry {
+    Entry::Handled(Handled {
+        daemon: daemon(rt, alloc),
         session: 1,
         epoch: 1,
         cookie,
         seq: 1,
-        operation: operation(alloc, Access::Write, b"hi\xff")?,
+        operation: operation(rt, alloc, Access::Write, b"hi\xff"),
         outcome,
-    }))
+    })
 }
 
-fn answered(alloc: Global, cookie: u64) -> Result<Entry, Fail> {
-    Ok(Entry::Answered(Answered {
-        client: client(alloc)?,
-        daemon: daemon(alloc)?,
+fn answered(rt: &impl Abort, alloc: Global, cookie: u64) -> Entry {
+    Entry::Answered(Answered {
+        client: client(rt, alloc),
+        daemon: daemon(rt, alloc),
         cookie,
         tid: 1,
         outcome: Outcome::Denied,
-    }))
+    })
 }
 
-fn ended(alloc: Global) -> Result<Entry, Fail> {
-    Ok(Entry::Ended(Ended {
-        daemon: daemon(alloc)?,
+fn ended(rt: &impl Abort, alloc: Global) -> Entry {
+    Entry::Ended(Ended {
+        daemon: daemon(rt, alloc),
         session: 1,
-    }))
+    })
+}
+
+fn push_resumed(rt: &impl Abort, alloc: Global, journal: &mut Journal) {
+    let resumed = admitted(rt, alloc, 2, 8, 4_599_999_999_999);
+    push(rt, alloc, journal, Entry::Resumed(resumed));
+}
+
+fn push_admitted(rt: &impl Abort, alloc: Global, journal: &mut Journal) {
+    let first = admitted(rt, alloc, 1, 0, 1000 * SECOND);
+    push(rt, alloc, journal, Entry::Admitted(first));
+}
+
+fn push_handled(
+    rt: &impl Abort,
+    alloc: Global,
+    journal: &mut Journal,
+    cookie: u64,
+    outcome: Outcome,
+) {
+    push(rt, alloc, journal, handled(rt, alloc, cookie, outcome));
 }
 
 /// A journal of three cookies: 9 comes first, then 8, then 0.
-fn sessions(alloc: Global) -> Result<Journal, Fail> {
+fn sessions(rt: &impl Abort, alloc: Global) -> Journal {
     let mut journal = Journal::new(alloc);
-    journal.push(alloc, answered(alloc, 9)?)?;
-    let resumed = admitted(alloc, 2, 8, 4_599_999_999_999)?;
-    journal.push(alloc, Entry::Resumed(resumed))?;
-    let first = admitted(alloc, 1, 0, 1000 * SECOND)?;
-    journal.push(alloc, Entry::Admitted(first))?;
-    journal.push(alloc, sent(alloc, 0)?)?;
-    journal.push(alloc, handled(alloc, 8, Outcome::NoHandler)?)?;
-    journal.push(alloc, handled(alloc, 9, Outcome::Done)?)?;
-    journal.push(alloc, ended(alloc)?)?;
-    Ok(journal)
+    push(rt, alloc, &mut journal, answered(rt, alloc, 9));
+    push_resumed(rt, alloc, &mut journal);
+    push_admitted(rt, alloc, &mut journal);
+    push(rt, alloc, &mut journal, sent(rt, alloc, 0));
+    push_handled(rt, alloc, &mut journal, 8, Outcome::NoHandler);
+    push_handled(rt, alloc, &mut journal, 9, Outcome::Done);
+    push(rt, alloc, &mut journal, ended(rt, alloc));
+    journal
 }
 
 const SESSIONS: &str = "answered client.a osd.0 1 denied
@@ -197,28 +249,33 @@ handled osd.0 1 1 c1 1 write rbd - obj1 6869ff done
 ended osd.0 1
 ";
 
-#[test]
-fn a_cookie_is_named_by_its_first_appearance(rt: HostRuntime) -> Result<(), Fail> {
-    let copied = sessions(rt.alloc())?.copy(rt.alloc())?;
-    assert!(rt; has_text(rt.alloc(), &copied, SESSIONS)?);
+fn copied(rt: &impl Abort, alloc: Global, journal: &Journal) -> Journal {
+    journal.copy(alloc).expect(rt, "memory is ample")
+}
+
+fn laws() {
     session_laws();
-    Ok(())
 }
 
 #[test]
-fn what_is_restarted_and_leaked_has_its_line(rt: HostRuntime) -> Result<(), Fail> {
+fn a_cookie_is_named_by_its_first_appearance(rt: HostRuntime) {
+    let copied = copied(&rt, rt.alloc(), &sessions(&rt, rt.alloc()));
+    assert!(rt; has_text(&rt, rt.alloc(), &copied, SESSIONS));
+    laws();
+}
+
+fn expect_restarted(rt: &impl Abort, alloc: Global, node: NodeName, text: &str) {
+    expect_line(rt, alloc, Entry::Restarted(node), text);
+}
+
+#[test]
+fn what_is_restarted_and_leaked_has_its_line(rt: HostRuntime) {
     let alloc = rt.alloc();
-    assert!(rt;
-        is_line(
-            alloc,
-            Entry::Restarted(NodeName::Monitor),
-            "restarted mon\n"
-        )?
-    );
-    let node = NodeName::Entity(client(alloc)?);
-    assert!(rt; is_line(alloc, Entry::Restarted(node), "restarted client.a\n")?);
-    assert!(rt; is_line(alloc, Entry::Leaked(client(alloc)?), "leaked client.a\n")?);
-    Ok(())
+    expect_restarted(&rt, alloc, NodeName::Monitor, "restarted mon\n");
+    let node = NodeName::Entity(client(&rt, alloc));
+    expect_restarted(&rt, alloc, node, "restarted client.a\n");
+    let leaked = Entry::Leaked(client(&rt, alloc));
+    expect_line(&rt, alloc, leaked, "leaked client.a\n");
 }
 
 /// A kind of key and its word.
@@ -238,49 +295,58 @@ static KINDS: [Kind; 11] = [
     (KeyKind::Rotation, "rotation"),
 ];
 
-fn is_broken(alloc: Global, why: Premise, word: &str, row: &Kind) -> Result<bool, Fail> {
-    let (kind, name) = *row;
-    let broken = Broken {
+fn broken(why: Premise, kind: KeyKind) -> Entry {
+    Entry::Broken(Broken {
         why,
         node: NodeName::Monitor,
         kind,
         line: 7,
-    };
-    let text = format!(in alloc; "broken {word} mon {name} 7\n")?;
-    is_line(alloc, Entry::Broken(broken), &text)
+    })
+}
+
+fn broken_line(rt: &impl Abort, alloc: Global, why: &str, kind: &str) -> String {
+    let text = format!(in alloc; "broken {why} mon {kind} 7\n");
+    text.expect(rt, "memory is ample")
+}
+
+fn expect_broken(rt: &impl Abort, alloc: Global, why: Premise, word: &str, row: &Kind) {
+    let text = broken_line(rt, alloc, word, row.1);
+    expect_line(rt, alloc, broken(why, row.0), &text);
 }
 
 #[test]
-fn a_broken_premise_has_its_line(rt: HostRuntime) -> Result<(), Fail> {
+fn a_broken_premise_has_its_line(rt: HostRuntime) {
     for row in &KINDS {
-        assert!(rt;
-            is_broken(rt.alloc(), Premise::Draw, "draw", row)?,
-            "{}",
-            row.1
-        );
-        assert!(rt;
-            is_broken(rt.alloc(), Premise::Sealing, "sealing", row)?,
-            "{}",
-            row.1
-        );
+        expect_broken(&rt, rt.alloc(), Premise::Draw, "draw", row);
+        expect_broken(&rt, rt.alloc(), Premise::Sealing, "sealing", row);
     }
-    Ok(())
 }
 
 // ---- reasons of refusals
 
-/// Whether a refusal for this reason has these words.
-fn has_words(alloc: Global, reason: Reason, words: &str) -> Result<bool, Fail> {
-    let refused = Refused {
-        node: NodeName::Entity(daemon(alloc)?),
+fn refused(rt: &impl Abort, alloc: Global, reason: Reason) -> Entry {
+    Entry::Refused(Refused {
+        node: NodeName::Entity(daemon(rt, alloc)),
         link: 3,
         reason,
-    };
-    let text = format!(in alloc; "refused osd.0 3 {words}\n")?;
-    is_line(alloc, Entry::Refused(refused), &text)
+    })
 }
 
-static BYTES: [(BytesFault, &str); 10] = [
+fn refused_line(rt: &impl Abort, alloc: Global, words: &str) -> String {
+    let text = format!(in alloc; "refused osd.0 3 {words}\n");
+    text.expect(rt, "memory is ample")
+}
+
+/// A refusal for this reason has these words.
+fn expect_words(rt: &impl Abort, alloc: Global, reason: Reason, words: &str) {
+    let text = refused_line(rt, alloc, words);
+    expect_line(rt, alloc, refused(rt, alloc, reason), &text);
+}
+
+/// A fault of bytes and its words.
+type OfBytes = (BytesFault, &'static str);
+
+static BYTES: [OfBytes; 10] = [
     (BytesFault::BadBanner, "bad-banner"),
     (BytesFault::Features(2), "features 2"),
     (BytesFault::BadCrc, "bad-crc"),
@@ -293,7 +359,10 @@ static BYTES: [(BytesFault, &str); 10] = [
     (BytesFault::Malformed(4), "malformed 4"),
 ];
 
-static LOGIN: [(LoginFault, &str); 10] = [
+/// A fault of a login and its words.
+type OfLogin = (LoginFault, &'static str);
+
+static LOGIN: [OfLogin; 10] = [
     (LoginFault::Method, "method"),
     (LoginFault::Mode, "mode"),
     (LoginFault::UnknownEntity, "unknown-entity"),
@@ -312,78 +381,95 @@ static LOGIN: [(LoginFault, &str); 10] = [
     ),
 ];
 
+fn expect_of_bytes(rt: &impl Abort, alloc: Global, row: &OfBytes) {
+    expect_words(rt, alloc, Reason::Bytes(row.0), row.1);
+}
+
+fn expect_of_login(rt: &impl Abort, alloc: Global, row: &OfLogin) {
+    expect_words(rt, alloc, Reason::Login(row.0), row.1);
+}
+
 #[test]
-fn faults_of_bytes_and_logins_have_their_words(rt: HostRuntime) -> Result<(), Fail> {
-    for (fault, words) in BYTES {
-        assert!(rt;
-            has_words(rt.alloc(), Reason::Bytes(fault), words)?,
-            "{}",
-            words
-        );
+fn faults_of_bytes_and_logins_have_their_words(rt: HostRuntime) {
+    for row in &BYTES {
+        expect_of_bytes(&rt, rt.alloc(), row);
     }
-    for (fault, words) in LOGIN {
-        assert!(rt;
-            has_words(rt.alloc(), Reason::Login(fault), words)?,
-            "{}",
-            words
-        );
+    for row in &LOGIN {
+        expect_of_login(&rt, rt.alloc(), row);
     }
-    Ok(())
 }
 
-fn session_has_words(alloc: Global, fault: SessionFault, words: &str) -> Result<bool, Fail> {
-    has_words(alloc, Reason::Session(fault), words)
+fn expect_of_session(rt: &impl Abort, alloc: Global, fault: SessionFault, words: &str) {
+    expect_words(rt, alloc, Reason::Session(fault), words);
 }
 
-#[test]
-fn faults_of_sessions_have_their_words(rt: HostRuntime) -> Result<(), Fail> {
-    let alloc = rt.alloc();
-    assert!(rt; session_has_words(alloc, SessionFault::BookFull, "book-full 4096")?);
-    assert!(rt; session_has_words(alloc, SessionFault::CookieInUse(1), "cookie-in-use 1")?);
-    assert!(rt; session_has_words(alloc, SessionFault::UnknownSession, "unknown-session")?);
-    assert!(rt; session_has_words(alloc, SessionFault::StaleConnect(2), "stale-connect 2")?);
-    assert!(rt; session_has_words(alloc, SessionFault::StaleGlobal(3), "stale-global 3")?);
-    assert!(rt; session_has_words(alloc, SessionFault::Gap(4), "gap 4")?);
-    assert!(rt; session_has_words(alloc, SessionFault::Stale(5), "stale 5")?);
-    let entity = client(alloc)?;
-    let differs = SessionFault::OwnerDiffers { entity, gid: 2 };
-    assert!(rt; session_has_words(alloc, differs, "owner-differs client.a 2")?);
-    Ok(())
+fn owner_differs(rt: &impl Abort, alloc: Global) -> SessionFault {
+    SessionFault::OwnerDiffers {
+        entity: client(rt, alloc),
+        gid: 2,
+    }
 }
 
 #[test]
-fn what_an_acceptor_refuses_has_its_words(rt: HostRuntime) -> Result<(), Fail> {
+fn faults_of_sessions_have_their_words(rt: HostRuntime) {
     let alloc = rt.alloc();
-    assert!(rt; has_words(alloc, Reason::LinksFull, "links-full 1024")?);
-    assert!(rt; has_words(alloc, Reason::NotADaemon, "not-a-daemon")?);
-    assert!(rt; has_words(alloc, Reason::BadRequest, "bad-request")?);
-    let wrong = Reason::WrongService {
+    expect_of_session(&rt, alloc, SessionFault::BookFull, "book-full 4096");
+    expect_of_session(&rt, alloc, SessionFault::CookieInUse(1), "cookie-in-use 1");
+    expect_of_session(&rt, alloc, SessionFault::UnknownSession, "unknown-session");
+    expect_of_session(&rt, alloc, SessionFault::StaleConnect(2), "stale-connect 2");
+    expect_of_session(&rt, alloc, SessionFault::StaleGlobal(3), "stale-global 3");
+    expect_of_session(&rt, alloc, SessionFault::Gap(4), "gap 4");
+    expect_of_session(&rt, alloc, SessionFault::Stale(5), "stale 5");
+    expect_of_session(
+        &rt,
+        alloc,
+        owner_differs(&rt, alloc),
+        "owner-differs client.a 2",
+    );
+}
+
+fn wrong_service() -> Reason {
+    Reason::WrongService {
         kept: EntityType::Osd,
         got: EntityType::Mgr,
-    };
-    assert!(rt; has_words(alloc, wrong, "wrong-service osd mgr")?);
-    Ok(())
+    }
 }
 
 #[test]
-fn what_a_client_refuses_has_its_words(rt: HostRuntime) -> Result<(), Fail> {
+fn what_an_acceptor_refuses_has_its_words(rt: HostRuntime) {
     let alloc = rt.alloc();
-    assert!(rt; has_words(alloc, Reason::BadReply, "bad-reply")?);
-    assert!(rt; has_words(alloc, Reason::Denied(13), "denied 13")?);
-    assert!(rt; has_words(alloc, Reason::Reset, "reset")?);
-    assert!(rt; has_words(alloc, Reason::Lost, "lost")?);
-    assert!(rt; has_words(alloc, Reason::NoTicket(EntityType::Mds), "no-ticket mds")?);
-    assert!(rt; has_words(alloc, Reason::NoSession, "no-session")?);
-    assert!(rt; has_words(alloc, Reason::NoLink, "no-link")?);
-    assert!(rt; has_words(alloc, Reason::Busy, "busy")?);
-    assert!(rt; has_words(alloc, Reason::QueueFull, "queue-full 1024")?);
-    assert!(rt; has_words(alloc, Reason::Spent, "spent")?);
-    Ok(())
+    expect_words(&rt, alloc, Reason::LinksFull, "links-full 1024");
+    expect_words(&rt, alloc, Reason::NotADaemon, "not-a-daemon");
+    expect_words(&rt, alloc, Reason::BadRequest, "bad-request");
+    expect_words(&rt, alloc, wrong_service(), "wrong-service osd mgr");
+}
+
+#[test]
+fn what_a_client_refuses_has_its_words(rt: HostRuntime) {
+    let alloc = rt.alloc();
+    expect_words(&rt, alloc, Reason::BadReply, "bad-reply");
+    expect_words(&rt, alloc, Reason::Denied(13), "denied 13");
+    expect_words(&rt, alloc, Reason::Reset, "reset");
+    expect_words(&rt, alloc, Reason::Lost, "lost");
+    expect_words(
+        &rt,
+        alloc,
+        Reason::NoTicket(EntityType::Mds),
+        "no-ticket mds",
+    );
+    expect_words(&rt, alloc, Reason::NoSession, "no-session");
+    expect_words(&rt, alloc, Reason::NoLink, "no-link");
+    expect_words(&rt, alloc, Reason::Busy, "busy");
+    expect_words(&rt, alloc, Reason::QueueFull, "queue-full 1024");
+    expect_words(&rt, alloc, Reason::Spent, "spent");
 }
 
 // ---- refused tickets
 
-static TICKET: [(TicketFault, &str); 6] = [
+/// A fault of a ticket and its words.
+type OfTicket = (TicketFault, &'static str);
+
+static TICKET: [OfTicket; 6] = [
     (TicketFault::UnknownGeneration(4), "unknown-generation 4"),
     (TicketFault::TicketUnopened(2), "ticket-unopened 2"),
     (
@@ -407,45 +493,60 @@ static TICKET: [(TicketFault, &str); 6] = [
     ),
 ];
 
-/// Whether the refusal of a ticket that no entry issued has these words, and the number 0.
-fn ticket_has_words(alloc: Global, fault: TicketFault, words: &str) -> Result<bool, Fail> {
-    let words = format!(in alloc; "{words} ticket=0")?;
-    has_words(
-        alloc,
-        Reason::Ticket(fault, Blob::of(alloc, b"six")?),
-        &words,
-    )
+fn numbered_0(rt: &impl Abort, alloc: Global, words: &str) -> String {
+    let text = format!(in alloc; "{words} ticket=0");
+    text.expect(rt, "memory is ample")
+}
+
+/// The refusal of a ticket that no entry issued has the words of its fault, and the number 0.
+fn expect_of_ticket(rt: &impl Abort, alloc: Global, row: &OfTicket) {
+    let words = numbered_0(rt, alloc, row.1);
+    let reason = Reason::Ticket(row.0, blob(rt, alloc, b"six"));
+    expect_words(rt, alloc, reason, &words);
 }
 
 #[test]
-fn faults_of_tickets_have_their_words(rt: HostRuntime) -> Result<(), Fail> {
-    for (fault, words) in TICKET {
-        assert!(rt; ticket_has_words(rt.alloc(), fault, words)?, "{}", words);
+fn faults_of_tickets_have_their_words(rt: HostRuntime) {
+    for row in &TICKET {
+        expect_of_ticket(&rt, rt.alloc(), row);
     }
-    Ok(())
 }
 
-fn refused_ticket(alloc: Global, blob: &[u8]) -> Result<Entry, Fail> {
+fn refused_ticket(rt: &impl Abort, alloc: Global, ticket: &[u8]) -> Entry {
     let fault = TicketFault::AuthorizerUnopened;
-    Ok(Entry::Refused(Refused {
+    Entry::Refused(Refused {
         node: NodeName::Monitor,
         link: 3,
-        reason: Reason::Ticket(fault, Blob::of(alloc, blob)?),
-    }))
+        reason: Reason::Ticket(fault, blob(rt, alloc, ticket)),
+    })
+}
+
+fn push_issued(
+    rt: &impl Abort,
+    alloc: Global,
+    journal: &mut Journal,
+    service: EntityType,
+    ticket: &[u8],
+) {
+    push(rt, alloc, journal, issued(rt, alloc, service, ticket));
+}
+
+fn push_refused(rt: &impl Abort, alloc: Global, journal: &mut Journal, ticket: &[u8]) {
+    push(rt, alloc, journal, refused_ticket(rt, alloc, ticket));
 }
 
 /// A journal of three tickets, the second and third of one blob, and of three refusals. A ticket that was issued between them is taken
 /// back.
-fn tickets(alloc: Global) -> Result<Journal, Fail> {
+fn tickets(rt: &impl Abort, alloc: Global) -> Journal {
     let mut journal = Journal::new(alloc);
-    journal.push(alloc, issued(alloc, EntityType::Osd, b"one")?)?;
-    journal.push(alloc, issued(alloc, EntityType::Osd, b"two")?)?;
-    journal.push(alloc, issued(alloc, EntityType::Osd, b"six")?)?;
+    push_issued(rt, alloc, &mut journal, EntityType::Osd, b"one");
+    push_issued(rt, alloc, &mut journal, EntityType::Osd, b"two");
+    push_issued(rt, alloc, &mut journal, EntityType::Osd, b"six");
     journal.truncate(2);
-    journal.push(alloc, issued(alloc, EntityType::Mgr, b"two")?)?;
-    journal.push(alloc, refused_ticket(alloc, b"two")?)?;
-    journal.push(alloc, refused_ticket(alloc, b"six")?)?;
-    Ok(journal)
+    push_issued(rt, alloc, &mut journal, EntityType::Mgr, b"two");
+    push_refused(rt, alloc, &mut journal, b"two");
+    push_refused(rt, alloc, &mut journal, b"six");
+    journal
 }
 
 const TICKETS: &str = "issued 1 client.a osd 2 2 1000 4600 \"allow *\"
@@ -456,37 +557,64 @@ refused mon 3 authorizer-unopened ticket=0
 ";
 
 #[test]
-fn a_refused_ticket_has_the_number_of_its_first_issue(rt: HostRuntime) -> Result<(), Fail> {
-    let journal = tickets(rt.alloc())?;
-    assert!(rt; has_text(rt.alloc(), &journal, TICKETS)?);
-    Ok(())
+fn a_refused_ticket_has_the_number_of_its_first_issue(rt: HostRuntime) {
+    let journal = tickets(&rt, rt.alloc());
+    assert!(rt; has_text(&rt, rt.alloc(), &journal, TICKETS));
 }
 
 // ---- past round numbers
 
+/// A ticket of a blob of its own, and an operation sent with a cookie of its own.
+fn push_two(rt: &impl Abort, alloc: Global, journal: &mut Journal, number: u64) {
+    push_issued(rt, alloc, journal, EntityType::Osd, &number.to_le_bytes());
+    push(rt, alloc, journal, sent(rt, alloc, number));
+}
+
 /// So many tickets, each of a blob of its own, and so many operations sent, each with a cookie of its own.
-fn long_journal(alloc: Global, count: u64) -> Result<Journal, Fail> {
+fn long_journal(rt: &impl Abort, alloc: Global, count: u64) -> Journal {
     let mut journal = Journal::new(alloc);
     for number in 1..=count {
-        let blob = number.to_le_bytes();
-        journal.push(alloc, issued(alloc, EntityType::Osd, &blob)?)?;
-        journal.push(alloc, sent(alloc, number)?)?;
+        push_two(rt, alloc, &mut journal, number);
     }
-    Ok(journal)
+    journal
 }
+
+const FIRST_LINES: &str = "behind\nissued 1 ";
 
 const LAST_LINES: &str = "issued 70000 client.a osd 2 2 1000 4600 \"allow *\"
 sent client.a osd.0 c70000 1 read rbd - obj1 -
 ";
 
+fn count(journal: &Journal) -> usize {
+    journal.all().len()
+}
+
+/// The text of a journal behind a line.
+fn text_behind(rt: &impl Abort, alloc: Global, journal: &Journal) -> Blob {
+    let mut text = blob(rt, alloc, b"behind\n");
+    put(rt, alloc, journal, &mut text);
+    text
+}
+
+/// The text of a copy of a journal behind a line.
+fn text_of_copy(rt: &impl Abort, alloc: Global, journal: &Journal) -> Blob {
+    let copied = copied(rt, alloc, journal);
+    text_behind(rt, alloc, &copied)
+}
+
+fn starts(text: &Blob, start: &str) -> bool {
+    text.bytes().starts_with(start.as_bytes())
+}
+
+fn ends(text: &Blob, end: &str) -> bool {
+    text.bytes().ends_with(end.as_bytes())
+}
+
 #[test]
-fn a_journal_of_140_000_entries_is_written(rt: HostRuntime) -> Result<(), Fail> {
-    let journal = long_journal(rt.alloc(), 70_000)?;
-    assert!(rt; journal.all().len() == 140_000);
-    let copied = journal.copy(rt.alloc())?;
-    let mut text = Blob::of(rt.alloc(), b"behind\n")?;
-    put_text(rt.alloc(), &copied, &mut text)?;
-    assert!(rt; text.bytes().starts_with(b"behind\nissued 1 "));
-    assert!(rt; text.bytes().ends_with(LAST_LINES.as_bytes()));
-    Ok(())
+fn a_journal_of_140_000_entries_is_written(rt: HostRuntime) {
+    let journal = long_journal(&rt, rt.alloc(), 70_000);
+    assert!(rt; count(&journal) == 140_000);
+    let text = text_of_copy(&rt, rt.alloc(), &journal);
+    assert!(rt; starts(&text, FIRST_LINES));
+    assert!(rt; ends(&text, LAST_LINES));
 }

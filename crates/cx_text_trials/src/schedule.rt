@@ -4,7 +4,7 @@ use cx_base::Duplicate;
 use cx_places::LineFault;
 use cx_schedule::{ScheduleRefusal, Script, read};
 use std::alloc::Global;
-use std::test::Fail;
+use std::process::Abort;
 
 /// A schedule of all forms, with a comment, an empty line and no last LF.
 const ALL_FORMS: &str =
@@ -17,22 +17,42 @@ const ALL_FORMS: &str =
     drop osd.0 1\ntick mon\ntick osd.0\ncarry 1 c\ncarry 1 a 0\nlose 2 a\ninject 1 c -\ninject 1 a 0aB0\nagain 1 c 2 3\ncut 4\n\
     restart mon\nrestart client.a\nfailsave old\nfailsave new\nsettle";
 
-// What is read of a text, without what the contract says of it.
-fn script(alloc: Global, text: &str) -> Result<Script, Fail> {
-    Ok(read(alloc, text.as_bytes())?)
+/// What is read of a text, without what the contract says of it.
+fn script(alloc: Global, text: &str) -> Result<Script, ScheduleRefusal> {
+    read(alloc, text.as_bytes())
+}
+
+fn good_script(rt: &impl Abort, alloc: Global, text: &str) -> Script {
+    script(alloc, text).expect(rt, "a schedule")
+}
+
+/// How many lines a schedule has.
+fn count(script: &Script) -> usize {
+    script.lines().len()
+}
+
+/// Whether a schedule's first line has this number.
+fn begins_at(script: &Script, number: u32) -> bool {
+    match script.lines().first() {
+        Some(line) => line.number == number,
+        None => false,
+    }
+}
+
+/// Whether a schedule's last line has this number.
+fn ends_at(script: &Script, number: u32) -> bool {
+    match script.lines().last() {
+        Some(line) => line.number == number,
+        None => false,
+    }
 }
 
 #[test]
-fn a_schedule_of_all_forms_is_read(rt: HostRuntime) -> Result<(), Fail> {
-    let script = script(rt.alloc(), ALL_FORMS)?;
-    let lines = script.lines();
-    let numbers = (
-        lines.first().map(|line| line.number),
-        lines.last().map(|line| line.number),
-    );
-    assert!(rt; lines.len() == 39);
-    assert!(rt; numbers == (Some(2), Some(41)));
-    Ok(())
+fn a_schedule_of_all_forms_is_read(rt: HostRuntime) {
+    let script = good_script(&rt, rt.alloc(), ALL_FORMS);
+    assert!(rt; count(&script) == 39);
+    assert!(rt; begins_at(&script, 2));
+    assert!(rt; ends_at(&script, 41));
 }
 
 /// What stands above the lines under test: three lines.
@@ -202,46 +222,36 @@ static BAD_LINES: [Bad; 107] = [
     ("settled", 4, LineFault::UnknownWord, 1),
 ];
 
-/// The refusal of these lines below the declarations; none where they are read.
-fn refusal(alloc: Global, lines: &str) -> Result<Option<ScheduleRefusal>, Fail> {
-    let text = format!(in alloc; "{}{}", DECLARED, lines)?;
-    Ok(read(alloc, text.as_bytes()).err())
+/// These lines below the declarations.
+fn below(rt: &impl Abort, alloc: Global, lines: &str) -> String {
+    let text = format!(in alloc; "{}{}", DECLARED, lines);
+    text.expect(rt, "memory is ample")
 }
 
-fn is_bad(alloc: Global, row: &Bad) -> Result<bool, Fail> {
+/// The refusal of these lines below the declarations; none where they are read.
+fn refusal(rt: &impl Abort, alloc: Global, lines: &str) -> Option<ScheduleRefusal> {
+    script(alloc, &below(rt, alloc, lines)).err()
+}
+
+fn is_bad(rt: &impl Abort, alloc: Global, row: &Bad) -> bool {
     let (lines, number, why, word) = *row;
-    match refusal(alloc, lines)? {
+    match refusal(rt, alloc, lines) {
         Some(ScheduleRefusal::BadLine { line, bad }) => {
-            Ok(line == number && bad.fault.why == why && bad.fault.word == word)
+            line == number && bad.fault.why == why && bad.fault.word == word
         }
-        _ => Ok(false),
+        _ => false,
     }
 }
 
 #[test]
-fn the_first_fault_of_the_first_bad_line_is_answered_with_its_word(
-    rt: HostRuntime,
-) -> Result<(), Fail> {
+fn the_first_fault_of_the_first_bad_line_is_answered_with_its_word(rt: HostRuntime) {
     for row in &BAD_LINES {
-        assert!(rt; is_bad(rt.alloc(), row)?, "{}", row.0);
+        assert!(rt; is_bad(&rt, rt.alloc(), row), "{}", row.0);
     }
-    Ok(())
 }
 
-/// Whether a schedule of so many times this piece between two texts is read.
-fn reads(
-    alloc: Global,
-    before: &str,
-    piece: &str,
-    count: usize,
-    behind: &str,
-) -> Result<bool, Fail> {
-    let mut text = String::from_str(alloc, before)?;
-    for _ in 0..count {
-        text.push_str(piece)?;
-    }
-    text.push_str(behind)?;
-    Ok(read(alloc, text.as_bytes()).is_ok())
+fn put(rt: &impl Abort, text: &mut String, piece: &str) {
+    text.push_str(piece).expect(rt, "memory is ample");
 }
 
 /// What stands before a piece, the piece, what stands behind it, and how many of it are read at most.
@@ -259,48 +269,84 @@ static LIMITS: [Limit; 4] = [
     ),
 ];
 
-fn is_limit(alloc: Global, row: &Limit) -> Result<bool, Fail> {
-    let (before, piece, behind, most) = *row;
-    Ok(
-        reads(alloc, before, piece, most, behind)?
-            && !reads(alloc, before, piece, most.saturating_add(1), behind)?,
-    )
+/// So many times the piece of a row between its two texts.
+fn text_of(rt: &impl Abort, alloc: Global, row: &Limit, count: usize) -> String {
+    let mut text = String::new(alloc);
+    put(rt, &mut text, row.0);
+    for _ in 0..count {
+        put(rt, &mut text, row.1);
+    }
+    put(rt, &mut text, row.2);
+    text
+}
+
+/// Whether a schedule of so many times the piece of a row between its two texts is read.
+fn reads(rt: &impl Abort, alloc: Global, row: &Limit, count: usize) -> bool {
+    script(alloc, &text_of(rt, alloc, row, count)).is_ok()
+}
+
+fn is_limit(rt: &impl Abort, alloc: Global, row: &Limit) -> bool {
+    reads(rt, alloc, row, row.3) && !reads(rt, alloc, row, row.3.saturating_add(1))
 }
 
 #[test]
-fn the_limits_are_met_at_their_last_values(rt: HostRuntime) -> Result<(), Fail> {
+fn the_limits_are_met_at_their_last_values(rt: HostRuntime) {
     for row in &LIMITS {
-        assert!(rt; is_limit(rt.alloc(), row)?, "{} {}", row.1, row.3);
+        assert!(rt; is_limit(&rt, rt.alloc(), row), "{} {}", row.1, row.3);
     }
-    Ok(())
+}
+
+fn put_entities(rt: &impl Abort, text: &mut String, id: u32) {
+    let written = write!(
+        text,
+        "entity client.{id} osd \"allow *\"\nentity osd.{id}\n"
+    );
+    written.expect(rt, "memory is ample");
+}
+
+fn put_connect(rt: &impl Abort, text: &mut String, id: u32) {
+    let written = write!(text, "login client.{id} osd\nconnect client.{id} osd.0\n");
+    written.expect(rt, "memory is ample");
+}
+
+fn put_send(rt: &impl Abort, text: &mut String, id: u32, round: u32) {
+    let written = write!(text, "send client.{id} osd.0 read p - o {round:06}\n");
+    written.expect(rt, "memory is ample");
+}
+
+/// A thousand entities.
+fn put_all_entities(rt: &impl Abort, text: &mut String) {
+    for id in 0..500 {
+        put_entities(rt, text, id);
+    }
+}
+
+/// Rounds of a login, a connect and a send.
+fn put_rounds(rt: &impl Abort, text: &mut String) {
+    for round in 0..6_333 {
+        put_connect(rt, text, round % 500);
+        put_send(rt, text, round % 500, round);
+    }
 }
 
 /// A schedule of 20,000 lines: a thousand entities, a reading, and rounds of a login, a connect and a send.
-fn longest(alloc: Global) -> Result<String, Fail> {
+fn longest(rt: &impl Abort, alloc: Global) -> String {
     let mut text = String::new(alloc);
-    for id in 0..500 {
-        write!(
-            text,
-            "entity client.{id} osd \"allow *\"\nentity osd.{id}\n"
-        )?;
-    }
-    text.push_str("clock 1\n")?;
-    for round in 0..6_333 {
-        let id = round % 500;
-        write!(text, "login client.{id} osd\nconnect client.{id} osd.0\n")?;
-        write!(text, "send client.{id} osd.0 read p - o {round:06}\n")?;
-    }
-    Ok(text)
+    put_all_entities(rt, &mut text);
+    put(rt, &mut text, "clock 1\n");
+    put_rounds(rt, &mut text);
+    text
 }
 
 /// How many lines the copy of what is read has.
-fn lines_copied(alloc: Global, text: &str) -> Result<usize, Fail> {
-    Ok(read(alloc, text.as_bytes())?.copy(alloc)?.lines().len())
+fn lines_copied(rt: &impl Abort, alloc: Global, text: &str) -> usize {
+    let script = good_script(rt, alloc, text);
+    let copied = script.copy(alloc).expect(rt, "memory is ample");
+    count(&copied)
 }
 
 #[test]
-fn the_longest_schedule_is_read_and_copied(rt: HostRuntime) -> Result<(), Fail> {
-    let text = longest(rt.alloc())?;
-    assert!(rt; lines_copied(rt.alloc(), &text)? == 20_000);
-    Ok(())
+fn the_longest_schedule_is_read_and_copied(rt: HostRuntime) {
+    let text = longest(&rt, rt.alloc());
+    assert!(rt; lines_copied(&rt, rt.alloc(), &text) == 20_000);
 }

@@ -1,12 +1,12 @@
 //! Lines and words: that the definitions are those of a schedule's, and each call once.
 
-use cx_base::{Access, Blob, EntityType};
+use cx_base::{Access, Blob, EntityName, EntityType, Items, Text};
 use cx_words::{
     access, caps, first_line, hex, is_skipped, is_word, name, number, part, reading, service,
     services, ticket_service, word_laws, words,
 };
 use std::alloc::Global;
-use std::test::Fail;
+use std::process::Abort;
 
 /// Bytes, and their lines, each with a stroke behind it.
 type Cut = (&'static [u8], &'static [u8]);
@@ -19,31 +19,42 @@ static LINES: [Cut; 5] = [
     (b"#a\r\n b ", b"#a\r| b |"),
 ];
 
-fn put(alloc: Global, all: &mut Blob, piece: &[u8]) -> Result<(), Fail> {
-    all.append(alloc, piece)?;
-    all.append(alloc, b"|")?;
-    Ok(())
+fn append(rt: &impl Abort, alloc: Global, all: &mut Blob, bytes: &[u8]) {
+    all.append(alloc, bytes).expect(rt, "memory is ample");
+}
+
+fn put(rt: &impl Abort, alloc: Global, all: &mut Blob, piece: &[u8]) {
+    append(rt, alloc, all, piece);
+    append(rt, alloc, all, b"|");
+}
+
+/// The first line and what stands behind it, without what the contract says of them.
+fn cut(bytes: &[u8]) -> Option<(&[u8], &[u8])> {
+    first_line(bytes)
 }
 
 /// The first ten lines.
-fn lines_of(alloc: Global, bytes: &[u8]) -> Result<Blob, Fail> {
+fn lines_of(rt: &impl Abort, alloc: Global, bytes: &[u8]) -> Blob {
     let mut all = Blob::new(alloc);
     let mut rest = bytes;
     for _ in 0..10 {
-        if let Some((line, behind)) = first_line(rest) {
-            put(alloc, &mut all, line)?;
+        if let Some((line, behind)) = cut(rest) {
+            put(rt, alloc, &mut all, line);
             rest = behind;
         }
     }
-    Ok(all)
+    all
+}
+
+fn is_cut(rt: &impl Abort, alloc: Global, row: &Cut) -> bool {
+    lines_of(rt, alloc, row.0).bytes() == row.1
 }
 
 #[test]
-fn the_last_line_needs_no_line_end_and_an_empty_line_counts(rt: HostRuntime) -> Result<(), Fail> {
-    for (bytes, lines) in LINES {
-        assert!(rt; lines_of(rt.alloc(), bytes)?.bytes() == lines, "{bytes:?}");
+fn the_last_line_needs_no_line_end_and_an_empty_line_counts(rt: HostRuntime) {
+    for row in &LINES {
+        assert!(rt; is_cut(&rt, rt.alloc(), row), "{:?}", row.0);
     }
-    Ok(())
 }
 
 /// A line, and its words, each with a stroke behind it, where quotation marks group nothing.
@@ -62,39 +73,67 @@ static GROUPED: [Cut; 4] = [
     (b"a\tb", b"a\tb|"),
 ];
 
-fn words_of(alloc: Global, groups: bool, line: &[u8]) -> Result<Blob, Fail> {
-    let mut all = Blob::new(alloc);
-    for word in &words(alloc, groups, line)? {
-        put(alloc, &mut all, word)?;
+fn put_words(rt: &impl Abort, alloc: Global, all: &mut Blob, words: &[&[u8]]) {
+    for word in words {
+        put(rt, alloc, all, word);
     }
-    Ok(all)
+}
+
+fn words_of(rt: &impl Abort, alloc: Global, groups: bool, line: &[u8]) -> Blob {
+    let mut all = Blob::new(alloc);
+    let found = words(alloc, groups, line).expect(rt, "memory is ample");
+    put_words(rt, alloc, &mut all, &found);
+    all
+}
+
+fn is_parted(rt: &impl Abort, alloc: Global, groups: bool, row: &Cut) -> bool {
+    words_of(rt, alloc, groups, row.0).bytes() == row.1
 }
 
 #[test]
-fn one_blank_parts_words_and_closed_quotation_marks_group(rt: HostRuntime) -> Result<(), Fail> {
-    for (line, words) in WORDS {
-        assert!(rt;
-            words_of(rt.alloc(), false, line)?.bytes() == words,
-            "{line:?}"
-        );
+fn one_blank_parts_words_and_closed_quotation_marks_group(rt: HostRuntime) {
+    for row in &WORDS {
+        assert!(rt; is_parted(&rt, rt.alloc(), false, row), "{:?}", row.0);
     }
-    for (line, words) in GROUPED {
-        assert!(rt;
-            words_of(rt.alloc(), true, line)?.bytes() == words,
-            "{line:?}"
-        );
+    for row in &GROUPED {
+        assert!(rt; is_parted(&rt, rt.alloc(), true, row), "{:?}", row.0);
     }
-    Ok(())
+}
+
+/// A word or a line, and whether it is one of its kind.
+type Word = (&'static [u8], bool);
+
+static SKIPPED: [Word; 3] = [(b"", true), (b"# a", true), (b" #", false)];
+
+static LOSSY: [Word; 2] = [(b"lossy", true), (b"loss", false)];
+
+fn is_skipped_right(row: &Word) -> bool {
+    is_skipped(row.0) == row.1
+}
+
+fn is_lossy_right(row: &Word) -> bool {
+    is_word(row.0, "lossy") == row.1
+}
+
+fn laws() {
+    word_laws();
 }
 
 #[test]
 fn a_comment_begins_with_its_mark_and_a_text_is_a_whole_word(rt: HostRuntime) {
-    assert!(rt; is_skipped(b"") && is_skipped(b"# a") && !is_skipped(b" #"));
-    assert!(rt; is_word(b"lossy", "lossy") && !is_word(b"loss", "lossy"));
-    word_laws();
+    for row in &SKIPPED {
+        assert!(rt; is_skipped_right(row), "{:?}", row.0);
+    }
+    for row in &LOSSY {
+        assert!(rt; is_lossy_right(row), "{:?}", row.0);
+    }
+    laws();
 }
 
-static NUMBERS: [(&[u8], Option<u64>); 11] = [
+/// A word, and the number that it spells, if it spells one.
+type Number = (&'static [u8], Option<u64>);
+
+static NUMBERS: [Number; 11] = [
     (b"0", Some(0)),
     (b"7", Some(7)),
     (b"31536000", Some(31536000)),
@@ -108,14 +147,18 @@ static NUMBERS: [(&[u8], Option<u64>); 11] = [
     (b"7a", None),
 ];
 
+fn is_number(row: &Number) -> bool {
+    number(row.0) == row.1
+}
+
 #[test]
 fn a_number_has_no_sign_and_no_leading_zero_and_is_below_2_to_the_64(rt: HostRuntime) {
-    for (word, wanted) in NUMBERS {
-        assert!(rt; number(word) == wanted, "{word:?}");
+    for row in &NUMBERS {
+        assert!(rt; is_number(row), "{:?}", row.0);
     }
 }
 
-static READINGS: [(&[u8], Option<u64>); 12] = [
+static READINGS: [Number; 12] = [
     (b"0", Some(0)),
     (b"1000", Some(1_000_000_000_000)),
     (b"1.000000000", Some(1_000_000_000)),
@@ -130,10 +173,14 @@ static READINGS: [(&[u8], Option<u64>); 12] = [
     (b"01.000000000", None),
 ];
 
+fn is_reading(row: &Number) -> bool {
+    reading(row.0) == row.1
+}
+
 #[test]
 fn a_reading_is_seconds_or_seconds_a_point_and_nine_digits(rt: HostRuntime) {
-    for (word, wanted) in READINGS {
-        assert!(rt; reading(word) == wanted, "{word:?}");
+    for row in &READINGS {
+        assert!(rt; is_reading(row), "{:?}", row.0);
     }
 }
 
@@ -151,28 +198,43 @@ static SERVICES: [Service; 8] = [
     (b"", None, None),
 ];
 
-static ACCESSES: [(&[u8], Option<Access>); 4] = [
+/// A word, and the access that it names, if it names one.
+type Allowed = (&'static [u8], Option<Access>);
+
+static ACCESSES: [Allowed; 4] = [
     (b"read", Some(Access::Read)),
     (b"write", Some(Access::Write)),
     (b"exec", Some(Access::Exec)),
     (b"r", None),
 ];
 
+fn is_service(row: &Service) -> bool {
+    service(row.0) == row.1
+}
+
+fn is_ticket_service(row: &Service) -> bool {
+    ticket_service(row.0) == row.2
+}
+
+fn is_service_right(row: &Service) -> bool {
+    is_service(row) && is_ticket_service(row)
+}
+
+fn is_access(row: &Allowed) -> bool {
+    access(row.0) == row.1
+}
+
 #[test]
 fn services_and_accesses_are_named_by_their_words(rt: HostRuntime) {
-    for (word, found, of_tickets) in SERVICES {
-        assert!(rt; service(word) == found, "{word:?}");
-        assert!(rt; ticket_service(word) == of_tickets, "{word:?}");
+    for row in &SERVICES {
+        assert!(rt; is_service_right(row), "{:?}", row.0);
     }
-    for (word, found) in ACCESSES {
-        assert!(rt; access(word) == found, "{word:?}");
+    for row in &ACCESSES {
+        assert!(rt; is_access(row), "{:?}", row.0);
     }
 }
 
-/// A word, and whether it is one of its kind, whose value is printed as it stands.
-type Word = (&'static [u8], bool);
-
-/// Whether what was read of a word, printed, is the word where the row says so, and nothing else.
+/// Whether what was read of a word, printed as it stands, is the word where the row says so, and nothing else.
 fn is_printed(row: &Word, printed: Option<String>) -> bool {
     let (word, good) = *row;
     match printed {
@@ -192,27 +254,40 @@ static LISTS: [Word; 8] = [
     (b"osd, mds", false),
 ];
 
-/// The services that a word lists, joined again.
-fn list_of(alloc: Global, word: &[u8]) -> Result<Option<String>, Fail> {
-    let Some(kinds) = services(alloc, word)? else {
-        return Ok(None);
-    };
-    let mut text = String::new(alloc);
-    for kind in kinds.all() {
-        if !text.is_empty() {
-            text.push_str(",")?;
-        }
-        write!(text, "{kind}")?;
+fn put_service(rt: &impl Abort, text: &mut String, kind: EntityType) {
+    if !text.is_empty() {
+        text.push_str(",").expect(rt, "memory is ample");
     }
-    Ok(Some(text))
+    let written = write!(text, "{kind}");
+    written.expect(rt, "memory is ample");
+}
+
+/// These services, joined again.
+fn joined(rt: &impl Abort, alloc: Global, kinds: &[EntityType]) -> String {
+    let mut text = String::new(alloc);
+    for kind in kinds {
+        put_service(rt, &mut text, *kind);
+    }
+    text
+}
+
+/// The services that a word lists.
+fn services_of(rt: &impl Abort, alloc: Global, word: &[u8]) -> Option<Items<EntityType>> {
+    services(alloc, word).expect(rt, "memory is ample")
+}
+
+fn is_list_right(rt: &impl Abort, alloc: Global, row: &Word) -> bool {
+    match services_of(rt, alloc, row.0) {
+        Some(kinds) => is_printed(row, Some(joined(rt, alloc, kinds.all()))),
+        None => is_printed(row, None),
+    }
 }
 
 #[test]
-fn a_list_of_services_keeps_the_order_and_has_each_once(rt: HostRuntime) -> Result<(), Fail> {
+fn a_list_of_services_keeps_the_order_and_has_each_once(rt: HostRuntime) {
     for row in &LISTS {
-        assert!(rt; is_printed(row, list_of(rt.alloc(), row.0)?), "{:?}", row.0);
+        assert!(rt; is_list_right(&rt, rt.alloc(), row), "{:?}", row.0);
     }
-    Ok(())
 }
 
 static NAMES: [Word; 14] = [
@@ -238,19 +313,27 @@ static NAMES: [Word; 14] = [
     (b"osd.\xc3\xa9", false),
 ];
 
-fn name_of(alloc: Global, word: &[u8]) -> Result<Option<String>, Fail> {
-    match name(alloc, word)? {
-        Some(name) => Ok(Some(format!(in alloc; "{name}")?)),
-        None => Ok(None),
+fn name_of(rt: &impl Abort, alloc: Global, word: &[u8]) -> Option<EntityName> {
+    name(alloc, word).expect(rt, "memory is ample")
+}
+
+fn name_printed(rt: &impl Abort, alloc: Global, name: &EntityName) -> String {
+    let text = format!(in alloc; "{name}");
+    text.expect(rt, "memory is ample")
+}
+
+fn is_name_right(rt: &impl Abort, alloc: Global, row: &Word) -> bool {
+    match name_of(rt, alloc, row.0) {
+        Some(name) => is_printed(row, Some(name_printed(rt, alloc, &name))),
+        None => is_printed(row, None),
     }
 }
 
 #[test]
-fn a_name_is_a_type_word_a_point_and_an_id(rt: HostRuntime) -> Result<(), Fail> {
+fn a_name_is_a_type_word_a_point_and_an_id(rt: HostRuntime) {
     for row in &NAMES {
-        assert!(rt; is_printed(row, name_of(rt.alloc(), row.0)?), "{:?}", row.0);
+        assert!(rt; is_name_right(&rt, rt.alloc(), row), "{:?}", row.0);
     }
-    Ok(())
 }
 
 static CAPS: [Word; 11] = [
@@ -267,31 +350,46 @@ static CAPS: [Word; 11] = [
     (b"\"\x7f\"", false),
 ];
 
-fn caps_of(alloc: Global, word: &[u8]) -> Result<Option<String>, Fail> {
-    match caps(alloc, word)? {
-        Some(text) => Ok(Some(format!(in alloc; "\"{text}\"")?)),
-        None => Ok(None),
+fn caps_of(rt: &impl Abort, alloc: Global, word: &[u8]) -> Option<Text> {
+    caps(alloc, word).expect(rt, "memory is ample")
+}
+
+fn caps_printed(rt: &impl Abort, alloc: Global, text: &Text) -> String {
+    let text = format!(in alloc; "\"{text}\"");
+    text.expect(rt, "memory is ample")
+}
+
+fn are_caps_right(rt: &impl Abort, alloc: Global, row: &Word) -> bool {
+    match caps_of(rt, alloc, row.0) {
+        Some(text) => is_printed(row, Some(caps_printed(rt, alloc, &text))),
+        None => is_printed(row, None),
     }
+}
+
+/// So many times these bytes.
+fn many(rt: &impl Abort, alloc: Global, bytes: &[u8], count: usize) -> Blob {
+    let mut all = Blob::new(alloc);
+    for _ in 0..count {
+        append(rt, alloc, &mut all, bytes);
+    }
+    all
 }
 
 /// Whether a text of so many bytes between quotation marks is one of caps.
-fn are_caps_of(alloc: Global, count: usize) -> Result<bool, Fail> {
-    let mut word = Blob::of(alloc, b"\"")?;
-    for _ in 0..count {
-        word.append(alloc, b"~")?;
-    }
-    word.append(alloc, b"\"")?;
-    Ok(caps(alloc, word.bytes())?.is_some())
+fn are_caps_of(rt: &impl Abort, alloc: Global, count: usize) -> bool {
+    let mut word = many(rt, alloc, b"\"", 1);
+    append(rt, alloc, &mut word, many(rt, alloc, b"~", count).bytes());
+    append(rt, alloc, &mut word, b"\"");
+    caps_of(rt, alloc, word.bytes()).is_some()
 }
 
 #[test]
-fn a_caps_text_stands_in_quotation_marks(rt: HostRuntime) -> Result<(), Fail> {
+fn a_caps_text_stands_in_quotation_marks(rt: HostRuntime) {
     for row in &CAPS {
-        assert!(rt; is_printed(row, caps_of(rt.alloc(), row.0)?), "{:?}", row.0);
+        assert!(rt; are_caps_right(&rt, rt.alloc(), row), "{:?}", row.0);
     }
-    assert!(rt; are_caps_of(rt.alloc(), 4096)?);
-    assert!(rt; !are_caps_of(rt.alloc(), 4097)?);
-    Ok(())
+    assert!(rt; are_caps_of(&rt, rt.alloc(), 4096));
+    assert!(rt; !are_caps_of(&rt, rt.alloc(), 4097));
 }
 
 /// A word, and the bytes that it stands for, if it is one of its kind.
@@ -327,39 +425,45 @@ static HEX: [Meaning; 9] = [
     (b"--", None),
 ];
 
-fn is_part_right(alloc: Global, row: &Meaning) -> Result<bool, Fail> {
-    let found = part(alloc, row.0)?;
-    Ok(means(row, found.as_ref().map(|text| text.bytes())))
+fn part_of(rt: &impl Abort, alloc: Global, word: &[u8]) -> Option<Text> {
+    part(alloc, word).expect(rt, "memory is ample")
 }
 
-fn is_hex_right(alloc: Global, row: &Meaning) -> Result<bool, Fail> {
-    let found = hex(alloc, row.0)?;
-    Ok(means(row, found.as_ref().map(|bytes| bytes.bytes())))
+fn hex_of(rt: &impl Abort, alloc: Global, word: &[u8]) -> Option<Blob> {
+    hex(alloc, word).expect(rt, "memory is ample")
+}
+
+fn is_part_right(rt: &impl Abort, alloc: Global, row: &Meaning) -> bool {
+    match part_of(rt, alloc, row.0) {
+        Some(text) => means(row, Some(text.bytes())),
+        None => means(row, None),
+    }
+}
+
+fn is_hex_right(rt: &impl Abort, alloc: Global, row: &Meaning) -> bool {
+    match hex_of(rt, alloc, row.0) {
+        Some(bytes) => means(row, Some(bytes.bytes())),
+        None => means(row, None),
+    }
 }
 
 /// Whether so many letters are a part.
-fn is_part_of(alloc: Global, count: usize) -> Result<bool, Fail> {
-    let mut word = Blob::new(alloc);
-    for _ in 0..count {
-        word.append(alloc, b"z")?;
-    }
-    Ok(part(alloc, word.bytes())?.is_some())
+fn is_part_of(rt: &impl Abort, alloc: Global, count: usize) -> bool {
+    part_of(rt, alloc, many(rt, alloc, b"z", count).bytes()).is_some()
 }
 
 #[test]
-fn a_part_is_a_hyphen_or_1_to_255_bytes_of_its_alphabet(rt: HostRuntime) -> Result<(), Fail> {
+fn a_part_is_a_hyphen_or_1_to_255_bytes_of_its_alphabet(rt: HostRuntime) {
     for row in &PARTS {
-        assert!(rt; is_part_right(rt.alloc(), row)?, "{:?}", row.0);
+        assert!(rt; is_part_right(&rt, rt.alloc(), row), "{:?}", row.0);
     }
-    assert!(rt; is_part_of(rt.alloc(), 255)?);
-    assert!(rt; !is_part_of(rt.alloc(), 256)?);
-    Ok(())
+    assert!(rt; is_part_of(&rt, rt.alloc(), 255));
+    assert!(rt; !is_part_of(&rt, rt.alloc(), 256));
 }
 
 #[test]
-fn hex_is_a_hyphen_or_pairs_of_digits_in_either_case(rt: HostRuntime) -> Result<(), Fail> {
+fn hex_is_a_hyphen_or_pairs_of_digits_in_either_case(rt: HostRuntime) {
     for row in &HEX {
-        assert!(rt; is_hex_right(rt.alloc(), row)?, "{:?}", row.0);
+        assert!(rt; is_hex_right(&rt, rt.alloc(), row), "{:?}", row.0);
     }
-    Ok(())
 }

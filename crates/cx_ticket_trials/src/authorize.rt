@@ -1,15 +1,15 @@
 //! Authorizers: that of a run on both sides, bit for bit, and what is changed in one bit.
 
 use cx_authorize::{
-    Answering, AuthFault, AuthRefusal, Authorized, Awaiting, First, PresentRefusal, Presenting,
-    View, authorizer_laws,
+    Agreed, Answering, AuthFault, AuthRefusal, Authorized, Awaiting, First, PresentRefusal,
+    Presenting, View, authorizer_laws,
 };
 use cx_base::{Blob, Duplicate, EntityType, Owner, Reading};
 use cx_login::HeldTicket;
 use cx_rotate::{Generation, Generations};
 use hex::FromHex;
 use std::alloc::Global;
-use std::test::Fail;
+use std::process::Abort;
 
 // The run is that of `examples/first_login.schedule`, which an independent implementation computed: its first fetch, login and
 // connect. Bytes are hex digits.
@@ -52,25 +52,30 @@ const NOW: Reading = 1_000_000_000_000;
 
 const EXPIRY: Reading = 4_600_000_000_000;
 
-fn bytes(alloc: Global, digits: &str) -> Result<Blob, Fail> {
-    Ok(Blob::of(alloc, &hex::decode(alloc, digits)?)?)
+fn decoded(rt: &impl Abort, alloc: Global, digits: &str) -> Vec<u8> {
+    hex::decode(alloc, digits).expect(rt, "hex digits")
+}
+
+/// Whether bytes are those of these digits.
+fn are(rt: &impl Abort, alloc: Global, bytes: &[u8], digits: &str) -> bool {
+    bytes == decoded(rt, alloc, digits).as_slice()
 }
 
 /// These bytes with the lowest bit of the one at a place changed.
-fn changed(alloc: Global, digits: &str, at: usize) -> Result<Blob, Fail> {
-    let mut other = hex::decode(alloc, digits)?;
+fn changed(rt: &impl Abort, alloc: Global, digits: &str, at: usize) -> Vec<u8> {
+    let mut other = decoded(rt, alloc, digits);
     if let Some(byte) = other.get_mut(at) {
         *byte ^= 1;
     }
-    Ok(Blob::of(alloc, &other)?)
+    other
 }
 
-fn key(digits: &str) -> Result<[u8; 16], Fail> {
-    Ok(<[u8; 16] as FromHex>::from_hex(digits)?)
+fn key(rt: &impl Abort, digits: &str) -> [u8; 16] {
+    <[u8; 16] as FromHex>::from_hex(digits).expect(rt, "16 bytes")
 }
 
-fn secret(digits: &str) -> Result<[u8; 64], Fail> {
-    Ok(<[u8; 64] as FromHex>::from_hex(digits)?)
+fn secret(rt: &impl Abort, digits: &str) -> [u8; 64] {
+    <[u8; 64] as FromHex>::from_hex(digits).expect(rt, "64 bytes")
 }
 
 // ---- the daemon
@@ -83,18 +88,21 @@ fn generation(id: u64, key: &[u8; 16]) -> Generation {
     }
 }
 
-/// A view of three generations from this id on, all with this key.
-fn view(id: u64, digits: &str) -> Result<View, Fail> {
-    let key = key(digits)?;
-    let three = [
-        generation(id, &key),
-        generation(id.wrapping_add(1), &key),
-        generation(id.wrapping_add(2), &key),
-    ];
-    Ok(View {
-        generations: Generations::of(&three).ok_or("ids don't rise by one")?,
+/// Three generations from this id on, all with this key.
+fn generations(id: u64, key: &[u8; 16]) -> Option<Generations> {
+    Generations::of(&[
+        generation(id, key),
+        generation(id.wrapping_add(1), key),
+        generation(id.wrapping_add(2), key),
+    ])
+}
+
+/// A view of three generations from this id on, all with the key of generation 2.
+fn view(rt: &impl Abort, id: u64) -> View {
+    View {
+        generations: generations(id, &key(rt, GENERATION)).expect(rt, "the ids rise by one"),
         asked: None,
-    })
+    }
 }
 
 /// What a daemon answers a first authorizer, with the state in which it awaits the second.
@@ -108,38 +116,75 @@ fn first(
     First::new(EntityType::Osd).check(alloc, payload, view, now, challenge)
 }
 
-/// What a daemon that drew this challenge answers a second authorizer.
+/// A daemon that drew this challenge and awaits the second authorizer of the run, and its answer to the first.
+fn awaiting(rt: &impl Abort, alloc: Global, view: &View, challenge: u64) -> (Awaiting, Blob) {
+    let shown = decoded(rt, alloc, FIRST);
+    first(alloc, &shown, view, NOW, challenge).expect(rt, "the first authorizer is that of the run")
+}
+
+/// What a daemon that awaits a second authorizer answers this one.
+fn judged(
+    alloc: Global,
+    awaiting: Awaiting,
+    payload: &[u8],
+    view: &View,
+    secret: &[u8; 64],
+) -> Result<(Authorized, Blob), AuthRefusal> {
+    awaiting.check(alloc, payload, view, EXPIRY - 1, secret)
+}
+
+/// What a daemon that drew this challenge answers the second authorizer of the run.
 fn second(
+    rt: &impl Abort,
     alloc: Global,
     challenge: u64,
-    payload: &[u8],
-) -> Result<Result<(Authorized, Blob), AuthRefusal>, Fail> {
-    let view = view(1, GENERATION)?;
-    let shown = bytes(alloc, FIRST)?;
-    let (awaiting, _) = first(alloc, shown.bytes(), &view, NOW, challenge)?;
-    Ok(awaiting.check(alloc, payload, &view, EXPIRY - 1, &secret(CONNECTION)?))
+) -> Result<(Authorized, Blob), AuthRefusal> {
+    let view = view(rt, 1);
+    let secret = secret(rt, CONNECTION);
+    let shown = decoded(rt, alloc, SECOND);
+    let (awaiting, _) = awaiting(rt, alloc, &view, challenge);
+    judged(alloc, awaiting, &shown, &view, &secret)
 }
 
 #[test]
-fn a_daemon_challenges_as_in_the_run(rt: HostRuntime) -> Result<(), Fail> {
-    let shown = bytes(rt.alloc(), FIRST)?;
-    let (_, challenge) = first(rt.alloc(), shown.bytes(), &view(1, GENERATION)?, NOW, ASKED)?;
-    assert!(rt; challenge == bytes(rt.alloc(), CHALLENGE)?);
-    Ok(())
+fn a_daemon_challenges_as_in_the_run(rt: HostRuntime) {
+    let (_, challenge) = awaiting(&rt, rt.alloc(), &view(&rt, 1), ASKED);
+    assert!(rt; are(&rt, rt.alloc(), challenge.bytes(), CHALLENGE));
 }
 
-#[test]
-fn a_daemon_admits_as_in_the_run(rt: HostRuntime) -> Result<(), Fail> {
-    let shown = bytes(rt.alloc(), SECOND)?;
-    let (authorized, reply) = second(rt.alloc(), ASKED, shown.bytes())??;
-    assert!(rt; reply == bytes(rt.alloc(), REPLY)?);
-    assert!(rt; authorized.session_key() == key(SESSION)?);
-    let copied = authorized.copy(rt.alloc())?;
-    assert!(rt; copied.gid() == 2 && copied.at() == EXPIRY - 1);
-    assert!(rt; copied.entity().id.bytes() == b"a".as_slice());
-    assert!(rt; copied.caps().bytes() == b"allow *".as_slice());
+fn has_session(rt: &impl Abort, authorized: &Authorized) -> bool {
+    authorized.session_key() == key(rt, SESSION)
+}
+
+/// Whether what a session is admitted on names the client of the run, with its caps, at the reading.
+fn is_of_the_run(owner: &Authorized) -> bool {
+    owner.gid() == 2 && owner.at() == EXPIRY - 1 && is_named(owner) && has_caps(owner)
+}
+
+fn is_named(owner: &Authorized) -> bool {
+    owner.entity().id.bytes() == b"a".as_slice()
+}
+
+fn has_caps(owner: &Authorized) -> bool {
+    owner.caps().bytes() == b"allow *".as_slice()
+}
+
+fn is_copied(rt: &impl Abort, alloc: Global, authorized: &Authorized) -> bool {
+    is_of_the_run(&authorized.copy(alloc).expect(rt, "memory is ample"))
+}
+
+fn laws() {
     authorizer_laws();
-    Ok(())
+}
+
+#[test]
+fn a_daemon_admits_as_in_the_run(rt: HostRuntime) {
+    let answer = second(&rt, rt.alloc(), ASKED);
+    let (authorized, reply) = answer.expect(&rt, "the client is admitted");
+    assert!(rt; are(&rt, rt.alloc(), reply.bytes(), REPLY));
+    assert!(rt; has_session(&rt, &authorized));
+    assert!(rt; is_copied(&rt, rt.alloc(), &authorized));
+    laws();
 }
 
 /// The place at which a bit of the first authorizer is changed, if there is such a place; the oldest id of the daemon's view, the
@@ -177,90 +222,102 @@ fn fault_of<T: Drop>(answer: Result<T, AuthRefusal>) -> Option<AuthFault> {
     }
 }
 
-fn is_refused(alloc: Global, row: &Row) -> Result<bool, Fail> {
+fn is_refused(rt: &impl Abort, alloc: Global, row: &Row) -> bool {
     let (place, oldest, now, fault) = *row;
-    let shown = changed(alloc, FIRST, place)?;
-    let answer = first(alloc, shown.bytes(), &view(oldest, GENERATION)?, now, ASKED);
-    Ok(fault_of(answer) == Some(fault))
+    let shown = changed(rt, alloc, FIRST, place);
+    let answer = first(alloc, &shown, &view(rt, oldest), now, ASKED);
+    fault_of(answer) == Some(fault)
 }
 
 #[test]
-fn a_first_authorizer_is_refused_for_its_fault(rt: HostRuntime) -> Result<(), Fail> {
+fn a_first_authorizer_is_refused_for_its_fault(rt: HostRuntime) {
     for row in &BAD_FIRST {
-        assert!(rt; is_refused(rt.alloc(), row)?, "{:?}", row.3);
+        assert!(rt; is_refused(&rt, rt.alloc(), row), "{:?}", row.3);
     }
-    Ok(())
 }
 
 /// The daemon's challenge, and the challenge plus one that is expected of the client, who shows that of the run. The challenge isn't
 /// raised, or raised by two.
 static BAD_SECOND: [(u64, u64); 2] = [(ASKED + 1, ASKED + 2), (ASKED - 1, ASKED)];
 
-fn is_unanswered(alloc: Global, challenge: u64, expected: u64) -> Result<bool, Fail> {
-    let shown = bytes(alloc, SECOND)?;
-    let fault = fault_of(second(alloc, challenge, shown.bytes())?);
+fn is_unanswered(rt: &impl Abort, alloc: Global, row: &(u64, u64)) -> bool {
+    let (challenge, expected) = *row;
     let got = ASKED + 1;
-    Ok(fault == Some(AuthFault::ChallengeWrong { expected, got }))
+    let fault = fault_of(second(rt, alloc, challenge));
+    fault == Some(AuthFault::ChallengeWrong { expected, got })
 }
 
 #[test]
-fn a_second_authorizer_answers_its_own_challenge(rt: HostRuntime) -> Result<(), Fail> {
-    for (challenge, expected) in BAD_SECOND {
-        assert!(rt; is_unanswered(rt.alloc(), challenge, expected)?);
+fn a_second_authorizer_answers_its_own_challenge(rt: HostRuntime) {
+    for row in &BAD_SECOND {
+        assert!(rt; is_unanswered(&rt, rt.alloc(), row));
     }
-    Ok(())
 }
 
 // ---- the client
 
-fn held(alloc: Global) -> Result<HeldTicket, Fail> {
+fn held(rt: &impl Abort, alloc: Global) -> HeldTicket {
     // The blob stands behind a byte, the global id, the service, a byte, the generation and its own length.
-    let shown = bytes(alloc, FIRST)?;
-    let blob = shown.bytes().get(26..122).ok_or("no blob")?;
-    Ok(HeldTicket {
+    let shown = decoded(rt, alloc, FIRST);
+    let blob = shown.get(26..122).expect(rt, "the blob is there");
+    HeldTicket {
         service: EntityType::Osd,
         generation: 2,
-        blob: Blob::of(alloc, blob)?,
-        session: key(SESSION)?,
+        blob: Blob::of(alloc, blob).expect(rt, "memory is ample"),
+        session: key(rt, SESSION),
         expires: EXPIRY,
-    })
+    }
+}
+
+/// A client that drew this nonce and showed its ticket, and its first authorizer.
+fn presenting(rt: &impl Abort, alloc: Global, nonce: u64) -> (Presenting, Blob) {
+    Presenting::new(alloc, &held(rt, alloc), 2, nonce).expect(rt, "memory is ample")
 }
 
 /// What a client that drew this nonce does with the daemon's challenge, and its second authorizer.
-fn answering(alloc: Global, nonce: u64) -> Result<(Answering, Blob), Fail> {
-    let (presenting, _) = Presenting::new(alloc, &held(alloc)?, 2, nonce)?;
-    Ok(presenting.challenged(alloc, bytes(alloc, CHALLENGE)?.bytes())?)
+fn answering(rt: &impl Abort, alloc: Global, nonce: u64) -> (Answering, Blob) {
+    let challenge = decoded(rt, alloc, CHALLENGE);
+    let (presenting, _) = presenting(rt, alloc, nonce);
+    presenting
+        .challenged(alloc, &challenge)
+        .expect(rt, "the challenge is that of the run")
 }
 
 #[test]
-fn a_client_shows_its_ticket_as_in_the_run(rt: HostRuntime) -> Result<(), Fail> {
-    let (_, shown) = Presenting::new(rt.alloc(), &held(rt.alloc())?, 2, NONCE)?;
-    assert!(rt; shown == bytes(rt.alloc(), FIRST)?);
-    Ok(())
+fn a_client_shows_its_ticket_as_in_the_run(rt: HostRuntime) {
+    let (_, shown) = presenting(&rt, rt.alloc(), NONCE);
+    assert!(rt; are(&rt, rt.alloc(), shown.bytes(), FIRST));
+}
+
+/// What a client does with the daemon's reply.
+fn done(rt: &impl Abort, alloc: Global, answering: Answering) -> Result<Agreed, PresentRefusal> {
+    answering.done(alloc, &decoded(rt, alloc, REPLY))
+}
+
+/// Whether a client agrees with the daemon on what both agreed on in the run.
+fn agrees(rt: &impl Abort, alloc: Global, answering: Answering) -> bool {
+    let agreed = done(rt, alloc, answering).expect(rt, "the reply is that of the run");
+    agreed.secret == secret(rt, CONNECTION) && agreed.session == key(rt, SESSION)
 }
 
 #[test]
-fn a_client_agrees_as_in_the_run(rt: HostRuntime) -> Result<(), Fail> {
-    let (answering, shown) = answering(rt.alloc(), NONCE)?;
-    assert!(rt; shown == bytes(rt.alloc(), SECOND)?);
-    let agreed = answering.done(rt.alloc(), bytes(rt.alloc(), REPLY)?.bytes())?;
-    assert!(rt; agreed.secret == secret(CONNECTION)?);
-    assert!(rt; agreed.session == key(SESSION)?);
-    Ok(())
+fn a_client_agrees_as_in_the_run(rt: HostRuntime) {
+    let (answering, shown) = answering(&rt, rt.alloc(), NONCE);
+    assert!(rt; are(&rt, rt.alloc(), shown.bytes(), SECOND));
+    assert!(rt; agrees(&rt, rt.alloc(), answering));
 }
 
-/// Why a client that drew this nonce refuses the daemon's reply.
-fn refusal(alloc: Global, nonce: u64) -> Result<Option<PresentRefusal>, Fail> {
-    let (answering, _) = answering(alloc, nonce)?;
-    Ok(answering.done(alloc, bytes(alloc, REPLY)?.bytes()).err())
-}
-
-#[test]
-fn a_client_takes_no_reply_to_another_nonce(rt: HostRuntime) -> Result<(), Fail> {
+/// Whether a client that drew another nonce refuses the daemon's reply as one to the nonce of the run.
+fn is_for_another(rt: &impl Abort, alloc: Global, nonce: u64) -> bool {
+    let (answering, _) = answering(rt, alloc, nonce);
     let wrong = PresentRefusal::NonceWrong {
         expected: NONCE + 2,
         got: NONCE + 1,
     };
-    assert!(rt; refusal(rt.alloc(), NONCE + 1)? == Some(wrong));
-    Ok(())
+    done(rt, alloc, answering).err() == Some(wrong)
+}
+
+#[test]
+fn a_client_takes_no_reply_to_another_nonce(rt: HostRuntime) {
+    assert!(rt; is_for_another(&rt, rt.alloc(), NONCE + 1));
 }

@@ -3,7 +3,7 @@
 use cx_base::{Access, Blob, Duplicate, Operation, Text};
 use cx_caps::{CapRefusal, CapText, Permitted};
 use std::alloc::Global;
-use std::test::Fail;
+use std::process::Abort;
 
 /// Where an object is.
 struct Place {
@@ -105,101 +105,130 @@ static IMAGE_ROWS: [Row; 6] = [
     ("allow r object_prefix object_prefix", "r"),
 ];
 
-fn operation(alloc: Global, access: Access, pool: &[u8], at: &Place) -> Result<Operation, Fail> {
-    Ok(Operation {
+fn blob(rt: &impl Abort, alloc: Global, bytes: &[u8]) -> Blob {
+    Blob::of(alloc, bytes).expect(rt, "memory is ample")
+}
+
+fn text(rt: &impl Abort, alloc: Global, bytes: &[u8]) -> Text {
+    Text::of(alloc, bytes).expect(rt, "ASCII")
+}
+
+fn operation(rt: &impl Abort, alloc: Global, access: Access, pool: &[u8], at: &Place) -> Operation {
+    Operation {
         access,
-        pool: Text::of(alloc, pool)?,
-        namespace: Text::of(alloc, at.namespace.as_bytes())?,
-        object: Text::of(alloc, at.object.as_bytes())?,
+        pool: text(rt, alloc, pool),
+        namespace: text(rt, alloc, at.namespace.as_bytes()),
+        object: text(rt, alloc, at.object.as_bytes()),
         bytes: Blob::new(alloc),
-    })
+    }
 }
 
 /// An operation on the object at this place.
-fn operation_at(alloc: Global, access: Access, at: &Place) -> Result<Operation, Fail> {
-    operation(alloc, access, at.pool.as_bytes(), at)
+fn operation_at(rt: &impl Abort, alloc: Global, access: Access, at: &Place) -> Operation {
+    operation(rt, alloc, access, at.pool.as_bytes(), at)
 }
 
-fn caps(alloc: Global, text: &[u8]) -> Result<CapText, Fail> {
-    Ok(CapText::read(alloc, &Text::of(alloc, text)?)?)
+/// What is read of these bytes as a capability text.
+fn read(rt: &impl Abort, alloc: Global, bytes: &[u8]) -> Result<CapText, CapRefusal> {
+    CapText::read(alloc, &text(rt, alloc, bytes))
+}
+
+fn caps(rt: &impl Abort, alloc: Global, bytes: &[u8]) -> CapText {
+    read(rt, alloc, bytes).expect(rt, "a capability text")
+}
+
+fn allows(rt: &impl Abort, alloc: Global, bytes: &[u8], ask: &Operation) -> bool {
+    caps(rt, alloc, bytes).allows(ask)
+}
+
+fn has(letters: &str, letter: char) -> bool {
+    letters.contains(letter)
 }
 
 /// Whether a text allows this access, which has this letter, to the object at this place as its row says.
 fn is_right(
+    rt: &impl Abort,
     alloc: Global,
     row: &Row,
     access: Access,
     letter: char,
     at: &Place,
-) -> Result<bool, Fail> {
-    let (text, letters) = *row;
-    let allows = caps(alloc, text.as_bytes())?.allows(&operation_at(alloc, access, at)?);
-    Ok(allows == letters.contains(letter))
+) -> bool {
+    let ask = operation_at(rt, alloc, access, at);
+    allows(rt, alloc, row.0.as_bytes(), &ask) == has(row.1, letter)
 }
 
-fn is_row_right(alloc: Global, row: &Row, at: &Place) -> Result<bool, Fail> {
-    Ok(
-        is_right(alloc, row, Access::Read, 'r', at)?
-            && is_right(alloc, row, Access::Write, 'w', at)?
-            && is_right(alloc, row, Access::Exec, 'x', at)?,
+fn is_row_right(rt: &impl Abort, alloc: Global, row: &Row, at: &Place) -> bool {
+    is_right(rt, alloc, row, Access::Read, 'r', at)
+        && is_right(rt, alloc, row, Access::Write, 'w', at)
+        && is_right(rt, alloc, row, Access::Exec, 'x', at)
+}
+
+/// Each row is right for the object at this place.
+fn expect_rows(rt: &impl Abort, alloc: Global, rows: &[Row], at: &Place) {
+    for row in rows {
+        assert!(rt; is_row_right(rt, alloc, row, at), "{}", row.0);
+    }
+}
+
+#[test]
+fn a_clause_of_the_grammar_grants_and_no_other_does(rt: HostRuntime) {
+    expect_rows(&rt, rt.alloc(), &DISK_ROWS, &DISK);
+    expect_rows(&rt, rt.alloc(), &IMAGE_ROWS, &IMAGE);
+}
+
+fn append(rt: &impl Abort, alloc: Global, all: &mut Blob, letter: u8) {
+    all.append(alloc, &[letter]).expect(rt, "memory is ample");
+}
+
+/// So many times this letter behind a text.
+fn longer(rt: &impl Abort, alloc: Global, text: &[u8], letter: u8, count: usize) -> Blob {
+    let mut all = blob(rt, alloc, text);
+    for _ in 0..count {
+        append(rt, alloc, &mut all, letter);
+    }
+    all
+}
+
+/// Whether a text allows a read in this pool.
+fn allows_in(rt: &impl Abort, alloc: Global, text: &[u8], pool: &[u8]) -> bool {
+    let ask = operation(rt, alloc, Access::Read, pool, &DISK);
+    allows(rt, alloc, text, &ask)
+}
+
+/// Whether a pool with a name of so many letters is allowed by that name.
+fn allows_pool_of(rt: &impl Abort, alloc: Global, count: usize) -> bool {
+    let text = longer(rt, alloc, b"allow r pool=", b'z', count);
+    let pool = longer(rt, alloc, b"", b'z', count);
+    allows_in(rt, alloc, text.bytes(), pool.bytes())
+}
+
+#[test]
+fn a_word_has_at_most_255_bytes(rt: HostRuntime) {
+    assert!(rt; allows_pool_of(&rt, rt.alloc(), 255));
+    assert!(rt; !allows_pool_of(&rt, rt.alloc(), 256));
+}
+
+/// Why bytes are no capability text.
+fn refusal(rt: &impl Abort, alloc: Global, bytes: &[u8]) -> Option<CapRefusal> {
+    read(rt, alloc, bytes).err()
+}
+
+fn refusal_of_spaces(rt: &impl Abort, alloc: Global, count: usize) -> Option<CapRefusal> {
+    refusal(rt, alloc, longer(rt, alloc, b"", b' ', count).bytes())
+}
+
+fn is_too_long(rt: &impl Abort, alloc: Global, count: usize) -> bool {
+    matches!(
+        refusal_of_spaces(rt, alloc, count),
+        Some(CapRefusal::TooLong)
     )
 }
 
 #[test]
-fn a_clause_of_the_grammar_grants_and_no_other_does(rt: HostRuntime) -> Result<(), Fail> {
-    for row in &DISK_ROWS {
-        assert!(rt; is_row_right(rt.alloc(), row, &DISK)?, "{}", row.0);
-    }
-    for row in &IMAGE_ROWS {
-        assert!(rt; is_row_right(rt.alloc(), row, &IMAGE)?, "{}", row.0);
-    }
-    Ok(())
-}
-
-/// So many times this letter behind a text.
-fn longer(alloc: Global, text: &[u8], letter: u8, count: usize) -> Result<Blob, Fail> {
-    let mut all = Blob::of(alloc, text)?;
-    for _ in 0..count {
-        all.append(alloc, &[letter])?;
-    }
-    Ok(all)
-}
-
-/// Whether a text allows a read in this pool.
-fn allows_in(alloc: Global, text: &[u8], pool: &[u8]) -> Result<bool, Fail> {
-    let ask = operation(alloc, Access::Read, pool, &DISK)?;
-    Ok(caps(alloc, text)?.allows(&ask))
-}
-
-/// Whether a pool with a name of so many letters is allowed by that name.
-fn allows_pool_of(alloc: Global, count: usize) -> Result<bool, Fail> {
-    let text = longer(alloc, b"allow r pool=", b'z', count)?;
-    let pool = longer(alloc, b"", b'z', count)?;
-    allows_in(alloc, text.bytes(), pool.bytes())
-}
-
-#[test]
-fn a_word_has_at_most_255_bytes(rt: HostRuntime) -> Result<(), Fail> {
-    assert!(rt; allows_pool_of(rt.alloc(), 255)?);
-    assert!(rt; !allows_pool_of(rt.alloc(), 256)?);
-    Ok(())
-}
-
-/// Why bytes are no capability text.
-fn refusal(alloc: Global, bytes: &[u8]) -> Result<Option<CapRefusal>, Fail> {
-    Ok(CapText::read(alloc, &Text::of(alloc, bytes)?).err())
-}
-
-fn refusal_of_spaces(alloc: Global, count: usize) -> Result<Option<CapRefusal>, Fail> {
-    refusal(alloc, longer(alloc, b"", b' ', count)?.bytes())
-}
-
-#[test]
-fn a_text_has_at_most_4096_bytes(rt: HostRuntime) -> Result<(), Fail> {
-    assert!(rt; refusal_of_spaces(rt.alloc(), 4096)?.is_none());
-    let too_long = refusal_of_spaces(rt.alloc(), 4097)?;
-    assert!(rt; matches!(too_long, Some(CapRefusal::TooLong)));
-    Ok(())
+fn a_text_has_at_most_4096_bytes(rt: HostRuntime) {
+    assert!(rt; refusal_of_spaces(&rt, rt.alloc(), 4096).is_none());
+    assert!(rt; is_too_long(&rt, rt.alloc(), 4097));
 }
 
 /// A text, and the place of its first byte that no capability text has.
@@ -213,54 +242,53 @@ static BAD_TEXTS: [BadText; 5] = [
     (b"allow r\x7f", 7),
 ];
 
-fn is_bad_at(alloc: Global, row: &BadText) -> Result<bool, Fail> {
+fn is_bad_at(rt: &impl Abort, alloc: Global, row: &BadText) -> bool {
     let (text, place) = *row;
-    Ok(matches!(refusal(alloc, text)?, Some(CapRefusal::BadByte(found)) if found == place))
+    match refusal(rt, alloc, text) {
+        Some(CapRefusal::BadByte(found)) => found == place,
+        _ => false,
+    }
 }
 
 #[test]
-fn a_text_is_refused_at_its_first_byte_that_is_none_of_its_own(
-    rt: HostRuntime,
-) -> Result<(), Fail> {
+fn a_text_is_refused_at_its_first_byte_that_is_none_of_its_own(rt: HostRuntime) {
     for row in &BAD_TEXTS {
-        assert!(rt; is_bad_at(rt.alloc(), row)?, "{:?}", row.0);
+        assert!(rt; is_bad_at(&rt, rt.alloc(), row), "{:?}", row.0);
     }
-    Ok(())
 }
 
 /// A read of `DISK`, permitted by a text.
-fn permitted(alloc: Global, text: &[u8]) -> Result<Option<Permitted>, Fail> {
-    let ask = operation_at(alloc, Access::Read, &DISK)?;
-    Ok(caps(alloc, text)?.permit(ask).ok())
+fn permitted(rt: &impl Abort, alloc: Global, text: &[u8]) -> Permitted {
+    let ask = operation_at(rt, alloc, Access::Read, &DISK);
+    caps(rt, alloc, text).permit(ask).expect(rt, "allowed")
 }
 
-/// The object of a permitted operation, which is copied and given out.
-fn object_of(alloc: Global, permitted: &Permitted) -> Result<Text, Fail> {
-    Ok(permitted.copy(alloc)?.into_operation().object)
+fn is_in_pool(permitted: &Permitted, pool: &[u8]) -> bool {
+    permitted.operation().pool.bytes() == pool
+}
+
+/// Whether a permitted operation, which is copied and given out, is one on this object.
+fn is_on_object(rt: &impl Abort, alloc: Global, permitted: &Permitted, object: &[u8]) -> bool {
+    let copied = permitted.copy(alloc).expect(rt, "memory is ample");
+    copied.into_operation().object.bytes() == object
 }
 
 #[test]
-fn an_allowed_operation_is_permitted_and_given_out_again(rt: HostRuntime) -> Result<(), Fail> {
-    let permitted = permitted(rt.alloc(), b"allow r pool=rbd")?.ok_or("it is denied")?;
-    assert!(rt; permitted.operation().pool.bytes() == b"rbd".as_slice());
-    assert!(rt; object_of(rt.alloc(), &permitted)?.bytes() == b"disk.1".as_slice());
-    Ok(())
+fn an_allowed_operation_is_permitted_and_given_out_again(rt: HostRuntime) {
+    let permitted = permitted(&rt, rt.alloc(), b"allow r pool=rbd");
+    assert!(rt; is_in_pool(&permitted, b"rbd"));
+    assert!(rt; is_on_object(&rt, rt.alloc(), &permitted, b"disk.1"));
 }
 
 /// How many clauses a text has that permits no write.
-fn clauses_of_denied(alloc: Global, text: &[u8]) -> Result<Option<u32>, Fail> {
-    let ask = operation_at(alloc, Access::Write, &DISK)?;
-    Ok(
-        caps(alloc, text)?
-            .permit(ask)
-            .err()
-            .map(|denied| denied.clauses),
-    )
+fn clauses_of_denied(rt: &impl Abort, alloc: Global, text: &[u8]) -> u32 {
+    let ask = operation_at(rt, alloc, Access::Write, &DISK);
+    let answer = caps(rt, alloc, text).permit(ask);
+    answer.expect_err(rt, "denied").clauses
 }
 
 #[test]
-fn a_denied_operation_comes_back_with_the_number_of_clauses(rt: HostRuntime) -> Result<(), Fail> {
-    let denied = clauses_of_denied(rt.alloc(), b"allow r pool=rbd,allow w pool=vms,")?;
-    assert!(rt; denied == Some(3));
-    Ok(())
+fn a_denied_operation_comes_back_with_the_number_of_clauses(rt: HostRuntime) {
+    let text = b"allow r pool=rbd,allow w pool=vms,";
+    assert!(rt; clauses_of_denied(&rt, rt.alloc(), text) == 3);
 }

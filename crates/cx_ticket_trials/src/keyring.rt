@@ -1,12 +1,12 @@
 //! Keyrings: that the definitions are a keyring's, and each call once.
 
-use cx_base::{Duplicate, EntityName, EntityType, Items, Text};
+use cx_base::{Blob, Duplicate, EntityName, EntityType, Items, Text};
 use cx_enc::{Key, Time};
 use cx_keyring::{
     AddRefusal, Entry, Keyring, KeyringFault, KeyringRefusal, MOST_ENTRIES, parse, print,
 };
 use std::alloc::Global;
-use std::test::Fail;
+use std::process::Abort;
 
 /// A key of time 0 whose bytes are 0 to 15.
 const KEY: &str = "AQAAAAAAAAAAABAAAAECAwQFBgcICQoLDA0ODw==";
@@ -35,24 +35,37 @@ static KEYRINGS: [Printed; 6] = [
     ),
 ];
 
-fn read(alloc: Global, text: &str) -> Result<Keyring, Fail> {
-    let text = text.replace(alloc, "KEY", KEY)?;
-    Ok(parse(alloc, text.as_bytes())?)
+fn with_key(rt: &impl Abort, alloc: Global, text: &str) -> String {
+    text.replace(alloc, "KEY", KEY)
+        .expect(rt, "memory is ample")
 }
 
-fn is_printed(alloc: Global, row: &Printed) -> Result<bool, Fail> {
-    let (text, printed) = *row;
-    let wanted = printed.replace(alloc, "KEY", KEY)?;
-    let ring = read(alloc, text)?;
-    Ok(print(alloc, &ring)?.bytes() == wanted.as_bytes())
+/// What is read of a text, without what the contract says of it.
+fn parsed(alloc: Global, text: &str) -> Result<Keyring, KeyringRefusal> {
+    parse(alloc, text.as_bytes())
+}
+
+fn read(rt: &impl Abort, alloc: Global, text: &str) -> Keyring {
+    parsed(alloc, &with_key(rt, alloc, text)).expect(rt, "a keyring")
+}
+
+/// The printed form of what is read of a text.
+fn printed(rt: &impl Abort, alloc: Global, text: &str) -> Blob {
+    let ring = read(rt, alloc, text);
+    print(alloc, &ring).expect(rt, "memory is ample")
+}
+
+fn is_printed(rt: &impl Abort, alloc: Global, row: &Printed) -> bool {
+    let printed = printed(rt, alloc, row.0);
+    let wanted = with_key(rt, alloc, row.1);
+    printed.bytes() == wanted.as_bytes()
 }
 
 #[test]
-fn keyrings_are_printed_in_one_form(rt: HostRuntime) -> Result<(), Fail> {
+fn keyrings_are_printed_in_one_form(rt: HostRuntime) {
     for row in &KEYRINGS {
-        assert!(rt; is_printed(rt.alloc(), row)?, "{}", row.0);
+        assert!(rt; is_printed(&rt, rt.alloc(), row), "{}", row.0);
     }
-    Ok(())
 }
 
 /// A file, the number of its first line that is wrong, and that line's fault. `KEY` stands for a key.
@@ -186,123 +199,134 @@ static BAD_FILES: [Bad; 33] = [
     ),
 ];
 
-fn refusal(alloc: Global, text: &str) -> Result<Option<KeyringRefusal>, Fail> {
-    let text = text.replace(alloc, "KEY", KEY)?;
-    Ok(parse(alloc, text.as_bytes()).err())
+fn refusal(rt: &impl Abort, alloc: Global, text: &str) -> Option<KeyringRefusal> {
+    parsed(alloc, &with_key(rt, alloc, text)).err()
 }
 
-fn is_bad(alloc: Global, row: &Bad) -> Result<bool, Fail> {
+fn is_bad(rt: &impl Abort, alloc: Global, row: &Bad) -> bool {
     let (text, number, fault) = *row;
-    match refusal(alloc, text)? {
-        Some(KeyringRefusal::BadLine { line, why }) => Ok(line == number && why == fault),
-        _ => Ok(false),
+    match refusal(rt, alloc, text) {
+        Some(KeyringRefusal::BadLine { line, why }) => line == number && why == fault,
+        _ => false,
     }
 }
 
 #[test]
-fn the_first_line_that_is_wrong_is_named_with_its_first_fault(rt: HostRuntime) -> Result<(), Fail> {
+fn the_first_line_that_is_wrong_is_named_with_its_first_fault(rt: HostRuntime) {
     for row in &BAD_FILES {
-        assert!(rt; is_bad(rt.alloc(), row)?, "{}", row.0);
+        assert!(rt; is_bad(&rt, rt.alloc(), row), "{}", row.0);
     }
-    Ok(())
+}
+
+fn put_section(rt: &impl Abort, text: &mut String, id: usize) {
+    let written = write!(text, "[client.{}]\nkey = {}\n", id, KEY);
+    written.expect(rt, "memory is ample");
 }
 
 /// So many sections, each with its key.
-fn sections(alloc: Global, count: usize) -> Result<String, Fail> {
+fn sections(rt: &impl Abort, alloc: Global, count: usize) -> String {
     let mut text = String::new(alloc);
-    for i in 0..count {
-        write!(text, "[client.{}]\nkey = {}\n", i, KEY)?;
+    for id in 0..count {
+        put_section(rt, &mut text, id);
     }
-    Ok(text)
+    text
 }
 
-fn name(alloc: Global, id: &str) -> Result<EntityName, Fail> {
-    Ok(EntityName::new(EntityType::Client, Text::of(alloc, id.as_bytes())?)?)
+fn name(rt: &impl Abort, alloc: Global, id: &str) -> EntityName {
+    let id = Text::of(alloc, id.as_bytes()).expect(rt, "ASCII");
+    EntityName::new(EntityType::Client, id).expect(rt, "a name")
 }
 
-fn has(alloc: Global, ring: &Keyring, id: &str) -> Result<bool, Fail> {
-    Ok(ring.find(&name(alloc, id)?).is_some())
+fn has(rt: &impl Abort, alloc: Global, ring: &Keyring, id: &str) -> bool {
+    ring.find(&name(rt, alloc, id)).is_some()
+}
+
+fn is_refused_for_4096(rt: &impl Abort, alloc: Global, text: &str) -> bool {
+    matches!(
+        refusal(rt, alloc, text),
+        Some(KeyringRefusal::TooMany(4096))
+    )
 }
 
 #[test]
-fn a_keyring_has_4096_sections(rt: HostRuntime) -> Result<(), Fail> {
+fn a_keyring_has_4096_sections(rt: HostRuntime) {
     let alloc = rt.alloc();
-    let ring = read(alloc, &sections(alloc, MOST_ENTRIES)?)?;
-    assert!(rt; has(alloc, &ring, "4095")?);
-    let refused = refusal(alloc, &sections(alloc, MOST_ENTRIES + 1)?)?;
-    assert!(rt; matches!(refused, Some(KeyringRefusal::TooMany(4096))));
-    Ok(())
+    let ring = read(&rt, alloc, &sections(&rt, alloc, MOST_ENTRIES));
+    assert!(rt; has(&rt, alloc, &ring, "4095"));
+    let longer = sections(&rt, alloc, MOST_ENTRIES + 1);
+    assert!(rt; is_refused_for_4096(&rt, alloc, &longer));
+}
+
+fn put(rt: &impl Abort, text: &mut String, piece: &str) {
+    text.push_str(piece).expect(rt, "memory is ample");
 }
 
 /// A keyring of one entity with caps of so many bytes.
-fn with_caps_of(alloc: Global, count: usize) -> Result<String, Fail> {
-    let mut text = format!(in alloc; "[client.a]\nkey = {}\ncaps osd = ", KEY)?;
+fn with_caps_of(rt: &impl Abort, alloc: Global, count: usize) -> String {
+    let mut text = with_key(rt, alloc, "[client.a]\nkey = KEY\ncaps osd = ");
     for _ in 0..count {
-        text.push_str("x")?;
+        put(rt, &mut text, "x");
     }
-    Ok(text)
+    text
 }
 
 #[test]
-fn a_capability_text_has_4096_bytes(rt: HostRuntime) -> Result<(), Fail> {
+fn a_capability_text_has_4096_bytes(rt: HostRuntime) {
     let alloc = rt.alloc();
-    let ring = read(alloc, &with_caps_of(alloc, 4096)?)?;
-    assert!(rt; print(alloc, &ring)?.bytes().len() == 4170);
-    assert!(rt; refusal(alloc, &with_caps_of(alloc, 4097)?)?.is_some());
-    Ok(())
+    let text = with_caps_of(&rt, alloc, 4096);
+    assert!(rt; printed(&rt, alloc, &text).bytes().len() == 4170);
+    let longer = with_caps_of(&rt, alloc, 4097);
+    assert!(rt; refusal(&rt, alloc, &longer).is_some());
 }
 
-/// Adds an entry without caps; the refusal, if it is refused.
-fn add(alloc: Global, ring: &mut Keyring, id: &str) -> Result<Option<AddRefusal>, Fail> {
+/// Adds an entry without caps.
+fn add(alloc: Global, ring: &mut Keyring, name: EntityName) -> Result<(), AddRefusal> {
     let key = Key {
         created: Time { secs: 5, nanos: 6 },
         secret: [7; 16],
     };
-    let entry = Entry {
-        name: name(alloc, id)?,
-        key,
-        caps: Items::new(alloc),
-    };
-    Ok(ring.add(alloc, entry).err())
+    let caps = Items::new(alloc);
+    ring.add(alloc, Entry { name, key, caps })
+}
+
+fn add_number(rt: &impl Abort, alloc: Global, ring: &mut Keyring, number: u32) {
+    let id = format!(in alloc; "{}", number).expect(rt, "memory is ample");
+    add(alloc, ring, name(rt, alloc, &id)).expect(rt, "the name is new");
 }
 
 /// A keyring of so many entries.
-fn long_ring(alloc: Global, count: u32) -> Result<Option<Keyring>, Fail> {
+fn long_ring(rt: &impl Abort, alloc: Global, count: u32) -> Keyring {
     let mut ring = Keyring::empty(alloc);
-    for i in 0..count {
-        let id = format!(in alloc; "{}", i)?;
-        if add(alloc, &mut ring, &id)?.is_some() {
-            return Ok(None);
-        }
+    for number in 0..count {
+        add_number(rt, alloc, &mut ring, number);
     }
-    Ok(Some(ring))
+    ring
+}
+
+fn is_repeated(rt: &impl Abort, alloc: Global, ring: &mut Keyring, id: &str) -> bool {
+    let added = add(alloc, ring, name(rt, alloc, id));
+    matches!(added, Err(AddRefusal::Repeated(_)))
 }
 
 #[test]
-fn a_keyring_grows_past_65536_entries(rt: HostRuntime) -> Result<(), Fail> {
+fn a_keyring_grows_past_65536_entries(rt: HostRuntime) {
     let alloc = rt.alloc();
-    let ring = long_ring(alloc, 70_000)?;
-    let mut ring = ring.ok_or("an entry was refused")?;
-    assert!(rt; has(alloc, &ring, "69999")?);
-    assert!(rt; !has(alloc, &ring, "70000")?);
-    let refused = add(alloc, &mut ring, "69999")?;
-    assert!(rt; matches!(refused, Some(AddRefusal::Repeated(_))));
-    Ok(())
+    let mut ring = long_ring(&rt, alloc, 70_000);
+    assert!(rt; has(&rt, alloc, &ring, "69999"));
+    assert!(rt; !has(&rt, alloc, &ring, "70000"));
+    assert!(rt; is_repeated(&rt, alloc, &mut ring, "69999"));
 }
 
-/// The entry of this keyring's one client, copied.
-fn copied(alloc: Global, ring: &Keyring) -> Result<Option<Entry>, Fail> {
-    match ring.find(&name(alloc, "a")?) {
-        Some(entry) => Ok(Some(entry.copy(alloc)?)),
-        None => Ok(None),
-    }
+/// How many caps the entry of this keyring's one client has, copied.
+fn caps_copied(rt: &impl Abort, alloc: Global, ring: &Keyring) -> usize {
+    let entry = ring.find(&name(rt, alloc, "a")).expect(rt, "an entry");
+    let copied = entry.copy(alloc).expect(rt, "memory is ample");
+    copied.caps.all().len()
 }
 
 #[test]
-fn an_entry_is_copied_with_its_caps(rt: HostRuntime) -> Result<(), Fail> {
+fn an_entry_is_copied_with_its_caps(rt: HostRuntime) {
     let alloc = rt.alloc();
-    let ring = read(alloc, "[client.a]\nkey = KEY\ncaps mon = allow r\n")?;
-    let copied = copied(alloc, &ring)?.ok_or("no entry")?;
-    assert!(rt; copied.caps.all().len() == 1);
-    Ok(())
+    let ring = read(&rt, alloc, "[client.a]\nkey = KEY\ncaps mon = allow r\n");
+    assert!(rt; caps_copied(&rt, alloc, &ring) == 1);
 }

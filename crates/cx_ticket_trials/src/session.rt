@@ -1,11 +1,9 @@
 //! Books of sessions and outboxes: a thousand calls against a plain list, numbers past 65,536, and each call once.
 
 use cx_base::{Access, Blob, EntityName, EntityType, Operation, Owner, Reading, Text};
-use cx_session::{
-    AdmitRefusal, BookCall, BookFault, BookReply, Outbox, QueueFault, SessionBook, book_laws,
-};
+use cx_session::{BookCall, BookFault, BookReply, Outbox, QueueFault, SessionBook, book_laws};
 use std::alloc::Global;
-use std::test::Fail;
+use std::process::Abort;
 
 #[derive(Drop)]
 struct Holder {
@@ -40,12 +38,17 @@ impl Owner for Holder {
     }
 }
 
-fn owned_by(alloc: Global, id: u8, gid: u64) -> Result<Holder, Fail> {
-    Ok(Holder {
-        entity: EntityName::new(EntityType::Client, Text::of(alloc, &[id])?)?,
+fn name(rt: &impl Abort, alloc: Global, id: u8) -> EntityName {
+    let id = Text::of(alloc, &[id]).expect(rt, "ASCII");
+    EntityName::new(EntityType::Client, id).expect(rt, "a name")
+}
+
+fn owned_by(rt: &impl Abort, alloc: Global, id: u8, gid: u64) -> Holder {
+    Holder {
+        entity: name(rt, alloc, id),
         gid,
         caps: Text::new(alloc),
-    })
+    }
 }
 
 // ---- a thousand calls
@@ -59,48 +62,55 @@ fn is_part_zero(bits: u64, from: u32, below: u64) -> u64 {
     u64::from(part(bits, from, below) == 0)
 }
 
-/// The owner whom these bits name, who mostly is the one of the client cookie.
-fn owner_of(alloc: Global, bits: u64) -> Result<Holder, Fail> {
+/// The id of the owner whom these bits name, who mostly is the one of the client cookie.
+fn owner_id(bits: u64) -> u8 {
     let cookie = part(bits, 4, 8);
     let odd = cookie.wrapping_add(is_part_zero(bits, 14, 8)) % 2 == 1;
-    owned_by(alloc, if odd { b'b' } else { b'a' }, 2)
+    if odd { b'b' } else { b'a' }
 }
 
-fn admission_of(alloc: Global, bits: u64) -> Result<BookCall<Holder>, Fail> {
+fn admission_of(owner: Holder, bits: u64) -> BookCall<Holder> {
     let cookie = part(bits, 4, 8);
-    Ok(BookCall::Admit {
-        owner: owner_of(alloc, bits)?,
+    BookCall::Admit {
+        owner,
         client_cookie: cookie,
         server_cookie: cookie.wrapping_add(100),
         global_seq: part(bits, 17, 4),
         lossy: part(bits, 22, 2) == 1,
-    })
+    }
 }
 
-fn resumption_of(alloc: Global, bits: u64) -> Result<BookCall<Holder>, Fail> {
+fn resumption_of(owner: Holder, bits: u64) -> BookCall<Holder> {
     let cookie = part(bits, 4, 8);
-    Ok(BookCall::Resume {
-        owner: owner_of(alloc, bits)?,
+    BookCall::Resume {
+        owner,
         client_cookie: cookie,
         server_cookie: cookie
             .wrapping_add(100)
             .wrapping_add(is_part_zero(bits, 6, 8)),
         global_seq: part(bits, 17, 4),
         connect_seq: part(bits, 19, 8),
-    })
+    }
 }
 
-/// The call that these bits make of a book whose newest session has this number.
-fn call_of(alloc: Global, bits: u64, newest: u64) -> Result<BookCall<Holder>, Fail> {
+/// The call that these bits make of a session of a book whose newest one has this number.
+fn call_by_number(bits: u64, newest: u64) -> BookCall<Holder> {
     let number = newest.saturating_sub(part(bits, 7, 8));
     let epoch = 1u64.wrapping_add(is_part_zero(bits, 10, 4));
     let seq = 1u64.wrapping_add(part(bits, 12, 4));
     match bits % 16 {
-        0 | 1 | 2 => admission_of(alloc, bits),
-        3 | 4 | 5 => resumption_of(alloc, bits),
-        6 => Ok(BookCall::Check { number, epoch, seq }),
-        15 => Ok(BookCall::End { number }),
-        _ => Ok(BookCall::Take { number, epoch, seq }),
+        6 => BookCall::Check { number, epoch, seq },
+        15 => BookCall::End { number },
+        _ => BookCall::Take { number, epoch, seq },
+    }
+}
+
+/// The call that these bits make of a book whose newest session has this number.
+fn call_of(rt: &impl Abort, alloc: Global, bits: u64, newest: u64) -> BookCall<Holder> {
+    match bits % 16 {
+        0 | 1 | 2 => admission_of(owned_by(rt, alloc, owner_id(bits), 2), bits),
+        3 | 4 | 5 => resumption_of(owned_by(rt, alloc, owner_id(bits), 2), bits),
+        _ => call_by_number(bits, newest),
     }
 }
 
@@ -146,67 +156,97 @@ fn digest_of_fault(digest: u64, fault: &BookFault) -> u64 {
     }
 }
 
+/// What a book answers, without what the contract says of it.
+fn answered(alloc: Global, book: &mut SessionBook<Holder>, call: BookCall<Holder>) -> BookReply {
+    book.answer(alloc, call)
+}
+
+/// The number of the newest session, which was this one before this reply.
+fn newest_after(newest: u64, reply: &BookReply) -> u64 {
+    match reply {
+        BookReply::Admitted { number, .. } => *number,
+        _ => newest,
+    }
+}
+
+/// The random number behind this one.
+fn next_random(state: u64) -> u64 {
+    state
+        .wrapping_mul(6364136223846793005)
+        .wrapping_add(1442695040888963407)
+}
+
 /// The digest of the answers to so many calls.
-fn digest_of_calls(alloc: Global, count: u32) -> Result<u64, Fail> {
+fn digest_of_calls(rt: &impl Abort, alloc: Global, count: u32) -> u64 {
     let mut book = SessionBook::new(alloc);
-    let mut state = 1u64;
+    let mut state = 1;
     let mut newest = 0;
     let mut digest = 0;
     for _ in 0..count {
-        state = state
-            .wrapping_mul(6364136223846793005)
-            .wrapping_add(1442695040888963407);
-        let reply = book.answer(alloc, call_of(alloc, state >> 33, newest)?);
-        if let BookReply::Admitted { number, .. } = &reply {
-            newest = *number;
-        }
+        state = next_random(state);
+        let call = call_of(rt, alloc, state >> 33, newest);
+        let reply = answered(alloc, &mut book, call);
+        newest = newest_after(newest, &reply);
         digest = digest_of(digest, &reply);
     }
-    Ok(digest)
+    digest
 }
 
 // The digest is that of bench/plain_book, which searches a list.
 #[test]
-fn a_thousand_calls_are_answered_as_by_a_plain_list(rt: HostRuntime) -> Result<(), Fail> {
-    assert!(rt; digest_of_calls(rt.alloc(), 1000)? == 18325724350778824468);
-    Ok(())
+fn a_thousand_calls_are_answered_as_by_a_plain_list(rt: HostRuntime) {
+    assert!(rt; digest_of_calls(&rt, rt.alloc(), 1000) == 18325724350778824468);
 }
 
 // ---- past round numbers
 
-/// The number that a session gets under this client cookie; none where it is refused.
+/// The number that a session of this owner gets under this client cookie; none where it is refused.
 fn admitted(
     alloc: Global,
     book: &mut SessionBook<Holder>,
+    owner: Holder,
     cookie: u64,
-) -> Result<Option<u64>, Fail> {
-    let owner = owned_by(alloc, b'a', 2)?;
-    Ok(
-        book.admit(alloc, owner, cookie, 9, 5, true)
-            .ok()
-            .map(|given| given.0),
-    )
+) -> Option<u64> {
+    match book.admit(alloc, owner, cookie, 9, 5, true) {
+        Ok((number, _)) => Some(number),
+        Err(_) => None,
+    }
+}
+
+/// Whether the session under this number as the client cookie gets it.
+fn is_admitted(
+    rt: &impl Abort,
+    alloc: Global,
+    book: &mut SessionBook<Holder>,
+    number: u64,
+) -> bool {
+    admitted(alloc, book, owned_by(rt, alloc, b'a', 2), number) == Some(number)
+}
+
+fn end(book: &mut SessionBook<Holder>, number: u64) {
+    book.end(number);
 }
 
 /// A book in which each number was given under itself as the cookie, from 1 to this one, while the last 4,096 live.
-fn full_book(alloc: Global, last: u64) -> Result<Option<SessionBook<Holder>>, Fail> {
+fn full_book(rt: &impl Abort, alloc: Global, last: u64) -> SessionBook<Holder> {
     let mut book = SessionBook::new(alloc);
     for number in 1..=last {
-        book.end(number.saturating_sub(4096));
-        if admitted(alloc, &mut book, number)? != Some(number) {
-            return Ok(None);
-        }
+        end(&mut book, number.saturating_sub(4096));
+        assert!(rt; is_admitted(rt, alloc, &mut book, number), "{number}");
     }
-    Ok(Some(book))
+    book
+}
+
+fn count(book: &SessionBook<Holder>) -> usize {
+    book.count()
 }
 
 #[test]
-fn at_most_4096_sessions_live(rt: HostRuntime) -> Result<(), Fail> {
-    let book = full_book(rt.alloc(), 70_000)?;
-    let mut book = book.ok_or("a session was refused, or had another number")?;
-    assert!(rt; book.count() == 4096);
-    assert!(rt; admitted(rt.alloc(), &mut book, 70_001)?.is_none());
-    Ok(())
+fn at_most_4096_sessions_live(rt: HostRuntime) {
+    let mut book = full_book(&rt, rt.alloc(), 70_000);
+    assert!(rt; count(&book) == 4096);
+    let owner = owned_by(&rt, rt.alloc(), b'a', 2);
+    assert!(rt; admitted(rt.alloc(), &mut book, owner, 70_001).is_none());
 }
 
 fn write(alloc: Global) -> Operation {
@@ -227,59 +267,88 @@ fn pushed(alloc: Global, outbox: &mut Outbox) -> Result<u64, QueueFault> {
     }
 }
 
+/// Whether an operation gets this number.
+fn is_pushed(alloc: Global, outbox: &mut Outbox, number: u64) -> bool {
+    match pushed(alloc, outbox) {
+        Ok(given) => given == number,
+        Err(_) => false,
+    }
+}
+
+fn acknowledge(outbox: &mut Outbox, seq: u64) {
+    outbox.acknowledge(seq);
+}
+
 /// An outbox in which operations got the numbers from 1 to this one, of which the last so many wait.
-fn outbox_of(alloc: Global, last: u64, waiting: u64) -> Option<Outbox> {
+fn outbox_of(rt: &impl Abort, alloc: Global, last: u64, waiting: u64) -> Outbox {
     let mut outbox = Outbox::new(alloc);
     for number in 1..=last {
-        outbox.acknowledge(number.saturating_sub(waiting));
-        if pushed(alloc, &mut outbox) != Ok(number) {
-            return None;
-        }
+        acknowledge(&mut outbox, number.saturating_sub(waiting));
+        assert!(rt; is_pushed(alloc, &mut outbox, number), "{number}");
     }
-    Some(outbox)
+    outbox
+}
+
+fn is_full(alloc: Global, outbox: &mut Outbox) -> bool {
+    matches!(
+        pushed(alloc, outbox),
+        Err(QueueFault::QueueFull { limit: 1024 })
+    )
 }
 
 #[test]
-fn at_most_1024_operations_wait(rt: HostRuntime) -> Result<(), Fail> {
-    let outbox = outbox_of(rt.alloc(), 1024, 1024);
-    let mut outbox = outbox.ok_or("an operation was refused, or had another number")?;
-    let full = QueueFault::QueueFull { limit: 1024 };
-    assert!(rt; pushed(rt.alloc(), &mut outbox) == Err(full));
-    Ok(())
+fn at_most_1024_operations_wait(rt: HostRuntime) {
+    let mut outbox = outbox_of(&rt, rt.alloc(), 1024, 1024);
+    assert!(rt; is_full(rt.alloc(), &mut outbox));
+}
+
+fn waiting(outbox: &Outbox) -> usize {
+    outbox.waiting().len()
 }
 
 #[test]
-fn operations_are_counted_past_65536(rt: HostRuntime) -> Result<(), Fail> {
-    let outbox = outbox_of(rt.alloc(), 70_000, 2);
-    let outbox = outbox.ok_or("an operation was refused, or had another number")?;
-    assert!(rt; outbox.waiting().len() == 2);
-    Ok(())
+fn operations_are_counted_past_65536(rt: HostRuntime) {
+    let outbox = outbox_of(&rt, rt.alloc(), 70_000, 2);
+    assert!(rt; waiting(&outbox) == 2);
 }
 
 // ---- the calls of which an admission and a resumption are made
 
 /// A book with a session of one client cookie, and room for one of another.
-fn ready_book(alloc: Global) -> Result<SessionBook<Holder>, Fail> {
+fn ready_book(rt: &impl Abort, alloc: Global) -> SessionBook<Holder> {
     let mut book = SessionBook::new(alloc);
-    admitted(alloc, &mut book, 7)?;
-    book.reserve(8)?;
-    Ok(book)
+    admitted(alloc, &mut book, owned_by(rt, alloc, b'a', 2), 7);
+    book.reserve(8).expect(rt, "memory is ample");
+    book
 }
 
-/// The global id of the owner who is given back where a client cookie is admitted a second time.
-fn given_back(alloc: Global, book: &mut SessionBook<Holder>) -> Result<Option<u64>, Fail> {
-    match book.admit(alloc, owned_by(alloc, b'a', 3)?, 7, 9, 5, false) {
-        Ok(_) => Ok(None),
-        Err(AdmitRefusal { owner, .. }) => Ok(Some(owner.gid)),
+/// The number and the epoch that a session would get under this client cookie.
+fn would_get(book: &SessionBook<Holder>, cookie: u64) -> Option<(u64, u64)> {
+    book.admit_reply(cookie).ok()
+}
+
+/// The global id of the owner who is given back where this one's client cookie is admitted a second time.
+fn given_back(alloc: Global, book: &mut SessionBook<Holder>, owner: Holder) -> Option<u64> {
+    match book.admit(alloc, owner, 7, 9, 5, false) {
+        Ok(_) => None,
+        Err(refusal) => Some(refusal.owner.gid),
     }
 }
 
-#[test]
-fn room_is_reserved_and_an_owner_is_given_back(rt: HostRuntime) -> Result<(), Fail> {
-    let mut book = ready_book(rt.alloc())?;
-    assert!(rt; book.admit_reply(8) == Ok((2, 1)));
-    assert!(rt; given_back(rt.alloc(), &mut book)? == Some(3));
-    assert!(rt; book.owner(1).is_some());
+fn has_owner(book: &SessionBook<Holder>, number: u64) -> bool {
+    book.owner(number).is_some()
+}
+
+fn laws() {
     book_laws::<Holder>();
-    Ok(())
+}
+
+#[test]
+fn room_is_reserved_and_an_owner_is_given_back(rt: HostRuntime) {
+    let mut book = ready_book(&rt, rt.alloc());
+    assert!(rt; would_get(&book, 8) == Some((2, 1)));
+    let other = owned_by(&rt, rt.alloc(), b'a', 3);
+    assert!(rt; given_back(rt.alloc(), &mut book, other) == Some(3));
+    assert!(rt; has_owner(&book, 1));
+    laws();
 }
