@@ -1,18 +1,14 @@
 //! The program `cephx_cli`: the top call over the words of the command line, standard input and standard output.
 #![tactic(auto)]
 
-mod streams;
-#[cfg(test)]
-mod tests;
-
 use cx_base::{Access, Blob};
 use cx_caps::Permitted;
 use cx_desk::Desk;
+use cx_edge::{Input, Output};
 use cx_top::{Status, run};
 use std::alloc::{AllocError, Global};
 use std::process::ExitCode;
 use std::{env, io};
-use streams::{Input, Output};
 
 fn main(rt: HostRuntime) -> ExitCode {
     let status = match words(&rt) {

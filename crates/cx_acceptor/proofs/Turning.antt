@@ -73,14 +73,13 @@ behind link f len = record { keys = keys_behind link.keys f; ahead = drop len li
 abbrev opening : List SealEntry → MonitorRow → Turned Monitor MonitorStage
 opening opened row = Handles (with_opened opened row)
 
-pub signature_turns : (own : Monitor) (at : Moment) (old : Signing) (entity : Entity) (link : SecureWire) (f : Frame) (opened : List SealEntry)
+pub signature_turns : (own : Monitor) (at : Moment) (old new : Signing) (entity : Entity) (f : Frame) (opened : List SealEntry)
     (read : Result AuthSignature BytesFault) (row back : Made Stage)
-    → TakesSecure old.link link f [] opened → read ≡ payload.due 7 auth_signature_layout.form f
-    → made_row own at.number row ≡ due (on_signature (arrived own at (awaiting_signature at.number (record old { link = link }) entity))
-    (secured_of (record old { link = link })) entity read)
+    → TakesSecure old.link new.link f [] opened → new ≡ record old { link = new.link } → read ≡ payload.due 7 auth_signature_layout.form f
+    → made_row own at.number row ≡ due (on_signature (arrived own at (awaiting_signature at.number new entity)) (secured_of new) entity read)
     → back ≡ behind_opened opened row
     → Turns own at (awaiting_signature at.number old entity) own (made.Handles back)
-signature_turns own at old entity link f opened read row back t r m b =
+signature_turns own at old new entity f opened read row back t same r m b =
     let next : Signing = record old { link = behind old.link f t.len } in
     let h : Coming = record {
       a = arrived own at (awaiting_signature at.number old entity);
@@ -90,7 +89,8 @@ signature_turns own at old entity link f opened read row back t r m b =
       stage = AwaitsSignature (secured_of old) entity;
       next = AwaitsSignature (secured_of next) entity;
     } in
-    let k = rw (t.behind, r) at m in
+    let is_next : new ≡ next = same ∙ ap (λ (link : SecureWire). record old { link = link }) t.behind in
+    let k = rw (is_next, r) at m in
     let none : 0 + t.len ≡ t.len = omega arith in
     record {
       made = rw (b, t.opened, t.front, none) (ap (opening (opened_parts (secure_ahead old.link)))

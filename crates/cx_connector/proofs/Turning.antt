@@ -65,14 +65,13 @@ behind link f len = record { keys = keys_behind link.keys f; ahead = drop len li
 abbrev opening : List SealEntry → AskerRow → Turned Asker Stage
 opening opened row = Handles (with_opened opened row)
 
-pub signature_turns : (asker : Asker) (at : Moment) (old : Signing) (login : Login) (link : SecureWire) (f : Frame) (opened : List SealEntry)
+pub signature_turns : (asker : Asker) (at : Moment) (old new : Signing) (login : Login) (f : Frame) (opened : List SealEntry)
     (read : Result AuthSignature BytesFault) (row back : RowMade)
-    → TakesSecure old.link link f [] opened → read ≡ payload.due 7 auth_signature_layout.form f
-    → row_of asker at.number row ≡ due (on_signature (arrived asker at (awaiting_signature at.number (record old { link = link }) login))
-    (secured_of (record old { link = link })) login read)
+    → TakesSecure old.link new.link f [] opened → new ≡ record old { link = new.link } → read ≡ payload.due 7 auth_signature_layout.form f
+    → row_of asker at.number row ≡ due (on_signature (arrived asker at (awaiting_signature at.number new login)) (secured_of new) login read)
     → back ≡ record row { row = behind_opened opened row.row }
     → Turns asker at (awaiting_signature at.number old login) (made.Handles back)
-signature_turns asker at old login link f opened read row back t r m b =
+signature_turns asker at old new login f opened read row back t same r m b =
     let next : Signing = record old { link = behind old.link f t.len } in
     let h : Coming = record {
       a = arrived asker at (awaiting_signature at.number old login);
@@ -82,7 +81,8 @@ signature_turns asker at old login link f opened read row back t r m b =
       stage = AwaitsSignature (secured_of old) login;
       next = AwaitsSignature (secured_of next) login;
     } in
-    let k = rw (t.behind, r) at m in
+    let is_next : new ≡ next = same ∙ ap (λ (link : SecureWire). record old { link = link }) t.behind in
+    let k = rw (is_next, r) at m in
     let none : 0 + t.len ≡ t.len = omega arith in
     record {
       made = rw (b, t.opened, t.front, none) (ap (opening (opened_parts (secure_ahead old.link)))

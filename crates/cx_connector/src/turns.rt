@@ -128,29 +128,12 @@ fn signature_turn(
 ) -> Result<Turned, AllocError>
     ensures { IfOk result (Turns asker.now at.now (awaiting_signature at.now.number signing login)) }
 {
-    let Signing {
-        link,
-        session,
-        covered,
-    } = signing;
     let mut opened = Items::new(alloc);
-    match link.turn(alloc, &mut opened)? {
-        LinkTurn::Waits(link) => {
-            let signing = Signing {
-                link,
-                session,
-                covered,
-            };
-            Ok(Turned::Waits(Stage::AwaitsSignature(signing, login)))
-        }
+    match signing.turn(alloc, &mut opened)? {
+        LinkTurn::Waits(signing) => Ok(Turned::Waits(Stage::AwaitsSignature(signing, login))),
         LinkTurn::Refuses(why) => Ok(Turned::Refuses(why, opened)),
-        LinkTurn::Takes(link, frame) => {
+        LinkTurn::Takes(signing, frame) => {
             let found = due::<AuthSignature>(alloc, 7, &frame)?;
-            let signing = Signing {
-                link,
-                session,
-                covered,
-            };
             let row = on_signature(alloc, asker, at, signing, login, found)?;
             Ok(Turned::Handles(with_opened(alloc, opened, row)?))
         }

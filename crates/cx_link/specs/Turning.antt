@@ -12,6 +12,7 @@ use Rattle.cx_steps.specs.declared.seals.SealEntry.{SealEntry}
 use Rattle.cx_stream.specs.PlainStreams.{plain_frame_at}
 use Rattle.cx_stream.specs.SecureStreams.{secure_frame_at}
 use Rattle.cx_link.specs.Wires.{SecureWire, Wire, ahead_in, secure_ahead}
+use Rattle.cx_link.specs.declared.links.Signing.{Signing}
 use Rattle.cx_link.specs.declared.turns.BannerTurn.{BannerTurn}
 use Rattle.cx_link.specs.declared.turns.BannerTurn.TheVariants as banner
 use Rattle.cx_link.specs.declared.turns.LinkTurn.{LinkTurn}
@@ -73,3 +74,9 @@ abbrev pub SecureTurns : SecureWire → List SealEntry → List SealEntry → Li
 SecureTurns old before after (Waits new) = (secure_frame_at (secure_ahead old) ≡ Ok None) × (new ≡ old) × (after ≡ before)
 SecureTurns old before after (Takes new f) = TakesSecure old new f before after
 SecureTurns old before after (Refuses why) = RefusesSecure old why before after
+
+-- a link that awaits a signature turns as any secured one; what signs, and what the signature has to cover, stay
+abbrev pub SigningTurns : Signing → List SealEntry → List SealEntry → LinkTurn Signing → Type 0
+SigningTurns old before after (Waits new) = SecureTurns old.link before after (Waits new.link) × (new ≡ old)
+SigningTurns old before after (Takes new f) = TakesSecure old.link new.link f before after × (new ≡ record old { link = new.link })
+SigningTurns old before after (Refuses why) = RefusesSecure old.link why before after

@@ -40,7 +40,8 @@ impl Model for PlainLink {
 pub struct SecureLink {
     /// The key of the connection, under which parts are logged.
     pub(crate) key: [u8; 16],
-    pub(crate) stream: Secure,
+    /// It is boxed: a link goes by value from call to call, and a stream has a ready key of 2,400 bytes.
+    pub(crate) stream: Box<Secure>,
 }
 
 impl Model for SecureLink {
@@ -48,9 +49,9 @@ impl Model for SecureLink {
 
     ghost Value = { SecureWire };
 
-    ghost view = { λ l. secure_wire l.stream };
+    ghost view = { λ l. secure_wire l.stream.value };
 
-    ghost invariant = { λ l. IsLive l.key l.stream };
+    ghost invariant = { λ l. IsLive l.key l.stream.value };
 }
 
 /// A link that awaits the peer's AUTH_SIGNATURE: the session key that signs, and what was sent before one's own AUTH_SIGNATURE, which

@@ -58,26 +58,21 @@ impl PlainLink {
         }
     }
 
-    /// Goes on to secure frames under the secret of the connection. The bytes that weren't handled yet are the first of them. It takes no
-    /// memory.
-    pub fn secure(self, secret: &[u8; 64], connector: bool) -> SecureLink
-        ensures { result ≡ record { keys = keys_of_side connector secret.now; ahead = ahead_in self } }
-    {
-        let (link, _) = self.secured(secret, connector);
-        link
-    }
-
-    // The secured link, and all bytes that were sent.
-    pub(crate) fn secured(self, secret: &[u8; 64], connector: bool) -> (SecureLink, Blob)
-        ensures link { result.0 ≡ record { keys = keys_of_side connector secret.now; ahead = ahead_in self } }
-        ensures sent { result.1 ≡ self.sent }
+    // Goes on to secure frames under the secret of the connection: the bytes that weren't handled yet are the first of them. With it come all
+    // bytes that were sent.
+    pub(crate) fn secured(
+        self,
+        alloc: Global,
+        secret: &[u8; 64],
+        connector: bool,
+    ) -> Result<(SecureLink, Blob), AllocError>
+        ensures link { IfOk result (λ r. r.0 ≡ record { keys = keys_of_side connector secret.now; ahead = ahead_in self }) }
+        ensures sent { IfOk result (λ r. r.1 ≡ self.sent) }
     {
         let PlainLink { stream, sent } = self;
-        let link = SecureLink {
-            key: key_of(secret),
-            stream: stream.secure(Sealing::new(secret, connector)),
-        };
-        (link, sent)
+        let key = key_of(secret);
+        let stream = Box::new(alloc, stream.secure(Sealing::new(secret, connector)))?;
+        Ok((SecureLink { key, stream }, sent))
     }
 }
 

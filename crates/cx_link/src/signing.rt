@@ -5,6 +5,7 @@ ghost use Rattle.cx_control.specs.Auth.{auth_signature_layout};
 ghost use Rattle.cx_digest.specs.Code.{hmac};
 ghost use Rattle.cx_link.specs.Checking.{IsChecked};
 ghost use Rattle.cx_link.specs.Sending.{Finishes, IsControl, Sends, Signs};
+ghost use Rattle.cx_link.specs.Turning.{SigningTurns};
 ghost use Rattle.cx_link.specs.Wires.{ahead_in, keys_of_side};
 ghost use Rattle.cx_rules.specs.Acceptor.{joined};
 ghost use Rattle.cx_rules.specs.Payloads.{control};
@@ -13,6 +14,7 @@ ghost use Rattle.cx_rules.specs.Secured.{acceptor_keys, connector_keys, plain_fr
 use crate::links::{Checked, Finished, PlainLink, SecureLink, SentFrame, Signing};
 use crate::refusals::LinkRefusal;
 use crate::sending::plain_bytes;
+use crate::turns::LinkTurn;
 use cx_base::{Blob, Items};
 use cx_control::{AuthSignature, put_auth_signature};
 use cx_digest::Mac;
@@ -94,7 +96,7 @@ impl PlainLink {
     {
         let frame = signature_frame(alloc, session, self.taken())?;
         let signed = signed(alloc, session, self.taken())?;
-        let (link, covered) = self.secured(secret, connector);
+        let (link, covered) = self.secured(alloc, secret, connector)?;
         let SentFrame { link, bytes, seals } = link.put_behind(alloc, &frame, signed)?;
         let signing = Signing {
             link,
@@ -110,6 +112,37 @@ impl PlainLink {
 }
 
 impl Signing {
+    /// Takes the next frame, where it is all there, as its link does. What the signature has to cover stays.
+    pub fn turn(
+        self,
+        alloc: Global,
+        seals: &mut Items<SealEntry>,
+    ) -> Result<LinkTurn<Signing>, AllocError>
+        ensures { IfOk result (SigningTurns self seals.old seals.new) }
+    {
+        let Signing {
+            link,
+            session,
+            covered,
+        } = self;
+        match link.turn(alloc, seals)? {
+            LinkTurn::Waits(link) => Ok(LinkTurn::Waits(Signing {
+                link,
+                session,
+                covered,
+            })),
+            LinkTurn::Takes(link, frame) => {
+                let signing = Signing {
+                    link,
+                    session,
+                    covered,
+                };
+                Ok(LinkTurn::Takes(signing, frame))
+            }
+            LinkTurn::Refuses(why) => Ok(LinkTurn::Refuses(why)),
+        }
+    }
+
     /// Goes on exactly where this is the signature over what was sent to the peer. It wants no memory.
     pub fn check(self, signature: &[u8; 32]) -> Option<Checked>
         ensures { IsChecked self signature.now result }

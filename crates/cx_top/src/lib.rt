@@ -7,8 +7,6 @@ mod keyring;
 mod replay;
 mod sentences;
 mod status;
-#[cfg(test)]
-mod tests;
 mod top;
 
 pub use status::Status;

@@ -1,8 +1,8 @@
 //! What no clause says of the edge: that a failed flush is told, and that a replay goes on over a reader that reads short and
 //! is interrupted, and a writer that does so.
 
-use crate::streams::{Input, Output};
 use cx_desk::Desk;
+use cx_edge::{Input, Output};
 use cx_top::{Status, run};
 use std::alloc::Global;
 use std::io;

@@ -1,6 +1,6 @@
 -- Each end of the loop leaves a front of the bytes written.
-use Rattle.cephx_cli.proofs.Edges.{front_kept, front_more, on_err, rest_is, wrote_more}
-use Rattle.cephx_cli.proofs.streams.write_whole.Goals as goal
+use Rattle.cx_edge.proofs.Edges.{front_kept, front_more, on_err, rest_is, wrote_more}
+use Rattle.cx_edge.proofs.streams.write_whole.Goals as goal
 
 pub returns-in_err-count-clause-front : goal.returns-in_err-count-clause-front
 returns-in_err-count-clause-front g c = on_err c.from_residual.result _ (front_kept _ _ _ _ _ c.parts.invariant c.in_err-count.ensures.wrote)

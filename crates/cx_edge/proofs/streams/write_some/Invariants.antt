@@ -1,6 +1,6 @@
 -- The tries so far wrote no byte.
 use Rattle.std.specs.Io.KnownBytes.{Keeps}
-use Rattle.cephx_cli.proofs.streams.write_some.Given as goal
+use Rattle.cx_edge.proofs.streams.write_some.Given as goal
 
 abbrev pub invariant-tries : goal.invariant-tries
 invariant-tries g l = Keeps (g.W.Write.contents l.fn.writer) (g.W.Write.contents l.writer)

@@ -1,7 +1,7 @@
 -- The writer has taken all of the bytes but the rest.
 use Rattle.std.proofs.Common.{length}
-use Rattle.cephx_cli.proofs.Edges.{Wrote}
-use Rattle.cephx_cli.proofs.streams.write_whole.Given as goal
+use Rattle.cx_edge.proofs.Edges.{Wrote}
+use Rattle.cx_edge.proofs.streams.write_whole.Given as goal
 
 abbrev pub invariant-parts : goal.invariant-parts
 invariant-parts g l = Wrote (g.W.Write.contents l.fn.writer) (g.W.Write.contents l.writer) l.fn.bytes l.rest
