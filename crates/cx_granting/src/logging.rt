@@ -8,11 +8,10 @@ ghost use Rattle.cx_sealed.specs.Records.{service_ticket_layout, ticket_info_lay
 ghost use Rattle.cx_granting.specs.Handing.{IsWhole};
 ghost use Rattle.cx_granting.specs.Logging.{drawn_seal, info_sealed, secret_content, secret_seals};
 
-use crate::rotating::generations_of;
 use cx_base::{Blob, Duplicate, EntityName, EntityType, Items, Reading};
 use cx_enc::write_whole;
 use cx_journal::KeyKind;
-use cx_keyserver::{KeyServer, Ticket};
+use cx_keyserver::{KeyServer, Ticket, generations_of};
 use cx_rotate::{Generation, Generations};
 use cx_sealed::{ConnectionSecret, ServiceTicket, TicketInfo};
 use cx_steps::{DrawMark, SealEntry, SealMark};

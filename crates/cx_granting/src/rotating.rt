@@ -3,7 +3,7 @@
 ghost use Rattle.std.specs.Prelude.{◌≡◌, ◌++◌, ◌<◌, List, map, take, IsTrue, OnOk, OnErr};
 ghost use Rattle.cx_base.specs.declared.kinds.EntityType.{EntityType};
 ghost use Rattle.cx_dice.specs.Draws.{has_keys};
-ghost use Rattle.cx_keyserver.specs.Servers.{generations_of, life_of, rotated_server};
+ghost use Rattle.cx_keyserver.specs.Servers.{rotated_server};
 ghost use Rattle.cx_rotate.specs.Keeping.{IsKeptState};
 ghost use Rattle.cx_rules.specs.Tickets.{drawn_for, rotation_drawn};
 ghost use Rattle.cx_steps.specs.declared.seals.DrawMark.TheVariants.{Rotation};
@@ -12,8 +12,8 @@ ghost use Rattle.cx_granting.specs.Issuing.{IsRotated};
 
 use cx_base::{EntityType, Items, Reading};
 use cx_dice::Draw;
-use cx_keyserver::KeyServer;
-use cx_rotate::{Generations, KeptState};
+use cx_keyserver::{KeyServer, generations_of, life_of};
+use cx_rotate::KeptState;
 use cx_steps::{DrawMark, SealEntry};
 use std::alloc::{AllocError, Global};
 
@@ -87,29 +87,4 @@ fn log_keys(
         seals.push(alloc, SealEntry::Drawn(DrawMark::Rotation(*key)))?;
     }
     Ok(())
-}
-
-/// The generations of a service.
-pub(crate) fn generations_of(state: &KeptState, service: EntityType) -> Generations
-    ensures { result ≡ generations_of state.now service }
-{
-    match service {
-        EntityType::Mds => state.mds,
-        EntityType::Osd => state.osd,
-        EntityType::Mgr => state.mgr,
-        EntityType::Auth => state.auth,
-        EntityType::Mon => Generations::empty(),
-        EntityType::Client => Generations::empty(),
-    }
-}
-
-// How long the secrets of a service live.
-fn life_of(state: &KeptState, service: EntityType) -> u64
-    ensures { result ≡ life_of state.now service }
-{
-    if service.is(EntityType::Auth) {
-        state.auth_life
-    } else {
-        state.life
-    }
 }

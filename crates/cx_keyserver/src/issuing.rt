@@ -9,9 +9,10 @@ ghost use Rattle.cx_keyring.specs.Entries.{are_grants};
 ghost use Rattle.cx_dice.specs.Draws.{has_keys};
 ghost use Rattle.cx_rotate.specs.Keeping.{IsKeptState};
 ghost use Rattle.cx_keyserver.specs.Issuing.{IsIssued, IsOpenable, OpensUnder, asked_for, caps_for, current_at, fields_of, issued, sealed_by, telling_key, wants_memory};
-ghost use Rattle.cx_keyserver.specs.Servers.{generations_of, life_of};
+ghost use Rattle.cx_keyserver.specs.Servers.{life_of};
 
 use crate::refusals::IssueRefusal;
+use crate::services::{generations_of, life_of};
 use crate::tickets::Ticket;
 use cx_base::{Blob, Duplicate, EntityName, EntityType, Reading, Text};
 use cx_dice::Draw;
@@ -86,31 +87,6 @@ fn has_keys(service: EntityType) -> bool
         EntityType::Auth => true,
         EntityType::Mon => false,
         EntityType::Client => false,
-    }
-}
-
-/// The generations of a service.
-pub(crate) fn generations_of(state: &KeptState, service: EntityType) -> Generations
-    ensures { result ≡ generations_of state.now service }
-{
-    match service {
-        EntityType::Mds => state.mds,
-        EntityType::Osd => state.osd,
-        EntityType::Mgr => state.mgr,
-        EntityType::Auth => state.auth,
-        EntityType::Mon => Generations::empty(),
-        EntityType::Client => Generations::empty(),
-    }
-}
-
-// How long the secrets and tickets of a service live.
-fn life_of(state: &KeptState, service: EntityType) -> u64
-    ensures { result ≡ life_of state.now service }
-{
-    if service.is(EntityType::Auth) {
-        state.auth_life
-    } else {
-        state.life
     }
 }
 

@@ -5,10 +5,12 @@ mod issuing;
 mod refusals;
 mod rotation;
 mod server;
+mod services;
 mod tickets;
 
 pub use refusals::{GidsSpent, IssueRefusal, NotADaemon};
 pub use server::KeyServer;
+pub use services::{generations_of, life_of};
 pub use tickets::Ticket;
 
 // Each public type may be sent to another thread and shared with one.

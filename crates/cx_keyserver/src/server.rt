@@ -6,9 +6,10 @@ ghost use Rattle.cx_keyring.specs.Entries.{is_named};
 ghost use Rattle.cx_rotate.specs.Keeping.{IsKeptState};
 ghost use Rattle.cx_keyserver.specs.Servers.{has_daemons};
 
-use crate::issuing::{TicketRequest, generations_of, issued, wants_memory};
+use crate::issuing::{TicketRequest, issued, wants_memory};
 use crate::refusals::{GidsSpent, IssueRefusal, NotADaemon};
 use crate::rotation::rotate;
+use crate::services::generations_of;
 use crate::tickets::Ticket;
 use cx_base::{EntityName, EntityType, Reading};
 use cx_dice::Draw;

@@ -5,6 +5,6 @@ mod limits;
 mod refusals;
 mod script;
 
-pub use limits::{MOST_BYTES, MOST_LINES};
+pub use limits::{MOST_BYTES, is_short};
 pub use refusals::ScheduleRefusal;
 pub use script::{Script, read};

@@ -1,6 +1,6 @@
 //! Schedules and their reader.
 
-ghost use Rattle.std.specs.Prelude.{ℕ, ◌≡◌, ◌+◌, ◌≤◌, ◌↔◌, List, [], length, IfOk, IfErr, OnOk, OnErr, IsTrue};
+ghost use Rattle.std.specs.Prelude.{ℕ, ◌≡◌, ◌+◌, ◌≤◌, List, [], length, IfOk, IfErr, OnOk, OnErr, IsTrue};
 ghost use Rattle.std.specs.List.{list_all};
 ghost use Rattle.cx_words.specs.Cutting.{lines_of};
 ghost use Rattle.cx_schedule.specs.Files.{Adds, IsFileLineCause, IsFirstOutside, IsReason, IsScheduleCause, IsShort, Lines, Refuses, RefusesAt, groups};
@@ -9,7 +9,7 @@ ghost use Rattle.cx_lines.specs.Lines.{is_numbered_in_range};
 ghost use Rattle.cx_lines.specs.declared.lines.Numbered.{Numbered};
 ghost use Rattle.cx_schedule.specs.declared.refusals.ScheduleRefusal.{ScheduleRefusal};
 
-use crate::limits::{MOST_BYTES, MOST_LINES};
+use crate::limits::is_short;
 use crate::refusals::ScheduleRefusal;
 use cx_base::{Duplicate, Items, copy_items};
 use cx_lines::{LineRefusal, Numbered, line_of, note};
@@ -127,24 +127,6 @@ fn groups(line: &[u8]) -> bool
     ensures { result ≡ groups line.now }
 {
     line.starts_with(b"entity ")
-}
-
-fn is_short(bytes: &[u8]) -> bool
-    ensures { IsTrue result ↔ IsShort bytes.now }
-{
-    bytes.len() <= MOST_BYTES && count_lines(bytes) <= MOST_LINES
-}
-
-fn count_lines(bytes: &[u8]) -> usize
-    ensures { result ≡ length (lines_of bytes.now) }
-{
-    let mut count = 0;
-    let mut rest = bytes;
-    'lines: while let Some((_, after)) = first_line(rest) {
-        count += 1;
-        rest = after;
-    }
-    count
 }
 
 // Each of these goes to another thread, and is seen by several.

@@ -1,8 +1,6 @@
 //! The command `keyring`.
 
-ghost use Rattle.std.specs.Prelude.{◌≡◌, ◌≤◌, length, IfOk, IfErr, IsTrue, MatchResult, ◌↔◌};
-ghost use Rattle.cx_schedule.specs.Files.{IsShort};
-ghost use Rattle.cx_words.specs.Cutting.{lines_of};
+ghost use Rattle.std.specs.Prelude.{◌≡◌, IfOk, IfErr, MatchResult};
 ghost use Rattle.cx_top.specs.Causes.{IsAnswered, IsBytesCause, IsReasonFor};
 ghost use Rattle.cx_top.specs.Commands.{Prints};
 ghost use Rattle.cx_top.specs.Statuses.{IsOrMemory};
@@ -12,8 +10,7 @@ ghost use Rattle.cx_top.specs.declared.status.Status.{Status};
 use crate::status::Status;
 use cx_base::Blob;
 use cx_keyring::{parse, print};
-use cx_schedule::{MOST_BYTES, MOST_LINES};
-use cx_words::first_line;
+use cx_schedule::is_short;
 use std::alloc::Global;
 
 /// The printed form of the keyring that these bytes are.
@@ -29,22 +26,4 @@ pub fn printed(alloc: Global, bytes: &[u8]) -> Result<Blob, Status>
     let ring = parse(alloc, bytes)?;
     let text = print(alloc, &ring)?;
     Ok(text)
-}
-
-fn is_short(bytes: &[u8]) -> bool
-    ensures { IsTrue result ↔ IsShort bytes.now }
-{
-    bytes.len() <= MOST_BYTES && count_lines(bytes) <= MOST_LINES
-}
-
-fn count_lines(bytes: &[u8]) -> usize
-    ensures { result ≡ length (lines_of bytes.now) }
-{
-    let mut count = 0;
-    let mut rest = bytes;
-    'lines: while let Some((_, after)) = first_line(rest) {
-        count += 1;
-        rest = after;
-    }
-    count
 }

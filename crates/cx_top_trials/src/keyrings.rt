@@ -22,8 +22,7 @@ fn a_keyring_is_printed_with_ample_memory(rt: HostRuntime) {
 fn put_section(rt: &impl Abort, alloc: Global, text: &mut String, place: u32) {
     let section = format!(in alloc;
         "[client.c{place}]\n\tkey = AQAAAAAAAAAAABAAAAECAwQFBgcICQoLDA0ODw==\n"
-    )
-    .expect(rt, "memory");
+    ).expect(rt, "memory");
     text.push_str(&section).expect(rt, "memory");
 }
 
@@ -52,5 +51,12 @@ fn a_keyring_of_4096_sections_is_printed(rt: HostRuntime) {
 fn no_longer_one_is_printed(rt: HostRuntime) {
     let more = sections(&rt, rt.alloc(), 4097);
     let given = print_of(more.as_bytes());
-    assert!(rt; ends(&rt, rt.alloc(), &given, Status::BadKeyring { line: 0, why: None }));
+    assert!(rt;
+        ends(
+            &rt,
+            rt.alloc(),
+            &given,
+            Status::BadKeyring { line: 0, why: None }
+        )
+    );
 }

@@ -147,8 +147,7 @@ struct Long {
 fn put_entities(rt: &impl Abort, alloc: Global, text: &mut String, id: u32) {
     let lines = format!(in alloc;
         "entity client.{id} mds \"allow *\" osd \"allow *\" mgr \"allow *\"\nentity osd.{id}\n"
-    )
-    .expect(rt, "memory");
+    ).expect(rt, "memory");
     text.push_str(&lines).expect(rt, "memory");
 }
 
