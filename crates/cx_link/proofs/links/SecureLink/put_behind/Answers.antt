@@ -19,7 +19,7 @@ returns-then-bytes-gt-MAX_SECURE c =
     let long : 1048576 < length c.index-all-0.result.bytes = omega (arith, c.if-bytes-gt-MAX_SECURE.true, ap length same) in
     subst (λ (w : SecureWire). logged_behind c.args.before (secure_frame w.keys c.args.frame.now) ≡ (let r : Sealed = Err c.long_fault.result in r)) c.self.view_is
     (refuses_long c.self.inside.stream.value c.args.frame.now c.all.result.now c.index-all-0.result c.args.before c.parts_left.result c.long_fault.result
-    c.requires.one c.all.ensures c.index-all-0.is long c.parts_left.ensures c.long_fault.ensures)
+    c.requires.one c.all.ensures c.index-all-0.is long (rw c.deref.ensures at c.parts_left.ensures) c.long_fault.ensures)
 
 pub returns-in_ok-log_sealed-in-Ok : goal.returns-in_ok-log_sealed-in-Ok
 returns-in_ok-log_sealed-in-Ok c =
@@ -27,10 +27,15 @@ returns-in_ok-log_sealed-in-Ok c =
     let sealing : Sealing = c.self.inside.stream.value.sealing in
     let n : ℕ = length (plains c.args.frame.now) in
     let text : List ℕ = secure_text (connection_key sealing) sealing.out.fixed sealing.out.counter c.args.frame.now in
-    let frame : SealedFrame = record { bytes = c.put.new.into; seals = c.log_sealed.new.seals; keys = held_keys c.put.new.self } in (
+    let frame : SealedFrame = record { bytes = c.put.new.into; seals = c.log_sealed.new.seals; keys = held_keys c.put.new.self } in
+    let held = c.deref_mut.ensures.value in
+    let free = rw held at c.in-Ok.ensures.free in
+    let put = rw held at c.in-Ok.ensures.ok in
+    let after = rw held at c.in-Ok.ensures.after in
+    let contents = rw c.deref-in-Ok.ensures at c.in_ok-contents-in-Ok.ensures in (
       subst (λ (w : SecureWire). logged_behind c.args.before (secure_frame w.keys c.args.frame.now) ≡ (let r : Sealed = Ok frame in r)) c.self.view_is
           (sends_frame c.self.inside.stream.value c.put.new.self c.args.frame.now key c.put.new.into c.in_ok-contents-in-Ok.contents c.args.before c.log_sealed.new.seals c.self.invariant
-          c.in-Ok.ensures.free (c.in-Ok.ensures.ok ∙ ap (λ b. b ++ text) c.new-bytes.ensures) c.in-Ok.ensures.after c.in_ok-contents-in-Ok.ensures
+          free (put ∙ ap (λ b. b ++ text) c.new-bytes.ensures) after contents
           (c.in_ok-log_sealed-in-Ok.ensures ∙ ap (λ cs. c.args.before ++ map (sealed_entry key) cs) c.all-in-Ok.ensures)),
-      same_ahead c.self.inside.stream.value c.put.new.self n c.in-Ok.ensures.after ∙ ap (λ (w : SecureWire). w.ahead) c.self.view_is,
+      same_ahead c.self.inside.stream.value c.put.new.self n after ∙ ap (λ (w : SecureWire). w.ahead) c.self.view_is,
     )
