@@ -1,5 +1,5 @@
 -- The file: what its lines say, and its first line outside of the grammar.
-use Rattle.std.proofs.Common.{◌≡◌, ℕ, ◌+◌, ◌≤◌, Bool, true, false, List, [], ◌∷◌, ◌++◌, length, Some, None, refl, sym, ap, ◌∙◌, inl, inr, arith, length-append}
+use Rattle.std.proofs.Common.{◌≡◌, ℕ, ◌+◌, ◌≤◌, true, false, List, [], ◌∷◌, ◌++◌, length, Some, None, Result, Ok, Err, OnOk, refl, sym, ap, ◌∙◌, inl, inr, arith, length-append}
 use Rattle.std.specs.Prelude.{fold}
 use Rattle.std.specs.List.{list_all}
 use Rattle.std.proofs.lemmas.List.Folds.{list_all-append}
@@ -10,7 +10,7 @@ use Rattle.cx_lines.specs.declared.sight.BadWord.{BadWord}
 use Rattle.cx_lines.specs.declared.lines.Line.{Line}
 use Rattle.cx_lines.specs.declared.lines.Numbered.{Numbered}
 use Rattle.cx_lines.specs.Knowing.{known_of, knowing, knowing_numbered}
-use Rattle.cx_lines.specs.Lines.{Spells, is_numbered_in_range}
+use Rattle.cx_lines.specs.Lines.{is_numbered_in_range}
 use Rattle.cx_lines.specs.Sights.{bad_word_of}
 use Rattle.cx_lines.proofs.Laws.{in_range, seen_clean, unique}
 use Rattle.cx_schedule.specs.declared.refusals.ScheduleRefusal.{ScheduleRefusal}
@@ -27,6 +27,11 @@ fold_push f b (y ∷ ys) x = fold_push f (f b y) ys x
 pub known_more : (lines now : List Numbered) (number : ℕ) (line : Line) (before after : Known) → before ≡ known_of lines → after ≡ knowing before line → now ≡ lines ++ numbered number line ∷ [] → after ≡ known_of now
 known_more lines now number line before after was is grown =
     is ∙ ap (λ k. knowing k line) was ∙ sym (fold_push knowing_numbered nothing lines (numbered number line)) ∙ ap known_of (sym grown)
+
+pub known_noted : {X E : Type 0} (r : Result X E) (lines now : List Numbered) (number : ℕ) (line : Line) (before after : Known) → before ≡ known_of lines
+    → OnOk r (after ≡ knowing before line) → now ≡ lines ++ numbered number line ∷ [] → OnOk r (after ≡ known_of now)
+known_noted (Ok x) lines now number line before after was is grown = known_more lines now number line before after was is grown
+known_noted (Err e) lines now number line before after was is grown = tt
 
 -- ---- what a line adds
 

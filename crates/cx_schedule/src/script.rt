@@ -1,18 +1,19 @@
 //! Schedules and their reader.
 
-ghost use Rattle.std.specs.Prelude.{ℕ, ◌≡◌, ◌+◌, ◌≤◌, List, [], length, IfOk, IfErr, OnOk, OnErr, IsTrue};
+ghost use Rattle.std.specs.Prelude.{ℕ, ◌≡◌, ◌+◌, ◌≤◌, List, [], ◌∷◌, ◌++◌, length, IfOk, IfErr, OnOk, OnErr, IsTrue};
 ghost use Rattle.std.specs.List.{list_all};
 ghost use Rattle.cx_words.specs.Cutting.{lines_of};
-ghost use Rattle.cx_schedule.specs.Files.{Adds, IsFileLineCause, IsFirstOutside, IsReason, IsScheduleCause, IsShort, Lines, Refuses, RefusesAt, groups};
+ghost use Rattle.cx_schedule.specs.Files.{Adds, IsFileLineCause, IsFirstOutside, IsReason, IsScheduleCause, IsShort, Lines, Refuses, RefusesAt, groups, line_words};
 ghost use Rattle.cx_lines.specs.Knowing.{known_of};
-ghost use Rattle.cx_lines.specs.Lines.{is_numbered_in_range};
+ghost use Rattle.cx_lines.specs.Lines.{Spells, is_numbered_in_range};
+ghost use Rattle.cx_lines.specs.Refusals.{IsLineCause};
 ghost use Rattle.cx_lines.specs.declared.lines.Numbered.{Numbered};
 ghost use Rattle.cx_schedule.specs.declared.refusals.ScheduleRefusal.{ScheduleRefusal};
 
 use crate::limits::is_short;
 use crate::refusals::ScheduleRefusal;
 use cx_base::{Duplicate, Items, copy_items};
-use cx_lines::{LineRefusal, Numbered, line_of, note};
+use cx_lines::{Line, LineRefusal, Numbered, line_of, note};
 use cx_places::Known;
 use cx_words::{first_line, is_skipped, words};
 use std::alloc::{AllocError, Global};
@@ -115,11 +116,34 @@ fn add(
     if is_skipped(line) {
         return Ok(());
     }
-    let words = words(alloc, groups(line), line)?;
-    let read = line_of(alloc, known, &words)?;
-    note(alloc, known, &read)?;
-    script.push(alloc, Numbered { number, line: read })?;
+    let read = spelled(alloc, known, line)?;
+    append(alloc, known, script, Numbered { number, line: read })?;
     Ok(())
+}
+
+// What a line of the file says that isn't skipped.
+fn spelled(alloc: Global, known: &Known, line: &[u8]) -> Result<Line, LineRefusal>
+    ensures ok { IfOk result (λ read. Spells known.now read (line_words line.now)) }
+    ensures err { IfErr result (IsLineCause known.now (line_words line.now)) }
+{
+    let words = words(alloc, groups(line), line)?;
+    line_of(alloc, known, &words)
+}
+
+// Puts a line behind the earlier ones, and notes what it declares. It is handed on before want of memory is answered.
+fn append(
+    alloc: Global,
+    known: &mut Known,
+    script: &mut Items<Numbered>,
+    line: Numbered,
+) -> Result<(), AllocError>
+    requires { known.old ≡ known_of script.old }
+    ensures ok { OnOk result (script.new ≡ script.old ++ line ∷ []) }
+    ensures known { OnOk result (known.new ≡ known_of script.new) }
+{
+    let noted = note(alloc, known, &line.line);
+    script.push(alloc, line)?;
+    noted
 }
 
 /// Whether quotation marks group the words of this line.

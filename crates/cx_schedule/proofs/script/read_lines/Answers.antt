@@ -1,4 +1,3 @@
-use Rattle.std.proofs.Common.{refl}
 use Rattle.cx_schedule.proofs.Whole.{bad_here, reads_more, read_all}
 use Rattle.cx_schedule.proofs.script.read_lines.Goals as goal
 
