@@ -15,6 +15,7 @@ static REPLAY: [&str; 1] = ["replay"];
 static KEYRING: [&str; 1] = ["keyring"];
 
 /// The words of the command line, the input with the numbers of its calls that fail, and how many bytes the sink takes.
+#[derive(Clone, Copy)]
 pub(crate) struct Given<'a> {
     pub words: &'a [&'a str],
     pub input: &'a [u8],
