@@ -1,7 +1,7 @@
 //! A reader and a writer as the source and the sink of the top call. They tell what the reader and the writer tell, and count
 //! their faults.
 
-ghost use Rattle.std.specs.Prelude.{◌≤◌, length, IfOk, OnOk, OnErr};
+ghost use Rattle.std.specs.Prelude.{◌≡◌, ◌≤◌, length, IfOk, OnOk, OnErr};
 ghost use Rattle.std.specs.Io.KnownBytes.{Keeps, WriteAppends};
 ghost use Rattle.cx_base.specs.Streams.{Gives, Takes, TakesFront};
 
@@ -17,7 +17,9 @@ pub struct Input<R> {
 
 impl<R> Input<R> {
     /// The source of what this reader reads.
-    pub fn new(reader: R) -> Input<R> {
+    pub fn new(reader: R) -> Input<R>
+        ensures { result ≡ record { reader = reader; faults = 0 } }
+    {
         Input { reader, faults: 0 }
     }
 }
@@ -63,7 +65,9 @@ pub struct Output<W> {
 
 impl<W> Output<W> {
     /// The sink that writes to this writer.
-    pub fn new(writer: W) -> Output<W> {
+    pub fn new(writer: W) -> Output<W>
+        ensures { result ≡ record { writer = writer; faults = 0 } }
+    {
         Output { writer, faults: 0 }
     }
 }
