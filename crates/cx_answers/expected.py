@@ -246,39 +246,6 @@ def numbers(f):
     return f"list {len(told)} numbers" if len(told) > MOST_CUT else "list" + "".join(f" {number}" for number in told)
 
 
-def seat(f):
-    return f"{f.named('id', 8)} secret {f.key()[2]} expires {f.time()}"
-
-
-def roster(f):
-    return f"service {f.kind()}" + "".join(f" seat {seat(f)}" for _ in range(f.number(4)))
-
-
-def rungs(f):
-    told, last = "rungs", 0
-    for _ in range(f.number(4)):
-        at = f.place
-        number = f.number(8)
-        f.good(at, number > last)
-        last = number
-        told += f" id {number} {f.named('height', 4)}"
-    return told
-
-
-def notice(f):
-    f.fixed(1, 9)
-    told = f"service {f.kind()} {f.named('gid', 8)} created {f.time()} session {f.session_key()} owner {f.name()}"
-    told += f" urgent {f.flag()} ticket {f.ticket()} proof {f.sized(64)}"
-    return f"{told} addr {f.addr()} text {shown(f.blob())}"
-
-
-def complaint(f):
-    told = f.named("method result", 4)
-    f.numbers()
-    f.numbers()
-    return told
-
-
 def aes(way, key, data):
     command = ["openssl", "enc", way, "-aes-128-cbc", "-nopad", "-K", key.hex(), "-iv", b"cephsageyudagreg".hex()]
     return subprocess.run(command, input=data, capture_output=True, check=True).stdout
@@ -460,15 +427,8 @@ READERS = {
     "answer": lambda f: f"outcome {f.one_of({0: 0, 1: 1, 2: 2})} bytes {f.data_blob()}",
 }
 
-# Kinds of cx_enc and cx_samples, of which it is told in which way a field can't be read.
-SAMPLES = {
-    "seat": seat,
-    "roster": roster,
-    "offer": auth_request,
-    "rungs": rungs,
-    "complaint": complaint,
-    "tally": lambda f: f"{f.named('number', 8)} closed {f.flag()} mark {f.bytes(4).hex()}",
-    "notice": notice,
+# Kinds of cx_enc, of which it is told in which way a field can't be read.
+FIELDS = {
     "blob": lambda f: shown(f.blob()),
     "numbers": numbers,
     "name": lambda f: f.name(),
@@ -519,15 +479,15 @@ def meaning(kind, data):
         return "nothing"
     if kind.removeprefix("open-") in RECORDS:
         return record(kind, data)
-    return read_to_the_end(SAMPLES.get(kind) or READERS[kind], Fields(data))
+    return read_to_the_end(FIELDS.get(kind) or READERS[kind], Fields(data))
 
 
 def told_of(kind, refused):
     how, place = refused.args
     if place is None:
         return how
-    if kind in SAMPLES or how == "for the code":
-        return f"{how} at {place}" if kind in SAMPLES else f"{how} {place}"
+    if kind in FIELDS or how == "for the code":
+        return f"{how} at {place}" if kind in FIELDS else f"{how} {place}"
     return f"at {place}"
 
 

@@ -1,6 +1,6 @@
 -- The challenge is short enough for its frame.
 use Rattle.std.proofs.Common.{◌≡◌, ◌<◌, ℕ, refl, length, arith}
-use Rattle.cx_forms.specs.Forms.{little}
+use Rattle.cx_enc.specs.Forms.{little}
 use Rattle.cx_wire.specs.Logins.{server_challenge_layout}
 
 -- a ServerChallenge has nine bytes

@@ -1,11 +1,11 @@
 -- A login: its row, by what was decided, and that it leaves the keyring as it is.
 use Rattle.std.proofs.Common.{◌≡◌, ◌∙◌, ℕ, ◌==◌, ◌^◌, ◌-◌, ◌+◌, Bool, true, false, ◌⊎◌, inl, inr, List, ◌∷◌, ◌++◌, Option, Some, None, Result, Ok, Err, refl, sym, ap}
 use Rattle.std.specs.Prelude.{if◌then◌else◌}
-use Rattle.cx_forms.specs.declared.keys.Key.{Key}
-use Rattle.cx_granting.specs.Occasions.{Entrant, Occasion, asking_for, entrant}
-use Rattle.cx_granting.specs.Rows.{IsRow, occasion, row_by}
-use Rattle.cx_granting.specs.Verdicts.{Decided, issues, issues_to, key_of, numbers, rotates}
-use Rattle.cx_granting.specs.declared.verdicts.Verdict.{Verdict}
+use Rattle.cx_enc.specs.declared.keys.Key.{Key}
+use Rattle.cx_mon_grants.specs.Occasions.{Entrant, Occasion, asking_for, entrant}
+use Rattle.cx_mon_grants.specs.Rows.{IsRow, occasion, row_by}
+use Rattle.cx_mon_grants.specs.Verdicts.{Decided, issues, issues_to, key_of, numbers, rotates}
+use Rattle.cx_mon_grants.specs.declared.verdicts.Verdict.{Verdict}
 use Rattle.cx_journal.specs.declared.faults.LoginFault.{LoginFault}
 use Rattle.cx_journal.specs.declared.faults.LoginFault.TheVariants as login
 use Rattle.cx_keyring.specs.declared.entries.Entry.{Entry}

@@ -1,9 +1,9 @@
 //! LoginHello and Authenticate.
 
 ghost use Rattle.std.specs.Prelude.{◌≡◌, ◌<◌, ◌⊎◌, None, IfOk, OnOk, OnErr};
-ghost use Rattle.cx_granting.specs.Rows.{done_frame, row_by};
+ghost use Rattle.cx_mon_grants.specs.Rows.{done_frame, row_by};
 ghost use Rattle.cx_link.specs.Wires.{wired};
-ghost use Rattle.cx_granting.specs.declared.verdicts.Verdict.TheVariants.{Granted};
+ghost use Rattle.cx_mon_grants.specs.declared.verdicts.Verdict.TheVariants.{Granted};
 ghost use Rattle.cx_link.specs.Sending.{IsControl};
 ghost use Rattle.cx_rules.specs.Acceptor.{AwaitsRequest};
 ghost use Rattle.cx_rules.specs.Monitor.{MonitorStage};
@@ -19,10 +19,10 @@ use cx_control::{AuthReplyMore, AuthRequestMore};
 use cx_enc::{Key, write_whole};
 use cx_ends::{Moment, log_behind, send_plain};
 use cx_frame::{Frame, Segment};
-use cx_granting::{HandedOut, Occasion, Verdict, granting_laws, log_in};
 use cx_journal::{BytesFault, LoginFault, NodeName};
 use cx_link::{Finished, LinkRefusal, PlainLink};
 use cx_login::{Offered, Proved};
+use cx_mon_grants::{HandedOut, Occasion, Verdict, granting_laws, log_in};
 use cx_node::{Row, denies, goes_on, refuses_bytes, whole};
 use cx_steps::{DrawMark, SealEntry};
 use cx_wire::{Authenticate, LoginHello, ServerChallenge};

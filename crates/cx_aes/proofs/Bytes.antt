@@ -3,7 +3,7 @@ use Rattle.std.proofs.Common.{◌≡◌, ℕ, ◌<◌, ◌*◌, ◌/◌, ◌%◌
 use Rattle.std.proofs.lemmas.List.FromFn.{get_or-map-range_with_len}
 use Rattle.std.specs.Prelude.{nat_lt}
 use borrow.Author.Tests.{ltb-true}
-pub use Rattle.cx_permute.proofs.Bytes.{bytes, same_at_bytes}
+pub use Rattle.cx_aes.proofs.BytePlaces.{bytes, same_at_bytes}
 use Rattle.cx_aes.specs.declared.tables.TheConstants.{SBOX, INVERSE_SBOX}
 use Rattle.cx_aes.specs.Field.{xtimes, product, times, inverse, affine_bit, affine, sbox, inverse_affine_bit, inverse_affine, inverse_sbox}
 

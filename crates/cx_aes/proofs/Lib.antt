@@ -1,3 +1,7 @@
+pub mod BytePlaces
+pub mod Swizzles
+pub mod Maps
+pub mod Cells
 pub mod Bytes
 pub mod Places
 pub mod Rows

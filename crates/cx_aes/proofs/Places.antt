@@ -2,7 +2,7 @@
 use Rattle.std.proofs.Common.{◌≡◌, ℕ, ◌<◌, List, length, get_or, bit_xor, ap, ◌∙◌}
 use Rattle.std.proofs.lemmas.List.FromFn.{fill_by_all}
 use Rattle.cx_aes.specs.Cipher.{add}
-pub use Rattle.cx_permute.proofs.Places.{cells, cells-is}
+pub use Rattle.cx_aes.proofs.Cells.{cells, cells-is}
 
 -- a list of 16 that is the sum at each place is the sum
 pub add_by_places : (s t out : List ℕ) → length s ≡ 16 → length t ≡ 16 → length out ≡ 16

@@ -3,7 +3,7 @@ use Rattle.std.proofs.Common.{◌≡◌, ℕ, ◌<◌, List, [], ◌∷◌, All,
 use Rattle.std.proofs.lemmas.List.Elements.{All-head, All-tail}
 use Rattle.std.proofs.lemmas.Simd.{zip2_of_maps}
 use lib.Lanes.{zip2}
-use Rattle.cx_permute.specs.Lookup.{by_halves, entry, high, low}
+use Rattle.cx_aes.specs.Lookup.{by_halves, entry, high, low}
 use Rattle.cx_aes.specs.declared.tables.TheConstants.{SBOX, INVERSE_SBOX}
 use Rattle.cx_aes.specs.Field.{inverse_sbox, product, sbox, times, xtimes}
 use Rattle.cx_aes.specs.Basis.{by_parts, into, last, left, once, right, twice}

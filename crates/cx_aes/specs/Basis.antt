@@ -1,6 +1,6 @@
 -- What the tables of sixteen give, byte by byte. No public clause speaks of it.
 use Rattle.std.specs.Prelude.{ℕ, List, bit_xor}
-use Rattle.cx_permute.specs.Lookup.{by_halves, entry, high, low}
+use Rattle.cx_aes.specs.Lookup.{by_halves, entry, high, low}
 use Rattle.cx_aes.specs.declared.basis.TheConstants.{INTO_LOW, INTO_HIGH, INVERSE, QUOTIENT, ONCE_LEFT, ONCE_RIGHT, ONCE, TWICE_LEFT, TWICE_RIGHT, TWICE, LAST_LEFT, LAST_RIGHT, LAST}
 
 -- a byte in the basis

@@ -1,6 +1,6 @@
 -- What the tables of sixteen give in the second basis, byte by byte. No public clause speaks of it.
 use Rattle.std.specs.Prelude.{ℕ, bit_xor}
-use Rattle.cx_permute.specs.Lookup.{by_halves}
+use Rattle.cx_aes.specs.Lookup.{by_halves}
 use Rattle.cx_aes.specs.Basis.{by_parts}
 use Rattle.cx_aes.specs.declared.inverse_basis.TheConstants.{BACK_LOW, BACK_HIGH, BACK, FOURTEEN_LEFT, FOURTEEN_RIGHT, ELEVEN_LEFT, ELEVEN_RIGHT, THIRTEEN_LEFT, THIRTEEN_RIGHT, NINE_LEFT, NINE_RIGHT, UNDONE_LEFT, UNDONE_RIGHT}
 

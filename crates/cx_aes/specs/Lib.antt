@@ -1,3 +1,4 @@
+pub mod Lookup
 pub mod Field
 pub mod Cipher
 pub mod Inverse

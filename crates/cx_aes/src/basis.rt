@@ -4,7 +4,7 @@
 ghost use Rattle.std.specs.Prelude.{◌≡◌, map};
 ghost use Rattle.cx_aes.specs.Basis.{by_parts, into, last, left, once, right, twice};
 
-use cx_permute::{by_halves, high, looked_up, low, sum};
+use crate::{by_halves, high, looked_up, low, sum};
 use std::simd::prelude::*;
 
 // The change of basis, by the lower and the upper four bits.

@@ -5,7 +5,7 @@ ghost use Rattle.std.specs.Prelude.{◌≡◌, map};
 ghost use Rattle.cx_aes.specs.InverseBasis.{back, eleven, fourteen, linear, nine, thirteen, undone};
 
 use crate::basis::by_parts;
-use cx_permute::{by_halves, sum};
+use crate::{by_halves, sum};
 use std::simd::prelude::*;
 
 const BACK_LOW: [u8; 16] = [

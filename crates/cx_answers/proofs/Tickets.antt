@@ -3,8 +3,8 @@ use Rattle.std.proofs.Common.{◌≡◌, Bool, true, false, List, [], ◌∷◌,
 use Rattle.std.specs.Prelude.{Option, Some, None, IsTrue}
 use Rattle.cx_base.specs.declared.kinds.EntityType.{EntityType}
 use Rattle.cx_base.specs.declared.kinds.EntityType.TheVariants.{Auth}
-use Rattle.cx_forms.specs.Forms.{passed, ChainFits}
-use Rattle.cx_forms.specs.Values.{ticket_form}
+use Rattle.cx_enc.specs.Forms.{passed, ChainFits}
+use Rattle.cx_enc.specs.Values.{ticket_form}
 use Rattle.cx_wire.specs.Services.{follows, ticket_part_layout, behind, IsNextTicket, AreTickets}
 use Rattle.cx_wire.specs.Logins.{login_done_layout}
 use Rattle.cx_wire.specs.Bodies.{reply_layout, IsShortReply}

@@ -2,7 +2,7 @@
 
 ghost use Rattle.std.specs.Prelude.{length, ◌<◌, ◌≤◌, ◌^◌, IsTrue, OnOk};
 ghost use Rattle.cx_base.specs.Texts.{is_caps, is_part};
-ghost use Rattle.cx_forms.specs.Moments.{IsReading};
+ghost use Rattle.cx_enc.specs.Moments.{IsReading};
 ghost use Rattle.cx_wire.specs.Operations.{IsWritable};
 
 use crate::answered::Refused;

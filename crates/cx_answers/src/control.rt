@@ -2,7 +2,7 @@
 
 use crate::answered::{Answered, Refused, answered, copied};
 use crate::bounds::{is_few, is_reading, is_short};
-use crate::shown::{Hex, Numbers, Place};
+use crate::shown::{Hex, Numbers, ShownAddr};
 use cx_base::Blob;
 use cx_control::{
     put_ack, put_auth_bad_method, put_auth_done, put_auth_reply_more, put_auth_request,
@@ -56,7 +56,7 @@ fn hello(alloc: Global, bytes: &[u8]) -> Result<Answered, Refused> {
         put_hello,
         "kind {} addr {}",
         x.kind,
-        Place(&x.addr)
+        ShownAddr(&x.addr)
     )
 }
 
@@ -140,8 +140,8 @@ fn client_ident(alloc: Global, bytes: &[u8]) -> Result<Answered, Refused> {
         x = read_client_ident(alloc, bytes)?,
         put_client_ident,
         "addr {} target {} gid {} global_seq {} supported {} required {} flags {} cookie {}",
-        Place(&x.addr),
-        Place(&x.target),
+        ShownAddr(&x.addr),
+        ShownAddr(&x.target),
         x.gid,
         x.global_seq,
         x.supported,
@@ -157,7 +157,7 @@ fn server_ident(alloc: Global, bytes: &[u8]) -> Result<Answered, Refused> {
         x = read_server_ident(alloc, bytes)?,
         put_server_ident,
         "addr {} gid {} global_seq {} supported {} required {} flags {} cookie {}",
-        Place(&x.addr),
+        ShownAddr(&x.addr),
         x.gid,
         x.global_seq,
         x.supported,
@@ -183,7 +183,7 @@ fn session_reconnect(alloc: Global, bytes: &[u8]) -> Result<Answered, Refused> {
         x = read_session_reconnect(alloc, bytes)?,
         put_session_reconnect,
         "addr {} client_cookie {} server_cookie {} global_seq {} connect_seq {} msg_seq {}",
-        Place(&x.addr),
+        ShownAddr(&x.addr),
         x.client_cookie,
         x.server_cookie,
         x.global_seq,

@@ -5,10 +5,10 @@
 mod answered;
 mod bounds;
 mod control;
+mod fields;
 mod logins;
 mod messages;
 mod rows;
-mod samples;
 mod sealed;
 mod shown;
 mod states;

@@ -2,9 +2,9 @@
 
 use crate::answered::{Answered, Refused};
 use crate::control::control;
+use crate::fields::field;
 use crate::logins::login;
 use crate::messages::message;
-use crate::samples::sample;
 use crate::sealed::record;
 use crate::shown::Hex;
 use crate::states::state;
@@ -58,7 +58,7 @@ fn answer(alloc: Global, kind: &str, bytes: &[u8]) -> Result<Answered, Refused> 
         Err(Refused::NoKind) => {}
         answered => return answered,
     }
-    match sample(alloc, kind, bytes) {
+    match field(alloc, kind, bytes) {
         Err(Refused::NoKind) => {}
         answered => return answered,
     }

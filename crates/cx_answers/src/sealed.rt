@@ -1,7 +1,7 @@
 //! Sealed records, and the proof of a login. The bytes of a record are a key of 16 bytes and the content, which is sealed under it.
 
 ghost use Rattle.std.specs.Prelude.{IfOk};
-ghost use Rattle.cx_forms.specs.Moments.{IsReading};
+ghost use Rattle.cx_enc.specs.Moments.{IsReading};
 ghost use Rattle.cx_sealed.specs.Records.{AreReadings};
 
 use crate::answered::{Answered, Refused, copied, told_whole};

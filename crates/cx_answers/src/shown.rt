@@ -37,9 +37,9 @@ fn digits<W: fmt::Write>(f: &mut fmt::Formatter<W>, bytes: &[u8]) -> fmt::Result
 
 /// An address: the four bytes of the IPv4 address, the port and the nonce.
 #[derive(Clone, Copy)]
-pub struct Place<'a>(pub &'a Addr);
+pub struct ShownAddr<'a>(pub &'a Addr);
 
-impl fmt::Display for Place<'_> {
+impl fmt::Display for ShownAddr<'_> {
     fn fmt<W: fmt::Write>(&self, f: &mut fmt::Formatter<W>) -> fmt::Result {
         let [a, b, c, d] = self.0.ip;
         write!(f, "{a}.{b}.{c}.{d}:{}/{}", self.0.port, self.0.nonce)

@@ -1,7 +1,7 @@
 -- The payloads by which a client and a daemon answer each other ("detailed cephx protocol"), each a sealed record and the bytes
 -- that hold it.
 use Rattle.std.specs.Prelude.{ℕ, true, false, List, Option, Some, None}
-use Rattle.cx_layouts.specs.Whole.{Spells}
+use Rattle.cx_enc.specs.Whole.{Spells}
 use Rattle.cx_sealed.specs.Records.{authorize_layout, authorize_challenge_layout, authorize_reply_layout}
 use Rattle.cx_sealed.specs.Sealing.{IsSealed}
 use Rattle.cx_sealed.specs.declared.authorize.Authorize.{Authorize}

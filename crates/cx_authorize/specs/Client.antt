@@ -1,7 +1,7 @@
 -- The client's side of an authorizer ("detailed cephx protocol": the client shows its ticket, answers the daemon's challenge, and
 -- takes the reply to its own nonce).
 use Rattle.std.specs.Prelude.{ℕ, ◌≡◌, ◌≢◌, List, Some, None, Result, IfOk, IfErr}
-use Rattle.cx_layouts.specs.Whole.{Spells}
+use Rattle.cx_enc.specs.Whole.{Spells}
 use Rattle.cx_control.specs.Calls.{IsRefusedFor}
 use Rattle.cx_control.specs.declared.refusals.WireRefusal.TheVariants as wire
 use Rattle.cx_sealed.specs.Records.{authorize_challenge_layout, authorize_reply_layout}

@@ -2,7 +2,7 @@
 -- service, and the authorizer by the ticket's session key), one chain of causes for the first authorizer and the second.
 use Rattle.std.specs.Prelude.{ℕ, ◌≡◌, ◌==◌, ◌+◌, ◌%◌, ◌^◌, ◌&&◌, ◌⊎◌, not, nat_le, List, Option, Some, None, Result, Ok, Err, MatchBool, if◌then◌else◌}
 use Rattle.cx_base.specs.Names.{same_kind}
-use Rattle.cx_layouts.specs.Whole.{Spells}
+use Rattle.cx_enc.specs.Whole.{Spells}
 use Rattle.cx_control.specs.Calls.{IsRefusedFor}
 use Rattle.cx_control.specs.declared.refusals.WireRefusal.TheVariants as wire
 use Rattle.cx_sealed.specs.Records.{service_ticket_layout, authorize_layout}

@@ -1,7 +1,7 @@
 //! Writing the payloads by which a client and a daemon answer each other.
 
 ghost use Rattle.std.specs.Prelude.{◌≡◌, ◌<◌, ◌^◌, length, IfOk};
-ghost use Rattle.cx_layouts.specs.Whole.{Spells};
+ghost use Rattle.cx_enc.specs.Whole.{Spells};
 ghost use Rattle.cx_sealed.specs.Records.{authorize_layout, authorize_challenge_layout, authorize_reply_layout};
 ghost use Rattle.cx_sealed.specs.Sealing.{IsSealed};
 ghost use Rattle.cx_wire.specs.Logins as payload;

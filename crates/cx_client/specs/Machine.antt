@@ -2,7 +2,7 @@
 use Rattle.std.specs.Prelude.{◌≡◌, ℕ, List, Option, Some, None, map}
 use Rattle.cx_base.specs.Names.{Name}
 use Rattle.cx_base.specs.declared.addresses.Addr.{Addr}
-use Rattle.cx_forms.specs.declared.keys.Key.{Key}
+use Rattle.cx_enc.specs.declared.keys.Key.{Key}
 use Rattle.cx_ends.specs.Events.{link_in}
 use Rattle.cx_ends.specs.Stages.{AreRising}
 use Rattle.cx_holdings.specs.declared.offers.Modes.{Modes}

@@ -4,7 +4,7 @@ use Rattle.std.proofs.lemmas.Bool.{lt-ltb}
 use Rattle.std.specs.Int.{w32}
 use Rattle.std.specs.Prelude.{nat_lt}
 use Rattle.cx_control.specs.Auth.{auth_request_more_layout}
-use Rattle.cx_forms.specs.Forms.{little}
+use Rattle.cx_enc.specs.Forms.{little}
 use Rattle.cx_frame.specs.Frames.{total}
 use Rattle.cx_frame.specs.declared.frame.Frame.{Frame}
 use Rattle.cx_journal.specs.declared.faults.BytesFault.TheVariants.{TooLong}

@@ -1,6 +1,6 @@
 -- The payloads of the frames of authentication (msgr2 protocol, "Authentication").
 use Rattle.std.specs.Prelude.{refl}
-use Rattle.cx_layouts.specs.Layouts.{Layout, ◌⊗◌, seen_as, u32_field, u64_field, bytes_field, blob_field, count_field, list_by}
+use Rattle.cx_enc.specs.Layouts.{Layout, ◌⊗◌, seen_as, u32_field, u64_field, bytes_field, blob_field, count_field, list_by}
 use Rattle.cx_control.specs.declared.auth.AuthRequest.{AuthRequest}
 use Rattle.cx_control.specs.declared.auth.AuthReplyMore.{AuthReplyMore}
 use Rattle.cx_control.specs.declared.auth.AuthRequestMore.{AuthRequestMore}

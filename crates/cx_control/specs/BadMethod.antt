@@ -1,6 +1,6 @@
 -- The payload of AUTH_BAD_METHOD (msgr2 protocol, "Authentication").
 use Rattle.std.specs.Prelude.{ℕ, ◌-◌, ◌%◌, List, [], ◌∷◌}
-use Rattle.cx_layouts.specs.Layouts.{Layout, ◌⊗◌, u32_field, count_field, list_by}
+use Rattle.cx_enc.specs.Layouts.{Layout, ◌⊗◌, u32_field, count_field, list_by}
 use Rattle.cx_control.specs.declared.bad_method.AuthBadMethod.{AuthBadMethod}
 
 -- the number that is written for a code, 2^32 minus the code; and the code of such a number

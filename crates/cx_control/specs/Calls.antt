@@ -1,10 +1,10 @@
 -- What the calls of a payload do: one statement of every reader and one of every writer.
 use Rattle.std.specs.Prelude.{ℕ, ◌≡◌, List, ◌++◌, Result, Ok, Err, IfOk, IfErr, OnOk, OnErr}
 use Rattle.std.specs.declared.alloc.AllocError.{AllocError}
-use Rattle.cx_forms.specs.declared.faults.ReadFault.{ReadFault}
-use Rattle.cx_forms.specs.Forms.{Spot, Form}
-use Rattle.cx_forms.specs.Faults.{fault_place}
-use Rattle.cx_layouts.specs.Whole.{start, Spells, SpellsPart, IsReadAgain}
+use Rattle.cx_enc.specs.declared.faults.ReadFault.{ReadFault}
+use Rattle.cx_enc.specs.Forms.{Spot, Form}
+use Rattle.cx_enc.specs.Faults.{fault_place}
+use Rattle.cx_enc.specs.Whole.{start, Spells, SpellsPart, IsReadAgain}
 use Rattle.cx_control.specs.declared.refusals.WireRefusal.{WireRefusal}
 use Rattle.cx_control.specs.declared.refusals.WireRefusal.TheVariants.{Malformed, OutOfMemory}
 

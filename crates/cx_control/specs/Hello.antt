@@ -2,8 +2,8 @@
 use Rattle.std.specs.Prelude.{ℕ, ◌≡◌, Some, refl}
 use Rattle.std.proofs.Common.{arith}
 use Rattle.cx_base.specs.declared.kinds.EntityType.{EntityType}
-use Rattle.cx_forms.specs.Values.{kind_of, number_of}
-use Rattle.cx_layouts.specs.Layouts.{Layout, ◌⊗◌, seen_as, checked_as, u8_field, addr_field}
+use Rattle.cx_enc.specs.Values.{kind_of, number_of}
+use Rattle.cx_enc.specs.Layouts.{Layout, ◌⊗◌, seen_as, checked_as, u8_field, addr_field}
 use Rattle.cx_control.specs.declared.hello.Hello.{Hello}
 
 pub kind_back : (n : ℕ) (x : EntityType) → kind_of n ≡ Some x → number_of x ≡ n

@@ -1,6 +1,6 @@
 -- The payloads by which a session begins (msgr2 protocol, "Session").
 use Rattle.std.specs.Prelude.{refl}
-use Rattle.cx_layouts.specs.Layouts.{Layout, ◌⊗◌, ◌⊳◌, seen_as, constant, u32_field, u64_field, addr_field}
+use Rattle.cx_enc.specs.Layouts.{Layout, ◌⊗◌, ◌⊳◌, seen_as, constant, u32_field, u64_field, addr_field}
 use Rattle.cx_control.specs.declared.idents.ClientIdent.{ClientIdent}
 use Rattle.cx_control.specs.declared.idents.ServerIdent.{ServerIdent}
 use Rattle.cx_control.specs.declared.idents.IdentMissingFeatures.{IdentMissingFeatures}

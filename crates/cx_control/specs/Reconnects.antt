@@ -1,6 +1,6 @@
 -- The payloads by which a session goes on over a new connection (msgr2 protocol, "Session").
 use Rattle.std.specs.Prelude.{refl}
-use Rattle.cx_layouts.specs.Layouts.{Layout, ◌⊗◌, ◌⊳◌, seen_as, constant, u32_field, u64_field, flag_field, addr_field}
+use Rattle.cx_enc.specs.Layouts.{Layout, ◌⊗◌, ◌⊳◌, seen_as, constant, u32_field, u64_field, flag_field, addr_field}
 use Rattle.cx_control.specs.declared.reconnects.SessionReconnect.{SessionReconnect}
 use Rattle.cx_control.specs.declared.reconnects.SessionReset.{SessionReset}
 use Rattle.cx_control.specs.declared.reconnects.SessionRetry.{SessionRetry}

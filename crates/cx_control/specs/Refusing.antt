@@ -1,7 +1,7 @@
 -- The refusal of a payload, from what its fields were refused for.
-use Rattle.cx_forms.specs.declared.faults.ReadRefusal.{ReadRefusal}
-use Rattle.cx_forms.specs.declared.faults.ReadRefusal.TheVariants as reading
-use Rattle.cx_forms.specs.Faults.{fault_place}
+use Rattle.cx_enc.specs.declared.faults.ReadRefusal.{ReadRefusal}
+use Rattle.cx_enc.specs.declared.faults.ReadRefusal.TheVariants as reading
+use Rattle.cx_enc.specs.Faults.{fault_place}
 use Rattle.cx_control.specs.declared.refusals.WireRefusal.{WireRefusal}
 use Rattle.cx_control.specs.declared.refusals.WireRefusal.TheVariants.{Malformed, OutOfMemory}
 

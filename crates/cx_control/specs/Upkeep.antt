@@ -1,8 +1,8 @@
 -- The payloads that say how a connection fares (msgr2 protocol, "Frame format" and "Session").
 use Rattle.std.specs.Prelude.{ℕ, ◌≡◌, ◌+◌, Ok, [], refl}
 use Rattle.std.proofs.Common.{ap, subst, arith}
-use Rattle.cx_forms.specs.Forms.{Spot, Form, Took, IsLawful}
-use Rattle.cx_layouts.specs.Layouts.{Layout, seen_as, u64_field, reading_field}
+use Rattle.cx_enc.specs.Forms.{Spot, Form, Took, IsLawful}
+use Rattle.cx_enc.specs.Layouts.{Layout, seen_as, u64_field, reading_field}
 use Rattle.cx_control.specs.declared.upkeep.Wait.{Wait}
 use Rattle.cx_control.specs.declared.upkeep.Keepalive2.{Keepalive2}
 use Rattle.cx_control.specs.declared.upkeep.Keepalive2Ack.{Keepalive2Ack}

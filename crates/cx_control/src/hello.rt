@@ -30,7 +30,7 @@ impl Encoded for Hello {
         })
     }
 
-    #[tactic(auto, using(cx_forms::specs::FieldLaws::kind_again))]
+    #[tactic(auto, using(cx_enc::specs::FieldLaws::kind_again))]
     fn write(&self, alloc: Global, into: &mut Blob) -> Result<(), AllocError> {
         put_u8(alloc, into, number_of(self.kind) as u8)?;
         put_addr(alloc, into, &self.addr)

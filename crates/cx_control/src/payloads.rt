@@ -1,7 +1,7 @@
 //! Reading and writing any payload.
 
 ghost use Rattle.std.specs.Prelude.{◌≡◌, ◌++◌, OnOk};
-ghost use Rattle.cx_layouts.specs.Layouts.{Layout};
+ghost use Rattle.cx_enc.specs.Layouts.{Layout};
 ghost use Rattle.cx_control.specs.Calls.{IsReadBy, IsPutBy, IsPartReadBy, IsWholePutBy};
 
 use crate::refusals::WireRefusal;

@@ -18,7 +18,7 @@ pub enum WireRefusal {
 
 impl From<ReadFault> for WireRefusal {
     ghost use Rattle.std.specs.Prelude.{◌≡◌};
-    ghost use Rattle.cx_forms.specs.Faults.{fault_place};
+    ghost use Rattle.cx_enc.specs.Faults.{fault_place};
     ghost use Rattle.cx_control.specs.declared.refusals.WireRefusal.TheVariants.{Malformed};
 
     ghost from_gives = { λ fault refusal. refusal ≡ Malformed (fault_place fault) };

@@ -1,6 +1,6 @@
 //! The frames that say how a connection fares.
 
-ghost use Rattle.cx_forms.specs.Moments.{IsReading};
+ghost use Rattle.cx_enc.specs.Moments.{IsReading};
 ghost use Rattle.cx_control.specs.Calls.{IsReadBy, IsPutBy};
 ghost use Rattle.cx_control.specs.Upkeep.{wait_layout, keepalive2_layout, keepalive2_ack_layout, ack_layout};
 

@@ -1,14 +1,13 @@
 //! Lists whose layout goes on from item to item.
 
 ghost use Rattle.std.specs.Prelude.{◌≡◌, ◌++◌, OnOk, OnErr};
-ghost use Rattle.cx_forms.specs.Forms.{chain, chain_text, ChainFits};
-ghost use Rattle.cx_layouts.specs.Layouts.{Layout};
-ghost use Rattle.cx_fields.specs.Reading.{spot};
-ghost use Rattle.cx_layouts.specs.Whole.{Gives, Takes};
+ghost use Rattle.cx_enc.specs.Forms.{chain, chain_text, ChainFits};
+ghost use Rattle.cx_enc.specs.Layouts.{Layout};
+ghost use Rattle.cx_enc.specs.Reading.{spot};
+ghost use Rattle.cx_enc.specs.Whole.{Gives, Takes};
 
+use crate::{Cut, ReadRefusal};
 use cx_base::{Blob, Items};
-use cx_fields::Cut;
-use cx_forms::ReadRefusal;
 use std::alloc::{AllocError, Global};
 
 /// A type whose values are read and written by a layout that depends on what stands before them in a list, as one that asks

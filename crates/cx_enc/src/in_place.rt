@@ -1,14 +1,12 @@
 //! Values that own nothing, which are read with no memory.
 
 ghost use Rattle.std.specs.Prelude.{◌≡◌, IfOk, IfErr};
-ghost use Rattle.cx_forms.specs.Forms.{times};
-ghost use Rattle.cx_fields.specs.Reading.{spot, Reads, Passes};
-ghost use Rattle.cx_layouts.specs.Whole.{GivesInPlace, Spells, IsMisspelled};
+ghost use Rattle.cx_enc.specs.Forms.{times};
+ghost use Rattle.cx_enc.specs.Reading.{spot, Reads, Passes};
+ghost use Rattle.cx_enc.specs.Whole.{GivesInPlace, Spells, IsMisspelled};
 
+use crate::{Cut, Encoded, Key, Misspelling, ReadFault, Time};
 use cx_base::{Addr, EntityType};
-use cx_fields::Cut;
-use cx_forms::{Key, Misspelling, ReadFault, Time};
-use cx_layouts::Encoded;
 
 /// A type with a layout whose values own nothing, so that reading one wants no memory.
 pub trait EncodedInPlace: Encoded {

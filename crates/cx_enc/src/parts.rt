@@ -1,12 +1,11 @@
 //! Values that are read more widely than they are written.
 
 ghost use Rattle.std.specs.Prelude.{◌≡◌, IfOk, IfErr};
-ghost use Rattle.cx_layouts.specs.Layouts.{Layout};
-ghost use Rattle.cx_fields.specs.Reading.{spot};
-ghost use Rattle.cx_layouts.specs.Whole.{Gives, part_at, SpellsPart, Spells, Yields, IsRefusedBy};
+ghost use Rattle.cx_enc.specs.Layouts.{Layout};
+ghost use Rattle.cx_enc.specs.Reading.{spot};
+ghost use Rattle.cx_enc.specs.Whole.{Gives, part_at, SpellsPart, Spells, Yields, IsRefusedBy};
 
-use cx_fields::Cut;
-use cx_forms::ReadRefusal;
+use crate::{Cut, ReadRefusal};
 use std::alloc::Global;
 
 /// A type that is read more widely than it is written: its layout reads a whole, and the value keeps a part of it.

@@ -1,8 +1,8 @@
 -- Control frames: each has one segment, and a payload that spells a value is read as it.
 use Rattle.std.proofs.Common.{◌≡◌, ◌≤◌, ℕ, List, Ok, ap, refl, subst, sym}
-use Rattle.cx_forms.specs.Forms.{Form, IsLawful}
-use Rattle.cx_layouts.specs.Whole.{Spells}
-use Rattle.cx_layouts.proofs.Wholes.{read_again}
+use Rattle.cx_enc.specs.Forms.{Form, IsLawful}
+use Rattle.cx_enc.specs.Whole.{Spells}
+use Rattle.cx_enc.proofs.Wholes.{read_again}
 use Rattle.cx_frame.specs.declared.frame.Frame.{Frame}
 use Rattle.cx_link.specs.Sending.{IsControl}
 use Rattle.cx_rules.specs.Payloads.{control, to_end, whole}

@@ -2,7 +2,7 @@
 
 ghost use Rattle.std.specs.Prelude.{◌≡◌, IfOk};
 ghost use Rattle.cx_control.specs.Upkeep.{keepalive2_layout};
-ghost use Rattle.cx_forms.specs.Moments.{IsReading};
+ghost use Rattle.cx_enc.specs.Moments.{IsReading};
 ghost use Rattle.cx_rules.specs.Payloads.{payload, whole};
 ghost use Rattle.cx_ends.specs.Sending.{SendsSecure};
 ghost use Rattle.cx_ends.specs.Upkeep.{acknowledged, answered, upkept};

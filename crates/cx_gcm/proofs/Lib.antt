@@ -1,3 +1,11 @@
+pub mod Lists
+pub mod Shifts
+pub mod Products
+pub mod Fronts
+pub mod Linear
+pub mod Digits
+pub mod ColumnProducts
+pub mod Steps
 pub mod KeyStream
 pub mod Padding
 pub mod Passing

@@ -4,10 +4,10 @@ use Rattle.std.specs.Int.{w64, to_be_bytes}
 use Rattle.std.proofs.lemmas.Bool.{cases_lt}
 use Rattle.std.proofs.lemmas.Nat.{from_be_bytes-to_be_bytes_8}
 use Rattle.std.proofs.lemmas.List.{drop_at, ext_get_or, get_or_append_left, get_or-append_right, get_or-drop, get_or_past, get_or-replicate, get_or-take, length-replicate}
-use Rattle.cx_ghash.specs.Blocks.{number, product, spelled, stepped}
+use Rattle.cx_gcm.specs.Blocks.{number, product, spelled, stepped}
 use Rattle.std.proofs.lemmas.Simd.{get_or-chunk, length-chunk}
 use lib.Lanes.{chunk}
-use Rattle.cx_ghash.proofs.Digits.{number-spelled}
+use Rattle.cx_gcm.proofs.Digits.{number-spelled}
 use Rattle.cx_gcm.specs.Gcm.{ghash, hashed}
 
 unfoldable pub padded : List ℕ → List ℕ

@@ -4,7 +4,7 @@ use Rattle.std.specs.Prelude.{◌≡◌, ℕ, zero, suc, ◌<◌, ◌+◌, ◌-�
 use Rattle.std.specs.Int.{w32, w64, from_be_bytes, to_be_bytes}
 use Rattle.std.specs.List.{flat_map, range_with_len}
 use Rattle.cx_aes.specs.Cipher.{add, aes}
-use Rattle.cx_ghash.specs.Blocks.{number, product, spelled}
+use Rattle.cx_gcm.specs.Blocks.{number, product, spelled}
 
 -- GHASH of the first n blocks (6.4)
 unfoldable pub ghash : ℕ → List ℕ → ℕ → ℕ

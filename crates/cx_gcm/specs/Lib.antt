@@ -1,3 +1,9 @@
+pub mod Blocks
+pub mod Multiples
+pub mod Key
+pub mod Fronts
+pub mod Powers
+pub mod Base
 pub mod Gcm
 pub mod Masks
 pub mod Prepared

@@ -5,10 +5,10 @@ ghost use Rattle.cx_aes.specs.KeyOf.{key_of};
 ghost use Rattle.cx_gcm.specs.Gcm.{GcmSealed, tag_of};
 ghost use Rattle.cx_gcm.specs.Prepared.{IsPrepared};
 
+use crate::Powers;
 use crate::counter::{add_key_stream, with_one_mask};
 use crate::hashing::{hash, is_same_tag};
 use cx_aes::Schedule;
-use cx_ghash::Powers;
 use thiserror::Error;
 
 /// The bytes that one nonce seals, at most.

@@ -1,13 +1,13 @@
 //! The hash of a cipher text (SP 800-38D, 6.4 and 7.1).
 
 ghost use Rattle.std.specs.Prelude.{◌≡◌, ℕ, ◌+◌, ◌*◌, ◌/◌, ◌<◌, ◌≤◌, ◌^◌, ◌↔◌, IsTrue, length, slice_index};
-ghost use Rattle.cx_ghash.specs.Base.{base_of};
-ghost use Rattle.cx_ghash.specs.Blocks.{spelled};
+ghost use Rattle.cx_gcm.specs.Base.{base_of};
+ghost use Rattle.cx_gcm.specs.Blocks.{spelled};
 ghost use Rattle.cx_gcm.specs.Gcm.{ghash, hashed};
 
 use crate::gcm_key::MAX_BYTES;
-use cx_ghash::{Powers, spelled};
-use cx_permute::are_sixteen;
+use crate::{Powers, spelled};
+use cx_aes::are_sixteen;
 use std::simd::prelude::*;
 
 // Four blocks at a time, then one, and at last the lengths.

@@ -2,8 +2,8 @@
 use Rattle.std.proofs.Common.{◌≡◌, ℕ, List, Option, Some, None, Result, Ok, Err, sym, subst}
 use Rattle.cx_control.specs.Calls.{IsReadBy}
 use Rattle.cx_control.specs.declared.refusals.WireRefusal.TheVariants as wire
-use Rattle.cx_forms.specs.Forms.{IsBytes}
-use Rattle.cx_layouts.specs.Whole.{Spells}
+use Rattle.cx_enc.specs.Forms.{IsBytes}
+use Rattle.cx_enc.specs.Whole.{Spells}
 use Rattle.cx_journal.specs.declared.faults.BytesFault.TheVariants as fault
 use Rattle.cx_login.specs.Client.{Ask, IsAnswered, IsDone, authenticate}
 use Rattle.cx_login.specs.declared.client.LoggedIn.{LoggedIn}

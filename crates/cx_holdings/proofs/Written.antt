@@ -6,9 +6,9 @@ use Rattle.std.proofs.lemmas.Bool.Decides.{nat_tests}
 use Rattle.cx_base.specs.Names.{Name, is_id, is_id_byte, same_kind}
 use Rattle.cx_base.specs.declared.kinds.EntityType.TheVariants.{Mon}
 use Rattle.cx_control.specs.Calls.{IsPutBy}
-use Rattle.cx_forms.specs.FieldLaws.{both_true}
-use Rattle.cx_forms.specs.Forms.{Form, little}
-use Rattle.cx_forms.specs.Values.{kind_form, name_form}
+use Rattle.cx_enc.specs.FieldLaws.{both_true}
+use Rattle.cx_enc.specs.Forms.{Form, little}
+use Rattle.cx_enc.specs.Values.{kind_form, name_form}
 use Rattle.cx_wire.specs.Logins.{login_hello_layout}
 
 -- the bytes are the text of the value

@@ -1,7 +1,7 @@
 //! The steps of a login, with the monitor's payloads read as the rules read them.
 
 ghost use Rattle.std.specs.Prelude.{◌≡◌, ◌<◌, ◌^◌, length, IfOk};
-ghost use Rattle.cx_layouts.specs.Whole.{Spells};
+ghost use Rattle.cx_enc.specs.Whole.{Spells};
 ghost use Rattle.cx_holdings.specs.Steps.{IsAnswerTo, IsOpenedBy};
 ghost use Rattle.cx_rules.specs.Payloads.{whole};
 ghost use Rattle.cx_wire.specs.Logins.{login_done_layout, login_hello_layout, server_challenge_layout};

@@ -7,8 +7,8 @@ use Rattle.std.proofs.lemmas.Bool.Decides.{nat_tests}
 use Rattle.cx_rotate.specs.declared.generations.Generation.{Generation}
 use Rattle.cx_rotate.specs.declared.states.KeptState.{KeptState}
 use Rattle.cx_rotate.specs.Keeping.{IsKeptState, IsLasting, IsLife}
-use Rattle.cx_forms.specs.Forms.{passed}
-use Rattle.cx_forms.specs.FieldLaws.{both_true, reading_is}
+use Rattle.cx_enc.specs.Forms.{passed}
+use Rattle.cx_enc.specs.FieldLaws.{both_true, reading_is}
 use Rattle.cx_keep.specs.Formats.{SpellsState, Stored, follows, generation_behind, generation_fields, generations_field, is_life, is_none_or_three, life_field, lives_of, state_of, state_text, stored_as, stored_layout}
 
 passed_good : {A : Type 0} (good : A → Bool) (a x : A) → passed good a ≡ Some x → good a ≡ true

@@ -3,11 +3,11 @@
 use Rattle.std.specs.Prelude.{ℕ, ◌≡◌, ◌+◌, ◌-◌, ◌*◌, ◌==◌, ◌&&◌, ◌||◌, Bool, true, nat_lt, nat_le, List, [], ◌∷◌, Option, Some, None, refl}
 use Rattle.cx_rotate.specs.declared.generations.Generation.{Generation}
 use Rattle.cx_rotate.specs.declared.states.KeptState.{KeptState}
-use Rattle.cx_layouts.specs.Layouts.{Layout, ◌⊗◌, ◌⊳◌, before, chain_by, chained, constant, only_if, seen_as, so_many, u8_field, u32_field, u64_field, reading_field, secret_field}
-use Rattle.cx_layouts.specs.Whole.{Spells, IsMisspelled}
-use Rattle.cx_forms.specs.Faults.{fault_place}
-use Rattle.cx_forms.specs.declared.faults.Misspelling.{Misspelling}
-use Rattle.cx_forms.specs.declared.faults.Misspelling.TheVariants.{Fault, LeftOver}
+use Rattle.cx_enc.specs.Layouts.{Layout, ◌⊗◌, ◌⊳◌, before, chain_by, chained, constant, only_if, seen_as, so_many, u8_field, u32_field, u64_field, reading_field, secret_field}
+use Rattle.cx_enc.specs.Whole.{Spells, IsMisspelled}
+use Rattle.cx_enc.specs.Faults.{fault_place}
+use Rattle.cx_enc.specs.declared.faults.Misspelling.{Misspelling}
+use Rattle.cx_enc.specs.declared.faults.Misspelling.TheVariants.{Fault, LeftOver}
 
 -- ---- fields
 

@@ -4,12 +4,12 @@ ghost use Rattle.std.specs.Prelude.{ℕ, ◌≡◌, ◌≤◌, ◌++◌, true, [
 ghost use Rattle.cx_rotate.specs.Held.{IsRising};
 ghost use Rattle.cx_rotate.specs.Keeping.{IsKeptState, IsLasting, IsLife};
 ghost use Rattle.cx_rotate.specs.declared.states.KeptState.{KeptState};
-ghost use Rattle.cx_forms.specs.Forms.{times};
-ghost use Rattle.cx_layouts.specs.Layouts.{only_if, u64_field, reading_field};
-ghost use Rattle.cx_forms.specs.Moments.{IsReading};
-ghost use Rattle.cx_forms.specs.Faults.{fault_place};
-ghost use Rattle.cx_fields.specs.Reading.{spot};
-ghost use Rattle.cx_layouts.specs.Whole.{GivesInPlace, part_at};
+ghost use Rattle.cx_enc.specs.Forms.{times};
+ghost use Rattle.cx_enc.specs.Layouts.{only_if, u64_field, reading_field};
+ghost use Rattle.cx_enc.specs.Moments.{IsReading};
+ghost use Rattle.cx_enc.specs.Faults.{fault_place};
+ghost use Rattle.cx_enc.specs.Reading.{spot};
+ghost use Rattle.cx_enc.specs.Whole.{GivesInPlace, part_at};
 ghost use Rattle.cx_keep.specs.Formats.{IsRefusedAt, SpellsState, count_field, follows, format_field, generation_behind, generation_fields, generations_field, gid_field, is_format, is_none_or_three, is_later, life_field, lives_in, lives_of, state_of, state_text, stored_as, stored_layout, three_field};
 
 use cx_base::{Blob, Reading};
@@ -28,7 +28,7 @@ pub struct BadState(pub usize);
 
 impl From<ReadFault> for BadState {
     ghost use Rattle.std.specs.Prelude.{◌≡◌};
-    ghost use Rattle.cx_forms.specs.Faults.{fault_place};
+    ghost use Rattle.cx_enc.specs.Faults.{fault_place};
 
     ghost from_gives = { λ fault bad. bad.0 ≡ fault_place fault };
 
@@ -112,7 +112,7 @@ fn take_life(cut: &mut Cut<'_>) -> Result<u64, ReadFault>
 }
 
 // The lives of a state of this format, which are these where it holds none.
-#[tactic(auto, unfolding(cx_forms::specs::Forms::times_at))]
+#[tactic(auto, unfolding(cx_enc::specs::Forms::times_at))]
 fn take_lives(cut: &mut Cut<'_>, format: u8, handed: (u64, u64)) -> Result<(u64, u64), ReadFault>
     requires { IsTrue (is_format format) }
     ensures { GivesInPlace (spot cut.new) result (part_at (lives_of handed) (times (lives_in format) life_field.form) (spot cut.old)) }
@@ -126,7 +126,7 @@ fn take_lives(cut: &mut Cut<'_>, format: u8, handed: (u64, u64)) -> Result<(u64,
 }
 
 // None or three generations.
-#[tactic(auto, unfolding(cx_forms::specs::Forms::chain_at))]
+#[tactic(auto, unfolding(cx_enc::specs::Forms::chain_at))]
 fn take_generations(cut: &mut Cut<'_>) -> Result<Generations, ReadFault>
     ensures { GivesInPlace (spot cut.new) result (generations_field.form.at (spot cut.old)) }
 {
@@ -148,7 +148,7 @@ fn take_count(cut: &mut Cut<'_>) -> Result<u8, ReadFault>
     Ok(count)
 }
 
-#[tactic(auto, unfolding(cx_forms::specs::Forms::chain_at))]
+#[tactic(auto, unfolding(cx_enc::specs::Forms::chain_at))]
 fn take_three(cut: &mut Cut<'_>) -> Result<Generations, ReadFault>
     ensures { GivesInPlace (spot cut.new) result (three_field.form.at (spot cut.old)) }
 {
@@ -251,7 +251,7 @@ fn put_state(alloc: Global, into: &mut Blob, state: &KeptState) -> Result<(), Al
     put_generations(alloc, into, &state.auth)
 }
 
-#[tactic(auto, unfolding(cx_forms::specs::Forms::chain_text))]
+#[tactic(auto, unfolding(cx_enc::specs::Forms::chain_text))]
 fn put_generations(
     alloc: Global,
     into: &mut Blob,
@@ -267,7 +267,7 @@ fn put_generations(
     }
 }
 
-#[tactic(auto, using(crate::proofs::Fitting::three_fit), unfolding(cx_forms::specs::Forms::chain_text))]
+#[tactic(auto, using(crate::proofs::Fitting::three_fit), unfolding(cx_enc::specs::Forms::chain_text))]
 fn put_three(alloc: Global, into: &mut Blob, three: &[Generation; 3]) -> Result<(), AllocError>
     requires { IsLasting three.now }
     ensures ok { OnOk result (into.new ≡ into.old ++ generations_field.form.text three.now) }

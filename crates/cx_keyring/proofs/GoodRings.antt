@@ -7,7 +7,7 @@ use Rattle.std.proofs.lemmas.List.Folds.{list_any-append}
 use Rattle.std.proofs.lemmas.List.Sums.{fold-append}
 use Rattle.cx_base.specs.Names.{Name, same_kind}
 use Rattle.cx_base.specs.declared.kinds.EntityType.{EntityType}
-use Rattle.cx_forms.specs.declared.keys.Key.{Key}
+use Rattle.cx_enc.specs.declared.keys.Key.{Key}
 use Rattle.cx_words.specs.Cutting.{lines_of}
 use Rattle.cx_keyring.specs.declared.entries.Entry.{Entry}
 use Rattle.cx_keyring.specs.declared.entries.Grant.{Grant}

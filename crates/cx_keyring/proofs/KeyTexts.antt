@@ -9,9 +9,9 @@ use Rattle.base64.specs.GeneralPurpose.{decode_of, encode_of, engine_symbols}
 use Rattle.base64.specs.Rfc4648.{encode_symbols, padding_len}
 use Rattle.base64.specs.Tables.{all_below}
 use Rattle.base64.proofs.Tables.{all_below_at}
-use Rattle.cx_forms.specs.Values.{key_form}
-use Rattle.cx_layouts.specs.Whole.{start, IsReadAgain}
-use Rattle.cx_forms.specs.declared.keys.Key.{Key}
+use Rattle.cx_enc.specs.Values.{key_form}
+use Rattle.cx_enc.specs.Whole.{start, IsReadAgain}
+use Rattle.cx_enc.specs.declared.keys.Key.{Key}
 use Rattle.cx_keyring.specs.Keys.{decoded_key, is_ink, key_of, key_text, whole_key, HasText}
 
 abbrev is_inked : ℕ → Bool

@@ -1,7 +1,7 @@
 -- What the lines of a printed keyring say: they are a keyring of its entries.
 use Rattle.std.proofs.Common.{◌≡◌, true, List, [], ◌∷◌, ◌++◌, Some, map, refl, ap, ◌∙◌, IsTrue}
 use Rattle.std.specs.List.{flat_map, list_all}
-use Rattle.cx_forms.specs.declared.keys.Key.{Key}
+use Rattle.cx_enc.specs.declared.keys.Key.{Key}
 use Rattle.cx_keyring.specs.declared.entries.Entry.{Entry}
 use Rattle.cx_keyring.specs.declared.entries.Grant.{Grant}
 use Rattle.cx_keyring.specs.declared.lines.Line.{Line}

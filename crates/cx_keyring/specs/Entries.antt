@@ -3,7 +3,7 @@ use Rattle.std.specs.Prelude.{◌≡◌, Bool, true, false, not, ◌&&◌, List,
 use Rattle.std.specs.List.{flat_map, list_all, list_any}
 use Rattle.cx_base.specs.Names.{Name, same_kind, same_name}
 use Rattle.cx_base.specs.declared.kinds.EntityType.{EntityType}
-use Rattle.cx_forms.specs.declared.keys.Key.{Key}
+use Rattle.cx_enc.specs.declared.keys.Key.{Key}
 use Rattle.cx_base.specs.Texts.{is_caps}
 use Rattle.cx_words.specs.Words.{is_service}
 use Rattle.cx_keyring.specs.declared.entries.Entry.{Entry}

@@ -4,11 +4,11 @@ use Rattle.std.specs.List.{list_all}
 use Rattle.base64.specs.Engines.{standard}
 use Rattle.base64.specs.GeneralPurpose.{decode_of, encode_of}
 use Rattle.base64.specs.declared.decode.DecodeError.{DecodeError}
-use Rattle.cx_forms.specs.declared.keys.Key.{Key}
-use Rattle.cx_forms.specs.declared.faults.ReadFault.{ReadFault}
-use Rattle.cx_forms.specs.Forms.{Spot}
-use Rattle.cx_forms.specs.Values.{key_form}
-use Rattle.cx_layouts.specs.Whole.{start}
+use Rattle.cx_enc.specs.declared.keys.Key.{Key}
+use Rattle.cx_enc.specs.declared.faults.ReadFault.{ReadFault}
+use Rattle.cx_enc.specs.Forms.{Spot}
+use Rattle.cx_enc.specs.Values.{key_form}
+use Rattle.cx_enc.specs.Whole.{start}
 
 -- the text of a key
 abbrev pub key_text : Key → List ℕ

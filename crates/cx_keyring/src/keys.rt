@@ -1,8 +1,8 @@
 //! Keys as keyrings write them: the 28 bytes of Ceph's encoding in base64.
 
 ghost use Rattle.std.specs.Prelude.{◌≡◌, IfOk};
-ghost use Rattle.cx_forms.specs.Values.{key_form};
-ghost use Rattle.cx_layouts.specs.Whole.{start};
+ghost use Rattle.cx_enc.specs.Values.{key_form};
+ghost use Rattle.cx_enc.specs.Whole.{start};
 ghost use Rattle.cx_keyring.specs.Keys.{key_of, whole_key};
 
 use base64::DecodeAllocError;

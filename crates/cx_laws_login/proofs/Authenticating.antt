@@ -6,7 +6,7 @@ use Rattle.cx_base.specs.Names.{Name}
 use Rattle.cx_base.specs.declared.kinds.EntityType.TheVariants.{Auth}
 use Rattle.cx_cbc.specs.Envelope.{sealed}
 use Rattle.cx_dice.specs.Draws.{connection_of, session_of}
-use Rattle.cx_forms.specs.Values.{name_form}
+use Rattle.cx_enc.specs.Values.{name_form}
 use Rattle.cx_frame.specs.declared.frame.Frame.{Frame}
 use Rattle.cx_journal.specs.declared.entries.Entry.{Entry}
 use Rattle.cx_journal.specs.declared.faults.BytesFault.{BytesFault}

@@ -15,7 +15,7 @@ use Rattle.cx_control.specs.declared.reconnects.SessionReconnect.{SessionReconne
 use Rattle.cx_control.specs.declared.upkeep.Keepalive2.{Keepalive2}
 use Rattle.cx_control.specs.declared.upkeep.Keepalive2Ack.{Keepalive2Ack}
 use Rattle.cx_dice.specs.Draws.{challenge_of}
-use Rattle.cx_forms.specs.Values.{name_form}
+use Rattle.cx_enc.specs.Values.{name_form}
 use Rattle.cx_frame.specs.declared.frame.Frame.{Frame}
 use Rattle.cx_journal.specs.declared.entries.Entry.{Entry}
 use Rattle.cx_journal.specs.declared.faults.BytesFault.{BytesFault}

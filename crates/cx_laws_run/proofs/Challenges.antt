@@ -6,8 +6,8 @@ use Rattle.cx_dice.specs.Draws.{challenge_of}
 use Rattle.cx_journal.specs.declared.node_names.NodeName.{NodeName}
 use Rattle.cx_journal.specs.declared.node_names.NodeName.TheVariants as node
 use Rattle.cx_journal.specs.declared.outcomes.Reason.TheVariants.{LinksFull}
-use Rattle.cx_places.specs.declared.choices.LeftState.{LeftState}
-use Rattle.cx_places.specs.declared.choices.LeftState.TheVariants as left
+use Rattle.cx_line_words.specs.declared.choices.LeftState.{LeftState}
+use Rattle.cx_line_words.specs.declared.choices.LeftState.TheVariants as left
 use Rattle.cx_rotate.specs.declared.states.KeptState.{KeptState}
 use Rattle.cx_rules.proofs.Drawing.{monitor-logs}
 use Rattle.cx_rules.specs.Acceptor.{AwaitsBanner, AwaitsHello, AwaitsRequest, AwaitsProof, AwaitsSignature, AwaitsIdent, Open}

@@ -1,16 +1,16 @@
 //! The form of entity lines.
 
 ghost use Rattle.std.specs.Prelude.{◌≡◌, ◌∷◌, [], ◌++◌, ◌&&◌, map, is_some, length, IfOk, IfSome};
-ghost use Rattle.cx_places.specs.Known.{nothing};
-ghost use Rattle.cx_places.specs.Places.{is_good};
-ghost use Rattle.cx_places.specs.Values.{CapsOf, ServiceOf, SpellsItem};
-ghost use Rattle.cx_places.specs.declared.places.Place.{Place};
+ghost use Rattle.cx_line_words.specs.Known.{nothing};
+ghost use Rattle.cx_line_words.specs.Places.{is_good};
+ghost use Rattle.cx_line_words.specs.Values.{CapsOf, ServiceOf, SpellsItem};
+ghost use Rattle.cx_line_words.specs.declared.places.Place.{Place};
 ghost use Rattle.cx_lines.specs.Settings.{entity_places, pair_places, IsSetting};
 ghost use Rattle.cx_lines.specs.declared.settings.SettingForm.{SettingForm};
 
 use crate::settings::Setting;
 use cx_base::{Duplicate, EntityType, Items, Text};
-use cx_places::{Known, Place, new_entity, new_service};
+use cx_line_words::{Known, Place, new_entity, new_service};
 use cx_words::caps;
 use std::alloc::{AllocError, Global};
 

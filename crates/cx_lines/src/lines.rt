@@ -10,7 +10,7 @@ use crate::node_steps::{NodeForm, NodeStep, node_places, node_step_named, node_s
 use crate::settings::{Setting, SettingForm, setting_named, setting_of, setting_places};
 use crate::sight::BadWord;
 use cx_base::Duplicate;
-use cx_places::{CommandForm, Known, Place, command_named};
+use cx_line_words::{CommandForm, Known, Place, command_named};
 use cx_words::is_word;
 use std::alloc::{AllocError, Global};
 

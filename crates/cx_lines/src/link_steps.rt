@@ -5,7 +5,7 @@ ghost use Rattle.cx_lines.specs.LinkSteps.{link_form, link_form_of, link_places,
 ghost use Rattle.cx_lines.specs.declared.link_steps.LinkForm.{LinkForm};
 
 use cx_base::{Blob, Duplicate};
-use cx_places::{Known, Place, Side, side_named};
+use cx_line_words::{Known, Place, Side, side_named};
 use cx_words::{hex, is_word, number};
 use std::alloc::{AllocError, Global};
 

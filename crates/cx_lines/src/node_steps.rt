@@ -5,7 +5,7 @@ ghost use Rattle.cx_lines.specs.NodeSteps.{node_form, node_form_of, node_places,
 ghost use Rattle.cx_lines.specs.declared.node_steps.NodeForm.{NodeForm};
 
 use cx_base::{Duplicate, EntityName, Reading};
-use cx_places::{Known, LeftState, Node, Place, daemon, known_node, state_named};
+use cx_line_words::{Known, LeftState, Node, Place, daemon, known_node, state_named};
 use cx_words::{is_word, number, reading};
 use std::alloc::{AllocError, Global};
 

@@ -1,15 +1,15 @@
 //! The form of send lines.
 
 ghost use Rattle.std.specs.Prelude.{◌≡◌, ◌∷◌, [], map, is_some, IfOk, IfSome};
-ghost use Rattle.cx_places.specs.declared.choices.CommandForm.{CommandForm};
-ghost use Rattle.cx_places.specs.Known.{nothing};
-ghost use Rattle.cx_places.specs.Places.{are_good};
-ghost use Rattle.cx_places.specs.Values.{SpellsItems};
+ghost use Rattle.cx_line_words.specs.declared.choices.CommandForm.{CommandForm};
+ghost use Rattle.cx_line_words.specs.Known.{nothing};
+ghost use Rattle.cx_line_words.specs.Places.{are_good};
+ghost use Rattle.cx_line_words.specs.Values.{SpellsItems};
 ghost use Rattle.cx_lines.specs.Commands.{operation_items, operation_places, IsCommand};
 
 use crate::commands::Command;
 use cx_base::Operation;
-use cx_places::{Known, Place, client, daemon, operation_data};
+use cx_line_words::{Known, Place, client, daemon, operation_data};
 use cx_words::{access, part};
 use std::alloc::{AllocError, Global};
 

@@ -6,7 +6,7 @@ ghost use Rattle.cx_lines.specs.declared.settings.SettingForm.{SettingForm};
 
 use crate::entity::{Grant, entity_of, entity_places};
 use cx_base::{Duplicate, EntityName, Items, copy_items};
-use cx_places::{Known, Modes, Node, Place, life, modes_named, unleaked, unmoded, unseeded};
+use cx_line_words::{Known, Modes, Node, Place, life, modes_named, unleaked, unmoded, unseeded};
 use cx_words::{is_word, number};
 use std::alloc::{AllocError, Global};
 

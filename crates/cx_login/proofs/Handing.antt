@@ -5,9 +5,9 @@ use Rattle.std.proofs.lemmas.List.{take_at}
 use Rattle.std.proofs.lemmas.List.Elements.{All-take, All-drop}
 use Rattle.cx_aes.specs.Cipher.{IsBlock}
 use Rattle.cx_aes.proofs.Keys.{IsBlock-array}
-use Rattle.cx_forms.specs.Forms.{Form, IsLawful, little}
-use Rattle.cx_layouts.specs.Whole.{Spells}
-use Rattle.cx_forms.specs.Values.{kind_form, reading_form, secret_form, key_form, time_form}
+use Rattle.cx_enc.specs.Forms.{Form, IsLawful, little}
+use Rattle.cx_enc.specs.Whole.{Spells}
+use Rattle.cx_enc.specs.Values.{kind_form, reading_form, secret_form, key_form, time_form}
 use Rattle.cx_journal.specs.declared.premises.KeyKind.{KeyKind}
 use Rattle.cx_journal.specs.declared.premises.KeyKind.TheVariants as kind
 use Rattle.cx_sealed.specs.Records.{ticket_info_layout, connection_secret_layout}

@@ -4,8 +4,8 @@ use Rattle.std.specs.Prelude.{◌&&◌, nat_le}
 use Rattle.std.specs.List.{AllByRecursion}
 use Rattle.std.proofs.lemmas.List.Elements.{All-from_recursion}
 use Rattle.cx_base.specs.declared.kinds.EntityType.{EntityType}
-use Rattle.cx_forms.specs.Forms.{ChainFits, passed}
-use Rattle.cx_forms.specs.Values.{ticket_form}
+use Rattle.cx_enc.specs.Forms.{ChainFits, passed}
+use Rattle.cx_enc.specs.Values.{ticket_form}
 use Rattle.cx_wire.specs.Logins.{login_done_layout}
 use Rattle.cx_wire.specs.Services.{ticket_part_layout, behind}
 use Rattle.cx_wire.specs.declared.logins.LoginDone.{LoginDone}

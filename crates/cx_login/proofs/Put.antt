@@ -1,7 +1,7 @@
 -- Written bytes.
 use Rattle.std.proofs.Common.{ℕ, List, [], Ok, sym, subst}
-use Rattle.cx_forms.specs.Forms.{Form}
-use Rattle.cx_layouts.specs.Whole.{Spells}
+use Rattle.cx_enc.specs.Forms.{Form}
+use Rattle.cx_enc.specs.Whole.{Spells}
 use Rattle.cx_control.specs.Calls.{IsPutBy}
 
 -- what is written behind nothing is spelled by all of the bytes

@@ -1,10 +1,10 @@
 -- What was tried to open, and what is spelled.
 use Rattle.std.proofs.Common.{◌≡◌, ℕ, ◌+◌, List, [], length, ◌∙◌, Option, Some, None, Result, Ok, Err, refl, sym, ap}
-use Rattle.cx_layouts.specs.Layouts.{Layout}
-use Rattle.cx_forms.specs.Forms.{Spot, Form}
-use Rattle.cx_layouts.specs.Whole.{start, Spells}
-use Rattle.cx_forms.specs.declared.faults.ReadFault.{ReadFault}
-use Rattle.cx_layouts.proofs.Wholes.{read_again}
+use Rattle.cx_enc.specs.Layouts.{Layout}
+use Rattle.cx_enc.specs.Forms.{Spot, Form}
+use Rattle.cx_enc.specs.Whole.{start, Spells}
+use Rattle.cx_enc.specs.declared.faults.ReadFault.{ReadFault}
+use Rattle.cx_enc.proofs.Wholes.{read_again}
 use Rattle.cx_sealed.specs.Sealing.{OpensTo, IsOpened}
 use Rattle.cx_sealed.specs.declared.refusals.SealedRefusal.{SealedRefusal}
 use Rattle.cx_sealed.specs.declared.refusals.SealedRefusal.TheVariants.{Unopened, Misread, OutOfMemory}

@@ -1,8 +1,8 @@
 -- The client's side of a login ("detailed cephx protocol": the client answers the monitor's challenge by an Authenticate, and opens
 -- what it is given).
 use Rattle.std.specs.Prelude.{ℕ, ◌≡◌, List, [], Option, Some, None, Result, Ok, Err, IfOk, IfErr}
-use Rattle.cx_layouts.specs.Whole.{Spells}
-use Rattle.cx_forms.specs.declared.tickets.TicketBlob.{TicketBlob}
+use Rattle.cx_enc.specs.Whole.{Spells}
+use Rattle.cx_enc.specs.declared.tickets.TicketBlob.{TicketBlob}
 use Rattle.cx_control.specs.Calls.{IsRefusedFor}
 use Rattle.cx_control.specs.declared.refusals.WireRefusal.TheVariants as wire
 use Rattle.cx_steps.specs.declared.seals.SealEntry.{SealEntry}

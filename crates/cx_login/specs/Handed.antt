@@ -1,7 +1,7 @@
 -- What the key server hands out at a login ("detailed cephx protocol").
 use Rattle.std.specs.Prelude.{ℕ, List, ◌∷◌, map, Result}
 use Rattle.std.specs.List.{AllByRecursion}
-use Rattle.cx_layouts.specs.Whole.{Spells}
+use Rattle.cx_enc.specs.Whole.{Spells}
 use Rattle.cx_sealed.specs.Records.{ticket_info_layout, connection_secret_layout}
 use Rattle.cx_sealed.specs.Sealing.{OpensTo}
 use Rattle.cx_sealed.specs.declared.ticket_info.TicketInfo.{TicketInfo}

@@ -1,7 +1,7 @@
 -- What comes of opening a sealed record.
 use Rattle.std.specs.Prelude.{ℕ, ◌≡◌, ◌==◌, List, Option, Some, IfSome, find}
 use Rattle.std.specs.Option.{option_map}
-use Rattle.cx_forms.specs.Forms.{Form}
+use Rattle.cx_enc.specs.Forms.{Form}
 use Rattle.cx_rotate.specs.declared.generations.Generation.{Generation}
 use Rattle.cx_sealed.specs.Sealing.{OpensTo}
 

@@ -2,8 +2,8 @@
 -- its record ("detailed cephx protocol": the client opens what it is given; the monitor opens an old ticket).
 use Rattle.std.specs.Prelude.{ℕ, ◌≡◌, List, [], ◌∷◌, ◌++◌, Option, Some, None, Result, Ok, Err}
 use Rattle.std.specs.declared.alloc.AllocError.{AllocError}
-use Rattle.cx_forms.specs.Forms.{Form}
-use Rattle.cx_forms.specs.declared.tickets.TicketBlob.{TicketBlob}
+use Rattle.cx_enc.specs.Forms.{Form}
+use Rattle.cx_enc.specs.declared.tickets.TicketBlob.{TicketBlob}
 use Rattle.cx_journal.specs.declared.premises.KeyKind.{KeyKind}
 use Rattle.cx_journal.specs.declared.premises.KeyKind.TheVariants as kind
 use Rattle.cx_rotate.specs.declared.generations.Generation.{Generation}

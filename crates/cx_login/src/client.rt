@@ -2,7 +2,7 @@
 
 ghost use Rattle.std.specs.Prelude.{◌≡◌, ◌≤◌, ◌<◌, ◌^◌, ◌∷◌, All, length, IsTrue, IfOk};
 ghost use Rattle.cx_aes.specs.Cipher.{IsBlock};
-ghost use Rattle.cx_layouts.specs.Whole.{Spells};
+ghost use Rattle.cx_enc.specs.Whole.{Spells};
 ghost use Rattle.cx_wire.specs.Logins.{authenticate_layout, login_done_layout, is_version};
 ghost use Rattle.cx_login.specs.Held.{IsShort};
 ghost use Rattle.cx_login.specs.Client.{version_of, shown_ticket, authenticate, IsAnswered, IsDone};

@@ -2,7 +2,7 @@
 use Rattle.std.proofs.Common.{ℕ, ◌≡◌, ◌<◌, ◌^◌, List, [], length, refl, arith}
 use Rattle.std.proofs.lemmas.List.Elements.{All-cons, All-nil}
 use Rattle.cx_control.specs.BadMethod.{bad_method_layout, written_method}
-use Rattle.cx_forms.specs.Forms.{little}
+use Rattle.cx_enc.specs.Forms.{little}
 use Rattle.cx_frame.specs.Frames.{IsAnnounceable, IsAboveLimit}
 use Rattle.cx_frame.specs.declared.frame.Frame.{Frame}
 use Rattle.cx_frame.specs.declared.frame.Segment.{Segment}

@@ -1,8 +1,8 @@
 -- Payloads that spell a value are read as it.
 use Rattle.std.proofs.Common.{ℕ, ◌≡◌, List, Ok, ap, ◌∙◌}
-use Rattle.cx_forms.specs.Forms.{Form, IsLawful}
-use Rattle.cx_layouts.specs.Whole.{Spells, SpellsPart}
-use Rattle.cx_layouts.proofs.Wholes.{read_again}
+use Rattle.cx_enc.specs.Forms.{Form, IsLawful}
+use Rattle.cx_enc.specs.Whole.{Spells, SpellsPart}
+use Rattle.cx_enc.proofs.Wholes.{read_again}
 use Rattle.cx_rules.specs.Payloads.{whole, to_end}
 use Rattle.cx_node.specs.Parts.{part_of}
 

@@ -10,7 +10,7 @@ use Rattle.cx_rotate.specs.declared.views.View.{View}
 use Rattle.cx_journal.specs.declared.entries.Entry.{Entry}
 use Rattle.cx_journal.specs.declared.entries.Issued.{Issued}
 use Rattle.cx_journal.specs.declared.outcomes.TicketFault.{TicketFault}
-use Rattle.cx_places.specs.Values.{is_life}
+use Rattle.cx_line_words.specs.Values.{is_life}
 use Rattle.cx_plain.specs.PlainLines.{is_plain_in_range}
 use Rattle.cx_plain.specs.declared.lines.PlainLine.{PlainLine}
 use Rattle.cx_plain.specs.declared.lines.PlainLine.TheVariants as line

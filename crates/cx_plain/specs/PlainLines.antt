@@ -1,6 +1,6 @@
 -- The lines that the plain run takes: all but those that speak of bytes, draws, modes, leaks, single nodes and saves.
 use Rattle.std.specs.Prelude.{ℕ, ◌≡◌, Bool, true, false, nat_lt, List, [], ◌∷◌, Option, Some, None}
-use Rattle.cx_places.specs.Values.{is_life}
+use Rattle.cx_line_words.specs.Values.{is_life}
 use Rattle.cx_lines.specs.declared.commands.Command.{Command}
 use Rattle.cx_lines.specs.declared.commands.Command.TheVariants as command
 use Rattle.cx_lines.specs.declared.lines.Line.{Line}

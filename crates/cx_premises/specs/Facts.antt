@@ -3,7 +3,7 @@ use Rattle.std.specs.Prelude.{ℕ, ◌≡◌, Bool, true, false, List, Option, S
 use Rattle.std.specs.BTreeSet.{BTreeSet, contains, Updates}
 use Rattle.std.specs.declared.cmp.Ordering.{Ordering}
 use Rattle.cx_base.specs.Names.{Name}
-use Rattle.cx_places.specs.Named.{is_among}
+use Rattle.cx_line_words.specs.Named.{is_among}
 use Rattle.cx_premises.specs.declared.facts.Fact.{Fact}
 use Rattle.cx_premises.specs.declared.facts.Fact.TheVariants as fact
 use Rattle.cx_premises.specs.contracts.facts.FactOrd.TheImpl as fact_order

@@ -4,7 +4,7 @@ ghost use Rattle.std.specs.Prelude.{◌≡◌, take, IfOk, true};
 ghost use Rattle.cx_premises.specs.Facts.{sealed_fact, signed_fact, key_fact, draw_fact};
 
 use cx_base::{Blob, Duplicate};
-use cx_places::Names;
+use cx_line_words::Names;
 use cx_steps::{DrawMark, SealMark};
 use std::alloc::{AllocError, Global};
 

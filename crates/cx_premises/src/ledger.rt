@@ -15,7 +15,7 @@ use crate::findings::{Findings, Suspect};
 use crate::kept::Kept;
 use cx_base::{Duplicate, EntityName, EntityType};
 use cx_journal::{Broken, KeyKind, NodeName, Premise};
-use cx_places::Names;
+use cx_line_words::Names;
 use cx_steps::{DrawMark, Logged, SealEntry, SealMark};
 use std::alloc::{AllocError, Global};
 

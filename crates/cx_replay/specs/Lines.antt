@@ -7,9 +7,9 @@ use Rattle.cx_lines.specs.declared.lines.Line.{Line}
 use Rattle.cx_lines.specs.declared.lines.Line.TheVariants as line
 use Rattle.cx_lines.specs.declared.lines.Numbered.{Numbered}
 use Rattle.cx_lines.specs.declared.node_steps.NodeStep.TheVariants as step
-use Rattle.cx_places.specs.declared.nodes.Node.{Node}
-use Rattle.cx_places.specs.declared.nodes.Node.TheVariants as place
-use Rattle.cx_places.specs.Known.{is_daemon_kind}
+use Rattle.cx_line_words.specs.declared.nodes.Node.{Node}
+use Rattle.cx_line_words.specs.declared.nodes.Node.TheVariants as place
+use Rattle.cx_line_words.specs.Known.{is_daemon_kind}
 
 -- a fetch, connect or send line, which only the plain run serves yet
 abbrev pub is_daemon_line : Line → Bool

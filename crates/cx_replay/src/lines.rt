@@ -2,12 +2,12 @@
 
 ghost use Rattle.std.specs.Prelude.{◌≡◌};
 ghost use Rattle.std.specs.List.{list_any};
-ghost use Rattle.cx_places.specs.Known.{is_daemon_kind};
+ghost use Rattle.cx_line_words.specs.Known.{is_daemon_kind};
 ghost use Rattle.cx_replay.specs.Lines.{first_ahead, has_daemon_line, is_ahead, is_ahead_do, is_daemon_line, is_daemon_node};
 
 use cx_base::EntityType;
+use cx_line_words::Node;
 use cx_lines::{Command, Line, NodeStep, Numbered};
-use cx_places::Node;
 
 /// Whether a fetch, connect or send line is among these.
 pub fn has_daemon_line(lines: &[Numbered]) -> bool

@@ -1,7 +1,7 @@
 -- What the rules write is computed.
 use Rattle.std.proofs.Common.{refl}
-use Rattle.cx_forms.specs.Forms.{little}
-use Rattle.cx_forms.specs.Values.{addr_form, flag_form, name_form}
+use Rattle.cx_enc.specs.Forms.{little}
+use Rattle.cx_enc.specs.Values.{addr_form, flag_form, name_form}
 use Rattle.cx_frame.specs.Banners.{banner_text}
 use Rattle.cx_rules.specs.Recorded.{WritesAsRecorded}
 

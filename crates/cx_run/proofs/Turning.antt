@@ -6,9 +6,9 @@ use Rattle.cx_base.proofs.Names.{same_name_is}
 use Rattle.cx_base.specs.Names.{Name}
 use Rattle.cx_journal.specs.declared.node_names.NodeName.{NodeName}
 use Rattle.cx_journal.specs.declared.node_names.NodeName.TheVariants as node
-use Rattle.cx_places.specs.declared.choices.LeftState.{LeftState}
-use Rattle.cx_places.specs.declared.choices.LeftState.TheVariants as left
-use Rattle.cx_places.specs.declared.choices.Side.{Side}
+use Rattle.cx_line_words.specs.declared.choices.LeftState.{LeftState}
+use Rattle.cx_line_words.specs.declared.choices.LeftState.TheVariants as left
+use Rattle.cx_line_words.specs.declared.choices.Side.{Side}
 use Rattle.cx_rotate.specs.declared.states.KeptState.{KeptState}
 use Rattle.cx_rules.specs.ClientRule.{Client, ClientNode, client_rule, me, with_asker}
 use Rattle.cx_rules.specs.ClientRule as client

@@ -2,8 +2,8 @@
 use Rattle.std.specs.Prelude.{ℕ, ◌==◌, Bool, false, List, [], ◌∷◌, ◌++◌, drop, filter, length, replicate, take, Option, Some, None, if◌then◌else◌}
 use Rattle.cx_journal.specs.declared.node_names.NodeName.{NodeName}
 use Rattle.cx_journal.specs.declared.node_names.NodeName.TheVariants as node
-use Rattle.cx_places.specs.declared.choices.Side.{Side}
-use Rattle.cx_places.specs.declared.choices.Side.TheVariants.{Connector, Acceptor}
+use Rattle.cx_line_words.specs.declared.choices.Side.{Side}
+use Rattle.cx_line_words.specs.declared.choices.Side.TheVariants.{Connector, Acceptor}
 use Rattle.cx_rules.specs.ClientRule.{ClientNode}
 use Rattle.cx_rules.specs.Inputs.{Input, Opened, Bytes, Turn, Gone, Restart}
 use Rattle.cx_rules.specs.Links.{Link, link_of}

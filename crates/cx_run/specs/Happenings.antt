@@ -4,8 +4,8 @@ use Rattle.cx_base.specs.Names.{Name, same_name}
 use Rattle.cx_journal.specs.declared.entries.Entry.{Entry}
 use Rattle.cx_journal.specs.declared.node_names.NodeName.{NodeName}
 use Rattle.cx_journal.specs.declared.node_names.NodeName.TheVariants as node
-use Rattle.cx_places.specs.declared.choices.LeftState.{LeftState}
-use Rattle.cx_places.specs.declared.choices.LeftState.TheVariants as left
+use Rattle.cx_line_words.specs.declared.choices.LeftState.{LeftState}
+use Rattle.cx_line_words.specs.declared.choices.LeftState.TheVariants as left
 use Rattle.cx_rotate.specs.declared.states.KeptState.{KeptState}
 use Rattle.cx_rules.specs.ClientRule.{ClientNode, client_rule}
 use Rattle.cx_rules.specs.Inputs.{Input}

@@ -14,10 +14,10 @@ use Rattle.cx_lines.specs.declared.lines.Line.TheVariants as line
 use Rattle.cx_lines.specs.declared.lines.Numbered.{Numbered}
 use Rattle.cx_lines.specs.declared.settings.Setting.{Setting}
 use Rattle.cx_lines.specs.declared.settings.Setting.TheVariants as setting
-use Rattle.cx_places.specs.declared.choices.Modes.{Modes}
-use Rattle.cx_places.specs.declared.choices.Modes.TheVariants.{Crc, Secure, Both}
-use Rattle.cx_places.specs.declared.nodes.Node.{Node}
-use Rattle.cx_places.specs.declared.nodes.Node.TheVariants as place
+use Rattle.cx_line_words.specs.declared.choices.Modes.{Modes}
+use Rattle.cx_line_words.specs.declared.choices.Modes.TheVariants.{Crc, Secure, Both}
+use Rattle.cx_line_words.specs.declared.nodes.Node.{Node}
+use Rattle.cx_line_words.specs.declared.nodes.Node.TheVariants as place
 use Rattle.cx_rotate.specs.declared.states.KeptState.{KeptState}
 use Rattle.cx_rules.specs.ClientRule.{ClientNode, opening_client}
 use Rattle.cx_rules.specs.Holdings.{Asker, holds_nothing, modes_of}

@@ -2,7 +2,7 @@
 use Rattle.std.specs.Prelude.{ℕ, zero, suc, List, [], ◌∷◌, map, sum_by, Option, Some, None, if◌then◌else◌}
 use Rattle.std.specs.List.{slice_get}
 use Rattle.cx_base.specs.declared.kinds.EntityType.{EntityType}
-use Rattle.cx_forms.specs.Values.{number_of}
+use Rattle.cx_enc.specs.Values.{number_of}
 use Rattle.cx_journal.specs.declared.node_names.NodeName.{NodeName}
 use Rattle.cx_journal.specs.declared.node_names.NodeName.TheVariants as node
 use Rattle.cx_lines.specs.declared.commands.Command.{Command}
@@ -14,10 +14,10 @@ use Rattle.cx_lines.specs.declared.link_steps.LinkStep.{LinkStep}
 use Rattle.cx_lines.specs.declared.link_steps.LinkStep.TheVariants as link
 use Rattle.cx_lines.specs.declared.node_steps.NodeStep.{NodeStep}
 use Rattle.cx_lines.specs.declared.node_steps.NodeStep.TheVariants as step
-use Rattle.cx_places.specs.declared.choices.Side.{Side}
-use Rattle.cx_places.specs.declared.choices.Side.TheVariants.{Connector, Acceptor}
-use Rattle.cx_places.specs.declared.nodes.Node.{Node}
-use Rattle.cx_places.specs.declared.nodes.Node.TheVariants as place
+use Rattle.cx_line_words.specs.declared.choices.Side.{Side}
+use Rattle.cx_line_words.specs.declared.choices.Side.TheVariants.{Connector, Acceptor}
+use Rattle.cx_line_words.specs.declared.nodes.Node.{Node}
+use Rattle.cx_line_words.specs.declared.nodes.Node.TheVariants as place
 use Rattle.cx_rules.specs.Inputs.{Submit}
 use Rattle.cx_steps.specs.declared.events.Command.TheVariants as told
 use Rattle.cx_run.specs.Deliveries.{arrives_from, comes, delivers, restarts, settles, tells_gone}

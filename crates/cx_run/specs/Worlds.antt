@@ -4,7 +4,7 @@ use Rattle.std.specs.Prelude.{ℕ, suc, List, [], ◌∷◌, ◌++◌, find, map
 use Rattle.cx_dice.specs.Rolls.{seed_draw}
 use Rattle.cx_journal.specs.declared.node_names.NodeName.{NodeName}
 use Rattle.cx_journal.specs.declared.node_names.NodeName.TheVariants as node
-use Rattle.cx_places.specs.declared.choices.LeftState.{LeftState}
+use Rattle.cx_line_words.specs.declared.choices.LeftState.{LeftState}
 use Rattle.cx_rules.specs.Inputs.{Input}
 use Rattle.cx_steps.specs.declared.effects.Effects.{Effects}
 use Rattle.cx_steps.specs.declared.effects.Piece.{Piece}

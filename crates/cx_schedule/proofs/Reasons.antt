@@ -1,7 +1,7 @@
 -- Bytes are refused for one reason: a limit, or the first line outside of the grammar, with its one fault.
 use Rattle.std.proofs.Common.{◌≡◌, ℕ, ◌+◌, ◌⊎◌, List, [], ◌∷◌, Option, None, Some, refl, sym, ◌∙◌, inl, inr}
 use Rattle.cx_words.specs.Cutting.{lines_of}
-use Rattle.cx_places.specs.declared.known.Known.{Known}
+use Rattle.cx_line_words.specs.declared.known.Known.{Known}
 use Rattle.cx_lines.specs.declared.sight.BadWord.{BadWord}
 use Rattle.cx_lines.specs.declared.lines.Numbered.{Numbered}
 use Rattle.cx_lines.specs.Knowing.{known_of}

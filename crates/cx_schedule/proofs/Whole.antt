@@ -4,8 +4,8 @@ use Rattle.std.specs.Prelude.{fold}
 use Rattle.std.specs.List.{list_all}
 use Rattle.std.proofs.lemmas.List.Folds.{list_all-append}
 use Rattle.cx_words.specs.Cutting.{is_skipped, lines_of}
-use Rattle.cx_places.specs.declared.known.Known.{Known}
-use Rattle.cx_places.specs.Known.{nothing}
+use Rattle.cx_line_words.specs.declared.known.Known.{Known}
+use Rattle.cx_line_words.specs.Known.{nothing}
 use Rattle.cx_lines.specs.declared.sight.BadWord.{BadWord}
 use Rattle.cx_lines.specs.declared.lines.Line.{Line}
 use Rattle.cx_lines.specs.declared.lines.Numbered.{Numbered}

@@ -2,7 +2,7 @@
 use Rattle.std.specs.Prelude.{ℕ, ◌+◌, ◌≤◌, ◌≡◌, ◌⊎◌, Bool, true, false, List, [], ◌∷◌, ◌++◌, length, take, codes, Some, Result, Ok, Err}
 use Rattle.std.specs.Str.{bytes_eq}
 use Rattle.cx_words.specs.Cutting.{lines_of, words_of, is_skipped}
-use Rattle.cx_places.specs.declared.known.Known.{Known}
+use Rattle.cx_line_words.specs.declared.known.Known.{Known}
 use Rattle.cx_lines.specs.declared.lines.Line.{Line}
 use Rattle.cx_lines.specs.declared.lines.Numbered.{Numbered}
 use Rattle.cx_lines.specs.declared.refusals.LineRefusal.{LineRefusal}

@@ -13,8 +13,8 @@ ghost use Rattle.cx_schedule.specs.declared.refusals.ScheduleRefusal.{ScheduleRe
 use crate::limits::is_short;
 use crate::refusals::ScheduleRefusal;
 use cx_base::{Duplicate, Items, copy_items};
+use cx_line_words::Known;
 use cx_lines::{Line, LineRefusal, Numbered, line_of, note};
-use cx_places::Known;
 use cx_words::{first_line, is_skipped, words};
 use std::alloc::{AllocError, Global};
 use std::marker::Model;

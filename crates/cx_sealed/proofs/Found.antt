@@ -8,12 +8,12 @@ use Rattle.cx_cbc.specs.Envelope.{Opens}
 use Rattle.cx_cbc.specs.Opened.{opened}
 use Rattle.cx_cbc.proofs.Contents.{opens_one}
 use Rattle.cx_cbc.proofs.OpeningLaws.{opened-Opens, Opens-opened}
-use Rattle.cx_forms.specs.declared.faults.ReadFault.{ReadFault}
-use Rattle.cx_forms.specs.declared.faults.ReadRefusal.{ReadRefusal}
-use Rattle.cx_forms.specs.declared.faults.ReadRefusal.TheVariants as refusals
-use Rattle.cx_forms.specs.Forms.{Spot, Form, IsBytes, IsLawful}
-use Rattle.cx_layouts.specs.Whole.{start, Spells, IsRefusedBy}
-use Rattle.cx_layouts.proofs.Wholes.{spelled, read_again}
+use Rattle.cx_enc.specs.declared.faults.ReadFault.{ReadFault}
+use Rattle.cx_enc.specs.declared.faults.ReadRefusal.{ReadRefusal}
+use Rattle.cx_enc.specs.declared.faults.ReadRefusal.TheVariants as refusals
+use Rattle.cx_enc.specs.Forms.{Spot, Form, IsBytes, IsLawful}
+use Rattle.cx_enc.specs.Whole.{start, Spells, IsRefusedBy}
+use Rattle.cx_enc.proofs.Wholes.{spelled, read_again}
 use Rattle.cx_sealed.specs.declared.refusals.SealedRefusal.TheVariants.{Unopened, Misread}
 use Rattle.cx_sealed.specs.declared.unsealed.Unsealed.{Unsealed}
 use Rattle.cx_sealed.specs.Sealing.{OpensTo, IsOpened}

@@ -3,8 +3,8 @@ use Rattle.std.proofs.Common.{◌≡◌, ◌+◌, ◌==◌, Bool, true, false, L
 use Rattle.std.specs.Prelude.{◌&&◌}
 use Rattle.cx_rotate.specs.declared.generations.Generation.{Generation}
 use Rattle.cx_rotate.specs.Held.{IsRising}
-use Rattle.cx_forms.specs.Forms.{passed}
-use Rattle.cx_forms.specs.FieldLaws.{both_true}
+use Rattle.cx_enc.specs.Forms.{passed}
+use Rattle.cx_enc.specs.FieldLaws.{both_true}
 use Rattle.cx_sealed.specs.Records.{is_rising}
 
 -- generations that stand have ids that rise

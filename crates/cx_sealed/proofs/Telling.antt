@@ -1,10 +1,10 @@
 -- The kind byte tells which record a content spells, and its layout which value.
 use Rattle.std.proofs.Common.{◌≡◌, ℕ, ◌==◌, List, Option, Some, None, Result, Ok, Err, length, refl, ap, sym, ◌∙◌, arith}
 use Rattle.std.specs.Prelude.{slice_index, if◌then◌else◌}
-use Rattle.cx_forms.specs.declared.faults.ReadFault.{ReadFault}
-use Rattle.cx_forms.specs.Forms.{Spot, little}
-use Rattle.cx_layouts.specs.Whole.{start}
-use Rattle.cx_layouts.proofs.Wholes.{read_again}
+use Rattle.cx_enc.specs.declared.faults.ReadFault.{ReadFault}
+use Rattle.cx_enc.specs.Forms.{Spot, little}
+use Rattle.cx_enc.specs.Whole.{start}
+use Rattle.cx_enc.proofs.Wholes.{read_again}
 use Rattle.cx_sealed.specs.Kinds.{AnyRecord, of_service_ticket, of_ticket_info, of_authorize, of_authorize_challenge, of_authorize_reply, of_rotating_reply, of_connection_secret, SpellsAny, SpellsOne, IsNoProof}
 use Rattle.cx_sealed.specs.Records.{service_ticket_layout, ticket_info_layout, authorize_layout, authorize_challenge_layout, authorize_reply_layout, rotating_reply_layout, connection_secret_layout}
 use Rattle.cx_sealed.specs.Lengths.{length-service_ticket, length-ticket_info, length-authorize, length-authorize_challenge, length-authorize_reply, length-rotating_reply, length-connection_secret}

@@ -1,6 +1,6 @@
 -- The records that cephx seals as one type, for the laws over all of them.
 use Rattle.std.specs.Prelude.{ℕ, ◌≡◌, ◌≢◌, List, length}
-use Rattle.cx_layouts.specs.Whole.{Spells}
+use Rattle.cx_enc.specs.Whole.{Spells}
 use Rattle.cx_sealed.specs.Records.{service_ticket_layout, ticket_info_layout, authorize_layout, authorize_challenge_layout, authorize_reply_layout, rotating_reply_layout, connection_secret_layout}
 use Rattle.cx_sealed.specs.declared.service_ticket.ServiceTicket.{ServiceTicket}
 use Rattle.cx_sealed.specs.declared.ticket_info.TicketInfo.{TicketInfo}

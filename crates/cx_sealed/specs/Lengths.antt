@@ -11,9 +11,9 @@ use Rattle.cx_base.specs.declared.kinds.EntityType.TheVariants.{Mon}
 use Rattle.cx_base.specs.Names.{Name, is_id, is_id_byte, same_kind, with_id}
 use Rattle.cx_base.specs.Texts.{is_caps, is_caps_byte}
 use Rattle.cx_rotate.specs.declared.generations.Generation.{Generation}
-use Rattle.cx_forms.specs.Forms.{little, passed}
-use Rattle.cx_forms.specs.FieldLaws.{both_true}
-use Rattle.cx_forms.specs.Values.{time_form, reading_form, key_form, secret_form, sized_form, kind_form, kind_of, number_of, name_form, flag_form}
+use Rattle.cx_enc.specs.Forms.{little, passed}
+use Rattle.cx_enc.specs.FieldLaws.{both_true}
+use Rattle.cx_enc.specs.Values.{time_form, reading_form, key_form, secret_form, sized_form, kind_form, kind_of, number_of, name_form, flag_form}
 use Rattle.cx_sealed.specs.Records.{service_ticket_layout, ticket_info_layout, authorize_layout, authorize_challenge_layout, authorize_reply_layout, generation_layout, rotating_reply_layout, connection_secret_layout, is_rising, is_none_or_three}
 use Rattle.cx_sealed.specs.declared.service_ticket.ServiceTicket.{ServiceTicket}
 use Rattle.cx_sealed.specs.declared.ticket_info.TicketInfo.{TicketInfo}

@@ -3,11 +3,11 @@
 use Rattle.std.specs.Prelude.{ℕ, ◌≡◌, ◌+◌, ◌==◌, ◌&&◌, ◌||◌, Bool, true, false, List, [], ◌∷◌, Option, Some, None, Result, Ok, Err, refl}
 use Rattle.cx_base.specs.Texts.{is_caps}
 use Rattle.cx_rotate.specs.declared.generations.Generation.{Generation}
-use Rattle.cx_forms.specs.Moments.{IsReading}
-use Rattle.cx_forms.specs.Forms.{passed}
-use Rattle.cx_forms.specs.declared.faults.ReadFault.{ReadFault}
-use Rattle.cx_forms.specs.declared.faults.ReadFault.TheVariants.{BadField}
-use Rattle.cx_layouts.specs.Layouts.{Layout, ◌⊗◌, ◌⊳◌, constant, only_if, list_by, seen_as, u8_field, u32_field, u64_field, flag_field, sized_field, blob_field, reading_field, secret_field, kind_field, name_field}
+use Rattle.cx_enc.specs.Moments.{IsReading}
+use Rattle.cx_enc.specs.Forms.{passed}
+use Rattle.cx_enc.specs.declared.faults.ReadFault.{ReadFault}
+use Rattle.cx_enc.specs.declared.faults.ReadFault.TheVariants.{BadField}
+use Rattle.cx_enc.specs.Layouts.{Layout, ◌⊗◌, ◌⊳◌, constant, only_if, list_by, seen_as, u8_field, u32_field, u64_field, flag_field, sized_field, blob_field, reading_field, secret_field, kind_field, name_field}
 use Rattle.cx_sealed.specs.declared.service_ticket.ServiceTicket.{ServiceTicket}
 use Rattle.cx_sealed.specs.declared.ticket_info.TicketInfo.{TicketInfo}
 use Rattle.cx_sealed.specs.declared.authorize.Authorize.{Authorize}

@@ -1,8 +1,8 @@
 -- What opening and sealing a record answer.
 use Rattle.std.specs.Prelude.{ℕ, ◌≡◌, ◌⊎◌, List, Result, Ok, Err, IfOk}
 use Rattle.cx_cbc.specs.Envelope.{sealed, Opens}
-use Rattle.cx_forms.specs.Forms.{Form}
-use Rattle.cx_layouts.specs.Whole.{Spells}
+use Rattle.cx_enc.specs.Forms.{Form}
+use Rattle.cx_enc.specs.Whole.{Spells}
 use Rattle.cx_sealed.specs.declared.refusals.SealedRefusal.{SealedRefusal}
 use Rattle.cx_sealed.specs.declared.refusals.SealedRefusal.TheVariants.{Unopened, Misread, OutOfMemory}
 

@@ -1,9 +1,9 @@
 -- What sealed bytes open to, as a function: nothing; or a content, and the record that it spells, where it spells one.
 use Rattle.std.specs.Prelude.{ℕ, List, [], ◌∷◌, Option, Some, None, Result, Ok, Err}
 use Rattle.cx_cbc.specs.Opened.{opened}
-use Rattle.cx_forms.specs.declared.faults.ReadFault.{ReadFault}
-use Rattle.cx_forms.specs.Forms.{Spot, Form}
-use Rattle.cx_layouts.specs.Whole.{start}
+use Rattle.cx_enc.specs.declared.faults.ReadFault.{ReadFault}
+use Rattle.cx_enc.specs.Forms.{Spot, Form}
+use Rattle.cx_enc.specs.Whole.{start}
 use Rattle.cx_sealed.specs.declared.unsealed.Unsealed.{Unsealed}
 
 -- a value behind which no bytes are left

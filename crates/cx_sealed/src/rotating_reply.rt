@@ -1,11 +1,11 @@
 //! The generations of a service, as a daemon is told them.
 
 ghost use Rattle.std.specs.Prelude.{◌≡◌, ◌++◌, OnOk};
-ghost use Rattle.cx_forms.specs.Forms.{times};
-ghost use Rattle.cx_layouts.specs.Layouts.{only_if, list_by, u32_field};
-ghost use Rattle.cx_forms.specs.Moments.{IsReading};
-ghost use Rattle.cx_fields.specs.Reading.{spot};
-ghost use Rattle.cx_layouts.specs.Whole.{GivesInPlace};
+ghost use Rattle.cx_enc.specs.Forms.{times};
+ghost use Rattle.cx_enc.specs.Layouts.{only_if, list_by, u32_field};
+ghost use Rattle.cx_enc.specs.Moments.{IsReading};
+ghost use Rattle.cx_enc.specs.Reading.{spot};
+ghost use Rattle.cx_enc.specs.Whole.{GivesInPlace};
 ghost use Rattle.cx_sealed.specs.Records.{generation_layout, generations_layout, is_none_or_three, AreReadings, IsJudged};
 
 use crate::records::Record;
@@ -55,7 +55,7 @@ impl Record for RotatingReply {
 }
 
 // Takes none or three generations, whose ids rise by one.
-#[tactic(auto, unfolding(cx_forms::specs::Forms::times_at))]
+#[tactic(auto, unfolding(cx_enc::specs::Forms::times_at))]
 fn take_generations(cut: &mut Cut<'_>) -> Result<Generations, ReadFault>
     ensures { GivesInPlace (spot cut.new) result (generations_layout.form.at (spot cut.old)) }
 {
@@ -78,7 +78,7 @@ fn rising(place: usize, three: &[Generation; 3]) -> Result<Generations, ReadFaul
 }
 
 // Takes three generations.
-#[tactic(auto, unfolding(cx_forms::specs::Forms::times_at))]
+#[tactic(auto, unfolding(cx_enc::specs::Forms::times_at))]
 fn take_three(cut: &mut Cut<'_>) -> Result<[Generation; 3], ReadFault>
     ensures { GivesInPlace (spot cut.new) result ((times 3 generation_layout.form).at (spot cut.old)) }
 {

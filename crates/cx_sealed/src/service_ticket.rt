@@ -4,9 +4,9 @@ ghost use Rattle.std.specs.Prelude.{◌≡◌, None, IfOk};
 ghost use Rattle.std.specs.List.{position};
 ghost use Rattle.cx_base.specs.Owners.{is_above_ascii};
 ghost use Rattle.cx_base.specs.Texts.{is_caps};
-ghost use Rattle.cx_layouts.specs.Layouts.{only_if, blob_field};
-ghost use Rattle.cx_fields.specs.Reading.{spot};
-ghost use Rattle.cx_layouts.specs.Whole.{Gives};
+ghost use Rattle.cx_enc.specs.Layouts.{only_if, blob_field};
+ghost use Rattle.cx_enc.specs.Reading.{spot};
+ghost use Rattle.cx_enc.specs.Whole.{Gives};
 
 use crate::records::Record;
 use cx_base::{Blob, Duplicate, EntityName, Reading, Text, TextRefusal, is_caps};
@@ -32,7 +32,7 @@ pub struct ServiceTicket {
 impl Encoded for ServiceTicket {
     ghost use Rattle.std.specs.Prelude.{IsTrue};
     ghost use Rattle.cx_base.specs.Texts.{is_caps};
-    ghost use Rattle.cx_forms.specs.Moments.{IsReading};
+    ghost use Rattle.cx_enc.specs.Moments.{IsReading};
     ghost use Rattle.cx_sealed.specs.Records.{service_ticket_layout};
 
     ghost layout = { service_ticket_layout };

@@ -17,7 +17,7 @@ pub struct TicketInfo {
 }
 
 impl Encoded for TicketInfo {
-    ghost use Rattle.cx_forms.specs.Moments.{IsReading};
+    ghost use Rattle.cx_enc.specs.Moments.{IsReading};
     ghost use Rattle.cx_sealed.specs.Records.{ticket_info_layout};
 
     ghost layout = { ticket_info_layout };

@@ -5,7 +5,7 @@ use Rattle.cx_base.specs.Joined.{◌<>◌}
 use Rattle.cx_keyring.specs.Sentences.{fault_text}
 use Rattle.cx_keyring.specs.declared.faults.KeyringFault.{KeyringFault}
 use Rattle.cx_lines.specs.declared.sight.BadWord.{BadWord}
-use Rattle.cx_sentences.specs.Wrong.{wrong_text}
+use Rattle.cx_line_help.specs.Wrong.{wrong_text}
 use Rattle.cx_top.specs.declared.status.Status.{Status}
 use Rattle.cx_top.specs.declared.status.Status.TheVariants.{Done, Usage, BadSchedule, ReadFault, WriteFault, OutOfMemory, BadKeyring, Broken, TooLong, NotYet}
 

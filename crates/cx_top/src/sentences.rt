@@ -5,8 +5,8 @@ ghost use Rattle.cx_top.specs.Sentences.{usage_text};
 
 use crate::status::Status;
 use cx_keyring::KeyringFault;
+use cx_line_help::Wrong;
 use cx_lines::BadWord;
-use cx_sentences::Wrong;
 use std::fmt;
 
 /// A sentence for each status but `Done`, which has none; for wrong words the commands that are served, with examples.

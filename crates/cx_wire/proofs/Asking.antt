@@ -1,9 +1,9 @@
 -- What reads and writes an operation as a payload reads and writes the operation.
 use Rattle.std.proofs.Common.{◌≡◌, ℕ, List, Result, Ok, Err, refl, ◌∙◌}
 use Rattle.cx_base.specs.declared.operations.Operation.{Operation}
-use Rattle.cx_forms.specs.declared.faults.ReadFault.{ReadFault}
-use Rattle.cx_forms.specs.Forms.{Spot, ◌>>=◌}
-use Rattle.cx_layouts.specs.Whole.{start, IsReadAgain}
+use Rattle.cx_enc.specs.declared.faults.ReadFault.{ReadFault}
+use Rattle.cx_enc.specs.Forms.{Spot, ◌>>=◌}
+use Rattle.cx_enc.specs.Whole.{start, IsReadAgain}
 use Rattle.cx_control.specs.Calls.{stop_of, IsReadBy}
 use Rattle.cx_control.specs.declared.refusals.WireRefusal.{WireRefusal}
 use Rattle.cx_control.specs.declared.refusals.WireRefusal.TheVariants.{Malformed, OutOfMemory}

@@ -3,16 +3,16 @@ use Rattle.std.proofs.Common.{◌≡◌, ℕ, ◌-◌, ◌^◌, ◌<◌, ◌≤�
 use Rattle.std.specs.Int.{w32}
 use Rattle.std.specs.declared.alloc.AllocError.{AllocError}
 use Rattle.std.proofs.lemmas.List.{length-append, take_at}
-use Rattle.cx_forms.specs.declared.faults.ReadFault.{ReadFault}
-use Rattle.cx_forms.specs.declared.faults.ReadFault.TheVariants.{BadField}
-use Rattle.cx_forms.specs.declared.faults.ReadRefusal.{ReadRefusal}
-use Rattle.cx_forms.specs.declared.faults.ReadRefusal.TheVariants as reading
-use Rattle.cx_forms.specs.Forms.{Spot, Form, ◌>>=◌, little, u32_form, blob_form, IsBytes}
-use Rattle.cx_forms.specs.FormLaws.{u32-lawful, blob-lawful}
-use Rattle.cx_layouts.specs.Layouts.{Layout}
-use Rattle.cx_forms.specs.Faults.{fault_place}
-use Rattle.cx_layouts.specs.Whole.{start, Gives, IsReadAgain}
-use Rattle.cx_layouts.proofs.Wholes.{no_fault, none_left_over, nothing_left, spelled_whole}
+use Rattle.cx_enc.specs.declared.faults.ReadFault.{ReadFault}
+use Rattle.cx_enc.specs.declared.faults.ReadFault.TheVariants.{BadField}
+use Rattle.cx_enc.specs.declared.faults.ReadRefusal.{ReadRefusal}
+use Rattle.cx_enc.specs.declared.faults.ReadRefusal.TheVariants as reading
+use Rattle.cx_enc.specs.Forms.{Spot, Form, ◌>>=◌, little, u32_form, blob_form, IsBytes}
+use Rattle.cx_enc.specs.FormLaws.{u32-lawful, blob-lawful}
+use Rattle.cx_enc.specs.Layouts.{Layout}
+use Rattle.cx_enc.specs.Faults.{fault_place}
+use Rattle.cx_enc.specs.Whole.{start, Gives, IsReadAgain}
+use Rattle.cx_enc.proofs.Wholes.{no_fault, none_left_over, nothing_left, spelled_whole}
 use Rattle.cx_control.specs.Calls.{stop_of, IsReadBy, IsPutBy}
 use Rattle.cx_control.specs.Refusing.{refusal_of}
 use Rattle.cx_wire.specs.Codes.{ended, inside_form}

@@ -1,6 +1,6 @@
 -- An operation as a payload.
 use Rattle.std.specs.Prelude.{refl}
-use Rattle.cx_layouts.specs.Layouts.{Layout, seen_as}
+use Rattle.cx_enc.specs.Layouts.{Layout, seen_as}
 use Rattle.cx_wire.specs.Operations.{operation_layout}
 use Rattle.cx_wire.specs.declared.operations.Asked.{Asked}
 

@@ -2,7 +2,7 @@
 use Rattle.std.specs.Prelude.{ℕ, ◌≡◌, ◌<◌, ◌^◌, ◌⊎◌, List, length, Some, refl}
 use Rattle.std.proofs.Common.{inl, inr}
 use Rattle.cx_base.specs.declared.kinds.EntityType.TheVariants.{Auth}
-use Rattle.cx_layouts.specs.Layouts.{Layout, ◌⊳◌, seen_as, constant, chain_by, u8_field, u32_field, blob_field}
+use Rattle.cx_enc.specs.Layouts.{Layout, ◌⊳◌, seen_as, constant, chain_by, u8_field, u32_field, blob_field}
 use Rattle.cx_wire.specs.CodeLaws.{coded, inside}
 use Rattle.cx_wire.specs.Services.{ticket_part_layout, behind, AreTickets}
 use Rattle.cx_wire.specs.declared.tickets.TicketPart.{TicketPart}

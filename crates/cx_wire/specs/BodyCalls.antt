@@ -1,10 +1,10 @@
 -- What the readers of the bodies of messages 17 and 18 do.
 use Rattle.std.specs.Prelude.{ℕ, ◌≡◌, List, Some, None, Result, Ok, Err, IfOk, IfErr}
-use Rattle.cx_fields.specs.declared.cut.Cut.{Cut}
-use Rattle.cx_forms.specs.declared.faults.ReadFault.{ReadFault}
-use Rattle.cx_forms.specs.Forms.{Form, blob_form}
-use Rattle.cx_fields.specs.Reading.{spot}
-use Rattle.cx_layouts.specs.Whole.{start, Spells}
+use Rattle.cx_enc.specs.declared.cut.Cut.{Cut}
+use Rattle.cx_enc.specs.declared.faults.ReadFault.{ReadFault}
+use Rattle.cx_enc.specs.Forms.{Form, blob_form}
+use Rattle.cx_enc.specs.Reading.{spot}
+use Rattle.cx_enc.specs.Whole.{start, Spells}
 use Rattle.cx_control.specs.Calls.{stop_of}
 use Rattle.cx_wire.specs.Codes.{other_code}
 use Rattle.cx_wire.specs.declared.refusals.BodyRefusal.{BodyRefusal}

@@ -4,10 +4,10 @@ use Rattle.std.specs.Prelude.{◌==◌}
 use Rattle.std.specs.Int.{w16, w32}
 use Rattle.std.proofs.lemmas.Bool.{cases_lt, eqb-true}
 use Rattle.std.proofs.lemmas.List.{append-nil, length-append, get_or-take, get_or_past, length-take, take_at, drop_at}
-use Rattle.cx_forms.specs.declared.faults.ReadFault.{ReadFault}
-use Rattle.cx_forms.specs.Forms.{Spot, Form, ◌>>=◌, little, u16_form, blob_form, pair, IsBytes, Took, IsLawful}
-use Rattle.cx_forms.specs.FormLaws.{u16-lawful, blob-lawful, pair-lawful, IsBytes-drop}
-use Rattle.cx_layouts.specs.Layouts.{Layout}
+use Rattle.cx_enc.specs.declared.faults.ReadFault.{ReadFault}
+use Rattle.cx_enc.specs.Forms.{Spot, Form, ◌>>=◌, little, u16_form, blob_form, pair, IsBytes, Took, IsLawful}
+use Rattle.cx_enc.specs.FormLaws.{u16-lawful, blob-lawful, pair-lawful, IsBytes-drop}
+use Rattle.cx_enc.specs.Layouts.{Layout}
 use Rattle.cx_wire.specs.Codes.{tickets_code, rotating_code, chosen, coded_text, CodedFits, coded_form, ended, inside_form}
 
 -- the value of a step that did not fail

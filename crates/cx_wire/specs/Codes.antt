@@ -2,10 +2,10 @@
 use Rattle.std.specs.Prelude.{ℕ, ◌==◌, ◌+◌, ◌^◌, ◌<◌, ◌||◌, ◌⊎◌, Bool, true, false, List, [], ◌∷◌, ◌++◌, length, Option, Some, None, Result, Ok, Err, if◌then◌else◌}
 use Rattle.std.proofs.Common.{inl, inr}
 use Rattle.std.specs.Int.{w16}
-use Rattle.cx_forms.specs.declared.faults.ReadFault.{ReadFault}
-use Rattle.cx_forms.specs.declared.faults.ReadFault.TheVariants.{BadField}
-use Rattle.cx_forms.specs.Forms.{Spot, Form, ◌>>=◌, little, u16_form, blob_form}
-use Rattle.cx_layouts.specs.Whole.{start}
+use Rattle.cx_enc.specs.declared.faults.ReadFault.{ReadFault}
+use Rattle.cx_enc.specs.declared.faults.ReadFault.TheVariants.{BadField}
+use Rattle.cx_enc.specs.Forms.{Spot, Form, ◌>>=◌, little, u16_form, blob_form}
+use Rattle.cx_enc.specs.Whole.{start}
 
 -- the codes of tickets and of generations ("detailed cephx protocol": CEPHX_GET_PRINCIPAL_SESSION_KEY, CEPHX_GET_ROTATING_KEY)
 abbrev pub tickets_code : ℕ

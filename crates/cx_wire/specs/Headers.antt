@@ -1,6 +1,6 @@
 -- The header of a message (msgr2 protocol, "Message frame"), 41 bytes.
 use Rattle.std.specs.Prelude.{ℕ}
-use Rattle.cx_layouts.specs.Layouts.{Layout, ◌⊗◌, u8_field, u16_field, u32_field, u64_field}
+use Rattle.cx_enc.specs.Layouts.{Layout, ◌⊗◌, u8_field, u16_field, u32_field, u64_field}
 use Rattle.cx_wire.specs.declared.headers.Header.{Header}
 
 -- what is read and not kept: priority, version, data_pre_padding_len, data_off, ack_seq, flags, compat_version, reserved

@@ -1,6 +1,6 @@
 -- The payloads of cephx in the frames of authentication ("detailed cephx protocol").
 use Rattle.std.specs.Prelude.{ℕ, ◌==◌, ◌||◌, Bool, None, refl}
-use Rattle.cx_layouts.specs.Layouts.{Layout, ◌⊗◌, ◌⊳◌, seen_as, constant, only_if, chain_by, u8_field, u16_field, u32_field, u64_field, kind_field, name_field, blob_field, ticket_field, count_field}
+use Rattle.cx_enc.specs.Layouts.{Layout, ◌⊗◌, ◌⊳◌, seen_as, constant, only_if, chain_by, u8_field, u16_field, u32_field, u64_field, kind_field, name_field, blob_field, ticket_field, count_field}
 use Rattle.cx_wire.specs.Services.{ticket_part_layout, behind}
 use Rattle.cx_wire.specs.declared.logins.LoginHello.{LoginHello}
 use Rattle.cx_wire.specs.declared.logins.ServerChallenge.{ServerChallenge}

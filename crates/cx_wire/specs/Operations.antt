@@ -5,7 +5,7 @@ use Rattle.cx_base.specs.declared.kinds.Access.{Access}
 use Rattle.cx_base.specs.declared.kinds.Access.TheVariants.{Read, Write, Exec}
 use Rattle.cx_base.specs.declared.operations.Operation.{Operation}
 use Rattle.cx_base.specs.Texts.{is_part}
-use Rattle.cx_layouts.specs.Layouts.{Layout, ◌⊗◌, seen_as, checked_as, only_if, u8_field, blob_field}
+use Rattle.cx_enc.specs.Layouts.{Layout, ◌⊗◌, seen_as, checked_as, only_if, u8_field, blob_field}
 use Rattle.cx_wire.specs.declared.answers.Answer.{Answer}
 
 abbrev pub access_number : Access → ℕ

@@ -2,8 +2,8 @@
 use Rattle.std.specs.Prelude.{ℕ, ◌==◌, ◌<◌, ◌^◌, Bool, nat_lt, length, IsTrue, Option, Some, None, List, refl}
 use Rattle.cx_base.specs.declared.kinds.EntityType.{EntityType}
 use Rattle.cx_base.specs.declared.kinds.EntityType.TheVariants.{Mon, Mds, Osd, Client, Mgr, Auth}
-use Rattle.cx_forms.specs.Forms.{ChainFits}
-use Rattle.cx_layouts.specs.Layouts.{Layout, ◌⊗◌, ◌⊳◌, seen_as, constant, only_if, u8_field, kind_field, blob_field, ticket_field}
+use Rattle.cx_enc.specs.Forms.{ChainFits}
+use Rattle.cx_enc.specs.Layouts.{Layout, ◌⊗◌, ◌⊳◌, seen_as, constant, only_if, u8_field, kind_field, blob_field, ticket_field}
 use Rattle.cx_wire.specs.declared.tickets.TicketPart.{TicketPart}
 
 -- the place of a service among those for which tickets are issued: AUTH, MDS, OSD, MGR

@@ -72,7 +72,7 @@ impl WritesWhole for Header {
 }
 
 // What is written behind the type: priority 127, both versions 1, and else 0.
-#[tactic(auto, unfolding(cx_forms::specs::Forms::little))]
+#[tactic(auto, unfolding(cx_enc::specs::Forms::little))]
 fn put_rest(alloc: Global, into: &mut Blob) -> Result<(), AllocError>
     ensures ok { OnOk result (into.new ≡ into.old ++ rest_layout.form.text written_rest) }
     ensures fits { OnOk result (rest_layout.form.Fits written_rest) }

@@ -3,8 +3,8 @@
 ghost use Rattle.std.specs.Prelude.{◌≡◌, ◌++◌, OnOk, OnErr, IfOk, None};
 ghost use Rattle.std.specs.List.{position};
 ghost use Rattle.cx_base.specs.Owners.{is_above_ascii};
-ghost use Rattle.cx_fields.specs.Reading.{spot, ReadsAs};
-ghost use Rattle.cx_layouts.specs.Whole.{GivesInPlace};
+ghost use Rattle.cx_enc.specs.Reading.{spot, ReadsAs};
+ghost use Rattle.cx_enc.specs.Whole.{GivesInPlace};
 ghost use Rattle.cx_control.specs.Calls.{IsReadBy, IsPutBy};
 ghost use Rattle.cx_wire.specs.Operations.{access_number, access_of, access_field, part_field, data_field, operation_layout, IsWritable};
 ghost use Rattle.cx_wire.specs.Asked.{asked_layout};

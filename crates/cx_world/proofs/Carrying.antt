@@ -4,16 +4,16 @@ use Rattle.std.specs.Prelude.{if◌then◌else◌}
 use Rattle.std.specs.Option.{option_map}
 use Rattle.std.proofs.lemmas.Option.{none-some, same_Some}
 use Rattle.cx_journal.specs.declared.node_names.NodeName.{NodeName}
-use Rattle.cx_places.specs.declared.choices.Side.{Side}
-use Rattle.cx_places.specs.declared.choices.Side.TheVariants.{Connector, Acceptor}
+use Rattle.cx_line_words.specs.declared.choices.Side.{Side}
+use Rattle.cx_line_words.specs.declared.choices.Side.TheVariants.{Connector, Acceptor}
 use Rattle.cx_rules.specs.Inputs.{Opened}
 use Rattle.cx_run.specs.Deliveries.{delivers, delivers_on, delivers_piece, far_side, first_of, stay, tells, under_way}
 use Rattle.cx_run.specs.Schedules.{cuts}
 use Rattle.cx_run.specs.Wires.{Wire, ended, gone_at, has_end, new_wire, other, owes_gone, pieces_from, wire_of, with_pieces, with_wire}
 use Rattle.cx_run.specs.Worlds.{World, node_of}
 use Rattle.cx_steps.specs.declared.events.Peer.{Peer}
-use Rattle.cx_wires.specs.Ends.{arriving}
-use Rattle.cx_wires.specs.Tables.{changed_in, owed, taken_from, taken_on, with_changed}
+use Rattle.cx_run_links.specs.Ends.{arriving}
+use Rattle.cx_run_links.specs.Tables.{changed_in, owed, taken_from, taken_on, with_changed}
 use Rattle.cx_world.proofs.Changing.{wired}
 use Rattle.cx_world.specs.Carried.{Began, Carries, Makes}
 use Rattle.cx_world.specs.Ends.{arrives_end, end_seen, gone_arriving, tells_end}

@@ -1,7 +1,7 @@
 -- A world whose links, or whose failing save or line, are changed.
 use Rattle.std.proofs.Common.{◌≡◌, ℕ, false, List, length, Option, Some, None, refl, arith}
 use Rattle.std.proofs.lemmas.Bool.Decides.{nat_tests}
-use Rattle.cx_places.specs.declared.choices.LeftState.{LeftState}
+use Rattle.cx_line_words.specs.declared.choices.LeftState.{LeftState}
 use Rattle.cx_run.specs.Wires.{Wire}
 use Rattle.cx_run.specs.Worlds.{World}
 use Rattle.cx_world.specs.Carried.{Began, Carries}

@@ -5,10 +5,10 @@ use Rattle.std.proofs.lemmas.Bool.Decides.{nat_tests}
 use Rattle.std.proofs.lemmas.List.{map-append}
 use Rattle.cx_journal.specs.declared.entries.Entry.{Entry}
 use Rattle.cx_journal.specs.declared.node_names.NodeName.{NodeName}
-use Rattle.cx_nodes.proofs.Keyed.{key_found, same_node_is}
-use Rattle.cx_nodes.specs.Held.{IsGiven, is_seated}
-use Rattle.cx_nodes.specs.declared.made.Made.{Made}
-use Rattle.cx_nodes.specs.declared.nodes.Nodes.{Nodes as HeldNodes}
+use Rattle.cx_run_nodes.proofs.Keyed.{key_found, same_node_is}
+use Rattle.cx_run_nodes.specs.Held.{IsGiven, is_seated}
+use Rattle.cx_run_nodes.specs.declared.made.Made.{Made}
+use Rattle.cx_run_nodes.specs.declared.nodes.Nodes.{Nodes as HeldNodes}
 use Rattle.cx_premises.specs.Ledgers.{StandsFor}
 use Rattle.cx_rules.specs.Inputs.{Input}
 use Rattle.cx_run.specs.Deliveries.{Given, given, gives}

@@ -5,7 +5,7 @@ use Rattle.cx_world.specs.Events.{opens_to}
 use Rattle.cx_base.specs.Names.{Name}
 use Rattle.cx_journal.specs.declared.node_names.NodeName.{NodeName}
 use Rattle.cx_journal.specs.declared.node_names.NodeName.TheVariants as node
-use Rattle.cx_places.specs.declared.choices.LeftState.{LeftState}
+use Rattle.cx_line_words.specs.declared.choices.LeftState.{LeftState}
 use Rattle.cx_rules.specs.ClientRule.{ClientNode, client_rule, loses}
 use Rattle.cx_rules.specs.Connector.{Stage}
 use Rattle.cx_rules.specs.Inputs.{Input, Gone, Opened}

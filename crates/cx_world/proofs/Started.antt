@@ -6,7 +6,7 @@ use Rattle.cx_base.specs.Names.{Name}
 use Rattle.cx_journal.specs.declared.premises.Broken.{Broken}
 use Rattle.cx_lines.specs.Lines.{is_numbered_in_range}
 use Rattle.cx_lines.specs.declared.lines.Numbered.{Numbered}
-use Rattle.cx_nodes.specs.Held.{StandFor}
+use Rattle.cx_run_nodes.specs.Held.{StandFor}
 use Rattle.cx_premises.specs.Ledgers.{StandsFor}
 use Rattle.cx_run.specs.Happenings.{Entered, journal_from}
 use Rattle.cx_run.specs.Opening.{Setup, leaks_entered, nodes_of, opening_world, seats_of}
@@ -14,7 +14,7 @@ use Rattle.cx_run.specs.Runs.{IsFoundOf, run_journal, setup_of, trace}
 use Rattle.cx_run.specs.Schedules.{after_line, after_lines}
 use Rattle.cx_run.specs.Worlds.{World}
 use Rattle.cx_schedule.proofs.Whole as schedule
-use Rattle.cx_setup.specs.Beginning.{IsSchedule}
+use Rattle.cx_run_head.specs.Beginning.{IsSchedule}
 use Rattle.cx_steps.specs.Breach.{IsFound}
 use Rattle.cx_steps.specs.declared.seals.Logged.{Logged}
 use Rattle.cx_words.specs.Cutting.{lines_of}

@@ -3,8 +3,8 @@ use Rattle.std.specs.Prelude.{ℕ, ◌≡◌, ◌≤◌, ◌==◌, ◌||◌, not
 use Rattle.cx_base.specs.Names.{Name}
 use Rattle.cx_journal.specs.declared.entries.Entry.{Entry}
 use Rattle.cx_journal.specs.declared.node_names.NodeName.{NodeName}
-use Rattle.cx_nodes.specs.Held.{StandFor}
-use Rattle.cx_nodes.specs.declared.made.Made.{Made}
+use Rattle.cx_run_nodes.specs.Held.{StandFor}
+use Rattle.cx_run_nodes.specs.declared.made.Made.{Made}
 use Rattle.cx_premises.specs.Ledgers.{StandsFor}
 use Rattle.cx_run.specs.Deliveries.{Given}
 use Rattle.cx_run.specs.Happenings.{Happening, Nodes, journal_from, nodes_behind, seals_from}

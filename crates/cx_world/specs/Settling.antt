@@ -1,7 +1,7 @@
 -- Deliveries in a row, counted.
 use Rattle.std.specs.Prelude.{ℕ, zero, suc, None}
-use Rattle.cx_places.specs.declared.choices.Side.{Side}
-use Rattle.cx_places.specs.declared.choices.Side.TheVariants.{Connector, Acceptor}
+use Rattle.cx_line_words.specs.declared.choices.Side.{Side}
+use Rattle.cx_line_words.specs.declared.choices.Side.TheVariants.{Connector, Acceptor}
 use Rattle.cx_run.specs.Deliveries.{delivers, drains_side}
 use Rattle.cx_run.specs.Worlds.{World}
 

@@ -6,10 +6,10 @@ ghost use Rattle.cx_world.specs.Carried.{IsRecord};
 
 use crate::records::{Record, log_all};
 use crate::world::World;
-use cx_opening::opening_nodes;
 use cx_premises::Ledger;
-use cx_setup::Setup;
-use cx_wires::Wires;
+use cx_run_head::Setup;
+use cx_run_links::Wires;
+use cx_run_nodes::opening_nodes;
 use std::alloc::{AllocError, Global};
 
 impl World {

@@ -11,9 +11,9 @@ ghost use Rattle.cx_world.specs.Ends.{arrives_end};
 use crate::ends::{LinkEnd, end_at};
 use crate::world::World;
 use cx_journal::NodeName;
-use cx_places::Side;
+use cx_line_words::Side;
+use cx_run_links::{Wires, other};
 use cx_steps::Event;
-use cx_wires::{Wires, other};
 use std::alloc::{AllocError, Global};
 
 // Whether the other end of a link is still to be told that this side is gone.

@@ -7,8 +7,8 @@ ghost use Rattle.cx_world.specs.Ends.{end_seen};
 
 use cx_base::Duplicate;
 use cx_journal::NodeName;
-use cx_places::Side;
-use cx_wires::Wires;
+use cx_line_words::Side;
+use cx_run_links::Wires;
 use std::alloc::{AllocError, Global};
 
 /// An end of a link: the link's number, the end's node, and whether that still has it.

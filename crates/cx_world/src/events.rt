@@ -14,10 +14,10 @@ use crate::ends::{LinkEnd, end_at};
 use crate::world::World;
 use cx_base::Duplicate;
 use cx_journal::NodeName;
-use cx_nodes::Made;
-use cx_places::Side;
+use cx_line_words::Side;
+use cx_run_links::{Wire, Wires, peer_node, same_node};
+use cx_run_nodes::Made;
 use cx_steps::{Event, Peer};
-use cx_wires::{Wire, Wires, peer_node, same_node};
 use std::alloc::{AllocError, Global};
 
 // The other end of the link of a number, where it is one of the node.

@@ -9,9 +9,9 @@ ghost use Rattle.cx_world.specs.Carried.{Began, Carries, Makes};
 use crate::ends::end_at;
 use crate::world::World;
 use cx_base::Duplicate;
+use cx_line_words::Side;
 use cx_lines::LinkStep;
-use cx_places::Side;
-use cx_wires::other;
+use cx_run_links::other;
 use std::alloc::{AllocError, Global};
 
 impl World {

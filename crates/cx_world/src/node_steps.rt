@@ -11,8 +11,8 @@ ghost use Rattle.cx_world.specs.Carried.{Began, Carries, Makes, MakesAlone};
 use crate::world::World;
 use cx_base::{Duplicate, Reading};
 use cx_journal::NodeName;
+use cx_line_words::{LeftState, Node};
 use cx_lines::NodeStep;
-use cx_places::{LeftState, Node};
 use std::alloc::{AllocError, Global};
 
 // The node that a line names.

@@ -8,7 +8,7 @@ ghost use Rattle.cx_premises.specs.Ledgers.{StandsFor};
 ghost use Rattle.cx_run.specs.Opening.{opening_world};
 ghost use Rattle.cx_run.specs.Runs.{IsFoundOf, run_journal, setup_of};
 ghost use Rattle.cx_run.specs.Schedules.{after_lines};
-ghost use Rattle.cx_setup.specs.Beginning.{IsSchedule};
+ghost use Rattle.cx_run_head.specs.Beginning.{IsSchedule};
 ghost use Rattle.cx_steps.specs.Breach.{IsFound};
 ghost use Rattle.cx_steps.specs.declared.seals.Logged.{Logged};
 ghost use Rattle.cx_world.specs.Beginning.{began};
@@ -20,8 +20,8 @@ use cx_base::Duplicate;
 use cx_journal::{Broken, Journal};
 use cx_lines::Numbered;
 use cx_premises::Ledger;
+use cx_run_head::Setup;
 use cx_schedule::Script;
-use cx_setup::Setup;
 use std::alloc::{AllocError, Global};
 
 /// What comes of a run: its journal, and the first breach of its premises, if they are broken.

@@ -7,7 +7,7 @@ ghost use Rattle.cx_world.specs.Carried.{Began, Carries, Makes, MakesAlone};
 ghost use Rattle.cx_world.specs.Settling.{drains_both};
 
 use crate::world::World;
-use cx_places::Side;
+use cx_line_words::Side;
 use std::alloc::{AllocError, Global};
 
 /// At most so many rounds of a settling.

@@ -4,10 +4,10 @@ ghost use Rattle.std.specs.Prelude.{◌≡◌, ◌||◌};
 
 use crate::records::{Record, enter, log};
 use cx_journal::NodeName;
-use cx_nodes::{Made, Nodes};
-use cx_places::LeftState;
+use cx_line_words::LeftState;
+use cx_run_links::Wires;
+use cx_run_nodes::{Made, Nodes};
 use cx_steps::{Effects, Event};
-use cx_wires::Wires;
 use std::alloc::{AllocError, Global};
 
 fn either(a: bool, b: bool) -> bool

@@ -1,6 +1,6 @@
 -- The row of what was decided is that of the rules; and where memory is wanting, the key server is as before.
 use Rattle.std.proofs.Common.{◌≡◌, ◌∙◌, ap}
-use Rattle.cx_granting.specs.Occasions.{Occasion}
+use Rattle.cx_mon_grants.specs.Occasions.{Occasion}
 use Rattle.cx_keyserver.specs.Servers.{Server}
 use Rattle.cx_rules.specs.Acceptor.{AwaitsProof}
 use Rattle.cx_rules.specs.Monitor.{Monitor, MonitorStage}

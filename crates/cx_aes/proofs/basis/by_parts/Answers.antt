@@ -1,6 +1,6 @@
 use Rattle.std.proofs.Common.{refl}
-use Rattle.cx_permute.specs.Lookup.{entry, high, is_index, low}
-use Rattle.cx_permute.proofs.Maps.{indices-map, looks, sums}
+use Rattle.cx_aes.specs.Lookup.{entry, high, is_index, low}
+use Rattle.cx_aes.proofs.Maps.{indices-map, looks, sums}
 use Rattle.cx_aes.specs.Basis.{by_parts, left, right}
 use Rattle.cx_aes.proofs.basis.by_parts.Goals as goal
 

@@ -1,4 +1,4 @@
-use Rattle.cx_permute.proofs.Maps.{sums-splat}
+use Rattle.cx_aes.proofs.Maps.{sums-splat}
 use Rattle.cx_aes.specs.declared.basis.TheConstants.{LAST_LEFT, LAST_RIGHT, LAST}
 use Rattle.cx_aes.specs.Basis.{by_parts, last}
 use Rattle.cx_aes.proofs.basis.last.Goals as goal

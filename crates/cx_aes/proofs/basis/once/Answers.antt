@@ -1,4 +1,4 @@
-use Rattle.cx_permute.proofs.Maps.{sums-splat}
+use Rattle.cx_aes.proofs.Maps.{sums-splat}
 use Rattle.cx_aes.specs.declared.basis.TheConstants.{ONCE_LEFT, ONCE_RIGHT, ONCE}
 use Rattle.cx_aes.specs.Basis.{by_parts, once}
 use Rattle.cx_aes.proofs.basis.once.Goals as goal

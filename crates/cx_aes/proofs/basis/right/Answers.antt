@@ -1,7 +1,7 @@
 use Rattle.std.proofs.Common.{◌≡◌, ℕ, List, map, bit_xor, refl}
 use lib.Lanes.{zip2}
-use Rattle.cx_permute.specs.Lookup.{entry, high, is_index, low}
-use Rattle.cx_permute.proofs.Maps.{indices-map, looks, sums}
+use Rattle.cx_aes.specs.Lookup.{entry, high, is_index, low}
+use Rattle.cx_aes.proofs.Maps.{indices-map, looks, sums}
 use Rattle.cx_aes.specs.declared.basis.TheConstants.{INVERSE, QUOTIENT}
 use Rattle.cx_aes.specs.Basis.{right}
 use Rattle.cx_aes.proofs.basis.right.Goals as goal

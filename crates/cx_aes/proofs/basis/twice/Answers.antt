@@ -1,4 +1,4 @@
-use Rattle.cx_permute.proofs.Maps.{sums-splat}
+use Rattle.cx_aes.proofs.Maps.{sums-splat}
 use Rattle.cx_aes.specs.declared.basis.TheConstants.{TWICE_LEFT, TWICE_RIGHT, TWICE}
 use Rattle.cx_aes.specs.Basis.{by_parts, twice}
 use Rattle.cx_aes.proofs.basis.twice.Goals as goal

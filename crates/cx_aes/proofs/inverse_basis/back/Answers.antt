@@ -1,4 +1,4 @@
-use Rattle.cx_permute.proofs.Maps.{sums-splat}
+use Rattle.cx_aes.proofs.Maps.{sums-splat}
 use Rattle.cx_aes.specs.declared.inverse_basis.TheConstants.{BACK}
 use Rattle.cx_aes.specs.InverseBasis.{back, linear}
 use Rattle.cx_aes.proofs.inverse_basis.back.Goals as goal

@@ -1,7 +1,7 @@
 -- The loop writes the values, each behind what stands before it.
 use Rattle.std.proofs.Common.{◌≡◌, ◌<◌, ◌++◌, length, get_or, sym, ap, ◌∙◌, arith}
 use Rattle.std.proofs.lemmas.Result.{on_ok_weaker}
-use Rattle.cx_forms.specs.Forms.{chain_text}
+use Rattle.cx_enc.specs.Forms.{chain_text}
 use Rattle.cx_enc.proofs.Behind.{text_goes_on, text_is_done, fits_next, fits_front, fits_done}
 use Rattle.cx_enc.proofs.chains.put_chain.Goals as goal
 

@@ -1,5 +1,5 @@
 use Rattle.std.proofs.Common.{◌≡◌, ◌++◌, drop}
-use Rattle.cx_forms.specs.Forms.{chain_text, ChainFits}
+use Rattle.cx_enc.specs.Forms.{chain_text, ChainFits}
 use Rattle.cx_enc.proofs.chains.put_chain.Given as goal
 
 abbrev pub invariant-loop-item : goal.invariant-loop-item

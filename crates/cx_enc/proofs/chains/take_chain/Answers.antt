@@ -1,8 +1,8 @@
 -- The loop reads so many values, each behind what stands before it.
 use Rattle.std.proofs.lemmas.Result.{err_from_is_err_and}
-use Rattle.cx_forms.specs.Forms.{chain_at}
-use Rattle.cx_fields.specs.Reading.{spot}
-use Rattle.cx_layouts.proofs.Loops.{chain_goes_on, chain_is_done, chain_refuses}
+use Rattle.cx_enc.specs.Forms.{chain_at}
+use Rattle.cx_enc.specs.Reading.{spot}
+use Rattle.cx_enc.proofs.Loops.{chain_goes_on, chain_is_done, chain_refuses}
 use Rattle.cx_enc.proofs.chains.take_chain.Goals as goal
 
 pub returns-in_err-item : goal.returns-in_err-item

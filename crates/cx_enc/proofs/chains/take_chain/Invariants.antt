@@ -1,7 +1,7 @@
 use Rattle.std.proofs.Common.{◌≡◌, ◌-◌}
-use Rattle.cx_forms.specs.Forms.{chain_at}
-use Rattle.cx_fields.specs.Reading.{spot}
-use Rattle.cx_layouts.proofs.Loops.{with_front}
+use Rattle.cx_enc.specs.Forms.{chain_at}
+use Rattle.cx_enc.specs.Reading.{spot}
+use Rattle.cx_enc.proofs.Loops.{with_front}
 use Rattle.cx_enc.proofs.chains.take_chain.Given as goal
 
 abbrev pub invariant-loop : goal.invariant-loop

@@ -1,9 +1,9 @@
 -- The loop reads so many values, one behind the other.
 use Rattle.std.proofs.Common.{[], refl}
 use Rattle.std.proofs.lemmas.Result.{err_from_is_err_and}
-use Rattle.cx_forms.specs.Forms.{times_at}
-use Rattle.cx_fields.specs.Reading.{spot}
-use Rattle.cx_layouts.proofs.Loops.{begins, passes_on, passed_ends, passed_all}
+use Rattle.cx_enc.specs.Forms.{times_at}
+use Rattle.cx_enc.specs.Reading.{spot}
+use Rattle.cx_enc.proofs.Loops.{begins, passes_on, passed_ends, passed_all}
 use Rattle.cx_enc.proofs.in_place.pass_items.Goals as goal
 
 pub loop-init : goal.loop-init

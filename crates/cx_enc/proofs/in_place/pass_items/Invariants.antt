@@ -1,7 +1,7 @@
 use Rattle.std.proofs.Common.{◌≡◌, ◌-◌, List}
-use Rattle.cx_forms.specs.Forms.{times_at}
-use Rattle.cx_fields.specs.Reading.{spot}
-use Rattle.cx_layouts.proofs.Loops.{with_front}
+use Rattle.cx_enc.specs.Forms.{times_at}
+use Rattle.cx_enc.specs.Reading.{spot}
+use Rattle.cx_enc.proofs.Loops.{with_front}
 use Rattle.cx_enc.proofs.in_place.pass_items.Given as goal
 
 abbrev pub invariant-loop : goal.invariant-loop

@@ -1,7 +1,7 @@
 -- A value is spelled by all of the bytes exactly where it is read and nothing is left.
 use Rattle.std.proofs.Common.{Ok, ap, rules, arith}
-use Rattle.cx_fields.specs.Reading.{spot}
-use Rattle.cx_layouts.proofs.Wholes.{spelled_whole, nothing_left, no_fault, none_left_over, left_over}
+use Rattle.cx_enc.specs.Reading.{spot}
+use Rattle.cx_enc.proofs.Wholes.{spelled_whole, nothing_left, no_fault, none_left_over, left_over}
 use Rattle.cx_enc.proofs.in_place.read_whole_in_place.Goals as goal
 
 pub returns-in_err-value-clause-only : goal.returns-in_err-value-clause-only

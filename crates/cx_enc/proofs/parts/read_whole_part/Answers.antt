@@ -1,9 +1,9 @@
 -- The part of a value that is spelled by all of the bytes is read exactly where that value is there and nothing is left.
 use Rattle.std.proofs.Common.{sym, ap, ◌∙◌, arith}
 use Rattle.std.proofs.lemmas.Result.{err_from_is_err_and}
-use Rattle.cx_fields.specs.Reading.{spot}
-use Rattle.cx_layouts.specs.Whole.{start}
-use Rattle.cx_layouts.proofs.Wholes.{spelled_whole, nothing_left, none_left_over, left_over, whole_of, part_refused, part_wants_memory}
+use Rattle.cx_enc.specs.Reading.{spot}
+use Rattle.cx_enc.specs.Whole.{start}
+use Rattle.cx_enc.proofs.Wholes.{spelled_whole, nothing_left, none_left_over, left_over, whole_of, part_refused, part_wants_memory}
 use Rattle.cx_enc.proofs.parts.read_whole_part.Goals as goal
 
 pub returns-in_err-value-clause-only : goal.returns-in_err-value-clause-only

@@ -1,9 +1,9 @@
 use Rattle.std.proofs.Common.{◌+◌, ◌*◌, ap, ◌∙◌, sym, arith}
 use lib.Lanes.{chunk}
-use Rattle.cx_ghash.specs.Base.{base_of}
-use Rattle.cx_ghash.specs.Blocks.{number, spelled, stepped}
-use Rattle.cx_ghash.proofs.Digits.{spelled-number}
-use Rattle.cx_ghash.proofs.Steps.{sixteen_byte}
+use Rattle.cx_gcm.specs.Base.{base_of}
+use Rattle.cx_gcm.specs.Blocks.{number, spelled, stepped}
+use Rattle.cx_gcm.proofs.Digits.{spelled-number}
+use Rattle.cx_gcm.proofs.Steps.{sixteen_byte}
 use Rattle.cx_gcm.specs.Gcm.{hashed}
 use Rattle.cx_gcm.proofs.Padding.{block_of_hashed, four_blocks, ghash_none, last_step, number_of_zeros, one_step}
 use Rattle.cx_gcm.proofs.hashing.hash.Goals as goal

@@ -1,6 +1,6 @@
 use Rattle.std.proofs.Common.{◌≡◌, ◌*◌}
-use Rattle.cx_ghash.specs.Base.{base_of}
-use Rattle.cx_ghash.specs.Blocks.{number}
+use Rattle.cx_gcm.specs.Base.{base_of}
+use Rattle.cx_gcm.specs.Blocks.{number}
 use Rattle.cx_gcm.specs.Gcm.{ghash, hashed}
 use Rattle.cx_gcm.proofs.hashing.hash.Given as goal
 

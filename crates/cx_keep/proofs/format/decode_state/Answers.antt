@@ -1,10 +1,10 @@
 -- A state is spelled by all of the bytes exactly where it is read and nothing is left.
 use Rattle.std.proofs.Common.{Ok, refl, sym, ap, ◌∙◌, arith}
 use Rattle.std.proofs.lemmas.Result.{err_from_is_err_and}
-use Rattle.cx_fields.specs.Reading.{spot}
-use Rattle.cx_layouts.specs.Whole.{part_at, start}
-use Rattle.cx_forms.specs.declared.faults.Misspelling.TheVariants.{Fault, LeftOver}
-use Rattle.cx_layouts.proofs.Wholes.{spelled_whole, nothing_left, none_left_over, left_over, whole_of, part_fault, no_fault}
+use Rattle.cx_enc.specs.Reading.{spot}
+use Rattle.cx_enc.specs.Whole.{part_at, start}
+use Rattle.cx_enc.specs.declared.faults.Misspelling.TheVariants.{Fault, LeftOver}
+use Rattle.cx_enc.proofs.Wholes.{spelled_whole, nothing_left, none_left_over, left_over, whole_of, part_fault, no_fault}
 use Rattle.cx_keep.specs.Formats.{state_of, stored_layout}
 use Rattle.cx_keep.proofs.Fitting.{kept_state}
 use Rattle.cx_keep.proofs.format.decode_state.Goals as goal

@@ -1,9 +1,9 @@
 -- The front of the bytes up to the end of their blob is read as the blob's length, and what the blob holds is left.
 use Rattle.std.proofs.Common.{◌≡◌, ◌-◌, Ok, Err, length, take, rules, arith}
 use Rattle.std.proofs.lemmas.Grind.{common_steps}
-use Rattle.cx_forms.specs.Forms.{u32_form, blob_form}
-use Rattle.cx_fields.specs.Reading.{spot}
-use Rattle.cx_layouts.specs.Whole.{start}
+use Rattle.cx_enc.specs.Forms.{u32_form, blob_form}
+use Rattle.cx_enc.specs.Reading.{spot}
+use Rattle.cx_enc.specs.Whole.{start}
 use Rattle.cx_wire.proofs.Opening.{left_le, no_front_fault, is_opened}
 use Rattle.cx_wire.proofs.contents.opened.Goals as goal
 

@@ -1,7 +1,7 @@
 -- What the blob holds is read to its end, and then nothing is left.
 use Rattle.std.proofs.Common.{arith}
 use Rattle.std.proofs.lemmas.Result.{err_from_is_err_and}
-use Rattle.cx_fields.specs.Reading.{spot}
+use Rattle.cx_enc.specs.Reading.{spot}
 use Rattle.cx_wire.proofs.Opening.{unopened, content_refused, content_over, body_over, body_ok}
 use Rattle.cx_wire.proofs.contents.read_content.Goals as goal
 

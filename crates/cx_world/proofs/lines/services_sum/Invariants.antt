@@ -1,6 +1,6 @@
 use Rattle.std.proofs.Common.{◌≡◌}
 use Rattle.std.specs.Prelude.{take, sum_by}
-use Rattle.cx_forms.specs.Values.{number_of}
+use Rattle.cx_enc.specs.Values.{number_of}
 use Rattle.cx_world.proofs.lines.services_sum.Given as goal
 
 abbrev pub invariant-loop-service : goal.invariant-loop-service

@@ -1,5 +1,5 @@
 use Rattle.std.proofs.Common.{◌/◌, length, ap, ◌∙◌, sym}
-use Rattle.cx_ghash.specs.Blocks.{spelled}
+use Rattle.cx_gcm.specs.Blocks.{spelled}
 use Rattle.cx_gcm.specs.Gcm.{gctr, ghash, hashed, nonce_block, tag_of}
 use Rattle.cx_gcm.specs.GcmKeyOf.{gcm_key_of}
 use Rattle.cx_gcm.proofs.KeyStream.{nonce_block-counted}

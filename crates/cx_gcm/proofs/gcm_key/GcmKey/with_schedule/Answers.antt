@@ -1,5 +1,5 @@
 use Rattle.std.proofs.Common.{ap, ◌∙◌}
-use Rattle.cx_ghash.specs.Blocks.{number}
+use Rattle.cx_gcm.specs.Blocks.{number}
 use Rattle.cx_gcm.specs.Gcm.{subkey}
 use Rattle.cx_gcm.proofs.gcm_key.GcmKey.with_schedule.Goals as goal
 

@@ -1,0 +1,11 @@
+pub mod Faults
+pub mod FieldLaws
+pub mod FormLaws
+pub mod Forms
+pub mod Moments
+pub mod Names
+pub mod Needs
+pub mod Values
+pub mod Reading
+pub mod Layouts
+pub mod Whole

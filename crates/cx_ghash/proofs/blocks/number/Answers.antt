@@ -1,6 +1,0 @@
-use Rattle.cx_ghash.specs.Blocks.{number}
-use Rattle.cx_ghash.proofs.blocks.number.Goals as goal
-
-pub returns : goal.returns
-unfolding number
-returns c = c.from_be_bytes.ensures

@@ -1,6 +1,0 @@
-use Rattle.cx_ghash.specs.Blocks.{spelled}
-use Rattle.cx_ghash.proofs.blocks.spelled.Goals as goal
-
-pub returns : goal.returns
-unfolding spelled
-returns c = c.to_be_bytes.ensures

@@ -1,5 +1,0 @@
-use Rattle.cx_ghash.proofs.Lists.{joined}
-use Rattle.cx_ghash.proofs.polynomials.next_upper.Goals as goal
-
-pub returns : goal.returns
-returns c = joined c.args.lower c.args.upper c.fits-lower.0 c.fits-upper.0

@@ -1,5 +1,0 @@
-use Rattle.cx_ghash.proofs.Lists.{after_zero}
-use Rattle.cx_ghash.proofs.polynomials.one_on.Goals as goal
-
-pub returns : goal.returns
-returns c = after_zero c.args.bytes c.fits-bytes.0

@@ -1,0 +1,48 @@
+-- What a user reads of a line that is none: the word that is wrong, what is wrong with it, and the form of the line.
+use Rattle.std.specs.Prelude.{List, codes, ℕ}
+use Rattle.std.specs.Fmt.{decimal}
+use Rattle.cx_base.specs.Joined.{◌<>◌}
+use Rattle.cx_lines.specs.declared.sight.BadWord.{BadWord}
+use Rattle.cx_line_words.specs.declared.faults.LineFault.{LineFault}
+use Rattle.cx_line_words.specs.declared.faults.LineFault.TheVariants.{UnknownWord, Missing, Extra, Order}
+use Rattle.cx_line_help.specs.Forms.{form_text}
+use Rattle.cx_line_help.specs.Hints.{hint_text}
+use Rattle.cx_line_help.specs.Problems.{problem_as}
+use Rattle.cx_line_help.specs.Words.{word_text}
+
+-- the words that begin a line
+abbrev pub first_words_text : List ℕ
+first_words_text =
+    codes "; a line begins with lifetime, auth-lifetime, entity, seed, modes, leak, clock, fetch, login, renew, connect, send, drop, tick, do, carry, lose, inject, again, cut, restart, failsave or settle, and a comment with #"
+
+abbrev pub unknown_text : BadWord → List ℕ
+unknown_text bad = codes "its first word, " <> word_text bad.shown <> codes ", begins no line" <> hint_text bad.hint <> first_words_text
+
+abbrev pub missing_text : BadWord → List ℕ
+missing_text bad =
+    codes "it ends with " <> word_text bad.shown <> hint_text bad.hint <> codes ", and has too few words: " <> decimal bad.fault.word
+    <> codes " at least are wanted" <> form_text bad.form
+
+abbrev pub extra_text : BadWord → List ℕ
+extra_text bad =
+    codes "word " <> decimal bad.fault.word <> codes ", " <> word_text bad.shown <> codes ", is one too many" <> hint_text bad.hint <> form_text bad.form
+
+abbrev pub order_text : BadWord → List ℕ
+order_text bad =
+    codes "it stands too low: lifetime, auth-lifetime, entity, seed, modes and leak lines stand above all others; move it up" <> form_text bad.form
+
+abbrev pub problem_text : BadWord → List ℕ
+problem_text bad =
+    codes "word " <> decimal bad.fault.word <> codes ", " <> word_text bad.shown <> codes ", " <> problem_as bad.fault.why bad <> hint_text bad.hint
+    <> form_text bad.form
+
+-- by the fault
+abbrev pub wrong_as : LineFault → BadWord → List ℕ
+wrong_as UnknownWord bad = unknown_text bad
+wrong_as Missing bad = missing_text bad
+wrong_as Extra bad = extra_text bad
+wrong_as Order bad = order_text bad
+wrong_as _ bad = problem_text bad
+
+abbrev pub wrong_text : BadWord → List ℕ
+wrong_text bad = wrong_as bad.fault.why bad

@@ -1,0 +1,170 @@
+//! What is wrong with a word at its place, and what to write.
+
+ghost use Rattle.std.specs.Prelude.{◌≡◌};
+ghost use Rattle.cx_line_help.specs.Problems.{again_problem, caps_problem, client_problem, daemon_problem, name_problem, no_number, node_problem, number_problem, part_problem, problem_as, text_at, too_large, undeclared};
+
+use crate::words::{are_digits, begins, has_leading_zero, has_slash, is_daemon_word};
+use cx_line_words::{LineFault, Place, Shown};
+use cx_lines::BadWord;
+
+/// What is wrong with the word at its place.
+pub(crate) fn problem(bad: &BadWord) -> &'static str
+    ensures { result.now ≡ problem_as bad.now.fault.why bad.now }
+{
+    match bad.fault.why {
+        LineFault::BadNumber => number_problem(bad),
+        LineFault::BadName => name_problem(bad.takes),
+        LineFault::BadText => text_at(bad.takes, &bad.shown),
+        LineFault::UnknownNode => node_problem(bad.takes, &bad.shown),
+        _ => again_problem(bad.takes),
+    }
+}
+
+fn name_problem(place: Option<Place>) -> &'static str
+    ensures { result.now ≡ name_problem place }
+{
+    match place {
+        Some(Place::Node) | Some(Place::Unseeded) => {
+            "is no node: a node is mon, the monitor, or an entity's, by its name, as client.admin or osd.0"
+        }
+        _ => {
+            "is no name: a name is a type, client, mds, osd or mgr, a point and an id of 1 to 64 letters, digits or \
+            _ - . : + /, as client.admin or osd.0"
+        }
+    }
+}
+
+fn number_problem(bad: &BadWord) -> &'static str
+    ensures { result.now ≡ number_problem bad.now }
+{
+    if has_leading_zero(&bad.shown) {
+        return "has a leading zero; write it without";
+    }
+    if are_digits(&bad.shown) {
+        return too_large(bad.takes);
+    }
+    no_number(bad.takes)
+}
+
+fn too_large(place: Option<Place>) -> &'static str
+    ensures { result.now ≡ too_large place }
+{
+    match place {
+        Some(Place::Life) => "is out of bounds: a lifetime is 1 to 31,536,000 seconds",
+        Some(Place::Number) => "is too large: a number is below 18,446,744,073,709,551,616",
+        _ => "is too large: a reading is below 4,000,000,000 seconds",
+    }
+}
+
+fn no_number(place: Option<Place>) -> &'static str
+    ensures { result.now ≡ no_number place }
+{
+    match place {
+        Some(Place::Life) =>
+            "is no number: a lifetime is 1 to 31,536,000 seconds, in decimal digits alone, as 3600",
+        Some(Place::Number) => "is no number: a number is decimal digits alone, as 1",
+        _ => {
+            "is no reading: a reading is a number of seconds, as 4599, or one with a point and nine digits, as \
+            4599.999999999"
+        }
+    }
+}
+
+fn text_at(place: Option<Place>, shown: &Shown) -> &'static str
+    ensures { result.now ≡ text_at place shown.now }
+{
+    match place {
+        Some(Place::Service) => "is no service that has caps: mon, mds, osd or mgr",
+        Some(Place::Caps) => caps_problem(begins(shown, "\"")),
+        Some(Place::Services) => {
+            "is no list of services: mds, osd and mgr, joined by commas without a space, each at most once, as mds,osd"
+        }
+        Some(Place::Access) => "is no access: read, write or exec",
+        Some(Place::Part) => part_problem(has_slash(shown)),
+        Some(Place::Bytes) => {
+            "is no bytes: two hexadecimal digits a byte, and - where there is none"
+        }
+        Some(Place::Modes) => "is no list of modes: crc, secure or crc,secure",
+        Some(Place::Side) => "is no side of a link: c, the connector's, or a, the acceptor's",
+        Some(Place::Lossy) => "may not stand there: nothing but lossy stands behind the daemon",
+        Some(Place::LeftState) => "is no state that a failed save leaves: old or new",
+        Some(Place::Command) => {
+            "begins no line that may stand behind do: fetch, login, renew, connect or send"
+        }
+        _ =>
+            "is no data: two hexadecimal digits a byte, at most 65,536 bytes, and - where there is none",
+    }
+}
+
+fn caps_problem(is_open: bool) -> &'static str
+    ensures { result.now ≡ caps_problem is_open }
+{
+    if is_open {
+        return "is no text of caps: it ends with a quotation mark too, and has at most 4,096 bytes from the space to ~, \
+        without a quotation mark or a backslash";
+    }
+    "is no text of caps: caps stand in quotation marks, as \"allow *\""
+}
+
+fn part_problem(has_slash: bool) -> &'static str
+    ensures { result.now ≡ part_problem has_slash }
+{
+    if has_slash {
+        return "has a slash: pool, namespace and object are three words, each of 1 to 255 letters, digits or _ - . , and - where \
+        there is none";
+    }
+    "is no pool, namespace or object: 1 to 255 letters, digits or _ - . , and - where there is none"
+}
+
+fn node_problem(place: Option<Place>, shown: &Shown) -> &'static str
+    ensures { result.now ≡ node_problem place shown.now }
+{
+    match place {
+        Some(Place::Entity) => "can't be declared: an entity is a client, an mds, an osd or a mgr",
+        Some(Place::Daemon) => daemon_problem(is_daemon_word(shown)),
+        Some(Place::Node) | Some(Place::Unseeded) => {
+            "is declared by no line above: write mon for the monitor, and an entity line for any other node, above all lines \
+            that aren't head lines"
+        }
+        _ => client_problem(begins(shown, "client.")),
+    }
+}
+
+fn daemon_problem(is_daemon: bool) -> &'static str
+    ensures { result.now ≡ daemon_problem is_daemon }
+{
+    if is_daemon {
+        return undeclared();
+    }
+    "is no daemon: a daemon's name begins with mds., osd. or mgr."
+}
+
+fn client_problem(is_client: bool) -> &'static str
+    ensures { result.now ≡ client_problem is_client }
+{
+    if is_client {
+        return undeclared();
+    }
+    "is no client: a client's name begins with client."
+}
+
+fn undeclared() -> &'static str
+    ensures { result.now ≡ undeclared }
+{
+    "is declared by no line above: write an entity line for it, above all lines that aren't head lines"
+}
+
+fn again_problem(place: Option<Place>) -> &'static str
+    ensures { result.now ≡ again_problem place }
+{
+    match place {
+        Some(Place::Entity) => "is declared by a line above already; give it all of its caps there",
+        Some(Place::Service) =>
+            "stands in this line already; give it one text, with commas between its clauses",
+        Some(Place::Unseeded) => "has a seed by a line above already; leave one of them out",
+        Some(Place::Unmoded) => "has its modes by a line above already; leave one of them out",
+        Some(Place::Unleaked) => "is leaked by a line above already; leave one of them out",
+        _ =>
+            "begins a line that stands once in a schedule, and one stands above already; leave one of them out",
+    }
+}

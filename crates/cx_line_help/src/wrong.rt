@@ -1,0 +1,139 @@
+//! What is wrong with a line of a schedule.
+
+ghost use Rattle.std.specs.Prelude.{◌≡◌};
+ghost use Rattle.cx_line_help.specs.Wrong.{first_words_text};
+
+use crate::forms::form;
+use crate::hints::hint;
+use crate::problems::problem;
+use crate::words::Word;
+use cx_line_words::LineFault;
+use cx_lines::BadWord;
+use std::fmt;
+
+/// A line that is none, by its first fault: which word is wrong, what stands there, what is wrong with it and what to write,
+/// and the form of the line with an example.
+#[derive(Clone, Copy)]
+pub struct Wrong<'a>(pub &'a BadWord);
+
+impl fmt::Display for Wrong<'_> {
+    ghost use Rattle.std.specs.Prelude.{Some};
+    ghost use Rattle.cx_line_help.specs.Wrong.{wrong_text};
+
+    ghost output = { λ wrong. Some (wrong_text wrong.0.now) };
+
+    fn fmt<W: fmt::Write>(&self, f: &mut fmt::Formatter<W>) -> fmt::Result {
+        let bad = self.0;
+        match bad.fault.why {
+            LineFault::UnknownWord => write!(f, "{}", Unknown(bad)),
+            LineFault::Missing => write!(f, "{}", Missing(bad)),
+            LineFault::Extra => write!(f, "{}", Extra(bad)),
+            LineFault::Order => write!(
+                f,
+                "it stands too low: lifetime, auth-lifetime, entity, seed, modes and leak lines stand above all others; move it up{}",
+                form(bad.form)
+            ),
+            LineFault::BadNumber => write!(f, "{}", Problem(bad)),
+            LineFault::BadName => write!(f, "{}", Problem(bad)),
+            LineFault::BadText => write!(f, "{}", Problem(bad)),
+            LineFault::UnknownNode => write!(f, "{}", Problem(bad)),
+            LineFault::Repeated => write!(f, "{}", Problem(bad)),
+        }
+    }
+}
+
+#[derive(Clone, Copy)]
+struct Unknown<'a>(&'a BadWord);
+
+impl fmt::Display for Unknown<'_> {
+    ghost use Rattle.std.specs.Prelude.{Some};
+    ghost use Rattle.cx_line_help.specs.Wrong.{unknown_text};
+
+    ghost output = { λ wrong. Some (unknown_text wrong.0.now) };
+
+    fn fmt<W: fmt::Write>(&self, f: &mut fmt::Formatter<W>) -> fmt::Result {
+        let bad = self.0;
+        write!(
+            f,
+            "its first word, {}, begins no line{}{}",
+            Word(&bad.shown),
+            hint(bad.hint),
+            first_words()
+        )
+    }
+}
+
+/// The words that begin a line.
+fn first_words() -> &'static str
+    ensures { result.now ≡ first_words_text }
+{
+    "; a line begins with lifetime, auth-lifetime, entity, seed, modes, leak, clock, fetch, login, renew, connect, send, drop, tick, \
+    do, carry, lose, inject, again, cut, restart, failsave or settle, and a comment with #"
+}
+
+#[derive(Clone, Copy)]
+struct Missing<'a>(&'a BadWord);
+
+impl fmt::Display for Missing<'_> {
+    ghost use Rattle.std.specs.Prelude.{Some};
+    ghost use Rattle.cx_line_help.specs.Wrong.{missing_text};
+
+    ghost output = { λ wrong. Some (missing_text wrong.0.now) };
+
+    fn fmt<W: fmt::Write>(&self, f: &mut fmt::Formatter<W>) -> fmt::Result {
+        let bad = self.0;
+        write!(
+            f,
+            "it ends with {}{}, and has too few words: {} at least are wanted{}",
+            Word(&bad.shown),
+            hint(bad.hint),
+            bad.fault.word,
+            form(bad.form)
+        )
+    }
+}
+
+#[derive(Clone, Copy)]
+struct Extra<'a>(&'a BadWord);
+
+impl fmt::Display for Extra<'_> {
+    ghost use Rattle.std.specs.Prelude.{Some};
+    ghost use Rattle.cx_line_help.specs.Wrong.{extra_text};
+
+    ghost output = { λ wrong. Some (extra_text wrong.0.now) };
+
+    fn fmt<W: fmt::Write>(&self, f: &mut fmt::Formatter<W>) -> fmt::Result {
+        let bad = self.0;
+        write!(
+            f,
+            "word {}, {}, is one too many{}{}",
+            bad.fault.word,
+            Word(&bad.shown),
+            hint(bad.hint),
+            form(bad.form)
+        )
+    }
+}
+
+#[derive(Clone, Copy)]
+struct Problem<'a>(&'a BadWord);
+
+impl fmt::Display for Problem<'_> {
+    ghost use Rattle.std.specs.Prelude.{Some};
+    ghost use Rattle.cx_line_help.specs.Wrong.{problem_text};
+
+    ghost output = { λ wrong. Some (problem_text wrong.0.now) };
+
+    fn fmt<W: fmt::Write>(&self, f: &mut fmt::Formatter<W>) -> fmt::Result {
+        let bad = self.0;
+        write!(
+            f,
+            "word {}, {}, {}{}{}",
+            bad.fault.word,
+            Word(&bad.shown),
+            problem(bad),
+            hint(bad.hint),
+            form(bad.form)
+        )
+    }
+}

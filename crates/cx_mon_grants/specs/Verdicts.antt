@@ -1,0 +1,115 @@
+-- What comes of a login whose proof was found equal, in the steps of the monitor's rules ("detailed cephx protocol": an Authenticate that
+-- proves the entity's secret is answered by tickets).
+use Rattle.std.specs.Prelude.{ℕ, ◌≡◌, List, ◌∷◌, ◌++◌, find, map, Option, Some, None, Result, Ok, Err}
+use Rattle.std.specs.List.{flat_map}
+use Rattle.std.specs.Option.{option_map}
+use Rattle.std.specs.declared.alloc.AllocError.{AllocError}
+use Rattle.cx_base.specs.Names.{Name}
+use Rattle.cx_base.specs.declared.kinds.EntityType.TheVariants.{Auth}
+use Rattle.cx_cbc.specs.Envelope.{sealed}
+use Rattle.cx_control.specs.Auth.{auth_done_layout}
+use Rattle.cx_dice.specs.Draws.{connection_of, session_of}
+use Rattle.cx_enc.specs.declared.keys.Key.{Key}
+use Rattle.cx_journal.specs.declared.faults.LoginFault.{LoginFault}
+use Rattle.cx_journal.specs.declared.faults.LoginFault.TheVariants.{UnknownEntity}
+use Rattle.cx_keyring.specs.Entries.{is_named}
+use Rattle.cx_keyserver.specs.Servers.{Server, rotated_server}
+use Rattle.cx_keyserver.specs.declared.tickets.Ticket.{Ticket}
+use Rattle.cx_login.specs.Monitor.{Proven, kept_gid, proof_found, reclaimed}
+use Rattle.cx_login.specs.Unlocking.{Unlocked, old_ticket}
+use Rattle.cx_rules.specs.KeptStates.{changed}
+use Rattle.cx_rules.specs.MonitorLogin.{Numbered, login_entries, numbered}
+use Rattle.cx_rules.specs.Tickets.{issued_for, rotation_drawn, services_for, ticket_part, ticket_seals}
+use Rattle.cx_sealed.specs.declared.service_ticket.ServiceTicket.{ServiceTicket}
+use Rattle.cx_steps.specs.declared.seals.SealEntry.{SealEntry}
+use Rattle.cx_wire.specs.Logins.{login_done_layout}
+use Rattle.cx_wire.specs.declared.logins.LoginDone.{LoginDone}
+use Rattle.cx_mon_grants.specs.Logging.{secret_content, secret_seals}
+use Rattle.cx_mon_grants.specs.Occasions.{Entrant, Occasion, asking_for, entrant}
+use Rattle.cx_mon_grants.specs.declared.verdicts.HandedOut.{HandedOut}
+use Rattle.cx_mon_grants.specs.declared.verdicts.Verdict.{Verdict}
+use Rattle.cx_mon_grants.specs.declared.verdicts.Verdict.TheVariants.{Denied, Granted}
+
+-- what comes of a login: the verdict, and the key server behind it
+pub record Decided : Type 0 where
+  pub verdict : Verdict
+  pub server : Server
+
+abbrev pub decided : Server → Verdict → Decided
+decided server verdict = record { verdict = verdict; server = server }
+
+abbrev pub denied : Server → LoginFault → List SealEntry → Decided
+denied server why seals = decided server (Denied why seals)
+
+-- ---- what is handed out
+
+-- these tickets, and the sealed secret of the connection
+abbrev pub login_done : List Ticket → List ℕ → LoginDone
+login_done tickets connection_secret = record { tickets = map ticket_part tickets; connection_secret = connection_secret }
+
+-- the payload of AUTH_DONE: the global id, the secure mode, and a LoginDone
+abbrev pub done_payload : ℕ → LoginDone → List ℕ
+done_payload gid done = auth_done_layout.form.text (record { gid = gid; mode = 2; payload = login_done_layout.form.text done })
+
+-- what is logged of the tickets, which tell the entity by its own secret, and of the secret of the connection
+abbrev pub handed_seals : Server → Name → List ℕ → List ℕ → List ℕ → List Ticket → List SealEntry
+handed_seals server name own session secret tickets =
+    flat_map (ticket_seals server own session) tickets ++ secret_seals name session secret
+
+abbrev pub handed_out : Occasion → Server → Entrant → List ℕ → List Ticket → HandedOut
+handed_out at server e own tickets =
+    let session = session_of Auth at.draw in
+    let secret = connection_of at.draw in
+    let save = changed at.saved server.state in
+    record {
+      name = e.name;
+      gid = e.gid;
+      session = session;
+      secret = secret;
+      payload = done_payload e.gid (login_done tickets (sealed session (secret_content secret)));
+      seals = e.seals;
+      sealed = handed_seals server e.name own session secret tickets;
+      save = save;
+      entries = login_entries save tickets;
+    }
+
+-- ---- step by step
+
+abbrev pub issues : Occasion → Server → Entrant → List ℕ → Result (List Ticket) LoginFault → Decided
+issues at server e own (Err why) = denied server why e.seals
+issues at server e own (Ok tickets) = decided server (Granted (handed_out at server e own tickets))
+
+-- the entity is told of its ticket for AUTH by its own secret, where the keyring has it
+abbrev pub issues_to : Occasion → Server → Entrant → Option Key → Decided
+issues_to at server e None = denied server UnknownEntity e.seals
+issues_to at server e (Some own) =
+    issues at server e own.secret (issued_for server (asking_for at e.name e.gid) (services_for e.asked))
+
+abbrev pub key_of : Server → Name → Option Key
+key_of server name = option_map (λ entry. entry.key) (find (is_named name) server.ring)
+
+abbrev pub numbers : Occasion → Server → Proven → List SealEntry → Result Numbered LoginFault → Decided
+numbers at server proven seals (Err why) = denied server why seals
+numbers at server proven seals (Ok n) =
+    issues_to at n.server (entrant proven.offer.name n.gid proven.ask.other_keys seals) (key_of n.server proven.offer.name)
+
+-- the old ticket, which was opened, decides whether the global id is kept
+abbrev pub reclaims : Occasion → Server → ℕ → Proven → List SealEntry → Unlocked ServiceTicket → Decided
+reclaims at server hello_gid proven seals old =
+    numbers at server proven (seals ++ old.seals)
+    (numbered server (reclaimed hello_gid proven.ask.version (kept_gid proven.offer.name at.reading old.value)))
+
+-- the secrets are rotated, whatever comes of the login
+abbrev pub rotates : Occasion → Server → ℕ → Proven → Decided
+rotates at server hello_gid proven =
+    let rotated = rotated_server at.reading at.draw server in
+    reclaims at rotated hello_gid proven
+    (proof_found proven.offer proven.ask.client_challenge ∷ rotation_drawn at.reading at.draw server.state)
+    (old_ticket rotated.state.auth proven.ask.old_ticket)
+
+-- ---- what calls answer
+
+-- this is decided, and the server is the one behind it, unless memory was wanting
+abbrev pub Decides : Decided → Server → Result Verdict AllocError → Type 0
+Decides due new (Ok verdict) = due ≡ decided new verdict
+Decides due new (Err e) = Unit {0}

@@ -1,0 +1,131 @@
+//! The tickets of a login.
+
+ghost use Rattle.std.specs.Prelude.{◌≡◌, ◌++◌, ◌∷◌, [], ◌<◌, false, All, filter, IfOk, IfSome, OnOk, option_to_list};
+ghost use Rattle.cx_keyserver.specs.Issuing.{issued, wants_memory};
+ghost use Rattle.cx_rules.specs.Tickets.{is_asked, issued_for, services_for};
+ghost use Rattle.cx_mon_grants.specs.Handing.{IsWhole};
+ghost use Rattle.cx_mon_grants.specs.Issuing.{IsRotated, one_of};
+ghost use Rattle.cx_mon_grants.specs.Occasions.{asking_for, occasion_of};
+
+use crate::occasions::Entrant;
+use cx_base::{EntityType, Items};
+use cx_enc::number_of;
+use cx_journal::LoginFault;
+use cx_keyserver::{IssueRefusal, KeyServer, Ticket};
+use std::alloc::{AllocError, Global};
+
+/// AUTH, and of MDS, OSD and MGR those that are asked by the sum of their numbers.
+pub(crate) fn services_for(alloc: Global, asked: u32) -> Result<Items<EntityType>, AllocError>
+    ensures { IfOk result (λ services. services ≡ services_for asked) }
+{
+    let mut services = Items::new(alloc);
+    services.push(alloc, EntityType::Auth)?;
+    push_asked(alloc, asked, EntityType::Mds, &mut services)?;
+    push_asked(alloc, asked, EntityType::Osd, &mut services)?;
+    push_asked(alloc, asked, EntityType::Mgr, &mut services)?;
+    Ok(services)
+}
+
+// Appends the service where it is asked.
+fn push_asked(
+    alloc: Global,
+    asked: u32,
+    service: EntityType,
+    services: &mut Items<EntityType>,
+) -> Result<(), AllocError>
+    ensures { OnOk result (services.new ≡ services.old ++ filter (is_asked asked) (service ∷ [])) }
+{
+    if is_asked(asked, service) {
+        services.push(alloc, service)?;
+    }
+    Ok(())
+}
+
+fn is_asked(asked: u32, service: EntityType) -> bool
+    ensures { result ≡ is_asked asked service }
+{
+    (asked / number_of(service)) % 2 == 1
+}
+
+/// The entrant's tickets for these services, or why there are none. The server, which is rotated, stays as it is.
+pub(crate) fn issued_for(
+    alloc: Global,
+    server: &mut KeyServer,
+    entrant: &Entrant<'_>,
+    services: &[EntityType],
+) -> Result<Result<Items<Ticket>, LoginFault>, AllocError>
+    requires now { entrant.now.at.reading < 4000000000000000000 }
+    requires rotated { IsRotated entrant.now.at.reading entrant.now.at.draw.now.bytes server.old }
+    ensures issued { IfOk result (λ tickets. tickets ≡ issued_for server.old (asking_for (occasion_of entrant.now.at) entrant.now.name.now entrant.now.gid) services.now) }
+    ensures whole { IfOk result (λ tickets. IfOk tickets (All IsWhole)) }
+    ensures server { server.new ≡ server.old }
+{
+    let mut tickets = Items::new(alloc);
+    for service in services {
+        let one = issue_one(alloc, server, entrant, *service)?;
+        let ticket = match one {
+            Ok(ticket) => ticket,
+            Err(why) => return Ok(Err(why)),
+        };
+        append(alloc, ticket, &mut tickets)?;
+    }
+    Ok(Ok(tickets))
+}
+
+// Appends the ticket, where there is one.
+fn append(
+    alloc: Global,
+    ticket: Option<Ticket>,
+    tickets: &mut Items<Ticket>,
+) -> Result<(), AllocError>
+    ensures { OnOk result (tickets.new ≡ tickets.old ++ option_to_list ticket) }
+{
+    match ticket {
+        None => Ok(()),
+        Some(ticket) => tickets.push(alloc, ticket),
+    }
+}
+
+// The entrant's ticket for a service; none where it has no caps for it.
+fn issue_one(
+    alloc: Global,
+    server: &mut KeyServer,
+    entrant: &Entrant<'_>,
+    service: EntityType,
+) -> Result<Result<Option<Ticket>, LoginFault>, AllocError>
+    requires now { entrant.now.at.reading < 4000000000000000000 }
+    requires rotated { IsRotated entrant.now.at.reading entrant.now.at.draw.now.bytes server.old }
+    ensures one { IfOk result (λ one. one ≡ one_of (issued server.old (asking_for (occasion_of entrant.now.at) entrant.now.name.now entrant.now.gid service))) }
+    ensures whole { IfOk result (λ one. IfOk one (λ ticket. IfSome ticket IsWhole)) }
+    ensures server { server.new ≡ server.old }
+{
+    let at = entrant.at;
+    let session = at.draw.session_key(EntityType::Auth);
+    let answer = server.issue(
+        alloc,
+        entrant.name,
+        service,
+        entrant.gid,
+        &session,
+        at.reading,
+        at.draw,
+    );
+    one_of(answer)
+}
+
+// The ticket of an answer; none where there is none for its service alone.
+fn one_of(
+    answer: Result<Ticket, IssueRefusal>,
+) -> Result<Result<Option<Ticket>, LoginFault>, AllocError>
+    ensures one { IfOk result (λ one. one ≡ one_of answer) }
+    ensures memory { OnOk result (wants_memory answer ≡ false) }
+{
+    match answer {
+        Ok(ticket) => Ok(Ok(Some(ticket))),
+        Err(IssueRefusal::NoCaps) => Ok(Ok(None)),
+        Err(IssueRefusal::NotAService) => Ok(Ok(None)),
+        Err(IssueRefusal::IdsSpent) => Ok(Err(LoginFault::IdsSpent)),
+        Err(IssueRefusal::UnknownEntity) => Ok(Err(LoginFault::UnknownEntity)),
+        Err(IssueRefusal::OutOfMemory) => Err(AllocError),
+    }
+}

@@ -1,0 +1,180 @@
+//! What comes of a login whose proof was found equal: the steps, in their order.
+
+ghost use Rattle.std.specs.Prelude.{◌≡◌, ◌++◌, ◌<◌, ◌≤◌, None, All, length, map, IfOk, OnOk, OnErr};
+ghost use Rattle.std.specs.List.{flat_map};
+ghost use Rattle.cx_base.specs.declared.kinds.EntityType.TheVariants.{Auth};
+ghost use Rattle.cx_cbc.specs.Envelope.{sealed};
+ghost use Rattle.cx_dice.specs.Draws.{connection_of, session_of};
+ghost use Rattle.cx_rules.specs.MonitorLogin.{numbered};
+ghost use Rattle.cx_rules.specs.Tickets.{ticket_part, ticket_seals};
+ghost use Rattle.cx_mon_grants.specs.Handing.{CanBeHandedOut};
+ghost use Rattle.cx_mon_grants.specs.Issuing.{IsRotated};
+ghost use Rattle.cx_mon_grants.specs.Logging.{secret_content};
+ghost use Rattle.cx_mon_grants.specs.Occasions.{entrant_of, occasion_of};
+ghost use Rattle.cx_mon_grants.specs.Verdicts.{Decides, done_payload, handed_out, issues_to, key_of, login_done, numbers, rotates};
+
+use crate::entries::login_entries;
+use crate::issuing::{issued_for, services_for};
+use crate::logging::{log_secret, log_tickets};
+use crate::numbering::numbered;
+use crate::occasions::{Entrant, Occasion};
+use crate::payloads::{done_payload, login_done};
+use crate::rotating::rotated;
+use crate::saving::changed;
+use crate::verdicts::{HandedOut, Verdict};
+use cx_base::{Blob, Duplicate, EntityType, Items};
+use cx_journal::LoginFault;
+use cx_keyserver::{KeyServer, Ticket};
+use cx_login::{Proved, Reclaim};
+use cx_sealed::{ConnectionSecret, seal_connection_secret};
+use cx_steps::SealEntry;
+use std::alloc::{AllocError, Global};
+
+/// Grants an entity that proved itself its global id and its tickets, or denies them. `hello_gid` is the global id of its LoginHello.
+/// The rotation stays and a global id is used up, whatever the verdict.
+pub fn log_in(
+    alloc: Global,
+    server: &mut KeyServer,
+    proved: &Proved,
+    hello_gid: u64,
+    at: &Occasion<'_>,
+) -> Result<Verdict, AllocError>
+    requires { at.now.reading < 4000000000000000000 }
+    ensures verdict { IfOk result (λ verdict. verdict ≡ (rotates (occasion_of at.now) server.old hello_gid proved.now).verdict) }
+    ensures server { OnOk result (server.new ≡ (rotates (occasion_of at.now) server.old hello_gid proved.now).server) }
+    ensures err { OnErr result (server.new ≡ server.old) }
+{
+    let before = server.state();
+    let verdict = rotates(alloc, server, proved, hello_gid, at);
+    if verdict.is_err() {
+        server.restore(before);
+    }
+    verdict
+}
+
+// The secrets are rotated, whatever comes of the login; and the old ticket decides whether the global id is kept.
+fn rotates(
+    alloc: Global,
+    server: &mut KeyServer,
+    proved: &Proved,
+    hello_gid: u64,
+    at: &Occasion<'_>,
+) -> Result<Verdict, AllocError>
+    requires { at.now.reading < 4000000000000000000 }
+    ensures decides { Decides (rotates (occasion_of at.now) server.old hello_gid proved.now) server.new result }
+    ensures ring { server.new.ring ≡ server.old.ring }
+{
+    let mut seals = Items::new(alloc);
+    seals.push(alloc, proved.found(alloc)?)?;
+    rotated(alloc, server, at.reading, at.draw, &mut seals)?;
+    let auth = server.state().auth;
+    let reclaim = proved.reclaim(alloc, hello_gid, &auth, at.reading, &mut seals)?;
+    numbers(alloc, server, proved, at, reclaim, seals)
+}
+
+fn numbers(
+    alloc: Global,
+    server: &mut KeyServer,
+    proved: &Proved,
+    at: &Occasion<'_>,
+    reclaim: Reclaim,
+    seals: Items<SealEntry>,
+) -> Result<Verdict, AllocError>
+    requires now { at.now.reading < 4000000000000000000 }
+    requires rotated { IsRotated at.now.reading at.now.draw.now.bytes server.old }
+    ensures decides { Decides (numbers (occasion_of at.now) server.old proved.now seals (numbered server.old reclaim)) server.new result }
+    ensures ring { server.new.ring ≡ server.old.ring }
+{
+    match numbered(server, reclaim) {
+        Err(why) => Ok(Verdict::Denied { why, seals }),
+        Ok(gid) => {
+            let entrant = Entrant {
+                name: proved.name(),
+                gid,
+                asked: proved.asked(),
+                at: *at,
+            };
+            issues_to(alloc, server, &entrant, seals)
+        }
+    }
+}
+
+// The tickets are issued, where the keyring has the entity.
+fn issues_to(
+    alloc: Global,
+    server: &mut KeyServer,
+    entrant: &Entrant<'_>,
+    seals: Items<SealEntry>,
+) -> Result<Verdict, AllocError>
+    requires now { entrant.now.at.reading < 4000000000000000000 }
+    requires rotated { IsRotated entrant.now.at.reading entrant.now.at.draw.now.bytes server.old }
+    ensures decides { Decides (issues_to (occasion_of entrant.now.at) server.old (entrant_of entrant.now seals) (key_of server.old entrant.now.name.now)) server.new result }
+    ensures server { server.new ≡ server.old }
+{
+    let Some(own) = server.key_of(entrant.name) else {
+        return Ok(Verdict::Denied {
+            why: LoginFault::UnknownEntity,
+            seals,
+        });
+    };
+    let services = services_for(alloc, entrant.asked)?;
+    let tickets = issued_for(alloc, server, entrant, services.all())?;
+    match tickets {
+        Err(why) => Ok(Verdict::Denied { why, seals }),
+        Ok(tickets) => {
+            let handed = handed_out(alloc, server, entrant, &own.secret, tickets.all(), seals)?;
+            Ok(Verdict::Granted(handed))
+        }
+    }
+}
+
+fn handed_out(
+    alloc: Global,
+    server: &KeyServer,
+    entrant: &Entrant<'_>,
+    own: &[u8; 16],
+    tickets: &[Ticket],
+    seals: Items<SealEntry>,
+) -> Result<HandedOut, AllocError>
+    requires { CanBeHandedOut tickets.now }
+    ensures { IfOk result (λ handed. handed ≡ handed_out (occasion_of entrant.now.at) server.now (entrant_of entrant.now seals) own.now tickets.now) }
+{
+    let at = entrant.at;
+    let session = at.draw.session_key(EntityType::Auth);
+    let secret = at.draw.connection_secret();
+    let payload = payload(alloc, entrant.gid, &session, &secret, tickets)?;
+    let mut sealed = Items::new(alloc);
+    log_tickets(alloc, server, own, &session, tickets, &mut sealed)?;
+    log_secret(alloc, entrant.name, &session, &secret, &mut sealed)?;
+    let save = changed(at.saved, &server.state());
+    let entries = login_entries(alloc, &save, tickets)?;
+    let name = entrant.name.copy(alloc)?;
+    Ok(HandedOut {
+        name,
+        gid: entrant.gid,
+        session,
+        secret,
+        payload,
+        seals,
+        sealed,
+        save,
+        entries,
+    })
+}
+
+// The payload of AUTH_DONE with these tickets, and with the secret of the connection sealed by the session key.
+fn payload(
+    alloc: Global,
+    gid: u64,
+    session: &[u8; 16],
+    secret: &[u8; 64],
+    tickets: &[Ticket],
+) -> Result<Blob, AllocError>
+    requires { CanBeHandedOut tickets.now }
+    ensures { IfOk result (λ payload. payload ≡ done_payload gid (login_done tickets.now (sealed session.now (secret_content secret.now)))) }
+{
+    let content = ConnectionSecret { secret: *secret };
+    let connection_secret = seal_connection_secret(alloc, session, &content)?;
+    let done = login_done(alloc, tickets, connection_secret)?;
+    done_payload(alloc, gid, &done)
+}

@@ -1,4 +1,0 @@
-pub mod Bytes
-pub mod Swizzles
-pub mod Maps
-pub mod Places

@@ -1,0 +1,121 @@
+//! Declared entities.
+
+ghost use Rattle.std.specs.Prelude.{◌≡◌, IfOk};
+ghost use Rattle.cx_run.specs.Opening.{local, modes_in, principal_of, secret_of};
+ghost use Rattle.cx_rules.specs.Holdings.{modes_of};
+ghost use Rattle.cx_run_head.specs.Beginning.{caps_by, caps_of};
+
+use crate::secrets::secret_of_seed;
+use cx_base::{Addr, Duplicate, EntityName, Items};
+use cx_enc::{Key, Time};
+use cx_holdings::Modes as Offered;
+use cx_keyring::{Entry, Grant as Caps};
+use cx_line_words::Modes;
+use cx_lines::Grant;
+use std::alloc::{AllocError, Global};
+use std::marker::Model;
+
+// The seed from which the secrets of entities count: 2^63.
+const SECRETS: u64 = 1 << 63;
+
+/// A declared entity: which one it is of those that are declared, from 1; its line; its name and its caps; the seed of its dice, where one is
+/// told; and the modes that it offers.
+#[derive(Drop)]
+pub struct Declared {
+    pub number: u32,
+    pub line: u32,
+    pub name: EntityName,
+    pub grants: Items<Grant>,
+    pub seed: Option<u64>,
+    pub modes: Modes,
+}
+
+impl Model for Declared {
+    ghost use Rattle.cx_run.specs.Opening as run;
+
+    ghost Value = { run.Declared };
+
+    ghost view = { λ d. record { number = d.number; line = d.line; name = d.name; grants = d.grants; seed = d.seed; modes = d.modes } };
+}
+
+impl Declared {
+    /// Its secret: the first 16 bytes that the seed 2^63 and its number give.
+    pub fn secret(&self, alloc: Global) -> [u8; 16]
+        ensures { result ≡ secret_of self.now }
+    {
+        secret_of_seed(alloc, SECRETS + u64::from(self.number))
+    }
+
+    /// Its key, which was made at the time 0.
+    pub fn key(&self, alloc: Global) -> Key
+        ensures { result ≡ record { created = record { secs = 0; nanos = 0 }; secret = secret_of self.now } }
+    {
+        Key {
+            created: Time { secs: 0, nanos: 0 },
+            secret: self.secret(alloc),
+        }
+    }
+
+    /// Its address on this machine: its number is the nonce, and there is no port.
+    pub fn address(&self) -> Addr
+        ensures { result ≡ local self.now.number 0 }
+    {
+        Addr {
+            nonce: self.number,
+            ip: [127, 0, 0, 1],
+            port: 0,
+        }
+    }
+
+    /// The modes that it offers.
+    pub fn offered(&self) -> Offered
+        ensures { modes_of result.crc result.secure ≡ modes_in self.now.modes }
+    {
+        match self.modes {
+            Modes::Crc => Offered {
+                crc: true,
+                secure: false,
+            },
+            Modes::Secure => Offered {
+                crc: false,
+                secure: true,
+            },
+            Modes::Both => Offered {
+                crc: true,
+                secure: true,
+            },
+        }
+    }
+
+    /// Its entry in the monitor's keyring.
+    pub fn principal(&self, alloc: Global) -> Result<Entry, AllocError>
+        ensures { IfOk result (λ entry. entry ≡ principal_of self.now) }
+    {
+        let name = self.name.copy(alloc)?;
+        let key = self.key(alloc);
+        let caps = caps_of(alloc, &self.grants)?;
+        Ok(Entry { name, key, caps })
+    }
+}
+
+/// Grants of a schedule as those of a keyring.
+fn caps_of(alloc: Global, grants: &Items<Grant>) -> Result<Items<Caps>, AllocError>
+    ensures { IfOk result (λ caps. caps ≡ caps_of grants.now) }
+{
+    let mut caps = Items::new(alloc);
+    for grant in grants.all() {
+        let entered = caps_by(alloc, grant)?;
+        caps.push(alloc, entered)?;
+    }
+    Ok(caps)
+}
+
+fn caps_by(alloc: Global, grant: &Grant) -> Result<Caps, AllocError>
+    ensures { IfOk result (λ caps. caps ≡ caps_by grant.now) }
+{
+    let caps = grant.caps.copy(alloc)?;
+    Ok(Caps {
+        service: grant.service,
+        caps,
+    })
+}

@@ -1,0 +1,158 @@
+-- The nodes behind a change of their clocks.
+use Rattle.std.proofs.Common.{◌≡◌, ℕ, ◌+◌, ◌<◌, suc, zero, Bool, true, false, List, [], ◌∷◌, ◌++◌, length, get_or, map, set, take, drop, Option, Some, None, refl, sym, subst, ap, ◌∙◌, arith}
+use Rattle.std.specs.Prelude.{if◌then◌else◌}
+use Rattle.std.specs.Option.{option_map}
+use Rattle.cx_base.specs.Names.{Name, same_name}
+use Rattle.cx_base.proofs.Names.{same_name_is, same_name_self}
+use Rattle.cx_journal.specs.declared.node_names.NodeName.{NodeName}
+use Rattle.cx_journal.specs.declared.node_names.NodeName.TheVariants as node
+use Rattle.cx_rules.specs.ClientRule.{ClientNode}
+use Rattle.cx_run.specs.Happenings.{client_of}
+use Rattle.cx_run.specs.Schedules.{all_read, one_reads}
+use Rattle.cx_run.specs.Wires.{same_node}
+use Rattle.cx_run.specs.Worlds.{Seat, World, seat_of}
+use Rattle.cx_run_nodes.specs.Held.{MemberStands, StandFor, member_of, reads}
+use Rattle.cx_run_nodes.specs.Seats.{IsOf, IsSeated, Sitting}
+use Rattle.cx_run_nodes.specs.declared.members.Member.{Member}
+use Rattle.cx_run_nodes.specs.declared.nodes.Nodes.{Nodes}
+use Rattle.cx_run_nodes.proofs.Keyed.{changed_all, key_found, same_node_is, same_node_self}
+use Rattle.cx_run_nodes.proofs.Placing.{IsFirst, found_first, member_elsewhere, member_here}
+
+seat_reads : ℕ → Seat → Seat
+seat_reads reading seat = record seat { reading = reading }
+
+sits_behind : (reading : ℕ) (old new : Sitting) (seat : Option Seat) → new ≡ record old { reading = reading } → IsSeated old seat
+    → IsSeated new (option_map (λ (s : Seat). record s { reading = reading }) seat)
+sits_behind reading old new None e k = absurd k
+sits_behind reading old new (Some seat) e k =
+    let P : Sitting → Type 0 = IsOf (record seat { reading = reading }) in
+    subst P (sym e) (record { reading = refl; coming = k.coming })
+
+member_behind : (reading : ℕ) (member : Option Member) (seat : Option Seat) (client : Option ClientNode) → MemberStands member seat client
+    → MemberStands (option_map (reads reading) member) (option_map (λ (s : Seat). record s { reading = reading }) seat) client
+member_behind reading None None client k = tt
+member_behind reading (Some m) (Some s) client k = (record { reading = refl; coming = k.0.coming }, k.1)
+member_behind reading None (Some s) client k = absurd k
+member_behind reading (Some m) None client k = absurd k
+
+pub all_read_stands : (reading : ℕ) (w : World) (held new : Nodes) → StandFor held w.nodes w.seats → new.monitor ≡ held.monitor
+    → new.seat ≡ record held.seat { reading = reading } → new.members.items ≡ map (λ m. reads reading m) held.members.items
+    → StandFor new (all_read reading w).nodes (all_read reading w).seats
+all_read_stands reading w held new k monitor seat members =
+    let read : Seat → Seat = λ s. record s { reading = reading } in
+    let there = λ (who : NodeName). changed_all (λ (s : Seat). s.node) same_node read (λ s. refl) who w.seats in
+    record {
+      monitor = rw monitor k.monitor;
+      seat = rw (there node.Monitor) (sits_behind reading held.seat new.seat (seat_of node.Monitor w.seats) seat k.seat);
+      members = λ n.
+          let found = changed_all (λ (m : Member). m.name) same_name (λ m. reads reading m) (λ m. refl) n held.members.items in
+          rw (members, found, there (node.Entity n)) (member_behind reading (member_of n held.members.items) (seat_of (node.Entity n) w.seats) (client_of n w.nodes) (k.members n));
+    }
+
+-- ---- the clock of one node
+
+abbrev one : NodeName → ℕ → Seat → Seat
+one who reading seat = if same_node seat.node who then record seat { reading = reading } else seat
+
+one_node : (who : NodeName) (reading : ℕ) (seat : Seat) → (one who reading seat).node ≡ seat.node
+one_node who reading seat = by (same_node seat.node who)
+  where
+    by : (b : Bool) → (let s : Seat = (if b then record seat { reading = reading } else seat) in s.node) ≡ seat.node
+    by true = refl
+    by false = refl
+
+-- the seat of another node stays, and that of the node reads it
+module _ (who at : NodeName) (reading : ℕ) (seats : List Seat) where
+  found_one : seat_of at (map (one who reading) seats) ≡ option_map (one who reading) (seat_of at seats)
+  found_one = changed_all (λ (s : Seat). s.node) same_node (one who reading) (one_node who reading) at seats
+
+  stays_other : same_node at who ≡ false → seat_of at (map (one who reading) seats) ≡ seat_of at seats
+  stays_other apart = found_one ∙ by (seat_of at seats) refl
+    where
+      by : (seat : Option Seat) → seat_of at seats ≡ seat → option_map (one who reading) seat ≡ seat
+      by None e = refl
+      by (Some s) e =
+          let k : s.node ≡ at = same_node_is s.node at (key_found (λ (s : Seat). s.node) same_node seats at s e) in
+          rw (k, apart) refl
+
+  reads_it : same_node at who ≡ true → seat_of at (map (one who reading) seats) ≡ option_map (λ (s : Seat). record s { reading = reading }) (seat_of at seats)
+  reads_it same = found_one ∙ by (seat_of at seats) refl
+    where
+      by : (seat : Option Seat) → seat_of at seats ≡ seat → option_map (one who reading) seat ≡ option_map (λ (s : Seat). record s { reading = reading }) seat
+      by None e = refl
+      by (Some s) e =
+          let k : s.node ≡ at = same_node_is s.node at (key_found (λ (s : Seat). s.node) same_node seats at s e) in
+          let t : same_node s.node who ≡ true = rw k same in
+          ap (λ (b : Bool). Some (let x : Seat = (if b then record s { reading = reading } else s) in x)) t
+
+pub monitor_reads : (reading : ℕ) (w : World) (held new : Nodes) → StandFor held w.nodes w.seats → new.monitor ≡ held.monitor
+    → new.seat ≡ record held.seat { reading = reading } → new.members.items ≡ held.members.items
+    → StandFor new (one_reads node.Monitor reading w).nodes (one_reads node.Monitor reading w).seats
+monitor_reads reading w held new k monitor seat members = record {
+  monitor = rw monitor k.monitor;
+  seat = rw (reads_it node.Monitor node.Monitor reading w.seats refl) (sits_behind reading held.seat new.seat (seat_of node.Monitor w.seats) seat k.seat);
+  members = λ n. rw (members, stays_other node.Monitor (node.Entity n) reading w.seats refl) (k.members n);
+}
+
+module _ (reading : ℕ) (w : World) (name : Name) (held new : Nodes) (k : StandFor held w.nodes w.seats) (monitor : new.monitor ≡ held.monitor) (seat : new.seat ≡ held.seat) where
+  behind : ((n : Name) → same_name name n ≡ true → member_of n new.members.items ≡ option_map (reads reading) (member_of n held.members.items))
+      → ((n : Name) → same_name name n ≡ false → member_of n new.members.items ≡ member_of n held.members.items)
+      → StandFor new (one_reads (node.Entity name) reading w).nodes (one_reads (node.Entity name) reading w).seats
+  behind here elsewhere = record {
+    monitor = rw monitor k.monitor;
+    seat = rw (seat, stays_other (node.Entity name) node.Monitor reading w.seats refl) k.seat;
+    members = λ n. by n (same_name name n) refl;
+  }
+    where
+      by : (n : Name) (b : Bool) → same_name name n ≡ b
+          → MemberStands (member_of n new.members.items) (seat_of (node.Entity n) (one_reads (node.Entity name) reading w).seats) (client_of n w.nodes)
+      by n true e =
+          let same : name ≡ n = same_name_is name n e in
+          let back : same_node (node.Entity n) (node.Entity name) ≡ true = rw same (same_name_self n) in
+          rw (here n e, reads_it (node.Entity name) (node.Entity n) reading w.seats back) (member_behind reading (member_of n held.members.items) (seat_of (node.Entity n) w.seats) (client_of n w.nodes) (k.members n))
+      by n false e = rw (elsewhere n e, stays_other (node.Entity name) (node.Entity n) reading w.seats (apart n e)) (k.members n)
+        where
+          apart : (n : Name) → same_name name n ≡ false → same_name n name ≡ false
+          apart n e = turned (same_name n name) refl
+            where
+              turned : (b : Bool) → same_name n name ≡ b → b ≡ false
+              turned true t = let s : n ≡ name = same_name_is n name t in sym (same_name_self n) ∙ ap (λ (x : Name). same_name x n) s ∙ e
+              turned false t = refl
+
+  pub member_reads : (place : ℕ) (old next : Member) → IsFirst (λ (m : Member). same_name m.name name) held.members.items place → old ≡ get_or held.members.items place old
+      → next ≡ reads reading old → new.members.items ≡ set held.members.items place next
+      → StandFor new (one_reads (node.Entity name) reading w).nodes (one_reads (node.Entity name) reading w).seats
+  member_reads place old next at read is put =
+      let named : next.name ≡ old.name = ap (λ (m : Member). m.name) is in
+      let there : member_of name held.members.items ≡ Some old = (found_first (λ (m : Member). same_name m.name name) held.members.items place old at read).0 in
+      behind
+      (λ n e.
+      let same : name ≡ n = same_name_is name n e in
+      let P : Name → Type 0 = λ x. member_of x new.members.items ≡ option_map (reads reading) (member_of x held.members.items) in
+      subst P same (rw (put, there) (member_here held.members.items name place old next at read named ∙ ap (λ (m : Member). Some m) is)))
+      (λ n e. rw put (member_elsewhere held.members.items name place old next at read named n e))
+
+  pub nobody_reads : member_of name held.members.items ≡ None → new.members.items ≡ held.members.items
+      → StandFor new (one_reads (node.Entity name) reading w).nodes (one_reads (node.Entity name) reading w).seats
+  nobody_reads none same =
+      behind
+      (λ n e.
+      let s : name ≡ n = same_name_is name n e in
+      let P : Name → Type 0 = λ x. member_of x new.members.items ≡ option_map (reads reading) (member_of x held.members.items) in
+      subst P s (rw (same, none) refl))
+      (λ n e. rw same refl)
+
+-- ---- all members, one after another
+
+step : {X : Type 0} (f : X → X) (xs : List X) (i : ℕ) (d : X) → i < length xs
+    → set (map f (take i xs) ++ drop i xs) i (f (get_or (map f (take i xs) ++ drop i xs) i d)) ≡ map f (take (suc i) xs) ++ drop (suc i) xs
+step f [] i d h = absurd (omega arith)
+step f (x ∷ xs) zero d h = refl
+step f (x ∷ xs) (suc i) d h = ap (λ rest. f x ∷ rest) (step f xs i d (omega arith))
+
+pub mapped_more : {X : Type 0} (f : X → X) (xs ys : List X) (i : ℕ) (d : X) → ys ≡ map f (take i xs) ++ drop i xs → i < length xs
+    → set ys i (f (get_or ys i d)) ≡ map f (take (i + 1) xs) ++ drop (i + 1) xs
+mapped_more {X} f xs ys i d e h =
+    let n : i + 1 ≡ suc i = omega arith in
+    let P : List X → Type 0 = λ zs. set zs i (f (get_or zs i d)) ≡ map f (take (suc i) xs) ++ drop (suc i) xs in
+    rw n (subst P (sym e) (step f xs i d h))

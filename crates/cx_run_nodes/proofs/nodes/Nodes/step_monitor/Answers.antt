@@ -1,0 +1,14 @@
+use Rattle.std.proofs.Common.{◌≡◌, Option, refl, subst}
+use Rattle.cx_line_words.specs.declared.choices.LeftState.{LeftState}
+use Rattle.cx_rules.specs.Inputs.{input_of}
+use Rattle.cx_run_nodes.specs.Steps.{IsMonitorStep, monitor_made}
+use Rattle.cx_run_nodes.proofs.Stepping.{monitor_given}
+use Rattle.cx_run_nodes.proofs.nodes.Nodes.step_monitor.Goals as goal
+
+pub returns : goal.returns
+returns c =
+    λ w k e.
+    monitor_given (input_of c.args.event) w c.args.self.now _ c.in_ok-made.made k refl
+    (λ seat sits.
+    let P : Option LeftState → Type 0 = λ left. IsMonitorStep seat (monitor_made (input_of c.args.event) seat w.nodes left) c.in_ok-made.made c.take_step.new.monitor c.take_step.new.seat in
+    subst P e (c.in_ok-made.ensures seat w.nodes sits k.monitor))

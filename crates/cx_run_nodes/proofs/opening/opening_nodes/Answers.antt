@@ -1,0 +1,14 @@
+use Rattle.std.proofs.Common.{◌≡◌, refl, sym, ap, List}
+use Rattle.cx_run.specs.Opening.{Declared}
+use Rattle.cx_run_nodes.specs.Members.{AreMembersOf}
+use Rattle.cx_run_nodes.proofs.Finding.{all_stand}
+use Rattle.cx_run_nodes.proofs.opening.opening_nodes.Goals as goal
+
+pub returns : goal.returns
+returns c =
+    let are = rw c.entities.ensures.value at c.in_ok-members.ensures in
+    record {
+      monitor = c.in_ok-monitor.ensures.stands;
+      seat = c.new-seat.ensures _ refl (sym c.monitor_seed.ensures) refl;
+      members = λ name. all_stand name c.args.setup.now.entities c.in_ok-members.members.items are;
+    }

@@ -1,0 +1,57 @@
+-- What an event comes to at the monitor and at a client in their seats.
+use Rattle.std.specs.Prelude.{ℕ, suc, ◌≡◌, true, false, Option, Some, None}
+use Rattle.cx_dice.specs.Rolls.{seed_draw}
+use Rattle.cx_line_words.specs.declared.choices.LeftState.{LeftState}
+use Rattle.cx_rules.specs.Abridged.{MonitorStandsFor}
+use Rattle.cx_rules.specs.ClientRule.{ClientNode, client_rule}
+use Rattle.cx_rules.specs.Inputs.{Input}
+use Rattle.cx_rules.specs.Monitor.{MonitorNode}
+use Rattle.cx_rules.specs.MonitorRule.{monitor_rule}
+use Rattle.cx_rules.specs.Rows.{Outcome}
+use Rattle.cx_run.specs.Happenings.{Nodes as RunNodes, Stepped, monitor_steps}
+use Rattle.cx_run.specs.Worlds.{Seat}
+use Rattle.cx_steps.specs.Nothing.{nothing}
+use Rattle.cx_steps.specs.declared.effects.Effects.{Effects}
+use Rattle.cx_run_nodes.specs.Held.{MemberStands}
+use Rattle.cx_run_nodes.specs.Seats.{IsOf, Sitting}
+use Rattle.cx_run_nodes.specs.declared.made.Made.{Made}
+use Rattle.cx_run_nodes.specs.declared.members.Member.{Member}
+
+-- the seat behind an event
+abbrev pub rolled_once : Seat → Seat
+rolled_once seat = record seat { rolled = suc seat.rolled }
+
+-- ---- a client
+
+abbrev pub client_made : Input → Seat → ClientNode → Outcome ClientNode
+client_made input seat client = client_rule client input seat.reading (seed_draw seat.seed seat.rolled)
+
+abbrev pub client_out : Input → Seat → Option ClientNode → Effects
+client_out input seat None = nothing
+client_out input seat (Some client) = (client_made input seat client).out
+
+abbrev pub client_behind : Input → Seat → Option ClientNode → Option ClientNode
+client_behind input seat None = None
+client_behind input seat (Some client) = Some (client_made input seat client).state
+
+-- what an event came to at a member, and the member behind it
+pub record IsMemberStep (input : Input) (seat : Seat) (client : Option ClientNode) (made : Made) (old new : Member) : Type 0 where
+  pub comes : made ≡ record { out = client_out input seat client; failed = false; happened = true }
+  pub name : new.name ≡ old.name
+  pub stands : MemberStands (Some new) (Some (rolled_once seat)) (client_behind input seat client)
+
+-- ---- the monitor
+
+abbrev pub monitor_made : Input → Seat → RunNodes → Option LeftState → Stepped
+monitor_made input seat nodes left =
+    let o = monitor_rule nodes.monitor input seat.reading (seed_draw seat.seed seat.rolled) in monitor_steps nodes o left o.out.save
+
+-- what a step of the monitor came to once its save was done or had failed, and the monitor behind it
+pub record IsSaved (step : Stepped) (made : Made) (monitor : MonitorNode) : Type 0 where
+  pub comes : made ≡ record { out = step.out; failed = step.failed; happened = true }
+  pub stands : MonitorStandsFor monitor step.nodes.monitor
+
+-- what an event came to at the monitor, and the monitor and its seat behind it
+pub record IsMonitorStep (seat : Seat) (step : Stepped) (made : Made) (monitor : MonitorNode) (sitting : Sitting) : Type 0 where
+  pub saved : IsSaved step made monitor
+  pub sits : IsOf (rolled_once seat) sitting

@@ -1,0 +1,181 @@
+//! The nodes of a run.
+
+ghost use Rattle.std.specs.Prelude.{ℕ, ◌≡◌, ◌<◌, ◌+◌, [], ◌∷◌, ◌++◌, List, length, map, position, slice_get, Some, None, IfOk, OnOk, IfSome, IfNone};
+ghost use Rattle.cx_base.specs.Names.{same_name};
+ghost use Rattle.cx_journal.specs.declared.node_names.NodeName.TheVariants as node;
+ghost use Rattle.cx_run_nodes.specs.Held.{IsGiven, StandFor, reads};
+ghost use Rattle.cx_run_nodes.specs.Seats.{IsOf};
+ghost use Rattle.cx_run_nodes.specs.Steps.{IsMonitorStep, IsSaved, monitor_made};
+ghost use Rattle.cx_rules.specs.Abridged.{MonitorStandsFor};
+ghost use Rattle.cx_rules.specs.Inputs.{input_of};
+ghost use Rattle.cx_rules.specs.Monitor.{MonitorNode};
+ghost use Rattle.cx_rules.specs.Rows.{Outcome};
+ghost use Rattle.cx_run.specs.Deliveries.{given};
+ghost use Rattle.cx_run.specs.Happenings.{Nodes as RunNodes, left_as, monitor_steps};
+ghost use Rattle.cx_run.specs.Schedules.{all_read, one_reads};
+ghost use Rattle.cx_run.specs.Worlds.{Seat as RunSeat, World, seat_of};
+
+use crate::made::Made;
+use crate::members::Member;
+use crate::seats::Seat;
+use cx_base::{EntityName, Reading};
+use cx_journal::NodeName;
+use cx_line_words::LeftState;
+use cx_mon::Monitor;
+use cx_steps::{Effects, Event};
+use std::alloc::{AllocError, Global};
+
+/// The nodes of a run: the monitor with what it goes by, and the entities.
+#[derive(Drop)]
+pub struct Nodes {
+    pub monitor: Monitor,
+    pub seat: Seat,
+    pub members: Vec<Member>,
+}
+
+impl Nodes {
+    /// What comes to a node, where the monitor's save, if one fails, leaves this state.
+    pub fn step(
+        &mut self,
+        alloc: Global,
+        who: &NodeName,
+        event: Event<'_>,
+        left: Option<LeftState>,
+    ) -> Result<Made, AllocError>
+        ensures { (w : World) → StandFor self.old w.nodes w.seats → left ≡ w.left
+            → IfOk result (λ made. IsGiven self.new made (seat_of who.now w.seats) (given w (input_of event.entry) (seat_of who.now w.seats))) }
+    {
+        match who {
+            NodeName::Monitor => self.step_monitor(alloc, event, left),
+            NodeName::Entity(name) => self.step_member(alloc, name, event),
+        }
+    }
+
+    fn step_monitor(
+        &mut self,
+        alloc: Global,
+        event: Event<'_>,
+        left: Option<LeftState>,
+    ) -> Result<Made, AllocError>
+        ensures { (w : World) → StandFor self.old w.nodes w.seats → left ≡ w.left
+            → IfOk result (λ made. IsGiven self.new made (seat_of node.Monitor w.seats) (given w (input_of event.entry) (seat_of node.Monitor w.seats))) }
+    {
+        let made = take_step(alloc, &mut self.monitor, &mut self.seat, event, left)?;
+        Ok(made)
+    }
+
+    fn step_member(
+        &mut self,
+        alloc: Global,
+        name: &EntityName,
+        event: Event<'_>,
+    ) -> Result<Made, AllocError>
+        ensures { (w : World) → StandFor self.old w.nodes w.seats
+            → IfOk result (λ made. IsGiven self.new made (seat_of (node.Entity name.now) w.seats) (given w (input_of event.entry) (seat_of (node.Entity name.now) w.seats))) }
+    {
+        match place_of(self.members.as_slice(), name) {
+            Some(place) => {
+                let member = &mut self.members[place];
+                let made = member.step(alloc, event)?;
+                Ok(made)
+            }
+            None => Ok(Made::nothing(alloc)),
+        }
+    }
+
+    /// All clocks read this from here on.
+    pub fn read_all(&mut self, reading: Reading)
+        requires { reading < 4000000000000000000 }
+        ensures { (w : World) → StandFor self.old w.nodes w.seats → StandFor self.new (all_read reading w).nodes (all_read reading w).seats }
+    {
+        self.seat.set(reading);
+        read_members(&mut self.members, reading);
+    }
+
+    /// The clock of one node reads this from here on.
+    pub fn read_one(&mut self, who: &NodeName, reading: Reading)
+        requires { reading < 4000000000000000000 }
+        ensures { (w : World) → StandFor self.old w.nodes w.seats → StandFor self.new (one_reads who.now reading w).nodes (one_reads who.now reading w).seats }
+    {
+        match who {
+            NodeName::Monitor => self.seat.set(reading),
+            NodeName::Entity(name) => {
+                match place_of(self.members.as_slice(), name) {
+                    Some(place) => {
+                        let member = &mut self.members[place];
+                        member.seat.set(reading);
+                    }
+                    None => {}
+                }
+            }
+        }
+    }
+}
+
+// The clocks of all members read this from here on.
+fn read_members(members: &mut Vec<Member>, reading: Reading)
+    requires { reading < 4000000000000000000 }
+    ensures { members.new.items ≡ map (λ m. reads reading m) members.old.items }
+{
+    for member in members.iter_mut() {
+        member.seat.set(reading);
+    }
+}
+
+// The place of the first member of a name.
+fn place_of(members: &[Member], name: &EntityName) -> Option<usize>
+    ensures { result ≡ position (λ m. same_name m.name name.now) members.now }
+{
+    members.iter().position(|m| m.name == *name)
+}
+
+// What comes to the monitor in its seat.
+fn take_step(
+    alloc: Global,
+    monitor: &mut Monitor,
+    seat: &mut Seat,
+    event: Event<'_>,
+    left: Option<LeftState>,
+) -> Result<Made, AllocError>
+    ensures { (s : RunSeat) (nodes : RunNodes) → IsOf s seat.old → MonitorStandsFor monitor.old nodes.monitor
+        → IfOk result (λ made. IsMonitorStep s (monitor_made (input_of event.entry) s nodes left) made monitor.new seat.new) }
+{
+    let draw = seat.roll();
+    let reading = seat.reading();
+    let mut out = Effects::new(alloc);
+    monitor.step(alloc, event, reading, &draw, &mut out)?;
+    let made = settle_save(alloc, monitor, left, out)?;
+    Ok(made)
+}
+
+// What the monitor was to save is saved, or that fails and leaves this state.
+fn settle_save(
+    alloc: Global,
+    monitor: &mut Monitor,
+    left: Option<LeftState>,
+    out: Effects,
+) -> Result<Made, AllocError>
+    ensures { (nodes : RunNodes) (o : Outcome MonitorNode) → MonitorStandsFor monitor.old o.state → out ≡ o.out
+        → IfOk result (λ made. IsSaved (monitor_steps nodes o left o.out.save) made monitor.new) }
+{
+    match left {
+        None => Ok(Made::of(out)),
+        Some(left) => match out.save {
+            None => Ok(Made::of(out)),
+            Some(_) => {
+                leave(monitor, left);
+                Made::failed(alloc, &out)
+            }
+        },
+    }
+}
+
+// A save failed and leaves this state.
+fn leave(monitor: &mut Monitor, left: LeftState)
+    ensures { (s : MonitorNode) → MonitorStandsFor monitor.old s → MonitorStandsFor monitor.new (left_as left s) }
+{
+    match left {
+        LeftState::Old => monitor.unsave(),
+        LeftState::New => {}
+    }
+}

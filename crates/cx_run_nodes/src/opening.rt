@@ -1,0 +1,70 @@
+//! The nodes with which a run begins.
+
+ghost use Rattle.std.specs.Prelude.{IfOk};
+ghost use Rattle.cx_run_nodes.specs.Held.{ClientStands, StandFor};
+ghost use Rattle.cx_run_nodes.specs.Members.{AreMembersOf, IsMemberOf, client_for};
+ghost use Rattle.cx_run.specs.Opening.{nodes_of, seats_of};
+
+use crate::{Member, Nodes, Seat};
+use cx_base::{Duplicate, EntityType};
+use cx_client::Client;
+use cx_run_head::{Declared, Setup};
+use std::alloc::{AllocError, Global};
+
+/// The monitor and the entities as a run begins: with clocks that read 0, and dice of which nothing was rolled.
+pub fn opening_nodes(alloc: Global, setup: &Setup) -> Result<Nodes, AllocError>
+    ensures { IfOk result (λ nodes. StandFor nodes (nodes_of setup.now) (seats_of setup.now)) }
+{
+    let monitor = setup.monitor(alloc)?;
+    let seat = Seat::new(alloc, setup.monitor_seed());
+    let members = members_of(alloc, setup.entities())?;
+    Ok(Nodes {
+        monitor,
+        seat,
+        members,
+    })
+}
+
+/// The entities, in the order of their lines.
+fn members_of(alloc: Global, entities: &[Declared]) -> Result<Vec<Member>, AllocError>
+    ensures { IfOk result (λ members. AreMembersOf entities.now members.items) }
+{
+    let mut members = Vec::new(alloc);
+    for entity in entities {
+        let member = member_of(alloc, entity)?;
+        members.push(member)?;
+    }
+    Ok(members)
+}
+
+/// An entity; one that is a client has a node.
+fn member_of(alloc: Global, entity: &Declared) -> Result<Member, AllocError>
+    ensures { IfOk result (IsMemberOf entity.now) }
+{
+    let name = entity.name.copy(alloc)?;
+    let client = client_of(alloc, entity)?;
+    let seed = entity.seed.unwrap_or(u64::from(entity.number));
+    Ok(Member {
+        name,
+        seat: Seat::new(alloc, seed),
+        client,
+    })
+}
+
+/// The node of an entity, where it is a client.
+fn client_of(alloc: Global, entity: &Declared) -> Result<Option<Client>, AllocError>
+    ensures { IfOk result (λ client. ClientStands client (client_for entity.now)) }
+{
+    if !entity.name.kind.is(EntityType::Client) {
+        return Ok(None);
+    }
+    let name = entity.name.copy(alloc)?;
+    let client = Client::new(
+        alloc,
+        name,
+        entity.key(alloc),
+        entity.offered(),
+        entity.address(),
+    );
+    Ok(Some(client))
+}

@@ -1,0 +1,69 @@
+//! What a node goes by.
+
+ghost use Rattle.std.specs.Prelude.{ℕ, suc, ◌≡◌, ◌<◌};
+ghost use Rattle.cx_dice.specs.Rolls.{seed_draw};
+ghost use Rattle.cx_run_nodes.specs.Seats.{IsOf};
+ghost use Rattle.cx_run.specs.Worlds.{Seat as RunSeat};
+
+use cx_base::{Blob, Reading};
+use cx_dice::{Dice, Draw, SeedDice, draw_laws};
+use std::alloc::Global;
+use std::marker::Model;
+
+/// What a node goes by: the reading of its clock, and its dice.
+#[derive(Drop)]
+pub struct Seat {
+    reading: Reading,
+    dice: SeedDice,
+}
+
+impl Model for Seat {
+    ghost use Rattle.cx_run_nodes.specs.Seats.{IsSitting, Sitting};
+
+    ghost Value = { Sitting };
+
+    ghost view = { λ s. record { reading = s.reading; dice = s.dice } };
+
+    ghost invariant = { λ s. IsSitting (record { reading = s.reading; dice = s.dice }) };
+}
+
+impl Seat {
+    /// The seat of a node whose dice have this seed, as a run begins.
+    pub fn new(alloc: Global, seed: u64) -> Seat
+        ensures { (seat : RunSeat) → seat.reading ≡ 0 → seat.seed ≡ seed → seat.rolled ≡ 0 → IsOf seat result }
+    {
+        draw_laws();
+        Seat {
+            reading: 0,
+            dice: SeedDice::new(seed, Blob::new(alloc)),
+        }
+    }
+
+    /// The reading of its clock.
+    pub fn reading(&self) -> Reading
+        ensures value { result ≡ self.now.reading }
+        ensures below { result < 4000000000000000000 }
+    {
+        self.reading
+    }
+
+    /// Its clock reads this from here on.
+    pub fn set(&mut self, reading: Reading)
+        requires { reading < 4000000000000000000 }
+        ensures { self.new ≡ record self.old { reading = reading } }
+    {
+        self.reading = reading;
+    }
+
+    /// Rolls its dice once.
+    pub fn roll(&mut self) -> Draw
+        ensures drawn { (seat : RunSeat) → IsOf seat self.old → result.bytes ≡ seed_draw seat.seed seat.rolled }
+        ensures rolled { (seat : RunSeat) → IsOf seat self.old → IsOf (record seat { rolled = suc seat.rolled }) self.new }
+        ensures reading { self.new.reading ≡ self.old.reading }
+    {
+        match self.dice.block() {
+            Ok(draw) => draw,
+            Err(_) => unreachable!(),
+        }
+    }
+}
