@@ -13,7 +13,7 @@ use cx_base::{Addr, EntityType, Reading, is_id};
 
 impl<'a> Cut<'a> {
     /// Seconds and nanoseconds, eight bytes.
-    #[tactic(auto, unfolding(cx_enc::specs::Values::time_form))]
+    #[tactic(auto, unfolding(crate::specs::Values::time_form))]
     pub fn take_time(&mut self) -> Result<Time, ReadFault>
         ensures { Reads (spot self.old) (spot self.new) result (time_form.at (spot self.old)) }
     {
@@ -28,7 +28,7 @@ impl<'a> Cut<'a> {
     }
 
     /// The reading of a time, in nanoseconds, eight bytes.
-    #[tactic(auto, unfolding(cx_enc::specs::Values::reading_form))]
+    #[tactic(auto, unfolding(crate::specs::Values::reading_form))]
     pub fn take_reading(&mut self) -> Result<Reading, ReadFault>
         ensures { Reads (spot self.old) (spot self.new) result (reading_form.at (spot self.old)) }
     {
@@ -37,7 +37,7 @@ impl<'a> Cut<'a> {
     }
 
     /// A key: type 1, the time of its making, length 16 and 16 bytes, 28 bytes in all.
-    #[tactic(auto, unfolding(cx_enc::specs::Values::key_form))]
+    #[tactic(auto, unfolding(crate::specs::Values::key_form))]
     pub fn take_key(&mut self) -> Result<Key, ReadFault>
         ensures { Reads (spot self.old) (spot self.new) result (key_form.at (spot self.old)) }
     {
@@ -58,7 +58,7 @@ impl<'a> Cut<'a> {
     }
 
     /// The 16 bytes of a key that was made at the time 0, 28 bytes in all. A key of another time is a bad field.
-    #[tactic(auto, unfolding(cx_enc::specs::Values::secret_form))]
+    #[tactic(auto, unfolding(crate::specs::Values::secret_form))]
     pub fn take_secret(&mut self) -> Result<[u8; 16], ReadFault>
         ensures { Reads (spot self.old) (spot self.new) result (secret_form.at (spot self.old)) }
     {
@@ -72,7 +72,7 @@ impl<'a> Cut<'a> {
     }
 
     /// The blob of a ticket: a byte 1, the generation's id and a blob, as one field.
-    #[tactic(auto, unfolding(cx_enc::specs::Values::ticket_form))]
+    #[tactic(auto, unfolding(crate::specs::Values::ticket_form))]
     pub fn take_ticket(&mut self) -> Result<TicketRef<'a>, ReadFault>
         ensures { ReadsAs ticket_seen (spot self.old) (spot self.new) result (ticket_form.at (spot self.old)) }
     {
@@ -101,7 +101,7 @@ impl<'a> Cut<'a> {
     }
 
     /// An address: a byte 1, type 2, the nonce, four bytes of the IPv4 address and the port, 15 bytes in all.
-    #[tactic(auto, unfolding(cx_enc::specs::Values::addr_form))]
+    #[tactic(auto, unfolding(crate::specs::Values::addr_form))]
     pub fn take_addr(&mut self) -> Result<Addr, ReadFault>
         ensures { Reads (spot self.old) (spot self.new) result (addr_form.at (spot self.old)) }
     {
@@ -119,7 +119,7 @@ impl<'a> Cut<'a> {
     }
 
     /// The number of an entity type, four bytes.
-    #[tactic(auto, unfolding(cx_enc::specs::Values::kind_form))]
+    #[tactic(auto, unfolding(crate::specs::Values::kind_form))]
     pub fn take_kind(&mut self) -> Result<EntityType, ReadFault>
         ensures { Reads (spot self.old) (spot self.new) result (kind_form.at (spot self.old)) }
     {
@@ -133,7 +133,7 @@ impl<'a> Cut<'a> {
     }
 
     /// The number of an entity type and the id of an entity of that type.
-    #[tactic(auto, unfolding(cx_enc::specs::Values::name_form))]
+    #[tactic(auto, unfolding(crate::specs::Values::name_form))]
     pub fn take_name(&mut self) -> Result<NameRef<'a>, ReadFault>
         ensures { ReadsAs name_seen (spot self.old) (spot self.new) result (name_form.at (spot self.old)) }
     {
@@ -190,7 +190,7 @@ impl<'a> Cut<'a> {
     }
 
     /// A flag, one byte 0 or 1.
-    #[tactic(auto, unfolding(cx_enc::specs::Values::flag_form))]
+    #[tactic(auto, unfolding(crate::specs::Values::flag_form))]
     pub fn take_flag(&mut self) -> Result<bool, ReadFault>
         ensures { Reads (spot self.old) (spot self.new) result (flag_form.at (spot self.old)) }
     {
@@ -205,7 +205,7 @@ impl<'a> Cut<'a> {
 }
 
 /// The entity type of this number.
-#[tactic(auto, unfolding(cx_enc::specs::Values::kind_of))]
+#[tactic(auto, unfolding(crate::specs::Values::kind_of))]
 pub fn kind_of(number: u32) -> Option<EntityType>
     ensures { result ≡ kind_of number }
 {

@@ -34,7 +34,7 @@ impl<'a> Cut<'a> {
     }
 
     // The next bytes, so many.
-    #[tactic(auto, unfolding(cx_enc::specs::Forms::bytes_at))]
+    #[tactic(auto, unfolding(crate::specs::Forms::bytes_at))]
     fn take(&mut self, count: usize) -> Result<&'a [u8], ReadFault>
         ensures read { ReadsAs (λ bytes. bytes.now) (spot self.old) (spot self.new) result ((bytes_form count).at (spot self.old)) }
         ensures count { IfOk result (λ bytes. length bytes.now ≡ count) }
@@ -49,7 +49,7 @@ impl<'a> Cut<'a> {
     }
 
     /// A number of one byte.
-    #[tactic(auto, unfolding(cx_enc::specs::Forms::number_at))]
+    #[tactic(auto, unfolding(crate::specs::Forms::number_at))]
     pub fn take_u8(&mut self) -> Result<u8, ReadFault>
         ensures { Reads (spot self.old) (spot self.new) result (u8_form.at (spot self.old)) }
     {
@@ -58,7 +58,7 @@ impl<'a> Cut<'a> {
     }
 
     /// A number of two bytes.
-    #[tactic(auto, unfolding(cx_enc::specs::Forms::number_at))]
+    #[tactic(auto, unfolding(crate::specs::Forms::number_at))]
     pub fn take_u16(&mut self) -> Result<u16, ReadFault>
         ensures { Reads (spot self.old) (spot self.new) result (u16_form.at (spot self.old)) }
     {
@@ -67,7 +67,7 @@ impl<'a> Cut<'a> {
     }
 
     /// A number of four bytes.
-    #[tactic(auto, unfolding(cx_enc::specs::Forms::number_at))]
+    #[tactic(auto, unfolding(crate::specs::Forms::number_at))]
     pub fn take_u32(&mut self) -> Result<u32, ReadFault>
         ensures { Reads (spot self.old) (spot self.new) result (u32_form.at (spot self.old)) }
     {
@@ -76,7 +76,7 @@ impl<'a> Cut<'a> {
     }
 
     /// A number of eight bytes.
-    #[tactic(auto, unfolding(cx_enc::specs::Forms::number_at))]
+    #[tactic(auto, unfolding(crate::specs::Forms::number_at))]
     pub fn take_u64(&mut self) -> Result<u64, ReadFault>
         ensures { Reads (spot self.old) (spot self.new) result (u64_form.at (spot self.old)) }
     {
@@ -87,7 +87,7 @@ impl<'a> Cut<'a> {
     }
 
     /// So many bytes.
-    #[tactic(auto, unfolding(cx_enc::specs::Forms::bytes_at))]
+    #[tactic(auto, unfolding(crate::specs::Forms::bytes_at))]
     pub fn take_array<const N: usize>(&mut self) -> Result<[u8; N], ReadFault>
         ensures { Reads (spot self.old) (spot self.new) result ((bytes_form N).at (spot self.old)) }
     {
@@ -100,7 +100,7 @@ impl<'a> Cut<'a> {
     }
 
     /// A length and so many bytes.
-    #[tactic(auto, unfolding(cx_enc::specs::Forms::blob_at))]
+    #[tactic(auto, unfolding(crate::specs::Forms::blob_at))]
     pub fn take_blob(&mut self) -> Result<&'a [u8], ReadFault>
         ensures { ReadsAs (λ bytes. bytes.now) (spot self.old) (spot self.new) result (blob_form.at (spot self.old)) }
     {
@@ -112,7 +112,7 @@ impl<'a> Cut<'a> {
     }
 
     /// A blob of `N` bytes. One of another length is a bad field.
-    #[tactic(auto, unfolding(cx_enc::specs::Values::sized_form))]
+    #[tactic(auto, unfolding(crate::specs::Values::sized_form))]
     pub fn take_sized<const N: usize>(&mut self) -> Result<[u8; N], ReadFault>
         ensures { Reads (spot self.old) (spot self.new) result ((sized_form N).at (spot self.old)) }
     {

@@ -10,7 +10,7 @@ use cx_base::{Addr, Blob, EntityName, EntityType, Reading};
 use std::alloc::{AllocError, Global};
 
 /// Writes a number of one byte.
-#[tactic(auto, unfolding(cx_enc::specs::Forms::little))]
+#[tactic(auto, unfolding(crate::specs::Forms::little))]
 pub fn put_u8(alloc: Global, into: &mut Blob, value: u8) -> Result<(), AllocError>
     ensures ok { OnOk result (into.new ≡ into.old ++ u8_form.text value) }
     ensures fits { OnOk result (u8_form.Fits value) }
@@ -20,7 +20,7 @@ pub fn put_u8(alloc: Global, into: &mut Blob, value: u8) -> Result<(), AllocErro
 }
 
 /// Writes a number of two bytes.
-#[tactic(auto, unfolding(cx_enc::specs::Forms::little))]
+#[tactic(auto, unfolding(crate::specs::Forms::little))]
 pub fn put_u16(alloc: Global, into: &mut Blob, value: u16) -> Result<(), AllocError>
     ensures ok { OnOk result (into.new ≡ into.old ++ u16_form.text value) }
     ensures fits { OnOk result (u16_form.Fits value) }
@@ -30,7 +30,7 @@ pub fn put_u16(alloc: Global, into: &mut Blob, value: u16) -> Result<(), AllocEr
 }
 
 /// Writes a number of four bytes.
-#[tactic(auto, unfolding(cx_enc::specs::Forms::little))]
+#[tactic(auto, unfolding(crate::specs::Forms::little))]
 pub fn put_u32(alloc: Global, into: &mut Blob, value: u32) -> Result<(), AllocError>
     ensures ok { OnOk result (into.new ≡ into.old ++ u32_form.text value) }
     ensures fits { OnOk result (u32_form.Fits value) }
@@ -40,7 +40,7 @@ pub fn put_u32(alloc: Global, into: &mut Blob, value: u32) -> Result<(), AllocEr
 }
 
 /// Writes a number of eight bytes.
-#[tactic(auto, unfolding(cx_enc::specs::Forms::little))]
+#[tactic(auto, unfolding(crate::specs::Forms::little))]
 pub fn put_u64(alloc: Global, into: &mut Blob, value: u64) -> Result<(), AllocError>
     ensures ok { OnOk result (into.new ≡ into.old ++ u64_form.text value) }
     ensures fits { OnOk result (u64_form.Fits value) }
@@ -63,7 +63,7 @@ pub fn put_blob(alloc: Global, into: &mut Blob, bytes: &[u8]) -> Result<(), Allo
 }
 
 /// Writes a length and these bytes, of which there are below 2^32.
-#[tactic(auto, using(cx_enc::specs::FieldLaws::sized_fits), unfolding(cx_enc::specs::Values::sized_form))]
+#[tactic(auto, using(crate::specs::FieldLaws::sized_fits), unfolding(crate::specs::Values::sized_form))]
 pub fn put_sized<const N: usize>(
     alloc: Global,
     into: &mut Blob,
@@ -78,7 +78,7 @@ pub fn put_sized<const N: usize>(
 }
 
 /// Writes a time.
-#[tactic(auto, unfolding(cx_enc::specs::Values::time_form))]
+#[tactic(auto, unfolding(crate::specs::Values::time_form))]
 pub fn put_time(alloc: Global, into: &mut Blob, time: &Time) -> Result<(), AllocError>
     ensures ok { OnOk result (into.new ≡ into.old ++ time_form.text time.now) }
     ensures fits { OnOk result (time_form.Fits time.now) }
@@ -91,7 +91,7 @@ pub fn put_time(alloc: Global, into: &mut Blob, time: &Time) -> Result<(), Alloc
 }
 
 /// Writes a reading as a time.
-#[tactic(auto, using(cx_enc::specs::FieldLaws::reading_fits), unfolding(cx_enc::specs::Values::reading_form))]
+#[tactic(auto, using(crate::specs::FieldLaws::reading_fits), unfolding(crate::specs::Values::reading_form))]
 pub fn put_reading(alloc: Global, into: &mut Blob, reading: Reading) -> Result<(), AllocError>
     requires { IsReading reading }
     ensures ok { OnOk result (into.new ≡ into.old ++ reading_form.text reading) }
@@ -102,7 +102,7 @@ pub fn put_reading(alloc: Global, into: &mut Blob, reading: Reading) -> Result<(
 }
 
 /// Writes 16 bytes as a key that was made at the time 0.
-#[tactic(auto, unfolding(cx_enc::specs::Values::secret_form))]
+#[tactic(auto, unfolding(crate::specs::Values::secret_form))]
 pub fn put_secret(alloc: Global, into: &mut Blob, secret: &[u8; 16]) -> Result<(), AllocError>
     ensures ok { OnOk result (into.new ≡ into.old ++ secret_form.text secret.now) }
     ensures fits { OnOk result (secret_form.Fits secret.now) }
@@ -116,7 +116,7 @@ pub fn put_secret(alloc: Global, into: &mut Blob, secret: &[u8; 16]) -> Result<(
 }
 
 /// Writes the blob of a ticket.
-#[tactic(auto, unfolding(cx_enc::specs::Values::ticket_form))]
+#[tactic(auto, unfolding(crate::specs::Values::ticket_form))]
 pub fn put_ticket(alloc: Global, into: &mut Blob, ticket: &TicketBlob) -> Result<(), AllocError>
     requires { length ticket.now.blob < 2 ^ 32 }
     ensures ok { OnOk result (into.new ≡ into.old ++ ticket_form.text ticket.now) }
@@ -131,7 +131,7 @@ pub fn put_ticket(alloc: Global, into: &mut Blob, ticket: &TicketBlob) -> Result
 }
 
 /// Writes a key.
-#[tactic(auto, unfolding(cx_enc::specs::Values::key_form))]
+#[tactic(auto, unfolding(crate::specs::Values::key_form))]
 pub fn put_key(alloc: Global, into: &mut Blob, key: &Key) -> Result<(), AllocError>
     ensures ok { OnOk result (into.new ≡ into.old ++ key_form.text key.now) }
     ensures fits { OnOk result (key_form.Fits key.now) }
@@ -148,7 +148,7 @@ pub fn put_key(alloc: Global, into: &mut Blob, key: &Key) -> Result<(), AllocErr
 }
 
 /// Writes an address.
-#[tactic(auto, unfolding(cx_enc::specs::Values::addr_form))]
+#[tactic(auto, unfolding(crate::specs::Values::addr_form))]
 pub fn put_addr(alloc: Global, into: &mut Blob, addr: &Addr) -> Result<(), AllocError>
     ensures ok { OnOk result (into.new ≡ into.old ++ addr_form.text addr.now) }
     ensures fits { OnOk result (addr_form.Fits addr.now) }
@@ -164,7 +164,7 @@ pub fn put_addr(alloc: Global, into: &mut Blob, addr: &Addr) -> Result<(), Alloc
 }
 
 /// Writes the number of an entity type.
-#[tactic(auto, using(cx_enc::specs::FieldLaws::kind_fits), unfolding(cx_enc::specs::Values::kind_form))]
+#[tactic(auto, using(crate::specs::FieldLaws::kind_fits), unfolding(crate::specs::Values::kind_form))]
 pub fn put_kind(alloc: Global, into: &mut Blob, kind: EntityType) -> Result<(), AllocError>
     ensures ok { OnOk result (into.new ≡ into.old ++ kind_form.text kind) }
     ensures fits { OnOk result (kind_form.Fits kind) }
@@ -174,7 +174,7 @@ pub fn put_kind(alloc: Global, into: &mut Blob, kind: EntityType) -> Result<(), 
 }
 
 /// Writes a name.
-#[tactic(auto, using(crate::proofs::Fitting::name_fits), unfolding(cx_enc::specs::Values::name_form))]
+#[tactic(auto, using(crate::proofs::Fitting::name_fits), unfolding(crate::specs::Values::name_form))]
 pub fn put_name(alloc: Global, into: &mut Blob, name: &EntityName) -> Result<(), AllocError>
     ensures ok { OnOk result (into.new ≡ into.old ++ name_form.text name.now) }
     ensures fits { OnOk result (name_form.Fits name.now) }
@@ -187,7 +187,7 @@ pub fn put_name(alloc: Global, into: &mut Blob, name: &EntityName) -> Result<(),
 }
 
 /// Writes a flag.
-#[tactic(auto, unfolding(cx_enc::specs::Values::flag_form))]
+#[tactic(auto, unfolding(crate::specs::Values::flag_form))]
 pub fn put_flag(alloc: Global, into: &mut Blob, flag: bool) -> Result<(), AllocError>
     ensures ok { OnOk result (into.new ≡ into.old ++ flag_form.text flag) }
     ensures fits { OnOk result (flag_form.Fits flag) }

@@ -1,7 +1,7 @@
 use Rattle.std.proofs.Common.{refl}
 use Rattle.cx_aes.specs.Lookup.{by_halves, entry, high, is_index, low}
 use Rattle.cx_aes.proofs.Maps.{indices-map, looks, sums}
-use Rattle.cx_aes.proofs.by_halves.Goals as goal
+use Rattle.cx_aes.proofs.lookup.by_halves.Goals as goal
 
 pub looked_up-requires : goal.looked_up-requires
 unfolding is_index low

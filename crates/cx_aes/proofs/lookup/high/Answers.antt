@@ -1,6 +1,6 @@
 use Rattle.std.proofs.lemmas.Simd.{zip2_splat}
 use Rattle.cx_aes.specs.Lookup.{high}
-use Rattle.cx_aes.proofs.high.Goals as goal
+use Rattle.cx_aes.proofs.lookup.high.Goals as goal
 
 pub returns : goal.returns
 unfolding high

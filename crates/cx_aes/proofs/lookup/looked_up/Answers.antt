@@ -1,6 +1,6 @@
 use Rattle.std.proofs.Common.{arith}
 use Rattle.cx_aes.proofs.Swizzles.{are_indices, swizzled}
-use Rattle.cx_aes.proofs.looked_up.Goals as goal
+use Rattle.cx_aes.proofs.lookup.looked_up.Goals as goal
 
 pub swizzle : goal.swizzle
 swizzle c = are_indices c.args.at c.fits-at.0 c.requires

@@ -1,6 +1,6 @@
 use Rattle.std.proofs.lemmas.Simd.{zip2_splat}
 use Rattle.cx_aes.specs.Lookup.{low}
-use Rattle.cx_aes.proofs.low.Goals as goal
+use Rattle.cx_aes.proofs.lookup.low.Goals as goal
 
 pub returns : goal.returns
 unfolding low
