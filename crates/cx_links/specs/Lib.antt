@@ -1,0 +1,4 @@
+pub mod Acts
+pub mod Events
+pub mod Paths
+pub mod Scripts
