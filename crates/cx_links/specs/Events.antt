@@ -1,5 +1,5 @@
 -- What comes on links.
-use Rattle.std.specs.Prelude.{ℕ, ◌≤◌, List, [], take}
+use Rattle.std.specs.Prelude.{ℕ, ◌≤◌, List, [], ◌∷◌, take}
 use Rattle.cx_links.specs.declared.events.LinkEvent.{LinkEvent}
 use Rattle.cx_links.specs.declared.events.LinkEvent.TheVariants.{Opened, Bytes, Gone, Quiet}
 
@@ -16,3 +16,10 @@ IsWithin (Opened link) room = Unit {0}
 IsWithin (Bytes link count) room = (1 ≤ count) × (count ≤ room)
 IsWithin (Gone link) room = Unit {0}
 IsWithin Quiet room = Unit {0}
+
+-- the number of the link that is new, if one is
+abbrev pub new_link : LinkEvent → List ℕ
+new_link (Opened link) = link ∷ []
+new_link (Bytes link count) = []
+new_link (Gone link) = []
+new_link Quiet = []

@@ -1,8 +1,8 @@
 -- Links in memory: what comes of them is a script, and what they take is kept.
-use Rattle.std.specs.Prelude.{ℕ, ◌+◌, ◌-◌, ◌==◌, ◌&&◌, Bool, not, nat_lt, nat_le, min, List, [], ◌∷◌, ◌++◌, length, drop, filter, Option, Some, None, if◌then◌else◌}
-use Rattle.std.specs.List.{list_any}
+use Rattle.std.specs.Prelude.{ℕ, ◌+◌, ◌-◌, ◌==◌, ◌&&◌, Bool, not, nat_lt, nat_le, min, List, [], ◌∷◌, ◌++◌, length, drop, Option, Some, None, if◌then◌else◌}
 use Rattle.cx_base.specs.Streams.{is_listed, count_after}
 use Rattle.cx_base.specs.declared.addresses.Addr.{Addr}
+use Rattle.cx_links.specs.Living.{lives, without}
 use Rattle.cx_links.specs.declared.events.LinkCall.{LinkCall}
 use Rattle.cx_links.specs.declared.events.LinkCall.TheVariants as call
 use Rattle.cx_links.specs.declared.events.LinkEvent.{LinkEvent}
@@ -79,12 +79,6 @@ with_link s = record s { links = s.links + 1; living = s.living ++ (s.links + 1)
 -- with these bytes taken
 abbrev pub with_bytes : List ℕ → Scripted → Scripted
 with_bytes bytes s = record s { taken = s.taken ++ bytes; room = s.room - length bytes }
-
-abbrev pub lives : ℕ → List ℕ → Bool
-lives link living = list_any (λ l. l == link) living
-
-abbrev pub without : ℕ → List ℕ → List ℕ
-without link living = filter (λ l. not (l == link)) living
 
 -- ---- what is done
 

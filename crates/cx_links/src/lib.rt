@@ -2,10 +2,12 @@
 #![tactic(auto)]
 
 mod events;
+mod laws;
 mod links;
 mod scripted;
 
 pub use events::{LinkCall, LinkEvent};
+pub use laws::script_laws;
 pub use links::Links;
 pub use scripted::ScriptLinks;
 

@@ -6,8 +6,9 @@ ghost use Rattle.std.specs.VecDeque.{deque_len, deque_capacity};
 ghost use Rattle.cx_base.specs.Streams.{Counts, is_listed};
 ghost use Rattle.cx_links.specs.Acts.{LinkAct, Listened, Opened, Gave, Broke, Sent, Shut};
 ghost use Rattle.cx_links.specs.Events.{IsWithin, came};
+ghost use Rattle.cx_links.specs.Living.{lives, without};
 ghost use Rattle.cx_links.specs.Paths.{Path};
-ghost use Rattle.cx_links.specs.Scripts.{after_fault, after_listen, after_next, after_open, after_send, after_shut, behind_in, counted, event_next, fails_next, given, lives, number_next, owed, piece, rest, scripted, takes_next, with_bytes, with_call, with_link, without};
+ghost use Rattle.cx_links.specs.Scripts.{after_fault, after_listen, after_next, after_open, after_send, after_shut, behind_in, counted, event_next, fails_next, given, number_next, owed, piece, rest, scripted, takes_next, with_bytes, with_call, with_link};
 
 use crate::events::{LinkCall, LinkEvent};
 use crate::links::Links;

@@ -2,7 +2,7 @@
 use Rattle.std.proofs.Common.{◌≡◌, rules}
 use Rattle.std.proofs.lemmas.Fn.{filter_same}
 use Rattle.cx_links.proofs.Living.{one_less}
-use Rattle.cx_links.specs.Scripts.{without}
+use Rattle.cx_links.specs.Living.{without}
 use Rattle.cx_links.proofs.scripted.give_up.Goals as goal
 
 pub returns-clause-items : goal.returns-clause-items
