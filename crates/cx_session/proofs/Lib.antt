@@ -3,3 +3,4 @@ mod Keeping
 mod Lawful
 mod Placing
 mod Queues
+mod Wanting

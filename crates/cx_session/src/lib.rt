@@ -1,15 +1,16 @@
 //! What the two ends of a session keep of it: a daemon its book of sessions, a client its outbox.
 #![tactic(auto)]
 
-mod answers;
 mod book;
 mod call;
 mod calls;
+mod changes;
 mod faults;
 mod laws;
 mod numbers;
 mod outbox;
 mod places;
+mod replies;
 mod session;
 
 pub use book::SessionBook;
