@@ -1,6 +1,7 @@
 //! Laws of a book, which crates above may rest on.
 
 ghost use Rattle.cx_session.specs.Lawful.{GivesNumbersOnce, NeverWants, NeverFalls, TakesTheNext, KeepsOwner};
+ghost use Rattle.cx_session.specs.Told.{AnswersAsTold, ChangesAsTold};
 
 use cx_base::Owner;
 
@@ -12,4 +13,10 @@ pub fn book_laws<O: Owner>()
     ensures last { NeverFalls O.entity_of O.gid_of }
     ensures next { TakesTheNext O.entity_of O.gid_of }
     ensures owner { KeepsOwner O.entity_of O.gid_of }
+{}
+
+/// A book of what its owners tell is answered and changed as the book is: so the history of a shared book holds plain data.
+pub fn told_laws<O: Owner>()
+    ensures answers { AnswersAsTold O.entity_of O.gid_of O.caps_of O.reading_of }
+    ensures changes { ChangesAsTold O.entity_of O.gid_of O.caps_of O.reading_of }
 {}

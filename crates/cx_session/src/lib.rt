@@ -16,7 +16,7 @@ mod session;
 pub use book::SessionBook;
 pub use call::{BookCall, BookFault, BookReply};
 pub use faults::{AdmitFault, AdmitRefusal, ResumeFault, ResumeRefusal, TakeRefusal};
-pub use laws::book_laws;
+pub use laws::{book_laws, told_laws};
 pub use outbox::{Outbox, QueueFault, QueueRefusal};
 
 // Each public type may be sent to another thread and shared with one.

@@ -3,7 +3,7 @@
 use cx_base::{Access, Blob, EntityName, EntityType, Operation, Owner, Reading, Text};
 use cx_session::{
     AdmitFault, BookCall, BookFault, BookReply, Outbox, QueueFault, ResumeFault, SessionBook,
-    book_laws,
+    book_laws, told_laws,
 };
 use std::alloc::Global;
 use std::process::Abort;
@@ -290,6 +290,7 @@ fn has_owner(book: &SessionBook<Holder>, number: u64) -> bool {
 
 fn laws() {
     book_laws::<Holder>();
+    told_laws::<Holder>();
 }
 
 #[test]
