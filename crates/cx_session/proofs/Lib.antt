@@ -3,3 +3,5 @@ mod Keeping
 mod Lawful
 mod Placing
 mod Queues
+mod Telling
+mod Wanting

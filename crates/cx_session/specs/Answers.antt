@@ -1,5 +1,5 @@
--- The calls of a book as values: the reply to each, and the book behind it.
-use Rattle.std.specs.Prelude.{ℕ, ◌≡◌, Bool, Result, Ok, Err, is_some, ◌⊎◌}
+-- The calls of a book as values: the reply to each, the book behind it, and the memory that it takes.
+use Rattle.std.specs.Prelude.{ℕ, ◌≡◌, Bool, Some, Result, Ok, Err, is_some, IsOk, ◌⊎◌}
 use Rattle.cx_base.specs.Names.{Name}
 use Rattle.cx_session.specs.declared.call.BookCall.{BookCall}
 use Rattle.cx_session.specs.declared.call.BookCall.TheVariants.{Admit, Resume, Check, Take, End}
@@ -12,7 +12,7 @@ use Rattle.cx_session.specs.declared.faults.ResumeFault.{ResumeFault}
 use Rattle.cx_session.specs.declared.faults.ResumeFault.TheVariants as resume
 use Rattle.cx_session.specs.declared.faults.TakeRefusal.{TakeRefusal}
 use Rattle.cx_session.specs.declared.faults.TakeRefusal.TheVariants as message
-use Rattle.cx_session.specs.Book.{Book, with_number, admit_reply, admitted, resume_reply, resumed, take_reply, taken, ended}
+use Rattle.cx_session.specs.Book.{Book, KeptBook, with_number, admit_reply, admitted, resume_reply, resumed, take_reply, taken, ended}
 
 -- a refusal of each kind as a reply
 abbrev pub refused_admission : AdmitFault → BookReply
@@ -47,17 +47,29 @@ abbrev pub message_reply : Result (Unit {0}) TakeRefusal → BookReply
 message_reply (Ok _) = reply.Fine
 message_reply (Err refusal) = refused_message refusal
 
+-- a reply that names an owner, whose name is copied into it
+abbrev pub NamesOwner : BookReply → Type 0
+NamesOwner (reply.Refused (fault.OwnerDiffers entity gid)) = Unit {0}
+NamesOwner _ = ⊥
+
+-- the given reply is the expected one, or want of memory in place of one that names an owner
+abbrev pub IsReply : BookReply → BookReply → Type 0
+IsReply expected given = (given ≡ expected) ⊎ (NamesOwner expected × (given ≡ reply.OutOfMemory))
+
+-- why a resumption was refused: for the expected cause, or for want of memory in place of one that names an owner
+abbrev pub IsResumeCause : Result (ℕ × ℕ × ℕ × Bool) ResumeFault → ResumeFault → Type 0
+IsResumeCause expected fault = (expected ≡ Err fault) ⊎ (NamesOwner (resumption_reply expected) × (fault ≡ resume.OutOfMemory))
+
 module _ {O : Type 0} where
   -- the book behind an answer: another one where it is no refusal
   abbrev pub behind : {X E : Type 0} → Result X E → (X → Book O) → Book O → Book O
   behind (Ok given) new old = new given
   behind (Err _) new old = old
 
-  -- admissions and resumptions yield to want of memory, and no other call does
-  abbrev pub IsAnswer : BookCall O → BookReply → BookReply → Type 0
-  IsAnswer (Admit _ _ _ _ _) given expected = (given ≡ reply.OutOfMemory) ⊎ (given ≡ expected)
-  IsAnswer (Resume _ _ _ _ _) given expected = (given ≡ reply.OutOfMemory) ⊎ (given ≡ expected)
-  IsAnswer _ given expected = given ≡ expected
+  -- Memory stands ready for a call: of the client cookie of an admission that is not refused. No other call takes any.
+  abbrev pub IsReserved : KeptBook O → BookCall O → Type 0
+  IsReserved kept (Admit owner client server global lossy) = IsOk (admit_reply kept.book client) → kept.room ≡ Some client
+  IsReserved kept _ = Unit {0}
 
   module _ (entity_of : O → Name) (gid_of : O → ℕ) where
     -- what each call is answered

@@ -11,17 +11,20 @@ use Rattle.cx_session.specs.declared.faults.ResumeFault.TheVariants as resume
 use Rattle.cx_session.specs.declared.faults.TakeRefusal.{TakeRefusal}
 use Rattle.cx_session.specs.declared.faults.TakeRefusal.TheVariants.{Stale, Repeat, Gap}
 
--- the number that the next session gets, the live sessions in the order of their numbers, and the client cookie for which
--- memory stands ready, if for one
+-- the number that the next session gets, and the live sessions in the order of their numbers
 pub record Book (O : Type 0) : Type 0 where
   pub next : ℕ
   pub live : List (Session O)
+
+-- a book as it is kept, with the client cookie for whose admission memory stands ready, if for one's; no reply depends on it
+pub record KeptBook (O : Type 0) : Type 0 where
+  pub book : Book O
   pub room : Option ℕ
 
 module _ {O : Type 0} where
   -- no session lives, and none ever did
   abbrev pub empty_book : Book O
-  empty_book = record { next = 1; live = []; room = None }
+  empty_book = record { next = 1; live = [] }
 
   -- the live session with this number
   abbrev pub with_number : ℕ → List (Session O) → Option (Session O)
@@ -60,7 +63,7 @@ module _ {O : Type 0} where
   -- the book behind an admission
   abbrev pub admitted : Book O → O → ℕ → ℕ → ℕ → Bool → Book O
   admitted book owner client server global lossy =
-      record { next = book.next + 1; live = book.live ++ opened book.next owner client server global lossy ∷ []; room = None }
+      record { next = book.next + 1; live = book.live ++ opened book.next owner client server global lossy ∷ [] }
 
   -- What a message with this epoch and sequence number is answered: it is refused where the session does not live or has
   -- another epoch, where it was taken before, and where messages are missing before it.

@@ -1,10 +1,10 @@
 -- Laws of a book, over any row of calls.
-use Rattle.std.specs.Prelude.{ℕ, ◌≡◌, ◌+◌, ◌≤◌, Bool, List, [], ◌∷◌, ◌++◌, Some, Ok}
+use Rattle.std.specs.Prelude.{ℕ, ◌≡◌, ◌≢◌, ◌+◌, ◌≤◌, Bool, List, [], ◌∷◌, ◌++◌, Some, Ok}
 use Rattle.cx_base.specs.Names.{Name}
 use Rattle.cx_session.specs.declared.session.Session.{Session}
 use Rattle.cx_session.specs.declared.call.BookCall.{BookCall}
 use Rattle.cx_session.specs.declared.call.BookReply.{BookReply}
-use Rattle.cx_session.specs.declared.call.BookReply.TheVariants.{Admitted}
+use Rattle.cx_session.specs.declared.call.BookReply.TheVariants.{Admitted, OutOfMemory}
 use Rattle.cx_session.specs.Book.{Book, with_number, with_cookies, take_reply, taken, raised, resume_reply}
 use Rattle.cx_session.specs.Answers.{replied, after}
 
@@ -27,6 +27,10 @@ module _ {O : Type 0} (entity_of : O → Name) (gid_of : O → ℕ) where
   -- no number is given twice: they rise
   abbrev pub GivesNumbersOnce : Type 0
   GivesNumbersOnce = (book : Book O) (calls : List (BookCall O)) → AreRisingFrom book.next (numbers_given book calls)
+
+  -- no call is answered by want of memory
+  abbrev pub NeverWants : Type 0
+  NeverWants = (book : Book O) (call : BookCall O) → replied entity_of gid_of book call ≢ OutOfMemory
 
   -- no call takes a session's last message back
   abbrev pub NeverFalls : Type 0

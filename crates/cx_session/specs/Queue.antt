@@ -10,6 +10,11 @@ pub record Queue : Type 0 where
   pub last : ℕ
   pub waiting : List (ℕ × Operation)
 
+-- a queue as it is kept, with the count of operations for which memory stands ready; no reply depends on it
+pub record KeptQueue : Type 0 where
+  pub queue : Queue
+  pub room : ℕ
+
 -- nothing was sent yet
 abbrev pub empty_queue : Queue
 empty_queue = record { last = 0; waiting = [] }

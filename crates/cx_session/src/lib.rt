@@ -1,21 +1,22 @@
 //! What the two ends of a session keep of it: a daemon its book of sessions, a client its outbox.
 #![tactic(auto)]
 
-mod answers;
 mod book;
 mod call;
 mod calls;
+mod changes;
 mod faults;
 mod laws;
 mod numbers;
 mod outbox;
 mod places;
+mod replies;
 mod session;
 
 pub use book::SessionBook;
 pub use call::{BookCall, BookFault, BookReply};
 pub use faults::{AdmitFault, AdmitRefusal, ResumeFault, ResumeRefusal, TakeRefusal};
-pub use laws::book_laws;
+pub use laws::{book_laws, told_laws};
 pub use outbox::{Outbox, QueueFault, QueueRefusal};
 
 // Each public type may be sent to another thread and shared with one.

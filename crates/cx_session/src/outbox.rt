@@ -1,10 +1,10 @@
 //! The operations that a client has sent and that no acknowledgement has covered.
 
-ghost use Rattle.std.specs.Prelude.{◌≡◌, ◌+◌, ◌⊎◌, IfOk, OnOk, OnErr, IfErr, Ok, Err, filter, nat_lt};
+ghost use Rattle.std.specs.Prelude.{◌≡◌, ◌<◌, ◌≤◌, ◌-◌, ◌⊎◌, IsOk, IfOk, OnOk, OnErr, IfErr, Ok, Err, filter, nat_lt, vec_len, vec_capacity};
 ghost use Rattle.cx_session.specs.Queue.{Queue, empty_queue, IsRun, push_reply, pushed, acknowledged};
 
 use cx_base::Operation;
-use std::alloc::Global;
+use std::alloc::{AllocError, Global};
 use std::marker::Model;
 use thiserror::Error;
 
@@ -41,11 +41,12 @@ pub struct Outbox {
 }
 
 impl Model for Outbox {
-    ghost use Rattle.cx_session.specs.Queue.{Queue, IsRun};
+    ghost use Rattle.std.specs.Prelude.{◌-◌, vec_len, vec_capacity};
+    ghost use Rattle.cx_session.specs.Queue.{KeptQueue, IsRun};
 
-    ghost Value = { Queue };
+    ghost Value = { KeptQueue };
 
-    ghost view = { λ b. record { last = b.last; waiting = b.waiting.items } };
+    ghost view = { λ b. record { queue = record { last = b.last; waiting = b.waiting.items }; room = vec_capacity b.waiting - vec_len b.waiting } };
 
     ghost invariant = { λ b. IsRun b.last b.waiting.items };
 }
@@ -53,7 +54,7 @@ impl Model for Outbox {
 impl Outbox {
     /// Nothing was sent yet.
     pub fn new(alloc: Global) -> Outbox
-        ensures { result ≡ empty_queue }
+        ensures { result.queue ≡ empty_queue }
     {
         Outbox {
             last: 0,
@@ -61,10 +62,9 @@ impl Outbox {
         }
     }
 
-    // What a push would answer.
-    fn reply(&self) -> Result<u64, QueueFault>
-        ensures reply { result ≡ push_reply self.now }
-        ensures next { IfOk result (λ number. number ≡ self.now.last + 1) }
+    /// What a push would answer.
+    pub fn push_reply(&self) -> Result<u64, QueueFault>
+        ensures { result ≡ push_reply self.now.queue }
     {
         if self.waiting.len() >= LIMIT {
             return Err(QueueFault::QueueFull { limit: 1024 });
@@ -75,40 +75,62 @@ impl Outbox {
         Ok(self.last + 1)
     }
 
+    /// Takes all the memory that a push takes. What was pushed stays as it is.
+    pub fn reserve(&mut self, _alloc: Global) -> Result<(), AllocError>
+        ensures ok { OnOk result (0 < self.new.room) }
+        ensures seen { self.new.queue ≡ self.old.queue }
+        ensures err { OnErr result (self.new ≡ self.old) }
+        ensures ready { 0 < self.old.room → IsOk result }
+    {
+        self.waiting.reserve(1)
+    }
+
+    /// Pushes an operation that would not be refused, into memory that stands ready, and answers its number.
+    pub fn push_reserved(&mut self, ask: Operation) -> u64
+        requires reply { IsOk (push_reply self.old.queue) }
+        requires room { 0 < self.old.room }
+        ensures number { push_reply self.old.queue ≡ Ok result }
+        ensures pushed { self.new ≡ record { queue = pushed self.old.queue ask; room = self.old.room - 1 } }
+    {
+        let number = self.last + 1;
+        self.waiting.push_reserved((number, ask));
+        self.last = number;
+        number
+    }
+
     /// Puts the operation last, and answers its number, which is one above the last given.
-    pub fn push(&mut self, _alloc: Global, ask: Operation) -> Result<u64, QueueRefusal>
-        ensures ok { IfOk result (λ number. push_reply self.old ≡ Ok number) }
-        ensures pushed { OnOk result (self.new ≡ pushed self.old ask) }
-        ensures cause { IfErr result (λ refusal. (refusal.fault ≡ QueueFault.OutOfMemory) ⊎ (push_reply self.old ≡ Err refusal.fault)) }
+    pub fn push(&mut self, alloc: Global, ask: Operation) -> Result<u64, QueueRefusal>
+        ensures ok { IfOk result (λ number. push_reply self.old.queue ≡ Ok number) }
+        ensures pushed { OnOk result (self.new.queue ≡ pushed self.old.queue ask) }
+        ensures cause { IfErr result (λ refusal. (refusal.fault ≡ QueueFault.OutOfMemory) ⊎ (push_reply self.old.queue ≡ Err refusal.fault)) }
+        ensures wants { IfErr result (λ refusal. refusal.fault ≡ QueueFault.OutOfMemory → IsOk (push_reply self.old.queue) × (self.old.room ≡ 0)) }
         ensures kept { IfErr result (λ refusal. refusal.ask ≡ ask) }
         ensures err { OnErr result (self.new ≡ self.old) }
     {
-        let number = match self.reply() {
-            Ok(number) => number,
-            Err(fault) => return Err(QueueRefusal { ask, fault }),
-        };
-        if self.waiting.reserve(1).is_err() {
+        if let Err(fault) = self.push_reply() {
+            return Err(QueueRefusal { ask, fault });
+        }
+        if self.reserve(alloc).is_err() {
             return Err(QueueRefusal {
                 ask,
                 fault: QueueFault::OutOfMemory,
             });
         }
-        self.waiting.push_reserved((number, ask));
-        self.last = number;
-        Ok(number)
+        Ok(self.push_reserved(ask))
     }
 
     /// Gives up the operations with this number or a lower one.
     pub fn acknowledge(&mut self, seq: u64)
-        ensures { self.new ≡ acknowledged self.old seq }
+        ensures acknowledged { self.new.queue ≡ acknowledged self.old.queue seq }
+        ensures room { self.old.room ≤ self.new.room }
     {
         drop_up_to(&mut self.waiting, seq);
     }
 
     /// The operations that wait, in the order of their numbers.
     pub fn waiting(&self) -> &[(u64, Operation)]
-        ensures all { result.now ≡ self.now.waiting }
-        ensures run { IsRun self.now.last self.now.waiting }
+        ensures all { result.now ≡ self.now.queue.waiting }
+        ensures run { IsRun self.now.queue.last self.now.queue.waiting }
     {
         &self.waiting
     }
@@ -116,7 +138,8 @@ impl Outbox {
 
 // Drops the operations with this number or a lower one.
 fn drop_up_to(waiting: &mut Vec<(u64, Operation)>, seq: u64)
-    ensures { waiting.new.items ≡ filter (λ ask. nat_lt seq ask.0) waiting.old.items }
+    ensures left { waiting.new.items ≡ filter (λ ask. nat_lt seq ask.0) waiting.old.items }
+    ensures room { vec_capacity waiting.old - vec_len waiting.old ≤ vec_capacity waiting.new - vec_len waiting.new }
 {
     waiting.retain(|ask| seq < ask.0);
 }

@@ -1,7 +1,10 @@
-//! Books of sessions and outboxes: a thousand calls against a plain list, numbers past 65,536, and each call once.
+//! Books of sessions and outboxes: grown past round numbers, with what they refuse there, and each call once.
 
 use cx_base::{Access, Blob, EntityName, EntityType, Operation, Owner, Reading, Text};
-use cx_session::{BookCall, BookFault, BookReply, Outbox, QueueFault, SessionBook, book_laws};
+use cx_session::{
+    AdmitFault, BookCall, BookFault, BookReply, Outbox, QueueFault, ResumeFault, SessionBook,
+    book_laws, told_laws,
+};
 use std::alloc::Global;
 use std::process::Abort;
 
@@ -51,165 +54,18 @@ fn owned_by(rt: &impl Abort, alloc: Global, id: u8, gid: u64) -> Holder {
     }
 }
 
-// ---- a thousand calls
-
-/// A number of the random bits that make a call.
-fn part(bits: u64, from: u32, below: u64) -> u64 {
-    bits.wrapping_shr(from).checked_rem(below).unwrap_or(0)
-}
-
-fn is_part_zero(bits: u64, from: u32, below: u64) -> u64 {
-    u64::from(part(bits, from, below) == 0)
-}
-
-/// The id of the owner whom these bits name, who mostly is the one of the client cookie.
-fn owner_id(bits: u64) -> u8 {
-    let cookie = part(bits, 4, 8);
-    let odd = cookie.wrapping_add(is_part_zero(bits, 14, 8)) % 2 == 1;
-    if odd { b'b' } else { b'a' }
-}
-
-fn admission_of(owner: Holder, bits: u64) -> BookCall<Holder> {
-    let cookie = part(bits, 4, 8);
-    BookCall::Admit {
-        owner,
-        client_cookie: cookie,
-        server_cookie: cookie.wrapping_add(100),
-        global_seq: part(bits, 17, 4),
-        lossy: part(bits, 22, 2) == 1,
-    }
-}
-
-fn resumption_of(owner: Holder, bits: u64) -> BookCall<Holder> {
-    let cookie = part(bits, 4, 8);
-    BookCall::Resume {
-        owner,
-        client_cookie: cookie,
-        server_cookie: cookie
-            .wrapping_add(100)
-            .wrapping_add(is_part_zero(bits, 6, 8)),
-        global_seq: part(bits, 17, 4),
-        connect_seq: part(bits, 19, 8),
-    }
-}
-
-/// The call that these bits make of a session of a book whose newest one has this number.
-fn call_by_number(bits: u64, newest: u64) -> BookCall<Holder> {
-    let number = newest.saturating_sub(part(bits, 7, 8));
-    let epoch = 1u64.wrapping_add(is_part_zero(bits, 10, 4));
-    let seq = 1u64.wrapping_add(part(bits, 12, 4));
-    match bits % 16 {
-        6 => BookCall::Check { number, epoch, seq },
-        15 => BookCall::End { number },
-        _ => BookCall::Take { number, epoch, seq },
-    }
-}
-
-/// The call that these bits make of a book whose newest session has this number.
-fn call_of(rt: &impl Abort, alloc: Global, bits: u64, newest: u64) -> BookCall<Holder> {
-    match bits % 16 {
-        0 | 1 | 2 => admission_of(owned_by(rt, alloc, owner_id(bits), 2), bits),
-        3 | 4 | 5 => resumption_of(owned_by(rt, alloc, owner_id(bits), 2), bits),
-        _ => call_by_number(bits, newest),
-    }
-}
-
-fn mixed(digest: u64, values: &[u64]) -> u64 {
-    let mut mixed = digest;
-    for value in values {
-        mixed = mixed.wrapping_mul(1000003).wrapping_add(*value);
-    }
-    mixed
-}
-
-fn digest_of(digest: u64, reply: &BookReply) -> u64 {
-    match reply {
-        BookReply::Admitted { number, epoch } => mixed(digest, &[1, *number, *epoch]),
-        BookReply::Resumed {
-            number,
-            epoch,
-            last,
-            lossy,
-        } => mixed(digest, &[2, *number, *epoch, *last, u64::from(*lossy)]),
-        BookReply::Fine => mixed(digest, &[3]),
-        BookReply::Ended(lived) => mixed(digest, &[4, u64::from(*lived)]),
-        BookReply::Refused(fault) => digest_of_fault(digest, fault),
-        BookReply::OutOfMemory => mixed(digest, &[0]),
-    }
-}
-
-fn digest_of_fault(digest: u64, fault: &BookFault) -> u64 {
-    match fault {
-        BookFault::CookieInUse { number } => mixed(digest, &[5, *number]),
-        BookFault::BookFull { limit } => mixed(digest, &[6, u64::from(*limit)]),
-        BookFault::Spent => mixed(digest, &[7]),
-        BookFault::Unknown => mixed(digest, &[8]),
-        BookFault::OwnerDiffers { entity, gid } => {
-            let id = entity.id.bytes().first().copied().unwrap_or(0);
-            mixed(digest, &[9, u64::from(id), *gid])
-        }
-        BookFault::StaleConnect { kept } => mixed(digest, &[10, *kept]),
-        BookFault::StaleGlobal { kept } => mixed(digest, &[11, *kept]),
-        BookFault::Stale { epoch } => mixed(digest, &[12, *epoch]),
-        BookFault::Repeat { last } => mixed(digest, &[13, *last]),
-        BookFault::Gap { expected } => mixed(digest, &[14, *expected]),
-    }
-}
-
-/// What a book answers, without what the contract says of it.
-fn answered(alloc: Global, book: &mut SessionBook<Holder>, call: BookCall<Holder>) -> BookReply {
-    book.answer(alloc, call)
-}
-
-/// The number of the newest session, which was this one before this reply.
-fn newest_after(newest: u64, reply: &BookReply) -> u64 {
-    match reply {
-        BookReply::Admitted { number, .. } => *number,
-        _ => newest,
-    }
-}
-
-/// The random number behind this one.
-fn next_random(state: u64) -> u64 {
-    state
-        .wrapping_mul(6364136223846793005)
-        .wrapping_add(1442695040888963407)
-}
-
-/// The digest of the answers to so many calls.
-fn digest_of_calls(rt: &impl Abort, alloc: Global, count: u32) -> u64 {
-    let mut book = SessionBook::new(alloc);
-    let mut state = 1;
-    let mut newest = 0;
-    let mut digest = 0;
-    for _ in 0..count {
-        state = next_random(state);
-        let call = call_of(rt, alloc, state >> 33, newest);
-        let reply = answered(alloc, &mut book, call);
-        newest = newest_after(newest, &reply);
-        digest = digest_of(digest, &reply);
-    }
-    digest
-}
-
-// The digest is that of bench/plain_book, which searches a list.
-#[test]
-fn a_thousand_calls_are_answered_as_by_a_plain_list(rt: HostRuntime) {
-    assert!(rt; digest_of_calls(&rt, rt.alloc(), 1000) == 18325724350778824468);
-}
-
 // ---- past round numbers
 
-/// The number that a session of this owner gets under this client cookie; none where it is refused.
+/// The number that a session of this owner gets under this client cookie.
 fn admitted(
     alloc: Global,
     book: &mut SessionBook<Holder>,
     owner: Holder,
     cookie: u64,
-) -> Option<u64> {
+) -> Result<u64, AdmitFault> {
     match book.admit(alloc, owner, cookie, 9, 5, true) {
-        Ok((number, _)) => Some(number),
-        Err(_) => None,
+        Ok((number, _)) => Ok(number),
+        Err(refusal) => Err(refusal.fault),
     }
 }
 
@@ -220,7 +76,7 @@ fn is_admitted(
     book: &mut SessionBook<Holder>,
     number: u64,
 ) -> bool {
-    admitted(alloc, book, owned_by(rt, alloc, b'a', 2), number) == Some(number)
+    admitted(alloc, book, owned_by(rt, alloc, b'a', 2), number) == Ok(number)
 }
 
 fn end(book: &mut SessionBook<Holder>, number: u64) {
@@ -241,12 +97,27 @@ fn count(book: &SessionBook<Holder>) -> usize {
     book.count()
 }
 
+/// Whether no session is admitted under this client cookie, for this reason.
+fn is_refused(
+    rt: &impl Abort,
+    alloc: Global,
+    book: &mut SessionBook<Holder>,
+    cookie: u64,
+    fault: AdmitFault,
+) -> bool {
+    admitted(alloc, book, owned_by(rt, alloc, b'a', 2), cookie) == Err(fault)
+}
+
 #[test]
 fn at_most_4096_sessions_live(rt: HostRuntime) {
     let mut book = full_book(&rt, rt.alloc(), 70_000);
     assert!(rt; count(&book) == 4096);
-    let owner = owned_by(&rt, rt.alloc(), b'a', 2);
-    assert!(rt; admitted(rt.alloc(), &mut book, owner, 70_001).is_none());
+    let full = AdmitFault::BookFull { limit: 4096 };
+    assert!(rt; is_refused(&rt, rt.alloc(), &mut book, 70_001, full));
+    let in_use = AdmitFault::CookieInUse { number: 69_999 };
+    assert!(rt; is_refused(&rt, rt.alloc(), &mut book, 69_999, in_use));
+    end(&mut book, 70_000);
+    assert!(rt; is_admitted(&rt, rt.alloc(), &mut book, 70_001));
 }
 
 fn write(alloc: Global) -> Operation {
@@ -289,17 +160,21 @@ fn outbox_of(rt: &impl Abort, alloc: Global, last: u64, waiting: u64) -> Outbox 
     outbox
 }
 
-fn is_full(alloc: Global, outbox: &mut Outbox) -> bool {
-    matches!(
-        pushed(alloc, outbox),
-        Err(QueueFault::QueueFull { limit: 1024 })
-    )
+/// The number of an operation for which memory is reserved first.
+fn pushed_reserved(rt: &impl Abort, alloc: Global, outbox: &mut Outbox) -> Result<u64, QueueFault> {
+    outbox.push_reply()?;
+    outbox.reserve(alloc).expect(rt, "memory is ample");
+    Ok(outbox.push_reserved(write(alloc)))
 }
 
 #[test]
 fn at_most_1024_operations_wait(rt: HostRuntime) {
     let mut outbox = outbox_of(&rt, rt.alloc(), 1024, 1024);
-    assert!(rt; is_full(rt.alloc(), &mut outbox));
+    let full = Err(QueueFault::QueueFull { limit: 1024 });
+    assert!(rt; pushed(rt.alloc(), &mut outbox) == full);
+    assert!(rt; pushed_reserved(&rt, rt.alloc(), &mut outbox) == full);
+    acknowledge(&mut outbox, 1);
+    assert!(rt; pushed_reserved(&rt, rt.alloc(), &mut outbox) == Ok(1025));
 }
 
 fn waiting(outbox: &Outbox) -> usize {
@@ -312,27 +187,101 @@ fn operations_are_counted_past_65536(rt: HostRuntime) {
     assert!(rt; waiting(&outbox) == 2);
 }
 
-// ---- the calls of which an admission and a resumption are made
+// ---- each call once
 
-/// A book with a session of one client cookie, and room for one of another.
-fn ready_book(rt: &impl Abort, alloc: Global) -> SessionBook<Holder> {
+fn admission_of(owner: Holder) -> BookCall<Holder> {
+    BookCall::Admit {
+        owner,
+        client_cookie: 7,
+        server_cookie: 9,
+        global_seq: 5,
+        lossy: true,
+    }
+}
+
+fn resumption_of(owner: Holder) -> BookCall<Holder> {
+    BookCall::Resume {
+        owner,
+        client_cookie: 7,
+        server_cookie: 9,
+        global_seq: 5,
+        connect_seq: 1,
+    }
+}
+
+/// The reply to a call, which is made by what it takes.
+fn replied(
+    rt: &impl Abort,
+    alloc: Global,
+    book: &mut SessionBook<Holder>,
+    call: BookCall<Holder>,
+) -> BookReply {
+    let reply = book.reply(alloc, &call);
+    book.reserve(alloc, &call).expect(rt, "memory is ample");
+    book.apply(call);
+    reply
+}
+
+fn expect_reply(
+    rt: &impl Abort,
+    alloc: Global,
+    book: &mut SessionBook<Holder>,
+    call: BookCall<Holder>,
+    expected: BookReply,
+) {
+    assert!(rt; replied(rt, alloc, book, call) == expected);
+}
+
+/// A book with the session 1 of the owner `a` under the client cookie 7.
+fn book_of_one(rt: &impl Abort, alloc: Global) -> SessionBook<Holder> {
     let mut book = SessionBook::new(alloc);
-    admitted(alloc, &mut book, owned_by(rt, alloc, b'a', 2), 7);
-    book.reserve(8).expect(rt, "memory is ample");
+    let call = admission_of(owned_by(rt, alloc, b'a', 2));
+    let number = 1;
+    expect_reply(
+        rt,
+        alloc,
+        &mut book,
+        call,
+        BookReply::Admitted { number, epoch: 1 },
+    );
     book
 }
 
-/// The number and the epoch that a session would get under this client cookie.
-fn would_get(book: &SessionBook<Holder>, cookie: u64) -> Option<(u64, u64)> {
-    book.admit_reply(cookie).ok()
+#[test]
+fn a_session_is_resumed_by_its_owner_alone(rt: HostRuntime) {
+    let mut book = book_of_one(&rt, rt.alloc());
+    let call = resumption_of(owned_by(&rt, rt.alloc(), b'b', 2));
+    let entity = name(&rt, rt.alloc(), b'a');
+    let refusal = BookReply::Refused(BookFault::OwnerDiffers { entity, gid: 2 });
+    expect_reply(&rt, rt.alloc(), &mut book, call, refusal);
+    let call = resumption_of(owned_by(&rt, rt.alloc(), b'a', 2));
+    let resumed = BookReply::Resumed {
+        number: 1,
+        epoch: 2,
+        last: 0,
+        lossy: true,
+    };
+    expect_reply(&rt, rt.alloc(), &mut book, call, resumed);
 }
 
-/// The global id of the owner who is given back where this one's client cookie is admitted a second time.
-fn given_back(alloc: Global, book: &mut SessionBook<Holder>, owner: Holder) -> Option<u64> {
-    match book.admit(alloc, owner, 7, 9, 5, false) {
+fn answered(alloc: Global, book: &mut SessionBook<Holder>, call: BookCall<Holder>) -> BookReply {
+    book.answer(alloc, call)
+}
+
+/// The fault, and the global id of the owner who is given back, where this one is not given the session.
+fn given_back(
+    alloc: Global,
+    book: &mut SessionBook<Holder>,
+    owner: Holder,
+) -> Option<(ResumeFault, u64)> {
+    match book.resume(alloc, owner, 7, 8, 5, 1) {
         Ok(_) => None,
-        Err(refusal) => Some(refusal.owner.gid),
+        Err(refusal) => Some((refusal.fault, refusal.owner.gid)),
     }
+}
+
+fn is_taken(book: &mut SessionBook<Holder>, seq: u64) -> bool {
+    book.take(1, 1, seq).is_ok()
 }
 
 fn has_owner(book: &SessionBook<Holder>, number: u64) -> bool {
@@ -341,14 +290,17 @@ fn has_owner(book: &SessionBook<Holder>, number: u64) -> bool {
 
 fn laws() {
     book_laws::<Holder>();
+    told_laws::<Holder>();
 }
 
 #[test]
-fn room_is_reserved_and_an_owner_is_given_back(rt: HostRuntime) {
-    let mut book = ready_book(&rt, rt.alloc());
-    assert!(rt; would_get(&book, 8) == Some((2, 1)));
+fn each_call_is_answered(rt: HostRuntime) {
+    let mut book = book_of_one(&rt, rt.alloc());
     let other = owned_by(&rt, rt.alloc(), b'a', 3);
-    assert!(rt; given_back(rt.alloc(), &mut book, other) == Some(3));
+    assert!(rt; given_back(rt.alloc(), &mut book, other) == Some((ResumeFault::Unknown, 3)));
+    assert!(rt; is_taken(&mut book, 1));
     assert!(rt; has_owner(&book, 1));
+    let end = BookCall::End { number: 1 };
+    assert!(rt; answered(rt.alloc(), &mut book, end) == BookReply::Ended(true));
     laws();
 }

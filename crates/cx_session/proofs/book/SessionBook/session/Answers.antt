@@ -18,6 +18,6 @@ returns-in-Some-Some-clause-found g c =
 
 pub returns-in-Some-Some-clause-numbered : goal.returns-in-Some-Some-clause-numbered
 returns-in-Some-Some-clause-numbered g c =
-    let found : with_number c.args.number c.args.self.now.live ≡ Some c.in-Some-Some.session =
+    let found : with_number c.args.number c.args.self.now.book.live ≡ Some c.in-Some-Some.session =
     rw (← c.self.view_is, number_is _ 0 c.args.number _ c.self.invariant.placed (keys_rise _ c.self.invariant.ordered), ← c.get.ensures.value, c.in-Some-Some.is, c.in-Some-Some.field-0-is) refl in
-    ap (λ (number : ℕ). with_number number c.args.self.now.live) (number_of c.args.number c.in-Some-Some.session c.args.self.now.live found) ∙ found
+    ap (λ (number : ℕ). with_number number c.args.self.now.book.live) (number_of c.args.number c.in-Some-Some.session c.args.self.now.book.live found) ∙ found

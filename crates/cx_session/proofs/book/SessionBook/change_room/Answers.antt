@@ -1,5 +1,5 @@
 use Rattle.cx_session.proofs.Keeping.{kept-readied, kept-reserved}
-use Rattle.cx_session.proofs.book.SessionBook.reserve.Goals as goal
+use Rattle.cx_session.proofs.book.SessionBook.change_room.Goals as goal
 
 pub invariant_of-self-in_err-make_known : goal.invariant_of-self-in_err-make_known
 invariant_of-self-in_err-make_known g c =
