@@ -5,8 +5,9 @@ ghost use Rattle.cx_session.specs.Told.{AnswersAsTold, ChangesAsTold};
 
 use cx_base::Owner;
 
-/// Over any row of calls: no number is given twice, no definition's reply is want of memory, no call takes a session's last message back, a message that is taken is
-/// the one behind the last, and a session that is resumed stays its entity's, under its global id.
+/// Over any row of calls: no number is given twice, the definition answers none by want of memory, no call takes a session's
+/// last message back, a message that is taken is the one behind the last, and a session that is resumed stays its entity's,
+/// under its global id.
 pub fn book_laws<O: Owner>()
     ensures numbers { GivesNumbersOnce O.entity_of O.gid_of }
     ensures memory { NeverWants O.entity_of O.gid_of }
