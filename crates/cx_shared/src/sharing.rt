@@ -9,8 +9,8 @@ use crate::writer::SecretsWriter;
 use std::alloc::{AllocError, Global};
 use std::sync::Wait;
 
-/// A writer that published nothing, and so many readers. So many of the writer's tellings may be out at a time that no reader
-/// has learned yet. It waits for nobody else: none has begun to read.
+/// A writer that published nothing, and so many readers. So many of the writer's tellings may be out at a time, which no reader
+/// has learned yet. Where memory is wanting the writer is ended again, which waits for no look, since none has begun.
 pub fn share<R: Wait>(
     rt: &R,
     alloc: Global,
