@@ -1,10 +1,9 @@
 //! What a client has of its own.
 
-use cx_base::{Addr, Duplicate, EntityName};
+use cx_base::{Addr, Duplicate, EntityName, NodeName};
 use cx_connector::Change;
 use cx_enc::Key;
 use cx_holdings::{Asker, Modes};
-use cx_journal::NodeName;
 use std::alloc::{AllocError, Global};
 use std::marker::Model;
 

@@ -1,8 +1,8 @@
 -- Each event of a run has a draw of 384 bytes: each thing that is done to a world keeps that.
 use Rattle.std.proofs.Common.{◌≡◌, ℕ, ◌*◌, ◌==◌, Bool, true, false, List, [], ◌∷◌, ◌++◌, Option, Some, None, refl, sym, subst, zero, suc, arith, length-append}
 use Rattle.std.specs.Prelude.{filter, length, replicate, if◌then◌else◌}
-use Rattle.cx_journal.specs.declared.node_names.NodeName.{NodeName}
-use Rattle.cx_journal.specs.declared.node_names.NodeName.TheVariants as node
+use Rattle.cx_base.specs.declared.nodes.NodeName.{NodeName}
+use Rattle.cx_base.specs.declared.nodes.NodeName.TheVariants as node
 use Rattle.cx_lines.specs.declared.commands.Command.{Command}
 use Rattle.cx_lines.specs.declared.commands.Command.TheVariants as command
 use Rattle.cx_lines.specs.declared.lines.Line.{Line}
@@ -24,7 +24,7 @@ use Rattle.cx_laws_keys.proofs.Lists.{all-append}
 use Rattle.cx_laws_run.specs.Laws.{AreDrawn}
 use Rattle.cx_run.specs.Worlds.{Seat, World, carried, happening, opened_wires, seat_of}
 use Rattle.cx_run.specs.Deliveries.{Given, arrives, arrives_from, came_at, comes, delivers, delivers_on, delivers_piece, drains, drains_side, far_side, first_of, followed, given, gives, gone_arrives, open_all, opens, restarts, round, rounds, settles, stay, tells, tells_gone, turns, under_way, vanish}
-use Rattle.cx_run.specs.Schedules.{acts_on, after_line, after_lines, arrives_again, cuts, ever_sent, injects, loses, node_in, on_link, on_node, services_sum, submits, submitted, without_first}
+use Rattle.cx_run.specs.Schedules.{acts_on, after_line, after_lines, arrives_again, cuts, ever_sent, injects, loses, on_link, on_node, services_sum, submits, submitted, without_first}
 
 -- the draws of a seed have 384 bytes
 length-words : (key : List ℕ) (place n : ℕ) → length (words_from key place n) ≡ 4 * n
@@ -204,7 +204,7 @@ module _ where
   drawn-on_node : (w : World) (s : NodeStep) → Drawn w → Drawn (on_node w s)
   drawn-on_node w (step.Clock reading) k = drawn-like w (on_node w (step.Clock reading)) refl k
   drawn-on_node w (step.ClockOf who reading) k = drawn-like w (on_node w (step.ClockOf who reading)) refl k
-  drawn-on_node w (step.Restart who) k = drawn-restarts w (node_in who) k
+  drawn-on_node w (step.Restart who) k = drawn-restarts w who k
   drawn-on_node w (step.FailSave left) k = drawn-like w (on_node w (step.FailSave left)) refl k
   drawn-on_node w step.Settle k = drawn-settles w k
   drawn-on_node w (step.DropSession daemon number) k = k

@@ -24,14 +24,15 @@ use Rattle.cx_line_words.specs.declared.choices.CommandForm.{CommandForm}
 use Rattle.cx_line_words.specs.declared.faults.LineFault.{LineFault}
 use Rattle.cx_line_words.specs.declared.faults.LineFault.TheVariants.{BadNumber, BadName, BadText, UnknownNode, Repeated}
 use Rattle.cx_line_words.specs.declared.known.Known.{Known}
-use Rattle.cx_line_words.specs.declared.nodes.Node.{Node}
-use Rattle.cx_line_words.specs.declared.nodes.Node.TheVariants as node
+use Rattle.cx_base.specs.declared.nodes.NodeName.{NodeName}
+use Rattle.cx_base.specs.declared.nodes.NodeName.TheVariants as node
 use Rattle.cx_line_words.specs.declared.places.Place.{Place}
 use Rattle.cx_line_words.specs.declared.places.Place.TheVariants as at
 use Rattle.cx_line_words.specs.Choices.{command_form_of, modes_of, side_of, state_of}
 use Rattle.cx_line_words.specs.Known.{is_client, is_daemon, is_declarable, is_node, is_seeded}
 use Rattle.cx_line_words.specs.Named.{is_among, is_name}
-use Rattle.cx_line_words.specs.Values.{Item, LifeOf, ReadingOf, NumberOf, EntityOf, ServiceOf, CapsOf, ClientOf, UnmodedOf, UnleakedOf, DaemonOf, NodeOf, UnseededOf, ServicesOf, AccessOf, PartOf, DataOf, BytesOf, ModesOf, SideOf, LossyWord, StateOf, CommandOf, SpellsItem, SpellsItems, IsWritable, is_fit, is_life, node_word}
+use Rattle.cx_base.specs.Nodes.{node_text}
+use Rattle.cx_line_words.specs.Values.{Item, LifeOf, ReadingOf, NumberOf, EntityOf, ServiceOf, CapsOf, ClientOf, UnmodedOf, UnleakedOf, DaemonOf, NodeOf, UnseededOf, ServicesOf, AccessOf, PartOf, DataOf, BytesOf, ModesOf, SideOf, LossyWord, StateOf, CommandOf, SpellsItem, SpellsItems, IsWritable, is_fit, is_life}
 use Rattle.cx_line_words.specs.Places.{are_good, is_good, known_fault, name_fault, never, node_of, passes, service_fault, unless, word_fault}
 use Rattle.cx_line_words.proofs.ChoiceLemmas.{command_form_of-is, command_form_of-word, modes_of-is, modes_of-word, side_of-is, side_of-word, state_of-is, state_of-word}
 
@@ -74,12 +75,12 @@ not_mon name = kinds name.kind name.id
     kinds kind.Mgr id = refl
     kinds kind.Auth id = refl
 
-node_of-word : (n : Node) → IsWritable n → node_of (node_word n) ≡ Some n
+node_of-word : (n : NodeName) → IsWritable n → node_of (node_text n) ≡ Some n
 node_of-word node.Monitor h = refl
 node_of-word (node.Entity name) h = rw (not_mon name, name_of-text name h) refl
 
-node_cases : (w : List ℕ) (b : Bool) (found : Option Name) (n : Node) → bytes_eq w (codes "mon") ≡ b → name_of w ≡ found
-    → cond b (Some node.Monitor) (option_map (λ name. node.Entity name) found) ≡ Some n → IsWritable n × (w ≡ node_word n)
+node_cases : (w : List ℕ) (b : Bool) (found : Option Name) (n : NodeName) → bytes_eq w (codes "mon") ≡ b → name_of w ≡ found
+    → cond b (Some node.Monitor) (option_map (λ name. node.Entity name) found) ≡ Some n → IsWritable n × (w ≡ node_text n)
 node_cases w true found n is name some =
     let same : node.Monitor ≡ n = cc in
     rw (← same) (tt, (bytes_eq-Decides w (codes "mon")).0 is)
@@ -88,7 +89,7 @@ node_cases w false (Some other) n is name some =
     let same : node.Entity other ≡ n = cc in
     rw (← same) (name_of-is w other name)
 
-node_of-is : (w : List ℕ) (n : Node) → node_of w ≡ Some n → IsWritable n × (w ≡ node_word n)
+node_of-is : (w : List ℕ) (n : NodeName) → node_of w ≡ Some n → IsWritable n × (w ≡ node_text n)
 node_of-is w n some = node_cases w (bytes_eq w (codes "mon")) (name_of w) n refl refl some
 
 -- ---- what is spelled is good
@@ -219,8 +220,8 @@ ValueAt k b at.Client w = (n : Name) × SpellsItem k b (ClientOf n) w
 ValueAt k b at.Unmoded w = (n : Name) × SpellsItem k b (UnmodedOf n) w
 ValueAt k b at.Unleaked w = (n : Name) × SpellsItem k b (UnleakedOf n) w
 ValueAt k b at.Daemon w = (n : Name) × SpellsItem k b (DaemonOf n) w
-ValueAt k b at.Node w = (n : Node) × SpellsItem k b (NodeOf n) w
-ValueAt k b at.Unseeded w = (n : Node) × SpellsItem k b (UnseededOf n) w
+ValueAt k b at.Node w = (n : NodeName) × SpellsItem k b (NodeOf n) w
+ValueAt k b at.Unseeded w = (n : NodeName) × SpellsItem k b (UnseededOf n) w
 ValueAt k b at.Services w = (ks : List EntityType) × SpellsItem k b (ServicesOf ks) w
 ValueAt k b at.Access w = (a : Access) × SpellsItem k b (AccessOf a) w
 ValueAt k b at.Part w = (t : List ℕ) × SpellsItem k b (PartOf t) w
@@ -257,7 +258,7 @@ named_as known again w (Some n) is good =
     let here = known_in (known n) (again n) good in
     (n, own.0, here.0, here.1, own.1)
 
-node_as : (known again : Node → Bool) (w : List ℕ) (found : Option Node) → node_of w ≡ found → is_none (name_fault known again found) ≡ true → (n : Node) × IsWritable n × (known n ≡ true) × (again n ≡ false) × (w ≡ node_word n)
+node_as : (known again : NodeName → Bool) (w : List ℕ) (found : Option NodeName) → node_of w ≡ found → is_none (name_fault known again found) ≡ true → (n : NodeName) × IsWritable n × (known n ≡ true) × (again n ≡ false) × (w ≡ node_text n)
 node_as known again w None is good = absurd (let e : false ≡ true = good in cc)
 node_as known again w (Some n) is good =
     let own = node_of-is w n is in

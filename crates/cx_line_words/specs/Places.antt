@@ -7,8 +7,8 @@ use Rattle.cx_words.specs.Words.{number_of, reading_of, name_of, service_of, ser
 use Rattle.cx_line_words.specs.declared.faults.LineFault.{LineFault}
 use Rattle.cx_line_words.specs.declared.faults.LineFault.TheVariants.{BadNumber, BadName, BadText, UnknownNode, Repeated}
 use Rattle.cx_line_words.specs.declared.known.Known.{Known}
-use Rattle.cx_line_words.specs.declared.nodes.Node.{Node}
-use Rattle.cx_line_words.specs.declared.nodes.Node.TheVariants.{Monitor, Entity}
+use Rattle.cx_base.specs.declared.nodes.NodeName.{NodeName}
+use Rattle.cx_base.specs.declared.nodes.NodeName.TheVariants.{Monitor, Entity}
 use Rattle.cx_line_words.specs.declared.places.Place.{Place}
 use Rattle.cx_line_words.specs.declared.places.Place.TheVariants as at
 use Rattle.cx_line_words.specs.Choices.{command_form_of, modes_of, side_of, state_of}
@@ -17,7 +17,7 @@ use Rattle.cx_line_words.specs.Named.{is_among}
 use Rattle.cx_line_words.specs.Values.{is_life, is_fit}
 
 -- the node that a word names
-abbrev pub node_of : List ℕ → Option Node
+abbrev pub node_of : List ℕ → Option NodeName
 node_of word = if bytes_eq word (codes "mon") then Some Monitor else option_map Entity (name_of word)
 
 -- whether a word has a value, and a test holds of it

@@ -3,7 +3,6 @@
 use crate::choices::{CommandForm, LeftState, Modes, Side};
 use crate::faults::FaultAt;
 use crate::known::Known;
-use crate::nodes::Node;
 use crate::sight::Shown;
 
 /// The kind of value that stands at a place of a line.
@@ -62,7 +61,6 @@ fn are_sendable() {
     is_sendable::<Place>();
     is_sendable::<FaultAt>();
     is_sendable::<Shown>();
-    is_sendable::<Node>();
     is_sendable::<Known>();
     is_sendable::<Side>();
     is_sendable::<Modes>();

@@ -3,15 +3,15 @@
 ghost use Rattle.std.specs.Prelude.{◌≡◌, true, [], is_some, IfOk, IfSome, map};
 ghost use Rattle.std.specs.List.{list_any};
 ghost use Rattle.std.specs.Str.{bytes_eq};
+ghost use Rattle.cx_base.specs.Nodes.{node_text};
 ghost use Rattle.cx_line_words.specs.Known.{is_declarable, nothing};
 ghost use Rattle.cx_line_words.specs.Places.{is_good, node_of};
-ghost use Rattle.cx_line_words.specs.Values.{ClientOf, DaemonOf, DataOf, EntityOf, LifeOf, LossyWord, NodeOf, ServiceOf, UnleakedOf, UnmodedOf, UnseededOf, SpellsItem, IsWritable, node_word};
+ghost use Rattle.cx_line_words.specs.Values.{ClientOf, DaemonOf, DataOf, EntityOf, LifeOf, LossyWord, NodeOf, ServiceOf, UnleakedOf, UnmodedOf, UnseededOf, SpellsItem, IsWritable};
 ghost use Rattle.cx_line_words.specs.declared.places.Place.{Place};
 
 use crate::known::Known;
 use crate::limits::{LONGEST_LIFE, MOST_DATA};
-use crate::nodes::Node;
-use cx_base::{Blob, EntityName, EntityType};
+use cx_base::{Blob, EntityName, EntityType, NodeName};
 use cx_words::{hex, is_word, name, number, service};
 use std::alloc::{AllocError, Global};
 
@@ -149,21 +149,21 @@ pub fn daemon(alloc: Global, known: &Known, word: &[u8]) -> Result<Option<Entity
 }
 
 /// The node that the word names, whether it is known or not: `mon`, or an entity's name.
-pub fn named_node(alloc: Global, word: &[u8]) -> Result<Option<Node>, AllocError>
+pub fn named_node(alloc: Global, word: &[u8]) -> Result<Option<NodeName>, AllocError>
     ensures read { IfOk result (λ found. found ≡ node_of word.now) }
-    ensures spelled { IfOk result (λ found. IfSome found (λ node. IsWritable node × (word.now ≡ node_word node))) }
+    ensures spelled { IfOk result (λ found. IfSome found (λ node. IsWritable node × (word.now ≡ node_text node))) }
 {
     if is_word(word, "mon") {
-        return Ok(Some(Node::Monitor));
+        return Ok(Some(NodeName::Monitor));
     }
     let Some(name) = name(alloc, word)? else {
         return Ok(None);
     };
-    Ok(Some(Node::Entity(name)))
+    Ok(Some(NodeName::Entity(name)))
 }
 
 /// The monitor, or a declared entity.
-pub fn known_node(alloc: Global, known: &Known, word: &[u8]) -> Result<Option<Node>, AllocError>
+pub fn known_node(alloc: Global, known: &Known, word: &[u8]) -> Result<Option<NodeName>, AllocError>
     ensures read { IfOk result (λ found. is_some found ≡ is_good known.now [] Place.Node word.now) }
     ensures spelled { IfOk result (λ found. IfSome found (λ node. SpellsItem known.now [] (NodeOf node) word.now)) }
 {
@@ -178,7 +178,7 @@ pub fn known_node(alloc: Global, known: &Known, word: &[u8]) -> Result<Option<No
 }
 
 /// The same, where it has no seed.
-pub fn unseeded(alloc: Global, known: &Known, word: &[u8]) -> Result<Option<Node>, AllocError>
+pub fn unseeded(alloc: Global, known: &Known, word: &[u8]) -> Result<Option<NodeName>, AllocError>
     ensures read { IfOk result (λ found. is_some found ≡ is_good known.now [] Place.Unseeded word.now) }
     ensures spelled { IfOk result (λ found. IfSome found (λ node. SpellsItem known.now [] (UnseededOf node) word.now)) }
 {

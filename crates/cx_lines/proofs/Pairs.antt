@@ -4,7 +4,7 @@ use Rattle.std.specs.Prelude.{◌&&◌}
 use Rattle.std.proofs.lemmas.Bool.{and_parts}
 use Rattle.std.proofs.lemmas.List.{drop_more, map_more}
 use Rattle.cx_base.specs.Names.{Name}
-use Rattle.cx_lines.specs.declared.entity.Grant.{Grant}
+use Rattle.cx_base.specs.declared.grants.Grant.{Grant}
 use Rattle.cx_lines.specs.declared.settings.SettingForm.TheVariants as form
 use Rattle.cx_lines.specs.Settings.{grant_items, pair_places, setting_places}
 use Rattle.cx_line_words.specs.declared.known.Known.{Known}

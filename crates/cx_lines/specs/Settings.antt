@@ -6,7 +6,7 @@ use Rattle.cx_line_words.specs.declared.places.Place.{Place}
 use Rattle.cx_line_words.specs.declared.places.Place.TheVariants as at
 use Rattle.cx_line_words.specs.Choices.{chosen}
 use Rattle.cx_line_words.specs.Values.{Item, LifeOf, NumberOf, EntityOf, ServiceOf, CapsOf, UnmodedOf, UnleakedOf, UnseededOf, ModesOf}
-use Rattle.cx_lines.specs.declared.entity.Grant.{Grant}
+use Rattle.cx_base.specs.declared.grants.Grant.{Grant}
 use Rattle.cx_lines.specs.declared.settings.Setting.{Setting}
 use Rattle.cx_lines.specs.declared.settings.Setting.TheVariants.{Lifetime, AuthLifetime, Entity, Seed, Modes, Leak}
 use Rattle.cx_lines.specs.declared.settings.SettingForm.{SettingForm}

@@ -9,27 +9,10 @@ ghost use Rattle.cx_lines.specs.Settings.{entity_places, pair_places, IsSetting}
 ghost use Rattle.cx_lines.specs.declared.settings.SettingForm.{SettingForm};
 
 use crate::settings::Setting;
-use cx_base::{Duplicate, EntityType, Items, Text};
+use cx_base::{Grant, Items};
 use cx_line_words::{Known, Place, new_entity, new_service};
 use cx_words::caps;
 use std::alloc::{AllocError, Global};
-
-/// The caps text that an entity has for a service.
-#[derive(Debug, PartialEq, Eq, Drop)]
-pub struct Grant {
-    pub service: EntityType,
-    pub caps: Text,
-}
-
-impl Duplicate for Grant {
-    fn copy(&self, alloc: Global) -> Result<Grant, AllocError> {
-        let caps = self.caps.copy(alloc)?;
-        Ok(Grant {
-            service: self.service,
-            caps,
-        })
-    }
-}
 
 /// The places behind `entity`, where these words stand there.
 pub fn entity_places(alloc: Global, words: &[&[u8]]) -> Result<Vec<Place>, AllocError>

@@ -15,7 +15,6 @@ mod settings;
 mod sight;
 
 pub use commands::Command;
-pub use entity::Grant;
 pub use grammar::line_laws;
 pub use knowing::note;
 pub use lines::{Head, Line, Numbered};

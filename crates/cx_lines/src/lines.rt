@@ -4,7 +4,6 @@ ghost use Rattle.std.specs.Prelude.{ℕ, ◌≡◌, ◌∷◌, [], ◌++◌, Lis
 ghost use Rattle.cx_lines.specs.Lines.{anything, do_places, form_of, head_of, head_word, places, IsDo, IsLine};
 
 use crate::commands::{Command, command_of, command_places};
-use crate::entity::Grant;
 use crate::link_steps::{LinkForm, LinkStep, link_places, link_step_named, link_step_of};
 use crate::node_steps::{NodeForm, NodeStep, node_places, node_step_named, node_step_of};
 use crate::settings::{Setting, SettingForm, setting_named, setting_of, setting_places};
@@ -206,7 +205,6 @@ impl Duplicate for Numbered {
 
 // Each of these goes to another thread, and is seen by several.
 fn are_sendable() {
-    is_sendable::<Grant>();
     is_sendable::<Line>();
     is_sendable::<Numbered>();
     is_sendable::<Head>();

@@ -5,7 +5,7 @@ ghost use Rattle.cx_lines.specs.NodeSteps.{node_form, node_form_of, node_places,
 ghost use Rattle.cx_lines.specs.declared.node_steps.NodeForm.{NodeForm};
 
 use cx_base::{Duplicate, EntityName, Reading};
-use cx_line_words::{Known, LeftState, Node, Place, daemon, known_node, state_named};
+use cx_line_words::{Known, LeftState, Place, daemon, known_node, state_named};
 use cx_words::{is_word, number, reading};
 use std::alloc::{AllocError, Global};
 
@@ -15,13 +15,13 @@ pub enum NodeStep {
     /// All clocks read this from here on, below 4,000,000,000 s.
     Clock(Reading),
     /// The clock of one node does.
-    ClockOf(Node, Reading),
+    ClockOf(NodeName, Reading),
     /// A daemon drops its session of this number.
     DropSession(EntityName, u64),
     /// A node is told that time has passed.
-    Tick(Node),
+    Tick(NodeName),
     /// A node starts again.
-    Restart(Node),
+    Restart(NodeName),
     /// The monitor's next save fails, and leaves this state.
     FailSave(LeftState),
     /// All that is in flight arrives, and all that this sends.

@@ -4,9 +4,9 @@ ghost use Rattle.std.specs.Prelude.{◌≡◌, ◌∷◌, [], map, IfOk, IfSome}
 ghost use Rattle.cx_lines.specs.Settings.{setting_form, setting_form_of, setting_places, setting_word, IsSetting};
 ghost use Rattle.cx_lines.specs.declared.settings.SettingForm.{SettingForm};
 
-use crate::entity::{Grant, entity_of, entity_places};
-use cx_base::{Duplicate, EntityName, Items, copy_items};
-use cx_line_words::{Known, Modes, Node, Place, life, modes_named, unleaked, unmoded, unseeded};
+use crate::entity::{entity_of, entity_places};
+use cx_base::{Duplicate, EntityName, Grant, Items, NodeName, copy_items};
+use cx_line_words::{Known, Modes, Place, life, modes_named, unleaked, unmoded, unseeded};
 use cx_words::{is_word, number};
 use std::alloc::{AllocError, Global};
 
@@ -20,7 +20,7 @@ pub enum Setting {
     /// An entity and its caps, each for another service.
     Entity(EntityName, Items<Grant>),
     /// The seed of a node's draws.
-    Seed(Node, u64),
+    Seed(NodeName, u64),
     /// The modes that a client offers.
     Modes(EntityName, Modes),
     /// A client whose secret is known to whoever wrote the schedule.

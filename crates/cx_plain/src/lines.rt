@@ -4,8 +4,8 @@ ghost use Rattle.std.specs.Prelude.{◌≡◌, true, Some, IfOk, IfSome, IsTrue}
 ghost use Rattle.cx_lines.specs.Lines.{is_in_range};
 ghost use Rattle.cx_plain.specs.PlainLines.{is_plain_in_range, plain_of, plain_command};
 
-use cx_base::{Duplicate, EntityName, EntityType, Items, Operation, Reading, copy_items};
-use cx_lines::{Command, Grant, Line, NodeStep, Setting};
+use cx_base::{Duplicate, EntityName, EntityType, Grant, Items, Operation, Reading, copy_items};
+use cx_lines::{Command, Line, NodeStep, Setting};
 use std::alloc::{AllocError, Global};
 use std::fmt;
 

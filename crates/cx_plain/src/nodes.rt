@@ -6,9 +6,8 @@ ghost use Rattle.cx_plain.specs.Changes.{changed};
 ghost use Rattle.cx_plain.specs.Nodes.{is_named, is_with, new_node};
 
 use crate::wallets::Wallet;
-use cx_base::{EntityName, Items};
+use cx_base::{EntityName, Grant, Items};
 use cx_caps::CapText;
-use cx_lines::Grant;
 use cx_rotate::{Generations, View};
 use std::alloc::{AllocError, Global};
 use std::marker::Model;

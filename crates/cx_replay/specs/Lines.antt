@@ -7,9 +7,9 @@ use Rattle.cx_lines.specs.declared.lines.Line.{Line}
 use Rattle.cx_lines.specs.declared.lines.Line.TheVariants as line
 use Rattle.cx_lines.specs.declared.lines.Numbered.{Numbered}
 use Rattle.cx_lines.specs.declared.node_steps.NodeStep.TheVariants as step
-use Rattle.cx_line_words.specs.declared.nodes.Node.{Node}
-use Rattle.cx_line_words.specs.declared.nodes.Node.TheVariants as place
-use Rattle.cx_line_words.specs.Known.{is_daemon_kind}
+use Rattle.cx_base.specs.declared.nodes.NodeName.{NodeName}
+use Rattle.cx_base.specs.declared.nodes.NodeName.TheVariants as place
+use Rattle.cx_base.specs.Names.{is_daemon_type}
 
 -- a fetch, connect or send line, which only the plain run serves yet
 abbrev pub is_daemon_line : Line → Bool
@@ -26,9 +26,9 @@ abbrev pub is_ahead_do : Command → Bool
 is_ahead_do (command.Login client services) = false
 is_ahead_do _ = true
 
-abbrev pub is_daemon_node : Node → Bool
+abbrev pub is_daemon_node : NodeName → Bool
 is_daemon_node place.Monitor = false
-is_daemon_node (place.Entity name) = is_daemon_kind name.kind
+is_daemon_node (place.Entity name) = is_daemon_type name.kind
 
 -- a line that the run through bytes doesn't serve yet: a renewal, another command than a login behind do, the end of a session, a tick, the
 -- restart of a daemon

@@ -2,11 +2,9 @@
 
 ghost use Rattle.std.specs.Prelude.{◌≡◌};
 ghost use Rattle.std.specs.List.{list_any};
-ghost use Rattle.cx_line_words.specs.Known.{is_daemon_kind};
 ghost use Rattle.cx_replay.specs.Lines.{first_ahead, has_daemon_line, is_ahead, is_ahead_do, is_daemon_line, is_daemon_node};
 
-use cx_base::EntityType;
-use cx_line_words::Node;
+use cx_base::NodeName;
 use cx_lines::{Command, Line, NodeStep, Numbered};
 
 /// Whether a fetch, connect or send line is among these.
@@ -78,17 +76,11 @@ fn is_ahead_do(command: &Command) -> bool
     }
 }
 
-fn is_daemon_node(node: &Node) -> bool
+fn is_daemon_node(node: &NodeName) -> bool
     ensures { result ≡ is_daemon_node node.now }
 {
     match node {
-        Node::Monitor => false,
-        Node::Entity(name) => is_daemon_kind(name.kind),
+        NodeName::Monitor => false,
+        NodeName::Entity(name) => name.kind.is_daemon(),
     }
-}
-
-fn is_daemon_kind(kind: EntityType) -> bool
-    ensures { result ≡ is_daemon_kind kind }
-{
-    kind.is(EntityType::Mds) || kind.is(EntityType::Osd) || kind.is(EntityType::Mgr)
 }

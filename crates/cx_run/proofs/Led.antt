@@ -1,8 +1,8 @@
 -- The nodes of a world are those to which its events lead: each thing that is done to a world keeps that.
 use Rattle.std.proofs.Common.{◌≡◌, ℕ, ◌==◌, Bool, true, false, List, [], ◌∷◌, ◌++◌, Option, Some, None, refl, ap}
 use Rattle.std.specs.Prelude.{filter, length, replicate, if◌then◌else◌}
-use Rattle.cx_journal.specs.declared.node_names.NodeName.{NodeName}
-use Rattle.cx_journal.specs.declared.node_names.NodeName.TheVariants as node
+use Rattle.cx_base.specs.declared.nodes.NodeName.{NodeName}
+use Rattle.cx_base.specs.declared.nodes.NodeName.TheVariants as node
 use Rattle.cx_lines.specs.declared.commands.Command.{Command}
 use Rattle.cx_lines.specs.declared.commands.Command.TheVariants as command
 use Rattle.cx_lines.specs.declared.lines.Line.{Line}
@@ -21,7 +21,7 @@ use Rattle.cx_run.specs.Happenings.{Happening, Nodes, nodes_behind, steps}
 use Rattle.cx_run.specs.Wires.{Wire, end_of, ended, gone_at, has_end, node_at, other, owes_gone, pieces_from, wire_of, with_pieces, with_wire}
 use Rattle.cx_run.specs.Worlds.{Seat, World, carried, happening, opened_wires, seat_of}
 use Rattle.cx_run.specs.Deliveries.{Given, arrives, arrives_from, came_at, comes, delivers, delivers_on, delivers_piece, drains, drains_side, far_side, first_of, followed, given, gives, gone_arrives, open_all, opens, restarts, round, rounds, settles, stay, tells, tells_gone, turns, under_way, vanish}
-use Rattle.cx_run.specs.Schedules.{acts_on, after_line, after_lines, arrives_again, cuts, ever_sent, injects, loses, node_in, on_link, on_node, services_sum, submits, submitted, without_first}
+use Rattle.cx_run.specs.Schedules.{acts_on, after_line, after_lines, arrives_again, cuts, ever_sent, injects, loses, on_link, on_node, services_sum, submits, submitted, without_first}
 
 led-append : (start : Nodes) (hs : List Happening) (h : Happening) → nodes_behind start (hs ++ h ∷ []) ≡ (steps (nodes_behind start hs) h).nodes
 led-append start [] h = refl
@@ -193,7 +193,7 @@ module _ (start : Nodes) where
   led-on_node : (w : World) (s : NodeStep) → Led start w → Led start (on_node w s)
   led-on_node w (step.Clock reading) k = led-like w (on_node w (step.Clock reading)) refl refl k
   led-on_node w (step.ClockOf who reading) k = led-like w (on_node w (step.ClockOf who reading)) refl refl k
-  led-on_node w (step.Restart who) k = led-restarts w (node_in who) k
+  led-on_node w (step.Restart who) k = led-restarts w who k
   led-on_node w (step.FailSave left) k = led-like w (on_node w (step.FailSave left)) refl refl k
   led-on_node w step.Settle k = led-settles w k
   led-on_node w (step.DropSession daemon number) k = k

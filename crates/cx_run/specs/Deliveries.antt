@@ -1,7 +1,7 @@
 -- What comes to a node, and all that follows at once: turns, links that open, a save that fails, a restart.
 use Rattle.std.specs.Prelude.{ℕ, ◌==◌, Bool, false, List, [], ◌∷◌, ◌++◌, drop, filter, length, replicate, take, Option, Some, None, if◌then◌else◌}
-use Rattle.cx_journal.specs.declared.node_names.NodeName.{NodeName}
-use Rattle.cx_journal.specs.declared.node_names.NodeName.TheVariants as node
+use Rattle.cx_base.specs.declared.nodes.NodeName.{NodeName}
+use Rattle.cx_base.specs.declared.nodes.NodeName.TheVariants as node
 use Rattle.cx_line_words.specs.declared.choices.Side.{Side}
 use Rattle.cx_line_words.specs.declared.choices.Side.TheVariants.{Connector, Acceptor}
 use Rattle.cx_rules.specs.ClientRule.{ClientNode}

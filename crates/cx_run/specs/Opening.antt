@@ -6,9 +6,9 @@ use Rattle.cx_base.specs.declared.addresses.Addr.{Addr}
 use Rattle.cx_base.specs.declared.kinds.EntityType.TheVariants.{Client}
 use Rattle.cx_dice.specs.Rolls.{seed_draw}
 use Rattle.cx_journal.specs.declared.entries.Entry.TheVariants as entry
-use Rattle.cx_journal.specs.declared.node_names.NodeName.TheVariants as node
+use Rattle.cx_base.specs.declared.nodes.NodeName.TheVariants as node
 use Rattle.cx_keyring.specs.declared.entries.Entry.{Entry as Principal}
-use Rattle.cx_lines.specs.declared.entity.Grant.{Grant}
+use Rattle.cx_base.specs.declared.grants.Grant.{Grant}
 use Rattle.cx_lines.specs.declared.lines.Line.{Line}
 use Rattle.cx_lines.specs.declared.lines.Line.TheVariants as line
 use Rattle.cx_lines.specs.declared.lines.Numbered.{Numbered}
@@ -16,8 +16,8 @@ use Rattle.cx_lines.specs.declared.settings.Setting.{Setting}
 use Rattle.cx_lines.specs.declared.settings.Setting.TheVariants as setting
 use Rattle.cx_line_words.specs.declared.choices.Modes.{Modes}
 use Rattle.cx_line_words.specs.declared.choices.Modes.TheVariants.{Crc, Secure, Both}
-use Rattle.cx_line_words.specs.declared.nodes.Node.{Node}
-use Rattle.cx_line_words.specs.declared.nodes.Node.TheVariants as place
+use Rattle.cx_base.specs.declared.nodes.NodeName.{NodeName}
+use Rattle.cx_base.specs.declared.nodes.NodeName.TheVariants as place
 use Rattle.cx_rotate.specs.declared.states.KeptState.{KeptState}
 use Rattle.cx_rules.specs.ClientRule.{ClientNode, opening_client}
 use Rattle.cx_rules.specs.Holdings.{Asker, holds_nothing, modes_of}
@@ -62,7 +62,7 @@ plain_setup = record { life = 3600; auth_life = 43200; entities = []; monitor_se
 abbrev pub changed : Name → (Declared → Declared) → Setup → Setup
 changed name change setup = record setup { entities = map (λ e. if same_name e.name name then change e else e) setup.entities }
 
-abbrev pub seeded : Node → ℕ → Setup → Setup
+abbrev pub seeded : NodeName → ℕ → Setup → Setup
 seeded place.Monitor seed setup = record setup { monitor_seed = seed }
 seeded (place.Entity name) seed setup = changed name (λ e. record e { seed = Some seed }) setup
 
@@ -103,7 +103,7 @@ abbrev pub principal_of : Declared → Principal
 principal_of e = record {
   name = e.name;
   key = record { created = record { secs = 0; nanos = 0 }; secret = secret_of e };
-  caps = map (λ grant. record { service = grant.service; caps = grant.caps }) e.grants;
+  caps = e.grants;
 }
 
 -- the state with which the monitor begins

@@ -3,8 +3,8 @@ use Rattle.std.specs.Prelude.{ℕ, zero, suc, List, [], ◌∷◌, map, sum_by, 
 use Rattle.std.specs.List.{slice_get}
 use Rattle.cx_base.specs.declared.kinds.EntityType.{EntityType}
 use Rattle.cx_enc.specs.Values.{number_of}
-use Rattle.cx_journal.specs.declared.node_names.NodeName.{NodeName}
-use Rattle.cx_journal.specs.declared.node_names.NodeName.TheVariants as node
+use Rattle.cx_base.specs.declared.nodes.NodeName.{NodeName}
+use Rattle.cx_base.specs.declared.nodes.NodeName.TheVariants as node
 use Rattle.cx_lines.specs.declared.commands.Command.{Command}
 use Rattle.cx_lines.specs.declared.commands.Command.TheVariants as command
 use Rattle.cx_lines.specs.declared.lines.Line.{Line}
@@ -16,8 +16,6 @@ use Rattle.cx_lines.specs.declared.node_steps.NodeStep.{NodeStep}
 use Rattle.cx_lines.specs.declared.node_steps.NodeStep.TheVariants as step
 use Rattle.cx_line_words.specs.declared.choices.Side.{Side}
 use Rattle.cx_line_words.specs.declared.choices.Side.TheVariants.{Connector, Acceptor}
-use Rattle.cx_line_words.specs.declared.nodes.Node.{Node}
-use Rattle.cx_line_words.specs.declared.nodes.Node.TheVariants as place
 use Rattle.cx_rules.specs.Inputs.{Submit}
 use Rattle.cx_steps.specs.declared.events.Command.TheVariants as told
 use Rattle.cx_run.specs.Deliveries.{arrives_from, comes, delivers, restarts, settles, tells_gone}
@@ -85,10 +83,6 @@ on_link w (link.Cut number) = cuts w (wire_of number w.wires)
 
 -- ---- nodes
 
-abbrev pub node_in : Node → NodeName
-node_in place.Monitor = node.Monitor
-node_in (place.Entity name) = node.Entity name
-
 abbrev pub all_read : ℕ → World → World
 all_read reading w = record w { seats = map (λ (seat : Seat). record seat { reading = reading }) w.seats }
 
@@ -98,8 +92,8 @@ one_reads who reading w =
 
 abbrev pub on_node : World → NodeStep → World
 on_node w (step.Clock reading) = all_read reading w
-on_node w (step.ClockOf who reading) = one_reads (node_in who) reading w
-on_node w (step.Restart who) = restarts w (node_in who)
+on_node w (step.ClockOf who reading) = one_reads who reading w
+on_node w (step.Restart who) = restarts w who
 on_node w (step.FailSave left) = record w { left = Some left }
 on_node w step.Settle = settles w
 on_node w (step.DropSession daemon number) = w

@@ -2,8 +2,8 @@
 -- here: what it sends goes under way, links are opened and shut.
 use Rattle.std.specs.Prelude.{ℕ, suc, List, [], ◌∷◌, ◌++◌, find, map, Option, Some, None, if◌then◌else◌}
 use Rattle.cx_dice.specs.Rolls.{seed_draw}
-use Rattle.cx_journal.specs.declared.node_names.NodeName.{NodeName}
-use Rattle.cx_journal.specs.declared.node_names.NodeName.TheVariants as node
+use Rattle.cx_base.specs.declared.nodes.NodeName.{NodeName}
+use Rattle.cx_base.specs.declared.nodes.NodeName.TheVariants as node
 use Rattle.cx_line_words.specs.declared.choices.LeftState.{LeftState}
 use Rattle.cx_rules.specs.Inputs.{Input}
 use Rattle.cx_steps.specs.declared.effects.Effects.{Effects}

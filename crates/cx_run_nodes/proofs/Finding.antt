@@ -8,7 +8,7 @@ use Rattle.cx_base.specs.declared.kinds.EntityType.{EntityType}
 use Rattle.cx_base.specs.declared.kinds.EntityType.TheVariants.{Client}
 use Rattle.cx_base.specs.Names.{Name, same_kind, same_name}
 use Rattle.cx_base.proofs.Names.{same_kind_is, same_name_is}
-use Rattle.cx_journal.specs.declared.node_names.NodeName.TheVariants as node
+use Rattle.cx_base.specs.declared.nodes.NodeName.TheVariants as node
 use Rattle.cx_run_nodes.specs.Held.{ClientStands, MemberStands, member_of}
 use Rattle.cx_run_nodes.specs.declared.members.Member.{Member}
 use Rattle.cx_rules.specs.ClientRule.{ClientNode, opening_client}

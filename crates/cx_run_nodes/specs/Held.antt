@@ -1,7 +1,7 @@
 -- The nodes of a run as the code holds them, and for which nodes and seats of the rules they stand.
 use Rattle.std.specs.Prelude.{ℕ, ◌≡◌, Bool, true, false, List, find, Option, Some, None}
 use Rattle.cx_base.specs.Names.{Name, same_name}
-use Rattle.cx_journal.specs.declared.node_names.NodeName.TheVariants as node
+use Rattle.cx_base.specs.declared.nodes.NodeName.TheVariants as node
 use Rattle.cx_rules.specs.Abridged.{ClientStandsFor, MonitorStandsFor}
 use Rattle.cx_rules.specs.ClientRule.{ClientNode}
 use Rattle.cx_run.specs.Deliveries.{Given}

@@ -2,7 +2,7 @@
 
 ghost use Rattle.std.specs.Prelude.{ℕ, ◌≡◌, ◌<◌, ◌+◌, [], ◌∷◌, ◌++◌, List, length, map, position, slice_get, Some, None, IfOk, OnOk, IfSome, IfNone};
 ghost use Rattle.cx_base.specs.Names.{same_name};
-ghost use Rattle.cx_journal.specs.declared.node_names.NodeName.TheVariants as node;
+ghost use Rattle.cx_base.specs.declared.nodes.NodeName.TheVariants as node;
 ghost use Rattle.cx_run_nodes.specs.Held.{IsGiven, StandFor, reads};
 ghost use Rattle.cx_run_nodes.specs.Seats.{IsOf};
 ghost use Rattle.cx_run_nodes.specs.Steps.{IsMonitorStep, IsSaved, monitor_made};
@@ -18,8 +18,7 @@ ghost use Rattle.cx_run.specs.Worlds.{Seat as RunSeat, World, seat_of};
 use crate::made::Made;
 use crate::members::Member;
 use crate::seats::Seat;
-use cx_base::{EntityName, Reading};
-use cx_journal::NodeName;
+use cx_base::{EntityName, NodeName, Reading};
 use cx_line_words::LeftState;
 use cx_mon::Monitor;
 use cx_steps::{Effects, Event};

@@ -1,7 +1,7 @@
 -- From the bytes of an input to the input.
 use Rattle.std.proofs.Common.{◌≡◌, ℕ, ◌≤◌, List, length, Option, Some, None, Result, Ok, Err, IfErr, arith, refl}
 use Rattle.std.proofs.Math.ListN.{drop_of_length-le}
-use Rattle.cx_schedule.specs.Files.{IsShort}
+use Rattle.cx_words.specs.Cutting.{IsShort}
 use Rattle.cx_top.specs.declared.commands.Command.{Command}
 use Rattle.cx_top.specs.declared.status.Status.{Status}
 use Rattle.cx_top.specs.declared.status.Status.TheVariants.{Done, Usage, BadSchedule, ReadFault, WriteFault, OutOfMemory, BadKeyring, Broken, TooLong, NotYet}

@@ -8,7 +8,8 @@ use Rattle.cx_keyring.specs.Rings.{KeyringText, IsKeyringCause}
 use Rattle.cx_lines.specs.declared.lines.Numbered.{Numbered}
 use Rattle.cx_replay.specs.Serving.{first_unserved}
 use Rattle.cx_schedule.specs.declared.refusals.ScheduleRefusal.TheVariants as schedule
-use Rattle.cx_schedule.specs.Files.{Lines, IsShort, IsScheduleCause}
+use Rattle.cx_schedule.specs.Files.{Lines, IsScheduleCause}
+use Rattle.cx_words.specs.Cutting.{IsShort}
 use Rattle.cx_top.specs.declared.commands.Command.{Command}
 use Rattle.cx_top.specs.declared.commands.Command.TheVariants.{Replay, Keyring}
 use Rattle.cx_top.specs.declared.status.Status.{Status}

@@ -4,7 +4,7 @@ use Rattle.cx_base.specs.Streams.{Takes, TakesFront}
 use Rattle.cx_desk.specs.Handlers.{Handlers}
 use Rattle.cx_keyring.specs.declared.entries.Entry.{Entry}
 use Rattle.cx_keyring.specs.Rings.{KeyringText, printed_keyring}
-use Rattle.cx_schedule.specs.Files.{IsShort}
+use Rattle.cx_words.specs.Cutting.{IsShort}
 use Rattle.cx_top.specs.declared.commands.Command.{Command}
 use Rattle.cx_top.specs.declared.commands.Command.TheVariants.{Replay, Keyring}
 use Rattle.cx_top.specs.Replays.{GaveAll, Replays}

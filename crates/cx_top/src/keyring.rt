@@ -10,7 +10,7 @@ ghost use Rattle.cx_top.specs.declared.status.Status.{Status};
 use crate::status::Status;
 use cx_base::Blob;
 use cx_keyring::{parse, print};
-use cx_schedule::is_short;
+use cx_words::is_short;
 use std::alloc::Global;
 
 /// The printed form of the keyring that these bytes are.

@@ -3,8 +3,8 @@ use Rattle.std.proofs.Common.{◌≡◌, ℕ, ◌+◌, ◌<◌, Bool, true, fals
 use Rattle.std.proofs.lemmas.List.{length-append, length-map, take_more}
 use Rattle.cx_world.specs.Events.{opens_to}
 use Rattle.cx_base.specs.Names.{Name}
-use Rattle.cx_journal.specs.declared.node_names.NodeName.{NodeName}
-use Rattle.cx_journal.specs.declared.node_names.NodeName.TheVariants as node
+use Rattle.cx_base.specs.declared.nodes.NodeName.{NodeName}
+use Rattle.cx_base.specs.declared.nodes.NodeName.TheVariants as node
 use Rattle.cx_line_words.specs.declared.choices.LeftState.{LeftState}
 use Rattle.cx_rules.specs.ClientRule.{ClientNode, client_rule, loses}
 use Rattle.cx_rules.specs.Connector.{Stage}

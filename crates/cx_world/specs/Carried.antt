@@ -2,7 +2,7 @@
 use Rattle.std.specs.Prelude.{ℕ, ◌≡◌, ◌≤◌, ◌==◌, ◌||◌, not, Bool, List, ◌++◌, length, map, Option, Some, None}
 use Rattle.cx_base.specs.Names.{Name}
 use Rattle.cx_journal.specs.declared.entries.Entry.{Entry}
-use Rattle.cx_journal.specs.declared.node_names.NodeName.{NodeName}
+use Rattle.cx_base.specs.declared.nodes.NodeName.{NodeName}
 use Rattle.cx_run_nodes.specs.Held.{StandFor}
 use Rattle.cx_run_nodes.specs.declared.made.Made.{Made}
 use Rattle.cx_premises.specs.Ledgers.{StandsFor}

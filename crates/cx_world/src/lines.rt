@@ -2,7 +2,7 @@
 
 ghost use Rattle.std.specs.Prelude.{◌≡◌, ℕ, Option, IfOk, IsTrue, OnOk};
 ghost use Rattle.cx_rules.specs.Inputs.{Submit};
-ghost use Rattle.cx_journal.specs.declared.node_names.NodeName.TheVariants as node;
+ghost use Rattle.cx_base.specs.declared.nodes.NodeName.TheVariants as node;
 ghost use Rattle.cx_lines.specs.Lines.{is_in_range, is_numbered_in_range};
 ghost use Rattle.cx_lines.specs.declared.commands.Command.TheVariants as command;
 ghost use Rattle.cx_run.specs.Schedules.{acts_on, after_line, services_sum, submits, submitted};
@@ -10,9 +10,8 @@ ghost use Rattle.cx_run.specs.Worlds.{World as RunWorld};
 ghost use Rattle.cx_world.specs.Carried.{Began, Carries, Makes, MakesAlone};
 
 use crate::world::World;
-use cx_base::{Duplicate, EntityName, EntityType};
+use cx_base::{Duplicate, EntityName, EntityType, NodeName};
 use cx_enc::number_of;
-use cx_journal::NodeName;
 use cx_lines::{Command, Line, Numbered};
 use cx_steps::{Command as Told, Event};
 use std::alloc::{AllocError, Global};
