@@ -19,7 +19,7 @@ use std::alloc::Global;
 use std::marker::Model;
 
 /// The monitor's key server: the entities of its keyring, and the state that it keeps.
-#[derive(Debug, Drop)]
+#[derive(Drop)]
 pub struct KeyServer {
     ring: Keyring,
     state: KeptState,

@@ -7,7 +7,7 @@ use crate::sight::Shown;
 
 /// The kind of value that stands at a place of a line.
 #[derive(Clone, Copy, Debug, PartialEq, Eq)]
-pub enum Place {
+pub enum WordPlace {
     /// Seconds of a lifetime.
     Life,
     /// A reading of a clock.
@@ -58,7 +58,7 @@ pub enum Place {
 
 // Each of these goes to another thread, and is seen by several.
 fn are_sendable() {
-    is_sendable::<Place>();
+    is_sendable::<WordPlace>();
     is_sendable::<FaultAt>();
     is_sendable::<Shown>();
     is_sendable::<Known>();

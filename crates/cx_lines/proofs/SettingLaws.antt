@@ -2,7 +2,7 @@
 use Rattle.std.proofs.Common.{◌≡◌, ℕ, List, [], ◌∷◌, ◌++◌, map, Option, Some, None, refl, ap}
 use Rattle.std.specs.Option.{option_map}
 use Rattle.cx_line_words.specs.declared.known.Known.{Known}
-use Rattle.cx_line_words.specs.declared.places.Place.TheVariants as at
+use Rattle.cx_line_words.specs.declared.places.WordPlace.TheVariants as at
 use Rattle.cx_line_words.specs.Values.{Item, LifeOf, NumberOf, EntityOf, ServiceOf, CapsOf, UnmodedOf, UnleakedOf, UnseededOf, ModesOf, SpellsItems}
 use Rattle.cx_line_words.proofs.ChoiceLemmas.{chosen-is}
 use Rattle.cx_line_words.proofs.ValueLemmas.{Values, place_of}

@@ -14,7 +14,7 @@ use std::marker::Model;
 
 /// How far a session is.
 #[derive(Clone, Copy)]
-pub(crate) struct Place {
+pub(crate) struct SessionPlace {
     /// The daemon's number of the session, from 1.
     pub number: u64,
     pub cookie: u64,
@@ -26,7 +26,7 @@ pub(crate) struct Place {
 #[derive(Drop)]
 pub(crate) struct Session {
     pub daemon: EntityName,
-    pub place: Place,
+    pub place: SessionPlace,
     /// The capability text of the ticket that it was admitted on.
     pub caps: CapText,
 }

@@ -1,8 +1,8 @@
 -- Which lines a run serves.
 use Rattle.std.specs.Prelude.{ℕ, Bool, true, false, List, [], ◌∷◌, Option, Some, None, if◌then◌else◌}
 use Rattle.std.specs.List.{list_any}
-use Rattle.cx_lines.specs.declared.commands.Command.{Command}
-use Rattle.cx_lines.specs.declared.commands.Command.TheVariants as command
+use Rattle.cx_lines.specs.declared.commands.LineCommand.{LineCommand}
+use Rattle.cx_lines.specs.declared.commands.LineCommand.TheVariants as command
 use Rattle.cx_lines.specs.declared.lines.Line.{Line}
 use Rattle.cx_lines.specs.declared.lines.Line.TheVariants as line
 use Rattle.cx_lines.specs.declared.lines.Numbered.{Numbered}
@@ -22,7 +22,7 @@ abbrev pub has_daemon_line : List Numbered → Bool
 has_daemon_line lines = list_any (λ numbered. is_daemon_line numbered.line) lines
 
 -- no login behind do
-abbrev pub is_ahead_do : Command → Bool
+abbrev pub is_ahead_do : LineCommand → Bool
 is_ahead_do (command.Login client services) = false
 is_ahead_do _ = true
 

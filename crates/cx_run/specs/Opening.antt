@@ -27,7 +27,7 @@ use Rattle.cx_steps.specs.declared.seals.DrawMark.TheVariants as draw
 use Rattle.cx_steps.specs.declared.seals.Logged.{Logged}
 use Rattle.cx_steps.specs.declared.seals.SealEntry.TheVariants as seal
 use Rattle.cx_run.specs.Happenings.{Entered, Nodes}
-use Rattle.cx_run.specs.Worlds.{Seat, World}
+use Rattle.cx_run.specs.Worlds.{Post, World}
 
 -- ---- what head lines say
 
@@ -137,15 +137,15 @@ abbrev pub nodes_of : Setup → Nodes
 nodes_of setup = record { monitor = monitor_of setup; clients = flat_map client_in setup.entities }
 
 -- the seed of an entity's dice is its number, where none is told
-abbrev pub seat_for : Declared → Seat
-seat_for e = record { node = node.Entity e.name; reading = 0; seed = unwrap_or e.seed e.number; rolled = 0 }
+abbrev pub post_for : Declared → Post
+post_for e = record { node = node.Entity e.name; reading = 0; seed = unwrap_or e.seed e.number; rolled = 0 }
 
-abbrev pub seats_of : Setup → List Seat
-seats_of setup = record { node = node.Monitor; reading = 0; seed = setup.monitor_seed; rolled = 0 } ∷ map seat_for setup.entities
+abbrev pub posts_of : Setup → List Post
+posts_of setup = record { node = node.Monitor; reading = 0; seed = setup.monitor_seed; rolled = 0 } ∷ map post_for setup.entities
 
 -- the world before anything happened
 abbrev pub opening_world : Setup → World
-opening_world setup = record { nodes = nodes_of setup; seats = seats_of setup; wires = []; left = None; line = 0; past = [] }
+opening_world setup = record { nodes = nodes_of setup; posts = posts_of setup; wires = []; left = None; line = 0; past = [] }
 
 -- ---- what stands in journal and log before all events
 

@@ -7,7 +7,7 @@ ghost use Rattle.cx_rules.specs.Holdings.{modes_of};
 use crate::secrets::secret_of_seed;
 use cx_base::{Addr, Duplicate, EntityName, Grant, Items, copy_items};
 use cx_enc::{Key, Time};
-use cx_holdings::Modes as Offered;
+use cx_holdings::OfferedModes;
 use cx_keyring::Entry;
 use cx_line_words::Modes;
 use std::alloc::{AllocError, Global};
@@ -66,19 +66,19 @@ impl Declared {
     }
 
     /// The modes that it offers.
-    pub fn offered(&self) -> Offered
+    pub fn offered(&self) -> OfferedModes
         ensures { modes_of result.crc result.secure ≡ modes_in self.now.modes }
     {
         match self.modes {
-            Modes::Crc => Offered {
+            Modes::Crc => OfferedModes {
                 crc: true,
                 secure: false,
             },
-            Modes::Secure => Offered {
+            Modes::Secure => OfferedModes {
                 crc: false,
                 secure: true,
             },
-            Modes::Both => Offered {
+            Modes::Both => OfferedModes {
                 crc: true,
                 secure: true,
             },

@@ -10,7 +10,7 @@ ghost use Rattle.cx_run_head.specs.Beginning.{CanBegin, IsSchedule, MayFollow, M
 
 use crate::declared::Declared;
 use crate::leaks::Leak;
-use crate::places::Places;
+use crate::places::NamePlaces;
 use cx_base::{Duplicate, EntityName, Grant, Items, NodeName, copy_items};
 use cx_line_words::Modes;
 use cx_lines::{Line, Numbered, Setting};
@@ -25,7 +25,7 @@ pub struct Setup {
     pub(crate) entities: Vec<Declared>,
     pub(crate) monitor_seed: u64,
     pub(crate) leaks: Items<Leak>,
-    places: Places,
+    places: NamePlaces,
 }
 
 impl Model for Setup {
@@ -83,7 +83,7 @@ impl Setup {
             entities: Vec::new(alloc),
             monitor_seed: 0,
             leaks: Items::new(alloc),
-            places: Places::new(alloc),
+            places: NamePlaces::new(alloc),
         }
     }
 

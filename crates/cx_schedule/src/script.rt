@@ -19,7 +19,7 @@ use std::alloc::{AllocError, Global};
 use std::marker::Model;
 
 /// A schedule: its lines in order with their numbers, without those that are empty or comments.
-#[derive(Debug, Drop)]
+#[derive(Drop)]
 pub struct Script {
     lines: Items<Numbered>,
 }

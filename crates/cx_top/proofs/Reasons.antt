@@ -11,7 +11,7 @@ use Rattle.cx_schedule.specs.Files as files
 use Rattle.cx_schedule.specs.declared.refusals.ScheduleRefusal.{ScheduleRefusal}
 use Rattle.cx_schedule.specs.declared.refusals.ScheduleRefusal.TheVariants as schedule
 use Rattle.cx_words.specs.Cutting.{IsShort}
-use Rattle.cx_top.specs.declared.commands.Command.TheVariants.{Replay, Keyring}
+use Rattle.cx_top.specs.declared.commands.Subcommand.TheVariants.{Replay, Keyring}
 use Rattle.cx_top.specs.declared.status.Status.{Status}
 use Rattle.cx_top.specs.declared.status.Status.TheVariants.{Done, Usage, BadSchedule, ReadFault, WriteFault, OutOfMemory, BadKeyring, Broken, TooLong, NotYet}
 use Rattle.cx_top.specs.Causes.{IsAnswered, IsBytesCause, IsReasonFor}

@@ -4,7 +4,7 @@ ghost use Rattle.std.specs.Prelude.{◌≡◌, IfOk, IfErr, MatchResult};
 ghost use Rattle.cx_top.specs.Causes.{IsAnswered, IsBytesCause, IsReasonFor};
 ghost use Rattle.cx_top.specs.Commands.{Prints};
 ghost use Rattle.cx_top.specs.Statuses.{IsOrMemory};
-ghost use Rattle.cx_top.specs.declared.commands.Command.TheVariants.{Keyring};
+ghost use Rattle.cx_top.specs.declared.commands.Subcommand.TheVariants.{Keyring};
 ghost use Rattle.cx_top.specs.declared.status.Status.{Status};
 
 use crate::status::Status;

@@ -34,7 +34,7 @@ HasStirred stirred (Some seen) past = (seen ≤ length past) × (stirred ≡ not
 
 -- the code carries this world of a run that began so, and tells whether something happened since there were so many events
 pub record Carries (b : Began) (seen : Option ℕ) (held : Held) (w : World) : Type 0 where
-  pub nodes : StandFor held.nodes w.nodes w.seats
+  pub nodes : StandFor held.nodes w.nodes w.posts
   pub led : w.nodes ≡ nodes_behind b.nodes w.past
   pub wires : held.wires ≡ w.wires
   pub left : held.left ≡ w.left
