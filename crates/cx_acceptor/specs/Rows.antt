@@ -8,7 +8,7 @@ use Rattle.cx_frame.specs.declared.frame.Frame.{Frame}
 use Rattle.cx_mon_grants.specs.declared.verdicts.Verdict.{Verdict}
 use Rattle.cx_mon_grants.specs.declared.verdicts.Verdict.TheVariants as verdict
 use Rattle.cx_journal.specs.declared.faults.LoginFault.TheVariants as login
-use Rattle.cx_journal.specs.declared.node_names.NodeName.TheVariants as node
+use Rattle.cx_base.specs.declared.nodes.NodeName.TheVariants as node
 use Rattle.cx_journal.specs.declared.outcomes.Reason.TheVariants.{LinksFull}
 use Rattle.cx_login.specs.Monitor.{Offer}
 use Rattle.cx_node.specs.declared.rows.Row.{Row as Made}

@@ -9,10 +9,10 @@ ghost use Rattle.cx_acceptor.specs.Rows.{arrived, due, made_row, opening};
 
 use crate::links::Stage;
 use crate::own::Own;
-use cx_base::{Addr, Blob, EntityType, Items};
+use cx_base::{Addr, Blob, EntityType, Items, NodeName};
 use cx_control::Hello;
 use cx_ends::{Moment, send_plain};
-use cx_journal::{BytesFault, NodeName, Reason};
+use cx_journal::{BytesFault, Reason};
 use cx_link::{BannerLink, PlainLink, own_banner};
 use cx_node::{Row, goes_on, refuses, refuses_bytes};
 use std::alloc::{AllocError, Global};

@@ -10,11 +10,11 @@ ghost use Rattle.cx_acceptor.specs.Stages.{awaiting_ident};
 
 use crate::links::{Entity, Stage};
 use crate::own::Own;
-use cx_base::{Blob, Items};
+use cx_base::{Blob, Items, NodeName};
 use cx_control::{ClientIdent, IdentMissingFeatures, ServerIdent, SessionReconnect, SessionReset};
 use cx_ends::{Moment, send_secure};
 use cx_frame::Frame;
-use cx_journal::{BytesFault, NodeName};
+use cx_journal::BytesFault;
 use cx_link::SecureLink;
 use cx_node::{Row, goes_on, payload, refuses_bytes};
 use std::alloc::{AllocError, Global};

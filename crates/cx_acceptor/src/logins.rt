@@ -14,12 +14,12 @@ ghost use Rattle.cx_acceptor.specs.Stages.{awaiting_proof};
 
 use crate::links::{Entity, Stage};
 use crate::own::Own;
-use cx_base::{Blob, Items};
+use cx_base::{Blob, Items, NodeName};
 use cx_control::{AuthReplyMore, AuthRequestMore};
 use cx_enc::{Key, write_whole};
 use cx_ends::{Moment, log_behind, send_plain};
 use cx_frame::{Frame, Segment};
-use cx_journal::{BytesFault, LoginFault, NodeName};
+use cx_journal::{BytesFault, LoginFault};
 use cx_link::{Finished, LinkRefusal, PlainLink};
 use cx_login::{Offered, Proved};
 use cx_mon_grants::{HandedOut, Occasion, Verdict, granting_laws, log_in};

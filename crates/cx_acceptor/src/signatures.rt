@@ -8,10 +8,10 @@ ghost use Rattle.cx_acceptor.specs.Stages.{awaiting_signature};
 
 use crate::links::{Entity, Stage};
 use crate::own::Own;
-use cx_base::{Blob, Items};
+use cx_base::{Blob, Items, NodeName};
 use cx_control::AuthSignature;
 use cx_ends::Moment;
-use cx_journal::{BytesFault, LoginFault, NodeName, Reason};
+use cx_journal::{BytesFault, LoginFault, Reason};
 use cx_link::Signing;
 use cx_node::{Row, goes_on, refuses, refuses_bytes};
 use std::alloc::{AllocError, Global};

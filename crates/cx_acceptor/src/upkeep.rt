@@ -11,10 +11,9 @@ ghost use Rattle.cx_acceptor.specs.Stages.{open_link};
 
 use crate::links::{Entity, Stage};
 use crate::own::Own;
-use cx_base::Items;
+use cx_base::{Items, NodeName};
 use cx_ends::{Moment, upkept};
 use cx_frame::Frame;
-use cx_journal::NodeName;
 use cx_link::SecureLink;
 use cx_node::{Row, goes_on, refuses_bytes};
 use std::alloc::{AllocError, Global};

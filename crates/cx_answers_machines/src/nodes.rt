@@ -5,7 +5,7 @@ ghost use Rattle.cx_rotate.specs.Keeping.{IsKeptState, IsLife};
 use cx_base::{Addr, Blob, EntityName, EntityType, SECOND, Text, TextRefusal};
 use cx_client::Client;
 use cx_dice::{Dice, Draw, SeedDice};
-use cx_holdings::Modes;
+use cx_holdings::OfferedModes;
 use cx_keyring::{Keyring, KeyringRefusal, parse};
 use cx_keyserver::KeyServer;
 use cx_mon::Monitor;
@@ -150,8 +150,8 @@ pub fn client_of(alloc: Global, lines: &[u8], row: &str) -> Result<Option<Client
     }))
 }
 
-fn modes_of(words: &str) -> Modes {
-    let mut modes = Modes {
+fn modes_of(words: &str) -> OfferedModes {
+    let mut modes = OfferedModes {
         crc: false,
         secure: false,
     };

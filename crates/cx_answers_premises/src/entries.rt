@@ -1,7 +1,7 @@
 //! Entries of a log, as rows spell them.
 
 use crate::marks::{draw_of, mark_of};
-use cx_journal::NodeName;
+use cx_base::NodeName;
 use cx_steps::{Logged, SealEntry};
 use cx_words::name;
 use std::alloc::{AllocError, Global};

@@ -1,5 +1,6 @@
 pub mod Joined
 pub mod Names
+pub mod Nodes
 pub mod Owners
 pub mod Streams
 pub mod Texts

@@ -33,6 +33,13 @@ same_kind Mgr Mgr = true
 same_kind Auth Auth = true
 same_kind _ _ = false
 
+-- the types of daemons
+abbrev pub is_daemon_type : EntityType → Bool
+is_daemon_type Mds = true
+is_daemon_type Osd = true
+is_daemon_type Mgr = true
+is_daemon_type _ = false
+
 -- a letter, a digit, or one of _ - . : + /
 abbrev pub is_id_byte : ℕ → Bool
 is_id_byte b =

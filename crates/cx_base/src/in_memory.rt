@@ -9,7 +9,7 @@ use std::alloc::{AllocError, Global};
 use std::marker::Model;
 
 /// A source of these bytes. Its call number i, from 1, fails where `fails` holds the byte i, and gives nothing then.
-#[derive(Debug, Drop)]
+#[derive(Drop)]
 pub struct ByteSource {
     bytes: Blob,
     place: usize,
@@ -91,7 +91,7 @@ fn is_listed(fails: &[u8], call: u64) -> bool
 
 /// A sink with room for so many bytes, taken when it is made. Its call number i, from 1, fails and takes nothing where
 /// `fails` holds the byte i; a call whose bytes don't fit takes those that fit and fails.
-#[derive(Debug, Drop)]
+#[derive(Drop)]
 pub struct VecSink {
     taken: Vec<u8>,
     room: usize,

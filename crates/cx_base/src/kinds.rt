@@ -1,7 +1,7 @@
 //! The kinds of entities and of accesses.
 
 ghost use Rattle.std.specs.Prelude.{◌≡◌, IsTrue};
-ghost use Rattle.cx_base.specs.Names.{same_kind};
+ghost use Rattle.cx_base.specs.Names.{is_daemon_type, same_kind};
 
 use std::fmt;
 
@@ -29,6 +29,20 @@ impl EntityType {
             (EntityType::Mgr, EntityType::Mgr) => true,
             (EntityType::Auth, EntityType::Auth) => true,
             _ => false,
+        }
+    }
+
+    /// Whether it is a type of daemons: mds, osd or mgr.
+    pub fn is_daemon(self) -> bool
+        ensures { result ≡ is_daemon_type self }
+    {
+        match self {
+            EntityType::Mds => true,
+            EntityType::Osd => true,
+            EntityType::Mgr => true,
+            EntityType::Mon => false,
+            EntityType::Client => false,
+            EntityType::Auth => false,
         }
     }
 }

@@ -5,8 +5,10 @@
 mod addresses;
 mod copies;
 mod entity;
+mod grants;
 mod in_memory;
 mod kinds;
+mod nodes;
 mod operations;
 mod outside;
 mod owned;
@@ -17,14 +19,16 @@ mod texts;
 pub use addresses::Addr;
 pub use copies::{Duplicate, copy_items, copy_option};
 pub use entity::{BadName, EntityName, is_id};
+pub use grants::Grant;
 pub use in_memory::{ByteSource, VecSink};
 pub use kinds::{Access, EntityType};
+pub use nodes::NodeName;
 pub use operations::Operation;
 pub use outside::{Failed, Sink, Source};
 pub use owned::{Blob, Items, Text};
 pub use owner::Owner;
 pub use refusals::TextRefusal;
-pub use texts::{is_caps, is_long_part, is_part};
+pub use texts::{is_caps, is_caps_byte, is_long_part, is_part};
 
 /// A reading of a clock, in nanoseconds. A clock and a schedule stay below 4,000,000,000 s; an expiry may reach
 /// 4,294,967,295.999999999 s.
@@ -46,11 +50,10 @@ fn all_are_sendable() {
     is_sendable::<Access>();
     is_sendable::<Addr>();
     is_sendable::<Operation>();
+    is_sendable::<NodeName>();
+    is_sendable::<Grant>();
     is_sendable::<TextRefusal>();
     is_sendable::<Failed>();
     is_sendable::<ByteSource>();
     is_sendable::<VecSink>();
 }
-
-#[cfg(test)]
-mod tests;

@@ -289,6 +289,15 @@ impl<T: Drop> Items<T> {
         Ok(())
     }
 
+    /// Moves the other items behind those that are there. Where memory is wanting they are given up.
+    pub fn append(&mut self, _alloc: Global, other: Items<T>) -> Result<(), AllocError>
+        ensures ok { OnOk result (self.new ≡ self.old ++ other) }
+        ensures err { OnErr result (self.new ≡ self.old) }
+    {
+        let mut moved = other;
+        self.held.append(&mut moved.held)
+    }
+
     /// Keeps the first `count` items and gives up the others.
     pub fn truncate(&mut self, count: usize)
         ensures { self.new ≡ take count self.old }

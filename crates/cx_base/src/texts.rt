@@ -21,7 +21,8 @@ fn all_caps_bytes(bytes: &[u8]) -> bool
     bytes.iter().all(|b| is_caps_byte(*b))
 }
 
-fn is_caps_byte(b: u8) -> bool
+/// Whether a capability text may have this byte.
+pub fn is_caps_byte(b: u8) -> bool
     ensures { result ≡ is_caps_byte b }
 {
     b >= b' ' && b <= b'~' && b != b'"' && b != b'\\'

@@ -2,14 +2,14 @@
 
 ghost use Rattle.std.specs.Prelude.{◌≡◌, ◌↔◌, IfOk, IfErr, IsTrue};
 ghost use Rattle.std.specs.List.{list_any, position};
-ghost use Rattle.cx_base.specs.Texts.{is_caps, is_caps_byte};
+ghost use Rattle.cx_base.specs.Texts.{is_caps};
 ghost use Rattle.cx_caps.specs.Texts.{is_refused_byte, IsCapsCause};
 ghost use Rattle.cx_caps.specs.Grammar.{clauses_of, CapAllows};
 ghost use Rattle.cx_caps.specs.Reading.{cap_allows, clause_allows};
 
 use crate::clauses::clause_allows;
 use crate::refusals::CapRefusal;
-use cx_base::{Duplicate, Operation, Text};
+use cx_base::{Duplicate, Operation, Text, is_caps_byte};
 use std::alloc::{AllocError, Global};
 use std::marker::Model;
 
@@ -78,12 +78,6 @@ fn first_refused(bytes: &[u8]) -> Option<usize>
     ensures { result ≡ position is_refused_byte bytes.now }
 {
     bytes.iter().position(|b| !is_caps_byte(*b))
-}
-
-fn is_caps_byte(b: u8) -> bool
-    ensures { result ≡ is_caps_byte b }
-{
-    b >= b' ' && b <= b'~' && b != b'"' && b != b'\\'
 }
 
 fn text_allows(text: &[u8], ask: &Operation) -> bool

@@ -5,7 +5,7 @@ use Rattle.cx_base.specs.declared.addresses.Addr.{Addr}
 use Rattle.cx_enc.specs.declared.keys.Key.{Key}
 use Rattle.cx_ends.specs.Events.{link_in}
 use Rattle.cx_ends.specs.Stages.{AreRising}
-use Rattle.cx_holdings.specs.declared.offers.Modes.{Modes}
+use Rattle.cx_holdings.specs.declared.offers.OfferedModes.{OfferedModes}
 use Rattle.cx_rules.specs.Abridged.{abridged_asker_link, abridged_client}
 use Rattle.cx_rules.specs.ClientRule.{Client, ClientNode}
 use Rattle.cx_rules.specs.Connector.{Stage}
@@ -22,7 +22,7 @@ abbrev pub node_of : Client → List ClientLink → ClientNode
 node_of own links = record { own = own; links = links }
 
 -- one that logs in as it begins, with its name, its key, its modes and its address: it holds nothing yet
-abbrev pub opening_asker : Name → Key → Modes → Addr → Asker
+abbrev pub opening_asker : Name → Key → OfferedModes → Addr → Asker
 opening_asker name key modes address = record {
   name = name;
   secret = key.secret;

@@ -15,7 +15,7 @@ use cx_connector::Link;
 use cx_dice::Draw;
 use cx_enc::Key;
 use cx_ends::link_in;
-use cx_holdings::Modes;
+use cx_holdings::OfferedModes;
 use cx_node::{Links, loses};
 use cx_rules::forgetting_laws;
 use cx_steps::{Effects, Event};
@@ -44,7 +44,7 @@ impl Model for Client {
 
 impl Client {
     /// A client as it begins: its name and its key, the modes that it offers, and its address.
-    pub fn new(alloc: Global, name: EntityName, key: Key, modes: Modes, me: Addr) -> Client
+    pub fn new(alloc: Global, name: EntityName, key: Key, modes: OfferedModes, me: Addr) -> Client
         ensures value { result ≡ opening_client (opening_asker name key modes me) }
         ensures stands { ClientStandsFor result (opening_client (opening_asker name key modes me)) }
     {

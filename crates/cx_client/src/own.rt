@@ -1,10 +1,9 @@
 //! What a client has of its own.
 
-use cx_base::{Addr, Duplicate, EntityName};
+use cx_base::{Addr, Duplicate, EntityName, NodeName};
 use cx_connector::Change;
 use cx_enc::Key;
-use cx_holdings::{Asker, Modes};
-use cx_journal::NodeName;
+use cx_holdings::{Asker, OfferedModes};
 use std::alloc::{AllocError, Global};
 use std::marker::Model;
 
@@ -31,7 +30,7 @@ impl Own {
     ghost use Rattle.cx_client.specs.Machine.{opening_asker};
 
     /// As the client begins.
-    pub fn new(name: EntityName, key: Key, modes: Modes, address: Addr) -> Own
+    pub fn new(name: EntityName, key: Key, modes: OfferedModes, address: Addr) -> Own
         ensures { result ≡ record { asker = opening_asker name key modes address; asked = 0 } }
     {
         Own {

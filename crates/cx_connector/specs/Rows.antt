@@ -7,7 +7,7 @@ use Rattle.cx_dice.specs.Draws.{cookie_of}
 use Rattle.cx_ends.specs.Stages.{keys_alone}
 use Rattle.cx_ends.specs.declared.moments.Moment.{Moment}
 use Rattle.cx_journal.specs.declared.faults.BytesFault.{BytesFault}
-use Rattle.cx_journal.specs.declared.node_names.NodeName.TheVariants as node
+use Rattle.cx_base.specs.declared.nodes.NodeName.TheVariants as node
 use Rattle.cx_link.specs.Wires.{new_wire}
 use Rattle.cx_node.specs.Made.{going_on}
 use Rattle.cx_node.specs.declared.rows.Row.{Row as Made}

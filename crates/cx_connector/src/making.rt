@@ -1,16 +1,16 @@
 //! Rows that change nothing of what is held.
 
 ghost use Rattle.std.specs.Prelude.{◌≡◌, IfOk};
-ghost use Rattle.cx_journal.specs.declared.node_names.NodeName.TheVariants as node;
+ghost use Rattle.cx_base.specs.declared.nodes.NodeName.TheVariants as node;
 ghost use Rattle.cx_node.specs.Made.{behind_opened, going_on, refusing, refusing_bytes};
 ghost use Rattle.cx_connector.specs.Rows.{keeping};
 
 use crate::links::Stage;
 use crate::rows::{AskerRow, Change};
-use cx_base::{Blob, Duplicate, Items};
+use cx_base::{Blob, Duplicate, Items, NodeName};
 use cx_ends::Moment;
 use cx_holdings::Asker;
-use cx_journal::{BytesFault, NodeName, Reason};
+use cx_journal::{BytesFault, Reason};
 use cx_steps::SealEntry;
 use std::alloc::{AllocError, Global};
 

@@ -22,5 +22,3 @@ fn refusals_are_sendable(refusal: &ServeRefusal) {
     is_sendable(refusal);
 }
 
-#[cfg(test)]
-mod tests;

@@ -5,8 +5,6 @@ mod dice;
 mod draw;
 mod laws;
 mod seeded;
-#[cfg(test)]
-mod tests;
 
 pub use dice::Dice;
 pub use draw::Draw;

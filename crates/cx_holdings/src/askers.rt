@@ -9,7 +9,7 @@ ghost use Rattle.cx_rules.specs.Payloads.{control, whole};
 ghost use Rattle.cx_wire.specs.Logins.{login_done_layout, server_challenge_layout};
 
 use crate::answers::Answer;
-use crate::offers::Modes;
+use crate::offers::OfferedModes;
 use crate::pending::Login;
 use crate::steps::{answered, login_hello, opened};
 use crate::tickets::Holdings;
@@ -36,7 +36,7 @@ pub struct Asker {
     name: EntityName,
     key: Key,
     address: Addr,
-    modes: Modes,
+    modes: OfferedModes,
     global_seq: u64,
     holdings: Holdings,
 }
@@ -60,7 +60,7 @@ impl Asker {
     ghost use Rattle.cx_rules.specs.Holdings.{afresh, held_login, holds_nothing, modes_of, unexpired};
 
     /// One that holds nothing yet.
-    pub fn new(name: EntityName, key: Key, address: Addr, modes: Modes) -> Asker
+    pub fn new(name: EntityName, key: Key, address: Addr, modes: OfferedModes) -> Asker
         ensures { result ≡ record {
           name = name;
           secret = key.secret;

@@ -10,7 +10,7 @@ mod tickets;
 
 pub use answers::Answer;
 pub use askers::Asker;
-pub use offers::Modes;
+pub use offers::OfferedModes;
 pub use pending::Login;
 pub use tickets::Holdings;
 
@@ -18,7 +18,7 @@ pub use tickets::Holdings;
 fn is_sendable<T: Send + Sync>() {}
 
 fn all_are_sendable() {
-    is_sendable::<Modes>();
+    is_sendable::<OfferedModes>();
     is_sendable::<Login>();
     is_sendable::<Holdings>();
     is_sendable::<Asker>();

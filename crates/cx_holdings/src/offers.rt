@@ -8,12 +8,12 @@ use std::alloc::{AllocError, Global};
 
 /// Which modes are offered: crc (1), and the secure one (2).
 #[derive(Clone, Copy, Debug, PartialEq, Eq)]
-pub struct Modes {
+pub struct OfferedModes {
     pub crc: bool,
     pub secure: bool,
 }
 
-impl Modes {
+impl OfferedModes {
     /// The numbers of the modes, in their order.
     pub fn numbers(&self, alloc: Global) -> Result<Items<u32>, AllocError>
         ensures { IfOk result (λ modes. modes ≡ modes_of self.now.crc self.now.secure) }

@@ -4,7 +4,8 @@ use Rattle.std.specs.Option.{option_map}
 use Rattle.std.specs.Fmt.{decimal}
 use Rattle.cx_base.specs.Joined.{◌<>◌}
 use Rattle.cx_base.specs.Names.{Name, name_text, type_word}
-use Rattle.cx_journal.specs.Words.{reading_text, asked_text, ids_text, operation_text, outcome_word, reason_text, node_text, premise_word, key_kind_word}
+use Rattle.cx_base.specs.Nodes.{node_text}
+use Rattle.cx_journal.specs.Words.{reading_text, asked_text, ids_text, operation_text, outcome_word, reason_text, premise_word, key_kind_word}
 use Rattle.cx_journal.specs.Places.{next_number, ticket_number, ticket_of, rank}
 use Rattle.cx_journal.specs.declared.entries.Entry.{Entry}
 use Rattle.cx_journal.specs.declared.entries.Entry.TheVariants as entry
@@ -17,7 +18,7 @@ use Rattle.cx_journal.specs.declared.entries.Handled.{Handled}
 use Rattle.cx_journal.specs.declared.entries.Answered.{Answered}
 use Rattle.cx_journal.specs.declared.entries.Refused.{Refused}
 use Rattle.cx_journal.specs.declared.entries.Ended.{Ended}
-use Rattle.cx_journal.specs.declared.node_names.NodeName.{NodeName}
+use Rattle.cx_base.specs.declared.nodes.NodeName.{NodeName}
 use Rattle.cx_journal.specs.declared.premises.Broken.{Broken}
 
 -- ---- the line of each kind of entry

@@ -3,7 +3,7 @@
 use Rattle.std.specs.Prelude.{◌≡◌, ◌≢◌, List, [], ◌∷◌, ◌++◌, IsTrue, Contains}
 use Rattle.cx_journal.specs.Behind.{EachBehind}
 use Rattle.cx_journal.specs.Leaks.{IsUnleaked}
-use Rattle.cx_journal.specs.Nodes.{is_daemon_type}
+use Rattle.cx_base.specs.Names.{is_daemon_type}
 use Rattle.cx_journal.specs.Sessions.{IsHandledIn}
 use Rattle.cx_journal.specs.declared.entries.Entry.{Entry}
 use Rattle.cx_journal.specs.declared.entries.Entry.TheVariants as entry

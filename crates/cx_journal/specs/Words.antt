@@ -1,4 +1,4 @@
--- The words of a journal's lines: readings, lists of ids, operations, outcomes, nodes, kinds of keys, and each reason.
+-- The words of a journal's lines: readings, lists of ids, operations, outcomes, kinds of keys, and each reason.
 use Rattle.std.specs.Prelude.{ℕ, ◌/◌, ◌%◌, ◌-◌, ◌==◌, if◌then◌else◌, List, [], ◌∷◌, length, map, replicate, codes, Option, Some, None}
 use Rattle.std.specs.List.{join_with_byte}
 use Rattle.std.specs.Fmt.{decimal}
@@ -13,8 +13,6 @@ use Rattle.cx_journal.specs.declared.faults.LoginFault.{LoginFault}
 use Rattle.cx_journal.specs.declared.faults.LoginFault.TheVariants as login
 use Rattle.cx_journal.specs.declared.faults.SessionFault.{SessionFault}
 use Rattle.cx_journal.specs.declared.faults.SessionFault.TheVariants as session
-use Rattle.cx_journal.specs.declared.node_names.NodeName.{NodeName}
-use Rattle.cx_journal.specs.declared.node_names.NodeName.TheVariants as node
 use Rattle.cx_journal.specs.declared.outcomes.Outcome.{Outcome}
 use Rattle.cx_journal.specs.declared.outcomes.Outcome.TheVariants as outcome
 use Rattle.cx_journal.specs.declared.outcomes.Reason.{Reason}
@@ -68,11 +66,6 @@ abbrev pub outcome_word : Outcome → List ℕ
 outcome_word outcome.Done = codes "done"
 outcome_word outcome.Denied = codes "denied"
 outcome_word outcome.NoHandler = codes "no-handler"
-
--- a node of a run
-abbrev pub node_text : NodeName → List ℕ
-node_text node.Monitor = codes "mon"
-node_text (node.Entity name) = name_text name
 
 -- ---- what breaks a run
 

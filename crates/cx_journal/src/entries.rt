@@ -1,6 +1,5 @@
 //! The entries of a journal.
 
-use crate::node_names::NodeName;
 use crate::outcomes::{Outcome, Reason};
 use crate::premises::Broken;
 use cx_base::{Blob, EntityName, EntityType, Operation, Reading, Text};

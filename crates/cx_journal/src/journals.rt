@@ -6,7 +6,6 @@ use crate::entries::{
     Admitted, Answered, Ended, Entry, Fetched, Handled, Issued, Looked, Refused, Sent,
 };
 use crate::faults::{BytesFault, LoginFault, SessionFault};
-use crate::node_names::NodeName;
 use crate::outcomes::{Outcome, Reason, TicketFault};
 use crate::premises::{Broken, KeyKind, Premise};
 use cx_base::{Duplicate, Items, copy_items};

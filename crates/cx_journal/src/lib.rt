@@ -8,7 +8,6 @@ mod faults;
 mod journals;
 mod laws;
 mod lines;
-mod node_names;
 mod numbers;
 mod outcomes;
 mod premises;
@@ -22,7 +21,6 @@ pub use entries::{
 pub use faults::{BytesFault, LoginFault, SessionFault};
 pub use journals::Journal;
 pub use laws::session_laws;
-pub use node_names::NodeName;
 pub use outcomes::{Outcome, Reason, TicketFault};
 pub use premises::{Broken, KeyKind, Premise};
 pub use texts::put_text;

@@ -4,7 +4,6 @@ ghost use Rattle.std.specs.Prelude.{◌≡◌, IfOk, string_bytes};
 ghost use Rattle.cx_journal.specs.JournalText.{saved_line, issued_line, fetched_line, looked_line, admitted_line, resumed_line, session_text, sent_line, handled_line, answered_line, ticket_text, refused_line, ended_line, restarted_line, broken_line, leaked_line};
 
 use crate::entries::{Admitted, Answered, Ended, Fetched, Handled, Issued, Looked, Refused, Sent};
-use crate::node_names::NodeName;
 use crate::premises::Broken;
 use crate::words::{Asked, Ids, Seconds, operation_text};
 use cx_base::EntityName;

@@ -3,7 +3,6 @@
 ghost use Rattle.std.specs.Prelude.{◌≡◌};
 ghost use Rattle.cx_journal.specs.Words.{premise_word, key_kind_word};
 
-use crate::node_names::NodeName;
 use cx_base::Duplicate;
 use std::alloc::{AllocError, Global};
 use std::fmt;

@@ -10,7 +10,7 @@ use Rattle.cx_base.specs.declared.kinds.EntityType.{EntityType}
 use Rattle.cx_enc.specs.declared.keys.Key.{Key}
 use Rattle.cx_words.specs.Cutting.{lines_of}
 use Rattle.cx_keyring.specs.declared.entries.Entry.{Entry}
-use Rattle.cx_keyring.specs.declared.entries.Grant.{Grant}
+use Rattle.cx_base.specs.declared.grants.Grant.{Grant}
 use Rattle.cx_keyring.specs.declared.faults.KeyringFault.{KeyringFault}
 use Rattle.cx_keyring.specs.declared.lines.Line.{Line}
 use Rattle.cx_keyring.specs.declared.lines.Line.TheVariants as lines

@@ -11,7 +11,7 @@ use Rattle.cx_words.specs.Cutting.{is_line_end, lines_of}
 use Rattle.cx_base.specs.Texts.{is_caps, is_caps_byte}
 use Rattle.cx_words.specs.Words.{is_service}
 use Rattle.cx_keyring.specs.declared.entries.Entry.{Entry}
-use Rattle.cx_keyring.specs.declared.entries.Grant.{Grant}
+use Rattle.cx_base.specs.declared.grants.Grant.{Grant}
 use Rattle.cx_keyring.specs.declared.lines.Line.{Line}
 use Rattle.cx_keyring.specs.declared.lines.Line.TheVariants as lines
 use Rattle.cx_keyring.specs.Entries.{are_grants, differ, is_grant, is_ring, IsKeyring}

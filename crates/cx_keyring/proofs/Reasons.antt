@@ -3,7 +3,7 @@ use Rattle.std.proofs.Common.{◌≡◌, ◌⊎◌, inl, inr, ℕ, ◌<◌, ◌�
 use Rattle.cx_base.specs.Names.{Name}
 use Rattle.cx_enc.specs.declared.keys.Key.{Key}
 use Rattle.cx_keyring.specs.declared.entries.Entry.{Entry}
-use Rattle.cx_keyring.specs.declared.entries.Grant.{Grant}
+use Rattle.cx_base.specs.declared.grants.Grant.{Grant}
 use Rattle.cx_keyring.specs.declared.faults.KeyringFault.{KeyringFault}
 use Rattle.cx_keyring.specs.declared.lines.Line.{Line}
 use Rattle.cx_keyring.specs.declared.lines.Line.TheVariants as lines

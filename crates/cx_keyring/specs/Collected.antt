@@ -4,7 +4,7 @@ use Rattle.std.specs.List.{flat_map}
 use Rattle.cx_base.specs.Names.{Name}
 use Rattle.cx_enc.specs.declared.keys.Key.{Key}
 use Rattle.cx_keyring.specs.declared.entries.Entry.{Entry}
-use Rattle.cx_keyring.specs.declared.entries.Grant.{Grant}
+use Rattle.cx_base.specs.declared.grants.Grant.{Grant}
 use Rattle.cx_keyring.specs.declared.lines.Line.{Line}
 use Rattle.cx_keyring.specs.declared.lines.Line.TheVariants as lines
 use Rattle.cx_keyring.specs.Entries.{granted_by}

@@ -7,7 +7,7 @@ use Rattle.cx_enc.specs.declared.keys.Key.{Key}
 use Rattle.cx_base.specs.Texts.{is_caps}
 use Rattle.cx_words.specs.Words.{is_service}
 use Rattle.cx_keyring.specs.declared.entries.Entry.{Entry}
-use Rattle.cx_keyring.specs.declared.entries.Grant.{Grant}
+use Rattle.cx_base.specs.declared.grants.Grant.{Grant}
 use Rattle.cx_keyring.specs.declared.lines.Line.{Line}
 use Rattle.cx_keyring.specs.declared.lines.Line.TheVariants as lines
 use Rattle.cx_keyring.specs.Faults.{section_lines}

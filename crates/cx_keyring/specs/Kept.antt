@@ -4,14 +4,14 @@ use Rattle.std.specs.BTreeMap.{BTreeMap}
 use Rattle.std.specs.declared.alloc.Global.{Global}
 use Rattle.cx_base.specs.Names.{Name}
 use Rattle.cx_keyring.specs.declared.entries.Entry.{Entry}
-use Rattle.cx_keyring.specs.declared.index.Places.{Places}
+use Rattle.cx_keyring.specs.declared.index.PlacesByType.{PlacesByType}
 use Rattle.cx_keyring.specs.declared.refusals.AddRefusal.{AddRefusal}
 use Rattle.cx_keyring.specs.declared.refusals.AddRefusal.TheVariants.{Repeated, OutOfMemory}
 use Rattle.cx_keyring.specs.Entries.{is_named, is_ring}
 use Rattle.cx_keyring.specs.Indexed.{place_of}
 
 -- the entries are those of a keyring, and the index has the place of each name
-pub record IsKept (entries : List Entry) (ids : BTreeMap (String Global) Places) : Type 0 where
+pub record IsKept (entries : List Entry) (ids : BTreeMap (String Global) PlacesByType) : Type 0 where
   pub ring : IsTrue (is_ring entries)
   pub placed : (name : Name) → place_of ids name ≡ position (is_named name) entries
 

@@ -11,8 +11,8 @@ use std::alloc::{AllocError, Global};
 use std::collections::BTreeMap;
 
 /// The places of the names that have one id, one for each type of entity.
-#[derive(Clone, Copy, Debug)]
-pub struct Places {
+#[derive(Clone, Copy)]
+pub struct PlacesByType {
     mon: Option<usize>,
     mds: Option<usize>,
     osd: Option<usize>,
@@ -22,9 +22,9 @@ pub struct Places {
 }
 
 /// Where names stand in a list, by their ids, so that no look-up goes through the list.
-#[derive(Debug, Drop)]
+#[derive(Drop)]
 pub struct Index {
-    ids: BTreeMap<String, Places>,
+    ids: BTreeMap<String, PlacesByType>,
 }
 
 impl Index {
@@ -45,12 +45,12 @@ impl Index {
     }
 
     /// The places of the names with this one's id.
-    fn at(&self, name: &EntityName) -> Places
+    fn at(&self, name: &EntityName) -> PlacesByType
         ensures { (kind : EntityType) → place_at result kind ≡ place_among (get_by_text self.now.ids name.now.id) kind }
     {
         match self.ids.get(name.id.as_str()) {
             Some(places) => *places,
-            None => Places::none(),
+            None => PlacesByType::none(),
         }
     }
 
@@ -66,11 +66,11 @@ impl Index {
     }
 }
 
-impl Places {
-    fn none() -> Places
+impl PlacesByType {
+    fn none() -> PlacesByType
         ensures { (kind : EntityType) → place_at result kind ≡ None }
     {
-        Places {
+        PlacesByType {
             mon: None,
             mds: None,
             osd: None,
@@ -94,7 +94,7 @@ impl Places {
     }
 
     /// These places, with this one for names of the type.
-    fn with(self, kind: EntityType, place: usize) -> Places
+    fn with(self, kind: EntityType, place: usize) -> PlacesByType
         ensures { (other : EntityType) → place_at result other ≡ (if same_kind kind other then Some place else place_at self other) }
     {
         let mut places = self;

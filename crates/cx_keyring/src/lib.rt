@@ -15,7 +15,7 @@ mod reading;
 mod refusals;
 mod sections;
 
-pub use entries::{Entry, Grant};
+pub use entries::Entry;
 pub use faults::KeyringFault;
 pub use keyring::Keyring;
 pub use limits::MOST_ENTRIES;
@@ -27,7 +27,6 @@ pub use refusals::{AddRefusal, KeyringRefusal};
 fn is_sendable<T: Send + Sync>() {}
 
 fn all_are_sendable() {
-    is_sendable::<Grant>();
     is_sendable::<Entry>();
     is_sendable::<Keyring>();
     is_sendable::<KeyringFault>();

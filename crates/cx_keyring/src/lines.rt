@@ -4,7 +4,7 @@ use cx_base::{EntityName, EntityType, Text};
 use cx_enc::Key;
 
 /// What one line says by itself: which form it has, with its parts as far as they can be read.
-#[derive(Debug, Drop)]
+#[derive(Drop)]
 pub enum Line {
     /// Nothing, or a comment.
     Skipped,

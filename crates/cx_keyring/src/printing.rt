@@ -7,10 +7,10 @@ ghost use Rattle.base64.specs.GeneralPurpose.{decode_of, encode_of};
 ghost use Rattle.cx_keyring.specs.Keys.{is_ink, key_text, HasText};
 ghost use Rattle.cx_keyring.specs.Rings.{IsPrintable, KeyringText, printed_entry, printed_grant, printed_head, printed_keyring};
 
-use crate::entries::{Entry, Grant};
+use crate::entries::Entry;
 use crate::keyring::Keyring;
 use base64::engine::general_purpose::STANDARD;
-use cx_base::Blob;
+use cx_base::{Blob, Grant};
 use cx_enc::{Key, write_whole};
 use std::alloc::{AllocError, Global};
 

@@ -6,9 +6,9 @@ ghost use Rattle.cx_keyring.specs.Collected.{entries_of, entry_by, key_in, key_o
 ghost use Rattle.cx_keyring.specs.Entries.{granted_by};
 ghost use Rattle.cx_keyring.specs.Faults.{is_section, section_lines};
 
-use crate::entries::{Entry, Grant};
+use crate::entries::Entry;
 use crate::lines::Line;
-use cx_base::{Duplicate, Items};
+use cx_base::{Duplicate, Grant, Items};
 use cx_enc::Key;
 use std::alloc::{AllocError, Global};
 

@@ -6,7 +6,7 @@ use Rattle.cx_base.specs.declared.kinds.EntityType.{EntityType}
 use Rattle.cx_base.specs.Names.{same_kind}
 use Rattle.cx_base.specs.Texts.{is_caps}
 use Rattle.cx_enc.specs.FieldLaws.{both_true}
-use Rattle.cx_keyring.specs.declared.entries.Grant.{Grant}
+use Rattle.cx_base.specs.declared.grants.Grant.{Grant}
 use Rattle.cx_keyring.specs.Entries.{are_grants, differ, is_grant}
 
 -- the first one is found, and passes; or one of the others is

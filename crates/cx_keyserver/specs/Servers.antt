@@ -2,7 +2,7 @@
 use Rattle.std.specs.Prelude.{ℕ, Bool, ◌&&◌, ◌||◌, nat_lt, List, [], Result, Ok, Err, is_some, find, if◌then◌else◌}
 use Rattle.cx_base.specs.declared.kinds.EntityType.{EntityType}
 use Rattle.cx_base.specs.declared.kinds.EntityType.TheVariants.{Mon, Mds, Osd, Client, Mgr, Auth}
-use Rattle.cx_base.specs.Names.{Name, same_kind}
+use Rattle.cx_base.specs.Names.{Name, is_daemon_type, same_kind}
 use Rattle.cx_keyring.specs.declared.entries.Entry.{Entry}
 use Rattle.cx_keyring.specs.Entries.{is_named}
 use Rattle.cx_rotate.specs.declared.generations.Generation.{Generation}
@@ -55,13 +55,9 @@ adds now draw state service = nat_lt 0 (additions now (life_of state service) (r
 abbrev pub adds_any : ℕ → List ℕ → KeptState → Bool
 adds_any now draw state = adds now draw state Mds || adds now draw state Osd || adds now draw state Mgr || adds now draw state Auth
 
--- the services that have daemons
-abbrev pub has_daemons : EntityType → Bool
-has_daemons kind = same_kind kind Mds || same_kind kind Osd || same_kind kind Mgr
-
 -- the generations that an entity is told: those of its own type, where it is a daemon of the keyring
 abbrev pub secrets_of : Server → Name → Result (List Generation) NotADaemon
 secrets_of server name =
-    if is_some (find (is_named name) server.ring) && has_daemons name.kind
+    if is_some (find (is_named name) server.ring) && is_daemon_type name.kind
     then Ok (generations_of server.state name.kind)
     else Err (record {})

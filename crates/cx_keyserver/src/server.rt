@@ -4,7 +4,6 @@ ghost use Rattle.std.specs.Prelude.{◌≡◌, ◌+◌, ◌-◌, ◌^◌, ◌<�
 ghost use Rattle.std.specs.Option.{option_map};
 ghost use Rattle.cx_keyring.specs.Entries.{is_named};
 ghost use Rattle.cx_rotate.specs.Keeping.{IsKeptState};
-ghost use Rattle.cx_keyserver.specs.Servers.{has_daemons};
 
 use crate::issuing::{TicketRequest, issued, wants_memory};
 use crate::refusals::{GidsSpent, IssueRefusal, NotADaemon};
@@ -20,7 +19,7 @@ use std::alloc::Global;
 use std::marker::Model;
 
 /// The monitor's key server: the entities of its keyring, and the state that it keeps.
-#[derive(Debug, Drop)]
+#[derive(Drop)]
 pub struct KeyServer {
     ring: Keyring,
     state: KeptState,
@@ -136,15 +135,9 @@ impl KeyServer {
     pub fn secrets_for(&self, name: &EntityName) -> Result<Generations, NotADaemon>
         ensures { result ≡ secrets_of self.now name.now }
     {
-        if self.ring.find(name).is_none() || !has_daemons(name.kind) {
+        if self.ring.find(name).is_none() || !name.kind.is_daemon() {
             return Err(NotADaemon);
         }
         Ok(generations_of(&self.state, name.kind))
     }
-}
-
-fn has_daemons(kind: EntityType) -> bool
-    ensures { result ≡ has_daemons kind }
-{
-    kind.is(EntityType::Mds) || kind.is(EntityType::Osd) || kind.is(EntityType::Mgr)
 }

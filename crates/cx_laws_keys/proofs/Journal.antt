@@ -8,7 +8,7 @@ use Rattle.cx_journal.specs.GidOnce.{GivesGidOnceBy}
 use Rattle.cx_journal.specs.declared.entries.Entry.{Entry}
 use Rattle.cx_journal.specs.declared.entries.Entry.TheVariants as journal
 use Rattle.cx_journal.specs.declared.entries.Issued.{Issued}
-use Rattle.cx_journal.specs.declared.node_names.NodeName.{NodeName}
+use Rattle.cx_base.specs.declared.nodes.NodeName.{NodeName}
 use Rattle.cx_journal.specs.declared.outcomes.Reason.{Reason}
 use Rattle.cx_journal.specs.declared.outcomes.Reason.TheVariants as reason
 use Rattle.cx_steps.specs.declared.seals.Logged.{Logged}

@@ -2,7 +2,7 @@
 use Rattle.std.proofs.Common.{◌≡◌, ◌⊎◌, ℕ, List, [], ◌∷◌, ◌++◌, map, take, Option, Some, None, inl, inr, refl}
 use Rattle.std.specs.Prelude.{Contains}
 use Rattle.cx_base.specs.Names.{Name}
-use Rattle.cx_journal.specs.declared.node_names.NodeName.{NodeName}
+use Rattle.cx_base.specs.declared.nodes.NodeName.{NodeName}
 use Rattle.cx_steps.specs.Draws.{IsSameKey, for_whom, key_of, Repeats}
 use Rattle.cx_steps.specs.Onto.{SomeOf, EachOnto}
 use Rattle.cx_steps.specs.Premises.{DrawsLeaked, IsFresh, IsLeakedKey, IsNew, IsSound, Owes, RepeatsIn}

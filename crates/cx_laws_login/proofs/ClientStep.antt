@@ -6,8 +6,8 @@ use Rattle.cx_control.specs.Auth.{auth_signature_layout}
 use Rattle.cx_control.specs.Hello.{hello_layout}
 use Rattle.cx_journal.specs.declared.entries.Entry.{Entry}
 use Rattle.cx_journal.specs.declared.entries.Entry.TheVariants as journal
-use Rattle.cx_journal.specs.declared.node_names.NodeName.{NodeName}
-use Rattle.cx_journal.specs.declared.node_names.NodeName.TheVariants as node
+use Rattle.cx_base.specs.declared.nodes.NodeName.{NodeName}
+use Rattle.cx_base.specs.declared.nodes.NodeName.TheVariants as node
 use Rattle.cx_journal.specs.declared.outcomes.Reason.TheVariants as reason
 use Rattle.cx_rules.specs.ClientRule.{Client, ClientNode, client_rule, loses, me, opens, restarted, submits, turn, with_asker}
 use Rattle.cx_rules.specs.Connector.{Stage, AwaitsBanner, AwaitsHello, AwaitsChallenge, AwaitsDone, AwaitsSignature, AwaitsIdent, Open, AskerArrival, is_open, on_banner, on_hello, on_signature, turned_at, while_challenged, while_identified, while_proved}

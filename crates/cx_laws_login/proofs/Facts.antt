@@ -7,7 +7,7 @@ use Rattle.cx_enc.specs.Values.{name_form}
 use Rattle.cx_journal.specs.declared.entries.Entry.{Entry}
 use Rattle.cx_journal.specs.declared.entries.Entry.TheVariants as journal
 use Rattle.cx_journal.specs.declared.entries.Issued.{Issued}
-use Rattle.cx_journal.specs.declared.node_names.NodeName.TheVariants as node
+use Rattle.cx_base.specs.declared.nodes.NodeName.TheVariants as node
 use Rattle.cx_keyring.specs.declared.entries.Entry.{Entry as Principal}
 use Rattle.cx_login.specs.Monitor.{Offer}
 use Rattle.cx_rotate.specs.declared.states.KeptState.{KeptState}

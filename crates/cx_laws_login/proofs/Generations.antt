@@ -6,7 +6,7 @@ use Rattle.cx_base.specs.declared.kinds.EntityType.{EntityType}
 use Rattle.cx_base.specs.declared.kinds.EntityType.TheVariants.{Mon, Mds, Osd, Client, Mgr, Auth}
 use Rattle.cx_dice.specs.Draws.{rotation_of}
 use Rattle.cx_journal.specs.declared.entries.Entry.{Entry}
-use Rattle.cx_journal.specs.declared.node_names.NodeName.{NodeName}
+use Rattle.cx_base.specs.declared.nodes.NodeName.{NodeName}
 use Rattle.cx_keyserver.specs.Servers.{generations_of, life_of, rotated_of, rotated_state}
 use Rattle.cx_rotate.specs.Rotation.{added, additions, followers, openers}
 use Rattle.cx_rotate.specs.declared.generations.Generation.{Generation}

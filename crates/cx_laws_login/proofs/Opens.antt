@@ -7,7 +7,7 @@ use Rattle.cx_base.specs.declared.kinds.EntityType.{EntityType}
 use Rattle.cx_cbc.specs.Opened.{opened}
 use Rattle.cx_enc.specs.Forms.{Form}
 use Rattle.cx_journal.specs.declared.entries.Entry.{Entry}
-use Rattle.cx_journal.specs.declared.node_names.NodeName.{NodeName}
+use Rattle.cx_base.specs.declared.nodes.NodeName.{NodeName}
 use Rattle.cx_journal.specs.declared.premises.KeyKind.{KeyKind}
 use Rattle.cx_login.specs.Opening.{generation_key}
 use Rattle.cx_login.specs.Unlocking.{unlocked, unlocked_as}

@@ -8,7 +8,7 @@ use Rattle.cx_base.specs.declared.kinds.EntityType.TheVariants.{Mon, Mds, Osd, C
 use Rattle.cx_dice.specs.Draws.{connection_of, session_of}
 use Rattle.cx_enc.specs.Values.{name_form}
 use Rattle.cx_journal.specs.declared.entries.Entry.{Entry}
-use Rattle.cx_journal.specs.declared.node_names.NodeName.{NodeName}
+use Rattle.cx_base.specs.declared.nodes.NodeName.{NodeName}
 use Rattle.cx_journal.specs.declared.premises.KeyKind.TheVariants as kind
 use Rattle.cx_keyserver.specs.Issuing.{current_at, service_ticket_of, ticket_info_of}
 use Rattle.cx_keyserver.specs.Servers.{Server, generations_of}

@@ -1,10 +1,10 @@
 -- Each event of a run has a draw of 384 bytes: each thing that is done to a world keeps that.
 use Rattle.std.proofs.Common.{◌≡◌, ℕ, ◌*◌, ◌==◌, Bool, true, false, List, [], ◌∷◌, ◌++◌, Option, Some, None, refl, sym, subst, zero, suc, arith, length-append}
 use Rattle.std.specs.Prelude.{filter, length, replicate, if◌then◌else◌}
-use Rattle.cx_journal.specs.declared.node_names.NodeName.{NodeName}
-use Rattle.cx_journal.specs.declared.node_names.NodeName.TheVariants as node
-use Rattle.cx_lines.specs.declared.commands.Command.{Command}
-use Rattle.cx_lines.specs.declared.commands.Command.TheVariants as command
+use Rattle.cx_base.specs.declared.nodes.NodeName.{NodeName}
+use Rattle.cx_base.specs.declared.nodes.NodeName.TheVariants as node
+use Rattle.cx_lines.specs.declared.commands.LineCommand.{LineCommand}
+use Rattle.cx_lines.specs.declared.commands.LineCommand.TheVariants as command
 use Rattle.cx_lines.specs.declared.lines.Line.{Line}
 use Rattle.cx_lines.specs.declared.lines.Line.TheVariants as line
 use Rattle.cx_lines.specs.declared.lines.Numbered.{Numbered}
@@ -22,9 +22,9 @@ use Rattle.cx_run.specs.Happenings.{Happening}
 use Rattle.cx_run.specs.Wires.{Wire, end_of, ended, gone_at, has_end, node_at, other, owes_gone, pieces_from, wire_of, with_pieces, with_wire}
 use Rattle.cx_laws_keys.proofs.Lists.{all-append}
 use Rattle.cx_laws_run.specs.Laws.{AreDrawn}
-use Rattle.cx_run.specs.Worlds.{Seat, World, carried, happening, opened_wires, seat_of}
+use Rattle.cx_run.specs.Worlds.{Post, World, carried, happening, opened_wires, post_of}
 use Rattle.cx_run.specs.Deliveries.{Given, arrives, arrives_from, came_at, comes, delivers, delivers_on, delivers_piece, drains, drains_side, far_side, first_of, followed, given, gives, gone_arrives, open_all, opens, restarts, round, rounds, settles, stay, tells, tells_gone, turns, under_way, vanish}
-use Rattle.cx_run.specs.Schedules.{acts_on, after_line, after_lines, arrives_again, cuts, ever_sent, injects, loses, node_in, on_link, on_node, services_sum, submits, submitted, without_first}
+use Rattle.cx_run.specs.Schedules.{acts_on, after_line, after_lines, arrives_again, cuts, ever_sent, injects, loses, on_link, on_node, services_sum, submits, submitted, without_first}
 
 -- the draws of a seed have 384 bytes
 length-words : (key : List ℕ) (place n : ℕ) → length (words_from key place n) ≡ 4 * n
@@ -48,12 +48,12 @@ module _ where
   drawn-like : (w v : World) → v.past ≡ w.past → Drawn w → Drawn v
   drawn-like w v k d = record { all = subst (λ (hs : List Happening). AreDrawn hs) (sym k) d.all }
 
-  drawn-given : (w : World) (input : Input) (seat : Option Seat) → Drawn w → Drawn (given w input seat).world
+  drawn-given : (w : World) (input : Input) (post : Option Post) → Drawn w → Drawn (given w input post).world
   drawn-given w input None k = k
-  drawn-given w input (Some seat) k = record { all = drawn-append w.past (happening w input seat) k.all (length-seed seat.seed seat.rolled) }
+  drawn-given w input (Some post) k = record { all = drawn-append w.past (happening w input post) k.all (length-seed post.seed post.rolled) }
 
   drawn-gives : (w : World) (who : NodeName) (input : Input) → Drawn w → Drawn (gives w who input).world
-  drawn-gives w who input k = drawn-given w input (seat_of who w.seats) k
+  drawn-gives w who input k = drawn-given w input (post_of who w.posts) k
 
   drawn-tells : (w : World) (who : NodeName) (input : Input) → Drawn w → Drawn (tells w who input)
   drawn-tells w who input k = drawn-like (gives w who input).world (tells w who input) refl (drawn-gives w who input k)
@@ -157,14 +157,14 @@ module _ where
 
   -- ---- lines
 
-  drawn-submitted : (w : World) (c : Command) → Drawn w → Drawn (submitted w c)
+  drawn-submitted : (w : World) (c : LineCommand) → Drawn w → Drawn (submitted w c)
   drawn-submitted w (command.Login client services) k = drawn-comes w (node.Entity client) (Submit (told.Login (services_sum services))) k
   drawn-submitted w (command.Fetch daemon) k = k
   drawn-submitted w (command.Renew client services) k = k
   drawn-submitted w (command.Connect client daemon lossy) k = k
   drawn-submitted w (command.Send client daemon operation) k = k
 
-  drawn-submits : (w : World) (c : Command) → Drawn w → Drawn (submits w c)
+  drawn-submits : (w : World) (c : LineCommand) → Drawn w → Drawn (submits w c)
   drawn-submits w (command.Login client services) k =
       drawn-settles (submitted w (command.Login client services)) (drawn-submitted w (command.Login client services) k)
   drawn-submits w (command.Fetch daemon) k = k
@@ -204,7 +204,7 @@ module _ where
   drawn-on_node : (w : World) (s : NodeStep) → Drawn w → Drawn (on_node w s)
   drawn-on_node w (step.Clock reading) k = drawn-like w (on_node w (step.Clock reading)) refl k
   drawn-on_node w (step.ClockOf who reading) k = drawn-like w (on_node w (step.ClockOf who reading)) refl k
-  drawn-on_node w (step.Restart who) k = drawn-restarts w (node_in who) k
+  drawn-on_node w (step.Restart who) k = drawn-restarts w who k
   drawn-on_node w (step.FailSave left) k = drawn-like w (on_node w (step.FailSave left)) refl k
   drawn-on_node w step.Settle k = drawn-settles w k
   drawn-on_node w (step.DropSession daemon number) k = k

@@ -14,8 +14,8 @@ use Rattle.cx_journal.specs.PrefixOfSent.{IsPrefixOfSent, all_handled_under, han
 use Rattle.cx_journal.specs.Truthful.{IsTruthfulBy}
 use Rattle.cx_journal.specs.declared.entries.Entry.{Entry}
 use Rattle.cx_journal.specs.declared.entries.Entry.TheVariants as journal
-use Rattle.cx_journal.specs.declared.node_names.NodeName.{NodeName}
-use Rattle.cx_journal.specs.declared.node_names.NodeName.TheVariants as node
+use Rattle.cx_base.specs.declared.nodes.NodeName.{NodeName}
+use Rattle.cx_base.specs.declared.nodes.NodeName.TheVariants as node
 use Rattle.cx_journal.specs.declared.outcomes.Reason.{Reason}
 use Rattle.cx_journal.specs.declared.outcomes.Reason.TheVariants as reason
 use Rattle.cx_laws_keys.proofs.Journal.{EntryLaw, IsLoginEntry, IsOfLogin, entered}

@@ -6,11 +6,11 @@ use Rattle.cx_base.specs.Names.{Name, same_kind}
 use Rattle.cx_base.specs.declared.kinds.EntityType.{EntityType}
 use Rattle.cx_base.specs.declared.kinds.EntityType.TheVariants.{Mon, Mds, Osd, Client, Mgr, Auth}
 use Rattle.cx_journal.specs.Behind.{EachBehind}
-use Rattle.cx_journal.specs.Nodes.{is_daemon_type}
+use Rattle.cx_base.specs.Names.{is_daemon_type}
 use Rattle.cx_journal.specs.declared.entries.Entry.{Entry}
 use Rattle.cx_journal.specs.declared.entries.Entry.TheVariants as journal
 use Rattle.cx_journal.specs.declared.entries.Issued.{Issued}
-use Rattle.cx_journal.specs.declared.node_names.NodeName.TheVariants as node
+use Rattle.cx_base.specs.declared.nodes.NodeName.TheVariants as node
 use Rattle.cx_keyserver.specs.Servers.{generations_of}
 use Rattle.cx_rules.specs.ClientRule.{opening_client}
 use Rattle.cx_run.specs.Happenings.{Entered, Happening, journal_from, seals_from}

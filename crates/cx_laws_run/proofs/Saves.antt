@@ -3,7 +3,7 @@ use Rattle.std.proofs.Common.{◌≡◌, ◌⊎◌, ℕ, List, [], ◌∷◌, fi
 use Rattle.std.specs.List.{AllByRecursion}
 use Rattle.cx_base.specs.Names.{Name}
 use Rattle.cx_journal.specs.declared.entries.Entry.{Entry}
-use Rattle.cx_journal.specs.declared.node_names.NodeName.{NodeName}
+use Rattle.cx_base.specs.declared.nodes.NodeName.{NodeName}
 use Rattle.cx_run.specs.Happenings.{stays}
 use Rattle.cx_steps.specs.Onto.{SomeOf}
 use Rattle.cx_steps.specs.Premises.{HasSealed, HasSigned, IsNew, Owes, RepeatsIn}

@@ -3,12 +3,12 @@ use Rattle.std.specs.Prelude.{ℕ, Bool, true, false, List, codes, Option, Some,
 use Rattle.cx_lines.specs.declared.sight.BadWord.{BadWord}
 use Rattle.cx_line_words.specs.declared.faults.LineFault.{LineFault}
 use Rattle.cx_line_words.specs.declared.faults.LineFault.TheVariants.{BadNumber, BadName, BadText, UnknownNode}
-use Rattle.cx_line_words.specs.declared.places.Place.{Place}
-use Rattle.cx_line_words.specs.declared.places.Place.TheVariants as at
+use Rattle.cx_line_words.specs.declared.places.WordPlace.{WordPlace}
+use Rattle.cx_line_words.specs.declared.places.WordPlace.TheVariants as at
 use Rattle.cx_line_words.specs.declared.sight.Shown.{Shown}
 use Rattle.cx_line_help.specs.Words.{are_digits, begins, has_leading_zero, has_slash, is_daemon_word}
 
-abbrev pub name_problem : Option Place → List ℕ
+abbrev pub name_problem : Option WordPlace → List ℕ
 name_problem (Some at.Node) =
     codes "is no node: a node is mon, the monitor, or an entity's, by its name, as client.admin or osd.0"
 name_problem (Some at.Unseeded) =
@@ -16,7 +16,7 @@ name_problem (Some at.Unseeded) =
 name_problem _ =
     codes "is no name: a name is a type, client, mds, osd or mgr, a point and an id of 1 to 64 letters, digits or _ - . : + /, as client.admin or osd.0"
 
-abbrev pub too_large : Option Place → List ℕ
+abbrev pub too_large : Option WordPlace → List ℕ
 too_large (Some at.Life) =
     codes "is out of bounds: a lifetime is 1 to 31,536,000 seconds"
 too_large (Some at.Number) =
@@ -24,7 +24,7 @@ too_large (Some at.Number) =
 too_large _ =
     codes "is too large: a reading is below 4,000,000,000 seconds"
 
-abbrev pub no_number : Option Place → List ℕ
+abbrev pub no_number : Option WordPlace → List ℕ
 no_number (Some at.Life) =
     codes "is no number: a lifetime is 1 to 31,536,000 seconds, in decimal digits alone, as 3600"
 no_number (Some at.Number) =
@@ -50,7 +50,7 @@ part_problem true =
 part_problem false =
     codes "is no pool, namespace or object: 1 to 255 letters, digits or _ - . , and - where there is none"
 
-abbrev pub text_at : Option Place → Shown → List ℕ
+abbrev pub text_at : Option WordPlace → Shown → List ℕ
 text_at (Some at.Service) shown =
     codes "is no service that has caps: mon, mds, osd or mgr"
 text_at (Some at.Caps) shown = caps_problem (begins (codes "\"") shown)
@@ -88,7 +88,7 @@ client_problem true = undeclared
 client_problem false =
     codes "is no client: a client's name begins with client."
 
-abbrev pub node_problem : Option Place → Shown → List ℕ
+abbrev pub node_problem : Option WordPlace → Shown → List ℕ
 node_problem (Some at.Entity) shown =
     codes "can't be declared: an entity is a client, an mds, an osd or a mgr"
 node_problem (Some at.Daemon) shown = daemon_problem (is_daemon_word shown)
@@ -98,7 +98,7 @@ node_problem (Some at.Unseeded) shown =
     codes "is declared by no line above: write mon for the monitor, and an entity line for any other node, above all lines that aren't head lines"
 node_problem _ shown = client_problem (begins (codes "client.") shown)
 
-abbrev pub again_problem : Option Place → List ℕ
+abbrev pub again_problem : Option WordPlace → List ℕ
 again_problem (Some at.Entity) =
     codes "is declared by a line above already; give it all of its caps there"
 again_problem (Some at.Service) =

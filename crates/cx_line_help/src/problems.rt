@@ -4,7 +4,7 @@ ghost use Rattle.std.specs.Prelude.{◌≡◌};
 ghost use Rattle.cx_line_help.specs.Problems.{again_problem, caps_problem, client_problem, daemon_problem, name_problem, no_number, node_problem, number_problem, part_problem, problem_as, text_at, too_large, undeclared};
 
 use crate::words::{are_digits, begins, has_leading_zero, has_slash, is_daemon_word};
-use cx_line_words::{LineFault, Place, Shown};
+use cx_line_words::{LineFault, WordPlace, Shown};
 use cx_lines::BadWord;
 
 /// What is wrong with the word at its place.
@@ -20,11 +20,11 @@ pub(crate) fn problem(bad: &BadWord) -> &'static str
     }
 }
 
-fn name_problem(place: Option<Place>) -> &'static str
+fn name_problem(place: Option<WordPlace>) -> &'static str
     ensures { result.now ≡ name_problem place }
 {
     match place {
-        Some(Place::Node) | Some(Place::Unseeded) => {
+        Some(WordPlace::Node) | Some(WordPlace::Unseeded) => {
             "is no node: a node is mon, the monitor, or an entity's, by its name, as client.admin or osd.0"
         }
         _ => {
@@ -46,23 +46,23 @@ fn number_problem(bad: &BadWord) -> &'static str
     no_number(bad.takes)
 }
 
-fn too_large(place: Option<Place>) -> &'static str
+fn too_large(place: Option<WordPlace>) -> &'static str
     ensures { result.now ≡ too_large place }
 {
     match place {
-        Some(Place::Life) => "is out of bounds: a lifetime is 1 to 31,536,000 seconds",
-        Some(Place::Number) => "is too large: a number is below 18,446,744,073,709,551,616",
+        Some(WordPlace::Life) => "is out of bounds: a lifetime is 1 to 31,536,000 seconds",
+        Some(WordPlace::Number) => "is too large: a number is below 18,446,744,073,709,551,616",
         _ => "is too large: a reading is below 4,000,000,000 seconds",
     }
 }
 
-fn no_number(place: Option<Place>) -> &'static str
+fn no_number(place: Option<WordPlace>) -> &'static str
     ensures { result.now ≡ no_number place }
 {
     match place {
-        Some(Place::Life) =>
+        Some(WordPlace::Life) =>
             "is no number: a lifetime is 1 to 31,536,000 seconds, in decimal digits alone, as 3600",
-        Some(Place::Number) => "is no number: a number is decimal digits alone, as 1",
+        Some(WordPlace::Number) => "is no number: a number is decimal digits alone, as 1",
         _ => {
             "is no reading: a reading is a number of seconds, as 4599, or one with a point and nine digits, as \
             4599.999999999"
@@ -70,25 +70,25 @@ fn no_number(place: Option<Place>) -> &'static str
     }
 }
 
-fn text_at(place: Option<Place>, shown: &Shown) -> &'static str
+fn text_at(place: Option<WordPlace>, shown: &Shown) -> &'static str
     ensures { result.now ≡ text_at place shown.now }
 {
     match place {
-        Some(Place::Service) => "is no service that has caps: mon, mds, osd or mgr",
-        Some(Place::Caps) => caps_problem(begins(shown, "\"")),
-        Some(Place::Services) => {
+        Some(WordPlace::Service) => "is no service that has caps: mon, mds, osd or mgr",
+        Some(WordPlace::Caps) => caps_problem(begins(shown, "\"")),
+        Some(WordPlace::Services) => {
             "is no list of services: mds, osd and mgr, joined by commas without a space, each at most once, as mds,osd"
         }
-        Some(Place::Access) => "is no access: read, write or exec",
-        Some(Place::Part) => part_problem(has_slash(shown)),
-        Some(Place::Bytes) => {
+        Some(WordPlace::Access) => "is no access: read, write or exec",
+        Some(WordPlace::Part) => part_problem(has_slash(shown)),
+        Some(WordPlace::Bytes) => {
             "is no bytes: two hexadecimal digits a byte, and - where there is none"
         }
-        Some(Place::Modes) => "is no list of modes: crc, secure or crc,secure",
-        Some(Place::Side) => "is no side of a link: c, the connector's, or a, the acceptor's",
-        Some(Place::Lossy) => "may not stand there: nothing but lossy stands behind the daemon",
-        Some(Place::LeftState) => "is no state that a failed save leaves: old or new",
-        Some(Place::Command) => {
+        Some(WordPlace::Modes) => "is no list of modes: crc, secure or crc,secure",
+        Some(WordPlace::Side) => "is no side of a link: c, the connector's, or a, the acceptor's",
+        Some(WordPlace::Lossy) => "may not stand there: nothing but lossy stands behind the daemon",
+        Some(WordPlace::LeftState) => "is no state that a failed save leaves: old or new",
+        Some(WordPlace::Command) => {
             "begins no line that may stand behind do: fetch, login, renew, connect or send"
         }
         _ =>
@@ -116,13 +116,13 @@ fn part_problem(has_slash: bool) -> &'static str
     "is no pool, namespace or object: 1 to 255 letters, digits or _ - . , and - where there is none"
 }
 
-fn node_problem(place: Option<Place>, shown: &Shown) -> &'static str
+fn node_problem(place: Option<WordPlace>, shown: &Shown) -> &'static str
     ensures { result.now ≡ node_problem place shown.now }
 {
     match place {
-        Some(Place::Entity) => "can't be declared: an entity is a client, an mds, an osd or a mgr",
-        Some(Place::Daemon) => daemon_problem(is_daemon_word(shown)),
-        Some(Place::Node) | Some(Place::Unseeded) => {
+        Some(WordPlace::Entity) => "can't be declared: an entity is a client, an mds, an osd or a mgr",
+        Some(WordPlace::Daemon) => daemon_problem(is_daemon_word(shown)),
+        Some(WordPlace::Node) | Some(WordPlace::Unseeded) => {
             "is declared by no line above: write mon for the monitor, and an entity line for any other node, above all lines \
             that aren't head lines"
         }
@@ -154,16 +154,16 @@ fn undeclared() -> &'static str
     "is declared by no line above: write an entity line for it, above all lines that aren't head lines"
 }
 
-fn again_problem(place: Option<Place>) -> &'static str
+fn again_problem(place: Option<WordPlace>) -> &'static str
     ensures { result.now ≡ again_problem place }
 {
     match place {
-        Some(Place::Entity) => "is declared by a line above already; give it all of its caps there",
-        Some(Place::Service) =>
+        Some(WordPlace::Entity) => "is declared by a line above already; give it all of its caps there",
+        Some(WordPlace::Service) =>
             "stands in this line already; give it one text, with commas between its clauses",
-        Some(Place::Unseeded) => "has a seed by a line above already; leave one of them out",
-        Some(Place::Unmoded) => "has its modes by a line above already; leave one of them out",
-        Some(Place::Unleaked) => "is leaked by a line above already; leave one of them out",
+        Some(WordPlace::Unseeded) => "has a seed by a line above already; leave one of them out",
+        Some(WordPlace::Unmoded) => "has its modes by a line above already; leave one of them out",
+        Some(WordPlace::Unleaked) => "is leaked by a line above already; leave one of them out",
         _ =>
             "begins a line that stands once in a schedule, and one stands above already; leave one of them out",
     }

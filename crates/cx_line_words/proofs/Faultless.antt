@@ -10,8 +10,8 @@ use Rattle.cx_line_words.specs.declared.faults.FaultAt.{FaultAt}
 use Rattle.cx_line_words.specs.declared.faults.LineFault.{LineFault}
 use Rattle.cx_line_words.specs.declared.faults.LineFault.TheVariants.{UnknownWord, Missing, Extra, BadNumber, BadName, BadText, UnknownNode, Repeated, Order}
 use Rattle.cx_line_words.specs.declared.known.Known.{Known}
-use Rattle.cx_line_words.specs.declared.places.Place.{Place}
-use Rattle.cx_line_words.specs.declared.places.Place.TheVariants as at
+use Rattle.cx_line_words.specs.declared.places.WordPlace.{WordPlace}
+use Rattle.cx_line_words.specs.declared.places.WordPlace.TheVariants as at
 use Rattle.cx_line_words.specs.Choices.{command_form_of, modes_of, side_of, state_of}
 use Rattle.cx_line_words.specs.Faults.{at_first, extra, fault_among, fault_at, first_fault, first_with, is_fault, missing, number_with, or_fault, or_number}
 use Rattle.cx_line_words.specs.Known.{is_client, is_daemon, is_declarable, is_node, is_seeded}
@@ -25,7 +25,7 @@ no_fault : (found : Option LineFault) → is_none found ≡ true → found ≡ N
 no_fault None good = refl
 no_fault (Some why) good = absurd (let e : false ≡ true = good in cc)
 
-first_none : (known : Known) (why : LineFault) (before : List (List ℕ)) (places : List Place) (words : List (List ℕ)) → are_good known before places words ≡ true → first_with known why before places words ≡ None
+first_none : (known : Known) (why : LineFault) (before : List (List ℕ)) (places : List WordPlace) (words : List (List ℕ)) → are_good known before places words ≡ true → first_with known why before places words ≡ None
 first_none e why b [] ws g = refl
 first_none e why b (p ∷ ps) [] g = refl
 first_none e why b (p ∷ ps) (w ∷ ws) g =
@@ -39,7 +39,7 @@ none_missing wanted found same = let e : nat_lt found wanted ≡ false = grind (
 none_extra : (wanted found : ℕ) → wanted ≡ found → extra wanted found ≡ None
 none_extra wanted found same = let e : nat_lt wanted found ≡ false = grind (arith, nat_tests, same) in rw e refl
 
-pub none_among : (known : Known) (spent late : Bool) (places : List Place) (words : List (List ℕ)) → length places ≡ length words → are_good known [] places words ≡ true → spent ≡ false → late ≡ false → fault_among known spent late places words ≡ None
+pub none_among : (known : Known) (spent late : Bool) (places : List WordPlace) (words : List (List ℕ)) → length places ≡ length words → are_good known [] places words ≡ true → spent ≡ false → late ≡ false → fault_among known spent late places words ≡ None
 none_among k spent late ps ws same good once early =
     rw (none_missing (length ps) (length ws) same, none_extra (length ps) (length ws) same, first_none k BadNumber [] ps ws good, first_none k BadName [] ps ws good, first_none k BadText [] ps ws good, first_none k UnknownNode [] ps ws good, once, first_none k Repeated [] ps ws good, early) refl
 
@@ -76,7 +76,7 @@ of_service true true = tt
 of_service true false = tt
 of_service false again = tt
 
-of_word : (known : Known) (before : List (List ℕ)) (place : Place) (word : List ℕ) → IsOfWord (word_fault known before place word)
+of_word : (known : Known) (before : List (List ℕ)) (place : WordPlace) (word : List ℕ) → IsOfWord (word_fault known before place word)
 of_word k b at.Life w = of_unless (passes is_life (number_of w)) BadNumber tt
 of_word k b at.Reading w = of_unless (is_some (reading_of w)) BadNumber tt
 of_word k b at.Number w = of_unless (is_some (number_of w)) BadNumber tt
@@ -119,14 +119,14 @@ parted : (b : Bool) (n : ℕ) (rest : Option ℕ) → cond b (Some n) rest ≡ N
 parted true n rest none = absurd (let e : Some n ≡ None = none in cc)
 parted false n rest none = (refl, none)
 
-record HasNone (known : Known) (before : List (List ℕ)) (places : List Place) (words : List (List ℕ)) : Type 0 where
+record HasNone (known : Known) (before : List (List ℕ)) (places : List WordPlace) (words : List (List ℕ)) : Type 0 where
   numbers : first_with known BadNumber before places words ≡ None
   names : first_with known BadName before places words ≡ None
   texts : first_with known BadText before places words ≡ None
   nodes : first_with known UnknownNode before places words ≡ None
   again : first_with known Repeated before places words ≡ None
 
-all_good : (known : Known) (before : List (List ℕ)) (places : List Place) (words : List (List ℕ)) → length places ≡ length words → HasNone known before places words → are_good known before places words ≡ true
+all_good : (known : Known) (before : List (List ℕ)) (places : List WordPlace) (words : List (List ℕ)) → length places ≡ length words → HasNone known before places words → are_good known before places words ≡ true
 all_good e b [] [] same none = refl
 all_good e b [] (w ∷ ws) same none = absurd (omega arith)
 all_good e b (p ∷ ps) [] same none = absurd (omega arith)
@@ -169,13 +169,13 @@ equal : (a b : ℕ) → a ≡ b → (a == b) ≡ true
 equal a b e = grind (arith, nat_tests, e)
 
 -- what words without a fault are
-pub record IsFaultless (known : Known) (spent late : Bool) (places : List Place) (words : List (List ℕ)) : Type 0 where
+pub record IsFaultless (known : Known) (spent late : Bool) (places : List WordPlace) (words : List (List ℕ)) : Type 0 where
   pub good : are_good known [] places words ≡ true
   pub whole : is_whole known [] places words ≡ true
   pub once : spent ≡ false
   pub early : late ≡ false
 
-pub faultless : (known : Known) (spent late : Bool) (places : List Place) (words : List (List ℕ)) → fault_among known spent late places words ≡ None → IsFaultless known spent late places words
+pub faultless : (known : Known) (spent late : Bool) (places : List WordPlace) (words : List (List ℕ)) → fault_among known spent late places words ≡ None → IsFaultless known spent late places words
 faultless k spent late ps ws none =
     let number = number_with k spent late ps ws in
     let a = both_none Missing (number Missing) (first_fault number (Extra ∷ BadNumber ∷ BadName ∷ BadText ∷ UnknownNode ∷ Repeated ∷ Order ∷ [])) none in
@@ -198,11 +198,11 @@ faultless k spent late ps ws none =
 
 -- ---- why words have a fault
 
-pub not_whole : (known : Known) (spent late : Bool) (places : List Place) (words : List (List ℕ)) → is_whole known [] places words ≡ false → fault_among known spent late places words ≡ None → ⊥
+pub not_whole : (known : Known) (spent late : Bool) (places : List WordPlace) (words : List (List ℕ)) → is_whole known [] places words ≡ false → fault_among known spent late places words ≡ None → ⊥
 not_whole k spent late ps ws is none = absurd (let x : true ≡ false = sym (faultless k spent late ps ws none).whole ∙ is in cc)
 
-pub not_again : (known : Known) (late : Bool) (places : List Place) (words : List (List ℕ)) → fault_among known true late places words ≡ None → ⊥
+pub not_again : (known : Known) (late : Bool) (places : List WordPlace) (words : List (List ℕ)) → fault_among known true late places words ≡ None → ⊥
 not_again k late ps ws none = absurd (let x : true ≡ false = (faultless k true late ps ws none).once in cc)
 
-pub not_late : (known : Known) (spent : Bool) (places : List Place) (words : List (List ℕ)) → fault_among known spent true places words ≡ None → ⊥
+pub not_late : (known : Known) (spent : Bool) (places : List WordPlace) (words : List (List ℕ)) → fault_among known spent true places words ≡ None → ⊥
 not_late k spent ps ws none = absurd (let x : true ≡ false = (faultless k spent true ps ws none).early in cc)

@@ -24,19 +24,20 @@ use Rattle.cx_line_words.specs.declared.choices.CommandForm.{CommandForm}
 use Rattle.cx_line_words.specs.declared.faults.LineFault.{LineFault}
 use Rattle.cx_line_words.specs.declared.faults.LineFault.TheVariants.{BadNumber, BadName, BadText, UnknownNode, Repeated}
 use Rattle.cx_line_words.specs.declared.known.Known.{Known}
-use Rattle.cx_line_words.specs.declared.nodes.Node.{Node}
-use Rattle.cx_line_words.specs.declared.nodes.Node.TheVariants as node
-use Rattle.cx_line_words.specs.declared.places.Place.{Place}
-use Rattle.cx_line_words.specs.declared.places.Place.TheVariants as at
+use Rattle.cx_base.specs.declared.nodes.NodeName.{NodeName}
+use Rattle.cx_base.specs.declared.nodes.NodeName.TheVariants as node
+use Rattle.cx_line_words.specs.declared.places.WordPlace.{WordPlace}
+use Rattle.cx_line_words.specs.declared.places.WordPlace.TheVariants as at
 use Rattle.cx_line_words.specs.Choices.{command_form_of, modes_of, side_of, state_of}
 use Rattle.cx_line_words.specs.Known.{is_client, is_daemon, is_declarable, is_node, is_seeded}
 use Rattle.cx_line_words.specs.Named.{is_among, is_name}
-use Rattle.cx_line_words.specs.Values.{Item, LifeOf, ReadingOf, NumberOf, EntityOf, ServiceOf, CapsOf, ClientOf, UnmodedOf, UnleakedOf, DaemonOf, NodeOf, UnseededOf, ServicesOf, AccessOf, PartOf, DataOf, BytesOf, ModesOf, SideOf, LossyWord, StateOf, CommandOf, SpellsItem, SpellsItems, IsWritable, is_fit, is_life, node_word}
+use Rattle.cx_base.specs.Nodes.{node_text}
+use Rattle.cx_line_words.specs.Values.{Item, LifeOf, ReadingOf, NumberOf, EntityOf, ServiceOf, CapsOf, ClientOf, UnmodedOf, UnleakedOf, DaemonOf, NodeOf, UnseededOf, ServicesOf, AccessOf, PartOf, DataOf, BytesOf, ModesOf, SideOf, LossyWord, StateOf, CommandOf, SpellsItem, SpellsItems, IsWritable, is_fit, is_life}
 use Rattle.cx_line_words.specs.Places.{are_good, is_good, known_fault, name_fault, never, node_of, passes, service_fault, unless, word_fault}
 use Rattle.cx_line_words.proofs.ChoiceLemmas.{command_form_of-is, command_form_of-word, modes_of-is, modes_of-word, side_of-is, side_of-word, state_of-is, state_of-word}
 
 -- the place of a value
-abbrev pub place_of : Item → Place
+abbrev pub place_of : Item → WordPlace
 place_of (LifeOf seconds) = at.Life
 place_of (ReadingOf reading) = at.Reading
 place_of (NumberOf n) = at.Number
@@ -74,12 +75,12 @@ not_mon name = kinds name.kind name.id
     kinds kind.Mgr id = refl
     kinds kind.Auth id = refl
 
-node_of-word : (n : Node) → IsWritable n → node_of (node_word n) ≡ Some n
+node_of-word : (n : NodeName) → IsWritable n → node_of (node_text n) ≡ Some n
 node_of-word node.Monitor h = refl
 node_of-word (node.Entity name) h = rw (not_mon name, name_of-text name h) refl
 
-node_cases : (w : List ℕ) (b : Bool) (found : Option Name) (n : Node) → bytes_eq w (codes "mon") ≡ b → name_of w ≡ found
-    → cond b (Some node.Monitor) (option_map (λ name. node.Entity name) found) ≡ Some n → IsWritable n × (w ≡ node_word n)
+node_cases : (w : List ℕ) (b : Bool) (found : Option Name) (n : NodeName) → bytes_eq w (codes "mon") ≡ b → name_of w ≡ found
+    → cond b (Some node.Monitor) (option_map (λ name. node.Entity name) found) ≡ Some n → IsWritable n × (w ≡ node_text n)
 node_cases w true found n is name some =
     let same : node.Monitor ≡ n = cc in
     rw (← same) (tt, (bytes_eq-Decides w (codes "mon")).0 is)
@@ -88,7 +89,7 @@ node_cases w false (Some other) n is name some =
     let same : node.Entity other ≡ n = cc in
     rw (← same) (name_of-is w other name)
 
-node_of-is : (w : List ℕ) (n : Node) → node_of w ≡ Some n → IsWritable n × (w ≡ node_word n)
+node_of-is : (w : List ℕ) (n : NodeName) → node_of w ≡ Some n → IsWritable n × (w ≡ node_text n)
 node_of-is w n some = node_cases w (bytes_eq w (codes "mon")) (name_of w) n refl refl some
 
 -- ---- what is spelled is good
@@ -140,7 +141,7 @@ as_many e b (i ∷ items) (w ∷ ws) p = let more = as_many e (b ++ w ∷ []) it
 
 -- ---- words are read back
 
-abbrev pub read_item : Place → List ℕ → Option Item
+abbrev pub read_item : WordPlace → List ℕ → Option Item
 read_item at.Life w = option_map (λ s. LifeOf s) (number_of w)
 read_item at.Reading w = option_map (λ r. ReadingOf r) (reading_of w)
 read_item at.Number w = option_map (λ n. NumberOf n) (number_of w)
@@ -194,7 +195,7 @@ in_front None items = None
 in_front (Some item) None = None
 in_front (Some item) (Some items) = Some (item ∷ items)
 
-abbrev pub read_items : List Place → List (List ℕ) → Option (List Item)
+abbrev pub read_items : List WordPlace → List (List ℕ) → Option (List Item)
 read_items [] ws = Some []
 read_items (p ∷ ps) [] = None
 read_items (p ∷ ps) (w ∷ ws) = in_front (read_item p w) (read_items ps ws)
@@ -208,7 +209,7 @@ items_back e b (i ∷ items) (w ∷ ws) p = rw (item_back e b i w p.0, items_bac
 -- ---- what is good is spelled
 
 -- a value that the word spells at the place
-abbrev pub ValueAt : Known → List (List ℕ) → Place → List ℕ → Type 0
+abbrev pub ValueAt : Known → List (List ℕ) → WordPlace → List ℕ → Type 0
 ValueAt k b at.Life w = (s : ℕ) × SpellsItem k b (LifeOf s) w
 ValueAt k b at.Reading w = (r : ℕ) × SpellsItem k b (ReadingOf r) w
 ValueAt k b at.Number w = (n : ℕ) × SpellsItem k b (NumberOf n) w
@@ -219,8 +220,8 @@ ValueAt k b at.Client w = (n : Name) × SpellsItem k b (ClientOf n) w
 ValueAt k b at.Unmoded w = (n : Name) × SpellsItem k b (UnmodedOf n) w
 ValueAt k b at.Unleaked w = (n : Name) × SpellsItem k b (UnleakedOf n) w
 ValueAt k b at.Daemon w = (n : Name) × SpellsItem k b (DaemonOf n) w
-ValueAt k b at.Node w = (n : Node) × SpellsItem k b (NodeOf n) w
-ValueAt k b at.Unseeded w = (n : Node) × SpellsItem k b (UnseededOf n) w
+ValueAt k b at.Node w = (n : NodeName) × SpellsItem k b (NodeOf n) w
+ValueAt k b at.Unseeded w = (n : NodeName) × SpellsItem k b (UnseededOf n) w
 ValueAt k b at.Services w = (ks : List EntityType) × SpellsItem k b (ServicesOf ks) w
 ValueAt k b at.Access w = (a : Access) × SpellsItem k b (AccessOf a) w
 ValueAt k b at.Part w = (t : List ℕ) × SpellsItem k b (PartOf t) w
@@ -257,7 +258,7 @@ named_as known again w (Some n) is good =
     let here = known_in (known n) (again n) good in
     (n, own.0, here.0, here.1, own.1)
 
-node_as : (known again : Node → Bool) (w : List ℕ) (found : Option Node) → node_of w ≡ found → is_none (name_fault known again found) ≡ true → (n : Node) × IsWritable n × (known n ≡ true) × (again n ≡ false) × (w ≡ node_word n)
+node_as : (known again : NodeName → Bool) (w : List ℕ) (found : Option NodeName) → node_of w ≡ found → is_none (name_fault known again found) ≡ true → (n : NodeName) × IsWritable n × (known n ≡ true) × (again n ≡ false) × (w ≡ node_text n)
 node_as known again w None is good = absurd (let e : false ≡ true = good in cc)
 node_as known again w (Some n) is good =
     let own = node_of-is w n is in
@@ -273,7 +274,7 @@ some_in : {X : Type 0} (found : Option X) → is_some found ≡ true → (x : X)
 some_in None good = absurd (let e : false ≡ true = good in cc)
 some_in (Some x) good = (x, refl)
 
-value_in : (known : Known) (before : List (List ℕ)) (place : Place) (word : List ℕ) → is_good known before place word ≡ true → ValueAt known before place word
+value_in : (known : Known) (before : List (List ℕ)) (place : WordPlace) (word : List ℕ) → is_good known before place word ≡ true → ValueAt known before place word
 value_in k b at.Life w g =
     let found = passed BadNumber is_life (number_of w) g in
     (found.0, (found.2, (number_of-is w found.0 found.1).1))
@@ -321,13 +322,13 @@ value_in k b at.Command w g = let found = there BadText (command_form_of w) g in
 value_in k b at.Anything w g = tt
 
 -- a value at each place
-abbrev pub Values : Known → List (List ℕ) → List Place → List (List ℕ) → Type 0
+abbrev pub Values : Known → List (List ℕ) → List WordPlace → List (List ℕ) → Type 0
 Values e b [] [] = Unit {0}
 Values e b [] (w ∷ ws) = ⊥
 Values e b (p ∷ ps) [] = ⊥
 Values e b (p ∷ ps) (w ∷ ws) = ValueAt e b p w × Values e (b ++ w ∷ []) ps ws
 
-pub values_in : (known : Known) (before : List (List ℕ)) (places : List Place) (words : List (List ℕ)) → are_good known before places words ≡ true → Values known before places words
+pub values_in : (known : Known) (before : List (List ℕ)) (places : List WordPlace) (words : List (List ℕ)) → are_good known before places words ≡ true → Values known before places words
 values_in e b [] [] g = tt
 values_in e b [] (w ∷ ws) g = absurd (let x : false ≡ true = g in cc)
 values_in e b (p ∷ ps) [] g = absurd (let x : false ≡ true = g in cc)

@@ -4,7 +4,7 @@ use Rattle.std.specs.List.{list_any}
 use Rattle.std.proofs.lemmas.List.{drop_more, map_more, take_more, length-take, length-map, set-append_right}
 use Rattle.cx_line_words.specs.declared.faults.LineFault.{LineFault}
 use Rattle.cx_line_words.specs.declared.known.Known.{Known}
-use Rattle.cx_line_words.specs.declared.places.Place.{Place}
+use Rattle.cx_line_words.specs.declared.places.WordPlace.{WordPlace}
 use Rattle.cx_line_words.specs.Faults.{first_with, is_fault}
 use Rattle.cx_line_words.specs.Places.{word_fault}
 
@@ -18,7 +18,7 @@ counted : {A B : Type 0} (f : A → B) (ws : List A) (i : ℕ) → i < length ws
 counted f ws i h = let e : length (take i ws) ≡ i = simp length-take (omega arith) in simp length-map e
 
 -- one word and its place more
-pub first_step : {A : Type 0} (f : A → List ℕ) (known : Known) (why : LineFault) (ps : List Place) (ws : List A) (i : ℕ) (p : Place) (w : A) → i < length ws → length ps ≡ length ws
+pub first_step : {A : Type 0} (f : A → List ℕ) (known : Known) (why : LineFault) (ps : List WordPlace) (ws : List A) (i : ℕ) (p : WordPlace) (w : A) → i < length ws → length ps ≡ length ws
     → first_with known why (map f (take i ws)) (drop i ps) (map f (drop i ws))
     ≡ cond (is_fault why (word_fault known (map f (take i ws)) (get_or ps i p) (f (get_or ws i w)))) (Some (i + 2)) (first_with known why (map f (take (i + 1) ws)) (drop (i + 1) ps) (map f (drop (i + 1) ws)))
 first_step f known why ps ws i p w h same =

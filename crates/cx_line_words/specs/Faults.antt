@@ -4,7 +4,7 @@ use Rattle.cx_line_words.specs.declared.faults.LineFault.{LineFault}
 use Rattle.cx_line_words.specs.declared.faults.LineFault.TheVariants.{UnknownWord, Missing, Extra, BadNumber, BadName, BadText, UnknownNode, Repeated, Order}
 use Rattle.cx_line_words.specs.declared.faults.FaultAt.{FaultAt}
 use Rattle.cx_line_words.specs.declared.known.Known.{Known}
-use Rattle.cx_line_words.specs.declared.places.Place.{Place}
+use Rattle.cx_line_words.specs.declared.places.WordPlace.{WordPlace}
 use Rattle.cx_line_words.specs.Places.{word_fault}
 
 -- whether two faults are one
@@ -27,7 +27,7 @@ is_fault why (Some found) = same_fault why found
 
 -- the number of the first word, from the left, that has this fault at its place; the words before it are those behind the
 -- first word of the line, which is number 1
-abbrev pub first_with : Known → LineFault → List (List ℕ) → List Place → List (List ℕ) → Option ℕ
+abbrev pub first_with : Known → LineFault → List (List ℕ) → List WordPlace → List (List ℕ) → Option ℕ
 first_with known why before [] words = None
 first_with known why before (place ∷ places) [] = None
 first_with known why before (place ∷ places) (word ∷ words) =
@@ -54,7 +54,7 @@ or_number (Some n) other = Some n
 
 -- the number of the first word that has this fault, where these places stand behind the first word of the line, and a line of
 -- its form may stand once and stands already, or is too late
-abbrev pub number_with : Known → Bool → Bool → List Place → List (List ℕ) → LineFault → Option ℕ
+abbrev pub number_with : Known → Bool → Bool → List WordPlace → List (List ℕ) → LineFault → Option ℕ
 number_with known spent late places words UnknownWord = None
 number_with known spent late places words Missing = missing (length places) (length words)
 number_with known spent late places words Extra = extra (length places) (length words)
@@ -84,5 +84,5 @@ abbrev pub faults : List LineFault
 faults = UnknownWord ∷ Missing ∷ Extra ∷ BadNumber ∷ BadName ∷ BadText ∷ UnknownNode ∷ Repeated ∷ Order ∷ []
 
 -- the first fault of these words at these places
-abbrev pub fault_among : Known → Bool → Bool → List Place → List (List ℕ) → Option FaultAt
+abbrev pub fault_among : Known → Bool → Bool → List WordPlace → List (List ℕ) → Option FaultAt
 fault_among known spent late places words = first_fault (number_with known spent late places words) faults

@@ -7,17 +7,17 @@ use Rattle.cx_words.specs.Words.{number_of, reading_of, name_of, service_of, ser
 use Rattle.cx_line_words.specs.declared.faults.LineFault.{LineFault}
 use Rattle.cx_line_words.specs.declared.faults.LineFault.TheVariants.{BadNumber, BadName, BadText, UnknownNode, Repeated}
 use Rattle.cx_line_words.specs.declared.known.Known.{Known}
-use Rattle.cx_line_words.specs.declared.nodes.Node.{Node}
-use Rattle.cx_line_words.specs.declared.nodes.Node.TheVariants.{Monitor, Entity}
-use Rattle.cx_line_words.specs.declared.places.Place.{Place}
-use Rattle.cx_line_words.specs.declared.places.Place.TheVariants as at
+use Rattle.cx_base.specs.declared.nodes.NodeName.{NodeName}
+use Rattle.cx_base.specs.declared.nodes.NodeName.TheVariants.{Monitor, Entity}
+use Rattle.cx_line_words.specs.declared.places.WordPlace.{WordPlace}
+use Rattle.cx_line_words.specs.declared.places.WordPlace.TheVariants as at
 use Rattle.cx_line_words.specs.Choices.{command_form_of, modes_of, side_of, state_of}
 use Rattle.cx_line_words.specs.Known.{is_client, is_daemon, is_declarable, is_node, is_seeded}
 use Rattle.cx_line_words.specs.Named.{is_among}
 use Rattle.cx_line_words.specs.Values.{is_life, is_fit}
 
 -- the node that a word names
-abbrev pub node_of : List ℕ → Option Node
+abbrev pub node_of : List ℕ → Option NodeName
 node_of word = if bytes_eq word (codes "mon") then Some Monitor else option_map Entity (name_of word)
 
 -- whether a word has a value, and a test holds of it
@@ -50,7 +50,7 @@ service_fault true again = unless (not again) Repeated
 service_fault false again = Some BadText
 
 -- what is wrong with a word at its place, where this is known of the lines above, behind the words before it in its line
-abbrev pub word_fault : Known → List (List ℕ) → Place → List ℕ → Option LineFault
+abbrev pub word_fault : Known → List (List ℕ) → WordPlace → List ℕ → Option LineFault
 word_fault known before at.Life word = unless (passes is_life (number_of word)) BadNumber
 word_fault known before at.Reading word = unless (is_some (reading_of word)) BadNumber
 word_fault known before at.Number word = unless (is_some (number_of word)) BadNumber
@@ -76,11 +76,11 @@ word_fault known before at.Command word = unless (is_some (command_form_of word)
 word_fault known before at.Anything word = None
 
 -- whether a word has none
-abbrev pub is_good : Known → List (List ℕ) → Place → List ℕ → Bool
+abbrev pub is_good : Known → List (List ℕ) → WordPlace → List ℕ → Bool
 is_good known before place word = is_none (word_fault known before place word)
 
 -- whether there is a good word at each of these places
-abbrev pub are_good : Known → List (List ℕ) → List Place → List (List ℕ) → Bool
+abbrev pub are_good : Known → List (List ℕ) → List WordPlace → List (List ℕ) → Bool
 are_good known before [] [] = true
 are_good known before [] (word ∷ words) = false
 are_good known before (place ∷ places) [] = false
@@ -88,5 +88,5 @@ are_good known before (place ∷ places) (word ∷ words) =
     is_good known before place word && are_good known (before ++ word ∷ []) places words
 
 -- whether there are as many words as places, each good at its place
-abbrev pub is_whole : Known → List (List ℕ) → List Place → List (List ℕ) → Bool
+abbrev pub is_whole : Known → List (List ℕ) → List WordPlace → List (List ℕ) → Bool
 is_whole known before places words = (length places == length words) && are_good known before places words

@@ -6,6 +6,7 @@ use Rattle.std.specs.Str.{bytes_eq}
 use Rattle.std.specs.Fmt.{decimal}
 use Rattle.cx_base.specs.declared.kinds.Access.{Access}
 use Rattle.cx_base.specs.declared.kinds.EntityType.{EntityType}
+use Rattle.cx_base.specs.Nodes.{node_text}
 use Rattle.cx_base.specs.Names.{Name, name_text, type_word, access_word}
 use Rattle.cx_base.specs.Texts.{is_caps, is_part}
 use Rattle.cx_words.specs.Words.{IsReadingWord, IsHexWord, is_service, is_service_list, services_word, part_word, quoted}
@@ -14,8 +15,8 @@ use Rattle.cx_line_words.specs.declared.choices.Modes.{Modes}
 use Rattle.cx_line_words.specs.declared.choices.LeftState.{LeftState}
 use Rattle.cx_line_words.specs.declared.choices.CommandForm.{CommandForm}
 use Rattle.cx_line_words.specs.declared.known.Known.{Known}
-use Rattle.cx_line_words.specs.declared.nodes.Node.{Node}
-use Rattle.cx_line_words.specs.declared.nodes.Node.TheVariants as node
+use Rattle.cx_base.specs.declared.nodes.NodeName.{NodeName}
+use Rattle.cx_base.specs.declared.nodes.NodeName.TheVariants as node
 use Rattle.cx_line_words.specs.Choices.{command_word, modes_word, side_word, state_word}
 use Rattle.cx_line_words.specs.Known.{is_client, is_daemon, is_declarable, is_node, is_seeded}
 use Rattle.cx_line_words.specs.Named.{is_among, is_name}
@@ -28,13 +29,8 @@ is_life seconds = nat_le 1 seconds && nat_le seconds 31536000
 abbrev pub is_fit : List ℕ → Bool
 is_fit bytes = nat_le (length bytes) 65536
 
--- the word of a node: the monitor has none of an entity's
-abbrev pub node_word : Node → List ℕ
-node_word node.Monitor = codes "mon"
-node_word (node.Entity name) = name_text name
-
 -- a node whose name can be written
-abbrev pub IsWritable : Node → Type 0
+abbrev pub IsWritable : NodeName → Type 0
 IsWritable node.Monitor = Unit {0}
 IsWritable (node.Entity name) = IsTrue (is_name name)
 
@@ -53,8 +49,8 @@ pub data Item : Type 0 where
   UnmodedOf : Name → Item
   UnleakedOf : Name → Item
   DaemonOf : Name → Item
-  NodeOf : Node → Item
-  UnseededOf : Node → Item
+  NodeOf : NodeName → Item
+  UnseededOf : NodeName → Item
   ServicesOf : List EntityType → Item
   AccessOf : Access → Item
   PartOf : List ℕ → Item
@@ -84,9 +80,9 @@ SpellsItem known before (UnleakedOf name) word =
     IsTrue (is_name name) × IsTrue (is_client known name) × (is_among known.leaked name ≡ false) × (word ≡ name_text name)
 SpellsItem known before (DaemonOf name) word =
     IsTrue (is_name name) × IsTrue (is_daemon known name) × (word ≡ name_text name)
-SpellsItem known before (NodeOf node) word = IsWritable node × IsTrue (is_node known node) × (word ≡ node_word node)
+SpellsItem known before (NodeOf node) word = IsWritable node × IsTrue (is_node known node) × (word ≡ node_text node)
 SpellsItem known before (UnseededOf node) word =
-    IsWritable node × IsTrue (is_node known node) × (is_seeded known node ≡ false) × (word ≡ node_word node)
+    IsWritable node × IsTrue (is_node known node) × (is_seeded known node ≡ false) × (word ≡ node_text node)
 SpellsItem known before (ServicesOf kinds) word = IsTrue (is_service_list kinds) × (word ≡ services_word kinds)
 SpellsItem known before (AccessOf access) word = word ≡ access_word access
 SpellsItem known before (PartOf part) word = IsTrue (is_part part) × (word ≡ part_word part)

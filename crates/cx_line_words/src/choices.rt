@@ -6,7 +6,7 @@ ghost use Rattle.cx_line_words.specs.Choices.{command_form_of, command_word, mod
 use cx_words::is_word;
 
 /// An end of a link.
-#[derive(Clone, Copy, Debug, PartialEq, Eq)]
+#[derive(Clone, Copy, PartialEq, Eq)]
 pub enum Side {
     /// The one that opened it.
     Connector,
@@ -15,7 +15,7 @@ pub enum Side {
 }
 
 /// The modes of a connection that a client offers.
-#[derive(Clone, Copy, Debug, PartialEq, Eq)]
+#[derive(Clone, Copy, PartialEq, Eq)]
 pub enum Modes {
     /// Plain frames with checksums alone.
     Crc,
@@ -26,7 +26,7 @@ pub enum Modes {
 }
 
 /// The state that a failed save leaves.
-#[derive(Clone, Copy, Debug, PartialEq, Eq)]
+#[derive(Clone, Copy, PartialEq, Eq)]
 pub enum LeftState {
     /// The one before it.
     Old,

@@ -6,12 +6,12 @@ ghost use Rattle.cx_line_words.specs.Places.{known_fault, name_fault, never, nod
 ghost use Rattle.cx_line_words.specs.Known.{is_client, is_daemon, is_declarable, is_node, is_seeded, nothing};
 ghost use Rattle.cx_line_words.specs.Named.{is_among};
 ghost use Rattle.cx_line_words.specs.declared.faults.LineFault.{LineFault};
-ghost use Rattle.cx_line_words.specs.declared.places.Place.{Place};
+ghost use Rattle.cx_line_words.specs.declared.places.WordPlace.{WordPlace};
 
 use crate::choices::{command_named, modes_named, side_named, state_named};
 use crate::faults::{FaultAt, LineFault};
 use crate::known::Known;
-use crate::places::Place;
+use crate::places::WordPlace;
 use crate::values::{is_declarable, is_lossy, life, named_node, operation_data, stands};
 use cx_words::{access, caps, hex, name, number, part, reading, service, services};
 use std::alloc::{AllocError, Global};
@@ -23,7 +23,7 @@ pub fn first_fault(
     known: &Known,
     spent: bool,
     late: bool,
-    places: &[Place],
+    places: &[WordPlace],
     words: &[&[u8]],
 ) -> Result<Option<FaultAt>, AllocError>
     ensures { IfOk result (λ found. found ≡ fault_among known.now spent late places.now (map (λ w. w.now) words.now)) }
@@ -69,7 +69,7 @@ fn first_with(
     alloc: Global,
     known: &Known,
     why: LineFault,
-    places: &[Place],
+    places: &[WordPlace],
     words: &[&[u8]],
 ) -> Result<Option<usize>, AllocError>
     requires { length places.now ≡ length words.now }
@@ -89,35 +89,35 @@ fn has(
     known: &Known,
     why: LineFault,
     before: &[&[u8]],
-    place: Place,
+    place: WordPlace,
     word: &[u8],
 ) -> Result<bool, AllocError>
     ensures { IfOk result (λ has. has ≡ is_fault why (word_fault known.now (map (λ w. w.now) before.now) place word.now)) }
 {
     match place {
-        Place::Life => Ok(bad_number(why, life(word).is_some())),
-        Place::Reading => Ok(bad_number(why, reading(word).is_some())),
-        Place::Number => Ok(bad_number(why, number(word).is_some())),
-        Place::Entity => entity_has(alloc, known, why, word),
-        Place::Service => Ok(service_has(why, before, word)),
-        Place::Caps => Ok(bad_text(why, caps(alloc, word)?.is_some())),
-        Place::Client => client_has(alloc, known, why, word),
-        Place::Unmoded => unmoded_has(alloc, known, why, word),
-        Place::Unleaked => unleaked_has(alloc, known, why, word),
-        Place::Daemon => daemon_has(alloc, known, why, word),
-        Place::Node => node_has(alloc, known, why, word),
-        Place::Unseeded => unseeded_has(alloc, known, why, word),
-        Place::Services => Ok(bad_text(why, services(alloc, word)?.is_some())),
-        Place::Access => Ok(bad_text(why, access(word).is_some())),
-        Place::Part => Ok(bad_text(why, part(alloc, word)?.is_some())),
-        Place::Data => Ok(bad_text(why, operation_data(alloc, word)?.is_some())),
-        Place::Bytes => Ok(bad_text(why, hex(alloc, word)?.is_some())),
-        Place::Modes => Ok(bad_text(why, modes_named(word).is_some())),
-        Place::Side => Ok(bad_text(why, side_named(word).is_some())),
-        Place::Lossy => Ok(bad_text(why, is_lossy(word))),
-        Place::LeftState => Ok(bad_text(why, state_named(word).is_some())),
-        Place::Command => Ok(bad_text(why, command_named(word).is_some())),
-        Place::Anything => Ok(false),
+        WordPlace::Life => Ok(bad_number(why, life(word).is_some())),
+        WordPlace::Reading => Ok(bad_number(why, reading(word).is_some())),
+        WordPlace::Number => Ok(bad_number(why, number(word).is_some())),
+        WordPlace::Entity => entity_has(alloc, known, why, word),
+        WordPlace::Service => Ok(service_has(why, before, word)),
+        WordPlace::Caps => Ok(bad_text(why, caps(alloc, word)?.is_some())),
+        WordPlace::Client => client_has(alloc, known, why, word),
+        WordPlace::Unmoded => unmoded_has(alloc, known, why, word),
+        WordPlace::Unleaked => unleaked_has(alloc, known, why, word),
+        WordPlace::Daemon => daemon_has(alloc, known, why, word),
+        WordPlace::Node => node_has(alloc, known, why, word),
+        WordPlace::Unseeded => unseeded_has(alloc, known, why, word),
+        WordPlace::Services => Ok(bad_text(why, services(alloc, word)?.is_some())),
+        WordPlace::Access => Ok(bad_text(why, access(word).is_some())),
+        WordPlace::Part => Ok(bad_text(why, part(alloc, word)?.is_some())),
+        WordPlace::Data => Ok(bad_text(why, operation_data(alloc, word)?.is_some())),
+        WordPlace::Bytes => Ok(bad_text(why, hex(alloc, word)?.is_some())),
+        WordPlace::Modes => Ok(bad_text(why, modes_named(word).is_some())),
+        WordPlace::Side => Ok(bad_text(why, side_named(word).is_some())),
+        WordPlace::Lossy => Ok(bad_text(why, is_lossy(word))),
+        WordPlace::LeftState => Ok(bad_text(why, state_named(word).is_some())),
+        WordPlace::Command => Ok(bad_text(why, command_named(word).is_some())),
+        WordPlace::Anything => Ok(false),
     }
 }
 
@@ -147,7 +147,7 @@ fn known_fails(why: LineFault, known: bool, again: bool) -> bool
 }
 
 fn entity_has(alloc: Global, known: &Known, why: LineFault, word: &[u8]) -> Result<bool, AllocError>
-    ensures { IfOk result (λ has. has ≡ is_fault why (word_fault known.now [] Place.Entity word.now)) }
+    ensures { IfOk result (λ has. has ≡ is_fault why (word_fault known.now [] WordPlace.Entity word.now)) }
 {
     let Some(name) = name(alloc, word)? else {
         return Ok(same_fault(why, LineFault::BadName));
@@ -157,7 +157,7 @@ fn entity_has(alloc: Global, known: &Known, why: LineFault, word: &[u8]) -> Resu
 }
 
 fn client_has(alloc: Global, known: &Known, why: LineFault, word: &[u8]) -> Result<bool, AllocError>
-    ensures { IfOk result (λ has. has ≡ is_fault why (word_fault known.now [] Place.Client word.now)) }
+    ensures { IfOk result (λ has. has ≡ is_fault why (word_fault known.now [] WordPlace.Client word.now)) }
 {
     let Some(name) = name(alloc, word)? else {
         return Ok(same_fault(why, LineFault::BadName));
@@ -172,7 +172,7 @@ fn unmoded_has(
     why: LineFault,
     word: &[u8],
 ) -> Result<bool, AllocError>
-    ensures { IfOk result (λ has. has ≡ is_fault why (word_fault known.now [] Place.Unmoded word.now)) }
+    ensures { IfOk result (λ has. has ≡ is_fault why (word_fault known.now [] WordPlace.Unmoded word.now)) }
 {
     let Some(name) = name(alloc, word)? else {
         return Ok(same_fault(why, LineFault::BadName));
@@ -188,7 +188,7 @@ fn unleaked_has(
     why: LineFault,
     word: &[u8],
 ) -> Result<bool, AllocError>
-    ensures { IfOk result (λ has. has ≡ is_fault why (word_fault known.now [] Place.Unleaked word.now)) }
+    ensures { IfOk result (λ has. has ≡ is_fault why (word_fault known.now [] WordPlace.Unleaked word.now)) }
 {
     let Some(name) = name(alloc, word)? else {
         return Ok(same_fault(why, LineFault::BadName));
@@ -199,7 +199,7 @@ fn unleaked_has(
 }
 
 fn daemon_has(alloc: Global, known: &Known, why: LineFault, word: &[u8]) -> Result<bool, AllocError>
-    ensures { IfOk result (λ has. has ≡ is_fault why (word_fault known.now [] Place.Daemon word.now)) }
+    ensures { IfOk result (λ has. has ≡ is_fault why (word_fault known.now [] WordPlace.Daemon word.now)) }
 {
     let Some(name) = name(alloc, word)? else {
         return Ok(same_fault(why, LineFault::BadName));
@@ -209,7 +209,7 @@ fn daemon_has(alloc: Global, known: &Known, why: LineFault, word: &[u8]) -> Resu
 }
 
 fn node_has(alloc: Global, known: &Known, why: LineFault, word: &[u8]) -> Result<bool, AllocError>
-    ensures { IfOk result (λ has. has ≡ is_fault why (word_fault known.now [] Place.Node word.now)) }
+    ensures { IfOk result (λ has. has ≡ is_fault why (word_fault known.now [] WordPlace.Node word.now)) }
 {
     let Some(node) = named_node(alloc, word)? else {
         return Ok(same_fault(why, LineFault::BadName));
@@ -224,7 +224,7 @@ fn unseeded_has(
     why: LineFault,
     word: &[u8],
 ) -> Result<bool, AllocError>
-    ensures { IfOk result (λ has. has ≡ is_fault why (word_fault known.now [] Place.Unseeded word.now)) }
+    ensures { IfOk result (λ has. has ≡ is_fault why (word_fault known.now [] WordPlace.Unseeded word.now)) }
 {
     let Some(node) = named_node(alloc, word)? else {
         return Ok(same_fault(why, LineFault::BadName));
@@ -236,7 +236,7 @@ fn unseeded_has(
 
 /// A long line has few services that may stand, so the words before one are gone through for repeated ones alone.
 fn service_has(why: LineFault, before: &[&[u8]], word: &[u8]) -> bool
-    ensures { result ≡ is_fault why (word_fault nothing (map (λ w. w.now) before.now) Place.Service word.now) }
+    ensures { result ≡ is_fault why (word_fault nothing (map (λ w. w.now) before.now) WordPlace.Service word.now) }
 {
     match why {
         LineFault::BadText => service(word).is_none(),

@@ -1,11 +1,10 @@
 //! What the lines above a line say, as far as it decides what may stand in it.
 
 ghost use Rattle.std.specs.Prelude.{◌≡◌, IfOk};
-ghost use Rattle.cx_line_words.specs.Known.{is_client, is_daemon, is_daemon_kind, is_node, is_seeded, nothing};
+ghost use Rattle.cx_line_words.specs.Known.{is_client, is_daemon, is_node, is_seeded, nothing};
 
 use crate::names::Names;
-use crate::nodes::Node;
-use cx_base::{EntityName, EntityType};
+use cx_base::{EntityName, EntityType, NodeName};
 use std::alloc::{AllocError, Global};
 
 /// What the lines above a line say, as far as it decides what may stand in it.
@@ -59,32 +58,26 @@ impl Known {
         ensures { IfOk result (λ is. is ≡ is_daemon self.now name.now) }
     {
         let declared = self.declared.has(alloc, name)?;
-        Ok(is_daemon_kind(name.kind) && declared)
+        Ok(name.kind.is_daemon() && declared)
     }
 
     /// Whether the node is the monitor, or a declared entity's.
-    pub fn is_node(&self, alloc: Global, node: &Node) -> Result<bool, AllocError>
+    pub fn is_node(&self, alloc: Global, node: &NodeName) -> Result<bool, AllocError>
         ensures { IfOk result (λ is. is ≡ is_node self.now node.now) }
     {
         match node {
-            Node::Monitor => Ok(true),
-            Node::Entity(name) => self.declared.has(alloc, name),
+            NodeName::Monitor => Ok(true),
+            NodeName::Entity(name) => self.declared.has(alloc, name),
         }
     }
 
     /// Whether the node has a seed.
-    pub fn is_seeded(&self, alloc: Global, node: &Node) -> Result<bool, AllocError>
+    pub fn is_seeded(&self, alloc: Global, node: &NodeName) -> Result<bool, AllocError>
         ensures { IfOk result (λ is. is ≡ is_seeded self.now node.now) }
     {
         match node {
-            Node::Monitor => Ok(self.is_monitor_seeded),
-            Node::Entity(name) => self.seeded.has(alloc, name),
+            NodeName::Monitor => Ok(self.is_monitor_seeded),
+            NodeName::Entity(name) => self.seeded.has(alloc, name),
         }
     }
-}
-
-fn is_daemon_kind(kind: EntityType) -> bool
-    ensures { result ≡ is_daemon_kind kind }
-{
-    kind.is(EntityType::Mds) || kind.is(EntityType::Osd) || kind.is(EntityType::Mgr)
 }

@@ -8,7 +8,6 @@ mod judge;
 mod known;
 mod limits;
 mod names;
-mod nodes;
 mod places;
 mod sight;
 mod values;
@@ -21,8 +20,7 @@ pub use judge::first_fault;
 pub use known::Known;
 pub use limits::{LONGEST_LIFE, MOST_DATA};
 pub use names::Names;
-pub use nodes::Node;
-pub use places::Place;
+pub use places::WordPlace;
 pub use sight::{Hint, Shown, first_hint, hint_in, shown_of, word_at};
 pub use values::{
     client, daemon, is_lossy, known_node, life, new_entity, new_service, operation_data, unleaked,

@@ -3,12 +3,11 @@
 use crate::choices::{CommandForm, LeftState, Modes, Side};
 use crate::faults::FaultAt;
 use crate::known::Known;
-use crate::nodes::Node;
 use crate::sight::Shown;
 
 /// The kind of value that stands at a place of a line.
 #[derive(Clone, Copy, Debug, PartialEq, Eq)]
-pub enum Place {
+pub enum WordPlace {
     /// Seconds of a lifetime.
     Life,
     /// A reading of a clock.
@@ -59,10 +58,9 @@ pub enum Place {
 
 // Each of these goes to another thread, and is seen by several.
 fn are_sendable() {
-    is_sendable::<Place>();
+    is_sendable::<WordPlace>();
     is_sendable::<FaultAt>();
     is_sendable::<Shown>();
-    is_sendable::<Node>();
     is_sendable::<Known>();
     is_sendable::<Side>();
     is_sendable::<Modes>();

@@ -3,21 +3,21 @@
 ghost use Rattle.std.specs.Prelude.{◌≡◌, true, [], is_some, IfOk, IfSome, map};
 ghost use Rattle.std.specs.List.{list_any};
 ghost use Rattle.std.specs.Str.{bytes_eq};
+ghost use Rattle.cx_base.specs.Nodes.{node_text};
 ghost use Rattle.cx_line_words.specs.Known.{is_declarable, nothing};
 ghost use Rattle.cx_line_words.specs.Places.{is_good, node_of};
-ghost use Rattle.cx_line_words.specs.Values.{ClientOf, DaemonOf, DataOf, EntityOf, LifeOf, LossyWord, NodeOf, ServiceOf, UnleakedOf, UnmodedOf, UnseededOf, SpellsItem, IsWritable, node_word};
-ghost use Rattle.cx_line_words.specs.declared.places.Place.{Place};
+ghost use Rattle.cx_line_words.specs.Values.{ClientOf, DaemonOf, DataOf, EntityOf, LifeOf, LossyWord, NodeOf, ServiceOf, UnleakedOf, UnmodedOf, UnseededOf, SpellsItem, IsWritable};
+ghost use Rattle.cx_line_words.specs.declared.places.WordPlace.{WordPlace};
 
 use crate::known::Known;
 use crate::limits::{LONGEST_LIFE, MOST_DATA};
-use crate::nodes::Node;
-use cx_base::{Blob, EntityName, EntityType};
+use cx_base::{Blob, EntityName, EntityType, NodeName};
 use cx_words::{hex, is_word, name, number, service};
 use std::alloc::{AllocError, Global};
 
 /// The seconds of a lifetime.
 pub fn life(word: &[u8]) -> Option<u64>
-    ensures read { is_some result ≡ is_good nothing [] Place.Life word.now }
+    ensures read { is_some result ≡ is_good nothing [] WordPlace.Life word.now }
     ensures spelled { IfSome result (λ seconds. SpellsItem nothing [] (LifeOf seconds) word.now) }
 {
     let seconds = number(word)?;
@@ -34,7 +34,7 @@ pub fn new_entity(
     known: &Known,
     word: &[u8],
 ) -> Result<Option<EntityName>, AllocError>
-    ensures read { IfOk result (λ found. is_some found ≡ is_good known.now [] Place.Entity word.now) }
+    ensures read { IfOk result (λ found. is_some found ≡ is_good known.now [] WordPlace.Entity word.now) }
     ensures spelled { IfOk result (λ found. IfSome found (λ name. SpellsItem known.now [] (EntityOf name) word.now)) }
 {
     let Some(name) = name(alloc, word)? else {
@@ -60,7 +60,7 @@ pub fn is_declarable(name: &EntityName) -> bool
 
 /// A service that isn't among the words before it in its line.
 pub fn new_service(before: &[&[u8]], word: &[u8]) -> Option<EntityType>
-    ensures read { is_some result ≡ is_good nothing (map (λ w. w.now) before.now) Place.Service word.now }
+    ensures read { is_some result ≡ is_good nothing (map (λ w. w.now) before.now) WordPlace.Service word.now }
     ensures spelled { IfSome result (λ kind. SpellsItem nothing (map (λ w. w.now) before.now) (ServiceOf kind) word.now) }
 {
     let kind = service(word)?;
@@ -86,7 +86,7 @@ fn any_is(words: &[&[u8]], word: &[u8]) -> bool
 
 /// The name of a declared client.
 pub fn client(alloc: Global, known: &Known, word: &[u8]) -> Result<Option<EntityName>, AllocError>
-    ensures read { IfOk result (λ found. is_some found ≡ is_good known.now [] Place.Client word.now) }
+    ensures read { IfOk result (λ found. is_some found ≡ is_good known.now [] WordPlace.Client word.now) }
     ensures spelled { IfOk result (λ found. IfSome found (λ name. SpellsItem known.now [] (ClientOf name) word.now)) }
 {
     let Some(name) = name(alloc, word)? else {
@@ -101,7 +101,7 @@ pub fn client(alloc: Global, known: &Known, word: &[u8]) -> Result<Option<Entity
 
 /// The name of a declared client whose modes aren't given.
 pub fn unmoded(alloc: Global, known: &Known, word: &[u8]) -> Result<Option<EntityName>, AllocError>
-    ensures read { IfOk result (λ found. is_some found ≡ is_good known.now [] Place.Unmoded word.now) }
+    ensures read { IfOk result (λ found. is_some found ≡ is_good known.now [] WordPlace.Unmoded word.now) }
     ensures spelled { IfOk result (λ found. IfSome found (λ name. SpellsItem known.now [] (UnmodedOf name) word.now)) }
 {
     let Some(name) = name(alloc, word)? else {
@@ -118,7 +118,7 @@ pub fn unmoded(alloc: Global, known: &Known, word: &[u8]) -> Result<Option<Entit
 
 /// The name of a declared client that isn't leaked.
 pub fn unleaked(alloc: Global, known: &Known, word: &[u8]) -> Result<Option<EntityName>, AllocError>
-    ensures read { IfOk result (λ found. is_some found ≡ is_good known.now [] Place.Unleaked word.now) }
+    ensures read { IfOk result (λ found. is_some found ≡ is_good known.now [] WordPlace.Unleaked word.now) }
     ensures spelled { IfOk result (λ found. IfSome found (λ name. SpellsItem known.now [] (UnleakedOf name) word.now)) }
 {
     let Some(name) = name(alloc, word)? else {
@@ -135,7 +135,7 @@ pub fn unleaked(alloc: Global, known: &Known, word: &[u8]) -> Result<Option<Enti
 
 /// The name of a declared daemon.
 pub fn daemon(alloc: Global, known: &Known, word: &[u8]) -> Result<Option<EntityName>, AllocError>
-    ensures read { IfOk result (λ found. is_some found ≡ is_good known.now [] Place.Daemon word.now) }
+    ensures read { IfOk result (λ found. is_some found ≡ is_good known.now [] WordPlace.Daemon word.now) }
     ensures spelled { IfOk result (λ found. IfSome found (λ name. SpellsItem known.now [] (DaemonOf name) word.now)) }
 {
     let Some(name) = name(alloc, word)? else {
@@ -149,22 +149,22 @@ pub fn daemon(alloc: Global, known: &Known, word: &[u8]) -> Result<Option<Entity
 }
 
 /// The node that the word names, whether it is known or not: `mon`, or an entity's name.
-pub fn named_node(alloc: Global, word: &[u8]) -> Result<Option<Node>, AllocError>
+pub fn named_node(alloc: Global, word: &[u8]) -> Result<Option<NodeName>, AllocError>
     ensures read { IfOk result (λ found. found ≡ node_of word.now) }
-    ensures spelled { IfOk result (λ found. IfSome found (λ node. IsWritable node × (word.now ≡ node_word node))) }
+    ensures spelled { IfOk result (λ found. IfSome found (λ node. IsWritable node × (word.now ≡ node_text node))) }
 {
     if is_word(word, "mon") {
-        return Ok(Some(Node::Monitor));
+        return Ok(Some(NodeName::Monitor));
     }
     let Some(name) = name(alloc, word)? else {
         return Ok(None);
     };
-    Ok(Some(Node::Entity(name)))
+    Ok(Some(NodeName::Entity(name)))
 }
 
 /// The monitor, or a declared entity.
-pub fn known_node(alloc: Global, known: &Known, word: &[u8]) -> Result<Option<Node>, AllocError>
-    ensures read { IfOk result (λ found. is_some found ≡ is_good known.now [] Place.Node word.now) }
+pub fn known_node(alloc: Global, known: &Known, word: &[u8]) -> Result<Option<NodeName>, AllocError>
+    ensures read { IfOk result (λ found. is_some found ≡ is_good known.now [] WordPlace.Node word.now) }
     ensures spelled { IfOk result (λ found. IfSome found (λ node. SpellsItem known.now [] (NodeOf node) word.now)) }
 {
     let Some(node) = named_node(alloc, word)? else {
@@ -178,8 +178,8 @@ pub fn known_node(alloc: Global, known: &Known, word: &[u8]) -> Result<Option<No
 }
 
 /// The same, where it has no seed.
-pub fn unseeded(alloc: Global, known: &Known, word: &[u8]) -> Result<Option<Node>, AllocError>
-    ensures read { IfOk result (λ found. is_some found ≡ is_good known.now [] Place.Unseeded word.now) }
+pub fn unseeded(alloc: Global, known: &Known, word: &[u8]) -> Result<Option<NodeName>, AllocError>
+    ensures read { IfOk result (λ found. is_some found ≡ is_good known.now [] WordPlace.Unseeded word.now) }
     ensures spelled { IfOk result (λ found. IfSome found (λ node. SpellsItem known.now [] (UnseededOf node) word.now)) }
 {
     let Some(node) = named_node(alloc, word)? else {
@@ -196,7 +196,7 @@ pub fn unseeded(alloc: Global, known: &Known, word: &[u8]) -> Result<Option<Node
 
 /// Whether the word is `lossy`.
 pub fn is_lossy(word: &[u8]) -> bool
-    ensures read { result ≡ is_good nothing [] Place.Lossy word.now }
+    ensures read { result ≡ is_good nothing [] WordPlace.Lossy word.now }
     ensures spelled { result ≡ true → SpellsItem nothing [] LossyWord word.now }
 {
     is_word(word, "lossy")
@@ -204,7 +204,7 @@ pub fn is_lossy(word: &[u8]) -> bool
 
 /// The data of an operation.
 pub fn operation_data(alloc: Global, word: &[u8]) -> Result<Option<Blob>, AllocError>
-    ensures read { IfOk result (λ found. is_some found ≡ is_good nothing [] Place.Data word.now) }
+    ensures read { IfOk result (λ found. is_some found ≡ is_good nothing [] WordPlace.Data word.now) }
     ensures spelled { IfOk result (λ found. IfSome found (λ bytes. SpellsItem nothing [] (DataOf bytes) word.now)) }
 {
     let Some(bytes) = hex(alloc, word)? else {

@@ -7,27 +7,27 @@ use Rattle.std.proofs.lemmas.Bool.Decides.{nat_tests}
 use Rattle.cx_line_words.specs.declared.choices.CommandForm.{CommandForm}
 use Rattle.cx_line_words.specs.declared.choices.CommandForm.TheVariants as form
 use Rattle.cx_line_words.specs.declared.known.Known.{Known}
-use Rattle.cx_line_words.specs.declared.places.Place.{Place}
-use Rattle.cx_line_words.specs.declared.places.Place.TheVariants as at
+use Rattle.cx_line_words.specs.declared.places.WordPlace.{WordPlace}
+use Rattle.cx_line_words.specs.declared.places.WordPlace.TheVariants as at
 use Rattle.cx_line_words.specs.Choices.{command_form_of, command_word}
 use Rattle.cx_line_words.specs.Places.{are_good, is_good, is_whole}
 use Rattle.cx_line_words.specs.Values.{Item, ServiceOf, SpellsItem, SpellsItems}
 use Rattle.cx_line_words.proofs.ChoiceLemmas.{command_form_of-is}
-use Rattle.cx_lines.specs.declared.commands.Command.{Command}
-use Rattle.cx_lines.specs.declared.commands.Command.TheVariants.{Fetch, Login, Renew, Connect, Send}
+use Rattle.cx_lines.specs.declared.commands.LineCommand.{LineCommand}
+use Rattle.cx_lines.specs.declared.commands.LineCommand.TheVariants.{Fetch, Login, Renew, Connect, Send}
 use Rattle.cx_lines.specs.Commands.{command_items, command_places, IsCommand}
 use Rattle.cx_lines.specs.Lines.{behind_do, do_places, IsDo}
 
 -- whether the words before it decide nothing at a place
-abbrev is_free : Place → Bool
+abbrev is_free : WordPlace → Bool
 is_free at.Service = false
 is_free _ = true
 
-free_good : (known : Known) (b c : List (List ℕ)) (place : Place) (word : List ℕ) → is_free place ≡ true → is_good known b place word ≡ is_good known c place word
+free_good : (known : Known) (b c : List (List ℕ)) (place : WordPlace) (word : List ℕ) → is_free place ≡ true → is_good known b place word ≡ is_good known c place word
 free_good k b c at.Service w free = absurd (let e : false ≡ true = free in cc)
 free_good k b c p w free = refl
 
-free_all : (known : Known) (b c : List (List ℕ)) (places : List Place) (words : List (List ℕ)) → list_all is_free places ≡ true → are_good known b places words ≡ are_good known c places words
+free_all : (known : Known) (b c : List (List ℕ)) (places : List WordPlace) (words : List (List ℕ)) → list_all is_free places ≡ true → are_good known b places words ≡ are_good known c places words
 free_all k b c [] [] free = refl
 free_all k b c [] (w ∷ ws) free = refl
 free_all k b c (p ∷ ps) [] free = refl
@@ -36,7 +36,7 @@ free_all k b c (p ∷ ps) (w ∷ ws) free =
     ap (λ good. good && are_good k (b ++ w ∷ []) ps ws) (free_good k b c p w parts.0)
     ∙ ap (λ good. is_good k c p w && good) (free_all k (b ++ w ∷ []) (c ++ w ∷ []) ps ws parts.1)
 
-free_either : (b : Bool) (ps qs : List Place) → list_all is_free ps ≡ true → list_all is_free qs ≡ true → list_all is_free (cond b ps qs) ≡ true
+free_either : (b : Bool) (ps qs : List WordPlace) → list_all is_free ps ≡ true → list_all is_free qs ≡ true → list_all is_free (cond b ps qs) ≡ true
 free_either true ps qs p q = p
 free_either false ps qs p q = q
 
@@ -64,7 +64,7 @@ free_items k b c (i ∷ is) (w ∷ ws) free p =
     let parts = and_parts (is_free_item i) (list_all is_free_item is) free in
     (free_item k b c i w parts.0 p.0, free_items k (b ++ w ∷ []) (c ++ w ∷ []) is ws parts.1 p.1)
 
-free_command : (command : Command) → list_all is_free_item (command_items command) ≡ true
+free_command : (command : LineCommand) → list_all is_free_item (command_items command) ≡ true
 free_command (Fetch d) = refl
 free_command (Login c []) = refl
 free_command (Login c (s ∷ ss)) = refl
@@ -78,7 +78,7 @@ one_more a b =
     let e : (a + 1 == b + 1) ≡ (a == b) = grind (arith, nat_tests) in
     simp add-one at e
 
-same_length : (place : Place) (places : List Place) (word : List ℕ) (words : List (List ℕ)) → (length (place ∷ places) == length (word ∷ words)) ≡ (length places == length words)
+same_length : (place : WordPlace) (places : List WordPlace) (word : List ℕ) (words : List (List ℕ)) → (length (place ∷ places) == length (word ∷ words)) ≡ (length places == length words)
 same_length place places word words = one_more (length places) (length words)
 
 whole_behind : (known : Known) (f : CommandForm) (word : List ℕ) (words : List (List ℕ)) → command_form_of word ≡ Some f → is_whole known [] (command_places f words) words ≡ false → is_whole known [] (do_places (word ∷ words)) (word ∷ words) ≡ false
@@ -92,12 +92,12 @@ whole_behind k f w ws is bad =
     ∙ ap (λ b. (length ps == length ws) && b) (free_all k (w ∷ []) [] ps ws (free_places f ws))
     ∙ bad
 
-found_behind : (known : Known) (f : CommandForm) (word : List ℕ) (words : List (List ℕ)) (found : Option Command) → command_form_of word ≡ Some f → IsCommand known [] f words found → IsDo known (word ∷ words) found
+found_behind : (known : Known) (f : CommandForm) (word : List ℕ) (words : List (List ℕ)) (found : Option LineCommand) → command_form_of word ≡ Some f → IsCommand known [] f words found → IsDo known (word ∷ words) found
 found_behind k f w ws None is bad = whole_behind k f w ws is bad
 found_behind k f w ws (Some c) is p =
     (command_form_of-is w f is ∙ ap command_word p.0, free_items k [] (w ∷ []) (command_items c) ws (free_command c) p.1)
 
 -- a command is what stands behind do
-pub command_behind : {E : Type 0} (known : Known) (f : CommandForm) (word : List ℕ) (words : List (List ℕ)) (result : Result (Option Command) E) → Some f ≡ command_form_of word → IfOk result (IsCommand known [] f words) → IfOk result (IsDo known (word ∷ words))
+pub command_behind : {E : Type 0} (known : Known) (f : CommandForm) (word : List ℕ) (words : List (List ℕ)) (result : Result (Option LineCommand) E) → Some f ≡ command_form_of word → IfOk result (IsCommand known [] f words) → IfOk result (IsDo known (word ∷ words))
 command_behind k f w ws (Ok found) is p = found_behind k f w ws found (sym is) p
 command_behind k f w ws (Err e) is p = tt

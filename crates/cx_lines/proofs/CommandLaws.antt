@@ -10,12 +10,12 @@ use Rattle.cx_line_words.specs.declared.choices.CommandForm.TheVariants as form
 use Rattle.cx_line_words.specs.declared.known.Known.{Known}
 use Rattle.cx_line_words.specs.Values.{Item, ClientOf, DaemonOf, ServicesOf, AccessOf, PartOf, DataOf, LossyWord, SpellsItems}
 use Rattle.cx_line_words.proofs.ValueLemmas.{Values, place_of}
-use Rattle.cx_lines.specs.declared.commands.Command.{Command}
-use Rattle.cx_lines.specs.declared.commands.Command.TheVariants.{Fetch, Login, Renew, Connect, Send}
+use Rattle.cx_lines.specs.declared.commands.LineCommand.{LineCommand}
+use Rattle.cx_lines.specs.declared.commands.LineCommand.TheVariants.{Fetch, Login, Renew, Connect, Send}
 use Rattle.cx_lines.specs.Found.{SpellsIn}
 use Rattle.cx_lines.specs.Commands.{command_form, command_items, command_places, commands}
 
-pub command_placed : (known : Known) (before : List (List ℕ)) (line : Command) (ws : List (List ℕ)) → SpellsItems known before (command_items line) ws → command_places (command_form line) ws ≡ map place_of (command_items line)
+pub command_placed : (known : Known) (before : List (List ℕ)) (line : LineCommand) (ws : List (List ℕ)) → SpellsItems known before (command_items line) ws → command_places (command_form line) ws ≡ map place_of (command_items line)
 command_placed k b (Fetch d) ws p = refl
 command_placed k b (Login c []) [] p = absurd p
 command_placed k b (Login c []) (w ∷ []) p = refl
@@ -38,7 +38,7 @@ command_placed k b (Send c d o) ws p = refl
 
 -- ---- a command is told by its values
 
-abbrev pub command_from : CommandForm → List Item → Option Command
+abbrev pub command_from : CommandForm → List Item → Option LineCommand
 command_from form.Fetch (DaemonOf d ∷ []) = Some (Fetch d)
 command_from form.Login (ClientOf c ∷ []) = Some (Login c [])
 command_from form.Login (ClientOf c ∷ ServicesOf ss ∷ []) = Some (Login c ss)
@@ -49,7 +49,7 @@ command_from form.Send (ClientOf c ∷ DaemonOf d ∷ AccessOf a ∷ PartOf p �
     Some (Send c d (record { access = a; pool = p; namespace = n; object = o; bytes = bs }))
 command_from _ _ = None
 
-pub command_back : (line : Command) → command_from (command_form line) (command_items line) ≡ Some line
+pub command_back : (line : LineCommand) → command_from (command_form line) (command_items line) ≡ Some line
 command_back (Fetch d) = refl
 command_back (Login c []) = refl
 command_back (Login c (s ∷ ss)) = refl
@@ -60,11 +60,11 @@ command_back (Send c d o) = refl
 
 -- ---- values at the places of a form are those of a command
 
-login_for : (known : Known) (before : List (List ℕ)) (c : Name) (ss : List EntityType) (w v : List ℕ) → SpellsItems known before (ClientOf c ∷ ServicesOf ss ∷ []) (w ∷ v ∷ []) → (line : Command) × SpellsIn commands known before form.Login (w ∷ v ∷ []) line
+login_for : (known : Known) (before : List (List ℕ)) (c : Name) (ss : List EntityType) (w v : List ℕ) → SpellsItems known before (ClientOf c ∷ ServicesOf ss ∷ []) (w ∷ v ∷ []) → (line : LineCommand) × SpellsIn commands known before form.Login (w ∷ v ∷ []) line
 login_for k b c [] w v p = absurd (let x : false ≡ true = p.1.0.0 in cc)
 login_for k b c (s ∷ ss) w v p = (Login c (s ∷ ss), (refl, p))
 
-pub command_found : (known : Known) (before : List (List ℕ)) (f : CommandForm) (ws : List (List ℕ)) → Values known before (command_places f ws) ws → (line : Command) × SpellsIn commands known before f ws line
+pub command_found : (known : Known) (before : List (List ℕ)) (f : CommandForm) (ws : List (List ℕ)) → Values known before (command_places f ws) ws → (line : LineCommand) × SpellsIn commands known before f ws line
 command_found k b form.Fetch [] v = absurd v
 command_found k b form.Fetch (w ∷ []) v = (Fetch v.0.0, (refl, (v.0.1, tt)))
 command_found k b form.Fetch (w ∷ u ∷ ws) v = absurd v.1
@@ -88,7 +88,7 @@ command_found k b form.Connect (w ∷ u ∷ t ∷ s ∷ ws) v =
     absurd ((rw many at v).1.1.1)
 command_found k b form.Send ws v = send_in k b ws v
   where
-    send_in : (known : Known) (before ws : List (List ℕ)) → Values known before (command_places form.Send ws) ws → (line : Command) × SpellsIn commands known before form.Send ws line
+    send_in : (known : Known) (before ws : List (List ℕ)) → Values known before (command_places form.Send ws) ws → (line : LineCommand) × SpellsIn commands known before form.Send ws line
     send_in k b [] v = absurd v
     send_in k b (w ∷ []) v = absurd v.1
     send_in k b (w ∷ u ∷ []) v = absurd v.1.1

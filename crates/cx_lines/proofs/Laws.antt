@@ -10,14 +10,14 @@ use Rattle.cx_words.proofs.NumberWords.{reading_below}
 use Rattle.cx_line_words.specs.declared.choices.CommandForm.TheVariants as command
 use Rattle.cx_line_words.specs.declared.faults.FaultAt.{FaultAt}
 use Rattle.cx_line_words.specs.declared.known.Known.{Known}
-use Rattle.cx_line_words.specs.declared.places.Place.TheVariants as at
+use Rattle.cx_line_words.specs.declared.places.WordPlace.TheVariants as at
 use Rattle.cx_line_words.specs.Choices.{command_form_of, command_word}
 use Rattle.cx_line_words.specs.Places.{are_good}
 use Rattle.cx_line_words.specs.Values.{Item, CommandOf, SpellsItems}
 use Rattle.cx_line_words.proofs.ChoiceLemmas.{command_form_of-is, command_form_of-word}
 use Rattle.cx_line_words.proofs.Faultless.{faultless, none_among}
 use Rattle.cx_line_words.proofs.ValueLemmas.{Values, all_good, as_many, items_back, place_of, read_items, values_in}
-use Rattle.cx_lines.specs.declared.commands.Command.{Command}
+use Rattle.cx_lines.specs.declared.commands.LineCommand.{LineCommand}
 use Rattle.cx_lines.specs.declared.lines.Head.{Head}
 use Rattle.cx_lines.specs.declared.lines.Head.TheVariants as head
 use Rattle.cx_lines.specs.declared.lines.Line.{Line}
@@ -132,7 +132,7 @@ clean k line (w ∷ ws) p =
 
 -- ---- words spell one line
 
-abbrev do_from : List Item → Option Command
+abbrev do_from : List Item → Option LineCommand
 do_from (CommandOf f ∷ rest) = command_from f rest
 do_from _ = None
 

@@ -4,18 +4,18 @@ use Rattle.std.specs.Prelude.{◌&&◌}
 use Rattle.std.proofs.lemmas.Bool.{and_parts}
 use Rattle.std.proofs.lemmas.List.{drop_more, map_more}
 use Rattle.cx_base.specs.Names.{Name}
-use Rattle.cx_lines.specs.declared.entity.Grant.{Grant}
+use Rattle.cx_base.specs.declared.grants.Grant.{Grant}
 use Rattle.cx_lines.specs.declared.settings.SettingForm.TheVariants as form
 use Rattle.cx_lines.specs.Settings.{grant_items, pair_places, setting_places}
 use Rattle.cx_line_words.specs.declared.known.Known.{Known}
-use Rattle.cx_line_words.specs.declared.places.Place.{Place}
-use Rattle.cx_line_words.specs.declared.places.Place.TheVariants as at
+use Rattle.cx_line_words.specs.declared.places.WordPlace.{WordPlace}
+use Rattle.cx_line_words.specs.declared.places.WordPlace.TheVariants as at
 use Rattle.cx_line_words.specs.Known.{nothing}
 use Rattle.cx_line_words.specs.Places.{are_good, is_good, is_whole}
 use Rattle.cx_line_words.specs.Values.{Item, EntityOf, ServiceOf, CapsOf, SpellsItem, SpellsItems}
 
 -- the places of a pair of which one word is there
-pub one_left : {A : Type 0} (f : A → List ℕ) (ps : List Place) (ws : List A) → length ws < 2 → 0 < length ws → (ps ++ at.Service ∷ []) ++ at.Caps ∷ [] ≡ ps ++ pair_places (map f ws)
+pub one_left : {A : Type 0} (f : A → List ℕ) (ps : List WordPlace) (ws : List A) → length ws < 2 → 0 < length ws → (ps ++ at.Service ∷ []) ++ at.Caps ∷ [] ≡ ps ++ pair_places (map f ws)
 one_left f ps [] few some = absurd (omega arith)
 one_left f ps (w ∷ []) few some = append_assoc ps (at.Service ∷ []) (at.Caps ∷ [])
 one_left f ps (w ∷ v ∷ ws) few some = absurd (omega arith)

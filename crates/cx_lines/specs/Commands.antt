@@ -5,15 +5,15 @@ use Rattle.cx_base.specs.declared.operations.Operation.{Operation}
 use Rattle.cx_line_words.specs.declared.choices.CommandForm.{CommandForm}
 use Rattle.cx_line_words.specs.declared.choices.CommandForm.TheVariants as form
 use Rattle.cx_line_words.specs.declared.known.Known.{Known}
-use Rattle.cx_line_words.specs.declared.places.Place.{Place}
-use Rattle.cx_line_words.specs.declared.places.Place.TheVariants as at
+use Rattle.cx_line_words.specs.declared.places.WordPlace.{WordPlace}
+use Rattle.cx_line_words.specs.declared.places.WordPlace.TheVariants as at
 use Rattle.cx_line_words.specs.Values.{Item, ClientOf, DaemonOf, ServicesOf, AccessOf, PartOf, DataOf, LossyWord}
-use Rattle.cx_lines.specs.declared.commands.Command.{Command}
-use Rattle.cx_lines.specs.declared.commands.Command.TheVariants.{Fetch, Login, Renew, Connect, Send}
+use Rattle.cx_lines.specs.declared.commands.LineCommand.{LineCommand}
+use Rattle.cx_lines.specs.declared.commands.LineCommand.TheVariants.{Fetch, Login, Renew, Connect, Send}
 use Rattle.cx_lines.specs.Found.{Family, IsFound}
 
 -- the form of a command
-abbrev pub command_form : Command → CommandForm
+abbrev pub command_form : LineCommand → CommandForm
 command_form (Fetch daemon) = form.Fetch
 command_form (Login client services) = form.Login
 command_form (Renew client services) = form.Renew
@@ -21,12 +21,12 @@ command_form (Connect client daemon lossy) = form.Connect
 command_form (Send client daemon operation) = form.Send
 
 -- the places of an operation
-abbrev pub operation_places : List Place
+abbrev pub operation_places : List WordPlace
 operation_places = at.Access ∷ at.Part ∷ at.Part ∷ at.Part ∷ at.Data ∷ []
 
 -- the places behind the first word, where these words stand there: where a form has several lengths, the longer one if there
 -- are more words than the shorter one takes
-abbrev pub command_places : CommandForm → List (List ℕ) → List Place
+abbrev pub command_places : CommandForm → List (List ℕ) → List WordPlace
 command_places form.Fetch words = at.Daemon ∷ []
 command_places form.Login words = if nat_le (length words) 1 then at.Client ∷ [] else at.Client ∷ at.Services ∷ []
 command_places form.Renew words = at.Client ∷ at.Services ∷ []
@@ -51,7 +51,7 @@ lossy_items false = []
 lossy_items true = LossyWord ∷ []
 
 -- what stands behind the first word
-abbrev pub command_items : Command → List Item
+abbrev pub command_items : LineCommand → List Item
 command_items (Fetch daemon) = DaemonOf daemon ∷ []
 command_items (Login client services) = ClientOf client ∷ asked_items services
 command_items (Renew client services) = ClientOf client ∷ ServicesOf services ∷ []
@@ -59,8 +59,8 @@ command_items (Connect client daemon lossy) = ClientOf client ∷ DaemonOf daemo
 command_items (Send client daemon operation) = ClientOf client ∷ DaemonOf daemon ∷ operation_items operation
 
 -- commands as a family
-abbrev pub commands : Family CommandForm Command
+abbrev pub commands : Family CommandForm LineCommand
 commands = record { places = command_places; form = command_form; items = command_items }
 
-abbrev pub IsCommand : Known → List (List ℕ) → CommandForm → List (List ℕ) → Option Command → Type 0
+abbrev pub IsCommand : Known → List (List ℕ) → CommandForm → List (List ℕ) → Option LineCommand → Type 0
 IsCommand known before form words found = IsFound commands known before form words found

@@ -1,13 +1,13 @@
 -- What words are found to be where a form has these places and its lines these values.
 use Rattle.std.specs.Prelude.{ℕ, ◌≡◌, false, List, Option, Some, None}
 use Rattle.cx_line_words.specs.declared.known.Known.{Known}
-use Rattle.cx_line_words.specs.declared.places.Place.{Place}
+use Rattle.cx_line_words.specs.declared.places.WordPlace.{WordPlace}
 use Rattle.cx_line_words.specs.Places.{is_whole}
 use Rattle.cx_line_words.specs.Values.{Item, SpellsItems}
 
 -- a family of lines: the places of each form, where these words stand there, the form of a line and its values
 pub record Family (F L : Type 0) : Type 0 where
-  pub places : F → List (List ℕ) → List Place
+  pub places : F → List (List ℕ) → List WordPlace
   pub form : L → F
   pub items : L → List Item
 

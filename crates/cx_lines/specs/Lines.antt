@@ -7,13 +7,13 @@ use Rattle.cx_line_words.specs.declared.choices.CommandForm.{CommandForm}
 use Rattle.cx_line_words.specs.declared.faults.FaultAt.{FaultAt}
 use Rattle.cx_line_words.specs.declared.faults.LineFault.TheVariants.{UnknownWord}
 use Rattle.cx_line_words.specs.declared.known.Known.{Known}
-use Rattle.cx_line_words.specs.declared.places.Place.{Place}
-use Rattle.cx_line_words.specs.declared.places.Place.TheVariants as at
+use Rattle.cx_line_words.specs.declared.places.WordPlace.{WordPlace}
+use Rattle.cx_line_words.specs.declared.places.WordPlace.TheVariants as at
 use Rattle.cx_line_words.specs.Choices.{command_form_of, command_word}
 use Rattle.cx_line_words.specs.Faults.{fault_among, fault_at}
 use Rattle.cx_line_words.specs.Places.{is_whole}
 use Rattle.cx_line_words.specs.Values.{Item, CommandOf, SpellsItems, is_life}
-use Rattle.cx_lines.specs.declared.commands.Command.{Command}
+use Rattle.cx_lines.specs.declared.commands.LineCommand.{LineCommand}
 use Rattle.cx_lines.specs.declared.lines.Head.{Head}
 use Rattle.cx_lines.specs.declared.lines.Head.TheVariants as head
 use Rattle.cx_lines.specs.declared.lines.Line.{Line}
@@ -64,21 +64,21 @@ form_of (Node step) = head.Node (node_form step)
 -- ---- what stands behind it
 
 -- a place for each word, whatever it is
-abbrev pub anything : List (List ℕ) → List Place
+abbrev pub anything : List (List ℕ) → List WordPlace
 anything words = map (λ word. at.Anything) words
 
 -- the places behind a word that begins this command, or none
-abbrev pub behind_do : Option CommandForm → List (List ℕ) → List Place
+abbrev pub behind_do : Option CommandForm → List (List ℕ) → List WordPlace
 behind_do None words = anything words
 behind_do (Some form) words = command_places form words
 
 -- the places behind do: those of a whole command
-abbrev pub do_places : List (List ℕ) → List Place
+abbrev pub do_places : List (List ℕ) → List WordPlace
 do_places [] = at.Command ∷ []
 do_places (word ∷ words) = at.Command ∷ behind_do (command_form_of word) words
 
 -- the places behind the first word, in the form that these words come closest to
-abbrev pub places : Head → List (List ℕ) → List Place
+abbrev pub places : Head → List (List ℕ) → List WordPlace
 places (head.Setting form) words = setting_places form words
 places (head.Submit form) words = command_places form words
 places head.Do words = do_places words
@@ -86,7 +86,7 @@ places (head.Link form) words = link_places form words
 places (head.Node form) words = node_places form words
 
 -- what stands behind do
-abbrev pub do_items : Command → List Item
+abbrev pub do_items : LineCommand → List Item
 do_items command = CommandOf (command_form command) ∷ command_items command
 
 -- what stands behind the first word
@@ -106,7 +106,7 @@ abbrev pub IsLine : Known → Head → List (List ℕ) → Option Line → Type 
 IsLine known form words found = IsFound all_lines known [] form words found
 
 -- what words behind do are found to be
-abbrev pub IsDo : Known → List (List ℕ) → Option Command → Type 0
+abbrev pub IsDo : Known → List (List ℕ) → Option LineCommand → Type 0
 IsDo known words None = is_whole known [] (do_places words) words ≡ false
 IsDo known words (Some command) = SpellsItems known [] (do_items command) words
 

@@ -1,8 +1,8 @@
 -- Lines on links: what is carried, lost, injected, carried again and cut.
 use Rattle.std.specs.Prelude.{ℕ, nat_le, List, [], ◌∷◌, length, Option, Some, None, codes, if◌then◌else◌}
 use Rattle.cx_line_words.specs.declared.known.Known.{Known}
-use Rattle.cx_line_words.specs.declared.places.Place.{Place}
-use Rattle.cx_line_words.specs.declared.places.Place.TheVariants as at
+use Rattle.cx_line_words.specs.declared.places.WordPlace.{WordPlace}
+use Rattle.cx_line_words.specs.declared.places.WordPlace.TheVariants as at
 use Rattle.cx_line_words.specs.Choices.{chosen}
 use Rattle.cx_line_words.specs.Values.{Item, NumberOf, SideOf, BytesOf}
 use Rattle.cx_lines.specs.declared.link_steps.LinkStep.{LinkStep}
@@ -32,7 +32,7 @@ link_form (Again link side piece other) = form.Again
 link_form (Cut link) = form.Cut
 
 -- the places behind the first word, where these words stand there
-abbrev pub link_places : LinkForm → List (List ℕ) → List Place
+abbrev pub link_places : LinkForm → List (List ℕ) → List WordPlace
 link_places form.Carry words =
     if nat_le (length words) 2 then at.Number ∷ at.Side ∷ [] else at.Number ∷ at.Side ∷ at.Number ∷ []
 link_places form.Lose words = at.Number ∷ at.Side ∷ []

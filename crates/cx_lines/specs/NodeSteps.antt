@@ -1,8 +1,8 @@
 -- Lines on clocks, nodes and saves.
 use Rattle.std.specs.Prelude.{ℕ, nat_le, List, [], ◌∷◌, length, Option, codes, if◌then◌else◌}
 use Rattle.cx_line_words.specs.declared.known.Known.{Known}
-use Rattle.cx_line_words.specs.declared.places.Place.{Place}
-use Rattle.cx_line_words.specs.declared.places.Place.TheVariants as at
+use Rattle.cx_line_words.specs.declared.places.WordPlace.{WordPlace}
+use Rattle.cx_line_words.specs.declared.places.WordPlace.TheVariants as at
 use Rattle.cx_line_words.specs.Choices.{chosen}
 use Rattle.cx_line_words.specs.Values.{Item, ReadingOf, NumberOf, DaemonOf, NodeOf, StateOf}
 use Rattle.cx_lines.specs.declared.node_steps.NodeStep.{NodeStep}
@@ -36,7 +36,7 @@ node_form (FailSave state) = form.FailSave
 node_form Settle = form.Settle
 
 -- the places behind the first word, where these words stand there
-abbrev pub node_places : NodeForm → List (List ℕ) → List Place
+abbrev pub node_places : NodeForm → List (List ℕ) → List WordPlace
 node_places form.Clock words = if nat_le (length words) 1 then at.Reading ∷ [] else at.Node ∷ at.Reading ∷ []
 node_places form.DropSession words = at.Daemon ∷ at.Number ∷ []
 node_places form.Tick words = at.Node ∷ []

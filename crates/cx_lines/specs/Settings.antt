@@ -2,11 +2,11 @@
 -- clients, and the clients that are leaked.
 use Rattle.std.specs.Prelude.{ℕ, List, [], ◌∷◌, Option, codes}
 use Rattle.cx_line_words.specs.declared.known.Known.{Known}
-use Rattle.cx_line_words.specs.declared.places.Place.{Place}
-use Rattle.cx_line_words.specs.declared.places.Place.TheVariants as at
+use Rattle.cx_line_words.specs.declared.places.WordPlace.{WordPlace}
+use Rattle.cx_line_words.specs.declared.places.WordPlace.TheVariants as at
 use Rattle.cx_line_words.specs.Choices.{chosen}
 use Rattle.cx_line_words.specs.Values.{Item, LifeOf, NumberOf, EntityOf, ServiceOf, CapsOf, UnmodedOf, UnleakedOf, UnseededOf, ModesOf}
-use Rattle.cx_lines.specs.declared.entity.Grant.{Grant}
+use Rattle.cx_base.specs.declared.grants.Grant.{Grant}
 use Rattle.cx_lines.specs.declared.settings.Setting.{Setting}
 use Rattle.cx_lines.specs.declared.settings.Setting.TheVariants.{Lifetime, AuthLifetime, Entity, Seed, Modes, Leak}
 use Rattle.cx_lines.specs.declared.settings.SettingForm.{SettingForm}
@@ -37,17 +37,17 @@ setting_form (Modes client modes) = form.Modes
 setting_form (Leak client) = form.Leak
 
 -- the places of an entity's pairs of a service and its caps, where these words stand behind its name
-abbrev pub pair_places : List (List ℕ) → List Place
+abbrev pub pair_places : List (List ℕ) → List WordPlace
 pair_places [] = []
 pair_places (service ∷ []) = at.Service ∷ at.Caps ∷ []
 pair_places (service ∷ caps ∷ words) = at.Service ∷ at.Caps ∷ pair_places words
 
-abbrev pub entity_places : List (List ℕ) → List Place
+abbrev pub entity_places : List (List ℕ) → List WordPlace
 entity_places [] = at.Entity ∷ []
 entity_places (name ∷ pairs) = at.Entity ∷ pair_places pairs
 
 -- the places behind the first word, where these words stand there
-abbrev pub setting_places : SettingForm → List (List ℕ) → List Place
+abbrev pub setting_places : SettingForm → List (List ℕ) → List WordPlace
 setting_places form.Lifetime words = at.Life ∷ []
 setting_places form.AuthLifetime words = at.Life ∷ []
 setting_places form.Entity words = entity_places words

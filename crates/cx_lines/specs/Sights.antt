@@ -3,7 +3,7 @@ use Rattle.std.specs.Prelude.{ℕ, ◌-◌, nat_lt, List, [], ◌∷◌, slice_g
 use Rattle.std.specs.Option.{option_map}
 use Rattle.cx_line_words.specs.declared.faults.FaultAt.{FaultAt}
 use Rattle.cx_line_words.specs.declared.known.Known.{Known}
-use Rattle.cx_line_words.specs.declared.places.Place.{Place}
+use Rattle.cx_line_words.specs.declared.places.WordPlace.{WordPlace}
 use Rattle.cx_line_words.specs.Sights.{first_hint, shown_of, word_at}
 use Rattle.cx_lines.specs.declared.lines.Head.{Head}
 use Rattle.cx_lines.specs.declared.sight.BadWord.{BadWord}
@@ -15,11 +15,11 @@ form_in [] = None
 form_in (word ∷ words) = head_of word
 
 -- the place of the word of this number among those behind the first word, which has none itself
-abbrev pub place_at : List Place → ℕ → Option Place
+abbrev pub place_at : List WordPlace → ℕ → Option WordPlace
 place_at places number = if nat_lt number 2 then None else slice_get places (number - 2)
 
 -- what the place of the word of this number takes
-abbrev pub takes_at : Option Head → List (List ℕ) → ℕ → Option Place
+abbrev pub takes_at : Option Head → List (List ℕ) → ℕ → Option WordPlace
 takes_at None words number = None
 takes_at (Some form) [] number = None
 takes_at (Some form) (word ∷ words) number = place_at (places form words) number

@@ -3,16 +3,17 @@
 ghost use Rattle.std.specs.Prelude.{◌≡◌, ◌∷◌, [], map, IfOk};
 ghost use Rattle.cx_line_words.specs.declared.choices.CommandForm.{CommandForm};
 ghost use Rattle.cx_lines.specs.Commands.{command_form, command_places, IsCommand};
+ghost use Rattle.cx_lines.specs.declared.commands.LineCommand.{LineCommand};
 
 use crate::sending::{SEND_PLACES, send_of};
 use cx_base::{Duplicate, EntityName, EntityType, Items, Operation, copy_items};
-use cx_line_words::{CommandForm, Known, Place, client, daemon, is_lossy};
+use cx_line_words::{CommandForm, Known, WordPlace, client, daemon, is_lossy};
 use cx_words::services;
 use std::alloc::{AllocError, Global};
 
 /// What a node is told to do.
-#[derive(Debug, PartialEq, Eq, Drop)]
-pub enum Command {
+#[derive(PartialEq, Eq, Drop)]
+pub enum LineCommand {
     /// A daemon fetches the generations of its type.
     Fetch(EntityName),
     /// A client logs in and asks for tickets of these services.
@@ -25,55 +26,51 @@ pub enum Command {
     Send(EntityName, EntityName, Operation),
 }
 
-impl Command {
+impl LineCommand {
     /// The form of the command.
     pub fn form(&self) -> CommandForm
         ensures { result ≡ command_form self.now }
     {
         match self {
-            Command::Fetch(_) => CommandForm::Fetch,
-            Command::Login(_, _) => CommandForm::Login,
-            Command::Renew(_, _) => CommandForm::Renew,
-            Command::Connect(_, _, _) => CommandForm::Connect,
-            Command::Send(_, _, _) => CommandForm::Send,
+            LineCommand::Fetch(_) => CommandForm::Fetch,
+            LineCommand::Login(_, _) => CommandForm::Login,
+            LineCommand::Renew(_, _) => CommandForm::Renew,
+            LineCommand::Connect(_, _, _) => CommandForm::Connect,
+            LineCommand::Send(_, _, _) => CommandForm::Send,
         }
     }
 }
 
 /// The places behind the first word, where these words stand there.
-pub fn command_places(
-    alloc: Global,
-    form: CommandForm,
-    words: &[&[u8]],
-) -> Result<Vec<Place>, AllocError>
-    ensures { IfOk result (λ found. found.items ≡ command_places form (map (λ w. w.now) words.now)) }
+pub fn command_places(form: CommandForm, words: &[&[u8]]) -> &'static [WordPlace]
+    ensures { result.now ≡ command_places form (map (λ w. w.now) words.now) }
 {
     match form {
-        CommandForm::Fetch => Vec::from_slice(alloc, &[Place::Daemon]),
-        CommandForm::Login => login_places(alloc, words),
-        CommandForm::Renew => Vec::from_slice(alloc, &[Place::Client, Place::Services]),
-        CommandForm::Connect => connect_places(alloc, words),
-        CommandForm::Send => Vec::from_slice(alloc, &SEND_PLACES),
+        CommandForm::Fetch => &[WordPlace::Daemon],
+        CommandForm::Login => login_places(words),
+        CommandForm::Renew => &[WordPlace::Client, WordPlace::Services],
+        CommandForm::Connect => connect_places(words),
+        CommandForm::Send => &SEND_PLACES,
     }
 }
 
-fn login_places(alloc: Global, words: &[&[u8]]) -> Result<Vec<Place>, AllocError>
-    ensures { IfOk result (λ found. found.items ≡ command_places CommandForm.Login (map (λ w. w.now) words.now)) }
+fn login_places(words: &[&[u8]]) -> &'static [WordPlace]
+    ensures { result.now ≡ command_places CommandForm.Login (map (λ w. w.now) words.now) }
 {
     if words.len() <= 1 {
-        Vec::from_slice(alloc, &[Place::Client])
+        &[WordPlace::Client]
     } else {
-        Vec::from_slice(alloc, &[Place::Client, Place::Services])
+        &[WordPlace::Client, WordPlace::Services]
     }
 }
 
-fn connect_places(alloc: Global, words: &[&[u8]]) -> Result<Vec<Place>, AllocError>
-    ensures { IfOk result (λ found. found.items ≡ command_places CommandForm.Connect (map (λ w. w.now) words.now)) }
+fn connect_places(words: &[&[u8]]) -> &'static [WordPlace]
+    ensures { result.now ≡ command_places CommandForm.Connect (map (λ w. w.now) words.now) }
 {
     if words.len() <= 2 {
-        Vec::from_slice(alloc, &[Place::Client, Place::Daemon])
+        &[WordPlace::Client, WordPlace::Daemon]
     } else {
-        Vec::from_slice(alloc, &[Place::Client, Place::Daemon, Place::Lossy])
+        &[WordPlace::Client, WordPlace::Daemon, WordPlace::Lossy]
     }
 }
 
@@ -83,7 +80,7 @@ pub fn command_of(
     known: &Known,
     form: CommandForm,
     words: &[&[u8]],
-) -> Result<Option<Command>, AllocError>
+) -> Result<Option<LineCommand>, AllocError>
     ensures { IfOk result (IsCommand known.now [] form (map (λ w. w.now) words.now)) }
 {
     match form {
@@ -95,7 +92,11 @@ pub fn command_of(
     }
 }
 
-fn fetch_of(alloc: Global, known: &Known, words: &[&[u8]]) -> Result<Option<Command>, AllocError>
+fn fetch_of(
+    alloc: Global,
+    known: &Known,
+    words: &[&[u8]],
+) -> Result<Option<LineCommand>, AllocError>
     ensures { IfOk result (IsCommand known.now [] CommandForm.Fetch (map (λ w. w.now) words.now)) }
 {
     let [word] = words else {
@@ -104,10 +105,14 @@ fn fetch_of(alloc: Global, known: &Known, words: &[&[u8]]) -> Result<Option<Comm
     let Some(daemon) = daemon(alloc, known, word)? else {
         return Ok(None);
     };
-    Ok(Some(Command::Fetch(daemon)))
+    Ok(Some(LineCommand::Fetch(daemon)))
 }
 
-fn login_of(alloc: Global, known: &Known, words: &[&[u8]]) -> Result<Option<Command>, AllocError>
+fn login_of(
+    alloc: Global,
+    known: &Known,
+    words: &[&[u8]],
+) -> Result<Option<LineCommand>, AllocError>
     ensures { IfOk result (IsCommand known.now [] CommandForm.Login (map (λ w. w.now) words.now)) }
 {
     match words {
@@ -117,13 +122,13 @@ fn login_of(alloc: Global, known: &Known, words: &[&[u8]]) -> Result<Option<Comm
     }
 }
 
-fn login(alloc: Global, known: &Known, word: &[u8]) -> Result<Option<Command>, AllocError>
+fn login(alloc: Global, known: &Known, word: &[u8]) -> Result<Option<LineCommand>, AllocError>
     ensures { IfOk result (IsCommand known.now [] CommandForm.Login (word.now ∷ [])) }
 {
     let Some(client) = client(alloc, known, word)? else {
         return Ok(None);
     };
-    Ok(Some(Command::Login(client, Items::new(alloc))))
+    Ok(Some(LineCommand::Login(client, Items::new(alloc))))
 }
 
 fn login_for(
@@ -131,7 +136,7 @@ fn login_for(
     known: &Known,
     word: &[u8],
     list: &[u8],
-) -> Result<Option<Command>, AllocError>
+) -> Result<Option<LineCommand>, AllocError>
     ensures { IfOk result (IsCommand known.now [] CommandForm.Login (word.now ∷ list.now ∷ [])) }
 {
     let Some(client) = client(alloc, known, word)? else {
@@ -140,10 +145,14 @@ fn login_for(
     let Some(asked) = services(alloc, list)? else {
         return Ok(None);
     };
-    Ok(Some(Command::Login(client, asked)))
+    Ok(Some(LineCommand::Login(client, asked)))
 }
 
-fn renew_of(alloc: Global, known: &Known, words: &[&[u8]]) -> Result<Option<Command>, AllocError>
+fn renew_of(
+    alloc: Global,
+    known: &Known,
+    words: &[&[u8]],
+) -> Result<Option<LineCommand>, AllocError>
     ensures { IfOk result (IsCommand known.now [] CommandForm.Renew (map (λ w. w.now) words.now)) }
 {
     let [word, list] = words else {
@@ -155,10 +164,14 @@ fn renew_of(alloc: Global, known: &Known, words: &[&[u8]]) -> Result<Option<Comm
     let Some(asked) = services(alloc, list)? else {
         return Ok(None);
     };
-    Ok(Some(Command::Renew(client, asked)))
+    Ok(Some(LineCommand::Renew(client, asked)))
 }
 
-fn connect_of(alloc: Global, known: &Known, words: &[&[u8]]) -> Result<Option<Command>, AllocError>
+fn connect_of(
+    alloc: Global,
+    known: &Known,
+    words: &[&[u8]],
+) -> Result<Option<LineCommand>, AllocError>
     ensures { IfOk result (IsCommand known.now [] CommandForm.Connect (map (λ w. w.now) words.now)) }
 {
     match words {
@@ -173,7 +186,7 @@ fn connect(
     known: &Known,
     from: &[u8],
     to: &[u8],
-) -> Result<Option<Command>, AllocError>
+) -> Result<Option<LineCommand>, AllocError>
     ensures { IfOk result (IsCommand known.now [] CommandForm.Connect (from.now ∷ to.now ∷ [])) }
 {
     let Some(client) = client(alloc, known, from)? else {
@@ -182,7 +195,7 @@ fn connect(
     let Some(daemon) = daemon(alloc, known, to)? else {
         return Ok(None);
     };
-    Ok(Some(Command::Connect(client, daemon, false)))
+    Ok(Some(LineCommand::Connect(client, daemon, false)))
 }
 
 fn connect_lossy(
@@ -191,7 +204,7 @@ fn connect_lossy(
     from: &[u8],
     to: &[u8],
     word: &[u8],
-) -> Result<Option<Command>, AllocError>
+) -> Result<Option<LineCommand>, AllocError>
     ensures { IfOk result (IsCommand known.now [] CommandForm.Connect (from.now ∷ to.now ∷ word.now ∷ [])) }
 {
     let Some(client) = client(alloc, known, from)? else {
@@ -203,37 +216,79 @@ fn connect_lossy(
     if !is_lossy(word) {
         return Ok(None);
     }
-    Ok(Some(Command::Connect(client, daemon, true)))
+    Ok(Some(LineCommand::Connect(client, daemon, true)))
 }
 
-impl Duplicate for Command {
-    fn copy(&self, alloc: Global) -> Result<Command, AllocError> {
+impl Duplicate for LineCommand {
+    fn copy(&self, alloc: Global) -> Result<LineCommand, AllocError> {
         match self {
-            Command::Fetch(daemon) => {
-                let daemon = daemon.copy(alloc)?;
-                Ok(Command::Fetch(daemon))
+            LineCommand::Fetch(daemon) => copied_fetch(alloc, daemon),
+            LineCommand::Login(client, asked) => copied_login(alloc, client, asked),
+            LineCommand::Renew(client, asked) => copied_renew(alloc, client, asked),
+            LineCommand::Connect(client, daemon, lossy) => {
+                copied_connect(alloc, client, daemon, *lossy)
             }
-            Command::Login(client, asked) => {
-                let client = client.copy(alloc)?;
-                let asked = copy_items(alloc, asked)?;
-                Ok(Command::Login(client, asked))
-            }
-            Command::Renew(client, asked) => {
-                let client = client.copy(alloc)?;
-                let asked = copy_items(alloc, asked)?;
-                Ok(Command::Renew(client, asked))
-            }
-            Command::Connect(client, daemon, lossy) => {
-                let client = client.copy(alloc)?;
-                let daemon = daemon.copy(alloc)?;
-                Ok(Command::Connect(client, daemon, *lossy))
-            }
-            Command::Send(client, daemon, operation) => {
-                let client = client.copy(alloc)?;
-                let daemon = daemon.copy(alloc)?;
-                let operation = operation.copy(alloc)?;
-                Ok(Command::Send(client, daemon, operation))
+            LineCommand::Send(client, daemon, operation) => {
+                copied_send(alloc, client, daemon, operation)
             }
         }
     }
+}
+
+fn copied_fetch(alloc: Global, daemon: &EntityName) -> Result<LineCommand, AllocError>
+    ensures { IfOk result (λ copied. copied ≡ LineCommand.Fetch daemon.now) }
+{
+    let daemon = daemon.copy(alloc)?;
+    Ok(LineCommand::Fetch(daemon))
+}
+
+fn copied_login(
+    alloc: Global,
+    client: &EntityName,
+    asked: &Items<EntityType>,
+) -> Result<LineCommand, AllocError>
+    ensures { IfOk result (λ copied. copied ≡ LineCommand.Login client.now asked.now) }
+{
+    let client = client.copy(alloc)?;
+    let asked = copy_items(alloc, asked)?;
+    Ok(LineCommand::Login(client, asked))
+}
+
+fn copied_renew(
+    alloc: Global,
+    client: &EntityName,
+    asked: &Items<EntityType>,
+) -> Result<LineCommand, AllocError>
+    ensures { IfOk result (λ copied. copied ≡ LineCommand.Renew client.now asked.now) }
+{
+    let client = client.copy(alloc)?;
+    let asked = copy_items(alloc, asked)?;
+    Ok(LineCommand::Renew(client, asked))
+}
+
+fn copied_connect(
+    alloc: Global,
+    client: &EntityName,
+    daemon: &EntityName,
+    lossy: bool,
+) -> Result<LineCommand, AllocError>
+    ensures { IfOk result (λ copied. copied ≡ LineCommand.Connect client.now daemon.now lossy) }
+{
+    let client = client.copy(alloc)?;
+    let daemon = daemon.copy(alloc)?;
+    Ok(LineCommand::Connect(client, daemon, lossy))
+}
+
+fn copied_send(
+    alloc: Global,
+    client: &EntityName,
+    daemon: &EntityName,
+    operation: &Operation,
+) -> Result<LineCommand, AllocError>
+    ensures { IfOk result (λ copied. copied ≡ LineCommand.Send client.now daemon.now operation.now) }
+{
+    let client = client.copy(alloc)?;
+    let daemon = daemon.copy(alloc)?;
+    let operation = operation.copy(alloc)?;
+    Ok(LineCommand::Send(client, daemon, operation))
 }

@@ -4,52 +4,35 @@ ghost use Rattle.std.specs.Prelude.{◌≡◌, ◌∷◌, [], ◌++◌, ◌&&◌
 ghost use Rattle.cx_line_words.specs.Known.{nothing};
 ghost use Rattle.cx_line_words.specs.Places.{is_good};
 ghost use Rattle.cx_line_words.specs.Values.{CapsOf, ServiceOf, SpellsItem};
-ghost use Rattle.cx_line_words.specs.declared.places.Place.{Place};
+ghost use Rattle.cx_line_words.specs.declared.places.WordPlace.{WordPlace};
 ghost use Rattle.cx_lines.specs.Settings.{entity_places, pair_places, IsSetting};
 ghost use Rattle.cx_lines.specs.declared.settings.SettingForm.{SettingForm};
 
 use crate::settings::Setting;
-use cx_base::{Duplicate, EntityType, Items, Text};
-use cx_line_words::{Known, Place, new_entity, new_service};
+use cx_base::{Grant, Items};
+use cx_line_words::{Known, WordPlace, new_entity, new_service};
 use cx_words::caps;
 use std::alloc::{AllocError, Global};
 
-/// The caps text that an entity has for a service.
-#[derive(Debug, PartialEq, Eq, Drop)]
-pub struct Grant {
-    pub service: EntityType,
-    pub caps: Text,
-}
-
-impl Duplicate for Grant {
-    fn copy(&self, alloc: Global) -> Result<Grant, AllocError> {
-        let caps = self.caps.copy(alloc)?;
-        Ok(Grant {
-            service: self.service,
-            caps,
-        })
-    }
-}
-
 /// The places behind `entity`, where these words stand there.
-pub fn entity_places(alloc: Global, words: &[&[u8]]) -> Result<Vec<Place>, AllocError>
+pub fn entity_places(alloc: Global, words: &[&[u8]]) -> Result<Vec<WordPlace>, AllocError>
     ensures { IfOk result (λ found. found.items ≡ entity_places (map (λ w. w.now) words.now)) }
 {
-    let mut found = Vec::from_slice(alloc, &[Place::Entity])?;
+    let mut found = Vec::from_slice(alloc, &[WordPlace::Entity])?;
     let [_, pairs @ ..] = words else {
         return Ok(found);
     };
     let mut rest = pairs;
     while let [_, _, after @ ..] = rest {
-        found.push(Place::Service)?;
-        found.push(Place::Caps)?;
+        found.push(WordPlace::Service)?;
+        found.push(WordPlace::Caps)?;
         rest = after;
     }
     if rest.is_empty() {
         return Ok(found);
     }
-    found.push(Place::Service)?;
-    found.push(Place::Caps)?;
+    found.push(WordPlace::Service)?;
+    found.push(WordPlace::Caps)?;
     Ok(found)
 }
 
@@ -89,7 +72,7 @@ fn grant_of(
     first: &[u8],
     second: &[u8],
 ) -> Result<Option<Grant>, AllocError>
-    ensures read { IfOk result (λ found. is_some found ≡ (is_good nothing (map (λ w. w.now) before.now) Place.Service first.now && is_good nothing [] Place.Caps second.now)) }
+    ensures read { IfOk result (λ found. is_some found ≡ (is_good nothing (map (λ w. w.now) before.now) WordPlace.Service first.now && is_good nothing [] WordPlace.Caps second.now)) }
     ensures spelled { IfOk result (λ found. IfSome found (λ grant. SpellsItem nothing (map (λ w. w.now) before.now) (ServiceOf grant.service) first.now × SpellsItem nothing [] (CapsOf grant.caps) second.now)) }
 {
     let Some(service) = new_service(before, first) else {

@@ -5,7 +5,8 @@ ghost use Rattle.cx_lines.specs.Knowing.{is_late, is_spent, knowing, setting_kno
 
 use crate::lines::{Head, Line};
 use crate::settings::{Setting, SettingForm};
-use cx_line_words::{Known, Node};
+use cx_base::NodeName;
+use cx_line_words::Known;
 use std::alloc::{AllocError, Global};
 
 /// Adds what the line says.
@@ -46,11 +47,11 @@ fn note_setting(alloc: Global, known: &mut Known, setting: &Setting) -> Result<(
             Ok(())
         }
         Setting::Entity(name, _) => known.declared.add(alloc, name),
-        Setting::Seed(Node::Monitor, _) => {
+        Setting::Seed(NodeName::Monitor, _) => {
             known.is_monitor_seeded = true;
             Ok(())
         }
-        Setting::Seed(Node::Entity(name), _) => known.seeded.add(alloc, name),
+        Setting::Seed(NodeName::Entity(name), _) => known.seeded.add(alloc, name),
         Setting::Modes(client, _) => known.moded.add(alloc, client),
         Setting::Leak(client) => known.leaked.add(alloc, client),
     }

@@ -14,8 +14,7 @@ mod sending;
 mod settings;
 mod sight;
 
-pub use commands::Command;
-pub use entity::Grant;
+pub use commands::LineCommand;
 pub use grammar::line_laws;
 pub use knowing::note;
 pub use lines::{Head, Line, Numbered};

@@ -1,28 +1,27 @@
 //! The lines of a schedule.
 
 ghost use Rattle.std.specs.Prelude.{ℕ, ◌≡◌, ◌∷◌, [], ◌++◌, List, map, IfOk, IfSome};
-ghost use Rattle.cx_lines.specs.Lines.{anything, do_places, form_of, head_of, head_word, places, IsDo, IsLine};
+ghost use Rattle.cx_lines.specs.Lines.{anything, behind_do, do_places, form_of, head_of, head_word, places, IsDo, IsLine};
 
-use crate::commands::{Command, command_of, command_places};
-use crate::entity::Grant;
+use crate::commands::{LineCommand, command_of, command_places};
 use crate::link_steps::{LinkForm, LinkStep, link_places, link_step_named, link_step_of};
 use crate::node_steps::{NodeForm, NodeStep, node_places, node_step_named, node_step_of};
 use crate::settings::{Setting, SettingForm, setting_named, setting_of, setting_places};
 use crate::sight::BadWord;
 use cx_base::Duplicate;
-use cx_line_words::{CommandForm, Known, Place, command_named};
+use cx_line_words::{CommandForm, Known, WordPlace, command_named};
 use cx_words::is_word;
 use std::alloc::{AllocError, Global};
 
 /// A line of a schedule.
-#[derive(Debug, PartialEq, Eq, Drop)]
+#[derive(PartialEq, Eq, Drop)]
 pub enum Line {
     /// A head line.
     Setting(Setting),
     /// A node is told to do something, and then all settles.
-    Submit(Command),
+    Submit(LineCommand),
     /// A node is told to do something, and nothing settles.
-    Do(Command),
+    Do(LineCommand),
     /// Something happens to a link.
     Link(LinkStep),
     /// Something happens to a clock, a node or a save.
@@ -40,7 +39,7 @@ pub enum Head {
 }
 
 /// A line with its number in its file, from 1.
-#[derive(Debug, PartialEq, Eq, Drop)]
+#[derive(PartialEq, Eq, Drop)]
 pub struct Numbered {
     pub number: u32,
     pub line: Line,
@@ -85,41 +84,52 @@ impl Line {
 }
 
 /// The places behind the first word, in the form that these words come closest to.
-pub fn places(alloc: Global, form: Head, words: &[&[u8]]) -> Result<Vec<Place>, AllocError>
+pub fn places(alloc: Global, form: Head, words: &[&[u8]]) -> Result<Vec<WordPlace>, AllocError>
     ensures { IfOk result (λ found. found.items ≡ places form (map (λ w. w.now) words.now)) }
 {
     match form {
         Head::Setting(form) => setting_places(alloc, form, words),
-        Head::Submit(form) => command_places(alloc, form, words),
+        Head::Submit(form) => Vec::from_slice(alloc, command_places(form, words)),
         Head::Do => do_places(alloc, words),
-        Head::Link(form) => link_places(alloc, form, words),
-        Head::Node(form) => node_places(alloc, form, words),
+        Head::Link(form) => Vec::from_slice(alloc, link_places(form, words)),
+        Head::Node(form) => Vec::from_slice(alloc, node_places(form, words)),
     }
 }
 
-fn do_places(alloc: Global, words: &[&[u8]]) -> Result<Vec<Place>, AllocError>
+fn do_places(alloc: Global, words: &[&[u8]]) -> Result<Vec<WordPlace>, AllocError>
     ensures { IfOk result (λ found. found.items ≡ do_places (map (λ w. w.now) words.now)) }
 {
-    let mut found = Vec::from_slice(alloc, &[Place::Command])?;
+    let mut found = Vec::from_slice(alloc, &[WordPlace::Command])?;
     let [first, rest @ ..] = words else {
         return Ok(found);
     };
-    let behind = match command_named(first) {
-        Some(form) => command_places(alloc, form, rest)?,
-        None => anything(alloc, rest)?,
-    };
+    let behind = behind_do(alloc, command_named(first), rest)?;
     found.extend_from_slice(behind.as_slice())?;
     Ok(found)
 }
 
+/// The places behind a word that begins this command, or none.
+fn behind_do(
+    alloc: Global,
+    form: Option<CommandForm>,
+    words: &[&[u8]],
+) -> Result<Vec<WordPlace>, AllocError>
+    ensures { IfOk result (λ found. found.items ≡ behind_do form (map (λ w. w.now) words.now)) }
+{
+    match form {
+        Some(form) => Vec::from_slice(alloc, command_places(form, words)),
+        None => anything(alloc, words),
+    }
+}
+
 /// A place for each word, whatever it is.
-fn anything(alloc: Global, words: &[&[u8]]) -> Result<Vec<Place>, AllocError>
+fn anything(alloc: Global, words: &[&[u8]]) -> Result<Vec<WordPlace>, AllocError>
     ensures { IfOk result (λ found. found.items ≡ anything (map (λ w. w.now) words.now)) }
 {
     let mut found = Vec::new(alloc);
     let mut rest = words;
     while let [_, after @ ..] = rest {
-        found.push(Place::Anything)?;
+        found.push(WordPlace::Anything)?;
         rest = after;
     }
     Ok(found)
@@ -144,7 +154,7 @@ pub fn line_behind(
 }
 
 /// The command that these words behind `do` spell.
-fn do_of(alloc: Global, known: &Known, words: &[&[u8]]) -> Result<Option<Command>, AllocError>
+fn do_of(alloc: Global, known: &Known, words: &[&[u8]]) -> Result<Option<LineCommand>, AllocError>
     ensures { IfOk result (IsDo known.now (map (λ w. w.now) words.now)) }
 {
     let [first, rest @ ..] = words else {
@@ -158,7 +168,7 @@ fn do_behind(
     known: &Known,
     first: &[u8],
     rest: &[&[u8]],
-) -> Result<Option<Command>, AllocError>
+) -> Result<Option<LineCommand>, AllocError>
     ensures { IfOk result (IsDo known.now (first.now ∷ map (λ w. w.now) rest.now)) }
 {
     let Some(form) = command_named(first) else {
@@ -206,7 +216,6 @@ impl Duplicate for Numbered {
 
 // Each of these goes to another thread, and is seen by several.
 fn are_sendable() {
-    is_sendable::<Grant>();
     is_sendable::<Line>();
     is_sendable::<Numbered>();
     is_sendable::<Head>();

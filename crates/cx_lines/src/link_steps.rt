@@ -5,12 +5,12 @@ ghost use Rattle.cx_lines.specs.LinkSteps.{link_form, link_form_of, link_places,
 ghost use Rattle.cx_lines.specs.declared.link_steps.LinkForm.{LinkForm};
 
 use cx_base::{Blob, Duplicate};
-use cx_line_words::{Known, Place, Side, side_named};
+use cx_line_words::{Known, Side, WordPlace, side_named};
 use cx_words::{hex, is_word, number};
 use std::alloc::{AllocError, Global};
 
 /// What happens to a link. A link has its number, a side of it says from where the bytes come.
-#[derive(Debug, PartialEq, Eq, Drop)]
+#[derive(PartialEq, Eq, Drop)]
 pub enum LinkStep {
     /// The oldest piece in flight from a side arrives, or so many first bytes of it.
     Carry(u64, Side, Option<u64>),
@@ -73,28 +73,33 @@ impl LinkStep {
     }
 }
 
-const AGAIN_PLACES: [Place; 4] = [Place::Number, Place::Side, Place::Number, Place::Number];
+const AGAIN_PLACES: [WordPlace; 4] = [
+    WordPlace::Number,
+    WordPlace::Side,
+    WordPlace::Number,
+    WordPlace::Number,
+];
 
 /// The places behind the first word, where these words stand there.
-pub fn link_places(alloc: Global, form: LinkForm, words: &[&[u8]]) -> Result<Vec<Place>, AllocError>
-    ensures { IfOk result (λ found. found.items ≡ link_places form (map (λ w. w.now) words.now)) }
+pub fn link_places(form: LinkForm, words: &[&[u8]]) -> &'static [WordPlace]
+    ensures { result.now ≡ link_places form (map (λ w. w.now) words.now) }
 {
     match form {
-        LinkForm::Carry => carry_places(alloc, words),
-        LinkForm::Lose => Vec::from_slice(alloc, &[Place::Number, Place::Side]),
-        LinkForm::Inject => Vec::from_slice(alloc, &[Place::Number, Place::Side, Place::Bytes]),
-        LinkForm::Again => Vec::from_slice(alloc, &AGAIN_PLACES),
-        LinkForm::Cut => Vec::from_slice(alloc, &[Place::Number]),
+        LinkForm::Carry => carry_places(words),
+        LinkForm::Lose => &[WordPlace::Number, WordPlace::Side],
+        LinkForm::Inject => &[WordPlace::Number, WordPlace::Side, WordPlace::Bytes],
+        LinkForm::Again => &AGAIN_PLACES,
+        LinkForm::Cut => &[WordPlace::Number],
     }
 }
 
-fn carry_places(alloc: Global, words: &[&[u8]]) -> Result<Vec<Place>, AllocError>
-    ensures { IfOk result (λ found. found.items ≡ link_places LinkForm.Carry (map (λ w. w.now) words.now)) }
+fn carry_places(words: &[&[u8]]) -> &'static [WordPlace]
+    ensures { result.now ≡ link_places LinkForm.Carry (map (λ w. w.now) words.now) }
 {
     if words.len() <= 2 {
-        Vec::from_slice(alloc, &[Place::Number, Place::Side])
+        &[WordPlace::Number, WordPlace::Side]
     } else {
-        Vec::from_slice(alloc, &[Place::Number, Place::Side, Place::Number])
+        &[WordPlace::Number, WordPlace::Side, WordPlace::Number]
     }
 }
 

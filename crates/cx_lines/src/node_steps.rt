@@ -4,24 +4,24 @@ ghost use Rattle.std.specs.Prelude.{◌≡◌, ◌∷◌, [], map, IfOk, IfSome}
 ghost use Rattle.cx_lines.specs.NodeSteps.{node_form, node_form_of, node_places, node_step_word, IsNodeStep};
 ghost use Rattle.cx_lines.specs.declared.node_steps.NodeForm.{NodeForm};
 
-use cx_base::{Duplicate, EntityName, Reading};
-use cx_line_words::{Known, LeftState, Node, Place, daemon, known_node, state_named};
+use cx_base::{Duplicate, EntityName, NodeName, Reading};
+use cx_line_words::{Known, LeftState, WordPlace, daemon, known_node, state_named};
 use cx_words::{is_word, number, reading};
 use std::alloc::{AllocError, Global};
 
 /// What happens to clocks, nodes and saves.
-#[derive(Debug, PartialEq, Eq, Drop)]
+#[derive(PartialEq, Eq, Drop)]
 pub enum NodeStep {
     /// All clocks read this from here on, below 4,000,000,000 s.
     Clock(Reading),
     /// The clock of one node does.
-    ClockOf(Node, Reading),
+    ClockOf(NodeName, Reading),
     /// A daemon drops its session of this number.
     DropSession(EntityName, u64),
     /// A node is told that time has passed.
-    Tick(Node),
+    Tick(NodeName),
     /// A node starts again.
-    Restart(Node),
+    Restart(NodeName),
     /// The monitor's next save fails, and leaves this state.
     FailSave(LeftState),
     /// All that is in flight arrives, and all that this sends.
@@ -84,26 +84,26 @@ impl NodeStep {
 }
 
 /// The places behind the first word, where these words stand there.
-pub fn node_places(alloc: Global, form: NodeForm, words: &[&[u8]]) -> Result<Vec<Place>, AllocError>
-    ensures { IfOk result (λ found. found.items ≡ node_places form (map (λ w. w.now) words.now)) }
+pub fn node_places(form: NodeForm, words: &[&[u8]]) -> &'static [WordPlace]
+    ensures { result.now ≡ node_places form (map (λ w. w.now) words.now) }
 {
     match form {
-        NodeForm::Clock => clock_places(alloc, words),
-        NodeForm::DropSession => Vec::from_slice(alloc, &[Place::Daemon, Place::Number]),
-        NodeForm::Tick => Vec::from_slice(alloc, &[Place::Node]),
-        NodeForm::Restart => Vec::from_slice(alloc, &[Place::Node]),
-        NodeForm::FailSave => Vec::from_slice(alloc, &[Place::LeftState]),
-        NodeForm::Settle => Ok(Vec::new(alloc)),
+        NodeForm::Clock => clock_places(words),
+        NodeForm::DropSession => &[WordPlace::Daemon, WordPlace::Number],
+        NodeForm::Tick => &[WordPlace::Node],
+        NodeForm::Restart => &[WordPlace::Node],
+        NodeForm::FailSave => &[WordPlace::LeftState],
+        NodeForm::Settle => &[],
     }
 }
 
-fn clock_places(alloc: Global, words: &[&[u8]]) -> Result<Vec<Place>, AllocError>
-    ensures { IfOk result (λ found. found.items ≡ node_places NodeForm.Clock (map (λ w. w.now) words.now)) }
+fn clock_places(words: &[&[u8]]) -> &'static [WordPlace]
+    ensures { result.now ≡ node_places NodeForm.Clock (map (λ w. w.now) words.now) }
 {
     if words.len() <= 1 {
-        Vec::from_slice(alloc, &[Place::Reading])
+        &[WordPlace::Reading]
     } else {
-        Vec::from_slice(alloc, &[Place::Node, Place::Reading])
+        &[WordPlace::Node, WordPlace::Reading]
     }
 }
 

@@ -26,7 +26,7 @@ pub fn line_of(alloc: Global, known: &Known, words: &[&[u8]]) -> Result<Line, Li
 }
 
 /// What words are found to be.
-#[derive(Debug, Drop)]
+#[derive(Drop)]
 pub enum Judged {
     Spelled(Line),
     Faulty(FaultAt),

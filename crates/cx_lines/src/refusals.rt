@@ -4,7 +4,7 @@ use crate::sight::BadWord;
 use std::alloc::AllocError;
 
 /// Why a line isn't read.
-#[derive(Clone, Copy, Debug, PartialEq, Eq)]
+#[derive(Clone, Copy, PartialEq, Eq)]
 pub enum LineRefusal {
     /// It is outside of the grammar.
     Fault(BadWord),

@@ -7,21 +7,21 @@ ghost use Rattle.cx_line_words.specs.Places.{are_good};
 ghost use Rattle.cx_line_words.specs.Values.{SpellsItems};
 ghost use Rattle.cx_lines.specs.Commands.{operation_items, operation_places, IsCommand};
 
-use crate::commands::Command;
+use crate::commands::LineCommand;
 use cx_base::Operation;
-use cx_line_words::{Known, Place, client, daemon, operation_data};
+use cx_line_words::{Known, WordPlace, client, daemon, operation_data};
 use cx_words::{access, part};
 use std::alloc::{AllocError, Global};
 
 /// The places of a send line.
-pub const SEND_PLACES: [Place; 7] = [
-    Place::Client,
-    Place::Daemon,
-    Place::Access,
-    Place::Part,
-    Place::Part,
-    Place::Part,
-    Place::Data,
+pub const SEND_PLACES: [WordPlace; 7] = [
+    WordPlace::Client,
+    WordPlace::Daemon,
+    WordPlace::Access,
+    WordPlace::Part,
+    WordPlace::Part,
+    WordPlace::Part,
+    WordPlace::Data,
 ];
 
 /// The words of an operation.
@@ -35,7 +35,11 @@ struct Written<'a> {
 }
 
 /// The command that these words behind `send` spell.
-pub fn send_of(alloc: Global, known: &Known, words: &[&[u8]]) -> Result<Option<Command>, AllocError>
+pub fn send_of(
+    alloc: Global,
+    known: &Known,
+    words: &[&[u8]],
+) -> Result<Option<LineCommand>, AllocError>
     ensures { IfOk result (IsCommand known.now [] CommandForm.Send (map (λ w. w.now) words.now)) }
 {
     let [from, to, access, pool, namespace, object, bytes] = words else {
@@ -57,7 +61,7 @@ fn send(
     from: &[u8],
     to: &[u8],
     written: Written,
-) -> Result<Option<Command>, AllocError>
+) -> Result<Option<LineCommand>, AllocError>
     ensures { IfOk result (IsCommand known.now [] CommandForm.Send (from.now ∷ to.now ∷ written.entry.access.now ∷ written.entry.pool.now ∷ written.entry.namespace.now ∷ written.entry.object.now ∷ written.entry.bytes.now ∷ [])) }
 {
     let Some(client) = client(alloc, known, from)? else {
@@ -69,7 +73,7 @@ fn send(
     let Some(operation) = operation(alloc, written)? else {
         return Ok(None);
     };
-    Ok(Some(Command::Send(client, daemon, operation)))
+    Ok(Some(LineCommand::Send(client, daemon, operation)))
 }
 
 /// The operation that the words spell; none where one of them is no value of its place.

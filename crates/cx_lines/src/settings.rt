@@ -4,14 +4,14 @@ ghost use Rattle.std.specs.Prelude.{◌≡◌, ◌∷◌, [], map, IfOk, IfSome}
 ghost use Rattle.cx_lines.specs.Settings.{setting_form, setting_form_of, setting_places, setting_word, IsSetting};
 ghost use Rattle.cx_lines.specs.declared.settings.SettingForm.{SettingForm};
 
-use crate::entity::{Grant, entity_of, entity_places};
-use cx_base::{Duplicate, EntityName, Items, copy_items};
-use cx_line_words::{Known, Modes, Node, Place, life, modes_named, unleaked, unmoded, unseeded};
+use crate::entity::{entity_of, entity_places};
+use cx_base::{Duplicate, EntityName, Grant, Items, NodeName, copy_items};
+use cx_line_words::{Known, Modes, WordPlace, life, modes_named, unleaked, unmoded, unseeded};
 use cx_words::{is_word, number};
 use std::alloc::{AllocError, Global};
 
 /// A head line.
-#[derive(Debug, PartialEq, Eq, Drop)]
+#[derive(PartialEq, Eq, Drop)]
 pub enum Setting {
     /// The life of service secrets and tickets, 1 to 31,536,000 seconds.
     Lifetime(u64),
@@ -20,7 +20,7 @@ pub enum Setting {
     /// An entity and its caps, each for another service.
     Entity(EntityName, Items<Grant>),
     /// The seed of a node's draws.
-    Seed(Node, u64),
+    Seed(NodeName, u64),
     /// The modes that a client offers.
     Modes(EntityName, Modes),
     /// A client whose secret is known to whoever wrote the schedule.
@@ -86,16 +86,16 @@ pub fn setting_places(
     alloc: Global,
     form: SettingForm,
     words: &[&[u8]],
-) -> Result<Vec<Place>, AllocError>
+) -> Result<Vec<WordPlace>, AllocError>
     ensures { IfOk result (λ found. found.items ≡ setting_places form (map (λ w. w.now) words.now)) }
 {
     match form {
-        SettingForm::Lifetime => Vec::from_slice(alloc, &[Place::Life]),
-        SettingForm::AuthLifetime => Vec::from_slice(alloc, &[Place::Life]),
+        SettingForm::Lifetime => Vec::from_slice(alloc, &[WordPlace::Life]),
+        SettingForm::AuthLifetime => Vec::from_slice(alloc, &[WordPlace::Life]),
         SettingForm::Entity => entity_places(alloc, words),
-        SettingForm::Seed => Vec::from_slice(alloc, &[Place::Unseeded, Place::Number]),
-        SettingForm::Modes => Vec::from_slice(alloc, &[Place::Unmoded, Place::Modes]),
-        SettingForm::Leak => Vec::from_slice(alloc, &[Place::Unleaked]),
+        SettingForm::Seed => Vec::from_slice(alloc, &[WordPlace::Unseeded, WordPlace::Number]),
+        SettingForm::Modes => Vec::from_slice(alloc, &[WordPlace::Unmoded, WordPlace::Modes]),
+        SettingForm::Leak => Vec::from_slice(alloc, &[WordPlace::Unleaked]),
     }
 }
 

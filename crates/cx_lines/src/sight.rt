@@ -4,7 +4,7 @@ ghost use Rattle.std.specs.Prelude.{◌≡◌, map, IfOk};
 ghost use Rattle.cx_lines.specs.Sights.{described, form_in, place_at, takes_at};
 
 use crate::lines::{Head, head_of, places};
-use cx_line_words::{FaultAt, Hint, Place, Shown, hint_in, shown_of, word_at};
+use cx_line_words::{FaultAt, Hint, Shown, WordPlace, hint_in, shown_of, word_at};
 use std::alloc::{AllocError, Global};
 
 /// The first fault of a line, where it is, and what stands there.
@@ -14,7 +14,7 @@ pub struct BadWord {
     /// The form of the line, if its first word begins one.
     pub form: Option<Head>,
     /// What the place of the word takes, if it has one.
-    pub takes: Option<Place>,
+    pub takes: Option<WordPlace>,
     /// The word; where words are missing, the last one of the line.
     pub shown: Shown,
     /// What is to be hinted at in the word, or else in the first word of the line that has such a thing.
@@ -54,7 +54,7 @@ fn takes_at(
     form: Option<Head>,
     words: &[&[u8]],
     number: usize,
-) -> Result<Option<Place>, AllocError>
+) -> Result<Option<WordPlace>, AllocError>
     ensures { IfOk result (λ found. found ≡ takes_at form (map (λ w. w.now) words.now) number) }
 {
     let Some(form) = form else {
@@ -68,7 +68,7 @@ fn takes_at(
 }
 
 /// The place of the word of this number among those behind the first word.
-fn place_at(places: &[Place], number: usize) -> Option<Place>
+fn place_at(places: &[WordPlace], number: usize) -> Option<WordPlace>
     ensures { result ≡ place_at places.now number }
 {
     if number < 2 {

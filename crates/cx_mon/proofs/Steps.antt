@@ -2,7 +2,7 @@
 use Rattle.std.proofs.Common.{◌≡◌, ◌∙◌, ℕ, true, false, List, ◌++◌, map, Option, Some, None, Result, Ok, Err, IfOk, OnOk, refl, sym, ap}
 use Rattle.std.specs.Option.{option_map}
 use Rattle.cx_journal.specs.declared.faults.BytesFault.{BytesFault}
-use Rattle.cx_journal.specs.declared.node_names.NodeName.TheVariants as node
+use Rattle.cx_base.specs.declared.nodes.NodeName.TheVariants as node
 use Rattle.cx_node.specs.Made.{out_of, refusing_bytes}
 use Rattle.cx_node.specs.Tables.{behind}
 use Rattle.cx_node.specs.declared.rows.Row.{Row as Made}

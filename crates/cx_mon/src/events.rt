@@ -2,7 +2,7 @@
 
 ghost use Rattle.std.specs.Prelude.{◌≡◌, ◌<◌, [], ◌∷◌, None, IfOk, IfSome, OnErr};
 ghost use Rattle.cx_ends.specs.Events.{link_in};
-ghost use Rattle.cx_journal.specs.declared.node_names.NodeName.TheVariants as node;
+ghost use Rattle.cx_base.specs.declared.nodes.NodeName.TheVariants as node;
 ghost use Rattle.cx_journal.specs.declared.outcomes.Reason.TheVariants as reason;
 ghost use Rattle.cx_rotate.specs.Keeping.{IsKeptState};
 ghost use Rattle.cx_rules.specs.Inputs.{input_of};
@@ -15,10 +15,10 @@ ghost use Rattle.cx_mon.specs.Machine.{AreHeld, IsStep, lost, node_of, without_l
 
 use crate::turns::{opens, turn};
 use cx_acceptor::{Link, Own};
-use cx_base::Reading;
+use cx_base::{NodeName, Reading};
 use cx_dice::Draw;
 use cx_ends::Moment;
-use cx_journal::{Entry, NodeName, Reason};
+use cx_journal::{Entry, Reason};
 use cx_node::{Links, enters, refused_entry};
 use cx_rules::rule_laws;
 use cx_steps::{Effects, Event};

@@ -13,8 +13,8 @@ ghost use Rattle.cx_rules.specs.Rows.{forgotten, new_link};
 ghost use Rattle.cx_mon.specs.Machine.{AreHeld, IsOutOf, IsStep, MonitorLink, node_of};
 
 use cx_acceptor::{Link, Own, Stage, Turned, greeting, turned};
+use cx_base::NodeName;
 use cx_ends::Moment;
-use cx_journal::NodeName;
 use cx_node::{Carried, Links, Row, carried_out, refuses_bytes};
 use cx_steps::Effects;
 use std::alloc::{AllocError, Global};

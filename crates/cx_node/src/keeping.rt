@@ -6,13 +6,13 @@ ghost use Rattle.cx_node.specs.Tables.{with_number};
 ghost use Rattle.cx_node.specs.Places.{AreKept, IsVacated, IsFilled, IsGivenUp, IsRemoved, links_in, rooms_in};
 
 use crate::numbered::Numbered;
-use crate::places::Place;
+use crate::places::LinkPlace;
 use crate::searching::place_of;
 use cx_base::Items;
 use std::alloc::{AllocError, Global};
 
 // The link of a number.
-pub(crate) fn find<L: Numbered>(places: &[Place<L>], number: u32) -> Option<&L>
+pub(crate) fn find<L: Numbered>(places: &[LinkPlace<L>], number: u32) -> Option<&L>
     requires { AreKept L.number_of places.now }
     ensures { option_copied result ≡ with_number L.number_of number (links_in places.now) }
 {
@@ -23,7 +23,7 @@ pub(crate) fn find<L: Numbered>(places: &[Place<L>], number: u32) -> Option<&L>
 }
 
 // The link at a place, where none is taken out.
-pub(crate) fn nth<L>(places: &[Place<L>], place: usize) -> Option<&L>
+pub(crate) fn nth<L>(places: &[LinkPlace<L>], place: usize) -> Option<&L>
     requires { rooms_in places.now ≡ [] }
     ensures { option_copied result ≡ slice_get (links_in places.now) place }
 {
@@ -37,7 +37,7 @@ pub(crate) fn nth<L>(places: &[Place<L>], place: usize) -> Option<&L>
 // The numbers of the links.
 pub(crate) fn numbers<L: Numbered>(
     alloc: Global,
-    places: &[Place<L>],
+    places: &[LinkPlace<L>],
 ) -> Result<Items<u32>, AllocError>
     ensures { IfOk result (λ numbers. numbers ≡ map L.number_of (links_in places.now)) }
 {
@@ -51,7 +51,7 @@ pub(crate) fn numbers<L: Numbered>(
 }
 
 // Takes a link out, and keeps its place.
-pub(crate) fn take_out<L: Numbered>(places: &mut Vec<Place<L>>, number: u32) -> Option<L>
+pub(crate) fn take_out<L: Numbered>(places: &mut Vec<LinkPlace<L>>, number: u32) -> Option<L>
     requires kept { AreKept L.number_of places.old.items }
     requires full { rooms_in places.old.items ≡ [] }
     ensures link { result ≡ with_number L.number_of number (links_in places.old.items) }
@@ -65,7 +65,7 @@ pub(crate) fn take_out<L: Numbered>(places: &mut Vec<Place<L>>, number: u32) -> 
 }
 
 // Puts a link into the place that is kept for it.
-pub(crate) fn put_in<L: Numbered>(places: &mut Vec<Place<L>>, link: L)
+pub(crate) fn put_in<L: Numbered>(places: &mut Vec<LinkPlace<L>>, link: L)
     requires kept { AreKept L.number_of places.old.items }
     requires room { rooms_in places.old.items ≡ L.number_of link ∷ [] }
     ensures { IsFilled L.number_of link places.old.items places.new.items }
@@ -77,7 +77,7 @@ pub(crate) fn put_in<L: Numbered>(places: &mut Vec<Place<L>>, link: L)
 }
 
 // Gives up the place that is kept.
-pub(crate) fn give_up<L: Numbered>(places: &mut Vec<Place<L>>, number: u32)
+pub(crate) fn give_up<L: Numbered>(places: &mut Vec<LinkPlace<L>>, number: u32)
     requires kept { AreKept L.number_of places.old.items }
     requires room { rooms_in places.old.items ≡ number ∷ [] }
     ensures { IsGivenUp L.number_of places.old.items places.new.items }
@@ -93,7 +93,7 @@ pub(crate) fn give_up<L: Numbered>(places: &mut Vec<Place<L>>, number: u32)
 // Puts a link in its place, which may be a new one.
 pub(crate) fn put<L: Numbered>(
     alloc: Global,
-    places: &mut Vec<Place<L>>,
+    places: &mut Vec<LinkPlace<L>>,
     link: L,
 ) -> Result<(), AllocError>
     requires kept { AreKept L.number_of places.old.items }
@@ -109,7 +109,7 @@ pub(crate) fn put<L: Numbered>(
             Ok(())
         }
         Err(place) => {
-            let new = Place::new(alloc, number, link)?;
+            let new = LinkPlace::new(alloc, number, link)?;
             places.insert(place, new)?;
             Ok(())
         }
@@ -117,7 +117,7 @@ pub(crate) fn put<L: Numbered>(
 }
 
 // Gives up a link with its place; not the place that is kept for one.
-pub(crate) fn shut<L: Numbered>(places: &mut Vec<Place<L>>, number: u32)
+pub(crate) fn shut<L: Numbered>(places: &mut Vec<LinkPlace<L>>, number: u32)
     requires { AreKept L.number_of places.old.items }
     ensures { IsRemoved L.number_of number places.old.items places.new.items }
 {

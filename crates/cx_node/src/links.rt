@@ -6,7 +6,7 @@ ghost use Rattle.cx_node.specs.Tables.{Table, no_links, with_number, put, withou
 
 use crate::keeping::{find, give_up, nth, numbers, put, put_in, shut, take_out};
 use crate::numbered::Numbered;
-use crate::places::Place;
+use crate::places::LinkPlace;
 use cx_base::Items;
 use std::alloc::{AllocError, Global};
 use std::marker::Model;
@@ -14,7 +14,7 @@ use std::marker::Model;
 /// The live links of a node, in the order of their numbers. One of them at a time may be taken out and put back: its place is kept.
 #[derive(Drop)]
 pub struct Links<L: Numbered> {
-    places: Vec<Place<L>>,
+    places: Vec<LinkPlace<L>>,
     room: Option<u32>,
 }
 

@@ -6,8 +6,8 @@ ghost use Rattle.cx_node.specs.Made.{going_on, refusing, refusing_bytes, denying
 
 use crate::controls::bad_method_bytes;
 use crate::rows::Row;
-use cx_base::{Blob, Duplicate, Items};
-use cx_journal::{BytesFault, Entry, LoginFault, NodeName, Reason, Refused};
+use cx_base::{Blob, Duplicate, Items, NodeName};
+use cx_journal::{BytesFault, Entry, LoginFault, Reason, Refused};
 use cx_steps::SealEntry;
 use std::alloc::{AllocError, Global};
 

@@ -8,12 +8,12 @@ use std::marker::Model;
 
 // A place for the link of a number. The link is boxed, so that places are small; the box stays where the link is taken out.
 #[derive(Drop)]
-pub(crate) struct Place<L> {
+pub(crate) struct LinkPlace<L> {
     number: u32,
     held: Box<Option<L>>,
 }
 
-impl<L> Model for Place<L> {
+impl<L> Model for LinkPlace<L> {
     ghost use Rattle.cx_node.specs.Places.{Slot};
 
     ghost Value = { Slot L };
@@ -21,15 +21,15 @@ impl<L> Model for Place<L> {
     ghost view = { λ p. record { number = p.number; link = p.held.value } };
 }
 
-impl<L> Place<L> {
+impl<L> LinkPlace<L> {
     // A place with a link in it.
-    pub(crate) fn new(alloc: Global, number: u32, link: L) -> Result<Place<L>, AllocError>
+    pub(crate) fn new(alloc: Global, number: u32, link: L) -> Result<LinkPlace<L>, AllocError>
     where
         L: Drop,
         ensures { IfOk result (λ place. place ≡ record { number = number; link = Some link }) }
     {
         let held = Box::new(alloc, Some(link))?;
-        Ok(Place { number, held })
+        Ok(LinkPlace { number, held })
     }
 
     // The number of the link that stands here or is to come back.

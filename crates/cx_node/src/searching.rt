@@ -3,10 +3,10 @@
 ghost use Rattle.std.specs.Prelude.{◌≡◌, ◌<◌, ◌≤◌, ◌+◌, length, take, drop, MatchResult};
 ghost use Rattle.cx_node.specs.Places.{IsRising, AreBelow, AreFrom, IsFoundAt, IsMissingAt};
 
-use crate::places::Place;
+use crate::places::LinkPlace;
 
 // How many places have a lower number.
-fn rank<L>(places: &[Place<L>], number: u32) -> usize
+fn rank<L>(places: &[LinkPlace<L>], number: u32) -> usize
     requires { IsRising 0 places.now }
     ensures within { result ≤ length places.now }
     ensures below { AreBelow number (take result places.now) }
@@ -16,7 +16,7 @@ fn rank<L>(places: &[Place<L>], number: u32) -> usize
 }
 
 // Where the place of a number stands, or where it would stand.
-pub(crate) fn place_of<L>(places: &[Place<L>], number: u32) -> Result<usize, usize>
+pub(crate) fn place_of<L>(places: &[LinkPlace<L>], number: u32) -> Result<usize, usize>
     requires { IsRising 0 places.now }
     ensures { MatchResult result (IsFoundAt number places.now) (IsMissingAt number places.now) }
 {

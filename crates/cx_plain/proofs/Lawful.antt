@@ -15,14 +15,14 @@ use Rattle.cx_journal.specs.declared.entries.Issued.{Issued}
 use Rattle.cx_journal.specs.declared.entries.Looked.{Looked}
 use Rattle.cx_journal.specs.declared.entries.Admitted.{Admitted}
 use Rattle.cx_journal.specs.declared.outcomes.Outcome.{Outcome}
-use Rattle.cx_journal.specs.declared.node_names.NodeName.TheVariants as node
+use Rattle.cx_base.specs.declared.nodes.NodeName.TheVariants as node
 use Rattle.cx_journal.specs.declared.outcomes.Reason.TheVariants as reason
 use Rattle.cx_journal.specs.declared.outcomes.TicketFault.TheVariants as fault
-use Rattle.cx_lines.specs.declared.entity.Grant.{Grant}
+use Rattle.cx_base.specs.declared.grants.Grant.{Grant}
 use Rattle.cx_plain.specs.declared.lines.PlainLine.{PlainLine}
 use Rattle.cx_plain.specs.declared.lines.PlainLine.TheVariants as line
 use Rattle.cx_plain.specs.declared.nodes.Node.{Node}
-use Rattle.cx_plain.specs.declared.nodes.Place.{Place}
+use Rattle.cx_plain.specs.declared.nodes.SessionPlace.{SessionPlace}
 use Rattle.cx_plain.specs.declared.nodes.Session.{Session}
 use Rattle.cx_plain.specs.declared.state.Run.{Run}
 use Rattle.cx_plain.specs.Changes.{changed}
@@ -105,7 +105,7 @@ expired-keeps r client daemon link expires now blob holds =
 admitting-keeps : {handlers : Handlers} (r : Run) (client daemon : Name) (admitted : ℕ) (ticket : Issued) → HoldsRun handlers r → IsGenuine r.journal client daemon.kind (Some ticket) → r.reading < ticket.expires → HoldsRun handlers (admitting r client daemon admitted ticket)
 unfolding admitting
 admitting-keeps r client daemon admitted ticket holds genuine live =
-    let at : Place = opened r admitted in
+    let at : SessionPlace = opened r admitted in
     let session : Session = record { daemon = daemon; place = at; caps = ticket.caps } in
     let admission : Admitted = admission_at r.reading client daemon at ticket in
     let journal : List Entry = r.journal ++ entry.Admitted admission ∷ [] in
@@ -208,7 +208,7 @@ with_seq-keeps r client daemon seq holds =
 delivering-keeps : (handlers : Handlers) (r : Run) (client daemon : Name) (session : Session) (operation : Operation) → WasAdmitted r.cookies r.journal session → session.daemon ≡ daemon → HoldsRun handlers r → HoldsRun handlers (delivering r client daemon session.place operation (outcome_of handlers session.caps operation))
 unfolding delivering with_seq
 delivering-keeps handlers r client daemon session operation was is_daemon holds =
-    let at : Place = record session.place { seq = session.place.seq + 1 } in
+    let at : SessionPlace = record session.place { seq = session.place.seq + 1 } in
     let ended : Outcome = outcome_of handlers session.caps operation in
     let on : Run = with_seq r client daemon at.seq in
     let sent : Entry = sent_at client daemon at operation in

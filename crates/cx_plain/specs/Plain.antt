@@ -19,7 +19,7 @@ use Rattle.cx_journal.specs.declared.entries.Entry.{Entry}
 use Rattle.cx_journal.specs.declared.entries.Entry.TheVariants as entry
 use Rattle.cx_journal.specs.declared.entries.Issued.{Issued}
 use Rattle.cx_journal.specs.declared.entries.Admitted.{Admitted}
-use Rattle.cx_journal.specs.declared.node_names.NodeName.TheVariants as node
+use Rattle.cx_base.specs.declared.nodes.NodeName.TheVariants as node
 use Rattle.cx_journal.specs.declared.outcomes.Reason.{Reason}
 use Rattle.cx_journal.specs.declared.outcomes.Reason.TheVariants as reason
 use Rattle.cx_journal.specs.declared.outcomes.TicketFault.{TicketFault}
@@ -27,7 +27,7 @@ use Rattle.cx_journal.specs.declared.outcomes.TicketFault.TheVariants as fault
 use Rattle.cx_journal.specs.KeepsKeys.{has_generation}
 use Rattle.cx_journal.specs.declared.outcomes.Outcome.{Outcome}
 use Rattle.cx_journal.specs.declared.outcomes.Outcome.TheVariants as outcome
-use Rattle.cx_lines.specs.declared.entity.Grant.{Grant}
+use Rattle.cx_base.specs.declared.grants.Grant.{Grant}
 use Rattle.cx_plain.specs.declared.lines.PlainLine.{PlainLine}
 use Rattle.cx_plain.specs.declared.lines.PlainLine.TheVariants as line
 use Rattle.cx_plain.specs.Changes.{changed}
@@ -36,7 +36,7 @@ use Rattle.cx_plain.specs.Nodes.{empty_wallet, held_of, holding, is_named, is_wi
 use Rattle.cx_plain.specs.declared.monitors.Monitor.{Monitor}
 use Rattle.cx_plain.specs.declared.wallets.Wallet.{Wallet}
 use Rattle.cx_plain.specs.declared.nodes.Node.{Node}
-use Rattle.cx_plain.specs.declared.nodes.Place.{Place}
+use Rattle.cx_plain.specs.declared.nodes.SessionPlace.{SessionPlace}
 use Rattle.cx_plain.specs.declared.nodes.Session.{Session}
 use Rattle.cx_plain.specs.declared.tickets.Terms.{Terms}
 use Rattle.cx_plain.specs.declared.tickets.UnderWay.{UnderWay}
@@ -227,11 +227,11 @@ fetch r name None = r
 fetch r name (Some daemon) = viewing (renewing (arriving r name daemon daemon.has_entered)) name
 
 -- where a session starts that is admitted next: it has the daemon's next session number and a new cookie
-abbrev pub opened : Run → ℕ → Place
+abbrev pub opened : Run → ℕ → SessionPlace
 opened r admitted = record { number = admitted + 1; cookie = r.cookies + 1; seq = 0 }
 
 -- the admission of a client on its ticket to a session at this place, in epoch 1
-abbrev pub admission_at : ℕ → Name → Name → Place → Issued → Admitted
+abbrev pub admission_at : ℕ → Name → Name → SessionPlace → Issued → Admitted
 admission_at now client daemon at ticket = record {
   daemon = daemon;
   session = at.number;
@@ -246,7 +246,7 @@ admission_at now client daemon at ticket = record {
 -- the daemon admits the client on its ticket
 unfoldable pub admitting : Run → Name → Name → ℕ → Issued → Run
 admitting r client daemon admitted ticket =
-    let at : Place = opened r admitted in
+    let at : SessionPlace = opened r admitted in
     let session : Session = record { daemon = daemon; place = at; caps = ticket.caps } in
     entering
     (record r {
@@ -313,12 +313,12 @@ outcome_of handlers caps operation =
     else outcome.Denied
 
 -- an operation at a place in a session is entered three times: it was sent
-abbrev pub sent_at : Name → Name → Place → Operation → Entry
+abbrev pub sent_at : Name → Name → SessionPlace → Operation → Entry
 sent_at client daemon at operation =
     entry.Sent (record { client = client; daemon = daemon; cookie = at.cookie; seq = at.seq; operation = operation })
 
 -- it was handled
-abbrev pub handled_at : Name → Place → Operation → Outcome → Entry
+abbrev pub handled_at : Name → SessionPlace → Operation → Outcome → Entry
 handled_at daemon at operation ended =
     entry.Handled (record {
       daemon = daemon;
@@ -331,7 +331,7 @@ handled_at daemon at operation ended =
     })
 
 -- it was answered
-abbrev pub answered_at : Name → Name → Place → Outcome → Entry
+abbrev pub answered_at : Name → Name → SessionPlace → Outcome → Entry
 answered_at client daemon at ended =
     entry.Answered (record { client = client; daemon = daemon; cookie = at.cookie; tid = at.seq; outcome = ended })
 
@@ -344,9 +344,9 @@ with_seq r client daemon seq = record r {
 }
 
 -- an operation in a session: it is sent with the next seq, handled with this outcome and answered
-unfoldable pub delivering : Run → Name → Name → Place → Operation → Outcome → Run
+unfoldable pub delivering : Run → Name → Name → SessionPlace → Operation → Outcome → Run
 delivering r client daemon session operation ended =
-    let at : Place = record session { seq = session.seq + 1 } in
+    let at : SessionPlace = record session { seq = session.seq + 1 } in
     entering
     (entering (entering (with_seq r client daemon at.seq) (sent_at client daemon at operation)) (handled_at daemon at operation ended))
     (answered_at client daemon at ended)

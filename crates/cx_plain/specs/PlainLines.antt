@@ -1,8 +1,8 @@
 -- The lines that the plain run takes: all but those that speak of bytes, draws, modes, leaks, single nodes and saves.
 use Rattle.std.specs.Prelude.{ℕ, ◌≡◌, Bool, true, false, nat_lt, List, [], ◌∷◌, Option, Some, None}
 use Rattle.cx_line_words.specs.Values.{is_life}
-use Rattle.cx_lines.specs.declared.commands.Command.{Command}
-use Rattle.cx_lines.specs.declared.commands.Command.TheVariants as command
+use Rattle.cx_lines.specs.declared.commands.LineCommand.{LineCommand}
+use Rattle.cx_lines.specs.declared.commands.LineCommand.TheVariants as command
 use Rattle.cx_lines.specs.declared.lines.Line.{Line}
 use Rattle.cx_lines.specs.declared.lines.Line.TheVariants as line
 use Rattle.cx_lines.specs.declared.lines.Numbered.{Numbered}
@@ -14,7 +14,7 @@ use Rattle.cx_plain.specs.declared.refusals.PlainRefusal.{PlainRefusal}
 use Rattle.cx_plain.specs.declared.refusals.PlainRefusal.TheVariants.{NotYet, OutOfMemory}
 
 -- a command as the plain run takes it
-abbrev pub plain_command : Command → Option PlainLine
+abbrev pub plain_command : LineCommand → Option PlainLine
 plain_command (command.Fetch daemon) = Some (Fetch daemon)
 plain_command (command.Login client services) = Some (Login client services)
 plain_command (command.Renew client services) = None

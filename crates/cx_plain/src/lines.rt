@@ -4,8 +4,8 @@ ghost use Rattle.std.specs.Prelude.{◌≡◌, true, Some, IfOk, IfSome, IsTrue}
 ghost use Rattle.cx_lines.specs.Lines.{is_in_range};
 ghost use Rattle.cx_plain.specs.PlainLines.{is_plain_in_range, plain_of, plain_command};
 
-use cx_base::{Duplicate, EntityName, EntityType, Items, Operation, Reading, copy_items};
-use cx_lines::{Command, Grant, Line, NodeStep, Setting};
+use cx_base::{Duplicate, EntityName, EntityType, Grant, Items, Operation, Reading, copy_items};
+use cx_lines::{LineCommand, Line, NodeStep, Setting};
 use std::alloc::{AllocError, Global};
 use std::fmt;
 
@@ -73,17 +73,17 @@ pub fn plain_of(alloc: Global, line: &Line) -> Result<Option<PlainLine>, AllocEr
     }
 }
 
-fn plain_command(alloc: Global, command: &Command) -> Result<Option<PlainLine>, AllocError>
+fn plain_command(alloc: Global, command: &LineCommand) -> Result<Option<PlainLine>, AllocError>
     ensures taken { IfOk result (λ found. found ≡ plain_command command.now) }
     ensures in_range { IfOk result (λ found. IfSome found (λ plain. IsTrue (is_plain_in_range plain))) }
 {
     match command {
-        Command::Fetch(daemon) => plain_fetch(alloc, daemon),
-        Command::Login(client, asked) => plain_login(alloc, client, asked),
-        Command::Connect(client, daemon, false) => plain_connect(alloc, client, daemon),
-        Command::Send(client, daemon, operation) => plain_send(alloc, client, daemon, operation),
-        Command::Renew(_, _) => Ok(None),
-        Command::Connect(_, _, true) => Ok(None),
+        LineCommand::Fetch(daemon) => plain_fetch(alloc, daemon),
+        LineCommand::Login(client, asked) => plain_login(alloc, client, asked),
+        LineCommand::Connect(client, daemon, false) => plain_connect(alloc, client, daemon),
+        LineCommand::Send(client, daemon, operation) => plain_send(alloc, client, daemon, operation),
+        LineCommand::Renew(_, _) => Ok(None),
+        LineCommand::Connect(_, _, true) => Ok(None),
     }
 }
 

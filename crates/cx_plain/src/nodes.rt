@@ -6,16 +6,15 @@ ghost use Rattle.cx_plain.specs.Changes.{changed};
 ghost use Rattle.cx_plain.specs.Nodes.{is_named, is_with, new_node};
 
 use crate::wallets::Wallet;
-use cx_base::{EntityName, Items};
+use cx_base::{EntityName, Grant, Items};
 use cx_caps::CapText;
-use cx_lines::Grant;
 use cx_rotate::{Generations, View};
 use std::alloc::{AllocError, Global};
 use std::marker::Model;
 
 /// How far a session is.
 #[derive(Clone, Copy)]
-pub(crate) struct Place {
+pub(crate) struct SessionPlace {
     /// The daemon's number of the session, from 1.
     pub number: u64,
     pub cookie: u64,
@@ -27,7 +26,7 @@ pub(crate) struct Place {
 #[derive(Drop)]
 pub(crate) struct Session {
     pub daemon: EntityName,
-    pub place: Place,
+    pub place: SessionPlace,
     /// The capability text of the ticket that it was admitted on.
     pub caps: CapText,
 }

@@ -9,16 +9,10 @@ use crate::desks::{caps_text, handle};
 use crate::entrance::{Welcome, enter, enter_save, rotated};
 use crate::lines::PlainLine;
 use crate::monitors::{Kept, Monitor, has_generation};
-use crate::nodes::{Node, Nodes, Place, Session};
-use cx_base::{
-    Blob, Duplicate, EntityName, EntityType, Items, Operation, Reading, SECOND, Text, copy_items,
-};
+use crate::nodes::{Node, Nodes, SessionPlace, Session};
+use cx_base::{Blob, Duplicate, EntityName, EntityType, Grant, Items, NodeName, Operation, Reading, SECOND, Text, copy_items};
 use cx_desk::Desk;
-use cx_journal::{
-    Admitted, Answered, Entry, Fetched, Handled, Issued, Journal, Looked, NodeName, Outcome,
-    Reason, Refused, Sent, TicketFault,
-};
-use cx_lines::Grant;
+use cx_journal::{Admitted, Answered, Entry, Fetched, Handled, Issued, Journal, Looked, Outcome, Reason, Refused, Sent, TicketFault};
 use cx_rotate::View;
 use std::alloc::{AllocError, Global};
 use std::mem;
@@ -235,7 +229,7 @@ impl Run {
     {
         let number = next(admitted)?;
         let cookie = next(self.cookies)?;
-        let at = Place {
+        let at = SessionPlace {
             number,
             cookie,
             seq: 0,
@@ -337,14 +331,14 @@ impl Run {
         alloc: Global,
         client: &EntityName,
         daemon: &EntityName,
-        session: Place,
+        session: SessionPlace,
         operation: &Operation,
         ended: Outcome,
     ) -> Result<(), AllocError>
         ensures { OnOk result (self.new ≡ delivering self.old client.now daemon.now session operation.now ended) }
     {
         let seq = next(session.seq)?;
-        let place = Place { seq, ..session };
+        let place = SessionPlace { seq, ..session };
         self.nodes.set_seq(client, daemon, seq);
         self.enter_sent(alloc, client, daemon, place, operation)?;
         self.enter_handled(alloc, daemon, place, operation, ended)?;
@@ -356,7 +350,7 @@ impl Run {
         alloc: Global,
         client: &EntityName,
         daemon: &EntityName,
-        at: Place,
+        at: SessionPlace,
         operation: &Operation,
     ) -> Result<(), AllocError>
         ensures { OnOk result (self.new ≡ entering self.old (sent_at client.now daemon.now at operation.now)) }
@@ -375,7 +369,7 @@ impl Run {
         &mut self,
         alloc: Global,
         daemon: &EntityName,
-        at: Place,
+        at: SessionPlace,
         operation: &Operation,
         ended: Outcome,
     ) -> Result<(), AllocError>
@@ -398,7 +392,7 @@ impl Run {
         alloc: Global,
         client: &EntityName,
         daemon: &EntityName,
-        at: Place,
+        at: SessionPlace,
         ended: Outcome,
     ) -> Result<(), AllocError>
         ensures { OnOk result (self.new ≡ entering self.old (answered_at client.now daemon.now at ended)) }
@@ -504,7 +498,7 @@ impl Run {
 fn session_at(
     alloc: Global,
     daemon: &EntityName,
-    at: Place,
+    at: SessionPlace,
     caps: &Text,
 ) -> Result<Session, AllocError>
     ensures { IfOk result (λ session. session ≡ record { daemon = daemon.now; place = at; caps = caps.now }) }
@@ -524,7 +518,7 @@ fn admission_at(
     now: Reading,
     client: &EntityName,
     daemon: &EntityName,
-    at: Place,
+    at: SessionPlace,
     ticket: &Issued,
 ) -> Result<Admitted, AllocError>
     ensures { IfOk result (λ admitted. admitted ≡ admission_at now client.now daemon.now at ticket.now) }

@@ -11,9 +11,8 @@ use crate::counts::next;
 use crate::monitors::{Kept, current_id};
 use crate::nodes::Node;
 use crate::wallets::Wallet;
-use cx_base::{Blob, Duplicate, EntityName, EntityType, Reading, Text};
+use cx_base::{Blob, Duplicate, EntityName, EntityType, Grant, Reading, Text};
 use cx_journal::{Entry, Issued, Journal};
-use cx_lines::Grant;
 use std::alloc::{AllocError, Global};
 
 /// The terms on which tickets are issued at one moment: the reading and the lives in nanoseconds, the monitor's state and

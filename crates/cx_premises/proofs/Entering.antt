@@ -2,7 +2,7 @@
 use Rattle.std.proofs.Common.{◌≡◌, ℕ, Bool, true, false, cond, List, [], ◌∷◌, ◌++◌, Option, Some, None, ◌⊎◌, inl, inr, refl, sym, ap, ◌∙◌, subst}
 use Rattle.std.specs.BTreeSet.{BTreeSet}
 use Rattle.cx_base.specs.Names.{Name}
-use Rattle.cx_journal.specs.declared.node_names.NodeName.{NodeName}
+use Rattle.cx_base.specs.declared.nodes.NodeName.{NodeName}
 use Rattle.cx_journal.specs.declared.premises.Broken.{Broken}
 use Rattle.cx_journal.specs.declared.premises.Premise.TheVariants as premise
 use Rattle.cx_premises.proofs.Concluding.{found_broken, found_kept, found_suspect}

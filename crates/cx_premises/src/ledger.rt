@@ -3,7 +3,6 @@
 ghost use Rattle.std.specs.Prelude.{◌≡◌, List, [], ◌∷◌, ◌++◌, IfOk, OnOk, OnErr};
 ghost use Rattle.std.specs.Option.{option_copied};
 ghost use Rattle.cx_base.specs.Names.{Name};
-ghost use Rattle.cx_journal.specs.Nodes.{is_daemon_type};
 ghost use Rattle.cx_premises.specs.Facts.{draw_fact, sealed_fact, signed_fact};
 ghost use Rattle.cx_premises.specs.Ledgers.{Enters, Finds, StandsFor, Takes, breach_at, findings_at, findings_drawn};
 ghost use Rattle.cx_steps.specs.Breach.{IsFound, drawn_kind, kind_of};
@@ -13,8 +12,8 @@ ghost use Rattle.cx_steps.specs.declared.seals.Logged.{Logged as Entry};
 use crate::facts::Fact;
 use crate::findings::{Findings, Suspect};
 use crate::kept::Kept;
-use cx_base::{Duplicate, EntityName, EntityType};
-use cx_journal::{Broken, KeyKind, NodeName, Premise};
+use cx_base::{Duplicate, EntityName, NodeName};
+use cx_journal::{Broken, KeyKind, Premise};
 use cx_line_words::Names;
 use cx_steps::{DrawMark, Logged, SealEntry, SealMark};
 use std::alloc::{AllocError, Global};
@@ -174,19 +173,6 @@ fn is_server(node: &NodeName) -> bool
 {
     match node {
         NodeName::Monitor => true,
-        NodeName::Entity(name) => is_daemon_type(name.kind),
-    }
-}
-
-fn is_daemon_type(kind: EntityType) -> bool
-    ensures { result ≡ is_daemon_type kind }
-{
-    match kind {
-        EntityType::Mds => true,
-        EntityType::Osd => true,
-        EntityType::Mgr => true,
-        EntityType::Mon => false,
-        EntityType::Client => false,
-        EntityType::Auth => false,
+        NodeName::Entity(name) => name.kind.is_daemon(),
     }
 }

@@ -2,12 +2,10 @@
 
 ghost use Rattle.std.specs.Prelude.{◌≡◌};
 ghost use Rattle.std.specs.List.{list_any};
-ghost use Rattle.cx_line_words.specs.Known.{is_daemon_kind};
 ghost use Rattle.cx_replay.specs.Lines.{first_ahead, has_daemon_line, is_ahead, is_ahead_do, is_daemon_line, is_daemon_node};
 
-use cx_base::EntityType;
-use cx_line_words::Node;
-use cx_lines::{Command, Line, NodeStep, Numbered};
+use cx_base::NodeName;
+use cx_lines::{LineCommand, Line, NodeStep, Numbered};
 
 /// Whether a fetch, connect or send line is among these.
 pub fn has_daemon_line(lines: &[Numbered]) -> bool
@@ -20,11 +18,11 @@ fn is_daemon_line(line: &Line) -> bool
     ensures { result ≡ is_daemon_line line.now }
 {
     match line {
-        Line::Submit(Command::Fetch(_)) => true,
-        Line::Submit(Command::Login(_, _)) => false,
-        Line::Submit(Command::Renew(_, _)) => false,
-        Line::Submit(Command::Connect(_, _, _)) => true,
-        Line::Submit(Command::Send(_, _, _)) => true,
+        Line::Submit(LineCommand::Fetch(_)) => true,
+        Line::Submit(LineCommand::Login(_, _)) => false,
+        Line::Submit(LineCommand::Renew(_, _)) => false,
+        Line::Submit(LineCommand::Connect(_, _, _)) => true,
+        Line::Submit(LineCommand::Send(_, _, _)) => true,
         Line::Setting(_) => false,
         Line::Do(_) => false,
         Line::Link(_) => false,
@@ -48,11 +46,11 @@ fn is_ahead(line: &Line) -> bool
     ensures { result ≡ is_ahead line.now }
 {
     match line {
-        Line::Submit(Command::Renew(_, _)) => true,
-        Line::Submit(Command::Fetch(_)) => false,
-        Line::Submit(Command::Login(_, _)) => false,
-        Line::Submit(Command::Connect(_, _, _)) => false,
-        Line::Submit(Command::Send(_, _, _)) => false,
+        Line::Submit(LineCommand::Renew(_, _)) => true,
+        Line::Submit(LineCommand::Fetch(_)) => false,
+        Line::Submit(LineCommand::Login(_, _)) => false,
+        Line::Submit(LineCommand::Connect(_, _, _)) => false,
+        Line::Submit(LineCommand::Send(_, _, _)) => false,
         Line::Do(command) => is_ahead_do(command),
         Line::Node(NodeStep::Tick(_)) => true,
         Line::Node(NodeStep::DropSession(_, _)) => true,
@@ -66,29 +64,23 @@ fn is_ahead(line: &Line) -> bool
     }
 }
 
-fn is_ahead_do(command: &Command) -> bool
+fn is_ahead_do(command: &LineCommand) -> bool
     ensures { result ≡ is_ahead_do command.now }
 {
     match command {
-        Command::Login(_, _) => false,
-        Command::Fetch(_) => true,
-        Command::Renew(_, _) => true,
-        Command::Connect(_, _, _) => true,
-        Command::Send(_, _, _) => true,
+        LineCommand::Login(_, _) => false,
+        LineCommand::Fetch(_) => true,
+        LineCommand::Renew(_, _) => true,
+        LineCommand::Connect(_, _, _) => true,
+        LineCommand::Send(_, _, _) => true,
     }
 }
 
-fn is_daemon_node(node: &Node) -> bool
+fn is_daemon_node(node: &NodeName) -> bool
     ensures { result ≡ is_daemon_node node.now }
 {
     match node {
-        Node::Monitor => false,
-        Node::Entity(name) => is_daemon_kind(name.kind),
+        NodeName::Monitor => false,
+        NodeName::Entity(name) => name.kind.is_daemon(),
     }
-}
-
-fn is_daemon_kind(kind: EntityType) -> bool
-    ensures { result ≡ is_daemon_kind kind }
-{
-    kind.is(EntityType::Mds) || kind.is(EntityType::Osd) || kind.is(EntityType::Mgr)
 }

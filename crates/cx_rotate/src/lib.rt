@@ -5,8 +5,6 @@
 mod generations;
 mod laws;
 mod states;
-#[cfg(test)]
-mod tests;
 mod views;
 
 pub use generations::{Generation, Generations};

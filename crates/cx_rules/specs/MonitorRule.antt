@@ -12,7 +12,7 @@ use Rattle.cx_frame.specs.declared.frame.Frame.{Frame}
 use Rattle.cx_journal.specs.declared.entries.Entry.TheVariants as entry
 use Rattle.cx_journal.specs.declared.faults.BytesFault.{BytesFault}
 use Rattle.cx_journal.specs.declared.faults.BytesFault.TheVariants.{Unexpected}
-use Rattle.cx_journal.specs.declared.node_names.NodeName.TheVariants as node
+use Rattle.cx_base.specs.declared.nodes.NodeName.TheVariants as node
 use Rattle.cx_journal.specs.declared.outcomes.Reason.TheVariants.{LinksFull}
 use Rattle.cx_base.specs.declared.addresses.Addr.{Addr}
 use Rattle.cx_keyserver.specs.Servers.{Server}

@@ -1,10 +1,10 @@
 -- The nodes of a world are those to which its events lead: each thing that is done to a world keeps that.
 use Rattle.std.proofs.Common.{◌≡◌, ℕ, ◌==◌, Bool, true, false, List, [], ◌∷◌, ◌++◌, Option, Some, None, refl, ap}
 use Rattle.std.specs.Prelude.{filter, length, replicate, if◌then◌else◌}
-use Rattle.cx_journal.specs.declared.node_names.NodeName.{NodeName}
-use Rattle.cx_journal.specs.declared.node_names.NodeName.TheVariants as node
-use Rattle.cx_lines.specs.declared.commands.Command.{Command}
-use Rattle.cx_lines.specs.declared.commands.Command.TheVariants as command
+use Rattle.cx_base.specs.declared.nodes.NodeName.{NodeName}
+use Rattle.cx_base.specs.declared.nodes.NodeName.TheVariants as node
+use Rattle.cx_lines.specs.declared.commands.LineCommand.{LineCommand}
+use Rattle.cx_lines.specs.declared.commands.LineCommand.TheVariants as command
 use Rattle.cx_lines.specs.declared.lines.Line.{Line}
 use Rattle.cx_lines.specs.declared.lines.Line.TheVariants as line
 use Rattle.cx_lines.specs.declared.lines.Numbered.{Numbered}
@@ -19,9 +19,9 @@ use Rattle.cx_steps.specs.declared.events.Command.TheVariants as told
 use Rattle.cx_steps.specs.declared.events.Peer.{Peer}
 use Rattle.cx_run.specs.Happenings.{Happening, Nodes, nodes_behind, steps}
 use Rattle.cx_run.specs.Wires.{Wire, end_of, ended, gone_at, has_end, node_at, other, owes_gone, pieces_from, wire_of, with_pieces, with_wire}
-use Rattle.cx_run.specs.Worlds.{Seat, World, carried, happening, opened_wires, seat_of}
+use Rattle.cx_run.specs.Worlds.{Post, World, carried, happening, opened_wires, post_of}
 use Rattle.cx_run.specs.Deliveries.{Given, arrives, arrives_from, came_at, comes, delivers, delivers_on, delivers_piece, drains, drains_side, far_side, first_of, followed, given, gives, gone_arrives, open_all, opens, restarts, round, rounds, settles, stay, tells, tells_gone, turns, under_way, vanish}
-use Rattle.cx_run.specs.Schedules.{acts_on, after_line, after_lines, arrives_again, cuts, ever_sent, injects, loses, node_in, on_link, on_node, services_sum, submits, submitted, without_first}
+use Rattle.cx_run.specs.Schedules.{acts_on, after_line, after_lines, arrives_again, cuts, ever_sent, injects, loses, on_link, on_node, services_sum, submits, submitted, without_first}
 
 led-append : (start : Nodes) (hs : List Happening) (h : Happening) → nodes_behind start (hs ++ h ∷ []) ≡ (steps (nodes_behind start hs) h).nodes
 led-append start [] h = refl
@@ -35,14 +35,14 @@ module _ (start : Nodes) where
   led-like : (w v : World) → v.nodes ≡ w.nodes → v.past ≡ w.past → Led start w → Led start v
   led-like w v n p k = record { to = rw (n, p) k.to }
 
-  led-given : (w : World) (input : Input) (seat : Option Seat) → Led start w → Led start (given w input seat).world
+  led-given : (w : World) (input : Input) (post : Option Post) → Led start w → Led start (given w input post).world
   led-given w input None k = k
-  led-given w input (Some seat) k =
-      let h = happening w input seat in
+  led-given w input (Some post) k =
+      let h = happening w input post in
       record { to = rw (led-append start w.past h) (ap (λ (n : Nodes). (steps n h).nodes) k.to) }
 
   led-gives : (w : World) (who : NodeName) (input : Input) → Led start w → Led start (gives w who input).world
-  led-gives w who input k = led-given w input (seat_of who w.seats) k
+  led-gives w who input k = led-given w input (post_of who w.posts) k
 
   led-tells : (w : World) (who : NodeName) (input : Input) → Led start w → Led start (tells w who input)
   led-tells w who input k = led-like (gives w who input).world (tells w who input) refl refl (led-gives w who input k)
@@ -146,14 +146,14 @@ module _ (start : Nodes) where
 
   -- ---- lines
 
-  led-submitted : (w : World) (c : Command) → Led start w → Led start (submitted w c)
+  led-submitted : (w : World) (c : LineCommand) → Led start w → Led start (submitted w c)
   led-submitted w (command.Login client services) k = led-comes w (node.Entity client) (Submit (told.Login (services_sum services))) k
   led-submitted w (command.Fetch daemon) k = k
   led-submitted w (command.Renew client services) k = k
   led-submitted w (command.Connect client daemon lossy) k = k
   led-submitted w (command.Send client daemon operation) k = k
 
-  led-submits : (w : World) (c : Command) → Led start w → Led start (submits w c)
+  led-submits : (w : World) (c : LineCommand) → Led start w → Led start (submits w c)
   led-submits w (command.Login client services) k =
       led-settles (submitted w (command.Login client services)) (led-submitted w (command.Login client services) k)
   led-submits w (command.Fetch daemon) k = k
@@ -193,7 +193,7 @@ module _ (start : Nodes) where
   led-on_node : (w : World) (s : NodeStep) → Led start w → Led start (on_node w s)
   led-on_node w (step.Clock reading) k = led-like w (on_node w (step.Clock reading)) refl refl k
   led-on_node w (step.ClockOf who reading) k = led-like w (on_node w (step.ClockOf who reading)) refl refl k
-  led-on_node w (step.Restart who) k = led-restarts w (node_in who) k
+  led-on_node w (step.Restart who) k = led-restarts w who k
   led-on_node w (step.FailSave left) k = led-like w (on_node w (step.FailSave left)) refl refl k
   led-on_node w step.Settle k = led-settles w k
   led-on_node w (step.DropSession daemon number) k = k

@@ -4,8 +4,8 @@ use Rattle.std.specs.Prelude.{filter, find, nat_lt, not, if◌then◌else◌}
 use Rattle.std.proofs.lemmas.Bool.{ltb-true}
 use Rattle.cx_base.proofs.Names.{same_name_is}
 use Rattle.cx_base.specs.Names.{Name}
-use Rattle.cx_journal.specs.declared.node_names.NodeName.{NodeName}
-use Rattle.cx_journal.specs.declared.node_names.NodeName.TheVariants as node
+use Rattle.cx_base.specs.declared.nodes.NodeName.{NodeName}
+use Rattle.cx_base.specs.declared.nodes.NodeName.TheVariants as node
 use Rattle.cx_line_words.specs.declared.choices.LeftState.{LeftState}
 use Rattle.cx_line_words.specs.declared.choices.LeftState.TheVariants as left
 use Rattle.cx_line_words.specs.declared.choices.Side.{Side}
@@ -25,7 +25,7 @@ use Rattle.cx_run.specs.Deliveries.{Given, came_at, came_on, came_to, far_side, 
 use Rattle.cx_run.specs.Happenings.{Happening, Nodes, Stepped, client_of, client_steps, is_of, monitor_steps, steps, steps_of}
 use Rattle.cx_run.specs.Turning.{untaken_at, untaken_on, untaken_to}
 use Rattle.cx_run.specs.Wires.{Wire, end_of, ended, has_end, node_at, same_node, with_wire}
-use Rattle.cx_run.specs.Worlds.{Seat, World, carried, happening, opened_wires, seat_of}
+use Rattle.cx_run.specs.Worlds.{Post, World, carried, happening, opened_wires, post_of}
 use Rattle.cx_run.proofs.ClientTakes.{asker-takes, lifted-takes}
 use Rattle.cx_run.proofs.MonitorTakes.{monitor-takes}
 use Rattle.cx_run.proofs.Taking.{Takes, TurnTakes}
@@ -168,11 +168,11 @@ replaced P name c (x ∷ clients) none some = by_test (is_of name x) refl (repla
     by_test true t later = by_own (is_of name c) later
     by_test false t later = subst (λ (b : Bool). P (cond b (Some x) (find (is_of name) (map (λ x. if is_of name x then c else x) clients)))) (sym t) later
 
-client-steps : (w : World) (n : ℕ) (seat : Seat) (name : Name) (found : Option ClientNode) → client_of name w.nodes ≡ found
-    → StepsLess w.nodes n (node.Entity name) (client_steps w.nodes (happening w (Turn n) seat) name found)
-client-steps w n seat name None e = record { opens = refl; failed = λ t. absurd cc; less = λ t. absurd cc }
-client-steps w n seat name (Some c) e =
-    let h : Happening = happening w (Turn n) seat in
+client-steps : (w : World) (n : ℕ) (post : Post) (name : Name) (found : Option ClientNode) → client_of name w.nodes ≡ found
+    → StepsLess w.nodes n (node.Entity name) (client_steps w.nodes (happening w (Turn n) post) name found)
+client-steps w n post name None e = record { opens = refl; failed = λ t. absurd cc; less = λ t. absurd cc }
+client-steps w n post name (Some c) e =
+    let h : Happening = happening w (Turn n) post in
     let o : Outcome ClientNode = client_rule c (Turn n) h.reading h.draw in
     let turned : TurnsLess n (link_of n c.links) o = client-less c n h.reading h.draw (link_of n c.links) refl in
     let IsLess : Option ClientNode → Type 0 = λ x. length (untaken_to n x) < length (untaken_to n (client_of name w.nodes)) in
@@ -185,15 +185,15 @@ client-steps w n seat name (Some c) e =
           replaced IsLess name o.state w.nodes.clients none own;
     }
 
-steps-less : (w : World) (n : ℕ) (seat : Seat) (who : NodeName) → StepsLess w.nodes n who (steps_of w.nodes (happening w (Turn n) seat) who)
-steps-less w n seat node.Monitor =
-    let h : Happening = happening w (Turn n) seat in
+steps-less : (w : World) (n : ℕ) (post : Post) (who : NodeName) → StepsLess w.nodes n who (steps_of w.nodes (happening w (Turn n) post) who)
+steps-less w n post node.Monitor =
+    let h : Happening = happening w (Turn n) post in
     let m : MonitorNode = w.nodes.monitor in
     let o : Outcome MonitorNode = monitor_rule m (Turn n) h.reading h.draw in
     monitor-steps w.nodes n o h.left o.out.save (monitor-less (noted m) n h.reading h.draw (link_of n m.links) refl)
-steps-less w n seat (node.Entity name) = client-steps w n seat name (client_of name w.nodes) refl
+steps-less w n post (node.Entity name) = client-steps w n post name (client_of name w.nodes) refl
 
--- ---- the node of a seat
+-- ---- the node of a post
 
 same-is : (a b : NodeName) → same_node a b ≡ true → a ≡ b
 same-is node.Monitor node.Monitor e = refl
@@ -201,12 +201,12 @@ same-is (node.Entity a) (node.Entity b) e = ap (λ (x : Name). node.Entity x) (s
 same-is node.Monitor (node.Entity b) e = absurd cc
 same-is (node.Entity a) node.Monitor e = absurd cc
 
-seat-is : (who : NodeName) (seats : List Seat) (seat : Seat) → seat_of who seats ≡ Some seat → seat.node ≡ who
-seat-is who [] seat e = absurd cc
-seat-is who (x ∷ seats) seat e = by_test (same_node x.node who) refl e (seat-is who seats seat)
+post-is : (who : NodeName) (posts : List Post) (post : Post) → post_of who posts ≡ Some post → post.node ≡ who
+post-is who [] post e = absurd cc
+post-is who (x ∷ posts) post e = by_test (same_node x.node who) refl e (post-is who posts post)
   where
-    by_test : (t : Bool) → same_node x.node who ≡ t → cond t (Some x) (seat_of who seats) ≡ Some seat → (seat_of who seats ≡ Some seat → seat.node ≡ who) → seat.node ≡ who
-    by_test true t e later = let same : x ≡ seat = cc in subst (λ (y : Seat). y.node ≡ who) same (same-is x.node who t)
+    by_test : (t : Bool) → same_node x.node who ≡ t → cond t (Some x) (post_of who posts) ≡ Some post → (post_of who posts ≡ Some post → post.node ≡ who) → post.node ≡ who
+    by_test true t e later = let same : x ≡ post = cc in subst (λ (y : Post). y.node ≡ who) same (same-is x.node who t)
     by_test false t e later = later e
 
 -- ---- a monitor that starts again, and links that vanish
@@ -229,24 +229,24 @@ module _ (n : ℕ) where
   client-apart nodes h name (Some c) = refl
 
   -- an event that leaves the monitor no more than before
-  step-less : (w : World) (input : Input) (seat : Seat) (who : NodeName)
+  step-less : (w : World) (input : Input) (post : Post) (who : NodeName)
       → ((reading : ℕ) (draw : List ℕ) → length (untaken_on (link_of n (monitor_rule w.nodes.monitor input reading draw).state.links)) ≤ left_there w)
-      → length (untaken_on (link_of n (steps_of w.nodes (happening w input seat) who).nodes.monitor.links)) ≤ left_there w
-  step-less w input seat node.Monitor each =
-      let h : Happening = happening w input seat in
+      → length (untaken_on (link_of n (steps_of w.nodes (happening w input post) who).nodes.monitor.links)) ≤ left_there w
+  step-less w input post node.Monitor each =
+      let h : Happening = happening w input post in
       let o : Outcome MonitorNode = monitor_rule w.nodes.monitor input h.reading h.draw in
       subst (λ (links : List (Link MonitorStage)). length (untaken_on (link_of n links)) ≤ left_there w) (sym (monitor-links w.nodes o h.left o.out.save)) (each h.reading h.draw)
-  step-less w input seat (node.Entity name) each =
-      subst (λ (m : MonitorNode). length (untaken_on (link_of n m.links)) ≤ left_there w) (sym (client-apart w.nodes (happening w input seat) name (client_of name w.nodes))) (omega arith)
+  step-less w input post (node.Entity name) each =
+      subst (λ (m : MonitorNode). length (untaken_on (link_of n m.links)) ≤ left_there w) (sym (client-apart w.nodes (happening w input post) name (client_of name w.nodes))) (omega arith)
 
-  given-less : (w : World) (input : Input) (seat : Option Seat)
+  given-less : (w : World) (input : Input) (post : Option Post)
       → ((reading : ℕ) (draw : List ℕ) → length (untaken_on (link_of n (monitor_rule w.nodes.monitor input reading draw).state.links)) ≤ left_there w)
-      → left_there (given w input seat).world ≤ left_there w
+      → left_there (given w input post).world ≤ left_there w
   given-less w input None each = omega arith
-  given-less w input (Some seat) each = step-less w input seat seat.node each
+  given-less w input (Some post) each = step-less w input post post.node each
 
   tells-gone-less : (w : World) (who : NodeName) (k : ℕ) → left_there (tells w who (Gone k)) ≤ left_there w
-  tells-gone-less w who k = given-less w (Gone k) (seat_of who w.seats) (λ reading draw. left-less n k w.nodes.monitor.links)
+  tells-gone-less w who k = given-less w (Gone k) (post_of who w.posts) (λ reading draw. left-less n k w.nodes.monitor.links)
 
   gone-less : (w : World) (wire : Wire) (side : Side) → left_there (tells_gone w wire side) ≤ left_there w
   gone-less w wire side = by_test (end_of wire side).lives
@@ -267,7 +267,7 @@ module _ (n : ℕ) where
   restarts-less : (w : World) (who : NodeName) → left_there (restarts w who) ≤ left_there w
   restarts-less w who =
       let began : World = tells w who Restart in
-      let first : left_there began ≤ left_there w = given-less w Restart (seat_of who w.seats) (λ reading draw. omega arith) in
+      let first : left_there began ≤ left_there w = given-less w Restart (post_of who w.posts) (λ reading draw. omega arith) in
       let rest : left_there (restarts w who) ≤ left_there began = vanish-less who began (filter (has_end who) began.wires) in
       omega arith
 
@@ -289,16 +289,16 @@ followed-less who g n opens failed = by_test g.failed failed
 
 pub takes : (w : World) (who : NodeName) (n : ℕ) → (gives w who (Turn n)).out.turned ≡ true
     → length (untaken_at (followed who (gives w who (Turn n))).nodes n who) < length (untaken_at w.nodes n who)
-takes w who n = by_seat (seat_of who w.seats) refl
+takes w who n = by_post (post_of who w.posts) refl
   where
-    by_seat : (found : Option Seat) → seat_of who w.seats ≡ found → (given w (Turn n) found).out.turned ≡ true
+    by_post : (found : Option Post) → post_of who w.posts ≡ found → (given w (Turn n) found).out.turned ≡ true
         → length (untaken_at (followed who (given w (Turn n) found)).nodes n who) < length (untaken_at w.nodes n who)
-    by_seat None e t = absurd cc
-    by_seat (Some seat) e t =
-        let s : Stepped = steps w.nodes (happening w (Turn n) seat) in
-        let stepped : StepsLess w.nodes n who s = subst (λ (x : NodeName). StepsLess w.nodes n x s) (seat-is who w.seats seat e) (steps-less w n seat seat.node) in
+    by_post None e t = absurd cc
+    by_post (Some post) e t =
+        let s : Stepped = steps w.nodes (happening w (Turn n) post) in
+        let stepped : StepsLess w.nodes n who s = subst (λ (x : NodeName). StepsLess w.nodes n x s) (post-is who w.posts post e) (steps-less w n post post.node) in
         let first = stepped.less t in
-        let rest = followed-less who (given w (Turn n) (Some seat)) n stepped.opens stepped.failed in
+        let rest = followed-less who (given w (Turn n) (Some post)) n stepped.opens stepped.failed in
         omega arith
 
 -- ---- turns

@@ -1,7 +1,7 @@
 -- What comes to a node, and all that follows at once: turns, links that open, a save that fails, a restart.
 use Rattle.std.specs.Prelude.{ℕ, ◌==◌, Bool, false, List, [], ◌∷◌, ◌++◌, drop, filter, length, replicate, take, Option, Some, None, if◌then◌else◌}
-use Rattle.cx_journal.specs.declared.node_names.NodeName.{NodeName}
-use Rattle.cx_journal.specs.declared.node_names.NodeName.TheVariants as node
+use Rattle.cx_base.specs.declared.nodes.NodeName.{NodeName}
+use Rattle.cx_base.specs.declared.nodes.NodeName.TheVariants as node
 use Rattle.cx_line_words.specs.declared.choices.Side.{Side}
 use Rattle.cx_line_words.specs.declared.choices.Side.TheVariants.{Connector, Acceptor}
 use Rattle.cx_rules.specs.ClientRule.{ClientNode}
@@ -12,7 +12,7 @@ use Rattle.cx_steps.specs.declared.effects.Effects.{Effects}
 use Rattle.cx_steps.specs.declared.events.Peer.{Peer}
 use Rattle.cx_run.specs.Happenings.{Nodes, client_of, steps}
 use Rattle.cx_run.specs.Wires.{Wire, end_of, ended, gone_at, has_end, node_at, other, owes_gone, pieces_from, same_node, wire_of, with_pieces, with_wire}
-use Rattle.cx_run.specs.Worlds.{Seat, World, carried, happened, happening, opened_wires, seat_of}
+use Rattle.cx_run.specs.Worlds.{Post, World, carried, happened, happening, opened_wires, post_of}
 
 -- the world behind an event, the event's effects, and whether a save failed
 pub record Given : Type 0 where
@@ -20,15 +20,15 @@ pub record Given : Type 0 where
   pub out : Effects
   pub failed : Bool
 
-abbrev pub given : World → Input → Option Seat → Given
+abbrev pub given : World → Input → Option Post → Given
 given w input None = record { world = w; out = nothing; failed = false }
-given w input (Some seat) =
-    let h = happening w input seat in
+given w input (Some post) =
+    let h = happening w input post in
     let s = steps w.nodes h in
-    record { world = happened w h seat s.nodes; out = s.out; failed = s.failed }
+    record { world = happened w h post s.nodes; out = s.out; failed = s.failed }
 
 abbrev pub gives : World → NodeName → Input → Given
-gives w who input = given w input (seat_of who w.seats)
+gives w who input = given w input (post_of who w.posts)
 
 -- an event at which no link opens and nothing is saved: what it sends and shuts is carried out
 abbrev pub tells : World → NodeName → Input → World

@@ -6,9 +6,9 @@ use Rattle.cx_base.specs.declared.addresses.Addr.{Addr}
 use Rattle.cx_base.specs.declared.kinds.EntityType.TheVariants.{Client}
 use Rattle.cx_dice.specs.Rolls.{seed_draw}
 use Rattle.cx_journal.specs.declared.entries.Entry.TheVariants as entry
-use Rattle.cx_journal.specs.declared.node_names.NodeName.TheVariants as node
+use Rattle.cx_base.specs.declared.nodes.NodeName.TheVariants as node
 use Rattle.cx_keyring.specs.declared.entries.Entry.{Entry as Principal}
-use Rattle.cx_lines.specs.declared.entity.Grant.{Grant}
+use Rattle.cx_base.specs.declared.grants.Grant.{Grant}
 use Rattle.cx_lines.specs.declared.lines.Line.{Line}
 use Rattle.cx_lines.specs.declared.lines.Line.TheVariants as line
 use Rattle.cx_lines.specs.declared.lines.Numbered.{Numbered}
@@ -16,8 +16,8 @@ use Rattle.cx_lines.specs.declared.settings.Setting.{Setting}
 use Rattle.cx_lines.specs.declared.settings.Setting.TheVariants as setting
 use Rattle.cx_line_words.specs.declared.choices.Modes.{Modes}
 use Rattle.cx_line_words.specs.declared.choices.Modes.TheVariants.{Crc, Secure, Both}
-use Rattle.cx_line_words.specs.declared.nodes.Node.{Node}
-use Rattle.cx_line_words.specs.declared.nodes.Node.TheVariants as place
+use Rattle.cx_base.specs.declared.nodes.NodeName.{NodeName}
+use Rattle.cx_base.specs.declared.nodes.NodeName.TheVariants as place
 use Rattle.cx_rotate.specs.declared.states.KeptState.{KeptState}
 use Rattle.cx_rules.specs.ClientRule.{ClientNode, opening_client}
 use Rattle.cx_rules.specs.Holdings.{Asker, holds_nothing, modes_of}
@@ -27,7 +27,7 @@ use Rattle.cx_steps.specs.declared.seals.DrawMark.TheVariants as draw
 use Rattle.cx_steps.specs.declared.seals.Logged.{Logged}
 use Rattle.cx_steps.specs.declared.seals.SealEntry.TheVariants as seal
 use Rattle.cx_run.specs.Happenings.{Entered, Nodes}
-use Rattle.cx_run.specs.Worlds.{Seat, World}
+use Rattle.cx_run.specs.Worlds.{Post, World}
 
 -- ---- what head lines say
 
@@ -62,7 +62,7 @@ plain_setup = record { life = 3600; auth_life = 43200; entities = []; monitor_se
 abbrev pub changed : Name → (Declared → Declared) → Setup → Setup
 changed name change setup = record setup { entities = map (λ e. if same_name e.name name then change e else e) setup.entities }
 
-abbrev pub seeded : Node → ℕ → Setup → Setup
+abbrev pub seeded : NodeName → ℕ → Setup → Setup
 seeded place.Monitor seed setup = record setup { monitor_seed = seed }
 seeded (place.Entity name) seed setup = changed name (λ e. record e { seed = Some seed }) setup
 
@@ -103,7 +103,7 @@ abbrev pub principal_of : Declared → Principal
 principal_of e = record {
   name = e.name;
   key = record { created = record { secs = 0; nanos = 0 }; secret = secret_of e };
-  caps = map (λ grant. record { service = grant.service; caps = grant.caps }) e.grants;
+  caps = e.grants;
 }
 
 -- the state with which the monitor begins
@@ -137,15 +137,15 @@ abbrev pub nodes_of : Setup → Nodes
 nodes_of setup = record { monitor = monitor_of setup; clients = flat_map client_in setup.entities }
 
 -- the seed of an entity's dice is its number, where none is told
-abbrev pub seat_for : Declared → Seat
-seat_for e = record { node = node.Entity e.name; reading = 0; seed = unwrap_or e.seed e.number; rolled = 0 }
+abbrev pub post_for : Declared → Post
+post_for e = record { node = node.Entity e.name; reading = 0; seed = unwrap_or e.seed e.number; rolled = 0 }
 
-abbrev pub seats_of : Setup → List Seat
-seats_of setup = record { node = node.Monitor; reading = 0; seed = setup.monitor_seed; rolled = 0 } ∷ map seat_for setup.entities
+abbrev pub posts_of : Setup → List Post
+posts_of setup = record { node = node.Monitor; reading = 0; seed = setup.monitor_seed; rolled = 0 } ∷ map post_for setup.entities
 
 -- the world before anything happened
 abbrev pub opening_world : Setup → World
-opening_world setup = record { nodes = nodes_of setup; seats = seats_of setup; wires = []; left = None; line = 0; past = [] }
+opening_world setup = record { nodes = nodes_of setup; posts = posts_of setup; wires = []; left = None; line = 0; past = [] }
 
 -- ---- what stands in journal and log before all events
 

@@ -3,10 +3,10 @@ use Rattle.std.specs.Prelude.{ℕ, zero, suc, List, [], ◌∷◌, map, sum_by, 
 use Rattle.std.specs.List.{slice_get}
 use Rattle.cx_base.specs.declared.kinds.EntityType.{EntityType}
 use Rattle.cx_enc.specs.Values.{number_of}
-use Rattle.cx_journal.specs.declared.node_names.NodeName.{NodeName}
-use Rattle.cx_journal.specs.declared.node_names.NodeName.TheVariants as node
-use Rattle.cx_lines.specs.declared.commands.Command.{Command}
-use Rattle.cx_lines.specs.declared.commands.Command.TheVariants as command
+use Rattle.cx_base.specs.declared.nodes.NodeName.{NodeName}
+use Rattle.cx_base.specs.declared.nodes.NodeName.TheVariants as node
+use Rattle.cx_lines.specs.declared.commands.LineCommand.{LineCommand}
+use Rattle.cx_lines.specs.declared.commands.LineCommand.TheVariants as command
 use Rattle.cx_lines.specs.declared.lines.Line.{Line}
 use Rattle.cx_lines.specs.declared.lines.Line.TheVariants as line
 use Rattle.cx_lines.specs.declared.lines.Numbered.{Numbered}
@@ -16,13 +16,11 @@ use Rattle.cx_lines.specs.declared.node_steps.NodeStep.{NodeStep}
 use Rattle.cx_lines.specs.declared.node_steps.NodeStep.TheVariants as step
 use Rattle.cx_line_words.specs.declared.choices.Side.{Side}
 use Rattle.cx_line_words.specs.declared.choices.Side.TheVariants.{Connector, Acceptor}
-use Rattle.cx_line_words.specs.declared.nodes.Node.{Node}
-use Rattle.cx_line_words.specs.declared.nodes.Node.TheVariants as place
 use Rattle.cx_rules.specs.Inputs.{Submit}
 use Rattle.cx_steps.specs.declared.events.Command.TheVariants as told
 use Rattle.cx_run.specs.Deliveries.{arrives_from, comes, delivers, restarts, settles, tells_gone}
 use Rattle.cx_run.specs.Wires.{Wire, end_of, ended, pieces_from, same_node, wire_of, with_pieces, with_wire}
-use Rattle.cx_run.specs.Worlds.{Seat, World}
+use Rattle.cx_run.specs.Worlds.{Post, World}
 
 -- ---- commands
 
@@ -31,7 +29,7 @@ abbrev pub services_sum : List EntityType → ℕ
 services_sum services = sum_by number_of services
 
 -- a client logs in; the other commands do nothing yet
-abbrev pub submitted : World → Command → World
+abbrev pub submitted : World → LineCommand → World
 submitted w (command.Login client services) = comes w (node.Entity client) (Submit (told.Login (services_sum services)))
 submitted w (command.Fetch daemon) = w
 submitted w (command.Renew client services) = w
@@ -39,7 +37,7 @@ submitted w (command.Connect client daemon lossy) = w
 submitted w (command.Send client daemon operation) = w
 
 -- and then all settles
-abbrev pub submits : World → Command → World
+abbrev pub submits : World → LineCommand → World
 submits w (command.Login client services) = settles (submitted w (command.Login client services))
 submits w (command.Fetch daemon) = w
 submits w (command.Renew client services) = w
@@ -85,21 +83,17 @@ on_link w (link.Cut number) = cuts w (wire_of number w.wires)
 
 -- ---- nodes
 
-abbrev pub node_in : Node → NodeName
-node_in place.Monitor = node.Monitor
-node_in (place.Entity name) = node.Entity name
-
 abbrev pub all_read : ℕ → World → World
-all_read reading w = record w { seats = map (λ (seat : Seat). record seat { reading = reading }) w.seats }
+all_read reading w = record w { posts = map (λ (post : Post). record post { reading = reading }) w.posts }
 
 abbrev pub one_reads : NodeName → ℕ → World → World
 one_reads who reading w =
-    record w { seats = map (λ (seat : Seat). if same_node seat.node who then record seat { reading = reading } else seat) w.seats }
+    record w { posts = map (λ (post : Post). if same_node post.node who then record post { reading = reading } else post) w.posts }
 
 abbrev pub on_node : World → NodeStep → World
 on_node w (step.Clock reading) = all_read reading w
-on_node w (step.ClockOf who reading) = one_reads (node_in who) reading w
-on_node w (step.Restart who) = restarts w (node_in who)
+on_node w (step.ClockOf who reading) = one_reads who reading w
+on_node w (step.Restart who) = restarts w who
 on_node w (step.FailSave left) = record w { left = Some left }
 on_node w step.Settle = settles w
 on_node w (step.DropSession daemon number) = w

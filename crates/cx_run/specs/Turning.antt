@@ -1,7 +1,7 @@
 -- What came to a node on a link and is left to be taken. It bounds how often the node is turned.
 use Rattle.std.specs.Prelude.{ℕ, List, [], Option, Some, None}
-use Rattle.cx_journal.specs.declared.node_names.NodeName.{NodeName}
-use Rattle.cx_journal.specs.declared.node_names.NodeName.TheVariants as node
+use Rattle.cx_base.specs.declared.nodes.NodeName.{NodeName}
+use Rattle.cx_base.specs.declared.nodes.NodeName.TheVariants as node
 use Rattle.cx_rules.specs.ClientRule.{ClientNode}
 use Rattle.cx_rules.specs.Fronts.{ahead_of}
 use Rattle.cx_rules.specs.Links.{Link, link_of}

@@ -2,8 +2,8 @@
 -- here: what it sends goes under way, links are opened and shut.
 use Rattle.std.specs.Prelude.{ℕ, suc, List, [], ◌∷◌, ◌++◌, find, map, Option, Some, None, if◌then◌else◌}
 use Rattle.cx_dice.specs.Rolls.{seed_draw}
-use Rattle.cx_journal.specs.declared.node_names.NodeName.{NodeName}
-use Rattle.cx_journal.specs.declared.node_names.NodeName.TheVariants as node
+use Rattle.cx_base.specs.declared.nodes.NodeName.{NodeName}
+use Rattle.cx_base.specs.declared.nodes.NodeName.TheVariants as node
 use Rattle.cx_line_words.specs.declared.choices.LeftState.{LeftState}
 use Rattle.cx_rules.specs.Inputs.{Input}
 use Rattle.cx_steps.specs.declared.effects.Effects.{Effects}
@@ -14,7 +14,7 @@ use Rattle.cx_run.specs.Happenings.{Happening, Nodes}
 use Rattle.cx_run.specs.Wires.{Wire, gone_at, new_wire, same_node, sent_from, side_of, wire_of, with_wire}
 
 -- what a node goes by: the reading of its clock, the seed of its dice, and how many draws were rolled
-pub record Seat : Type 0 where
+pub record Post : Type 0 where
   pub node : NodeName
   pub reading : ℕ
   pub seed : ℕ
@@ -22,7 +22,7 @@ pub record Seat : Type 0 where
 
 pub record World : Type 0 where
   pub nodes : Nodes
-  pub seats : List Seat
+  pub posts : List Post
   pub wires : List Wire
   -- the state that the monitor's next save is to leave, where that is to fail
   pub left : Option LeftState
@@ -31,28 +31,28 @@ pub record World : Type 0 where
   -- all that happened, in order
   pub past : List Happening
 
-abbrev pub seat_of : NodeName → List Seat → Option Seat
-seat_of who seats = find (λ s. same_node s.node who) seats
+abbrev pub post_of : NodeName → List Post → Option Post
+post_of who posts = find (λ s. same_node s.node who) posts
 
-abbrev pub with_seat : List Seat → Seat → List Seat
-with_seat seats seat = map (λ s. if same_node s.node seat.node then seat else s) seats
+abbrev pub with_post : List Post → Post → List Post
+with_post posts post = map (λ s. if same_node s.node post.node then post else s) posts
 
 -- ---- one event
 
 -- what comes to a node now: its clock is read, and its dice are rolled once
-abbrev pub happening : World → Input → Seat → Happening
-happening w input seat = record {
-  node = seat.node;
+abbrev pub happening : World → Input → Post → Happening
+happening w input post = record {
+  node = post.node;
   input = input;
-  reading = seat.reading;
-  draw = seed_draw seat.seed seat.rolled;
+  reading = post.reading;
+  draw = seed_draw post.seed post.rolled;
   line = w.line;
   left = w.left;
 }
 
 -- the world behind an event: one draw more was rolled
-abbrev pub happened : World → Happening → Seat → Nodes → World
-happened w h seat nodes = record w { nodes = nodes; seats = with_seat w.seats (record seat { rolled = suc seat.rolled }); past = w.past ++ h ∷ [] }
+abbrev pub happened : World → Happening → Post → Nodes → World
+happened w h post nodes = record w { nodes = nodes; posts = with_post w.posts (record post { rolled = suc post.rolled }); past = w.past ++ h ∷ [] }
 
 -- ---- effects
 

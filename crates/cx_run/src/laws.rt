@@ -1,7 +1,7 @@
 //! Laws of the definition of a run.
 
 ghost use Rattle.std.specs.Prelude.{◌≡◌, ◌≤◌, ◌<◌, ℕ, List, length, true, if◌then◌else◌};
-ghost use Rattle.cx_journal.specs.declared.node_names.NodeName.{NodeName};
+ghost use Rattle.cx_base.specs.declared.nodes.NodeName.{NodeName};
 ghost use Rattle.cx_lines.specs.declared.lines.Numbered.{Numbered};
 ghost use Rattle.cx_rules.specs.Abridged.{ClientStandsFor, MonitorStandsFor};
 ghost use Rattle.cx_rules.specs.ClientRule.{ClientNode};

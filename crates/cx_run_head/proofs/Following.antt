@@ -10,10 +10,9 @@ use Rattle.std.proofs.lemmas.Slice.Eq.{bytes_eq-Decides}
 use Rattle.cx_base.specs.declared.kinds.EntityType.{EntityType}
 use Rattle.cx_base.specs.Names.{Name, same_kind, same_name, type_word}
 use Rattle.cx_base.proofs.Names.{same_kind_is}
-use Rattle.cx_keyring.specs.declared.entries.Grant.{Grant as Caps}
 use Rattle.cx_keyring.specs.Entries.{are_grants, differ, has_service, is_grant, is_named}
 use Rattle.cx_words.specs.Cutting.{lines_of}
-use Rattle.cx_lines.specs.declared.entity.Grant.{Grant}
+use Rattle.cx_base.specs.declared.grants.Grant.{Grant}
 use Rattle.cx_lines.specs.declared.lines.Line.{Line}
 use Rattle.cx_lines.specs.declared.lines.Line.TheVariants as line
 use Rattle.cx_lines.specs.declared.lines.Numbered.{Numbered}
@@ -23,13 +22,13 @@ use Rattle.cx_lines.specs.Knowing.{known_of, knowing, knowing_numbered, setting_
 use Rattle.cx_lines.specs.Lines.{Spells}
 use Rattle.cx_lines.specs.Settings.{grant_items, setting_items}
 use Rattle.cx_line_words.specs.declared.known.Known.{Known}
-use Rattle.cx_line_words.specs.declared.nodes.Node.TheVariants as place
+use Rattle.cx_base.specs.declared.nodes.NodeName.TheVariants as place
 use Rattle.cx_line_words.specs.Known.{nothing}
 use Rattle.cx_line_words.specs.Named.{is_among}
 use Rattle.cx_line_words.specs.Values.{SpellsItems}
 use Rattle.cx_run.specs.Opening.{Declared, Setup, plain_setup, principal_of, set_up, set_up_by, set_up_line}
 use Rattle.cx_schedule.specs.Files.{Adds, Lines, Said, line_words, numbered}
-use Rattle.cx_run_head.specs.Beginning.{MayFollow, MaySay, caps_of}
+use Rattle.cx_run_head.specs.Beginning.{MayFollow, MaySay}
 use Rattle.cx_run_head.proofs.Changing.{changed_if}
 use Rattle.cx_run_head.proofs.Naming.{same_name_sym}
 
@@ -91,7 +90,7 @@ unnamed name (e ∷ es) none =
 -- ---- the caps of an entity are such as one may have
 
 -- each service that has caps stands among the words
-abbrev Stand : List (List ℕ) → List Caps → Type 0
+abbrev Stand : List (List ℕ) → List Grant → Type 0
 Stand words earlier = (service : EntityType) → list_any (bytes_eq (type_word service)) words ≡ false → has_service service earlier ≡ false
 
 apart_by : (a b : EntityType) (x : Bool) → same_kind a b ≡ x → bytes_eq (type_word a) (type_word b) ≡ false → x ≡ false
@@ -101,28 +100,28 @@ apart_by a b true same apart =
     absurd (let e : true ≡ false = sym itself ∙ apart in cc)
 apart_by a b false same apart = refl
 
-stand_more : (words : List (List ℕ)) (earlier : List Caps) (grant : Grant) (first second : List ℕ) → Stand words earlier → first ≡ type_word grant.service
-    → Stand ((words ++ first ∷ []) ++ second ∷ []) (earlier ++ record { service = grant.service; caps = grant.caps } ∷ [])
+stand_more : (words : List (List ℕ)) (earlier : List Grant) (grant : Grant) (first second : List ℕ) → Stand words earlier → first ≡ type_word grant.service
+    → Stand ((words ++ first ∷ []) ++ second ∷ []) (earlier ++ grant ∷ [])
 stand_more words earlier grant first second stand is = λ service none.
     let t = type_word service in
     let outer = or_parts (list_any (bytes_eq t) (words ++ first ∷ [])) (list_any (bytes_eq t) (second ∷ [])) (sym (list_any-append (bytes_eq t) (words ++ first ∷ []) (second ∷ [])) ∙ none) in
     let inner = or_parts (list_any (bytes_eq t) words) (list_any (bytes_eq t) (first ∷ [])) (sym (list_any-append (bytes_eq t) words (first ∷ [])) ∙ outer.0) in
     let mine = or_parts (bytes_eq t first) false inner.1 in
     let other : same_kind service grant.service ≡ false = apart_by service grant.service (same_kind service grant.service) refl (ap (bytes_eq t) (sym is) ∙ mine.0) in
-    list_any-append (λ (caps : Caps). same_kind service caps.service) earlier (record { service = grant.service; caps = grant.caps } ∷ [])
+    list_any-append (λ (caps : Grant). same_kind service caps.service) earlier (grant ∷ [])
     ∙ rw (stand service inner.0, other) refl
 
-record AreFit (earlier : List Caps) (caps : List Caps) : Type 0 where
+record AreFit (earlier : List Grant) (caps : List Grant) : Type 0 where
   good : list_all is_grant caps ≡ true
   apart : differ earlier caps ≡ true
 
-fit_from : (known : Known) (words : List (List ℕ)) (earlier : List Caps) (grants : List Grant) (ws : List (List ℕ)) → Stand words earlier → SpellsItems known words (grant_items grants) ws → AreFit earlier (caps_of grants)
+fit_from : (known : Known) (words : List (List ℕ)) (earlier : List Grant) (grants : List Grant) (ws : List (List ℕ)) → Stand words earlier → SpellsItems known words (grant_items grants) ws → AreFit earlier grants
 fit_from known words earlier [] ws stand spells = record { good = refl; apart = refl }
 fit_from known words earlier (grant ∷ grants) [] stand spells = absurd spells
 fit_from known words earlier (grant ∷ grants) (first ∷ []) stand spells = absurd spells.1
 fit_from known words earlier (grant ∷ grants) (first ∷ second ∷ ws) stand spells =
     let is = spells.0.2 in
-    let rest = fit_from known ((words ++ first ∷ []) ++ second ∷ []) (earlier ++ record { service = grant.service; caps = grant.caps } ∷ []) grants ws
+    let rest = fit_from known ((words ++ first ∷ []) ++ second ∷ []) (earlier ++ grant ∷ []) grants ws
     (stand_more words earlier grant first second stand is) spells.1.1 in
     let fresh : has_service grant.service earlier ≡ false = stand grant.service (ap (λ (w : List ℕ). list_any (bytes_eq w) words) (sym is) ∙ spells.0.1) in
     record {
@@ -130,7 +129,7 @@ fit_from known words earlier (grant ∷ grants) (first ∷ second ∷ ws) stand 
       apart = rw (fresh, rest.apart) refl;
     }
 
-fit_caps : (known : Known) (name : List ℕ) (grants : List Grant) (ws : List (List ℕ)) → SpellsItems known (name ∷ []) (grant_items grants) ws → IsTrue (are_grants (caps_of grants))
+fit_caps : (known : Known) (name : List ℕ) (grants : List Grant) (ws : List (List ℕ)) → SpellsItems known (name ∷ []) (grant_items grants) ws → IsTrue (are_grants grants)
 fit_caps known name grants ws spells =
     let fit = fit_from known (name ∷ []) [] grants ws (λ service none. refl) spells in
     rw (fit.good, fit.apart) refl

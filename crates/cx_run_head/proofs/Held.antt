@@ -15,7 +15,7 @@ use Rattle.cx_keyring.specs.Entries.{are_apart, are_grants, is_named}
 use Rattle.cx_keyring.proofs.Apart.{placed_more, ring_push}
 use Rattle.cx_keyring.proofs.Places.{find_by_place, find_none, position_none}
 use Rattle.cx_run.specs.Opening.{Declared, principal_of}
-use Rattle.cx_run_head.specs.Beginning.{AreHeld, caps_of}
+use Rattle.cx_run_head.specs.Beginning.{AreHeld}
 use Rattle.cx_run_head.specs.Places.{place_of}
 use Rattle.cx_run_head.proofs.Changing.{changed_first, changed_if, changed_none}
 
@@ -70,7 +70,7 @@ unwritten life auth_life es texts name change held nowhere =
 -- ---- an entity more
 
 pub held_push : (life auth_life : ℕ) (es : List Declared) (texts new : BTreeMap (String Global) ℕ) (x : Declared) (name : Name) (place : ℕ) → AreHeld life auth_life es texts
-    → x.name ≡ name → list_any (is_named name) (map principal_of es) ≡ false → IsTrue (are_grants (caps_of x.grants)) → place ≡ length es
+    → x.name ≡ name → list_any (is_named name) (map principal_of es) ≡ false → IsTrue (are_grants x.grants) → place ≡ length es
     → ((n : Name) → place_of new n ≡ cond (same_name name n) (Some place) (place_of texts n)) → AreHeld life auth_life (es ++ x ∷ []) new
 held_push life auth_life es texts new x name place held is fresh granted last put =
     let all = map principal_of es in

@@ -4,9 +4,7 @@ use Rattle.std.specs.BTreeMap.{BTreeMap}
 use Rattle.std.specs.List.{list_any}
 use Rattle.std.specs.declared.alloc.Global.{Global}
 use Rattle.cx_base.specs.Names.{Name}
-use Rattle.cx_keyring.specs.declared.entries.Grant.{Grant as Caps}
 use Rattle.cx_keyring.specs.Entries.{are_grants, is_named, is_ring}
-use Rattle.cx_lines.specs.declared.entity.Grant.{Grant}
 use Rattle.cx_lines.specs.declared.lines.Line.{Line}
 use Rattle.cx_lines.specs.declared.lines.Line.TheVariants as line
 use Rattle.cx_lines.specs.declared.lines.Numbered.{Numbered}
@@ -14,19 +12,13 @@ use Rattle.cx_lines.specs.declared.settings.Setting.{Setting}
 use Rattle.cx_lines.specs.declared.settings.Setting.TheVariants as setting
 use Rattle.cx_line_words.specs.Values.{is_life}
 use Rattle.cx_run.specs.Opening.{Declared, Setup, principal_of}
-use Rattle.cx_schedule.specs.Files.{IsShort, Lines}
+use Rattle.cx_schedule.specs.Files.{Lines}
+use Rattle.cx_words.specs.Cutting.{IsShort}
 use Rattle.cx_run_head.specs.Places.{place_of}
 
 -- the lines are those of a schedule: bytes within the limits spell them
 abbrev pub IsSchedule : List Numbered → Type 0
 IsSchedule lines = (bytes : List ℕ) × IsShort bytes × Lines bytes lines
-
--- grants of a schedule as those of a keyring
-abbrev pub caps_by : Grant → Caps
-caps_by grant = record { service = grant.service; caps = grant.caps }
-
-abbrev pub caps_of : List Grant → List Caps
-caps_of grants = map caps_by grants
 
 -- the nodes can begin: the lives are within their bounds, and the entities are those of a keyring
 pub record CanBegin (setup : Setup) : Type 0 where
@@ -38,7 +30,7 @@ pub record CanBegin (setup : Setup) : Type 0 where
 abbrev pub MaySay : Setup → Setting → Type 0
 MaySay setup (setting.Lifetime seconds) = IsTrue (is_life seconds)
 MaySay setup (setting.AuthLifetime seconds) = IsTrue (is_life seconds)
-MaySay setup (setting.Entity name grants) = (list_any (is_named name) (map principal_of setup.entities) ≡ false) × IsTrue (are_grants (caps_of grants))
+MaySay setup (setting.Entity name grants) = (list_any (is_named name) (map principal_of setup.entities) ≡ false) × IsTrue (are_grants grants)
 MaySay setup (setting.Seed node seed) = Unit {0}
 MaySay setup (setting.Modes client modes) = Unit {0}
 MaySay setup (setting.Leak client) = Unit {0}

@@ -5,8 +5,8 @@ ghost use Rattle.cx_run.specs.Opening.{leaked_of, leaks_entered, secret_drawn, s
 
 use crate::declared::Declared;
 use crate::setup::Setup;
-use cx_base::{Duplicate, EntityName, Items};
-use cx_journal::{Entry, Journal, NodeName};
+use cx_base::{Duplicate, EntityName, Items, NodeName};
+use cx_journal::{Entry, Journal};
 use cx_steps::{DrawMark, Logged, SealEntry};
 use std::alloc::{AllocError, Global};
 

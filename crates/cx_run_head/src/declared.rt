@@ -3,15 +3,13 @@
 ghost use Rattle.std.specs.Prelude.{◌≡◌, IfOk};
 ghost use Rattle.cx_run.specs.Opening.{local, modes_in, principal_of, secret_of};
 ghost use Rattle.cx_rules.specs.Holdings.{modes_of};
-ghost use Rattle.cx_run_head.specs.Beginning.{caps_by, caps_of};
 
 use crate::secrets::secret_of_seed;
-use cx_base::{Addr, Duplicate, EntityName, Items};
+use cx_base::{Addr, Duplicate, EntityName, Grant, Items, copy_items};
 use cx_enc::{Key, Time};
-use cx_holdings::Modes as Offered;
-use cx_keyring::{Entry, Grant as Caps};
+use cx_holdings::OfferedModes;
+use cx_keyring::Entry;
 use cx_line_words::Modes;
-use cx_lines::Grant;
 use std::alloc::{AllocError, Global};
 use std::marker::Model;
 
@@ -68,19 +66,19 @@ impl Declared {
     }
 
     /// The modes that it offers.
-    pub fn offered(&self) -> Offered
+    pub fn offered(&self) -> OfferedModes
         ensures { modes_of result.crc result.secure ≡ modes_in self.now.modes }
     {
         match self.modes {
-            Modes::Crc => Offered {
+            Modes::Crc => OfferedModes {
                 crc: true,
                 secure: false,
             },
-            Modes::Secure => Offered {
+            Modes::Secure => OfferedModes {
                 crc: false,
                 secure: true,
             },
-            Modes::Both => Offered {
+            Modes::Both => OfferedModes {
                 crc: true,
                 secure: true,
             },
@@ -93,29 +91,7 @@ impl Declared {
     {
         let name = self.name.copy(alloc)?;
         let key = self.key(alloc);
-        let caps = caps_of(alloc, &self.grants)?;
+        let caps = copy_items(alloc, &self.grants)?;
         Ok(Entry { name, key, caps })
     }
-}
-
-/// Grants of a schedule as those of a keyring.
-fn caps_of(alloc: Global, grants: &Items<Grant>) -> Result<Items<Caps>, AllocError>
-    ensures { IfOk result (λ caps. caps ≡ caps_of grants.now) }
-{
-    let mut caps = Items::new(alloc);
-    for grant in grants.all() {
-        let entered = caps_by(alloc, grant)?;
-        caps.push(alloc, entered)?;
-    }
-    Ok(caps)
-}
-
-fn caps_by(alloc: Global, grant: &Grant) -> Result<Caps, AllocError>
-    ensures { IfOk result (λ caps. caps ≡ caps_by grant.now) }
-{
-    let caps = grant.caps.copy(alloc)?;
-    Ok(Caps {
-        service: grant.service,
-        caps,
-    })
 }

@@ -10,16 +10,16 @@ use std::collections::BTreeMap;
 
 /// Where the entities of names stand, by the texts of the names, so that no look-up goes through the entities.
 #[derive(Drop)]
-pub struct Places {
+pub struct NamePlaces {
     texts: BTreeMap<String, usize>,
 }
 
-impl Places {
+impl NamePlaces {
     /// No names.
-    pub fn new(alloc: Global) -> Places
+    pub fn new(alloc: Global) -> NamePlaces
         ensures { (name : Name) → place_of result.texts name ≡ None }
     {
-        Places {
+        NamePlaces {
             texts: BTreeMap::new(alloc),
         }
     }

@@ -3,17 +3,17 @@
 ghost use Rattle.std.specs.Prelude.{◌≡◌, ◌<◌, [], ◌∷◌, ◌++◌, Some, false, length, map, IfOk, IsTrue, OnOk};
 ghost use Rattle.std.specs.List.{list_any};
 ghost use Rattle.cx_keyring.specs.Entries.{are_grants, is_named};
-ghost use Rattle.cx_line_words.specs.declared.nodes.Node.TheVariants as place;
+ghost use Rattle.cx_base.specs.declared.nodes.NodeName.TheVariants as place;
 ghost use Rattle.cx_run.specs.Opening.{changed, declared, plain_setup, principal_of, seeded, set_up_by, set_up_line};
 ghost use Rattle.cx_run.specs.Runs.{setup_of};
 ghost use Rattle.cx_run_head.specs.Beginning.{CanBegin, IsSchedule, MayFollow, MaySay, caps_of};
 
 use crate::declared::Declared;
 use crate::leaks::Leak;
-use crate::places::Places;
-use cx_base::{Duplicate, EntityName, Items, copy_items};
-use cx_line_words::{Modes, Node};
-use cx_lines::{Grant, Line, Numbered, Setting};
+use crate::places::NamePlaces;
+use cx_base::{Duplicate, EntityName, Grant, Items, NodeName, copy_items};
+use cx_line_words::Modes;
+use cx_lines::{Line, Numbered, Setting};
 use std::alloc::{AllocError, Global};
 use std::marker::Model;
 
@@ -25,7 +25,7 @@ pub struct Setup {
     pub(crate) entities: Vec<Declared>,
     pub(crate) monitor_seed: u64,
     pub(crate) leaks: Items<Leak>,
-    places: Places,
+    places: NamePlaces,
 }
 
 impl Model for Setup {
@@ -83,7 +83,7 @@ impl Setup {
             entities: Vec::new(alloc),
             monitor_seed: 0,
             leaks: Items::new(alloc),
-            places: Places::new(alloc),
+            places: NamePlaces::new(alloc),
         }
     }
 
@@ -155,15 +155,15 @@ impl Setup {
     }
 
     /// The seed of a node.
-    fn seed(&mut self, alloc: Global, node: &Node, seed: u64) -> Result<(), AllocError>
+    fn seed(&mut self, alloc: Global, node: &NodeName, seed: u64) -> Result<(), AllocError>
         ensures { OnOk result (self.new ≡ seeded node.now seed self.old) }
     {
         match node {
-            Node::Monitor => {
+            NodeName::Monitor => {
                 self.monitor_seed = seed;
                 Ok(())
             }
-            Node::Entity(name) => self.seed_entity(alloc, name, seed),
+            NodeName::Entity(name) => self.seed_entity(alloc, name, seed),
         }
     }
 

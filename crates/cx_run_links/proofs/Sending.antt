@@ -1,7 +1,7 @@
 -- Pieces are sent, and links are shut, one after another.
 use Rattle.std.proofs.Common.{◌≡◌, ℕ, ◌+◌, ◌<◌, List, [], ◌∷◌, ◌++◌, length, get_or, take, refl, ap, ◌∙◌}
 use Rattle.std.proofs.lemmas.List.{take_more}
-use Rattle.cx_journal.specs.declared.node_names.NodeName.{NodeName}
+use Rattle.cx_base.specs.declared.nodes.NodeName.{NodeName}
 use Rattle.cx_run.specs.Wires.{Wire, wire_of}
 use Rattle.cx_run.specs.Worlds.{sends_all, sends_piece, shuts_all, shuts_link}
 use Rattle.cx_steps.specs.declared.effects.Piece.{Piece}

@@ -1,7 +1,7 @@
 -- The links of a run as a table: numbered from 1, in the order in which they opened.
 use Rattle.std.specs.Prelude.{ℕ, suc, ◌≡◌, ◌<◌, Bool, false, List, [], ◌∷◌, length, take, Option, Some, None}
 use Rattle.cx_line_words.specs.declared.choices.Side.{Side}
-use Rattle.cx_journal.specs.declared.node_names.NodeName.{NodeName}
+use Rattle.cx_base.specs.declared.nodes.NodeName.{NodeName}
 use Rattle.cx_steps.specs.declared.effects.Piece.{Piece}
 use Rattle.cx_run.specs.Deliveries.{stay}
 use Rattle.cx_run.specs.Wires.{Wire, owes_gone, pieces_from, wire_of, with_pieces, with_wire}

@@ -5,8 +5,7 @@ ghost use Rattle.cx_base.specs.Names.{same_name};
 ghost use Rattle.cx_run.specs.Wires.{same_node};
 ghost use Rattle.cx_run.specs.Worlds.{node_of};
 
-use cx_base::{Duplicate, EntityName};
-use cx_journal::NodeName;
+use cx_base::{Duplicate, EntityName, NodeName};
 use cx_steps::Peer;
 use std::alloc::{AllocError, Global};
 

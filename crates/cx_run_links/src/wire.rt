@@ -8,8 +8,7 @@ ghost use Rattle.cx_run_links.specs.Ends.{arriving, staying};
 
 use crate::ends::End;
 use crate::names::same_node;
-use cx_base::Blob;
-use cx_journal::NodeName;
+use cx_base::{Blob, NodeName};
 use cx_line_words::Side;
 use std::alloc::{AllocError, Global};
 use std::marker::Model;

@@ -13,8 +13,7 @@ ghost use Rattle.cx_run_links.specs.Tables.{AreNumbered, IsSentInPart, IsShutInP
 use crate::busy_links::Busy;
 use crate::places::place_of;
 use crate::wire::Wire;
-use cx_base::Blob;
-use cx_journal::NodeName;
+use cx_base::{Blob, NodeName};
 use cx_line_words::Side;
 use cx_steps::Piece;
 use std::alloc::{AllocError, Global};

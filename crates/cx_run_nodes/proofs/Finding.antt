@@ -1,4 +1,4 @@
--- What stands under a name among members, seats and clients.
+-- What stands under a name among members, posts and clients.
 use Rattle.std.proofs.Common.{◌≡◌, ℕ, ◌+◌, ◌<◌, ◌≤◌, Bool, true, false, cond, List, [], ◌∷◌, ◌++◌, length, get_or, drop, Option, Some, None, refl, sym, ap, ◌∙◌, append_assoc}
 use Rattle.std.specs.Prelude.{find, map}
 use Rattle.std.specs.List.{flat_map}
@@ -8,13 +8,13 @@ use Rattle.cx_base.specs.declared.kinds.EntityType.{EntityType}
 use Rattle.cx_base.specs.declared.kinds.EntityType.TheVariants.{Client}
 use Rattle.cx_base.specs.Names.{Name, same_kind, same_name}
 use Rattle.cx_base.proofs.Names.{same_kind_is, same_name_is}
-use Rattle.cx_journal.specs.declared.node_names.NodeName.TheVariants as node
+use Rattle.cx_base.specs.declared.nodes.NodeName.TheVariants as node
 use Rattle.cx_run_nodes.specs.Held.{ClientStands, MemberStands, member_of}
 use Rattle.cx_run_nodes.specs.declared.members.Member.{Member}
 use Rattle.cx_rules.specs.ClientRule.{ClientNode, opening_client}
 use Rattle.cx_run.specs.Happenings.{is_of}
-use Rattle.cx_run.specs.Opening.{Declared, asker_of, client_in, seat_for}
-use Rattle.cx_run.specs.Worlds.{Seat, seat_of}
+use Rattle.cx_run.specs.Opening.{Declared, asker_of, client_in, post_for}
+use Rattle.cx_run.specs.Worlds.{Post, post_of}
 use Rattle.cx_run_nodes.specs.Members.{AreMembersOf, IsMemberOf, client_for}
 
 clients : List Declared → List ClientNode
@@ -44,11 +44,11 @@ no_client name (e ∷ es) away = no_client_by name e es (same_kind e.name.kind C
 
 -- the first of a name is this entity
 here : (name : Name) (e : Declared) (es : List Declared) (m : Member) (kind : Bool) → same_name e.name name ≡ true → same_kind e.name.kind Client ≡ kind → IsMemberOf e m
-    → MemberStands (Some m) (Some (seat_for e)) (find (is_of name) (cond kind (opening_client (asker_of e) ∷ []) [] ++ flat_map client_in es))
-here name e es m true same is member = (member.seat, rw same (rw is at member.client))
+    → MemberStands (Some m) (Some (post_for e)) (find (is_of name) (cond kind (opening_client (asker_of e) ∷ []) [] ++ flat_map client_in es))
+here name e es m true same is member = (member.post, rw same (rw is at member.client))
 here name e es m false same is member =
     let away : same_kind name.kind Client ≡ false = sym (ap (λ (n : Name). same_kind n.kind Client) (same_name_is e.name name same)) ∙ is in
-    (member.seat, rw (no_client name es away) (rw is at member.client))
+    (member.post, rw (no_client name es away) (rw is at member.client))
 
 -- it is another entity
 there_client : (name : Name) (e : Declared) (es : List Declared) (kind : Bool) → same_name e.name name ≡ false
@@ -57,8 +57,8 @@ there_client name e es true other = rw other refl
 there_client name e es false other = refl
 
 stands_by : (name : Name) (e : Declared) (es : List Declared) (m : Member) (members : List Member) (found same : Bool) → same_name e.name name ≡ same → found ≡ same → IsMemberOf e m
-    → MemberStands (member_of name members) (seat_of (node.Entity name) (map seat_for es)) (find (is_of name) (flat_map client_in es))
-    → MemberStands (cond found (Some m) (member_of name members)) (cond same (Some (seat_for e)) (seat_of (node.Entity name) (map seat_for es))) (find (is_of name) (flat_map client_in (e ∷ es)))
+    → MemberStands (member_of name members) (post_of (node.Entity name) (map post_for es)) (find (is_of name) (flat_map client_in es))
+    → MemberStands (cond found (Some m) (member_of name members)) (cond same (Some (post_for e)) (post_of (node.Entity name) (map post_for es))) (find (is_of name) (flat_map client_in (e ∷ es)))
 stands_by name e es m members true true same is member rest = here name e es m (same_kind e.name.kind Client) same refl member
 stands_by name e es m members false false same is member rest = rw (there_client name e es (same_kind e.name.kind Client) same) rest
 stands_by name e es m members true false same is member rest = absurd (let e' : true ≡ false = is in cc)
@@ -66,7 +66,7 @@ stands_by name e es m members false true same is member rest = absurd (let e' : 
 
 -- what stands under a name
 pub all_stand : (name : Name) (es : List Declared) (members : List Member) → AreMembersOf es members
-    → MemberStands (member_of name members) (seat_of (node.Entity name) (map seat_for es)) (find (is_of name) (flat_map client_in es))
+    → MemberStands (member_of name members) (post_of (node.Entity name) (map post_for es)) (find (is_of name) (flat_map client_in es))
 all_stand name [] [] are = tt
 all_stand name [] (m ∷ members) are = absurd are
 all_stand name (e ∷ es) [] are = absurd are

@@ -4,113 +4,113 @@ use Rattle.std.specs.Prelude.{if◌then◌else◌}
 use Rattle.std.specs.Option.{option_map}
 use Rattle.cx_base.specs.Names.{Name, same_name}
 use Rattle.cx_base.proofs.Names.{same_name_is, same_name_self}
-use Rattle.cx_journal.specs.declared.node_names.NodeName.{NodeName}
-use Rattle.cx_journal.specs.declared.node_names.NodeName.TheVariants as node
+use Rattle.cx_base.specs.declared.nodes.NodeName.{NodeName}
+use Rattle.cx_base.specs.declared.nodes.NodeName.TheVariants as node
 use Rattle.cx_rules.specs.ClientRule.{ClientNode}
 use Rattle.cx_run.specs.Happenings.{client_of}
 use Rattle.cx_run.specs.Schedules.{all_read, one_reads}
 use Rattle.cx_run.specs.Wires.{same_node}
-use Rattle.cx_run.specs.Worlds.{Seat, World, seat_of}
+use Rattle.cx_run.specs.Worlds.{Post, World, post_of}
 use Rattle.cx_run_nodes.specs.Held.{MemberStands, StandFor, member_of, reads}
-use Rattle.cx_run_nodes.specs.Seats.{IsOf, IsSeated, Sitting}
+use Rattle.cx_run_nodes.specs.Posts.{IsOf, IsPosted, Sitting}
 use Rattle.cx_run_nodes.specs.declared.members.Member.{Member}
 use Rattle.cx_run_nodes.specs.declared.nodes.Nodes.{Nodes}
 use Rattle.cx_run_nodes.proofs.Keyed.{changed_all, key_found, same_node_is, same_node_self}
 use Rattle.cx_run_nodes.proofs.Placing.{IsFirst, found_first, member_elsewhere, member_here}
 
-seat_reads : ℕ → Seat → Seat
-seat_reads reading seat = record seat { reading = reading }
+post_reads : ℕ → Post → Post
+post_reads reading post = record post { reading = reading }
 
-sits_behind : (reading : ℕ) (old new : Sitting) (seat : Option Seat) → new ≡ record old { reading = reading } → IsSeated old seat
-    → IsSeated new (option_map (λ (s : Seat). record s { reading = reading }) seat)
+sits_behind : (reading : ℕ) (old new : Sitting) (post : Option Post) → new ≡ record old { reading = reading } → IsPosted old post
+    → IsPosted new (option_map (λ (s : Post). record s { reading = reading }) post)
 sits_behind reading old new None e k = absurd k
-sits_behind reading old new (Some seat) e k =
-    let P : Sitting → Type 0 = IsOf (record seat { reading = reading }) in
+sits_behind reading old new (Some post) e k =
+    let P : Sitting → Type 0 = IsOf (record post { reading = reading }) in
     subst P (sym e) (record { reading = refl; coming = k.coming })
 
-member_behind : (reading : ℕ) (member : Option Member) (seat : Option Seat) (client : Option ClientNode) → MemberStands member seat client
-    → MemberStands (option_map (reads reading) member) (option_map (λ (s : Seat). record s { reading = reading }) seat) client
+member_behind : (reading : ℕ) (member : Option Member) (post : Option Post) (client : Option ClientNode) → MemberStands member post client
+    → MemberStands (option_map (reads reading) member) (option_map (λ (s : Post). record s { reading = reading }) post) client
 member_behind reading None None client k = tt
 member_behind reading (Some m) (Some s) client k = (record { reading = refl; coming = k.0.coming }, k.1)
 member_behind reading None (Some s) client k = absurd k
 member_behind reading (Some m) None client k = absurd k
 
-pub all_read_stands : (reading : ℕ) (w : World) (held new : Nodes) → StandFor held w.nodes w.seats → new.monitor ≡ held.monitor
-    → new.seat ≡ record held.seat { reading = reading } → new.members.items ≡ map (λ m. reads reading m) held.members.items
-    → StandFor new (all_read reading w).nodes (all_read reading w).seats
-all_read_stands reading w held new k monitor seat members =
-    let read : Seat → Seat = λ s. record s { reading = reading } in
-    let there = λ (who : NodeName). changed_all (λ (s : Seat). s.node) same_node read (λ s. refl) who w.seats in
+pub all_read_stands : (reading : ℕ) (w : World) (held new : Nodes) → StandFor held w.nodes w.posts → new.monitor ≡ held.monitor
+    → new.post ≡ record held.post { reading = reading } → new.members.items ≡ map (λ m. reads reading m) held.members.items
+    → StandFor new (all_read reading w).nodes (all_read reading w).posts
+all_read_stands reading w held new k monitor post members =
+    let read : Post → Post = λ s. record s { reading = reading } in
+    let there = λ (who : NodeName). changed_all (λ (s : Post). s.node) same_node read (λ s. refl) who w.posts in
     record {
       monitor = rw monitor k.monitor;
-      seat = rw (there node.Monitor) (sits_behind reading held.seat new.seat (seat_of node.Monitor w.seats) seat k.seat);
+      post = rw (there node.Monitor) (sits_behind reading held.post new.post (post_of node.Monitor w.posts) post k.post);
       members = λ n.
           let found = changed_all (λ (m : Member). m.name) same_name (λ m. reads reading m) (λ m. refl) n held.members.items in
-          rw (members, found, there (node.Entity n)) (member_behind reading (member_of n held.members.items) (seat_of (node.Entity n) w.seats) (client_of n w.nodes) (k.members n));
+          rw (members, found, there (node.Entity n)) (member_behind reading (member_of n held.members.items) (post_of (node.Entity n) w.posts) (client_of n w.nodes) (k.members n));
     }
 
 -- ---- the clock of one node
 
-abbrev one : NodeName → ℕ → Seat → Seat
-one who reading seat = if same_node seat.node who then record seat { reading = reading } else seat
+abbrev one : NodeName → ℕ → Post → Post
+one who reading post = if same_node post.node who then record post { reading = reading } else post
 
-one_node : (who : NodeName) (reading : ℕ) (seat : Seat) → (one who reading seat).node ≡ seat.node
-one_node who reading seat = by (same_node seat.node who)
+one_node : (who : NodeName) (reading : ℕ) (post : Post) → (one who reading post).node ≡ post.node
+one_node who reading post = by (same_node post.node who)
   where
-    by : (b : Bool) → (let s : Seat = (if b then record seat { reading = reading } else seat) in s.node) ≡ seat.node
+    by : (b : Bool) → (let s : Post = (if b then record post { reading = reading } else post) in s.node) ≡ post.node
     by true = refl
     by false = refl
 
--- the seat of another node stays, and that of the node reads it
-module _ (who at : NodeName) (reading : ℕ) (seats : List Seat) where
-  found_one : seat_of at (map (one who reading) seats) ≡ option_map (one who reading) (seat_of at seats)
-  found_one = changed_all (λ (s : Seat). s.node) same_node (one who reading) (one_node who reading) at seats
+-- the post of another node stays, and that of the node reads it
+module _ (who at : NodeName) (reading : ℕ) (posts : List Post) where
+  found_one : post_of at (map (one who reading) posts) ≡ option_map (one who reading) (post_of at posts)
+  found_one = changed_all (λ (s : Post). s.node) same_node (one who reading) (one_node who reading) at posts
 
-  stays_other : same_node at who ≡ false → seat_of at (map (one who reading) seats) ≡ seat_of at seats
-  stays_other apart = found_one ∙ by (seat_of at seats) refl
+  stays_other : same_node at who ≡ false → post_of at (map (one who reading) posts) ≡ post_of at posts
+  stays_other apart = found_one ∙ by (post_of at posts) refl
     where
-      by : (seat : Option Seat) → seat_of at seats ≡ seat → option_map (one who reading) seat ≡ seat
+      by : (post : Option Post) → post_of at posts ≡ post → option_map (one who reading) post ≡ post
       by None e = refl
       by (Some s) e =
-          let k : s.node ≡ at = same_node_is s.node at (key_found (λ (s : Seat). s.node) same_node seats at s e) in
+          let k : s.node ≡ at = same_node_is s.node at (key_found (λ (s : Post). s.node) same_node posts at s e) in
           rw (k, apart) refl
 
-  reads_it : same_node at who ≡ true → seat_of at (map (one who reading) seats) ≡ option_map (λ (s : Seat). record s { reading = reading }) (seat_of at seats)
-  reads_it same = found_one ∙ by (seat_of at seats) refl
+  reads_it : same_node at who ≡ true → post_of at (map (one who reading) posts) ≡ option_map (λ (s : Post). record s { reading = reading }) (post_of at posts)
+  reads_it same = found_one ∙ by (post_of at posts) refl
     where
-      by : (seat : Option Seat) → seat_of at seats ≡ seat → option_map (one who reading) seat ≡ option_map (λ (s : Seat). record s { reading = reading }) seat
+      by : (post : Option Post) → post_of at posts ≡ post → option_map (one who reading) post ≡ option_map (λ (s : Post). record s { reading = reading }) post
       by None e = refl
       by (Some s) e =
-          let k : s.node ≡ at = same_node_is s.node at (key_found (λ (s : Seat). s.node) same_node seats at s e) in
+          let k : s.node ≡ at = same_node_is s.node at (key_found (λ (s : Post). s.node) same_node posts at s e) in
           let t : same_node s.node who ≡ true = rw k same in
-          ap (λ (b : Bool). Some (let x : Seat = (if b then record s { reading = reading } else s) in x)) t
+          ap (λ (b : Bool). Some (let x : Post = (if b then record s { reading = reading } else s) in x)) t
 
-pub monitor_reads : (reading : ℕ) (w : World) (held new : Nodes) → StandFor held w.nodes w.seats → new.monitor ≡ held.monitor
-    → new.seat ≡ record held.seat { reading = reading } → new.members.items ≡ held.members.items
-    → StandFor new (one_reads node.Monitor reading w).nodes (one_reads node.Monitor reading w).seats
-monitor_reads reading w held new k monitor seat members = record {
+pub monitor_reads : (reading : ℕ) (w : World) (held new : Nodes) → StandFor held w.nodes w.posts → new.monitor ≡ held.monitor
+    → new.post ≡ record held.post { reading = reading } → new.members.items ≡ held.members.items
+    → StandFor new (one_reads node.Monitor reading w).nodes (one_reads node.Monitor reading w).posts
+monitor_reads reading w held new k monitor post members = record {
   monitor = rw monitor k.monitor;
-  seat = rw (reads_it node.Monitor node.Monitor reading w.seats refl) (sits_behind reading held.seat new.seat (seat_of node.Monitor w.seats) seat k.seat);
-  members = λ n. rw (members, stays_other node.Monitor (node.Entity n) reading w.seats refl) (k.members n);
+  post = rw (reads_it node.Monitor node.Monitor reading w.posts refl) (sits_behind reading held.post new.post (post_of node.Monitor w.posts) post k.post);
+  members = λ n. rw (members, stays_other node.Monitor (node.Entity n) reading w.posts refl) (k.members n);
 }
 
-module _ (reading : ℕ) (w : World) (name : Name) (held new : Nodes) (k : StandFor held w.nodes w.seats) (monitor : new.monitor ≡ held.monitor) (seat : new.seat ≡ held.seat) where
+module _ (reading : ℕ) (w : World) (name : Name) (held new : Nodes) (k : StandFor held w.nodes w.posts) (monitor : new.monitor ≡ held.monitor) (post : new.post ≡ held.post) where
   behind : ((n : Name) → same_name name n ≡ true → member_of n new.members.items ≡ option_map (reads reading) (member_of n held.members.items))
       → ((n : Name) → same_name name n ≡ false → member_of n new.members.items ≡ member_of n held.members.items)
-      → StandFor new (one_reads (node.Entity name) reading w).nodes (one_reads (node.Entity name) reading w).seats
+      → StandFor new (one_reads (node.Entity name) reading w).nodes (one_reads (node.Entity name) reading w).posts
   behind here elsewhere = record {
     monitor = rw monitor k.monitor;
-    seat = rw (seat, stays_other (node.Entity name) node.Monitor reading w.seats refl) k.seat;
+    post = rw (post, stays_other (node.Entity name) node.Monitor reading w.posts refl) k.post;
     members = λ n. by n (same_name name n) refl;
   }
     where
       by : (n : Name) (b : Bool) → same_name name n ≡ b
-          → MemberStands (member_of n new.members.items) (seat_of (node.Entity n) (one_reads (node.Entity name) reading w).seats) (client_of n w.nodes)
+          → MemberStands (member_of n new.members.items) (post_of (node.Entity n) (one_reads (node.Entity name) reading w).posts) (client_of n w.nodes)
       by n true e =
           let same : name ≡ n = same_name_is name n e in
           let back : same_node (node.Entity n) (node.Entity name) ≡ true = rw same (same_name_self n) in
-          rw (here n e, reads_it (node.Entity name) (node.Entity n) reading w.seats back) (member_behind reading (member_of n held.members.items) (seat_of (node.Entity n) w.seats) (client_of n w.nodes) (k.members n))
-      by n false e = rw (elsewhere n e, stays_other (node.Entity name) (node.Entity n) reading w.seats (apart n e)) (k.members n)
+          rw (here n e, reads_it (node.Entity name) (node.Entity n) reading w.posts back) (member_behind reading (member_of n held.members.items) (post_of (node.Entity n) w.posts) (client_of n w.nodes) (k.members n))
+      by n false e = rw (elsewhere n e, stays_other (node.Entity name) (node.Entity n) reading w.posts (apart n e)) (k.members n)
         where
           apart : (n : Name) → same_name name n ≡ false → same_name n name ≡ false
           apart n e = turned (same_name n name) refl
@@ -121,7 +121,7 @@ module _ (reading : ℕ) (w : World) (name : Name) (held new : Nodes) (k : Stand
 
   pub member_reads : (place : ℕ) (old next : Member) → IsFirst (λ (m : Member). same_name m.name name) held.members.items place → old ≡ get_or held.members.items place old
       → next ≡ reads reading old → new.members.items ≡ set held.members.items place next
-      → StandFor new (one_reads (node.Entity name) reading w).nodes (one_reads (node.Entity name) reading w).seats
+      → StandFor new (one_reads (node.Entity name) reading w).nodes (one_reads (node.Entity name) reading w).posts
   member_reads place old next at read is put =
       let named : next.name ≡ old.name = ap (λ (m : Member). m.name) is in
       let there : member_of name held.members.items ≡ Some old = (found_first (λ (m : Member). same_name m.name name) held.members.items place old at read).0 in
@@ -133,7 +133,7 @@ module _ (reading : ℕ) (w : World) (name : Name) (held new : Nodes) (k : Stand
       (λ n e. rw put (member_elsewhere held.members.items name place old next at read named n e))
 
   pub nobody_reads : member_of name held.members.items ≡ None → new.members.items ≡ held.members.items
-      → StandFor new (one_reads (node.Entity name) reading w).nodes (one_reads (node.Entity name) reading w).seats
+      → StandFor new (one_reads (node.Entity name) reading w).nodes (one_reads (node.Entity name) reading w).posts
   nobody_reads none same =
       behind
       (λ n e.

@@ -3,8 +3,8 @@ use Rattle.std.proofs.Common.{◌≡◌, ℕ, Bool, true, false, suc, List, get_
 use Rattle.cx_base.specs.Names.{Name, same_name}
 use Rattle.cx_base.proofs.Names.{same_name_is, same_name_self}
 use Rattle.cx_dice.specs.Rolls.{seed_draw}
-use Rattle.cx_journal.specs.declared.node_names.NodeName.{NodeName}
-use Rattle.cx_journal.specs.declared.node_names.NodeName.TheVariants as node
+use Rattle.cx_base.specs.declared.nodes.NodeName.{NodeName}
+use Rattle.cx_base.specs.declared.nodes.NodeName.TheVariants as node
 use Rattle.cx_line_words.specs.declared.choices.LeftState.{LeftState}
 use Rattle.cx_rotate.specs.declared.states.KeptState.{KeptState}
 use Rattle.cx_rules.specs.Abridged.{ClientStandsFor, MonitorStandsFor}
@@ -16,10 +16,10 @@ use Rattle.cx_rules.specs.Rows.{Outcome}
 use Rattle.cx_run.specs.Deliveries.{Given, given}
 use Rattle.cx_run.specs.Happenings.{Nodes as RunNodes, Stepped, client_of, client_steps, monitor_steps, steps, steps_of, with_client}
 use Rattle.cx_run.specs.Wires.{same_node}
-use Rattle.cx_run.specs.Worlds.{Seat, World, happened, happening, seat_of, with_seat}
+use Rattle.cx_run.specs.Worlds.{Post, World, happened, happening, post_of, with_post}
 use Rattle.cx_steps.specs.Nothing.{nothing}
 use Rattle.cx_run_nodes.specs.Held.{ClientStands, IsGiven, MemberStands, StandFor, member_of}
-use Rattle.cx_run_nodes.specs.Seats.{IsOf, IsSeated, Sitting}
+use Rattle.cx_run_nodes.specs.Posts.{IsOf, IsPosted, Sitting}
 use Rattle.cx_run_nodes.specs.Steps.{IsMemberStep, IsMonitorStep, client_behind, client_made, client_out, monitor_made, rolled_once}
 use Rattle.cx_run_nodes.specs.declared.made.Made.{Made}
 use Rattle.cx_run_nodes.specs.declared.members.Member.{Member}
@@ -40,140 +40,140 @@ its_client (Some g) (Some c) h e k = let P : ClientNode → Type 0 = λ x. Clien
 its_client (Some g) None h e k = absurd k
 its_client None client h e k = cc
 
-pub idle_step : (input : Input) (seat : Seat) (client : Option ClientNode) (made : Made) (old new : Member) → ClientStands old.client client → old.client ≡ None
-    → new.client ≡ None → new.name ≡ old.name → IsOf (rolled_once seat) new.seat → made ≡ record { out = nothing; failed = false; happened = true }
-    → IsMemberStep input seat client made old new
-idle_step input seat client made old new k e f name sits comes =
+pub idle_step : (input : Input) (post : Post) (client : Option ClientNode) (made : Made) (old new : Member) → ClientStands old.client client → old.client ≡ None
+    → new.client ≡ None → new.name ≡ old.name → IsOf (rolled_once post) new.post → made ≡ record { out = nothing; failed = false; happened = true }
+    → IsMemberStep input post client made old new
+idle_step input post client made old new k e f name sits comes =
     let none : client ≡ None = no_client old.client client e k in
-    let P : Option ClientNode → Type 0 = λ c. IsMemberStep input seat c made old new in
+    let P : Option ClientNode → Type 0 = λ c. IsMemberStep input post c made old new in
     let Q : Option ClientNode → Type 0 = λ c. ClientStands c None in
     subst P (sym none) (record { comes = comes; name = name; stands = (sits, subst Q (sym f) tt) })
 
-pub client_step : (input : Input) (seat : Seat) (client : Option ClientNode) (made : Made) (old new : Member) (h g : ClientNode) → ClientStands old.client client → old.client ≡ Some h
-    → new.client ≡ Some g → new.name ≡ old.name → IsOf (rolled_once seat) new.seat
-    → ((c : ClientNode) → ClientStandsFor h c → (made ≡ record { out = (client_made input seat c).out; failed = false; happened = true }) × ClientStandsFor g (client_made input seat c).state)
-    → IsMemberStep input seat client made old new
-client_step input seat client made old new h g k e f name sits does =
+pub client_step : (input : Input) (post : Post) (client : Option ClientNode) (made : Made) (old new : Member) (h g : ClientNode) → ClientStands old.client client → old.client ≡ Some h
+    → new.client ≡ Some g → new.name ≡ old.name → IsOf (rolled_once post) new.post
+    → ((c : ClientNode) → ClientStandsFor h c → (made ≡ record { out = (client_made input post c).out; failed = false; happened = true }) × ClientStandsFor g (client_made input post c).state)
+    → IsMemberStep input post client made old new
+client_step input post client made old new h g k e f name sits does =
     let its = its_client old.client client h e k in
     let c = its.0 in
     let done = does c its.2 in
-    let P : Option ClientNode → Type 0 = λ x. IsMemberStep input seat x made old new in
-    let Q : Option ClientNode → Type 0 = λ x. ClientStands x (Some (client_made input seat c).state) in
+    let P : Option ClientNode → Type 0 = λ x. IsMemberStep input post x made old new in
+    let Q : Option ClientNode → Type 0 = λ x. ClientStands x (Some (client_made input post c).state) in
     subst P (sym its.1) (record { comes = done.0; name = name; stands = (sits, subst Q (sym f) done.1) })
 
 -- the members behind an event of one of them
-module _ (held new : Nodes) (nodes after : RunNodes) (seats : List Seat) (name : Name) (place : ℕ) (old next : Member) (seat rolled : Seat)
-    (k : StandFor held nodes seats) (at : IsFirst (λ (m : Member). same_name m.name name) held.members.items place) (read : old ≡ get_or held.members.items place old)
+module _ (held new : Nodes) (nodes after : RunNodes) (posts : List Post) (name : Name) (place : ℕ) (old next : Member) (post rolled : Post)
+    (k : StandFor held nodes posts) (at : IsFirst (λ (m : Member). same_name m.name name) held.members.items place) (read : old ≡ get_or held.members.items place old)
     (same : next.name ≡ old.name) (put : new.members.items ≡ set held.members.items place next)
-    (found : seat_of (node.Entity name) seats ≡ Some seat) (who : seat.node ≡ node.Entity name) (there : rolled.node ≡ seat.node)
+    (found : post_of (node.Entity name) posts ≡ Some post) (who : post.node ≡ node.Entity name) (there : rolled.node ≡ post.node)
     (stands : MemberStands (Some next) (Some rolled) (client_of name after))
     (others : (n : Name) → same_name name n ≡ false → client_of n after ≡ client_of n nodes) where
-  its : (n : Name) → same_name name n ≡ true → MemberStands (member_of n new.members.items) (seat_of (node.Entity n) (with_seat seats rolled)) (client_of n after)
+  its : (n : Name) → same_name name n ≡ true → MemberStands (member_of n new.members.items) (post_of (node.Entity n) (with_post posts rolled)) (client_of n after)
   its n e =
       let here : name ≡ n = same_name_is name n e in
-      let P : Name → Type 0 = λ m. MemberStands (member_of m new.members.items) (seat_of (node.Entity m) (with_seat seats rolled)) (client_of m after) in
+      let P : Name → Type 0 = λ m. MemberStands (member_of m new.members.items) (post_of (node.Entity m) (with_post posts rolled)) (client_of m after) in
       let member : member_of name new.members.items ≡ Some next = ap (λ (ms : List Member). member_of name ms) put ∙ member_here held.members.items name place old next at read same in
       let k : rolled.node ≡ node.Entity name = there ∙ who in
-      let sits : seat_of (node.Entity name) (with_seat seats rolled) ≡ Some rolled =
-      (let Q : NodeName → Type 0 = λ x. seat_of x (with_seat seats rolled) ≡ Some rolled in
-      subst Q k (replaced_here (λ (s : Seat). s.node) same_node same_node_self seats rolled.node seat rolled refl (let R : NodeName → Type 0 = λ x. seat_of x seats ≡ Some seat in subst R (sym k) found))) in
+      let sits : post_of (node.Entity name) (with_post posts rolled) ≡ Some rolled =
+      (let Q : NodeName → Type 0 = λ x. post_of x (with_post posts rolled) ≡ Some rolled in
+      subst Q k (replaced_here (λ (s : Post). s.node) same_node same_node_self posts rolled.node post rolled refl (let R : NodeName → Type 0 = λ x. post_of x posts ≡ Some post in subst R (sym k) found))) in
       subst P here (rw (member, sits) stands)
 
-  other : (n : Name) → same_name name n ≡ false → MemberStands (member_of n new.members.items) (seat_of (node.Entity n) (with_seat seats rolled)) (client_of n after)
+  other : (n : Name) → same_name name n ≡ false → MemberStands (member_of n new.members.items) (post_of (node.Entity n) (with_post posts rolled)) (client_of n after)
   other n e =
       let member : member_of n new.members.items ≡ member_of n held.members.items = ap (λ (ms : List Member). member_of n ms) put ∙ member_elsewhere held.members.items name place old next at read same n e in
       let still = k.members in
       let entity : rolled.node ≡ node.Entity name = there ∙ who in
       let apart : same_node rolled.node (node.Entity n) ≡ false = rw entity e in
-      let sits : seat_of (node.Entity n) (with_seat seats rolled) ≡ seat_of (node.Entity n) seats = replaced_elsewhere (λ (s : Seat). s.node) same_node same_node_is seats rolled.node (node.Entity n) rolled refl apart in
+      let sits : post_of (node.Entity n) (with_post posts rolled) ≡ post_of (node.Entity n) posts = replaced_elsewhere (λ (s : Post). s.node) same_node same_node_is posts rolled.node (node.Entity n) rolled refl apart in
       rw (member, sits, others n e) (still n)
 
-  pub members_behind : (n : Name) → MemberStands (member_of n new.members.items) (seat_of (node.Entity n) (with_seat seats rolled)) (client_of n after)
+  pub members_behind : (n : Name) → MemberStands (member_of n new.members.items) (post_of (node.Entity n) (with_post posts rolled)) (client_of n after)
   members_behind n = by (same_name name n) refl
     where
-      by : (b : Bool) → same_name name n ≡ b → MemberStands (member_of n new.members.items) (seat_of (node.Entity n) (with_seat seats rolled)) (client_of n after)
+      by : (b : Bool) → same_name name n ≡ b → MemberStands (member_of n new.members.items) (post_of (node.Entity n) (with_post posts rolled)) (client_of n after)
       by true e = its n e
       by false e = other n e
 
 -- ---- an event of an entity
 
-seat_at : (who : NodeName) (seats : List Seat) (seat : Seat) → seat_of who seats ≡ Some seat → seat.node ≡ who
-seat_at who seats seat e = same_node_is seat.node who (key_found (λ (s : Seat). s.node) same_node seats who seat e)
+post_at : (who : NodeName) (posts : List Post) (post : Post) → post_of who posts ≡ Some post → post.node ≡ who
+post_at who posts post e = same_node_is post.node who (key_found (λ (s : Post). s.node) same_node posts who post e)
 
 abbrev as_made : Given → Made
 as_made g = record { out = g.out; failed = g.failed; happened = true }
 
 module _ (input : Input) (w : World) (name : Name) (held new : Nodes) (place : ℕ) (old next : Member) (made : Made)
-    (k : StandFor held w.nodes w.seats) (at : IsFirst (λ (m : Member). same_name m.name name) held.members.items place) (read : old ≡ get_or held.members.items place old)
-    (monitor : new.monitor ≡ held.monitor) (sitting : new.seat ≡ held.seat) (put : new.members.items ≡ set held.members.items place next)
-    (does : (seat : Seat) (client : Option ClientNode) → MemberStands (Some old) (Some seat) client → IsMemberStep input seat client made old next) where
-  module _ (seat : Seat) (found : seat_of (node.Entity name) w.seats ≡ Some seat) where
-    who : seat.node ≡ node.Entity name
-    who = seat_at (node.Entity name) w.seats seat found
+    (k : StandFor held w.nodes w.posts) (at : IsFirst (λ (m : Member). same_name m.name name) held.members.items place) (read : old ≡ get_or held.members.items place old)
+    (monitor : new.monitor ≡ held.monitor) (sitting : new.post ≡ held.post) (put : new.members.items ≡ set held.members.items place next)
+    (does : (post : Post) (client : Option ClientNode) → MemberStands (Some old) (Some post) client → IsMemberStep input post client made old next) where
+  module _ (post : Post) (found : post_of (node.Entity name) w.posts ≡ Some post) where
+    who : post.node ≡ node.Entity name
+    who = post_at (node.Entity name) w.posts post found
 
-    stepped : (client : Option ClientNode) → client_of name w.nodes ≡ client → steps w.nodes (happening w input seat) ≡ client_steps w.nodes (happening w input seat) name client
+    stepped : (client : Option ClientNode) → client_of name w.nodes ≡ client → steps w.nodes (happening w input post) ≡ client_steps w.nodes (happening w input post) name client
     stepped client there =
-        ap (λ (n : NodeName). steps_of w.nodes (happening w input seat) n) who
-        ∙ ap (λ (c : Option ClientNode). client_steps w.nodes (happening w input seat) name c) there
+        ap (λ (n : NodeName). steps_of w.nodes (happening w input post) n) who
+        ∙ ap (λ (c : Option ClientNode). client_steps w.nodes (happening w input post) name c) there
 
     abbrev Gives : Stepped → Type 0
-    Gives s = IsGiven new made (Some seat) (record { world = happened w (happening w input seat) seat s.nodes; out = s.out; failed = s.failed })
+    Gives s = IsGiven new made (Some post) (record { world = happened w (happening w input post) post s.nodes; out = s.out; failed = s.failed })
 
-    sits_still : IsSeated new.seat (seat_of node.Monitor (with_seat w.seats (rolled_once seat)))
+    sits_still : IsPosted new.post (post_of node.Monitor (with_post w.posts (rolled_once post)))
     sits_still =
-        let apart : same_node seat.node node.Monitor ≡ false = rw who refl in
-        let still : seat_of node.Monitor (with_seat w.seats (rolled_once seat)) ≡ seat_of node.Monitor w.seats = replaced_elsewhere (λ (s : Seat). s.node) same_node same_node_is w.seats seat.node node.Monitor (rolled_once seat) refl apart in
-        rw (sitting, still) k.seat
+        let apart : same_node post.node node.Monitor ≡ false = rw who refl in
+        let still : post_of node.Monitor (with_post w.posts (rolled_once post)) ≡ post_of node.Monitor w.posts = replaced_elsewhere (λ (s : Post). s.node) same_node same_node_is w.posts post.node node.Monitor (rolled_once post) refl apart in
+        rw (sitting, still) k.post
 
-    behind : (client : Option ClientNode) (after : RunNodes) → IsMemberStep input seat client made old next → after.monitor ≡ w.nodes.monitor
-        → client_of name after ≡ client_behind input seat client → ((n : Name) → same_name name n ≡ false → client_of n after ≡ client_of n w.nodes)
-        → IsGiven new made (Some seat) (record { world = happened w (happening w input seat) seat after; out = client_out input seat client; failed = false })
+    behind : (client : Option ClientNode) (after : RunNodes) → IsMemberStep input post client made old next → after.monitor ≡ w.nodes.monitor
+        → client_of name after ≡ client_behind input post client → ((n : Name) → same_name name n ≡ false → client_of n after ≡ client_of n w.nodes)
+        → IsGiven new made (Some post) (record { world = happened w (happening w input post) post after; out = client_out input post client; failed = false })
     behind client after step m there others = record {
       nodes = record {
         monitor = rw (monitor, m) k.monitor;
-        seat = sits_still;
-        members = members_behind held new w.nodes after w.seats name place old next seat (rolled_once seat) k at read step.name put found who refl (rw there step.stands) others;
+        post = sits_still;
+        members = members_behind held new w.nodes after w.posts name place old next post (rolled_once post) k at read step.name put found who refl (rw there step.stands) others;
       };
       out = ap (λ (x : Made). x.out) step.comes;
       failed = ap (λ (x : Made). x.failed) step.comes;
       happened = ap (λ (x : Made). x.happened) step.comes;
     }
 
-    at_seat : (client : Option ClientNode) → client_of name w.nodes ≡ client → MemberStands (Some old) (Some seat) client → IsGiven new made (Some seat) (given w input (Some seat))
-    at_seat None none stands =
+    at_post : (client : Option ClientNode) → client_of name w.nodes ≡ client → MemberStands (Some old) (Some post) client → IsGiven new made (Some post) (given w input (Some post))
+    at_post None none stands =
         let P : Stepped → Type 0 = Gives in
-        subst P (sym (stepped None none)) (behind None w.nodes (does seat None stands) refl none (λ n e. refl))
-    at_seat (Some c) there stands =
+        subst P (sym (stepped None none)) (behind None w.nodes (does post None stands) refl none (λ n e. refl))
+    at_post (Some c) there stands =
         let P : Stepped → Type 0 = Gives in
-        let o = client_made input seat c in
+        let o = client_made input post c in
         let named : c.own.asker.name ≡ name = same_name_is c.own.asker.name name (key_found (λ (x : ClientNode). x.own.asker.name) same_name w.nodes.clients name c there) in
-        let kept : o.state.own.asker.name ≡ name = same_asker c input seat.reading (seed_draw seat.seed seat.rolled) ∙ named in
-        subst P (sym (stepped (Some c) there)) (behind (Some c) (with_client w.nodes name o.state) (does seat (Some c) stands) refl
+        let kept : o.state.own.asker.name ≡ name = same_asker c input post.reading (seed_draw post.seed post.rolled) ∙ named in
+        subst P (sym (stepped (Some c) there)) (behind (Some c) (with_client w.nodes name o.state) (does post (Some c) stands) refl
         (replaced_here (λ (x : ClientNode). x.own.asker.name) same_name same_name_self w.nodes.clients name c o.state kept there)
         (λ n e. replaced_elsewhere (λ (x : ClientNode). x.own.asker.name) same_name same_name_is w.nodes.clients name n o.state kept e))
 
-  by_seat : (seat : Option Seat) → seat_of (node.Entity name) w.seats ≡ seat → MemberStands (Some old) seat (client_of name w.nodes)
-      → IsGiven new made seat (given w input seat)
-  by_seat None e stands = absurd stands
-  by_seat (Some seat) e stands = at_seat seat e (client_of name w.nodes) refl stands
+  by_post : (post : Option Post) → post_of (node.Entity name) w.posts ≡ post → MemberStands (Some old) post (client_of name w.nodes)
+      → IsGiven new made post (given w input post)
+  by_post None e stands = absurd stands
+  by_post (Some post) e stands = at_post post e (client_of name w.nodes) refl stands
 
-  pub member_given : IsGiven new made (seat_of (node.Entity name) w.seats) (given w input (seat_of (node.Entity name) w.seats))
+  pub member_given : IsGiven new made (post_of (node.Entity name) w.posts) (given w input (post_of (node.Entity name) w.posts))
   member_given =
       let there : member_of name held.members.items ≡ Some old = (found_first (λ (m : Member). same_name m.name name) held.members.items place old at read).0 in
-      let P : Option Member → Type 0 = λ m. MemberStands m (seat_of (node.Entity name) w.seats) (client_of name w.nodes) in
-      by_seat (seat_of (node.Entity name) w.seats) refl (subst P there (k.members name))
+      let P : Option Member → Type 0 = λ m. MemberStands m (post_of (node.Entity name) w.posts) (client_of name w.nodes) in
+      by_post (post_of (node.Entity name) w.posts) refl (subst P there (k.members name))
 
 -- where there is no such entity
-pub nobody_given : (input : Input) (w : World) (name : Name) (held : Nodes) (made : Made) → StandFor held w.nodes w.seats → member_of name held.members.items ≡ None
+pub nobody_given : (input : Input) (w : World) (name : Name) (held : Nodes) (made : Made) → StandFor held w.nodes w.posts → member_of name held.members.items ≡ None
     → made ≡ record { out = nothing; failed = false; happened = false }
-    → IsGiven held made (seat_of (node.Entity name) w.seats) (given w input (seat_of (node.Entity name) w.seats))
+    → IsGiven held made (post_of (node.Entity name) w.posts) (given w input (post_of (node.Entity name) w.posts))
 nobody_given input w name held made k none comes =
-    let P : Option Member → Type 0 = λ m. MemberStands m (seat_of (node.Entity name) w.seats) (client_of name w.nodes) in
-    by (seat_of (node.Entity name) w.seats) (subst P none (k.members name))
+    let P : Option Member → Type 0 = λ m. MemberStands m (post_of (node.Entity name) w.posts) (client_of name w.nodes) in
+    by (post_of (node.Entity name) w.posts) (subst P none (k.members name))
   where
-    by : (seat : Option Seat) → MemberStands None seat (client_of name w.nodes) → IsGiven held made seat (given w input seat)
+    by : (post : Option Post) → MemberStands None post (client_of name w.nodes) → IsGiven held made post (given w input post)
     by None stands = record { nodes = k; out = ap (λ (x : Made). x.out) comes; failed = ap (λ (x : Made). x.failed) comes; happened = ap (λ (x : Made). x.happened) comes }
-    by (Some seat) stands = absurd stands
+    by (Some post) stands = absurd stands
 
 -- ---- an event of the monitor
 
@@ -183,31 +183,31 @@ same_clients nodes o None (Some saved) = refl
 same_clients nodes o (Some left) None = refl
 same_clients nodes o (Some left) (Some saved) = refl
 
-pub monitor_given : (input : Input) (w : World) (held new : Nodes) (made : Made) → StandFor held w.nodes w.seats → new.members.items ≡ held.members.items
-    → ((seat : Seat) → IsOf seat held.seat → IsMonitorStep seat (monitor_made input seat w.nodes w.left) made new.monitor new.seat)
-    → IsGiven new made (seat_of node.Monitor w.seats) (given w input (seat_of node.Monitor w.seats))
-monitor_given input w held new made k same does = by (seat_of node.Monitor w.seats) refl k.seat
+pub monitor_given : (input : Input) (w : World) (held new : Nodes) (made : Made) → StandFor held w.nodes w.posts → new.members.items ≡ held.members.items
+    → ((post : Post) → IsOf post held.post → IsMonitorStep post (monitor_made input post w.nodes w.left) made new.monitor new.post)
+    → IsGiven new made (post_of node.Monitor w.posts) (given w input (post_of node.Monitor w.posts))
+monitor_given input w held new made k same does = by (post_of node.Monitor w.posts) refl k.post
   where
-    by : (seat : Option Seat) → seat_of node.Monitor w.seats ≡ seat → IsSeated held.seat seat → IsGiven new made seat (given w input seat)
+    by : (post : Option Post) → post_of node.Monitor w.posts ≡ post → IsPosted held.post post → IsGiven new made post (given w input post)
     by None e sits = absurd sits
-    by (Some seat) e sits =
-        let who : seat.node ≡ node.Monitor = seat_at node.Monitor w.seats seat e in
-        let step = does seat sits in
-        let after : Stepped = monitor_made input seat w.nodes w.left in
-        let o = monitor_rule w.nodes.monitor input seat.reading (seed_draw seat.seed seat.rolled) in
-        let s : steps w.nodes (happening w input seat) ≡ after = ap (λ (n : NodeName). steps_of w.nodes (happening w input seat) n) who in
-        let P : Stepped → Type 0 = λ s. IsGiven new made (Some seat) (record { world = happened w (happening w input seat) seat s.nodes; out = s.out; failed = s.failed }) in
-        let here : seat_of node.Monitor (with_seat w.seats (rolled_once seat)) ≡ Some (rolled_once seat) =
-        (let Q : NodeName → Type 0 = λ x. seat_of x (with_seat w.seats (rolled_once seat)) ≡ Some (rolled_once seat) in
-        let R : NodeName → Type 0 = λ x. seat_of x w.seats ≡ Some seat in
-        subst Q who (replaced_here (λ (s : Seat). s.node) same_node same_node_self w.seats seat.node seat (rolled_once seat) refl (subst R (sym who) e))) in
+    by (Some post) e sits =
+        let who : post.node ≡ node.Monitor = post_at node.Monitor w.posts post e in
+        let step = does post sits in
+        let after : Stepped = monitor_made input post w.nodes w.left in
+        let o = monitor_rule w.nodes.monitor input post.reading (seed_draw post.seed post.rolled) in
+        let s : steps w.nodes (happening w input post) ≡ after = ap (λ (n : NodeName). steps_of w.nodes (happening w input post) n) who in
+        let P : Stepped → Type 0 = λ s. IsGiven new made (Some post) (record { world = happened w (happening w input post) post s.nodes; out = s.out; failed = s.failed }) in
+        let here : post_of node.Monitor (with_post w.posts (rolled_once post)) ≡ Some (rolled_once post) =
+        (let Q : NodeName → Type 0 = λ x. post_of x (with_post w.posts (rolled_once post)) ≡ Some (rolled_once post) in
+        let R : NodeName → Type 0 = λ x. post_of x w.posts ≡ Some post in
+        subst Q who (replaced_here (λ (s : Post). s.node) same_node same_node_self w.posts post.node post (rolled_once post) refl (subst R (sym who) e))) in
         subst P (sym s) (record {
           nodes = record {
             monitor = step.saved.stands;
-            seat = rw here step.sits;
+            post = rw here step.sits;
             members = λ n.
-                let apart : same_node seat.node (node.Entity n) ≡ false = rw who refl in
-                let still : seat_of (node.Entity n) (with_seat w.seats (rolled_once seat)) ≡ seat_of (node.Entity n) w.seats = replaced_elsewhere (λ (s : Seat). s.node) same_node same_node_is w.seats seat.node (node.Entity n) (rolled_once seat) refl apart in
+                let apart : same_node post.node (node.Entity n) ≡ false = rw who refl in
+                let still : post_of (node.Entity n) (with_post w.posts (rolled_once post)) ≡ post_of (node.Entity n) w.posts = replaced_elsewhere (λ (s : Post). s.node) same_node same_node_is w.posts post.node (node.Entity n) (rolled_once post) refl apart in
                 let clients : client_of n after.nodes ≡ client_of n w.nodes = ap (λ (cs : List ClientNode). client_of n (record w.nodes { clients = cs })) (same_clients w.nodes o w.left o.out.save) in
                 rw (same, still, clients) (k.members n);
           };

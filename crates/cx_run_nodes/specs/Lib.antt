@@ -1,4 +1,4 @@
 pub mod Members
 pub mod Held
-pub mod Seats
+pub mod Posts
 pub mod Steps

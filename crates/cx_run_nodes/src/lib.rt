@@ -6,13 +6,13 @@ mod made;
 mod members;
 mod nodes;
 mod opening;
-mod seats;
+mod posts;
 
 pub use made::Made;
 pub use members::Member;
 pub use nodes::Nodes;
 pub use opening::opening_nodes;
-pub use seats::Seat;
+pub use posts::Post;
 
 // Each public type may be sent to another thread and shared with one.
 fn is_sendable<T: Send + Sync>() {}
@@ -21,5 +21,5 @@ fn all_are_sendable() {
     is_sendable::<Made>();
     is_sendable::<Member>();
     is_sendable::<Nodes>();
-    is_sendable::<Seat>();
+    is_sendable::<Post>();
 }

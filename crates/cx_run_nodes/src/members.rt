@@ -5,10 +5,10 @@ ghost use Rattle.cx_run_nodes.specs.Held.{MemberStands, member_of};
 ghost use Rattle.cx_run_nodes.specs.Steps.{IsMemberStep};
 ghost use Rattle.cx_rules.specs.ClientRule.{ClientNode};
 ghost use Rattle.cx_rules.specs.Inputs.{input_of};
-ghost use Rattle.cx_run.specs.Worlds.{Seat as RunSeat};
+ghost use Rattle.cx_run.specs.Worlds.{Post as RunPost};
 
 use crate::made::Made;
-use crate::seats::Seat;
+use crate::posts::Post;
 use cx_base::EntityName;
 use cx_client::Client;
 use cx_steps::{Effects, Event};
@@ -18,7 +18,7 @@ use std::alloc::{AllocError, Global};
 #[derive(Drop)]
 pub struct Member {
     pub name: EntityName,
-    pub seat: Seat,
+    pub post: Post,
     pub client: Option<Client>,
 }
 
@@ -28,15 +28,15 @@ impl Member {
     ghost use Rattle.cx_run_nodes.specs.Steps.{IsMemberStep};
     ghost use Rattle.cx_rules.specs.ClientRule.{ClientNode};
     ghost use Rattle.cx_rules.specs.Inputs.{input_of};
-    ghost use Rattle.cx_run.specs.Worlds.{Seat as RunSeat};
+    ghost use Rattle.cx_run.specs.Worlds.{Post as RunPost};
 
     /// What comes to it.
     pub(crate) fn step(&mut self, alloc: Global, event: Event<'_>) -> Result<Made, AllocError>
-        ensures { (seat : RunSeat) (client : Option ClientNode) → MemberStands (Some self.old) (Some seat) client
-            → IfOk result (λ made. IsMemberStep (input_of event.entry) seat client made self.old self.new) }
+        ensures { (post : RunPost) (client : Option ClientNode) → MemberStands (Some self.old) (Some post) client
+            → IfOk result (λ made. IsMemberStep (input_of event.entry) post client made self.old self.new) }
     {
-        let draw = self.seat.roll();
-        let reading = self.seat.reading();
+        let draw = self.post.roll();
+        let reading = self.post.reading();
         match &mut self.client {
             None => Ok(Made::of(Effects::new(alloc))),
             Some(client) => {

@@ -2,9 +2,9 @@
 
 ghost use Rattle.std.specs.Prelude.{ℕ, ◌≡◌, ◌<◌, ◌+◌, [], ◌∷◌, ◌++◌, List, length, map, position, slice_get, Some, None, IfOk, OnOk, IfSome, IfNone};
 ghost use Rattle.cx_base.specs.Names.{same_name};
-ghost use Rattle.cx_journal.specs.declared.node_names.NodeName.TheVariants as node;
+ghost use Rattle.cx_base.specs.declared.nodes.NodeName.TheVariants as node;
 ghost use Rattle.cx_run_nodes.specs.Held.{IsGiven, StandFor, reads};
-ghost use Rattle.cx_run_nodes.specs.Seats.{IsOf};
+ghost use Rattle.cx_run_nodes.specs.Posts.{IsOf};
 ghost use Rattle.cx_run_nodes.specs.Steps.{IsMonitorStep, IsSaved, monitor_made};
 ghost use Rattle.cx_rules.specs.Abridged.{MonitorStandsFor};
 ghost use Rattle.cx_rules.specs.Inputs.{input_of};
@@ -13,13 +13,12 @@ ghost use Rattle.cx_rules.specs.Rows.{Outcome};
 ghost use Rattle.cx_run.specs.Deliveries.{given};
 ghost use Rattle.cx_run.specs.Happenings.{Nodes as RunNodes, left_as, monitor_steps};
 ghost use Rattle.cx_run.specs.Schedules.{all_read, one_reads};
-ghost use Rattle.cx_run.specs.Worlds.{Seat as RunSeat, World, seat_of};
+ghost use Rattle.cx_run.specs.Worlds.{Post as RunPost, World, post_of};
 
 use crate::made::Made;
 use crate::members::Member;
-use crate::seats::Seat;
-use cx_base::{EntityName, Reading};
-use cx_journal::NodeName;
+use crate::posts::Post;
+use cx_base::{EntityName, NodeName, Reading};
 use cx_line_words::LeftState;
 use cx_mon::Monitor;
 use cx_steps::{Effects, Event};
@@ -29,7 +28,7 @@ use std::alloc::{AllocError, Global};
 #[derive(Drop)]
 pub struct Nodes {
     pub monitor: Monitor,
-    pub seat: Seat,
+    pub post: Post,
     pub members: Vec<Member>,
 }
 
@@ -42,8 +41,8 @@ impl Nodes {
         event: Event<'_>,
         left: Option<LeftState>,
     ) -> Result<Made, AllocError>
-        ensures { (w : World) → StandFor self.old w.nodes w.seats → left ≡ w.left
-            → IfOk result (λ made. IsGiven self.new made (seat_of who.now w.seats) (given w (input_of event.entry) (seat_of who.now w.seats))) }
+        ensures { (w : World) → StandFor self.old w.nodes w.posts → left ≡ w.left
+            → IfOk result (λ made. IsGiven self.new made (post_of who.now w.posts) (given w (input_of event.entry) (post_of who.now w.posts))) }
     {
         match who {
             NodeName::Monitor => self.step_monitor(alloc, event, left),
@@ -57,10 +56,10 @@ impl Nodes {
         event: Event<'_>,
         left: Option<LeftState>,
     ) -> Result<Made, AllocError>
-        ensures { (w : World) → StandFor self.old w.nodes w.seats → left ≡ w.left
-            → IfOk result (λ made. IsGiven self.new made (seat_of node.Monitor w.seats) (given w (input_of event.entry) (seat_of node.Monitor w.seats))) }
+        ensures { (w : World) → StandFor self.old w.nodes w.posts → left ≡ w.left
+            → IfOk result (λ made. IsGiven self.new made (post_of node.Monitor w.posts) (given w (input_of event.entry) (post_of node.Monitor w.posts))) }
     {
-        let made = take_step(alloc, &mut self.monitor, &mut self.seat, event, left)?;
+        let made = take_step(alloc, &mut self.monitor, &mut self.post, event, left)?;
         Ok(made)
     }
 
@@ -70,8 +69,8 @@ impl Nodes {
         name: &EntityName,
         event: Event<'_>,
     ) -> Result<Made, AllocError>
-        ensures { (w : World) → StandFor self.old w.nodes w.seats
-            → IfOk result (λ made. IsGiven self.new made (seat_of (node.Entity name.now) w.seats) (given w (input_of event.entry) (seat_of (node.Entity name.now) w.seats))) }
+        ensures { (w : World) → StandFor self.old w.nodes w.posts
+            → IfOk result (λ made. IsGiven self.new made (post_of (node.Entity name.now) w.posts) (given w (input_of event.entry) (post_of (node.Entity name.now) w.posts))) }
     {
         match place_of(self.members.as_slice(), name) {
             Some(place) => {
@@ -86,24 +85,24 @@ impl Nodes {
     /// All clocks read this from here on.
     pub fn read_all(&mut self, reading: Reading)
         requires { reading < 4000000000000000000 }
-        ensures { (w : World) → StandFor self.old w.nodes w.seats → StandFor self.new (all_read reading w).nodes (all_read reading w).seats }
+        ensures { (w : World) → StandFor self.old w.nodes w.posts → StandFor self.new (all_read reading w).nodes (all_read reading w).posts }
     {
-        self.seat.set(reading);
+        self.post.set(reading);
         read_members(&mut self.members, reading);
     }
 
     /// The clock of one node reads this from here on.
     pub fn read_one(&mut self, who: &NodeName, reading: Reading)
         requires { reading < 4000000000000000000 }
-        ensures { (w : World) → StandFor self.old w.nodes w.seats → StandFor self.new (one_reads who.now reading w).nodes (one_reads who.now reading w).seats }
+        ensures { (w : World) → StandFor self.old w.nodes w.posts → StandFor self.new (one_reads who.now reading w).nodes (one_reads who.now reading w).posts }
     {
         match who {
-            NodeName::Monitor => self.seat.set(reading),
+            NodeName::Monitor => self.post.set(reading),
             NodeName::Entity(name) => {
                 match place_of(self.members.as_slice(), name) {
                     Some(place) => {
                         let member = &mut self.members[place];
-                        member.seat.set(reading);
+                        member.post.set(reading);
                     }
                     None => {}
                 }
@@ -118,7 +117,7 @@ fn read_members(members: &mut Vec<Member>, reading: Reading)
     ensures { members.new.items ≡ map (λ m. reads reading m) members.old.items }
 {
     for member in members.iter_mut() {
-        member.seat.set(reading);
+        member.post.set(reading);
     }
 }
 
@@ -129,19 +128,19 @@ fn place_of(members: &[Member], name: &EntityName) -> Option<usize>
     members.iter().position(|m| m.name == *name)
 }
 
-// What comes to the monitor in its seat.
+// What comes to the monitor in its post.
 fn take_step(
     alloc: Global,
     monitor: &mut Monitor,
-    seat: &mut Seat,
+    post: &mut Post,
     event: Event<'_>,
     left: Option<LeftState>,
 ) -> Result<Made, AllocError>
-    ensures { (s : RunSeat) (nodes : RunNodes) → IsOf s seat.old → MonitorStandsFor monitor.old nodes.monitor
-        → IfOk result (λ made. IsMonitorStep s (monitor_made (input_of event.entry) s nodes left) made monitor.new seat.new) }
+    ensures { (s : RunPost) (nodes : RunNodes) → IsOf s post.old → MonitorStandsFor monitor.old nodes.monitor
+        → IfOk result (λ made. IsMonitorStep s (monitor_made (input_of event.entry) s nodes left) made monitor.new post.new) }
 {
-    let draw = seat.roll();
-    let reading = seat.reading();
+    let draw = post.roll();
+    let reading = post.reading();
     let mut out = Effects::new(alloc);
     monitor.step(alloc, event, reading, &draw, &mut out)?;
     let made = settle_save(alloc, monitor, left, out)?;

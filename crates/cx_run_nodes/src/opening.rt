@@ -3,9 +3,9 @@
 ghost use Rattle.std.specs.Prelude.{IfOk};
 ghost use Rattle.cx_run_nodes.specs.Held.{ClientStands, StandFor};
 ghost use Rattle.cx_run_nodes.specs.Members.{AreMembersOf, IsMemberOf, client_for};
-ghost use Rattle.cx_run.specs.Opening.{nodes_of, seats_of};
+ghost use Rattle.cx_run.specs.Opening.{nodes_of, posts_of};
 
-use crate::{Member, Nodes, Seat};
+use crate::{Member, Nodes, Post};
 use cx_base::{Duplicate, EntityType};
 use cx_client::Client;
 use cx_run_head::{Declared, Setup};
@@ -13,14 +13,14 @@ use std::alloc::{AllocError, Global};
 
 /// The monitor and the entities as a run begins: with clocks that read 0, and dice of which nothing was rolled.
 pub fn opening_nodes(alloc: Global, setup: &Setup) -> Result<Nodes, AllocError>
-    ensures { IfOk result (λ nodes. StandFor nodes (nodes_of setup.now) (seats_of setup.now)) }
+    ensures { IfOk result (λ nodes. StandFor nodes (nodes_of setup.now) (posts_of setup.now)) }
 {
     let monitor = setup.monitor(alloc)?;
-    let seat = Seat::new(alloc, setup.monitor_seed());
+    let post = Post::new(alloc, setup.monitor_seed());
     let members = members_of(alloc, setup.entities())?;
     Ok(Nodes {
         monitor,
-        seat,
+        post,
         members,
     })
 }
@@ -46,7 +46,7 @@ fn member_of(alloc: Global, entity: &Declared) -> Result<Member, AllocError>
     let seed = entity.seed.unwrap_or(u64::from(entity.number));
     Ok(Member {
         name,
-        seat: Seat::new(alloc, seed),
+        post: Post::new(alloc, seed),
         client,
     })
 }

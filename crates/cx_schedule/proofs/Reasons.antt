@@ -1,6 +1,6 @@
 -- Bytes are refused for one reason: a limit, or the first line outside of the grammar, with its one fault.
 use Rattle.std.proofs.Common.{◌≡◌, ℕ, ◌+◌, ◌⊎◌, List, [], ◌∷◌, Option, None, Some, refl, sym, ◌∙◌, inl, inr}
-use Rattle.cx_words.specs.Cutting.{lines_of}
+use Rattle.cx_words.specs.Cutting.{lines_of, IsShort}
 use Rattle.cx_line_words.specs.declared.known.Known.{Known}
 use Rattle.cx_lines.specs.declared.sight.BadWord.{BadWord}
 use Rattle.cx_lines.specs.declared.lines.Numbered.{Numbered}
@@ -9,7 +9,7 @@ use Rattle.cx_lines.specs.Sights.{bad_word_of}
 use Rattle.cx_lines.proofs.Laws.{seen_spelled}
 use Rattle.cx_schedule.specs.declared.refusals.ScheduleRefusal.{ScheduleRefusal}
 use Rattle.cx_schedule.specs.declared.refusals.ScheduleRefusal.TheVariants.{TooLong, BadLine, OutOfMemory}
-use Rattle.cx_schedule.specs.Files.{IsFirstBad, IsFirstOutside, IsReason, IsScheduleCause, IsShort, IsRefusalAt, Lines, SpellNone, line_words}
+use Rattle.cx_schedule.specs.Files.{IsFirstBad, IsFirstOutside, IsReason, IsScheduleCause, IsRefusalAt, Lines, SpellNone, line_words}
 use Rattle.cx_schedule.proofs.Whole.{added_once, added_spells, none_bad}
 
 -- one line is the first bad one, with one fault

@@ -3,7 +3,8 @@ use Rattle.std.proofs.Common.{◌≡◌, ℕ, ◌+◌, ◌≤◌, true, false, L
 use Rattle.std.specs.Prelude.{fold}
 use Rattle.std.specs.List.{list_all}
 use Rattle.std.proofs.lemmas.List.Folds.{list_all-append}
-use Rattle.cx_words.specs.Cutting.{is_skipped, lines_of}
+use Rattle.cx_words.proofs.Counted.{no_lines}
+use Rattle.cx_words.specs.Cutting.{is_skipped, lines_of, IsShort}
 use Rattle.cx_line_words.specs.declared.known.Known.{Known}
 use Rattle.cx_line_words.specs.Known.{nothing}
 use Rattle.cx_lines.specs.declared.sight.BadWord.{BadWord}
@@ -15,7 +16,7 @@ use Rattle.cx_lines.specs.Sights.{bad_word_of}
 use Rattle.cx_lines.proofs.Laws.{in_range, seen_clean, unique}
 use Rattle.cx_schedule.specs.declared.refusals.ScheduleRefusal.{ScheduleRefusal}
 use Rattle.cx_schedule.specs.declared.refusals.ScheduleRefusal.TheVariants.{TooLong, BadLine, OutOfMemory}
-use Rattle.cx_schedule.specs.Files.{Adds, IsFirstBad, IsFirstOutside, IsScheduleCause, IsShort, Lines, Said, SpellNone, line_words, numbered}
+use Rattle.cx_schedule.specs.Files.{Adds, IsFirstBad, IsFirstOutside, IsScheduleCause, Lines, Said, SpellNone, line_words, numbered}
 
 -- ---- what is known
 
@@ -117,11 +118,6 @@ few_in_all bytes script short said =
     let few = few_lines 1 [] script (lines_of bytes) said in
     omega (arith, few, short.1)
 
--- no bytes have no lines
-pub no_lines : lines_of [] ≡ []
-unfolding lines_of
-no_lines = refl
-
 -- how the lines so far stand to all: the next one has this number
 pub record Reads (all : List (List ℕ)) (earlier : List Numbered) (number : ℕ) (rest : List (List ℕ)) : Type 0 where
   pub said : (s : List Numbered) → Said number earlier rest s → Said 1 [] all s
@@ -146,9 +142,3 @@ bad_here all earlier number rest line after why r cut kept fault =
 -- at the end all is said
 pub read_all : (bytes left : List ℕ) (earlier : List Numbered) (number : ℕ) → Reads (lines_of bytes) earlier number (lines_of left) → left ≡ [] → Lines bytes earlier
 read_all bytes left earlier number r none = r.said earlier (rw (none, no_lines) refl)
-
--- at the end all are counted
-pub counted_all : (bytes left : List ℕ) (count : ℕ) → count + length (lines_of left) ≡ length (lines_of bytes) → left ≡ [] → count ≡ length (lines_of bytes)
-counted_all bytes left count e none =
-    let n : length (lines_of left) ≡ 0 = rw (none, no_lines) refl in
-    omega arith

@@ -1,7 +1,7 @@
 -- A schedule as a file: its lines in order, and the first of them that is outside of the grammar.
-use Rattle.std.specs.Prelude.{ℕ, ◌+◌, ◌≤◌, ◌≡◌, ◌⊎◌, Bool, true, false, List, [], ◌∷◌, ◌++◌, length, take, codes, Some, Result, Ok, Err}
+use Rattle.std.specs.Prelude.{ℕ, ◌+◌, ◌≡◌, ◌⊎◌, Bool, true, false, List, [], ◌∷◌, ◌++◌, take, codes, Some, Result, Ok, Err}
 use Rattle.std.specs.Str.{bytes_eq}
-use Rattle.cx_words.specs.Cutting.{lines_of, words_of, is_skipped}
+use Rattle.cx_words.specs.Cutting.{lines_of, words_of, is_skipped, IsShort}
 use Rattle.cx_line_words.specs.declared.known.Known.{Known}
 use Rattle.cx_lines.specs.declared.lines.Line.{Line}
 use Rattle.cx_lines.specs.declared.lines.Numbered.{Numbered}
@@ -71,10 +71,6 @@ IsFirstOutside number earlier lines n = IsFirst SpellNone number earlier lines n
 -- the same, and this is the first of its faults, with its word
 abbrev pub IsFirstBad : ℕ → List Numbered → List (List ℕ) → ℕ → BadWord → Type 0
 IsFirstBad number earlier lines n bad = IsFirst (SpellNoneFor bad) number earlier lines n
-
--- the schedule isn't too long: at most 1,048,576 bytes, and 20,000 lines
-abbrev pub IsShort : List ℕ → Type 0
-IsShort bytes = (length bytes ≤ 1048576) × (length (lines_of bytes) ≤ 20000)
 
 -- why the bytes of a schedule are refused
 abbrev pub IsScheduleCause : List ℕ → ScheduleRefusal → Type 0

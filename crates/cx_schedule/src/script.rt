@@ -2,25 +2,24 @@
 
 ghost use Rattle.std.specs.Prelude.{ℕ, ◌≡◌, ◌+◌, ◌≤◌, List, [], ◌∷◌, ◌++◌, length, IfOk, IfErr, OnOk, OnErr, IsTrue};
 ghost use Rattle.std.specs.List.{list_all};
-ghost use Rattle.cx_words.specs.Cutting.{lines_of};
-ghost use Rattle.cx_schedule.specs.Files.{Adds, IsFileLineCause, IsFirstOutside, IsReason, IsScheduleCause, IsShort, Lines, Refuses, RefusesAt, groups, line_words};
+ghost use Rattle.cx_words.specs.Cutting.{lines_of, IsShort};
+ghost use Rattle.cx_schedule.specs.Files.{Adds, IsFileLineCause, IsFirstOutside, IsReason, IsScheduleCause, Lines, Refuses, RefusesAt, groups, line_words};
 ghost use Rattle.cx_lines.specs.Knowing.{known_of};
 ghost use Rattle.cx_lines.specs.Lines.{Spells, is_numbered_in_range};
 ghost use Rattle.cx_lines.specs.Refusals.{IsLineCause};
 ghost use Rattle.cx_lines.specs.declared.lines.Numbered.{Numbered};
 ghost use Rattle.cx_schedule.specs.declared.refusals.ScheduleRefusal.{ScheduleRefusal};
 
-use crate::limits::is_short;
 use crate::refusals::ScheduleRefusal;
 use cx_base::{Duplicate, Items, copy_items};
 use cx_line_words::Known;
 use cx_lines::{Line, LineRefusal, Numbered, line_of, note};
-use cx_words::{first_line, is_skipped, words};
+use cx_words::{first_line, is_short, is_skipped, words};
 use std::alloc::{AllocError, Global};
 use std::marker::Model;
 
 /// A schedule: its lines in order with their numbers, without those that are empty or comments.
-#[derive(Debug, Drop)]
+#[derive(Drop)]
 pub struct Script {
     lines: Items<Numbered>,
 }

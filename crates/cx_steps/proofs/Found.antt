@@ -1,7 +1,7 @@
 -- One thing at most is found in a log.
 use Rattle.std.proofs.Common.{◌≡◌, ℕ, List, [], ◌∷◌, Option, Some, None, inl, inr, refl, sym, ◌∙◌, ap}
 use Rattle.cx_base.specs.Names.{Name}
-use Rattle.cx_journal.specs.declared.node_names.NodeName.{NodeName}
+use Rattle.cx_base.specs.declared.nodes.NodeName.{NodeName}
 use Rattle.cx_journal.specs.declared.premises.Broken.{Broken}
 use Rattle.cx_journal.specs.declared.premises.KeyKind.{KeyKind}
 use Rattle.cx_journal.specs.declared.premises.Premise.{Premise}

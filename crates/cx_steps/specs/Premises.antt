@@ -3,9 +3,9 @@
 -- excepted, where it opens at the monitor or at a daemon.
 use Rattle.std.specs.Prelude.{ℕ, ◌≡◌, Bool, true, List, [], Some, IsTrue, Contains, ◌⊎◌}
 use Rattle.cx_base.specs.Names.{Name}
-use Rattle.cx_journal.specs.Nodes.{is_daemon_type}
-use Rattle.cx_journal.specs.declared.node_names.NodeName.{NodeName}
-use Rattle.cx_journal.specs.declared.node_names.NodeName.TheVariants as node
+use Rattle.cx_base.specs.Names.{is_daemon_type}
+use Rattle.cx_base.specs.declared.nodes.NodeName.{NodeName}
+use Rattle.cx_base.specs.declared.nodes.NodeName.TheVariants as node
 use Rattle.cx_steps.specs.Draws.{key_of, for_whom, Repeats}
 use Rattle.cx_steps.specs.Onto.{SomeOf, EachOnto}
 use Rattle.cx_steps.specs.declared.seals.DrawMark.{DrawMark}

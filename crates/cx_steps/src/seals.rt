@@ -1,7 +1,7 @@
 //! The log of what was sealed, opened, signed, found equal and drawn.
 
-use cx_base::{Blob, Duplicate, EntityName};
-use cx_journal::{KeyKind, NodeName};
+use cx_base::{Blob, Duplicate, EntityName, NodeName};
+use cx_journal::KeyKind;
 use std::alloc::{AllocError, Global};
 
 /// Something under a key: the content of an envelope; of a part of a frame its nonce and its plain bytes; of a proof its 16

@@ -1,7 +1,7 @@
 //! Effects, events and entries of the log: each call once, and more links than a number of 16 bits counts.
 
-use cx_base::{Access, Blob, Duplicate, EntityName, EntityType, Items, Operation, Text};
-use cx_journal::{Entry, KeyKind, NodeName};
+use cx_base::{Access, Blob, Duplicate, EntityName, EntityType, Items, NodeName, Operation, Text};
+use cx_journal::{Entry, KeyKind};
 use cx_steps::{
     Command, DrawMark, Effects, Event, Logged, Peer, Piece, SealEntry, SealMark, seal_laws,
 };

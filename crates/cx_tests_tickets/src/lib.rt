@@ -6,10 +6,16 @@ mod authorize;
 #[cfg(test)]
 mod caps;
 #[cfg(test)]
+mod desk;
+#[cfg(test)]
+mod dice;
+#[cfg(test)]
 mod keep;
 #[cfg(test)]
 mod keyring;
 #[cfg(test)]
 mod keyserver;
+#[cfg(test)]
+mod rotate;
 #[cfg(test)]
 mod session;

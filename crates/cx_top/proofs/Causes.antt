@@ -1,8 +1,8 @@
 -- From the bytes of an input to the input.
 use Rattle.std.proofs.Common.{◌≡◌, ℕ, ◌≤◌, List, length, Option, Some, None, Result, Ok, Err, IfErr, arith, refl}
 use Rattle.std.proofs.Math.ListN.{drop_of_length-le}
-use Rattle.cx_schedule.specs.Files.{IsShort}
-use Rattle.cx_top.specs.declared.commands.Command.{Command}
+use Rattle.cx_words.specs.Cutting.{IsShort}
+use Rattle.cx_top.specs.declared.commands.Subcommand.{Subcommand}
 use Rattle.cx_top.specs.declared.status.Status.{Status}
 use Rattle.cx_top.specs.declared.status.Status.TheVariants.{Done, Usage, BadSchedule, ReadFault, WriteFault, OutOfMemory, BadKeyring, Broken, TooLong, NotYet}
 use Rattle.cx_top.specs.Replays.{GaveAll}
@@ -15,7 +15,7 @@ too_long (Some left) now bytes all short cause = (
   rw (← all.0, all.1, drop_of_length-le bytes {i = 1048577} (omega arith)) refl,
 )
 
-status_cause : (command : Command) (status : Status) (left now : Option (List ℕ)) (bytes : List ℕ) (before after : ℕ) → GaveAll left now bytes → length bytes ≤ 1048576 → IsBytesCause command bytes status → IsInputCause command left now before after status
+status_cause : (command : Subcommand) (status : Status) (left now : Option (List ℕ)) (bytes : List ℕ) (before after : ℕ) → GaveAll left now bytes → length bytes ≤ 1048576 → IsBytesCause command bytes status → IsInputCause command left now before after status
 status_cause command TooLong left now bytes before after all short cause = too_long left now bytes all short cause
 status_cause command (BadSchedule line bad) left now bytes before after all short cause = record { bytes = bytes; read = all; cause = cause }
 status_cause command (NotYet line) left now bytes before after all short cause = record { bytes = bytes; read = all; cause = cause }
@@ -27,7 +27,7 @@ status_cause command ReadFault left now bytes before after all short cause = abs
 status_cause command WriteFault left now bytes before after all short cause = cause
 status_cause command Broken left now bytes before after all short cause = cause
 
-pub input_cause : {X : Type 0} (command : Command) (answer : Result X Status) (left now : Option (List ℕ)) (bytes asked : List ℕ) (before after : ℕ) → GaveAll left now bytes → length bytes ≤ 1048576 → asked ≡ bytes → IfErr answer (IsBytesCause command asked) → IfErr answer (IsInputCause command left now before after)
+pub input_cause : {X : Type 0} (command : Subcommand) (answer : Result X Status) (left now : Option (List ℕ)) (bytes asked : List ℕ) (before after : ℕ) → GaveAll left now bytes → length bytes ≤ 1048576 → asked ≡ bytes → IfErr answer (IsBytesCause command asked) → IfErr answer (IsInputCause command left now before after)
 input_cause command (Ok text) left now bytes asked before after all short same cause = tt
 input_cause command (Err status) left now bytes asked before after all short same cause =
     status_cause command status left now bytes before after all short (rw same at cause)

@@ -10,7 +10,8 @@ use Rattle.cx_replay.specs.declared.refusals.ReplayRefusal.TheVariants as replay
 use Rattle.cx_schedule.specs.Files as files
 use Rattle.cx_schedule.specs.declared.refusals.ScheduleRefusal.{ScheduleRefusal}
 use Rattle.cx_schedule.specs.declared.refusals.ScheduleRefusal.TheVariants as schedule
-use Rattle.cx_top.specs.declared.commands.Command.TheVariants.{Replay, Keyring}
+use Rattle.cx_words.specs.Cutting.{IsShort}
+use Rattle.cx_top.specs.declared.commands.Subcommand.TheVariants.{Replay, Keyring}
 use Rattle.cx_top.specs.declared.status.Status.{Status}
 use Rattle.cx_top.specs.declared.status.Status.TheVariants.{Done, Usage, BadSchedule, ReadFault, WriteFault, OutOfMemory, BadKeyring, Broken, TooLong, NotYet}
 use Rattle.cx_top.specs.Causes.{IsAnswered, IsBytesCause, IsReasonFor}
@@ -27,7 +28,7 @@ or_schedule schedule.OutOfMemory why status is (inr same) = tt
 
 pub schedule_reason : (bytes : List ℕ) (got : ScheduleRefusal) (status : Status) → IsReasonFor Replay bytes status
     → ((why : ScheduleRefusal) → files.IsReason bytes why → (got ≡ schedule.OutOfMemory) ⊎ (got ≡ why))
-    → ((script : List Numbered) → files.IsShort bytes → files.Lines bytes script → got ≡ schedule.OutOfMemory) → IsOrMemory status (schedule_status got)
+    → ((script : List Numbered) → IsShort bytes → files.Lines bytes script → got ≡ schedule.OutOfMemory) → IsOrMemory status (schedule_status got)
 schedule_reason bytes got TooLong reason exact only = or_schedule got schedule.TooLong TooLong refl (exact schedule.TooLong reason)
 schedule_reason bytes got (BadSchedule line bad) reason exact only = or_schedule got (schedule.BadLine line bad) (BadSchedule line bad) refl (exact (schedule.BadLine line bad) reason)
 schedule_reason bytes got (NotYet line) (short, (script, lines, untaken)) exact only = rw (only script short lines) tt
@@ -76,7 +77,7 @@ schedule_read bytes script OutOfMemory reason taken one exact = reason
 schedule_read bytes script (BadKeyring line why) reason taken one exact = reason
 
 -- why there is no replay is why the bytes are refused
-pub replay_cause : (bytes : List ℕ) (script : List Numbered) (got : ReplayRefusal) → files.IsShort bytes → files.Lines bytes script → IsReplayCause script got → IsBytesCause Replay bytes (replay_status got)
+pub replay_cause : (bytes : List ℕ) (script : List Numbered) (got : ReplayRefusal) → IsShort bytes → files.Lines bytes script → IsReplayCause script got → IsBytesCause Replay bytes (replay_status got)
 replay_cause bytes script (replay.NotYet n) short lines cause = (short, (script, lines, cause))
 replay_cause bytes script replay.OutOfMemory short lines cause = tt
 
@@ -97,7 +98,7 @@ or_keyring keyring.OutOfMemory why status is (inr same) = tt
 zero_line : (line : ℕ) → line ≡ 0 → keyring_status (keyring.TooMany 4096) ≡ BadKeyring line None
 zero_line line is = ap (λ n. BadKeyring n None) (sym is)
 
-pub keyring_reason : (bytes : List ℕ) (got : KeyringRefusal) (status : Status) → files.IsShort bytes → IsReasonFor Keyring bytes status
+pub keyring_reason : (bytes : List ℕ) (got : KeyringRefusal) (status : Status) → IsShort bytes → IsReasonFor Keyring bytes status
     → ((why : KeyringRefusal) → rings.IsReason bytes why → (got ≡ keyring.OutOfMemory) ⊎ (got ≡ why)) → IsOrMemory status (keyring_status got)
 keyring_reason bytes got TooLong short reason exact = absurd (reason short)
 keyring_reason bytes got (BadKeyring line (Some why)) short reason exact =
@@ -114,7 +115,7 @@ keyring_reason bytes got Broken short reason exact = absurd reason
 keyring_reason bytes got OutOfMemory short reason exact = absurd reason
 
 -- a keyring that is read has no reason to be refused
-pub keyring_read : (bytes : List ℕ) (status : Status) → files.IsShort bytes → IsReasonFor Keyring bytes status → ((why : KeyringRefusal) → rings.IsReason bytes why → ⊥) → ⊥
+pub keyring_read : (bytes : List ℕ) (status : Status) → IsShort bytes → IsReasonFor Keyring bytes status → ((why : KeyringRefusal) → rings.IsReason bytes why → ⊥) → ⊥
 keyring_read bytes TooLong short reason exact = reason short
 keyring_read bytes (BadKeyring line (Some why)) short reason exact = exact (keyring.BadLine line why) reason.1
 keyring_read bytes (BadKeyring line None) short (_, (is, ring, text, long)) exact = exact (keyring.TooMany 4096) (refl, ring, text, long)

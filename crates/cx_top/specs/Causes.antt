@@ -8,9 +8,10 @@ use Rattle.cx_keyring.specs.Rings.{KeyringText, IsKeyringCause}
 use Rattle.cx_lines.specs.declared.lines.Numbered.{Numbered}
 use Rattle.cx_replay.specs.Serving.{first_unserved}
 use Rattle.cx_schedule.specs.declared.refusals.ScheduleRefusal.TheVariants as schedule
-use Rattle.cx_schedule.specs.Files.{Lines, IsShort, IsScheduleCause}
-use Rattle.cx_top.specs.declared.commands.Command.{Command}
-use Rattle.cx_top.specs.declared.commands.Command.TheVariants.{Replay, Keyring}
+use Rattle.cx_schedule.specs.Files.{Lines, IsScheduleCause}
+use Rattle.cx_words.specs.Cutting.{IsShort}
+use Rattle.cx_top.specs.declared.commands.Subcommand.{Subcommand}
+use Rattle.cx_top.specs.declared.commands.Subcommand.TheVariants.{Replay, Keyring}
 use Rattle.cx_top.specs.declared.status.Status.{Status}
 use Rattle.cx_top.specs.declared.status.Status.TheVariants.{Done, Usage, BadSchedule, ReadFault, WriteFault, OutOfMemory, BadKeyring, Broken, TooLong, NotYet}
 use Rattle.cx_top.specs.Replays.{GaveAll}
@@ -28,7 +29,7 @@ abbrev pub IsUnservedAt : List ℕ → ℕ → Type 0
 IsUnservedAt bytes line = (script : List Numbered) × Lines bytes script × (first_unserved script ≡ Some line)
 
 -- these bytes must be refused with this status
-abbrev pub IsReasonFor : Command → List ℕ → Status → Type 0
+abbrev pub IsReasonFor : Subcommand → List ℕ → Status → Type 0
 IsReasonFor command bytes TooLong = IsShort bytes → ⊥
 IsReasonFor Replay bytes (BadSchedule line bad) = IsScheduleCause bytes (schedule.BadLine line bad)
 IsReasonFor Replay bytes (NotYet line) = IsShort bytes × IsUnservedAt bytes line
@@ -36,7 +37,7 @@ IsReasonFor Keyring bytes (BadKeyring line why) = IsShort bytes × IsBadKeyring 
 IsReasonFor command bytes _ = ⊥
 
 -- why these bytes are refused; want of memory is free
-abbrev pub IsBytesCause : Command → List ℕ → Status → Type 0
+abbrev pub IsBytesCause : Subcommand → List ℕ → Status → Type 0
 IsBytesCause command bytes OutOfMemory = Unit {0}
 IsBytesCause command bytes Done = ⊥
 IsBytesCause command bytes Usage = ⊥
@@ -49,14 +50,14 @@ IsBytesCause command bytes (NotYet line) = IsReasonFor command bytes (NotYet lin
 IsBytesCause command bytes (BadKeyring line why) = IsReasonFor command bytes (BadKeyring line why)
 
 -- the bytes are a schedule that is served, or a keyring, within the limits
-abbrev pub IsAnswered : Command → List ℕ → Type 0
+abbrev pub IsAnswered : Subcommand → List ℕ → Type 0
 IsAnswered Replay bytes = (script : List Numbered) × Lines bytes script × (first_unserved script ≡ None) × IsShort bytes
 IsAnswered Keyring bytes = (ring : List Entry) × KeyringText bytes ring × (length ring ≤ 4096) × IsShort bytes
 
 -- ---- the input
 
 -- the whole input was read, and must be refused with this status
-pub record IsRefused (command : Command) (left now : Option (List ℕ)) (status : Status) : Type 0 where
+pub record IsRefused (command : Subcommand) (left now : Option (List ℕ)) (status : Status) : Type 0 where
   pub bytes : List ℕ
   pub read : GaveAll left now bytes
   pub cause : IsReasonFor command bytes status
@@ -67,7 +68,7 @@ IsTooLong None now = Unit {0}
 IsTooLong (Some left) now = (IsShort left → ⊥) × (now ≡ Some (drop 1048577 left))
 
 -- why the input is refused: by a limit, or at a line. The other statuses don't speak of it
-abbrev pub IsRefusedStatus : Command → Option (List ℕ) → Option (List ℕ) → Status → Type 0
+abbrev pub IsRefusedStatus : Subcommand → Option (List ℕ) → Option (List ℕ) → Status → Type 0
 IsRefusedStatus command left now TooLong = IsTooLong left now
 IsRefusedStatus command left now (BadSchedule line bad) = IsRefused command left now (BadSchedule line bad)
 IsRefusedStatus command left now (NotYet line) = IsRefused command left now (NotYet line)
@@ -80,7 +81,7 @@ IsRefusedStatus command left now Broken = Unit {0}
 IsRefusedStatus command left now OutOfMemory = Unit {0}
 
 -- why there is no text for this input: the count of its faults rose, or it is refused; want of memory is free
-abbrev pub IsInputCause : Command → Option (List ℕ) → Option (List ℕ) → ℕ → ℕ → Status → Type 0
+abbrev pub IsInputCause : Subcommand → Option (List ℕ) → Option (List ℕ) → ℕ → ℕ → Status → Type 0
 IsInputCause command left now before after ReadFault = Rose before after
 IsInputCause command left now before after TooLong = IsTooLong left now
 IsInputCause command left now before after (BadSchedule line bad) = IsRefused command left now (BadSchedule line bad)
@@ -93,11 +94,11 @@ IsInputCause command left now before after WriteFault = ⊥
 IsInputCause command left now before after Broken = ⊥
 
 -- the source tells what it has, and that is a schedule or a keyring within the limits
-abbrev pub HasAnswer : Command → Option (List ℕ) → Type 0
+abbrev pub HasAnswer : Subcommand → Option (List ℕ) → Type 0
 HasAnswer command None = ⊥
 HasAnswer command (Some bytes) = IsAnswered command bytes
 
 -- the source tells what it has, and that must be refused with this status
-abbrev pub HasReason : Command → Option (List ℕ) → Status → Type 0
+abbrev pub HasReason : Subcommand → Option (List ℕ) → Status → Type 0
 HasReason command None why = ⊥
 HasReason command (Some bytes) why = IsReasonFor command bytes why

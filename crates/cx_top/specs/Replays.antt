@@ -2,7 +2,8 @@
 use Rattle.std.specs.Prelude.{ℕ, ◌≡◌, Bool, List, [], ◌++◌, Option, Some, None, is_some}
 use Rattle.cx_desk.specs.Handlers.{Handlers}
 use Rattle.cx_lines.specs.declared.lines.Numbered.{Numbered}
-use Rattle.cx_schedule.specs.Files.{Lines, IsShort}
+use Rattle.cx_schedule.specs.Files.{Lines}
+use Rattle.cx_words.specs.Cutting.{IsShort}
 use Rattle.cx_journal.specs.declared.entries.Entry.{Entry}
 use Rattle.cx_journal.specs.declared.premises.Broken.{Broken}
 use Rattle.cx_journal.specs.JournalText.{journal_text}

@@ -2,13 +2,13 @@
 
 ghost use Rattle.std.specs.Prelude.{◌≡◌, ◌≢◌, [], ◌∷◌, map, IsTrue, MatchOption, ◌↔◌};
 ghost use Rattle.cx_top.specs.Commands.{command_word};
-ghost use Rattle.cx_top.specs.declared.commands.Command.{Command};
+ghost use Rattle.cx_top.specs.declared.commands.Subcommand.{Subcommand};
 
 use cx_base::Blob;
 
 /// What the program does with its input.
 #[derive(Clone, Copy, Debug, PartialEq, Eq)]
-pub enum Command {
+pub enum Subcommand {
     /// Reads a schedule, and writes the journal of its run.
     Replay,
     /// Reads a keyring, and writes it in its printed form.
@@ -23,19 +23,19 @@ pub struct Made {
 }
 
 /// The command whose one word these words are.
-pub fn command_of(words: &[&str]) -> Option<Command>
+pub fn command_of(words: &[&str]) -> Option<Subcommand>
     ensures { MatchOption result
-        ((command : Command) → map (λ w. w.now) words.now ≢ command_word command ∷ [])
+        ((command : Subcommand) → map (λ w. w.now) words.now ≢ command_word command ∷ [])
         (λ command. map (λ w. w.now) words.now ≡ command_word command ∷ []) }
 {
     let [word] = words else {
         return None;
     };
     if is_word(word, "replay") {
-        return Some(Command::Replay);
+        return Some(Subcommand::Replay);
     }
     if is_word(word, "keyring") {
-        return Some(Command::Keyring);
+        return Some(Subcommand::Keyring);
     }
     None
 }

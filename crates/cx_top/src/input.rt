@@ -6,7 +6,7 @@ ghost use Rattle.cx_top.specs.Replays.{Gave, GaveAll};
 ghost use Rattle.cx_top.specs.Inputs.{IsUnread, IsUntaken};
 
 use cx_base::{Blob, Source};
-use cx_schedule::MOST_BYTES;
+use cx_words::MOST_BYTES;
 use std::alloc::{AllocError, Global};
 
 /// How many bytes are asked for at once.

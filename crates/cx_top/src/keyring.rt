@@ -4,13 +4,13 @@ ghost use Rattle.std.specs.Prelude.{◌≡◌, IfOk, IfErr, MatchResult};
 ghost use Rattle.cx_top.specs.Causes.{IsAnswered, IsBytesCause, IsReasonFor};
 ghost use Rattle.cx_top.specs.Commands.{Prints};
 ghost use Rattle.cx_top.specs.Statuses.{IsOrMemory};
-ghost use Rattle.cx_top.specs.declared.commands.Command.TheVariants.{Keyring};
+ghost use Rattle.cx_top.specs.declared.commands.Subcommand.TheVariants.{Keyring};
 ghost use Rattle.cx_top.specs.declared.status.Status.{Status};
 
 use crate::status::Status;
 use cx_base::Blob;
 use cx_keyring::{parse, print};
-use cx_schedule::is_short;
+use cx_words::is_short;
 use std::alloc::Global;
 
 /// The printed form of the keyring that these bytes are.

@@ -5,7 +5,7 @@ ghost use Rattle.cx_desk.specs.Held.{handlers_of};
 ghost use Rattle.cx_top.specs.Causes.{IsAnswered, IsBytesCause, IsReasonFor};
 ghost use Rattle.cx_top.specs.Commands.{Makes};
 ghost use Rattle.cx_top.specs.Statuses.{IsOrMemory};
-ghost use Rattle.cx_top.specs.declared.commands.Command.TheVariants.{Replay};
+ghost use Rattle.cx_top.specs.declared.commands.Subcommand.TheVariants.{Replay};
 ghost use Rattle.cx_top.specs.declared.status.Status.{Status};
 
 use crate::commands::Made;

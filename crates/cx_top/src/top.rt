@@ -6,10 +6,10 @@ ghost use Rattle.cx_desk.specs.Held.{handlers_of};
 ghost use Rattle.cx_top.specs.Causes.{HasAnswer, HasReason, IsAnswered, IsBytesCause, IsInputCause, IsReasonFor, IsRefusedStatus};
 ghost use Rattle.cx_top.specs.Commands.{command_word, Makes, MakesOfAll, Writes, WritesFront};
 ghost use Rattle.cx_top.specs.Statuses.{IsOrMemory, IsServed};
-ghost use Rattle.cx_top.specs.declared.commands.Command.{Command};
+ghost use Rattle.cx_top.specs.declared.commands.Subcommand.{Subcommand};
 ghost use Rattle.cx_top.specs.declared.status.Status.{Status};
 
-use crate::commands::{Command, Made, command_of};
+use crate::commands::{Subcommand, Made, command_of};
 use crate::input::read_all;
 use crate::keyring::printed;
 use crate::replay::replayed;
@@ -28,30 +28,30 @@ pub fn run<I: Source, O: Sink>(
     out: &mut O,
     desk: &Desk,
 ) -> Status
-    ensures usage { (result ≡ Status.Usage) ↔ ((command : Command) → map (λ w. w.now) words.now ≢ command_word command ∷ []) }
+    ensures usage { (result ≡ Status.Usage) ↔ ((command : Subcommand) → map (λ w. w.now) words.now ≢ command_word command ∷ []) }
 
     ensures read { result ≡ Status.ReadFault → Rose (I.faults input.old) (I.faults input.new) }
-    ensures refused { (command : Command) → map (λ w. w.now) words.now ≡ command_word command ∷ []
+    ensures refused { (command : Subcommand) → map (λ w. w.now) words.now ≡ command_word command ∷ []
         → IsRefusedStatus command (I.left input.old) (I.left input.new) result }
     ensures write { result ≡ Status.WriteFault → Rose (O.faults out.old) (O.faults out.new) }
 
-    ensures done { result ≡ Status.Done → (command : Command) → map (λ w. w.now) words.now ≡ command_word command ∷ []
+    ensures done { result ≡ Status.Done → (command : Subcommand) → map (λ w. w.now) words.now ≡ command_word command ∷ []
         → Writes (handlers_of desk.now) command false (I.left input.old) (I.left input.new) (O.taken out.old) (O.taken out.new) }
-    ensures broken { result ≡ Status.Broken → (command : Command) → map (λ w. w.now) words.now ≡ command_word command ∷ []
+    ensures broken { result ≡ Status.Broken → (command : Subcommand) → map (λ w. w.now) words.now ≡ command_word command ∷ []
         → Writes (handlers_of desk.now) command true (I.left input.old) (I.left input.new) (O.taken out.old) (O.taken out.new) }
-    ensures front { result ≡ Status.WriteFault → (command : Command) → map (λ w. w.now) words.now ≡ command_word command ∷ []
+    ensures front { result ≡ Status.WriteFault → (command : Subcommand) → map (λ w. w.now) words.now ≡ command_word command ∷ []
         → WritesFront (handlers_of desk.now) command (I.left input.old) (I.left input.new) (O.taken out.old) (O.taken out.new) }
     ensures untouched { result ≢ Status.Done → result ≢ Status.Broken → result ≢ Status.WriteFault → out.new ≡ out.old }
     ensures unread { result ≡ Status.Usage → input.new ≡ input.old }
 
     // A schedule or a keyring within the limits is served, where memory isn't wanting and no count of faults rose.
-    ensures complete { (command : Command) → map (λ w. w.now) words.now ≡ command_word command ∷ []
+    ensures complete { (command : Subcommand) → map (λ w. w.now) words.now ≡ command_word command ∷ []
         → HasAnswer command (I.left input.old)
         → ¬ Rose (I.faults input.old) (I.faults input.new) → ¬ Rose (O.faults out.old) (O.faults out.new)
         → IsServed result }
 
     // One that a limit or a line refuses is refused so.
-    ensures exact { (command : Command) (why : Status) → map (λ w. w.now) words.now ≡ command_word command ∷ []
+    ensures exact { (command : Subcommand) (why : Status) → map (λ w. w.now) words.now ≡ command_word command ∷ []
         → HasReason command (I.left input.old) why → ¬ Rose (I.faults input.old) (I.faults input.new)
         → IsOrMemory why result }
 
@@ -78,7 +78,7 @@ pub fn run<I: Source, O: Sink>(
 // What the command makes of this input.
 fn text_from<I: Source>(
     alloc: Global,
-    command: Command,
+    command: Subcommand,
     input: &mut I,
     desk: &Desk,
 ) -> Result<Made, Status>
@@ -96,15 +96,15 @@ fn text_from<I: Source>(
 }
 
 // What the command makes of these bytes.
-fn text_of(alloc: Global, command: Command, bytes: &[u8], desk: &Desk) -> Result<Made, Status>
+fn text_of(alloc: Global, command: Subcommand, bytes: &[u8], desk: &Desk) -> Result<Made, Status>
     ensures makes { IfOk result (λ made. Makes (handlers_of desk.now) command bytes.now made.is_broken made.text) }
     ensures cause { IfErr result (IsBytesCause command bytes.now) }
     ensures complete { IsAnswered command bytes.now → IfErr result (λ status. status ≡ Status.OutOfMemory) }
     ensures exact { (why : Status) → IsReasonFor command bytes.now why → MatchResult result (λ made. ⊥) (IsOrMemory why) }
 {
     match command {
-        Command::Replay => replayed(alloc, bytes, desk),
-        Command::Keyring => {
+        Subcommand::Replay => replayed(alloc, bytes, desk),
+        Subcommand::Keyring => {
             let text = printed(alloc, bytes)?;
             Ok(Made {
                 text,

@@ -1,3 +1,4 @@
+pub mod Counted
 pub mod FirstPlace
 pub mod Pieces
 pub mod NumberWords

@@ -4,11 +4,11 @@ use Rattle.std.specs.Prelude.{option_map, option_and_then}
 use Rattle.std.specs.List.{list_all, list_any, join_with_byte, position_from}
 use Rattle.std.proofs.lemmas.Bool.{and_parts, and_from, not-true}
 use Rattle.std.proofs.lemmas.Bool.Decides.{nat_tests, Decides-eqb}
-use Rattle.cx_base.specs.Names.{type_word}
+use Rattle.cx_base.specs.Names.{is_daemon_type, type_word}
 use Rattle.cx_base.specs.declared.kinds.EntityType.{EntityType}
 use Rattle.cx_base.specs.declared.kinds.EntityType.TheVariants.{Mon, Mds, Osd, Client, Mgr, Auth}
 use Rattle.cx_words.specs.Cutting.{onto_first}
-use Rattle.cx_words.specs.Words.{all_services, in_front, is_comma, is_service_list, is_ticket_service, pieces_of, repeats, services_of, services_word, ticket_service_of, without_repeats}
+use Rattle.cx_words.specs.Words.{all_services, in_front, is_comma, is_service_list, pieces_of, repeats, services_of, services_word, ticket_service_of, without_repeats}
 use Rattle.cx_words.proofs.NameWords.{ticket_service_of-is, ticket_service_of-word}
 use Rattle.cx_words.proofs.Pieces.{pieces_behind, pieces_alone, pieces_cut, pieces_whole}
 use Rattle.cx_words.proofs.FirstPlace.{take_rest}
@@ -56,7 +56,7 @@ join_pieces (b ∷ bs) = join_step b bs (is_comma b) refl (join_pieces bs)
 -- these words are those of these services
 record Read (words : List (List ℕ)) (kinds : List EntityType) : Type 0 where
   spelled : words ≡ map type_word kinds
-  asked : list_all is_ticket_service kinds ≡ true
+  asked : list_all is_daemon_type kinds ≡ true
 
 front_cases : (kind : Option EntityType) (rest : Option (List EntityType)) (kinds : List EntityType) → in_front kind rest ≡ Some kinds
     → (k : EntityType) × (ks : List EntityType) × (kind ≡ Some k) × (rest ≡ Some ks) × (k ∷ ks ≡ kinds)
@@ -68,14 +68,14 @@ all_is : (words : List (List ℕ)) (kinds : List EntityType) → all_services wo
 unfolding all_services
 all_is [] kinds e =
     let same : [] ≡ kinds = (let p : Some [] ≡ Some kinds = e in cc) in
-    record { spelled = ap (map type_word) same; asked = ap (list_all is_ticket_service) (sym same) }
+    record { spelled = ap (map type_word) same; asked = ap (list_all is_daemon_type) (sym same) }
 all_is (word ∷ words) kinds e =
     let parts = front_cases (ticket_service_of word) (all_services words) kinds e in
     let first = ticket_service_of-is word parts.0 parts.2 in
     let rest = all_is words parts.1 parts.3 in
     record {
       spelled = ap (λ w. w ∷ words) first.1 ∙ ap (λ ws. type_word parts.0 ∷ ws) rest.spelled ∙ ap (map type_word) parts.4;
-      asked = ap (list_all is_ticket_service) (sym parts.4) ∙ and_from (is_ticket_service parts.0) (list_all is_ticket_service parts.1) first.0 rest.asked;
+      asked = ap (list_all is_daemon_type) (sym parts.4) ∙ and_from (is_daemon_type parts.0) (list_all is_daemon_type parts.1) first.0 rest.asked;
     }
 
 some_kinds : (words : List (List ℕ)) (kinds : List EntityType) → words ≡ map type_word kinds → 0 < length words → nat_le 1 (length kinds) ≡ true
@@ -120,18 +120,18 @@ pieces_joined kind (next ∷ kinds) =
     pieces_behind (type_word kind) 44 (services_word (next ∷ kinds)) (no_comma kind) refl
     ∙ ap (λ ws. type_word kind ∷ ws) (pieces_joined next kinds)
 
-all_read : (kinds : List EntityType) → list_all is_ticket_service kinds ≡ true → all_services (map type_word kinds) ≡ Some kinds
+all_read : (kinds : List EntityType) → list_all is_daemon_type kinds ≡ true → all_services (map type_word kinds) ≡ Some kinds
 unfolding all_services
 all_read [] h = refl
 all_read (kind ∷ kinds) h =
-    let parts = and_parts (is_ticket_service kind) (list_all is_ticket_service kinds) h in
+    let parts = and_parts (is_daemon_type kind) (list_all is_daemon_type kinds) h in
     rw (ticket_service_of-word kind parts.0, all_read kinds parts.1) refl
 
 pub services_of-word : (kinds : List EntityType) → IsTrue (is_service_list kinds) → services_of (services_word kinds) ≡ Some kinds
 unfolding services_of
 services_of-word [] h = absurd (let p : false ≡ true = h in cc)
 services_of-word (kind ∷ kinds) h =
-    let all : list_all is_ticket_service (kind ∷ kinds) ≡ true = (and_parts _ _ ((and_parts _ _ h).0)).1 in
+    let all : list_all is_daemon_type (kind ∷ kinds) ≡ true = (and_parts _ _ ((and_parts _ _ h).0)).1 in
     let once : repeats (kind ∷ kinds) ≡ false = not-true (repeats (kind ∷ kinds)) ((and_parts _ _ h).1) in
     ap (option_and_then without_repeats) (ap all_services (pieces_joined kind kinds) ∙ all_read (kind ∷ kinds) all)
     ∙ ap (λ t. cond t None (Some (kind ∷ kinds))) once

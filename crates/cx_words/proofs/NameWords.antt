@@ -5,12 +5,12 @@ use Rattle.std.specs.List.{position_from, position}
 use Rattle.std.proofs.lemmas.Bool.Decides.{nat_tests}
 use Rattle.std.proofs.lemmas.Slice.Eq.{bytes_eq-Decides}
 use Rattle.cx_base.specs.Joined.{◌<>◌}
-use Rattle.cx_base.specs.Names.{Name, access_word, is_id, name_text, type_word, with_id}
+use Rattle.cx_base.specs.Names.{Name, access_word, is_daemon_type, is_id, name_text, type_word, with_id}
 use Rattle.cx_base.specs.declared.kinds.EntityType.{EntityType}
 use Rattle.cx_base.specs.declared.kinds.EntityType.TheVariants.{Mon, Mds, Osd, Client, Mgr, Auth}
 use Rattle.cx_base.specs.declared.kinds.Access.{Access}
 use Rattle.cx_base.specs.declared.kinds.Access.TheVariants.{Read, Write, Exec}
-use Rattle.cx_words.specs.Words.{access_of, is_access_word, is_point, is_service, is_ticket_service, is_type_word, kept, name_at, name_of, service_of, ticket_service_of, type_of}
+use Rattle.cx_words.specs.Words.{access_of, is_access_word, is_point, is_service, is_type_word, kept, name_at, name_of, service_of, ticket_service_of, type_of}
 use Rattle.cx_base.specs.Owners.{is_above_ascii}
 use Rattle.cx_base.proofs.AsciiTexts.{ascii_id}
 use Rattle.cx_words.proofs.FirstPlace.{cut, take_rest}
@@ -65,11 +65,11 @@ unfolding service_of
 service_of-word kind h = rw (type_of-word kind, h) refl
 
 pub ticket_service_of-is : (word : List ℕ) (kind : EntityType) → ticket_service_of word ≡ Some kind
-    → IsTrue (is_ticket_service kind) × (word ≡ type_word kind)
+    → IsTrue (is_daemon_type kind) × (word ≡ type_word kind)
 unfolding ticket_service_of
-ticket_service_of-is word kind e = kept_is is_ticket_service word kind (type_of word) refl e
+ticket_service_of-is word kind e = kept_is is_daemon_type word kind (type_of word) refl e
 
-pub ticket_service_of-word : (kind : EntityType) → IsTrue (is_ticket_service kind) → ticket_service_of (type_word kind) ≡ Some kind
+pub ticket_service_of-word : (kind : EntityType) → IsTrue (is_daemon_type kind) → ticket_service_of (type_word kind) ≡ Some kind
 unfolding ticket_service_of
 ticket_service_of-word kind h = rw (type_of-word kind, h) refl
 
@@ -141,7 +141,7 @@ service_spelled word None e = tt
 service_spelled word (Some kind) e = service_of-is word kind (sym e)
 
 pub ticket_service_spelled : (word : List ℕ) (read : Option EntityType) → read ≡ ticket_service_of word
-    → IfSome read (λ kind. IsTrue (is_ticket_service kind) × (word ≡ type_word kind))
+    → IfSome read (λ kind. IsTrue (is_daemon_type kind) × (word ≡ type_word kind))
 ticket_service_spelled word None e = tt
 ticket_service_spelled word (Some kind) e = ticket_service_of-is word kind (sym e)
 

@@ -1,5 +1,5 @@
 -- How a file is cut into lines, and a line into words.
-use Rattle.std.specs.Prelude.{ℕ, ◌==◌, Bool, true, false, List, [], ◌∷◌, not, ◌&&◌, if◌then◌else◌}
+use Rattle.std.specs.Prelude.{ℕ, ◌==◌, Bool, true, false, List, [], ◌∷◌, length, ◌≤◌, not, ◌&&◌, if◌then◌else◌}
 use Rattle.std.specs.List.{list_any}
 
 -- a byte in front of the first of some pieces
@@ -15,6 +15,10 @@ is_line_end b = b == 10
 unfoldable pub lines_of : List ℕ → List (List ℕ)
 lines_of [] = []
 lines_of (b ∷ bs) = if is_line_end b then [] ∷ lines_of bs else onto_first b (lines_of bs)
+
+-- a text file isn't too long: at most 1,048,576 bytes, and 20,000 lines
+abbrev pub IsShort : List ℕ → Type 0
+IsShort bytes = (length bytes ≤ 1048576) × (length (lines_of bytes) ≤ 20000)
 
 -- an empty line, or a comment, which begins with '#' (35)
 abbrev pub is_skipped : List ℕ → Bool

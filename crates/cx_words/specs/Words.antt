@@ -7,7 +7,7 @@ use Rattle.std.specs.Str.Parse.{digits_value}
 use Rattle.hex.specs.Hex.{decode_of, encode_lower, hex_digit_value}
 use Rattle.hex.specs.declared.error.FromHexError.{FromHexError}
 use Rattle.cx_base.specs.Joined.{◌<>◌}
-use Rattle.cx_base.specs.Names.{Name, with_id, type_word, access_word, same_kind}
+use Rattle.cx_base.specs.Names.{Name, with_id, is_daemon_type, type_word, access_word, same_kind}
 use Rattle.cx_base.specs.Texts.{is_caps, is_long_part}
 use Rattle.cx_base.specs.declared.kinds.EntityType.{EntityType}
 use Rattle.cx_base.specs.declared.kinds.EntityType.TheVariants.{Mon, Mds, Osd, Client, Mgr, Auth}
@@ -102,17 +102,9 @@ is_service Auth = false
 unfoldable pub service_of : List ℕ → Option EntityType
 service_of word = kept is_service (type_of word)
 
--- a type of daemons for which a client may ask tickets: mds, osd or mgr
-abbrev pub is_ticket_service : EntityType → Bool
-is_ticket_service Mon = false
-is_ticket_service Mds = true
-is_ticket_service Osd = true
-is_ticket_service Client = false
-is_ticket_service Mgr = true
-is_ticket_service Auth = false
-
+-- the service of a word for which a client may ask tickets: a type of daemons
 unfoldable pub ticket_service_of : List ℕ → Option EntityType
-ticket_service_of word = kept is_ticket_service (type_of word)
+ticket_service_of word = kept is_daemon_type (type_of word)
 
 -- whether the word is this access's
 abbrev pub is_access_word : List ℕ → Access → Bool
@@ -170,7 +162,7 @@ services_of word = option_and_then without_repeats (all_services (pieces_of word
 
 -- one service or more of which a client may ask tickets, each once
 abbrev pub is_service_list : List EntityType → Bool
-is_service_list kinds = nat_le 1 (length kinds) && list_all is_ticket_service kinds && not (repeats kinds)
+is_service_list kinds = nat_le 1 (length kinds) && list_all is_daemon_type kinds && not (repeats kinds)
 
 -- the word of such a list
 abbrev pub services_word : List EntityType → List ℕ

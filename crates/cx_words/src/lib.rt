@@ -4,6 +4,7 @@
 
 mod cut;
 mod laws;
+mod limits;
 mod lists;
 mod named;
 mod numbers;
@@ -11,6 +12,7 @@ mod texts;
 
 pub use cut::{first_line, is_skipped, is_word, words};
 pub use laws::word_laws;
+pub use limits::{MOST_BYTES, is_short};
 pub use lists::services;
 pub use named::{access, name, service, ticket_service};
 pub use numbers::{number, reading};

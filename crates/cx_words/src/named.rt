@@ -2,9 +2,9 @@
 
 ghost use Rattle.std.specs.Prelude.{◌≡◌, false, IfOk, IfSome, IsTrue, None, option_map};
 ghost use Rattle.std.specs.List.{position};
-ghost use Rattle.cx_base.specs.Names.{access_word, is_id, name_text, type_word, with_id};
+ghost use Rattle.cx_base.specs.Names.{access_word, is_daemon_type, is_id, name_text, type_word, with_id};
 ghost use Rattle.cx_base.specs.Owners.{is_above_ascii};
-ghost use Rattle.cx_words.specs.Words.{access_of, is_service, is_ticket_service, name_of, service_of, ticket_service_of, type_of};
+ghost use Rattle.cx_words.specs.Words.{access_of, is_service, name_of, service_of, ticket_service_of, type_of};
 
 use crate::cut::is_word;
 use crate::numbers::point;
@@ -58,22 +58,13 @@ fn is_service(kind: EntityType) -> bool
 /// The service, `mds`, `osd` or `mgr`, that the word names: those of which a client may ask tickets.
 pub fn ticket_service(word: &[u8]) -> Option<EntityType>
     ensures read { result ≡ ticket_service_of word.now }
-    ensures spelled { IfSome result (λ kind. IsTrue (is_ticket_service kind) × (word.now ≡ type_word kind)) }
+    ensures spelled { IfSome result (λ kind. IsTrue (is_daemon_type kind) × (word.now ≡ type_word kind)) }
 {
     let kind = type_of(word)?;
-    if is_ticket_service(kind) {
+    if kind.is_daemon() {
         Some(kind)
     } else {
         None
-    }
-}
-
-fn is_ticket_service(kind: EntityType) -> bool
-    ensures { result ≡ is_ticket_service kind }
-{
-    match kind {
-        EntityType::Mds | EntityType::Osd | EntityType::Mgr => true,
-        EntityType::Mon | EntityType::Client | EntityType::Auth => false,
     }
 }
 

@@ -3,7 +3,7 @@ use Rattle.std.proofs.Common.{◌≡◌, ℕ, suc, Bool, true, false, List, [], 
 use Rattle.std.specs.Prelude.{if◌then◌else◌}
 use Rattle.std.specs.Option.{option_map}
 use Rattle.std.proofs.lemmas.Option.{none-some, same_Some}
-use Rattle.cx_journal.specs.declared.node_names.NodeName.{NodeName}
+use Rattle.cx_base.specs.declared.nodes.NodeName.{NodeName}
 use Rattle.cx_line_words.specs.declared.choices.Side.{Side}
 use Rattle.cx_line_words.specs.declared.choices.Side.TheVariants.{Connector, Acceptor}
 use Rattle.cx_rules.specs.Inputs.{Opened}

@@ -4,9 +4,9 @@ use Rattle.std.specs.Prelude.{◌==◌, ◌||◌, not}
 use Rattle.std.proofs.lemmas.Bool.Decides.{nat_tests}
 use Rattle.std.proofs.lemmas.List.{map-append}
 use Rattle.cx_journal.specs.declared.entries.Entry.{Entry}
-use Rattle.cx_journal.specs.declared.node_names.NodeName.{NodeName}
+use Rattle.cx_base.specs.declared.nodes.NodeName.{NodeName}
 use Rattle.cx_run_nodes.proofs.Keyed.{key_found, same_node_is}
-use Rattle.cx_run_nodes.specs.Held.{IsGiven, is_seated}
+use Rattle.cx_run_nodes.specs.Held.{IsGiven, is_posted}
 use Rattle.cx_run_nodes.specs.declared.made.Made.{Made}
 use Rattle.cx_run_nodes.specs.declared.nodes.Nodes.{Nodes as HeldNodes}
 use Rattle.cx_premises.specs.Ledgers.{StandsFor}
@@ -14,7 +14,7 @@ use Rattle.cx_rules.specs.Inputs.{Input}
 use Rattle.cx_run.specs.Deliveries.{Given, given, gives}
 use Rattle.cx_run.specs.Happenings.{Entered, Happening, Nodes, Stepped, entered_by, journal_from, logged_by, nodes_behind, seals_from, steps}
 use Rattle.cx_run.specs.Wires.{same_node}
-use Rattle.cx_run.specs.Worlds.{Seat, World, happened, happening, seat_of}
+use Rattle.cx_run.specs.Worlds.{Post, World, happened, happening, post_of}
 use Rattle.cx_steps.specs.Nothing.{nothing}
 use Rattle.cx_steps.specs.declared.effects.Effects.{Effects}
 use Rattle.cx_steps.specs.declared.seals.Logged.{Logged}
@@ -86,10 +86,10 @@ module _ (b : Began) (seen : Option ℕ) (old new : Held) (nodes : HeldNodes) (w
         failed = g.failed;
       }
 
-  something_came : (seat : Seat) → seat_of who w.seats ≡ Some seat → IsGiven nodes made (Some seat) (given w input (Some seat)) → IsGivenTo b seen new made (given w input (Some seat))
-  something_came seat found g =
-      let h : Happening = happening w input seat in
-      let named : seat.node ≡ who = same_node_is seat.node who (key_found (λ (s : Seat). s.node) same_node w.seats who seat found) in
+  something_came : (post : Post) → post_of who w.posts ≡ Some post → IsGiven nodes made (Some post) (given w input (Some post)) → IsGivenTo b seen new made (given w input (Some post))
+  something_came post found g =
+      let h : Happening = happening w input post in
+      let named : post.node ≡ who = same_node_is post.node who (key_found (λ (s : Post). s.node) same_node w.posts who post found) in
       let happens : made.happened ≡ true = g.happened in
       let out : made.out ≡ (steps w.nodes h).out = g.out in
       let start : steps w.nodes h ≡ steps (nodes_behind b.nodes w.past) h = ap (λ (n : Nodes). steps n h) k.led in
@@ -99,8 +99,8 @@ module _ (b : Began) (seen : Option ℕ) (old new : Held) (nodes : HeldNodes) (w
       let logged : SealEntry → Logged = λ e. logged_at who old.line e in
       let logs : map logged made.out.seals ≡ logged_by h (steps (nodes_behind b.nodes w.past) h).out =
       ap (λ (n : NodeName). map (λ (e : SealEntry). logged_at n old.line e) made.out.seals) (sym named)
-      ∙ ap (λ (l : ℕ). map (λ (e : SealEntry). logged_at seat.node l e) made.out.seals) line
-      ∙ ap (λ (o : Effects). map (λ (e : SealEntry). logged_at seat.node w.line e) o.seals) (out ∙ ap (λ (s : Stepped). s.out) start) in
+      ∙ ap (λ (l : ℕ). map (λ (e : SealEntry). logged_at post.node l e) made.out.seals) line
+      ∙ ap (λ (o : Effects). map (λ (e : SealEntry). logged_at post.node w.line e) o.seals) (out ∙ ap (λ (s : Stepped). s.out) start) in
       let P : List Logged → Type 0 = StandsFor new.told.ledger b.leaked in
       let log : List Logged = b.log ++ seals_from b.nodes w.past in
       record {
@@ -125,9 +125,9 @@ module _ (b : Began) (seen : Option ℕ) (old new : Held) (nodes : HeldNodes) (w
         failed = g.failed;
       }
 
-  pub given_to : IsGiven nodes made (seat_of who w.seats) (gives w who input) → IsGivenTo b seen new made (gives w who input)
-  given_to g = by (seat_of who w.seats) refl g
+  pub given_to : IsGiven nodes made (post_of who w.posts) (gives w who input) → IsGivenTo b seen new made (gives w who input)
+  given_to g = by (post_of who w.posts) refl g
     where
-      by : (seat : Option Seat) → seat_of who w.seats ≡ seat → IsGiven nodes made seat (given w input seat) → IsGivenTo b seen new made (given w input seat)
+      by : (post : Option Post) → post_of who w.posts ≡ post → IsGiven nodes made post (given w input post) → IsGivenTo b seen new made (given w input post)
       by None e g = nothing_came g
-      by (Some seat) e g = something_came seat e g
+      by (Some post) e g = something_came post e g

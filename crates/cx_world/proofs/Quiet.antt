@@ -3,8 +3,8 @@ use Rattle.std.proofs.Common.{◌≡◌, ℕ, ◌+◌, ◌<◌, Bool, true, fals
 use Rattle.std.proofs.lemmas.List.{length-append, length-map, take_more}
 use Rattle.cx_world.specs.Events.{opens_to}
 use Rattle.cx_base.specs.Names.{Name}
-use Rattle.cx_journal.specs.declared.node_names.NodeName.{NodeName}
-use Rattle.cx_journal.specs.declared.node_names.NodeName.TheVariants as node
+use Rattle.cx_base.specs.declared.nodes.NodeName.{NodeName}
+use Rattle.cx_base.specs.declared.nodes.NodeName.TheVariants as node
 use Rattle.cx_line_words.specs.declared.choices.LeftState.{LeftState}
 use Rattle.cx_rules.specs.ClientRule.{ClientNode, client_rule, loses}
 use Rattle.cx_rules.specs.Connector.{Stage}
@@ -14,7 +14,7 @@ use Rattle.cx_rules.specs.MonitorRule.{monitor_rule}
 use Rattle.cx_run.specs.Deliveries.{given, gives, open_all, opens, tells}
 use Rattle.cx_run.specs.Happenings.{Happening, Nodes, client_of, client_steps, monitor_steps, steps, steps_of}
 use Rattle.cx_run.specs.Wires.{Wire, gone_at, new_wire, sent_from, side_of, wire_of, with_wire}
-use Rattle.cx_run.specs.Worlds.{Seat, World, carried, happening, node_of, opened_wires, seat_of, sends_all, sends_piece, shuts_all, shuts_link}
+use Rattle.cx_run.specs.Worlds.{Post, World, carried, happening, node_of, opened_wires, post_of, sends_all, sends_piece, shuts_all, shuts_link}
 use Rattle.cx_steps.specs.declared.effects.Effects.{Effects}
 use Rattle.cx_steps.specs.declared.effects.Piece.{Piece}
 use Rattle.cx_steps.specs.declared.events.Peer.{Peer}
@@ -48,14 +48,14 @@ quiet_at : (nodes : Nodes) (h : Happening) (number : ℕ) → h.input ≡ Gone n
 quiet_at nodes h number e node.Monitor = monitor_quiet nodes h number e
 quiet_at nodes h number e (node.Entity name) = client_quiet nodes h name number e (client_of name nodes)
 
-quiet_given : (w : World) (number : ℕ) (seat : Option Seat) → IsQuiet (given w (Gone number) seat).out × ((given w (Gone number) seat).world.wires ≡ w.wires)
+quiet_given : (w : World) (number : ℕ) (post : Option Post) → IsQuiet (given w (Gone number) post).out × ((given w (Gone number) post).world.wires ≡ w.wires)
 quiet_given w number None = ((refl, refl), refl)
-quiet_given w number (Some seat) = (quiet_at w.nodes (happening w (Gone number) seat) number refl seat.node, refl)
+quiet_given w number (Some post) = (quiet_at w.nodes (happening w (Gone number) post) number refl post.node, refl)
 
 pub gone_moves_none : (w : World) (who : NodeName) (number : ℕ) → (tells w who (Gone number)).wires ≡ w.wires
 gone_moves_none w who number =
     let g = gives w who (Gone number) in
-    let q = quiet_given w number (seat_of who w.seats) in
+    let q = quiet_given w number (post_of who w.posts) in
     ap (λ (ns : List ℕ). shuts_all who (sends_all who g.world.wires g.out.sends) ns) q.0.1
     ∙ ap (λ (ps : List Piece). sends_all who g.world.wires ps) q.0.0 ∙ q.1
 
@@ -80,14 +80,14 @@ shuts_count : (who : NodeName) (wires : List Wire) (numbers : List ℕ) → leng
 shuts_count who wires [] = refl
 shuts_count who wires (number ∷ numbers) = shuts_count who (shuts_link who wires (wire_of number wires)) numbers ∙ link_count who wires (wire_of number wires)
 
-given_wires : (w : World) (input : Input) (seat : Option Seat) → (given w input seat).world.wires ≡ w.wires
+given_wires : (w : World) (input : Input) (post : Option Post) → (given w input post).world.wires ≡ w.wires
 given_wires w input None = refl
-given_wires w input (Some seat) = refl
+given_wires w input (Some post) = refl
 
 pub tells_count : (w : World) (who : NodeName) (input : Input) → length (tells w who input).wires ≡ length w.wires
 tells_count w who input =
     let g = gives w who input in
-    shuts_count who (sends_all who g.world.wires g.out.sends) g.out.shuts ∙ sends_count who g.world.wires g.out.sends ∙ ap (λ (ws : List Wire). length ws) (given_wires w input (seat_of who w.seats))
+    shuts_count who (sends_all who g.world.wires g.out.sends) g.out.shuts ∙ sends_count who g.world.wires g.out.sends ∙ ap (λ (ws : List Wire). length ws) (given_wires w input (post_of who w.posts))
 
 opens_count : (w : World) (wire : Wire) (to : Peer) → length (opens w wire to).wires ≡ suc (length w.wires)
 opens_count w wire to =

@@ -9,7 +9,7 @@ use Rattle.cx_lines.specs.declared.lines.Numbered.{Numbered}
 use Rattle.cx_run_nodes.specs.Held.{StandFor}
 use Rattle.cx_premises.specs.Ledgers.{StandsFor}
 use Rattle.cx_run.specs.Happenings.{Entered, journal_from}
-use Rattle.cx_run.specs.Opening.{Setup, leaks_entered, nodes_of, opening_world, seats_of}
+use Rattle.cx_run.specs.Opening.{Setup, leaks_entered, nodes_of, opening_world, posts_of}
 use Rattle.cx_run.specs.Runs.{IsFoundOf, run_journal, setup_of, trace}
 use Rattle.cx_run.specs.Schedules.{after_line, after_lines}
 use Rattle.cx_run.specs.Worlds.{World}
@@ -30,7 +30,7 @@ recorded b told journal ledger = record {
   ledger = rw (append-nil b.log) ledger;
 }
 
-pub begun : (setup : Setup) (world : Held) → StandFor world.nodes (nodes_of setup) (seats_of setup) → world.wires ≡ [] → world.left ≡ None → world.line ≡ 0
+pub begun : (setup : Setup) (world : Held) → StandFor world.nodes (nodes_of setup) (posts_of setup) → world.wires ≡ [] → world.left ≡ None → world.line ≡ 0
     → IsRecord (began setup) world.told [] → Carries (began setup) None world (opening_world setup)
 begun setup world nodes wires left line told = record {
   nodes = nodes;

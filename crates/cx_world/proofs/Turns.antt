@@ -1,6 +1,6 @@
 -- A node that is turned until it handles nothing of what came on a link.
 use Rattle.std.proofs.Common.{◌≡◌, ℕ, ◌<◌, ◌≤◌, true, false, List, length, Option, refl, sym, ◌∙◌, subst, arith}
-use Rattle.cx_journal.specs.declared.node_names.NodeName.{NodeName}
+use Rattle.cx_base.specs.declared.nodes.NodeName.{NodeName}
 use Rattle.cx_rules.specs.Inputs.{Turn}
 use Rattle.cx_run.specs.Deliveries.{Given, came_at, followed, gives, turns}
 use Rattle.cx_run.specs.Worlds.{World as RunWorld}

@@ -1,6 +1,6 @@
 -- What arrives at the end of a link, as it was seen before.
 use Rattle.std.specs.Prelude.{ℕ, Bool, false, List, Option, Some, None, if◌then◌else◌}
-use Rattle.cx_journal.specs.declared.node_names.NodeName.{NodeName}
+use Rattle.cx_base.specs.declared.nodes.NodeName.{NodeName}
 use Rattle.cx_line_words.specs.declared.choices.Side.{Side}
 use Rattle.cx_run.specs.Deliveries.{came_at, gone_arrives, turns}
 use Rattle.cx_run.specs.Wires.{Wire, owes_gone}

@@ -2,7 +2,7 @@
 use Rattle.std.specs.Prelude.{ℕ, ◌≡◌, ◌≤◌, ◌==◌, ◌||◌, not, Bool, List, ◌++◌, length, map, Option, Some, None}
 use Rattle.cx_base.specs.Names.{Name}
 use Rattle.cx_journal.specs.declared.entries.Entry.{Entry}
-use Rattle.cx_journal.specs.declared.node_names.NodeName.{NodeName}
+use Rattle.cx_base.specs.declared.nodes.NodeName.{NodeName}
 use Rattle.cx_run_nodes.specs.Held.{StandFor}
 use Rattle.cx_run_nodes.specs.declared.made.Made.{Made}
 use Rattle.cx_premises.specs.Ledgers.{StandsFor}
@@ -34,7 +34,7 @@ HasStirred stirred (Some seen) past = (seen ≤ length past) × (stirred ≡ not
 
 -- the code carries this world of a run that began so, and tells whether something happened since there were so many events
 pub record Carries (b : Began) (seen : Option ℕ) (held : Held) (w : World) : Type 0 where
-  pub nodes : StandFor held.nodes w.nodes w.seats
+  pub nodes : StandFor held.nodes w.nodes w.posts
   pub led : w.nodes ≡ nodes_behind b.nodes w.past
   pub wires : held.wires ≡ w.wires
   pub left : held.left ≡ w.left

@@ -1,6 +1,6 @@
 -- The end of a link, as it is told of what comes.
 use Rattle.std.specs.Prelude.{ℕ, Bool, List, if◌then◌else◌}
-use Rattle.cx_journal.specs.declared.node_names.NodeName.{NodeName}
+use Rattle.cx_base.specs.declared.nodes.NodeName.{NodeName}
 use Rattle.cx_line_words.specs.declared.choices.Side.{Side}
 use Rattle.cx_rules.specs.Inputs.{Gone}
 use Rattle.cx_run.specs.Deliveries.{arrives, tells}

@@ -10,7 +10,7 @@ ghost use Rattle.cx_world.specs.Ends.{arrives_end};
 
 use crate::ends::{LinkEnd, end_at};
 use crate::world::World;
-use cx_journal::NodeName;
+use cx_base::NodeName;
 use cx_line_words::Side;
 use cx_run_links::{Wires, other};
 use cx_steps::Event;

@@ -5,8 +5,7 @@ ghost use Rattle.std.specs.Option.{option_map};
 ghost use Rattle.cx_run.specs.Wires.{wire_of};
 ghost use Rattle.cx_world.specs.Ends.{end_seen};
 
-use cx_base::Duplicate;
-use cx_journal::NodeName;
+use cx_base::{Duplicate, NodeName};
 use cx_line_words::Side;
 use cx_run_links::Wires;
 use std::alloc::{AllocError, Global};

@@ -12,8 +12,7 @@ ghost use Rattle.cx_world.specs.Events.{far_seen, opens_to, vanished, vanished_a
 
 use crate::ends::{LinkEnd, end_at};
 use crate::world::World;
-use cx_base::Duplicate;
-use cx_journal::NodeName;
+use cx_base::{Duplicate, NodeName};
 use cx_line_words::Side;
 use cx_run_links::{Wire, Wires, peer_node, same_node};
 use cx_run_nodes::Made;

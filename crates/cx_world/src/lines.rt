@@ -2,18 +2,17 @@
 
 ghost use Rattle.std.specs.Prelude.{◌≡◌, ℕ, Option, IfOk, IsTrue, OnOk};
 ghost use Rattle.cx_rules.specs.Inputs.{Submit};
-ghost use Rattle.cx_journal.specs.declared.node_names.NodeName.TheVariants as node;
+ghost use Rattle.cx_base.specs.declared.nodes.NodeName.TheVariants as node;
 ghost use Rattle.cx_lines.specs.Lines.{is_in_range, is_numbered_in_range};
-ghost use Rattle.cx_lines.specs.declared.commands.Command.TheVariants as command;
+ghost use Rattle.cx_lines.specs.declared.commands.LineCommand.TheVariants as command;
 ghost use Rattle.cx_run.specs.Schedules.{acts_on, after_line, services_sum, submits, submitted};
 ghost use Rattle.cx_run.specs.Worlds.{World as RunWorld};
 ghost use Rattle.cx_world.specs.Carried.{Began, Carries, Makes, MakesAlone};
 
 use crate::world::World;
-use cx_base::{Duplicate, EntityName, EntityType};
+use cx_base::{Duplicate, EntityName, EntityType, NodeName};
 use cx_enc::number_of;
-use cx_journal::NodeName;
-use cx_lines::{Command, Line, Numbered};
+use cx_lines::{LineCommand, Line, Numbered};
 use cx_steps::{Command as Told, Event};
 use std::alloc::{AllocError, Global};
 
@@ -47,31 +46,31 @@ impl World {
     }
 
     /// A client logs in; the other commands do nothing yet.
-    fn submit(&mut self, alloc: Global, command: &Command) -> Result<(), AllocError>
+    fn submit(&mut self, alloc: Global, command: &LineCommand) -> Result<(), AllocError>
         ensures { OnOk result (Makes self.old self.new (λ w. submitted w command.now)) }
     {
         match command {
-            Command::Login(client, services) => self.login(alloc, client, services.all()),
-            Command::Fetch(_) => Ok(()),
-            Command::Renew(_, _) => Ok(()),
-            Command::Connect(_, _, _) => Ok(()),
-            Command::Send(_, _, _) => Ok(()),
+            LineCommand::Login(client, services) => self.login(alloc, client, services.all()),
+            LineCommand::Fetch(_) => Ok(()),
+            LineCommand::Renew(_, _) => Ok(()),
+            LineCommand::Connect(_, _, _) => Ok(()),
+            LineCommand::Send(_, _, _) => Ok(()),
         }
     }
 
     /// The same, and then all settles.
-    fn submit_and_settle(&mut self, alloc: Global, command: &Command) -> Result<(), AllocError>
+    fn submit_and_settle(&mut self, alloc: Global, command: &LineCommand) -> Result<(), AllocError>
         ensures { OnOk result (MakesAlone self.old self.new (λ w. submits w command.now)) }
     {
         match command {
-            Command::Login(client, services) => {
+            LineCommand::Login(client, services) => {
                 self.login(alloc, client, services.all())?;
                 self.settle(alloc)
             }
-            Command::Fetch(_) => Ok(()),
-            Command::Renew(_, _) => Ok(()),
-            Command::Connect(_, _, _) => Ok(()),
-            Command::Send(_, _, _) => Ok(()),
+            LineCommand::Fetch(_) => Ok(()),
+            LineCommand::Renew(_, _) => Ok(()),
+            LineCommand::Connect(_, _, _) => Ok(()),
+            LineCommand::Send(_, _, _) => Ok(()),
         }
     }
 

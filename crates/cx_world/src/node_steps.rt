@@ -1,32 +1,17 @@
 //! What a line does to clocks, nodes and saves.
 
-ghost use Rattle.std.specs.Prelude.{◌≡◌, ◌<◌, ℕ, Option, Some, IfOk, IsTrue, OnOk};
+ghost use Rattle.std.specs.Prelude.{◌<◌, Some, IsTrue, OnOk};
 ghost use Rattle.cx_lines.specs.Lines.{is_in_range};
 ghost use Rattle.cx_lines.specs.declared.lines.Line.TheVariants as line;
-ghost use Rattle.cx_run.specs.Schedules.{all_read, node_in, on_node, one_reads};
-ghost use Rattle.cx_run.specs.Deliveries.{restarts};
+ghost use Rattle.cx_run.specs.Schedules.{all_read, on_node, one_reads};
 ghost use Rattle.cx_run.specs.Worlds.{World as RunWorld};
-ghost use Rattle.cx_world.specs.Carried.{Began, Carries, Makes, MakesAlone};
+ghost use Rattle.cx_world.specs.Carried.{Makes, MakesAlone};
 
 use crate::world::World;
-use cx_base::{Duplicate, Reading};
-use cx_journal::NodeName;
-use cx_line_words::{LeftState, Node};
+use cx_base::{NodeName, Reading};
+use cx_line_words::LeftState;
 use cx_lines::NodeStep;
 use std::alloc::{AllocError, Global};
-
-// The node that a line names.
-fn node_in(alloc: Global, node: &Node) -> Result<NodeName, AllocError>
-    ensures { IfOk result (λ who. who ≡ node_in node.now) }
-{
-    match node {
-        Node::Monitor => Ok(NodeName::Monitor),
-        Node::Entity(name) => {
-            let copied = name.copy(alloc)?;
-            Ok(NodeName::Entity(copied))
-        }
-    }
-}
 
 impl World {
     /// All clocks read this from here on.
@@ -38,21 +23,11 @@ impl World {
     }
 
     /// The clock of one node reads this from here on.
-    fn set_clock(&mut self, alloc: Global, who: &Node, reading: Reading) -> Result<(), AllocError>
+    fn set_clock(&mut self, who: &NodeName, reading: Reading)
         requires { reading < 4000000000000000000 }
-        ensures { OnOk result (Makes self.old self.new (one_reads (node_in who.now) reading)) }
+        ensures { Makes self.old self.new (one_reads who.now reading) }
     {
-        let node = node_in(alloc, who)?;
-        self.nodes.read_one(&node, reading);
-        Ok(())
-    }
-
-    /// A node starts again.
-    fn restart_node(&mut self, alloc: Global, who: &Node) -> Result<(), AllocError>
-        ensures { OnOk result (Makes self.old self.new (λ w. restarts w (node_in who.now))) }
-    {
-        let node = node_in(alloc, who)?;
-        self.restart(alloc, &node)
+        self.nodes.read_one(who, reading);
     }
 
     /// The monitor's next save fails, and leaves this state.
@@ -72,10 +47,13 @@ impl World {
                 self.set_clocks(*reading);
                 Ok(())
             }
-            NodeStep::ClockOf(who, reading) => self.set_clock(alloc, who, *reading),
+            NodeStep::ClockOf(who, reading) => {
+                self.set_clock(who, *reading);
+                Ok(())
+            }
             NodeStep::DropSession(_, _) => Ok(()),
             NodeStep::Tick(_) => Ok(()),
-            NodeStep::Restart(who) => self.restart_node(alloc, who),
+            NodeStep::Restart(who) => self.restart(alloc, who),
             NodeStep::FailSave(left) => {
                 self.fail_save(*left);
                 Ok(())

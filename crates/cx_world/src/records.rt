@@ -7,8 +7,8 @@ ghost use Rattle.cx_steps.specs.declared.seals.Logged.{Logged as LogEntry};
 ghost use Rattle.cx_steps.specs.declared.seals.SealEntry.{SealEntry as Seal};
 ghost use Rattle.cx_world.specs.Logs.{logged_at};
 
-use cx_base::Duplicate;
-use cx_journal::{Entry, Journal, NodeName};
+use cx_base::{Duplicate, NodeName};
+use cx_journal::{Entry, Journal};
 use cx_premises::Ledger;
 use cx_steps::{Logged, SealEntry};
 use std::alloc::{AllocError, Global};

@@ -3,7 +3,7 @@
 ghost use Rattle.std.specs.Prelude.{◌≡◌, ◌||◌};
 
 use crate::records::{Record, enter, log};
-use cx_journal::NodeName;
+use cx_base::NodeName;
 use cx_line_words::LeftState;
 use cx_run_links::Wires;
 use cx_run_nodes::{Made, Nodes};

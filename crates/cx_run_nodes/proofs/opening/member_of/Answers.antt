@@ -1,6 +1,6 @@
 use Rattle.std.proofs.Common.{◌≡◌, ℕ, refl, sym, ap, ◌∙◌}
 use Rattle.std.specs.Prelude.{unwrap_or}
-use Rattle.cx_run.specs.Opening.{Declared, seat_for}
+use Rattle.cx_run.specs.Opening.{Declared, post_for}
 use Rattle.cx_run_nodes.proofs.opening.member_of.Goals as goal
 
 pub returns : goal.returns
@@ -9,6 +9,6 @@ returns c =
     c.unwrap_or-seed.ensures ∙ ap (λ (n : ℕ). unwrap_or c.entity.inside.seed n) c.from.ensures ∙ ap (λ (e : Declared). unwrap_or e.seed e.number) c.entity.view_is in
     record {
       name = c.in_ok-name.ensures ∙ ap (λ (e : Declared). e.name) c.entity.view_is;
-      seat = c.new.ensures (seat_for c.args.entity.now) refl (sym seed) refl;
+      post = c.new.ensures (post_for c.args.entity.now) refl (sym seed) refl;
       client = c.in_ok-client.ensures;
     }

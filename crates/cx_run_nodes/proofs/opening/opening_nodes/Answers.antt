@@ -9,6 +9,6 @@ returns c =
     let are = rw c.entities.ensures.value at c.in_ok-members.ensures in
     record {
       monitor = c.in_ok-monitor.ensures.stands;
-      seat = c.new-seat.ensures _ refl (sym c.monitor_seed.ensures) refl;
+      post = c.new-post.ensures _ refl (sym c.monitor_seed.ensures) refl;
       members = λ name. all_stand name c.args.setup.now.entities c.in_ok-members.members.items are;
     }

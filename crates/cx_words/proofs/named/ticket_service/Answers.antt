@@ -7,13 +7,13 @@ pub returns-in_err-kind-clause-read : goal.returns-in_err-kind-clause-read
 unfolding ticket_service_of
 returns-in_err-kind-clause-read c = search rules
 
-pub returns-then-is_ticket_service-clause-read : goal.returns-then-is_ticket_service-clause-read
+pub returns-then-is_daemon-clause-read : goal.returns-then-is_daemon-clause-read
 unfolding ticket_service_of
-returns-then-is_ticket_service-clause-read c = search rules
+returns-then-is_daemon-clause-read c = search rules
 
-pub returns-then-is_ticket_service-clause-spelled : goal.returns-then-is_ticket_service-clause-spelled
-returns-then-is_ticket_service-clause-spelled c = ticket_service_spelled c.args.word.now _ (returns-then-is_ticket_service-clause-read c)
+pub returns-then-is_daemon-clause-spelled : goal.returns-then-is_daemon-clause-spelled
+returns-then-is_daemon-clause-spelled c = ticket_service_spelled c.args.word.now _ (returns-then-is_daemon-clause-read c)
 
-pub returns-else-is_ticket_service-clause-read : goal.returns-else-is_ticket_service-clause-read
+pub returns-else-is_daemon-clause-read : goal.returns-else-is_daemon-clause-read
 unfolding ticket_service_of
-returns-else-is_ticket_service-clause-read c = search rules
+returns-else-is_daemon-clause-read c = search rules

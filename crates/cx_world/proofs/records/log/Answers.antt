@@ -2,7 +2,7 @@ use Rattle.std.proofs.Common.{◌≡◌, List, ◌++◌, map, take, subst, ap, �
 use Rattle.std.proofs.lemmas.List.{take_all}
 use Rattle.cx_premises.specs.Ledgers.{StandsFor}
 use Rattle.cx_steps.specs.declared.seals.Logged.{Logged}
-use Rattle.cx_journal.specs.declared.node_names.NodeName.{NodeName}
+use Rattle.cx_base.specs.declared.nodes.NodeName.{NodeName}
 use Rattle.cx_steps.specs.declared.seals.SealEntry.{SealEntry}
 use Rattle.cx_world.specs.Logs.{logged_at}
 use Rattle.cx_world.proofs.Logging.{logs_more}

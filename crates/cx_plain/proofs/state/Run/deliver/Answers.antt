@@ -1,6 +1,6 @@
 -- The three entries, one behind the other.
 use Rattle.std.proofs.Common.{◌≡◌, ◌+◌, refl}
-use Rattle.cx_plain.specs.declared.nodes.Place.{Place}
+use Rattle.cx_plain.specs.declared.nodes.SessionPlace.{SessionPlace}
 use Rattle.cx_plain.specs.declared.state.Run.{Run}
 use Rattle.cx_plain.specs.Plain.{with_seq}
 use Rattle.cx_plain.proofs.Delivers.{delivers}
@@ -9,9 +9,9 @@ use Rattle.cx_plain.proofs.state.Run.deliver.Goals as goal
 pub returns : goal.returns
 unfolding with_seq
 returns c =
-    let at : Place = record c.args.session { seq = c.in_ok-seq.seq } in
+    let at : SessionPlace = record c.args.session { seq = c.in_ok-seq.seq } in
     let on : Run = record c.args.self.now { nodes = c.set_seq.new.self } in
-    let next : Place = record c.args.session { seq = c.args.session.seq + 1 } in
+    let next : SessionPlace = record c.args.session { seq = c.args.session.seq + 1 } in
     let is_at : at ≡ next = rw c.in_ok-seq.ensures refl in
     let is_on : on ≡ with_seq c.args.self.now c.args.client.now c.args.daemon.now c.in_ok-seq.seq = rw c.set_seq.ensures refl in
     let same =

@@ -3,7 +3,7 @@ use Rattle.std.specs.List.{position}
 use Rattle.cx_base.specs.Names.{same_name}
 use Rattle.cx_run_nodes.specs.declared.members.Member.{Member}
 use Rattle.cx_run_nodes.specs.declared.nodes.Nodes.{Nodes}
-use Rattle.cx_run_nodes.specs.Seats.{Sitting}
+use Rattle.cx_run_nodes.specs.Posts.{Sitting}
 use Rattle.cx_run_nodes.proofs.Placing.{is_first, is_none}
 use Rattle.cx_run_nodes.proofs.Reading.{member_reads, monitor_reads, nobody_reads}
 use Rattle.cx_run_nodes.proofs.nodes.Nodes.read_one.Goals as goal
@@ -21,7 +21,7 @@ returns-in-Some c = rw c.in-Entity.is (
     let there : position p held.members.items ≡ Some c.in-Some.place = sym (c.in-Some.ensures ∙ ap (λ (ms : List Member). position p ms) slice) in
     member_reads c.args.reading w c.in-Entity.name held _ k refl refl c.in-Some.place old _
     (is_first p held.members.items c.in-Some.place there) c.index_mut-member.ensures.value
-    (ap (λ (s : Sitting). let m : Member = record old { seat = s } in m) c.set-in-Some.ensures) refl)
+    (ap (λ (s : Sitting). let m : Member = record old { post = s } in m) c.set-in-Some.ensures) refl)
 
 pub returns-in-None : goal.returns-in-None
 returns-in-None c = rw c.in-Entity.is (

@@ -16,7 +16,7 @@ returns-in_ok-made-in-Some c =
     let slice : c.as_slice.result.now ≡ held.members.items = c.as_slice.ensures.value in
     let there : position p held.members.items ≡ Some c.in-Some.place = sym (c.in-Some.ensures ∙ ap (λ (ms : List Member). position p ms) slice) in
     member_given (input_of c.args.event) w c.args.name.now held _ c.in-Some.place c.index_mut-member.result.now c.step.new.self c.in_ok-made-in-Some.made k
-    (is_first p held.members.items c.in-Some.place there) c.index_mut-member.ensures.value refl refl refl (λ seat client s. c.in_ok-made-in-Some.ensures seat client s)
+    (is_first p held.members.items c.in-Some.place there) c.index_mut-member.ensures.value refl refl refl (λ post client s. c.in_ok-made-in-Some.ensures post client s)
 
 pub returns-in-None : goal.returns-in-None
 returns-in-None c =

@@ -9,6 +9,6 @@ pub returns : goal.returns
 returns c =
     λ w k e.
     monitor_given (input_of c.args.event) w c.args.self.now _ c.in_ok-made.made k refl
-    (λ seat sits.
-    let P : Option LeftState → Type 0 = λ left. IsMonitorStep seat (monitor_made (input_of c.args.event) seat w.nodes left) c.in_ok-made.made c.take_step.new.monitor c.take_step.new.seat in
-    subst P e (c.in_ok-made.ensures seat w.nodes sits k.monitor))
+    (λ post sits.
+    let P : Option LeftState → Type 0 = λ left. IsMonitorStep post (monitor_made (input_of c.args.event) post w.nodes left) c.in_ok-made.made c.take_step.new.monitor c.take_step.new.post in
+    subst P e (c.in_ok-made.ensures post w.nodes sits k.monitor))

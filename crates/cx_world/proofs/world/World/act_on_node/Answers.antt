@@ -4,23 +4,20 @@ use Rattle.cx_world.specs.Carried.{Carries}
 use Rattle.cx_world.proofs.Making.{ok_alone, ok_makes_alone}
 use Rattle.cx_lines.specs.declared.node_steps.NodeStep.{NodeStep}
 use Rattle.cx_run.specs.Deliveries.{restarts}
-use Rattle.cx_run.specs.Schedules.{node_in, on_node, one_reads}
+use Rattle.cx_run.specs.Schedules.{on_node}
 use Rattle.cx_world.proofs.world.World.act_on_node.Goals as goal
 
 pub returns-in-Clock : goal.returns-in-Clock
 returns-in-Clock c = λ b w h. subst (λ (x : NodeStep). Carries b None c.set_clocks.new.self (on_node w x)) (sym c.in-Clock.is) (c.set_clocks.ensures b None w h)
 
 pub returns-in-ClockOf : goal.returns-in-ClockOf
-returns-in-ClockOf c = ok_makes_alone c.set_clock.result c.args.self.now c.set_clock.new.self (one_reads (node_in c.in-ClockOf.who) c.in-ClockOf.reading)
-    (ok_alone c.set_clock.result c.args.self.now c.set_clock.new.self (one_reads (node_in c.in-ClockOf.who) c.in-ClockOf.reading) c.set_clock.ensures)
-    c.args.self.now (λ (w : RunWorld). on_node w c.args.step.now)
-    (λ b w h m. subst (λ (x : NodeStep). Carries b None c.set_clock.new.self (on_node w x)) (sym c.in-ClockOf.is) (m w h))
+returns-in-ClockOf c = λ b w h. subst (λ (x : NodeStep). Carries b None c.set_clock.new.self (on_node w x)) (sym c.in-ClockOf.is) (c.set_clock.ensures b None w h)
 
 pub returns-in-Restart : goal.returns-in-Restart
-returns-in-Restart c = ok_makes_alone c.restart_node.result c.args.self.now c.restart_node.new.self (λ (w : RunWorld). restarts w (node_in c.in-Restart.who))
-    (ok_alone c.restart_node.result c.args.self.now c.restart_node.new.self (λ (w : RunWorld). restarts w (node_in c.in-Restart.who)) c.restart_node.ensures)
+returns-in-Restart c = ok_makes_alone c.restart.result c.args.self.now c.restart.new.self (λ (w : RunWorld). restarts w c.in-Restart.who)
+    (ok_alone c.restart.result c.args.self.now c.restart.new.self (λ (w : RunWorld). restarts w c.in-Restart.who) c.restart.ensures)
     c.args.self.now (λ (w : RunWorld). on_node w c.args.step.now)
-    (λ b w h m. subst (λ (x : NodeStep). Carries b None c.restart_node.new.self (on_node w x)) (sym c.in-Restart.is) (m w h))
+    (λ b w h m. subst (λ (x : NodeStep). Carries b None c.restart.new.self (on_node w x)) (sym c.in-Restart.is) (m w h))
 
 pub returns-in-FailSave : goal.returns-in-FailSave
 returns-in-FailSave c = λ b w h. subst (λ (x : NodeStep). Carries b None c.fail_save.new.self (on_node w x)) (sym c.in-FailSave.is) (c.fail_save.ensures b None w h)

@@ -3,8 +3,8 @@ use Rattle.cx_run.specs.Worlds.{World as RunWorld}
 use Rattle.cx_world.specs.Carried.{Carries}
 use Rattle.cx_world.proofs.Making.{ok_makes}
 use Rattle.cx_base.specs.declared.kinds.EntityType.{EntityType}
-use Rattle.cx_lines.specs.declared.commands.Command.{Command}
-use Rattle.cx_lines.specs.declared.commands.Command.TheVariants as command
+use Rattle.cx_lines.specs.declared.commands.LineCommand.{LineCommand}
+use Rattle.cx_lines.specs.declared.commands.LineCommand.TheVariants as command
 use Rattle.cx_run.specs.Schedules.{submitted}
 use Rattle.cx_world.proofs.world.World.submit.Goals as goal
 
@@ -14,4 +14,4 @@ returns-in-Login c =
     ap (λ (s : List EntityType). command.Login c.in-Login.client s) c.all.ensures ∙ sym c.in-Login.is in
     ok_makes c.login.result c.args.self.now c.login.new.self (λ (w : RunWorld). submitted w (command.Login c.in-Login.client c.all.result.now)) c.login.ensures
     c.args.self.now (λ (w : RunWorld). submitted w c.args.command.now)
-    (λ b seen w h m. subst (λ (x : Command). Carries b seen c.login.new.self (submitted w x)) is (m w h))
+    (λ b seen w h m. subst (λ (x : LineCommand). Carries b seen c.login.new.self (submitted w x)) is (m w h))

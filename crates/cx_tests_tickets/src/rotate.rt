@@ -1,7 +1,7 @@
 //! Rotations with known figures, and each call once.
 
-use crate::{Generation, Generations, KeptState, View, rotation_laws};
 use cx_base::SECOND;
+use cx_rotate::{Generation, Generations, KeptState, View, rotation_laws};
 use std::test::Fail;
 
 const KEYS: [[u8; 16]; 3] = [[1; 16], [2; 16], [3; 16]];

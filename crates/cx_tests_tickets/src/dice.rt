@@ -1,8 +1,8 @@
 //! Draws of a run that an independent implementation computed: the monitor's twelfth draw in the first login of
 //! `examples/first_login.schedule`, and the challenges and a cookie of others.
 
-use crate::{Dice, Draw, SeedDice};
 use cx_base::{Blob, EntityType};
+use cx_dice::{Dice, Draw, SeedDice};
 use std::alloc::Global;
 use std::process::Abort;
 

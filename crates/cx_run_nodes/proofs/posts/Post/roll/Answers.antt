@@ -1,15 +1,15 @@
 use Rattle.std.proofs.Common.{sym, subst, refl}
 use Rattle.cx_run_nodes.proofs.Rolling.{drawn_now, rolled_on}
-use Rattle.cx_run_nodes.specs.Seats.{IsOf, Sitting}
-use Rattle.cx_run_nodes.proofs.seats.Seat.roll.Goals as goal
+use Rattle.cx_run_nodes.specs.Posts.{IsOf, Sitting}
+use Rattle.cx_run_nodes.proofs.posts.Post.roll.Goals as goal
 
 pub returns-clause-drawn : goal.returns-clause-drawn
 returns-clause-drawn c =
     let old : Sitting = record { reading = c.self.inside.reading; dice = c.self.inside.dice } in
-    λ seat is. let P : Sitting → Type 0 = IsOf seat in drawn_now seat old c.in-Ok.draw.bytes (subst P (sym c.self.view_is) is) c.in-Ok.ensures.gives.0
+    λ post is. let P : Sitting → Type 0 = IsOf post in drawn_now post old c.in-Ok.draw.bytes (subst P (sym c.self.view_is) is) c.in-Ok.ensures.gives.0
 
 pub returns-clause-rolled : goal.returns-clause-rolled
 returns-clause-rolled c =
     let old : Sitting = record { reading = c.self.inside.reading; dice = c.self.inside.dice } in
     let new : Sitting = record { reading = c.self.inside.reading; dice = c.block.new.self } in
-    λ seat is. let P : Sitting → Type 0 = IsOf seat in rolled_on seat old new (subst P (sym c.self.view_is) is) refl c.in-Ok.ensures.gives.1
+    λ post is. let P : Sitting → Type 0 = IsOf post in rolled_on post old new (subst P (sym c.self.view_is) is) refl c.in-Ok.ensures.gives.1

@@ -1,8 +1,8 @@
 //! What no clause says: that each call answers something other than want of memory.
 
-use crate::{Desk, ServeRefusal};
 use cx_base::{Access, Blob, Operation, Text};
 use cx_caps::{CapText, Permitted};
+use cx_desk::{Desk, ServeRefusal};
 use std::alloc::{AllocError, Global};
 use std::process::Abort;
 

@@ -1,10 +1,9 @@
-//! The bounds of a schedule, which are those of every text file that the program reads.
+//! The bounds of every text file that the program reads.
 
 ghost use Rattle.std.specs.Prelude.{◌≡◌, ◌↔◌, length, IsTrue};
-ghost use Rattle.cx_words.specs.Cutting.{lines_of};
-ghost use Rattle.cx_schedule.specs.Files.{IsShort};
+ghost use Rattle.cx_words.specs.Cutting.{lines_of, IsShort};
 
-use cx_words::first_line;
+use crate::cut::first_line;
 
 /// The most bytes of such a file.
 pub const MOST_BYTES: usize = 1_048_576;

@@ -1,6 +1,7 @@
-//! Where in a run something happened.
+//! The nodes of a run.
 
-use cx_base::{Duplicate, EntityName};
+use crate::copies::Duplicate;
+use crate::entity::EntityName;
 use std::alloc::{AllocError, Global};
 use std::fmt;
 
@@ -13,7 +14,7 @@ pub enum NodeName {
 
 impl fmt::Display for NodeName {
     ghost use Rattle.std.specs.Prelude.{Some};
-    ghost use Rattle.cx_journal.specs.Words.{node_text};
+    ghost use Rattle.cx_base.specs.Nodes.{node_text};
 
     ghost output = { λ node. Some (node_text node) };
 

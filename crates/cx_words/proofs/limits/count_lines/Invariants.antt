@@ -1,6 +1,6 @@
 use Rattle.std.proofs.Common.{◌≡◌, ◌+◌, ◌≤◌, length}
 use Rattle.cx_words.specs.Cutting.{lines_of}
-use Rattle.cx_schedule.proofs.limits.count_lines.Given as goal
+use Rattle.cx_words.proofs.limits.count_lines.Given as goal
 
 abbrev pub invariant-lines : goal.invariant-lines
 invariant-lines l = record {

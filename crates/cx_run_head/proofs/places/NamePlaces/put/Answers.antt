@@ -5,7 +5,7 @@ use Rattle.std.proofs.lemmas.Map.Text.{btree_map_updates_text}
 use Rattle.cx_base.specs.Names.{name_text}
 use Rattle.cx_run_head.specs.Places.{place_of}
 use Rattle.cx_run_head.proofs.Naming.{same_text}
-use Rattle.cx_run_head.proofs.places.Places.put.Goals as goal
+use Rattle.cx_run_head.proofs.places.NamePlaces.put.Goals as goal
 
 pub returns-clause-ok : goal.returns-clause-ok
 returns-clause-ok c = λ n.

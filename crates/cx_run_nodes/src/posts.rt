@@ -2,8 +2,8 @@
 
 ghost use Rattle.std.specs.Prelude.{ℕ, suc, ◌≡◌, ◌<◌};
 ghost use Rattle.cx_dice.specs.Rolls.{seed_draw};
-ghost use Rattle.cx_run_nodes.specs.Seats.{IsOf};
-ghost use Rattle.cx_run.specs.Worlds.{Seat as RunSeat};
+ghost use Rattle.cx_run_nodes.specs.Posts.{IsOf};
+ghost use Rattle.cx_run.specs.Worlds.{Post as RunPost};
 
 use cx_base::{Blob, Reading};
 use cx_dice::{Dice, Draw, SeedDice, draw_laws};
@@ -12,13 +12,13 @@ use std::marker::Model;
 
 /// What a node goes by: the reading of its clock, and its dice.
 #[derive(Drop)]
-pub struct Seat {
+pub struct Post {
     reading: Reading,
     dice: SeedDice,
 }
 
-impl Model for Seat {
-    ghost use Rattle.cx_run_nodes.specs.Seats.{IsSitting, Sitting};
+impl Model for Post {
+    ghost use Rattle.cx_run_nodes.specs.Posts.{IsSitting, Sitting};
 
     ghost Value = { Sitting };
 
@@ -27,13 +27,13 @@ impl Model for Seat {
     ghost invariant = { λ s. IsSitting (record { reading = s.reading; dice = s.dice }) };
 }
 
-impl Seat {
-    /// The seat of a node whose dice have this seed, as a run begins.
-    pub fn new(alloc: Global, seed: u64) -> Seat
-        ensures { (seat : RunSeat) → seat.reading ≡ 0 → seat.seed ≡ seed → seat.rolled ≡ 0 → IsOf seat result }
+impl Post {
+    /// The post of a node whose dice have this seed, as a run begins.
+    pub fn new(alloc: Global, seed: u64) -> Post
+        ensures { (post : RunPost) → post.reading ≡ 0 → post.seed ≡ seed → post.rolled ≡ 0 → IsOf post result }
     {
         draw_laws();
-        Seat {
+        Post {
             reading: 0,
             dice: SeedDice::new(seed, Blob::new(alloc)),
         }
@@ -57,8 +57,8 @@ impl Seat {
 
     /// Rolls its dice once.
     pub fn roll(&mut self) -> Draw
-        ensures drawn { (seat : RunSeat) → IsOf seat self.old → result.bytes ≡ seed_draw seat.seed seat.rolled }
-        ensures rolled { (seat : RunSeat) → IsOf seat self.old → IsOf (record seat { rolled = suc seat.rolled }) self.new }
+        ensures drawn { (post : RunPost) → IsOf post self.old → result.bytes ≡ seed_draw post.seed post.rolled }
+        ensures rolled { (post : RunPost) → IsOf post self.old → IsOf (record post { rolled = suc post.rolled }) self.new }
         ensures reading { self.new.reading ≡ self.old.reading }
     {
         match self.dice.block() {

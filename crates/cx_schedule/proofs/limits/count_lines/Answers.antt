@@ -1,5 +1,0 @@
-use Rattle.cx_schedule.proofs.Whole.{counted_all}
-use Rattle.cx_schedule.proofs.limits.count_lines.Goals as goal
-
-pub returns : goal.returns
-returns c = counted_all _ _ _ c.lines.invariant.counted c.in_default.ensures.cut
