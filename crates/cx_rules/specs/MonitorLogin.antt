@@ -21,7 +21,7 @@ use Rattle.cx_rules.specs.Acceptor.{AwaitsProof, AwaitsSignature, Finished, deni
 use Rattle.cx_rules.specs.KeptStates.{saved_behind}
 use Rattle.cx_rules.specs.Monitor.{MonitorArrival, MonitorRow, Offered}
 use Rattle.cx_rules.specs.Payloads.{control}
-use Rattle.cx_rules.specs.Rows.{refuses_bytes, sends_plain}
+use Rattle.cx_rules.specs.Rows.{sends_plain, unless_refused}
 use Rattle.cx_rules.specs.Verdicts.{Decided, Occasion, rotates}
 use Rattle.cx_rules.specs.declared.verdicts.HandedOut.{HandedOut}
 use Rattle.cx_rules.specs.declared.verdicts.Verdict.{Verdict}
@@ -39,8 +39,7 @@ challenges a hello (Some principal) =
     (control 4 auth_reply_more_layout.form (record { payload = server_challenge_layout.form.text (record { challenge = challenge }) }))
 
 abbrev pub on_login_hello : MonitorArrival → Result LoginHello BytesFault → MonitorRow
-on_login_hello a (Err why) = refuses_bytes a why []
-on_login_hello a (Ok hello) = challenges a hello (find (is_named hello.name) a.own.server.ring)
+on_login_hello a read = unless_refused a [] read (λ hello. challenges a hello (find (is_named hello.name) a.own.server.ring))
 
 -- ---- Authenticate
 
@@ -58,15 +57,14 @@ done_frame payload = record { tag = 6; segments = record { align = 8; bytes = pa
 
 -- AUTH_DONE and AUTH_SIGNATURE are sent, where they can be, behind what is saved
 abbrev pub hands_over : MonitorArrival → HandedOut → Result Finished BytesFault → MonitorRow
-hands_over a h (Err why) = refuses_bytes a why h.seals
-hands_over a h (Ok done) = record {
+hands_over a h finishing = unless_refused a h.seals finishing (λ done. record {
   own = record a.own { saved = saved_behind a.own.saved h.save };
   link = Some (record a.link { stage = AwaitsSignature done.secured (record { name = h.name; gid = h.gid }) });
   sends = done.bytes;
   save = h.save;
   entries = h.entries;
   seals = h.seals ++ (h.sealed ++ done.seals);
-}
+})
 
 -- the row of a verdict, where the monitor has the key server behind it
 abbrev pub row_by : MonitorArrival → Verdict → MonitorRow
@@ -82,5 +80,4 @@ proves a hello_gid (Err wrong) = denies a 13 login.WrongProof []
 proves a hello_gid (Ok proven) = row_of a (rotates (occasion a) a.own.server hello_gid proven)
 
 abbrev pub on_authenticate : MonitorArrival → Offered → Result Authenticate BytesFault → MonitorRow
-on_authenticate a offered (Err why) = refuses_bytes a why []
-on_authenticate a offered (Ok ask) = proves a offered.gid (proving offered.offer ask)
+on_authenticate a offered read = unless_refused a [] read (λ ask. proves a offered.gid (proving offered.offer ask))
