@@ -2,10 +2,9 @@
 use Rattle.std.proofs.Common.{◌≡◌, ◌∙◌, ℕ, ◌==◌, ◌^◌, ◌-◌, ◌+◌, Bool, true, false, ◌⊎◌, inl, inr, List, ◌∷◌, ◌++◌, Option, Some, None, Result, Ok, Err, refl, sym, ap}
 use Rattle.std.specs.Prelude.{if◌then◌else◌}
 use Rattle.cx_enc.specs.declared.keys.Key.{Key}
-use Rattle.cx_mon_grants.specs.Occasions.{Entrant, Occasion, asking_for, entrant}
-use Rattle.cx_mon_grants.specs.Rows.{IsRow, occasion, row_by}
-use Rattle.cx_mon_grants.specs.Verdicts.{Decided, issues, issues_to, key_of, numbers, rotates}
-use Rattle.cx_mon_grants.specs.declared.verdicts.Verdict.{Verdict}
+use Rattle.cx_rules.specs.Verdicts.{Decided, Entrant, Numbered, Occasion, asking_for, entrant, issues, issues_to, key_of, numbered, numbers, rotates}
+use Rattle.cx_rules.specs.MonitorLogin.{occasion, proves, row_by}
+use Rattle.cx_rules.specs.declared.verdicts.Verdict.{Verdict}
 use Rattle.cx_journal.specs.declared.faults.LoginFault.{LoginFault}
 use Rattle.cx_journal.specs.declared.faults.LoginFault.TheVariants as login
 use Rattle.cx_keyring.specs.declared.entries.Entry.{Entry}
@@ -19,9 +18,7 @@ use Rattle.cx_login.specs.declared.monitor.Reclaim.TheVariants.{Kept, Fresh, Den
 use Rattle.cx_node.specs.declared.rows.Row.{Row as Made}
 use Rattle.cx_rotate.specs.declared.states.KeptState.{KeptState}
 use Rattle.cx_rules.specs.KeptStates.{same_state}
-use Rattle.cx_rules.specs.Monitor.{Monitor}
-use Rattle.cx_rules.specs.MonitorLogin as rules
-use Rattle.cx_rules.specs.MonitorLogin.{Numbered, next_number, numbered}
+use Rattle.cx_rules.specs.Monitor.{Monitor, MonitorRow}
 use Rattle.cx_rules.specs.Tickets.{issued_for, rotation_drawn, services_for}
 use Rattle.cx_sealed.specs.declared.service_ticket.ServiceTicket.{ServiceTicket}
 use Rattle.cx_steps.specs.declared.seals.SealEntry.{SealEntry}
@@ -30,19 +27,18 @@ use Rattle.cx_acceptor.specs.Stages.{awaiting_proof}
 use Rattle.cx_ends.specs.declared.moments.Moment.{Moment}
 use Rattle.cx_acceptor.specs.declared.links.Stage.{Stage}
 
--- the row of what was decided is that of the rules
-pub login_row : (old : Monitor) (at : Moment) (wire : Wire) (gid : ℕ) (proven : Proven) (server : Server) (verdict : Verdict) (row : Made Stage) → IsRow
+-- the row that was made of what was decided is that of the rules
+pub login_row : (old : Monitor) (at : Moment) (wire : Wire) (gid : ℕ) (proven : Proven) (server : Server) (verdict : Verdict) (row : Made Stage)
     → verdict ≡ (rotates (occasion (arrived old at (awaiting_proof at.number wire proven.offer gid))) old.server gid proven).verdict
     → server ≡ (rotates (occasion (arrived old at (awaiting_proof at.number wire proven.offer gid))) old.server gid proven).server
     → made_row (saving (record old { server = server }) row.save) at.number row
     ≡ due (row_by (arrived (record old { server = server }) at (awaiting_proof at.number wire proven.offer gid)) verdict)
     → made_row (saving (record old { server = server }) row.save) at.number row
-    ≡ due (rules.rotates (arrived old at (awaiting_proof at.number wire proven.offer gid)) gid proven)
-login_row old at wire gid proven server verdict row law v s m =
-    let decided : due (row_by (arrived (record old { server = server }) at (awaiting_proof at.number wire proven.offer gid)) verdict)
-    ≡ due (rules.rotates (arrived old at (awaiting_proof at.number wire proven.offer gid)) gid proven) =
-    rw (v, s) (sym (ap due (law (arrived old at (awaiting_proof at.number wire proven.offer gid)) gid proven))) in
-    m ∙ decided
+    ≡ due (proves (arrived old at (awaiting_proof at.number wire proven.offer gid)) gid (Ok proven))
+login_row old at wire gid proven server verdict row v s m =
+    let told : Server → Verdict → MonitorRow = λ t w. due (row_by (arrived (record old { server = t }) at (awaiting_proof at.number wire proven.offer gid)) w) in
+    m ∙ ap (told server) v
+    ∙ ap (λ (t : Server). told t (rotates (occasion (arrived old at (awaiting_proof at.number wire proven.offer gid))) old.server gid proven).verdict) s
 
 -- ---- the keyring
 

@@ -5,7 +5,7 @@ use Rattle.cx_control.specs.Auth.{auth_reply_more_layout}
 use Rattle.cx_dice.specs.Draws.{challenge_of}
 use Rattle.cx_enc.specs.declared.keys.Key.{Key}
 use Rattle.cx_frame.specs.declared.frame.Frame.{Frame}
-use Rattle.cx_mon_grants.specs.declared.verdicts.Verdict.{Verdict}
+use Rattle.cx_rules.specs.declared.verdicts.Verdict.{Verdict}
 use Rattle.cx_mon_grants.specs.declared.verdicts.Verdict.TheVariants as verdict
 use Rattle.cx_journal.specs.declared.faults.LoginFault.TheVariants as login
 use Rattle.cx_base.specs.declared.nodes.NodeName.TheVariants as node

@@ -1,13 +1,12 @@
 //! LoginHello and Authenticate.
 
-ghost use Rattle.std.specs.Prelude.{◌≡◌, ◌<◌, ◌⊎◌, None, IfOk, OnOk, OnErr};
-ghost use Rattle.cx_mon_grants.specs.Rows.{done_frame, row_by};
+ghost use Rattle.std.specs.Prelude.{◌≡◌, ◌<◌, ◌⊎◌, None, Ok, IfOk, OnOk, OnErr};
+ghost use Rattle.cx_rules.specs.MonitorLogin.{done_frame, on_authenticate, on_login_hello, proves, row_by};
 ghost use Rattle.cx_link.specs.Wires.{wired};
-ghost use Rattle.cx_mon_grants.specs.declared.verdicts.Verdict.TheVariants.{Granted};
+ghost use Rattle.cx_rules.specs.declared.verdicts.Verdict.TheVariants.{Granted};
 ghost use Rattle.cx_link.specs.Sending.{IsControl};
 ghost use Rattle.cx_rules.specs.Acceptor.{AwaitsRequest};
 ghost use Rattle.cx_rules.specs.Monitor.{MonitorStage};
-ghost use Rattle.cx_rules.specs.MonitorLogin.{on_authenticate, on_login_hello, rotates};
 ghost use Rattle.cx_rules.specs.MonitorRule.{on_auth_request_more};
 ghost use Rattle.cx_acceptor.specs.Rows.{IsSameBut, arrived, challenged, due, made_row, saves, saving};
 ghost use Rattle.cx_acceptor.specs.Stages.{awaiting_proof};
@@ -22,7 +21,7 @@ use cx_frame::{Frame, Segment};
 use cx_journal::{BytesFault, LoginFault};
 use cx_link::{Finished, LinkRefusal, PlainLink};
 use cx_login::{Offered, Proved};
-use cx_mon_grants::{HandedOut, Occasion, Verdict, granting_laws, log_in};
+use cx_mon_grants::{HandedOut, Occasion, Verdict, log_in};
 use cx_node::{Row, denies, goes_on, refuses_bytes, whole};
 use cx_steps::{DrawMark, SealEntry};
 use cx_wire::{Authenticate, LoginHello, ServerChallenge};
@@ -153,11 +152,10 @@ fn proves(
     gid: u64,
 ) -> Result<Row<Stage>, AllocError>
     requires { at.now.reading < 4000000000000000000 }
-    ensures row { IfOk result (λ row. made_row own.new at.now.number row ≡ due (rotates (arrived own.old at.now (awaiting_proof at.now.number link proved.now.offer gid)) gid proved.now)) }
+    ensures row { IfOk result (λ row. made_row own.new at.now.number row ≡ due (proves (arrived own.old at.now (awaiting_proof at.now.number link proved.now.offer gid)) gid (Ok proved.now))) }
     ensures same { OnOk result (IsSameBut own.old own.new) }
     ensures err { OnErr result (own.new ≡ own.old) }
 {
-    granting_laws();
     let before = own.server.state();
     let occasion = Occasion {
         saved: &own.saved,

@@ -1,6 +1,6 @@
 -- The rows of the rules as they are made on a link to the monitor: what a row sends is put to its link, and of that is kept what is held. Whose
 -- link it is (`Own`) is left open: a client's, or a daemon's.
-use Rattle.std.specs.Prelude.{◌≡◌, ℕ, List, [], ◌∷◌, ◌++◌, Result, Ok, Err}
+use Rattle.std.specs.Prelude.{◌≡◌, ℕ, List, [], ◌∷◌, ◌++◌, Result}
 use Rattle.std.specs.Option.{option_map}
 use Rattle.cx_control.specs.declared.bad_method.AuthBadMethod.{AuthBadMethod}
 use Rattle.cx_dice.specs.Draws.{cookie_of}
@@ -16,7 +16,7 @@ use Rattle.cx_rules.specs.Connector as connector
 use Rattle.cx_rules.specs.Connector.{AskerArrival, AskerRow, AwaitsIdent, Login, client_ident, holding, on_denial, turned_at}
 use Rattle.cx_rules.specs.Greetings.{own_banner}
 use Rattle.cx_rules.specs.Holdings.{Asker, held_login, holds_nothing}
-use Rattle.cx_rules.specs.Rows.{Row, Turned, Waits, Refuses, Handles, arrival, refuses_bytes, sends_secure}
+use Rattle.cx_rules.specs.Rows.{Handles, Refuses, Row, Turned, Waits, arrival, sends_secure, unless_refused}
 use Rattle.cx_rules.specs.Secured.{Keys}
 use Rattle.cx_steps.specs.declared.seals.DrawMark.TheVariants as draw
 use Rattle.cx_steps.specs.declared.seals.SealEntry.{SealEntry}
@@ -94,8 +94,7 @@ pub record Turns (asker : Asker) (at : Moment) (link : AskerLink) (turn : TurnMa
 
 -- AUTH_BAD_METHOD, by the part that is kept of it
 abbrev pub denied : AskerArrival → Result AuthBadMethod BytesFault → AskerRow
-denied a (Err why) = refuses_bytes a why []
-denied a (Ok refusal) = on_denial a refusal.result
+denied a read = unless_refused a [] read (λ refusal. on_denial a refusal.result)
 
 -- the peer's signature was found right, as this entry says, on a link with these keys: the login is held, and CLIENT_IDENT is sent
 abbrev pub identified : AskerArrival → Keys → SealEntry → Login → AskerRow

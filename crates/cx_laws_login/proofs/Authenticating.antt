@@ -2,11 +2,12 @@
 use Rattle.std.proofs.Common.{◌≡◌, ℕ, ◌==◌, ◌<◌, ◌≤◌, ◌^◌, Bool, true, false, List, [], ◌∷◌, ◌++◌, length, take, Option, Some, None, Result, Ok, Err, refl, sym, ap, subst, arith}
 use Rattle.std.specs.Prelude.{find, if◌then◌else◌}
 use Rattle.std.specs.List.{flat_map}
+use Rattle.std.specs.Option.{option_map}
 use Rattle.cx_base.specs.Names.{Name}
 use Rattle.cx_base.specs.declared.kinds.EntityType.TheVariants.{Auth}
-use Rattle.cx_cbc.specs.Envelope.{sealed}
 use Rattle.cx_dice.specs.Draws.{connection_of, session_of}
 use Rattle.cx_enc.specs.Values.{name_form}
+use Rattle.cx_enc.specs.declared.keys.Key.{Key}
 use Rattle.cx_frame.specs.declared.frame.Frame.{Frame}
 use Rattle.cx_journal.specs.declared.entries.Entry.{Entry}
 use Rattle.cx_journal.specs.declared.faults.BytesFault.{BytesFault}
@@ -16,10 +17,9 @@ use Rattle.cx_base.specs.declared.nodes.NodeName.{NodeName}
 use Rattle.cx_journal.specs.declared.premises.KeyKind.TheVariants as kind
 use Rattle.cx_keyring.specs.Entries.{is_named}
 use Rattle.cx_keyring.specs.declared.entries.Entry.{Entry as Principal}
-use Rattle.cx_keyserver.specs.Issuing.{asking}
 use Rattle.cx_keyserver.specs.Servers.{rotated_server, rotated_state}
 use Rattle.cx_keyserver.specs.declared.tickets.Ticket.{Ticket}
-use Rattle.cx_login.specs.Monitor.{Offer, Proven, kept_gid, proving, reclaimed}
+use Rattle.cx_login.specs.Monitor.{Offer, Proven, kept_gid, proof_found, proving, reclaimed}
 use Rattle.cx_login.specs.Opening.{generation_key}
 use Rattle.cx_login.specs.Proving.{due_proof}
 use Rattle.cx_login.specs.Unlocking.{old_ticket, old_under}
@@ -30,11 +30,12 @@ use Rattle.cx_rules.specs.Acceptor.{Finished, denies, finished, joined}
 use Rattle.cx_rules.specs.KeptStates.{changed, saved_behind}
 use Rattle.cx_rules.specs.Links.{Link}
 use Rattle.cx_rules.specs.Monitor.{Monitor, MonitorArrival, MonitorRow, MonitorStage, Offered}
-use Rattle.cx_rules.specs.MonitorLogin.{Granted, Numbered, auth_done, granted, hands_out, issues, issues_to, login_entries, numbered, numbers, on_authenticate, proof_found, proves, rotates, with_server}
+use Rattle.cx_rules.specs.MonitorLogin.{done_frame, hands_over, occasion, on_authenticate, proves, row_of, with_server}
 use Rattle.cx_rules.specs.Payloads.{whole}
 use Rattle.cx_rules.specs.Rows.{refuses_bytes}
 use Rattle.cx_rules.specs.Secured.{SealedFrame, acceptor_keys, plain_frame, signed_frame, secure_frame}
 use Rattle.cx_rules.specs.Tickets.{issued_for, rotation_drawn, services_for, ticket_seals}
+use Rattle.cx_rules.specs.Verdicts.{Entrant, Numbered, asking_for, entrant, handed_out, issues, issues_to, login_entries, numbered, numbers, rotates}
 use Rattle.cx_sealed.specs.Records.{connection_secret_layout, service_ticket_layout}
 use Rattle.cx_sealed.specs.declared.service_ticket.ServiceTicket.{ServiceTicket}
 use Rattle.cx_steps.specs.declared.seals.DrawMark.TheVariants as draw
@@ -194,23 +195,23 @@ module _ (leaked : List Name) (whole_log : List Logged) (n : NodeName) (line : �
       subst (λ (l : List Logged). Inv leaked whole_log s2.uses l K) (sym (behind-append n line told last log1)) s2.inv in
       finishing a name done vs s2.uses log1 (told ++ last) js fin grows inv e.laws (own-grows before vs s2.uses J a.own grows h.own) e.numbered.below s2.facts.session s2.facts.connection
 
-  handed : (a : MonitorArrival) (grant : Granted) (secret : List ℕ) (t : Ticket) (ts : List Ticket) (r : Result Finished BytesFault)
-      → name_form.Fits grant.proven.offer.name → length a.draw ≡ 384 → FirstOk grant.proven.offer.name grant.gid a.reading a.draw t ts
-      → First grant.seals (HandsOk a grant.proven.offer.name grant.gid secret)
-      → ((done : Finished) → r ≡ Ok done → Finishes a grant.proven.offer.name done)
-      → Granted_ (hands_out a grant (t ∷ ts) (told_seals a secret (t ∷ ts) ++ last_seals a grant.proven.offer.name) (changed a.own.saved a.own.server.state) r).seals
-      → AfterMonitor (hands_out a grant (t ∷ ts) (told_seals a secret (t ∷ ts) ++ last_seals a grant.proven.offer.name) (changed a.own.saved a.own.server.state) r)
-  handed a grant secret t ts (Err why) named drawn ok first fin g =
+  handed : (a : MonitorArrival) (e : Entrant) (secret : List ℕ) (t : Ticket) (ts : List Ticket) (r : Result Finished BytesFault)
+      → name_form.Fits e.name → length a.draw ≡ 384 → FirstOk e.name e.gid a.reading a.draw t ts
+      → First e.seals (HandsOk a e.name e.gid secret)
+      → ((done : Finished) → r ≡ Ok done → Finishes a e.name done)
+      → Granted_ (hands_over a (handed_out (occasion a) a.own.server e secret (t ∷ ts)) r).seals
+      → AfterMonitor (hands_over a (handed_out (occasion a) a.own.server e secret (t ∷ ts)) r)
+  handed a e secret t ts (Err why) named drawn ok first fin g =
       let r = first g in
-      after-refuses (monitor_says before) leaked whole_log n line us log J a (refuses_bytes a why grant.seals) (HandsOk a grant.proven.offer.name grant.gid secret) ((tt, tt), tt) refl r r.facts.own
-  handed a grant secret t ts (Ok done) named drawn ok first fin g =
-      let name : Name = grant.proven.offer.name in
+      after-refuses (monitor_says before) leaked whole_log n line us log J a (refuses_bytes a why e.seals) (HandsOk a e.name e.gid secret) ((tt, tt), tt) refl r r.facts.own
+  handed a e secret t ts (Ok done) named drawn ok first fin g =
+      let name : Name = e.name in
       let all : List SealEntry = told_seals a secret (t ∷ ts) ++ last_seals a name in
       let js : List Entry = login_entries (changed a.own.saved a.own.server.state) (t ∷ ts) in
-      let r1 = first (granted-first leaked whole_log n line log grant.seals (all ++ done.seals) g) in
-      let rest = granted-rest leaked whole_log n line log grant.seals (all ++ done.seals) g in
-      let h = handed_behind a name grant.gid secret t ts done r1.uses (behind n line grant.seals log) named drawn ok r1.facts r1.inv (fin done refl) rest in
-      let whole_step = after-then leaked whole_log n line us log J grant.seals (all ++ done.seals) js (HandsOk a name grant.gid secret) (HandedOk a name done.secured.keys.key) r1 h in
+      let r1 = first (granted-first leaked whole_log n line log e.seals (all ++ done.seals) g) in
+      let rest = granted-rest leaked whole_log n line log e.seals (all ++ done.seals) g in
+      let h = handed_behind a name e.gid secret t ts done r1.uses (behind n line e.seals log) named drawn ok r1.facts r1.inv (fin done refl) rest in
+      let whole_step = after-then leaked whole_log n line us log J e.seals (all ++ done.seals) js (HandsOk a name e.gid secret) (HandedOk a name done.secured.keys.key) r1 h in
       record {
         uses = whole_step.uses;
         grows = whole_step.grows;
@@ -226,32 +227,31 @@ module _ (leaked : List Name) (whole_log : List Logged) (n : NodeName) (line : �
 
   -- ---- issuing
 
-  issued-after : (a : MonitorArrival) (grant : Granted) (principal : Principal) (tickets : Result (List Ticket) LoginFault) → name_form.Fits grant.proven.offer.name → length a.draw ≡ 384
-      → AreIssued a.own.server grant.proven.offer.name grant.gid (session_of Auth a.draw) a.reading a.draw tickets
-      → First grant.seals (HandsOk a grant.proven.offer.name grant.gid principal.key.secret)
-      → Granted_ (issues a grant principal tickets).seals → AfterMonitor (issues a grant principal tickets)
-  issued-after a grant principal (Err why) named drawn ok first g =
-      refused a why grant.seals (HandsOk a grant.proven.offer.name grant.gid principal.key.secret) first (λ vs h. h.own) g
-  issued-after a grant principal (Ok []) named drawn ok first g = absurd ok
-  issued-after a grant principal (Ok (t ∷ ts)) named drawn ok first g =
-      let session : List ℕ = session_of Auth a.draw in
-      let secret : List ℕ = connection_of a.draw in
-      let content : List ℕ = connection_secret_layout.form.text (record { secret = secret }) in
-      let f : Frame = auth_done grant.gid (t ∷ ts) (sealed session content) in
-      handed a grant principal.key.secret t ts (finished a.link session secret f) named drawn ok first (λ done is. finished-fin a grant.proven.offer.name f done is) g
+  issued-after : (a : MonitorArrival) (e : Entrant) (own : List ℕ) (tickets : Result (List Ticket) LoginFault) → name_form.Fits e.name → length a.draw ≡ 384
+      → AreIssued a.own.server e.name e.gid (session_of Auth a.draw) a.reading a.draw tickets
+      → First e.seals (HandsOk a e.name e.gid own)
+      → Granted_ (row_of a (issues (occasion a) a.own.server e own tickets)).seals → AfterMonitor (row_of a (issues (occasion a) a.own.server e own tickets))
+  issued-after a e own (Err why) named drawn ok first g =
+      refused a why e.seals (HandsOk a e.name e.gid own) first (λ vs h. h.own) g
+  issued-after a e own (Ok []) named drawn ok first g = absurd ok
+  issued-after a e own (Ok (t ∷ ts)) named drawn ok first g =
+      let f : Frame = done_frame (handed_out (occasion a) a.own.server e own (t ∷ ts)).payload in
+      handed a e own t ts (finished a.link (session_of Auth a.draw) (connection_of a.draw) f) named drawn ok first (λ done is. finished-fin a e.name f done is) g
 
-  issues_to-after : (a : MonitorArrival) (grant : Granted) (found : Option Principal) → find (is_named grant.proven.offer.name) a.own.server.ring ≡ found
-      → name_form.Fits grant.proven.offer.name → length a.draw ≡ 384
-      → First grant.seals (λ vs. OwnOk before vs J a.own × (grant.gid < a.own.server.state.next_gid) × IsGiven J grant.proven.offer.name grant.gid a.reading)
-      → Granted_ (issues_to a grant found).seals → AfterMonitor (issues_to a grant found)
-  issues_to-after a grant None is named drawn first g =
-      refused a login.UnknownEntity grant.seals (λ vs. OwnOk before vs J a.own × (grant.gid < a.own.server.state.next_gid) × IsGiven J grant.proven.offer.name grant.gid a.reading) first (λ vs h. h.0) g
-  issues_to-after a grant (Some principal) is named drawn first g =
-      let name : Name = grant.proven.offer.name in
-      issued-after a grant principal (issued_for a.own.server (λ service. asking name service grant.gid (session_of Auth a.draw) a.reading a.draw) (services_for grant.proven.ask.other_keys)) named drawn
-      (all-issued a.own.server name grant.gid (session_of Auth a.draw) a.reading a.draw grant.proven.ask.other_keys) more g
+  abbrev key_in : Option Principal → Option Key
+  key_in found = option_map (λ (p : Principal). p.key) found
+
+  issues_to-after : (a : MonitorArrival) (e : Entrant) (found : Option Principal) → find (is_named e.name) a.own.server.ring ≡ found
+      → name_form.Fits e.name → length a.draw ≡ 384
+      → First e.seals (λ vs. OwnOk before vs J a.own × (e.gid < a.own.server.state.next_gid) × IsGiven J e.name e.gid a.reading)
+      → Granted_ (row_of a (issues_to (occasion a) a.own.server e (key_in found))).seals → AfterMonitor (row_of a (issues_to (occasion a) a.own.server e (key_in found)))
+  issues_to-after a e None is named drawn first g =
+      refused a login.UnknownEntity e.seals (λ vs. OwnOk before vs J a.own × (e.gid < a.own.server.state.next_gid) × IsGiven J e.name e.gid a.reading) first (λ vs h. h.0) g
+  issues_to-after a e (Some principal) is named drawn first g =
+      issued-after a e principal.key.secret (issued_for a.own.server (asking_for (occasion a) e.name e.gid) (services_for e.asked)) named drawn
+      (all-issued a.own.server e.name e.gid (session_of Auth a.draw) a.reading a.draw e.asked) more g
     where
-      more : First grant.seals (HandsOk a grant.proven.offer.name grant.gid principal.key.secret)
+      more : First e.seals (HandsOk a e.name e.gid principal.key.secret)
       more granted =
           let r = first granted in
           record {
@@ -262,17 +262,17 @@ module _ (leaked : List Name) (whole_log : List Logged) (n : NodeName) (line : �
               own = r.facts.0;
               below = r.facts.1;
               given = r.facts.2;
-              told = found_secret r.uses grant.proven.offer.name a.own.server.ring principal r.facts.0.ring is;
+              told = found_secret r.uses e.name a.own.server.ring principal r.facts.0.ring is;
             };
           }
 
   numbers-after : (a : MonitorArrival) (proven : Proven) (seals : List SealEntry) (r : Result Numbered LoginFault) → name_form.Fits proven.offer.name → length a.draw ≡ 384
       → First seals (λ vs. OwnOk before vs J a.own × NumbersOk before vs J a.own proven.offer.name a.reading r)
-      → Granted_ (numbers a proven seals r).seals → AfterMonitor (numbers a proven seals r)
+      → Granted_ (row_of a (numbers (occasion a) a.own.server proven seals r)).seals → AfterMonitor (row_of a (numbers (occasion a) a.own.server proven seals r))
   numbers-after a proven seals (Err why) named drawn first g =
       refused a why seals (λ vs. OwnOk before vs J a.own × Unit {0}) first (λ vs h. h.0) g
   numbers-after a proven seals (Ok n) named drawn first g =
-      issues_to-after (with_server a n.server) (granted proven seals n.gid) (find (is_named proven.offer.name) n.server.ring) refl named drawn more g
+      issues_to-after (with_server a n.server) (entrant proven.offer.name n.gid proven.ask.other_keys seals) (find (is_named proven.offer.name) n.server.ring) refl named drawn more g
     where
       more : First seals (λ vs. OwnOk before vs J (with_server a n.server).own × (n.gid < n.server.state.next_gid) × IsGiven J proven.offer.name n.gid a.reading)
       more granted = let r = first granted in record { uses = r.uses; grows = r.grows; inv = r.inv; facts = (r.facts.1.owns, r.facts.1.below, r.facts.1.given) }
@@ -303,7 +303,7 @@ module _ (leaked : List Name) (whole_log : List Logged) (n : NodeName) (line : �
       record { ring = more.ring; present = state; saved = more.saved; before_is = more.before_is; grown = more.grown; below = more.below; rises = more.rises }
 
   rotates-after : (a : MonitorArrival) (hello_gid : ℕ) (proven : Proven) → Inv leaked whole_log us log J → OwnOk before us J a.own → name_form.Fits proven.offer.name → length a.draw ≡ 384
-      → Granted_ (rotates a hello_gid proven).seals → AfterMonitor (rotates a hello_gid proven)
+      → Granted_ (row_of a (rotates (occasion a) a.own.server hello_gid proven)).seals → AfterMonitor (row_of a (rotates (occasion a) a.own.server hello_gid proven))
   rotates-after a hello_gid proven i ok named drawn g =
       numbers-after (with_server a (rotated_server a.reading a.draw a.own.server)) proven
       ((proof_found proven.offer proven.ask.client_challenge ∷ rotation_drawn a.reading a.draw a.own.server.state)

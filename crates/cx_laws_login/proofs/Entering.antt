@@ -12,7 +12,7 @@ use Rattle.cx_journal.specs.declared.entries.Entry.TheVariants as journal
 use Rattle.cx_journal.specs.declared.entries.Issued.{Issued}
 use Rattle.cx_keyserver.specs.declared.tickets.Ticket.{Ticket}
 use Rattle.cx_rotate.specs.declared.states.KeptState.{KeptState}
-use Rattle.cx_rules.specs.MonitorLogin.{login_entries}
+use Rattle.cx_rules.specs.Verdicts.{login_entries}
 use Rattle.cx_rules.specs.Tickets.{issued_entry}
 use Rattle.cx_steps.specs.declared.seals.Logged.{Logged}
 use Rattle.cx_laws_keys.proofs.Journal.{EntryLaw, IsOf, entered, has-before, has-issued, own-issued, own-other}

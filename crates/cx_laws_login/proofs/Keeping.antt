@@ -15,7 +15,7 @@ use Rattle.cx_login.specs.Monitor.{kept_gid, reclaimed}
 use Rattle.cx_login.specs.declared.monitor.Reclaim.TheVariants.{Fresh, Denied}
 use Rattle.cx_rotate.specs.declared.states.KeptState.{KeptState}
 use Rattle.cx_rules.specs.Monitor.{Monitor}
-use Rattle.cx_rules.specs.MonitorLogin.{Numbered, next_number, numbered}
+use Rattle.cx_rules.specs.Verdicts.{Numbered, next_number, numbered}
 use Rattle.cx_sealed.specs.declared.service_ticket.ServiceTicket.{ServiceTicket}
 use Rattle.cx_laws_keys.proofs.Journal.{IsOf}
 use Rattle.cx_laws_keys.proofs.Known.{AreOwn, HasTicket}

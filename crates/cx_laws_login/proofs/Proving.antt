@@ -1,7 +1,7 @@
 -- A ticket is issued only at a turn of a link that waits for a proof, to the entity that was offered the challenge, behind that proof.
 use Rattle.std.proofs.Common.{◌≡◌, ◌⊎◌, ℕ, ◌==◌, Bool, true, false, List, [], ◌∷◌, ◌++◌, length, map, Option, Some, None, Result, Ok, Err, inl, inr, refl, sym, ap, ◌∙◌, subst, arith}
-use Rattle.std.specs.Prelude.{Contains, find, nat_le, if◌then◌else◌}
-use Rattle.std.specs.List.{AllByRecursion, flat_map}
+use Rattle.std.specs.Prelude.{Contains, nat_le, if◌then◌else◌}
+use Rattle.std.specs.List.{AllByRecursion}
 use Rattle.std.proofs.lemmas.List.Elements.{Contains-append_cases, Contains-push_cases}
 use Rattle.cx_base.specs.Names.{Name}
 use Rattle.cx_base.specs.declared.kinds.EntityType.TheVariants.{Auth, Mon}
@@ -9,6 +9,7 @@ use Rattle.cx_control.specs.Auth.{auth_request_layout, auth_request_more_layout,
 use Rattle.cx_control.specs.Hello.{hello_layout}
 use Rattle.cx_control.specs.declared.auth.AuthRequestMore.{AuthRequestMore}
 use Rattle.cx_dice.specs.Draws.{connection_of, session_of}
+use Rattle.cx_enc.specs.declared.keys.Key.{Key}
 use Rattle.cx_frame.specs.Banners.{banner_at}
 use Rattle.cx_frame.specs.declared.banner.Banner.{Banner}
 use Rattle.cx_frame.specs.declared.frame.Frame.{Frame}
@@ -20,34 +21,28 @@ use Rattle.cx_journal.specs.declared.entries.Issued.{Issued}
 use Rattle.cx_journal.specs.declared.faults.BytesFault.{BytesFault}
 use Rattle.cx_journal.specs.declared.faults.LoginFault.{LoginFault}
 use Rattle.cx_base.specs.declared.nodes.NodeName.TheVariants as node
-use Rattle.cx_keyring.specs.Entries.{is_named}
-use Rattle.cx_keyring.specs.declared.entries.Entry.{Entry as Principal}
-use Rattle.cx_keyserver.specs.Issuing.{asking}
 use Rattle.cx_keyserver.specs.Servers.{rotated_server}
 use Rattle.cx_keyserver.specs.declared.tickets.Ticket.{Ticket}
-use Rattle.cx_login.specs.Monitor.{Offer, Proven, kept_gid, proving, reclaimed}
+use Rattle.cx_login.specs.Monitor.{Offer, Proven, kept_gid, proof_found, proving, reclaimed}
 use Rattle.cx_login.specs.Proving.{due_proof}
 use Rattle.cx_login.specs.Unlocking.{old_ticket}
 use Rattle.cx_rotate.specs.declared.states.KeptState.{KeptState}
 use Rattle.cx_rules.specs.Acceptor.{AwaitsBanner, AwaitsHello, AwaitsRequest, AwaitsProof, AwaitsSignature, AwaitsIdent, Open, Finished, denies, finished, on_auth_request, on_banner, on_hello, on_signature}
 use Rattle.cx_rules.specs.Fronts.{ahead_of, banner_next, banner_read, opened_parts, plain_next, plain_read, sealed_ahead, secure_next, secure_read}
 use Rattle.cx_cbc.specs.Envelope.{sealed}
-use Rattle.cx_journal.specs.declared.premises.KeyKind.TheVariants as kind
 use Rattle.cx_rules.specs.KeptStates.{changed}
-use Rattle.cx_sealed.specs.Records.{connection_secret_layout}
-use Rattle.cx_steps.specs.declared.seals.DrawMark.TheVariants as draw
-use Rattle.cx_steps.specs.declared.seals.SealEntry.TheVariants.{Drawn, Sealed}
 use Rattle.cx_journal.specs.declared.outcomes.Reason.TheVariants.{LinksFull}
 use Rattle.cx_rules.specs.Greetings.{own_banner}
 use Rattle.cx_rules.specs.Inputs.{Input, Opened, NoLink, Bytes, Turn, Gone, Look, Tick, Submit, Restart}
 use Rattle.cx_rules.specs.Links.{Link, link_of}
 use Rattle.cx_rules.specs.Monitor.{Entity, Monitor, MonitorArrival, MonitorNode, MonitorRow, MonitorStage, Offered}
-use Rattle.cx_rules.specs.MonitorLogin.{Granted, Numbered, auth_done, granted, hands_out, issues, issues_to, login_entries, numbered, numbers, on_authenticate, proof_found, proves, rotates, with_server}
+use Rattle.cx_rules.specs.MonitorLogin.{done_frame, hands_over, occasion, on_authenticate, proves, row_of, with_server}
 use Rattle.cx_rules.specs.MonitorRule.{monitor_step, on_auth_request_more, on_ident, on_request_payload, opens, turn, turned_at}
 use Rattle.cx_rules.specs.Payloads.{due, whole}
 use Rattle.cx_rules.specs.Rows.{Outcome, Turned, Waits, Refuses, Handles, arrival, at, carried_out, fed, goes_on, new_link, refuses, turned_by, turns, with_opened}
 use Rattle.cx_rules.specs.Secured.{Keys, under}
-use Rattle.cx_rules.specs.Tickets.{issued_entry, issued_for, rotation_drawn, services_for, ticket_seals}
+use Rattle.cx_rules.specs.Tickets.{issued_entry, issued_for, rotation_drawn, services_for}
+use Rattle.cx_rules.specs.Verdicts.{Entrant, Numbered, asking_for, entrant, handed_out, issues, issues_to, key_of, login_entries, numbered, numbers, rotates}
 use Rattle.cx_rules.specs.Upkeep.{on_upkeep}
 use Rattle.cx_secure.specs.declared.refusals.SecureRefusal.{SecureRefusal}
 use Rattle.cx_steps.specs.declared.seals.SealEntry.{SealEntry}
@@ -131,48 +126,49 @@ module _ (offered : Offered) (client : ℕ) where
   denied : (a : MonitorArrival) (why : LoginFault) (seals : List SealEntry) → OfferProves (denies a 13 why seals)
   denied a why seals t has = absurd (none-issued (denies a 13 why seals).entries ((tt, tt), tt) t has)
 
-  handed-proves : (a : MonitorArrival) (grant : Granted) (tickets : List Ticket) (sealed : List SealEntry) (save : Option KeptState) (r : Result Finished BytesFault)
-      → AllByRecursion (λ (k : Ticket). k.entity ≡ offered.offer.name) tickets → HasProof offered.offer client grant.seals → OfferProves (hands_out a grant tickets sealed save r)
-  handed-proves a grant tickets sealed save (Err why) h proof t has = absurd (none-issued (hands_out a grant tickets sealed save (Err why)).entries ((tt, tt), tt) t has)
-  handed-proves a grant tickets sealed save (Ok done) h proof t has = record {
-    offered = offered;
-    stage_is = refl;
-    entity = of-login offered.offer.name save tickets h t has;
-    client_challenge = client;
-    rest = proof.0 ++ (sealed ++ done.seals);
-    checked = ap (λ (es : List SealEntry). es ++ (sealed ++ done.seals)) proof.1;
-  }
+  handed-proves : (a : MonitorArrival) (e : Entrant) (own : List ℕ) (tickets : List Ticket) (r : Result Finished BytesFault)
+      → AllByRecursion (λ (k : Ticket). k.entity ≡ offered.offer.name) tickets → HasProof offered.offer client e.seals
+      → OfferProves (hands_over a (handed_out (occasion a) a.own.server e own tickets) r)
+  handed-proves a e own tickets (Err why) h proof t has = absurd (none-issued (refuses_bytes a why e.seals).entries ((tt, tt), tt) t has)
+  handed-proves a e own tickets (Ok done) h proof t has =
+      let sealed : List SealEntry = (handed_out (occasion a) a.own.server e own tickets).sealed in
+      record {
+        offered = offered;
+        stage_is = refl;
+        entity = of-login offered.offer.name (changed a.own.saved a.own.server.state) tickets h t has;
+        client_challenge = client;
+        rest = proof.0 ++ (sealed ++ done.seals);
+        checked = ap (λ (es : List SealEntry). es ++ (sealed ++ done.seals)) proof.1;
+      }
 
-  issued-proves : (a : MonitorArrival) (grant : Granted) (principal : Principal) (tickets : Result (List Ticket) LoginFault) → grant.proven.offer ≡ offered.offer
-      → AreIssued a.own.server grant.proven.offer.name grant.gid (session_of Auth a.draw) a.reading a.draw tickets → HasProof offered.offer client grant.seals
-      → OfferProves (issues a grant principal tickets)
-  issued-proves a grant principal (Err why) same ok proof = denied a why grant.seals
-  issued-proves a grant principal (Ok []) same ok proof = absurd ok
-  issued-proves a grant principal (Ok (t ∷ ts)) same ok proof =
-      let name : Name = grant.proven.offer.name in
-      let all : AllByRecursion (λ (k : Ticket). k.entity ≡ name) (t ∷ ts) = (ok.first.entity, of-others name grant.gid a.reading a.draw ts ok.others) in
+  issued-proves : (a : MonitorArrival) (e : Entrant) (own : List ℕ) (tickets : Result (List Ticket) LoginFault) → e.name ≡ offered.offer.name
+      → AreIssued a.own.server e.name e.gid (session_of Auth a.draw) a.reading a.draw tickets → HasProof offered.offer client e.seals
+      → OfferProves (row_of a (issues (occasion a) a.own.server e own tickets))
+  issued-proves a e own (Err why) same ok proof = denied a why e.seals
+  issued-proves a e own (Ok []) same ok proof = absurd ok
+  issued-proves a e own (Ok (t ∷ ts)) same ok proof =
+      let all : AllByRecursion (λ (k : Ticket). k.entity ≡ e.name) (t ∷ ts) = (ok.first.entity, of-others e.name e.gid a.reading a.draw ts ok.others) in
       let named : AllByRecursion (λ (k : Ticket). k.entity ≡ offered.offer.name) (t ∷ ts) =
-      subst (λ (o : Offer). AllByRecursion (λ (k : Ticket). k.entity ≡ o.name) (t ∷ ts)) same all in
-      let session : List ℕ = session_of Auth a.draw in
-      let secret : List ℕ = connection_of a.draw in
-      let content : List ℕ = connection_secret_layout.form.text (record { secret = secret }) in
-      let last : List SealEntry = Drawn (draw.Connection secret name) ∷ Sealed (record { key = session; kind = kind.Session; content = content }) ∷ [] in
-      handed-proves a grant (t ∷ ts) (flat_map (ticket_seals a.own.server principal.key.secret session) (t ∷ ts) ++ last) (changed a.own.saved a.own.server.state)
-      (finished a.link session secret (auth_done grant.gid (t ∷ ts) (sealed session content))) named proof
+      subst (λ (name : Name). AllByRecursion (λ (k : Ticket). k.entity ≡ name) (t ∷ ts)) same all in
+      handed-proves a e own (t ∷ ts)
+      (finished a.link (session_of Auth a.draw) (connection_of a.draw) (done_frame (handed_out (occasion a) a.own.server e own (t ∷ ts)).payload)) named proof
 
-  issues_to-proves : (a : MonitorArrival) (grant : Granted) (found : Option Principal) → grant.proven.offer ≡ offered.offer → HasProof offered.offer client grant.seals → OfferProves (issues_to a grant found)
-  issues_to-proves a grant None same proof = denied a _ grant.seals
-  issues_to-proves a grant (Some principal) same proof =
-      let name : Name = grant.proven.offer.name in
-      issued-proves a grant principal (issued_for a.own.server (λ service. asking name service grant.gid (session_of Auth a.draw) a.reading a.draw) (services_for grant.proven.ask.other_keys)) same
-      (all-issued a.own.server name grant.gid (session_of Auth a.draw) a.reading a.draw grant.proven.ask.other_keys) proof
+  issues_to-proves : (a : MonitorArrival) (e : Entrant) (own : Option Key) → e.name ≡ offered.offer.name → HasProof offered.offer client e.seals
+      → OfferProves (row_of a (issues_to (occasion a) a.own.server e own))
+  issues_to-proves a e None same proof = denied a _ e.seals
+  issues_to-proves a e (Some own) same proof =
+      issued-proves a e own.secret (issued_for a.own.server (asking_for (occasion a) e.name e.gid) (services_for e.asked)) same
+      (all-issued a.own.server e.name e.gid (session_of Auth a.draw) a.reading a.draw e.asked) proof
 
   numbers-proves : (a : MonitorArrival) (proven : Proven) (seals : List SealEntry) (n : Result Numbered LoginFault) → proven.offer ≡ offered.offer → HasProof offered.offer client seals
-      → OfferProves (numbers a proven seals n)
+      → OfferProves (row_of a (numbers (occasion a) a.own.server proven seals n))
   numbers-proves a proven seals (Err why) same proof = denied a why seals
-  numbers-proves a proven seals (Ok n) same proof = issues_to-proves (with_server a n.server) (granted proven seals n.gid) (find (is_named proven.offer.name) n.server.ring) same proof
+  numbers-proves a proven seals (Ok n) same proof =
+      issues_to-proves (with_server a n.server) (entrant proven.offer.name n.gid proven.ask.other_keys seals) (key_of n.server proven.offer.name)
+      (ap (λ (o : Offer). o.name) same) proof
 
-rotates-proves : (a : MonitorArrival) (offered : Offered) (ask : Authenticate) → RowProves (AwaitsProof offered) (rotates a offered.gid (record { offer = offered.offer; ask = ask }))
+rotates-proves : (a : MonitorArrival) (offered : Offered) (ask : Authenticate) → RowProves (AwaitsProof offered)
+    (row_of a (rotates (occasion a) a.own.server offered.gid (record { offer = offered.offer; ask = ask })))
 rotates-proves a offered ask =
     let proven : Proven = record { offer = offered.offer; ask = ask } in
     let server = rotated_server a.reading a.draw a.own.server in

@@ -2,7 +2,6 @@ pub mod Drawn
 pub mod Envelopes
 pub mod One
 pub mod Ordered
-pub mod RowLaw
 pub mod Short
 pub mod Steps
 pub mod Still

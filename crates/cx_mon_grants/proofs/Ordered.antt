@@ -20,7 +20,7 @@ use Rattle.cx_rotate.specs.declared.generations.Generation.{Generation}
 use Rattle.cx_rules.specs.Tickets.{and_first, is_asked, issued_before, issued_for, services_for, ticket_part}
 use Rattle.cx_wire.specs.Services.{AreTickets, IsNextTicket, follows, rank}
 use Rattle.cx_mon_grants.specs.Handing.{CanBeHandedOut, IsWhole}
-use Rattle.cx_mon_grants.specs.Occasions.{Occasion, asking_for}
+use Rattle.cx_rules.specs.Verdicts.{Occasion, asking_for}
 
 -- ---- one ticket
 

@@ -8,13 +8,12 @@ use Rattle.cx_login.specs.Monitor.{Proven, kept_gid, proof_found, reclaimed}
 use Rattle.cx_login.specs.Unlocking.{Unlocked, old_ticket}
 use Rattle.cx_login.specs.declared.monitor.Reclaim.{Reclaim}
 use Rattle.cx_rotate.specs.declared.states.KeptState.{KeptState}
-use Rattle.cx_rules.specs.MonitorLogin.{Numbered, numbered}
+use Rattle.cx_rules.specs.Verdicts.{Decided, Numbered, Occasion, entrant, issues_to, key_of, numbered, numbers, reclaims, rotates}
 use Rattle.cx_rules.specs.Tickets.{rotation_drawn}
 use Rattle.cx_sealed.specs.declared.service_ticket.ServiceTicket.{ServiceTicket}
 use Rattle.cx_steps.specs.declared.seals.SealEntry.{SealEntry}
-use Rattle.cx_mon_grants.specs.Occasions.{Occasion, entrant}
-use Rattle.cx_mon_grants.specs.Verdicts.{Decided, Decides, issues_to, key_of, numbers, reclaims, rotates}
-use Rattle.cx_mon_grants.specs.declared.verdicts.Verdict.{Verdict}
+use Rattle.cx_mon_grants.specs.Deciding.{Decides}
+use Rattle.cx_rules.specs.declared.verdicts.Verdict.{Verdict}
 
 decides_as : (first second : Decided) (new : Server) (result : Result Verdict AllocError) → first ≡ second → Decides second new result → Decides first new result
 decides_as first second new result is = subst (λ (d : Decided). Decides d new result) (sym is)

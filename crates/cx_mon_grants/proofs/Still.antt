@@ -15,7 +15,7 @@ use Rattle.cx_rotate.specs.Keeping.{IsKeptState, IsLasting, IsLife}
 use Rattle.cx_rotate.specs.Rotation.{rotated, is_current, is_full}
 use Rattle.cx_rotate.specs.declared.generations.Generation.{Generation}
 use Rattle.cx_rotate.specs.declared.states.KeptState.{KeptState}
-use Rattle.cx_rules.specs.MonitorLogin.{Numbered, numbered}
+use Rattle.cx_rules.specs.Verdicts.{Numbered, numbered}
 use Rattle.cx_mon_grants.specs.Issuing.{IsRotated}
 
 -- ---- the generations of a service

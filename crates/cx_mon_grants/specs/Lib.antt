@@ -1,6 +1,5 @@
+pub mod Deciding
 pub mod Handing
 pub mod Issuing
 pub mod Logging
 pub mod Occasions
-pub mod Rows
-pub mod Verdicts

@@ -1,11 +1,9 @@
--- What is logged of a ticket and of the secret of a connection, entry by entry.
-use Rattle.std.specs.Prelude.{ℕ, List, [], ◌∷◌}
-use Rattle.cx_base.specs.Names.{Name}
-use Rattle.cx_journal.specs.declared.premises.KeyKind.TheVariants.{Session}
+-- What is logged of a ticket, entry by entry.
+use Rattle.std.specs.Prelude.{ℕ, List}
 use Rattle.cx_keyserver.specs.Issuing.{ticket_info_of}
 use Rattle.cx_keyserver.specs.declared.tickets.Ticket.{Ticket}
 use Rattle.cx_rules.specs.Tickets.{info_kind}
-use Rattle.cx_sealed.specs.Records.{connection_secret_layout, ticket_info_layout}
+use Rattle.cx_sealed.specs.Records.{ticket_info_layout}
 use Rattle.cx_steps.specs.declared.seals.DrawMark.TheVariants as draw
 use Rattle.cx_steps.specs.declared.seals.SealEntry.{SealEntry}
 use Rattle.cx_steps.specs.declared.seals.SealEntry.TheVariants.{Sealed, Drawn}
@@ -18,12 +16,3 @@ drawn_seal ticket = Drawn (draw.Session ticket.session ticket.entity)
 abbrev pub info_sealed : List ℕ → Ticket → SealEntry
 info_sealed key ticket =
     Sealed (record { key = key; kind = info_kind ticket.service; content = ticket_info_layout.form.text (ticket_info_of ticket) })
-
--- the content of a sealed connection secret
-abbrev pub secret_content : List ℕ → List ℕ
-secret_content secret = connection_secret_layout.form.text (record { secret = secret })
-
--- the secret of a connection was drawn for an entity, and sealed by the session key of its ticket for AUTH
-abbrev pub secret_seals : Name → List ℕ → List ℕ → List SealEntry
-secret_seals name session secret =
-    Drawn (draw.Connection secret name) ∷ Sealed (record { key = session; kind = Session; content = secret_content secret }) ∷ []

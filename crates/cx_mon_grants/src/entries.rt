@@ -1,7 +1,7 @@
 //! What is entered of a login.
 
 ghost use Rattle.std.specs.Prelude.{◌≡◌, ◌++◌, map, IfOk, OnOk};
-ghost use Rattle.cx_rules.specs.MonitorLogin.{login_entries};
+ghost use Rattle.cx_rules.specs.Verdicts.{login_entries};
 ghost use Rattle.cx_rules.specs.Tickets.{issued_entry};
 
 use cx_base::{Duplicate, Items};

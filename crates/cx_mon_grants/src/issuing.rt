@@ -5,7 +5,8 @@ ghost use Rattle.cx_keyserver.specs.Issuing.{issued, wants_memory};
 ghost use Rattle.cx_rules.specs.Tickets.{is_asked, issued_for, services_for};
 ghost use Rattle.cx_mon_grants.specs.Handing.{IsWhole};
 ghost use Rattle.cx_mon_grants.specs.Issuing.{IsRotated, one_of};
-ghost use Rattle.cx_mon_grants.specs.Occasions.{asking_for, occasion_of};
+ghost use Rattle.cx_rules.specs.Verdicts.{asking_for};
+ghost use Rattle.cx_mon_grants.specs.Occasions.{occasion_of};
 
 use crate::occasions::Entrant;
 use cx_base::{EntityType, Items};

@@ -3,7 +3,6 @@
 
 mod entries;
 mod issuing;
-mod laws;
 mod logging;
 mod logins;
 mod numbering;
@@ -11,21 +10,14 @@ mod occasions;
 mod payloads;
 mod rotating;
 mod saving;
-mod verdicts;
 
-pub use laws::granting_laws;
+pub use cx_rules::{HandedOut, Verdict};
 pub use logins::log_in;
-pub use numbering::numbered;
 pub use occasions::Occasion;
-pub use rotating::rotated;
-pub use saving::{changed, saved_behind};
-pub use verdicts::{HandedOut, Verdict};
 
-// Each public type may be sent to another thread and shared with one.
+// Its public type may be sent to another thread and shared with one.
 fn is_sendable<T: Send + Sync>() {}
 
 fn all_are_sendable() {
     is_sendable::<Occasion>();
-    is_sendable::<Verdict>();
-    is_sendable::<HandedOut>();
 }

@@ -6,7 +6,8 @@ ghost use Rattle.cx_keyserver.specs.Issuing.{current_at, service_ticket_of, tick
 ghost use Rattle.cx_rules.specs.Tickets.{blob_kind, blob_sealed, info_key, info_kind, ticket_seals};
 ghost use Rattle.cx_sealed.specs.Records.{service_ticket_layout, ticket_info_layout};
 ghost use Rattle.cx_mon_grants.specs.Handing.{IsWhole};
-ghost use Rattle.cx_mon_grants.specs.Logging.{drawn_seal, info_sealed, secret_content, secret_seals};
+ghost use Rattle.cx_mon_grants.specs.Logging.{drawn_seal, info_sealed};
+ghost use Rattle.cx_rules.specs.Verdicts.{secret_content, secret_seals};
 
 use cx_base::{Blob, Duplicate, EntityName, EntityType, Items, Reading};
 use cx_enc::write_whole;

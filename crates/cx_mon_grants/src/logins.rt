@@ -1,17 +1,13 @@
 //! What comes of a login whose proof was found equal: the steps, in their order.
 
-ghost use Rattle.std.specs.Prelude.{◌≡◌, ◌++◌, ◌<◌, ◌≤◌, None, All, length, map, IfOk, OnOk, OnErr};
-ghost use Rattle.std.specs.List.{flat_map};
+ghost use Rattle.std.specs.Prelude.{◌≡◌, ◌<◌, IfOk, OnOk, OnErr};
 ghost use Rattle.cx_base.specs.declared.kinds.EntityType.TheVariants.{Auth};
 ghost use Rattle.cx_cbc.specs.Envelope.{sealed};
-ghost use Rattle.cx_dice.specs.Draws.{connection_of, session_of};
-ghost use Rattle.cx_rules.specs.MonitorLogin.{numbered};
-ghost use Rattle.cx_rules.specs.Tickets.{ticket_part, ticket_seals};
+ghost use Rattle.cx_rules.specs.Verdicts.{done_payload, handed_out, issues_to, key_of, login_done, numbered, numbers, rotates, secret_content};
 ghost use Rattle.cx_mon_grants.specs.Handing.{CanBeHandedOut};
 ghost use Rattle.cx_mon_grants.specs.Issuing.{IsRotated};
-ghost use Rattle.cx_mon_grants.specs.Logging.{secret_content};
 ghost use Rattle.cx_mon_grants.specs.Occasions.{entrant_of, occasion_of};
-ghost use Rattle.cx_mon_grants.specs.Verdicts.{Decides, done_payload, handed_out, issues_to, key_of, login_done, numbers, rotates};
+ghost use Rattle.cx_mon_grants.specs.Deciding.{Decides};
 
 use crate::entries::login_entries;
 use crate::issuing::{issued_for, services_for};
@@ -21,11 +17,11 @@ use crate::occasions::{Entrant, Occasion};
 use crate::payloads::{done_payload, login_done};
 use crate::rotating::rotated;
 use crate::saving::changed;
-use crate::verdicts::{HandedOut, Verdict};
 use cx_base::{Blob, Duplicate, EntityType, Items};
 use cx_journal::LoginFault;
 use cx_keyserver::{KeyServer, Ticket};
 use cx_login::{Proved, Reclaim};
+use cx_rules::{HandedOut, Verdict};
 use cx_sealed::{ConnectionSecret, seal_connection_secret};
 use cx_steps::SealEntry;
 use std::alloc::{AllocError, Global};

@@ -1,14 +1,14 @@
 //! Which global id an entity gets.
 
 ghost use Rattle.std.specs.Prelude.{◌≡◌, Ok, Err, IfOk, IfErr, OnErr};
-ghost use Rattle.cx_rules.specs.MonitorLogin.{next_number, numbered};
+ghost use Rattle.cx_rules.specs.Verdicts.{next_number, numbered};
 
 use cx_journal::LoginFault;
 use cx_keyserver::{GidsSpent, KeyServer};
 use cx_login::Reclaim;
 
 /// The global id that the entity keeps, or the next one. There is none where it would keep one that it may not, or all are given out.
-pub fn numbered(server: &mut KeyServer, reclaim: Reclaim) -> Result<u64, LoginFault>
+pub(crate) fn numbered(server: &mut KeyServer, reclaim: Reclaim) -> Result<u64, LoginFault>
     ensures ok { IfOk result (λ gid. numbered server.old reclaim ≡ Ok (record { server = server.new; gid = gid })) }
     ensures err { IfErr result (λ why. numbered server.old reclaim ≡ Err why) }
     ensures unchanged { OnErr result (server.new ≡ server.old) }

@@ -4,7 +4,7 @@ ghost use Rattle.std.specs.Prelude.{◌≡◌, ◌≤◌, None, All, length, map
 ghost use Rattle.cx_rules.specs.Tickets.{ticket_part};
 ghost use Rattle.cx_wire.specs.Services.{AreTickets};
 ghost use Rattle.cx_mon_grants.specs.Handing.{IsShort};
-ghost use Rattle.cx_mon_grants.specs.Verdicts.{done_payload, login_done};
+ghost use Rattle.cx_rules.specs.Verdicts.{done_payload, login_done};
 
 use cx_base::{Blob, Duplicate, Items};
 use cx_control::{AuthDone, put_auth_done};

@@ -1,6 +1,6 @@
 //! Rotating the secrets of the services, and what is logged of it.
 
-ghost use Rattle.std.specs.Prelude.{◌≡◌, ◌++◌, ◌<◌, List, map, take, IsTrue, OnOk, OnErr};
+ghost use Rattle.std.specs.Prelude.{◌≡◌, ◌++◌, ◌<◌, map, IsTrue, OnOk, OnErr};
 ghost use Rattle.cx_base.specs.declared.kinds.EntityType.{EntityType};
 ghost use Rattle.cx_dice.specs.Draws.{has_keys};
 ghost use Rattle.cx_keyserver.specs.Servers.{rotated_server};
@@ -18,7 +18,7 @@ use cx_steps::{DrawMark, SealEntry};
 use std::alloc::{AllocError, Global};
 
 /// Rotates the secrets of all services, and logs each key that this adds. Where memory is wanting, some of them may stand in the log.
-pub fn rotated(
+pub(crate) fn rotated(
     alloc: Global,
     server: &mut KeyServer,
     now: Reading,

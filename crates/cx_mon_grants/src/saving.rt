@@ -1,28 +1,18 @@
 //! When the kept state has changed.
 
 ghost use Rattle.std.specs.Prelude.{◌≡◌};
-ghost use Rattle.cx_rules.specs.KeptStates.{changed, same_generation, same_generations, same_state, saved_behind};
+ghost use Rattle.cx_rules.specs.KeptStates.{changed, same_generation, same_generations, same_state};
 
 use cx_rotate::{Generation, Generations, KeptState};
 
 /// The state that a step saves: what there is, where it differs from what was saved last.
-pub fn changed(saved: &KeptState, state: &KeptState) -> Option<KeptState>
+pub(crate) fn changed(saved: &KeptState, state: &KeptState) -> Option<KeptState>
     ensures { result ≡ changed saved.now state.now }
 {
     if same_state(state, saved) {
         None
     } else {
         Some(*state)
-    }
-}
-
-/// The state that was saved last, behind a step that saves this one or none.
-pub fn saved_behind(saved: &KeptState, save: &Option<KeptState>) -> KeptState
-    ensures { result ≡ saved_behind saved.now save.now }
-{
-    match save {
-        None => *saved,
-        Some(state) => *state,
     }
 }
 

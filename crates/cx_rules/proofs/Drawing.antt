@@ -3,7 +3,6 @@ use Rattle.std.proofs.Common.{◌≡◌, ℕ, ◌==◌, inl, inr, Bool, true, fa
 use Rattle.std.specs.Prelude.{filter, find, not, nat_lt, ◌+◌, ◌-◌, ◌^◌, length, if◌then◌else◌}
 use Rattle.std.specs.List.{flat_map, list_any}
 use Rattle.cx_base.specs.Names.{Name}
-use Rattle.cx_base.specs.declared.kinds.EntityType.{EntityType}
 use Rattle.cx_base.specs.declared.kinds.EntityType.TheVariants.{Auth, Mds, Osd, Mgr, Mon}
 use Rattle.cx_cbc.specs.Envelope.{sealed}
 use Rattle.cx_control.specs.Auth.{auth_reply_more_layout, auth_request_layout, auth_request_more_layout, auth_signature_layout}
@@ -34,11 +33,11 @@ use Rattle.cx_rules.specs.MonitorRule.{on_auth_request_more, on_client_ident, on
 use Rattle.cx_rules.specs.Upkeep.{on_keepalive, on_keepalive_ack, on_upkeep}
 use Rattle.cx_dice.specs.Draws.{challenge_of, connection_of, session_of}
 use Rattle.cx_frame.specs.Frames.{total}
+use Rattle.cx_enc.specs.declared.keys.Key.{Key}
 use Rattle.cx_frame.specs.declared.frame.Frame.{Frame}
 use Rattle.cx_journal.specs.declared.faults.BytesFault.{BytesFault}
 use Rattle.cx_journal.specs.declared.faults.BytesFault.TheVariants.{CounterSpent, TooLong, Unexpected}
 use Rattle.cx_journal.specs.declared.faults.LoginFault.{LoginFault}
-use Rattle.cx_journal.specs.declared.premises.KeyKind.TheVariants as kind
 use Rattle.cx_keyring.specs.Entries.{is_named}
 use Rattle.cx_keyring.specs.declared.entries.Entry.{Entry as Principal}
 use Rattle.cx_keyserver.specs.Issuing.{◌>>=◌, asking, current_at, fields_of, issued, or_else, sealed_by, telling_key}
@@ -46,31 +45,30 @@ use Rattle.cx_keyserver.specs.Servers.{Server, generations_of, rotated_server}
 use Rattle.cx_keyserver.specs.declared.refusals.IssueRefusal.{IssueRefusal}
 use Rattle.cx_keyserver.specs.declared.refusals.IssueRefusal.TheVariants as issue
 use Rattle.cx_keyserver.specs.declared.tickets.Ticket.{Ticket}
-use Rattle.cx_login.specs.Monitor.{Offer, Proven, kept_gid, proving, reclaimed}
+use Rattle.cx_login.specs.Monitor.{Offer, Proven, kept_gid, proof_found, proving, reclaimed}
 use Rattle.cx_login.specs.Unlocking.{old_ticket}
 use Rattle.cx_login.specs.declared.refusals.WrongProof.{WrongProof}
 use Rattle.cx_rotate.specs.declared.generations.Generation.{Generation}
-use Rattle.cx_rotate.specs.declared.states.KeptState.{KeptState}
-use Rattle.cx_sealed.specs.Records.{connection_secret_layout}
 use Rattle.cx_secure.specs.Plains.{plains}
 use Rattle.cx_steps.specs.Onto.{SomeOf}
 use Rattle.cx_steps.specs.declared.seals.DrawMark.{DrawMark}
 use Rattle.cx_steps.specs.declared.seals.DrawMark.TheVariants as draw
 use Rattle.cx_steps.specs.declared.seals.SealEntry.{SealEntry}
-use Rattle.cx_steps.specs.declared.seals.SealEntry.TheVariants.{Sealed, Drawn}
+use Rattle.cx_steps.specs.declared.seals.SealEntry.TheVariants.{Drawn}
 use Rattle.cx_wire.specs.Logins.{authenticate_layout, login_hello_layout, server_challenge_layout}
 use Rattle.cx_wire.specs.declared.logins.Authenticate.{Authenticate}
 use Rattle.cx_wire.specs.declared.logins.LoginHello.{LoginHello}
 use Rattle.cx_rules.specs.Acceptor.{AwaitsBanner, AwaitsHello, AwaitsRequest, AwaitsProof, AwaitsSignature, AwaitsIdent, Open, Finished, denies, finished, joined, misses, missing_told, on_auth_request, on_banner, on_hello, on_signature}
 use Rattle.cx_rules.specs.Judged.{LogsDraw, LogsLink, LogsStage, LogsTurn, has_key}
-use Rattle.cx_rules.specs.KeptStates.{changed}
 use Rattle.cx_rules.specs.Links.{Link}
 use Rattle.cx_rules.specs.Monitor.{Entity, MonitorArrival, MonitorRow, MonitorStage, Offered}
-use Rattle.cx_rules.specs.MonitorLogin.{Granted, Numbered, auth_done, challenges, granted, hands_out, issues, issues_to, numbered, numbers, on_authenticate, on_login_hello, proof_found, proves, with_server}
+use Rattle.cx_rules.specs.MonitorLogin.{challenges, done_frame, hands_over, occasion, on_authenticate, on_login_hello, proves, row_of, with_server}
 use Rattle.cx_rules.specs.Payloads.{control, due, payload, whole}
 use Rattle.cx_rules.specs.Rows.{at, goes_on, plain_sent, refuses, refuses_bytes, secure_sent, sends_secure, turned_by, with_opened}
 use Rattle.cx_rules.specs.Secured.{Keys, SealedFrame, Secured, acceptor_keys, is_signed, plain_frame, sealed_under, secure_frame, signature_found, signed_frame, signing, under}
 use Rattle.cx_rules.specs.Tickets.{is_asked, issued_before, issued_for, rotation_drawn, services_for, ticket_seals}
+use Rattle.cx_rules.specs.Verdicts.{Entrant, Numbered, asking_for, entrant, handed_out, issues, issues_to, key_of, numbered, numbers, secret_seals}
+use Rattle.cx_rules.specs.declared.verdicts.HandedOut.{HandedOut}
 
 -- ---- keys stay
 
@@ -210,54 +208,51 @@ auth-before name block (Err issue.NoCaps) rest h = absurd h
 auth-before name block (Err issue.NotAService) rest h = absurd h
 auth-before name block (Err issue.OutOfMemory) rest h = absurd h
 
-logs-hands_out : (a : MonitorArrival) (grant : Granted) (tickets : List Ticket) (sealed : List SealEntry) (save : Option KeptState) (done : Result Finished BytesFault)
-    → LogsDraw (draw.Connection (connection_of a.draw) grant.proven.offer.name) sealed → LogsDraw (draw.Session (session_of Auth a.draw) grant.proven.offer.name) sealed
-    → IsFinishedBy (session_of Auth a.draw) (connection_of a.draw) done → Logs a (hands_out a grant tickets sealed save done)
-logs-hands_out a grant tickets sealed save (Err why) c s f = tt
-logs-hands_out a grant tickets sealed save (Ok done) c s f =
-    let name = grant.proven.offer.name in
-    let connection = draw.Connection (connection_of a.draw) name in
-    let session = draw.Session (session_of Auth a.draw) name in (
+logs-hands_over : (a : MonitorArrival) (h : HandedOut) (done : Result Finished BytesFault)
+    → LogsDraw (draw.Connection (connection_of a.draw) h.name) h.sealed → LogsDraw (draw.Session (session_of Auth a.draw) h.name) h.sealed
+    → IsFinishedBy (session_of Auth a.draw) (connection_of a.draw) done → Logs a (hands_over a h done)
+logs-hands_over a h (Err why) c s f = tt
+logs-hands_over a h (Ok done) c s f =
+    let connection = draw.Connection (connection_of a.draw) h.name in
+    let session = draw.Session (session_of Auth a.draw) h.name in (
       f.0,
-      some-right (λ logged. logged ≡ Drawn connection) grant.seals (sealed ++ done.seals) (some-left (λ logged. logged ≡ Drawn connection) sealed done.seals c),
+      some-right (λ logged. logged ≡ Drawn connection) h.seals (h.sealed ++ done.seals) (some-left (λ logged. logged ≡ Drawn connection) h.sealed done.seals c),
       f.1,
-      some-right (λ logged. logged ≡ Drawn session) grant.seals (sealed ++ done.seals) (some-left (λ logged. logged ≡ Drawn session) sealed done.seals s),
+      some-right (λ logged. logged ≡ Drawn session) h.seals (h.sealed ++ done.seals) (some-left (λ logged. logged ≡ Drawn session) h.sealed done.seals s),
     )
 
 drawn-for : (session key : List ℕ) (name other : Name) → session ≡ key → name ≡ other → Drawn (draw.Session session name) ≡ Drawn (draw.Session key other)
 drawn-for session key name other a b = ap (λ (k : List ℕ). Drawn (draw.Session k name)) a ∙ ap (λ (n : Name). Drawn (draw.Session key n)) b
 
-logs-issues : (a : MonitorArrival) (grant : Granted) (principal : Principal) (tickets : Result (List Ticket) LoginFault)
-    → AuthFirst grant.proven.offer.name a.draw tickets → Logs a (issues a grant principal tickets)
-logs-issues a grant principal (Err why) h = tt
-logs-issues a grant principal (Ok []) h = absurd h
-logs-issues a grant principal (Ok (ticket ∷ tickets)) h =
+logs-issues : (a : MonitorArrival) (e : Entrant) (own : List ℕ) (tickets : Result (List Ticket) LoginFault)
+    → AuthFirst e.name a.draw tickets → Logs a (row_of a (issues (occasion a) a.own.server e own tickets))
+logs-issues a e own (Err why) h = tt
+logs-issues a e own (Ok []) h = absurd h
+logs-issues a e own (Ok (ticket ∷ tickets)) h =
     let session = session_of Auth a.draw in
     let secret = connection_of a.draw in
-    let name = grant.proven.offer.name in
-    let content = connection_secret_layout.form.text (record { secret = secret }) in
-    let told = flat_map (ticket_seals a.own.server principal.key.secret session) (ticket ∷ tickets) in
-    let last : List SealEntry = Drawn (draw.Connection secret name) ∷ Sealed (record { key = session; kind = kind.Session; content = content }) ∷ [] in
-    let is : Drawn (draw.Session ticket.session ticket.entity) ≡ Drawn (draw.Session session name) = drawn-for ticket.session session ticket.entity name h.0 h.1 in
-    logs-hands_out a grant (ticket ∷ tickets) (told ++ last) (changed a.own.saved a.own.server.state)
-    (finished a.link session secret (auth_done grant.gid (ticket ∷ tickets) (sealed session content)))
-    (some-right (λ logged. logged ≡ Drawn (draw.Connection secret name)) told last (inl refl))
+    let handed : HandedOut = handed_out (occasion a) a.own.server e own (ticket ∷ tickets) in
+    let told = flat_map (ticket_seals a.own.server own session) (ticket ∷ tickets) in
+    let is : Drawn (draw.Session ticket.session ticket.entity) ≡ Drawn (draw.Session session e.name) = drawn-for ticket.session session ticket.entity e.name h.0 h.1 in
+    logs-hands_over a handed (finished a.link session secret (done_frame handed.payload))
+    (some-right (λ logged. logged ≡ Drawn (draw.Connection secret e.name)) told (secret_seals e.name session secret) (inl refl))
     (inl is)
-    (finished-by a.link session secret (auth_done grant.gid (ticket ∷ tickets) (sealed session content)))
+    (finished-by a.link session secret (done_frame handed.payload))
 
-logs-issues_to : (a : MonitorArrival) (grant : Granted) (principal : Option Principal) → Logs a (issues_to a grant principal)
-logs-issues_to a grant None = tt
-logs-issues_to a grant (Some principal) =
-    let name = grant.proven.offer.name in
-    let ask = λ (service : EntityType). asking name service grant.gid (session_of Auth a.draw) a.reading a.draw in
-    let rest = filter (is_asked grant.proven.ask.other_keys) (Mds ∷ Osd ∷ Mgr ∷ []) in
-    logs-issues a grant principal (issued_for a.own.server ask (services_for grant.proven.ask.other_keys))
-    (auth-before name a.draw (issued a.own.server (ask Auth)) (issued_for a.own.server ask rest)
-    (auth-issued a.own.server name grant.gid (session_of Auth a.draw) a.reading a.draw))
+logs-issues_to : (a : MonitorArrival) (e : Entrant) (own : Option Key) → Logs a (row_of a (issues_to (occasion a) a.own.server e own))
+logs-issues_to a e None = tt
+logs-issues_to a e (Some own) =
+    let ask = asking_for (occasion a) e.name e.gid in
+    let rest = filter (is_asked e.asked) (Mds ∷ Osd ∷ Mgr ∷ []) in
+    logs-issues a e own.secret (issued_for a.own.server ask (services_for e.asked))
+    (auth-before e.name a.draw (issued a.own.server (ask Auth)) (issued_for a.own.server ask rest)
+    (auth-issued a.own.server e.name e.gid (session_of Auth a.draw) a.reading a.draw))
 
-logs-numbers : (a : MonitorArrival) (proven : Proven) (seals : List SealEntry) (n : Result Numbered LoginFault) → Logs a (numbers a proven seals n)
+logs-numbers : (a : MonitorArrival) (proven : Proven) (seals : List SealEntry) (n : Result Numbered LoginFault)
+    → Logs a (row_of a (numbers (occasion a) a.own.server proven seals n))
 logs-numbers a proven seals (Err why) = tt
-logs-numbers a proven seals (Ok n) = logs-issues_to (with_server a n.server) (granted proven seals n.gid) (find (is_named proven.offer.name) n.server.ring)
+logs-numbers a proven seals (Ok n) =
+    logs-issues_to (with_server a n.server) (entrant proven.offer.name n.gid proven.ask.other_keys seals) (key_of n.server proven.offer.name)
 
 logs-proves : (a : MonitorArrival) (hello_gid : ℕ) (proven : Result Proven WrongProof) → Logs a (proves a hello_gid proven)
 logs-proves a hello_gid (Err wrong) = tt

@@ -4,9 +4,9 @@ use Rattle.std.specs.Prelude.{◌&&◌, if◌then◌else◌}
 use Rattle.std.specs.Str.{bytes_eq}
 use Rattle.std.proofs.lemmas.Bool.{and_parts}
 use Rattle.std.proofs.lemmas.Slice.Eq.{bytes_eq-Decides}
+use Rattle.cx_enc.specs.declared.keys.Key.{Key}
 use Rattle.cx_journal.specs.declared.faults.BytesFault.{BytesFault}
 use Rattle.cx_journal.specs.declared.faults.LoginFault.{LoginFault}
-use Rattle.cx_keyring.specs.declared.entries.Entry.{Entry as Principal}
 use Rattle.cx_keyserver.specs.declared.tickets.Ticket.{Ticket}
 use Rattle.cx_login.specs.Monitor.{Proven}
 use Rattle.cx_rotate.specs.declared.generations.Generation.{Generation}
@@ -18,7 +18,8 @@ use Rattle.cx_rules.specs.Judged.{IsEnvelopeSealed, IsProofFound, NoneOf}
 use Rattle.cx_rules.specs.KeptStates.{changed, saved_behind, same_generation, same_generations, same_state}
 use Rattle.cx_rules.specs.Links.{Link}
 use Rattle.cx_rules.specs.Monitor.{MonitorArrival, MonitorRow, MonitorStage}
-use Rattle.cx_rules.specs.MonitorLogin.{Granted, Numbered, granted, hands_out, issues, issues_to, numbers, with_server}
+use Rattle.cx_rules.specs.MonitorLogin.{hands_over, occasion, row_of, with_server}
+use Rattle.cx_rules.specs.Verdicts.{Entrant, Numbered, entrant, handed_out, issues, issues_to, numbers}
 use Rattle.cx_rules.proofs.Quiet.{Quiet, quiet-refuses_bytes}
 
 -- ---- the state that is saved
@@ -110,27 +111,31 @@ pub record Ready (seals : List SealEntry) : Type 0 where
   pub proven : SomeOf IsProofFound seals
   pub none : NoneOf IsEnvelopeSealed seals
 
-hands_out-judged : (a : MonitorArrival) (grant : Granted) (tickets : List Ticket) (sealed : List SealEntry) (done : Result Finished BytesFault)
-    → Ready grant.seals → Judged a.own.saved (hands_out a grant tickets sealed (changed a.own.saved a.own.server.state) done)
-hands_out-judged a grant tickets sealed (Err why) r = inl (quiet-refuses_bytes a why grant.seals r.none)
-hands_out-judged a grant tickets sealed (Ok done) r = inr (record {
-  proven = some-append IsProofFound grant.seals (sealed ++ done.seals) r.proven;
-  link = _;
-  goes = refl;
-  save = refl;
-  saved_is = saved-changed a.own.saved a.own.server.state;
-})
+hands_over-judged : (a : MonitorArrival) (e : Entrant) (own : List ℕ) (tickets : List Ticket) (done : Result Finished BytesFault)
+    → Ready e.seals → Judged a.own.saved (hands_over a (handed_out (occasion a) a.own.server e own tickets) done)
+hands_over-judged a e own tickets (Err why) r = inl (quiet-refuses_bytes a why e.seals r.none)
+hands_over-judged a e own tickets (Ok done) r =
+    let sealed : List SealEntry = (handed_out (occasion a) a.own.server e own tickets).sealed in
+    inr (record {
+      proven = some-append IsProofFound e.seals (sealed ++ done.seals) r.proven;
+      link = _;
+      goes = refl;
+      save = refl;
+      saved_is = saved-changed a.own.saved a.own.server.state;
+    })
 
-issues-judged : (a : MonitorArrival) (grant : Granted) (principal : Principal) (tickets : Result (List Ticket) LoginFault)
-    → Ready grant.seals → Judged a.own.saved (issues a grant principal tickets)
-issues-judged a grant principal (Err why) r = inl (quiet-denies a 13 why grant.seals r.none)
-issues-judged a grant principal (Ok tickets) r = hands_out-judged a grant tickets _ _ r
+issues-judged : (a : MonitorArrival) (e : Entrant) (own : List ℕ) (tickets : Result (List Ticket) LoginFault)
+    → Ready e.seals → Judged a.own.saved (row_of a (issues (occasion a) a.own.server e own tickets))
+issues-judged a e own (Err why) r = inl (quiet-denies a 13 why e.seals r.none)
+issues-judged a e own (Ok tickets) r = hands_over-judged a e own tickets _ r
 
-issues_to-judged : (a : MonitorArrival) (grant : Granted) (principal : Option Principal) → Ready grant.seals → Judged a.own.saved (issues_to a grant principal)
-issues_to-judged a grant None r = inl (quiet-denies a 13 _ grant.seals r.none)
-issues_to-judged a grant (Some principal) r = issues-judged a grant principal _ r
+issues_to-judged : (a : MonitorArrival) (e : Entrant) (own : Option Key) → Ready e.seals
+    → Judged a.own.saved (row_of a (issues_to (occasion a) a.own.server e own))
+issues_to-judged a e None r = inl (quiet-denies a 13 _ e.seals r.none)
+issues_to-judged a e (Some own) r = issues-judged a e own.secret _ r
 
 pub numbers-judged : (a : MonitorArrival) (proven : Proven) (seals : List SealEntry) (n : Result Numbered LoginFault)
-    → Ready seals → Judged a.own.saved (numbers a proven seals n)
+    → Ready seals → Judged a.own.saved (row_of a (numbers (occasion a) a.own.server proven seals n))
 numbers-judged a proven seals (Err why) r = inl (quiet-denies a 13 why seals r.none)
-numbers-judged a proven seals (Ok n) r = issues_to-judged (with_server a n.server) (granted proven seals n.gid) _ r
+numbers-judged a proven seals (Ok n) r =
+    issues_to-judged (with_server a n.server) (entrant proven.offer.name n.gid proven.ask.other_keys seals) _ r

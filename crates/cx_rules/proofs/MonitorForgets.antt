@@ -1,12 +1,11 @@
 -- What the monitor may forget of its links makes no difference to what it does.
-use Rattle.std.proofs.Common.{◌≡◌, ℕ, ◌==◌, Bool, true, false, List, [], ◌∷◌, ◌++◌, length, Option, Some, None, Result, Ok, Err, refl, sym, ap, subst, ◌∙◌, arith}
+use Rattle.std.proofs.Common.{◌≡◌, ℕ, ◌==◌, Bool, true, false, List, [], length, Option, Some, None, Result, Ok, Err, refl, sym, ap, subst, ◌∙◌, arith}
 use Rattle.std.specs.Prelude.{IfSome, nat_le, if◌then◌else◌}
-use Rattle.std.specs.List.{AllByRecursion, flat_map}
+use Rattle.std.specs.List.{AllByRecursion}
 use Rattle.std.specs.Option.{option_map}
 use Rattle.std.proofs.lemmas.List.{length-map}
 use Rattle.cx_base.specs.declared.addresses.Addr.{Addr}
-use Rattle.cx_base.specs.declared.kinds.EntityType.TheVariants.{Mon, Auth}
-use Rattle.cx_cbc.specs.Envelope.{sealed}
+use Rattle.cx_base.specs.declared.kinds.EntityType.TheVariants.{Mon}
 use Rattle.cx_control.specs.Auth.{auth_request_layout, auth_request_more_layout, auth_signature_layout}
 use Rattle.cx_control.specs.Hello.{hello_layout}
 use Rattle.cx_control.specs.Idents.{client_ident_layout}
@@ -14,40 +13,33 @@ use Rattle.cx_control.specs.Reconnects.{session_reconnect_layout}
 use Rattle.cx_control.specs.declared.auth.AuthRequestMore.{AuthRequestMore}
 use Rattle.cx_control.specs.declared.idents.ClientIdent.{ClientIdent}
 use Rattle.cx_control.specs.declared.reconnects.SessionReconnect.{SessionReconnect}
-use Rattle.cx_dice.specs.Draws.{connection_of, session_of}
 use Rattle.cx_frame.specs.declared.frame.Frame.{Frame}
 use Rattle.cx_journal.specs.declared.faults.BytesFault.{BytesFault}
 use Rattle.cx_journal.specs.declared.faults.BytesFault.TheVariants.{Unexpected}
-use Rattle.cx_journal.specs.declared.faults.LoginFault.{LoginFault}
 use Rattle.cx_base.specs.declared.nodes.NodeName.TheVariants as node
 use Rattle.cx_journal.specs.declared.outcomes.Reason.TheVariants as reason
-use Rattle.cx_journal.specs.declared.premises.KeyKind.TheVariants as kind
 use Rattle.cx_keyring.specs.declared.entries.Entry.{Entry as Principal}
 use Rattle.cx_keyserver.specs.Servers.{Server}
-use Rattle.cx_keyserver.specs.declared.tickets.Ticket.{Ticket}
 use Rattle.cx_login.specs.Monitor.{Proven}
 use Rattle.cx_login.specs.declared.refusals.WrongProof.{WrongProof}
-use Rattle.cx_rotate.specs.declared.states.KeptState.{KeptState}
-use Rattle.cx_sealed.specs.Records.{connection_secret_layout}
-use Rattle.cx_steps.specs.declared.seals.DrawMark.TheVariants as draw
-use Rattle.cx_steps.specs.declared.seals.SealEntry.{SealEntry}
-use Rattle.cx_steps.specs.declared.seals.SealEntry.TheVariants.{Drawn, Sealed}
 use Rattle.cx_wire.specs.declared.logins.Authenticate.{Authenticate}
 use Rattle.cx_wire.specs.declared.logins.LoginHello.{LoginHello}
 use Rattle.cx_rules.specs.Abridged.{IsWithin, MonitorStandsFor, abridged_link, abridged_monitor, unsigned}
 use Rattle.cx_rules.specs.Acceptor.{AwaitsBanner, AwaitsHello, AwaitsRequest, AwaitsProof, AwaitsSignature, AwaitsIdent, Open, Finished, finished, misses, on_auth_request, on_banner, on_hello, on_signature}
 use Rattle.cx_rules.specs.Greetings.{own_banner, own_hello}
 use Rattle.cx_rules.specs.Inputs.{Input, Opened, NoLink, Bytes, Turn, Gone, Look, Tick, Submit, Restart}
-use Rattle.cx_rules.specs.KeptStates.{changed}
 use Rattle.cx_rules.specs.Links.{Link, link_of}
 use Rattle.cx_rules.specs.Monitor.{Entity, MonitorArrival, MonitorNode, MonitorRow, MonitorStage, Offered}
-use Rattle.cx_rules.specs.MonitorLogin.{Granted, Numbered, auth_done, challenges, granted, hands_out, issues, issues_to, numbers, on_authenticate, on_login_hello, proves, with_server}
+use Rattle.cx_rules.specs.MonitorLogin.{challenges, done_frame, hands_over, occasion, on_authenticate, on_login_hello, proves, row_by, with_server}
 use Rattle.cx_rules.specs.MonitorRule.{monitor_rule, noted, on_auth_request_more, on_client_ident, on_ident, on_request_payload, on_session_reconnect, opening_monitor, server_ident, session_reset, turn, turned_at, unsaved}
 use Rattle.cx_rules.specs.Payloads.{due, payload}
 use Rattle.cx_rules.specs.Rows.{Outcome, arrival, at, carried_out, forgotten, goes_on, new_link, refuses, refuses_bytes, sends_secure}
 use Rattle.cx_rules.specs.Secured.{Keys, Secured, plain_frame, secure_frame, under}
-use Rattle.cx_rules.specs.Tickets.{ticket_seals}
 use Rattle.cx_rules.specs.Upkeep.{on_upkeep}
+use Rattle.cx_rules.specs.Verdicts.{Decided, rotates}
+use Rattle.cx_rules.specs.declared.verdicts.HandedOut.{HandedOut}
+use Rattle.cx_rules.specs.declared.verdicts.Verdict.{Verdict}
+use Rattle.cx_rules.specs.declared.verdicts.Verdict.TheVariants.{Denied, Granted}
 use Rattle.cx_rules.proofs.Abridging.{Agree, Alike, carried-alike, fed-agree, found-within, gone-held, gone-stands, idles-agree, node-twice, without-within}
 use Rattle.cx_rules.proofs.AcceptorForgets.{acceptor-forgets, acceptor_link_of, hello-within, misses-alike, request-within, signature-alike}
 use Rattle.cx_rules.proofs.AlikeRows.{RowWithin, SameAhead, SameTurn, banner-turn, plain-turn, plain_sent-within, refuses-alike, same-turn, secure-alike, secure-turn, turns-agree, upkeep-alike}
@@ -62,35 +54,19 @@ login_hello-within a (Ok hello) w = by_entity _
     by_entity None = tt
     by_entity (Some principal) = plain_sent-within a _ _ _ w
 
-hands_out-within : (a : MonitorArrival) (grant : Granted) (tickets : List Ticket) (seals : List SealEntry) (save : Option KeptState) (done : Result Finished BytesFault)
-    → IsWithin a.link → RowWithin (hands_out a grant tickets seals save done)
-hands_out-within a grant tickets seals save (Err why) w = tt
-hands_out-within a grant tickets seals save (Ok done) w = w
+hands_over-within : (a : MonitorArrival) (h : HandedOut) (done : Result Finished BytesFault) → IsWithin a.link → RowWithin (hands_over a h done)
+hands_over-within a h (Err why) w = tt
+hands_over-within a h (Ok done) w = w
 
-issues-within : (a : MonitorArrival) (grant : Granted) (principal : Principal) (tickets : Result (List Ticket) LoginFault) → IsWithin a.link → RowWithin (issues a grant principal tickets)
-issues-within a grant principal (Err why) w = tt
-issues-within a grant principal (Ok tickets) w =
-    let session : List ℕ = session_of Auth a.draw in
-    let secret : List ℕ = connection_of a.draw in
-    let content : List ℕ = connection_secret_layout.form.text (record { secret = secret }) in
-    hands_out-within a grant tickets
-    (flat_map (ticket_seals a.own.server principal.key.secret session) tickets
-    ++ Drawn (draw.Connection secret grant.proven.offer.name) ∷ Sealed (record { key = session; kind = kind.Session; content = content }) ∷ [])
-    (changed a.own.saved a.own.server.state)
-    (finished a.link session secret (auth_done grant.gid tickets (sealed session content)))
-    w
-
-issues_to-within : (a : MonitorArrival) (grant : Granted) (principal : Option Principal) → IsWithin a.link → RowWithin (issues_to a grant principal)
-issues_to-within a grant None w = tt
-issues_to-within a grant (Some principal) w = issues-within a grant principal _ w
-
-numbers-within : (a : MonitorArrival) (proven : Proven) (seals : List SealEntry) (n : Result Numbered LoginFault) → IsWithin a.link → RowWithin (numbers a proven seals n)
-numbers-within a proven seals (Err why) w = tt
-numbers-within a proven seals (Ok n) w = issues_to-within (with_server a n.server) (granted proven seals n.gid) _ w
+verdict-within : (a : MonitorArrival) (v : Verdict) → IsWithin a.link → RowWithin (row_by a v)
+verdict-within a (Denied why seals) w = tt
+verdict-within a (Granted h) w = hands_over-within a h (finished a.link h.session h.secret (done_frame h.payload)) w
 
 proves-within : (a : MonitorArrival) (gid : ℕ) (r : Result Proven WrongProof) → IsWithin a.link → RowWithin (proves a gid r)
 proves-within a gid (Err wrong) w = tt
-proves-within a gid (Ok proven) w = numbers-within (with_server a _) proven _ _ w
+proves-within a gid (Ok proven) w =
+    let d : Decided = rotates (occasion a) a.own.server gid proven in
+    verdict-within (with_server a d.server) d.verdict w
 
 authenticate-within : (a : MonitorArrival) (offered : Offered) (ask : Result Authenticate BytesFault) → IsWithin a.link → RowWithin (on_authenticate a offered ask)
 authenticate-within a offered (Err why) w = tt

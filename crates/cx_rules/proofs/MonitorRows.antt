@@ -37,7 +37,7 @@ use Rattle.cx_sealed.specs.Unsealing.{unsealed}
 use Rattle.cx_wire.specs.Logins.{authenticate_layout, login_hello_layout, server_challenge_layout}
 use Rattle.cx_rules.specs.Greetings.{own_hello}
 use Rattle.cx_keyring.specs.declared.entries.Entry.{Entry as Principal}
-use Rattle.cx_login.specs.Monitor.{Offer, Proven, kept_gid, proving, reclaimed}
+use Rattle.cx_login.specs.Monitor.{Offer, Proven, kept_gid, proof_found, proving, reclaimed}
 use Rattle.cx_login.specs.Opening.{generation_key}
 use Rattle.cx_login.specs.Unlocking.{Unlocked, old_under, old_ticket, unlocked_as}
 use Rattle.cx_login.specs.declared.refusals.WrongProof.{WrongProof}
@@ -58,13 +58,14 @@ use Rattle.cx_rules.specs.Fronts.{Front, NotYet, Broken, Next, ahead_of, banner_
 use Rattle.cx_rules.specs.Judged.{IsEnvelopeSealed, IsProofFound, NoneOf}
 use Rattle.cx_rules.specs.Links.{Link}
 use Rattle.cx_rules.specs.Monitor.{Entity, Monitor, MonitorArrival, MonitorRow, MonitorStage, Offered}
-use Rattle.cx_rules.specs.MonitorLogin.{challenges, numbered, on_authenticate, on_login_hello, proof_found, proves, reclaims, rotates, with_server}
+use Rattle.cx_rules.specs.MonitorLogin.{challenges, occasion, on_authenticate, on_login_hello, proves, row_of, with_server}
 use Rattle.cx_rules.specs.MonitorRule.{on_auth_request_more, on_client_ident, on_ident, on_request_payload, on_session_reconnect, server_ident, turned_at}
 use Rattle.cx_rules.specs.Payloads.{control, due, payload, whole}
 use Rattle.cx_rules.specs.Rows.{at, goes_on, refuses, refuses_bytes, sends_secure, Turned, Waits, Refuses, Handles, turned_by, with_opened}
 use Rattle.cx_rules.specs.Secured.{Keys, SealedFrame, Secured, is_signed, secure_frame, signature_found, under}
 use Rattle.cx_rules.specs.Tickets.{drawn_for, rotation_drawn}
 use Rattle.cx_rules.specs.Upkeep.{on_keepalive, on_keepalive_ack, on_upkeep}
+use Rattle.cx_rules.specs.Verdicts.{numbered, reclaims, rotates}
 use Rattle.cx_rules.proofs.Granting.{Judged, Ready, numbers-judged, quiet-denies, some-append}
 use Rattle.cx_rules.proofs.Quiet.{NoneIn, Quiet, none-append, none-flat_map, none-map, none-secure_frame, quiet-goes_on, quiet-refuses, quiet-refuses_bytes, quiet-sends_plain, quiet-sends_secure, quiet-with_opened}
 
@@ -99,13 +100,13 @@ old-none None blob = tt
 old-none (Some key) blob = unlocked-none kind.Auth key (unsealed service_ticket_layout.form key blob)
 
 reclaims-judged : (a : MonitorArrival) (hello_gid : ℕ) (proven : Proven) (seals : List SealEntry) (old : Unlocked ServiceTicket)
-    → Ready seals → NoneOf IsEnvelopeSealed old.seals → Judged a.own.saved (reclaims a hello_gid proven seals old)
+    → Ready seals → NoneOf IsEnvelopeSealed old.seals → Judged a.own.saved (row_of a (reclaims (occasion a) a.own.server hello_gid proven seals old))
 reclaims-judged a hello_gid proven seals old r n =
     numbers-judged a proven (seals ++ old.seals)
     (numbered a.own.server (reclaimed hello_gid proven.ask.version (kept_gid proven.offer.name a.reading old.value)))
     (record { proven = some-append IsProofFound seals old.seals r.proven; none = none-append IsEnvelopeSealed seals old.seals r.none n })
 
-rotates-judged : (a : MonitorArrival) (hello_gid : ℕ) (proven : Proven) → Judged a.own.saved (rotates a hello_gid proven)
+rotates-judged : (a : MonitorArrival) (hello_gid : ℕ) (proven : Proven) → Judged a.own.saved (row_of a (rotates (occasion a) a.own.server hello_gid proven))
 rotates-judged a hello_gid proven =
     let server = rotated_server a.reading a.draw a.own.server in
     let found = proof_found proven.offer proven.ask.client_challenge in

@@ -18,7 +18,7 @@ use Rattle.cx_journal.specs.declared.outcomes.Reason.TheVariants.{Login}
 use Rattle.cx_steps.specs.declared.seals.SealEntry.{SealEntry}
 use Rattle.cx_rules.specs.Links.{Link}
 use Rattle.cx_rules.specs.Payloads.{control}
-use Rattle.cx_rules.specs.Rows.{Arrival, Row, goes_on, refuses, refuses_bytes, sends_plain}
+use Rattle.cx_rules.specs.Rows.{Arrival, Row, goes_on, refuses, refuses_bytes, sends_plain, unless_refused}
 use Rattle.cx_rules.specs.Secured.{SealedFrame, Secured, acceptor_keys, is_signed, plain_frame, secure_frame, signature_found, signed_frame}
 use Rattle.cx_rules.specs.Greetings.{own_hello}
 
@@ -50,32 +50,28 @@ module _ {Own Pending Peer : Type 0} where
   on_banner kind a = sends_plain a AwaitsHello [] (own_hello kind)
 
   abbrev pub on_hello : Arrival Own (Stage Pending Peer) → Result Hello BytesFault → Row Own (Stage Pending Peer)
-  on_hello a (Ok hello) = goes_on a AwaitsRequest [] []
-  on_hello a (Err why) = refuses_bytes a why []
+  on_hello a read = unless_refused a [] read (λ hello. goes_on a AwaitsRequest [] [])
 
   -- AUTH_REQUEST: the method has to be 2, cephx, and 2, the secure mode, among the modes; what follows is for the role
   abbrev pub on_auth_request : (Arrival Own (Stage Pending Peer) → List ℕ → Row Own (Stage Pending Peer))
       → Arrival Own (Stage Pending Peer) → Result AuthRequest BytesFault → Row Own (Stage Pending Peer)
-  on_auth_request by_role a (Err why) = refuses_bytes a why []
-  on_auth_request by_role a (Ok request) =
+  on_auth_request by_role a read = unless_refused a [] read (λ request.
       if not (request.method == 2) then denies a 95 Method []
       else if not (list_any (λ mode. mode == 2) request.modes) then denies a 95 Mode []
-      else by_role a request.payload
+      else by_role a request.payload)
 
   -- ---- AUTH_SIGNATURE, CLIENT_IDENT
 
   -- the peer's signature has to cover all that was sent before one's own
   abbrev pub on_signature : Arrival Own (Stage Pending Peer) → Secured → Peer → Result AuthSignature BytesFault → Row Own (Stage Pending Peer)
-  on_signature a s peer (Err why) = refuses_bytes a why []
-  on_signature a s peer (Ok found) =
+  on_signature a s peer read = unless_refused a [] read (λ found.
       if is_signed s found.signature
       then goes_on a (AwaitsIdent s peer) [] (signature_found s ∷ [])
-      else refuses a (Login SignatureWrong) []
+      else refuses a (Login SignatureWrong) [])
 
   -- a peer that requires features is told that they are missing, and refused for them
   abbrev pub missing_told : Arrival Own (Stage Pending Peer) → ℕ → Result SealedFrame BytesFault → Row Own (Stage Pending Peer)
-  missing_told a features (Err why) = refuses_bytes a why []
-  missing_told a features (Ok sealed) = record (refuses_bytes a (Features features) sealed.seals) { sends = sealed.bytes }
+  missing_told a features made = unless_refused a [] made (λ sealed. record (refuses_bytes a (Features features) sealed.seals) { sends = sealed.bytes })
 
   abbrev pub misses : Arrival Own (Stage Pending Peer) → Secured → ℕ → Row Own (Stage Pending Peer)
   misses a s features = missing_told a features (secure_frame s.keys (control 10 ident_missing_features_layout.form (record { features = features })))

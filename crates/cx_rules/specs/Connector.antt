@@ -1,6 +1,6 @@
 -- What a client or a daemon does on its link to the monitor ("msgr2 protocol"; "detailed cephx protocol"): the rows of a login, in the order
 -- of a connection.
-use Rattle.std.specs.Prelude.{ℕ, ◌==◌, not, Bool, true, false, List, [], ◌∷◌, ◌++◌, take, Option, Some, None, Result, Ok, Err, if◌then◌else◌}
+use Rattle.std.specs.Prelude.{ℕ, ◌==◌, not, Bool, true, false, List, [], ◌∷◌, ◌++◌, take, Option, Some, None, Result, if◌then◌else◌}
 use Rattle.std.specs.Int.{w64, to_le_bytes}
 use Rattle.cx_control.specs.Auth.{auth_done_layout, auth_reply_more_layout, auth_request_layout, auth_request_more_layout, auth_signature_layout}
 use Rattle.cx_control.specs.BadMethod.{bad_method_layout, kept_method}
@@ -31,7 +31,7 @@ use Rattle.cx_wire.specs.declared.logins.ServerChallenge.{ServerChallenge}
 use Rattle.cx_rules.specs.Fronts.{banner_next, plain_next, secure_next}
 use Rattle.cx_rules.specs.Holdings.{Asker, Holdings, hello_gid, held_login, holds_nothing, unexpired}
 use Rattle.cx_rules.specs.Payloads.{control, due, payload, whole}
-use Rattle.cx_rules.specs.Rows.{Arrival, Row, Turned, at, goes_on, refuses, refuses_bytes, sends_plain, sends_secure, turned_by, with_opened}
+use Rattle.cx_rules.specs.Rows.{Arrival, Row, Turned, at, goes_on, refuses, refuses_bytes, sends_plain, sends_secure, turned_by, unless_refused, with_opened}
 use Rattle.cx_rules.specs.Secured.{SealedFrame, Secured, plain_frame, under, connector_keys, is_signed, signature_found, signed_frame}
 use Rattle.cx_rules.specs.Upkeep.{on_upkeep}
 use Rattle.cx_rules.specs.Greetings.{no_addr, own_hello}
@@ -76,8 +76,7 @@ login_request asker = control 2 auth_request_layout.form (record {
 })
 
 abbrev pub on_hello : AskerArrival → ℕ → Result Hello BytesFault → AskerRow
-on_hello a asked (Err why) = refuses_bytes a why []
-on_hello a asked (Ok hello) = sends_plain a (AwaitsChallenge asked) [] (login_request a.own)
+on_hello a asked read = unless_refused a [] read (λ hello. sends_plain a (AwaitsChallenge asked) [] (login_request a.own))
 
 -- ---- AUTH_REPLY_MORE
 
@@ -87,21 +86,18 @@ proof_made secret server client = entry.Signed (record { key = secret; kind = ki
 
 -- one's own challenge is drawn, and the proof of both is sent
 abbrev pub proves : AskerArrival → ℕ → Result (List ℕ) BytesFault → AskerRow
-proves a server (Err why) = refuses_bytes a why (entry.Drawn (draw.Challenge (challenge_of a.draw)) ∷ [])
-proves a server (Ok bytes) =
-    goes_on a AwaitsDone bytes (entry.Drawn (draw.Challenge (challenge_of a.draw)) ∷ proof_made a.own.secret server (challenge_of a.draw) ∷ [])
+proves a server made = unless_refused a (entry.Drawn (draw.Challenge (challenge_of a.draw)) ∷ []) made (λ bytes.
+    goes_on a AwaitsDone bytes (entry.Drawn (draw.Challenge (challenge_of a.draw)) ∷ proof_made a.own.secret server (challenge_of a.draw) ∷ []))
 
 -- the challenge is answered by an Authenticate, with the ticket for AUTH that is held as old ticket while it is good
 abbrev pub on_challenge : AskerArrival → ℕ → Result ServerChallenge BytesFault → AskerRow
-on_challenge a asked (Err why) = refuses_bytes a why []
-on_challenge a asked (Ok server) =
+on_challenge a asked read = unless_refused a [] read (λ server.
     let ask : Ask = record { secret = a.own.secret; old = unexpired a.reading a.own.holdings.auth; other_keys = asked } in
     proves a server.challenge (plain_frame (control 5 auth_request_more_layout.form
-    (record { payload = authenticate_layout.form.text (authenticate ask server.challenge (challenge_of a.draw)) })))
+    (record { payload = authenticate_layout.form.text (authenticate ask server.challenge (challenge_of a.draw)) }))))
 
 abbrev pub on_reply_more : AskerArrival → ℕ → Result AuthReplyMore BytesFault → AskerRow
-on_reply_more a asked (Err why) = refuses_bytes a why []
-on_reply_more a asked (Ok more) = on_challenge a asked (whole server_challenge_layout.form more.payload)
+on_reply_more a asked read = unless_refused a [] read (λ more. on_challenge a asked (whole server_challenge_layout.form more.payload))
 
 -- ---- AUTH_BAD_METHOD
 
@@ -110,17 +106,15 @@ abbrev pub on_denial : AskerArrival → ℕ → AskerRow
 on_denial a code = refuses (if code == 13 then holding a holds_nothing else a) (reason.Denied code) []
 
 abbrev pub on_bad_method : AskerArrival → Result (ℕ × (ℕ × (List ℕ × List ℕ))) BytesFault → AskerRow
-on_bad_method a (Err why) = refuses_bytes a why []
-on_bad_method a (Ok fields) = on_denial a (kept_method fields).result
+on_bad_method a read = unless_refused a [] read (λ fields. on_denial a (kept_method fields).result)
 
 -- ---- AUTH_DONE
 
 -- AUTH_SIGNATURE is sent; the peer's has to cover all that was sent before
 abbrev pub signs : AskerArrival → Login → List SealEntry → Result SealedFrame BytesFault → AskerRow
-signs a login opened (Err why) = refuses_bytes a why opened
-signs a login opened (Ok sealed) =
+signs a login opened made = unless_refused a opened made (λ sealed.
     goes_on a (AwaitsSignature (record { keys = sealed.keys; session = login.opened.auth.session; covered = a.link.sent }) login)
-    sealed.bytes (opened ++ sealed.seals)
+    sealed.bytes (opened ++ sealed.seals))
 
 -- the parts of a LoginDone were opened, each to its record, or one wasn't
 abbrev pub on_opened : AskerArrival → ℕ → List SealEntry → Option LoggedIn → AskerRow
@@ -130,14 +124,12 @@ on_opened a gid opened (Some logged_in) =
     (signed_frame (connector_keys logged_in.secret) logged_in.auth.session (take a.link.taken a.link.received))
 
 abbrev pub on_login_done : AskerArrival → ℕ → Result LoginDone BytesFault → AskerRow
-on_login_done a gid (Err why) = refuses_bytes a why []
-on_login_done a gid (Ok done) = let unlocked = login_in a.own.secret done in on_opened a gid unlocked.seals unlocked.value
+on_login_done a gid read = unless_refused a [] read (λ done. let unlocked = login_in a.own.secret done in on_opened a gid unlocked.seals unlocked.value)
 
 abbrev pub on_done : AskerArrival → Result AuthDone BytesFault → AskerRow
-on_done a (Err why) = refuses_bytes a why []
-on_done a (Ok done) =
+on_done a read = unless_refused a [] read (λ done.
     if not (done.mode == 2) then refuses a (reason.Login Mode) []
-    else on_login_done a done.gid (whole login_done_layout.form done.payload)
+    else on_login_done a done.gid (whole login_done_layout.form done.payload))
 
 -- ---- AUTH_SIGNATURE
 
@@ -162,20 +154,17 @@ identifies a s login =
     (signature_found s ∷ entry.Drawn (draw.Cookie cookie) ∷ []) (client_ident a.own login.gid cookie)
 
 abbrev pub on_signature : AskerArrival → Secured → Login → Result AuthSignature BytesFault → AskerRow
-on_signature a s login (Err why) = refuses_bytes a why []
-on_signature a s login (Ok found) =
-    if is_signed s found.signature then identifies a s login else refuses a (reason.Login SignatureWrong) []
+on_signature a s login read = unless_refused a [] read (λ found.
+    if is_signed s found.signature then identifies a s login else refuses a (reason.Login SignatureWrong) [])
 
 -- ---- SERVER_IDENT, IDENT_MISSING_FEATURES
 
 -- the link is open
 abbrev pub on_server_ident : AskerArrival → Secured → Result ServerIdent BytesFault → AskerRow
-on_server_ident a s (Err why) = refuses_bytes a why []
-on_server_ident a s (Ok ident) = goes_on a (Open s) [] []
+on_server_ident a s read = unless_refused a [] read (λ ident. goes_on a (Open s) [] [])
 
 abbrev pub on_missing_features : AskerArrival → Result IdentMissingFeatures BytesFault → AskerRow
-on_missing_features a (Err why) = refuses_bytes a why []
-on_missing_features a (Ok missing) = refuses_bytes a (Features missing.features) []
+on_missing_features a read = unless_refused a [] read (λ missing. refuses_bytes a (Features missing.features) [])
 
 -- ---- a turn
 

@@ -18,3 +18,4 @@ pub mod Rows
 pub mod Secured
 pub mod Tickets
 pub mod Upkeep
+pub mod Verdicts

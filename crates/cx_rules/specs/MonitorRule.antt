@@ -1,5 +1,5 @@
 -- What the monitor does at each event.
-use Rattle.std.specs.Prelude.{ℕ, ◌==◌, List, [], ◌∷◌, length, Bool, true, false, nat_le, Option, Some, None, Result, Ok, Err, if◌then◌else◌}
+use Rattle.std.specs.Prelude.{ℕ, ◌==◌, List, [], ◌∷◌, length, Bool, true, false, nat_le, Option, Some, None, Result, if◌then◌else◌}
 use Rattle.cx_base.specs.declared.kinds.EntityType.TheVariants.{Mon}
 use Rattle.cx_control.specs.Auth.{auth_request_layout, auth_request_more_layout, auth_signature_layout}
 use Rattle.cx_control.specs.Hello.{hello_layout}
@@ -25,7 +25,7 @@ use Rattle.cx_rules.specs.Links.{Link, link_of}
 use Rattle.cx_rules.specs.Monitor.{Entity, Monitor, MonitorArrival, MonitorNode, MonitorRow, MonitorStage, Offered}
 use Rattle.cx_rules.specs.MonitorLogin.{on_authenticate, on_login_hello}
 use Rattle.cx_rules.specs.Payloads.{control, due, payload, whole}
-use Rattle.cx_rules.specs.Rows.{Outcome, Turned, arrival, at, carried_out, fed, forgotten, goes_on, idles, new_link, opens_none, refuses, refuses_bytes, sends_secure, turned_by, turns, with_opened}
+use Rattle.cx_rules.specs.Rows.{Outcome, Turned, arrival, at, carried_out, fed, forgotten, goes_on, idles, new_link, opens_none, refuses, refuses_bytes, sends_secure, turned_by, turns, unless_refused, with_opened}
 use Rattle.cx_rules.specs.Secured.{Secured, under}
 use Rattle.cx_rules.specs.Upkeep.{on_upkeep}
 use Rattle.cx_rules.specs.Greetings.{own_banner}
@@ -37,9 +37,8 @@ abbrev pub server_ident : Addr → Frame
 server_ident address = control 9 server_ident_layout.form (record { addr = address; gid = 0; global_seq = 0; supported = 0; required = 0; flags = 1; cookie = 0 })
 
 abbrev pub on_client_ident : MonitorArrival → Secured → Entity → Result ClientIdent BytesFault → MonitorRow
-on_client_ident a s entity (Err why) = refuses_bytes a why []
-on_client_ident a s entity (Ok ident) =
-    if ident.required == 0 then sends_secure a s (λ behind. Open behind entity) [] (server_ident a.own.address) else misses a s ident.required
+on_client_ident a s entity read = unless_refused a [] read (λ ident.
+    if ident.required == 0 then sends_secure a s (λ behind. Open behind entity) [] (server_ident a.own.address) else misses a s ident.required)
 
 -- SESSION_RESET: all of the session is forgotten
 abbrev pub session_reset : Frame
@@ -47,9 +46,8 @@ session_reset = control 12 session_reset_layout.form (record { full = true })
 
 -- the monitor has no session to go on with: SESSION_RESET is sent, and CLIENT_IDENT is waited for
 abbrev pub on_session_reconnect : MonitorArrival → Secured → Entity → Result SessionReconnect BytesFault → MonitorRow
-on_session_reconnect a s entity (Err why) = refuses_bytes a why []
-on_session_reconnect a s entity (Ok reconnect) =
-    sends_secure a s (λ behind. AwaitsIdent behind entity) [] session_reset
+on_session_reconnect a s entity read = unless_refused a [] read (λ reconnect.
+    sends_secure a s (λ behind. AwaitsIdent behind entity) [] session_reset)
 
 abbrev pub on_ident : MonitorArrival → Secured → Entity → Frame → MonitorRow
 on_ident a s entity f =
@@ -63,8 +61,7 @@ abbrev pub on_request_payload : MonitorArrival → List ℕ → MonitorRow
 on_request_payload a bytes = on_login_hello a (whole login_hello_layout.form bytes)
 
 abbrev pub on_auth_request_more : MonitorArrival → Offered → Result AuthRequestMore BytesFault → MonitorRow
-on_auth_request_more a offered (Err why) = refuses_bytes a why []
-on_auth_request_more a offered (Ok more) = on_authenticate a offered (whole authenticate_layout.form more.payload)
+on_auth_request_more a offered read = unless_refused a [] read (λ more. on_authenticate a offered (whole authenticate_layout.form more.payload))
 
 -- ---- a turn
 

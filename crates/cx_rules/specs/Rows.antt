@@ -82,18 +82,22 @@ module _ {Own Stage : Type 0} where
   abbrev pub refuses_bytes : Arrival Own Stage → BytesFault → List SealEntry → Row Own Stage
   refuses_bytes a why seals = refuses a (Bytes why) seals
 
+  -- what was read or made is gone on with; where that can't be, the link is refused, and these are logged
+  abbrev pub unless_refused : {X : Type 0} → Arrival Own Stage → List SealEntry → Result X BytesFault → (X → Row Own Stage) → Row Own Stage
+  unless_refused a seals (Ok x) next = next x
+  unless_refused a seals (Err why) next = refuses_bytes a why seals
+
   -- a plain frame is sent, and the link goes on in a stage
   abbrev pub plain_sent : Arrival Own Stage → Stage → List SealEntry → Result (List ℕ) BytesFault → Row Own Stage
-  plain_sent a stage seals (Ok bytes) = goes_on a stage bytes seals
-  plain_sent a stage seals (Err why) = refuses_bytes a why seals
+  plain_sent a stage seals made = unless_refused a seals made (λ bytes. goes_on a stage bytes seals)
 
   abbrev pub sends_plain : Arrival Own Stage → Stage → List SealEntry → Frame → Row Own Stage
   sends_plain a stage seals f = plain_sent a stage seals (plain_frame f)
 
   -- a secure frame is sent, and the link goes on in a stage, with the keys behind it
   abbrev pub secure_sent : Arrival Own Stage → Secured → (Secured → Stage) → List SealEntry → Result SealedFrame BytesFault → Row Own Stage
-  secure_sent a s stage seals (Ok sealed) = goes_on a (stage (record s { keys = sealed.keys })) sealed.bytes (seals ++ sealed.seals)
-  secure_sent a s stage seals (Err why) = refuses_bytes a why seals
+  secure_sent a s stage seals made =
+      unless_refused a seals made (λ sealed. goes_on a (stage (record s { keys = sealed.keys })) sealed.bytes (seals ++ sealed.seals))
 
   abbrev pub sends_secure : Arrival Own Stage → Secured → (Secured → Stage) → List SealEntry → Frame → Row Own Stage
   sends_secure a s stage seals f = secure_sent a s stage seals (secure_frame s.keys f)

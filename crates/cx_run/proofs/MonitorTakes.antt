@@ -1,7 +1,7 @@
 -- The rows of the monitor keep their link, and a turn of it takes some of what is ahead.
-use Rattle.std.proofs.Common.{ℕ, ◌==◌, Bool, true, false, List, [], ◌∷◌, ◌++◌, Option, Some, None, Result, Ok, Err, refl}
+use Rattle.std.proofs.Common.{ℕ, ◌==◌, Bool, true, false, [], ◌∷◌, Option, Some, None, Result, Ok, Err, refl}
 use Rattle.std.specs.Prelude.{not, if◌then◌else◌}
-use Rattle.std.specs.List.{flat_map, list_any}
+use Rattle.std.specs.List.{list_any}
 use Rattle.cx_control.specs.Auth.{auth_request_layout, auth_request_more_layout, auth_signature_layout}
 use Rattle.cx_control.specs.Hello.{hello_layout}
 use Rattle.cx_control.specs.Idents.{client_ident_layout}
@@ -15,35 +15,28 @@ use Rattle.cx_control.specs.declared.reconnects.SessionReconnect.{SessionReconne
 use Rattle.cx_frame.specs.declared.frame.Frame.{Frame}
 use Rattle.cx_journal.specs.declared.faults.BytesFault.{BytesFault}
 use Rattle.cx_journal.specs.declared.faults.BytesFault.TheVariants.{Unexpected}
-use Rattle.cx_journal.specs.declared.faults.LoginFault.{LoginFault}
 use Rattle.cx_journal.specs.declared.faults.LoginFault.TheVariants.{Method, Mode, SignatureWrong}
 use Rattle.cx_journal.specs.declared.outcomes.Reason.TheVariants.{Login}
 use Rattle.cx_keyring.specs.declared.entries.Entry.{Entry as Principal}
-use Rattle.cx_keyserver.specs.declared.tickets.Ticket.{Ticket}
 use Rattle.cx_login.specs.Monitor.{Proven}
 use Rattle.cx_login.specs.declared.refusals.WrongProof.{WrongProof}
-use Rattle.cx_rotate.specs.declared.states.KeptState.{KeptState}
-use Rattle.cx_steps.specs.declared.seals.SealEntry.{SealEntry}
 use Rattle.cx_wire.specs.declared.logins.Authenticate.{Authenticate}
 use Rattle.cx_wire.specs.declared.logins.LoginHello.{LoginHello}
 use Rattle.cx_rules.specs.Acceptor.{AwaitsBanner, AwaitsHello, AwaitsRequest, AwaitsProof, AwaitsSignature, AwaitsIdent, Open, Finished, denies, finished, misses, missing_told, on_auth_request, on_banner, on_hello, on_signature}
 use Rattle.cx_rules.specs.Monitor.{Entity, MonitorArrival, MonitorStage, Offered}
-use Rattle.cx_rules.specs.MonitorLogin.{Granted, Numbered, auth_done, challenges, granted, hands_out, issues, issues_to, numbers, on_authenticate, on_login_hello, proves, with_server}
+use Rattle.cx_rules.specs.MonitorLogin.{challenges, done_frame, hands_over, occasion, on_authenticate, on_login_hello, proves, row_by, with_server}
 use Rattle.cx_rules.specs.MonitorRule.{on_auth_request_more, on_client_ident, on_ident, on_request_payload, on_session_reconnect, server_ident, turned_at}
 use Rattle.cx_rules.specs.Payloads.{due, payload}
 use Rattle.cx_rules.specs.Rows.{at, goes_on, refuses, refuses_bytes, sends_secure, with_opened}
 use Rattle.cx_rules.specs.Secured.{SealedFrame, Secured, is_signed, signature_found, under}
 use Rattle.cx_rules.specs.Upkeep.{on_upkeep}
-use Rattle.cx_rules.specs.KeptStates.{changed}
-use Rattle.cx_rules.specs.Tickets.{ticket_seals}
+use Rattle.cx_rules.specs.Verdicts.{Decided, rotates}
+use Rattle.cx_rules.specs.declared.verdicts.HandedOut.{HandedOut}
+use Rattle.cx_rules.specs.declared.verdicts.Verdict.{Verdict}
+use Rattle.cx_rules.specs.declared.verdicts.Verdict.TheVariants.{Denied, Granted}
 use Rattle.cx_cbc.specs.Envelope.{sealed}
-use Rattle.cx_dice.specs.Draws.{connection_of, session_of}
-use Rattle.cx_journal.specs.declared.premises.KeyKind.TheVariants as kind
-use Rattle.cx_sealed.specs.Records.{connection_secret_layout}
-use Rattle.cx_steps.specs.declared.seals.DrawMark.TheVariants as draw
-use Rattle.cx_steps.specs.declared.seals.SealEntry.TheVariants.{Drawn, Sealed}
 use Rattle.cx_run.proofs.Taking.{Keeps, TurnTakes, banner-takes, plain-takes, plain_sent-keeps, secure-takes, secure_sent-keeps, upkeep-keeps}
-use Rattle.cx_base.specs.declared.kinds.EntityType.TheVariants.{Auth, Mon}
+use Rattle.cx_base.specs.declared.kinds.EntityType.TheVariants.{Mon}
 
 -- ---- HELLO, AUTH_REQUEST
 
@@ -70,34 +63,19 @@ request-keeps a (Ok request) = by_tests (not (request.method == 2)) (not (list_a
 
 -- ---- AUTH_REQUEST_MORE
 
-hands_out-keeps : (a : MonitorArrival) (grant : Granted) (tickets : List Ticket) (seals : List SealEntry) (save : Option KeptState) (done : Result Finished BytesFault)
-    → Keeps a.link (hands_out a grant tickets seals save done)
-hands_out-keeps a grant tickets seals save (Err why) = tt
-hands_out-keeps a grant tickets seals save (Ok done) = record { number = refl; ahead = refl }
+hands_over-keeps : (a : MonitorArrival) (h : HandedOut) (done : Result Finished BytesFault) → Keeps a.link (hands_over a h done)
+hands_over-keeps a h (Err why) = tt
+hands_over-keeps a h (Ok done) = record { number = refl; ahead = refl }
 
-issues-keeps : (a : MonitorArrival) (grant : Granted) (principal : Principal) (tickets : Result (List Ticket) LoginFault) → Keeps a.link (issues a grant principal tickets)
-issues-keeps a grant principal (Err why) = tt
-issues-keeps a grant principal (Ok tickets) =
-    let session : List ℕ = session_of Auth a.draw in
-    let secret : List ℕ = connection_of a.draw in
-    let content : List ℕ = connection_secret_layout.form.text (record { secret = secret }) in
-    hands_out-keeps a grant tickets
-    (flat_map (ticket_seals a.own.server principal.key.secret session) tickets
-    ++ Drawn (draw.Connection secret grant.proven.offer.name) ∷ Sealed (record { key = session; kind = kind.Session; content = content }) ∷ [])
-    (changed a.own.saved a.own.server.state)
-    (finished a.link session secret (auth_done grant.gid tickets (sealed session content)))
-
-issues_to-keeps : (a : MonitorArrival) (grant : Granted) (principal : Option Principal) → Keeps a.link (issues_to a grant principal)
-issues_to-keeps a grant None = tt
-issues_to-keeps a grant (Some principal) = issues-keeps a grant principal _
-
-numbers-keeps : (a : MonitorArrival) (proven : Proven) (seals : List SealEntry) (n : Result Numbered LoginFault) → Keeps a.link (numbers a proven seals n)
-numbers-keeps a proven seals (Err why) = tt
-numbers-keeps a proven seals (Ok n) = issues_to-keeps (with_server a n.server) (granted proven seals n.gid) _
+verdict-keeps : (a : MonitorArrival) (v : Verdict) → Keeps a.link (row_by a v)
+verdict-keeps a (Denied why seals) = tt
+verdict-keeps a (Granted h) = hands_over-keeps a h (finished a.link h.session h.secret (done_frame h.payload))
 
 proves-keeps : (a : MonitorArrival) (gid : ℕ) (r : Result Proven WrongProof) → Keeps a.link (proves a gid r)
 proves-keeps a gid (Err wrong) = tt
-proves-keeps a gid (Ok proven) = numbers-keeps (with_server a _) proven _ _
+proves-keeps a gid (Ok proven) =
+    let d : Decided = rotates (occasion a) a.own.server gid proven in
+    verdict-keeps (with_server a d.server) d.verdict
 
 authenticate-keeps : (a : MonitorArrival) (offered : Offered) (ask : Result Authenticate BytesFault) → Keeps a.link (on_authenticate a offered ask)
 authenticate-keeps a offered (Err why) = tt

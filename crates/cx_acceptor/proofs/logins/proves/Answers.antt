@@ -1,6 +1,6 @@
 -- The row of what was decided is that of the rules; and where memory is wanting, the key server is as before.
 use Rattle.std.proofs.Common.{◌≡◌, ◌∙◌, ap}
-use Rattle.cx_mon_grants.specs.Occasions.{Occasion}
+use Rattle.cx_rules.specs.Verdicts.{Occasion}
 use Rattle.cx_keyserver.specs.Servers.{Server}
 use Rattle.cx_rules.specs.Acceptor.{AwaitsProof}
 use Rattle.cx_rules.specs.Monitor.{Monitor, MonitorStage}
@@ -28,7 +28,7 @@ returns-in-Ok-clause-row c =
     let old : Monitor = record { server = c.own.inside.server; saved = c.own.inside.saved; saved_before = c.own.inside.saved_before; address = c.own.inside.address } in
     let stage : MonitorStage = AwaitsProof (record { offer = c.args.proved.now.offer; gid = c.args.gid }) in
     rw (c.note_saved.ensures, ← c.own.view_is)
-    (login_row old c.args.at.now c.args.link c.args.gid c.args.proved.now c.log_in.new.server c.in_ok-verdict.verdict c.in-Ok.row c.granting_laws.ensures
+    (login_row old c.args.at.now c.args.link c.args.gid c.args.proved.now c.log_in.new.server c.in_ok-verdict.verdict c.in-Ok.row
     c.in_ok-verdict.ensures.verdict c.in_ok-verdict.ensures.server (c.in-Ok.ensures.row stage))
 
 pub returns-in-Ok-clause-same : goal.returns-in-Ok-clause-same

@@ -2,7 +2,8 @@
 use Rattle.std.proofs.Common.{ℕ, List, ap}
 use Rattle.cx_keyserver.specs.Issuing.{Asked, asking}
 use Rattle.cx_keyserver.specs.Servers.{rotated_server}
-use Rattle.cx_mon_grants.specs.Occasions.{asking_for, occasion_of}
+use Rattle.cx_rules.specs.Verdicts.{asking_for}
+use Rattle.cx_mon_grants.specs.Occasions.{occasion_of}
 use Rattle.cx_mon_grants.proofs.One.{one_due, server_stays, whole_due}
 use Rattle.cx_mon_grants.proofs.issuing.issue_one.Goals as goal
 

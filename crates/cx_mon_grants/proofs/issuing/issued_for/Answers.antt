@@ -3,7 +3,8 @@ use Rattle.std.proofs.Common.{sym, subst, ◌∙◌}
 use Rattle.cx_base.specs.declared.kinds.EntityType.TheVariants.{Mon}
 use Rattle.cx_rules.specs.Tickets.{issued_for}
 use Rattle.cx_mon_grants.specs.Issuing.{IsRotated}
-use Rattle.cx_mon_grants.specs.Occasions.{asking_for, occasion_of}
+use Rattle.cx_rules.specs.Verdicts.{asking_for}
+use Rattle.cx_mon_grants.specs.Occasions.{occasion_of}
 use Rattle.cx_mon_grants.proofs.One.{behind_none, due_behind, step_due, whole_behind}
 use Rattle.cx_mon_grants.proofs.issuing.issued_for.Goals as goal
 

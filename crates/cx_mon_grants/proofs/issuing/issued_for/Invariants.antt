@@ -2,7 +2,8 @@ use Rattle.std.proofs.Common.{◌≡◌, All, drop}
 use Rattle.cx_rules.specs.Tickets.{issued_for}
 use Rattle.cx_mon_grants.specs.Handing.{IsWhole}
 use Rattle.cx_mon_grants.specs.Issuing.{behind_all}
-use Rattle.cx_mon_grants.specs.Occasions.{asking_for, occasion_of}
+use Rattle.cx_rules.specs.Verdicts.{asking_for}
+use Rattle.cx_mon_grants.specs.Occasions.{occasion_of}
 use Rattle.cx_mon_grants.proofs.issuing.issued_for.Given as goal
 
 abbrev pub invariant-loop-service : goal.invariant-loop-service

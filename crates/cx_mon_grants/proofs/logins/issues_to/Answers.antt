@@ -2,7 +2,8 @@
 use Rattle.std.proofs.Common.{sym, ap, ◌∙◌, List}
 use Rattle.cx_base.specs.declared.kinds.EntityType.{EntityType}
 use Rattle.cx_rules.specs.Tickets.{issued_for}
-use Rattle.cx_mon_grants.specs.Occasions.{asking_for, occasion_of}
+use Rattle.cx_rules.specs.Verdicts.{asking_for}
+use Rattle.cx_mon_grants.specs.Occasions.{occasion_of}
 use Rattle.cx_mon_grants.proofs.Ordered.{can_be_handed_out}
 use Rattle.cx_mon_grants.proofs.logins.issues_to.Goals as goal
 

@@ -1,7 +1,7 @@
 -- The server behind a global id is rotated too.
 use Rattle.std.proofs.Common.{ap, ◌∙◌}
 use Rattle.cx_keyserver.specs.Servers.{Server}
-use Rattle.cx_rules.specs.MonitorLogin.{numbered}
+use Rattle.cx_rules.specs.Verdicts.{numbered}
 use Rattle.cx_mon_grants.specs.Occasions.{occasion_of}
 use Rattle.cx_mon_grants.proofs.Steps.{numbers_decides}
 use Rattle.cx_mon_grants.proofs.Still.{numbered_again, numbered_ring}

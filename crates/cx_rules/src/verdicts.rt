@@ -1,4 +1,4 @@
-//! What comes of a login.
+//! What comes of a login, of which the rules speak.
 
 use cx_base::{Blob, EntityName, Items};
 use cx_journal::{Entry, LoginFault};
@@ -6,7 +6,7 @@ use cx_rotate::KeptState;
 use cx_steps::SealEntry;
 
 /// What the monitor hands out to an entity.
-#[derive(Debug, PartialEq, Eq, Drop)]
+#[derive(Drop)]
 pub struct HandedOut {
     pub name: EntityName,
     pub gid: u64,
@@ -27,7 +27,7 @@ pub struct HandedOut {
 }
 
 /// What comes of a login whose proof was found equal.
-#[derive(Debug, PartialEq, Eq, Drop)]
+#[derive(Drop)]
 pub enum Verdict {
     /// The entity gets nothing; what is logged is the proof, the rotation, and what the old ticket opened to.
     Denied {
