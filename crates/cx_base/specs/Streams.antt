@@ -1,5 +1,5 @@
 -- What a source gave and a sink took, and when a fault of theirs counts.
-use Rattle.std.specs.Prelude.{ℕ, ◌+◌, ◌-◌, ◌^◌, ◌<◌, ◌≤◌, ◌≡◌, min, List, [], ◌++◌, length, take, drop, Option, Some, None, Result, Bool, OnErr, not, nat_le, ◌&&◌, ◌==◌, if◌then◌else◌}
+use Rattle.std.specs.Prelude.{ℕ, ◌+◌, ◌-◌, ◌^◌, ◌<◌, ◌≤◌, ◌≡◌, min, List, [], ◌++◌, length, take, drop, Option, Some, None, Result, Ok, Err, Bool, OnErr, not, nat_le, ◌&&◌, ◌==◌, if◌then◌else◌}
 use Rattle.std.specs.List.{list_any}
 
 -- a count of faults rose; one that stands at the last value of a u64 counts as risen
@@ -10,6 +10,11 @@ Rose before now = min (before + 1) (2 ^ 64 - 1) ≤ now
 pub record HasCause {X E : Type 0} (before now : ℕ) (answer : Result X E) : Type 0 where
   pub later : before ≤ now
   pub failed : OnErr answer (Rose before now)
+
+-- the count stands where the call goes well, and rose where it failed
+abbrev pub Counts : {X E : Type 0} → ℕ → ℕ → Result X E → Type 0
+Counts before now (Ok x) = now ≡ before
+Counts before now (Err e) = (before ≤ now) × Rose before now
 
 -- where the source tells what it has left: the n bytes given are its next ones, they stand at the beginning of `into`,
 -- and where `into` has room, none are given at the end of input alone
