@@ -1,13 +1,14 @@
 //! Where draws come from.
 
 ghost use Rattle.std.specs.Prelude.{ℕ, List, Option, IfOk};
-ghost use Rattle.cx_base.specs.Streams.{HasCause};
+ghost use Rattle.cx_base.specs.Streams.{Counts};
 ghost use Rattle.cx_dice.specs.Rolls.{GivesDraw};
 
 use crate::draw::Draw;
 use cx_base::Failed;
 
-/// Where draws come from. `coming` is what will be drawn, where the object tells that.
+/// Where draws come from. `coming` is what will be drawn, where the object tells that. `faults` counts the calls
+/// that failed: it stands where a call goes well.
 pub trait Dice {
     ghost coming: { Self → Option (ℕ → List ℕ) };
 
@@ -16,5 +17,5 @@ pub trait Dice {
     /// The next draw.
     fn block(&mut self) -> Result<Draw, Failed>
         ensures gives { IfOk result (λ draw. GivesDraw (coming self.old) (coming self.new) draw.bytes) }
-        ensures cause { HasCause (faults self.old) (faults self.new) result };
+        ensures count { Counts (faults self.old) (faults self.new) result };
 }

@@ -2,7 +2,7 @@
 
 ghost use Rattle.std.specs.Prelude.{◌≡◌, IfOk, is_ok, Some};
 ghost use Rattle.rand_chacha.specs.ChaCha.{of_seed};
-ghost use Rattle.cx_base.specs.Streams.{HasCause, is_listed};
+ghost use Rattle.cx_base.specs.Streams.{Counts, is_listed};
 ghost use Rattle.cx_dice.specs.Rolls.{GivesDraw, after_block, draws_of, rolled, rolls_next, seed_bytes};
 
 use crate::dice::Dice;
@@ -72,7 +72,7 @@ impl Dice for SeedDice {
     /// Fails exactly where the number of this call is listed.
     fn block(&mut self) -> Result<Draw, Failed>
         ensures gives { IfOk result (λ draw. GivesDraw (Some (draws_of self.old.generator)) (Some (draws_of self.new.generator)) draw.bytes) }
-        ensures cause { HasCause self.old.faults self.new.faults result }
+        ensures count { Counts self.old.faults self.new.faults result }
         ensures answer { is_ok result ≡ rolls_next self.old }
         ensures drawn { IfOk result (λ draw. draw.bytes ≡ (rolled self.old.generator).0) }
         ensures state { self.new ≡ after_block self.old }

@@ -30,13 +30,12 @@ abbrev pub ticket_of : Reason → Option (List ℕ)
 ticket_of (reason.Ticket why blob) = Some blob
 ticket_of _ = None
 
--- the cookie that an entry tells
+-- the cookie that the line of an entry prints. The line of an answer prints none, so an answer's cookie gets no rank by it
 abbrev pub cookie_of : Entry → Option ℕ
 cookie_of (entry.Admitted a) = Some a.cookie
 cookie_of (entry.Resumed a) = Some a.cookie
 cookie_of (entry.Sent s) = Some s.cookie
 cookie_of (entry.Handled h) = Some h.cookie
-cookie_of (entry.Answered a) = Some a.cookie
 cookie_of _ = None
 
 -- the different ones of a list, by their first appearance
@@ -44,7 +43,7 @@ abbrev pub different : List ℕ → List ℕ
 different [] = []
 different (c ∷ cs) = c ∷ filter (λ d. not (d == c)) (different cs)
 
--- the different cookies of these entries, by their first appearance
+-- the different cookies that the lines of these entries print, by their first appearance
 abbrev pub cookies_of : List Entry → List ℕ
 cookies_of entries = different (filter_map cookie_of entries)
 

@@ -68,7 +68,6 @@ fn cookie_of(entry: &Entry) -> Option<u64>
         Entry::Resumed(a) => Some(a.cookie),
         Entry::Sent(s) => Some(s.cookie),
         Entry::Handled(h) => Some(h.cookie),
-        Entry::Answered(a) => Some(a.cookie),
         _ => None,
     }
 }

@@ -1,10 +1,10 @@
 -- What a keeper keeps, and when a fault of its counts.
-use Rattle.std.specs.Prelude.{ℕ, ◌≡◌, ◌⊎◌, ◌-◌, ◌≤◌, Bool, not, ◌&&◌, ◌||◌, nat_le, List, length, Option, Some, None, Result, Err, if◌then◌else◌}
+use Rattle.std.specs.Prelude.{ℕ, ◌≡◌, ◌⊎◌, ◌-◌, ◌≤◌, Bool, not, ◌&&◌, ◌||◌, nat_le, List, length, Option, Some, None, Result, Ok, Err, if◌then◌else◌}
 use Rattle.cx_base.specs.Streams.{Rose, is_listed, count_after}
 use Rattle.cx_keep.specs.declared.keeper.Slot.{Slot}
 use Rattle.cx_keep.specs.declared.keeper.Slot.TheVariants.{Keyring, State}
 use Rattle.cx_keep.specs.declared.keeper.KeepError.{KeepError}
-use Rattle.cx_keep.specs.declared.keeper.KeepError.TheVariants.{Failed}
+use Rattle.cx_keep.specs.declared.keeper.KeepError.TheVariants.{Failed, OutOfMemory}
 
 -- what stands in each slot, if anything does
 pub record Kept : Type 0 where
@@ -35,10 +35,11 @@ abbrev pub SavesOrNot : Option Kept → Option Kept → Slot → List ℕ → Ty
 SavesOrNot None new slot bytes = Unit {0}
 SavesOrNot (Some kept) new slot bytes = (new ≡ Some kept) ⊎ (new ≡ Some (with_slot slot bytes kept))
 
--- the count of faults never falls, and a load fails only where it rose in this call; want of memory is no fault
-pub record HasLoadCause {X : Type 0} (before now : ℕ) (answer : Result X KeepError) : Type 0 where
-  pub later : before ≤ now
-  pub failed : answer ≡ Err Failed → Rose before now
+-- the count of faults stands where a load goes well, and where it wants memory, which is no fault; it rose where the load failed
+abbrev pub LoadCounts : {X : Type 0} → ℕ → ℕ → Result X KeepError → Type 0
+LoadCounts before now (Ok loaded) = now ≡ before
+LoadCounts before now (Err OutOfMemory) = now ≡ before
+LoadCounts before now (Err Failed) = (before ≤ now) × Rose before now
 
 -- ---- the keeper in memory
 

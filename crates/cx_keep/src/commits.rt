@@ -43,6 +43,7 @@ pub fn commit<K: Keeper>(
     requires { IsKeptState state.now }
     ensures saved { OnOk result (Saves (K.kept keeper.old) (K.kept keeper.new) Slot.State (state_text state.now)) }
     ensures fault { result ≡ Err CommitRefusal.KeepFault → SavesOrNot (K.kept keeper.old) (K.kept keeper.new) Slot.State (state_text state.now) }
+    ensures once { OnOk result (K.faults keeper.new ≡ K.faults keeper.old) }
     ensures cause { result ≡ Err CommitRefusal.KeepFault → Rose (K.faults keeper.old) (K.faults keeper.new) }
     ensures later { K.faults keeper.old ≤ K.faults keeper.new }
     ensures memory { result ≡ Err CommitRefusal.OutOfMemory → keeper.new ≡ keeper.old }

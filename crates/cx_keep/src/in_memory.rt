@@ -2,7 +2,7 @@
 
 ghost use Rattle.std.specs.Prelude.{◌≡◌, ◌≤◌, ◌-◌, length, vec_capacity, IfOk, OnOk, OnErr, is_ok, true, Ok, Err, Some};
 ghost use Rattle.std.specs.Option.{option_map};
-ghost use Rattle.cx_base.specs.Streams.{HasCause, is_listed};
+ghost use Rattle.cx_base.specs.Streams.{Counts, is_listed};
 
 use crate::keeper::{KeepError, Keeper, Slot};
 use cx_base::{Blob, Failed};
@@ -176,7 +176,7 @@ impl VecKeeper {
 
 impl Keeper for VecKeeper {
     ghost use Rattle.std.specs.Prelude.{Some};
-    ghost use Rattle.cx_keep.specs.Slots.{Loads, Saves, SavesOrNot, HasLoadCause, after_load, after_save, fails_next, saves_next};
+    ghost use Rattle.cx_keep.specs.Slots.{Loads, Saves, SavesOrNot, LoadCounts, after_load, after_save, fails_next, saves_next};
 
     ghost kept = { λ k. Some k.kept };
 
@@ -186,7 +186,7 @@ impl Keeper for VecKeeper {
     fn load(&mut self, alloc: Global, slot: Slot) -> Result<Option<Blob>, KeepError>
         ensures loads { IfOk result (Loads (Some self.old.kept) slot) }
         ensures same { Some self.new.kept ≡ Some self.old.kept }
-        ensures cause { HasLoadCause self.old.faults self.new.faults result }
+        ensures count { LoadCounts self.old.faults self.new.faults result }
         ensures failed { result ≡ Err KeepError.Failed → fails_next self.old ≡ true }
         ensures listed { fails_next self.old ≡ true → result ≡ Err KeepError.Failed }
         ensures state { self.new ≡ after_load self.old }
@@ -204,7 +204,7 @@ impl Keeper for VecKeeper {
     fn save(&mut self, slot: Slot, bytes: &[u8]) -> Result<(), Failed>
         ensures saves { OnOk result (Saves (Some self.old.kept) (Some self.new.kept) slot bytes.now) }
         ensures failed { OnErr result (SavesOrNot (Some self.old.kept) (Some self.new.kept) slot bytes.now) }
-        ensures cause { HasCause self.old.faults self.new.faults result }
+        ensures count { Counts self.old.faults self.new.faults result }
         ensures answer { is_ok result ≡ saves_next self.old bytes.now }
         ensures state { self.new ≡ after_save self.old slot bytes.now }
     {

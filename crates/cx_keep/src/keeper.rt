@@ -1,7 +1,7 @@
 //! Where a keyring and a state are kept.
 
 ghost use Rattle.std.specs.Prelude.{ℕ, ◌≡◌, Option, IfOk, OnOk, OnErr};
-ghost use Rattle.cx_base.specs.Streams.{HasCause};
+ghost use Rattle.cx_base.specs.Streams.{Counts};
 
 use cx_base::{Blob, Failed};
 use std::alloc::{AllocError, Global};
@@ -36,9 +36,10 @@ impl From<AllocError> for KeepError {
     }
 }
 
-/// Where a keyring and a state are kept. `kept` is what stands in the slots, where the object tells that.
+/// Where a keyring and a state are kept. `kept` is what stands in the slots, where the object tells that. `faults` counts the
+/// calls that failed: it stands where a call goes well or wants memory.
 pub trait Keeper {
-    ghost use Rattle.cx_keep.specs.Slots.{Kept, Loads, Saves, SavesOrNot, HasLoadCause};
+    ghost use Rattle.cx_keep.specs.Slots.{Kept, Loads, Saves, SavesOrNot, LoadCounts};
 
     ghost kept: { Self → Option Kept };
 
@@ -48,12 +49,12 @@ pub trait Keeper {
     fn load(&mut self, alloc: Global, slot: Slot) -> Result<Option<Blob>, KeepError>
         ensures loads { IfOk result (Loads (kept self.old) slot) }
         ensures same { kept self.new ≡ kept self.old }
-        ensures cause { HasLoadCause (faults self.old) (faults self.new) result };
+        ensures count { LoadCounts (faults self.old) (faults self.new) result };
 
     /// Puts the bytes into the slot in place of those that stand there. After a failure either the old ones or the new ones
     /// stand there. The other slot stays as it is.
     fn save(&mut self, slot: Slot, bytes: &[u8]) -> Result<(), Failed>
         ensures saves { OnOk result (Saves (kept self.old) (kept self.new) slot bytes.now) }
         ensures failed { OnErr result (SavesOrNot (kept self.old) (kept self.new) slot bytes.now) }
-        ensures cause { HasCause (faults self.old) (faults self.new) result };
+        ensures count { Counts (faults self.old) (faults self.new) result };
 }

@@ -223,7 +223,7 @@ fn push_handled(
     push(rt, alloc, journal, handled(rt, alloc, cookie, outcome));
 }
 
-/// A journal of three cookies: 9 comes first, then 8, then 0.
+/// A journal of three cookies: 8 is printed first, then 0, then 9. The answer before them has 9, but its line prints none.
 fn sessions(rt: &impl Abort, alloc: Global) -> Journal {
     let mut journal = Journal::new(alloc);
     push(rt, alloc, &mut journal, answered(rt, alloc, 9));
@@ -237,11 +237,11 @@ fn sessions(rt: &impl Abort, alloc: Global) -> Journal {
 }
 
 const SESSIONS: &str = "answered client.a osd.0 1 denied
-resumed osd.0 1 2 c2 client.a 2 4599.999999999 \"allow *\"
-admitted osd.0 1 1 c3 client.a 2 1000 \"allow *\"
-sent client.a osd.0 c3 1 read rbd - obj1 -
-handled osd.0 1 1 c2 1 write rbd - obj1 6869ff no-handler
-handled osd.0 1 1 c1 1 write rbd - obj1 6869ff done
+resumed osd.0 1 2 c1 client.a 2 4599.999999999 \"allow *\"
+admitted osd.0 1 1 c2 client.a 2 1000 \"allow *\"
+sent client.a osd.0 c2 1 read rbd - obj1 -
+handled osd.0 1 1 c1 1 write rbd - obj1 6869ff no-handler
+handled osd.0 1 1 c3 1 write rbd - obj1 6869ff done
 ended osd.0 1
 ";
 
