@@ -51,8 +51,7 @@ fn opened<'a>(alloc: Global, opening: &mut Sealing, bytes: &'a [u8]) -> Outcome<
     let Some((front, behind)) = bytes.split_first_chunk::<96>() else {
         return Outcome::Short;
     };
-    let mut contents = Items::new(alloc);
-    let head = match opening.open_head(alloc, front, &mut contents) {
+    let head = match opening.open_head(front) {
         Ok(head) => head,
         Err(refusal) => return Outcome::Refused(refusal),
     };
@@ -61,6 +60,7 @@ fn opened<'a>(alloc: Global, opening: &mut Sealing, bytes: &'a [u8]) -> Outcome<
         return Outcome::Short;
     }
     let (rest, behind) = behind.split_at(wanted);
+    let mut contents = Items::new(alloc);
     match opening.open_rest(alloc, head, rest, &mut contents) {
         Ok(frame) => Outcome::Frame(frame, behind),
         Err(refusal) => Outcome::Refused(refusal),

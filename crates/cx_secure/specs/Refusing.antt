@@ -1,9 +1,9 @@
 -- What a refusal of a frame is here, and what the calls that want memory answer.
-use Rattle.std.specs.Prelude.{◌≡◌, ℕ, List, Result, Ok, Err, Option, Some, None}
+use Rattle.std.specs.Prelude.{◌≡◌, Result, Ok, Err, Option, Some}
 use Rattle.cx_frame.specs.declared.refusals.FrameRefusal.{FrameRefusal}
 use Rattle.cx_frame.specs.declared.refusals.FrameRefusal.TheVariants as plain
 use Rattle.cx_secure.specs.declared.refusals.SecureRefusal.{SecureRefusal}
-use Rattle.cx_secure.specs.declared.refusals.SecureRefusal.TheVariants.{BadTag, BadCrc, BadShape, TooLong, Aborted, OutOfMemory}
+use Rattle.cx_secure.specs.declared.refusals.SecureRefusal.TheVariants.{BadCrc, BadShape, TooLong, Aborted, OutOfMemory}
 
 abbrev pub secured : FrameRefusal → SecureRefusal
 secured plain.BadCrc = BadCrc

@@ -1,6 +1,6 @@
 //! Opening secure frames.
 
-ghost use Rattle.std.specs.Prelude.{◌≡◌, ◌≢◌, ℕ, ◌+◌, ◌<◌, ◌≤◌, ◌^◌, ◌++◌, List, [], ◌∷◌, Some, None, Ok, Err, IfOk, OnOk, length, take, drop};
+ghost use Rattle.std.specs.Prelude.{◌≡◌, ◌≢◌, ℕ, ◌+◌, ◌<◌, ◌≤◌, ◌^◌, ◌++◌, List, [], ◌∷◌, Some, None, Ok, Err, IfOk, OnOk, OnErr, length, take, drop};
 ghost use Rattle.cx_gcm.specs.GcmKeyOf.{gcm_key_of};
 ghost use Rattle.cx_frame.specs.Preambles.{IsAllowed, preamble_text};
 ghost use Rattle.cx_frame.specs.declared.frame.Frame.{Frame};
@@ -38,38 +38,45 @@ pub fn rest_len(head: &Head) -> usize
 }
 
 impl Sealing {
-    /// Opens the head of a frame. Where it opens and is refused, its content is handed out, which wants memory; the content of one that is
-    /// answered is `head_content`.
-    pub fn open_head(
-        &mut self,
-        alloc: Global,
-        bytes: &[u8; 96],
-        contents: &mut Items<Blob>,
-    ) -> Result<Head, SecureRefusal>
+    /// Opens the head of a frame. It takes no memory. Its content is `head_content` where it is answered, and where it is refused
+    /// `hand_out_head` hands it out.
+    pub fn open_head(&mut self, bytes: &[u8; 96]) -> Result<Head, SecureRefusal>
         // What is read was sealed so, under the counter of this direction.
         ensures found { IfOk result (IsHead (connection_key self.old) (nonce_at self.old.into.fixed self.old.into.counter) bytes.now) }
         // What was sealed so is read.
         ensures only { (h : Head) → self.old.kept ≡ None → self.old.into.counter + 1 < 2 ^ 64
             → IsHead (connection_key self.old) (nonce_at self.old.into.fixed self.old.into.counter) bytes.now h → result ≡ Ok h }
-        // It is refused for what was refused before, then for the counter, the tag, and the first check of the preamble that fails.
-        ensures exact { Agrees result (open_head_at self.old bytes.now) }
+        // It is refused for what was refused before, then for the counter, the tag, and the first check of the preamble that fails: always,
+        // since no memory can be wanting.
+        ensures exact { result ≡ open_head_at self.old bytes.now }
         ensures after { self.new ≡ after_opening self.old 1 result }
-        // What opened and is refused is handed out.
-        ensures handed { (refusal : SecureRefusal) → self.old.kept ≡ None → result ≡ Err refusal → refusal ≢ OutOfMemory
-            → contents.new ≡ contents.old ++ head_contents (connection_key self.old) self.old.into.fixed self.old.into.counter bytes.now }
-        ensures read { OnOk result (contents.new ≡ contents.old) }
-        ensures still { (refusal : SecureRefusal) → self.old.kept ≡ Some refusal → contents.new ≡ contents.old }
     {
         if let Some(refusal) = self.kept {
             return Err(refusal);
         }
-        let head = head_step(alloc, &self.key, &self.into, bytes, contents);
+        let head = head_step(&self.key, &self.into, bytes);
         match head {
             Ok(_) => self.into.raise(1),
             Err(SecureRefusal::OutOfMemory) => {}
             Err(refusal) => self.kept = Some(refusal),
         }
         head
+    }
+
+    /// Hands out the content of the head in these bytes, its nonce and its plain bytes, where its tag is right under the counter of this
+    /// direction. A head that was refused is still under it.
+    pub fn hand_out_head(
+        &self,
+        alloc: Global,
+        bytes: &[u8; 96],
+        contents: &mut Items<Blob>,
+    ) -> Result<(), AllocError>
+        ensures ok { OnOk result (contents.new ≡ contents.old ++ head_contents (connection_key self.now) self.now.into.fixed self.now.into.counter bytes.now) }
+        ensures err { OnErr result (contents.new ≡ contents.old) }
+        // Memory is wanting only where something opens.
+        ensures memory { OnErr result (head_contents (connection_key self.now) self.now.into.fixed self.now.into.counter bytes.now ≢ []) }
+    {
+        hand_out_opened(alloc, &self.key, &self.into, bytes, contents)
     }
 
     /// The content of a head that was opened last: its nonce and its plain bytes.
@@ -131,51 +138,43 @@ impl Sealing {
 }
 
 // The head in 96 bytes, which comes under the counter.
-#[tactic(auto, unfolding(crate::specs::Opening::head_step, crate::specs::Opening::head_of, crate::specs::Contents::head_contents))]
-fn head_step(
-    alloc: Global,
-    key: &GcmKey,
-    way: &Way,
-    bytes: &[u8; 96],
-    contents: &mut Items<Blob>,
-) -> Result<Head, SecureRefusal>
-    ensures value { Agrees result (head_step (gcm_key_of key.now) way.now.fixed way.now.counter bytes.now) }
+#[tactic(auto, unfolding(crate::specs::Opening::head_step, crate::specs::Opening::head_of))]
+fn head_step(key: &GcmKey, way: &Way, bytes: &[u8; 96]) -> Result<Head, SecureRefusal>
+    ensures value { result ≡ head_step (gcm_key_of key.now) way.now.fixed way.now.counter bytes.now }
     ensures below { IfOk result (λ _. way.now.counter + 1 < 2 ^ 64) }
     ensures found { IfOk result (IsHead (gcm_key_of key.now) (nonce_at way.now.fixed way.now.counter) bytes.now) }
     ensures only { (h : Head) → way.now.counter + 1 < 2 ^ 64 → IsHead (gcm_key_of key.now) (nonce_at way.now.fixed way.now.counter) bytes.now h → result ≡ Ok h }
-    ensures handed { (refusal : SecureRefusal) → result ≡ Err refusal → refusal ≢ OutOfMemory
-        → contents.new ≡ contents.old ++ head_contents (gcm_key_of key.now) way.now.fixed way.now.counter bytes.now }
-    ensures read { OnOk result (contents.new ≡ contents.old) }
 {
     if way.counter == u64::MAX {
         return Err(SecureRefusal::CounterSpent);
     }
     let nonce = nonce_at(&way.fixed, way.counter);
     match opened_head(key, nonce, bytes) {
-        Some(plain) => head_in(alloc, &nonce, &plain, contents),
+        Some(plain) => head_of(&plain),
         None => Err(SecureRefusal::BadTag),
     }
 }
 
-// The head in the plain bytes of the first part, which has this nonce. Where it is refused, its content is handed out.
-fn head_in(
+// Hands out what opens of a head, which comes under the counter.
+#[tactic(auto, unfolding(crate::specs::Contents::head_contents))]
+fn hand_out_opened(
     alloc: Global,
-    nonce: &[u8; 12],
-    plain: &[u8; 80],
+    key: &GcmKey,
+    way: &Way,
+    bytes: &[u8; 96],
     contents: &mut Items<Blob>,
-) -> Result<Head, SecureRefusal>
-    ensures value { Agrees result (head_of (Some plain.now)) }
-    ensures found { IfOk result (IsPlainHead plain.now) }
-    ensures only { (h : Head) → head_of (Some plain.now) ≡ Ok h → result ≡ Ok h }
-    ensures handed { (refusal : SecureRefusal) → result ≡ Err refusal → refusal ≢ OutOfMemory → contents.new ≡ contents.old ++ (nonce.now ++ plain.now) ∷ [] }
-    ensures read { OnOk result (contents.new ≡ contents.old) }
+) -> Result<(), AllocError>
+    ensures ok { OnOk result (contents.new ≡ contents.old ++ head_contents (gcm_key_of key.now) way.now.fixed way.now.counter bytes.now) }
+    ensures err { OnErr result (contents.new ≡ contents.old) }
+    ensures memory { OnErr result (head_contents (gcm_key_of key.now) way.now.fixed way.now.counter bytes.now ≢ []) }
 {
-    match head_of(plain) {
-        Ok(head) => Ok(head),
-        Err(refusal) => {
-            hand_out(alloc, nonce, plain, contents)?;
-            Err(refusal)
-        }
+    if way.counter == u64::MAX {
+        return Ok(());
+    }
+    let nonce = nonce_at(&way.fixed, way.counter);
+    match opened_head(key, nonce, bytes) {
+        Some(plain) => hand_out(alloc, &nonce, &plain, contents),
+        None => Ok(()),
     }
 }
 

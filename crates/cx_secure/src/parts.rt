@@ -1,6 +1,6 @@
 //! Parts: sealed and opened, each under a nonce of its own.
 
-ghost use Rattle.std.specs.Prelude.{◌≡◌, ◌≢◌, ℕ, ◌+◌, ◌-◌, ◌≤◌, ◌++◌, List, [], ◌∷◌, Some, None, OnOk, IfOk, IfSome, length};
+ghost use Rattle.std.specs.Prelude.{◌≡◌, ◌≢◌, ℕ, ◌+◌, ◌-◌, ◌≤◌, ◌++◌, List, [], ◌∷◌, Some, None, OnOk, OnErr, IfOk, IfSome, length};
 ghost use Rattle.std.specs.Bool.{OnTrue, OnFalse};
 ghost use Rattle.cx_gcm.specs.GcmKeyOf.{gcm_key_of};
 ghost use Rattle.cx_gcm.specs.Gcm.{IsNonce};
@@ -181,7 +181,8 @@ pub(crate) fn hand_out(
     plain: &[u8],
     contents: &mut Items<Blob>,
 ) -> Result<(), AllocError>
-    ensures { OnOk result (contents.new ≡ contents.old ++ (nonce.now ++ plain.now) ∷ []) }
+    ensures ok { OnOk result (contents.new ≡ contents.old ++ (nonce.now ++ plain.now) ∷ []) }
+    ensures err { OnErr result (contents.new ≡ contents.old) }
 {
     let mut content = Blob::of(alloc, nonce)?;
     content.append(alloc, plain)?;

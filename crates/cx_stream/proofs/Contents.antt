@@ -1,5 +1,5 @@
 -- What opens of the frame at the front.
-use Rattle.std.proofs.Common.{◌≡◌, ℕ, ◌+◌, ◌-◌, ◌^◌, Bool, true, false, List, [], ◌∷◌, ◌++◌, length, take, drop, Option, Some, None, Result, Ok, Err, refl, sym, ap, ◌∙◌, arith, length-append, append_assoc}
+use Rattle.std.proofs.Common.{◌≡◌, ℕ, ◌+◌, ◌-◌, ◌≤◌, ◌^◌, Bool, true, false, List, [], ◌∷◌, ◌++◌, length, take, drop, Option, Some, None, Result, Ok, Err, refl, sym, ap, ◌∙◌, inl, inr, arith, length-append, append_assoc}
 use Rattle.std.specs.Prelude.{nat_lt, if◌then◌else◌}
 use Rattle.std.proofs.lemmas.List.{take_at, drop_at}
 use Rattle.cx_frame.specs.declared.preamble.Preamble.{Preamble}
@@ -10,23 +10,22 @@ use Rattle.cx_frame.proofs.PreambleLaws.{preamble_again}
 use Rattle.cx_gcm.specs.Gcm.{IsNonce}
 use Rattle.cx_secure.specs.Contents.{content_of, head_contents, head_content, rest_contents}
 use Rattle.cx_secure.specs.Opening.{head_of, head_step, with_inline}
-use Rattle.cx_secure.specs.Parts.{nonce_at, opened, part}
+use Rattle.cx_secure.specs.Parts.{nonce_at, opened}
 use Rattle.cx_secure.specs.Plains.{rest_len}
-use Rattle.cx_secure.specs.Refusing.{Agrees}
 use Rattle.cx_secure.specs.Sealings.{connection_key, open_head_at}
 use Rattle.cx_secure.specs.declared.refusals.SecureRefusal.{SecureRefusal}
-use Rattle.cx_secure.specs.declared.refusals.SecureRefusal.TheVariants.{CounterSpent, BadTag, BadCrc, BadShape, TooLong, Aborted, OutOfMemory}
+use Rattle.cx_secure.specs.declared.refusals.SecureRefusal.TheVariants.{CounterSpent, OutOfMemory}
 use Rattle.cx_secure.specs.declared.sealing.Head.{Head}
 use Rattle.cx_secure.specs.declared.sealing.Sealing.{Sealing}
 use Rattle.cx_secure.proofs.HeadLaws.{nonce_is}
 use Rattle.cx_secure.proofs.PartLaws.{part_opened}
+use Rattle.cx_stream.specs.Fronts.{with_length}
 use Rattle.cx_stream.specs.Held.{Held, IsOpen, sealed_head}
-use Rattle.cx_stream.specs.Openings.{contents_behind, contents_from, front_contents, open_contents}
-use Rattle.cx_stream.specs.SecureStreams.{Ahead, IsKeyed, ahead}
-use Rattle.cx_stream.specs.Turning.{Opened}
+use Rattle.cx_stream.specs.Openings.{NeedsNoMemory, contents_behind, contents_from, front_contents, open_contents}
+use Rattle.cx_stream.specs.SecureStreams.{Ahead, IsKeyed, ahead, secure_frame_at}
+use Rattle.cx_stream.specs.Turning.{Opened, behind_open}
 use Rattle.cx_stream.proofs.SecureFronts.{stream_keyed}
-use Rattle.cx_stream.proofs.SecureTurns.{Answer, held, head_read}
-use Rattle.cx_stream.specs.declared.faults.StreamFault.{StreamFault}
+use Rattle.cx_stream.proofs.SecureTurns.{Answer, behind_all, held, head_read}
 use Rattle.cx_stream.specs.declared.faults.StreamFault.TheVariants.{Secure}
 use Rattle.cx_frame.specs.declared.frame.Frame.{Frame}
 
@@ -112,21 +111,12 @@ err_is x y e = cc
 pub not_memory : {X Y : Type 0} (e : SecureRefusal) → ((let p : Result X SecureRefusal = Err e in p ≡ Err OutOfMemory) → ⊥) → (let q : Result Y SecureRefusal = Err e in q ≡ Err OutOfMemory) → ⊥
 not_memory {X} {Y} e not is = not (ap (λ (x : SecureRefusal). let r : Result X SecureRefusal = Err x in r) (err_is {X = Y} e OutOfMemory is))
 
-agrees_err : {X : Type 0} (e : SecureRefusal) (expected : Result X SecureRefusal) → (e ≡ OutOfMemory → ⊥) → (let r : Result X SecureRefusal = Err e in Agrees r expected) → expected ≡ Err e
-agrees_err CounterSpent expected not is = is
-agrees_err BadTag expected not is = is
-agrees_err BadCrc expected not is = is
-agrees_err BadShape expected not is = is
-agrees_err (TooLong n) expected not is = is
-agrees_err Aborted expected not is = is
-agrees_err OutOfMemory expected not is = absurd (not refl)
-
 -- of a head that is refused
 pub refused_front : (old : Held) (s : Sealing) (o : Option Head) (rest front left : List ℕ) (e : SecureRefusal) → held s o rest ≡ old → o ≡ None → rest ≡ front ++ left → length front ≡ 96 → s.kept ≡ None
-    → (e ≡ OutOfMemory → ⊥) → (let r : Refused = Err e in Agrees r (open_head_at s front)) → front_contents (ahead old) ≡ head_contents (connection_key s) s.into.fixed s.into.counter front
-refused_front old s o rest front left e seen none rest_is len free not agrees =
+    → (let r : Refused = Err e in open_head_at s front ≡ r) → front_contents (ahead old) ≡ head_contents (connection_key s) s.into.fixed s.into.counter front
+refused_front old s o rest front left e seen none rest_is len free read =
     ap (λ (x : Held). front_contents (ahead x)) (sym seen) ∙ ap (λ (p : Option Head). front_contents (ahead (held s p rest))) none
-    ∙ refused_contents (ahead (held s None rest)) front left e rest_is len (head_read s front (Err e) free (agrees_err e (open_head_at s front) not agrees))
+    ∙ refused_contents (ahead (held s None rest)) front left e rest_is len (head_read s front (Err e) free read)
 
 -- of a head that is open and what stands behind it
 pub finish_contents : (old : Held) (s : Sealing) (o : Option Head) (rest behind : List ℕ) (h : Head) (before mid new : List (List ℕ)) (content : List ℕ) → held s o rest ≡ old
@@ -160,3 +150,29 @@ pub next_refused : (old mid : Held) (h : Head) (e : SecureRefusal) (before betwe
 next_refused old mid h e before between after is same handed not =
     handed (λ n. cc) (λ want. not (ap (λ (x : SecureRefusal). let r : Answer = Err (Secure x) in r) (err_is e OutOfMemory want)))
     ∙ ap (λ m. m ++ open_contents mid h) same ∙ ap (λ cs. before ++ cs) (sym (opened_contents old mid h is))
+
+-- ---- where memory may be wanting
+
+-- something opened of a frame that is all there
+pub needs_memory : (old : Held) → old.sealing.kept ≡ None → (secure_frame_at (ahead old) ≡ Ok None → ⊥) → (front_contents (ahead old) ≡ [] → ⊥) → NeedsNoMemory old → ⊥
+needs_memory old free there opens (inl kept) = kept free
+needs_memory old free there opens (inr (inl short)) = there short
+needs_memory old free there opens (inr (inr none)) = opens none
+
+-- of a head that is refused, what opened isn't handed out for want of memory alone
+pub refused_needs : (old : Held) (e : SecureRefusal) (contents : List (List ℕ)) → (old.sealing.kept ≡ None) × (secure_frame_at (ahead old) ≡ Err e) → front_contents (ahead old) ≡ contents
+    → (contents ≡ [] → ⊥) → NeedsNoMemory old → ⊥
+refused_needs old e contents is same opens =
+    needs_memory old is.0 (λ short. let both : Err e ≡ Ok None = sym is.1 ∙ short in cc) (λ none. opens (sym same ∙ none))
+
+length_there : (n : ℕ) (r : Result Frame SecureRefusal) → with_length n r ≡ Ok None → ⊥
+unfolding with_length
+length_there n (Ok f) is = cc
+length_there n (Err e) is = cc
+
+-- a frame whose head is open, and which is all there
+pub opened_needs : (old mid : Held) (h : Head) → Opened old mid h → rest_len h.preamble ≤ length mid.rest → NeedsNoMemory old → ⊥
+opened_needs old mid h is long =
+    needs_memory old is.free
+    (λ short. length_there (96 + rest_len h.preamble) _ (sym (behind_all (behind_open mid) h _ long refl) ∙ sym is.next ∙ short))
+    (λ none. let e = sym (opened_contents old mid h is) ∙ none in cc)

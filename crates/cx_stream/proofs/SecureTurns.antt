@@ -1,6 +1,6 @@
 -- A turn of secure frames: the head, then what stands behind it.
 use Rattle.std.proofs.Common.{◌≡◌, ℕ, ◌+◌, ◌-◌, ◌≤◌, ◌<◌, ◌^◌, Bool, false, true, List, [], ◌∷◌, ◌++◌, length, take, drop, Option, Some, None, Result, Ok, Err, refl, sym, ap, subst, ◌∙◌, inl, inr, arith, append_assoc, append-nil, length-append}
-use Rattle.std.specs.Prelude.{nat_lt, if◌then◌else◌, ◌&&◌}
+use Rattle.std.specs.Prelude.{if◌then◌else◌}
 use Rattle.std.specs.List.{flat_map}
 use Rattle.std.proofs.Math.Seq.{take-add}
 use Rattle.std.proofs.lemmas.Bool.{le-ltb, lt-ltb, cases_lt}
@@ -8,17 +8,14 @@ use Rattle.std.proofs.lemmas.Grind.{flat_map-append}
 use Rattle.std.proofs.lemmas.List.{take-append-drop, drop-drop, take_at, drop_at}
 use Rattle.std.proofs.lemmas.List.Elements.{All-append, All-cons, All-nil}
 use Rattle.cx_frame.specs.declared.frame.Frame.{Frame}
-use Rattle.cx_frame.specs.declared.preamble.Preamble.{Preamble}
-use Rattle.cx_frame.specs.declared.refusals.FrameRefusal.{FrameRefusal}
-use Rattle.cx_frame.specs.declared.refusals.FrameRefusal.TheVariants as plain
-use Rattle.cx_frame.specs.Preambles.{IsAllowed, ends_in_zeros, fields_of, has_sum, is_shaped, preamble_at, preamble_text}
+use Rattle.cx_frame.specs.Preambles.{IsAllowed, preamble_text}
 use Rattle.cx_secure.specs.declared.sealing.Head.{Head}
 use Rattle.cx_secure.specs.declared.sealing.Sealing.{Sealing}
 use Rattle.cx_secure.specs.declared.sealing.Way.{Way}
 use Rattle.cx_secure.specs.declared.refusals.SecureRefusal.{SecureRefusal}
 use Rattle.cx_secure.specs.declared.refusals.SecureRefusal.TheVariants.{CounterSpent, BadTag, BadCrc, BadShape, TooLong, Aborted, OutOfMemory}
-use Rattle.cx_secure.specs.Opening.{IsHead, IsRestBehind, head_of, head_step, rest_of, rest_step, with_inline}
-use Rattle.cx_secure.specs.Parts.{nonce_at, opened, part, sealed_parts}
+use Rattle.cx_secure.specs.Opening.{IsHead, IsRestBehind, head_step, rest_of, rest_step}
+use Rattle.cx_secure.specs.Parts.{nonce_at, part, sealed_parts}
 use Rattle.cx_secure.specs.Plains.{one_if, plains, rest_len, rest_parts, second_len}
 use Rattle.cx_secure.specs.Refusing.{Agrees, IsRefusal}
 use Rattle.cx_secure.specs.Sealings.{after_opened, after_opening, after_putting, after_sealed, connection_key, open_head_at, open_rest_at, unless_kept}
@@ -162,21 +159,30 @@ pub head_read : (s : Sealing) (front : List ℕ) (answer : Result Head SecureRef
     → head_step (connection_key s) s.into.fixed s.into.counter front ≡ answer
 head_read s front answer free e = read_free s.kept (head_step (connection_key s) s.into.fixed s.into.counter front) answer free e
 
+-- a head that is refused is what stands at the front
+pub refused_answer : (old : Held) (s : Sealing) (o : Option Head) (rest front left : List ℕ) (e : SecureRefusal) → held s o rest ≡ old → o ≡ None
+    → rest ≡ front ++ left → length front ≡ 96 → s.kept ≡ None → (let r : Result Head SecureRefusal = Err e in open_head_at s front ≡ r)
+    → (old.sealing.kept ≡ None) × (secure_frame_at (ahead old) ≡ Err e)
+refused_answer old s o rest front left e seen none rest_is len free read =
+    let before : Held = held s None rest in
+    let seen_none : before ≡ old = ap (λ (p : Option Head). held s p rest) (sym none) ∙ seen in
+    let next : secure_frame_at (ahead before) ≡ Err e = at_head (ahead before) front left (Err e) rest_is len (head_read s front (Err e) free read) ∙ head_refused _ e in
+    (ap (λ (x : Held). x.sealing.kept) (sym seen_none) ∙ free, ap (λ (x : Held). secure_frame_at (ahead x)) (sym seen_none) ∙ next)
+
+pub refused_unkept : (old : Held) (e : SecureRefusal) → (old.sealing.kept ≡ None) × (secure_frame_at (ahead old) ≡ Err e)
+    → unless_kept old.sealing.kept (secure_frame_at (ahead old)) ≡ Err e
+refused_unkept old e is = unkept old.sealing.kept (secure_frame_at (ahead old)) is.0 ∙ is.1
+
 head_keeps : (old new : Held) (s t : Sealing) (o : Option Head) (rest front left : List ℕ) (e : SecureRefusal) → held s o rest ≡ old → o ≡ None → held t o rest ≡ new
     → rest ≡ front ++ left → length front ≡ 96 → s.kept ≡ None → t ≡ record s { kept = Some e }
     → (let r : Result Head SecureRefusal = Err e in open_head_at s front ≡ r)
     → (new ≡ refusing old e) × (unless_kept old.sealing.kept (secure_frame_at (ahead old)) ≡ Err e)
 head_keeps old new s t o rest front left e seen none made rest_is len free after read =
-    let before : Held = held s None rest in
-    let seen_none : before ≡ old = ap (λ (p : Option Head). held s p rest) (sym none) ∙ seen in
-    let next : secure_frame_at (ahead before) ≡ Err e = at_head (ahead before) front left (Err e) rest_is len (head_read s front (Err e) free read) ∙ head_refused _ e in (
-      sym made ∙ ap (λ (x : Sealing). held x o rest) after ∙ ap (λ (x : Held). refusing x e) seen,
-      ap (λ (x : Held). unless_kept x.sealing.kept (secure_frame_at (ahead x))) (sym seen_none) ∙ unkept s.kept (secure_frame_at (ahead before)) free ∙ next,
-    )
+    (sym made ∙ ap (λ (x : Sealing). held x o rest) after ∙ ap (λ (x : Held). refusing x e) seen, refused_unkept old e (refused_answer old s o rest front left e seen none rest_is len free read))
 
 pub refuses_head : (old new : Held) (s t : Sealing) (o : Option Head) (rest front left : List ℕ) (e : SecureRefusal) → held s o rest ≡ old → o ≡ None → held t o rest ≡ new
     → rest ≡ front ++ left → length front ≡ 96 → s.kept ≡ None
-    → (let r : Result Head SecureRefusal = Err e in t ≡ after_opening s 1 r) → (let r : Result Head SecureRefusal = Err e in Agrees r (open_head_at s front))
+    → (let r : Result Head SecureRefusal = Err e in t ≡ after_opening s 1 r) → (let r : Result Head SecureRefusal = Err e in open_head_at s front ≡ r)
     → (let r : Result (Option Head) SecureRefusal = Err e in Readied old new r)
 refuses_head old new s t o rest front left CounterSpent seen none made rest_is len free after read = head_keeps old new s t o rest front left CounterSpent seen none made rest_is len free after read
 refuses_head old new s t o rest front left BadTag seen none made rest_is len free after read = head_keeps old new s t o rest front left BadTag seen none made rest_is len free after read

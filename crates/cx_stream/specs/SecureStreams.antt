@@ -103,6 +103,12 @@ AgreesSecure (Err (Secure OutOfMemory)) expected = Unit {0}
 AgreesSecure (Err (Secure e)) expected = expected ≡ Err e
 AgreesSecure (Err e) expected = ⊥
 
+-- the answer is this one, whatever memory there is
+abbrev pub IsAnswer : {X : Type 0} → Result X StreamFault → Result X SecureRefusal → Type 0
+IsAnswer (Ok x) expected = expected ≡ Ok x
+IsAnswer (Err (Secure e)) expected = expected ≡ Err e
+IsAnswer (Err e) expected = ⊥
+
 -- a frame that is given stands at the front, and the stream goes on behind it
 pub record Passes (old new : Ahead) (f : Frame) : Type 0 where
   pub len : ℕ

@@ -5,13 +5,13 @@ ghost use Rattle.cx_frame.specs.Frames.{IsAnnounceable, total};
 ghost use Rattle.cx_frame.specs.Preambles.{IsAllowed};
 ghost use Rattle.cx_frame.specs.declared.frame.Frame.{Frame};
 ghost use Rattle.cx_secure.specs.Contents.{frame_contents};
-ghost use Rattle.cx_secure.specs.Plains.{secure_text};
+ghost use Rattle.cx_secure.specs.Plains.{rest_len, secure_text};
 ghost use Rattle.cx_secure.specs.Sealings.{connection_key, put_refusal, unless_kept};
 ghost use Rattle.cx_secure.specs.declared.refusals.SecureRefusal.{SecureRefusal};
 ghost use Rattle.cx_secure.specs.declared.refusals.SecureRefusal.TheVariants.{OutOfMemory};
 ghost use Rattle.cx_stream.specs.Fronts.{frame_in, given_by};
-ghost use Rattle.cx_stream.specs.Openings.{front_contents, open_contents};
-ghost use Rattle.cx_stream.specs.SecureStreams.{AgreesSecure, BeginsNoSecure, Holds, IsPutFault, IsSecure, KeepsFault, PassesGiven, after_put, ahead, secure_frame_at};
+ghost use Rattle.cx_stream.specs.Openings.{NeedsNoMemory, front_contents, open_contents};
+ghost use Rattle.cx_stream.specs.SecureStreams.{AgreesSecure, BeginsNoSecure, Holds, IsAnswer, IsPutFault, IsSecure, KeepsFault, PassesGiven, after_put, ahead, secure_frame_at};
 ghost use Rattle.cx_stream.specs.Turning.{Finished, Readied};
 
 use crate::faults::StreamFault;
@@ -56,6 +56,9 @@ impl Secure {
         ensures kept { KeepsFault self.old.sealing.kept self.new.sealing.kept result }
         // Having given so many more, it stands for that.
         ensures holds { (fed : List ℕ) (given : List Frame) → Holds (ahead self.old) fed given → Holds (ahead self.new) fed (given ++ given_by result) }
+        // A fault that is kept is answered always, whatever memory there is, and so are bytes that hold no whole frame, a spent counter and a
+        // wrong tag of a head.
+        ensures sure { NeedsNoMemory self.old → IsAnswer result (unless_kept self.old.sealing.kept (frame_in (secure_frame_at (ahead self.old)))) }
         // Nothing is given where no whole frame is there.
         ensures none { result ≡ Ok None → BeginsNoSecure (ahead self.old) }
         // What opened is handed out where a frame is given or refused, but for want of memory.
@@ -75,6 +78,7 @@ impl Secure {
         opened: &mut Items<Blob>,
     ) -> Result<Option<Frame>, StreamFault>
         ensures exact { AgreesSecure result (unless_kept self.old.sealing.kept (frame_in (secure_frame_at (ahead self.old)))) }
+        ensures sure { NeedsNoMemory self.old → IsAnswer result (unless_kept self.old.sealing.kept (frame_in (secure_frame_at (ahead self.old)))) }
         ensures passes { PassesGiven (ahead self.old) (ahead self.new) result }
         ensures kept { KeepsFault self.old.sealing.kept self.new.sealing.kept result }
         ensures opened { self.old.sealing.kept ≡ None → result ≢ Ok None → result ≢ Err (StreamFault.Secure OutOfMemory)
@@ -100,6 +104,8 @@ impl Secure {
         opened: &mut Items<Blob>,
     ) -> Result<Option<Head>, SecureRefusal>
         ensures readied { Readied self.old self.new result }
+        ensures sure { (refusal : SecureRefusal) → NeedsNoMemory self.old → result ≡ Err refusal
+            → unless_kept self.old.sealing.kept (secure_frame_at (ahead self.old)) ≡ Err refusal }
         ensures handed { (refusal : SecureRefusal) → self.old.sealing.kept ≡ None → result ≡ Err refusal → refusal ≢ OutOfMemory
             → opened.new ≡ opened.old ++ front_contents (ahead self.old) }
         ensures read { OnOk result (opened.new ≡ opened.old) }
@@ -115,13 +121,19 @@ impl Secure {
         let Some((front, _)) = self.rest.as_slice().split_first_chunk::<HEAD>() else {
             return Ok(None);
         };
-        match self.sealing.open_head(alloc, front, opened) {
+        let mut sealing = self.sealing;
+        match sealing.open_head(front) {
             Ok(head) => {
+                self.sealing = sealing;
                 self.rest.advance(HEAD);
                 self.head = Some(head);
                 Ok(Some(head))
             }
-            Err(refusal) => Err(refusal),
+            Err(refusal) => {
+                self.sealing.hand_out_head(alloc, front, opened)?;
+                self.sealing = sealing;
+                Err(refusal)
+            }
         }
     }
 
@@ -135,6 +147,7 @@ impl Secure {
         requires allowed { IsAllowed 1048576 head.preamble }
         requires free { self.old.sealing.kept ≡ None }
         ensures finished { Finished self.old self.new head result }
+        ensures whole { IfErr result (λ _. rest_len head.preamble ≤ length self.old.rest) }
         ensures handed { result ≢ Ok None → result ≢ Err OutOfMemory → opened.new ≡ opened.old ++ open_contents self.old head }
         ensures waits { result ≡ Ok None → opened.new ≡ opened.old }
         ensures out { self.new.sealing.out ≡ self.old.sealing.out }
