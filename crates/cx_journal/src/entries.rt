@@ -2,7 +2,7 @@
 
 use crate::outcomes::{Outcome, Reason};
 use crate::premises::Broken;
-use cx_base::{Blob, EntityName, EntityType, Operation, Reading, Text};
+use cx_base::{Blob, EntityName, EntityType, NodeName, Operation, Reading, Text};
 use cx_rotate::{Generations, View};
 use std::fmt;
 

@@ -8,7 +8,7 @@ use crate::entries::{
 use crate::faults::{BytesFault, LoginFault, SessionFault};
 use crate::outcomes::{Outcome, Reason, TicketFault};
 use crate::premises::{Broken, KeyKind, Premise};
-use cx_base::{Duplicate, Items, copy_items};
+use cx_base::{Duplicate, Items, NodeName, copy_items};
 use std::alloc::{AllocError, Global};
 use std::marker::Model;
 

@@ -6,7 +6,7 @@ ghost use Rattle.cx_journal.specs.JournalText.{saved_line, issued_line, fetched_
 use crate::entries::{Admitted, Answered, Ended, Fetched, Handled, Issued, Looked, Refused, Sent};
 use crate::premises::Broken;
 use crate::words::{Asked, Ids, Seconds, operation_text};
-use cx_base::EntityName;
+use cx_base::{EntityName, NodeName};
 use std::alloc::{AllocError, Global};
 use std::fmt::Write;
 

@@ -3,7 +3,7 @@
 ghost use Rattle.std.specs.Prelude.{◌≡◌};
 ghost use Rattle.cx_journal.specs.Words.{premise_word, key_kind_word};
 
-use cx_base::Duplicate;
+use cx_base::{Duplicate, NodeName};
 use std::alloc::{AllocError, Global};
 use std::fmt;
 
