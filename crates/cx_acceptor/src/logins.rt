@@ -16,7 +16,7 @@ use crate::own::Own;
 use cx_base::{Blob, Items, NodeName};
 use cx_control::{AuthReplyMore, AuthRequestMore};
 use cx_enc::{Key, write_whole};
-use cx_ends::{Moment, log_behind, send_plain};
+use cx_ends::{Moment, send_plain};
 use cx_frame::{Frame, Segment};
 use cx_journal::{BytesFault, LoginFault};
 use cx_link::{Finished, LinkRefusal, PlainLink};
@@ -231,8 +231,8 @@ fn hands_over(
                 seals: signed,
                 signing,
             } = finished;
-            log_behind(alloc, &mut seals, sealed.all())?;
-            log_behind(alloc, &mut seals, signed.all())?;
+            seals.append(alloc, sealed)?;
+            seals.append(alloc, signed)?;
             let entity = Entity { name, gid };
             Ok(Row {
                 link: Some(Stage::AwaitsSignature(signing, entity)),

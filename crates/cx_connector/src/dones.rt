@@ -14,7 +14,7 @@ use crate::making::{goes_on, refuses, refuses_bytes};
 use crate::rows::AskerRow;
 use cx_base::Items;
 use cx_control::{AuthBadMethod, AuthDone};
-use cx_ends::{Moment, log_behind};
+use cx_ends::Moment;
 use cx_frame::Frame;
 use cx_holdings::{Asker, Login};
 use cx_journal::{BytesFault, LoginFault, Reason};
@@ -133,7 +133,7 @@ fn signs(
                 seals: signed,
                 signing,
             } = finished;
-            log_behind(alloc, &mut seals, signed.all())?;
+            seals.append(alloc, signed)?;
             let stage = Stage::AwaitsSignature(signing, login);
             Ok(goes_on(alloc, stage, bytes, seals))
         }

@@ -13,7 +13,7 @@ use crate::making::{goes_on, refuses, refuses_bytes};
 use crate::rows::AskerRow;
 use cx_base::Items;
 use cx_control::AuthSignature;
-use cx_ends::{Moment, log_behind, send_secure};
+use cx_ends::{Moment, send_secure};
 use cx_holdings::{Asker, Login};
 use cx_journal::{BytesFault, LoginFault, Reason};
 use cx_link::{Checked, Signing};
@@ -65,7 +65,7 @@ fn identifies(
     seals.push(alloc, SealEntry::Drawn(DrawMark::Cookie(cookie)))?;
     match send_secure(alloc, link, 8, &asker.client_ident(login.gid(), cookie))? {
         Ok(sent) => {
-            log_behind(alloc, &mut seals, sent.seals.all())?;
+            seals.append(alloc, sent.seals)?;
             let kept = goes_on(alloc, Stage::AwaitsIdent(sent.link), sent.bytes, seals);
             Ok(kept.holding(login))
         }

@@ -8,7 +8,7 @@ mod upkeep;
 
 pub use events::link_in;
 pub use moments::Moment;
-pub use sending::{SentPlain, log_behind, send_plain, send_secure};
+pub use sending::{SentPlain, send_plain, send_secure};
 pub use upkeep::upkept;
 
 // Each public type that owns something may be sent to another thread and shared with one.

@@ -1,16 +1,15 @@
 //! What is sent on a link.
 
-ghost use Rattle.std.specs.Prelude.{◌≡◌, ◌≤◌, ◌++◌, IfOk, OnOk};
+ghost use Rattle.std.specs.Prelude.{◌≡◌, ◌≤◌, IfOk};
 ghost use Rattle.cx_rules.specs.Payloads.{control};
 ghost use Rattle.cx_rules.specs.Secured.{plain_frame, secure_frame};
 ghost use Rattle.cx_ends.specs.Sending.{SendsPlain, SendsSecure};
 
-use cx_base::{Blob, Duplicate, Items};
+use cx_base::Blob;
 use cx_enc::Encoded;
 use cx_journal::BytesFault;
 use cx_link::{LinkRefusal, PlainLink, SecureLink, SentFrame, plain_bytes};
 use cx_node::control;
-use cx_steps::SealEntry;
 use std::alloc::{AllocError, Global};
 
 /// A link on which a plain frame was sent, and the bytes of that.
@@ -63,19 +62,4 @@ pub fn send_secure<T: Encoded>(
         Err(LinkRefusal::Fault(why)) => Ok(Err(why)),
         Err(LinkRefusal::OutOfMemory) => Err(AllocError),
     }
-}
-
-/// Puts these entries behind those of the log. Where memory is wanting, some of them may stand there.
-pub fn log_behind(
-    alloc: Global,
-    log: &mut Items<SealEntry>,
-    entries: &[SealEntry],
-) -> Result<(), AllocError>
-    ensures { OnOk result (log.new ≡ log.old ++ entries.now) }
-{
-    for entry in entries {
-        let copied = entry.copy(alloc)?;
-        log.push(alloc, copied)?;
-    }
-    Ok(())
 }

@@ -11,7 +11,7 @@ use std::alloc::{AllocError, Global};
 use std::collections::BTreeMap;
 
 /// The places of the names that have one id, one for each type of entity.
-#[derive(Clone, Copy)]
+#[derive(Clone, Copy, Debug)]
 pub struct PlacesByType {
     mon: Option<usize>,
     mds: Option<usize>,
@@ -22,7 +22,7 @@ pub struct PlacesByType {
 }
 
 /// Where names stand in a list, by their ids, so that no look-up goes through the list.
-#[derive(Drop)]
+#[derive(Debug, Drop)]
 pub struct Index {
     ids: BTreeMap<String, PlacesByType>,
 }

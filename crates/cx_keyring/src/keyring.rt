@@ -17,7 +17,7 @@ use std::marker::Model;
 
 /// A keyring: the entities with their secret keys and their caps, in order. No two entries have one name, and no entry has
 /// two caps for one service.
-#[derive(Drop)]
+#[derive(Debug, Drop)]
 pub struct Keyring {
     entries: Items<Entry>,
     names: Index,

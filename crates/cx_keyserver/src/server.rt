@@ -19,7 +19,7 @@ use std::alloc::Global;
 use std::marker::Model;
 
 /// The monitor's key server: the entities of its keyring, and the state that it keeps.
-#[derive(Drop)]
+#[derive(Debug, Drop)]
 pub struct KeyServer {
     ring: Keyring,
     state: KeptState,

@@ -4,7 +4,7 @@ ghost use Rattle.std.specs.Prelude.{◌≡◌};
 ghost use Rattle.cx_line_help.specs.Problems.{again_problem, caps_problem, client_problem, daemon_problem, name_problem, no_number, node_problem, number_problem, part_problem, problem_as, text_at, too_large, undeclared};
 
 use crate::words::{are_digits, begins, has_leading_zero, has_slash, is_daemon_word};
-use cx_line_words::{LineFault, WordPlace, Shown};
+use cx_line_words::{LineFault, Shown, WordPlace};
 use cx_lines::BadWord;
 
 /// What is wrong with the word at its place.
@@ -120,7 +120,8 @@ fn node_problem(place: Option<WordPlace>, shown: &Shown) -> &'static str
     ensures { result.now ≡ node_problem place shown.now }
 {
     match place {
-        Some(WordPlace::Entity) => "can't be declared: an entity is a client, an mds, an osd or a mgr",
+        Some(WordPlace::Entity) =>
+            "can't be declared: an entity is a client, an mds, an osd or a mgr",
         Some(WordPlace::Daemon) => daemon_problem(is_daemon_word(shown)),
         Some(WordPlace::Node) | Some(WordPlace::Unseeded) => {
             "is declared by no line above: write mon for the monitor, and an entity line for any other node, above all lines \
@@ -158,7 +159,8 @@ fn again_problem(place: Option<WordPlace>) -> &'static str
     ensures { result.now ≡ again_problem place }
 {
     match place {
-        Some(WordPlace::Entity) => "is declared by a line above already; give it all of its caps there",
+        Some(WordPlace::Entity) =>
+            "is declared by a line above already; give it all of its caps there",
         Some(WordPlace::Service) =>
             "stands in this line already; give it one text, with commas between its clauses",
         Some(WordPlace::Unseeded) => "has a seed by a line above already; leave one of them out",

@@ -1,14 +1,13 @@
 -- Names and their texts.
-use Rattle.std.proofs.Common.{◌≡◌, ℕ, Bool, true, false, cond, IsTrue, List, [], ◌∷◌, ◌++◌, refl, sym, ap, ◌∙◌}
-use Rattle.std.specs.Prelude.{◌||◌, String, string_bytes}
-use Rattle.std.specs.List.{list_any}
+use Rattle.std.proofs.Common.{◌≡◌, ℕ, Bool, true, false, List, [], ◌∷◌, ◌++◌, refl, sym, ap, ◌∙◌}
+use Rattle.std.specs.Prelude.{◌||◌, String}
 use Rattle.std.specs.Str.{bytes_eq}
 use Rattle.std.specs.BTreeSet.{BTreeSet, contains_text}
 use Rattle.std.specs.declared.alloc.Global.{Global}
 use Rattle.cx_base.specs.declared.kinds.EntityType.{EntityType}
 use Rattle.cx_base.specs.declared.kinds.EntityType.TheVariants.{Mon, Mds, Osd, Client, Mgr, Auth}
-use Rattle.cx_base.specs.Names.{Name, name_text, same_kind, same_name}
-use Rattle.cx_line_words.specs.Named.{is_among, is_name, HasTexts, Notes}
+use Rattle.cx_base.specs.Names.{Name, name_text, same_name}
+use Rattle.cx_line_words.specs.Named.{is_among, HasTexts, Notes}
 
 or_one : (a b : Bool) → (a || (b || false)) ≡ (b || a)
 or_one true true = refl

@@ -1,5 +1,5 @@
 -- Steps along the places and the words of a line.
-use Rattle.std.proofs.Common.{◌≡◌, ℕ, ◌+◌, ◌<◌, ◌≤◌, ◌-◌, suc, replicate, slice_set, append_assoc, Bool, true, false, cond, List, [], ◌∷◌, ◌++◌, map, length, get_or, take, drop, Option, Some, None, refl, sym, ap, ◌∙◌, arith}
+use Rattle.std.proofs.Common.{◌≡◌, ℕ, ◌+◌, ◌<◌, ◌≤◌, ◌-◌, suc, replicate, slice_set, append_assoc, Bool, cond, List, [], ◌∷◌, ◌++◌, map, length, get_or, take, drop, Some, refl, arith}
 use Rattle.std.specs.List.{list_any}
 use Rattle.std.proofs.lemmas.List.{drop_more, map_more, take_more, length-take, length-map, set-append_right}
 use Rattle.cx_line_words.specs.declared.faults.LineFault.{LineFault}

@@ -1,5 +1,5 @@
 -- Why words are no line: the first fault of a fixed list that they have, and the word that has it.
-use Rattle.std.specs.Prelude.{ℕ, ◌+◌, ◌≡◌, Bool, true, false, nat_lt, List, [], ◌∷◌, ◌++◌, length, Option, Some, None, if◌then◌else◌}
+use Rattle.std.specs.Prelude.{ℕ, ◌+◌, Bool, true, false, nat_lt, List, [], ◌∷◌, ◌++◌, length, Option, Some, None, if◌then◌else◌}
 use Rattle.cx_line_words.specs.declared.faults.LineFault.{LineFault}
 use Rattle.cx_line_words.specs.declared.faults.LineFault.TheVariants.{UnknownWord, Missing, Extra, BadNumber, BadName, BadText, UnknownNode, Repeated, Order}
 use Rattle.cx_line_words.specs.declared.faults.FaultAt.{FaultAt}

@@ -1,6 +1,6 @@
 //! The rows in which nodes don't differ.
 
-ghost use Rattle.std.specs.Prelude.{◌≡◌, ◌++◌, IfOk, OnOk};
+ghost use Rattle.std.specs.Prelude.{◌≡◌, IfOk};
 ghost use Rattle.cx_rules.specs.Rows.{refused_entry};
 ghost use Rattle.cx_node.specs.Made.{going_on, refusing, refusing_bytes, denying, behind_opened};
 
@@ -102,22 +102,7 @@ pub fn with_opened<L: Drop>(
 {
     let mut row = row;
     let mut seals = opened;
-    append_seals(alloc, &mut seals, row.seals.all())?;
+    seals.append(alloc, row.seals)?;
     row.seals = seals;
     Ok(row)
-}
-
-// Puts copies of these entries behind the others.
-fn append_seals(
-    alloc: Global,
-    into: &mut Items<SealEntry>,
-    seals: &[SealEntry],
-) -> Result<(), AllocError>
-    ensures { OnOk result (into.new ≡ into.old ++ seals.now) }
-{
-    for entry in seals {
-        let copied = entry.copy(alloc)?;
-        into.push(alloc, copied)?;
-    }
-    Ok(())
 }

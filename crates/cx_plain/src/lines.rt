@@ -5,7 +5,7 @@ ghost use Rattle.cx_lines.specs.Lines.{is_in_range};
 ghost use Rattle.cx_plain.specs.PlainLines.{is_plain_in_range, plain_of, plain_command};
 
 use cx_base::{Duplicate, EntityName, EntityType, Grant, Items, Operation, Reading, copy_items};
-use cx_lines::{LineCommand, Line, NodeStep, Setting};
+use cx_lines::{Line, LineCommand, NodeStep, Setting};
 use std::alloc::{AllocError, Global};
 use std::fmt;
 
@@ -81,7 +81,9 @@ fn plain_command(alloc: Global, command: &LineCommand) -> Result<Option<PlainLin
         LineCommand::Fetch(daemon) => plain_fetch(alloc, daemon),
         LineCommand::Login(client, asked) => plain_login(alloc, client, asked),
         LineCommand::Connect(client, daemon, false) => plain_connect(alloc, client, daemon),
-        LineCommand::Send(client, daemon, operation) => plain_send(alloc, client, daemon, operation),
+        LineCommand::Send(client, daemon, operation) => plain_send(
+            alloc, client, daemon, operation,
+        ),
         LineCommand::Renew(_, _) => Ok(None),
         LineCommand::Connect(_, _, true) => Ok(None),
     }

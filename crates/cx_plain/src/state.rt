@@ -9,10 +9,16 @@ use crate::desks::{caps_text, handle};
 use crate::entrance::{Welcome, enter, enter_save, rotated};
 use crate::lines::PlainLine;
 use crate::monitors::{Kept, Monitor, has_generation};
-use crate::nodes::{Node, Nodes, SessionPlace, Session};
-use cx_base::{Blob, Duplicate, EntityName, EntityType, Grant, Items, NodeName, Operation, Reading, SECOND, Text, copy_items};
+use crate::nodes::{Node, Nodes, Session, SessionPlace};
+use cx_base::{
+    Blob, Duplicate, EntityName, EntityType, Grant, Items, NodeName, Operation, Reading, SECOND,
+    Text, copy_items,
+};
 use cx_desk::Desk;
-use cx_journal::{Admitted, Answered, Entry, Fetched, Handled, Issued, Journal, Looked, Outcome, Reason, Refused, Sent, TicketFault};
+use cx_journal::{
+    Admitted, Answered, Entry, Fetched, Handled, Issued, Journal, Looked, Outcome, Reason, Refused,
+    Sent, TicketFault,
+};
 use cx_rotate::View;
 use std::alloc::{AllocError, Global};
 use std::mem;

@@ -5,7 +5,7 @@ ghost use Rattle.std.specs.List.{list_any};
 ghost use Rattle.cx_replay.specs.Lines.{first_ahead, has_daemon_line, is_ahead, is_ahead_do, is_daemon_line, is_daemon_node};
 
 use cx_base::NodeName;
-use cx_lines::{LineCommand, Line, NodeStep, Numbered};
+use cx_lines::{Line, LineCommand, NodeStep, Numbered};
 
 /// Whether a fetch, connect or send line is among these.
 pub fn has_daemon_line(lines: &[Numbered]) -> bool

@@ -1,8 +1,14 @@
 //! The text of a journal, against lines that were written by hand: each kind of entry, each reason, the numbers of tickets and cookies, and
 //! a long journal.
 
-use cx_base::{Access, Blob, Duplicate, EntityName, EntityType, NodeName, Operation, Reading, SECOND, Text};
-use cx_journal::{Admitted, Answered, Broken, BytesFault, Ended, Entry, Fetched, Handled, Issued, Journal, KeyKind, LoginFault, Looked, Outcome, Premise, Reason, Refused, Sent, SessionFault, TicketFault, put_text, session_laws};
+use cx_base::{
+    Access, Blob, Duplicate, EntityName, EntityType, NodeName, Operation, Reading, SECOND, Text,
+};
+use cx_journal::{
+    Admitted, Answered, Broken, BytesFault, Ended, Entry, Fetched, Handled, Issued, Journal,
+    KeyKind, LoginFault, Looked, Outcome, Premise, Reason, Refused, Sent, SessionFault,
+    TicketFault, put_text, session_laws,
+};
 use cx_rotate::{Generation, Generations, View};
 use std::alloc::Global;
 use std::process::Abort;

@@ -9,7 +9,7 @@ ghost use Rattle.cx_top.specs.Statuses.{IsOrMemory, IsServed};
 ghost use Rattle.cx_top.specs.declared.commands.Subcommand.{Subcommand};
 ghost use Rattle.cx_top.specs.declared.status.Status.{Status};
 
-use crate::commands::{Subcommand, Made, command_of};
+use crate::commands::{Made, Subcommand, command_of};
 use crate::input::read_all;
 use crate::keyring::printed;
 use crate::replay::replayed;

@@ -61,11 +61,7 @@ pub fn ticket_service(word: &[u8]) -> Option<EntityType>
     ensures spelled { IfSome result (λ kind. IsTrue (is_daemon_type kind) × (word.now ≡ type_word kind)) }
 {
     let kind = type_of(word)?;
-    if kind.is_daemon() {
-        Some(kind)
-    } else {
-        None
-    }
+    if kind.is_daemon() { Some(kind) } else { None }
 }
 
 /// What an operation asks to do, `read`, `write` or `exec`, where the word names it.

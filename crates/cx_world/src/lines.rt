@@ -12,7 +12,7 @@ ghost use Rattle.cx_world.specs.Carried.{Began, Carries, Makes, MakesAlone};
 use crate::world::World;
 use cx_base::{Duplicate, EntityName, EntityType, NodeName};
 use cx_enc::number_of;
-use cx_lines::{LineCommand, Line, Numbered};
+use cx_lines::{Line, LineCommand, Numbered};
 use cx_steps::{Command as Told, Event};
 use std::alloc::{AllocError, Global};
 

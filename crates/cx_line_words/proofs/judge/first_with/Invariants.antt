@@ -1,4 +1,4 @@
-use Rattle.std.proofs.Common.{◌≡◌, [], map, length, take, drop}
+use Rattle.std.proofs.Common.{◌≡◌, [], map, take, drop}
 use Rattle.cx_line_words.specs.Faults.{first_with}
 use Rattle.cx_line_words.proofs.judge.first_with.Given as goal
 

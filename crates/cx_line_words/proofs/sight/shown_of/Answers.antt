@@ -1,4 +1,4 @@
-use Rattle.std.proofs.Common.{◌≡◌, ◌<◌, ◌∙◌, ap, arith, length, List, ℕ, slice_set, get_or}
+use Rattle.std.proofs.Common.{◌<◌, ◌∙◌, ap, arith, length, List, ℕ, slice_set, get_or}
 use Rattle.cx_line_words.proofs.Walks.{shown_more}
 use Rattle.cx_line_words.proofs.sight.shown_of.Goals as goal
 

@@ -1,4 +1,4 @@
-use Rattle.std.proofs.Common.{◌≡◌, ◌∙◌, Bor, List, ℕ}
+use Rattle.std.proofs.Common.{◌∙◌, Bor, List, ℕ}
 use Rattle.std.specs.Str.{bytes_eq}
 use Rattle.cx_line_words.proofs.Walks.{any_seen}
 use Rattle.cx_line_words.proofs.values.stands.Goals as goal
