@@ -7,7 +7,7 @@ use cx_rotate::KeptState;
 use std::marker::Model;
 
 /// Its key server; the state that was saved last, or that it began with; the one that was saved last before the last step; its address.
-#[derive(Debug, Drop)]
+#[derive(Drop)]
 pub struct Own {
     pub(crate) server: KeyServer,
     pub(crate) saved: KeptState,
@@ -27,7 +27,7 @@ impl Model for Own {
 }
 
 /// What a login may change: the state of the key server, and the state that was saved last.
-#[derive(Clone, Copy, Debug)]
+#[derive(Clone, Copy)]
 pub struct Mark {
     pub state: KeptState,
     pub saved: KeptState,
