@@ -5,8 +5,10 @@ use Rattle.cx_control.specs.Auth.{auth_reply_more_layout}
 use Rattle.cx_dice.specs.Draws.{challenge_of}
 use Rattle.cx_enc.specs.declared.keys.Key.{Key}
 use Rattle.cx_frame.specs.declared.frame.Frame.{Frame}
+use Rattle.cx_link.specs.declared.links.Finished.{Finished}
+use Rattle.cx_rules.specs.declared.verdicts.HandedOut.{HandedOut}
 use Rattle.cx_rules.specs.declared.verdicts.Verdict.{Verdict}
-use Rattle.cx_mon_grants.specs.declared.verdicts.Verdict.TheVariants as verdict
+use Rattle.cx_rules.specs.declared.verdicts.Verdict.TheVariants as verdict
 use Rattle.cx_journal.specs.declared.faults.LoginFault.TheVariants as login
 use Rattle.cx_base.specs.declared.nodes.NodeName.TheVariants as node
 use Rattle.cx_journal.specs.declared.outcomes.Reason.TheVariants.{LinksFull}
@@ -31,6 +33,7 @@ use Rattle.cx_ends.specs.declared.moments.Moment.{Moment}
 use Rattle.cx_acceptor.specs.declared.arrivals.Turned.{Turned as TurnMade}
 use Rattle.cx_acceptor.specs.declared.arrivals.Turned.TheVariants as made
 use Rattle.cx_acceptor.specs.declared.links.Stage.{Stage}
+use Rattle.cx_acceptor.specs.declared.links.Stage.TheVariants as stage
 
 -- what a row goes by: what the monitor has of its own, the link, and the event
 abbrev pub arrived : Monitor → Moment → Link MonitorStage → MonitorArrival
@@ -73,6 +76,16 @@ saving own save = record own { saved = saved_behind own.saved save }
 abbrev pub saves : Verdict → Option KeptState
 saves (verdict.Denied why seals) = None
 saves (verdict.Granted handed) = handed.save
+
+-- the row of what is handed out, where the link is finished so
+abbrev pub handing_over : HandedOut → Finished → Made Stage
+handing_over handed finished = record {
+  link = Some (stage.AwaitsSignature finished.signing (record { name = handed.name; gid = handed.gid }));
+  sends = finished.bytes;
+  save = handed.save;
+  entries = handed.entries;
+  seals = handed.seals ++ (handed.sealed ++ finished.seals);
+}
 
 -- AUTH_REPLY_MORE with a challenge
 abbrev pub challenge_frame : ℕ → Frame

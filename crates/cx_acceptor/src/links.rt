@@ -8,7 +8,7 @@ use std::alloc::{AllocError, Global};
 use std::marker::Model;
 
 /// An entity that has logged in on a link, under its global id.
-#[derive(Debug, Drop)]
+#[derive(Drop)]
 pub struct Entity {
     pub name: EntityName,
     pub gid: u64,
@@ -35,6 +35,27 @@ pub enum Stage {
     AwaitsSignature(Signing, Entity),
     AwaitsIdent(SecureLink, Entity),
     Open(SecureLink, Entity),
+}
+
+impl Stage {
+    ghost use Rattle.std.specs.Prelude.{ℕ, ◌≡◌, OnOk};
+    ghost use Rattle.cx_acceptor.specs.Stages.{link_held};
+    ghost use Rattle.cx_ends.specs.Stages.{with_more};
+
+    // Puts bytes behind those that came on the link.
+    fn feed(&mut self, alloc: Global, bytes: &[u8]) -> Result<(), AllocError>
+        ensures { (number : ℕ) → OnOk result (link_held number self.new ≡ with_more bytes.now (link_held number self.old)) }
+    {
+        match self {
+            Stage::AwaitsBanner(link) => link.feed(alloc, bytes),
+            Stage::AwaitsHello(link) => link.feed(alloc, bytes),
+            Stage::AwaitsRequest(link) => link.feed(alloc, bytes),
+            Stage::AwaitsProof(link, _, _) => link.feed(alloc, bytes),
+            Stage::AwaitsSignature(signing, _) => signing.link.feed(alloc, bytes),
+            Stage::AwaitsIdent(link, _) => link.feed(alloc, bytes),
+            Stage::Open(link, _) => link.feed(alloc, bytes),
+        }
+    }
 }
 
 /// A live link of the monitor.
@@ -70,41 +91,13 @@ impl Link {
 
     /// The link behind more bytes. No more of it can be forgotten.
     #[tactic(auto, using(crate::proofs::Stages::held_abridged))]
-    pub fn fed(self, alloc: Global, bytes: &[u8]) -> Result<Link, AllocError>
+    pub fn fed(mut self, alloc: Global, bytes: &[u8]) -> Result<Link, AllocError>
         ensures fed { IfOk result (λ link. link ≡ record self { received = self.received ++ bytes.now }) }
         ensures held { IfOk result (λ link. abridged_link link ≡ link) }
     {
-        let Link { number, stage } = self;
-        let stage = match stage {
-            Stage::AwaitsBanner(mut link) => {
-                link.feed(alloc, bytes)?;
-                Stage::AwaitsBanner(link)
-            }
-            Stage::AwaitsHello(mut link) => {
-                link.feed(alloc, bytes)?;
-                Stage::AwaitsHello(link)
-            }
-            Stage::AwaitsRequest(mut link) => {
-                link.feed(alloc, bytes)?;
-                Stage::AwaitsRequest(link)
-            }
-            Stage::AwaitsProof(mut link, offered, gid) => {
-                link.feed(alloc, bytes)?;
-                Stage::AwaitsProof(link, offered, gid)
-            }
-            Stage::AwaitsSignature(mut signing, entity) => {
-                signing.link.feed(alloc, bytes)?;
-                Stage::AwaitsSignature(signing, entity)
-            }
-            Stage::AwaitsIdent(mut link, entity) => {
-                link.feed(alloc, bytes)?;
-                Stage::AwaitsIdent(link, entity)
-            }
-            Stage::Open(mut link, entity) => {
-                link.feed(alloc, bytes)?;
-                Stage::Open(link, entity)
-            }
-        };
-        Ok(Link { number, stage })
+        match self.stage.feed(alloc, bytes) {
+            Ok(()) => Ok(self),
+            Err(error) => Err(error),
+        }
     }
 }

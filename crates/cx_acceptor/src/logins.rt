@@ -1,6 +1,7 @@
 //! LoginHello and Authenticate.
 
-ghost use Rattle.std.specs.Prelude.{◌≡◌, ◌<◌, ◌⊎◌, None, Ok, IfOk, OnOk, OnErr};
+ghost use Rattle.std.specs.Prelude.{◌≡◌, ◌<◌, ◌⊎◌, ◌++◌, None, Some, Ok, IfOk, OnOk, OnErr};
+ghost use Rattle.cx_ends.specs.Sending.{SendsPlain};
 ghost use Rattle.cx_rules.specs.MonitorLogin.{done_frame, on_authenticate, on_login_hello, proves, row_by};
 ghost use Rattle.cx_link.specs.Wires.{wired};
 ghost use Rattle.cx_rules.specs.declared.verdicts.Verdict.TheVariants.{Granted};
@@ -8,15 +9,16 @@ ghost use Rattle.cx_link.specs.Sending.{IsControl};
 ghost use Rattle.cx_rules.specs.Acceptor.{AwaitsRequest};
 ghost use Rattle.cx_rules.specs.Monitor.{MonitorStage};
 ghost use Rattle.cx_rules.specs.MonitorRule.{on_auth_request_more};
-ghost use Rattle.cx_acceptor.specs.Rows.{IsSameBut, arrived, challenged, due, made_row, saves, saving};
+ghost use Rattle.cx_rules.specs.Secured.{plain_frame};
+ghost use Rattle.cx_acceptor.specs.Rows.{IsSameBut, arrived, challenge_frame, challenged, due, handing_over, made_row, saves, saving};
 ghost use Rattle.cx_acceptor.specs.Stages.{awaiting_proof};
 
 use crate::links::{Entity, Stage};
 use crate::own::Own;
-use cx_base::{Blob, Items, NodeName};
+use cx_base::{Blob, Duplicate, Items, NodeName};
 use cx_control::{AuthReplyMore, AuthRequestMore};
 use cx_enc::{Key, write_whole};
-use cx_ends::{Moment, send_plain};
+use cx_ends::{Moment, SentPlain, send_plain};
 use cx_frame::{Frame, Segment};
 use cx_journal::{BytesFault, LoginFault};
 use cx_link::{Finished, LinkRefusal, PlainLink};
@@ -58,31 +60,53 @@ fn challenges(
 ) -> Result<Row<Stage>, AllocError>
     ensures { IfOk result (λ row. made_row own.now at.now.number row ≡ due (challenged (arrived own.now at.now (wired at.now.number link AwaitsRequest)) hello key)) }
 {
-    let mut seals = Items::new(alloc);
-    let Some(key) = key else {
-        return denies(
+    match key {
+        Some(key) => offers(alloc, own, at, link, hello, key),
+        None => denies(
             alloc,
             &NodeName::Monitor,
             at.number,
             13,
             LoginFault::UnknownEntity,
-            seals,
-        );
-    };
+            Items::new(alloc),
+        ),
+    }
+}
+
+// A challenge is drawn for an entity with this key, and sent.
+fn offers(
+    alloc: Global,
+    own: &Own,
+    at: &Moment<'_>,
+    link: PlainLink,
+    hello: LoginHello,
+    key: Key,
+) -> Result<Row<Stage>, AllocError>
+    ensures { IfOk result (λ row. made_row own.now at.now.number row ≡ due (challenged (arrived own.now at.now (wired at.now.number link AwaitsRequest)) hello (Some key))) }
+{
     let challenge = at.draw.challenge();
-    let payload = write_whole(alloc, &ServerChallenge { challenge })?;
-    match send_plain(alloc, link, 4, &AuthReplyMore { payload })? {
+    let mut seals = Items::new(alloc);
+    seals.push(alloc, SealEntry::Drawn(DrawMark::Challenge(challenge)))?;
+    match send_challenge(alloc, link, challenge)? {
         Ok(sent) => {
             let offered = Offered::new(hello.name, key, challenge);
-            seals.push(alloc, SealEntry::Drawn(DrawMark::Challenge(challenge)))?;
             let stage = Stage::AwaitsProof(sent.link, offered, hello.gid);
             Ok(goes_on(alloc, stage, sent.bytes, seals))
         }
-        Err(why) => {
-            seals.push(alloc, SealEntry::Drawn(DrawMark::Challenge(challenge)))?;
-            refuses_bytes(alloc, &NodeName::Monitor, at.number, why, seals)
-        }
+        Err(why) => refuses_bytes(alloc, &NodeName::Monitor, at.number, why, seals),
     }
+}
+
+// Sends AUTH_REPLY_MORE with a challenge.
+fn send_challenge(
+    alloc: Global,
+    link: PlainLink,
+    challenge: u64,
+) -> Result<Result<SentPlain, BytesFault>, AllocError>
+    ensures { IfOk result (SendsPlain link (plain_frame (challenge_frame challenge))) }
+{
+    let payload = write_whole(alloc, &ServerChallenge { challenge })?;
+    send_plain(alloc, link, 4, &AuthReplyMore { payload })
 }
 
 // AUTH_REQUEST_MORE holds an Authenticate.
@@ -212,59 +236,63 @@ fn hands_over(
         ≡ due (row_by (arrived own.now at.now (wired at.now.number link stage)) (Granted handed))) }
     ensures save { IfOk result (λ row. (row.save ≡ None) ⊎ (row.save ≡ handed.save)) }
 {
-    let HandedOut {
-        name,
-        gid,
-        session,
-        secret,
-        payload,
-        mut seals,
-        sealed,
-        save,
-        entries,
-    } = handed;
-    let done = done_frame(alloc, payload)?;
-    match link.finish(alloc, &session, &secret, &done) {
-        Ok(finished) => {
-            let Finished {
-                bytes,
-                seals: signed,
-                signing,
-            } = finished;
-            seals.append(alloc, sealed)?;
-            seals.append(alloc, signed)?;
-            let entity = Entity { name, gid };
-            Ok(Row {
-                link: Some(Stage::AwaitsSignature(signing, entity)),
-                sends: bytes,
-                save,
-                entries,
-                seals,
-            })
-        }
+    let done = done_frame(alloc, &handed.payload)?;
+    match link.finish(alloc, &handed.session, &handed.secret, &done) {
+        Ok(finished) => awaits_signature(alloc, handed, finished),
         Err(LinkRefusal::Fault(why)) => refuses_bytes(
             alloc,
             &NodeName::Monitor,
             at.number,
             why,
-            seals,
+            handed.seals,
         ),
         Err(LinkRefusal::OutOfMemory) => Err(AllocError),
     }
 }
 
+// What finishes the link is sent.
+fn awaits_signature(
+    alloc: Global,
+    handed: HandedOut,
+    finished: Finished,
+) -> Result<Row<Stage>, AllocError>
+    ensures { IfOk result (λ row. row ≡ handing_over handed finished) }
+{
+    let mut seals = handed.seals;
+    logs(alloc, &mut seals, handed.sealed, finished.seals)?;
+    let entity = Entity {
+        name: handed.name,
+        gid: handed.gid,
+    };
+    Ok(Row {
+        link: Some(Stage::AwaitsSignature(finished.signing, entity)),
+        sends: finished.bytes,
+        save: handed.save,
+        entries: handed.entries,
+        seals,
+    })
+}
+
+// Behind what was logged before come what was sealed and what was signed.
+fn logs(
+    alloc: Global,
+    log: &mut Items<SealEntry>,
+    sealed: Items<SealEntry>,
+    signed: Items<SealEntry>,
+) -> Result<(), AllocError>
+    ensures { OnOk result (log.new ≡ log.old ++ (sealed ++ signed)) }
+{
+    log.append(alloc, sealed)?;
+    log.append(alloc, signed)
+}
+
 // AUTH_DONE with a payload.
-fn done_frame(alloc: Global, payload: Blob) -> Result<Frame, AllocError>
-    ensures frame { IfOk result (λ frame. frame ≡ done_frame payload) }
+fn done_frame(alloc: Global, payload: &Blob) -> Result<Frame, AllocError>
+    ensures frame { IfOk result (λ frame. frame ≡ done_frame payload.now) }
     ensures control { IfOk result IsControl }
 {
+    let bytes = payload.copy(alloc)?;
     let mut segments = Items::new(alloc);
-    segments.push(
-        alloc,
-        Segment {
-            align: 8,
-            bytes: payload,
-        },
-    )?;
+    segments.push(alloc, Segment { align: 8, bytes })?;
     Ok(Frame { tag: 6, segments })
 }

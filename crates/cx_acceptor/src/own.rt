@@ -27,7 +27,7 @@ impl Model for Own {
 }
 
 /// What a login may change: the state of the key server, and the state that was saved last.
-#[derive(Clone, Copy, Debug)]
+#[derive(Clone, Copy)]
 pub struct Mark {
     pub state: KeptState,
     pub saved: KeptState,

@@ -1,12 +1,14 @@
 //! AUTH_DONE: what the monitor gives is opened, and AUTH_SIGNATURE is sent.
 
-ghost use Rattle.std.specs.Prelude.{◌≡◌, IfOk, take};
+ghost use Rattle.std.specs.Prelude.{◌≡◌, ◌++◌, IfOk, take};
 ghost use Rattle.cx_link.specs.Wires.{wired};
 ghost use Rattle.cx_rules.specs.Connector.{AwaitsDone, on_done, on_login_done, on_opened, signs, while_proved};
 ghost use Rattle.cx_rules.specs.Payloads.{whole};
 ghost use Rattle.cx_rules.specs.Secured.{connector_keys, signed_frame};
 ghost use Rattle.cx_wire.specs.Logins.{login_done_layout};
-ghost use Rattle.cx_connector.specs.Rows.{arrived, due, row_of};
+ghost use Rattle.cx_connector.specs.Rows.{arrived, due, keeping, row_of};
+ghost use Rattle.cx_connector.specs.declared.links.Stage.TheVariants as held;
+ghost use Rattle.cx_node.specs.Made.{going_on};
 
 use crate::denials::on_bad_method;
 use crate::links::Stage;
@@ -125,19 +127,24 @@ fn signs(
         ≡ due (signs (arrived asker.now at.now (wired at.now.number link AwaitsDone)) login opened
         (signed_frame (connector_keys login.opened.secret) login.opened.auth.session (take link.taken link.received)))) }
 {
-    let mut seals = opened;
     match link.sign(alloc, &login.session(), &login.secret()) {
-        Ok(finished) => {
-            let Finished {
-                bytes,
-                seals: signed,
-                signing,
-            } = finished;
-            seals.append(alloc, signed)?;
-            let stage = Stage::AwaitsSignature(signing, login);
-            Ok(goes_on(alloc, stage, bytes, seals))
-        }
-        Err(LinkRefusal::Fault(why)) => refuses_bytes(alloc, asker, at, why, seals),
+        Ok(finished) => awaits_signature(alloc, login, opened, finished),
+        Err(LinkRefusal::Fault(why)) => refuses_bytes(alloc, asker, at, why, opened),
         Err(LinkRefusal::OutOfMemory) => Err(AllocError),
     }
+}
+
+// What finishes the link is sent, and logged behind what opened.
+fn awaits_signature(
+    alloc: Global,
+    login: Login,
+    opened: Items<SealEntry>,
+    finished: Finished,
+) -> Result<AskerRow, AllocError>
+    ensures { IfOk result (λ row. row ≡ keeping (going_on (held.AwaitsSignature finished.signing login) finished.bytes (opened ++ finished.seals))) }
+{
+    let mut seals = opened;
+    seals.append(alloc, finished.seals)?;
+    let stage = Stage::AwaitsSignature(finished.signing, login);
+    Ok(goes_on(alloc, stage, finished.bytes, seals))
 }

@@ -1,8 +1,9 @@
 //! The links to the monitor: a number, and a stage with all that is held of the link.
 
-ghost use Rattle.std.specs.Prelude.{ℕ, ◌≡◌};
+ghost use Rattle.std.specs.Prelude.{ℕ, ◌≡◌, OnOk};
 ghost use Rattle.cx_rules.specs.Connector.{is_open};
 ghost use Rattle.cx_connector.specs.Stages.{link_held};
+ghost use Rattle.cx_ends.specs.Stages.{with_more};
 
 use cx_holdings::Login;
 use cx_link::{BannerLink, PlainLink, SecureLink, Signing};
@@ -36,6 +37,21 @@ impl Stage {
             Stage::AwaitsSignature(_, _) => false,
             Stage::AwaitsIdent(_) => false,
             Stage::Open(_) => true,
+        }
+    }
+
+    // Puts bytes behind those that came on the link.
+    fn feed(&mut self, alloc: Global, bytes: &[u8]) -> Result<(), AllocError>
+        ensures { (number : ℕ) → OnOk result (link_held number self.new ≡ with_more bytes.now (link_held number self.old)) }
+    {
+        match self {
+            Stage::AwaitsBanner(link, _) => link.feed(alloc, bytes),
+            Stage::AwaitsHello(link, _) => link.feed(alloc, bytes),
+            Stage::AwaitsChallenge(link, _) => link.feed(alloc, bytes),
+            Stage::AwaitsDone(link) => link.feed(alloc, bytes),
+            Stage::AwaitsSignature(signing, _) => signing.link.feed(alloc, bytes),
+            Stage::AwaitsIdent(link) => link.feed(alloc, bytes),
+            Stage::Open(link) => link.feed(alloc, bytes),
         }
     }
 }
@@ -81,41 +97,13 @@ impl Link {
 
     /// The link behind more bytes. No more of it can be forgotten.
     #[tactic(auto, using(crate::proofs::Stages::held_abridged))]
-    pub fn fed(self, alloc: Global, bytes: &[u8]) -> Result<Link, AllocError>
+    pub fn fed(mut self, alloc: Global, bytes: &[u8]) -> Result<Link, AllocError>
         ensures fed { IfOk result (λ link. link ≡ record self { received = self.received ++ bytes.now }) }
         ensures held { IfOk result (λ link. abridged_asker_link link ≡ link) }
     {
-        let Link { number, stage } = self;
-        let stage = match stage {
-            Stage::AwaitsBanner(mut link, asked) => {
-                link.feed(alloc, bytes)?;
-                Stage::AwaitsBanner(link, asked)
-            }
-            Stage::AwaitsHello(mut link, asked) => {
-                link.feed(alloc, bytes)?;
-                Stage::AwaitsHello(link, asked)
-            }
-            Stage::AwaitsChallenge(mut link, asked) => {
-                link.feed(alloc, bytes)?;
-                Stage::AwaitsChallenge(link, asked)
-            }
-            Stage::AwaitsDone(mut link) => {
-                link.feed(alloc, bytes)?;
-                Stage::AwaitsDone(link)
-            }
-            Stage::AwaitsSignature(mut signing, login) => {
-                signing.link.feed(alloc, bytes)?;
-                Stage::AwaitsSignature(signing, login)
-            }
-            Stage::AwaitsIdent(mut link) => {
-                link.feed(alloc, bytes)?;
-                Stage::AwaitsIdent(link)
-            }
-            Stage::Open(mut link) => {
-                link.feed(alloc, bytes)?;
-                Stage::Open(link)
-            }
-        };
-        Ok(Link { number, stage })
+        match self.stage.feed(alloc, bytes) {
+            Ok(()) => Ok(self),
+            Err(error) => Err(error),
+        }
     }
 }

@@ -1,12 +1,17 @@
 //! AUTH_SIGNATURE.
 
-ghost use Rattle.std.specs.Prelude.{◌≡◌, IfOk};
+ghost use Rattle.std.specs.Prelude.{◌≡◌, [], ◌∷◌, ◌++◌, IfOk};
 ghost use Rattle.cx_link.specs.Sending.{secured_of};
 ghost use Rattle.cx_link.specs.Wires.{secured_link};
 ghost use Rattle.cx_rules.specs.Connector as connector;
 ghost use Rattle.cx_rules.specs.Connector.{on_signature};
-ghost use Rattle.cx_connector.specs.Rows.{arrived, due, identified, row_of};
+ghost use Rattle.cx_connector.specs.Rows.{arrived, due, identified, keeping, row_of};
 ghost use Rattle.cx_connector.specs.Stages.{awaiting_signature};
+ghost use Rattle.cx_connector.specs.declared.links.Stage.TheVariants as held;
+ghost use Rattle.cx_connector.specs.declared.rows.Change.TheVariants.{Holds};
+ghost use Rattle.cx_node.specs.Made.{going_on};
+ghost use Rattle.cx_steps.specs.declared.seals.DrawMark.TheVariants.{Cookie};
+ghost use Rattle.cx_steps.specs.declared.seals.SealEntry.TheVariants.{Drawn};
 
 use crate::links::Stage;
 use crate::making::{goes_on, refuses, refuses_bytes};
@@ -16,7 +21,7 @@ use cx_control::AuthSignature;
 use cx_ends::{Moment, send_secure};
 use cx_holdings::{Asker, Login};
 use cx_journal::{BytesFault, LoginFault, Reason};
-use cx_link::{Checked, Signing};
+use cx_link::{Checked, SentFrame, Signing};
 use cx_steps::{DrawMark, SealEntry};
 use std::alloc::{AllocError, Global};
 
@@ -60,18 +65,37 @@ fn identifies(
 {
     let Checked { link, entry } = checked;
     let cookie = at.draw.cookie();
-    let mut seals = Items::new(alloc);
-    seals.push(alloc, entry)?;
-    seals.push(alloc, SealEntry::Drawn(DrawMark::Cookie(cookie)))?;
+    let seals = found_right(alloc, entry, cookie)?;
     match send_secure(alloc, link, 8, &asker.client_ident(login.gid(), cookie))? {
-        Ok(sent) => {
-            seals.append(alloc, sent.seals)?;
-            let kept = goes_on(alloc, Stage::AwaitsIdent(sent.link), sent.bytes, seals);
-            Ok(kept.holding(login))
-        }
+        Ok(sent) => awaits_ident(alloc, sent, login, seals),
         Err(why) => {
             let kept = refuses_bytes(alloc, asker, at, why, seals)?;
             Ok(kept.holding(login))
         }
     }
+}
+
+// What is logged before CLIENT_IDENT: that the signature was found right, and the cookie that was drawn.
+fn found_right(alloc: Global, found: SealEntry, cookie: u64) -> Result<Items<SealEntry>, AllocError>
+    ensures { IfOk result (λ seals. seals ≡ found ∷ Drawn (Cookie cookie) ∷ []) }
+{
+    let mut seals = Items::new(alloc);
+    seals.push(alloc, found)?;
+    seals.push(alloc, SealEntry::Drawn(DrawMark::Cookie(cookie)))?;
+    Ok(seals)
+}
+
+// CLIENT_IDENT was sent, and is logged behind these entries.
+fn awaits_ident(
+    alloc: Global,
+    sent: SentFrame,
+    login: Login,
+    before: Items<SealEntry>,
+) -> Result<AskerRow, AllocError>
+    ensures { IfOk result (λ row. row ≡ record (keeping (going_on (held.AwaitsIdent sent.link) sent.bytes (before ++ sent.seals))) { change = Holds login }) }
+{
+    let mut seals = before;
+    seals.append(alloc, sent.seals)?;
+    let kept = goes_on(alloc, Stage::AwaitsIdent(sent.link), sent.bytes, seals);
+    Ok(kept.holding(login))
 }
