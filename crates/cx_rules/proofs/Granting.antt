@@ -19,7 +19,7 @@ use Rattle.cx_rules.specs.KeptStates.{changed, saved_behind, same_generation, sa
 use Rattle.cx_rules.specs.Links.{Link}
 use Rattle.cx_rules.specs.Monitor.{MonitorArrival, MonitorRow, MonitorStage}
 use Rattle.cx_rules.specs.MonitorLogin.{hands_over, occasion, row_of, with_server}
-use Rattle.cx_rules.specs.Verdicts.{Entrant, Numbered, entrant, handed_out, issues, issues_to, numbers}
+use Rattle.cx_rules.specs.Verdicts.{Entrant, Numbered, entrant, handed_out, issues, issues_to, key_of, numbers}
 use Rattle.cx_rules.proofs.Quiet.{Quiet, quiet-refuses_bytes}
 
 -- ---- the state that is saved
@@ -138,4 +138,4 @@ pub numbers-judged : (a : MonitorArrival) (proven : Proven) (seals : List SealEn
     → Ready seals → Judged a.own.saved (row_of a (numbers (occasion a) a.own.server proven seals n))
 numbers-judged a proven seals (Err why) r = inl (quiet-denies a 13 why seals r.none)
 numbers-judged a proven seals (Ok n) r =
-    issues_to-judged (with_server a n.server) (entrant proven.offer.name n.gid proven.ask.other_keys seals) _ r
+    issues_to-judged (with_server a n.server) (entrant proven.offer.name n.gid proven.ask.other_keys seals) (key_of n.server proven.offer.name) r
