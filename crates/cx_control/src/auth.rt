@@ -12,7 +12,7 @@ use std::alloc::{AllocError, Global};
 
 /// AUTH_REQUEST: the method (2 is cephx), at most sixteen modes that its sender takes (1 crc, 2 secure), and the first payload
 /// of the method.
-#[derive(Debug, PartialEq, Eq, Drop)]
+#[derive(PartialEq, Eq, Drop)]
 pub struct AuthRequest {
     pub method: u32,
     pub modes: Items<u32>,
@@ -62,7 +62,7 @@ pub fn put_auth_request(
 }
 
 /// AUTH_REPLY_MORE: a payload of the method, from the server.
-#[derive(Debug, PartialEq, Eq, Drop)]
+#[derive(PartialEq, Eq, Drop)]
 pub struct AuthReplyMore {
     pub payload: Blob,
 }
@@ -103,7 +103,7 @@ pub fn put_auth_reply_more(
 }
 
 /// AUTH_REQUEST_MORE: a payload of the method, from the client.
-#[derive(Debug, PartialEq, Eq, Drop)]
+#[derive(PartialEq, Eq, Drop)]
 pub struct AuthRequestMore {
     pub payload: Blob,
 }
@@ -144,7 +144,7 @@ pub fn put_auth_request_more(
 }
 
 /// AUTH_DONE: the global id of the client, the mode that was chosen (2 secure), and the last payload of the method.
-#[derive(Debug, PartialEq, Eq, Drop)]
+#[derive(PartialEq, Eq, Drop)]
 pub struct AuthDone {
     pub gid: u64,
     pub mode: u32,
@@ -187,7 +187,7 @@ pub fn put_auth_done(alloc: Global, into: &mut Blob, value: &AuthDone) -> Result
 }
 
 /// AUTH_SIGNATURE: HMAC with SHA-256 over what was received on the connection.
-#[derive(Clone, Copy, Debug, PartialEq, Eq)]
+#[derive(Clone, Copy, PartialEq, Eq)]
 pub struct AuthSignature {
     pub signature: [u8; 32],
 }

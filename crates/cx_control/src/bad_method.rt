@@ -12,7 +12,7 @@ use std::alloc::{AllocError, Global};
 
 /// AUTH_BAD_METHOD: the method that was refused and the code of the refusal, as 13 or 95; 2^32 minus the code is written. The
 /// methods and modes that its sender takes stand behind them: 2 and 2 are written, and any are read and not kept.
-#[derive(Clone, Copy, Debug, PartialEq, Eq)]
+#[derive(Clone, Copy, PartialEq, Eq)]
 pub struct AuthBadMethod {
     pub method: u32,
     pub result: u32,

@@ -10,7 +10,7 @@ use cx_enc::{Cut, Encoded, ReadFault, ReadRefusal, kind_of, number_of, put_addr,
 use std::alloc::{AllocError, Global};
 
 /// HELLO: the type of its sender, and an address of its peer, which is written with zeros and read as any.
-#[derive(Clone, Copy, Debug, PartialEq, Eq)]
+#[derive(Clone, Copy, PartialEq, Eq)]
 pub struct Hello {
     pub kind: EntityType,
     pub addr: Addr,

@@ -10,7 +10,7 @@ use cx_enc::{Cut, Encoded, ReadRefusal, put_addr, put_u32, put_u64};
 use std::alloc::{AllocError, Global};
 
 /// CLIENT_IDENT: who the client is, with its number of connections, the features that it has and asks for, and its cookie.
-#[derive(Clone, Copy, Debug, PartialEq, Eq)]
+#[derive(Clone, Copy, PartialEq, Eq)]
 pub struct ClientIdent {
     /// The client's own address.
     pub addr: Addr,
@@ -75,7 +75,7 @@ pub fn put_client_ident(
 }
 
 /// SERVER_IDENT: who the server is, with the features that it has and asks for, and its cookie.
-#[derive(Clone, Copy, Debug, PartialEq, Eq)]
+#[derive(Clone, Copy, PartialEq, Eq)]
 pub struct ServerIdent {
     /// The server's own address.
     pub addr: Addr,
@@ -136,7 +136,7 @@ pub fn put_server_ident(
 }
 
 /// IDENT_MISSING_FEATURES: the features that the server asks for and the client lacks, a bit each.
-#[derive(Clone, Copy, Debug, PartialEq, Eq)]
+#[derive(Clone, Copy, PartialEq, Eq)]
 pub struct IdentMissingFeatures {
     pub features: u64,
 }

@@ -10,7 +10,7 @@ use cx_enc::{Cut, Encoded, ReadRefusal, put_addr, put_flag, put_u32, put_u64};
 use std::alloc::{AllocError, Global};
 
 /// SESSION_RECONNECT: the session by its two cookies, and the numbers of the client.
-#[derive(Clone, Copy, Debug, PartialEq, Eq)]
+#[derive(Clone, Copy, PartialEq, Eq)]
 pub struct SessionReconnect {
     /// The client's own address.
     pub addr: Addr,
@@ -67,7 +67,7 @@ pub fn put_session_reconnect(
 }
 
 /// SESSION_RESET: the server knows no such session. Where `full` holds, the client forgets all of it.
-#[derive(Clone, Copy, Debug, PartialEq, Eq)]
+#[derive(Clone, Copy, PartialEq, Eq)]
 pub struct SessionReset {
     pub full: bool,
 }
@@ -105,7 +105,7 @@ pub fn put_session_reset(
 }
 
 /// SESSION_RETRY: the `connect_seq` that the server has kept, which the one asked with did not pass.
-#[derive(Clone, Copy, Debug, PartialEq, Eq)]
+#[derive(Clone, Copy, PartialEq, Eq)]
 pub struct SessionRetry {
     pub connect_seq: u64,
 }
@@ -143,7 +143,7 @@ pub fn put_session_retry(
 }
 
 /// SESSION_RETRY_GLOBAL: the `global_seq` that the server has kept, which is above the one asked with.
-#[derive(Clone, Copy, Debug, PartialEq, Eq)]
+#[derive(Clone, Copy, PartialEq, Eq)]
 pub struct SessionRetryGlobal {
     pub global_seq: u64,
 }
@@ -184,7 +184,7 @@ pub fn put_session_retry_global(
 }
 
 /// SESSION_RECONNECT_OK: the session goes on behind the message of this seq.
-#[derive(Clone, Copy, Debug, PartialEq, Eq)]
+#[derive(Clone, Copy, PartialEq, Eq)]
 pub struct SessionReconnectOk {
     pub seq: u64,
 }

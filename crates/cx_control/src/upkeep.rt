@@ -11,7 +11,7 @@ use cx_enc::{Cut, Encoded, ReadRefusal, put_reading, put_u64};
 use std::alloc::{AllocError, Global};
 
 /// WAIT: nothing.
-#[derive(Clone, Copy, Debug, PartialEq, Eq)]
+#[derive(Clone, Copy, PartialEq, Eq)]
 pub struct Wait;
 
 impl Encoded for Wait {
@@ -41,7 +41,7 @@ pub fn put_wait(alloc: Global, into: &mut Blob, value: &Wait) -> Result<(), Allo
 }
 
 /// KEEPALIVE2: the time at which it was sent.
-#[derive(Clone, Copy, Debug, PartialEq, Eq)]
+#[derive(Clone, Copy, PartialEq, Eq)]
 pub struct Keepalive2 {
     pub time: Reading,
 }
@@ -78,7 +78,7 @@ pub fn put_keepalive2(alloc: Global, into: &mut Blob, value: &Keepalive2) -> Res
 }
 
 /// KEEPALIVE2_ACK: the time of the KEEPALIVE2 that it answers.
-#[derive(Clone, Copy, Debug, PartialEq, Eq)]
+#[derive(Clone, Copy, PartialEq, Eq)]
 pub struct Keepalive2Ack {
     pub time: Reading,
 }
@@ -119,7 +119,7 @@ pub fn put_keepalive2_ack(
 }
 
 /// ACK: the seq of the last message that was taken.
-#[derive(Clone, Copy, Debug, PartialEq, Eq)]
+#[derive(Clone, Copy, PartialEq, Eq)]
 pub struct Ack {
     pub seq: u64,
 }

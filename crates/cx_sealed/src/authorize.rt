@@ -7,7 +7,7 @@ use std::alloc::{AllocError, Global};
 
 /// What a client shows of itself to a daemon, under the session key of its ticket: first without a challenge, then with the
 /// daemon's challenge plus one.
-#[derive(Clone, Copy, Debug, PartialEq, Eq)]
+#[derive(Clone, Copy, PartialEq, Eq)]
 pub struct Authorize {
     pub nonce: u64,
     pub have_challenge: bool,

@@ -6,7 +6,7 @@ use cx_enc::{Cut, Encoded, ReadRefusal, put_u8, put_u64};
 use std::alloc::{AllocError, Global};
 
 /// The challenge that a daemon answers a first authorizer with, under the session key.
-#[derive(Clone, Copy, Debug, PartialEq, Eq)]
+#[derive(Clone, Copy, PartialEq, Eq)]
 pub struct AuthorizeChallenge {
     pub challenge: u64,
 }

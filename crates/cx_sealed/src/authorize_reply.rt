@@ -7,7 +7,7 @@ use std::alloc::{AllocError, Global};
 
 /// What a daemon answers a second authorizer with, under the session key: the nonce plus one, and the secret of the
 /// connection.
-#[derive(Clone, Copy, Debug, PartialEq, Eq)]
+#[derive(Clone, Copy, PartialEq, Eq)]
 pub struct AuthorizeReply {
     pub nonce_plus_one: u64,
     pub secret: [u8; 64],

@@ -6,7 +6,7 @@ use cx_enc::{Cut, Encoded, ReadRefusal, put_sized, put_u8};
 use std::alloc::{AllocError, Global};
 
 /// The secret of a connection to the monitor, under the session key of the AUTH ticket.
-#[derive(Clone, Copy, Debug, PartialEq, Eq)]
+#[derive(Clone, Copy, PartialEq, Eq)]
 pub struct ConnectionSecret {
     pub secret: [u8; 64],
 }

@@ -18,7 +18,7 @@ use cx_rotate::{Generation, Generations};
 use std::alloc::{AllocError, Global};
 
 /// The generations of a service's rotating secret, as its daemon is told them under its principal's secret.
-#[derive(Clone, Copy, Debug, PartialEq, Eq)]
+#[derive(Clone, Copy, PartialEq, Eq)]
 pub struct RotatingReply {
     pub service: EntityType,
     /// None, or three whose ids rise by one.

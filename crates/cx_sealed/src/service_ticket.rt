@@ -17,7 +17,7 @@ use cx_enc::{
 use std::alloc::{AllocError, Global};
 
 /// A ticket: for whom it is, with which session key and caps, and from when until when. A generation of the service seals it.
-#[derive(Debug, PartialEq, Eq, Drop)]
+#[derive(PartialEq, Eq, Drop)]
 pub struct ServiceTicket {
     /// The session key.
     pub session: [u8; 16],

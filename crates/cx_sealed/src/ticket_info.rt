@@ -7,7 +7,7 @@ use std::alloc::{AllocError, Global};
 
 /// What a client is told of its ticket for a service. The ticket for AUTH is told under the principal's secret, another one
 /// under the session key of the AUTH ticket.
-#[derive(Clone, Copy, Debug, PartialEq, Eq)]
+#[derive(Clone, Copy, PartialEq, Eq)]
 pub struct TicketInfo {
     pub service: EntityType,
     /// The session key.

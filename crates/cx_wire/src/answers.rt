@@ -11,7 +11,7 @@ use cx_enc::{Cut, Encoded, ReadFault, ReadRefusal, put_blob, put_u8};
 use std::alloc::{AllocError, Global};
 
 /// Answer, the body of message 43: how an operation ended (0 done, 1 denied, 2 no handler), and at most 65,536 bytes of data.
-#[derive(Debug, PartialEq, Eq, Drop)]
+#[derive(PartialEq, Eq, Drop)]
 pub struct Answer {
     pub outcome: u8,
     pub bytes: Blob,

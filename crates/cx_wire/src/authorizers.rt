@@ -12,7 +12,7 @@ use cx_enc::{
 use std::alloc::{AllocError, Global};
 
 /// Authorizer, in AUTH_REQUEST and AUTH_REQUEST_MORE to a daemon: the ticket for its service, and the sealed Authorize.
-#[derive(Debug, PartialEq, Eq, Drop)]
+#[derive(PartialEq, Eq, Drop)]
 pub struct Authorizer {
     pub gid: u64,
     pub service: EntityType,
@@ -61,7 +61,7 @@ pub fn put_authorizer(alloc: Global, into: &mut Blob, value: &Authorizer) -> Res
 }
 
 /// AuthorizeChallenge, in AUTH_REPLY_MORE from a daemon: the sealed record of that name.
-#[derive(Debug, PartialEq, Eq, Drop)]
+#[derive(PartialEq, Eq, Drop)]
 pub struct AuthorizeChallenge {
     pub sealed: Blob,
 }
@@ -105,7 +105,7 @@ pub fn put_authorize_challenge(
 }
 
 /// AuthorizeReply, in AUTH_DONE from a daemon: the sealed record of that name.
-#[derive(Debug, PartialEq, Eq, Drop)]
+#[derive(PartialEq, Eq, Drop)]
 pub struct AuthorizeReply {
     pub sealed: Blob,
 }

@@ -16,7 +16,7 @@ use cx_enc::{
 use std::alloc::{AllocError, Global};
 
 /// Request, the body of message 17.
-#[derive(Clone, Copy, Debug, PartialEq, Eq)]
+#[derive(Clone, Copy, PartialEq, Eq)]
 pub enum Request {
     /// Tickets for services, by the sum of their numbers (2 mds, 4 osd, 16 mgr); other bits mean nothing.
     Tickets(u32),
@@ -72,7 +72,7 @@ pub fn put_request(alloc: Global, into: &mut Blob, value: &Request) -> Result<()
 }
 
 /// Reply, the body of message 18.
-#[derive(Debug, PartialEq, Eq, Drop)]
+#[derive(PartialEq, Eq, Drop)]
 pub enum Reply {
     /// Tickets for MDS, OSD and MGR, in this order, as far as they are issued.
     Tickets(Items<TicketPart>),

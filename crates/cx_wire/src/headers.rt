@@ -24,7 +24,7 @@ pub const ANSWER: u16 = 43;
 
 /// The header of a message, 41 bytes, the first segment of a MESSAGE frame: its seq, the id of the transaction that it belongs to,
 /// and its type. The other fields are written as priority 127, versions 1 and else 0, and any are read and not kept.
-#[derive(Clone, Copy, Debug, PartialEq, Eq)]
+#[derive(Clone, Copy, PartialEq, Eq)]
 pub struct Header {
     pub seq: u64,
     pub tid: u64,

@@ -15,7 +15,7 @@ use cx_enc::{
 use std::alloc::{AllocError, Global};
 
 /// LoginHello, in AUTH_REQUEST to the monitor: who logs in, and the global id that is held beside an AUTH ticket, 0 for none.
-#[derive(Debug, PartialEq, Eq, Drop)]
+#[derive(PartialEq, Eq, Drop)]
 pub struct LoginHello {
     pub name: EntityName,
     pub gid: u64,
@@ -54,7 +54,7 @@ pub fn put_login_hello(alloc: Global, into: &mut Blob, value: &LoginHello) -> Re
 }
 
 /// ServerChallenge, in AUTH_REPLY_MORE from the monitor.
-#[derive(Clone, Copy, Debug, PartialEq, Eq)]
+#[derive(Clone, Copy, PartialEq, Eq)]
 pub struct ServerChallenge {
     pub challenge: u64,
 }
@@ -96,7 +96,7 @@ pub fn put_server_challenge(
 /// Authenticate, in AUTH_REQUEST_MORE to the monitor. Version 2 lets the monitor give a new global id, version 3 asks it to keep
 /// the one of the LoginHello. `key` is the proof. No old ticket is the generation 0 with no bytes. `other_keys` is the sum of the
 /// numbers of the services (2 mds, 4 osd, 16 mgr) for which tickets are asked; other bits mean nothing.
-#[derive(Debug, PartialEq, Eq, Drop)]
+#[derive(PartialEq, Eq, Drop)]
 pub struct Authenticate {
     pub version: u8,
     pub client_challenge: u64,
@@ -158,7 +158,7 @@ pub fn put_authenticate(
 
 /// LoginDone, in AUTH_DONE from the monitor: the tickets that it issues, the one for AUTH first and then for MDS, OSD and MGR as far
 /// as they are issued, and the sealed ConnectionSecret.
-#[derive(Debug, PartialEq, Eq, Drop)]
+#[derive(PartialEq, Eq, Drop)]
 pub struct LoginDone {
     pub tickets: Items<TicketPart>,
     pub connection_secret: Blob,

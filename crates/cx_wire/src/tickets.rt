@@ -11,7 +11,7 @@ use cx_enc::{
 use std::alloc::{AllocError, Global};
 
 /// A ticket as it is handed out: its service, the sealed TicketInfo and the blob that the service opens.
-#[derive(Debug, PartialEq, Eq, Drop)]
+#[derive(PartialEq, Eq, Drop)]
 pub struct TicketPart {
     pub service: EntityType,
     pub info: Blob,
