@@ -15,6 +15,7 @@ mod session;
 
 pub use book::SessionBook;
 pub use call::{BookCall, BookFault, BookReply};
+use cx_base::Owner;
 pub use faults::{AdmitFault, AdmitRefusal, ResumeFault, ResumeRefusal, TakeRefusal};
 pub use laws::{book_laws, told_laws};
 pub use outbox::{Outbox, QueueFault, QueueRefusal};
@@ -22,15 +23,15 @@ pub use outbox::{Outbox, QueueFault, QueueRefusal};
 // Each public type may be sent to another thread and shared with one.
 fn is_sendable<T: Send + Sync>() {}
 
-fn all_are_sendable() {
-    is_sendable::<SessionBook<u64>>();
-    is_sendable::<BookCall<u64>>();
+fn all_are_sendable<O: Owner + Send + Sync>() {
+    is_sendable::<SessionBook<O>>();
+    is_sendable::<BookCall<O>>();
     is_sendable::<BookReply>();
     is_sendable::<BookFault>();
     is_sendable::<AdmitFault>();
-    is_sendable::<AdmitRefusal<u64>>();
+    is_sendable::<AdmitRefusal<O>>();
     is_sendable::<ResumeFault>();
-    is_sendable::<ResumeRefusal<u64>>();
+    is_sendable::<ResumeRefusal<O>>();
     is_sendable::<TakeRefusal>();
     is_sendable::<Outbox>();
     is_sendable::<QueueFault>();
