@@ -203,7 +203,7 @@ fn taken(
 }
 
 /// What a client holds behind its login.
-#[derive(Debug, PartialEq, Eq, Drop)]
+#[derive(PartialEq, Eq, Drop)]
 pub struct LoggedIn {
     /// The ticket for AUTH.
     pub auth: HeldTicket,

@@ -3,4 +3,4 @@
 
 mod laws;
 
-pub use laws::{forgetting_laws, recorded_bytes, rule_laws};
+pub use laws::{forgetting_laws, rule_laws};

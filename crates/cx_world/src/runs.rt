@@ -26,7 +26,7 @@ use cx_schedule::Script;
 use std::alloc::{AllocError, Global};
 
 /// What comes of a run: its journal, and the first breach of its premises, if they are broken.
-#[derive(Debug, Drop)]
+#[derive(Drop)]
 pub struct Report {
     pub journal: Journal,
     pub broken: Option<Broken>,
