@@ -4,14 +4,14 @@ use cx_base::{Blob, Duplicate, Items, copy_items};
 use std::alloc::{AllocError, Global};
 
 /// A segment of a frame. Its alignment is carried and has no effect; 8 is written.
-#[derive(Debug, PartialEq, Eq, Drop)]
+#[derive(PartialEq, Eq, Drop)]
 pub struct Segment {
     pub align: u16,
     pub bytes: Blob,
 }
 
 /// A frame: its tag, from 1 (HELLO) to 20 (ACK), and its one to four segments. The type itself sets no bounds.
-#[derive(Debug, PartialEq, Eq, Drop)]
+#[derive(PartialEq, Eq, Drop)]
 pub struct Frame {
     pub tag: u8,
     pub segments: Items<Segment>,

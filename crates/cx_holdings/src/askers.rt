@@ -17,7 +17,7 @@ use cx_base::{Addr, EntityName, Items, Reading};
 use cx_control::{AuthRequest, ClientIdent};
 use cx_enc::Key;
 use cx_journal::BytesFault;
-use cx_login::{Asking, Challenged, LoggedIn};
+use cx_login::{Asking, LoggedIn};
 use cx_steps::SealEntry;
 use std::alloc::{AllocError, Global};
 use std::marker::Model;
@@ -158,7 +158,7 @@ impl Asker {
     ) -> Result<Result<Option<LoggedIn>, BytesFault>, AllocError>
         ensures { IfOk result (IsOpenedBy self.now.secret (whole login_done_layout.form payload.now) seals.old seals.new) }
     {
-        opened(alloc, Challenged::of(self.key), payload, seals)
+        opened(alloc, &self.key.secret, payload, seals)
     }
 
     /// The payload of CLIENT_IDENT to the monitor, under the global id of a login.

@@ -9,7 +9,7 @@ ghost use Rattle.cx_wire.specs.Logins.{login_done_layout, login_hello_layout, se
 use crate::answers::Answer;
 use cx_base::{Blob, Duplicate, EntityName, Items};
 use cx_journal::BytesFault;
-use cx_login::{Asking, Challenged, LoggedIn, LoginRefusal};
+use cx_login::{Asking, LoggedIn, LoginRefusal, opened_login};
 use cx_steps::SealEntry;
 use cx_wire::{LoginHello, ServerChallenge, WireRefusal, put_login_hello, read_server_challenge};
 use std::alloc::{AllocError, Global};
@@ -68,16 +68,16 @@ fn answer(
     }
 }
 
-// Opens the LoginDone of this payload.
+// Opens the LoginDone of this payload under a client's secret.
 pub(crate) fn opened(
     alloc: Global,
-    challenged: Challenged,
+    secret: &[u8; 16],
     payload: &[u8],
     seals: &mut Items<SealEntry>,
 ) -> Result<Result<Option<LoggedIn>, BytesFault>, AllocError>
-    ensures { IfOk result (IsOpenedBy challenged (whole login_done_layout.form payload.now) seals.old seals.new) }
+    ensures { IfOk result (IsOpenedBy secret.now (whole login_done_layout.form payload.now) seals.old seals.new) }
 {
-    match challenged.done(alloc, payload, seals) {
+    match opened_login(alloc, secret, payload, seals) {
         Ok(login) => Ok(Ok(Some(login))),
         Err(refusal) => match refusal {
             LoginRefusal::Malformed(place) => Ok(Err(BytesFault::Malformed(place))),

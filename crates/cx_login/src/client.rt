@@ -134,7 +134,8 @@ fn shown_ticket(alloc: Global, old: &Option<HeldTicket>) -> Result<TicketBlob, A
     }
 }
 
-/// A client that answered the challenge and awaits the monitor's LoginDone. It is not copied: one login comes of it.
+/// A client that answered the challenge and awaits the monitor's LoginDone. It comes of an answered challenge alone, and is not copied: one
+/// login comes of it.
 #[derive(Drop)]
 pub struct Challenged {
     key: Key,
@@ -150,13 +151,6 @@ impl Model for Challenged {
 }
 
 impl Challenged {
-    /// A client of this key whose own stage says that it answered the challenge.
-    pub fn of(key: Key) -> Challenged
-        ensures { result ≡ key.secret }
-    {
-        Challenged { key }
-    }
-
     /// Opens the LoginDone of this payload. What opened is appended to the log, also where the login is refused.
     pub fn done(
         self,
@@ -168,8 +162,23 @@ impl Challenged {
         // What the key server hands out to the entity of this secret is read as exactly that.
         ensures handed { TakesHandedOut self payload.now result }
     {
-        taken(alloc, &self.key.secret, payload, seals)
+        opened_login(alloc, &self.key.secret, payload, seals)
     }
+}
+
+/// Opens the LoginDone of this payload under the secret of a client that answered the challenge, as one that keeps its stages itself
+/// does. What opened is appended to the log, also where the login is refused.
+pub fn opened_login(
+    alloc: Global,
+    secret: &[u8; 16],
+    payload: &[u8],
+    seals: &mut Items<SealEntry>,
+) -> Result<LoggedIn, LoginRefusal>
+    ensures login { IsDone secret.now payload.now seals.old seals.new result }
+    // What the key server hands out to the entity of this secret is read as exactly that.
+    ensures handed { TakesHandedOut secret.now payload.now result }
+{
+    taken(alloc, secret, payload, seals)
 }
 
 // Takes the LoginDone of this payload.
@@ -194,7 +203,7 @@ fn taken(
 }
 
 /// What a client holds behind its login.
-#[derive(Debug, PartialEq, Eq, Drop)]
+#[derive(PartialEq, Eq, Drop)]
 pub struct LoggedIn {
     /// The ticket for AUTH.
     pub auth: HeldTicket,

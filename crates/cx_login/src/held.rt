@@ -16,7 +16,7 @@ use std::marker::Model;
 
 /// A ticket that a client holds: the generation that sealed its blob, which only the service opens, and what the client was told
 /// of it. The blob has below 2^32 bytes, so that it can be shown.
-#[derive(Debug, PartialEq, Eq, Drop)]
+#[derive(PartialEq, Eq, Drop)]
 pub struct HeldTicket {
     pub service: EntityType,
     pub generation: u64,

@@ -8,7 +8,7 @@ mod opening;
 mod proving;
 mod refusals;
 
-pub use client::{Asking, Challenged, LoggedIn};
+pub use client::{Asking, Challenged, LoggedIn, opened_login};
 pub use held::{HeldTicket, held_tickets};
 pub use monitor::{Offered, Proved, Reclaim};
 pub use opening::tried_ticket;

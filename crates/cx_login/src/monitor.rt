@@ -78,7 +78,7 @@ impl Model for Proved {
 }
 
 /// Which global id a proved entity is to have.
-#[derive(Clone, Copy, Debug, PartialEq, Eq)]
+#[derive(Clone, Copy, PartialEq, Eq)]
 pub enum Reclaim {
     /// The one of its old ticket.
     Kept(u64),

@@ -1,12 +1,10 @@
 //! What a step gives by a row.
 
 ghost use Rattle.std.specs.Prelude.{◌≡◌, [], ◌∷◌, Some, IfOk, if◌then◌else◌};
-ghost use Rattle.std.specs.Option.{option_map};
 ghost use Rattle.cx_rules.specs.Rows.{piece, shuts};
 ghost use Rattle.cx_steps.specs.Nothing.{nothing};
 ghost use Rattle.cx_node.specs.Made.{out_of};
 
-use crate::numbered::Noting;
 use crate::rows::Row;
 use cx_base::{Blob, Items};
 use cx_journal::Entry;
@@ -20,8 +18,7 @@ pub struct Carried<L> {
     pub out: Effects,
 }
 
-/// Carries a row out on the link of this number. `turned`: a banner or a frame was handled. What is sent is noted at the link before
-/// (`noted`).
+/// Carries a row out on the link of this number. `turned`: a banner or a frame was handled.
 pub fn carried_out<L: Drop>(
     alloc: Global,
     number: u32,
@@ -45,34 +42,6 @@ pub fn carried_out<L: Drop>(
             lost: None,
         },
     })
-}
-
-/// The row with what it sends noted at its link.
-pub fn noted<L: Noting>(alloc: Global, row: Row<L>) -> Result<Row<L>, AllocError>
-    ensures { IfOk result (λ noted. noted ≡ record row { link = option_map (λ link. L.with_sent link row.sends) row.link }) }
-{
-    let link = with_sent(alloc, row.link, row.sends.bytes())?;
-    Ok(Row {
-        link,
-        sends: row.sends,
-        save: row.save,
-        entries: row.entries,
-        seals: row.seals,
-    })
-}
-
-fn with_sent<L: Noting>(
-    alloc: Global,
-    link: Option<L>,
-    bytes: &[u8],
-) -> Result<Option<L>, AllocError>
-    ensures { IfOk result (λ noted. noted ≡ option_map (λ link. L.with_sent link bytes.now) link) }
-{
-    let Some(mut link) = link else {
-        return Ok(None);
-    };
-    link.note_sent(alloc, bytes)?;
-    Ok(Some(link))
 }
 
 // What is sent on a link, in one piece; nothing where there are no bytes.

@@ -22,8 +22,8 @@ pub fn control<T: Encoded>(alloc: Global, tag: u8, value: &T) -> Result<Frame, A
     one_segment(alloc, tag, bytes)
 }
 
-/// The same of a payload that is read more widely than it is written.
-pub fn control_whole<T: WritesWhole>(alloc: Global, tag: u8, value: &T) -> Result<Frame, AllocError>
+// The same of a payload that is read more widely than it is written.
+fn control_whole<T: WritesWhole>(alloc: Global, tag: u8, value: &T) -> Result<Frame, AllocError>
     ensures frame { IfOk result (λ frame. frame ≡ control tag T.whole.form (T.written value.now)) }
     ensures fits { OnOk result (T.whole.form.Fits (T.written value.now)) }
 {

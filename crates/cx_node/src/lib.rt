@@ -13,13 +13,13 @@ mod places;
 mod rows;
 mod searching;
 
-pub use carrying::{Carried, carried_out, enters, loses, noted};
-pub use controls::{bad_method, control, control_whole};
+pub use carrying::{Carried, carried_out, enters, loses};
+pub use controls::{bad_method, control};
 pub use laws::node_laws;
 pub use links::Links;
 pub use making::{denies, goes_on, refused_entry, refuses, refuses_bytes, with_opened};
-pub use numbered::{Noting, Numbered};
-pub use payloads::{due, payload, payload_part, whole, whole_part};
+pub use numbered::Numbered;
+pub use payloads::{due, payload, payload_part, whole};
 pub use rows::Row;
 
 // Each public type may be sent to another thread and shared with one, where its links may.

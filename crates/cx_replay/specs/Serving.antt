@@ -18,12 +18,13 @@ use Rattle.cx_run.specs.Opening.{leaked_of}
 use Rattle.cx_run.specs.Runs.{IsFoundOf, run_journal, setup_of, trace}
 use Rattle.cx_replay.specs.declared.refusals.ReplayRefusal.{ReplayRefusal}
 use Rattle.cx_replay.specs.declared.refusals.ReplayRefusal.TheVariants.{NotYet, OutOfMemory}
-use Rattle.cx_replay.specs.Lines.{first_ahead, has_daemon_line}
+use Rattle.cx_run.specs.Served as run
+use Rattle.cx_replay.specs.Lines.{has_daemon_line}
 
 -- the first line for which a schedule isn't served yet: where it has a fetch, connect or send line, the first that the plain run doesn't take,
 -- and else the first that the run through bytes doesn't serve
 abbrev pub first_unserved : List Numbered → Option ℕ
-first_unserved script = if has_daemon_line script then first_untaken script else first_ahead script
+first_unserved script = if has_daemon_line script then first_untaken script else run.first_unserved script
 
 -- ---- what comes of a run
 

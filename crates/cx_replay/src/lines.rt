@@ -2,7 +2,8 @@
 
 ghost use Rattle.std.specs.Prelude.{◌≡◌};
 ghost use Rattle.std.specs.List.{list_any};
-ghost use Rattle.cx_replay.specs.Lines.{first_ahead, has_daemon_line, is_ahead, is_ahead_do, is_daemon_line, is_daemon_node};
+ghost use Rattle.cx_replay.specs.Lines.{has_daemon_line, is_daemon_line};
+ghost use Rattle.cx_run.specs.Served.{first_unserved, has_node, is_command_served, is_served, is_step_served};
 
 use cx_base::NodeName;
 use cx_lines::{Line, LineCommand, NodeStep, Numbered};
@@ -30,57 +31,61 @@ fn is_daemon_line(line: &Line) -> bool
     }
 }
 
-/// The number of the first of these lines that no run through bytes serves yet.
-pub fn first_ahead(lines: &[Numbered]) -> Option<u32>
-    ensures { result ≡ first_ahead lines.now }
+/// The number of the first of these lines that the run through bytes doesn't serve.
+pub fn first_unserved(lines: &[Numbered]) -> Option<u32>
+    ensures { result ≡ first_unserved lines.now }
 {
     for numbered in lines {
-        if is_ahead(&numbered.line) {
+        if !is_served(&numbered.line) {
             return Some(numbered.number);
         }
     }
     None
 }
 
-fn is_ahead(line: &Line) -> bool
-    ensures { result ≡ is_ahead line.now }
+fn is_served(line: &Line) -> bool
+    ensures { result ≡ is_served line.now }
 {
     match line {
-        Line::Submit(LineCommand::Renew(_, _)) => true,
-        Line::Submit(LineCommand::Fetch(_)) => false,
-        Line::Submit(LineCommand::Login(_, _)) => false,
-        Line::Submit(LineCommand::Connect(_, _, _)) => false,
-        Line::Submit(LineCommand::Send(_, _, _)) => false,
-        Line::Do(command) => is_ahead_do(command),
-        Line::Node(NodeStep::Tick(_)) => true,
-        Line::Node(NodeStep::DropSession(_, _)) => true,
-        Line::Node(NodeStep::Restart(node)) => is_daemon_node(node),
-        Line::Node(NodeStep::Clock(_)) => false,
-        Line::Node(NodeStep::ClockOf(_, _)) => false,
-        Line::Node(NodeStep::FailSave(_)) => false,
-        Line::Node(NodeStep::Settle) => false,
-        Line::Setting(_) => false,
-        Line::Link(_) => false,
+        Line::Setting(_) => true,
+        Line::Submit(command) => is_command_served(command),
+        Line::Do(command) => is_command_served(command),
+        Line::Link(_) => true,
+        Line::Node(step) => is_step_served(step),
     }
 }
 
-fn is_ahead_do(command: &LineCommand) -> bool
-    ensures { result ≡ is_ahead_do command.now }
+fn is_command_served(command: &LineCommand) -> bool
+    ensures { result ≡ is_command_served command.now }
 {
     match command {
-        LineCommand::Login(_, _) => false,
-        LineCommand::Fetch(_) => true,
-        LineCommand::Renew(_, _) => true,
-        LineCommand::Connect(_, _, _) => true,
-        LineCommand::Send(_, _, _) => true,
+        LineCommand::Login(_, _) => true,
+        LineCommand::Fetch(_) => false,
+        LineCommand::Renew(_, _) => false,
+        LineCommand::Connect(_, _, _) => false,
+        LineCommand::Send(_, _, _) => false,
     }
 }
 
-fn is_daemon_node(node: &NodeName) -> bool
-    ensures { result ≡ is_daemon_node node.now }
+fn is_step_served(step: &NodeStep) -> bool
+    ensures { result ≡ is_step_served step.now }
+{
+    match step {
+        NodeStep::Clock(_) => true,
+        NodeStep::ClockOf(_, _) => true,
+        NodeStep::Restart(node) => has_node(node),
+        NodeStep::FailSave(_) => true,
+        NodeStep::Settle => true,
+        NodeStep::DropSession(_, _) => false,
+        NodeStep::Tick(_) => false,
+    }
+}
+
+fn has_node(node: &NodeName) -> bool
+    ensures { result ≡ has_node node.now }
 {
     match node {
-        NodeName::Monitor => false,
-        NodeName::Entity(name) => name.kind.is_daemon(),
+        NodeName::Monitor => true,
+        NodeName::Entity(name) => !name.kind.is_daemon(),
     }
 }

@@ -4,7 +4,7 @@ use cx_plain::PlainRefusal;
 use std::alloc::AllocError;
 
 /// Why a schedule isn't replayed.
-#[derive(Clone, Copy, Debug, PartialEq, Eq)]
+#[derive(Clone, Copy, PartialEq, Eq)]
 pub enum ReplayRefusal {
     /// The line of this number is the first for which it isn't served yet.
     NotYet { line: u32 },

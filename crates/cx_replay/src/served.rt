@@ -5,11 +5,12 @@ ghost use Rattle.std.specs.List.{list_all};
 ghost use Rattle.cx_desk.specs.Held.{handlers_of};
 ghost use Rattle.cx_lines.specs.Lines.{is_numbered_in_range};
 ghost use Rattle.cx_plain.specs.PlainLines.{first_untaken};
+ghost use Rattle.cx_run.specs.Served as run;
 ghost use Rattle.cx_run_head.specs.Beginning.{IsSchedule};
 ghost use Rattle.cx_replay.specs.declared.refusals.ReplayRefusal.TheVariants.{OutOfMemory};
 ghost use Rattle.cx_replay.specs.Serving.{IsReplayBy, IsReplayCause, IsReplayOf, IsUnservedBy, first_unserved};
 
-use crate::lines::{first_ahead, has_daemon_line};
+use crate::lines::{first_unserved, has_daemon_line};
 use crate::refusals::ReplayRefusal;
 use cx_desk::Desk;
 use cx_laws_run::{journal_laws, login_laws};
@@ -29,7 +30,7 @@ pub fn replay(alloc: Global, script: &Script, desk: &Desk) -> Result<Report, Rep
     if has_daemon_line(script.lines()) {
         return plainly(alloc, script, desk);
     }
-    if let Some(line) = first_ahead(script.lines()) {
+    if let Some(line) = first_unserved(script.lines()) {
         return Err(ReplayRefusal::NotYet { line });
     }
     through_bytes(alloc, script, desk)
@@ -37,7 +38,8 @@ pub fn replay(alloc: Global, script: &Script, desk: &Desk) -> Result<Report, Rep
 
 /// The run through bytes. Where it keeps both premises, the laws over every run hold of its journal.
 fn through_bytes(alloc: Global, script: &Script, desk: &Desk) -> Result<Report, ReplayRefusal>
-    requires { IsSchedule script.now }
+    requires schedule { IsSchedule script.now }
+    requires served { run.first_unserved script.now ≡ None }
     ensures replayed { IfOk result (λ report. IsReplayBy false (handlers_of desk.now) script.now report.journal report.broken) }
     ensures memory { IfErr result (λ why. why ≡ OutOfMemory) }
 {

@@ -11,4 +11,3 @@ pub mod MonitorForgets
 pub mod MonitorRows
 pub mod Naming
 pub mod Quiet
-pub mod Recording

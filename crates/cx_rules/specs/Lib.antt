@@ -13,7 +13,6 @@ pub mod Monitor
 pub mod MonitorLogin
 pub mod MonitorRule
 pub mod Payloads
-pub mod Recorded
 pub mod Rows
 pub mod Secured
 pub mod Tickets

@@ -12,7 +12,6 @@ ghost use Rattle.cx_rules.specs.Inputs.{Input};
 ghost use Rattle.cx_rules.specs.Judged.{AskerLogsTurn, IsJudged, LogsTurn, NamesLinks};
 ghost use Rattle.cx_rules.specs.Monitor.{MonitorArrival, MonitorNode};
 ghost use Rattle.cx_rules.specs.MonitorRule.{monitor_rule, noted, opening_monitor, turned_at, unsaved};
-ghost use Rattle.cx_rules.specs.Recorded.{WritesAsRecorded};
 ghost use Rattle.cx_rules.specs.Rows.{forgotten};
 
 /// Of every step of the monitor, and of a client.
@@ -48,9 +47,4 @@ pub fn forgetting_laws()
     ensures client_opening { (asker : Asker) → ClientStandsFor (opening_client asker) (opening_client asker) }
     ensures monitor_twice { (s : MonitorNode) → abridged_monitor (abridged_monitor s) ≡ abridged_monitor s }
     ensures client_twice { (s : ClientNode) → abridged_client (abridged_client s) ≡ abridged_client s }
-{}
-
-/// The banner is that of this project's profile, byte by byte, and the payloads of the first frames of a login are those of recorded runs.
-pub fn recorded_bytes()
-    ensures { WritesAsRecorded }
 {}

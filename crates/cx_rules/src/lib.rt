@@ -4,7 +4,7 @@
 mod laws;
 mod verdicts;
 
-pub use laws::{forgetting_laws, recorded_bytes, rule_laws};
+pub use laws::{forgetting_laws, rule_laws};
 pub use verdicts::{HandedOut, Verdict};
 
 // Each public type may be sent to another thread and shared with one.

@@ -5,4 +5,5 @@ pub mod Worlds
 pub mod Turning
 pub mod Deliveries
 pub mod Schedules
+pub mod Served
 pub mod Runs

@@ -1,10 +1,10 @@
 -- The links of a run as a table: numbered from 1, in the order in which they opened.
-use Rattle.std.specs.Prelude.{ℕ, suc, ◌≡◌, ◌<◌, Bool, false, List, [], ◌∷◌, length, take, Option, Some, None}
+use Rattle.std.specs.Prelude.{ℕ, suc, ◌≡◌, ◌<◌, List, [], ◌∷◌, length, take, Option, Some, None}
 use Rattle.cx_line_words.specs.declared.choices.Side.{Side}
 use Rattle.cx_base.specs.declared.nodes.NodeName.{NodeName}
 use Rattle.cx_steps.specs.declared.effects.Piece.{Piece}
 use Rattle.cx_run.specs.Deliveries.{stay}
-use Rattle.cx_run.specs.Wires.{Wire, owes_gone, pieces_from, wire_of, with_pieces, with_wire}
+use Rattle.cx_run.specs.Wires.{Wire, pieces_from, wire_of, with_pieces, with_wire}
 use Rattle.cx_run.specs.Worlds.{sends_all, shuts_all}
 
 -- the numbers go up by one, from this one on
@@ -20,11 +20,6 @@ changed_in change wires (Some wire) = with_wire wires (change wire)
 -- the link of this number is changed, where there is one
 abbrev pub with_changed : (Wire → Wire) → ℕ → List Wire → List Wire
 with_changed change number wires = changed_in change wires (wire_of number wires)
-
--- whether the other end of a link is still to be told that this one is gone
-abbrev pub owed : Side → Option Wire → Bool
-owed side None = false
-owed side (Some wire) = owes_gone wire side
 
 -- the oldest of the pieces under way from a side of a link is lost, if there is one
 abbrev pub lost_from : List Wire → Wire → Side → List (List ℕ) → List Wire

@@ -8,7 +8,7 @@ ghost use Rattle.cx_run.specs.Wires.{ended, gone_at, new_wire, wire_of};
 ghost use Rattle.cx_run.specs.Worlds.{sends_all, sends_piece, shuts_all, shuts_link};
 ghost use Rattle.cx_run_links.specs.Calm.{AreCalm, IsCalmAt};
 ghost use Rattle.cx_run_links.specs.Ends.{arriving};
-ghost use Rattle.cx_run_links.specs.Tables.{AreNumbered, IsSentInPart, IsShutInPart, lost_on, owed, taken_on, with_changed};
+ghost use Rattle.cx_run_links.specs.Tables.{AreNumbered, IsSentInPart, IsShutInPart, lost_on, taken_on, with_changed};
 
 use crate::busy_links::Busy;
 use crate::places::place_of;
@@ -76,16 +76,6 @@ impl Wires {
         match self.get(number) {
             Some(wire) => wire.under_way(side),
             None => 0,
-        }
-    }
-
-    /// Whether the other end of a link is still to be told that this one is gone.
-    pub fn owes_gone(&self, number: u64, side: Side) -> bool
-        ensures { result ≡ owed side (wire_of number self.now) }
-    {
-        match self.get(number) {
-            Some(wire) => wire.owes_gone(side),
-            None => false,
         }
     }
 

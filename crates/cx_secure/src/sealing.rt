@@ -27,7 +27,7 @@ impl Way {
 }
 
 /// The head of a secure frame: its preamble, and the first 48 bytes of its first segment with their fill.
-#[derive(Clone, Copy, Debug, PartialEq, Eq)]
+#[derive(Clone, Copy, PartialEq, Eq)]
 pub struct Head {
     pub preamble: Preamble,
     pub inline: [u8; 48],

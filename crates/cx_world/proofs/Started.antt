@@ -1,5 +1,5 @@
 -- How a run begins, and what is told of it at its end.
-use Rattle.std.proofs.Common.{◌≡◌, ℕ, ◌+◌, ◌<◌, ◌≤◌, true, List, [], ◌∷◌, ◌++◌, length, get_or, map, take, Option, None, refl, sym, subst, ap, ◌∙◌, append-nil}
+use Rattle.std.proofs.Common.{◌≡◌, ℕ, ◌+◌, ◌<◌, ◌≤◌, Bool, true, false, List, [], ◌∷◌, ◌++◌, length, get_or, map, take, Option, None, refl, sym, subst, ap, ◌∙◌, append-nil}
 use Rattle.std.specs.List.{list_all}
 use Rattle.std.proofs.lemmas.List.{map-append, take_all, take_more}
 use Rattle.cx_base.specs.Names.{Name}
@@ -12,6 +12,7 @@ use Rattle.cx_run.specs.Happenings.{Entered, journal_from}
 use Rattle.cx_run.specs.Opening.{Setup, leaks_entered, nodes_of, opening_world, posts_of}
 use Rattle.cx_run.specs.Runs.{IsFoundOf, run_journal, setup_of, trace}
 use Rattle.cx_run.specs.Schedules.{after_line, after_lines}
+use Rattle.cx_run.specs.Served.{first_unserved, is_numbered_served, is_served}
 use Rattle.cx_run.specs.Worlds.{World}
 use Rattle.cx_schedule.proofs.Whole as schedule
 use Rattle.cx_run_head.specs.Beginning.{IsSchedule}
@@ -59,6 +60,15 @@ breach_told script world found k finds = finds _ _ k.told.ledger
 -- each line of a schedule is within its bounds
 pub in_range : (script : List Numbered) → IsSchedule script → list_all is_numbered_in_range script ≡ true
 in_range script (bytes, short, said) = schedule.all_in_range 1 [] script (lines_of bytes) said refl
+
+-- each line of one of which none is unserved is served
+pub all_served : (script : List Numbered) → first_unserved script ≡ None → list_all is_numbered_served script ≡ true
+all_served [] none = refl
+all_served (line ∷ lines) none = by_first (is_served line.line) refl
+  where
+    by_first : (served : Bool) → is_served line.line ≡ served → list_all is_numbered_served (line ∷ lines) ≡ true
+    by_first true is = rw is (all_served lines (rw is at none))
+    by_first false is = absurd (let e = rw is at none in cc)
 
 -- one line more
 pub after_more : (w : World) (lines : List Numbered) (line : Numbered) → after_lines w (lines ++ line ∷ []) ≡ after_line (after_lines w lines) line

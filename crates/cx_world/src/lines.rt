@@ -1,4 +1,4 @@
-//! What each line of a schedule does. Lines that no rule serves yet do nothing: fetches, renewals, connects, sends, drops and ticks.
+//! What each line of a schedule does. Lines that no rule serves yet don't come here: fetches, renewals, connects, sends, drops and ticks.
 
 ghost use Rattle.std.specs.Prelude.{◌≡◌, ℕ, Option, IfOk, IsTrue, OnOk};
 ghost use Rattle.cx_rules.specs.Inputs.{Submit};
@@ -6,6 +6,7 @@ ghost use Rattle.cx_base.specs.declared.nodes.NodeName.TheVariants as node;
 ghost use Rattle.cx_lines.specs.Lines.{is_in_range, is_numbered_in_range};
 ghost use Rattle.cx_lines.specs.declared.commands.LineCommand.TheVariants as command;
 ghost use Rattle.cx_run.specs.Schedules.{acts_on, after_line, services_sum, submits, submitted};
+ghost use Rattle.cx_run.specs.Served.{is_command_served, is_numbered_served, is_served};
 ghost use Rattle.cx_run.specs.Worlds.{World as RunWorld};
 ghost use Rattle.cx_world.specs.Carried.{Began, Carries, Makes, MakesAlone};
 
@@ -45,21 +46,23 @@ impl World {
         self.come(alloc, &who, Event::Submit(Told::Login(sum)))
     }
 
-    /// A client logs in; the other commands do nothing yet.
+    /// A client logs in.
     fn submit(&mut self, alloc: Global, command: &LineCommand) -> Result<(), AllocError>
+        requires { IsTrue (is_command_served command.now) }
         ensures { OnOk result (Makes self.old self.new (λ w. submitted w command.now)) }
     {
         match command {
             LineCommand::Login(client, services) => self.login(alloc, client, services.all()),
-            LineCommand::Fetch(_) => Ok(()),
-            LineCommand::Renew(_, _) => Ok(()),
-            LineCommand::Connect(_, _, _) => Ok(()),
-            LineCommand::Send(_, _, _) => Ok(()),
+            LineCommand::Fetch(_) => unreachable!(),
+            LineCommand::Renew(_, _) => unreachable!(),
+            LineCommand::Connect(_, _, _) => unreachable!(),
+            LineCommand::Send(_, _, _) => unreachable!(),
         }
     }
 
     /// The same, and then all settles.
     fn submit_and_settle(&mut self, alloc: Global, command: &LineCommand) -> Result<(), AllocError>
+        requires { IsTrue (is_command_served command.now) }
         ensures { OnOk result (MakesAlone self.old self.new (λ w. submits w command.now)) }
     {
         match command {
@@ -67,16 +70,17 @@ impl World {
                 self.login(alloc, client, services.all())?;
                 self.settle(alloc)
             }
-            LineCommand::Fetch(_) => Ok(()),
-            LineCommand::Renew(_, _) => Ok(()),
-            LineCommand::Connect(_, _, _) => Ok(()),
-            LineCommand::Send(_, _, _) => Ok(()),
+            LineCommand::Fetch(_) => unreachable!(),
+            LineCommand::Renew(_, _) => unreachable!(),
+            LineCommand::Connect(_, _, _) => unreachable!(),
+            LineCommand::Send(_, _, _) => unreachable!(),
         }
     }
 
     /// What a line does, once its number was noted.
     fn act_on(&mut self, alloc: Global, line: &Line) -> Result<(), AllocError>
-        requires { IsTrue (is_in_range line.now) }
+        requires in_range { IsTrue (is_in_range line.now) }
+        requires served { IsTrue (is_served line.now) }
         ensures { OnOk result (MakesAlone self.old self.new (λ w. acts_on w line.now)) }
     {
         match line {
@@ -90,7 +94,8 @@ impl World {
 
     /// What a line does.
     pub(crate) fn act(&mut self, alloc: Global, line: &Numbered) -> Result<(), AllocError>
-        requires { IsTrue (is_numbered_in_range line.now) }
+        requires in_range { IsTrue (is_numbered_in_range line.now) }
+        requires served { IsTrue (is_numbered_served line.now) }
         ensures { OnOk result (MakesAlone self.old self.new (λ w. after_line w line.now)) }
     {
         self.line = line.number;

@@ -4,6 +4,7 @@ ghost use Rattle.std.specs.Prelude.{◌<◌, Some, IsTrue, OnOk};
 ghost use Rattle.cx_lines.specs.Lines.{is_in_range};
 ghost use Rattle.cx_lines.specs.declared.lines.Line.TheVariants as line;
 ghost use Rattle.cx_run.specs.Schedules.{all_read, on_node, one_reads};
+ghost use Rattle.cx_run.specs.Served.{is_step_served};
 ghost use Rattle.cx_run.specs.Worlds.{World as RunWorld};
 ghost use Rattle.cx_world.specs.Carried.{Makes, MakesAlone};
 
@@ -39,7 +40,8 @@ impl World {
 
     /// What a line does to clocks, nodes and saves.
     pub(crate) fn act_on_node(&mut self, alloc: Global, step: &NodeStep) -> Result<(), AllocError>
-        requires { IsTrue (is_in_range (line.Node step.now)) }
+        requires in_range { IsTrue (is_in_range (line.Node step.now)) }
+        requires served { IsTrue (is_step_served step.now) }
         ensures { OnOk result (MakesAlone self.old self.new (λ w. on_node w step.now)) }
     {
         match step {
@@ -51,8 +53,8 @@ impl World {
                 self.set_clock(who, *reading);
                 Ok(())
             }
-            NodeStep::DropSession(_, _) => Ok(()),
-            NodeStep::Tick(_) => Ok(()),
+            NodeStep::DropSession(_, _) => unreachable!(),
+            NodeStep::Tick(_) => unreachable!(),
             NodeStep::Restart(who) => self.restart(alloc, who),
             NodeStep::FailSave(left) => {
                 self.fail_save(*left);

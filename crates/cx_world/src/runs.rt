@@ -8,6 +8,7 @@ ghost use Rattle.cx_premises.specs.Ledgers.{StandsFor};
 ghost use Rattle.cx_run.specs.Opening.{opening_world};
 ghost use Rattle.cx_run.specs.Runs.{IsFoundOf, run_journal, setup_of};
 ghost use Rattle.cx_run.specs.Schedules.{after_lines};
+ghost use Rattle.cx_run.specs.Served.{first_unserved, is_numbered_served};
 ghost use Rattle.cx_run_head.specs.Beginning.{IsSchedule};
 ghost use Rattle.cx_steps.specs.Breach.{IsFound};
 ghost use Rattle.cx_steps.specs.declared.seals.Logged.{Logged};
@@ -25,16 +26,17 @@ use cx_schedule::Script;
 use std::alloc::{AllocError, Global};
 
 /// What comes of a run: its journal, and the first breach of its premises, if they are broken.
-#[derive(Debug, Drop)]
+#[derive(Drop)]
 pub struct Report {
     pub journal: Journal,
     pub broken: Option<Broken>,
 }
 
-/// The run of a schedule of logins. Lines that no rule serves yet do nothing.
+/// The run of a schedule of which each line is served.
 #[tactic(auto, using(crate::proofs::Started::journal_told, crate::proofs::Started::breach_told))]
 pub fn run(alloc: Global, script: &Script) -> Result<Report, AllocError>
-    requires { IsSchedule script.now }
+    requires schedule { IsSchedule script.now }
+    requires served { first_unserved script.now ≡ None }
     ensures journal { IfOk result (λ report. report.journal ≡ run_journal script.now) }
     ensures found { IfOk result (λ report. IsFoundOf script.now report.broken) }
 {
@@ -52,9 +54,10 @@ pub fn run(alloc: Global, script: &Script) -> Result<Report, AllocError>
 }
 
 /// The world behind all lines of a schedule.
-#[tactic(auto, using(crate::proofs::Started::in_range))]
+#[tactic(auto, using(crate::proofs::Started::in_range, crate::proofs::Started::all_served))]
 fn behind_all(alloc: Global, lines: &[Numbered]) -> Result<World, AllocError>
-    requires { IsSchedule lines.now }
+    requires schedule { IsSchedule lines.now }
+    requires served { first_unserved lines.now ≡ None }
     ensures { IfOk result (λ world. Carries (began (setup_of lines.now)) None world (after_lines (opening_world (setup_of lines.now)) lines.now)) }
 {
     let setup = Setup::of(alloc, lines)?;
@@ -65,7 +68,8 @@ fn behind_all(alloc: Global, lines: &[Numbered]) -> Result<World, AllocError>
 
 /// What all of these lines do, one by one.
 fn act_all(alloc: Global, world: &mut World, lines: &[Numbered]) -> Result<(), AllocError>
-    requires { IsTrue (list_all is_numbered_in_range lines.now) }
+    requires in_range { IsTrue (list_all is_numbered_in_range lines.now) }
+    requires served { IsTrue (list_all is_numbered_served lines.now) }
     ensures { OnOk result (MakesAlone world.old world.new (λ w. after_lines w lines.now)) }
 {
     for line in lines {
