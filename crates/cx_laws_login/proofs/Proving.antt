@@ -39,7 +39,7 @@ use Rattle.cx_rules.specs.Monitor.{Entity, Monitor, MonitorArrival, MonitorNode,
 use Rattle.cx_rules.specs.MonitorLogin.{done_frame, hands_over, occasion, on_authenticate, proves, row_of, with_server}
 use Rattle.cx_rules.specs.MonitorRule.{monitor_step, on_auth_request_more, on_ident, on_request_payload, opens, turn, turned_at}
 use Rattle.cx_rules.specs.Payloads.{due, whole}
-use Rattle.cx_rules.specs.Rows.{Outcome, Turned, Waits, Refuses, Handles, arrival, at, carried_out, fed, goes_on, new_link, refuses, turned_by, turns, with_opened}
+use Rattle.cx_rules.specs.Rows.{Outcome, Turned, Waits, Refuses, Handles, arrival, at, carried_out, fed, goes_on, new_link, refuses, refuses_bytes, turned_by, turns, with_opened}
 use Rattle.cx_rules.specs.Secured.{Keys, under}
 use Rattle.cx_rules.specs.Tickets.{issued_entry, issued_for, rotation_drawn, services_for}
 use Rattle.cx_rules.specs.Verdicts.{Entrant, Numbered, asking_for, entrant, handed_out, issues, issues_to, key_of, login_entries, numbered, numbers, rotates}
