@@ -1,6 +1,6 @@
 //! How a book keeps its sessions: by number, and by client cookie.
 
-ghost use Rattle.std.specs.Prelude.{◌≡◌, ◌≢◌, ◌≤◌, IfSome, None, Some, length};
+ghost use Rattle.std.specs.Prelude.{◌≡◌, ◌≢◌, ◌≤◌, IfSome, IfNone, IsSome, None, Some, length};
 ghost use Rattle.std.specs.Option.{option_copied, option_map};
 ghost use Rattle.cx_session.specs.Book.{empty_book, IsInOrder, with_number, with_client_cookie, with_cookies};
 
@@ -97,6 +97,7 @@ impl<O> SessionBook<O> {
     pub(crate) fn stale(&self, client_cookie: u64) -> Option<u64>
         ensures other { IfSome result (λ cookie. cookie ≢ client_cookie) }
         ensures free { IfSome result (λ cookie. with_client_cookie cookie self.now.book.live ≡ None) }
+        ensures none { IfNone result (IfSome self.now.room (λ cookie. cookie ≢ client_cookie → IsSome (with_client_cookie cookie self.now.book.live))) }
     {
         let reserved = self.room?;
         if reserved == client_cookie {

@@ -1,6 +1,6 @@
 //! The numbers of sessions by their client cookies.
 
-ghost use Rattle.std.specs.Prelude.{◌≡◌, ◌≢◌, ℕ, IsSome, IfSome, Some, OnOk};
+ghost use Rattle.std.specs.Prelude.{◌≡◌, ◌≢◌, ℕ, IsSome, IfSome, IfNone, Some, None, OnOk};
 ghost use Rattle.std.specs.BTreeMap.{get};
 ghost use Rattle.std.specs.Ordering.{nat_cmp};
 
@@ -38,7 +38,8 @@ pub(crate) fn note(numbers: &mut Numbers, client_cookie: u64, number: u64)
 
 // Gives up the place of this cookie, if of one.
 pub(crate) fn forget(numbers: &mut Numbers, client_cookie: Option<u64>)
-    ensures { (cookie : ℕ) → client_cookie ≢ Some cookie → get nat_cmp numbers.new cookie ≡ get nat_cmp numbers.old cookie }
+    ensures gone { IfSome client_cookie (λ cookie. get nat_cmp numbers.new cookie ≡ None) }
+    ensures others { (cookie : ℕ) → client_cookie ≢ Some cookie → get nat_cmp numbers.new cookie ≡ get nat_cmp numbers.old cookie }
 {
     if let Some(stale) = client_cookie {
         numbers.remove(&stale);
@@ -49,6 +50,7 @@ pub(crate) fn forget(numbers: &mut Numbers, client_cookie: Option<u64>)
 pub(crate) fn unless_reserved(client_cookie: u64, room: Option<u64>) -> Option<u64>
     ensures cookie { IfSome result (λ cookie. cookie ≡ client_cookie) }
     ensures other { IfSome result (λ cookie. room ≢ Some cookie) }
+    ensures none { IfNone result (room ≡ Some client_cookie) }
 {
     if room == Some(client_cookie) {
         return None;
