@@ -1,14 +1,14 @@
 //! Links in memory, whose events are a script, which tell all that they do, and fail where they are told to.
 
-ghost use Rattle.std.specs.Prelude.{ℕ, ◌≡◌, ◌+◌, ◌-◌, ◌^◌, ◌<◌, ◌≤◌, [], ◌∷◌, ◌++◌, length, take, drop, min, filter, not, false, true, vec_len, vec_capacity, IfOk, OnOk, OnErr, MatchResult, is_ok, MatchOption};
+ghost use Rattle.std.specs.Prelude.{◌≡◌, ◌+◌, ◌^◌, ◌<◌, ◌≤◌, [], ◌∷◌, ◌++◌, length, take, min, not, true, vec_len, vec_capacity, IfOk, OnOk, OnErr, MatchResult, is_ok};
 ghost use Rattle.std.specs.Result.{result_ok};
 ghost use Rattle.std.specs.VecDeque.{deque_len, deque_capacity};
 ghost use Rattle.cx_base.specs.Streams.{Counts, is_listed};
-ghost use Rattle.cx_links.specs.Acts.{LinkAct, Listened, Opened, Gave, Broke, Sent, Shut};
+ghost use Rattle.cx_links.specs.Acts.{Listened, Opened, Gave, Broke, Sent, Shut};
 ghost use Rattle.cx_links.specs.Events.{IsWithin, came};
 ghost use Rattle.cx_links.specs.Living.{lives, without};
 ghost use Rattle.cx_links.specs.Paths.{Path};
-ghost use Rattle.cx_links.specs.Scripts.{after_fault, after_listen, after_next, after_open, after_send, after_shut, behind_in, counted, event_next, fails_next, given, number_next, owed, piece, rest, scripted, takes_next, with_bytes, with_call, with_link};
+ghost use Rattle.cx_links.specs.Scripts.{after_fault, after_listen, after_next, after_open, after_send, after_shut, behind_in, counted, event_next, fails_next, number_next, owed, piece, rest, scripted, takes_next, with_bytes, with_call};
 
 use crate::events::{LinkCall, LinkEvent};
 use crate::links::Links;
