@@ -6,7 +6,7 @@ use std::alloc::Global;
 use std::process::Abort;
 
 /// Where an object is.
-struct Place {
+struct ObjectPlace {
     pool: &'static str,
     namespace: &'static str,
     object: &'static str,
@@ -15,7 +15,7 @@ struct Place {
 /// A capability text, and the letters of what it allows: read, write and exec.
 type Row = (&'static str, &'static str);
 
-static DISK: Place = Place {
+static DISK: ObjectPlace = ObjectPlace {
     pool: "rbd",
     namespace: "ns",
     object: "disk.1",
@@ -90,7 +90,7 @@ static DISK_ROWS: [Row; 61] = [
     ("allow command status", ""),
 ];
 
-static IMAGE: Place = Place {
+static IMAGE: ObjectPlace = ObjectPlace {
     pool: "images",
     namespace: "",
     object: "object_prefix",
@@ -113,7 +113,13 @@ fn text(rt: &impl Abort, alloc: Global, bytes: &[u8]) -> Text {
     Text::of(alloc, bytes).expect(rt, "ASCII")
 }
 
-fn operation(rt: &impl Abort, alloc: Global, access: Access, pool: &[u8], at: &Place) -> Operation {
+fn operation(
+    rt: &impl Abort,
+    alloc: Global,
+    access: Access,
+    pool: &[u8],
+    at: &ObjectPlace,
+) -> Operation {
     Operation {
         access,
         pool: text(rt, alloc, pool),
@@ -124,7 +130,7 @@ fn operation(rt: &impl Abort, alloc: Global, access: Access, pool: &[u8], at: &P
 }
 
 /// An operation on the object at this place.
-fn operation_at(rt: &impl Abort, alloc: Global, access: Access, at: &Place) -> Operation {
+fn operation_at(rt: &impl Abort, alloc: Global, access: Access, at: &ObjectPlace) -> Operation {
     operation(rt, alloc, access, at.pool.as_bytes(), at)
 }
 
@@ -152,20 +158,20 @@ fn is_right(
     row: &Row,
     access: Access,
     letter: char,
-    at: &Place,
+    at: &ObjectPlace,
 ) -> bool {
     let ask = operation_at(rt, alloc, access, at);
     allows(rt, alloc, row.0.as_bytes(), &ask) == has(row.1, letter)
 }
 
-fn is_row_right(rt: &impl Abort, alloc: Global, row: &Row, at: &Place) -> bool {
+fn is_row_right(rt: &impl Abort, alloc: Global, row: &Row, at: &ObjectPlace) -> bool {
     is_right(rt, alloc, row, Access::Read, 'r', at)
         && is_right(rt, alloc, row, Access::Write, 'w', at)
         && is_right(rt, alloc, row, Access::Exec, 'x', at)
 }
 
 /// Each row is right for the object at this place.
-fn expect_rows(rt: &impl Abort, alloc: Global, rows: &[Row], at: &Place) {
+fn expect_rows(rt: &impl Abort, alloc: Global, rows: &[Row], at: &ObjectPlace) {
     for row in rows {
         assert!(rt; is_row_right(rt, alloc, row, at), "{}", row.0);
     }
