@@ -21,4 +21,3 @@ fn handlers_are_sendable(handler: &Handler) {
 fn refusals_are_sendable(refusal: &ServeRefusal) {
     is_sendable(refusal);
 }
-
