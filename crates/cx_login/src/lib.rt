@@ -11,7 +11,7 @@ mod refusals;
 pub use client::{Asking, Challenged, LoggedIn};
 pub use held::{HeldTicket, held_tickets};
 pub use monitor::{Offered, Proved, Reclaim};
-pub use opening::tried_ticket;
+pub use opening::logged;
 pub use refusals::{LoginRefusal, WrongProof};
 
 // Each public type may be sent to another thread and shared with one.

@@ -1,42 +1,22 @@
 //! What comes of opening a sealed record: the record, or none where the bytes open to no spelling of it; and what opened, as an entry
 //! of the log.
 
-ghost use Rattle.std.specs.Prelude.{IfOk};
-ghost use Rattle.cx_sealed.specs.Records.{service_ticket_layout, ticket_info_layout, connection_secret_layout};
+ghost use Rattle.cx_sealed.specs.Records.{ticket_info_layout, connection_secret_layout};
 ghost use Rattle.cx_journal.specs.declared.premises.KeyKind.TheVariants.{Session};
-ghost use Rattle.cx_login.specs.Opening.{IsTried};
 ghost use Rattle.cx_login.specs.Unlocking.{unlocked_as, unlocked, old_under, Unlocks};
 
 use cx_base::Items;
 use cx_journal::KeyKind;
 use cx_sealed::{
-    ConnectionSecret, SealedRefusal, ServiceTicket, TicketInfo, Unsealed, open_service_ticket,
-    unseal_connection_secret, unseal_service_ticket, unseal_ticket_info,
+    ConnectionSecret, ServiceTicket, TicketInfo, Unsealed, unseal_connection_secret,
+    unseal_service_ticket, unseal_ticket_info,
 };
 use cx_steps::{SealEntry, SealMark};
 use std::alloc::{AllocError, Global};
 
-/// Tries to open a `ServiceTicket`.
-pub fn tried_ticket(
-    alloc: Global,
-    key: &[u8; 16],
-    sealed: &[u8],
-) -> Result<Option<ServiceTicket>, AllocError>
-    ensures { IfOk result (IsTried service_ticket_layout.form key.now sealed.now) }
-{
-    match open_service_ticket(alloc, key, sealed) {
-        Ok(ticket) => Ok(Some(ticket)),
-        Err(refusal) => match refusal {
-            SealedRefusal::Unopened => Ok(None),
-            SealedRefusal::Misread => Ok(None),
-            SealedRefusal::OutOfMemory => Err(AllocError),
-        },
-    }
-}
-
-// What was found in bytes that are sealed by this key: what opened is appended to the log, and its record is answered, where there
-// is one.
-fn logged<T: Drop>(
+/// What was found in bytes that are sealed by this key: what opened is appended to the log, and its record is answered, where there
+/// is one.
+pub fn logged<T: Drop>(
     alloc: Global,
     kind: KeyKind,
     key: &[u8; 16],

@@ -92,6 +92,12 @@ parts {X} form key bytes u is = by_opened (opened key bytes) refl is
           spells = ap (spelled_by form) (sym first) ∙ ap (λ (v : Unsealed X). v.value) (sym same);
         }
 
+-- the bytes open to the record that was found
+pub unsealed_found : {X : Type 0} (form : Form X) → IsLawful form → (key bytes : List ℕ) (u : Unsealed X) (x : X) → Some u ≡ unsealed form key bytes → u.value ≡ Some x → OpensTo form key bytes x
+unsealed_found form lawful key bytes u x is value =
+    let p : AreParts form key bytes u = parts form key bytes u is in
+    (u.content, p.opens, spelled_found form lawful u.content x p.opens.octets (p.spells ∙ value))
+
 -- where the content spells no record
 pub is_misread : {X : Type 0} (form : Form X) → IsLawful form → (key bytes : List ℕ) → IsBlock key → (u : Unsealed X) → Some u ≡ unsealed form key bytes → u.value ≡ None → IsOpened form key bytes (Err Misread)
 is_misread {X} form lawful key bytes block u is value = record {
