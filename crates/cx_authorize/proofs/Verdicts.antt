@@ -1,6 +1,6 @@
 -- There is one verdict on an authorizer.
-use Rattle.std.proofs.Common.{◌≡◌, ◌⊎◌, ℕ, Bool, true, false, List, Option, Some, None, Result, Ok, Err, sym, ap, subst, ◌∙◌, inl, inr}
-use Rattle.std.specs.Prelude.{MatchBool, IfErr}
+use Rattle.std.proofs.Common.{◌≡◌, ℕ, Bool, true, false, List, Option, Some, None, Result, Err, sym, ap, subst, ◌∙◌, inl, inr}
+use Rattle.std.specs.Prelude.{MatchBool}
 use Rattle.cx_base.specs.Names.{same_kind}
 use Rattle.cx_sealed.specs.Records.{service_ticket_layout, authorize_layout}
 use Rattle.cx_sealed.specs.declared.service_ticket.ServiceTicket.{ServiceTicket}
@@ -11,7 +11,7 @@ use Rattle.cx_login.specs.Opening.{generation_key}
 use Rattle.cx_login.proofs.Tried.{tried_one, spells_one}
 use Rattle.cx_authorize.specs.declared.refusals.AuthFault.{AuthFault}
 use Rattle.cx_authorize.specs.declared.refusals.AuthRefusal.{AuthRefusal}
-use Rattle.cx_authorize.specs.declared.refusals.AuthRefusal.TheVariants.{Malformed, WrongService, OutOfMemory}
+use Rattle.cx_authorize.specs.declared.refusals.AuthRefusal.TheVariants.{Malformed, WrongService}
 use Rattle.cx_authorize.specs.declared.judging.Terms.{Terms}
 use Rattle.cx_authorize.specs.declared.judging.Shown.{Shown}
 use Rattle.cx_authorize.specs.Verdict.{answering, fault_of, with_blob, IsJudgedByFault, IsJudgedByTicket, IsJudgedByKey, IsJudgedByService, IsVerdict}
@@ -67,22 +67,3 @@ verdict_one terms payload v w (inr (place, refused, is)) (inl (a, spells, judged
 verdict_one terms payload v w (inr (place, refused, is)) (inr (other, told, same)) =
     let one : place ≡ other = refused.1 ∙ sym told.1 in
     is ∙ ap malformed one ∙ sym same
-
-abbrev passes : Shown → Result Shown AuthRefusal
-passes shown = Ok shown
-
-abbrev refuses : AuthRefusal → Result Shown AuthRefusal
-refuses why = Err why
-
--- what passes isn't refused
-no_refusal : (shown : Shown) (why : AuthRefusal) → passes shown ≡ refuses why → ⊥
-no_refusal shown why e = cc
-
-memory_alone : (terms : Terms) (payload : List ℕ) (shown : Shown) (why : AuthRefusal) → IsVerdict terms payload (Ok shown) → (why ≡ OutOfMemory) ⊎ IsVerdict terms payload (Err why) → why ≡ OutOfMemory
-memory_alone terms payload shown why passed (inl memory) = memory
-memory_alone terms payload shown why passed (inr refused) = absurd (no_refusal shown why (verdict_one terms payload (Ok shown) (Err why) passed refused))
-
-pub refused_only : {A : Type 0} (terms : Terms) (payload : List ℕ) (result : Result A AuthRefusal) → IfErr result (λ why. (why ≡ OutOfMemory) ⊎ IsVerdict terms payload (Err why))
-    → (shown : Shown) → IsVerdict terms payload (Ok shown) → IfErr result (λ why. why ≡ OutOfMemory)
-refused_only terms payload (Ok a) refused shown passed = tt
-refused_only terms payload (Err why) refused shown passed = memory_alone terms payload shown why passed refused

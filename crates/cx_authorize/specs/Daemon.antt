@@ -1,17 +1,13 @@
 -- The daemon's side of an authorizer ("detailed cephx protocol": the daemon challenges the first authorizer, and answers the second).
-use Rattle.std.specs.Prelude.{ℕ, ◌≡◌, ◌<◌, ◌⊎◌, List, Some, Result, Ok, Err, IfOk, IfErr}
+use Rattle.std.specs.Prelude.{ℕ, ◌≡◌, ◌<◌, List, Some}
 use Rattle.cx_base.specs.declared.kinds.EntityType.{EntityType}
 use Rattle.cx_rotate.specs.declared.views.View.{View}
 use Rattle.cx_sealed.specs.Records.{service_ticket_layout}
 use Rattle.cx_sealed.specs.Sealing.{OpensTo}
 use Rattle.cx_sealed.specs.declared.service_ticket.ServiceTicket.{ServiceTicket}
 use Rattle.cx_login.specs.Opening.{generation_key}
-use Rattle.cx_authorize.specs.Verdict.{IsVerdict}
 use Rattle.cx_authorize.specs.Answers.{IsChallenge, IsReply}
-use Rattle.cx_authorize.specs.declared.judging.Terms.{Terms}
 use Rattle.cx_authorize.specs.declared.judging.Shown.{Shown}
-use Rattle.cx_authorize.specs.declared.refusals.AuthRefusal.{AuthRefusal}
-use Rattle.cx_authorize.specs.declared.refusals.AuthRefusal.TheVariants.{OutOfMemory}
 
 -- a daemon of this service that awaits the answer to its challenge
 pub record Awaited : Type 0 where
@@ -32,12 +28,6 @@ pub record IsLive (view : View) (at : ℕ) (ticket : ServiceTicket) : Type 0 whe
   pub known : generation_key view.generations id ≡ Some key
   pub opened : OpensTo service_ticket_layout.form key blob ticket
   pub live : at < ticket.expires
-
--- An authorizer that is judged by these terms: it passes with what it has shown, or is refused by the verdict or for want of memory.
-pub record IsChecked {A : Type 0} (terms : Terms) (payload : List ℕ) (Passes : Shown → A → Type 0) (result : Result A AuthRefusal) : Type 0 where
-  pub passed : IfOk result (λ made. (shown : Shown) × IsVerdict terms payload (Ok shown) × Passes shown made)
-  pub refused : IfErr result (λ why. (why ≡ OutOfMemory) ⊎ IsVerdict terms payload (Err why))
-  pub only : (shown : Shown) → IsVerdict terms payload (Ok shown) → IfErr result (λ why. why ≡ OutOfMemory)
 
 -- the first authorizer is answered by the daemon's challenge, under the ticket's session key
 abbrev pub IsChallenged : EntityType → ℕ → Shown → Awaited × List ℕ → Type 0

@@ -2,4 +2,5 @@ pub mod Agreement
 pub mod Answers
 pub mod Client
 pub mod Daemon
+pub mod Judging
 pub mod Verdict

@@ -5,12 +5,13 @@ ghost use Rattle.cx_authorize.specs.Answers.{shown_as};
 ghost use Rattle.cx_authorize.specs.Client.{Presents, IsAnswered, IsAgreed};
 
 use crate::judging::raised;
-use crate::opening::{tried_challenge, tried_reply};
+use crate::opening::{opened_challenge, opened_reply};
 use crate::refusals::PresentRefusal;
 use crate::sealing::authorizer_bytes;
-use cx_base::{Blob, Duplicate};
+use cx_base::{Blob, Duplicate, Items};
 use cx_login::HeldTicket;
 use cx_sealed::Authorize;
+use cx_steps::SealEntry;
 use cx_wire::{WireRefusal, read_authorize_challenge, read_authorize_reply};
 use std::alloc::{AllocError, Global};
 use std::marker::Model;
@@ -46,15 +47,17 @@ impl Presenting {
         Ok((Presenting { held, gid, nonce }, bytes))
     }
 
-    /// Answers the AuthorizeChallenge of this payload by the bytes of the second authorizer.
+    /// Answers the AuthorizeChallenge of this payload by the bytes of the second authorizer. What opened is appended to the log,
+    /// also where the challenge is refused.
     pub fn challenged(
         self,
         alloc: Global,
         payload: &[u8],
+        log: &mut Items<SealEntry>,
     ) -> Result<(Answering, Blob), PresentRefusal>
-        ensures { IsAnswered self payload.now result }
+        ensures { IsAnswered self payload.now log.old log.new result }
     {
-        answer(alloc, &self.held, self.gid, self.nonce, payload)
+        answer(alloc, &self.held, self.gid, self.nonce, payload, log)
     }
 }
 
@@ -65,8 +68,9 @@ fn answer(
     gid: u64,
     nonce: u64,
     payload: &[u8],
+    log: &mut Items<SealEntry>,
 ) -> Result<(Answering, Blob), PresentRefusal>
-    ensures { IsAnswered (record { held = held.now; gid = gid; nonce = nonce }) payload.now result }
+    ensures { IsAnswered (record { held = held.now; gid = gid; nonce = nonce }) payload.now log.old log.new result }
 {
     let sent = match read_authorize_challenge(alloc, payload) {
         Ok(sent) => sent,
@@ -74,7 +78,7 @@ fn answer(
         Err(WireRefusal::OutOfMemory) => return Err(PresentRefusal::OutOfMemory),
     };
     let session = held.session;
-    let Some(asked) = tried_challenge(alloc, &session, sent.sealed.bytes())? else {
+    let Some(asked) = opened_challenge(alloc, &session, sent.sealed.bytes(), log)? else {
         return Err(PresentRefusal::Unopened);
     };
     let shown = shown_again(nonce, asked.challenge);
@@ -129,11 +133,16 @@ pub struct Agreed {
 }
 
 impl Answering {
-    /// Opens the AuthorizeReply of this payload.
-    pub fn done(self, alloc: Global, payload: &[u8]) -> Result<Agreed, PresentRefusal>
-        ensures { IsAgreed self payload.now result }
+    /// Opens the AuthorizeReply of this payload. What opened is appended to the log, also where the reply is refused.
+    pub fn done(
+        self,
+        alloc: Global,
+        payload: &[u8],
+        log: &mut Items<SealEntry>,
+    ) -> Result<Agreed, PresentRefusal>
+        ensures { IsAgreed self payload.now log.old log.new result }
     {
-        agree(alloc, &self.session, self.nonce, payload)
+        agree(alloc, &self.session, self.nonce, payload, log)
     }
 }
 
@@ -143,15 +152,16 @@ fn agree(
     session: &[u8; 16],
     nonce: u64,
     payload: &[u8],
+    log: &mut Items<SealEntry>,
 ) -> Result<Agreed, PresentRefusal>
-    ensures { IsAgreed (record { session = session.now; nonce = nonce }) payload.now result }
+    ensures { IsAgreed (record { session = session.now; nonce = nonce }) payload.now log.old log.new result }
 {
     let sent = match read_authorize_reply(alloc, payload) {
         Ok(sent) => sent,
         Err(WireRefusal::Malformed(place)) => return Err(PresentRefusal::Malformed(place)),
         Err(WireRefusal::OutOfMemory) => return Err(PresentRefusal::OutOfMemory),
     };
-    let Some(reply) = tried_reply(alloc, session, sent.sealed.bytes())? else {
+    let Some(reply) = opened_reply(alloc, session, sent.sealed.bytes(), log)? else {
         return Err(PresentRefusal::Unopened);
     };
     let expected = raised(nonce);

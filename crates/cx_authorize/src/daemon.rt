@@ -1,14 +1,16 @@
 //! The daemon's side of an authorizer.
 
-ghost use Rattle.std.specs.Prelude.{◌≡◌, Some, None};
-ghost use Rattle.cx_authorize.specs.Daemon.{IsChecked, IsChallenged, IsAdmitted};
+ghost use Rattle.std.specs.Prelude.{◌≡◌};
+ghost use Rattle.cx_authorize.specs.Daemon.{IsChallenged, IsAdmitted};
+ghost use Rattle.cx_authorize.specs.Judging.{judged, judged_first, judged_second, IsChecked};
 
 use crate::authorized::Authorized;
 use crate::judging::{Terms, judge};
 use crate::refusals::AuthRefusal;
 use crate::sealing::{challenge_bytes, reply_bytes};
-use cx_base::{Blob, EntityType, Reading};
+use cx_base::{Blob, EntityType, Items, Reading};
 use cx_rotate::View;
+use cx_steps::SealEntry;
 use std::alloc::Global;
 use std::marker::Model;
 
@@ -33,7 +35,8 @@ impl First {
         First { service }
     }
 
-    /// Judges the authorizer of this payload, and answers it by this challenge.
+    /// Judges the authorizer of this payload, and answers it by this challenge. What opened is appended to the log, also where the
+    /// authorizer is refused.
     pub fn check(
         self,
         alloc: Global,
@@ -41,8 +44,9 @@ impl First {
         view: &View,
         now: Reading,
         challenge: u64,
+        log: &mut Items<SealEntry>,
     ) -> Result<(Awaiting, Blob), AuthRefusal>
-        ensures { IsChecked (record { service = self; challenge = None; view = view.now; reading = now }) payload.now (IsChallenged self challenge) result }
+        ensures { IsChecked (judged_first self view.now now payload.now) (IsChallenged self challenge) log.old log.new result }
     {
         let terms = Terms {
             service: self.service,
@@ -50,7 +54,7 @@ impl First {
             view: *view,
             reading: now,
         };
-        check_first(alloc, &terms, payload, challenge)
+        check_first(alloc, &terms, payload, challenge, log)
     }
 }
 
@@ -59,11 +63,12 @@ fn check_first(
     terms: &Terms,
     payload: &[u8],
     challenge: u64,
+    log: &mut Items<SealEntry>,
 ) -> Result<(Awaiting, Blob), AuthRefusal>
-    ensures { IsChecked terms.now payload.now (IsChallenged terms.now.service challenge) result }
+    ensures { IsChecked (judged terms.now payload.now) (IsChallenged terms.now.service challenge) log.old log.new result }
 {
     let service = terms.service;
-    match judge(alloc, terms, payload)? {
+    match judge(alloc, terms, payload, log)? {
         Ok(shown) => {
             let bytes = challenge_bytes(alloc, &shown.ticket.session, challenge)?;
             Ok((Awaiting { service, challenge }, bytes))
@@ -89,6 +94,7 @@ impl Model for Awaiting {
 
 impl Awaiting {
     /// Judges the authorizer of this payload, which has to answer the challenge, and answers it by this secret of the connection.
+    /// What opened is appended to the log, also where the authorizer is refused.
     pub fn check(
         self,
         alloc: Global,
@@ -96,8 +102,9 @@ impl Awaiting {
         view: &View,
         now: Reading,
         secret: &[u8; 64],
+        log: &mut Items<SealEntry>,
     ) -> Result<(Authorized, Blob), AuthRefusal>
-        ensures { IsChecked (record { service = self.service; challenge = Some self.challenge; view = view.now; reading = now }) payload.now (IsAdmitted view.now now secret.now) result }
+        ensures { IsChecked (judged_second self view.now now payload.now) (IsAdmitted view.now now secret.now) log.old log.new result }
     {
         let terms = Terms {
             service: self.service,
@@ -105,7 +112,7 @@ impl Awaiting {
             view: *view,
             reading: now,
         };
-        check_second(alloc, &terms, payload, secret)
+        check_second(alloc, &terms, payload, secret, log)
     }
 }
 
@@ -114,10 +121,11 @@ fn check_second(
     terms: &Terms,
     payload: &[u8],
     secret: &[u8; 64],
+    log: &mut Items<SealEntry>,
 ) -> Result<(Authorized, Blob), AuthRefusal>
-    ensures { IsChecked terms.now payload.now (IsAdmitted terms.now.view terms.now.reading secret.now) result }
+    ensures { IsChecked (judged terms.now payload.now) (IsAdmitted terms.now.view terms.now.reading secret.now) log.old log.new result }
 {
-    match judge(alloc, terms, payload)? {
+    match judge(alloc, terms, payload, log)? {
         Ok(shown) => {
             let session = shown.ticket.session;
             let bytes = reply_bytes(alloc, &session, shown.authorize.nonce, secret)?;

@@ -1,14 +1,15 @@
 //! How a daemon judges an authorizer: one chain of refusals, for the first and for the second.
 
-ghost use Rattle.std.specs.Prelude.{◌≡◌, IfOk};
-ghost use Rattle.cx_authorize.specs.Verdict.{raised, answering, fault_of, IsJudgedByTicket, IsJudgedByKey, IsJudgedByService, IsVerdict};
+ghost use Rattle.std.specs.Prelude.{◌≡◌};
+ghost use Rattle.cx_authorize.specs.Verdict.{raised, answering, fault_of};
+ghost use Rattle.cx_authorize.specs.Judging.{judged, judged_by_service, judged_by_key, judged_by_ticket, Judges};
 
-use crate::opening::tried_authorize;
+use crate::opening::{opened_authorize, opened_ticket};
 use crate::refusals::{AuthFault, AuthRefusal};
-use cx_base::{EntityType, Reading};
-use cx_login::tried_ticket;
+use cx_base::{EntityType, Items, Reading};
 use cx_rotate::View;
 use cx_sealed::{Authorize, ServiceTicket};
+use cx_steps::SealEntry;
 use cx_wire::{Authorizer, WireRefusal, read_authorizer};
 use std::alloc::{AllocError, Global};
 
@@ -29,16 +30,17 @@ pub(crate) struct Shown {
     pub(crate) authorize: Authorize,
 }
 
-// The verdict on the authorizer of this payload.
+// The verdict on the authorizer of this payload. What opens on the way is appended to the log.
 pub(crate) fn judge(
     alloc: Global,
     terms: &Terms,
     payload: &[u8],
+    log: &mut Items<SealEntry>,
 ) -> Result<Result<Shown, AuthRefusal>, AllocError>
-    ensures { IfOk result (IsVerdict terms.now payload.now) }
+    ensures { Judges (judged terms.now payload.now) log.old log.new result }
 {
     match read_authorizer(alloc, payload) {
-        Ok(authorizer) => judge_service(alloc, terms, authorizer),
+        Ok(authorizer) => judge_service(alloc, terms, authorizer, log),
         Err(WireRefusal::Malformed(place)) => Ok(Err(AuthRefusal::Malformed(place))),
         Err(WireRefusal::OutOfMemory) => Err(AllocError),
     }
@@ -48,8 +50,9 @@ fn judge_service(
     alloc: Global,
     terms: &Terms,
     authorizer: Authorizer,
+    log: &mut Items<SealEntry>,
 ) -> Result<Result<Shown, AuthRefusal>, AllocError>
-    ensures { IfOk result (IsJudgedByService terms.now authorizer) }
+    ensures { Judges (judged_by_service terms.now authorizer) log.old log.new result }
 {
     if !terms.service.is(authorizer.service) {
         return Ok(Err(AuthRefusal::WrongService {
@@ -58,7 +61,7 @@ fn judge_service(
         }));
     }
     let key = terms.view.generations.find(authorizer.ticket.generation);
-    match judge_by_key(alloc, terms, &authorizer, key)? {
+    match judge_by_key(alloc, terms, &authorizer, key, log)? {
         Ok(shown) => Ok(Ok(shown)),
         Err(fault) => Ok(Err(AuthRefusal::Ticket {
             fault,
@@ -73,15 +76,16 @@ fn judge_by_key(
     terms: &Terms,
     authorizer: &Authorizer,
     key: Option<[u8; 16]>,
+    log: &mut Items<SealEntry>,
 ) -> Result<Result<Shown, AuthFault>, AllocError>
-    ensures { IfOk result (IsJudgedByKey terms.now authorizer.now key) }
+    ensures { Judges (judged_by_key terms.now authorizer.now key) log.old log.new result }
 {
     let id = authorizer.ticket.generation;
     let Some(key) = key else {
         return Ok(Err(AuthFault::UnknownGeneration { id }));
     };
-    let ticket = tried_ticket(alloc, &key, authorizer.ticket.blob.bytes())?;
-    judge_by_ticket(alloc, terms, authorizer, ticket)
+    let ticket = opened_ticket(alloc, &key, authorizer.ticket.blob.bytes(), log)?;
+    judge_by_ticket(alloc, terms, authorizer, ticket, log)
 }
 
 // By the ticket to which the blob opened.
@@ -90,8 +94,9 @@ fn judge_by_ticket(
     terms: &Terms,
     authorizer: &Authorizer,
     ticket: Option<ServiceTicket>,
+    log: &mut Items<SealEntry>,
 ) -> Result<Result<Shown, AuthFault>, AllocError>
-    ensures { IfOk result (IsJudgedByTicket terms.now authorizer.now ticket) }
+    ensures { Judges (judged_by_ticket terms.now authorizer.now ticket) log.old log.new result }
 {
     let Some(ticket) = ticket else {
         let id = authorizer.ticket.generation;
@@ -100,7 +105,7 @@ fn judge_by_ticket(
     if let Some(fault) = fault_of(terms.reading, authorizer, &ticket) {
         return Ok(Err(fault));
     }
-    let opened = tried_authorize(alloc, &ticket.session, authorizer.authorize.bytes())?;
+    let opened = opened_authorize(alloc, &ticket.session, authorizer.authorize.bytes(), log)?;
     Ok(answering(terms.challenge, ticket, opened))
 }
 

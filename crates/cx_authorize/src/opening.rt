@@ -1,65 +1,67 @@
-//! What comes of opening the records of an authorizer.
+//! Opening the records of an authorizer: what opens is appended to the log, and its record is answered, where there is one.
 
-ghost use Rattle.std.specs.Prelude.{IfOk};
-ghost use Rattle.cx_sealed.specs.Records.{authorize_layout, authorize_challenge_layout, authorize_reply_layout};
-ghost use Rattle.cx_login.specs.Opening.{IsTried};
+ghost use Rattle.cx_journal.specs.declared.premises.KeyKind.TheVariants.{Service, Session};
+ghost use Rattle.cx_sealed.specs.Records.{service_ticket_layout, authorize_layout, authorize_challenge_layout, authorize_reply_layout};
+ghost use Rattle.cx_login.specs.Unlocking.{unlocked, Unlocks};
 
+use cx_base::Items;
+use cx_journal::KeyKind;
+use cx_login::logged;
 use cx_sealed::{
-    Authorize, AuthorizeChallenge, AuthorizeReply, SealedRefusal, open_authorize,
-    open_authorize_challenge, open_authorize_reply,
+    Authorize, AuthorizeChallenge, AuthorizeReply, ServiceTicket, unseal_authorize,
+    unseal_authorize_challenge, unseal_authorize_reply, unseal_service_ticket,
 };
+use cx_steps::SealEntry;
 use std::alloc::{AllocError, Global};
 
-// Tries to open an `Authorize`.
-pub(crate) fn tried_authorize(
+// The `ServiceTicket` that these bytes open to under a generation of a service.
+pub(crate) fn opened_ticket(
     alloc: Global,
     key: &[u8; 16],
     sealed: &[u8],
+    log: &mut Items<SealEntry>,
+) -> Result<Option<ServiceTicket>, AllocError>
+    ensures { Unlocks (unlocked service_ticket_layout.form Service key.now sealed.now) log.old log.new result }
+{
+    let found = unseal_service_ticket(alloc, key, sealed)?;
+    logged(alloc, KeyKind::Service, key, found, log)
+}
+
+// The `Authorize` that these bytes open to under a session key.
+pub(crate) fn opened_authorize(
+    alloc: Global,
+    key: &[u8; 16],
+    sealed: &[u8],
+    log: &mut Items<SealEntry>,
 ) -> Result<Option<Authorize>, AllocError>
-    ensures { IfOk result (IsTried authorize_layout.form key.now sealed.now) }
+    ensures { Unlocks (unlocked authorize_layout.form Session key.now sealed.now) log.old log.new result }
 {
-    match open_authorize(alloc, key, sealed) {
-        Ok(authorize) => Ok(Some(authorize)),
-        Err(refusal) => match refusal {
-            SealedRefusal::Unopened => Ok(None),
-            SealedRefusal::Misread => Ok(None),
-            SealedRefusal::OutOfMemory => Err(AllocError),
-        },
-    }
+    let found = unseal_authorize(alloc, key, sealed)?;
+    logged(alloc, KeyKind::Session, key, found, log)
 }
 
-// Tries to open an `AuthorizeChallenge`.
-pub(crate) fn tried_challenge(
+// The `AuthorizeChallenge` that these bytes open to under a session key.
+pub(crate) fn opened_challenge(
     alloc: Global,
     key: &[u8; 16],
     sealed: &[u8],
+    log: &mut Items<SealEntry>,
 ) -> Result<Option<AuthorizeChallenge>, AllocError>
-    ensures { IfOk result (IsTried authorize_challenge_layout.form key.now sealed.now) }
+    ensures { Unlocks (unlocked authorize_challenge_layout.form Session key.now sealed.now) log.old log.new result }
 {
-    match open_authorize_challenge(alloc, key, sealed) {
-        Ok(challenge) => Ok(Some(challenge)),
-        Err(refusal) => match refusal {
-            SealedRefusal::Unopened => Ok(None),
-            SealedRefusal::Misread => Ok(None),
-            SealedRefusal::OutOfMemory => Err(AllocError),
-        },
-    }
+    let found = unseal_authorize_challenge(alloc, key, sealed)?;
+    logged(alloc, KeyKind::Session, key, found, log)
 }
 
-// Tries to open an `AuthorizeReply`.
-pub(crate) fn tried_reply(
+// The `AuthorizeReply` that these bytes open to under a session key.
+pub(crate) fn opened_reply(
     alloc: Global,
     key: &[u8; 16],
     sealed: &[u8],
+    log: &mut Items<SealEntry>,
 ) -> Result<Option<AuthorizeReply>, AllocError>
-    ensures { IfOk result (IsTried authorize_reply_layout.form key.now sealed.now) }
+    ensures { Unlocks (unlocked authorize_reply_layout.form Session key.now sealed.now) log.old log.new result }
 {
-    match open_authorize_reply(alloc, key, sealed) {
-        Ok(reply) => Ok(Some(reply)),
-        Err(refusal) => match refusal {
-            SealedRefusal::Unopened => Ok(None),
-            SealedRefusal::Misread => Ok(None),
-            SealedRefusal::OutOfMemory => Err(AllocError),
-        },
-    }
+    let found = unseal_authorize_reply(alloc, key, sealed)?;
+    logged(alloc, KeyKind::Session, key, found, log)
 }

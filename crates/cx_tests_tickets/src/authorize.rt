@@ -4,9 +4,10 @@ use cx_authorize::{
     Agreed, Answering, AuthFault, AuthRefusal, Authorized, Awaiting, First, PresentRefusal,
     Presenting, View, authorizer_laws,
 };
-use cx_base::{Blob, Duplicate, EntityType, Owner, Reading};
+use cx_base::{Blob, Duplicate, EntityType, Items, Owner, Reading};
 use cx_login::HeldTicket;
 use cx_rotate::{Generation, Generations};
+use cx_steps::SealEntry;
 use hex::FromHex;
 use std::alloc::Global;
 use std::process::Abort;
@@ -78,6 +79,11 @@ fn secret(rt: &impl Abort, digits: &str) -> [u8; 64] {
     <[u8; 64] as FromHex>::from_hex(digits).expect(rt, "64 bytes")
 }
 
+/// A log in which nothing has opened so far.
+fn log(alloc: Global) -> Items<SealEntry> {
+    Items::new(alloc)
+}
+
 // ---- the daemon
 
 fn generation(id: u64, key: &[u8; 16]) -> Generation {
@@ -113,7 +119,7 @@ fn first(
     now: Reading,
     challenge: u64,
 ) -> Result<(Awaiting, Blob), AuthRefusal> {
-    First::new(EntityType::Osd).check(alloc, payload, view, now, challenge)
+    First::new(EntityType::Osd).check(alloc, payload, view, now, challenge, &mut log(alloc))
 }
 
 /// A daemon that drew this challenge and awaits the second authorizer of the run, and its answer to the first.
@@ -130,7 +136,7 @@ fn judged(
     view: &View,
     secret: &[u8; 64],
 ) -> Result<(Authorized, Blob), AuthRefusal> {
-    awaiting.check(alloc, payload, view, EXPIRY - 1, secret)
+    awaiting.check(alloc, payload, view, EXPIRY - 1, secret, &mut log(alloc))
 }
 
 /// What a daemon that drew this challenge answers the second authorizer of the run.
@@ -279,7 +285,7 @@ fn answering(rt: &impl Abort, alloc: Global, nonce: u64) -> (Answering, Blob) {
     let challenge = decoded(rt, alloc, CHALLENGE);
     let (presenting, _) = presenting(rt, alloc, nonce);
     presenting
-        .challenged(alloc, &challenge)
+        .challenged(alloc, &challenge, &mut log(alloc))
         .expect(rt, "the challenge is that of the run")
 }
 
@@ -291,7 +297,7 @@ fn a_client_shows_its_ticket_as_in_the_run(rt: HostRuntime) {
 
 /// What a client does with the daemon's reply.
 fn done(rt: &impl Abort, alloc: Global, answering: Answering) -> Result<Agreed, PresentRefusal> {
-    answering.done(alloc, &decoded(rt, alloc, REPLY))
+    answering.done(alloc, &decoded(rt, alloc, REPLY), &mut log(alloc))
 }
 
 /// Whether a client agrees with the daemon on what both agreed on in the run.
