@@ -4,7 +4,7 @@ use crate::answered::{Answered, Refused, spelled};
 use crate::bounds::is_short;
 use crate::shown::{Hex, Numbers, ShownAddr, Ticket};
 use cx_base::{Addr, Blob, EntityName, EntityType, Items};
-use cx_enc::{Key, TicketBlob, Time, read_whole, read_whole_in_place};
+use cx_enc::{Key, TicketBlob, Time, read_whole, read_whole_in_place, write_whole};
 use std::alloc::Global;
 
 /// What bytes of the kind of this name mean.

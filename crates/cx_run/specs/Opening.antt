@@ -17,7 +17,6 @@ use Rattle.cx_lines.specs.declared.settings.Setting.TheVariants as setting
 use Rattle.cx_line_words.specs.declared.choices.Modes.{Modes}
 use Rattle.cx_line_words.specs.declared.choices.Modes.TheVariants.{Crc, Secure, Both}
 use Rattle.cx_base.specs.declared.nodes.NodeName.{NodeName}
-use Rattle.cx_base.specs.declared.nodes.NodeName.TheVariants as place
 use Rattle.cx_rotate.specs.declared.states.KeptState.{KeptState}
 use Rattle.cx_rules.specs.ClientRule.{ClientNode, opening_client}
 use Rattle.cx_rules.specs.Holdings.{Asker, holds_nothing, modes_of}
@@ -63,8 +62,8 @@ abbrev pub changed : Name → (Declared → Declared) → Setup → Setup
 changed name change setup = record setup { entities = map (λ e. if same_name e.name name then change e else e) setup.entities }
 
 abbrev pub seeded : NodeName → ℕ → Setup → Setup
-seeded place.Monitor seed setup = record setup { monitor_seed = seed }
-seeded (place.Entity name) seed setup = changed name (λ e. record e { seed = Some seed }) setup
+seeded node.Monitor seed setup = record setup { monitor_seed = seed }
+seeded (node.Entity name) seed setup = changed name (λ e. record e { seed = Some seed }) setup
 
 abbrev pub declared : ℕ → Name → List Grant → Setup → Setup
 declared number name grants setup = record setup {
