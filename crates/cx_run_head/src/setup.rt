@@ -6,7 +6,7 @@ ghost use Rattle.cx_keyring.specs.Entries.{are_grants, is_named};
 ghost use Rattle.cx_base.specs.declared.nodes.NodeName.TheVariants as place;
 ghost use Rattle.cx_run.specs.Opening.{changed, declared, plain_setup, principal_of, seeded, set_up_by, set_up_line};
 ghost use Rattle.cx_run.specs.Runs.{setup_of};
-ghost use Rattle.cx_run_head.specs.Beginning.{CanBegin, IsSchedule, MayFollow, MaySay, caps_of};
+ghost use Rattle.cx_run_head.specs.Beginning.{CanBegin, IsSchedule, MayFollow, MaySay};
 
 use crate::declared::Declared;
 use crate::leaks::Leak;
@@ -133,7 +133,7 @@ impl Setup {
         grants: &Items<Grant>,
     ) -> Result<(), AllocError>
         requires fresh { list_any (is_named name.now) (map principal_of self.old.entities) ≡ false }
-        requires granted { IsTrue (are_grants (caps_of grants.now)) }
+        requires granted { IsTrue (are_grants grants.now) }
         requires few { length self.old.entities < 20000 }
         ensures { OnOk result (self.new ≡ declared line name.now grants.now self.old) }
     {

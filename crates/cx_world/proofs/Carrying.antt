@@ -13,8 +13,9 @@ use Rattle.cx_run.specs.Wires.{Wire, ended, gone_at, has_end, new_wire, other, o
 use Rattle.cx_run.specs.Worlds.{World, node_of}
 use Rattle.cx_steps.specs.declared.events.Peer.{Peer}
 use Rattle.cx_run_links.specs.Ends.{arriving}
-use Rattle.cx_run_links.specs.Tables.{changed_in, owed, taken_from, taken_on, with_changed}
+use Rattle.cx_run_links.specs.Tables.{changed_in, taken_from, taken_on, with_changed}
 use Rattle.cx_world.proofs.Changing.{wired}
+use Rattle.cx_world.specs.Arriving.{owed_on}
 use Rattle.cx_world.specs.Carried.{Began, Carries, Makes}
 use Rattle.cx_world.specs.Ends.{arrives_end, end_seen, gone_arriving, tells_end}
 use Rattle.cx_world.specs.Events.{far_seen, opens_to, vanished_at}
@@ -132,12 +133,12 @@ module _ (b : Began) (seen : Option ℕ) (old : Held) (w : World) (k : Carries b
         by None fe we be = absurd (none-some far (sym fe))
         by (Some wire) fe we be = on wire (pieces_from wire side) (same_Some far (end_seen wire (other side)) fe) we be
 
-    pub none_carried : (is_owed : Bool) → is_owed ≡ owed side (wire_of number old.wires) → None ≡ arriving n (under_way side (wire_of number old.wires))
+    pub none_carried : (is_owed : Bool) → is_owed ≡ owed_on side (wire_of number old.wires) → None ≡ arriving n (under_way side (wire_of number old.wires))
         → Makes (with_links old ws) last (λ v. gone_arriving is_owed number side far v) → Carries b seen last (delivers w number side n)
     none_carried is_owed oe be makes =
         by (wire_of number w.wires) refl (fe ∙ ap (λ (xs : List Wire). option_map (λ (wire : Wire). end_seen wire (other side)) (wire_of number xs)) k.wires)
         (we ∙ ap (λ (xs : List Wire). taken_on side n xs (wire_of number xs)) k.wires) (be ∙ ap (λ (xs : List Wire). arriving n (under_way side (wire_of number xs))) k.wires)
-        (oe ∙ ap (λ (xs : List Wire). owed side (wire_of number xs)) k.wires)
+        (oe ∙ ap (λ (xs : List Wire). owed_on side (wire_of number xs)) k.wires)
       where
         owes : (wire : Wire) → wire_of number w.wires ≡ Some wire → far ≡ end_seen wire (other side) → (test : Bool) → Carries b seen last (gone_arriving test number side far w)
             → Carries b seen last (if test then tells_end (linked w (with_wire w.wires (gone_at wire (other side)))) (end_seen wire (other side)) else w)
@@ -155,6 +156,6 @@ module _ (b : Began) (seen : Option ℕ) (old : Held) (w : World) (k : Carries b
             subst P oe (owes wire e f is_owed (makes b seen (linked w w.wires) (wired b seen old w k ws w.wires we)))
 
         by : (found : Option Wire) → wire_of number w.wires ≡ found → Some far ≡ option_map (λ (wire : Wire). end_seen wire (other side)) found → ws ≡ taken_on side n w.wires found
-            → None ≡ arriving n (under_way side found) → is_owed ≡ owed side found → Carries b seen last (delivers_on w side n found)
+            → None ≡ arriving n (under_way side found) → is_owed ≡ owed_on side found → Carries b seen last (delivers_on w side n found)
         by None e fe we be oe = absurd (none-some far (sym fe))
         by (Some wire) e fe we be oe = on wire (pieces_from wire side) e (same_Some far (end_seen wire (other side)) fe) we be oe
