@@ -64,11 +64,12 @@ in_range script (bytes, short, said) = schedule.all_in_range 1 [] script (lines_
 -- each line of one of which none is unserved is served
 pub all_served : (script : List Numbered) → first_unserved script ≡ None → list_all is_numbered_served script ≡ true
 all_served [] none = refl
-all_served (line ∷ lines) none = by_first (is_served line.line) refl
+all_served (line ∷ lines) none = by_first (is_served line.line) refl (λ later. all_served lines later)
   where
-    by_first : (served : Bool) → is_served line.line ≡ served → list_all is_numbered_served (line ∷ lines) ≡ true
-    by_first true is = rw is (all_served lines (rw is at none))
-    by_first false is = absurd (let e = rw is at none in cc)
+    by_first : (served : Bool) → is_served line.line ≡ served → (first_unserved lines ≡ None → list_all is_numbered_served lines ≡ true)
+        → list_all is_numbered_served (line ∷ lines) ≡ true
+    by_first true is rest = rw is (rest (rw is at none))
+    by_first false is rest = absurd (let e = rw is at none in cc)
 
 -- one line more
 pub after_more : (w : World) (lines : List Numbered) (line : Numbered) → after_lines w (lines ++ line ∷ []) ≡ after_line (after_lines w lines) line

@@ -8,8 +8,8 @@ use Rattle.cx_lines.specs.declared.commands.LineCommand.TheVariants as command
 use Rattle.cx_run.specs.Schedules.{submitted}
 use Rattle.cx_world.proofs.world.World.submit.Goals as goal
 
-pub returns-in-Login : goal.returns-in-Login
-returns-in-Login c =
+pub returns : goal.returns
+returns c =
     let is : command.Login c.in-Login.client c.all.result.now ≡ c.args.command.now =
     ap (λ (s : List EntityType). command.Login c.in-Login.client s) c.all.ensures ∙ sym c.in-Login.is in
     ok_makes c.login.result c.args.self.now c.login.new.self (λ (w : RunWorld). submitted w (command.Login c.in-Login.client c.all.result.now)) c.login.ensures

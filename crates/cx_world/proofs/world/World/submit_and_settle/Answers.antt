@@ -9,8 +9,8 @@ use Rattle.cx_run.specs.Deliveries.{settles}
 use Rattle.cx_run.specs.Schedules.{submits, submitted}
 use Rattle.cx_world.proofs.world.World.submit_and_settle.Goals as goal
 
-pub returns-in_ok-login-in-Login : goal.returns-in_ok-login-in-Login
-returns-in_ok-login-in-Login c =
+pub returns : goal.returns
+returns c =
     let is : command.Login c.in-Login.client c.all.result.now ≡ c.args.command.now =
     ap (λ (s : List EntityType). command.Login c.in-Login.client s) c.all.ensures ∙ sym c.in-Login.is in
     ok_makes_alone c.settle.result c.login.new.self c.settle.new.self (λ (w : RunWorld). settles w) c.settle.ensures
