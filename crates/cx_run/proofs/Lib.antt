@@ -4,3 +4,4 @@ pub mod MonitorTakes
 pub mod ClientTakes
 pub mod Turning
 pub mod Untaken
+pub mod PointsTell

@@ -33,7 +33,7 @@ use Rattle.cx_run.proofs.Taking.{Takes, TurnTakes}
 -- ---- a table of links
 
 module _ {Stage : Type 0} where
-  found-number : (n : ℕ) (links : List (Link Stage)) (l : Link Stage) → link_of n links ≡ Some l → l.number ≡ n
+  pub found-number : (n : ℕ) (links : List (Link Stage)) (l : Link Stage) → link_of n links ≡ Some l → l.number ≡ n
   found-number n [] l e = absurd cc
   found-number n (x ∷ links) l e = by_test (x.number == n) refl (found-number n links l)
     where
@@ -42,7 +42,7 @@ module _ {Stage : Type 0} where
       by_test false t later = later (rw t at e)
 
   -- what was put is found
-  put-found : (l : Link Stage) (links above : List (Link Stage)) → link_of l.number (filter (λ k. nat_lt k.number l.number) links ++ l ∷ above) ≡ Some l
+  pub put-found : (l : Link Stage) (links above : List (Link Stage)) → link_of l.number (filter (λ k. nat_lt k.number l.number) links ++ l ∷ above) ≡ Some l
   put-found l [] above = rw (eq-eqb l.number l.number refl) refl
   put-found l (x ∷ links) above = by_test (nat_lt x.number l.number) refl (put-found l links above)
     where

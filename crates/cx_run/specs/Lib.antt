@@ -7,3 +7,4 @@ pub mod Deliveries
 pub mod Schedules
 pub mod Served
 pub mod Runs
+pub mod Points

@@ -2,5 +2,7 @@
 #![tactic(auto)]
 
 mod laws;
+mod points;
 
 pub use laws::{run_laws, turning_laws};
+pub use points::point_laws;
