@@ -14,3 +14,4 @@ pub mod MonitorStep
 pub mod AskerRows
 pub mod ClientStep
 pub mod Proving
+pub mod NoTickets

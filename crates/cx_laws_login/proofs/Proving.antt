@@ -1,62 +1,72 @@
--- A ticket is issued only at a turn of a link that waits for a proof, to the entity that was offered the challenge, behind that proof.
-use Rattle.std.proofs.Common.{◌≡◌, ◌⊎◌, ℕ, ◌==◌, Bool, true, false, List, [], ◌∷◌, ◌++◌, length, map, Option, Some, None, Result, Ok, Err, inl, inr, refl, sym, ap, ◌∙◌, subst, arith}
-use Rattle.std.specs.Prelude.{Contains, nat_le, if◌then◌else◌}
-use Rattle.std.specs.List.{AllByRecursion}
+-- A ticket is issued only at a turn of a link that waits for a proof, to the entity that was offered the challenge, behind that proof; whatever came,
+-- and whatever is forged.
+use Rattle.std.proofs.Common.{◌≡◌, ◌⊎◌, ℕ, ◌+◌, ◌-◌, ◌^◌, ◌==◌, Bool, true, false, List, [], ◌∷◌, ◌++◌, length, map, Option, Some, None, Result, Ok, Err, inl, inr, refl, sym, ap, ◌∙◌, subst, arith}
+use Rattle.std.specs.Prelude.{Contains, find, nat_le, not, if◌then◌else◌}
+use Rattle.std.specs.List.{AllByRecursion, list_any}
 use Rattle.std.proofs.lemmas.List.Elements.{Contains-append_cases, Contains-push_cases}
 use Rattle.cx_base.specs.Names.{Name}
 use Rattle.cx_base.specs.declared.kinds.EntityType.TheVariants.{Auth, Mon}
-use Rattle.cx_control.specs.Auth.{auth_request_layout, auth_request_more_layout, auth_signature_layout}
+use Rattle.cx_base.specs.declared.nodes.NodeName.TheVariants as node
+use Rattle.cx_control.specs.Auth.{auth_reply_more_layout, auth_request_layout, auth_request_more_layout, auth_signature_layout}
 use Rattle.cx_control.specs.Hello.{hello_layout}
+use Rattle.cx_control.specs.Idents.{client_ident_layout, ident_missing_features_layout}
+use Rattle.cx_control.specs.Reconnects.{session_reconnect_layout}
+use Rattle.cx_control.specs.Upkeep.{keepalive2_layout, keepalive2_ack_layout}
+use Rattle.cx_control.specs.declared.auth.AuthRequest.{AuthRequest}
 use Rattle.cx_control.specs.declared.auth.AuthRequestMore.{AuthRequestMore}
-use Rattle.cx_dice.specs.Draws.{connection_of, session_of}
+use Rattle.cx_control.specs.declared.auth.AuthSignature.{AuthSignature}
+use Rattle.cx_control.specs.declared.hello.Hello.{Hello}
+use Rattle.cx_control.specs.declared.idents.ClientIdent.{ClientIdent}
+use Rattle.cx_control.specs.declared.reconnects.SessionReconnect.{SessionReconnect}
+use Rattle.cx_control.specs.declared.upkeep.Keepalive2.{Keepalive2}
+use Rattle.cx_control.specs.declared.upkeep.Keepalive2Ack.{Keepalive2Ack}
+use Rattle.cx_dice.specs.Draws.{challenge_of, connection_of, session_of}
 use Rattle.cx_enc.specs.declared.keys.Key.{Key}
-use Rattle.cx_frame.specs.Banners.{banner_at}
-use Rattle.cx_frame.specs.declared.banner.Banner.{Banner}
 use Rattle.cx_frame.specs.declared.frame.Frame.{Frame}
-use Rattle.cx_frame.specs.declared.refusals.BannerRefusal.{BannerRefusal}
-use Rattle.cx_frame.specs.declared.refusals.FrameRefusal.{FrameRefusal}
 use Rattle.cx_journal.specs.declared.entries.Entry.{Entry}
 use Rattle.cx_journal.specs.declared.entries.Entry.TheVariants as journal
 use Rattle.cx_journal.specs.declared.entries.Issued.{Issued}
 use Rattle.cx_journal.specs.declared.faults.BytesFault.{BytesFault}
+use Rattle.cx_journal.specs.declared.faults.BytesFault.TheVariants.{Unexpected}
 use Rattle.cx_journal.specs.declared.faults.LoginFault.{LoginFault}
-use Rattle.cx_base.specs.declared.nodes.NodeName.TheVariants as node
-use Rattle.cx_keyserver.specs.Servers.{rotated_server}
+use Rattle.cx_journal.specs.declared.faults.LoginFault.TheVariants.{Method, Mode, SignatureWrong}
+use Rattle.cx_journal.specs.declared.faults.LoginFault.TheVariants as login
+use Rattle.cx_journal.specs.declared.outcomes.Reason.{Reason}
+use Rattle.cx_journal.specs.declared.outcomes.Reason.TheVariants.{LinksFull, Login}
+use Rattle.cx_keyring.specs.Entries.{is_named}
+use Rattle.cx_keyring.specs.declared.entries.Entry.{Entry as Principal}
+use Rattle.cx_keyserver.specs.Servers.{Server, rotated_server}
 use Rattle.cx_keyserver.specs.declared.tickets.Ticket.{Ticket}
 use Rattle.cx_login.specs.Monitor.{Offer, Proven, kept_gid, proof_found, proving, reclaimed}
 use Rattle.cx_login.specs.Proving.{due_proof}
 use Rattle.cx_login.specs.Unlocking.{old_ticket}
+use Rattle.cx_login.specs.declared.monitor.Reclaim.{Reclaim}
+use Rattle.cx_login.specs.declared.monitor.Reclaim.TheVariants as reclaim
 use Rattle.cx_rotate.specs.declared.states.KeptState.{KeptState}
-use Rattle.cx_rules.specs.Acceptor.{AwaitsBanner, AwaitsHello, AwaitsRequest, AwaitsProof, AwaitsSignature, AwaitsIdent, Open, Finished, denies, finished, on_auth_request, on_banner, on_hello, on_signature}
-use Rattle.cx_rules.specs.Fronts.{ahead_of, banner_next, banner_read, opened_parts, plain_next, plain_read, sealed_ahead, secure_next, secure_read}
-use Rattle.cx_cbc.specs.Envelope.{sealed}
-use Rattle.cx_rules.specs.KeptStates.{changed}
-use Rattle.cx_journal.specs.declared.outcomes.Reason.TheVariants.{LinksFull}
-use Rattle.cx_rules.specs.Greetings.{own_banner}
+use Rattle.cx_rules.specs.Acceptor.{AwaitsBanner, AwaitsHello, AwaitsRequest, AwaitsProof, AwaitsSignature, AwaitsIdent, Open, Finished, denies, finished, misses, missing_told, on_auth_request, on_banner, on_hello, on_signature}
+use Rattle.cx_rules.specs.Fronts.{Front, NotYet, Broken, Next, banner_next, plain_next, secure_next}
+use Rattle.cx_rules.specs.Greetings.{own_banner, own_hello}
 use Rattle.cx_rules.specs.Inputs.{Input, Opened, NoLink, Bytes, Turn, Gone, Look, Tick, Submit, Restart}
+use Rattle.cx_rules.specs.KeptStates.{changed}
 use Rattle.cx_rules.specs.Links.{Link, link_of}
 use Rattle.cx_rules.specs.Monitor.{Entity, Monitor, MonitorArrival, MonitorNode, MonitorRow, MonitorStage, Offered}
-use Rattle.cx_rules.specs.MonitorLogin.{done_frame, hands_over, occasion, on_authenticate, proves, row_of, with_server}
-use Rattle.cx_rules.specs.MonitorRule.{monitor_step, on_auth_request_more, on_ident, on_request_payload, opens, turn, turned_at}
-use Rattle.cx_rules.specs.Payloads.{due, whole}
-use Rattle.cx_rules.specs.Rows.{Outcome, Turned, Waits, Refuses, Handles, arrival, at, carried_out, fed, goes_on, new_link, refuses, refuses_bytes, turned_by, turns, with_opened}
-use Rattle.cx_rules.specs.Secured.{Keys, under}
+use Rattle.cx_rules.specs.MonitorLogin.{challenges, done_frame, hands_over, occasion, on_authenticate, on_login_hello, proves, row_of, with_server}
+use Rattle.cx_rules.specs.MonitorRule.{monitor_step, on_auth_request_more, on_client_ident, on_ident, on_request_payload, on_session_reconnect, opens, server_ident, session_reset, turn, turned_at}
+use Rattle.cx_rules.specs.Payloads.{control, due, payload, whole}
+use Rattle.cx_rules.specs.Rows.{Outcome, Row, Turned, Waits, Refuses, Handles, arrival, at, carried_out, fed, goes_on, new_link, plain_sent, refuses, refuses_bytes, secure_sent, sends_secure, turned_by, turns, with_opened}
+use Rattle.cx_rules.specs.Secured.{SealedFrame, Secured, is_signed, plain_frame, secure_frame, signature_found, under}
 use Rattle.cx_rules.specs.Tickets.{issued_entry, issued_for, rotation_drawn, services_for}
+use Rattle.cx_rules.specs.Upkeep.{on_keepalive, on_keepalive_ack, on_upkeep}
 use Rattle.cx_rules.specs.Verdicts.{Entrant, Numbered, asking_for, entrant, handed_out, issues, issues_to, key_of, login_entries, numbered, numbers, rotates}
-use Rattle.cx_rules.specs.Upkeep.{on_upkeep}
-use Rattle.cx_secure.specs.declared.refusals.SecureRefusal.{SecureRefusal}
+use Rattle.cx_steps.specs.declared.seals.DrawMark.TheVariants as draw
 use Rattle.cx_steps.specs.declared.seals.SealEntry.{SealEntry}
-use Rattle.cx_stream.specs.PlainStreams.{plain_frame_at}
-use Rattle.cx_stream.specs.SecureStreams.{secure_frame_at}
-use Rattle.cx_wire.specs.Logins.{authenticate_layout}
+use Rattle.cx_steps.specs.declared.seals.SealEntry.TheVariants.{Drawn}
+use Rattle.cx_wire.specs.Logins.{authenticate_layout, login_hello_layout, server_challenge_layout}
 use Rattle.cx_wire.specs.declared.logins.Authenticate.{Authenticate}
+use Rattle.cx_wire.specs.declared.logins.LoginHello.{LoginHello}
 use Rattle.cx_laws_keys.proofs.Journal.{IsNotIssued, issued_is}
-use Rattle.cx_laws_keys.proofs.Uses.{Connected, Means, Uses}
 use Rattle.cx_laws_login.proofs.Entering.{issued_of}
-use Rattle.cx_laws_login.proofs.Facts.{OwnOk, StageOk, one_if_issued, tickets_in}
 use Rattle.cx_laws_login.proofs.Issuing.{AreIssued, IsOther, all-issued}
-use Rattle.cx_laws_login.proofs.MonitorRows.{banner-simple, hello-simple, ident-simple, monitor_says, request-simple, signature-simple, upkeep-simple}
-use Rattle.cx_laws_login.proofs.Rows.{IsQuietEntry, LinkOk, NodeOk, found-link}
 
 -- ---- entries
 
@@ -72,12 +82,12 @@ contains-cons e x js h = by_place (Contains-append_cases (e ∷ []) js x h)
     by_place (inl here) = by_one (Contains-push_cases [] e x here)
     by_place (inr later) = inr later
 
-none-issued : (js : List Entry) → AllByRecursion IsQuietEntry js → (t : Issued) → Contains js (journal.Issued t) → ⊥
+pub none-issued : (js : List Entry) → AllByRecursion IsNotIssued js → (t : Issued) → Contains js (journal.Issued t) → ⊥
 none-issued [] q t (k, below, is) = omega arith
 none-issued (j ∷ js) q t h = by_place (contains-cons j (journal.Issued t) js h) (none-issued js q.1 t)
   where
     by_place : (j ≡ journal.Issued t) ⊎ Contains js (journal.Issued t) → (Contains js (journal.Issued t) → ⊥) → ⊥
-    by_place (inl same) rest = subst IsNotIssued same q.0.1
+    by_place (inl same) rest = subst IsNotIssued same q.0
     by_place (inr later) rest = rest later
 
 of-tickets : (name : Name) (ts : List Ticket) → AllByRecursion (λ (k : Ticket). k.entity ≡ name) ts → (t : Issued) → Contains (map issued_entry ts) (journal.Issued t) → t.entity ≡ name
@@ -104,7 +114,7 @@ of-others name gid reading block (t ∷ ts) h = (h.0.0.entity, of-others name gi
 -- ---- rows
 
 -- a link that waits for a proof, in this stage, whose entity gets the ticket, and the proof, which is the first of these entries
-pub record Proves (stage : MonitorStage) (t : Issued) (seals : List SealEntry) : Type 0 where
+pub record IsBehindProof (stage : MonitorStage) (t : Issued) (seals : List SealEntry) : Type 0 where
   pub offered : Offered
   pub stage_is : stage ≡ AwaitsProof offered
   pub entity : t.entity ≡ offered.offer.name
@@ -112,210 +122,342 @@ pub record Proves (stage : MonitorStage) (t : Issued) (seals : List SealEntry) :
   pub rest : List SealEntry
   pub checked : seals ≡ proof_found offered.offer client_challenge ∷ rest
 
-abbrev pub RowProves : MonitorStage → MonitorRow → Type 0
-RowProves stage row = (t : Issued) → Contains row.entries (journal.Issued t) → Proves stage t row.seals
+-- the entity to which a challenge was offered is one of the keyring, with that secret
+pub record IsRinged (ring : List Principal) (offered : Offered) : Type 0 where
+  pub principal : Principal
+  pub found : find (is_named offered.offer.name) ring ≡ Some principal
+  pub secret : principal.key.secret ≡ offered.offer.secret
+
+abbrev pub StageRinged : List Principal → MonitorStage → Type 0
+StageRinged ring AwaitsBanner = Unit {0}
+StageRinged ring AwaitsHello = Unit {0}
+StageRinged ring AwaitsRequest = Unit {0}
+StageRinged ring (AwaitsProof offered) = IsRinged ring offered
+StageRinged ring (AwaitsSignature s entity) = Unit {0}
+StageRinged ring (AwaitsIdent s entity) = Unit {0}
+StageRinged ring (Open s entity) = Unit {0}
+
+abbrev pub LinkRinged : List Principal → Option (Link MonitorStage) → Type 0
+LinkRinged ring (Some link) = StageRinged ring link.stage
+LinkRinged ring None = Unit {0}
+
+-- whatever came, a row of a link in this stage issues a ticket only behind a proof, leaves the keyring as it is, and goes on with an entity of it
+pub record Tells (ring : List Principal) (stage : MonitorStage) (row : MonitorRow) : Type 0 where
+  pub asked : (t : Issued) → Contains row.entries (journal.Issued t) → IsBehindProof stage t row.seals
+  pub ring_stays : row.own.server.ring ≡ ring
+  pub link : LinkRinged ring row.link
+
+-- a row that issues none
+record Still (ring : List Principal) (row : MonitorRow) : Type 0 where
+  entries : AllByRecursion IsNotIssued row.entries
+  ring_stays : row.own.server.ring ≡ ring
+  link : LinkRinged ring row.link
+
+still-tells : (ring : List Principal) (stage : MonitorStage) (row : MonitorRow) → Still ring row → Tells ring stage row
+still-tells ring stage row h = record { asked = λ t has. absurd (none-issued row.entries h.entries t has); ring_stays = h.ring_stays; link = h.link }
+
+abbrev IsStill : MonitorArrival → MonitorRow → Type 0
+IsStill a row = Still a.own.server.ring row
+
+still-goes_on : (a : MonitorArrival) (stage : MonitorStage) (bytes : List ℕ) (seals : List SealEntry) → StageRinged a.own.server.ring stage → IsStill a (goes_on a stage bytes seals)
+still-goes_on a stage bytes seals h = record { entries = tt; ring_stays = refl; link = h }
+
+still-refuses : (a : MonitorArrival) (why : Reason) (seals : List SealEntry) → IsStill a (refuses a why seals)
+still-refuses a why seals = record { entries = (tt, tt); ring_stays = refl; link = tt }
+
+still-refuses_bytes : (a : MonitorArrival) (why : BytesFault) (seals : List SealEntry) → IsStill a (refuses_bytes a why seals)
+still-refuses_bytes a why seals = record { entries = (tt, tt); ring_stays = refl; link = tt }
+
+still-denies : (a : MonitorArrival) (code : ℕ) (why : LoginFault) (seals : List SealEntry) → IsStill a (denies a code why seals)
+still-denies a code why seals = record { entries = (tt, tt); ring_stays = refl; link = tt }
+
+still-plain : (a : MonitorArrival) (stage : MonitorStage) (seals : List SealEntry) (r : Result (List ℕ) BytesFault) → StageRinged a.own.server.ring stage
+    → IsStill a (plain_sent a stage seals r)
+still-plain a stage seals (Ok bytes) h = still-goes_on a stage bytes seals h
+still-plain a stage seals (Err why) h = still-refuses_bytes a why seals
+
+still-secure : (a : MonitorArrival) (s : Secured) (stage : Secured → MonitorStage) (seals : List SealEntry) (r : Result SealedFrame BytesFault)
+    → ((t : Secured) → StageRinged a.own.server.ring (stage t)) → IsStill a (secure_sent a s stage seals r)
+still-secure a s stage seals (Ok sealed) h =
+    still-goes_on a (stage (record s { keys = sealed.keys })) sealed.bytes (seals ++ sealed.seals) (h (record s { keys = sealed.keys }))
+still-secure a s stage seals (Err why) h = still-refuses_bytes a why seals
+
+still-opened : (a : MonitorArrival) (opened : List SealEntry) (row : MonitorRow) → IsStill a row → IsStill a (with_opened opened row)
+still-opened a opened row h = record { entries = h.entries; ring_stays = h.ring_stays; link = h.link }
+
+-- ---- LoginHello, and all rows but that of a proof
+
+still-challenges : (a : MonitorArrival) (hello : LoginHello) (principal : Option Principal) → find (is_named hello.name) a.own.server.ring ≡ principal
+    → IsStill a (challenges a hello principal)
+still-challenges a hello None is = still-denies a 13 login.UnknownEntity []
+still-challenges a hello (Some principal) is =
+    let challenge = challenge_of a.draw in
+    let offer : Offer = record { name = hello.name; secret = principal.key.secret; challenge = challenge } in
+    still-plain a (AwaitsProof (record { offer = offer; gid = hello.gid })) (Drawn (draw.Challenge challenge) ∷ [])
+    (plain_frame (control 4 auth_reply_more_layout.form (record { payload = server_challenge_layout.form.text (record { challenge = challenge }) })))
+    (record { principal = principal; found = is; secret = refl })
+
+still-login_hello : (a : MonitorArrival) (hello : Result LoginHello BytesFault) → IsStill a (on_login_hello a hello)
+still-login_hello a (Err why) = still-refuses_bytes a why []
+still-login_hello a (Ok hello) = still-challenges a hello (find (is_named hello.name) a.own.server.ring) refl
+
+still-hello : (a : MonitorArrival) (hello : Result Hello BytesFault) → IsStill a (on_hello a hello)
+still-hello a (Ok hello) = still-goes_on a AwaitsRequest [] [] tt
+still-hello a (Err why) = still-refuses_bytes a why []
+
+still-request : (a : MonitorArrival) (request : Result AuthRequest BytesFault) → IsStill a (on_auth_request on_request_payload a request)
+still-request a (Err why) = still-refuses_bytes a why []
+still-request a (Ok request) = by_tests (not (request.method == 2)) (not (list_any (λ mode. mode == 2) request.modes))
+  where
+    by_tests : (other plain : Bool) → IsStill a (if other then denies a 95 Method [] else if plain then denies a 95 Mode [] else on_request_payload a request.payload)
+    by_tests true plain = still-denies a 95 Method []
+    by_tests false true = still-denies a 95 Mode []
+    by_tests false false = still-login_hello a (whole login_hello_layout.form request.payload)
+
+still-signature : (a : MonitorArrival) (s : Secured) (entity : Entity) (found : Result AuthSignature BytesFault) → IsStill a (on_signature a s entity found)
+still-signature a s entity (Err why) = still-refuses_bytes a why []
+still-signature a s entity (Ok found) = by_test (is_signed s found.signature)
+  where
+    by_test : (right : Bool) → IsStill a (if right then goes_on a (AwaitsIdent s entity) [] (signature_found s ∷ []) else refuses a (Login SignatureWrong) [])
+    by_test true = still-goes_on a (AwaitsIdent s entity) [] (signature_found s ∷ []) tt
+    by_test false = still-refuses a (Login SignatureWrong) []
+
+still-missing : (a : MonitorArrival) (features : ℕ) (sealed : Result SealedFrame BytesFault) → IsStill a (missing_told a features sealed)
+still-missing a features (Err why) = still-refuses_bytes a why []
+still-missing a features (Ok sealed) = record { entries = (tt, tt); ring_stays = refl; link = tt }
+
+still-client_ident : (a : MonitorArrival) (s : Secured) (entity : Entity) (ident : Result ClientIdent BytesFault) → IsStill a (on_client_ident a s entity ident)
+still-client_ident a s entity (Err why) = still-refuses_bytes a why []
+still-client_ident a s entity (Ok ident) = by_test (ident.required == 0)
+  where
+    by_test : (plain : Bool) → IsStill a (if plain then sends_secure a s (λ behind. Open behind entity) [] (server_ident a.own.address) else misses a s ident.required)
+    by_test true = still-secure a s (λ behind. Open behind entity) [] (secure_frame s.keys (server_ident a.own.address)) (λ t. tt)
+    by_test false = still-missing a ident.required (secure_frame s.keys (control 10 ident_missing_features_layout.form (record { features = ident.required })))
+
+still-reconnect : (a : MonitorArrival) (s : Secured) (entity : Entity) (reconnect : Result SessionReconnect BytesFault) → IsStill a (on_session_reconnect a s entity reconnect)
+still-reconnect a s entity (Err why) = still-refuses_bytes a why []
+still-reconnect a s entity (Ok reconnect) = still-secure a s (λ behind. AwaitsIdent behind entity) [] (secure_frame s.keys session_reset) (λ t. tt)
+
+still-ident : (a : MonitorArrival) (s : Secured) (entity : Entity) (f : Frame) → IsStill a (on_ident a s entity f)
+still-ident a s entity f = by_tests (f.tag == 8) (f.tag == 11)
+  where
+    by_tests : (client reconnect : Bool) → IsStill a (if client then on_client_ident a s entity (payload client_ident_layout.form f)
+        else if reconnect then on_session_reconnect a s entity (payload session_reconnect_layout.form f) else refuses_bytes a (Unexpected f.tag) [])
+    by_tests true reconnect = still-client_ident a s entity (payload client_ident_layout.form f)
+    by_tests false true = still-reconnect a s entity (payload session_reconnect_layout.form f)
+    by_tests false false = still-refuses_bytes a (Unexpected f.tag) []
+
+still-keepalive : (a : MonitorArrival) (s : Secured) (entity : Entity) (keepalive : Result Keepalive2 BytesFault) → IsStill a (on_keepalive a s (λ behind. Open behind entity) keepalive)
+still-keepalive a s entity (Err why) = still-refuses_bytes a why []
+still-keepalive a s entity (Ok keepalive) =
+    still-secure a s (λ behind. Open behind entity) [] (secure_frame s.keys (control 19 keepalive2_ack_layout.form (record { time = keepalive.time }))) (λ t. tt)
+
+still-keepalive_ack : (a : MonitorArrival) (s : Secured) (entity : Entity) (ack : Result Keepalive2Ack BytesFault) → IsStill a (on_keepalive_ack a s (λ behind. Open behind entity) ack)
+still-keepalive_ack a s entity (Err why) = still-refuses_bytes a why []
+still-keepalive_ack a s entity (Ok ack) = still-goes_on a (Open s entity) [] [] tt
+
+still-upkeep : (a : MonitorArrival) (s : Secured) (entity : Entity) (f : Frame) → IsStill a (on_upkeep a s (λ behind. Open behind entity) f)
+still-upkeep a s entity f = by_tests (f.tag == 18) (f.tag == 19)
+  where
+    by_tests : (ask ack : Bool) → IsStill a (if ask then on_keepalive a s (λ behind. Open behind entity) (payload keepalive2_layout.form f)
+        else if ack then on_keepalive_ack a s (λ behind. Open behind entity) (payload keepalive2_ack_layout.form f) else refuses_bytes a (Unexpected f.tag) [])
+    by_tests true ack = still-keepalive a s entity (payload keepalive2_layout.form f)
+    by_tests false true = still-keepalive_ack a s entity (payload keepalive2_ack_layout.form f)
+    by_tests false false = still-refuses_bytes a (Unexpected f.tag) []
+
+-- ---- the row of a proof
 
 -- the proof of an offer is the first of these entries
 abbrev HasProof : Offer → ℕ → List SealEntry → Type 0
 HasProof offer client seals = (rest : List SealEntry) × (seals ≡ proof_found offer client ∷ rest)
 
+-- a key server behind the choice of a global id has the keyring of before
+abbrev KeepsRing : List Principal → Result Numbered LoginFault → Type 0
+KeepsRing ring (Ok n) = n.server.ring ≡ ring
+KeepsRing ring (Err why) = Unit {0}
+
+numbered-keeps : (server : Server) (choice : Reclaim) → KeepsRing server.ring (numbered server choice)
+numbered-keeps server (reclaim.Kept gid) = refl
+numbered-keeps server reclaim.Fresh = by_test (server.state.next_gid == 2 ^ 64 - 1)
+  where
+    by_test : (spent : Bool) → KeepsRing server.ring (if spent then Err login.GidsSpent
+        else Ok (record { server = record server { state = record server.state { next_gid = server.state.next_gid + 1 } }; gid = server.state.next_gid }))
+    by_test true = tt
+    by_test false = refl
+numbered-keeps server (reclaim.Denied gid) = tt
+
 module _ (offered : Offered) (client : ℕ) where
-  abbrev OfferProves : MonitorRow → Type 0
-  OfferProves row = RowProves (AwaitsProof offered) row
+  abbrev OfferTells : MonitorArrival → MonitorRow → Type 0
+  OfferTells a row = Tells a.own.server.ring (AwaitsProof offered) row
 
-  denied : (a : MonitorArrival) (why : LoginFault) (seals : List SealEntry) → OfferProves (denies a 13 why seals)
-  denied a why seals t has = absurd (none-issued (denies a 13 why seals).entries ((tt, tt), tt) t has)
+  denied : (a : MonitorArrival) (why : LoginFault) (seals : List SealEntry) → OfferTells a (denies a 13 why seals)
+  denied a why seals = still-tells a.own.server.ring (AwaitsProof offered) (denies a 13 why seals) (still-denies a 13 why seals)
 
-  handed-proves : (a : MonitorArrival) (e : Entrant) (own : List ℕ) (tickets : List Ticket) (r : Result Finished BytesFault)
+  handed-tells : (a : MonitorArrival) (e : Entrant) (own : List ℕ) (tickets : List Ticket) (r : Result Finished BytesFault)
       → AllByRecursion (λ (k : Ticket). k.entity ≡ offered.offer.name) tickets → HasProof offered.offer client e.seals
-      → OfferProves (hands_over a (handed_out (occasion a) a.own.server e own tickets) r)
-  handed-proves a e own tickets (Err why) h proof t has = absurd (none-issued (refuses_bytes a why e.seals).entries ((tt, tt), tt) t has)
-  handed-proves a e own tickets (Ok done) h proof t has =
+      → OfferTells a (hands_over a (handed_out (occasion a) a.own.server e own tickets) r)
+  handed-tells a e own tickets (Err why) h proof = still-tells a.own.server.ring (AwaitsProof offered) (refuses_bytes a why e.seals) (still-refuses_bytes a why e.seals)
+  handed-tells a e own tickets (Ok done) h proof =
       let sealed : List SealEntry = (handed_out (occasion a) a.own.server e own tickets).sealed in
       record {
-        offered = offered;
-        stage_is = refl;
-        entity = of-login offered.offer.name (changed a.own.saved a.own.server.state) tickets h t has;
-        client_challenge = client;
-        rest = proof.0 ++ (sealed ++ done.seals);
-        checked = ap (λ (es : List SealEntry). es ++ (sealed ++ done.seals)) proof.1;
+        asked = λ t has. record {
+          offered = offered;
+          stage_is = refl;
+          entity = of-login offered.offer.name (changed a.own.saved a.own.server.state) tickets h t has;
+          client_challenge = client;
+          rest = proof.0 ++ (sealed ++ done.seals);
+          checked = ap (λ (es : List SealEntry). es ++ (sealed ++ done.seals)) proof.1;
+        };
+        ring_stays = refl;
+        link = tt;
       }
 
-  issued-proves : (a : MonitorArrival) (e : Entrant) (own : List ℕ) (tickets : Result (List Ticket) LoginFault) → e.name ≡ offered.offer.name
+  issued-tells : (a : MonitorArrival) (e : Entrant) (own : List ℕ) (tickets : Result (List Ticket) LoginFault) → e.name ≡ offered.offer.name
       → AreIssued a.own.server e.name e.gid (session_of Auth a.draw) a.reading a.draw tickets → HasProof offered.offer client e.seals
-      → OfferProves (row_of a (issues (occasion a) a.own.server e own tickets))
-  issued-proves a e own (Err why) same ok proof = denied a why e.seals
-  issued-proves a e own (Ok []) same ok proof = absurd ok
-  issued-proves a e own (Ok (t ∷ ts)) same ok proof =
+      → OfferTells a (row_of a (issues (occasion a) a.own.server e own tickets))
+  issued-tells a e own (Err why) same ok proof = denied a why e.seals
+  issued-tells a e own (Ok []) same ok proof = absurd ok
+  issued-tells a e own (Ok (t ∷ ts)) same ok proof =
       let all : AllByRecursion (λ (k : Ticket). k.entity ≡ e.name) (t ∷ ts) = (ok.first.entity, of-others e.name e.gid a.reading a.draw ts ok.others) in
       let named : AllByRecursion (λ (k : Ticket). k.entity ≡ offered.offer.name) (t ∷ ts) =
       subst (λ (name : Name). AllByRecursion (λ (k : Ticket). k.entity ≡ name) (t ∷ ts)) same all in
-      handed-proves a e own (t ∷ ts)
+      handed-tells a e own (t ∷ ts)
       (finished a.link (session_of Auth a.draw) (connection_of a.draw) (done_frame (handed_out (occasion a) a.own.server e own (t ∷ ts)).payload)) named proof
 
-  issues_to-proves : (a : MonitorArrival) (e : Entrant) (own : Option Key) → e.name ≡ offered.offer.name → HasProof offered.offer client e.seals
-      → OfferProves (row_of a (issues_to (occasion a) a.own.server e own))
-  issues_to-proves a e None same proof = denied a _ e.seals
-  issues_to-proves a e (Some own) same proof =
-      issued-proves a e own.secret (issued_for a.own.server (asking_for (occasion a) e.name e.gid) (services_for e.asked)) same
+  issues_to-tells : (a : MonitorArrival) (e : Entrant) (own : Option Key) → e.name ≡ offered.offer.name → HasProof offered.offer client e.seals
+      → OfferTells a (row_of a (issues_to (occasion a) a.own.server e own))
+  issues_to-tells a e None same proof = denied a _ e.seals
+  issues_to-tells a e (Some own) same proof =
+      issued-tells a e own.secret (issued_for a.own.server (asking_for (occasion a) e.name e.gid) (services_for e.asked)) same
       (all-issued a.own.server e.name e.gid (session_of Auth a.draw) a.reading a.draw e.asked) proof
 
-  numbers-proves : (a : MonitorArrival) (proven : Proven) (seals : List SealEntry) (n : Result Numbered LoginFault) → proven.offer ≡ offered.offer → HasProof offered.offer client seals
-      → OfferProves (row_of a (numbers (occasion a) a.own.server proven seals n))
-  numbers-proves a proven seals (Err why) same proof = denied a why seals
-  numbers-proves a proven seals (Ok n) same proof =
-      issues_to-proves (with_server a n.server) (entrant proven.offer.name n.gid proven.ask.other_keys seals) (key_of n.server proven.offer.name)
-      (ap (λ (o : Offer). o.name) same) proof
+  numbers-tells : (a : MonitorArrival) (proven : Proven) (seals : List SealEntry) (n : Result Numbered LoginFault) → proven.offer ≡ offered.offer → HasProof offered.offer client seals
+      → KeepsRing a.own.server.ring n → OfferTells a (row_of a (numbers (occasion a) a.own.server proven seals n))
+  numbers-tells a proven seals (Err why) same proof keeps = denied a why seals
+  numbers-tells a proven seals (Ok n) same proof keeps =
+      let row : MonitorRow = row_of a (numbers (occasion a) a.own.server proven seals (Ok n)) in
+      let told : Tells n.server.ring (AwaitsProof offered) row =
+      issues_to-tells (with_server a n.server) (entrant proven.offer.name n.gid proven.ask.other_keys seals) (key_of n.server proven.offer.name)
+      (ap (λ (o : Offer). o.name) same) proof in
+      subst (λ (ring : List Principal). Tells ring (AwaitsProof offered) row) keeps told
 
-rotates-proves : (a : MonitorArrival) (offered : Offered) (ask : Authenticate) → RowProves (AwaitsProof offered)
+rotates-tells : (a : MonitorArrival) (offered : Offered) (ask : Authenticate) → Tells a.own.server.ring (AwaitsProof offered)
     (row_of a (rotates (occasion a) a.own.server offered.gid (record { offer = offered.offer; ask = ask })))
-rotates-proves a offered ask =
+rotates-tells a offered ask =
     let proven : Proven = record { offer = offered.offer; ask = ask } in
     let server = rotated_server a.reading a.draw a.own.server in
     let old = old_ticket server.state.auth ask.old_ticket in
     let seals : List SealEntry = proof_found offered.offer ask.client_challenge ∷ rotation_drawn a.reading a.draw a.own.server.state in
-    numbers-proves offered ask.client_challenge (with_server a server) proven (seals ++ old.seals)
-    (numbered server (reclaimed offered.gid ask.version (kept_gid offered.offer.name a.reading old.value))) refl
-    (rotation_drawn a.reading a.draw a.own.server.state ++ old.seals, refl)
+    let choice : Reclaim = reclaimed offered.gid ask.version (kept_gid offered.offer.name a.reading old.value) in
+    numbers-tells offered ask.client_challenge (with_server a server) proven (seals ++ old.seals) (numbered server choice) refl
+    (rotation_drawn a.reading a.draw a.own.server.state ++ old.seals, refl) (numbered-keeps server choice)
 
-proves-proves : (a : MonitorArrival) (offered : Offered) (ask : Authenticate) → RowProves (AwaitsProof offered) (proves a offered.gid (proving offered.offer ask))
-proves-proves a offered ask = by_test (due_proof offered.offer.secret offered.offer.challenge ask.client_challenge == ask.key)
+proves-tells : (a : MonitorArrival) (offered : Offered) (ask : Authenticate) → Tells a.own.server.ring (AwaitsProof offered) (proves a offered.gid (proving offered.offer ask))
+proves-tells a offered ask = by_test (due_proof offered.offer.secret offered.offer.challenge ask.client_challenge == ask.key)
   where
-    by_test : (t : Bool) → RowProves (AwaitsProof offered) (proves a offered.gid
+    by_test : (t : Bool) → Tells a.own.server.ring (AwaitsProof offered) (proves a offered.gid
         (if t then Ok (record { offer = offered.offer; ask = ask }) else Err (record { expected = due_proof offered.offer.secret offered.offer.challenge ask.client_challenge; got = ask.key })))
-    by_test true = rotates-proves a offered ask
+    by_test true = rotates-tells a offered ask
     by_test false = denied offered 0 a _ []
 
-authenticate-proves : (a : MonitorArrival) (offered : Offered) (ask : Result Authenticate BytesFault) → RowProves (AwaitsProof offered) (on_authenticate a offered ask)
-authenticate-proves a offered (Err why) = λ t has. absurd (none-issued (on_authenticate a offered (Err why)).entries ((tt, tt), tt) t has)
-authenticate-proves a offered (Ok ask) = proves-proves a offered ask
+authenticate-tells : (a : MonitorArrival) (offered : Offered) (ask : Result Authenticate BytesFault) → Tells a.own.server.ring (AwaitsProof offered) (on_authenticate a offered ask)
+authenticate-tells a offered (Err why) = still-tells a.own.server.ring (AwaitsProof offered) (refuses_bytes a why []) (still-refuses_bytes a why [])
+authenticate-tells a offered (Ok ask) = proves-tells a offered ask
 
-more-proves : (a : MonitorArrival) (offered : Offered) (more : Result AuthRequestMore BytesFault) → RowProves (AwaitsProof offered) (on_auth_request_more a offered more)
-more-proves a offered (Err why) = λ t has. absurd (none-issued (on_auth_request_more a offered (Err why)).entries ((tt, tt), tt) t has)
-more-proves a offered (Ok more) = authenticate-proves a offered (whole authenticate_layout.form more.payload)
+more-tells : (a : MonitorArrival) (offered : Offered) (more : Result AuthRequestMore BytesFault) → Tells a.own.server.ring (AwaitsProof offered) (on_auth_request_more a offered more)
+more-tells a offered (Err why) = still-tells a.own.server.ring (AwaitsProof offered) (refuses_bytes a why []) (still-refuses_bytes a why [])
+more-tells a offered (Ok more) = authenticate-tells a offered (whole authenticate_layout.form more.payload)
 
 -- ---- turns
 
-abbrev TurnProves : MonitorStage → Turned Monitor MonitorStage → Type 0
-TurnProves stage Waits = Unit {0}
-TurnProves stage (Refuses why opened) = Unit {0}
-TurnProves stage (Handles row) = RowProves stage row
+-- what is said of the row of a turn, if there is one
+abbrev pub RowOf : {Own Stage : Type 0} → (Row Own Stage → Type 0) → Turned Own Stage → Type 0
+RowOf P Waits = Unit {0}
+RowOf P (Refuses why opened) = Unit {0}
+RowOf P (Handles row) = P row
 
-by-banner : (stage : MonitorStage) (row : Link MonitorStage → MonitorRow) (link : Link MonitorStage) → ((l : Link MonitorStage) → RowProves stage (row l))
-    → TurnProves stage (turned_by (λ l _. row l) (banner_next link))
-by-banner stage row link each = by_read (banner_at (ahead_of link))
+pub by-front : {Own Stage X : Type 0} (P : Row Own Stage → Type 0) (row : X → List SealEntry → Row Own Stage) (front : Front X) → ((x : X) (opened : List SealEntry) → P (row x opened))
+    → RowOf P (turned_by row front)
+by-front P row NotYet each = tt
+by-front P row (Broken why opened) each = tt
+by-front P row (Next x opened) each = each x opened
+
+pub turned-tells : (a : MonitorArrival) (stage : MonitorStage) → RowOf (Tells a.own.server.ring stage) (turned_at a stage)
+turned-tells a AwaitsBanner =
+    by-front (Tells a.own.server.ring AwaitsBanner) (λ link _. on_banner Mon (at a link)) (banner_next a.link)
+    (λ link opened. still-tells a.own.server.ring AwaitsBanner (on_banner Mon (at a link)) (still-plain (at a link) AwaitsHello [] (plain_frame (own_hello Mon)) tt))
+turned-tells a AwaitsHello =
+    by-front (Tells a.own.server.ring AwaitsHello) (λ (link, f) _. on_hello (at a link) (due 1 hello_layout.form f)) (plain_next a.link)
+    (λ (link, f) opened. still-tells a.own.server.ring AwaitsHello (on_hello (at a link) (due 1 hello_layout.form f)) (still-hello (at a link) (due 1 hello_layout.form f)))
+turned-tells a AwaitsRequest =
+    by-front (Tells a.own.server.ring AwaitsRequest) (λ (link, f) _. on_auth_request on_request_payload (at a link) (due 2 auth_request_layout.form f)) (plain_next a.link)
+    (λ (link, f) opened. still-tells a.own.server.ring AwaitsRequest (on_auth_request on_request_payload (at a link) (due 2 auth_request_layout.form f))
+    (still-request (at a link) (due 2 auth_request_layout.form f)))
+turned-tells a (AwaitsProof offered) =
+    by-front (Tells a.own.server.ring (AwaitsProof offered)) (λ (link, f) _. on_auth_request_more (at a link) offered (due 5 auth_request_more_layout.form f)) (plain_next a.link)
+    (λ (link, f) opened. more-tells (at a link) offered (due 5 auth_request_more_layout.form f))
+turned-tells a (AwaitsSignature s entity) =
+    by-front (Tells a.own.server.ring (AwaitsSignature s entity))
+    (λ (link, f, keys) opened. with_opened opened (on_signature (at a link) (under s keys) entity (due 7 auth_signature_layout.form f))) (secure_next s.keys a.link)
+    (λ (link, f, keys) opened. let row = on_signature (at a link) (under s keys) entity (due 7 auth_signature_layout.form f) in
+    still-tells a.own.server.ring (AwaitsSignature s entity) (with_opened opened row)
+    (still-opened (at a link) opened row (still-signature (at a link) (under s keys) entity (due 7 auth_signature_layout.form f))))
+turned-tells a (AwaitsIdent s entity) =
+    by-front (Tells a.own.server.ring (AwaitsIdent s entity)) (λ (link, f, keys) opened. with_opened opened (on_ident (at a link) (under s keys) entity f)) (secure_next s.keys a.link)
+    (λ (link, f, keys) opened. let row = on_ident (at a link) (under s keys) entity f in
+    still-tells a.own.server.ring (AwaitsIdent s entity) (with_opened opened row) (still-opened (at a link) opened row (still-ident (at a link) (under s keys) entity f)))
+turned-tells a (Open s entity) =
+    by-front (Tells a.own.server.ring (Open s entity)) (λ (link, f, keys) opened. with_opened opened (on_upkeep (at a link) (under s keys) (λ behind. Open behind entity) f))
+    (secure_next s.keys a.link)
+    (λ (link, f, keys) opened. let row = on_upkeep (at a link) (under s keys) (λ behind. Open behind entity) f in
+    still-tells a.own.server.ring (Open s entity) (with_opened opened row) (still-opened (at a link) opened row (still-upkeep (at a link) (under s keys) entity f)))
+
+-- ---- steps
+
+-- a turn of a link of the monitor, at which the ticket is issued
+pub record IsProven (m : MonitorNode) (input : Input) (t : Issued) (seals : List SealEntry) : Type 0 where
+  pub number : ℕ
+  pub turn_is : input ≡ Turn number
+  pub link : Link MonitorStage
+  pub found : link_of number m.links ≡ Some link
+  pub proof : IsBehindProof link.stage t seals
+
+abbrev StepProves : MonitorNode → Input → Outcome MonitorNode → Type 0
+StepProves m input o = (t : Issued) → Contains o.out.entries (journal.Issued t) → IsProven m input t o.out.seals
+
+quiet-step : (m : MonitorNode) (input : Input) (o : Outcome MonitorNode) → AllByRecursion IsNotIssued o.out.entries → StepProves m input o
+quiet-step m input o q t has = absurd (none-issued o.out.entries q t has)
+
+turn-proves : (m : MonitorNode) (number reading : ℕ) (block : List ℕ) (link : Option (Link MonitorStage)) → link_of number m.links ≡ link → StepProves m (Turn number) (turn m reading block link)
+turn-proves m number reading block None is = λ t has. absurd (none-issued [] tt t has)
+turn-proves m number reading block (Some link) is =
+    let a : MonitorArrival = arrival node.Monitor m.own link reading block in
+    by_turned a (turned_at a link.stage) (turned-tells a link.stage)
   where
-    by_read : (r : Result (Option (Banner × ℕ)) BannerRefusal) → TurnProves stage (turned_by (λ l _. row l) (banner_read link r))
-    by_read (Ok None) = tt
-    by_read (Ok (Some (b, m))) = each _
-    by_read (Err e) = tt
+    by_turned : (a : MonitorArrival) (turned : Turned Monitor MonitorStage) → RowOf (Tells a.own.server.ring link.stage) turned → StepProves m (Turn number) (turns m a turned)
+    by_turned a Waits h = λ t has. absurd (none-issued [] tt t has)
+    by_turned a (Refuses why opened) h = λ t has. absurd (none-issued (turns m a (Refuses why opened)).out.entries (tt, tt) t has)
+    by_turned a (Handles row) h = λ t has. record { number = number; turn_is = refl; link = link; found = is; proof = h.asked t has }
 
-by-plain : (stage : MonitorStage) (row : Link MonitorStage → Frame → MonitorRow) (link : Link MonitorStage) → ((l : Link MonitorStage) (f : Frame) → RowProves stage (row l f))
-    → TurnProves stage (turned_by (λ (l, f) _. row l f) (plain_next link))
-by-plain stage row link each = by_read (plain_frame_at (ahead_of link))
+opens-none : (m : MonitorNode) (reading : ℕ) (block : List ℕ) (link : Link MonitorStage) → AllByRecursion IsNotIssued (opens m reading block link).out.entries
+opens-none m reading block link = by_test (nat_le 1024 (length m.links))
   where
-    by_read : (r : Result (Option (Frame × ℕ)) FrameRefusal) → TurnProves stage (turned_by (λ (l, f) _. row l f) (plain_read link r))
-    by_read (Ok None) = tt
-    by_read (Ok (Some (f, m))) = each _ f
-    by_read (Err e) = tt
+    by_test : (full : Bool) → AllByRecursion IsNotIssued (carried_out m link.number false
+        (if full then refuses (arrival node.Monitor m.own link reading block) LinksFull [] else goes_on (arrival node.Monitor m.own link reading block) AwaitsBanner own_banner [])).out.entries
+    by_test true = (tt, tt)
+    by_test false = tt
 
--- behind keys that are still the same
-by-secure : (stage : MonitorStage) (keys : Keys) (row : Link MonitorStage → Keys → Frame → MonitorRow) (link : Link MonitorStage)
-    → ((l : Link MonitorStage) (k : Keys) (f : Frame) → k.key ≡ keys.key → AllByRecursion IsQuietEntry (row l k f).entries)
-    → TurnProves stage (turned_by (λ (l, f, k) opened. with_opened opened (row l k f)) (secure_next keys link))
-by-secure stage keys row link each = by_read (opened_parts (sealed_ahead keys link)) (secure_frame_at (sealed_ahead keys link))
-  where
-    by_read : (opened : List SealEntry) (r : Result (Option (Frame × ℕ)) SecureRefusal)
-        → TurnProves stage (turned_by (λ (l, f, k) opened. with_opened opened (row l k f)) (secure_read keys link opened r))
-    by_read opened (Ok None) = tt
-    by_read opened (Ok (Some (f, m))) = λ t has. absurd (none-issued (row _ _ f).entries (each _ _ f refl) t has)
-    by_read opened (Err e) = tt
+fed-none : (m : MonitorNode) (bytes : List ℕ) (link : Option (Link MonitorStage)) → AllByRecursion IsNotIssued (fed m bytes link).out.entries
+fed-none m bytes None = tt
+fed-none m bytes (Some link) = tt
 
-module _ (before : KeptState) (us : Uses) (J : List Entry) where
-  keyed : (entity : Entity) (key other : List ℕ) → other ≡ key → Means us key (Connected entity.name) → Means us other (Connected entity.name)
-  keyed entity key other same h = subst (λ (k : List ℕ). Means us k (Connected entity.name)) (sym same) h
-
-  turned-proves : (a : MonitorArrival) (stage : MonitorStage) → OwnOk before us J a.own → StageOk us stage → TurnProves stage (turned_at a stage)
-  turned-proves a AwaitsBanner ok st =
-      by-banner AwaitsBanner (λ l. on_banner Mon (at a l)) a.link (λ l t has. absurd (none-issued (on_banner Mon (at a l)).entries (banner-simple before us J node.Monitor (at a l) ok).entries t has))
-  turned-proves a AwaitsHello ok st =
-      by-plain AwaitsHello (λ l f. on_hello (at a l) (due 1 hello_layout.form f)) a.link
-      (λ l f t has. absurd (none-issued (on_hello (at a l) (due 1 hello_layout.form f)).entries (hello-simple before us J node.Monitor (at a l) (due 1 hello_layout.form f) ok).entries t has))
-  turned-proves a AwaitsRequest ok st =
-      by-plain AwaitsRequest (λ l f. on_auth_request on_request_payload (at a l) (due 2 auth_request_layout.form f)) a.link
-      (λ l f t has. absurd (none-issued (on_auth_request on_request_payload (at a l) (due 2 auth_request_layout.form f)).entries
-      (request-simple before us J node.Monitor (at a l) (due 2 auth_request_layout.form f) ok).entries t has))
-  turned-proves a (AwaitsProof offered) ok st =
-      by-plain (AwaitsProof offered) (λ l f. on_auth_request_more (at a l) offered (due 5 auth_request_more_layout.form f)) a.link
-      (λ l f. more-proves (at a l) offered (due 5 auth_request_more_layout.form f))
-  turned-proves a (AwaitsSignature s entity) ok st =
-      by-secure (AwaitsSignature s entity) s.keys (λ l k f. on_signature (at a l) (under s k) entity (due 7 auth_signature_layout.form f)) a.link
-      (λ l k f same. (signature-simple before us J node.Monitor (at a l) (under s k) entity (due 7 auth_signature_layout.form f) ok (keyed entity s.keys.key k.key same st)).entries)
-  turned-proves a (AwaitsIdent s entity) ok st =
-      by-secure (AwaitsIdent s entity) s.keys (λ l k f. on_ident (at a l) (under s k) entity f) a.link
-      (λ l k f same. (ident-simple before us J node.Monitor (at a l) (under s k) entity f ok (keyed entity s.keys.key k.key same st)).entries)
-  turned-proves a (Open s entity) ok st =
-      by-secure (Open s entity) s.keys (λ l k f. on_upkeep (at a l) (under s k) (λ behind. Open behind entity) f) a.link
-      (λ l k f same. (upkeep-simple before us J node.Monitor (at a l) (under s k) entity f ok (keyed entity s.keys.key k.key same st)).entries)
-
-  -- ---- steps
-
-  -- a turn of a link of the monitor, at which the ticket is issued
-  pub record IsProven (m : MonitorNode) (input : Input) (t : Issued) (seals : List SealEntry) : Type 0 where
-    pub number : ℕ
-    pub turn_is : input ≡ Turn number
-    pub link : Link MonitorStage
-    pub found : link_of number m.links ≡ Some link
-    pub proof : Proves link.stage t seals
-
-  abbrev StepProves : MonitorNode → Input → Outcome MonitorNode → Type 0
-  StepProves m input o = (t : Issued) → Contains o.out.entries (journal.Issued t) → IsProven m input t o.out.seals
-
-  quiet-step : (m : MonitorNode) (input : Input) (o : Outcome MonitorNode) → AllByRecursion IsQuietEntry o.out.entries → StepProves m input o
-  quiet-step m input o q t has = absurd (none-issued o.out.entries q t has)
-
-  turn-proves : (m : MonitorNode) (number reading : ℕ) (block : List ℕ) (link : Option (Link MonitorStage)) → link_of number m.links ≡ link → OwnOk before us J m.own
-      → LinkOk (monitor_says before) us link → StepProves m (Turn number) (turn m reading block link)
-  turn-proves m number reading block None is ok st = λ t has. absurd (none-issued [] tt t has)
-  turn-proves m number reading block (Some link) is ok st =
-      let a : MonitorArrival = arrival node.Monitor m.own link reading block in
-      by_turned a (turned_at a link.stage) (turned-proves a link.stage ok st)
-    where
-      by_turned : (a : MonitorArrival) (turned : Turned Monitor MonitorStage) → TurnProves link.stage turned → StepProves m (Turn number) (turns m a turned)
-      by_turned a Waits h = λ t has. absurd (none-issued [] tt t has)
-      by_turned a (Refuses why opened) h = λ t has. absurd (none-issued (turns m a (Refuses why opened)).out.entries ((tt, tt), tt) t has)
-      by_turned a (Handles row) h = λ t has. record { number = number; turn_is = refl; link = link; found = is; proof = h t has }
-
-  opens-quiet : (m : MonitorNode) (reading : ℕ) (block : List ℕ) (link : Link MonitorStage) → AllByRecursion IsQuietEntry (opens m reading block link).out.entries
-  opens-quiet m reading block link = by_test (nat_le 1024 (length m.links))
-    where
-      by_test : (full : Bool) → AllByRecursion IsQuietEntry (carried_out m link.number false
-          (if full then refuses (arrival node.Monitor m.own link reading block) LinksFull [] else goes_on (arrival node.Monitor m.own link reading block) AwaitsBanner own_banner [])).out.entries
-      by_test true = ((tt, tt), tt)
-      by_test false = tt
-
-  fed-quiet : (m : MonitorNode) (bytes : List ℕ) (link : Option (Link MonitorStage)) → AllByRecursion IsQuietEntry (fed m bytes link).out.entries
-  fed-quiet m bytes None = tt
-  fed-quiet m bytes (Some link) = tt
-
-  pub step-proves : (m : MonitorNode) (input : Input) (reading : ℕ) (block : List ℕ) → NodeOk (monitor_says before) m us J → StepProves m input (monitor_step m input reading block)
-  step-proves m (Opened number peer) reading block ok = quiet-step m (Opened number peer) (monitor_step m (Opened number peer) reading block) (opens-quiet m reading block (new_link number AwaitsBanner))
-  step-proves m (Bytes number bytes) reading block ok = quiet-step m (Bytes number bytes) (monitor_step m (Bytes number bytes) reading block) (fed-quiet m bytes (link_of number m.links))
-  step-proves m (Turn number) reading block ok =
-      turn-proves m number reading block (link_of number m.links) refl ok.own (found-link (monitor_says before) us number m.links ok.links)
-  step-proves m (Gone number) reading block ok = quiet-step m (Gone number) (monitor_step m (Gone number) reading block) tt
-  step-proves m Restart reading block ok = quiet-step m Restart (monitor_step m Restart reading block) ((tt, tt), tt)
-  step-proves m (NoLink peer) reading block ok = quiet-step m (NoLink peer) (monitor_step m (NoLink peer) reading block) ((tt, tt), tt)
-  step-proves m (Look view) reading block ok = quiet-step m (Look view) (monitor_step m (Look view) reading block) tt
-  step-proves m Tick reading block ok = quiet-step m Tick (monitor_step m Tick reading block) tt
-  step-proves m (Submit command) reading block ok = quiet-step m (Submit command) (monitor_step m (Submit command) reading block) tt
-
--- entries of which none issues a ticket have none
-pub some-ticket : (js : List Entry) (t : Issued) → tickets_in js ≡ 0 → Contains js (journal.Issued t) → ⊥
-unfolding tickets_in
-some-ticket [] t none (k, below, is) = omega arith
-some-ticket (j ∷ js) t none has = by_place (contains-cons j (journal.Issued t) js has) (some-ticket js t (omega arith))
-  where
-    by_place : (j ≡ journal.Issued t) ⊎ Contains js (journal.Issued t) → (Contains js (journal.Issued t) → ⊥) → ⊥
-    by_place (inl same) rest = let one : one_if_issued j ≡ 1 = ap one_if_issued same in omega arith
-    by_place (inr later) rest = rest later
+pub step-proves : (m : MonitorNode) (input : Input) (reading : ℕ) (block : List ℕ) → StepProves m input (monitor_step m input reading block)
+step-proves m (Opened number peer) reading block = quiet-step m (Opened number peer) (monitor_step m (Opened number peer) reading block) (opens-none m reading block (new_link number AwaitsBanner))
+step-proves m (Bytes number bytes) reading block = quiet-step m (Bytes number bytes) (monitor_step m (Bytes number bytes) reading block) (fed-none m bytes (link_of number m.links))
+step-proves m (Turn number) reading block = turn-proves m number reading block (link_of number m.links) refl
+step-proves m (Gone number) reading block = quiet-step m (Gone number) (monitor_step m (Gone number) reading block) tt
+step-proves m Restart reading block = quiet-step m Restart (monitor_step m Restart reading block) (tt, tt)
+step-proves m (NoLink peer) reading block = quiet-step m (NoLink peer) (monitor_step m (NoLink peer) reading block) (tt, tt)
+step-proves m (Look view) reading block = quiet-step m (Look view) (monitor_step m (Look view) reading block) tt
+step-proves m Tick reading block = quiet-step m Tick (monitor_step m Tick reading block) tt
+step-proves m (Submit command) reading block = quiet-step m (Submit command) (monitor_step m (Submit command) reading block) tt

@@ -3,5 +3,5 @@ pub mod Saves
 pub mod Events
 pub mod Opening
 pub mod Draws
-pub mod Challenges
+pub mod Asked
 pub mod Logins

@@ -1,25 +1,19 @@
--- Who logged in: each ticket is issued behind a proof under its entity's secret, over the challenge that was drawn on its link.
-use Rattle.std.proofs.Common.{◌≡◌, ◌⊎◌, ℕ, List, [], ◌∷◌, map, Option, Some, None, inl, inr, refl, sym, ◌∙◌, subst}
+-- Who logged in: the proof behind which a ticket is issued was signed by the entity's own node, where the entity isn't leaked.
+use Rattle.std.proofs.Common.{◌≡◌, ◌⊎◌, ℕ, List, [], ◌∷◌, map, Option, Some, inl, inr, refl, sym, subst}
 use Rattle.std.specs.Prelude.{Contains}
 use Rattle.cx_base.specs.Names.{Name}
-use Rattle.cx_journal.specs.declared.entries.Entry.{Entry}
-use Rattle.cx_journal.specs.declared.entries.Entry.TheVariants as journal
-use Rattle.cx_journal.specs.declared.entries.Issued.{Issued}
 use Rattle.cx_base.specs.declared.nodes.NodeName.{NodeName}
 use Rattle.cx_base.specs.declared.nodes.NodeName.TheVariants as node
-use Rattle.cx_line_words.specs.declared.choices.LeftState.{LeftState}
-use Rattle.cx_rotate.specs.declared.states.KeptState.{KeptState}
-use Rattle.cx_rules.specs.Acceptor.{AwaitsProof}
-use Rattle.cx_rules.specs.Inputs.{Turn}
+use Rattle.cx_journal.specs.declared.entries.Entry.{Entry}
+use Rattle.cx_journal.specs.declared.entries.Entry.TheVariants as journal
 use Rattle.cx_rules.specs.Links.{Link, link_of}
 use Rattle.cx_rules.specs.Monitor.{MonitorNode, MonitorStage, Offered}
-use Rattle.cx_rules.specs.MonitorRule.{monitor_rule, noted}
-use Rattle.cx_rules.specs.Rows.{Outcome}
-use Rattle.cx_run.specs.Happenings.{Entered, Happening, Nodes, Stepped, client_of, client_steps, monitor_steps, seals_from, steps, steps_of}
-use Rattle.cx_run.specs.Opening.{Setup, leaks_entered, nodes_of, secrets_drawn}
+use Rattle.cx_run.specs.Happenings.{Entered, Happening, Nodes, Stepped, seals_from, steps}
+use Rattle.cx_run.specs.Opening.{Setup, leaked_of, leaks_entered, nodes_of}
+use Rattle.cx_run.proofs.PointsTell.{each-both}
+use Rattle.cx_run.specs.Points.{EachPoint, Point, log_since, logged_until, onto, points, points_onto}
 use Rattle.cx_steps.specs.Onto.{EachOnto, SomeOf}
 use Rattle.cx_steps.specs.Premises.{HasSigned, IsExcepted, IsFresh, IsSound, Owes, Signs}
-use Rattle.cx_steps.specs.declared.seals.DrawMark.TheVariants as draw
 use Rattle.cx_steps.specs.declared.seals.Logged.{Logged}
 use Rattle.cx_steps.specs.declared.seals.SealEntry.{SealEntry}
 use Rattle.cx_steps.specs.declared.seals.SealEntry.TheVariants as seal
@@ -29,145 +23,83 @@ use Rattle.cx_laws_keys.proofs.Premises.{AreGranted, Grant, all-granted, behind,
 use Rattle.cx_laws_keys.proofs.Uses.{Means, Secret, Uses}
 use Rattle.cx_laws_login.proofs.Facts.{OfferOk, StageOk}
 use Rattle.cx_laws_login.proofs.MonitorRows.{monitor_says}
-use Rattle.cx_laws_login.proofs.MonitorStep.{noted-ok}
-use Rattle.cx_laws_login.proofs.Proving.{IsProven, some-ticket, step-proves}
 use Rattle.cx_laws_login.proofs.Rows.{LinkOk, found-link, quiet-entries}
-use Rattle.cx_laws_run.proofs.Challenges.{ChallengesOk, StageDrawn, drawing, event-drawn}
-use Rattle.cx_laws_run.proofs.Events.{NodesOk, client-quiet, event-after}
+use Rattle.cx_laws_run.proofs.Asked.{all-asked}
+use Rattle.cx_laws_run.proofs.Events.{NodesOk, event-after}
 use Rattle.cx_laws_run.proofs.Opening.{NoneIssued, leaks-quiet, nothing-in, opening-inv, opening-nodes, secrets-known}
-use Rattle.cx_laws_run.specs.Laws.{AreDrawn, EachEvent, LogsIn, log_since, onto, proof_of}
+use Rattle.cx_laws_run.specs.Laws.{AreDrawn}
+use Rattle.cx_laws_run.specs.Logins.{Asks, LogIn, LogsIn, Proves, proof_of}
+
+-- of each proof that is found equal at this point, of an entity that isn't leaked: its own node signed it before
+abbrev Signed : Setup → List Point → Point → Type 0
+Signed setup older p = (number : ℕ) (name : Name) → (proves : Proves setup number name older p) → (Contains (leaked_of setup) name → ⊥)
+    → SomeOf (λ (at : Logged). (at.node ≡ node.Entity name) × Signs (proof_of proves.offered.offer proves.client_challenge) at.entry) (logged_until setup older)
 
 -- ---- an event
 
-module _ (leaked : List Name) (whole : List Logged) (us : Uses) (log : List Logged) (J : List Entry) (nodes : Nodes) (h : Happening) where
-  -- the same of what an event of a node comes to
-  record IsTold (n : NodeName) (t : Issued) : Type 0 where
-    monitor : n ≡ node.Monitor
-    number : ℕ
-    turn : h.input ≡ Turn number
-    link : Link MonitorStage
-    found : link_of number nodes.monitor.links ≡ Some link
-    offered : Offered
-    stage : link.stage ≡ AwaitsProof offered
-    entity : t.entity ≡ offered.offer.name
-    secret : SomeOf (λ (at : Logged). at.entry ≡ seal.Drawn (draw.Principal offered.offer.secret offered.offer.name)) log
-    drawn : SomeOf (λ (at : Logged). (at.node ≡ node.Monitor) × (at.entry ≡ seal.Drawn (draw.Challenge offered.offer.challenge))) log
-    client_challenge : ℕ
-    rest : List SealEntry
-    checked : (steps_of nodes h n).out.seals ≡ seal.Checked (proof_of offered.offer client_challenge) ∷ rest
-    signed : (Contains leaked offered.offer.name → ⊥)
-        → SomeOf (λ (at : Logged). (at.node ≡ node.Entity offered.offer.name) × Signs (proof_of offered.offer client_challenge) at.entry) log
+module _ (setup : Setup) (whole : List Logged) (us : Uses) (J : List Entry) (past : List Point) (nodes : Nodes) (h : Happening) where
+  abbrev leaked : List Name
+  leaked = leaked_of setup
 
-  abbrev rule : Outcome MonitorNode
-  rule = monitor_rule nodes.monitor h.input h.reading h.draw
+  abbrev log : List Logged
+  log = logged_until setup past
 
   -- a proof that was found equal under the secret of an entity that isn't leaked was signed by its own node
   signed-by : (offered : Offered) (client : ℕ) → Inv leaked whole us log J → Means us offered.offer.secret (Secret offered.offer.name)
-      → Owes leaked whole node.Monitor log (seal.Checked (proof_of offered.offer client)) → (Contains leaked offered.offer.name → ⊥)
+      → Owes leaked whole h.node log (seal.Checked (proof_of offered.offer client)) → (Contains leaked offered.offer.name → ⊥)
       → SomeOf (λ (at : Logged). (at.node ≡ node.Entity offered.offer.name) × Signs (proof_of offered.offer client) at.entry) log
   signed-by offered client i means owed unleaked = by_owed owed
     where
       name_is : (a b : Name) → Some a ≡ Some b → a ≡ b
       name_is a b e = cc
 
-      by_owed : IsExcepted leaked whole node.Monitor offered.offer.secret ⊎ HasSigned log (proof_of offered.offer client)
+      by_owed : IsExcepted leaked whole h.node offered.offer.secret ⊎ HasSigned log (proof_of offered.offer client)
           → SomeOf (λ (at : Logged). (at.node ≡ node.Entity offered.offer.name) × Signs (proof_of offered.offer client) at.entry) log
       by_owed (inl excepted) =
           let leak = i.leaks offered.offer.secret (Secret offered.offer.name) means excepted.leak in
           absurd (unleaked (subst (λ (m : Name). Contains leaked m) (sym (name_is offered.offer.name leak.0 leak.1)) leak.2))
       by_owed (inr signed) = signed_own leaked whole us log J i (proof_of offered.offer client) offered.offer.name signed means
 
-  monitor-told : Inv leaked whole us log J → NodesOk nodes us J → ChallengesOk log nodes.monitor.links → (t : Issued) (seals : List SealEntry)
-      → IsProven nodes.monitor.own.saved us J (noted nodes.monitor) h.input t seals → AreGranted leaked whole node.Monitor h.line log seals
-      → (steps_of nodes h node.Monitor).out.seals ≡ seals → IsTold node.Monitor t
-  monitor-told i ok ch t seals p g same =
+  event-signed : Inv leaked whole us log J → NodesOk nodes us J → AreGranted leaked whole h.node h.line log (steps nodes h).out.seals
+      → Signed setup past (record { nodes = nodes; happening = h })
+  event-signed i ok g number name p unleaked =
       let m : MonitorNode = nodes.monitor in
-      let offered : Offered = p.proof.offered in
-      let there : LinkOk (monitor_says m.own.saved_before) us (link_of p.number m.links) = found-link (monitor_says m.own.saved_before) us p.number m.links ok.monitor.links in
+      let offered : Offered = p.offered in
+      let there : LinkOk (monitor_says m.own.saved_before) us (link_of number m.links) = found-link (monitor_says m.own.saved_before) us number m.links ok.monitor.links in
       let at_link : StageOk us p.link.stage = subst (λ (l : Option (Link MonitorStage)). LinkOk (monitor_says m.own.saved_before) us l) p.found there in
-      let offer : OfferOk us offered.offer = subst (λ (s : MonitorStage). StageOk us s) p.proof.stage_is at_link in
-      let drawn_there : LinkOk (drawing log) [] (link_of p.number m.links) = found-link (drawing log) [] p.number m.links ch in
-      let drawn_link : StageDrawn log p.link.stage = subst (λ (l : Option (Link MonitorStage)). LinkOk (drawing log) [] l) p.found drawn_there in
-      let granted : AreGranted leaked whole node.Monitor h.line log (seal.Checked (proof_of offered.offer p.proof.client_challenge) ∷ p.proof.rest) =
-      subst (λ (es : List SealEntry). AreGranted leaked whole node.Monitor h.line log es) p.proof.checked g in
-      record {
-        monitor = refl;
-        number = p.number;
-        turn = p.turn_is;
-        link = p.link;
-        found = p.found;
-        offered = offered;
-        stage = p.proof.stage_is;
-        entity = p.proof.entity;
-        secret = i.secrets offered.offer.secret offered.offer.name offer.secret;
-        drawn = subst (λ (s : MonitorStage). StageDrawn log s) p.proof.stage_is drawn_link;
-        client_challenge = p.proof.client_challenge;
-        rest = p.proof.rest;
-        checked = same ∙ p.proof.checked;
-        signed = signed-by offered p.proof.client_challenge i offer.secret granted.0.owes;
-      }
-
-  -- by what becomes of a save
-  monitor-case : (l : Option LeftState) (saved : Option KeptState) → (t : Issued) → Contains (monitor_steps nodes rule l saved).out.entries (journal.Issued t)
-      → ((monitor_steps nodes rule l saved).out.seals ≡ rule.out.seals) × Contains rule.out.entries (journal.Issued t)
-  monitor-case (Some l) (Some saved) t has = absurd (nothing-in (journal.Issued t) has)
-  monitor-case None saved t has = (refl, has)
-  monitor-case (Some l) None t has = (refl, has)
-
-  at-node : (n : NodeName) → Inv leaked whole us log J → NodesOk nodes us J → ChallengesOk log nodes.monitor.links → AreGranted leaked whole n h.line log (steps_of nodes h n).out.seals
-      → (t : Issued) → Contains (steps_of nodes h n).out.entries (journal.Issued t) → IsTold n t
-  at-node node.Monitor i ok ch g t has =
-      let c = monitor-case h.left rule.out.save t has in
-      let m : MonitorNode = nodes.monitor in
-      let p = step-proves m.own.saved us J (noted m) h.input h.reading h.draw (noted-ok us J m ok.monitor) t c.1 in
-      monitor-told i ok ch t rule.out.seals p (subst (λ (es : List SealEntry). AreGranted leaked whole node.Monitor h.line log es) c.0 g) c.0
-  at-node (node.Entity name) i ok ch g t has =
-      absurd (some-ticket (client_steps nodes h name (client_of name nodes)).out.entries t (client-quiet leaked whole us log J nodes h name (client_of name nodes) refl i ok g) has)
-
-  event-logs-in : Inv leaked whole us log J → NodesOk nodes us J → ChallengesOk log nodes.monitor.links → AreGranted leaked whole h.node h.line log (steps nodes h).out.seals
-      → LogsIn leaked log nodes h
-  event-logs-in i ok ch g t has =
-      let told = at-node h.node i ok ch g t has in
-      record {
-        monitor = told.monitor;
-        number = told.number;
-        turn = told.turn;
-        link = told.link;
-        found = told.found;
-        offered = told.offered;
-        stage = told.stage;
-        entity = told.entity;
-        secret = told.secret;
-        drawn = told.drawn;
-        client_challenge = told.client_challenge;
-        rest = told.rest;
-        checked = told.checked;
-        signed = told.signed;
-      }
+      let offer : OfferOk us offered.offer = subst (λ (s : MonitorStage). StageOk us s) p.stage at_link in
+      let granted : AreGranted leaked whole h.node h.line log (seal.Checked (proof_of offered.offer p.client_challenge) ∷ p.rest) =
+      subst (λ (es : List SealEntry). AreGranted leaked whole h.node h.line log es) p.checked g in
+      let own : Contains leaked offered.offer.name → ⊥ = λ has. unleaked (subst (λ (n : Name). Contains leaked n) p.named has) in
+      subst (λ (n : Name). SomeOf (λ (at : Logged). (at.node ≡ node.Entity n) × Signs (proof_of offered.offer p.client_challenge) at.entry) log) p.named
+      (signed-by offered p.client_challenge i offer.secret granted.0.owes own)
 
 -- ---- every list of events
 
-behind-onto : (n : NodeName) (line : ℕ) (es : List SealEntry) (log : List Logged) → behind n line es log ≡ onto (map (λ (e : SealEntry). logged n line e) es) log
-behind-onto n line [] log = refl
-behind-onto n line (e ∷ es) log = behind-onto n line es (logged n line e ∷ log)
+behind-onto : (n : NodeName) (line : ℕ) (es : List SealEntry) (earlier : List Logged) → behind n line es earlier ≡ onto (map (λ (e : SealEntry). logged n line e) es) earlier
+behind-onto n line [] earlier = refl
+behind-onto n line (e ∷ es) earlier = behind-onto n line es (logged n line e ∷ earlier)
 
-logins : (leaked : List Name) (whole : List Logged) (hs : List Happening) (nodes : Nodes) (us : Uses) (log : List Logged) (J : List Entry) → Inv leaked whole us log J
-    → NodesOk nodes us J → ChallengesOk log nodes.monitor.links → AreDrawn hs → EachOnto (Grant leaked whole) log (seals_from nodes hs) → EachEvent (LogsIn leaked) log nodes hs
-logins leaked whole [] nodes us log J i ok ch drawn g = tt
-logins leaked whole (h ∷ hs) nodes us log J i ok ch drawn g =
+all-signed : (setup : Setup) (whole : List Logged) (hs : List Happening) (past : List Point) (nodes : Nodes) (us : Uses) (J : List Entry)
+    → Inv (leaked_of setup) whole us (logged_until setup past) J → NodesOk nodes us J → AreDrawn hs
+    → EachOnto (Grant (leaked_of setup) whole) (logged_until setup past) (seals_from nodes hs) → EachPoint (Signed setup) past → EachPoint (Signed setup) (points_onto past nodes hs)
+all-signed setup whole [] past nodes us J i ok drawn g each = each
+all-signed setup whole (h ∷ hs) past nodes us J i ok drawn g each =
+    let leaked : List Name = leaked_of setup in
+    let log : List Logged = logged_until setup past in
+    let p : Point = record { nodes = nodes; happening = h } in
     let s : Stepped = steps nodes h in
     let gs = granted-step leaked whole h.node h.line log s.out.seals (seals_from s.nodes hs) g in
     let a = event-after leaked whole us log J nodes h i ok drawn.0 gs.0 in
-    let log1 : List Logged = behind h.node h.line s.out.seals log in
-    let rest : EachEvent (LogsIn leaked) log1 s.nodes hs =
-    logins leaked whole hs s.nodes a.uses log1 (entered J s.out.entries) a.inv a.good (event-drawn nodes h log ch) drawn.1 gs.1 in (
-      event-logs-in leaked whole us log J nodes h i ok ch gs.0,
-      subst (λ (l : List Logged). EachEvent (LogsIn leaked) l s.nodes hs) (behind-onto h.node h.line s.out.seals log) rest,
-    )
+    let same : behind h.node h.line s.out.seals log ≡ logged_until setup (p ∷ past) = behind-onto h.node h.line s.out.seals log in
+    let later : Inv leaked whole a.uses (logged_until setup (p ∷ past)) (entered J s.out.entries) = subst (λ (l : List Logged). Inv leaked whole a.uses l (entered J s.out.entries)) same a.inv in
+    let rest : EachOnto (Grant leaked whole) (logged_until setup (p ∷ past)) (seals_from s.nodes hs) = subst (λ (l : List Logged). EachOnto (Grant leaked whole) l (seals_from s.nodes hs)) same gs.1 in
+    all-signed setup whole hs (p ∷ past) s.nodes a.uses (entered J s.out.entries) later a.good drawn.1 rest
+    (event-signed setup whole us J past nodes h i ok gs.0, each)
 
-pub run-logins : (setup : Setup) (leaked : List Name) (hs : List Happening) → AreDrawn hs → IsSound leaked (log_since setup hs) → IsFresh (log_since setup hs)
-    → EachEvent (LogsIn leaked) (onto (secrets_drawn setup) []) (nodes_of setup) hs
-run-logins setup leaked hs drawn sound fresh =
+pub run-logins : (setup : Setup) (hs : List Happening) → AreDrawn hs → IsSound (leaked_of setup) (log_since setup hs) → IsFresh (log_since setup hs) → LogIn setup (points setup hs)
+run-logins setup hs drawn sound fresh =
+    let leaked : List Name = leaked_of setup in
     let whole : List Logged = log_since setup hs in
     let leaks : List Entry = map (λ (x : Entered). x.entry) (leaks_entered setup) in
     let K : List Entry = entered [] leaks in
@@ -175,4 +107,6 @@ run-logins setup leaked hs drawn sound fresh =
     (opening-inv leaked whole) (λ s has. nothing-in (journal.Issued s) has) in
     let known = secrets-known leaked whole K setup.entities [] [] (seals_from (nodes_of setup) hs) began.0 (all-granted leaked whole sound fresh) in
     let nodes : NodesOk (nodes_of setup) known.uses K = opening-nodes known.uses K setup known.theirs began.2 in
-    logins leaked whole hs (nodes_of setup) known.uses (onto (secrets_drawn setup) []) K known.inv nodes tt drawn known.granted
+    let signed : EachPoint (Signed setup) (points setup hs) = all-signed setup whole hs [] (nodes_of setup) known.uses K known.inv nodes drawn known.granted tt in
+    each-both (Asks setup) (Signed setup) (LogsIn setup) (λ older p asks own t has unleaked. let a = asks t has in (a.0, (a.1, own a.0 t.entity a.1 unleaked)))
+    (points setup hs) (all-asked setup hs).asked signed

@@ -14,7 +14,7 @@ use Rattle.cx_base.specs.declared.nodes.NodeName.TheVariants as node
 use Rattle.cx_keyserver.specs.Servers.{generations_of}
 use Rattle.cx_rules.specs.ClientRule.{opening_client}
 use Rattle.cx_run.specs.Happenings.{Entered, Happening, journal_from, seals_from}
-use Rattle.cx_run.specs.Opening.{Declared, Leak, Setup, asker_of, client_in, first_state, leaks_entered, nodes_of, principal_of, secret_drawn, secret_of, secrets_drawn}
+use Rattle.cx_run.specs.Opening.{Declared, Leak, Setup, asker_of, client_in, first_state, leaked_of, leaks_entered, nodes_of, principal_of, secret_drawn, secret_of, secrets_drawn}
 use Rattle.cx_steps.specs.Onto.{EachOnto}
 use Rattle.cx_steps.specs.Premises.{IsFresh, IsSound}
 use Rattle.cx_steps.specs.declared.seals.DrawMark.TheVariants as draw
@@ -30,7 +30,8 @@ use Rattle.cx_laws_login.proofs.Generations.{AreGenerated}
 use Rattle.cx_laws_login.proofs.Rows.{IsQuietEntry, quiet-entries}
 use Rattle.cx_laws_run.proofs.Events.{ClientOk, ClientsOk, NodesOk, events-law}
 use Rattle.cx_laws_run.proofs.Journals.{behind-append}
-use Rattle.cx_laws_run.specs.Laws.{AreDrawn, journal_since, log_since, onto}
+use Rattle.cx_run.specs.Points.{journal_since, log_since, onto}
+use Rattle.cx_laws_run.specs.Laws.{AreDrawn}
 
 -- ---- the entities' secrets
 
@@ -141,8 +142,10 @@ opening-nodes us J setup h none = record {
 
 -- ---- a whole run
 
-pub run-law : (setup : Setup) (leaked : List Name) (hs : List Happening) → AreDrawn hs → IsSound leaked (log_since setup hs) → IsFresh (log_since setup hs) → EachBehind EntryLaw [] (journal_since setup hs)
-run-law setup leaked hs drawn sound fresh =
+pub run-law : (setup : Setup) (hs : List Happening) → AreDrawn hs → IsSound (leaked_of setup) (log_since setup hs) → IsFresh (log_since setup hs)
+    → EachBehind EntryLaw [] (journal_since setup hs)
+run-law setup hs drawn sound fresh =
+    let leaked : List Name = leaked_of setup in
     let whole : List Logged = log_since setup hs in
     let leaks : List Entry = map (λ (x : Entered). x.entry) (leaks_entered setup) in
     let K : List Entry = entered [] leaks in

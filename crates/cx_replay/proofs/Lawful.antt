@@ -1,27 +1,32 @@
--- The laws of a run that keeps its premises.
+-- The laws of a run, and of one that keeps its premises.
 use Rattle.std.proofs.Common.{◌≡◌, Bool, List, Option, None, subst, sym}
 use Rattle.cx_base.specs.declared.kinds.Access.{Access}
 use Rattle.cx_desk.specs.Handlers.{Handlers}
 use Rattle.cx_journal.specs.declared.entries.Entry.{Entry}
 use Rattle.cx_journal.specs.declared.premises.Broken.{Broken}
-use Rattle.cx_laws_run.specs.Laws.{KeepsLaws, LogIn}
+use Rattle.cx_laws_run.specs.Laws.{KeepsLaws}
+use Rattle.cx_laws_run.specs.Logins.{LogIn, Stands}
 use Rattle.cx_lines.specs.declared.lines.Numbered.{Numbered}
 use Rattle.cx_plain.specs.Plain.{serves}
 use Rattle.cx_replay.specs.Serving.{IsByteReplay}
-use Rattle.cx_run.specs.Opening.{leaked_of}
+use Rattle.cx_run.specs.Happenings.{Happening}
+use Rattle.cx_run.specs.Opening.{Setup}
+use Rattle.cx_run.specs.Points.{points}
 use Rattle.cx_run.specs.Runs.{IsFoundOf, run_journal, setup_of, trace}
 
--- where nothing is found of its premises, they hold of its journal, and each ticket was asked for
+-- what is so of every run is so of this one; where nothing is found of its premises, the other laws hold too
 pub byte_replay : (handlers : Handlers) (script : List Numbered) (journal : List Entry) (found : Option Broken)
+    → ((setup : Setup) (hs : List Happening) → Stands setup hs)
     → ((has_handler : Access → Bool) (s : List Numbered) → IsFoundOf s None → KeepsLaws has_handler (run_journal s))
-    → ((s : List Numbered) → IsFoundOf s None → LogIn (leaked_of (setup_of s)) (setup_of s) (trace s))
+    → ((s : List Numbered) → IsFoundOf s None → LogIn (setup_of s) (points (setup_of s) (trace s)))
     → journal ≡ run_journal script → IsFoundOf script found → IsByteReplay handlers script journal found
-byte_replay handlers script journal found keeps logs run kept =
+byte_replay handlers script journal found stands keeps logs run kept =
     let Found : Option Broken → Type 0 = λ f. IsFoundOf script f in
     let Lawful : List Entry → Type 0 = λ j. KeepsLaws (serves handlers) j in
     record {
       run = run;
       found_so = kept;
+      stands = stands (setup_of script) (trace script);
       lawful = λ none. subst Lawful (sym run) (keeps (serves handlers) script (subst Found none kept));
       logged_in = λ none. logs script (subst Found none kept);
     }

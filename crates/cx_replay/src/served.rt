@@ -13,7 +13,7 @@ ghost use Rattle.cx_replay.specs.Serving.{IsReplayBy, IsReplayCause, IsReplayOf,
 use crate::lines::{first_unserved, has_daemon_line};
 use crate::refusals::ReplayRefusal;
 use cx_desk::Desk;
-use cx_laws_run::{journal_laws, login_laws};
+use cx_laws_run::{journal_laws, login_laws, standing_laws};
 use cx_schedule::Script;
 use cx_world::Report;
 use std::alloc::Global;
@@ -36,13 +36,14 @@ pub fn replay(alloc: Global, script: &Script, desk: &Desk) -> Result<Report, Rep
     through_bytes(alloc, script, desk)
 }
 
-/// The run through bytes. Where it keeps both premises, the laws over every run hold of its journal.
+/// The run through bytes. What is so of every run is so of it, and where it keeps both premises, the other laws hold of it too.
 fn through_bytes(alloc: Global, script: &Script, desk: &Desk) -> Result<Report, ReplayRefusal>
     requires schedule { IsSchedule script.now }
     requires served { run.first_unserved script.now ≡ None }
     ensures replayed { IfOk result (λ report. IsReplayBy false (handlers_of desk.now) script.now report.journal report.broken) }
     ensures memory { IfErr result (λ why. why ≡ OutOfMemory) }
 {
+    standing_laws();
     journal_laws();
     login_laws();
     let report = cx_world::run(alloc, script)?;

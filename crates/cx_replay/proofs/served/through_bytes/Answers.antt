@@ -5,4 +5,4 @@ use Rattle.cx_replay.proofs.served.through_bytes.Goals as goal
 pub returns-clause-replayed : goal.returns-clause-replayed
 returns-clause-replayed g c =
     byte_replay (handlers_of c.args.desk.now) c.args.script.now c.in_ok-report.report.journal c.in_ok-report.report.broken
-    c.journal_laws.ensures.schedules c.login_laws.ensures.schedules c.in_ok-report.ensures.journal c.in_ok-report.ensures.found
+    c.standing_laws.ensures.events c.journal_laws.ensures.schedules c.login_laws.ensures.schedules c.in_ok-report.ensures.journal c.in_ok-report.ensures.found

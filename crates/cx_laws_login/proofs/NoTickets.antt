@@ -1,0 +1,237 @@
+-- A client issues no ticket, whatever comes.
+use Rattle.std.proofs.Common.{ℕ, ◌==◌, Bool, true, false, List, [], ◌∷◌, take, Option, Some, None, Result, Ok, Err}
+use Rattle.std.specs.Prelude.{not, if◌then◌else◌}
+use Rattle.std.specs.List.{AllByRecursion}
+use Rattle.cx_control.specs.Auth.{auth_done_layout, auth_reply_more_layout, auth_request_more_layout, auth_signature_layout}
+use Rattle.cx_control.specs.BadMethod.{bad_method_layout}
+use Rattle.cx_control.specs.Hello.{hello_layout}
+use Rattle.cx_control.specs.Idents.{ident_missing_features_layout, server_ident_layout}
+use Rattle.cx_control.specs.Upkeep.{keepalive2_layout, keepalive2_ack_layout}
+use Rattle.cx_control.specs.declared.auth.AuthDone.{AuthDone}
+use Rattle.cx_control.specs.declared.auth.AuthReplyMore.{AuthReplyMore}
+use Rattle.cx_control.specs.declared.auth.AuthSignature.{AuthSignature}
+use Rattle.cx_control.specs.declared.hello.Hello.{Hello}
+use Rattle.cx_control.specs.declared.idents.IdentMissingFeatures.{IdentMissingFeatures}
+use Rattle.cx_control.specs.declared.idents.ServerIdent.{ServerIdent}
+use Rattle.cx_control.specs.declared.upkeep.Keepalive2.{Keepalive2}
+use Rattle.cx_control.specs.declared.upkeep.Keepalive2Ack.{Keepalive2Ack}
+use Rattle.cx_dice.specs.Draws.{challenge_of, cookie_of}
+use Rattle.cx_frame.specs.declared.frame.Frame.{Frame}
+use Rattle.cx_journal.specs.declared.entries.Entry.{Entry}
+use Rattle.cx_journal.specs.declared.faults.BytesFault.{BytesFault}
+use Rattle.cx_journal.specs.declared.faults.BytesFault.TheVariants.{Unexpected}
+use Rattle.cx_journal.specs.declared.faults.LoginFault.TheVariants.{Mode, SignatureWrong}
+use Rattle.cx_journal.specs.declared.outcomes.Reason.TheVariants as reason
+use Rattle.cx_login.specs.Client.{Ask, authenticate}
+use Rattle.cx_login.specs.Unlocking.{login_in}
+use Rattle.cx_login.specs.declared.client.LoggedIn.{LoggedIn}
+use Rattle.cx_rules.specs.ClientRule.{Client, ClientNode, client_rule, loses, me, opens, submits, turn, with_asker}
+use Rattle.cx_rules.specs.Connector.{Stage, AwaitsBanner, AwaitsHello, AwaitsChallenge, AwaitsDone, AwaitsSignature, AwaitsIdent, Open, AskerArrival, AskerRow, Login as Opening, client_ident, holding, identifies, is_open, login_request, on_bad_method, on_banner, on_challenge, on_done, on_hello, on_login_done, on_missing_features, on_opened, on_reply_more, on_server_ident, on_signature, proves, signs, turned_at, while_challenged, while_identified, while_proved}
+use Rattle.cx_rules.specs.Fronts.{banner_next, plain_next, secure_next}
+use Rattle.cx_rules.specs.Greetings.{own_hello}
+use Rattle.cx_rules.specs.Holdings.{Asker, held_login, unexpired}
+use Rattle.cx_rules.specs.Inputs.{Input, Opened, NoLink, Bytes, Turn, Gone, Look, Tick, Submit, Restart}
+use Rattle.cx_rules.specs.Links.{Link, link_of}
+use Rattle.cx_rules.specs.Payloads.{control, due, payload, whole}
+use Rattle.cx_rules.specs.Rows.{Arrival, Turned, Waits, Refuses, Handles, arrival, at, fed, lifted_turn, plain_sent, refused_entry, refuses, refuses_bytes, secure_sent, turns, with_opened}
+use Rattle.cx_rules.specs.Secured.{SealedFrame, Secured, connector_keys, is_signed, plain_frame, secure_frame, signed_frame, under}
+use Rattle.cx_rules.specs.Upkeep.{on_keepalive, on_keepalive_ack, on_upkeep}
+use Rattle.cx_steps.specs.declared.events.Command.{Command}
+use Rattle.cx_steps.specs.declared.events.Command.TheVariants as command
+use Rattle.cx_steps.specs.declared.events.Peer.{Peer}
+use Rattle.cx_steps.specs.declared.events.Peer.TheVariants as peer
+use Rattle.cx_steps.specs.declared.seals.SealEntry.{SealEntry}
+use Rattle.cx_wire.specs.Logins.{authenticate_layout, login_done_layout, server_challenge_layout}
+use Rattle.cx_wire.specs.declared.logins.LoginDone.{LoginDone}
+use Rattle.cx_wire.specs.declared.logins.ServerChallenge.{ServerChallenge}
+use Rattle.cx_laws_keys.proofs.Journal.{IsNotIssued}
+use Rattle.cx_laws_login.proofs.Proving.{RowOf, by-front}
+
+abbrev pub IssueNone : List Entry → Type 0
+IssueNone es = AllByRecursion IsNotIssued es
+
+-- ---- rows
+
+abbrev NoTicket : AskerRow → Type 0
+NoTicket row = IssueNone row.entries
+
+none-plain : (a : AskerArrival) (stage : Stage) (seals : List SealEntry) (r : Result (List ℕ) BytesFault) → NoTicket (plain_sent a stage seals r)
+none-plain a stage seals (Ok bytes) = tt
+none-plain a stage seals (Err why) = (tt, tt)
+
+none-secure : (a : AskerArrival) (s : Secured) (stage : Secured → Stage) (seals : List SealEntry) (r : Result SealedFrame BytesFault) → NoTicket (secure_sent a s stage seals r)
+none-secure a s stage seals (Ok sealed) = tt
+none-secure a s stage seals (Err why) = (tt, tt)
+
+none-hello : (a : AskerArrival) (asked : ℕ) (hello : Result Hello BytesFault) → NoTicket (on_hello a asked hello)
+none-hello a asked (Ok hello) = none-plain a (AwaitsChallenge asked) [] (plain_frame (login_request a.own))
+none-hello a asked (Err why) = (tt, tt)
+
+none-proves : (a : AskerArrival) (server : ℕ) (made : Result (List ℕ) BytesFault) → NoTicket (proves a server made)
+none-proves a server (Ok bytes) = tt
+none-proves a server (Err why) = (tt, tt)
+
+none-challenge : (a : AskerArrival) (asked : ℕ) (server : Result ServerChallenge BytesFault) → NoTicket (on_challenge a asked server)
+none-challenge a asked (Err why) = (tt, tt)
+none-challenge a asked (Ok server) =
+    let ask : Ask = record { secret = a.own.secret; old = unexpired a.reading a.own.holdings.auth; other_keys = asked } in
+    none-proves a server.challenge (plain_frame (control 5 auth_request_more_layout.form
+    (record { payload = authenticate_layout.form.text (authenticate ask server.challenge (challenge_of a.draw)) })))
+
+none-reply_more : (a : AskerArrival) (asked : ℕ) (more : Result AuthReplyMore BytesFault) → NoTicket (on_reply_more a asked more)
+none-reply_more a asked (Err why) = (tt, tt)
+none-reply_more a asked (Ok more) = none-challenge a asked (whole server_challenge_layout.form more.payload)
+
+none-bad_method : (a : AskerArrival) (fields : Result (ℕ × (ℕ × (List ℕ × List ℕ))) BytesFault) → NoTicket (on_bad_method a fields)
+none-bad_method a (Err why) = (tt, tt)
+none-bad_method a (Ok fields) = (tt, tt)
+
+none-challenged : (a : AskerArrival) (asked : ℕ) (f : Frame) → NoTicket (while_challenged a asked f)
+none-challenged a asked f = by_test (f.tag == 3)
+  where
+    by_test : (t : Bool) → NoTicket (if t then on_bad_method a (payload bad_method_layout.form f) else on_reply_more a asked (due 4 auth_reply_more_layout.form f))
+    by_test true = none-bad_method a (payload bad_method_layout.form f)
+    by_test false = none-reply_more a asked (due 4 auth_reply_more_layout.form f)
+
+none-signs : (a : AskerArrival) (login : Opening) (opened : List SealEntry) (made : Result SealedFrame BytesFault) → NoTicket (signs a login opened made)
+none-signs a login opened (Ok sealed) = tt
+none-signs a login opened (Err why) = (tt, tt)
+
+none-opened : (a : AskerArrival) (gid : ℕ) (opened : List SealEntry) (value : Option LoggedIn) → NoTicket (on_opened a gid opened value)
+none-opened a gid opened None = (tt, tt)
+none-opened a gid opened (Some x) =
+    none-signs a (record { gid = gid; opened = x }) opened (signed_frame (connector_keys x.secret) x.auth.session (take a.link.taken a.link.received))
+
+none-login_done : (a : AskerArrival) (gid : ℕ) (done : Result LoginDone BytesFault) → NoTicket (on_login_done a gid done)
+none-login_done a gid (Err why) = (tt, tt)
+none-login_done a gid (Ok done) = let unlocked = login_in a.own.secret done in none-opened a gid unlocked.seals unlocked.value
+
+none-done : (a : AskerArrival) (done : Result AuthDone BytesFault) → NoTicket (on_done a done)
+none-done a (Err why) = (tt, tt)
+none-done a (Ok done) = by_test (not (done.mode == 2))
+  where
+    by_test : (t : Bool) → NoTicket (if t then refuses a (reason.Login Mode) [] else on_login_done a done.gid (whole login_done_layout.form done.payload))
+    by_test true = (tt, tt)
+    by_test false = none-login_done a done.gid (whole login_done_layout.form done.payload)
+
+none-proved : (a : AskerArrival) (f : Frame) → NoTicket (while_proved a f)
+none-proved a f = by_test (f.tag == 3)
+  where
+    by_test : (t : Bool) → NoTicket (if t then on_bad_method a (payload bad_method_layout.form f) else on_done a (due 6 auth_done_layout.form f))
+    by_test true = none-bad_method a (payload bad_method_layout.form f)
+    by_test false = none-done a (due 6 auth_done_layout.form f)
+
+none-identifies : (a : AskerArrival) (s : Secured) (login : Opening) → NoTicket (identifies a s login)
+none-identifies a s login =
+    none-secure (holding a (held_login a.own.holdings login.gid login.opened)) s AwaitsIdent _ (secure_frame s.keys (client_ident a.own login.gid (cookie_of a.draw)))
+
+none-signature : (a : AskerArrival) (s : Secured) (login : Opening) (found : Result AuthSignature BytesFault) → NoTicket (on_signature a s login found)
+none-signature a s login (Err why) = (tt, tt)
+none-signature a s login (Ok found) = by_test (is_signed s found.signature)
+  where
+    by_test : (t : Bool) → NoTicket (if t then identifies a s login else refuses a (reason.Login SignatureWrong) [])
+    by_test true = none-identifies a s login
+    by_test false = (tt, tt)
+
+none-server_ident : (a : AskerArrival) (s : Secured) (ident : Result ServerIdent BytesFault) → NoTicket (on_server_ident a s ident)
+none-server_ident a s (Err why) = (tt, tt)
+none-server_ident a s (Ok ident) = tt
+
+none-missing : (a : AskerArrival) (missing : Result IdentMissingFeatures BytesFault) → NoTicket (on_missing_features a missing)
+none-missing a (Err why) = (tt, tt)
+none-missing a (Ok missing) = (tt, tt)
+
+none-identified : (a : AskerArrival) (s : Secured) (f : Frame) → NoTicket (while_identified a s f)
+none-identified a s f = by_test (f.tag == 10)
+  where
+    by_test : (t : Bool) → NoTicket (if t then on_missing_features a (payload ident_missing_features_layout.form f) else on_server_ident a s (due 9 server_ident_layout.form f))
+    by_test true = none-missing a (payload ident_missing_features_layout.form f)
+    by_test false = none-server_ident a s (due 9 server_ident_layout.form f)
+
+none-keepalive : (a : AskerArrival) (s : Secured) (keepalive : Result Keepalive2 BytesFault) → NoTicket (on_keepalive a s Open keepalive)
+none-keepalive a s (Err why) = (tt, tt)
+none-keepalive a s (Ok keepalive) = none-secure a s Open [] (secure_frame s.keys (control 19 keepalive2_ack_layout.form (record { time = keepalive.time })))
+
+none-keepalive_ack : (a : AskerArrival) (s : Secured) (ack : Result Keepalive2Ack BytesFault) → NoTicket (on_keepalive_ack a s Open ack)
+none-keepalive_ack a s (Err why) = (tt, tt)
+none-keepalive_ack a s (Ok ack) = tt
+
+none-upkeep : (a : AskerArrival) (s : Secured) (f : Frame) → NoTicket (on_upkeep a s Open f)
+none-upkeep a s f = by_tests (f.tag == 18) (f.tag == 19)
+  where
+    by_tests : (ask ack : Bool) → NoTicket (if ask then on_keepalive a s Open (payload keepalive2_layout.form f)
+        else if ack then on_keepalive_ack a s Open (payload keepalive2_ack_layout.form f) else refuses_bytes a (Unexpected f.tag) [])
+    by_tests true ack = none-keepalive a s (payload keepalive2_layout.form f)
+    by_tests false true = none-keepalive_ack a s (payload keepalive2_ack_layout.form f)
+    by_tests false false = (tt, tt)
+
+-- ---- a turn
+
+none-turned : (a : AskerArrival) (stage : Stage) → RowOf NoTicket (turned_at a stage)
+none-turned a (AwaitsBanner asked) =
+    by-front NoTicket (λ link _. on_banner (at a link) asked) (banner_next a.link)
+    (λ link opened. none-plain (at a link) (AwaitsHello asked) [] (plain_frame (own_hello a.own.name.kind)))
+none-turned a (AwaitsHello asked) =
+    by-front NoTicket (λ (link, f) _. on_hello (at a link) asked (due 1 hello_layout.form f)) (plain_next a.link)
+    (λ (link, f) opened. none-hello (at a link) asked (due 1 hello_layout.form f))
+none-turned a (AwaitsChallenge asked) =
+    by-front NoTicket (λ (link, f) _. while_challenged (at a link) asked f) (plain_next a.link) (λ (link, f) opened. none-challenged (at a link) asked f)
+none-turned a AwaitsDone = by-front NoTicket (λ (link, f) _. while_proved (at a link) f) (plain_next a.link) (λ (link, f) opened. none-proved (at a link) f)
+none-turned a (AwaitsSignature s login) =
+    by-front NoTicket (λ (link, f, keys) opened. with_opened opened (on_signature (at a link) (under s keys) login (due 7 auth_signature_layout.form f))) (secure_next s.keys a.link)
+    (λ (link, f, keys) opened. none-signature (at a link) (under s keys) login (due 7 auth_signature_layout.form f))
+none-turned a (AwaitsIdent s) =
+    by-front NoTicket (λ (link, f, keys) opened. with_opened opened (while_identified (at a link) (under s keys) f)) (secure_next s.keys a.link)
+    (λ (link, f, keys) opened. none-identified (at a link) (under s keys) f)
+none-turned a (Open s) =
+    by-front NoTicket (λ (link, f, keys) opened. with_opened opened (on_upkeep (at a link) (under s keys) Open f)) (secure_next s.keys a.link)
+    (λ (link, f, keys) opened. none-upkeep (at a link) (under s keys) f)
+
+-- ---- a step of a client
+
+none-turns : (c : ClientNode) (a : Arrival Client Stage) (turned : Turned Asker Stage) → RowOf NoTicket turned → IssueNone (turns c a (lifted_turn (with_asker c.own) turned)).out.entries
+none-turns c a Waits h = tt
+none-turns c a (Refuses why opened) h = (tt, tt)
+none-turns c a (Handles row) h = h
+
+none-turn : (c : ClientNode) (reading : ℕ) (block : List ℕ) (link : Option (Link Stage)) → IssueNone (turn c reading block link).out.entries
+none-turn c reading block None = tt
+none-turn c reading block (Some link) =
+    none-turns c (arrival (me c.own) c.own link reading block) (turned_at (arrival (me c.own) c.own.asker link reading block) link.stage)
+    (none-turned (arrival (me c.own) c.own.asker link reading block) link.stage)
+
+none-opens : (c : ClientNode) (reading : ℕ) (block : List ℕ) (number : ℕ) (to : Option Peer) → IssueNone (opens c reading block number to).out.entries
+none-opens c reading block number None = tt
+none-opens c reading block number (Some (peer.Daemon daemon)) = tt
+none-opens c reading block number (Some peer.Monitor) = tt
+
+none-fed : (c : ClientNode) (bytes : List ℕ) (link : Option (Link Stage)) → IssueNone (fed c bytes link).out.entries
+none-fed c bytes None = tt
+none-fed c bytes (Some link) = tt
+
+none-loses : (c : ClientNode) (link : Option (Link Stage)) → IssueNone (loses c link).out.entries
+none-loses c None = tt
+none-loses c (Some link) = by_test (is_open link.stage)
+  where
+    by_test : (t : Bool) → IssueNone (if t then [] else refused_entry (me c.own) link.number reason.Lost ∷ [])
+    by_test true = tt
+    by_test false = (tt, tt)
+
+none-submits : (c : ClientNode) (said : Command) → IssueNone (submits c said).out.entries
+none-submits c (command.Login services) = tt
+none-submits c (command.Renew services) = tt
+none-submits c command.Fetch = tt
+none-submits c (command.Connect daemon lossy) = tt
+none-submits c (command.Send daemon operation) = tt
+none-submits c (command.Drop session) = tt
+
+pub client-none : (c : ClientNode) (input : Input) (reading : ℕ) (block : List ℕ) → IssueNone (client_rule c input reading block).out.entries
+client-none c (Opened number to) reading block = none-opens c reading block number to
+client-none c (NoLink to) reading block = (tt, tt)
+client-none c (Bytes number bytes) reading block = none-fed c bytes (link_of number c.links)
+client-none c (Turn number) reading block = none-turn c reading block (link_of number c.links)
+client-none c (Gone number) reading block = none-loses c (link_of number c.links)
+client-none c (Submit said) reading block = none-submits c said
+client-none c Restart reading block = (tt, tt)
+client-none c (Look view) reading block = tt
+client-none c Tick reading block = tt

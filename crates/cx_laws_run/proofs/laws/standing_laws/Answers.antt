@@ -1,0 +1,5 @@
+use Rattle.cx_laws_run.proofs.Asked.{all-asked}
+use Rattle.cx_laws_run.proofs.laws.standing_laws.Goals as goal
+
+pub returns : goal.returns
+returns c = record { events = all-asked }
