@@ -1,17 +1,20 @@
 -- What is known of a run so far: what each key is for, and that all that is sealed and signed under it says what its use allows.
-use Rattle.std.proofs.Common.{◌≡◌, ℕ, ◌≤◌, List, take, Some, subst}
+use Rattle.std.proofs.Common.{◌≡◌, ℕ, ◌^◌, ◌<◌, ◌≤◌, List, length, take, Some, subst}
 use Rattle.std.specs.Prelude.{Contains}
 use Rattle.std.specs.List.{AllByRecursion}
 use Rattle.cx_base.specs.Names.{Name}
 use Rattle.cx_base.specs.declared.kinds.EntityType.{EntityType}
+use Rattle.cx_cbc.specs.Envelope.{sealed as enveloped}
 use Rattle.cx_journal.specs.declared.entries.Entry.{Entry}
 use Rattle.cx_journal.specs.declared.entries.Entry.TheVariants as journal
 use Rattle.cx_journal.specs.declared.entries.Issued.{Issued}
 use Rattle.cx_base.specs.declared.nodes.NodeName.{NodeName}
 use Rattle.cx_base.specs.declared.nodes.NodeName.TheVariants as node
-use Rattle.cx_sealed.specs.Records.{connection_secret_layout, service_ticket_layout, ticket_info_layout}
+use Rattle.cx_rotate.specs.declared.generations.Generation.{Generation}
+use Rattle.cx_sealed.specs.Records.{connection_secret_layout, rotating_reply_layout, service_ticket_layout, ticket_info_layout}
 use Rattle.cx_sealed.specs.Unsealing.{spelled_by}
 use Rattle.cx_sealed.specs.declared.connection_secret.ConnectionSecret.{ConnectionSecret}
+use Rattle.cx_sealed.specs.declared.rotating_reply.RotatingReply.{RotatingReply}
 use Rattle.cx_sealed.specs.declared.service_ticket.ServiceTicket.{ServiceTicket}
 use Rattle.cx_sealed.specs.declared.ticket_info.TicketInfo.{TicketInfo}
 use Rattle.cx_steps.specs.Onto.{SomeOf}
@@ -20,31 +23,44 @@ use Rattle.cx_steps.specs.declared.seals.Logged.{Logged}
 use Rattle.cx_steps.specs.declared.seals.SealEntry.{SealEntry}
 use Rattle.cx_steps.specs.declared.seals.SealEntry.TheVariants as entry
 use Rattle.cx_steps.specs.declared.seals.SealMark.{SealMark}
-use Rattle.cx_laws_keys.proofs.Lists.{some-of, some-with}
-use Rattle.cx_laws_keys.proofs.Uses.{Use, Secret, Generated, Login, Ticketed, Connected, Uses, Means, Grows, HasDrawn, HasSecret, session_use, whose}
+use Rattle.cx_laws_keys.proofs.Lists.{all-map, some-of, some-with}
+use Rattle.cx_laws_keys.proofs.Uses.{Use, Secret, Generated, Login, Ticketed, Connected, Uses, IsConnected, Means, Grows, HasDrawn, HasSecret, connected-grows, session_use, whose}
 
 -- ---- what is said under a key
 
--- the journal has the ticket for this service that this one says
-pub record HasTicket (entries : List Entry) (service : EntityType) (x : ServiceTicket) : Type 0 where
+-- the journal has the ticket for this service that this one says: of the generation of this id, and with the blob that the key makes of the content.
+-- What is read of it expires no later; at the same time, where that has a spelling, and with the same caps, where they have one
+pub record HasTicket (entries : List Entry) (service : EntityType) (id : ℕ) (key content : List ℕ) (x : ServiceTicket) : Type 0 where
   pub ticket : Issued
   pub issued : Contains entries (journal.Issued ticket)
   pub service_is : ticket.service ≡ service
   pub entity : ticket.entity ≡ x.name
   pub gid : ticket.gid ≡ x.gid
   pub expires : x.expires ≤ ticket.expires
+  pub exact : ticket.expires < 4294967296000000000 → x.expires ≡ ticket.expires
+  pub caps : length ticket.caps < 2 ^ 32 → x.caps ≡ ticket.caps
+  pub generation : ticket.generation ≡ id
+  pub blob : ticket.blob ≡ enveloped key content
 
--- what may be sealed under a key of this use, by what is read of it: an entity is told the session key of its own ticket for AUTH; under that
--- key those of its other tickets, and the secret of its link to the monitor; under a generation stand issued tickets of its service
-abbrev pub Says : Uses → List Entry → Use → List ℕ → Type 0
-Says us entries (Secret name) content = (x : TicketInfo) → spelled_by ticket_info_layout.form content ≡ Some x → Means us x.session (Login name)
-Says us entries (Generated service id) content =
-    (x : ServiceTicket) → spelled_by service_ticket_layout.form content ≡ Some x → HasTicket entries service x × Means us x.session (session_use x.name service)
-Says us entries (Login name) content =
+-- the generations of this reply are those of the entity's own type, and each key is the one of its generation
+pub record AreToldOf (us : Uses) (name : Name) (x : RotatingReply) : Type 0 where
+  pub service_is : x.service ≡ name.kind
+  pub generated : AllByRecursion (λ (g : Generation). Means us g.key (Generated x.service g.id)) x.generations
+
+-- what may be sealed under a key of this use, by what is read of it: an entity is told the session key of its own ticket for AUTH, and the
+-- generations of its own type; under that session key those of its other tickets, and the secret of its link to the monitor; under a generation
+-- stand issued tickets of its service
+abbrev pub Says : Uses → List Entry → List ℕ → Use → List ℕ → Type 0
+Says us entries key (Secret name) content =
+    ((x : TicketInfo) → spelled_by ticket_info_layout.form content ≡ Some x → Means us x.session (Login name))
+    × ((x : RotatingReply) → spelled_by rotating_reply_layout.form content ≡ Some x → AreToldOf us name x)
+Says us entries key (Generated service id) content =
+    (x : ServiceTicket) → spelled_by service_ticket_layout.form content ≡ Some x → HasTicket entries service id key content x × Means us x.session (session_use x.name service)
+Says us entries key (Login name) content =
     ((x : TicketInfo) → spelled_by ticket_info_layout.form content ≡ Some x → Means us x.session (Ticketed name x.service))
-    × ((x : ConnectionSecret) → spelled_by connection_secret_layout.form content ≡ Some x → Means us (take 16 x.secret) (Connected name))
-Says us entries (Ticketed name service) content = Unit {0}
-Says us entries (Connected name) content = Unit {0}
+    × ((x : ConnectionSecret) → spelled_by connection_secret_layout.form content ≡ Some x → IsConnected us (take 16 x.secret) name)
+Says us entries key (Ticketed name service) content = Unit {0}
+Says us entries key (Connected acceptor number name tie) content = Unit {0}
 
 -- under an entity's secret only its own node signs
 abbrev pub SignedAt : NodeName → Use → Type 0
@@ -53,7 +69,7 @@ SignedAt at _ = Unit {0}
 
 -- what is sealed or signed is so under a key of some use, as that use allows
 abbrev pub IsAllowed : Uses → List Entry → NodeName → SealEntry → Type 0
-IsAllowed us entries at (entry.Sealed mark) = (u : Use) × Means us mark.key u × Says us entries u mark.content
+IsAllowed us entries at (entry.Sealed mark) = (u : Use) × Means us mark.key u × Says us entries mark.key u mark.content
 IsAllowed us entries at (entry.Signed mark) = (u : Use) × Means us mark.key u × SignedAt at u
 IsAllowed us entries at _ = Unit {0}
 
@@ -78,20 +94,40 @@ pub record Inv (leaked : List Name) (whole : List Logged) (us : Uses) (log : Lis
 pub record Within (J K : List Entry) : Type 0 where
   pub has : (e : Entry) → Contains J e → Contains K e
 
-says-grows : (us vs : Uses) (J K : List Entry) → Grows us vs → Within J K → (u : Use) (content : List ℕ) → Says us J u content → Says vs K u content
-says-grows us vs J K g w (Secret name) content s = λ x is. g.means x.session (Login name) (s x is)
-says-grows us vs J K g w (Generated service id) content s = λ x is.
-    let h : HasTicket J service x = (s x is).0 in (
-      record { ticket = h.ticket; issued = w.has (journal.Issued h.ticket) h.issued; service_is = h.service_is; entity = h.entity; gid = h.gid; expires = h.expires },
+says-grows : (us vs : Uses) (J K : List Entry) → Grows us vs → Within J K → (key : List ℕ) (u : Use) (content : List ℕ) → Says us J key u content → Says vs K key u content
+says-grows us vs J K g w key (Secret name) content s = (
+  λ x is. g.means x.session (Login name) (s.0 x is),
+  λ x is.
+      let h : AreToldOf us name x = s.1 x is in
+      record {
+        service_is = h.service_is;
+        generated = all-map (λ (of : Generation). Means us of.key (Generated x.service of.id)) (λ (of : Generation). Means vs of.key (Generated x.service of.id))
+            (λ of m. g.means of.key (Generated x.service of.id) m) x.generations h.generated;
+      },
+)
+says-grows us vs J K g w key (Generated service id) content s = λ x is.
+    let h : HasTicket J service id key content x = (s x is).0 in (
+      record {
+        ticket = h.ticket;
+        issued = w.has (journal.Issued h.ticket) h.issued;
+        service_is = h.service_is;
+        entity = h.entity;
+        gid = h.gid;
+        expires = h.expires;
+        exact = h.exact;
+        caps = h.caps;
+        generation = h.generation;
+        blob = h.blob;
+      },
       g.means x.session (session_use x.name service) (s x is).1,
     )
-says-grows us vs J K g w (Login name) content s =
-    (λ x is. g.means x.session (Ticketed name x.service) (s.0 x is), λ x is. g.means (take 16 x.secret) (Connected name) (s.1 x is))
-says-grows us vs J K g w (Ticketed name service) content s = tt
-says-grows us vs J K g w (Connected name) content s = tt
+says-grows us vs J K g w key (Login name) content s =
+    (λ x is. g.means x.session (Ticketed name x.service) (s.0 x is), λ x is. connected-grows us vs (take 16 x.secret) name g (s.1 x is))
+says-grows us vs J K g w key (Ticketed name service) content s = tt
+says-grows us vs J K g w key (Connected acceptor number name tie) content s = tt
 
 pub allowed-grows : (us vs : Uses) (J K : List Entry) → Grows us vs → Within J K → (at : NodeName) (e : SealEntry) → IsAllowed us J at e → IsAllowed vs K at e
-allowed-grows us vs J K g w at (entry.Sealed mark) h = (h.0, g.means mark.key h.0 h.1, says-grows us vs J K g w h.0 mark.content h.2)
+allowed-grows us vs J K g w at (entry.Sealed mark) h = (h.0, g.means mark.key h.0 h.1, says-grows us vs J K g w mark.key h.0 mark.content h.2)
 allowed-grows us vs J K g w at (entry.Signed mark) h = (h.0, g.means mark.key h.0 h.1, h.2)
 allowed-grows us vs J K g w at (entry.Opened mark) h = tt
 allowed-grows us vs J K g w at (entry.Checked mark) h = tt
@@ -101,16 +137,17 @@ allowed-grows us vs J K g w at (entry.Drawn mark) h = tt
 
 module _ (leaked : List Name) (whole : List Logged) (us : Uses) (log : List Logged) (J : List Entry) where
   -- what was sealed under a key says what the key's use allows
-  pub opened_says : Inv leaked whole us log J → (mark : SealMark) → HasSealed log mark → (u : Use) → Means us mark.key u → Says us J u mark.content
+  pub opened_says : Inv leaked whole us log J → (mark : SealMark) → HasSealed log mark → (u : Use) → Means us mark.key u → Says us J mark.key u mark.content
   opened_says i mark sealed u h =
-      some-of (λ (at : Logged). Seals mark at.entry) (λ (at : Logged). IsAllowed us J at.node at.entry) (Says us J u mark.content)
+      some-of (λ (at : Logged). Seals mark at.entry) (λ (at : Logged). IsAllowed us J at.node at.entry) (Says us J mark.key u mark.content)
       (λ at s a. by_entry at.node at.entry s a) log sealed i.allowed
     where
-      by_entry : (n : NodeName) (e : SealEntry) → Seals mark e → IsAllowed us J n e → Says us J u mark.content
+      by_entry : (n : NodeName) (e : SealEntry) → Seals mark e → IsAllowed us J n e → Says us J mark.key u mark.content
       by_entry n (entry.Sealed other) same a =
           let means : Means us mark.key a.0 = subst (λ (k : List ℕ). Means us k a.0) same.key a.1 in
           let purpose : a.0 ≡ u = i.one mark.key a.0 u means h in
-          subst (λ (c : List ℕ). Says us J u c) same.content (subst (λ (v : Use). Says us J v other.content) purpose a.2)
+          let said : Says us J other.key u other.content = subst (λ (v : Use). Says us J other.key v other.content) purpose a.2 in
+          subst (λ (k : List ℕ). Says us J k u mark.content) same.key (subst (λ (c : List ℕ). Says us J other.key u c) same.content said)
       by_entry n (entry.Signed other) same a = absurd same
       by_entry n (entry.Opened other) same a = absurd same
       by_entry n (entry.Checked other) same a = absurd same

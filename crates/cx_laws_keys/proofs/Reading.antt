@@ -11,9 +11,11 @@ use Rattle.cx_enc.specs.FieldLaws.{secret-lawful, name-lawful, kind-lawful, read
 use Rattle.cx_enc.specs.Forms.{Spot, ◌>>=◌, Form, IsLawful, little, pair, seen, or_bad, passed, judged, u8_form, u64_form, blob_form}
 use Rattle.cx_enc.specs.Values.{fixed, fixed_of, key_form, kind_form, name_form, reading_form, secret_form, sized_form, time_form}
 use Rattle.cx_enc.specs.Whole.{start}
-use Rattle.cx_sealed.specs.Records.{connection_secret_layout, service_ticket_layout, ticket_info_layout}
+use Rattle.cx_rotate.specs.declared.generations.Generation.{Generation}
+use Rattle.cx_sealed.specs.Records.{connection_secret_layout, generations_layout, rotating_reply_layout, service_ticket_layout, ticket_info_layout}
 use Rattle.cx_sealed.specs.Unsealing.{read_to_end, spelled_by, unless_left}
 use Rattle.cx_sealed.specs.declared.connection_secret.ConnectionSecret.{ConnectionSecret}
+use Rattle.cx_sealed.specs.declared.rotating_reply.RotatingReply.{RotatingReply}
 use Rattle.cx_sealed.specs.declared.service_ticket.ServiceTicket.{ServiceTicket}
 use Rattle.cx_sealed.specs.declared.ticket_info.TicketInfo.{TicketInfo}
 
@@ -113,16 +115,20 @@ clipped-below : (r : ℕ) → clipped r ≤ r
 unfolding clipped
 clipped-below r = omega arith
 
--- a reading in front is read as one that isn't later, and what follows it is read behind it
+clipped-is : (r : ℕ) → r < 4294967296000000000 → clipped r ≡ r
+unfolding clipped
+clipped-is r below = omega arith
+
+-- a reading in front is read as one that isn't later, and as itself where it has a spelling; and what follows it is read behind it
 pub front_reading : {B : Type 0} (g : Form B) (r place : ℕ) (rest : List ℕ) (y : ℕ × B) (next : Spot)
     → (pair reading_form g).at (record { place = place; left = reading_form.text r ++ rest }) ≡ Ok (y, next)
-    → (y.0 ≤ r) × (place : ℕ) × (g.at (record { place = place; left = rest }) ≡ Ok (y.1, next))
+    → (y.0 ≤ r) × (r < 4294967296000000000 → y.0 ≡ r) × (place : ℕ) × (g.at (record { place = place; left = rest }) ≡ Ok (y.1, next))
 front_reading {B} g r place rest y next e =
     let moved : (pair reading_form g).at (record { place = place; left = reading_form.text (clipped r) ++ rest }) ≡ Ok (y, next) =
     ap (λ (t : List ℕ). (pair reading_form g).at (record { place = place; left = t ++ rest })) (sym (clipped-text r)) ∙ e in
     let parts = front reading_form g reading-lawful (clipped r) place rest y next (clipped-fits r) moved in
     let below : clipped r ≤ r = clipped-below r in
-    (omega (arith, parts.0), place + length (reading_form.text (clipped r)), parts.1)
+    (omega (arith, parts.0), λ h. parts.0 ∙ clipped-is r h, place + length (reading_form.text (clipped r)), parts.1)
 
 -- a byte in front that says another kind of record is refused
 pub other_kind : {B : Type 0} (n m : ℕ) (g : Form B) (rest : List ℕ) (y : Unit {0} × B) (next : Spot) → m < 2 ^ 8 → (m == n) ≡ false
@@ -165,6 +171,9 @@ pub record IsReadFrom (written read : ServiceTicket) : Type 0 where
   pub name : read.name ≡ written.name
   pub gid : read.gid ≡ written.gid
   pub expires : read.expires ≤ written.expires
+  -- where it has a spelling
+  pub exact : written.expires < 4294967296000000000 → read.expires ≡ written.expires
+  pub caps : length written.caps < 2 ^ 32 → read.caps ≡ written.caps
 
 abbrev caps_form : Form (List ℕ)
 caps_form = judged is_caps blob_form
@@ -199,6 +208,25 @@ record AreReadFrom (t : ServiceTicket) (a : Parts) : Type 0 where
   name : a.1.0 ≡ t.name
   gid : a.1.1.0 ≡ t.gid
   expires : a.1.1.1.1.0 ≤ t.expires
+  exact : t.expires < 4294967296000000000 → a.1.1.1.1.0 ≡ t.expires
+  caps : length t.caps < 2 ^ 32 → a.1.1.1.1.1 ≡ t.caps
+
+-- a blob that is judged is read as it is
+judged_read : (good : List ℕ → Bool) (bytes : List ℕ) (place : ℕ) (y : List ℕ) (next : Spot) → length bytes < 2 ^ 32
+    → (judged good blob_form).at (record { place = place; left = blob_form.text bytes }) ≡ Ok (y, next) → y ≡ bytes
+judged_read good bytes place y next short e =
+    let text : List ℕ = blob_form.text bytes in
+    let behind : Spot = record { place = place + length text; left = [] } in
+    let again : blob_form.at (record { place = place; left = text }) ≡ Ok (bytes, behind) =
+    ap (λ (t : List ℕ). blob_form.at (record { place = place; left = t })) (sym (append-nil text)) ∙ blob-lawful.again bytes place [] short in
+    let a = bind_ok (blob_form.at (record { place = place; left = text })) (λ a. or_bad place (passed good a.0) a.1) (y, next) e in
+    let same : a.0 ≡ (bytes, behind) = ok_is a.0 (bytes, behind) (sym a.1 ∙ again) in
+    let found : or_bad place (passed good bytes) behind ≡ Ok (y, next) = subst (λ (p : List ℕ × Spot). or_bad place (passed good p.0) p.1 ≡ Ok (y, next)) same a.2 in
+    by_test (good bytes) behind found
+  where
+    by_test : (t : Bool) (s : Spot) → or_bad place (cond t (Some bytes) None) s ≡ Ok (y, next) → y ≡ bytes
+    by_test true s is = let same : (bytes, s) ≡ (y, next) = ok_is (bytes, s) (y, next) is in sym (ap (λ (p : List ℕ × Spot). p.0) same)
+    by_test false s is = absurd cc
 
 parts_read : (t : ServiceTicket) (a : Parts) (place : ℕ) (next : Spot) → length t.session ≡ 16 → name_form.Fits t.name → t.gid < 2 ^ 64
     → ticket_form.at (record { place = place; left = ticket_form.text (ticket_parts t) }) ≡ Ok (a, next) → AreReadFrom t a
@@ -207,15 +235,15 @@ parts_read t a place next sixteen named numbered e =
     let p2 = front name_form gid_form name-lawful t.name _ (gid_form.text (ticket_parts t).1.1) a.1 next named p1.1 in
     let p3 = front u64_form created_form u64-lawful t.gid _ (created_form.text (ticket_parts t).1.1.1) a.1.1 next numbered p2.1 in
     let p4 = front_reading expiry_form t.created _ (expiry_form.text (ticket_parts t).1.1.1.1) a.1.1.1 next p3.1 in
-    let p5 = front_reading caps_form t.expires _ (caps_form.text t.caps) a.1.1.1.1 next p4.2 in
-    record { session = p1.0; name = p2.0; gid = p3.0; expires = p5.0 }
+    let p5 = front_reading caps_form t.expires _ (caps_form.text t.caps) a.1.1.1.1 next p4.3 in
+    record { session = p1.0; name = p2.0; gid = p3.0; expires = p5.0; exact = p5.1; caps = λ short. judged_read is_caps t.caps p5.2 a.1.1.1.1.1 next short p5.3 }
 
 pub read_ticket : (t x : ServiceTicket) → length t.session ≡ 16 → name_form.Fits t.name → t.gid < 2 ^ 64
     → spelled_by service_ticket_layout.form (service_ticket_layout.form.text t) ≡ Some x → IsReadFrom t x
 read_ticket t x sixteen named numbered e =
     let b = behind_kind 1 ticket_made ticket_parts ticket_form t x (omega arith) refl e in
     let p = parts_read t b.0 b.2 b.3 sixteen named numbered b.4 in
-    subst (λ (y : ServiceTicket). IsReadFrom t y) b.1 (record { session = p.session; name = p.name; gid = p.gid; expires = p.expires })
+    subst (λ (y : ServiceTicket). IsReadFrom t y) b.1 (record { session = p.session; name = p.name; gid = p.gid; expires = p.expires; exact = p.exact; caps = p.caps })
 
 -- what is read again of what is told of a ticket
 pub record IsInfoFrom (written read : TicketInfo) : Type 0 where
@@ -248,20 +276,7 @@ read_info t x sixteen e =
 sized_read : (n : ℕ) (bytes : List ℕ) (place : ℕ) (y : List ℕ) (next : Spot) → length bytes < 2 ^ 32
     → (sized_form n).at (record { place = place; left = (sized_form n).text bytes }) ≡ Ok (y, next) → y ≡ bytes
 unfolding sized_form
-sized_read n bytes place y next short e =
-    let good : List ℕ → Bool = λ bytes. length bytes == n in
-    let text : List ℕ = blob_form.text bytes in
-    let behind : Spot = record { place = place + length text; left = [] } in
-    let again : blob_form.at (record { place = place; left = text }) ≡ Ok (bytes, behind) =
-    ap (λ (t : List ℕ). blob_form.at (record { place = place; left = t })) (sym (append-nil text)) ∙ blob-lawful.again bytes place [] short in
-    let a = bind_ok (blob_form.at (record { place = place; left = text })) (λ a. or_bad place (passed good a.0) a.1) (y, next) e in
-    let same : a.0 ≡ (bytes, behind) = ok_is a.0 (bytes, behind) (sym a.1 ∙ again) in
-    let found : or_bad place (passed good bytes) behind ≡ Ok (y, next) = subst (λ (p : List ℕ × Spot). or_bad place (passed good p.0) p.1 ≡ Ok (y, next)) same a.2 in
-    by_test (good bytes) behind found
-  where
-    by_test : (t : Bool) (s : Spot) → or_bad place (cond t (Some bytes) None) s ≡ Ok (y, next) → y ≡ bytes
-    by_test true s is = let same : (bytes, s) ≡ (y, next) = ok_is (bytes, s) (y, next) is in sym (ap (λ (p : List ℕ × Spot). p.0) same)
-    by_test false s is = absurd cc
+sized_read n bytes place y next short e = judged_read (λ (b : List ℕ). length b == n) bytes place y next short e
 
 pub read_connection : (t x : ConnectionSecret) → length t.secret < 2 ^ 32
     → spelled_by connection_secret_layout.form (connection_secret_layout.form.text t) ≡ Some x → x.secret ≡ t.secret
@@ -269,7 +284,7 @@ read_connection t x short e =
     let b = behind_kind 7 (λ (secret : List ℕ). record { secret = secret }) (λ (c : ConnectionSecret). c.secret) (sized_form 64) t x (omega arith) refl e in
     ap (λ (c : ConnectionSecret). c.secret) (sym b.1) ∙ sized_read 64 t.secret _ b.0 b.3 short b.4
 
--- what is told of a ticket is no connection secret, nor the other way about
+-- what is told of a ticket is no connection secret and no generations, nor is such a secret told of a ticket
 kinds_differ : {A X : Type 0} (n m : ℕ) (made : A → X) (parts : X → A) (f : Form A) (rest : List ℕ) (x : X) → m < 2 ^ 8 → (m == n) ≡ false
     → spelled_by (of_kind n made parts f) (u8_form.text m ++ rest) ≡ Some x → ⊥
 kinds_differ {A} {X} n m made parts f rest x small other e =
@@ -283,6 +298,14 @@ kinds_differ {A} {X} n m made parts f rest x small other e =
 pub info_no_connection : (t : TicketInfo) (x : ConnectionSecret) → spelled_by connection_secret_layout.form (ticket_info_layout.form.text t) ≡ Some x → ⊥
 info_no_connection t x e =
     kinds_differ 7 2 (λ (secret : List ℕ). record { secret = secret }) (λ (c : ConnectionSecret). c.secret) (sized_form 64) (info_form.text (info_parts t)) x (omega arith) refl e
+
+abbrev rotating_made : EntityType × List Generation → RotatingReply
+rotating_made (service, generations) = record { service = service; generations = generations }
+
+pub info_no_rotating : (t : TicketInfo) (x : RotatingReply) → spelled_by rotating_reply_layout.form (ticket_info_layout.form.text t) ≡ Some x → ⊥
+info_no_rotating t x e =
+    kinds_differ 6 2 rotating_made (λ (r : RotatingReply). (r.service, r.generations)) (pair kind_form generations_layout.form)
+    (info_form.text (info_parts t)) x (omega arith) refl e
 
 pub connection_no_info : (t : ConnectionSecret) (x : TicketInfo) → spelled_by ticket_info_layout.form (connection_secret_layout.form.text t) ≡ Some x → ⊥
 connection_no_info t x e = kinds_differ 2 7 info_made info_parts info_form ((sized_form 64).text t.secret) x (omega arith) refl e

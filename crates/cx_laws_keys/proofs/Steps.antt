@@ -16,7 +16,7 @@ use Rattle.cx_steps.specs.declared.seals.SealEntry.TheVariants as entry
 use Rattle.cx_laws_keys.proofs.Lists.{all-map, some-map}
 use Rattle.cx_laws_keys.proofs.Known.{AreOwn, Inv, IsAllowed, Within, allowed-grows}
 use Rattle.cx_laws_keys.proofs.Premises.{DrawsKey, Grant, behind, logged, new-key}
-use Rattle.cx_laws_keys.proofs.Uses.{DrawnAs, HasDrawn, HasSecret, Means, Secret, Use, Uses, grows-one, stays, whose}
+use Rattle.cx_laws_keys.proofs.Uses.{DrawnAs, HasDrawn, HasSecret, Means, Secret, Use, Uses, grows-one, stays, whose, with_key}
 
 pub within-itself : (J : List Entry) → Within J J
 within-itself J = record { has = λ e h. h }
@@ -48,7 +48,7 @@ module _ (leaked : List Name) (whole : List Logged) where
 
     -- a key that is drawn for a use
     pub inv-drawn : (n : NodeName) (line : ℕ) (mark : DrawMark) (key : List ℕ) (u : Use) → Inv leaked whole us log J → key_of mark ≡ Some key → for_whom mark ≡ whose u
-        → ((name : Name) → u ≡ Secret name → mark ≡ draw.Principal key name) → Grant leaked whole log (logged n line (entry.Drawn mark)) → Inv leaked whole ((key, u) ∷ us) (logged n line (entry.Drawn mark) ∷ log) J
+        → ((name : Name) → u ≡ Secret name → mark ≡ draw.Principal key name) → Grant leaked whole log (logged n line (entry.Drawn mark)) → Inv leaked whole (with_key us key u) (logged n line (entry.Drawn mark) ∷ log) J
     inv-drawn n line mark key u i is for exact grant = record {
       held = held;
       secrets = secrets;
@@ -56,8 +56,8 @@ module _ (leaked : List Name) (whole : List Logged) where
       leaks = leaks;
       allowed = (
         tt,
-        all-map (λ (at : Logged). IsAllowed us J at.node at.entry) (λ (at : Logged). IsAllowed ((key, u) ∷ us) J at.node at.entry)
-            (λ at a. allowed-grows us ((key, u) ∷ us) J J (grows-one us key u) (within-itself J) at.node at.entry a) log i.allowed,
+        all-map (λ (at : Logged). IsAllowed us J at.node at.entry) (λ (at : Logged). IsAllowed (with_key us key u) J at.node at.entry)
+            (λ at a. allowed-grows us (with_key us key u) J J (grows-one us key u) (within-itself J) at.node at.entry a) log i.allowed,
       );
       own = i.own;
     }
@@ -69,21 +69,21 @@ module _ (leaked : List Name) (whole : List Logged) where
             new-key k log (entry.Drawn mark) grant.new drawn
             (some-map (λ (at : Logged). DrawnAs (whose v) k at.entry) (λ (at : Logged). DrawsKey k at.entry) (λ at d. drawn-key (whose v) k at.entry d) log before)
 
-        held : (k : List ℕ) (v : Use) → Means ((key, u) ∷ us) k v → HasDrawn (logged n line (entry.Drawn mark) ∷ log) (whose v) k
+        held : (k : List ℕ) (v : Use) → Means (with_key us key u) k v → HasDrawn (logged n line (entry.Drawn mark) ∷ log) (whose v) k
         held k v (inl (same, purpose)) = inl (is ∙ ap (λ (x : List ℕ). Some x) same, for ∙ ap whose purpose)
         held k v (inr h) = inr (i.held k v h)
 
-        secrets : (k : List ℕ) (name : Name) → Means ((key, u) ∷ us) k (Secret name) → HasSecret (logged n line (entry.Drawn mark) ∷ log) name k
+        secrets : (k : List ℕ) (name : Name) → Means (with_key us key u) k (Secret name) → HasSecret (logged n line (entry.Drawn mark) ∷ log) name k
         secrets k name (inl (same, purpose)) = inl (ap (λ (m : DrawMark). entry.Drawn m) (exact name purpose ∙ ap (λ (x : List ℕ). draw.Principal x name) same))
         secrets k name (inr h) = inr (i.secrets k name h)
 
-        one : (k : List ℕ) (v w : Use) → Means ((key, u) ∷ us) k v → Means ((key, u) ∷ us) k w → v ≡ w
+        one : (k : List ℕ) (v w : Use) → Means (with_key us key u) k v → Means (with_key us key u) k w → v ≡ w
         one k v w (inl (a, b)) (inl (c, d)) = sym b ∙ d
         one k v w (inl (a, b)) (inr h) = absurd (unused k w a h)
         one k v w (inr h) (inl (a, b)) = absurd (unused k v a h)
         one k v w (inr h) (inr g) = i.one k v w h g
 
-        leaks : (k : List ℕ) (v : Use) → Means ((key, u) ∷ us) k v → IsLeakedKey leaked whole k → (name : Name) × (whose v ≡ Some name) × Contains leaked name
+        leaks : (k : List ℕ) (v : Use) → Means (with_key us key u) k v → IsLeakedKey leaked whole k → (name : Name) × (whose v ≡ Some name) × Contains leaked name
         leaks k v (inl (same, purpose)) leak =
             let told = grant.leak k (is ∙ ap (λ (x : List ℕ). Some x) same) leak in
             (told.0, sym (ap whose purpose) ∙ sym for ∙ told.1, told.2)

@@ -1,8 +1,9 @@
--- What each key of a run is for.
-use Rattle.std.proofs.Common.{◌≡◌, ℕ, List, ◌∷◌, Option, Some, None, inr}
+-- What each key of a run is for, and what else is known of a run that stands in no state.
+use Rattle.std.proofs.Common.{◌≡◌, ℕ, List, [], ◌∷◌, ◌++◌, Option, Some, None, inr, refl, sym, ap, ◌∙◌, append_assoc}
 use Rattle.cx_base.specs.Names.{Name}
 use Rattle.cx_base.specs.declared.kinds.EntityType.{EntityType}
 use Rattle.cx_base.specs.declared.kinds.EntityType.TheVariants.{Auth}
+use Rattle.cx_base.specs.declared.nodes.NodeName.{NodeName}
 use Rattle.cx_steps.specs.Draws.{for_whom, key_of}
 use Rattle.cx_steps.specs.Onto.{SomeOf}
 use Rattle.cx_steps.specs.declared.seals.DrawMark.TheVariants as draw
@@ -10,14 +11,20 @@ use Rattle.cx_steps.specs.declared.seals.Logged.{Logged}
 use Rattle.cx_steps.specs.declared.seals.SealEntry.{SealEntry}
 use Rattle.cx_steps.specs.declared.seals.SealEntry.TheVariants as entry
 
+-- what ties the key of a link to the one that connects: at the monitor the challenge of its proof; at a daemon the service and the nonce of its
+-- authorizers
+pub data Tie : Type 0 where
+  AtMonitor : ℕ → Tie
+  AtDaemon : EntityType → ℕ → Tie
+
 -- an entity's own secret; a generation of a service, by its id; the session key of an entity's ticket for AUTH, and of one for another service;
--- the key of a link of an entity to the monitor
+-- the key of a link of an acceptor to an entity, with what ties it
 pub data Use : Type 0 where
   Secret : Name → Use
   Generated : EntityType → ℕ → Use
   Login : Name → Use
   Ticketed : Name → EntityType → Use
-  Connected : Name → Use
+  Connected : NodeName → ℕ → Name → Tie → Use
 
 -- the session key of a ticket
 abbrev pub session_use : Name → EntityType → Use
@@ -30,27 +37,106 @@ whose (Secret name) = Some name
 whose (Generated service id) = None
 whose (Login name) = Some name
 whose (Ticketed name service) = Some name
-whose (Connected name) = Some name
+whose (Connected acceptor number name tie) = Some name
 
--- keys and what they are for
-abbrev pub Uses : Type 0
-Uses = List (List ℕ × Use)
+-- ---- lists that grow together
+
+-- a nonce, a challenge or a cookie, and the node that drew it, for a link of its own
+pub record Mine : Type 0 where
+  pub value : ℕ
+  pub node : NodeName
+  pub number : ℕ
+
+-- a frame that was sealed behind AUTH_SIGNATURE: its parts; and the nonce or challenge of the connector, and the key
+pub record Framed : Type 0 where
+  pub nonce : ℕ
+  pub key : List ℕ
+  pub parts : List (List ℕ)
+
+-- what is known of a run and stands in no state, the newest first: what each key is for; what was drawn by whom; the frames of connectors, and those
+-- of acceptors; the cookie of the session that an acceptor took under a key; the nonce, and the place among the acceptor's frames, of each reply and
+-- answer that was taken
+pub record Uses : Type 0 where
+  pub keys : List (List ℕ × Use)
+  pub mine : List Mine
+  pub frames : List Framed
+  pub given : List Framed
+  pub joins : List (List ℕ × ℕ)
+  pub reads : List (ℕ × ℕ)
+
+-- nothing is known yet
+abbrev pub no_uses : Uses
+no_uses = record { keys = []; mine = []; frames = []; given = []; joins = []; reads = [] }
+
+-- a key with what it is for
+abbrev pub with_key : Uses → List ℕ → Use → Uses
+with_key us key u = record us { keys = (key, u) ∷ us.keys }
 
 -- this key is for this use
 abbrev pub Means : Uses → List ℕ → Use → Type 0
-Means us key u = SomeOf (λ (p : List ℕ × Use). (p.0 ≡ key) × (p.1 ≡ u)) us
+Means us key u = SomeOf (λ (p : List ℕ × Use). (p.0 ≡ key) × (p.1 ≡ u)) us.keys
 
+-- the second list is the first with more in front of it
+pub record Extends {X : Type 0} (xs ys : List X) : Type 0 where
+  pub more : List X
+  pub is : ys ≡ more ++ xs
+
+pub extends-itself : {X : Type 0} (xs : List X) → Extends xs xs
+extends-itself xs = record { more = []; is = refl }
+
+pub extends-then : {X : Type 0} (xs ys zs : List X) → Extends xs ys → Extends ys zs → Extends xs zs
+extends-then {X} xs ys zs f g =
+    record { more = g.more ++ f.more; is = g.is ∙ ap (λ (l : List X). g.more ++ l) f.is ∙ sym (append_assoc g.more f.more xs) }
+
+-- all that is known stays so
 pub record Grows (us vs : Uses) : Type 0 where
   pub means : (key : List ℕ) (u : Use) → Means us key u → Means vs key u
+  pub mine : Extends us.mine vs.mine
+  pub frames : Extends us.frames vs.frames
+  pub given : Extends us.given vs.given
+  pub joins : Extends us.joins vs.joins
+  pub reads : Extends us.reads vs.reads
 
 pub stays : (us : Uses) → Grows us us
-stays us = record { means = λ key u h. h }
+stays us = record {
+  means = λ key u h. h;
+  mine = extends-itself us.mine;
+  frames = extends-itself us.frames;
+  given = extends-itself us.given;
+  joins = extends-itself us.joins;
+  reads = extends-itself us.reads;
+}
 
 pub grows-then : (us vs ws : Uses) → Grows us vs → Grows vs ws → Grows us ws
-grows-then us vs ws f g = record { means = λ key u h. g.means key u (f.means key u h) }
+grows-then us vs ws f g = record {
+  means = λ key u h. g.means key u (f.means key u h);
+  mine = extends-then us.mine vs.mine ws.mine f.mine g.mine;
+  frames = extends-then us.frames vs.frames ws.frames f.frames g.frames;
+  given = extends-then us.given vs.given ws.given f.given g.given;
+  joins = extends-then us.joins vs.joins ws.joins f.joins g.joins;
+  reads = extends-then us.reads vs.reads ws.reads f.reads g.reads;
+}
 
-pub grows-one : (us : Uses) (key : List ℕ) (u : Use) → Grows us ((key, u) ∷ us)
-grows-one us key u = record { means = λ k v h. inr h }
+pub grows-one : (us : Uses) (key : List ℕ) (u : Use) → Grows us (with_key us key u)
+grows-one us key u = record {
+  means = λ k v h. inr h;
+  mine = extends-itself us.mine;
+  frames = extends-itself us.frames;
+  given = extends-itself us.given;
+  joins = extends-itself us.joins;
+  reads = extends-itself us.reads;
+}
+
+-- the key is the one of a link to this entity
+pub record IsConnected (us : Uses) (key : List ℕ) (name : Name) : Type 0 where
+  pub acceptor : NodeName
+  pub number : ℕ
+  pub tie : Tie
+  pub means : Means us key (Connected acceptor number name tie)
+
+pub connected-grows : (us vs : Uses) (key : List ℕ) (name : Name) → Grows us vs → IsConnected us key name → IsConnected vs key name
+connected-grows us vs key name f h =
+    record { acceptor = h.acceptor; number = h.number; tie = h.tie; means = f.means key (Connected h.acceptor h.number name h.tie) h.means }
 
 -- the entry draws this key, for this entity or for none
 abbrev pub DrawnAs : Option Name → List ℕ → SealEntry → Type 0

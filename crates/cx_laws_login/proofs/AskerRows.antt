@@ -52,7 +52,7 @@ use Rattle.cx_laws_keys.proofs.Known.{Inv, IsAllowed}
 use Rattle.cx_laws_keys.proofs.Lists.{all-append}
 use Rattle.cx_laws_keys.proofs.Premises.{AreGranted, behind, granted-first, granted-rest}
 use Rattle.cx_laws_keys.proofs.Steps.{inv-all}
-use Rattle.cx_laws_keys.proofs.Uses.{Connected, Login, Means, Secret, Uses}
+use Rattle.cx_laws_keys.proofs.Uses.{IsConnected, Login, Means, Secret, Uses}
 use Rattle.cx_laws_login.proofs.Facts.{AskerOk, AskerStageOk, HasConnection, asker-entered, asker_stage-grows}
 use Rattle.cx_laws_login.proofs.Opens.{unlocked-allowed, unlocked_says}
 use Rattle.cx_laws_login.proofs.Rows.{AfterRow, Allowed, FrameOk, Saying, Simple, after-simple, frame-ok, signing-ok, simple-goes_on, simple-plain, simple-refuses, simple-refuses_bytes, simple-secure}
@@ -99,7 +99,7 @@ module _ (leaked : List Name) (whole_log : List Logged) (n : NodeName) (line : �
   auth-tells name secret part means =
       tells-then (unlocked ticket_info_layout.form kind.Principal secret part.info) (λ info. made (held_as part info)) (λ info. Means us info.session (Login name)) (λ held. Means us held.session (Login name))
       (unlocked-allowed leaked whole_log n line us [] J ticket_info_layout.form kind.Principal secret part.info)
-      (λ log i g x e. let s = unlocked_says leaked whole_log n line us log J ticket_info_layout.form kind.Principal secret part.info (Secret name) i means (free secret) g x e in s.2 x s.1)
+      (λ log i g x e. let s = unlocked_says leaked whole_log n line us log J ticket_info_layout.form kind.Principal secret part.info (Secret name) i means (free secret) g x e in s.2.0 x s.1)
       (λ info m log i g x e. held_means info x m e)
     where
       held_means : (info : TicketInfo) (x : Held) → Means us info.session (Login name) → Some (held_as part info) ≡ Some x → Means us x.session (Login name)
@@ -113,17 +113,17 @@ module _ (leaked : List Name) (whole_log : List Logged) (n : NodeName) (line : �
       → Tells (unlocked connection_secret_layout.form kind.Session auth.session connection >>= λ opened. made (record { auth = auth; tickets = tickets; secret = opened.secret })) (IsLogin name)
   connection-tells name auth tickets connection means =
       tells-then (unlocked connection_secret_layout.form kind.Session auth.session connection) (λ opened. made (record { auth = auth; tickets = tickets; secret = opened.secret }))
-      (λ opened. Means us (take 16 opened.secret) (Connected name)) (IsLogin name)
+      (λ opened. IsConnected us (take 16 opened.secret) name) (IsLogin name)
       (unlocked-allowed leaked whole_log n line us [] J connection_secret_layout.form kind.Session auth.session connection)
       (λ log i g x e. let s = unlocked_says leaked whole_log n line us log J connection_secret_layout.form kind.Session auth.session connection (Login name) i means (free auth.session) g x e in s.2.1 x s.1)
       (λ opened m log i g x e. login_means opened x m e)
     where
-      login_means : (opened : ConnectionSecret) (x : LoggedIn) → Means us (take 16 opened.secret) (Connected name)
+      login_means : (opened : ConnectionSecret) (x : LoggedIn) → IsConnected us (take 16 opened.secret) name
           → Some (record { auth = auth; tickets = tickets; secret = opened.secret }) ≡ Some x → IsLogin name x
       login_means opened x m e =
           let login : LoggedIn = record { auth = auth; tickets = tickets; secret = opened.secret } in
           let same : login ≡ x = cc in
-          subst (IsLogin name) same (means, record { name = name; means = m })
+          subst (IsLogin name) same (means, record { name = name; connected = m })
 
   login-allowed : (secret : List ℕ) (parts : List TicketPart) (connection : List ℕ) → Allowed us J n (login_of_parts secret parts connection).seals
   login-allowed secret [] connection = tt

@@ -1,7 +1,7 @@
 -- The monitor's row of an Authenticate: what it draws, seals, issues and saves, and what it refuses.
 use Rattle.std.proofs.Common.{◌≡◌, ℕ, ◌==◌, ◌<◌, ◌≤◌, ◌^◌, Bool, true, false, List, [], ◌∷◌, ◌++◌, length, take, Option, Some, None, Result, Ok, Err, refl, sym, ap, subst, arith}
 use Rattle.std.specs.Prelude.{find, if◌then◌else◌}
-use Rattle.std.specs.List.{flat_map}
+use Rattle.std.specs.List.{AllByRecursion, flat_map}
 use Rattle.std.specs.Option.{option_map}
 use Rattle.cx_base.specs.Names.{Name}
 use Rattle.cx_base.specs.declared.kinds.EntityType.TheVariants.{Auth}
@@ -48,20 +48,21 @@ use Rattle.cx_wire.specs.Logins.{authenticate_layout}
 use Rattle.cx_wire.specs.declared.logins.Authenticate.{Authenticate}
 use Rattle.cx_journal.specs.Behind.{EachBehind}
 use Rattle.cx_laws_keys.proofs.Journal.{After, EntryLaw, Reached, after-then, entered, reached-then}
-use Rattle.cx_laws_keys.proofs.Known.{HasTicket, Inv}
+use Rattle.cx_laws_keys.proofs.Known.{Inv}
 use Rattle.cx_laws_keys.proofs.Premises.{AreGranted, behind, behind-append, granted-first, granted-rest, logged}
 use Rattle.cx_laws_keys.proofs.Steps.{inv-all, inv-allowed}
-use Rattle.cx_laws_keys.proofs.Uses.{Connected, Generated, Grows, Login, Means, Secret, Uses, grows-then, stays}
+use Rattle.cx_laws_keys.proofs.Uses.{AtMonitor, Generated, Grows, IsConnected, Login, Means, Secret, Uses, grows-then, stays}
 use Rattle.cx_laws_login.proofs.Entering.{login-entered}
 use Rattle.cx_laws_login.proofs.Facts.{AreBelow, OfferOk, OwnOk, own-grows}
 use Rattle.cx_laws_login.proofs.Generations.{StateOk, rotates_all}
 use Rattle.cx_laws_login.proofs.Issuing.{AreIssued, FirstOk, all-issued}
-use Rattle.cx_laws_login.proofs.Keeping.{IsGiven, NumbersOk, numbered-ok}
+use Rattle.cx_laws_login.proofs.Keeping.{IsGiven, NumbersOk, WasIssued, numbered-ok}
 use Rattle.cx_laws_login.proofs.MonitorRows.{monitor_says, simple-denies}
 use Rattle.cx_laws_login.proofs.Named.{found_secret}
 use Rattle.cx_laws_login.proofs.Opens.{generation-free, generation_means, unlocked-allowed, unlocked_says}
 use Rattle.cx_laws_login.proofs.Rows.{AfterRow, Allowed, FrameOk, after-refuses, after-simple, frame-ok, signing-ok, simple-refuses_bytes}
 use Rattle.cx_laws_login.proofs.Sealing.{connection-sealed, tickets-sealed}
+use Rattle.cx_laws_login.proofs.Under.{AreUnder, IsUnder, all-under}
 
 module _ (leaked : List Name) (whole_log : List Logged) (n : NodeName) (line : ℕ) (before : KeptState) (us : Uses) (log : List Logged) (J : List Entry) where
   abbrev pub AfterMonitor : MonitorRow → Type 0
@@ -101,11 +102,11 @@ module _ (leaked : List Name) (whole_log : List Logged) (n : NodeName) (line : �
   joined-ok vs K key session sent (Ok done) (Ok signed) h = h
 
   finished-ok : (vs : Uses) (K : List Entry) (name : Name) (link : Link MonitorStage) (session secret : List ℕ) (f : Frame) → Means vs session (Login name)
-      → Means vs (take 16 secret) (Connected name) → FinishedOk vs K (take 16 secret) (finished link session secret f)
+      → IsConnected vs (take 16 secret) name → FinishedOk vs K (take 16 secret) (finished link session secret f)
   finished-ok vs K name link session secret f means connection =
       joined-ok vs K (take 16 secret) session link.sent (plain_frame f) (signed_frame (acceptor_keys secret) session (take link.taken link.received))
       (signing-ok vs K n name (take 16 secret) session (take link.taken link.received) (secure_frame (acceptor_keys secret) _) means
-      (frame-ok vs K n (acceptor_keys secret) _ (record { name = name; means = connection })))
+      (frame-ok vs K n (acceptor_keys secret) _ (record { name = name; connected = connection })))
 
   -- what is drawn and sealed with these tickets
   abbrev last_seals : MonitorArrival → Name → List SealEntry
@@ -119,13 +120,13 @@ module _ (leaked : List Name) (whole_log : List Logged) (n : NodeName) (line : �
   -- with what a finished link was made, its parts are allowed
   abbrev Finishes : MonitorArrival → Name → Finished → Type 0
   Finishes a name done =
-      (vs : Uses) (K : List Entry) → Means vs (session_of Auth a.draw) (Login name) → Means vs (take 16 (connection_of a.draw)) (Connected name)
+      (vs : Uses) (K : List Entry) → Means vs (session_of Auth a.draw) (Login name) → IsConnected vs (take 16 (connection_of a.draw)) name
       → Allowed vs K n done.seals × (done.secured.keys.key ≡ take 16 (connection_of a.draw))
 
   -- the monitor's own behind it, and the key of the link
   record HandedOk (a : MonitorArrival) (name : Name) (key : List ℕ) (vs : Uses) (K : List Entry) : Type 0 where
     own : OwnOk before vs K (record a.own { saved = saved_behind a.own.saved (changed a.own.saved a.own.server.state) })
-    key_is : Means vs key (Connected name)
+    key_is : IsConnected vs key name
 
   saved-own : (a : MonitorArrival) (vs : Uses) (K : List Entry) → OwnOk before vs J a.own → AreBelow K a.own.server.state.next_gid
       → OwnOk before vs K (record a.own { saved = saved_behind a.own.saved (changed a.own.saved a.own.server.state) })
@@ -149,7 +150,7 @@ module _ (leaked : List Name) (whole_log : List Logged) (n : NodeName) (line : �
   -- behind all that is sealed but the parts of AUTH_SIGNATURE
   finishing : (a : MonitorArrival) (name : Name) (done : Finished) (vs ws : Uses) (log1 : List Logged) (all : List SealEntry) (js : List Entry) → Finishes a name done → Grows vs ws
       → Inv leaked whole_log ws (behind n line all log1) (entered J js) → EachBehind EntryLaw J js → OwnOk before ws J a.own → AreBelow (entered J js) a.own.server.state.next_gid
-      → Means ws (session_of Auth a.draw) (Login name) → Means ws (take 16 (connection_of a.draw)) (Connected name)
+      → Means ws (session_of Auth a.draw) (Login name) → IsConnected ws (take 16 (connection_of a.draw)) name
       → After leaked whole_log n line vs log1 J (all ++ done.seals) js (HandedOk a name done.secured.keys.key)
   finishing a name done vs ws log1 all js fin grows i laws own below session connection =
       let K : List Entry = entered J js in
@@ -162,17 +163,17 @@ module _ (leaked : List Name) (whole_log : List Logged) (n : NodeName) (line : �
         laws = laws;
         good = record {
           own = saved-own a ws K own below;
-          key_is = subst (λ (k : List ℕ). Means ws k (Connected name)) (sym f.1) connection;
+          key_is = subst (λ (k : List ℕ). IsConnected ws k name) (sym f.1) connection;
         };
       }
 
   -- behind the proof, the rotation and the old ticket
-  handed_behind : (a : MonitorArrival) (name : Name) (gid : ℕ) (secret : List ℕ) (t : Ticket) (ts : List Ticket) (done : Finished) (vs : Uses) (log1 : List Logged)
-      → name_form.Fits name → length a.draw ≡ 384 → FirstOk name gid a.reading a.draw t ts → HandsOk a name gid secret vs → Inv leaked whole_log vs log1 J → Finishes a name done
+  handed_behind : (a : MonitorArrival) (client : ℕ) (name : Name) (gid : ℕ) (secret : List ℕ) (t : Ticket) (ts : List Ticket) (done : Finished) (vs : Uses) (log1 : List Logged)
+      → name_form.Fits name → length a.draw ≡ 384 → FirstOk name gid a.reading a.draw t ts → AllByRecursion (IsUnder a.own.server) (t ∷ ts) → HandsOk a name gid secret vs → Inv leaked whole_log vs log1 J → Finishes a name done
       → AreGranted leaked whole_log n line log1 ((told_seals a secret (t ∷ ts) ++ last_seals a name) ++ done.seals)
       → After leaked whole_log n line vs log1 J ((told_seals a secret (t ∷ ts) ++ last_seals a name) ++ done.seals)
       (login_entries (changed a.own.saved a.own.server.state) (t ∷ ts)) (HandedOk a name done.secured.keys.key)
-  handed_behind a name gid secret t ts done vs log1 named drawn ok h i fin g =
+  handed_behind a client name gid secret t ts done vs log1 named drawn ok under h i fin g =
       let state : KeptState = a.own.server.state in
       let session : List ℕ = session_of Auth a.draw in
       let told : List SealEntry = told_seals a secret (t ∷ ts) in
@@ -186,31 +187,31 @@ module _ (leaked : List Name) (whole_log : List Logged) (n : NodeName) (line : �
       let K : List Entry = entered J js in
       let e = login-entered leaked whole_log vs log1 name gid a.reading a.draw state.next_gid J (changed a.own.saved state) t ts ok low h.given i below in
       let g3 = granted-first leaked whole_log n line log1 (told ++ last) done.seals g in
-      let s1 = tickets-sealed leaked whole_log n line a.own.server secret session name gid a.reading a.draw K named wide drawn vs log1 t ts e.numbered.inv ok.first ok.auth refl ok.others e.has
+      let s1 = tickets-sealed leaked whole_log n line a.own.server secret session name gid a.reading a.draw K named wide drawn vs log1 t ts e.numbered.inv ok.first ok.auth refl ok.others under e.has
       (record { generated = h.own.present.generated; told = h.told }) (granted-first leaked whole_log n line log1 told last g3) in
-      let s2 = connection-sealed leaked whole_log n line a.own.server secret session name gid a.reading a.draw K named wide drawn s1.uses (behind n line told log1) s1.inv s1.facts
+      let s2 = connection-sealed leaked whole_log n line a.own.server secret session name gid a.reading a.draw K named wide drawn s1.uses (behind n line told log1) a.link.number (AtMonitor client) s1.inv s1.facts
       (granted-rest leaked whole_log n line log1 told last g3) in
       let grows = grows-then vs s1.uses s2.uses s1.grows s2.grows in
       let inv : Inv leaked whole_log s2.uses (behind n line (told ++ last) log1) K =
       subst (λ (l : List Logged). Inv leaked whole_log s2.uses l K) (sym (behind-append n line told last log1)) s2.inv in
       finishing a name done vs s2.uses log1 (told ++ last) js fin grows inv e.laws (own-grows before vs s2.uses J a.own grows h.own) e.numbered.below s2.facts.session s2.facts.connection
 
-  handed : (a : MonitorArrival) (e : Entrant) (secret : List ℕ) (t : Ticket) (ts : List Ticket) (r : Result Finished BytesFault)
-      → name_form.Fits e.name → length a.draw ≡ 384 → FirstOk e.name e.gid a.reading a.draw t ts
+  handed : (a : MonitorArrival) (client : ℕ) (e : Entrant) (secret : List ℕ) (t : Ticket) (ts : List Ticket) (r : Result Finished BytesFault)
+      → name_form.Fits e.name → length a.draw ≡ 384 → FirstOk e.name e.gid a.reading a.draw t ts → AllByRecursion (IsUnder a.own.server) (t ∷ ts)
       → First e.seals (HandsOk a e.name e.gid secret)
       → ((done : Finished) → r ≡ Ok done → Finishes a e.name done)
       → Granted_ (hands_over a (handed_out (occasion a) a.own.server e secret (t ∷ ts)) r).seals
       → AfterMonitor (hands_over a (handed_out (occasion a) a.own.server e secret (t ∷ ts)) r)
-  handed a e secret t ts (Err why) named drawn ok first fin g =
+  handed a client e secret t ts (Err why) named drawn ok under first fin g =
       let r = first g in
       after-refuses (monitor_says before) leaked whole_log n line us log J a (refuses_bytes a why e.seals) (HandsOk a e.name e.gid secret) ((tt, tt), tt) refl r r.facts.own
-  handed a e secret t ts (Ok done) named drawn ok first fin g =
+  handed a client e secret t ts (Ok done) named drawn ok under first fin g =
       let name : Name = e.name in
       let all : List SealEntry = told_seals a secret (t ∷ ts) ++ last_seals a name in
       let js : List Entry = login_entries (changed a.own.saved a.own.server.state) (t ∷ ts) in
       let r1 = first (granted-first leaked whole_log n line log e.seals (all ++ done.seals) g) in
       let rest = granted-rest leaked whole_log n line log e.seals (all ++ done.seals) g in
-      let h = handed_behind a name e.gid secret t ts done r1.uses (behind n line e.seals log) named drawn ok r1.facts r1.inv (fin done refl) rest in
+      let h = handed_behind a client name e.gid secret t ts done r1.uses (behind n line e.seals log) named drawn ok under r1.facts r1.inv (fin done refl) rest in
       let whole_step = after-then leaked whole_log n line us log J e.seals (all ++ done.seals) js (HandsOk a name e.gid secret) (HandedOk a name done.secured.keys.key) r1 h in
       record {
         uses = whole_step.uses;
@@ -227,29 +228,30 @@ module _ (leaked : List Name) (whole_log : List Logged) (n : NodeName) (line : �
 
   -- ---- issuing
 
-  issued-after : (a : MonitorArrival) (e : Entrant) (own : List ℕ) (tickets : Result (List Ticket) LoginFault) → name_form.Fits e.name → length a.draw ≡ 384
-      → AreIssued a.own.server e.name e.gid (session_of Auth a.draw) a.reading a.draw tickets
+  issued-after : (a : MonitorArrival) (client : ℕ) (e : Entrant) (own : List ℕ) (tickets : Result (List Ticket) LoginFault) → name_form.Fits e.name → length a.draw ≡ 384
+      → AreIssued a.own.server e.name e.gid (session_of Auth a.draw) a.reading a.draw tickets → AreUnder a.own.server tickets
       → First e.seals (HandsOk a e.name e.gid own)
       → Granted_ (row_of a (issues (occasion a) a.own.server e own tickets)).seals → AfterMonitor (row_of a (issues (occasion a) a.own.server e own tickets))
-  issued-after a e own (Err why) named drawn ok first g =
+  issued-after a client e own (Err why) named drawn ok under first g =
       refused a why e.seals (HandsOk a e.name e.gid own) first (λ vs h. h.own) g
-  issued-after a e own (Ok []) named drawn ok first g = absurd ok
-  issued-after a e own (Ok (t ∷ ts)) named drawn ok first g =
+  issued-after a client e own (Ok []) named drawn ok under first g = absurd ok
+  issued-after a client e own (Ok (t ∷ ts)) named drawn ok under first g =
       let f : Frame = done_frame (handed_out (occasion a) a.own.server e own (t ∷ ts)).payload in
-      handed a e own t ts (finished a.link (session_of Auth a.draw) (connection_of a.draw) f) named drawn ok first (λ done is. finished-fin a e.name f done is) g
+      handed a client e own t ts (finished a.link (session_of Auth a.draw) (connection_of a.draw) f) named drawn ok under first (λ done is. finished-fin a e.name f done is) g
 
   abbrev key_in : Option Principal → Option Key
   key_in found = option_map (λ (p : Principal). p.key) found
 
-  issues_to-after : (a : MonitorArrival) (e : Entrant) (found : Option Principal) → find (is_named e.name) a.own.server.ring ≡ found
+  issues_to-after : (a : MonitorArrival) (client : ℕ) (e : Entrant) (found : Option Principal) → find (is_named e.name) a.own.server.ring ≡ found
       → name_form.Fits e.name → length a.draw ≡ 384
       → First e.seals (λ vs. OwnOk before vs J a.own × (e.gid < a.own.server.state.next_gid) × IsGiven J e.name e.gid a.reading)
       → Granted_ (row_of a (issues_to (occasion a) a.own.server e (key_in found))).seals → AfterMonitor (row_of a (issues_to (occasion a) a.own.server e (key_in found)))
-  issues_to-after a e None is named drawn first g =
+  issues_to-after a client e None is named drawn first g =
       refused a login.UnknownEntity e.seals (λ vs. OwnOk before vs J a.own × (e.gid < a.own.server.state.next_gid) × IsGiven J e.name e.gid a.reading) first (λ vs h. h.0) g
-  issues_to-after a e (Some principal) is named drawn first g =
-      issued-after a e principal.key.secret (issued_for a.own.server (asking_for (occasion a) e.name e.gid) (services_for e.asked)) named drawn
-      (all-issued a.own.server e.name e.gid (session_of Auth a.draw) a.reading a.draw e.asked) more g
+  issues_to-after a client e (Some principal) is named drawn first g =
+      issued-after a client e principal.key.secret (issued_for a.own.server (asking_for (occasion a) e.name e.gid) (services_for e.asked)) named drawn
+      (all-issued a.own.server e.name e.gid (session_of Auth a.draw) a.reading a.draw e.asked)
+      (all-under a.own.server (asking_for (occasion a) e.name e.gid) (services_for e.asked)) more g
     where
       more : First e.seals (HandsOk a e.name e.gid principal.key.secret)
       more granted =
@@ -272,7 +274,7 @@ module _ (leaked : List Name) (whole_log : List Logged) (n : NodeName) (line : �
   numbers-after a proven seals (Err why) named drawn first g =
       refused a why seals (λ vs. OwnOk before vs J a.own × Unit {0}) first (λ vs h. h.0) g
   numbers-after a proven seals (Ok n) named drawn first g =
-      issues_to-after (with_server a n.server) (entrant proven.offer.name n.gid proven.ask.other_keys seals) (find (is_named proven.offer.name) n.server.ring) refl named drawn more g
+      issues_to-after (with_server a n.server) proven.ask.client_challenge (entrant proven.offer.name n.gid proven.ask.other_keys seals) (find (is_named proven.offer.name) n.server.ring) refl named drawn more g
     where
       more : First seals (λ vs. OwnOk before vs J (with_server a n.server).own × (n.gid < n.server.state.next_gid) × IsGiven J proven.offer.name n.gid a.reading)
       more granted = let r = first granted in record { uses = r.uses; grows = r.grows; inv = r.inv; facts = (r.facts.1.owns, r.facts.1.below, r.facts.1.given) }
@@ -282,7 +284,7 @@ module _ (leaked : List Name) (whole_log : List Logged) (n : NodeName) (line : �
   -- the old ticket, under a generation of AUTH
   old-reached : (vs : Uses) (log1 : List Logged) (gs : List Generation) (key : Option (List ℕ)) (blob : List ℕ) → Inv leaked whole_log vs log1 J
       → ((k : List ℕ) → key ≡ Some k → (id : ℕ) × Means vs k (Generated Auth id)) → AreGranted leaked whole_log n line log1 (old_under key blob).seals
-      → Inv leaked whole_log vs (behind n line (old_under key blob).seals log1) J × ((x : ServiceTicket) → (old_under key blob).value ≡ Some x → HasTicket J Auth x)
+      → Inv leaked whole_log vs (behind n line (old_under key blob).seals log1) J × ((x : ServiceTicket) → (old_under key blob).value ≡ Some x → WasIssued J x)
   old-reached vs log1 gs None blob i means g = (i, λ x e. absurd cc)
   old-reached vs log1 gs (Some key) blob i means g =
       let m = means key refl in
@@ -291,7 +293,7 @@ module _ (leaked : List Name) (whole_log : List Logged) (n : NodeName) (line : �
         λ x e.
             let s = unlocked_says leaked whole_log n line vs log1 J form kind.Auth key blob (Generated Auth m.0) i m.1
             (generation-free leaked whole_log n line vs log1 J key Auth m.0 i m.1) g x e in
-            (s.2 x s.1).0,
+            (m.0, key, s.0, (s.2 x s.1).0),
       )
 
   abbrev rotated_own : MonitorArrival → Monitor

@@ -18,7 +18,7 @@ use Rattle.cx_rules.specs.Monitor.{Monitor, MonitorStage}
 use Rattle.cx_steps.specs.Premises.{is_server}
 use Rattle.cx_laws_keys.proofs.Journal.{IsNotIssued, has-before}
 use Rattle.cx_laws_keys.proofs.Lists.{all-map}
-use Rattle.cx_laws_keys.proofs.Uses.{Connected, Grows, Means, Secret, Uses}
+use Rattle.cx_laws_keys.proofs.Uses.{Grows, IsConnected, Means, Secret, Uses, connected-grows}
 use Rattle.cx_laws_login.proofs.Generations.{StateOk, state-grows}
 
 -- ---- the monitor
@@ -71,9 +71,9 @@ pub record OfferOk (us : Uses) (offer : Offer) : Type 0 where
 
 abbrev pub StageOk : Uses → MonitorStage → Type 0
 StageOk us (AwaitsProof offered) = OfferOk us offered.offer
-StageOk us (AwaitsSignature s entity) = Means us s.keys.key (Connected entity.name)
-StageOk us (AwaitsIdent s entity) = Means us s.keys.key (Connected entity.name)
-StageOk us (Open s entity) = Means us s.keys.key (Connected entity.name)
+StageOk us (AwaitsSignature s entity) = IsConnected us s.keys.key entity.name
+StageOk us (AwaitsIdent s entity) = IsConnected us s.keys.key entity.name
+StageOk us (Open s entity) = IsConnected us s.keys.key entity.name
 StageOk us _ = Unit {0}
 
 pub stage-grows : (us vs : Uses) (stage : MonitorStage) → Grows us vs → StageOk us stage → StageOk vs stage
@@ -81,9 +81,9 @@ stage-grows us vs AwaitsBanner f h = tt
 stage-grows us vs AwaitsHello f h = tt
 stage-grows us vs AwaitsRequest f h = tt
 stage-grows us vs (AwaitsProof offered) f h = record { named = h.named; secret = f.means offered.offer.secret (Secret offered.offer.name) h.secret }
-stage-grows us vs (AwaitsSignature s entity) f h = f.means s.keys.key (Connected entity.name) h
-stage-grows us vs (AwaitsIdent s entity) f h = f.means s.keys.key (Connected entity.name) h
-stage-grows us vs (Open s entity) f h = f.means s.keys.key (Connected entity.name) h
+stage-grows us vs (AwaitsSignature s entity) f h = connected-grows us vs s.keys.key entity.name f h
+stage-grows us vs (AwaitsIdent s entity) f h = connected-grows us vs s.keys.key entity.name f h
+stage-grows us vs (Open s entity) f h = connected-grows us vs s.keys.key entity.name f h
 
 -- ---- one that logs in
 
@@ -139,10 +139,10 @@ asker-entered first us J asker e other h = record {
 -- the key of a link that is secured is one of a connection
 pub record HasConnection (us : Uses) (key : List ℕ) : Type 0 where
   pub name : Name
-  pub means : Means us key (Connected name)
+  pub connected : IsConnected us key name
 
 pub connection-grows : (us vs : Uses) (key : List ℕ) → Grows us vs → HasConnection us key → HasConnection vs key
-connection-grows us vs key f h = record { name = h.name; means = f.means key (Connected h.name) h.means }
+connection-grows us vs key f h = record { name = h.name; connected = connected-grows us vs key h.name f h.connected }
 
 abbrev pub AskerStageOk : Uses → connector.Stage → Type 0
 AskerStageOk us (connector.AwaitsSignature s login) = HasConnection us s.keys.key

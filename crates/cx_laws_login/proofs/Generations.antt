@@ -21,7 +21,7 @@ use Rattle.cx_laws_keys.proofs.Known.{Inv}
 use Rattle.cx_laws_keys.proofs.Lists.{all-append, all-map}
 use Rattle.cx_laws_keys.proofs.Premises.{AreGranted, behind, granted-first, granted-rest, logged}
 use Rattle.cx_laws_keys.proofs.Steps.{inv-drawn}
-use Rattle.cx_laws_keys.proofs.Uses.{Generated, Grows, Means, Use, Uses, grows-one, grows-then, stays}
+use Rattle.cx_laws_keys.proofs.Uses.{Generated, Grows, Means, Use, Uses, grows-one, grows-then, stays, with_key}
 
 -- the key of each of these generations of a service is for it
 abbrev pub AreGenerated : Uses → EntityType → List Generation → Type 0
@@ -79,11 +79,11 @@ module _ (leaked : List Name) (whole : List Logged) (n : NodeName) (line : ℕ) 
   draws-each service us log (x ∷ xs) i g =
       let mark = draw.Rotation x.key in
       let u : Use = Generated service x.id in
-      let first : Inv leaked whole ((x.key, u) ∷ us) (logged n line (entry.Drawn mark) ∷ log) J = inv-drawn leaked whole us log J n line mark x.key u i refl refl (λ name e. absurd cc) g.0 in
-      let rest = draws-each service ((x.key, u) ∷ us) (logged n line (entry.Drawn mark) ∷ log) xs first g.1 in
+      let first : Inv leaked whole (with_key us x.key u) (logged n line (entry.Drawn mark) ∷ log) J = inv-drawn leaked whole us log J n line mark x.key u i refl refl (λ name e. absurd cc) g.0 in
+      let rest = draws-each service (with_key us x.key u) (logged n line (entry.Drawn mark) ∷ log) xs first g.1 in
       record {
         uses = rest.uses;
-        grows = grows-then us ((x.key, u) ∷ us) rest.uses (grows-one us x.key u) rest.grows;
+        grows = grows-then us (with_key us x.key u) rest.uses (grows-one us x.key u) rest.grows;
         inv = rest.inv;
         facts = (rest.grows.means x.key u (inl (refl, refl)), rest.facts);
       }

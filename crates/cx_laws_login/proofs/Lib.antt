@@ -5,6 +5,7 @@ pub mod Named
 pub mod MonitorRows
 pub mod Opens
 pub mod Issuing
+pub mod Under
 pub mod Keeping
 pub mod Entering
 pub mod Sealing

@@ -43,7 +43,7 @@ use Rattle.cx_steps.specs.declared.seals.SealEntry.{SealEntry}
 use Rattle.cx_steps.specs.declared.seals.SealEntry.TheVariants.{Drawn}
 use Rattle.cx_wire.specs.Logins.{login_hello_layout, server_challenge_layout}
 use Rattle.cx_wire.specs.declared.logins.LoginHello.{LoginHello}
-use Rattle.cx_laws_keys.proofs.Uses.{Connected, Means, Secret, Uses}
+use Rattle.cx_laws_keys.proofs.Uses.{IsConnected, Means, Secret, Uses}
 use Rattle.cx_laws_login.proofs.Facts.{HasConnection, OwnOk, StageOk, own-entered, stage-grows}
 use Rattle.cx_laws_login.proofs.Named.{found_secret, hello_named}
 use Rattle.cx_laws_login.proofs.Rows.{Allowed, FrameOk, Saying, Simple, frame-ok, simple-goes_on, simple-plain, simple-refuses, simple-refuses_bytes, simple-secure}
@@ -98,7 +98,7 @@ module _ (before : KeptState) (us : Uses) (J : List Entry) (n : NodeName) where
       by_tests false true = simple-denies a 95 Mode [] own tt
       by_tests false false = login_hello-simple a (whole login_hello_layout.form request.payload) own (λ h is. hello_named request.payload h is)
 
-  pub signature-simple : (a : MonitorArrival) (s : Secured) (entity : Entity) (found : Result AuthSignature BytesFault) → Owns a → Means us s.keys.key (Connected entity.name)
+  pub signature-simple : (a : MonitorArrival) (s : Secured) (entity : Entity) (found : Result AuthSignature BytesFault) → Owns a → IsConnected us s.keys.key entity.name
       → IsSimple (on_signature a s entity found)
   signature-simple a s entity (Err why) own key = simple-refuses_bytes (monitor_says before) us J n a why [] own tt
   signature-simple a s entity (Ok found) own key = by_test (is_signed s found.signature)
@@ -112,14 +112,14 @@ module _ (before : KeptState) (us : Uses) (J : List Entry) (n : NodeName) where
   missing-simple a features key (Err why) own ok = simple-refuses_bytes (monitor_says before) us J n a why [] own tt
   missing-simple a features key (Ok sealed) own ok = record { seals = ok.0; entries = ((tt, tt), tt); own = own; link = tt }
 
-  abbrev connected : (s : Secured) (entity : Entity) → Means us s.keys.key (Connected entity.name) → HasConnection us s.keys.key
-  connected s entity key = record { name = entity.name; means = key }
+  abbrev connected : (s : Secured) (entity : Entity) → IsConnected us s.keys.key entity.name → HasConnection us s.keys.key
+  connected s entity key = record { name = entity.name; connected = key }
 
   -- the same key still is the one of this connection
-  same_connection : (entity : Entity) (key other : List ℕ) → other ≡ key → Means us key (Connected entity.name) → Means us other (Connected entity.name)
-  same_connection entity key other same h = subst (λ (k : List ℕ). Means us k (Connected entity.name)) (sym same) h
+  same_connection : (entity : Entity) (key other : List ℕ) → other ≡ key → IsConnected us key entity.name → IsConnected us other entity.name
+  same_connection entity key other same h = subst (λ (k : List ℕ). IsConnected us k entity.name) (sym same) h
 
-  client_ident-simple : (a : MonitorArrival) (s : Secured) (entity : Entity) (ident : Result ClientIdent BytesFault) → Owns a → Means us s.keys.key (Connected entity.name)
+  client_ident-simple : (a : MonitorArrival) (s : Secured) (entity : Entity) (ident : Result ClientIdent BytesFault) → Owns a → IsConnected us s.keys.key entity.name
       → IsSimple (on_client_ident a s entity ident)
   client_ident-simple a s entity (Err why) own key = simple-refuses_bytes (monitor_says before) us J n a why [] own tt
   client_ident-simple a s entity (Ok ident) own key = by_test (ident.required == 0)
@@ -132,14 +132,14 @@ module _ (before : KeptState) (us : Uses) (J : List Entry) (n : NodeName) where
           let f = control 10 ident_missing_features_layout.form (record { features = ident.required }) in
           missing-simple a ident.required s.keys.key (secure_frame s.keys f) own (frame-ok us J n s.keys f (connected s entity key))
 
-  reconnect-simple : (a : MonitorArrival) (s : Secured) (entity : Entity) (reconnect : Result SessionReconnect BytesFault) → Owns a → Means us s.keys.key (Connected entity.name)
+  reconnect-simple : (a : MonitorArrival) (s : Secured) (entity : Entity) (reconnect : Result SessionReconnect BytesFault) → Owns a → IsConnected us s.keys.key entity.name
       → IsSimple (on_session_reconnect a s entity reconnect)
   reconnect-simple a s entity (Err why) own key = simple-refuses_bytes (monitor_says before) us J n a why [] own tt
   reconnect-simple a s entity (Ok reconnect) own key =
       simple-secure (monitor_says before) us J n a s (λ behind. AwaitsIdent behind entity) [] session_reset own (connected s entity key)
       (λ t same. same_connection entity s.keys.key t.keys.key same key) tt
 
-  pub ident-simple : (a : MonitorArrival) (s : Secured) (entity : Entity) (f : Frame) → Owns a → Means us s.keys.key (Connected entity.name) → IsSimple (on_ident a s entity f)
+  pub ident-simple : (a : MonitorArrival) (s : Secured) (entity : Entity) (f : Frame) → Owns a → IsConnected us s.keys.key entity.name → IsSimple (on_ident a s entity f)
   ident-simple a s entity f own key = by_tests (f.tag == 8) (f.tag == 11)
     where
       by_tests : (client reconnect : Bool) → IsSimple (if client then on_client_ident a s entity (payload client_ident_layout.form f)
@@ -148,19 +148,19 @@ module _ (before : KeptState) (us : Uses) (J : List Entry) (n : NodeName) where
       by_tests false true = reconnect-simple a s entity (payload session_reconnect_layout.form f) own key
       by_tests false false = simple-refuses_bytes (monitor_says before) us J n a (Unexpected f.tag) [] own tt
 
-  keepalive-simple : (a : MonitorArrival) (s : Secured) (entity : Entity) (keepalive : Result Keepalive2 BytesFault) → Owns a → Means us s.keys.key (Connected entity.name)
+  keepalive-simple : (a : MonitorArrival) (s : Secured) (entity : Entity) (keepalive : Result Keepalive2 BytesFault) → Owns a → IsConnected us s.keys.key entity.name
       → IsSimple (on_keepalive a s (λ behind. Open behind entity) keepalive)
   keepalive-simple a s entity (Err why) own key = simple-refuses_bytes (monitor_says before) us J n a why [] own tt
   keepalive-simple a s entity (Ok keepalive) own key =
       simple-secure (monitor_says before) us J n a s (λ behind. Open behind entity) [] (control 19 keepalive2_ack_layout.form (record { time = keepalive.time })) own
       (connected s entity key) (λ t same. same_connection entity s.keys.key t.keys.key same key) tt
 
-  keepalive_ack-simple : (a : MonitorArrival) (s : Secured) (entity : Entity) (ack : Result Keepalive2Ack BytesFault) → Owns a → Means us s.keys.key (Connected entity.name)
+  keepalive_ack-simple : (a : MonitorArrival) (s : Secured) (entity : Entity) (ack : Result Keepalive2Ack BytesFault) → Owns a → IsConnected us s.keys.key entity.name
       → IsSimple (on_keepalive_ack a s (λ behind. Open behind entity) ack)
   keepalive_ack-simple a s entity (Err why) own key = simple-refuses_bytes (monitor_says before) us J n a why [] own tt
   keepalive_ack-simple a s entity (Ok ack) own key = simple-goes_on (monitor_says before) us J n a (Open s entity) [] [] own key tt
 
-  pub upkeep-simple : (a : MonitorArrival) (s : Secured) (entity : Entity) (f : Frame) → Owns a → Means us s.keys.key (Connected entity.name)
+  pub upkeep-simple : (a : MonitorArrival) (s : Secured) (entity : Entity) (f : Frame) → Owns a → IsConnected us s.keys.key entity.name
       → IsSimple (on_upkeep a s (λ behind. Open behind entity) f)
   upkeep-simple a s entity f own key = by_tests (f.tag == 18) (f.tag == 19)
     where

@@ -25,7 +25,7 @@ use Rattle.cx_steps.specs.declared.seals.Logged.{Logged}
 use Rattle.cx_laws_keys.proofs.Journal.{After, IsNotIssued}
 use Rattle.cx_laws_keys.proofs.Known.{Inv, Within}
 use Rattle.cx_laws_keys.proofs.Premises.{AreGranted}
-use Rattle.cx_laws_keys.proofs.Uses.{Connected, Means, Uses, stays}
+use Rattle.cx_laws_keys.proofs.Uses.{IsConnected, Uses, stays}
 use Rattle.cx_laws_login.proofs.Authenticating.{request_more-after}
 use Rattle.cx_laws_login.proofs.Facts.{AreBelow, OwnOk, StageOk, own-entered}
 use Rattle.cx_laws_login.proofs.Generations.{StateOk}
@@ -37,8 +37,8 @@ module _ (leaked : List Name) (whole : List Logged) (n : NodeName) (line : ℕ) 
   abbrev MonitorTurns : MonitorArrival → MonitorStage → Type 0
   MonitorTurns a stage = TurnOk (monitor_says before) leaked whole n line us log J a (turned_at a stage)
 
-  abbrev keyed : (entity : Entity) (key other : List ℕ) → other ≡ key → Means us key (Connected entity.name) → Means us other (Connected entity.name)
-  keyed entity key other same h = subst (λ (k : List ℕ). Means us k (Connected entity.name)) (sym same) h
+  abbrev keyed : (entity : Entity) (key other : List ℕ) → other ≡ key → IsConnected us key entity.name → IsConnected us other entity.name
+  keyed entity key other same h = subst (λ (k : List ℕ). IsConnected us k entity.name) (sym same) h
 
   turn-ok : (a : MonitorArrival) (stage : MonitorStage) → Inv leaked whole us log J → OwnOk before us J a.own → StageOk us stage → length a.draw ≡ 384 → MonitorTurns a stage
   turn-ok a AwaitsBanner i ok st drawn =

@@ -26,17 +26,17 @@ module _ (leaked : List Name) (whole : List Logged) (n : NodeName) (line : ℕ) 
   -- the record that opened was read of a content that the key's use allows
   pub unlocked_says : {X : Type 0} (form : Form X) (kind : KeyKind) (key bytes : List ℕ) (u : Use) → Inv leaked whole us log J → Means us key u
       → (IsExcepted leaked whole n key → ⊥) → AreGranted leaked whole n line log (unlocked form kind key bytes).seals → (x : X)
-      → (unlocked form kind key bytes).value ≡ Some x → (content : List ℕ) × (spelled_by form content ≡ Some x) × Says us J u content
+      → (unlocked form kind key bytes).value ≡ Some x → (content : List ℕ) × (spelled_by form content ≡ Some x) × Says us J key u content
   unlocked_says {X} form kind key bytes u i means free g x e = by_opened (opened key bytes) g e
     where
       by_opened : (o : Option (List ℕ)) → AreGranted leaked whole n line log (unlocked_as kind key (unsealed_as form o)).seals
-          → (unlocked_as kind key (unsealed_as form o)).value ≡ Some x → (content : List ℕ) × (spelled_by form content ≡ Some x) × Says us J u content
+          → (unlocked_as kind key (unsealed_as form o)).value ≡ Some x → (content : List ℕ) × (spelled_by form content ≡ Some x) × Says us J key u content
       by_opened None g e = absurd cc
       by_opened (Some content) g e =
           let mark : SealMark = record { key = key; kind = kind; content = content } in
           (content, e, by_owed g.0.owes)
         where
-          by_owed : IsExcepted leaked whole n key ⊎ HasSealed log (record { key = key; kind = kind; content = content }) → Says us J u content
+          by_owed : IsExcepted leaked whole n key ⊎ HasSealed log (record { key = key; kind = kind; content = content }) → Says us J key u content
           by_owed (inl excepted) = absurd (free excepted)
           by_owed (inr sealed) = opened_says leaked whole us log J i (record { key = key; kind = kind; content = content }) sealed u means
 

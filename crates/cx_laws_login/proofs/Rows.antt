@@ -47,7 +47,7 @@ module _ (us : Uses) (J : List Entry) (n : NodeName) where
 
   pub parts-allowed : (key fixed : List ℕ) (counter : ℕ) (texts : List (List ℕ)) → HasConnection us key → Allowed (part_seals key fixed counter texts)
   parts-allowed key fixed counter [] h = tt
-  parts-allowed key fixed counter (text ∷ texts) h = ((Connected h.name, h.means, tt), parts-allowed key fixed (counter + 1) texts h)
+  parts-allowed key fixed counter (text ∷ texts) h = ((Connected h.connected.acceptor h.connected.number h.name h.connected.tie, h.connected.means, tt), parts-allowed key fixed (counter + 1) texts h)
 
   -- the frame, if it was sealed, was so under its key
   abbrev pub FrameOk : List ℕ → Result SealedFrame BytesFault → Type 0

@@ -5,6 +5,7 @@ use Rattle.std.specs.List.{AllByRecursion, flat_map}
 use Rattle.cx_base.specs.Names.{Name}
 use Rattle.cx_base.specs.declared.kinds.EntityType.{EntityType}
 use Rattle.cx_base.specs.declared.kinds.EntityType.TheVariants.{Mon, Mds, Osd, Client, Mgr, Auth}
+use Rattle.cx_cbc.specs.Envelope.{sealed as enveloped}
 use Rattle.cx_dice.specs.Draws.{connection_of, session_of}
 use Rattle.cx_enc.specs.Values.{name_form}
 use Rattle.cx_journal.specs.declared.entries.Entry.{Entry}
@@ -26,13 +27,14 @@ use Rattle.cx_laws_keys.proofs.Journal.{Reached, reached-then}
 use Rattle.cx_laws_keys.proofs.Known.{Inv, IsAllowed, Says}
 use Rattle.cx_laws_keys.proofs.Lists.{all-append}
 use Rattle.cx_laws_keys.proofs.Premises.{AreGranted, behind, granted-first, granted-rest, logged}
-use Rattle.cx_laws_keys.proofs.Reading.{IsInfoFrom, IsReadFrom, connection_no_info, info_no_connection, read_connection, read_info, read_ticket}
+use Rattle.cx_laws_keys.proofs.Reading.{IsInfoFrom, IsReadFrom, connection_no_info, info_no_connection, info_no_rotating, read_connection, read_info, read_ticket}
 use Rattle.cx_laws_keys.proofs.Steps.{inv-all, inv-drawn}
-use Rattle.cx_laws_keys.proofs.Uses.{Connected, Generated, Grows, Login, Means, Secret, Ticketed, Use, Uses, grows-one, session_use, stays, whose}
+use Rattle.cx_laws_keys.proofs.Uses.{Connected, Generated, Grows, IsConnected, Login, Means, Secret, Ticketed, Tie, Use, Uses, grows-one, session_use, stays, whose, with_key}
 use Rattle.cx_laws_login.proofs.Entering.{issued_of}
 use Rattle.cx_laws_login.proofs.Generations.{AreGenerated, generated-grow}
 use Rattle.cx_laws_login.proofs.Issuing.{IsOther, TicketOk, length-session, short-connection}
 use Rattle.cx_laws_login.proofs.Rows.{Allowed}
+use Rattle.cx_laws_login.proofs.Under.{IsUnder}
 
 -- ---- uses of a session key
 
@@ -82,15 +84,27 @@ module _ (leaked : List Name) (whole : List Logged) (n : NodeName) (line : ℕ) 
   }
 
   -- what a ticket's blob says
-  blob-says : (us : Uses) (t : Ticket) (id : ℕ) → TicketOk name gid reading block t → Contains K (issued_entry t) → Means us t.session (session_use name t.service)
-      → Says us K (Generated t.service id) (service_ticket_layout.form.text (service_ticket_of t))
-  blob-says us t id ok has means = λ x e.
+  blob-says : (us : Uses) (t : Ticket) (g : Generation) → TicketOk name gid reading block t → Contains K (issued_entry t) → Means us t.session (session_use name t.service)
+      → t.generation ≡ g.id → t.blob ≡ enveloped g.key (service_ticket_layout.form.text (service_ticket_of t))
+      → Says us K g.key (Generated t.service g.id) (service_ticket_layout.form.text (service_ticket_of t))
+  blob-says us t g ok has means id blob = λ x e.
       let sixteen : length t.session ≡ 16 = ap length ok.session ∙ length-session t.service block drawn ok.keyed in
       let fits : name_form.Fits t.entity = subst (λ (m : Name). name_form.Fits m) (sym ok.entity) named in
       let small : t.gid < 2 ^ 64 = subst (λ (g : ℕ). g < 2 ^ 64) (sym ok.gid_is) wide in
       let r : IsReadFrom (service_ticket_of t) x = read_ticket (service_ticket_of t) x sixteen fits small e in
       let by_key : Means us x.session (session_use name t.service) = subst (λ (k : List ℕ). Means us k (session_use name t.service)) (sym r.session) means in (
-        record { ticket = issued_of t; issued = has; service_is = refl; entity = sym r.name; gid = sym r.gid; expires = r.expires },
+        record {
+          ticket = issued_of t;
+          issued = has;
+          service_is = refl;
+          entity = sym r.name;
+          gid = sym r.gid;
+          expires = r.expires;
+          exact = r.exact;
+          caps = r.caps;
+          generation = id;
+          blob = blob;
+        },
         subst (λ (m : Name). Means us x.session (session_use m t.service)) (sym ok.entity ∙ sym r.name) by_key,
       )
 
@@ -106,7 +120,7 @@ module _ (leaked : List Name) (whole : List Logged) (n : NodeName) (line : ℕ) 
       key : (x : TicketInfo) (s : EntityType) → t.service ≡ s → IsInfoFrom (ticket_info_of t) x → Means us x.session (session_use name s)
       key x s same r = subst (λ (k : List ℕ). Means us k (session_use name s)) (sym r.session) (subst (λ (s : EntityType). Means us t.session (session_use name s)) same means)
 
-      other : (s : EntityType) → t.service ≡ s → ((m : Name) → session_use m s ≡ Ticketed m s) → Says us K (Login name) (ticket_info_layout.form.text (ticket_info_of t))
+      other : (s : EntityType) → t.service ≡ s → ((m : Name) → session_use m s ≡ Ticketed m s) → Says us K auth_session (Login name) (ticket_info_layout.form.text (ticket_info_of t))
       other s same use_is = (
         λ x e.
             let r : IsInfoFrom (ticket_info_of t) x = read x e in
@@ -117,7 +131,7 @@ module _ (leaked : List Name) (whole : List Logged) (n : NodeName) (line : ℕ) 
 
       by_service : (s : EntityType) → t.service ≡ s
           → IsAllowed us K n (entry.Sealed (record { key = info_key secret auth_session s; kind = info_kind s; content = ticket_info_layout.form.text (ticket_info_of t) }))
-      by_service Auth same = (Secret name, ready.told, λ x e. key x Auth same (read x e))
+      by_service Auth same = (Secret name, ready.told, (λ x e. key x Auth same (read x e), λ x e. absurd (info_no_rotating (ticket_info_of t) x e)))
       by_service Mon same = (Login name, auth, other Mon same (λ m. refl))
       by_service Mds same = (Login name, auth, other Mds same (λ m. refl))
       by_service Osd same = (Login name, auth, other Osd same (λ m. refl))
@@ -125,25 +139,34 @@ module _ (leaked : List Name) (whole : List Logged) (n : NodeName) (line : ℕ) 
       by_service Mgr same = (Login name, auth, other Mgr same (λ m. refl))
 
   blob-allowed : (us : Uses) (t : Ticket) → TicketOk name gid reading block t → Contains K (issued_entry t) → Means us t.session (session_use name t.service)
-      → (current : Option Generation) → CurrentOk us t.service current → Allowed us K n (blob_sealed current t)
-  blob-allowed us t ok has means None h = tt
-  blob-allowed us t ok has means (Some g) h = ((Generated t.service g.id, h, blob-says us t g.id ok has means), tt)
+      → IsUnder server t → (current : Option Generation) → current_at t.created (generations_of server.state t.service) ≡ current → CurrentOk us t.service current
+      → Allowed us K n (blob_sealed current t)
+  blob-allowed us t ok has means under None is h = tt
+  blob-allowed us t ok has means under (Some g) is h =
+      let same : under.of ≡ g = some_is under.of g (sym under.current ∙ is) in
+      let content : List ℕ = service_ticket_layout.form.text (service_ticket_of t) in (
+        (Generated t.service g.id, h, blob-says us t g ok has means (under.id ∙ ap (λ (k : Generation). k.id) same) (under.blob ∙ ap (λ (k : Generation). enveloped k.key content) same)),
+        tt,
+      )
+    where
+      some_is : (a b : Generation) → Some a ≡ Some b → a ≡ b
+      some_is a b e = cc
 
   -- one ticket
-  ticket-sealed : (us : Uses) (log : List Logged) (t : Ticket) → Inv leaked whole us log K → TicketOk name gid reading block t → Contains K (issued_entry t) → Ready us
-      → Means ((t.session, session_use name t.service) ∷ us) auth_session (Login name)
+  ticket-sealed : (us : Uses) (log : List Logged) (t : Ticket) → Inv leaked whole us log K → TicketOk name gid reading block t → IsUnder server t → Contains K (issued_entry t) → Ready us
+      → Means (with_key us t.session (session_use name t.service)) auth_session (Login name)
       → AreGranted leaked whole n line log (ticket_seals server secret auth_session t)
       → Reached leaked whole n line us log K (ticket_seals server secret auth_session t) (λ vs. Means vs auth_session (Login name))
-  ticket-sealed us log t i ok has ready auth g =
+  ticket-sealed us log t i ok under has ready auth g =
       let u : Use = session_use name t.service in
       let mark = draw.Session t.session t.entity in
-      let vs : Uses = (t.session, u) ∷ us in
+      let vs : Uses = with_key us t.session u in
       let for : Some t.entity ≡ whose u = ap (λ (m : Name). Some m) ok.entity ∙ whose-session name t.service in
       let first : Inv leaked whole vs (logged n line (entry.Drawn mark) ∷ log) K = inv-drawn leaked whole us log K n line mark t.session u i refl for (λ m e. absurd (no_secret name m t.service e)) g.0 in
       let means : Means vs t.session u = inl (refl, refl) in
       let more : Ready vs = ready-grows us vs (grows-one us t.session u) ready in
       let current : Option Generation = current_at t.created (generations_of server.state t.service) in
-      let blob : Allowed vs K n (blob_sealed current t) = blob-allowed vs t ok has means current (current-ok vs t.service t.created (generations_of server.state t.service) (more.generated t.service)) in
+      let blob : Allowed vs K n (blob_sealed current t) = blob-allowed vs t ok has means under current refl (current-ok vs t.service t.created (generations_of server.state t.service) (more.generated t.service)) in
       let info = info-allowed vs t ok more means auth t.service refl in
       let rest : List SealEntry = entry.Sealed (record {
         key = info_key secret auth_session t.service;
@@ -159,37 +182,37 @@ module _ (leaked : List Name) (whole : List Logged) (n : NodeName) (line : ℕ) 
       }
 
   -- the tickets for other services than AUTH
-  others-sealed : (us : Uses) (log : List Logged) (ts : List Ticket) → Inv leaked whole us log K → AllByRecursion (IsOther name gid reading block) ts
+  others-sealed : (us : Uses) (log : List Logged) (ts : List Ticket) → Inv leaked whole us log K → AllByRecursion (IsOther name gid reading block) ts → AllByRecursion (IsUnder server) ts
       → AllByRecursion (λ (t : Ticket). Contains K (issued_entry t)) ts → Ready us → Means us auth_session (Login name)
       → AreGranted leaked whole n line log (flat_map (ticket_seals server secret auth_session) ts)
       → Reached leaked whole n line us log K (flat_map (ticket_seals server secret auth_session) ts) (λ vs. Means vs auth_session (Login name))
-  others-sealed us log [] i ok has ready auth g = record { uses = us; grows = stays us; inv = i; facts = auth }
-  others-sealed us log (t ∷ ts) i ok has ready auth g =
+  others-sealed us log [] i ok under has ready auth g = record { uses = us; grows = stays us; inv = i; facts = auth }
+  others-sealed us log (t ∷ ts) i ok under has ready auth g =
       let here : List SealEntry = ticket_seals server secret auth_session t in
       let later : List SealEntry = flat_map (ticket_seals server secret auth_session) ts in
-      let first = ticket-sealed us log t i ok.0.0 has.0 ready (inr auth) (granted-first leaked whole n line log here later g) in
+      let first = ticket-sealed us log t i ok.0.0 under.0 has.0 ready (inr auth) (granted-first leaked whole n line log here later g) in
       reached-then leaked whole n line us log K here later (λ vs. Means vs auth_session (Login name)) (λ vs. Means vs auth_session (Login name)) first
-      (others-sealed first.uses (behind n line here log) ts first.inv ok.1 has.1 (ready-grows us first.uses first.grows ready) first.facts (granted-rest leaked whole n line log here later g))
+      (others-sealed first.uses (behind n line here log) ts first.inv ok.1 under.1 has.1 (ready-grows us first.uses first.grows ready) first.facts (granted-rest leaked whole n line log here later g))
 
   -- all tickets: the first is for AUTH, and its session key is the one under which the others are told
   pub tickets-sealed : (us : Uses) (log : List Logged) (t : Ticket) (ts : List Ticket) → Inv leaked whole us log K → TicketOk name gid reading block t → t.service ≡ Auth
-      → auth_session ≡ session_of Auth block → AllByRecursion (IsOther name gid reading block) ts
+      → auth_session ≡ session_of Auth block → AllByRecursion (IsOther name gid reading block) ts → AllByRecursion (IsUnder server) (t ∷ ts)
       → AllByRecursion (λ (t : Ticket). Contains K (issued_entry t)) (t ∷ ts) → Ready us
       → AreGranted leaked whole n line log (flat_map (ticket_seals server secret auth_session) (t ∷ ts))
       → Reached leaked whole n line us log K (flat_map (ticket_seals server secret auth_session) (t ∷ ts)) (λ vs. Means vs auth_session (Login name))
-  tickets-sealed us log t ts i ok auth session_is others has ready g =
+  tickets-sealed us log t ts i ok auth session_is others under has ready g =
       let here : List SealEntry = ticket_seals server secret auth_session t in
       let later : List SealEntry = flat_map (ticket_seals server secret auth_session) ts in
       let same : t.session ≡ auth_session = ok.session ∙ ap (λ (s : EntityType). session_of s block) auth ∙ sym session_is in
       let use_is : session_use name t.service ≡ Login name = ap (λ (s : EntityType). session_use name s) auth in
-      let first = ticket-sealed us log t i ok has.0 ready (inl (same, use_is)) (granted-first leaked whole n line log here later g) in
+      let first = ticket-sealed us log t i ok under.0 has.0 ready (inl (same, use_is)) (granted-first leaked whole n line log here later g) in
       reached-then leaked whole n line us log K here later (λ vs. Means vs auth_session (Login name)) (λ vs. Means vs auth_session (Login name)) first
-      (others-sealed first.uses (behind n line here log) ts first.inv others has.1 (ready-grows us first.uses first.grows ready) first.facts (granted-rest leaked whole n line log here later g))
+      (others-sealed first.uses (behind n line here log) ts first.inv others under.1 has.1 (ready-grows us first.uses first.grows ready) first.facts (granted-rest leaked whole n line log here later g))
 
   -- the secret of the connection, sealed under the session key of AUTH
   pub record Secured (us : Uses) : Type 0 where
     pub session : Means us auth_session (Login name)
-    pub connection : Means us (take 16 (connection_of block)) (Connected name)
+    pub connection : IsConnected us (take 16 (connection_of block)) name
 
   abbrev pub connection_seals : List SealEntry
   connection_seals =
@@ -197,26 +220,32 @@ module _ (leaked : List Name) (whole : List Logged) (n : NodeName) (line : ℕ) 
       ∷ entry.Sealed (record { key = auth_session; kind = kind.Session; content = connection_secret_layout.form.text (record { secret = connection_of block }) })
       ∷ []
 
-  pub connection-sealed : (us : Uses) (log : List Logged) → Inv leaked whole us log K → Means us auth_session (Login name) → AreGranted leaked whole n line log connection_seals
+  pub connection-sealed : (us : Uses) (log : List Logged) (number : ℕ) (tie : Tie) → Inv leaked whole us log K → Means us auth_session (Login name) → AreGranted leaked whole n line log connection_seals
       → Reached leaked whole n line us log K connection_seals Secured
-  connection-sealed us log i auth g =
+  connection-sealed us log number tie i auth g =
       let secret : List ℕ = connection_of block in
       let key : List ℕ = take 16 secret in
       let mark = draw.Connection secret name in
-      let vs : Uses = (key, Connected name) ∷ us in
-      let first : Inv leaked whole vs (logged n line (entry.Drawn mark) ∷ log) K = inv-drawn leaked whole us log K n line mark key (Connected name) i refl refl (λ m e. absurd cc) g.0 in
+      let u : Use = Connected n number name tie in
+      let vs : Uses = with_key us key u in
+      let first : Inv leaked whole vs (logged n line (entry.Drawn mark) ∷ log) K = inv-drawn leaked whole us log K n line mark key u i refl refl (λ m e. absurd cc) g.0 in
       record {
         uses = vs;
-        grows = grows-one us key (Connected name);
+        grows = grows-one us key u;
         inv = inv-all leaked whole vs (logged n line (entry.Drawn mark) ∷ log) K n line connection_sealed first ((Login name, inr auth, says), tt);
-        facts = record { session = inr auth; connection = inl (refl, refl) };
+        facts = record { session = inr auth; connection = record { acceptor = n; number = number; tie = tie; means = inl (refl, refl) } };
       }
     where
       connection_sealed : List SealEntry
       connection_sealed = entry.Sealed (record { key = auth_session; kind = kind.Session; content = connection_secret_layout.form.text (record { secret = connection_of block }) }) ∷ []
 
-      says : Says ((take 16 (connection_of block), Connected name) ∷ us) K (Login name) (connection_secret_layout.form.text (record { secret = connection_of block }))
+      says : Says (with_key us (take 16 (connection_of block)) (Connected n number name tie)) K auth_session (Login name) (connection_secret_layout.form.text (record { secret = connection_of block }))
       says = (
         λ x e. absurd (connection_no_info (record { secret = connection_of block }) x e),
-        λ x e. inl (ap (λ (s : List ℕ). take 16 s) (sym (read_connection (record { secret = connection_of block }) x (short-connection block) e)), refl),
+        λ x e. record {
+          acceptor = n;
+          number = number;
+          tie = tie;
+          means = inl (ap (λ (s : List ℕ). take 16 s) (sym (read_connection (record { secret = connection_of block }) x (short-connection block) e)), refl);
+        },
       )

@@ -20,7 +20,7 @@ use Rattle.cx_steps.specs.declared.seals.SealEntry.TheVariants as seal
 use Rattle.cx_laws_keys.proofs.Journal.{entered, has-before}
 use Rattle.cx_laws_keys.proofs.Known.{Inv, signed_own}
 use Rattle.cx_laws_keys.proofs.Premises.{AreGranted, Grant, all-granted, behind, granted-step, logged}
-use Rattle.cx_laws_keys.proofs.Uses.{Means, Secret, Uses}
+use Rattle.cx_laws_keys.proofs.Uses.{Means, Secret, Uses, no_uses}
 use Rattle.cx_laws_login.proofs.Facts.{OfferOk, StageOk}
 use Rattle.cx_laws_login.proofs.MonitorRows.{monitor_says}
 use Rattle.cx_laws_login.proofs.Rows.{LinkOk, found-link, quiet-entries}
@@ -103,9 +103,9 @@ run-logins setup hs drawn sound fresh =
     let whole : List Logged = log_since setup hs in
     let leaks : List Entry = map (λ (x : Entered). x.entry) (leaks_entered setup) in
     let K : List Entry = entered [] leaks in
-    let began = quiet-entries leaked whole node.Monitor 0 [] [] [] leaks NoneIssued (λ J e other none s has. none s (has-before J e other s has)) (leaks-quiet setup.leaks)
+    let began = quiet-entries leaked whole node.Monitor 0 no_uses [] [] leaks NoneIssued (λ J e other none s has. none s (has-before J e other s has)) (leaks-quiet setup.leaks)
     (opening-inv leaked whole) (λ s has. nothing-in (journal.Issued s) has) in
-    let known = secrets-known leaked whole K setup.entities [] [] (seals_from (nodes_of setup) hs) began.0 (all-granted leaked whole sound fresh) in
+    let known = secrets-known leaked whole K setup.entities no_uses [] (seals_from (nodes_of setup) hs) began.0 (all-granted leaked whole sound fresh) in
     let nodes : NodesOk (nodes_of setup) known.uses K = opening-nodes known.uses K setup known.theirs began.2 in
     let signed : EachPoint (Signed setup) (points setup hs) = all-signed setup whole hs [] (nodes_of setup) known.uses K known.inv nodes drawn known.granted tt in
     each-both (Asks setup) (Signed setup) (LogsIn setup) (λ older p asks own t has unleaked. let a = asks t has in (a.0, (a.1, own a.0 t.entity a.1 unleaked)))

@@ -24,7 +24,7 @@ use Rattle.cx_laws_keys.proofs.Known.{Inv}
 use Rattle.cx_laws_keys.proofs.Lists.{all-append, map-append}
 use Rattle.cx_laws_keys.proofs.Premises.{Grant, all-granted}
 use Rattle.cx_laws_keys.proofs.Steps.{inv-drawn}
-use Rattle.cx_laws_keys.proofs.Uses.{Grows, Means, Secret, Uses, grows-one, grows-then, stays}
+use Rattle.cx_laws_keys.proofs.Uses.{Grows, Means, Secret, Uses, grows-one, grows-then, no_uses, stays, with_key}
 use Rattle.cx_laws_login.proofs.Facts.{AreSecrets}
 use Rattle.cx_laws_login.proofs.Generations.{AreGenerated}
 use Rattle.cx_laws_login.proofs.Rows.{IsQuietEntry, quiet-entries}
@@ -55,7 +55,7 @@ module _ (leaked : List Name) (whole : List Logged) (J : List Entry) where
   secrets-known [] us log rest i g = record { uses = us; grows = stays us; inv = i; theirs = tt; granted = g }
   secrets-known (e ∷ es) us log rest i g =
       let mark = draw.Principal (secret_of e) e.name in
-      let vs : Uses = (secret_of e, Secret e.name) ∷ us in
+      let vs : Uses = with_key us (secret_of e) (Secret e.name) in
       let first : Inv leaked whole vs (secret_drawn e ∷ log) J = inv-drawn leaked whole us log J (node.Entity e.name) e.line mark (secret_of e) (Secret e.name) i refl refl (λ name is. as_secret (secret_of e) e.name name is) g.0 in
       let more = secrets-known es vs (secret_drawn e ∷ log) rest first g.1 in
       record {
@@ -80,7 +80,7 @@ leaks-quiet (l ∷ leaks) = ((tt, tt), leaks-quiet leaks)
 abbrev pub NoneIssued : Uses → List Entry → Type 0
 NoneIssued us J = (s : Issued) → Contains J (journal.Issued s) → ⊥
 
-pub opening-inv : (leaked : List Name) (whole : List Logged) → Inv leaked whole [] [] []
+pub opening-inv : (leaked : List Name) (whole : List Logged) → Inv leaked whole no_uses [] []
 opening-inv leaked whole = record {
   held = λ key u h. absurd h;
   secrets = λ key name h. absurd h;
@@ -150,9 +150,9 @@ run-law setup hs drawn sound fresh =
     let leaks : List Entry = map (λ (x : Entered). x.entry) (leaks_entered setup) in
     let K : List Entry = entered [] leaks in
     let later : List Entry = map (λ (x : Entered). x.entry) (journal_from (nodes_of setup) hs) in
-    let began = quiet-entries leaked whole node.Monitor 0 [] [] [] leaks NoneIssued (λ J e other none s has. none s (has-before J e other s has)) (leaks-quiet setup.leaks)
+    let began = quiet-entries leaked whole node.Monitor 0 no_uses [] [] leaks NoneIssued (λ J e other none s has. none s (has-before J e other s has)) (leaks-quiet setup.leaks)
     (opening-inv leaked whole) (λ s has. nothing-in (journal.Issued s) has) in
-    let known = secrets-known leaked whole K setup.entities [] [] (seals_from (nodes_of setup) hs) began.0 (all-granted leaked whole sound fresh) in
+    let known = secrets-known leaked whole K setup.entities no_uses [] (seals_from (nodes_of setup) hs) began.0 (all-granted leaked whole sound fresh) in
     let nodes : NodesOk (nodes_of setup) known.uses K = opening-nodes known.uses K setup known.theirs began.2 in
     let law : EachBehind EntryLaw K later = events-law leaked whole hs (nodes_of setup) known.uses (onto (secrets_drawn setup) []) K known.inv nodes drawn known.granted in
     let both : EachBehind EntryLaw [] (leaks ++ later) = behind-append EntryLaw [] leaks later began.1 law in
