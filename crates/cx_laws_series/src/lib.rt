@@ -1,0 +1,2 @@
+//! Parts of frames by number: lemmas for the laws over every run.
+#![tactic(auto)]
