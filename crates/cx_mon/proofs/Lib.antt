@@ -1,3 +1,3 @@
-pub mod Carrying
 pub mod Kept
 pub mod Steps
+pub mod Turns

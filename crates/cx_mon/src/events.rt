@@ -1,33 +1,33 @@
 //! What the monitor does at each event.
 
-ghost use Rattle.std.specs.Prelude.{◌≡◌, ◌<◌, [], ◌∷◌, None, IfOk, IfSome, OnErr};
+ghost use Rattle.std.specs.Prelude.{◌≡◌, ◌<◌, None, IfOk, IfSome, OnErr};
 ghost use Rattle.cx_ends.specs.Events.{link_in};
-ghost use Rattle.cx_base.specs.declared.nodes.NodeName.TheVariants as node;
-ghost use Rattle.cx_journal.specs.declared.outcomes.Reason.TheVariants as reason;
 ghost use Rattle.cx_rotate.specs.Keeping.{IsKeptState};
 ghost use Rattle.cx_rules.specs.Inputs.{input_of};
 ghost use Rattle.cx_rules.specs.Links.{link_of, without_link};
 ghost use Rattle.cx_rules.specs.MonitorRule as rule;
 ghost use Rattle.cx_rules.specs.Rows as rows;
-ghost use Rattle.cx_rules.specs.Rows.{forgotten};
-ghost use Rattle.cx_steps.specs.Nothing.{nothing};
-ghost use Rattle.cx_mon.specs.Machine.{AreHeld, IsStep, lost, node_of, without_lost};
+ghost use Rattle.cx_rules.specs.Acceptor.{AwaitsBanner};
+ghost use Rattle.cx_rules.specs.Rows.{forgotten, new_link};
+ghost use Rattle.cx_turns.specs.Steps.{without_lost};
+ghost use Rattle.cx_mon.specs.Machine.{AreHeld, IsStep, lost, node_of};
 
-use crate::turns::{opens, turn};
-use cx_acceptor::{Link, Own};
+use crate::own::MonitorOwn;
+use cx_acceptor::Link;
 use cx_base::{NodeName, Reading};
 use cx_dice::Draw;
 use cx_ends::Moment;
-use cx_journal::{Entry, Reason};
-use cx_node::{Links, enters, refused_entry};
+use cx_journal::Entry;
+use cx_node::{Links, enters};
 use cx_rules::rule_laws;
 use cx_steps::{Effects, Event};
+use cx_turns::{turn, unopened};
 use std::alloc::{AllocError, Global};
 
 // What the monitor does at an event. What was saved last is noted before.
 pub(crate) fn steps(
     alloc: Global,
-    own: &mut Own,
+    own: &mut MonitorOwn,
     links: &mut Links<Link>,
     event: Event<'_>,
     now: Reading,
@@ -52,7 +52,7 @@ pub(crate) fn steps(
 
 fn happens(
     alloc: Global,
-    own: &mut Own,
+    own: &mut MonitorOwn,
     links: &mut Links<Link>,
     event: Event<'_>,
     now: Reading,
@@ -83,28 +83,20 @@ fn happens(
                 reading: now,
                 draw,
             };
-            turn(alloc, own, links, &at)
+            turns(alloc, own, links, &at)
         }
         Event::Gone(number) => Ok(goes(alloc, own, links, number)),
         Event::Restart => restarts(alloc, own, links),
-        Event::NoLink(_) => opens_none(alloc),
+        Event::NoLink(_) => unopened(alloc, &NodeName::Monitor),
         Event::Look(_) => Ok(Effects::new(alloc)),
         Event::Tick => Ok(Effects::new(alloc)),
         Event::Submit(_) => Ok(Effects::new(alloc)),
     }
 }
 
-// A link could not be opened.
-fn opens_none(alloc: Global) -> Result<Effects, AllocError>
-    ensures { IfOk result (λ out. out ≡ record nothing { entries = rows.refused_entry node.Monitor 0 reason.NoLink ∷ [] }) }
-{
-    let entry = refused_entry(alloc, &NodeName::Monitor, 0, Reason::NoLink)?;
-    enters(alloc, entry)
-}
-
 // A link is gone.
 #[tactic(auto, using(crate::proofs::Steps::goes_step, crate::proofs::Steps::without_held))]
-fn goes(alloc: Global, own: &Own, links: &mut Links<Link>, number: u32) -> Effects
+fn goes(alloc: Global, own: &MonitorOwn, links: &mut Links<Link>, number: u32) -> Effects
     requires room { links.old.room ≡ None }
     requires held { AreHeld links.old.links }
     ensures step { IsStep (node_of own.now links.new.links) (rows.idles (forgotten (node_of own.now links.old.links) number)) result }
@@ -115,13 +107,35 @@ fn goes(alloc: Global, own: &Own, links: &mut Links<Link>, number: u32) -> Effec
     Effects::new(alloc)
 }
 
-// ---- bytes come
+// ---- a link opens, bytes come, a link is turned
+
+/// The links that a node has places for.
+const MOST_LINKS: usize = 1024;
+
+// The banner is sent, unless as many links live as there are places.
+fn opens(
+    alloc: Global,
+    own: &MonitorOwn,
+    links: &mut Links<Link>,
+    at: &Moment<'_>,
+) -> Result<Effects, AllocError>
+    requires room { links.old.room ≡ None }
+    requires held { AreHeld links.old.links }
+    ensures step { IfOk result (IsStep (node_of own.now links.new.links)
+        (rule.opens (node_of own.now links.old.links) at.now.reading at.now.draw.now.bytes (new_link at.now.number AwaitsBanner))) }
+    ensures lost { OnErr result (links.new.links ≡ without_link at.now.number links.old.links) }
+    ensures room { links.new.room ≡ None }
+    ensures held { AreHeld links.new.links }
+{
+    let full = links.len() >= MOST_LINKS;
+    let greeted = own.greets(alloc, at, full);
+    cx_turns::opens(alloc, links, at.number, greeted)
+}
 
 // Bytes come on a link, if it lives.
-#[tactic(auto, using(crate::proofs::Steps::fed_step, crate::proofs::Steps::unfed_step, crate::proofs::Steps::put_held, crate::proofs::Steps::without_held))]
 fn comes(
     alloc: Global,
-    own: &Own,
+    own: &MonitorOwn,
     links: &mut Links<Link>,
     number: u32,
     bytes: &[u8],
@@ -134,25 +148,36 @@ fn comes(
     ensures room { links.new.room ≡ None }
     ensures held { AreHeld links.new.links }
 {
-    let Some(link) = links.take(number) else {
-        return Ok(Effects::new(alloc));
-    };
-    match link.fed(alloc, bytes) {
-        Ok(link) => {
-            links.settle(number, Some(link));
-            Ok(Effects::new(alloc))
-        }
-        Err(error) => {
-            links.give_up();
-            Err(error)
-        }
-    }
+    cx_turns::comes::<Link, MonitorOwn>(alloc, links, number, bytes)
+}
+
+// One banner or frame of what came on a link is handled, if it lives.
+fn turns(
+    alloc: Global,
+    own: &mut MonitorOwn,
+    links: &mut Links<Link>,
+    at: &Moment<'_>,
+) -> Result<Effects, AllocError>
+    requires reading { at.now.reading < 4000000000000000000 }
+    requires room { links.old.room ≡ None }
+    requires held { AreHeld links.old.links }
+    ensures step { IfOk result (IsStep (node_of own.new links.new.links)
+        (rule.turn (node_of own.old links.old.links) at.now.reading at.now.draw.now.bytes (link_of at.now.number links.old.links))) }
+    ensures lost { OnErr result (node_of own.new links.new.links ≡ forgotten (node_of own.old links.old.links) at.now.number) }
+    ensures room { links.new.room ≡ None }
+    ensures held { AreHeld links.new.links }
+{
+    turn(alloc, own, links, at)
 }
 
 // ---- the monitor begins anew
 
 // The monitor begins anew, from what it saved last.
-fn restarts(alloc: Global, own: &mut Own, links: &mut Links<Link>) -> Result<Effects, AllocError>
+fn restarts(
+    alloc: Global,
+    own: &mut MonitorOwn,
+    links: &mut Links<Link>,
+) -> Result<Effects, AllocError>
     requires room { links.old.room ≡ None }
     requires held { AreHeld links.old.links }
     ensures step { IfOk result (IsStep (node_of own.new links.new.links) (rule.restarted (node_of own.old links.old.links))) }

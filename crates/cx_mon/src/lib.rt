@@ -3,7 +3,7 @@
 
 mod events;
 mod monitor;
-mod turns;
+mod own;
 
 pub use monitor::Monitor;
 

@@ -10,7 +10,8 @@ ghost use Rattle.cx_ends.specs.Events.{losing};
 ghost use Rattle.cx_mon.specs.Machine.{lost};
 
 use crate::events::steps;
-use cx_acceptor::{Link, Own};
+use crate::own::MonitorOwn;
+use cx_acceptor::Link;
 use cx_base::{Addr, Reading};
 use cx_dice::Draw;
 use cx_ends::link_in;
@@ -24,7 +25,7 @@ use std::marker::Model;
 /// The monitor: what it has of its own, and its live links. It never reads a clock or a source of randomness; both come with each event.
 #[derive(Drop)]
 pub struct Monitor {
-    own: Own,
+    own: MonitorOwn,
     links: Links<Link>,
 }
 
@@ -49,7 +50,7 @@ impl Monitor {
     {
         forgetting_laws();
         Monitor {
-            own: Own::new(server, me),
+            own: MonitorOwn::new(server, me),
             links: Links::new(alloc),
         }
     }
