@@ -19,6 +19,7 @@ use cx_base::Owner;
 pub use faults::{AdmitFault, AdmitRefusal, ResumeFault, ResumeRefusal, TakeRefusal};
 pub use laws::{book_laws, told_laws};
 pub use outbox::{Outbox, QueueFault, QueueRefusal};
+pub use replies::message_reply;
 
 // Each public type may be sent to another thread and shared with one.
 fn is_sendable<T: Send + Sync>() {}

@@ -47,8 +47,8 @@ impl<O: Owner> SessionBook<O> {
         }
     }
 
-    // What an admission would answer.
-    pub(crate) fn admit_reply(&self, client_cookie: u64) -> Result<(u64, u64), AdmitFault>
+    /// What an admission would answer.
+    pub fn admit_reply(&self, client_cookie: u64) -> Result<(u64, u64), AdmitFault>
         ensures { result ≡ admit_reply self.now.book client_cookie }
     {
         if let Some(session) = self.session_of_client(client_cookie) {
@@ -65,8 +65,8 @@ impl<O: Owner> SessionBook<O> {
         Ok((self.next, 1))
     }
 
-    // What a resumption would answer.
-    pub(crate) fn resume_reply(
+    /// What a resumption would answer.
+    pub fn resume_reply(
         &self,
         alloc: Global,
         owner: &O,
@@ -253,7 +253,8 @@ fn refused_resumption(fault: ResumeFault) -> BookReply
     }
 }
 
-fn message_reply(answer: Result<(), TakeRefusal>) -> BookReply
+/// What `check` and `take` answer, as a reply.
+pub fn message_reply(answer: Result<(), TakeRefusal>) -> BookReply
     ensures { result ≡ message_reply answer }
 {
     match answer {
