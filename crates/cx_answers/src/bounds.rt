@@ -9,7 +9,7 @@ use crate::answered::Refused;
 use cx_base::{Blob, Items, Operation, Reading, SECOND, Text, is_caps, is_part};
 
 /// That a blob field can hold these bytes.
-pub fn is_short(bytes: &Blob) -> Result<(), Refused>
+pub fn fits_blob_field(bytes: &Blob) -> Result<(), Refused>
     ensures { OnOk result (length bytes.now < 2 ^ 32) }
 {
     if bytes.bytes().len() > 0xffff_ffff {

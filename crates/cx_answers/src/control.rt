@@ -1,7 +1,7 @@
 //! The payloads of control frames, by the names of their tags.
 
 use crate::answered::{Answered, Refused, answered, copied};
-use crate::bounds::{is_few, is_reading, is_short};
+use crate::bounds::{fits_blob_field, is_few, is_reading};
 use crate::shown::{Hex, Numbers, ShownAddr};
 use cx_base::Blob;
 use cx_control::{
@@ -63,7 +63,7 @@ fn hello(alloc: Global, bytes: &[u8]) -> Result<Answered, Refused> {
 fn auth_request(alloc: Global, bytes: &[u8]) -> Result<Answered, Refused> {
     let x = copied(alloc, read_auth_request(alloc, bytes))?;
     is_few(&x.modes)?;
-    is_short(&x.payload)?;
+    fits_blob_field(&x.payload)?;
     answered!(
         alloc,
         x = x,
@@ -88,7 +88,7 @@ fn auth_bad_method(alloc: Global, bytes: &[u8]) -> Result<Answered, Refused> {
 
 fn auth_reply_more(alloc: Global, bytes: &[u8]) -> Result<Answered, Refused> {
     let x = copied(alloc, read_auth_reply_more(alloc, bytes))?;
-    is_short(&x.payload)?;
+    fits_blob_field(&x.payload)?;
     answered!(
         alloc,
         x = x,
@@ -100,7 +100,7 @@ fn auth_reply_more(alloc: Global, bytes: &[u8]) -> Result<Answered, Refused> {
 
 fn auth_request_more(alloc: Global, bytes: &[u8]) -> Result<Answered, Refused> {
     let x = copied(alloc, read_auth_request_more(alloc, bytes))?;
-    is_short(&x.payload)?;
+    fits_blob_field(&x.payload)?;
     answered!(
         alloc,
         x = x,
@@ -112,7 +112,7 @@ fn auth_request_more(alloc: Global, bytes: &[u8]) -> Result<Answered, Refused> {
 
 fn auth_done(alloc: Global, bytes: &[u8]) -> Result<Answered, Refused> {
     let x = copied(alloc, read_auth_done(alloc, bytes))?;
-    is_short(&x.payload)?;
+    fits_blob_field(&x.payload)?;
     answered!(
         alloc,
         x = x,

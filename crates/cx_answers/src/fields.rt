@@ -1,7 +1,7 @@
 //! The primitive fields.
 
 use crate::answered::{Answered, Refused, spelled};
-use crate::bounds::is_short;
+use crate::bounds::fits_blob_field;
 use crate::shown::{Hex, Numbers, ShownAddr, Ticket};
 use cx_base::{Addr, Blob, EntityName, EntityType, Items};
 use cx_enc::{Key, TicketBlob, Time, read_whole, read_whole_in_place, write_whole};
@@ -76,7 +76,7 @@ fn key(alloc: Global, bytes: &[u8]) -> Result<Answered, Refused> {
 
 fn ticket(alloc: Global, bytes: &[u8]) -> Result<Answered, Refused> {
     let x = read_whole::<TicketBlob>(alloc, bytes)?;
-    is_short(&x.blob)?;
+    fits_blob_field(&x.blob)?;
     spelled!(alloc, x = x, "{}", Ticket(&x))
 }
 

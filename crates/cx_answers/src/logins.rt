@@ -1,7 +1,7 @@
 //! The payloads of cephx in frames of authentication.
 
 use crate::answered::{Answered, Refused, answered, copied};
-use crate::bounds::is_short;
+use crate::bounds::fits_blob_field;
 use crate::shown::{Hex, Ticket, Tickets};
 use cx_base::{Blob, Duplicate};
 use cx_wire::{
@@ -52,7 +52,7 @@ fn authenticate(alloc: Global, bytes: &[u8]) -> Result<Answered, Refused> {
     if x.version != 2 && x.version != 3 {
         return Err(Refused::Unfit);
     }
-    is_short(&x.old_ticket.blob)?;
+    fits_blob_field(&x.old_ticket.blob)?;
     answered!(
         alloc,
         x = x,
@@ -79,8 +79,8 @@ fn login_done(alloc: Global, bytes: &[u8]) -> Result<Answered, Refused> {
 
 fn authorizer(alloc: Global, bytes: &[u8]) -> Result<Answered, Refused> {
     let x = copied(alloc, read_authorizer(alloc, bytes))?;
-    is_short(&x.ticket.blob)?;
-    is_short(&x.authorize)?;
+    fits_blob_field(&x.ticket.blob)?;
+    fits_blob_field(&x.authorize)?;
     answered!(
         alloc,
         x = x,
@@ -95,7 +95,7 @@ fn authorizer(alloc: Global, bytes: &[u8]) -> Result<Answered, Refused> {
 
 fn authorize_challenge(alloc: Global, bytes: &[u8]) -> Result<Answered, Refused> {
     let x = copied(alloc, read_authorize_challenge(alloc, bytes))?;
-    is_short(&x.sealed)?;
+    fits_blob_field(&x.sealed)?;
     answered!(
         alloc,
         x = x,
@@ -107,7 +107,7 @@ fn authorize_challenge(alloc: Global, bytes: &[u8]) -> Result<Answered, Refused>
 
 fn authorize_reply(alloc: Global, bytes: &[u8]) -> Result<Answered, Refused> {
     let x = copied(alloc, read_authorize_reply(alloc, bytes))?;
-    is_short(&x.sealed)?;
+    fits_blob_field(&x.sealed)?;
     answered!(
         alloc,
         x = x,

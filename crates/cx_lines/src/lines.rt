@@ -148,7 +148,7 @@ pub fn line_behind(
         Head::Setting(form) => Ok(setting_of(alloc, known, form, words)?.map(Line::Setting)),
         Head::Submit(form) => Ok(command_of(alloc, known, form, words)?.map(Line::Submit)),
         Head::Do => Ok(do_of(alloc, known, words)?.map(Line::Do)),
-        Head::Link(form) => Ok(link_step_of(alloc, known, form, words)?.map(Line::Link)),
+        Head::Link(form) => Ok(link_step_of(alloc, form, words)?.map(Line::Link)),
         Head::Node(form) => Ok(node_step_of(alloc, known, form, words)?.map(Line::Node)),
     }
 }

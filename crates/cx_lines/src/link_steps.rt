@@ -1,11 +1,12 @@
 //! Lines on links and on what is in flight there.
 
 ghost use Rattle.std.specs.Prelude.{◌≡◌, ◌∷◌, [], map, IfOk, IfSome};
+ghost use Rattle.cx_line_words.specs.declared.known.Known.{Known};
 ghost use Rattle.cx_lines.specs.LinkSteps.{link_form, link_form_of, link_places, link_word, IsLinkStep};
 ghost use Rattle.cx_lines.specs.declared.link_steps.LinkForm.{LinkForm};
 
 use cx_base::{Blob, Duplicate};
-use cx_line_words::{Known, Side, WordPlace, side_named};
+use cx_line_words::{Side, WordPlace, side_named};
 use cx_words::{hex, is_word, number};
 use std::alloc::{AllocError, Global};
 
@@ -106,50 +107,37 @@ fn carry_places(words: &[&[u8]]) -> &'static [WordPlace]
 /// The line that these words behind a first word of this form spell; none where one of them isn't good at its place.
 pub fn link_step_of(
     alloc: Global,
-    known: &Known,
     form: LinkForm,
     words: &[&[u8]],
 ) -> Result<Option<LinkStep>, AllocError>
-    ensures { IfOk result (IsLinkStep known.now form (map (λ w. w.now) words.now)) }
+    ensures { (known : Known) → IfOk result (IsLinkStep known form (map (λ w. w.now) words.now)) }
 {
     match form {
-        LinkForm::Carry => Ok(carry_of(known, words)),
-        LinkForm::Lose => Ok(lose_of(known, words)),
-        LinkForm::Inject => inject_of(alloc, known, words),
-        LinkForm::Again => Ok(again_of(known, words)),
-        LinkForm::Cut => Ok(cut_of(known, words)),
+        LinkForm::Carry => Ok(carry_of(words)),
+        LinkForm::Lose => Ok(lose_of(words)),
+        LinkForm::Inject => inject_of(alloc, words),
+        LinkForm::Again => Ok(again_of(words)),
+        LinkForm::Cut => Ok(cut_of(words)),
     }
 }
 
-fn carry_of(known: &Known, words: &[&[u8]]) -> Option<LinkStep>
-    ensures { IsLinkStep known.now LinkForm.Carry (map (λ w. w.now) words.now) result }
+fn carry_of(words: &[&[u8]]) -> Option<LinkStep>
+    ensures { (known : Known) → IsLinkStep known LinkForm.Carry (map (λ w. w.now) words.now) result }
 {
-    match words {
-        [link, from] => carry(known, link, from),
-        [link, from, count] => carry_some(known, link, from, count),
+    let [link, from, rest @ ..] = words else {
+        return None;
+    };
+    let link = number(link)?;
+    let from = side_named(from)?;
+    match rest {
+        [] => Some(LinkStep::Carry(link, from, None)),
+        [count] => Some(LinkStep::Carry(link, from, Some(number(count)?))),
         _ => None,
     }
 }
 
-fn carry(_known: &Known, link: &[u8], from: &[u8]) -> Option<LinkStep>
-    ensures { IsLinkStep _known.now LinkForm.Carry (link.now ∷ from.now ∷ []) result }
-{
-    let link = number(link)?;
-    let from = side_named(from)?;
-    Some(LinkStep::Carry(link, from, None))
-}
-
-fn carry_some(_known: &Known, link: &[u8], from: &[u8], count: &[u8]) -> Option<LinkStep>
-    ensures { IsLinkStep _known.now LinkForm.Carry (link.now ∷ from.now ∷ count.now ∷ []) result }
-{
-    let link = number(link)?;
-    let from = side_named(from)?;
-    let count = number(count)?;
-    Some(LinkStep::Carry(link, from, Some(count)))
-}
-
-fn lose_of(_known: &Known, words: &[&[u8]]) -> Option<LinkStep>
-    ensures { IsLinkStep _known.now LinkForm.Lose (map (λ w. w.now) words.now) result }
+fn lose_of(words: &[&[u8]]) -> Option<LinkStep>
+    ensures { (known : Known) → IsLinkStep known LinkForm.Lose (map (λ w. w.now) words.now) result }
 {
     let [link, from] = words else {
         return None;
@@ -159,8 +147,8 @@ fn lose_of(_known: &Known, words: &[&[u8]]) -> Option<LinkStep>
     Some(LinkStep::Lose(link, from))
 }
 
-fn inject_of(alloc: Global, _known: &Known, words: &[&[u8]]) -> Result<Option<LinkStep>, AllocError>
-    ensures { IfOk result (IsLinkStep _known.now LinkForm.Inject (map (λ w. w.now) words.now)) }
+fn inject_of(alloc: Global, words: &[&[u8]]) -> Result<Option<LinkStep>, AllocError>
+    ensures { (known : Known) → IfOk result (IsLinkStep known LinkForm.Inject (map (λ w. w.now) words.now)) }
 {
     let [link, from, bytes] = words else {
         return Ok(None);
@@ -177,8 +165,8 @@ fn inject_of(alloc: Global, _known: &Known, words: &[&[u8]]) -> Result<Option<Li
     Ok(Some(LinkStep::Inject(link, from, bytes)))
 }
 
-fn again_of(_known: &Known, words: &[&[u8]]) -> Option<LinkStep>
-    ensures { IsLinkStep _known.now LinkForm.Again (map (λ w. w.now) words.now) result }
+fn again_of(words: &[&[u8]]) -> Option<LinkStep>
+    ensures { (known : Known) → IsLinkStep known LinkForm.Again (map (λ w. w.now) words.now) result }
 {
     let [link, from, piece, other] = words else {
         return None;
@@ -190,8 +178,8 @@ fn again_of(_known: &Known, words: &[&[u8]]) -> Option<LinkStep>
     Some(LinkStep::Again(link, from, piece, other))
 }
 
-fn cut_of(_known: &Known, words: &[&[u8]]) -> Option<LinkStep>
-    ensures { IsLinkStep _known.now LinkForm.Cut (map (λ w. w.now) words.now) result }
+fn cut_of(words: &[&[u8]]) -> Option<LinkStep>
+    ensures { (known : Known) → IsLinkStep known LinkForm.Cut (map (λ w. w.now) words.now) result }
 {
     let [link] = words else {
         return None;

@@ -1,6 +1,7 @@
 //! Lines on clocks, nodes and saves.
 
 ghost use Rattle.std.specs.Prelude.{◌≡◌, ◌∷◌, [], map, IfOk, IfSome};
+ghost use Rattle.cx_line_words.specs.declared.known.Known.{Known};
 ghost use Rattle.cx_lines.specs.NodeSteps.{node_form, node_form_of, node_places, node_step_word, IsNodeStep};
 ghost use Rattle.cx_lines.specs.declared.node_steps.NodeForm.{NodeForm};
 
@@ -121,8 +122,8 @@ pub fn node_step_of(
         NodeForm::DropSession => drop_of(alloc, known, words),
         NodeForm::Tick => tick_of(alloc, known, words),
         NodeForm::Restart => restart_of(alloc, known, words),
-        NodeForm::FailSave => Ok(failsave_of(known, words)),
-        NodeForm::Settle => Ok(settle_of(known, words)),
+        NodeForm::FailSave => Ok(failsave_of(words)),
+        NodeForm::Settle => Ok(settle_of(words)),
     }
 }
 
@@ -130,14 +131,14 @@ fn clock_of(alloc: Global, known: &Known, words: &[&[u8]]) -> Result<Option<Node
     ensures { IfOk result (IsNodeStep known.now NodeForm.Clock (map (λ w. w.now) words.now)) }
 {
     match words {
-        [word] => Ok(clock(known, word)),
+        [word] => Ok(clock(word)),
         [node, word] => clock_of_node(alloc, known, node, word),
         _ => Ok(None),
     }
 }
 
-fn clock(_known: &Known, word: &[u8]) -> Option<NodeStep>
-    ensures { IsNodeStep _known.now NodeForm.Clock (word.now ∷ []) result }
+fn clock(word: &[u8]) -> Option<NodeStep>
+    ensures { (known : Known) → IsNodeStep known NodeForm.Clock (word.now ∷ []) result }
 {
     Some(NodeStep::Clock(reading(word)?))
 }
@@ -198,8 +199,8 @@ fn restart_of(alloc: Global, known: &Known, words: &[&[u8]]) -> Result<Option<No
     Ok(Some(NodeStep::Restart(node)))
 }
 
-fn failsave_of(_known: &Known, words: &[&[u8]]) -> Option<NodeStep>
-    ensures { IsNodeStep _known.now NodeForm.FailSave (map (λ w. w.now) words.now) result }
+fn failsave_of(words: &[&[u8]]) -> Option<NodeStep>
+    ensures { (known : Known) → IsNodeStep known NodeForm.FailSave (map (λ w. w.now) words.now) result }
 {
     let [word] = words else {
         return None;
@@ -207,8 +208,8 @@ fn failsave_of(_known: &Known, words: &[&[u8]]) -> Option<NodeStep>
     Some(NodeStep::FailSave(state_named(word)?))
 }
 
-fn settle_of(_known: &Known, words: &[&[u8]]) -> Option<NodeStep>
-    ensures { IsNodeStep _known.now NodeForm.Settle (map (λ w. w.now) words.now) result }
+fn settle_of(words: &[&[u8]]) -> Option<NodeStep>
+    ensures { (known : Known) → IsNodeStep known NodeForm.Settle (map (λ w. w.now) words.now) result }
 {
     let [] = words else {
         return None;

@@ -1,6 +1,7 @@
 //! Head lines, which stand before all others.
 
 ghost use Rattle.std.specs.Prelude.{◌≡◌, ◌∷◌, [], map, IfOk, IfSome};
+ghost use Rattle.cx_line_words.specs.declared.known.Known.{Known};
 ghost use Rattle.cx_lines.specs.Settings.{setting_form, setting_form_of, setting_places, setting_word, IsSetting};
 ghost use Rattle.cx_lines.specs.declared.settings.SettingForm.{SettingForm};
 
@@ -109,8 +110,8 @@ pub fn setting_of(
     ensures { IfOk result (IsSetting known.now form (map (λ w. w.now) words.now)) }
 {
     match form {
-        SettingForm::Lifetime => Ok(lifetime_of(known, words)),
-        SettingForm::AuthLifetime => Ok(auth_lifetime_of(known, words)),
+        SettingForm::Lifetime => Ok(lifetime_of(words)),
+        SettingForm::AuthLifetime => Ok(auth_lifetime_of(words)),
         SettingForm::Entity => entity_of(alloc, known, words),
         SettingForm::Seed => seed_of(alloc, known, words),
         SettingForm::Modes => modes_of(alloc, known, words),
@@ -118,8 +119,8 @@ pub fn setting_of(
     }
 }
 
-fn lifetime_of(_known: &Known, words: &[&[u8]]) -> Option<Setting>
-    ensures { IsSetting _known.now SettingForm.Lifetime (map (λ w. w.now) words.now) result }
+fn lifetime_of(words: &[&[u8]]) -> Option<Setting>
+    ensures { (known : Known) → IsSetting known SettingForm.Lifetime (map (λ w. w.now) words.now) result }
 {
     let [word] = words else {
         return None;
@@ -127,8 +128,8 @@ fn lifetime_of(_known: &Known, words: &[&[u8]]) -> Option<Setting>
     Some(Setting::Lifetime(life(word)?))
 }
 
-fn auth_lifetime_of(_known: &Known, words: &[&[u8]]) -> Option<Setting>
-    ensures { IsSetting _known.now SettingForm.AuthLifetime (map (λ w. w.now) words.now) result }
+fn auth_lifetime_of(words: &[&[u8]]) -> Option<Setting>
+    ensures { (known : Known) → IsSetting known SettingForm.AuthLifetime (map (λ w. w.now) words.now) result }
 {
     let [word] = words else {
         return None;

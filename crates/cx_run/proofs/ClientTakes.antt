@@ -1,5 +1,5 @@
--- The rows of one that logs in keep their link, and a turn of it takes some of what is ahead.
-use Rattle.std.proofs.Common.{ℕ, ◌==◌, Bool, true, false, List, [], ◌∷◌, Option, Some, None, Result, Ok, Err, refl}
+-- The rows of one that logs in keep their link and its name, and a turn of it takes some of what is ahead.
+use Rattle.std.proofs.Common.{ℕ, ◌==◌, Bool, true, false, List, [], ◌∷◌, Option, Some, None, Result, Ok, Err, refl, ap, ◌≡◌}
 use Rattle.std.specs.Prelude.{not, if◌then◌else◌}
 use Rattle.cx_control.specs.Auth.{auth_done_layout, auth_reply_more_layout, auth_signature_layout}
 use Rattle.cx_control.specs.BadMethod.{bad_method_layout}
@@ -23,122 +23,166 @@ use Rattle.cx_steps.specs.declared.seals.SealEntry.TheVariants.{Drawn}
 use Rattle.cx_wire.specs.Logins.{login_done_layout}
 use Rattle.cx_wire.specs.declared.logins.LoginDone.{LoginDone}
 use Rattle.cx_wire.specs.declared.logins.ServerChallenge.{ServerChallenge}
-use Rattle.cx_rules.specs.Connector.{AskerArrival, Login, Stage, AwaitsBanner, AwaitsHello, AwaitsChallenge, AwaitsDone, AwaitsSignature, AwaitsIdent, Open, client_ident, holding, identifies, on_bad_method, on_banner, on_challenge, on_done, on_hello, on_login_done, on_missing_features, on_opened, on_reply_more, on_server_ident, on_signature, proves, signs, turned_at, while_challenged, while_identified, while_proved}
-use Rattle.cx_rules.specs.Holdings.{Asker, held_login}
+use Rattle.cx_rules.specs.Connector.{AskerArrival, AskerRow, Login, Stage, AwaitsBanner, AwaitsHello, AwaitsChallenge, AwaitsDone, AwaitsSignature, AwaitsIdent, Open, client_ident, holding, identifies, on_bad_method, on_banner, on_challenge, on_denial, on_done, on_hello, on_login_done, on_missing_features, on_opened, on_reply_more, on_server_ident, on_signature, proves, signs, turned_at, while_challenged, while_identified, while_proved}
+use Rattle.cx_rules.specs.Holdings.{Asker, held_login, holds_nothing}
+use Rattle.cx_rules.specs.Fronts.{banner_next, plain_next, secure_next}
 use Rattle.cx_rules.specs.Payloads.{due, payload, whole}
-use Rattle.cx_rules.specs.Rows.{Turned, Waits, Refuses, Handles, at, lifted_turn, refuses, with_opened}
+use Rattle.cx_rules.specs.Rows.{Turned, Waits, Refuses, Handles, at, lifted_turn, plain_sent, refuses, with_opened}
 use Rattle.cx_rules.specs.ClientRule.{Client}
 use Rattle.cx_rules.specs.Links.{Link}
 use Rattle.cx_rules.specs.Secured.{SealedFrame, Secured, is_signed, secure_frame, signature_found, under}
 use Rattle.cx_rules.specs.Upkeep.{on_upkeep}
-use Rattle.cx_run.proofs.Taking.{Keeps, TurnTakes, banner-takes, plain-takes, plain_sent-keeps, secure-takes, secure_sent-keeps, upkeep-keeps}
+use Rattle.cx_run.proofs.Taking.{EachRow, Keeps, TurnTakes, banner-takes, each-turned, plain-takes, plain_sent-keeps, plain_sent-own, secure-takes, secure_sent-keeps, secure_sent-own, upkeep-keeps, upkeep-own}
+
+-- what a row leaves of the link is as it was, but for what was sent and the stage, and the name stays
+abbrev KeepsAsker : AskerArrival → AskerRow → Type 0
+KeepsAsker a row = Keeps a.link row × (row.own.name ≡ a.own.name)
+
+plain-keeps : (a : AskerArrival) (stage : Stage) (seals : List SealEntry) (r : Result (List ℕ) BytesFault) → KeepsAsker a (plain_sent a stage seals r)
+plain-keeps a stage seals r = (plain_sent-keeps a stage seals r, ap (λ (own : Asker). own.name) (plain_sent-own a stage seals r))
 
 -- ---- HELLO, AUTH_REPLY_MORE, AUTH_BAD_METHOD
 
-hello-keeps : (a : AskerArrival) (asked : ℕ) (hello : Result Hello BytesFault) → Keeps a.link (on_hello a asked hello)
-hello-keeps a asked (Err why) = tt
-hello-keeps a asked (Ok hello) = plain_sent-keeps a (AwaitsChallenge asked) [] _
+hello-keeps : (a : AskerArrival) (asked : ℕ) (hello : Result Hello BytesFault) → KeepsAsker a (on_hello a asked hello)
+hello-keeps a asked (Err why) = (tt, refl)
+hello-keeps a asked (Ok hello) = plain-keeps a (AwaitsChallenge asked) [] _
 
-proves-keeps : (a : AskerArrival) (server : ℕ) (r : Result (List ℕ) BytesFault) → Keeps a.link (proves a server r)
-proves-keeps a server (Err why) = tt
-proves-keeps a server (Ok bytes) = record { number = refl; ahead = refl }
+proves-keeps : (a : AskerArrival) (server : ℕ) (r : Result (List ℕ) BytesFault) → KeepsAsker a (proves a server r)
+proves-keeps a server (Err why) = (tt, refl)
+proves-keeps a server (Ok bytes) = (record { number = refl; ahead = refl }, refl)
 
-challenge-keeps : (a : AskerArrival) (asked : ℕ) (server : Result ServerChallenge BytesFault) → Keeps a.link (on_challenge a asked server)
-challenge-keeps a asked (Err why) = tt
+challenge-keeps : (a : AskerArrival) (asked : ℕ) (server : Result ServerChallenge BytesFault) → KeepsAsker a (on_challenge a asked server)
+challenge-keeps a asked (Err why) = (tt, refl)
 challenge-keeps a asked (Ok server) = proves-keeps a server.challenge _
 
-reply_more-keeps : (a : AskerArrival) (asked : ℕ) (more : Result AuthReplyMore BytesFault) → Keeps a.link (on_reply_more a asked more)
-reply_more-keeps a asked (Err why) = tt
+reply_more-keeps : (a : AskerArrival) (asked : ℕ) (more : Result AuthReplyMore BytesFault) → KeepsAsker a (on_reply_more a asked more)
+reply_more-keeps a asked (Err why) = (tt, refl)
 reply_more-keeps a asked (Ok more) = challenge-keeps a asked _
 
-bad_method-keeps : (a : AskerArrival) (fields : Result (ℕ × (ℕ × (List ℕ × List ℕ))) BytesFault) → Keeps a.link (on_bad_method a fields)
-bad_method-keeps a (Err why) = tt
-bad_method-keeps a (Ok fields) = tt
+denial-keeps : (a : AskerArrival) (code : ℕ) → KeepsAsker a (on_denial a code)
+denial-keeps a code = (tt, by_test (code == 13))
+  where
+    by_test : (forgets : Bool) → (let b : AskerArrival = (if forgets then holding a holds_nothing else a) in b.own.name) ≡ a.own.name
+    by_test true = refl
+    by_test false = refl
 
-challenged-keeps : (a : AskerArrival) (asked : ℕ) (f : Frame) → Keeps a.link (while_challenged a asked f)
+bad_method-keeps : (a : AskerArrival) (fields : Result (ℕ × (ℕ × (List ℕ × List ℕ))) BytesFault) → KeepsAsker a (on_bad_method a fields)
+bad_method-keeps a (Err why) = (tt, refl)
+bad_method-keeps a (Ok fields) = denial-keeps a _
+
+challenged-keeps : (a : AskerArrival) (asked : ℕ) (f : Frame) → KeepsAsker a (while_challenged a asked f)
 challenged-keeps a asked f = by_test (f.tag == 3)
   where
-    by_test : (denied : Bool) → Keeps a.link (if denied then on_bad_method a (payload bad_method_layout.form f) else on_reply_more a asked (due 4 auth_reply_more_layout.form f))
+    by_test : (denied : Bool) → KeepsAsker a (if denied then on_bad_method a (payload bad_method_layout.form f) else on_reply_more a asked (due 4 auth_reply_more_layout.form f))
     by_test true = bad_method-keeps a (payload bad_method_layout.form f)
     by_test false = reply_more-keeps a asked (due 4 auth_reply_more_layout.form f)
 
 -- ---- AUTH_DONE
 
-signs-keeps : (a : AskerArrival) (login : Login) (opened : List SealEntry) (r : Result SealedFrame BytesFault) → Keeps a.link (signs a login opened r)
-signs-keeps a login opened (Err why) = tt
-signs-keeps a login opened (Ok sealed) = record { number = refl; ahead = refl }
+signs-keeps : (a : AskerArrival) (login : Login) (opened : List SealEntry) (r : Result SealedFrame BytesFault) → KeepsAsker a (signs a login opened r)
+signs-keeps a login opened (Err why) = (tt, refl)
+signs-keeps a login opened (Ok sealed) = (record { number = refl; ahead = refl }, refl)
 
-opened-keeps : (a : AskerArrival) (gid : ℕ) (opened : List SealEntry) (value : Option LoggedIn) → Keeps a.link (on_opened a gid opened value)
-opened-keeps a gid opened None = tt
+opened-keeps : (a : AskerArrival) (gid : ℕ) (opened : List SealEntry) (value : Option LoggedIn) → KeepsAsker a (on_opened a gid opened value)
+opened-keeps a gid opened None = (tt, refl)
 opened-keeps a gid opened (Some logged_in) = signs-keeps a _ opened _
 
-login_done-keeps : (a : AskerArrival) (gid : ℕ) (done : Result LoginDone BytesFault) → Keeps a.link (on_login_done a gid done)
-login_done-keeps a gid (Err why) = tt
+login_done-keeps : (a : AskerArrival) (gid : ℕ) (done : Result LoginDone BytesFault) → KeepsAsker a (on_login_done a gid done)
+login_done-keeps a gid (Err why) = (tt, refl)
 login_done-keeps a gid (Ok done) = opened-keeps a gid _ _
 
-done-keeps : (a : AskerArrival) (done : Result AuthDone BytesFault) → Keeps a.link (on_done a done)
-done-keeps a (Err why) = tt
+done-keeps : (a : AskerArrival) (done : Result AuthDone BytesFault) → KeepsAsker a (on_done a done)
+done-keeps a (Err why) = (tt, refl)
 done-keeps a (Ok done) = by_test (not (done.mode == 2))
   where
-    by_test : (other : Bool) → Keeps a.link (if other then refuses a (reason.Login Mode) [] else on_login_done a done.gid (whole login_done_layout.form done.payload))
-    by_test true = tt
+    by_test : (other : Bool) → KeepsAsker a (if other then refuses a (reason.Login Mode) [] else on_login_done a done.gid (whole login_done_layout.form done.payload))
+    by_test true = (tt, refl)
     by_test false = login_done-keeps a done.gid (whole login_done_layout.form done.payload)
 
-proved-keeps : (a : AskerArrival) (f : Frame) → Keeps a.link (while_proved a f)
+proved-keeps : (a : AskerArrival) (f : Frame) → KeepsAsker a (while_proved a f)
 proved-keeps a f = by_test (f.tag == 3)
   where
-    by_test : (denied : Bool) → Keeps a.link (if denied then on_bad_method a (payload bad_method_layout.form f) else on_done a (due 6 auth_done_layout.form f))
+    by_test : (denied : Bool) → KeepsAsker a (if denied then on_bad_method a (payload bad_method_layout.form f) else on_done a (due 6 auth_done_layout.form f))
     by_test true = bad_method-keeps a (payload bad_method_layout.form f)
     by_test false = done-keeps a (due 6 auth_done_layout.form f)
 
 -- ---- AUTH_SIGNATURE, SERVER_IDENT, IDENT_MISSING_FEATURES
 
-identifies-keeps : (a : AskerArrival) (s : Secured) (login : Login) → Keeps a.link (identifies a s login)
+identifies-keeps : (a : AskerArrival) (s : Secured) (login : Login) → KeepsAsker a (identifies a s login)
 identifies-keeps a s login =
-    secure_sent-keeps (holding a (held_login a.own.holdings login.gid login.opened)) s AwaitsIdent (signature_found s ∷ Drawn (draw.Cookie (cookie_of a.draw)) ∷ [])
-    (secure_frame s.keys (client_ident a.own login.gid (cookie_of a.draw)))
+    let logged_in : AskerArrival = holding a (held_login a.own.holdings login.gid login.opened) in
+    let seals = signature_found s ∷ Drawn (draw.Cookie (cookie_of a.draw)) ∷ [] in
+    let sealed = secure_frame s.keys (client_ident a.own login.gid (cookie_of a.draw)) in
+    (secure_sent-keeps logged_in s AwaitsIdent seals sealed, ap (λ (own : Asker). own.name) (secure_sent-own logged_in s AwaitsIdent seals sealed))
 
-signature-keeps : (a : AskerArrival) (s : Secured) (login : Login) (found : Result AuthSignature BytesFault) → Keeps a.link (on_signature a s login found)
-signature-keeps a s login (Err why) = tt
+signature-keeps : (a : AskerArrival) (s : Secured) (login : Login) (found : Result AuthSignature BytesFault) → KeepsAsker a (on_signature a s login found)
+signature-keeps a s login (Err why) = (tt, refl)
 signature-keeps a s login (Ok found) = by_test (is_signed s found.signature)
   where
-    by_test : (right : Bool) → Keeps a.link (if right then identifies a s login else refuses a (reason.Login SignatureWrong) [])
+    by_test : (right : Bool) → KeepsAsker a (if right then identifies a s login else refuses a (reason.Login SignatureWrong) [])
     by_test true = identifies-keeps a s login
-    by_test false = tt
+    by_test false = (tt, refl)
 
-server_ident-keeps : (a : AskerArrival) (s : Secured) (ident : Result ServerIdent BytesFault) → Keeps a.link (on_server_ident a s ident)
-server_ident-keeps a s (Err why) = tt
-server_ident-keeps a s (Ok ident) = record { number = refl; ahead = refl }
+server_ident-keeps : (a : AskerArrival) (s : Secured) (ident : Result ServerIdent BytesFault) → KeepsAsker a (on_server_ident a s ident)
+server_ident-keeps a s (Err why) = (tt, refl)
+server_ident-keeps a s (Ok ident) = (record { number = refl; ahead = refl }, refl)
 
-missing-keeps : (a : AskerArrival) (missing : Result IdentMissingFeatures BytesFault) → Keeps a.link (on_missing_features a missing)
-missing-keeps a (Err why) = tt
-missing-keeps a (Ok missing) = tt
+missing-keeps : (a : AskerArrival) (missing : Result IdentMissingFeatures BytesFault) → KeepsAsker a (on_missing_features a missing)
+missing-keeps a (Err why) = (tt, refl)
+missing-keeps a (Ok missing) = (tt, refl)
 
-identified-keeps : (a : AskerArrival) (s : Secured) (f : Frame) → Keeps a.link (while_identified a s f)
+identified-keeps : (a : AskerArrival) (s : Secured) (f : Frame) → KeepsAsker a (while_identified a s f)
 identified-keeps a s f = by_test (f.tag == 10)
   where
-    by_test : (lacks : Bool) → Keeps a.link (if lacks then on_missing_features a (payload ident_missing_features_layout.form f) else on_server_ident a s (due 9 server_ident_layout.form f))
+    by_test : (lacks : Bool) → KeepsAsker a (if lacks then on_missing_features a (payload ident_missing_features_layout.form f) else on_server_ident a s (due 9 server_ident_layout.form f))
     by_test true = missing-keeps a (payload ident_missing_features_layout.form f)
     by_test false = server_ident-keeps a s (due 9 server_ident_layout.form f)
+
+open-keeps : (a : AskerArrival) (s : Secured) (f : Frame) → KeepsAsker a (on_upkeep a s Open f)
+open-keeps a s f = (upkeep-keeps a s Open f, ap (λ (own : Asker). own.name) (upkeep-own a s Open f))
 
 -- ---- a turn
 
 pub asker-takes : (a : AskerArrival) (stage : Stage) → TurnTakes a.link (turned_at a stage)
 asker-takes a (AwaitsBanner asked) = banner-takes a.link (λ link _. on_banner (at a link) asked) (λ l opened. plain_sent-keeps (at a l) (AwaitsHello asked) [] _)
 asker-takes a (AwaitsHello asked) =
-    plain-takes a.link (λ (link, f) _. on_hello (at a link) asked (due 1 hello_layout.form f)) (λ l f opened. hello-keeps (at a l) asked (due 1 hello_layout.form f))
+    plain-takes a.link (λ (link, f) _. on_hello (at a link) asked (due 1 hello_layout.form f)) (λ l f opened. (hello-keeps (at a l) asked (due 1 hello_layout.form f)).0)
 asker-takes a (AwaitsChallenge asked) =
-    plain-takes a.link (λ (link, f) _. while_challenged (at a link) asked f) (λ l f opened. challenged-keeps (at a l) asked f)
-asker-takes a AwaitsDone = plain-takes a.link (λ (link, f) _. while_proved (at a link) f) (λ l f opened. proved-keeps (at a l) f)
+    plain-takes a.link (λ (link, f) _. while_challenged (at a link) asked f) (λ l f opened. (challenged-keeps (at a l) asked f).0)
+asker-takes a AwaitsDone = plain-takes a.link (λ (link, f) _. while_proved (at a link) f) (λ l f opened. (proved-keeps (at a l) f).0)
 asker-takes a (AwaitsSignature s login) =
     secure-takes s.keys a.link (λ (link, f, keys) opened. with_opened opened (on_signature (at a link) (under s keys) login (due 7 auth_signature_layout.form f)))
-    (λ l f keys opened. signature-keeps (at a l) (under s keys) login (due 7 auth_signature_layout.form f))
+    (λ l f keys opened. (signature-keeps (at a l) (under s keys) login (due 7 auth_signature_layout.form f)).0)
 asker-takes a (AwaitsIdent s) =
     secure-takes s.keys a.link (λ (link, f, keys) opened. with_opened opened (while_identified (at a link) (under s keys) f))
-    (λ l f keys opened. identified-keeps (at a l) (under s keys) f)
+    (λ l f keys opened. (identified-keeps (at a l) (under s keys) f).0)
 asker-takes a (Open s) =
     secure-takes s.keys a.link (λ (link, f, keys) opened. with_opened opened (on_upkeep (at a link) (under s keys) Open f))
-    (λ l f keys opened. upkeep-keeps (at a l) (under s keys) Open f)
+    (λ l f keys opened. (open-keeps (at a l) (under s keys) f).0)
+
+-- what handles a turn keeps the name
+abbrev pub KeepsName : AskerArrival → Turned Asker Stage → Type 0
+KeepsName a t = EachRow (λ (row : AskerRow). row.own.name ≡ a.own.name) t
+
+pub asker-named : (a : AskerArrival) (stage : Stage) → KeepsName a (turned_at a stage)
+asker-named a (AwaitsBanner asked) =
+    each-turned (λ (row : AskerRow). row.own.name ≡ a.own.name) (λ link _. on_banner (at a link) asked) (λ link opened. (plain-keeps (at a link) (AwaitsHello asked) [] _).1) (banner_next a.link)
+asker-named a (AwaitsHello asked) =
+    each-turned (λ (row : AskerRow). row.own.name ≡ a.own.name) (λ (link, f) _. on_hello (at a link) asked (due 1 hello_layout.form f))
+    (λ (link, f) opened. (hello-keeps (at a link) asked (due 1 hello_layout.form f)).1) (plain_next a.link)
+asker-named a (AwaitsChallenge asked) =
+    each-turned (λ (row : AskerRow). row.own.name ≡ a.own.name) (λ (link, f) _. while_challenged (at a link) asked f) (λ (link, f) opened. (challenged-keeps (at a link) asked f).1) (plain_next a.link)
+asker-named a AwaitsDone =
+    each-turned (λ (row : AskerRow). row.own.name ≡ a.own.name) (λ (link, f) _. while_proved (at a link) f) (λ (link, f) opened. (proved-keeps (at a link) f).1) (plain_next a.link)
+asker-named a (AwaitsSignature s login) =
+    each-turned (λ (row : AskerRow). row.own.name ≡ a.own.name) (λ (link, f, keys) opened. with_opened opened (on_signature (at a link) (under s keys) login (due 7 auth_signature_layout.form f)))
+    (λ (link, f, keys) opened. (signature-keeps (at a link) (under s keys) login (due 7 auth_signature_layout.form f)).1) (secure_next s.keys a.link)
+asker-named a (AwaitsIdent s) =
+    each-turned (λ (row : AskerRow). row.own.name ≡ a.own.name) (λ (link, f, keys) opened. with_opened opened (while_identified (at a link) (under s keys) f))
+    (λ (link, f, keys) opened. (identified-keeps (at a link) (under s keys) f).1) (secure_next s.keys a.link)
+asker-named a (Open s) =
+    each-turned (λ (row : AskerRow). row.own.name ≡ a.own.name) (λ (link, f, keys) opened. with_opened opened (on_upkeep (at a link) (under s keys) Open f))
+    (λ (link, f, keys) opened. (open-keeps (at a link) (under s keys) f).1) (secure_next s.keys a.link)
 
 -- of one that logs in, as one of the client
 pub lifted-takes : (whole : Asker → Client) (link : Link Stage) (t : Turned Asker Stage) → TurnTakes link t → TurnTakes link (lifted_turn whole t)

@@ -1,3 +1,4 @@
+pub mod Walking
 pub mod Led
 pub mod Taking
 pub mod MonitorTakes

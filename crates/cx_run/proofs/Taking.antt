@@ -23,7 +23,7 @@ use Rattle.cx_steps.specs.declared.seals.SealEntry.{SealEntry}
 use Rattle.cx_stream.specs.Fronts.{with_length}
 use Rattle.cx_stream.specs.PlainStreams.{behind_preamble, plain_frame_at}
 use Rattle.cx_stream.specs.SecureStreams.{Ahead, behind_head, secure_frame_at}
-use Rattle.cx_rules.specs.Fronts.{ahead_of, banner_next, banner_read, keys_behind, opened_parts, plain_next, plain_read, sealed_ahead, secure_next, secure_read, taking}
+use Rattle.cx_rules.specs.Fronts.{Front, NotYet, Broken, Next, ahead_of, banner_next, banner_read, keys_behind, opened_parts, plain_next, plain_read, sealed_ahead, secure_next, secure_read, taking}
 use Rattle.cx_rules.specs.Links.{Link}
 use Rattle.cx_rules.specs.Payloads.{payload}
 use Rattle.cx_rules.specs.Rows.{Arrival, Row, Turned, Waits, Refuses, Handles, plain_sent, refuses_bytes, secure_sent, turned_by}
@@ -161,7 +161,48 @@ module _ {Own Stage : Type 0} where
       by_tests false true = keepalive_ack-keeps a s open_under (payload keepalive2_ack_layout.form f)
       by_tests false false = tt
 
+-- these rows leave what the node has of its own
+module _ {Own Stage : Type 0} where
+  pub plain_sent-own : (a : Arrival Own Stage) (stage : Stage) (seals : List SealEntry) (r : Result (List ℕ) BytesFault) → (plain_sent a stage seals r).own ≡ a.own
+  plain_sent-own a stage seals (Ok bytes) = refl
+  plain_sent-own a stage seals (Err why) = refl
+
+  pub secure_sent-own : (a : Arrival Own Stage) (s : Secured) (stage : Secured → Stage) (seals : List SealEntry) (r : Result SealedFrame BytesFault)
+      → (secure_sent a s stage seals r).own ≡ a.own
+  secure_sent-own a s stage seals (Ok sealed) = refl
+  secure_sent-own a s stage seals (Err why) = refl
+
+  keepalive-own : (a : Arrival Own Stage) (s : Secured) (open_under : Secured → Stage) (r : Result Keepalive2 BytesFault) → (on_keepalive a s open_under r).own ≡ a.own
+  keepalive-own a s open_under (Err why) = refl
+  keepalive-own a s open_under (Ok keepalive) = secure_sent-own a s open_under [] _
+
+  keepalive_ack-own : (a : Arrival Own Stage) (s : Secured) (open_under : Secured → Stage) (r : Result Keepalive2Ack BytesFault) → (on_keepalive_ack a s open_under r).own ≡ a.own
+  keepalive_ack-own a s open_under (Err why) = refl
+  keepalive_ack-own a s open_under (Ok ack) = refl
+
+  pub upkeep-own : (a : Arrival Own Stage) (s : Secured) (open_under : Secured → Stage) (f : Frame) → (on_upkeep a s open_under f).own ≡ a.own
+  upkeep-own a s open_under f = by_tests (f.tag == 18) (f.tag == 19)
+    where
+      by_tests : (ask ack : Bool) → (let row : Row Own Stage =
+          (if ask then on_keepalive a s open_under (payload keepalive2_layout.form f)
+          else if ack then on_keepalive_ack a s open_under (payload keepalive2_ack_layout.form f) else refuses_bytes a (Unexpected f.tag) []) in row.own) ≡ a.own
+      by_tests true ack = keepalive-own a s open_under (payload keepalive2_layout.form f)
+      by_tests false true = keepalive_ack-own a s open_under (payload keepalive2_ack_layout.form f)
+      by_tests false false = refl
+
 -- ---- turns
+
+-- where a turn is handled by a row, this holds of the row
+abbrev pub EachRow : {Own Stage : Type 0} → (Row Own Stage → Type 0) → Turned Own Stage → Type 0
+EachRow P Waits = Unit {0}
+EachRow P (Refuses why opened) = Unit {0}
+EachRow P (Handles row) = P row
+
+module _ {Own Stage X : Type 0} (P : Row Own Stage → Type 0) (row : X → List SealEntry → Row Own Stage) where
+  pub each-turned : ((x : X) (opened : List SealEntry) → P (row x opened)) → (front : Front X) → EachRow P (turned_by row front)
+  each-turned each NotYet = tt
+  each-turned each (Broken why opened) = tt
+  each-turned each (Next x opened) = each x opened
 
 taking-takes : {Stage : Type 0} (link : Link Stage) (n : ℕ) (left : Option (Link Stage)) → 0 < n → n ≤ length (ahead_of link) → IfSome left (λ l. SameAhead l (taking link n)) → Takes link left
 taking-takes link n None some le same = omega arith

@@ -1,7 +1,5 @@
 pub mod Finding
 pub mod Asking
-pub mod Bytes
-pub mod Fronts
 pub mod Keyed
 pub mod Placing
 pub mod Reading

@@ -1,10 +1,8 @@
-//! Effects, events and entries of the log: each call once, and more links than a number of 16 bits counts.
+//! Effects with one of each kind in their lists, and with more links than a number of 16 bits counts.
 
-use cx_base::{Access, Blob, Duplicate, EntityName, EntityType, Items, NodeName, Operation, Text};
+use cx_base::{Blob, Duplicate, Items};
 use cx_journal::{Entry, KeyKind};
-use cx_steps::{
-    Command, DrawMark, Effects, Event, Logged, Peer, Piece, SealEntry, SealMark, seal_laws,
-};
+use cx_steps::{Effects, Peer, Piece, SealEntry, SealMark};
 use std::alloc::Global;
 use std::process::Abort;
 
@@ -12,51 +10,9 @@ fn blob(rt: &impl Abort, alloc: Global) -> Blob {
     Blob::of(alloc, b"hi").expect(rt, "memory is ample")
 }
 
-fn text(rt: &impl Abort, alloc: Global, bytes: &[u8]) -> Text {
-    Text::of(alloc, bytes).expect(rt, "ASCII")
-}
-
-fn daemon(rt: &impl Abort, alloc: Global) -> EntityName {
-    EntityName::new(EntityType::Osd, text(rt, alloc, b"0")).expect(rt, "a name")
-}
-
-fn operation(rt: &impl Abort, alloc: Global) -> Operation {
-    Operation {
-        access: Access::Read,
-        pool: text(rt, alloc, b"rbd"),
-        namespace: Text::new(alloc),
-        object: text(rt, alloc, b"obj1"),
-        bytes: blob(rt, alloc),
-    }
-}
-
 /// Whether a copy is what it was copied from.
 fn is_copied<T: Duplicate + PartialEq>(rt: &impl Abort, alloc: Global, value: &T) -> bool {
     value.copy(alloc).expect(rt, "memory is ample") == *value
-}
-
-fn connect(rt: &impl Abort, alloc: Global) -> Command {
-    Command::Connect {
-        daemon: daemon(rt, alloc),
-        lossy: true,
-    }
-}
-
-fn send(rt: &impl Abort, alloc: Global) -> Command {
-    Command::Send {
-        daemon: daemon(rt, alloc),
-        operation: operation(rt, alloc),
-    }
-}
-
-fn is_command_copied(rt: &impl Abort, alloc: Global, command: Command) -> bool {
-    is_copied(rt, alloc, &command)
-}
-
-#[test]
-fn a_command_is_copied(rt: HostRuntime) {
-    assert!(rt; is_command_copied(&rt, rt.alloc(), connect(&rt, rt.alloc())));
-    assert!(rt; is_command_copied(&rt, rt.alloc(), send(&rt, rt.alloc())));
 }
 
 fn sealed(rt: &impl Abort, alloc: Global) -> SealEntry {
@@ -65,35 +21,6 @@ fn sealed(rt: &impl Abort, alloc: Global) -> SealEntry {
         kind: KeyKind::Service,
         content: blob(rt, alloc),
     })
-}
-
-fn drawn(rt: &impl Abort, alloc: Global) -> SealEntry {
-    SealEntry::Drawn(DrawMark::Session {
-        key: [2; 16],
-        for_whom: daemon(rt, alloc),
-    })
-}
-
-fn logged(rt: &impl Abort, alloc: Global) -> Logged {
-    Logged {
-        node: NodeName::Monitor,
-        line: 3,
-        entry: drawn(rt, alloc),
-    }
-}
-
-fn is_entry_copied(rt: &impl Abort, alloc: Global, entry: Logged) -> bool {
-    is_copied(rt, alloc, &entry)
-}
-
-fn laws() {
-    seal_laws();
-}
-
-#[test]
-fn an_entry_of_the_log_is_copied(rt: HostRuntime) {
-    assert!(rt; is_entry_copied(&rt, rt.alloc(), logged(&rt, rt.alloc())));
-    laws();
 }
 
 fn piece(rt: &impl Abort, alloc: Global) -> Piece {
@@ -157,16 +84,4 @@ fn effects_are_copied(rt: HostRuntime) {
     let effects = effects(&rt, rt.alloc(), 70_000);
     assert!(rt; shut(&effects) == 70_000);
     assert!(rt; is_copied(&rt, rt.alloc(), &effects));
-}
-
-fn count_of(event: &Event) -> usize {
-    match event {
-        Event::Bytes(_, bytes) => bytes.len(),
-        _ => 0,
-    }
-}
-
-#[test]
-fn an_event_lends_its_bytes(rt: HostRuntime) {
-    assert!(rt; count_of(&Event::Bytes(1, b"hi")) == 2);
 }

@@ -1,10 +1,7 @@
-//! Lines and words: that the definitions are those of a schedule's, and each call once.
+//! Lines and words: that the definitions are those of a schedule's, at the ends of what each takes.
 
-use cx_base::{Access, Blob, EntityName, EntityType, Items, Text};
-use cx_words::{
-    access, caps, first_line, hex, is_skipped, is_word, name, number, part, reading, service,
-    services, ticket_service, word_laws, words,
-};
+use cx_base::{Blob, EntityName, EntityType, Items, Text};
+use cx_words::{caps, first_line, hex, name, number, part, reading, services, words};
 use std::alloc::Global;
 use std::process::Abort;
 
@@ -100,36 +97,6 @@ fn one_blank_parts_words_and_closed_quotation_marks_group(rt: HostRuntime) {
     }
 }
 
-/// A word or a line, and whether it is one of its kind.
-type Word = (&'static [u8], bool);
-
-static SKIPPED: [Word; 3] = [(b"", true), (b"# a", true), (b" #", false)];
-
-static LOSSY: [Word; 2] = [(b"lossy", true), (b"loss", false)];
-
-fn is_skipped_right(row: &Word) -> bool {
-    is_skipped(row.0) == row.1
-}
-
-fn is_lossy_right(row: &Word) -> bool {
-    is_word(row.0, "lossy") == row.1
-}
-
-fn laws() {
-    word_laws();
-}
-
-#[test]
-fn a_comment_begins_with_its_mark_and_a_text_is_a_whole_word(rt: HostRuntime) {
-    for row in &SKIPPED {
-        assert!(rt; is_skipped_right(row), "{:?}", row.0);
-    }
-    for row in &LOSSY {
-        assert!(rt; is_lossy_right(row), "{:?}", row.0);
-    }
-    laws();
-}
-
 /// A word, and the number that it spells, if it spells one.
 type Number = (&'static [u8], Option<u64>);
 
@@ -184,55 +151,8 @@ fn a_reading_is_seconds_or_seconds_a_point_and_nine_digits(rt: HostRuntime) {
     }
 }
 
-/// A word, the service that it names, and that whose tickets it names.
-type Service = (&'static [u8], Option<EntityType>, Option<EntityType>);
-
-static SERVICES: [Service; 8] = [
-    (b"mon", Some(EntityType::Mon), None),
-    (b"mds", Some(EntityType::Mds), Some(EntityType::Mds)),
-    (b"osd", Some(EntityType::Osd), Some(EntityType::Osd)),
-    (b"mgr", Some(EntityType::Mgr), Some(EntityType::Mgr)),
-    (b"client", None, None),
-    (b"auth", None, None),
-    (b"OSD", None, None),
-    (b"", None, None),
-];
-
-/// A word, and the access that it names, if it names one.
-type Allowed = (&'static [u8], Option<Access>);
-
-static ACCESSES: [Allowed; 4] = [
-    (b"read", Some(Access::Read)),
-    (b"write", Some(Access::Write)),
-    (b"exec", Some(Access::Exec)),
-    (b"r", None),
-];
-
-fn is_service(row: &Service) -> bool {
-    service(row.0) == row.1
-}
-
-fn is_ticket_service(row: &Service) -> bool {
-    ticket_service(row.0) == row.2
-}
-
-fn is_service_right(row: &Service) -> bool {
-    is_service(row) && is_ticket_service(row)
-}
-
-fn is_access(row: &Allowed) -> bool {
-    access(row.0) == row.1
-}
-
-#[test]
-fn services_and_accesses_are_named_by_their_words(rt: HostRuntime) {
-    for row in &SERVICES {
-        assert!(rt; is_service_right(row), "{:?}", row.0);
-    }
-    for row in &ACCESSES {
-        assert!(rt; is_access(row), "{:?}", row.0);
-    }
-}
+/// A word, and whether it is one of its kind.
+type Word = (&'static [u8], bool);
 
 /// Whether what was read of a word, printed as it stands, is the word where the row says so, and nothing else.
 fn is_printed(row: &Word, printed: Option<String>) -> bool {
