@@ -131,16 +131,15 @@ fn clock_of(alloc: Global, known: &Known, words: &[&[u8]]) -> Result<Option<Node
     ensures { IfOk result (IsNodeStep known.now NodeForm.Clock (map (λ w. w.now) words.now)) }
 {
     match words {
-        [word] => Ok(clock(word)),
+        [word] => {
+            let Some(reading) = reading(word) else {
+                return Ok(None);
+            };
+            Ok(Some(NodeStep::Clock(reading)))
+        }
         [node, word] => clock_of_node(alloc, known, node, word),
         _ => Ok(None),
     }
-}
-
-fn clock(word: &[u8]) -> Option<NodeStep>
-    ensures { (known : Known) → IsNodeStep known NodeForm.Clock (word.now ∷ []) result }
-{
-    Some(NodeStep::Clock(reading(word)?))
 }
 
 fn clock_of_node(
