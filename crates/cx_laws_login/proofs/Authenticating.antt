@@ -56,13 +56,13 @@ use Rattle.cx_laws_login.proofs.Entering.{login-entered}
 use Rattle.cx_laws_login.proofs.Facts.{AreBelow, OfferOk, OwnOk, own-grows}
 use Rattle.cx_laws_login.proofs.Generations.{StateOk, rotates_all}
 use Rattle.cx_laws_login.proofs.Issuing.{AreIssued, FirstOk, all-issued}
-use Rattle.cx_laws_login.proofs.Keeping.{IsGiven, NumbersOk, WasIssued, numbered-ok}
+use Rattle.cx_laws_login.proofs.Keeping.{IsGiven, NumbersOk, HadTicket, numbered-ok}
 use Rattle.cx_laws_login.proofs.MonitorRows.{monitor_says, simple-denies}
 use Rattle.cx_laws_login.proofs.Named.{found_secret}
 use Rattle.cx_laws_login.proofs.Opens.{generation-free, generation_means, unlocked-allowed, unlocked_says}
 use Rattle.cx_laws_login.proofs.Rows.{AfterRow, Allowed, FrameOk, after-refuses, after-simple, frame-ok, signing-ok, simple-refuses_bytes}
 use Rattle.cx_laws_login.proofs.Sealing.{connection-sealed, tickets-sealed}
-use Rattle.cx_laws_login.proofs.Under.{AreUnder, IsUnder, all-under}
+use Rattle.cx_laws_login.proofs.Under.{AreOfCurrent, IsOfCurrent, all-under}
 
 module _ (leaked : List Name) (whole_log : List Logged) (n : NodeName) (line : ℕ) (before : KeptState) (us : Uses) (log : List Logged) (J : List Entry) where
   abbrev pub AfterMonitor : MonitorRow → Type 0
@@ -169,7 +169,7 @@ module _ (leaked : List Name) (whole_log : List Logged) (n : NodeName) (line : �
 
   -- behind the proof, the rotation and the old ticket
   handed_behind : (a : MonitorArrival) (client : ℕ) (name : Name) (gid : ℕ) (secret : List ℕ) (t : Ticket) (ts : List Ticket) (done : Finished) (vs : Uses) (log1 : List Logged)
-      → name_form.Fits name → length a.draw ≡ 384 → FirstOk name gid a.reading a.draw t ts → AllByRecursion (IsUnder a.own.server) (t ∷ ts) → HandsOk a name gid secret vs → Inv leaked whole_log vs log1 J → Finishes a name done
+      → name_form.Fits name → length a.draw ≡ 384 → FirstOk name gid a.reading a.draw t ts → AllByRecursion (IsOfCurrent a.own.server) (t ∷ ts) → HandsOk a name gid secret vs → Inv leaked whole_log vs log1 J → Finishes a name done
       → AreGranted leaked whole_log n line log1 ((told_seals a secret (t ∷ ts) ++ last_seals a name) ++ done.seals)
       → After leaked whole_log n line vs log1 J ((told_seals a secret (t ∷ ts) ++ last_seals a name) ++ done.seals)
       (login_entries (changed a.own.saved a.own.server.state) (t ∷ ts)) (HandedOk a name done.secured.keys.key)
@@ -197,7 +197,7 @@ module _ (leaked : List Name) (whole_log : List Logged) (n : NodeName) (line : �
       finishing a name done vs s2.uses log1 (told ++ last) js fin grows inv e.laws (own-grows before vs s2.uses J a.own grows h.own) e.numbered.below s2.facts.session s2.facts.connection
 
   handed : (a : MonitorArrival) (client : ℕ) (e : Entrant) (secret : List ℕ) (t : Ticket) (ts : List Ticket) (r : Result Finished BytesFault)
-      → name_form.Fits e.name → length a.draw ≡ 384 → FirstOk e.name e.gid a.reading a.draw t ts → AllByRecursion (IsUnder a.own.server) (t ∷ ts)
+      → name_form.Fits e.name → length a.draw ≡ 384 → FirstOk e.name e.gid a.reading a.draw t ts → AllByRecursion (IsOfCurrent a.own.server) (t ∷ ts)
       → First e.seals (HandsOk a e.name e.gid secret)
       → ((done : Finished) → r ≡ Ok done → Finishes a e.name done)
       → Granted_ (hands_over a (handed_out (occasion a) a.own.server e secret (t ∷ ts)) r).seals
@@ -229,7 +229,7 @@ module _ (leaked : List Name) (whole_log : List Logged) (n : NodeName) (line : �
   -- ---- issuing
 
   issued-after : (a : MonitorArrival) (client : ℕ) (e : Entrant) (own : List ℕ) (tickets : Result (List Ticket) LoginFault) → name_form.Fits e.name → length a.draw ≡ 384
-      → AreIssued a.own.server e.name e.gid (session_of Auth a.draw) a.reading a.draw tickets → AreUnder a.own.server tickets
+      → AreIssued a.own.server e.name e.gid (session_of Auth a.draw) a.reading a.draw tickets → AreOfCurrent a.own.server tickets
       → First e.seals (HandsOk a e.name e.gid own)
       → Granted_ (row_of a (issues (occasion a) a.own.server e own tickets)).seals → AfterMonitor (row_of a (issues (occasion a) a.own.server e own tickets))
   issued-after a client e own (Err why) named drawn ok under first g =
@@ -284,7 +284,7 @@ module _ (leaked : List Name) (whole_log : List Logged) (n : NodeName) (line : �
   -- the old ticket, under a generation of AUTH
   old-reached : (vs : Uses) (log1 : List Logged) (gs : List Generation) (key : Option (List ℕ)) (blob : List ℕ) → Inv leaked whole_log vs log1 J
       → ((k : List ℕ) → key ≡ Some k → (id : ℕ) × Means vs k (Generated Auth id)) → AreGranted leaked whole_log n line log1 (old_under key blob).seals
-      → Inv leaked whole_log vs (behind n line (old_under key blob).seals log1) J × ((x : ServiceTicket) → (old_under key blob).value ≡ Some x → WasIssued J x)
+      → Inv leaked whole_log vs (behind n line (old_under key blob).seals log1) J × ((x : ServiceTicket) → (old_under key blob).value ≡ Some x → HadTicket J x)
   old-reached vs log1 gs None blob i means g = (i, λ x e. absurd cc)
   old-reached vs log1 gs (Some key) blob i means g =
       let m = means key refl in

@@ -37,8 +37,8 @@ pub record IsGiven (J : List Entry) (name : Name) (gid reading : ℕ) : Type 0 w
   pub renews : (s : Issued) → Contains J (journal.Issued s) → s.gid ≡ gid → IsLive J name gid reading
 
 -- a ticket for AUTH was issued that this one says, whatever its generation
-abbrev pub WasIssued : List Entry → ServiceTicket → Type 0
-WasIssued J x = (id : ℕ) × (key : List ℕ) × (content : List ℕ) × HasTicket J Auth id key content x
+abbrev pub HadTicket : List Entry → ServiceTicket → Type 0
+HadTicket J x = (id : ℕ) × (key : List ℕ) × (content : List ℕ) × HasTicket J Auth id key content x
 
 -- the monitor's own with another key server
 abbrev pub serving : Monitor → Server → Monitor
@@ -105,7 +105,7 @@ module _ (before : KeptState) (us : Uses) (J : List Entry) (own : Monitor) (name
 
   -- an old ticket that opened is one that was issued for AUTH
   abbrev pub IsOld : Option ServiceTicket → Type 0
-  IsOld old = (x : ServiceTicket) → old ≡ Some x → WasIssued J x
+  IsOld old = (x : ServiceTicket) → old ≡ Some x → HadTicket J x
 
   abbrev IsKept : Option ℕ → Type 0
   IsKept kept = (gid : ℕ) → kept ≡ Some gid → IsLive J name gid reading
@@ -119,7 +119,7 @@ module _ (before : KeptState) (us : Uses) (J : List Entry) (own : Monitor) (name
       by_test true is = λ gid e.
           let parts = and_parts (same_name x.name name) (nat_lt reading x.expires) is in
           let same : x.gid ≡ gid = cc in
-          let old : WasIssued J x = h x refl in
+          let old : HadTicket J x = h x refl in
           let told : HasTicket J Auth old.0 old.1 old.2 x = old.3 in
           let early : reading < x.expires = ltb-true reading x.expires parts.1 in
           let later : x.expires ≤ told.ticket.expires = told.expires in

@@ -142,128 +142,128 @@ LinkRinged ring (Some link) = StageRinged ring link.stage
 LinkRinged ring None = Unit {0}
 
 -- whatever came, a row of a link in this stage issues a ticket only behind a proof, leaves the keyring as it is, and goes on with an entity of it
-pub record Tells (ring : List Principal) (stage : MonitorStage) (row : MonitorRow) : Type 0 where
+pub record RowTells (ring : List Principal) (stage : MonitorStage) (row : MonitorRow) : Type 0 where
   pub asked : (t : Issued) → Contains row.entries (journal.Issued t) → IsBehindProof stage t row.seals
   pub ring_stays : row.own.server.ring ≡ ring
   pub link : LinkRinged ring row.link
 
 -- a row that issues none
-record Still (ring : List Principal) (row : MonitorRow) : Type 0 where
+record Issueless (ring : List Principal) (row : MonitorRow) : Type 0 where
   entries : AllByRecursion IsNotIssued row.entries
   ring_stays : row.own.server.ring ≡ ring
   link : LinkRinged ring row.link
 
-still-tells : (ring : List Principal) (stage : MonitorStage) (row : MonitorRow) → Still ring row → Tells ring stage row
-still-tells ring stage row h = record { asked = λ t has. absurd (none-issued row.entries h.entries t has); ring_stays = h.ring_stays; link = h.link }
+issueless-tells : (ring : List Principal) (stage : MonitorStage) (row : MonitorRow) → Issueless ring row → RowTells ring stage row
+issueless-tells ring stage row h = record { asked = λ t has. absurd (none-issued row.entries h.entries t has); ring_stays = h.ring_stays; link = h.link }
 
-abbrev IsStill : MonitorArrival → MonitorRow → Type 0
-IsStill a row = Still a.own.server.ring row
+abbrev IsIssueless : MonitorArrival → MonitorRow → Type 0
+IsIssueless a row = Issueless a.own.server.ring row
 
-still-goes_on : (a : MonitorArrival) (stage : MonitorStage) (bytes : List ℕ) (seals : List SealEntry) → StageRinged a.own.server.ring stage → IsStill a (goes_on a stage bytes seals)
-still-goes_on a stage bytes seals h = record { entries = tt; ring_stays = refl; link = h }
+issueless-goes_on : (a : MonitorArrival) (stage : MonitorStage) (bytes : List ℕ) (seals : List SealEntry) → StageRinged a.own.server.ring stage → IsIssueless a (goes_on a stage bytes seals)
+issueless-goes_on a stage bytes seals h = record { entries = tt; ring_stays = refl; link = h }
 
-still-refuses : (a : MonitorArrival) (why : Reason) (seals : List SealEntry) → IsStill a (refuses a why seals)
-still-refuses a why seals = record { entries = (tt, tt); ring_stays = refl; link = tt }
+issueless-refuses : (a : MonitorArrival) (why : Reason) (seals : List SealEntry) → IsIssueless a (refuses a why seals)
+issueless-refuses a why seals = record { entries = (tt, tt); ring_stays = refl; link = tt }
 
-still-refuses_bytes : (a : MonitorArrival) (why : BytesFault) (seals : List SealEntry) → IsStill a (refuses_bytes a why seals)
-still-refuses_bytes a why seals = record { entries = (tt, tt); ring_stays = refl; link = tt }
+issueless-refuses_bytes : (a : MonitorArrival) (why : BytesFault) (seals : List SealEntry) → IsIssueless a (refuses_bytes a why seals)
+issueless-refuses_bytes a why seals = record { entries = (tt, tt); ring_stays = refl; link = tt }
 
-still-denies : (a : MonitorArrival) (code : ℕ) (why : LoginFault) (seals : List SealEntry) → IsStill a (denies a code why seals)
-still-denies a code why seals = record { entries = (tt, tt); ring_stays = refl; link = tt }
+issueless-denies : (a : MonitorArrival) (code : ℕ) (why : LoginFault) (seals : List SealEntry) → IsIssueless a (denies a code why seals)
+issueless-denies a code why seals = record { entries = (tt, tt); ring_stays = refl; link = tt }
 
-still-plain : (a : MonitorArrival) (stage : MonitorStage) (seals : List SealEntry) (r : Result (List ℕ) BytesFault) → StageRinged a.own.server.ring stage
-    → IsStill a (plain_sent a stage seals r)
-still-plain a stage seals (Ok bytes) h = still-goes_on a stage bytes seals h
-still-plain a stage seals (Err why) h = still-refuses_bytes a why seals
+issueless-plain : (a : MonitorArrival) (stage : MonitorStage) (seals : List SealEntry) (r : Result (List ℕ) BytesFault) → StageRinged a.own.server.ring stage
+    → IsIssueless a (plain_sent a stage seals r)
+issueless-plain a stage seals (Ok bytes) h = issueless-goes_on a stage bytes seals h
+issueless-plain a stage seals (Err why) h = issueless-refuses_bytes a why seals
 
-still-secure : (a : MonitorArrival) (s : Secured) (stage : Secured → MonitorStage) (seals : List SealEntry) (r : Result SealedFrame BytesFault)
-    → ((t : Secured) → StageRinged a.own.server.ring (stage t)) → IsStill a (secure_sent a s stage seals r)
-still-secure a s stage seals (Ok sealed) h =
-    still-goes_on a (stage (record s { keys = sealed.keys })) sealed.bytes (seals ++ sealed.seals) (h (record s { keys = sealed.keys }))
-still-secure a s stage seals (Err why) h = still-refuses_bytes a why seals
+issueless-secure : (a : MonitorArrival) (s : Secured) (stage : Secured → MonitorStage) (seals : List SealEntry) (r : Result SealedFrame BytesFault)
+    → ((t : Secured) → StageRinged a.own.server.ring (stage t)) → IsIssueless a (secure_sent a s stage seals r)
+issueless-secure a s stage seals (Ok sealed) h =
+    issueless-goes_on a (stage (record s { keys = sealed.keys })) sealed.bytes (seals ++ sealed.seals) (h (record s { keys = sealed.keys }))
+issueless-secure a s stage seals (Err why) h = issueless-refuses_bytes a why seals
 
-still-opened : (a : MonitorArrival) (opened : List SealEntry) (row : MonitorRow) → IsStill a row → IsStill a (with_opened opened row)
-still-opened a opened row h = record { entries = h.entries; ring_stays = h.ring_stays; link = h.link }
+issueless-opened : (a : MonitorArrival) (opened : List SealEntry) (row : MonitorRow) → IsIssueless a row → IsIssueless a (with_opened opened row)
+issueless-opened a opened row h = record { entries = h.entries; ring_stays = h.ring_stays; link = h.link }
 
 -- ---- LoginHello, and all rows but that of a proof
 
-still-challenges : (a : MonitorArrival) (hello : LoginHello) (principal : Option Principal) → find (is_named hello.name) a.own.server.ring ≡ principal
-    → IsStill a (challenges a hello principal)
-still-challenges a hello None is = still-denies a 13 login.UnknownEntity []
-still-challenges a hello (Some principal) is =
+issueless-challenges : (a : MonitorArrival) (hello : LoginHello) (principal : Option Principal) → find (is_named hello.name) a.own.server.ring ≡ principal
+    → IsIssueless a (challenges a hello principal)
+issueless-challenges a hello None is = issueless-denies a 13 login.UnknownEntity []
+issueless-challenges a hello (Some principal) is =
     let challenge = challenge_of a.draw in
     let offer : Offer = record { name = hello.name; secret = principal.key.secret; challenge = challenge } in
-    still-plain a (AwaitsProof (record { offer = offer; gid = hello.gid })) (Drawn (draw.Challenge challenge) ∷ [])
+    issueless-plain a (AwaitsProof (record { offer = offer; gid = hello.gid })) (Drawn (draw.Challenge challenge) ∷ [])
     (plain_frame (control 4 auth_reply_more_layout.form (record { payload = server_challenge_layout.form.text (record { challenge = challenge }) })))
     (record { principal = principal; found = is; secret = refl })
 
-still-login_hello : (a : MonitorArrival) (hello : Result LoginHello BytesFault) → IsStill a (on_login_hello a hello)
-still-login_hello a (Err why) = still-refuses_bytes a why []
-still-login_hello a (Ok hello) = still-challenges a hello (find (is_named hello.name) a.own.server.ring) refl
+issueless-login_hello : (a : MonitorArrival) (hello : Result LoginHello BytesFault) → IsIssueless a (on_login_hello a hello)
+issueless-login_hello a (Err why) = issueless-refuses_bytes a why []
+issueless-login_hello a (Ok hello) = issueless-challenges a hello (find (is_named hello.name) a.own.server.ring) refl
 
-still-hello : (a : MonitorArrival) (hello : Result Hello BytesFault) → IsStill a (on_hello a hello)
-still-hello a (Ok hello) = still-goes_on a AwaitsRequest [] [] tt
-still-hello a (Err why) = still-refuses_bytes a why []
+issueless-hello : (a : MonitorArrival) (hello : Result Hello BytesFault) → IsIssueless a (on_hello a hello)
+issueless-hello a (Ok hello) = issueless-goes_on a AwaitsRequest [] [] tt
+issueless-hello a (Err why) = issueless-refuses_bytes a why []
 
-still-request : (a : MonitorArrival) (request : Result AuthRequest BytesFault) → IsStill a (on_auth_request on_request_payload a request)
-still-request a (Err why) = still-refuses_bytes a why []
-still-request a (Ok request) = by_tests (not (request.method == 2)) (not (list_any (λ mode. mode == 2) request.modes))
+issueless-request : (a : MonitorArrival) (request : Result AuthRequest BytesFault) → IsIssueless a (on_auth_request on_request_payload a request)
+issueless-request a (Err why) = issueless-refuses_bytes a why []
+issueless-request a (Ok request) = by_tests (not (request.method == 2)) (not (list_any (λ mode. mode == 2) request.modes))
   where
-    by_tests : (other plain : Bool) → IsStill a (if other then denies a 95 Method [] else if plain then denies a 95 Mode [] else on_request_payload a request.payload)
-    by_tests true plain = still-denies a 95 Method []
-    by_tests false true = still-denies a 95 Mode []
-    by_tests false false = still-login_hello a (whole login_hello_layout.form request.payload)
+    by_tests : (other plain : Bool) → IsIssueless a (if other then denies a 95 Method [] else if plain then denies a 95 Mode [] else on_request_payload a request.payload)
+    by_tests true plain = issueless-denies a 95 Method []
+    by_tests false true = issueless-denies a 95 Mode []
+    by_tests false false = issueless-login_hello a (whole login_hello_layout.form request.payload)
 
-still-signature : (a : MonitorArrival) (s : Secured) (entity : Entity) (found : Result AuthSignature BytesFault) → IsStill a (on_signature a s entity found)
-still-signature a s entity (Err why) = still-refuses_bytes a why []
-still-signature a s entity (Ok found) = by_test (is_signed s found.signature)
+issueless-signature : (a : MonitorArrival) (s : Secured) (entity : Entity) (found : Result AuthSignature BytesFault) → IsIssueless a (on_signature a s entity found)
+issueless-signature a s entity (Err why) = issueless-refuses_bytes a why []
+issueless-signature a s entity (Ok found) = by_test (is_signed s found.signature)
   where
-    by_test : (right : Bool) → IsStill a (if right then goes_on a (AwaitsIdent s entity) [] (signature_found s ∷ []) else refuses a (Login SignatureWrong) [])
-    by_test true = still-goes_on a (AwaitsIdent s entity) [] (signature_found s ∷ []) tt
-    by_test false = still-refuses a (Login SignatureWrong) []
+    by_test : (right : Bool) → IsIssueless a (if right then goes_on a (AwaitsIdent s entity) [] (signature_found s ∷ []) else refuses a (Login SignatureWrong) [])
+    by_test true = issueless-goes_on a (AwaitsIdent s entity) [] (signature_found s ∷ []) tt
+    by_test false = issueless-refuses a (Login SignatureWrong) []
 
-still-missing : (a : MonitorArrival) (features : ℕ) (sealed : Result SealedFrame BytesFault) → IsStill a (missing_told a features sealed)
-still-missing a features (Err why) = still-refuses_bytes a why []
-still-missing a features (Ok sealed) = record { entries = (tt, tt); ring_stays = refl; link = tt }
+issueless-missing : (a : MonitorArrival) (features : ℕ) (sealed : Result SealedFrame BytesFault) → IsIssueless a (missing_told a features sealed)
+issueless-missing a features (Err why) = issueless-refuses_bytes a why []
+issueless-missing a features (Ok sealed) = record { entries = (tt, tt); ring_stays = refl; link = tt }
 
-still-client_ident : (a : MonitorArrival) (s : Secured) (entity : Entity) (ident : Result ClientIdent BytesFault) → IsStill a (on_client_ident a s entity ident)
-still-client_ident a s entity (Err why) = still-refuses_bytes a why []
-still-client_ident a s entity (Ok ident) = by_test (ident.required == 0)
+issueless-client_ident : (a : MonitorArrival) (s : Secured) (entity : Entity) (ident : Result ClientIdent BytesFault) → IsIssueless a (on_client_ident a s entity ident)
+issueless-client_ident a s entity (Err why) = issueless-refuses_bytes a why []
+issueless-client_ident a s entity (Ok ident) = by_test (ident.required == 0)
   where
-    by_test : (plain : Bool) → IsStill a (if plain then sends_secure a s (λ behind. Open behind entity) [] (server_ident a.own.address) else misses a s ident.required)
-    by_test true = still-secure a s (λ behind. Open behind entity) [] (secure_frame s.keys (server_ident a.own.address)) (λ t. tt)
-    by_test false = still-missing a ident.required (secure_frame s.keys (control 10 ident_missing_features_layout.form (record { features = ident.required })))
+    by_test : (plain : Bool) → IsIssueless a (if plain then sends_secure a s (λ behind. Open behind entity) [] (server_ident a.own.address) else misses a s ident.required)
+    by_test true = issueless-secure a s (λ behind. Open behind entity) [] (secure_frame s.keys (server_ident a.own.address)) (λ t. tt)
+    by_test false = issueless-missing a ident.required (secure_frame s.keys (control 10 ident_missing_features_layout.form (record { features = ident.required })))
 
-still-reconnect : (a : MonitorArrival) (s : Secured) (entity : Entity) (reconnect : Result SessionReconnect BytesFault) → IsStill a (on_session_reconnect a s entity reconnect)
-still-reconnect a s entity (Err why) = still-refuses_bytes a why []
-still-reconnect a s entity (Ok reconnect) = still-secure a s (λ behind. AwaitsIdent behind entity) [] (secure_frame s.keys session_reset) (λ t. tt)
+issueless-reconnect : (a : MonitorArrival) (s : Secured) (entity : Entity) (reconnect : Result SessionReconnect BytesFault) → IsIssueless a (on_session_reconnect a s entity reconnect)
+issueless-reconnect a s entity (Err why) = issueless-refuses_bytes a why []
+issueless-reconnect a s entity (Ok reconnect) = issueless-secure a s (λ behind. AwaitsIdent behind entity) [] (secure_frame s.keys session_reset) (λ t. tt)
 
-still-ident : (a : MonitorArrival) (s : Secured) (entity : Entity) (f : Frame) → IsStill a (on_ident a s entity f)
-still-ident a s entity f = by_tests (f.tag == 8) (f.tag == 11)
+issueless-ident : (a : MonitorArrival) (s : Secured) (entity : Entity) (f : Frame) → IsIssueless a (on_ident a s entity f)
+issueless-ident a s entity f = by_tests (f.tag == 8) (f.tag == 11)
   where
-    by_tests : (client reconnect : Bool) → IsStill a (if client then on_client_ident a s entity (payload client_ident_layout.form f)
+    by_tests : (client reconnect : Bool) → IsIssueless a (if client then on_client_ident a s entity (payload client_ident_layout.form f)
         else if reconnect then on_session_reconnect a s entity (payload session_reconnect_layout.form f) else refuses_bytes a (Unexpected f.tag) [])
-    by_tests true reconnect = still-client_ident a s entity (payload client_ident_layout.form f)
-    by_tests false true = still-reconnect a s entity (payload session_reconnect_layout.form f)
-    by_tests false false = still-refuses_bytes a (Unexpected f.tag) []
+    by_tests true reconnect = issueless-client_ident a s entity (payload client_ident_layout.form f)
+    by_tests false true = issueless-reconnect a s entity (payload session_reconnect_layout.form f)
+    by_tests false false = issueless-refuses_bytes a (Unexpected f.tag) []
 
-still-keepalive : (a : MonitorArrival) (s : Secured) (entity : Entity) (keepalive : Result Keepalive2 BytesFault) → IsStill a (on_keepalive a s (λ behind. Open behind entity) keepalive)
-still-keepalive a s entity (Err why) = still-refuses_bytes a why []
-still-keepalive a s entity (Ok keepalive) =
-    still-secure a s (λ behind. Open behind entity) [] (secure_frame s.keys (control 19 keepalive2_ack_layout.form (record { time = keepalive.time }))) (λ t. tt)
+issueless-keepalive : (a : MonitorArrival) (s : Secured) (entity : Entity) (keepalive : Result Keepalive2 BytesFault) → IsIssueless a (on_keepalive a s (λ behind. Open behind entity) keepalive)
+issueless-keepalive a s entity (Err why) = issueless-refuses_bytes a why []
+issueless-keepalive a s entity (Ok keepalive) =
+    issueless-secure a s (λ behind. Open behind entity) [] (secure_frame s.keys (control 19 keepalive2_ack_layout.form (record { time = keepalive.time }))) (λ t. tt)
 
-still-keepalive_ack : (a : MonitorArrival) (s : Secured) (entity : Entity) (ack : Result Keepalive2Ack BytesFault) → IsStill a (on_keepalive_ack a s (λ behind. Open behind entity) ack)
-still-keepalive_ack a s entity (Err why) = still-refuses_bytes a why []
-still-keepalive_ack a s entity (Ok ack) = still-goes_on a (Open s entity) [] [] tt
+issueless-keepalive_ack : (a : MonitorArrival) (s : Secured) (entity : Entity) (ack : Result Keepalive2Ack BytesFault) → IsIssueless a (on_keepalive_ack a s (λ behind. Open behind entity) ack)
+issueless-keepalive_ack a s entity (Err why) = issueless-refuses_bytes a why []
+issueless-keepalive_ack a s entity (Ok ack) = issueless-goes_on a (Open s entity) [] [] tt
 
-still-upkeep : (a : MonitorArrival) (s : Secured) (entity : Entity) (f : Frame) → IsStill a (on_upkeep a s (λ behind. Open behind entity) f)
-still-upkeep a s entity f = by_tests (f.tag == 18) (f.tag == 19)
+issueless-upkeep : (a : MonitorArrival) (s : Secured) (entity : Entity) (f : Frame) → IsIssueless a (on_upkeep a s (λ behind. Open behind entity) f)
+issueless-upkeep a s entity f = by_tests (f.tag == 18) (f.tag == 19)
   where
-    by_tests : (ask ack : Bool) → IsStill a (if ask then on_keepalive a s (λ behind. Open behind entity) (payload keepalive2_layout.form f)
+    by_tests : (ask ack : Bool) → IsIssueless a (if ask then on_keepalive a s (λ behind. Open behind entity) (payload keepalive2_layout.form f)
         else if ack then on_keepalive_ack a s (λ behind. Open behind entity) (payload keepalive2_ack_layout.form f) else refuses_bytes a (Unexpected f.tag) [])
-    by_tests true ack = still-keepalive a s entity (payload keepalive2_layout.form f)
-    by_tests false true = still-keepalive_ack a s entity (payload keepalive2_ack_layout.form f)
-    by_tests false false = still-refuses_bytes a (Unexpected f.tag) []
+    by_tests true ack = issueless-keepalive a s entity (payload keepalive2_layout.form f)
+    by_tests false true = issueless-keepalive_ack a s entity (payload keepalive2_ack_layout.form f)
+    by_tests false false = issueless-refuses_bytes a (Unexpected f.tag) []
 
 -- ---- the row of a proof
 
@@ -288,15 +288,15 @@ numbered-keeps server (reclaim.Denied gid) = tt
 
 module _ (offered : Offered) (client : ℕ) where
   abbrev OfferTells : MonitorArrival → MonitorRow → Type 0
-  OfferTells a row = Tells a.own.server.ring (AwaitsProof offered) row
+  OfferTells a row = RowTells a.own.server.ring (AwaitsProof offered) row
 
   denied : (a : MonitorArrival) (why : LoginFault) (seals : List SealEntry) → OfferTells a (denies a 13 why seals)
-  denied a why seals = still-tells a.own.server.ring (AwaitsProof offered) (denies a 13 why seals) (still-denies a 13 why seals)
+  denied a why seals = issueless-tells a.own.server.ring (AwaitsProof offered) (denies a 13 why seals) (issueless-denies a 13 why seals)
 
   handed-tells : (a : MonitorArrival) (e : Entrant) (own : List ℕ) (tickets : List Ticket) (r : Result Finished BytesFault)
       → AllByRecursion (λ (k : Ticket). k.entity ≡ offered.offer.name) tickets → HasProof offered.offer client e.seals
       → OfferTells a (hands_over a (handed_out (occasion a) a.own.server e own tickets) r)
-  handed-tells a e own tickets (Err why) h proof = still-tells a.own.server.ring (AwaitsProof offered) (refuses_bytes a why e.seals) (still-refuses_bytes a why e.seals)
+  handed-tells a e own tickets (Err why) h proof = issueless-tells a.own.server.ring (AwaitsProof offered) (refuses_bytes a why e.seals) (issueless-refuses_bytes a why e.seals)
   handed-tells a e own tickets (Ok done) h proof =
       let sealed : List SealEntry = (handed_out (occasion a) a.own.server e own tickets).sealed in
       record {
@@ -336,12 +336,12 @@ module _ (offered : Offered) (client : ℕ) where
   numbers-tells a proven seals (Err why) same proof keeps = denied a why seals
   numbers-tells a proven seals (Ok n) same proof keeps =
       let row : MonitorRow = row_of a (numbers (occasion a) a.own.server proven seals (Ok n)) in
-      let told : Tells n.server.ring (AwaitsProof offered) row =
+      let told : RowTells n.server.ring (AwaitsProof offered) row =
       issues_to-tells (with_server a n.server) (entrant proven.offer.name n.gid proven.ask.other_keys seals) (key_of n.server proven.offer.name)
       (ap (λ (o : Offer). o.name) same) proof in
-      subst (λ (ring : List Principal). Tells ring (AwaitsProof offered) row) keeps told
+      subst (λ (ring : List Principal). RowTells ring (AwaitsProof offered) row) keeps told
 
-rotates-tells : (a : MonitorArrival) (offered : Offered) (ask : Authenticate) → Tells a.own.server.ring (AwaitsProof offered)
+rotates-tells : (a : MonitorArrival) (offered : Offered) (ask : Authenticate) → RowTells a.own.server.ring (AwaitsProof offered)
     (row_of a (rotates (occasion a) a.own.server offered.gid (record { offer = offered.offer; ask = ask })))
 rotates-tells a offered ask =
     let proven : Proven = record { offer = offered.offer; ask = ask } in
@@ -352,20 +352,20 @@ rotates-tells a offered ask =
     numbers-tells offered ask.client_challenge (with_server a server) proven (seals ++ old.seals) (numbered server choice) refl
     (rotation_drawn a.reading a.draw a.own.server.state ++ old.seals, refl) (numbered-keeps server choice)
 
-proves-tells : (a : MonitorArrival) (offered : Offered) (ask : Authenticate) → Tells a.own.server.ring (AwaitsProof offered) (proves a offered.gid (proving offered.offer ask))
+proves-tells : (a : MonitorArrival) (offered : Offered) (ask : Authenticate) → RowTells a.own.server.ring (AwaitsProof offered) (proves a offered.gid (proving offered.offer ask))
 proves-tells a offered ask = by_test (due_proof offered.offer.secret offered.offer.challenge ask.client_challenge == ask.key)
   where
-    by_test : (t : Bool) → Tells a.own.server.ring (AwaitsProof offered) (proves a offered.gid
+    by_test : (t : Bool) → RowTells a.own.server.ring (AwaitsProof offered) (proves a offered.gid
         (if t then Ok (record { offer = offered.offer; ask = ask }) else Err (record { expected = due_proof offered.offer.secret offered.offer.challenge ask.client_challenge; got = ask.key })))
     by_test true = rotates-tells a offered ask
     by_test false = denied offered 0 a _ []
 
-authenticate-tells : (a : MonitorArrival) (offered : Offered) (ask : Result Authenticate BytesFault) → Tells a.own.server.ring (AwaitsProof offered) (on_authenticate a offered ask)
-authenticate-tells a offered (Err why) = still-tells a.own.server.ring (AwaitsProof offered) (refuses_bytes a why []) (still-refuses_bytes a why [])
+authenticate-tells : (a : MonitorArrival) (offered : Offered) (ask : Result Authenticate BytesFault) → RowTells a.own.server.ring (AwaitsProof offered) (on_authenticate a offered ask)
+authenticate-tells a offered (Err why) = issueless-tells a.own.server.ring (AwaitsProof offered) (refuses_bytes a why []) (issueless-refuses_bytes a why [])
 authenticate-tells a offered (Ok ask) = proves-tells a offered ask
 
-more-tells : (a : MonitorArrival) (offered : Offered) (more : Result AuthRequestMore BytesFault) → Tells a.own.server.ring (AwaitsProof offered) (on_auth_request_more a offered more)
-more-tells a offered (Err why) = still-tells a.own.server.ring (AwaitsProof offered) (refuses_bytes a why []) (still-refuses_bytes a why [])
+more-tells : (a : MonitorArrival) (offered : Offered) (more : Result AuthRequestMore BytesFault) → RowTells a.own.server.ring (AwaitsProof offered) (on_auth_request_more a offered more)
+more-tells a offered (Err why) = issueless-tells a.own.server.ring (AwaitsProof offered) (refuses_bytes a why []) (issueless-refuses_bytes a why [])
 more-tells a offered (Ok more) = authenticate-tells a offered (whole authenticate_layout.form more.payload)
 
 -- ---- turns
@@ -382,35 +382,35 @@ by-front P row NotYet each = tt
 by-front P row (Broken why opened) each = tt
 by-front P row (Next x opened) each = each x opened
 
-pub turned-tells : (a : MonitorArrival) (stage : MonitorStage) → RowOf (Tells a.own.server.ring stage) (turned_at a stage)
+pub turned-tells : (a : MonitorArrival) (stage : MonitorStage) → RowOf (RowTells a.own.server.ring stage) (turned_at a stage)
 turned-tells a AwaitsBanner =
-    by-front (Tells a.own.server.ring AwaitsBanner) (λ link _. on_banner Mon (at a link)) (banner_next a.link)
-    (λ link opened. still-tells a.own.server.ring AwaitsBanner (on_banner Mon (at a link)) (still-plain (at a link) AwaitsHello [] (plain_frame (own_hello Mon)) tt))
+    by-front (RowTells a.own.server.ring AwaitsBanner) (λ link _. on_banner Mon (at a link)) (banner_next a.link)
+    (λ link opened. issueless-tells a.own.server.ring AwaitsBanner (on_banner Mon (at a link)) (issueless-plain (at a link) AwaitsHello [] (plain_frame (own_hello Mon)) tt))
 turned-tells a AwaitsHello =
-    by-front (Tells a.own.server.ring AwaitsHello) (λ (link, f) _. on_hello (at a link) (due 1 hello_layout.form f)) (plain_next a.link)
-    (λ (link, f) opened. still-tells a.own.server.ring AwaitsHello (on_hello (at a link) (due 1 hello_layout.form f)) (still-hello (at a link) (due 1 hello_layout.form f)))
+    by-front (RowTells a.own.server.ring AwaitsHello) (λ (link, f) _. on_hello (at a link) (due 1 hello_layout.form f)) (plain_next a.link)
+    (λ (link, f) opened. issueless-tells a.own.server.ring AwaitsHello (on_hello (at a link) (due 1 hello_layout.form f)) (issueless-hello (at a link) (due 1 hello_layout.form f)))
 turned-tells a AwaitsRequest =
-    by-front (Tells a.own.server.ring AwaitsRequest) (λ (link, f) _. on_auth_request on_request_payload (at a link) (due 2 auth_request_layout.form f)) (plain_next a.link)
-    (λ (link, f) opened. still-tells a.own.server.ring AwaitsRequest (on_auth_request on_request_payload (at a link) (due 2 auth_request_layout.form f))
-    (still-request (at a link) (due 2 auth_request_layout.form f)))
+    by-front (RowTells a.own.server.ring AwaitsRequest) (λ (link, f) _. on_auth_request on_request_payload (at a link) (due 2 auth_request_layout.form f)) (plain_next a.link)
+    (λ (link, f) opened. issueless-tells a.own.server.ring AwaitsRequest (on_auth_request on_request_payload (at a link) (due 2 auth_request_layout.form f))
+    (issueless-request (at a link) (due 2 auth_request_layout.form f)))
 turned-tells a (AwaitsProof offered) =
-    by-front (Tells a.own.server.ring (AwaitsProof offered)) (λ (link, f) _. on_auth_request_more (at a link) offered (due 5 auth_request_more_layout.form f)) (plain_next a.link)
+    by-front (RowTells a.own.server.ring (AwaitsProof offered)) (λ (link, f) _. on_auth_request_more (at a link) offered (due 5 auth_request_more_layout.form f)) (plain_next a.link)
     (λ (link, f) opened. more-tells (at a link) offered (due 5 auth_request_more_layout.form f))
 turned-tells a (AwaitsSignature s entity) =
-    by-front (Tells a.own.server.ring (AwaitsSignature s entity))
+    by-front (RowTells a.own.server.ring (AwaitsSignature s entity))
     (λ (link, f, keys) opened. with_opened opened (on_signature (at a link) (under s keys) entity (due 7 auth_signature_layout.form f))) (secure_next s.keys a.link)
     (λ (link, f, keys) opened. let row = on_signature (at a link) (under s keys) entity (due 7 auth_signature_layout.form f) in
-    still-tells a.own.server.ring (AwaitsSignature s entity) (with_opened opened row)
-    (still-opened (at a link) opened row (still-signature (at a link) (under s keys) entity (due 7 auth_signature_layout.form f))))
+    issueless-tells a.own.server.ring (AwaitsSignature s entity) (with_opened opened row)
+    (issueless-opened (at a link) opened row (issueless-signature (at a link) (under s keys) entity (due 7 auth_signature_layout.form f))))
 turned-tells a (AwaitsIdent s entity) =
-    by-front (Tells a.own.server.ring (AwaitsIdent s entity)) (λ (link, f, keys) opened. with_opened opened (on_ident (at a link) (under s keys) entity f)) (secure_next s.keys a.link)
+    by-front (RowTells a.own.server.ring (AwaitsIdent s entity)) (λ (link, f, keys) opened. with_opened opened (on_ident (at a link) (under s keys) entity f)) (secure_next s.keys a.link)
     (λ (link, f, keys) opened. let row = on_ident (at a link) (under s keys) entity f in
-    still-tells a.own.server.ring (AwaitsIdent s entity) (with_opened opened row) (still-opened (at a link) opened row (still-ident (at a link) (under s keys) entity f)))
+    issueless-tells a.own.server.ring (AwaitsIdent s entity) (with_opened opened row) (issueless-opened (at a link) opened row (issueless-ident (at a link) (under s keys) entity f)))
 turned-tells a (Open s entity) =
-    by-front (Tells a.own.server.ring (Open s entity)) (λ (link, f, keys) opened. with_opened opened (on_upkeep (at a link) (under s keys) (λ behind. Open behind entity) f))
+    by-front (RowTells a.own.server.ring (Open s entity)) (λ (link, f, keys) opened. with_opened opened (on_upkeep (at a link) (under s keys) (λ behind. Open behind entity) f))
     (secure_next s.keys a.link)
     (λ (link, f, keys) opened. let row = on_upkeep (at a link) (under s keys) (λ behind. Open behind entity) f in
-    still-tells a.own.server.ring (Open s entity) (with_opened opened row) (still-opened (at a link) opened row (still-upkeep (at a link) (under s keys) entity f)))
+    issueless-tells a.own.server.ring (Open s entity) (with_opened opened row) (issueless-opened (at a link) opened row (issueless-upkeep (at a link) (under s keys) entity f)))
 
 -- ---- steps
 
@@ -434,7 +434,7 @@ turn-proves m number reading block (Some link) is =
     let a : MonitorArrival = arrival node.Monitor m.own link reading block in
     by_turned a (turned_at a link.stage) (turned-tells a link.stage)
   where
-    by_turned : (a : MonitorArrival) (turned : Turned Monitor MonitorStage) → RowOf (Tells a.own.server.ring link.stage) turned → StepProves m (Turn number) (turns m a turned)
+    by_turned : (a : MonitorArrival) (turned : Turned Monitor MonitorStage) → RowOf (RowTells a.own.server.ring link.stage) turned → StepProves m (Turn number) (turns m a turned)
     by_turned a Waits h = λ t has. absurd (none-issued [] tt t has)
     by_turned a (Refuses why opened) h = λ t has. absurd (none-issued (turns m a (Refuses why opened)).out.entries (tt, tt) t has)
     by_turned a (Handles row) h = λ t has. record { number = number; turn_is = refl; link = link; found = is; proof = h.asked t has }

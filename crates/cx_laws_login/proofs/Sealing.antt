@@ -34,7 +34,7 @@ use Rattle.cx_laws_login.proofs.Entering.{issued_of}
 use Rattle.cx_laws_login.proofs.Generations.{AreGenerated, generated-grow}
 use Rattle.cx_laws_login.proofs.Issuing.{IsOther, TicketOk, length-session, short-connection}
 use Rattle.cx_laws_login.proofs.Rows.{Allowed}
-use Rattle.cx_laws_login.proofs.Under.{IsUnder}
+use Rattle.cx_laws_login.proofs.Under.{IsOfCurrent}
 
 -- ---- uses of a session key
 
@@ -139,7 +139,7 @@ module _ (leaked : List Name) (whole : List Logged) (n : NodeName) (line : ℕ) 
       by_service Mgr same = (Login name, auth, other Mgr same (λ m. refl))
 
   blob-allowed : (us : Uses) (t : Ticket) → TicketOk name gid reading block t → Contains K (issued_entry t) → Means us t.session (session_use name t.service)
-      → IsUnder server t → (current : Option Generation) → current_at t.created (generations_of server.state t.service) ≡ current → CurrentOk us t.service current
+      → IsOfCurrent server t → (current : Option Generation) → current_at t.created (generations_of server.state t.service) ≡ current → CurrentOk us t.service current
       → Allowed us K n (blob_sealed current t)
   blob-allowed us t ok has means under None is h = tt
   blob-allowed us t ok has means under (Some g) is h =
@@ -153,7 +153,7 @@ module _ (leaked : List Name) (whole : List Logged) (n : NodeName) (line : ℕ) 
       some_is a b e = cc
 
   -- one ticket
-  ticket-sealed : (us : Uses) (log : List Logged) (t : Ticket) → Inv leaked whole us log K → TicketOk name gid reading block t → IsUnder server t → Contains K (issued_entry t) → Ready us
+  ticket-sealed : (us : Uses) (log : List Logged) (t : Ticket) → Inv leaked whole us log K → TicketOk name gid reading block t → IsOfCurrent server t → Contains K (issued_entry t) → Ready us
       → Means (with_key us t.session (session_use name t.service)) auth_session (Login name)
       → AreGranted leaked whole n line log (ticket_seals server secret auth_session t)
       → Reached leaked whole n line us log K (ticket_seals server secret auth_session t) (λ vs. Means vs auth_session (Login name))
@@ -182,7 +182,7 @@ module _ (leaked : List Name) (whole : List Logged) (n : NodeName) (line : ℕ) 
       }
 
   -- the tickets for other services than AUTH
-  others-sealed : (us : Uses) (log : List Logged) (ts : List Ticket) → Inv leaked whole us log K → AllByRecursion (IsOther name gid reading block) ts → AllByRecursion (IsUnder server) ts
+  others-sealed : (us : Uses) (log : List Logged) (ts : List Ticket) → Inv leaked whole us log K → AllByRecursion (IsOther name gid reading block) ts → AllByRecursion (IsOfCurrent server) ts
       → AllByRecursion (λ (t : Ticket). Contains K (issued_entry t)) ts → Ready us → Means us auth_session (Login name)
       → AreGranted leaked whole n line log (flat_map (ticket_seals server secret auth_session) ts)
       → Reached leaked whole n line us log K (flat_map (ticket_seals server secret auth_session) ts) (λ vs. Means vs auth_session (Login name))
@@ -196,7 +196,7 @@ module _ (leaked : List Name) (whole : List Logged) (n : NodeName) (line : ℕ) 
 
   -- all tickets: the first is for AUTH, and its session key is the one under which the others are told
   pub tickets-sealed : (us : Uses) (log : List Logged) (t : Ticket) (ts : List Ticket) → Inv leaked whole us log K → TicketOk name gid reading block t → t.service ≡ Auth
-      → auth_session ≡ session_of Auth block → AllByRecursion (IsOther name gid reading block) ts → AllByRecursion (IsUnder server) (t ∷ ts)
+      → auth_session ≡ session_of Auth block → AllByRecursion (IsOther name gid reading block) ts → AllByRecursion (IsOfCurrent server) (t ∷ ts)
       → AllByRecursion (λ (t : Ticket). Contains K (issued_entry t)) (t ∷ ts) → Ready us
       → AreGranted leaked whole n line log (flat_map (ticket_seals server secret auth_session) (t ∷ ts))
       → Reached leaked whole n line us log K (flat_map (ticket_seals server secret auth_session) (t ∷ ts)) (λ vs. Means vs auth_session (Login name))

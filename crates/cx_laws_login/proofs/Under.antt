@@ -18,32 +18,32 @@ use Rattle.cx_rotate.specs.declared.generations.Generation.{Generation}
 use Rattle.cx_rules.specs.Tickets.{issued_before, issued_for}
 use Rattle.cx_sealed.specs.Records.{service_ticket_layout}
 
-pub record IsUnder (server : Server) (t : Ticket) : Type 0 where
+pub record IsOfCurrent (server : Server) (t : Ticket) : Type 0 where
   pub of : Generation
   pub current : current_at t.created (generations_of server.state t.service) ≡ Some of
   pub id : t.generation ≡ of.id
   pub blob : t.blob ≡ sealed of.key (service_ticket_layout.form.text (service_ticket_of t))
 
 module _ (server : Server) where
-  abbrev ResultUnder : Result Ticket IssueRefusal → Type 0
-  ResultUnder (Ok t) = IsUnder server t
-  ResultUnder (Err why) = Unit {0}
+  abbrev ResultOfCurrent : Result Ticket IssueRefusal → Type 0
+  ResultOfCurrent (Ok t) = IsOfCurrent server t
+  ResultOfCurrent (Err why) = Unit {0}
 
-  issued-under : (asked : Asked) → ResultUnder (issued server asked)
+  issued-under : (asked : Asked) → ResultOfCurrent (issued server asked)
   issued-under asked = by_found (find (is_named asked.name) server.ring)
     where
       by_current : (entry : Principal) (caps : List ℕ) (current : Option Generation) → current_at asked.reading (generations_of server.state asked.service) ≡ current
-          → ResultUnder (or_else issue.IdsSpent current >>= λ generation. Ok (sealed_by generation.key (telling_key entry asked) (fields_of server.state asked caps generation)))
+          → ResultOfCurrent (or_else issue.IdsSpent current >>= λ generation. Ok (sealed_by generation.key (telling_key entry asked) (fields_of server.state asked caps generation)))
       by_current entry caps None is = tt
       by_current entry caps (Some g) is = record { of = g; current = is; id = refl; blob = refl }
 
-      by_caps : (entry : Principal) (caps : Option (List ℕ)) → ResultUnder
+      by_caps : (entry : Principal) (caps : Option (List ℕ)) → ResultOfCurrent
           (or_else issue.NoCaps caps >>= λ caps. or_else issue.IdsSpent (current_at asked.reading (generations_of server.state asked.service)) >>= λ generation.
           Ok (sealed_by generation.key (telling_key entry asked) (fields_of server.state asked caps generation)))
       by_caps entry None = tt
       by_caps entry (Some caps) = by_current entry caps (current_at asked.reading (generations_of server.state asked.service)) refl
 
-      by_keys : (entry : Principal) (t : Bool) → ResultUnder
+      by_keys : (entry : Principal) (t : Bool) → ResultOfCurrent
           (or_else issue.NotAService (cond t (Some asked.service) None) >>= λ service.
           or_else issue.NoCaps (caps_for service entry) >>= λ caps.
           or_else issue.IdsSpent (current_at asked.reading (generations_of server.state service)) >>= λ generation.
@@ -51,7 +51,7 @@ module _ (server : Server) where
       by_keys entry true = by_caps entry (caps_for asked.service entry)
       by_keys entry false = tt
 
-      by_found : (found : Option Principal) → ResultUnder
+      by_found : (found : Option Principal) → ResultOfCurrent
           (or_else issue.UnknownEntity found >>= λ entry.
           or_else issue.NotAService (passed has_keys asked.service) >>= λ service.
           or_else issue.NoCaps (caps_for service entry) >>= λ caps.
@@ -60,11 +60,11 @@ module _ (server : Server) where
       by_found None = tt
       by_found (Some entry) = by_keys entry (has_keys asked.service)
 
-  abbrev pub AreUnder : Result (List Ticket) LoginFault → Type 0
-  AreUnder (Ok ts) = AllByRecursion (IsUnder server) ts
-  AreUnder (Err why) = Unit {0}
+  abbrev pub AreOfCurrent : Result (List Ticket) LoginFault → Type 0
+  AreOfCurrent (Ok ts) = AllByRecursion (IsOfCurrent server) ts
+  AreOfCurrent (Err why) = Unit {0}
 
-  before-under : (first : Result Ticket IssueRefusal) (rest : Result (List Ticket) LoginFault) → ResultUnder first → AreUnder rest → AreUnder (issued_before first rest)
+  before-under : (first : Result Ticket IssueRefusal) (rest : Result (List Ticket) LoginFault) → ResultOfCurrent first → AreOfCurrent rest → AreOfCurrent (issued_before first rest)
   before-under (Ok t) (Ok ts) is h = (is, h)
   before-under (Ok t) (Err why) is h = tt
   before-under (Err issue.NoCaps) rest is h = h
@@ -73,6 +73,6 @@ module _ (server : Server) where
   before-under (Err issue.NotAService) rest is h = h
   before-under (Err issue.OutOfMemory) rest is h = h
 
-  pub all-under : (ask : EntityType → Asked) (services : List EntityType) → AreUnder (issued_for server ask services)
+  pub all-under : (ask : EntityType → Asked) (services : List EntityType) → AreOfCurrent (issued_for server ask services)
   all-under ask [] = tt
   all-under ask (s ∷ services) = before-under (issued server (ask s)) (issued_for server ask services) (issued-under (ask s)) (all-under ask services)

@@ -41,7 +41,7 @@ use Rattle.cx_steps.specs.declared.seals.SealEntry.{SealEntry}
 use Rattle.cx_steps.specs.declared.seals.SealEntry.TheVariants as seal
 use Rattle.cx_laws_keys.proofs.Lists.{all-append, all-map, found_all, found_passes}
 use Rattle.cx_laws_login.proofs.NoTickets.{client-none}
-use Rattle.cx_laws_login.proofs.Proving.{IsBehindProof, IsRinged, LinkRinged, RowOf, StageRinged, Tells, none-issued, step-proves, turned-tells}
+use Rattle.cx_laws_login.proofs.Proving.{IsBehindProof, IsRinged, LinkRinged, RowOf, StageRinged, RowTells, none-issued, step-proves, turned-tells}
 use Rattle.cx_laws_run.proofs.Opening.{nothing-in}
 use Rattle.cx_laws_run.specs.Logins.{Asks, Offers, Stands}
 
@@ -214,7 +214,7 @@ module _ (setup : Setup) (past : List Point) (nodes : Nodes) (number reading : �
 
   turned-waits : (a : MonitorArrival) (turned : Turned Monitor MonitorStage) → a.link.number ≡ number → AllWait setup past nodes
       → ComesTo (turns (noted nodes.monitor) a turned) (steps nodes turn_point.happening) → TurnTakes a.link turned → LogsTurn a turned
-      → RowOf (Tells nodes.monitor.own.server.ring a.link.stage) turned → a.own ≡ (noted nodes.monitor).own → TurnedWell (turns (noted nodes.monitor) a turned)
+      → RowOf (RowTells nodes.monitor.own.server.ring a.link.stage) turned → a.own ≡ (noted nodes.monitor).own → TurnedWell (turns (noted nodes.monitor) a turned)
   turned-waits a Waits same ok comes takes logs tells own =
       (refl, all-map (LinkWaits setup past) (LinkWaits setup (turn_point ∷ past)) (λ l h. turn-stays l h) nodes.monitor.links ok.links)
   turned-waits a (Refuses why opened) same ok comes takes logs tells own =
@@ -358,7 +358,7 @@ module _ (setup : Setup) (past : List Point) (nodes : Nodes) (reading : ℕ) (bl
 -- ---- any event
 
 -- what is so behind an event, and of its tickets
-record Goes (setup : Setup) (past : List Point) (p : Point) : Type 0 where
+record StepsTo (setup : Setup) (past : List Point) (p : Point) : Type 0 where
   waits : AllWait setup (p ∷ past) (nodes_past p)
   asks : Asks setup past p
 
@@ -383,7 +383,7 @@ module _ (setup : Setup) (past : List Point) (nodes : Nodes) (input : Input) (re
   client-asks name None t has = nothing-in (journal.Issued t) has
   client-asks name (Some c) t has = none-issued (client_rule c input reading block).out.entries (client-none c input reading block) t has
 
-  goes : (n : NodeName) → AllWait setup past nodes → Goes setup past (point_at n)
+  goes : (n : NodeName) → AllWait setup past nodes → StepsTo setup past (point_at n)
   goes node.Monitor ok = record { waits = monitor-waits setup past nodes reading block line failing input ok; asks = monitor-asks setup past nodes reading block line failing input ok }
   goes (node.Entity name) ok = record {
     waits = client-waits name (client_of name nodes) ok;

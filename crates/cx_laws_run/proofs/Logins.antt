@@ -31,8 +31,8 @@ use Rattle.cx_laws_run.specs.Laws.{AreDrawn}
 use Rattle.cx_laws_run.specs.Logins.{Asks, LogIn, LogsIn, Proves, proof_of}
 
 -- of each proof that is found equal at this point, of an entity that isn't leaked: its own node signed it before
-abbrev Signed : Setup → List Point → Point → Type 0
-Signed setup older p = (number : ℕ) (name : Name) → (proves : Proves setup number name older p) → (Contains (leaked_of setup) name → ⊥)
+abbrev SignedOwn : Setup → List Point → Point → Type 0
+SignedOwn setup older p = (number : ℕ) (name : Name) → (proves : Proves setup number name older p) → (Contains (leaked_of setup) name → ⊥)
     → SomeOf (λ (at : Logged). (at.node ≡ node.Entity name) × Signs (proof_of proves.offered.offer proves.client_challenge) at.entry) (logged_until setup older)
 
 -- ---- an event
@@ -61,7 +61,7 @@ module _ (setup : Setup) (whole : List Logged) (us : Uses) (J : List Entry) (pas
       by_owed (inr signed) = signed_own leaked whole us log J i (proof_of offered.offer client) offered.offer.name signed means
 
   event-signed : Inv leaked whole us log J → NodesOk nodes us J → AreGranted leaked whole h.node h.line log (steps nodes h).out.seals
-      → Signed setup past (record { nodes = nodes; happening = h })
+      → SignedOwn setup past (record { nodes = nodes; happening = h })
   event-signed i ok g number name p unleaked =
       let m : MonitorNode = nodes.monitor in
       let offered : Offered = p.offered in
@@ -82,7 +82,7 @@ behind-onto n line (e ∷ es) earlier = behind-onto n line es (logged n line e �
 
 all-signed : (setup : Setup) (whole : List Logged) (hs : List Happening) (past : List Point) (nodes : Nodes) (us : Uses) (J : List Entry)
     → Inv (leaked_of setup) whole us (logged_until setup past) J → NodesOk nodes us J → AreDrawn hs
-    → EachOnto (Grant (leaked_of setup) whole) (logged_until setup past) (seals_from nodes hs) → EachPoint (Signed setup) past → EachPoint (Signed setup) (points_onto past nodes hs)
+    → EachOnto (Grant (leaked_of setup) whole) (logged_until setup past) (seals_from nodes hs) → EachPoint (SignedOwn setup) past → EachPoint (SignedOwn setup) (points_onto past nodes hs)
 all-signed setup whole [] past nodes us J i ok drawn g each = each
 all-signed setup whole (h ∷ hs) past nodes us J i ok drawn g each =
     let leaked : List Name = leaked_of setup in
@@ -107,6 +107,6 @@ run-logins setup hs drawn sound fresh =
     (opening-inv leaked whole) (λ s has. nothing-in (journal.Issued s) has) in
     let known = secrets-known leaked whole K setup.entities no_uses [] (seals_from (nodes_of setup) hs) began.0 (all-granted leaked whole sound fresh) in
     let nodes : NodesOk (nodes_of setup) known.uses K = opening-nodes known.uses K setup known.theirs began.2 in
-    let signed : EachPoint (Signed setup) (points setup hs) = all-signed setup whole hs [] (nodes_of setup) known.uses K known.inv nodes drawn known.granted tt in
-    each-both (Asks setup) (Signed setup) (LogsIn setup) (λ older p asks own t has unleaked. let a = asks t has in (a.0, (a.1, own a.0 t.entity a.1 unleaked)))
+    let signed : EachPoint (SignedOwn setup) (points setup hs) = all-signed setup whole hs [] (nodes_of setup) known.uses K known.inv nodes drawn known.granted tt in
+    each-both (Asks setup) (SignedOwn setup) (LogsIn setup) (λ older p asks own t has unleaked. let a = asks t has in (a.0, (a.1, own a.0 t.entity a.1 unleaked)))
     (points setup hs) (all-asked setup hs).asked signed
