@@ -1,3 +1,3 @@
-pub mod Carrying
 pub mod Idle
 pub mod Steps
+pub mod Turns

@@ -1,22 +1,30 @@
 -- The client as its machine holds it.
-use Rattle.std.specs.Prelude.{◌≡◌, ℕ, List, Option, Some, None, map}
+use Rattle.std.specs.Prelude.{ℕ, List, []}
 use Rattle.cx_base.specs.Names.{Name}
 use Rattle.cx_base.specs.declared.addresses.Addr.{Addr}
+use Rattle.cx_connector.specs.Rows.{changed}
+use Rattle.cx_connector.specs.declared.rows.Change.{Change}
 use Rattle.cx_enc.specs.declared.keys.Key.{Key}
 use Rattle.cx_ends.specs.Events.{link_in}
-use Rattle.cx_ends.specs.Stages.{AreRising}
 use Rattle.cx_holdings.specs.declared.offers.OfferedModes.{OfferedModes}
-use Rattle.cx_rules.specs.Abridged.{abridged_asker_link, abridged_client}
-use Rattle.cx_rules.specs.ClientRule.{Client, ClientNode}
-use Rattle.cx_rules.specs.Connector.{Stage}
+use Rattle.cx_rules.specs.Abridged.{abridged_asker_link}
+use Rattle.cx_rules.specs.ClientRule.{Client, ClientNode, me, with_asker}
+use Rattle.cx_rules.specs.Connector.{AwaitsBanner, Stage, turned_at}
+use Rattle.cx_rules.specs.Greetings.{own_banner}
 use Rattle.cx_rules.specs.Holdings.{Asker, holds_nothing, modes_of}
 use Rattle.cx_rules.specs.Inputs.{Input}
-use Rattle.cx_rules.specs.Links.{Link, link_of, without_link}
-use Rattle.cx_rules.specs.Rows.{Outcome, forgotten}
+use Rattle.cx_rules.specs.Links.{Link}
+use Rattle.cx_rules.specs.Rows.{Outcome, Row, Turned, arrival, goes_on, lifted_turn, new_link}
 use Rattle.cx_steps.specs.declared.effects.Effects.{Effects}
+use Rattle.cx_turns.specs.Steps as steps
+use Rattle.cx_turns.specs.Steps.{IsTurn, without_lost}
+use Rattle.cx_turns.specs.declared.came.Came.{Came}
 
 abbrev pub ClientLink : Type 0
 ClientLink = Link Stage
+
+abbrev pub ClientRow : Type 0
+ClientRow = Row Client Stage
 
 abbrev pub node_of : Client → List ClientLink → ClientNode
 node_of own links = record { own = own; links = links }
@@ -32,34 +40,33 @@ opening_asker name key modes address = record {
   holdings = holds_nothing;
 }
 
--- of none of these links more can be forgotten
-abbrev pub AreAbridged : List ClientLink → Type 0
-AreAbridged links = map abridged_asker_link links ≡ links
-
 -- how a client holds its links
-pub record AreHeld (links : List ClientLink) : Type 0 where
-  pub abridged : AreAbridged links
-  pub rising : AreRising 0 links
-
--- ---- want of memory
-
-abbrev pub without_lost : Option ℕ → ClientNode → ClientNode
-without_lost None c = c
-without_lost (Some number) c = forgotten c number
+abbrev pub AreHeld : List ClientLink → Type 0
+AreHeld links = steps.AreHeld abridged_asker_link links
 
 -- where memory is wanting, the event's link is forgotten, and nothing else happens
 abbrev pub lost : ClientNode → Input → ClientNode
 lost c input = without_lost (link_in input) c
 
--- ---- steps
-
 -- what a step gave, and the client behind it, are those of the rules, abridged
-pub record IsStep (c : ClientNode) (due : Outcome ClientNode) (given : Effects) : Type 0 where
-  pub out : given ≡ due.out
-  pub state : c ≡ abridged_client due.state
+abbrev pub IsStep : ClientNode → Outcome ClientNode → Effects → Type 0
+IsStep c due given = steps.IsStep abridged_asker_link c due given
 
--- the link of this number was taken out of all of them, and these are left
-pub record IsOutOf (number : ℕ) (link : ClientLink) (rest all : List ClientLink) : Type 0 where
-  pub left : rest ≡ without_link number all
-  pub found : link_of number all ≡ Some link
-  pub held : AreHeld all
+-- ---- a link opens, and is turned
+
+-- the banner is sent on a link of this number
+abbrev pub banner_sent : Client → ℕ → ℕ → List ℕ → ClientRow
+banner_sent own number reading draw =
+    let stage : Stage = AwaitsBanner own.asked in goes_on (arrival (me own) own (new_link number stage) reading draw) stage own_banner []
+
+-- a client that holds what a row of its asker changes
+abbrev pub with_change : Client → Change → Client
+with_change own change = with_asker own (changed own.asker change)
+
+-- what the rules have a turn of this link come to
+abbrev pub turn_of : Client → ℕ → List ℕ → ClientLink → Turned Client Stage
+turn_of own reading draw link = lifted_turn (with_asker own) (turned_at (arrival (me own) own.asker link reading draw) link.stage)
+
+-- a turn of this link came to that
+abbrev pub IsClientTurn : Client → ℕ → List ℕ → ClientLink → Came ClientLink Change → Type 0
+IsClientTurn own reading draw link come = IsTurn abridged_asker_link with_change own link (turn_of own reading draw link) come

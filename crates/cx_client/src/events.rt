@@ -8,18 +8,19 @@ ghost use Rattle.cx_rules.specs.Inputs.{input_of};
 ghost use Rattle.cx_rules.specs.Links.{link_of, without_link};
 ghost use Rattle.cx_rules.specs.Rows as rows;
 ghost use Rattle.cx_steps.specs.Nothing.{nothing};
+ghost use Rattle.cx_steps.specs.declared.events.Peer.TheVariants.{Monitor};
 ghost use Rattle.cx_client.specs.Machine.{AreHeld, IsStep, lost, node_of};
 
 use crate::commands::submits;
 use crate::own::Own;
-use crate::turns::{opens, turn};
 use cx_base::Reading;
 use cx_connector::Link;
 use cx_dice::Draw;
 use cx_ends::Moment;
 use cx_journal::{Entry, Reason};
 use cx_node::{Links, enters, refused_entry};
-use cx_steps::{Effects, Event};
+use cx_steps::{Effects, Event, Peer};
+use cx_turns::{turn, unopened};
 use std::alloc::{AllocError, Global};
 
 // What the client does at an event.
@@ -56,7 +57,7 @@ pub(crate) fn steps(
                 reading: now,
                 draw,
             };
-            turn(alloc, own, links, &at)
+            turns(alloc, own, links, &at)
         }
         Event::Gone(number) => goes(alloc, own, links, number),
         Event::Submit(command) => submits(alloc, own, links, &command),
@@ -74,14 +75,55 @@ fn opens_none(alloc: Global, own: &Own, links: &Links<Link>) -> Result<Effects, 
     ensures { IfOk result (IsStep (node_of own.now links.now.links) (rows.opens_none (node_of own.now links.now.links) (me own.now))) }
 {
     let named = own.named(alloc)?;
-    let entry = refused_entry(alloc, &named, 0, Reason::NoLink)?;
-    enters(alloc, entry)
+    unopened(alloc, &named)
 }
 
-// ---- bytes come
+// ---- a link opens, bytes come, a link is turned
+
+// A link to the monitor is greeted; none to a daemon is awaited so far.
+#[tactic(auto, using(crate::proofs::Steps::idles_step))]
+fn opens(
+    alloc: Global,
+    own: &Own,
+    links: &mut Links<Link>,
+    at: &Moment<'_>,
+    peer: &Option<Peer>,
+) -> Result<Effects, AllocError>
+    requires room { links.old.room ≡ None }
+    requires held { AreHeld links.old.links }
+    ensures step { IfOk result (IsStep (node_of own.now links.new.links)
+        (rule.opens (node_of own.now links.old.links) at.now.reading at.now.draw.now.bytes at.now.number peer.now)) }
+    ensures lost { OnErr result (links.new.links ≡ without_link at.now.number links.old.links) }
+    ensures room { links.new.room ≡ None }
+    ensures held { AreHeld links.new.links }
+{
+    match peer {
+        None => Ok(Effects::new(alloc)),
+        Some(Peer::Daemon(_)) => Ok(Effects::new(alloc)),
+        Some(Peer::Monitor) => greets(alloc, own, links, at),
+    }
+}
+
+// The banner is sent on a new link to the monitor.
+fn greets(
+    alloc: Global,
+    own: &Own,
+    links: &mut Links<Link>,
+    at: &Moment<'_>,
+) -> Result<Effects, AllocError>
+    requires room { links.old.room ≡ None }
+    requires held { AreHeld links.old.links }
+    ensures step { IfOk result (IsStep (node_of own.now links.new.links)
+        (rule.opens (node_of own.now links.old.links) at.now.reading at.now.draw.now.bytes at.now.number (Some Monitor))) }
+    ensures lost { OnErr result (links.new.links ≡ without_link at.now.number links.old.links) }
+    ensures room { links.new.room ≡ None }
+    ensures held { AreHeld links.new.links }
+{
+    let greeted = own.greets(alloc, at);
+    cx_turns::opens(alloc, links, at.number, greeted)
+}
 
 // Bytes come on a link, if it lives.
-#[tactic(auto, using(crate::proofs::Steps::fed_step, crate::proofs::Steps::unfed_step, crate::proofs::Steps::put_held, crate::proofs::Steps::without_held))]
 fn comes(
     alloc: Global,
     own: &Own,
@@ -97,19 +139,26 @@ fn comes(
     ensures room { links.new.room ≡ None }
     ensures held { AreHeld links.new.links }
 {
-    let Some(link) = links.take(number) else {
-        return Ok(Effects::new(alloc));
-    };
-    match link.fed(alloc, bytes) {
-        Ok(link) => {
-            links.settle(number, Some(link));
-            Ok(Effects::new(alloc))
-        }
-        Err(error) => {
-            links.give_up();
-            Err(error)
-        }
-    }
+    cx_turns::comes::<Link, Own>(alloc, links, number, bytes)
+}
+
+// One banner or frame of what came on a link is handled, if it lives.
+fn turns(
+    alloc: Global,
+    own: &mut Own,
+    links: &mut Links<Link>,
+    at: &Moment<'_>,
+) -> Result<Effects, AllocError>
+    requires room { links.old.room ≡ None }
+    requires held { AreHeld links.old.links }
+    ensures step { IfOk result (IsStep (node_of own.new links.new.links)
+        (rule.turn (node_of own.old links.old.links) at.now.reading at.now.draw.now.bytes (link_of at.now.number links.old.links))) }
+    ensures own { OnErr result (own.new ≡ own.old) }
+    ensures lost { OnErr result (links.new.links ≡ without_link at.now.number links.old.links) }
+    ensures room { links.new.room ≡ None }
+    ensures held { AreHeld links.new.links }
+{
+    turn(alloc, own, links, at)
 }
 
 // ---- a link is gone

@@ -6,7 +6,6 @@ mod commands;
 mod events;
 mod links;
 mod own;
-mod turns;
 
 pub use client::Client;
 

@@ -1,12 +1,14 @@
-use Rattle.std.proofs.Common.{refl}
-use Rattle.cx_client.proofs.Steps.{put_held, without_held}
+use Rattle.cx_rules.proofs.AskerForgets.{asker-forgets}
+use Rattle.cx_rules.specs.Abridged.{abridged_asker_link}
+use Rattle.cx_turns.proofs.Steps.{comes_held, comes_step}
 use Rattle.cx_client.proofs.events.comes.Goals as goal
 
-pub returns-in-Ok-clause-held : goal.returns-in-Ok-clause-held
-returns-in-Ok-clause-held c =
-    put_held c.in-Ok.link c.args.links.now.links c.settle.new.self.links c.in-Ok.ensures.held c.requires.held
-    (c.settle.ensures.links c.args.links.now.links (rw c.in-Some.ensures.taken refl))
+pub returns-clause-step : goal.returns-clause-step
+returns-clause-step c =
+    comes_step abridged_asker_link asker-forgets c.args.own.now c.args.number c.args.bytes.now c.args.links.now.links c.comes.new.links.links c.comes.result
+    c.requires.held c.comes.ensures.fed
 
-pub returns-in-Err-clause-held : goal.returns-in-Err-clause-held
-returns-in-Err-clause-held c =
-    without_held c.args.number c.args.links.now.links c.give_up.new.self.links c.requires.held (rw (c.give_up.ensures, c.in-Some.ensures.taken) refl)
+pub returns-clause-held : goal.returns-clause-held
+returns-clause-held c =
+    comes_held abridged_asker_link asker-forgets c.args.number c.args.bytes.now c.args.links.now.links c.comes.new.links.links c.comes.result
+    c.requires.held c.comes.ensures.fed c.comes.ensures.lost
