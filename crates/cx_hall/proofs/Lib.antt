@@ -1,0 +1,5 @@
+pub mod Calls
+pub mod Entries
+pub mod Lawful
+pub mod Lists
+pub mod Moves

@@ -1,0 +1,16 @@
+//! Laws of a hall's history, which crates above may rest on.
+
+ghost use Rattle.cx_hall.specs.Lawful.{SawOneHistory, NumbersPasses, IsAnsweredAsTold};
+
+use cx_base::Owner;
+use cx_session::told_laws;
+
+/// Under the rule that each step keeps, of what two passes have seen one begins with the other, and no two passes have one
+/// number. A history of what its owners tell is answered as the history is: so it may hold plain data.
+pub fn hall_laws<O: Owner>()
+    ensures one { SawOneHistory O.entity_of O.gid_of }
+    ensures number { NumbersPasses O.entity_of O.gid_of }
+    ensures told { IsAnsweredAsTold O.entity_of O.gid_of O.caps_of O.reading_of }
+{
+    told_laws::<O>();
+}
