@@ -131,7 +131,8 @@ fn node_problem(place: Option<WordPlace>, shown: &Shown) -> &'static str
     }
 }
 
-fn daemon_problem(is_daemon: bool) -> &'static str
+/// What is wrong with a name in place of a declared daemon's, by whether it is a daemon's.
+pub(crate) fn daemon_problem(is_daemon: bool) -> &'static str
     ensures { result.now ≡ daemon_problem is_daemon }
 {
     if is_daemon {
@@ -140,7 +141,8 @@ fn daemon_problem(is_daemon: bool) -> &'static str
     "is no daemon: a daemon's name begins with mds., osd. or mgr."
 }
 
-fn client_problem(is_client: bool) -> &'static str
+/// The same of a client's.
+pub(crate) fn client_problem(is_client: bool) -> &'static str
     ensures { result.now ≡ client_problem is_client }
 {
     if is_client {

@@ -25,41 +25,20 @@ impl fmt::Display for Wrong<'_> {
     fn fmt<W: fmt::Write>(&self, f: &mut fmt::Formatter<W>) -> fmt::Result {
         let bad = self.0;
         match bad.fault.why {
-            LineFault::UnknownWord => write!(f, "{}", Unknown(bad)),
-            LineFault::Missing => write!(f, "{}", Missing(bad)),
-            LineFault::Extra => write!(f, "{}", Extra(bad)),
+            LineFault::UnknownWord => write!(f, "{}", Unknown(bad, first_words())),
+            LineFault::Missing => write!(f, "{}", Missing(bad, form(bad.form))),
+            LineFault::Extra => write!(f, "{}", Extra(bad, form(bad.form))),
             LineFault::Order => write!(
                 f,
                 "it stands too low: lifetime, auth-lifetime, entity, seed, modes and leak lines stand above all others; move it up{}",
                 form(bad.form)
             ),
-            LineFault::BadNumber => write!(f, "{}", Problem(bad)),
-            LineFault::BadName => write!(f, "{}", Problem(bad)),
-            LineFault::BadText => write!(f, "{}", Problem(bad)),
-            LineFault::UnknownNode => write!(f, "{}", Problem(bad)),
-            LineFault::Repeated => write!(f, "{}", Problem(bad)),
+            LineFault::BadNumber => write!(f, "{}", Problem(bad, problem(bad), form(bad.form))),
+            LineFault::BadName => write!(f, "{}", Problem(bad, problem(bad), form(bad.form))),
+            LineFault::BadText => write!(f, "{}", Problem(bad, problem(bad), form(bad.form))),
+            LineFault::UnknownNode => write!(f, "{}", Problem(bad, problem(bad), form(bad.form))),
+            LineFault::Repeated => write!(f, "{}", Problem(bad, problem(bad), form(bad.form))),
         }
-    }
-}
-
-#[derive(Clone, Copy)]
-struct Unknown<'a>(&'a BadWord);
-
-impl fmt::Display for Unknown<'_> {
-    ghost use Rattle.std.specs.Prelude.{Some};
-    ghost use Rattle.cx_line_help.specs.Wrong.{unknown_text};
-
-    ghost output = { λ wrong. Some (unknown_text wrong.0.now) };
-
-    fn fmt<W: fmt::Write>(&self, f: &mut fmt::Formatter<W>) -> fmt::Result {
-        let bad = self.0;
-        write!(
-            f,
-            "its first word, {}, begins no line{}{}",
-            Word(&bad.shown),
-            hint(bad.hint),
-            first_words()
-        )
     }
 }
 
@@ -71,14 +50,37 @@ fn first_words() -> &'static str
     do, carry, lose, inject, again, cut, restart, failsave or settle, and a comment with #"
 }
 
+/// A first word that begins no line, and those that do.
 #[derive(Clone, Copy)]
-struct Missing<'a>(&'a BadWord);
+pub(crate) struct Unknown<'a>(pub(crate) &'a BadWord, pub(crate) &'static str);
+
+impl fmt::Display for Unknown<'_> {
+    ghost use Rattle.std.specs.Prelude.{Some};
+    ghost use Rattle.cx_line_help.specs.Wrong.{unknown_text};
+
+    ghost output = { λ wrong. Some (unknown_text wrong.0.now wrong.1.now) };
+
+    fn fmt<W: fmt::Write>(&self, f: &mut fmt::Formatter<W>) -> fmt::Result {
+        let bad = self.0;
+        write!(
+            f,
+            "its first word, {}, begins no line{}{}",
+            Word(&bad.shown),
+            hint(bad.hint),
+            self.1
+        )
+    }
+}
+
+/// Too few words, and the form of the line.
+#[derive(Clone, Copy)]
+pub(crate) struct Missing<'a>(pub(crate) &'a BadWord, pub(crate) &'static str);
 
 impl fmt::Display for Missing<'_> {
     ghost use Rattle.std.specs.Prelude.{Some};
     ghost use Rattle.cx_line_help.specs.Wrong.{missing_text};
 
-    ghost output = { λ wrong. Some (missing_text wrong.0.now) };
+    ghost output = { λ wrong. Some (missing_text wrong.0.now wrong.1.now) };
 
     fn fmt<W: fmt::Write>(&self, f: &mut fmt::Formatter<W>) -> fmt::Result {
         let bad = self.0;
@@ -88,19 +90,20 @@ impl fmt::Display for Missing<'_> {
             Word(&bad.shown),
             hint(bad.hint),
             bad.fault.word,
-            form(bad.form)
+            self.1
         )
     }
 }
 
+/// A word too many, and the form of the line.
 #[derive(Clone, Copy)]
-struct Extra<'a>(&'a BadWord);
+pub(crate) struct Extra<'a>(pub(crate) &'a BadWord, pub(crate) &'static str);
 
 impl fmt::Display for Extra<'_> {
     ghost use Rattle.std.specs.Prelude.{Some};
     ghost use Rattle.cx_line_help.specs.Wrong.{extra_text};
 
-    ghost output = { λ wrong. Some (extra_text wrong.0.now) };
+    ghost output = { λ wrong. Some (extra_text wrong.0.now wrong.1.now) };
 
     fn fmt<W: fmt::Write>(&self, f: &mut fmt::Formatter<W>) -> fmt::Result {
         let bad = self.0;
@@ -110,19 +113,24 @@ impl fmt::Display for Extra<'_> {
             bad.fault.word,
             Word(&bad.shown),
             hint(bad.hint),
-            form(bad.form)
+            self.1
         )
     }
 }
 
+/// A word that is wrong at its place, what is wrong with it, and the form of the line.
 #[derive(Clone, Copy)]
-struct Problem<'a>(&'a BadWord);
+pub(crate) struct Problem<'a>(
+    pub(crate) &'a BadWord,
+    pub(crate) &'static str,
+    pub(crate) &'static str,
+);
 
 impl fmt::Display for Problem<'_> {
     ghost use Rattle.std.specs.Prelude.{Some};
     ghost use Rattle.cx_line_help.specs.Wrong.{problem_text};
 
-    ghost output = { λ wrong. Some (problem_text wrong.0.now) };
+    ghost output = { λ wrong. Some (problem_text wrong.0.now wrong.1.now wrong.2.now) };
 
     fn fmt<W: fmt::Write>(&self, f: &mut fmt::Formatter<W>) -> fmt::Result {
         let bad = self.0;
@@ -131,9 +139,9 @@ impl fmt::Display for Problem<'_> {
             "word {}, {}, {}{}{}",
             bad.fault.word,
             Word(&bad.shown),
-            problem(bad),
+            self.1,
             hint(bad.hint),
-            form(bad.form)
+            self.2
         )
     }
 }

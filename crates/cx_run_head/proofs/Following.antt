@@ -27,7 +27,8 @@ use Rattle.cx_line_words.specs.Known.{nothing}
 use Rattle.cx_line_words.specs.Named.{is_among}
 use Rattle.cx_line_words.specs.Values.{SpellsItems}
 use Rattle.cx_run.specs.Opening.{Declared, Setup, plain_setup, principal_of, set_up, set_up_by, set_up_line}
-use Rattle.cx_schedule.specs.Files.{Adds, Lines, Said, line_words, numbered}
+use Rattle.cx_schedule.specs.Files.{Adds, Lines, Said, numbered}
+use Rattle.cx_schedule.specs.Grammars.{line_words}
 use Rattle.cx_run_head.specs.Beginning.{MayFollow, MaySay}
 use Rattle.cx_run_head.proofs.Changing.{changed_if}
 use Rattle.cx_run_head.proofs.Naming.{same_name_sym}

@@ -1,1 +1,5 @@
+pub mod Drills
 pub mod Files
+pub mod Grammars
+pub mod NodeFiles
+pub mod NodeLines

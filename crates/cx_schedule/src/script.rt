@@ -3,7 +3,8 @@
 ghost use Rattle.std.specs.Prelude.{ℕ, ◌≡◌, ◌+◌, ◌≤◌, List, [], ◌∷◌, ◌++◌, length, IfOk, IfErr, OnOk, OnErr, IsTrue};
 ghost use Rattle.std.specs.List.{list_all};
 ghost use Rattle.cx_words.specs.Cutting.{lines_of, IsShort};
-ghost use Rattle.cx_schedule.specs.Files.{Adds, IsFileLineCause, IsFirstOutside, IsReason, IsScheduleCause, Lines, Refuses, RefusesAt, groups, line_words};
+ghost use Rattle.cx_schedule.specs.Files.{Adds, IsFileLineCause, IsFirstOutside, IsReason, IsScheduleCause, Lines, Refuses, RefusesAt};
+ghost use Rattle.cx_schedule.specs.Grammars.{groups, line_words};
 ghost use Rattle.cx_lines.specs.Knowing.{known_of};
 ghost use Rattle.cx_lines.specs.Lines.{Spells, is_numbered_in_range};
 ghost use Rattle.cx_lines.specs.Refusals.{IsLineCause};
@@ -146,7 +147,7 @@ fn append(
 }
 
 /// Whether quotation marks group the words of this line.
-fn groups(line: &[u8]) -> bool
+pub(crate) fn groups(line: &[u8]) -> bool
     ensures { result ≡ groups line.now }
 {
     line.starts_with(b"entity ")

@@ -4,7 +4,11 @@
 #[cfg(test)]
 mod base;
 #[cfg(test)]
+mod drill;
+#[cfg(test)]
 mod journal;
+#[cfg(test)]
+mod node_scripts;
 #[cfg(test)]
 mod schedule;
 #[cfg(test)]
