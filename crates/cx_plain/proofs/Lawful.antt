@@ -21,7 +21,7 @@ use Rattle.cx_journal.specs.declared.outcomes.TicketFault.TheVariants as fault
 use Rattle.cx_base.specs.declared.grants.Grant.{Grant}
 use Rattle.cx_plain.specs.declared.lines.PlainLine.{PlainLine}
 use Rattle.cx_plain.specs.declared.lines.PlainLine.TheVariants as line
-use Rattle.cx_plain.specs.declared.nodes.Node.{Node}
+use Rattle.cx_plain.specs.declared.nodes.PlainNode.{PlainNode}
 use Rattle.cx_plain.specs.declared.nodes.SessionPlace.{SessionPlace}
 use Rattle.cx_plain.specs.declared.nodes.Session.{Session}
 use Rattle.cx_plain.specs.declared.state.Run.{Run}
@@ -41,11 +41,11 @@ declared-keeps r name grants holds =
     holds-nodes r.journal r.nodes (r.nodes ++ new_node name grants ∷ []) holds
     (all-push (IsSound r.cookies r.journal) r.nodes (new_node name grants) holds.sound (record { wallet = empty-genuine r.journal name; sessions = tt }))
 
-login-keeps : {handlers : Handlers} (r : Run) (name : Name) (asked : List EntityType) (node : Option Node) → node_of r name ≡ node → HoldsRun handlers r → HoldsRun handlers (login r name node asked)
+login-keeps : {handlers : Handlers} (r : Run) (name : Name) (asked : List EntityType) (node : Option PlainNode) → node_of r name ≡ node → HoldsRun handlers r → HoldsRun handlers (login r name node asked)
 login-keeps r name asked None e holds = holds
 login-keeps r name asked (Some node) e holds = entered-keeps r name node asked holds (found r name node holds e)
 
-arriving-keeps : {handlers : Handlers} (r : Run) (name : Name) (node : Node) (has_entered : Bool) → IsFound r name node → HoldsRun handlers r → HoldsRun handlers (arriving r name node has_entered)
+arriving-keeps : {handlers : Handlers} (r : Run) (name : Name) (node : PlainNode) (has_entered : Bool) → IsFound r name node → HoldsRun handlers r → HoldsRun handlers (arriving r name node has_entered)
 arriving-keeps r name node true is_found holds = holds
 arriving-keeps r name node false is_found holds = entered-keeps r name node [] holds is_found
 
@@ -57,12 +57,12 @@ viewing-keeps : {handlers : Handlers} (r : Run) (daemon : Name) → HoldsRun han
 unfolding viewing
 viewing-keeps r daemon holds =
     let view : View = record { generations = list_of r.monitor.kept daemon.kind; asked = Some r.reading } in
-    let change : Node → Node = λ n. record n { view = view } in
-    let nodes : List Node = changed (is_named daemon) change r.nodes in
+    let change : PlainNode → PlainNode = λ n. record n { view = view } in
+    let nodes : List PlainNode = changed (is_named daemon) change r.nodes in
     let kept = all-changed (IsSound r.cookies r.journal) (is_named daemon) change (λ n is s. record { wallet = s.wallet; sessions = s.sessions }) r.nodes holds.sound in
     holds-push r.journal nodes _ (holds-nodes r.journal r.nodes nodes holds kept) tt tt tt tt tt
 
-fetch-keeps : {handlers : Handlers} (r : Run) (name : Name) (node : Option Node) → node_of r name ≡ node → HoldsRun handlers r → HoldsRun handlers (fetch r name node)
+fetch-keeps : {handlers : Handlers} (r : Run) (name : Name) (node : Option PlainNode) → node_of r name ≡ node → HoldsRun handlers r → HoldsRun handlers (fetch r name node)
 fetch-keeps r name None e holds = holds
 fetch-keeps r name (Some node) e holds =
     viewing-keeps _ name (renewing-keeps _ (arriving-keeps r name node node.has_entered (found r name node holds e) holds))
@@ -113,8 +113,8 @@ admitting-keeps r client daemon admitted ticket holds genuine live =
     let behind = holds-drawn journal r.nodes
     (holds-push r.journal r.nodes (entry.Admitted admission) holds
     (ticket, genuine.0, record { entity = genuine.1; gid = refl; caps = refl; service = genuine.2; live = live }) tt tt tt new) in
-    let count : Node → Node = λ n. record n { admitted = at.number } in
-    let add : Node → Node = λ n. record n { sessions = n.sessions ++ session ∷ [] } in
+    let count : PlainNode → PlainNode = λ n. record n { admitted = at.number } in
+    let add : PlainNode → PlainNode = λ n. record n { sessions = n.sessions ++ session ∷ [] } in
     let was : WasAdmitted at.cookie journal session = record {
       before = r.journal;
       admission = admission;
@@ -158,7 +158,7 @@ presenting-keeps r client daemon view admitted ticket genuine holds =
     let on : Run = record r { links = link } in
     judged-keeps on client daemon view admitted link ticket (has_generation view.generations ticket.generation) (nat_le ticket.expires r.reading) refl refl genuine holds
 
-meeting-keeps : {handlers : Handlers} (r : Run) (client daemon : Name) (node : Option Node) (ticket : Issued) → IsGenuine r.journal client daemon.kind (Some ticket) → HoldsRun handlers r → HoldsRun handlers (meeting r client daemon node ticket)
+meeting-keeps : {handlers : Handlers} (r : Run) (client daemon : Name) (node : Option PlainNode) (ticket : Issued) → IsGenuine r.journal client daemon.kind (Some ticket) → HoldsRun handlers r → HoldsRun handlers (meeting r client daemon node ticket)
 meeting-keeps r client daemon None ticket genuine holds = holds
 meeting-keeps r client daemon (Some node) ticket genuine holds = presenting-keeps r client daemon node.view node.admitted ticket genuine holds
 
@@ -167,14 +167,14 @@ unfolding refusing
 showing-keeps r client daemon None genuine holds = holds-push r.journal r.nodes _ holds tt tt tt tt tt
 showing-keeps r client daemon (Some ticket) genuine holds = meeting-keeps r client daemon (node_of r daemon) ticket genuine holds
 
-calling-keeps : {handlers : Handlers} (r : Run) (client daemon : Name) (node : Node) (session : Option Session) → IsFound r client node → HoldsRun handlers r → HoldsRun handlers (calling r client daemon node session)
+calling-keeps : {handlers : Handlers} (r : Run) (client daemon : Name) (node : PlainNode) (session : Option Session) → IsFound r client node → HoldsRun handlers r → HoldsRun handlers (calling r client daemon node session)
 unfolding refusing
 calling-keeps r client daemon node (Some session) is_found holds = holds-push r.journal r.nodes _ holds tt tt tt tt tt
 calling-keeps r client daemon node None is_found holds =
     let held : HoldsGenuine r.journal client node.wallet = rw (← is_found.named) is_found.sound.wallet in
     showing-keeps r client daemon (held_of node.wallet daemon.kind) (held-genuine r.journal client node.wallet daemon.kind held) holds
 
-connect-keeps : {handlers : Handlers} (r : Run) (client daemon : Name) (node : Option Node) → node_of r client ≡ node → HoldsRun handlers r → HoldsRun handlers (connect r client node daemon)
+connect-keeps : {handlers : Handlers} (r : Run) (client daemon : Name) (node : Option PlainNode) → node_of r client ≡ node → HoldsRun handlers r → HoldsRun handlers (connect r client node daemon)
 connect-keeps r client daemon None e holds = holds
 connect-keeps r client daemon (Some node) e holds =
     calling-keeps r client daemon node (find (is_with daemon) node.sessions) (found r client node holds e) holds
@@ -185,7 +185,7 @@ with_seq-keeps : {handlers : Handlers} (r : Run) (client daemon : Name) (seq : �
 unfolding with_seq
 with_seq-keeps r client daemon seq holds =
     let raise : Session → Session = λ s. record s { place = record s.place { seq = seq } } in
-    let change : Node → Node = λ n. record n { sessions = changed (is_with daemon) raise n.sessions } in
+    let change : PlainNode → PlainNode = λ n. record n { sessions = changed (is_with daemon) raise n.sessions } in
     let raised : (s : Session) → is_with daemon s ≡ true → WasAdmitted r.cookies r.journal s → WasAdmitted r.cookies r.journal (raise s) =
     λ s is was. record {
       before = was.before;
@@ -221,14 +221,14 @@ delivering-keeps handlers r client daemon session operation was is_daemon holds 
     (handled-enforced handlers r.cookies after_sent session daemon at.seq operation was_then is_daemon) tt in
     holds-push (after_sent ++ handled ∷ []) on.nodes (answered_at client daemon at ended) second tt tt tt tt tt
 
-sending-keeps : (handlers : Handlers) (r : Run) (client daemon : Name) (node : Node) (session : Option Session) (operation : Operation) → find (is_with daemon) node.sessions ≡ session → IsFound r client node → HoldsRun handlers r → HoldsRun handlers (sending handlers r client daemon session operation)
+sending-keeps : (handlers : Handlers) (r : Run) (client daemon : Name) (node : PlainNode) (session : Option Session) (operation : Operation) → find (is_with daemon) node.sessions ≡ session → IsFound r client node → HoldsRun handlers r → HoldsRun handlers (sending handlers r client daemon session operation)
 unfolding refusing
 sending-keeps handlers r client daemon node None operation e is_found holds = holds-push r.journal r.nodes _ holds tt tt tt tt tt
 sending-keeps handlers r client daemon node (Some session) operation e is_found holds =
     let facts = all-find (WasAdmitted r.cookies r.journal) (is_with daemon) node.sessions session is_found.sound.sessions e in
     delivering-keeps handlers r client daemon session operation facts.0 (same_name_is session.daemon daemon facts.1) holds
 
-send-keeps : (handlers : Handlers) (r : Run) (client daemon : Name) (node : Option Node) (operation : Operation) → node_of r client ≡ node → HoldsRun handlers r → HoldsRun handlers (send handlers r client node daemon operation)
+send-keeps : (handlers : Handlers) (r : Run) (client daemon : Name) (node : Option PlainNode) (operation : Operation) → node_of r client ≡ node → HoldsRun handlers r → HoldsRun handlers (send handlers r client node daemon operation)
 send-keeps handlers r client daemon None operation e holds = holds
 send-keeps handlers r client daemon (Some node) operation e holds =
     sending-keeps handlers r client daemon node (find (is_with daemon) node.sessions) operation refl (found r client node holds e) holds

@@ -24,7 +24,7 @@ use Rattle.cx_journal.specs.declared.entries.Admitted.{Admitted}
 use Rattle.cx_journal.specs.declared.entries.Handled.{Handled}
 use Rattle.cx_journal.specs.declared.outcomes.Outcome.{Outcome}
 use Rattle.cx_journal.specs.declared.outcomes.Outcome.TheVariants as outcome
-use Rattle.cx_plain.specs.declared.nodes.Node.{Node}
+use Rattle.cx_plain.specs.declared.nodes.PlainNode.{PlainNode}
 use Rattle.cx_plain.specs.declared.nodes.Session.{Session}
 use Rattle.cx_plain.specs.declared.wallets.Wallet.{Wallet}
 use Rattle.cx_plain.specs.Nodes.{held_of, holding_as}
@@ -73,12 +73,12 @@ pub record WasAdmitted (cookies : ℕ) (journal : List Entry) (session : Session
   pub cookie : admission.cookie ≡ session.place.cookie
   pub caps : admission.caps ≡ session.caps
 
-pub record IsSound (cookies : ℕ) (journal : List Entry) (node : Node) : Type 0 where
+pub record IsSound (cookies : ℕ) (journal : List Entry) (node : PlainNode) : Type 0 where
   pub wallet : HoldsGenuine journal node.name node.wallet
   pub sessions : AllByRecursion (WasAdmitted cookies journal) node.sessions
 
 -- the four laws hold of the journal, and the entities hold what it says
-pub record Holds (handlers : Handlers) (cookies : ℕ) (journal : List Entry) (nodes : List Node) : Type 0 where
+pub record Holds (handlers : Handlers) (cookies : ℕ) (journal : List Entry) (nodes : List PlainNode) : Type 0 where
   pub backed : EachBehind IsBackedBy [] journal
   pub in_session : EachBehind IsInSessionBy [] journal
   pub keeps_keys : EachBehind KeepsKeysBy [] journal
@@ -131,7 +131,7 @@ admitted-more cookies journal e new session was = record {
   caps = was.caps;
 }
 
-sound-more : (cookies : ℕ) (journal : List Entry) (e : Entry) → IsNew cookies e → (node : Node) → IsSound cookies journal node → IsSound cookies (journal ++ e ∷ []) node
+sound-more : (cookies : ℕ) (journal : List Entry) (e : Entry) → IsNew cookies e → (node : PlainNode) → IsSound cookies journal node → IsSound cookies (journal ++ e ∷ []) node
 sound-more cookies journal e new node sound = record {
   wallet = wallet-more journal (e ∷ []) node.name node.wallet sound.wallet;
   sessions =
@@ -140,7 +140,7 @@ sound-more cookies journal e new node sound = record {
 }
 
 -- one entry more, of which the four laws hold, and which admits no session of a cookie that was drawn
-pub holds-push : {handlers : Handlers} {cookies : ℕ} (journal : List Entry) (nodes : List Node) (e : Entry) → Holds handlers cookies journal nodes → IsBackedBy journal e → IsInSessionBy journal e → KeepsKeysBy journal e → IsEnforcedBy (serves handlers) journal e → IsNew cookies e → Holds handlers cookies (journal ++ e ∷ []) nodes
+pub holds-push : {handlers : Handlers} {cookies : ℕ} (journal : List Entry) (nodes : List PlainNode) (e : Entry) → Holds handlers cookies journal nodes → IsBackedBy journal e → IsInSessionBy journal e → KeepsKeysBy journal e → IsEnforcedBy (serves handlers) journal e → IsNew cookies e → Holds handlers cookies (journal ++ e ∷ []) nodes
 holds-push {handlers} {cookies} journal nodes e holds backed in_session keeps_keys enforced new = record {
   backed = EachBehind-append IsBackedBy [] journal (e ∷ []) holds.backed (backed, tt);
   in_session = EachBehind-append IsInSessionBy [] journal (e ∷ []) holds.in_session (in_session, tt);
@@ -150,7 +150,7 @@ holds-push {handlers} {cookies} journal nodes e holds backed in_session keeps_ke
 }
 
 -- other entities of which what is held is sound
-pub holds-nodes : {handlers : Handlers} {cookies : ℕ} (journal : List Entry) (nodes others : List Node) → Holds handlers cookies journal nodes → AllByRecursion (IsSound cookies journal) others → Holds handlers cookies journal others
+pub holds-nodes : {handlers : Handlers} {cookies : ℕ} (journal : List Entry) (nodes others : List PlainNode) → Holds handlers cookies journal nodes → AllByRecursion (IsSound cookies journal) others → Holds handlers cookies journal others
 holds-nodes journal nodes others holds sound = record {
   backed = holds.backed;
   in_session = holds.in_session;
@@ -175,13 +175,13 @@ admitted-drawn cookies journal session was = record {
   caps = was.caps;
 }
 
-pub sound-drawn : (cookies : ℕ) (journal : List Entry) (node : Node) → IsSound cookies journal node → IsSound (cookies + 1) journal node
+pub sound-drawn : (cookies : ℕ) (journal : List Entry) (node : PlainNode) → IsSound cookies journal node → IsSound (cookies + 1) journal node
 sound-drawn cookies journal node sound = record {
   wallet = sound.wallet;
   sessions = all-weaker (WasAdmitted cookies journal) (WasAdmitted (cookies + 1) journal) (admitted-drawn cookies journal) node.sessions sound.sessions;
 }
 
-pub holds-drawn : {handlers : Handlers} {cookies : ℕ} (journal : List Entry) (nodes : List Node) → Holds handlers cookies journal nodes → Holds handlers (cookies + 1) journal nodes
+pub holds-drawn : {handlers : Handlers} {cookies : ℕ} (journal : List Entry) (nodes : List PlainNode) → Holds handlers cookies journal nodes → Holds handlers (cookies + 1) journal nodes
 holds-drawn {handlers} {cookies} journal nodes holds = record {
   backed = holds.backed;
   in_session = holds.in_session;

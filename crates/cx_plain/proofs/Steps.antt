@@ -9,7 +9,7 @@ use Rattle.cx_journal.specs.declared.entries.Entry.{Entry}
 use Rattle.cx_journal.specs.declared.entries.Entry.TheVariants as entry
 use Rattle.cx_journal.specs.declared.entries.Issued.{Issued}
 use Rattle.cx_plain.specs.declared.monitors.Monitor.{Monitor}
-use Rattle.cx_plain.specs.declared.nodes.Node.{Node}
+use Rattle.cx_plain.specs.declared.nodes.PlainNode.{PlainNode}
 use Rattle.cx_plain.specs.declared.state.Run.{Run}
 use Rattle.cx_plain.specs.declared.tickets.Terms.{Terms}
 use Rattle.cx_plain.specs.declared.tickets.UnderWay.{UnderWay}
@@ -25,11 +25,11 @@ use Rattle.cx_plain.proofs.Laws.{HoldsGenuine, IsSound, Holds, wallet-more, hold
 -- ---- issuing tickets
 
 -- while tickets are issued to an entity the laws hold, and what it holds is genuine
-record Granted (handlers : Handlers) (cookies : ℕ) (nodes : List Node) (name : Name) (s : UnderWay) : Type 0 where
+record Granted (handlers : Handlers) (cookies : ℕ) (nodes : List PlainNode) (name : Name) (s : UnderWay) : Type 0 where
   pub holds : Holds handlers cookies s.journal nodes
   pub wallet : HoldsGenuine s.journal name s.wallet
 
-issuing-keeps : {handlers : Handlers} {cookies : ℕ} (nodes : List Node) (terms : Terms) (name : Name) (caps : List ℕ) (service : EntityType) (s : UnderWay) → Granted handlers cookies nodes name s → Granted handlers cookies nodes name (issuing terms name caps service s)
+issuing-keeps : {handlers : Handlers} {cookies : ℕ} (nodes : List PlainNode) (terms : Terms) (name : Name) (caps : List ℕ) (service : EntityType) (s : UnderWay) → Granted handlers cookies nodes name s → Granted handlers cookies nodes name (issuing terms name caps service s)
 unfolding issuing ticket_of
 issuing-keeps nodes terms name caps service s granted =
     let ticket : Issued = ticket_of terms name caps service (s.issued + 1) in
@@ -40,7 +40,7 @@ issuing-keeps nodes terms name caps service s granted =
           (wallet-more s.journal (entry.Issued ticket ∷ []) name s.wallet granted.wallet) (contains-last s.journal (entry.Issued ticket)) refl refl;
     }
 
-issuing_with-keeps : {handlers : Handlers} {cookies : ℕ} (nodes : List Node) (terms : Terms) (name : Name) (caps : Option (List ℕ)) (service : EntityType) (s : UnderWay) → Granted handlers cookies nodes name s → Granted handlers cookies nodes name (issuing_with terms name caps service s)
+issuing_with-keeps : {handlers : Handlers} {cookies : ℕ} (nodes : List PlainNode) (terms : Terms) (name : Name) (caps : Option (List ℕ)) (service : EntityType) (s : UnderWay) → Granted handlers cookies nodes name s → Granted handlers cookies nodes name (issuing_with terms name caps service s)
 issuing_with-keeps nodes terms name None service s granted = granted
 issuing_with-keeps nodes terms name (Some caps) service s granted = issuing-keeps nodes terms name caps service s granted
 
@@ -48,13 +48,13 @@ choose : (P : UnderWay → Type 0) (b : Bool) (s t : UnderWay) → P s → P t �
 choose P true s t p q = p
 choose P false s t p q = q
 
-issuing_asked-keeps : {handlers : Handlers} {cookies : ℕ} (nodes : List Node) (terms : Terms) (node : Node) (asked : List EntityType) (service : EntityType) (s : UnderWay) → Granted handlers cookies nodes node.name s → Granted handlers cookies nodes node.name (issuing_asked terms node asked service s)
+issuing_asked-keeps : {handlers : Handlers} {cookies : ℕ} (nodes : List PlainNode) (terms : Terms) (node : PlainNode) (asked : List EntityType) (service : EntityType) (s : UnderWay) → Granted handlers cookies nodes node.name s → Granted handlers cookies nodes node.name (issuing_asked terms node asked service s)
 unfolding issuing_asked
 issuing_asked-keeps {handlers} {cookies} nodes terms node asked service s granted =
     choose (Granted handlers cookies nodes node.name) (list_any (λ a. same_kind a service) asked) (issuing_with terms node.name (caps_of node.grants service) service s) s
     (issuing_with-keeps nodes terms node.name (caps_of node.grants service) service s granted) granted
 
-issuing_all-keeps : {handlers : Handlers} {cookies : ℕ} (nodes : List Node) (terms : Terms) (node : Node) (asked : List EntityType) (s : UnderWay) → Granted handlers cookies nodes node.name s → Granted handlers cookies nodes node.name (issuing_all terms node asked s)
+issuing_all-keeps : {handlers : Handlers} {cookies : ℕ} (nodes : List PlainNode) (terms : Terms) (node : PlainNode) (asked : List EntityType) (s : UnderWay) → Granted handlers cookies nodes node.name s → Granted handlers cookies nodes node.name (issuing_all terms node asked s)
 unfolding issuing_all
 issuing_all-keeps nodes terms node asked s granted =
     issuing_asked-keeps nodes terms node asked Mgr _
@@ -64,11 +64,11 @@ issuing_all-keeps nodes terms node asked s granted =
 -- ---- entering
 
 -- what a save enters keeps the laws
-pub saved-holds : {handlers : Handlers} {cookies : ℕ} (journal : List Entry) (nodes : List Node) (m : Monitor) → Holds handlers cookies journal nodes → Holds handlers cookies (journal ++ saved_entries m) nodes
+pub saved-holds : {handlers : Handlers} {cookies : ℕ} (journal : List Entry) (nodes : List PlainNode) (m : Monitor) → Holds handlers cookies journal nodes → Holds handlers cookies (journal ++ saved_entries m) nodes
 unfolding saved_entries
 saved-holds journal nodes m holds = saved_at journal nodes m (same_kept m.kept m.saved) holds
   where
-    saved_at : {handlers : Handlers} {cookies : ℕ} (journal : List Entry) (nodes : List Node) (m : Monitor) (b : Bool) → Holds handlers cookies journal nodes → Holds handlers cookies (journal ++ cond b [] (entry.Saved m.kept.next_gid ∷ [])) nodes
+    saved_at : {handlers : Handlers} {cookies : ℕ} (journal : List Entry) (nodes : List PlainNode) (m : Monitor) (b : Bool) → Holds handlers cookies journal nodes → Holds handlers cookies (journal ++ cond b [] (entry.Saved m.kept.next_gid ∷ [])) nodes
     saved_at journal nodes m true holds = rw (append-nil journal) holds
     saved_at journal nodes m false holds = holds-push journal nodes (entry.Saved m.kept.next_gid) holds tt tt tt tt tt
 
@@ -76,11 +76,11 @@ saved-wallet : (journal : List Entry) (m : Monitor) (name : Name) (wallet : Wall
 saved-wallet journal m name wallet held = wallet-more journal (saved_entries m) name wallet held
 
 -- behind an entrance the laws hold, and what the entity was given is genuine
-record Welcomed (handlers : Handlers) (cookies : ℕ) (nodes : List Node) (name : Name) (journal : List Entry) (wallet : Wallet) : Type 0 where
+record Welcomed (handlers : Handlers) (cookies : ℕ) (nodes : List PlainNode) (name : Name) (journal : List Entry) (wallet : Wallet) : Type 0 where
   pub holds : Holds handlers cookies journal nodes
   pub held : HoldsGenuine journal name wallet
 
-granting-keeps : {handlers : Handlers} {cookies : ℕ} (nodes : List Node) (now : ℕ) (node : Node) (asked : List EntityType) (m : Monitor) (gid : ℕ) (wallet : Wallet) (journal : List Entry) → Holds handlers cookies journal nodes → HoldsGenuine journal node.name wallet → Welcomed handlers cookies nodes node.name (granting now node asked m gid wallet journal).journal (granting now node asked m gid wallet journal).wallet
+granting-keeps : {handlers : Handlers} {cookies : ℕ} (nodes : List PlainNode) (now : ℕ) (node : PlainNode) (asked : List EntityType) (m : Monitor) (gid : ℕ) (wallet : Wallet) (journal : List Entry) → Holds handlers cookies journal nodes → HoldsGenuine journal node.name wallet → Welcomed handlers cookies nodes node.name (granting now node asked m gid wallet journal).journal (granting now node asked m gid wallet journal).wallet
 unfolding granting
 granting-keeps nodes now node asked m gid wallet journal holds held =
     let start : UnderWay = record { issued = m.issued; wallet = wallet; journal = journal ++ saved_entries m } in
@@ -88,7 +88,7 @@ granting-keeps nodes now node asked m gid wallet journal holds held =
     (record { holds = saved-holds journal nodes m holds; wallet = saved-wallet journal m node.name wallet held }) in
     record { holds = granted.holds; held = granted.wallet }
 
-with_gid-keeps : {handlers : Handlers} {cookies : ℕ} (nodes : List Node) (now : ℕ) (node : Node) (asked : List EntityType) (m : Monitor) (keeps : Option ℕ) (journal : List Entry) → Holds handlers cookies journal nodes → HoldsGenuine journal node.name node.wallet → Welcomed handlers cookies nodes node.name (with_gid now node asked m keeps journal).journal (with_gid now node asked m keeps journal).wallet
+with_gid-keeps : {handlers : Handlers} {cookies : ℕ} (nodes : List PlainNode) (now : ℕ) (node : PlainNode) (asked : List EntityType) (m : Monitor) (keeps : Option ℕ) (journal : List Entry) → Holds handlers cookies journal nodes → HoldsGenuine journal node.name node.wallet → Welcomed handlers cookies nodes node.name (with_gid now node asked m keeps journal).journal (with_gid now node asked m keeps journal).wallet
 with_gid-keeps nodes now node asked m None journal holds held =
     granting-keeps nodes now node asked (record m { kept = record m.kept { next_gid = m.kept.next_gid + 1 } }) m.kept.next_gid empty_wallet journal holds
     (empty-genuine journal node.name)
@@ -99,22 +99,22 @@ abbrev pub HoldsRun : Handlers → Run → Type 0
 HoldsRun handlers r = Holds handlers r.cookies r.journal r.nodes
 
 -- an entity is found by its name, and what it holds is sound
-pub record IsFound (r : Run) (name : Name) (node : Node) : Type 0 where
+pub record IsFound (r : Run) (name : Name) (node : PlainNode) : Type 0 where
   pub named : node.name ≡ name
   pub sound : IsSound r.cookies r.journal node
 
-pub found : {handlers : Handlers} (r : Run) (name : Name) (node : Node) → HoldsRun handlers r → node_of r name ≡ Some node → IsFound r name node
+pub found : {handlers : Handlers} (r : Run) (name : Name) (node : PlainNode) → HoldsRun handlers r → node_of r name ≡ Some node → IsFound r name node
 found r name node holds e =
     let facts = all-find (IsSound r.cookies r.journal) (is_named name) r.nodes node holds.sound e in
     record { named = same_name_is node.name name facts.1; sound = facts.0 }
 
 -- the entity of this name has another wallet
-with_wallet-sound : (cookies : ℕ) (journal : List Entry) (name : Name) (nodes : List Node) (wallet : Wallet) → HoldsGenuine journal name wallet → AllByRecursion (IsSound cookies journal) nodes → AllByRecursion (IsSound cookies journal) (changed (is_named name) (λ (n : Node). record n { wallet = wallet; has_entered = true }) nodes)
+with_wallet-sound : (cookies : ℕ) (journal : List Entry) (name : Name) (nodes : List PlainNode) (wallet : Wallet) → HoldsGenuine journal name wallet → AllByRecursion (IsSound cookies journal) nodes → AllByRecursion (IsSound cookies journal) (changed (is_named name) (λ (n : PlainNode). record n { wallet = wallet; has_entered = true }) nodes)
 with_wallet-sound cookies journal name nodes wallet held sound =
-    all-changed (IsSound cookies journal) (is_named name) (λ (n : Node). record n { wallet = wallet; has_entered = true })
+    all-changed (IsSound cookies journal) (is_named name) (λ (n : PlainNode). record n { wallet = wallet; has_entered = true })
     (λ n is (s : IsSound cookies journal n). record { wallet = rw (same_name_is n.name name is) held; sessions = s.sessions }) nodes sound
 
-pub entered-keeps : {handlers : Handlers} (r : Run) (name : Name) (node : Node) (asked : List EntityType) → HoldsRun handlers r → IsFound r name node → HoldsRun handlers (entered r name node asked)
+pub entered-keeps : {handlers : Handlers} (r : Run) (name : Name) (node : PlainNode) (asked : List EntityType) → HoldsRun handlers r → IsFound r name node → HoldsRun handlers (entered r name node asked)
 unfolding entered welcoming
 entered-keeps r name node asked holds is_found =
     let on : Monitor = rotating r.reading r.monitor in

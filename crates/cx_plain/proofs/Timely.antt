@@ -15,7 +15,7 @@ use Rattle.cx_plain.specs.PlainLines.{is_plain_in_range}
 use Rattle.cx_plain.specs.declared.lines.PlainLine.{PlainLine}
 use Rattle.cx_plain.specs.declared.lines.PlainLine.TheVariants as line
 use Rattle.cx_plain.specs.declared.monitors.Monitor.{Monitor}
-use Rattle.cx_plain.specs.declared.nodes.Node.{Node}
+use Rattle.cx_plain.specs.declared.nodes.PlainNode.{PlainNode}
 use Rattle.cx_plain.specs.declared.nodes.Session.{Session}
 use Rattle.cx_plain.specs.declared.state.Run.{Run}
 use Rattle.cx_plain.specs.Monitors.{IsTimely}
@@ -27,18 +27,18 @@ record SameLives (a b : Monitor) : Type 0 where
   pub life : a.life ≡ b.life
   pub auth_life : a.auth_life ≡ b.auth_life
 
-with_gid-lives : (now : ℕ) (node : Node) (asked : List EntityType) (m : Monitor) (keeps : Option ℕ) (journal : List Entry) → SameLives (with_gid now node asked m keeps journal).monitor m
+with_gid-lives : (now : ℕ) (node : PlainNode) (asked : List EntityType) (m : Monitor) (keeps : Option ℕ) (journal : List Entry) → SameLives (with_gid now node asked m keeps journal).monitor m
 unfolding granting
 with_gid-lives now node asked m None journal = record { life = refl; auth_life = refl }
 with_gid-lives now node asked m (Some gid) journal = record { life = refl; auth_life = refl }
 
-welcoming-lives : (now : ℕ) (node : Node) (asked : List EntityType) (m : Monitor) (journal : List Entry) → SameLives (welcoming now node asked m journal).monitor m
+welcoming-lives : (now : ℕ) (node : PlainNode) (asked : List EntityType) (m : Monitor) (journal : List Entry) → SameLives (welcoming now node asked m journal).monitor m
 unfolding welcoming rotating
 welcoming-lives now node asked m journal =
     let same = with_gid-lives now node asked (rotating now m) (kept_gid now (rotating now m).kept.auth node.wallet.auth) journal in
     record { life = same.life; auth_life = same.auth_life }
 
-pub welcoming-timely : (now : ℕ) (node : Node) (asked : List EntityType) (m : Monitor) (journal : List Entry) → IsTimely now m.life m.auth_life → IsTimely now (welcoming now node asked m journal).monitor.life (welcoming now node asked m journal).monitor.auth_life
+pub welcoming-timely : (now : ℕ) (node : PlainNode) (asked : List EntityType) (m : Monitor) (journal : List Entry) → IsTimely now m.life m.auth_life → IsTimely now (welcoming now node asked m journal).monitor.life (welcoming now node asked m journal).monitor.auth_life
 welcoming-timely now node asked m journal timely =
     let same = welcoming-lives now node asked m journal in
     rw (same.life, same.auth_life) timely
@@ -53,21 +53,21 @@ record SameTimes (a b : Run) : Type 0 where
 kept : (a b : Run) → SameTimes a b → IsTimelyRun b → IsTimelyRun a
 kept a b same timely = rw (same.reading, same.life, same.auth_life) timely
 
-entered-times : (r : Run) (name : Name) (node : Node) (asked : List EntityType) → SameTimes (entered r name node asked) r
+entered-times : (r : Run) (name : Name) (node : PlainNode) (asked : List EntityType) → SameTimes (entered r name node asked) r
 unfolding entered
 entered-times r name node asked =
     let same = welcoming-lives r.reading node asked r.monitor r.journal in
     record { reading = refl; life = same.life; auth_life = same.auth_life }
 
-login-times : (r : Run) (name : Name) (node : Option Node) (asked : List EntityType) → SameTimes (login r name node asked) r
+login-times : (r : Run) (name : Name) (node : Option PlainNode) (asked : List EntityType) → SameTimes (login r name node asked) r
 login-times r name None asked = record { reading = refl; life = refl; auth_life = refl }
 login-times r name (Some node) asked = entered-times r name node asked
 
-arriving-times : (r : Run) (name : Name) (node : Node) (has_entered : Bool) → SameTimes (arriving r name node has_entered) r
+arriving-times : (r : Run) (name : Name) (node : PlainNode) (has_entered : Bool) → SameTimes (arriving r name node has_entered) r
 arriving-times r name node true = record { reading = refl; life = refl; auth_life = refl }
 arriving-times r name node false = entered-times r name node []
 
-fetch-times : (r : Run) (name : Name) (node : Option Node) → SameTimes (fetch r name node) r
+fetch-times : (r : Run) (name : Name) (node : Option PlainNode) → SameTimes (fetch r name node) r
 unfolding viewing renewing rotating
 fetch-times r name None = record { reading = refl; life = refl; auth_life = refl }
 fetch-times r name (Some node) =
@@ -87,7 +87,7 @@ presenting-times r client daemon view admitted ticket =
     judging-times (looking (record r { links = link }) daemon link view) client daemon view admitted link ticket (ticket_fault r.reading view ticket) in
     record { reading = same.reading; life = same.life; auth_life = same.auth_life }
 
-meeting-times : (r : Run) (client daemon : Name) (node : Option Node) (ticket : Issued) → SameTimes (meeting r client daemon node ticket) r
+meeting-times : (r : Run) (client daemon : Name) (node : Option PlainNode) (ticket : Issued) → SameTimes (meeting r client daemon node ticket) r
 meeting-times r client daemon None ticket = record { reading = refl; life = refl; auth_life = refl }
 meeting-times r client daemon (Some node) ticket = presenting-times r client daemon node.view node.admitted ticket
 
@@ -96,12 +96,12 @@ unfolding refusing
 showing-times r client daemon None = record { reading = refl; life = refl; auth_life = refl }
 showing-times r client daemon (Some ticket) = meeting-times r client daemon (node_of r daemon) ticket
 
-calling-times : (r : Run) (client daemon : Name) (node : Node) (session : Option Session) → SameTimes (calling r client daemon node session) r
+calling-times : (r : Run) (client daemon : Name) (node : PlainNode) (session : Option Session) → SameTimes (calling r client daemon node session) r
 unfolding refusing
 calling-times r client daemon node (Some session) = record { reading = refl; life = refl; auth_life = refl }
 calling-times r client daemon node None = showing-times r client daemon (held_of node.wallet daemon.kind)
 
-connect-times : (r : Run) (client : Name) (node : Option Node) (daemon : Name) → SameTimes (connect r client node daemon) r
+connect-times : (r : Run) (client : Name) (node : Option PlainNode) (daemon : Name) → SameTimes (connect r client node daemon) r
 connect-times r client None daemon = record { reading = refl; life = refl; auth_life = refl }
 connect-times r client (Some node) daemon = calling-times r client daemon node (find (is_with daemon) node.sessions)
 
@@ -110,7 +110,7 @@ unfolding refusing delivering with_seq
 sending-times handlers r client daemon None operation = record { reading = refl; life = refl; auth_life = refl }
 sending-times handlers r client daemon (Some session) operation = record { reading = refl; life = refl; auth_life = refl }
 
-send-times : (handlers : Handlers) (r : Run) (client : Name) (node : Option Node) (daemon : Name) (operation : Operation) → SameTimes (send handlers r client node daemon operation) r
+send-times : (handlers : Handlers) (r : Run) (client : Name) (node : Option PlainNode) (daemon : Name) (operation : Operation) → SameTimes (send handlers r client node daemon operation) r
 send-times handlers r client None daemon operation = record { reading = refl; life = refl; auth_life = refl }
 send-times handlers r client (Some node) daemon operation = sending-times handlers r client daemon (find (is_with daemon) node.sessions) operation
 

@@ -6,7 +6,7 @@ use Rattle.cx_base.specs.declared.kinds.EntityType.TheVariants.{Mon, Mds, Osd, C
 use Rattle.cx_base.specs.declared.grants.Grant.{Grant}
 use Rattle.cx_journal.specs.declared.entries.Issued.{Issued}
 use Rattle.cx_plain.specs.declared.wallets.Wallet.{Wallet}
-use Rattle.cx_plain.specs.declared.nodes.Node.{Node}
+use Rattle.cx_plain.specs.declared.nodes.PlainNode.{PlainNode}
 use Rattle.cx_plain.specs.declared.nodes.Session.{Session}
 
 -- no tickets
@@ -36,7 +36,7 @@ abbrev pub holding : Wallet → Issued → Wallet
 holding wallet ticket = holding_as wallet ticket ticket.service
 
 -- whether a node has this name
-abbrev pub is_named : Name → Node → Bool
+abbrev pub is_named : Name → PlainNode → Bool
 is_named name node = same_name node.name name
 
 -- whether a session is with this daemon
@@ -44,7 +44,7 @@ abbrev pub is_with : Name → Session → Bool
 is_with daemon session = same_name session.daemon daemon
 
 -- an entity that was just declared
-abbrev pub new_node : Name → List Grant → Node
+abbrev pub new_node : Name → List Grant → PlainNode
 new_node name grants = record {
   name = name;
   grants = grants;

@@ -35,7 +35,7 @@ use Rattle.cx_plain.specs.Monitors.{list_of, rotated_kept, fresh_kept, current_i
 use Rattle.cx_plain.specs.Nodes.{empty_wallet, held_of, holding, is_named, is_with, new_node}
 use Rattle.cx_plain.specs.declared.monitors.Monitor.{Monitor}
 use Rattle.cx_plain.specs.declared.wallets.Wallet.{Wallet}
-use Rattle.cx_plain.specs.declared.nodes.Node.{Node}
+use Rattle.cx_plain.specs.declared.nodes.PlainNode.{PlainNode}
 use Rattle.cx_plain.specs.declared.nodes.SessionPlace.{SessionPlace}
 use Rattle.cx_plain.specs.declared.nodes.Session.{Session}
 use Rattle.cx_plain.specs.declared.tickets.Terms.{Terms}
@@ -60,7 +60,7 @@ abbrev pub IsTimelyRun : Run → Type 0
 IsTimelyRun r = IsTimely r.reading r.monitor.life r.monitor.auth_life
 
 -- the entity of this name
-abbrev pub node_of : Run → Name → Option Node
+abbrev pub node_of : Run → Name → Option PlainNode
 node_of r name = find (is_named name) r.nodes
 
 -- ---- what is entered into the journal
@@ -145,7 +145,7 @@ issuing_with terms entity None service s = s
 issuing_with terms entity (Some caps) service s = issuing terms entity caps service s
 
 -- the same where the service was asked for; nothing is issued where it was not
-unfoldable pub issuing_asked : Terms → Node → List EntityType → EntityType → UnderWay → UnderWay
+unfoldable pub issuing_asked : Terms → PlainNode → List EntityType → EntityType → UnderWay → UnderWay
 issuing_asked terms node asked service s =
     if list_any (λ a. same_kind a service) asked
     then issuing_with terms node.name (caps_of node.grants service) service s
@@ -156,14 +156,14 @@ abbrev pub ticket_services : List EntityType
 ticket_services = Mds ∷ Osd ∷ Mgr ∷ []
 
 -- for AUTH, then for the asked services in their order
-unfoldable pub issuing_all : Terms → Node → List EntityType → UnderWay → UnderWay
+unfoldable pub issuing_all : Terms → PlainNode → List EntityType → UnderWay → UnderWay
 issuing_all terms node asked s =
     fold (λ under_way service. issuing_asked terms node asked service under_way) (issuing terms node.name [] Auth s) ticket_services
 
 -- ---- entering
 
 -- the state is saved and the tickets are issued, on top of those that the entity holds still
-unfoldable pub granting : ℕ → Node → List EntityType → Monitor → ℕ → Wallet → List Entry → Welcome
+unfoldable pub granting : ℕ → PlainNode → List EntityType → Monitor → ℕ → Wallet → List Entry → Welcome
 granting now node asked m gid wallet journal =
     let start : UnderWay = record { issued = m.issued; wallet = wallet; journal = journal ++ saved_entries m } in
     let done : UnderWay = issuing_all (terms_of now m gid) node asked start in
@@ -171,19 +171,19 @@ granting now node asked m gid wallet journal =
 
 -- where the entity keeps its global id, it keeps its tickets; else it takes the mark, which rises by one, and forgets its
 -- older tickets of every service
-abbrev pub with_gid : ℕ → Node → List EntityType → Monitor → Option ℕ → List Entry → Welcome
+abbrev pub with_gid : ℕ → PlainNode → List EntityType → Monitor → Option ℕ → List Entry → Welcome
 with_gid now node asked m (Some gid) journal = granting now node asked m gid node.wallet journal
 with_gid now node asked m None journal =
     granting now node asked (record m { kept = record m.kept { next_gid = m.kept.next_gid + 1 } }) m.kept.next_gid empty_wallet journal
 
 -- an entity enters at the monitor and asks for tickets of these services
-unfoldable pub welcoming : ℕ → Node → List EntityType → Monitor → List Entry → Welcome
+unfoldable pub welcoming : ℕ → PlainNode → List EntityType → Monitor → List Entry → Welcome
 welcoming now node asked m journal =
     let on : Monitor = rotating now m in
     with_gid now node asked on (kept_gid now on.kept.auth node.wallet.auth) journal
 
 -- the next link number is used, and the entity of this name holds what it was given
-unfoldable pub entered : Run → Name → Node → List EntityType → Run
+unfoldable pub entered : Run → Name → PlainNode → List EntityType → Run
 entered r name node asked =
     let w : Welcome = welcoming r.reading node asked r.monitor r.journal in
     record r {
@@ -196,7 +196,7 @@ entered r name node asked =
 -- ---- the lines
 
 -- a client logs in
-abbrev pub login : Run → Name → Option Node → List EntityType → Run
+abbrev pub login : Run → Name → Option PlainNode → List EntityType → Run
 login r name None asked = r
 login r name (Some client) asked = entered r name client asked
 
@@ -217,12 +217,12 @@ renewing r =
     record r { monitor = saving on; journal = r.journal ++ saved_entries on }
 
 -- an entity that never entered does so, and asks for no service
-abbrev pub arriving : Run → Name → Node → Bool → Run
+abbrev pub arriving : Run → Name → PlainNode → Bool → Run
 arriving r name node true = r
 arriving r name node false = entered r name node []
 
 -- a daemon fetches: it enters with no service if it never did, and the lists rotate
-abbrev pub fetch : Run → Name → Option Node → Run
+abbrev pub fetch : Run → Name → Option PlainNode → Run
 fetch r name None = r
 fetch r name (Some daemon) = viewing (renewing (arriving r name daemon daemon.has_entered)) name
 
@@ -281,7 +281,7 @@ presenting r client daemon view admitted ticket =
     judging (looking (record r { links = link }) daemon link view) client daemon view admitted link ticket (ticket_fault r.reading view ticket)
 
 -- the same with the view of the daemon of that name
-abbrev pub meeting : Run → Name → Name → Option Node → Issued → Run
+abbrev pub meeting : Run → Name → Name → Option PlainNode → Issued → Run
 meeting r client daemon None ticket = r
 meeting r client daemon (Some node) ticket = presenting r client daemon node.view node.admitted ticket
 
@@ -291,12 +291,12 @@ showing r client daemon None = refusing r client 0 (reason.NoTicket daemon.kind)
 showing r client daemon (Some ticket) = meeting r client daemon (node_of r daemon) ticket
 
 -- a client that has a session with the daemon is refused
-abbrev pub calling : Run → Name → Name → Node → Option Session → Run
+abbrev pub calling : Run → Name → Name → PlainNode → Option Session → Run
 calling r client daemon node (Some session) = refusing r client 0 reason.Busy
 calling r client daemon node None = showing r client daemon (held_of node.wallet daemon.kind)
 
 -- a client connects to a daemon
-abbrev pub connect : Run → Name → Option Node → Name → Run
+abbrev pub connect : Run → Name → Option PlainNode → Name → Run
 connect r client None daemon = r
 connect r client (Some node) daemon = calling r client daemon node (find (is_with daemon) node.sessions)
 
@@ -358,7 +358,7 @@ sending handlers r client daemon (Some session) operation =
     delivering r client daemon session.place operation (outcome_of handlers session.caps operation)
 
 -- a client sends an operation to a daemon
-abbrev pub send : Handlers → Run → Name → Option Node → Name → Operation → Run
+abbrev pub send : Handlers → Run → Name → Option PlainNode → Name → Operation → Run
 send handlers r client None daemon operation = r
 send handlers r client (Some node) daemon operation = sending handlers r client daemon (find (is_with daemon) node.sessions) operation
 

@@ -6,7 +6,7 @@ ghost use Rattle.cx_plain.specs.Plain.{rotating, saving, saved_entries, kept_gid
 
 use crate::counts::next;
 use crate::monitors::{Monitor, has_generation};
-use crate::nodes::Node;
+use crate::nodes::PlainNode;
 use crate::tickets::{Terms, UnderWay, issue_all};
 use crate::wallets::Wallet;
 use cx_base::{Duplicate, EntityType, Reading};
@@ -68,7 +68,7 @@ fn kept_gid(now: Reading, auth: Generations, held: &Option<Issued>) -> Option<u6
 fn grant(
     alloc: Global,
     now: Reading,
-    node: &Node,
+    node: &PlainNode,
     asked: &[EntityType],
     welcome: Welcome,
     gid: u64,
@@ -115,7 +115,7 @@ fn grant(
 pub(crate) fn enter(
     alloc: Global,
     now: Reading,
-    node: &Node,
+    node: &PlainNode,
     asked: &[EntityType],
     monitor: Monitor,
     journal: Journal,
@@ -136,7 +136,7 @@ pub(crate) fn enter(
 fn enter_anew(
     alloc: Global,
     now: Reading,
-    node: &Node,
+    node: &PlainNode,
     asked: &[EntityType],
     mut monitor: Monitor,
     journal: Journal,
@@ -158,7 +158,7 @@ fn enter_anew(
 fn enter_again(
     alloc: Global,
     now: Reading,
-    node: &Node,
+    node: &PlainNode,
     asked: &[EntityType],
     monitor: Monitor,
     gid: u64,

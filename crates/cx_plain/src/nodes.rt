@@ -98,7 +98,7 @@ fn set_seq(sessions: &mut [Session], daemon: &EntityName, seq: u64)
 
 /// An entity of the run with all that it holds.
 #[derive(Drop)]
-pub(crate) struct Node {
+pub(crate) struct PlainNode {
     pub name: EntityName,
     /// The caps texts that the monitor has for the entity.
     pub grants: Items<Grant>,
@@ -113,12 +113,12 @@ pub(crate) struct Node {
     pub admitted: u64,
 }
 
-impl Node {
+impl PlainNode {
     /// An entity that was just declared.
-    pub(crate) fn new(alloc: Global, name: EntityName, grants: Items<Grant>) -> Node
+    pub(crate) fn new(alloc: Global, name: EntityName, grants: Items<Grant>) -> PlainNode
         ensures { result ≡ new_node name grants }
     {
-        Node {
+        PlainNode {
             name,
             grants,
             wallet: Wallet::empty(),
@@ -135,38 +135,38 @@ impl Node {
 
 /// The entities in the order of their declaration.
 #[derive(Drop)]
-pub(crate) struct Nodes {
-    held: Vec<Node>,
+pub(crate) struct PlainNodes {
+    held: Vec<PlainNode>,
 }
 
-impl Model for Nodes {
+impl Model for PlainNodes {
     ghost use Rattle.std.specs.Prelude.{List};
-    ghost use Rattle.cx_plain.specs.declared.nodes.Node.{Node};
+    ghost use Rattle.cx_plain.specs.declared.nodes.PlainNode.{PlainNode};
 
-    ghost Value = { List Node };
+    ghost Value = { List PlainNode };
 
     ghost view = { λ n. n.held.items };
 }
 
-impl Nodes {
+impl PlainNodes {
     /// No entities.
-    pub(crate) fn new(alloc: Global) -> Nodes
+    pub(crate) fn new(alloc: Global) -> PlainNodes
         ensures { result ≡ [] }
     {
-        Nodes {
+        PlainNodes {
             held: Vec::new(alloc),
         }
     }
 
     /// The entity of this name.
-    pub(crate) fn find(&self, name: &EntityName) -> Option<&Node>
+    pub(crate) fn find(&self, name: &EntityName) -> Option<&PlainNode>
         ensures { option_copied result ≡ find (is_named name.now) self.now }
     {
         self.held.iter().find(|node| node.name == *name)
     }
 
     /// Puts an entity last.
-    pub(crate) fn push(&mut self, node: Node) -> Result<(), AllocError>
+    pub(crate) fn push(&mut self, node: PlainNode) -> Result<(), AllocError>
         ensures { OnOk result (self.new ≡ self.old ++ node ∷ []) }
     {
         self.held.push(node)?;
@@ -213,14 +213,14 @@ impl Nodes {
     }
 }
 
-fn place_of(nodes: &[Node], name: &EntityName) -> Option<usize>
+fn place_of(nodes: &[PlainNode], name: &EntityName) -> Option<usize>
     ensures { result ≡ position (is_named name.now) nodes.now }
 {
     nodes.iter().position(|node| node.name == *name)
 }
 
 #[tactic(auto, using(crate::proofs::Changed::changed_none))]
-fn set_wallet(nodes: &mut [Node], name: &EntityName, wallet: Wallet)
+fn set_wallet(nodes: &mut [PlainNode], name: &EntityName, wallet: Wallet)
     ensures { nodes.new ≡ changed (is_named name.now) (λ n. record n { wallet = wallet; has_entered = true }) nodes.old }
 {
     if let Some(place) = place_of(nodes, name) {
@@ -231,7 +231,7 @@ fn set_wallet(nodes: &mut [Node], name: &EntityName, wallet: Wallet)
 }
 
 #[tactic(auto, using(crate::proofs::Changed::changed_none))]
-fn set_view(nodes: &mut [Node], name: &EntityName, view: View)
+fn set_view(nodes: &mut [PlainNode], name: &EntityName, view: View)
     ensures { nodes.new ≡ changed (is_named name.now) (λ n. record n { view = view }) nodes.old }
 {
     if let Some(place) = place_of(nodes, name) {
@@ -240,7 +240,7 @@ fn set_view(nodes: &mut [Node], name: &EntityName, view: View)
 }
 
 #[tactic(auto, using(crate::proofs::Changed::changed_none))]
-fn set_admitted(nodes: &mut [Node], name: &EntityName, count: u64)
+fn set_admitted(nodes: &mut [PlainNode], name: &EntityName, count: u64)
     ensures { nodes.new ≡ changed (is_named name.now) (λ n. record n { admitted = count }) nodes.old }
 {
     if let Some(place) = place_of(nodes, name) {
@@ -249,7 +249,11 @@ fn set_admitted(nodes: &mut [Node], name: &EntityName, count: u64)
 }
 
 #[tactic(auto, using(crate::proofs::Changed::changed_none))]
-fn add_session(nodes: &mut [Node], name: &EntityName, session: Session) -> Result<(), AllocError>
+fn add_session(
+    nodes: &mut [PlainNode],
+    name: &EntityName,
+    session: Session,
+) -> Result<(), AllocError>
     ensures { OnOk result (nodes.new ≡ changed (is_named name.now) (λ n. record n { sessions = n.sessions ++ session ∷ [] }) nodes.old) }
 {
     if let Some(place) = place_of(nodes, name) {
@@ -260,7 +264,7 @@ fn add_session(nodes: &mut [Node], name: &EntityName, session: Session) -> Resul
 }
 
 #[tactic(auto, using(crate::proofs::Changed::changed_none))]
-fn set_node_seq(nodes: &mut [Node], name: &EntityName, daemon: &EntityName, seq: u64)
+fn set_node_seq(nodes: &mut [PlainNode], name: &EntityName, daemon: &EntityName, seq: u64)
     ensures { nodes.new ≡ changed (is_named name.now) (λ n. record n { sessions = changed (is_with daemon.now) (λ s. record s { place = record s.place { seq = seq } }) n.sessions }) nodes.old }
 {
     if let Some(place) = place_of(nodes, name) {

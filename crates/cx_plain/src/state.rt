@@ -9,7 +9,7 @@ use crate::desks::{caps_text, handle};
 use crate::entrance::{Welcome, enter, enter_save, rotated};
 use crate::lines::PlainLine;
 use crate::monitors::{Kept, Monitor, has_generation};
-use crate::nodes::{Node, Nodes, Session, SessionPlace};
+use crate::nodes::{PlainNode, PlainNodes, Session, SessionPlace};
 use cx_base::{
     Blob, Duplicate, EntityName, EntityType, Grant, Items, NodeName, Operation, Reading, SECOND,
     Text, copy_items,
@@ -32,7 +32,7 @@ pub(crate) struct Run {
     /// How many links were opened and cookies drawn.
     pub links: u32,
     pub cookies: u64,
-    pub nodes: Nodes,
+    pub nodes: PlainNodes,
     pub journal: Journal,
 }
 
@@ -57,7 +57,7 @@ impl Run {
             monitor,
             links: 0,
             cookies: 0,
-            nodes: Nodes::new(alloc),
+            nodes: PlainNodes::new(alloc),
             journal: Journal::new(alloc),
         }
     }
@@ -496,7 +496,7 @@ impl Run {
     {
         let name = name.copy(alloc)?;
         let grants = copy_items(alloc, grants)?;
-        self.nodes.push(Node::new(alloc, name, grants))
+        self.nodes.push(PlainNode::new(alloc, name, grants))
     }
 }
 

@@ -9,7 +9,7 @@ ghost use Rattle.cx_plain.specs.Monitors.{IsTimely};
 
 use crate::counts::next;
 use crate::monitors::{Kept, current_id};
-use crate::nodes::Node;
+use crate::nodes::PlainNode;
 use crate::wallets::Wallet;
 use cx_base::{Blob, Duplicate, EntityName, EntityType, Grant, Reading, Text};
 use cx_journal::{Entry, Issued, Journal};
@@ -110,7 +110,7 @@ fn issue(
 fn issue_asked(
     alloc: Global,
     terms: &Terms,
-    node: &Node,
+    node: &PlainNode,
     asked: &[EntityType],
     service: EntityType,
     under_way: &mut UnderWay,
@@ -132,7 +132,7 @@ fn issue_asked(
 pub(crate) fn issue_all(
     alloc: Global,
     terms: &Terms,
-    node: &Node,
+    node: &PlainNode,
     asked: &[EntityType],
     under_way: &mut UnderWay,
 ) -> Result<(), AllocError>

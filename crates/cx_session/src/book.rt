@@ -5,7 +5,7 @@ ghost use Rattle.std.specs.Option.{option_copied, option_map};
 ghost use Rattle.cx_session.specs.Book.{empty_book, IsInOrder, with_number, with_client_cookie, with_cookies};
 
 use crate::numbers::Numbers;
-use crate::places::Places;
+use crate::places::ByNumber;
 use crate::session::Session;
 use std::alloc::Global;
 use std::collections::BTreeMap;
@@ -16,7 +16,7 @@ use std::marker::Model;
 pub struct SessionBook<O> {
     pub(crate) next: u64,
     pub(crate) count: usize,
-    pub(crate) places: Places<O>,
+    pub(crate) places: ByNumber<O>,
     pub(crate) numbers: Numbers,
     pub(crate) room: Option<u64>,
 }

@@ -13,10 +13,10 @@ use std::alloc::AllocError;
 use std::collections::BTreeMap;
 
 // The sessions by their numbers; the place of the next number may stand empty.
-pub(crate) type Places<O> = BTreeMap<u64, Option<Session<O>>>;
+pub(crate) type ByNumber<O> = BTreeMap<u64, Option<Session<O>>>;
 
 // Makes the place of the next number ready.
-pub(crate) fn make_ready<O: Drop>(places: &mut Places<O>, next: u64) -> Result<(), AllocError>
+pub(crate) fn make_ready<O: Drop>(places: &mut ByNumber<O>, next: u64) -> Result<(), AllocError>
     requires placed { IsPlaced next places.old.entries }
     requires was_ordered { IsOrdered nat_cmp places.old }
     ensures sessions { sessions places.new.entries ≡ sessions places.old.entries }
@@ -33,7 +33,7 @@ pub(crate) fn make_ready<O: Drop>(places: &mut Places<O>, next: u64) -> Result<(
 }
 
 // Puts a session into the place that is ready for it.
-pub(crate) fn fill<O: Drop>(places: &mut Places<O>, session: Session<O>)
+pub(crate) fn fill<O: Drop>(places: &mut ByNumber<O>, session: Session<O>)
     requires placed { IsPlaced session.number places.old.entries }
     requires was_ordered { IsOrdered nat_cmp places.old }
     requires there { IsSome (get nat_cmp places.old session.number) }
@@ -44,7 +44,7 @@ pub(crate) fn fill<O: Drop>(places: &mut Places<O>, session: Session<O>)
     put(places, session);
 }
 
-fn put<O: Drop>(places: &mut Places<O>, session: Session<O>)
+fn put<O: Drop>(places: &mut ByNumber<O>, session: Session<O>)
     requires { IsSome (get nat_cmp places.old session.number) }
     ensures entries { places.new.entries ≡ set_value (is_at (nat_cmp session.number)) places.old.entries (Some session) }
     ensures ordered { IsOrdered nat_cmp places.new }
@@ -55,7 +55,7 @@ fn put<O: Drop>(places: &mut Places<O>, session: Session<O>)
 }
 
 // Raises the last message taken of the session in this place.
-pub(crate) fn raise<O: Drop>(places: &mut Places<O>, number: u64, seq: u64)
+pub(crate) fn raise<O: Drop>(places: &mut ByNumber<O>, number: u64, seq: u64)
     ensures entries { IfSome (get nat_cmp places.old number) (λ place. places.new.entries ≡ set_value (is_at (nat_cmp number)) places.old.entries (option_map (raised seq) place)) }
     ensures ordered { IsOrdered nat_cmp places.new }
 {
@@ -74,7 +74,7 @@ fn raise_in<O>(place: &mut Option<Session<O>>, seq: u64)
 
 // Gives the session in this place to its owner again, in a new epoch.
 pub(crate) fn renew<O: Drop>(
-    places: &mut Places<O>,
+    places: &mut ByNumber<O>,
     number: u64,
     owner: O,
     global_seq: u64,

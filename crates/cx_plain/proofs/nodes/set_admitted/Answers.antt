@@ -1,10 +1,10 @@
 -- The first one of that name is changed.
 use Rattle.std.proofs.Common.{sym}
 use Rattle.cx_plain.specs.Nodes.{is_named}
-use Rattle.cx_plain.specs.declared.nodes.Node.{Node}
+use Rattle.cx_plain.specs.declared.nodes.PlainNode.{PlainNode}
 use Rattle.cx_plain.proofs.Changed.{changed_at}
 use Rattle.cx_plain.proofs.nodes.set_admitted.Goals as goal
 
 pub returns-in-Some : goal.returns-in-Some
 returns-in-Some c =
-    sym (changed_at (is_named c.args.name.now) (λ (n : Node). record n { admitted = c.args.count }) c.args.nodes.now c.in-Some.place c.index-nodes-place.result cc)
+    sym (changed_at (is_named c.args.name.now) (λ (n : PlainNode). record n { admitted = c.args.count }) c.args.nodes.now c.in-Some.place c.index-nodes-place.result cc)
