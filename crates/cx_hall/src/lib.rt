@@ -10,6 +10,8 @@ mod owners;
 mod pass;
 mod rule;
 mod seated;
+#[cfg(test)]
+mod tests;
 
 use cx_base::Owner;
 pub use entry::HallEntry;
