@@ -4,7 +4,6 @@ use Rattle.std.specs.Prelude.{if◌then◌else◌, nat_eq}
 use Rattle.std.proofs.lemmas.Bool.Decides.{nat_tests}
 use Rattle.std.proofs.lemmas.List.{append-nil}
 use Rattle.cx_base.specs.Names.{Name}
-use Rattle.cx_session.specs.declared.call.BookCall.{BookCall}
 use Rattle.cx_session.specs.Book.{Book}
 use Rattle.cx_session.specs.Answers.{replied, after}
 use Rattle.cx_hall.specs.declared.entry.HallEntry.{HallEntry}

@@ -1,5 +1,5 @@
 -- The laws of a hall's history.
-use Rattle.std.proofs.Common.{◌≡◌, ◌⊎◌, ℕ, List, [], ◌∷◌, ◌++◌, map, Bool, true, refl, sym, ◌∙◌, subst, inl, inr, ⊎_elim}
+use Rattle.std.proofs.Common.{◌⊎◌, ℕ, List, [], ◌∷◌, map, refl, sym, ◌∙◌, subst, inl, inr, ⊎_elim}
 use mathlib.Core.List.{IsPrefix}
 use Rattle.cx_base.specs.Names.{Name}
 use Rattle.cx_session.specs.declared.call.BookCall.{BookCall}

@@ -1,11 +1,10 @@
 -- What a pass is to a contract, and what a call makes of it.
-use Rattle.std.specs.Prelude.{ℕ, ◌≡◌, ◌+◌, List, [], ◌∷◌, ◌++◌, length, map, nat_eq, if◌then◌else◌}
+use Rattle.std.specs.Prelude.{ℕ, ◌≡◌, ◌+◌, List, [], ◌∷◌, ◌++◌, length, nat_eq, if◌then◌else◌}
 use mathlib.Core.List.{IsPrefix}
 use Rattle.cx_base.specs.Names.{Name}
 use Rattle.cx_session.specs.declared.call.BookCall.{BookCall}
 use Rattle.cx_session.specs.declared.call.BookCall.TheVariants.{Check}
 use Rattle.cx_session.specs.declared.call.BookReply.{BookReply}
-use Rattle.cx_session.specs.declared.call.BookReply.TheVariants as reply
 use Rattle.cx_hall.specs.declared.entry.HallEntry.{HallEntry}
 use Rattle.cx_hall.specs.History.{entry, reply_behind}
 

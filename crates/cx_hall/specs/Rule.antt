@@ -1,5 +1,5 @@
 -- The rule of the word that counts the history, and what each step makes of what its seat knew.
-use Rattle.std.specs.Prelude.{ℕ, ◌≡◌, ◌≤◌, List, [], ◌∷◌, ◌++◌, length, Bool, true, false}
+use Rattle.std.specs.Prelude.{ℕ, ◌≡◌, ◌≤◌, List, [], ◌∷◌, ◌++◌, length, true, false}
 use mathlib.Core.Option.{Option, some, none}
 use mathlib.Core.List.{IsPrefix}
 use lib.ListN.{get_elem?}

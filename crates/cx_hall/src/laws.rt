@@ -1,7 +1,12 @@
-//! Laws of a hall's history, which crates above may rest on.
+//! Laws of passes and of a hall's history, which crates above may rest on.
 
+ghost use Rattle.std.specs.Prelude.{◌≡◌};
+ghost use Rattle.cx_hall.specs.History.{HallHistory};
+ghost use Rattle.cx_hall.specs.Passes.{own};
 ghost use Rattle.cx_hall.specs.Lawful.{SawOneHistory, NumbersPasses, IsAnsweredAsTold};
 
+use crate::pass::Pass;
+use crate::rule::HallName;
 use cx_base::Owner;
 use cx_session::told_laws;
 
@@ -13,4 +18,13 @@ pub fn hall_laws<O: Owner>()
     ensures told { IsAnsweredAsTold O.entity_of O.gid_of O.caps_of O.reading_of }
 {
     told_laws::<O>();
+}
+
+/// Of every pass: what it has seen is a history, in which its own entries are all that have its number, at the places where they
+/// stand.
+pub fn pass_laws<O: Owner, N: HallName>(pass: &Pass<O, N>)
+    ensures history { HallHistory O.entity_of O.gid_of pass.now.seen }
+    ensures own { own pass.now.number 0 pass.now.seen ≡ pass.now.mine }
+{
+    let _ = &pass.badge;
 }

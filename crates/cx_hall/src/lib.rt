@@ -10,11 +10,13 @@ mod owners;
 mod pass;
 mod rule;
 mod seated;
+#[cfg(test)]
+mod tests;
 
 use cx_base::Owner;
 pub use entry::HallEntry;
 pub use hall::{Hall, UnnamedHall};
-pub use laws::hall_laws;
+pub use laws::{hall_laws, pass_laws};
 pub use pass::{Pass, Receipt};
 pub use rule::{HallName, HallTable, Knowledge};
 pub use seated::Seated;

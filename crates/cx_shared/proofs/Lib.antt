@@ -1,3 +1,4 @@
+pub mod Crossing
 pub mod Lawful
 pub mod Prefixes
 pub mod Renews

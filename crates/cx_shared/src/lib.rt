@@ -18,15 +18,15 @@ pub use refusals::RenewRefusal;
 pub use sharing::share;
 pub use writer::{SecretsWriter, Told};
 
-// Each public type may be sent to another thread, and those that are plain data may be seen by several.
+// Each public type may be sent to another thread, and each but the writer may be seen by several.
 fn is_sendable<T: Send>() {}
 
 fn is_shareable<T: Send + Sync>() {}
 
 fn all_are_sendable() {
-    is_sendable::<SecretsReader>();
     is_sendable::<SecretsWriter>();
-    is_sendable::<Told>();
+    is_shareable::<SecretsReader>();
+    is_shareable::<Told>();
     is_shareable::<Look>();
     is_shareable::<RenewRefusal>();
 }

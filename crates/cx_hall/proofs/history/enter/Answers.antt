@@ -1,4 +1,4 @@
-use Rattle.std.proofs.Common.{◌≡◌, ◌+◌, [], ◌∷◌, ◌++◌, length, length-append, refl, arith, sym, ap, ◌∙◌}
+use Rattle.std.proofs.Common.{◌+◌, length, refl, arith, sym, ap, ◌∙◌}
 use Rattle.cx_hall.proofs.Moves.{takes_over, adds, hands_back}
 use Rattle.cx_hall.proofs.history.enter.Goals as goal
 

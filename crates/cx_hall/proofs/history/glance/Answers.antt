@@ -1,4 +1,4 @@
-use Rattle.std.proofs.Common.{◌≡◌, arith, sym, ap, ◌∙◌}
+use Rattle.std.proofs.Common.{arith, sym, ap, ◌∙◌}
 use Rattle.cx_hall.proofs.Moves.{takes_over, looks, hands_back}
 use Rattle.cx_hall.proofs.history.glance.Goals as goal
 
