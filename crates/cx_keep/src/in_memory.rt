@@ -11,28 +11,28 @@ use std::marker::Model;
 
 // A slot in memory. What doesn't stand there yet has room here.
 #[derive(Debug, Drop)]
-struct Place {
+struct HeldSlot {
     bytes: Vec<u8>,
     is_filled: bool,
 }
 
-impl Place {
+impl HeldSlot {
     ghost use Rattle.cx_keep.specs.Held.{held_of};
 
     // A slot with these bytes, if any, and with room for so many.
-    fn new(alloc: Global, filled: Option<Blob>, room: usize) -> Result<Place, AllocError>
+    fn new(alloc: Global, filled: Option<Blob>, room: usize) -> Result<HeldSlot, AllocError>
         ensures held { IfOk result (λ place. held_of place ≡ filled) }
         ensures room { IfOk result (λ place. room ≤ vec_capacity place.bytes) }
     {
         let mut bytes = Vec::with_capacity(alloc, room)?;
         match filled {
-            None => Ok(Place {
+            None => Ok(HeldSlot {
                 bytes,
                 is_filled: false,
             }),
             Some(blob) => {
                 bytes.extend_from_slice(blob.bytes())?;
-                Ok(Place {
+                Ok(HeldSlot {
                     bytes,
                     is_filled: true,
                 })
@@ -79,8 +79,8 @@ impl Place {
 /// fails leaves the new bytes where `leaves_new` was said and they fit, else the old ones.
 #[derive(Debug, Drop)]
 pub struct VecKeeper {
-    keyring: Place,
-    state: Place,
+    keyring: HeldSlot,
+    state: HeldSlot,
     room: usize,
     fails: Blob,
     leaves_new: bool,
@@ -128,8 +128,8 @@ impl VecKeeper {
           faults = 0;
         }) }
     {
-        let keyring = Place::new(alloc, keyring, room)?;
-        let state = Place::new(alloc, state, room)?;
+        let keyring = HeldSlot::new(alloc, keyring, room)?;
+        let state = HeldSlot::new(alloc, state, room)?;
         Ok(VecKeeper {
             keyring,
             state,
