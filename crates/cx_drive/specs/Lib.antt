@@ -1,2 +1,3 @@
-pub mod Stops
+pub mod Courses
 pub mod Steps
+pub mod Stops

@@ -2,13 +2,19 @@
 #![tactic(auto)]
 
 mod carrying;
+mod driving;
 mod dues;
+mod ends;
+mod flow;
 mod machine;
 mod peers;
 mod steps;
 mod stops;
 
+pub use driving::drive;
 pub use dues::Due;
+pub use ends::{Driven, Ended};
+pub use flow::Order;
 pub use machine::Machine;
 pub use peers::{DaemonAt, Peers};
 pub use steps::{Stepped, perform};
