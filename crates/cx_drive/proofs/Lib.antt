@@ -1,0 +1,4 @@
+mod Loops
+mod Ordered
+mod Performing
+mod Running

@@ -1,0 +1,91 @@
+-- Sends, opens and shuts grow one by one.
+use Rattle.std.proofs.Common.{ℕ, ◌≡◌, ◌<◌, ◌+◌, Bool, List, [], ◌∷◌, ◌++◌, map, take, length, get_or, Option, refl, sym, ap, ◌∙◌, subst, append_assoc, append-nil}
+use Rattle.std.proofs.lemmas.List.{take_more}
+use Rattle.cx_drive.specs.Steps.{Opening, Sending, address_of, are_gone, gone_behind, lost_acts, open_act, open_acts, open_due, open_dues, opening, saved_acts, send_act, send_acts, sending, shut_acts, with_send}
+use Rattle.cx_drive.specs.Stops.{Carried, HandedOut, Opens, Sends}
+use Rattle.cx_drive.specs.declared.dues.Due.{Due}
+use Rattle.cx_drive.specs.declared.peers.Peers.{Peers}
+use Rattle.cx_links.specs.Acts.{Shut}
+use Rattle.cx_site.specs.Acts.{Act, Linked}
+use Rattle.cx_steps.specs.declared.effects.Effects.{Effects}
+use Rattle.cx_steps.specs.declared.effects.Piece.{Piece}
+use Rattle.cx_steps.specs.declared.events.Peer.{Peer}
+
+map_push : {X Y : Type 0} → (f : X → Y) (xs : List X) (x : X) → map f (xs ++ x ∷ []) ≡ map f xs ++ f x ∷ []
+map_push f [] x = refl
+map_push f (y ∷ xs) x = ap (λ k. f y ∷ k) (map_push f xs x)
+
+gone_push : (gone : List Due) (ss : List Sending) (s : Sending)
+    → gone_behind gone (ss ++ s ∷ []) ≡ with_send (are_gone (gone_behind gone ss) s.piece.link) (gone_behind gone ss) s
+gone_push gone [] s = refl
+gone_push gone (x ∷ ss) s = gone_push (with_send (are_gone gone x.piece.link) gone x) ss s
+
+sends_push : (gone : List Due) (ss : List Sending) (s : Sending)
+    → send_acts gone (ss ++ s ∷ []) ≡ send_acts gone ss ++ send_act (are_gone (gone_behind gone ss) s.piece.link) s
+sends_push gone [] s = append-nil (send_act (are_gone gone s.piece.link) s)
+sends_push gone (x ∷ ss) s =
+    let next : List Due = with_send (are_gone gone x.piece.link) gone x in
+    ap (λ k. send_act (are_gone gone x.piece.link) x ++ k) (sends_push next ss s)
+    ∙ sym (append_assoc (send_act (are_gone gone x.piece.link) x) (send_acts next ss) (send_act (are_gone (gone_behind next ss) s.piece.link) s))
+
+opens_push : (peers : Peers) (os : List Opening) (o : Opening) → open_acts peers (os ++ o ∷ []) ≡ open_acts peers os ++ open_act (address_of peers o.peer) o
+opens_push peers [] o = append-nil (open_act (address_of peers o.peer) o)
+opens_push peers (x ∷ os) o =
+    ap (λ k. open_act (address_of peers x.peer) x ++ k) (opens_push peers os o)
+    ∙ sym (append_assoc (open_act (address_of peers x.peer) x) (open_acts peers os) (open_act (address_of peers o.peer) o))
+
+open_dues_push : (peers : Peers) (os : List Opening) (o : Opening) → open_dues peers (os ++ o ∷ []) ≡ open_dues peers os ++ open_due (address_of peers o.peer) o ∷ []
+open_dues_push peers [] o = refl
+open_dues_push peers (x ∷ os) o = ap (λ k. open_due (address_of peers x.peer) x ∷ k) (open_dues_push peers os o)
+
+module _ {D : Type 0} (follows : D → D → List Act → Type 0)
+    (goes_on : (a b c : D) (xs ys : List Act) → follows a b xs → follows b c ys → follows a c (xs ++ ys)) where
+  pub sends_on : (pieces : List Piece) (i : ℕ) (p : Piece) (ok : Bool) (from mid to : D) (gone gone' : List Due) → i < length pieces → p ≡ get_or pieces i p
+      → Sends follows (take i pieces) from mid gone → follows mid to (send_act (are_gone gone p.link) (sending p ok))
+      → gone' ≡ with_send (are_gone gone p.link) gone (sending p ok) → Sends follows (take (i + 1) pieces) from to gone'
+  sends_on pieces i p ok from mid to gone gone' lt is so acts more = record {
+    sends = so.sends ++ sending p ok ∷ [];
+    sent = map_push (λ s. s.piece) so.sends (sending p ok) ∙ ap (λ ps. ps ++ p ∷ []) so.sent ∙ ap (λ q. take i pieces ++ q ∷ []) is ∙ sym (take_more pieces i p lt);
+    acts = subst (follows from to) (sym (sends_push [] so.sends (sending p ok)))
+        (goes_on from mid to _ _ so.acts (subst (λ g. follows mid to (send_act (are_gone g p.link) (sending p ok))) so.behind acts));
+    behind = more ∙ ap (λ g. with_send (are_gone g p.link) g (sending p ok)) so.behind ∙ sym (gone_push [] so.sends (sending p ok));
+  }
+
+  pub opens_on : (peers : Peers) (asked : List Peer) (i : ℕ) (p : Peer) (number : Option ℕ) (from mid to : D) (old dues dues' : List Due) → i < length asked → p ≡ get_or asked i p
+      → Opens follows peers (take i asked) from mid old dues → follows mid to (open_act (address_of peers p) (opening p number))
+      → dues' ≡ dues ++ open_due (address_of peers p) (opening p number) ∷ [] → Opens follows peers (take (i + 1) asked) from to old dues'
+  opens_on peers asked i p number from mid to old dues dues' lt is so acts more = record {
+    opens = so.opens ++ opening p number ∷ [];
+    tried = map_push (λ o. o.peer) so.opens (opening p number) ∙ ap (λ ps. ps ++ p ∷ []) so.tried ∙ ap (λ q. take i asked ++ q ∷ []) is ∙ sym (take_more asked i p lt);
+    acts = subst (follows from to) (sym (opens_push peers so.opens (opening p number))) (goes_on from mid to _ _ so.acts acts);
+    behind = more ∙ ap (λ ds. ds ++ open_due (address_of peers p) (opening p number) ∷ []) so.behind
+        ∙ append_assoc old (open_dues peers so.opens) (open_due (address_of peers p) (opening p number) ∷ [])
+        ∙ ap (λ ds. old ++ ds) (sym (open_dues_push peers so.opens (opening p number)));
+  }
+
+  pub shuts_on : (links : List ℕ) (i l : ℕ) (from mid to : D) → i < length links → l ≡ get_or links i l
+      → follows from mid (shut_acts (take i links)) → follows mid to (Linked (Shut l) ∷ []) → follows from to (shut_acts (take (i + 1) links))
+  shuts_on links i l from mid to lt is so act =
+      subst (λ ls. follows from to (shut_acts ls)) (ap (λ q. take i links ++ q ∷ []) is ∙ sym (take_more links i l lt))
+      (subst (follows from to) (sym (map_push (λ link. Linked (Shut link)) (take i links) l)) (goes_on from mid to _ _ so act))
+
+  -- what was handed out: sends, opens, shuts, and the link that is lost
+  pub handed : (peers : Peers) (out : Effects) (a b c d e : D) (gone dues : List Due) → Sends follows out.sends a b gone → Opens follows peers out.opens b c gone dues
+      → follows c d (shut_acts out.shuts) → follows d e (lost_acts out.lost) → HandedOut follows peers out a e dues
+  handed peers out a b c d e gone dues sends opens shuts lost = record {
+    sends = sends.sends;
+    opens = opens.opens;
+    carried = record { sent = sends.sent; asked = opens.tried };
+    acts = goes_on a b e _ _ sends.acts (goes_on b c e _ _ opens.acts (goes_on c d e _ _ shuts lost));
+    behind = opens.behind ∙ ap (λ ds. ds ++ open_dues peers opens.opens) sends.behind;
+  }
+
+  -- saved, and then handed out
+  pub carried : (peers : Peers) (out : Effects) (a b c : D) (dues : List Due) → follows a b (saved_acts out.save) → HandedOut follows peers out b c dues → Carried follows peers out a c dues
+  carried peers out a b c dues saved handed = record {
+    sends = handed.sends;
+    opens = handed.opens;
+    carried = handed.carried;
+    acts = goes_on a b c _ _ saved handed.acts;
+    behind = handed.behind;
+  }

@@ -1,0 +1,6 @@
+use Rattle.std.proofs.Common.{take}
+use Rattle.cx_drive.specs.Stops.{Sends}
+use Rattle.cx_drive.proofs.carrying.send.Given as goal
+
+abbrev pub invariant-loop-piece : goal.invariant-loop-piece
+invariant-loop-piece g l = Sends g.S.Site.follows (take l.piece-index l.pieces) l.fn.site l.site l.gone

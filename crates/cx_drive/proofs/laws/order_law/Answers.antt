@@ -1,0 +1,6 @@
+use Rattle.std.specs.Prelude.{false}
+use Rattle.cx_drive.proofs.Ordered.{saves_first}
+use Rattle.cx_drive.proofs.laws.order_law.Goals as goal
+
+pub returns : goal.returns
+returns g c = λ peers node trace. saves_first g.M.Machine.rule g.M.Machine.lost peers node trace false

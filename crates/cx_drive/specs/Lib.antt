@@ -1,0 +1,4 @@
+pub mod Courses
+pub mod Order
+pub mod Steps
+pub mod Stops
