@@ -1,5 +1,5 @@
 -- A login: its row, by what was decided, and that it leaves the keyring as it is.
-use Rattle.std.proofs.Common.{◌≡◌, ◌∙◌, ℕ, ◌==◌, ◌^◌, ◌-◌, ◌+◌, Bool, true, false, ◌⊎◌, inl, inr, List, ◌∷◌, ◌++◌, Option, Some, None, Result, Ok, Err, refl, sym, ap}
+use Rattle.std.proofs.Common.{◌≡◌, ◌∙◌, ℕ, ◌==◌, ◌^◌, ◌-◌, ◌+◌, Bool, true, false, ◌⊎◌, inl, inr, List, ◌∷◌, ◌++◌, Option, Some, None, Result, Ok, Err, refl, sym, ap, subst}
 use Rattle.std.specs.Prelude.{if◌then◌else◌}
 use Rattle.cx_enc.specs.declared.keys.Key.{Key}
 use Rattle.cx_rules.specs.Verdicts.{Decided, Entrant, Numbered, Occasion, asking_for, entrant, issues, issues_to, key_of, numbered, numbers, rotates}
@@ -22,23 +22,36 @@ use Rattle.cx_rules.specs.Monitor.{Monitor, MonitorRow}
 use Rattle.cx_rules.specs.Tickets.{issued_for, rotation_drawn, services_for}
 use Rattle.cx_sealed.specs.declared.service_ticket.ServiceTicket.{ServiceTicket}
 use Rattle.cx_steps.specs.declared.seals.SealEntry.{SealEntry}
-use Rattle.cx_acceptor.specs.Rows.{IsSameBut, arrived, due, made_row, saves, saving}
-use Rattle.cx_acceptor.specs.Stages.{awaiting_proof}
-use Rattle.cx_ends.specs.declared.moments.Moment.{Moment}
-use Rattle.cx_acceptor.specs.declared.links.Stage.{Stage}
+use Rattle.cx_acceptor.specs.Rows.{IsMonitorRow, IsSameBut, arrived, saves, saving, with_keys}
+use Rattle.cx_acceptor.specs.Stages.{MonitorLink, awaiting_proof}
+use Rattle.cx_acceptor.specs.declared.own.Mark.{Mark}
+use Rattle.cx_rules.specs.Abridged.{abridged_link}
+use Rattle.cx_turns.specs.Making.{row_due}
+use Rattle.cx_turns.specs.declared.moments.Moment.{Moment}
 
 -- the row that was made of what was decided is that of the rules
-pub login_row : (old : Monitor) (at : Moment) (wire : Wire) (gid : ℕ) (proven : Proven) (server : Server) (verdict : Verdict) (row : Made Stage)
+pub login_row : (old : Monitor) (at : Moment) (wire : Wire) (gid : ℕ) (proven : Proven) (server : Server) (verdict : Verdict) (row : Made MonitorLink)
     → verdict ≡ (rotates (occasion (arrived old at (awaiting_proof at.number wire proven.offer gid))) old.server gid proven).verdict
     → server ≡ (rotates (occasion (arrived old at (awaiting_proof at.number wire proven.offer gid))) old.server gid proven).server
-    → made_row (saving (record old { server = server }) row.save) at.number row
-    ≡ due (row_by (arrived (record old { server = server }) at (awaiting_proof at.number wire proven.offer gid)) verdict)
-    → made_row (saving (record old { server = server }) row.save) at.number row
-    ≡ due (proves (arrived old at (awaiting_proof at.number wire proven.offer gid)) gid (Ok proven))
+    → IsMonitorRow at.number (saving (record old { server = server }) row.save)
+    (row_by (arrived (record old { server = server }) at (awaiting_proof at.number wire proven.offer gid)) verdict) row
+    → IsMonitorRow at.number (saving (record old { server = server }) row.save) (proves (arrived old at (awaiting_proof at.number wire proven.offer gid)) gid (Ok proven)) row
 login_row old at wire gid proven server verdict row v s m =
-    let told : Server → Verdict → MonitorRow = λ t w. due (row_by (arrived (record old { server = t }) at (awaiting_proof at.number wire proven.offer gid)) w) in
-    m ∙ ap (told server) v
-    ∙ ap (λ (t : Server). told t (rotates (occasion (arrived old at (awaiting_proof at.number wire proven.offer gid))) old.server gid proven).verdict) s
+    let told : Server → Verdict → MonitorRow =
+    λ t w. row_due abridged_link (row_by (arrived (record old { server = t }) at (awaiting_proof at.number wire proven.offer gid)) w) in
+    record {
+      row = m.row ∙ ap (told server) v
+          ∙ ap (λ (t : Server). told t (rotates (occasion (arrived old at (awaiting_proof at.number wire proven.offer gid))) old.server gid proven).verdict) s;
+      number_is = m.number_is;
+    }
+
+-- what a login changed is what is to be changed
+pub login_made : (old new : Monitor) (number : ℕ) (mark : Mark) (due : MonitorRow) (row : Made MonitorLink) → IsSameBut old new → mark.state ≡ new.server.state
+    → mark.saved ≡ new.saved → IsMonitorRow number new due row → IsMonitorRow number (with_keys old mark) due row
+login_made old new number mark due row same state saved m =
+    let P : Monitor → Type 0 = λ o. with_keys o mark ≡ new in
+    let is : with_keys old mark ≡ new = subst P (sym same) (rw (state, saved) refl) in
+    subst (λ (o : Monitor). IsMonitorRow number o due row) (sym is) m
 
 -- ---- the keyring
 

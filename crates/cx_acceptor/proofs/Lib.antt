@@ -1,6 +1,5 @@
 pub mod Behind
 pub mod Controls
 pub mod Decided
+pub mod Offering
 pub mod Stages
-pub mod Told
-pub mod Turning

@@ -1,6 +1,5 @@
--- The rows of the rules as the monitor makes them: what a row sends is put to its link, and of that is kept what is held.
-use Rattle.std.specs.Prelude.{◌≡◌, ℕ, Bool, List, [], ◌∷◌, ◌++◌, Option, Some, None, if◌then◌else◌}
-use Rattle.std.specs.Option.{option_map}
+-- The rows and the turns of the rules, as the monitor makes them.
+use Rattle.std.specs.Prelude.{◌≡◌, ℕ, Bool, List, [], ◌∷◌, ◌++◌, Option, Some, None, Result, if◌then◌else◌}
 use Rattle.cx_control.specs.Auth.{auth_reply_more_layout}
 use Rattle.cx_dice.specs.Draws.{challenge_of}
 use Rattle.cx_enc.specs.declared.keys.Key.{Key}
@@ -19,44 +18,39 @@ use Rattle.cx_rules.specs.Abridged.{abridged_link}
 use Rattle.cx_rules.specs.Acceptor.{AwaitsBanner, AwaitsProof, denies}
 use Rattle.cx_rules.specs.Greetings.{own_banner}
 use Rattle.cx_rules.specs.KeptStates.{saved_behind}
-use Rattle.cx_rules.specs.Links.{Link}
 use Rattle.cx_rules.specs.Monitor.{Monitor, MonitorArrival, MonitorRow, MonitorStage}
 use Rattle.cx_rules.specs.MonitorRule.{turned_at}
 use Rattle.cx_rules.specs.Payloads.{control}
-use Rattle.cx_rules.specs.Rows.{Turned, Waits, Refuses, Handles, arrival, goes_on, refuses, sends_plain}
+use Rattle.cx_rules.specs.Rows.{arrival, goes_on, refuses, sends_plain}
 use Rattle.cx_steps.specs.declared.seals.DrawMark.TheVariants as draw
 use Rattle.cx_steps.specs.declared.seals.SealEntry.TheVariants.{Drawn}
 use Rattle.cx_wire.specs.Logins.{server_challenge_layout}
 use Rattle.cx_wire.specs.declared.logins.LoginHello.{LoginHello}
-use Rattle.cx_acceptor.specs.Stages.{link_held}
-use Rattle.cx_ends.specs.declared.moments.Moment.{Moment}
-use Rattle.cx_acceptor.specs.declared.arrivals.Turned.{Turned as TurnMade}
-use Rattle.cx_acceptor.specs.declared.arrivals.Turned.TheVariants as made
-use Rattle.cx_acceptor.specs.declared.links.Stage.{Stage}
-use Rattle.cx_acceptor.specs.declared.links.Stage.TheVariants as stage
+use Rattle.cx_acceptor.specs.Stages.{MonitorLink, awaiting_signature}
+use Rattle.cx_acceptor.specs.declared.own.Mark.{Mark}
+use Rattle.cx_turns.specs.Making as making
+use Rattle.cx_turns.specs.Making.{IsRow}
+use Rattle.cx_turns.specs.Steps.{IsTurn}
+use Rattle.cx_turns.specs.declared.came.Came.{Came}
+use Rattle.cx_turns.specs.declared.moments.Moment.{Moment}
+use Rattle.cx_turns.specs.declared.rows.NoRow.{NoRow}
+use Rattle.cx_turns.specs.declared.rows.NodeRow.{NodeRow}
 
 -- what a row goes by: what the monitor has of its own, the link, and the event
-abbrev pub arrived : Monitor → Moment → Link MonitorStage → MonitorArrival
+abbrev pub arrived : Monitor → Moment → MonitorLink → MonitorArrival
 arrived own at link = arrival node.Monitor own link at.reading at.draw.now.bytes
 
--- a link with what is sent on it, abridged
-abbrev pub link_behind : List ℕ → Link MonitorStage → Link MonitorStage
-link_behind bytes link = abridged_link (record link { sent = link.sent ++ bytes })
+-- the monitor with its key server in another state, and another that was saved last
+abbrev pub with_keys : Monitor → Mark → Monitor
+with_keys own mark = record own { server = record own.server { state = mark.state }; saved = mark.saved }
 
--- a row of the rules as it is to be made
-abbrev pub due : MonitorRow → MonitorRow
-due row = record row { link = option_map (link_behind row.sends) row.link }
+-- a row that was made on the link of this number, with this of the monitor's own behind it
+abbrev pub IsMonitorRow : ℕ → Monitor → MonitorRow → Made MonitorLink → Type 0
+IsMonitorRow number own due made = IsRow abridged_link number own due made
 
--- a row that was made on a link of this number
-abbrev pub made_row : Monitor → ℕ → Made Stage → MonitorRow
-made_row own number row = record {
-  own = own;
-  link = option_map (link_held number) row.link;
-  sends = row.sends;
-  save = row.save;
-  entries = row.entries;
-  seals = row.seals;
-}
+-- a row was made on this link as the rules have it, or the link is refused as they have it
+abbrev pub Makes : Monitor → Moment → MonitorLink → (MonitorArrival → MonitorRow) → Result (NodeRow MonitorLink Mark) NoRow → Type 0
+Makes own at link rule made = making.Makes abridged_link with_keys (arrived own at link) (rule (arrived own at link)) made
 
 -- what is done on a link that opens, where the places are full or aren't
 abbrev pub opening : Bool → MonitorArrival → MonitorRow
@@ -77,10 +71,10 @@ abbrev pub saves : Verdict → Option KeptState
 saves (verdict.Denied why seals) = None
 saves (verdict.Granted handed) = handed.save
 
--- the row of what is handed out, where the link is finished so
-abbrev pub handing_over : HandedOut → Finished → Made Stage
-handing_over handed finished = record {
-  link = Some (stage.AwaitsSignature finished.signing (record { name = handed.name; gid = handed.gid }));
+-- the row of what is handed out, where the link of this number is finished so
+abbrev pub handing_over : ℕ → HandedOut → Finished → Made MonitorLink
+handing_over number handed finished = record {
+  link = Some (awaiting_signature number finished.signing (record { name = handed.name; gid = handed.gid }));
   sends = finished.bytes;
   save = handed.save;
   entries = handed.entries;
@@ -92,35 +86,21 @@ abbrev pub challenge_frame : ℕ → Frame
 challenge_frame challenge =
     control 4 auth_reply_more_layout.form (record { payload = server_challenge_layout.form.text (record { challenge = challenge }) })
 
+-- a challenge of this draw was offered to an entity with this key
+abbrev pub offered_to : List ℕ → LoginHello → Key → MonitorStage
+offered_to drawn hello key =
+    let offer : Offer = record { name = hello.name; secret = key.secret; challenge = challenge_of drawn } in
+    AwaitsProof (record { offer = offer; gid = hello.gid })
+
 -- what comes of a LoginHello, by the key of its entity
 abbrev pub challenged : MonitorArrival → LoginHello → Option Key → MonitorRow
 challenged a hello None = denies a 13 login.UnknownEntity []
 challenged a hello (Some key) =
-    let challenge = challenge_of a.draw in
-    let offer : Offer = record { name = hello.name; secret = key.secret; challenge = challenge } in
-    sends_plain a (AwaitsProof (record { offer = offer; gid = hello.gid })) (Drawn (draw.Challenge challenge) ∷ []) (challenge_frame challenge)
+    let challenge = challenge_of a.draw in sends_plain a (offered_to a.draw hello key) (Drawn (draw.Challenge challenge) ∷ []) (challenge_frame challenge)
 
 -- ---- turns
 
--- a turn of the rules as it is to be made
-abbrev pub turn_due : Turned Monitor MonitorStage → Turned Monitor MonitorStage
-turn_due Waits = Waits
-turn_due (Refuses why opened) = Refuses why opened
-turn_due (Handles row) = Handles (due row)
-
--- a turn that was made on a link of this number
-abbrev pub turn_made : Monitor → ℕ → TurnMade → Turned Monitor MonitorStage
-turn_made own number (made.Waits stage) = Waits
-turn_made own number (made.Refuses why seals) = Refuses why seals
-turn_made own number (made.Handles row) = Handles (made_row own number row)
-
--- where a turn waits, the link is as it was; only a row changes what the monitor has of its own
-abbrev pub Stays : Monitor → Link MonitorStage → Monitor → TurnMade → Type 0
-Stays own link new (made.Waits stage) = (link_held link.number stage ≡ link) × (new ≡ own)
-Stays own link new (made.Refuses why seals) = new ≡ own
-Stays own link new (made.Handles row) = Unit {0}
-
--- a turn of this link was made as the rules have it, with this of the monitor's own behind it
-pub record Turns (own : Monitor) (at : Moment) (link : Link MonitorStage) (new : Monitor) (turn : TurnMade) : Type 0 where
-  pub made : turn_made new at.number turn ≡ turn_due (turned_at (arrived own at link) link.stage)
-  pub stays : Stays own link new turn
+-- a turn of this link came to what the rules have it come to
+abbrev pub IsMonitorTurn : Monitor → ℕ → List ℕ → MonitorLink → Came MonitorLink Mark → Type 0
+IsMonitorTurn own reading draw link come =
+    IsTurn abridged_link with_keys own link (turned_at (arrival node.Monitor own link reading draw) link.stage) come

@@ -1,6 +1,6 @@
 -- The links as the monitor holds them, each as the link of the rules that it is, abridged.
 use Rattle.std.specs.Prelude.{ℕ}
-use Rattle.cx_ends.specs.Stages.{keys_alone}
+use Rattle.cx_turns.specs.Stages.{keys_alone}
 use Rattle.cx_link.specs.Sending.{secured_of}
 use Rattle.cx_link.specs.Wires.{SecureWire, Wire, secured_link, wired}
 use Rattle.cx_link.specs.declared.links.Signing.{Signing}
@@ -11,20 +11,24 @@ use Rattle.cx_rules.specs.Monitor.{Entity, MonitorStage}
 use Rattle.cx_acceptor.specs.declared.links.Stage.{Stage}
 use Rattle.cx_acceptor.specs.declared.links.Stage.TheVariants as held
 
+-- a link of the monitor, as the rules have it
+abbrev pub MonitorLink : Type 0
+MonitorLink = Link MonitorStage
+
 -- the links of each later stage
-abbrev pub awaiting_proof : ℕ → Wire → Offer → ℕ → Link MonitorStage
+abbrev pub awaiting_proof : ℕ → Wire → Offer → ℕ → MonitorLink
 awaiting_proof number wire offer gid = wired number wire (AwaitsProof (record { offer = offer; gid = gid }))
 
-abbrev pub awaiting_signature : ℕ → Signing → Entity → Link MonitorStage
+abbrev pub awaiting_signature : ℕ → Signing → Entity → MonitorLink
 awaiting_signature number signing entity = secured_link number signing.link.ahead (AwaitsSignature (secured_of signing) entity)
 
-abbrev pub awaiting_ident : ℕ → SecureWire → Entity → Link MonitorStage
+abbrev pub awaiting_ident : ℕ → SecureWire → Entity → MonitorLink
 awaiting_ident number link entity = secured_link number link.ahead (AwaitsIdent (keys_alone link.keys) entity)
 
-abbrev pub open_link : ℕ → SecureWire → Entity → Link MonitorStage
+abbrev pub open_link : ℕ → SecureWire → Entity → MonitorLink
 open_link number link entity = secured_link number link.ahead (Open (keys_alone link.keys) entity)
 
-abbrev pub link_held : ℕ → Stage → Link MonitorStage
+abbrev pub link_held : ℕ → Stage → MonitorLink
 link_held number (held.AwaitsBanner wire) = wired number wire AwaitsBanner
 link_held number (held.AwaitsHello wire) = wired number wire AwaitsHello
 link_held number (held.AwaitsRequest wire) = wired number wire AwaitsRequest

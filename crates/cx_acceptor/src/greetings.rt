@@ -3,18 +3,21 @@
 ghost use Rattle.std.specs.Prelude.{◌≡◌, IfOk};
 ghost use Rattle.cx_base.specs.declared.kinds.EntityType.TheVariants.{Mon};
 ghost use Rattle.cx_link.specs.Wires.{wired};
+ghost use Rattle.cx_node.specs.Made.{as_row};
+ghost use Rattle.cx_rules.specs.Abridged.{abridged_link};
 ghost use Rattle.cx_rules.specs.Acceptor.{AwaitsBanner, AwaitsHello, on_banner, on_hello};
 ghost use Rattle.cx_rules.specs.Rows.{new_link};
-ghost use Rattle.cx_acceptor.specs.Rows.{arrived, due, made_row, opening};
+ghost use Rattle.cx_turns.specs.Making.{row_due};
+ghost use Rattle.cx_acceptor.specs.Rows.{Makes, arrived, opening};
 
-use crate::links::Stage;
-use crate::own::Own;
+use crate::links::{Link, Stage};
+use crate::own::{KeyChange, Own};
 use cx_base::{Addr, Blob, EntityType, Items, NodeName};
 use cx_control::Hello;
-use cx_ends::{Moment, send_plain};
 use cx_journal::{BytesFault, Reason};
 use cx_link::{BannerLink, PlainLink, own_banner};
-use cx_node::{Row, goes_on, refuses, refuses_bytes};
+use cx_node::{Row, refuses};
+use cx_turns::{Moment, NoRow, NodeRow, goes_on, send_plain};
 use std::alloc::{AllocError, Global};
 
 /// The row of a link that opens: the banner is sent, or the link is shut where as many live as there are places.
@@ -23,8 +26,8 @@ pub fn greeting(
     own: &Own,
     at: &Moment<'_>,
     full: bool,
-) -> Result<Row<Stage>, AllocError>
-    ensures { IfOk result (λ row. made_row own.now at.now.number row ≡ due (opening full (arrived own.now at.now (new_link at.now.number AwaitsBanner)))) }
+) -> Result<Row<Link>, AllocError>
+    ensures { IfOk result (λ row. as_row own.now row ≡ row_due abridged_link (opening full (arrived own.now at.now (new_link at.now.number AwaitsBanner)))) }
 {
     let seals = Items::new(alloc);
     if full {
@@ -37,9 +40,10 @@ pub fn greeting(
         );
     }
     let banner = own_banner(alloc)?;
-    let mut link = BannerLink::new(alloc);
-    link.send(alloc, banner.bytes())?;
-    Ok(goes_on(alloc, Stage::AwaitsBanner(link), banner, seals))
+    let mut wire = BannerLink::new(alloc);
+    wire.send(alloc, banner.bytes())?;
+    let link = Link::new(at.number, Stage::AwaitsBanner(wire));
+    Ok(cx_node::goes_on(alloc, link, banner, seals))
 }
 
 // The peer's banner: HELLO is sent, with one's own type and nothing of the peer's address.
@@ -48,8 +52,8 @@ pub(crate) fn on_banner(
     own: &Own,
     at: &Moment<'_>,
     link: PlainLink,
-) -> Result<Row<Stage>, AllocError>
-    ensures { IfOk result (λ row. made_row own.now at.now.number row ≡ due (on_banner Mon (arrived own.now at.now (wired at.now.number link AwaitsBanner)))) }
+) -> Result<NodeRow<Link, KeyChange>, NoRow>
+    ensures { Makes own.now at.now (wired at.now.number link AwaitsBanner) (on_banner Mon) result }
 {
     let nothing_said = Addr {
         nonce: 0,
@@ -60,15 +64,9 @@ pub(crate) fn on_banner(
         kind: EntityType::Mon,
         addr: nothing_said,
     };
-    match send_plain(alloc, link, 1, &hello)? {
-        Ok(sent) => Ok(goes_on(
-            alloc,
-            Stage::AwaitsHello(sent.link),
-            sent.bytes,
-            Items::new(alloc),
-        )),
-        Err(why) => refuses_bytes(alloc, &NodeName::Monitor, at.number, why, Items::new(alloc)),
-    }
+    let sent = send_plain(alloc, link, 1, &hello)??;
+    let link = Link::new(at.number, Stage::AwaitsHello(sent.link));
+    Ok(goes_on(alloc, link, sent.bytes, Items::new(alloc)))
 }
 
 pub(crate) fn on_hello(
@@ -77,16 +75,10 @@ pub(crate) fn on_hello(
     at: &Moment<'_>,
     link: PlainLink,
     read: Result<Hello, BytesFault>,
-) -> Result<Row<Stage>, AllocError>
-    ensures { IfOk result (λ row. made_row own.now at.now.number row ≡ due (on_hello (arrived own.now at.now (wired at.now.number link AwaitsHello)) read)) }
+) -> Result<NodeRow<Link, KeyChange>, NoRow>
+    ensures { Makes own.now at.now (wired at.now.number link AwaitsHello) (λ a. on_hello a read) result }
 {
-    match read {
-        Ok(_) => Ok(goes_on(
-            alloc,
-            Stage::AwaitsRequest(link),
-            Blob::new(alloc),
-            Items::new(alloc),
-        )),
-        Err(why) => refuses_bytes(alloc, &NodeName::Monitor, at.number, why, Items::new(alloc)),
-    }
+    let _ = read?;
+    let link = Link::new(at.number, Stage::AwaitsRequest(link));
+    Ok(goes_on(alloc, link, Blob::new(alloc), Items::new(alloc)))
 }

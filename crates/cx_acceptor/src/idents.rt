@@ -1,23 +1,23 @@
 //! CLIENT_IDENT and SESSION_RECONNECT.
 
-ghost use Rattle.std.specs.Prelude.{◌≡◌, [], IfOk};
-ghost use Rattle.cx_ends.specs.Stages.{keys_alone};
+ghost use Rattle.std.specs.Prelude.{[]};
+ghost use Rattle.cx_turns.specs.Stages.{keys_alone};
 ghost use Rattle.cx_rules.specs.Acceptor.{Open, misses};
 ghost use Rattle.cx_rules.specs.MonitorRule.{on_client_ident, on_ident, on_session_reconnect, server_ident};
 ghost use Rattle.cx_rules.specs.Rows.{sends_secure};
-ghost use Rattle.cx_acceptor.specs.Rows.{arrived, due, made_row};
+ghost use Rattle.cx_acceptor.specs.Rows.{Makes};
 ghost use Rattle.cx_acceptor.specs.Stages.{awaiting_ident};
 
-use crate::links::{Entity, Stage};
-use crate::own::Own;
-use cx_base::{Blob, Items, NodeName};
+use crate::links::{Entity, Link, Stage};
+use crate::own::{KeyChange, Own};
+use cx_base::NodeName;
 use cx_control::{ClientIdent, IdentMissingFeatures, ServerIdent, SessionReconnect, SessionReset};
-use cx_ends::{Moment, send_secure};
 use cx_frame::Frame;
-use cx_journal::BytesFault;
+use cx_journal::{BytesFault, Reason};
 use cx_link::SecureLink;
-use cx_node::{Row, goes_on, payload, refuses_bytes};
-use std::alloc::{AllocError, Global};
+use cx_node::{Row, payload, refuses};
+use cx_turns::{Moment, NoRow, NodeRow, goes_on, send_secure};
+use std::alloc::Global;
 
 // A frame behind the peer's signature.
 pub(crate) fn on_ident(
@@ -27,8 +27,8 @@ pub(crate) fn on_ident(
     link: SecureLink,
     entity: Entity,
     frame: &Frame,
-) -> Result<Row<Stage>, AllocError>
-    ensures { IfOk result (λ row. made_row own.now at.now.number row ≡ due (on_ident (arrived own.now at.now (awaiting_ident at.now.number link entity)) (keys_alone link.keys) entity frame.now)) }
+) -> Result<NodeRow<Link, KeyChange>, NoRow>
+    ensures { Makes own.now at.now (awaiting_ident at.now.number link entity) (λ a. on_ident a (keys_alone link.keys) entity frame.now) result }
 {
     match frame.tag {
         8 => {
@@ -39,13 +39,7 @@ pub(crate) fn on_ident(
             let read = payload::<SessionReconnect>(alloc, frame)?;
             on_session_reconnect(alloc, own, at, link, entity, read)
         }
-        tag => refuses_bytes(
-            alloc,
-            &NodeName::Monitor,
-            at.number,
-            BytesFault::Unexpected(tag),
-            Items::new(alloc),
-        ),
+        tag => Err(NoRow::from(BytesFault::Unexpected(tag))),
     }
 }
 
@@ -57,18 +51,14 @@ pub(crate) fn on_client_ident(
     link: SecureLink,
     entity: Entity,
     read: Result<ClientIdent, BytesFault>,
-) -> Result<Row<Stage>, AllocError>
-    ensures { IfOk result (λ row. made_row own.now at.now.number row ≡ due (on_client_ident (arrived own.now at.now (awaiting_ident at.now.number link entity)) (keys_alone link.keys) entity read)) }
+) -> Result<NodeRow<Link, KeyChange>, NoRow>
+    ensures { Makes own.now at.now (awaiting_ident at.now.number link entity) (λ a. on_client_ident a (keys_alone link.keys) entity read) result }
 {
-    match read {
-        Err(why) => refuses_bytes(alloc, &NodeName::Monitor, at.number, why, Items::new(alloc)),
-        Ok(ident) => {
-            if ident.required == 0 {
-                opens_to(alloc, own, at, link, entity)
-            } else {
-                misses(alloc, own, at, link, entity, ident.required)
-            }
-        }
+    let ident = read?;
+    if ident.required == 0 {
+        opens_to(alloc, own, at, link, entity)
+    } else {
+        misses(alloc, own, at, link, entity, ident.required)
     }
 }
 
@@ -79,9 +69,9 @@ fn opens_to(
     at: &Moment<'_>,
     link: SecureLink,
     entity: Entity,
-) -> Result<Row<Stage>, AllocError>
-    ensures { IfOk result (λ row. made_row own.now at.now.number row
-        ≡ due (sends_secure (arrived own.now at.now (awaiting_ident at.now.number link entity)) (keys_alone link.keys) (λ behind. Open behind entity) [] (server_ident own.now.address))) }
+) -> Result<NodeRow<Link, KeyChange>, NoRow>
+    ensures { Makes own.now at.now (awaiting_ident at.now.number link entity)
+        (λ a. sends_secure a (keys_alone link.keys) (λ behind. Open behind entity) [] (server_ident own.now.address)) result }
 {
     let ident = ServerIdent {
         addr: own.address(),
@@ -92,15 +82,9 @@ fn opens_to(
         flags: 1,
         cookie: 0,
     };
-    match send_secure(alloc, link, 9, &ident)? {
-        Ok(sent) => Ok(goes_on(
-            alloc,
-            Stage::Open(sent.link, entity),
-            sent.bytes,
-            sent.seals,
-        )),
-        Err(why) => refuses_bytes(alloc, &NodeName::Monitor, at.number, why, Items::new(alloc)),
-    }
+    let sent = send_secure(alloc, link, 9, &ident)??;
+    let link = Link::new(at.number, Stage::Open(sent.link, entity));
+    Ok(goes_on(alloc, link, sent.bytes, sent.seals))
 }
 
 // IDENT_MISSING_FEATURES is sent, and the link is shut.
@@ -111,20 +95,16 @@ fn misses(
     link: SecureLink,
     entity: Entity,
     features: u64,
-) -> Result<Row<Stage>, AllocError>
-    ensures { IfOk result (λ row. made_row own.now at.now.number row ≡ due (misses (arrived own.now at.now (awaiting_ident at.now.number link entity)) (keys_alone link.keys) features)) }
+) -> Result<NodeRow<Link, KeyChange>, NoRow>
+    ensures { Makes own.now at.now (awaiting_ident at.now.number link entity) (λ a. misses a (keys_alone link.keys) features) result }
 {
-    match send_secure(alloc, link, 10, &IdentMissingFeatures { features })? {
-        Ok(sent) => {
-            let why = BytesFault::Features(features);
-            let refusal = refuses_bytes(alloc, &NodeName::Monitor, at.number, why, sent.seals)?;
-            Ok(Row {
-                sends: sent.bytes,
-                ..refusal
-            })
-        }
-        Err(why) => refuses_bytes(alloc, &NodeName::Monitor, at.number, why, Items::new(alloc)),
-    }
+    let sent = send_secure(alloc, link, 10, &IdentMissingFeatures { features })??;
+    let why = Reason::Bytes(BytesFault::Features(features));
+    let refusal = refuses(alloc, &NodeName::Monitor, at.number, why, sent.seals)?;
+    Ok(NodeRow::keeping(Row {
+        sends: sent.bytes,
+        ..refusal
+    }))
 }
 
 // The monitor has no session to go on with: SESSION_RESET is sent, and CLIENT_IDENT is waited for.
@@ -135,19 +115,11 @@ pub(crate) fn on_session_reconnect(
     link: SecureLink,
     entity: Entity,
     read: Result<SessionReconnect, BytesFault>,
-) -> Result<Row<Stage>, AllocError>
-    ensures { IfOk result (λ row. made_row own.now at.now.number row ≡ due (on_session_reconnect (arrived own.now at.now (awaiting_ident at.now.number link entity)) (keys_alone link.keys) entity read)) }
+) -> Result<NodeRow<Link, KeyChange>, NoRow>
+    ensures { Makes own.now at.now (awaiting_ident at.now.number link entity) (λ a. on_session_reconnect a (keys_alone link.keys) entity read) result }
 {
-    if let Err(why) = read {
-        return refuses_bytes(alloc, &NodeName::Monitor, at.number, why, Items::new(alloc));
-    }
-    match send_secure(alloc, link, 12, &SessionReset { full: true })? {
-        Ok(sent) => Ok(goes_on(
-            alloc,
-            Stage::AwaitsIdent(sent.link, entity),
-            sent.bytes,
-            sent.seals,
-        )),
-        Err(why) => refuses_bytes(alloc, &NodeName::Monitor, at.number, why, Items::new(alloc)),
-    }
+    let _ = read?;
+    let sent = send_secure(alloc, link, 12, &SessionReset { full: true })??;
+    let link = Link::new(at.number, Stage::AwaitsIdent(sent.link, entity));
+    Ok(goes_on(alloc, link, sent.bytes, sent.seals))
 }

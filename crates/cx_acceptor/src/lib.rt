@@ -1,21 +1,20 @@
 //! The monitor on one of its links: what it does as the link opens and at each banner and frame that comes, and what it has of its own.
 #![tactic(auto)]
 
-mod arrivals;
 mod greetings;
 mod idents;
 mod links;
 mod logins;
+mod making;
 mod own;
 mod requests;
 mod signatures;
 mod turns;
 mod upkeep;
 
-pub use arrivals::Turned;
 pub use greetings::greeting;
 pub use links::{Entity, Link, Stage};
-pub use own::{Mark, Own};
+pub use own::{KeyChange, Mark, Own};
 pub use turns::turned;
 
 // Each public type may be sent to another thread and shared with one.
@@ -27,5 +26,5 @@ fn all_are_sendable() {
     is_sendable::<Link>();
     is_sendable::<Own>();
     is_sendable::<Mark>();
-    is_sendable::<Turned>();
+    is_sendable::<KeyChange>();
 }

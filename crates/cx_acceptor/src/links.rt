@@ -4,6 +4,7 @@ use cx_base::EntityName;
 use cx_link::{BannerLink, PlainLink, SecureLink, Signing};
 use cx_login::Offered;
 use cx_node::Numbered;
+use cx_turns::Feeds;
 use std::alloc::{AllocError, Global};
 use std::marker::Model;
 
@@ -40,7 +41,7 @@ pub enum Stage {
 impl Stage {
     ghost use Rattle.std.specs.Prelude.{ℕ, ◌≡◌, OnOk};
     ghost use Rattle.cx_acceptor.specs.Stages.{link_held};
-    ghost use Rattle.cx_ends.specs.Stages.{with_more};
+    ghost use Rattle.cx_turns.specs.Stages.{with_more};
 
     // Puts bytes behind those that came on the link.
     fn feed(&mut self, alloc: Global, bytes: &[u8]) -> Result<(), AllocError>
@@ -65,6 +66,18 @@ pub struct Link {
     pub stage: Stage,
 }
 
+impl Link {
+    ghost use Rattle.std.specs.Prelude.{◌≡◌};
+    ghost use Rattle.cx_acceptor.specs.Stages.{link_held};
+
+    // The link of this number, in a stage.
+    pub(crate) fn new(number: u32, stage: Stage) -> Link
+        ensures { result ≡ link_held number stage }
+    {
+        Link { number, stage }
+    }
+}
+
 impl Model for Link {
     ghost use Rattle.cx_rules.specs.Links.{Link};
     ghost use Rattle.cx_rules.specs.Monitor.{MonitorStage};
@@ -85,19 +98,15 @@ impl Numbered for Link {
     }
 }
 
-impl Link {
-    ghost use Rattle.std.specs.Prelude.{◌≡◌, ◌++◌, IfOk};
+impl Feeds for Link {
     ghost use Rattle.cx_rules.specs.Abridged.{abridged_link};
+    ghost use Rattle.cx_turns.specs.Steps as steps;
 
-    /// The link behind more bytes. No more of it can be forgotten.
-    #[tactic(auto, using(crate::proofs::Stages::held_abridged))]
-    pub fn fed(mut self, alloc: Global, bytes: &[u8]) -> Result<Link, AllocError>
-        ensures fed { IfOk result (λ link. link ≡ record self { received = self.received ++ bytes.now }) }
-        ensures held { IfOk result (λ link. abridged_link link ≡ link) }
-    {
-        match self.stage.feed(alloc, bytes) {
-            Ok(()) => Ok(self),
-            Err(error) => Err(error),
-        }
+    ghost IsFed = { steps.IsFed abridged_link };
+
+    // No more of the link can be forgotten.
+    #[tactic(auto, using(crate::proofs::Stages::held_abridged, crate::proofs::Stages::number_held))]
+    fn feed(&mut self, alloc: Global, bytes: &[u8]) -> Result<(), AllocError> {
+        self.stage.feed(alloc, bytes)
     }
 }

@@ -1,31 +1,34 @@
 //! LoginHello and Authenticate.
 
-ghost use Rattle.std.specs.Prelude.{◌≡◌, ◌<◌, ◌⊎◌, ◌++◌, None, Some, Ok, IfOk, OnOk, OnErr};
-ghost use Rattle.cx_ends.specs.Sending.{SendsPlain};
+ghost use Rattle.std.specs.Prelude.{◌≡◌, ◌<◌, ◌⊎◌, ◌++◌, [], None, Some, Ok, IfOk, OnOk, OnErr};
+ghost use Rattle.cx_turns.specs.Sending.{SendsPlain};
 ghost use Rattle.cx_rules.specs.MonitorLogin.{done_frame, on_authenticate, on_login_hello, proves, row_by};
 ghost use Rattle.cx_link.specs.Wires.{wired};
 ghost use Rattle.cx_rules.specs.declared.verdicts.Verdict.TheVariants.{Granted};
 ghost use Rattle.cx_link.specs.Sending.{IsControl};
+ghost use Rattle.cx_dice.specs.Draws.{challenge_of};
 ghost use Rattle.cx_rules.specs.Acceptor.{AwaitsRequest};
 ghost use Rattle.cx_rules.specs.Monitor.{MonitorStage};
 ghost use Rattle.cx_rules.specs.MonitorRule.{on_auth_request_more};
+ghost use Rattle.cx_rules.specs.Rows.{sends_plain};
 ghost use Rattle.cx_rules.specs.Secured.{plain_frame};
-ghost use Rattle.cx_acceptor.specs.Rows.{IsSameBut, arrived, challenge_frame, challenged, due, handing_over, made_row, saves, saving};
+ghost use Rattle.cx_acceptor.specs.Rows.{IsMonitorRow, IsSameBut, Makes, arrived, challenge_frame, challenged, handing_over, offered_to, saves, saving};
 ghost use Rattle.cx_acceptor.specs.Stages.{awaiting_proof};
 
-use crate::links::{Entity, Stage};
-use crate::own::Own;
+use crate::links::{Entity, Link, Stage};
+use crate::making::denies;
+use crate::own::{KeyChange, Own};
 use cx_base::{Blob, Duplicate, Items, NodeName};
 use cx_control::{AuthReplyMore, AuthRequestMore};
 use cx_enc::{Key, write_whole};
-use cx_ends::{Moment, SentPlain, send_plain};
 use cx_frame::{Frame, Segment};
 use cx_journal::{BytesFault, LoginFault};
 use cx_link::{Finished, LinkRefusal, PlainLink};
 use cx_login::{Offered, Proved};
 use cx_mon_grants::{HandedOut, Occasion, Verdict, log_in};
-use cx_node::{Row, denies, goes_on, refuses_bytes, whole};
+use cx_node::{Row, refuses_bytes, whole};
 use cx_steps::{DrawMark, SealEntry};
+use cx_turns::{Moment, NoRow, NodeRow, SentPlain, goes_on, send_plain, unless_refused};
 use cx_wire::{Authenticate, LoginHello, ServerChallenge};
 use std::alloc::{AllocError, Global};
 
@@ -36,17 +39,12 @@ pub(crate) fn on_login_hello(
     at: &Moment<'_>,
     link: PlainLink,
     read: Result<LoginHello, BytesFault>,
-) -> Result<Row<Stage>, AllocError>
-    ensures { IfOk result (λ row. made_row own.now at.now.number row ≡ due (on_login_hello (arrived own.now at.now (wired at.now.number link AwaitsRequest)) read)) }
+) -> Result<NodeRow<Link, KeyChange>, NoRow>
+    ensures { Makes own.now at.now (wired at.now.number link AwaitsRequest) (λ a. on_login_hello a read) result }
 {
-    let seals = Items::new(alloc);
-    match read {
-        Err(why) => refuses_bytes(alloc, &NodeName::Monitor, at.number, why, seals),
-        Ok(hello) => {
-            let key = own.key_of(&hello.name);
-            challenges(alloc, own, at, link, hello, key)
-        }
-    }
+    let hello = read?;
+    let key = own.key_of(&hello.name);
+    challenges(alloc, own, at, link, hello, key)
 }
 
 // What comes of an entity with this key, or without one.
@@ -57,23 +55,16 @@ fn challenges(
     link: PlainLink,
     hello: LoginHello,
     key: Option<Key>,
-) -> Result<Row<Stage>, AllocError>
-    ensures { IfOk result (λ row. made_row own.now at.now.number row ≡ due (challenged (arrived own.now at.now (wired at.now.number link AwaitsRequest)) hello key)) }
+) -> Result<NodeRow<Link, KeyChange>, NoRow>
+    ensures { Makes own.now at.now (wired at.now.number link AwaitsRequest) (λ a. challenged a hello key) result }
 {
     match key {
         Some(key) => offers(alloc, own, at, link, hello, key),
-        None => denies(
-            alloc,
-            &NodeName::Monitor,
-            at.number,
-            13,
-            LoginFault::UnknownEntity,
-            Items::new(alloc),
-        ),
+        None => Ok(denies(alloc, at, 13, LoginFault::UnknownEntity)?),
     }
 }
 
-// A challenge is drawn for an entity with this key, and sent.
+// A challenge is drawn for an entity with this key, and sent behind that it was drawn.
 fn offers(
     alloc: Global,
     own: &Own,
@@ -81,20 +72,34 @@ fn offers(
     link: PlainLink,
     hello: LoginHello,
     key: Key,
-) -> Result<Row<Stage>, AllocError>
-    ensures { IfOk result (λ row. made_row own.now at.now.number row ≡ due (challenged (arrived own.now at.now (wired at.now.number link AwaitsRequest)) hello (Some key))) }
+) -> Result<NodeRow<Link, KeyChange>, NoRow>
+    ensures { Makes own.now at.now (wired at.now.number link AwaitsRequest) (λ a. challenged a hello (Some key)) result }
 {
     let challenge = at.draw.challenge();
-    let mut seals = Items::new(alloc);
-    seals.push(alloc, SealEntry::Drawn(DrawMark::Challenge(challenge)))?;
-    match send_challenge(alloc, link, challenge)? {
-        Ok(sent) => {
-            let offered = Offered::new(hello.name, key, challenge);
-            let stage = Stage::AwaitsProof(sent.link, offered, hello.gid);
-            Ok(goes_on(alloc, stage, sent.bytes, seals))
-        }
-        Err(why) => refuses_bytes(alloc, &NodeName::Monitor, at.number, why, seals),
-    }
+    let mut drawn = Items::new(alloc);
+    drawn.push(alloc, SealEntry::Drawn(DrawMark::Challenge(challenge)))?;
+    let made = awaits_proof(alloc, own, at, link, hello, key);
+    let row = unless_refused(alloc, &NodeName::Monitor, at.number, drawn, made)?;
+    Ok(row)
+}
+
+// The challenge is sent, and its proof is waited for.
+fn awaits_proof(
+    alloc: Global,
+    own: &Own,
+    at: &Moment<'_>,
+    link: PlainLink,
+    hello: LoginHello,
+    key: Key,
+) -> Result<NodeRow<Link, KeyChange>, NoRow>
+    ensures { Makes own.now at.now (wired at.now.number link AwaitsRequest)
+        (λ a. sends_plain a (offered_to a.draw hello key) [] (challenge_frame (challenge_of a.draw))) result }
+{
+    let challenge = at.draw.challenge();
+    let sent = send_challenge(alloc, link, challenge)??;
+    let offered = Offered::new(hello.name, key, challenge);
+    let link = Link::new(at.number, Stage::AwaitsProof(sent.link, offered, hello.gid));
+    Ok(goes_on(alloc, link, sent.bytes, Items::new(alloc)))
 }
 
 // Sends AUTH_REPLY_MORE with a challenge.
@@ -118,20 +123,14 @@ pub(crate) fn on_auth_request_more(
     offered: Offered,
     gid: u64,
     read: Result<AuthRequestMore, BytesFault>,
-) -> Result<Row<Stage>, AllocError>
+) -> Result<NodeRow<Link, KeyChange>, NoRow>
     requires { at.now.reading < 4000000000000000000 }
-    ensures row { IfOk result (λ row. made_row own.new at.now.number row
-        ≡ due (on_auth_request_more (arrived own.old at.now (awaiting_proof at.now.number link offered gid)) (record { offer = offered; gid = gid }) read)) }
-    ensures same { OnOk result (IsSameBut own.old own.new) }
-    ensures err { OnErr result (own.new ≡ own.old) }
+    ensures row { Makes own.old at.now (awaiting_proof at.now.number link offered gid) (λ a. on_auth_request_more a (record { offer = offered; gid = gid }) read) result }
+    ensures same { own.new ≡ own.old }
 {
-    match read {
-        Err(why) => refuses_bytes(alloc, &NodeName::Monitor, at.number, why, Items::new(alloc)),
-        Ok(more) => {
-            let ask = whole::<Authenticate>(alloc, more.payload.bytes())?;
-            on_authenticate(alloc, own, at, link, offered, gid, ask)
-        }
-    }
+    let more = read?;
+    let ask = whole::<Authenticate>(alloc, more.payload.bytes())?;
+    on_authenticate(alloc, own, at, link, offered, gid, ask)
 }
 
 // The proof is compared; behind an equal one the login is judged.
@@ -143,30 +142,43 @@ pub(crate) fn on_authenticate(
     offered: Offered,
     gid: u64,
     read: Result<Authenticate, BytesFault>,
-) -> Result<Row<Stage>, AllocError>
+) -> Result<NodeRow<Link, KeyChange>, NoRow>
     requires { at.now.reading < 4000000000000000000 }
-    ensures row { IfOk result (λ row. made_row own.new at.now.number row
-        ≡ due (on_authenticate (arrived own.old at.now (awaiting_proof at.now.number link offered gid)) (record { offer = offered; gid = gid }) read)) }
-    ensures same { OnOk result (IsSameBut own.old own.new) }
-    ensures err { OnErr result (own.new ≡ own.old) }
+    ensures row { Makes own.old at.now (awaiting_proof at.now.number link offered gid) (λ a. on_authenticate a (record { offer = offered; gid = gid }) read) result }
+    ensures same { own.new ≡ own.old }
 {
-    match read {
-        Err(why) => refuses_bytes(alloc, &NodeName::Monitor, at.number, why, Items::new(alloc)),
-        Ok(ask) => match offered.prove(ask) {
-            Ok(proved) => proves(alloc, own, at, link, &proved, gid),
-            Err(_) => denies(
-                alloc,
-                &NodeName::Monitor,
-                at.number,
-                13,
-                LoginFault::WrongProof,
-                Items::new(alloc),
-            ),
-        },
+    let ask = read?;
+    match offered.prove(ask) {
+        Ok(proved) => logs_in(alloc, own, at, link, &proved, gid),
+        Err(_) => Ok(denies(alloc, at, 13, LoginFault::WrongProof)?),
     }
 }
 
-// An Authenticate that proved its entity. Where memory is wanting, the key server is as before.
+// An Authenticate that proved its entity. What the login changes is taken back here: it is settled once the row is carried out.
+#[tactic(auto, using(crate::proofs::Decided::login_made))]
+fn logs_in(
+    alloc: Global,
+    own: &mut Own,
+    at: &Moment<'_>,
+    link: PlainLink,
+    proved: &Proved,
+    gid: u64,
+) -> Result<NodeRow<Link, KeyChange>, NoRow>
+    requires { at.now.reading < 4000000000000000000 }
+    ensures row { Makes own.old at.now (awaiting_proof at.now.number link proved.now.offer gid) (λ a. proves a gid (Ok proved.now)) result }
+    ensures same { own.new ≡ own.old }
+{
+    let before = own.mark();
+    let row = proves(alloc, own, at, link, proved, gid)?;
+    let mark = own.mark();
+    own.go_back(&before);
+    Ok(NodeRow {
+        row,
+        change: Some(KeyChange { mark }),
+    })
+}
+
+// The same with what it changes. Where memory is wanting, the key server is as before.
 fn proves(
     alloc: Global,
     own: &mut Own,
@@ -174,9 +186,9 @@ fn proves(
     link: PlainLink,
     proved: &Proved,
     gid: u64,
-) -> Result<Row<Stage>, AllocError>
+) -> Result<Row<Link>, AllocError>
     requires { at.now.reading < 4000000000000000000 }
-    ensures row { IfOk result (λ row. made_row own.new at.now.number row ≡ due (proves (arrived own.old at.now (awaiting_proof at.now.number link proved.now.offer gid)) gid (Ok proved.now))) }
+    ensures row { IfOk result (IsMonitorRow at.now.number own.new (proves (arrived own.old at.now (awaiting_proof at.now.number link proved.now.offer gid)) gid (Ok proved.now))) }
     ensures same { OnOk result (IsSameBut own.old own.new) }
     ensures err { OnErr result (own.new ≡ own.old) }
 {
@@ -206,13 +218,13 @@ fn told(
     at: &Moment<'_>,
     link: PlainLink,
     verdict: Verdict,
-) -> Result<Row<Stage>, AllocError>
-    ensures row { (stage : MonitorStage) → IfOk result (λ row. made_row (saving own.now row.save) at.now.number row
-        ≡ due (row_by (arrived own.now at.now (wired at.now.number link stage)) verdict)) }
+) -> Result<Row<Link>, AllocError>
+    ensures row { (stage : MonitorStage) → IfOk result (λ row. IsMonitorRow at.now.number (saving own.now row.save)
+        (row_by (arrived own.now at.now (wired at.now.number link stage)) verdict) row) }
     ensures save { IfOk result (λ row. (row.save ≡ None) ⊎ (row.save ≡ saves verdict)) }
 {
     match verdict {
-        Verdict::Denied { why, seals } => denies(
+        Verdict::Denied { why, seals } => cx_node::denies(
             alloc,
             &NodeName::Monitor,
             at.number,
@@ -224,21 +236,21 @@ fn told(
     }
 }
 
-// AUTH_DONE and AUTH_SIGNATURE are sent; the link is secured.
+// AUTH_DONE and AUTH_SIGNATURE are sent; the link is secured. Where they can't be, the link is refused behind what was decided.
 fn hands_over(
     alloc: Global,
     own: &Own,
     at: &Moment<'_>,
     link: PlainLink,
     handed: HandedOut,
-) -> Result<Row<Stage>, AllocError>
-    ensures row { (stage : MonitorStage) → IfOk result (λ row. made_row (saving own.now row.save) at.now.number row
-        ≡ due (row_by (arrived own.now at.now (wired at.now.number link stage)) (Granted handed))) }
+) -> Result<Row<Link>, AllocError>
+    ensures row { (stage : MonitorStage) → IfOk result (λ row. IsMonitorRow at.now.number (saving own.now row.save)
+        (row_by (arrived own.now at.now (wired at.now.number link stage)) (Granted handed)) row) }
     ensures save { IfOk result (λ row. (row.save ≡ None) ⊎ (row.save ≡ handed.save)) }
 {
     let done = done_frame(alloc, &handed.payload)?;
     match link.finish(alloc, &handed.session, &handed.secret, &done) {
-        Ok(finished) => awaits_signature(alloc, handed, finished),
+        Ok(finished) => awaits_signature(alloc, at, handed, finished),
         Err(LinkRefusal::Fault(why)) => refuses_bytes(
             alloc,
             &NodeName::Monitor,
@@ -253,10 +265,11 @@ fn hands_over(
 // What finishes the link is sent.
 fn awaits_signature(
     alloc: Global,
+    at: &Moment<'_>,
     handed: HandedOut,
     finished: Finished,
-) -> Result<Row<Stage>, AllocError>
-    ensures { IfOk result (λ row. row ≡ handing_over handed finished) }
+) -> Result<Row<Link>, AllocError>
+    ensures { IfOk result (λ row. row ≡ handing_over at.now.number handed finished) }
 {
     let mut seals = handed.seals;
     logs(alloc, &mut seals, handed.sealed, finished.seals)?;
@@ -264,8 +277,9 @@ fn awaits_signature(
         name: handed.name,
         gid: handed.gid,
     };
+    let link = Link::new(at.number, Stage::AwaitsSignature(finished.signing, entity));
     Ok(Row {
-        link: Some(Stage::AwaitsSignature(finished.signing, entity)),
+        link: Some(link),
         sends: finished.bytes,
         save: handed.save,
         entries: handed.entries,

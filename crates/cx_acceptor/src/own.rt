@@ -1,9 +1,13 @@
 //! What the monitor has of its own.
 
-use cx_base::{Addr, EntityName};
+use crate::links::Link;
+use crate::turns::turned;
+use cx_base::{Addr, EntityName, NodeName};
 use cx_enc::Key;
 use cx_keyserver::KeyServer;
 use cx_rotate::KeptState;
+use cx_turns::{Came, Moment, Turner};
+use std::alloc::{AllocError, Global};
 use std::marker::Model;
 
 /// Its key server; the state that was saved last, or that it began with; the one that was saved last before the last step; its address.
@@ -33,6 +37,23 @@ pub struct Mark {
     pub saved: KeptState,
 }
 
+/// What a turn changes of the monitor's own: what a login does. Both states may be kept.
+#[derive(Drop)]
+pub struct KeyChange {
+    pub(crate) mark: Mark,
+}
+
+impl Model for KeyChange {
+    ghost use Rattle.cx_acceptor.specs.declared.own.Mark.{Mark};
+    ghost use Rattle.cx_rotate.specs.Keeping.{IsKeptState};
+
+    ghost Value = { Mark };
+
+    ghost view = { λ c. c.mark };
+
+    ghost invariant = { λ c. IsKeptState c.mark.state × IsKeptState c.mark.saved };
+}
+
 impl Own {
     ghost use Rattle.std.specs.Prelude.{◌≡◌, ◌⊎◌, None, Some, find};
     ghost use Rattle.std.specs.Option.{option_map};
@@ -40,6 +61,7 @@ impl Own {
     ghost use Rattle.cx_keyserver.specs.Servers.{Server};
     ghost use Rattle.cx_rotate.specs.Keeping.{IsKeptState};
     ghost use Rattle.cx_rules.specs.KeptStates.{saved_behind};
+    ghost use Rattle.cx_acceptor.specs.Rows.{with_keys};
 
     /// As the monitor begins.
     pub fn new(server: KeyServer, address: Addr) -> Own
@@ -115,7 +137,7 @@ impl Own {
     /// Takes back what a login changed.
     pub fn go_back(&mut self, mark: &Mark)
         requires { IsKeptState mark.now.state × IsKeptState mark.now.saved }
-        ensures { self.new ≡ record self.old { server = record self.old.server { state = mark.now.state }; saved = mark.now.saved } }
+        ensures { self.new ≡ with_keys self.old mark.now }
     {
         self.server.restore(mark.state);
         self.saved = mark.saved;
@@ -126,5 +148,38 @@ impl Own {
         ensures { self.new ≡ record self.old { server = record self.old.server { state = self.old.saved } } }
     {
         self.server.restore(self.saved);
+    }
+}
+
+impl Turner<Link> for Own {
+    ghost use Rattle.std.specs.Prelude.{◌<◌};
+    ghost use Rattle.cx_base.specs.declared.nodes.NodeName.TheVariants as node;
+    ghost use Rattle.cx_acceptor.specs.Rows as rows;
+
+    type Change = KeyChange;
+
+    ghost name_of = { λ _. node.Monitor };
+
+    ghost IsTime = { λ reading. reading < 4000000000000000000 };
+
+    ghost changed = { rows.with_keys };
+
+    ghost IsCome = { rows.IsMonitorTurn };
+
+    fn name(&self, _alloc: Global) -> Result<NodeName, AllocError> {
+        Ok(NodeName::Monitor)
+    }
+
+    fn turned(
+        &mut self,
+        alloc: Global,
+        at: &Moment<'_>,
+        link: Link,
+    ) -> Result<Came<Link, KeyChange>, AllocError> {
+        turned(alloc, self, at, link)
+    }
+
+    fn settle(&mut self, change: KeyChange) {
+        self.go_back(&change.mark);
     }
 }

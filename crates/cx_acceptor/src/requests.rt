@@ -1,23 +1,23 @@
 //! AUTH_REQUEST.
 
-ghost use Rattle.std.specs.Prelude.{◌≡◌, ◌==◌, IfOk};
+ghost use Rattle.std.specs.Prelude.{◌≡◌, ◌==◌};
 ghost use Rattle.std.specs.List.{list_any};
 ghost use Rattle.cx_link.specs.Wires.{wired};
 ghost use Rattle.cx_rules.specs.Acceptor.{AwaitsRequest, on_auth_request};
 ghost use Rattle.cx_rules.specs.MonitorRule.{on_request_payload};
-ghost use Rattle.cx_acceptor.specs.Rows.{arrived, due, made_row};
+ghost use Rattle.cx_acceptor.specs.Rows.{Makes};
 
-use crate::links::Stage;
+use crate::links::Link;
 use crate::logins::on_login_hello;
-use crate::own::Own;
-use cx_base::{Items, NodeName};
+use crate::making::denies;
+use crate::own::{KeyChange, Own};
 use cx_control::AuthRequest;
-use cx_ends::Moment;
 use cx_journal::{BytesFault, LoginFault};
 use cx_link::PlainLink;
-use cx_node::{Row, denies, refuses_bytes, whole};
+use cx_node::whole;
+use cx_turns::{Moment, NoRow, NodeRow};
 use cx_wire::LoginHello;
-use std::alloc::{AllocError, Global};
+use std::alloc::Global;
 
 // The method has to be 2, cephx, and 2, the secure mode, among the modes; what follows is a LoginHello.
 pub(crate) fn on_auth_request(
@@ -26,37 +26,17 @@ pub(crate) fn on_auth_request(
     at: &Moment<'_>,
     link: PlainLink,
     read: Result<AuthRequest, BytesFault>,
-) -> Result<Row<Stage>, AllocError>
-    ensures { IfOk result (λ row. made_row own.now at.now.number row
-        ≡ due (on_auth_request on_request_payload (arrived own.now at.now (wired at.now.number link AwaitsRequest)) read)) }
+) -> Result<NodeRow<Link, KeyChange>, NoRow>
+    ensures { Makes own.now at.now (wired at.now.number link AwaitsRequest) (λ a. on_auth_request on_request_payload a read) result }
 {
-    let seals = Items::new(alloc);
-    match read {
-        Err(why) => refuses_bytes(alloc, &NodeName::Monitor, at.number, why, seals),
-        Ok(request) => {
-            if request.method != 2 {
-                denies(
-                    alloc,
-                    &NodeName::Monitor,
-                    at.number,
-                    95,
-                    LoginFault::Method,
-                    seals,
-                )
-            } else if !offers_secure(request.modes.all()) {
-                denies(
-                    alloc,
-                    &NodeName::Monitor,
-                    at.number,
-                    95,
-                    LoginFault::Mode,
-                    seals,
-                )
-            } else {
-                let hello = whole::<LoginHello>(alloc, request.payload.bytes())?;
-                on_login_hello(alloc, own, at, link, hello)
-            }
-        }
+    let request = read?;
+    if request.method != 2 {
+        Ok(denies(alloc, at, 95, LoginFault::Method)?)
+    } else if !offers_secure(request.modes.all()) {
+        Ok(denies(alloc, at, 95, LoginFault::Mode)?)
+    } else {
+        let hello = whole::<LoginHello>(alloc, request.payload.bytes())?;
+        on_login_hello(alloc, own, at, link, hello)
     }
 }
 

@@ -1,39 +1,55 @@
 //! A turn of a link, by its stage.
 
-ghost use Rattle.std.specs.Prelude.{◌≡◌, ◌<◌, IfOk, OnOk, OnErr};
+ghost use Rattle.std.specs.Prelude.{◌≡◌, ◌<◌, IfOk};
 ghost use Rattle.cx_link.specs.Wires.{wired};
 ghost use Rattle.cx_rules.specs.Acceptor.{AwaitsBanner, AwaitsHello, AwaitsRequest};
-ghost use Rattle.cx_acceptor.specs.Rows.{IsSameBut, Turns};
+ghost use Rattle.cx_turns.specs.Turns.{HasNumber};
+ghost use Rattle.cx_acceptor.specs.Rows.{IsMonitorTurn};
 ghost use Rattle.cx_acceptor.specs.Stages.{awaiting_ident, awaiting_proof, awaiting_signature, link_held, open_link};
 
-use crate::arrivals::Turned;
 use crate::greetings::{on_banner, on_hello};
 use crate::idents::on_ident;
-use crate::links::{Entity, Stage};
+use crate::links::{Entity, Link, Stage};
 use crate::logins::on_auth_request_more;
-use crate::own::Own;
+use crate::own::{KeyChange, Own};
 use crate::requests::on_auth_request;
 use crate::signatures::on_signature;
 use crate::upkeep::on_upkeep;
-use cx_base::Items;
+use cx_base::{Items, NodeName};
 use cx_control::{AuthRequest, AuthRequestMore, AuthSignature, Hello};
-use cx_ends::Moment;
 use cx_link::{BannerLink, BannerTurn, LinkTurn, PlainLink, SecureLink, Signing};
 use cx_login::Offered;
-use cx_node::{due, with_opened};
+use cx_node::due;
+use cx_turns::{Came, Moment, handles};
 use std::alloc::{AllocError, Global};
 
-/// What stands next on a link, by its stage. A login may change the key server's state and what was saved last.
+/// What stands next on a link. Nothing of the monitor's own is changed yet.
 pub fn turned(
     alloc: Global,
     own: &mut Own,
     at: &Moment<'_>,
+    link: Link,
+) -> Result<Came<Link, KeyChange>, AllocError>
+    requires time { at.now.reading < 4000000000000000000 }
+    requires number { link.number ≡ at.now.number }
+    ensures number { IfOk result (HasNumber (λ link. link.number) at.now.number) }
+    ensures come { IfOk result (IsMonitorTurn own.old at.now.reading at.now.draw.now.bytes link) }
+    ensures same { own.new ≡ own.old }
+{
+    let Link { number: _, stage } = link;
+    by_stage(alloc, own, at, stage)
+}
+
+// The turn of a link in this stage.
+fn by_stage(
+    alloc: Global,
+    own: &mut Own,
+    at: &Moment<'_>,
     stage: Stage,
-) -> Result<Turned, AllocError>
+) -> Result<Came<Link, KeyChange>, AllocError>
     requires { at.now.reading < 4000000000000000000 }
-    ensures turned { IfOk result (Turns own.old at.now (link_held at.now.number stage) own.new) }
-    ensures same { OnOk result (IsSameBut own.old own.new) }
-    ensures err { OnErr result (own.new ≡ own.old) }
+    ensures come { IfOk result (IsMonitorTurn own.old at.now.reading at.now.draw.now.bytes (link_held at.now.number stage)) }
+    ensures same { own.new ≡ own.old }
 {
     match stage {
         Stage::AwaitsBanner(link) => banner_turn(alloc, own, at, link),
@@ -51,13 +67,22 @@ fn banner_turn(
     own: &Own,
     at: &Moment<'_>,
     link: BannerLink,
-) -> Result<Turned, AllocError>
-    ensures { IfOk result (Turns own.now at.now (wired at.now.number link AwaitsBanner) own.now) }
+) -> Result<Came<Link, KeyChange>, AllocError>
+    ensures { IfOk result (IsMonitorTurn own.now at.now.reading at.now.draw.now.bytes (wired at.now.number link AwaitsBanner)) }
 {
     match link.turn() {
-        BannerTurn::Waits(link) => Ok(Turned::Waits(Stage::AwaitsBanner(link))),
-        BannerTurn::Refuses(why) => Ok(Turned::Refuses(why, Items::new(alloc))),
-        BannerTurn::Takes(link) => Ok(Turned::Handles(on_banner(alloc, own, at, link)?)),
+        BannerTurn::Waits(link) => Ok(Came::Waits(Link::new(at.number, Stage::AwaitsBanner(link)))),
+        BannerTurn::Refuses(why) => Ok(Came::Refuses(why, Items::new(alloc))),
+        BannerTurn::Takes(link) => {
+            let made = on_banner(alloc, own, at, link);
+            handles(
+                alloc,
+                &NodeName::Monitor,
+                at.number,
+                Items::new(alloc),
+                made,
+            )
+        }
     }
 }
 
@@ -66,15 +91,22 @@ fn hello_turn(
     own: &Own,
     at: &Moment<'_>,
     link: PlainLink,
-) -> Result<Turned, AllocError>
-    ensures { IfOk result (Turns own.now at.now (wired at.now.number link AwaitsHello) own.now) }
+) -> Result<Came<Link, KeyChange>, AllocError>
+    ensures { IfOk result (IsMonitorTurn own.now at.now.reading at.now.draw.now.bytes (wired at.now.number link AwaitsHello)) }
 {
     match link.turn(alloc)? {
-        LinkTurn::Waits(link) => Ok(Turned::Waits(Stage::AwaitsHello(link))),
-        LinkTurn::Refuses(why) => Ok(Turned::Refuses(why, Items::new(alloc))),
+        LinkTurn::Waits(link) => Ok(Came::Waits(Link::new(at.number, Stage::AwaitsHello(link)))),
+        LinkTurn::Refuses(why) => Ok(Came::Refuses(why, Items::new(alloc))),
         LinkTurn::Takes(link, frame) => {
             let hello = due::<Hello>(alloc, 1, &frame)?;
-            Ok(Turned::Handles(on_hello(alloc, own, at, link, hello)?))
+            let made = on_hello(alloc, own, at, link, hello);
+            handles(
+                alloc,
+                &NodeName::Monitor,
+                at.number,
+                Items::new(alloc),
+                made,
+            )
         }
     }
 }
@@ -84,15 +116,22 @@ fn request_turn(
     own: &Own,
     at: &Moment<'_>,
     link: PlainLink,
-) -> Result<Turned, AllocError>
-    ensures { IfOk result (Turns own.now at.now (wired at.now.number link AwaitsRequest) own.now) }
+) -> Result<Came<Link, KeyChange>, AllocError>
+    ensures { IfOk result (IsMonitorTurn own.now at.now.reading at.now.draw.now.bytes (wired at.now.number link AwaitsRequest)) }
 {
     match link.turn(alloc)? {
-        LinkTurn::Waits(link) => Ok(Turned::Waits(Stage::AwaitsRequest(link))),
-        LinkTurn::Refuses(why) => Ok(Turned::Refuses(why, Items::new(alloc))),
+        LinkTurn::Waits(link) => Ok(Came::Waits(Link::new(at.number, Stage::AwaitsRequest(link)))),
+        LinkTurn::Refuses(why) => Ok(Came::Refuses(why, Items::new(alloc))),
         LinkTurn::Takes(link, frame) => {
             let request = due::<AuthRequest>(alloc, 2, &frame)?;
-            Ok(Turned::Handles(on_auth_request(alloc, own, at, link, request)?))
+            let made = on_auth_request(alloc, own, at, link, request);
+            handles(
+                alloc,
+                &NodeName::Monitor,
+                at.number,
+                Items::new(alloc),
+                made,
+            )
         }
     }
 }
@@ -104,19 +143,27 @@ fn proof_turn(
     link: PlainLink,
     offered: Offered,
     gid: u64,
-) -> Result<Turned, AllocError>
+) -> Result<Came<Link, KeyChange>, AllocError>
     requires { at.now.reading < 4000000000000000000 }
-    ensures turned { IfOk result (Turns own.old at.now (awaiting_proof at.now.number link offered gid) own.new) }
-    ensures same { OnOk result (IsSameBut own.old own.new) }
-    ensures err { OnErr result (own.new ≡ own.old) }
+    ensures come { IfOk result (IsMonitorTurn own.old at.now.reading at.now.draw.now.bytes (awaiting_proof at.now.number link offered gid)) }
+    ensures same { own.new ≡ own.old }
 {
     match link.turn(alloc)? {
-        LinkTurn::Waits(link) => Ok(Turned::Waits(Stage::AwaitsProof(link, offered, gid))),
-        LinkTurn::Refuses(why) => Ok(Turned::Refuses(why, Items::new(alloc))),
+        LinkTurn::Waits(link) => Ok(Came::Waits(Link::new(
+            at.number,
+            Stage::AwaitsProof(link, offered, gid),
+        ))),
+        LinkTurn::Refuses(why) => Ok(Came::Refuses(why, Items::new(alloc))),
         LinkTurn::Takes(link, frame) => {
             let more = due::<AuthRequestMore>(alloc, 5, &frame)?;
-            let row = on_auth_request_more(alloc, own, at, link, offered, gid, more)?;
-            Ok(Turned::Handles(row))
+            let made = on_auth_request_more(alloc, own, at, link, offered, gid, more);
+            handles(
+                alloc,
+                &NodeName::Monitor,
+                at.number,
+                Items::new(alloc),
+                made,
+            )
         }
     }
 }
@@ -127,17 +174,20 @@ fn signature_turn(
     at: &Moment<'_>,
     signing: Signing,
     entity: Entity,
-) -> Result<Turned, AllocError>
-    ensures { IfOk result (Turns own.now at.now (awaiting_signature at.now.number signing entity) own.now) }
+) -> Result<Came<Link, KeyChange>, AllocError>
+    ensures { IfOk result (IsMonitorTurn own.now at.now.reading at.now.draw.now.bytes (awaiting_signature at.now.number signing entity)) }
 {
     let mut opened = Items::new(alloc);
     match signing.turn(alloc, &mut opened)? {
-        LinkTurn::Waits(signing) => Ok(Turned::Waits(Stage::AwaitsSignature(signing, entity))),
-        LinkTurn::Refuses(why) => Ok(Turned::Refuses(why, opened)),
+        LinkTurn::Waits(signing) => Ok(Came::Waits(Link::new(
+            at.number,
+            Stage::AwaitsSignature(signing, entity),
+        ))),
+        LinkTurn::Refuses(why) => Ok(Came::Refuses(why, opened)),
         LinkTurn::Takes(signing, frame) => {
             let found = due::<AuthSignature>(alloc, 7, &frame)?;
-            let row = on_signature(alloc, own, at, signing, entity, found)?;
-            Ok(Turned::Handles(with_opened(alloc, opened, row)?))
+            let made = on_signature(alloc, own, at, signing, entity, found);
+            handles(alloc, &NodeName::Monitor, at.number, opened, made)
         }
     }
 }
@@ -148,16 +198,19 @@ fn ident_turn(
     at: &Moment<'_>,
     link: SecureLink,
     entity: Entity,
-) -> Result<Turned, AllocError>
-    ensures { IfOk result (Turns own.now at.now (awaiting_ident at.now.number link entity) own.now) }
+) -> Result<Came<Link, KeyChange>, AllocError>
+    ensures { IfOk result (IsMonitorTurn own.now at.now.reading at.now.draw.now.bytes (awaiting_ident at.now.number link entity)) }
 {
     let mut opened = Items::new(alloc);
     match link.turn(alloc, &mut opened)? {
-        LinkTurn::Waits(link) => Ok(Turned::Waits(Stage::AwaitsIdent(link, entity))),
-        LinkTurn::Refuses(why) => Ok(Turned::Refuses(why, opened)),
+        LinkTurn::Waits(link) => Ok(Came::Waits(Link::new(
+            at.number,
+            Stage::AwaitsIdent(link, entity),
+        ))),
+        LinkTurn::Refuses(why) => Ok(Came::Refuses(why, opened)),
         LinkTurn::Takes(link, frame) => {
-            let row = on_ident(alloc, own, at, link, entity, &frame)?;
-            Ok(Turned::Handles(with_opened(alloc, opened, row)?))
+            let made = on_ident(alloc, own, at, link, entity, &frame);
+            handles(alloc, &NodeName::Monitor, at.number, opened, made)
         }
     }
 }
@@ -168,16 +221,16 @@ fn open_turn(
     at: &Moment<'_>,
     link: SecureLink,
     entity: Entity,
-) -> Result<Turned, AllocError>
-    ensures { IfOk result (Turns own.now at.now (open_link at.now.number link entity) own.now) }
+) -> Result<Came<Link, KeyChange>, AllocError>
+    ensures { IfOk result (IsMonitorTurn own.now at.now.reading at.now.draw.now.bytes (open_link at.now.number link entity)) }
 {
     let mut opened = Items::new(alloc);
     match link.turn(alloc, &mut opened)? {
-        LinkTurn::Waits(link) => Ok(Turned::Waits(Stage::Open(link, entity))),
-        LinkTurn::Refuses(why) => Ok(Turned::Refuses(why, opened)),
+        LinkTurn::Waits(link) => Ok(Came::Waits(Link::new(at.number, Stage::Open(link, entity)))),
+        LinkTurn::Refuses(why) => Ok(Came::Refuses(why, opened)),
         LinkTurn::Takes(link, frame) => {
-            let row = on_upkeep(alloc, own, at, link, entity, &frame)?;
-            Ok(Turned::Handles(with_opened(alloc, opened, row)?))
+            let made = on_upkeep(alloc, own, at, link, entity, &frame);
+            handles(alloc, &NodeName::Monitor, at.number, opened, made)
         }
     }
 }

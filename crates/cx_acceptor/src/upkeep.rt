@@ -1,22 +1,20 @@
 //! KEEPALIVE2 and KEEPALIVE2_ACK on an open link.
 
-ghost use Rattle.std.specs.Prelude.{◌≡◌, [], IfOk};
-ghost use Rattle.cx_ends.specs.Stages.{keys_alone};
-ghost use Rattle.cx_ends.specs.Upkeep.{upkept};
+ghost use Rattle.std.specs.Prelude.{[]};
+ghost use Rattle.cx_turns.specs.Stages.{keys_alone};
+ghost use Rattle.cx_turns.specs.Upkeep.{upkept};
 ghost use Rattle.cx_rules.specs.Acceptor.{Open};
 ghost use Rattle.cx_rules.specs.Rows.{secure_sent};
 ghost use Rattle.cx_rules.specs.Upkeep.{on_upkeep};
-ghost use Rattle.cx_acceptor.specs.Rows.{arrived, due, made_row};
+ghost use Rattle.cx_acceptor.specs.Rows.{Makes};
 ghost use Rattle.cx_acceptor.specs.Stages.{open_link};
 
-use crate::links::{Entity, Stage};
-use crate::own::Own;
-use cx_base::{Items, NodeName};
-use cx_ends::{Moment, upkept};
+use crate::links::{Entity, Link, Stage};
+use crate::own::{KeyChange, Own};
 use cx_frame::Frame;
 use cx_link::SecureLink;
-use cx_node::{Row, goes_on, refuses_bytes};
-use std::alloc::{AllocError, Global};
+use cx_turns::{Moment, NoRow, NodeRow, goes_on, upkept};
+use std::alloc::Global;
 
 // No other frame is due on an open link.
 pub(crate) fn on_upkeep(
@@ -26,9 +24,8 @@ pub(crate) fn on_upkeep(
     link: SecureLink,
     entity: Entity,
     frame: &Frame,
-) -> Result<Row<Stage>, AllocError>
-    ensures { IfOk result (λ row. made_row own.now at.now.number row
-        ≡ due (on_upkeep (arrived own.now at.now (open_link at.now.number link entity)) (keys_alone link.keys) (λ behind. Open behind entity) frame.now)) }
+) -> Result<NodeRow<Link, KeyChange>, NoRow>
+    ensures { Makes own.now at.now (open_link at.now.number link entity) (λ a. on_upkeep a (keys_alone link.keys) (λ behind. Open behind entity) frame.now) result }
 {
     stays_open(alloc, own, at, link, entity, frame)
 }
@@ -41,17 +38,11 @@ fn stays_open(
     link: SecureLink,
     entity: Entity,
     frame: &Frame,
-) -> Result<Row<Stage>, AllocError>
-    ensures { IfOk result (λ row. made_row own.now at.now.number row
-        ≡ due (secure_sent (arrived own.now at.now (open_link at.now.number link entity)) (keys_alone link.keys) (λ behind. Open behind entity) [] (upkept link.keys frame.now))) }
+) -> Result<NodeRow<Link, KeyChange>, NoRow>
+    ensures { Makes own.now at.now (open_link at.now.number link entity)
+        (λ a. secure_sent a (keys_alone link.keys) (λ behind. Open behind entity) [] (upkept link.keys frame.now)) result }
 {
-    match upkept(alloc, link, frame)? {
-        Ok(sent) => Ok(goes_on(
-            alloc,
-            Stage::Open(sent.link, entity),
-            sent.bytes,
-            sent.seals,
-        )),
-        Err(why) => refuses_bytes(alloc, &NodeName::Monitor, at.number, why, Items::new(alloc)),
-    }
+    let sent = upkept(alloc, link, frame)??;
+    let link = Link::new(at.number, Stage::Open(sent.link, entity));
+    Ok(goes_on(alloc, link, sent.bytes, sent.seals))
 }

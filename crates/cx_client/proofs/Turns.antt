@@ -1,76 +1,26 @@
--- What a client does on one of its links, as a turn of any node.
-use Rattle.std.proofs.Common.{◌≡◌, ◌∙◌, ℕ, List, Option, Some, None, IfSome, refl, ap}
-use Rattle.std.specs.Option.{option_map}
-use Rattle.cx_connector.specs.Rows.{Turns, arrived, opening_row, turn_due}
-use Rattle.cx_connector.specs.Stages.{link_held}
-use Rattle.cx_connector.specs.declared.arrivals.Turned.{Turned as TurnMade}
-use Rattle.cx_connector.specs.declared.arrivals.Turned.TheVariants as made
-use Rattle.cx_connector.specs.declared.links.Stage.{Stage as Held}
-use Rattle.cx_connector.specs.declared.rows.AskerRow.{AskerRow}
-use Rattle.cx_connector.specs.Rows as rows
-use Rattle.cx_connector.proofs.Stages.{number_held}
-use Rattle.cx_ends.specs.declared.moments.Moment.{Moment}
-use Rattle.cx_journal.specs.declared.faults.BytesFault.{BytesFault}
+-- What a client does on one of its links, as one that logs in, is a turn of a client.
+use Rattle.std.proofs.Common.{◌≡◌, ℕ, Result, Ok, Err, IfOk, refl}
+use Rattle.cx_connector.specs.Rows.{IsAskerTurn, arrived, changed, opening_row}
+use Rattle.cx_connector.specs.declared.rows.Change.{Change}
 use Rattle.cx_node.specs.Made.{as_row}
 use Rattle.cx_node.specs.declared.rows.Row.{Row as Made}
 use Rattle.cx_rules.specs.Abridged.{abridged_asker_link}
 use Rattle.cx_rules.specs.ClientRule.{Client, with_asker}
-use Rattle.cx_rules.specs.Connector.{Stage, turned_at}
-use Rattle.cx_rules.specs.Holdings.{Asker}
-use Rattle.cx_rules.specs.Rows.{Turned, Waits, Refuses, Handles, lifted_turn}
-use Rattle.cx_steps.specs.declared.seals.SealEntry.{SealEntry}
-use Rattle.cx_turns.specs.Steps as steps
-use Rattle.cx_turns.specs.declared.came.Came.TheVariants as came
-use Rattle.cx_client.specs.Machine.{ClientLink, IsClientTurn, banner_sent, with_change}
+use Rattle.cx_rules.specs.Connector.{turned_at}
+use Rattle.cx_turns.proofs.Lifting.{turn_lifted}
+use Rattle.cx_turns.specs.Making.{row_due}
+use Rattle.cx_turns.specs.declared.came.Came.{Came}
+use Rattle.cx_turns.specs.declared.moments.Moment.{Moment}
+use Rattle.cx_connector.specs.Stages.{AskerLink}
+use Rattle.cx_client.specs.Machine.{IsClientTurn, banner_sent, with_change}
 
--- a turn of the rules is to be made alike, whether it is the client's or that of one that logs in
-due_alike : (own : Client) (T : Turned Asker Stage) → lifted_turn (with_asker own) (turn_due T) ≡ steps.turn_due abridged_asker_link (lifted_turn (with_asker own) T)
-due_alike own Waits = refl
-due_alike own (Refuses why opened) = refl
-due_alike own (Handles R) = refl
+pub greeted : {E : Type 0} (own : Client) (at : Moment) (r : Result (Made AskerLink) E) → IfOk r (λ row. row ≡ opening_row at.number own.asked)
+    → IfOk r (λ row. as_row own row ≡ row_due abridged_asker_link (banner_sent own at.number at.reading at.draw.now.bytes))
+greeted own at (Ok row) is = rw is refl
+greeted own at (Err e) is = tt
 
--- what one that logs in made is what its client made
-lifted_due : (own : Client) (number : ℕ) (turn : TurnMade) (T : Turned Asker Stage) → rows.turn_made own.asker number turn ≡ turn_due T
-    → lifted_turn (with_asker own) (rows.turn_made own.asker number turn) ≡ steps.turn_due abridged_asker_link (lifted_turn (with_asker own) T)
-lifted_due own number turn T e =
-    let lifts : Turned Asker Stage → Turned Client Stage = λ t. lifted_turn (with_asker own) t in ap lifts e ∙ due_alike own T
-
--- the row of a stage is one of the link in that stage
-abbrev on_link : ℕ → Made Held → Made ClientLink
-on_link number row = record { link = option_map (link_held number) row.link; sends = row.sends; save = row.save; entries = row.entries; seals = row.seals }
-
--- all of the links of a row have its number
-pub numbered : (number : ℕ) (stage : Option Held) → IfSome (option_map (link_held number) stage) (λ link. link.number ≡ number)
-numbered number None = tt
-numbered number (Some stage) = number_held number stage
-
-pub greeted : (own : Client) (at : Moment) (row : Made Held) (back : Made ClientLink) → row ≡ opening_row own.asked → back ≡ on_link at.number row
-    → as_row own back ≡ steps.row_due abridged_asker_link (banner_sent own at.number at.reading at.draw.now.bytes)
-greeted own at row back r b = rw (b, r) refl
-
-pub waited : (own : Client) (at : Moment) (held stage : Held) → Turns own.asker at (link_held at.number held) (made.Waits stage)
-    → IsClientTurn own at.reading at.draw.now.bytes (link_held at.number held) (came.Waits (link_held at.number stage))
-waited own at held stage t =
-    let link : ClientLink = link_held at.number held in
-    record {
-      made = lifted_due own at.number (made.Waits stage) (turned_at (arrived own.asker at link) link.stage) t.made;
-      stays = rw (number_held at.number held) at t.stays;
-    }
-
-pub refused : (own : Client) (at : Moment) (held : Held) (why : BytesFault) (opened : List SealEntry)
-    → Turns own.asker at (link_held at.number held) (made.Refuses why opened)
-    → IsClientTurn own at.reading at.draw.now.bytes (link_held at.number held) (came.Refuses why opened)
-refused own at held why opened t =
-    let link : ClientLink = link_held at.number held in
-    record { made = lifted_due own at.number (made.Refuses why opened) (turned_at (arrived own.asker at link) link.stage) t.made; stays = tt }
-
-pub handled : (own : Client) (at : Moment) (held : Held) (row : AskerRow) (back : Made ClientLink)
-    → Turns own.asker at (link_held at.number held) (made.Handles row) → back ≡ on_link at.number row.row
-    → IsClientTurn own at.reading at.draw.now.bytes (link_held at.number held) (came.Handles back row.change)
-handled own at held row back t b =
-    let link : ClientLink = link_held at.number held in
-    let as_handled : Made ClientLink → Turned Client Stage = λ r. Handles (as_row (with_change own row.change) r) in
-    record {
-      made = ap as_handled b ∙ lifted_due own at.number (made.Handles row) (turned_at (arrived own.asker at link) link.stage) t.made;
-      stays = tt;
-    }
+pub client_turn : {E : Type 0} (own : Client) (at : Moment) (link : AskerLink) (r : Result (Came AskerLink Change) E) → IfOk r (IsAskerTurn own.asker at link)
+    → IfOk r (IsClientTurn own at.reading at.draw.now.bytes link)
+client_turn own at link (Ok come) t =
+    turn_lifted abridged_asker_link (with_asker own) changed with_change own.asker own refl (λ change. refl) link (turned_at (arrived own.asker at link) link.stage) come t
+client_turn own at link (Err e) t = tt

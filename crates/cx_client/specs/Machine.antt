@@ -3,9 +3,10 @@ use Rattle.std.specs.Prelude.{ℕ, List, []}
 use Rattle.cx_base.specs.Names.{Name}
 use Rattle.cx_base.specs.declared.addresses.Addr.{Addr}
 use Rattle.cx_connector.specs.Rows.{changed}
+use Rattle.cx_connector.specs.Stages.{AskerLink}
 use Rattle.cx_connector.specs.declared.rows.Change.{Change}
 use Rattle.cx_enc.specs.declared.keys.Key.{Key}
-use Rattle.cx_ends.specs.Events.{link_in}
+use Rattle.cx_turns.specs.Events.{link_in}
 use Rattle.cx_holdings.specs.declared.offers.OfferedModes.{OfferedModes}
 use Rattle.cx_rules.specs.Abridged.{abridged_asker_link}
 use Rattle.cx_rules.specs.ClientRule.{Client, ClientNode, me, with_asker}
@@ -13,21 +14,14 @@ use Rattle.cx_rules.specs.Connector.{AwaitsBanner, Stage, turned_at}
 use Rattle.cx_rules.specs.Greetings.{own_banner}
 use Rattle.cx_rules.specs.Holdings.{Asker, holds_nothing, modes_of}
 use Rattle.cx_rules.specs.Inputs.{Input}
-use Rattle.cx_rules.specs.Links.{Link}
 use Rattle.cx_rules.specs.Rows.{Outcome, Row, Turned, arrival, goes_on, lifted_turn, new_link}
 use Rattle.cx_steps.specs.declared.effects.Effects.{Effects}
 use Rattle.cx_turns.specs.Steps as steps
 use Rattle.cx_turns.specs.Steps.{IsTurn, without_lost}
 use Rattle.cx_turns.specs.declared.came.Came.{Came}
 
-abbrev pub ClientLink : Type 0
-ClientLink = Link Stage
-
 abbrev pub ClientRow : Type 0
 ClientRow = Row Client Stage
-
-abbrev pub node_of : Client → List ClientLink → ClientNode
-node_of own links = record { own = own; links = links }
 
 -- one that logs in as it begins, with its name, its key, its modes and its address: it holds nothing yet
 abbrev pub opening_asker : Name → Key → OfferedModes → Addr → Asker
@@ -41,7 +35,7 @@ opening_asker name key modes address = record {
 }
 
 -- how a client holds its links
-abbrev pub AreHeld : List ClientLink → Type 0
+abbrev pub AreHeld : List AskerLink → Type 0
 AreHeld links = steps.AreHeld abridged_asker_link links
 
 -- where memory is wanting, the event's link is forgotten, and nothing else happens
@@ -64,9 +58,9 @@ abbrev pub with_change : Client → Change → Client
 with_change own change = with_asker own (changed own.asker change)
 
 -- what the rules have a turn of this link come to
-abbrev pub turn_of : Client → ℕ → List ℕ → ClientLink → Turned Client Stage
+abbrev pub turn_of : Client → ℕ → List ℕ → AskerLink → Turned Client Stage
 turn_of own reading draw link = lifted_turn (with_asker own) (turned_at (arrival (me own) own.asker link reading draw) link.stage)
 
 -- a turn of this link came to that
-abbrev pub IsClientTurn : Client → ℕ → List ℕ → ClientLink → Came ClientLink Change → Type 0
+abbrev pub IsClientTurn : Client → ℕ → List ℕ → AskerLink → Came AskerLink Change → Type 0
 IsClientTurn own reading draw link come = IsTurn abridged_asker_link with_change own link (turn_of own reading draw link) come

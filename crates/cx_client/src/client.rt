@@ -4,7 +4,7 @@ ghost use Rattle.std.specs.Prelude.{◌≡◌, OnOk, OnErr};
 ghost use Rattle.cx_rules.specs.Abridged.{ClientStandsFor, abridged_client};
 ghost use Rattle.cx_rules.specs.ClientRule.{ClientNode, client_rule, is_idle, opening_client};
 ghost use Rattle.cx_rules.specs.Inputs.{input_of};
-ghost use Rattle.cx_ends.specs.Events.{losing};
+ghost use Rattle.cx_turns.specs.Events.{losing};
 ghost use Rattle.cx_client.specs.Machine.{lost, opening_asker};
 
 use crate::events::steps;
@@ -14,11 +14,11 @@ use cx_base::{Addr, EntityName, Reading};
 use cx_connector::Link;
 use cx_dice::Draw;
 use cx_enc::Key;
-use cx_ends::link_in;
 use cx_holdings::OfferedModes;
 use cx_node::{Links, loses};
 use cx_rules::forgetting_laws;
 use cx_steps::{Effects, Event};
+use cx_turns::link_in;
 use std::alloc::{AllocError, Global};
 use std::marker::Model;
 
@@ -35,7 +35,8 @@ impl Model for Client {
 
     ghost Value = { ClientNode };
 
-    ghost use Rattle.cx_client.specs.Machine.{AreHeld, node_of};
+    ghost use Rattle.cx_turns.specs.Steps.{node_of};
+    ghost use Rattle.cx_client.specs.Machine.{AreHeld};
 
     ghost view = { λ c. node_of c.own c.links.links };
 

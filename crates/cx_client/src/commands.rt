@@ -2,7 +2,8 @@
 
 ghost use Rattle.std.specs.Prelude.{◌≡◌, None, IfOk, OnErr};
 ghost use Rattle.cx_rules.specs.ClientRule as rule;
-ghost use Rattle.cx_client.specs.Machine.{AreHeld, IsStep, node_of};
+ghost use Rattle.cx_turns.specs.Steps.{node_of};
+ghost use Rattle.cx_client.specs.Machine.{AreHeld, IsStep};
 
 use crate::own::Own;
 use cx_base::Items;

@@ -9,18 +9,18 @@ ghost use Rattle.cx_rules.specs.Links.{link_of, without_link};
 ghost use Rattle.cx_rules.specs.Rows as rows;
 ghost use Rattle.cx_steps.specs.Nothing.{nothing};
 ghost use Rattle.cx_steps.specs.declared.events.Peer.TheVariants.{Monitor};
-ghost use Rattle.cx_client.specs.Machine.{AreHeld, IsStep, lost, node_of};
+ghost use Rattle.cx_turns.specs.Steps.{node_of};
+ghost use Rattle.cx_client.specs.Machine.{AreHeld, IsStep, lost};
 
 use crate::commands::submits;
 use crate::own::Own;
 use cx_base::Reading;
 use cx_connector::Link;
 use cx_dice::Draw;
-use cx_ends::Moment;
 use cx_journal::{Entry, Reason};
 use cx_node::{Links, enters, refused_entry};
 use cx_steps::{Effects, Event, Peer};
-use cx_turns::{turn, unopened};
+use cx_turns::{Moment, turn, unopened};
 use std::alloc::{AllocError, Global};
 
 // What the client does at an event.
@@ -139,7 +139,7 @@ fn comes(
     ensures room { links.new.room ≡ None }
     ensures held { AreHeld links.new.links }
 {
-    cx_turns::comes::<Link, Own>(alloc, links, number, bytes)
+    cx_turns::comes(alloc, links, number, bytes)
 }
 
 // One banner or frame of what came on a link is handled, if it lives.

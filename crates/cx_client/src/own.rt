@@ -1,21 +1,18 @@
 //! What a client has of its own.
 
 ghost use Rattle.std.specs.Prelude.{◌≡◌, IfOk};
-ghost use Rattle.std.specs.Option.{option_map};
-ghost use Rattle.cx_connector.specs.Stages.{link_held};
 ghost use Rattle.cx_node.specs.Made.{as_row};
 ghost use Rattle.cx_rules.specs.Abridged.{abridged_asker_link};
-ghost use Rattle.cx_turns.specs.Steps.{row_due};
+ghost use Rattle.cx_turns.specs.Making.{row_due};
 ghost use Rattle.cx_turns.specs.Turns.{HasNumber};
 ghost use Rattle.cx_client.specs.Machine.{IsClientTurn, banner_sent};
 
-use cx_base::{Addr, Duplicate, EntityName, NodeName};
-use cx_connector::{AskerRow, Change, Link, Stage, Turned, greeting, turned};
+use cx_base::{Addr, EntityName, NodeName};
+use cx_connector::{Change, Link, greeting, named, turned};
 use cx_enc::Key;
-use cx_ends::Moment;
 use cx_holdings::{Asker, OfferedModes};
 use cx_node::Row;
-use cx_turns::{Came, Turner};
+use cx_turns::{Came, Moment, Turner};
 use std::alloc::{AllocError, Global};
 use std::marker::Model;
 
@@ -53,8 +50,7 @@ impl Own {
     pub fn named(&self, alloc: Global) -> Result<NodeName, AllocError>
         ensures { IfOk result (λ named. named ≡ me self.now) }
     {
-        let name = self.asker.name().copy(alloc)?;
-        Ok(NodeName::Entity(name))
+        named(alloc, &self.asker)
     }
 
     /// The row of a link to the monitor that opens.
@@ -62,8 +58,7 @@ impl Own {
     pub fn greets(&self, alloc: Global, at: &Moment<'_>) -> Result<Row<Link>, AllocError>
         ensures { IfOk result (λ row. as_row self.now row ≡ row_due abridged_asker_link (banner_sent self.now at.now.number at.now.reading at.now.draw.now.bytes)) }
     {
-        let row = greeting(alloc, self.asked)?;
-        Ok(linked(at.number, row))
+        greeting(alloc, at.number, self.asked)
     }
 
     /// A login asks tickets for these services from now on.
@@ -83,9 +78,7 @@ impl Own {
 }
 
 impl Turner<Link> for Own {
-    ghost use Rattle.cx_rules.specs.Abridged.{abridged_asker_link};
     ghost use Rattle.cx_rules.specs.ClientRule as rule;
-    ghost use Rattle.cx_turns.specs.Steps as steps;
     ghost use Rattle.cx_client.specs.Machine as machine;
 
     type Change = Change;
@@ -96,16 +89,10 @@ impl Turner<Link> for Own {
 
     ghost changed = { machine.with_change };
 
-    ghost IsFed = { steps.IsFed abridged_asker_link };
-
     ghost IsCome = { machine.IsClientTurn };
 
     fn name(&self, alloc: Global) -> Result<NodeName, AllocError> {
         self.named(alloc)
-    }
-
-    fn fed(alloc: Global, link: Link, bytes: &[u8]) -> Result<Link, AllocError> {
-        link.fed(alloc, bytes)
     }
 
     fn turned(
@@ -114,8 +101,7 @@ impl Turner<Link> for Own {
         at: &Moment<'_>,
         link: Link,
     ) -> Result<Came<Link, Change>, AllocError> {
-        let Link { number: _, stage } = link;
-        turns(alloc, self, at, stage)
+        turns(alloc, self, at, link)
     }
 
     fn settle(&mut self, change: Change) {
@@ -123,55 +109,17 @@ impl Turner<Link> for Own {
     }
 }
 
-// What a turn of a link in this stage comes to.
-#[tactic(auto, using(crate::proofs::Turns::waited, crate::proofs::Turns::refused, crate::proofs::Turns::handled, crate::proofs::Turns::numbered))]
+// What a turn of a link comes to: what it does for the client as one that logs in.
+#[tactic(auto, using(crate::proofs::Turns::client_turn))]
 fn turns(
     alloc: Global,
     own: &Own,
     at: &Moment<'_>,
-    stage: Stage,
+    link: Link,
 ) -> Result<Came<Link, Change>, AllocError>
-    ensures number { IfOk result (λ came. HasNumber (λ link. link.number) at.now.number came) }
-    ensures come { IfOk result (λ came. IsClientTurn own.now at.now.reading at.now.draw.now.bytes (link_held at.now.number stage) came) }
+    requires { link.number ≡ at.now.number }
+    ensures number { IfOk result (HasNumber (λ link. link.number) at.now.number) }
+    ensures come { IfOk result (IsClientTurn own.now at.now.reading at.now.draw.now.bytes link) }
 {
-    match turned(alloc, &own.asker, at, stage)? {
-        Turned::Waits(stage) => Ok(Came::Waits(Link {
-            number: at.number,
-            stage,
-        })),
-        Turned::Refuses(why, opened) => Ok(Came::Refuses(why, opened)),
-        Turned::Handles(made) => {
-            let AskerRow { row, change } = made;
-            Ok(Came::Handles(linked(at.number, row), change))
-        }
-    }
-}
-
-// A row of the link of this number.
-fn linked(number: u32, row: Row<Stage>) -> Row<Link>
-    ensures { result ≡ record { link = option_map (link_held number) row.link; sends = row.sends; save = row.save; entries = row.entries; seals = row.seals } }
-{
-    let Row {
-        link,
-        sends,
-        save,
-        entries,
-        seals,
-    } = row;
-    Row {
-        link: numbered(number, link),
-        sends,
-        save,
-        entries,
-        seals,
-    }
-}
-
-fn numbered(number: u32, stage: Option<Stage>) -> Option<Link>
-    ensures { result ≡ option_map (link_held number) stage }
-{
-    match stage {
-        Some(stage) => Some(Link { number, stage }),
-        None => None,
-    }
+    turned(alloc, &own.asker, at, link)
 }

@@ -7,42 +7,35 @@ use Rattle.cx_control.specs.declared.auth.AuthSignature.{AuthSignature}
 use Rattle.cx_control.specs.declared.idents.IdentMissingFeatures.{IdentMissingFeatures}
 use Rattle.cx_control.specs.declared.idents.ServerIdent.{ServerIdent}
 use Rattle.cx_dice.specs.Draws.{cookie_of}
-use Rattle.cx_ends.proofs.Keeping.{upkept-row}
-use Rattle.cx_ends.specs.Stages.{keys_alone}
-use Rattle.cx_ends.specs.Upkeep.{upkept}
+use Rattle.cx_turns.proofs.Keeping.{upkept-row}
+use Rattle.cx_turns.specs.Stages.{keys_alone}
+use Rattle.cx_turns.specs.Upkeep.{upkept}
 use Rattle.cx_frame.specs.declared.frame.Frame.{Frame}
 use Rattle.cx_journal.specs.declared.faults.BytesFault.{BytesFault}
 use Rattle.cx_journal.specs.declared.faults.LoginFault.TheVariants.{SignatureWrong}
 use Rattle.cx_journal.specs.declared.outcomes.Reason.TheVariants as reason
 use Rattle.cx_rules.specs.Connector.{AskerArrival, AskerRow, Stage, AwaitsIdent, Open, Login, client_ident, holding, identifies, on_missing_features, on_server_ident, on_signature, while_identified}
-use Rattle.cx_rules.specs.Holdings.{Holdings, held_login}
+use Rattle.cx_rules.specs.Holdings.{Asker, Holdings, held_login}
 use Rattle.cx_rules.specs.Payloads as payload
-use Rattle.cx_rules.specs.Rows.{at, refuses, secure_sent}
+use Rattle.cx_rules.specs.Abridged.{abridged_asker_link}
+use Rattle.cx_rules.specs.Rows.{refuses, secure_sent}
 use Rattle.cx_rules.specs.Secured.{Keys, SealedFrame, Secured, is_signed, secure_frame, signature_found}
 use Rattle.cx_rules.specs.Upkeep.{on_upkeep}
 use Rattle.cx_steps.specs.declared.seals.DrawMark.TheVariants as draw
 use Rattle.cx_steps.specs.declared.seals.SealEntry.{SealEntry}
 use Rattle.cx_steps.specs.declared.seals.SealEntry.TheVariants.{Drawn}
-use Rattle.cx_connector.specs.Rows.{due, identified}
+use Rattle.cx_turns.proofs.Handling.{Coming, Same, left, taken}
+use Rattle.cx_turns.specs.Making.{row_due}
+use Rattle.cx_connector.specs.Rows.{identified}
 
--- an arrival on a secured link of this number, on which these bytes came, and of which so many were taken; and another stage
-pub record Coming : Type 0 where
-  pub a : AskerArrival
-  pub number : ℕ
-  pub came : List ℕ
-  pub n : ℕ
-  pub stage : Stage
-  pub next : Stage
+abbrev pub AskerComing : Type 0
+AskerComing = Coming Asker Stage
 
-abbrev pub taken : Coming → AskerArrival
-taken h = at h.a (record { number = h.number; received = h.came; taken = h.n; sent = []; stage = h.stage })
+abbrev pub SameRow : AskerComing → (AskerArrival → AskerRow) → Type 0
+SameRow h row = Same abridged_asker_link h row
 
--- the same on the link that holds what is left, in the other stage
-abbrev pub left : Coming → AskerArrival
-left h = at h.a (record { number = h.number; received = drop h.n h.came; taken = 0; sent = []; stage = h.next })
-
-abbrev pub Same : Coming → (AskerArrival → AskerRow) → Type 0
-Same h row = due (row (taken h)) ≡ due (row (left h))
+abbrev due : AskerRow → AskerRow
+due row = row_due abridged_asker_link row
 
 -- ---- AUTH_SIGNATURE
 
@@ -50,18 +43,18 @@ Same h row = due (row (taken h)) ≡ due (row (left h))
 abbrev ident_seals : Secured → List ℕ → List SealEntry
 ident_seals s drawn = signature_found s ∷ Drawn (draw.Cookie (cookie_of drawn)) ∷ []
 
-ident_sent : (h : Coming) (s : Secured) (holdings : Holdings) (seals : List SealEntry) (r : Result SealedFrame BytesFault)
-    → Same h (λ a. secure_sent (holding a holdings) s AwaitsIdent seals r)
+ident_sent : (h : AskerComing) (s : Secured) (holdings : Holdings) (seals : List SealEntry) (r : Result SealedFrame BytesFault)
+    → SameRow h (λ a. secure_sent (holding a holdings) s AwaitsIdent seals r)
 ident_sent h s holdings seals (Ok sealed) = refl
 ident_sent h s holdings seals (Err why) = refl
 
-signed : (h : Coming) (s : Secured) (login : Login) (b : Bool)
-    → Same h (λ a. if b then identifies a s login else refuses a (reason.Login SignatureWrong) [])
+signed : (h : AskerComing) (s : Secured) (login : Login) (b : Bool)
+    → SameRow h (λ a. if b then identifies a s login else refuses a (reason.Login SignatureWrong) [])
 signed h s login true =
     ident_sent h s (held_login h.a.own.holdings login.gid login.opened) (ident_seals s h.a.draw) (secure_frame s.keys (client_ident h.a.own login.gid (cookie_of h.a.draw)))
 signed h s login false = refl
 
-pub signature-same : (h : Coming) (s : Secured) (login : Login) (read : Result AuthSignature BytesFault) → Same h (λ a. on_signature a s login read)
+pub signature-same : (h : AskerComing) (s : Secured) (login : Login) (read : Result AuthSignature BytesFault) → SameRow h (λ a. on_signature a s login read)
 signature-same h s login (Err why) = refl
 signature-same h s login (Ok found) = signed h s login (is_signed s found.signature)
 
@@ -71,35 +64,36 @@ keys_matter : (a : AskerArrival) (s : Secured) (seals : List SealEntry) (r : Res
 keys_matter a s seals (Ok sealed) = refl
 keys_matter a s seals (Err why) = refl
 
-pub identified-is : (a : AskerArrival) (s : Secured) (login : Login) → due (identifies a s login) ≡ due (identified a s.keys (signature_found s) login)
+pub identified-is : (a : AskerArrival) (s : Secured) (login : Login)
+    → row_due abridged_asker_link (identifies a s login) ≡ row_due abridged_asker_link (identified a s.keys (signature_found s) login)
 identified-is a s login =
     keys_matter (holding a (held_login a.own.holdings login.gid login.opened)) s (ident_seals s a.draw) (secure_frame s.keys (client_ident a.own login.gid (cookie_of a.draw)))
 
 -- ---- SERVER_IDENT, IDENT_MISSING_FEATURES
 
-server-same : (h : Coming) (s : Secured) (read : Result ServerIdent BytesFault) → Same h (λ a. on_server_ident a s read)
+server-same : (h : AskerComing) (s : Secured) (read : Result ServerIdent BytesFault) → SameRow h (λ a. on_server_ident a s read)
 server-same h s (Err why) = refl
 server-same h s (Ok ident) = refl
 
-missing-same : (h : Coming) (read : Result IdentMissingFeatures BytesFault) → Same h (λ a. on_missing_features a read)
+missing-same : (h : AskerComing) (read : Result IdentMissingFeatures BytesFault) → SameRow h (λ a. on_missing_features a read)
 missing-same h (Err why) = refl
 missing-same h (Ok missing) = refl
 
-tags-same : (h : Coming) (s : Secured) (f : Frame) (b : Bool) → Same h (λ a.
+tags-same : (h : AskerComing) (s : Secured) (f : Frame) (b : Bool) → SameRow h (λ a.
     if b then on_missing_features a (payload.payload ident_missing_features_layout.form f)
     else on_server_ident a s (payload.due 9 server_ident_layout.form f))
 tags-same h s f true = missing-same h (payload.payload ident_missing_features_layout.form f)
 tags-same h s f false = server-same h s (payload.due 9 server_ident_layout.form f)
 
-pub ident-same : (h : Coming) (s : Secured) (f : Frame) → Same h (λ a. while_identified a s f)
+pub ident-same : (h : AskerComing) (s : Secured) (f : Frame) → SameRow h (λ a. while_identified a s f)
 ident-same h s f = tags-same h s f (f.tag == 10)
 
 -- ---- KEEPALIVE2, KEEPALIVE2_ACK
 
-open_sent : (h : Coming) (s : Secured) (r : Result SealedFrame BytesFault) → Same h (λ a. secure_sent a s Open [] r)
+open_sent : (h : AskerComing) (s : Secured) (r : Result SealedFrame BytesFault) → SameRow h (λ a. secure_sent a s Open [] r)
 open_sent h s (Ok sealed) = refl
 open_sent h s (Err why) = refl
 
-pub upkeep-same : (h : Coming) (keys : Keys) (f : Frame) → Same h (λ a. on_upkeep a (keys_alone keys) Open f)
+pub upkeep-same : (h : AskerComing) (keys : Keys) (f : Frame) → SameRow h (λ a. on_upkeep a (keys_alone keys) Open f)
 upkeep-same h keys f =
     ap due (upkept-row (taken h) keys Open f) ∙ open_sent h (keys_alone keys) (upkept keys f) ∙ sym (ap due (upkept-row (left h) keys Open f))

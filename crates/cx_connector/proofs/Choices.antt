@@ -1,12 +1,11 @@
 -- Which row it is, by what was read and checked.
-use Rattle.std.proofs.Common.{◌≡◌, ◌≢◌, ◌∙◌, ℕ, ◌==◌, Bool, true, false, List, Result, Ok, Err, IfOk, refl, sym, ap}
+use Rattle.std.proofs.Common.{◌≡◌, ◌≢◌, ◌∙◌, ℕ, ◌==◌, Bool, true, false, List, Result, Ok, Err, refl, sym, ap}
 use Rattle.std.proofs.lemmas.Bool.{ne_eqb}
 use Rattle.std.specs.Prelude.{if◌then◌else◌}
 use Rattle.cx_control.specs.Auth.{auth_done_layout, auth_reply_more_layout, auth_request_more_layout}
 use Rattle.cx_control.specs.BadMethod.{bad_method_layout, kept_method}
 use Rattle.cx_control.specs.Idents.{ident_missing_features_layout, server_ident_layout}
 use Rattle.cx_control.specs.declared.auth.AuthDone.{AuthDone}
-use Rattle.cx_control.specs.declared.auth.AuthSignature.{AuthSignature}
 use Rattle.cx_control.specs.declared.bad_method.AuthBadMethod.{AuthBadMethod}
 use Rattle.cx_control.specs.declared.idents.IdentMissingFeatures.{IdentMissingFeatures}
 use Rattle.cx_dice.specs.Draws.{challenge_of}
@@ -14,22 +13,19 @@ use Rattle.cx_frame.specs.declared.frame.Frame.{Frame}
 use Rattle.cx_journal.specs.declared.faults.BytesFault.{BytesFault}
 use Rattle.cx_login.specs.Client.{authenticate}
 use Rattle.cx_node.specs.Parts.{part_of}
-use Rattle.cx_rules.specs.Connector.{AskerArrival, AskerRow, Login, on_bad_method, on_challenge, on_done, on_missing_features, on_reply_more, on_server_ident, on_signature, proves, while_challenged, while_identified, while_proved}
+use Rattle.cx_rules.specs.Connector.{AskerArrival, AskerRow, on_bad_method, on_challenge, on_done, on_missing_features, on_reply_more, on_server_ident, proves, while_challenged, while_identified, while_proved}
 use Rattle.cx_rules.specs.Holdings.{Asker, unexpired}
 use Rattle.cx_rules.specs.Payloads as payload
 use Rattle.cx_rules.specs.Payloads.{control}
-use Rattle.cx_rules.specs.Secured.{Secured, is_signed, plain_frame, signature_found}
+use Rattle.cx_rules.specs.Secured.{Secured, plain_frame}
 use Rattle.cx_wire.specs.Logins.{authenticate_layout}
 use Rattle.cx_wire.specs.declared.logins.ServerChallenge.{ServerChallenge}
-use Rattle.cx_connector.specs.Rows.{denied, due, identified, row_of}
-use Rattle.cx_connector.specs.declared.rows.AskerRow.{AskerRow as RowMade}
-use Rattle.cx_connector.proofs.Behind.{identified-is}
+use Rattle.cx_rules.specs.Abridged.{abridged_asker_link}
+use Rattle.cx_turns.specs.Making.{row_due}
+use Rattle.cx_connector.specs.Rows.{denied}
 
--- the row that was made is this one, which is that one
-pub told_as : {E : Type 0} (r : Result RowMade E) (asker : Asker) (n : ℕ) (R S : AskerRow) → S ≡ R
-    → IfOk r (λ row. row_of asker n row ≡ R) → IfOk r (λ row. row_of asker n row ≡ S)
-told_as (Ok row) asker n R S e h = h ∙ sym e
-told_as (Err error) asker n R S e h = tt
+abbrev pub due : AskerRow → AskerRow
+due row = row_due abridged_asker_link row
 
 first_of : (b : Bool) (x y z : AskerRow) → b ≡ true → x ≡ z → due (if b then x else y) ≡ due z
 first_of b x y z holds same = rw (holds, same) refl
@@ -73,11 +69,7 @@ proof_done a f read t r =
     second_of (f.tag == 3) (on_bad_method a (payload.payload bad_method_layout.form f)) (on_done a (payload.due 6 auth_done_layout.form f))
     (on_done a read) (ne_eqb f.tag 3 t) (ap (on_done a) (sym r))
 
--- ---- AUTH_SIGNATURE, IDENT_MISSING_FEATURES
-
-pub signature_right : (a : AskerArrival) (s : Secured) (login : Login) (read : Result AuthSignature BytesFault) (found : AuthSignature) → read ≡ Ok found
-    → is_signed s found.signature ≡ true → due (on_signature a s login read) ≡ due (identified a s.keys (signature_found s) login)
-signature_right a s login read found r holds = rw (r, holds) (identified-is a s login)
+-- ---- IDENT_MISSING_FEATURES
 
 pub features_missing : (a : AskerArrival) (s : Secured) (f : Frame) (read : Result IdentMissingFeatures BytesFault) → f.tag ≡ 10
     → read ≡ payload.payload ident_missing_features_layout.form f → due (while_identified a s f) ≡ due (on_missing_features a read)

@@ -1,5 +1,5 @@
 pub mod Behind
 pub mod Choices
 pub mod Controls
+pub mod Logged
 pub mod Stages
-pub mod Turning

@@ -1,9 +1,11 @@
 -- Facts of the links as they are held.
-use Rattle.std.proofs.Common.{◌≡◌, ℕ, refl}
+use Rattle.std.proofs.Common.{◌≡◌, ℕ, List, Result, Ok, Err, OnOk, refl}
 use Rattle.cx_connector.specs.Stages.{link_held}
 use Rattle.cx_connector.specs.declared.links.Stage.{Stage}
 use Rattle.cx_connector.specs.declared.links.Stage.TheVariants as held
 use Rattle.cx_rules.specs.Abridged.{abridged_asker_link}
+use Rattle.cx_turns.specs.Stages.{with_more}
+use Rattle.cx_turns.specs.Steps.{IsFed}
 
 pub number_held : (number : ℕ) (stage : Stage) → (link_held number stage).number ≡ number
 number_held number (held.AwaitsBanner wire asked) = refl
@@ -23,3 +25,8 @@ held_abridged number (held.AwaitsDone wire) = refl
 held_abridged number (held.AwaitsSignature signing login) = refl
 held_abridged number (held.AwaitsIdent link) = refl
 held_abridged number (held.Open link) = refl
+
+pub link_fed : {X E : Type 0} (number : ℕ) (old new : Stage) (bytes : List ℕ) (r : Result X E) → OnOk r (link_held number new ≡ with_more bytes (link_held number old))
+    → OnOk r (IsFed abridged_asker_link (link_held number old) bytes (link_held number new))
+link_fed number old new bytes (Ok x) e = (e, held_abridged number new)
+link_fed number old new bytes (Err error) e = tt

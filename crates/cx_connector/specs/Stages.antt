@@ -1,6 +1,6 @@
 -- The links to the monitor as they are held, each as the link of the rules that it is, abridged.
 use Rattle.std.specs.Prelude.{ℕ}
-use Rattle.cx_ends.specs.Stages.{keys_alone}
+use Rattle.cx_turns.specs.Stages.{keys_alone}
 use Rattle.cx_link.specs.Sending.{secured_of}
 use Rattle.cx_link.specs.Wires.{SecureWire, secured_link, wired}
 use Rattle.cx_link.specs.declared.links.Signing.{Signing}

@@ -8,22 +8,22 @@ ghost use Rattle.cx_rules.specs.Connector.{AwaitsChallenge, on_challenge, on_rep
 ghost use Rattle.cx_rules.specs.Payloads.{control, whole};
 ghost use Rattle.cx_rules.specs.Secured.{plain_frame};
 ghost use Rattle.cx_wire.specs.Logins.{server_challenge_layout};
-ghost use Rattle.cx_connector.specs.Rows.{arrived, due, row_of};
-ghost use Rattle.cx_ends.specs.Sending.{SendsPlain};
+ghost use Rattle.cx_connector.specs.Rows.{Makes, proof_sent};
+ghost use Rattle.cx_turns.specs.Sending.{SendsPlain};
 
 use crate::denials::on_bad_method;
-use crate::links::Stage;
-use crate::making::{goes_on, refuses_bytes};
-use crate::rows::AskerRow;
+use crate::links::{Link, Stage};
+use crate::making::unless_refused;
+use crate::rows::Change;
 use cx_base::{Blob, Items};
 use cx_control::{AuthBadMethod, AuthReplyMore, AuthRequestMore};
-use cx_ends::{Moment, SentPlain, send_plain};
 use cx_frame::Frame;
 use cx_holdings::{Answer, Asker};
 use cx_journal::{BytesFault, KeyKind};
 use cx_link::PlainLink;
 use cx_node::{due, payload_part};
 use cx_steps::{DrawMark, SealEntry, SealMark};
+use cx_turns::{Moment, NoRow, NodeRow, SentPlain, goes_on, send_plain};
 use std::alloc::{AllocError, Global};
 
 /// The segments of a plain frame have at most so many bytes together.
@@ -37,9 +37,8 @@ pub(crate) fn while_challenged(
     link: PlainLink,
     asked: u32,
     frame: &Frame,
-) -> Result<AskerRow, AllocError>
-    ensures { IfOk result (λ row. row_of asker.now at.now.number row
-        ≡ due (while_challenged (arrived asker.now at.now (wired at.now.number link (AwaitsChallenge asked))) asked frame.now)) }
+) -> Result<NodeRow<Link, Change>, NoRow>
+    ensures { Makes asker.now at.now (wired at.now.number link (AwaitsChallenge asked)) (λ a. while_challenged a asked frame.now) result }
 {
     if frame.tag == 3 {
         let read = payload_part::<AuthBadMethod>(alloc, frame)?;
@@ -58,14 +57,11 @@ fn on_reply_more(
     link: PlainLink,
     asked: u32,
     read: Result<AuthReplyMore, BytesFault>,
-) -> Result<AskerRow, AllocError>
-    ensures { IfOk result (λ row. row_of asker.now at.now.number row
-        ≡ due (on_reply_more (arrived asker.now at.now (wired at.now.number link (AwaitsChallenge asked))) asked read)) }
+) -> Result<NodeRow<Link, Change>, NoRow>
+    ensures { Makes asker.now at.now (wired at.now.number link (AwaitsChallenge asked)) (λ a. on_reply_more a asked read) result }
 {
-    match read {
-        Ok(more) => on_challenge(alloc, asker, at, link, asked, more.payload.bytes()),
-        Err(why) => refuses_bytes(alloc, asker, at, why, Items::new(alloc)),
-    }
+    let more = read?;
+    on_challenge(alloc, asker, at, link, asked, more.payload.bytes())
 }
 
 // The challenge of this payload is answered, with the ticket for AUTH that is held as old ticket while it is good.
@@ -76,15 +72,12 @@ fn on_challenge(
     link: PlainLink,
     asked: u32,
     payload: &[u8],
-) -> Result<AskerRow, AllocError>
-    ensures { IfOk result (λ row. row_of asker.now at.now.number row
-        ≡ due (on_challenge (arrived asker.now at.now (wired at.now.number link (AwaitsChallenge asked))) asked (whole server_challenge_layout.form payload.now))) }
+) -> Result<NodeRow<Link, Change>, NoRow>
+    ensures { Makes asker.now at.now (wired at.now.number link (AwaitsChallenge asked)) (λ a. on_challenge a asked (whole server_challenge_layout.form payload.now)) result }
 {
     let challenge = at.draw.challenge();
-    match asker.answered(alloc, payload, asked, at.reading, challenge)? {
-        Ok(answer) => proves(alloc, asker, at, link, answer),
-        Err(why) => refuses_bytes(alloc, asker, at, why, Items::new(alloc)),
-    }
+    let answer = asker.answered(alloc, payload, asked, at.reading, challenge)??;
+    proves(alloc, asker, at, link, answer)
 }
 
 // One's own challenge was drawn, and the proof of both is sent.
@@ -94,22 +87,35 @@ fn proves(
     at: &Moment<'_>,
     link: PlainLink,
     answer: Answer,
-) -> Result<AskerRow, AllocError>
-    ensures { (stage : connector.Stage) → IfOk result (λ row. row_of asker.now at.now.number row
-        ≡ due (proves (arrived asker.now at.now (wired at.now.number link stage)) answer.server.challenge
-        (plain_frame (control 5 auth_request_more_layout.form (record { payload = answer.bytes }))))) }
+) -> Result<NodeRow<Link, Change>, NoRow>
+    ensures { (stage : connector.Stage) → Makes asker.now at.now (wired at.now.number link stage) (λ a. proves a answer.server.challenge
+        (plain_frame (control 5 auth_request_more_layout.form (record { payload = answer.bytes })))) result }
 {
     let challenge = at.draw.challenge();
+    let mut drawn = Items::new(alloc);
+    drawn.push(alloc, SealEntry::Drawn(DrawMark::Challenge(challenge)))?;
+    let made = awaits_done(alloc, asker, at, link, answer);
+    let row = unless_refused(alloc, asker, at, drawn, made)?;
+    Ok(row)
+}
+
+// The proof is sent and logged.
+fn awaits_done(
+    alloc: Global,
+    asker: &Asker,
+    at: &Moment<'_>,
+    link: PlainLink,
+    answer: Answer,
+) -> Result<NodeRow<Link, Change>, NoRow>
+    ensures { (stage : connector.Stage) → Makes asker.now at.now (wired at.now.number link stage) (λ a. proof_sent a answer.server.challenge
+        (plain_frame (control 5 auth_request_more_layout.form (record { payload = answer.bytes })))) result }
+{
+    let sent = send_proof(alloc, link, answer.bytes)??;
+    let proof = proof_made(alloc, asker, answer.server.challenge, at.draw.challenge())?;
     let mut seals = Items::new(alloc);
-    seals.push(alloc, SealEntry::Drawn(DrawMark::Challenge(challenge)))?;
-    match send_proof(alloc, link, answer.bytes)? {
-        Ok(sent) => {
-            let proof = proof_made(alloc, asker, answer.server.challenge, challenge)?;
-            seals.push(alloc, proof)?;
-            Ok(goes_on(alloc, Stage::AwaitsDone(sent.link), sent.bytes, seals))
-        }
-        Err(why) => refuses_bytes(alloc, asker, at, why, seals),
-    }
+    seals.push(alloc, proof)?;
+    let link = Link::new(at.number, Stage::AwaitsDone(sent.link));
+    Ok(goes_on(alloc, link, sent.bytes, seals))
 }
 
 // Sends AUTH_REQUEST_MORE with an Authenticate. An old ticket may be too long for it.

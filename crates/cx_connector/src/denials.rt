@@ -1,18 +1,19 @@
 //! AUTH_BAD_METHOD.
 
-ghost use Rattle.std.specs.Prelude.{◌≡◌, IfOk};
 ghost use Rattle.cx_link.specs.Wires.{Wire, wired};
 ghost use Rattle.cx_rules.specs.Connector.{Stage, on_denial};
-ghost use Rattle.cx_connector.specs.Rows.{arrived, denied, due, row_of};
+ghost use Rattle.cx_connector.specs.Rows.{Makes, denied};
 
-use crate::making::{refuses, refuses_bytes};
-use crate::rows::AskerRow;
+use crate::links::Link;
+use crate::making::named;
+use crate::rows::Change;
 use cx_base::Items;
 use cx_control::AuthBadMethod;
-use cx_ends::Moment;
 use cx_holdings::Asker;
 use cx_journal::{BytesFault, Reason};
-use std::alloc::{AllocError, Global};
+use cx_node::refuses;
+use cx_turns::{Moment, NoRow, NodeRow};
+use std::alloc::Global;
 
 // The code of the refusal is kept of it.
 pub(crate) fn on_bad_method(
@@ -20,14 +21,11 @@ pub(crate) fn on_bad_method(
     asker: &Asker,
     at: &Moment<'_>,
     read: Result<AuthBadMethod, BytesFault>,
-) -> Result<AskerRow, AllocError>
-    ensures { (wire : Wire) (stage : Stage) → IfOk result (λ row. row_of asker.now at.now.number row
-        ≡ due (denied (arrived asker.now at.now (wired at.now.number wire stage)) read)) }
+) -> Result<NodeRow<Link, Change>, NoRow>
+    ensures { (wire : Wire) (stage : Stage) → Makes asker.now at.now (wired at.now.number wire stage) (λ a. denied a read) result }
 {
-    match read {
-        Ok(refusal) => on_denial(alloc, asker, at, refusal.result),
-        Err(why) => refuses_bytes(alloc, asker, at, why, Items::new(alloc)),
-    }
+    let refusal = read?;
+    on_denial(alloc, asker, at, refusal.result)
 }
 
 // At the code 13 the global id and all tickets are forgotten.
@@ -36,14 +34,17 @@ fn on_denial(
     asker: &Asker,
     at: &Moment<'_>,
     code: u32,
-) -> Result<AskerRow, AllocError>
-    ensures { (wire : Wire) (stage : Stage) → IfOk result (λ row. row_of asker.now at.now.number row
-        ≡ due (on_denial (arrived asker.now at.now (wired at.now.number wire stage)) code)) }
+) -> Result<NodeRow<Link, Change>, NoRow>
+    ensures { (wire : Wire) (stage : Stage) → Makes asker.now at.now (wired at.now.number wire stage) (λ a. on_denial a code) result }
 {
-    let kept = refuses(alloc, asker, at, Reason::Denied(code), Items::new(alloc))?;
-    if code == 13 {
-        Ok(kept.forgetting())
-    } else {
-        Ok(kept)
+    let why = Reason::Denied(code);
+    if code != 13 {
+        return Err(NoRow::Refused(why));
     }
+    let me = named(alloc, asker)?;
+    let row = refuses(alloc, &me, at.number, why, Items::new(alloc))?;
+    Ok(NodeRow {
+        row,
+        change: Some(Change::Forgets),
+    })
 }

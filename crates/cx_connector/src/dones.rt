@@ -1,30 +1,27 @@
 //! AUTH_DONE: what the monitor gives is opened, and AUTH_SIGNATURE is sent.
 
-ghost use Rattle.std.specs.Prelude.{◌≡◌, ◌++◌, IfOk, take};
+ghost use Rattle.std.specs.Prelude.{[], take};
 ghost use Rattle.cx_link.specs.Wires.{wired};
 ghost use Rattle.cx_rules.specs.Connector.{AwaitsDone, on_done, on_login_done, on_opened, signs, while_proved};
 ghost use Rattle.cx_rules.specs.Payloads.{whole};
 ghost use Rattle.cx_rules.specs.Secured.{connector_keys, signed_frame};
 ghost use Rattle.cx_wire.specs.Logins.{login_done_layout};
-ghost use Rattle.cx_connector.specs.Rows.{arrived, due, keeping, row_of};
-ghost use Rattle.cx_connector.specs.declared.links.Stage.TheVariants as held;
-ghost use Rattle.cx_node.specs.Made.{going_on};
+ghost use Rattle.cx_connector.specs.Rows.{Makes};
 
 use crate::denials::on_bad_method;
-use crate::links::Stage;
-use crate::making::{goes_on, refuses, refuses_bytes};
-use crate::rows::AskerRow;
+use crate::links::{Link, Stage};
+use crate::making::unless_refused;
+use crate::rows::Change;
 use cx_base::Items;
 use cx_control::{AuthBadMethod, AuthDone};
-use cx_ends::Moment;
 use cx_frame::Frame;
 use cx_holdings::{Asker, Login};
 use cx_journal::{BytesFault, LoginFault, Reason};
-use cx_link::{Finished, LinkRefusal, PlainLink};
+use cx_link::PlainLink;
 use cx_login::LoggedIn;
 use cx_node::{due, payload_part};
-use cx_steps::SealEntry;
-use std::alloc::{AllocError, Global};
+use cx_turns::{Moment, NoRow, NodeRow, goes_on};
+use std::alloc::Global;
 
 // A frame behind the proof.
 pub(crate) fn while_proved(
@@ -33,8 +30,8 @@ pub(crate) fn while_proved(
     at: &Moment<'_>,
     link: PlainLink,
     frame: &Frame,
-) -> Result<AskerRow, AllocError>
-    ensures { IfOk result (λ row. row_of asker.now at.now.number row ≡ due (while_proved (arrived asker.now at.now (wired at.now.number link AwaitsDone)) frame.now)) }
+) -> Result<NodeRow<Link, Change>, NoRow>
+    ensures { Makes asker.now at.now (wired at.now.number link AwaitsDone) (λ a. while_proved a frame.now) result }
 {
     if frame.tag == 3 {
         let read = payload_part::<AuthBadMethod>(alloc, frame)?;
@@ -52,23 +49,18 @@ fn on_done(
     at: &Moment<'_>,
     link: PlainLink,
     read: Result<AuthDone, BytesFault>,
-) -> Result<AskerRow, AllocError>
-    ensures { IfOk result (λ row. row_of asker.now at.now.number row ≡ due (on_done (arrived asker.now at.now (wired at.now.number link AwaitsDone)) read)) }
+) -> Result<NodeRow<Link, Change>, NoRow>
+    ensures { Makes asker.now at.now (wired at.now.number link AwaitsDone) (λ a. on_done a read) result }
 {
-    match read {
-        Ok(done) => {
-            if done.mode == 2 {
-                on_login_done(alloc, asker, at, link, done.gid, done.payload.bytes())
-            } else {
-                let why = Reason::Login(LoginFault::Mode);
-                refuses(alloc, asker, at, why, Items::new(alloc))
-            }
-        }
-        Err(why) => refuses_bytes(alloc, asker, at, why, Items::new(alloc)),
+    let done = read?;
+    if done.mode == 2 {
+        on_login_done(alloc, asker, at, link, done.gid, done.payload.bytes())
+    } else {
+        Err(NoRow::Refused(Reason::Login(LoginFault::Mode)))
     }
 }
 
-// The parts of the LoginDone of this payload are opened.
+// The parts of the LoginDone of this payload are opened, and logged first.
 fn on_login_done(
     alloc: Global,
     asker: &Asker,
@@ -76,15 +68,14 @@ fn on_login_done(
     link: PlainLink,
     gid: u64,
     payload: &[u8],
-) -> Result<AskerRow, AllocError>
-    ensures { IfOk result (λ row. row_of asker.now at.now.number row
-        ≡ due (on_login_done (arrived asker.now at.now (wired at.now.number link AwaitsDone)) gid (whole login_done_layout.form payload.now))) }
+) -> Result<NodeRow<Link, Change>, NoRow>
+    ensures { Makes asker.now at.now (wired at.now.number link AwaitsDone) (λ a. on_login_done a gid (whole login_done_layout.form payload.now)) result }
 {
     let mut opened = Items::new(alloc);
-    match asker.opened(alloc, payload, &mut opened)? {
-        Ok(login) => on_opened(alloc, asker, at, link, gid, opened, login),
-        Err(why) => refuses_bytes(alloc, asker, at, why, opened),
-    }
+    let login = asker.opened(alloc, payload, &mut opened)??;
+    let made = on_opened(alloc, asker, at, link, gid, login);
+    let row = unless_refused(alloc, asker, at, opened, made)?;
+    Ok(row)
 }
 
 // Each part was opened to its record, or one wasn't.
@@ -94,23 +85,16 @@ fn on_opened(
     at: &Moment<'_>,
     link: PlainLink,
     gid: u64,
-    opened: Items<SealEntry>,
     login: Option<LoggedIn>,
-) -> Result<AskerRow, AllocError>
-    ensures { IfOk result (λ row. row_of asker.now at.now.number row ≡ due (on_opened (arrived asker.now at.now (wired at.now.number link AwaitsDone)) gid opened login)) }
+) -> Result<NodeRow<Link, Change>, NoRow>
+    ensures { Makes asker.now at.now (wired at.now.number link AwaitsDone) (λ a. on_opened a gid [] login) result }
 {
     match login {
         Some(logged_in) => {
             let login = Login::new(alloc, gid, logged_in)?;
-            signs(alloc, asker, at, link, login, opened)
+            signs(alloc, asker, at, link, login)
         }
-        None => refuses(
-            alloc,
-            asker,
-            at,
-            Reason::Login(LoginFault::Unopened),
-            opened,
-        ),
+        None => Err(NoRow::Refused(Reason::Login(LoginFault::Unopened))),
     }
 }
 
@@ -121,30 +105,11 @@ fn signs(
     at: &Moment<'_>,
     link: PlainLink,
     login: Login,
-    opened: Items<SealEntry>,
-) -> Result<AskerRow, AllocError>
-    ensures { IfOk result (λ row. row_of asker.now at.now.number row
-        ≡ due (signs (arrived asker.now at.now (wired at.now.number link AwaitsDone)) login opened
-        (signed_frame (connector_keys login.opened.secret) login.opened.auth.session (take link.taken link.received)))) }
+) -> Result<NodeRow<Link, Change>, NoRow>
+    ensures { Makes asker.now at.now (wired at.now.number link AwaitsDone) (λ a. signs a login []
+        (signed_frame (connector_keys login.opened.secret) login.opened.auth.session (take link.taken link.received))) result }
 {
-    match link.sign(alloc, &login.session(), &login.secret()) {
-        Ok(finished) => awaits_signature(alloc, login, opened, finished),
-        Err(LinkRefusal::Fault(why)) => refuses_bytes(alloc, asker, at, why, opened),
-        Err(LinkRefusal::OutOfMemory) => Err(AllocError),
-    }
-}
-
-// What finishes the link is sent, and logged behind what opened.
-fn awaits_signature(
-    alloc: Global,
-    login: Login,
-    opened: Items<SealEntry>,
-    finished: Finished,
-) -> Result<AskerRow, AllocError>
-    ensures { IfOk result (λ row. row ≡ keeping (going_on (held.AwaitsSignature finished.signing login) finished.bytes (opened ++ finished.seals))) }
-{
-    let mut seals = opened;
-    seals.append(alloc, finished.seals)?;
-    let stage = Stage::AwaitsSignature(finished.signing, login);
-    Ok(goes_on(alloc, stage, finished.bytes, seals))
+    let finished = link.sign(alloc, &login.session(), &login.secret())?;
+    let link = Link::new(at.number, Stage::AwaitsSignature(finished.signing, login));
+    Ok(goes_on(alloc, link, finished.bytes, finished.seals))
 }

@@ -1,7 +1,6 @@
 //! One that logs in, on its link to the monitor: a client, or a daemon. What it does at each banner and frame that comes.
 #![tactic(auto)]
 
-mod arrivals;
 mod challenges;
 mod denials;
 mod dones;
@@ -14,10 +13,10 @@ mod signatures;
 mod turns;
 mod upkeep;
 
-pub use arrivals::Turned;
 pub use greetings::greeting;
 pub use links::{Link, Stage};
-pub use rows::{AskerRow, Change};
+pub use making::named;
+pub use rows::Change;
 pub use turns::turned;
 
 // Each public type may be sent to another thread and shared with one.
@@ -27,6 +26,4 @@ fn all_are_sendable() {
     is_sendable::<Stage>();
     is_sendable::<Link>();
     is_sendable::<Change>();
-    is_sendable::<AskerRow>();
-    is_sendable::<Turned>();
 }

@@ -3,11 +3,12 @@
 ghost use Rattle.std.specs.Prelude.{ℕ, ◌≡◌, OnOk};
 ghost use Rattle.cx_rules.specs.Connector.{is_open};
 ghost use Rattle.cx_connector.specs.Stages.{link_held};
-ghost use Rattle.cx_ends.specs.Stages.{with_more};
+ghost use Rattle.cx_turns.specs.Stages.{with_more};
 
 use cx_holdings::Login;
 use cx_link::{BannerLink, PlainLink, SecureLink, Signing};
 use cx_node::Numbered;
+use cx_turns::Feeds;
 use std::alloc::{AllocError, Global};
 use std::marker::Model;
 
@@ -84,9 +85,16 @@ impl Numbered for Link {
 }
 
 impl Link {
-    ghost use Rattle.std.specs.Prelude.{◌≡◌, ◌++◌, IfOk};
-    ghost use Rattle.cx_rules.specs.Abridged.{abridged_asker_link};
+    ghost use Rattle.std.specs.Prelude.{◌≡◌};
     ghost use Rattle.cx_rules.specs.Connector.{is_open};
+    ghost use Rattle.cx_connector.specs.Stages.{link_held};
+
+    // The link of this number, in a stage.
+    pub(crate) fn new(number: u32, stage: Stage) -> Link
+        ensures { result ≡ link_held number stage }
+    {
+        Link { number, stage }
+    }
 
     /// Whether it is open.
     pub fn is_open(&self) -> bool
@@ -94,16 +102,17 @@ impl Link {
     {
         self.stage.is_open()
     }
+}
 
-    /// The link behind more bytes. No more of it can be forgotten.
-    #[tactic(auto, using(crate::proofs::Stages::held_abridged))]
-    pub fn fed(mut self, alloc: Global, bytes: &[u8]) -> Result<Link, AllocError>
-        ensures fed { IfOk result (λ link. link ≡ record self { received = self.received ++ bytes.now }) }
-        ensures held { IfOk result (λ link. abridged_asker_link link ≡ link) }
-    {
-        match self.stage.feed(alloc, bytes) {
-            Ok(()) => Ok(self),
-            Err(error) => Err(error),
-        }
+impl Feeds for Link {
+    ghost use Rattle.cx_rules.specs.Abridged.{abridged_asker_link};
+    ghost use Rattle.cx_turns.specs.Steps as steps;
+
+    ghost IsFed = { steps.IsFed abridged_asker_link };
+
+    // No more of the link can be forgotten.
+    #[tactic(auto, using(crate::proofs::Stages::held_abridged, crate::proofs::Stages::number_held))]
+    fn feed(&mut self, alloc: Global, bytes: &[u8]) -> Result<(), AllocError> {
+        self.stage.feed(alloc, bytes)
     }
 }

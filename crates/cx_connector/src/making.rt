@@ -1,68 +1,49 @@
-//! Rows that change nothing of what is held.
+//! Who makes a row, where the link is refused.
 
 ghost use Rattle.std.specs.Prelude.{◌≡◌, IfOk};
 ghost use Rattle.cx_base.specs.declared.nodes.NodeName.TheVariants as node;
-ghost use Rattle.cx_node.specs.Made.{behind_opened, going_on, refusing, refusing_bytes};
-ghost use Rattle.cx_connector.specs.Rows.{keeping};
+ghost use Rattle.cx_turns.specs.Making.{IsHandled, IsRowOf};
 
-use crate::links::Stage;
-use crate::rows::{AskerRow, Change};
-use cx_base::{Blob, Duplicate, Items, NodeName};
-use cx_ends::Moment;
+use crate::links::Link;
+use crate::rows::Change;
+use cx_base::{Duplicate, Items, NodeName};
 use cx_holdings::Asker;
-use cx_journal::{BytesFault, Reason};
 use cx_steps::SealEntry;
+use cx_turns::{Came, Moment, NoRow, NodeRow};
 use std::alloc::{AllocError, Global};
 
-// The link goes on in this stage, and these bytes are sent on it.
-pub(crate) fn goes_on(alloc: Global, stage: Stage, sends: Blob, seals: Items<SealEntry>) -> AskerRow
-    ensures { result ≡ keeping (going_on stage sends seals) }
+/// Who it is, as a node.
+pub fn named(alloc: Global, asker: &Asker) -> Result<NodeName, AllocError>
+    ensures { IfOk result (λ me. me ≡ node.Entity asker.now.name) }
 {
-    AskerRow {
-        row: cx_node::goes_on(alloc, stage, sends, seals),
-        change: Change::Keeps,
-    }
+    let name = asker.name().copy(alloc)?;
+    Ok(NodeName::Entity(name))
 }
 
-// The link is shut, and why is entered.
-pub(crate) fn refuses(
+// The row that was made, or that of the refusal, behind what was logged before.
+pub(crate) fn unless_refused(
     alloc: Global,
     asker: &Asker,
     at: &Moment<'_>,
-    why: Reason,
-    seals: Items<SealEntry>,
-) -> Result<AskerRow, AllocError>
-    ensures { IfOk result (λ r. r ≡ keeping (refusing (node.Entity asker.now.name) at.now.number why seals)) }
+    logged: Items<SealEntry>,
+    made: Result<NodeRow<Link, Change>, NoRow>,
+) -> Result<NodeRow<Link, Change>, AllocError>
+    ensures { IfOk result (IsRowOf (node.Entity asker.now.name) at.now.number logged made) }
 {
-    let me = NodeName::Entity(asker.name().copy(alloc)?);
-    Ok(AskerRow {
-        row: cx_node::refuses(alloc, &me, at.number, why, seals)?,
-        change: Change::Keeps,
-    })
+    let me = named(alloc, asker)?;
+    cx_turns::unless_refused(alloc, &me, at.number, logged, made)
 }
 
-// The same for what came on the link.
-pub(crate) fn refuses_bytes(
+// What a turn comes to whose banner or frame is handled so, behind what opened of it.
+pub(crate) fn handles(
     alloc: Global,
     asker: &Asker,
     at: &Moment<'_>,
-    why: BytesFault,
-    seals: Items<SealEntry>,
-) -> Result<AskerRow, AllocError>
-    ensures { IfOk result (λ r. r ≡ keeping (refusing_bytes (node.Entity asker.now.name) at.now.number why seals)) }
-{
-    refuses(alloc, asker, at, Reason::Bytes(why), seals)
-}
-
-// A row behind what opened before it.
-pub(crate) fn with_opened(
-    alloc: Global,
     opened: Items<SealEntry>,
-    handled: AskerRow,
-) -> Result<AskerRow, AllocError>
-    ensures { IfOk result (λ r. r ≡ record handled { row = behind_opened opened handled.row }) }
+    made: Result<NodeRow<Link, Change>, NoRow>,
+) -> Result<Came<Link, Change>, AllocError>
+    ensures { IfOk result (IsHandled (node.Entity asker.now.name) at.now.number opened made) }
 {
-    let AskerRow { row, change } = handled;
-    let row = cx_node::with_opened(alloc, opened, row)?;
-    Ok(AskerRow { row, change })
+    let me = named(alloc, asker)?;
+    cx_turns::handles(alloc, &me, at.number, opened, made)
 }

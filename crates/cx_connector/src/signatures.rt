@@ -1,28 +1,28 @@
 //! AUTH_SIGNATURE.
 
-ghost use Rattle.std.specs.Prelude.{◌≡◌, [], ◌∷◌, ◌++◌, IfOk};
+ghost use Rattle.std.specs.Prelude.{◌≡◌, [], ◌∷◌, ◌++◌, Some, IfOk};
 ghost use Rattle.cx_link.specs.Sending.{secured_of};
 ghost use Rattle.cx_link.specs.Wires.{secured_link};
 ghost use Rattle.cx_rules.specs.Connector as connector;
 ghost use Rattle.cx_rules.specs.Connector.{on_signature};
-ghost use Rattle.cx_connector.specs.Rows.{arrived, due, identified, keeping, row_of};
-ghost use Rattle.cx_connector.specs.Stages.{awaiting_signature};
-ghost use Rattle.cx_connector.specs.declared.links.Stage.TheVariants as held;
+ghost use Rattle.cx_connector.specs.Rows.{Makes, identified};
+ghost use Rattle.cx_connector.specs.Stages.{awaiting_ident, awaiting_signature};
 ghost use Rattle.cx_connector.specs.declared.rows.Change.TheVariants.{Holds};
 ghost use Rattle.cx_node.specs.Made.{going_on};
 ghost use Rattle.cx_steps.specs.declared.seals.DrawMark.TheVariants.{Cookie};
 ghost use Rattle.cx_steps.specs.declared.seals.SealEntry.TheVariants.{Drawn};
 
-use crate::links::Stage;
-use crate::making::{goes_on, refuses, refuses_bytes};
-use crate::rows::AskerRow;
+use crate::links::{Link, Stage};
+use crate::making::named;
+use crate::rows::Change;
 use cx_base::Items;
 use cx_control::AuthSignature;
-use cx_ends::{Moment, send_secure};
 use cx_holdings::{Asker, Login};
-use cx_journal::{BytesFault, LoginFault, Reason};
+use cx_journal::BytesFault;
 use cx_link::{Checked, SentFrame, Signing};
+use cx_node::{goes_on, refuses_bytes};
 use cx_steps::{DrawMark, SealEntry};
+use cx_turns::{Moment, NoRow, NodeRow, checked, send_secure};
 use std::alloc::{AllocError, Global};
 
 // The peer's signature has to cover all that was sent before one's own.
@@ -33,44 +33,35 @@ pub(crate) fn on_signature(
     signing: Signing,
     login: Login,
     read: Result<AuthSignature, BytesFault>,
-) -> Result<AskerRow, AllocError>
-    ensures { IfOk result (λ row. row_of asker.now at.now.number row
-        ≡ due (on_signature (arrived asker.now at.now (awaiting_signature at.now.number signing login)) (secured_of signing) login read)) }
+) -> Result<NodeRow<Link, Change>, NoRow>
+    ensures { Makes asker.now at.now (awaiting_signature at.now.number signing login) (λ a. on_signature a (secured_of signing) login read) result }
 {
-    match read {
-        Err(why) => refuses_bytes(alloc, asker, at, why, Items::new(alloc)),
-        Ok(found) => match signing.check(&found.signature) {
-            Some(checked) => identifies(alloc, asker, at, checked, login),
-            None => refuses(
-                alloc,
-                asker,
-                at,
-                Reason::Login(LoginFault::SignatureWrong),
-                Items::new(alloc),
-            ),
-        },
-    }
+    let found = checked(signing, read)?;
+    identifies(alloc, asker, at, found, login)
 }
 
-// The login is held, and CLIENT_IDENT is sent with a drawn cookie.
+// The login is held, also where CLIENT_IDENT can't be sent, which has a drawn cookie.
 fn identifies(
     alloc: Global,
     asker: &Asker,
     at: &Moment<'_>,
     checked: Checked,
     login: Login,
-) -> Result<AskerRow, AllocError>
-    ensures { (stage : connector.Stage) → IfOk result (λ row. row_of asker.now at.now.number row
-        ≡ due (identified (arrived asker.now at.now (secured_link at.now.number checked.link.ahead stage)) checked.link.keys checked.entry login)) }
+) -> Result<NodeRow<Link, Change>, NoRow>
+    ensures { (stage : connector.Stage) → Makes asker.now at.now (secured_link at.now.number checked.link.ahead stage) (λ a. identified a checked.link.keys checked.entry login) result }
 {
     let Checked { link, entry } = checked;
     let cookie = at.draw.cookie();
     let seals = found_right(alloc, entry, cookie)?;
     match send_secure(alloc, link, 8, &asker.client_ident(login.gid(), cookie))? {
-        Ok(sent) => awaits_ident(alloc, sent, login, seals),
+        Ok(sent) => Ok(awaits_ident(alloc, at, sent, login, seals)?),
         Err(why) => {
-            let kept = refuses_bytes(alloc, asker, at, why, seals)?;
-            Ok(kept.holding(login))
+            let me = named(alloc, asker)?;
+            let row = refuses_bytes(alloc, &me, at.number, why, seals)?;
+            Ok(NodeRow {
+                row,
+                change: Some(Change::Holds(login)),
+            })
         }
     }
 }
@@ -88,14 +79,18 @@ fn found_right(alloc: Global, found: SealEntry, cookie: u64) -> Result<Items<Sea
 // CLIENT_IDENT was sent, and is logged behind these entries.
 fn awaits_ident(
     alloc: Global,
+    at: &Moment<'_>,
     sent: SentFrame,
     login: Login,
     before: Items<SealEntry>,
-) -> Result<AskerRow, AllocError>
-    ensures { IfOk result (λ row. row ≡ record (keeping (going_on (held.AwaitsIdent sent.link) sent.bytes (before ++ sent.seals))) { change = Holds login }) }
+) -> Result<NodeRow<Link, Change>, AllocError>
+    ensures { IfOk result (λ made. made ≡ record { row = going_on (awaiting_ident at.now.number sent.link) sent.bytes (before ++ sent.seals); change = Some (Holds login) }) }
 {
     let mut seals = before;
     seals.append(alloc, sent.seals)?;
-    let kept = goes_on(alloc, Stage::AwaitsIdent(sent.link), sent.bytes, seals);
-    Ok(kept.holding(login))
+    let link = Link::new(at.number, Stage::AwaitsIdent(sent.link));
+    Ok(NodeRow {
+        row: goes_on(alloc, link, sent.bytes, seals),
+        change: Some(Change::Holds(login)),
+    })
 }

@@ -1,23 +1,21 @@
 //! KEEPALIVE2 and KEEPALIVE2_ACK on an open link.
 
-ghost use Rattle.std.specs.Prelude.{◌≡◌, [], IfOk};
-ghost use Rattle.cx_ends.specs.Stages.{keys_alone};
-ghost use Rattle.cx_ends.specs.Upkeep.{upkept};
+ghost use Rattle.std.specs.Prelude.{[]};
+ghost use Rattle.cx_turns.specs.Stages.{keys_alone};
+ghost use Rattle.cx_turns.specs.Upkeep.{upkept};
 ghost use Rattle.cx_rules.specs.Connector.{Open};
 ghost use Rattle.cx_rules.specs.Rows.{secure_sent};
 ghost use Rattle.cx_rules.specs.Upkeep.{on_upkeep};
-ghost use Rattle.cx_connector.specs.Rows.{arrived, due, row_of};
+ghost use Rattle.cx_connector.specs.Rows.{Makes};
 ghost use Rattle.cx_connector.specs.Stages.{open_link};
 
-use crate::links::Stage;
-use crate::making::{goes_on, refuses_bytes};
-use crate::rows::AskerRow;
-use cx_base::Items;
-use cx_ends::{Moment, upkept};
+use crate::links::{Link, Stage};
+use crate::rows::Change;
 use cx_frame::Frame;
 use cx_holdings::Asker;
 use cx_link::SecureLink;
-use std::alloc::{AllocError, Global};
+use cx_turns::{Moment, NoRow, NodeRow, goes_on, upkept};
+use std::alloc::Global;
 
 // No other frame is due on an open link.
 pub(crate) fn on_upkeep(
@@ -26,9 +24,8 @@ pub(crate) fn on_upkeep(
     at: &Moment<'_>,
     link: SecureLink,
     frame: &Frame,
-) -> Result<AskerRow, AllocError>
-    ensures { IfOk result (λ row. row_of asker.now at.now.number row
-        ≡ due (on_upkeep (arrived asker.now at.now (open_link at.now.number link)) (keys_alone link.keys) Open frame.now)) }
+) -> Result<NodeRow<Link, Change>, NoRow>
+    ensures { Makes asker.now at.now (open_link at.now.number link) (λ a. on_upkeep a (keys_alone link.keys) Open frame.now) result }
 {
     stays_open(alloc, asker, at, link, frame)
 }
@@ -40,12 +37,10 @@ fn stays_open(
     at: &Moment<'_>,
     link: SecureLink,
     frame: &Frame,
-) -> Result<AskerRow, AllocError>
-    ensures { IfOk result (λ row. row_of asker.now at.now.number row
-        ≡ due (secure_sent (arrived asker.now at.now (open_link at.now.number link)) (keys_alone link.keys) Open [] (upkept link.keys frame.now))) }
+) -> Result<NodeRow<Link, Change>, NoRow>
+    ensures { Makes asker.now at.now (open_link at.now.number link) (λ a. secure_sent a (keys_alone link.keys) Open [] (upkept link.keys frame.now)) result }
 {
-    match upkept(alloc, link, frame)? {
-        Ok(sent) => Ok(goes_on(alloc, Stage::Open(sent.link), sent.bytes, sent.seals)),
-        Err(why) => refuses_bytes(alloc, asker, at, why, Items::new(alloc)),
-    }
+    let sent = upkept(alloc, link, frame)??;
+    let link = Link::new(at.number, Stage::Open(sent.link));
+    Ok(goes_on(alloc, link, sent.bytes, sent.seals))
 }

@@ -6,7 +6,9 @@ use Rattle.cx_rules.specs.Monitor.{Monitor}
 use Rattle.cx_rules.specs.Rows.{forgotten, idles}
 use Rattle.cx_steps.specs.Nothing.{nothing}
 use Rattle.cx_steps.specs.declared.effects.Effects.{Effects}
-use Rattle.cx_mon.specs.Machine.{AreHeld, IsStep, MonitorLink, node_of}
+use Rattle.cx_acceptor.specs.Stages.{MonitorLink}
+use Rattle.cx_turns.specs.Steps.{node_of}
+use Rattle.cx_mon.specs.Machine.{AreHeld, IsStep}
 use Rattle.cx_turns.proofs.Steps as steps
 use Rattle.cx_rules.proofs.AcceptorForgets.{acceptor-forgets}
 

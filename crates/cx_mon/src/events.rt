@@ -1,7 +1,7 @@
 //! What the monitor does at each event.
 
 ghost use Rattle.std.specs.Prelude.{◌≡◌, ◌<◌, None, IfOk, IfSome, OnErr};
-ghost use Rattle.cx_ends.specs.Events.{link_in};
+ghost use Rattle.cx_turns.specs.Events.{link_in};
 ghost use Rattle.cx_rotate.specs.Keeping.{IsKeptState};
 ghost use Rattle.cx_rules.specs.Inputs.{input_of};
 ghost use Rattle.cx_rules.specs.Links.{link_of, without_link};
@@ -9,25 +9,23 @@ ghost use Rattle.cx_rules.specs.MonitorRule as rule;
 ghost use Rattle.cx_rules.specs.Rows as rows;
 ghost use Rattle.cx_rules.specs.Acceptor.{AwaitsBanner};
 ghost use Rattle.cx_rules.specs.Rows.{forgotten, new_link};
-ghost use Rattle.cx_turns.specs.Steps.{without_lost};
-ghost use Rattle.cx_mon.specs.Machine.{AreHeld, IsStep, lost, node_of};
+ghost use Rattle.cx_turns.specs.Steps.{node_of, without_lost};
+ghost use Rattle.cx_mon.specs.Machine.{AreHeld, IsStep, lost};
 
-use crate::own::MonitorOwn;
-use cx_acceptor::Link;
+use cx_acceptor::{Link, Own, greeting};
 use cx_base::{NodeName, Reading};
 use cx_dice::Draw;
-use cx_ends::Moment;
 use cx_journal::Entry;
 use cx_node::{Links, enters};
 use cx_rules::rule_laws;
 use cx_steps::{Effects, Event};
-use cx_turns::{turn, unopened};
+use cx_turns::{Moment, turn, unopened};
 use std::alloc::{AllocError, Global};
 
 // What the monitor does at an event. What was saved last is noted before.
 pub(crate) fn steps(
     alloc: Global,
-    own: &mut MonitorOwn,
+    own: &mut Own,
     links: &mut Links<Link>,
     event: Event<'_>,
     now: Reading,
@@ -52,7 +50,7 @@ pub(crate) fn steps(
 
 fn happens(
     alloc: Global,
-    own: &mut MonitorOwn,
+    own: &mut Own,
     links: &mut Links<Link>,
     event: Event<'_>,
     now: Reading,
@@ -96,7 +94,7 @@ fn happens(
 
 // A link is gone.
 #[tactic(auto, using(crate::proofs::Steps::goes_step, crate::proofs::Steps::without_held))]
-fn goes(alloc: Global, own: &MonitorOwn, links: &mut Links<Link>, number: u32) -> Effects
+fn goes(alloc: Global, own: &Own, links: &mut Links<Link>, number: u32) -> Effects
     requires room { links.old.room ≡ None }
     requires held { AreHeld links.old.links }
     ensures step { IsStep (node_of own.now links.new.links) (rows.idles (forgotten (node_of own.now links.old.links) number)) result }
@@ -115,7 +113,7 @@ const MOST_LINKS: usize = 1024;
 // The banner is sent, unless as many links live as there are places.
 fn opens(
     alloc: Global,
-    own: &MonitorOwn,
+    own: &Own,
     links: &mut Links<Link>,
     at: &Moment<'_>,
 ) -> Result<Effects, AllocError>
@@ -128,14 +126,14 @@ fn opens(
     ensures held { AreHeld links.new.links }
 {
     let full = links.len() >= MOST_LINKS;
-    let greeted = own.greets(alloc, at, full);
+    let greeted = greeting(alloc, own, at, full);
     cx_turns::opens(alloc, links, at.number, greeted)
 }
 
 // Bytes come on a link, if it lives.
 fn comes(
     alloc: Global,
-    own: &MonitorOwn,
+    own: &Own,
     links: &mut Links<Link>,
     number: u32,
     bytes: &[u8],
@@ -148,13 +146,13 @@ fn comes(
     ensures room { links.new.room ≡ None }
     ensures held { AreHeld links.new.links }
 {
-    cx_turns::comes::<Link, MonitorOwn>(alloc, links, number, bytes)
+    cx_turns::comes(alloc, links, number, bytes)
 }
 
 // One banner or frame of what came on a link is handled, if it lives.
 fn turns(
     alloc: Global,
-    own: &mut MonitorOwn,
+    own: &mut Own,
     links: &mut Links<Link>,
     at: &Moment<'_>,
 ) -> Result<Effects, AllocError>
@@ -173,11 +171,7 @@ fn turns(
 // ---- the monitor begins anew
 
 // The monitor begins anew, from what it saved last.
-fn restarts(
-    alloc: Global,
-    own: &mut MonitorOwn,
-    links: &mut Links<Link>,
-) -> Result<Effects, AllocError>
+fn restarts(alloc: Global, own: &mut Own, links: &mut Links<Link>) -> Result<Effects, AllocError>
     requires room { links.old.room ≡ None }
     requires held { AreHeld links.old.links }
     ensures step { IfOk result (IsStep (node_of own.new links.new.links) (rule.restarted (node_of own.old links.old.links))) }

@@ -3,7 +3,6 @@
 
 mod events;
 mod monitor;
-mod own;
 
 pub use monitor::Monitor;
 

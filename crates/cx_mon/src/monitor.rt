@@ -6,26 +6,25 @@ ghost use Rattle.cx_rules.specs.Abridged.{MonitorStandsFor, abridged_monitor};
 ghost use Rattle.cx_rules.specs.Inputs.{input_of};
 ghost use Rattle.cx_rules.specs.Monitor.{MonitorNode};
 ghost use Rattle.cx_rules.specs.MonitorRule.{is_idle, monitor_rule, opening_monitor, unsaved};
-ghost use Rattle.cx_ends.specs.Events.{losing};
+ghost use Rattle.cx_turns.specs.Events.{losing};
 ghost use Rattle.cx_mon.specs.Machine.{lost};
 
 use crate::events::steps;
-use crate::own::MonitorOwn;
-use cx_acceptor::Link;
+use cx_acceptor::{Link, Own};
 use cx_base::{Addr, Reading};
 use cx_dice::Draw;
-use cx_ends::link_in;
 use cx_keyserver::KeyServer;
 use cx_node::{Links, loses};
 use cx_rules::forgetting_laws;
 use cx_steps::{Effects, Event};
+use cx_turns::link_in;
 use std::alloc::{AllocError, Global};
 use std::marker::Model;
 
 /// The monitor: what it has of its own, and its live links. It never reads a clock or a source of randomness; both come with each event.
 #[derive(Drop)]
 pub struct Monitor {
-    own: MonitorOwn,
+    own: Own,
     links: Links<Link>,
 }
 
@@ -35,7 +34,8 @@ impl Model for Monitor {
 
     ghost Value = { MonitorNode };
 
-    ghost use Rattle.cx_mon.specs.Machine.{AreHeld, node_of};
+    ghost use Rattle.cx_turns.specs.Steps.{node_of};
+    ghost use Rattle.cx_mon.specs.Machine.{AreHeld};
 
     ghost view = { λ m. node_of m.own m.links.links };
 
@@ -50,7 +50,7 @@ impl Monitor {
     {
         forgetting_laws();
         Monitor {
-            own: MonitorOwn::new(server, me),
+            own: Own::new(server, me),
             links: Links::new(alloc),
         }
     }

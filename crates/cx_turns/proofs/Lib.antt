@@ -1,2 +1,9 @@
+pub mod Carrying
+pub mod Controls
+pub mod Handling
+pub mod Keeping
+pub mod Lifting
+pub mod MadeRows
+pub mod Rising
 pub mod Steps
 pub mod Turning

@@ -1,5 +1,5 @@
 -- What happens at an event, over plain values: each step is that of the rules, abridged, and the links are held behind it as before.
-use Rattle.std.proofs.Common.{◌≡◌, ◌∙◌, ℕ, Bool, true, false, List, ◌++◌, map, Option, Some, None, Result, Ok, Err, IfOk, OnErr, refl, sym, ap, subst}
+use Rattle.std.proofs.Common.{◌≡◌, ◌∙◌, ℕ, Bool, false, List, ◌++◌, map, Option, Some, None, Result, Ok, Err, IfOk, OnErr, sym, ap, subst}
 use Rattle.std.specs.Prelude.{IfSome, IsOkAnd}
 use Rattle.std.specs.Option.{option_map}
 use Rattle.cx_node.specs.Made.{as_row}
@@ -9,10 +9,11 @@ use Rattle.cx_rules.specs.Links.{Link, link_of, put_link, without_link}
 use Rattle.cx_rules.specs.Rows.{Node, Row, carried_out, fed, idles}
 use Rattle.cx_steps.specs.Nothing.{nothing}
 use Rattle.cx_steps.specs.declared.effects.Effects.{Effects}
-use Rattle.cx_turns.specs.Steps.{AreHeld, IsFed, IsStep, node_of, row_due}
+use Rattle.cx_turns.specs.Making.{row_due}
+use Rattle.cx_turns.specs.Steps.{AreHeld, IsFed, IsStep, node_of}
 use Rattle.cx_turns.specs.Turns.{IsCarried, IsFedInto}
-use Rattle.cx_ends.proofs.Carrying.{as_due, as_made, row_out, row_state}
-use Rattle.cx_ends.proofs.Rising.{found_put, put_rising, without_rising}
+use Rattle.cx_turns.proofs.Carrying.{row_out, row_state}
+use Rattle.cx_turns.proofs.Rising.{put_rising, without_rising}
 use Rattle.cx_rules.proofs.Abridging.{Forgets, put_link_map, without_link_map}
 
 module _ {Stage : Type 0} (abridged : Link Stage → Link Stage) (forgets : Forgets abridged) where
@@ -90,25 +91,13 @@ module _ {Stage : Type 0} (abridged : Link Stage → Link Stage) (forgets : Forg
 
   -- ---- a row
 
-  itself : (x : Option (Link Stage)) → option_map (λ (l : Link Stage). l) x ≡ x
-  itself None = refl
-  itself (Some l) = refl
-
-  abbrev kept : ℕ → Link Stage → Link Stage
-  kept number link = link
-
   pub row_step : {Own : Type 0} (old new : Own) (number : ℕ) (turned : Bool) (all links : List (Link Stage)) (row : Made (Link Stage)) (R : Row Own Stage) (out : Effects)
       → as_row new row ≡ row_due abridged R → AreHeld abridged all → IsCarried (λ (l : Link Stage). l.number) number turned row all links out
       → IsStep abridged (node_of new links) (carried_out (node_of old all) number turned R) out
-  row_step {Own} old new number turned all links row R out e h c =
-      let with : Option (Link Stage) → Row Own Stage =
-      λ x. record { own = new; link = x; sends = row.sends; save = row.save; entries = row.entries; seals = row.seals } in
-      let same : as_made abridged kept new number row ≡ as_due abridged kept R = ap with (itself row.link) ∙ e in
-      let table : Option (Link Stage) → List (Link Stage) = λ x. behind (λ (l : Link Stage). l.number) number x all in
-      record {
-        out = c.effects ∙ row_out abridged kept new number turned (node_of old all) row R same;
-        state = row_state abridged kept forgets old new number turned all links row R same h.whole (c.links_behind ∙ ap table (sym (itself row.link)));
-      }
+  row_step old new number turned all links row R out e h c = record {
+    out = c.effects ∙ row_out abridged new number turned (node_of old all) row R e;
+    state = row_state abridged forgets old new number turned all links row R e h.whole c.links_behind;
+  }
 
   pub row_held : {Own : Type 0} (new : Own) (number : ℕ) (turned : Bool) (all links : List (Link Stage)) (row : Made (Link Stage)) (R : Row Own Stage) (out : Effects)
       → as_row new row ≡ row_due abridged R → AreHeld abridged all → IsCarried (λ (l : Link Stage). l.number) number turned row all links out

@@ -9,12 +9,14 @@ use Rattle.cx_rules.specs.Links.{Link, link_of, put_link, without_link}
 use Rattle.cx_rules.specs.Rows.{Node, Outcome, Row, Turned, Waits, Refuses, Handles, arrival, carried_out, idles, refuses_bytes, turns}
 use Rattle.cx_steps.specs.declared.effects.Effects.{Effects}
 use Rattle.cx_steps.specs.declared.seals.SealEntry.{SealEntry}
-use Rattle.cx_turns.specs.Steps.{AreHeld, IsStep, IsTurn, node_of, row_due, turn_due, turn_made}
-use Rattle.cx_turns.specs.Turns.{IsSettled, Turning}
+use Rattle.cx_turns.specs.Making.{own_behind, row_due}
+use Rattle.cx_turns.specs.Steps.{AreHeld, IsStep, IsTurn, node_of, turn_due, turn_made}
+use Rattle.cx_turns.specs.Turns.{HasNumber, IsSettled, Turning}
 use Rattle.cx_turns.specs.declared.came.Came.{Came}
 use Rattle.cx_turns.specs.declared.came.Came.TheVariants as came
+use Rattle.cx_turns.specs.declared.rows.NodeRow.{NodeRow}
 use Rattle.cx_turns.proofs.Steps.{row_held, row_step, without_held}
-use Rattle.cx_ends.proofs.Rising.{found_put}
+use Rattle.cx_turns.proofs.Rising.{found_put}
 use Rattle.cx_rules.proofs.Abridging.{Forgets}
 
 module _ {Own Stage Change : Type 0} (abridged : Link Stage → Link Stage) (forgets : Forgets abridged) (changed : Own → Change → Own) (me : NodeName)
@@ -48,22 +50,22 @@ module _ {Own Stage Change : Type 0} (abridged : Link Stage → Link Stage) (for
       let P : ℕ → Type 0 = λ m. IsStep abridged (node_of new links) (carried_out (node_of own all) m false R) out in
       (subst P (sym n) (row_step abridged forgets own new number false all links row R out k h s.1), without_held abridged forgets number all links h s.1.links_behind)
 
-  handles : (row : Made (Link Stage)) (change : Change) (T : Turned Own Stage) → turn_made changed own (came.Handles row change) ≡ turn_due abridged T
-      → link.number ≡ number → AreHeld abridged all → IsDone (came.Handles row change) → IsOutcome T
-  handles row change Waits e n h s = absurd (cc)
-  handles row change (Refuses why opened) e n h s = absurd (cc)
-  handles row change (Handles R) e n h s =
-      let k : as_row (changed own change) row ≡ row_due abridged R = cc in
-      let with : Own → Row Own Stage = λ o. as_row o row in
-      let j : as_row new row ≡ row_due abridged R = ap with s.0 ∙ k in
+  handles : (made : NodeRow (Link Stage) Change) (T : Turned Own Stage) → turn_made changed own (came.Handles made) ≡ turn_due abridged T
+      → link.number ≡ number → AreHeld abridged all → IsDone (came.Handles made) → IsOutcome T
+  handles made Waits e n h s = absurd (cc)
+  handles made (Refuses why opened) e n h s = absurd (cc)
+  handles made (Handles R) e n h s =
+      let k : as_row (own_behind changed own made.change) made.row ≡ row_due abridged R = cc in
+      let with : Own → Row Own Stage = λ o. as_row o made.row in
+      let j : as_row new made.row ≡ row_due abridged R = ap with s.0 ∙ k in
       let P : ℕ → Type 0 = λ m. IsStep abridged (node_of new links) (carried_out (node_of own all) m true R) out in
-      (subst P (sym n) (row_step abridged forgets own new number true all links row R out j h s.1), row_held abridged forgets new number true all links row R out j h s.1)
+      (subst P (sym n) (row_step abridged forgets own new number true all links made.row R out j h s.1), row_held abridged forgets new number true all links made.row R out j h s.1)
 
   settled : (T : Turned Own Stage) (come : Came (Link Stage) Change) → IsTurn abridged changed own link T come → link.number ≡ number
       → AreHeld abridged all → link_of number all ≡ Some link → IsDone come → IsOutcome T
   settled T (came.Waits stage) t n h found s = waits stage T t.made t.stays h found s
   settled T (came.Refuses why opened) t n h found s = refuses why opened T t.made n h s
-  settled T (came.Handles row change) t n h found s = handles row change T t.made n h s
+  settled T (came.Handles made) t n h found s = handles made T t.made n h s
 
 -- ---- a turn of the link of a number
 
@@ -110,3 +112,12 @@ module _ {Own Stage Change : Type 0} (abridged : Link Stage → Link Stage) (for
       → IfOk r (λ out. IsTurning out (link_of number all)) → OnErr r (links ≡ without_link number all) → AreHeld abridged links
   turn_held is (Ok out) h s l = (turning is (link_of number all) refl h out s).1
   turn_held is (Err e) h s l = without_held abridged forgets number all links h l
+
+-- ---- a turn that came to what it is to come to, on the link of its number
+
+pub turn_number : {Own Stage Change E : Type 0} (abridged : Link Stage → Link Stage) (changed : Own → Change → Own) (own : Own) (link : Link Stage) (due : Turned Own Stage)
+    (number : ℕ) (r : Result (Came (Link Stage) Change) E) → link.number ≡ number → IfOk r (IsTurn abridged changed own link due)
+    → IfOk r (HasNumber (λ (l : Link Stage). l.number) number)
+turn_number {Stage = Stage} abridged changed own link due number (Ok come) e t =
+    subst (λ (n : ℕ). HasNumber (λ (l : Link Stage). l.number) n come) e t.number_is
+turn_number abridged changed own link due number (Err error) e t = tt

@@ -1,12 +1,13 @@
 -- A step of a node as the rules have it: its machine holds its links abridged.
-use Rattle.std.specs.Prelude.{◌≡◌, ℕ, List, ◌++◌, Option, Some, None, map}
-use Rattle.std.specs.Option.{option_map}
-use Rattle.cx_ends.specs.Stages.{AreRising}
+use Rattle.std.specs.Prelude.{◌≡◌, ℕ, List, Option, Some, None, map}
 use Rattle.cx_node.specs.Made.{as_row}
 use Rattle.cx_rules.specs.Abridged.{abridged_node}
 use Rattle.cx_rules.specs.Links.{Link}
-use Rattle.cx_rules.specs.Rows.{Handles, Node, Outcome, Refuses, Row, Turned, Waits, forgotten}
+use Rattle.cx_rules.specs.Rows.{Handles, Node, Outcome, Refuses, Turned, Waits, forgotten}
 use Rattle.cx_steps.specs.declared.effects.Effects.{Effects}
+use Rattle.cx_turns.specs.Making.{own_behind, row_due}
+use Rattle.cx_turns.specs.Stages.{AreRising, with_more}
+use Rattle.cx_turns.specs.Turns.{HasNumber}
 use Rattle.cx_turns.specs.declared.came.Came.{Came}
 use Rattle.cx_turns.specs.declared.came.Came.TheVariants as came
 
@@ -33,34 +34,32 @@ pub record IsStep {Own Stage : Type 0} (abridged : Link Stage → Link Stage) (n
 
 -- a link behind more bytes, of which no more can be forgotten
 abbrev pub IsFed : {Stage : Type 0} → (Link Stage → Link Stage) → Link Stage → List ℕ → Link Stage → Type 0
-IsFed abridged link bytes fed = (fed ≡ record link { received = link.received ++ bytes }) × (abridged fed ≡ fed)
+IsFed abridged link bytes fed = (fed ≡ with_more bytes link) × (abridged fed ≡ fed)
 
 -- ---- a turn
 
 module _ {Own Stage : Type 0} (abridged : Link Stage → Link Stage) where
-  -- a row of the rules as it is to be made: what it sends is put to its link, and that is abridged
-  abbrev pub row_due : Row Own Stage → Row Own Stage
-  row_due row = record row { link = option_map (λ link. abridged (record link { sent = link.sent ++ row.sends })) row.link }
-
+  -- a turn of the rules as it is to be made
   abbrev pub turn_due : Turned Own Stage → Turned Own Stage
   turn_due Waits = Waits
   turn_due (Refuses why opened) = Refuses why opened
-  turn_due (Handles row) = Handles (row_due row)
+  turn_due (Handles row) = Handles (row_due abridged row)
 
 module _ {Own Stage Change : Type 0} (changed : Own → Change → Own) (own : Own) where
   -- what a turn came to, as a turn of the rules
   abbrev pub turn_made : Came (Link Stage) Change → Turned Own Stage
   turn_made (came.Waits link) = Waits
   turn_made (came.Refuses why opened) = Refuses why opened
-  turn_made (came.Handles row change) = Handles (as_row (changed own change) row)
+  turn_made (came.Handles made) = Handles (as_row (own_behind changed own made.change) made.row)
 
 -- where a turn waits, the link is as it was
 abbrev pub Stays : {Stage Change : Type 0} → Link Stage → Came (Link Stage) Change → Type 0
 Stays link (came.Waits new) = new ≡ link
 Stays link _ = Unit {0}
 
--- a turn of this link came to what the rules have it come to
+-- a turn of this link came to what the rules have it come to, on the link of the same number
 pub record IsTurn {Own Stage Change : Type 0} (abridged : Link Stage → Link Stage) (changed : Own → Change → Own) (own : Own) (link : Link Stage)
     (due : Turned Own Stage) (come : Came (Link Stage) Change) : Type 0 where
   pub made : turn_made changed own come ≡ turn_due abridged due
   pub stays : Stays link come
+  pub number_is : HasNumber (λ (l : Link Stage). l.number) link.number come

@@ -8,6 +8,7 @@ use Rattle.cx_steps.specs.Nothing.{nothing}
 use Rattle.cx_steps.specs.declared.effects.Effects.{Effects}
 use Rattle.cx_turns.specs.declared.came.Came.{Came}
 use Rattle.cx_turns.specs.declared.came.Came.TheVariants as came
+use Rattle.cx_turns.specs.Making.{own_behind}
 
 -- what a machine holds: what it has of its own, and its links
 pub record Machine (Own L : Type 0) : Type 0 where
@@ -18,7 +19,7 @@ pub record Machine (Own L : Type 0) : Type 0 where
 abbrev pub HasNumber : {L Change : Type 0} → (L → ℕ) → ℕ → Came L Change → Type 0
 HasNumber number_of number (came.Waits link) = number_of link ≡ number
 HasNumber number_of number (came.Refuses why opened) = Unit {0}
-HasNumber number_of number (came.Handles row change) = IfSome row.link (λ link. number_of link ≡ number)
+HasNumber number_of number (came.Handles made) = IfSome made.row.link (λ link. number_of link ≡ number)
 
 -- a row was carried out on the link of this number among all of them
 pub record IsCarried {L : Type 0} (number_of : L → ℕ) (number : ℕ) (turned : Bool) (row : Row L) (all links : List L) (out : Effects) : Type 0 where
@@ -26,12 +27,12 @@ pub record IsCarried {L : Type 0} (number_of : L → ℕ) (number : ℕ) (turned
   pub effects : out ≡ out_of number turned row
 
 module _ {Own L Change : Type 0} (number_of : L → ℕ) (changed : Own → Change → Own) (me : NodeName) (number : ℕ) where
-  -- what a turn came to was settled: the link waits, or is refused, or its row is carried out and what that changes is changed
+  -- what a turn came to was settled: the link waits, or is refused, or its row is carried out and what that changes, if anything, is changed
   abbrev pub IsSettled : Came L Change → Machine Own L → Machine Own L → Effects → Type 0
   IsSettled (came.Waits link) m n out = (n.own ≡ m.own) × (n.links ≡ put number_of link m.links) × (out ≡ nothing)
   IsSettled (came.Refuses why opened) m n out =
       (n.own ≡ m.own) × IsCarried number_of number false (refusing_bytes me number why opened) m.links n.links out
-  IsSettled (came.Handles row change) m n out = (n.own ≡ changed m.own change) × IsCarried number_of number true row m.links n.links out
+  IsSettled (came.Handles made) m n out = (n.own ≡ own_behind changed m.own made.change) × IsCarried number_of number true made.row m.links n.links out
 
 -- a link was turned: it came to something that its turn may come to, and that was settled
 pub record IsTurned {Own L Change : Type 0} (number_of : L → ℕ) (changed : Own → Change → Own) (me : NodeName) (number : ℕ)

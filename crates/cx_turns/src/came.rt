@@ -1,17 +1,16 @@
 //! What a turn comes to.
 
+use crate::rows::NodeRow;
 use cx_base::Items;
 use cx_journal::BytesFault;
-use cx_node::Row;
 use cx_steps::SealEntry;
 
-/// What a turn of a link comes to: nothing where not all of a banner or frame is there; a refusal, which handles nothing; or a row, and what
-/// it changes of what the node has of its own.
+/// What a turn of a link comes to: nothing where not all of a banner or frame is there; a refusal, which handles nothing; or a row.
 #[derive(Drop)]
 pub enum Came<L, C> {
     /// The link as it was.
     Waits(L),
     /// Why, and what opened before.
     Refuses(BytesFault, Items<SealEntry>),
-    Handles(Row<L>, C),
+    Handles(NodeRow<L, C>),
 }

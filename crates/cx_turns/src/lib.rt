@@ -1,21 +1,39 @@
-//! A step of any node: links that open, bytes that come and turns, whatever its links are and whatever it has of its own.
+//! A step of any node: links that open, bytes that come and turns, whatever its links are and whatever it has of its own; and what the ends of a
+//! link do alike: control frames that are put on it, keepalives, the peer's signature, rows and refusals.
 #![tactic(auto)]
 
 mod came;
 mod coming;
+mod events;
+mod making;
+mod moments;
 mod opening;
+mod rows;
+mod sending;
+mod signatures;
 mod turner;
 mod turns;
+mod upkeep;
 
 pub use came::Came;
-pub use coming::comes;
+pub use coming::{Feeds, comes};
+pub use events::link_in;
+pub use making::{goes_on, handles, unless_refused};
+pub use moments::Moment;
 pub use opening::{opens, unopened};
+pub use rows::{NoRow, NodeRow};
+pub use sending::{SentPlain, send_plain, send_secure};
+pub use signatures::checked;
 pub use turner::Turner;
 pub use turns::turn;
+pub use upkeep::upkept;
 
-// Each public type may be sent to another thread and shared with one, where its links and its changes may.
+// Each public type that owns something may be sent to another thread and shared with one, where its links and its changes may.
 fn is_sendable<T: Send + Sync>() {}
 
 fn all_are_sendable<L: Send + Sync, C: Send + Sync>() {
     is_sendable::<Came<L, C>>();
+    is_sendable::<NodeRow<L, C>>();
+    is_sendable::<NoRow>();
+    is_sendable::<SentPlain>();
 }

@@ -4,13 +4,13 @@ ghost use Rattle.std.specs.Prelude.{ℕ, ◌≡◌, List, IfOk};
 ghost use Rattle.cx_turns.specs.Turns.{HasNumber};
 
 use crate::came::Came;
+use crate::moments::Moment;
 use cx_base::NodeName;
-use cx_ends::Moment;
 use cx_node::Numbered;
 use std::alloc::{AllocError, Global};
 
-/// What a node has of its own, as what takes bytes and turns on its links of this type. What a turn changes of it is settled once the row is
-/// carried out, so that where memory is wanting nothing has changed.
+/// What a node has of its own, as what turns its links of this type. What a turn changes of it is settled once the row is carried out, so that
+/// where memory is wanting nothing has changed.
 pub trait Turner<L: Numbered>: Drop {
     ghost use Rattle.cx_base.specs.declared.nodes.NodeName.{NodeName};
     ghost use Rattle.cx_turns.specs.declared.came.Came.{Came};
@@ -26,20 +26,12 @@ pub trait Turner<L: Numbered>: Drop {
 
     ghost changed: { Self → Self.Change → Self };
 
-    // a link behind more bytes
-    ghost IsFed: { L → List ℕ → L → Type 0 };
-
     // what a turn of a link comes to, at this reading and draw
     ghost IsCome: { Self → ℕ → List ℕ → L → Came L Self.Change → Type 0 };
 
     /// Who it is.
     fn name(&self, alloc: Global) -> Result<NodeName, AllocError>
         ensures { IfOk result (λ name. name ≡ name_of self.now) };
-
-    /// The link behind more bytes.
-    fn fed(alloc: Global, link: L, bytes: &[u8]) -> Result<L, AllocError>
-        ensures number { IfOk result (λ fed. L.number_of fed ≡ L.number_of link) }
-        ensures fed { IfOk result (λ fed. IsFed link bytes.now fed) };
 
     /// What stands next on the link. Nothing of the node's own is changed yet.
     fn turned(

@@ -2,11 +2,13 @@
 
 ghost use Rattle.std.specs.Prelude.{◌≡◌, List, Some, None, IfSome, IfOk, OnOk, OnErr};
 ghost use Rattle.cx_node.specs.Tables.{with_number, without};
+ghost use Rattle.cx_turns.specs.Making.{own_behind};
 ghost use Rattle.cx_turns.specs.Turns.{HasNumber, IsCarried, IsSettled, IsTurned, Turning};
 
 use crate::came::Came;
+use crate::moments::Moment;
+use crate::rows::NodeRow;
 use crate::turner::Turner;
-use cx_ends::Moment;
 use cx_node::{Carried, Links, Numbered, Row, carried_out, refuses_bytes};
 use cx_steps::Effects;
 use std::alloc::{AllocError, Global};
@@ -86,11 +88,21 @@ fn settles<L: Numbered, T: Turner<L>>(
             let row = refuses_bytes(alloc, &me, number, why, opened)?;
             carries(alloc, links, number, false, row)
         }
-        Came::Handles(row, change) => {
+        Came::Handles(NodeRow { row, change }) => {
             let out = carries(alloc, links, number, true, row)?;
-            own.settle(change);
+            changes(own, change);
             Ok(out)
         }
+    }
+}
+
+// What a row changes of the node's own, if anything, is changed.
+fn changes<L: Numbered, T: Turner<L>>(own: &mut T, change: Option<T::Change>)
+    ensures { own.new ≡ own_behind T.changed own.old change }
+{
+    match change {
+        Some(change) => own.settle(change),
+        None => (),
     }
 }
 

@@ -1,19 +1,21 @@
 use Rattle.cx_control.specs.Auth.{auth_request_more_layout}
 use Rattle.cx_link.specs.Wires.{wired}
+use Rattle.cx_rules.specs.Abridged.{abridged_asker_link}
 use Rattle.cx_rules.specs.Connector.{AskerArrival, AwaitsChallenge, on_challenge, proves}
 use Rattle.cx_rules.specs.Payloads.{control, whole}
 use Rattle.cx_rules.specs.Secured.{plain_frame}
 use Rattle.cx_wire.specs.Logins.{server_challenge_layout}
-use Rattle.cx_connector.specs.Rows.{arrived, due}
-use Rattle.cx_connector.proofs.Choices.{challenge_answered, told_as}
+use Rattle.cx_turns.proofs.MadeRows.{makes_as}
+use Rattle.cx_connector.specs.Rows.{arrived, changed}
+use Rattle.cx_connector.proofs.Choices.{challenge_answered}
 use Rattle.cx_connector.proofs.challenges.on_challenge.Goals as goal
 
-pub returns-in-Ok : goal.returns-in-Ok
-returns-in-Ok c =
+pub returns : goal.returns
+returns c =
     let a : AskerArrival = arrived c.args.asker.now c.args.at.now (wired c.args.at.now.number c.args.link (AwaitsChallenge c.args.asked)) in
-    let k = rw (c.in-Ok.is, c.challenge-challenge.ensures) at c.in_ok-answer.ensures in
-    told_as c.proves.result c.args.asker.now c.args.at.now.number
-    (due (proves a c.in-Ok.answer.server.challenge (plain_frame (control 5 auth_request_more_layout.form (record { payload = c.in-Ok.answer.bytes })))))
-    (due (on_challenge a c.args.asked (whole server_challenge_layout.form c.args.payload.now)))
-    (challenge_answered a c.args.asked (whole server_challenge_layout.form c.args.payload.now) c.in-Ok.answer.server c.in-Ok.answer.bytes k.0 k.1)
+    let k = rw (c.in_ok-answer.was, c.challenge-challenge.ensures) at c.in_ok-answered.ensures in
+    makes_as abridged_asker_link changed a
+    (proves a c.in_ok-answer.answer.server.challenge (plain_frame (control 5 auth_request_more_layout.form (record { payload = c.in_ok-answer.answer.bytes }))))
+    (on_challenge a c.args.asked (whole server_challenge_layout.form c.args.payload.now)) c.proves.result
+    (challenge_answered a c.args.asked (whole server_challenge_layout.form c.args.payload.now) c.in_ok-answer.answer.server c.in_ok-answer.answer.bytes k.0 k.1)
     (c.proves.ensures (AwaitsChallenge c.args.asked))

@@ -1,13 +1,14 @@
 use Rattle.cx_link.specs.Wires.{wired}
+use Rattle.cx_rules.specs.Abridged.{abridged_asker_link}
 use Rattle.cx_rules.specs.Connector.{AskerArrival, AwaitsChallenge, while_challenged}
-use Rattle.cx_connector.specs.Rows.{arrived, denied, due}
-use Rattle.cx_connector.proofs.Choices.{challenge_denied, told_as}
+use Rattle.cx_turns.proofs.MadeRows.{makes_as}
+use Rattle.cx_connector.specs.Rows.{arrived, changed, denied}
+use Rattle.cx_connector.proofs.Choices.{challenge_denied}
 use Rattle.cx_connector.proofs.challenges.while_challenged.Goals as goal
 
 pub returns-in_ok-read : goal.returns-in_ok-read
 returns-in_ok-read c =
     let a : AskerArrival = arrived c.args.asker.now c.args.at.now (wired c.args.at.now.number c.args.link (AwaitsChallenge c.args.asked)) in
-    told_as c.on_bad_method.result c.args.asker.now c.args.at.now.number (due (denied a c.in_ok-read.read))
-    (due (while_challenged a c.args.asked c.args.frame.now))
+    makes_as abridged_asker_link changed a (denied a c.in_ok-read.read) (while_challenged a c.args.asked c.args.frame.now) c.on_bad_method.result
     (challenge_denied a c.args.asked c.args.frame.now c.in_ok-read.read c.if-frame-eq3.true c.in_ok-read.ensures)
     (c.on_bad_method.ensures c.args.link (AwaitsChallenge c.args.asked))

@@ -1,14 +1,16 @@
+use Rattle.cx_rules.specs.Abridged.{abridged_asker_link}
 use Rattle.cx_rules.specs.Connector.{AskerArrival, AwaitsIdent, on_missing_features, while_identified}
-use Rattle.cx_connector.specs.Rows.{arrived, due}
+use Rattle.cx_turns.proofs.MadeRows.{makes_as}
+use Rattle.cx_turns.specs.Stages.{keys_alone}
+use Rattle.cx_connector.specs.Rows.{arrived, changed}
 use Rattle.cx_connector.specs.Stages.{awaiting_ident}
-use Rattle.cx_ends.specs.Stages.{keys_alone}
-use Rattle.cx_connector.proofs.Choices.{features_missing, told_as}
+use Rattle.cx_connector.proofs.Choices.{features_missing}
 use Rattle.cx_connector.proofs.idents.while_identified.Goals as goal
 
 pub returns-in_ok-read : goal.returns-in_ok-read
 returns-in_ok-read c =
     let a : AskerArrival = arrived c.args.asker.now c.args.at.now (awaiting_ident c.args.at.now.number c.args.link) in
-    told_as c.on_missing_features.result c.args.asker.now c.args.at.now.number (due (on_missing_features a c.in_ok-read.read))
-    (due (while_identified a (keys_alone c.args.link.keys) c.args.frame.now))
+    makes_as abridged_asker_link changed a (on_missing_features a c.in_ok-read.read) (while_identified a (keys_alone c.args.link.keys) c.args.frame.now)
+    c.on_missing_features.result
     (features_missing a (keys_alone c.args.link.keys) c.args.frame.now c.in_ok-read.read c.if-frame-eq10.true c.in_ok-read.ensures)
     (c.on_missing_features.ensures c.args.link.ahead (AwaitsIdent (keys_alone c.args.link.keys)))

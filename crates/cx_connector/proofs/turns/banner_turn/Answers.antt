@@ -1,6 +1,12 @@
-use Rattle.cx_connector.proofs.Turning.{banner_turns}
+use Rattle.cx_link.specs.Wires.{wired}
+use Rattle.cx_rules.specs.Abridged.{abridged_asker_link}
+use Rattle.cx_rules.specs.Connector.{AskerArrival, AwaitsBanner, on_banner}
+use Rattle.cx_turns.proofs.Handling.{banner_turn}
+use Rattle.cx_connector.specs.Rows.{arrived, changed}
 use Rattle.cx_connector.proofs.turns.banner_turn.Goals as goal
 
-pub returns-in_ok-row-in-Takes : goal.returns-in_ok-row-in-Takes
-returns-in_ok-row-in-Takes c =
-    banner_turns c.args.asker.now c.args.at.now c.args.link c.in-Takes.link c.args.asked c.in_ok-row-in-Takes.row c.in-Takes.ensures c.in_ok-row-in-Takes.ensures
+pub returns-in-Takes : goal.returns-in-Takes
+returns-in-Takes c =
+    banner_turn abridged_asker_link changed (arrived c.args.asker.now c.args.at.now (wired c.args.at.now.number c.args.link (AwaitsBanner c.args.asked)))
+    c.args.at.now.number c.args.link c.in-Takes.link (AwaitsBanner c.args.asked) (λ (a : AskerArrival). on_banner a c.args.asked) c.on_banner-made.result
+    c.handles.result c.in-Takes.ensures c.on_banner-made.ensures (rw c.new-in-Takes.ensures at c.handles.ensures)

@@ -1,7 +1,14 @@
-use Rattle.cx_connector.proofs.Turning.{challenge_turns}
+use Rattle.cx_frame.specs.declared.frame.Frame.{Frame}
+use Rattle.cx_rules.specs.Connector.{AskerArrival, AwaitsChallenge, while_challenged}
+use Rattle.cx_link.specs.Wires.{wired}
+use Rattle.cx_rules.specs.Abridged.{abridged_asker_link}
+use Rattle.cx_turns.proofs.Handling.{plain_turn}
+use Rattle.cx_connector.specs.Rows.{arrived, changed}
 use Rattle.cx_connector.proofs.turns.challenge_turn.Goals as goal
 
-pub returns-in_ok-row-in-Takes : goal.returns-in_ok-row-in-Takes
-returns-in_ok-row-in-Takes c =
+pub returns-in-Takes : goal.returns-in-Takes
+returns-in-Takes c =
     let t = rw c.in-Takes.is at c.in_ok-link.ensures in
-    challenge_turns c.args.asker.now c.args.at.now c.args.link c.in-Takes.link c.args.asked c.in-Takes.frame c.in_ok-row-in-Takes.row t c.in_ok-row-in-Takes.ensures
+    plain_turn abridged_asker_link changed (arrived c.args.asker.now c.args.at.now (wired c.args.at.now.number c.args.link (AwaitsChallenge c.args.asked))) c.args.at.now.number
+    c.args.link c.in-Takes.link (AwaitsChallenge c.args.asked) c.in-Takes.frame (λ (a : AskerArrival) (f : Frame). while_challenged a c.args.asked f) c.while_challenged-made.result c.handles.result t c.while_challenged-made.ensures
+    (rw c.new-in-Takes.ensures at c.handles.ensures)

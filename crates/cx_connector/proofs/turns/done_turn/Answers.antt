@@ -1,7 +1,14 @@
-use Rattle.cx_connector.proofs.Turning.{done_turns}
+use Rattle.cx_frame.specs.declared.frame.Frame.{Frame}
+use Rattle.cx_rules.specs.Connector.{AskerArrival, AwaitsDone, while_proved}
+use Rattle.cx_link.specs.Wires.{wired}
+use Rattle.cx_rules.specs.Abridged.{abridged_asker_link}
+use Rattle.cx_turns.proofs.Handling.{plain_turn}
+use Rattle.cx_connector.specs.Rows.{arrived, changed}
 use Rattle.cx_connector.proofs.turns.done_turn.Goals as goal
 
-pub returns-in_ok-row-in-Takes : goal.returns-in_ok-row-in-Takes
-returns-in_ok-row-in-Takes c =
+pub returns-in-Takes : goal.returns-in-Takes
+returns-in-Takes c =
     let t = rw c.in-Takes.is at c.in_ok-link.ensures in
-    done_turns c.args.asker.now c.args.at.now c.args.link c.in-Takes.link c.in-Takes.frame c.in_ok-row-in-Takes.row t c.in_ok-row-in-Takes.ensures
+    plain_turn abridged_asker_link changed (arrived c.args.asker.now c.args.at.now (wired c.args.at.now.number c.args.link AwaitsDone)) c.args.at.now.number
+    c.args.link c.in-Takes.link AwaitsDone c.in-Takes.frame (λ (a : AskerArrival) (f : Frame). while_proved a f) c.while_proved-made.result c.handles.result t c.while_proved-made.ensures
+    (rw c.new-in-Takes.ensures at c.handles.ensures)

@@ -1,8 +1,28 @@
-use Rattle.cx_connector.proofs.Turning.{ident_turns}
+use Rattle.std.proofs.Common.{ℕ}
+use Rattle.cx_frame.specs.declared.frame.Frame.{Frame}
+use Rattle.cx_rules.specs.Connector.{AskerArrival, AwaitsIdent, while_identified}
+use Rattle.cx_connector.proofs.Behind.{ident-same}
+use Rattle.cx_rules.specs.Abridged.{abridged_asker_link}
+use Rattle.cx_rules.specs.Fronts.{keys_behind}
+use Rattle.cx_rules.specs.Secured.{Keys, under}
+use Rattle.cx_turns.proofs.Handling.{secure_turn}
+use Rattle.cx_turns.specs.Stages.{keys_alone}
+use Rattle.cx_connector.specs.Rows.{arrived, changed}
+use Rattle.cx_connector.specs.Stages.{awaiting_ident}
 use Rattle.cx_connector.proofs.turns.ident_turn.Goals as goal
 
-pub returns-in_ok-with_opened-in-Takes : goal.returns-in_ok-with_opened-in-Takes
-returns-in_ok-with_opened-in-Takes c =
+pub returns-in-Takes : goal.returns-in-Takes
+returns-in-Takes c =
     let t = rw (c.in-Takes.is, c.new-opened.ensures) at c.in_ok-link.ensures in
-    ident_turns c.args.asker.now c.args.at.now c.args.link c.in-Takes.link c.in-Takes.frame c.turn.new.seals
-    c.in_ok-row-in-Takes.row c.in_ok-with_opened-in-Takes.field-0 t c.in_ok-row-in-Takes.ensures c.in_ok-with_opened-in-Takes.ensures
+    secure_turn abridged_asker_link changed (arrived c.args.asker.now c.args.at.now (awaiting_ident c.args.at.now.number c.args.link)) c.args.at.now.number
+    c.args.link c.in-Takes.link (AwaitsIdent (keys_alone c.args.link.keys)) (AwaitsIdent (keys_alone c.in-Takes.link.keys)) c.in-Takes.frame c.turn.new.seals
+    (λ (a : AskerArrival) (f : Frame) (keys : Keys). while_identified a (under (keys_alone c.args.link.keys) keys) f) c.while_identified-made.result c.handles.result t
+    (λ (n : ℕ). ident-same (record {
+      a = arrived c.args.asker.now c.args.at.now (awaiting_ident c.args.at.now.number c.args.link);
+      number = c.args.at.now.number;
+      came = c.args.link.ahead;
+      n = n;
+      stage = AwaitsIdent (keys_alone c.args.link.keys);
+      next = AwaitsIdent (keys_alone c.in-Takes.link.keys);
+    }) (keys_alone (keys_behind c.args.link.keys c.in-Takes.frame)) c.in-Takes.frame)
+    c.while_identified-made.ensures c.handles.ensures

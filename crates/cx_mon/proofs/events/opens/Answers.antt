@@ -9,14 +9,14 @@ use Rattle.cx_mon.proofs.events.opens.Goals as goal
 
 pub returns-clause-step : goal.returns-clause-step
 returns-clause-step c =
-    let m = rw c.len-full.ensures at c.greets-greeted.ensures in
+    let m = rw c.len-full.ensures at c.greeting-greeted.ensures in
     opens_step abridged_link acceptor-forgets c.args.own.now c.args.at.now.number c.args.links.now.links c.opens.new.links.links
     (opening (nat_le 1024 (length c.args.links.now.links)) (arrived c.args.own.now c.args.at.now (new_link c.args.at.now.number AwaitsBanner)))
-    c.greets-greeted.result c.opens.result c.requires.held m c.opens.ensures.carried
+    c.greeting-greeted.result c.opens.result c.requires.held m c.opens.ensures.carried
 
 pub returns-clause-held : goal.returns-clause-held
 returns-clause-held c =
-    let m = rw c.len-full.ensures at c.greets-greeted.ensures in
+    let m = rw c.len-full.ensures at c.greeting-greeted.ensures in
     opens_held abridged_link acceptor-forgets c.args.own.now c.args.at.now.number c.args.links.now.links c.opens.new.links.links
     (opening (nat_le 1024 (length c.args.links.now.links)) (arrived c.args.own.now c.args.at.now (new_link c.args.at.now.number AwaitsBanner)))
-    c.greets-greeted.result c.opens.result c.requires.held m c.opens.ensures.carried c.opens.ensures.lost
+    c.greeting-greeted.result c.opens.result c.requires.held m c.opens.ensures.carried c.opens.ensures.lost

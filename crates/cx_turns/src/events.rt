@@ -1,7 +1,7 @@
 //! Events, by the link that they are about.
 
 ghost use Rattle.std.specs.Prelude.{◌≡◌};
-ghost use Rattle.cx_ends.specs.Events.{link_in};
+ghost use Rattle.cx_turns.specs.Events.{link_in};
 ghost use Rattle.cx_rules.specs.Inputs.{input_of};
 
 use cx_steps::Event;

@@ -4,7 +4,7 @@ use Rattle.cx_journal.specs.declared.faults.BytesFault.{BytesFault}
 use Rattle.cx_link.specs.Wires.{SecureWire, Wire}
 use Rattle.cx_link.specs.declared.links.SentFrame.{SentFrame}
 use Rattle.cx_rules.specs.Secured.{SealedFrame}
-use Rattle.cx_ends.specs.declared.sending.SentPlain.{SentPlain}
+use Rattle.cx_turns.specs.declared.sending.SentPlain.{SentPlain}
 
 -- the bytes of a plain frame were sent on the link, or it can't be written, as it is due
 abbrev pub SendsPlain : Wire → Result (List ℕ) BytesFault → Result SentPlain BytesFault → Type 0

@@ -1,13 +1,14 @@
 -- A row that was made as it is due is carried out as the rules have it, on links of which no more can be forgotten.
 use Rattle.std.proofs.Common.{◌≡◌, ◌∙◌, ℕ, Bool, List, [], ◌++◌, map, Option, Some, None, refl, sym, ap}
 use Rattle.std.specs.Option.{option_map}
-use Rattle.cx_node.specs.Made.{out_of}
+use Rattle.cx_node.specs.Made.{as_row, out_of}
 use Rattle.cx_node.specs.Tables.{behind}
 use Rattle.cx_node.specs.declared.rows.Row.{Row as Made}
 use Rattle.cx_rules.specs.Abridged.{abridged_node}
 use Rattle.cx_rules.specs.Links.{Link, put_link, without_link}
 use Rattle.cx_rules.specs.Rows.{Node, Row, carried_out, links_behind, piece, shuts}
 use Rattle.cx_steps.specs.declared.effects.Effects.{Effects}
+use Rattle.cx_turns.specs.Making.{row_due}
 use Rattle.cx_rules.proofs.Abridging.{Forgets, put_link_map, without_link_map}
 
 shuts_mapped : {X Y : Type 0} (number : ℕ) (f : X → Y) (x : Option X) → shuts number (option_map f x) ≡ shuts number x
@@ -15,7 +16,7 @@ shuts_mapped number f None = refl
 shuts_mapped number f (Some x) = refl
 
 -- a link with what is sent on it, abridged
-abbrev pub sent_behind : {Stage : Type 0} → (Link Stage → Link Stage) → List ℕ → Link Stage → Link Stage
+abbrev sent_behind : {Stage : Type 0} → (Link Stage → Link Stage) → List ℕ → Link Stage → Link Stage
 sent_behind abridged bytes link = abridged (record link { sent = link.sent ++ bytes })
 
 -- ---- a table behind a row
@@ -28,22 +29,7 @@ behind_due abridged forgets all number bytes (Some l) same =
 
 -- ---- a row
 
-module _ {Own Stage Held : Type 0} (abridged : Link Stage → Link Stage) (held : ℕ → Held → Link Stage) where
-  -- a row that was made on a link of this number
-  abbrev pub as_made : Own → ℕ → Made Held → Row Own Stage
-  as_made own number row = record {
-    own = own;
-    link = option_map (held number) row.link;
-    sends = row.sends;
-    save = row.save;
-    entries = row.entries;
-    seals = row.seals;
-  }
-
-  -- a row of the rules as it is to be made
-  abbrev pub as_due : Row Own Stage → Row Own Stage
-  as_due row = record row { link = option_map (sent_behind abridged row.sends) row.link }
-
+module _ {Own Stage : Type 0} (abridged : Link Stage → Link Stage) where
   -- the effects of a row
   abbrev effects : ℕ → Bool → List ℕ → Row Own Stage → Effects
   effects number turned shut row = record {
@@ -57,17 +43,15 @@ module _ {Own Stage Held : Type 0} (abridged : Link Stage → Link Stage) (held 
     lost = None;
   }
 
-  pub row_out : (new : Own) (number : ℕ) (turned : Bool) (node : Node Own Stage) (row : Made Held) (R : Row Own Stage) → as_made new number row ≡ as_due R
+  pub row_out : (new : Own) (number : ℕ) (turned : Bool) (node : Node Own Stage) (row : Made (Link Stage)) (R : Row Own Stage) → as_row new row ≡ row_due abridged R
       → out_of number turned row ≡ (carried_out node number turned R).out
   row_out new number turned node row R e =
       let whole : Row Own Stage → Effects = λ r. effects number turned (shuts number r.link) r in
       let shut : List ℕ → Effects = λ s. effects number turned s R in
-      let made : List ℕ → Effects = λ s. effects number turned s (as_made new number row) in
-      sym (ap made (shuts_mapped number (held number) row.link)) ∙ ap whole e ∙ ap shut (shuts_mapped number (sent_behind abridged R.sends) R.link)
+      ap whole e ∙ ap shut (shuts_mapped number (sent_behind abridged R.sends) R.link)
 
-  pub row_state : Forgets abridged → (old new : Own) (number : ℕ) (turned : Bool) (all links : List (Link Stage)) (row : Made Held) (R : Row Own Stage)
-      → as_made new number row ≡ as_due R → map abridged all ≡ all
-      → links ≡ behind (λ (l : Link Stage). l.number) number (option_map (held number) row.link) all
+  pub row_state : Forgets abridged → (old new : Own) (number : ℕ) (turned : Bool) (all links : List (Link Stage)) (row : Made (Link Stage)) (R : Row Own Stage)
+      → as_row new row ≡ row_due abridged R → map abridged all ≡ all → links ≡ behind (λ (l : Link Stage). l.number) number row.link all
       → (let node : Node Own Stage = record { own = new; links = links } in node)
       ≡ abridged_node abridged (carried_out (record { own = old; links = all }) number turned R).state
   row_state forgets old new number turned all links row R e same l =

@@ -3,7 +3,7 @@ use Rattle.std.proofs.Common.{◌≡◌, ℕ, ◌==◌, ◌+◌, ◌<◌, ◌≤
 use Rattle.std.specs.Prelude.{not, nat_lt, filter}
 use Rattle.std.proofs.lemmas.Bool.Decides.{nat_tests}
 use Rattle.cx_rules.specs.Links.{Link, link_of, put_link, without_link}
-use Rattle.cx_ends.specs.Stages.{AreRising}
+use Rattle.cx_turns.specs.Stages.{AreRising}
 
 module _ {Stage : Type 0} where
   lower : (a b : ℕ) (links : List (Link Stage)) → a ≤ b → AreRising b links → AreRising a links

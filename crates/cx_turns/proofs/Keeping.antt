@@ -11,8 +11,8 @@ use Rattle.cx_rules.specs.Payloads.{payload}
 use Rattle.cx_rules.specs.Rows.{Arrival, Row, refuses_bytes, secure_sent}
 use Rattle.cx_rules.specs.Secured.{Keys, SealedFrame, Secured}
 use Rattle.cx_rules.specs.Upkeep.{on_keepalive, on_keepalive_ack, on_upkeep}
-use Rattle.cx_ends.specs.Stages.{keys_alone}
-use Rattle.cx_ends.specs.Upkeep.{acknowledged, answered, upkept}
+use Rattle.cx_turns.specs.Stages.{keys_alone}
+use Rattle.cx_turns.specs.Upkeep.{acknowledged, answered, upkept}
 
 module _ {Own Stage : Type 0} (a : Arrival Own Stage) (keys : Keys) (open_under : Secured → Stage) where
   abbrev sent : Result SealedFrame BytesFault → Row Own Stage

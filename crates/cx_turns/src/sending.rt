@@ -3,7 +3,7 @@
 ghost use Rattle.std.specs.Prelude.{◌≡◌, ◌≤◌, IfOk};
 ghost use Rattle.cx_rules.specs.Payloads.{control};
 ghost use Rattle.cx_rules.specs.Secured.{plain_frame, secure_frame};
-ghost use Rattle.cx_ends.specs.Sending.{SendsPlain, SendsSecure};
+ghost use Rattle.cx_turns.specs.Sending.{SendsPlain, SendsSecure};
 
 use cx_base::Blob;
 use cx_enc::Encoded;

@@ -4,8 +4,8 @@ ghost use Rattle.std.specs.Prelude.{◌≡◌, IfOk};
 ghost use Rattle.cx_control.specs.Upkeep.{keepalive2_layout};
 ghost use Rattle.cx_enc.specs.Moments.{IsReading};
 ghost use Rattle.cx_rules.specs.Payloads.{payload, whole};
-ghost use Rattle.cx_ends.specs.Sending.{SendsSecure};
-ghost use Rattle.cx_ends.specs.Upkeep.{acknowledged, answered, upkept};
+ghost use Rattle.cx_turns.specs.Sending.{SendsSecure};
+ghost use Rattle.cx_turns.specs.Upkeep.{acknowledged, answered, upkept};
 
 use crate::sending::send_secure;
 use cx_base::{Blob, Items};

@@ -1,8 +1,8 @@
 -- A value that was read is one that its form fits.
 use Rattle.std.proofs.Common.{sym}
 use Rattle.cx_control.specs.Upkeep.{keepalive2_layout}
-use Rattle.cx_ends.proofs.Controls.{whole_spelled}
-use Rattle.cx_ends.proofs.upkeep.keepalive_in.Goals as goal
+use Rattle.cx_turns.proofs.Controls.{whole_spelled}
+use Rattle.cx_turns.proofs.upkeep.keepalive_in.Goals as goal
 
 pub returns-in-Ok-clause-read : goal.returns-in-Ok-clause-read
 returns-in-Ok-clause-read c = sym (whole_spelled keepalive2_layout.form keepalive2_layout.lawful c.args.bytes.now c.in-Ok.keepalive c.in-Ok.ensures.found)

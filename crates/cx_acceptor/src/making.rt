@@ -1,0 +1,27 @@
+//! Rows of the monitor that change nothing of what it has of its own.
+
+ghost use Rattle.std.specs.Prelude.{◌≡◌, [], IfOk};
+ghost use Rattle.cx_base.specs.declared.nodes.NodeName.TheVariants as node;
+ghost use Rattle.cx_node.specs.Made.{denying};
+ghost use Rattle.cx_turns.specs.Making.{keeping};
+
+use crate::links::Link;
+use crate::own::KeyChange;
+use cx_base::{Items, NodeName};
+use cx_journal::LoginFault;
+use cx_turns::{Moment, NodeRow};
+use std::alloc::{AllocError, Global};
+
+// AUTH_BAD_METHOD is sent with a code, the link is shut, and why is entered.
+pub(crate) fn denies(
+    alloc: Global,
+    at: &Moment<'_>,
+    code: u32,
+    why: LoginFault,
+) -> Result<NodeRow<Link, KeyChange>, AllocError>
+    ensures { IfOk result (λ row. row ≡ keeping (denying node.Monitor at.now.number code why [])) }
+{
+    let seals = Items::new(alloc);
+    let row = cx_node::denies(alloc, &NodeName::Monitor, at.number, code, why, seals)?;
+    Ok(NodeRow::keeping(row))
+}

@@ -1,4 +1,0 @@
-pub mod Carrying
-pub mod Controls
-pub mod Keeping
-pub mod Rising

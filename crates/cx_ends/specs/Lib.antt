@@ -1,4 +1,0 @@
-pub mod Events
-pub mod Sending
-pub mod Stages
-pub mod Upkeep
