@@ -14,7 +14,7 @@ use Rattle.cx_steps.specs.declared.seals.SealEntry.{SealEntry}
 use Rattle.cx_wire.specs.Logins.{authenticate_layout, login_done_layout, server_challenge_layout}
 use Rattle.cx_wire.specs.declared.logins.ServerChallenge.{ServerChallenge}
 use Rattle.cx_holdings.specs.Steps.{IsAnswerTo, IsOpenedBy}
-use Rattle.cx_holdings.proofs.Payloads.{refused_is, spelled_is}
+use Rattle.cx_rules.proofs.Payloads.{refused_is, spelled_is}
 
 -- the challenge that the payload spells was answered
 pub answer_is : (ask : Ask) (payload : List ℕ) (client : ℕ) (server : ServerChallenge) (secret bytes : List ℕ) → Spells server_challenge_layout.form payload server

@@ -10,7 +10,7 @@ ghost use Rattle.cx_wire.specs.Logins.{login_done_layout, server_challenge_layou
 
 use crate::answers::Answer;
 use crate::offers::OfferedModes;
-use crate::pending::Login;
+use crate::pending::{Login, Renewed};
 use crate::steps::{answered, login_hello, opened};
 use crate::tickets::Holdings;
 use cx_base::{Addr, EntityName, Items, Reading};
@@ -57,7 +57,7 @@ impl Model for Asker {
 }
 
 impl Asker {
-    ghost use Rattle.cx_rules.specs.Holdings.{afresh, held_login, holds_nothing, modes_of, unexpired};
+    ghost use Rattle.cx_rules.specs.Holdings.{afresh, held_login, holds_nothing, modes_of, put_tickets, unexpired};
 
     /// One that holds nothing yet.
     pub fn new(name: EntityName, key: Key, address: Addr, modes: OfferedModes) -> Asker
@@ -107,6 +107,13 @@ impl Asker {
         ensures { self.new ≡ record self.old { holdings = held_login self.old.holdings login.gid login.opened } }
     {
         self.holdings.hold(login);
+    }
+
+    /// Holds tickets that were told later.
+    pub fn renew(&mut self, renewed: Renewed)
+        ensures { self.new ≡ record self.old { holdings = put_tickets self.old.holdings renewed } }
+    {
+        self.holdings.renew(renewed);
     }
 
     /// Forgets its global id and all tickets.

@@ -11,7 +11,7 @@ mod tickets;
 pub use answers::Answer;
 pub use askers::Asker;
 pub use offers::OfferedModes;
-pub use pending::Login;
+pub use pending::{Login, Renewed};
 pub use tickets::Holdings;
 
 // Each public type may be sent to another thread and shared with one.
@@ -20,6 +20,7 @@ fn is_sendable<T: Send + Sync>() {}
 fn all_are_sendable() {
     is_sendable::<OfferedModes>();
     is_sendable::<Login>();
+    is_sendable::<Renewed>();
     is_sendable::<Holdings>();
     is_sendable::<Asker>();
     is_sendable::<Answer>();

@@ -1,4 +1,4 @@
-//! A login that isn't held yet.
+//! What isn't held yet: a login, and tickets that were told later.
 
 ghost use Rattle.std.specs.Prelude.{◌≡◌, IfOk};
 
@@ -59,6 +59,31 @@ impl Login {
         ensures { result ≡ self.now.opened.secret }
     {
         self.secret
+    }
+}
+
+/// Tickets that a reply told, and that aren't held yet. They stand each by itself, so that to hold them wants no memory.
+#[derive(Drop)]
+pub struct Renewed {
+    pub(crate) tickets: Vec<HeldTicket>,
+}
+
+impl Model for Renewed {
+    ghost use Rattle.std.specs.Prelude.{List};
+    ghost use Rattle.cx_login.specs.Held.{Held};
+
+    ghost Value = { List Held };
+
+    ghost view = { λ r. r.tickets.items };
+}
+
+impl Renewed {
+    /// These tickets, each by itself.
+    pub fn new(alloc: Global, tickets: &Items<HeldTicket>) -> Result<Renewed, AllocError>
+        ensures { IfOk result (λ renewed. renewed ≡ tickets.now) }
+    {
+        let tickets = copies(alloc, tickets)?;
+        Ok(Renewed { tickets })
     }
 }
 

@@ -2,7 +2,7 @@
 
 ghost use Rattle.std.specs.Prelude.{◌≡◌, IfOk};
 
-use crate::pending::Login;
+use crate::pending::{Login, Renewed};
 use cx_base::{Duplicate, EntityType, Reading};
 use cx_login::HeldTicket;
 use std::alloc::{AllocError, Global};
@@ -50,6 +50,13 @@ impl Holdings {
         self.turn_to(login.gid);
         self.put(login.auth);
         self.put_all(login.tickets);
+    }
+
+    /// Holds tickets that were told later, each in place of the older one of its service.
+    pub fn renew(&mut self, renewed: Renewed)
+        ensures { self.new ≡ put_tickets self.old renewed }
+    {
+        self.put_all(renewed.tickets);
     }
 
     /// Forgets all.

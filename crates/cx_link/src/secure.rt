@@ -3,7 +3,9 @@
 ghost use Rattle.std.specs.Prelude.{◌≡◌, ◌++◌, List, IfOk, OnOk, OnErr, if◌then◌else◌, map, nat_lt};
 ghost use Rattle.cx_journal.specs.declared.faults.BytesFault.TheVariants.{CounterSpent, TooLong};
 ghost use Rattle.cx_link.specs.Sending.{IsControl, Sends, logged_behind, opened_entry, sealed_entry};
+ghost use Rattle.cx_frame.specs.Frames.{IsAnnounceable};
 ghost use Rattle.cx_link.specs.Turning.{SecureTurns};
+ghost use Rattle.cx_link.specs.Wires.{IsLive, held_keys, secure_wire};
 ghost use Rattle.cx_rules.specs.Secured.{secure_frame};
 
 use crate::links::{SecureLink, SentFrame};
@@ -13,6 +15,7 @@ use cx_base::{Blob, Duplicate, Items};
 use cx_frame::Frame;
 use cx_journal::{BytesFault, KeyKind};
 use cx_steps::{SealEntry, SealMark};
+use cx_stream::Secure;
 use std::alloc::{AllocError, Global};
 
 /// The segments of a secure frame have at most so many bytes together.
@@ -63,6 +66,15 @@ impl SecureLink {
         self.put_behind(alloc, frame, Items::new(alloc))
     }
 
+    /// Seals a frame of one to four segments, as a message. Each part of it is logged.
+    pub fn put_frame(self, alloc: Global, frame: &Frame) -> Result<SentFrame, LinkRefusal>
+        requires { IsAnnounceable frame.now }
+        ensures { Sends self.ahead result (secure_frame self.keys frame.now) }
+    {
+        let SecureLink { key, stream } = self;
+        seal_behind(alloc, key, stream, frame, Items::new(alloc))
+    }
+
     // Seals a control frame, and logs it behind these entries.
     pub(crate) fn put_behind(
         self,
@@ -73,21 +85,37 @@ impl SecureLink {
         requires { IsControl frame.now }
         ensures { Sends self.ahead result (logged_behind before (secure_frame self.keys frame.now)) }
     {
-        let SecureLink { key, mut stream } = self;
+        let SecureLink { key, stream } = self;
         if frame.segments.all()[0].bytes.bytes().len() > MAX_SECURE {
             return Err(LinkRefusal::Fault(long_fault(stream.parts_left())));
         }
-        let mut bytes = Blob::new(alloc);
-        match stream.put(alloc, &mut bytes, frame) {
-            Ok(()) => {
-                let contents = stream.put_contents(alloc, frame)?;
-                let mut seals = before;
-                log_sealed(alloc, &key, contents.all(), &mut seals)?;
-                let link = SecureLink { key, stream };
-                Ok(SentFrame { link, bytes, seals })
-            }
-            Err(fault) => Err(LinkRefusal::from(fault)),
+        seal_behind(alloc, key, stream, frame, before)
+    }
+}
+
+// Seals a frame on the stream of a link, and logs it behind these entries.
+fn seal_behind(
+    alloc: Global,
+    key: [u8; 16],
+    stream: Box<Secure>,
+    frame: &Frame,
+    before: Items<SealEntry>,
+) -> Result<SentFrame, LinkRefusal>
+    requires live { IsLive key stream.value }
+    requires frame { IsAnnounceable frame.now }
+    ensures { Sends (secure_wire stream.value).ahead result (logged_behind before (secure_frame (held_keys stream.value) frame.now)) }
+{
+    let mut stream = stream;
+    let mut bytes = Blob::new(alloc);
+    match stream.put(alloc, &mut bytes, frame) {
+        Ok(()) => {
+            let contents = stream.put_contents(alloc, frame)?;
+            let mut seals = before;
+            log_sealed(alloc, &key, contents.all(), &mut seals)?;
+            let link = SecureLink { key, stream };
+            Ok(SentFrame { link, bytes, seals })
         }
+        Err(fault) => Err(LinkRefusal::from(fault)),
     }
 }
 

@@ -19,7 +19,7 @@ pub use laws::node_laws;
 pub use links::Links;
 pub use making::{denies, goes_on, refused_entry, refuses, refuses_bytes, with_opened};
 pub use numbered::Numbered;
-pub use payloads::{due, payload, payload_part, whole};
+pub use payloads::{due, payload, payload_part, whole, whole_part};
 pub use rows::Row;
 
 // Each public type may be sent to another thread and shared with one, where its links may.

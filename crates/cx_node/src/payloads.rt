@@ -49,8 +49,8 @@ pub fn due<T: Encoded>(
     }
 }
 
-// The part that is kept of what all of these bytes spell.
-fn whole_part<T: ReadsPart>(
+/// The part that is kept of what all of these bytes spell, as of the header of a message.
+pub fn whole_part<T: ReadsPart>(
     alloc: Global,
     bytes: &[u8],
 ) -> Result<Result<T, BytesFault>, AllocError>

@@ -10,4 +10,5 @@ pub mod Granting
 pub mod MonitorForgets
 pub mod MonitorRows
 pub mod Naming
+pub mod Payloads
 pub mod Quiet

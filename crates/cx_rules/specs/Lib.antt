@@ -9,10 +9,14 @@ pub mod Inputs
 pub mod Judged
 pub mod KeptStates
 pub mod Links
+pub mod Messages
 pub mod Monitor
 pub mod MonitorLogin
+pub mod MonitorRequests
 pub mod MonitorRule
 pub mod Payloads
+pub mod Replies
+pub mod Requests
 pub mod Rows
 pub mod Secured
 pub mod Tickets

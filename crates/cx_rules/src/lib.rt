@@ -2,9 +2,15 @@
 #![tactic(auto)]
 
 mod laws;
+mod messages;
+mod requests;
+mod responses;
 mod verdicts;
 
 pub use laws::{forgetting_laws, rule_laws};
+pub use messages::Body;
+pub use requests::{Taken, Waiting, Want};
+pub use responses::{Bearer, Demand, ReplyMade, Response};
 pub use verdicts::{HandedOut, Verdict};
 
 // Each public type may be sent to another thread and shared with one.
@@ -13,4 +19,10 @@ fn is_sendable<T: Send + Sync>() {}
 fn all_are_sendable() {
     is_sendable::<Verdict>();
     is_sendable::<HandedOut>();
+    is_sendable::<Body<Demand>>();
+    is_sendable::<(Want, Waiting)>();
+    is_sendable::<Taken>();
+    is_sendable::<Bearer>();
+    is_sendable::<ReplyMade>();
+    is_sendable::<Response>();
 }

@@ -1,6 +1,6 @@
 use Rattle.std.proofs.Common.{arith}
 use Rattle.cx_wire.specs.Logins.{server_challenge_layout}
-use Rattle.cx_holdings.proofs.Payloads.{unread_is}
+use Rattle.cx_rules.proofs.Payloads.{unread_is}
 use Rattle.cx_holdings.proofs.steps.answered.Goals as goal
 
 pub returns-in-Malformed : goal.returns-in-Malformed

@@ -1,0 +1,4 @@
+pub mod Announcing
+pub mod Bodies
+pub mod Headers
+pub mod Joining
