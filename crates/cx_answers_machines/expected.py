@@ -527,4 +527,5 @@ def main():
                     print(line)
 
 
-main()
+if __name__ == "__main__":
+    main()

@@ -1,3 +1,4 @@
+mod Ahead
 mod Loops
 mod Ordered
 mod Performing

@@ -1,9 +1,10 @@
 -- Sends, opens and shuts grow one by one.
-use Rattle.std.proofs.Common.{ℕ, ◌≡◌, ◌<◌, ◌+◌, Bool, List, [], ◌∷◌, ◌++◌, map, take, length, get_or, Option, refl, sym, ap, ◌∙◌, subst, append_assoc, append-nil}
+use Rattle.std.proofs.Common.{ℕ, ◌≡◌, ◌<◌, ◌+◌, Bool, List, [], ◌∷◌, ◌++◌, map, take, drop, length, get_or, Option, refl, sym, ap, ◌∙◌, subst, append_assoc, append-nil, arith}
 use Rattle.std.proofs.lemmas.List.{take_more}
-use Rattle.cx_drive.specs.Steps.{Opening, Sending, address_of, are_gone, gone_behind, lost_acts, open_act, open_acts, open_due, open_dues, opening, saved_acts, send_act, send_acts, sending, shut_acts, with_send}
+use Rattle.cx_drive.specs.Steps.{Opening, Sending, address_of, carried_dues, gone_behind, gone_dues, is_gone, lost_acts, open_act, open_acts, open_due, open_dues, opening, saved_acts, send_act, send_acts, sending, shut_acts, with_send}
 use Rattle.cx_drive.specs.Stops.{Carried, HandedOut, Opens, Sends}
 use Rattle.cx_drive.specs.declared.dues.Due.{Due}
+use Rattle.cx_drive.specs.declared.dues.Due.TheVariants as due
 use Rattle.cx_drive.specs.declared.peers.Peers.{Peers}
 use Rattle.cx_links.specs.Acts.{Shut}
 use Rattle.cx_site.specs.Acts.{Act, Linked}
@@ -15,18 +16,23 @@ map_push : {X Y : Type 0} → (f : X → Y) (xs : List X) (x : X) → map f (xs 
 map_push f [] x = refl
 map_push f (y ∷ xs) x = ap (λ k. f y ∷ k) (map_push f xs x)
 
-gone_push : (gone : List Due) (ss : List Sending) (s : Sending)
-    → gone_behind gone (ss ++ s ∷ []) ≡ with_send (are_gone (gone_behind gone ss) s.piece.link) (gone_behind gone ss) s
-gone_push gone [] s = refl
-gone_push gone (x ∷ ss) s = gone_push (with_send (are_gone gone x.piece.link) gone x) ss s
+-- a list that is as long without its first item has none
+pub none_first : {X : Type 0} → (xs : List X) → xs ≡ drop 1 xs → xs ≡ []
+none_first [] p = refl
+none_first (x ∷ xs) p = let q : length (x ∷ xs) ≡ length (drop 1 (x ∷ xs)) = ap length p in absurd (omega arith)
 
-sends_push : (gone : List Due) (ss : List Sending) (s : Sending)
-    → send_acts gone (ss ++ s ∷ []) ≡ send_acts gone ss ++ send_act (are_gone (gone_behind gone ss) s.piece.link) s
-sends_push gone [] s = append-nil (send_act (are_gone gone s.piece.link) s)
+gone_push : (gone : List ℕ) (ss : List Sending) (s : Sending)
+    → gone_behind gone (ss ++ s ∷ []) ≡ with_send (is_gone (gone_behind gone ss) s.piece.link) (gone_behind gone ss) s
+gone_push gone [] s = refl
+gone_push gone (x ∷ ss) s = gone_push (with_send (is_gone gone x.piece.link) gone x) ss s
+
+sends_push : (gone : List ℕ) (ss : List Sending) (s : Sending)
+    → send_acts gone (ss ++ s ∷ []) ≡ send_acts gone ss ++ send_act (is_gone (gone_behind gone ss) s.piece.link) s
+sends_push gone [] s = append-nil (send_act (is_gone gone s.piece.link) s)
 sends_push gone (x ∷ ss) s =
-    let next : List Due = with_send (are_gone gone x.piece.link) gone x in
-    ap (λ k. send_act (are_gone gone x.piece.link) x ++ k) (sends_push next ss s)
-    ∙ sym (append_assoc (send_act (are_gone gone x.piece.link) x) (send_acts next ss) (send_act (are_gone (gone_behind next ss) s.piece.link) s))
+    let next : List ℕ = with_send (is_gone gone x.piece.link) gone x in
+    ap (λ k. send_act (is_gone gone x.piece.link) x ++ k) (sends_push next ss s)
+    ∙ sym (append_assoc (send_act (is_gone gone x.piece.link) x) (send_acts next ss) (send_act (is_gone (gone_behind next ss) s.piece.link) s))
 
 opens_push : (peers : Peers) (os : List Opening) (o : Opening) → open_acts peers (os ++ o ∷ []) ≡ open_acts peers os ++ open_act (address_of peers o.peer) o
 opens_push peers [] o = append-nil (open_act (address_of peers o.peer) o)
@@ -38,25 +44,33 @@ open_dues_push : (peers : Peers) (os : List Opening) (o : Opening) → open_dues
 open_dues_push peers [] o = refl
 open_dues_push peers (x ∷ os) o = ap (λ k. open_due (address_of peers x.peer) x ∷ k) (open_dues_push peers os o)
 
+-- one link more is gone
+pub gone_on : (gone : List ℕ) (i link : ℕ) (dues old new : List Due) → i < length gone → link ≡ get_or gone i link → old ≡ dues ++ gone_dues (take i gone)
+    → new ≡ old ++ due.Gone link ∷ [] → new ≡ dues ++ gone_dues (take (i + 1) gone)
+gone_on gone i link dues old new lt is so more =
+    more ∙ ap (λ ds. ds ++ due.Gone link ∷ []) so ∙ append_assoc dues (gone_dues (take i gone)) (due.Gone link ∷ [])
+    ∙ ap (λ ds. dues ++ ds) (sym (map_push (λ l. due.Gone l) (take i gone) link)
+    ∙ ap gone_dues (ap (λ q. take i gone ++ q ∷ []) is ∙ sym (take_more gone i link lt)))
+
 module _ {D : Type 0} (follows : D → D → List Act → Type 0)
     (goes_on : (a b c : D) (xs ys : List Act) → follows a b xs → follows b c ys → follows a c (xs ++ ys)) where
-  pub sends_on : (pieces : List Piece) (i : ℕ) (p : Piece) (ok : Bool) (from mid to : D) (gone gone' : List Due) → i < length pieces → p ≡ get_or pieces i p
-      → Sends follows (take i pieces) from mid gone → follows mid to (send_act (are_gone gone p.link) (sending p ok))
-      → gone' ≡ with_send (are_gone gone p.link) gone (sending p ok) → Sends follows (take (i + 1) pieces) from to gone'
+  pub sends_on : (pieces : List Piece) (i : ℕ) (p : Piece) (ok : Bool) (from mid to : D) (gone gone' : List ℕ) → i < length pieces → p ≡ get_or pieces i p
+      → Sends follows (take i pieces) from mid gone → follows mid to (send_act (is_gone gone p.link) (sending p ok))
+      → gone' ≡ with_send (is_gone gone p.link) gone (sending p ok) → Sends follows (take (i + 1) pieces) from to gone'
   sends_on pieces i p ok from mid to gone gone' lt is so acts more = record {
     sends = so.sends ++ sending p ok ∷ [];
     sent = map_push (λ s. s.piece) so.sends (sending p ok) ∙ ap (λ ps. ps ++ p ∷ []) so.sent ∙ ap (λ q. take i pieces ++ q ∷ []) is ∙ sym (take_more pieces i p lt);
     acts = subst (follows from to) (sym (sends_push [] so.sends (sending p ok)))
-        (goes_on from mid to _ _ so.acts (subst (λ g. follows mid to (send_act (are_gone g p.link) (sending p ok))) so.behind acts));
-    behind = more ∙ ap (λ g. with_send (are_gone g p.link) g (sending p ok)) so.behind ∙ sym (gone_push [] so.sends (sending p ok));
+        (goes_on from mid to _ _ so.acts (subst (λ g. follows mid to (send_act (is_gone g p.link) (sending p ok))) so.behind acts));
+    behind = more ∙ ap (λ g. with_send (is_gone g p.link) g (sending p ok)) so.behind ∙ sym (gone_push [] so.sends (sending p ok));
   }
 
-  pub opens_on : (peers : Peers) (asked : List Peer) (i : ℕ) (p : Peer) (number : Option ℕ) (from mid to : D) (old dues dues' : List Due) → i < length asked → p ≡ get_or asked i p
-      → Opens follows peers (take i asked) from mid old dues → follows mid to (open_act (address_of peers p) (opening p number))
-      → dues' ≡ dues ++ open_due (address_of peers p) (opening p number) ∷ [] → Opens follows peers (take (i + 1) asked) from to old dues'
-  opens_on peers asked i p number from mid to old dues dues' lt is so acts more = record {
+  pub opens_on : (peers : Peers) (done : List Peer) (p : Peer) (number : Option ℕ) (from mid to : D) (old dues dues' : List Due)
+      → Opens follows peers done from mid old dues → follows mid to (open_act (address_of peers p) (opening p number))
+      → dues' ≡ dues ++ open_due (address_of peers p) (opening p number) ∷ [] → Opens follows peers (done ++ p ∷ []) from to old dues'
+  opens_on peers done p number from mid to old dues dues' so acts more = record {
     opens = so.opens ++ opening p number ∷ [];
-    tried = map_push (λ o. o.peer) so.opens (opening p number) ∙ ap (λ ps. ps ++ p ∷ []) so.tried ∙ ap (λ q. take i asked ++ q ∷ []) is ∙ sym (take_more asked i p lt);
+    tried = map_push (λ o. o.peer) so.opens (opening p number) ∙ ap (λ ps. ps ++ p ∷ []) so.tried;
     acts = subst (follows from to) (sym (opens_push peers so.opens (opening p number))) (goes_on from mid to _ _ so.acts acts);
     behind = more ∙ ap (λ ds. ds ++ open_due (address_of peers p) (opening p number) ∷ []) so.behind
         ∙ append_assoc old (open_dues peers so.opens) (open_due (address_of peers p) (opening p number) ∷ [])
@@ -70,22 +84,25 @@ module _ {D : Type 0} (follows : D → D → List Act → Type 0)
       (subst (follows from to) (sym (map_push (λ link. Linked (Shut link)) (take i links) l)) (goes_on from mid to _ _ so act))
 
   -- what was handed out: sends, opens, shuts, and the link that is lost
-  pub handed : (peers : Peers) (out : Effects) (a b c d e : D) (gone dues : List Due) → Sends follows out.sends a b gone → Opens follows peers out.opens b c gone dues
-      → follows c d (shut_acts out.shuts) → follows d e (lost_acts out.lost) → HandedOut follows peers out a e dues
-  handed peers out a b c d e gone dues sends opens shuts lost = record {
+  pub handed : (peers : Peers) (out : Effects) (a b c d e : D) (gone : List ℕ) (old mid new : List Due) → Sends follows out.sends a b gone → mid ≡ old ++ gone_dues gone
+      → Opens follows peers out.opens b c mid new → follows c d (shut_acts out.shuts) → follows d e (lost_acts out.lost) → HandedOut follows peers out a e old new
+  handed peers out a b c d e gone old mid new sends noted opens shuts lost = record {
     sends = sends.sends;
     opens = opens.opens;
     carried = record { sent = sends.sent; asked = opens.tried };
     acts = goes_on a b e _ _ sends.acts (goes_on b c e _ _ opens.acts (goes_on c d e _ _ shuts lost));
-    behind = opens.behind ∙ ap (λ ds. ds ++ open_dues peers opens.opens) sends.behind;
+    behind = opens.behind ∙ ap (λ ds. ds ++ open_dues peers opens.opens) noted
+        ∙ append_assoc old (gone_dues gone) (open_dues peers opens.opens)
+        ∙ ap (λ g. old ++ (gone_dues g ++ open_dues peers opens.opens)) sends.behind;
   }
 
   -- saved, and then handed out
-  pub carried : (peers : Peers) (out : Effects) (a b c : D) (dues : List Due) → follows a b (saved_acts out.save) → HandedOut follows peers out b c dues → Carried follows peers out a c dues
-  carried peers out a b c dues saved handed = record {
+  pub carried : (peers : Peers) (out : Effects) (a b c : D) (old mid new : List Due) → mid ≡ old → follows a b (saved_acts out.save)
+      → HandedOut follows peers out b c mid new → Carried follows peers out a c old new
+  carried peers out a b c old mid new same saved handed = record {
     sends = handed.sends;
     opens = handed.opens;
     carried = handed.carried;
     acts = goes_on a b c _ _ saved handed.acts;
-    behind = handed.behind;
+    behind = handed.behind ∙ ap (λ ds. ds ++ carried_dues peers handed.sends handed.opens) same;
   }

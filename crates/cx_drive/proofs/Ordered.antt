@@ -3,8 +3,7 @@ use Rattle.std.proofs.Common.{ℕ, Bool, true, false, List, [], ◌∷◌, ◌++
 use Rattle.cx_base.specs.declared.addresses.Addr.{Addr}
 use Rattle.cx_drive.specs.Courses.{Came, Taken, Took, acts_from}
 use Rattle.cx_drive.specs.Order.{SavesFirst}
-use Rattle.cx_drive.specs.Steps.{Opening, Sending, address_of, are_gone, handed_acts, lost_acts, open_act, open_acts, saved_acts, send_act, send_acts, shut_acts, went_effects, went_node, with_send}
-use Rattle.cx_drive.specs.declared.dues.Due.{Due}
+use Rattle.cx_drive.specs.Steps.{Opening, Sending, address_of, handed_acts, is_gone, lost_acts, open_act, open_acts, saved_acts, send_act, send_acts, shut_acts, went_effects, went_node, with_send}
 use Rattle.cx_drive.specs.declared.peers.Peers.{Peers}
 use Rattle.cx_rotate.specs.declared.states.KeptState.{KeptState}
 use Rattle.cx_rules.specs.Inputs.{Input}
@@ -19,11 +18,11 @@ one_send : (skipped : Bool) (s : Sending) (rest : List Act) → ((sent : Bool) �
 one_send true s rest h sent = h sent
 one_send false s rest h sent = h true
 
-sends : (gone : List Due) (ss : List Sending) (rest : List Act) → ((sent : Bool) → SavesFirst sent rest) → (sent : Bool) → SavesFirst sent (send_acts gone ss ++ rest)
+sends : (gone : List ℕ) (ss : List Sending) (rest : List Act) → ((sent : Bool) → SavesFirst sent rest) → (sent : Bool) → SavesFirst sent (send_acts gone ss ++ rest)
 sends gone [] rest h sent = h sent
 sends gone (s ∷ ss) rest h sent =
-    let skipped : Bool = are_gone gone s.piece.link in
-    let next : List Due = with_send skipped gone s in
+    let skipped : Bool = is_gone gone s.piece.link in
+    let next : List ℕ = with_send skipped gone s in
     joined sent (send_act skipped s) (send_acts next ss) rest (one_send skipped s (send_acts next ss ++ rest) (sends next ss rest h) sent)
 
 one_open : (at : Option Addr) (o : Opening) (rest : List Act) → ((sent : Bool) → SavesFirst sent rest) → (sent : Bool) → SavesFirst sent (open_act at o ++ rest)

@@ -1,3 +1,4 @@
+pub mod Agendas
 pub mod Courses
 pub mod Order
 pub mod Steps

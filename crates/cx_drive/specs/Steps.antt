@@ -7,7 +7,7 @@ use Rattle.cx_base.specs.declared.addresses.Addr.{Addr}
 use Rattle.cx_drive.specs.declared.dues.Due.{Due}
 use Rattle.cx_drive.specs.declared.dues.Due.TheVariants as due
 use Rattle.cx_drive.specs.declared.peers.Peers.{Peers}
-use Rattle.cx_ends.specs.Events.{losing}
+use Rattle.cx_turns.specs.Events.{losing}
 use Rattle.cx_links.specs.Acts.{Opened, Sent, Shut}
 use Rattle.cx_rotate.specs.declared.states.KeptState.{KeptState}
 use Rattle.cx_rules.specs.Inputs as input
@@ -34,13 +34,9 @@ input_due (due.Opened number peer) = input.Opened number (Some peer)
 input_due (due.NoLink peer) = input.NoLink peer
 input_due (due.Gone number) = input.Gone number
 
-abbrev pub is_gone : ℕ → Due → Bool
-is_gone number (due.Opened n peer) = false
-is_gone number (due.NoLink peer) = false
-is_gone number (due.Gone n) = n == number
-
-abbrev pub are_gone : List Due → ℕ → Bool
-are_gone dues number = list_any (is_gone number) dues
+-- whether the link is among those that are gone
+abbrev pub is_gone : List ℕ → ℕ → Bool
+is_gone gone link = list_any (λ other. other == link) gone
 
 -- ---- sends: on a link on which one failed nothing more is sent in this step, and the link is gone behind it
 
@@ -56,22 +52,22 @@ abbrev pub send_act : Bool → Sending → List Act
 send_act true s = []
 send_act false s = Linked (Sent s.piece.link s.piece.bytes s.ok) ∷ []
 
-abbrev pub gone_of : Bool → Sending → List Due
+abbrev pub gone_of : Bool → Sending → List ℕ
 gone_of true s = []
-gone_of false s = due.Gone s.piece.link ∷ []
+gone_of false s = s.piece.link ∷ []
 
-abbrev pub with_send : Bool → List Due → Sending → List Due
+abbrev pub with_send : Bool → List ℕ → Sending → List ℕ
 with_send true gone s = gone
 with_send false gone s = gone ++ gone_of s.ok s
 
 -- the links that are gone behind these
-abbrev pub gone_behind : List Due → List Sending → List Due
+abbrev pub gone_behind : List ℕ → List Sending → List ℕ
 gone_behind gone [] = gone
-gone_behind gone (s ∷ ss) = gone_behind (with_send (are_gone gone s.piece.link) gone s) ss
+gone_behind gone (s ∷ ss) = gone_behind (with_send (is_gone gone s.piece.link) gone s) ss
 
-abbrev pub send_acts : List Due → List Sending → List Act
+abbrev pub send_acts : List ℕ → List Sending → List Act
 send_acts gone [] = []
-send_acts gone (s ∷ ss) = send_act (are_gone gone s.piece.link) s ++ send_acts (with_send (are_gone gone s.piece.link) gone s) ss
+send_acts gone (s ∷ ss) = send_act (is_gone gone s.piece.link) s ++ send_acts (with_send (is_gone gone s.piece.link) gone s) ss
 
 -- ---- opens: a peer without an address is asked for nothing
 
@@ -125,9 +121,13 @@ handed_acts peers out sends opens = send_acts [] sends ++ (open_acts peers opens
 abbrev pub carried_acts : Peers → Effects → List Sending → List Opening → List Act
 carried_acts peers out sends opens = saved_acts out.save ++ handed_acts peers out sends opens
 
+-- links that are gone come to the node as such
+abbrev pub gone_dues : List ℕ → List Due
+gone_dues gone = map (λ link. due.Gone link) gone
+
 -- what comes of it: links that are gone since a send failed, then those that are opened or couldn't be
 abbrev pub carried_dues : Peers → List Sending → List Opening → List Due
-carried_dues peers sends opens = gone_behind [] sends ++ open_dues peers opens
+carried_dues peers sends opens = gone_dues (gone_behind [] sends) ++ open_dues peers opens
 
 -- these were sent and opened
 pub record IsCarried (out : Effects) (sends : List Sending) (opens : List Opening) : Type 0 where

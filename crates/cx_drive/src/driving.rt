@@ -1,15 +1,18 @@
 //! The loop that drives a node.
 
-ghost use Rattle.std.specs.Prelude.{◌≡◌, ◌≤◌, ◌<◌, length, IfOk, IfErr, OnOk};
-ghost use Rattle.cx_drive.specs.Courses.{Ran, RanInto, RanTo};
-ghost use Rattle.cx_links.specs.Events.{IsWithin};
+ghost use Rattle.std.specs.Prelude.{◌≡◌, ◌<◌, [], None, Some, length, IfOk, IfErr, OnErr};
+ghost use Rattle.cx_drive.specs.Agendas.{after_came, agenda_of, at_quiet, opening_agenda, passed, with_due};
+ghost use Rattle.cx_drive.specs.Courses.{RanOn, RanTo, StepsOn};
+ghost use Rattle.cx_drive.specs.Stops.{Stopped, scene};
+ghost use Rattle.cx_links.specs.Events.{IsWithin, came};
+ghost use Rattle.cx_rules.specs.Inputs as input;
 ghost use Rattle.cx_rules.specs.Inputs.{input_of};
 
 use crate::ends::{Driven, Ended};
-use crate::flow::{Flow, Order};
+use crate::flow::{Flow, Order, turned_again};
 use crate::machine::Machine;
 use crate::peers::Peers;
-use crate::steps::{Stepped, perform};
+use crate::steps::perform;
 use crate::stops::Stop;
 use cx_journal::Journal;
 use cx_links::LinkEvent;
@@ -17,9 +20,10 @@ use cx_site::Site;
 use cx_steps::Event;
 use std::alloc::Global;
 
-/// Drives a node for so many events of its links, or until its script says that it ends. Each step is carried out whole before the
-/// next one begins, saved before it is sent. Bytes come through the buffer. Behind an event come what is due of its step and, where it brought bytes, turns of its
-/// link until nothing is left to handle.
+/// Drives a node for so many events of its links, or until its orders say that it ends. Each step is carried out whole before the next one
+/// begins, saved before it is sent. Bytes come through the buffer. Behind a step comes what is due of it, in the order in which it became due,
+/// then turns of the link on which bytes came until nothing is left to handle, and only then what comes next on the links. Where nothing comes
+/// on them, the node is told the next of its orders, if it waits for nothing, or that some time passed.
 pub fn drive<S: Site, M: Machine>(
     alloc: Global,
     site: &mut S,
@@ -31,43 +35,41 @@ pub fn drive<S: Site, M: Machine>(
     buffer: &mut [u8],
 ) -> Driven
     requires { 0 < length buffer.old }
-    ensures { RanTo S.follows M.rule M.lost peers.now (record { site = site.old; node = node.old; entries = journal.old })
-        (record { site = site.new; node = node.new; entries = journal.new }) result.ended }
+    ensures { RanTo S.follows M.rule M.lost M.rests peers.now (scene site.old node.old journal.old) (scene site.new node.new journal.new)
+        (opening_agenda orders.now events) result }
 {
-    let mut flow = Flow::new(alloc, orders);
-    let ended = rounds(alloc, site, node, peers, journal, &mut flow, events, buffer);
+    let mut flow = Flow::new(alloc, orders, events);
+    let ended = run(alloc, site, node, peers, journal, &mut flow, buffer);
     Driven {
         ended,
         short: flow.short,
     }
 }
 
-fn rounds<S: Site, M: Machine>(
+fn run<S: Site, M: Machine>(
     alloc: Global,
     site: &mut S,
     node: &mut M,
     peers: &Peers,
     journal: &mut Journal,
     flow: &mut Flow<'_>,
-    events: u64,
     buffer: &mut [u8],
 ) -> Ended
     requires { 0 < length buffer.old }
-    ensures { RanTo S.follows M.rule M.lost peers.now (record { site = site.old; node = node.old; entries = journal.old })
-        (record { site = site.new; node = node.new; entries = journal.new }) result }
+    ensures { RanOn S.follows M.rule M.lost M.rests peers.now (scene site.old node.old journal.old) (scene site.new node.new journal.new)
+        (agenda_of flow.old) (agenda_of flow.new) (Some result) }
 {
-    for _ in 0..events {
-        match round(alloc, site, node, peers, journal, flow, buffer) {
-            Ok(true) => {}
-            Ok(false) => return Ended::Done,
-            Err(ended) => return ended,
+    for _ in 0..u64::MAX {
+        match go_on(alloc, site, node, peers, journal, flow, buffer) {
+            Some(ended) => return ended,
+            None => {}
         }
     }
-    Ended::Done
+    Ended::Stopped(Stop::Memory)
 }
 
-// One event of the links, and all that comes of it. Answers whether the run goes on.
-fn round<S: Site, M: Machine>(
+// What is next comes: what is due, else a turn, else what comes on the links. Answers how the run ended, if it did.
+fn go_on<S: Site, M: Machine>(
     alloc: Global,
     site: &mut S,
     node: &mut M,
@@ -75,23 +77,123 @@ fn round<S: Site, M: Machine>(
     journal: &mut Journal,
     flow: &mut Flow<'_>,
     buffer: &mut [u8],
-) -> Result<bool, Ended>
+) -> Option<Ended>
     requires { 0 < length buffer.old }
-    ensures ok { IfOk result (λ _. Ran S.follows M.rule M.lost peers.now (record { site = site.old; node = node.old; entries = journal.old })
-        (record { site = site.new; node = node.new; entries = journal.new })) }
-    ensures err { IfErr result (RanTo S.follows M.rule M.lost peers.now (record { site = site.old; node = node.old; entries = journal.old })
-        (record { site = site.new; node = node.new; entries = journal.new })) }
+    ensures ran { RanOn S.follows M.rule M.lost M.rests peers.now (scene site.old node.old journal.old) (scene site.new node.new journal.new)
+        (agenda_of flow.old) (agenda_of flow.new) result }
     ensures room { length buffer.new ≡ length buffer.old }
 {
-    match site.next(buffer) {
-        Ok(event) => match happens(alloc, site, node, peers, journal, flow, event, buffer) {
-            Ok(on) => Ok(on),
-            Err(stop) => Err(Ended::Stopped(stop)),
+    match flow.dues.pop_front() {
+        Some(due) => comes(alloc, site, node, peers, journal, flow, due.event()),
+        None => match flow.turning {
+            Some(link) => turn(alloc, site, node, peers, journal, flow, link),
+            None => wait(alloc, site, node, peers, journal, flow, buffer),
         },
-        Err(_) => Err(Ended::Links),
     }
 }
 
+// An event comes that is due.
+fn comes<S: Site, M: Machine>(
+    alloc: Global,
+    site: &mut S,
+    node: &mut M,
+    peers: &Peers,
+    journal: &mut Journal,
+    flow: &mut Flow<'_>,
+    event: Event<'_>,
+) -> Option<Ended>
+    ensures { RanOn S.follows M.rule M.lost M.rests peers.now (scene site.old node.old journal.old) (scene site.new node.new journal.new)
+        (with_due (input_of event.entry) (agenda_of flow.old)) (agenda_of flow.new) result }
+{
+    match step_on(alloc, site, node, peers, journal, flow, event) {
+        Ok(_) => None,
+        Err(stop) => Some(Ended::Stopped(stop)),
+    }
+}
+
+// A link is turned, and again where something of it was handled.
+fn turn<S: Site, M: Machine>(
+    alloc: Global,
+    site: &mut S,
+    node: &mut M,
+    peers: &Peers,
+    journal: &mut Journal,
+    flow: &mut Flow<'_>,
+    link: u32,
+) -> Option<Ended>
+    requires due { (agenda_of flow.old).due ≡ [] }
+    requires turning { flow.old.turning ≡ Some link }
+    ensures { RanOn S.follows M.rule M.lost M.rests peers.now (scene site.old node.old journal.old) (scene site.new node.new journal.new)
+        (agenda_of flow.old) (agenda_of flow.new) result }
+{
+    match step_on(alloc, site, node, peers, journal, flow, Event::Turn(link)) {
+        Ok(turned) => {
+            flow.turning = turned_again(link, turned);
+            None
+        }
+        Err(stop) => Some(Ended::Stopped(stop)),
+    }
+}
+
+// One step, and what comes of it is noted. Answers whether a banner or a frame was handled.
+fn step_on<S: Site, M: Machine>(
+    alloc: Global,
+    site: &mut S,
+    node: &mut M,
+    peers: &Peers,
+    journal: &mut Journal,
+    flow: &mut Flow<'_>,
+    event: Event<'_>,
+) -> Result<bool, Stop>
+    ensures ok { IfOk result (StepsOn S.follows M.rule M.lost M.rests peers.now (input_of event.entry)
+        (scene site.old node.old journal.old) (scene site.new node.new journal.new) (agenda_of flow.old) (agenda_of flow.new)) }
+    ensures err { IfErr result (Stopped S.follows M.rule M.lost (input_of event.entry)
+        (scene site.old node.old journal.old) (scene site.new node.new journal.new)) }
+    ensures short { OnErr result (flow.new.short ≡ flow.old.short) }
+{
+    flow.count_gone(&event);
+    match perform(alloc, site, node, peers, journal, event, &mut flow.dues) {
+        Ok(stepped) => {
+            flow.short = flow.short || stepped.short;
+            Ok(stepped.turned)
+        }
+        Err(stop) => Err(stop),
+    }
+}
+
+// Nothing is due: what comes next on the links is taken, unless the run is over.
+fn wait<S: Site, M: Machine>(
+    alloc: Global,
+    site: &mut S,
+    node: &mut M,
+    peers: &Peers,
+    journal: &mut Journal,
+    flow: &mut Flow<'_>,
+    buffer: &mut [u8],
+) -> Option<Ended>
+    requires holds { 0 < length buffer.old }
+    requires due { (agenda_of flow.old).due ≡ [] }
+    requires turning { flow.old.turning ≡ None }
+    ensures ran { RanOn S.follows M.rule M.lost M.rests peers.now (scene site.old node.old journal.old) (scene site.new node.new journal.new)
+        (agenda_of flow.old) (agenda_of flow.new) result }
+    ensures room { length buffer.new ≡ length buffer.old }
+{
+    if flow.over {
+        return Some(Ended::Done);
+    }
+    if flow.left == 0 {
+        return Some(Ended::Done);
+    }
+    match site.next(buffer) {
+        Ok(event) => {
+            flow.left -= 1;
+            happens(alloc, site, node, peers, journal, flow, event, buffer)
+        }
+        Err(_) => Some(Ended::Links),
+    }
+}
+
+// An event of the links comes to the node.
 fn happens<S: Site, M: Machine>(
     alloc: Global,
     site: &mut S,
@@ -101,17 +203,15 @@ fn happens<S: Site, M: Machine>(
     flow: &mut Flow<'_>,
     event: LinkEvent,
     buffer: &[u8],
-) -> Result<bool, Stop>
+) -> Option<Ended>
     requires { IsWithin event (length buffer.now) }
-    ensures ok { IfOk result (λ _. Ran S.follows M.rule M.lost peers.now (record { site = site.old; node = node.old; entries = journal.old })
-        (record { site = site.new; node = node.new; entries = journal.new })) }
-    ensures err { IfErr result (RanInto S.follows M.rule M.lost peers.now (record { site = site.old; node = node.old; entries = journal.old })
-        (record { site = site.new; node = node.new; entries = journal.new })) }
+    ensures { RanOn S.follows M.rule M.lost M.rests peers.now (scene site.old node.old journal.old) (scene site.new node.new journal.new)
+        (after_came (M.rests node.old) event (came event buffer.now) (agenda_of flow.old)) (agenda_of flow.new) result }
 {
     match event {
         LinkEvent::Opened(number) => {
             let event = Event::Opened(number, None);
-            goes_whole(alloc, site, node, peers, journal, flow, event)
+            comes(alloc, site, node, peers, journal, flow, event)
         }
         LinkEvent::Bytes(number, count) => {
             let bytes = &buffer[..count];
@@ -119,13 +219,13 @@ fn happens<S: Site, M: Machine>(
         }
         LinkEvent::Gone(number) => {
             let event = Event::Gone(number);
-            goes_whole(alloc, site, node, peers, journal, flow, event)
+            comes(alloc, site, node, peers, journal, flow, event)
         }
         LinkEvent::Quiet => quiet(alloc, site, node, peers, journal, flow),
     }
 }
 
-// Bytes come on a link, which is turned then.
+// Bytes come on a link, which is turned behind that.
 fn bytes_come<S: Site, M: Machine>(
     alloc: Global,
     site: &mut S,
@@ -135,41 +235,20 @@ fn bytes_come<S: Site, M: Machine>(
     flow: &mut Flow<'_>,
     number: u32,
     bytes: &[u8],
-) -> Result<bool, Stop>
-    ensures ok { IfOk result (λ _. Ran S.follows M.rule M.lost peers.now (record { site = site.old; node = node.old; entries = journal.old })
-        (record { site = site.new; node = node.new; entries = journal.new })) }
-    ensures err { IfErr result (RanInto S.follows M.rule M.lost peers.now (record { site = site.old; node = node.old; entries = journal.old })
-        (record { site = site.new; node = node.new; entries = journal.new })) }
+) -> Option<Ended>
+    ensures { RanOn S.follows M.rule M.lost M.rests peers.now (scene site.old node.old journal.old) (scene site.new node.new journal.new)
+        (with_due (input.Bytes number bytes.now) (record (agenda_of flow.old) { turning = Some number })) (agenda_of flow.new) result }
 {
-    let event = Event::Bytes(number, bytes);
-    match comes(alloc, site, node, peers, journal, flow, event) {
-        Ok(_) => match turns(alloc, site, node, peers, journal, flow, number) {
-            Ok(on) => Ok(on),
-            Err(stop) => Err(stop),
-        },
-        Err(stop) => Err(stop),
-    }
-}
-
-// An event comes behind which the run goes on.
-fn goes_whole<S: Site, M: Machine>(
-    alloc: Global,
-    site: &mut S,
-    node: &mut M,
-    peers: &Peers,
-    journal: &mut Journal,
-    flow: &mut Flow<'_>,
-    event: Event<'_>,
-) -> Result<bool, Stop>
-    ensures ok { IfOk result (λ _. Ran S.follows M.rule M.lost peers.now (record { site = site.old; node = node.old; entries = journal.old })
-        (record { site = site.new; node = node.new; entries = journal.new })) }
-    ensures err { IfErr result (RanInto S.follows M.rule M.lost peers.now (record { site = site.old; node = node.old; entries = journal.old })
-        (record { site = site.new; node = node.new; entries = journal.new })) }
-{
-    match comes(alloc, site, node, peers, journal, flow, event) {
-        Ok(_) => Ok(true),
-        Err(stop) => Err(stop),
-    }
+    flow.turning = Some(number);
+    comes(
+        alloc,
+        site,
+        node,
+        peers,
+        journal,
+        flow,
+        Event::Bytes(number, bytes),
+    )
 }
 
 // Nothing came.
@@ -180,128 +259,14 @@ fn quiet<S: Site, M: Machine>(
     peers: &Peers,
     journal: &mut Journal,
     flow: &mut Flow<'_>,
-) -> Result<bool, Stop>
-    ensures ok { IfOk result (λ _. Ran S.follows M.rule M.lost peers.now (record { site = site.old; node = node.old; entries = journal.old })
-        (record { site = site.new; node = node.new; entries = journal.new })) }
-    ensures err { IfErr result (RanInto S.follows M.rule M.lost peers.now (record { site = site.old; node = node.old; entries = journal.old })
-        (record { site = site.new; node = node.new; entries = journal.new })) }
+) -> Option<Ended>
+    ensures { RanOn S.follows M.rule M.lost M.rests peers.now (scene site.old node.old journal.old) (scene site.new node.new journal.new)
+        (at_quiet (passed (agenda_of flow.old).gone (agenda_of flow.old).orders) (M.rests node.old) (agenda_of flow.old)) (agenda_of flow.new) result }
 {
     let idle = node.idle();
     match flow.quiet(alloc, idle) {
-        Ok(Some(event)) => goes_whole(alloc, site, node, peers, journal, flow, event),
-        Ok(None) => Ok(false),
-        Err(_) => Err(Stop::Memory),
-    }
-}
-
-// A link is turned until nothing of it is left to handle.
-fn turns<S: Site, M: Machine>(
-    alloc: Global,
-    site: &mut S,
-    node: &mut M,
-    peers: &Peers,
-    journal: &mut Journal,
-    flow: &mut Flow<'_>,
-    number: u32,
-) -> Result<bool, Stop>
-    ensures ok { IfOk result (λ _. Ran S.follows M.rule M.lost peers.now (record { site = site.old; node = node.old; entries = journal.old })
-        (record { site = site.new; node = node.new; entries = journal.new })) }
-    ensures err { IfErr result (RanInto S.follows M.rule M.lost peers.now (record { site = site.old; node = node.old; entries = journal.old })
-        (record { site = site.new; node = node.new; entries = journal.new })) }
-{
-    for _ in 0..u64::MAX {
-        match comes(alloc, site, node, peers, journal, flow, Event::Turn(number)) {
-            Ok(true) => {}
-            Ok(false) => return Ok(true),
-            Err(stop) => return Err(stop),
-        }
-    }
-    Err(Stop::Memory)
-}
-
-// An event comes, and then what is due of its step. Answers whether a banner or a frame was handled at the event.
-fn comes<S: Site, M: Machine>(
-    alloc: Global,
-    site: &mut S,
-    node: &mut M,
-    peers: &Peers,
-    journal: &mut Journal,
-    flow: &mut Flow<'_>,
-    event: Event<'_>,
-) -> Result<bool, Stop>
-    ensures ok { IfOk result (λ _. Ran S.follows M.rule M.lost peers.now (record { site = site.old; node = node.old; entries = journal.old })
-        (record { site = site.new; node = node.new; entries = journal.new })) }
-    ensures err { IfErr result (RanInto S.follows M.rule M.lost peers.now (record { site = site.old; node = node.old; entries = journal.old })
-        (record { site = site.new; node = node.new; entries = journal.new })) }
-{
-    match step_on(alloc, site, node, peers, journal, flow, event) {
-        Ok(turned) => match follow(alloc, site, node, peers, journal, flow) {
-            Ok(()) => Ok(turned),
-            Err(stop) => Err(stop),
-        },
-        Err(stop) => Err(stop),
-    }
-}
-
-// All that is due comes.
-fn follow<S: Site, M: Machine>(
-    alloc: Global,
-    site: &mut S,
-    node: &mut M,
-    peers: &Peers,
-    journal: &mut Journal,
-    flow: &mut Flow<'_>,
-) -> Result<(), Stop>
-    ensures ok { OnOk result (Ran S.follows M.rule M.lost peers.now (record { site = site.old; node = node.old; entries = journal.old })
-        (record { site = site.new; node = node.new; entries = journal.new })) }
-    ensures err { IfErr result (RanInto S.follows M.rule M.lost peers.now (record { site = site.old; node = node.old; entries = journal.old })
-        (record { site = site.new; node = node.new; entries = journal.new })) }
-{
-    for _ in 0..u64::MAX {
-        let event = match flow.next(alloc) {
-            Ok(Some(event)) => event,
-            Ok(None) => return Ok(()),
-            Err(_) => return Err(Stop::Memory),
-        };
-        match step_on(alloc, site, node, peers, journal, flow, event) {
-            Ok(_) => {}
-            Err(stop) => return Err(stop),
-        }
-    }
-    Err(Stop::Memory)
-}
-
-// One step, and what is due then is noted. Answers whether a banner or a frame was handled.
-fn step_on<S: Site, M: Machine>(
-    alloc: Global,
-    site: &mut S,
-    node: &mut M,
-    peers: &Peers,
-    journal: &mut Journal,
-    flow: &mut Flow<'_>,
-    event: Event<'_>,
-) -> Result<bool, Stop>
-    ensures ok { IfOk result (λ _. Ran S.follows M.rule M.lost peers.now (record { site = site.old; node = node.old; entries = journal.old })
-        (record { site = site.new; node = node.new; entries = journal.new })) }
-    ensures err { IfErr result (RanInto S.follows M.rule M.lost peers.now (record { site = site.old; node = node.old; entries = journal.old })
-        (record { site = site.new; node = node.new; entries = journal.new })) }
-{
-    flow.note(&event);
-    match perform(alloc, site, node, peers, journal, event) {
-        Ok(stepped) => {
-            let Stepped {
-                short,
-                turned,
-                dues,
-            } = stepped;
-            if short {
-                flow.short = true;
-            }
-            match flow.dues.append(alloc, dues) {
-                Ok(()) => Ok(turned),
-                Err(_) => Err(Stop::Memory),
-            }
-        }
-        Err(stop) => Err(stop),
+        Ok(Some(event)) => comes(alloc, site, node, peers, journal, flow, event),
+        Ok(None) => None,
+        Err(_) => Some(Ended::Stopped(Stop::Memory)),
     }
 }

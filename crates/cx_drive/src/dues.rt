@@ -1,10 +1,10 @@
 //! What comes to a node behind its own step.
 
 ghost use Rattle.std.specs.Prelude.{◌≡◌};
-ghost use Rattle.cx_drive.specs.Steps.{are_gone, is_gone};
+ghost use Rattle.cx_drive.specs.Steps.{input_due};
+ghost use Rattle.cx_rules.specs.Inputs.{input_of};
 
-use cx_base::Items;
-use cx_steps::Peer;
+use cx_steps::{Event, Peer};
 
 /// What comes to a node since one of its steps opened a link or sent on one.
 #[derive(Debug, PartialEq, Eq, Drop)]
@@ -18,21 +18,14 @@ pub enum Due {
 }
 
 impl Due {
-    // Whether it is the end of this link.
-    fn is_gone(&self, number: u32) -> bool
-        ensures { result ≡ is_gone number self.now }
+    /// The event as which it comes.
+    pub(crate) fn event(self) -> Event<'static>
+        ensures { input_of result ≡ input_due self }
     {
         match self {
-            Due::Opened(_, _) => false,
-            Due::NoLink(_) => false,
-            Due::Gone(gone) => *gone == number,
+            Due::Opened(number, peer) => Event::Opened(number, Some(peer)),
+            Due::NoLink(peer) => Event::NoLink(peer),
+            Due::Gone(number) => Event::Gone(number),
         }
     }
-}
-
-/// Whether the end of this link is among them.
-pub(crate) fn are_gone(dues: &Items<Due>, number: u32) -> bool
-    ensures { result ≡ are_gone dues.now number }
-{
-    dues.all().iter().any(|due| due.is_gone(number))
 }

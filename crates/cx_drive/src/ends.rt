@@ -2,7 +2,7 @@
 
 use crate::stops::Stop;
 
-/// How a run ended: all events came or the script said so, a wait on links failed, or it stopped in a step.
+/// How a run ended: so many events came or the orders said so, a wait on links failed, or it stopped in a step or for want of memory.
 #[derive(Clone, Copy, Debug, PartialEq, Eq)]
 pub enum Ended {
     Done,

@@ -1,9 +1,15 @@
 //! What comes to a node next.
 
+ghost use Rattle.std.specs.Prelude.{◌≡◌, [], ◌∷◌, Some, IfOk, OnErr};
+ghost use Rattle.std.specs.Option.{option_map};
+ghost use Rattle.cx_drive.specs.Agendas.{agenda_of, at_quiet, gone_count, opening_agenda, passed, turning_behind, with_event};
+ghost use Rattle.cx_rules.specs.Inputs.{input_of};
+
 use crate::dues::Due;
-use cx_base::{Duplicate, Items};
+use cx_base::Duplicate;
 use cx_steps::{Command, Event};
 use std::alloc::{AllocError, Global};
+use std::collections::VecDeque;
 
 /// What the script of a node says.
 #[derive(PartialEq, Eq, Drop)]
@@ -16,77 +22,105 @@ pub enum Order {
     Stop,
 }
 
-/// How far a run is: the orders that are left, how many links were gone, whether memory was wanting in a step, and what is due.
+/// How far a run is: what is due, the link that is turned, the orders that are left, how many links were gone, how many events may still be
+/// taken, whether the orders ended the node, and whether memory was wanting in a step.
 #[derive(Drop)]
 pub(crate) struct Flow<'a> {
-    orders: &'a [Order],
-    gone: u64,
+    pub dues: VecDeque<Due>,
+    pub turning: Option<u32>,
+    pub orders: &'a [Order],
+    pub gone: u64,
+    pub left: u64,
+    pub over: bool,
     pub short: bool,
-    pub dues: Items<Due>,
-    place: usize,
 }
 
 impl<'a> Flow<'a> {
-    pub fn new(alloc: Global, orders: &'a [Order]) -> Flow<'a> {
+    pub fn new(alloc: Global, orders: &'a [Order], events: u64) -> Flow<'a>
+        ensures { agenda_of result ≡ opening_agenda orders.now events }
+    {
         Flow {
+            dues: VecDeque::new(alloc),
+            turning: None,
             orders,
             gone: 0,
+            left: events,
+            over: false,
             short: false,
-            dues: Items::new(alloc),
-            place: 0,
         }
     }
 
     /// Counts a link that is gone.
-    pub fn note(&mut self, event: &Event<'_>) {
+    pub fn count_gone(&mut self, event: &Event<'_>)
+        ensures { agenda_of self.new ≡ record (agenda_of self.old) { gone = gone_count (input_of event.now) (agenda_of self.old).gone } }
+    {
         match event {
             Event::Gone(_) => self.gone = self.gone.saturating_add(1),
             _ => {}
         }
     }
 
-    /// What is due next, in the order in which it became due.
-    pub fn next(&mut self, alloc: Global) -> Result<Option<Event<'static>>, AllocError> {
-        let Some(due) = self.dues.all().get(self.place) else {
-            self.dues.truncate(0);
-            self.place = 0;
-            return Ok(None);
+    /// What a node is told where nothing comes: nothing where the orders end it, a command where it waits for nothing and one is
+    /// next, else that some time passed.
+    pub fn quiet(&mut self, alloc: Global, idle: bool) -> Result<Option<Event<'static>>, AllocError>
+        ensures ok { IfOk result (λ event. at_quiet (passed (agenda_of self.old).gone (agenda_of self.old).orders) idle (agenda_of self.old)
+            ≡ with_event (option_map input_of event) (agenda_of self.new)) }
+        ensures err { OnErr result (self.new.short ≡ self.old.short) }
+    {
+        let orders = passed(self.orders, self.gone);
+        self.orders = orders;
+        let Some((first, rest)) = orders.split_first() else {
+            return Ok(Some(Event::Tick));
         };
-        let event = match due {
-            Due::Opened(number, peer) => Event::Opened(*number, Some(peer.copy(alloc)?)),
-            Due::NoLink(peer) => Event::NoLink(peer.copy(alloc)?),
-            Due::Gone(number) => Event::Gone(*number),
-        };
-        self.place = self.place.saturating_add(1);
-        Ok(Some(event))
+        match first {
+            Order::Stop => {
+                self.over = true;
+                Ok(None)
+            }
+            Order::Submit(command) => self.submit(alloc, idle, command, rest),
+            Order::Gone(_) => Ok(Some(Event::Tick)),
+        }
     }
 
-    /// What a node is told where nothing comes: nothing where the script ends it, a command where it waits for nothing and one is
-    /// next, else that some time passed.
-    pub fn quiet(
+    // The command that is the first of the orders, where the node is idle.
+    fn submit(
         &mut self,
         alloc: Global,
         idle: bool,
-    ) -> Result<Option<Event<'static>>, AllocError> {
-        self.pass();
-        match self.orders {
-            [Order::Stop, ..] => Ok(None),
-            [Order::Submit(command), rest @ ..] if idle => {
-                let command = command.copy(alloc)?;
-                self.orders = rest;
-                Ok(Some(Event::Submit(command)))
-            }
-            _ => Ok(Some(Event::Tick)),
+        command: &Command,
+        rest: &'a [Order],
+    ) -> Result<Option<Event<'static>>, AllocError>
+        requires { (agenda_of self.old).orders ≡ Order.Submit command.now ∷ rest.now }
+        ensures ok { IfOk result (λ event. at_quiet (agenda_of self.old).orders idle (agenda_of self.old)
+            ≡ with_event (option_map input_of event) (agenda_of self.new)) }
+        ensures err { OnErr result (self.new.short ≡ self.old.short) }
+    {
+        if !idle {
+            return Ok(Some(Event::Tick));
         }
+        let command = command.copy(alloc)?;
+        self.orders = rest;
+        Ok(Some(Event::Submit(command)))
     }
+}
 
-    // Passes over what waited for links that are gone.
-    fn pass(&mut self) {
-        for _ in 0..self.orders.len() {
-            match self.orders {
-                [Order::Gone(links), rest @ ..] if *links <= self.gone => self.orders = rest,
-                _ => return,
-            }
+// The orders without those that waited for links that are gone.
+fn passed(orders: &[Order], gone: u64) -> &[Order]
+    ensures { result.now ≡ passed gone orders.now }
+{
+    let mut left = orders;
+    while let Some((Order::Gone(links), rest)) = left.split_first() {
+        if gone < *links {
+            return left;
         }
+        left = rest;
     }
+    left
+}
+
+/// A link is turned again where a banner or a frame of it was handled at its turn.
+pub(crate) fn turned_again(link: u32, turned: bool) -> Option<u32>
+    ensures { result ≡ turning_behind [] turned (Some link) }
+{
+    if turned { Some(link) } else { None }
 }

@@ -1,7 +1,7 @@
 //! A node that can be driven.
 
 ghost use Rattle.std.specs.Prelude.{ℕ, ◌≡◌, ◌<◌, Bool, List, IfOk, IfSome, OnOk, OnErr};
-ghost use Rattle.cx_ends.specs.Events.{losing};
+ghost use Rattle.cx_turns.specs.Events.{losing};
 ghost use Rattle.cx_rotate.specs.Keeping.{IsKeptState};
 ghost use Rattle.cx_rules.specs.Inputs.{Input, input_of};
 ghost use Rattle.cx_rules.specs.Rows.{Outcome};

@@ -2,7 +2,7 @@
 
 ghost use Rattle.std.specs.Prelude.{◌≡◌, ◌<◌, ◌++◌, length, take, IfOk, IfErr, IfSome, OnOk, OnErr};
 ghost use Rattle.cx_drive.specs.Steps.{effects_of, node_behind};
-ghost use Rattle.cx_drive.specs.Stops.{Carried, GivesUp, Performed, Stopped};
+ghost use Rattle.cx_drive.specs.Stops.{Carried, GivesUp, Performed, Stopped, scene};
 ghost use Rattle.cx_rotate.specs.Keeping.{IsKeptState};
 ghost use Rattle.cx_rules.specs.Inputs.{input_of};
 
@@ -11,23 +11,23 @@ use crate::dues::Due;
 use crate::machine::Machine;
 use crate::peers::Peers;
 use crate::stops::Stop;
-use cx_base::{Duplicate, Items, Reading};
+use cx_base::{Duplicate, Reading};
 use cx_dice::Draw;
 use cx_journal::{Entry, Journal};
 use cx_site::Site;
 use cx_steps::{Effects, Event};
 use std::alloc::{AllocError, Global};
+use std::collections::VecDeque;
 
-/// What a step comes to: whether memory was wanting in it, whether a banner or a frame was handled, and what is due then.
-#[derive(Debug, PartialEq, Eq, Drop)]
+/// What a step comes to: whether memory was wanting in it, and whether a banner or a frame was handled.
+#[derive(Clone, Copy, Debug, PartialEq, Eq)]
 pub struct Stepped {
     pub short: bool,
     pub turned: bool,
-    pub dues: Items<Due>,
 }
 
-/// One step of a node: the dice are rolled and the clock is read, the node takes its step, and that is carried out, saved first. A step
-/// for which memory was wanting loses its link, and the run may go on.
+/// One step of a node: the dice are rolled and the clock is read, the node takes its step, and that is carried out, saved first. What is due
+/// of it stands behind what was due before. A step for which memory was wanting loses its link, and the run may go on.
 pub fn perform<S: Site, M: Machine>(
     alloc: Global,
     site: &mut S,
@@ -35,11 +35,12 @@ pub fn perform<S: Site, M: Machine>(
     peers: &Peers,
     journal: &mut Journal,
     event: Event<'_>,
+    dues: &mut VecDeque<Due>,
 ) -> Result<Stepped, Stop>
     ensures ok { IfOk result (Performed S.follows M.rule M.lost peers.now (input_of event.entry)
-        (record { site = site.old; node = node.old; entries = journal.old }) (record { site = site.new; node = node.new; entries = journal.new })) }
+        (scene site.old node.old journal.old) (scene site.new node.new journal.new) dues.old.items dues.new.items) }
     ensures err { IfErr result (Stopped S.follows M.rule M.lost (input_of event.entry)
-        (record { site = site.old; node = node.old; entries = journal.old }) (record { site = site.new; node = node.new; entries = journal.new })) }
+        (scene site.old node.old journal.old) (scene site.new node.new journal.new)) }
 {
     let Ok(draw) = site.block() else {
         return Err(Stop::Dice);
@@ -47,11 +48,10 @@ pub fn perform<S: Site, M: Machine>(
     let now = site.read();
     let mut out = Effects::new(alloc);
     let short = take_step(alloc, node, event, now, &draw, &mut out);
-    match settle(alloc, site, peers, journal, &out) {
-        Ok(dues) => Ok(Stepped {
+    match settle(alloc, site, peers, journal, &out, dues) {
+        Ok(()) => Ok(Stepped {
             short,
             turned: out.turned,
-            dues,
         }),
         Err(stop) => Err(stop),
     }
@@ -84,9 +84,10 @@ fn settle<S: Site>(
     peers: &Peers,
     journal: &mut Journal,
     out: &Effects,
-) -> Result<Items<Due>, Stop>
+    dues: &mut VecDeque<Due>,
+) -> Result<(), Stop>
     requires { IfSome out.now.save IsKeptState }
-    ensures ok { IfOk result (λ dues. Carried S.follows peers.now out.now site.old site.new dues) }
+    ensures ok { OnOk result (Carried S.follows peers.now out.now site.old site.new dues.old.items dues.new.items) }
     ensures entered { OnOk result (journal.new ≡ journal.old ++ out.now.entries) }
     ensures err { IfErr result (GivesUp S.follows out.now.save site.old site.new) }
     ensures same { OnErr result (journal.new ≡ journal.old) }
@@ -96,8 +97,8 @@ fn settle<S: Site>(
         journal.truncate(before);
         return Err(Stop::Memory);
     };
-    match carry(alloc, site, peers, out) {
-        Ok(dues) => Ok(dues),
+    match carry(alloc, site, peers, out, dues) {
+        Ok(()) => Ok(()),
         Err(stop) => {
             journal.truncate(before);
             Err(stop)

@@ -3,6 +3,8 @@
 
 mod hosting;
 mod site;
+mod taped;
 
 pub use hosting::Hosted;
 pub use site::Site;
+pub use taped::{Did, Taped};

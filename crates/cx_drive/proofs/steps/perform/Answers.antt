@@ -6,8 +6,8 @@ pub returns-in-Ok-settle-clause-ok : goal.returns-in-Ok-settle-clause-ok
 returns-in-Ok-settle-clause-ok g c =
     performed g.S.Site.follows g.M.Machine.rule g.M.Machine.lost g.S.Site.goes_on c.args.peers.now (input_of c.args.event) c.read-now.result c.in-Ok.draw.bytes
     c.take_step-short.result c.take_step-short.new.out c.args.site.now c.block.new.self c.read-now.new.self c.settle.new.site c.args.node.now c.take_step-short.new.node
-    c.args.journal.now c.settle.new.journal c.in-Ok-settle.dues c.in-Ok.ensures.did c.read-now.ensures.did c.take_step-short.ensures.out c.take_step-short.ensures.node
-    c.in-Ok-settle.ensures.ok c.in-Ok-settle.ensures.entered
+    c.args.journal.now c.settle.new.journal c.args.dues.now.items c.settle.new.dues.items c.in-Ok.ensures.did c.read-now.ensures.did c.take_step-short.ensures.out
+    c.take_step-short.ensures.node c.in-Ok-settle.ensures.ok c.in-Ok-settle.ensures.entered
 
 pub returns-clause-err : goal.returns-clause-err
 returns-clause-err g c =

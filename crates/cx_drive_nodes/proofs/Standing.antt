@@ -1,0 +1,28 @@
+-- What the machines stand for where memory is wanting.
+use Rattle.std.proofs.Common.{ℕ, Option, Some, None, ap}
+use Rattle.cx_client.specs.Machine as client
+use Rattle.cx_turns.specs.Events.{link_in}
+use Rattle.cx_mon.specs.Machine as monitor
+use Rattle.cx_rules.specs.Abridged.{ClientStandsFor, MonitorStandsFor}
+use Rattle.cx_rules.specs.ClientRule.{ClientNode}
+use Rattle.cx_rules.specs.Inputs.{Input}
+use Rattle.cx_rules.specs.Monitor.{MonitorNode}
+use Rattle.cx_rules.specs.MonitorRule.{noted}
+use Rattle.cx_rules.specs.Rows.{forgotten}
+use Rattle.cx_turns.specs.Steps.{without_lost}
+
+module _ (loses : (m s : MonitorNode) (n : ℕ) → MonitorStandsFor m s → MonitorStandsFor (forgotten (noted m) n) (forgotten (noted s) n)) where
+  by_link : (link : Option ℕ) (m s : MonitorNode) → MonitorStandsFor m s → MonitorStandsFor (without_lost link (noted m)) (without_lost link (noted s))
+  by_link None m s st = record { held = ap noted st.held; within = st.within }
+  by_link (Some number) m s st = loses m s number st
+
+  pub monitor_loses : (m s : MonitorNode) (input : Input) → MonitorStandsFor m s → MonitorStandsFor (monitor.lost m input) (monitor.lost s input)
+  monitor_loses m s input st = by_link (link_in input) m s st
+
+module _ (loses : (c s : ClientNode) (n : ℕ) → ClientStandsFor c s → ClientStandsFor (forgotten c n) (forgotten s n)) where
+  client_by_link : (link : Option ℕ) (c s : ClientNode) → ClientStandsFor c s → ClientStandsFor (without_lost link c) (without_lost link s)
+  client_by_link None c s st = st
+  client_by_link (Some number) c s st = loses c s number st
+
+  pub client_loses : (c s : ClientNode) (input : Input) → ClientStandsFor c s → ClientStandsFor (client.lost c input) (client.lost s input)
+  client_loses c s input st = client_by_link (link_in input) c s st

@@ -1,0 +1,3 @@
+mod Clients
+mod Monitors
+mod Named

@@ -1,0 +1,63 @@
+-- A node of a run alone: what its rule gives on what comes to it.
+use Rattle.std.specs.Prelude.{List, [], ◌∷◌, ◌++◌, filter, Bool, true, false, Option, Some, None}
+use Rattle.cx_base.specs.declared.nodes.NodeName.{NodeName}
+use Rattle.cx_line_words.specs.declared.choices.LeftState.{LeftState}
+use Rattle.cx_rotate.specs.declared.states.KeptState.{KeptState}
+use Rattle.cx_rules.specs.ClientRule.{ClientNode, client_rule}
+use Rattle.cx_rules.specs.Monitor.{MonitorNode}
+use Rattle.cx_rules.specs.MonitorRule.{monitor_rule}
+use Rattle.cx_rules.specs.Rows.{Outcome}
+use Rattle.cx_run.specs.Happenings.{Happening, Nodes, failed_out, left_as, steps}
+use Rattle.cx_run.specs.Wires.{same_node}
+use Rattle.cx_steps.specs.Nothing.{nothing}
+use Rattle.cx_steps.specs.declared.effects.Effects.{Effects}
+
+-- what comes to this node, in order
+abbrev pub of_node : NodeName → List Happening → List Happening
+of_node who hs = filter (λ h. same_node h.node who) hs
+
+-- ---- in the run
+
+-- what an event gives, where it comes to this node
+abbrev pub given_if : Bool → Effects → List Effects
+given_if true out = out ∷ []
+given_if false out = []
+
+-- what this node gives, event by event
+abbrev pub given_at : NodeName → Nodes → List Happening → List Effects
+given_at who nodes [] = []
+given_at who nodes (h ∷ hs) = given_if (same_node h.node who) (steps nodes h).out ++ given_at who (steps nodes h).nodes hs
+
+-- ---- the monitor alone
+
+-- where a save is to fail, and the step saves
+abbrev pub monitor_alone : Outcome MonitorNode → Option LeftState → Option KeptState → Outcome MonitorNode
+monitor_alone o (Some left) (Some saved) = record { state = left_as left o.state; out = failed_out o.out }
+monitor_alone o None saved = o
+monitor_alone o left None = o
+
+abbrev pub monitor_steps_alone : MonitorNode → Happening → Outcome MonitorNode
+monitor_steps_alone m h = let o = monitor_rule m h.input h.reading h.draw in monitor_alone o h.left o.out.save
+
+abbrev pub monitor_behind : MonitorNode → List Happening → MonitorNode
+monitor_behind m [] = m
+monitor_behind m (h ∷ hs) = monitor_behind (monitor_steps_alone m h).state hs
+
+abbrev pub monitor_outs : MonitorNode → List Happening → List Effects
+monitor_outs m [] = []
+monitor_outs m (h ∷ hs) = (monitor_steps_alone m h).out ∷ monitor_outs (monitor_steps_alone m h).state hs
+
+-- ---- a client alone
+
+abbrev pub client_steps_alone : ClientNode → Happening → Outcome ClientNode
+client_steps_alone c h = client_rule c h.input h.reading h.draw
+
+abbrev pub client_behind : ClientNode → List Happening → ClientNode
+client_behind c [] = c
+client_behind c (h ∷ hs) = client_behind (client_steps_alone c h).state hs
+
+-- one that isn't declared gives nothing
+abbrev pub client_outs : Option ClientNode → List Happening → List Effects
+client_outs c [] = []
+client_outs None (h ∷ hs) = nothing ∷ client_outs None hs
+client_outs (Some c) (h ∷ hs) = (client_steps_alone c h).out ∷ client_outs (Some (client_steps_alone c h).state) hs
