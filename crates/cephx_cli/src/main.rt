@@ -5,21 +5,22 @@ use cx_base::{Access, Blob};
 use cx_caps::Permitted;
 use cx_desk::Desk;
 use cx_edge::{Input, Output};
-use cx_top::{Status, run};
+use cx_top::{ProgramEnd, Status, run};
 use std::alloc::{AllocError, Global};
 use std::process::ExitCode;
 use std::{env, io};
 
 fn main(rt: HostRuntime) -> ExitCode {
-    let status = match words(&rt) {
-        Ok(words) => serve(&rt, &words).unwrap_or(Status::OutOfMemory),
-        Err(error) => unreadable(&error),
+    let ended = match words(&rt) {
+        Ok(words) => match serve(&rt, &words) {
+            Ok(ended) => ended,
+            Err(_) => ProgramEnd::plain(rt.alloc(), Status::OutOfMemory),
+        },
+        Err(error) => ProgramEnd::plain(rt.alloc(), unreadable(&error)),
     };
-    if status != Status::Done {
-        // Where standard error fails too, the number is left.
-        let _ = eprintln!(rt; "cephx_cli: {status}");
-    }
-    ExitCode::from(status.number())
+    // Where standard error fails too, the number is left.
+    let _ = eprint!(rt; "{ended}");
+    ExitCode::from(ended.status.number())
 }
 
 // The words of the command line, without the program's name.
@@ -36,7 +37,7 @@ fn unreadable(error: &io::Error) -> Status {
     }
 }
 
-fn serve(rt: &HostRuntime, words: &[String]) -> Result<Status, AllocError> {
+fn serve(rt: &HostRuntime, words: &[String]) -> Result<ProgramEnd, AllocError> {
     let mut texts = Vec::new(rt.alloc());
     for word in words {
         texts.push(word.as_str())?;

@@ -17,7 +17,7 @@ setting_form_text setting.Lifetime =
 setting_form_text setting.AuthLifetime =
     codes "; its form is: auth-lifetime SECONDS, as in: auth-lifetime 43200"
 setting_form_text setting.Entity =
-    codes "; its form is: entity NAME, and then any number of SERVICE \"CAPS\", as in: entity client.a mon \"allow r\" osd \"allow *\"; a quotation mark that isn't closed holds no words together"
+    codes "; its form is: entity NAME, and then any number of SERVICE \"CAPS\", as in: entity client.a mon \"allow r\" osd \"allow *\""
 setting_form_text setting.Seed =
     codes "; its form is: seed NODE NUMBER, as in: seed client.a 5"
 setting_form_text setting.Modes =

@@ -1,6 +1,9 @@
 pub mod Forms
 pub mod Hints
+pub mod Misfits
 pub mod Problems
+pub mod Remarks
 pub mod Scripts
+pub mod Sights
 pub mod Words
 pub mod Wrong

@@ -6,15 +6,7 @@ use Rattle.cx_line_words.specs.declared.faults.LineFault.TheVariants.{BadNumber,
 use Rattle.cx_line_words.specs.declared.places.WordPlace.{WordPlace}
 use Rattle.cx_line_words.specs.declared.places.WordPlace.TheVariants as at
 use Rattle.cx_line_words.specs.declared.sight.Shown.{Shown}
-use Rattle.cx_line_help.specs.Words.{are_digits, begins, has_leading_zero, has_slash, is_daemon_word}
-
-abbrev pub name_problem : Option WordPlace → List ℕ
-name_problem (Some at.Node) =
-    codes "is no node: a node is mon, the monitor, or an entity's, by its name, as client.admin or osd.0"
-name_problem (Some at.Unseeded) =
-    codes "is no node: a node is mon, the monitor, or an entity's, by its name, as client.admin or osd.0"
-name_problem _ =
-    codes "is no name: a name is a type, client, mds, osd or mgr, a point and an id of 1 to 64 letters, digits or _ - . : + /, as client.admin or osd.0"
+use Rattle.cx_line_help.specs.Words.{are_digits, begins, has_leading_zero, has_slash, is_daemon_word, is_monitor_word}
 
 abbrev pub too_large : Option WordPlace → List ℕ
 too_large (Some at.Life) =
@@ -88,6 +80,31 @@ client_problem true = undeclared
 client_problem false =
     codes "is no client: a client's name begins with client."
 
+abbrev pub no_node : List ℕ
+no_node =
+    codes "is no node: a node is mon, the monitor, or an entity's, by its name, as client.admin or osd.0"
+
+abbrev pub no_name : List ℕ
+no_name =
+    codes "is no name: a name is a type, client, mds, osd or mgr, a point and an id of 1 to 64 letters, digits or _ - . : + /, as client.admin or osd.0"
+
+-- in place of a daemon's name: the monitor, which is none, or no name at all
+abbrev pub no_daemon : Bool → List ℕ
+no_daemon true = daemon_problem false
+no_daemon false = no_name
+
+-- the same in place of a client's
+abbrev pub no_client : Bool → List ℕ
+no_client true = client_problem false
+no_client false = no_name
+
+abbrev pub name_problem : Option WordPlace → Shown → List ℕ
+name_problem (Some at.Node) shown = no_node
+name_problem (Some at.Unseeded) shown = no_node
+name_problem (Some at.Entity) shown = no_name
+name_problem (Some at.Daemon) shown = no_daemon (is_monitor_word shown)
+name_problem _ shown = no_client (is_monitor_word shown)
+
 abbrev pub node_problem : Option WordPlace → Shown → List ℕ
 node_problem (Some at.Entity) shown =
     codes "can't be declared: an entity is a client, an mds, an osd or a mgr"
@@ -114,7 +131,7 @@ again_problem _ =
 
 abbrev pub problem_as : LineFault → BadWord → List ℕ
 problem_as BadNumber bad = number_problem bad
-problem_as BadName bad = name_problem bad.takes
+problem_as BadName bad = name_problem bad.takes bad.shown
 problem_as BadText bad = text_at bad.takes bad.shown
 problem_as UnknownNode bad = node_problem bad.takes bad.shown
 problem_as _ bad = again_problem bad.takes

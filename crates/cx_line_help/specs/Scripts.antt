@@ -9,6 +9,7 @@ use Rattle.cx_lines.specs.declared.lines.Head.{Head}
 use Rattle.cx_lines.specs.declared.lines.Head.TheVariants as head
 use Rattle.cx_lines.specs.declared.sight.BadWord.{BadWord}
 use Rattle.cx_line_help.specs.Forms.{form_text}
+use Rattle.cx_line_help.specs.Hints.{hint_text}
 use Rattle.cx_line_help.specs.Problems.{client_problem, daemon_problem, problem_as}
 use Rattle.cx_line_help.specs.Words.{begins, is_daemon_word}
 use Rattle.cx_line_help.specs.Wrong.{extra_text, missing_text, problem_text, unknown_text}
@@ -62,10 +63,10 @@ script_problem_as UnknownNode bad = wrong_name bad.takes bad
 script_problem_as why bad = problem_as why bad
 
 abbrev pub wrong_in_script_as : LineFault → BadWord → List ℕ
-wrong_in_script_as UnknownWord bad = unknown_text bad script_words_text
-wrong_in_script_as Missing bad = missing_text bad (script_form_text bad.form)
-wrong_in_script_as Extra bad = extra_text bad (script_form_text bad.form)
-wrong_in_script_as why bad = problem_text bad (script_problem_as why bad) (script_form_text bad.form)
+wrong_in_script_as UnknownWord bad = unknown_text bad (hint_text bad.hint) script_words_text
+wrong_in_script_as Missing bad = missing_text bad (hint_text bad.hint) (script_form_text bad.form)
+wrong_in_script_as Extra bad = extra_text bad (hint_text bad.hint) (script_form_text bad.form)
+wrong_in_script_as why bad = problem_text bad (script_problem_as why bad) (hint_text bad.hint) (script_form_text bad.form)
 
 abbrev pub wrong_in_script_text : BadWord → List ℕ
 wrong_in_script_text bad = wrong_in_script_as bad.fault.why bad

@@ -1,4 +1,4 @@
--- A word as a user is shown it: its first 40 bytes, with blanks and control bytes made visible; and what can be told of it by these.
+-- A word as a user is shown it: its first 40 bytes, with control bytes made visible; and what can be told of it by these.
 use Rattle.std.specs.Prelude.{ℕ, ◌+◌, ◌/◌, ◌%◌, ◌==◌, Bool, true, false, ◌&&◌, ◌||◌, min, nat_le, nat_lt, List, [], ◌∷◌, length, take, codes, slice_index, if◌then◌else◌}
 use Rattle.std.specs.List.{flat_map, list_all, list_any}
 use Rattle.std.specs.Str.{bytes_eq}
@@ -27,19 +27,22 @@ begins text shown = bytes_eq (take (length text) (front shown)) text
 abbrev pub is_daemon_word : Shown → Bool
 is_daemon_word shown = begins (codes "mds.") shown || begins (codes "osd.") shown || begins (codes "mgr.") shown
 
+-- the monitor's
+abbrev pub is_monitor_word : Shown → Bool
+is_monitor_word shown = (shown.length == 3) && begins (codes "mon") shown
+
 -- ---- how it is shown
 
 -- a hexadecimal digit, in lower case
 abbrev pub digit : ℕ → ℕ
 digit n = if nat_lt n 10 then 48 + n else 87 + n
 
--- a byte: a visible character of ASCII stands for itself
+-- a byte: a character of ASCII stands for itself, and so does a blank, which a word has between quotation marks alone
 abbrev pub byte_text : ℕ → List ℕ
 byte_text b =
-    if b == 32 then codes "<space>"
-    else if b == 9 then codes "<tab>"
+    if b == 9 then codes "<tab>"
     else if b == 13 then codes "<CR>"
-    else if nat_lt 32 b && nat_lt b 127 then b ∷ []
+    else if nat_le 32 b && nat_lt b 127 then b ∷ []
     else codes "<" <> (digit (b / 16) ∷ []) <> (digit (b % 16) ∷ []) <> codes ">"
 
 abbrev pub bytes_text : List ℕ → List ℕ

@@ -31,7 +31,7 @@ fn setting_form(form: SettingForm) -> &'static str
             "; its form is: auth-lifetime SECONDS, as in: auth-lifetime 43200",
         SettingForm::Entity => {
             "; its form is: entity NAME, and then any number of SERVICE \"CAPS\", as in: entity client.a mon \"allow r\" osd \
-            \"allow *\"; a quotation mark that isn't closed holds no words together"
+            \"allow *\""
         }
         SettingForm::Seed => "; its form is: seed NODE NUMBER, as in: seed client.a 5",
         SettingForm::Modes => "; its form is: modes CLIENT MODES, as in: modes client.a crc,secure",

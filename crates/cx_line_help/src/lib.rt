@@ -3,12 +3,18 @@
 
 mod forms;
 mod hints;
+mod misfits;
 mod problems;
+mod remarks;
 mod scripts;
+mod sights;
 mod words;
 mod wrong;
 
+pub use remarks::{Remark, beside, is_no_text};
 pub use scripts::WrongInScript;
+pub use sights::{LineSight, line_at, sight_of};
+pub use words::{Byte, Word};
 pub use wrong::Wrong;
 
 // It goes to another thread, and is seen by several.
@@ -17,4 +23,8 @@ fn is_sendable<T: Send + Sync>() {}
 fn sentences_are_sendable() {
     is_sendable::<Wrong<'_>>();
     is_sendable::<WrongInScript<'_>>();
+    is_sendable::<Byte>();
+    is_sendable::<Word<'_>>();
+    is_sendable::<LineSight>();
+    is_sendable::<Remark>();
 }

@@ -1,9 +1,11 @@
 //! What is wrong with a word at its place, and what to write.
 
 ghost use Rattle.std.specs.Prelude.{◌≡◌};
-ghost use Rattle.cx_line_help.specs.Problems.{again_problem, caps_problem, client_problem, daemon_problem, name_problem, no_number, node_problem, number_problem, part_problem, problem_as, text_at, too_large, undeclared};
+ghost use Rattle.cx_line_help.specs.Problems.{again_problem, caps_problem, client_problem, daemon_problem, name_problem, no_client, no_daemon, no_name, no_node, no_number, node_problem, number_problem, part_problem, problem_as, text_at, too_large, undeclared};
 
-use crate::words::{are_digits, begins, has_leading_zero, has_slash, is_daemon_word};
+use crate::words::{
+    are_digits, begins, has_leading_zero, has_slash, is_daemon_word, is_monitor_word,
+};
 use cx_line_words::{LineFault, Shown, WordPlace};
 use cx_lines::BadWord;
 
@@ -13,24 +15,56 @@ pub(crate) fn problem(bad: &BadWord) -> &'static str
 {
     match bad.fault.why {
         LineFault::BadNumber => number_problem(bad),
-        LineFault::BadName => name_problem(bad.takes),
+        LineFault::BadName => name_problem(bad.takes, &bad.shown),
         LineFault::BadText => text_at(bad.takes, &bad.shown),
         LineFault::UnknownNode => node_problem(bad.takes, &bad.shown),
         _ => again_problem(bad.takes),
     }
 }
 
-fn name_problem(place: Option<WordPlace>) -> &'static str
-    ensures { result.now ≡ name_problem place }
+fn name_problem(place: Option<WordPlace>, shown: &Shown) -> &'static str
+    ensures { result.now ≡ name_problem place shown.now }
 {
     match place {
-        Some(WordPlace::Node) | Some(WordPlace::Unseeded) => {
-            "is no node: a node is mon, the monitor, or an entity's, by its name, as client.admin or osd.0"
-        }
-        _ => {
-            "is no name: a name is a type, client, mds, osd or mgr, a point and an id of 1 to 64 letters, digits or \
-            _ - . : + /, as client.admin or osd.0"
-        }
+        Some(WordPlace::Node) | Some(WordPlace::Unseeded) => no_node(),
+        Some(WordPlace::Entity) => no_name(),
+        Some(WordPlace::Daemon) => no_daemon(is_monitor_word(shown)),
+        _ => no_client(is_monitor_word(shown)),
+    }
+}
+
+fn no_node() -> &'static str
+    ensures { result.now ≡ no_node }
+{
+    "is no node: a node is mon, the monitor, or an entity's, by its name, as client.admin or osd.0"
+}
+
+fn no_name() -> &'static str
+    ensures { result.now ≡ no_name }
+{
+    "is no name: a name is a type, client, mds, osd or mgr, a point and an id of 1 to 64 letters, digits or _ - . : + /, as \
+    client.admin or osd.0"
+}
+
+/// In place of a daemon's name: the monitor, which is none, or no name at all.
+fn no_daemon(is_monitor: bool) -> &'static str
+    ensures { result.now ≡ no_daemon is_monitor }
+{
+    if is_monitor {
+        daemon_problem(false)
+    } else {
+        no_name()
+    }
+}
+
+/// The same in place of a client's.
+fn no_client(is_monitor: bool) -> &'static str
+    ensures { result.now ≡ no_client is_monitor }
+{
+    if is_monitor {
+        client_problem(false)
+    } else {
+        no_name()
     }
 }
 

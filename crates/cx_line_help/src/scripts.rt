@@ -4,6 +4,7 @@ ghost use Rattle.std.specs.Prelude.{◌≡◌};
 ghost use Rattle.cx_line_help.specs.Scripts.{another_daemon, another_node, names_peer, script_form_text, script_problem_as, script_words_text, wrong_client, wrong_daemon, wrong_name};
 
 use crate::forms::form;
+use crate::hints::hint;
 use crate::problems::{client_problem, daemon_problem, problem};
 use crate::words::{begins, is_daemon_word};
 use crate::wrong::{Extra, Missing, Problem, Unknown};
@@ -23,50 +24,51 @@ impl fmt::Display for WrongInScript<'_> {
 
     fn fmt<W: fmt::Write>(&self, f: &mut fmt::Formatter<W>) -> fmt::Result {
         let bad = self.0;
+        let beside = hint(bad.hint);
         match bad.fault.why {
-            LineFault::UnknownWord => write!(f, "{}", Unknown(bad, script_words())),
-            LineFault::Missing => write!(f, "{}", Missing(bad, script_form(bad.form))),
-            LineFault::Extra => write!(f, "{}", Extra(bad, script_form(bad.form))),
+            LineFault::UnknownWord => write!(f, "{}", Unknown(bad, beside, script_words())),
+            LineFault::Missing => write!(f, "{}", Missing(bad, beside, script_form(bad.form))),
+            LineFault::Extra => write!(f, "{}", Extra(bad, beside, script_form(bad.form))),
             LineFault::BadNumber => {
                 write!(
                     f,
                     "{}",
-                    Problem(bad, script_problem(bad), script_form(bad.form))
+                    Problem(bad, script_problem(bad), beside, script_form(bad.form))
                 )
             }
             LineFault::BadName => {
                 write!(
                     f,
                     "{}",
-                    Problem(bad, script_problem(bad), script_form(bad.form))
+                    Problem(bad, script_problem(bad), beside, script_form(bad.form))
                 )
             }
             LineFault::BadText => {
                 write!(
                     f,
                     "{}",
-                    Problem(bad, script_problem(bad), script_form(bad.form))
+                    Problem(bad, script_problem(bad), beside, script_form(bad.form))
                 )
             }
             LineFault::UnknownNode => {
                 write!(
                     f,
                     "{}",
-                    Problem(bad, script_problem(bad), script_form(bad.form))
+                    Problem(bad, script_problem(bad), beside, script_form(bad.form))
                 )
             }
             LineFault::Repeated => {
                 write!(
                     f,
                     "{}",
-                    Problem(bad, script_problem(bad), script_form(bad.form))
+                    Problem(bad, script_problem(bad), beside, script_form(bad.form))
                 )
             }
             LineFault::Order => {
                 write!(
                     f,
                     "{}",
-                    Problem(bad, script_problem(bad), script_form(bad.form))
+                    Problem(bad, script_problem(bad), beside, script_form(bad.form))
                 )
             }
         }

@@ -2,14 +2,14 @@
 
 ghost use Rattle.std.specs.Prelude.{◌≡◌, ◌==◌, ◌<◌};
 ghost use Rattle.std.specs.List.{list_all, list_any};
-ghost use Rattle.cx_line_help.specs.Words.{are_digits, begins, digit, front, has_leading_zero, has_slash, is_daemon_word, is_digit_byte, rest_text};
+ghost use Rattle.cx_line_help.specs.Words.{are_digits, begins, digit, front, has_leading_zero, has_slash, is_daemon_word, is_digit_byte, is_monitor_word, rest_text};
 
 use cx_line_words::Shown;
 use std::fmt;
 
-/// A word as it is shown: blanks and control bytes made visible, cut at 40 bytes.
+/// A word as it is shown: control bytes made visible, cut at 40 bytes. A blank stands in a word between quotation marks alone.
 #[derive(Clone, Copy)]
-pub(crate) struct Word<'a>(pub(crate) &'a Shown);
+pub struct Word<'a>(pub &'a Shown);
 
 impl fmt::Display for Word<'_> {
     ghost use Rattle.std.specs.Prelude.{Some};
@@ -50,8 +50,9 @@ impl fmt::Display for Bytes<'_> {
     }
 }
 
+/// A byte as it is shown in a word.
 #[derive(Clone, Copy)]
-struct Byte(u8);
+pub struct Byte(pub u8);
 
 impl fmt::Display for Byte {
     ghost use Rattle.std.specs.Prelude.{Some};
@@ -61,16 +62,13 @@ impl fmt::Display for Byte {
 
     fn fmt<W: fmt::Write>(&self, f: &mut fmt::Formatter<W>) -> fmt::Result {
         let byte = self.0;
-        if byte == b' ' {
-            return write!(f, "<space>");
-        }
         if byte == b'\t' {
             return write!(f, "<tab>");
         }
         if byte == b'\r' {
             return write!(f, "<CR>");
         }
-        if byte > 32 && byte < 127 {
+        if byte >= 32 && byte < 127 {
             return write!(f, "{}", char::from(byte));
         }
         write!(
@@ -137,6 +135,12 @@ pub(crate) fn is_daemon_word(shown: &Shown) -> bool
     ensures { result ≡ is_daemon_word shown.now }
 {
     begins(shown, "mds.") || begins(shown, "osd.") || begins(shown, "mgr.")
+}
+
+pub(crate) fn is_monitor_word(shown: &Shown) -> bool
+    ensures { result ≡ is_monitor_word shown.now }
+{
+    shown.length == 3 && begins(shown, "mon")
 }
 
 /// The bytes that are shown.

@@ -4,17 +4,18 @@ ghost use Rattle.std.specs.Prelude.{◌≡◌};
 ghost use Rattle.cx_line_help.specs.Wrong.{first_words_text};
 
 use crate::forms::form;
-use crate::hints::hint;
 use crate::problems::problem;
+use crate::remarks::beside;
+use crate::sights::LineSight;
 use crate::words::Word;
 use cx_line_words::LineFault;
 use cx_lines::BadWord;
 use std::fmt;
 
-/// A line that is none, by its first fault: which word is wrong, what stands there, what is wrong with it and what to write,
-/// and the form of the line with an example.
+/// A line that is none, by what is told of it: which word is wrong, what stands there, what is wrong with it and what to write,
+/// what the line shows besides, and the form of the line with an example.
 #[derive(Clone, Copy)]
-pub struct Wrong<'a>(pub &'a BadWord);
+pub struct Wrong<'a>(pub &'a LineSight);
 
 impl fmt::Display for Wrong<'_> {
     ghost use Rattle.std.specs.Prelude.{Some};
@@ -23,21 +24,32 @@ impl fmt::Display for Wrong<'_> {
     ghost output = { λ wrong. Some (wrong_text wrong.0.now) };
 
     fn fmt<W: fmt::Write>(&self, f: &mut fmt::Formatter<W>) -> fmt::Result {
-        let bad = self.0;
+        let bad = &self.0.bad;
+        let beside = beside(self.0.remark, bad.hint);
         match bad.fault.why {
-            LineFault::UnknownWord => write!(f, "{}", Unknown(bad, first_words())),
-            LineFault::Missing => write!(f, "{}", Missing(bad, form(bad.form))),
-            LineFault::Extra => write!(f, "{}", Extra(bad, form(bad.form))),
+            LineFault::UnknownWord => write!(f, "{}", Unknown(bad, beside, first_words())),
+            LineFault::Missing => write!(f, "{}", Missing(bad, beside, form(bad.form))),
+            LineFault::Extra => write!(f, "{}", Extra(bad, beside, form(bad.form))),
             LineFault::Order => write!(
                 f,
                 "it stands too low: lifetime, auth-lifetime, entity, seed, modes and leak lines stand above all others; move it up{}",
                 form(bad.form)
             ),
-            LineFault::BadNumber => write!(f, "{}", Problem(bad, problem(bad), form(bad.form))),
-            LineFault::BadName => write!(f, "{}", Problem(bad, problem(bad), form(bad.form))),
-            LineFault::BadText => write!(f, "{}", Problem(bad, problem(bad), form(bad.form))),
-            LineFault::UnknownNode => write!(f, "{}", Problem(bad, problem(bad), form(bad.form))),
-            LineFault::Repeated => write!(f, "{}", Problem(bad, problem(bad), form(bad.form))),
+            LineFault::BadNumber => {
+                write!(f, "{}", Problem(bad, problem(bad), beside, form(bad.form)))
+            }
+            LineFault::BadName => {
+                write!(f, "{}", Problem(bad, problem(bad), beside, form(bad.form)))
+            }
+            LineFault::BadText => {
+                write!(f, "{}", Problem(bad, problem(bad), beside, form(bad.form)))
+            }
+            LineFault::UnknownNode => {
+                write!(f, "{}", Problem(bad, problem(bad), beside, form(bad.form)))
+            }
+            LineFault::Repeated => {
+                write!(f, "{}", Problem(bad, problem(bad), beside, form(bad.form)))
+            }
         }
     }
 }
@@ -50,15 +62,19 @@ fn first_words() -> &'static str
     do, carry, lose, inject, again, cut, restart, failsave or settle, and a comment with #"
 }
 
-/// A first word that begins no line, and those that do.
+/// A first word that begins no line, what is said besides, and the words that begin one.
 #[derive(Clone, Copy)]
-pub(crate) struct Unknown<'a>(pub(crate) &'a BadWord, pub(crate) &'static str);
+pub(crate) struct Unknown<'a>(
+    pub(crate) &'a BadWord,
+    pub(crate) &'static str,
+    pub(crate) &'static str,
+);
 
 impl fmt::Display for Unknown<'_> {
     ghost use Rattle.std.specs.Prelude.{Some};
     ghost use Rattle.cx_line_help.specs.Wrong.{unknown_text};
 
-    ghost output = { λ wrong. Some (unknown_text wrong.0.now wrong.1.now) };
+    ghost output = { λ wrong. Some (unknown_text wrong.0.now wrong.1.now wrong.2.now) };
 
     fn fmt<W: fmt::Write>(&self, f: &mut fmt::Formatter<W>) -> fmt::Result {
         let bad = self.0;
@@ -66,21 +82,25 @@ impl fmt::Display for Unknown<'_> {
             f,
             "its first word, {}, begins no line{}{}",
             Word(&bad.shown),
-            hint(bad.hint),
-            self.1
+            self.1,
+            self.2
         )
     }
 }
 
-/// Too few words, and the form of the line.
+/// Too few words, what is said besides, and the form of the line.
 #[derive(Clone, Copy)]
-pub(crate) struct Missing<'a>(pub(crate) &'a BadWord, pub(crate) &'static str);
+pub(crate) struct Missing<'a>(
+    pub(crate) &'a BadWord,
+    pub(crate) &'static str,
+    pub(crate) &'static str,
+);
 
 impl fmt::Display for Missing<'_> {
     ghost use Rattle.std.specs.Prelude.{Some};
     ghost use Rattle.cx_line_help.specs.Wrong.{missing_text};
 
-    ghost output = { λ wrong. Some (missing_text wrong.0.now wrong.1.now) };
+    ghost output = { λ wrong. Some (missing_text wrong.0.now wrong.1.now wrong.2.now) };
 
     fn fmt<W: fmt::Write>(&self, f: &mut fmt::Formatter<W>) -> fmt::Result {
         let bad = self.0;
@@ -88,22 +108,26 @@ impl fmt::Display for Missing<'_> {
             f,
             "it ends with {}{}, and has too few words: {} at least are wanted{}",
             Word(&bad.shown),
-            hint(bad.hint),
+            self.1,
             bad.fault.word,
-            self.1
+            self.2
         )
     }
 }
 
-/// A word too many, and the form of the line.
+/// A word too many, what is said besides, and the form of the line.
 #[derive(Clone, Copy)]
-pub(crate) struct Extra<'a>(pub(crate) &'a BadWord, pub(crate) &'static str);
+pub(crate) struct Extra<'a>(
+    pub(crate) &'a BadWord,
+    pub(crate) &'static str,
+    pub(crate) &'static str,
+);
 
 impl fmt::Display for Extra<'_> {
     ghost use Rattle.std.specs.Prelude.{Some};
     ghost use Rattle.cx_line_help.specs.Wrong.{extra_text};
 
-    ghost output = { λ wrong. Some (extra_text wrong.0.now wrong.1.now) };
+    ghost output = { λ wrong. Some (extra_text wrong.0.now wrong.1.now wrong.2.now) };
 
     fn fmt<W: fmt::Write>(&self, f: &mut fmt::Formatter<W>) -> fmt::Result {
         let bad = self.0;
@@ -112,16 +136,17 @@ impl fmt::Display for Extra<'_> {
             "word {}, {}, is one too many{}{}",
             bad.fault.word,
             Word(&bad.shown),
-            hint(bad.hint),
-            self.1
+            self.1,
+            self.2
         )
     }
 }
 
-/// A word that is wrong at its place, what is wrong with it, and the form of the line.
+/// A word that is wrong at its place, what is wrong with it, what is said besides, and the form of the line.
 #[derive(Clone, Copy)]
 pub(crate) struct Problem<'a>(
     pub(crate) &'a BadWord,
+    pub(crate) &'static str,
     pub(crate) &'static str,
     pub(crate) &'static str,
 );
@@ -130,7 +155,7 @@ impl fmt::Display for Problem<'_> {
     ghost use Rattle.std.specs.Prelude.{Some};
     ghost use Rattle.cx_line_help.specs.Wrong.{problem_text};
 
-    ghost output = { λ wrong. Some (problem_text wrong.0.now wrong.1.now wrong.2.now) };
+    ghost output = { λ wrong. Some (problem_text wrong.0.now wrong.1.now wrong.2.now wrong.3.now) };
 
     fn fmt<W: fmt::Write>(&self, f: &mut fmt::Formatter<W>) -> fmt::Result {
         let bad = self.0;
@@ -140,8 +165,8 @@ impl fmt::Display for Problem<'_> {
             bad.fault.word,
             Word(&bad.shown),
             self.1,
-            hint(bad.hint),
-            self.2
+            self.2,
+            self.3
         )
     }
 }

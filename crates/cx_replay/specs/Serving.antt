@@ -20,6 +20,7 @@ use Rattle.cx_run.specs.Runs.{IsFoundOf, run_journal, setup_of, trace}
 use Rattle.cx_replay.specs.declared.refusals.ReplayRefusal.{ReplayRefusal}
 use Rattle.cx_replay.specs.declared.refusals.ReplayRefusal.TheVariants.{NotYet, OutOfMemory}
 use Rattle.cx_run.specs.Served as run
+use Rattle.cx_world.specs.Idle.{idle_lines}
 use Rattle.cx_replay.specs.Lines.{has_daemon_line}
 
 -- the first line for which a schedule isn't served yet: where it has a fetch, connect or send line, the first that the plain run doesn't take,
@@ -56,6 +57,10 @@ IsReplayBy false handlers script journal found = IsByteReplay handlers script jo
 
 abbrev pub IsReplayOf : Handlers → List Numbered → List Entry → Option Broken → Type 0
 IsReplayOf handlers script journal found = IsReplayBy (has_daemon_line script) handlers script journal found
+
+-- how many lines of a schedule do nothing: such a line is one on a link, which the plain run doesn't take
+abbrev pub idle_of : List Numbered → ℕ
+idle_of script = if has_daemon_line script then 0 else idle_lines script
 
 -- the journal with the first breach as its last entry, where there is one
 abbrev pub told : List Entry → Option Broken → List Entry

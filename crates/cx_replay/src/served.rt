@@ -8,7 +8,8 @@ ghost use Rattle.cx_plain.specs.PlainLines.{first_untaken};
 ghost use Rattle.cx_run.specs.Served as run;
 ghost use Rattle.cx_run_head.specs.Beginning.{IsSchedule};
 ghost use Rattle.cx_replay.specs.declared.refusals.ReplayRefusal.TheVariants.{OutOfMemory};
-ghost use Rattle.cx_replay.specs.Serving.{IsReplayBy, IsReplayCause, IsReplayOf, IsUnservedBy, first_unserved};
+ghost use Rattle.cx_replay.specs.Serving.{IsReplayBy, IsReplayCause, IsReplayOf, IsUnservedBy, first_unserved, idle_of};
+ghost use Rattle.cx_world.specs.Idle.{idle_lines};
 
 use crate::lines::{first_unserved, has_daemon_line};
 use crate::refusals::ReplayRefusal;
@@ -24,6 +25,7 @@ pub fn replay(alloc: Global, script: &Script, desk: &Desk) -> Result<Report, Rep
     requires schedule { IsSchedule script.now }
     requires in_range { IsTrue (list_all is_numbered_in_range script.now) }
     ensures replayed { IfOk result (λ report. IsReplayOf (handlers_of desk.now) script.now report.journal report.broken) }
+    ensures idle { IfOk result (λ report. report.idle ≡ idle_of script.now) }
     ensures served { OnOk result (first_unserved script.now ≡ None) }
     ensures refused { IfErr result (IsReplayCause script.now) }
 {
@@ -41,6 +43,7 @@ fn through_bytes(alloc: Global, script: &Script, desk: &Desk) -> Result<Report, 
     requires schedule { IsSchedule script.now }
     requires served { run.first_unserved script.now ≡ None }
     ensures replayed { IfOk result (λ report. IsReplayBy false (handlers_of desk.now) script.now report.journal report.broken) }
+    ensures idle { IfOk result (λ report. report.idle ≡ idle_lines script.now) }
     ensures memory { IfErr result (λ why. why ≡ OutOfMemory) }
 {
     standing_laws();
@@ -54,6 +57,7 @@ fn through_bytes(alloc: Global, script: &Script, desk: &Desk) -> Result<Report, 
 fn plainly(alloc: Global, script: &Script, desk: &Desk) -> Result<Report, ReplayRefusal>
     requires { IsTrue (list_all is_numbered_in_range script.now) }
     ensures replayed { IfOk result (λ report. IsReplayBy true (handlers_of desk.now) script.now report.journal report.broken) }
+    ensures idle { IfOk result (λ report. report.idle ≡ 0) }
     ensures served { OnOk result (first_untaken script.now ≡ None) }
     ensures refused { IfErr result (IsUnservedBy (first_untaken script.now)) }
 {
@@ -61,5 +65,6 @@ fn plainly(alloc: Global, script: &Script, desk: &Desk) -> Result<Report, Replay
     Ok(Report {
         journal,
         broken: None,
+        idle: 0,
     })
 }

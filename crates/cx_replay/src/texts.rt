@@ -17,6 +17,7 @@ pub fn put_report(alloc: Global, report: Report, into: &mut Blob) -> Result<(), 
     let Report {
         mut journal,
         broken,
+        idle: _,
     } = report;
     if let Some(breach) = broken {
         journal.push(alloc, Entry::Broken(breach))?;

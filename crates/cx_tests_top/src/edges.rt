@@ -165,8 +165,8 @@ fn check(rt: &impl Abort, alloc: Global, row: &Row) {
         is_flushed: row.is_flushed,
     };
     let mut output = Output::new(&mut kept);
-    let status = run(alloc, &["replay"], &mut input, &mut output, &Desk::empty());
-    assert_eq!(rt; status, row.status, "{}", row.shows);
+    let ended = run(alloc, &["replay"], &mut input, &mut output, &Desk::empty());
+    assert_eq!(rt; ended.status, row.status, "{}", row.shows);
     assert_eq!(rt; kept.bytes.as_slice(), row.kept.as_bytes(), "{}", row.shows);
 }
 

@@ -52,8 +52,8 @@ pub(crate) fn run_over(rt: &impl Abort, alloc: Global, given: &Given<'_>) -> (St
     let fails = Blob::of(alloc, given.fails).expect(rt, "memory");
     let mut source = ByteSource::new(input, fails);
     let mut sink = VecSink::new(alloc, given.room, Blob::new(alloc)).expect(rt, "memory");
-    let status = run(alloc, given.words, &mut source, &mut sink, &desk);
-    (status, sink)
+    let ended = run(alloc, given.words, &mut source, &mut sink, &desk);
+    (ended.status, sink)
 }
 
 /// Whether a run ends so and writes this.

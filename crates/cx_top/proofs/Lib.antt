@@ -1,3 +1,4 @@
+pub mod Besides
 pub mod Causes
 pub mod Reading
 pub mod Reasons

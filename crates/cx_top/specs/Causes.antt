@@ -1,5 +1,5 @@
 -- Why a command refuses its input, and how it must end where nothing is in its way.
-use Rattle.std.specs.Prelude.{ℕ, ◌<◌, ◌≤◌, ◌≡◌, List, length, drop, Option, Some, None}
+use Rattle.std.specs.Prelude.{ℕ, ◌<◌, ◌≤◌, ◌≡◌, ◌⊎◌, List, [], length, drop, string_bytes, Option, Some, None}
 use Rattle.cx_base.specs.Streams.{Rose}
 use Rattle.cx_keyring.specs.declared.entries.Entry.{Entry}
 use Rattle.cx_keyring.specs.declared.faults.KeyringFault.{KeyringFault}
@@ -14,7 +14,9 @@ use Rattle.cx_top.specs.declared.commands.Subcommand.{Subcommand}
 use Rattle.cx_top.specs.declared.commands.Subcommand.TheVariants.{Replay, Keyring}
 use Rattle.cx_top.specs.declared.status.Status.{Status}
 use Rattle.cx_top.specs.declared.status.Status.TheVariants.{Done, Usage, BadSchedule, ReadFault, WriteFault, OutOfMemory, BadKeyring, Broken, TooLong, NotYet}
+use Rattle.cx_top.specs.declared.program_end.ProgramEnd.{ProgramEnd}
 use Rattle.cx_top.specs.Replays.{GaveAll}
+use Rattle.cx_top.specs.Told.{refusal_told}
 
 -- ---- the bytes
 
@@ -54,44 +56,54 @@ abbrev pub IsAnswered : Subcommand → List ℕ → Type 0
 IsAnswered Replay bytes = (script : List Numbered) × Lines bytes script × (first_unserved script ≡ None) × IsShort bytes
 IsAnswered Keyring bytes = (ring : List Entry) × KeyringText bytes ring × (length ring ≤ 4096) × IsShort bytes
 
+-- how a run of these bytes ended that are refused with this status: with it, and what is said of the bytes; or memory is wanting
+abbrev pub IsEndOf : List ℕ → Status → ProgramEnd → Type 0
+IsEndOf bytes status ended =
+    (ended.status ≡ OutOfMemory) ⊎ ((ended.status ≡ status) × (string_bytes ended.told ≡ refusal_told bytes status))
+
+-- how it ended with bytes that are refused: with a status for which there is a cause, and what is said of the bytes
+abbrev pub IsBytesEnd : Subcommand → List ℕ → ProgramEnd → Type 0
+IsBytesEnd command bytes ended = (status : Status) × IsBytesCause command bytes status × IsEndOf bytes status ended
+
 -- ---- the input
 
--- the whole input was read, and must be refused with this status
-pub record IsRefused (command : Subcommand) (left now : Option (List ℕ)) (status : Status) : Type 0 where
+-- the whole input was read, and must be refused with this status, of which this is said
+pub record IsRefused (command : Subcommand) (left now : Option (List ℕ)) (status : Status) (told : List ℕ) : Type 0 where
   pub bytes : List ℕ
   pub read : GaveAll left now bytes
   pub cause : IsReasonFor command bytes status
+  pub says : told ≡ refusal_told bytes status
 
 -- where the source tells it: the input passes a limit, and no more was taken of it than one byte above the limit of bytes
 abbrev pub IsTooLong : Option (List ℕ) → Option (List ℕ) → Type 0
 IsTooLong None now = Unit {0}
 IsTooLong (Some left) now = (IsShort left → ⊥) × (now ≡ Some (drop 1048577 left))
 
--- why the input is refused: by a limit, or at a line. The other statuses don't speak of it
-abbrev pub IsRefusedStatus : Subcommand → Option (List ℕ) → Option (List ℕ) → Status → Type 0
-IsRefusedStatus command left now TooLong = IsTooLong left now
-IsRefusedStatus command left now (BadSchedule line bad) = IsRefused command left now (BadSchedule line bad)
-IsRefusedStatus command left now (NotYet line) = IsRefused command left now (NotYet line)
-IsRefusedStatus command left now (BadKeyring line why) = IsRefused command left now (BadKeyring line why)
-IsRefusedStatus command left now Done = Unit {0}
-IsRefusedStatus command left now Usage = Unit {0}
-IsRefusedStatus command left now ReadFault = Unit {0}
-IsRefusedStatus command left now WriteFault = Unit {0}
-IsRefusedStatus command left now Broken = Unit {0}
-IsRefusedStatus command left now OutOfMemory = Unit {0}
+-- why the input is refused: by a limit, or at a line; and what is said of it. The other statuses don't speak of it
+abbrev pub IsRefusedStatus : Subcommand → Option (List ℕ) → Option (List ℕ) → Status → List ℕ → Type 0
+IsRefusedStatus command left now TooLong told = IsTooLong left now × (told ≡ [])
+IsRefusedStatus command left now (BadSchedule line bad) told = IsRefused command left now (BadSchedule line bad) told
+IsRefusedStatus command left now (NotYet line) told = IsRefused command left now (NotYet line) told
+IsRefusedStatus command left now (BadKeyring line why) told = IsRefused command left now (BadKeyring line why) told
+IsRefusedStatus command left now Done told = Unit {0}
+IsRefusedStatus command left now Usage told = Unit {0}
+IsRefusedStatus command left now ReadFault told = told ≡ []
+IsRefusedStatus command left now WriteFault told = told ≡ []
+IsRefusedStatus command left now Broken told = Unit {0}
+IsRefusedStatus command left now OutOfMemory told = Unit {0}
 
 -- why there is no text for this input: the count of its faults rose, or it is refused; want of memory is free
-abbrev pub IsInputCause : Subcommand → Option (List ℕ) → Option (List ℕ) → ℕ → ℕ → Status → Type 0
-IsInputCause command left now before after ReadFault = Rose before after
-IsInputCause command left now before after TooLong = IsTooLong left now
-IsInputCause command left now before after (BadSchedule line bad) = IsRefused command left now (BadSchedule line bad)
-IsInputCause command left now before after (NotYet line) = IsRefused command left now (NotYet line)
-IsInputCause command left now before after (BadKeyring line why) = IsRefused command left now (BadKeyring line why)
-IsInputCause command left now before after OutOfMemory = Unit {0}
-IsInputCause command left now before after Done = ⊥
-IsInputCause command left now before after Usage = ⊥
-IsInputCause command left now before after WriteFault = ⊥
-IsInputCause command left now before after Broken = ⊥
+abbrev pub IsInputCause : Subcommand → Option (List ℕ) → Option (List ℕ) → ℕ → ℕ → Status → List ℕ → Type 0
+IsInputCause command left now before after ReadFault told = Rose before after × (told ≡ [])
+IsInputCause command left now before after TooLong told = IsTooLong left now × (told ≡ [])
+IsInputCause command left now before after (BadSchedule line bad) told = IsRefused command left now (BadSchedule line bad) told
+IsInputCause command left now before after (NotYet line) told = IsRefused command left now (NotYet line) told
+IsInputCause command left now before after (BadKeyring line why) told = IsRefused command left now (BadKeyring line why) told
+IsInputCause command left now before after OutOfMemory told = Unit {0}
+IsInputCause command left now before after Done told = ⊥
+IsInputCause command left now before after Usage told = ⊥
+IsInputCause command left now before after WriteFault told = ⊥
+IsInputCause command left now before after Broken told = ⊥
 
 -- the source tells what it has, and that is a schedule or a keyring within the limits
 abbrev pub HasAnswer : Subcommand → Option (List ℕ) → Type 0

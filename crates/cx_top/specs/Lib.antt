@@ -1,6 +1,9 @@
 pub mod Causes
 pub mod Commands
 pub mod Inputs
+pub mod Notes
 pub mod Replays
 pub mod Sentences
 pub mod Statuses
+pub mod Told
+pub mod Unserved

@@ -2,10 +2,10 @@
 use Rattle.std.specs.Prelude.{ℕ, List, [], codes, Some, None}
 use Rattle.std.specs.Fmt.{decimal}
 use Rattle.cx_base.specs.Joined.{◌<>◌}
-use Rattle.cx_keyring.specs.Sentences.{fault_text}
-use Rattle.cx_keyring.specs.declared.faults.KeyringFault.{KeyringFault}
-use Rattle.cx_lines.specs.declared.sight.BadWord.{BadWord}
+use Rattle.cx_keyring_help.specs.Sentences.{wrong_keyring_text}
+use Rattle.cx_keyring_help.specs.declared.details.Detail.TheVariants.{Nothing}
 use Rattle.cx_line_help.specs.Wrong.{wrong_text}
+use Rattle.cx_line_help.specs.declared.sights.LineSight.{LineSight}
 use Rattle.cx_top.specs.declared.status.Status.{Status}
 use Rattle.cx_top.specs.declared.status.Status.TheVariants.{Done, Usage, BadSchedule, ReadFault, WriteFault, OutOfMemory, BadKeyring, Broken, TooLong, NotYet}
 
@@ -14,25 +14,18 @@ abbrev pub usage_text : List ℕ
 usage_text =
     codes "the commands are:\n\n  cephx_cli replay\n      reads a schedule from standard input, and writes the journal of its run to standard output, as in:\n      printf 'entity client.a\\nclock 1000\\nlogin client.a\\n' | cephx_cli replay\n      cephx_cli replay < examples/first_login.schedule\n\n  cephx_cli keyring\n      reads a keyring from standard input, and writes it to standard output in its printed form, as in:\n      cephx_cli keyring < /etc/ceph/ceph.client.admin.keyring\n      cephx_cli keyring < examples/keyrings/two_entities.keyring\n\ndocs/guide.md says what the lines of a schedule, of a journal and of a keyring mean"
 
-abbrev pub unserved_text : List ℕ
-unserved_text =
-    codes "renew, drop and tick lines, do before another line than login, and restarts of daemons are to come, and beside fetch, connect and send lines stand lifetime, auth-lifetime, entity, clock and login lines alone, without lossy and clocks of one node; leave it out, or the fetch, connect and send lines"
-
 abbrev pub unserved_line_text : ℕ → List ℕ
-unserved_line_text line = codes "line " <> decimal line <> codes " of the schedule is a good one, but not served yet: " <> unserved_text
+unserved_line_text line = codes "line " <> decimal line <> codes " of the schedule is a good one, but not served yet"
 
-abbrev pub bad_line_text : ℕ → BadWord → List ℕ
-bad_line_text line bad = codes "line " <> decimal line <> codes " of the schedule: " <> wrong_text bad
+abbrev pub bad_line_text : ℕ → LineSight → List ℕ
+bad_line_text line sight = codes "line " <> decimal line <> codes " of the schedule: " <> wrong_text sight
 
-abbrev pub bad_keyring_text : ℕ → KeyringFault → List ℕ
-bad_keyring_text line why = codes "line " <> decimal line <> codes " of the keyring is wrong: " <> fault_text why
-
--- nothing where all is well
+-- what a status tells by itself; nothing where all is well
 abbrev pub status_text : Status → List ℕ
 status_text Done = []
 status_text Usage = usage_text
-status_text (BadSchedule line bad) = bad_line_text line bad
-status_text (BadKeyring line (Some why)) = bad_keyring_text line why
+status_text (BadSchedule line bad) = bad_line_text line (record { bad = bad; remark = None })
+status_text (BadKeyring line (Some why)) = wrong_keyring_text (record { line = line; why = why; detail = Nothing })
 status_text (BadKeyring line None) =
     codes "the keyring has more than 4,096 sections; keep those of the entities that are in use"
 status_text ReadFault =
@@ -44,5 +37,4 @@ status_text OutOfMemory =
 status_text TooLong =
     codes "the input is too long: at most 1,048,576 bytes and 20,000 lines are read; cut it into files of their own"
 status_text (NotYet line) = unserved_line_text line
-status_text Broken =
-    codes "a premise of the run is broken: the last line of the journal says which, at which node, at what and at which line; for a draw give the nodes different seeds, and for sealing leave out what is injected there, or leak the client under whose keys it is made"
+status_text Broken = codes "a premise of the run is broken"

@@ -15,11 +15,13 @@ pub enum Subcommand {
     Keyring,
 }
 
-/// What a command makes of its input: the text that is to be written, and whether a run broke a premise.
+/// What a command makes of its input: the text that is to be written, whether a run broke a premise, and what is said besides
+/// on standard error.
 #[derive(Debug, Drop)]
 pub struct Made {
     pub text: Blob,
     pub is_broken: bool,
+    pub told: String,
 }
 
 /// The command whose one word these words are.

@@ -4,10 +4,15 @@
 mod commands;
 mod input;
 mod keyring;
+mod notes;
+mod program_end;
 mod replay;
 mod sentences;
 mod status;
+mod told;
 mod top;
+mod unserved;
 
+pub use program_end::ProgramEnd;
 pub use status::Status;
 pub use top::run;

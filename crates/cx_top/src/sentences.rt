@@ -1,15 +1,18 @@
-//! What a user reads of each status: what was wrong, and what to try.
+//! What a user reads of each status: what was wrong, and what to try; and what is said of an input or a run besides.
 
 ghost use Rattle.std.specs.Prelude.{◌≡◌};
 ghost use Rattle.cx_top.specs.Sentences.{usage_text};
 
 use crate::status::Status;
-use cx_keyring::KeyringFault;
-use cx_line_help::Wrong;
-use cx_lines::BadWord;
+use crate::unserved::{Unserved, unserved_text};
+use cx_journal::{Broken, Premise};
+use cx_keyring_help::{Detail, WrongInKeyring};
+use cx_line_help::{LineSight, Word, Wrong};
+use cx_line_words::shown_of;
 use std::fmt;
 
-/// A sentence for each status but `Done`, which has none; for wrong words the commands that are served, with examples.
+/// A sentence for each status but `Done`, which has none: what it tells by itself; for wrong words the commands that are served,
+/// with examples.
 impl fmt::Display for Status {
     ghost use Rattle.std.specs.Prelude.{Some};
     ghost use Rattle.cx_top.specs.Sentences.{status_text};
@@ -20,11 +23,24 @@ impl fmt::Display for Status {
         match self {
             Status::Done => Ok(()),
             Status::Usage => write!(f, "{}", usage()),
-            Status::BadSchedule { line, bad } => write!(f, "{}", OfSchedule(*line, bad)),
+            Status::BadSchedule { line, bad } => {
+                let sight = LineSight {
+                    bad: *bad,
+                    remark: None,
+                };
+                write!(f, "{}", OfSchedule(*line, &sight))
+            }
             Status::BadKeyring {
                 line,
                 why: Some(why),
-            } => write!(f, "{}", OfKeyring(*line, *why)),
+            } => {
+                let wrong = WrongInKeyring {
+                    line: *line,
+                    why: *why,
+                    detail: Detail::Nothing,
+                };
+                write!(f, "{}", wrong)
+            }
             Status::BadKeyring { why: None, .. } => write!(
                 f,
                 "the keyring has more than 4,096 sections; keep those of the entities that are in use"
@@ -43,12 +59,7 @@ impl fmt::Display for Status {
                 f,
                 "memory was wanting, and nothing was written; give the program more memory, or a shorter input"
             ),
-            Status::Broken => write!(
-                f,
-                "a premise of the run is broken: the last line of the journal says which, at which node, at what and at which \
-                line; for a draw give the nodes different seeds, and for sealing leave out what is injected there, or leak \
-                the client under whose keys it is made"
-            ),
+            Status::Broken => write!(f, "a premise of the run is broken"),
             Status::TooLong => write!(
                 f,
                 "the input is too long: at most 1,048,576 bytes and 20,000 lines are read; cut it into files of their own"
@@ -58,9 +69,9 @@ impl fmt::Display for Status {
     }
 }
 
-/// A line of a schedule, and what is wrong with it.
+/// A line of a schedule, and what is told of it.
 #[derive(Clone, Copy)]
-struct OfSchedule<'a>(u32, &'a BadWord);
+pub(crate) struct OfSchedule<'a>(pub(crate) u32, pub(crate) &'a LineSight);
 
 impl fmt::Display for OfSchedule<'_> {
     ghost use Rattle.std.specs.Prelude.{Some};
@@ -70,21 +81,6 @@ impl fmt::Display for OfSchedule<'_> {
 
     fn fmt<W: fmt::Write>(&self, f: &mut fmt::Formatter<W>) -> fmt::Result {
         write!(f, "line {} of the schedule: {}", self.0, Wrong(self.1))
-    }
-}
-
-/// A line of a keyring, and what is wrong with it.
-#[derive(Clone, Copy)]
-struct OfKeyring(u64, KeyringFault);
-
-impl fmt::Display for OfKeyring {
-    ghost use Rattle.std.specs.Prelude.{Some};
-    ghost use Rattle.cx_top.specs.Sentences.{bad_keyring_text};
-
-    ghost output = { λ wrong. Some (bad_keyring_text wrong.0 wrong.1) };
-
-    fn fmt<W: fmt::Write>(&self, f: &mut fmt::Formatter<W>) -> fmt::Result {
-        write!(f, "line {} of the keyring is wrong: {}", self.0, self.1)
     }
 }
 
@@ -101,28 +97,191 @@ impl fmt::Display for NotServed {
     fn fmt<W: fmt::Write>(&self, f: &mut fmt::Formatter<W>) -> fmt::Result {
         write!(
             f,
-            "line {} of the schedule is a good one, but not served yet: {}",
-            self.0, ToCome
+            "line {} of the schedule is a good one, but not served yet",
+            self.0
         )
     }
 }
 
-/// The lines that are not served yet, alone or beside others.
+/// The same with its cause.
 #[derive(Clone, Copy)]
-struct ToCome;
+pub(crate) struct UnservedLine(pub(crate) u32, pub(crate) Unserved);
 
-impl fmt::Display for ToCome {
+impl fmt::Display for UnservedLine {
     ghost use Rattle.std.specs.Prelude.{Some};
-    ghost use Rattle.cx_top.specs.Sentences.{unserved_text};
+    ghost use Rattle.cx_top.specs.Told.{unserved_told};
 
-    ghost output = { λ _. Some unserved_text };
+    ghost output = { λ line. Some (unserved_told line.0 line.1) };
+
+    fn fmt<W: fmt::Write>(&self, f: &mut fmt::Formatter<W>) -> fmt::Result {
+        write!(f, "{}: {}", NotServed(self.0), unserved_text(self.1))
+    }
+}
+
+/// The word of a command, and one too many behind it.
+#[derive(Clone, Copy)]
+pub(crate) struct ExtraWord<'a>(pub(crate) &'a str, pub(crate) &'a str);
+
+impl fmt::Display for ExtraWord<'_> {
+    ghost use Rattle.std.specs.Prelude.{Some};
+    ghost use Rattle.cx_top.specs.Told.{extra_word_text};
+
+    ghost output = { λ words. Some (extra_word_text words.0.now words.1.now) };
+
+    fn fmt<W: fmt::Write>(&self, f: &mut fmt::Formatter<W>) -> fmt::Result {
+        let shown = shown_of(self.1.as_bytes());
+        write!(
+            f,
+            "word 2, {}, is one too many: {} reads standard input, as in: cephx_cli {} < FILE",
+            Word(&shown),
+            self.0,
+            self.0
+        )
+    }
+}
+
+/// The line for standard error on the first breach of a premise, if there is one.
+#[derive(Clone, Copy)]
+pub(crate) struct BreachTold<'a>(pub(crate) &'a Option<Broken>);
+
+impl fmt::Display for BreachTold<'_> {
+    ghost use Rattle.std.specs.Prelude.{Some};
+    ghost use Rattle.cx_top.specs.Told.{broken_told};
+
+    ghost output = { λ breach. Some (broken_told breach.0.now) };
+
+    fn fmt<W: fmt::Write>(&self, f: &mut fmt::Formatter<W>) -> fmt::Result {
+        match self.0 {
+            Some(broken) => write!(f, "cephx_cli: {}\n", BrokenAt(broken)),
+            None => Ok(()),
+        }
+    }
+}
+
+/// The first breach of a premise.
+#[derive(Clone, Copy)]
+struct BrokenAt<'a>(&'a Broken);
+
+impl fmt::Display for BrokenAt<'_> {
+    ghost use Rattle.std.specs.Prelude.{Some};
+    ghost use Rattle.cx_top.specs.Told.{broken_text};
+
+    ghost output = { λ breach. Some (broken_text breach.0.now) };
+
+    fn fmt<W: fmt::Write>(&self, f: &mut fmt::Formatter<W>) -> fmt::Result {
+        write!(f, "{}: {}", Status::Broken, Breach(self.0))
+    }
+}
+
+/// What broke a premise, and what to do.
+#[derive(Clone, Copy)]
+struct Breach<'a>(&'a Broken);
+
+impl fmt::Display for Breach<'_> {
+    ghost use Rattle.std.specs.Prelude.{Some};
+    ghost use Rattle.cx_top.specs.Told.{breach_of};
+
+    ghost output = { λ breach. Some (breach_of breach.0.now) };
+
+    fn fmt<W: fmt::Write>(&self, f: &mut fmt::Formatter<W>) -> fmt::Result {
+        let broken = self.0;
+        match broken.why {
+            Premise::Sealing => write!(
+                f,
+                "what opens was sealed before, and what is found equal was made before; but {}, {} opened or found equal what \
+                nobody had made under its key, of the kind {}; leave out what is injected there, or leak the client under \
+                whose keys it is made",
+                Place(broken.line),
+                broken.node,
+                broken.kind
+            ),
+            Premise::Draw => write!(
+                f,
+                "no draw repeats; but {}, {} drew what had been drawn before, of the kind {}; give the nodes different seeds",
+                Place(broken.line),
+                broken.node,
+                broken.kind
+            ),
+        }
+    }
+}
+
+/// Where in a schedule.
+#[derive(Clone, Copy)]
+struct Place(u32);
+
+impl fmt::Display for Place {
+    ghost use Rattle.std.specs.Prelude.{Some};
+    ghost use Rattle.cx_top.specs.Told.{place_text};
+
+    ghost output = { λ place. Some (place_text place.0) };
+
+    fn fmt<W: fmt::Write>(&self, f: &mut fmt::Formatter<W>) -> fmt::Result {
+        if self.0 == 0 {
+            return write!(f, "before the first line");
+        }
+        write!(f, "at line {}", self.0)
+    }
+}
+
+/// The line for standard error on lines that did nothing, if there are any.
+#[derive(Clone, Copy)]
+pub(crate) struct IdleTold(pub(crate) u64);
+
+impl fmt::Display for IdleTold {
+    ghost use Rattle.std.specs.Prelude.{Some};
+    ghost use Rattle.cx_top.specs.Told.{idle_told};
+
+    ghost output = { λ idle. Some (idle_told idle.0) };
+
+    fn fmt<W: fmt::Write>(&self, f: &mut fmt::Formatter<W>) -> fmt::Result {
+        if self.0 == 0 {
+            return Ok(());
+        }
+        write!(f, "cephx_cli: {}\n", Idle(self.0))
+    }
+}
+
+/// A line of a keyring whose caps grant nothing.
+#[derive(Clone, Copy)]
+pub(crate) struct Ungranting(pub(crate) u64);
+
+impl fmt::Display for Ungranting {
+    ghost use Rattle.std.specs.Prelude.{Some};
+    ghost use Rattle.cx_top.specs.Notes.{ungranting_text};
+
+    ghost output = { λ line. Some (ungranting_text line.0) };
 
     fn fmt<W: fmt::Write>(&self, f: &mut fmt::Formatter<W>) -> fmt::Result {
         write!(
             f,
-            "renew, drop and tick lines, do before another line than login, and restarts of daemons are to come, and beside \
-            fetch, connect and send lines stand lifetime, auth-lifetime, entity, clock and login lines alone, without lossy \
-            and clocks of one node; leave it out, or the fetch, connect and send lines"
+            "line {} of the keyring has caps that grant nothing: none of their clauses is one of those that docs/caps.md says",
+            self.0
+        )
+    }
+}
+
+/// So many lines did nothing.
+#[derive(Clone, Copy)]
+struct Idle(u64);
+
+impl fmt::Display for Idle {
+    ghost use Rattle.std.specs.Prelude.{Some};
+    ghost use Rattle.cx_top.specs.Told.{idle_text};
+
+    ghost output = { λ idle. Some (idle_text idle.0) };
+
+    fn fmt<W: fmt::Write>(&self, f: &mut fmt::Formatter<W>) -> fmt::Result {
+        if self.0 == 1 {
+            return write!(
+                f,
+                "1 line of the schedule did nothing: the link, the end or the piece that it names isn't there"
+            );
+        }
+        write!(
+            f,
+            "{} lines of the schedule did nothing: the links, the ends or the pieces that they name aren't there",
+            self.0
         )
     }
 }

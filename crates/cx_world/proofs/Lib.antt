@@ -2,6 +2,7 @@ pub mod Arrivals
 pub mod Carrying
 pub mod Changing
 pub mod Giving
+pub mod Idling
 pub mod Logging
 pub mod Making
 pub mod Quiet

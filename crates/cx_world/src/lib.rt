@@ -5,6 +5,7 @@ mod beginning;
 mod deliveries;
 mod ends;
 mod events;
+mod idle;
 mod lines;
 mod link_steps;
 mod node_steps;

@@ -14,6 +14,7 @@ ghost use Rattle.cx_steps.specs.Breach.{IsFound};
 ghost use Rattle.cx_steps.specs.declared.seals.Logged.{Logged};
 ghost use Rattle.cx_world.specs.Beginning.{began};
 ghost use Rattle.cx_world.specs.Carried.{Carries, MakesAlone};
+ghost use Rattle.cx_world.specs.Idle.{idle_lines, CountsIdle};
 
 use crate::records::Record;
 use crate::world::World;
@@ -25,11 +26,12 @@ use cx_run_head::Setup;
 use cx_schedule::Script;
 use std::alloc::{AllocError, Global};
 
-/// What comes of a run: its journal, and the first breach of its premises, if they are broken.
+/// What comes of a run: its journal, the first breach of its premises, if they are broken, and how many of its lines did nothing.
 #[derive(Drop)]
 pub struct Report {
     pub journal: Journal,
     pub broken: Option<Broken>,
+    pub idle: u64,
 }
 
 /// The run of a schedule of which each line is served.
@@ -39,7 +41,9 @@ pub fn run(alloc: Global, script: &Script) -> Result<Report, AllocError>
     requires served { first_unserved script.now ≡ None }
     ensures journal { IfOk result (λ report. report.journal ≡ run_journal script.now) }
     ensures found { IfOk result (λ report. IsFoundOf script.now report.broken) }
+    ensures idle { IfOk result (λ report. report.idle ≡ idle_lines script.now) }
 {
+    let (world, idle) = behind_all(alloc, script.lines())?;
     let World {
         nodes: _,
         wires: _,
@@ -47,35 +51,43 @@ pub fn run(alloc: Global, script: &Script) -> Result<Report, AllocError>
         line: _,
         told,
         stirred: _,
-    } = behind_all(alloc, script.lines())?;
+    } = world;
     let Record { journal, ledger } = told;
     let broken = first_breach(alloc, &ledger)?;
-    Ok(Report { journal, broken })
+    Ok(Report {
+        journal,
+        broken,
+        idle,
+    })
 }
 
-/// The world behind all lines of a schedule.
+/// The world behind all lines of a schedule, and how many of these did nothing.
 #[tactic(auto, using(crate::proofs::Started::in_range, crate::proofs::Started::all_served))]
-fn behind_all(alloc: Global, lines: &[Numbered]) -> Result<World, AllocError>
+fn behind_all(alloc: Global, lines: &[Numbered]) -> Result<(World, u64), AllocError>
     requires schedule { IsSchedule lines.now }
     requires served { first_unserved lines.now ≡ None }
-    ensures { IfOk result (λ world. Carries (began (setup_of lines.now)) None world (after_lines (opening_world (setup_of lines.now)) lines.now)) }
+    ensures world { IfOk result (λ found. Carries (began (setup_of lines.now)) None found.0 (after_lines (opening_world (setup_of lines.now)) lines.now)) }
+    ensures idle { IfOk result (λ found. found.1 ≡ idle_lines lines.now) }
 {
     let setup = Setup::of(alloc, lines)?;
     let mut world = World::begin(alloc, &setup)?;
-    act_all(alloc, &mut world, lines)?;
-    Ok(world)
+    let idle = act_all(alloc, &mut world, lines)?;
+    Ok((world, idle))
 }
 
-/// What all of these lines do, one by one.
-fn act_all(alloc: Global, world: &mut World, lines: &[Numbered]) -> Result<(), AllocError>
+/// What all of these lines do, one by one, and how many of them do nothing.
+fn act_all(alloc: Global, world: &mut World, lines: &[Numbered]) -> Result<u64, AllocError>
     requires in_range { IsTrue (list_all is_numbered_in_range lines.now) }
     requires served { IsTrue (list_all is_numbered_served lines.now) }
-    ensures { OnOk result (MakesAlone world.old world.new (λ w. after_lines w lines.now)) }
+    ensures acts { OnOk result (MakesAlone world.old world.new (λ w. after_lines w lines.now)) }
+    ensures idle { IfOk result (CountsIdle world.old lines.now) }
 {
+    let mut idle = 0;
     for line in lines {
+        idle += world.idle_at(&line.line);
         world.act(alloc, line)?;
     }
-    Ok(())
+    Ok(idle)
 }
 
 /// The first breach of the premises that a ledger tells, if they are broken.

@@ -4,4 +4,4 @@ use Rattle.cx_top.proofs.top.text_from.Goals as goal
 
 pub returns-clause-cause : goal.returns-clause-cause
 returns-clause-cause g c =
-    input_cause c.args.command c.text_of.result _ _ _ _ _ _ c.in_ok-bytes.ensures.all c.in_ok-bytes.ensures.short c.bytes-2.ensures c.text_of.ensures.cause
+    input_cause c.args.command c.made_of.result _ _ _ _ _ _ (rw c.in-Ok.is at c.read_all.ensures.all) (rw c.in-Ok.is at c.read_all.ensures.short) c.bytes-2.ensures c.made_of.ensures.cause

@@ -1,8 +1,14 @@
-use Rattle.std.proofs.Common.{take}
+-- The lines so far were acted on, and so many of them did nothing.
+use Rattle.std.proofs.Common.{◌≤◌, take}
 use Rattle.cx_run.specs.Schedules.{after_lines}
 use Rattle.cx_run.specs.Worlds.{World as RunWorld}
 use Rattle.cx_world.specs.Carried.{MakesAlone}
+use Rattle.cx_world.specs.Idle.{CountsIdle}
 use Rattle.cx_world.proofs.runs.act_all.Given as goal
 
 abbrev pub invariant-loop-line : goal.invariant-loop-line
-invariant-loop-line l = MakesAlone l.initial.world l.world (λ (w : RunWorld). after_lines w (take l.line-index l.lines))
+invariant-loop-line l = record {
+  acts : MakesAlone l.initial.world l.world (λ (w : RunWorld). after_lines w (take l.line-index l.lines));
+  idle : CountsIdle l.initial.world (take l.line-index l.lines) l.idle;
+  few : l.idle ≤ l.line-index;
+}

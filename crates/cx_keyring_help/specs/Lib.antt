@@ -1,0 +1,5 @@
+pub mod Details
+pub mod Grants
+pub mod Sentences
+pub mod Settings
+pub mod Standing

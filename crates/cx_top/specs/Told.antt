@@ -1,0 +1,124 @@
+-- What is said on standard error of how a run ended, where the sentence of its status doesn't say all: lines, each with the
+-- program's name in front.
+use Rattle.std.specs.Prelude.{ℕ, ◌==◌, Bool, true, false, List, [], ◌∷◌, codes, Option, Some, None, if◌then◌else◌}
+use Rattle.std.specs.Fmt.{decimal}
+use Rattle.std.specs.Str.{bytes_eq}
+use Rattle.cx_base.specs.Joined.{◌<>◌}
+use Rattle.cx_base.specs.Nodes.{node_text}
+use Rattle.cx_journal.specs.Words.{key_kind_word}
+use Rattle.cx_journal.specs.declared.premises.Broken.{Broken}
+use Rattle.cx_journal.specs.declared.premises.Premise.{Premise}
+use Rattle.cx_journal.specs.declared.premises.Premise.TheVariants as premise
+use Rattle.cx_keyring_help.specs.Details.{detail_of}
+use Rattle.cx_keyring_help.specs.Sentences.{wrong_keyring_text}
+use Rattle.cx_line_help.specs.Sights.{line_at, sight_of}
+use Rattle.cx_line_help.specs.Words.{word_text}
+use Rattle.cx_line_words.specs.Sights.{shown_of}
+use Rattle.cx_words.specs.Cutting.{lines_of}
+use Rattle.cx_top.specs.declared.status.Status.{Status}
+use Rattle.cx_top.specs.declared.unserved.Unserved.{Unserved}
+use Rattle.cx_top.specs.declared.status.Status.TheVariants.{Done, Usage, BadSchedule, ReadFault, WriteFault, OutOfMemory, BadKeyring, Broken as BrokenStatus, TooLong, NotYet}
+use Rattle.cx_top.specs.Sentences.{bad_line_text, status_text, unserved_line_text}
+use Rattle.cx_top.specs.Unserved.{unserved_of, unserved_text}
+
+-- a line of standard error
+abbrev pub line_told : List ℕ → List ℕ
+line_told text = codes "cephx_cli: " <> text <> codes "\n"
+
+-- ---- inputs that are refused
+
+-- a line that isn't served, and why
+abbrev pub unserved_told : ℕ → Unserved → List ℕ
+unserved_told line why = unserved_line_text line <> codes ": " <> unserved_text why
+
+abbrev pub refusal_told : List ℕ → Status → List ℕ
+refusal_told bytes (BadSchedule line bad) = line_told (bad_line_text line (sight_of (line_at (lines_of bytes) line) bad))
+refusal_told bytes (BadKeyring line (Some why)) =
+    line_told (wrong_keyring_text (record { line = line; why = why; detail = detail_of (lines_of bytes) line why }))
+refusal_told bytes (NotYet line) =
+    line_told (unserved_told line (unserved_of (line_at (lines_of bytes) line)))
+refusal_told bytes (BadKeyring line None) = []
+refusal_told bytes Done = []
+refusal_told bytes Usage = []
+refusal_told bytes ReadFault = []
+refusal_told bytes WriteFault = []
+refusal_told bytes OutOfMemory = []
+refusal_told bytes BrokenStatus = []
+refusal_told bytes TooLong = []
+
+-- ---- wrong words of the command line
+
+-- a word behind that of a command
+abbrev pub extra_word_text : List ℕ → List ℕ → List ℕ
+extra_word_text command word =
+    codes "word 2, " <> word_text (shown_of word) <> codes ", is one too many: " <> command
+    <> codes " reads standard input, as in: cephx_cli " <> command <> codes " < FILE"
+
+abbrev pub usage_told : List (List ℕ) → List ℕ
+usage_told [] = []
+usage_told (command ∷ []) = []
+usage_told (command ∷ word ∷ words) =
+    if bytes_eq command (codes "replay") then line_told (extra_word_text command word)
+    else if bytes_eq command (codes "keyring") then line_told (extra_word_text command word)
+    else []
+
+-- ---- runs
+
+-- where a premise was broken: the secrets of entities are drawn before the first line
+abbrev pub place_text : ℕ → List ℕ
+place_text line = if line == 0 then codes "before the first line" else codes "at line " <> decimal line
+
+-- what broke it, and what to do
+abbrev pub breach_text : Premise → List ℕ → List ℕ → List ℕ → List ℕ
+breach_text premise.Sealing place node kind =
+    codes "what opens was sealed before, and what is found equal was made before; but " <> place <> codes ", " <> node
+    <> codes " opened or found equal what nobody had made under its key, of the kind " <> kind
+    <> codes "; leave out what is injected there, or leak the client under whose keys it is made"
+breach_text premise.Draw place node kind =
+    codes "no draw repeats; but " <> place <> codes ", " <> node <> codes " drew what had been drawn before, of the kind " <> kind
+    <> codes "; give the nodes different seeds"
+
+abbrev pub breach_of : Broken → List ℕ
+breach_of broken = breach_text broken.why (place_text broken.line) (node_text broken.node) (key_kind_word broken.kind)
+
+abbrev pub broken_text : Broken → List ℕ
+broken_text broken = status_text BrokenStatus <> codes ": " <> breach_of broken
+
+abbrev pub broken_told : Option Broken → List ℕ
+broken_told None = []
+broken_told (Some broken) = line_told (broken_text broken)
+
+-- how many lines did nothing
+abbrev pub idle_text : ℕ → List ℕ
+idle_text idle =
+    if idle == 1 then codes "1 line of the schedule did nothing: the link, the end or the piece that it names isn't there"
+    else decimal idle <> codes " lines of the schedule did nothing: the links, the ends or the pieces that they name aren't there"
+
+abbrev pub idle_told : ℕ → List ℕ
+idle_told idle = if idle == 0 then [] else line_told (idle_text idle)
+
+abbrev pub run_told : Option Broken → ℕ → List ℕ
+run_told found idle = broken_told found <> idle_told idle
+
+-- ---- all of it
+
+abbrev pub is_done : Status → Bool
+is_done Done = true
+is_done Usage = false
+is_done (BadSchedule _ _) = false
+is_done ReadFault = false
+is_done WriteFault = false
+is_done OutOfMemory = false
+is_done (BadKeyring _ _) = false
+is_done BrokenStatus = false
+is_done TooLong = false
+is_done (NotYet _) = false
+
+-- the sentence of a status
+abbrev pub status_told : Status → List ℕ
+status_told status = if is_done status then [] else line_told (status_text status)
+
+-- what was told, or else the sentence of the status
+abbrev pub or_told : List ℕ → List ℕ → List ℕ
+or_told [] plain = plain
+or_told (b ∷ bs) plain = b ∷ bs

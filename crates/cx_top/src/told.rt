@@ -1,0 +1,126 @@
+//! What is said on standard error of how a run ended, where the sentence of its status doesn't say all.
+
+ghost use Rattle.std.specs.Prelude.{◌≡◌, ◌⊎◌, [], map, IfOk, Some, string_bytes};
+ghost use Rattle.std.specs.Str.{bytes_eq};
+ghost use Rattle.cx_top.specs.Causes.{IsEndOf};
+ghost use Rattle.cx_top.specs.Sentences.{bad_line_text};
+ghost use Rattle.cx_top.specs.Told.{extra_word_text, line_told, refusal_told, run_told, usage_told};
+ghost use Rattle.cx_top.specs.declared.status.Status.{Status};
+
+use crate::program_end::ProgramEnd;
+use crate::sentences::{BreachTold, ExtraWord, IdleTold, OfSchedule, UnservedLine};
+use crate::status::Status;
+use crate::unserved::unserved_of;
+use cx_journal::Broken;
+use cx_keyring::KeyringFault;
+use cx_keyring_help::{WrongInKeyring, detail_of};
+use cx_line_help::{LineSight, line_at, sight_of};
+use cx_lines::BadWord;
+use std::alloc::{AllocError, Global};
+
+#[tactic(auto, using(crate::proofs::Causes::ends_so, crate::proofs::Causes::ends_dry))]
+/// How a run of these bytes ended that are refused with this status, or that wants memory.
+pub fn refused(alloc: Global, bytes: &[u8], status: Status) -> ProgramEnd
+    ensures { IsEndOf bytes.now status result }
+{
+    match refusal_told(alloc, bytes, status) {
+        Ok(told) => ProgramEnd { status, told },
+        Err(_) => ProgramEnd::plain(alloc, Status::OutOfMemory),
+    }
+}
+
+fn refusal_told(alloc: Global, bytes: &[u8], status: Status) -> Result<String, AllocError>
+    ensures { IfOk result (λ told. string_bytes told ≡ refusal_told bytes.now status) }
+{
+    match status {
+        Status::BadSchedule { line, bad } => bad_line(alloc, bytes, line, &bad),
+        Status::BadKeyring {
+            line,
+            why: Some(why),
+        } => bad_keyring(alloc, bytes, line, why),
+        Status::NotYet { line } => unserved(alloc, bytes, line),
+        _ => Ok(String::new(alloc)),
+    }
+}
+
+fn bad_line(alloc: Global, bytes: &[u8], line: u32, bad: &BadWord) -> Result<String, AllocError>
+    ensures { IfOk result (λ told. string_bytes told ≡ refusal_told bytes.now (Status.BadSchedule line bad.now)) }
+{
+    let sight = sight_of(alloc, line_at(bytes, line as u64), bad)?;
+    let told = sight_told(alloc, line, &sight)?;
+    Ok(told)
+}
+
+fn sight_told(alloc: Global, line: u32, sight: &LineSight) -> Result<String, AllocError>
+    ensures { IfOk result (λ told. string_bytes told ≡ line_told (bad_line_text line sight.now)) }
+{
+    format!(in alloc; "cephx_cli: {}\n", OfSchedule(line, sight))
+}
+
+fn bad_keyring(
+    alloc: Global,
+    bytes: &[u8],
+    line: u64,
+    why: KeyringFault,
+) -> Result<String, AllocError>
+    ensures { IfOk result (λ told. string_bytes told ≡ refusal_told bytes.now (Status.BadKeyring line (Some why))) }
+{
+    let detail = detail_of(alloc, bytes, line, why)?;
+    format!(in alloc; "cephx_cli: {}\n", WrongInKeyring { line, why, detail })
+}
+
+fn unserved(alloc: Global, bytes: &[u8], line: u32) -> Result<String, AllocError>
+    ensures { IfOk result (λ told. string_bytes told ≡ refusal_told bytes.now (Status.NotYet line)) }
+{
+    let why = unserved_of(line_at(bytes, u64::from(line)));
+    format!(in alloc; "cephx_cli: {}\n", UnservedLine(line, why))
+}
+
+#[tactic(auto, using(crate::proofs::Causes::says_it, crate::proofs::Causes::says_nothing))]
+/// How a run ended whose words are no command's.
+pub fn misused(alloc: Global, words: &[&str]) -> ProgramEnd
+    ensures status { result.status ≡ Status.Usage }
+    ensures told { (string_bytes result.told ≡ []) ⊎ (string_bytes result.told ≡ usage_told (map (λ w. w.now) words.now)) }
+{
+    match usage_told(alloc, words) {
+        Ok(told) => ProgramEnd {
+            status: Status::Usage,
+            told,
+        },
+        Err(_) => ProgramEnd::plain(alloc, Status::Usage),
+    }
+}
+
+fn usage_told(alloc: Global, words: &[&str]) -> Result<String, AllocError>
+    ensures { IfOk result (λ told. string_bytes told ≡ usage_told (map (λ w. w.now) words.now)) }
+{
+    let [command, word, ..] = words else {
+        return Ok(String::new(alloc));
+    };
+    if is_text(command, "replay") {
+        return extra_word(alloc, command, word);
+    }
+    if is_text(command, "keyring") {
+        return extra_word(alloc, command, word);
+    }
+    Ok(String::new(alloc))
+}
+
+fn is_text(word: &str, text: &str) -> bool
+    ensures { result ≡ bytes_eq word.now text.now }
+{
+    word.as_bytes() == text.as_bytes()
+}
+
+fn extra_word(alloc: Global, command: &str, word: &str) -> Result<String, AllocError>
+    ensures { IfOk result (λ told. string_bytes told ≡ line_told (extra_word_text command.now word.now)) }
+{
+    format!(in alloc; "cephx_cli: {}\n", ExtraWord(command, word))
+}
+
+/// What is said of a run: the first breach of its premises, and how many of its lines did nothing.
+pub fn run_told(alloc: Global, broken: &Option<Broken>, idle: u64) -> Result<String, AllocError>
+    ensures { IfOk result (λ told. string_bytes told ≡ run_told broken.now idle) }
+{
+    format!(in alloc; "{}{}", BreachTold(broken), IdleTold(idle))
+}
