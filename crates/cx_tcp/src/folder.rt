@@ -1,0 +1,182 @@
+//! A folder that a keyring and a state are kept in.
+
+ghost use Rattle.std.specs.Prelude.{◌≡◌, ◌≤◌, length, IfOk};
+
+use cx_base::{Blob, Failed};
+use cx_keep::{KeepError, Keeper, Slot};
+use std::alloc::Global;
+use std::fs::{File, Files, OpenOptions, TryLockError};
+use std::io::{Eprint, ErrorKind, Read, Write};
+use std::os::unix::fs::{MetadataExt, OpenOptionsExt};
+use std::{fs, io};
+
+// The most bytes that a file may have.
+const MOST: u64 = 16 << 20;
+
+/// The folder in which the program runs, with the files `keyring` and `state`. A monitor holds it alone: whoever loads the state
+/// locks the folder until it ends, and another load of it fails. A state is written to `state.new` beside the old one, with rights
+/// for its owner alone, brought to the disk and then renamed, so that a stop at any time leaves the old one or the new one. What
+/// the system refuses is printed on standard error.
+#[derive(Drop)]
+pub struct FolderKeeper<R> {
+    rt: R,
+    folder: Option<File>,
+    faults: u64,
+}
+
+impl<R> FolderKeeper<R> {
+    /// The folder in which the program runs.
+    pub fn new(rt: R) -> FolderKeeper<R> {
+        FolderKeeper {
+            rt,
+            folder: None,
+            faults: 0,
+        }
+    }
+}
+
+// The name of the slot's file.
+fn name_of(slot: Slot) -> &'static str {
+    match slot {
+        Slot::Keyring => "keyring",
+        Slot::State => "state",
+    }
+}
+
+impl<R: Files<File = File> + Eprint> Keeper for FolderKeeper<R> {
+    ghost use Rattle.std.specs.Prelude.{None};
+
+    ghost kept = { λ _. None };
+
+    ghost faults = { λ k. k.faults };
+
+    /// A file that isn't there is nothing kept. One of over 16 MiB isn't loaded.
+    fn load(&mut self, alloc: Global, slot: Slot) -> Result<Option<Blob>, KeepError> {
+        let loaded = hold(&self.rt, &mut self.folder, slot).and_then(|()| read(
+            &self.rt, alloc, slot,
+        ));
+        match loaded {
+            Ok(bytes) => Ok(bytes),
+            Err(error) if error.kind() == ErrorKind::OutOfMemory => Err(KeepError::OutOfMemory),
+            Err(error) => {
+                tell(&self.rt, name_of(slot), &error);
+                self.faults = self.faults.saturating_add(1);
+                Err(KeepError::Failed)
+            }
+        }
+    }
+
+    fn save(&mut self, slot: Slot, bytes: &[u8]) -> Result<(), Failed> {
+        match replace(&self.rt, &mut self.folder, slot, bytes) {
+            Ok(()) => Ok(()),
+            Err(error) => {
+                tell(&self.rt, name_of(slot), &error);
+                self.faults = self.faults.saturating_add(1);
+                Err(Failed)
+            }
+        }
+    }
+}
+
+// Opens the folder where that wasn't done yet. Whoever loads the state locks it.
+fn hold<R: Files<File = File>>(rt: &R, folder: &mut Option<File>, slot: Slot) -> io::Result<()> {
+    if folder.is_none() {
+        *folder = Some(fs::open(rt, ".")?);
+    }
+    match (slot, folder) {
+        (Slot::State, Some(held)) => lock(held),
+        _ => Ok(()),
+    }
+}
+
+fn lock(folder: &File) -> io::Result<()> {
+    match folder.try_lock() {
+        Ok(()) => Ok(()),
+        Err(TryLockError::WouldBlock) => Err(io::Error::other(
+            "another monitor runs in this folder",
+        )),
+        Err(TryLockError::Error(error)) => Err(error),
+    }
+}
+
+// What stands in the slot's file, if there is one.
+fn read<R: Files<File = File> + Eprint>(
+    rt: &R,
+    alloc: Global,
+    slot: Slot,
+) -> io::Result<Option<Blob>> {
+    let mut file = match fs::open(rt, name_of(slot)) {
+        Ok(file) => file,
+        Err(error) if error.kind() == ErrorKind::NotFound => return Ok(None),
+        Err(error) => return Err(error),
+    };
+    let told = file.metadata()?;
+    if told.len() > MOST {
+        return Err(io::Error::other("more than 16 MiB"));
+    }
+    if told.mode() % 0o100 != 0 {
+        let name = name_of(slot);
+        let _ = eprintln!(rt; "cephx_cli: {name}: others may read this file: chmod 600 {name}");
+    }
+    whole(&mut file, alloc)
+}
+
+// All bytes of a file of at most 16 MiB.
+fn whole(file: &mut File, alloc: Global) -> io::Result<Option<Blob>> {
+    let mut bytes = Blob::new(alloc);
+    let mut part = [0; 8192];
+    for _ in 0..MOST {
+        let count = read_some(file, &mut part)?;
+        if count == 0 {
+            return Ok(Some(bytes));
+        }
+        bytes.append(alloc, &part[..count])?;
+        if bytes.bytes().len() as u64 > MOST {
+            break;
+        }
+    }
+    Err(io::Error::other("more than 16 MiB"))
+}
+
+// Reads once; a read that a signal interrupts is made again.
+fn read_some(file: &mut File, into: &mut [u8]) -> io::Result<usize>
+    ensures bound { IfOk result (λ count. count ≤ length into.new) }
+    ensures room { length into.new ≡ length into.old }
+{
+    for _ in 0..u64::MAX {
+        match file.read(into) {
+            Err(error) if error.kind() == ErrorKind::Interrupted => {}
+            answer => return answer,
+        }
+    }
+    Ok(0)
+}
+
+// Puts the bytes in place of those that stand in the slot's file.
+fn replace<R: Files<File = File>>(
+    rt: &R,
+    folder: &mut Option<File>,
+    slot: Slot,
+    bytes: &[u8],
+) -> io::Result<()> {
+    let (name, fresh) = match slot {
+        Slot::Keyring => ("keyring", "keyring.new"),
+        Slot::State => ("state", "state.new"),
+    };
+    let mut options = OpenOptions::new();
+    options.write(true).create(true).truncate(true).mode(0o600);
+    let mut file = options.open(rt, fresh)?;
+    file.write_all(bytes)?;
+    file.sync_all()?;
+    fs::rename(rt, fresh, name)?;
+    hold(rt, folder, Slot::Keyring)?;
+    match folder {
+        Some(held) => held.sync_all(),
+        None => Ok(()),
+    }
+}
+
+// Says on standard error what the system refused. Where that fails too, the status is left.
+fn tell<R: Eprint>(rt: &R, name: &str, error: &io::Error) {
+    let _ = eprintln!(rt; "cephx_cli: {name}: {error}");
+}

@@ -1,0 +1,14 @@
+//! What lies outside of a node, of the system's: sockets, a folder, the time and random bytes.
+#![tactic(auto)]
+
+mod clock;
+mod dice;
+mod folder;
+mod links;
+mod socket;
+mod table;
+
+pub use clock::SystemClock;
+pub use dice::SystemDice;
+pub use folder::FolderKeeper;
+pub use links::TcpLinks;

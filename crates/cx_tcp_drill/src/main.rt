@@ -1,0 +1,69 @@
+//! Sockets, files, the clock and the dice of the system, tried on this machine: a line for each thing that is seen.
+#![tactic(auto)]
+
+mod folders;
+mod lines;
+mod readings;
+mod sockets;
+mod traffic;
+
+use std::io;
+
+fn main(rt: HostRuntime) -> io::Result<()> {
+    let rt = &rt;
+    println!(rt; "a word goes and comes back: {}", sockets::echoes(rt))?;
+    println!(rt;
+        "what is sent before the connect is done comes: {}",
+        sockets::sends_early(rt)
+    )?;
+    println!(rt;
+        "a connect that is refused is gone: {}",
+        sockets::is_refused(rt)
+    )?;
+    println!(rt;
+        "a port that is taken is a fault: {}",
+        sockets::is_taken(rt)
+    )?;
+    println!(rt;
+        "the last word comes before the end: {}",
+        sockets::ends_well(rt)
+    )?;
+    println!(rt;
+        "three megabytes wait and come in order: {}",
+        traffic::comes_whole(rt)
+    )?;
+    println!(rt;
+        "a peer that doesn't read is given up: {}",
+        traffic::is_given_up(rt)
+    )?;
+    println!(rt;
+        "two that talk at once are served in turn: {}",
+        traffic::is_fair(rt)
+    )?;
+    println!(rt; "400 links at once: {}", traffic::serves_many(rt))?;
+    println!(rt;
+        "nothing comes within 50 ms and more: {}",
+        readings::waits(rt)
+    )?;
+    println!(rt;
+        "a peer that says nothing is gone after 10 s: {}",
+        traffic::tires(rt)
+    )?;
+    println!(rt; "nothing is kept at first: {}", folders::is_empty(rt))?;
+    println!(rt; "what was saved is loaded: {}", folders::keeps(rt))?;
+    println!(rt;
+        "the state is its owner's alone: {}",
+        folders::is_private(rt)
+    )?;
+    println!(rt; "one monitor a folder: {}", folders::is_locked(rt))?;
+    println!(rt;
+        "a file of over 16 MiB is no state: {}",
+        folders::is_bounded(rt)
+    )?;
+    println!(rt;
+        "a folder in place of the file is a fault: {}",
+        folders::is_no_file(rt)
+    )?;
+    println!(rt; "the clock reads on: {}", readings::goes_on(rt))?;
+    println!(rt; "two thousand draws differ: {}", readings::differ(rt))
+}
