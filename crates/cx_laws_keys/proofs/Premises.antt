@@ -21,7 +21,7 @@ TellsLeak leaked whole (entry.Drawn mark) =
     (key : List ℕ) → key_of mark ≡ Some key → IsLeakedKey leaked whole key → (name : Name) × (for_whom mark ≡ Some name) × Contains leaked name
 TellsLeak leaked whole _ = Unit {0}
 
-pub record Grant (leaked : List Name) (whole earlier : List Logged) (at : Logged) : Type 0 where
+pub record IsGranted (leaked : List Name) (whole earlier : List Logged) (at : Logged) : Type 0 where
   pub owes : Owes leaked whole at.node earlier at.entry
   pub new : IsNew earlier at.entry
   pub leak : TellsLeak leaked whole at.entry
@@ -36,7 +36,7 @@ behind n line (e ∷ es) log = behind n line es (logged n line e ∷ log)
 
 abbrev pub AreGranted : List Name → List Logged → NodeName → ℕ → List Logged → List SealEntry → Type 0
 AreGranted leaked whole n line log [] = Unit {0}
-AreGranted leaked whole n line log (e ∷ es) = Grant leaked whole log (logged n line e) × AreGranted leaked whole n line (logged n line e ∷ log) es
+AreGranted leaked whole n line log (e ∷ es) = IsGranted leaked whole log (logged n line e) × AreGranted leaked whole n line (logged n line e ∷ log) es
 
 pub behind-append : (n : NodeName) (line : ℕ) (xs ys : List SealEntry) (log : List Logged) → behind n line (xs ++ ys) log ≡ behind n line ys (behind n line xs log)
 behind-append n line [] ys log = refl
@@ -53,8 +53,8 @@ module _ (leaked : List Name) (whole : List Logged) (n : NodeName) (line : ℕ) 
   granted-rest log (x ∷ xs) ys g = granted-rest (logged n line x ∷ log) xs ys g.1
 
   -- the entries of a step, of all that are to come
-  pub granted-step : (log : List Logged) (es : List SealEntry) (rest : List Logged) → EachOnto (Grant leaked whole) log (map (λ e. logged n line e) es ++ rest)
-      → AreGranted leaked whole n line log es × EachOnto (Grant leaked whole) (behind n line es log) rest
+  pub granted-step : (log : List Logged) (es : List SealEntry) (rest : List Logged) → EachOnto (IsGranted leaked whole) log (map (λ e. logged n line e) es ++ rest)
+      → AreGranted leaked whole n line log es × EachOnto (IsGranted leaked whole) (behind n line es log) rest
   granted-step log [] rest g = (tt, g)
   granted-step log (e ∷ es) rest g = let more = granted-step (logged n line e ∷ log) es rest g.1 in ((g.0, more.0), more.1)
 
@@ -137,7 +137,7 @@ module _ (leaked : List Name) (whole : List Logged) where
   grants : (earlier rest : List Logged) → EachOnto (λ es (at : Logged). Owes leaked whole at.node es at.entry) earlier rest
       → EachOnto (λ es (at : Logged). IsNew es at.entry) earlier rest
       → ((key : List ℕ) → IsLeakedKey leaked whole key → SomeOf (Leaks key) earlier ⊎ SomeOf (Leaks key) rest)
-      → EachOnto (Grant leaked whole) earlier rest
+      → EachOnto (IsGranted leaked whole) earlier rest
   grants earlier [] sound fresh split = tt
   grants earlier (x ∷ xs) sound fresh split = (
     record {
@@ -154,5 +154,5 @@ module _ (leaked : List Name) (whole : List Logged) where
       moved key (inr (inr later)) = inr later
 
 -- a sound and fresh log grants all to each of its entries
-pub all-granted : (leaked : List Name) (whole : List Logged) → IsSound leaked whole → IsFresh whole → EachOnto (Grant leaked whole) [] whole
+pub all-granted : (leaked : List Name) (whole : List Logged) → IsSound leaked whole → IsFresh whole → EachOnto (IsGranted leaked whole) [] whole
 all-granted leaked whole sound fresh = grants leaked whole [] whole sound fresh (λ key leak. inr leak)

@@ -15,7 +15,7 @@ use Rattle.cx_steps.specs.declared.seals.SealEntry.{SealEntry}
 use Rattle.cx_steps.specs.declared.seals.SealEntry.TheVariants as entry
 use Rattle.cx_laws_keys.proofs.Lists.{all-map, some-map}
 use Rattle.cx_laws_keys.proofs.Known.{AreOwn, Inv, IsAllowed, Within, allowed-grows}
-use Rattle.cx_laws_keys.proofs.Premises.{DrawsKey, Grant, behind, logged, new-key}
+use Rattle.cx_laws_keys.proofs.Premises.{DrawsKey, IsGranted, behind, logged, new-key}
 use Rattle.cx_laws_keys.proofs.Uses.{DrawnAs, HasDrawn, HasSecret, Means, Secret, Use, Uses, grows-one, stays, whose, with_key}
 
 pub within-itself : (J : List Entry) → Within J J
@@ -48,7 +48,7 @@ module _ (leaked : List Name) (whole : List Logged) where
 
     -- a key that is drawn for a use
     pub inv-drawn : (n : NodeName) (line : ℕ) (mark : DrawMark) (key : List ℕ) (u : Use) → Inv leaked whole us log J → key_of mark ≡ Some key → for_whom mark ≡ whose u
-        → ((name : Name) → u ≡ Secret name → mark ≡ draw.Principal key name) → Grant leaked whole log (logged n line (entry.Drawn mark)) → Inv leaked whole (with_key us key u) (logged n line (entry.Drawn mark) ∷ log) J
+        → ((name : Name) → u ≡ Secret name → mark ≡ draw.Principal key name) → IsGranted leaked whole log (logged n line (entry.Drawn mark)) → Inv leaked whole (with_key us key u) (logged n line (entry.Drawn mark) ∷ log) J
     inv-drawn n line mark key u i is for exact grant = record {
       held = held;
       secrets = secrets;

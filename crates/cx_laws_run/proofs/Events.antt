@@ -27,7 +27,7 @@ use Rattle.cx_steps.specs.declared.seals.Logged.{Logged}
 use Rattle.cx_laws_keys.proofs.Journal.{After, EntryLaw, entered}
 use Rattle.cx_laws_keys.proofs.Known.{Inv, Within}
 use Rattle.cx_laws_keys.proofs.Lists.{all-map, found_all, found_passes, map-append}
-use Rattle.cx_laws_keys.proofs.Premises.{AreGranted, Grant, behind, granted-step}
+use Rattle.cx_laws_keys.proofs.Premises.{AreGranted, IsGranted, behind, granted-step}
 use Rattle.cx_laws_keys.proofs.Uses.{Grows, Means, Secret, Uses}
 use Rattle.cx_laws_keys.proofs.Uses.{stays as same_uses}
 use Rattle.cx_laws_login.proofs.ClientStep.{client-step, client_says}
@@ -211,7 +211,7 @@ entries-by h [] = refl
 entries-by h (e ∷ es) = ap (λ (l : List Entry). e ∷ l) (entries-by h es)
 
 pub events-law : (leaked : List Name) (whole : List Logged) (hs : List Happening) (nodes : Nodes) (us : Uses) (log : List Logged) (J : List Entry) → Inv leaked whole us log J
-    → NodesOk nodes us J → AreDrawn hs → EachOnto (Grant leaked whole) log (seals_from nodes hs)
+    → NodesOk nodes us J → AreDrawn hs → EachOnto (IsGranted leaked whole) log (seals_from nodes hs)
     → EachBehind EntryLaw J (map (λ (x : Entered). x.entry) (journal_from nodes hs))
 events-law leaked whole [] nodes us log J i ok drawn g = tt
 events-law leaked whole (h ∷ hs) nodes us log J i ok drawn g =

@@ -19,7 +19,7 @@ use Rattle.cx_steps.specs.declared.seals.SealEntry.{SealEntry}
 use Rattle.cx_steps.specs.declared.seals.SealEntry.TheVariants as seal
 use Rattle.cx_laws_keys.proofs.Journal.{entered, has-before}
 use Rattle.cx_laws_keys.proofs.Known.{Inv, signed_own}
-use Rattle.cx_laws_keys.proofs.Premises.{AreGranted, Grant, all-granted, behind, granted-step, logged}
+use Rattle.cx_laws_keys.proofs.Premises.{AreGranted, IsGranted, all-granted, behind, granted-step, logged}
 use Rattle.cx_laws_keys.proofs.Uses.{Means, Secret, Uses, no_uses}
 use Rattle.cx_laws_login.proofs.Facts.{OfferOk, StageOk}
 use Rattle.cx_laws_login.proofs.MonitorRows.{monitor_says}
@@ -82,7 +82,7 @@ behind-onto n line (e ∷ es) earlier = behind-onto n line es (logged n line e �
 
 all-signed : (setup : Setup) (whole : List Logged) (hs : List Happening) (past : List Point) (nodes : Nodes) (us : Uses) (J : List Entry)
     → Inv (leaked_of setup) whole us (logged_until setup past) J → NodesOk nodes us J → AreDrawn hs
-    → EachOnto (Grant (leaked_of setup) whole) (logged_until setup past) (seals_from nodes hs) → EachPoint (SignedOwn setup) past → EachPoint (SignedOwn setup) (points_onto past nodes hs)
+    → EachOnto (IsGranted (leaked_of setup) whole) (logged_until setup past) (seals_from nodes hs) → EachPoint (SignedOwn setup) past → EachPoint (SignedOwn setup) (points_onto past nodes hs)
 all-signed setup whole [] past nodes us J i ok drawn g each = each
 all-signed setup whole (h ∷ hs) past nodes us J i ok drawn g each =
     let leaked : List Name = leaked_of setup in
@@ -93,7 +93,7 @@ all-signed setup whole (h ∷ hs) past nodes us J i ok drawn g each =
     let a = event-after leaked whole us log J nodes h i ok drawn.0 gs.0 in
     let same : behind h.node h.line s.out.seals log ≡ logged_until setup (p ∷ past) = behind-onto h.node h.line s.out.seals log in
     let later : Inv leaked whole a.uses (logged_until setup (p ∷ past)) (entered J s.out.entries) = subst (λ (l : List Logged). Inv leaked whole a.uses l (entered J s.out.entries)) same a.inv in
-    let rest : EachOnto (Grant leaked whole) (logged_until setup (p ∷ past)) (seals_from s.nodes hs) = subst (λ (l : List Logged). EachOnto (Grant leaked whole) l (seals_from s.nodes hs)) same gs.1 in
+    let rest : EachOnto (IsGranted leaked whole) (logged_until setup (p ∷ past)) (seals_from s.nodes hs) = subst (λ (l : List Logged). EachOnto (IsGranted leaked whole) l (seals_from s.nodes hs)) same gs.1 in
     all-signed setup whole hs (p ∷ past) s.nodes a.uses (entered J s.out.entries) later a.good drawn.1 rest
     (event-signed setup whole us J past nodes h i ok gs.0, each)
 

@@ -22,7 +22,7 @@ use Rattle.cx_steps.specs.declared.seals.Logged.{Logged}
 use Rattle.cx_laws_keys.proofs.Journal.{EntryLaw, entered, has-before}
 use Rattle.cx_laws_keys.proofs.Known.{Inv}
 use Rattle.cx_laws_keys.proofs.Lists.{all-append, map-append}
-use Rattle.cx_laws_keys.proofs.Premises.{Grant, all-granted}
+use Rattle.cx_laws_keys.proofs.Premises.{IsGranted, all-granted}
 use Rattle.cx_laws_keys.proofs.Steps.{inv-drawn}
 use Rattle.cx_laws_keys.proofs.Uses.{Grows, Means, Secret, Uses, grows-one, grows-then, no_uses, stays, with_key}
 use Rattle.cx_laws_login.proofs.Facts.{AreSecrets}
@@ -49,9 +49,9 @@ module _ (leaked : List Name) (whole : List Logged) (J : List Entry) where
     pub grows : Grows us uses
     pub inv : Inv leaked whole uses (onto (map secret_drawn es) log) J
     pub theirs : AreTheirs uses es
-    pub granted : EachOnto (Grant leaked whole) (onto (map secret_drawn es) log) rest
+    pub granted : EachOnto (IsGranted leaked whole) (onto (map secret_drawn es) log) rest
 
-  pub secrets-known : (es : List Declared) (us : Uses) (log rest : List Logged) → Inv leaked whole us log J → EachOnto (Grant leaked whole) log (map secret_drawn es ++ rest) → AreKnown us log es rest
+  pub secrets-known : (es : List Declared) (us : Uses) (log rest : List Logged) → Inv leaked whole us log J → EachOnto (IsGranted leaked whole) log (map secret_drawn es ++ rest) → AreKnown us log es rest
   secrets-known [] us log rest i g = record { uses = us; grows = stays us; inv = i; theirs = tt; granted = g }
   secrets-known (e ∷ es) us log rest i g =
       let mark = draw.Principal (secret_of e) e.name in

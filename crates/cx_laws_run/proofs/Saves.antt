@@ -15,7 +15,7 @@ use Rattle.cx_steps.specs.declared.seals.SealEntry.TheVariants as entry
 use Rattle.cx_steps.specs.declared.seals.SealMark.{SealMark}
 use Rattle.cx_laws_keys.proofs.Known.{Inv, IsAllowed, allowed-grows}
 use Rattle.cx_laws_keys.proofs.Lists.{all-map}
-use Rattle.cx_laws_keys.proofs.Premises.{AreGranted, Grant, behind, logged}
+use Rattle.cx_laws_keys.proofs.Premises.{AreGranted, IsGranted, behind, logged}
 use Rattle.cx_laws_keys.proofs.Steps.{within-itself}
 use Rattle.cx_laws_keys.proofs.Uses.{DrawnAs, Grows, Uses, whose}
 
@@ -84,7 +84,7 @@ module _ (leaked : List Name) (whole : List Logged) (n : NodeName) (line : ℕ) 
   thick-new full thin h (entry.Signed mark) new = tt
   thick-new full thin h (entry.Checked mark) new = tt
 
-  thick-grant : (full thin : List Logged) (e : SealEntry) → Thins full thin → Grant leaked whole thin (logged n line e) → Grant leaked whole full (logged n line e)
+  thick-grant : (full thin : List Logged) (e : SealEntry) → Thins full thin → IsGranted leaked whole thin (logged n line e) → IsGranted leaked whole full (logged n line e)
   thick-grant full thin e h g = record { owes = thick-owes full thin h n e g.owes; new = thick-new full thin h e g.new; leak = g.leak }
 
   -- what is granted to what stays is granted to all
