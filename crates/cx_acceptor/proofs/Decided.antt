@@ -1,5 +1,5 @@
--- A login: its row, by what was decided, and that it leaves the keyring as it is.
-use Rattle.std.proofs.Common.{◌≡◌, ◌∙◌, ℕ, ◌==◌, ◌^◌, ◌-◌, ◌+◌, Bool, true, false, ◌⊎◌, inl, inr, List, ◌∷◌, ◌++◌, Option, Some, None, Result, Ok, Err, refl, sym, ap, subst}
+-- A login: its row, by what was decided, that it leaves the keyring as it is, and what it saves.
+use Rattle.std.proofs.Common.{◌≡◌, ◌∙◌, ℕ, ◌==◌, ◌^◌, ◌-◌, ◌+◌, Bool, true, false, ◌⊎◌, inl, inr, List, ◌∷◌, ◌++◌, Option, Some, None, Result, Ok, Err, refl, sym, ap}
 use Rattle.std.specs.Prelude.{if◌then◌else◌}
 use Rattle.cx_enc.specs.declared.keys.Key.{Key}
 use Rattle.cx_rules.specs.Verdicts.{Decided, Entrant, Numbered, Occasion, asking_for, entrant, issues, issues_to, key_of, numbered, numbers, rotates}
@@ -7,7 +7,6 @@ use Rattle.cx_rules.specs.MonitorLogin.{occasion, proves, row_by}
 use Rattle.cx_rules.specs.declared.verdicts.Verdict.{Verdict}
 use Rattle.cx_journal.specs.declared.faults.LoginFault.{LoginFault}
 use Rattle.cx_journal.specs.declared.faults.LoginFault.TheVariants as login
-use Rattle.cx_keyring.specs.declared.entries.Entry.{Entry}
 use Rattle.cx_keyserver.specs.Servers.{Server, rotated_server}
 use Rattle.cx_keyserver.specs.declared.tickets.Ticket.{Ticket}
 use Rattle.cx_link.specs.Wires.{Wire}
@@ -22,9 +21,9 @@ use Rattle.cx_rules.specs.Monitor.{Monitor, MonitorRow}
 use Rattle.cx_rules.specs.Tickets.{issued_for, rotation_drawn, services_for}
 use Rattle.cx_sealed.specs.declared.service_ticket.ServiceTicket.{ServiceTicket}
 use Rattle.cx_steps.specs.declared.seals.SealEntry.{SealEntry}
-use Rattle.cx_acceptor.specs.Rows.{IsMonitorRow, IsSameBut, arrived, saves, saving, with_keys}
+use Rattle.cx_acceptor.proofs.Changed.{changed-saves}
+use Rattle.cx_acceptor.specs.Rows.{IsMonitorRow, arrived, saves, saving}
 use Rattle.cx_acceptor.specs.Stages.{MonitorLink, awaiting_proof}
-use Rattle.cx_acceptor.specs.declared.own.Mark.{Mark}
 use Rattle.cx_rules.specs.Abridged.{abridged_link}
 use Rattle.cx_turns.specs.Making.{row_due}
 use Rattle.cx_turns.specs.declared.moments.Moment.{Moment}
@@ -44,14 +43,6 @@ login_row old at wire gid proven server verdict row v s m =
           ∙ ap (λ (t : Server). told t (rotates (occasion (arrived old at (awaiting_proof at.number wire proven.offer gid))) old.server gid proven).verdict) s;
       number_is = m.number_is;
     }
-
--- what a login changed is what is to be changed
-pub login_made : (old new : Monitor) (number : ℕ) (mark : Mark) (due : MonitorRow) (row : Made MonitorLink) → IsSameBut old new → mark.state ≡ new.server.state
-    → mark.saved ≡ new.saved → IsMonitorRow number new due row → IsMonitorRow number (with_keys old mark) due row
-login_made old new number mark due row same state saved m =
-    let P : Monitor → Type 0 = λ o. with_keys o mark ≡ new in
-    let is : with_keys old mark ≡ new = subst P (sym same) (rw (state, saved) refl) in
-    subst (λ (o : Monitor). IsMonitorRow number o due row) (sym is) m
 
 -- ---- the keyring
 
@@ -90,21 +81,11 @@ rotates-ring at server gid proven =
     let reclaim : Reclaim = reclaimed gid proven.ask.version (kept_gid proven.offer.name at.reading old.value) in
     numbers-ring at rotated proven (seals ++ old.seals) (numbered rotated reclaim) (numbered-ring rotated reclaim)
 
--- behind a login all but what is kept and what was saved last is as before
-pub same_but : (old : Monitor) (server : Server) (saved : KeptState) → server.ring ≡ old.server.ring
-    → IsSameBut old (record old { server = server; saved = saved })
-same_but old server saved e =
-    let with : List Entry → Monitor = λ ring. record old { server = record old.server { ring = ring } } in sym (ap with e)
-
 -- ---- what is saved
 
 -- what a login saves is the state of its key server, if anything
 abbrev SavesState : Decided → Type 0
 SavesState d = (saves d.verdict ≡ None) ⊎ (saves d.verdict ≡ Some d.server.state)
-
-changed-saves : (saved state : KeptState) (b : Bool) → ((if b then None else Some state) ≡ None) ⊎ ((if b then None else Some state) ≡ Some state)
-changed-saves saved state true = inl refl
-changed-saves saved state false = inr refl
 
 issues-saves : (at : Occasion) (server : Server) (e : Entrant) (own : List ℕ) (tickets : Result (List Ticket) LoginFault) → SavesState (issues at server e own tickets)
 issues-saves at server e own (Err why) = inl refl

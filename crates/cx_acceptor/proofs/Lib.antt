@@ -1,4 +1,6 @@
+pub mod Answering
 pub mod Behind
+pub mod Changed
 pub mod Controls
 pub mod Decided
 pub mod Offering

@@ -12,9 +12,9 @@ number_held number (held.AwaitsBanner wire) = refl
 number_held number (held.AwaitsHello wire) = refl
 number_held number (held.AwaitsRequest wire) = refl
 number_held number (held.AwaitsProof wire offer gid) = refl
-number_held number (held.AwaitsSignature signing entity) = refl
-number_held number (held.AwaitsIdent link entity) = refl
-number_held number (held.Open link entity) = refl
+number_held number (held.AwaitsSignature signing bearer) = refl
+number_held number (held.AwaitsIdent link bearer) = refl
+number_held number (held.Open link bearer) = refl
 
 -- each of them is a link of which no more can be forgotten
 pub held_abridged : (number : ℕ) (stage : Stage) → abridged_link (link_held number stage) ≡ link_held number stage
@@ -22,9 +22,9 @@ held_abridged number (held.AwaitsBanner wire) = refl
 held_abridged number (held.AwaitsHello wire) = refl
 held_abridged number (held.AwaitsRequest wire) = refl
 held_abridged number (held.AwaitsProof wire offer gid) = refl
-held_abridged number (held.AwaitsSignature signing entity) = refl
-held_abridged number (held.AwaitsIdent link entity) = refl
-held_abridged number (held.Open link entity) = refl
+held_abridged number (held.AwaitsSignature signing bearer) = refl
+held_abridged number (held.AwaitsIdent link bearer) = refl
+held_abridged number (held.Open link bearer) = refl
 
 pub link_fed : {X E : Type 0} (number : ℕ) (old new : Stage) (bytes : List ℕ) (r : Result X E) → OnOk r (link_held number new ≡ with_more bytes (link_held number old))
     → OnOk r (IsFed abridged_link (link_held number old) bytes (link_held number new))

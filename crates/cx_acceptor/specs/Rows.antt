@@ -5,6 +5,11 @@ use Rattle.cx_dice.specs.Draws.{challenge_of}
 use Rattle.cx_enc.specs.declared.keys.Key.{Key}
 use Rattle.cx_frame.specs.declared.frame.Frame.{Frame}
 use Rattle.cx_link.specs.declared.links.Finished.{Finished}
+use Rattle.cx_link.specs.declared.links.SentFrame.{SentFrame}
+use Rattle.cx_rules.specs.declared.responses.Bearer.{Bearer}
+use Rattle.cx_rules.specs.declared.responses.ReplyMade.{ReplyMade}
+use Rattle.cx_rules.specs.declared.responses.Response.{Response}
+use Rattle.cx_rules.specs.declared.responses.Response.TheVariants as response
 use Rattle.cx_rules.specs.declared.verdicts.HandedOut.{HandedOut}
 use Rattle.cx_rules.specs.declared.verdicts.Verdict.{Verdict}
 use Rattle.cx_rules.specs.declared.verdicts.Verdict.TheVariants as verdict
@@ -19,6 +24,7 @@ use Rattle.cx_rules.specs.Acceptor.{AwaitsBanner, AwaitsProof, denies}
 use Rattle.cx_rules.specs.Greetings.{own_banner}
 use Rattle.cx_rules.specs.KeptStates.{saved_behind}
 use Rattle.cx_rules.specs.Monitor.{Monitor, MonitorArrival, MonitorRow, MonitorStage}
+use Rattle.cx_rules.specs.MonitorLogin.{bearer_of}
 use Rattle.cx_rules.specs.MonitorRule.{turned_at}
 use Rattle.cx_rules.specs.Payloads.{control}
 use Rattle.cx_rules.specs.Rows.{arrival, goes_on, refuses, sends_plain}
@@ -26,7 +32,7 @@ use Rattle.cx_steps.specs.declared.seals.DrawMark.TheVariants as draw
 use Rattle.cx_steps.specs.declared.seals.SealEntry.TheVariants.{Drawn}
 use Rattle.cx_wire.specs.Logins.{server_challenge_layout}
 use Rattle.cx_wire.specs.declared.logins.LoginHello.{LoginHello}
-use Rattle.cx_acceptor.specs.Stages.{MonitorLink, awaiting_signature}
+use Rattle.cx_acceptor.specs.Stages.{MonitorLink, awaiting_signature, open_link}
 use Rattle.cx_acceptor.specs.declared.own.Mark.{Mark}
 use Rattle.cx_turns.specs.Making as making
 use Rattle.cx_turns.specs.Making.{IsRow}
@@ -74,7 +80,7 @@ saves (verdict.Granted handed) = handed.save
 -- the row of what is handed out, where the link of this number is finished so
 abbrev pub handing_over : ℕ → HandedOut → Finished → Made MonitorLink
 handing_over number handed finished = record {
-  link = Some (awaiting_signature number finished.signing (record { name = handed.name; gid = handed.gid }));
+  link = Some (awaiting_signature number finished.signing (bearer_of handed));
   sends = finished.bytes;
   save = handed.save;
   entries = handed.entries;
@@ -97,6 +103,23 @@ abbrev pub challenged : MonitorArrival → LoginHello → Option Key → Monitor
 challenged a hello None = denies a 13 login.UnknownEntity []
 challenged a hello (Some key) =
     let challenge = challenge_of a.draw in sends_plain a (offered_to a.draw hello key) (Drawn (draw.Challenge challenge) ∷ []) (challenge_frame challenge)
+
+-- ---- a request
+
+-- what is saved behind a response
+abbrev pub saves_of : Response → Option KeptState
+saves_of (response.Refuses why seals) = None
+saves_of (response.Replies made) = made.save
+
+-- the row of a reply that was sent so, on the link of this number: it stays open, behind the entity's message of that number
+abbrev pub replying : ℕ → Bearer → ℕ → ReplyMade → SentFrame → Made MonitorLink
+replying number bearer seq made sent = record {
+  link = Some (open_link number sent.link (record bearer { last = seq }));
+  sends = sent.bytes;
+  save = made.save;
+  entries = made.entries;
+  seals = made.seals ++ (made.sealed ++ sent.seals);
+}
 
 -- ---- turns
 

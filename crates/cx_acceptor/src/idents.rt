@@ -2,13 +2,13 @@
 
 ghost use Rattle.std.specs.Prelude.{[]};
 ghost use Rattle.cx_turns.specs.Stages.{keys_alone};
-ghost use Rattle.cx_rules.specs.Acceptor.{Open, misses};
-ghost use Rattle.cx_rules.specs.MonitorRule.{on_client_ident, on_ident, on_session_reconnect, server_ident};
+ghost use Rattle.cx_rules.specs.Acceptor.{Open, misses, server_ident};
+ghost use Rattle.cx_rules.specs.MonitorRule.{on_client_ident, on_ident, on_session_reconnect};
 ghost use Rattle.cx_rules.specs.Rows.{sends_secure};
 ghost use Rattle.cx_acceptor.specs.Rows.{Makes};
 ghost use Rattle.cx_acceptor.specs.Stages.{awaiting_ident};
 
-use crate::links::{Entity, Link, Stage};
+use crate::links::{Link, Stage};
 use crate::own::{KeyChange, Own};
 use cx_base::NodeName;
 use cx_control::{ClientIdent, IdentMissingFeatures, ServerIdent, SessionReconnect, SessionReset};
@@ -16,6 +16,7 @@ use cx_frame::Frame;
 use cx_journal::{BytesFault, Reason};
 use cx_link::SecureLink;
 use cx_node::{Row, payload, refuses};
+use cx_rules::Bearer;
 use cx_turns::{Moment, NoRow, NodeRow, goes_on, send_secure};
 use std::alloc::Global;
 
@@ -25,19 +26,19 @@ pub(crate) fn on_ident(
     own: &Own,
     at: &Moment<'_>,
     link: SecureLink,
-    entity: Entity,
+    bearer: Bearer,
     frame: &Frame,
 ) -> Result<NodeRow<Link, KeyChange>, NoRow>
-    ensures { Makes own.now at.now (awaiting_ident at.now.number link entity) (λ a. on_ident a (keys_alone link.keys) entity frame.now) result }
+    ensures { Makes own.now at.now (awaiting_ident at.now.number link bearer) (λ a. on_ident a (keys_alone link.keys) bearer frame.now) result }
 {
     match frame.tag {
         8 => {
             let read = payload::<ClientIdent>(alloc, frame)?;
-            on_client_ident(alloc, own, at, link, entity, read)
+            on_client_ident(alloc, own, at, link, bearer, read)
         }
         11 => {
             let read = payload::<SessionReconnect>(alloc, frame)?;
-            on_session_reconnect(alloc, own, at, link, entity, read)
+            on_session_reconnect(alloc, own, at, link, bearer, read)
         }
         tag => Err(NoRow::from(BytesFault::Unexpected(tag))),
     }
@@ -49,16 +50,16 @@ pub(crate) fn on_client_ident(
     own: &Own,
     at: &Moment<'_>,
     link: SecureLink,
-    entity: Entity,
+    bearer: Bearer,
     read: Result<ClientIdent, BytesFault>,
 ) -> Result<NodeRow<Link, KeyChange>, NoRow>
-    ensures { Makes own.now at.now (awaiting_ident at.now.number link entity) (λ a. on_client_ident a (keys_alone link.keys) entity read) result }
+    ensures { Makes own.now at.now (awaiting_ident at.now.number link bearer) (λ a. on_client_ident a (keys_alone link.keys) bearer read) result }
 {
     let ident = read?;
     if ident.required == 0 {
-        opens_to(alloc, own, at, link, entity)
+        opens_to(alloc, own, at, link, bearer)
     } else {
-        misses(alloc, own, at, link, entity, ident.required)
+        misses(alloc, own, at, link, bearer, ident.required)
     }
 }
 
@@ -68,10 +69,10 @@ fn opens_to(
     own: &Own,
     at: &Moment<'_>,
     link: SecureLink,
-    entity: Entity,
+    bearer: Bearer,
 ) -> Result<NodeRow<Link, KeyChange>, NoRow>
-    ensures { Makes own.now at.now (awaiting_ident at.now.number link entity)
-        (λ a. sends_secure a (keys_alone link.keys) (λ behind. Open behind entity) [] (server_ident own.now.address)) result }
+    ensures { Makes own.now at.now (awaiting_ident at.now.number link bearer)
+        (λ a. sends_secure a (keys_alone link.keys) (λ behind. Open behind bearer) [] (server_ident own.now.address 1 0)) result }
 {
     let ident = ServerIdent {
         addr: own.address(),
@@ -83,7 +84,7 @@ fn opens_to(
         cookie: 0,
     };
     let sent = send_secure(alloc, link, 9, &ident)??;
-    let link = Link::new(at.number, Stage::Open(sent.link, entity));
+    let link = Link::new(at.number, Stage::Open(sent.link, bearer));
     Ok(goes_on(alloc, link, sent.bytes, sent.seals))
 }
 
@@ -93,10 +94,10 @@ fn misses(
     own: &Own,
     at: &Moment<'_>,
     link: SecureLink,
-    entity: Entity,
+    bearer: Bearer,
     features: u64,
 ) -> Result<NodeRow<Link, KeyChange>, NoRow>
-    ensures { Makes own.now at.now (awaiting_ident at.now.number link entity) (λ a. misses a (keys_alone link.keys) features) result }
+    ensures { Makes own.now at.now (awaiting_ident at.now.number link bearer) (λ a. misses a (keys_alone link.keys) features) result }
 {
     let sent = send_secure(alloc, link, 10, &IdentMissingFeatures { features })??;
     let why = Reason::Bytes(BytesFault::Features(features));
@@ -113,13 +114,13 @@ pub(crate) fn on_session_reconnect(
     own: &Own,
     at: &Moment<'_>,
     link: SecureLink,
-    entity: Entity,
+    bearer: Bearer,
     read: Result<SessionReconnect, BytesFault>,
 ) -> Result<NodeRow<Link, KeyChange>, NoRow>
-    ensures { Makes own.now at.now (awaiting_ident at.now.number link entity) (λ a. on_session_reconnect a (keys_alone link.keys) entity read) result }
+    ensures { Makes own.now at.now (awaiting_ident at.now.number link bearer) (λ a. on_session_reconnect a (keys_alone link.keys) bearer read) result }
 {
     let _ = read?;
     let sent = send_secure(alloc, link, 12, &SessionReset { full: true })??;
-    let link = Link::new(at.number, Stage::AwaitsIdent(sent.link, entity));
+    let link = Link::new(at.number, Stage::AwaitsIdent(sent.link, bearer));
     Ok(goes_on(alloc, link, sent.bytes, sent.seals))
 }

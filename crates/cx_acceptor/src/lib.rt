@@ -6,14 +6,16 @@ mod idents;
 mod links;
 mod logins;
 mod making;
+mod messages;
 mod own;
+mod replies;
 mod requests;
 mod signatures;
 mod turns;
 mod upkeep;
 
 pub use greetings::greeting;
-pub use links::{Entity, Link, Stage};
+pub use links::{Link, Stage};
 pub use own::{KeyChange, Mark, Own};
 pub use turns::turned;
 
@@ -21,7 +23,6 @@ pub use turns::turned;
 fn is_sendable<T: Send + Sync>() {}
 
 fn all_are_sendable() {
-    is_sendable::<Entity>();
     is_sendable::<Stage>();
     is_sendable::<Link>();
     is_sendable::<Own>();

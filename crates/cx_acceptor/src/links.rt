@@ -1,29 +1,12 @@
 //! The links of the monitor: a number, and a stage with all that it holds of the link.
 
-use cx_base::EntityName;
 use cx_link::{BannerLink, PlainLink, SecureLink, Signing};
 use cx_login::Offered;
 use cx_node::Numbered;
+use cx_rules::Bearer;
 use cx_turns::Feeds;
 use std::alloc::{AllocError, Global};
 use std::marker::Model;
-
-/// An entity that has logged in on a link, under its global id.
-#[derive(Drop)]
-pub struct Entity {
-    pub name: EntityName,
-    pub gid: u64,
-}
-
-impl Model for Entity {
-    ghost use Rattle.cx_rules.specs.Monitor.{Entity as Named};
-
-    ghost Value = { Named };
-
-    ghost view = { λ e. record { name = e.name; gid = e.gid } };
-
-    ghost inverse = { λ e. record { name = e.name; gid = e.gid } };
-}
 
 /// What a link waits for, with what the monitor has of it.
 #[derive(Drop)]
@@ -33,9 +16,9 @@ pub enum Stage {
     AwaitsRequest(PlainLink),
     /// The challenge that was offered, and the global id of the LoginHello.
     AwaitsProof(PlainLink, Offered, u64),
-    AwaitsSignature(Signing, Entity),
-    AwaitsIdent(SecureLink, Entity),
-    Open(SecureLink, Entity),
+    AwaitsSignature(Signing, Bearer),
+    AwaitsIdent(SecureLink, Bearer),
+    Open(SecureLink, Bearer),
 }
 
 impl Stage {

@@ -1,6 +1,6 @@
 //! LoginHello and Authenticate.
 
-ghost use Rattle.std.specs.Prelude.{◌≡◌, ◌<◌, ◌⊎◌, ◌++◌, [], None, Some, Ok, IfOk, OnOk, OnErr};
+ghost use Rattle.std.specs.Prelude.{◌≡◌, ◌<◌, ◌⊎◌, ◌++◌, [], None, Some, Ok, IfOk, OnOk};
 ghost use Rattle.cx_turns.specs.Sending.{SendsPlain};
 ghost use Rattle.cx_rules.specs.MonitorLogin.{done_frame, on_authenticate, on_login_hello, proves, row_by};
 ghost use Rattle.cx_link.specs.Wires.{wired};
@@ -15,8 +15,8 @@ ghost use Rattle.cx_rules.specs.Secured.{plain_frame};
 ghost use Rattle.cx_acceptor.specs.Rows.{IsMonitorRow, IsSameBut, Makes, arrived, challenge_frame, challenged, handing_over, offered_to, saves, saving};
 ghost use Rattle.cx_acceptor.specs.Stages.{awaiting_proof};
 
-use crate::links::{Entity, Link, Stage};
-use crate::making::denies;
+use crate::links::{Link, Stage};
+use crate::making::{denies, logs};
 use crate::own::{KeyChange, Own};
 use cx_base::{Blob, Duplicate, Items, NodeName};
 use cx_control::{AuthReplyMore, AuthRequestMore};
@@ -27,6 +27,7 @@ use cx_link::{Finished, LinkRefusal, PlainLink};
 use cx_login::{Offered, Proved};
 use cx_mon_grants::{HandedOut, Occasion, Verdict, log_in};
 use cx_node::{Row, refuses_bytes, whole};
+use cx_rules::Bearer;
 use cx_steps::{DrawMark, SealEntry};
 use cx_turns::{Moment, NoRow, NodeRow, SentPlain, goes_on, send_plain, unless_refused};
 use cx_wire::{Authenticate, LoginHello, ServerChallenge};
@@ -155,7 +156,7 @@ pub(crate) fn on_authenticate(
 }
 
 // An Authenticate that proved its entity. What the login changes is taken back here: it is settled once the row is carried out.
-#[tactic(auto, using(crate::proofs::Decided::login_made))]
+#[tactic(auto, using(crate::proofs::Changed::change_made))]
 fn logs_in(
     alloc: Global,
     own: &mut Own,
@@ -169,16 +170,17 @@ fn logs_in(
     ensures same { own.new ≡ own.old }
 {
     let before = own.mark();
-    let row = proves(alloc, own, at, link, proved, gid)?;
+    let made = proves(alloc, own, at, link, proved, gid);
     let mark = own.mark();
     own.go_back(&before);
+    let row = made?;
     Ok(NodeRow {
         row,
         change: Some(KeyChange { mark }),
     })
 }
 
-// The same with what it changes. Where memory is wanting, the key server is as before.
+// The same with what it changes.
 fn proves(
     alloc: Global,
     own: &mut Own,
@@ -189,26 +191,17 @@ fn proves(
 ) -> Result<Row<Link>, AllocError>
     requires { at.now.reading < 4000000000000000000 }
     ensures row { IfOk result (IsMonitorRow at.now.number own.new (proves (arrived own.old at.now (awaiting_proof at.now.number link proved.now.offer gid)) gid (Ok proved.now))) }
-    ensures same { OnOk result (IsSameBut own.old own.new) }
-    ensures err { OnErr result (own.new ≡ own.old) }
+    ensures same { IsSameBut own.old own.new }
 {
-    let before = own.server.state();
     let occasion = Occasion {
         saved: &own.saved,
         reading: at.reading,
         draw: at.draw,
     };
     let verdict = log_in(alloc, &mut own.server, proved, gid, &occasion)?;
-    match told(alloc, own, at, link, verdict) {
-        Ok(row) => {
-            own.note_saved(&row.save);
-            Ok(row)
-        }
-        Err(error) => {
-            own.server.restore(before);
-            Err(error)
-        }
-    }
+    let row = told(alloc, own, at, link, verdict)?;
+    own.note_saved(&row.save);
+    Ok(row)
 }
 
 // What the monitor, with the key server behind the verdict, tells the entity of it.
@@ -273,11 +266,14 @@ fn awaits_signature(
 {
     let mut seals = handed.seals;
     logs(alloc, &mut seals, handed.sealed, finished.seals)?;
-    let entity = Entity {
+    let session = handed.session;
+    let bearer = Bearer {
         name: handed.name,
         gid: handed.gid,
+        session,
+        last: 0,
     };
-    let link = Link::new(at.number, Stage::AwaitsSignature(finished.signing, entity));
+    let link = Link::new(at.number, Stage::AwaitsSignature(finished.signing, bearer));
     Ok(Row {
         link: Some(link),
         sends: finished.bytes,
@@ -285,19 +281,6 @@ fn awaits_signature(
         entries: handed.entries,
         seals,
     })
-}
-
-// Behind what was logged before come what was sealed and what was signed.
-fn logs(
-    alloc: Global,
-    log: &mut Items<SealEntry>,
-    sealed: Items<SealEntry>,
-    signed: Items<SealEntry>,
-) -> Result<(), AllocError>
-    ensures { OnOk result (log.new ≡ log.old ++ (sealed ++ signed)) }
-{
-    log.append(alloc, sealed)?;
-    log.append(alloc, signed)
 }
 
 // AUTH_DONE with a payload.

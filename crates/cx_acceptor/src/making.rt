@@ -1,6 +1,6 @@
-//! Rows of the monitor that change nothing of what it has of its own.
+//! What rows of the monitor are made of.
 
-ghost use Rattle.std.specs.Prelude.{◌≡◌, [], IfOk};
+ghost use Rattle.std.specs.Prelude.{◌≡◌, ◌++◌, [], IfOk, OnOk};
 ghost use Rattle.cx_base.specs.declared.nodes.NodeName.TheVariants as node;
 ghost use Rattle.cx_node.specs.Made.{denying};
 ghost use Rattle.cx_turns.specs.Making.{keeping};
@@ -9,6 +9,7 @@ use crate::links::Link;
 use crate::own::KeyChange;
 use cx_base::{Items, NodeName};
 use cx_journal::LoginFault;
+use cx_steps::SealEntry;
 use cx_turns::{Moment, NodeRow};
 use std::alloc::{AllocError, Global};
 
@@ -24,4 +25,17 @@ pub(crate) fn denies(
     let seals = Items::new(alloc);
     let row = cx_node::denies(alloc, &NodeName::Monitor, at.number, code, why, seals)?;
     Ok(NodeRow::keeping(row))
+}
+
+// Behind what was logged before come what was sealed of what is told, and what is sealed of the frames.
+pub(crate) fn logs(
+    alloc: Global,
+    log: &mut Items<SealEntry>,
+    sealed: Items<SealEntry>,
+    framed: Items<SealEntry>,
+) -> Result<(), AllocError>
+    ensures { OnOk result (log.new ≡ log.old ++ (sealed ++ framed)) }
+{
+    log.append(alloc, sealed)?;
+    log.append(alloc, framed)
 }

@@ -5,12 +5,13 @@ ghost use Rattle.cx_rules.specs.Acceptor.{on_signature};
 ghost use Rattle.cx_acceptor.specs.Rows.{Makes};
 ghost use Rattle.cx_acceptor.specs.Stages.{awaiting_signature};
 
-use crate::links::{Entity, Link, Stage};
+use crate::links::{Link, Stage};
 use crate::own::{KeyChange, Own};
 use cx_base::{Blob, Items};
 use cx_control::AuthSignature;
 use cx_journal::BytesFault;
 use cx_link::Signing;
+use cx_rules::Bearer;
 use cx_turns::{Moment, NoRow, NodeRow, checked, goes_on};
 use std::alloc::Global;
 
@@ -20,14 +21,14 @@ pub(crate) fn on_signature(
     own: &Own,
     at: &Moment<'_>,
     signing: Signing,
-    entity: Entity,
+    bearer: Bearer,
     read: Result<AuthSignature, BytesFault>,
 ) -> Result<NodeRow<Link, KeyChange>, NoRow>
-    ensures { Makes own.now at.now (awaiting_signature at.now.number signing entity) (λ a. on_signature a (secured_of signing) entity read) result }
+    ensures { Makes own.now at.now (awaiting_signature at.now.number signing bearer) (λ a. on_signature a (secured_of signing) bearer read) result }
 {
     let found = checked(signing, read)?;
     let mut seals = Items::new(alloc);
     seals.push(alloc, found.entry)?;
-    let link = Link::new(at.number, Stage::AwaitsIdent(found.link, entity));
+    let link = Link::new(at.number, Stage::AwaitsIdent(found.link, bearer));
     Ok(goes_on(alloc, link, Blob::new(alloc), seals))
 }

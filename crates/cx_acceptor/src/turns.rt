@@ -9,17 +9,18 @@ ghost use Rattle.cx_acceptor.specs.Stages.{awaiting_ident, awaiting_proof, await
 
 use crate::greetings::{on_banner, on_hello};
 use crate::idents::on_ident;
-use crate::links::{Entity, Link, Stage};
+use crate::links::{Link, Stage};
 use crate::logins::on_auth_request_more;
 use crate::own::{KeyChange, Own};
 use crate::requests::on_auth_request;
 use crate::signatures::on_signature;
-use crate::upkeep::on_upkeep;
+use crate::upkeep::on_open;
 use cx_base::{Items, NodeName};
 use cx_control::{AuthRequest, AuthRequestMore, AuthSignature, Hello};
 use cx_link::{BannerLink, BannerTurn, LinkTurn, PlainLink, SecureLink, Signing};
 use cx_login::Offered;
 use cx_node::due;
+use cx_rules::Bearer;
 use cx_turns::{Came, Moment, handles};
 use std::alloc::{AllocError, Global};
 
@@ -56,9 +57,9 @@ fn by_stage(
         Stage::AwaitsHello(link) => hello_turn(alloc, own, at, link),
         Stage::AwaitsRequest(link) => request_turn(alloc, own, at, link),
         Stage::AwaitsProof(link, offered, gid) => proof_turn(alloc, own, at, link, offered, gid),
-        Stage::AwaitsSignature(signing, entity) => signature_turn(alloc, own, at, signing, entity),
-        Stage::AwaitsIdent(link, entity) => ident_turn(alloc, own, at, link, entity),
-        Stage::Open(link, entity) => open_turn(alloc, own, at, link, entity),
+        Stage::AwaitsSignature(signing, bearer) => signature_turn(alloc, own, at, signing, bearer),
+        Stage::AwaitsIdent(link, bearer) => ident_turn(alloc, own, at, link, bearer),
+        Stage::Open(link, bearer) => open_turn(alloc, own, at, link, bearer),
     }
 }
 
@@ -173,20 +174,20 @@ fn signature_turn(
     own: &Own,
     at: &Moment<'_>,
     signing: Signing,
-    entity: Entity,
+    bearer: Bearer,
 ) -> Result<Came<Link, KeyChange>, AllocError>
-    ensures { IfOk result (IsMonitorTurn own.now at.now.reading at.now.draw.now.bytes (awaiting_signature at.now.number signing entity)) }
+    ensures { IfOk result (IsMonitorTurn own.now at.now.reading at.now.draw.now.bytes (awaiting_signature at.now.number signing bearer)) }
 {
     let mut opened = Items::new(alloc);
     match signing.turn(alloc, &mut opened)? {
         LinkTurn::Waits(signing) => Ok(Came::Waits(Link::new(
             at.number,
-            Stage::AwaitsSignature(signing, entity),
+            Stage::AwaitsSignature(signing, bearer),
         ))),
         LinkTurn::Refuses(why) => Ok(Came::Refuses(why, opened)),
         LinkTurn::Takes(signing, frame) => {
             let found = due::<AuthSignature>(alloc, 7, &frame)?;
-            let made = on_signature(alloc, own, at, signing, entity, found);
+            let made = on_signature(alloc, own, at, signing, bearer, found);
             handles(alloc, &NodeName::Monitor, at.number, opened, made)
         }
     }
@@ -197,19 +198,19 @@ fn ident_turn(
     own: &Own,
     at: &Moment<'_>,
     link: SecureLink,
-    entity: Entity,
+    bearer: Bearer,
 ) -> Result<Came<Link, KeyChange>, AllocError>
-    ensures { IfOk result (IsMonitorTurn own.now at.now.reading at.now.draw.now.bytes (awaiting_ident at.now.number link entity)) }
+    ensures { IfOk result (IsMonitorTurn own.now at.now.reading at.now.draw.now.bytes (awaiting_ident at.now.number link bearer)) }
 {
     let mut opened = Items::new(alloc);
     match link.turn(alloc, &mut opened)? {
         LinkTurn::Waits(link) => Ok(Came::Waits(Link::new(
             at.number,
-            Stage::AwaitsIdent(link, entity),
+            Stage::AwaitsIdent(link, bearer),
         ))),
         LinkTurn::Refuses(why) => Ok(Came::Refuses(why, opened)),
         LinkTurn::Takes(link, frame) => {
-            let made = on_ident(alloc, own, at, link, entity, &frame);
+            let made = on_ident(alloc, own, at, link, bearer, &frame);
             handles(alloc, &NodeName::Monitor, at.number, opened, made)
         }
     }
@@ -217,19 +218,21 @@ fn ident_turn(
 
 fn open_turn(
     alloc: Global,
-    own: &Own,
+    own: &mut Own,
     at: &Moment<'_>,
     link: SecureLink,
-    entity: Entity,
+    bearer: Bearer,
 ) -> Result<Came<Link, KeyChange>, AllocError>
-    ensures { IfOk result (IsMonitorTurn own.now at.now.reading at.now.draw.now.bytes (open_link at.now.number link entity)) }
+    requires { at.now.reading < 4000000000000000000 }
+    ensures come { IfOk result (IsMonitorTurn own.old at.now.reading at.now.draw.now.bytes (open_link at.now.number link bearer)) }
+    ensures same { own.new ≡ own.old }
 {
     let mut opened = Items::new(alloc);
     match link.turn(alloc, &mut opened)? {
-        LinkTurn::Waits(link) => Ok(Came::Waits(Link::new(at.number, Stage::Open(link, entity)))),
+        LinkTurn::Waits(link) => Ok(Came::Waits(Link::new(at.number, Stage::Open(link, bearer)))),
         LinkTurn::Refuses(why) => Ok(Came::Refuses(why, opened)),
         LinkTurn::Takes(link, frame) => {
-            let made = on_upkeep(alloc, own, at, link, entity, &frame);
+            let made = on_open(alloc, own, at, link, bearer, &frame);
             handles(alloc, &NodeName::Monitor, at.number, opened, made)
         }
     }

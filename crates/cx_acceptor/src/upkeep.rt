@@ -1,33 +1,41 @@
-//! KEEPALIVE2 and KEEPALIVE2_ACK on an open link.
+//! Frames on an open link: keepalives, and messages.
 
-ghost use Rattle.std.specs.Prelude.{[]};
+ghost use Rattle.std.specs.Prelude.{◌≡◌, ◌<◌, []};
 ghost use Rattle.cx_turns.specs.Stages.{keys_alone};
 ghost use Rattle.cx_turns.specs.Upkeep.{upkept};
 ghost use Rattle.cx_rules.specs.Acceptor.{Open};
+ghost use Rattle.cx_rules.specs.MonitorRequests.{on_open};
 ghost use Rattle.cx_rules.specs.Rows.{secure_sent};
-ghost use Rattle.cx_rules.specs.Upkeep.{on_upkeep};
 ghost use Rattle.cx_acceptor.specs.Rows.{Makes};
 ghost use Rattle.cx_acceptor.specs.Stages.{open_link};
 
-use crate::links::{Entity, Link, Stage};
+use crate::links::{Link, Stage};
+use crate::messages::on_message;
 use crate::own::{KeyChange, Own};
 use cx_frame::Frame;
 use cx_link::SecureLink;
-use cx_turns::{Moment, NoRow, NodeRow, goes_on, upkept};
+use cx_rules::Bearer;
+use cx_turns::{Moment, NoRow, NodeRow, goes_on, is_keepalive, upkept};
 use std::alloc::Global;
 
-// No other frame is due on an open link.
-pub(crate) fn on_upkeep(
+// A keepalive is answered as on any link; any other frame has to hold a message.
+pub(crate) fn on_open(
     alloc: Global,
-    own: &Own,
+    own: &mut Own,
     at: &Moment<'_>,
     link: SecureLink,
-    entity: Entity,
+    bearer: Bearer,
     frame: &Frame,
 ) -> Result<NodeRow<Link, KeyChange>, NoRow>
-    ensures { Makes own.now at.now (open_link at.now.number link entity) (λ a. on_upkeep a (keys_alone link.keys) (λ behind. Open behind entity) frame.now) result }
+    requires { at.now.reading < 4000000000000000000 }
+    ensures row { Makes own.old at.now (open_link at.now.number link bearer) (λ a. on_open Open a (keys_alone link.keys) bearer frame.now) result }
+    ensures same { own.new ≡ own.old }
 {
-    stays_open(alloc, own, at, link, entity, frame)
+    if is_keepalive(frame) {
+        stays_open(alloc, own, at, link, bearer, frame)
+    } else {
+        on_message(alloc, own, at, link, bearer, frame)
+    }
 }
 
 // What is sent behind the frame is sent, and the link stays open.
@@ -36,13 +44,13 @@ fn stays_open(
     own: &Own,
     at: &Moment<'_>,
     link: SecureLink,
-    entity: Entity,
+    bearer: Bearer,
     frame: &Frame,
 ) -> Result<NodeRow<Link, KeyChange>, NoRow>
-    ensures { Makes own.now at.now (open_link at.now.number link entity)
-        (λ a. secure_sent a (keys_alone link.keys) (λ behind. Open behind entity) [] (upkept link.keys frame.now)) result }
+    ensures { Makes own.now at.now (open_link at.now.number link bearer)
+        (λ a. secure_sent a (keys_alone link.keys) (λ behind. Open behind bearer) [] (upkept link.keys frame.now)) result }
 {
     let sent = upkept(alloc, link, frame)??;
-    let link = Link::new(at.number, Stage::Open(sent.link, entity));
+    let link = Link::new(at.number, Stage::Open(sent.link, bearer));
     Ok(goes_on(alloc, link, sent.bytes, sent.seals))
 }

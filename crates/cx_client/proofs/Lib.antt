@@ -1,3 +1,4 @@
 pub mod Idle
+pub mod Renewing
 pub mod Steps
 pub mod Turns

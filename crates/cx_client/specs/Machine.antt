@@ -1,5 +1,6 @@
 -- The client as its machine holds it.
-use Rattle.std.specs.Prelude.{ℕ, List, []}
+use Rattle.std.specs.Prelude.{ℕ, ◌≡◌, true, List, []}
+use Rattle.std.specs.Option.{option_map}
 use Rattle.cx_base.specs.Names.{Name}
 use Rattle.cx_base.specs.declared.addresses.Addr.{Addr}
 use Rattle.cx_connector.specs.Rows.{changed}
@@ -10,11 +11,13 @@ use Rattle.cx_turns.specs.Events.{link_in}
 use Rattle.cx_holdings.specs.declared.offers.OfferedModes.{OfferedModes}
 use Rattle.cx_rules.specs.Abridged.{abridged_asker_link}
 use Rattle.cx_rules.specs.ClientRule.{Client, ClientNode, me, with_asker}
-use Rattle.cx_rules.specs.Connector.{AwaitsBanner, Stage, turned_at}
+use Rattle.cx_rules.specs.Connector.{AwaitsBanner, Open, Stage, is_open, kept_open, turned_at}
 use Rattle.cx_rules.specs.Greetings.{own_banner}
-use Rattle.cx_rules.specs.Holdings.{Asker, holds_nothing, modes_of}
+use Rattle.cx_rules.specs.Holdings.{Asker, holds_nothing, modes_of, no_view}
 use Rattle.cx_rules.specs.Inputs.{Input}
-use Rattle.cx_rules.specs.Rows.{Outcome, Row, Turned, arrival, goes_on, lifted_turn, new_link}
+use Rattle.cx_rules.specs.Requests.{Requests, asks_tickets, first_open}
+use Rattle.cx_rules.specs.Rows.{Outcome, Row, Turned, arrival, goes_on, lifted, lifted_turn, new_link}
+use Rattle.cx_rules.specs.Secured.{Secured}
 use Rattle.cx_steps.specs.declared.effects.Effects.{Effects}
 use Rattle.cx_turns.specs.Steps as steps
 use Rattle.cx_turns.specs.Steps.{IsTurn, without_lost}
@@ -32,6 +35,7 @@ opening_asker name key modes address = record {
   modes = modes_of modes.crc modes.secure;
   global_seq = 0;
   holdings = holds_nothing;
+  view = no_view;
 }
 
 -- how a client holds its links
@@ -64,3 +68,15 @@ turn_of own reading draw link = lifted_turn (with_asker own) (turned_at (arrival
 -- a turn of this link came to that
 abbrev pub IsClientTurn : Client → ℕ → List ℕ → AskerLink → Came AskerLink Change → Type 0
 IsClientTurn own reading draw link come = IsTurn abridged_asker_link with_change own link (turn_of own reading draw link) come
+
+-- ---- Renew
+
+-- the first of these links that is open
+pub record IsFirstOpen (links : List AskerLink) (link : AskerLink) : Type 0 where
+  pub opened : is_open link.stage ≡ true
+  pub first : first_open kept_open links ≡ option_map (λ kept. (link, kept)) (kept_open link.stage)
+
+-- tickets are asked for on a link that is open, and keeps this
+abbrev pub tickets_asked : Client → ℕ → List ℕ → ℕ → AskerLink → Secured → Requests → ClientRow
+tickets_asked own reading draw services link s requests =
+    lifted (with_asker own) (asks_tickets Open (arrival (me own) own.asker link reading draw) s requests services)

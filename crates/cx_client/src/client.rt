@@ -8,7 +8,7 @@ ghost use Rattle.cx_turns.specs.Events.{losing};
 ghost use Rattle.cx_client.specs.Machine.{lost, opening_asker};
 
 use crate::events::steps;
-use crate::links::are_open;
+use crate::links::are_quiet;
 use crate::own::Own;
 use cx_base::{Addr, EntityName, Reading};
 use cx_connector::Link;
@@ -110,12 +110,12 @@ impl Client {
         }
     }
 
-    /// Whether it waits for nothing: each of its links is open.
+    /// Whether it waits for nothing: each of its links is open, and no request waits on it.
     pub fn idle(&self) -> bool
         ensures value { result ≡ is_idle self.now }
         ensures stands { (s : ClientNode) → ClientStandsFor self.now s → result ≡ is_idle s }
     {
         forgetting_laws();
-        are_open(&self.links)
+        are_quiet(&self.links)
     }
 }

@@ -60,7 +60,7 @@ pub(crate) fn steps(
             turns(alloc, own, links, &at)
         }
         Event::Gone(number) => goes(alloc, own, links, number),
-        Event::Submit(command) => submits(alloc, own, links, &command),
+        Event::Submit(command) => submits(alloc, own, links, &command, now, draw),
         Event::Restart => restarts(alloc, own, links),
         Event::NoLink(_) => opens_none(alloc, own, links),
         Event::Look(_) => Ok(Effects::new(alloc)),

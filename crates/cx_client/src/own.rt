@@ -1,14 +1,17 @@
 //! What a client has of its own.
 
-ghost use Rattle.std.specs.Prelude.{◌≡◌, IfOk};
+ghost use Rattle.std.specs.Prelude.{◌≡◌, true, Some, IfOk};
 ghost use Rattle.cx_node.specs.Made.{as_row};
 ghost use Rattle.cx_rules.specs.Abridged.{abridged_asker_link};
 ghost use Rattle.cx_turns.specs.Making.{row_due};
 ghost use Rattle.cx_turns.specs.Turns.{HasNumber};
-ghost use Rattle.cx_client.specs.Machine.{IsClientTurn, banner_sent};
+ghost use Rattle.cx_rules.specs.Connector.{is_open, kept_open};
+ghost use Rattle.cx_rules.specs.Requests.{Requests};
+ghost use Rattle.cx_rules.specs.Secured.{Secured};
+ghost use Rattle.cx_client.specs.Machine.{IsClientTurn, banner_sent, tickets_asked};
 
 use cx_base::{Addr, EntityName, NodeName};
-use cx_connector::{Change, Link, greeting, named, turned};
+use cx_connector::{Change, Link, asks_tickets, greeting, named, turned};
 use cx_enc::Key;
 use cx_holdings::{Asker, OfferedModes};
 use cx_node::Row;
@@ -59,6 +62,23 @@ impl Own {
         ensures { IfOk result (λ row. as_row self.now row ≡ row_due abridged_asker_link (banner_sent self.now at.now.number at.now.reading at.now.draw.now.bytes)) }
     {
         greeting(alloc, at.number, self.asked)
+    }
+
+    /// The row by which tickets are asked for on a link that is open.
+    #[tactic(auto, using(crate::proofs::Turns::asked))]
+    pub fn asks_tickets(
+        &self,
+        alloc: Global,
+        at: &Moment<'_>,
+        link: &Link,
+        services: u32,
+    ) -> Result<Row<Link>, AllocError>
+        requires number { link.now.number ≡ at.now.number }
+        requires open { is_open link.now.stage ≡ true }
+        ensures { (s : Secured) (requests : Requests) → kept_open link.now.stage ≡ Some (s, requests) → IfOk result (λ row.
+            as_row self.now row ≡ row_due abridged_asker_link (tickets_asked self.now at.now.reading at.now.draw.now.bytes services link.now s requests)) }
+    {
+        asks_tickets(alloc, &self.asker, at, link, services)
     }
 
     /// A login asks tickets for these services from now on.

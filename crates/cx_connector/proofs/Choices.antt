@@ -2,6 +2,7 @@
 use Rattle.std.proofs.Common.{◌≡◌, ◌≢◌, ◌∙◌, ℕ, ◌==◌, Bool, true, false, List, Result, Ok, Err, refl, sym, ap}
 use Rattle.std.proofs.lemmas.Bool.{ne_eqb}
 use Rattle.std.specs.Prelude.{if◌then◌else◌}
+use Rattle.cx_base.specs.Names.{is_daemon_type}
 use Rattle.cx_control.specs.Auth.{auth_done_layout, auth_reply_more_layout, auth_request_more_layout}
 use Rattle.cx_control.specs.BadMethod.{bad_method_layout, kept_method}
 use Rattle.cx_control.specs.Idents.{ident_missing_features_layout, server_ident_layout}
@@ -13,9 +14,10 @@ use Rattle.cx_frame.specs.declared.frame.Frame.{Frame}
 use Rattle.cx_journal.specs.declared.faults.BytesFault.{BytesFault}
 use Rattle.cx_login.specs.Client.{authenticate}
 use Rattle.cx_node.specs.Parts.{part_of}
-use Rattle.cx_rules.specs.Connector.{AskerArrival, AskerRow, on_bad_method, on_challenge, on_done, on_missing_features, on_reply_more, on_server_ident, proves, while_challenged, while_identified, while_proved}
-use Rattle.cx_rules.specs.Holdings.{Asker, unexpired}
+use Rattle.cx_rules.specs.Connector.{AskerArrival, AskerRow, Open, on_bad_method, on_challenge, on_done, on_missing_features, on_reply_more, proves, while_challenged, while_identified, while_proved}
+use Rattle.cx_rules.specs.Holdings.{unexpired}
 use Rattle.cx_rules.specs.Payloads as payload
+use Rattle.cx_rules.specs.Requests.{Requests, asks_rotating, on_server_ident, opens_to}
 use Rattle.cx_rules.specs.Payloads.{control}
 use Rattle.cx_rules.specs.Secured.{Secured, plain_frame}
 use Rattle.cx_wire.specs.Logins.{authenticate_layout}
@@ -71,8 +73,14 @@ proof_done a f read t r =
 
 -- ---- IDENT_MISSING_FEATURES
 
-pub features_missing : (a : AskerArrival) (s : Secured) (f : Frame) (read : Result IdentMissingFeatures BytesFault) → f.tag ≡ 10
-    → read ≡ payload.payload ident_missing_features_layout.form f → due (while_identified a s f) ≡ due (on_missing_features a read)
-features_missing a s f read t r =
-    first_of (f.tag == 10) (on_missing_features a (payload.payload ident_missing_features_layout.form f)) (on_server_ident a s (payload.due 9 server_ident_layout.form f))
+pub features_missing : (a : AskerArrival) (s : Secured) (session : List ℕ) (f : Frame) (read : Result IdentMissingFeatures BytesFault) → f.tag ≡ 10
+    → read ≡ payload.payload ident_missing_features_layout.form f → due (while_identified a s session f) ≡ due (on_missing_features a read)
+features_missing a s session f read t r =
+    first_of (f.tag == 10) (on_missing_features a (payload.payload ident_missing_features_layout.form f)) (on_server_ident Open a s session (payload.due 9 server_ident_layout.form f))
     (on_missing_features a read) (rw t refl) (ap (on_missing_features a) (sym r))
+
+-- ---- SERVER_IDENT
+
+-- a daemon asks at once
+pub daemon_asks : (a : AskerArrival) (s : Secured) (r : Requests) → is_daemon_type a.own.name.kind ≡ true → due (opens_to Open a s r) ≡ due (asks_rotating Open a s r)
+daemon_asks a s r is = rw is refl

@@ -13,8 +13,8 @@ number_held number (held.AwaitsHello wire asked) = refl
 number_held number (held.AwaitsChallenge wire asked) = refl
 number_held number (held.AwaitsDone wire) = refl
 number_held number (held.AwaitsSignature signing login) = refl
-number_held number (held.AwaitsIdent link) = refl
-number_held number (held.Open link) = refl
+number_held number (held.AwaitsIdent link session) = refl
+number_held number (held.Open link requests) = refl
 
 -- each of them is a link of which no more can be forgotten
 pub held_abridged : (number : ℕ) (stage : Stage) → abridged_asker_link (link_held number stage) ≡ link_held number stage
@@ -23,8 +23,8 @@ held_abridged number (held.AwaitsHello wire asked) = refl
 held_abridged number (held.AwaitsChallenge wire asked) = refl
 held_abridged number (held.AwaitsDone wire) = refl
 held_abridged number (held.AwaitsSignature signing login) = refl
-held_abridged number (held.AwaitsIdent link) = refl
-held_abridged number (held.Open link) = refl
+held_abridged number (held.AwaitsIdent link session) = refl
+held_abridged number (held.Open link requests) = refl
 
 pub link_fed : {X E : Type 0} (number : ℕ) (old new : Stage) (bytes : List ℕ) (r : Result X E) → OnOk r (link_held number new ≡ with_more bytes (link_held number old))
     → OnOk r (IsFed abridged_asker_link (link_held number old) bytes (link_held number new))

@@ -1,5 +1,5 @@
 -- The links to the monitor as they are held, each as the link of the rules that it is, abridged.
-use Rattle.std.specs.Prelude.{ℕ}
+use Rattle.std.specs.Prelude.{ℕ, List}
 use Rattle.cx_turns.specs.Stages.{keys_alone}
 use Rattle.cx_link.specs.Sending.{secured_of}
 use Rattle.cx_link.specs.Wires.{SecureWire, secured_link, wired}
@@ -7,6 +7,7 @@ use Rattle.cx_link.specs.declared.links.Signing.{Signing}
 use Rattle.cx_rules.specs.Connector as connector
 use Rattle.cx_rules.specs.Connector.{Login}
 use Rattle.cx_rules.specs.Links.{Link}
+use Rattle.cx_rules.specs.Requests.{Requests}
 use Rattle.cx_connector.specs.declared.links.Stage.{Stage}
 use Rattle.cx_connector.specs.declared.links.Stage.TheVariants as held
 
@@ -18,11 +19,11 @@ AskerLink = Link connector.Stage
 abbrev pub awaiting_signature : ℕ → Signing → Login → AskerLink
 awaiting_signature number signing login = secured_link number signing.link.ahead (connector.AwaitsSignature (secured_of signing) login)
 
-abbrev pub awaiting_ident : ℕ → SecureWire → AskerLink
-awaiting_ident number link = secured_link number link.ahead (connector.AwaitsIdent (keys_alone link.keys))
+abbrev pub awaiting_ident : ℕ → SecureWire → List ℕ → AskerLink
+awaiting_ident number link session = secured_link number link.ahead (connector.AwaitsIdent (keys_alone link.keys) session)
 
-abbrev pub open_link : ℕ → SecureWire → AskerLink
-open_link number link = secured_link number link.ahead (connector.Open (keys_alone link.keys))
+abbrev pub open_link : ℕ → SecureWire → Requests → AskerLink
+open_link number link requests = secured_link number link.ahead (connector.Open (keys_alone link.keys) requests)
 
 abbrev pub link_held : ℕ → Stage → AskerLink
 link_held number (held.AwaitsBanner wire asked) = wired number wire (connector.AwaitsBanner asked)
@@ -30,5 +31,5 @@ link_held number (held.AwaitsHello wire asked) = wired number wire (connector.Aw
 link_held number (held.AwaitsChallenge wire asked) = wired number wire (connector.AwaitsChallenge asked)
 link_held number (held.AwaitsDone wire) = wired number wire connector.AwaitsDone
 link_held number (held.AwaitsSignature signing login) = awaiting_signature number signing login
-link_held number (held.AwaitsIdent link) = awaiting_ident number link
-link_held number (held.Open link) = open_link number link
+link_held number (held.AwaitsIdent link session) = awaiting_ident number link session
+link_held number (held.Open link requests) = open_link number link requests

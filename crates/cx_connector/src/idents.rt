@@ -1,13 +1,16 @@
 //! SERVER_IDENT and IDENT_MISSING_FEATURES.
 
-ghost use Rattle.std.specs.Prelude.{ℕ, List};
+ghost use Rattle.std.specs.Prelude.{ℕ, ◌≡◌, List};
+ghost use Rattle.cx_base.specs.Names.{is_daemon_type};
 ghost use Rattle.cx_link.specs.Wires.{secured_link};
 ghost use Rattle.cx_rules.specs.Connector as connector;
-ghost use Rattle.cx_rules.specs.Connector.{on_missing_features, on_server_ident, while_identified};
+ghost use Rattle.cx_rules.specs.Connector.{Open, on_missing_features, while_identified};
+ghost use Rattle.cx_rules.specs.Requests.{on_server_ident, opens_to};
 ghost use Rattle.cx_connector.specs.Rows.{Makes};
 ghost use Rattle.cx_connector.specs.Stages.{awaiting_ident};
 ghost use Rattle.cx_turns.specs.Stages.{keys_alone};
 
+use crate::asking::asks_rotating;
 use crate::links::{Link, Stage};
 use crate::rows::Change;
 use cx_base::{Blob, Items};
@@ -17,6 +20,7 @@ use cx_holdings::Asker;
 use cx_journal::BytesFault;
 use cx_link::SecureLink;
 use cx_node::{due, payload};
+use cx_requests::Requests;
 use cx_turns::{Moment, NoRow, NodeRow, goes_on};
 use std::alloc::Global;
 
@@ -26,32 +30,59 @@ pub(crate) fn while_identified(
     asker: &Asker,
     at: &Moment<'_>,
     link: SecureLink,
+    session: [u8; 16],
     frame: &Frame,
 ) -> Result<NodeRow<Link, Change>, NoRow>
-    ensures { Makes asker.now at.now (awaiting_ident at.now.number link) (λ a. while_identified a (keys_alone link.keys) frame.now) result }
+    ensures { Makes asker.now at.now (awaiting_ident at.now.number link session) (λ a. while_identified a (keys_alone link.keys) session frame.now) result }
 {
     if frame.tag == 10 {
         let read = payload::<IdentMissingFeatures>(alloc, frame)?;
         on_missing_features(asker, at, read)
     } else {
         let read = due::<ServerIdent>(alloc, 9, frame)?;
-        on_server_ident(alloc, asker, at, link, read)
+        on_server_ident(alloc, asker, at, link, session, read)
     }
 }
 
-// The link is open.
+// The link is open, and no request was sent on it yet.
 fn on_server_ident(
     alloc: Global,
     asker: &Asker,
     at: &Moment<'_>,
     link: SecureLink,
+    session: [u8; 16],
     read: Result<ServerIdent, BytesFault>,
 ) -> Result<NodeRow<Link, Change>, NoRow>
-    ensures { Makes asker.now at.now (awaiting_ident at.now.number link) (λ a. on_server_ident a (keys_alone link.keys) read) result }
+    ensures { Makes asker.now at.now (awaiting_ident at.now.number link session) (λ a. on_server_ident Open a (keys_alone link.keys) session read) result }
 {
     let _ = read?;
-    let link = Link::new(at.number, Stage::Open(link));
-    Ok(goes_on(alloc, link, Blob::new(alloc), Items::new(alloc)))
+    opens_to(alloc, asker, at, link, Requests::new(alloc, session))
+}
+
+// A daemon, which opens a link in order to fetch, asks for its generations at once.
+fn opens_to(
+    alloc: Global,
+    asker: &Asker,
+    at: &Moment<'_>,
+    link: SecureLink,
+    requests: Requests,
+) -> Result<NodeRow<Link, Change>, NoRow>
+    ensures { (stage : connector.Stage) → Makes asker.now at.now (secured_link at.now.number link.ahead stage) (λ a. opens_to Open a (keys_alone link.keys) requests) result }
+{
+    if is_daemon(asker) {
+        asks_rotating(alloc, asker, at, link, requests)
+    } else {
+        let link = Link::new(at.number, Stage::Open(link, requests));
+        Ok(goes_on(alloc, link, Blob::new(alloc), Items::new(alloc)))
+    }
+}
+
+// Whether the entity is a daemon.
+fn is_daemon(asker: &Asker) -> bool
+    ensures { result ≡ is_daemon_type asker.now.name.kind }
+{
+    let name = asker.name();
+    name.kind.is_daemon()
 }
 
 // The monitor requires features that aren't there.

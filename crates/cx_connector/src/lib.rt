@@ -1,6 +1,7 @@
 //! One that logs in, on its link to the monitor: a client, or a daemon. What it does at each banner and frame that comes.
 #![tactic(auto)]
 
+mod asking;
 mod challenges;
 mod denials;
 mod dones;
@@ -8,11 +9,12 @@ mod greetings;
 mod idents;
 mod links;
 mod making;
+mod replies;
 mod rows;
 mod signatures;
 mod turns;
-mod upkeep;
 
+pub use asking::asks_tickets;
 pub use greetings::greeting;
 pub use links::{Link, Stage};
 pub use making::named;

@@ -1,13 +1,14 @@
 //! The links to the monitor: a number, and a stage with all that is held of the link.
 
 ghost use Rattle.std.specs.Prelude.{ℕ, ◌≡◌, OnOk};
-ghost use Rattle.cx_rules.specs.Connector.{is_open};
+ghost use Rattle.cx_rules.specs.Connector.{is_open, is_quiet};
 ghost use Rattle.cx_connector.specs.Stages.{link_held};
 ghost use Rattle.cx_turns.specs.Stages.{with_more};
 
 use cx_holdings::Login;
 use cx_link::{BannerLink, PlainLink, SecureLink, Signing};
 use cx_node::Numbered;
+use cx_requests::Requests;
 use cx_turns::Feeds;
 use std::alloc::{AllocError, Global};
 use std::marker::Model;
@@ -21,8 +22,9 @@ pub enum Stage {
     AwaitsDone(PlainLink),
     /// The login that was opened, until the monitor's signature is found right.
     AwaitsSignature(Signing, Login),
-    AwaitsIdent(SecureLink),
-    Open(SecureLink),
+    /// The session key of the ticket for AUTH, which opens what is told on the link later.
+    AwaitsIdent(SecureLink, [u8; 16]),
+    Open(SecureLink, Requests),
 }
 
 impl Stage {
@@ -36,8 +38,23 @@ impl Stage {
             Stage::AwaitsChallenge(_, _) => false,
             Stage::AwaitsDone(_) => false,
             Stage::AwaitsSignature(_, _) => false,
-            Stage::AwaitsIdent(_) => false,
-            Stage::Open(_) => true,
+            Stage::AwaitsIdent(_, _) => false,
+            Stage::Open(_, _) => true,
+        }
+    }
+
+    // Whether the link is open and no request waits on it.
+    fn is_quiet(&self) -> bool
+        ensures { (number : ℕ) → result ≡ is_quiet (link_held number self.now).stage }
+    {
+        match self {
+            Stage::AwaitsBanner(_, _) => false,
+            Stage::AwaitsHello(_, _) => false,
+            Stage::AwaitsChallenge(_, _) => false,
+            Stage::AwaitsDone(_) => false,
+            Stage::AwaitsSignature(_, _) => false,
+            Stage::AwaitsIdent(_, _) => false,
+            Stage::Open(_, requests) => !requests.is_waiting(),
         }
     }
 
@@ -51,8 +68,8 @@ impl Stage {
             Stage::AwaitsChallenge(link, _) => link.feed(alloc, bytes),
             Stage::AwaitsDone(link) => link.feed(alloc, bytes),
             Stage::AwaitsSignature(signing, _) => signing.link.feed(alloc, bytes),
-            Stage::AwaitsIdent(link) => link.feed(alloc, bytes),
-            Stage::Open(link) => link.feed(alloc, bytes),
+            Stage::AwaitsIdent(link, _) => link.feed(alloc, bytes),
+            Stage::Open(link, _) => link.feed(alloc, bytes),
         }
     }
 }
@@ -86,7 +103,7 @@ impl Numbered for Link {
 
 impl Link {
     ghost use Rattle.std.specs.Prelude.{◌≡◌};
-    ghost use Rattle.cx_rules.specs.Connector.{is_open};
+    ghost use Rattle.cx_rules.specs.Connector.{is_open, is_quiet};
     ghost use Rattle.cx_connector.specs.Stages.{link_held};
 
     // The link of this number, in a stage.
@@ -101,6 +118,13 @@ impl Link {
         ensures { result ≡ is_open self.now.stage }
     {
         self.stage.is_open()
+    }
+
+    /// Whether it is open and no request waits on it.
+    pub fn is_quiet(&self) -> bool
+        ensures { result ≡ is_quiet self.now.stage }
+    {
+        self.stage.is_quiet()
     }
 }
 

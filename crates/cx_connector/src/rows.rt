@@ -3,7 +3,8 @@
 ghost use Rattle.std.specs.Prelude.{◌≡◌};
 ghost use Rattle.cx_connector.specs.Rows.{changed};
 
-use cx_holdings::{Asker, Login};
+use cx_holdings::{Asker, Login, Renewed};
+use cx_rotate::View;
 
 /// What a row changes of what is held.
 #[derive(Drop)]
@@ -12,6 +13,10 @@ pub enum Change {
     Forgets,
     /// A login is held.
     Holds(Login),
+    /// Tickets that a reply told are held.
+    Renews(Renewed),
+    /// The generations that a reply told are the view, with the reading at which they were asked for.
+    Views(View),
 }
 
 impl Change {
@@ -22,6 +27,8 @@ impl Change {
         match self {
             Change::Forgets => asker.forget(),
             Change::Holds(login) => asker.hold(login),
+            Change::Renews(renewed) => asker.renew(renewed),
+            Change::Views(view) => asker.put_view(view),
         }
     }
 }

@@ -53,7 +53,7 @@ fn identifies(
     let Checked { link, entry } = checked;
     let cookie = at.draw.cookie();
     let seals = found_right(alloc, entry, cookie)?;
-    match send_secure(alloc, link, 8, &asker.client_ident(login.gid(), cookie))? {
+    match send_secure(alloc, link, 8, &asker.client_ident(login.gid(), 1, cookie))? {
         Ok(sent) => Ok(awaits_ident(alloc, at, sent, login, seals)?),
         Err(why) => {
             let me = named(alloc, asker)?;
@@ -84,11 +84,11 @@ fn awaits_ident(
     login: Login,
     before: Items<SealEntry>,
 ) -> Result<NodeRow<Link, Change>, AllocError>
-    ensures { IfOk result (λ made. made ≡ record { row = going_on (awaiting_ident at.now.number sent.link) sent.bytes (before ++ sent.seals); change = Some (Holds login) }) }
+    ensures { IfOk result (λ made. made ≡ record { row = going_on (awaiting_ident at.now.number sent.link login.opened.auth.session) sent.bytes (before ++ sent.seals); change = Some (Holds login) }) }
 {
     let mut seals = before;
     seals.append(alloc, sent.seals)?;
-    let link = Link::new(at.number, Stage::AwaitsIdent(sent.link));
+    let link = Link::new(at.number, Stage::AwaitsIdent(sent.link, login.session()));
     Ok(NodeRow {
         row: goes_on(alloc, link, sent.bytes, seals),
         change: Some(Change::Holds(login)),

@@ -13,14 +13,15 @@ use crate::greetings::{on_banner, on_hello};
 use crate::idents::while_identified;
 use crate::links::{Link, Stage};
 use crate::making::handles;
+use crate::replies::on_open;
 use crate::rows::Change;
 use crate::signatures::on_signature;
-use crate::upkeep::on_upkeep;
 use cx_base::Items;
 use cx_control::{AuthSignature, Hello};
 use cx_holdings::{Asker, Login};
 use cx_link::{BannerLink, BannerTurn, LinkTurn, PlainLink, SecureLink, Signing};
 use cx_node::due;
+use cx_requests::Requests;
 use cx_turns::{Came, Moment};
 use std::alloc::{AllocError, Global};
 
@@ -54,8 +55,8 @@ fn by_stage(
         Stage::AwaitsChallenge(link, asked) => challenge_turn(alloc, asker, at, link, asked),
         Stage::AwaitsDone(link) => done_turn(alloc, asker, at, link),
         Stage::AwaitsSignature(signing, login) => signature_turn(alloc, asker, at, signing, login),
-        Stage::AwaitsIdent(link) => ident_turn(alloc, asker, at, link),
-        Stage::Open(link) => open_turn(alloc, asker, at, link),
+        Stage::AwaitsIdent(link, session) => ident_turn(alloc, asker, at, link, session),
+        Stage::Open(link, requests) => open_turn(alloc, asker, at, link, requests),
     }
 }
 
@@ -173,15 +174,19 @@ fn ident_turn(
     asker: &Asker,
     at: &Moment<'_>,
     link: SecureLink,
+    session: [u8; 16],
 ) -> Result<Came<Link, Change>, AllocError>
-    ensures { IfOk result (IsAskerTurn asker.now at.now (awaiting_ident at.now.number link)) }
+    ensures { IfOk result (IsAskerTurn asker.now at.now (awaiting_ident at.now.number link session)) }
 {
     let mut opened = Items::new(alloc);
     match link.turn(alloc, &mut opened)? {
-        LinkTurn::Waits(link) => Ok(Came::Waits(Link::new(at.number, Stage::AwaitsIdent(link)))),
+        LinkTurn::Waits(link) => Ok(Came::Waits(Link::new(
+            at.number,
+            Stage::AwaitsIdent(link, session),
+        ))),
         LinkTurn::Refuses(why) => Ok(Came::Refuses(why, opened)),
         LinkTurn::Takes(link, frame) => {
-            let made = while_identified(alloc, asker, at, link, &frame);
+            let made = while_identified(alloc, asker, at, link, session, &frame);
             handles(alloc, asker, at, opened, made)
         }
     }
@@ -192,15 +197,16 @@ fn open_turn(
     asker: &Asker,
     at: &Moment<'_>,
     link: SecureLink,
+    requests: Requests,
 ) -> Result<Came<Link, Change>, AllocError>
-    ensures { IfOk result (IsAskerTurn asker.now at.now (open_link at.now.number link)) }
+    ensures { IfOk result (IsAskerTurn asker.now at.now (open_link at.now.number link requests)) }
 {
     let mut opened = Items::new(alloc);
     match link.turn(alloc, &mut opened)? {
-        LinkTurn::Waits(link) => Ok(Came::Waits(Link::new(at.number, Stage::Open(link)))),
+        LinkTurn::Waits(link) => Ok(Came::Waits(Link::new(at.number, Stage::Open(link, requests)))),
         LinkTurn::Refuses(why) => Ok(Came::Refuses(why, opened)),
         LinkTurn::Takes(link, frame) => {
-            let made = on_upkeep(alloc, asker, at, link, &frame);
+            let made = on_open(alloc, asker, at, link, requests, &frame);
             handles(alloc, asker, at, opened, made)
         }
     }

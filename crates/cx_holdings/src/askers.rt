@@ -5,6 +5,7 @@ ghost use Rattle.cx_control.specs.Auth.{auth_request_layout};
 ghost use Rattle.cx_control.specs.Idents.{client_ident_layout};
 ghost use Rattle.cx_holdings.specs.Steps.{IsAnswerTo, IsOpenedBy};
 ghost use Rattle.cx_rules.specs.Connector.{client_ident, login_request};
+ghost use Rattle.cx_rules.specs.Holdings.{no_view};
 ghost use Rattle.cx_rules.specs.Payloads.{control, whole};
 ghost use Rattle.cx_wire.specs.Logins.{login_done_layout, server_challenge_layout};
 
@@ -18,6 +19,7 @@ use cx_control::{AuthRequest, ClientIdent};
 use cx_enc::Key;
 use cx_journal::BytesFault;
 use cx_login::{Asking, LoggedIn};
+use cx_rotate::{Generations, View};
 use cx_steps::SealEntry;
 use std::alloc::{AllocError, Global};
 use std::marker::Model;
@@ -29,8 +31,8 @@ const NO_ADDR: Addr = Addr {
     port: 0,
 };
 
-/// One that logs in: its name and its key, its address, the modes that it offers, its count of connections to daemons, and what it
-/// holds.
+/// One that logs in: its name and its key, its address, the modes that it offers, its count of connections to daemons, what it holds,
+/// and, where it is a daemon, the generations that it was told last.
 #[derive(Drop)]
 pub struct Asker {
     name: EntityName,
@@ -39,6 +41,17 @@ pub struct Asker {
     modes: OfferedModes,
     global_seq: u64,
     holdings: Holdings,
+    view: View,
+}
+
+// Nothing was told yet.
+fn no_view() -> View
+    ensures { result ≡ no_view }
+{
+    View {
+        generations: Generations::empty(),
+        asked: None,
+    }
 }
 
 impl Model for Asker {
@@ -53,11 +66,12 @@ impl Model for Asker {
       modes = rules.modes_of a.modes.crc a.modes.secure;
       global_seq = a.global_seq;
       holdings = a.holdings;
+      view = a.view;
     } };
 }
 
 impl Asker {
-    ghost use Rattle.cx_rules.specs.Holdings.{afresh, held_login, holds_nothing, modes_of, put_tickets, unexpired};
+    ghost use Rattle.cx_rules.specs.Holdings.{afresh, held_login, holds_nothing, modes_of, no_view, put_tickets, unexpired};
 
     /// One that holds nothing yet.
     pub fn new(name: EntityName, key: Key, address: Addr, modes: OfferedModes) -> Asker
@@ -68,6 +82,7 @@ impl Asker {
           modes = modes_of modes.crc modes.secure;
           global_seq = 0;
           holdings = holds_nothing;
+          view = no_view;
         } }
     {
         Asker {
@@ -77,6 +92,7 @@ impl Asker {
             modes,
             global_seq: 0,
             holdings: Holdings::new(),
+            view: no_view(),
         }
     }
 
@@ -94,12 +110,20 @@ impl Asker {
         self.key.secret
     }
 
-    /// Begins anew: nothing is held, and connections are counted from 0.
+    /// The generations that it was told last, and the reading at which it asked for them.
+    pub fn view(&self) -> View
+        ensures { result ≡ self.now.view }
+    {
+        self.view
+    }
+
+    /// Begins anew: nothing is held, nothing was told, and connections are counted from 0.
     pub fn begin_anew(&mut self)
         ensures { self.new ≡ afresh self.old }
     {
         self.global_seq = 0;
         self.holdings.forget();
+        self.view = no_view();
     }
 
     /// Holds a login.
@@ -114,6 +138,13 @@ impl Asker {
         ensures { self.new ≡ record self.old { holdings = put_tickets self.old.holdings renewed } }
     {
         self.holdings.renew(renewed);
+    }
+
+    /// From now on these generations are what it was told last.
+    pub fn put_view(&mut self, view: View)
+        ensures { self.new ≡ record self.old { view = view } }
+    {
+        self.view = view;
     }
 
     /// Forgets its global id and all tickets.
@@ -168,9 +199,9 @@ impl Asker {
         opened(alloc, &self.key.secret, payload, seals)
     }
 
-    /// The payload of CLIENT_IDENT to the monitor, under the global id of a login.
-    pub fn client_ident(&self, gid: u64, cookie: u64) -> ClientIdent
-        ensures { control 8 client_ident_layout.form result ≡ client_ident self.now gid cookie }
+    /// The payload of CLIENT_IDENT under a global id, with flags (1 for a lossy session) and a cookie.
+    pub fn client_ident(&self, gid: u64, flags: u64, cookie: u64) -> ClientIdent
+        ensures { control 8 client_ident_layout.form result ≡ client_ident self.now gid flags cookie }
     {
         ClientIdent {
             addr: self.address,
@@ -179,7 +210,7 @@ impl Asker {
             global_seq: self.global_seq,
             supported: 0,
             required: 0,
-            flags: 1,
+            flags,
             cookie,
         }
     }

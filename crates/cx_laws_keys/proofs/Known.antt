@@ -1,5 +1,5 @@
 -- What is known of a run so far: what each key is for, and that all that is sealed and signed under it says what its use allows.
-use Rattle.std.proofs.Common.{◌≡◌, ℕ, ◌^◌, ◌<◌, ◌≤◌, List, length, take, Some, subst}
+use Rattle.std.proofs.Common.{◌≡◌, ℕ, ◌^◌, ◌<◌, ◌≤◌, List, [], ◌∷◌, length, take, Some, inl, inr, subst, arith, ◌⊎◌}
 use Rattle.std.specs.Prelude.{Contains}
 use Rattle.std.specs.List.{AllByRecursion}
 use Rattle.cx_base.specs.Names.{Name}
@@ -10,7 +10,6 @@ use Rattle.cx_journal.specs.declared.entries.Entry.TheVariants as journal
 use Rattle.cx_journal.specs.declared.entries.Issued.{Issued}
 use Rattle.cx_base.specs.declared.nodes.NodeName.{NodeName}
 use Rattle.cx_base.specs.declared.nodes.NodeName.TheVariants as node
-use Rattle.cx_rotate.specs.declared.generations.Generation.{Generation}
 use Rattle.cx_sealed.specs.Records.{connection_secret_layout, rotating_reply_layout, service_ticket_layout, ticket_info_layout}
 use Rattle.cx_sealed.specs.Unsealing.{spelled_by}
 use Rattle.cx_sealed.specs.declared.connection_secret.ConnectionSecret.{ConnectionSecret}
@@ -23,7 +22,7 @@ use Rattle.cx_steps.specs.declared.seals.Logged.{Logged}
 use Rattle.cx_steps.specs.declared.seals.SealEntry.{SealEntry}
 use Rattle.cx_steps.specs.declared.seals.SealEntry.TheVariants as entry
 use Rattle.cx_steps.specs.declared.seals.SealMark.{SealMark}
-use Rattle.cx_laws_keys.proofs.Lists.{all-map, some-of, some-with}
+use Rattle.cx_laws_keys.proofs.Lists.{some-of, some-with}
 use Rattle.cx_laws_keys.proofs.Uses.{Use, Secret, Generated, Login, Ticketed, Connected, Uses, IsConnected, Means, Grows, HasDrawn, HasSecret, connected-grows, session_use, whose}
 
 -- ---- what is said under a key
@@ -42,10 +41,9 @@ pub record HasTicket (entries : List Entry) (service : EntityType) (id : ℕ) (k
   pub generation : ticket.generation ≡ id
   pub blob : ticket.blob ≡ enveloped key content
 
--- the generations of this reply are those of the entity's own type, and each key is the one of its generation
-pub record AreToldOf (us : Uses) (name : Name) (x : RotatingReply) : Type 0 where
+-- the generations of this reply are said to be those of the entity's own type
+pub record AreToldOf (name : Name) (x : RotatingReply) : Type 0 where
   pub service_is : x.service ≡ name.kind
-  pub generated : AllByRecursion (λ (g : Generation). Means us g.key (Generated x.service g.id)) x.generations
 
 -- what may be sealed under a key of this use, by what is read of it: an entity is told the session key of its own ticket for AUTH, and the
 -- generations of its own type; under that session key those of its other tickets, and the secret of its link to the monitor; under a generation
@@ -53,7 +51,7 @@ pub record AreToldOf (us : Uses) (name : Name) (x : RotatingReply) : Type 0 wher
 abbrev pub Says : Uses → List Entry → List ℕ → Use → List ℕ → Type 0
 Says us entries key (Secret name) content =
     ((x : TicketInfo) → spelled_by ticket_info_layout.form content ≡ Some x → Means us x.session (Login name))
-    × ((x : RotatingReply) → spelled_by rotating_reply_layout.form content ≡ Some x → AreToldOf us name x)
+    × ((x : RotatingReply) → spelled_by rotating_reply_layout.form content ≡ Some x → AreToldOf name x)
 Says us entries key (Generated service id) content =
     (x : ServiceTicket) → spelled_by service_ticket_layout.form content ≡ Some x → HasTicket entries service id key content x × Means us x.session (session_use x.name service)
 Says us entries key (Login name) content =
@@ -67,9 +65,24 @@ abbrev pub SignedAt : NodeName → Use → Type 0
 SignedAt at (Secret name) = at ≡ node.Entity name
 SignedAt at _ = Unit {0}
 
+-- these bytes begin with the nonce of an acceptor, of which the highest bit is 0
+abbrev pub IsOfAcceptor : List ℕ → Type 0
+IsOfAcceptor [] = ⊥
+IsOfAcceptor (b ∷ bytes) = b < 128
+
+-- these begin with the nonce of a connector, of which it is 1
+abbrev pub IsOfConnector : List ℕ → Type 0
+IsOfConnector [] = ⊥
+IsOfConnector (b ∷ bytes) = 128 ≤ b
+
+-- under the key of a link only the entity's own node seals anything but what begins with the nonce of an acceptor
+abbrev pub SealedAt : NodeName → Use → List ℕ → Type 0
+SealedAt at (Connected acceptor number name tie) content = (at ≡ node.Entity name) ⊎ IsOfAcceptor content
+SealedAt at _ content = Unit {0}
+
 -- what is sealed or signed is so under a key of some use, as that use allows
 abbrev pub IsAllowed : Uses → List Entry → NodeName → SealEntry → Type 0
-IsAllowed us entries at (entry.Sealed mark) = (u : Use) × Means us mark.key u × Says us entries mark.key u mark.content
+IsAllowed us entries at (entry.Sealed mark) = (u : Use) × Means us mark.key u × Says us entries mark.key u mark.content × SealedAt at u mark.content
 IsAllowed us entries at (entry.Signed mark) = (u : Use) × Means us mark.key u × SignedAt at u
 IsAllowed us entries at _ = Unit {0}
 
@@ -97,13 +110,7 @@ pub record Within (J K : List Entry) : Type 0 where
 says-grows : (us vs : Uses) (J K : List Entry) → Grows us vs → Within J K → (key : List ℕ) (u : Use) (content : List ℕ) → Says us J key u content → Says vs K key u content
 says-grows us vs J K g w key (Secret name) content s = (
   λ x is. g.means x.session (Login name) (s.0 x is),
-  λ x is.
-      let h : AreToldOf us name x = s.1 x is in
-      record {
-        service_is = h.service_is;
-        generated = all-map (λ (of : Generation). Means us of.key (Generated x.service of.id)) (λ (of : Generation). Means vs of.key (Generated x.service of.id))
-            (λ of m. g.means of.key (Generated x.service of.id) m) x.generations h.generated;
-      },
+  λ x is. s.1 x is,
 )
 says-grows us vs J K g w key (Generated service id) content s = λ x is.
     let h : HasTicket J service id key content x = (s x is).0 in (
@@ -127,7 +134,7 @@ says-grows us vs J K g w key (Ticketed name service) content s = tt
 says-grows us vs J K g w key (Connected acceptor number name tie) content s = tt
 
 pub allowed-grows : (us vs : Uses) (J K : List Entry) → Grows us vs → Within J K → (at : NodeName) (e : SealEntry) → IsAllowed us J at e → IsAllowed vs K at e
-allowed-grows us vs J K g w at (entry.Sealed mark) h = (h.0, g.means mark.key h.0 h.1, says-grows us vs J K g w mark.key h.0 mark.content h.2)
+allowed-grows us vs J K g w at (entry.Sealed mark) h = (h.0, g.means mark.key h.0 h.1, says-grows us vs J K g w mark.key h.0 mark.content h.2, h.3)
 allowed-grows us vs J K g w at (entry.Signed mark) h = (h.0, g.means mark.key h.0 h.1, h.2)
 allowed-grows us vs J K g w at (entry.Opened mark) h = tt
 allowed-grows us vs J K g w at (entry.Checked mark) h = tt
@@ -166,6 +173,32 @@ module _ (leaked : List Name) (whole : List Logged) (us : Uses) (log : List Logg
           let purpose : a.0 ≡ Secret name = i.one mark.key a.0 (Secret name) means h in
           subst (λ (v : Use). SignedAt n v) purpose a.2
       by_entry n (entry.Sealed other) same a = absurd same
+      by_entry n (entry.Opened other) same a = absurd same
+      by_entry n (entry.Checked other) same a = absurd same
+      by_entry n (entry.Drawn other) same a = absurd same
+
+  -- what was sealed under the key of a link to an entity, and begins with the nonce of a connector, its own node sealed
+  pub sealed_own : Inv leaked whole us log J → (mark : SealMark) (name : Name) → HasSealed log mark → IsConnected us mark.key name → IsOfConnector mark.content
+      → SomeOf (λ (at : Logged). (at.node ≡ node.Entity name) × Seals mark at.entry) log
+  sealed_own i mark name sealed h begins =
+      some-with (λ (at : Logged). Seals mark at.entry) (λ (at : Logged). IsAllowed us J at.node at.entry) (λ (at : Logged). (at.node ≡ node.Entity name) × Seals mark at.entry)
+      (λ at s a. (by_entry at.node at.entry s a, s)) log sealed i.allowed
+    where
+      not_both : (content : List ℕ) → IsOfConnector content → IsOfAcceptor content → ⊥
+      not_both [] connector acceptor = connector
+      not_both (b ∷ bytes) connector acceptor = omega arith
+
+      by_place : (n : NodeName) → (n ≡ node.Entity name) ⊎ IsOfAcceptor mark.content → n ≡ node.Entity name
+      by_place n (inl own) = own
+      by_place n (inr acceptor) = absurd (not_both mark.content begins acceptor)
+
+      by_entry : (n : NodeName) (e : SealEntry) → Seals mark e → IsAllowed us J n e → n ≡ node.Entity name
+      by_entry n (entry.Sealed other) same a =
+          let means : Means us mark.key a.0 = subst (λ (k : List ℕ). Means us k a.0) same.key a.1 in
+          let purpose : a.0 ≡ Connected h.acceptor h.number name h.tie = i.one mark.key a.0 (Connected h.acceptor h.number name h.tie) means h.means in
+          let there : SealedAt n a.0 mark.content = subst (λ (c : List ℕ). SealedAt n a.0 c) same.content a.3 in
+          by_place n (subst (λ (v : Use). SealedAt n v mark.content) purpose there)
+      by_entry n (entry.Signed other) same a = absurd same
       by_entry n (entry.Opened other) same a = absurd same
       by_entry n (entry.Checked other) same a = absurd same
       by_entry n (entry.Drawn other) same a = absurd same

@@ -1,7 +1,7 @@
 -- Each row of one that logs in.
-use Rattle.std.proofs.Common.{◌≡◌, ℕ, ◌==◌, Bool, true, false, List, [], ◌∷◌, ◌++◌, take, Option, Some, None, Result, Ok, Err, refl, sym, subst}
+use Rattle.std.proofs.Common.{◌≡◌, ℕ, ◌==◌, Bool, true, false, List, [], ◌∷◌, ◌++◌, take, Option, Some, None, Result, Ok, Err, refl, sym, subst, ◌+◌, ◌-◌, ◌^◌}
 use Rattle.std.specs.Prelude.{not, if◌then◌else◌}
-use Rattle.cx_base.specs.Names.{Name}
+use Rattle.cx_base.specs.Names.{Name, is_daemon_type}
 use Rattle.cx_control.specs.Auth.{auth_done_layout, auth_reply_more_layout, auth_request_more_layout}
 use Rattle.cx_control.specs.BadMethod.{bad_method_layout, kept_method}
 use Rattle.cx_control.specs.Idents.{ident_missing_features_layout, server_ident_layout}
@@ -29,13 +29,13 @@ use Rattle.cx_login.specs.Client.{Ask, authenticate}
 use Rattle.cx_login.specs.Held.{Held, held_as}
 use Rattle.cx_login.specs.Unlocking.{Unlocked, ◌>>=◌, going_on, login_in, login_of_parts, made, told, told_each, unlocked}
 use Rattle.cx_login.specs.declared.client.LoggedIn.{LoggedIn}
-use Rattle.cx_rules.specs.Connector.{Stage, AwaitsHello, AwaitsChallenge, AwaitsDone, AwaitsSignature, AwaitsIdent, Open, AskerArrival, AskerRow, Login as Opening, client_ident, holding, identifies, login_request, on_bad_method, on_banner, on_challenge, on_denial, on_done, on_hello, on_login_done, on_missing_features, on_opened, on_reply_more, on_server_ident, on_signature, proof_made, proves, signs, while_challenged, while_identified, while_proved}
+use Rattle.cx_rules.specs.Connector.{Stage, AwaitsHello, AwaitsChallenge, AwaitsDone, AwaitsSignature, AwaitsIdent, Open, AskerArrival, AskerRow, Login as Opening, client_ident, holding, identifies, login_request, on_bad_method, on_banner, on_challenge, on_denial, on_done, on_hello, on_login_done, on_missing_features, on_opened, on_reply_more, on_signature, proof_made, proves, signs, while_challenged, while_identified, while_proved}
 use Rattle.cx_rules.specs.Greetings.{own_hello}
 use Rattle.cx_rules.specs.Holdings.{Asker, held_login, holds_nothing, unexpired}
 use Rattle.cx_rules.specs.Payloads.{control, due, payload, whole}
-use Rattle.cx_rules.specs.Rows.{refuses, refuses_bytes}
-use Rattle.cx_rules.specs.Secured.{SealedFrame, Secured, connector_keys, is_signed, plain_frame, secure_frame, signature_found, signed_frame}
-use Rattle.cx_rules.specs.Upkeep.{on_keepalive, on_keepalive_ack, on_upkeep}
+use Rattle.cx_rules.specs.Rows.{refuses, refuses_bytes, goes_on}
+use Rattle.cx_rules.specs.Secured.{Keys, SealedFrame, Secured, connector_keys, is_signed, plain_frame, secure_frame, signature_found, signed_frame, under}
+use Rattle.cx_rules.specs.Upkeep.{on_keepalive, on_keepalive_ack}
 use Rattle.cx_sealed.specs.Records.{connection_secret_layout, ticket_info_layout}
 use Rattle.cx_sealed.specs.declared.connection_secret.ConnectionSecret.{ConnectionSecret}
 use Rattle.cx_sealed.specs.declared.ticket_info.TicketInfo.{TicketInfo}
@@ -53,12 +53,32 @@ use Rattle.cx_laws_keys.proofs.Lists.{all-append}
 use Rattle.cx_laws_keys.proofs.Premises.{AreGranted, behind, granted-first, granted-rest}
 use Rattle.cx_laws_keys.proofs.Steps.{inv-all}
 use Rattle.cx_laws_keys.proofs.Uses.{IsConnected, Login, Means, Secret, Uses}
-use Rattle.cx_laws_login.proofs.Facts.{AskerOk, AskerStageOk, HasConnection, asker-entered, asker_stage-grows}
+use Rattle.cx_laws_login.proofs.Facts.{AskerOk, AskerStageOk, HasConnection, asker-entered, asker_stage-grows, AsksTickets, OpenOk, seals-own}
 use Rattle.cx_laws_login.proofs.Opens.{unlocked-allowed, unlocked_says}
 use Rattle.cx_laws_login.proofs.Rows.{AfterRow, Allowed, FrameOk, Saying, Simple, after-simple, frame-ok, signing-ok, simple-goes_on, simple-plain, simple-refuses, simple-refuses_bytes, simple-secure}
+use Rattle.cx_rules.specs.Requests.{Requests, asks_rotating, asks_tickets, behind_reply, behind_request, body_taken, having, later, message_taken, no_requests, on_open, on_reply, on_server_ident, opens_to, reply_taken, request_message, sends_request, takes, tickets_taken, unless_unsealed, waiting_taken, with_tickets}
+use Rattle.cx_rules.specs.Messages.{Message, body_as, message_in}
+use Rattle.cx_rules.specs.declared.requests.Taken.{Taken}
+use Rattle.cx_rules.specs.declared.requests.Taken.TheVariants as taken
+use Rattle.cx_rules.specs.declared.requests.Waiting.{Waiting}
+use Rattle.cx_rules.specs.declared.requests.Want.{Want}
+use Rattle.cx_rules.specs.declared.requests.Want.TheVariants as want
+use Rattle.cx_rules.specs.declared.messages.Body.{Body}
+use Rattle.cx_rules.specs.declared.messages.Body.TheVariants as body
+use Rattle.cx_wire.specs.declared.bodies.Reply.{Reply}
+use Rattle.cx_wire.specs.declared.bodies.Reply.TheVariants as given
+use Rattle.cx_wire.specs.declared.bodies.Request.TheVariants as asked
+use Rattle.cx_wire.specs.Bodies.{reply_layout}
+use Rattle.cx_laws_keys.proofs.Journal.{IsOfLogin}
+use Rattle.std.specs.List.{AllByRecursion}
 
-abbrev pub asker_says : List Entry → Saying Asker Stage
-asker_says before = record { Owns = AskerOk before; Stands = AskerStageOk; own_enters = asker-entered before; stage_grows = asker_stage-grows }
+abbrev pub asker_says : List Entry → NodeName → Saying Asker Stage
+asker_says before n = record {
+  Owns = AskerOk before;
+  Stands = λ us stage. AskerStageOk us n stage;
+  own_enters = asker-entered before;
+  stage_grows = λ us vs stage f st. asker_stage-grows us vs n stage f st;
+}
 
 -- ---- what a login opens
 
@@ -107,7 +127,7 @@ module _ (leaked : List Name) (whole_log : List Logged) (n : NodeName) (line : �
 
   -- the secret of the connection, under the session key of that ticket
   abbrev IsLogin : Name → LoggedIn → Type 0
-  IsLogin name login = Means us login.auth.session (Login name) × HasConnection us (take 16 login.secret)
+  IsLogin name login = Means us login.auth.session (Login name) × IsConnected us (take 16 login.secret) name
 
   connection-tells : (name : Name) (auth : Held) (tickets : List Held) (connection : List ℕ) → Means us auth.session (Login name)
       → Tells (unlocked connection_secret_layout.form kind.Session auth.session connection >>= λ opened. made (record { auth = auth; tickets = tickets; secret = opened.secret })) (IsLogin name)
@@ -123,7 +143,7 @@ module _ (leaked : List Name) (whole_log : List Logged) (n : NodeName) (line : �
       login_means opened x m e =
           let login : LoggedIn = record { auth = auth; tickets = tickets; secret = opened.secret } in
           let same : login ≡ x = cc in
-          subst (IsLogin name) same (means, record { name = name; connected = m })
+          subst (IsLogin name) same (means, m)
 
   login-allowed : (secret : List ℕ) (parts : List TicketPart) (connection : List ℕ) → Allowed us J n (login_of_parts secret parts connection).seals
   login-allowed secret [] connection = tt
@@ -151,28 +171,28 @@ module _ (leaked : List Name) (whole_log : List Logged) (n : NodeName) (line : �
 
 module _ (leaked : List Name) (whole_log : List Logged) (n : NodeName) (line : ℕ) (us : Uses) (log : List Logged) (J before : List Entry) where
   abbrev IsSimple : AskerRow → Type 0
-  IsSimple row = Simple (asker_says before) us J n row
+  IsSimple row = Simple (asker_says before n) us J n row
 
   -- it stands at its own node
   abbrev pub IsAt : Asker → Type 0
   IsAt asker = n ≡ node.Entity asker.name
 
   refuses-simple : (a : AskerArrival) (why : BytesFault) (seals : List SealEntry) → AskerOk before us J a.own → Allowed us J n seals → IsSimple (refuses_bytes a why seals)
-  refuses-simple a why seals ok al = simple-refuses_bytes (asker_says before) us J n a why seals ok al
+  refuses-simple a why seals ok al = simple-refuses_bytes (asker_says before n) us J n a why seals ok al
 
   pub banner-simple : (a : AskerArrival) (asked : ℕ) → AskerOk before us J a.own → IsSimple (on_banner a asked)
-  banner-simple a asked ok = simple-plain (asker_says before) us J n a (AwaitsHello asked) [] (own_hello a.own.name.kind) ok tt tt
+  banner-simple a asked ok = simple-plain (asker_says before n) us J n a (AwaitsHello asked) [] (own_hello a.own.name.kind) ok tt tt
 
   pub hello-simple : (a : AskerArrival) (asked : ℕ) (hello : Result Hello BytesFault) → AskerOk before us J a.own → IsSimple (on_hello a asked hello)
   hello-simple a asked (Err why) ok = refuses-simple a why [] ok tt
-  hello-simple a asked (Ok hello) ok = simple-plain (asker_says before) us J n a (AwaitsChallenge asked) [] (login_request a.own) ok tt tt
+  hello-simple a asked (Ok hello) ok = simple-plain (asker_says before n) us J n a (AwaitsChallenge asked) [] (login_request a.own) ok tt tt
 
   -- ---- AUTH_REPLY_MORE, AUTH_BAD_METHOD
 
   proves-simple : (a : AskerArrival) (server : ℕ) (bytes : Result (List ℕ) BytesFault) → AskerOk before us J a.own → IsAt a.own → IsSimple (proves a server bytes)
   proves-simple a server (Err why) ok here = refuses-simple a why (entry.Drawn (draw.Challenge (challenge_of a.draw)) ∷ []) ok (tt, tt)
   proves-simple a server (Ok bytes) ok here =
-      simple-goes_on (asker_says before) us J n a AwaitsDone bytes (entry.Drawn (draw.Challenge (challenge_of a.draw)) ∷ proof_made a.own.secret server (challenge_of a.draw) ∷ []) ok tt
+      simple-goes_on (asker_says before n) us J n a AwaitsDone bytes (entry.Drawn (draw.Challenge (challenge_of a.draw)) ∷ proof_made a.own.secret server (challenge_of a.draw) ∷ []) ok tt
       (tt, ((Secret a.own.name, ok.secret, here), tt))
 
   challenge-simple : (a : AskerArrival) (asked : ℕ) (server : Result ServerChallenge BytesFault) → AskerOk before us J a.own → IsAt a.own → IsSimple (on_challenge a asked server)
@@ -190,8 +210,8 @@ module _ (leaked : List Name) (whole_log : List Logged) (n : NodeName) (line : �
   denial-simple a code ok = by_test (code == 13)
     where
       by_test : (t : Bool) → IsSimple (refuses (if t then holding a holds_nothing else a) (reason.Denied code) [])
-      by_test true = simple-refuses (asker_says before) us J n (holding a holds_nothing) (reason.Denied code) [] tt (record { client = ok.client; secret = ok.secret; quiet = ok.quiet; count = ok.count }) tt
-      by_test false = simple-refuses (asker_says before) us J n a (reason.Denied code) [] tt ok tt
+      by_test true = simple-refuses (asker_says before n) us J n (holding a holds_nothing) (reason.Denied code) [] tt (record { client = ok.client; secret = ok.secret; quiet = ok.quiet; count = ok.count }) tt
+      by_test false = simple-refuses (asker_says before n) us J n a (reason.Denied code) [] tt ok tt
 
   bad_method-simple : (a : AskerArrival) (r : Result (ℕ × (ℕ × (List ℕ × List ℕ))) BytesFault) → AskerOk before us J a.own → IsSimple (on_bad_method a r)
   bad_method-simple a (Err why) ok = refuses-simple a why [] ok tt
@@ -207,26 +227,27 @@ module _ (leaked : List Name) (whole_log : List Logged) (n : NodeName) (line : �
   -- ---- AUTH_DONE
 
   abbrev AfterAsker : AskerRow → Type 0
-  AfterAsker row = AfterRow (asker_says before) leaked whole_log n line us log J row
+  AfterAsker row = AfterRow (asker_says before n) leaked whole_log n line us log J row
 
   abbrev Grants : List SealEntry → Type 0
   Grants es = AreGranted leaked whole_log n line log es
 
-  signs-simple : (a : AskerArrival) (login : Opening) (opened : List SealEntry) (r : Result SealedFrame BytesFault) (key : List ℕ) → AskerOk before us J a.own → Allowed us J n opened
-      → HasConnection us key → FrameOk us J n key r → IsSimple (signs a login opened r)
-  signs-simple a login opened (Err why) key ok al has f = refuses-simple a why opened ok al
-  signs-simple a login opened (Ok sealed) key ok al has f =
-      simple-goes_on (asker_says before) us J n a (AwaitsSignature (record { keys = sealed.keys; session = login.opened.auth.session; covered = a.link.sent }) login) sealed.bytes (opened ++ sealed.seals) ok
-      (subst (λ (k : List ℕ). HasConnection us k) (sym f.1) has) (all-append (IsAllowed us J n) opened sealed.seals al f.0)
+  signs-simple : (a : AskerArrival) (login : Opening) (opened : List SealEntry) (r : Result SealedFrame BytesFault) (keys : Keys) → AskerOk before us J a.own → Allowed us J n opened
+      → HasConnection us n keys.key → FrameOk us J n keys r → IsSimple (signs a login opened r)
+  signs-simple a login opened (Err why) keys ok al has f = refuses-simple a why opened ok al
+  signs-simple a login opened (Ok sealed) keys ok al has f =
+      simple-goes_on (asker_says before n) us J n a (AwaitsSignature (record { keys = sealed.keys; session = login.opened.auth.session; covered = a.link.sent }) login) sealed.bytes (opened ++ sealed.seals) ok
+      (subst (λ (k : List ℕ). HasConnection us n k) (sym f.1.key) has) (all-append (IsAllowed us J n) opened sealed.seals al f.0)
 
   opened-simple : (a : AskerArrival) (gid : ℕ) (name : Name) (opened : List SealEntry) (value : Option LoggedIn) → AskerOk before us J a.own → Allowed us J n opened
-      → ((x : LoggedIn) → value ≡ Some x → Means us x.auth.session (Login name) × HasConnection us (take 16 x.secret)) → IsSimple (on_opened a gid opened value)
-  opened-simple a gid name opened None ok al says = simple-refuses (asker_says before) us J n a (reason.Login Unopened) opened tt ok al
-  opened-simple a gid name opened (Some x) ok al says =
+      → ((x : LoggedIn) → value ≡ Some x → Means us x.auth.session (Login name) × IsConnected us (take 16 x.secret) name) → n ≡ node.Entity name → IsSimple (on_opened a gid opened value)
+  opened-simple a gid name opened None ok al says here = simple-refuses (asker_says before n) us J n a (reason.Login Unopened) opened tt ok al
+  opened-simple a gid name opened (Some x) ok al says here =
       let m = says x refl in
-      let key : List ℕ = take 16 x.secret in
-      signs-simple a (record { gid = gid; opened = x }) opened (signed_frame (connector_keys x.secret) x.auth.session (take a.link.taken a.link.received)) key ok al m.1
-      (signing-ok us J n name key x.auth.session (take a.link.taken a.link.received) (secure_frame (connector_keys x.secret) _) m.0 (frame-ok us J n (connector_keys x.secret) _ m.1))
+      let keys : Keys = connector_keys x.secret in
+      let has : HasConnection us n keys.key = record { name = name; connected = m.1; own = here } in
+      signs-simple a (record { gid = gid; opened = x }) opened (signed_frame keys x.auth.session (take a.link.taken a.link.received)) keys ok al has
+      (signing-ok us J n name keys x.auth.session (take a.link.taken a.link.received) (secure_frame keys _) m.0 (frame-ok us J n keys _ (seals-own us n keys has)))
 
   -- what opened is granted, whatever comes of it
   opened-granted : (a : AskerArrival) (gid : ℕ) (opened : List SealEntry) (value : Option LoggedIn) → Grants (on_opened a gid opened value).seals → Grants opened
@@ -238,85 +259,184 @@ module _ (leaked : List Name) (whole_log : List Logged) (n : NodeName) (line : �
       by_signed (Ok sealed) g = granted-first leaked whole_log n line log opened sealed.seals g
 
   login_done-after : (a : AskerArrival) (gid : ℕ) (done : Result LoginDone BytesFault) → ((key : List ℕ) → IsExcepted leaked whole_log n key → ⊥) → Inv leaked whole_log us log J
-      → AskerOk before us J a.own → Grants (on_login_done a gid done).seals → AfterAsker (on_login_done a gid done)
-  login_done-after a gid (Err why) free i ok g = after-simple (asker_says before) leaked whole_log n line us log J (refuses_bytes a why []) i (refuses-simple a why [] ok tt)
-  login_done-after a gid (Ok done) free i ok g =
+      → AskerOk before us J a.own → IsAt a.own → Grants (on_login_done a gid done).seals → AfterAsker (on_login_done a gid done)
+  login_done-after a gid (Err why) free i ok here g = after-simple (asker_says before n) leaked whole_log n line us log J (refuses_bytes a why []) i (refuses-simple a why [] ok tt)
+  login_done-after a gid (Ok done) free i ok here g =
       let u : Unlocked LoggedIn = login_in a.own.secret done in
       let al : Allowed us J n u.seals = login-allowed leaked whole_log n line us J free a.own.secret done.tickets done.connection_secret in
       let granted : Grants u.seals = opened-granted a gid u.seals u.value g in
-      after-simple (asker_says before) leaked whole_log n line us log J (on_opened a gid u.seals u.value) i
+      after-simple (asker_says before n) leaked whole_log n line us log J (on_opened a gid u.seals u.value) i
       (opened-simple a gid a.own.name u.seals u.value ok al
-      (λ x e. login-tells leaked whole_log n line us J free a.own.name a.own.secret done.tickets done.connection_secret ok.secret log i granted x e))
+      (λ x e. login-tells leaked whole_log n line us J free a.own.name a.own.secret done.tickets done.connection_secret ok.secret log i granted x e) here)
 
   done-after : (a : AskerArrival) (done : Result AuthDone BytesFault) → ((key : List ℕ) → IsExcepted leaked whole_log n key → ⊥) → Inv leaked whole_log us log J
-      → AskerOk before us J a.own → Grants (on_done a done).seals → AfterAsker (on_done a done)
-  done-after a (Err why) free i ok g = after-simple (asker_says before) leaked whole_log n line us log J (refuses_bytes a why []) i (refuses-simple a why [] ok tt)
-  done-after a (Ok done) free i ok g = by_test (not (done.mode == 2)) g
+      → AskerOk before us J a.own → IsAt a.own → Grants (on_done a done).seals → AfterAsker (on_done a done)
+  done-after a (Err why) free i ok here g = after-simple (asker_says before n) leaked whole_log n line us log J (refuses_bytes a why []) i (refuses-simple a why [] ok tt)
+  done-after a (Ok done) free i ok here g = by_test (not (done.mode == 2)) g
     where
       by_test : (t : Bool) → Grants (if t then refuses a (reason.Login Mode) [] else on_login_done a done.gid (whole login_done_layout.form done.payload)).seals
           → AfterAsker (if t then refuses a (reason.Login Mode) [] else on_login_done a done.gid (whole login_done_layout.form done.payload))
       by_test true g =
-          after-simple (asker_says before) leaked whole_log n line us log J (refuses a (reason.Login Mode) []) i (simple-refuses (asker_says before) us J n a (reason.Login Mode) [] tt ok tt)
-      by_test false g = login_done-after a done.gid (whole login_done_layout.form done.payload) free i ok g
+          after-simple (asker_says before n) leaked whole_log n line us log J (refuses a (reason.Login Mode) []) i (simple-refuses (asker_says before n) us J n a (reason.Login Mode) [] tt ok tt)
+      by_test false g = login_done-after a done.gid (whole login_done_layout.form done.payload) free i ok here g
 
-  pub proved-after : (a : AskerArrival) (f : Frame) → ((key : List ℕ) → IsExcepted leaked whole_log n key → ⊥) → Inv leaked whole_log us log J → AskerOk before us J a.own
+  pub proved-after : (a : AskerArrival) (f : Frame) → ((key : List ℕ) → IsExcepted leaked whole_log n key → ⊥) → Inv leaked whole_log us log J → AskerOk before us J a.own → IsAt a.own
       → Grants (while_proved a f).seals → AfterAsker (while_proved a f)
-  proved-after a f free i ok g = by_test (f.tag == 3) g
+  proved-after a f free i ok here g = by_test (f.tag == 3) g
     where
       by_test : (t : Bool) → Grants (if t then on_bad_method a (payload bad_method_layout.form f) else on_done a (due 6 auth_done_layout.form f)).seals
           → AfterAsker (if t then on_bad_method a (payload bad_method_layout.form f) else on_done a (due 6 auth_done_layout.form f))
       by_test true g =
-          after-simple (asker_says before) leaked whole_log n line us log J (on_bad_method a (payload bad_method_layout.form f)) i (bad_method-simple a (payload bad_method_layout.form f) ok)
-      by_test false g = done-after a (due 6 auth_done_layout.form f) free i ok g
+          after-simple (asker_says before n) leaked whole_log n line us log J (on_bad_method a (payload bad_method_layout.form f)) i (bad_method-simple a (payload bad_method_layout.form f) ok)
+      by_test false g = done-after a (due 6 auth_done_layout.form f) free i ok here g
 
   -- ---- AUTH_SIGNATURE, SERVER_IDENT, KEEPALIVE2
 
-  same_connection : (key other : List ℕ) → other ≡ key → HasConnection us key → HasConnection us other
-  same_connection key other same h = subst (λ (k : List ℕ). HasConnection us k) (sym same) h
+  same_connection : (key other : List ℕ) → other ≡ key → HasConnection us n key → HasConnection us n other
+  same_connection key other same h = subst (λ (k : List ℕ). HasConnection us n k) (sym same) h
 
-  identifies-simple : (a : AskerArrival) (s : Secured) (login : Opening) → AskerOk before us J a.own → HasConnection us s.keys.key → IsSimple (identifies a s login)
+  identifies-simple : (a : AskerArrival) (s : Secured) (login : Opening) → AskerOk before us J a.own → HasConnection us n s.keys.key → IsSimple (identifies a s login)
   identifies-simple a s login ok has =
-      simple-secure (asker_says before) us J n (holding a (held_login a.own.holdings login.gid login.opened)) s AwaitsIdent (signature_found s ∷ entry.Drawn (draw.Cookie (cookie_of a.draw)) ∷ [])
-      (client_ident a.own login.gid (cookie_of a.draw)) (record { client = ok.client; secret = ok.secret; quiet = ok.quiet; count = ok.count }) has (λ t same. same_connection s.keys.key t.keys.key same has) (tt, (tt, tt))
+      simple-secure (asker_says before n) us J n (holding a (held_login a.own.holdings login.gid login.opened)) s (λ behind. AwaitsIdent behind login.opened.auth.session) (signature_found s ∷ entry.Drawn (draw.Cookie (cookie_of a.draw)) ∷ [])
+      (client_ident a.own login.gid 1 (cookie_of a.draw)) (record { client = ok.client; secret = ok.secret; quiet = ok.quiet; count = ok.count }) (seals-own us n s.keys has) (λ t same. same_connection s.keys.key t.keys.key same.key has) (tt, (tt, tt))
 
-  pub signature-simple : (a : AskerArrival) (s : Secured) (login : Opening) (found : Result AuthSignature BytesFault) → AskerOk before us J a.own → HasConnection us s.keys.key
+  pub signature-simple : (a : AskerArrival) (s : Secured) (login : Opening) (found : Result AuthSignature BytesFault) → AskerOk before us J a.own → HasConnection us n s.keys.key
       → IsSimple (on_signature a s login found)
   signature-simple a s login (Err why) ok has = refuses-simple a why [] ok tt
   signature-simple a s login (Ok found) ok has = by_test (is_signed s found.signature)
     where
       by_test : (t : Bool) → IsSimple (if t then identifies a s login else refuses a (reason.Login SignatureWrong) [])
       by_test true = identifies-simple a s login ok has
-      by_test false = simple-refuses (asker_says before) us J n a (reason.Login SignatureWrong) [] tt ok tt
+      by_test false = simple-refuses (asker_says before n) us J n a (reason.Login SignatureWrong) [] tt ok tt
 
-  server_ident-simple : (a : AskerArrival) (s : Secured) (ident : Result ServerIdent BytesFault) → AskerOk before us J a.own → HasConnection us s.keys.key → IsSimple (on_server_ident a s ident)
-  server_ident-simple a s (Err why) ok has = refuses-simple a why [] ok tt
-  server_ident-simple a s (Ok ident) ok has = simple-goes_on (asker_says before) us J n a (Open s) [] [] ok has tt
+  -- a client asks for nothing as its link opens
+  opens_to-simple : (a : AskerArrival) (s : Secured) (session : List ℕ) → AskerOk before us J a.own → HasConnection us n s.keys.key → IsSimple (opens_to Open a s (no_requests session))
+  opens_to-simple a s session ok has = by_test (is_daemon_type a.own.name.kind) ok.client
+    where
+      by_test : (t : Bool) → t ≡ false
+          → IsSimple (if t then asks_rotating Open a s (no_requests session) else goes_on a (Open s (no_requests session)) [] [])
+      by_test true is = absurd cc
+      by_test false is = simple-goes_on (asker_says before n) us J n a (Open s (no_requests session)) [] [] ok (record { has = has; tickets = tt }) tt
+
+  server_ident-simple : (a : AskerArrival) (s : Secured) (session : List ℕ) (ident : Result ServerIdent BytesFault) → AskerOk before us J a.own → HasConnection us n s.keys.key
+      → IsSimple (on_server_ident Open a s session ident)
+  server_ident-simple a s session (Err why) ok has = refuses-simple a why [] ok tt
+  server_ident-simple a s session (Ok ident) ok has = opens_to-simple a s session ok has
 
   missing-simple : (a : AskerArrival) (missing : Result IdentMissingFeatures BytesFault) → AskerOk before us J a.own → IsSimple (on_missing_features a missing)
   missing-simple a (Err why) ok = refuses-simple a why [] ok tt
   missing-simple a (Ok missing) ok = refuses-simple a (Features missing.features) [] ok tt
 
-  pub identified-simple : (a : AskerArrival) (s : Secured) (f : Frame) → AskerOk before us J a.own → HasConnection us s.keys.key → IsSimple (while_identified a s f)
-  identified-simple a s f ok has = by_test (f.tag == 10)
+  pub identified-simple : (a : AskerArrival) (s : Secured) (session : List ℕ) (f : Frame) → AskerOk before us J a.own → HasConnection us n s.keys.key → IsSimple (while_identified a s session f)
+  identified-simple a s session f ok has = by_test (f.tag == 10)
     where
-      by_test : (t : Bool) → IsSimple (if t then on_missing_features a (payload ident_missing_features_layout.form f) else on_server_ident a s (due 9 server_ident_layout.form f))
+      by_test : (t : Bool) → IsSimple (if t then on_missing_features a (payload ident_missing_features_layout.form f) else on_server_ident Open a s session (due 9 server_ident_layout.form f))
       by_test true = missing-simple a (payload ident_missing_features_layout.form f) ok
-      by_test false = server_ident-simple a s (due 9 server_ident_layout.form f) ok has
+      by_test false = server_ident-simple a s session (due 9 server_ident_layout.form f) ok has
 
-  keepalive-simple : (a : AskerArrival) (s : Secured) (keepalive : Result Keepalive2 BytesFault) → AskerOk before us J a.own → HasConnection us s.keys.key → IsSimple (on_keepalive a s Open keepalive)
-  keepalive-simple a s (Err why) ok has = refuses-simple a why [] ok tt
-  keepalive-simple a s (Ok keepalive) ok has =
-      simple-secure (asker_says before) us J n a s Open [] (control 19 keepalive2_ack_layout.form (record { time = keepalive.time })) ok has (λ t same. same_connection s.keys.key t.keys.key same has) tt
+  -- ---- on an open link
 
-  keepalive_ack-simple : (a : AskerArrival) (s : Secured) (ack : Result Keepalive2Ack BytesFault) → AskerOk before us J a.own → HasConnection us s.keys.key → IsSimple (on_keepalive_ack a s Open ack)
-  keepalive_ack-simple a s (Err why) ok has = refuses-simple a why [] ok tt
-  keepalive_ack-simple a s (Ok ack) ok has = simple-goes_on (asker_says before) us J n a (Open s) [] [] ok has tt
+  abbrev OpenHas : Secured → Requests → Type 0
+  OpenHas s requests = OpenOk us n s.keys.key requests
 
-  pub upkeep-simple : (a : AskerArrival) (s : Secured) (f : Frame) → AskerOk before us J a.own → HasConnection us s.keys.key → IsSimple (on_upkeep a s Open f)
-  upkeep-simple a s f ok has = by_tests (f.tag == 18) (f.tag == 19)
+  same_open : (requests : Requests) (key other : List ℕ) → other ≡ key → OpenOk us n key requests → OpenOk us n other requests
+  same_open requests key other same h = subst (λ (k : List ℕ). OpenOk us n k requests) (sym same) h
+
+  keepalive-simple : (a : AskerArrival) (s : Secured) (requests : Requests) (keepalive : Result Keepalive2 BytesFault) → AskerOk before us J a.own → OpenHas s requests
+      → IsSimple (on_keepalive a s (λ behind. Open behind requests) keepalive)
+  keepalive-simple a s requests (Err why) ok has = refuses-simple a why [] ok tt
+  keepalive-simple a s requests (Ok keepalive) ok has =
+      simple-secure (asker_says before n) us J n a s (λ behind. Open behind requests) [] (control 19 keepalive2_ack_layout.form (record { time = keepalive.time })) ok
+      (seals-own us n s.keys has.has) (λ t same. same_open requests s.keys.key t.keys.key same.key has) tt
+
+  keepalive_ack-simple : (a : AskerArrival) (s : Secured) (requests : Requests) (ack : Result Keepalive2Ack BytesFault) → AskerOk before us J a.own → OpenHas s requests
+      → IsSimple (on_keepalive_ack a s (λ behind. Open behind requests) ack)
+  keepalive_ack-simple a s requests (Err why) ok has = refuses-simple a why [] ok tt
+  keepalive_ack-simple a s requests (Ok ack) ok has = simple-goes_on (asker_says before n) us J n a (Open s requests) [] [] ok has tt
+
+  -- what is taken of a reply to a request for tickets: no generations, and all that is logged of it opened
+  abbrev IsOfTickets : Taken → Type 0
+  IsOfTickets (taken.Refuses why opened) = IsOfLogin why × Allowed us J n opened
+  IsOfTickets (taken.Holds held opened) = Allowed us J n opened
+  IsOfTickets (taken.Views reading generations opened) = ⊥
+
+  abbrev Free : Type 0
+  Free = (key : List ℕ) → IsExcepted leaked whole_log n key → ⊥
+
+  tickets-of : (opened : List SealEntry) (value : Option (List Held)) → Allowed us J n opened → IsOfTickets (tickets_taken opened value)
+  tickets-of opened None al = (tt, al)
+  tickets-of opened (Some held) al = al
+
+  reply-of : Free → (secret session : List ℕ) (asked : Want) (reply : Reply) → asked ≡ want.Tickets → IsOfTickets (reply_taken secret session asked reply)
+  reply-of free secret session want.Tickets (given.Tickets parts) is =
+      tickets-of (told_each session parts).seals (told_each session parts).value (each-allowed leaked whole_log n line us J free session parts)
+  reply-of free secret session want.Tickets (given.Rotating sealed) is = (tt, tt)
+  reply-of free secret session (want.Rotating reading) reply is = absurd cc
+
+  waiting-of : Free → (secret session : List ℕ) (waiting : List Waiting) (tid : ℕ) (reply : Reply) → AllByRecursion AsksTickets waiting → IsOfTickets (waiting_taken secret session waiting tid reply)
+  waiting-of free secret session [] tid reply all = (tt, tt)
+  waiting-of free secret session (first ∷ rest) tid reply all = by_test (tid == first.tid)
     where
-      by_tests : (ask ack : Bool) → IsSimple (if ask then on_keepalive a s Open (payload keepalive2_layout.form f)
-          else if ack then on_keepalive_ack a s Open (payload keepalive2_ack_layout.form f) else refuses_bytes a (Unexpected f.tag) [])
-      by_tests true ack = keepalive-simple a s (payload keepalive2_layout.form f) ok has
-      by_tests false true = keepalive_ack-simple a s (payload keepalive2_ack_layout.form f) ok has
-      by_tests false false = refuses-simple a (Unexpected f.tag) [] ok tt
+      by_test : (t : Bool) → IsOfTickets (if t then reply_taken secret session first.want reply else taken.Refuses reason.BadReply [])
+      by_test true = reply-of free secret session first.want reply all.0
+      by_test false = (tt, tt)
+
+  body-of : Free → (secret : List ℕ) (requests : Requests) (tid : ℕ) (b : Body Reply) → AllByRecursion AsksTickets requests.waiting → IsOfTickets (body_taken secret requests tid b)
+  body-of free secret requests tid (body.Spelled reply) all = waiting-of free secret requests.session requests.waiting tid reply all
+  body-of free secret requests tid body.OtherCode all = (tt, tt)
+  body-of free secret requests tid (body.Misspelled why) all = (tt, tt)
+
+  message-of : Free → (secret : List ℕ) (requests : Requests) (m : Result Message BytesFault) → AllByRecursion AsksTickets requests.waiting → IsOfTickets (message_taken secret requests m)
+  message-of free secret requests (Err why) all = (tt, tt)
+  message-of free secret requests (Ok m) all = by_test (m.header.type_ == 18)
+    where
+      by_test : (t : Bool)
+          → IsOfTickets (if t then body_taken secret requests m.header.tid (body_as reply_layout.form m.body) else taken.Refuses (reason.Bytes (Unexpected 17)) [])
+      by_test true = body-of free secret requests m.header.tid (body_as reply_layout.form m.body) all
+      by_test false = (tt, tt)
+
+  later-tickets : (waiting : List Waiting) → AllByRecursion AsksTickets waiting → AllByRecursion AsksTickets (later waiting)
+  later-tickets [] all = tt
+  later-tickets (first ∷ rest) all = all.1
+
+  takes-simple : (a : AskerArrival) (s : Secured) (requests : Requests) (t : Taken) → AskerOk before us J a.own → OpenHas s requests → IsOfTickets t → IsSimple (takes Open a s requests t)
+  takes-simple a s requests (taken.Refuses why opened) ok has of = simple-refuses (asker_says before n) us J n a why opened of.0 ok of.1
+  takes-simple a s requests (taken.Holds held opened) ok has of =
+      simple-goes_on (asker_says before n) us J n (having a (with_tickets a.own held)) (Open s (behind_reply requests)) [] opened
+      (record { client = ok.client; secret = ok.secret; quiet = ok.quiet; count = ok.count })
+      (record { has = has.has; tickets = later-tickets requests.waiting has.tickets }) of
+  takes-simple a s requests (taken.Views reading generations opened) ok has of = absurd of
+
+  pub open-simple : (a : AskerArrival) (s : Secured) (requests : Requests) (f : Frame) → Free → AskerOk before us J a.own → OpenHas s requests → IsSimple (on_open Open a s requests f)
+  open-simple a s requests f free ok has = by_tests (f.tag == 18) (f.tag == 19)
+    where
+      by_tests : (ask ack : Bool) → IsSimple (if ask then on_keepalive a s (λ behind. Open behind requests) (payload keepalive2_layout.form f)
+          else if ack then on_keepalive_ack a s (λ behind. Open behind requests) (payload keepalive2_ack_layout.form f) else on_reply Open a s requests f)
+      by_tests true ack = keepalive-simple a s requests (payload keepalive2_layout.form f) ok has
+      by_tests false true = keepalive_ack-simple a s requests (payload keepalive2_ack_layout.form f) ok has
+      by_tests false false = takes-simple a s requests (message_taken a.own.secret requests (message_in f)) ok has (message-of free a.own.secret requests (message_in f) has.tickets)
+
+  -- ---- Renew
+
+  -- one that waits behind the others
+  waits-too : (waiting : List Waiting) (tid : ℕ) → AllByRecursion AsksTickets waiting → AllByRecursion AsksTickets (waiting ++ record { tid = tid; want = want.Tickets } ∷ [])
+  waits-too waiting tid all = all-append AsksTickets waiting (record { tid = tid; want = want.Tickets } ∷ []) all (refl, tt)
+
+  pub asks-simple : (a : AskerArrival) (s : Secured) (requests : Requests) (services : ℕ) → AskerOk before us J a.own → OpenHas s requests → IsSimple (asks_tickets Open a s requests services)
+  asks-simple a s requests services ok has = by_count (requests.count == 2 ^ 64 - 1)
+    where
+      f : Frame
+      f = request_message (requests.count + 1) (asked.Tickets services)
+
+      by_sent : (r : Result SealedFrame BytesFault) → FrameOk us J n s.keys r → IsSimple (sends_request Open a s requests want.Tickets (unless_unsealed r))
+      by_sent (Ok sealed) h =
+          simple-goes_on (asker_says before n) us J n a (Open (under s sealed.keys) (behind_request requests want.Tickets)) sealed.bytes sealed.seals ok
+          (record {
+            has = subst (λ (k : List ℕ). HasConnection us n k) (sym h.1.key) has.has;
+            tickets = waits-too requests.waiting (requests.count + 1) has.tickets;
+          }) h.0
+      by_sent (Err why) h = simple-refuses (asker_says before n) us J n a (reason.Bytes why) [] tt ok tt
+
+      by_count : (t : Bool) → IsSimple (sends_request Open a s requests want.Tickets (if t then Err reason.Spent else unless_unsealed (secure_frame s.keys f)))
+      by_count true = simple-refuses (asker_says before n) us J n a reason.Spent [] tt ok tt
+      by_count false = by_sent (secure_frame s.keys f) (frame-ok us J n s.keys f (seals-own us n s.keys has.has))

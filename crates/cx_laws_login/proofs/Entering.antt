@@ -1,5 +1,5 @@
 -- The tickets of a login in the journal: each has its entity's global id, and the one for AUTH renews an earlier one where that id was issued.
-use Rattle.std.proofs.Common.{◌≡◌, ◌⊎◌, ℕ, ◌<◌, List, [], ◌∷◌, ◌++◌, map, Option, Some, None, inl, inr, sym, ap, ◌∙◌, arith}
+use Rattle.std.proofs.Common.{◌≡◌, ◌⊎◌, ℕ, ◌<◌, List, [], ◌∷◌, ◌++◌, map, Option, Some, None, inl, inr, sym, ap, ◌∙◌, arith, subst}
 use Rattle.std.specs.Prelude.{Contains}
 use Rattle.std.specs.List.{AllByRecursion}
 use Rattle.std.proofs.lemmas.List.Elements.{Contains-append_left, Contains-push}
@@ -19,7 +19,7 @@ use Rattle.cx_laws_keys.proofs.Journal.{EntryLaw, IsOf, entered, has-before, has
 use Rattle.cx_laws_keys.proofs.Known.{Inv, Within}
 use Rattle.cx_laws_keys.proofs.Steps.{inv-entered}
 use Rattle.cx_laws_keys.proofs.Uses.{Uses}
-use Rattle.cx_laws_login.proofs.Facts.{AreBelow}
+use Rattle.cx_laws_login.proofs.Facts.{AreBelow, Owner}
 use Rattle.cx_laws_login.proofs.Issuing.{FirstOk, IsOther, TicketOk}
 use Rattle.cx_laws_login.proofs.Keeping.{IsGiven, IsLive}
 
@@ -40,7 +40,7 @@ pub within-all : (K : List Entry) (js : List Entry) → Within K (entered K js)
 within-all K [] = record { has = λ e h. h }
 within-all K (j ∷ js) = record { has = λ e h. (within-all (K ++ j ∷ []) js).has e (Contains-append_left K (j ∷ []) e h) }
 
-module _ (leaked : List Name) (whole : List Logged) (us : Uses) (log : List Logged) (name : Name) (gid reading : ℕ) (block : List ℕ) (mark : ℕ) where
+module _ (leaked : List Name) (whole : List Logged) (us : Uses) (log : List Logged) (name : Name) (gid reading : ℕ) (block : List ℕ) (mark : ℕ) (owner : Owner) (owns : owner gid ≡ Some name) where
   abbrev Others : List Ticket → Type 0
   Others ts = AllByRecursion (IsOther name gid reading block) ts
 
@@ -49,6 +49,7 @@ module _ (leaked : List Name) (whole : List Logged) (us : Uses) (log : List Logg
     pub inv : Inv leaked whole us log K
     pub of : IsOf K name gid
     pub below : AreBelow K mark
+    pub owned : (s : Issued) → Contains K (journal.Issued s) → owner s.gid ≡ Some s.entity
 
   -- an entry that issues nothing
   saved-numbered : (K : List Entry) (next : ℕ) → IsNumbered K → IsNumbered (K ++ journal.Saved next ∷ [])
@@ -56,6 +57,7 @@ module _ (leaked : List Name) (whole : List Logged) (us : Uses) (log : List Logg
     inv = inv-entered leaked whole us log K (journal.Saved next) h.inv (own-other K (journal.Saved next) tt h.inv.own);
     of = λ s has same. h.of s (has-before K (journal.Saved next) tt s has) same;
     below = λ s has. h.below s (has-before K (journal.Saved next) tt s has);
+    owned = λ s has. h.owned s (has-before K (journal.Saved next) tt s has);
   }
 
   -- a ticket of this entity under this global id
@@ -65,8 +67,14 @@ module _ (leaked : List Name) (whole : List Logged) (us : Uses) (log : List Logg
         (own-issued K (issued_of t) (λ s has same. h.of s has (same ∙ ok.gid_is) ∙ sym ok.entity) h.inv.own);
     of = λ s has same. of_place s same (has-issued K (issued_of t) s has);
     below = λ s has. below_place s (has-issued K (issued_of t) s has);
+    owned = λ s has. owned_place s (has-issued K (issued_of t) s has);
   }
     where
+      owned_place : (s : Issued) → Contains K (journal.Issued s) ⊎ (issued_of t ≡ s) → owner s.gid ≡ Some s.entity
+      owned_place s (inl before) = h.owned s before
+      owned_place s (inr is) =
+          subst (λ (i : Issued). owner i.gid ≡ Some i.entity) is (ap owner ok.gid_is ∙ owns ∙ ap (λ (m : Name). Some m) (sym ok.entity))
+
       of_place : (s : Issued) → s.gid ≡ gid → Contains K (journal.Issued s) ⊎ (issued_of t ≡ s) → s.entity ≡ name
       of_place s same (inl before) = h.of s before same
       of_place s same (inr is) = sym (ap (λ (i : Issued). i.entity) is) ∙ ok.entity
@@ -133,13 +141,27 @@ module _ (leaked : List Name) (whole : List Logged) (us : Uses) (log : List Logg
     live = l.live;
   }
 
+  -- each issued global id is its entity's
+  abbrev pub AreOwned : List Entry → Type 0
+  AreOwned K = (s : Issued) → Contains K (journal.Issued s) → owner s.gid ≡ Some s.entity
+
+  -- all that a renewal enters
+  pub renewal-entered : (J : List Entry) (save : Option KeptState) (ts : List Ticket) → Others ts → gid < mark → IsOf J name gid → Inv leaked whole us log J → AreBelow J mark
+      → AreOwned J → AreEntered J (login_entries save ts) ts
+  renewal-entered J None ts others low of i below owned = others-entered J ts others low (record { inv = i; of = of; below = below; owned = owned })
+  renewal-entered J (Some state) ts others low of i below owned =
+      let K : List Entry = J ++ journal.Saved state.next_gid ∷ [] in
+      let first : IsNumbered K = saved-numbered J state.next_gid (record { inv = i; of = of; below = below; owned = owned }) in
+      let more = others-entered K ts others low first in
+      record { numbered = more.numbered; laws = (record { login = tt; gid_once = tt }, more.laws); has = more.has }
+
   -- all that a login enters
   pub login-entered : (J : List Entry) (save : Option KeptState) (t : Ticket) (ts : List Ticket) → FirstOk name gid reading block t ts → gid < mark
-      → IsGiven J name gid reading → Inv leaked whole us log J → AreBelow J mark → AreEntered J (login_entries save (t ∷ ts)) (t ∷ ts)
-  login-entered J None t ts ok low given i below = tickets-entered J t ts ok low given.renews (record { inv = i; of = given.of; below = below })
-  login-entered J (Some state) t ts ok low given i below =
+      → IsGiven J name gid reading → Inv leaked whole us log J → AreBelow J mark → AreOwned J → AreEntered J (login_entries save (t ∷ ts)) (t ∷ ts)
+  login-entered J None t ts ok low given i below owned = tickets-entered J t ts ok low given.renews (record { inv = i; of = given.of; below = below; owned = owned })
+  login-entered J (Some state) t ts ok low given i below owned =
       let K : List Entry = J ++ journal.Saved state.next_gid ∷ [] in
-      let first : IsNumbered K = saved-numbered J state.next_gid (record { inv = i; of = given.of; below = below }) in
+      let first : IsNumbered K = saved-numbered J state.next_gid (record { inv = i; of = given.of; below = below; owned = owned }) in
       let more = tickets-entered K t ts ok low
       (λ s has same. live-saved J state.next_gid (given.renews s (has-before J (journal.Saved state.next_gid) tt s has) same)) first in
       record { numbered = more.numbered; laws = (record { login = tt; gid_once = tt }, more.laws); has = more.has }

@@ -1,12 +1,13 @@
 -- What is known of the monitor and of one that logs in.
-use Rattle.std.proofs.Common.{◌≡◌, ℕ, ◌+◌, ◌<◌, ◌≤◌, false, List, [], ◌∷◌, ◌++◌, refl, ◌∙◌, arith}
-use Rattle.std.specs.Prelude.{Contains}
+use Rattle.std.proofs.Common.{◌≡◌, ℕ, ◌+◌, ◌<◌, ◌≤◌, false, List, [], ◌∷◌, ◌++◌, refl, ◌∙◌, arith, Option, Some, None, Bool, true, sym, ap, ◌==◌, ltb-true, eqb-true, eq-eqb, ltb-false, subst, inl, ◌⊎◌}
+use Rattle.std.specs.Prelude.{Contains, if◌then◌else◌, nat_lt}
 use Rattle.std.specs.List.{AllByRecursion}
 use Rattle.cx_base.specs.Names.{Name}
 use Rattle.cx_enc.specs.Values.{name_form}
 use Rattle.cx_journal.specs.declared.entries.Entry.{Entry}
 use Rattle.cx_journal.specs.declared.entries.Entry.TheVariants as journal
 use Rattle.cx_journal.specs.declared.entries.Issued.{Issued}
+use Rattle.cx_base.specs.declared.nodes.NodeName.{NodeName}
 use Rattle.cx_base.specs.declared.nodes.NodeName.TheVariants as node
 use Rattle.cx_keyring.specs.declared.entries.Entry.{Entry as Principal}
 use Rattle.cx_login.specs.Monitor.{Offer}
@@ -16,10 +17,16 @@ use Rattle.cx_rules.specs.Connector as connector
 use Rattle.cx_rules.specs.Holdings.{Asker}
 use Rattle.cx_rules.specs.Monitor.{Monitor, MonitorStage}
 use Rattle.cx_steps.specs.Premises.{is_server}
-use Rattle.cx_laws_keys.proofs.Journal.{IsNotIssued, has-before}
+use Rattle.cx_laws_keys.proofs.Journal.{IsNotIssued, has-before, IsOf}
+use Rattle.cx_rules.specs.Secured.{Keys}
+use Rattle.cx_laws_keys.proofs.Known.{IsOfAcceptor, IsOfConnector}
 use Rattle.cx_laws_keys.proofs.Lists.{all-map}
-use Rattle.cx_laws_keys.proofs.Uses.{Grows, IsConnected, Means, Secret, Uses, connected-grows}
+use Rattle.cx_laws_keys.proofs.Uses.{Grows, IsConnected, Means, Secret, Uses, connected-grows, Login}
 use Rattle.cx_laws_login.proofs.Generations.{StateOk, state-grows}
+use Rattle.cx_rules.specs.declared.responses.Bearer.{Bearer}
+use Rattle.cx_rules.specs.Requests.{Requests}
+use Rattle.cx_rules.specs.declared.requests.Waiting.{Waiting}
+use Rattle.cx_rules.specs.declared.requests.Want.TheVariants as want
 
 -- ---- the monitor
 
@@ -31,8 +38,13 @@ AreSecrets us ring = AllByRecursion (λ (p : Principal). Means us p.key.secret (
 abbrev pub AreBelow : List Entry → ℕ → Type 0
 AreBelow J mark = (s : Issued) → Contains J (journal.Issued s) → s.gid < mark
 
--- the monitor's own, where `before` is the state that was saved last before the step
-pub record OwnOk (before : KeptState) (us : Uses) (J : List Entry) (own : Monitor) : Type 0 where
+-- whose each global id is that was given out since the monitor began anew, and of those before each that was issued
+abbrev pub Owner : Type 0
+Owner = ℕ → Option Name
+
+-- the monitor's own, where `before` is the state that was saved last before the step: each issued global id is its entity's, and from the next one on
+-- they are nobody's
+pub record OwnOk (before : KeptState) (owner : Owner) (us : Uses) (J : List Entry) (own : Monitor) : Type 0 where
   pub ring : AreSecrets us own.server.ring
   pub present : StateOk us own.server.state
   pub saved : StateOk us own.saved
@@ -40,9 +52,11 @@ pub record OwnOk (before : KeptState) (us : Uses) (J : List Entry) (own : Monito
   pub grown : before.next_gid ≤ own.saved.next_gid
   pub below : AreBelow J own.saved.next_gid
   pub rises : own.saved.next_gid ≤ own.server.state.next_gid
+  pub owned : (s : Issued) → Contains J (journal.Issued s) → owner s.gid ≡ Some s.entity
+  pub unowned : (x : ℕ) → own.server.state.next_gid ≤ x → owner x ≡ None
 
-pub own-grows : (before : KeptState) (us vs : Uses) (J : List Entry) (own : Monitor) → Grows us vs → OwnOk before us J own → OwnOk before vs J own
-own-grows before us vs J own f h = record {
+pub own-grows : (before : KeptState) (owner : Owner) (us vs : Uses) (J : List Entry) (own : Monitor) → Grows us vs → OwnOk before owner us J own → OwnOk before owner vs J own
+own-grows before owner us vs J own f h = record {
   ring = all-map (λ (p : Principal). Means us p.key.secret (Secret p.name)) (λ (p : Principal). Means vs p.key.secret (Secret p.name))
       (λ p m. f.means p.key.secret (Secret p.name) m) own.server.ring h.ring;
   present = state-grows us vs own.server.state f h.present;
@@ -51,10 +65,13 @@ own-grows before us vs J own f h = record {
   grown = h.grown;
   below = h.below;
   rises = h.rises;
+  owned = h.owned;
+  unowned = h.unowned;
 }
 
-pub own-entered : (before : KeptState) (us : Uses) (J : List Entry) (own : Monitor) (e : Entry) → IsNotIssued e → OwnOk before us J own → OwnOk before us (J ++ e ∷ []) own
-own-entered before us J own e other h = record {
+pub own-entered : (before : KeptState) (owner : Owner) (us : Uses) (J : List Entry) (own : Monitor) (e : Entry) → IsNotIssued e → OwnOk before owner us J own
+    → OwnOk before owner us (J ++ e ∷ []) own
+own-entered before owner us J own e other h = record {
   ring = h.ring;
   present = h.present;
   saved = h.saved;
@@ -62,6 +79,8 @@ own-entered before us J own e other h = record {
   grown = h.grown;
   below = λ s has. h.below s (has-before J e other s has);
   rises = h.rises;
+  owned = λ s has. h.owned s (has-before J e other s has);
+  unowned = h.unowned;
 }
 
 -- an entity that was sent a challenge has a name that can be written, and its own secret
@@ -69,21 +88,138 @@ pub record OfferOk (us : Uses) (offer : Offer) : Type 0 where
   pub named : name_form.Fits offer.name
   pub secret : Means us offer.secret (Secret offer.name)
 
-abbrev pub StageOk : Uses → MonitorStage → Type 0
-StageOk us (AwaitsProof offered) = OfferOk us offered.offer
-StageOk us (AwaitsSignature s entity) = IsConnected us s.keys.key entity.name
-StageOk us (AwaitsIdent s entity) = IsConnected us s.keys.key entity.name
-StageOk us (Open s entity) = IsConnected us s.keys.key entity.name
-StageOk us _ = Unit {0}
+-- the two have one key, and nonces that begin alike
+pub record IsSameWay (k keys : Keys) : Type 0 where
+  pub key : k.key ≡ keys.key
+  pub out : k.out.fixed ≡ keys.out.fixed
+  pub into : k.into.fixed ≡ keys.into.fixed
 
-pub stage-grows : (us vs : Uses) (stage : MonitorStage) → Grows us vs → StageOk us stage → StageOk vs stage
-stage-grows us vs AwaitsBanner f h = tt
-stage-grows us vs AwaitsHello f h = tt
-stage-grows us vs AwaitsRequest f h = tt
-stage-grows us vs (AwaitsProof offered) f h = record { named = h.named; secret = f.means offered.offer.secret (Secret offered.offer.name) h.secret }
-stage-grows us vs (AwaitsSignature s entity) f h = connected-grows us vs s.keys.key entity.name f h
-stage-grows us vs (AwaitsIdent s entity) f h = connected-grows us vs s.keys.key entity.name f h
-stage-grows us vs (Open s entity) f h = connected-grows us vs s.keys.key entity.name f h
+-- this node may seal under these keys: the key is the one of a link to an entity, whose own node it is, or it sends with the nonce of an acceptor
+pub record MaySeal (us : Uses) (n : NodeName) (keys : Keys) : Type 0 where
+  pub name : Name
+  pub connected : IsConnected us keys.key name
+  pub own : (n ≡ node.Entity name) ⊎ IsOfAcceptor keys.out.fixed
+
+-- an entity that has proved itself on a link with these keys, which are those of an acceptor: its name can be written, the session key is that of its
+-- ticket for AUTH, and the global id is its own
+pub record BearerOk (owner : Owner) (us : Uses) (keys : Keys) (bearer : Bearer) : Type 0 where
+  pub connected : IsConnected us keys.key bearer.name
+  pub out : IsOfAcceptor keys.out.fixed
+  pub into : IsOfConnector keys.into.fixed
+  pub named : name_form.Fits bearer.name
+  pub session : Means us bearer.session (Login bearer.name)
+  pub owns : owner bearer.gid ≡ Some bearer.name
+
+abbrev pub StageOk : Owner → Uses → MonitorStage → Type 0
+StageOk owner us (AwaitsProof offered) = OfferOk us offered.offer
+StageOk owner us (AwaitsSignature s bearer) = BearerOk owner us s.keys bearer
+StageOk owner us (AwaitsIdent s bearer) = BearerOk owner us s.keys bearer
+StageOk owner us (Open s bearer) = BearerOk owner us s.keys bearer
+StageOk owner us _ = Unit {0}
+
+pub bearer-grows : (owner : Owner) (us vs : Uses) (keys : Keys) (bearer : Bearer) → Grows us vs → BearerOk owner us keys bearer → BearerOk owner vs keys bearer
+bearer-grows owner us vs keys bearer f h = record {
+  connected = connected-grows us vs keys.key bearer.name f h.connected;
+  out = h.out;
+  into = h.into;
+  named = h.named;
+  session = f.means bearer.session (Login bearer.name) h.session;
+  owns = h.owns;
+}
+
+-- behind a frame the keys are as good
+pub bearer-moves : (owner : Owner) (us : Uses) (k keys : Keys) (bearer : Bearer) → IsSameWay k keys → BearerOk owner us keys bearer → BearerOk owner us k bearer
+bearer-moves owner us k keys bearer same h = record {
+  connected = subst (λ (key : List ℕ). IsConnected us key bearer.name) (sym same.key) h.connected;
+  out = subst IsOfAcceptor (sym same.out) h.out;
+  into = subst IsOfConnector (sym same.into) h.into;
+  named = h.named;
+  session = h.session;
+  owns = h.owns;
+}
+
+pub stage-grows : (owner : Owner) (us vs : Uses) (stage : MonitorStage) → Grows us vs → StageOk owner us stage → StageOk owner vs stage
+stage-grows owner us vs AwaitsBanner f h = tt
+stage-grows owner us vs AwaitsHello f h = tt
+stage-grows owner us vs AwaitsRequest f h = tt
+stage-grows owner us vs (AwaitsProof offered) f h = record { named = h.named; secret = f.means offered.offer.secret (Secret offered.offer.name) h.secret }
+stage-grows owner us vs (AwaitsSignature s bearer) f h = bearer-grows owner us vs s.keys bearer f h
+stage-grows owner us vs (AwaitsIdent s bearer) f h = bearer-grows owner us vs s.keys bearer f h
+stage-grows owner us vs (Open s bearer) f h = bearer-grows owner us vs s.keys bearer f h
+
+-- ---- global ids by their owners
+
+some_name : (a b : Name) → Some a ≡ Some b → a ≡ b
+some_name a b e = cc
+
+none_is_some : (name : Name) (x : Option Name) → x ≡ None → x ≡ Some name → ⊥
+none_is_some name x none some = absurd cc
+
+-- one that is somebody's lies below the next one
+pub owned-below : (before : KeptState) (owner : Owner) (us : Uses) (J : List Entry) (own : Monitor) (gid : ℕ) (name : Name) → OwnOk before owner us J own → owner gid ≡ Some name
+    → gid < own.server.state.next_gid
+owned-below before owner us J own gid name ok is = by_test (nat_lt gid own.server.state.next_gid) refl
+  where
+    by_test : (t : Bool) → nat_lt gid own.server.state.next_gid ≡ t → gid < own.server.state.next_gid
+    by_test true less = ltb-true gid own.server.state.next_gid less
+    by_test false more = absurd (none_is_some name (owner gid) (ok.unowned gid (ltb-false gid own.server.state.next_gid more)) is)
+
+-- and was issued to nobody else
+pub owned-of : (before : KeptState) (owner : Owner) (us : Uses) (J : List Entry) (own : Monitor) (gid : ℕ) (name : Name) → OwnOk before owner us J own → owner gid ≡ Some name → IsOf J name gid
+owned-of before owner us J own gid name ok is = λ s has same. some_name s.entity name (sym (ok.owned s has) ∙ ap owner same ∙ is)
+
+-- a global id becomes an entity's
+abbrev pub owner_with : Owner → ℕ → Name → Owner
+owner_with owner gid name = λ x. if x == gid then Some name else owner x
+
+-- it was nobody else's
+abbrev pub IsFree : Owner → ℕ → Name → Type 0
+IsFree owner gid name = (m : Name) → owner gid ≡ Some m → m ≡ name
+
+-- what was somebody's is still theirs
+abbrev pub Keeps : Owner → Owner → Type 0
+Keeps owner later = (x : ℕ) (m : Name) → owner x ≡ Some m → later x ≡ Some m
+
+pub keeps-with : (owner : Owner) (gid : ℕ) (name : Name) → IsFree owner gid name → Keeps owner (owner_with owner gid name)
+keeps-with owner gid name free = λ x m is. by_test x m (x == gid) refl is
+  where
+    by_test : (x : ℕ) (m : Name) (t : Bool) → (x == gid) ≡ t → owner x ≡ Some m → (if t then Some name else owner x) ≡ Some m
+    by_test x m true same is = ap (λ (n : Name). Some n) (sym (free m (ap owner (sym (eqb-true x gid same)) ∙ is)))
+    by_test x m false other is = is
+
+pub with-gid : (owner : Owner) (gid : ℕ) (name : Name) → owner_with owner gid name gid ≡ Some name
+with-gid owner gid name = rw (eq-eqb gid gid refl) refl
+
+pub own-with : (before : KeptState) (owner : Owner) (us : Uses) (J : List Entry) (own : Monitor) (gid : ℕ) (name : Name) → IsFree owner gid name → gid < own.server.state.next_gid
+    → OwnOk before owner us J own → OwnOk before (owner_with owner gid name) us J own
+own-with before owner us J own gid name free low h = record {
+  ring = h.ring;
+  present = h.present;
+  saved = h.saved;
+  before_is = h.before_is;
+  grown = h.grown;
+  below = h.below;
+  rises = h.rises;
+  owned = λ s has. keeps-with owner gid name free s.gid s.entity (h.owned s has);
+  unowned = λ x le. by_test x le (x == gid) refl;
+}
+  where
+    by_test : (x : ℕ) → own.server.state.next_gid ≤ x → (t : Bool) → (x == gid) ≡ t → (if t then Some name else owner x) ≡ None
+    by_test x le true same = let is : x ≡ gid = eqb-true x gid same in absurd (omega arith)
+    by_test x le false other = h.unowned x le
+
+pub bearer-keeps : (owner later : Owner) (us : Uses) (keys : Keys) (bearer : Bearer) → Keeps owner later → BearerOk owner us keys bearer → BearerOk later us keys bearer
+bearer-keeps owner later us keys bearer k h =
+    record { connected = h.connected; out = h.out; into = h.into; named = h.named; session = h.session; owns = k bearer.gid bearer.name h.owns }
+
+pub stage-keeps : (owner later : Owner) (us : Uses) (stage : MonitorStage) → Keeps owner later → StageOk owner us stage → StageOk later us stage
+stage-keeps owner later us AwaitsBanner k h = tt
+stage-keeps owner later us AwaitsHello k h = tt
+stage-keeps owner later us AwaitsRequest k h = tt
+stage-keeps owner later us (AwaitsProof offered) k h = h
+stage-keeps owner later us (AwaitsSignature s bearer) k h = bearer-keeps owner later us s.keys bearer k h
+stage-keeps owner later us (AwaitsIdent s bearer) k h = bearer-keeps owner later us s.keys bearer k h
+stage-keeps owner later us (Open s bearer) k h = bearer-keeps owner later us s.keys bearer k h
 
 -- ---- one that logs in
 
@@ -136,25 +272,42 @@ asker-entered first us J asker e other h = record {
   count = none-added J e other ∙ h.count;
 }
 
--- the key of a link that is secured is one of a connection
-pub record HasConnection (us : Uses) (key : List ℕ) : Type 0 where
+-- the key of a link that is secured is one of a connection of this node
+pub record HasConnection (us : Uses) (n : NodeName) (key : List ℕ) : Type 0 where
   pub name : Name
   pub connected : IsConnected us key name
+  pub own : n ≡ node.Entity name
 
-pub connection-grows : (us vs : Uses) (key : List ℕ) → Grows us vs → HasConnection us key → HasConnection vs key
-connection-grows us vs key f h = record { name = h.name; connected = connected-grows us vs key h.name f h.connected }
+pub connection-grows : (us vs : Uses) (n : NodeName) (key : List ℕ) → Grows us vs → HasConnection us n key → HasConnection vs n key
+connection-grows us vs n key f h = record { name = h.name; connected = connected-grows us vs key h.name f h.connected; own = h.own }
 
-abbrev pub AskerStageOk : Uses → connector.Stage → Type 0
-AskerStageOk us (connector.AwaitsSignature s login) = HasConnection us s.keys.key
-AskerStageOk us (connector.AwaitsIdent s) = HasConnection us s.keys.key
-AskerStageOk us (connector.Open s) = HasConnection us s.keys.key
-AskerStageOk us _ = Unit {0}
+-- under it the node may seal
+pub seals-own : (us : Uses) (n : NodeName) (keys : Keys) → HasConnection us n keys.key → MaySeal us n keys
+seals-own us n keys h = record { name = h.name; connected = h.connected; own = inl h.own }
 
-pub asker_stage-grows : (us vs : Uses) (stage : connector.Stage) → Grows us vs → AskerStageOk us stage → AskerStageOk vs stage
-asker_stage-grows us vs (connector.AwaitsBanner n) f h = tt
-asker_stage-grows us vs (connector.AwaitsHello n) f h = tt
-asker_stage-grows us vs (connector.AwaitsChallenge n) f h = tt
-asker_stage-grows us vs connector.AwaitsDone f h = tt
-asker_stage-grows us vs (connector.AwaitsSignature s login) f h = connection-grows us vs s.keys.key f h
-asker_stage-grows us vs (connector.AwaitsIdent s) f h = connection-grows us vs s.keys.key f h
-asker_stage-grows us vs (connector.Open s) f h = connection-grows us vs s.keys.key f h
+-- of a client each request that waits asks for tickets
+abbrev pub AsksTickets : Waiting → Type 0
+AsksTickets waiting = waiting.want ≡ want.Tickets
+
+-- an open link, and the requests on it
+pub record OpenOk (us : Uses) (n : NodeName) (key : List ℕ) (requests : Requests) : Type 0 where
+  pub has : HasConnection us n key
+  pub tickets : AllByRecursion AsksTickets requests.waiting
+
+pub open-grows : (us vs : Uses) (n : NodeName) (key : List ℕ) (requests : Requests) → Grows us vs → OpenOk us n key requests → OpenOk vs n key requests
+open-grows us vs n key requests f h = record { has = connection-grows us vs n key f h.has; tickets = h.tickets }
+
+abbrev pub AskerStageOk : Uses → NodeName → connector.Stage → Type 0
+AskerStageOk us n (connector.AwaitsSignature s login) = HasConnection us n s.keys.key
+AskerStageOk us n (connector.AwaitsIdent s session) = HasConnection us n s.keys.key
+AskerStageOk us n (connector.Open s requests) = OpenOk us n s.keys.key requests
+AskerStageOk us n _ = Unit {0}
+
+pub asker_stage-grows : (us vs : Uses) (n : NodeName) (stage : connector.Stage) → Grows us vs → AskerStageOk us n stage → AskerStageOk vs n stage
+asker_stage-grows us vs n (connector.AwaitsBanner asked) f h = tt
+asker_stage-grows us vs n (connector.AwaitsHello asked) f h = tt
+asker_stage-grows us vs n (connector.AwaitsChallenge asked) f h = tt
+asker_stage-grows us vs n connector.AwaitsDone f h = tt
+asker_stage-grows us vs n (connector.AwaitsSignature s login) f h = connection-grows us vs n s.keys.key f h
+asker_stage-grows us vs n (connector.AwaitsIdent s session) f h = connection-grows us vs n s.keys.key f h
+asker_stage-grows us vs n (connector.Open s requests) f h = open-grows us vs n s.keys.key requests f h

@@ -32,9 +32,13 @@ generated-grow us vs service gs f h =
     all-map (λ (g : Generation). Means us g.key (Generated service g.id)) (λ (g : Generation). Means vs g.key (Generated service g.id))
     (λ g m. f.means g.key (Generated service g.id) m) gs h
 
--- a state of which each generation is for its service, and whose next global id is a number of eight bytes
+-- a state of which each generation is for its service
+abbrev pub IsGenerated : Uses → KeptState → Type 0
+IsGenerated us s = (service : EntityType) → AreGenerated us service (generations_of s service)
+
+-- and whose next global id is a number of eight bytes
 pub record StateOk (us : Uses) (s : KeptState) : Type 0 where
-  pub generated : (service : EntityType) → AreGenerated us service (generations_of s service)
+  pub generated : IsGenerated us s
   pub numbered : s.next_gid < 2 ^ 64
 
 pub state-grows : (us vs : Uses) (s : KeptState) → Grows us vs → StateOk us s → StateOk vs s

@@ -1,6 +1,7 @@
 -- The tickets of a login: the first is for AUTH, and no other is; whose they are, and what their keys are.
 use Rattle.std.proofs.Common.{◌≡◌, ℕ, ◌+◌, ◌<◌, ◌≤◌, ◌^◌, Bool, true, false, cond, List, [], ◌∷◌, ◌++◌, length, drop, filter, Option, Some, None, Result, Ok, Err, refl, sym, ◌∙◌, arith, length-take, length-drop, length-append}
-use Rattle.std.specs.Prelude.{find}
+use Rattle.std.specs.Prelude.{◌%◌, find, slice_index}
+use Rattle.std.proofs.lemmas.List.{get_or-append_right}
 use Rattle.std.specs.List.{AllByRecursion}
 use Rattle.cx_base.specs.Names.{Name}
 use Rattle.cx_base.specs.declared.kinds.EntityType.{EntityType}
@@ -16,7 +17,9 @@ use Rattle.cx_keyserver.specs.declared.refusals.IssueRefusal.{IssueRefusal}
 use Rattle.cx_keyserver.specs.declared.refusals.IssueRefusal.TheVariants as issue
 use Rattle.cx_keyserver.specs.declared.tickets.Ticket.{Ticket}
 use Rattle.cx_rotate.specs.declared.generations.Generation.{Generation}
+use Rattle.cx_rules.specs.Secured.{acceptor_keys}
 use Rattle.cx_rules.specs.Tickets.{is_asked, issued_before, issued_for, services_for}
+use Rattle.cx_laws_keys.proofs.Known.{IsOfAcceptor, IsOfConnector}
 use Rattle.cx_laws_login.proofs.Rows.{all-filter}
 
 -- a ticket of this entity under this global id, made at this reading, with the session key that was drawn for its service
@@ -99,7 +102,7 @@ module _ (server : Server) (name : Name) (gid : ℕ) (auth_session : List ℕ) (
       by_found (Some entry) None = tt
       by_found (Some entry) (Some generation) = tt
 
-  abbrev AreOthers : Result (List Ticket) LoginFault → Type 0
+  abbrev pub AreOthers : Result (List Ticket) LoginFault → Type 0
   AreOthers (Ok ts) = AllByRecursion (IsOther name gid reading block) ts
   AreOthers (Err why) = Unit {0}
 
@@ -113,7 +116,7 @@ module _ (server : Server) (name : Name) (gid : ℕ) (auth_session : List ℕ) (
   others-before service (Err issue.NotAService) rest other is h = h
   others-before service (Err issue.OutOfMemory) rest other is h = h
 
-  others-issued : (services : List EntityType) → AllByRecursion (λ (s : EntityType). s ≡ Auth → ⊥) services → AreOthers (issued_for server ask services)
+  pub others-issued : (services : List EntityType) → AllByRecursion (λ (s : EntityType). s ≡ Auth → ⊥) services → AreOthers (issued_for server ask services)
   others-issued [] h = tt
   others-issued (s ∷ services) h = others-before s (issued server (ask s)) (issued_for server ask services) h.0 (issued-ok s) (others-issued services h.1)
 
@@ -170,3 +173,27 @@ short-connection block =
       short-part 45 3 block,
       short-part 56 24 block,
     )
+
+-- ---- the nonces of a connection
+
+-- the acceptor's begin with a byte below 128
+pub acceptor-sends : (block : List ℕ) → length block ≡ 384 → IsOfAcceptor (acceptor_keys (connection_of block)).out.fixed
+acceptor-sends block drawn =
+    let b : List ℕ = counter_0 ++ (nonce_start 128 44 block ++ (counter_0 ++ part 56 24 block)) in
+    let key : length (part 16 16 block) ≡ 16 = length-part 16 16 block (omega arith) in
+    let is : slice_index (connection_of block) 16 ≡ slice_index block 32 % 128 + 0 = get_or-append_right (part 16 16 block) (nonce_start 0 32 block ++ b) 16 16 0 key (omega arith) in
+    omega (arith, is)
+
+-- the connector's with one that isn't
+pub connector-sends : (block : List ℕ) → length block ≡ 384 → IsOfConnector (acceptor_keys (connection_of block)).into.fixed
+connector-sends block drawn =
+    let c : List ℕ = nonce_start 128 44 block ++ (counter_0 ++ part 56 24 block) in
+    let b : List ℕ = counter_0 ++ c in
+    let key : length (part 16 16 block) ≡ 16 = length-part 16 16 block (omega arith) in
+    let three : length (part 33 3 block) ≡ 3 = length-part 33 3 block (omega arith) in
+    let first : length (nonce_start 0 32 block) ≡ 4 = omega arith in
+    let is : slice_index (connection_of block) 28 ≡ slice_index block 44 % 128 + 128 =
+    get_or-append_right (part 16 16 block) (nonce_start 0 32 block ++ b) 16 28 0 key (omega arith)
+    ∙ get_or-append_right (nonce_start 0 32 block) b 4 12 0 first (omega arith)
+    ∙ get_or-append_right counter_0 c 8 8 0 refl (omega arith) in
+    omega (arith, is)

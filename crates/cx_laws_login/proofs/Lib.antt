@@ -1,5 +1,6 @@
 pub mod Generations
 pub mod Facts
+pub mod Replying
 pub mod Rows
 pub mod Named
 pub mod MonitorRows
@@ -14,5 +15,6 @@ pub mod Turns
 pub mod MonitorStep
 pub mod AskerRows
 pub mod ClientStep
+pub mod Hearing
 pub mod Proving
 pub mod NoTickets

@@ -2,6 +2,7 @@
 use Rattle.std.proofs.Common.{ℕ, ◌==◌, Bool, true, false, List, [], ◌∷◌, take, Option, Some, None, Result, Ok, Err}
 use Rattle.std.specs.Prelude.{not, if◌then◌else◌}
 use Rattle.std.specs.List.{AllByRecursion}
+use Rattle.cx_base.specs.Names.{is_daemon_type}
 use Rattle.cx_control.specs.Auth.{auth_done_layout, auth_reply_more_layout, auth_request_more_layout, auth_signature_layout}
 use Rattle.cx_control.specs.BadMethod.{bad_method_layout}
 use Rattle.cx_control.specs.Hello.{hello_layout}
@@ -19,28 +20,35 @@ use Rattle.cx_dice.specs.Draws.{challenge_of, cookie_of}
 use Rattle.cx_frame.specs.declared.frame.Frame.{Frame}
 use Rattle.cx_journal.specs.declared.entries.Entry.{Entry}
 use Rattle.cx_journal.specs.declared.faults.BytesFault.{BytesFault}
-use Rattle.cx_journal.specs.declared.faults.BytesFault.TheVariants.{Unexpected}
 use Rattle.cx_journal.specs.declared.faults.LoginFault.TheVariants.{Mode, SignatureWrong}
+use Rattle.cx_journal.specs.declared.outcomes.Reason.{Reason}
 use Rattle.cx_journal.specs.declared.outcomes.Reason.TheVariants as reason
 use Rattle.cx_login.specs.Client.{Ask, authenticate}
 use Rattle.cx_login.specs.Unlocking.{login_in}
 use Rattle.cx_login.specs.declared.client.LoggedIn.{LoggedIn}
-use Rattle.cx_rules.specs.ClientRule.{Client, ClientNode, client_rule, loses, me, opens, submits, turn, with_asker}
-use Rattle.cx_rules.specs.Connector.{Stage, AwaitsBanner, AwaitsHello, AwaitsChallenge, AwaitsDone, AwaitsSignature, AwaitsIdent, Open, AskerArrival, AskerRow, Login as Opening, client_ident, holding, identifies, is_open, login_request, on_bad_method, on_banner, on_challenge, on_done, on_hello, on_login_done, on_missing_features, on_opened, on_reply_more, on_server_ident, on_signature, proves, signs, turned_at, while_challenged, while_identified, while_proved}
+use Rattle.cx_rules.specs.ClientRule.{Client, ClientNode, client_rule, loses, me, opens, renews_on, submits, turn, with_asker}
+use Rattle.cx_rules.specs.Connector.{Stage, AwaitsBanner, AwaitsHello, AwaitsChallenge, AwaitsDone, AwaitsSignature, AwaitsIdent, Open, AskerArrival, AskerRow, Login as Opening, client_ident, holding, identifies, is_open, kept_open, login_request, on_bad_method, on_banner, on_challenge, on_done, on_hello, on_login_done, on_missing_features, on_opened, on_reply_more, on_signature, proves, signs, turned_at, while_challenged, while_identified, while_proved}
 use Rattle.cx_rules.specs.Fronts.{banner_next, plain_next, secure_next}
 use Rattle.cx_rules.specs.Greetings.{own_hello}
 use Rattle.cx_rules.specs.Holdings.{Asker, held_login, unexpired}
 use Rattle.cx_rules.specs.Inputs.{Input, Opened, NoLink, Bytes, Turn, Gone, Look, Tick, Submit, Restart}
 use Rattle.cx_rules.specs.Links.{Link, link_of}
 use Rattle.cx_rules.specs.Payloads.{control, due, payload, whole}
-use Rattle.cx_rules.specs.Rows.{Arrival, Turned, Waits, Refuses, Handles, arrival, at, fed, lifted_turn, plain_sent, refused_entry, refuses, refuses_bytes, secure_sent, turns, with_opened}
+use Rattle.cx_rules.specs.Requests.{Requests, asks_rotating, first_open, no_requests, on_open, on_reply, on_server_ident, sealed_request, sends_request, takes}
+use Rattle.cx_rules.specs.Requests as requests
+use Rattle.cx_rules.specs.Rows.{Arrival, Turned, Waits, Refuses, Handles, arrival, at, fed, goes_on, lifted_turn, plain_sent, refused_entry, refuses, secure_sent, turns, with_opened}
 use Rattle.cx_rules.specs.Secured.{SealedFrame, Secured, connector_keys, is_signed, plain_frame, secure_frame, signed_frame, under}
-use Rattle.cx_rules.specs.Upkeep.{on_keepalive, on_keepalive_ack, on_upkeep}
+use Rattle.cx_rules.specs.Upkeep.{on_keepalive, on_keepalive_ack}
+use Rattle.cx_rules.specs.declared.requests.Taken.{Taken}
+use Rattle.cx_rules.specs.declared.requests.Taken.TheVariants as taken
+use Rattle.cx_rules.specs.declared.requests.Want.{Want}
+use Rattle.cx_rules.specs.declared.requests.Want.TheVariants as want
 use Rattle.cx_steps.specs.declared.events.Command.{Command}
 use Rattle.cx_steps.specs.declared.events.Command.TheVariants as command
 use Rattle.cx_steps.specs.declared.events.Peer.{Peer}
 use Rattle.cx_steps.specs.declared.events.Peer.TheVariants as peer
 use Rattle.cx_steps.specs.declared.seals.SealEntry.{SealEntry}
+use Rattle.cx_wire.specs.declared.bodies.Request.TheVariants as asked
 use Rattle.cx_wire.specs.Logins.{authenticate_layout, login_done_layout, server_challenge_layout}
 use Rattle.cx_wire.specs.declared.logins.LoginDone.{LoginDone}
 use Rattle.cx_wire.specs.declared.logins.ServerChallenge.{ServerChallenge}
@@ -123,7 +131,8 @@ none-proved a f = by_test (f.tag == 3)
 
 none-identifies : (a : AskerArrival) (s : Secured) (login : Opening) → NoTicket (identifies a s login)
 none-identifies a s login =
-    none-secure (holding a (held_login a.own.holdings login.gid login.opened)) s AwaitsIdent _ (secure_frame s.keys (client_ident a.own login.gid (cookie_of a.draw)))
+    none-secure (holding a (held_login a.own.holdings login.gid login.opened)) s (λ behind. AwaitsIdent behind login.opened.auth.session) _
+    (secure_frame s.keys (client_ident a.own login.gid 1 (cookie_of a.draw)))
 
 none-signature : (a : AskerArrival) (s : Secured) (login : Opening) (found : Result AuthSignature BytesFault) → NoTicket (on_signature a s login found)
 none-signature a s login (Err why) = (tt, tt)
@@ -133,37 +142,52 @@ none-signature a s login (Ok found) = by_test (is_signed s found.signature)
     by_test true = none-identifies a s login
     by_test false = (tt, tt)
 
-none-server_ident : (a : AskerArrival) (s : Secured) (ident : Result ServerIdent BytesFault) → NoTicket (on_server_ident a s ident)
-none-server_ident a s (Err why) = (tt, tt)
-none-server_ident a s (Ok ident) = tt
+-- a request, where it could be sealed
+none-sends : (a : AskerArrival) (s : Secured) (r : Requests) (wanted : Want) (made : Result SealedFrame Reason) → NoTicket (sends_request Open a s r wanted made)
+none-sends a s r wanted (Ok sealed) = tt
+none-sends a s r wanted (Err why) = (tt, tt)
+
+none-server_ident : (a : AskerArrival) (s : Secured) (session : List ℕ) (ident : Result ServerIdent BytesFault) → NoTicket (on_server_ident Open a s session ident)
+none-server_ident a s session (Err why) = (tt, tt)
+none-server_ident a s session (Ok ident) = by_test (is_daemon_type a.own.name.kind)
+  where
+    by_test : (t : Bool) → NoTicket (if t then asks_rotating Open a s (no_requests session) else goes_on a (Open s (no_requests session)) [] [])
+    by_test true = none-sends a s (no_requests session) (want.Rotating a.reading) (sealed_request s.keys (no_requests session) asked.Rotating)
+    by_test false = tt
 
 none-missing : (a : AskerArrival) (missing : Result IdentMissingFeatures BytesFault) → NoTicket (on_missing_features a missing)
 none-missing a (Err why) = (tt, tt)
 none-missing a (Ok missing) = (tt, tt)
 
-none-identified : (a : AskerArrival) (s : Secured) (f : Frame) → NoTicket (while_identified a s f)
-none-identified a s f = by_test (f.tag == 10)
+none-identified : (a : AskerArrival) (s : Secured) (session : List ℕ) (f : Frame) → NoTicket (while_identified a s session f)
+none-identified a s session f = by_test (f.tag == 10)
   where
-    by_test : (t : Bool) → NoTicket (if t then on_missing_features a (payload ident_missing_features_layout.form f) else on_server_ident a s (due 9 server_ident_layout.form f))
+    by_test : (t : Bool) → NoTicket (if t then on_missing_features a (payload ident_missing_features_layout.form f) else on_server_ident Open a s session (due 9 server_ident_layout.form f))
     by_test true = none-missing a (payload ident_missing_features_layout.form f)
-    by_test false = none-server_ident a s (due 9 server_ident_layout.form f)
+    by_test false = none-server_ident a s session (due 9 server_ident_layout.form f)
 
-none-keepalive : (a : AskerArrival) (s : Secured) (keepalive : Result Keepalive2 BytesFault) → NoTicket (on_keepalive a s Open keepalive)
-none-keepalive a s (Err why) = (tt, tt)
-none-keepalive a s (Ok keepalive) = none-secure a s Open [] (secure_frame s.keys (control 19 keepalive2_ack_layout.form (record { time = keepalive.time })))
+none-keepalive : (a : AskerArrival) (s : Secured) (r : Requests) (keepalive : Result Keepalive2 BytesFault) → NoTicket (on_keepalive a s (λ behind. Open behind r) keepalive)
+none-keepalive a s r (Err why) = (tt, tt)
+none-keepalive a s r (Ok keepalive) =
+    none-secure a s (λ behind. Open behind r) [] (secure_frame s.keys (control 19 keepalive2_ack_layout.form (record { time = keepalive.time })))
 
-none-keepalive_ack : (a : AskerArrival) (s : Secured) (ack : Result Keepalive2Ack BytesFault) → NoTicket (on_keepalive_ack a s Open ack)
-none-keepalive_ack a s (Err why) = (tt, tt)
-none-keepalive_ack a s (Ok ack) = tt
+none-keepalive_ack : (a : AskerArrival) (s : Secured) (r : Requests) (ack : Result Keepalive2Ack BytesFault) → NoTicket (on_keepalive_ack a s (λ behind. Open behind r) ack)
+none-keepalive_ack a s r (Err why) = (tt, tt)
+none-keepalive_ack a s r (Ok ack) = tt
 
-none-upkeep : (a : AskerArrival) (s : Secured) (f : Frame) → NoTicket (on_upkeep a s Open f)
-none-upkeep a s f = by_tests (f.tag == 18) (f.tag == 19)
+none-takes : (a : AskerArrival) (s : Secured) (r : Requests) (what : Taken) → NoTicket (takes Open a s r what)
+none-takes a s r (taken.Refuses why opened) = (tt, tt)
+none-takes a s r (taken.Holds held opened) = tt
+none-takes a s r (taken.Views reading generations opened) = (tt, tt)
+
+none-open : (a : AskerArrival) (s : Secured) (r : Requests) (f : Frame) → NoTicket (on_open Open a s r f)
+none-open a s r f = by_tests (f.tag == 18) (f.tag == 19)
   where
-    by_tests : (ask ack : Bool) → NoTicket (if ask then on_keepalive a s Open (payload keepalive2_layout.form f)
-        else if ack then on_keepalive_ack a s Open (payload keepalive2_ack_layout.form f) else refuses_bytes a (Unexpected f.tag) [])
-    by_tests true ack = none-keepalive a s (payload keepalive2_layout.form f)
-    by_tests false true = none-keepalive_ack a s (payload keepalive2_ack_layout.form f)
-    by_tests false false = (tt, tt)
+    by_tests : (ask ack : Bool) → NoTicket (if ask then on_keepalive a s (λ behind. Open behind r) (payload keepalive2_layout.form f)
+        else if ack then on_keepalive_ack a s (λ behind. Open behind r) (payload keepalive2_ack_layout.form f) else on_reply Open a s r f)
+    by_tests true ack = none-keepalive a s r (payload keepalive2_layout.form f)
+    by_tests false true = none-keepalive_ack a s r (payload keepalive2_ack_layout.form f)
+    by_tests false false = none-takes a s r (requests.taken a.own.secret r f)
 
 -- ---- a turn
 
@@ -180,12 +204,12 @@ none-turned a AwaitsDone = by-front NoTicket (λ (link, f) _. while_proved (at a
 none-turned a (AwaitsSignature s login) =
     by-front NoTicket (λ (link, f, keys) opened. with_opened opened (on_signature (at a link) (under s keys) login (due 7 auth_signature_layout.form f))) (secure_next s.keys a.link)
     (λ (link, f, keys) opened. none-signature (at a link) (under s keys) login (due 7 auth_signature_layout.form f))
-none-turned a (AwaitsIdent s) =
-    by-front NoTicket (λ (link, f, keys) opened. with_opened opened (while_identified (at a link) (under s keys) f)) (secure_next s.keys a.link)
-    (λ (link, f, keys) opened. none-identified (at a link) (under s keys) f)
-none-turned a (Open s) =
-    by-front NoTicket (λ (link, f, keys) opened. with_opened opened (on_upkeep (at a link) (under s keys) Open f)) (secure_next s.keys a.link)
-    (λ (link, f, keys) opened. none-upkeep (at a link) (under s keys) f)
+none-turned a (AwaitsIdent s session) =
+    by-front NoTicket (λ (link, f, keys) opened. with_opened opened (while_identified (at a link) (under s keys) session f)) (secure_next s.keys a.link)
+    (λ (link, f, keys) opened. none-identified (at a link) (under s keys) session f)
+none-turned a (Open s r) =
+    by-front NoTicket (λ (link, f, keys) opened. with_opened opened (on_open Open (at a link) (under s keys) r f)) (secure_next s.keys a.link)
+    (λ (link, f, keys) opened. none-open (at a link) (under s keys) r f)
 
 -- ---- a step of a client
 
@@ -217,13 +241,18 @@ none-loses c (Some link) = by_test (is_open link.stage)
     by_test true = tt
     by_test false = (tt, tt)
 
-none-submits : (c : ClientNode) (said : Command) → IssueNone (submits c said).out.entries
-none-submits c (command.Login services) = tt
-none-submits c (command.Renew services) = tt
-none-submits c command.Fetch = tt
-none-submits c (command.Connect daemon lossy) = tt
-none-submits c (command.Send daemon operation) = tt
-none-submits c (command.Drop session) = tt
+none-renews : (c : ClientNode) (services reading : ℕ) (block : List ℕ) (found : Option (Link Stage × (Secured × Requests))) → IssueNone (renews_on c services reading block found).out.entries
+none-renews c services reading block None = (tt, tt)
+none-renews c services reading block (Some (link, (s, r))) =
+    none-sends (arrival (me c.own) c.own.asker link reading block) s r want.Tickets (sealed_request s.keys r (asked.Tickets services))
+
+none-submits : (c : ClientNode) (reading : ℕ) (block : List ℕ) (said : Command) → IssueNone (submits c reading block said).out.entries
+none-submits c reading block (command.Login services) = tt
+none-submits c reading block (command.Renew services) = none-renews c services reading block (first_open kept_open c.links)
+none-submits c reading block command.Fetch = tt
+none-submits c reading block (command.Connect daemon lossy) = tt
+none-submits c reading block (command.Send daemon operation) = tt
+none-submits c reading block (command.Drop session) = tt
 
 pub client-none : (c : ClientNode) (input : Input) (reading : ℕ) (block : List ℕ) → IssueNone (client_rule c input reading block).out.entries
 client-none c (Opened number to) reading block = none-opens c reading block number to
@@ -231,7 +260,7 @@ client-none c (NoLink to) reading block = (tt, tt)
 client-none c (Bytes number bytes) reading block = none-fed c bytes (link_of number c.links)
 client-none c (Turn number) reading block = none-turn c reading block (link_of number c.links)
 client-none c (Gone number) reading block = none-loses c (link_of number c.links)
-client-none c (Submit said) reading block = none-submits c said
+client-none c (Submit said) reading block = none-submits c reading block said
 client-none c Restart reading block = (tt, tt)
 client-none c (Look view) reading block = tt
 client-none c Tick reading block = tt

@@ -1,5 +1,5 @@
 -- What rows of any node keep, and steps of any node.
-use Rattle.std.proofs.Common.{◌≡◌, ℕ, ◌+◌, ◌-◌, ◌^◌, Bool, true, false, cond, List, [], ◌∷◌, ◌++◌, length, filter, Option, Some, None, Result, Ok, Err, refl, sym, subst}
+use Rattle.std.proofs.Common.{◌≡◌, ℕ, ◌+◌, ◌-◌, ◌^◌, Bool, true, false, cond, List, [], ◌∷◌, ◌++◌, length, filter, Option, Some, None, Result, Ok, Err, inl, inr, refl, sym, subst, ◌⊎◌}
 use Rattle.std.specs.Prelude.{nat_lt, not, ◌==◌, if◌then◌else◌}
 use Rattle.std.specs.List.{AllByRecursion}
 use Rattle.cx_base.specs.Names.{Name}
@@ -11,12 +11,14 @@ use Rattle.cx_journal.specs.declared.entries.Entry.TheVariants as journal
 use Rattle.cx_journal.specs.declared.faults.BytesFault.{BytesFault}
 use Rattle.cx_journal.specs.declared.faults.BytesFault.TheVariants.{CounterSpent, TooLong}
 use Rattle.cx_base.specs.declared.nodes.NodeName.{NodeName}
+use Rattle.cx_base.specs.declared.nodes.NodeName.TheVariants as node
 use Rattle.cx_journal.specs.declared.outcomes.Reason.{Reason}
 use Rattle.cx_journal.specs.declared.premises.KeyKind.TheVariants as kind
 use Rattle.cx_rules.specs.Fronts.{opened_parts}
 use Rattle.cx_rules.specs.Links.{Link, link_of, put_link, without_link}
 use Rattle.cx_rules.specs.Rows.{Arrival, Node, Outcome, Row, Turned, Waits, Refuses, Handles, carried_out, goes_on, idles, links_behind, plain_sent, refuses, refuses_bytes, secure_sent, sends_plain, sends_secure, turns, with_opened}
 use Rattle.cx_rules.specs.Secured.{Keys, SealedFrame, Secured, part_seals, plain_frame, sealed_under, secure_frame, signing}
+use Rattle.cx_secure.specs.Parts.{nonce_at}
 use Rattle.cx_secure.specs.Plains.{plains}
 use Rattle.cx_stream.specs.Openings.{front_contents}
 use Rattle.cx_stream.specs.SecureStreams.{Ahead}
@@ -24,12 +26,12 @@ use Rattle.cx_steps.specs.declared.seals.Logged.{Logged}
 use Rattle.cx_steps.specs.declared.seals.SealEntry.{SealEntry}
 use Rattle.cx_steps.specs.declared.seals.SealEntry.TheVariants as entry
 use Rattle.cx_laws_keys.proofs.Journal.{After, EntryLaw, IsLoginEntry, IsNotIssued, IsOfLogin, Reached, entered, own-other}
-use Rattle.cx_laws_keys.proofs.Known.{Inv, IsAllowed}
+use Rattle.cx_laws_keys.proofs.Known.{Inv, IsAllowed, IsOfAcceptor}
 use Rattle.cx_laws_keys.proofs.Lists.{all-append, all-map, all-of-map}
 use Rattle.cx_laws_keys.proofs.Premises.{AreGranted, behind}
 use Rattle.cx_laws_keys.proofs.Steps.{inv-all, inv-entered}
 use Rattle.cx_laws_keys.proofs.Uses.{Connected, Grows, Login, Means, Uses, stays}
-use Rattle.cx_laws_login.proofs.Facts.{HasConnection}
+use Rattle.cx_laws_login.proofs.Facts.{IsSameWay, MaySeal}
 
 -- ---- entries of the log
 
@@ -45,27 +47,40 @@ module _ (us : Uses) (J : List Entry) (n : NodeName) where
   abbrev pub Allowed : List SealEntry → Type 0
   Allowed es = AllByRecursion (IsAllowed us J n) es
 
-  pub parts-allowed : (key fixed : List ℕ) (counter : ℕ) (texts : List (List ℕ)) → HasConnection us key → Allowed (part_seals key fixed counter texts)
-  parts-allowed key fixed counter [] h = tt
-  parts-allowed key fixed counter (text ∷ texts) h = ((Connected h.connected.acceptor h.connected.number h.name h.connected.tie, h.connected.means, tt), parts-allowed key fixed (counter + 1) texts h)
+  -- a part begins as its nonce does
+  part-begins : (fixed : List ℕ) (counter : ℕ) (text : List ℕ) → IsOfAcceptor fixed → IsOfAcceptor (nonce_at fixed counter ++ text)
+  unfolding nonce_at
+  part-begins [] counter text h = absurd h
+  part-begins (b ∷ bytes) counter text h = h
 
-  -- the frame, if it was sealed, was so under its key
-  abbrev pub FrameOk : List ℕ → Result SealedFrame BytesFault → Type 0
-  FrameOk key (Ok s) = Allowed s.seals × (s.keys.key ≡ key)
-  FrameOk key (Err why) = Unit {0}
+  parts-allowed : (keys : Keys) (counter : ℕ) (texts : List (List ℕ)) → MaySeal us n keys → Allowed (part_seals keys.key keys.out.fixed counter texts)
+  parts-allowed keys counter [] h = tt
+  parts-allowed keys counter (text ∷ texts) h = (
+    (Connected h.connected.acceptor h.connected.number h.name h.connected.tie, h.connected.means, tt, by_own h.own),
+    parts-allowed keys (counter + 1) texts h,
+  )
+    where
+      by_own : (n ≡ node.Entity h.name) ⊎ IsOfAcceptor keys.out.fixed → (n ≡ node.Entity h.name) ⊎ IsOfAcceptor (nonce_at keys.out.fixed counter ++ text)
+      by_own (inl own) = inl own
+      by_own (inr acceptor) = inr (part-begins keys.out.fixed counter text acceptor)
 
-  pub frame-ok : (keys : Keys) (f : Frame) → HasConnection us keys.key → FrameOk keys.key (secure_frame keys f)
+  -- the frame, if it was sealed, was so under its keys
+  abbrev pub FrameOk : Keys → Result SealedFrame BytesFault → Type 0
+  FrameOk keys (Ok s) = Allowed s.seals × IsSameWay s.keys keys
+  FrameOk keys (Err why) = Unit {0}
+
+  pub frame-ok : (keys : Keys) (f : Frame) → MaySeal us n keys → FrameOk keys (secure_frame keys f)
   frame-ok keys f h = by_test (nat_lt (2 ^ 64 - 1) (keys.out.counter + length (plains f))) (nat_lt 1048576 (total f))
     where
-      by_test : (spent long : Bool) → FrameOk keys.key (if spent then Err CounterSpent else if long then Err TooLong else Ok (sealed_under keys f))
+      by_test : (spent long : Bool) → FrameOk keys (if spent then Err CounterSpent else if long then Err TooLong else Ok (sealed_under keys f))
       by_test true long = tt
       by_test false true = tt
-      by_test false false = (parts-allowed keys.key keys.out.fixed keys.out.counter (plains f) h, refl)
+      by_test false false = (parts-allowed keys keys.out.counter (plains f) h, record { key = refl; out = refl; into = refl })
 
-  pub signing-ok : (name : Name) (key session received : List ℕ) (r : Result SealedFrame BytesFault) → Means us session (Login name) → FrameOk key r
-      → FrameOk key (signing session received r)
-  signing-ok name key session received (Ok s) h r = (((Login name, h, tt), r.0), r.1)
-  signing-ok name key session received (Err why) h r = tt
+  pub signing-ok : (name : Name) (keys : Keys) (session received : List ℕ) (r : Result SealedFrame BytesFault) → Means us session (Login name) → FrameOk keys r
+      → FrameOk keys (signing session received r)
+  signing-ok name keys session received (Ok s) h r = (((Login name, h, tt), r.0), r.1)
+  signing-ok name keys session received (Err why) h r = tt
 
   pub opened-allowed : (ahead : Ahead) → Allowed (opened_parts ahead)
   opened-allowed ahead =
@@ -170,11 +185,11 @@ module _ {Own Stage : Type 0} (say : Saying Own Stage) where
         by_sent (Err why) = simple-refuses_bytes a why seals own al
 
     pub simple-secure : (a : Arrival Own Stage) (s : Secured) (stage : Secured → Stage) (seals : List SealEntry) (f : Frame) → say.Owns us J a.own
-        → HasConnection us s.keys.key → ((t : Secured) → t.keys.key ≡ s.keys.key → say.Stands us (stage t)) → Allowed us J n seals
+        → MaySeal us n s.keys → ((t : Secured) → IsSameWay t.keys s.keys → say.Stands us (stage t)) → Allowed us J n seals
         → Simple us J n (sends_secure a s stage seals f)
     simple-secure a s stage seals f own has st al = by_sent (secure_frame s.keys f) (frame-ok us J n s.keys f has)
       where
-        by_sent : (r : Result SealedFrame BytesFault) → FrameOk us J n s.keys.key r → Simple us J n (secure_sent a s stage seals r)
+        by_sent : (r : Result SealedFrame BytesFault) → FrameOk us J n s.keys r → Simple us J n (secure_sent a s stage seals r)
         by_sent (Ok sealed) h = simple-goes_on a (stage (record s { keys = sealed.keys })) sealed.bytes (seals ++ sealed.seals) own (st (record s { keys = sealed.keys }) h.1)
             (all-append (IsAllowed us J n) seals sealed.seals al h.0)
         by_sent (Err why) h = simple-refuses_bytes a why seals own al

@@ -131,12 +131,12 @@ module _ (leaked : List Name) (whole : List Logged) (n : NodeName) (line : ℕ) 
 
       by_service : (s : EntityType) → t.service ≡ s
           → IsAllowed us K n (entry.Sealed (record { key = info_key secret auth_session s; kind = info_kind s; content = ticket_info_layout.form.text (ticket_info_of t) }))
-      by_service Auth same = (Secret name, ready.told, (λ x e. key x Auth same (read x e), λ x e. absurd (info_no_rotating (ticket_info_of t) x e)))
-      by_service Mon same = (Login name, auth, other Mon same (λ m. refl))
-      by_service Mds same = (Login name, auth, other Mds same (λ m. refl))
-      by_service Osd same = (Login name, auth, other Osd same (λ m. refl))
-      by_service Client same = (Login name, auth, other Client same (λ m. refl))
-      by_service Mgr same = (Login name, auth, other Mgr same (λ m. refl))
+      by_service Auth same = (Secret name, ready.told, (λ x e. key x Auth same (read x e), λ x e. absurd (info_no_rotating (ticket_info_of t) x e)), tt)
+      by_service Mon same = (Login name, auth, other Mon same (λ m. refl), tt)
+      by_service Mds same = (Login name, auth, other Mds same (λ m. refl), tt)
+      by_service Osd same = (Login name, auth, other Osd same (λ m. refl), tt)
+      by_service Client same = (Login name, auth, other Client same (λ m. refl), tt)
+      by_service Mgr same = (Login name, auth, other Mgr same (λ m. refl), tt)
 
   blob-allowed : (us : Uses) (t : Ticket) → TicketOk name gid reading block t → Contains K (issued_entry t) → Means us t.session (session_use name t.service)
       → IsOfCurrent server t → (current : Option Generation) → current_at t.created (generations_of server.state t.service) ≡ current → CurrentOk us t.service current
@@ -145,7 +145,7 @@ module _ (leaked : List Name) (whole : List Logged) (n : NodeName) (line : ℕ) 
   blob-allowed us t ok has means under (Some g) is h =
       let same : under.of ≡ g = some_is under.of g (sym under.current ∙ is) in
       let content : List ℕ = service_ticket_layout.form.text (service_ticket_of t) in (
-        (Generated t.service g.id, h, blob-says us t g ok has means (under.id ∙ ap (λ (k : Generation). k.id) same) (under.blob ∙ ap (λ (k : Generation). enveloped k.key content) same)),
+        (Generated t.service g.id, h, blob-says us t g ok has means (under.id ∙ ap (λ (k : Generation). k.id) same) (under.blob ∙ ap (λ (k : Generation). enveloped k.key content) same), tt),
         tt,
       )
     where
@@ -182,7 +182,7 @@ module _ (leaked : List Name) (whole : List Logged) (n : NodeName) (line : ℕ) 
       }
 
   -- the tickets for other services than AUTH
-  others-sealed : (us : Uses) (log : List Logged) (ts : List Ticket) → Inv leaked whole us log K → AllByRecursion (IsOther name gid reading block) ts → AllByRecursion (IsOfCurrent server) ts
+  pub others-sealed : (us : Uses) (log : List Logged) (ts : List Ticket) → Inv leaked whole us log K → AllByRecursion (IsOther name gid reading block) ts → AllByRecursion (IsOfCurrent server) ts
       → AllByRecursion (λ (t : Ticket). Contains K (issued_entry t)) ts → Ready us → Means us auth_session (Login name)
       → AreGranted leaked whole n line log (flat_map (ticket_seals server secret auth_session) ts)
       → Reached leaked whole n line us log K (flat_map (ticket_seals server secret auth_session) ts) (λ vs. Means vs auth_session (Login name))
@@ -232,7 +232,7 @@ module _ (leaked : List Name) (whole : List Logged) (n : NodeName) (line : ℕ) 
       record {
         uses = vs;
         grows = grows-one us key u;
-        inv = inv-all leaked whole vs (logged n line (entry.Drawn mark) ∷ log) K n line connection_sealed first ((Login name, inr auth, says), tt);
+        inv = inv-all leaked whole vs (logged n line (entry.Drawn mark) ∷ log) K n line connection_sealed first ((Login name, inr auth, says, tt), tt);
         facts = record { session = inr auth; connection = record { acceptor = n; number = number; tie = tie; means = inl (refl, refl) } };
       }
     where

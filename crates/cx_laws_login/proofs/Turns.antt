@@ -1,5 +1,5 @@
 -- A turn of a link of any node: what stands next on it, and the row that handles it.
-use Rattle.std.proofs.Common.{◌≡◌, ℕ, List, Option, Some, None, Result, Ok, Err, refl}
+use Rattle.std.proofs.Common.{ℕ, List, Option, Some, None, Result, Ok, Err, refl, ◌++◌}
 use Rattle.cx_base.specs.Names.{Name}
 use Rattle.cx_frame.specs.Banners.{banner_at}
 use Rattle.cx_frame.specs.declared.banner.Banner.{Banner}
@@ -20,6 +20,7 @@ use Rattle.cx_stream.specs.SecureStreams.{secure_frame_at}
 use Rattle.cx_laws_keys.proofs.Known.{Inv}
 use Rattle.cx_laws_keys.proofs.Premises.{AreGranted}
 use Rattle.cx_laws_keys.proofs.Uses.{Uses}
+use Rattle.cx_laws_login.proofs.Facts.{IsSameWay}
 use Rattle.cx_laws_login.proofs.Rows.{AfterRow, Allowed, Saying, Simple, TurnOk, after-simple, opened-allowed, simple-with_opened}
 
 module _ {Own Stage : Type 0} (say : Saying Own Stage) (leaked : List Name) (whole : List Logged) (n : NodeName) (line : ℕ) (us : Uses) (log : List Logged) (J : List Entry) where
@@ -43,7 +44,7 @@ module _ {Own Stage : Type 0} (say : Saying Own Stage) (leaked : List Name) (who
       by_read (Err e) = tt
 
   pub turn-secure : (a : Arrival Own Stage) (keys : Keys) (row : Link Stage → Keys → Frame → Row Own Stage) (link : Link Stage) → Inv leaked whole us log J
-      → ((l : Link Stage) (k : Keys) (f : Frame) → k.key ≡ keys.key → Simple say us J n (row l k f))
+      → ((l : Link Stage) (k : Keys) (f : Frame) → IsSameWay k keys → Simple say us J n (row l k f))
       → TurnOk say leaked whole n line us log J a (turned_by (λ (l, f, k) opened. with_opened opened (row l k f)) (secure_next keys link))
   turn-secure a keys row link i each =
       by_read (opened_parts (sealed_ahead keys link)) (opened-allowed us J n (sealed_ahead keys link)) (secure_frame_at (sealed_ahead keys link))
@@ -52,5 +53,19 @@ module _ {Own Stage : Type 0} (say : Saying Own Stage) (leaked : List Name) (who
           → TurnOk say leaked whole n line us log J a (turned_by (λ (l, f, k) opened. with_opened opened (row l k f)) (secure_read keys link opened r))
       by_read opened al (Ok None) = tt
       by_read opened al (Ok (Some (f, m))) = λ g.
-          after-simple say leaked whole n line us log J (with_opened opened (row _ _ f)) i (simple-with_opened say us J n opened (row _ _ f) al (each _ _ f refl))
+          after-simple say leaked whole n line us log J (with_opened opened (row _ _ f)) i (simple-with_opened say us J n opened (row _ _ f) al (each _ _ f (record { key = refl; out = refl; into = refl })))
+      by_read opened al (Err e) = al
+
+  -- the same of rows that draw, seal or issue
+  pub turn-open : (a : Arrival Own Stage) (keys : Keys) (row : Link Stage → Keys → Frame → Row Own Stage) (link : Link Stage)
+      → ((l : Link Stage) (k : Keys) (f : Frame) (opened : List SealEntry) → IsSameWay k keys → Allowed us J n opened → AreGranted leaked whole n line log (opened ++ (row l k f).seals)
+      → AfterRow say leaked whole n line us log J (with_opened opened (row l k f)))
+      → TurnOk say leaked whole n line us log J a (turned_by (λ (l, f, k) opened. with_opened opened (row l k f)) (secure_next keys link))
+  turn-open a keys row link each =
+      by_read (opened_parts (sealed_ahead keys link)) (opened-allowed us J n (sealed_ahead keys link)) (secure_frame_at (sealed_ahead keys link))
+    where
+      by_read : (opened : List SealEntry) → Allowed us J n opened → (r : Result (Option (Frame × ℕ)) SecureRefusal)
+          → TurnOk say leaked whole n line us log J a (turned_by (λ (l, f, k) opened. with_opened opened (row l k f)) (secure_read keys link opened r))
+      by_read opened al (Ok None) = tt
+      by_read opened al (Ok (Some (f, m))) = λ g. each _ _ f opened (record { key = refl; out = refl; into = refl }) al g
       by_read opened al (Err e) = al

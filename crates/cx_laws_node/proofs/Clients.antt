@@ -7,7 +7,7 @@ use Rattle.cx_base.specs.Names.{Name, same_name}
 use Rattle.cx_base.specs.declared.nodes.NodeName.{NodeName}
 use Rattle.cx_base.specs.declared.nodes.NodeName.TheVariants as node
 use Rattle.cx_laws_keys.proofs.Lists.{found_passes}
-use Rattle.cx_laws_node.proofs.Named.{named}
+use Rattle.cx_run.proofs.ClientNamed.{client-named}
 use Rattle.cx_laws_node.specs.Alone.{client_behind, client_outs, client_steps_alone, given_at, given_if, of_node}
 use Rattle.cx_line_words.specs.declared.choices.LeftState.{LeftState}
 use Rattle.cx_rotate.specs.declared.states.KeptState.{KeptState}
@@ -59,7 +59,7 @@ stepped h c = (client_steps_alone c h).state
 
 -- its name stays
 same_test : (name : Name) (h : Happening) (c : ClientNode) → is_of name (stepped h c) ≡ is_of name c
-same_test name h c = ap (λ (n : Name). same_name n name) (named c h.input h.reading h.draw)
+same_test name h c = ap (λ (n : Name). same_name n name) (client-named c h.input h.reading h.draw)
 
 -- an event that comes to this client
 own_step : (nodes : Nodes) (h : Happening) (name : Name) (found : Option ClientNode) → client_of name nodes ≡ found

@@ -1,3 +1,2 @@
 mod Clients
 mod Monitors
-mod Named

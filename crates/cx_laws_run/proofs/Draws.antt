@@ -1,5 +1,5 @@
 -- Each event of a run has a draw of 384 bytes.
-use Rattle.std.proofs.Common.{◌≡◌, ℕ, ◌*◌, List, [], ◌∷◌, ◌++◌, Option, Some, None, refl, sym, subst, zero, suc, arith, length-append}
+use Rattle.std.proofs.Common.{◌≡◌, ℕ, ◌*◌, List, [], ◌∷◌, Option, Some, None, refl, sym, subst, zero, suc, arith, length-append}
 use Rattle.std.specs.Prelude.{length}
 use Rattle.cx_dice.specs.Rolls.{seed_draw, words_from}
 use Rattle.cx_lines.specs.declared.lines.Numbered.{Numbered}

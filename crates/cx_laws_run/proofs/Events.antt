@@ -19,6 +19,7 @@ use Rattle.cx_rules.specs.Links.{Link}
 use Rattle.cx_rules.specs.Monitor.{MonitorNode}
 use Rattle.cx_rules.specs.MonitorRule.{monitor_rule}
 use Rattle.cx_rules.specs.Rows.{Outcome}
+use Rattle.cx_run.proofs.ClientNamed.{client-named}
 use Rattle.cx_run.specs.Happenings.{Entered, Happening, Nodes, Stepped, client_of, client_steps, entered_by, failed_out, is_of, journal_from, left_as, monitor_steps, seals_from, stays, steps, steps_of}
 use Rattle.cx_steps.specs.Nothing.{nothing}
 use Rattle.cx_steps.specs.Onto.{EachOnto}
@@ -32,7 +33,7 @@ use Rattle.cx_laws_keys.proofs.Uses.{Grows, Means, Secret, Uses}
 use Rattle.cx_laws_keys.proofs.Uses.{stays as same_uses}
 use Rattle.cx_laws_login.proofs.ClientStep.{client-step, client_says}
 use Rattle.cx_laws_login.proofs.Entering.{within-all}
-use Rattle.cx_laws_login.proofs.Facts.{AskerStageOk, OwnOk, asker_stage-grows, own-grows, tickets-append, tickets_in}
+use Rattle.cx_laws_login.proofs.Facts.{AskerStageOk, OwnOk, asker_stage-grows, own-grows, tickets-append, tickets_in, Owner}
 use Rattle.cx_laws_login.proofs.Generations.{state-grows}
 use Rattle.cx_laws_login.proofs.MonitorRows.{monitor_says}
 use Rattle.cx_laws_login.proofs.MonitorStep.{MonitorOk, between, between-less, monitor-after, unsaved-ok}
@@ -45,7 +46,7 @@ use Rattle.cx_laws_run.specs.Laws.{AreDrawn}
 pub record ClientOk (us : Uses) (c : ClientNode) : Type 0 where
   pub client : is_server (node.Entity c.own.asker.name) ≡ false
   pub secret : Means us c.own.asker.secret (Secret c.own.asker.name)
-  pub links : AllByRecursion (λ (l : Link Stage). AskerStageOk us l.stage) c.links
+  pub links : AllByRecursion (λ (l : Link Stage). AskerStageOk us (node.Entity c.own.asker.name) l.stage) c.links
 
 abbrev pub ClientsOk : Uses → List ClientNode → Type 0
 ClientsOk us cs = AllByRecursion (ClientOk us) cs
@@ -58,7 +59,8 @@ client-grows : (us vs : Uses) (c : ClientNode) → Grows us vs → ClientOk us c
 client-grows us vs c f h = record {
   client = h.client;
   secret = f.means c.own.asker.secret (Secret c.own.asker.name) h.secret;
-  links = all-map (λ (l : Link Stage). AskerStageOk us l.stage) (λ (l : Link Stage). AskerStageOk vs l.stage) (λ l st. asker_stage-grows us vs l.stage f st) c.links h.links;
+  links = all-map (λ (l : Link Stage). AskerStageOk us (node.Entity c.own.asker.name) l.stage) (λ (l : Link Stage). AskerStageOk vs (node.Entity c.own.asker.name) l.stage)
+      (λ l st. asker_stage-grows us vs (node.Entity c.own.asker.name) l.stage f st) c.links h.links;
 }
 
 clients-grow : (us vs : Uses) (cs : List ClientNode) → Grows us vs → ClientsOk us cs → ClientsOk vs cs
@@ -77,18 +79,23 @@ replaced us name client (c ∷ cs) ok h = (by_test (is_of name c), replaced us n
 monitor-moved : (us vs : Uses) (J K : List Entry) (m : MonitorNode) → Grows us vs → ((s : Issued) → Contains K (journal.Issued s) → Contains J (journal.Issued s)) → MonitorOk us J m
     → MonitorOk vs K m
 monitor-moved us vs J K m f quiet h =
-    let more : OwnOk m.own.saved_before vs J m.own = own-grows m.own.saved_before us vs J m.own f h.own in
+    let more : OwnOk m.own.saved_before h.owner vs J m.own = own-grows m.own.saved_before h.owner us vs J m.own f h.node_ok.own in
     record {
-      own = record {
-        ring = more.ring;
-        present = more.present;
-        saved = more.saved;
-        before_is = more.before_is;
-        grown = more.grown;
-        below = λ s has. more.below s (quiet s has);
-        rises = more.rises;
+      owner = h.owner;
+      node_ok = record {
+        own = record {
+          ring = more.ring;
+          present = more.present;
+          saved = more.saved;
+          before_is = more.before_is;
+          grown = more.grown;
+          below = λ s has. more.below s (quiet s has);
+          rises = more.rises;
+          owned = λ s has. more.owned s (quiet s has);
+          unowned = more.unowned;
+        };
+        links = links-grow (monitor_says m.own.saved_before h.owner) us vs m.links f h.node_ok.links;
       };
-      links = links-grow (monitor_says m.own.saved_before) us vs m.links f h.links;
     }
 
 entered-append : (J js : List Entry) → entered J js ≡ J ++ js
@@ -105,6 +112,13 @@ module _ (leaked : List Name) (whole : List Logged) (us : Uses) (log : List Logg
 
   -- ---- a client
 
+  -- a client at its own node, before its step
+  client-before : (c : ClientNode) (name : Name) → ClientOk us c → node.Entity name ≡ node.Entity c.own.asker.name → NodeOk (client_says J (node.Entity name)) c us J
+  client-before c name known here = record {
+    own = record { client = known.client; secret = known.secret; quiet = λ s has. has; count = refl };
+    links = subst (λ (n : NodeName). AllByRecursion (λ (l : Link Stage). AskerStageOk us n l.stage) c.links) (sym here) known.links;
+  }
+
   client-after : (h : Happening) (name : Name) (found : Option ClientNode) → client_of name nodes ≡ found → Inv leaked whole us log J → NodesOk nodes us J
       → AreGranted leaked whole (node.Entity name) h.line log (client_steps nodes h name found).out.seals → AfterStepped (node.Entity name) h.line (client_steps nodes h name found)
   client-after h name None is i ok g = nothing-after (node.Entity name) h.line i ok
@@ -113,9 +127,14 @@ module _ (leaked : List Name) (whole : List Logged) (us : Uses) (log : List Logg
       let named : c.own.asker.name ≡ name = same_name_is c.own.asker.name name (found_passes (is_of name) nodes.clients c is) in
       let here : node.Entity name ≡ node.Entity c.own.asker.name = ap (λ (m : Name). node.Entity m) (sym named) in
       let o : Outcome ClientNode = client_rule c h.input h.reading h.draw in
-      let before : NodeOk (client_says J) c us J = record { own = record { client = known.client; secret = known.secret; quiet = λ s has. has; count = refl }; links = known.links } in
+      let before : NodeOk (client_says J (node.Entity name)) c us J = client-before c name known here in
       let a = client-step leaked whole (node.Entity name) h.line us log J J c h.input h.reading h.draw i before here g in
-      let behind_it : ClientOk a.uses o.state = record { client = a.good.own.client; secret = a.good.own.secret; links = a.good.links } in
+      let still : node.Entity name ≡ node.Entity o.state.own.asker.name = here ∙ ap (λ (m : Name). node.Entity m) (sym (client-named c h.input h.reading h.draw)) in
+      let behind_it : ClientOk a.uses o.state = record {
+        client = a.good.own.client;
+        secret = a.good.own.secret;
+        links = subst (λ (n : NodeName). AllByRecursion (λ (l : Link Stage). AskerStageOk a.uses n l.stage) o.state.links) still a.good.links;
+      } in
       record {
         uses = a.uses;
         grows = a.grows;
@@ -136,7 +155,7 @@ module _ (leaked : List Name) (whole : List Logged) (us : Uses) (log : List Logg
       let named : c.own.asker.name ≡ name = same_name_is c.own.asker.name name (found_passes (is_of name) nodes.clients c is) in
       let here : node.Entity name ≡ node.Entity c.own.asker.name = ap (λ (m : Name). node.Entity m) (sym named) in
       let o : Outcome ClientNode = client_rule c h.input h.reading h.draw in
-      let before : NodeOk (client_says J) c us J = record { own = record { client = known.client; secret = known.secret; quiet = λ s has. has; count = refl }; links = known.links } in
+      let before : NodeOk (client_says J (node.Entity name)) c us J = client-before c name known here in
       let a = client-step leaked whole (node.Entity name) h.line us log J J c h.input h.reading h.draw i before here g in
       let all : tickets_in (entered J o.out.entries) ≡ tickets_in J = a.good.own.count in
       let parts : tickets_in (J ++ o.out.entries) ≡ tickets_in J + tickets_in o.out.entries = tickets-append J o.out.entries in
@@ -152,14 +171,15 @@ module _ (leaked : List Name) (whole : List Logged) (us : Uses) (log : List Logg
   saved-after : (h : Happening) → Inv leaked whole us log J → NodesOk nodes us J → length h.draw ≡ 384 → AreGranted leaked whole node.Monitor h.line log (rule h).out.seals
       → AfterStepped node.Monitor h.line (record { nodes = record nodes { monitor = (rule h).state }; out = (rule h).out; failed = false })
   saved-after h i ok drawn g =
-      let a = monitor-after leaked whole node.Monitor h.line us log J nodes.monitor h.input h.reading h.draw i ok.monitor drawn g in
+      let b = monitor-after leaked whole node.Monitor h.line us log J nodes.monitor h.input h.reading h.draw i ok.monitor drawn g in
+      let a = b.after in
       record {
         uses = a.uses;
         grows = a.grows;
         inv = a.inv;
         laws = a.laws;
         good = record {
-          monitor = between nodes.monitor.own.saved a.uses (entered J (rule h).out.entries) (rule h).state a.good;
+          monitor = between nodes.monitor.own.saved b.owner a.uses (entered J (rule h).out.entries) (rule h).state a.good;
           clients = clients-grow us a.uses nodes.clients a.grows ok.clients;
         };
       }
@@ -170,21 +190,22 @@ module _ (leaked : List Name) (whole : List Logged) (us : Uses) (log : List Logg
       → AfterStepped node.Monitor h.line (record { nodes = record nodes { monitor = left_as l (rule h).state }; out = failed_out (rule h).out; failed = true })
   failed-after h l i ok drawn g =
       let all = thick leaked whole node.Monitor h.line log (rule h).out.seals g in
-      let a = monitor-after leaked whole node.Monitor h.line us log J nodes.monitor h.input h.reading h.draw i ok.monitor drawn all in
+      let b = monitor-after leaked whole node.Monitor h.line us log J nodes.monitor h.input h.reading h.draw i ok.monitor drawn all in
+      let a = b.after in
       let K : List Entry = entered J (rule h).out.entries in
       record {
         uses = a.uses;
         grows = a.grows;
         inv = inv-failed leaked whole node.Monitor h.line us a.uses log J K (rule h).out.seals a.grows i a.inv;
         laws = tt;
-        good = record { monitor = by_left a.uses K a.grows (within-all J (rule h).out.entries) a.good l; clients = clients-grow us a.uses nodes.clients a.grows ok.clients };
+        good = record { monitor = by_left b.owner a.uses K a.grows (within-all J (rule h).out.entries) a.good l; clients = clients-grow us a.uses nodes.clients a.grows ok.clients };
       }
     where
-      by_left : (vs : Uses) (K : List Entry) → Grows us vs → Within J K → NodeOk (monitor_says nodes.monitor.own.saved) (rule h).state vs K → (l : LeftState)
+      by_left : (who : Owner) (vs : Uses) (K : List Entry) → Grows us vs → Within J K → NodeOk (monitor_says nodes.monitor.own.saved who) (rule h).state vs K → (l : LeftState)
           → MonitorOk vs J (left_as l (rule h).state)
-      by_left vs K f w good left.Old =
-          unsaved-ok nodes.monitor.own.saved vs J K (rule h).state good (state-grows us vs nodes.monitor.own.saved f ok.monitor.own.saved) ok.monitor.own.below
-      by_left vs K f w good left.New = between-less nodes.monitor.own.saved vs J K (rule h).state w good
+      by_left who vs K f w good left.Old =
+          unsaved-ok nodes.monitor.own.saved who vs J K (rule h).state w good (state-grows us vs nodes.monitor.own.saved f ok.monitor.node_ok.own.saved) ok.monitor.node_ok.own.below
+      by_left who vs K f w good left.New = between-less nodes.monitor.own.saved who vs J K (rule h).state w good
 
   monitor-steps-after : (h : Happening) (l : Option LeftState) (saved : Option KeptState) → Inv leaked whole us log J → NodesOk nodes us J → length h.draw ≡ 384
       → AreGranted leaked whole node.Monitor h.line log (monitor_steps nodes (rule h) l saved).out.seals → AfterStepped node.Monitor h.line (monitor_steps nodes (rule h) l saved)

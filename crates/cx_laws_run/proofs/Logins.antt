@@ -1,4 +1,5 @@
--- Who logged in: the proof behind which a ticket is issued was signed by the entity's own node, where the entity isn't leaked.
+-- Who logged in: the proof behind which a ticket is issued, or which opened the link on which it is, was signed by the entity's own node, where the
+-- entity isn't leaked.
 use Rattle.std.proofs.Common.{◌≡◌, ◌⊎◌, ℕ, List, [], ◌∷◌, map, Option, Some, inl, inr, refl, sym, subst}
 use Rattle.std.specs.Prelude.{Contains}
 use Rattle.cx_base.specs.Names.{Name}
@@ -6,34 +7,46 @@ use Rattle.cx_base.specs.declared.nodes.NodeName.{NodeName}
 use Rattle.cx_base.specs.declared.nodes.NodeName.TheVariants as node
 use Rattle.cx_journal.specs.declared.entries.Entry.{Entry}
 use Rattle.cx_journal.specs.declared.entries.Entry.TheVariants as journal
+use Rattle.cx_journal.specs.declared.entries.Issued.{Issued}
 use Rattle.cx_rules.specs.Links.{Link, link_of}
-use Rattle.cx_rules.specs.Monitor.{MonitorNode, MonitorStage, Offered}
+use Rattle.cx_rules.specs.Monitor.{MonitorStage, Offered}
+use Rattle.cx_rules.specs.Secured.{Keys}
 use Rattle.cx_run.specs.Happenings.{Entered, Happening, Nodes, Stepped, seals_from, steps}
 use Rattle.cx_run.specs.Opening.{Setup, leaked_of, leaks_entered, nodes_of}
-use Rattle.cx_run.proofs.PointsTell.{each-both}
-use Rattle.cx_run.specs.Points.{EachPoint, Point, log_since, logged_until, onto, points, points_onto}
+use Rattle.cx_run.specs.Points.{EachPoint, Point, Since, log_since, logged_until, onto, points, points_onto, seals_at}
 use Rattle.cx_steps.specs.Onto.{EachOnto, SomeOf}
-use Rattle.cx_steps.specs.Premises.{HasSigned, IsExcepted, IsFresh, IsSound, Owes, Signs}
+use Rattle.cx_steps.specs.Premises.{HasSealed, HasSigned, IsExcepted, IsFresh, IsSound, Owes, Seals, Signs}
 use Rattle.cx_steps.specs.declared.seals.Logged.{Logged}
 use Rattle.cx_steps.specs.declared.seals.SealEntry.{SealEntry}
 use Rattle.cx_steps.specs.declared.seals.SealEntry.TheVariants as seal
+use Rattle.cx_steps.specs.declared.seals.SealMark.{SealMark}
 use Rattle.cx_laws_keys.proofs.Journal.{entered, has-before}
-use Rattle.cx_laws_keys.proofs.Known.{Inv, signed_own}
+use Rattle.cx_laws_keys.proofs.Known.{Inv, IsOfConnector, sealed_own, signed_own}
 use Rattle.cx_laws_keys.proofs.Premises.{AreGranted, IsGranted, all-granted, behind, granted-step, logged}
-use Rattle.cx_laws_keys.proofs.Uses.{Means, Secret, Uses, no_uses}
-use Rattle.cx_laws_login.proofs.Facts.{OfferOk, StageOk}
+use Rattle.cx_laws_keys.proofs.Uses.{Connected, IsConnected, Means, Secret, Uses, no_uses}
+use Rattle.cx_laws_login.proofs.Facts.{BearerOk, OfferOk, StageOk}
+use Rattle.cx_laws_login.proofs.Hearing.{HearsPart, heard-begins, part_heard}
 use Rattle.cx_laws_login.proofs.MonitorRows.{monitor_says}
+use Rattle.cx_laws_login.proofs.MonitorStep.{MonitorOk}
 use Rattle.cx_laws_login.proofs.Rows.{LinkOk, found-link, quiet-entries}
-use Rattle.cx_laws_run.proofs.Asked.{all-asked}
+use Rattle.cx_laws_run.proofs.Asked.{Hears, IsHeardFor, all-heard}
 use Rattle.cx_laws_run.proofs.Events.{NodesOk, event-after}
 use Rattle.cx_laws_run.proofs.Opening.{NoneIssued, leaks-quiet, nothing-in, opening-inv, opening-nodes, secrets-known}
 use Rattle.cx_laws_run.specs.Laws.{AreDrawn}
-use Rattle.cx_laws_run.specs.Logins.{Asks, LogIn, LogsIn, Proves, proof_of}
+use Rattle.cx_laws_run.specs.Logins.{IsRenewal, LogIn, LogsIn, OwnFrame, OwnLogin, Proves, proof_of}
 
 -- of each proof that is found equal at this point, of an entity that isn't leaked: its own node signed it before
 abbrev SignedOwn : Setup → List Point → Point → Type 0
 SignedOwn setup older p = (number : ℕ) (name : Name) → (proves : Proves setup number name older p) → (Contains (leaked_of setup) name → ⊥)
     → SomeOf (λ (at : Logged). (at.node ≡ node.Entity name) × Signs (proof_of proves.offered.offer proves.client_challenge) at.entry) (logged_until setup older)
+
+-- of each part that opens first at this point, where it came on the link of a renewal, of an entity that isn't leaked: its own node sealed it before
+abbrev SealedOwn : Setup → List Point → Point → Type 0
+SealedOwn setup older p = (t : Issued) (renewal : IsRenewal setup older p t) → HearsPart renewal.secured.keys (seals_at p) → (Contains (leaked_of setup) t.entity → ⊥)
+    → OwnFrame setup t.entity older p
+
+abbrev Owned : Setup → List Point → Point → Type 0
+Owned setup older p = SignedOwn setup older p × SealedOwn setup older p
 
 -- ---- an event
 
@@ -60,14 +73,48 @@ module _ (setup : Setup) (whole : List Logged) (us : Uses) (J : List Entry) (pas
           absurd (unleaked (subst (λ (m : Name). Contains leaked m) (sym (name_is offered.offer.name leak.0 leak.1)) leak.2))
       by_owed (inr signed) = signed_own leaked whole us log J i (proof_of offered.offer client) offered.offer.name signed means
 
+  -- a part that opened under the key of a link to an entity that isn't leaked, with the nonce of the one that connects, was sealed by its own node
+  sealed-by : (keys : Keys) (plain : List ℕ) (name : Name) → Inv leaked whole us log J → IsConnected us keys.key name → IsOfConnector keys.into.fixed
+      → Owes leaked whole h.node log (seal.Opened (part_heard keys plain)) → (Contains leaked name → ⊥)
+      → SomeOf (λ (at : Logged). (at.node ≡ node.Entity name) × Seals (part_heard keys plain) at.entry) log
+  sealed-by keys plain name i connected begins owed unleaked = by_owed owed
+    where
+      name_is : (a b : Name) → Some a ≡ Some b → a ≡ b
+      name_is a b e = cc
+
+      by_owed : IsExcepted leaked whole h.node keys.key ⊎ HasSealed log (part_heard keys plain)
+          → SomeOf (λ (at : Logged). (at.node ≡ node.Entity name) × Seals (part_heard keys plain) at.entry) log
+      by_owed (inl excepted) =
+          let leak = i.leaks keys.key (Connected connected.acceptor connected.number name connected.tie) connected.means excepted.leak in
+          absurd (unleaked (subst (λ (m : Name). Contains leaked m) (sym (name_is name leak.0 leak.1)) leak.2))
+      by_owed (inr sealed) = sealed_own leaked whole us log J i (part_heard keys plain) name sealed connected (heard-begins keys plain begins)
+
+  -- what is known of the stage of a link that is found
+  at-link : (ok : MonitorOk us J nodes.monitor) (number : ℕ) (link : Link MonitorStage) → link_of number nodes.monitor.links ≡ Some link → StageOk ok.owner us link.stage
+  at-link ok number link found =
+      let says = monitor_says nodes.monitor.own.saved_before ok.owner in
+      subst (λ (l : Option (Link MonitorStage)). LinkOk says us l) found (found-link says us number nodes.monitor.links ok.node_ok.links)
+
+  event-sealed : Inv leaked whole us log J → NodesOk nodes us J → AreGranted leaked whole h.node h.line log (steps nodes h).out.seals
+      → SealedOwn setup past (record { nodes = nodes; happening = h })
+  event-sealed i ok g t renewal heard unleaked =
+      let keys : Keys = renewal.secured.keys in
+      let name : Name = renewal.bearer.name in
+      let mark : SealMark = part_heard keys heard.plain in
+      let bearer : BearerOk ok.monitor.owner us keys renewal.bearer =
+      subst (λ (s : MonitorStage). StageOk ok.monitor.owner us s) renewal.stage (at-link ok.monitor renewal.number renewal.link renewal.found) in
+      let granted : AreGranted leaked whole h.node h.line log (seal.Opened mark ∷ heard.rest) =
+      subst (λ (es : List SealEntry). AreGranted leaked whole h.node h.line log es) heard.opened g in
+      let own : Contains leaked name → ⊥ = λ has. unleaked (subst (λ (n : Name). Contains leaked n) (sym renewal.named) has) in
+      subst (λ (n : Name). OwnFrame setup n past (record { nodes = nodes; happening = h })) (sym renewal.named)
+      (mark, heard.rest, heard.opened, refl, sealed-by keys heard.plain name i bearer.connected bearer.into granted.0.owes own)
+
   event-signed : Inv leaked whole us log J → NodesOk nodes us J → AreGranted leaked whole h.node h.line log (steps nodes h).out.seals
       → SignedOwn setup past (record { nodes = nodes; happening = h })
   event-signed i ok g number name p unleaked =
-      let m : MonitorNode = nodes.monitor in
       let offered : Offered = p.offered in
-      let there : LinkOk (monitor_says m.own.saved_before) us (link_of number m.links) = found-link (monitor_says m.own.saved_before) us number m.links ok.monitor.links in
-      let at_link : StageOk us p.link.stage = subst (λ (l : Option (Link MonitorStage)). LinkOk (monitor_says m.own.saved_before) us l) p.found there in
-      let offer : OfferOk us offered.offer = subst (λ (s : MonitorStage). StageOk us s) p.stage at_link in
+      let at_link : StageOk ok.monitor.owner us p.link.stage = at-link ok.monitor number p.link p.found in
+      let offer : OfferOk us offered.offer = subst (λ (s : MonitorStage). StageOk ok.monitor.owner us s) p.stage at_link in
       let granted : AreGranted leaked whole h.node h.line log (seal.Checked (proof_of offered.offer p.client_challenge) ∷ p.rest) =
       subst (λ (es : List SealEntry). AreGranted leaked whole h.node h.line log es) p.checked g in
       let own : Contains leaked offered.offer.name → ⊥ = λ has. unleaked (subst (λ (n : Name). Contains leaked n) p.named has) in
@@ -80,11 +127,11 @@ behind-onto : (n : NodeName) (line : ℕ) (es : List SealEntry) (earlier : List 
 behind-onto n line [] earlier = refl
 behind-onto n line (e ∷ es) earlier = behind-onto n line es (logged n line e ∷ earlier)
 
-all-signed : (setup : Setup) (whole : List Logged) (hs : List Happening) (past : List Point) (nodes : Nodes) (us : Uses) (J : List Entry)
+all-owned : (setup : Setup) (whole : List Logged) (hs : List Happening) (past : List Point) (nodes : Nodes) (us : Uses) (J : List Entry)
     → Inv (leaked_of setup) whole us (logged_until setup past) J → NodesOk nodes us J → AreDrawn hs
-    → EachOnto (IsGranted (leaked_of setup) whole) (logged_until setup past) (seals_from nodes hs) → EachPoint (SignedOwn setup) past → EachPoint (SignedOwn setup) (points_onto past nodes hs)
-all-signed setup whole [] past nodes us J i ok drawn g each = each
-all-signed setup whole (h ∷ hs) past nodes us J i ok drawn g each =
+    → EachOnto (IsGranted (leaked_of setup) whole) (logged_until setup past) (seals_from nodes hs) → EachPoint (Owned setup) past → EachPoint (Owned setup) (points_onto past nodes hs)
+all-owned setup whole [] past nodes us J i ok drawn g each = each
+all-owned setup whole (h ∷ hs) past nodes us J i ok drawn g each =
     let leaked : List Name = leaked_of setup in
     let log : List Logged = logged_until setup past in
     let p : Point = record { nodes = nodes; happening = h } in
@@ -94,8 +141,30 @@ all-signed setup whole (h ∷ hs) past nodes us J i ok drawn g each =
     let same : behind h.node h.line s.out.seals log ≡ logged_until setup (p ∷ past) = behind-onto h.node h.line s.out.seals log in
     let later : Inv leaked whole a.uses (logged_until setup (p ∷ past)) (entered J s.out.entries) = subst (λ (l : List Logged). Inv leaked whole a.uses l (entered J s.out.entries)) same a.inv in
     let rest : EachOnto (IsGranted leaked whole) (logged_until setup (p ∷ past)) (seals_from s.nodes hs) = subst (λ (l : List Logged). EachOnto (IsGranted leaked whole) l (seals_from s.nodes hs)) same gs.1 in
-    all-signed setup whole hs (p ∷ past) s.nodes a.uses (entered J s.out.entries) later a.good drawn.1 rest
-    (event-signed setup whole us J past nodes h i ok gs.0, each)
+    all-owned setup whole hs (p ∷ past) s.nodes a.uses (entered J s.out.entries) later a.good drawn.1 rest
+    ((event-signed setup whole us J past nodes h i ok gs.0, event-sealed setup whole us J past nodes h i ok gs.0), each)
+
+-- ---- each ticket
+
+-- where a proof was found equal since a link opened, its entity's own node signed it
+since-own : (setup : Setup) (number : ℕ) (name : Name) (past : List Point) → (Contains (leaked_of setup) name → ⊥) → EachPoint (Owned setup) past
+    → Since node.Monitor number (Proves setup number name) past → Since node.Monitor number (OwnLogin setup number name) past
+since-own setup number name [] unleaked each none = absurd none
+since-own setup number name (p ∷ older) unleaked each (inl proves) = inl (proves, each.0.0 number name proves unleaked)
+since-own setup number name (p ∷ older) unleaked each (inr (unopened, before)) = inr (unopened, since-own setup number name older unleaked each.1 before)
+
+logs-in : (setup : Setup) (older : List Point) (p : Point) → Hears setup older p → Owned setup older p → EachPoint (Owned setup) older → LogsIn setup older p
+logs-in setup older p hears own each t has unleaked = by_heard (hears t has)
+  where
+    by_heard : IsHeardFor setup older p t
+        → ((number : ℕ) × OwnLogin setup number t.entity older p)
+        ⊎ ((renewal : IsRenewal setup older p t) × Since node.Monitor renewal.number (OwnLogin setup renewal.number t.entity) older × OwnFrame setup t.entity older p)
+    by_heard (inl (number, proves)) = inl (number, (proves, own.0 number t.entity proves unleaked))
+    by_heard (inr (renewal, heard)) = inr (renewal, since-own setup renewal.number t.entity older unleaked each renewal.login, own.1 t renewal heard unleaked)
+
+each-logs-in : (setup : Setup) (past : List Point) → EachPoint (Hears setup) past → EachPoint (Owned setup) past → LogIn setup past
+each-logs-in setup [] hears own = tt
+each-logs-in setup (p ∷ older) hears own = (logs-in setup older p hears.0 own.0 own.1, each-logs-in setup older hears.1 own.1)
 
 pub run-logins : (setup : Setup) (hs : List Happening) → AreDrawn hs → IsSound (leaked_of setup) (log_since setup hs) → IsFresh (log_since setup hs) → LogIn setup (points setup hs)
 run-logins setup hs drawn sound fresh =
@@ -107,6 +176,5 @@ run-logins setup hs drawn sound fresh =
     (opening-inv leaked whole) (λ s has. nothing-in (journal.Issued s) has) in
     let known = secrets-known leaked whole K setup.entities no_uses [] (seals_from (nodes_of setup) hs) began.0 (all-granted leaked whole sound fresh) in
     let nodes : NodesOk (nodes_of setup) known.uses K = opening-nodes known.uses K setup known.theirs began.2 in
-    let signed : EachPoint (SignedOwn setup) (points setup hs) = all-signed setup whole hs [] (nodes_of setup) known.uses K known.inv nodes drawn known.granted tt in
-    each-both (Asks setup) (SignedOwn setup) (LogsIn setup) (λ older p asks own t has unleaked. let a = asks t has in (a.0, (a.1, own a.0 t.entity a.1 unleaked)))
-    (points setup hs) (all-asked setup hs).asked signed
+    let owned : EachPoint (Owned setup) (points setup hs) = all-owned setup whole hs [] (nodes_of setup) known.uses K known.inv nodes drawn known.granted tt in
+    each-logs-in setup (points setup hs) (all-heard setup hs) owned

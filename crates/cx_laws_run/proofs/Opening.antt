@@ -1,6 +1,6 @@
 -- What is known as a run begins.
 use Rattle.std.proofs.Common.{◌≡◌, ℕ, Bool, true, false, List, [], ◌∷◌, ◌++◌, map, inl, refl, sym, ap, subst, arith}
-use Rattle.std.specs.Prelude.{Contains, if◌then◌else◌}
+use Rattle.std.specs.Prelude.{Contains, if◌then◌else◌, None}
 use Rattle.std.specs.List.{AllByRecursion, flat_map}
 use Rattle.cx_base.specs.Names.{Name, same_kind}
 use Rattle.cx_base.specs.declared.kinds.EntityType.{EntityType}
@@ -11,7 +11,6 @@ use Rattle.cx_journal.specs.declared.entries.Entry.{Entry}
 use Rattle.cx_journal.specs.declared.entries.Entry.TheVariants as journal
 use Rattle.cx_journal.specs.declared.entries.Issued.{Issued}
 use Rattle.cx_base.specs.declared.nodes.NodeName.TheVariants as node
-use Rattle.cx_keyserver.specs.Servers.{generations_of}
 use Rattle.cx_rules.specs.ClientRule.{opening_client}
 use Rattle.cx_run.specs.Happenings.{Entered, Happening, journal_from, seals_from}
 use Rattle.cx_run.specs.Opening.{Declared, Leak, Setup, asker_of, client_in, first_state, leaked_of, leaks_entered, nodes_of, principal_of, secret_drawn, secret_of, secrets_drawn}
@@ -26,7 +25,7 @@ use Rattle.cx_laws_keys.proofs.Premises.{IsGranted, all-granted}
 use Rattle.cx_laws_keys.proofs.Steps.{inv-drawn}
 use Rattle.cx_laws_keys.proofs.Uses.{Grows, Means, Secret, Uses, grows-one, grows-then, no_uses, stays, with_key}
 use Rattle.cx_laws_login.proofs.Facts.{AreSecrets}
-use Rattle.cx_laws_login.proofs.Generations.{AreGenerated}
+use Rattle.cx_laws_login.proofs.Generations.{IsGenerated}
 use Rattle.cx_laws_login.proofs.Rows.{IsQuietEntry, quiet-entries}
 use Rattle.cx_laws_run.proofs.Events.{ClientOk, ClientsOk, NodesOk, events-law}
 use Rattle.cx_laws_run.proofs.Journals.{behind-append}
@@ -96,7 +95,7 @@ their-ring : (us : Uses) (es : List Declared) → AreTheirs us es → AreSecrets
 their-ring us [] h = tt
 their-ring us (e ∷ es) h = (h.0, their-ring us es h.1)
 
-none-generated : (us : Uses) (setup : Setup) (service : EntityType) → AreGenerated us service (generations_of (first_state setup) service)
+none-generated : (us : Uses) (setup : Setup) → IsGenerated us (first_state setup)
 none-generated us setup Mon = tt
 none-generated us setup Mds = tt
 none-generated us setup Osd = tt
@@ -126,16 +125,21 @@ their-clients us (e ∷ es) h = all-append (ClientOk us) (client_in e) (flat_map
 pub opening-nodes : (us : Uses) (J : List Entry) (setup : Setup) → AreTheirs us setup.entities → NoneIssued us J → NodesOk (nodes_of setup) us J
 opening-nodes us J setup h none = record {
   monitor = record {
-    own = record {
-      ring = their-ring us setup.entities h;
-      present = record { generated = none-generated us setup; numbered = omega arith };
-      saved = record { generated = none-generated us setup; numbered = omega arith };
-      before_is = refl;
-      grown = omega arith;
-      below = λ s has. absurd (none s has);
-      rises = omega arith;
+    owner = λ gid. None;
+    node_ok = record {
+      own = record {
+        ring = their-ring us setup.entities h;
+        present = record { generated = none-generated us setup; numbered = omega arith };
+        saved = record { generated = none-generated us setup; numbered = omega arith };
+        before_is = refl;
+        grown = omega arith;
+        below = λ s has. absurd (none s has);
+        rises = omega arith;
+        owned = λ s has. absurd (none s has);
+        unowned = λ gid le. refl;
+      };
+      links = tt;
     };
-    links = tt;
   };
   clients = their-clients us setup.entities h;
 }

@@ -12,8 +12,8 @@ ghost use Rattle.cx_run.specs.Runs.{IsFoundOf, run_journal, setup_of, trace};
 ghost use Rattle.cx_steps.specs.Premises.{IsFresh, IsSound};
 
 /// Of every run, whatever is delivered, lost, repeated, forged or cut, restarted, or failed at a save, and whatever opens or repeats: each ticket of the
-/// monitor is issued at a turn of a link, behind a proof that was found equal under the own secret of the ticket's entity, over the challenge that was
-/// drawn on that link for it.
+/// monitor is issued at a turn of a link, on which a proof was found equal under the own secret of the ticket's entity, over the challenge that was drawn
+/// on that link for it: at that very turn, or, of a ticket for another service than AUTH, at one behind, once the link is open, under the entity's global id.
 pub fn standing_laws()
     ensures events { (setup : Setup) (hs : List Happening) → Stands setup hs }
 {}
@@ -28,7 +28,8 @@ pub fn journal_laws()
     ensures schedules { (has_handler : Access → Bool) (script : List Numbered) → IsFoundOf script None → KeepsLaws has_handler (run_journal script) }
 {}
 
-/// There, too, the proof behind which a ticket was issued was signed before by the entity's own node, where the entity isn't leaked.
+/// There, too, the proof that was found equal on the link on which a ticket was issued was signed before by the entity's own node, where the entity isn't
+/// leaked; and where the ticket is one that was asked for once the link was open, that node sealed what opened first of the frame which came.
 pub fn login_laws()
     // Of every list of events, from every opening.
     ensures events { (setup : Setup) (hs : List Happening) → AreDrawn hs

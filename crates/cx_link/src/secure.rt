@@ -58,6 +58,19 @@ impl SecureLink {
 }
 
 impl SecureLink {
+    /// A copy, by which a frame can be sealed before it is certain that it is sent. Of the two one alone may go on: two that send use a
+    /// nonce twice.
+    pub fn copy(&self, alloc: Global) -> Result<SecureLink, AllocError>
+        ensures { IfOk result (λ copied. copied ≡ self.now) }
+    {
+        let copied = self.stream.as_ref().copy(alloc)?;
+        let stream = Box::new(alloc, copied)?;
+        Ok(SecureLink {
+            key: self.key,
+            stream,
+        })
+    }
+
     /// Seals a control frame. Each part of it is logged: its nonce and its plain bytes.
     pub fn put(self, alloc: Global, frame: &Frame) -> Result<SentFrame, LinkRefusal>
         requires { IsControl frame.now }

@@ -3,8 +3,9 @@ use Rattle.std.proofs.Common.{◌≡◌, Bool, true, false, inl, inr, Option, So
 use Rattle.std.specs.Prelude.{if◌then◌else◌}
 use Rattle.cx_rotate.specs.Keeping.{IsKeptState}
 use Rattle.cx_rotate.specs.declared.states.KeptState.{KeptState}
+use Rattle.cx_rules.specs.Inputs.{Input}
 use Rattle.cx_rules.specs.Judged.{IsJudged}
-use Rattle.cx_rules.specs.KeptStates.{same_state}
+use Rattle.cx_rules.specs.KeptStates.{changed, same_state}
 use Rattle.cx_rules.specs.Monitor.{MonitorNode}
 use Rattle.cx_rules.specs.Rows.{Outcome}
 use Rattle.cx_steps.specs.declared.effects.Effects.{Effects}
@@ -13,18 +14,21 @@ changed_is : (b : Bool) (state s : KeptState) → (if b then None else Some stat
 changed_is true state s e = absurd (cc)
 changed_is false state s e = cc
 
-judged_saves : (before : MonitorNode) (o : Outcome MonitorNode) (s : KeptState) → IsJudged before o → o.out.save ≡ Some s → s ≡ o.state.own.saved
-judged_saves before o s (inl quiet) e = let none : o.out.save ≡ None = quiet.save in absurd (cc)
-judged_saves before o s (inr granting) e =
-    let is : s ≡ o.state.own.server.state =
-    changed_is (same_state o.state.own.server.state before.own.saved) o.state.own.server.state s (sym granting.save ∙ e) in
-    is ∙ sym granting.saved
+state_saved : (before : MonitorNode) (o : Outcome MonitorNode) (s : KeptState) → o.out.save ≡ changed before.own.saved o.state.own.server.state
+    → o.state.own.saved ≡ o.state.own.server.state → o.out.save ≡ Some s → s ≡ o.state.own.saved
+state_saved before o s save saved e =
+    changed_is (same_state o.state.own.server.state before.own.saved) o.state.own.server.state s (sym save ∙ e) ∙ sym saved
+
+judged_saves : (before : MonitorNode) (input : Input) (o : Outcome MonitorNode) (s : KeptState) → IsJudged before input o → o.out.save ≡ Some s → s ≡ o.state.own.saved
+judged_saves before input o s (inl quiet) e = let none : o.out.save ≡ None = quiet.save in absurd (cc)
+judged_saves before input o s (inr (inl granting)) e = state_saved before o s granting.save granting.saved e
+judged_saves before input o s (inr (inr replying)) e = state_saved before o s replying.save replying.saved e
 
 some_kept : (save : Option KeptState) (saved : KeptState) → ((s : KeptState) → save ≡ Some s → s ≡ saved) → IsKeptState saved → IfSome save IsKeptState
 some_kept None saved is kept = tt
 some_kept (Some s) saved is kept = subst IsKeptState (sym (is s refl)) kept
 
-pub saves_kept : (before : MonitorNode) (o : Outcome MonitorNode) (saved : KeptState) (given : Effects) → IsJudged before o → given ≡ o.out
+pub saves_kept : (before : MonitorNode) (input : Input) (o : Outcome MonitorNode) (saved : KeptState) (given : Effects) → IsJudged before input o → given ≡ o.out
     → saved ≡ o.state.own.saved → IsKeptState saved → IfSome given.save IsKeptState
-saves_kept before o saved given judged is s kept =
-    rw is (some_kept o.out.save saved (λ (k : KeptState) (e : o.out.save ≡ Some k). judged_saves before o k judged e ∙ sym s) kept)
+saves_kept before input o saved given judged is s kept =
+    rw is (some_kept o.out.save saved (λ (k : KeptState) (e : o.out.save ≡ Some k). judged_saves before input o k judged e ∙ sym s) kept)

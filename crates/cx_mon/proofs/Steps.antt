@@ -1,5 +1,5 @@
 -- A link that is gone, over plain values: the step is that of the rules, abridged, and the links are held behind it as before.
-use Rattle.std.proofs.Common.{◌≡◌, ◌∙◌, ℕ, List, refl, sym}
+use Rattle.std.proofs.Common.{◌≡◌, ℕ, List, refl}
 use Rattle.cx_rules.specs.Abridged.{abridged_link}
 use Rattle.cx_rules.specs.Links.{without_link}
 use Rattle.cx_rules.specs.Monitor.{Monitor}

@@ -4,7 +4,7 @@ use Rattle.cx_acceptor.specs.Stages.{MonitorLink}
 use Rattle.cx_turns.specs.Events.{link_in}
 use Rattle.cx_rules.specs.Abridged.{abridged_link}
 use Rattle.cx_rules.specs.Inputs.{Input}
-use Rattle.cx_rules.specs.Monitor.{Monitor, MonitorNode}
+use Rattle.cx_rules.specs.Monitor.{MonitorNode}
 use Rattle.cx_rules.specs.MonitorRule.{noted}
 use Rattle.cx_rules.specs.Rows.{Outcome}
 use Rattle.cx_steps.specs.declared.effects.Effects.{Effects}

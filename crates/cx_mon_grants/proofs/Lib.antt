@@ -2,6 +2,8 @@ pub mod Drawn
 pub mod Envelopes
 pub mod One
 pub mod Ordered
+pub mod Readings
+pub mod Replied
 pub mod Short
 pub mod Steps
 pub mod Still

@@ -51,12 +51,11 @@ one_whole server asked (Err IdsSpent) opens = tt
 one_whole server asked (Err OutOfMemory) opens = tt
 
 -- the same of what is answered of it
-pub one_due : (now : ℕ) (draw : List ℕ) (server : Server) (asked due : Asked) (answer : Result Ticket IssueRefusal) (r : Result (Result (Option Ticket) LoginFault) AllocError)
-    → IsRotated now draw server → asked ≡ due → IsIssued (issued (rotated_server now draw server) asked) answer
-    → IfOk r (λ one. one ≡ one_of answer) → OnOk r (wants_memory answer ≡ false) → IfOk r (λ one. one ≡ one_of (issued server due))
-one_due now draw server asked due answer (Ok one) rotated same is made ample =
-    made ∙ one_issued now draw server asked answer rotated is ample ∙ ap (λ (a : Asked). one_of (issued server a)) same
-one_due now draw server asked due answer (Err e) rotated same is made ample = tt
+pub one_due : (now : ℕ) (draw : List ℕ) (server : Server) (asked : Asked) (answer : Result Ticket IssueRefusal) (r : Result (Result (Option Ticket) LoginFault) AllocError)
+    → IsRotated now draw server → IsIssued (issued (rotated_server now draw server) asked) answer
+    → IfOk r (λ one. one ≡ one_of answer) → OnOk r (wants_memory answer ≡ false) → IfOk r (λ one. one ≡ one_of (issued server asked))
+one_due now draw server asked answer (Ok one) rotated is made ample = made ∙ one_issued now draw server asked answer rotated is ample
+one_due now draw server asked answer (Err e) rotated is made ample = tt
 
 pub whole_due : (server : Server) (asked : Asked) (answer : Result Ticket IssueRefusal) (r : Result (Result (Option Ticket) LoginFault) AllocError)
     → IfOk answer (IsOpenable server asked) → IfOk r (λ one. one ≡ one_of answer) → IfOk r (λ one. IfOk one (λ ticket. IfSome ticket IsWhole))

@@ -3,7 +3,6 @@ use Rattle.std.proofs.Common.{◌≡◌, ℕ, ◌<◌, Bool, true, false, cond, 
 use Rattle.std.specs.Prelude.{IsTrue, filter, find}
 use Rattle.std.proofs.lemmas.Bool.{lt-ltb}
 use Rattle.std.proofs.lemmas.List.Elements.{All-head, All-tail}
-use Rattle.cx_base.specs.Names.{Name}
 use Rattle.cx_base.specs.declared.kinds.EntityType.{EntityType}
 use Rattle.cx_base.specs.declared.kinds.EntityType.TheVariants.{Mds, Osd, Mgr, Auth}
 use Rattle.cx_dice.specs.Draws.{has_keys}
@@ -17,10 +16,14 @@ use Rattle.cx_keyserver.specs.declared.refusals.IssueRefusal.{IssueRefusal}
 use Rattle.cx_keyserver.specs.declared.refusals.IssueRefusal.TheVariants.{UnknownEntity, NotAService, NoCaps, IdsSpent, OutOfMemory}
 use Rattle.cx_keyserver.specs.declared.tickets.Ticket.{Ticket}
 use Rattle.cx_rotate.specs.declared.generations.Generation.{Generation}
+use Rattle.cx_rules.specs.Replies.{asking_of, others_for}
 use Rattle.cx_rules.specs.Tickets.{and_first, is_asked, issued_before, issued_for, services_for, ticket_part}
+use Rattle.cx_rules.specs.Verdicts.{Occasion}
+use Rattle.cx_rules.specs.declared.responses.Bearer.{Bearer}
 use Rattle.cx_wire.specs.Services.{AreTickets, IsNextTicket, follows, rank}
-use Rattle.cx_mon_grants.specs.Handing.{CanBeHandedOut, IsWhole}
-use Rattle.cx_rules.specs.Verdicts.{Occasion, asking_for}
+use Rattle.cx_mon_grants.specs.Handing.{CanBeHandedOut, CanBeTold, IsWhole}
+use Rattle.cx_mon_grants.specs.Occasions.{asking_by}
+use Rattle.cx_mon_grants.specs.declared.occasions.Entrant.{Entrant}
 
 -- ---- one ticket
 
@@ -127,11 +130,11 @@ auth_by None current made for_auth others tickets e = absurd cc
 auth_by (Some entry) None made for_auth others tickets e = absurd cc
 auth_by (Some entry) (Some generation) made for_auth others tickets e = begins (made entry generation) others tickets (for_auth entry generation) e
 
-auth_first : (server : Server) (at : Occasion) (name : Name) (gid : ℕ) (others : Result (List Ticket) LoginFault) (tickets : List Ticket)
-    → issued_before (issued server (asking_for at name gid Auth)) others ≡ Ok tickets → Begins others tickets
-auth_first server at name gid others tickets e =
-    let asked : Asked = asking_for at name gid Auth in
-    auth_by (find (is_named name) server.ring) (current_at at.reading server.state.auth)
+auth_first : (server : Server) (entrant : Entrant) (others : Result (List Ticket) LoginFault) (tickets : List Ticket)
+    → issued_before (issued server (asking_by entrant Auth)) others ≡ Ok tickets → Begins others tickets
+auth_first server entrant others tickets e =
+    let asked : Asked = asking_by entrant Auth in
+    auth_by (find (is_named asked.name) server.ring) (current_at asked.reading server.state.auth)
     (λ entry generation. sealed_by generation.key (telling_key entry asked) (fields_of server.state asked [] generation))
     (λ entry generation. refl) others tickets e
 
@@ -156,11 +159,19 @@ handed_by first rest service ranks whole =
     }
 
 -- the tickets of a login can be handed out
-pub can_be_handed_out : (server : Server) (at : Occasion) (name : Name) (gid asked : ℕ) (tickets : List Ticket)
-    → issued_for server (asking_for at name gid) (services_for asked) ≡ Ok tickets → All IsWhole tickets → CanBeHandedOut tickets
-can_be_handed_out server at name gid asked tickets e whole =
-    let others : List EntityType = filter (is_asked asked) (Mds ∷ Osd ∷ Mgr ∷ []) in
-    let b : Begins (issued_for server (asking_for at name gid) others) tickets = auth_first server at name gid (issued_for server (asking_for at name gid) others) tickets e in
-    let ranks : Ranked Auth b.rest = ranked server (asking_for at name gid) (λ _. refl) others Auth b.rest (rises_filtered (is_asked asked)) b.others_are in
+pub can_be_handed_out : (server : Server) (entrant : Entrant) (asked : ℕ) (tickets : List Ticket)
+    → issued_for server (asking_by entrant) (services_for asked) ≡ Ok tickets → All IsWhole tickets → CanBeHandedOut tickets
+can_be_handed_out server entrant asked tickets e whole =
+    let ask : EntityType → Asked = asking_by entrant in
+    let b : Begins (issued_for server ask (others_for asked)) tickets = auth_first server entrant (issued_for server ask (others_for asked)) tickets e in
+    let ranks : Ranked Auth b.rest = ranked server ask (λ _. refl) (others_for asked) Auth b.rest (rises_filtered (is_asked asked)) b.others_are in
     let all : All IsWhole (b.first ∷ b.rest) = subst (All IsWhole) b.tickets_are whole in
     subst CanBeHandedOut (sym b.tickets_are) (handed_by b.first b.rest b.service ranks all)
+
+-- those of a request can be told
+pub can_be_told : (server : Server) (at : Occasion) (bearer : Bearer) (asked : ℕ) (services : List EntityType) (tickets : List Ticket)
+    → services ≡ others_for asked → Ok tickets ≡ issued_for server (asking_of at bearer) services → All IsWhole tickets → CanBeTold tickets
+can_be_told server at bearer asked services tickets services_are e whole =
+    let issued : issued_for server (asking_of at bearer) (others_for asked) ≡ Ok tickets = rw (← services_are) (sym e) in
+    let ranks : Ranked Auth tickets = ranked server (asking_of at bearer) (λ _. refl) (others_for asked) Auth tickets (rises_filtered (is_asked asked)) issued in
+    record { ordered = in_order Auth tickets ranks whole; whole = whole }

@@ -1,22 +1,44 @@
 -- What a step decides, from what the next one does.
-use Rattle.std.proofs.Common.{◌≡◌, ℕ, List, [], ◌∷◌, ◌++◌, Result, Ok, sym, ap, subst, ◌∙◌}
+use Rattle.std.proofs.Common.{◌≡◌, ℕ, List, [], ◌∷◌, ◌++◌, Option, Some, Result, Ok, sym, ap, subst, ◌∙◌}
 use Rattle.std.specs.declared.alloc.AllocError.{AllocError}
 use Rattle.cx_base.specs.Names.{Name}
+use Rattle.cx_base.specs.declared.kinds.EntityType.{EntityType}
+use Rattle.cx_base.specs.declared.kinds.EntityType.TheVariants.{Auth}
+use Rattle.cx_dice.specs.Draws.{session_of}
+use Rattle.cx_enc.specs.declared.keys.Key.{Key}
 use Rattle.cx_journal.specs.declared.faults.LoginFault.{LoginFault}
+use Rattle.cx_keyserver.specs.Issuing.{Asked, asking}
 use Rattle.cx_keyserver.specs.Servers.{Server, rotated_server}
+use Rattle.cx_keyserver.specs.declared.tickets.Ticket.{Ticket}
 use Rattle.cx_login.specs.Monitor.{Proven, kept_gid, proof_found, reclaimed}
 use Rattle.cx_login.specs.Unlocking.{Unlocked, old_ticket}
 use Rattle.cx_login.specs.declared.monitor.Reclaim.{Reclaim}
 use Rattle.cx_rotate.specs.declared.states.KeptState.{KeptState}
-use Rattle.cx_rules.specs.Verdicts.{Decided, Numbered, Occasion, entrant, issues_to, key_of, numbered, numbers, reclaims, rotates}
-use Rattle.cx_rules.specs.Tickets.{rotation_drawn}
+use Rattle.cx_rules.specs.Verdicts.{Decided, Numbered, Occasion, decided, entrant, issues, issues_to, key_of, numbered, numbers, reclaims, rotates}
+use Rattle.cx_rules.specs.Tickets.{issued_for, rotation_drawn, services_for}
 use Rattle.cx_sealed.specs.declared.service_ticket.ServiceTicket.{ServiceTicket}
 use Rattle.cx_steps.specs.declared.seals.SealEntry.{SealEntry}
 use Rattle.cx_mon_grants.specs.Deciding.{Decides}
+use Rattle.cx_mon_grants.specs.Occasions.{asking_by, entrant_of, occasion_of}
+use Rattle.cx_mon_grants.specs.declared.occasions.Entrant.{Entrant as EntrantRef}
 use Rattle.cx_rules.specs.declared.verdicts.Verdict.{Verdict}
 
 decides_as : (first second : Decided) (new : Server) (result : Result Verdict AllocError) → first ≡ second → Decides second new result → Decides first new result
 decides_as first second new result is = subst (λ (d : Decided). Decides d new result) (sym is)
+
+-- behind the tickets
+pub issued_decides : (e : EntrantRef) (server new : Server) (seals : List SealEntry) (key : Option Key) (own : Key) (services : List EntityType)
+    (tickets : Result (List Ticket) LoginFault) (verdict : Verdict) → e.session ≡ session_of Auth e.at.draw.now.bytes → key ≡ Some own
+    → services ≡ services_for e.asked → tickets ≡ issued_for server (asking_by e) services → new ≡ server
+    → issues (occasion_of e.at) server (entrant_of e seals) own.secret tickets ≡ decided server verdict
+    → issues_to (occasion_of e.at) server (entrant_of e seals) key ≡ decided new verdict
+issued_decides e server new seals key own services tickets verdict session key_is services_are tickets_are same made =
+    let ask : List ℕ → EntityType → Asked = λ s service. asking e.name.now service e.gid s e.at.reading e.at.draw.now.bytes in
+    let told : Result (List Ticket) LoginFault → Decided = issues (occasion_of e.at) server (entrant_of e seals) own.secret in
+    ap (issues_to (occasion_of e.at) server (entrant_of e seals)) key_is
+    ∙ ap (λ (s : List ℕ). told (issued_for server (ask s) (services_for e.asked))) (sym session)
+    ∙ ap (λ (ss : List EntityType). told (issued_for server (asking_by e) ss)) (sym services_are)
+    ∙ ap told (sym tickets_are) ∙ made ∙ ap (λ (s : Server). decided s verdict) (sym same)
 
 -- behind a global id
 pub numbers_decides : (at : Occasion) (server behind : Server) (proven : Proven) (seals : List SealEntry) (given : Result Numbered LoginFault) (name : Name) (gid asked : ℕ) (new : Server) (result : Result Verdict AllocError)

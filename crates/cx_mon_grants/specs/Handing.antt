@@ -1,6 +1,7 @@
--- Which tickets can be spelled and sealed: those that a key server issues.
-use Rattle.std.specs.Prelude.{◌≤◌, List, None, All, length, map, IsTrue}
+-- Which tickets can be spelled and sealed: those that a key server issues, at a login or for a request.
+use Rattle.std.specs.Prelude.{◌≤◌, List, Some, None, All, length, map, IsTrue}
 use Rattle.cx_base.specs.Texts.{is_caps}
+use Rattle.cx_base.specs.declared.kinds.EntityType.TheVariants.{Auth}
 use Rattle.cx_enc.specs.Moments.{IsReading}
 use Rattle.cx_keyserver.specs.declared.tickets.Ticket.{Ticket}
 use Rattle.cx_rules.specs.Tickets.{ticket_part}
@@ -24,4 +25,10 @@ pub record IsShort (part : TicketPart) : Type 0 where
 pub record CanBeHandedOut (tickets : List Ticket) : Type 0 where
   pub some : 1 ≤ length tickets
   pub ordered : AreTickets None (map ticket_part tickets)
+  pub whole : All IsWhole tickets
+
+-- tickets that are told to an entity that asks for them on its link: they stand in the order of a LoginDone, behind the one for AUTH, and each
+-- is whole
+pub record CanBeTold (tickets : List Ticket) : Type 0 where
+  pub ordered : AreTickets (Some Auth) (map ticket_part tickets)
   pub whole : All IsWhole tickets

@@ -3,3 +3,4 @@ pub mod Handing
 pub mod Issuing
 pub mod Logging
 pub mod Occasions
+pub mod Telling

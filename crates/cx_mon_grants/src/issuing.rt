@@ -1,12 +1,12 @@
-//! The tickets of a login.
+//! The tickets of a login, or of a request.
 
 ghost use Rattle.std.specs.Prelude.{◌≡◌, ◌++◌, ◌∷◌, [], ◌<◌, false, All, filter, IfOk, IfSome, OnOk, option_to_list};
 ghost use Rattle.cx_keyserver.specs.Issuing.{issued, wants_memory};
+ghost use Rattle.cx_rules.specs.Replies.{others_for};
 ghost use Rattle.cx_rules.specs.Tickets.{is_asked, issued_for, services_for};
 ghost use Rattle.cx_mon_grants.specs.Handing.{IsWhole};
 ghost use Rattle.cx_mon_grants.specs.Issuing.{IsRotated, one_of};
-ghost use Rattle.cx_rules.specs.Verdicts.{asking_for};
-ghost use Rattle.cx_mon_grants.specs.Occasions.{occasion_of};
+ghost use Rattle.cx_mon_grants.specs.Occasions.{asking_by};
 
 use crate::occasions::Entrant;
 use cx_base::{EntityType, Items};
@@ -21,10 +21,30 @@ pub(crate) fn services_for(alloc: Global, asked: u32) -> Result<Items<EntityType
 {
     let mut services = Items::new(alloc);
     services.push(alloc, EntityType::Auth)?;
-    push_asked(alloc, asked, EntityType::Mds, &mut services)?;
-    push_asked(alloc, asked, EntityType::Osd, &mut services)?;
-    push_asked(alloc, asked, EntityType::Mgr, &mut services)?;
+    push_others(alloc, asked, &mut services)?;
     Ok(services)
+}
+
+/// Of MDS, OSD and MGR those that are asked by the sum of their numbers.
+pub(crate) fn others_for(alloc: Global, asked: u32) -> Result<Items<EntityType>, AllocError>
+    ensures { IfOk result (λ services. services ≡ others_for asked) }
+{
+    let mut services = Items::new(alloc);
+    push_others(alloc, asked, &mut services)?;
+    Ok(services)
+}
+
+// Appends those that are asked.
+fn push_others(
+    alloc: Global,
+    asked: u32,
+    services: &mut Items<EntityType>,
+) -> Result<(), AllocError>
+    ensures { OnOk result (services.new ≡ services.old ++ others_for asked) }
+{
+    push_asked(alloc, asked, EntityType::Mds, services)?;
+    push_asked(alloc, asked, EntityType::Osd, services)?;
+    push_asked(alloc, asked, EntityType::Mgr, services)
 }
 
 // Appends the service where it is asked.
@@ -57,7 +77,7 @@ pub(crate) fn issued_for(
 ) -> Result<Result<Items<Ticket>, LoginFault>, AllocError>
     requires now { entrant.now.at.reading < 4000000000000000000 }
     requires rotated { IsRotated entrant.now.at.reading entrant.now.at.draw.now.bytes server.old }
-    ensures issued { IfOk result (λ tickets. tickets ≡ issued_for server.old (asking_for (occasion_of entrant.now.at) entrant.now.name.now entrant.now.gid) services.now) }
+    ensures issued { IfOk result (λ tickets. tickets ≡ issued_for server.old (asking_by entrant.now) services.now) }
     ensures whole { IfOk result (λ tickets. IfOk tickets (All IsWhole)) }
     ensures server { server.new ≡ server.old }
 {
@@ -96,18 +116,17 @@ fn issue_one(
 ) -> Result<Result<Option<Ticket>, LoginFault>, AllocError>
     requires now { entrant.now.at.reading < 4000000000000000000 }
     requires rotated { IsRotated entrant.now.at.reading entrant.now.at.draw.now.bytes server.old }
-    ensures one { IfOk result (λ one. one ≡ one_of (issued server.old (asking_for (occasion_of entrant.now.at) entrant.now.name.now entrant.now.gid service))) }
+    ensures one { IfOk result (λ one. one ≡ one_of (issued server.old (asking_by entrant.now service))) }
     ensures whole { IfOk result (λ one. IfOk one (λ ticket. IfSome ticket IsWhole)) }
     ensures server { server.new ≡ server.old }
 {
     let at = entrant.at;
-    let session = at.draw.session_key(EntityType::Auth);
     let answer = server.issue(
         alloc,
         entrant.name,
         service,
         entrant.gid,
-        &session,
+        &entrant.session,
         at.reading,
         at.draw,
     );

@@ -1,6 +1,8 @@
-//! What the monitor grants to an entity that proved itself: a global id, tickets, and what is logged, entered and saved of them.
+//! What the monitor grants to an entity that proved itself, at its login and for requests on its link: a global id, tickets, generations, and what
+//! is logged, entered and saved of them.
 #![tactic(auto)]
 
+mod answers;
 mod entries;
 mod issuing;
 mod logging;
@@ -8,10 +10,12 @@ mod logins;
 mod numbering;
 mod occasions;
 mod payloads;
+mod replies;
 mod rotating;
 mod saving;
 
-pub use cx_rules::{HandedOut, Verdict};
+pub use answers::answer;
+pub use cx_rules::{Bearer, HandedOut, ReplyMade, Response, Verdict};
 pub use logins::log_in;
 pub use occasions::Occasion;
 

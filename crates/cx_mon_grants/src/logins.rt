@@ -3,6 +3,7 @@
 ghost use Rattle.std.specs.Prelude.{◌≡◌, ◌<◌, IfOk, OnOk, OnErr};
 ghost use Rattle.cx_base.specs.declared.kinds.EntityType.TheVariants.{Auth};
 ghost use Rattle.cx_cbc.specs.Envelope.{sealed};
+ghost use Rattle.cx_dice.specs.Draws.{session_of};
 ghost use Rattle.cx_rules.specs.Verdicts.{done_payload, handed_out, issues_to, key_of, login_done, numbered, numbers, rotates, secret_content};
 ghost use Rattle.cx_mon_grants.specs.Handing.{CanBeHandedOut};
 ghost use Rattle.cx_mon_grants.specs.Issuing.{IsRotated};
@@ -87,6 +88,7 @@ fn numbers(
             let entrant = Entrant {
                 name: proved.name(),
                 gid,
+                session: at.draw.session_key(EntityType::Auth),
                 asked: proved.asked(),
                 at: *at,
             };
@@ -104,6 +106,7 @@ fn issues_to(
 ) -> Result<Verdict, AllocError>
     requires now { entrant.now.at.reading < 4000000000000000000 }
     requires rotated { IsRotated entrant.now.at.reading entrant.now.at.draw.now.bytes server.old }
+    requires session { entrant.now.session ≡ session_of Auth entrant.now.at.draw.now.bytes }
     ensures decides { Decides (issues_to (occasion_of entrant.now.at) server.old (entrant_of entrant.now seals) (key_of server.old entrant.now.name.now)) server.new result }
     ensures server { server.new ≡ server.old }
 {
@@ -132,11 +135,12 @@ fn handed_out(
     tickets: &[Ticket],
     seals: Items<SealEntry>,
 ) -> Result<HandedOut, AllocError>
-    requires { CanBeHandedOut tickets.now }
+    requires session { entrant.now.session ≡ session_of Auth entrant.now.at.draw.now.bytes }
+    requires tickets { CanBeHandedOut tickets.now }
     ensures { IfOk result (λ handed. handed ≡ handed_out (occasion_of entrant.now.at) server.now (entrant_of entrant.now seals) own.now tickets.now) }
 {
     let at = entrant.at;
-    let session = at.draw.session_key(EntityType::Auth);
+    let session = entrant.session;
     let secret = at.draw.connection_secret();
     let payload = payload(alloc, entrant.gid, &session, &secret, tickets)?;
     let mut sealed = Items::new(alloc);

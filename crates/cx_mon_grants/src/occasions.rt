@@ -1,10 +1,10 @@
-//! When a login comes, and who logs in.
+//! When a login or a request comes, and who asks for tickets.
 
 use cx_base::{EntityName, Reading};
 use cx_dice::Draw;
 use cx_rotate::KeptState;
 
-/// When a login comes: the state that was saved last, and the reading and the draw of the event.
+/// When a login or a request comes: the state that was saved last, and the reading and the draw of the event.
 #[derive(Clone, Copy, Debug)]
 pub struct Occasion<'a> {
     pub saved: &'a KeptState,
@@ -12,11 +12,12 @@ pub struct Occasion<'a> {
     pub draw: &'a Draw,
 }
 
-// An entity that proved itself, with its global id and the services for which it asks tickets.
+// An entity that proved itself, with its global id, the session key of its ticket for AUTH and the services for which it asks tickets.
 #[derive(Clone, Copy, Debug)]
 pub(crate) struct Entrant<'a> {
     pub(crate) name: &'a EntityName,
     pub(crate) gid: u64,
+    pub(crate) session: [u8; 16],
     pub(crate) asked: u32,
     pub(crate) at: Occasion<'a>,
 }

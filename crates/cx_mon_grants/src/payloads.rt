@@ -1,16 +1,18 @@
-//! The payload of AUTH_DONE.
+//! The payload of AUTH_DONE, and the body of a reply.
 
-ghost use Rattle.std.specs.Prelude.{◌≡◌, ◌≤◌, None, All, length, map, IfOk};
+ghost use Rattle.std.specs.Prelude.{◌≡◌, ◌≤◌, ◌<◌, ◌^◌, None, All, length, map, IfOk};
 ghost use Rattle.cx_rules.specs.Tickets.{ticket_part};
 ghost use Rattle.cx_wire.specs.Services.{AreTickets};
 ghost use Rattle.cx_mon_grants.specs.Handing.{IsShort};
+ghost use Rattle.cx_mon_grants.specs.Telling.{IsTellable};
+ghost use Rattle.cx_wire.specs.Bodies.{reply_layout};
 ghost use Rattle.cx_rules.specs.Verdicts.{done_payload, login_done};
 
 use cx_base::{Blob, Duplicate, Items};
 use cx_control::{AuthDone, put_auth_done};
 use cx_enc::TicketBlob;
 use cx_keyserver::Ticket;
-use cx_wire::{LoginDone, TicketPart, put_login_done};
+use cx_wire::{LoginDone, Reply, TicketPart, put_login_done, put_reply};
 use std::alloc::{AllocError, Global};
 
 /// The global id, the secure mode, and a LoginDone.
@@ -51,7 +53,11 @@ pub(crate) fn login_done(
     })
 }
 
-fn ticket_parts(alloc: Global, tickets: &[Ticket]) -> Result<Items<TicketPart>, AllocError>
+/// These tickets as they stand in a LoginDone or a reply.
+pub(crate) fn ticket_parts(
+    alloc: Global,
+    tickets: &[Ticket],
+) -> Result<Items<TicketPart>, AllocError>
     ensures { IfOk result (λ parts. parts ≡ map ticket_part tickets.now) }
 {
     let mut parts = Items::new(alloc);
@@ -74,4 +80,15 @@ fn ticket_part(alloc: Global, ticket: &Ticket) -> Result<TicketPart, AllocError>
             blob,
         },
     })
+}
+
+/// The body of message 18.
+pub(crate) fn reply_body(alloc: Global, reply: &Reply) -> Result<Blob, AllocError>
+    requires { IsTellable reply.now }
+    ensures body { IfOk result (λ body. body ≡ reply_layout.form.text reply.now) }
+    ensures short { IfOk result (λ body. length body < 2 ^ 32) }
+{
+    let mut body = Blob::new(alloc);
+    put_reply(alloc, &mut body, reply)?;
+    Ok(body)
 }

@@ -27,5 +27,5 @@ are_the_rows Own Stage = record {
   carried_out = λ node n turned own row. refl;
 }
 
-pub is_the_denial : (Own Pending Peer : Type 0) → IsTheDenial Own Pending Peer
-is_the_denial Own Pending Peer = record { denies = λ a code why seals. refl }
+pub is_the_denial : (Own Pending Proven Peer : Type 0) → IsTheDenial Own Pending Proven Peer
+is_the_denial Own Pending Proven Peer = record { denies = λ a code why seals. refl }

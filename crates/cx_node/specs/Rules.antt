@@ -34,5 +34,5 @@ pub record AreTheRows (Own Stage : Type 0) : Type 0 where
   pub carried_out : (node : Node Own Stage) (n : ℕ) (turned : Bool) (own : Own) (row : Row (Link Stage)) → out_of n turned row ≡ (carried_out node n turned (as_row own row)).out
 
 -- the rules' denial
-pub record IsTheDenial (Own Pending Peer : Type 0) : Type 0 where
-  pub denies : (a : Arrival Own (Stage Pending Peer)) (code : ℕ) (why : LoginFault) (seals : List SealEntry) → as_row a.own (denying a.me a.link.number code why seals) ≡ denies a code why seals
+pub record IsTheDenial (Own Pending Proven Peer : Type 0) : Type 0 where
+  pub denies : (a : Arrival Own (Stage Pending Proven Peer)) (code : ℕ) (why : LoginFault) (seals : List SealEntry) → as_row a.own (denying a.me a.link.number code why seals) ≡ denies a code why seals

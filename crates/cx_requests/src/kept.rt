@@ -3,6 +3,7 @@
 ghost use Rattle.std.specs.Prelude.{◌≡◌};
 ghost use Rattle.cx_rules.specs.Requests.{is_rotating};
 
+use cx_base::Duplicate;
 use cx_rules::{Waiting, Want};
 use std::alloc::{AllocError, Global};
 use std::marker::Model;
@@ -95,6 +96,18 @@ impl Requests {
         if self.waiting.len() > 0 {
             self.waiting.remove(0);
         }
+    }
+}
+
+impl Duplicate for Requests {
+    fn copy(&self, alloc: Global) -> Result<Requests, AllocError> {
+        let mut waiting = Vec::new(alloc);
+        waiting.extend_from_slice(self.waiting.as_slice())?;
+        Ok(Requests {
+            session: self.session,
+            count: self.count,
+            waiting,
+        })
     }
 }
 

@@ -20,8 +20,8 @@ use Rattle.cx_rules.specs.Secured.{SealedFrame, Secured, is_signed, secure_frame
 use Rattle.cx_rules.proofs.Abridging.{Alike, Forgets, link_of_map, put_link_map, without_link_map}
 use Rattle.cx_rules.proofs.AlikeRows.{RowWithin, SameAhead, cut-fed, goes-alike, refuses-alike}
 
-module _ {Pending Peer : Type 0} where
-  number-of : (l : Link (Stage Pending Peer)) (stage : Stage Pending Peer) → (abridged_at l stage).number ≡ l.number
+module _ {Pending Proven Peer : Type 0} where
+  number-of : (l : Link (Stage Pending Proven Peer)) (stage : Stage Pending Proven Peer) → (abridged_at l stage).number ≡ l.number
   number-of l AwaitsBanner = refl
   number-of l AwaitsHello = refl
   number-of l AwaitsRequest = refl
@@ -30,8 +30,8 @@ module _ {Pending Peer : Type 0} where
   number-of l (AwaitsIdent s peer) = refl
   number-of l (Open s peer) = refl
 
-  twice-of : (l : Link (Stage Pending Peer)) (stage : Stage Pending Peer)
-      → (let k : Link (Stage Pending Peer) = record l { stage = stage } in abridged_link (abridged_link k)) ≡ abridged_link (record l { stage = stage })
+  twice-of : (l : Link (Stage Pending Proven Peer)) (stage : Stage Pending Proven Peer)
+      → (let k : Link (Stage Pending Proven Peer) = record l { stage = stage } in abridged_link (abridged_link k)) ≡ abridged_link (record l { stage = stage })
   twice-of l AwaitsBanner = refl
   twice-of l AwaitsHello = refl
   twice-of l AwaitsRequest = refl
@@ -40,8 +40,8 @@ module _ {Pending Peer : Type 0} where
   twice-of l (AwaitsIdent s peer) = refl
   twice-of l (Open s peer) = refl
 
-  sends-of : (l : Link (Stage Pending Peer)) (stage : Stage Pending Peer) (bytes : List ℕ)
-      → (let k : Link (Stage Pending Peer) = abridged_link (record l { stage = stage }) in abridged_link (record k { sent = k.sent ++ bytes }))
+  sends-of : (l : Link (Stage Pending Proven Peer)) (stage : Stage Pending Proven Peer) (bytes : List ℕ)
+      → (let k : Link (Stage Pending Proven Peer) = abridged_link (record l { stage = stage }) in abridged_link (record k { sent = k.sent ++ bytes }))
       ≡ abridged_link (record l { sent = l.sent ++ bytes; stage = stage })
   sends-of l AwaitsBanner bytes = refl
   sends-of l AwaitsHello bytes = refl
@@ -51,8 +51,8 @@ module _ {Pending Peer : Type 0} where
   sends-of l (AwaitsIdent s peer) bytes = refl
   sends-of l (Open s peer) bytes = refl
 
-  comes-of : (l : Link (Stage Pending Peer)) (stage : Stage Pending Peer) (bytes : List ℕ) → IsWithin l
-      → (let k : Link (Stage Pending Peer) = abridged_link (record l { stage = stage }) in abridged_link (record k { received = k.received ++ bytes }))
+  comes-of : (l : Link (Stage Pending Proven Peer)) (stage : Stage Pending Proven Peer) (bytes : List ℕ) → IsWithin l
+      → (let k : Link (Stage Pending Proven Peer) = abridged_link (record l { stage = stage }) in abridged_link (record k { received = k.received ++ bytes }))
       ≡ abridged_link (record l { received = l.received ++ bytes; stage = stage })
   comes-of l AwaitsBanner bytes w = refl
   comes-of l AwaitsHello bytes w = refl
@@ -62,7 +62,7 @@ module _ {Pending Peer : Type 0} where
   comes-of l (AwaitsIdent s peer) bytes w = cut-fed l (AwaitsIdent (unsigned s) peer) bytes w
   comes-of l (Open s peer) bytes w = cut-fed l (Open (unsigned s) peer) bytes w
 
-  pub acceptor-forgets : Forgets (abridged_link {Pending = Pending} {Peer = Peer})
+  pub acceptor-forgets : Forgets (abridged_link {Pending = Pending} {Proven = Proven} {Peer = Peer})
   acceptor-forgets = record {
     number = λ l. number-of l l.stage;
     twice = λ l. twice-of l l.stage;
@@ -72,23 +72,23 @@ module _ {Pending Peer : Type 0} where
 
   -- ---- a table of them
 
-  pub acceptor_link_of : (n : ℕ) (links : List (Link (Stage Pending Peer))) → link_of n (map abridged_link links) ≡ option_map abridged_link (link_of n links)
+  pub acceptor_link_of : (n : ℕ) (links : List (Link (Stage Pending Proven Peer))) → link_of n (map abridged_link links) ≡ option_map abridged_link (link_of n links)
   acceptor_link_of n links = link_of_map abridged_link acceptor-forgets.number n links
 
-  pub acceptor_put_link : (l : Link (Stage Pending Peer)) (links : List (Link (Stage Pending Peer))) → put_link (abridged_link l) (map abridged_link links) ≡ map abridged_link (put_link l links)
+  pub acceptor_put_link : (l : Link (Stage Pending Proven Peer)) (links : List (Link (Stage Pending Proven Peer))) → put_link (abridged_link l) (map abridged_link links) ≡ map abridged_link (put_link l links)
   acceptor_put_link l links = put_link_map abridged_link acceptor-forgets.number l links
 
-  pub acceptor_without_link : (n : ℕ) (links : List (Link (Stage Pending Peer))) → without_link n (map abridged_link links) ≡ map abridged_link (without_link n links)
+  pub acceptor_without_link : (n : ℕ) (links : List (Link (Stage Pending Proven Peer))) → without_link n (map abridged_link links) ≡ map abridged_link (without_link n links)
   acceptor_without_link n links = without_link_map abridged_link acceptor-forgets.number n links
 
-module _ {Own Pending Peer : Type 0} where
+module _ {Own Pending Proven Peer : Type 0} where
   -- ---- rows with plain frames
 
-  pub hello-within : (a : Arrival Own (Stage Pending Peer)) (hello : Result Hello BytesFault) → IsWithin a.link → RowWithin (on_hello a hello)
+  pub hello-within : (a : Arrival Own (Stage Pending Proven Peer)) (hello : Result Hello BytesFault) → IsWithin a.link → RowWithin (on_hello a hello)
   hello-within a (Ok hello) w = w
   hello-within a (Err why) w = tt
 
-  pub request-within : (by_role : Arrival Own (Stage Pending Peer) → List ℕ → Row Own (Stage Pending Peer)) (a : Arrival Own (Stage Pending Peer))
+  pub request-within : (by_role : Arrival Own (Stage Pending Proven Peer) → List ℕ → Row Own (Stage Pending Proven Peer)) (a : Arrival Own (Stage Pending Proven Peer))
       (request : Result AuthRequest BytesFault) → ((bytes : List ℕ) → RowWithin (by_role a bytes)) → RowWithin (on_auth_request by_role a request)
   request-within by_role a (Err why) each = tt
   request-within by_role a (Ok request) each = by_tests (not (request.method == 2)) (not (list_any (λ mode. mode == 2) request.modes))
@@ -100,7 +100,7 @@ module _ {Own Pending Peer : Type 0} where
 
   -- ---- AUTH_SIGNATURE, CLIENT_IDENT
 
-  pub signature-alike : (a : Arrival Own (Stage Pending Peer)) (l : Link (Stage Pending Peer)) (s : Secured) (peer : Peer) (found : Result AuthSignature BytesFault)
+  pub signature-alike : (a : Arrival Own (Stage Pending Proven Peer)) (l : Link (Stage Pending Proven Peer)) (s : Secured) (peer : Proven) (found : Result AuthSignature BytesFault)
       → SameAhead l a.link → IsWithin a.link → Alike abridged_link (on_signature (at a l) s peer found) (on_signature a s peer found)
   signature-alike a l s peer (Err why) e w = refuses-alike abridged_link a l (reason.Bytes why) [] e.number
   signature-alike a l s peer (Ok found) e w = by_test (is_signed s found.signature)
@@ -112,14 +112,14 @@ module _ {Own Pending Peer : Type 0} where
           goes-alike abridged_link a l (AwaitsIdent s peer) (AwaitsIdent s peer) (AwaitsIdent (unsigned s) peer) [] (signature_found s ∷ []) e w (λ k. refl) (λ k. refl)
       by_test false = refuses-alike abridged_link a l (reason.Login SignatureWrong) [] e.number
 
-  missing-alike : (a : Arrival Own (Stage Pending Peer)) (l : Link (Stage Pending Peer)) (features : ℕ) (sealed : Result SealedFrame BytesFault)
+  missing-alike : (a : Arrival Own (Stage Pending Proven Peer)) (l : Link (Stage Pending Proven Peer)) (features : ℕ) (sealed : Result SealedFrame BytesFault)
       → SameAhead l a.link → Alike abridged_link (missing_told (at a l) features sealed) (missing_told a features sealed)
   missing-alike a l features (Err why) e = refuses-alike abridged_link a l (reason.Bytes why) [] e.number
   missing-alike a l features (Ok sealed) e =
-      let with : ℕ → Row Own (Stage Pending Peer) = λ n. record (missing_told a features (Ok sealed)) { entries = refused_entry a.me n (reason.Bytes (Features features)) ∷ [] } in
+      let with : ℕ → Row Own (Stage Pending Proven Peer) = λ n. record (missing_told a features (Ok sealed)) { entries = refused_entry a.me n (reason.Bytes (Features features)) ∷ [] } in
       record { kept = ap with e.number; within = tt }
 
-  pub misses-alike : (a : Arrival Own (Stage Pending Peer)) (l : Link (Stage Pending Peer)) (s : Secured) (features : ℕ)
+  pub misses-alike : (a : Arrival Own (Stage Pending Proven Peer)) (l : Link (Stage Pending Proven Peer)) (s : Secured) (features : ℕ)
       → SameAhead l a.link → Alike abridged_link (misses (at a l) (unsigned s) features) (misses a s features)
   misses-alike a l s features e =
       missing-alike a l features (secure_frame s.keys (control 10 ident_missing_features_layout.form (record { features = features }))) e

@@ -11,8 +11,8 @@ use Rattle.cx_frame.specs.declared.banner.Banner.{Banner}
 use Rattle.cx_frame.specs.declared.frame.Frame.{Frame}
 use Rattle.cx_frame.specs.declared.refusals.BannerRefusal.{BannerRefusal}
 use Rattle.cx_frame.specs.declared.refusals.FrameRefusal.{FrameRefusal}
+use Rattle.cx_journal.specs.declared.entries.Entry.{Entry}
 use Rattle.cx_journal.specs.declared.faults.BytesFault.{BytesFault}
-use Rattle.cx_journal.specs.declared.faults.BytesFault.TheVariants.{Unexpected}
 use Rattle.cx_journal.specs.declared.outcomes.Reason.{Reason}
 use Rattle.cx_journal.specs.declared.outcomes.Reason.TheVariants.{Bytes}
 use Rattle.cx_secure.specs.declared.refusals.SecureRefusal.{SecureRefusal}
@@ -22,10 +22,11 @@ use Rattle.cx_stream.specs.SecureStreams.{secure_frame_at}
 use Rattle.cx_rules.specs.Abridged.{IsWithin, abridged_node, cut, unsigned}
 use Rattle.cx_rules.specs.Fronts.{ahead_of, banner_next, banner_read, keys_behind, opened_parts, plain_next, plain_read, sealed_ahead, secure_next, secure_read, taking}
 use Rattle.cx_rules.specs.Links.{Link}
+use Rattle.cx_rules.specs.Messages.{on_upkeep_or}
 use Rattle.cx_rules.specs.Payloads.{control, payload}
 use Rattle.cx_rules.specs.Rows.{Arrival, Node, Row, Turned, Waits, Refuses, Handles, at, carried_out, goes_on, plain_sent, refused_entry, refuses, refuses_bytes, secure_sent, turned_by, turns, with_opened}
 use Rattle.cx_rules.specs.Secured.{Keys, SealedFrame, Secured, secure_frame}
-use Rattle.cx_rules.specs.Upkeep.{on_keepalive, on_keepalive_ack, on_upkeep}
+use Rattle.cx_rules.specs.Upkeep.{on_keepalive, on_keepalive_ack}
 use Rattle.cx_rules.proofs.Abridging.{Agree, Alike, Forgets, carried-alike, idles-agree}
 use Rattle.cx_rules.proofs.Fitting.{Fits, banner-fits, plain-fits, secure-fits}
 
@@ -114,19 +115,26 @@ module _ {Own Stage : Type 0} (abridged : Link Stage → Link Stage) where
   keepalive_ack-alike a l s open_under (Ok ack) e w cuts =
       goes-alike a l (open_under (unsigned s)) (open_under s) (open_under (unsigned s)) [] [] e w (cuts (unsigned s)) (cuts s)
 
-  pub upkeep-alike : (a : Arrival Own Stage) (l : Link Stage) (s : Secured) (open_under : Secured → Stage) (f : Frame)
+  -- what is entered makes no difference to what is kept
+  pub entered-alike : (entries : List Entry) (r s : Row Own Stage) → Alike abridged r s → Alike abridged (record r { entries = entries }) (record s { entries = entries })
+  entered-alike entries r s alike =
+      let with : Row Own Stage → Row Own Stage = λ row. record row { entries = entries } in record { kept = ap with alike.kept; within = alike.within }
+
+  -- a frame on an open link, where the row of all others is alike too
+  pub upkeep-alike : (cut_other other : Frame → Row Own Stage) (a : Arrival Own Stage) (l : Link Stage) (s : Secured) (open_under : Secured → Stage) (f : Frame)
       → SameAhead l a.link → IsWithin a.link → ((x : Secured) → CutsTo abridged (open_under x) (open_under (unsigned x)))
-      → Alike abridged (on_upkeep (at a l) (unsigned s) open_under f) (on_upkeep a s open_under f)
-  upkeep-alike a l s open_under f e w cuts = by_tests (f.tag == 18) (f.tag == 19)
+      → Alike abridged (cut_other f) (other f)
+      → Alike abridged (on_upkeep_or cut_other (at a l) (unsigned s) open_under f) (on_upkeep_or other a s open_under f)
+  upkeep-alike cut_other other a l s open_under f e w cuts h = by_tests (f.tag == 18) (f.tag == 19)
     where
       by_tests : (ask ack : Bool) → Alike abridged
           (if ask then on_keepalive (at a l) (unsigned s) open_under (payload keepalive2_layout.form f)
-          else if ack then on_keepalive_ack (at a l) (unsigned s) open_under (payload keepalive2_ack_layout.form f) else refuses_bytes (at a l) (Unexpected f.tag) [])
+          else if ack then on_keepalive_ack (at a l) (unsigned s) open_under (payload keepalive2_ack_layout.form f) else cut_other f)
           (if ask then on_keepalive a s open_under (payload keepalive2_layout.form f)
-          else if ack then on_keepalive_ack a s open_under (payload keepalive2_ack_layout.form f) else refuses_bytes a (Unexpected f.tag) [])
+          else if ack then on_keepalive_ack a s open_under (payload keepalive2_ack_layout.form f) else other f)
       by_tests true ack = keepalive-alike a l s open_under (payload keepalive2_layout.form f) e w cuts
       by_tests false true = keepalive_ack-alike a l s open_under (payload keepalive2_ack_layout.form f) e w cuts
-      by_tests false false = refuses-alike a l (Bytes (Unexpected f.tag)) [] e.number
+      by_tests false false = h
 
 -- ---- turns
 

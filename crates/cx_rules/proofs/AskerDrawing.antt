@@ -19,6 +19,7 @@ use Rattle.cx_frame.specs.declared.frame.Frame.{Frame}
 use Rattle.cx_journal.specs.declared.faults.BytesFault.{BytesFault}
 use Rattle.cx_journal.specs.declared.faults.BytesFault.TheVariants.{Unexpected}
 use Rattle.cx_journal.specs.declared.faults.LoginFault.TheVariants.{Mode, SignatureWrong}
+use Rattle.cx_journal.specs.declared.outcomes.Reason.{Reason}
 use Rattle.cx_journal.specs.declared.outcomes.Reason.TheVariants as reason
 use Rattle.cx_login.specs.Client.{Ask, authenticate}
 use Rattle.cx_login.specs.Unlocking.{login_in}
@@ -30,16 +31,23 @@ use Rattle.cx_steps.specs.declared.seals.SealEntry.TheVariants.{Drawn}
 use Rattle.cx_wire.specs.Logins.{authenticate_layout, login_done_layout, server_challenge_layout}
 use Rattle.cx_wire.specs.declared.logins.LoginDone.{LoginDone}
 use Rattle.cx_wire.specs.declared.logins.ServerChallenge.{ServerChallenge}
-use Rattle.cx_rules.specs.Connector.{AskerArrival, AskerRow, Login, Stage, AwaitsBanner, AwaitsHello, AwaitsChallenge, AwaitsDone, AwaitsSignature, AwaitsIdent, Open, client_ident, identifies, login_request, on_bad_method, on_banner, on_challenge, on_done, on_hello, on_login_done, on_missing_features, on_opened, on_reply_more, on_server_ident, on_signature, proves, signs, turned_at, while_challenged, while_identified, while_proved}
+use Rattle.cx_rules.specs.Connector.{AskerArrival, AskerRow, Login, Stage, AwaitsBanner, AwaitsHello, AwaitsChallenge, AwaitsDone, AwaitsSignature, AwaitsIdent, Open, client_ident, identifies, login_request, on_bad_method, on_banner, on_challenge, on_done, on_hello, on_login_done, on_missing_features, on_opened, on_reply_more, on_signature, proves, signs, turned_at, while_challenged, while_identified, while_proved}
 use Rattle.cx_rules.specs.Fronts.{Front, NotYet, Broken, Next, banner_next, plain_next, secure_next}
 use Rattle.cx_rules.specs.Greetings.{own_hello}
 use Rattle.cx_rules.specs.Holdings.{held_login, unexpired}
 use Rattle.cx_rules.specs.Judged.{AskerLogsLink, AskerLogsStage, AskerLogsTurn}
 use Rattle.cx_rules.specs.Links.{Link}
 use Rattle.cx_rules.specs.Payloads.{control, due, payload, whole}
-use Rattle.cx_rules.specs.Rows.{at, plain_sent, refuses, refuses_bytes, secure_sent, turned_by, with_opened}
+use Rattle.cx_rules.specs.Rows.{at, goes_on, plain_sent, refuses, refuses_bytes, secure_sent, turned_by, with_opened}
 use Rattle.cx_rules.specs.Secured.{Keys, SealedFrame, Secured, connector_keys, is_signed, plain_frame, secure_frame, signature_found, signed_frame, under}
-use Rattle.cx_rules.specs.Upkeep.{on_keepalive, on_keepalive_ack, on_upkeep}
+use Rattle.cx_rules.specs.Upkeep.{on_keepalive, on_keepalive_ack}
+use Rattle.cx_base.specs.Names.{is_daemon_type}
+use Rattle.cx_wire.specs.declared.bodies.Request.TheVariants as asked
+use Rattle.cx_rules.specs.Requests.{Requests, asks_rotating, no_requests, on_open, on_reply, on_server_ident, opens_to, sealed_request, sends_request, taken as reply_in, takes}
+use Rattle.cx_rules.specs.declared.requests.Taken.{Taken}
+use Rattle.cx_rules.specs.declared.requests.Taken.TheVariants as taken
+use Rattle.cx_rules.specs.declared.requests.Want.{Want}
+use Rattle.cx_rules.specs.declared.requests.Want.TheVariants.{Rotating}
 
 abbrev pub Logs : AskerArrival → AskerRow → Type 0
 Logs a row = AskerLogsLink a row.seals row.link
@@ -59,8 +67,8 @@ stage-behind a opened seals (AwaitsHello asked) h = tt
 stage-behind a opened seals (AwaitsChallenge asked) h = tt
 stage-behind a opened seals AwaitsDone h = some-right (λ logged. logged ≡ Drawn (draw.Challenge (challenge_of a.draw))) opened seals h
 stage-behind a opened seals (AwaitsSignature s login) h = tt
-stage-behind a opened seals (AwaitsIdent s) h = some-right (λ logged. logged ≡ Drawn (draw.Cookie (cookie_of a.draw))) opened seals h
-stage-behind a opened seals (Open s) h = tt
+stage-behind a opened seals (AwaitsIdent s session) h = some-right (λ logged. logged ≡ Drawn (draw.Cookie (cookie_of a.draw))) opened seals h
+stage-behind a opened seals (Open s requests) h = tt
 
 link-behind : (a : AskerArrival) (opened seals : List SealEntry) (link : Option (Link Stage)) → AskerLogsLink a seals link → AskerLogsLink a (opened ++ seals) link
 link-behind a opened seals (Some link) h = stage-behind a opened seals link.stage h
@@ -77,8 +85,8 @@ link-moved a link seals (Some l) h = by_stage l.stage h
     by_stage (AwaitsChallenge asked) g = tt
     by_stage AwaitsDone g = g
     by_stage (AwaitsSignature s login) g = tt
-    by_stage (AwaitsIdent s) g = g
-    by_stage (Open s) g = tt
+    by_stage (AwaitsIdent s session) g = g
+    by_stage (Open s requests) g = tt
 
 logs-plain : (a : AskerArrival) (stage : Stage) (seals : List SealEntry) (r : Result (List ℕ) BytesFault) → AskerLogsStage a seals stage → Logs a (plain_sent a stage seals r)
 logs-plain a stage seals (Ok bytes) h = h
@@ -144,11 +152,11 @@ logs-proved a f = by_test (f.tag == 3)
     by_test true = logs-bad_method a (payload bad_method_layout.form f)
     by_test false = logs-done a (due 6 auth_done_layout.form f)
 
-logs-ident : (a b : AskerArrival) (s : Secured) (r : Result SealedFrame BytesFault) → b.draw ≡ a.draw
-    → AskerLogsLink b (secure_sent a s AwaitsIdent (signature_found s ∷ Drawn (draw.Cookie (cookie_of b.draw)) ∷ []) r).seals
-    (secure_sent a s AwaitsIdent (signature_found s ∷ Drawn (draw.Cookie (cookie_of b.draw)) ∷ []) r).link
-logs-ident a b s (Ok sealed) e = inr (inl refl)
-logs-ident a b s (Err why) e = tt
+logs-ident : (a b : AskerArrival) (s : Secured) (session : List ℕ) (r : Result SealedFrame BytesFault) → b.draw ≡ a.draw
+    → AskerLogsLink b (secure_sent a s (λ behind. AwaitsIdent behind session) (signature_found s ∷ Drawn (draw.Cookie (cookie_of b.draw)) ∷ []) r).seals
+    (secure_sent a s (λ behind. AwaitsIdent behind session) (signature_found s ∷ Drawn (draw.Cookie (cookie_of b.draw)) ∷ []) r).link
+logs-ident a b s session (Ok sealed) e = inr (inl refl)
+logs-ident a b s session (Err why) e = tt
 
 logs-signature : (a : AskerArrival) (s : Secured) (login : Login) (found : Result AuthSignature BytesFault) → Logs a (on_signature a s login found)
 logs-signature a s login (Err why) = tt
@@ -156,45 +164,61 @@ logs-signature a s login (Ok found) = by_test (is_signed s found.signature)
   where
     by_test : (right : Bool) → Logs a (if right then identifies a s login else refuses a (reason.Login SignatureWrong) [])
     by_test true =
-        logs-ident (record a { own = record a.own { holdings = held_login a.own.holdings login.gid login.opened } }) a s
-        (secure_frame s.keys (client_ident a.own login.gid (cookie_of a.draw))) refl
+        logs-ident (record a { own = record a.own { holdings = held_login a.own.holdings login.gid login.opened } }) a s login.opened.auth.session
+        (secure_frame s.keys (client_ident a.own login.gid 1 (cookie_of a.draw))) refl
     by_test false = tt
 
-logs-server_ident : (a : AskerArrival) (s : Secured) (ident : Result ServerIdent BytesFault) → Logs a (on_server_ident a s ident)
-logs-server_ident a s (Err why) = tt
-logs-server_ident a s (Ok ident) = tt
+logs-request : (a : AskerArrival) (s : Secured) (requests : Requests) (want : Want) (sealed : Result SealedFrame Reason) → Logs a (sends_request Open a s requests want sealed)
+logs-request a s requests want (Ok sealed) = tt
+logs-request a s requests want (Err why) = tt
+
+logs-opens_to : (a : AskerArrival) (s : Secured) (requests : Requests) → Logs a (opens_to Open a s requests)
+logs-opens_to a s requests = by_test (is_daemon_type a.own.name.kind)
+  where
+    by_test : (daemon : Bool) → Logs a (if daemon then asks_rotating Open a s requests else goes_on a (Open s requests) [] [])
+    by_test true = logs-request a s requests (Rotating a.reading) (sealed_request s.keys requests asked.Rotating)
+    by_test false = tt
+
+logs-server_ident : (a : AskerArrival) (s : Secured) (session : List ℕ) (ident : Result ServerIdent BytesFault) → Logs a (on_server_ident Open a s session ident)
+logs-server_ident a s session (Err why) = tt
+logs-server_ident a s session (Ok ident) = logs-opens_to a s (no_requests session)
 
 logs-missing : (a : AskerArrival) (missing : Result IdentMissingFeatures BytesFault) → Logs a (on_missing_features a missing)
 logs-missing a (Err why) = tt
 logs-missing a (Ok missing) = tt
 
-logs-identified : (a : AskerArrival) (s : Secured) (f : Frame) → Logs a (while_identified a s f)
-logs-identified a s f = by_test (f.tag == 10)
+logs-identified : (a : AskerArrival) (s : Secured) (session : List ℕ) (f : Frame) → Logs a (while_identified a s session f)
+logs-identified a s session f = by_test (f.tag == 10)
   where
-    by_test : (lacks : Bool) → Logs a (if lacks then on_missing_features a (payload ident_missing_features_layout.form f) else on_server_ident a s (due 9 server_ident_layout.form f))
+    by_test : (lacks : Bool) → Logs a (if lacks then on_missing_features a (payload ident_missing_features_layout.form f) else on_server_ident Open a s session (due 9 server_ident_layout.form f))
     by_test true = logs-missing a (payload ident_missing_features_layout.form f)
-    by_test false = logs-server_ident a s (due 9 server_ident_layout.form f)
+    by_test false = logs-server_ident a s session (due 9 server_ident_layout.form f)
 
-logs-secure : (a : AskerArrival) (s : Secured) (r : Result SealedFrame BytesFault) → Logs a (secure_sent a s Open [] r)
-logs-secure a s (Ok sealed) = tt
-logs-secure a s (Err why) = tt
+logs-secure : (a : AskerArrival) (s : Secured) (requests : Requests) (r : Result SealedFrame BytesFault) → Logs a (secure_sent a s (λ behind. Open behind requests) [] r)
+logs-secure a s requests (Ok sealed) = tt
+logs-secure a s requests (Err why) = tt
 
-logs-keepalive : (a : AskerArrival) (s : Secured) (keepalive : Result Keepalive2 BytesFault) → Logs a (on_keepalive a s Open keepalive)
-logs-keepalive a s (Err why) = tt
-logs-keepalive a s (Ok keepalive) = logs-secure a s (secure_frame s.keys (control 19 keepalive2_ack_layout.form (record { time = keepalive.time })))
+logs-keepalive : (a : AskerArrival) (s : Secured) (requests : Requests) (keepalive : Result Keepalive2 BytesFault) → Logs a (on_keepalive a s (λ behind. Open behind requests) keepalive)
+logs-keepalive a s requests (Err why) = tt
+logs-keepalive a s requests (Ok keepalive) = logs-secure a s requests (secure_frame s.keys (control 19 keepalive2_ack_layout.form (record { time = keepalive.time })))
 
-logs-keepalive_ack : (a : AskerArrival) (s : Secured) (ack : Result Keepalive2Ack BytesFault) → Logs a (on_keepalive_ack a s Open ack)
-logs-keepalive_ack a s (Err why) = tt
-logs-keepalive_ack a s (Ok ack) = tt
+logs-keepalive_ack : (a : AskerArrival) (s : Secured) (requests : Requests) (ack : Result Keepalive2Ack BytesFault) → Logs a (on_keepalive_ack a s (λ behind. Open behind requests) ack)
+logs-keepalive_ack a s requests (Err why) = tt
+logs-keepalive_ack a s requests (Ok ack) = tt
 
-logs-upkeep : (a : AskerArrival) (s : Secured) (f : Frame) → Logs a (on_upkeep a s Open f)
-logs-upkeep a s f = by_tests (f.tag == 18) (f.tag == 19)
+logs-takes : (a : AskerArrival) (s : Secured) (requests : Requests) (t : Taken) → Logs a (takes Open a s requests t)
+logs-takes a s requests (taken.Refuses why opened) = tt
+logs-takes a s requests (taken.Holds held opened) = tt
+logs-takes a s requests (taken.Views reading generations opened) = tt
+
+logs-open : (a : AskerArrival) (s : Secured) (requests : Requests) (f : Frame) → Logs a (on_open Open a s requests f)
+logs-open a s requests f = by_tests (f.tag == 18) (f.tag == 19)
   where
-    by_tests : (ask ack : Bool) → Logs a (if ask then on_keepalive a s Open (payload keepalive2_layout.form f)
-        else if ack then on_keepalive_ack a s Open (payload keepalive2_ack_layout.form f) else refuses_bytes a (Unexpected f.tag) [])
-    by_tests true ack = logs-keepalive a s (payload keepalive2_layout.form f)
-    by_tests false true = logs-keepalive_ack a s (payload keepalive2_ack_layout.form f)
-    by_tests false false = tt
+    by_tests : (ask ack : Bool) → Logs a (if ask then on_keepalive a s (λ behind. Open behind requests) (payload keepalive2_layout.form f)
+        else if ack then on_keepalive_ack a s (λ behind. Open behind requests) (payload keepalive2_ack_layout.form f) else on_reply Open a s requests f)
+    by_tests true ack = logs-keepalive a s requests (payload keepalive2_layout.form f)
+    by_tests false true = logs-keepalive_ack a s requests (payload keepalive2_ack_layout.form f)
+    by_tests false false = logs-takes a s requests (reply_in a.own.secret requests f)
 
 -- ---- a turn
 
@@ -229,5 +253,6 @@ asker-logs a AwaitsDone = logs-frame a (λ b f. while_proved b f) (plain_next a.
 asker-logs a (AwaitsSignature s login) =
     logs-secure_frame a s (λ b t f. on_signature b t login (due 7 auth_signature_layout.form f)) (secure_next s.keys a.link)
     (λ b t f. logs-signature b t login (due 7 auth_signature_layout.form f))
-asker-logs a (AwaitsIdent s) = logs-secure_frame a s (λ b t f. while_identified b t f) (secure_next s.keys a.link) (λ b t f. logs-identified b t f)
-asker-logs a (Open s) = logs-secure_frame a s (λ b t f. on_upkeep b t Open f) (secure_next s.keys a.link) (λ b t f. logs-upkeep b t f)
+asker-logs a (AwaitsIdent s session) =
+    logs-secure_frame a s (λ b t f. while_identified b t session f) (secure_next s.keys a.link) (λ b t f. logs-identified b t session f)
+asker-logs a (Open s requests) = logs-secure_frame a s (λ b t f. on_open Open b t requests f) (secure_next s.keys a.link) (λ b t f. logs-open b t requests f)

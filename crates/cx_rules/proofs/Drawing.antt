@@ -23,14 +23,17 @@ use Rattle.cx_frame.specs.declared.banner.Banner.{Banner}
 use Rattle.cx_frame.specs.declared.refusals.BannerRefusal.{BannerRefusal}
 use Rattle.cx_frame.specs.declared.refusals.FrameRefusal.{FrameRefusal}
 use Rattle.cx_journal.specs.declared.faults.LoginFault.TheVariants.{Method, Mode, SignatureWrong}
+use Rattle.cx_journal.specs.declared.outcomes.Reason.{Reason}
 use Rattle.cx_journal.specs.declared.outcomes.Reason.TheVariants.{Login}
 use Rattle.cx_secure.specs.declared.refusals.SecureRefusal.{SecureRefusal}
 use Rattle.cx_stream.specs.PlainStreams.{plain_frame_at}
 use Rattle.cx_stream.specs.SecureStreams.{secure_frame_at}
 use Rattle.cx_rules.specs.Fronts.{Front, NotYet, Broken, Next, ahead_of, banner_next, banner_read, opened_parts, plain_next, plain_read, secure_next, secure_read, sealed_ahead}
 use Rattle.cx_rules.specs.Greetings.{own_hello}
-use Rattle.cx_rules.specs.MonitorRule.{on_auth_request_more, on_client_ident, on_ident, on_request_payload, on_session_reconnect, server_ident, turned_at}
-use Rattle.cx_rules.specs.Upkeep.{on_keepalive, on_keepalive_ack, on_upkeep}
+use Rattle.cx_rules.specs.MonitorRule.{on_auth_request_more, on_client_ident, on_ident, on_request_payload, on_session_reconnect, turned_at}
+use Rattle.cx_rules.specs.MonitorRequests.{heard, on_demand, on_message, on_open, reply_message, request_occasion, responds, sends_reply, serving}
+use Rattle.cx_rules.specs.Replies.{Responded, answers}
+use Rattle.cx_rules.specs.Upkeep.{on_keepalive, on_keepalive_ack}
 use Rattle.cx_dice.specs.Draws.{challenge_of, connection_of, session_of}
 use Rattle.cx_frame.specs.Frames.{total}
 use Rattle.cx_enc.specs.declared.keys.Key.{Key}
@@ -58,10 +61,10 @@ use Rattle.cx_steps.specs.declared.seals.SealEntry.TheVariants.{Drawn}
 use Rattle.cx_wire.specs.Logins.{authenticate_layout, login_hello_layout, server_challenge_layout}
 use Rattle.cx_wire.specs.declared.logins.Authenticate.{Authenticate}
 use Rattle.cx_wire.specs.declared.logins.LoginHello.{LoginHello}
-use Rattle.cx_rules.specs.Acceptor.{AwaitsBanner, AwaitsHello, AwaitsRequest, AwaitsProof, AwaitsSignature, AwaitsIdent, Open, Finished, denies, finished, joined, misses, missing_told, on_auth_request, on_banner, on_hello, on_signature}
+use Rattle.cx_rules.specs.Acceptor.{AwaitsBanner, AwaitsHello, AwaitsRequest, AwaitsProof, AwaitsSignature, AwaitsIdent, Open, Finished, denies, finished, joined, misses, missing_told, on_auth_request, on_banner, on_hello, on_signature, server_ident}
 use Rattle.cx_rules.specs.Judged.{LogsDraw, LogsLink, LogsStage, LogsTurn, has_key}
 use Rattle.cx_rules.specs.Links.{Link}
-use Rattle.cx_rules.specs.Monitor.{Entity, MonitorArrival, MonitorRow, MonitorStage, Offered}
+use Rattle.cx_rules.specs.Monitor.{MonitorArrival, MonitorRow, MonitorStage, Offered}
 use Rattle.cx_rules.specs.MonitorLogin.{challenges, done_frame, hands_over, occasion, on_authenticate, on_login_hello, proves, row_of, with_server}
 use Rattle.cx_rules.specs.Payloads.{control, due, payload, whole}
 use Rattle.cx_rules.specs.Rows.{at, goes_on, plain_sent, refuses, refuses_bytes, secure_sent, sends_secure, turned_by, with_opened}
@@ -69,6 +72,11 @@ use Rattle.cx_rules.specs.Secured.{Keys, SealedFrame, Secured, acceptor_keys, is
 use Rattle.cx_rules.specs.Tickets.{is_asked, issued_before, issued_for, rotation_drawn, services_for, ticket_seals}
 use Rattle.cx_rules.specs.Verdicts.{Entrant, Numbered, asking_for, entrant, handed_out, issues, issues_to, key_of, numbered, numbers, secret_seals}
 use Rattle.cx_rules.specs.declared.verdicts.HandedOut.{HandedOut}
+use Rattle.cx_rules.specs.declared.responses.Bearer.{Bearer}
+use Rattle.cx_rules.specs.declared.responses.Demand.{Demand}
+use Rattle.cx_rules.specs.declared.responses.ReplyMade.{ReplyMade}
+use Rattle.cx_rules.specs.declared.responses.Response.{Response}
+use Rattle.cx_rules.specs.declared.responses.Response.TheVariants as response
 
 -- ---- keys stay
 
@@ -124,14 +132,14 @@ stage-behind a opened seals AwaitsBanner h = tt
 stage-behind a opened seals AwaitsHello h = tt
 stage-behind a opened seals AwaitsRequest h = tt
 stage-behind a opened seals (AwaitsProof offered) h = (h.0, logged-behind (draw.Challenge (challenge_of a.draw)) opened seals h.1)
-stage-behind a opened seals (AwaitsSignature s entity) h = (
+stage-behind a opened seals (AwaitsSignature s bearer) h = (
   h.0,
-  logged-behind (draw.Connection (connection_of a.draw) entity.name) opened seals h.1,
+  logged-behind (draw.Connection (connection_of a.draw) bearer.name) opened seals h.1,
   h.2,
-  logged-behind (draw.Session (session_of Auth a.draw) entity.name) opened seals h.3,
+  logged-behind (draw.Session (session_of Auth a.draw) bearer.name) opened seals h.3,
 )
-stage-behind a opened seals (AwaitsIdent s entity) h = h
-stage-behind a opened seals (Open s entity) h = h
+stage-behind a opened seals (AwaitsIdent s bearer) h = h
+stage-behind a opened seals (Open s bearer) h = h
 
 -- ---- rows
 
@@ -286,11 +294,11 @@ logs-request_more : (a : MonitorArrival) (offered : Offered) (more : Result Auth
 logs-request_more a offered (Err why) = tt
 logs-request_more a offered (Ok more) = logs-authenticate a offered (whole authenticate_layout.form more.payload)
 
-logs-signature : (a : MonitorArrival) (s : Secured) (entity : Entity) (found : Result AuthSignature BytesFault) → IsUnder a s → Logs a (on_signature a s entity found)
-logs-signature a s entity (Err why) h = tt
-logs-signature a s entity (Ok found) h = by_test (is_signed s found.signature)
+logs-signature : (a : MonitorArrival) (s : Secured) (bearer : Bearer) (found : Result AuthSignature BytesFault) → IsUnder a s → Logs a (on_signature a s bearer found)
+logs-signature a s bearer (Err why) h = tt
+logs-signature a s bearer (Ok found) h = by_test (is_signed s found.signature)
   where
-    by_test : (right : Bool) → Logs a (if right then goes_on a (AwaitsIdent s entity) [] (signature_found s ∷ []) else refuses a (Login SignatureWrong) [])
+    by_test : (right : Bool) → Logs a (if right then goes_on a (AwaitsIdent s bearer) [] (signature_found s ∷ []) else refuses a (Login SignatureWrong) [])
     by_test true = h
     by_test false = tt
 
@@ -298,51 +306,66 @@ logs-missing : (a : MonitorArrival) (features : ℕ) (sealed : Result SealedFram
 logs-missing a features (Err why) = tt
 logs-missing a features (Ok sealed) = tt
 
-logs-client_ident : (a : MonitorArrival) (s : Secured) (entity : Entity) (ident : Result ClientIdent BytesFault) → IsUnder a s → Logs a (on_client_ident a s entity ident)
-logs-client_ident a s entity (Err why) h = tt
-logs-client_ident a s entity (Ok ident) h = by_test (ident.required == 0)
+logs-client_ident : (a : MonitorArrival) (s : Secured) (bearer : Bearer) (ident : Result ClientIdent BytesFault) → IsUnder a s → Logs a (on_client_ident a s bearer ident)
+logs-client_ident a s bearer (Err why) h = tt
+logs-client_ident a s bearer (Ok ident) h = by_test (ident.required == 0)
   where
-    by_test : (plain : Bool) → Logs a (if plain then sends_secure a s (λ behind. Open behind entity) [] (server_ident a.own.address) else misses a s ident.required)
+    by_test : (plain : Bool) → Logs a (if plain then sends_secure a s (λ behind. Open behind bearer) [] (server_ident a.own.address 1 0) else misses a s ident.required)
     by_test true =
-        logs-secure a s (λ behind. Open behind entity) (secure_frame s.keys (server_ident a.own.address)) (keeps-secure_frame s.keys (server_ident a.own.address))
+        logs-secure a s (λ behind. Open behind bearer) (secure_frame s.keys (server_ident a.own.address 1 0)) (keeps-secure_frame s.keys (server_ident a.own.address 1 0))
         (λ t seals e. key-moved a.link.stage s.keys.key t.keys.key e h)
     by_test false = logs-missing a ident.required (secure_frame s.keys (control 10 ident_missing_features_layout.form (record { features = ident.required })))
 
-logs-reconnect : (a : MonitorArrival) (s : Secured) (entity : Entity) (reconnect : Result SessionReconnect BytesFault) → IsUnder a s → Logs a (on_session_reconnect a s entity reconnect)
-logs-reconnect a s entity (Err why) h = tt
-logs-reconnect a s entity (Ok reconnect) h =
+logs-reconnect : (a : MonitorArrival) (s : Secured) (bearer : Bearer) (reconnect : Result SessionReconnect BytesFault) → IsUnder a s → Logs a (on_session_reconnect a s bearer reconnect)
+logs-reconnect a s bearer (Err why) h = tt
+logs-reconnect a s bearer (Ok reconnect) h =
     let f = control 12 session_reset_layout.form (record { full = true }) in
-    logs-secure a s (λ behind. AwaitsIdent behind entity) (secure_frame s.keys f) (keeps-secure_frame s.keys f) (λ t seals e. key-moved a.link.stage s.keys.key t.keys.key e h)
+    logs-secure a s (λ behind. AwaitsIdent behind bearer) (secure_frame s.keys f) (keeps-secure_frame s.keys f) (λ t seals e. key-moved a.link.stage s.keys.key t.keys.key e h)
 
-logs-ident : (a : MonitorArrival) (s : Secured) (entity : Entity) (f : Frame) → IsUnder a s → Logs a (on_ident a s entity f)
-logs-ident a s entity f h = by_tests (f.tag == 8) (f.tag == 11)
+logs-ident : (a : MonitorArrival) (s : Secured) (bearer : Bearer) (f : Frame) → IsUnder a s → Logs a (on_ident a s bearer f)
+logs-ident a s bearer f h = by_tests (f.tag == 8) (f.tag == 11)
   where
-    by_tests : (client reconnect : Bool) → Logs a (if client then on_client_ident a s entity (payload client_ident_layout.form f)
-        else if reconnect then on_session_reconnect a s entity (payload session_reconnect_layout.form f) else refuses_bytes a (Unexpected f.tag) [])
-    by_tests true reconnect = logs-client_ident a s entity (payload client_ident_layout.form f) h
-    by_tests false true = logs-reconnect a s entity (payload session_reconnect_layout.form f) h
+    by_tests : (client reconnect : Bool) → Logs a (if client then on_client_ident a s bearer (payload client_ident_layout.form f)
+        else if reconnect then on_session_reconnect a s bearer (payload session_reconnect_layout.form f) else refuses_bytes a (Unexpected f.tag) [])
+    by_tests true reconnect = logs-client_ident a s bearer (payload client_ident_layout.form f) h
+    by_tests false true = logs-reconnect a s bearer (payload session_reconnect_layout.form f) h
     by_tests false false = tt
 
-logs-keepalive : (a : MonitorArrival) (s : Secured) (entity : Entity) (keepalive : Result Keepalive2 BytesFault) → IsUnder a s
-    → Logs a (on_keepalive a s (λ behind. Open behind entity) keepalive)
-logs-keepalive a s entity (Err why) h = tt
-logs-keepalive a s entity (Ok keepalive) h =
+logs-keepalive : (a : MonitorArrival) (s : Secured) (bearer : Bearer) (keepalive : Result Keepalive2 BytesFault) → IsUnder a s
+    → Logs a (on_keepalive a s (λ behind. Open behind bearer) keepalive)
+logs-keepalive a s bearer (Err why) h = tt
+logs-keepalive a s bearer (Ok keepalive) h =
     let f = control 19 keepalive2_ack_layout.form (record { time = keepalive.time }) in
-    logs-secure a s (λ behind. Open behind entity) (secure_frame s.keys f) (keeps-secure_frame s.keys f) (λ t seals e. key-moved a.link.stage s.keys.key t.keys.key e h)
+    logs-secure a s (λ behind. Open behind bearer) (secure_frame s.keys f) (keeps-secure_frame s.keys f) (λ t seals e. key-moved a.link.stage s.keys.key t.keys.key e h)
 
-logs-keepalive_ack : (a : MonitorArrival) (s : Secured) (entity : Entity) (ack : Result Keepalive2Ack BytesFault) → IsUnder a s
-    → Logs a (on_keepalive_ack a s (λ behind. Open behind entity) ack)
-logs-keepalive_ack a s entity (Err why) h = tt
-logs-keepalive_ack a s entity (Ok ack) h = h
+logs-keepalive_ack : (a : MonitorArrival) (s : Secured) (bearer : Bearer) (ack : Result Keepalive2Ack BytesFault) → IsUnder a s
+    → Logs a (on_keepalive_ack a s (λ behind. Open behind bearer) ack)
+logs-keepalive_ack a s bearer (Err why) h = tt
+logs-keepalive_ack a s bearer (Ok ack) h = h
 
-logs-upkeep : (a : MonitorArrival) (s : Secured) (entity : Entity) (f : Frame) → IsUnder a s → Logs a (on_upkeep a s (λ behind. Open behind entity) f)
-logs-upkeep a s entity f h = by_tests (f.tag == 18) (f.tag == 19)
+logs-reply : (a : MonitorArrival) (s : Secured) (bearer : Bearer) (seq : ℕ) (made : ReplyMade) (sealing : Result SealedFrame BytesFault) → KeepsKey s.keys.key sealing → IsUnder a s
+    → Logs a (sends_reply Open a s bearer seq made sealing)
+logs-reply a s bearer seq made (Err why) k h = tt
+logs-reply a s bearer seq made (Ok sent) k h = key-moved a.link.stage s.keys.key sent.keys.key k h
+
+logs-responds : (a : MonitorArrival) (s : Secured) (bearer : Bearer) (demand : Demand) (r : Response) → IsUnder a s → Logs a (responds Open a s bearer demand r)
+logs-responds a s bearer demand (response.Refuses why drawn) h = tt
+logs-responds a s bearer demand (response.Replies made) h =
+    let f = reply_message demand.tid made.body in logs-reply a s bearer demand.seq made (secure_frame s.keys f) (keeps-secure_frame s.keys f) h
+
+logs-demand : (a : MonitorArrival) (s : Secured) (bearer : Bearer) (found : Result Demand Reason) → IsUnder a s → Logs a (on_demand Open a s bearer found)
+logs-demand a s bearer (Err why) h = tt
+logs-demand a s bearer (Ok demand) h =
+    let r : Responded = answers (request_occasion a) a.own.server bearer demand.request in logs-responds (serving a r.server) s bearer demand r.response h
+
+logs-open : (a : MonitorArrival) (s : Secured) (bearer : Bearer) (f : Frame) → IsUnder a s → Logs a (on_open Open a s bearer f)
+logs-open a s bearer f h = by_tests (f.tag == 18) (f.tag == 19)
   where
-    by_tests : (ask ack : Bool) → Logs a (if ask then on_keepalive a s (λ behind. Open behind entity) (payload keepalive2_layout.form f)
-        else if ack then on_keepalive_ack a s (λ behind. Open behind entity) (payload keepalive2_ack_layout.form f) else refuses_bytes a (Unexpected f.tag) [])
-    by_tests true ack = logs-keepalive a s entity (payload keepalive2_layout.form f) h
-    by_tests false true = logs-keepalive_ack a s entity (payload keepalive2_ack_layout.form f) h
-    by_tests false false = tt
+    by_tests : (ask ack : Bool) → Logs a (if ask then on_keepalive a s (λ behind. Open behind bearer) (payload keepalive2_layout.form f)
+        else if ack then on_keepalive_ack a s (λ behind. Open behind bearer) (payload keepalive2_ack_layout.form f) else on_message Open a s bearer f)
+    by_tests true ack = logs-keepalive a s bearer (payload keepalive2_layout.form f) h
+    by_tests false true = logs-keepalive_ack a s bearer (payload keepalive2_ack_layout.form f) h
+    by_tests false false = logs-demand a s bearer (heard bearer f) h
 
 -- ---- a turn
 
@@ -357,9 +380,9 @@ logs-moved a link seals (Some l) e h = by_stage l.stage h
     by_stage AwaitsHello g = tt
     by_stage AwaitsRequest g = tt
     by_stage (AwaitsProof offered) g = g
-    by_stage (AwaitsSignature s entity) g = g
-    by_stage (AwaitsIdent s entity) g = subst (λ (stage : MonitorStage). has_key stage s.keys.key) e g
-    by_stage (Open s entity) g = subst (λ (stage : MonitorStage). has_key stage s.keys.key) e g
+    by_stage (AwaitsSignature s bearer) g = g
+    by_stage (AwaitsIdent s bearer) g = subst (λ (stage : MonitorStage). has_key stage s.keys.key) e g
+    by_stage (Open s bearer) g = subst (λ (stage : MonitorStage). has_key stage s.keys.key) e g
 
 -- what stands next leaves the stage of the link as it is, and the key
 abbrev pub LinkStays : MonitorStage → Front (Link MonitorStage) → Type 0
@@ -427,21 +450,21 @@ turned-logs a AwaitsRequest e =
 turned-logs a (AwaitsProof offered) e =
     logs-frame a (λ b f. on_auth_request_more b offered (due 5 auth_request_more_layout.form f)) (plain_next a.link) (plain-stays a.link (plain_frame_at (ahead_of a.link)))
     (λ b f. logs-request_more b offered (due 5 auth_request_more_layout.form f))
-turned-logs a (AwaitsSignature s entity) e =
-    logs-secure_frame a s (λ b t f. on_signature b t entity (due 7 auth_signature_layout.form f)) (secure_next s.keys a.link)
+turned-logs a (AwaitsSignature s bearer) e =
+    logs-secure_frame a s (λ b t f. on_signature b t bearer (due 7 auth_signature_layout.form f)) (secure_next s.keys a.link)
     (keys-stay s.keys a.link (opened_parts (sealed_ahead s.keys a.link)) (secure_frame_at (sealed_ahead s.keys a.link)))
     (subst (λ (stage : MonitorStage). has_key stage s.keys.key) (sym e) refl)
-    (λ b t f u. logs-signature b t entity (due 7 auth_signature_layout.form f) u)
-turned-logs a (AwaitsIdent s entity) e =
-    logs-secure_frame a s (λ b t f. on_ident b t entity f) (secure_next s.keys a.link)
+    (λ b t f u. logs-signature b t bearer (due 7 auth_signature_layout.form f) u)
+turned-logs a (AwaitsIdent s bearer) e =
+    logs-secure_frame a s (λ b t f. on_ident b t bearer f) (secure_next s.keys a.link)
     (keys-stay s.keys a.link (opened_parts (sealed_ahead s.keys a.link)) (secure_frame_at (sealed_ahead s.keys a.link)))
     (subst (λ (stage : MonitorStage). has_key stage s.keys.key) (sym e) refl)
-    (λ b t f u. logs-ident b t entity f u)
-turned-logs a (Open s entity) e =
-    logs-secure_frame a s (λ b t f. on_upkeep b t (λ behind. Open behind entity) f) (secure_next s.keys a.link)
+    (λ b t f u. logs-ident b t bearer f u)
+turned-logs a (Open s bearer) e =
+    logs-secure_frame a s (λ b t f. on_open Open b t bearer f) (secure_next s.keys a.link)
     (keys-stay s.keys a.link (opened_parts (sealed_ahead s.keys a.link)) (secure_frame_at (sealed_ahead s.keys a.link)))
     (subst (λ (stage : MonitorStage). has_key stage s.keys.key) (sym e) refl)
-    (λ b t f u. logs-upkeep b t entity f u)
+    (λ b t f u. logs-open b t bearer f u)
 
 pub monitor-logs : (a : MonitorArrival) → LogsTurn a (turned_at a a.link.stage)
 monitor-logs a = turned-logs a a.link.stage refl

@@ -98,6 +98,17 @@ pub record Grants (saved : KeptState) (row : MonitorRow) : Type 0 where
 abbrev pub Judged : KeptState → MonitorRow → Type 0
 Judged saved row = Quiet saved row ⊎ Grants saved row
 
+-- a row that replies to a request
+pub record Replies (saved : KeptState) (row : MonitorRow) : Type 0 where
+  pub link : Link MonitorStage
+  pub goes : row.link ≡ Some link
+  pub save : row.save ≡ changed saved row.own.server.state
+  pub saved_is : row.own.saved ≡ row.own.server.state
+
+-- a row that hands out nothing, or grants, or replies where it may
+abbrev pub Rated : Type 0 → KeptState → MonitorRow → Type 0
+Rated May saved row = Judged saved row ⊎ (May × Replies saved row)
+
 pub some-append : {X : Type 0} (P : X → Type 0) (xs ys : List X) → SomeOf P xs → SomeOf P (xs ++ ys)
 some-append P [] ys h = absurd h
 some-append P (x ∷ xs) ys (inl h) = inl h

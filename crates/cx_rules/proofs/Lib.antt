@@ -1,5 +1,6 @@
 pub mod Abridging
 pub mod AcceptorForgets
+pub mod Affording
 pub mod AlikeRows
 pub mod AskerDrawing
 pub mod AskerForgets
@@ -7,8 +8,14 @@ pub mod ClientForgets
 pub mod Drawing
 pub mod Fitting
 pub mod Granting
+pub mod Handling
+pub mod Keying
+pub mod LoggingIn
 pub mod MonitorForgets
 pub mod MonitorRows
 pub mod Naming
 pub mod Payloads
+pub mod Pieces
 pub mod Quiet
+pub mod Replying
+pub mod Sizes

@@ -1,5 +1,5 @@
 -- What the monitor may forget of its links makes no difference to what it does.
-use Rattle.std.proofs.Common.{◌≡◌, ℕ, ◌==◌, Bool, true, false, List, [], length, Option, Some, None, Result, Ok, Err, refl, sym, ap, subst, ◌∙◌, arith}
+use Rattle.std.proofs.Common.{◌≡◌, ℕ, ◌==◌, Bool, true, false, List, [], ◌++◌, length, Option, Some, None, Result, Ok, Err, refl, sym, ap, subst, ◌∙◌, arith}
 use Rattle.std.specs.Prelude.{IfSome, nat_le, if◌then◌else◌}
 use Rattle.std.specs.List.{AllByRecursion}
 use Rattle.std.specs.Option.{option_map}
@@ -17,6 +17,7 @@ use Rattle.cx_frame.specs.declared.frame.Frame.{Frame}
 use Rattle.cx_journal.specs.declared.faults.BytesFault.{BytesFault}
 use Rattle.cx_journal.specs.declared.faults.BytesFault.TheVariants.{Unexpected}
 use Rattle.cx_base.specs.declared.nodes.NodeName.TheVariants as node
+use Rattle.cx_journal.specs.declared.outcomes.Reason.{Reason}
 use Rattle.cx_journal.specs.declared.outcomes.Reason.TheVariants as reason
 use Rattle.cx_keyring.specs.declared.entries.Entry.{Entry as Principal}
 use Rattle.cx_keyserver.specs.Servers.{Server}
@@ -25,24 +26,31 @@ use Rattle.cx_login.specs.declared.refusals.WrongProof.{WrongProof}
 use Rattle.cx_wire.specs.declared.logins.Authenticate.{Authenticate}
 use Rattle.cx_wire.specs.declared.logins.LoginHello.{LoginHello}
 use Rattle.cx_rules.specs.Abridged.{IsWithin, MonitorStandsFor, abridged_link, abridged_monitor, unsigned}
-use Rattle.cx_rules.specs.Acceptor.{AwaitsBanner, AwaitsHello, AwaitsRequest, AwaitsProof, AwaitsSignature, AwaitsIdent, Open, Finished, finished, misses, on_auth_request, on_banner, on_hello, on_signature}
+use Rattle.cx_rules.specs.Acceptor.{AwaitsBanner, AwaitsHello, AwaitsRequest, AwaitsProof, AwaitsSignature, AwaitsIdent, Open, Finished, finished, misses, on_auth_request, on_banner, on_hello, on_signature, server_ident}
 use Rattle.cx_rules.specs.Greetings.{own_banner, own_hello}
 use Rattle.cx_rules.specs.Inputs.{Input, Opened, NoLink, Bytes, Turn, Gone, Look, Tick, Submit, Restart}
 use Rattle.cx_rules.specs.Links.{Link, link_of}
-use Rattle.cx_rules.specs.Monitor.{Entity, MonitorArrival, MonitorNode, MonitorRow, MonitorStage, Offered}
+use Rattle.cx_rules.specs.Monitor.{MonitorArrival, MonitorNode, MonitorRow, MonitorStage, Offered}
 use Rattle.cx_rules.specs.MonitorLogin.{challenges, done_frame, hands_over, occasion, on_authenticate, on_login_hello, proves, row_by, with_server}
-use Rattle.cx_rules.specs.MonitorRule.{monitor_rule, noted, on_auth_request_more, on_client_ident, on_ident, on_request_payload, on_session_reconnect, opening_monitor, server_ident, session_reset, turn, turned_at, unsaved}
+use Rattle.cx_rules.specs.MonitorRule.{monitor_rule, noted, on_auth_request_more, on_client_ident, on_ident, on_request_payload, on_session_reconnect, opening_monitor, session_reset, turn, turned_at, unsaved}
+use Rattle.cx_rules.specs.KeptStates.{saved_behind}
+use Rattle.cx_rules.specs.MonitorRequests.{heard, on_demand, on_message, on_open, reply_message, request_occasion, responds, sends_reply, serving}
 use Rattle.cx_rules.specs.Payloads.{due, payload}
+use Rattle.cx_rules.specs.Replies.{Responded, answers}
 use Rattle.cx_rules.specs.Rows.{Outcome, arrival, at, carried_out, forgotten, goes_on, new_link, refuses, refuses_bytes, sends_secure}
-use Rattle.cx_rules.specs.Secured.{Keys, Secured, plain_frame, secure_frame, under}
-use Rattle.cx_rules.specs.Upkeep.{on_upkeep}
+use Rattle.cx_rules.specs.Secured.{Keys, SealedFrame, Secured, plain_frame, secure_frame, under}
 use Rattle.cx_rules.specs.Verdicts.{Decided, rotates}
 use Rattle.cx_rules.specs.declared.verdicts.HandedOut.{HandedOut}
 use Rattle.cx_rules.specs.declared.verdicts.Verdict.{Verdict}
 use Rattle.cx_rules.specs.declared.verdicts.Verdict.TheVariants.{Denied, Granted}
+use Rattle.cx_rules.specs.declared.responses.Bearer.{Bearer}
+use Rattle.cx_rules.specs.declared.responses.Demand.{Demand}
+use Rattle.cx_rules.specs.declared.responses.ReplyMade.{ReplyMade}
+use Rattle.cx_rules.specs.declared.responses.Response.{Response}
+use Rattle.cx_rules.specs.declared.responses.Response.TheVariants.{Refuses, Replies}
 use Rattle.cx_rules.proofs.Abridging.{Agree, Alike, carried-alike, fed-agree, found-within, gone-held, gone-stands, idles-agree, node-twice, without-within}
 use Rattle.cx_rules.proofs.AcceptorForgets.{acceptor-forgets, acceptor_link_of, hello-within, misses-alike, request-within, signature-alike}
-use Rattle.cx_rules.proofs.AlikeRows.{RowWithin, SameAhead, SameTurn, banner-turn, plain-turn, plain_sent-within, refuses-alike, same-turn, secure-alike, secure-turn, turns-agree, upkeep-alike}
+use Rattle.cx_rules.proofs.AlikeRows.{RowWithin, SameAhead, SameTurn, banner-turn, goes-alike, plain-turn, plain_sent-within, refuses-alike, same-turn, secure-alike, secure-turn, turns-agree, upkeep-alike}
 
 -- ---- rows with plain frames: their links are whole
 
@@ -78,36 +86,74 @@ request_more-within a offered (Ok more) w = authenticate-within a offered _ w
 
 -- ---- CLIENT_IDENT, SESSION_RECONNECT
 
-client_ident-alike : (a : MonitorArrival) (l : Link MonitorStage) (s : Secured) (entity : Entity) (ident : Result ClientIdent BytesFault) → SameAhead l a.link → IsWithin a.link
-    → Alike abridged_link (on_client_ident (at a l) (unsigned s) entity ident) (on_client_ident a s entity ident)
-client_ident-alike a l s entity (Err why) e w = refuses-alike abridged_link a l (reason.Bytes why) [] e.number
-client_ident-alike a l s entity (Ok ident) e w = by_test (ident.required == 0)
+client_ident-alike : (a : MonitorArrival) (l : Link MonitorStage) (s : Secured) (bearer : Bearer) (ident : Result ClientIdent BytesFault) → SameAhead l a.link → IsWithin a.link
+    → Alike abridged_link (on_client_ident (at a l) (unsigned s) bearer ident) (on_client_ident a s bearer ident)
+client_ident-alike a l s bearer (Err why) e w = refuses-alike abridged_link a l (reason.Bytes why) [] e.number
+client_ident-alike a l s bearer (Ok ident) e w = by_test (ident.required == 0)
   where
     by_test : (plain : Bool) → Alike abridged_link
-        (if plain then sends_secure (at a l) (unsigned s) (λ behind. Open behind entity) [] (server_ident a.own.address) else misses (at a l) (unsigned s) ident.required)
-        (if plain then sends_secure a s (λ behind. Open behind entity) [] (server_ident a.own.address) else misses a s ident.required)
+        (if plain then sends_secure (at a l) (unsigned s) (λ behind. Open behind bearer) [] (server_ident a.own.address 1 0) else misses (at a l) (unsigned s) ident.required)
+        (if plain then sends_secure a s (λ behind. Open behind bearer) [] (server_ident a.own.address 1 0) else misses a s ident.required)
     by_test true =
-        secure-alike abridged_link a l (unsigned s) s (λ behind. Open behind entity) [] (secure_frame s.keys (server_ident a.own.address)) e w (λ x k. refl)
+        secure-alike abridged_link a l (unsigned s) s (λ behind. Open behind bearer) [] (secure_frame s.keys (server_ident a.own.address 1 0)) e w (λ x k. refl)
     by_test false = misses-alike a l s ident.required e
 
-reconnect-alike : (a : MonitorArrival) (l : Link MonitorStage) (s : Secured) (entity : Entity) (reconnect : Result SessionReconnect BytesFault) → SameAhead l a.link → IsWithin a.link
-    → Alike abridged_link (on_session_reconnect (at a l) (unsigned s) entity reconnect) (on_session_reconnect a s entity reconnect)
-reconnect-alike a l s entity (Err why) e w = refuses-alike abridged_link a l (reason.Bytes why) [] e.number
-reconnect-alike a l s entity (Ok reconnect) e w =
-    secure-alike abridged_link a l (unsigned s) s (λ behind. AwaitsIdent behind entity) [] (secure_frame s.keys session_reset) e w (λ x k. refl)
+reconnect-alike : (a : MonitorArrival) (l : Link MonitorStage) (s : Secured) (bearer : Bearer) (reconnect : Result SessionReconnect BytesFault) → SameAhead l a.link → IsWithin a.link
+    → Alike abridged_link (on_session_reconnect (at a l) (unsigned s) bearer reconnect) (on_session_reconnect a s bearer reconnect)
+reconnect-alike a l s bearer (Err why) e w = refuses-alike abridged_link a l (reason.Bytes why) [] e.number
+reconnect-alike a l s bearer (Ok reconnect) e w =
+    secure-alike abridged_link a l (unsigned s) s (λ behind. AwaitsIdent behind bearer) [] (secure_frame s.keys session_reset) e w (λ x k. refl)
 
-ident-alike : (a : MonitorArrival) (l : Link MonitorStage) (s : Secured) (entity : Entity) (f : Frame) → SameAhead l a.link → IsWithin a.link
-    → Alike abridged_link (on_ident (at a l) (unsigned s) entity f) (on_ident a s entity f)
-ident-alike a l s entity f e w = by_tests (f.tag == 8) (f.tag == 11)
+ident-alike : (a : MonitorArrival) (l : Link MonitorStage) (s : Secured) (bearer : Bearer) (f : Frame) → SameAhead l a.link → IsWithin a.link
+    → Alike abridged_link (on_ident (at a l) (unsigned s) bearer f) (on_ident a s bearer f)
+ident-alike a l s bearer f e w = by_tests (f.tag == 8) (f.tag == 11)
   where
     by_tests : (client reconnect : Bool) → Alike abridged_link
-        (if client then on_client_ident (at a l) (unsigned s) entity (payload client_ident_layout.form f)
-        else if reconnect then on_session_reconnect (at a l) (unsigned s) entity (payload session_reconnect_layout.form f) else refuses_bytes (at a l) (Unexpected f.tag) [])
-        (if client then on_client_ident a s entity (payload client_ident_layout.form f)
-        else if reconnect then on_session_reconnect a s entity (payload session_reconnect_layout.form f) else refuses_bytes a (Unexpected f.tag) [])
-    by_tests true reconnect = client_ident-alike a l s entity (payload client_ident_layout.form f) e w
-    by_tests false true = reconnect-alike a l s entity (payload session_reconnect_layout.form f) e w
+        (if client then on_client_ident (at a l) (unsigned s) bearer (payload client_ident_layout.form f)
+        else if reconnect then on_session_reconnect (at a l) (unsigned s) bearer (payload session_reconnect_layout.form f) else refuses_bytes (at a l) (Unexpected f.tag) [])
+        (if client then on_client_ident a s bearer (payload client_ident_layout.form f)
+        else if reconnect then on_session_reconnect a s bearer (payload session_reconnect_layout.form f) else refuses_bytes a (Unexpected f.tag) [])
+    by_tests true reconnect = client_ident-alike a l s bearer (payload client_ident_layout.form f) e w
+    by_tests false true = reconnect-alike a l s bearer (payload session_reconnect_layout.form f) e w
     by_tests false false = refuses-alike abridged_link a l (reason.Bytes (Unexpected f.tag)) [] e.number
+
+-- ---- requests
+
+reply-alike : (a : MonitorArrival) (l : Link MonitorStage) (s : Secured) (bearer : Bearer) (seq : ℕ) (made : ReplyMade) (sealing : Result SealedFrame BytesFault)
+    → SameAhead l a.link → IsWithin a.link
+    → Alike abridged_link (sends_reply Open (at a l) (unsigned s) bearer seq made sealing) (sends_reply Open a s bearer seq made sealing)
+reply-alike a l s bearer seq made (Err why) e w = refuses-alike abridged_link a l (reason.Bytes why) made.seals e.number
+reply-alike a l s bearer seq made (Ok sent) e w =
+    let saved : MonitorRow → MonitorRow = λ row. record row {
+      own = record a.own { saved = saved_behind a.own.saved made.save };
+      sends = sent.bytes;
+      save = made.save;
+      entries = made.entries;
+      seals = made.seals ++ (made.sealed ++ sent.seals);
+    } in
+    let t : Secured = under s sent.keys in
+    let next : Bearer = record bearer { last = seq } in
+    let same = goes-alike abridged_link a l (Open (unsigned t) next) (Open t next) (Open (unsigned t) next) [] [] e w (λ k. refl) (λ k. refl) in
+    record { kept = ap saved same.kept; within = same.within }
+
+responds-alike : (a : MonitorArrival) (l : Link MonitorStage) (s : Secured) (bearer : Bearer) (demand : Demand) (r : Response) → SameAhead l a.link → IsWithin a.link
+    → Alike abridged_link (responds Open (at a l) (unsigned s) bearer demand r) (responds Open a s bearer demand r)
+responds-alike a l s bearer demand (Refuses why drawn) e w = refuses-alike abridged_link a l why drawn e.number
+responds-alike a l s bearer demand (Replies made) e w =
+    reply-alike a l s bearer demand.seq made (secure_frame s.keys (reply_message demand.tid made.body)) e w
+
+demand-alike : (a : MonitorArrival) (l : Link MonitorStage) (s : Secured) (bearer : Bearer) (h : Result Demand Reason) → SameAhead l a.link → IsWithin a.link
+    → Alike abridged_link (on_demand Open (at a l) (unsigned s) bearer h) (on_demand Open a s bearer h)
+demand-alike a l s bearer (Err why) e w = refuses-alike abridged_link a l why [] e.number
+demand-alike a l s bearer (Ok demand) e w =
+    let r : Responded = answers (request_occasion a) a.own.server bearer demand.request in
+    responds-alike (serving a r.server) l s bearer demand r.response e w
+
+open-alike : (a : MonitorArrival) (l : Link MonitorStage) (s : Secured) (bearer : Bearer) (f : Frame) → SameAhead l a.link → IsWithin a.link
+    → Alike abridged_link (on_open Open (at a l) (unsigned s) bearer f) (on_open Open a s bearer f)
+open-alike a l s bearer f e w =
+    upkeep-alike abridged_link (on_message Open (at a l) (unsigned s) bearer) (on_message Open a s bearer) a l s (λ behind. Open behind bearer) f e w (λ x k. refl)
+    (demand-alike a l s bearer (heard bearer f) e w)
 
 -- ---- a turn
 
@@ -137,21 +183,21 @@ turned-alike a (AwaitsProof offered) w =
     same-turn abridged_link (turned_at (at a k) (AwaitsProof offered))
     (plain-turn (at a k) (λ b f. on_auth_request_more b offered (due 5 auth_request_more_layout.form f)) w
     (λ l f v. request_more-within (at a l) offered (due 5 auth_request_more_layout.form f) v))
-turned-alike a (AwaitsSignature s entity) w =
-    let k : Link MonitorStage = record a.link { stage = AwaitsSignature s entity } in
-    let row : MonitorArrival → Keys → Frame → MonitorRow = λ b keys f. on_signature b (under s keys) entity (due 7 auth_signature_layout.form f) in
-    secure-turn abridged_link (at a k) (AwaitsSignature s entity) s.keys row row w
-    (λ l n keys f e v. signature-alike (at a n) l (under s keys) entity (due 7 auth_signature_layout.form f) e v)
-turned-alike a (AwaitsIdent s entity) w =
-    let k : Link MonitorStage = record a.link { stage = AwaitsIdent s entity } in
-    let row : Secured → MonitorArrival → Keys → Frame → MonitorRow = λ t b keys f. on_ident b (under t keys) entity f in
-    secure-turn abridged_link (at a k) (AwaitsIdent (unsigned s) entity) s.keys (row (unsigned s)) (row s) w
-    (λ l n keys f e v. ident-alike (at a n) l (under s keys) entity f e v)
-turned-alike a (Open s entity) w =
-    let k : Link MonitorStage = record a.link { stage = Open s entity } in
-    let row : Secured → MonitorArrival → Keys → Frame → MonitorRow = λ t b keys f. on_upkeep b (under t keys) (λ behind. Open behind entity) f in
-    secure-turn abridged_link (at a k) (Open (unsigned s) entity) s.keys (row (unsigned s)) (row s) w
-    (λ l n keys f e v. upkeep-alike abridged_link (at a n) l (under s keys) (λ behind. Open behind entity) f e v (λ x k. refl))
+turned-alike a (AwaitsSignature s bearer) w =
+    let k : Link MonitorStage = record a.link { stage = AwaitsSignature s bearer } in
+    let row : MonitorArrival → Keys → Frame → MonitorRow = λ b keys f. on_signature b (under s keys) bearer (due 7 auth_signature_layout.form f) in
+    secure-turn abridged_link (at a k) (AwaitsSignature s bearer) s.keys row row w
+    (λ l n keys f e v. signature-alike (at a n) l (under s keys) bearer (due 7 auth_signature_layout.form f) e v)
+turned-alike a (AwaitsIdent s bearer) w =
+    let k : Link MonitorStage = record a.link { stage = AwaitsIdent s bearer } in
+    let row : Secured → MonitorArrival → Keys → Frame → MonitorRow = λ t b keys f. on_ident b (under t keys) bearer f in
+    secure-turn abridged_link (at a k) (AwaitsIdent (unsigned s) bearer) s.keys (row (unsigned s)) (row s) w
+    (λ l n keys f e v. ident-alike (at a n) l (under s keys) bearer f e v)
+turned-alike a (Open s bearer) w =
+    let k : Link MonitorStage = record a.link { stage = Open s bearer } in
+    let row : Secured → MonitorArrival → Keys → Frame → MonitorRow = λ t b keys f. on_open Open b (under t keys) bearer f in
+    secure-turn abridged_link (at a k) (Open (unsigned s) bearer) s.keys (row (unsigned s)) (row s) w
+    (λ l n keys f e v. open-alike (at a n) l (under s keys) bearer f e v)
 
 -- ---- events
 

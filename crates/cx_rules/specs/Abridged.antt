@@ -28,21 +28,21 @@ module _ {Stage : Type 0} where
   IsWithin link = link.taken ≤ length link.received
 
 -- a link of an acceptor, in its stage
-module _ {Pending Peer : Type 0} where
-  abbrev pub abridged_at : Link (Stage Pending Peer) → Stage Pending Peer → Link (Stage Pending Peer)
+module _ {Pending Proven Peer : Type 0} where
+  abbrev pub abridged_at : Link (Stage Pending Proven Peer) → Stage Pending Proven Peer → Link (Stage Pending Proven Peer)
   abridged_at link (AwaitsSignature s peer) = cut link (AwaitsSignature s peer)
   abridged_at link (AwaitsIdent s peer) = cut link (AwaitsIdent (unsigned s) peer)
   abridged_at link (Open s peer) = cut link (Open (unsigned s) peer)
   abridged_at link _ = link
 
-  abbrev pub abridged_link : Link (Stage Pending Peer) → Link (Stage Pending Peer)
+  abbrev pub abridged_link : Link (Stage Pending Proven Peer) → Link (Stage Pending Proven Peer)
   abridged_link link = abridged_at link link.stage
 
 -- a link of one that logs in, in its stage
 abbrev pub abridged_asker_at : Link connector.Stage → connector.Stage → Link connector.Stage
 abridged_asker_at link (connector.AwaitsSignature s login) = cut link (connector.AwaitsSignature s login)
-abridged_asker_at link (connector.AwaitsIdent s) = cut link (connector.AwaitsIdent (unsigned s))
-abridged_asker_at link (connector.Open s) = cut link (connector.Open (unsigned s))
+abridged_asker_at link (connector.AwaitsIdent s session) = cut link (connector.AwaitsIdent (unsigned s) session)
+abridged_asker_at link (connector.Open s requests) = cut link (connector.Open (unsigned s) requests)
 abridged_asker_at link _ = link
 
 abbrev pub abridged_asker_link : Link connector.Stage → Link connector.Stage

@@ -3,8 +3,9 @@
 use Rattle.std.specs.Prelude.{ℕ, ◌==◌, not, List, [], ◌∷◌, ◌++◌, take, Result, Ok, Err, if◌then◌else◌}
 use Rattle.std.specs.List.{list_any}
 use Rattle.cx_base.specs.declared.kinds.EntityType.{EntityType}
+use Rattle.cx_base.specs.declared.addresses.Addr.{Addr}
 use Rattle.cx_control.specs.BadMethod.{bad_method_layout, written_method}
-use Rattle.cx_control.specs.Idents.{ident_missing_features_layout}
+use Rattle.cx_control.specs.Idents.{ident_missing_features_layout, server_ident_layout}
 use Rattle.cx_control.specs.declared.auth.AuthRequest.{AuthRequest}
 use Rattle.cx_control.specs.declared.auth.AuthSignature.{AuthSignature}
 use Rattle.cx_control.specs.declared.hello.Hello.{Hello}
@@ -13,48 +14,53 @@ use Rattle.cx_frame.specs.declared.frame.Frame.{Frame}
 use Rattle.cx_journal.specs.declared.faults.BytesFault.{BytesFault}
 use Rattle.cx_journal.specs.declared.faults.BytesFault.TheVariants.{Features}
 use Rattle.cx_journal.specs.declared.faults.LoginFault.{LoginFault}
-use Rattle.cx_journal.specs.declared.faults.LoginFault.TheVariants.{Method, Mode, SignatureWrong}
+use Rattle.cx_journal.specs.declared.faults.LoginFault.TheVariants.{Method, Mode}
+use Rattle.cx_journal.specs.declared.outcomes.Reason.{Reason}
 use Rattle.cx_journal.specs.declared.outcomes.Reason.TheVariants.{Login}
 use Rattle.cx_steps.specs.declared.seals.SealEntry.{SealEntry}
 use Rattle.cx_rules.specs.Links.{Link}
 use Rattle.cx_rules.specs.Payloads.{control}
 use Rattle.cx_rules.specs.Rows.{Arrival, Row, goes_on, refuses, refuses_bytes, sends_plain, unless_refused}
-use Rattle.cx_rules.specs.Secured.{SealedFrame, Secured, acceptor_keys, is_signed, plain_frame, secure_frame, signature_found, signed_frame}
+use Rattle.cx_rules.specs.Secured.{SealedFrame, Secured, acceptor_keys, plain_frame, secure_frame, signature_found, signed_frame}
+use Rattle.cx_rules.specs.Signatures.{unless_unsigned}
 use Rattle.cx_rules.specs.Greetings.{own_hello}
 
--- how far a link has come: what it waits for. Of a role are `Pending`, what it knows of a peer that has still to prove itself, and `Peer`,
--- what it knows of one that has
-pub data Stage (Pending Peer : Type 0) : Type 0 where
-  AwaitsBanner : Stage Pending Peer
-  AwaitsHello : Stage Pending Peer
-  AwaitsRequest : Stage Pending Peer
-  AwaitsProof : Pending → Stage Pending Peer
-  AwaitsSignature : Secured → Peer → Stage Pending Peer
-  AwaitsIdent : Secured → Peer → Stage Pending Peer
-  Open : Secured → Peer → Stage Pending Peer
+-- how far a link has come: what it waits for. Of a role are `Pending`, what it knows of a peer that has still to prove itself,
+-- `Proven`, what it knows of one that has, and `Peer`, of one whose link is open
+pub data Stage (Pending Proven Peer : Type 0) : Type 0 where
+  AwaitsBanner : Stage Pending Proven Peer
+  AwaitsHello : Stage Pending Proven Peer
+  AwaitsRequest : Stage Pending Proven Peer
+  AwaitsProof : Pending → Stage Pending Proven Peer
+  AwaitsSignature : Secured → Proven → Stage Pending Proven Peer
+  AwaitsIdent : Secured → Proven → Stage Pending Proven Peer
+  Open : Secured → Peer → Stage Pending Proven Peer
 
 -- AUTH_BAD_METHOD with a code: the method is cephx
 abbrev pub bad_method : ℕ → Frame
 bad_method code = control 3 bad_method_layout.form (written_method (record { method = 2; result = code }))
 
-module _ {Own Pending Peer : Type 0} where
+module _ {Own Pending Proven Peer : Type 0} where
   -- AUTH_BAD_METHOD is sent, with a code; the link is shut, and why is entered
-  abbrev pub denies : Arrival Own (Stage Pending Peer) → ℕ → LoginFault → List SealEntry → Row Own (Stage Pending Peer)
-  denies a code why seals =
-      record (refuses a (Login why) seals) { sends = frame_text (bad_method code) }
+  abbrev pub denies_for : Arrival Own (Stage Pending Proven Peer) → ℕ → Reason → List SealEntry → Row Own (Stage Pending Proven Peer)
+  denies_for a code why seals = record (refuses a why seals) { sends = frame_text (bad_method code) }
+
+  -- the same for what is wrong with a login
+  abbrev pub denies : Arrival Own (Stage Pending Proven Peer) → ℕ → LoginFault → List SealEntry → Row Own (Stage Pending Proven Peer)
+  denies a code why seals = denies_for a code (Login why) seals
 
   -- ---- banner, HELLO, AUTH_REQUEST
 
   -- the peer's banner: HELLO is sent
-  abbrev pub on_banner : EntityType → Arrival Own (Stage Pending Peer) → Row Own (Stage Pending Peer)
+  abbrev pub on_banner : EntityType → Arrival Own (Stage Pending Proven Peer) → Row Own (Stage Pending Proven Peer)
   on_banner kind a = sends_plain a AwaitsHello [] (own_hello kind)
 
-  abbrev pub on_hello : Arrival Own (Stage Pending Peer) → Result Hello BytesFault → Row Own (Stage Pending Peer)
+  abbrev pub on_hello : Arrival Own (Stage Pending Proven Peer) → Result Hello BytesFault → Row Own (Stage Pending Proven Peer)
   on_hello a read = unless_refused a [] read (λ hello. goes_on a AwaitsRequest [] [])
 
   -- AUTH_REQUEST: the method has to be 2, cephx, and 2, the secure mode, among the modes; what follows is for the role
-  abbrev pub on_auth_request : (Arrival Own (Stage Pending Peer) → List ℕ → Row Own (Stage Pending Peer))
-      → Arrival Own (Stage Pending Peer) → Result AuthRequest BytesFault → Row Own (Stage Pending Peer)
+  abbrev pub on_auth_request : (Arrival Own (Stage Pending Proven Peer) → List ℕ → Row Own (Stage Pending Proven Peer))
+      → Arrival Own (Stage Pending Proven Peer) → Result AuthRequest BytesFault → Row Own (Stage Pending Proven Peer)
   on_auth_request by_role a read = unless_refused a [] read (λ request.
       if not (request.method == 2) then denies a 95 Method []
       else if not (list_any (λ mode. mode == 2) request.modes) then denies a 95 Mode []
@@ -62,19 +68,28 @@ module _ {Own Pending Peer : Type 0} where
 
   -- ---- AUTH_SIGNATURE, CLIENT_IDENT
 
-  -- the peer's signature has to cover all that was sent before one's own
-  abbrev pub on_signature : Arrival Own (Stage Pending Peer) → Secured → Peer → Result AuthSignature BytesFault → Row Own (Stage Pending Peer)
-  on_signature a s peer read = unless_refused a [] read (λ found.
-      if is_signed s found.signature
-      then goes_on a (AwaitsIdent s peer) [] (signature_found s ∷ [])
-      else refuses a (Login SignatureWrong) [])
+  -- behind the peer's signature CLIENT_IDENT is waited for
+  abbrev pub on_signature : Arrival Own (Stage Pending Proven Peer) → Secured → Proven → Result AuthSignature BytesFault → Row Own (Stage Pending Proven Peer)
+  on_signature a s peer read = unless_unsigned a s read (goes_on a (AwaitsIdent s peer) [] (signature_found s ∷ []))
 
   -- a peer that requires features is told that they are missing, and refused for them
-  abbrev pub missing_told : Arrival Own (Stage Pending Peer) → ℕ → Result SealedFrame BytesFault → Row Own (Stage Pending Peer)
+  abbrev pub missing_told : Arrival Own (Stage Pending Proven Peer) → ℕ → Result SealedFrame BytesFault → Row Own (Stage Pending Proven Peer)
   missing_told a features made = unless_refused a [] made (λ sealed. record (refuses_bytes a (Features features) sealed.seals) { sends = sealed.bytes })
 
-  abbrev pub misses : Arrival Own (Stage Pending Peer) → Secured → ℕ → Row Own (Stage Pending Peer)
+  abbrev pub misses : Arrival Own (Stage Pending Proven Peer) → Secured → ℕ → Row Own (Stage Pending Proven Peer)
   misses a s features = missing_told a features (secure_frame s.keys (control 10 ident_missing_features_layout.form (record { features = features })))
+
+-- SERVER_IDENT of an acceptor at this address: flags (1 for a lossy session) and a cookie are the role's
+abbrev pub server_ident : Addr → ℕ → ℕ → Frame
+server_ident address flags cookie = control 9 server_ident_layout.form (record {
+  addr = address;
+  gid = 0;
+  global_seq = 0;
+  supported = 0;
+  required = 0;
+  flags = flags;
+  cookie = cookie;
+})
 
 -- ---- AUTH_DONE
 

@@ -1,20 +1,22 @@
--- What a client does at each event, as far as its login goes.
+-- What a client does at each event, as far as its links to the monitor go.
 use Rattle.std.specs.Prelude.{ℕ, Bool, false, List, [], ◌∷◌, map, Option, Some, None, if◌then◌else◌}
 use Rattle.std.specs.List.{list_all}
 use Rattle.cx_journal.specs.declared.entries.Entry.TheVariants as entry
 use Rattle.cx_base.specs.declared.nodes.NodeName.{NodeName}
 use Rattle.cx_base.specs.declared.nodes.NodeName.TheVariants as node
-use Rattle.cx_journal.specs.declared.outcomes.Reason.TheVariants.{Lost}
+use Rattle.cx_journal.specs.declared.outcomes.Reason.TheVariants.{Lost, NoSession}
 use Rattle.cx_steps.specs.Nothing.{nothing}
 use Rattle.cx_steps.specs.declared.events.Command.{Command}
 use Rattle.cx_steps.specs.declared.events.Command.TheVariants as command
 use Rattle.cx_steps.specs.declared.events.Peer.{Peer}
 use Rattle.cx_steps.specs.declared.events.Peer.TheVariants as peer
-use Rattle.cx_rules.specs.Connector.{Stage, AwaitsBanner, is_open, turned_at}
+use Rattle.cx_rules.specs.Connector.{Stage, AwaitsBanner, Open, is_open, is_quiet, kept_open, turned_at}
 use Rattle.cx_rules.specs.Holdings.{Asker, afresh}
 use Rattle.cx_rules.specs.Inputs.{Input, Opened, NoLink, Bytes, Turn, Gone, Look, Tick, Submit, Restart}
 use Rattle.cx_rules.specs.Links.{Link, link_of}
-use Rattle.cx_rules.specs.Rows.{Node, Outcome, arrival, carried_out, fed, forgotten, goes_on, idles, lifted_turn, new_link, opens_none, refused_entry, turns}
+use Rattle.cx_rules.specs.Rows.{Node, Outcome, arrival, carried_out, fed, forgotten, goes_on, idles, lifted, lifted_turn, new_link, opens_none, refused_entry, turns}
+use Rattle.cx_rules.specs.Requests.{Requests, asks_tickets, first_open}
+use Rattle.cx_rules.specs.Secured.{Secured}
 use Rattle.cx_rules.specs.Greetings.{own_banner}
 
 -- a client: itself as one that logs in, and the sum of the services for which its last login asks tickets
@@ -48,13 +50,25 @@ logs_in c services = record {
   out = record nothing { opens = peer.Monitor ∷ []; shuts = map (λ link. link.number) c.links };
 }
 
-abbrev pub submits : ClientNode → Command → Outcome ClientNode
-submits c (command.Login services) = logs_in c services
-submits c (command.Renew services) = idles c
-submits c command.Fetch = idles c
-submits c (command.Connect daemon lossy) = idles c
-submits c (command.Send daemon operation) = idles c
-submits c (command.Drop session) = idles c
+-- ---- Renew
+
+-- tickets are asked for on the link to the monitor that is open; where none is, that is entered with link 0, and nothing is shut
+abbrev pub renews_on : ClientNode → ℕ → ℕ → List ℕ → Option (Link Stage × (Secured × Requests)) → Outcome ClientNode
+renews_on c services reading draw None = record { state = c; out = record nothing { entries = refused_entry (me c.own) 0 NoSession ∷ [] } }
+renews_on c services reading draw (Some (link, (s, requests))) =
+    carried_out c link.number false
+    (lifted (with_asker c.own) (asks_tickets Open (arrival (me c.own) c.own.asker link reading draw) s requests services))
+
+abbrev pub renews : ClientNode → ℕ → ℕ → List ℕ → Outcome ClientNode
+renews c services reading draw = renews_on c services reading draw (first_open kept_open c.links)
+
+abbrev pub submits : ClientNode → ℕ → List ℕ → Command → Outcome ClientNode
+submits c reading draw (command.Login services) = logs_in c services
+submits c reading draw (command.Renew services) = renews c services reading draw
+submits c reading draw command.Fetch = idles c
+submits c reading draw (command.Connect daemon lossy) = idles c
+submits c reading draw (command.Send daemon operation) = idles c
+submits c reading draw (command.Drop session) = idles c
 
 -- ---- links that open, that can't be opened, and that are gone
 
@@ -92,11 +106,11 @@ client_rule c (NoLink peer) reading draw = opens_none c (me c.own)
 client_rule c (Bytes number bytes) reading draw = fed c bytes (link_of number c.links)
 client_rule c (Turn number) reading draw = turn c reading draw (link_of number c.links)
 client_rule c (Gone number) reading draw = loses c (link_of number c.links)
-client_rule c (Submit command) reading draw = submits c command
+client_rule c (Submit command) reading draw = submits c reading draw command
 client_rule c Restart reading draw = restarted c
 client_rule c (Look view) reading draw = idles c
 client_rule c Tick reading draw = idles c
 
--- a client is idle where no live link waits to be open
+-- a client is idle where each live link is open, and no request waits on it
 abbrev pub is_idle : ClientNode → Bool
-is_idle c = list_all (λ link. is_open link.stage) c.links
+is_idle c = list_all (λ link. is_quiet link.stage) c.links

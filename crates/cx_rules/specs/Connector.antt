@@ -11,12 +11,11 @@ use Rattle.cx_control.specs.declared.auth.AuthReplyMore.{AuthReplyMore}
 use Rattle.cx_control.specs.declared.auth.AuthSignature.{AuthSignature}
 use Rattle.cx_control.specs.declared.hello.Hello.{Hello}
 use Rattle.cx_control.specs.declared.idents.IdentMissingFeatures.{IdentMissingFeatures}
-use Rattle.cx_control.specs.declared.idents.ServerIdent.{ServerIdent}
 use Rattle.cx_dice.specs.Draws.{challenge_of, cookie_of}
 use Rattle.cx_frame.specs.declared.frame.Frame.{Frame}
 use Rattle.cx_journal.specs.declared.faults.BytesFault.{BytesFault}
 use Rattle.cx_journal.specs.declared.faults.BytesFault.TheVariants.{Features}
-use Rattle.cx_journal.specs.declared.faults.LoginFault.TheVariants.{Mode, SignatureWrong, Unopened}
+use Rattle.cx_journal.specs.declared.faults.LoginFault.TheVariants.{Mode, Unopened}
 use Rattle.cx_journal.specs.declared.outcomes.Reason.TheVariants as reason
 use Rattle.cx_journal.specs.declared.premises.KeyKind.TheVariants as kind
 use Rattle.cx_login.specs.Client.{Ask, authenticate}
@@ -31,9 +30,10 @@ use Rattle.cx_wire.specs.declared.logins.ServerChallenge.{ServerChallenge}
 use Rattle.cx_rules.specs.Fronts.{banner_next, plain_next, secure_next}
 use Rattle.cx_rules.specs.Holdings.{Asker, Holdings, hello_gid, held_login, holds_nothing, unexpired}
 use Rattle.cx_rules.specs.Payloads.{control, due, payload, whole}
+use Rattle.cx_rules.specs.Requests.{Requests, is_waiting, on_open, on_server_ident}
 use Rattle.cx_rules.specs.Rows.{Arrival, Row, Turned, at, goes_on, refuses, refuses_bytes, sends_plain, sends_secure, turned_by, unless_refused, with_opened}
-use Rattle.cx_rules.specs.Secured.{SealedFrame, Secured, plain_frame, under, connector_keys, is_signed, signature_found, signed_frame}
-use Rattle.cx_rules.specs.Upkeep.{on_upkeep}
+use Rattle.cx_rules.specs.Secured.{SealedFrame, Secured, plain_frame, under, connector_keys, signature_found, signed_frame}
+use Rattle.cx_rules.specs.Signatures.{unless_unsigned}
 use Rattle.cx_rules.specs.Greetings.{no_addr, own_hello}
 
 -- a login that was opened, and its global id, until the monitor's signature is found right
@@ -41,15 +41,16 @@ pub record Login : Type 0 where
   pub gid : ℕ
   pub opened : LoggedIn
 
--- how far a link to the monitor has come: what it waits for. A number is the sum of the services for which tickets are asked
+-- how far a link to the monitor has come: what it waits for. A number is the sum of the services for which tickets are asked;
+-- the session key of the ticket for AUTH opens what is told on the link later
 pub data Stage : Type 0 where
   AwaitsBanner : ℕ → Stage
   AwaitsHello : ℕ → Stage
   AwaitsChallenge : ℕ → Stage
   AwaitsDone : Stage
   AwaitsSignature : Secured → Login → Stage
-  AwaitsIdent : Secured → Stage
-  Open : Secured → Stage
+  AwaitsIdent : Secured → List ℕ → Stage
+  Open : Secured → Requests → Stage
 
 abbrev pub AskerArrival : Type 0
 AskerArrival = Arrival Asker Stage
@@ -133,35 +134,30 @@ on_done a read = unless_refused a [] read (λ done.
 
 -- ---- AUTH_SIGNATURE
 
--- CLIENT_IDENT: the session with the monitor is lossy
-abbrev pub client_ident : Asker → ℕ → ℕ → Frame
-client_ident asker gid cookie = control 8 client_ident_layout.form (record {
+-- CLIENT_IDENT under a global id, with flags (1 for a lossy session) and a cookie
+abbrev pub client_ident : Asker → ℕ → ℕ → ℕ → Frame
+client_ident asker gid flags cookie = control 8 client_ident_layout.form (record {
   addr = asker.address;
   target = no_addr;
   gid = gid;
   global_seq = asker.global_seq;
   supported = 0;
   required = 0;
-  flags = 1;
+  flags = flags;
   cookie = cookie;
 })
 
--- the login is held, and CLIENT_IDENT is sent with a drawn cookie
+-- the login is held, and CLIENT_IDENT is sent with a drawn cookie: the session with the monitor is lossy
 abbrev pub identifies : AskerArrival → Secured → Login → AskerRow
 identifies a s login =
     let cookie = cookie_of a.draw in
-    sends_secure (holding a (held_login a.own.holdings login.gid login.opened)) s AwaitsIdent
-    (signature_found s ∷ entry.Drawn (draw.Cookie cookie) ∷ []) (client_ident a.own login.gid cookie)
+    sends_secure (holding a (held_login a.own.holdings login.gid login.opened)) s (λ behind. AwaitsIdent behind login.opened.auth.session)
+    (signature_found s ∷ entry.Drawn (draw.Cookie cookie) ∷ []) (client_ident a.own login.gid 1 cookie)
 
 abbrev pub on_signature : AskerArrival → Secured → Login → Result AuthSignature BytesFault → AskerRow
-on_signature a s login read = unless_refused a [] read (λ found.
-    if is_signed s found.signature then identifies a s login else refuses a (reason.Login SignatureWrong) [])
+on_signature a s login read = unless_unsigned a s read (identifies a s login)
 
 -- ---- SERVER_IDENT, IDENT_MISSING_FEATURES
-
--- the link is open
-abbrev pub on_server_ident : AskerArrival → Secured → Result ServerIdent BytesFault → AskerRow
-on_server_ident a s read = unless_refused a [] read (λ ident. goes_on a (Open s) [] [])
 
 abbrev pub on_missing_features : AskerArrival → Result IdentMissingFeatures BytesFault → AskerRow
 on_missing_features a read = unless_refused a [] read (λ missing. refuses_bytes a (Features missing.features) [])
@@ -178,10 +174,10 @@ while_proved a f =
     if f.tag == 3 then on_bad_method a (payload bad_method_layout.form f)
     else on_done a (due 6 auth_done_layout.form f)
 
-abbrev pub while_identified : AskerArrival → Secured → Frame → AskerRow
-while_identified a s f =
+abbrev pub while_identified : AskerArrival → Secured → List ℕ → Frame → AskerRow
+while_identified a s session f =
     if f.tag == 10 then on_missing_features a (payload ident_missing_features_layout.form f)
-    else on_server_ident a s (due 9 server_ident_layout.form f)
+    else on_server_ident Open a s session (due 9 server_ident_layout.form f)
 
 -- by the stage of the link
 abbrev pub turned_at : AskerArrival → Stage → Turned Asker Stage
@@ -191,12 +187,22 @@ turned_at a (AwaitsChallenge asked) = turned_by (λ (link, f) _. while_challenge
 turned_at a AwaitsDone = turned_by (λ (link, f) _. while_proved (at a link) f) (plain_next a.link)
 turned_at a (AwaitsSignature s login) =
     turned_by (λ (link, f, keys) opened. with_opened opened (on_signature (at a link) (under s keys) login (due 7 auth_signature_layout.form f))) (secure_next s.keys a.link)
-turned_at a (AwaitsIdent s) =
-    turned_by (λ (link, f, keys) opened. with_opened opened (while_identified (at a link) (under s keys) f)) (secure_next s.keys a.link)
-turned_at a (Open s) =
-    turned_by (λ (link, f, keys) opened. with_opened opened (on_upkeep (at a link) (under s keys) Open f)) (secure_next s.keys a.link)
+turned_at a (AwaitsIdent s session) =
+    turned_by (λ (link, f, keys) opened. with_opened opened (while_identified (at a link) (under s keys) session f)) (secure_next s.keys a.link)
+turned_at a (Open s requests) =
+    turned_by (λ (link, f, keys) opened. with_opened opened (on_open Open (at a link) (under s keys) requests f)) (secure_next s.keys a.link)
 
 -- whether a link is open
 abbrev pub is_open : Stage → Bool
-is_open (Open s) = true
+is_open (Open s requests) = true
 is_open _ = false
+
+-- what an open link keeps
+abbrev pub kept_open : Stage → Option (Secured × Requests)
+kept_open (Open s requests) = Some (s, requests)
+kept_open _ = None
+
+-- whether a link is open and no request waits on it
+abbrev pub is_quiet : Stage → Bool
+is_quiet (Open s requests) = not (is_waiting requests)
+is_quiet _ = false

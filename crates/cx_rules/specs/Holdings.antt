@@ -6,6 +6,7 @@ use Rattle.cx_base.specs.declared.kinds.EntityType.{EntityType}
 use Rattle.cx_base.specs.declared.kinds.EntityType.TheVariants.{Mon, Mds, Osd, Client, Mgr, Auth}
 use Rattle.cx_login.specs.Held.{Held}
 use Rattle.cx_login.specs.declared.client.LoggedIn.{LoggedIn}
+use Rattle.cx_rotate.specs.declared.views.View.{View}
 
 -- the global id, once one was given, and the tickets, one a service
 pub record Holdings : Type 0 where
@@ -59,7 +60,7 @@ modes_of false true = 2 ∷ []
 modes_of false false = []
 
 -- one that logs in: its name and its secret, its address, the modes that it offers (1 crc, 2 secure), its count of connections to daemons,
--- and what it holds
+-- what it holds, and, where it is a daemon, the generations that it was told last
 pub record Asker : Type 0 where
   pub name : Name
   pub secret : List ℕ
@@ -67,7 +68,12 @@ pub record Asker : Type 0 where
   pub modes : List ℕ
   pub global_seq : ℕ
   pub holdings : Holdings
+  pub view : View
+
+-- nothing was told yet
+abbrev pub no_view : View
+no_view = record { generations = []; asked = None }
 
 -- as it is at its start
 abbrev pub afresh : Asker → Asker
-afresh asker = record asker { global_seq = 0; holdings = holds_nothing }
+afresh asker = record asker { global_seq = 0; holdings = holds_nothing; view = no_view }

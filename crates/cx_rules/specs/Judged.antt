@@ -5,6 +5,7 @@ use Rattle.cx_journal.specs.declared.entries.Entry.{Entry}
 use Rattle.cx_journal.specs.declared.entries.Entry.TheVariants as entry
 use Rattle.cx_journal.specs.declared.premises.KeyKind.{KeyKind}
 use Rattle.cx_journal.specs.declared.premises.KeyKind.TheVariants as kind
+use Rattle.cx_frame.specs.declared.frame.Frame.{Frame}
 use Rattle.cx_steps.specs.Onto.{SomeOf}
 use Rattle.cx_steps.specs.declared.effects.Effects.{Effects}
 use Rattle.cx_steps.specs.declared.effects.Piece.{Piece}
@@ -18,11 +19,14 @@ use Rattle.cx_rules.specs.Acceptor.{AwaitsProof, AwaitsSignature, AwaitsIdent, O
 use Rattle.cx_rules.specs.Connector.{AskerArrival}
 use Rattle.cx_rules.specs.Connector as connector
 use Rattle.cx_rules.specs.Holdings.{Asker}
-use Rattle.cx_rules.specs.Inputs.{Input, Opened}
+use Rattle.cx_rules.specs.Fronts.{Next, secure_next}
+use Rattle.cx_rules.specs.Inputs.{Input, Opened, Turn}
 use Rattle.cx_rules.specs.KeptStates.{changed}
 use Rattle.cx_rules.specs.Links.{Link, link_of}
 use Rattle.cx_rules.specs.Monitor.{Monitor, MonitorArrival, MonitorNode, MonitorStage}
 use Rattle.cx_rules.specs.Rows.{Node, Outcome, Turned, Waits, Refuses, Handles}
+use Rattle.cx_rules.specs.Secured.{Keys, Secured}
+use Rattle.cx_rules.specs.declared.responses.Bearer.{Bearer}
 
 -- ---- what is handed out
 
@@ -68,9 +72,30 @@ pub record IsGranting (before : MonitorNode) (o : Outcome MonitorNode) : Type 0 
   pub save : o.out.save ≡ changed before.own.saved o.state.own.server.state
   pub saved : o.state.own.saved ≡ o.state.own.server.state
 
--- each step does the one or the other
-abbrev pub IsJudged : MonitorNode → Outcome MonitorNode → Type 0
-IsJudged before o = IsQuiet before o ⊎ IsGranting before o
+-- on this link, which is open, a whole frame stands next, which opens
+pub record HearsFrame (link : Link MonitorStage) : Type 0 where
+  pub secured : Secured
+  pub bearer : Bearer
+  pub stage : link.stage ≡ Open secured bearer
+  pub behind : Link MonitorStage × Frame × Keys
+  pub opened : List SealEntry
+  pub next : secure_next secured.keys link ≡ Next behind opened
+
+-- a step that replies to a request: a frame opens on a link that is open, which goes on; behind it the saved state is the key server's, and it is
+-- saved where it differs from the one that was saved before
+pub record IsReplying (before : MonitorNode) (input : Input) (o : Outcome MonitorNode) : Type 0 where
+  pub number : ℕ
+  pub turn : input ≡ Turn number
+  pub link : Link MonitorStage
+  pub found : link_of number before.links ≡ Some link
+  pub hears : HearsFrame link
+  pub shuts : o.out.shuts ≡ []
+  pub save : o.out.save ≡ changed before.own.saved o.state.own.server.state
+  pub saved : o.state.own.saved ≡ o.state.own.server.state
+
+-- each step does one of these
+abbrev pub IsJudged : MonitorNode → Input → Outcome MonitorNode → Type 0
+IsJudged before input o = IsQuiet before o ⊎ (IsGranting before o ⊎ IsReplying before input o)
 
 -- ---- links
 
@@ -92,20 +117,20 @@ LogsDraw mark seals = SomeOf (λ logged. logged ≡ seal.Drawn mark) seals
 
 -- the key of a link that is secured
 abbrev pub has_key : MonitorStage → List ℕ → Type 0
-has_key (AwaitsSignature s entity) key = s.keys.key ≡ key
-has_key (AwaitsIdent s entity) key = s.keys.key ≡ key
-has_key (Open s entity) key = s.keys.key ≡ key
+has_key (AwaitsSignature s bearer) key = s.keys.key ≡ key
+has_key (AwaitsIdent s bearer) key = s.keys.key ≡ key
+has_key (Open s bearer) key = s.keys.key ≡ key
 has_key _ key = ⊥
 
 -- the stage in which a link goes on holds what was drawn, and that is logged: a challenge, the key of the connection, and the session key
 -- that signs; later stages have the key of before
 abbrev pub LogsStage : MonitorArrival → List SealEntry → MonitorStage → Type 0
 LogsStage a seals (AwaitsProof offered) = (offered.offer.challenge ≡ challenge_of a.draw) × LogsDraw (draw.Challenge (challenge_of a.draw)) seals
-LogsStage a seals (AwaitsSignature s entity) =
-    (s.keys.key ≡ take 16 (connection_of a.draw)) × LogsDraw (draw.Connection (connection_of a.draw) entity.name) seals
-    × (s.session ≡ session_of Auth a.draw) × LogsDraw (draw.Session (session_of Auth a.draw) entity.name) seals
-LogsStage a seals (AwaitsIdent s entity) = has_key a.link.stage s.keys.key
-LogsStage a seals (Open s entity) = has_key a.link.stage s.keys.key
+LogsStage a seals (AwaitsSignature s bearer) =
+    (s.keys.key ≡ take 16 (connection_of a.draw)) × LogsDraw (draw.Connection (connection_of a.draw) bearer.name) seals
+    × (s.session ≡ session_of Auth a.draw) × LogsDraw (draw.Session (session_of Auth a.draw) bearer.name) seals
+LogsStage a seals (AwaitsIdent s bearer) = has_key a.link.stage s.keys.key
+LogsStage a seals (Open s bearer) = has_key a.link.stage s.keys.key
 LogsStage a seals _ = Unit {0}
 
 abbrev pub LogsLink : MonitorArrival → List SealEntry → Option (Link MonitorStage) → Type 0
@@ -121,7 +146,7 @@ LogsTurn a (Handles row) = LogsLink a row.seals row.link
 -- so does one at a connector: the challenge of its proof, and the cookie of its CLIENT_IDENT
 abbrev pub AskerLogsStage : AskerArrival → List SealEntry → connector.Stage → Type 0
 AskerLogsStage a seals connector.AwaitsDone = LogsDraw (draw.Challenge (challenge_of a.draw)) seals
-AskerLogsStage a seals (connector.AwaitsIdent s) = LogsDraw (draw.Cookie (cookie_of a.draw)) seals
+AskerLogsStage a seals (connector.AwaitsIdent s session) = LogsDraw (draw.Cookie (cookie_of a.draw)) seals
 AskerLogsStage a seals _ = Unit {0}
 
 abbrev pub AskerLogsLink : AskerArrival → List SealEntry → Option (Link connector.Stage) → Type 0

@@ -1,5 +1,6 @@
 pub mod Abridged
 pub mod Acceptor
+pub mod Answering
 pub mod ClientRule
 pub mod Connector
 pub mod Fronts
@@ -19,6 +20,7 @@ pub mod Replies
 pub mod Requests
 pub mod Rows
 pub mod Secured
+pub mod Signatures
 pub mod Tickets
 pub mod Upkeep
 pub mod Verdicts

@@ -23,6 +23,7 @@ use Rattle.cx_rules.specs.Monitor.{MonitorArrival, MonitorRow, Offered}
 use Rattle.cx_rules.specs.Payloads.{control}
 use Rattle.cx_rules.specs.Rows.{sends_plain, unless_refused}
 use Rattle.cx_rules.specs.Verdicts.{Decided, Occasion, rotates}
+use Rattle.cx_rules.specs.declared.responses.Bearer.{Bearer}
 use Rattle.cx_rules.specs.declared.verdicts.HandedOut.{HandedOut}
 use Rattle.cx_rules.specs.declared.verdicts.Verdict.{Verdict}
 use Rattle.cx_rules.specs.declared.verdicts.Verdict.TheVariants.{Denied, Granted}
@@ -55,11 +56,15 @@ occasion a = record { saved = a.own.saved; reading = a.reading; draw = a.draw }
 abbrev pub done_frame : List ℕ → Frame
 done_frame payload = record { tag = 6; segments = record { align = 8; bytes = payload } ∷ [] }
 
+-- the entity, as the monitor knows it from now on: no message has come on its link
+abbrev pub bearer_of : HandedOut → Bearer
+bearer_of h = record { name = h.name; gid = h.gid; session = h.session; last = 0 }
+
 -- AUTH_DONE and AUTH_SIGNATURE are sent, where they can be, behind what is saved
 abbrev pub hands_over : MonitorArrival → HandedOut → Result Finished BytesFault → MonitorRow
 hands_over a h finishing = unless_refused a h.seals finishing (λ done. record {
   own = record a.own { saved = saved_behind a.own.saved h.save };
-  link = Some (record a.link { stage = AwaitsSignature done.secured (record { name = h.name; gid = h.gid }) });
+  link = Some (record a.link { stage = AwaitsSignature done.secured (bearer_of h) });
   sends = done.bytes;
   save = h.save;
   entries = h.entries;

@@ -3,7 +3,7 @@ use Rattle.std.specs.Prelude.{ℕ, ◌==◌, List, [], ◌∷◌, length, Bool, 
 use Rattle.cx_base.specs.declared.kinds.EntityType.TheVariants.{Mon}
 use Rattle.cx_control.specs.Auth.{auth_request_layout, auth_request_more_layout, auth_signature_layout}
 use Rattle.cx_control.specs.Hello.{hello_layout}
-use Rattle.cx_control.specs.Idents.{client_ident_layout, server_ident_layout}
+use Rattle.cx_control.specs.Idents.{client_ident_layout}
 use Rattle.cx_control.specs.Reconnects.{session_reconnect_layout, session_reset_layout}
 use Rattle.cx_control.specs.declared.auth.AuthRequestMore.{AuthRequestMore}
 use Rattle.cx_control.specs.declared.idents.ClientIdent.{ClientIdent}
@@ -18,41 +18,39 @@ use Rattle.cx_base.specs.declared.addresses.Addr.{Addr}
 use Rattle.cx_keyserver.specs.Servers.{Server}
 use Rattle.cx_steps.specs.Nothing.{nothing}
 use Rattle.cx_wire.specs.Logins.{authenticate_layout, login_hello_layout}
-use Rattle.cx_rules.specs.Acceptor.{AwaitsBanner, AwaitsHello, AwaitsRequest, AwaitsProof, AwaitsSignature, AwaitsIdent, Open, misses, on_auth_request, on_banner, on_hello, on_signature}
+use Rattle.cx_rules.specs.Acceptor.{AwaitsBanner, AwaitsHello, AwaitsRequest, AwaitsProof, AwaitsSignature, AwaitsIdent, Open, misses, on_auth_request, on_banner, on_hello, on_signature, server_ident}
 use Rattle.cx_rules.specs.Fronts.{banner_next, plain_next, secure_next}
 use Rattle.cx_rules.specs.Inputs.{Input, Opened, NoLink, Bytes, Turn, Gone, Look, Tick, Submit, Restart}
 use Rattle.cx_rules.specs.Links.{Link, link_of}
-use Rattle.cx_rules.specs.Monitor.{Entity, Monitor, MonitorArrival, MonitorNode, MonitorRow, MonitorStage, Offered}
+use Rattle.cx_rules.specs.Monitor.{Monitor, MonitorArrival, MonitorNode, MonitorRow, MonitorStage, Offered}
 use Rattle.cx_rules.specs.MonitorLogin.{on_authenticate, on_login_hello}
+use Rattle.cx_rules.specs.MonitorRequests.{on_open}
 use Rattle.cx_rules.specs.Payloads.{control, due, payload, whole}
 use Rattle.cx_rules.specs.Rows.{Outcome, Turned, arrival, at, carried_out, fed, forgotten, goes_on, idles, new_link, opens_none, refuses, refuses_bytes, sends_secure, turned_by, turns, unless_refused, with_opened}
 use Rattle.cx_rules.specs.Secured.{Secured, under}
-use Rattle.cx_rules.specs.Upkeep.{on_upkeep}
 use Rattle.cx_rules.specs.Greetings.{own_banner}
+use Rattle.cx_rules.specs.declared.responses.Bearer.{Bearer}
 
 -- ---- CLIENT_IDENT, SESSION_RECONNECT
 
--- SERVER_IDENT: the monitor's sessions are lossy, and have no cookie
-abbrev pub server_ident : Addr → Frame
-server_ident address = control 9 server_ident_layout.form (record { addr = address; gid = 0; global_seq = 0; supported = 0; required = 0; flags = 1; cookie = 0 })
-
-abbrev pub on_client_ident : MonitorArrival → Secured → Entity → Result ClientIdent BytesFault → MonitorRow
-on_client_ident a s entity read = unless_refused a [] read (λ ident.
-    if ident.required == 0 then sends_secure a s (λ behind. Open behind entity) [] (server_ident a.own.address) else misses a s ident.required)
+-- SERVER_IDENT is sent: the monitor's sessions are lossy, and have no cookie
+abbrev pub on_client_ident : MonitorArrival → Secured → Bearer → Result ClientIdent BytesFault → MonitorRow
+on_client_ident a s bearer read = unless_refused a [] read (λ ident.
+    if ident.required == 0 then sends_secure a s (λ behind. Open behind bearer) [] (server_ident a.own.address 1 0) else misses a s ident.required)
 
 -- SESSION_RESET: all of the session is forgotten
 abbrev pub session_reset : Frame
 session_reset = control 12 session_reset_layout.form (record { full = true })
 
 -- the monitor has no session to go on with: SESSION_RESET is sent, and CLIENT_IDENT is waited for
-abbrev pub on_session_reconnect : MonitorArrival → Secured → Entity → Result SessionReconnect BytesFault → MonitorRow
-on_session_reconnect a s entity read = unless_refused a [] read (λ reconnect.
-    sends_secure a s (λ behind. AwaitsIdent behind entity) [] session_reset)
+abbrev pub on_session_reconnect : MonitorArrival → Secured → Bearer → Result SessionReconnect BytesFault → MonitorRow
+on_session_reconnect a s bearer read = unless_refused a [] read (λ reconnect.
+    sends_secure a s (λ behind. AwaitsIdent behind bearer) [] session_reset)
 
-abbrev pub on_ident : MonitorArrival → Secured → Entity → Frame → MonitorRow
-on_ident a s entity f =
-    if f.tag == 8 then on_client_ident a s entity (payload client_ident_layout.form f)
-    else if f.tag == 11 then on_session_reconnect a s entity (payload session_reconnect_layout.form f)
+abbrev pub on_ident : MonitorArrival → Secured → Bearer → Frame → MonitorRow
+on_ident a s bearer f =
+    if f.tag == 8 then on_client_ident a s bearer (payload client_ident_layout.form f)
+    else if f.tag == 11 then on_session_reconnect a s bearer (payload session_reconnect_layout.form f)
     else refuses_bytes a (Unexpected f.tag) []
 
 -- ---- what is for the monitor in AUTH_REQUEST and AUTH_REQUEST_MORE
@@ -71,12 +69,12 @@ turned_at a AwaitsBanner = turned_by (λ link _. on_banner Mon (at a link)) (ban
 turned_at a AwaitsHello = turned_by (λ (link, f) _. on_hello (at a link) (due 1 hello_layout.form f)) (plain_next a.link)
 turned_at a AwaitsRequest = turned_by (λ (link, f) _. on_auth_request on_request_payload (at a link) (due 2 auth_request_layout.form f)) (plain_next a.link)
 turned_at a (AwaitsProof offered) = turned_by (λ (link, f) _. on_auth_request_more (at a link) offered (due 5 auth_request_more_layout.form f)) (plain_next a.link)
-turned_at a (AwaitsSignature s entity) =
-    turned_by (λ (link, f, keys) opened. with_opened opened (on_signature (at a link) (under s keys) entity (due 7 auth_signature_layout.form f))) (secure_next s.keys a.link)
-turned_at a (AwaitsIdent s entity) =
-    turned_by (λ (link, f, keys) opened. with_opened opened (on_ident (at a link) (under s keys) entity f)) (secure_next s.keys a.link)
-turned_at a (Open s entity) =
-    turned_by (λ (link, f, keys) opened. with_opened opened (on_upkeep (at a link) (under s keys) (λ behind. Open behind entity) f)) (secure_next s.keys a.link)
+turned_at a (AwaitsSignature s bearer) =
+    turned_by (λ (link, f, keys) opened. with_opened opened (on_signature (at a link) (under s keys) bearer (due 7 auth_signature_layout.form f))) (secure_next s.keys a.link)
+turned_at a (AwaitsIdent s bearer) =
+    turned_by (λ (link, f, keys) opened. with_opened opened (on_ident (at a link) (under s keys) bearer f)) (secure_next s.keys a.link)
+turned_at a (Open s bearer) =
+    turned_by (λ (link, f, keys) opened. with_opened opened (on_open Open (at a link) (under s keys) bearer f)) (secure_next s.keys a.link)
 
 -- ---- events
 

@@ -4,7 +4,6 @@
 use Rattle.std.specs.Prelude.{ℕ, ◌==◌, ◌+◌, ◌-◌, ◌^◌, Bool, true, false, List, [], ◌∷◌, ◌++◌, length, nat_lt, Option, Some, None, Result, Ok, Err, is_none, if◌then◌else◌}
 use Rattle.std.specs.List.{list_any}
 use Rattle.cx_base.specs.Names.{Name, is_daemon_type}
-use Rattle.cx_base.specs.declared.nodes.NodeName.{NodeName}
 use Rattle.cx_control.specs.declared.idents.ServerIdent.{ServerIdent}
 use Rattle.cx_frame.specs.declared.frame.Frame.{Frame}
 use Rattle.cx_journal.specs.declared.entries.Entry.{Entry}
@@ -13,7 +12,7 @@ use Rattle.cx_journal.specs.declared.faults.BytesFault.{BytesFault}
 use Rattle.cx_journal.specs.declared.faults.BytesFault.TheVariants.{Unexpected}
 use Rattle.cx_journal.specs.declared.faults.LoginFault.TheVariants.{Unopened}
 use Rattle.cx_journal.specs.declared.outcomes.Reason.{Reason}
-use Rattle.cx_journal.specs.declared.outcomes.Reason.TheVariants.{BadReply, Bytes, Login, NoSession, Spent}
+use Rattle.cx_journal.specs.declared.outcomes.Reason.TheVariants.{BadReply, Bytes, Login, Spent}
 use Rattle.cx_journal.specs.declared.premises.KeyKind.TheVariants.{Principal}
 use Rattle.cx_keyserver.specs.Issuing.{current_at}
 use Rattle.cx_login.specs.Held.{Held}
@@ -22,7 +21,6 @@ use Rattle.cx_rotate.specs.declared.generations.Generation.{Generation}
 use Rattle.cx_rotate.specs.declared.views.View.{View}
 use Rattle.cx_sealed.specs.Records.{rotating_reply_layout}
 use Rattle.cx_sealed.specs.declared.rotating_reply.RotatingReply.{RotatingReply}
-use Rattle.cx_steps.specs.Nothing.{nothing}
 use Rattle.cx_steps.specs.declared.seals.SealEntry.{SealEntry}
 use Rattle.cx_wire.specs.Bodies.{reply_layout, request_layout}
 use Rattle.cx_wire.specs.declared.bodies.Reply.{Reply}
@@ -32,7 +30,7 @@ use Rattle.cx_wire.specs.declared.bodies.Request.TheVariants as asked
 use Rattle.cx_rules.specs.Holdings.{Asker, put_tickets}
 use Rattle.cx_rules.specs.Links.{Link}
 use Rattle.cx_rules.specs.Messages.{Message, body_as, message, message_in, on_upkeep_or}
-use Rattle.cx_rules.specs.Rows.{Arrival, Node, Outcome, Row, arrival, carried_out, goes_on, refused_entry, refuses, unless_refused}
+use Rattle.cx_rules.specs.Rows.{Arrival, Row, goes_on, refuses, unless_refused}
 use Rattle.cx_rules.specs.Secured.{Keys, SealedFrame, Secured, secure_frame, under}
 use Rattle.cx_rules.specs.declared.messages.Body.{Body}
 use Rattle.cx_rules.specs.declared.messages.Body.TheVariants.{Spelled, OtherCode, Misspelled}
@@ -54,11 +52,6 @@ pub record Requests : Type 0 where
 -- of a link that has just opened
 abbrev pub no_requests : List ℕ → Requests
 no_requests session = record { session = session; count = 0; waiting = [] }
-
--- one that asks the monitor: as one that logs in, and the generations that it was told last, where it is a daemon
-pub record Requester : Type 0 where
-  pub asker : Asker
-  pub view : View
 
 -- a client isn't idle while a request waits
 abbrev pub is_waiting : Requests → Bool
@@ -149,12 +142,12 @@ behind_reply r = record r { waiting = later r.waiting }
 -- ---- what a reply changes
 
 -- each ticket stands in place of the older one of its service
-abbrev pub with_tickets : Requester → List Held → Requester
-with_tickets requester held = record requester { asker = record requester.asker { holdings = put_tickets requester.asker.holdings held } }
+abbrev pub with_tickets : Asker → List Held → Asker
+with_tickets asker held = record asker { holdings = put_tickets asker.holdings held }
 
 -- the generations are the view, with the reading at which they were asked for
-abbrev pub with_view : Requester → ℕ → List Generation → Requester
-with_view requester reading generations = record requester { view = record { generations = generations; asked = Some reading } }
+abbrev pub with_view : Asker → ℕ → List Generation → Asker
+with_view asker reading generations = record asker { view = record { generations = generations; asked = Some reading } }
 
 abbrev pub fetched_entry : Name → ℕ → List Generation → Entry
 fetched_entry daemon reading generations = entry.Fetched (record { daemon = daemon; asked = reading; generations = generations })
@@ -163,61 +156,54 @@ fetched_entry daemon reading generations = entry.Fetched (record { daemon = daem
 
 module _ {Stage : Type 0} where
   -- with another own
-  abbrev pub having : Arrival Requester Stage → Requester → Arrival Requester Stage
-  having a requester = record a { own = requester }
+  abbrev pub having : Arrival Asker Stage → Asker → Arrival Asker Stage
+  having a asker = record a { own = asker }
 
   -- a request is sent; where it can't be, the link is refused
-  abbrev pub sends_request : (Secured → Requests → Stage) → Arrival Requester Stage → Secured → Requests → Want → Result SealedFrame Reason → Row Requester Stage
+  abbrev pub sends_request : (Secured → Requests → Stage) → Arrival Asker Stage → Secured → Requests → Want → Result SealedFrame Reason → Row Asker Stage
   sends_request open_with a s r want (Ok sealed) = goes_on a (open_with (under s sealed.keys) (behind_request r want)) sealed.bytes sealed.seals
   sends_request open_with a s r want (Err why) = refuses a why []
 
   -- tickets are asked for, by the sum of their services
-  abbrev pub asks_tickets : (Secured → Requests → Stage) → Arrival Requester Stage → Secured → Requests → ℕ → Row Requester Stage
+  abbrev pub asks_tickets : (Secured → Requests → Stage) → Arrival Asker Stage → Secured → Requests → ℕ → Row Asker Stage
   asks_tickets open_with a s r services = sends_request open_with a s r Tickets (sealed_request s.keys r (asked.Tickets services))
 
   -- a daemon asks for the generations of its own type, at this reading
-  abbrev pub asks_rotating : (Secured → Requests → Stage) → Arrival Requester Stage → Secured → Requests → Row Requester Stage
+  abbrev pub asks_rotating : (Secured → Requests → Stage) → Arrival Asker Stage → Secured → Requests → Row Asker Stage
   asks_rotating open_with a s r = sends_request open_with a s r (Rotating a.reading) (sealed_request s.keys r asked.Rotating)
 
   -- the link is open; a daemon, which opens one in order to fetch, asks at once
-  abbrev pub opens_to : (Secured → Requests → Stage) → Arrival Requester Stage → Secured → Requests → Row Requester Stage
+  abbrev pub opens_to : (Secured → Requests → Stage) → Arrival Asker Stage → Secured → Requests → Row Asker Stage
   opens_to open_with a s r =
-      if is_daemon_type a.own.asker.name.kind then asks_rotating open_with a s r else goes_on a (open_with s r) [] []
+      if is_daemon_type a.own.name.kind then asks_rotating open_with a s r else goes_on a (open_with s r) [] []
 
   -- SERVER_IDENT, on a link whose ticket for AUTH has this session key
-  abbrev pub on_server_ident : (Secured → Requests → Stage) → Arrival Requester Stage → Secured → List ℕ → Result ServerIdent BytesFault → Row Requester Stage
+  abbrev pub on_server_ident : (Secured → Requests → Stage) → Arrival Asker Stage → Secured → List ℕ → Result ServerIdent BytesFault → Row Asker Stage
   on_server_ident open_with a s session read = unless_refused a [] read (λ ident. opens_to open_with a s (no_requests session))
 
   -- message 18: the tickets are held, or the generations become the view, and that they were fetched is entered
-  abbrev pub takes : (Secured → Requests → Stage) → Arrival Requester Stage → Secured → Requests → Taken → Row Requester Stage
+  abbrev pub takes : (Secured → Requests → Stage) → Arrival Asker Stage → Secured → Requests → Taken → Row Asker Stage
   takes open_with a s r (Refuses why opened) = refuses a why opened
   takes open_with a s r (Holds held opened) = goes_on (having a (with_tickets a.own held)) (open_with s (behind_reply r)) [] opened
   takes open_with a s r (Views reading generations opened) =
       record (goes_on (having a (with_view a.own reading generations)) (open_with s (behind_reply r)) [] opened)
-      { entries = fetched_entry a.own.asker.name reading generations ∷ [] }
+      { entries = fetched_entry a.own.name reading generations ∷ [] }
 
-  abbrev pub on_reply : (Secured → Requests → Stage) → Arrival Requester Stage → Secured → Requests → Frame → Row Requester Stage
-  on_reply open_with a s r f = takes open_with a s r (taken a.own.asker.secret r f)
+  abbrev pub on_reply : (Secured → Requests → Stage) → Arrival Asker Stage → Secured → Requests → Frame → Row Asker Stage
+  on_reply open_with a s r f = takes open_with a s r (taken a.own.secret r f)
 
   -- a frame on an open link: a keepalive, or a reply; no other is due
-  abbrev pub on_open : (Secured → Requests → Stage) → Arrival Requester Stage → Secured → Requests → Frame → Row Requester Stage
+  abbrev pub on_open : (Secured → Requests → Stage) → Arrival Asker Stage → Secured → Requests → Frame → Row Asker Stage
   on_open open_with a s r f = on_upkeep_or (on_reply open_with a s r) a s (λ behind. open_with behind r) f
 
-  -- ---- Renew
+-- ---- the link on which one asks
 
-  -- tickets are asked for on the link to the monitor that is open; where none is, that is entered with link 0, and nothing is shut
-  abbrev pub renews : (Secured → Requests → Stage) → Node Requester Stage → NodeName → ℕ → ℕ → List ℕ → Option (Link Stage × (Secured × Requests))
-      → Outcome (Node Requester Stage)
-  renews open_with node me services reading draw None =
-      record { state = node; out = record nothing { entries = refused_entry me 0 NoSession ∷ [] } }
-  renews open_with node me services reading draw (Some (link, (s, r))) =
-      carried_out node link.number false (asks_tickets open_with (arrival me node.own link reading draw) s r services)
-
-  abbrev pub first_open : Link Stage → Option (Secured × Requests) → Option (Link Stage × (Secured × Requests)) → Option (Link Stage × (Secured × Requests))
-  first_open link None behind = behind
-  first_open link (Some kept) behind = Some (link, kept)
+module _ {Stage : Type 0} where
+  abbrev pub open_or : Link Stage → Option (Secured × Requests) → Option (Link Stage × (Secured × Requests)) → Option (Link Stage × (Secured × Requests))
+  open_or link None behind = behind
+  open_or link (Some kept) behind = Some (link, kept)
 
   -- the first link that is open, by what an open stage keeps
-  abbrev pub open_link : (Stage → Option (Secured × Requests)) → List (Link Stage) → Option (Link Stage × (Secured × Requests))
-  open_link kept_of [] = None
-  open_link kept_of (link ∷ links) = first_open link (kept_of link.stage) (open_link kept_of links)
+  abbrev pub first_open : (Stage → Option (Secured × Requests)) → List (Link Stage) → Option (Link Stage × (Secured × Requests))
+  first_open kept_of [] = None
+  first_open kept_of (link ∷ links) = open_or link (kept_of link.stage) (first_open kept_of links)

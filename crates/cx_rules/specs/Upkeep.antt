@@ -1,13 +1,11 @@
 -- Frames that keep an open link alive ("msgr2 protocol", keepalive frames), at either end.
-use Rattle.std.specs.Prelude.{◌==◌, [], Result, if◌then◌else◌}
-use Rattle.cx_control.specs.Upkeep.{keepalive2_layout, keepalive2_ack_layout}
+use Rattle.std.specs.Prelude.{[], Result}
+use Rattle.cx_control.specs.Upkeep.{keepalive2_ack_layout}
 use Rattle.cx_control.specs.declared.upkeep.Keepalive2.{Keepalive2}
 use Rattle.cx_control.specs.declared.upkeep.Keepalive2Ack.{Keepalive2Ack}
-use Rattle.cx_frame.specs.declared.frame.Frame.{Frame}
 use Rattle.cx_journal.specs.declared.faults.BytesFault.{BytesFault}
-use Rattle.cx_journal.specs.declared.faults.BytesFault.TheVariants.{Unexpected}
-use Rattle.cx_rules.specs.Payloads.{control, payload}
-use Rattle.cx_rules.specs.Rows.{Arrival, Row, goes_on, refuses_bytes, sends_secure, unless_refused}
+use Rattle.cx_rules.specs.Payloads.{control}
+use Rattle.cx_rules.specs.Rows.{Arrival, Row, goes_on, sends_secure, unless_refused}
 use Rattle.cx_rules.specs.Secured.{Secured}
 
 module _ {Own Stage : Type 0} where
@@ -19,10 +17,3 @@ module _ {Own Stage : Type 0} where
   -- KEEPALIVE2_ACK: nothing
   abbrev pub on_keepalive_ack : Arrival Own Stage → Secured → (Secured → Stage) → Result Keepalive2Ack BytesFault → Row Own Stage
   on_keepalive_ack a s open_under read = unless_refused a [] read (λ ack. goes_on a (open_under s) [] [])
-
-  -- no other frame is due on an open link yet
-  abbrev pub on_upkeep : Arrival Own Stage → Secured → (Secured → Stage) → Frame → Row Own Stage
-  on_upkeep a s open_under f =
-      if f.tag == 18 then on_keepalive a s open_under (payload keepalive2_layout.form f)
-      else if f.tag == 19 then on_keepalive_ack a s open_under (payload keepalive2_ack_layout.form f)
-      else refuses_bytes a (Unexpected f.tag) []

@@ -7,7 +7,7 @@ mod requests;
 mod responses;
 mod verdicts;
 
-pub use laws::{forgetting_laws, rule_laws};
+pub use laws::{answering_laws, forgetting_laws, rule_laws};
 pub use messages::Body;
 pub use requests::{Taken, Waiting, Want};
 pub use responses::{Bearer, Demand, ReplyMade, Response};

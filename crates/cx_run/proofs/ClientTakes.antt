@@ -23,16 +23,23 @@ use Rattle.cx_steps.specs.declared.seals.SealEntry.TheVariants.{Drawn}
 use Rattle.cx_wire.specs.Logins.{login_done_layout}
 use Rattle.cx_wire.specs.declared.logins.LoginDone.{LoginDone}
 use Rattle.cx_wire.specs.declared.logins.ServerChallenge.{ServerChallenge}
-use Rattle.cx_rules.specs.Connector.{AskerArrival, AskerRow, Login, Stage, AwaitsBanner, AwaitsHello, AwaitsChallenge, AwaitsDone, AwaitsSignature, AwaitsIdent, Open, client_ident, holding, identifies, on_bad_method, on_banner, on_challenge, on_denial, on_done, on_hello, on_login_done, on_missing_features, on_opened, on_reply_more, on_server_ident, on_signature, proves, signs, turned_at, while_challenged, while_identified, while_proved}
+use Rattle.cx_rules.specs.Connector.{AskerArrival, AskerRow, Login, Stage, AwaitsBanner, AwaitsHello, AwaitsChallenge, AwaitsDone, AwaitsSignature, AwaitsIdent, Open, client_ident, holding, identifies, on_bad_method, on_banner, on_challenge, on_denial, on_done, on_hello, on_login_done, on_missing_features, on_opened, on_reply_more, on_signature, proves, signs, turned_at, while_challenged, while_identified, while_proved}
 use Rattle.cx_rules.specs.Holdings.{Asker, held_login, holds_nothing}
 use Rattle.cx_rules.specs.Fronts.{banner_next, plain_next, secure_next}
 use Rattle.cx_rules.specs.Payloads.{due, payload, whole}
-use Rattle.cx_rules.specs.Rows.{Turned, Waits, Refuses, Handles, at, lifted_turn, plain_sent, refuses, with_opened}
+use Rattle.cx_rules.specs.Rows.{Turned, Waits, Refuses, Handles, at, lifted_turn, plain_sent, refuses, with_opened, goes_on}
 use Rattle.cx_rules.specs.ClientRule.{Client}
 use Rattle.cx_rules.specs.Links.{Link}
 use Rattle.cx_rules.specs.Secured.{SealedFrame, Secured, is_signed, secure_frame, signature_found, under}
-use Rattle.cx_rules.specs.Upkeep.{on_upkeep}
-use Rattle.cx_run.proofs.Taking.{EachRow, Keeps, TurnTakes, banner-takes, each-turned, plain-takes, plain_sent-keeps, plain_sent-own, secure-takes, secure_sent-keeps, secure_sent-own, upkeep-keeps, upkeep-own}
+use Rattle.cx_run.proofs.Taking.{EachRow, Keeps, TurnTakes, banner-takes, each-turned, plain-takes, plain_sent-keeps, plain_sent-own, secure-takes, secure_sent-keeps, secure_sent-own, keepalive-keeps, keepalive-own, keepalive_ack-keeps, keepalive_ack-own}
+use Rattle.cx_rules.specs.Upkeep.{on_keepalive, on_keepalive_ack}
+use Rattle.cx_rules.specs.Requests.{Requests, asks_rotating, no_requests, on_open, on_reply, on_server_ident, opens_to, sends_request, takes}
+use Rattle.cx_rules.specs.declared.requests.Taken.{Taken}
+use Rattle.cx_rules.specs.declared.requests.Taken.TheVariants as taken
+use Rattle.cx_rules.specs.declared.requests.Want.{Want}
+use Rattle.cx_base.specs.Names.{Name, is_daemon_type}
+use Rattle.cx_journal.specs.declared.outcomes.Reason.{Reason}
+use Rattle.cx_control.specs.Upkeep.{keepalive2_layout, keepalive2_ack_layout}
 
 -- what a row leaves of the link is as it was, but for what was sent and the stage, and the name stays
 abbrev KeepsAsker : AskerArrival → AskerRow → Type 0
@@ -112,8 +119,9 @@ identifies-keeps : (a : AskerArrival) (s : Secured) (login : Login) → KeepsAsk
 identifies-keeps a s login =
     let logged_in : AskerArrival = holding a (held_login a.own.holdings login.gid login.opened) in
     let seals = signature_found s ∷ Drawn (draw.Cookie (cookie_of a.draw)) ∷ [] in
-    let sealed = secure_frame s.keys (client_ident a.own login.gid (cookie_of a.draw)) in
-    (secure_sent-keeps logged_in s AwaitsIdent seals sealed, ap (λ (own : Asker). own.name) (secure_sent-own logged_in s AwaitsIdent seals sealed))
+    let sealed = secure_frame s.keys (client_ident a.own login.gid 1 (cookie_of a.draw)) in
+    let stage : Secured → Stage = λ behind. AwaitsIdent behind login.opened.auth.session in
+    (secure_sent-keeps logged_in s stage seals sealed, ap (λ (own : Asker). own.name) (secure_sent-own logged_in s stage seals sealed))
 
 signature-keeps : (a : AskerArrival) (s : Secured) (login : Login) (found : Result AuthSignature BytesFault) → KeepsAsker a (on_signature a s login found)
 signature-keeps a s login (Err why) = (tt, refl)
@@ -123,23 +131,52 @@ signature-keeps a s login (Ok found) = by_test (is_signed s found.signature)
     by_test true = identifies-keeps a s login
     by_test false = (tt, refl)
 
-server_ident-keeps : (a : AskerArrival) (s : Secured) (ident : Result ServerIdent BytesFault) → KeepsAsker a (on_server_ident a s ident)
-server_ident-keeps a s (Err why) = (tt, refl)
-server_ident-keeps a s (Ok ident) = (record { number = refl; ahead = refl }, refl)
+pub request-keeps : (a : AskerArrival) (s : Secured) (requests : Requests) (want : Want) (sealed : Result SealedFrame Reason) → KeepsAsker a (sends_request Open a s requests want sealed)
+request-keeps a s requests want (Ok sealed) = (record { number = refl; ahead = refl }, refl)
+request-keeps a s requests want (Err why) = (tt, refl)
+
+opens_to-keeps : (a : AskerArrival) (s : Secured) (requests : Requests) → KeepsAsker a (opens_to Open a s requests)
+opens_to-keeps a s requests = by_test (is_daemon_type a.own.name.kind)
+  where
+    by_test : (daemon : Bool) → KeepsAsker a (if daemon then asks_rotating Open a s requests else goes_on a (Open s requests) [] [])
+    by_test true = request-keeps a s requests _ _
+    by_test false = (record { number = refl; ahead = refl }, refl)
+
+server_ident-keeps : (a : AskerArrival) (s : Secured) (session : List ℕ) (ident : Result ServerIdent BytesFault) → KeepsAsker a (on_server_ident Open a s session ident)
+server_ident-keeps a s session (Err why) = (tt, refl)
+server_ident-keeps a s session (Ok ident) = opens_to-keeps a s (no_requests session)
 
 missing-keeps : (a : AskerArrival) (missing : Result IdentMissingFeatures BytesFault) → KeepsAsker a (on_missing_features a missing)
 missing-keeps a (Err why) = (tt, refl)
 missing-keeps a (Ok missing) = (tt, refl)
 
-identified-keeps : (a : AskerArrival) (s : Secured) (f : Frame) → KeepsAsker a (while_identified a s f)
-identified-keeps a s f = by_test (f.tag == 10)
+identified-keeps : (a : AskerArrival) (s : Secured) (session : List ℕ) (f : Frame) → KeepsAsker a (while_identified a s session f)
+identified-keeps a s session f = by_test (f.tag == 10)
   where
-    by_test : (lacks : Bool) → KeepsAsker a (if lacks then on_missing_features a (payload ident_missing_features_layout.form f) else on_server_ident a s (due 9 server_ident_layout.form f))
+    by_test : (lacks : Bool) → KeepsAsker a (if lacks then on_missing_features a (payload ident_missing_features_layout.form f) else on_server_ident Open a s session (due 9 server_ident_layout.form f))
     by_test true = missing-keeps a (payload ident_missing_features_layout.form f)
-    by_test false = server_ident-keeps a s (due 9 server_ident_layout.form f)
+    by_test false = server_ident-keeps a s session (due 9 server_ident_layout.form f)
 
-open-keeps : (a : AskerArrival) (s : Secured) (f : Frame) → KeepsAsker a (on_upkeep a s Open f)
-open-keeps a s f = (upkeep-keeps a s Open f, ap (λ (own : Asker). own.name) (upkeep-own a s Open f))
+takes-keeps : (a : AskerArrival) (s : Secured) (requests : Requests) (t : Taken) → KeepsAsker a (takes Open a s requests t)
+takes-keeps a s requests (taken.Refuses why opened) = (tt, refl)
+takes-keeps a s requests (taken.Holds held opened) = (record { number = refl; ahead = refl }, refl)
+takes-keeps a s requests (taken.Views reading generations opened) = (record { number = refl; ahead = refl }, refl)
+
+open-keeps : (a : AskerArrival) (s : Secured) (requests : Requests) (f : Frame) → KeepsAsker a (on_open Open a s requests f)
+open-keeps a s requests f = by_tests (f.tag == 18) (f.tag == 19)
+  where
+    open_under : Secured → Stage
+    open_under behind = Open behind requests
+
+    name : Asker → Name
+    name own = own.name
+
+    by_tests : (ask ack : Bool) → KeepsAsker a (if ask then on_keepalive a s open_under (payload keepalive2_layout.form f)
+        else if ack then on_keepalive_ack a s open_under (payload keepalive2_ack_layout.form f) else on_reply Open a s requests f)
+    by_tests true ack = (keepalive-keeps a s open_under (payload keepalive2_layout.form f), ap name (keepalive-own a s open_under (payload keepalive2_layout.form f)))
+    by_tests false true =
+        (keepalive_ack-keeps a s open_under (payload keepalive2_ack_layout.form f), ap name (keepalive_ack-own a s open_under (payload keepalive2_ack_layout.form f)))
+    by_tests false false = takes-keeps a s requests _
 
 -- ---- a turn
 
@@ -153,12 +190,12 @@ asker-takes a AwaitsDone = plain-takes a.link (λ (link, f) _. while_proved (at 
 asker-takes a (AwaitsSignature s login) =
     secure-takes s.keys a.link (λ (link, f, keys) opened. with_opened opened (on_signature (at a link) (under s keys) login (due 7 auth_signature_layout.form f)))
     (λ l f keys opened. (signature-keeps (at a l) (under s keys) login (due 7 auth_signature_layout.form f)).0)
-asker-takes a (AwaitsIdent s) =
-    secure-takes s.keys a.link (λ (link, f, keys) opened. with_opened opened (while_identified (at a link) (under s keys) f))
-    (λ l f keys opened. (identified-keeps (at a l) (under s keys) f).0)
-asker-takes a (Open s) =
-    secure-takes s.keys a.link (λ (link, f, keys) opened. with_opened opened (on_upkeep (at a link) (under s keys) Open f))
-    (λ l f keys opened. (open-keeps (at a l) (under s keys) f).0)
+asker-takes a (AwaitsIdent s session) =
+    secure-takes s.keys a.link (λ (link, f, keys) opened. with_opened opened (while_identified (at a link) (under s keys) session f))
+    (λ l f keys opened. (identified-keeps (at a l) (under s keys) session f).0)
+asker-takes a (Open s requests) =
+    secure-takes s.keys a.link (λ (link, f, keys) opened. with_opened opened (on_open Open (at a link) (under s keys) requests f))
+    (λ l f keys opened. (open-keeps (at a l) (under s keys) requests f).0)
 
 -- what handles a turn keeps the name
 abbrev pub KeepsName : AskerArrival → Turned Asker Stage → Type 0
@@ -177,12 +214,12 @@ asker-named a AwaitsDone =
 asker-named a (AwaitsSignature s login) =
     each-turned (λ (row : AskerRow). row.own.name ≡ a.own.name) (λ (link, f, keys) opened. with_opened opened (on_signature (at a link) (under s keys) login (due 7 auth_signature_layout.form f)))
     (λ (link, f, keys) opened. (signature-keeps (at a link) (under s keys) login (due 7 auth_signature_layout.form f)).1) (secure_next s.keys a.link)
-asker-named a (AwaitsIdent s) =
-    each-turned (λ (row : AskerRow). row.own.name ≡ a.own.name) (λ (link, f, keys) opened. with_opened opened (while_identified (at a link) (under s keys) f))
-    (λ (link, f, keys) opened. (identified-keeps (at a link) (under s keys) f).1) (secure_next s.keys a.link)
-asker-named a (Open s) =
-    each-turned (λ (row : AskerRow). row.own.name ≡ a.own.name) (λ (link, f, keys) opened. with_opened opened (on_upkeep (at a link) (under s keys) Open f))
-    (λ (link, f, keys) opened. (open-keeps (at a link) (under s keys) f).1) (secure_next s.keys a.link)
+asker-named a (AwaitsIdent s session) =
+    each-turned (λ (row : AskerRow). row.own.name ≡ a.own.name) (λ (link, f, keys) opened. with_opened opened (while_identified (at a link) (under s keys) session f))
+    (λ (link, f, keys) opened. (identified-keeps (at a link) (under s keys) session f).1) (secure_next s.keys a.link)
+asker-named a (Open s requests) =
+    each-turned (λ (row : AskerRow). row.own.name ≡ a.own.name) (λ (link, f, keys) opened. with_opened opened (on_open Open (at a link) (under s keys) requests f))
+    (λ (link, f, keys) opened. (open-keeps (at a link) (under s keys) requests f).1) (secure_next s.keys a.link)
 
 -- of one that logs in, as one of the client
 pub lifted-takes : (whole : Asker → Client) (link : Link Stage) (t : Turned Asker Stage) → TurnTakes link t → TurnTakes link (lifted_turn whole t)

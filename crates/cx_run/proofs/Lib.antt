@@ -2,6 +2,7 @@ pub mod Walking
 pub mod Led
 pub mod Taking
 pub mod MonitorTakes
+pub mod ClientNamed
 pub mod ClientTakes
 pub mod Turning
 pub mod Untaken

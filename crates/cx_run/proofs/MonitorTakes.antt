@@ -22,14 +22,13 @@ use Rattle.cx_login.specs.Monitor.{Proven}
 use Rattle.cx_login.specs.declared.refusals.WrongProof.{WrongProof}
 use Rattle.cx_wire.specs.declared.logins.Authenticate.{Authenticate}
 use Rattle.cx_wire.specs.declared.logins.LoginHello.{LoginHello}
-use Rattle.cx_rules.specs.Acceptor.{AwaitsBanner, AwaitsHello, AwaitsRequest, AwaitsProof, AwaitsSignature, AwaitsIdent, Open, Finished, denies, finished, misses, missing_told, on_auth_request, on_banner, on_hello, on_signature}
-use Rattle.cx_rules.specs.Monitor.{Entity, MonitorArrival, MonitorStage, Offered}
+use Rattle.cx_rules.specs.Acceptor.{AwaitsBanner, AwaitsHello, AwaitsRequest, AwaitsProof, AwaitsSignature, AwaitsIdent, Open, Finished, denies, finished, misses, missing_told, on_auth_request, on_banner, on_hello, on_signature, server_ident}
+use Rattle.cx_rules.specs.Monitor.{MonitorArrival, MonitorStage, Offered}
 use Rattle.cx_rules.specs.MonitorLogin.{challenges, done_frame, hands_over, occasion, on_authenticate, on_login_hello, proves, row_by, with_server}
-use Rattle.cx_rules.specs.MonitorRule.{on_auth_request_more, on_client_ident, on_ident, on_request_payload, on_session_reconnect, server_ident, turned_at}
+use Rattle.cx_rules.specs.MonitorRule.{on_auth_request_more, on_client_ident, on_ident, on_request_payload, on_session_reconnect, turned_at}
 use Rattle.cx_rules.specs.Payloads.{due, payload}
 use Rattle.cx_rules.specs.Rows.{at, goes_on, refuses, refuses_bytes, sends_secure, with_opened}
 use Rattle.cx_rules.specs.Secured.{SealedFrame, Secured, is_signed, signature_found, under}
-use Rattle.cx_rules.specs.Upkeep.{on_upkeep}
 use Rattle.cx_rules.specs.Verdicts.{Decided, rotates}
 use Rattle.cx_rules.specs.declared.verdicts.HandedOut.{HandedOut}
 use Rattle.cx_rules.specs.declared.verdicts.Verdict.{Verdict}
@@ -37,6 +36,14 @@ use Rattle.cx_rules.specs.declared.verdicts.Verdict.TheVariants.{Denied, Granted
 use Rattle.cx_cbc.specs.Envelope.{sealed}
 use Rattle.cx_run.proofs.Taking.{Keeps, TurnTakes, banner-takes, plain-takes, plain_sent-keeps, secure-takes, secure_sent-keeps, upkeep-keeps}
 use Rattle.cx_base.specs.declared.kinds.EntityType.TheVariants.{Mon}
+use Rattle.cx_rules.specs.declared.responses.Bearer.{Bearer}
+use Rattle.cx_rules.specs.MonitorRequests.{heard, on_demand, on_message, on_open, responds, sends_reply, request_occasion, serving}
+use Rattle.cx_rules.specs.declared.responses.Demand.{Demand}
+use Rattle.cx_rules.specs.declared.responses.ReplyMade.{ReplyMade}
+use Rattle.cx_rules.specs.declared.responses.Response.{Response}
+use Rattle.cx_rules.specs.declared.responses.Response.TheVariants as response
+use Rattle.cx_journal.specs.declared.outcomes.Reason.{Reason}
+use Rattle.cx_rules.specs.Replies.{Responded, answers}
 
 -- ---- HELLO, AUTH_REQUEST
 
@@ -87,11 +94,11 @@ request_more-keeps a offered (Ok more) = authenticate-keeps a offered _
 
 -- ---- AUTH_SIGNATURE, CLIENT_IDENT, SESSION_RECONNECT
 
-signature-keeps : (a : MonitorArrival) (s : Secured) (entity : Entity) (found : Result AuthSignature BytesFault) → Keeps a.link (on_signature a s entity found)
-signature-keeps a s entity (Err why) = tt
-signature-keeps a s entity (Ok found) = by_test (is_signed s found.signature)
+signature-keeps : (a : MonitorArrival) (s : Secured) (bearer : Bearer) (found : Result AuthSignature BytesFault) → Keeps a.link (on_signature a s bearer found)
+signature-keeps a s bearer (Err why) = tt
+signature-keeps a s bearer (Ok found) = by_test (is_signed s found.signature)
   where
-    by_test : (right : Bool) → Keeps a.link (if right then goes_on a (AwaitsIdent s entity) [] (signature_found s ∷ []) else refuses a (Login SignatureWrong) [])
+    by_test : (right : Bool) → Keeps a.link (if right then goes_on a (AwaitsIdent s bearer) [] (signature_found s ∷ []) else refuses a (Login SignatureWrong) [])
     by_test true = record { number = refl; ahead = refl }
     by_test false = tt
 
@@ -99,26 +106,44 @@ missing-keeps : (a : MonitorArrival) (features : ℕ) (sealed : Result SealedFra
 missing-keeps a features (Err why) = tt
 missing-keeps a features (Ok sealed) = tt
 
-client_ident-keeps : (a : MonitorArrival) (s : Secured) (entity : Entity) (ident : Result ClientIdent BytesFault) → Keeps a.link (on_client_ident a s entity ident)
-client_ident-keeps a s entity (Err why) = tt
-client_ident-keeps a s entity (Ok ident) = by_test (ident.required == 0)
+client_ident-keeps : (a : MonitorArrival) (s : Secured) (bearer : Bearer) (ident : Result ClientIdent BytesFault) → Keeps a.link (on_client_ident a s bearer ident)
+client_ident-keeps a s bearer (Err why) = tt
+client_ident-keeps a s bearer (Ok ident) = by_test (ident.required == 0)
   where
-    by_test : (plain : Bool) → Keeps a.link (if plain then sends_secure a s (λ behind. Open behind entity) [] (server_ident a.own.address) else misses a s ident.required)
-    by_test true = secure_sent-keeps a s (λ behind. Open behind entity) [] _
+    by_test : (plain : Bool) → Keeps a.link (if plain then sends_secure a s (λ behind. Open behind bearer) [] (server_ident a.own.address 1 0) else misses a s ident.required)
+    by_test true = secure_sent-keeps a s (λ behind. Open behind bearer) [] _
     by_test false = missing-keeps a ident.required _
 
-reconnect-keeps : (a : MonitorArrival) (s : Secured) (entity : Entity) (reconnect : Result SessionReconnect BytesFault) → Keeps a.link (on_session_reconnect a s entity reconnect)
-reconnect-keeps a s entity (Err why) = tt
-reconnect-keeps a s entity (Ok reconnect) = secure_sent-keeps a s (λ behind. AwaitsIdent behind entity) [] _
+reconnect-keeps : (a : MonitorArrival) (s : Secured) (bearer : Bearer) (reconnect : Result SessionReconnect BytesFault) → Keeps a.link (on_session_reconnect a s bearer reconnect)
+reconnect-keeps a s bearer (Err why) = tt
+reconnect-keeps a s bearer (Ok reconnect) = secure_sent-keeps a s (λ behind. AwaitsIdent behind bearer) [] _
 
-ident-keeps : (a : MonitorArrival) (s : Secured) (entity : Entity) (f : Frame) → Keeps a.link (on_ident a s entity f)
-ident-keeps a s entity f = by_tests (f.tag == 8) (f.tag == 11)
+ident-keeps : (a : MonitorArrival) (s : Secured) (bearer : Bearer) (f : Frame) → Keeps a.link (on_ident a s bearer f)
+ident-keeps a s bearer f = by_tests (f.tag == 8) (f.tag == 11)
   where
-    by_tests : (client reconnect : Bool) → Keeps a.link (if client then on_client_ident a s entity (payload client_ident_layout.form f)
-        else if reconnect then on_session_reconnect a s entity (payload session_reconnect_layout.form f) else refuses_bytes a (Unexpected f.tag) [])
-    by_tests true reconnect = client_ident-keeps a s entity (payload client_ident_layout.form f)
-    by_tests false true = reconnect-keeps a s entity (payload session_reconnect_layout.form f)
+    by_tests : (client reconnect : Bool) → Keeps a.link (if client then on_client_ident a s bearer (payload client_ident_layout.form f)
+        else if reconnect then on_session_reconnect a s bearer (payload session_reconnect_layout.form f) else refuses_bytes a (Unexpected f.tag) [])
+    by_tests true reconnect = client_ident-keeps a s bearer (payload client_ident_layout.form f)
+    by_tests false true = reconnect-keeps a s bearer (payload session_reconnect_layout.form f)
     by_tests false false = tt
+
+-- ---- requests
+
+reply-keeps : (a : MonitorArrival) (s : Secured) (bearer : Bearer) (seq : ℕ) (made : ReplyMade) (sealing : Result SealedFrame BytesFault) → Keeps a.link (sends_reply Open a s bearer seq made sealing)
+reply-keeps a s bearer seq made (Err why) = tt
+reply-keeps a s bearer seq made (Ok sent) = record { number = refl; ahead = refl }
+
+responds-keeps : (a : MonitorArrival) (s : Secured) (bearer : Bearer) (demand : Demand) (r : Response) → Keeps a.link (responds Open a s bearer demand r)
+responds-keeps a s bearer demand (response.Refuses why drawn) = tt
+responds-keeps a s bearer demand (response.Replies made) = reply-keeps a s bearer demand.seq made _
+
+demand-keeps : (a : MonitorArrival) (s : Secured) (bearer : Bearer) (found : Result Demand Reason) → Keeps a.link (on_demand Open a s bearer found)
+demand-keeps a s bearer (Err why) = tt
+demand-keeps a s bearer (Ok demand) =
+    let r : Responded = answers (request_occasion a) a.own.server bearer demand.request in responds-keeps (serving a r.server) s bearer demand r.response
+
+open-keeps : (a : MonitorArrival) (s : Secured) (bearer : Bearer) (f : Frame) → Keeps a.link (on_open Open a s bearer f)
+open-keeps a s bearer f = upkeep-keeps (on_message Open a s bearer) a s (λ behind. Open behind bearer) f (demand-keeps a s bearer (heard bearer f))
 
 -- ---- a turn
 
@@ -132,12 +157,12 @@ monitor-takes a AwaitsRequest =
 monitor-takes a (AwaitsProof offered) =
     plain-takes a.link (λ (link, f) _. on_auth_request_more (at a link) offered (due 5 auth_request_more_layout.form f))
     (λ l f opened. request_more-keeps (at a l) offered (due 5 auth_request_more_layout.form f))
-monitor-takes a (AwaitsSignature s entity) =
-    secure-takes s.keys a.link (λ (link, f, keys) opened. with_opened opened (on_signature (at a link) (under s keys) entity (due 7 auth_signature_layout.form f)))
-    (λ l f keys opened. signature-keeps (at a l) (under s keys) entity (due 7 auth_signature_layout.form f))
-monitor-takes a (AwaitsIdent s entity) =
-    secure-takes s.keys a.link (λ (link, f, keys) opened. with_opened opened (on_ident (at a link) (under s keys) entity f))
-    (λ l f keys opened. ident-keeps (at a l) (under s keys) entity f)
-monitor-takes a (Open s entity) =
-    secure-takes s.keys a.link (λ (link, f, keys) opened. with_opened opened (on_upkeep (at a link) (under s keys) (λ behind. Open behind entity) f))
-    (λ l f keys opened. upkeep-keeps (at a l) (under s keys) (λ behind. Open behind entity) f)
+monitor-takes a (AwaitsSignature s bearer) =
+    secure-takes s.keys a.link (λ (link, f, keys) opened. with_opened opened (on_signature (at a link) (under s keys) bearer (due 7 auth_signature_layout.form f)))
+    (λ l f keys opened. signature-keeps (at a l) (under s keys) bearer (due 7 auth_signature_layout.form f))
+monitor-takes a (AwaitsIdent s bearer) =
+    secure-takes s.keys a.link (λ (link, f, keys) opened. with_opened opened (on_ident (at a link) (under s keys) bearer f))
+    (λ l f keys opened. ident-keeps (at a l) (under s keys) bearer f)
+monitor-takes a (Open s bearer) =
+    secure-takes s.keys a.link (λ (link, f, keys) opened. with_opened opened (on_open Open (at a link) (under s keys) bearer f))
+    (λ l f keys opened. open-keeps (at a l) (under s keys) bearer f)

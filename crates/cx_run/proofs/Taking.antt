@@ -28,9 +28,10 @@ use Rattle.cx_rules.specs.Links.{Link}
 use Rattle.cx_rules.specs.Payloads.{payload}
 use Rattle.cx_rules.specs.Rows.{Arrival, Row, Turned, Waits, Refuses, Handles, plain_sent, refuses_bytes, secure_sent, turned_by}
 use Rattle.cx_rules.specs.Secured.{Keys, SealedFrame, Secured}
-use Rattle.cx_rules.specs.Upkeep.{on_keepalive, on_keepalive_ack, on_upkeep}
+use Rattle.cx_rules.specs.Upkeep.{on_keepalive, on_keepalive_ack}
 use Rattle.cx_rules.proofs.AlikeRows.{SameAhead}
 use Rattle.cx_rules.proofs.Fitting.{Fits, banner-fits, plain-fits, secure-fits}
+use Rattle.cx_rules.specs.Messages.{on_upkeep_or}
 
 -- ---- what is read has bytes
 
@@ -143,23 +144,24 @@ module _ {Own Stage : Type 0} where
   secure_sent-keeps a s stage seals (Ok sealed) = record { number = refl; ahead = refl }
   secure_sent-keeps a s stage seals (Err why) = tt
 
-  keepalive-keeps : (a : Arrival Own Stage) (s : Secured) (open_under : Secured → Stage) (r : Result Keepalive2 BytesFault) → Keeps a.link (on_keepalive a s open_under r)
+  pub keepalive-keeps : (a : Arrival Own Stage) (s : Secured) (open_under : Secured → Stage) (r : Result Keepalive2 BytesFault) → Keeps a.link (on_keepalive a s open_under r)
   keepalive-keeps a s open_under (Err why) = tt
   keepalive-keeps a s open_under (Ok keepalive) = secure_sent-keeps a s open_under [] _
 
-  keepalive_ack-keeps : (a : Arrival Own Stage) (s : Secured) (open_under : Secured → Stage) (r : Result Keepalive2Ack BytesFault) → Keeps a.link (on_keepalive_ack a s open_under r)
+  pub keepalive_ack-keeps : (a : Arrival Own Stage) (s : Secured) (open_under : Secured → Stage) (r : Result Keepalive2Ack BytesFault) → Keeps a.link (on_keepalive_ack a s open_under r)
   keepalive_ack-keeps a s open_under (Err why) = tt
   keepalive_ack-keeps a s open_under (Ok ack) = record { number = refl; ahead = refl }
 
-  pub upkeep-keeps : (a : Arrival Own Stage) (s : Secured) (open_under : Secured → Stage) (f : Frame) → Keeps a.link (on_upkeep a s open_under f)
-  upkeep-keeps a s open_under f = by_tests (f.tag == 18) (f.tag == 19)
+  pub upkeep-keeps : (other : Frame → Row Own Stage) (a : Arrival Own Stage) (s : Secured) (open_under : Secured → Stage) (f : Frame) → Keeps a.link (other f)
+      → Keeps a.link (on_upkeep_or other a s open_under f)
+  upkeep-keeps other a s open_under f h = by_tests (f.tag == 18) (f.tag == 19)
     where
       by_tests : (ask ack : Bool) → Keeps a.link
           (if ask then on_keepalive a s open_under (payload keepalive2_layout.form f)
-          else if ack then on_keepalive_ack a s open_under (payload keepalive2_ack_layout.form f) else refuses_bytes a (Unexpected f.tag) [])
+          else if ack then on_keepalive_ack a s open_under (payload keepalive2_ack_layout.form f) else other f)
       by_tests true ack = keepalive-keeps a s open_under (payload keepalive2_layout.form f)
       by_tests false true = keepalive_ack-keeps a s open_under (payload keepalive2_ack_layout.form f)
-      by_tests false false = tt
+      by_tests false false = h
 
 -- these rows leave what the node has of its own
 module _ {Own Stage : Type 0} where
@@ -172,23 +174,13 @@ module _ {Own Stage : Type 0} where
   secure_sent-own a s stage seals (Ok sealed) = refl
   secure_sent-own a s stage seals (Err why) = refl
 
-  keepalive-own : (a : Arrival Own Stage) (s : Secured) (open_under : Secured → Stage) (r : Result Keepalive2 BytesFault) → (on_keepalive a s open_under r).own ≡ a.own
+  pub keepalive-own : (a : Arrival Own Stage) (s : Secured) (open_under : Secured → Stage) (r : Result Keepalive2 BytesFault) → (on_keepalive a s open_under r).own ≡ a.own
   keepalive-own a s open_under (Err why) = refl
   keepalive-own a s open_under (Ok keepalive) = secure_sent-own a s open_under [] _
 
-  keepalive_ack-own : (a : Arrival Own Stage) (s : Secured) (open_under : Secured → Stage) (r : Result Keepalive2Ack BytesFault) → (on_keepalive_ack a s open_under r).own ≡ a.own
+  pub keepalive_ack-own : (a : Arrival Own Stage) (s : Secured) (open_under : Secured → Stage) (r : Result Keepalive2Ack BytesFault) → (on_keepalive_ack a s open_under r).own ≡ a.own
   keepalive_ack-own a s open_under (Err why) = refl
   keepalive_ack-own a s open_under (Ok ack) = refl
-
-  pub upkeep-own : (a : Arrival Own Stage) (s : Secured) (open_under : Secured → Stage) (f : Frame) → (on_upkeep a s open_under f).own ≡ a.own
-  upkeep-own a s open_under f = by_tests (f.tag == 18) (f.tag == 19)
-    where
-      by_tests : (ask ack : Bool) → (let row : Row Own Stage =
-          (if ask then on_keepalive a s open_under (payload keepalive2_layout.form f)
-          else if ack then on_keepalive_ack a s open_under (payload keepalive2_ack_layout.form f) else refuses_bytes a (Unexpected f.tag) []) in row.own) ≡ a.own
-      by_tests true ack = keepalive-own a s open_under (payload keepalive2_layout.form f)
-      by_tests false true = keepalive_ack-own a s open_under (payload keepalive2_ack_layout.form f)
-      by_tests false false = refl
 
 -- ---- turns
 

@@ -42,8 +42,8 @@ asker-ahead l (connector.AwaitsHello asked) = refl
 asker-ahead l (connector.AwaitsChallenge asked) = refl
 asker-ahead l connector.AwaitsDone = refl
 asker-ahead l (connector.AwaitsSignature s login) = refl
-asker-ahead l (connector.AwaitsIdent s) = refl
-asker-ahead l (connector.Open s) = refl
+asker-ahead l (connector.AwaitsIdent s session) = refl
+asker-ahead l (connector.Open s requests) = refl
 
 asker-found : (found : Option (Link connector.Stage)) → untaken_on (option_map abridged_asker_link found) ≡ untaken_on found
 asker-found None = refl

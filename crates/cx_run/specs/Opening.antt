@@ -19,7 +19,7 @@ use Rattle.cx_line_words.specs.declared.choices.Modes.TheVariants.{Crc, Secure, 
 use Rattle.cx_base.specs.declared.nodes.NodeName.{NodeName}
 use Rattle.cx_rotate.specs.declared.states.KeptState.{KeptState}
 use Rattle.cx_rules.specs.ClientRule.{ClientNode, opening_client}
-use Rattle.cx_rules.specs.Holdings.{Asker, holds_nothing, modes_of}
+use Rattle.cx_rules.specs.Holdings.{Asker, holds_nothing, modes_of, no_view}
 use Rattle.cx_rules.specs.Monitor.{MonitorNode}
 use Rattle.cx_rules.specs.MonitorRule.{opening_monitor}
 use Rattle.cx_steps.specs.declared.seals.DrawMark.TheVariants as draw
@@ -126,7 +126,15 @@ modes_in Secure = modes_of false true
 modes_in Both = modes_of true true
 
 abbrev pub asker_of : Declared → Asker
-asker_of e = record { name = e.name; secret = secret_of e; address = local e.number 0; modes = modes_in e.modes; global_seq = 0; holdings = holds_nothing }
+asker_of e = record {
+  name = e.name;
+  secret = secret_of e;
+  address = local e.number 0;
+  modes = modes_in e.modes;
+  global_seq = 0;
+  holdings = holds_nothing;
+  view = no_view;
+}
 
 -- daemons have no rules yet
 abbrev pub client_in : Declared → List ClientNode

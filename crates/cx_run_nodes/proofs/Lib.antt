@@ -1,5 +1,4 @@
 pub mod Finding
-pub mod Asking
 pub mod Keyed
 pub mod Placing
 pub mod Reading

@@ -24,7 +24,7 @@ use Rattle.cx_run_nodes.specs.Steps.{IsMemberStep, IsMonitorStep, client_behind,
 use Rattle.cx_run_nodes.specs.declared.made.Made.{Made}
 use Rattle.cx_run_nodes.specs.declared.members.Member.{Member}
 use Rattle.cx_run_nodes.specs.declared.nodes.Nodes.{Nodes}
-use Rattle.cx_run_nodes.proofs.Asking.{same_asker}
+use Rattle.cx_run.proofs.ClientNamed.{client-named}
 use Rattle.cx_run_nodes.proofs.Keyed.{key_found, replaced_elsewhere, replaced_here, same_node_is, same_node_self}
 use Rattle.cx_run_nodes.proofs.Placing.{IsFirst, found_first, member_elsewhere, member_here, old_name}
 
@@ -147,7 +147,7 @@ module _ (input : Input) (w : World) (name : Name) (held new : Nodes) (place : �
         let P : Stepped → Type 0 = Gives in
         let o = client_made input post c in
         let named : c.own.asker.name ≡ name = same_name_is c.own.asker.name name (key_found (λ (x : ClientNode). x.own.asker.name) same_name w.nodes.clients name c there) in
-        let kept : o.state.own.asker.name ≡ name = same_asker c input post.reading (seed_draw post.seed post.rolled) ∙ named in
+        let kept : o.state.own.asker.name ≡ name = client-named c input post.reading (seed_draw post.seed post.rolled) ∙ named in
         subst P (sym (stepped (Some c) there)) (behind (Some c) (with_client w.nodes name o.state) (does post (Some c) stands) refl
         (replaced_here (λ (x : ClientNode). x.own.asker.name) same_name same_name_self w.nodes.clients name c o.state kept there)
         (λ n e. replaced_elsewhere (λ (x : ClientNode). x.own.asker.name) same_name same_name_is w.nodes.clients name n o.state kept e))

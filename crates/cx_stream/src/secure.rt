@@ -16,7 +16,8 @@ ghost use Rattle.cx_stream.specs.Turning.{Finished, Readied};
 
 use crate::faults::StreamFault;
 use crate::stages::{Ended, Secure};
-use cx_base::{Blob, Items};
+use bytes::BytesMut;
+use cx_base::{Blob, Duplicate, Items};
 use cx_frame::Frame;
 use cx_secure::{Head, SecureRefusal, rest_len};
 use std::alloc::{AllocError, Global};
@@ -214,5 +215,17 @@ impl Secure {
     /// Ends the stream, with all bytes that it holds.
     pub fn end(self) -> Ended {
         Ended
+    }
+}
+
+// Of a stream and its copy one alone may send: two that do use a nonce twice.
+impl Duplicate for Secure {
+    fn copy(&self, alloc: Global) -> Result<Secure, AllocError> {
+        let rest = BytesMut::copy_from_slice(alloc, self.rest.as_slice())?;
+        Ok(Secure {
+            sealing: self.sealing,
+            head: self.head,
+            rest,
+        })
     }
 }

@@ -1,5 +1,5 @@
 -- What comes of a frame on an open link, whatever the stages of its end are called.
-use Rattle.std.specs.Prelude.{◌==◌, [], Result, Ok, Err, if◌then◌else◌}
+use Rattle.std.specs.Prelude.{◌==◌, ◌||◌, Bool, [], Result, Ok, Err, if◌then◌else◌}
 use Rattle.cx_control.specs.Upkeep.{keepalive2_layout, keepalive2_ack_layout}
 use Rattle.cx_control.specs.declared.upkeep.Keepalive2.{Keepalive2}
 use Rattle.cx_control.specs.declared.upkeep.Keepalive2Ack.{Keepalive2Ack}
@@ -25,3 +25,7 @@ upkept keys f =
     if f.tag == 18 then answered keys (payload keepalive2_layout.form f)
     else if f.tag == 19 then acknowledged keys (payload keepalive2_ack_layout.form f)
     else Err (Unexpected f.tag)
+
+-- KEEPALIVE2 or KEEPALIVE2_ACK
+abbrev pub is_keepalive : Frame → Bool
+is_keepalive f = f.tag == 18 || f.tag == 19

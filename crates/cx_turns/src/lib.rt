@@ -20,13 +20,13 @@ pub use coming::{Feeds, comes};
 pub use events::link_in;
 pub use making::{goes_on, handles, unless_refused};
 pub use moments::Moment;
-pub use opening::{opens, unopened};
+pub use opening::{opens, stands, unopened};
 pub use rows::{NoRow, NodeRow};
 pub use sending::{SentPlain, send_plain, send_secure};
 pub use signatures::checked;
 pub use turner::Turner;
 pub use turns::turn;
-pub use upkeep::upkept;
+pub use upkeep::{is_keepalive, upkept};
 
 // Each public type that owns something may be sent to another thread and shared with one, where its links and its changes may.
 fn is_sendable<T: Send + Sync>() {}

@@ -34,8 +34,9 @@ pub fn opens<L: Numbered>(
     }
 }
 
-// The link stands in the table, where it goes on.
-fn stands<L: Numbered>(
+/// A row is carried out on the link of this number, which then stands in its place, or in none where it is shut. Where memory is wanting, for
+/// the row or then, all is as before.
+pub fn stands<L: Numbered>(
     alloc: Global,
     links: &mut Links<L>,
     number: u32,

@@ -5,7 +5,7 @@ ghost use Rattle.cx_control.specs.Upkeep.{keepalive2_layout};
 ghost use Rattle.cx_enc.specs.Moments.{IsReading};
 ghost use Rattle.cx_rules.specs.Payloads.{payload, whole};
 ghost use Rattle.cx_turns.specs.Sending.{SendsSecure};
-ghost use Rattle.cx_turns.specs.Upkeep.{acknowledged, answered, upkept};
+ghost use Rattle.cx_turns.specs.Upkeep.{acknowledged, answered, is_keepalive, upkept};
 
 use crate::sending::send_secure;
 use cx_base::{Blob, Items};
@@ -16,6 +16,13 @@ use cx_journal::BytesFault;
 use cx_link::{SecureLink, SentFrame};
 use cx_node::payload;
 use std::alloc::{AllocError, Global};
+
+/// Whether a frame keeps an open link alive: KEEPALIVE2 or KEEPALIVE2_ACK.
+pub fn is_keepalive(frame: &Frame) -> bool
+    ensures { result ≡ is_keepalive frame.now }
+{
+    frame.tag == 18 || frame.tag == 19
+}
 
 /// What comes of a frame on an open link: the link as it goes on, with what is sent on it and logged of that, or why it is shut. No other
 /// frame than a keepalive is due.

@@ -1,4 +1,4 @@
-use Rattle.std.proofs.Common.{ℕ, List, ap, ◌∙◌}
+use Rattle.std.proofs.Common.{ℕ}
 use Rattle.cx_frame.specs.declared.frame.Frame.{Frame}
 use Rattle.cx_rules.specs.Acceptor.{AwaitsIdent}
 use Rattle.cx_rules.specs.MonitorRule.{on_ident}
@@ -16,14 +16,14 @@ use Rattle.cx_acceptor.proofs.turns.ident_turn.Goals as goal
 pub returns-in-Takes : goal.returns-in-Takes
 returns-in-Takes c =
     let t = rw (c.in-Takes.is, c.new-opened.ensures) at c.in_ok-link.ensures in
-    secure_turn abridged_link with_keys (arrived c.args.own.now c.args.at.now (awaiting_ident c.args.at.now.number c.args.link c.args.entity)) c.args.at.now.number c.args.link c.in-Takes.link (AwaitsIdent (keys_alone c.args.link.keys) c.args.entity)
-    (AwaitsIdent (keys_alone c.in-Takes.link.keys) c.args.entity) c.in-Takes.frame c.turn.new.seals (λ (a : MonitorArrival) (f : Frame) (keys : Keys). on_ident a (under (keys_alone c.args.link.keys) keys) c.args.entity f) c.on_ident-made.result c.handles.result t
+    secure_turn abridged_link with_keys (arrived c.args.own.now c.args.at.now (awaiting_ident c.args.at.now.number c.args.link c.args.bearer)) c.args.at.now.number c.args.link c.in-Takes.link (AwaitsIdent (keys_alone c.args.link.keys) c.args.bearer)
+    (AwaitsIdent (keys_alone c.in-Takes.link.keys) c.args.bearer) c.in-Takes.frame c.turn.new.seals (λ (a : MonitorArrival) (f : Frame) (keys : Keys). on_ident a (under (keys_alone c.args.link.keys) keys) c.args.bearer f) c.on_ident-made.result c.handles.result t
     (λ (n : ℕ). ident-same (record {
-      a = arrived c.args.own.now c.args.at.now (awaiting_ident c.args.at.now.number c.args.link c.args.entity);
+      a = arrived c.args.own.now c.args.at.now (awaiting_ident c.args.at.now.number c.args.link c.args.bearer);
       number = c.args.at.now.number;
       came = c.args.link.ahead;
       n = n;
-      stage = AwaitsIdent (keys_alone c.args.link.keys) c.args.entity;
-      next = AwaitsIdent (keys_alone c.in-Takes.link.keys) c.args.entity;
-    }) (keys_alone (keys_behind c.args.link.keys c.in-Takes.frame)) c.args.entity c.in-Takes.frame)
+      stage = AwaitsIdent (keys_alone c.args.link.keys) c.args.bearer;
+      next = AwaitsIdent (keys_alone c.in-Takes.link.keys) c.args.bearer;
+    }) (keys_alone (keys_behind c.args.link.keys c.in-Takes.frame)) c.args.bearer c.in-Takes.frame)
     c.on_ident-made.ensures c.handles.ensures

@@ -18,20 +18,20 @@ use Rattle.cx_acceptor.proofs.turns.signature_turn.Goals as goal
 pub returns-in_ok-found-in-Takes : goal.returns-in_ok-found-in-Takes
 returns-in_ok-found-in-Takes c =
     let t = rw (c.in-Takes.is, c.new-opened.ensures) at c.in_ok-signing.ensures in
-    let MadeBy : Secured → Type 0 = λ s. Makes c.args.own.now c.args.at.now (awaiting_signature c.args.at.now.number c.in-Takes.signing c.args.entity)
-    (λ (a : MonitorArrival). on_signature a s c.args.entity (due 7 auth_signature_layout.form c.in-Takes.frame)) c.on_signature-made.result in
+    let MadeBy : Secured → Type 0 = λ s. Makes c.args.own.now c.args.at.now (awaiting_signature c.args.at.now.number c.in-Takes.signing c.args.bearer)
+    (λ (a : MonitorArrival). on_signature a s c.args.bearer (due 7 auth_signature_layout.form c.in-Takes.frame)) c.on_signature-made.result in
     let m = subst MadeBy (ap (λ (s : Signing). secured_of s) t.1) (rw c.in_ok-found-in-Takes.ensures at c.on_signature-made.ensures) in
-    secure_turn abridged_link with_keys (arrived c.args.own.now c.args.at.now (awaiting_signature c.args.at.now.number c.args.signing c.args.entity)) c.args.at.now.number
-    c.args.signing.link c.in-Takes.signing.link (AwaitsSignature (secured_of c.args.signing) c.args.entity) (AwaitsSignature (secured_of c.in-Takes.signing) c.args.entity)
+    secure_turn abridged_link with_keys (arrived c.args.own.now c.args.at.now (awaiting_signature c.args.at.now.number c.args.signing c.args.bearer)) c.args.at.now.number
+    c.args.signing.link c.in-Takes.signing.link (AwaitsSignature (secured_of c.args.signing) c.args.bearer) (AwaitsSignature (secured_of c.in-Takes.signing) c.args.bearer)
     c.in-Takes.frame c.turn.new.seals
-    (λ (a : MonitorArrival) (f : Frame) (keys : Keys). on_signature a (under (secured_of c.args.signing) keys) c.args.entity (due 7 auth_signature_layout.form f))
+    (λ (a : MonitorArrival) (f : Frame) (keys : Keys). on_signature a (under (secured_of c.args.signing) keys) c.args.bearer (due 7 auth_signature_layout.form f))
     c.on_signature-made.result c.handles.result t.0
     (λ (n : ℕ). signature-same (record {
-      a = arrived c.args.own.now c.args.at.now (awaiting_signature c.args.at.now.number c.args.signing c.args.entity);
+      a = arrived c.args.own.now c.args.at.now (awaiting_signature c.args.at.now.number c.args.signing c.args.bearer);
       number = c.args.at.now.number;
       came = c.args.signing.link.ahead;
       n = n;
-      stage = AwaitsSignature (secured_of c.args.signing) c.args.entity;
-      next = AwaitsSignature (secured_of c.in-Takes.signing) c.args.entity;
-    }) (under (secured_of c.args.signing) (keys_behind c.args.signing.link.keys c.in-Takes.frame)) c.args.entity (due 7 auth_signature_layout.form c.in-Takes.frame))
+      stage = AwaitsSignature (secured_of c.args.signing) c.args.bearer;
+      next = AwaitsSignature (secured_of c.in-Takes.signing) c.args.bearer;
+    }) (under (secured_of c.args.signing) (keys_behind c.args.signing.link.keys c.in-Takes.frame)) c.args.bearer (due 7 auth_signature_layout.form c.in-Takes.frame))
     m c.handles.ensures

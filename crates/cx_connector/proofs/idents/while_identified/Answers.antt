@@ -9,8 +9,8 @@ use Rattle.cx_connector.proofs.idents.while_identified.Goals as goal
 
 pub returns-in_ok-read : goal.returns-in_ok-read
 returns-in_ok-read c =
-    let a : AskerArrival = arrived c.args.asker.now c.args.at.now (awaiting_ident c.args.at.now.number c.args.link) in
-    makes_as abridged_asker_link changed a (on_missing_features a c.in_ok-read.read) (while_identified a (keys_alone c.args.link.keys) c.args.frame.now)
+    let a : AskerArrival = arrived c.args.asker.now c.args.at.now (awaiting_ident c.args.at.now.number c.args.link c.args.session) in
+    makes_as abridged_asker_link changed a (on_missing_features a c.in_ok-read.read) (while_identified a (keys_alone c.args.link.keys) c.args.session c.args.frame.now)
     c.on_missing_features.result
-    (features_missing a (keys_alone c.args.link.keys) c.args.frame.now c.in_ok-read.read c.if-frame-eq10.true c.in_ok-read.ensures)
-    (c.on_missing_features.ensures c.args.link.ahead (AwaitsIdent (keys_alone c.args.link.keys)))
+    (features_missing a (keys_alone c.args.link.keys) c.args.session c.args.frame.now c.in_ok-read.read c.if-frame-eq10.true c.in_ok-read.ensures)
+    (c.on_missing_features.ensures c.args.link.ahead (AwaitsIdent (keys_alone c.args.link.keys) c.args.session))

@@ -14,15 +14,15 @@ use Rattle.cx_connector.proofs.turns.ident_turn.Goals as goal
 pub returns-in-Takes : goal.returns-in-Takes
 returns-in-Takes c =
     let t = rw (c.in-Takes.is, c.new-opened.ensures) at c.in_ok-link.ensures in
-    secure_turn abridged_asker_link changed (arrived c.args.asker.now c.args.at.now (awaiting_ident c.args.at.now.number c.args.link)) c.args.at.now.number
-    c.args.link c.in-Takes.link (AwaitsIdent (keys_alone c.args.link.keys)) (AwaitsIdent (keys_alone c.in-Takes.link.keys)) c.in-Takes.frame c.turn.new.seals
-    (λ (a : AskerArrival) (f : Frame) (keys : Keys). while_identified a (under (keys_alone c.args.link.keys) keys) f) c.while_identified-made.result c.handles.result t
+    secure_turn abridged_asker_link changed (arrived c.args.asker.now c.args.at.now (awaiting_ident c.args.at.now.number c.args.link c.args.session)) c.args.at.now.number
+    c.args.link c.in-Takes.link (AwaitsIdent (keys_alone c.args.link.keys) c.args.session) (AwaitsIdent (keys_alone c.in-Takes.link.keys) c.args.session) c.in-Takes.frame c.turn.new.seals
+    (λ (a : AskerArrival) (f : Frame) (keys : Keys). while_identified a (under (keys_alone c.args.link.keys) keys) c.args.session f) c.while_identified-made.result c.handles.result t
     (λ (n : ℕ). ident-same (record {
-      a = arrived c.args.asker.now c.args.at.now (awaiting_ident c.args.at.now.number c.args.link);
+      a = arrived c.args.asker.now c.args.at.now (awaiting_ident c.args.at.now.number c.args.link c.args.session);
       number = c.args.at.now.number;
       came = c.args.link.ahead;
       n = n;
-      stage = AwaitsIdent (keys_alone c.args.link.keys);
-      next = AwaitsIdent (keys_alone c.in-Takes.link.keys);
-    }) (keys_alone (keys_behind c.args.link.keys c.in-Takes.frame)) c.in-Takes.frame)
+      stage = AwaitsIdent (keys_alone c.args.link.keys) c.args.session;
+      next = AwaitsIdent (keys_alone c.in-Takes.link.keys) c.args.session;
+    }) (keys_alone (keys_behind c.args.link.keys c.in-Takes.frame)) c.args.session c.in-Takes.frame)
     c.while_identified-made.ensures c.handles.ensures

@@ -1,8 +1,8 @@
 use Rattle.std.proofs.Common.{ℕ}
 use Rattle.cx_frame.specs.declared.frame.Frame.{Frame}
 use Rattle.cx_rules.specs.Connector.{AskerArrival, Open}
-use Rattle.cx_rules.specs.Upkeep.{on_upkeep}
-use Rattle.cx_connector.proofs.Behind.{upkeep-same}
+use Rattle.cx_rules.specs.Requests.{on_open}
+use Rattle.cx_connector.proofs.Behind.{open-same}
 use Rattle.cx_rules.specs.Abridged.{abridged_asker_link}
 use Rattle.cx_rules.specs.Fronts.{keys_behind}
 use Rattle.cx_rules.specs.Secured.{Keys, under}
@@ -15,15 +15,15 @@ use Rattle.cx_connector.proofs.turns.open_turn.Goals as goal
 pub returns-in-Takes : goal.returns-in-Takes
 returns-in-Takes c =
     let t = rw (c.in-Takes.is, c.new-opened.ensures) at c.in_ok-link.ensures in
-    secure_turn abridged_asker_link changed (arrived c.args.asker.now c.args.at.now (open_link c.args.at.now.number c.args.link)) c.args.at.now.number
-    c.args.link c.in-Takes.link (Open (keys_alone c.args.link.keys)) (Open (keys_alone c.in-Takes.link.keys)) c.in-Takes.frame c.turn.new.seals
-    (λ (a : AskerArrival) (f : Frame) (keys : Keys). on_upkeep a (under (keys_alone c.args.link.keys) keys) Open f) c.on_upkeep-made.result c.handles.result t
-    (λ (n : ℕ). upkeep-same (record {
-      a = arrived c.args.asker.now c.args.at.now (open_link c.args.at.now.number c.args.link);
+    secure_turn abridged_asker_link changed (arrived c.args.asker.now c.args.at.now (open_link c.args.at.now.number c.args.link c.args.requests)) c.args.at.now.number
+    c.args.link c.in-Takes.link (Open (keys_alone c.args.link.keys) c.args.requests) (Open (keys_alone c.in-Takes.link.keys) c.args.requests) c.in-Takes.frame c.turn.new.seals
+    (λ (a : AskerArrival) (f : Frame) (keys : Keys). on_open Open a (under (keys_alone c.args.link.keys) keys) c.args.requests f) c.on_open-made.result c.handles.result t
+    (λ (n : ℕ). open-same (record {
+      a = arrived c.args.asker.now c.args.at.now (open_link c.args.at.now.number c.args.link c.args.requests);
       number = c.args.at.now.number;
       came = c.args.link.ahead;
       n = n;
-      stage = Open (keys_alone c.args.link.keys);
-      next = Open (keys_alone c.in-Takes.link.keys);
-    }) (keys_behind c.args.link.keys c.in-Takes.frame) c.in-Takes.frame)
-    c.on_upkeep-made.ensures c.handles.ensures
+      stage = Open (keys_alone c.args.link.keys) c.args.requests;
+      next = Open (keys_alone c.in-Takes.link.keys) c.args.requests;
+    }) (keys_behind c.args.link.keys c.in-Takes.frame) c.args.requests c.in-Takes.frame)
+    c.on_open-made.ensures c.handles.ensures

@@ -11,5 +11,5 @@ pub returns-clause-kept : goal.returns-clause-kept
 returns-clause-kept c =
     let m : MonitorNode = node_of c.args.own.now c.args.links.now.links in
     let s = rw c.note.ensures at c.in_ok-out.ensures.step in
-    saves_kept m (monitor_rule m (input_of c.args.event) c.args.now c.args.draw.now.bytes) c.happens.new.own.saved c.in_ok-out.out
+    saves_kept m (input_of c.args.event) (monitor_rule m (input_of c.args.event) c.args.now c.args.draw.now.bytes) c.happens.new.own.saved c.in_ok-out.out
     (c.rule_laws.ensures.judged m (input_of c.args.event) c.args.now c.args.draw.now.bytes) s.out (ap (λ (n : MonitorNode). n.own.saved) s.state) c.is_kept.ensures

@@ -8,7 +8,7 @@ pub returns-clause-monitor_rows : goal.returns-clause-monitor_rows
 returns-clause-monitor_rows c = are_the_rows _ _
 
 pub returns-clause-monitor_denial : goal.returns-clause-monitor_denial
-returns-clause-monitor_denial c = is_the_denial _ _ _
+returns-clause-monitor_denial c = is_the_denial _ _ _ _
 
 pub returns-clause-asker_links : goal.returns-clause-asker_links
 returns-clause-asker_links c = are_the_links _

@@ -5,4 +5,4 @@ use Rattle.cx_client.proofs.client.Client.idle.Goals as goal
 
 pub returns-clause-stands : goal.returns-clause-stands
 returns-clause-stands c = λ s stands.
-    c.are_open.ensures ∙ ap is_idle c.self.view_is ∙ c.forgetting_laws.ensures.client_idle c.args.self.now s stands
+    c.are_quiet.ensures ∙ ap is_idle c.self.view_is ∙ c.forgetting_laws.ensures.client_idle c.args.self.now s stands
