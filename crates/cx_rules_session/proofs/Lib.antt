@@ -1,0 +1,12 @@
+pub mod AskingAlike
+pub mod Authorizing
+pub mod CallForgets
+pub mod DaemonForgets
+pub mod Fetching
+pub mod GuestForgets
+pub mod KindsAlike
+pub mod Lengths
+pub mod Sealable
+pub mod Sending
+pub mod Serving
+pub mod WholeClientForgets

@@ -1,0 +1,12 @@
+pub mod Asks
+pub mod ClientRule
+pub mod Complete
+pub mod DaemonRule
+pub mod Envelopes
+pub mod Forgets
+pub mod Guests
+pub mod Hosting
+pub mod Kinds
+pub mod Lossy
+pub mod Presenter
+pub mod Sessions
