@@ -8,19 +8,18 @@ What one node of a recorded run got on its links comes on the links of that node
 printed was taken from the crates: it is what an independent implementation had the node do, one event after the other.
 """
 
-import importlib.util
 import itertools
 import os
 import sys
 
-MACHINES = os.path.join(os.path.dirname(os.path.abspath(__file__)), "..", "cx_answers_machines")
-spec = importlib.util.spec_from_file_location("machines", os.path.join(MACHINES, "expected.py"))
-machines = importlib.util.module_from_spec(spec)
-spec.loader.exec_module(machines)
+sys.path.append(os.path.join(os.path.dirname(os.path.abspath(__file__)), "..", "cx_answers_machines"))
+from ciphers import secret_of
+from runs import Run, heads_of, key_text, place_of
 
 # A run, the node of it that is driven, what fails, and what the run shows.
 RUNS = (
-    ("first_login", "mon", "", "the monitor, to which a daemon and a client log in"),
+    ("first_login", "mon", "", "the monitor, to which a daemon and a client log in, and which answers a request"),
+    ("renewed_tickets", "mon", "", "the monitor, which answers a daemon's and a client's requests"),
     ("kept_gid", "mon", "", "the monitor, to which a client logs in twice"),
     ("kept_gid", "client.a", "", "a client that logs in twice"),
     ("reclaim_denied", "mon", "", "the monitor denies a login that keeps a global id"),
@@ -48,13 +47,9 @@ class Alone:
     """One node of a run: the rows of what comes to it, and what it does."""
 
     def __init__(self, name, node, fails):
-        folder = os.path.join(MACHINES, "recorded")
-        with open(f"{folder}/{name}.schedule") as f:
-            self.schedule = f.read()
-        with open(f"{folder}/{name}.trace") as f:
-            blocks, self.journal = machines.blocks_of(name, machines.renewed(f.read()))
-        self.name, self.node = name, node
-        self.blocks = [(words, told) for words, told in blocks if words[0] == node]
+        run = Run(name)
+        self.schedule, self.journal, self.name, self.node = run.schedule, run.journal, name, node
+        self.blocks = [(words, told) for words, told in run.blocks if words[0] == node]
         self.what, self.number = (fails.split(" ") + ["0"])[:2] if fails else ("", "0")
         self.number = int(self.number)
         self.comes, self.does, self.readings, self.orders, self.fails = [], [], [], [], []
@@ -94,7 +89,7 @@ class Alone:
         turning = False
         for place, (words, told) in enumerate(self.blocks):
             kind = words[1]
-            _, reading, draw = machines.place_of(words)
+            _, reading, draw = place_of(words)
             if turning and kind != "turn":
                 self.step(self.readings[-1])
                 turning = False
@@ -159,11 +154,11 @@ class Alone:
         return f"# {self.name}, {self.node}: {shows}"
 
     def rows(self, shows):
-        entities, seeds, modes, life = machines.heads_of(self.schedule)
+        entities, seeds, modes, life = heads_of(self.schedule)
         yield self.title(shows)
         for i, (entity, grants) in enumerate(entities):
             yield f"ring [{entity}]"
-            yield f"ring key = {machines.key_text(machines.secret_of(i + 1))}"
+            yield f"ring key = {key_text(secret_of(i + 1))}"
             if grants:
                 service, caps = grants.split(" ", 1)
                 yield f"ring caps {service} = {caps}"

@@ -43,11 +43,20 @@ impl<'a> Coming<'a> {
         number_of(self.first)
     }
 
+    // What the node is told to do, with these services.
+    fn command(&self) -> Command {
+        let services = number_of(self.second);
+        match self.first {
+            "renew" => Command::Renew(services),
+            _ => Command::Login(services),
+        }
+    }
+
     /// The event, with these bytes where bytes come.
     pub fn event<'b>(&self, bytes: &'b [u8]) -> Event<'b> {
         let link = self.link();
         match self.what {
-            "submit" => Event::Submit(Command::Login(number_of(self.second))),
+            "submit" => Event::Submit(self.command()),
             "opened" => Event::Opened(link, peer_of(self.second)),
             "bytes" => Event::Bytes(link, bytes),
             "turn" => Event::Turn(link),

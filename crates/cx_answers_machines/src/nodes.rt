@@ -6,6 +6,7 @@ use cx_base::{Addr, Blob, EntityName, EntityType, SECOND, Text, TextRefusal};
 use cx_client::Client;
 use cx_dice::{Dice, Draw, SeedDice};
 use cx_holdings::OfferedModes;
+use cx_keep::decode_state;
 use cx_keyring::{Keyring, KeyringRefusal, parse};
 use cx_keyserver::KeyServer;
 use cx_mon::Monitor;
@@ -93,6 +94,19 @@ fn first_state(life: &str, auth_life: &str) -> KeptState
     }
 }
 
+// The state that these words spell, of lives of so many seconds; where they spell none, that of a monitor that has kept nothing yet.
+fn state_of(alloc: Global, kept: &str, life: &str, auth_life: &str) -> KeptState
+    ensures { IsKeptState result }
+{
+    let Ok(bytes) = hex::decode(alloc, kept) else {
+        return first_state(life, auth_life);
+    };
+    match decode_state(&bytes, life_of(life), life_of(auth_life)) {
+        Ok(state) => state,
+        Err(_) => first_state(life, auth_life),
+    }
+}
+
 // The keyring of these lines; an empty one where they are none.
 fn ring_of(alloc: Global, lines: &[u8]) -> Result<Keyring, AllocError> {
     match parse(alloc, lines) {
@@ -114,14 +128,15 @@ fn client_name(alloc: Global, word: &str) -> Result<Option<EntityName>, AllocErr
     }
 }
 
-/// The monitor of a row `SEED LIFE AUTH_LIFE`, with the keyring of these lines.
+/// The monitor of a row `SEED LIFE AUTH_LIFE STATE`, with the keyring of these lines.
 pub fn monitor_of(alloc: Global, lines: &[u8], row: &str) -> Result<MonitorNode, AllocError> {
     let mut words = row.split(' ');
     let seed = words.next().unwrap_or("");
     let life = words.next().unwrap_or("");
     let auth_life = words.next().unwrap_or("");
+    let kept = words.next().unwrap_or("");
     let ring = ring_of(alloc, lines)?;
-    let server = KeyServer::new(ring, first_state(life, auth_life));
+    let server = KeyServer::new(ring, state_of(alloc, kept, life, auth_life));
     Ok(MonitorNode {
         monitor: Monitor::new(alloc, server, local(0, 6789)),
         draws: Draws::new(alloc, seed),
