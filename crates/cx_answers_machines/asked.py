@@ -701,6 +701,30 @@ def spent_ids(run, scene, first):
         yield from play.end()
 
 
+# ---- the monitor's two calls alone: what no frames of a run can bring to it
+
+
+def unmet(run):
+    """Requests of an entity that isn't in the keyring, and behind the last numbers of messages."""
+    yield (row := "# unmet: requests of an entity that isn't in the keyring, and behind the last numbers"), [row]
+    yield from ((line, []) for line in run.rows() if line.startswith("ring "))
+    most = 2**64 - 1
+    for name, last, seq, code, told in (
+        ("client.a", 0, 1, TICKETS, "answered"),
+        ("client.b", 0, 1, TICKETS, "refused unknown-entity"),
+        ("client.b", 0, 1, ROTATING, "refused not-a-daemon"),
+        ("client.b", 0, 2, TICKETS, "refused gap 1"),
+        ("client.a", most - 1, most, TICKETS, "answered"),
+        ("client.a", most - 1, 1, TICKETS, f"refused gap {most}"),
+        ("client.a", most, most, TICKETS, "refused spent"),
+        ("client.a", most, 0, TICKETS, "refused spent"),
+        ("client.a", most, 1, ROTATING, "refused spent"),
+    ):
+        body = request(code) if code == ROTATING else request(code, 4)
+        row = f"request {name} {last} 1000 {header(seq, 1, 17).hex()} {body.hex()}"
+        yield row, [f"request {name} {last}", f"  {told}"]
+
+
 # ---- all of it
 
 
@@ -724,3 +748,4 @@ def tried_asked(run):
     yield from spent_counters(run, login, renew)
     yield from more_tickets(run, open_links, renew)
     yield from spent_ids(run, first, login)
+    yield from unmet(run)

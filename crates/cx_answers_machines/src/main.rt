@@ -2,6 +2,7 @@
 //! event with its reading and its draw. For each event the program prints what the node gave, and at the end of a run its journal.
 #![tactic(auto)]
 
+mod asked;
 mod events;
 mod nodes;
 mod rows;

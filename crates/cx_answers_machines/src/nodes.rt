@@ -116,8 +116,8 @@ fn ring_of(alloc: Global, lines: &[u8]) -> Result<Keyring, AllocError> {
     }
 }
 
-// The client of this name; none where the word is no client's.
-fn client_name(alloc: Global, word: &str) -> Result<Option<EntityName>, AllocError> {
+/// The client of this name; none where the word is no client's.
+pub fn client_name(alloc: Global, word: &str) -> Result<Option<EntityName>, AllocError> {
     let Some(id) = word.strip_prefix("client.") else {
         return Ok(None);
     };
@@ -141,6 +141,12 @@ pub fn monitor_of(alloc: Global, lines: &[u8], row: &str) -> Result<MonitorNode,
         monitor: Monitor::new(alloc, server, local(0, 6789)),
         draws: Draws::new(alloc, seed),
     })
+}
+
+/// A key server that has kept nothing yet, with the keyring of these lines and lives of an hour.
+pub fn server_of(alloc: Global, lines: &[u8]) -> Result<KeyServer, AllocError> {
+    let ring = ring_of(alloc, lines)?;
+    Ok(KeyServer::new(ring, first_state("3600", "3600")))
 }
 
 /// The client of a row `NAME SEED NUMBER MODES`, where the keyring of these lines has its name.

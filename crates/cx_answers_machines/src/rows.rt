@@ -1,7 +1,8 @@
 //! Rows of runs, and what is told of them.
 
+use crate::asked::asked;
 use crate::events::{Coming, number_of, reading_of};
-use crate::nodes::{ClientNode, MonitorNode, client_of, monitor_of};
+use crate::nodes::{ClientNode, MonitorNode, client_of, monitor_of, server_of};
 use crate::shown::{Ascii, put_effects, put_saved, put_seals};
 use cx_base::{Blob, Duplicate};
 use cx_dice::Draw;
@@ -98,6 +99,7 @@ impl Run {
                 format!(in alloc; "{row}\n")
             }
             "client" => self.client(alloc, row, rest),
+            "request" => asked(alloc, server_of(alloc, self.ring.bytes())?, rest),
             "fails" => {
                 self.fails = Some(rest == "old");
                 Ok(String::new(alloc))
