@@ -1,0 +1,32 @@
+-- Facts of the links as a daemon holds them.
+use Rattle.std.proofs.Common.{◌≡◌, ℕ, List, Result, Ok, Err, OnOk, refl}
+use Rattle.cx_verifying.specs.Stages.{link_held}
+use Rattle.cx_verifying.specs.declared.links.Stage.{Stage}
+use Rattle.cx_verifying.specs.declared.links.Stage.TheVariants as held
+use Rattle.cx_rules.specs.Abridged.{abridged_link}
+use Rattle.cx_turns.specs.Stages.{with_more}
+use Rattle.cx_turns.specs.Steps.{IsFed}
+
+pub number_held : (number : ℕ) (stage : Stage) → (link_held number stage).number ≡ number
+number_held number (held.AwaitsBanner wire) = refl
+number_held number (held.AwaitsHello wire) = refl
+number_held number (held.AwaitsRequest wire) = refl
+number_held number (held.AwaitsProof wire awaited) = refl
+number_held number (held.AwaitsSignature signing owner) = refl
+number_held number (held.AwaitsIdent link owner) = refl
+number_held number (held.Open link served) = refl
+
+-- each of them is a link of which no more can be forgotten
+pub held_abridged : (number : ℕ) (stage : Stage) → abridged_link (link_held number stage) ≡ link_held number stage
+held_abridged number (held.AwaitsBanner wire) = refl
+held_abridged number (held.AwaitsHello wire) = refl
+held_abridged number (held.AwaitsRequest wire) = refl
+held_abridged number (held.AwaitsProof wire awaited) = refl
+held_abridged number (held.AwaitsSignature signing owner) = refl
+held_abridged number (held.AwaitsIdent link owner) = refl
+held_abridged number (held.Open link served) = refl
+
+pub link_fed : {X E : Type 0} (number : ℕ) (old new : Stage) (bytes : List ℕ) (r : Result X E) → OnOk r (link_held number new ≡ with_more bytes (link_held number old))
+    → OnOk r (IsFed abridged_link (link_held number old) bytes (link_held number new))
+link_fed number old new bytes (Ok x) e = (e, held_abridged number new)
+link_fed number old new bytes (Err error) e = tt

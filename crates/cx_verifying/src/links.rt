@@ -1,0 +1,96 @@
+//! The links of guests: a number, and a stage with all that is held of the link.
+
+use crate::owners::SessionOwner;
+use crate::served::Served;
+use cx_authorize::Awaiting;
+use cx_link::{BannerLink, PlainLink, SecureLink, Signing};
+use cx_node::Numbered;
+use cx_turns::Feeds;
+use std::alloc::{AllocError, Global};
+use std::marker::Model;
+
+/// What a link waits for, with what the daemon has of it.
+#[derive(Drop)]
+pub enum Stage {
+    AwaitsBanner(BannerLink),
+    AwaitsHello(PlainLink),
+    AwaitsRequest(PlainLink),
+    /// The challenge that the second authorizer has to answer.
+    AwaitsProof(PlainLink, Awaiting),
+    AwaitsSignature(Signing, SessionOwner),
+    AwaitsIdent(SecureLink, SessionOwner),
+    Open(SecureLink, Served),
+}
+
+impl Stage {
+    ghost use Rattle.std.specs.Prelude.{ℕ, ◌≡◌, OnOk};
+    ghost use Rattle.cx_verifying.specs.Stages.{link_held};
+    ghost use Rattle.cx_turns.specs.Stages.{with_more};
+
+    // Puts bytes behind those that came on the link.
+    fn feed(&mut self, alloc: Global, bytes: &[u8]) -> Result<(), AllocError>
+        ensures { (number : ℕ) → OnOk result (link_held number self.new ≡ with_more bytes.now (link_held number self.old)) }
+    {
+        match self {
+            Stage::AwaitsBanner(link) => link.feed(alloc, bytes),
+            Stage::AwaitsHello(link) => link.feed(alloc, bytes),
+            Stage::AwaitsRequest(link) => link.feed(alloc, bytes),
+            Stage::AwaitsProof(link, _) => link.feed(alloc, bytes),
+            Stage::AwaitsSignature(signing, _) => signing.link.feed(alloc, bytes),
+            Stage::AwaitsIdent(link, _) => link.feed(alloc, bytes),
+            Stage::Open(link, _) => link.feed(alloc, bytes),
+        }
+    }
+}
+
+/// A live link of a guest.
+#[derive(Drop)]
+pub struct Link {
+    pub number: u32,
+    pub stage: Stage,
+}
+
+impl Link {
+    ghost use Rattle.std.specs.Prelude.{◌≡◌};
+    ghost use Rattle.cx_verifying.specs.Stages.{link_held};
+
+    /// The link of this number, in a stage.
+    pub fn new(number: u32, stage: Stage) -> Link
+        ensures { result ≡ link_held number stage }
+    {
+        Link { number, stage }
+    }
+}
+
+impl Model for Link {
+    ghost use Rattle.cx_rules.specs.Links.{Link};
+    ghost use Rattle.cx_rules_session.specs.Guests.{GuestStage};
+
+    ghost Value = { Link GuestStage };
+
+    ghost use Rattle.cx_verifying.specs.Stages.{link_held};
+
+    ghost view = { λ l. link_held l.number l.stage };
+}
+
+impl Numbered for Link {
+    ghost number_of = { λ l. l.number };
+
+    #[tactic(auto, using(crate::proofs::Stages::number_held))]
+    fn number(&self) -> u32 {
+        self.number
+    }
+}
+
+impl Feeds for Link {
+    ghost use Rattle.cx_rules.specs.Abridged.{abridged_link};
+    ghost use Rattle.cx_turns.specs.Steps as steps;
+
+    ghost IsFed = { steps.IsFed abridged_link };
+
+    // No more of the link can be forgotten.
+    #[tactic(auto, using(crate::proofs::Stages::held_abridged, crate::proofs::Stages::number_held))]
+    fn feed(&mut self, alloc: Global, bytes: &[u8]) -> Result<(), AllocError> {
+        self.stage.feed(alloc, bytes)
+    }
+}
