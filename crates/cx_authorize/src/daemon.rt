@@ -1,18 +1,36 @@
 //! The daemon's side of an authorizer.
 
 ghost use Rattle.std.specs.Prelude.{◌≡◌};
-ghost use Rattle.cx_authorize.specs.Daemon.{IsChallenged, IsAdmitted};
 ghost use Rattle.cx_authorize.specs.Judging.{judged, judged_first, judged_second, IsChecked};
+ghost use Rattle.cx_authorize.specs.Passing.{IsAdmitted, IsChallenged};
 
 use crate::authorized::Authorized;
 use crate::judging::{Terms, judge};
 use crate::refusals::AuthRefusal;
-use crate::sealing::{challenge_bytes, reply_bytes};
+use crate::sealing::{challenge_bytes, challenge_sealed, reply_bytes, reply_sealed};
 use cx_base::{Blob, EntityType, Items, Reading};
 use cx_rotate::View;
 use cx_steps::SealEntry;
 use std::alloc::Global;
 use std::marker::Model;
+
+/// A first authorizer that passed: the daemon awaits the answer to its challenge, which these bytes tell. What was sealed in them is to be logged
+/// where they are sent.
+#[derive(Drop)]
+pub struct FirstPassed {
+    pub awaiting: Awaiting,
+    pub bytes: Blob,
+    pub sealed: SealEntry,
+}
+
+/// A second authorizer that passed: what a session may be admitted on, and the reply in bytes. What was sealed in them is to be logged where they
+/// are sent.
+#[derive(Drop)]
+pub struct SecondPassed {
+    pub authorized: Authorized,
+    pub bytes: Blob,
+    pub sealed: SealEntry,
+}
 
 /// A daemon of a service that awaits a client's first authorizer. It is not copied: one authorizer is challenged once.
 #[derive(Drop)]
@@ -45,7 +63,7 @@ impl First {
         now: Reading,
         challenge: u64,
         log: &mut Items<SealEntry>,
-    ) -> Result<(Awaiting, Blob), AuthRefusal>
+    ) -> Result<FirstPassed, AuthRefusal>
         ensures { IsChecked (judged_first self view.now now payload.now) (IsChallenged self challenge) log.old log.new result }
     {
         let terms = Terms {
@@ -64,14 +82,20 @@ fn check_first(
     payload: &[u8],
     challenge: u64,
     log: &mut Items<SealEntry>,
-) -> Result<(Awaiting, Blob), AuthRefusal>
+) -> Result<FirstPassed, AuthRefusal>
     ensures { IsChecked (judged terms.now payload.now) (IsChallenged terms.now.service challenge) log.old log.new result }
 {
     let service = terms.service;
     match judge(alloc, terms, payload, log)? {
         Ok(shown) => {
-            let bytes = challenge_bytes(alloc, &shown.ticket.session, challenge)?;
-            Ok((Awaiting { service, challenge }, bytes))
+            let session = shown.ticket.session;
+            let bytes = challenge_bytes(alloc, &session, challenge)?;
+            let sealed = challenge_sealed(alloc, &session, challenge)?;
+            Ok(FirstPassed {
+                awaiting: Awaiting { service, challenge },
+                bytes,
+                sealed,
+            })
         }
         Err(refusal) => Err(refusal),
     }
@@ -103,7 +127,7 @@ impl Awaiting {
         now: Reading,
         secret: &[u8; 64],
         log: &mut Items<SealEntry>,
-    ) -> Result<(Authorized, Blob), AuthRefusal>
+    ) -> Result<SecondPassed, AuthRefusal>
         ensures { IsChecked (judged_second self view.now now payload.now) (IsAdmitted view.now now secret.now) log.old log.new result }
     {
         let terms = Terms {
@@ -122,15 +146,21 @@ fn check_second(
     payload: &[u8],
     secret: &[u8; 64],
     log: &mut Items<SealEntry>,
-) -> Result<(Authorized, Blob), AuthRefusal>
+) -> Result<SecondPassed, AuthRefusal>
     ensures { IsChecked (judged terms.now payload.now) (IsAdmitted terms.now.view terms.now.reading secret.now) log.old log.new result }
 {
     match judge(alloc, terms, payload, log)? {
         Ok(shown) => {
             let session = shown.ticket.session;
-            let bytes = reply_bytes(alloc, &session, shown.authorize.nonce, secret)?;
+            let nonce = shown.authorize.nonce;
+            let bytes = reply_bytes(alloc, &session, nonce, secret)?;
+            let sealed = reply_sealed(alloc, &session, nonce, secret)?;
             let authorized = Authorized::new(shown.ticket, &terms.view, terms.reading);
-            Ok((authorized, bytes))
+            Ok(SecondPassed {
+                authorized,
+                bytes,
+                sealed,
+            })
         }
         Err(refusal) => Err(refusal),
     }

@@ -14,7 +14,7 @@ mod sealing;
 pub use authorized::Authorized;
 pub use client::{Agreed, Answering, Presenting};
 pub use cx_rotate::View;
-pub use daemon::{Awaiting, First};
+pub use daemon::{Awaiting, First, FirstPassed, SecondPassed};
 pub use laws::authorizer_laws;
 pub use refusals::{AuthFault, AuthRefusal, PresentRefusal};
 
@@ -28,6 +28,8 @@ fn all_are_sendable() {
     is_sendable::<First>();
     is_sendable::<Awaiting>();
     is_sendable::<Authorized>();
+    is_sendable::<FirstPassed>();
+    is_sendable::<SecondPassed>();
     is_sendable::<AuthFault>();
     is_sendable::<AuthRefusal>();
     is_sendable::<PresentRefusal>();

@@ -6,15 +6,18 @@ ghost use Rattle.cx_sealed.specs.Records.{authorize_layout, authorize_challenge_
 ghost use Rattle.cx_sealed.specs.Sealing.{IsSealed};
 ghost use Rattle.cx_wire.specs.Logins as payload;
 ghost use Rattle.cx_authorize.specs.Answers.{authorizer_of, IsAuthorizer, IsChallenge, IsReply};
+ghost use Rattle.cx_authorize.specs.Passing.{challenge_sealed, reply_sealed, session_sealed};
 
 use crate::judging::raised;
 use cx_base::{Blob, Duplicate};
-use cx_enc::TicketBlob;
+use cx_enc::{TicketBlob, write_whole};
+use cx_journal::KeyKind;
 use cx_login::HeldTicket;
 use cx_sealed::{
     Authorize, AuthorizeChallenge, AuthorizeReply, seal_authorize, seal_authorize_challenge,
     seal_authorize_reply,
 };
+use cx_steps::{SealEntry, SealMark};
 use cx_wire::{Authorizer, put_authorize_challenge, put_authorize_reply, put_authorizer};
 use std::alloc::{AllocError, Global};
 
@@ -147,4 +150,44 @@ fn written_reply(alloc: Global, reply: &cx_wire::AuthorizeReply) -> Result<Blob,
     let mut bytes = Blob::new(alloc);
     put_authorize_reply(alloc, &mut bytes, reply)?;
     Ok(bytes)
+}
+
+// That a challenge was sealed under a session key, as an entry of the log.
+pub(crate) fn challenge_sealed(
+    alloc: Global,
+    session: &[u8; 16],
+    challenge: u64,
+) -> Result<SealEntry, AllocError>
+    ensures { IfOk result (λ entry. entry ≡ challenge_sealed session.now challenge) }
+{
+    let content = write_whole(alloc, &AuthorizeChallenge { challenge })?;
+    Ok(sealed_entry(session, content))
+}
+
+// The same of the reply to a nonce, with the secret of the connection.
+pub(crate) fn reply_sealed(
+    alloc: Global,
+    session: &[u8; 16],
+    nonce: u64,
+    secret: &[u8; 64],
+) -> Result<SealEntry, AllocError>
+    ensures { IfOk result (λ entry. entry ≡ reply_sealed session.now nonce secret.now) }
+{
+    let reply = AuthorizeReply {
+        nonce_plus_one: raised(nonce),
+        secret: *secret,
+    };
+    let content = write_whole(alloc, &reply)?;
+    Ok(sealed_entry(session, content))
+}
+
+// A content that was sealed under a session key.
+fn sealed_entry(session: &[u8; 16], content: Blob) -> SealEntry
+    ensures { result ≡ session_sealed session.now content }
+{
+    SealEntry::Sealed(SealMark {
+        key: *session,
+        kind: KeyKind::Session,
+        content,
+    })
 }

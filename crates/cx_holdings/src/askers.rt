@@ -110,6 +110,13 @@ impl Asker {
         self.key.secret
     }
 
+    /// Its own address.
+    pub fn address(&self) -> Addr
+        ensures { result ≡ self.now.address }
+    {
+        self.address
+    }
+
     /// The generations that it was told last, and the reading at which it asked for them.
     pub fn view(&self) -> View
         ensures { result ≡ self.now.view }

@@ -1,8 +1,8 @@
 //! Authorizers: that of a run on both sides, bit for bit, and what is changed in one bit.
 
 use cx_authorize::{
-    Agreed, Answering, AuthFault, AuthRefusal, Authorized, Awaiting, First, PresentRefusal,
-    Presenting, View, authorizer_laws,
+    Agreed, Answering, AuthFault, AuthRefusal, Authorized, Awaiting, First, FirstPassed,
+    PresentRefusal, Presenting, SecondPassed, View, authorizer_laws,
 };
 use cx_base::{Blob, Duplicate, EntityType, Items, Owner, Reading};
 use cx_login::HeldTicket;
@@ -118,12 +118,12 @@ fn first(
     view: &View,
     now: Reading,
     challenge: u64,
-) -> Result<(Awaiting, Blob), AuthRefusal> {
+) -> Result<FirstPassed, AuthRefusal> {
     First::new(EntityType::Osd).check(alloc, payload, view, now, challenge, &mut log(alloc))
 }
 
 /// A daemon that drew this challenge and awaits the second authorizer of the run, and its answer to the first.
-fn awaiting(rt: &impl Abort, alloc: Global, view: &View, challenge: u64) -> (Awaiting, Blob) {
+fn awaiting(rt: &impl Abort, alloc: Global, view: &View, challenge: u64) -> FirstPassed {
     let shown = decoded(rt, alloc, FIRST);
     first(alloc, &shown, view, NOW, challenge).expect(rt, "the first authorizer is that of the run")
 }
@@ -135,7 +135,7 @@ fn judged(
     payload: &[u8],
     view: &View,
     secret: &[u8; 64],
-) -> Result<(Authorized, Blob), AuthRefusal> {
+) -> Result<SecondPassed, AuthRefusal> {
     awaiting.check(alloc, payload, view, EXPIRY - 1, secret, &mut log(alloc))
 }
 
@@ -144,18 +144,18 @@ fn second(
     rt: &impl Abort,
     alloc: Global,
     challenge: u64,
-) -> Result<(Authorized, Blob), AuthRefusal> {
+) -> Result<SecondPassed, AuthRefusal> {
     let view = view(rt, 1);
     let secret = secret(rt, CONNECTION);
     let shown = decoded(rt, alloc, SECOND);
-    let (awaiting, _) = awaiting(rt, alloc, &view, challenge);
-    judged(alloc, awaiting, &shown, &view, &secret)
+    let passed = awaiting(rt, alloc, &view, challenge);
+    judged(alloc, passed.awaiting, &shown, &view, &secret)
 }
 
 #[test]
 fn a_daemon_challenges_as_in_the_run(rt: HostRuntime) {
-    let (_, challenge) = awaiting(&rt, rt.alloc(), &view(&rt, 1), ASKED);
-    assert!(rt; are(&rt, rt.alloc(), challenge.bytes(), CHALLENGE));
+    let passed = awaiting(&rt, rt.alloc(), &view(&rt, 1), ASKED);
+    assert!(rt; are(&rt, rt.alloc(), passed.bytes.bytes(), CHALLENGE));
 }
 
 fn has_session(rt: &impl Abort, authorized: &Authorized) -> bool {
@@ -186,10 +186,10 @@ fn laws() {
 #[test]
 fn a_daemon_admits_as_in_the_run(rt: HostRuntime) {
     let answer = second(&rt, rt.alloc(), ASKED);
-    let (authorized, reply) = answer.expect(&rt, "the client is admitted");
-    assert!(rt; are(&rt, rt.alloc(), reply.bytes(), REPLY));
-    assert!(rt; has_session(&rt, &authorized));
-    assert!(rt; is_copied(&rt, rt.alloc(), &authorized));
+    let passed = answer.expect(&rt, "the client is admitted");
+    assert!(rt; are(&rt, rt.alloc(), passed.bytes.bytes(), REPLY));
+    assert!(rt; has_session(&rt, &passed.authorized));
+    assert!(rt; is_copied(&rt, rt.alloc(), &passed.authorized));
     laws();
 }
 

@@ -1,13 +1,13 @@
 use Rattle.std.proofs.Common.{refl}
-use Rattle.cx_authorize.specs.Daemon.{IsChallenged}
+use Rattle.cx_authorize.specs.Passing.{IsChallenged}
 use Rattle.cx_authorize.specs.Judging.{judged}
 use Rattle.cx_authorize.proofs.Checking.{passed_by, refused_by}
 use Rattle.cx_authorize.proofs.daemon.check_first.Goals as goal
 
-pub returns-in_ok-bytes-in-Ok : goal.returns-in_ok-bytes-in-Ok
-returns-in_ok-bytes-in-Ok c =
+pub returns-in_ok-sealed-in-Ok : goal.returns-in_ok-sealed-in-Ok
+returns-in_ok-sealed-in-Ok c =
     passed_by (judged c.args.terms.now c.args.payload.now) (IsChallenged c.args.terms.now.service c.args.challenge) c.args.log.now c.judge.new.log c.in-Ok.shown _
-    (rw c.in-Ok.is at c.in_ok-shown.ensures) (refl, c.in_ok-bytes-in-Ok.ensures)
+    (rw c.in-Ok.is at c.in_ok-shown.ensures) (record { awaiting = refl; bytes = c.in_ok-bytes-in-Ok.ensures; sealed = c.in_ok-sealed-in-Ok.ensures })
 
 pub returns-in-Err : goal.returns-in-Err
 returns-in-Err c =
