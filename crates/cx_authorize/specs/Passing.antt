@@ -1,5 +1,5 @@
 -- What a daemon makes of an authorizer that passes: the bytes that answer it, and what was sealed in them, as an entry of the log.
-use Rattle.std.specs.Prelude.{ℕ, ◌≡◌, List}
+use Rattle.std.specs.Prelude.{ℕ, ◌≡◌, ◌<◌, ◌^◌, List, length}
 use Rattle.cx_base.specs.declared.kinds.EntityType.{EntityType}
 use Rattle.cx_journal.specs.declared.premises.KeyKind.TheVariants as kind
 use Rattle.cx_rotate.specs.declared.views.View.{View}
@@ -27,16 +27,18 @@ abbrev pub reply_sealed : List ℕ → ℕ → List ℕ → SealEntry
 reply_sealed session nonce secret =
     session_sealed session (authorize_reply_layout.form.text (record { nonce_plus_one = raised nonce; secret = secret }))
 
--- ---- what passes
+-- ---- what passes, in so few bytes that a frame can hold them
 
 -- the first authorizer is answered by the daemon's challenge, under the ticket's session key
 pub record IsChallenged (service : EntityType) (challenge : ℕ) (shown : Shown) (passed : FirstPassed) : Type 0 where
   pub awaiting : passed.awaiting ≡ record { service = service; challenge = challenge }
   pub bytes : IsChallenge shown.ticket.session challenge passed.bytes
+  pub short : length passed.bytes < 2 ^ 32
   pub sealed : passed.sealed ≡ challenge_sealed shown.ticket.session challenge
 
 -- the second authorizer is answered by the reply to its nonce and the secret of the connection, under the same key
 pub record IsAdmitted (view : View) (reading : ℕ) (secret : List ℕ) (shown : Shown) (passed : SecondPassed) : Type 0 where
   pub authorized : passed.authorized ≡ record { ticket = shown.ticket; view = view; at = reading }
   pub bytes : IsReply shown.ticket.session shown.authorize.nonce secret passed.bytes
+  pub short : length passed.bytes < 2 ^ 32
   pub sealed : passed.sealed ≡ reply_sealed shown.ticket.session shown.authorize.nonce secret

@@ -1,6 +1,6 @@
 //! Writing the payloads by which a client and a daemon answer each other.
 
-ghost use Rattle.std.specs.Prelude.{◌≡◌, ◌<◌, ◌^◌, length, IfOk};
+ghost use Rattle.std.specs.Prelude.{◌≡◌, ◌<◌, ◌≤◌, ◌^◌, length, IfOk};
 ghost use Rattle.cx_enc.specs.Whole.{Spells};
 ghost use Rattle.cx_sealed.specs.Records.{authorize_layout, authorize_challenge_layout, authorize_reply_layout};
 ghost use Rattle.cx_sealed.specs.Sealing.{IsSealed};
@@ -86,7 +86,8 @@ pub(crate) fn challenge_bytes(
     session: &[u8; 16],
     challenge: u64,
 ) -> Result<Blob, AllocError>
-    ensures { IfOk result (IsChallenge session.now challenge) }
+    ensures spelled { IfOk result (IsChallenge session.now challenge) }
+    ensures short { IfOk result (λ bytes. length bytes < 2 ^ 32) }
 {
     let sealed = sealed_challenge(alloc, session, challenge)?;
     written_challenge(alloc, &cx_wire::AuthorizeChallenge { sealed })
@@ -94,19 +95,20 @@ pub(crate) fn challenge_bytes(
 
 fn sealed_challenge(alloc: Global, session: &[u8; 16], challenge: u64) -> Result<Blob, AllocError>
     ensures sealed { IfOk result (IsSealed authorize_challenge_layout.form session.now (record { challenge = challenge })) }
-    ensures short { IfOk result (λ sealed. length sealed < 2 ^ 32) }
+    ensures short { IfOk result (λ sealed. length sealed ≤ 1048592) }
 {
     let sealed = seal_authorize_challenge(alloc, session, &AuthorizeChallenge { challenge })?;
     Ok(sealed)
 }
 
-#[tactic(auto, using(cx_login::proofs::Put::put_spells))]
+#[tactic(auto, using(cx_login::proofs::Put::put_spells, crate::proofs::Short::short_challenge))]
 fn written_challenge(
     alloc: Global,
     challenge: &cx_wire::AuthorizeChallenge,
 ) -> Result<Blob, AllocError>
-    requires { length challenge.now.sealed < 2 ^ 32 }
-    ensures { IfOk result (λ bytes. Spells payload.authorize_challenge_layout.form bytes challenge.now) }
+    requires { length challenge.now.sealed ≤ 1048592 }
+    ensures spelled { IfOk result (λ bytes. Spells payload.authorize_challenge_layout.form bytes challenge.now) }
+    ensures short { IfOk result (λ bytes. length bytes < 2 ^ 32) }
 {
     let mut bytes = Blob::new(alloc);
     put_authorize_challenge(alloc, &mut bytes, challenge)?;
@@ -120,7 +122,8 @@ pub(crate) fn reply_bytes(
     nonce: u64,
     secret: &[u8; 64],
 ) -> Result<Blob, AllocError>
-    ensures { IfOk result (IsReply session.now nonce secret.now) }
+    ensures spelled { IfOk result (IsReply session.now nonce secret.now) }
+    ensures short { IfOk result (λ bytes. length bytes < 2 ^ 32) }
 {
     let reply = AuthorizeReply {
         nonce_plus_one: raised(nonce),
@@ -136,16 +139,17 @@ fn sealed_reply(
     reply: &AuthorizeReply,
 ) -> Result<Blob, AllocError>
     ensures sealed { IfOk result (IsSealed authorize_reply_layout.form session.now reply.now) }
-    ensures short { IfOk result (λ sealed. length sealed < 2 ^ 32) }
+    ensures short { IfOk result (λ sealed. length sealed ≤ 1048592) }
 {
     let sealed = seal_authorize_reply(alloc, session, reply)?;
     Ok(sealed)
 }
 
-#[tactic(auto, using(cx_login::proofs::Put::put_spells))]
+#[tactic(auto, using(cx_login::proofs::Put::put_spells, crate::proofs::Short::short_reply))]
 fn written_reply(alloc: Global, reply: &cx_wire::AuthorizeReply) -> Result<Blob, AllocError>
-    requires { length reply.now.sealed < 2 ^ 32 }
-    ensures { IfOk result (λ bytes. Spells payload.authorize_reply_layout.form bytes reply.now) }
+    requires { length reply.now.sealed ≤ 1048592 }
+    ensures spelled { IfOk result (λ bytes. Spells payload.authorize_reply_layout.form bytes reply.now) }
+    ensures short { IfOk result (λ bytes. length bytes < 2 ^ 32) }
 {
     let mut bytes = Blob::new(alloc);
     put_authorize_reply(alloc, &mut bytes, reply)?;

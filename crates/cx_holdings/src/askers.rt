@@ -14,7 +14,7 @@ use crate::offers::OfferedModes;
 use crate::pending::{Login, Renewed};
 use crate::steps::{answered, login_hello, opened};
 use crate::tickets::Holdings;
-use cx_base::{Addr, EntityName, Items, Reading};
+use cx_base::{Addr, Duplicate, EntityName, Items, NodeName, Reading};
 use cx_control::{AuthRequest, ClientIdent};
 use cx_enc::Key;
 use cx_journal::BytesFault;
@@ -71,6 +71,7 @@ impl Model for Asker {
 }
 
 impl Asker {
+    ghost use Rattle.cx_base.specs.declared.nodes.NodeName.TheVariants as node;
     ghost use Rattle.cx_rules.specs.Holdings.{afresh, held_login, holds_nothing, modes_of, no_view, put_tickets, unexpired};
 
     /// One that holds nothing yet.
@@ -101,6 +102,14 @@ impl Asker {
         ensures { result.now ≡ self.now.name }
     {
         &self.name
+    }
+
+    /// Who it is, as a node.
+    pub fn node_name(&self, alloc: Global) -> Result<NodeName, AllocError>
+        ensures { IfOk result (λ me. me ≡ node.Entity self.now.name) }
+    {
+        let name = self.name.copy(alloc)?;
+        Ok(NodeName::Entity(name))
     }
 
     /// Its own secret.

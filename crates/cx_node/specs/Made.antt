@@ -31,8 +31,12 @@ module _ {L : Type 0} where
   refusing_bytes me number why seals = refusing me number (Bytes why) seals
 
   -- AUTH_BAD_METHOD is sent with a code besides
+  abbrev pub denying_for : NodeName → ℕ → ℕ → Reason → List SealEntry → Row L
+  denying_for me number code why seals = record (refusing me number why seals) { sends = frame_text (bad_method code) }
+
+  -- the same for what is wrong with a login
   abbrev pub denying : NodeName → ℕ → ℕ → LoginFault → List SealEntry → Row L
-  denying me number code why seals = record (refusing me number (Login why) seals) { sends = frame_text (bad_method code) }
+  denying me number code why seals = denying_for me number code (Login why) seals
 
   -- a row behind what opened before it
   abbrev pub behind_opened : List SealEntry → Row L → Row L

@@ -17,7 +17,7 @@ pub use carrying::{Carried, carried_out, enters, loses};
 pub use controls::{bad_method, control};
 pub use laws::node_laws;
 pub use links::Links;
-pub use making::{denies, goes_on, refused_entry, refuses, refuses_bytes, with_opened};
+pub use making::{denies, denies_for, goes_on, refused_entry, refuses, refuses_bytes, with_opened};
 pub use numbered::Numbered;
 pub use payloads::{due, payload, payload_part, whole, whole_part};
 pub use rows::Row;

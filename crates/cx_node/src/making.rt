@@ -2,7 +2,7 @@
 
 ghost use Rattle.std.specs.Prelude.{◌≡◌, IfOk};
 ghost use Rattle.cx_rules.specs.Rows.{refused_entry};
-ghost use Rattle.cx_node.specs.Made.{going_on, refusing, refusing_bytes, denying, behind_opened};
+ghost use Rattle.cx_node.specs.Made.{going_on, refusing, refusing_bytes, denying, denying_for, behind_opened};
 
 use crate::controls::bad_method_bytes;
 use crate::rows::Row;
@@ -77,6 +77,22 @@ pub fn refuses_bytes<L>(
 }
 
 /// An acceptor sends AUTH_BAD_METHOD with a code, shuts the link and enters why.
+pub fn denies_for<L: Drop>(
+    alloc: Global,
+    me: &NodeName,
+    number: u32,
+    code: u32,
+    why: Reason,
+    seals: Items<SealEntry>,
+) -> Result<Row<L>, AllocError>
+    ensures { IfOk result (λ row. row ≡ denying_for me.now number code why seals) }
+{
+    let mut row = refuses(alloc, me, number, why, seals)?;
+    row.sends = bad_method_bytes(alloc, code)?;
+    Ok(row)
+}
+
+/// The same for what is wrong with a login.
 pub fn denies<L: Drop>(
     alloc: Global,
     me: &NodeName,
@@ -87,9 +103,7 @@ pub fn denies<L: Drop>(
 ) -> Result<Row<L>, AllocError>
     ensures { IfOk result (λ row. row ≡ denying me.now number code why seals) }
 {
-    let mut row = refuses(alloc, me, number, Reason::Login(why), seals)?;
-    row.sends = bad_method_bytes(alloc, code)?;
-    Ok(row)
+    denies_for(alloc, me, number, code, Reason::Login(why), seals)
 }
 
 /// The row behind what opened before it.

@@ -4,6 +4,8 @@ pub mod Handling
 pub mod Keeping
 pub mod Lifting
 pub mod MadeRows
+pub mod Requests
 pub mod Rising
+pub mod Signing
 pub mod Steps
 pub mod Turning

@@ -1,5 +1,7 @@
 pub mod Events
+pub mod Greetings
 pub mod Making
+pub mod Requests
 pub mod Sending
 pub mod Signatures
 pub mod Stages

@@ -1,7 +1,8 @@
 -- Rows as code makes them, against those of the rules: what a row sends is put to its link, and of that is kept what is held.
-use Rattle.std.specs.Prelude.{◌≡◌, ℕ, List, [], ◌++◌, Option, Some, None, IfSome, Result, Ok, Err}
+use Rattle.std.specs.Prelude.{◌≡◌, ℕ, List, [], ◌∷◌, ◌++◌, Option, Some, None, IfSome, Result, Ok, Err}
 use Rattle.std.specs.Option.{option_map}
 use Rattle.cx_base.specs.declared.nodes.NodeName.{NodeName}
+use Rattle.cx_journal.specs.declared.entries.Entry.{Entry}
 use Rattle.cx_journal.specs.declared.outcomes.Reason.TheVariants.{Bytes}
 use Rattle.cx_link.specs.declared.refusals.LinkRefusal.{LinkRefusal}
 use Rattle.cx_link.specs.declared.refusals.LinkRefusal.TheVariants as link
@@ -34,6 +35,10 @@ module _ {L Change : Type 0} where
   -- a row behind what opened before it
   abbrev pub row_behind : List SealEntry → NodeRow L Change → NodeRow L Change
   row_behind opened made = record made { row = behind_opened opened made.row }
+
+  -- a row behind what is entered first
+  abbrev pub entering : Entry → NodeRow L Change → NodeRow L Change
+  entering first made = record made { row = record made.row { entries = first ∷ made.row.entries } }
 
   -- the row that was made, or that of the refusal on the link of this number, behind what opened before it
   abbrev pub IsRowOf : NodeName → ℕ → List SealEntry → Result (NodeRow L Change) NoRow → NodeRow L Change → Type 0

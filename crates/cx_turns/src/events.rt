@@ -1,10 +1,13 @@
-//! Events, by the link that they are about.
+//! Events, by the link that they are about, and what a step of one gives where memory is wanting.
 
 ghost use Rattle.std.specs.Prelude.{◌≡◌};
 ghost use Rattle.cx_turns.specs.Events.{link_in};
 ghost use Rattle.cx_rules.specs.Inputs.{input_of};
+ghost use Rattle.cx_steps.specs.Nothing.{nothing};
 
-use cx_steps::Event;
+use cx_node::loses;
+use cx_steps::{Effects, Event};
+use std::alloc::Global;
 
 /// The link that an event is about.
 pub fn link_in(event: &Event<'_>) -> Option<u32>
@@ -20,5 +23,15 @@ pub fn link_in(event: &Event<'_>) -> Option<u32>
         Event::Look(_) => None,
         Event::Tick => None,
         Event::Submit(_) => None,
+    }
+}
+
+/// What a step gives where memory was wanting: that the link of its event, if it is about one, is lost.
+pub fn wanting(alloc: Global, link: Option<u32>) -> Effects
+    ensures { result ≡ record nothing { lost = link } }
+{
+    match link {
+        Some(number) => loses(alloc, number),
+        None => Effects::new(alloc),
     }
 }

@@ -5,9 +5,11 @@
 mod came;
 mod coming;
 mod events;
+mod greetings;
 mod making;
 mod moments;
 mod opening;
+mod requests;
 mod rows;
 mod sending;
 mod signatures;
@@ -17,10 +19,12 @@ mod upkeep;
 
 pub use came::Came;
 pub use coming::{Feeds, comes};
-pub use events::link_in;
-pub use making::{goes_on, handles, unless_refused};
+pub use events::{link_in, wanting};
+pub use greetings::{SentBanner, send_banner, send_hello};
+pub use making::{entered_before, goes_on, handles, unless_refused};
 pub use moments::Moment;
 pub use opening::{opens, stands, unopened};
+pub use requests::request_fault;
 pub use rows::{NoRow, NodeRow};
 pub use sending::{SentPlain, send_plain, send_secure};
 pub use signatures::checked;
@@ -35,5 +39,6 @@ fn all_are_sendable<L: Send + Sync, C: Send + Sync>() {
     is_sendable::<Came<L, C>>();
     is_sendable::<NodeRow<L, C>>();
     is_sendable::<NoRow>();
+    is_sendable::<SentBanner>();
     is_sendable::<SentPlain>();
 }

@@ -2,11 +2,12 @@
 
 ghost use Rattle.std.specs.Prelude.{◌≡◌, IfOk};
 ghost use Rattle.cx_node.specs.Made.{going_on};
-ghost use Rattle.cx_turns.specs.Making.{IsHandled, IsRowOf, keeping, row_behind};
+ghost use Rattle.cx_turns.specs.Making.{IsHandled, IsRowOf, entering, keeping, row_behind};
 
 use crate::came::Came;
 use crate::rows::{NoRow, NodeRow};
 use cx_base::{Blob, Items, NodeName};
+use cx_journal::Entry;
 use cx_node::{refuses, with_opened};
 use cx_steps::SealEntry;
 use std::alloc::{AllocError, Global};
@@ -51,6 +52,22 @@ pub fn handles<L: Drop, C: Drop>(
 {
     let row = unless_refused(alloc, me, number, opened, made)?;
     Ok(Came::Handles(row))
+}
+
+/// A row that is entered behind this, which stands whether or not the row can send.
+pub fn entered_before<L: Drop, C: Drop>(
+    alloc: Global,
+    first: Entry,
+    made: NodeRow<L, C>,
+) -> Result<NodeRow<L, C>, AllocError>
+    ensures { IfOk result (λ row. row ≡ entering first made) }
+{
+    let NodeRow { mut row, change } = made;
+    let mut entries = Items::new(alloc);
+    entries.push(alloc, first)?;
+    entries.append(alloc, row.entries)?;
+    row.entries = entries;
+    Ok(NodeRow { row, change })
 }
 
 // The row behind what opened before it.

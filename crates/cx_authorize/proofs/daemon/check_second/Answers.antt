@@ -12,7 +12,7 @@ new-authorized-requires c =
 pub returns-in_ok-sealed-in-Ok : goal.returns-in_ok-sealed-in-Ok
 returns-in_ok-sealed-in-Ok c =
     passed_by (judged c.args.terms.now c.args.payload.now) (IsAdmitted c.args.terms.now.view c.args.terms.now.reading c.args.secret.now) c.args.log.now c.judge.new.log
-    c.in-Ok.shown _ (rw c.in-Ok.is at c.in_ok-shown.ensures) (record { authorized = c.new-authorized.ensures; bytes = c.in_ok-bytes-in-Ok.ensures; sealed = c.in_ok-sealed-in-Ok.ensures })
+    c.in-Ok.shown _ (rw c.in-Ok.is at c.in_ok-shown.ensures) (record { authorized = c.new-authorized.ensures; bytes = c.in_ok-bytes-in-Ok.ensures.spelled; short = c.in_ok-bytes-in-Ok.ensures.short; sealed = c.in_ok-sealed-in-Ok.ensures })
 
 pub returns-in-Err : goal.returns-in-Err
 returns-in-Err c =
