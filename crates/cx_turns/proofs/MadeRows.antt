@@ -1,7 +1,8 @@
 -- Rows that are made as one of the rules, or behind what was logged before.
-use Rattle.std.proofs.Common.{◌≡◌, ◌∙◌, Bool, true, false, List, [], Option, Some, None, Result, Ok, Err, refl, sym, ap, append-nil}
+use Rattle.std.proofs.Common.{◌≡◌, ◌∙◌, Bool, true, false, List, [], ◌∷◌, Option, Some, None, Result, Ok, Err, refl, sym, ap, append-nil}
 use Rattle.std.specs.Prelude.{if◌then◌else◌}
 use Rattle.cx_control.specs.declared.auth.AuthSignature.{AuthSignature}
+use Rattle.cx_journal.specs.declared.entries.Entry.{Entry}
 use Rattle.cx_journal.specs.declared.faults.BytesFault.{BytesFault}
 use Rattle.cx_journal.specs.declared.faults.LoginFault.TheVariants.{SignatureWrong}
 use Rattle.cx_journal.specs.declared.outcomes.Reason.{Reason}
@@ -12,7 +13,7 @@ use Rattle.cx_rules.specs.Links.{Link}
 use Rattle.cx_rules.specs.Rows.{Arrival, Row, refuses, unless_refused, with_opened}
 use Rattle.cx_rules.specs.Secured.{Secured, is_signed}
 use Rattle.cx_steps.specs.declared.seals.SealEntry.{SealEntry}
-use Rattle.cx_turns.specs.Making.{IsRow, IsRowOf, Makes, own_behind, row_due}
+use Rattle.cx_turns.specs.Making.{IsRow, IsRowOf, Makes, entering, own_behind, row_due}
 use Rattle.cx_turns.specs.Signatures.{Checks, signature_refusal}
 use Rattle.cx_turns.specs.declared.rows.NoRow.{NoRow}
 use Rattle.cx_turns.specs.declared.rows.NoRow.TheVariants.{Refused, OutOfMemory}
@@ -55,6 +56,13 @@ module _ {Own Stage Change : Type 0} (abridged : Link Stage → Link Stage) (cha
   behind_as a opened R S r back e m is =
       let whole = behind_due a opened R r back m is in
       record { row = whole.row ∙ ap (row_due abridged) e; number_is = whole.number_is }
+
+  -- the row of what was made, behind what is entered first
+  pub entered_as : (a : Arrival Own Stage) (first : Entry) (R : Row Own Stage) (back : NodeRow (Link Stage) Change)
+      → IsRow abridged a.link.number (own_behind changed a.own back.change) R back.row
+      → Makes abridged changed a (record R { entries = first ∷ R.entries }) (let made : Result (NodeRow (Link Stage) Change) NoRow = Ok (entering first back) in made)
+  entered_as a first R back m =
+      record { row = ap (λ (row : Row Own Stage). record row { entries = first ∷ row.entries }) m.row; number_is = m.number_is }
 
   -- ---- the peer's signature
 

@@ -1,13 +1,23 @@
-//! A daemon on a link of a guest until the peer has signed: what it does at each banner and frame that comes, and what it holds of the link.
+//! A daemon on a link of a guest until the peer has signed: what it does as the link opens and at each banner and frame that comes, and what it
+//! holds of the link from then on.
 #![tactic(auto)]
 
+mod first;
+mod greetings;
+mod judged;
 mod links;
 mod owners;
+mod requests;
+mod second;
 mod served;
+mod signatures;
+mod turns;
 
+pub use greetings::greeting;
 pub use links::{Link, Stage};
 pub use owners::SessionOwner;
 pub use served::Served;
+pub use turns::{GuestTurn, turned};
 
 // Each public type may be sent to another thread and shared with one.
 fn is_sendable<T: Send + Sync>() {}
@@ -17,4 +27,5 @@ fn all_are_sendable() {
     is_sendable::<Link>();
     is_sendable::<SessionOwner>();
     is_sendable::<Served>();
+    is_sendable::<GuestTurn>();
 }

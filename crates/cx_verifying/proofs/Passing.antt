@@ -1,0 +1,86 @@
+-- What comes of an authorizer, behind what opened of it.
+use Rattle.std.proofs.Common.{◌≡◌, ◌∙◌, ℕ, List, [], ◌∷◌, ◌++◌, ◌⊎◌, inl, inr, Result, Ok, Err, refl, sym, ap, append-nil, append_assoc}
+use Rattle.cx_authorize.specs.Answers.{IsChallenge, IsReply}
+use Rattle.cx_authorize.specs.Daemon.{Authority}
+use Rattle.cx_authorize.specs.Judging.{IsChecked, Judged}
+use Rattle.cx_authorize.specs.declared.judging.Shown.{Shown}
+use Rattle.cx_authorize.specs.declared.refusals.AuthRefusal.{AuthRefusal}
+use Rattle.cx_authorize.specs.declared.refusals.AuthRefusal.TheVariants as refusal
+use Rattle.cx_cbc.specs.Envelope.{sealed}
+use Rattle.cx_dice.specs.Draws.{challenge_of}
+use Rattle.cx_frame.specs.declared.frame.Frame.{Frame}
+use Rattle.cx_journal.specs.declared.faults.BytesFault.{BytesFault}
+use Rattle.cx_journal.specs.declared.faults.BytesFault.TheVariants.{Malformed}
+use Rattle.cx_journal.specs.declared.outcomes.Reason.TheVariants as reason
+use Rattle.cx_rules.specs.Abridged.{abridged_link}
+use Rattle.cx_rules.specs.Acceptor.{AwaitsProof, Finished, denies_for}
+use Rattle.cx_rules.specs.Rows.{goes_on, refuses_bytes, unless_refused, with_opened}
+use Rattle.cx_rules.specs.Secured.{plain_frame}
+use Rattle.cx_rules_session.specs.Envelopes.{authorize_challenge_content, authorize_reply_content, session_sealed}
+use Rattle.cx_rules_session.specs.Guests.{GuestArrival, GuestRow, GuestStage, challenges, done_sent, looked_entry, on_judged, sealed_challenge_frame, ticket_fault, turns_away, unless_turned_away}
+use Rattle.cx_rules_session.specs.Kinds.{entered_before}
+use Rattle.cx_sealed.specs.declared.service_ticket.ServiceTicket.{ServiceTicket}
+use Rattle.cx_steps.specs.declared.seals.SealEntry.{SealEntry}
+use Rattle.cx_turns.specs.Making.{row_due}
+use Rattle.cx_turns.specs.declared.rows.NoRow.{NoRow}
+use Rattle.cx_turns.specs.declared.rows.NoRow.TheVariants.{OutOfMemory}
+use Rattle.cx_turns.specs.declared.rows.NodeRow.{NodeRow}
+use Rattle.cx_turns.proofs.MadeRows.{makes_as}
+use Rattle.cx_wire.specs.Logins.{authorize_challenge_layout, authorize_reply_layout}
+use Rattle.cx_verifying.specs.Rows.{MakesRow, unchanged}
+use Rattle.cx_verifying.specs.Stages.{GuestLink}
+
+-- ---- rows behind what opened before them
+
+pub away_behind : (a : GuestArrival) (opened : List SealEntry) (why : AuthRefusal) → with_opened opened (turns_away a [] why) ≡ turns_away a opened why
+away_behind a opened (refusal.Malformed place) = ap (λ (seals : List SealEntry). refuses_bytes a (Malformed place) seals) (append-nil opened)
+away_behind a opened (refusal.WrongService kept got) = ap (λ (seals : List SealEntry). denies_for a 13 (reason.WrongService kept got) seals) (append-nil opened)
+away_behind a opened (refusal.Ticket why blob) = ap (λ (seals : List SealEntry). denies_for a 13 (reason.Ticket (ticket_fault why) blob) seals) (append-nil opened)
+away_behind a opened refusal.OutOfMemory = ap (λ (seals : List SealEntry). refuses_bytes a (Malformed 0) seals) (append-nil opened)
+
+pub holding_behind : (a : GuestArrival) (stage : GuestStage) (opened before held : List SealEntry) (made : Result (List ℕ) BytesFault)
+    → with_opened opened (unless_refused a before made (λ bytes. goes_on a stage bytes (before ++ held)))
+    ≡ unless_refused a (opened ++ before) made (λ bytes. goes_on a stage bytes ((opened ++ before) ++ held))
+holding_behind a stage opened before held (Ok bytes) = simp append_assoc
+holding_behind a stage opened before held (Err why) = refl
+
+pub done_behind : (a : GuestArrival) (opened before held : List SealEntry) (authority : Authority) (finishing : Result Finished BytesFault)
+    → with_opened opened (done_sent a before held authority finishing) ≡ done_sent a (opened ++ before) held authority finishing
+done_behind a opened before held authority (Ok done) = simp append_assoc
+done_behind a opened before held authority (Err why) = refl
+
+-- ---- by what was judged
+
+module _ {A : Type 0} (a : GuestArrival) (j : Judged AuthRefusal Shown) (Passes : Shown → A → Type 0) (opened : List SealEntry)
+    (next : List SealEntry → Shown → GuestRow) (made : Result (NodeRow GuestLink (Unit {0})) NoRow) where
+  abbrev judged_row : Result Shown AuthRefusal → GuestRow
+  judged_row value = entered_before (looked_entry a) (unless_turned_away a j.seals value (next j.seals))
+
+  pub passed_makes : (passed : A) → IsChecked j Passes [] opened (Ok passed)
+      → ((shown : Shown) → Passes shown passed → MakesRow a (entered_before (looked_entry a) (next opened shown)) made)
+      → MakesRow a (on_judged a j (next j.seals)) made
+  passed_makes passed (shown, value, passes, new) goes =
+      let entered : List SealEntry → GuestRow = λ seals. entered_before (looked_entry a) (next seals shown) in
+      makes_as abridged_link unchanged a (entered opened) (judged_row j.value) made
+      (ap (λ (row : GuestRow). row_due abridged_link row) (ap judged_row value ∙ ap entered (sym new))) (goes shown passes)
+
+  pub refused_makes : (why : AuthRefusal) → IsChecked {A = A} j Passes [] opened (Err why)
+      → MakesRow a (entered_before (looked_entry a) (turns_away a opened why)) made → (why ≡ refusal.OutOfMemory → made ≡ Err OutOfMemory)
+      → MakesRow a (on_judged a j (next j.seals)) made
+  refused_makes why (inl wanting) row gives = rw (gives wanting) tt
+  refused_makes why (inr (value, new)) row gives =
+      let entered : List SealEntry → GuestRow = λ seals. entered_before (looked_entry a) (turns_away a seals why) in
+      makes_as abridged_link unchanged a (entered opened) (judged_row j.value) made
+      (ap (λ (r : GuestRow). row_due abridged_link r) (ap judged_row value ∙ ap entered (sym new))) row
+
+-- ---- the payloads that are sealed
+
+pub challenge_is : (session : List ℕ) (challenge : ℕ) (bytes : List ℕ) → IsChallenge session challenge bytes
+    → bytes ≡ authorize_challenge_layout.form.text (record { sealed = sealed session (authorize_challenge_content challenge) })
+challenge_is session challenge bytes (found, is, spells) =
+    spells.1 ∙ ap (λ (s : List ℕ). authorize_challenge_layout.form.text (record { sealed = s })) is.envelope
+
+pub reply_is : (session : List ℕ) (nonce : ℕ) (secret bytes : List ℕ) → IsReply session nonce secret bytes
+    → bytes ≡ authorize_reply_layout.form.text (record { sealed = sealed session (authorize_reply_content nonce secret) })
+reply_is session nonce secret bytes (found, is, spells) =
+    spells.1 ∙ ap (λ (s : List ℕ). authorize_reply_layout.form.text (record { sealed = s })) is.envelope

@@ -1,0 +1,188 @@
+//! A turn of a link, by its stage, until the peer has signed.
+
+ghost use Rattle.std.specs.Prelude.{◌≡◌, IfOk};
+ghost use Rattle.cx_link.specs.Wires.{wired};
+ghost use Rattle.cx_rules.specs.Acceptor.{AwaitsBanner, AwaitsHello, AwaitsRequest};
+ghost use Rattle.cx_turns.specs.Making.{IsHandled};
+ghost use Rattle.cx_base.specs.declared.nodes.NodeName.TheVariants as node;
+ghost use Rattle.cx_verifying.specs.Stages.{awaiting_proof, awaiting_signature, link_held};
+ghost use Rattle.cx_verifying.specs.Turns.{IsGuestTurn, IsTurnedBy};
+
+use crate::greetings::{on_banner, on_hello};
+use crate::links::{Link, Stage};
+use crate::owners::SessionOwner;
+use crate::requests::{on_auth_request, on_auth_request_more};
+use crate::served::Served;
+use crate::signatures::on_signature;
+use cx_authorize::Awaiting;
+use cx_base::Items;
+use cx_control::{AuthRequest, AuthRequestMore, AuthSignature, Hello};
+use cx_holdings::Asker;
+use cx_link::{BannerLink, BannerTurn, LinkTurn, PlainLink, SecureLink, Signing};
+use cx_node::due;
+use cx_steps::SealEntry;
+use cx_turns::{Came, Moment, NoRow, NodeRow};
+use std::alloc::{AllocError, Global};
+
+/// What a link of a guest comes to: its turn, until the peer has signed; behind that, what is held of it is given out, for whoever hosts sessions.
+#[derive(Drop)]
+pub enum GuestTurn {
+    Came(Came<Link, ()>),
+    AwaitsIdent(SecureLink, SessionOwner),
+    Open(SecureLink, Served),
+}
+
+/// What stands next on a link of a guest. Nothing of what the daemon has is changed.
+pub fn turned(
+    alloc: Global,
+    asker: &Asker,
+    at: &Moment<'_>,
+    link: Link,
+) -> Result<GuestTurn, AllocError>
+    requires { link.number ≡ at.now.number }
+    ensures { IfOk result (IsTurnedBy asker.now at.now link) }
+{
+    let Link { number: _, stage } = link;
+    by_stage(alloc, asker, at, stage)
+}
+
+// The turn of a link in this stage.
+fn by_stage(
+    alloc: Global,
+    asker: &Asker,
+    at: &Moment<'_>,
+    stage: Stage,
+) -> Result<GuestTurn, AllocError>
+    ensures { IfOk result (IsTurnedBy asker.now at.now (link_held at.now.number stage)) }
+{
+    match stage {
+        Stage::AwaitsBanner(link) => Ok(GuestTurn::Came(banner_turn(alloc, asker, at, link)?)),
+        Stage::AwaitsHello(link) => Ok(GuestTurn::Came(hello_turn(alloc, asker, at, link)?)),
+        Stage::AwaitsRequest(link) => Ok(GuestTurn::Came(request_turn(alloc, asker, at, link)?)),
+        Stage::AwaitsProof(link, awaiting) => Ok(GuestTurn::Came(proof_turn(
+            alloc, asker, at, link, awaiting,
+        )?)),
+        Stage::AwaitsSignature(signing, owner) => Ok(GuestTurn::Came(signature_turn(
+            alloc, asker, at, signing, owner,
+        )?)),
+        Stage::AwaitsIdent(link, owner) => Ok(GuestTurn::AwaitsIdent(link, owner)),
+        Stage::Open(link, served) => Ok(GuestTurn::Open(link, served)),
+    }
+}
+
+// What a turn comes to whose banner or frame is handled so, behind what opened of it.
+fn handles(
+    alloc: Global,
+    asker: &Asker,
+    at: &Moment<'_>,
+    opened: Items<SealEntry>,
+    made: Result<NodeRow<Link, ()>, NoRow>,
+) -> Result<Came<Link, ()>, AllocError>
+    ensures { IfOk result (IsHandled (node.Entity asker.now.name) at.now.number opened made) }
+{
+    let me = asker.node_name(alloc)?;
+    cx_turns::handles(alloc, &me, at.number, opened, made)
+}
+
+fn banner_turn(
+    alloc: Global,
+    asker: &Asker,
+    at: &Moment<'_>,
+    link: BannerLink,
+) -> Result<Came<Link, ()>, AllocError>
+    ensures { IfOk result (IsGuestTurn asker.now at.now (wired at.now.number link AwaitsBanner)) }
+{
+    match link.turn() {
+        BannerTurn::Waits(link) => Ok(Came::Waits(Link::new(at.number, Stage::AwaitsBanner(link)))),
+        BannerTurn::Refuses(why) => Ok(Came::Refuses(why, Items::new(alloc))),
+        BannerTurn::Takes(link) => {
+            let made = on_banner(alloc, asker, at, link);
+            handles(alloc, asker, at, Items::new(alloc), made)
+        }
+    }
+}
+
+fn hello_turn(
+    alloc: Global,
+    asker: &Asker,
+    at: &Moment<'_>,
+    link: PlainLink,
+) -> Result<Came<Link, ()>, AllocError>
+    ensures { IfOk result (IsGuestTurn asker.now at.now (wired at.now.number link AwaitsHello)) }
+{
+    match link.turn(alloc)? {
+        LinkTurn::Waits(link) => Ok(Came::Waits(Link::new(at.number, Stage::AwaitsHello(link)))),
+        LinkTurn::Refuses(why) => Ok(Came::Refuses(why, Items::new(alloc))),
+        LinkTurn::Takes(link, frame) => {
+            let hello = due::<Hello>(alloc, 1, &frame)?;
+            let made = on_hello(alloc, asker, at, link, hello);
+            handles(alloc, asker, at, Items::new(alloc), made)
+        }
+    }
+}
+
+fn request_turn(
+    alloc: Global,
+    asker: &Asker,
+    at: &Moment<'_>,
+    link: PlainLink,
+) -> Result<Came<Link, ()>, AllocError>
+    ensures { IfOk result (IsGuestTurn asker.now at.now (wired at.now.number link AwaitsRequest)) }
+{
+    match link.turn(alloc)? {
+        LinkTurn::Waits(link) => Ok(Came::Waits(Link::new(at.number, Stage::AwaitsRequest(link)))),
+        LinkTurn::Refuses(why) => Ok(Came::Refuses(why, Items::new(alloc))),
+        LinkTurn::Takes(link, frame) => {
+            let request = due::<AuthRequest>(alloc, 2, &frame)?;
+            let made = on_auth_request(alloc, asker, at, link, request);
+            handles(alloc, asker, at, Items::new(alloc), made)
+        }
+    }
+}
+
+fn proof_turn(
+    alloc: Global,
+    asker: &Asker,
+    at: &Moment<'_>,
+    link: PlainLink,
+    awaiting: Awaiting,
+) -> Result<Came<Link, ()>, AllocError>
+    ensures { IfOk result (IsGuestTurn asker.now at.now (awaiting_proof at.now.number link awaiting)) }
+{
+    match link.turn(alloc)? {
+        LinkTurn::Waits(link) => Ok(Came::Waits(Link::new(
+            at.number,
+            Stage::AwaitsProof(link, awaiting),
+        ))),
+        LinkTurn::Refuses(why) => Ok(Came::Refuses(why, Items::new(alloc))),
+        LinkTurn::Takes(link, frame) => {
+            let more = due::<AuthRequestMore>(alloc, 5, &frame)?;
+            let made = on_auth_request_more(alloc, asker, at, link, awaiting, more);
+            handles(alloc, asker, at, Items::new(alloc), made)
+        }
+    }
+}
+
+fn signature_turn(
+    alloc: Global,
+    asker: &Asker,
+    at: &Moment<'_>,
+    signing: Signing,
+    owner: SessionOwner,
+) -> Result<Came<Link, ()>, AllocError>
+    ensures { IfOk result (IsGuestTurn asker.now at.now (awaiting_signature at.now.number signing owner)) }
+{
+    let mut opened = Items::new(alloc);
+    match signing.turn(alloc, &mut opened)? {
+        LinkTurn::Waits(signing) => Ok(Came::Waits(Link::new(
+            at.number,
+            Stage::AwaitsSignature(signing, owner),
+        ))),
+        LinkTurn::Refuses(why) => Ok(Came::Refuses(why, opened)),
+        LinkTurn::Takes(signing, frame) => {
+            let found = due::<AuthSignature>(alloc, 7, &frame)?;
+            let made = on_signature(alloc, asker, at, signing, owner, found);
+            handles(alloc, asker, at, opened, made)
+        }
+    }
+}
