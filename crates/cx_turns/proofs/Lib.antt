@@ -1,10 +1,10 @@
+pub mod AuthRequests
 pub mod Carrying
 pub mod Controls
 pub mod Handling
 pub mod Keeping
 pub mod Lifting
 pub mod MadeRows
-pub mod Requests
 pub mod Rising
 pub mod Signing
 pub mod Steps

@@ -47,6 +47,10 @@ module _ {Own Stage Change : Type 0} (abridged : Link Stage → Link Stage) (cha
 
 -- ---- at an acceptor
 
+-- the link as it awaits the signature of a peer
+abbrev awaiting : {Pending Proven Peer : Type 0} → ℕ → Signing → Proven → Link (Stage Pending Proven Peer)
+awaiting number signing peer = secured_link number signing.link.ahead (AwaitsSignature (secured_of signing) peer)
+
 module _ {Own Pending Proven Peer : Type 0} where
   signed : (h : Coming Own (Stage Pending Proven Peer)) (s : Secured) (peer : Proven) (right : Bool)
       → Same abridged_link h (λ a. if right then goes_on a (AwaitsIdent s peer) [] (signature_found s ∷ []) else refuses a (Login SignatureWrong) [])
@@ -57,10 +61,6 @@ module _ {Own Pending Proven Peer : Type 0} where
       → Same abridged_link h (λ a. on_signature a s peer read)
   signature-same h s peer (Err why) = refl
   signature-same h s peer (Ok found) = signed h s peer (is_signed s found.signature)
-
-  -- the link as it awaits the signature of a peer
-  abbrev awaiting : ℕ → Signing → Proven → Link (Stage Pending Proven Peer)
-  awaiting number signing peer = secured_link number signing.link.ahead (AwaitsSignature (secured_of signing) peer)
 
   pub signature_turn : {Change E : Type 0} (changed : Own → Change → Own) (a : Arrival Own (Stage Pending Proven Peer)) (number : ℕ) (old new : Signing) (peer : Proven)
       (f : Frame) (opened : List SealEntry) (made : Result (NodeRow (Link (Stage Pending Proven Peer)) Change) NoRow)

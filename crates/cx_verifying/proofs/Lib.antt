@@ -1,3 +1,3 @@
-pub mod Deciding
 pub mod Passing
+pub mod Sending
 pub mod Stages

@@ -7,20 +7,21 @@ use Rattle.cx_authorize.specs.declared.judging.Shown.{Shown}
 use Rattle.cx_authorize.specs.declared.refusals.AuthRefusal.{AuthRefusal}
 use Rattle.cx_authorize.specs.declared.refusals.AuthRefusal.TheVariants as refusal
 use Rattle.cx_cbc.specs.Envelope.{sealed}
-use Rattle.cx_dice.specs.Draws.{challenge_of}
-use Rattle.cx_frame.specs.declared.frame.Frame.{Frame}
+use Rattle.cx_dice.specs.Draws.{challenge_of, connection_of}
 use Rattle.cx_journal.specs.declared.faults.BytesFault.{BytesFault}
 use Rattle.cx_journal.specs.declared.faults.BytesFault.TheVariants.{Malformed}
 use Rattle.cx_journal.specs.declared.outcomes.Reason.TheVariants as reason
 use Rattle.cx_rules.specs.Abridged.{abridged_link}
-use Rattle.cx_rules.specs.Acceptor.{AwaitsProof, Finished, denies_for}
+use Rattle.cx_rules.specs.Acceptor.{AwaitsProof, Finished, denies_for, finished}
 use Rattle.cx_rules.specs.Rows.{goes_on, refuses_bytes, unless_refused, with_opened}
 use Rattle.cx_rules.specs.Secured.{plain_frame}
 use Rattle.cx_rules_session.specs.Envelopes.{authorize_challenge_content, authorize_reply_content, session_sealed}
-use Rattle.cx_rules_session.specs.Guests.{GuestArrival, GuestRow, GuestStage, challenges, done_sent, looked_entry, on_judged, sealed_challenge_frame, ticket_fault, turns_away, unless_turned_away}
+use Rattle.cx_rules_session.specs.Guests.{GuestArrival, GuestRow, GuestStage, authority_of, authorized_frame, authorizes, challenges, done_sent, looked_entry, on_judged, sealed_challenge_frame, ticket_fault, turns_away, unless_turned_away}
 use Rattle.cx_rules_session.specs.Kinds.{entered_before}
 use Rattle.cx_sealed.specs.declared.service_ticket.ServiceTicket.{ServiceTicket}
+use Rattle.cx_steps.specs.declared.seals.DrawMark.TheVariants as draw
 use Rattle.cx_steps.specs.declared.seals.SealEntry.{SealEntry}
+use Rattle.cx_steps.specs.declared.seals.SealEntry.TheVariants.{Drawn}
 use Rattle.cx_turns.specs.Making.{row_due}
 use Rattle.cx_turns.specs.declared.rows.NoRow.{NoRow}
 use Rattle.cx_turns.specs.declared.rows.NoRow.TheVariants.{OutOfMemory}
@@ -48,6 +49,20 @@ pub done_behind : (a : GuestArrival) (opened before held : List SealEntry) (auth
     → with_opened opened (done_sent a before held authority finishing) ≡ done_sent a (opened ++ before) held authority finishing
 done_behind a opened before held authority (Ok done) = simp append_assoc
 done_behind a opened before held authority (Err why) = refl
+
+-- AUTH_REPLY_MORE with a challenge, behind what opened of the authorizer
+pub challenges_behind : (a : GuestArrival) (opened : List SealEntry) (ticket : ServiceTicket) → with_opened opened (challenges a [] ticket) ≡ challenges a opened ticket
+challenges_behind a opened ticket =
+    let challenge = challenge_of a.draw in
+    holding_behind a (AwaitsProof (record { service = a.own.name.kind; challenge = challenge })) opened (Drawn (draw.Challenge challenge) ∷ [])
+    (session_sealed ticket.session (authorize_challenge_content challenge) ∷ []) (plain_frame (sealed_challenge_frame ticket.session challenge))
+
+-- AUTH_DONE, likewise
+pub authorizes_behind : (a : GuestArrival) (opened : List SealEntry) (ticket : ServiceTicket) (nonce : ℕ) → with_opened opened (authorizes a [] ticket nonce) ≡ authorizes a opened ticket nonce
+authorizes_behind a opened ticket nonce =
+    let secret = connection_of a.draw in
+    done_behind a opened (Drawn (draw.Connection secret ticket.name) ∷ []) (session_sealed ticket.session (authorize_reply_content nonce secret) ∷ []) (authority_of a ticket)
+    (finished a.link ticket.session secret (authorized_frame ticket nonce secret))
 
 -- ---- by what was judged
 

@@ -37,8 +37,8 @@ pub(crate) fn looked(
     let me = asker.node_name(alloc)?;
     let row = unless_refused(alloc, &me, at.number, opened, made)?;
     let first = looked_entry(alloc, asker, at)?;
-    let row = entered_before(alloc, first, row)?;
-    Ok(row)
+    let entered = entered_before(alloc, first, row)?;
+    Ok(entered)
 }
 
 fn looked_entry(alloc: Global, asker: &Asker, at: &Moment<'_>) -> Result<Entry, AllocError>

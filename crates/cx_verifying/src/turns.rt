@@ -1,10 +1,11 @@
 //! A turn of a link, by its stage, until the peer has signed.
 
 ghost use Rattle.std.specs.Prelude.{◌≡◌, IfOk};
+ghost use Rattle.cx_base.specs.declared.nodes.NodeName.TheVariants as node;
+ghost use Rattle.cx_desk.specs.Handlers.{Handlers};
 ghost use Rattle.cx_link.specs.Wires.{wired};
 ghost use Rattle.cx_rules.specs.Acceptor.{AwaitsBanner, AwaitsHello, AwaitsRequest};
 ghost use Rattle.cx_turns.specs.Making.{IsHandled};
-ghost use Rattle.cx_base.specs.declared.nodes.NodeName.TheVariants as node;
 ghost use Rattle.cx_verifying.specs.Stages.{awaiting_proof, awaiting_signature, link_held};
 ghost use Rattle.cx_verifying.specs.Turns.{IsGuestTurn, IsTurnedBy};
 
@@ -40,7 +41,7 @@ pub fn turned(
     link: Link,
 ) -> Result<GuestTurn, AllocError>
     requires { link.number ≡ at.now.number }
-    ensures { IfOk result (IsTurnedBy asker.now at.now link) }
+    ensures { (handlers : Handlers) → IfOk result (IsTurnedBy handlers asker.now at.now link) }
 {
     let Link { number: _, stage } = link;
     by_stage(alloc, asker, at, stage)
@@ -53,7 +54,7 @@ fn by_stage(
     at: &Moment<'_>,
     stage: Stage,
 ) -> Result<GuestTurn, AllocError>
-    ensures { IfOk result (IsTurnedBy asker.now at.now (link_held at.now.number stage)) }
+    ensures { (handlers : Handlers) → IfOk result (IsTurnedBy handlers asker.now at.now (link_held at.now.number stage)) }
 {
     match stage {
         Stage::AwaitsBanner(link) => Ok(GuestTurn::Came(banner_turn(alloc, asker, at, link)?)),
@@ -90,7 +91,7 @@ fn banner_turn(
     at: &Moment<'_>,
     link: BannerLink,
 ) -> Result<Came<Link, ()>, AllocError>
-    ensures { IfOk result (IsGuestTurn asker.now at.now (wired at.now.number link AwaitsBanner)) }
+    ensures { (handlers : Handlers) → IfOk result (IsGuestTurn handlers asker.now at.now (wired at.now.number link AwaitsBanner)) }
 {
     match link.turn() {
         BannerTurn::Waits(link) => Ok(Came::Waits(Link::new(at.number, Stage::AwaitsBanner(link)))),
@@ -108,7 +109,7 @@ fn hello_turn(
     at: &Moment<'_>,
     link: PlainLink,
 ) -> Result<Came<Link, ()>, AllocError>
-    ensures { IfOk result (IsGuestTurn asker.now at.now (wired at.now.number link AwaitsHello)) }
+    ensures { (handlers : Handlers) → IfOk result (IsGuestTurn handlers asker.now at.now (wired at.now.number link AwaitsHello)) }
 {
     match link.turn(alloc)? {
         LinkTurn::Waits(link) => Ok(Came::Waits(Link::new(at.number, Stage::AwaitsHello(link)))),
@@ -127,7 +128,7 @@ fn request_turn(
     at: &Moment<'_>,
     link: PlainLink,
 ) -> Result<Came<Link, ()>, AllocError>
-    ensures { IfOk result (IsGuestTurn asker.now at.now (wired at.now.number link AwaitsRequest)) }
+    ensures { (handlers : Handlers) → IfOk result (IsGuestTurn handlers asker.now at.now (wired at.now.number link AwaitsRequest)) }
 {
     match link.turn(alloc)? {
         LinkTurn::Waits(link) => Ok(Came::Waits(Link::new(at.number, Stage::AwaitsRequest(link)))),
@@ -147,7 +148,7 @@ fn proof_turn(
     link: PlainLink,
     awaiting: Awaiting,
 ) -> Result<Came<Link, ()>, AllocError>
-    ensures { IfOk result (IsGuestTurn asker.now at.now (awaiting_proof at.now.number link awaiting)) }
+    ensures { (handlers : Handlers) → IfOk result (IsGuestTurn handlers asker.now at.now (awaiting_proof at.now.number link awaiting)) }
 {
     match link.turn(alloc)? {
         LinkTurn::Waits(link) => Ok(Came::Waits(Link::new(
@@ -170,7 +171,7 @@ fn signature_turn(
     signing: Signing,
     owner: SessionOwner,
 ) -> Result<Came<Link, ()>, AllocError>
-    ensures { IfOk result (IsGuestTurn asker.now at.now (awaiting_signature at.now.number signing owner)) }
+    ensures { (handlers : Handlers) → IfOk result (IsGuestTurn handlers asker.now at.now (awaiting_signature at.now.number signing owner)) }
 {
     let mut opened = Items::new(alloc);
     match signing.turn(alloc, &mut opened)? {
