@@ -25,9 +25,9 @@ pub(crate) struct Terms {
 
 /// What an authorizer has shown that no fault stands against.
 #[derive(Drop)]
-pub(crate) struct Shown {
-    pub(crate) ticket: ServiceTicket,
-    pub(crate) authorize: Authorize,
+pub struct Shown {
+    pub ticket: ServiceTicket,
+    pub authorize: Authorize,
 }
 
 // The verdict on the authorizer of this payload. What opens on the way is appended to the log.

@@ -15,6 +15,7 @@ pub use authorized::Authorized;
 pub use client::{Agreed, Answering, Presenting};
 pub use cx_rotate::View;
 pub use daemon::{Awaiting, First, FirstPassed, SecondPassed};
+pub use judging::Shown;
 pub use laws::authorizer_laws;
 pub use refusals::{AuthFault, AuthRefusal, PresentRefusal};
 
@@ -28,6 +29,7 @@ fn all_are_sendable() {
     is_sendable::<First>();
     is_sendable::<Awaiting>();
     is_sendable::<Authorized>();
+    is_sendable::<Shown>();
     is_sendable::<FirstPassed>();
     is_sendable::<SecondPassed>();
     is_sendable::<AuthFault>();
