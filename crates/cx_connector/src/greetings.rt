@@ -23,12 +23,7 @@ pub fn greeting(alloc: Global, number: u32, asked: u32) -> Result<Row<Link>, All
 {
     let sent = send_banner(alloc)?;
     let link = Link::new(number, Stage::AwaitsBanner(sent.link, asked));
-    Ok(cx_node::goes_on(
-        alloc,
-        link,
-        sent.bytes,
-        Items::new(alloc),
-    ))
+    Ok(cx_node::goes_on(alloc, link, sent.bytes, Items::new(alloc)))
 }
 
 // The peer's banner: HELLO is sent, with one's own type and nothing of the peer's address.

@@ -140,11 +140,7 @@ fn judged(
 }
 
 /// What a daemon that drew this challenge answers the second authorizer of the run.
-fn second(
-    rt: &impl Abort,
-    alloc: Global,
-    challenge: u64,
-) -> Result<SecondPassed, AuthRefusal> {
+fn second(rt: &impl Abort, alloc: Global, challenge: u64) -> Result<SecondPassed, AuthRefusal> {
     let view = view(rt, 1);
     let secret = secret(rt, CONNECTION);
     let shown = decoded(rt, alloc, SECOND);

@@ -1,5 +1,5 @@
 -- The row of AUTH_REQUEST, by what is wrong with the request.
-use Rattle.std.proofs.Common.{◌≡◌, ◌==◌, Bool, true, false, List, [], ℕ, Option, Some, None, Ok, refl, ap, sym}
+use Rattle.std.proofs.Common.{◌≡◌, ◌==◌, Bool, true, false, List, [], ℕ, Option, Some, None, Ok, refl, ap}
 use Rattle.std.specs.List.{list_any}
 use Rattle.std.specs.Prelude.{not, if◌then◌else◌}
 use Rattle.cx_control.specs.declared.auth.AuthRequest.{AuthRequest}

@@ -1,12 +1,10 @@
 -- What comes of an authorizer, behind what opened of it.
-use Rattle.std.proofs.Common.{◌≡◌, ◌∙◌, ℕ, List, [], ◌∷◌, ◌++◌, ◌⊎◌, inl, inr, Result, Ok, Err, refl, sym, ap, append-nil, append_assoc}
-use Rattle.cx_authorize.specs.Answers.{IsChallenge, IsReply}
+use Rattle.std.proofs.Common.{◌≡◌, ◌∙◌, ℕ, List, [], ◌∷◌, ◌++◌, inl, inr, Result, Ok, Err, refl, sym, ap, append-nil, append_assoc}
 use Rattle.cx_authorize.specs.Daemon.{Authority}
 use Rattle.cx_authorize.specs.Judging.{IsChecked, Judged}
 use Rattle.cx_authorize.specs.declared.judging.Shown.{Shown}
 use Rattle.cx_authorize.specs.declared.refusals.AuthRefusal.{AuthRefusal}
 use Rattle.cx_authorize.specs.declared.refusals.AuthRefusal.TheVariants as refusal
-use Rattle.cx_cbc.specs.Envelope.{sealed}
 use Rattle.cx_dice.specs.Draws.{challenge_of, connection_of}
 use Rattle.cx_journal.specs.declared.faults.BytesFault.{BytesFault}
 use Rattle.cx_journal.specs.declared.faults.BytesFault.TheVariants.{Malformed}
@@ -15,7 +13,7 @@ use Rattle.cx_rules.specs.Abridged.{abridged_link}
 use Rattle.cx_rules.specs.Acceptor.{AwaitsProof, Finished, denies_for, finished}
 use Rattle.cx_rules.specs.Rows.{goes_on, refuses_bytes, unless_refused, with_opened}
 use Rattle.cx_rules.specs.Secured.{plain_frame}
-use Rattle.cx_rules_session.specs.Envelopes.{authorize_challenge_content, authorize_reply_content, session_sealed}
+use Rattle.cx_rules_session.specs.Envelopes.{authorize_challenge_content, authorize_reply_content, sends_holding, session_sealed}
 use Rattle.cx_rules_session.specs.Guests.{GuestArrival, GuestRow, GuestStage, authority_of, authorized_frame, authorizes, challenges, done_sent, looked_entry, on_judged, sealed_challenge_frame, ticket_fault, turns_away, unless_turned_away}
 use Rattle.cx_rules_session.specs.Kinds.{entered_before}
 use Rattle.cx_sealed.specs.declared.service_ticket.ServiceTicket.{ServiceTicket}
@@ -27,7 +25,6 @@ use Rattle.cx_turns.specs.declared.rows.NoRow.{NoRow}
 use Rattle.cx_turns.specs.declared.rows.NoRow.TheVariants.{OutOfMemory}
 use Rattle.cx_turns.specs.declared.rows.NodeRow.{NodeRow}
 use Rattle.cx_turns.proofs.MadeRows.{makes_as}
-use Rattle.cx_wire.specs.Logins.{authorize_challenge_layout, authorize_reply_layout}
 use Rattle.cx_verifying.specs.Rows.{MakesRow, unchanged}
 use Rattle.cx_verifying.specs.Stages.{GuestLink}
 
@@ -49,6 +46,18 @@ pub done_behind : (a : GuestArrival) (opened before held : List SealEntry) (auth
     → with_opened opened (done_sent a before held authority finishing) ≡ done_sent a (opened ++ before) held authority finishing
 done_behind a opened before held authority (Ok done) = simp append_assoc
 done_behind a opened before held authority (Err why) = refl
+
+-- the row by which a challenge is sent to the holder of this session key
+abbrev pub challenge_row : GuestArrival → List ℕ → GuestRow
+challenge_row a session =
+    sends_holding a (AwaitsProof (record { service = a.own.name.kind; challenge = challenge_of a.draw })) []
+    (session_sealed session (authorize_challenge_content (challenge_of a.draw)) ∷ []) (sealed_challenge_frame session (challenge_of a.draw))
+
+-- and the one by which the reply to a nonce is sent
+abbrev pub reply_row : GuestArrival → Shown → GuestRow
+reply_row a shown =
+    done_sent a [] (session_sealed shown.ticket.session (authorize_reply_content shown.authorize.nonce (connection_of a.draw)) ∷ []) (authority_of a shown.ticket)
+    (finished a.link shown.ticket.session (connection_of a.draw) (authorized_frame shown.ticket shown.authorize.nonce (connection_of a.draw)))
 
 -- AUTH_REPLY_MORE with a challenge, behind what opened of the authorizer
 pub challenges_behind : (a : GuestArrival) (opened : List SealEntry) (ticket : ServiceTicket) → with_opened opened (challenges a [] ticket) ≡ challenges a opened ticket
@@ -87,15 +96,3 @@ module _ {A : Type 0} (a : GuestArrival) (j : Judged AuthRefusal Shown) (Passes 
       let entered : List SealEntry → GuestRow = λ seals. entered_before (looked_entry a) (turns_away a seals why) in
       makes_as abridged_link unchanged a (entered opened) (judged_row j.value) made
       (ap (λ (r : GuestRow). row_due abridged_link r) (ap judged_row value ∙ ap entered (sym new))) row
-
--- ---- the payloads that are sealed
-
-pub challenge_is : (session : List ℕ) (challenge : ℕ) (bytes : List ℕ) → IsChallenge session challenge bytes
-    → bytes ≡ authorize_challenge_layout.form.text (record { sealed = sealed session (authorize_challenge_content challenge) })
-challenge_is session challenge bytes (found, is, spells) =
-    spells.1 ∙ ap (λ (s : List ℕ). authorize_challenge_layout.form.text (record { sealed = s })) is.envelope
-
-pub reply_is : (session : List ℕ) (nonce : ℕ) (secret bytes : List ℕ) → IsReply session nonce secret bytes
-    → bytes ≡ authorize_reply_layout.form.text (record { sealed = sealed session (authorize_reply_content nonce secret) })
-reply_is session nonce secret bytes (found, is, spells) =
-    spells.1 ∙ ap (λ (s : List ℕ). authorize_reply_layout.form.text (record { sealed = s })) is.envelope

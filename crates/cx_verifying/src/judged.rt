@@ -2,7 +2,6 @@
 
 ghost use Rattle.std.specs.Prelude.{◌≡◌, [], List, Err, IfOk};
 ghost use Rattle.cx_authorize.specs.declared.refusals.AuthRefusal.TheVariants as refusal;
-ghost use Rattle.cx_journal.specs.declared.outcomes.Reason.{Reason};
 ghost use Rattle.cx_link.specs.Wires.{Wire, wired};
 ghost use Rattle.cx_rules.specs.Acceptor.{denies_for};
 ghost use Rattle.cx_rules.specs.Rows.{with_opened};
@@ -114,6 +113,9 @@ fn ticket_fault(fault: AuthFault) -> TicketFault
         AuthFault::GidDiffers { claimed, sealed } => TicketFault::GidDiffers { claimed, sealed },
         AuthFault::Expired { expires, now } => TicketFault::Expired(expires, now),
         AuthFault::AuthorizerUnopened => TicketFault::AuthorizerUnopened,
-        AuthFault::ChallengeWrong { expected, got } => TicketFault::ChallengeWrong { expected, got },
+        AuthFault::ChallengeWrong { expected, got } => TicketFault::ChallengeWrong {
+            expected,
+            got,
+        },
     }
 }

@@ -1,7 +1,6 @@
 //! AUTH_REQUEST and AUTH_REQUEST_MORE.
 
 ghost use Rattle.std.specs.Prelude.{[]};
-ghost use Rattle.cx_journal.specs.declared.outcomes.Reason.{Reason};
 ghost use Rattle.cx_link.specs.Wires.{Wire, wired};
 ghost use Rattle.cx_rules.specs.Acceptor.{AwaitsRequest, denies, on_auth_request};
 ghost use Rattle.cx_rules_session.specs.Guests.{GuestStage, on_auth_request_more, on_first};

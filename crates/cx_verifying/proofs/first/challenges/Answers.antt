@@ -14,8 +14,7 @@ use Rattle.cx_steps.specs.declared.seals.SealEntry.{SealEntry}
 use Rattle.cx_steps.specs.declared.seals.SealEntry.TheVariants.{Drawn}
 use Rattle.cx_turns.proofs.MadeRows.{behind_as}
 use Rattle.cx_verifying.specs.Rows.{arrived, unchanged}
-use Rattle.cx_verifying.proofs.Passing.{holding_behind}
-use Rattle.cx_verifying.proofs.Sending.{challenge_row}
+use Rattle.cx_verifying.proofs.Passing.{challenge_row, holding_behind}
 use Rattle.cx_verifying.proofs.first.challenges.Goals as goal
 
 pub returns : goal.returns

@@ -1,5 +1,5 @@
 -- The row of what was made stands behind what opened, and behind the entry that the daemon looked.
-use Rattle.std.proofs.Common.{◌≡◌, sym}
+use Rattle.std.proofs.Common.{◌≡◌}
 use Rattle.cx_rules.specs.Abridged.{abridged_link}
 use Rattle.cx_rules.specs.Rows.{with_opened}
 use Rattle.cx_rules_session.specs.Guests.{GuestArrival, GuestRow, looked_entry}

@@ -14,8 +14,7 @@ use Rattle.cx_steps.specs.declared.seals.SealEntry.TheVariants.{Drawn}
 use Rattle.cx_turns.proofs.MadeRows.{behind_as}
 use Rattle.cx_verifying.specs.Rows.{arrived, unchanged}
 use Rattle.cx_verifying.specs.Stages.{awaiting_proof}
-use Rattle.cx_verifying.proofs.Passing.{done_behind}
-use Rattle.cx_verifying.proofs.Sending.{reply_row}
+use Rattle.cx_verifying.proofs.Passing.{done_behind, reply_row}
 use Rattle.cx_verifying.proofs.second.authorizes.Goals as goal
 
 pub returns : goal.returns
