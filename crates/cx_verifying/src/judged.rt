@@ -1,6 +1,6 @@
 //! What comes of an authorizer, whether it passes or not.
 
-ghost use Rattle.std.specs.Prelude.{◌≡◌, [], List, Err, IfOk};
+ghost use Rattle.std.specs.Prelude.{◌≡◌, [], Err, IfOk};
 ghost use Rattle.cx_authorize.specs.declared.refusals.AuthRefusal.TheVariants as refusal;
 ghost use Rattle.cx_link.specs.Wires.{Wire, wired};
 ghost use Rattle.cx_rules.specs.Acceptor.{denies_for};

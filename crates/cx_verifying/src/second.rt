@@ -1,6 +1,6 @@
 //! The second authorizer.
 
-ghost use Rattle.std.specs.Prelude.{◌≡◌, ◌<◌, ◌^◌, ◌++◌, [], ◌∷◌, length, IfOk};
+ghost use Rattle.std.specs.Prelude.{◌≡◌, ◌<◌, ◌^◌, [], ◌∷◌, length, IfOk};
 ghost use Rattle.cx_authorize.specs.Daemon.{Awaited};
 ghost use Rattle.cx_authorize.specs.Passing.{IsAdmitted};
 ghost use Rattle.cx_authorize.specs.declared.judging.Shown.{Shown};
