@@ -3,6 +3,7 @@ use Rattle.std.proofs.Common.{◌≡◌, ℕ, ◌==◌, Bool, true, false, [], �
 use Rattle.std.specs.Prelude.{if◌then◌else◌}
 use Rattle.cx_control.specs.Idents.{client_ident_layout, ident_missing_features_layout}
 use Rattle.cx_control.specs.Reconnects.{session_reconnect_layout}
+use Rattle.cx_control.specs.declared.auth.AuthSignature.{AuthSignature}
 use Rattle.cx_control.specs.declared.idents.ClientIdent.{ClientIdent}
 use Rattle.cx_control.specs.declared.reconnects.SessionReconnect.{SessionReconnect}
 use Rattle.cx_turns.proofs.Keeping.{keepalive-row, other-row}
@@ -11,9 +12,11 @@ use Rattle.cx_turns.specs.Upkeep.{is_keepalive, upkept}
 use Rattle.cx_frame.specs.declared.frame.Frame.{Frame}
 use Rattle.cx_journal.specs.declared.faults.BytesFault.{BytesFault}
 use Rattle.cx_journal.specs.declared.faults.BytesFault.TheVariants.{Unexpected}
+use Rattle.cx_journal.specs.declared.faults.LoginFault.TheVariants.{SignatureWrong}
 use Rattle.cx_journal.specs.declared.outcomes.Reason.{Reason}
+use Rattle.cx_journal.specs.declared.outcomes.Reason.TheVariants.{Login}
 use Rattle.cx_keyserver.specs.Servers.{Server}
-use Rattle.cx_rules.specs.Acceptor.{AwaitsIdent, Open, missing_told, misses, server_ident}
+use Rattle.cx_rules.specs.Acceptor.{AwaitsIdent, Open, missing_told, misses, on_signature, server_ident}
 use Rattle.cx_rules.specs.Abridged.{abridged_link}
 use Rattle.cx_rules.specs.Monitor.{Monitor, MonitorArrival, MonitorRow, MonitorStage}
 use Rattle.cx_rules.specs.MonitorRule.{on_client_ident, on_ident, on_session_reconnect, session_reset}
@@ -25,8 +28,8 @@ use Rattle.cx_rules.specs.declared.responses.ReplyMade.{ReplyMade}
 use Rattle.cx_rules.specs.declared.responses.Response.{Response}
 use Rattle.cx_rules.specs.declared.responses.Response.TheVariants.{Refuses, Replies}
 use Rattle.cx_rules.specs.Payloads.{control, payload}
-use Rattle.cx_rules.specs.Rows.{refuses_bytes, secure_sent, sends_secure}
-use Rattle.cx_rules.specs.Secured.{Keys, SealedFrame, Secured, secure_frame}
+use Rattle.cx_rules.specs.Rows.{goes_on, refuses, refuses_bytes, secure_sent, sends_secure}
+use Rattle.cx_rules.specs.Secured.{Keys, SealedFrame, Secured, is_signed, secure_frame, signature_found}
 use Rattle.cx_turns.proofs.Handling.{Coming, Same, left, taken}
 use Rattle.cx_turns.specs.Making.{row_due}
 
@@ -35,6 +38,17 @@ MonitorComing = Coming Monitor MonitorStage
 
 abbrev pub SameRow : MonitorComing → (MonitorArrival → MonitorRow) → Type 0
 SameRow h row = Same abridged_link h row
+
+-- ---- AUTH_SIGNATURE
+
+signed : (h : MonitorComing) (s : Secured) (bearer : Bearer) (b : Bool)
+    → SameRow h (λ a. if b then goes_on a (AwaitsIdent s bearer) [] (signature_found s ∷ []) else refuses a (Login SignatureWrong) [])
+signed h s bearer true = refl
+signed h s bearer false = refl
+
+pub signature-same : (h : MonitorComing) (s : Secured) (bearer : Bearer) (read : Result AuthSignature BytesFault) → SameRow h (λ a. on_signature a s bearer read)
+signature-same h s bearer (Err why) = refl
+signature-same h s bearer (Ok found) = signed h s bearer (is_signed s found.signature)
 
 -- ---- CLIENT_IDENT, SESSION_RECONNECT
 

@@ -1,5 +1,5 @@
 -- The rows and the turns of the rules, as the monitor makes them.
-use Rattle.std.specs.Prelude.{◌≡◌, ℕ, List, [], ◌∷◌, ◌++◌, Option, Some, None, Result}
+use Rattle.std.specs.Prelude.{◌≡◌, ℕ, Bool, List, [], ◌∷◌, ◌++◌, Option, Some, None, Result, if◌then◌else◌}
 use Rattle.cx_control.specs.Auth.{auth_reply_more_layout}
 use Rattle.cx_dice.specs.Draws.{challenge_of}
 use Rattle.cx_enc.specs.declared.keys.Key.{Key}
@@ -15,17 +15,19 @@ use Rattle.cx_rules.specs.declared.verdicts.Verdict.{Verdict}
 use Rattle.cx_rules.specs.declared.verdicts.Verdict.TheVariants as verdict
 use Rattle.cx_journal.specs.declared.faults.LoginFault.TheVariants as login
 use Rattle.cx_base.specs.declared.nodes.NodeName.TheVariants as node
+use Rattle.cx_journal.specs.declared.outcomes.Reason.TheVariants.{LinksFull}
 use Rattle.cx_login.specs.Monitor.{Offer}
 use Rattle.cx_node.specs.declared.rows.Row.{Row as Made}
 use Rattle.cx_rotate.specs.declared.states.KeptState.{KeptState}
 use Rattle.cx_rules.specs.Abridged.{abridged_link}
-use Rattle.cx_rules.specs.Acceptor.{AwaitsProof, denies}
+use Rattle.cx_rules.specs.Acceptor.{AwaitsBanner, AwaitsProof, denies}
+use Rattle.cx_rules.specs.Greetings.{own_banner}
 use Rattle.cx_rules.specs.KeptStates.{saved_behind}
 use Rattle.cx_rules.specs.Monitor.{Monitor, MonitorArrival, MonitorRow, MonitorStage}
 use Rattle.cx_rules.specs.MonitorLogin.{bearer_of}
 use Rattle.cx_rules.specs.MonitorRule.{turned_at}
 use Rattle.cx_rules.specs.Payloads.{control}
-use Rattle.cx_rules.specs.Rows.{arrival, sends_plain}
+use Rattle.cx_rules.specs.Rows.{arrival, goes_on, refuses, sends_plain}
 use Rattle.cx_steps.specs.declared.seals.DrawMark.TheVariants as draw
 use Rattle.cx_steps.specs.declared.seals.SealEntry.TheVariants.{Drawn}
 use Rattle.cx_wire.specs.Logins.{server_challenge_layout}
@@ -55,6 +57,10 @@ IsMonitorRow number own due made = IsRow abridged_link number own due made
 -- a row was made on this link as the rules have it, or the link is refused as they have it
 abbrev pub Makes : Monitor → Moment → MonitorLink → (MonitorArrival → MonitorRow) → Result (NodeRow MonitorLink Mark) NoRow → Type 0
 Makes own at link rule made = making.Makes abridged_link with_keys (arrived own at link) (rule (arrived own at link)) made
+
+-- what is done on a link that opens, where the places are full or aren't
+abbrev pub opening : Bool → MonitorArrival → MonitorRow
+opening full a = if full then refuses a LinksFull [] else goes_on a AwaitsBanner own_banner []
 
 -- ---- a login
 

@@ -8,17 +8,16 @@ ghost use Rattle.cx_rules.specs.Abridged.{abridged_link};
 ghost use Rattle.cx_rules.specs.Acceptor.{AwaitsBanner, AwaitsHello, on_banner, on_hello};
 ghost use Rattle.cx_rules.specs.Rows.{new_link};
 ghost use Rattle.cx_turns.specs.Making.{row_due};
-ghost use Rattle.cx_turns.specs.Greetings.{opening};
-ghost use Rattle.cx_acceptor.specs.Rows.{Makes, arrived};
+ghost use Rattle.cx_acceptor.specs.Rows.{Makes, arrived, opening};
 
 use crate::links::{Link, Stage};
 use crate::own::{KeyChange, Own};
-use cx_base::{Blob, EntityType, Items, NodeName};
+use cx_base::{Addr, Blob, EntityType, Items, NodeName};
 use cx_control::Hello;
 use cx_journal::{BytesFault, Reason};
-use cx_link::PlainLink;
+use cx_link::{BannerLink, PlainLink, own_banner};
 use cx_node::{Row, refuses};
-use cx_turns::{Moment, NoRow, NodeRow, goes_on, send_banner, send_hello};
+use cx_turns::{Moment, NoRow, NodeRow, goes_on, send_plain};
 use std::alloc::{AllocError, Global};
 
 /// The row of a link that opens: the banner is sent, or the link is shut where as many live as there are places.
@@ -40,9 +39,11 @@ pub fn greeting(
             seals,
         );
     }
-    let sent = send_banner(alloc)?;
-    let link = Link::new(at.number, Stage::AwaitsBanner(sent.link));
-    Ok(cx_node::goes_on(alloc, link, sent.bytes, seals))
+    let banner = own_banner(alloc)?;
+    let mut wire = BannerLink::new(alloc);
+    wire.send(alloc, banner.bytes())?;
+    let link = Link::new(at.number, Stage::AwaitsBanner(wire));
+    Ok(cx_node::goes_on(alloc, link, banner, seals))
 }
 
 // The peer's banner: HELLO is sent, with one's own type and nothing of the peer's address.
@@ -54,7 +55,16 @@ pub(crate) fn on_banner(
 ) -> Result<NodeRow<Link, KeyChange>, NoRow>
     ensures { Makes own.now at.now (wired at.now.number link AwaitsBanner) (on_banner Mon) result }
 {
-    let sent = send_hello(alloc, link, EntityType::Mon)??;
+    let nothing_said = Addr {
+        nonce: 0,
+        ip: [0; 4],
+        port: 0,
+    };
+    let hello = Hello {
+        kind: EntityType::Mon,
+        addr: nothing_said,
+    };
+    let sent = send_plain(alloc, link, 1, &hello)??;
     let link = Link::new(at.number, Stage::AwaitsHello(sent.link));
     Ok(goes_on(alloc, link, sent.bytes, Items::new(alloc)))
 }

@@ -1,8 +1,9 @@
 //! AUTH_REQUEST.
 
-ghost use Rattle.std.specs.Prelude.{[]};
-ghost use Rattle.cx_link.specs.Wires.{Wire, wired};
-ghost use Rattle.cx_rules.specs.Acceptor.{AwaitsRequest, denies, on_auth_request};
+ghost use Rattle.std.specs.Prelude.{◌≡◌, ◌==◌};
+ghost use Rattle.std.specs.List.{list_any};
+ghost use Rattle.cx_link.specs.Wires.{wired};
+ghost use Rattle.cx_rules.specs.Acceptor.{AwaitsRequest, on_auth_request};
 ghost use Rattle.cx_rules.specs.MonitorRule.{on_request_payload};
 ghost use Rattle.cx_acceptor.specs.Rows.{Makes};
 
@@ -14,7 +15,7 @@ use cx_control::AuthRequest;
 use cx_journal::{BytesFault, LoginFault};
 use cx_link::PlainLink;
 use cx_node::whole;
-use cx_turns::{Moment, NoRow, NodeRow, request_fault};
+use cx_turns::{Moment, NoRow, NodeRow};
 use cx_wire::LoginHello;
 use std::alloc::Global;
 
@@ -29,33 +30,18 @@ pub(crate) fn on_auth_request(
     ensures { Makes own.now at.now (wired at.now.number link AwaitsRequest) (λ a. on_auth_request on_request_payload a read) result }
 {
     let request = read?;
-    match request_fault(&request) {
-        Some(why) => denied(alloc, own, at, why),
-        None => on_request_payload(alloc, own, at, link, request.payload.bytes()),
+    if request.method != 2 {
+        Ok(denies(alloc, at, 95, LoginFault::Method)?)
+    } else if !offers_secure(request.modes.all()) {
+        Ok(denies(alloc, at, 95, LoginFault::Mode)?)
+    } else {
+        let hello = whole::<LoginHello>(alloc, request.payload.bytes())?;
+        on_login_hello(alloc, own, at, link, hello)
     }
 }
 
-fn denied(
-    alloc: Global,
-    own: &Own,
-    at: &Moment<'_>,
-    why: LoginFault,
-) -> Result<NodeRow<Link, KeyChange>, NoRow>
-    ensures { (wire : Wire) → Makes own.now at.now (wired at.now.number wire AwaitsRequest) (λ a. denies a 95 why []) result }
+fn offers_secure(modes: &[u32]) -> bool
+    ensures { result ≡ list_any (λ mode. mode == 2) modes.now }
 {
-    let row = denies(alloc, at, 95, why)?;
-    Ok(row)
-}
-
-fn on_request_payload(
-    alloc: Global,
-    own: &Own,
-    at: &Moment<'_>,
-    link: PlainLink,
-    payload: &[u8],
-) -> Result<NodeRow<Link, KeyChange>, NoRow>
-    ensures { Makes own.now at.now (wired at.now.number link AwaitsRequest) (λ a. on_request_payload a payload.now) result }
-{
-    let hello = whole::<LoginHello>(alloc, payload)?;
-    on_login_hello(alloc, own, at, link, hello)
+    modes.iter().any(|mode| *mode == 2)
 }

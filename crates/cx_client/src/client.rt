@@ -15,10 +15,10 @@ use cx_connector::Link;
 use cx_dice::Draw;
 use cx_enc::Key;
 use cx_holdings::OfferedModes;
-use cx_node::Links;
+use cx_node::{Links, loses};
 use cx_rules::forgetting_laws;
 use cx_steps::{Effects, Event};
-use cx_turns::{link_in, wanting};
+use cx_turns::link_in;
 use std::alloc::{AllocError, Global};
 use std::marker::Model;
 
@@ -101,7 +101,10 @@ impl Client {
                 Ok(())
             }
             Err(error) => {
-                *out = wanting(alloc, link);
+                *out = match link {
+                    Some(number) => loses(alloc, number),
+                    None => Effects::new(alloc),
+                };
                 Err(error)
             }
         }

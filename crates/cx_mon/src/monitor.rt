@@ -14,10 +14,10 @@ use cx_acceptor::{Link, Own};
 use cx_base::{Addr, Reading};
 use cx_dice::Draw;
 use cx_keyserver::KeyServer;
-use cx_node::Links;
+use cx_node::{Links, loses};
 use cx_rules::forgetting_laws;
 use cx_steps::{Effects, Event};
-use cx_turns::{link_in, wanting};
+use cx_turns::link_in;
 use std::alloc::{AllocError, Global};
 use std::marker::Model;
 
@@ -105,7 +105,10 @@ impl Monitor {
                 Ok(())
             }
             Err(error) => {
-                *out = wanting(alloc, link);
+                *out = match link {
+                    Some(number) => loses(alloc, number),
+                    None => Effects::new(alloc),
+                };
                 Err(error)
             }
         }

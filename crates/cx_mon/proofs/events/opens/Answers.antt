@@ -1,6 +1,5 @@
 use Rattle.std.specs.Prelude.{length, nat_le}
-use Rattle.cx_turns.specs.Greetings.{opening}
-use Rattle.cx_acceptor.specs.Rows.{arrived}
+use Rattle.cx_acceptor.specs.Rows.{arrived, opening}
 use Rattle.cx_rules.specs.Abridged.{abridged_link}
 use Rattle.cx_rules.specs.Acceptor.{AwaitsBanner}
 use Rattle.cx_rules.specs.Rows.{new_link}
