@@ -14,7 +14,7 @@ use Rattle.cx_rules.specs.Connector as connector
 use Rattle.cx_rules.specs.Connector.{AskerArrival, AskerRow, AwaitsDone, AwaitsIdent, Login, Open, client_ident, holding, kept_open, on_denial, proof_made, turned_at}
 use Rattle.cx_rules.specs.Greetings.{own_banner}
 use Rattle.cx_rules.specs.Holdings.{Asker, held_login, holds_nothing}
-use Rattle.cx_rules.specs.Requests.{Requests, asks_tickets, with_tickets}
+use Rattle.cx_rules.specs.Requests.{Requests, asks_rotating, asks_tickets, with_tickets}
 use Rattle.cx_rules.specs.Rows.{arrival, goes_on, sends_secure, unless_refused}
 use Rattle.cx_rules.specs.Secured.{Keys, Secured}
 use Rattle.cx_steps.specs.declared.seals.DrawMark.TheVariants as draw
@@ -49,14 +49,17 @@ Makes asker at link rule made = making.Makes abridged_asker_link changed (arrive
 abbrev pub IsAskerTurn : Asker → Moment → AskerLink → Came AskerLink Change → Type 0
 IsAskerTurn asker at link come = IsTurn abridged_asker_link changed asker link (turned_at (arrived asker at link) link.stage) come
 
--- the row was made by which tickets are asked for on an open link, which keeps this
-abbrev pub AsksOn : Asker → Moment → AskerLink → ℕ → Option (Secured × Requests) → Made AskerLink → Type 0
-AsksOn asker at link services None row = ⊥
-AsksOn asker at link services (Some (s, requests)) row =
-    IsRow abridged_asker_link at.number asker (asks_tickets Open (arrived asker at link) s requests services) row
+-- a row was made by which something is asked for on an open link, which keeps this
+abbrev pub AsksOn : Asker → Moment → AskerLink → (AskerArrival → Secured → Requests → AskerRow) → Option (Secured × Requests) → Made AskerLink → Type 0
+AsksOn asker at link asks None row = ⊥
+AsksOn asker at link asks (Some (s, requests)) row = IsRow abridged_asker_link at.number asker (asks (arrived asker at link) s requests) row
 
+-- by a client for tickets, by the sum of their services; by a daemon for the generations of its own type
 abbrev pub AsksTickets : Asker → Moment → AskerLink → ℕ → Made AskerLink → Type 0
-AsksTickets asker at link services row = AsksOn asker at link services (kept_open link.stage) row
+AsksTickets asker at link services row = AsksOn asker at link (λ a s requests. asks_tickets Open a s requests services) (kept_open link.stage) row
+
+abbrev pub AsksGenerations : Asker → Moment → AskerLink → Made AskerLink → Type 0
+AsksGenerations asker at link row = AsksOn asker at link (asks_rotating Open) (kept_open link.stage) row
 
 -- ---- rows by what was read and checked
 

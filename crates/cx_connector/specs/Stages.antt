@@ -1,5 +1,5 @@
 -- The links to the monitor as they are held, each as the link of the rules that it is, abridged.
-use Rattle.std.specs.Prelude.{ℕ, List}
+use Rattle.std.specs.Prelude.{ℕ, Bool, true, List}
 use Rattle.cx_turns.specs.Stages.{keys_alone}
 use Rattle.cx_link.specs.Sending.{secured_of}
 use Rattle.cx_link.specs.Wires.{SecureWire, secured_link, wired}
@@ -7,7 +7,7 @@ use Rattle.cx_link.specs.declared.links.Signing.{Signing}
 use Rattle.cx_rules.specs.Connector as connector
 use Rattle.cx_rules.specs.Connector.{Login}
 use Rattle.cx_rules.specs.Links.{Link}
-use Rattle.cx_rules.specs.Requests.{Requests}
+use Rattle.cx_rules.specs.Requests.{Requests, carries_fetch}
 use Rattle.cx_connector.specs.declared.links.Stage.{Stage}
 use Rattle.cx_connector.specs.declared.links.Stage.TheVariants as held
 
@@ -33,3 +33,8 @@ link_held number (held.AwaitsDone wire) = wired number wire connector.AwaitsDone
 link_held number (held.AwaitsSignature signing login) = awaiting_signature number signing login
 link_held number (held.AwaitsIdent link session) = awaiting_ident number link session
 link_held number (held.Open link requests) = open_link number link requests
+
+-- whether a fetch of a daemon is under way on a link: it isn't open yet, or a request for generations waits
+abbrev pub is_fetching : connector.Stage → Bool
+is_fetching (connector.Open s requests) = carries_fetch requests
+is_fetching stage = true

@@ -8,7 +8,7 @@ ghost use Rattle.cx_rules.specs.Connector as connector;
 ghost use Rattle.cx_rules.specs.Connector.{Open, is_open, kept_open};
 ghost use Rattle.cx_rules.specs.Requests.{asks_rotating, asks_tickets};
 ghost use Rattle.cx_turns.specs.Stages.{keys_alone};
-ghost use Rattle.cx_connector.specs.Rows.{AsksTickets, Makes};
+ghost use Rattle.cx_connector.specs.Rows.{AsksGenerations, AsksTickets, Makes};
 ghost use Rattle.cx_connector.specs.Stages.{open_link};
 
 use crate::links::{Link, Stage};
@@ -62,6 +62,52 @@ fn asks_tickets_on(
     ensures { IfOk result (AsksTickets asker.now at.now (open_link at.now.number link requests) services) }
 {
     match ask_tickets(alloc, link, requests, services)? {
+        Ok(asked) => Ok(goes_on_asking(alloc, at, asked)),
+        Err(why) => {
+            let me = named(alloc, asker)?;
+            refuses(alloc, &me, at.number, why, Items::new(alloc))
+        }
+    }
+}
+
+/// The row by which a daemon asks for the generations of its own type on a link that is open. Whoever carries it out puts the link that goes on in
+/// place of this one, which is as it was until then.
+pub fn asks_generations(
+    alloc: Global,
+    asker: &Asker,
+    at: &Moment<'_>,
+    link: &Link,
+) -> Result<Row<Link>, AllocError>
+    requires number { link.now.number ≡ at.now.number }
+    requires open { is_open link.now.stage ≡ true }
+    ensures { IfOk result (AsksGenerations asker.now at.now link.now) }
+{
+    match &link.stage {
+        Stage::Open(secure, requests) => {
+            let secure = secure.copy(alloc)?;
+            let requests = requests.copy(alloc)?;
+            asks_generations_on(alloc, asker, at, secure, requests)
+        }
+        Stage::AwaitsBanner(_, _) => unreachable!(),
+        Stage::AwaitsHello(_, _) => unreachable!(),
+        Stage::AwaitsChallenge(_, _) => unreachable!(),
+        Stage::AwaitsDone(_) => unreachable!(),
+        Stage::AwaitsSignature(_, _) => unreachable!(),
+        Stage::AwaitsIdent(_, _) => unreachable!(),
+    }
+}
+
+// The request is sent, or the link is refused.
+fn asks_generations_on(
+    alloc: Global,
+    asker: &Asker,
+    at: &Moment<'_>,
+    link: SecureLink,
+    requests: Requests,
+) -> Result<Row<Link>, AllocError>
+    ensures { IfOk result (AsksGenerations asker.now at.now (open_link at.now.number link requests)) }
+{
+    match ask_rotating(alloc, link, requests, at.reading)? {
         Ok(asked) => Ok(goes_on_asking(alloc, at, asked)),
         Err(why) => {
             let me = named(alloc, asker)?;

@@ -14,7 +14,7 @@ mod rows;
 mod signatures;
 mod turns;
 
-pub use asking::asks_tickets;
+pub use asking::{asks_generations, asks_tickets};
 pub use greetings::greeting;
 pub use links::{Link, Stage};
 pub use making::named;

@@ -2,7 +2,7 @@
 
 ghost use Rattle.std.specs.Prelude.{ℕ, ◌≡◌, OnOk};
 ghost use Rattle.cx_rules.specs.Connector.{is_open, is_quiet};
-ghost use Rattle.cx_connector.specs.Stages.{link_held};
+ghost use Rattle.cx_connector.specs.Stages.{is_fetching, link_held};
 ghost use Rattle.cx_turns.specs.Stages.{with_more};
 
 use cx_holdings::Login;
@@ -58,6 +58,21 @@ impl Stage {
         }
     }
 
+    // Whether the link isn't open yet, or a request for generations waits on it.
+    fn is_fetching(&self) -> bool
+        ensures { (number : ℕ) → result ≡ is_fetching (link_held number self.now).stage }
+    {
+        match self {
+            Stage::AwaitsBanner(_, _) => true,
+            Stage::AwaitsHello(_, _) => true,
+            Stage::AwaitsChallenge(_, _) => true,
+            Stage::AwaitsDone(_) => true,
+            Stage::AwaitsSignature(_, _) => true,
+            Stage::AwaitsIdent(_, _) => true,
+            Stage::Open(_, requests) => requests.carries_fetch(),
+        }
+    }
+
     // Puts bytes behind those that came on the link.
     fn feed(&mut self, alloc: Global, bytes: &[u8]) -> Result<(), AllocError>
         ensures { (number : ℕ) → OnOk result (link_held number self.new ≡ with_more bytes.now (link_held number self.old)) }
@@ -104,7 +119,7 @@ impl Numbered for Link {
 impl Link {
     ghost use Rattle.std.specs.Prelude.{◌≡◌};
     ghost use Rattle.cx_rules.specs.Connector.{is_open, is_quiet};
-    ghost use Rattle.cx_connector.specs.Stages.{link_held};
+    ghost use Rattle.cx_connector.specs.Stages.{is_fetching, link_held};
 
     // The link of this number, in a stage.
     pub(crate) fn new(number: u32, stage: Stage) -> Link
@@ -118,6 +133,13 @@ impl Link {
         ensures { result ≡ is_open self.now.stage }
     {
         self.stage.is_open()
+    }
+
+    /// Whether it isn't open yet, or a request for generations waits on it: so a fetch of a daemon is under way.
+    pub fn is_fetching(&self) -> bool
+        ensures { result ≡ is_fetching self.now.stage }
+    {
+        self.stage.is_fetching()
     }
 
     /// Whether it is open and no request waits on it.

@@ -6,7 +6,7 @@ ghost use Rattle.cx_turns.specs.Making.{IsHandled, IsRowOf};
 
 use crate::links::Link;
 use crate::rows::Change;
-use cx_base::{Duplicate, Items, NodeName};
+use cx_base::{Items, NodeName};
 use cx_holdings::Asker;
 use cx_steps::SealEntry;
 use cx_turns::{Came, Moment, NoRow, NodeRow};
@@ -16,8 +16,7 @@ use std::alloc::{AllocError, Global};
 pub fn named(alloc: Global, asker: &Asker) -> Result<NodeName, AllocError>
     ensures { IfOk result (λ me. me ≡ node.Entity asker.now.name) }
 {
-    let name = asker.name().copy(alloc)?;
-    Ok(NodeName::Entity(name))
+    asker.node_name(alloc)
 }
 
 // The row that was made, or that of the refusal, behind what was logged before.

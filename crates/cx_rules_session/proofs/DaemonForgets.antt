@@ -92,7 +92,7 @@ same-ahead l (AsConnector (connector.Open s requests)) = record { number = refl;
 
 -- ---- what stays of a stage
 
-in-same : (session : ℕ) (l : Link DaemonStage) (stage : DaemonStage) → is_in session (abridged_daemon_at l stage).stage ≡ is_in session stage
+pub in-same : (session : ℕ) (l : Link DaemonStage) (stage : DaemonStage) → is_in session (abridged_daemon_at l stage).stage ≡ is_in session stage
 in-same session l (AsAcceptor acceptor.AwaitsBanner) = refl
 in-same session l (AsAcceptor acceptor.AwaitsHello) = refl
 in-same session l (AsAcceptor acceptor.AwaitsRequest) = refl

@@ -10,7 +10,7 @@ module _ {Stage : Type 0} where
   lower a b [] le h = tt
   lower a b (l ∷ links) le h = (omega (arith, h.0), h.1)
 
-  filter_rising : (p : Link Stage → Bool) (low : ℕ) (links : List (Link Stage)) → AreRising low links → AreRising low (filter p links)
+  pub filter_rising : (p : Link Stage → Bool) (low : ℕ) (links : List (Link Stage)) → AreRising low links → AreRising low (filter p links)
   filter_rising p low [] h = tt
   filter_rising p low (l ∷ links) h = by_test (p l) (filter_rising p (l.number + 1) links h.1)
     where

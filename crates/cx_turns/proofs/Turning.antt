@@ -61,7 +61,7 @@ module _ {Own Stage Change : Type 0} (abridged : Link Stage → Link Stage) (for
       let P : ℕ → Type 0 = λ m. IsStep abridged (node_of new links) (carried_out (node_of own all) m true R) out in
       (subst P (sym n) (row_step abridged forgets own new number true all links made.row R out j h s.1), row_held abridged forgets new number true all links made.row R out j h s.1)
 
-  settled : (T : Turned Own Stage) (come : Came (Link Stage) Change) → IsTurn abridged changed own link T come → link.number ≡ number
+  pub settled : (T : Turned Own Stage) (come : Came (Link Stage) Change) → IsTurn abridged changed own link T come → link.number ≡ number
       → AreHeld abridged all → link_of number all ≡ Some link → IsDone come → IsOutcome T
   settled T (came.Waits stage) t n h found s = waits stage T t.made t.stays h found s
   settled T (came.Refuses why opened) t n h found s = refuses why opened T t.made n h s

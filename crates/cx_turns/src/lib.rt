@@ -29,7 +29,7 @@ pub use rows::{NoRow, NodeRow};
 pub use sending::{SentPlain, send_plain, send_secure};
 pub use signatures::checked;
 pub use turner::Turner;
-pub use turns::turn;
+pub use turns::{carries, turn};
 pub use upkeep::{is_keepalive, upkept};
 
 // Each public type that owns something may be sent to another thread and shared with one, where its links and its changes may.

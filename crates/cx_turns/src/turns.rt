@@ -106,8 +106,8 @@ fn changes<L: Numbered, T: Turner<L>>(own: &mut T, change: Option<T::Change>)
     }
 }
 
-// A row is carried out on the link that was taken out.
-fn carries<L: Numbered>(
+/// A row is carried out on the link of this number, which was taken out: it comes back, or is shut. `handled`: a banner or a frame was handled.
+pub fn carries<L: Numbered>(
     alloc: Global,
     links: &mut Links<L>,
     number: u32,

@@ -1,5 +1,5 @@
 -- The links of guests as a daemon holds them, each as the link of the rules that it is, abridged.
-use Rattle.std.specs.Prelude.{ℕ}
+use Rattle.std.specs.Prelude.{ℕ, Option, Some, None, if◌then◌else◌}
 use Rattle.cx_authorize.specs.Daemon.{Authority, Awaited}
 use Rattle.cx_link.specs.Sending.{secured_of}
 use Rattle.cx_link.specs.Wires.{SecureWire, Wire, secured_link, wired}
@@ -36,3 +36,8 @@ link_held number (held.AwaitsProof wire awaited) = awaiting_proof number wire aw
 link_held number (held.AwaitsSignature signing owner) = awaiting_signature number signing owner
 link_held number (held.AwaitsIdent link owner) = awaiting_ident number link owner
 link_held number (held.Open link served) = open_link number link served
+
+-- the session that ends with a link, if it is open in one that does
+abbrev pub lossy_session : GuestStage → Option ℕ
+lossy_session (Open s served) = if served.lossy then Some served.number else None
+lossy_session stage = None

@@ -52,7 +52,38 @@ pub struct Link {
 
 impl Link {
     ghost use Rattle.std.specs.Prelude.{◌≡◌};
-    ghost use Rattle.cx_verifying.specs.Stages.{link_held};
+    ghost use Rattle.cx_rules_session.specs.DaemonRule.{AsAcceptor, is_in};
+    ghost use Rattle.cx_verifying.specs.Stages.{link_held, lossy_session};
+
+    /// Whether it is open in the session of this number.
+    pub fn is_in(&self, session: u64) -> bool
+        ensures { result ≡ is_in session (AsAcceptor self.now.stage) }
+    {
+        match &self.stage {
+            Stage::AwaitsBanner(_) => false,
+            Stage::AwaitsHello(_) => false,
+            Stage::AwaitsRequest(_) => false,
+            Stage::AwaitsProof(_, _) => false,
+            Stage::AwaitsSignature(_, _) => false,
+            Stage::AwaitsIdent(_, _) => false,
+            Stage::Open(_, served) => served.number == session,
+        }
+    }
+
+    /// The session that ends with it, if it is open in one that does.
+    pub fn lossy_session(&self) -> Option<u64>
+        ensures { result ≡ lossy_session self.now.stage }
+    {
+        match &self.stage {
+            Stage::AwaitsBanner(_) => None,
+            Stage::AwaitsHello(_) => None,
+            Stage::AwaitsRequest(_) => None,
+            Stage::AwaitsProof(_, _) => None,
+            Stage::AwaitsSignature(_, _) => None,
+            Stage::AwaitsIdent(_, _) => None,
+            Stage::Open(_, served) => served.lossy.then_some(served.number),
+        }
+    }
 
     /// The link of this number, in a stage.
     pub fn new(number: u32, stage: Stage) -> Link

@@ -1,15 +1,13 @@
-use Rattle.std.proofs.Common.{ℕ, ap, subst}
+use Rattle.std.proofs.Common.{ℕ}
 use Rattle.cx_control.specs.Auth.{auth_signature_layout}
 use Rattle.cx_frame.specs.declared.frame.Frame.{Frame}
 use Rattle.cx_link.specs.Sending.{secured_of}
-use Rattle.cx_link.specs.declared.links.Signing.{Signing}
 use Rattle.cx_rules.specs.Abridged.{abridged_asker_link}
 use Rattle.cx_rules.specs.Connector.{AskerArrival, AwaitsSignature, on_signature}
-use Rattle.cx_rules.specs.Fronts.{keys_behind}
 use Rattle.cx_rules.specs.Payloads.{due}
-use Rattle.cx_rules.specs.Secured.{Keys, Secured, under}
-use Rattle.cx_turns.proofs.Handling.{secure_turn}
-use Rattle.cx_connector.specs.Rows.{Makes, arrived, changed}
+use Rattle.cx_rules.specs.Secured.{Secured}
+use Rattle.cx_turns.proofs.Signing.{signing_turn}
+use Rattle.cx_connector.specs.Rows.{arrived, changed}
 use Rattle.cx_connector.specs.Stages.{awaiting_signature}
 use Rattle.cx_connector.proofs.Behind.{signature-same}
 use Rattle.cx_connector.proofs.turns.signature_turn.Goals as goal
@@ -17,20 +15,17 @@ use Rattle.cx_connector.proofs.turns.signature_turn.Goals as goal
 pub returns-in_ok-found-in-Takes : goal.returns-in_ok-found-in-Takes
 returns-in_ok-found-in-Takes c =
     let t = rw (c.in-Takes.is, c.new-opened.ensures) at c.in_ok-signing.ensures in
-    let MadeBy : Secured → Type 0 = λ s. Makes c.args.asker.now c.args.at.now (awaiting_signature c.args.at.now.number c.in-Takes.signing c.args.login)
-    (λ (a : AskerArrival). on_signature a s c.args.login (due 7 auth_signature_layout.form c.in-Takes.frame)) c.on_signature-made.result in
-    let m = subst MadeBy (ap (λ (s : Signing). secured_of s) t.1) (rw c.in_ok-found-in-Takes.ensures at c.on_signature-made.ensures) in
-    secure_turn abridged_asker_link changed (arrived c.args.asker.now c.args.at.now (awaiting_signature c.args.at.now.number c.args.signing c.args.login)) c.args.at.now.number
-    c.args.signing.link c.in-Takes.signing.link (AwaitsSignature (secured_of c.args.signing) c.args.login) (AwaitsSignature (secured_of c.in-Takes.signing) c.args.login)
-    c.in-Takes.frame c.turn.new.seals
-    (λ (a : AskerArrival) (f : Frame) (keys : Keys). on_signature a (under (secured_of c.args.signing) keys) c.args.login (due 7 auth_signature_layout.form f))
-    c.on_signature-made.result c.handles.result t.0
-    (λ (n : ℕ). signature-same (record {
+    let m = rw c.in_ok-found-in-Takes.ensures at c.on_signature-made.ensures in
+    signing_turn abridged_asker_link changed (arrived c.args.asker.now c.args.at.now (awaiting_signature c.args.at.now.number c.args.signing c.args.login)) c.args.at.now.number
+    c.args.signing c.in-Takes.signing (AwaitsSignature (secured_of c.args.signing) c.args.login) (AwaitsSignature (secured_of c.in-Takes.signing) c.args.login)
+    c.in-Takes.frame c.turn.new.seals (λ (a : AskerArrival) (f : Frame) (s : Secured). on_signature a s c.args.login (due 7 auth_signature_layout.form f))
+    c.on_signature-made.result c.handles.result t
+    (λ (n : ℕ) (s : Secured). signature-same (record {
       a = arrived c.args.asker.now c.args.at.now (awaiting_signature c.args.at.now.number c.args.signing c.args.login);
       number = c.args.at.now.number;
       came = c.args.signing.link.ahead;
       n = n;
       stage = AwaitsSignature (secured_of c.args.signing) c.args.login;
       next = AwaitsSignature (secured_of c.in-Takes.signing) c.args.login;
-    }) (under (secured_of c.args.signing) (keys_behind c.args.signing.link.keys c.in-Takes.frame)) c.args.login (due 7 auth_signature_layout.form c.in-Takes.frame))
+    }) s c.args.login (due 7 auth_signature_layout.form c.in-Takes.frame))
     m c.handles.ensures
