@@ -1,0 +1,7 @@
+//! What a turn of a guest's link comes to where the book of sessions may be asked: rows as the rules have them, behind what opened and what is
+//! entered first.
+#![tactic(auto)]
+
+mod rows;
+
+pub use rows::{come, entered};
