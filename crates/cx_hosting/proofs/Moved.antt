@@ -1,0 +1,23 @@
+-- A turn that is done, with the session that moved to its link.
+use Rattle.std.proofs.Common.{◌≡◌, ℕ, List, Option, Some, None, ap}
+use Rattle.cx_rules.specs.Holdings.{Asker}
+use Rattle.cx_rules.specs.Rows.{Handles}
+use Rattle.cx_rules_session.specs.Asks.{Finished, Asking}
+use Rattle.cx_rules_session.specs.Guests.{GuestRow}
+use Rattle.cx_rules_session.specs.Hosting.{Deciding, Hosted, comes_to}
+use Rattle.cx_steps.specs.declared.seals.SealEntry.{SealEntry}
+use Rattle.cx_turns.specs.declared.came.Came.{Came}
+use Rattle.cx_verifying.specs.Stages.{GuestLink}
+use Rattle.cx_guest_rows.specs.Hosted.{done_as, due_behind}
+
+abbrev moving : ℕ → Deciding Hosted → Deciding Hosted
+moving number (Finished hosted) = Finished (record hosted { moved = Some number })
+moving number (Asking call next) = Asking call next
+
+-- a row by which a session moves
+abbrev pub moves_by : GuestRow → ℕ → Deciding Hosted
+moves_by row number = Finished (record { turned = Handles row; moved = Some number })
+
+pub moved_made : (asker : Asker) (opened : List SealEntry) (row : GuestRow) (number : ℕ) (came : Came GuestLink (Unit {0}))
+    → done_as asker came None ≡ due_behind opened (comes_to row) → done_as asker came (Some number) ≡ due_behind opened (moves_by row number)
+moved_made asker opened row number came made = ap (moving number) made

@@ -1,0 +1,16 @@
+-- The link is refused behind the drawn cookie.
+use Rattle.std.proofs.Common.{◌≡◌, ◌∷◌, [], refl}
+use Rattle.cx_rules.specs.Rows.{refuses}
+use Rattle.cx_rules_session.specs.Guests.{GuestArrival}
+use Rattle.cx_rules_session.specs.Hosting.{cookie_drawn}
+use Rattle.cx_verifying.specs.Rows.{arrived}
+use Rattle.cx_verifying.specs.Stages.{GuestLink}
+use Rattle.cx_hosting.proofs.admissions.refuses_admission.Goals as goal
+
+pub returns : goal.returns
+returns c = λ (link : GuestLink) (e : link.number ≡ c.args.at.now.number).
+    let a : GuestArrival = arrived c.args.asker.now c.args.at.now link in
+    c.come.ensures link (refuses a c.args.why (cookie_drawn a ∷ [])) e (record {
+      row = rw (c.keeping.ensures, c.in_ok-row.ensures, c.in_ok-me.ensures, c.in_ok-drawn.ensures c.args.asker.now link, e) refl;
+      number_is = rw (c.keeping.ensures, c.in_ok-row.ensures) tt;
+    })
