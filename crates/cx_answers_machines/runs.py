@@ -75,15 +75,18 @@ def key_text(secret):
     return base64.b64encode(struct.pack("<HIIH", 1, 0, 0, 16) + secret).decode()
 
 
+def recorded(name, kind):
+    folder = os.path.join(os.path.dirname(os.path.abspath(__file__)), "recorded")
+    with open(f"{folder}/{name}.{kind}") as f:
+        return f.read()
+
+
 class Run:
     """A recorded run."""
 
     def __init__(self, name):
-        folder = os.path.join(os.path.dirname(os.path.abspath(__file__)), "recorded")
-        with open(f"{folder}/{name}.schedule") as f:
-            self.schedule = f.read()
-        with open(f"{folder}/{name}.trace") as f:
-            self.blocks, self.journal = blocks_of(f.read())
+        self.schedule = recorded(name, "schedule")
+        self.blocks, self.journal = blocks_of(recorded(name, "trace"))
         self.name = name
         self.heads = list(self.head_rows())
 
@@ -105,8 +108,11 @@ class Run:
         """The journal before this event."""
         return self.journal[: sum(line.startswith("entry ") for _, told in self.blocks[:event] for line in told)]
 
+    def title(self):
+        return f"# {self.name}: {RUNS[self.name]}"
+
     def rows(self):
-        yield f"# {self.name}: {RUNS[self.name]}"
+        yield self.title()
         yield from self.heads
         for words, told in self.blocks:
             if any(line.startswith("the save fails") for line in told):
@@ -115,7 +121,7 @@ class Run:
         yield "journal"
 
     def answers(self):
-        yield f"# {self.name}: {RUNS[self.name]}"
+        yield self.title()
         yield from heads_told(self.heads)
         for words, told in self.blocks:
             yield from event_told(words, told, logs=True)
@@ -124,7 +130,7 @@ class Run:
 
 def heads_told(heads):
     """What is printed for the rows before the first event."""
-    return [row for row in heads if row.startswith(("monitor", "client"))]
+    return [row for row in heads if row.startswith(("monitor", "client", "daemon"))]
 
 
 def place_of(words):

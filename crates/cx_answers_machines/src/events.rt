@@ -43,12 +43,13 @@ impl<'a> Coming<'a> {
         number_of(self.first)
     }
 
-    // What the node is told to do, with these services.
+    // What the node is told to do, with these services, or with the session of this number.
     fn command(&self) -> Command {
-        let services = number_of(self.second);
         match self.first {
-            "renew" => Command::Renew(services),
-            _ => Command::Login(services),
+            "renew" => Command::Renew(number_of(self.second)),
+            "fetch" => Command::Fetch,
+            "drop" => Command::Drop(u64::from(number_of(self.second))),
+            _ => Command::Login(number_of(self.second)),
         }
     }
 

@@ -4,6 +4,7 @@ ghost use Rattle.cx_rotate.specs.Keeping.{IsKeptState, IsLife};
 
 use cx_base::{Addr, Blob, EntityName, EntityType, SECOND, Text, TextRefusal};
 use cx_client::Client;
+use cx_daemon::Daemon;
 use cx_dice::{Dice, Draw, SeedDice};
 use cx_holdings::OfferedModes;
 use cx_keep::decode_state;
@@ -55,6 +56,14 @@ pub struct MonitorNode {
 pub struct ClientNode {
     pub name: String,
     pub client: Client,
+    pub draws: Draws,
+}
+
+/// A daemon of a run.
+#[derive(Drop)]
+pub struct DaemonNode {
+    pub name: String,
+    pub daemon: Daemon,
     pub draws: Draws,
 }
 
@@ -118,11 +127,30 @@ fn ring_of(alloc: Global, lines: &[u8]) -> Result<Keyring, AllocError> {
 
 /// The client of this name; none where the word is no client's.
 pub fn client_name(alloc: Global, word: &str) -> Result<Option<EntityName>, AllocError> {
-    let Some(id) = word.strip_prefix("client.") else {
-        return Ok(None);
-    };
+    match word.strip_prefix("client.") {
+        Some(id) => name_of(alloc, EntityType::Client, id),
+        None => Ok(None),
+    }
+}
+
+// The daemon of this name; none where the word is no daemon's.
+fn daemon_name(alloc: Global, word: &str) -> Result<Option<EntityName>, AllocError> {
+    let (kind, id) = word.split_once('.').unwrap_or((word, ""));
+    match kind {
+        "osd" => name_of(alloc, EntityType::Osd, id),
+        "mds" => name_of(alloc, EntityType::Mds, id),
+        "mgr" => name_of(alloc, EntityType::Mgr, id),
+        _ => Ok(None),
+    }
+}
+
+fn name_of(
+    alloc: Global,
+    kind: EntityType,
+    id: &str,
+) -> Result<Option<EntityName>, AllocError> {
     match Text::of(alloc, id.as_bytes()) {
-        Ok(id) => Ok(EntityName::new(EntityType::Client, id).ok()),
+        Ok(id) => Ok(EntityName::new(kind, id).ok()),
         Err(TextRefusal::NotAscii(_)) => Ok(None),
         Err(TextRefusal::OutOfMemory) => Err(AllocError),
     }
@@ -167,6 +195,28 @@ pub fn client_of(alloc: Global, lines: &[u8], row: &str) -> Result<Option<Client
     Ok(Some(ClientNode {
         name: String::from_str(alloc, word)?,
         client,
+        draws: Draws::new(alloc, seed),
+    }))
+}
+
+/// The daemon of a row `NAME SEED NUMBER MODES`, where the keyring of these lines has its name.
+pub fn daemon_of(alloc: Global, lines: &[u8], row: &str) -> Result<Option<DaemonNode>, AllocError> {
+    let mut words = row.split(' ');
+    let word = words.next().unwrap_or("");
+    let seed = words.next().unwrap_or("");
+    let number = words.next().unwrap_or("").parse::<u32>().unwrap_or(0);
+    let modes = words.next().unwrap_or("");
+    let ring = ring_of(alloc, lines)?;
+    let Some(name) = daemon_name(alloc, word)? else {
+        return Ok(None);
+    };
+    let Some(entry) = ring.find(&name) else {
+        return Ok(None);
+    };
+    let daemon = Daemon::new(alloc, name, entry.key, modes_of(modes), local(number, 0));
+    Ok(Some(DaemonNode {
+        name: String::from_str(alloc, word)?,
+        daemon,
         draws: Draws::new(alloc, seed),
     }))
 }
