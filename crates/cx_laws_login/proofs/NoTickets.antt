@@ -1,5 +1,5 @@
--- A client issues no ticket, whatever comes.
-use Rattle.std.proofs.Common.{ℕ, ◌==◌, Bool, true, false, List, [], ◌∷◌, take, Option, Some, None, Result, Ok, Err}
+-- What one that asks the monitor enters, and so what a client does, whatever comes: no ticket is issued, and no session admitted.
+use Rattle.std.proofs.Common.{ℕ, ◌+◌, ◌-◌, ◌^◌, ◌==◌, Bool, true, false, List, [], ◌∷◌, take, Option, Some, None, Result, Ok, Err}
 use Rattle.std.specs.Prelude.{not, if◌then◌else◌}
 use Rattle.std.specs.List.{AllByRecursion}
 use Rattle.cx_base.specs.Names.{is_daemon_type}
@@ -19,12 +19,16 @@ use Rattle.cx_control.specs.declared.upkeep.Keepalive2Ack.{Keepalive2Ack}
 use Rattle.cx_dice.specs.Draws.{challenge_of, cookie_of}
 use Rattle.cx_frame.specs.declared.frame.Frame.{Frame}
 use Rattle.cx_journal.specs.declared.entries.Entry.{Entry}
+use Rattle.cx_journal.specs.declared.entries.Entry.TheVariants as journal
 use Rattle.cx_journal.specs.declared.faults.BytesFault.{BytesFault}
+use Rattle.cx_journal.specs.declared.faults.BytesFault.TheVariants as bytes
 use Rattle.cx_journal.specs.declared.faults.LoginFault.TheVariants.{Mode, SignatureWrong}
 use Rattle.cx_journal.specs.declared.outcomes.Reason.{Reason}
+use Rattle.cx_journal.specs.declared.premises.KeyKind.TheVariants as kind
+use Rattle.cx_login.specs.Held.{Held}
 use Rattle.cx_journal.specs.declared.outcomes.Reason.TheVariants as reason
 use Rattle.cx_login.specs.Client.{Ask, authenticate}
-use Rattle.cx_login.specs.Unlocking.{login_in}
+use Rattle.cx_login.specs.Unlocking.{login_in, told_each, unlocked}
 use Rattle.cx_login.specs.declared.client.LoggedIn.{LoggedIn}
 use Rattle.cx_rules.specs.ClientRule.{Client, ClientNode, client_rule, loses, me, opens, renews_on, submits, turn, with_asker}
 use Rattle.cx_rules.specs.Connector.{Stage, AwaitsBanner, AwaitsHello, AwaitsChallenge, AwaitsDone, AwaitsSignature, AwaitsIdent, Open, AskerArrival, AskerRow, Login as Opening, client_ident, holding, identifies, is_open, kept_open, login_request, on_bad_method, on_banner, on_challenge, on_done, on_hello, on_login_done, on_missing_features, on_opened, on_reply_more, on_signature, proves, signs, turned_at, while_challenged, while_identified, while_proved}
@@ -34,13 +38,17 @@ use Rattle.cx_rules.specs.Holdings.{Asker, held_login, unexpired}
 use Rattle.cx_rules.specs.Inputs.{Input, Opened, NoLink, Bytes, Turn, Gone, Look, Tick, Submit, Restart}
 use Rattle.cx_rules.specs.Links.{Link, link_of}
 use Rattle.cx_rules.specs.Payloads.{control, due, payload, whole}
-use Rattle.cx_rules.specs.Requests.{Requests, asks_rotating, first_open, no_requests, on_open, on_reply, on_server_ident, sealed_request, sends_request, takes}
+use Rattle.cx_rules.specs.Messages.{Message, body_as, message_in}
+use Rattle.cx_rules.specs.Requests.{Requests, asks_rotating, body_taken, first_open, message_taken, no_requests, on_open, on_reply, on_server_ident, reply_taken, request_message, rotating_taken, sealed_request, sends_request, takes, tickets_taken, unless_unsealed, waiting_taken}
 use Rattle.cx_rules.specs.Requests as requests
 use Rattle.cx_rules.specs.Rows.{Arrival, Turned, Waits, Refuses, Handles, arrival, at, fed, goes_on, lifted_turn, plain_sent, refused_entry, refuses, secure_sent, turns, with_opened}
-use Rattle.cx_rules.specs.Secured.{SealedFrame, Secured, connector_keys, is_signed, plain_frame, secure_frame, signed_frame, under}
+use Rattle.cx_rules.specs.Secured.{Keys, SealedFrame, Secured, connector_keys, is_signed, plain_frame, secure_frame, signed_frame, under}
 use Rattle.cx_rules.specs.Upkeep.{on_keepalive, on_keepalive_ack}
+use Rattle.cx_rules.specs.declared.messages.Body.{Body}
+use Rattle.cx_rules.specs.declared.messages.Body.TheVariants as body
 use Rattle.cx_rules.specs.declared.requests.Taken.{Taken}
 use Rattle.cx_rules.specs.declared.requests.Taken.TheVariants as taken
+use Rattle.cx_rules.specs.declared.requests.Waiting.{Waiting}
 use Rattle.cx_rules.specs.declared.requests.Want.{Want}
 use Rattle.cx_rules.specs.declared.requests.Want.TheVariants as want
 use Rattle.cx_steps.specs.declared.events.Command.{Command}
@@ -48,205 +56,298 @@ use Rattle.cx_steps.specs.declared.events.Command.TheVariants as command
 use Rattle.cx_steps.specs.declared.events.Peer.{Peer}
 use Rattle.cx_steps.specs.declared.events.Peer.TheVariants as peer
 use Rattle.cx_steps.specs.declared.seals.SealEntry.{SealEntry}
+use Rattle.cx_sealed.specs.Records.{rotating_reply_layout}
+use Rattle.cx_sealed.specs.declared.rotating_reply.RotatingReply.{RotatingReply}
+use Rattle.cx_wire.specs.Bodies.{reply_layout}
+use Rattle.cx_wire.specs.declared.bodies.Reply.{Reply}
+use Rattle.cx_wire.specs.declared.bodies.Reply.TheVariants as given
+use Rattle.cx_wire.specs.declared.bodies.Request.{Request}
 use Rattle.cx_wire.specs.declared.bodies.Request.TheVariants as asked
 use Rattle.cx_wire.specs.Logins.{authenticate_layout, login_done_layout, server_challenge_layout}
 use Rattle.cx_wire.specs.declared.logins.LoginDone.{LoginDone}
 use Rattle.cx_wire.specs.declared.logins.ServerChallenge.{ServerChallenge}
-use Rattle.cx_laws_keys.proofs.Journal.{IsNotIssued}
+use Rattle.cx_laws_keys.proofs.Journal.{IsNotIssued, IsOfLogin}
+use Rattle.cx_laws_keys.proofs.Lists.{all-map}
 use Rattle.cx_laws_login.proofs.Proving.{RowOf, by-front}
 
-abbrev pub IssueNone : List Entry → Type 0
-IssueNone es = AllByRecursion IsNotIssued es
+-- it refuses something, which is no ticket; it was told generations; or it begins anew
+abbrev pub IsOfAsker : Entry → Type 0
+IsOfAsker (journal.Refused r) = IsOfLogin r.reason
+IsOfAsker (journal.Fetched f) = Unit {0}
+IsOfAsker (journal.Restarted at) = Unit {0}
+IsOfAsker _ = ⊥
+
+-- none of these issues a ticket
+asker-not_issued : (e : Entry) → IsOfAsker e → IsNotIssued e
+asker-not_issued (journal.Issued t) h = h
+asker-not_issued (journal.Refused r) h = tt
+asker-not_issued (journal.Fetched f) h = tt
+asker-not_issued (journal.Restarted at) h = tt
+asker-not_issued (journal.Saved x) h = tt
+asker-not_issued (journal.Looked x) h = tt
+asker-not_issued (journal.Admitted x) h = tt
+asker-not_issued (journal.Resumed x) h = tt
+asker-not_issued (journal.Sent x) h = tt
+asker-not_issued (journal.Handled x) h = tt
+asker-not_issued (journal.Answered x) h = tt
+asker-not_issued (journal.Ended x) h = tt
+asker-not_issued (journal.Broken x) h = tt
+asker-not_issued (journal.Leaked x) h = tt
+
+abbrev pub OfAsker : List Entry → Type 0
+OfAsker es = AllByRecursion IsOfAsker es
 
 -- ---- rows
 
-abbrev NoTicket : AskerRow → Type 0
-NoTicket row = IssueNone row.entries
+abbrev pub RowOfAsker : AskerRow → Type 0
+RowOfAsker row = OfAsker row.entries
 
-none-plain : (a : AskerArrival) (stage : Stage) (seals : List SealEntry) (r : Result (List ℕ) BytesFault) → NoTicket (plain_sent a stage seals r)
+none-plain : (a : AskerArrival) (stage : Stage) (seals : List SealEntry) (r : Result (List ℕ) BytesFault) → RowOfAsker (plain_sent a stage seals r)
 none-plain a stage seals (Ok bytes) = tt
 none-plain a stage seals (Err why) = (tt, tt)
 
-none-secure : (a : AskerArrival) (s : Secured) (stage : Secured → Stage) (seals : List SealEntry) (r : Result SealedFrame BytesFault) → NoTicket (secure_sent a s stage seals r)
+none-secure : (a : AskerArrival) (s : Secured) (stage : Secured → Stage) (seals : List SealEntry) (r : Result SealedFrame BytesFault) → RowOfAsker (secure_sent a s stage seals r)
 none-secure a s stage seals (Ok sealed) = tt
 none-secure a s stage seals (Err why) = (tt, tt)
 
-none-hello : (a : AskerArrival) (asked : ℕ) (hello : Result Hello BytesFault) → NoTicket (on_hello a asked hello)
+none-hello : (a : AskerArrival) (asked : ℕ) (hello : Result Hello BytesFault) → RowOfAsker (on_hello a asked hello)
 none-hello a asked (Ok hello) = none-plain a (AwaitsChallenge asked) [] (plain_frame (login_request a.own))
 none-hello a asked (Err why) = (tt, tt)
 
-none-proves : (a : AskerArrival) (server : ℕ) (made : Result (List ℕ) BytesFault) → NoTicket (proves a server made)
+none-proves : (a : AskerArrival) (server : ℕ) (made : Result (List ℕ) BytesFault) → RowOfAsker (proves a server made)
 none-proves a server (Ok bytes) = tt
 none-proves a server (Err why) = (tt, tt)
 
-none-challenge : (a : AskerArrival) (asked : ℕ) (server : Result ServerChallenge BytesFault) → NoTicket (on_challenge a asked server)
+none-challenge : (a : AskerArrival) (asked : ℕ) (server : Result ServerChallenge BytesFault) → RowOfAsker (on_challenge a asked server)
 none-challenge a asked (Err why) = (tt, tt)
 none-challenge a asked (Ok server) =
     let ask : Ask = record { secret = a.own.secret; old = unexpired a.reading a.own.holdings.auth; other_keys = asked } in
     none-proves a server.challenge (plain_frame (control 5 auth_request_more_layout.form
     (record { payload = authenticate_layout.form.text (authenticate ask server.challenge (challenge_of a.draw)) })))
 
-none-reply_more : (a : AskerArrival) (asked : ℕ) (more : Result AuthReplyMore BytesFault) → NoTicket (on_reply_more a asked more)
+none-reply_more : (a : AskerArrival) (asked : ℕ) (more : Result AuthReplyMore BytesFault) → RowOfAsker (on_reply_more a asked more)
 none-reply_more a asked (Err why) = (tt, tt)
 none-reply_more a asked (Ok more) = none-challenge a asked (whole server_challenge_layout.form more.payload)
 
-none-bad_method : (a : AskerArrival) (fields : Result (ℕ × (ℕ × (List ℕ × List ℕ))) BytesFault) → NoTicket (on_bad_method a fields)
+none-bad_method : (a : AskerArrival) (fields : Result (ℕ × (ℕ × (List ℕ × List ℕ))) BytesFault) → RowOfAsker (on_bad_method a fields)
 none-bad_method a (Err why) = (tt, tt)
 none-bad_method a (Ok fields) = (tt, tt)
 
-none-challenged : (a : AskerArrival) (asked : ℕ) (f : Frame) → NoTicket (while_challenged a asked f)
+none-challenged : (a : AskerArrival) (asked : ℕ) (f : Frame) → RowOfAsker (while_challenged a asked f)
 none-challenged a asked f = by_test (f.tag == 3)
   where
-    by_test : (t : Bool) → NoTicket (if t then on_bad_method a (payload bad_method_layout.form f) else on_reply_more a asked (due 4 auth_reply_more_layout.form f))
+    by_test : (t : Bool) → RowOfAsker (if t then on_bad_method a (payload bad_method_layout.form f) else on_reply_more a asked (due 4 auth_reply_more_layout.form f))
     by_test true = none-bad_method a (payload bad_method_layout.form f)
     by_test false = none-reply_more a asked (due 4 auth_reply_more_layout.form f)
 
-none-signs : (a : AskerArrival) (login : Opening) (opened : List SealEntry) (made : Result SealedFrame BytesFault) → NoTicket (signs a login opened made)
+none-signs : (a : AskerArrival) (login : Opening) (opened : List SealEntry) (made : Result SealedFrame BytesFault) → RowOfAsker (signs a login opened made)
 none-signs a login opened (Ok sealed) = tt
 none-signs a login opened (Err why) = (tt, tt)
 
-none-opened : (a : AskerArrival) (gid : ℕ) (opened : List SealEntry) (value : Option LoggedIn) → NoTicket (on_opened a gid opened value)
+none-opened : (a : AskerArrival) (gid : ℕ) (opened : List SealEntry) (value : Option LoggedIn) → RowOfAsker (on_opened a gid opened value)
 none-opened a gid opened None = (tt, tt)
 none-opened a gid opened (Some x) =
     none-signs a (record { gid = gid; opened = x }) opened (signed_frame (connector_keys x.secret) x.auth.session (take a.link.taken a.link.received))
 
-none-login_done : (a : AskerArrival) (gid : ℕ) (done : Result LoginDone BytesFault) → NoTicket (on_login_done a gid done)
+none-login_done : (a : AskerArrival) (gid : ℕ) (done : Result LoginDone BytesFault) → RowOfAsker (on_login_done a gid done)
 none-login_done a gid (Err why) = (tt, tt)
 none-login_done a gid (Ok done) = let unlocked = login_in a.own.secret done in none-opened a gid unlocked.seals unlocked.value
 
-none-done : (a : AskerArrival) (done : Result AuthDone BytesFault) → NoTicket (on_done a done)
+none-done : (a : AskerArrival) (done : Result AuthDone BytesFault) → RowOfAsker (on_done a done)
 none-done a (Err why) = (tt, tt)
 none-done a (Ok done) = by_test (not (done.mode == 2))
   where
-    by_test : (t : Bool) → NoTicket (if t then refuses a (reason.Login Mode) [] else on_login_done a done.gid (whole login_done_layout.form done.payload))
+    by_test : (t : Bool) → RowOfAsker (if t then refuses a (reason.Login Mode) [] else on_login_done a done.gid (whole login_done_layout.form done.payload))
     by_test true = (tt, tt)
     by_test false = none-login_done a done.gid (whole login_done_layout.form done.payload)
 
-none-proved : (a : AskerArrival) (f : Frame) → NoTicket (while_proved a f)
+none-proved : (a : AskerArrival) (f : Frame) → RowOfAsker (while_proved a f)
 none-proved a f = by_test (f.tag == 3)
   where
-    by_test : (t : Bool) → NoTicket (if t then on_bad_method a (payload bad_method_layout.form f) else on_done a (due 6 auth_done_layout.form f))
+    by_test : (t : Bool) → RowOfAsker (if t then on_bad_method a (payload bad_method_layout.form f) else on_done a (due 6 auth_done_layout.form f))
     by_test true = none-bad_method a (payload bad_method_layout.form f)
     by_test false = none-done a (due 6 auth_done_layout.form f)
 
-none-identifies : (a : AskerArrival) (s : Secured) (login : Opening) → NoTicket (identifies a s login)
+none-identifies : (a : AskerArrival) (s : Secured) (login : Opening) → RowOfAsker (identifies a s login)
 none-identifies a s login =
     none-secure (holding a (held_login a.own.holdings login.gid login.opened)) s (λ behind. AwaitsIdent behind login.opened.auth.session) _
     (secure_frame s.keys (client_ident a.own login.gid 1 (cookie_of a.draw)))
 
-none-signature : (a : AskerArrival) (s : Secured) (login : Opening) (found : Result AuthSignature BytesFault) → NoTicket (on_signature a s login found)
+none-signature : (a : AskerArrival) (s : Secured) (login : Opening) (found : Result AuthSignature BytesFault) → RowOfAsker (on_signature a s login found)
 none-signature a s login (Err why) = (tt, tt)
 none-signature a s login (Ok found) = by_test (is_signed s found.signature)
   where
-    by_test : (t : Bool) → NoTicket (if t then identifies a s login else refuses a (reason.Login SignatureWrong) [])
+    by_test : (t : Bool) → RowOfAsker (if t then identifies a s login else refuses a (reason.Login SignatureWrong) [])
     by_test true = none-identifies a s login
     by_test false = (tt, tt)
 
--- a request, where it could be sealed
-none-sends : (a : AskerArrival) (s : Secured) (r : Requests) (wanted : Want) (made : Result SealedFrame Reason) → NoTicket (sends_request Open a s r wanted made)
-none-sends a s r wanted (Ok sealed) = tt
-none-sends a s r wanted (Err why) = (tt, tt)
+-- ---- requests and replies
 
-none-server_ident : (a : AskerArrival) (s : Secured) (session : List ℕ) (ident : Result ServerIdent BytesFault) → NoTicket (on_server_ident Open a s session ident)
+-- a request that can't be sealed is refused for no ticket
+abbrev pub IsMadeOfLogin : Result SealedFrame Reason → Type 0
+IsMadeOfLogin (Ok sealed) = Unit {0}
+IsMadeOfLogin (Err why) = IsOfLogin why
+
+pub sealed-of_login : (keys : Keys) (r : Requests) (request : Request) → IsMadeOfLogin (sealed_request keys r request)
+sealed-of_login keys r request = by_count (r.count == 2 ^ 64 - 1)
+  where
+    by_sealed : (made : Result SealedFrame BytesFault) → IsMadeOfLogin (unless_unsealed made)
+    by_sealed (Ok sealed) = tt
+    by_sealed (Err why) = tt
+
+    by_count : (spent : Bool) → IsMadeOfLogin (if spent then Err reason.Spent else unless_unsealed (secure_frame keys (request_message (r.count + 1) request)))
+    by_count true = tt
+    by_count false = by_sealed (secure_frame keys (request_message (r.count + 1) request))
+
+-- nor is a reply
+abbrev IsTakenOfLogin : Taken → Type 0
+IsTakenOfLogin (taken.Refuses why opened) = IsOfLogin why
+IsTakenOfLogin _ = Unit {0}
+
+taken-of_login : (secret : List ℕ) (r : Requests) (found : Result Message BytesFault) → IsTakenOfLogin (message_taken secret r found)
+taken-of_login secret r (Err why) = tt
+taken-of_login secret r (Ok m) = by_type (m.header.type_ == 18)
+  where
+    by_tickets : (opened : List SealEntry) (held : Option (List Held)) → IsTakenOfLogin (tickets_taken opened held)
+    by_tickets opened None = tt
+    by_tickets opened (Some held) = tt
+
+    by_rotating : (reading : ℕ) (opened : List SealEntry) (told : Option RotatingReply) → IsTakenOfLogin (rotating_taken reading opened told)
+    by_rotating reading opened None = tt
+    by_rotating reading opened (Some told) = tt
+
+    by_reply : (wanted : Want) (x : Reply) → IsTakenOfLogin (reply_taken secret r.session wanted x)
+    by_reply want.Tickets (given.Tickets parts) = by_tickets (told_each r.session parts).seals (told_each r.session parts).value
+    by_reply want.Tickets (given.Rotating sealed) = tt
+    by_reply (want.Rotating reading) (given.Tickets parts) = tt
+    by_reply (want.Rotating reading) (given.Rotating sealed) =
+        let told = unlocked rotating_reply_layout.form kind.Principal secret sealed in by_rotating reading told.seals told.value
+
+    by_tid : (first : Waiting) (x : Reply) (same : Bool) → IsTakenOfLogin (if same then reply_taken secret r.session first.want x else taken.Refuses reason.BadReply [])
+    by_tid first x true = by_reply first.want x
+    by_tid first x false = tt
+
+    by_waiting : (waiting : List Waiting) (x : Reply) → IsTakenOfLogin (waiting_taken secret r.session waiting m.header.tid x)
+    by_waiting [] x = tt
+    by_waiting (first ∷ later) x = by_tid first x (m.header.tid == first.tid)
+
+    by_body : (spelled : Body Reply) → IsTakenOfLogin (body_taken secret r m.header.tid spelled)
+    by_body (body.Spelled x) = by_waiting r.waiting x
+    by_body body.OtherCode = tt
+    by_body (body.Misspelled why) = tt
+
+    by_type : (due_type : Bool) → IsTakenOfLogin (if due_type then body_taken secret r m.header.tid (body_as reply_layout.form m.body) else taken.Refuses (reason.Bytes (bytes.Unexpected 17)) [])
+    by_type true = by_body (body_as reply_layout.form m.body)
+    by_type false = tt
+
+-- a request, where it could be sealed
+pub none-sends : (a : AskerArrival) (s : Secured) (r : Requests) (wanted : Want) (made : Result SealedFrame Reason) → IsMadeOfLogin made → RowOfAsker (sends_request Open a s r wanted made)
+none-sends a s r wanted (Ok sealed) h = tt
+none-sends a s r wanted (Err why) h = (h, tt)
+
+none-server_ident : (a : AskerArrival) (s : Secured) (session : List ℕ) (ident : Result ServerIdent BytesFault) → RowOfAsker (on_server_ident Open a s session ident)
 none-server_ident a s session (Err why) = (tt, tt)
 none-server_ident a s session (Ok ident) = by_test (is_daemon_type a.own.name.kind)
   where
-    by_test : (t : Bool) → NoTicket (if t then asks_rotating Open a s (no_requests session) else goes_on a (Open s (no_requests session)) [] [])
-    by_test true = none-sends a s (no_requests session) (want.Rotating a.reading) (sealed_request s.keys (no_requests session) asked.Rotating)
+    by_test : (t : Bool) → RowOfAsker (if t then asks_rotating Open a s (no_requests session) else goes_on a (Open s (no_requests session)) [] [])
+    by_test true =
+        none-sends a s (no_requests session) (want.Rotating a.reading) (sealed_request s.keys (no_requests session) asked.Rotating)
+        (sealed-of_login s.keys (no_requests session) asked.Rotating)
     by_test false = tt
 
-none-missing : (a : AskerArrival) (missing : Result IdentMissingFeatures BytesFault) → NoTicket (on_missing_features a missing)
+none-missing : (a : AskerArrival) (missing : Result IdentMissingFeatures BytesFault) → RowOfAsker (on_missing_features a missing)
 none-missing a (Err why) = (tt, tt)
 none-missing a (Ok missing) = (tt, tt)
 
-none-identified : (a : AskerArrival) (s : Secured) (session : List ℕ) (f : Frame) → NoTicket (while_identified a s session f)
+none-identified : (a : AskerArrival) (s : Secured) (session : List ℕ) (f : Frame) → RowOfAsker (while_identified a s session f)
 none-identified a s session f = by_test (f.tag == 10)
   where
-    by_test : (t : Bool) → NoTicket (if t then on_missing_features a (payload ident_missing_features_layout.form f) else on_server_ident Open a s session (due 9 server_ident_layout.form f))
+    by_test : (t : Bool) → RowOfAsker (if t then on_missing_features a (payload ident_missing_features_layout.form f) else on_server_ident Open a s session (due 9 server_ident_layout.form f))
     by_test true = none-missing a (payload ident_missing_features_layout.form f)
     by_test false = none-server_ident a s session (due 9 server_ident_layout.form f)
 
-none-keepalive : (a : AskerArrival) (s : Secured) (r : Requests) (keepalive : Result Keepalive2 BytesFault) → NoTicket (on_keepalive a s (λ behind. Open behind r) keepalive)
+none-keepalive : (a : AskerArrival) (s : Secured) (r : Requests) (keepalive : Result Keepalive2 BytesFault) → RowOfAsker (on_keepalive a s (λ behind. Open behind r) keepalive)
 none-keepalive a s r (Err why) = (tt, tt)
 none-keepalive a s r (Ok keepalive) =
     none-secure a s (λ behind. Open behind r) [] (secure_frame s.keys (control 19 keepalive2_ack_layout.form (record { time = keepalive.time })))
 
-none-keepalive_ack : (a : AskerArrival) (s : Secured) (r : Requests) (ack : Result Keepalive2Ack BytesFault) → NoTicket (on_keepalive_ack a s (λ behind. Open behind r) ack)
+none-keepalive_ack : (a : AskerArrival) (s : Secured) (r : Requests) (ack : Result Keepalive2Ack BytesFault) → RowOfAsker (on_keepalive_ack a s (λ behind. Open behind r) ack)
 none-keepalive_ack a s r (Err why) = (tt, tt)
 none-keepalive_ack a s r (Ok ack) = tt
 
-none-takes : (a : AskerArrival) (s : Secured) (r : Requests) (what : Taken) → NoTicket (takes Open a s r what)
-none-takes a s r (taken.Refuses why opened) = (tt, tt)
-none-takes a s r (taken.Holds held opened) = tt
-none-takes a s r (taken.Views reading generations opened) = (tt, tt)
+none-takes : (a : AskerArrival) (s : Secured) (r : Requests) (what : Taken) → IsTakenOfLogin what → RowOfAsker (takes Open a s r what)
+none-takes a s r (taken.Refuses why opened) h = (h, tt)
+none-takes a s r (taken.Holds held opened) h = tt
+none-takes a s r (taken.Views reading generations opened) h = (tt, tt)
 
-none-open : (a : AskerArrival) (s : Secured) (r : Requests) (f : Frame) → NoTicket (on_open Open a s r f)
+none-open : (a : AskerArrival) (s : Secured) (r : Requests) (f : Frame) → RowOfAsker (on_open Open a s r f)
 none-open a s r f = by_tests (f.tag == 18) (f.tag == 19)
   where
-    by_tests : (ask ack : Bool) → NoTicket (if ask then on_keepalive a s (λ behind. Open behind r) (payload keepalive2_layout.form f)
+    by_tests : (ask ack : Bool) → RowOfAsker (if ask then on_keepalive a s (λ behind. Open behind r) (payload keepalive2_layout.form f)
         else if ack then on_keepalive_ack a s (λ behind. Open behind r) (payload keepalive2_ack_layout.form f) else on_reply Open a s r f)
     by_tests true ack = none-keepalive a s r (payload keepalive2_layout.form f)
     by_tests false true = none-keepalive_ack a s r (payload keepalive2_ack_layout.form f)
-    by_tests false false = none-takes a s r (requests.taken a.own.secret r f)
+    by_tests false false = none-takes a s r (requests.taken a.own.secret r f) (taken-of_login a.own.secret r (message_in f))
 
 -- ---- a turn
 
-none-turned : (a : AskerArrival) (stage : Stage) → RowOf NoTicket (turned_at a stage)
+pub none-turned : (a : AskerArrival) (stage : Stage) → RowOf RowOfAsker (turned_at a stage)
 none-turned a (AwaitsBanner asked) =
-    by-front NoTicket (λ link _. on_banner (at a link) asked) (banner_next a.link)
+    by-front RowOfAsker (λ link _. on_banner (at a link) asked) (banner_next a.link)
     (λ link opened. none-plain (at a link) (AwaitsHello asked) [] (plain_frame (own_hello a.own.name.kind)))
 none-turned a (AwaitsHello asked) =
-    by-front NoTicket (λ (link, f) _. on_hello (at a link) asked (due 1 hello_layout.form f)) (plain_next a.link)
+    by-front RowOfAsker (λ (link, f) _. on_hello (at a link) asked (due 1 hello_layout.form f)) (plain_next a.link)
     (λ (link, f) opened. none-hello (at a link) asked (due 1 hello_layout.form f))
 none-turned a (AwaitsChallenge asked) =
-    by-front NoTicket (λ (link, f) _. while_challenged (at a link) asked f) (plain_next a.link) (λ (link, f) opened. none-challenged (at a link) asked f)
-none-turned a AwaitsDone = by-front NoTicket (λ (link, f) _. while_proved (at a link) f) (plain_next a.link) (λ (link, f) opened. none-proved (at a link) f)
+    by-front RowOfAsker (λ (link, f) _. while_challenged (at a link) asked f) (plain_next a.link) (λ (link, f) opened. none-challenged (at a link) asked f)
+none-turned a AwaitsDone = by-front RowOfAsker (λ (link, f) _. while_proved (at a link) f) (plain_next a.link) (λ (link, f) opened. none-proved (at a link) f)
 none-turned a (AwaitsSignature s login) =
-    by-front NoTicket (λ (link, f, keys) opened. with_opened opened (on_signature (at a link) (under s keys) login (due 7 auth_signature_layout.form f))) (secure_next s.keys a.link)
+    by-front RowOfAsker (λ (link, f, keys) opened. with_opened opened (on_signature (at a link) (under s keys) login (due 7 auth_signature_layout.form f))) (secure_next s.keys a.link)
     (λ (link, f, keys) opened. none-signature (at a link) (under s keys) login (due 7 auth_signature_layout.form f))
 none-turned a (AwaitsIdent s session) =
-    by-front NoTicket (λ (link, f, keys) opened. with_opened opened (while_identified (at a link) (under s keys) session f)) (secure_next s.keys a.link)
+    by-front RowOfAsker (λ (link, f, keys) opened. with_opened opened (while_identified (at a link) (under s keys) session f)) (secure_next s.keys a.link)
     (λ (link, f, keys) opened. none-identified (at a link) (under s keys) session f)
 none-turned a (Open s r) =
-    by-front NoTicket (λ (link, f, keys) opened. with_opened opened (on_open Open (at a link) (under s keys) r f)) (secure_next s.keys a.link)
+    by-front RowOfAsker (λ (link, f, keys) opened. with_opened opened (on_open Open (at a link) (under s keys) r f)) (secure_next s.keys a.link)
     (λ (link, f, keys) opened. none-open (at a link) (under s keys) r f)
 
 -- ---- a step of a client
 
-none-turns : (c : ClientNode) (a : Arrival Client Stage) (turned : Turned Asker Stage) → RowOf NoTicket turned → IssueNone (turns c a (lifted_turn (with_asker c.own) turned)).out.entries
+none-turns : (c : ClientNode) (a : Arrival Client Stage) (turned : Turned Asker Stage) → RowOf RowOfAsker turned → OfAsker (turns c a (lifted_turn (with_asker c.own) turned)).out.entries
 none-turns c a Waits h = tt
 none-turns c a (Refuses why opened) h = (tt, tt)
 none-turns c a (Handles row) h = h
 
-none-turn : (c : ClientNode) (reading : ℕ) (block : List ℕ) (link : Option (Link Stage)) → IssueNone (turn c reading block link).out.entries
+none-turn : (c : ClientNode) (reading : ℕ) (block : List ℕ) (link : Option (Link Stage)) → OfAsker (turn c reading block link).out.entries
 none-turn c reading block None = tt
 none-turn c reading block (Some link) =
     none-turns c (arrival (me c.own) c.own link reading block) (turned_at (arrival (me c.own) c.own.asker link reading block) link.stage)
     (none-turned (arrival (me c.own) c.own.asker link reading block) link.stage)
 
-none-opens : (c : ClientNode) (reading : ℕ) (block : List ℕ) (number : ℕ) (to : Option Peer) → IssueNone (opens c reading block number to).out.entries
+none-opens : (c : ClientNode) (reading : ℕ) (block : List ℕ) (number : ℕ) (to : Option Peer) → OfAsker (opens c reading block number to).out.entries
 none-opens c reading block number None = tt
 none-opens c reading block number (Some (peer.Daemon daemon)) = tt
 none-opens c reading block number (Some peer.Monitor) = tt
 
-none-fed : (c : ClientNode) (bytes : List ℕ) (link : Option (Link Stage)) → IssueNone (fed c bytes link).out.entries
+none-fed : (c : ClientNode) (bytes : List ℕ) (link : Option (Link Stage)) → OfAsker (fed c bytes link).out.entries
 none-fed c bytes None = tt
 none-fed c bytes (Some link) = tt
 
-none-loses : (c : ClientNode) (link : Option (Link Stage)) → IssueNone (loses c link).out.entries
+none-loses : (c : ClientNode) (link : Option (Link Stage)) → OfAsker (loses c link).out.entries
 none-loses c None = tt
 none-loses c (Some link) = by_test (is_open link.stage)
   where
-    by_test : (t : Bool) → IssueNone (if t then [] else refused_entry (me c.own) link.number reason.Lost ∷ [])
+    by_test : (t : Bool) → OfAsker (if t then [] else refused_entry (me c.own) link.number reason.Lost ∷ [])
     by_test true = tt
     by_test false = (tt, tt)
 
-none-renews : (c : ClientNode) (services reading : ℕ) (block : List ℕ) (found : Option (Link Stage × (Secured × Requests))) → IssueNone (renews_on c services reading block found).out.entries
+none-renews : (c : ClientNode) (services reading : ℕ) (block : List ℕ) (found : Option (Link Stage × (Secured × Requests))) → OfAsker (renews_on c services reading block found).out.entries
 none-renews c services reading block None = (tt, tt)
 none-renews c services reading block (Some (link, (s, r))) =
     none-sends (arrival (me c.own) c.own.asker link reading block) s r want.Tickets (sealed_request s.keys r (asked.Tickets services))
+    (sealed-of_login s.keys r (asked.Tickets services))
 
-none-submits : (c : ClientNode) (reading : ℕ) (block : List ℕ) (said : Command) → IssueNone (submits c reading block said).out.entries
+none-submits : (c : ClientNode) (reading : ℕ) (block : List ℕ) (said : Command) → OfAsker (submits c reading block said).out.entries
 none-submits c reading block (command.Login services) = tt
 none-submits c reading block (command.Renew services) = none-renews c services reading block (first_open kept_open c.links)
 none-submits c reading block command.Fetch = tt
@@ -254,13 +355,17 @@ none-submits c reading block (command.Connect daemon lossy) = tt
 none-submits c reading block (command.Send daemon operation) = tt
 none-submits c reading block (command.Drop session) = tt
 
-pub client-none : (c : ClientNode) (input : Input) (reading : ℕ) (block : List ℕ) → IssueNone (client_rule c input reading block).out.entries
-client-none c (Opened number to) reading block = none-opens c reading block number to
-client-none c (NoLink to) reading block = (tt, tt)
-client-none c (Bytes number bytes) reading block = none-fed c bytes (link_of number c.links)
-client-none c (Turn number) reading block = none-turn c reading block (link_of number c.links)
-client-none c (Gone number) reading block = none-loses c (link_of number c.links)
-client-none c (Submit said) reading block = none-submits c reading block said
-client-none c Restart reading block = (tt, tt)
-client-none c (Look view) reading block = tt
-client-none c Tick reading block = tt
+client-enters : (c : ClientNode) (input : Input) (reading : ℕ) (block : List ℕ) → OfAsker (client_rule c input reading block).out.entries
+client-enters c (Opened number to) reading block = none-opens c reading block number to
+client-enters c (NoLink to) reading block = (tt, tt)
+client-enters c (Bytes number bytes) reading block = none-fed c bytes (link_of number c.links)
+client-enters c (Turn number) reading block = none-turn c reading block (link_of number c.links)
+client-enters c (Gone number) reading block = none-loses c (link_of number c.links)
+client-enters c (Submit said) reading block = none-submits c reading block said
+client-enters c Restart reading block = (tt, tt)
+client-enters c (Look view) reading block = tt
+client-enters c Tick reading block = tt
+
+pub client-none : (c : ClientNode) (input : Input) (reading : ℕ) (block : List ℕ) → AllByRecursion IsNotIssued (client_rule c input reading block).out.entries
+client-none c input reading block =
+    all-map IsOfAsker IsNotIssued asker-not_issued (client_rule c input reading block).out.entries (client-enters c input reading block)

@@ -114,7 +114,7 @@ module _ (P : Issued → Type 0) where
       by_place (inl same) rest = subst P (issued_is (issued_of k) t same) h.0
       by_place (inr later) rest = rest later
 
-  of-login : (save : Option KeptState) (ts : List Ticket) → AllByRecursion (λ (k : Ticket). P (issued_of k)) ts → (t : Issued)
+  pub of-login : (save : Option KeptState) (ts : List Ticket) → AllByRecursion (λ (k : Ticket). P (issued_of k)) ts → (t : Issued)
       → Contains (login_entries save ts) (journal.Issued t) → P t
   of-login None ts h t has = of-tickets ts h t has
   of-login (Some state) ts h t has = by_place (contains-cons (journal.Saved state.next_gid) (journal.Issued t) (map issued_entry ts) has)

@@ -1,5 +1,5 @@
--- Each ticket that is issued is of the generation of its service that is current, and its blob is sealed under that one's key.
-use Rattle.std.proofs.Common.{◌≡◌, ℕ, Bool, true, false, cond, List, [], ◌∷◌, Option, Some, None, Result, Ok, Err, refl}
+-- Each ticket that is issued is of the generation of its service that is current, and its blob is sealed under that one's key; it lives for one life.
+use Rattle.std.proofs.Common.{◌≡◌, ℕ, ◌+◌, Bool, true, false, cond, List, [], ◌∷◌, Option, Some, None, Result, Ok, Err, refl}
 use Rattle.std.specs.Prelude.{find}
 use Rattle.std.specs.List.{AllByRecursion}
 use Rattle.cx_base.specs.declared.kinds.EntityType.{EntityType}
@@ -10,7 +10,7 @@ use Rattle.cx_journal.specs.declared.faults.LoginFault.{LoginFault}
 use Rattle.cx_keyring.specs.Entries.{is_named}
 use Rattle.cx_keyring.specs.declared.entries.Entry.{Entry as Principal}
 use Rattle.cx_keyserver.specs.Issuing.{Asked, ◌>>=◌, caps_for, current_at, fields_of, issued, or_else, sealed_by, service_ticket_of, telling_key}
-use Rattle.cx_keyserver.specs.Servers.{Server, generations_of}
+use Rattle.cx_keyserver.specs.Servers.{Server, generations_of, life_of}
 use Rattle.cx_keyserver.specs.declared.refusals.IssueRefusal.{IssueRefusal}
 use Rattle.cx_keyserver.specs.declared.refusals.IssueRefusal.TheVariants as issue
 use Rattle.cx_keyserver.specs.declared.tickets.Ticket.{Ticket}
@@ -22,6 +22,7 @@ pub record IsOfCurrent (server : Server) (t : Ticket) : Type 0 where
   pub of : Generation
   pub current : current_at t.created (generations_of server.state t.service) ≡ Some of
   pub id : t.generation ≡ of.id
+  pub expires : t.expires ≡ t.created + life_of server.state t.service
   pub blob : t.blob ≡ sealed of.key (service_ticket_layout.form.text (service_ticket_of t))
 
 module _ (server : Server) where
@@ -35,7 +36,7 @@ module _ (server : Server) where
       by_current : (entry : Principal) (caps : List ℕ) (current : Option Generation) → current_at asked.reading (generations_of server.state asked.service) ≡ current
           → ResultOfCurrent (or_else issue.IdsSpent current >>= λ generation. Ok (sealed_by generation.key (telling_key entry asked) (fields_of server.state asked caps generation)))
       by_current entry caps None is = tt
-      by_current entry caps (Some g) is = record { of = g; current = is; id = refl; blob = refl }
+      by_current entry caps (Some g) is = record { of = g; current = is; id = refl; expires = refl; blob = refl }
 
       by_caps : (entry : Principal) (caps : Option (List ℕ)) → ResultOfCurrent
           (or_else issue.NoCaps caps >>= λ caps. or_else issue.IdsSpent (current_at asked.reading (generations_of server.state asked.service)) >>= λ generation.

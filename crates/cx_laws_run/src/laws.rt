@@ -2,6 +2,7 @@
 
 ghost use Rattle.std.specs.Prelude.{Bool, List, None};
 ghost use Rattle.cx_base.specs.declared.kinds.Access.{Access};
+ghost use Rattle.cx_laws_chain.specs.Chain.{KeepsGenerations};
 ghost use Rattle.cx_laws_run.specs.Laws.{AreDrawn, KeepsLaws};
 ghost use Rattle.cx_laws_run.specs.Logins.{LogIn, Stands};
 ghost use Rattle.cx_lines.specs.declared.lines.Numbered.{Numbered};
@@ -14,8 +15,11 @@ ghost use Rattle.cx_steps.specs.Premises.{IsFresh, IsSound};
 /// Of every run, whatever is delivered, lost, repeated, forged or cut, restarted, or failed at a save, and whatever opens or repeats: each ticket of the
 /// monitor is issued at a turn of a link, on which a proof was found equal under the own secret of the ticket's entity, over the challenge that was drawn
 /// on that link for it: at that very turn, or, of a ticket for another service than AUTH, at one behind, once the link is open, under the entity's global id.
+/// The generations of each service go on from one to the next, over rotations, restarts and saves that fail, and one id of them has one key for ever; each
+/// ticket is sealed under the generation that it names, which was saved and current when it was made.
 pub fn standing_laws()
     ensures events { (setup : Setup) (hs : List Happening) → Stands setup hs }
+    ensures generations { (setup : Setup) (hs : List Happening) → KeepsGenerations setup hs }
 {}
 
 /// Where nothing opens under a key that didn't seal it and no draw repeats, the journal keeps its laws. No two entities ever get one global id, and a

@@ -1,5 +1,6 @@
+use Rattle.cx_laws_chain.proofs.One.{all-kept}
 use Rattle.cx_laws_run.proofs.Asked.{all-asked}
 use Rattle.cx_laws_run.proofs.laws.standing_laws.Goals as goal
 
 pub returns : goal.returns
-returns c = record { events = all-asked }
+returns c = record { events = all-asked; generations = all-kept }

@@ -1,0 +1,5 @@
+pub mod Judging
+pub mod Refusing
+pub mod Guests
+pub mod Hosting
+pub mod Steps

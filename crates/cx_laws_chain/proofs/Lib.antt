@@ -1,0 +1,5 @@
+pub mod Rotating
+pub mod Rows
+pub mod Steps
+pub mod Points
+pub mod One
