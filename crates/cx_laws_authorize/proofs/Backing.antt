@@ -1,0 +1,125 @@
+-- What is known of a run's keys gives each authority its ticket, and each session that is entered one that backs it.
+use Rattle.std.proofs.Common.{◌≡◌, ◌⊎◌, ◌<◌, ◌≤◌, ◌^◌, ℕ, List, length, inl, inr, refl, sym, ap, ◌∙◌, subst, arith}
+use Rattle.std.specs.Prelude.{Contains}
+use Rattle.cx_authorize.specs.Daemon.{Authority}
+use Rattle.cx_base.specs.Names.{Name}
+use Rattle.cx_base.specs.declared.kinds.EntityType.{EntityType}
+use Rattle.cx_base.specs.declared.nodes.NodeName.{NodeName}
+use Rattle.cx_journal.specs.Backed.{Backs}
+use Rattle.cx_journal.specs.Backed.{HasTicket as IsBackedOne}
+use Rattle.cx_journal.specs.declared.entries.Admitted.{Admitted}
+use Rattle.cx_journal.specs.declared.entries.Entry.{Entry}
+use Rattle.cx_journal.specs.declared.entries.Entry.TheVariants as journal
+use Rattle.cx_journal.specs.declared.entries.Issued.{Issued}
+use Rattle.cx_journal.specs.declared.premises.KeyKind.TheVariants as kind
+use Rattle.cx_rotate.specs.declared.views.View.{View}
+use Rattle.cx_rules.specs.Holdings.{Asker}
+use Rattle.cx_rules_session.specs.Guests.{GuestStage}
+use Rattle.cx_sealed.specs.declared.service_ticket.ServiceTicket.{ServiceTicket}
+use Rattle.cx_steps.specs.Premises.{HasSealed, IsExcepted}
+use Rattle.cx_steps.specs.declared.seals.Logged.{Logged}
+use Rattle.cx_steps.specs.declared.seals.SealEntry.{SealEntry}
+use Rattle.cx_steps.specs.declared.seals.SealMark.{SealMark}
+use Rattle.cx_laws_authorize.specs.Admission.{GuestHas, IsAuthorizedAt, IsOwnedIn, IsShown}
+use Rattle.cx_laws_keys.proofs.Known.{HasTicket, Inv, Says, Within, opened_says}
+use Rattle.cx_laws_keys.proofs.Premises.{AreGranted}
+use Rattle.cx_laws_keys.proofs.Uses.{Generated, Means, Uses, session_use}
+use Rattle.cx_laws_login.proofs.Generations.{AreGenerated}
+use Rattle.cx_laws_login.proofs.Opens.{generation-free, generation_means}
+
+-- ---- the ticket of an authority
+
+-- the journal has the ticket for this service that the authority holds, which was good at the reading at which that was judged
+pub record HasBacking (J : List Entry) (service : EntityType) (authority : Authority) : Type 0 where
+  pub ticket : Issued
+  pub issued : Contains J (journal.Issued ticket)
+  pub service_is : ticket.service ≡ service
+  pub entity : ticket.entity ≡ authority.ticket.name
+  pub gid : ticket.gid ≡ authority.ticket.gid
+  pub caps : ticket.caps ≡ authority.ticket.caps
+  pub live : authority.at < ticket.expires
+
+pub backing-grows : (J K : List Entry) (service : EntityType) (authority : Authority) → Within J K → HasBacking J service authority → HasBacking K service authority
+backing-grows J K service authority w h = record {
+  ticket = h.ticket;
+  issued = w.has (journal.Issued h.ticket) h.issued;
+  service_is = h.service_is;
+  entity = h.entity;
+  gid = h.gid;
+  caps = h.caps;
+  live = h.live;
+}
+
+-- each ticket's caps can be written
+abbrev pub AreShort : List Entry → Type 0
+AreShort J = (t : Issued) → Contains J (journal.Issued t) → length t.caps < 2 ^ 32
+
+module _ (leaked : List Name) (whole : List Logged) (n : NodeName) (line : ℕ) (us : Uses) (log : List Logged) (J : List Entry) where
+  -- the ticket that was shown, and whose its session key is
+  pub record IsBackedBy (service : EntityType) (reading : ℕ) (ticket : ServiceTicket) : Type 0 where
+    pub id : ℕ
+    pub key : List ℕ
+    pub content : List ℕ
+    pub has : HasTicket J service id key content ticket
+    pub session : Means us ticket.session (session_use ticket.name service)
+    pub live : reading < ticket.expires
+
+  -- a second authorizer that is judged right by a view of generations of the daemon's own service shows one that was issued
+  pub shown-backed : (service : EntityType) (view : View) (reading challenge : ℕ) (ticket : ServiceTicket) (seals : List SealEntry) → Inv leaked whole us log J
+      → AreGenerated us service view.generations → AreGranted leaked whole n line log seals → IsShown view reading challenge ticket seals → IsBackedBy service reading ticket
+  shown-backed service view reading challenge ticket seals i generated g h =
+      let m = generation_means us service view.generations h.id h.key generated h.known in
+      let granted = subst (λ (es : List SealEntry). AreGranted leaked whole n line log es) h.opened g in
+      by_owed m.0 m.1 granted.0.owes
+    where
+      mark : SealMark
+      mark = record { key = h.key; kind = kind.Service; content = h.content }
+
+      by_owed : (of : ℕ) → Means us h.key (Generated service of)
+          → IsExcepted leaked whole n h.key ⊎ HasSealed log (record { key = h.key; kind = kind.Service; content = h.content }) → IsBackedBy service reading ticket
+      by_owed of means (inl excepted) = absurd (generation-free leaked whole n line us log J h.key service of i means excepted)
+      by_owed of means (inr sealed) =
+          let says : Says us J h.key (Generated service of) h.content =
+          opened_says leaked whole us log J i (record { key = h.key; kind = kind.Service; content = h.content }) sealed (Generated service of) means in
+          let both = says ticket h.says in
+          record { id = of; key = h.key; content = h.content; has = both.0; session = both.1; live = h.live }
+
+  -- so each authority that a link gets has its ticket
+  pub authorized-backed : (daemon : Asker) (service : EntityType) (number reading : ℕ) (stage : GuestStage) (authority : Authority) (es : List Entry) (seals : List SealEntry)
+      → Inv leaked whole us log J → AreGenerated us service daemon.view.generations → AreShort J → AreGranted leaked whole n line log seals
+      → IsAuthorizedAt daemon number reading stage authority es seals → HasBacking J service authority
+  authorized-backed daemon service number reading stage authority es seals i generated short g h =
+      let same : AreGenerated us service authority.view.generations = subst (λ (v : View). AreGenerated us service v.generations) (sym h.view) generated in
+      let b : IsBackedBy service reading authority.ticket = shown-backed service authority.view reading h.awaited.challenge authority.ticket seals i same g h.shown in
+      let t : HasTicket J service b.id b.key b.content authority.ticket = b.has in
+      let at : authority.at ≡ reading = h.at in
+      let live : reading < authority.ticket.expires = b.live in
+      let later : authority.ticket.expires ≤ t.ticket.expires = t.expires in
+      record {
+        ticket = t.ticket;
+        issued = t.issued;
+        service_is = t.service_is;
+        entity = t.entity;
+        gid = t.gid;
+        caps = sym (t.caps (short t.ticket t.issued));
+        live = omega arith;
+      }
+
+-- ---- the sessions
+
+-- a session that is entered is backed by a ticket, where the link's authority has one for the daemon's service
+pub session-backed : (J : List Entry) (daemon : Asker) (stage : GuestStage) (session : Admitted)
+    → ((authority : Authority) → GuestHas stage authority → HasBacking J daemon.name.kind authority) → IsOwnedIn daemon stage session → IsBackedOne J session
+session-backed J daemon stage session has h =
+    let holds : GuestHas stage h.authority = subst (λ (s : GuestStage). GuestHas s h.authority) (sym h.stage_is) refl in
+    let b : HasBacking J daemon.name.kind h.authority = has h.authority holds in
+    let live : h.authority.at < b.ticket.expires = b.live in
+    let at : session.at ≡ h.authority.at = h.at in
+    let backs : Backs b.ticket session = record {
+      entity = b.entity ∙ sym h.entity;
+      gid = b.gid ∙ sym h.gid;
+      caps = b.caps ∙ sym h.caps;
+      service = b.service_is ∙ sym (ap (λ (m : Name). m.kind) h.daemon_is);
+      live = omega arith;
+    } in
+    (b.ticket, b.issued, backs)
