@@ -20,6 +20,7 @@ use Rattle.cx_steps.specs.Premises.{HasSealed, IsExcepted}
 use Rattle.cx_steps.specs.declared.seals.Logged.{Logged}
 use Rattle.cx_steps.specs.declared.seals.SealEntry.{SealEntry}
 use Rattle.cx_steps.specs.declared.seals.SealMark.{SealMark}
+use Rattle.cx_laws_authorize.proofs.Opened.{ShowsTicket}
 use Rattle.cx_laws_authorize.specs.Admission.{GuestHas, IsAuthorizedAt, IsOwnedIn, IsShown}
 use Rattle.cx_laws_keys.proofs.Known.{HasTicket, Inv, Says, Within, opened_says}
 use Rattle.cx_laws_keys.proofs.Premises.{AreGranted}
@@ -64,25 +65,32 @@ module _ (leaked : List Name) (whole : List Logged) (n : NodeName) (line : ℕ) 
     pub session : Means us ticket.session (session_use ticket.name service)
     pub live : reading < ticket.expires
 
-  -- a second authorizer that is judged right by a view of generations of the daemon's own service shows one that was issued
-  pub shown-backed : (service : EntityType) (view : View) (reading challenge : ℕ) (ticket : ServiceTicket) (seals : List SealEntry) → Inv leaked whole us log J
-      → AreGenerated us service view.generations → AreGranted leaked whole n line log seals → IsShown view reading challenge ticket seals → IsBackedBy service reading ticket
-  shown-backed service view reading challenge ticket seals i generated g h =
+  -- a ticket that opened first, by a view of generations of the daemon's own service, is one that was issued; and whose its session key is
+  pub opened-issued : (service : EntityType) (view : View) (ticket : ServiceTicket) (seals : List SealEntry) → Inv leaked whole us log J
+      → AreGenerated us service view.generations → AreGranted leaked whole n line log seals → ShowsTicket view ticket seals
+      → (id : ℕ) × (key : List ℕ) × (content : List ℕ) × HasTicket J service id key content ticket × Means us ticket.session (session_use ticket.name service)
+  opened-issued service view ticket seals i generated g h =
       let m = generation_means us service view.generations h.id h.key generated h.known in
       let granted = subst (λ (es : List SealEntry). AreGranted leaked whole n line log es) h.opened g in
       by_owed m.0 m.1 granted.0.owes
     where
-      mark : SealMark
-      mark = record { key = h.key; kind = kind.Service; content = h.content }
-
       by_owed : (of : ℕ) → Means us h.key (Generated service of)
-          → IsExcepted leaked whole n h.key ⊎ HasSealed log (record { key = h.key; kind = kind.Service; content = h.content }) → IsBackedBy service reading ticket
+          → IsExcepted leaked whole n h.key ⊎ HasSealed log (record { key = h.key; kind = kind.Service; content = h.content })
+          → (id : ℕ) × (key : List ℕ) × (content : List ℕ) × HasTicket J service id key content ticket × Means us ticket.session (session_use ticket.name service)
       by_owed of means (inl excepted) = absurd (generation-free leaked whole n line us log J h.key service of i means excepted)
       by_owed of means (inr sealed) =
           let says : Says us J h.key (Generated service of) h.content =
           opened_says leaked whole us log J i (record { key = h.key; kind = kind.Service; content = h.content }) sealed (Generated service of) means in
           let both = says ticket h.says in
-          record { id = of; key = h.key; content = h.content; has = both.0; session = both.1; live = h.live }
+          (of, h.key, h.content, both.0, both.1)
+
+  -- so does a second authorizer that is judged right show one
+  pub shown-backed : (service : EntityType) (view : View) (reading challenge : ℕ) (ticket : ServiceTicket) (seals : List SealEntry) → Inv leaked whole us log J
+      → AreGenerated us service view.generations → AreGranted leaked whole n line log seals → IsShown view reading challenge ticket seals → IsBackedBy service reading ticket
+  shown-backed service view reading challenge ticket seals i generated g h =
+      let o = opened-issued service view ticket seals i generated g
+      (record { id = h.id; key = h.key; known = h.known; content = h.content; says = h.says; rest = _; opened = h.opened }) in
+      record { id = o.0; key = o.1; content = o.2; has = o.3; session = o.4; live = h.live }
 
   -- so each authority that a link gets has its ticket
   pub authorized-backed : (daemon : Asker) (service : EntityType) (number reading : ℕ) (stage : GuestStage) (authority : Authority) (es : List Entry) (seals : List SealEntry)

@@ -3,5 +3,7 @@ pub mod Refusing
 pub mod Guests
 pub mod Hosting
 pub mod Steps
+pub mod Opened
 pub mod Backing
 pub mod KeepingKeys
+pub mod Keys
