@@ -19,7 +19,6 @@ use Rattle.cx_sealed.specs.declared.service_ticket.ServiceTicket.{ServiceTicket}
 use Rattle.cx_steps.specs.Premises.{HasSealed, IsExcepted}
 use Rattle.cx_steps.specs.declared.seals.Logged.{Logged}
 use Rattle.cx_steps.specs.declared.seals.SealEntry.{SealEntry}
-use Rattle.cx_steps.specs.declared.seals.SealMark.{SealMark}
 use Rattle.cx_laws_authorize.proofs.Opened.{ShowsTicket}
 use Rattle.cx_laws_authorize.specs.Admission.{GuestHas, IsAuthorizedAt, IsOwnedIn, IsShown}
 use Rattle.cx_laws_keys.proofs.Known.{HasTicket, Inv, Says, Within, opened_says}

@@ -7,3 +7,4 @@ pub mod Opened
 pub mod Backing
 pub mod KeepingKeys
 pub mod Keys
+pub mod HostingKeys
