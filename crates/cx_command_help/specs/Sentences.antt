@@ -1,0 +1,31 @@
+-- What a user reads of a word of a command line that is wrong.
+use Rattle.std.specs.Prelude.{ℕ, List, codes}
+use Rattle.std.specs.Fmt.{decimal}
+use Rattle.cx_base.specs.Joined.{◌<>◌}
+use Rattle.cx_line_help.specs.Words.{word_text}
+use Rattle.cx_line_words.specs.Sights.{shown_of}
+use Rattle.cx_command_help.specs.declared.places.Place.{Place}
+use Rattle.cx_command_help.specs.declared.places.Place.TheVariants.{Clients, Seed, Events, Address, Lifetime, Daemon, Client, Peer}
+use Rattle.cx_command_help.specs.declared.wrong.Why.{Why}
+use Rattle.cx_command_help.specs.declared.wrong.Why.TheVariants.{Unknown, Bad, Missing, Extra}
+
+-- what a word is to be at its place
+abbrev pub place_text : Place → List ℕ
+place_text Clients = codes "how many clients a drill has: a number from 1 to 1,000"
+place_text Seed = codes "the seed of a drill: a number"
+place_text Events = codes "how many events the node takes: a number from 1 to 1,000,000"
+place_text Address = codes "an address: four numbers from 0 to 255 with points, a colon and a port from 1 to 65,535, as 127.0.0.1:6789"
+place_text Lifetime = codes "a lifetime: a number of seconds from 1 to 31,536,000; a monitor is given two of them, or none"
+place_text Daemon = codes "a daemon's name: mds, osd or mgr, a point and an id, as osd.0"
+place_text Client = codes "a client's name, as client.admin"
+place_text Peer = codes "a daemon's name with its address, as osd.0@127.0.0.1:6800"
+
+-- the word of this number, as it is shown
+abbrev pub shown_text : ℕ → List ℕ → List ℕ
+shown_text number word = codes "word " <> decimal number <> codes ", " <> word_text (shown_of word)
+
+abbrev pub why_text : ℕ → Why → List ℕ → List ℕ
+why_text number Unknown word = shown_text number word <> codes ", begins no command"
+why_text number (Bad place) word = shown_text number word <> codes ", is wrong there; it is to be " <> place_text place
+why_text number (Missing place) word = codes "word " <> decimal number <> codes " is missing; it is to be " <> place_text place
+why_text number Extra word = shown_text number word <> codes ", is one too many"

@@ -1,0 +1,45 @@
+-- Which word of a command line is wrong, and why.
+use Rattle.std.specs.Prelude.{ℕ, ◌+◌, nat_lt, List, [], ◌∷◌, length, Option, Some, None, if◌then◌else◌}
+use Rattle.std.specs.Borrow.{Bor}
+use Rattle.cx_command_line.specs.Words.{Word}
+use Rattle.cx_command_help.specs.Places.{fits, form_of, least_of, place_at}
+use Rattle.cx_command_help.specs.declared.places.Form.{Form}
+use Rattle.cx_command_help.specs.declared.places.Place.{Place}
+use Rattle.cx_command_help.specs.declared.wrong.Why.TheVariants.{Unknown, Bad, Missing, Extra}
+use Rattle.cx_command_help.specs.declared.wrong.Wrong.{Wrong}
+
+-- the word of this number, from 0 behind that of the command; of all words it is the second or a later one
+abbrev pub wrong_at : Option Place → ℕ → Word → Option Wrong
+wrong_at None n word = Some (record { number = n + 2; why = Extra })
+wrong_at (Some place) n word = if fits place word then None else Some (record { number = n + 2; why = Bad place })
+
+abbrev pub or_later : Option Wrong → Option Wrong → Option Wrong
+or_later (Some wrong) later = Some wrong
+or_later None later = later
+
+-- the first of these, of which the first has this number
+abbrev pub wrong_from : Form → ℕ → List Word → Option Wrong
+wrong_from form n [] = None
+wrong_from form n (word ∷ words) = or_later (wrong_at (place_at form n) n word) (wrong_from form (n + 1) words)
+
+-- the same of words, wherever they lie
+abbrev pub wrong_seen : Form → ℕ → List (Bor Word) → Option Wrong
+wrong_seen form n [] = None
+wrong_seen form n (word ∷ words) = or_later (wrong_at (place_at form n) n word.now) (wrong_seen form (n + 1) words)
+
+abbrev pub missing_at : Option Place → ℕ → Option Wrong
+missing_at None n = None
+missing_at (Some place) n = Some (record { number = n + 2; why = Missing place })
+
+-- a word is missing behind so many
+abbrev pub missing : Form → ℕ → Option Wrong
+missing form n = if nat_lt n (least_of form n) then missing_at (place_at form n) n else None
+
+abbrev pub wrong_by : Option Form → List Word → Option Wrong
+wrong_by None values = Some (record { number = 1; why = Unknown })
+wrong_by (Some form) values = or_later (wrong_from form 0 values) (missing form (length values))
+
+-- the first word of the command line that is wrong, or behind which one is missing
+abbrev pub wrong_of : List Word → Option Wrong
+wrong_of [] = None
+wrong_of (command ∷ values) = wrong_by (form_of command) values

@@ -1,0 +1,189 @@
+//! What the words behind that of a command are to spell, place by place.
+
+ghost use Rattle.std.specs.Prelude.{◌≡◌};
+ghost use Rattle.std.specs.Str.{bytes_eq};
+ghost use Rattle.cx_command_help.specs.declared.places.Place.{Place};
+ghost use Rattle.cx_command_help.specs.Places.{client_place, daemon_place, drill_place, fits, form_of, least_of, monitor_place, place_at};
+
+use cx_command_line::{address, bounded, client_name, daemon_name, peer};
+use cx_words::number;
+
+/// The form of a command.
+#[derive(Clone, Copy, Debug, PartialEq, Eq)]
+pub enum Form {
+    /// It has no words behind its own.
+    Text,
+    Drill,
+    Monitor,
+    Daemon,
+    Client,
+}
+
+/// What a word is to spell at its place.
+#[derive(Clone, Copy, Debug, PartialEq, Eq)]
+pub enum Place {
+    /// How many clients a drill has.
+    Clients,
+    /// The seed of a drill.
+    Seed,
+    /// How many events a node takes.
+    Events,
+    /// Where a node listens, or where the monitor is.
+    Address,
+    /// A lifetime in seconds.
+    Lifetime,
+    /// A daemon's name.
+    Daemon,
+    /// A client's name.
+    Client,
+    /// A daemon's name with its address.
+    Peer,
+}
+
+/// The form of the command that begins with this word.
+pub(crate) fn form_of(word: &str) -> Option<Form>
+    ensures { result ≡ form_of word.now }
+{
+    if is_text(word, "replay") {
+        return Some(Form::Text);
+    }
+    if is_text(word, "keyring") {
+        return Some(Form::Text);
+    }
+    if is_text(word, "drill") {
+        return Some(Form::Drill);
+    }
+    if is_text(word, "mon") {
+        return Some(Form::Monitor);
+    }
+    if is_text(word, "daemon") {
+        return Some(Form::Daemon);
+    }
+    if is_text(word, "client") {
+        return Some(Form::Client);
+    }
+    None
+}
+
+fn is_text(word: &str, text: &str) -> bool
+    ensures { result ≡ bytes_eq word.now text.now }
+{
+    word.as_bytes() == text.as_bytes()
+}
+
+/// What stands at the place of this number, from 0, behind the word of a command of this form.
+pub(crate) fn place_at(form: Form, number: usize) -> Option<Place>
+    ensures { result ≡ place_at form number }
+{
+    match form {
+        Form::Text => None,
+        Form::Drill => drill_place(number),
+        Form::Monitor => monitor_place(number),
+        Form::Daemon => daemon_place(number),
+        Form::Client => client_place(number),
+    }
+}
+
+fn drill_place(number: usize) -> Option<Place>
+    ensures { result ≡ drill_place number }
+{
+    if number == 0 {
+        return Some(Place::Clients);
+    }
+    if number == 1 {
+        return Some(Place::Seed);
+    }
+    None
+}
+
+fn monitor_place(number: usize) -> Option<Place>
+    ensures { result ≡ monitor_place number }
+{
+    if number == 0 {
+        return Some(Place::Events);
+    }
+    if number == 1 {
+        return Some(Place::Address);
+    }
+    if number < 4 {
+        return Some(Place::Lifetime);
+    }
+    None
+}
+
+fn daemon_place(number: usize) -> Option<Place>
+    ensures { result ≡ daemon_place number }
+{
+    if number == 0 {
+        return Some(Place::Daemon);
+    }
+    if number == 1 {
+        return Some(Place::Events);
+    }
+    if number < 4 {
+        return Some(Place::Address);
+    }
+    None
+}
+
+fn client_place(number: usize) -> Option<Place>
+    ensures { result ≡ client_place number }
+{
+    if number == 0 {
+        return Some(Place::Client);
+    }
+    if number == 1 {
+        return Some(Place::Events);
+    }
+    if number == 2 {
+        return Some(Place::Address);
+    }
+    Some(Place::Peer)
+}
+
+/// How many words must stand behind that of a command of this form, where so many do.
+pub(crate) fn least_of(form: Form, count: usize) -> usize
+    ensures { result ≡ least_of form count }
+{
+    match form {
+        Form::Text => 0,
+        Form::Drill => 2,
+        Form::Monitor => { if 2 < count { 4 } else { 2 } }
+        Form::Daemon => 4,
+        Form::Client => 3,
+    }
+}
+
+/// Whether the word is good at this place.
+pub(crate) fn fits(place: Place, word: &str) -> bool
+    ensures { result ≡ fits place word.now }
+{
+    match place {
+        Place::Clients => bounded(1, 1_000, word).is_some(),
+        Place::Seed => number(word.as_bytes()).is_some(),
+        Place::Events => bounded(1, 1_000_000, word).is_some(),
+        Place::Address => address(word.as_bytes()).is_some(),
+        Place::Lifetime => bounded(1, 31_536_000, word).is_some(),
+        Place::Daemon => is_daemon(word),
+        Place::Client => is_client(word),
+        Place::Peer => is_peer(word),
+    }
+}
+
+fn is_daemon(word: &str) -> bool
+    ensures { result ≡ fits Place.Daemon word.now }
+{
+    daemon_name(word.as_bytes()).is_some()
+}
+
+fn is_client(word: &str) -> bool
+    ensures { result ≡ fits Place.Client word.now }
+{
+    client_name(word.as_bytes()).is_some()
+}
+
+fn is_peer(word: &str) -> bool
+    ensures { result ≡ fits Place.Peer word.now }
+{
+    peer(word).is_some()
+}

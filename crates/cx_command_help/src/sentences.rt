@@ -1,0 +1,79 @@
+//! What a user reads of a word of a command line that is wrong.
+
+ghost use Rattle.std.specs.Prelude.{◌≡◌};
+ghost use Rattle.cx_command_help.specs.Sentences.{place_text};
+
+use crate::places::Place;
+use crate::wrong::{Why, Wrong};
+use cx_line_help::Word;
+use cx_line_words::shown_of;
+use std::fmt;
+
+/// A word that is wrong, with what stands there.
+#[derive(Clone, Copy)]
+pub struct WrongWords<'a> {
+    pub wrong: Wrong,
+    pub word: &'a str,
+}
+
+impl fmt::Display for WrongWords<'_> {
+    ghost use Rattle.std.specs.Prelude.{Some};
+    ghost use Rattle.cx_command_help.specs.Sentences.{why_text};
+
+    ghost output = { λ words. Some (why_text words.wrong.number words.wrong.why words.word.now) };
+
+    fn fmt<W: fmt::Write>(&self, f: &mut fmt::Formatter<W>) -> fmt::Result {
+        let shown = Shown(self.wrong.number, self.word);
+        match self.wrong.why {
+            Why::Unknown => write!(f, "{}, begins no command", shown),
+            Why::Bad(place) => write!(
+                f,
+                "{}, is wrong there; it is to be {}",
+                shown,
+                place_text(place)
+            ),
+            Why::Missing(place) => write!(
+                f,
+                "word {} is missing; it is to be {}",
+                self.wrong.number,
+                place_text(place)
+            ),
+            Why::Extra => write!(f, "{}, is one too many", shown),
+        }
+    }
+}
+
+/// A word with its number.
+#[derive(Clone, Copy)]
+struct Shown<'a>(usize, &'a str);
+
+impl fmt::Display for Shown<'_> {
+    ghost use Rattle.std.specs.Prelude.{Some};
+    ghost use Rattle.cx_command_help.specs.Sentences.{shown_text};
+
+    ghost output = { λ word. Some (shown_text word.0 word.1.now) };
+
+    fn fmt<W: fmt::Write>(&self, f: &mut fmt::Formatter<W>) -> fmt::Result {
+        let shown = shown_of(self.1.as_bytes());
+        write!(f, "word {}, {}", self.0, Word(&shown))
+    }
+}
+
+fn place_text(place: Place) -> &'static str
+    ensures { result.now ≡ place_text place }
+{
+    match place {
+        Place::Clients => "how many clients a drill has: a number from 1 to 1,000",
+        Place::Seed => "the seed of a drill: a number",
+        Place::Events => "how many events the node takes: a number from 1 to 1,000,000",
+        Place::Address => {
+            "an address: four numbers from 0 to 255 with points, a colon and a port from 1 to 65,535, as 127.0.0.1:6789"
+        }
+        Place::Lifetime => {
+            "a lifetime: a number of seconds from 1 to 31,536,000; a monitor is given two of them, or none"
+        }
+        Place::Daemon => "a daemon's name: mds, osd or mgr, a point and an id, as osd.0",
+        Place::Client => "a client's name, as client.admin",
+        Place::Peer => "a daemon's name with its address, as osd.0@127.0.0.1:6800",
+    }
+}

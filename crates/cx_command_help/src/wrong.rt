@@ -1,0 +1,110 @@
+//! Which word of a command line is wrong, and why.
+
+ghost use Rattle.std.specs.Prelude.{◌≡◌, ◌<◌, ◌≤◌, length, map};
+ghost use Rattle.cx_command_help.specs.Places.{place_at};
+ghost use Rattle.cx_command_help.specs.Wrong.{missing, wrong_at, wrong_by, wrong_from, wrong_of, wrong_seen};
+
+use crate::places::{Form, Place, fits, form_of, least_of, place_at};
+
+/// What is wrong with a word.
+#[derive(Clone, Copy, Debug, PartialEq, Eq)]
+pub enum Why {
+    /// It begins no command.
+    Unknown,
+    /// It isn't what stands at its place.
+    Bad(Place),
+    /// It isn't there.
+    Missing(Place),
+    /// No word stands at its place.
+    Extra,
+}
+
+/// A word of the command line that is wrong, by its number from 1.
+#[derive(Clone, Copy, Debug, PartialEq, Eq)]
+pub struct Wrong {
+    pub number: usize,
+    pub why: Why,
+}
+
+/// The first word that is wrong, or that is missing; none where there are no words.
+pub fn wrong_of(words: &[&str]) -> Option<Wrong>
+    ensures { result ≡ wrong_of (map (λ w. w.now) words.now) }
+{
+    match words {
+        [command, values @ ..] => wrong_by(form_of(command), values),
+        [] => None,
+    }
+}
+
+fn wrong_by(form: Option<Form>, values: &[&str]) -> Option<Wrong>
+    ensures { result ≡ wrong_by form (map (λ w. w.now) values.now) }
+{
+    let Some(form) = form else {
+        return Some(Wrong {
+            number: 1,
+            why: Why::Unknown,
+        });
+    };
+    match first_wrong(form, values) {
+        Some(wrong) => Some(wrong),
+        None => missing(form, values.len()),
+    }
+}
+
+// The first of the words behind that of a command of this form that is wrong.
+#[tactic(auto, using(crate::proofs::Seen::seen_so))]
+fn first_wrong(form: Form, values: &[&str]) -> Option<Wrong>
+    ensures { result ≡ wrong_from form 0 (map (λ w. w.now) values.now) }
+{
+    wrong_seen(form, values)
+}
+
+fn wrong_seen(form: Form, values: &[&str]) -> Option<Wrong>
+    ensures { result ≡ wrong_seen form 0 values.now }
+{
+    let mut number: usize = 0;
+    for word in values {
+        let wrong = wrong_at(place_at(form, number), number, word);
+        if wrong.is_some() {
+            return wrong;
+        }
+        number += 1;
+    }
+    None
+}
+
+fn wrong_at(place: Option<Place>, number: usize, word: &str) -> Option<Wrong>
+    requires { number < 4611686018427387904 }
+    ensures { result ≡ wrong_at place number word.now }
+{
+    let Some(place) = place else {
+        return Some(Wrong {
+            number: number + 2,
+            why: Why::Extra,
+        });
+    };
+    if fits(place, word) {
+        return None;
+    }
+    Some(Wrong {
+        number: number + 2,
+        why: Why::Bad(place),
+    })
+}
+
+// A word that is missing behind so many.
+fn missing(form: Form, count: usize) -> Option<Wrong>
+    requires { count < 4611686018427387904 }
+    ensures { result ≡ missing form count }
+{
+    if count >= least_of(form, count) {
+        return None;
+    }
+    match place_at(form, count) {
+        Some(place) => Some(Wrong {
+            number: count + 2,
+            why: Why::Missing(place),
+        }),
+        None => None,
+    }
+}

@@ -1,0 +1,4 @@
+mod Keys
+mod Lines
+mod Refusing
+mod Unspelled
