@@ -1,0 +1,95 @@
+//! What was made on a link of a kind, as made on one of the daemon.
+
+ghost use Rattle.std.specs.Prelude.{◌≡◌, None};
+ghost use Rattle.cx_rules_session.specs.DaemonRule.{AsAcceptor, AsConnector};
+ghost use Rattle.cx_daemon_events.specs.Kinds.{came_of_kind, made_of_kind};
+
+use crate::links::{Kind, Link};
+use cx_connector as connector;
+use cx_node::Row;
+use cx_turns::{Came, NodeRow};
+use cx_verifying as guests;
+
+/// A row on a link of a guest.
+pub fn of_guest(row: Row<guests::Link>) -> Row<Link>
+    ensures { result ≡ made_of_kind AsAcceptor row }
+{
+    let Row {
+        link,
+        sends,
+        save,
+        entries,
+        seals,
+    } = row;
+    let link = match link {
+        Some(link) => Some(Link {
+            kind: Kind::Guest(link),
+        }),
+        None => None,
+    };
+    Row {
+        link,
+        sends,
+        save,
+        entries,
+        seals,
+    }
+}
+
+/// A row on a link of the daemon's own.
+pub fn of_own(row: Row<connector::Link>) -> Row<Link>
+    ensures { result ≡ made_of_kind AsConnector row }
+{
+    let Row {
+        link,
+        sends,
+        save,
+        entries,
+        seals,
+    } = row;
+    let link = match link {
+        Some(link) => Some(Link {
+            kind: Kind::Own(link),
+        }),
+        None => None,
+    };
+    Row {
+        link,
+        sends,
+        save,
+        entries,
+        seals,
+    }
+}
+
+/// What a turn of a guest's link came to: nothing of the daemon's own is changed.
+pub fn came_of_guest(came: Came<guests::Link, ()>) -> Came<Link, connector::Change>
+    ensures { result ≡ came_of_kind AsAcceptor (λ _. None) came }
+{
+    match came {
+        Came::Waits(link) => Came::Waits(Link {
+            kind: Kind::Guest(link),
+        }),
+        Came::Refuses(why, opened) => Came::Refuses(why, opened),
+        Came::Handles(NodeRow { row, change: _ }) => Came::Handles(NodeRow {
+            row: of_guest(row),
+            change: None,
+        }),
+    }
+}
+
+/// What a turn of a link of the daemon's own came to.
+pub fn came_of_own(came: Came<connector::Link, connector::Change>) -> Came<Link, connector::Change>
+    ensures { result ≡ came_of_kind AsConnector (λ change. change) came }
+{
+    match came {
+        Came::Waits(link) => Came::Waits(Link {
+            kind: Kind::Own(link),
+        }),
+        Came::Refuses(why, opened) => Came::Refuses(why, opened),
+        Came::Handles(NodeRow { row, change }) => Came::Handles(NodeRow {
+            row: of_own(row),
+            change,
+        }),
+    }
+}

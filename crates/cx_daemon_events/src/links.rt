@@ -1,0 +1,97 @@
+//! The links of a daemon: those of its guests, and its own to the monitor.
+
+use cx_connector as connector;
+use cx_node::Numbered;
+use cx_turns::Feeds;
+use cx_verifying as guests;
+use std::alloc::{AllocError, Global};
+use std::marker::Model;
+
+/// Who opened a link, with the link as it is held at that end.
+#[derive(Drop)]
+pub enum Kind {
+    Guest(guests::Link),
+    /// The daemon itself, to the monitor.
+    Own(connector::Link),
+}
+
+/// A live link of a daemon.
+#[derive(Drop)]
+pub struct Link {
+    pub kind: Kind,
+}
+
+impl Model for Link {
+    ghost use Rattle.cx_rules.specs.Links as links;
+    ghost use Rattle.cx_rules_session.specs.DaemonRule.{DaemonStage};
+
+    ghost Value = { links.Link DaemonStage };
+
+    ghost use Rattle.cx_daemon_events.specs.Kinds.{link_held};
+
+    ghost view = { λ l. link_held l.kind };
+}
+
+impl Link {
+    ghost use Rattle.std.specs.Prelude.{◌≡◌, Some, IfSome, IfNone, None, true};
+    ghost use Rattle.cx_rules.specs.Connector.{is_open};
+    ghost use Rattle.cx_rules_session.specs.DaemonRule.{AsConnector, asking_open, is_for_fetch, is_in};
+    ghost use Rattle.cx_rules_session.specs.Kinds.{of_kind};
+
+    /// Whether a fetch is under way on it.
+    pub fn is_for_fetch(&self) -> bool
+        ensures { result ≡ is_for_fetch self.now.stage }
+    {
+        match &self.kind {
+            Kind::Guest(_) => false,
+            Kind::Own(link) => link.is_fetching(),
+        }
+    }
+
+    /// Whether it is open in this session.
+    pub fn is_in(&self, session: u64) -> bool
+        ensures { result ≡ is_in session self.now.stage }
+    {
+        match &self.kind {
+            Kind::Guest(link) => link.is_in(session),
+            Kind::Own(_) => false,
+        }
+    }
+
+    /// Itself, where it is an open one to the monitor.
+    pub fn open_own(&self) -> Option<&connector::Link>
+        ensures some { IfSome result (λ link. (self.now ≡ of_kind AsConnector link.now) × (is_open link.now.stage ≡ true)) }
+        ensures none { IfNone result (asking_open self.now.stage ≡ None) }
+    {
+        match &self.kind {
+            Kind::Guest(_) => None,
+            Kind::Own(link) => { if link.is_open() { Some(link) } else { None } }
+        }
+    }
+}
+
+impl Numbered for Link {
+    ghost number_of = { λ l. l.number };
+
+    fn number(&self) -> u32 {
+        match &self.kind {
+            Kind::Guest(link) => link.number(),
+            Kind::Own(link) => link.number(),
+        }
+    }
+}
+
+impl Feeds for Link {
+    ghost use Rattle.cx_rules_session.specs.Forgets.{abridged_daemon_link};
+    ghost use Rattle.cx_turns.specs.Steps as steps;
+
+    ghost IsFed = { steps.IsFed abridged_daemon_link };
+
+    #[tactic(auto, using(crate::proofs::OfKinds::guest_fed, crate::proofs::OfKinds::own_fed))]
+    fn feed(&mut self, alloc: Global, bytes: &[u8]) -> Result<(), AllocError> {
+        match &mut self.kind {
+            Kind::Guest(link) => link.feed(alloc, bytes),
+            Kind::Own(link) => link.feed(alloc, bytes),
+        }
+    }
+}

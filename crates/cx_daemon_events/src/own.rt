@@ -1,0 +1,153 @@
+//! What a daemon has of its own.
+
+ghost use Rattle.std.specs.Prelude.{◌≡◌, true, false, Some, IfOk};
+ghost use Rattle.cx_node.specs.Made.{as_row};
+ghost use Rattle.cx_rules.specs.Connector.{is_open, kept_open};
+ghost use Rattle.cx_rules.specs.Requests.{Requests, is_outdated};
+ghost use Rattle.cx_rules.specs.Secured.{Secured};
+ghost use Rattle.cx_rules_session.specs.Forgets.{abridged_daemon_link};
+ghost use Rattle.cx_turns.specs.Making.{row_due};
+ghost use Rattle.cx_daemon_events.specs.Machine.{banner_sent, generations_asked, guest_greeted};
+
+use crate::kinds::{of_guest, of_own};
+use crate::links::Link;
+use cx_base::{Addr, EntityName, NodeName, Reading};
+use cx_connector as connector;
+use cx_enc::Key;
+use cx_holdings::{Asker, OfferedModes};
+use cx_node::Row;
+use cx_rotate::View;
+use cx_turns::Moment;
+use cx_verifying as guests;
+use std::alloc::{AllocError, Global};
+use std::marker::Model;
+
+/// Itself as one that asks the monitor, with the generations that it was told last, and whether it waits for a link to the monitor that it opens.
+#[derive(Drop)]
+pub struct Own {
+    asker: Asker,
+    dials: bool,
+}
+
+impl Model for Own {
+    ghost use Rattle.cx_rules_session.specs.DaemonRule.{Daemon};
+
+    ghost Value = { Daemon };
+
+    ghost view = { λ o. record { asker = o.asker; dials = o.dials } };
+}
+
+impl Own {
+    ghost use Rattle.cx_rules.specs.Holdings.{afresh};
+    ghost use Rattle.cx_rules_session.specs.DaemonRule.{me, with_asker};
+    ghost use Rattle.cx_connector.specs.Rows.{changed};
+    ghost use Rattle.cx_daemon_events.specs.Machine.{opening_asker};
+
+    /// As the daemon begins.
+    pub fn new(name: EntityName, key: Key, modes: OfferedModes, address: Addr) -> Own
+        ensures { result ≡ record { asker = opening_asker name key modes address; dials = false } }
+    {
+        Own {
+            asker: Asker::new(name, key, address, modes),
+            dials: false,
+        }
+    }
+
+    /// Itself as one that asks the monitor.
+    pub fn asker(&self) -> &Asker
+        ensures { result.now ≡ self.now.asker }
+    {
+        &self.asker
+    }
+
+    /// Who it is, as a node.
+    pub fn named(&self, alloc: Global) -> Result<NodeName, AllocError>
+        ensures { IfOk result (λ named. named ≡ me self.now) }
+    {
+        connector::named(alloc, &self.asker)
+    }
+
+    /// Whether it waits for a link to the monitor.
+    pub fn dials(&self) -> bool
+        ensures { result ≡ self.now.dials }
+    {
+        self.dials
+    }
+
+    /// It waits for one from now on, or for none.
+    pub fn dial(&mut self, dials: bool)
+        ensures { self.new ≡ record self.old { dials = dials } }
+    {
+        self.dials = dials;
+    }
+
+    /// Another view is looked at from now on.
+    pub fn put_view(&mut self, view: View)
+        ensures { self.new ≡ record self.old { asker = record self.old.asker { view = view } } }
+    {
+        self.asker.put_view(view);
+    }
+
+    /// What a row of a link to the monitor changes.
+    pub fn settle(&mut self, change: connector::Change)
+        ensures { self.new ≡ with_asker self.old (changed self.old.asker change) }
+    {
+        change.settle(&mut self.asker);
+    }
+
+    /// Begins anew.
+    pub fn begin_anew(&mut self)
+        ensures { self.new ≡ record { asker = afresh self.old.asker; dials = false } }
+    {
+        self.asker.begin_anew();
+        self.dials = false;
+    }
+
+    /// Whether no generations are held, or the second of them has expired.
+    pub fn is_outdated(&self, reading: Reading) -> bool
+        ensures { result ≡ is_outdated reading self.now.asker.view }
+    {
+        let Some(three) = self.asker.view().generations.all() else {
+            return true;
+        };
+        let [_, second, _] = three;
+        second.expires <= reading
+    }
+
+    /// The row of its own link to the monitor that opens.
+    pub fn greets(&self, alloc: Global, at: &Moment<'_>) -> Result<Row<Link>, AllocError>
+        ensures { IfOk result (λ row. as_row self.now row ≡ row_due abridged_daemon_link (banner_sent self.now at.now.number at.now.reading at.now.draw.now.bytes)) }
+    {
+        let row = connector::greeting(alloc, at.number, 0)?;
+        Ok(of_own(row))
+    }
+
+    /// The row of a guest's link that opens: the banner is sent, or it is shut where as many links live as there are places.
+    pub fn greets_guest(
+        &self,
+        alloc: Global,
+        at: &Moment<'_>,
+        full: bool,
+    ) -> Result<Row<Link>, AllocError>
+        ensures { IfOk result (λ row. as_row self.now row ≡ row_due abridged_daemon_link (guest_greeted full self.now at.now.number at.now.reading at.now.draw.now.bytes)) }
+    {
+        let row = guests::greeting(alloc, &self.asker, at, full)?;
+        Ok(of_guest(row))
+    }
+
+    /// The row by which generations are asked for on a link that is open.
+    pub fn asks_generations(
+        &self,
+        alloc: Global,
+        at: &Moment<'_>,
+        link: &connector::Link,
+    ) -> Result<Row<Link>, AllocError>
+        requires number { link.now.number ≡ at.now.number }
+        requires open { is_open link.now.stage ≡ true }
+        ensures { (s : Secured) (requests : Requests) → kept_open link.now.stage ≡ Some (s, requests) → IfOk result (λ row.
+            as_row self.now row ≡ row_due abridged_daemon_link (generations_asked self.now at.now.reading at.now.draw.now.bytes link.now s requests)) }
+    {
+        let row = connector::asks_generations(alloc, &self.asker, at, link)?;
+        Ok(of_own(row))
+    }
+}
