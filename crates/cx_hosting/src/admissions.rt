@@ -172,7 +172,6 @@ fn refused(
     ensures { IfOk result (IsCome asker.now at.now.number opened
         (on_admission (ident_arrival asker.now at.now link owner.now) (keys_alone link.keys) owner.now ident.now (reply.Refused fault.now))) }
 {
-    let _given_up = (link, owner, ident);
     match fault {
         BookFault::CookieInUse { number } => {
             let why = Reason::Session(SessionFault::CookieInUse(*number));

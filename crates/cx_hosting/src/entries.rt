@@ -25,7 +25,6 @@ pub(crate) fn admission_of(
 ) -> Result<Admitted, AllocError>
     ensures { (link : GuestLink) → IfOk result (λ told. told ≡ admission_of (arrived asker.now at.now link) owner.now number epoch cookie) }
 {
-    let _at = at;
     let daemon = asker.name().copy(alloc)?;
     let entity = owner.entity().copy(alloc)?;
     let caps = owner.caps().copy(alloc)?;

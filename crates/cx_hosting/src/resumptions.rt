@@ -137,7 +137,6 @@ fn opens(
     ensures { (owner : Authority) → Makes asker.now at.now (awaiting_ident at.now.number link owner)
         (λ a. sends_secure a (keys_alone link.keys) (λ behind. Open behind served) [] (reconnect_ok last)) result }
 {
-    let _asker = asker;
     let sent = send_secure(alloc, link, 15, &SessionReconnectOk { seq: last })??;
     let link = Link::new(at.number, Stage::Open(sent.link, served));
     Ok(goes_on(alloc, link, sent.bytes, sent.seals))
@@ -188,7 +187,6 @@ fn told(
     ensures { IfOk result (IsCome asker.now at.now.number opened
         (on_resumption (ident_arrival asker.now at.now link owner) (keys_alone link.keys) owner reconnect.now (reply.Refused fault.now))) }
 {
-    let _reconnect = reconnect;
     match fault {
         BookFault::Unknown => {
             let why = Reason::Session(SessionFault::UnknownSession);
@@ -296,7 +294,6 @@ fn stays(
     ensures { (link : SecureWire) (f : Frame) → SendsSecure link (secure_frame link.keys f) sent
         → Makes asker.now at.now (awaiting_ident at.now.number link owner) (λ a. sends_secure a (keys_alone link.keys) (λ behind. AwaitsIdent behind owner) [] f) result }
 {
-    let _asker = asker;
     let sent = sent?;
     let link = Link::new(at.number, Stage::AwaitsIdent(sent.link, owner));
     Ok(goes_on(alloc, link, sent.bytes, sent.seals))

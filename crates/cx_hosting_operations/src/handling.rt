@@ -154,7 +154,6 @@ fn sends(
     ensures { Makes asker.now at.now (open_link at.now.number link served)
         (λ a. secure_sent a (keys_alone link.keys) (λ behind. Open behind served) [] (secure_frames link.keys (answering tid outcome answer ∷ acknowledgement seq ∷ []))) result }
 {
-    let _asker = asker;
     let sent = send_answer(alloc, link, seq, tid, outcome, answer)??;
     let link = Link::new(at.number, Stage::Open(sent.link, served));
     Ok(goes_on(alloc, link, sent.bytes, sent.seals))

@@ -143,7 +143,6 @@ fn acknowledges(
     ensures { Makes asker.now at.now (open_link at.now.number link served)
         (λ a. sends_secure a (keys_alone link.keys) (λ behind. Open behind served) [] (acknowledgement last)) result }
 {
-    let _asker = asker;
     let sent = send_acknowledgement(alloc, link, last)??;
     let link = Link::new(at.number, Stage::Open(sent.link, served));
     Ok(goes_on(alloc, link, sent.bytes, sent.seals))

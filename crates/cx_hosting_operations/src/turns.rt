@@ -81,7 +81,6 @@ fn stays_open(
     ensures { Makes asker.now at.now (open_link at.now.number link served)
         (λ a. secure_sent a (keys_alone link.keys) (λ behind. Open behind served) [] (upkept link.keys frame.now)) result }
 {
-    let _asker = asker;
     let sent = upkept(alloc, link, frame)??;
     let link = Link::new(at.number, Stage::Open(sent.link, served));
     Ok(goes_on(alloc, link, sent.bytes, sent.seals))
