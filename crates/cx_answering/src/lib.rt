@@ -3,5 +3,6 @@
 
 mod hearing;
 
+pub use cx_messages::send_message;
 pub use cx_rules::{Bearer, Demand};
 pub use hearing::hear;
