@@ -30,6 +30,11 @@ impl<'a> Coming<'a> {
         }
     }
 
+    /// Whether it comes to a client.
+    pub fn is_to_client(&self) -> bool {
+        self.node.starts_with("client.")
+    }
+
     /// The bytes that come, where bytes come.
     pub fn bytes(&self, alloc: Global) -> Vec<u8> {
         match hex::decode(alloc, self.second) {

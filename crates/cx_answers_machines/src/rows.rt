@@ -2,9 +2,10 @@
 
 use crate::asked::asked;
 use crate::events::{Coming, number_of, reading_of};
-use crate::nodes::{ClientNode, MonitorNode, client_of, monitor_of, server_of};
+use crate::nodes::{ClientNode, DaemonNode, MonitorNode, client_of, daemon_of, monitor_of, server_of};
 use crate::shown::{Ascii, put_effects, put_saved, put_seals};
 use cx_base::{Blob, Duplicate};
+use cx_desk::Desk;
 use cx_dice::Draw;
 use cx_journal::{Journal, put_text};
 use cx_steps::{Effects, Event};
@@ -13,16 +14,17 @@ use std::fmt::Write;
 
 /// Rows: those of the run that began last, to be played again, and the run that is played.
 #[derive(Drop)]
-pub struct Rows {
+pub struct Rows<'a> {
     begun: Vec<String>,
-    run: Run,
+    run: Run<'a>,
 }
 
-impl Rows {
-    pub fn new(alloc: Global) -> Rows {
+impl<'a> Rows<'a> {
+    /// No rows yet; operations that come to daemons are served by this desk.
+    pub fn new(alloc: Global, desk: &'a Desk) -> Rows<'a> {
         Rows {
             begun: Vec::new(alloc),
-            run: Run::new(alloc, true),
+            run: Run::new(alloc, desk, true),
         }
     }
 
@@ -32,7 +34,7 @@ impl Rows {
         let (kind, rest) = row.split_once(' ').unwrap_or((row, ""));
         match kind {
             "#" => {
-                *self = Rows::new(alloc);
+                *self = Rows::new(alloc, self.run.desk);
                 format!(in alloc; "{row}\n")
             }
             "again" => {
@@ -48,7 +50,7 @@ impl Rows {
     }
 
     fn again(&mut self, alloc: Global, count: u32) -> Result<(), AllocError> {
-        self.run = Run::new(alloc, false);
+        self.run = Run::new(alloc, self.run.desk, false);
         let mut left = count;
         for row in self.begun.iter() {
             if left == 0 {
@@ -64,21 +66,25 @@ impl Rows {
 /// A run so far: the lines of its keyring, its nodes, and its journal; whether the next save fails, and then leaves the old state; and whether
 /// what is drawn, sealed, opened, signed and found equal is told.
 #[derive(Drop)]
-struct Run {
+struct Run<'a> {
+    desk: &'a Desk,
     ring: Blob,
     monitor: Option<MonitorNode>,
     clients: Vec<ClientNode>,
+    daemons: Vec<DaemonNode>,
     journal: Journal,
     fails: Option<bool>,
     logs: bool,
 }
 
-impl Run {
-    fn new(alloc: Global, logs: bool) -> Run {
+impl<'a> Run<'a> {
+    fn new(alloc: Global, desk: &'a Desk, logs: bool) -> Run<'a> {
         Run {
+            desk,
             ring: Blob::new(alloc),
             monitor: None,
             clients: Vec::new(alloc),
+            daemons: Vec::new(alloc),
             journal: Journal::new(alloc),
             fails: None,
             logs,
@@ -99,6 +105,7 @@ impl Run {
                 format!(in alloc; "{row}\n")
             }
             "client" => self.client(alloc, row, rest),
+            "daemon" => self.daemon(alloc, row, rest),
             "request" => asked(alloc, server_of(alloc, self.ring.bytes())?, rest),
             "fails" => {
                 self.fails = Some(rest == "old");
@@ -115,6 +122,14 @@ impl Run {
             return format!(in alloc; "{row}: no such entity\n");
         };
         self.clients.push(client)?;
+        format!(in alloc; "{row}\n")
+    }
+
+    fn daemon(&mut self, alloc: Global, row: &str, rest: &str) -> Result<String, AllocError> {
+        let Some(daemon) = daemon_of(alloc, self.ring.bytes(), rest)? else {
+            return format!(in alloc; "{row}: no such entity\n");
+        };
+        self.daemons.push(daemon)?;
         format!(in alloc; "{row}\n")
     }
 
@@ -163,6 +178,11 @@ impl Run {
                 return node.draws.draw(number);
             }
         }
+        for node in self.daemons.iter_mut() {
+            if node.name.as_str() == coming.node {
+                return node.draws.draw(number);
+            }
+        }
         Draw { bytes: [0; 384] }
     }
 
@@ -178,7 +198,12 @@ impl Run {
         if coming.node == "mon" {
             return self.comes_to_monitor(alloc, coming, event, draw, told);
         }
-        let Some(out) = self.client_step(alloc, coming, event, draw)? else {
+        let out = if coming.is_to_client() {
+            self.client_step(alloc, coming, event, draw)?
+        } else {
+            self.daemon_step(alloc, coming, event, draw)?
+        };
+        let Some(out) = out else {
             return Ok(());
         };
         if self.logs {
@@ -228,6 +253,26 @@ impl Run {
             if node.name.as_str() == coming.node {
                 let mut out = Effects::new(alloc);
                 node.client.step(alloc, event, now, draw, &mut out)?;
+                return Ok(Some(out));
+            }
+        }
+        Ok(None)
+    }
+
+    // What the daemon of this name gives.
+    fn daemon_step(
+        &mut self,
+        alloc: Global,
+        coming: &Coming<'_>,
+        event: Event<'_>,
+        draw: &Draw,
+    ) -> Result<Option<Effects>, AllocError> {
+        let now = reading_of(coming.reading);
+        for node in self.daemons.iter_mut() {
+            if node.name.as_str() == coming.node {
+                let mut out = Effects::new(alloc);
+                node.daemon
+                    .step(alloc, self.desk, event, now, draw, &mut out)?;
                 return Ok(Some(out));
             }
         }

@@ -1,0 +1,5 @@
+pub mod Behind
+pub mod Guests
+pub mod Idling
+pub mod Kept
+pub mod Settled
