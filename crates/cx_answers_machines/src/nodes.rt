@@ -144,11 +144,7 @@ fn daemon_name(alloc: Global, word: &str) -> Result<Option<EntityName>, AllocErr
     }
 }
 
-fn name_of(
-    alloc: Global,
-    kind: EntityType,
-    id: &str,
-) -> Result<Option<EntityName>, AllocError> {
+fn name_of(alloc: Global, kind: EntityType, id: &str) -> Result<Option<EntityName>, AllocError> {
     match Text::of(alloc, id.as_bytes()) {
         Ok(id) => Ok(EntityName::new(kind, id).ok()),
         Err(TextRefusal::NotAscii(_)) => Ok(None),

@@ -2,7 +2,9 @@
 
 use crate::asked::asked;
 use crate::events::{Coming, number_of, reading_of};
-use crate::nodes::{ClientNode, DaemonNode, MonitorNode, client_of, daemon_of, monitor_of, server_of};
+use crate::nodes::{
+    ClientNode, DaemonNode, MonitorNode, client_of, daemon_of, monitor_of, server_of,
+};
 use crate::shown::{Ascii, put_effects, put_saved, put_seals};
 use cx_base::{Blob, Duplicate};
 use cx_desk::Desk;
