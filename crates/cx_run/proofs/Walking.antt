@@ -14,7 +14,7 @@ use Rattle.cx_lines.specs.declared.node_steps.NodeStep.{NodeStep}
 use Rattle.cx_lines.specs.declared.node_steps.NodeStep.TheVariants as step
 use Rattle.cx_line_words.specs.declared.choices.Side.{Side}
 use Rattle.cx_line_words.specs.declared.choices.Side.TheVariants.{Connector, Acceptor}
-use Rattle.cx_rules.specs.Inputs.{Input, Opened, Bytes, Turn, Gone, Restart, Submit}
+use Rattle.cx_rules.specs.Inputs.{Input, Opened, Bytes, Turn, Gone, Restart, Tick, Submit}
 use Rattle.cx_steps.specs.declared.events.Command.TheVariants as told
 use Rattle.cx_steps.specs.declared.events.Peer.{Peer}
 use Rattle.cx_run.specs.Wires.{Wire, end_of, ended, gone_at, has_end, node_at, other, owes_gone, pieces_from, wire_of, with_pieces, with_wire}
@@ -134,16 +134,17 @@ module _ (P : World → Type 0)
 
   kept-submitted : (w : World) (c : LineCommand) → P w → P (submitted w c)
   kept-submitted w (command.Login client services) k = kept-comes w (node.Entity client) (Submit (told.Login (services_sum services))) k
-  kept-submitted w (command.Fetch daemon) k = k
-  kept-submitted w (command.Renew client services) k = k
+  kept-submitted w (command.Fetch daemon) k = kept-comes w (node.Entity daemon) (Submit told.Fetch) k
+  kept-submitted w (command.Renew client services) k = kept-comes w (node.Entity client) (Submit (told.Renew (services_sum services))) k
   kept-submitted w (command.Connect client daemon lossy) k = k
   kept-submitted w (command.Send client daemon operation) k = k
 
   kept-submits : (w : World) (c : LineCommand) → P w → P (submits w c)
   kept-submits w (command.Login client services) k =
       kept-settles (submitted w (command.Login client services)) (kept-submitted w (command.Login client services) k)
-  kept-submits w (command.Fetch daemon) k = k
-  kept-submits w (command.Renew client services) k = k
+  kept-submits w (command.Fetch daemon) k = kept-settles (submitted w (command.Fetch daemon)) (kept-submitted w (command.Fetch daemon) k)
+  kept-submits w (command.Renew client services) k =
+      kept-settles (submitted w (command.Renew client services)) (kept-submitted w (command.Renew client services) k)
   kept-submits w (command.Connect client daemon lossy) k = k
   kept-submits w (command.Send client daemon operation) k = k
 
@@ -183,7 +184,7 @@ module _ (P : World → Type 0)
   kept-on_node w (step.FailSave left) k = like w (on_node w (step.FailSave left)) refl refl k
   kept-on_node w step.Settle k = kept-settles w k
   kept-on_node w (step.DropSession daemon number) k = k
-  kept-on_node w (step.Tick who) k = k
+  kept-on_node w (step.Tick who) k = kept-settles (comes w who Tick) (kept-comes w who Tick k)
 
   kept-acts_on : (w : World) (l : Line) → P w → P (acts_on w l)
   kept-acts_on w (line.Setting setting) k = k

@@ -4,13 +4,12 @@ use Rattle.cx_base.specs.declared.nodes.NodeName.{NodeName}
 use Rattle.cx_base.specs.declared.nodes.NodeName.TheVariants as node
 use Rattle.cx_line_words.specs.declared.choices.Side.{Side}
 use Rattle.cx_line_words.specs.declared.choices.Side.TheVariants.{Connector, Acceptor}
-use Rattle.cx_rules.specs.ClientRule.{ClientNode}
 use Rattle.cx_rules.specs.Inputs.{Input, Opened, Bytes, Turn, Gone, Restart}
 use Rattle.cx_rules.specs.Links.{Link, link_of}
 use Rattle.cx_steps.specs.Nothing.{nothing}
 use Rattle.cx_steps.specs.declared.effects.Effects.{Effects}
 use Rattle.cx_steps.specs.declared.events.Peer.{Peer}
-use Rattle.cx_run.specs.Happenings.{Nodes, client_of, steps}
+use Rattle.cx_run.specs.Happenings.{EntityNode, OfClient, OfDaemon, Nodes, entity_of, steps}
 use Rattle.cx_run.specs.Wires.{Wire, end_of, ended, gone_at, has_end, node_at, other, owes_gone, pieces_from, same_node, wire_of, with_pieces, with_wire}
 use Rattle.cx_run.specs.Worlds.{Post, World, carried, happened, happening, opened_wires, post_of}
 
@@ -91,13 +90,14 @@ abbrev pub came_on : {Stage : Type 0} → Option (Link Stage) → List ℕ
 came_on None = []
 came_on (Some link) = link.received
 
-abbrev pub came_to : ℕ → Option ClientNode → List ℕ
+abbrev pub came_to : ℕ → Option EntityNode → List ℕ
 came_to number None = []
-came_to number (Some client) = came_on (link_of number client.links)
+came_to number (Some (OfClient client)) = came_on (link_of number client.links)
+came_to number (Some (OfDaemon daemon)) = came_on (link_of number daemon.node.links)
 
 abbrev pub came_at : Nodes → ℕ → NodeName → List ℕ
 came_at nodes number node.Monitor = came_on (link_of number nodes.monitor.links)
-came_at nodes number (node.Entity name) = came_to number (client_of name nodes)
+came_at nodes number (node.Entity name) = came_to number (entity_of name nodes)
 
 -- bytes come to a node on a link, and are handled
 abbrev pub arrives : World → NodeName → ℕ → List ℕ → World

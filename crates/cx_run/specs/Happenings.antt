@@ -7,11 +7,14 @@ use Rattle.cx_base.specs.declared.nodes.NodeName.TheVariants as node
 use Rattle.cx_line_words.specs.declared.choices.LeftState.{LeftState}
 use Rattle.cx_line_words.specs.declared.choices.LeftState.TheVariants as left
 use Rattle.cx_rotate.specs.declared.states.KeptState.{KeptState}
+use Rattle.cx_desk.specs.Handlers.{Handlers}
 use Rattle.cx_rules.specs.ClientRule.{ClientNode, client_rule}
+use Rattle.cx_rules.specs.Holdings.{Asker}
 use Rattle.cx_rules.specs.Inputs.{Input}
 use Rattle.cx_rules.specs.Monitor.{MonitorNode}
 use Rattle.cx_rules.specs.MonitorRule.{monitor_rule, unsaved}
 use Rattle.cx_rules.specs.Rows.{Outcome}
+use Rattle.cx_rules_session.specs.DaemonRule.{DaemonState, daemon_step}
 use Rattle.cx_steps.specs.Nothing.{nothing}
 use Rattle.cx_steps.specs.declared.effects.Effects.{Effects}
 use Rattle.cx_steps.specs.declared.seals.Logged.{Logged}
@@ -28,10 +31,16 @@ pub record Happening : Type 0 where
   pub line : ℕ
   pub left : Option LeftState
 
--- the nodes of a run: one monitor, and the clients
+-- the node of an entity: of a client, or of a daemon with its book of sessions
+pub data EntityNode : Type 0 where
+  OfClient : ClientNode → EntityNode
+  OfDaemon : DaemonState → EntityNode
+
+-- the nodes of a run: one monitor, and the entities; and for which kinds of operation the daemons have handlers
 pub record Nodes : Type 0 where
   pub monitor : MonitorNode
-  pub clients : List ClientNode
+  pub entities : List EntityNode
+  pub handlers : Handlers
 
 -- the nodes behind an event, its effects, and whether a save failed
 pub record Stepped : Type 0 where
@@ -39,22 +48,37 @@ pub record Stepped : Type 0 where
   pub out : Effects
   pub failed : Bool
 
--- ---- a client
+-- ---- an entity
 
-abbrev pub is_of : Name → ClientNode → Bool
-is_of name client = same_name client.own.asker.name name
+-- itself as one that asks the monitor
+abbrev pub asker_in : EntityNode → Asker
+asker_in (OfClient client) = client.own.asker
+asker_in (OfDaemon daemon) = daemon.node.own.asker
 
-abbrev pub client_of : Name → Nodes → Option ClientNode
-client_of name nodes = find (is_of name) nodes.clients
+abbrev pub is_of : Name → EntityNode → Bool
+is_of name entity = same_name (asker_in entity).name name
 
-abbrev pub with_client : Nodes → Name → ClientNode → Nodes
-with_client nodes name client = record nodes { clients = map (λ c. if is_of name c then client else c) nodes.clients }
+abbrev pub entity_of : Name → Nodes → Option EntityNode
+entity_of name nodes = find (is_of name) nodes.entities
 
-abbrev pub client_steps : Nodes → Happening → Name → Option ClientNode → Stepped
-client_steps nodes h name None = record { nodes = nodes; out = nothing; failed = false }
-client_steps nodes h name (Some client) =
-    let o = client_rule client h.input h.reading h.draw in
-    record { nodes = with_client nodes name o.state; out = o.out; failed = false }
+abbrev pub with_entity : Nodes → Name → EntityNode → Nodes
+with_entity nodes name entity = record nodes { entities = map (λ e. if is_of name e then entity else e) nodes.entities }
+
+-- what a node's step comes to, as that of an entity of its kind
+abbrev pub outcome_of : {Kind : Type 0} → (Kind → EntityNode) → Outcome Kind → Outcome EntityNode
+outcome_of kind o = record { state = kind o.state; out = o.out }
+
+-- by the rule of its kind
+abbrev pub entity_rule : Handlers → EntityNode → Input → ℕ → List ℕ → Outcome EntityNode
+entity_rule handlers (OfClient client) input reading draw = outcome_of OfClient (client_rule client input reading draw)
+entity_rule handlers (OfDaemon daemon) input reading draw = outcome_of OfDaemon (daemon_step handlers daemon input reading draw)
+
+-- nothing comes to an entity that isn't declared
+abbrev pub entity_steps : Nodes → Happening → Name → Option EntityNode → Stepped
+entity_steps nodes h name None = record { nodes = nodes; out = nothing; failed = false }
+entity_steps nodes h name (Some entity) =
+    let o = entity_rule nodes.handlers entity h.input h.reading h.draw in
+    record { nodes = with_entity nodes name o.state; out = o.out; failed = false }
 
 -- ---- the monitor
 
@@ -85,7 +109,7 @@ monitor_steps nodes o left None = record { nodes = record nodes { monitor = o.st
 
 abbrev pub steps_of : Nodes → Happening → NodeName → Stepped
 steps_of nodes h node.Monitor = let o = monitor_rule nodes.monitor h.input h.reading h.draw in monitor_steps nodes o h.left o.out.save
-steps_of nodes h (node.Entity name) = client_steps nodes h name (client_of name nodes)
+steps_of nodes h (node.Entity name) = entity_steps nodes h name (entity_of name nodes)
 
 -- what an event comes to
 abbrev pub steps : Nodes → Happening → Stepped

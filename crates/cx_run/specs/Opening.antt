@@ -1,9 +1,8 @@
 -- How a run begins: what the head lines of a schedule say of the nodes.
 use Rattle.std.specs.Prelude.{ℕ, ◌+◌, ◌*◌, ◌^◌, suc, true, false, List, [], ◌∷◌, ◌++◌, length, map, take, Option, Some, None, unwrap_or, if◌then◌else◌}
-use Rattle.std.specs.List.{flat_map}
-use Rattle.cx_base.specs.Names.{Name, same_kind, same_name}
+use Rattle.cx_base.specs.Names.{Name, is_daemon_type, same_name}
 use Rattle.cx_base.specs.declared.addresses.Addr.{Addr}
-use Rattle.cx_base.specs.declared.kinds.EntityType.TheVariants.{Client}
+use Rattle.cx_desk.specs.Handlers.{Handlers}
 use Rattle.cx_dice.specs.Rolls.{seed_draw}
 use Rattle.cx_journal.specs.declared.entries.Entry.TheVariants as entry
 use Rattle.cx_base.specs.declared.nodes.NodeName.TheVariants as node
@@ -18,14 +17,16 @@ use Rattle.cx_line_words.specs.declared.choices.Modes.{Modes}
 use Rattle.cx_line_words.specs.declared.choices.Modes.TheVariants.{Crc, Secure, Both}
 use Rattle.cx_base.specs.declared.nodes.NodeName.{NodeName}
 use Rattle.cx_rotate.specs.declared.states.KeptState.{KeptState}
-use Rattle.cx_rules.specs.ClientRule.{ClientNode, opening_client}
+use Rattle.cx_rules.specs.ClientRule.{opening_client}
 use Rattle.cx_rules.specs.Holdings.{Asker, holds_nothing, modes_of, no_view}
 use Rattle.cx_rules.specs.Monitor.{MonitorNode}
 use Rattle.cx_rules.specs.MonitorRule.{opening_monitor}
+use Rattle.cx_rules_session.specs.DaemonRule.{DaemonState, opening_daemon}
+use Rattle.cx_session.specs.Book.{empty_book}
 use Rattle.cx_steps.specs.declared.seals.DrawMark.TheVariants as draw
 use Rattle.cx_steps.specs.declared.seals.Logged.{Logged}
 use Rattle.cx_steps.specs.declared.seals.SealEntry.TheVariants as seal
-use Rattle.cx_run.specs.Happenings.{Entered, Nodes}
+use Rattle.cx_run.specs.Happenings.{Entered, EntityNode, OfClient, OfDaemon, Nodes}
 use Rattle.cx_run.specs.Worlds.{Post, World}
 
 -- ---- what head lines say
@@ -45,17 +46,23 @@ pub record Leak : Type 0 where
   pub line : ℕ
   pub client : Name
 
--- what the head lines say: both lives in seconds, the entities, the seed of the monitor's dice, and the leaked clients
+-- with what a run begins. What the head lines say: both lives in seconds, the entities, the seed of the monitor's dice, and the leaked clients; and for
+-- which kinds of operation the daemons have handlers
 pub record Setup : Type 0 where
   pub life : ℕ
   pub auth_life : ℕ
   pub entities : List Declared
   pub monitor_seed : ℕ
   pub leaks : List Leak
+  pub handlers : Handlers
+
+-- a daemon is asked for no operation yet: no line that is served opens a session
+abbrev pub no_handlers : Handlers
+no_handlers = record { read = false; write = false; exec = false }
 
 -- where nothing is said
 abbrev pub plain_setup : Setup
-plain_setup = record { life = 3600; auth_life = 43200; entities = []; monitor_seed = 0; leaks = [] }
+plain_setup = record { life = 3600; auth_life = 43200; entities = []; monitor_seed = 0; leaks = []; handlers = no_handlers }
 
 -- the entity of a name is changed
 abbrev pub changed : Name → (Declared → Declared) → Setup → Setup
@@ -125,23 +132,31 @@ modes_in Crc = modes_of true false
 modes_in Secure = modes_of false true
 modes_in Both = modes_of true true
 
+-- the modes that an entity offers: a daemon the secure one alone
+abbrev pub modes_offered : Declared → List ℕ
+modes_offered e = if is_daemon_type e.name.kind then modes_of false true else modes_in e.modes
+
 abbrev pub asker_of : Declared → Asker
 asker_of e = record {
   name = e.name;
   secret = secret_of e;
   address = local e.number 0;
-  modes = modes_in e.modes;
+  modes = modes_offered e;
   global_seq = 0;
   holdings = holds_nothing;
   view = no_view;
 }
 
--- daemons have no rules yet
-abbrev pub client_in : Declared → List ClientNode
-client_in e = if same_kind e.name.kind Client then opening_client (asker_of e) ∷ [] else []
+-- a daemon as it begins, which has no session
+abbrev pub daemon_opening : Asker → DaemonState
+daemon_opening asker = record { node = opening_daemon asker; book = empty_book }
+
+-- the node of an entity, by its type
+abbrev pub entity_in : Declared → EntityNode
+entity_in e = if is_daemon_type e.name.kind then OfDaemon (daemon_opening (asker_of e)) else OfClient (opening_client (asker_of e))
 
 abbrev pub nodes_of : Setup → Nodes
-nodes_of setup = record { monitor = monitor_of setup; clients = flat_map client_in setup.entities }
+nodes_of setup = record { monitor = monitor_of setup; entities = map entity_in setup.entities; handlers = setup.handlers }
 
 -- the seed of an entity's dice is its number, where none is told
 abbrev pub post_for : Declared → Post

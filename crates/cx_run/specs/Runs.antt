@@ -1,4 +1,4 @@
--- The run of a schedule of logins: what happens, the journal, the log, and whether the run kept its premises.
+-- The run of a schedule of logins and fetches: what happens, the journal, the log, and whether the run kept its premises.
 use Rattle.std.specs.Prelude.{List, ◌++◌, map, Option}
 use Rattle.cx_journal.specs.declared.entries.Entry.{Entry}
 use Rattle.cx_journal.specs.declared.premises.Broken.{Broken}

@@ -1,4 +1,4 @@
--- What each line of a schedule does to the world. Lines that no rule serves yet do nothing: fetches, renewals, connects, sends, drops and ticks.
+-- What each line of a schedule does to the world. Lines that no rule serves yet do nothing: connects, sends and drops.
 use Rattle.std.specs.Prelude.{ℕ, zero, suc, List, [], ◌∷◌, map, sum_by, Option, Some, None, if◌then◌else◌}
 use Rattle.std.specs.List.{slice_get}
 use Rattle.cx_base.specs.declared.kinds.EntityType.{EntityType}
@@ -16,7 +16,7 @@ use Rattle.cx_lines.specs.declared.node_steps.NodeStep.{NodeStep}
 use Rattle.cx_lines.specs.declared.node_steps.NodeStep.TheVariants as step
 use Rattle.cx_line_words.specs.declared.choices.Side.{Side}
 use Rattle.cx_line_words.specs.declared.choices.Side.TheVariants.{Connector, Acceptor}
-use Rattle.cx_rules.specs.Inputs.{Submit}
+use Rattle.cx_rules.specs.Inputs.{Tick, Submit}
 use Rattle.cx_steps.specs.declared.events.Command.TheVariants as told
 use Rattle.cx_run.specs.Deliveries.{arrives_from, comes, delivers, restarts, settles, tells_gone}
 use Rattle.cx_run.specs.Wires.{Wire, end_of, ended, pieces_from, same_node, wire_of, with_pieces, with_wire}
@@ -28,19 +28,19 @@ use Rattle.cx_run.specs.Worlds.{Post, World}
 abbrev pub services_sum : List EntityType → ℕ
 services_sum services = sum_by number_of services
 
--- a client logs in; the other commands do nothing yet
+-- a client logs in or asks for tickets, a daemon for the generations of its type; the other commands do nothing yet
 abbrev pub submitted : World → LineCommand → World
 submitted w (command.Login client services) = comes w (node.Entity client) (Submit (told.Login (services_sum services)))
-submitted w (command.Fetch daemon) = w
-submitted w (command.Renew client services) = w
+submitted w (command.Fetch daemon) = comes w (node.Entity daemon) (Submit told.Fetch)
+submitted w (command.Renew client services) = comes w (node.Entity client) (Submit (told.Renew (services_sum services)))
 submitted w (command.Connect client daemon lossy) = w
 submitted w (command.Send client daemon operation) = w
 
 -- and then all settles
 abbrev pub submits : World → LineCommand → World
 submits w (command.Login client services) = settles (submitted w (command.Login client services))
-submits w (command.Fetch daemon) = w
-submits w (command.Renew client services) = w
+submits w (command.Fetch daemon) = settles (submitted w (command.Fetch daemon))
+submits w (command.Renew client services) = settles (submitted w (command.Renew client services))
 submits w (command.Connect client daemon lossy) = w
 submits w (command.Send client daemon operation) = w
 
@@ -97,7 +97,7 @@ on_node w (step.Restart who) = restarts w who
 on_node w (step.FailSave left) = record w { left = Some left }
 on_node w step.Settle = settles w
 on_node w (step.DropSession daemon number) = w
-on_node w (step.Tick who) = w
+on_node w (step.Tick who) = settles (comes w who Tick)
 
 -- ---- a line
 

@@ -1,5 +1,5 @@
 -- Which lines a run serves. Each kind of line is named by itself, so that a new one isn't served as nothing.
-use Rattle.std.specs.Prelude.{ℕ, Bool, true, false, not, List, [], ◌∷◌, Option, Some, None, if◌then◌else◌}
+use Rattle.std.specs.Prelude.{ℕ, Bool, true, false, List, [], ◌∷◌, Option, Some, None, if◌then◌else◌}
 use Rattle.cx_lines.specs.declared.commands.LineCommand.{LineCommand}
 use Rattle.cx_lines.specs.declared.commands.LineCommand.TheVariants as command
 use Rattle.cx_lines.specs.declared.lines.Line.{Line}
@@ -7,32 +7,24 @@ use Rattle.cx_lines.specs.declared.lines.Line.TheVariants as line
 use Rattle.cx_lines.specs.declared.lines.Numbered.{Numbered}
 use Rattle.cx_lines.specs.declared.node_steps.NodeStep.{NodeStep}
 use Rattle.cx_lines.specs.declared.node_steps.NodeStep.TheVariants as step
-use Rattle.cx_base.specs.Names.{is_daemon_type}
-use Rattle.cx_base.specs.declared.nodes.NodeName.{NodeName}
-use Rattle.cx_base.specs.declared.nodes.NodeName.TheVariants as place
 
--- a login; no fetch, renewal, connect or send yet
+-- a login, a fetch, a renewal; no connect or send yet
 abbrev pub is_command_served : LineCommand → Bool
 is_command_served (command.Login client services) = true
-is_command_served (command.Fetch daemon) = false
-is_command_served (command.Renew client services) = false
+is_command_served (command.Fetch daemon) = true
+is_command_served (command.Renew client services) = true
 is_command_served (command.Connect client daemon lossy) = false
 is_command_served (command.Send client daemon operation) = false
 
--- the monitor or a client; daemons have no node yet
-abbrev pub has_node : NodeName → Bool
-has_node place.Monitor = true
-has_node (place.Entity name) = not (is_daemon_type name.kind)
-
--- no tick and no end of a session yet, and no daemon that starts again
+-- no end of a session yet
 abbrev pub is_step_served : NodeStep → Bool
 is_step_served (step.Clock reading) = true
 is_step_served (step.ClockOf who reading) = true
-is_step_served (step.Restart who) = has_node who
+is_step_served (step.Restart who) = true
 is_step_served (step.FailSave left) = true
 is_step_served step.Settle = true
 is_step_served (step.DropSession daemon number) = false
-is_step_served (step.Tick who) = false
+is_step_served (step.Tick who) = true
 
 abbrev pub is_served : Line → Bool
 is_served (line.Setting setting) = true

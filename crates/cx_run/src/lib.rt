@@ -1,4 +1,4 @@
-//! The run of a schedule of logins, as a definition.
+//! The run of a schedule of logins and fetches, as a definition.
 #![tactic(auto)]
 
 mod laws;
