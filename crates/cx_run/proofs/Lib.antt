@@ -4,6 +4,9 @@ pub mod Taking
 pub mod MonitorTakes
 pub mod ClientNamed
 pub mod ClientTakes
+pub mod GuestTakes
+pub mod DaemonNamed
+pub mod EntityNamed
 pub mod Turning
 pub mod Untaken
 pub mod PointsTell

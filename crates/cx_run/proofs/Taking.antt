@@ -109,7 +109,7 @@ head-has a (Ok h) = by_test (nat_lt (length a.bytes) (secure.rest_len h.preamble
     by_test false =
         length-has (96 + secure.rest_len h.preamble) (rest_step a.key a.fixed a.counter h (take (secure.rest_len h.preamble) a.bytes)) (omega arith)
 
-secure-has : (a : Ahead) → HasBytes (secure_frame_at a)
+pub secure-has : (a : Ahead) → HasBytes (secure_frame_at a)
 unfolding secure_frame_at
 secure-has a = by_test (nat_lt (length a.bytes) 96)
   where
@@ -196,7 +196,7 @@ module _ {Own Stage X : Type 0} (P : Row Own Stage → Type 0) (row : X → List
   each-turned each (Broken why opened) = tt
   each-turned each (Next x opened) = each x opened
 
-taking-takes : {Stage : Type 0} (link : Link Stage) (n : ℕ) (left : Option (Link Stage)) → 0 < n → n ≤ length (ahead_of link) → IfSome left (λ l. SameAhead l (taking link n)) → Takes link left
+pub taking-takes : {Stage : Type 0} (link : Link Stage) (n : ℕ) (left : Option (Link Stage)) → 0 < n → n ≤ length (ahead_of link) → IfSome left (λ l. SameAhead l (taking link n)) → Takes link left
 taking-takes link n None some le same = omega arith
 taking-takes link n (Some l) some le same =
     let after : length (ahead_of l) ≡ length (drop (link.taken + n) link.received) = ap length same.ahead in

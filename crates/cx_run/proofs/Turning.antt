@@ -1,6 +1,7 @@
 -- A turn that handles something leaves less to be taken of its link, so a list that is as long as what is left bounds no turns.
 use Rattle.std.proofs.Common.{◌≡◌, ℕ, ◌<◌, ◌≤◌, ◌==◌, Bool, true, false, cond, List, [], ◌∷◌, ◌++◌, length, map, Option, Some, None, refl, sym, ap, subst, ◌∙◌, arith, eqb-true, eq-eqb, length-drop}
-use Rattle.std.specs.Prelude.{filter, find, nat_lt, not, if◌then◌else◌}
+use Rattle.std.specs.Prelude.{◌&&◌, filter, find, nat_lt, not, if◌then◌else◌}
+use Rattle.std.specs.Option.{option_map}
 use Rattle.std.proofs.lemmas.Bool.{ltb-true}
 use Rattle.cx_base.proofs.Names.{same_name_is}
 use Rattle.cx_base.specs.Names.{Name}
@@ -10,7 +11,8 @@ use Rattle.cx_line_words.specs.declared.choices.LeftState.{LeftState}
 use Rattle.cx_line_words.specs.declared.choices.LeftState.TheVariants as left
 use Rattle.cx_line_words.specs.declared.choices.Side.{Side}
 use Rattle.cx_rotate.specs.declared.states.KeptState.{KeptState}
-use Rattle.cx_rules.specs.ClientRule.{Client, ClientNode, client_rule, me, with_asker}
+use Rattle.cx_desk.specs.Handlers.{Handlers}
+use Rattle.cx_rules.specs.ClientRule.{Client, ClientNode, me, with_asker}
 use Rattle.cx_rules.specs.ClientRule as client
 use Rattle.cx_rules.specs.Connector as connector
 use Rattle.cx_rules.specs.Fronts.{ahead_of}
@@ -20,13 +22,21 @@ use Rattle.cx_rules.specs.Monitor.{MonitorArrival, MonitorNode, MonitorStage}
 use Rattle.cx_rules.specs.MonitorRule.{monitor_rule, noted, turn, turned_at}
 use Rattle.cx_rules.specs.Rows.{Arrival, Node, Outcome, Turned, Waits, Refuses, Handles, arrival, links_behind, lifted_turn}
 use Rattle.cx_rules.specs.Rows as rows
+use Rattle.cx_rules_session.specs.Asks.{with_book}
+use Rattle.cx_rules_session.specs.DaemonRule as daemon
+use Rattle.cx_rules_session.specs.DaemonRule.{AsAcceptor, AsConnector, Daemon, DaemonNode, DaemonStage, DaemonState, book_after, book_reply, hosts, is_in, is_older, moved_to}
+use Rattle.cx_rules_session.specs.Guests.{GuestStage}
+use Rattle.cx_rules_session.specs.Hosting.{Deciding, Hosted, guest_turned}
+use Rattle.cx_rules_session.specs.Kinds.{arrival_in, in_stage, of_kind, turn_of_kind}
+use Rattle.cx_rules.specs.Holdings.{Asker}
 use Rattle.cx_steps.specs.declared.events.Peer.{Peer}
 use Rattle.cx_run.specs.Deliveries.{Given, came_at, came_on, came_to, far_side, followed, given, gives, open_all, restarts, tells, tells_gone, turns, vanish}
-use Rattle.cx_run.specs.Happenings.{Happening, Nodes, Stepped, client_of, client_steps, is_of, monitor_steps, steps, steps_of}
+use Rattle.cx_run.specs.Happenings.{EntityNode, OfClient, OfDaemon, Happening, Nodes, Stepped, entity_of, entity_rule, entity_steps, is_of, monitor_steps, steps, steps_of}
 use Rattle.cx_run.specs.Turning.{untaken_at, untaken_on, untaken_to}
 use Rattle.cx_run.specs.Wires.{Wire, end_of, ended, has_end, node_at, same_node, with_wire}
 use Rattle.cx_run.specs.Worlds.{Post, World, carried, happening, opened_wires, post_of}
 use Rattle.cx_run.proofs.ClientTakes.{asker-takes, lifted-takes}
+use Rattle.cx_run.proofs.GuestTakes.{Always, TakesHosted, always-book, always-map, always-weaker, guest-takes}
 use Rattle.cx_run.proofs.MonitorTakes.{monitor-takes}
 use Rattle.cx_run.proofs.Taking.{Takes, TurnTakes}
 
@@ -136,6 +146,97 @@ client-less c n reading draw (Some link) e =
           (lifted-takes (with_asker c.own) link (connector.turned_at (arrival (me c.own) c.own.asker link reading draw) link.stage) (asker-takes (arrival (me c.own) c.own.asker link reading draw) link.stage));
     }
 
+-- ---- a turn of a daemon
+
+-- a row of one kind of link takes as one of the node
+kind-takes : {Part Own S T : Type 0} (whole : Part → Own) (kind : S → T) (link : Link T) (stage : S) (t : Turned Part S) → TurnTakes (in_stage link stage) t
+    → TurnTakes link (turn_of_kind whole kind t)
+kind-takes whole kind link stage Waits h = tt
+kind-takes whole kind link stage (Refuses why opened) h = tt
+kind-takes {Part} {Own} {S} {T} whole kind link stage (Handles row) h = by_link row.link h
+  where
+    by_link : (left : Option (Link S)) → Takes (in_stage link stage) left → Takes link (option_map (of_kind kind) left)
+    by_link None k = k
+    by_link (Some l) k = k
+
+-- what is found where others than it are left out
+kept-found : {Stage : Type 0} (n : ℕ) (test : Link Stage → Bool) → ((l : Link Stage) → (l.number == n) ≡ true → test l ≡ true) → (links : List (Link Stage))
+    → link_of n (filter test links) ≡ link_of n links
+kept-found n test keeps [] = refl
+kept-found {Stage} n test keeps (x ∷ links) = by_tests (test x) (x.number == n) refl refl (kept-found n test keeps links)
+  where
+    by_tests : (t u : Bool) → test x ≡ t → (x.number == n) ≡ u → link_of n (filter test links) ≡ link_of n links
+        → link_of n (cond t (x ∷ filter test links) (filter test links)) ≡ cond u (Some x) (link_of n links)
+    by_tests true true is same rest = subst (λ (b : Bool). cond b (Some x) (link_of n (filter test links)) ≡ Some x) (sym same) refl
+    by_tests true false is same rest = subst (λ (b : Bool). cond b (Some x) (link_of n (filter test links)) ≡ link_of n links) (sym same) rest
+    by_tests false true is same rest = let both : false ≡ true = sym is ∙ keeps x same in absurd cc
+    by_tests false false is same rest = rest
+
+-- none of the links that are shut where a session moved is the one to which it moved
+own-stays : (n session : ℕ) (l : Link DaemonStage) → (l.number == n) ≡ true → not (is_older n session l) ≡ true
+own-stays n session l same = by_tests (is_in session l.stage) (l.number == n) same
+  where
+    by_tests : (here own : Bool) → own ≡ true → not (here && not own) ≡ true
+    by_tests true true is = refl
+    by_tests false true is = refl
+    by_tests here false is = absurd cc
+
+moved-less : (n : ℕ) (found : Option (Link DaemonStage)) (moved : Option ℕ) (o : Outcome DaemonNode) → TurnsLess n found o → TurnsLess n found (moved_to n moved o)
+moved-less n found None o h = h
+moved-less n found (Some session) o h = record {
+  opens = h.opens;
+  less = λ t. subst (λ (l : Option (Link DaemonStage)). length (untaken_on l) < length (untaken_on found))
+      (sym (kept-found n (λ (l : Link DaemonStage). not (is_older n session l)) (own-stays n session) o.state.links)) (h.less t);
+}
+
+module _ (handlers : Handlers) (d : DaemonNode) (n reading : ℕ) (draw : List ℕ) (link : Link DaemonStage) (found : link_of n d.links ≡ Some link) where
+  abbrev here : Arrival Daemon DaemonStage
+  here = arrival (daemon.me d.own) d.own link reading draw
+
+  abbrev Less : Outcome DaemonNode → Type 0
+  Less o = TurnsLess n (Some link) o
+
+  kind-less : (t : Turned Daemon DaemonStage) → TurnTakes link t → Less (rows.turns d here t)
+  kind-less t h = record { opens = turns-open d here t; less = turns-less d n here t (found-number n d.links link found) h }
+
+  hosted-less : (stage : GuestStage) (hosted : Hosted) → TakesHosted (arrival_in here d.own.asker stage) hosted → Less (hosts d here hosted)
+  hosted-less stage hosted h =
+      let t : Turned Daemon DaemonStage = turn_of_kind (daemon.with_asker d.own) AsAcceptor hosted.turned in
+      let moved : Less (moved_to n hosted.moved (rows.turns d here t)) =
+      moved-less n (Some link) hosted.moved (rows.turns d here t) (kind-less t (kind-takes (daemon.with_asker d.own) AsAcceptor link stage hosted.turned h.takes)) in
+      subst (λ (k : ℕ). Less (moved_to k hosted.moved (rows.turns d here t))) (sym (found-number n d.links link found)) moved
+
+  stage-less : (stage : DaemonStage) → Always Less (daemon.turned_at handlers d here stage)
+  stage-less (AsAcceptor stage) =
+      let rule : Deciding Hosted = guest_turned handlers (arrival_in here d.own.asker stage) stage in
+      always-map Less (hosts d here) rule
+      (always-weaker (TakesHosted (arrival_in here d.own.asker stage)) (λ (h : Hosted). Less (hosts d here h)) (hosted-less stage) rule
+      (guest-takes handlers (arrival_in here d.own.asker stage) stage))
+  stage-less (AsConnector stage) =
+      let a : Arrival Asker connector.Stage = arrival_in here d.own.asker stage in
+      kind-less (turn_of_kind (daemon.with_asker d.own) AsConnector (connector.turned_at a stage))
+      (kind-takes (daemon.with_asker d.own) AsConnector link stage (connector.turned_at a stage) (asker-takes a stage))
+
+daemon-less : (handlers : Handlers) (d : DaemonNode) (n reading : ℕ) (draw : List ℕ) (found : Option (Link DaemonStage)) → link_of n d.links ≡ found
+    → Always (TurnsLess n found) (daemon.turn handlers d reading draw found)
+daemon-less handlers d n reading draw None e = record { opens = refl; less = λ t. absurd cc }
+daemon-less handlers d n reading draw (Some link) e = stage-less handlers d n reading draw link e link.stage
+
+-- ---- a turn of an entity
+
+pub record EntityLess (n : ℕ) (entity : EntityNode) (o : Outcome EntityNode) : Type 0 where
+  pub opens : o.out.opens ≡ []
+  pub less : o.out.turned ≡ true → length (untaken_to n (Some o.state)) < length (untaken_to n (Some entity))
+
+entity-less : (handlers : Handlers) (entity : EntityNode) (n reading : ℕ) (draw : List ℕ) → EntityLess n entity (entity_rule handlers entity (Turn n) reading draw)
+entity-less handlers (OfClient c) n reading draw =
+    let h = client-less c n reading draw (link_of n c.links) refl in record { opens = h.opens; less = h.less }
+entity-less handlers (OfDaemon d) n reading draw =
+    let found : Option (Link DaemonStage) = link_of n d.node.links in
+    let h : TurnsLess n found (with_book book_reply book_after d.book (daemon.turn handlers d.node reading draw found)).0 =
+    always-book (TurnsLess n found) book_reply book_after d.book (daemon.turn handlers d.node reading draw found) (daemon-less handlers d.node n reading draw found refl) in
+    record { opens = h.opens; less = h.less }
+
 -- ---- a step
 
 -- so does the step of a node among the others; only the monitor's save fails
@@ -152,37 +253,37 @@ monitor-steps nodes n o (Some leaving) None h = record { opens = h.opens; failed
 monitor-steps nodes n o None (Some saved) h = record { opens = h.opens; failed = λ t. refl; less = h.less }
 monitor-steps nodes n o None None h = record { opens = h.opens; failed = λ t. refl; less = h.less }
 
--- the client of a name, where all of that name are replaced
-replaced : (P : Option ClientNode → Type 0) (name : Name) (c : ClientNode) (clients : List ClientNode) → P None → P (Some c)
-    → P (find (is_of name) (map (λ x. if is_of name x then c else x) clients))
-replaced P name c [] none some = none
-replaced P name c (x ∷ clients) none some = by_test (is_of name x) refl (replaced P name c clients none some)
+-- the entity of a name, where all of that name are replaced
+replaced : (P : Option EntityNode → Type 0) (name : Name) (e : EntityNode) (entities : List EntityNode) → P None → P (Some e)
+    → P (find (is_of name) (map (λ x. if is_of name x then e else x) entities))
+replaced P name e [] none some = none
+replaced P name e (x ∷ entities) none some = by_test (is_of name x) refl (replaced P name e entities none some)
   where
-    by_own : (b : Bool) → P (find (is_of name) (map (λ x. if is_of name x then c else x) clients))
-        → P (cond b (Some c) (find (is_of name) (map (λ x. if is_of name x then c else x) clients)))
+    by_own : (b : Bool) → P (find (is_of name) (map (λ x. if is_of name x then e else x) entities))
+        → P (cond b (Some e) (find (is_of name) (map (λ x. if is_of name x then e else x) entities)))
     by_own true later = some
     by_own false later = later
 
-    by_test : (t : Bool) → is_of name x ≡ t → P (find (is_of name) (map (λ x. if is_of name x then c else x) clients))
-        → P (cond (is_of name (cond t c x)) (Some (cond t c x)) (find (is_of name) (map (λ x. if is_of name x then c else x) clients)))
-    by_test true t later = by_own (is_of name c) later
-    by_test false t later = subst (λ (b : Bool). P (cond b (Some x) (find (is_of name) (map (λ x. if is_of name x then c else x) clients)))) (sym t) later
+    by_test : (t : Bool) → is_of name x ≡ t → P (find (is_of name) (map (λ x. if is_of name x then e else x) entities))
+        → P (cond (is_of name (cond t e x)) (Some (cond t e x)) (find (is_of name) (map (λ x. if is_of name x then e else x) entities)))
+    by_test true t later = by_own (is_of name e) later
+    by_test false t later = subst (λ (b : Bool). P (cond b (Some x) (find (is_of name) (map (λ x. if is_of name x then e else x) entities)))) (sym t) later
 
-client-steps : (w : World) (n : ℕ) (post : Post) (name : Name) (found : Option ClientNode) → client_of name w.nodes ≡ found
-    → StepsLess w.nodes n (node.Entity name) (client_steps w.nodes (happening w (Turn n) post) name found)
-client-steps w n post name None e = record { opens = refl; failed = λ t. absurd cc; less = λ t. absurd cc }
-client-steps w n post name (Some c) e =
+entity-steps : (w : World) (n : ℕ) (post : Post) (name : Name) (found : Option EntityNode) → entity_of name w.nodes ≡ found
+    → StepsLess w.nodes n (node.Entity name) (entity_steps w.nodes (happening w (Turn n) post) name found)
+entity-steps w n post name None e = record { opens = refl; failed = λ t. absurd cc; less = λ t. absurd cc }
+entity-steps w n post name (Some entity) e =
     let h : Happening = happening w (Turn n) post in
-    let o : Outcome ClientNode = client_rule c (Turn n) h.reading h.draw in
-    let turned : TurnsLess n (link_of n c.links) o = client-less c n h.reading h.draw (link_of n c.links) refl in
-    let IsLess : Option ClientNode → Type 0 = λ x. length (untaken_to n x) < length (untaken_to n (client_of name w.nodes)) in
+    let o : Outcome EntityNode = entity_rule w.nodes.handlers entity (Turn n) h.reading h.draw in
+    let turned : EntityLess n entity o = entity-less w.nodes.handlers entity n h.reading h.draw in
+    let IsLess : Option EntityNode → Type 0 = λ x. length (untaken_to n x) < length (untaken_to n (entity_of name w.nodes)) in
     record {
       opens = turned.opens;
       failed = λ t. absurd cc;
       less = λ t.
-          let own : IsLess (Some o.state) = subst (λ (x : Option ClientNode). length (untaken_to n (Some o.state)) < length (untaken_to n x)) (sym e) (turned.less t) in
+          let own : IsLess (Some o.state) = subst (λ (x : Option EntityNode). length (untaken_to n (Some o.state)) < length (untaken_to n x)) (sym e) (turned.less t) in
           let none : IsLess None = omega arith in
-          replaced IsLess name o.state w.nodes.clients none own;
+          replaced IsLess name o.state w.nodes.entities none own;
     }
 
 steps-less : (w : World) (n : ℕ) (post : Post) (who : NodeName) → StepsLess w.nodes n who (steps_of w.nodes (happening w (Turn n) post) who)
@@ -191,7 +292,7 @@ steps-less w n post node.Monitor =
     let m : MonitorNode = w.nodes.monitor in
     let o : Outcome MonitorNode = monitor_rule m (Turn n) h.reading h.draw in
     monitor-steps w.nodes n o h.left o.out.save (monitor-less (noted m) n h.reading h.draw (link_of n m.links) refl)
-steps-less w n post (node.Entity name) = client-steps w n post name (client_of name w.nodes) refl
+steps-less w n post (node.Entity name) = entity-steps w n post name (entity_of name w.nodes) refl
 
 -- ---- the node of a post
 
@@ -224,9 +325,9 @@ module _ (n : ℕ) where
   monitor-links nodes o None (Some saved) = refl
   monitor-links nodes o None None = refl
 
-  client-apart : (nodes : Nodes) (h : Happening) (name : Name) (found : Option ClientNode) → (client_steps nodes h name found).nodes.monitor ≡ nodes.monitor
-  client-apart nodes h name None = refl
-  client-apart nodes h name (Some c) = refl
+  entity-apart : (nodes : Nodes) (h : Happening) (name : Name) (found : Option EntityNode) → (entity_steps nodes h name found).nodes.monitor ≡ nodes.monitor
+  entity-apart nodes h name None = refl
+  entity-apart nodes h name (Some entity) = refl
 
   -- an event that leaves the monitor no more than before
   step-less : (w : World) (input : Input) (post : Post) (who : NodeName)
@@ -237,7 +338,7 @@ module _ (n : ℕ) where
       let o : Outcome MonitorNode = monitor_rule w.nodes.monitor input h.reading h.draw in
       subst (λ (links : List (Link MonitorStage)). length (untaken_on (link_of n links)) ≤ left_there w) (sym (monitor-links w.nodes o h.left o.out.save)) (each h.reading h.draw)
   step-less w input post (node.Entity name) each =
-      subst (λ (m : MonitorNode). length (untaken_on (link_of n m.links)) ≤ left_there w) (sym (client-apart w.nodes (happening w input post) name (client_of name w.nodes))) (omega arith)
+      subst (λ (m : MonitorNode). length (untaken_on (link_of n m.links)) ≤ left_there w) (sym (entity-apart w.nodes (happening w input post) name (entity_of name w.nodes))) (omega arith)
 
   given-less : (w : World) (input : Input) (post : Option Post)
       → ((reading : ℕ) (draw : List ℕ) → length (untaken_on (link_of n (monitor_rule w.nodes.monitor input reading draw).state.links)) ≤ left_there w)
@@ -346,12 +447,13 @@ enough nodes n node.Monitor = by_link (link_of n nodes.monitor.links)
     by_link : (found : Option (Link MonitorStage)) → length (untaken_on found) ≤ length (came_on found)
     by_link None = omega arith
     by_link (Some l) = link-enough l
-enough nodes n (node.Entity name) = by_client (client_of name nodes)
+enough nodes n (node.Entity name) = by_entity (entity_of name nodes)
   where
-    by_link : (found : Option (Link connector.Stage)) → length (untaken_on found) ≤ length (came_on found)
+    by_link : {Stage : Type 0} (found : Option (Link Stage)) → length (untaken_on found) ≤ length (came_on found)
     by_link None = omega arith
     by_link (Some l) = link-enough l
 
-    by_client : (found : Option ClientNode) → length (untaken_to n found) ≤ length (came_to n found)
-    by_client None = omega arith
-    by_client (Some c) = by_link (link_of n c.links)
+    by_entity : (found : Option EntityNode) → length (untaken_to n found) ≤ length (came_to n found)
+    by_entity None = omega arith
+    by_entity (Some (OfClient c)) = by_link (link_of n c.links)
+    by_entity (Some (OfDaemon d)) = by_link (link_of n d.node.links)

@@ -9,7 +9,12 @@ use Rattle.cx_rules.specs.Fronts.{ahead_of}
 use Rattle.cx_rules.specs.Links.{Link, link_of}
 use Rattle.cx_rules.specs.Monitor.{MonitorNode, MonitorStage}
 use Rattle.cx_rules.proofs.AcceptorForgets.{acceptor_link_of}
+use Rattle.cx_rules.proofs.Abridging.{link_of_map}
 use Rattle.cx_rules.proofs.AskerForgets.{asker_link_of}
+use Rattle.cx_rules_session.proofs.DaemonForgets.{daemon-forgets-links}
+use Rattle.cx_rules_session.specs.DaemonRule.{DaemonNode, DaemonStage, DaemonState, AsAcceptor, AsConnector}
+use Rattle.cx_rules_session.specs.Forgets.{DaemonStandsFor, abridged_daemon_link}
+use Rattle.cx_rules_session.specs.Guests.{GuestStage}
 use Rattle.cx_run.specs.Turning.{untaken_on}
 
 -- ---- the monitor
@@ -54,3 +59,37 @@ client-untaken c s n stands =
     ap (λ (x : ClientNode). untaken_on (link_of n x.links)) stands.held
     ∙ ap (λ (o : Option (Link connector.Stage)). untaken_on o) (asker_link_of n s.links)
     ∙ asker-found (link_of n s.links)
+
+-- ---- a daemon
+
+guest-ahead : (l : Link DaemonStage) (stage : GuestStage) → (let k : Link DaemonStage = record l { stage = AsAcceptor stage } in ahead_of (abridged_daemon_link k)) ≡ ahead_of l
+guest-ahead l AwaitsBanner = refl
+guest-ahead l AwaitsHello = refl
+guest-ahead l AwaitsRequest = refl
+guest-ahead l (AwaitsProof awaited) = refl
+guest-ahead l (AwaitsSignature s owner) = refl
+guest-ahead l (AwaitsIdent s owner) = refl
+guest-ahead l (Open s served) = refl
+
+own-ahead : (l : Link DaemonStage) (stage : connector.Stage) → (let k : Link DaemonStage = record l { stage = AsConnector stage } in ahead_of (abridged_daemon_link k)) ≡ ahead_of l
+own-ahead l (connector.AwaitsBanner asked) = refl
+own-ahead l (connector.AwaitsHello asked) = refl
+own-ahead l (connector.AwaitsChallenge asked) = refl
+own-ahead l connector.AwaitsDone = refl
+own-ahead l (connector.AwaitsSignature s login) = refl
+own-ahead l (connector.AwaitsIdent s session) = refl
+own-ahead l (connector.Open s requests) = refl
+
+daemon-ahead : (l : Link DaemonStage) (stage : DaemonStage) → (let k : Link DaemonStage = record l { stage = stage } in ahead_of (abridged_daemon_link k)) ≡ ahead_of l
+daemon-ahead l (AsAcceptor stage) = guest-ahead l stage
+daemon-ahead l (AsConnector stage) = own-ahead l stage
+
+daemon-found : (found : Option (Link DaemonStage)) → untaken_on (option_map abridged_daemon_link found) ≡ untaken_on found
+daemon-found None = refl
+daemon-found (Some l) = daemon-ahead l l.stage
+
+pub daemon-untaken : (d s : DaemonState) (n : ℕ) → DaemonStandsFor d s → untaken_on (link_of n d.node.links) ≡ untaken_on (link_of n s.node.links)
+daemon-untaken d s n stands =
+    ap (λ (x : DaemonNode). untaken_on (link_of n x.links)) stands.node.held
+    ∙ ap (λ (o : Option (Link DaemonStage)). untaken_on o) (link_of_map abridged_daemon_link daemon-forgets-links.number n s.node.links)
+    ∙ daemon-found (link_of n s.node.links)

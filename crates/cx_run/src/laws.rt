@@ -8,6 +8,8 @@ ghost use Rattle.cx_rules.specs.ClientRule.{ClientNode};
 ghost use Rattle.cx_rules.specs.Inputs.{Turn};
 ghost use Rattle.cx_rules.specs.Links.{link_of};
 ghost use Rattle.cx_rules.specs.Monitor.{MonitorNode};
+ghost use Rattle.cx_rules_session.specs.DaemonRule.{DaemonState};
+ghost use Rattle.cx_rules_session.specs.Forgets.{DaemonStandsFor};
 ghost use Rattle.cx_run.specs.Deliveries.{came_at, followed, gives, turns};
 ghost use Rattle.cx_run.specs.Happenings.{Nodes, nodes_behind};
 ghost use Rattle.cx_run.specs.Opening.{nodes_of, opening_world};
@@ -36,4 +38,5 @@ pub fn turning_laws()
     // As much is left to be taken of the links that a machine holds as of those of the rules for which they stand.
     ensures monitor_held { (m s : MonitorNode) (number : ℕ) → MonitorStandsFor m s → untaken_on (link_of number m.links) ≡ untaken_on (link_of number s.links) }
     ensures client_held { (c s : ClientNode) (number : ℕ) → ClientStandsFor c s → untaken_on (link_of number c.links) ≡ untaken_on (link_of number s.links) }
+    ensures daemon_held { (d s : DaemonState) (number : ℕ) → DaemonStandsFor d s → untaken_on (link_of number d.node.links) ≡ untaken_on (link_of number s.node.links) }
 {}

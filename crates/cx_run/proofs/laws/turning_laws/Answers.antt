@@ -1,5 +1,5 @@
 use Rattle.cx_run.proofs.Turning.{enough, takes, unrolls}
-use Rattle.cx_run.proofs.Untaken.{client-untaken, monitor-untaken}
+use Rattle.cx_run.proofs.Untaken.{client-untaken, daemon-untaken, monitor-untaken}
 use Rattle.cx_run.proofs.laws.turning_laws.Goals as goal
 
 pub returns-clause-unrolls : goal.returns-clause-unrolls
@@ -16,3 +16,6 @@ returns-clause-monitor_held c = monitor-untaken
 
 pub returns-clause-client_held : goal.returns-clause-client_held
 returns-clause-client_held c = client-untaken
+
+pub returns-clause-daemon_held : goal.returns-clause-daemon_held
+returns-clause-daemon_held c = daemon-untaken
