@@ -1,2 +1,2 @@
-mod Clients
+mod Entities
 mod Monitors

@@ -6,11 +6,10 @@ use Rattle.cx_base.specs.declared.nodes.NodeName.TheVariants as node
 use Rattle.cx_laws_node.specs.Alone.{given_at, given_if, monitor_alone, monitor_behind, monitor_outs, of_node}
 use Rattle.cx_line_words.specs.declared.choices.LeftState.{LeftState}
 use Rattle.cx_rotate.specs.declared.states.KeptState.{KeptState}
-use Rattle.cx_rules.specs.ClientRule.{ClientNode}
 use Rattle.cx_rules.specs.Monitor.{MonitorNode}
 use Rattle.cx_rules.specs.MonitorRule.{monitor_rule}
 use Rattle.cx_rules.specs.Rows.{Outcome}
-use Rattle.cx_run.specs.Happenings.{Happening, Nodes, client_of, client_steps, monitor_steps, nodes_behind, steps}
+use Rattle.cx_run.specs.Happenings.{EntityNode, Happening, Nodes, entity_of, entity_steps, monitor_steps, nodes_behind, steps}
 use Rattle.cx_run.specs.Wires.{same_node}
 use Rattle.cx_steps.specs.declared.effects.Effects.{Effects}
 
@@ -25,10 +24,10 @@ out_alone nodes o (Some left) (Some saved) = refl
 out_alone nodes o (Some left) None = refl
 out_alone nodes o None save = refl
 
--- a client's step leaves the monitor as it is
-other_steps : (nodes : Nodes) (h : Happening) (name : Name) (c : Option ClientNode) → (client_steps nodes h name c).nodes.monitor ≡ nodes.monitor
+-- an entity's step leaves the monitor as it is
+other_steps : (nodes : Nodes) (h : Happening) (name : Name) (e : Option EntityNode) → (entity_steps nodes h name e).nodes.monitor ≡ nodes.monitor
 other_steps nodes h name None = refl
-other_steps nodes h name (Some c) = refl
+other_steps nodes h name (Some e) = refl
 
 -- an event that comes to this node
 abbrev at : Happening → NodeName → Happening
@@ -41,7 +40,7 @@ behind_of nodes h hs node.Monitor =
     let o : Outcome MonitorNode = monitor_rule nodes.monitor h.input h.reading h.draw in
     ap (λ (m : MonitorNode). monitor_behind m (of_node node.Monitor hs)) (state_alone nodes o h.left o.out.save)
 behind_of nodes h hs (node.Entity name) =
-    ap (λ (m : MonitorNode). monitor_behind m (of_node node.Monitor hs)) (other_steps nodes h name (client_of name nodes))
+    ap (λ (m : MonitorNode). monitor_behind m (of_node node.Monitor hs)) (other_steps nodes h name (entity_of name nodes))
 
 pub monitor_is : (nodes : Nodes) (hs : List Happening) → (nodes_behind nodes hs).monitor ≡ monitor_behind nodes.monitor (of_node node.Monitor hs)
 monitor_is nodes [] = refl
@@ -55,7 +54,7 @@ outs_of nodes h hs node.Monitor =
     ap (λ (out : Effects). out ∷ monitor_outs (monitor_steps nodes o h.left o.out.save).nodes.monitor (of_node node.Monitor hs)) (out_alone nodes o h.left o.out.save)
     ∙ ap (λ (m : MonitorNode). (monitor_alone o h.left o.out.save).out ∷ monitor_outs m (of_node node.Monitor hs)) (state_alone nodes o h.left o.out.save)
 outs_of nodes h hs (node.Entity name) =
-    ap (λ (m : MonitorNode). monitor_outs m (of_node node.Monitor hs)) (other_steps nodes h name (client_of name nodes))
+    ap (λ (m : MonitorNode). monitor_outs m (of_node node.Monitor hs)) (other_steps nodes h name (entity_of name nodes))
 
 pub monitor_gives : (nodes : Nodes) (hs : List Happening) → given_at node.Monitor nodes hs ≡ monitor_outs nodes.monitor (of_node node.Monitor hs)
 monitor_gives nodes [] = refl

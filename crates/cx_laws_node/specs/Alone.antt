@@ -3,11 +3,13 @@ use Rattle.std.specs.Prelude.{List, [], ◌∷◌, ◌++◌, filter, Bool, true,
 use Rattle.cx_base.specs.declared.nodes.NodeName.{NodeName}
 use Rattle.cx_line_words.specs.declared.choices.LeftState.{LeftState}
 use Rattle.cx_rotate.specs.declared.states.KeptState.{KeptState}
+use Rattle.cx_desk.specs.Handlers.{Handlers}
 use Rattle.cx_rules.specs.ClientRule.{ClientNode, client_rule}
 use Rattle.cx_rules.specs.Monitor.{MonitorNode}
 use Rattle.cx_rules.specs.MonitorRule.{monitor_rule}
 use Rattle.cx_rules.specs.Rows.{Outcome}
-use Rattle.cx_run.specs.Happenings.{Happening, Nodes, failed_out, left_as, steps}
+use Rattle.cx_rules_session.specs.DaemonRule.{DaemonState, daemon_step}
+use Rattle.cx_run.specs.Happenings.{EntityNode, Happening, Nodes, entity_rule, failed_out, left_as, steps}
 use Rattle.cx_run.specs.Wires.{same_node}
 use Rattle.cx_steps.specs.Nothing.{nothing}
 use Rattle.cx_steps.specs.declared.effects.Effects.{Effects}
@@ -47,6 +49,22 @@ abbrev pub monitor_outs : MonitorNode → List Happening → List Effects
 monitor_outs m [] = []
 monitor_outs m (h ∷ hs) = (monitor_steps_alone m h).out ∷ monitor_outs (monitor_steps_alone m h).state hs
 
+-- ---- an entity alone
+
+abbrev pub entity_steps_alone : Handlers → EntityNode → Happening → Outcome EntityNode
+entity_steps_alone handlers entity h = entity_rule handlers entity h.input h.reading h.draw
+
+abbrev pub entity_behind : Handlers → EntityNode → List Happening → EntityNode
+entity_behind handlers entity [] = entity
+entity_behind handlers entity (h ∷ hs) = entity_behind handlers (entity_steps_alone handlers entity h).state hs
+
+-- one that isn't declared gives nothing
+abbrev pub entity_outs : Handlers → Option EntityNode → List Happening → List Effects
+entity_outs handlers entity [] = []
+entity_outs handlers None (h ∷ hs) = nothing ∷ entity_outs handlers None hs
+entity_outs handlers (Some entity) (h ∷ hs) =
+    (entity_steps_alone handlers entity h).out ∷ entity_outs handlers (Some (entity_steps_alone handlers entity h).state) hs
+
 -- ---- a client alone
 
 abbrev pub client_steps_alone : ClientNode → Happening → Outcome ClientNode
@@ -56,8 +74,19 @@ abbrev pub client_behind : ClientNode → List Happening → ClientNode
 client_behind c [] = c
 client_behind c (h ∷ hs) = client_behind (client_steps_alone c h).state hs
 
--- one that isn't declared gives nothing
-abbrev pub client_outs : Option ClientNode → List Happening → List Effects
+abbrev pub client_outs : ClientNode → List Happening → List Effects
 client_outs c [] = []
-client_outs None (h ∷ hs) = nothing ∷ client_outs None hs
-client_outs (Some c) (h ∷ hs) = (client_steps_alone c h).out ∷ client_outs (Some (client_steps_alone c h).state) hs
+client_outs c (h ∷ hs) = (client_steps_alone c h).out ∷ client_outs (client_steps_alone c h).state hs
+
+-- ---- a daemon alone, with its book of sessions
+
+abbrev pub daemon_steps_alone : Handlers → DaemonState → Happening → Outcome DaemonState
+daemon_steps_alone handlers d h = daemon_step handlers d h.input h.reading h.draw
+
+abbrev pub daemon_behind : Handlers → DaemonState → List Happening → DaemonState
+daemon_behind handlers d [] = d
+daemon_behind handlers d (h ∷ hs) = daemon_behind handlers (daemon_steps_alone handlers d h).state hs
+
+abbrev pub daemon_outs : Handlers → DaemonState → List Happening → List Effects
+daemon_outs handlers d [] = []
+daemon_outs handlers d (h ∷ hs) = (daemon_steps_alone handlers d h).out ∷ daemon_outs handlers (daemon_steps_alone handlers d h).state hs

@@ -1,11 +1,14 @@
 //! The laws of a node of a run.
 
-ghost use Rattle.std.specs.Prelude.{◌≡◌, List};
+ghost use Rattle.std.specs.Prelude.{◌≡◌, List, Some};
 ghost use Rattle.std.specs.Option.{option_map};
 ghost use Rattle.cx_base.specs.Names.{Name};
 ghost use Rattle.cx_base.specs.declared.nodes.NodeName.TheVariants as node;
-ghost use Rattle.cx_laws_node.specs.Alone.{client_behind, client_outs, given_at, monitor_behind, monitor_outs, of_node};
-ghost use Rattle.cx_run.specs.Happenings.{Happening, Nodes, client_of, nodes_behind};
+ghost use Rattle.cx_desk.specs.Handlers.{Handlers};
+ghost use Rattle.cx_laws_node.specs.Alone.{client_behind, client_outs, daemon_behind, daemon_outs, entity_behind, entity_outs, given_at, monitor_behind, monitor_outs, of_node};
+ghost use Rattle.cx_rules.specs.ClientRule.{ClientNode};
+ghost use Rattle.cx_rules_session.specs.DaemonRule.{DaemonState};
+ghost use Rattle.cx_run.specs.Happenings.{OfClient, OfDaemon, Happening, Nodes, entity_of, nodes_behind};
 
 /// Of every list of events, from all nodes: what the run has a node do, and the node behind it, are what the node's rule gives on the events,
 /// readings and draws of that node alone; but that a step of the monitor whose save fails gives only what a failed save leaves of it, and that
@@ -13,8 +16,13 @@ ghost use Rattle.cx_run.specs.Happenings.{Happening, Nodes, client_of, nodes_beh
 pub fn node_laws()
     ensures monitor { (nodes : Nodes) (hs : List Happening) → (nodes_behind nodes hs).monitor ≡ monitor_behind nodes.monitor (of_node node.Monitor hs) }
     ensures monitor_gives { (nodes : Nodes) (hs : List Happening) → given_at node.Monitor nodes hs ≡ monitor_outs nodes.monitor (of_node node.Monitor hs) }
-    ensures client { (nodes : Nodes) (name : Name) (hs : List Happening)
-        → client_of name (nodes_behind nodes hs) ≡ option_map (λ c. client_behind c (of_node (node.Entity name) hs)) (client_of name nodes) }
-    ensures client_gives { (nodes : Nodes) (name : Name) (hs : List Happening)
-        → given_at (node.Entity name) nodes hs ≡ client_outs (client_of name nodes) (of_node (node.Entity name) hs) }
+    ensures entity { (nodes : Nodes) (name : Name) (hs : List Happening)
+        → entity_of name (nodes_behind nodes hs) ≡ option_map (λ e. entity_behind nodes.handlers e (of_node (node.Entity name) hs)) (entity_of name nodes) }
+    ensures entity_gives { (nodes : Nodes) (name : Name) (hs : List Happening)
+        → given_at (node.Entity name) nodes hs ≡ entity_outs nodes.handlers (entity_of name nodes) (of_node (node.Entity name) hs) }
+    // Of a client these are what its rule gives, and of a daemon what its own does, with its book of sessions.
+    ensures client { (handlers : Handlers) (c : ClientNode) (hs : List Happening) → entity_behind handlers (OfClient c) hs ≡ OfClient (client_behind c hs) }
+    ensures client_gives { (handlers : Handlers) (c : ClientNode) (hs : List Happening) → entity_outs handlers (Some (OfClient c)) hs ≡ client_outs c hs }
+    ensures daemon { (handlers : Handlers) (d : DaemonState) (hs : List Happening) → entity_behind handlers (OfDaemon d) hs ≡ OfDaemon (daemon_behind handlers d hs) }
+    ensures daemon_gives { (handlers : Handlers) (d : DaemonState) (hs : List Happening) → entity_outs handlers (Some (OfDaemon d)) hs ≡ daemon_outs handlers d hs }
 {}
