@@ -9,4 +9,6 @@ pub mod DaemonNamed
 pub mod EntityNamed
 pub mod Turning
 pub mod Untaken
+pub mod OpensMonitor
+pub mod Visiting
 pub mod PointsTell

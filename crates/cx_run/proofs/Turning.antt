@@ -302,7 +302,7 @@ same-is (node.Entity a) (node.Entity b) e = ap (λ (x : Name). node.Entity x) (s
 same-is node.Monitor (node.Entity b) e = absurd cc
 same-is (node.Entity a) node.Monitor e = absurd cc
 
-post-is : (who : NodeName) (posts : List Post) (post : Post) → post_of who posts ≡ Some post → post.node ≡ who
+pub post-is : (who : NodeName) (posts : List Post) (post : Post) → post_of who posts ≡ Some post → post.node ≡ who
 post-is who [] post e = absurd cc
 post-is who (x ∷ posts) post e = by_test (same_node x.node who) refl e (post-is who posts post)
   where

@@ -8,3 +8,4 @@ pub mod Schedules
 pub mod Served
 pub mod Runs
 pub mod Points
+pub mod Visits

@@ -16,11 +16,17 @@ ghost use Rattle.cx_run.specs.Opening.{nodes_of, opening_world};
 ghost use Rattle.cx_run.specs.Runs.{setup_of, trace};
 ghost use Rattle.cx_run.specs.Schedules.{after_lines};
 ghost use Rattle.cx_run.specs.Turning.{untaken_at, untaken_on};
+ghost use Rattle.cx_run.specs.Visits.{AreUnvisited};
 ghost use Rattle.cx_run.specs.Worlds.{World};
 
 /// The nodes at the end of a run are those that its events lead to: nothing else changes a node.
 pub fn run_laws()
     ensures { (script : List Numbered) → (after_lines (opening_world (setup_of script)) script).nodes ≡ nodes_behind (nodes_of (setup_of script)) (trace script) }
+{}
+
+/// No guest comes to an entity in the run of a schedule: no link opens there but one that it opens itself. And no view is told but by a reply.
+pub fn visit_laws()
+    ensures { (script : List Numbered) → AreUnvisited (trace script) }
 {}
 
 /// The list that bounds the turns behind what arrived is no bound at all: a node is turned until it handles nothing.

@@ -4,5 +4,5 @@
 mod laws;
 mod points;
 
-pub use laws::{run_laws, turning_laws};
+pub use laws::{run_laws, turning_laws, visit_laws};
 pub use points::point_laws;
