@@ -13,10 +13,9 @@ use Rattle.cx_line_words.specs.declared.choices.LeftState.{LeftState}
 use Rattle.cx_rotate.specs.Rotation.{rotated}
 use Rattle.cx_rotate.specs.declared.generations.Generation.{Generation}
 use Rattle.cx_rotate.specs.declared.states.KeptState.{KeptState}
-use Rattle.cx_rules.specs.ClientRule.{ClientNode}
 use Rattle.cx_rules.specs.Inputs.{Input}
 use Rattle.cx_rules.specs.Monitor.{Monitor}
-use Rattle.cx_run.specs.Happenings.{Happening, Nodes, client_of, client_steps, steps}
+use Rattle.cx_run.specs.Happenings.{EntityNode, Happening, Nodes, entity_of, entity_steps, steps}
 use Rattle.cx_run.specs.Opening.{Setup, first_state, nodes_of}
 use Rattle.cx_run.specs.Points.{Point, entries_at, nodes_past, points, points_onto}
 use Rattle.cx_laws_chain.proofs.Rotating.{AreThree, Rotates, rotates-on}
@@ -24,7 +23,7 @@ use Rattle.cx_laws_chain.proofs.Rows.{AreUnder, StateGoesOn}
 use Rattle.cx_laws_chain.proofs.Steps.{ComesOn, EventBegins, event-goes_on}
 use Rattle.cx_laws_chain.specs.Chain.{Added, AreSpaced, BecomesLost, BecomesSaved, Chain, HasChain, IsAddedAt, IsChained, IsUnderCurrent, StaysInMemory, all_in, chain_behind, life_in, no_chain, three_newest}
 use Rattle.cx_laws_keys.proofs.Journal.{IsNotIssued}
-use Rattle.cx_laws_login.proofs.NoTickets.{client-none}
+use Rattle.cx_laws_chain.proofs.NoDaemonTickets.{entity-none}
 use Rattle.cx_laws_login.proofs.Proving.{none-issued}
 
 -- ---- chains
@@ -256,19 +255,19 @@ module _ (setup : Setup) (service : EntityType) (past : List Point) (nodes : Nod
   abbrev point_at : NodeName → Point
   point_at n = record { nodes = nodes; happening = record { node = n; input = input; reading = reading; draw = block; line = line; left = failing } }
 
-  client-own : (name : Name) (h : Happening) (found : Option ClientNode) → (client_steps nodes h name found).nodes.monitor.own ≡ nodes.monitor.own
-  client-own name h None = refl
-  client-own name h (Some c) = refl
+  entity-own : (name : Name) (h : Happening) (found : Option EntityNode) → (entity_steps nodes h name found).nodes.monitor.own ≡ nodes.monitor.own
+  entity-own name h None = refl
+  entity-own name h (Some entity) = refl
 
-  client-issues : (name : Name) (h : Happening) (found : Option ClientNode) → AllByRecursion IsNotIssued (client_steps nodes h name found).out.entries
-  client-issues name h None = tt
-  client-issues name h (Some c) = client-none c h.input h.reading h.draw
+  entity-issues : (name : Name) (h : Happening) (found : Option EntityNode) → AllByRecursion IsNotIssued (entity_steps nodes h name found).out.entries
+  entity-issues name h None = tt
+  entity-issues name h (Some entity) = entity-none nodes.handlers entity h.input h.reading h.draw
 
   goes-on : (n : NodeName) (b : Chain) → StandsOn setup service past nodes.monitor.own b → StandsBehind setup service past (point_at n)
   goes-on node.Monitor b ok = stands-on setup service past (point_at node.Monitor) b ok refl (event-goes_on nodes input reading block failing)
   goes-on (node.Entity name) b ok =
-      stands-still setup service past (point_at (node.Entity name)) b ok (client-own name (point_at (node.Entity name)).happening (client_of name nodes))
-      (client-issues name (point_at (node.Entity name)).happening (client_of name nodes))
+      stands-still setup service past (point_at (node.Entity name)) b ok (entity-own name (point_at (node.Entity name)).happening (entity_of name nodes))
+      (entity-issues name (point_at (node.Entity name)).happening (entity_of name nodes))
 
 -- ---- every list of events
 
