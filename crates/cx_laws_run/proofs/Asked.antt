@@ -18,7 +18,6 @@ use Rattle.cx_line_words.specs.declared.choices.LeftState.TheVariants as left
 use Rattle.cx_rotate.specs.declared.states.KeptState.{KeptState}
 use Rattle.cx_rules.proofs.Drawing.{monitor-logs}
 use Rattle.cx_rules.specs.Acceptor.{AwaitsBanner, AwaitsHello, AwaitsRequest, AwaitsProof, AwaitsSignature, AwaitsIdent, Open}
-use Rattle.cx_rules.specs.ClientRule.{ClientNode, client_rule}
 use Rattle.cx_rules.specs.Greetings.{own_banner}
 use Rattle.cx_rules.specs.Inputs.{Input, Opened, NoLink, Bytes, Turn, Gone, Look, Tick, Submit, Restart}
 use Rattle.cx_rules.specs.Judged.{LogsDraw, LogsLink, LogsStage, LogsTurn}
@@ -32,7 +31,7 @@ use Rattle.cx_run.proofs.MonitorTakes.{monitor-takes}
 use Rattle.cx_run.proofs.PointsTell.{each-map, some-onto, some-until}
 use Rattle.cx_run.proofs.Taking.{Takes, TurnTakes}
 use Rattle.cx_run.proofs.Turning.{found-number, put-found}
-use Rattle.cx_run.specs.Happenings.{Happening, Nodes, Stepped, client_of, client_steps, failed_out, monitor_steps, stays, steps}
+use Rattle.cx_run.specs.Happenings.{EntityNode, Happening, Nodes, Stepped, entity_of, entity_rule, entity_steps, failed_out, monitor_steps, stays, steps}
 use Rattle.cx_run.specs.Opening.{Declared, Setup, nodes_of, principal_of, secret_drawn, secrets_drawn}
 use Rattle.cx_run.specs.Points.{EachPoint, Point, Since, entries_at, logged_until, nodes_past, onto, points, points_onto, seals_at, stepped_at}
 use Rattle.cx_steps.specs.Onto.{SomeOf}
@@ -44,7 +43,7 @@ use Rattle.cx_steps.specs.declared.seals.SealEntry.{SealEntry}
 use Rattle.cx_steps.specs.declared.seals.SealEntry.TheVariants as seal
 use Rattle.cx_laws_keys.proofs.Lists.{all-append, all-map, found_all, found_passes}
 use Rattle.cx_laws_login.proofs.Hearing.{HearsPart, part_heard}
-use Rattle.cx_laws_login.proofs.NoTickets.{client-none}
+use Rattle.cx_laws_chain.proofs.NoDaemonTickets.{entity-none}
 use Rattle.cx_laws_login.proofs.Proving.{Bears, IsBehind, IsBehindProof, IsBehindReply, IsRinged, LinkTells, RowOf, RowTells, StageTells, none-issued, step-tells, turned-tells}
 use Rattle.cx_laws_run.proofs.Opening.{nothing-in}
 use Rattle.cx_laws_run.specs.Logins.{Asks, IsAskedFor, IsRenewal, Offers, Proves, Stands, proof_of}
@@ -472,22 +471,23 @@ module _ (setup : Setup) (past : List Point) (nodes : Nodes) (input : Input) (re
   abbrev point_at : NodeName → Point
   point_at n = record { nodes = nodes; happening = record { node = n; input = input; reading = reading; draw = block; line = line; left = failing } }
 
-  client-preceded : (name : Name) (found : Option ClientNode) → AllPreceded setup past nodes
-      → AllPreceded setup (point_at (node.Entity name) ∷ past) (client_steps nodes (point_at (node.Entity name)).happening name found).nodes
-  client-preceded name found ok = by_found found
+  entity-preceded : (name : Name) (found : Option EntityNode) → AllPreceded setup past nodes
+      → AllPreceded setup (point_at (node.Entity name) ∷ past) (entity_steps nodes (point_at (node.Entity name)).happening name found).nodes
+  entity-preceded name found ok = by_found found
     where
       links : AllByRecursion (LinkPreceded setup (point_at (node.Entity name) ∷ past)) nodes.monitor.links
       links = all-map (LinkPreceded setup past) (LinkPreceded setup (point_at (node.Entity name) ∷ past))
           (λ l h. stage-stays setup past (point_at (node.Entity name)) l.number l.stage (λ P s. inr (refl, s)) h) nodes.monitor.links ok.links
 
-      by_found : (found : Option ClientNode) → AllPreceded setup (point_at (node.Entity name) ∷ past) (client_steps nodes (point_at (node.Entity name)).happening name found).nodes
+      by_found : (found : Option EntityNode) → AllPreceded setup (point_at (node.Entity name) ∷ past) (entity_steps nodes (point_at (node.Entity name)).happening name found).nodes
       by_found None = record { ring = ok.ring; links = links }
-      by_found (Some c) = record { ring = ok.ring; links = links }
+      by_found (Some entity) = record { ring = ok.ring; links = links }
 
-  client-asks : (name : Name) (found : Option ClientNode) → (t : Issued)
-      → Contains (client_steps nodes (point_at (node.Entity name)).happening name found).out.entries (journal.Issued t) → ⊥
-  client-asks name None t has = nothing-in (journal.Issued t) has
-  client-asks name (Some c) t has = none-issued (client_rule c input reading block).out.entries (client-none c input reading block) t has
+  entity-asks : (name : Name) (found : Option EntityNode) → (t : Issued)
+      → Contains (entity_steps nodes (point_at (node.Entity name)).happening name found).out.entries (journal.Issued t) → ⊥
+  entity-asks name None t has = nothing-in (journal.Issued t) has
+  entity-asks name (Some entity) t has =
+      none-issued (entity_rule nodes.handlers entity input reading block).out.entries (entity-none nodes.handlers entity input reading block) t has
 
   goes : (n : NodeName) → AllPreceded setup past nodes → StepsTo setup past (point_at n)
   goes node.Monitor ok = record {
@@ -495,8 +495,8 @@ module _ (setup : Setup) (past : List Point) (nodes : Nodes) (input : Input) (re
     asks = monitor-asks setup past nodes reading block line failing input ok;
   }
   goes (node.Entity name) ok = record {
-    preceded = client-preceded name (client_of name nodes) ok;
-    asks = λ t has. absurd (client-asks name (client_of name nodes) t has);
+    preceded = entity-preceded name (entity_of name nodes) ok;
+    asks = λ t has. absurd (entity-asks name (entity_of name nodes) t has);
   }
 
 -- ---- every list of events
