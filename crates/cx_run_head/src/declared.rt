@@ -1,7 +1,7 @@
 //! Declared entities.
 
 ghost use Rattle.std.specs.Prelude.{◌≡◌, IfOk};
-ghost use Rattle.cx_run.specs.Opening.{local, modes_in, principal_of, secret_of};
+ghost use Rattle.cx_run.specs.Opening.{local, modes_offered, principal_of, secret_of};
 ghost use Rattle.cx_rules.specs.Holdings.{modes_of};
 
 use crate::secrets::secret_of_seed;
@@ -65,10 +65,16 @@ impl Declared {
         }
     }
 
-    /// The modes that it offers.
+    /// The modes that it offers: a daemon the secure one alone.
     pub fn offered(&self) -> OfferedModes
-        ensures { modes_of result.crc result.secure ≡ modes_in self.now.modes }
+        ensures { modes_of result.crc result.secure ≡ modes_offered self.now }
     {
+        if self.name.kind.is_daemon() {
+            return OfferedModes {
+                crc: false,
+                secure: true,
+            };
+        }
         match self.modes {
             Modes::Crc => OfferedModes {
                 crc: true,

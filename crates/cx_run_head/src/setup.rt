@@ -4,7 +4,7 @@ ghost use Rattle.std.specs.Prelude.{◌≡◌, ◌<◌, [], ◌∷◌, ◌++◌,
 ghost use Rattle.std.specs.List.{list_any};
 ghost use Rattle.cx_keyring.specs.Entries.{are_grants, is_named};
 ghost use Rattle.cx_base.specs.declared.nodes.NodeName.TheVariants as place;
-ghost use Rattle.cx_run.specs.Opening.{changed, declared, plain_setup, principal_of, seeded, set_up_by, set_up_line};
+ghost use Rattle.cx_run.specs.Opening.{changed, declared, no_handlers, plain_setup, principal_of, seeded, set_up_by, set_up_line};
 ghost use Rattle.cx_run.specs.Runs.{setup_of};
 ghost use Rattle.cx_run_head.specs.Beginning.{CanBegin, IsSchedule, MayFollow, MaySay};
 
@@ -40,6 +40,7 @@ impl Model for Setup {
       entities = s.entities.items;
       monitor_seed = s.monitor_seed;
       leaks = s.leaks;
+      handlers = run.no_handlers;
     } };
 
     ghost invariant = { λ s. AreHeld s.life s.auth_life s.entities.items s.places.texts };
@@ -62,6 +63,7 @@ impl Setup {
     pub fn entities(&self) -> &[Declared]
         ensures value { result.now ≡ self.now.entities }
         ensures fit { CanBegin self.now }
+        ensures handlers { self.now.handlers ≡ no_handlers }
     {
         self.entities.as_slice()
     }
