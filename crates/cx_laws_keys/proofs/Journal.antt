@@ -1,5 +1,5 @@
 -- What a step enters in the journal, and the law of each entry behind those before it.
-use Rattle.std.proofs.Common.{◌≡◌, ◌⊎◌, ℕ, List, [], ◌∷◌, ◌++◌, inl, inr, sym, ap, ◌∙◌, subst}
+use Rattle.std.proofs.Common.{◌≡◌, ◌⊎◌, ℕ, Bool, false, List, [], ◌∷◌, ◌++◌, inl, inr, sym, ap, ◌∙◌, subst}
 use Rattle.std.specs.Prelude.{Contains}
 use Rattle.std.proofs.lemmas.List.Elements.{Contains-push_cases}
 use Rattle.cx_base.specs.Names.{Name}
@@ -9,13 +9,17 @@ use Rattle.cx_journal.specs.declared.entries.Entry.{Entry}
 use Rattle.cx_journal.specs.declared.entries.Entry.TheVariants as journal
 use Rattle.cx_journal.specs.declared.entries.Issued.{Issued}
 use Rattle.cx_base.specs.declared.nodes.NodeName.{NodeName}
+use Rattle.cx_base.specs.declared.nodes.NodeName.TheVariants as node
 use Rattle.cx_journal.specs.declared.outcomes.Reason.{Reason}
 use Rattle.cx_journal.specs.declared.outcomes.Reason.TheVariants as reason
 use Rattle.cx_steps.specs.declared.seals.Logged.{Logged}
 use Rattle.cx_steps.specs.declared.seals.SealEntry.{SealEntry}
 use Rattle.cx_laws_keys.proofs.Known.{AreOwn, Inv}
 use Rattle.cx_laws_keys.proofs.Premises.{behind, behind-append}
-use Rattle.cx_laws_keys.proofs.Uses.{Grows, Uses, grows-then}
+use Rattle.cx_laws_keys.proofs.Uses.{Grows, Uses, grows-then, WholeRun}
+use Rattle.cx_journal.specs.Backed.{IsBackedBy}
+use Rattle.cx_journal.specs.KeepsKeys.{KeepsKeysBy, NeedsFor}
+use Rattle.cx_laws_keys.specs.KeepsExpiry.{KeepsExpiryBy, ExpiredFor}
 
 -- ---- which entries a login makes
 
@@ -23,24 +27,65 @@ abbrev pub IsOfLogin : Reason → Type 0
 IsOfLogin (reason.Ticket why blob) = ⊥
 IsOfLogin _ = Unit {0}
 
--- no session, operation or answer is entered, and no refusal of a ticket by a daemon
+-- no session, operation or answer is entered, and no look and no refusal of a ticket by a daemon
 abbrev pub IsLoginEntry : Entry → Type 0
 IsLoginEntry (journal.Saved gid) = Unit {0}
 IsLoginEntry (journal.Issued ticket) = Unit {0}
 IsLoginEntry (journal.Refused r) = IsOfLogin r.reason
 IsLoginEntry (journal.Restarted at) = Unit {0}
 IsLoginEntry (journal.Leaked name) = Unit {0}
+IsLoginEntry (journal.Fetched f) = Unit {0}
 IsLoginEntry _ = ⊥
 
--- the law of an entry, behind the earlier ones
-pub record EntryLaw (earlier : List Entry) (e : Entry) : Type 0 where
-  pub login : IsLoginEntry e
+-- the law of an entry, behind the earlier ones, of a run to whose daemons guests come or not: where none come, it is one of a login
+pub record EntryLaw (guests : Bool) (earlier : List Entry) (e : Entry) : Type 0 where
+  pub login : guests ≡ false → IsLoginEntry e
+  pub backed : IsBackedBy earlier e
+  pub keeps_keys : KeepsKeysBy earlier e
+  pub keeps_expiry : KeepsExpiryBy earlier e
   pub gid_once : GivesGidOnceBy earlier e
 
 -- the journal behind these entries
 abbrev pub entered : List Entry → List Entry → List Entry
 entered J [] = J
 entered J (e ∷ es) = entered (J ++ e ∷ []) es
+
+record PlainLaw (earlier : List Entry) (e : Entry) : Type 0 where
+  backed : IsBackedBy earlier e
+  keeps_keys : KeepsKeysBy earlier e
+  keeps_expiry : KeepsExpiryBy earlier e
+
+pub needs-none : (earlier : List Entry) (at : NodeName) (link : ℕ) (why : Reason) → IsOfLogin why → NeedsFor earlier at link why
+needs-none earlier node.Monitor link why h = tt
+needs-none earlier (node.Entity daemon) link (reason.Ticket fault blob) h = absurd h
+needs-none earlier (node.Entity daemon) link _ h = tt
+
+pub expired-none : (earlier : List Entry) (at : NodeName) (why : Reason) → IsOfLogin why → ExpiredFor earlier at why
+expired-none earlier node.Monitor why h = tt
+expired-none earlier (node.Entity daemon) (reason.Ticket fault blob) h = absurd h
+expired-none earlier (node.Entity daemon) _ h = tt
+
+login-plain : (earlier : List Entry) (e : Entry) → IsLoginEntry e → PlainLaw earlier e
+login-plain earlier (journal.Saved x) h = record { backed = tt; keeps_keys = tt; keeps_expiry = tt }
+login-plain earlier (journal.Issued x) h = record { backed = tt; keeps_keys = tt; keeps_expiry = tt }
+login-plain earlier (journal.Refused r) h = record { backed = tt; keeps_keys = needs-none earlier r.node r.link r.reason h; keeps_expiry = expired-none earlier r.node r.reason h }
+login-plain earlier (journal.Restarted x) h = record { backed = tt; keeps_keys = tt; keeps_expiry = tt }
+login-plain earlier (journal.Leaked x) h = record { backed = tt; keeps_keys = tt; keeps_expiry = tt }
+login-plain earlier (journal.Fetched x) h = record { backed = tt; keeps_keys = tt; keeps_expiry = tt }
+login-plain earlier (journal.Looked x) h = absurd h
+login-plain earlier (journal.Admitted x) h = absurd h
+login-plain earlier (journal.Resumed x) h = absurd h
+login-plain earlier (journal.Sent x) h = absurd h
+login-plain earlier (journal.Handled x) h = absurd h
+login-plain earlier (journal.Answered x) h = absurd h
+login-plain earlier (journal.Ended x) h = absurd h
+login-plain earlier (journal.Broken x) h = absurd h
+
+-- the law of an entry of a login
+pub login-law : (guests : Bool) (earlier : List Entry) (e : Entry) → IsLoginEntry e → GivesGidOnceBy earlier e → EntryLaw guests earlier e
+login-law guests earlier e h gid =
+    let p : PlainLaw earlier e = login-plain earlier e h in
+    record { login = λ none. h; backed = p.backed; keeps_keys = p.keeps_keys; keeps_expiry = p.keeps_expiry; gid_once = gid }
 
 -- ---- global ids
 
@@ -84,20 +129,20 @@ own-issued J t of own a b ha hb gid = by_places (has-issued J t a ha) (has-issue
 
 -- ---- what comes of a step
 
-module _ (leaked : List Name) (whole : List Logged) (n : NodeName) (line : ℕ) where
+module _ (run : WholeRun) (whole : List Logged) (n : NodeName) (line : ℕ) where
   -- what is known behind some entries of the log, and more that is said of the uses then
   pub record Reached (us : Uses) (log : List Logged) (J : List Entry) (es : List SealEntry) (Facts : Uses → Type 0) : Type 0 where
     pub uses : Uses
     pub grows : Grows us uses
-    pub inv : Inv leaked whole uses (behind n line es log) J
+    pub inv : Inv run whole uses (behind n line es log) J
     pub facts : Facts uses
 
   -- what is known behind a step's entries of the log and of the journal, the law of the latter, and what is said of the node then
   pub record After (us : Uses) (log : List Logged) (J : List Entry) (es : List SealEntry) (js : List Entry) (Good : Uses → List Entry → Type 0) : Type 0 where
     pub uses : Uses
     pub grows : Grows us uses
-    pub inv : Inv leaked whole uses (behind n line es log) (entered J js)
-    pub laws : EachBehind EntryLaw J js
+    pub inv : Inv run whole uses (behind n line es log) (entered J js)
+    pub laws : EachBehind (EntryLaw run.guests) J js
     pub good : Good uses (entered J js)
 
   pub reached-then : (us : Uses) (log : List Logged) (J : List Entry) (xs ys : List SealEntry) (F G : Uses → Type 0) → (r : Reached us log J xs F)
@@ -105,7 +150,7 @@ module _ (leaked : List Name) (whole : List Logged) (n : NodeName) (line : ℕ) 
   reached-then us log J xs ys F G r next = record {
     uses = next.uses;
     grows = grows-then us r.uses next.uses r.grows next.grows;
-    inv = subst (λ (l : List Logged). Inv leaked whole next.uses l J) (sym (behind-append n line xs ys log)) next.inv;
+    inv = subst (λ (l : List Logged). Inv run whole next.uses l J) (sym (behind-append n line xs ys log)) next.inv;
     facts = next.facts;
   }
 
@@ -114,7 +159,7 @@ module _ (leaked : List Name) (whole : List Logged) (n : NodeName) (line : ℕ) 
   after-then us log J xs ys js F Good r next = record {
     uses = next.uses;
     grows = grows-then us r.uses next.uses r.grows next.grows;
-    inv = subst (λ (l : List Logged). Inv leaked whole next.uses l (entered J js)) (sym (behind-append n line xs ys log)) next.inv;
+    inv = subst (λ (l : List Logged). Inv run whole next.uses l (entered J js)) (sym (behind-append n line xs ys log)) next.inv;
     laws = next.laws;
     good = next.good;
   }

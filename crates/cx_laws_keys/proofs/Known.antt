@@ -22,8 +22,9 @@ use Rattle.cx_steps.specs.declared.seals.Logged.{Logged}
 use Rattle.cx_steps.specs.declared.seals.SealEntry.{SealEntry}
 use Rattle.cx_steps.specs.declared.seals.SealEntry.TheVariants as entry
 use Rattle.cx_steps.specs.declared.seals.SealMark.{SealMark}
-use Rattle.cx_laws_keys.proofs.Lists.{some-of, some-with}
-use Rattle.cx_laws_keys.proofs.Uses.{Use, Secret, Generated, Login, Ticketed, Connected, Uses, IsConnected, Means, Grows, HasDrawn, HasSecret, connected-grows, session_use, whose}
+use Rattle.cx_laws_keys.proofs.Lists.{some-of, some-with, all-map}
+use Rattle.cx_laws_keys.proofs.Uses.{Use, Secret, Generated, Login, Ticketed, Connected, Uses, IsConnected, Means, Grows, HasDrawn, HasSecret, connected-grows, session_use, whose, WholeRun, AreGenerated, IsSavedIn}
+use Rattle.cx_rotate.specs.declared.generations.Generation.{Generation}
 
 -- ---- what is said under a key
 
@@ -41,9 +42,11 @@ pub record HasTicket (entries : List Entry) (service : EntityType) (id : ℕ) (k
   pub generation : ticket.generation ≡ id
   pub blob : ticket.blob ≡ enveloped key content
 
--- the generations of this reply are said to be those of the entity's own type
-pub record AreToldOf (name : Name) (x : RotatingReply) : Type 0 where
+-- the generations of this reply are said to be those of the entity's own type, and are: their keys are for them, and they were saved so
+pub record AreToldOf (us : Uses) (name : Name) (x : RotatingReply) : Type 0 where
   pub service_is : x.service ≡ name.kind
+  pub generated : AreGenerated us x.service x.generations
+  pub saved : AllByRecursion (IsSavedIn us.saved x.service) x.generations
 
 -- what may be sealed under a key of this use, by what is read of it: an entity is told the session key of its own ticket for AUTH, and the
 -- generations of its own type; under that session key those of its other tickets, and the secret of its link to the monitor; under a generation
@@ -51,7 +54,7 @@ pub record AreToldOf (name : Name) (x : RotatingReply) : Type 0 where
 abbrev pub Says : Uses → List Entry → List ℕ → Use → List ℕ → Type 0
 Says us entries key (Secret name) content =
     ((x : TicketInfo) → spelled_by ticket_info_layout.form content ≡ Some x → Means us x.session (Login name))
-    × ((x : RotatingReply) → spelled_by rotating_reply_layout.form content ≡ Some x → AreToldOf name x)
+    × ((x : RotatingReply) → spelled_by rotating_reply_layout.form content ≡ Some x → AreToldOf us name x)
 Says us entries key (Generated service id) content =
     (x : ServiceTicket) → spelled_by service_ticket_layout.form content ≡ Some x → HasTicket entries service id key content x × Means us x.session (session_use x.name service)
 Says us entries key (Login name) content =
@@ -93,26 +96,47 @@ abbrev pub AreOwn : List Entry → Type 0
 AreOwn entries = (s t : Issued) → Contains entries (journal.Issued s) → Contains entries (journal.Issued t) → s.gid ≡ t.gid → s.entity ≡ t.entity
 
 -- of a log, the newest entries first, and a journal, the oldest first, where these clients leaked in the whole run: each key with a use was drawn
--- for whom its use says, an entity's secret as such; it has one use, and is leaked only where its entity is; all that is sealed and signed is allowed; each global id is one entity's
-pub record Inv (leaked : List Name) (whole : List Logged) (us : Uses) (log : List Logged) (entries : List Entry) : Type 0 where
+-- for whom its use says, an entity's secret as such; it has one use, and is leaked only where its entity is; all that is sealed and signed is allowed;
+-- each global id is one entity's; and what is known to have been saved is what the run says
+pub record Inv (run : WholeRun) (whole : List Logged) (us : Uses) (log : List Logged) (entries : List Entry) : Type 0 where
   pub held : (key : List ℕ) (u : Use) → Means us key u → HasDrawn log (whose u) key
   pub secrets : (key : List ℕ) (name : Name) → Means us key (Secret name) → HasSecret log name key
   pub one : (key : List ℕ) (u v : Use) → Means us key u → Means us key v → u ≡ v
-  pub leaks : (key : List ℕ) (u : Use) → Means us key u → IsLeakedKey leaked whole key → (name : Name) × (whose u ≡ Some name) × Contains leaked name
+  pub leaks : (key : List ℕ) (u : Use) → Means us key u → IsLeakedKey run.leaked whole key → (name : Name) × (whose u ≡ Some name) × Contains run.leaked name
   pub allowed : AllByRecursion (λ (at : Logged). IsAllowed us entries at.node at.entry) log
   pub own : AreOwn entries
+  pub told : us.saved ≡ run.saved
 
 -- ---- what is known stays so
 
 pub record Within (J K : List Entry) : Type 0 where
   pub has : (e : Entry) → Contains J e → Contains K e
 
-says-grows : (us vs : Uses) (J K : List Entry) → Grows us vs → Within J K → (key : List ℕ) (u : Use) (content : List ℕ) → Says us J key u content → Says vs K key u content
-says-grows us vs J K g w key (Secret name) content s = (
+-- what was saved still was
+abbrev pub KeepsSaved : Uses → Uses → Type 0
+KeepsSaved us vs = (service : EntityType) (g : Generation) → IsSavedIn us.saved service g → IsSavedIn vs.saved service g
+
+pub same-saved : (us vs : Uses) → us.saved ≡ vs.saved → KeepsSaved us vs
+same-saved us vs same = λ service g h. subst (λ (saved : List (EntityType × Generation)). IsSavedIn saved service g) same h
+
+pub generated-grow : (us vs : Uses) (service : EntityType) (gs : List Generation) → Grows us vs → AreGenerated us service gs → AreGenerated vs service gs
+generated-grow us vs service gs f h =
+    all-map (λ (g : Generation). Means us g.key (Generated service g.id)) (λ (g : Generation). Means vs g.key (Generated service g.id))
+    (λ g m. f.means g.key (Generated service g.id) m) gs h
+
+told-grows : (us vs : Uses) (name : Name) (x : RotatingReply) → Grows us vs → KeepsSaved us vs → AreToldOf us name x → AreToldOf vs name x
+told-grows us vs name x g k h = record {
+  service_is = h.service_is;
+  generated = generated-grow us vs x.service x.generations g h.generated;
+  saved = all-map (IsSavedIn us.saved x.service) (IsSavedIn vs.saved x.service) (λ of was. k x.service of was) x.generations h.saved;
+}
+
+says-grows : (us vs : Uses) (J K : List Entry) → Grows us vs → KeepsSaved us vs → Within J K → (key : List ℕ) (u : Use) (content : List ℕ) → Says us J key u content → Says vs K key u content
+says-grows us vs J K g k w key (Secret name) content s = (
   λ x is. g.means x.session (Login name) (s.0 x is),
-  λ x is. s.1 x is,
+  λ x is. told-grows us vs name x g k (s.1 x is),
 )
-says-grows us vs J K g w key (Generated service id) content s = λ x is.
+says-grows us vs J K g k w key (Generated service id) content s = λ x is.
     let h : HasTicket J service id key content x = (s x is).0 in (
       record {
         ticket = h.ticket;
@@ -128,23 +152,23 @@ says-grows us vs J K g w key (Generated service id) content s = λ x is.
       },
       g.means x.session (session_use x.name service) (s x is).1,
     )
-says-grows us vs J K g w key (Login name) content s =
+says-grows us vs J K g k w key (Login name) content s =
     (λ x is. g.means x.session (Ticketed name x.service) (s.0 x is), λ x is. connected-grows us vs (take 16 x.secret) name g (s.1 x is))
-says-grows us vs J K g w key (Ticketed name service) content s = tt
-says-grows us vs J K g w key (Connected acceptor number name tie) content s = tt
+says-grows us vs J K g k w key (Ticketed name service) content s = tt
+says-grows us vs J K g k w key (Connected acceptor number name tie) content s = tt
 
-pub allowed-grows : (us vs : Uses) (J K : List Entry) → Grows us vs → Within J K → (at : NodeName) (e : SealEntry) → IsAllowed us J at e → IsAllowed vs K at e
-allowed-grows us vs J K g w at (entry.Sealed mark) h = (h.0, g.means mark.key h.0 h.1, says-grows us vs J K g w mark.key h.0 mark.content h.2, h.3)
-allowed-grows us vs J K g w at (entry.Signed mark) h = (h.0, g.means mark.key h.0 h.1, h.2)
-allowed-grows us vs J K g w at (entry.Opened mark) h = tt
-allowed-grows us vs J K g w at (entry.Checked mark) h = tt
-allowed-grows us vs J K g w at (entry.Drawn mark) h = tt
+pub allowed-grows : (us vs : Uses) (J K : List Entry) → Grows us vs → KeepsSaved us vs → Within J K → (at : NodeName) (e : SealEntry) → IsAllowed us J at e → IsAllowed vs K at e
+allowed-grows us vs J K g k w at (entry.Sealed mark) h = (h.0, g.means mark.key h.0 h.1, says-grows us vs J K g k w mark.key h.0 mark.content h.2, h.3)
+allowed-grows us vs J K g k w at (entry.Signed mark) h = (h.0, g.means mark.key h.0 h.1, h.2)
+allowed-grows us vs J K g k w at (entry.Opened mark) h = tt
+allowed-grows us vs J K g k w at (entry.Checked mark) h = tt
+allowed-grows us vs J K g k w at (entry.Drawn mark) h = tt
 
 -- ---- what opens, and what is found equal
 
-module _ (leaked : List Name) (whole : List Logged) (us : Uses) (log : List Logged) (J : List Entry) where
+module _ (run : WholeRun) (whole : List Logged) (us : Uses) (log : List Logged) (J : List Entry) where
   -- what was sealed under a key says what the key's use allows
-  pub opened_says : Inv leaked whole us log J → (mark : SealMark) → HasSealed log mark → (u : Use) → Means us mark.key u → Says us J mark.key u mark.content
+  pub opened_says : Inv run whole us log J → (mark : SealMark) → HasSealed log mark → (u : Use) → Means us mark.key u → Says us J mark.key u mark.content
   opened_says i mark sealed u h =
       some-of (λ (at : Logged). Seals mark at.entry) (λ (at : Logged). IsAllowed us J at.node at.entry) (Says us J mark.key u mark.content)
       (λ at s a. by_entry at.node at.entry s a) log sealed i.allowed
@@ -161,7 +185,7 @@ module _ (leaked : List Name) (whole : List Logged) (us : Uses) (log : List Logg
       by_entry n (entry.Drawn other) same a = absurd same
 
   -- what was signed under an entity's secret, its own node signed
-  pub signed_own : Inv leaked whole us log J → (mark : SealMark) (name : Name) → HasSigned log mark → Means us mark.key (Secret name)
+  pub signed_own : Inv run whole us log J → (mark : SealMark) (name : Name) → HasSigned log mark → Means us mark.key (Secret name)
       → SomeOf (λ (at : Logged). (at.node ≡ node.Entity name) × Signs mark at.entry) log
   signed_own i mark name signed h =
       some-with (λ (at : Logged). Signs mark at.entry) (λ (at : Logged). IsAllowed us J at.node at.entry) (λ (at : Logged). (at.node ≡ node.Entity name) × Signs mark at.entry)
@@ -178,7 +202,7 @@ module _ (leaked : List Name) (whole : List Logged) (us : Uses) (log : List Logg
       by_entry n (entry.Drawn other) same a = absurd same
 
   -- what was sealed under the key of a link to an entity, and begins with the nonce of a connector, its own node sealed
-  pub sealed_own : Inv leaked whole us log J → (mark : SealMark) (name : Name) → HasSealed log mark → IsConnected us mark.key name → IsOfConnector mark.content
+  pub sealed_own : Inv run whole us log J → (mark : SealMark) (name : Name) → HasSealed log mark → IsConnected us mark.key name → IsOfConnector mark.content
       → SomeOf (λ (at : Logged). (at.node ≡ node.Entity name) × Seals mark at.entry) log
   sealed_own i mark name sealed h begins =
       some-with (λ (at : Logged). Seals mark at.entry) (λ (at : Logged). IsAllowed us J at.node at.entry) (λ (at : Logged). (at.node ≡ node.Entity name) × Seals mark at.entry)

@@ -5,3 +5,4 @@ pub mod Known
 pub mod Premises
 pub mod Steps
 pub mod Journal
+pub mod ReadGenerations

@@ -21,10 +21,10 @@ use Rattle.cx_sealed.specs.declared.ticket_info.TicketInfo.{TicketInfo}
 
 -- ---- steps
 
-abbrev done : {A : Type 0} → A → Result A ReadFault
+abbrev pub done : {A : Type 0} → A → Result A ReadFault
 done x = Ok x
 
-ok_is : {A : Type 0} (x y : A) → done x ≡ done y → x ≡ y
+pub ok_is : {A : Type 0} (x y : A) → done x ≡ done y → x ≡ y
 ok_is x y e = cc
 
 pub bind_ok : {A B : Type 0} (r : Result A ReadFault) (f : A → Result B ReadFault) (y : B) → (r >>= f) ≡ Ok y → (x : A) × (r ≡ Ok x) × (f x ≡ Ok y)
@@ -87,7 +87,7 @@ unfolding secret_form key_form
 secret_fits secret sixteen = (((omega arith, (omega arith, (omega arith, (omega arith, sixteen)))), refl), refl)
 
 -- a reading is written as the one that its seconds have in four bytes
-clipped : ℕ → ℕ
+pub clipped : ℕ → ℕ
 clipped r = (r / 1000000000 % 4294967296) * 1000000000 + r % 1000000000
 
 same_four : (n m : ℕ) → m ≡ n % 4294967296 → little w32 n ≡ little w32 m
@@ -99,7 +99,7 @@ same_four n m is =
     let d : n / 16777216 % 256 ≡ m / 16777216 % 256 = omega arith in
     cc
 
-clipped-text : (r : ℕ) → reading_form.text r ≡ reading_form.text (clipped r)
+pub clipped-text : (r : ℕ) → reading_form.text r ≡ reading_form.text (clipped r)
 unfolding clipped reading_form time_form
 clipped-text r =
     let secs : clipped r / 1000000000 ≡ r / 1000000000 % 4294967296 = omega arith in
@@ -107,7 +107,7 @@ clipped-text r =
     ap (λ (b : List ℕ). b ++ little w32 (r % 1000000000)) (same_four (r / 1000000000) (clipped r / 1000000000) secs)
     ∙ ap (λ (n : ℕ). little w32 (clipped r / 1000000000) ++ little w32 n) nanos
 
-clipped-fits : (r : ℕ) → reading_form.Fits (clipped r)
+pub clipped-fits : (r : ℕ) → reading_form.Fits (clipped r)
 unfolding clipped
 clipped-fits r = reading_fits (clipped r) (omega arith)
 
@@ -148,11 +148,11 @@ other_kind {B} n m g rest y next fits other e =
 -- ---- records
 
 -- a kind byte, and what follows it, seen as a record
-abbrev of_kind : {A X : Type 0} → ℕ → (A → X) → (X → A) → Form A → Form X
+abbrev pub of_kind : {A X : Type 0} → ℕ → (A → X) → (X → A) → Form A → Form X
 of_kind {A} n made parts f = seen made parts (seen (λ (a : Unit {0} × A). a.1) (λ x. (tt, x)) (pair (fixed n u8_form) f))
 
 -- what is read behind the kind byte
-behind_kind : {A X : Type 0} (n : ℕ) (made : A → X) (parts : X → A) (f : Form A) (t x : X) → n < 2 ^ 8 → fixed_of n n ≡ Some tt
+pub behind_kind : {A X : Type 0} (n : ℕ) (made : A → X) (parts : X → A) (f : Form A) (t x : X) → n < 2 ^ 8 → fixed_of n n ≡ Some tt
     → spelled_by (of_kind n made parts f) ((of_kind n made parts f).text t) ≡ Some x
     → (a : A) × (made a ≡ x) × (place : ℕ) × (next : Spot) × (f.at (record { place = place; left = f.text (parts t) }) ≡ Ok (a, next))
 behind_kind {A} {X} n made parts f t x small is e =
@@ -299,7 +299,7 @@ pub info_no_connection : (t : TicketInfo) (x : ConnectionSecret) → spelled_by 
 info_no_connection t x e =
     kinds_differ 7 2 (λ (secret : List ℕ). record { secret = secret }) (λ (c : ConnectionSecret). c.secret) (sized_form 64) (info_form.text (info_parts t)) x (omega arith) refl e
 
-abbrev rotating_made : EntityType × List Generation → RotatingReply
+abbrev pub rotating_made : EntityType × List Generation → RotatingReply
 rotating_made (service, generations) = record { service = service; generations = generations }
 
 pub info_no_rotating : (t : TicketInfo) (x : RotatingReply) → spelled_by rotating_reply_layout.form (ticket_info_layout.form.text t) ≡ Some x → ⊥

@@ -13,10 +13,12 @@ use Rattle.cx_steps.specs.declared.seals.DrawMark.TheVariants as draw
 use Rattle.cx_steps.specs.declared.seals.Logged.{Logged}
 use Rattle.cx_steps.specs.declared.seals.SealEntry.{SealEntry}
 use Rattle.cx_steps.specs.declared.seals.SealEntry.TheVariants as entry
-use Rattle.cx_laws_keys.proofs.Lists.{all-map, some-map}
+use Rattle.cx_laws_keys.proofs.Lists.{all-map, some-map, some-right}
 use Rattle.cx_laws_keys.proofs.Known.{AreOwn, Inv, IsAllowed, Within, allowed-grows}
 use Rattle.cx_laws_keys.proofs.Premises.{DrawsKey, IsGranted, behind, logged, new-key}
-use Rattle.cx_laws_keys.proofs.Uses.{DrawnAs, HasDrawn, HasSecret, Means, Secret, Use, Uses, grows-one, stays, whose, with_key}
+use Rattle.cx_laws_keys.proofs.Uses.{DrawnAs, HasDrawn, HasSecret, Means, Secret, Use, Uses, grows-one, stays, whose, with_key, WholeRun, grows-saved}
+use Rattle.cx_rotate.specs.declared.generations.Generation.{Generation}
+use Rattle.cx_base.specs.declared.kinds.EntityType.{EntityType}
 
 pub within-itself : (J : List Entry) → Within J J
 within-itself J = record { has = λ e h. h }
@@ -31,12 +33,12 @@ drawn-key for key (entry.Opened m) h = h
 drawn-key for key (entry.Signed m) h = h
 drawn-key for key (entry.Checked m) h = h
 
-module _ (leaked : List Name) (whole : List Logged) where
+module _ (run : WholeRun) (whole : List Logged) where
   -- ---- what is known of a log and a journal
 
   module _ (us : Uses) (log : List Logged) (J : List Entry) where
     -- an entry that is allowed
-    pub inv-allowed : (n : NodeName) (line : ℕ) (e : SealEntry) → Inv leaked whole us log J → IsAllowed us J n e → Inv leaked whole us (logged n line e ∷ log) J
+    pub inv-allowed : (n : NodeName) (line : ℕ) (e : SealEntry) → Inv run whole us log J → IsAllowed us J n e → Inv run whole us (logged n line e ∷ log) J
     inv-allowed n line e i a = record {
       held = λ key u h. inr (i.held key u h);
       secrets = λ key name h. inr (i.secrets key name h);
@@ -44,11 +46,12 @@ module _ (leaked : List Name) (whole : List Logged) where
       leaks = i.leaks;
       allowed = (a, i.allowed);
       own = i.own;
+      told = i.told;
     }
 
     -- a key that is drawn for a use
-    pub inv-drawn : (n : NodeName) (line : ℕ) (mark : DrawMark) (key : List ℕ) (u : Use) → Inv leaked whole us log J → key_of mark ≡ Some key → for_whom mark ≡ whose u
-        → ((name : Name) → u ≡ Secret name → mark ≡ draw.Principal key name) → IsGranted leaked whole log (logged n line (entry.Drawn mark)) → Inv leaked whole (with_key us key u) (logged n line (entry.Drawn mark) ∷ log) J
+    pub inv-drawn : (n : NodeName) (line : ℕ) (mark : DrawMark) (key : List ℕ) (u : Use) → Inv run whole us log J → key_of mark ≡ Some key → for_whom mark ≡ whose u
+        → ((name : Name) → u ≡ Secret name → mark ≡ draw.Principal key name) → IsGranted run.leaked whole log (logged n line (entry.Drawn mark)) → Inv run whole (with_key us key u) (logged n line (entry.Drawn mark) ∷ log) J
     inv-drawn n line mark key u i is for exact grant = record {
       held = held;
       secrets = secrets;
@@ -57,9 +60,10 @@ module _ (leaked : List Name) (whole : List Logged) where
       allowed = (
         tt,
         all-map (λ (at : Logged). IsAllowed us J at.node at.entry) (λ (at : Logged). IsAllowed (with_key us key u) J at.node at.entry)
-            (λ at a. allowed-grows us (with_key us key u) J J (grows-one us key u) (within-itself J) at.node at.entry a) log i.allowed,
+            (λ at a. allowed-grows us (with_key us key u) J J (grows-one us key u) (λ s g h. h) (within-itself J) at.node at.entry a) log i.allowed,
       );
       own = i.own;
+      told = i.told;
     }
       where
         unused : (k : List ℕ) (v : Use) → key ≡ k → Means us k v → ⊥
@@ -83,26 +87,44 @@ module _ (leaked : List Name) (whole : List Logged) where
         one k v w (inr h) (inl (a, b)) = absurd (unused k v a h)
         one k v w (inr h) (inr g) = i.one k v w h g
 
-        leaks : (k : List ℕ) (v : Use) → Means (with_key us key u) k v → IsLeakedKey leaked whole k → (name : Name) × (whose v ≡ Some name) × Contains leaked name
+        leaks : (k : List ℕ) (v : Use) → Means (with_key us key u) k v → IsLeakedKey run.leaked whole k → (name : Name) × (whose v ≡ Some name) × Contains run.leaked name
         leaks k v (inl (same, purpose)) leak =
             let told = grant.leak k (is ∙ ap (λ (x : List ℕ). Some x) same) leak in
             (told.0, sym (ap whose purpose) ∙ sym for ∙ told.1, told.2)
         leaks k v (inr h) leak = i.leaks k v h leak
 
     -- an entry of the journal, where each global id stays one entity's
-    pub inv-entered : (e : Entry) → Inv leaked whole us log J → AreOwn (J ++ e ∷ []) → Inv leaked whole us log (J ++ e ∷ [])
+    pub inv-entered : (e : Entry) → Inv run whole us log J → AreOwn (J ++ e ∷ []) → Inv run whole us log (J ++ e ∷ [])
     inv-entered e i own = record {
       held = i.held;
       secrets = i.secrets;
       one = i.one;
       leaks = i.leaks;
       allowed = all-map (λ (at : Logged). IsAllowed us J at.node at.entry) (λ (at : Logged). IsAllowed us (J ++ e ∷ []) at.node at.entry)
-          (λ at a. allowed-grows us us J (J ++ e ∷ []) (stays us) (within-entered J (e ∷ [])) at.node at.entry a) log i.allowed;
+          (λ at a. allowed-grows us us J (J ++ e ∷ []) (stays us) (λ s g h. h) (within-entered J (e ∷ [])) at.node at.entry a) log i.allowed;
       own = own;
+      told = i.told;
     }
 
+  -- nothing else is said of what was saved: behind more of that all stays known
+  pub inv-saved : (us : Uses) (log : List Logged) (J : List Entry) (more : List (EntityType × Generation)) → Inv run whole us log J
+      → Inv (record run { saved = more ++ run.saved }) whole (record us { saved = more ++ us.saved }) log J
+  inv-saved us log J more i =
+      let vs : Uses = record us { saved = more ++ us.saved } in
+      record {
+        held = i.held;
+        secrets = i.secrets;
+        one = i.one;
+        leaks = i.leaks;
+        allowed = all-map (λ (at : Logged). IsAllowed us J at.node at.entry) (λ (at : Logged). IsAllowed vs J at.node at.entry)
+            (λ at a. allowed-grows us vs J J (grows-saved us (more ++ us.saved)) (λ s g h. some-right (λ (p : EntityType × Generation). (p.0 ≡ s) × (p.1.id ≡ g.id) × (p.1.key ≡ g.key)) more us.saved h)
+            (within-itself J) at.node at.entry a) log i.allowed;
+        own = i.own;
+        told = ap (λ (s : List (EntityType × Generation)). more ++ s) i.told;
+      }
+
   -- entries that are allowed, in order
-  pub inv-all : (us : Uses) (log : List Logged) (J : List Entry) (n : NodeName) (line : ℕ) (es : List SealEntry) → Inv leaked whole us log J
-      → AllByRecursion (IsAllowed us J n) es → Inv leaked whole us (behind n line es log) J
+  pub inv-all : (us : Uses) (log : List Logged) (J : List Entry) (n : NodeName) (line : ℕ) (es : List SealEntry) → Inv run whole us log J
+      → AllByRecursion (IsAllowed us J n) es → Inv run whole us (behind n line es log) J
   inv-all us log J n line [] i a = i
   inv-all us log J n line (e ∷ es) i a = inv-all us (logged n line e ∷ log) J n line es (inv-allowed us log J n line e i a.0) a.1

@@ -1,15 +1,28 @@
 -- What each key of a run is for, and what else is known of a run that stands in no state.
-use Rattle.std.proofs.Common.{◌≡◌, ℕ, List, [], ◌∷◌, ◌++◌, Option, Some, None, inr, refl, sym, ap, ◌∙◌, append_assoc}
+use Rattle.std.proofs.Common.{◌≡◌, ℕ, Bool, List, [], ◌∷◌, ◌++◌, Option, Some, None, inr, refl, sym, ap, ◌∙◌, append_assoc}
+use Rattle.std.specs.List.{AllByRecursion}
 use Rattle.cx_base.specs.Names.{Name}
 use Rattle.cx_base.specs.declared.kinds.EntityType.{EntityType}
 use Rattle.cx_base.specs.declared.kinds.EntityType.TheVariants.{Auth}
 use Rattle.cx_base.specs.declared.nodes.NodeName.{NodeName}
+use Rattle.cx_rotate.specs.declared.generations.Generation.{Generation}
 use Rattle.cx_steps.specs.Draws.{for_whom, key_of}
 use Rattle.cx_steps.specs.Onto.{SomeOf}
 use Rattle.cx_steps.specs.declared.seals.DrawMark.TheVariants as draw
 use Rattle.cx_steps.specs.declared.seals.Logged.{Logged}
 use Rattle.cx_steps.specs.declared.seals.SealEntry.{SealEntry}
 use Rattle.cx_steps.specs.declared.seals.SealEntry.TheVariants as entry
+
+-- what is fixed for a whole run: which clients leaked; of each service the generations that were ever saved, in whatever state; and whether links
+-- of guests come to daemons
+pub record WholeRun : Type 0 where
+  pub leaked : List Name
+  pub saved : List (EntityType × Generation)
+  pub guests : Bool
+
+-- the generation was saved as one of this service, with its id and its key
+abbrev pub IsSavedIn : List (EntityType × Generation) → EntityType → Generation → Type 0
+IsSavedIn saved service g = SomeOf (λ (p : EntityType × Generation). (p.0 ≡ service) × (p.1.id ≡ g.id) × (p.1.key ≡ g.key)) saved
 
 -- what ties the key of a link to the one that connects: at the monitor the challenge of its proof; at a daemon the service and the nonce of its
 -- authorizers
@@ -55,7 +68,7 @@ pub record Framed : Type 0 where
 
 -- what is known of a run and stands in no state, the newest first: what each key is for; what was drawn by whom; the frames of connectors, and those
 -- of acceptors; the cookie of the session that an acceptor took under a key; the nonce, and the place among the acceptor's frames, of each reply and
--- answer that was taken
+-- answer that was taken. And, of the whole run, the generations that were ever saved
 pub record Uses : Type 0 where
   pub keys : List (List ℕ × Use)
   pub mine : List Mine
@@ -63,10 +76,11 @@ pub record Uses : Type 0 where
   pub given : List Framed
   pub joins : List (List ℕ × ℕ)
   pub reads : List (ℕ × ℕ)
+  pub saved : List (EntityType × Generation)
 
--- nothing is known yet
-abbrev pub no_uses : Uses
-no_uses = record { keys = []; mine = []; frames = []; given = []; joins = []; reads = [] }
+-- nothing is known yet, but what was ever saved
+abbrev pub no_uses : List (EntityType × Generation) → Uses
+no_uses saved = record { keys = []; mine = []; frames = []; given = []; joins = []; reads = []; saved = saved }
 
 -- a key with what it is for
 abbrev pub with_key : Uses → List ℕ → Use → Uses
@@ -75,6 +89,10 @@ with_key us key u = record us { keys = (key, u) ∷ us.keys }
 -- this key is for this use
 abbrev pub Means : Uses → List ℕ → Use → Type 0
 Means us key u = SomeOf (λ (p : List ℕ × Use). (p.0 ≡ key) × (p.1 ≡ u)) us.keys
+
+-- the key of each of these generations of a service is for it
+abbrev pub AreGenerated : Uses → EntityType → List Generation → Type 0
+AreGenerated us service gs = AllByRecursion (λ (g : Generation). Means us g.key (Generated service g.id)) gs
 
 -- the second list is the first with more in front of it
 pub record Extends {X : Type 0} (xs ys : List X) : Type 0 where
@@ -126,6 +144,21 @@ grows-one us key u = record {
   joins = extends-itself us.joins;
   reads = extends-itself us.reads;
 }
+
+-- whatever is said of what was saved
+pub grows-saved : (us : Uses) (saved : List (EntityType × Generation)) → Grows us (record us { saved = saved })
+grows-saved us saved = record {
+  means = λ key u h. h;
+  mine = extends-itself us.mine;
+  frames = extends-itself us.frames;
+  given = extends-itself us.given;
+  joins = extends-itself us.joins;
+  reads = extends-itself us.reads;
+}
+
+-- what is known behind them, as that behind those of which something else was saved
+pub grows-from : (us vs : Uses) (saved : List (EntityType × Generation)) → Grows (record us { saved = saved }) vs → Grows us vs
+grows-from us vs saved f = record { means = f.means; mine = f.mine; frames = f.frames; given = f.given; joins = f.joins; reads = f.reads }
 
 -- the key is the one of a link to this entity
 pub record IsConnected (us : Uses) (key : List ℕ) (name : Name) : Type 0 where
