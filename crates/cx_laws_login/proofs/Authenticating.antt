@@ -51,7 +51,7 @@ use Rattle.cx_laws_keys.proofs.Journal.{After, EntryLaw, Reached, after-then, en
 use Rattle.cx_laws_keys.proofs.Known.{IsOfAcceptor, Inv}
 use Rattle.cx_laws_keys.proofs.Premises.{AreGranted, behind, behind-append, granted-first, granted-rest, logged}
 use Rattle.cx_laws_keys.proofs.Steps.{inv-all, inv-allowed}
-use Rattle.cx_laws_keys.proofs.Uses.{AtMonitor, Generated, Grows, IsConnected, Login, Means, Secret, Uses, grows-then, stays}
+use Rattle.cx_laws_keys.proofs.Uses.{AtMonitor, Generated, Grows, IsConnected, Login, Means, Secret, Uses, grows-then, stays, WholeRun}
 use Rattle.cx_laws_login.proofs.Entering.{login-entered}
 use Rattle.cx_laws_login.proofs.Facts.{AreBelow, IsSameWay, bearer-moves, OfferOk, OwnOk, own-grows, Owner, BearerOk, Keeps, keeps-with, owner_with, with-gid}
 use Rattle.cx_laws_login.proofs.Generations.{StateOk, rotates_all}
@@ -67,22 +67,22 @@ use Rattle.cx_journal.specs.declared.entries.Issued.{Issued}
 use Rattle.cx_rules.specs.declared.verdicts.HandedOut.{HandedOut}
 use Rattle.cx_journal.specs.declared.entries.Entry.TheVariants as journal
 
-module _ (leaked : List Name) (whole_log : List Logged) (n : NodeName) (line : ℕ) (before : KeptState) (owner : Owner) (us : Uses) (log : List Logged) (J : List Entry) where
+module _ (run : WholeRun) (whole_log : List Logged) (n : NodeName) (line : ℕ) (before : KeptState) (owner : Owner) (us : Uses) (log : List Logged) (J : List Entry) where
   abbrev pub AfterMonitor : MonitorRow → Type 0
-  AfterMonitor row = AfterRow (monitor_says before owner) leaked whole_log n line us log J row
+  AfterMonitor row = AfterRow (monitor_says before owner) run whole_log n line us log J row
 
   abbrev Granted_ : List SealEntry → Type 0
-  Granted_ es = AreGranted leaked whole_log n line log es
+  Granted_ es = AreGranted run.leaked whole_log n line log es
 
   -- what is reached behind what was logged so far, once that is granted
   abbrev First : List SealEntry → (Uses → Type 0) → Type 0
-  First seals F = Granted_ seals → Reached leaked whole_log n line us log J seals F
+  First seals F = Granted_ seals → Reached run whole_log n line us log J seals F
 
   pub refused : (a : MonitorArrival) (why : LoginFault) (seals : List SealEntry) (F : Uses → Type 0) → First seals F → ((vs : Uses) → F vs → OwnOk before owner vs J a.own)
       → Granted_ seals → AfterMonitor (denies a 13 why seals)
   refused a why seals F first own g =
       let r = first g in
-      after-refuses (monitor_says before owner) leaked whole_log n line us log J a (denies a 13 why seals) F ((tt, tt), tt) refl r (own r.uses r.facts)
+      after-refuses (monitor_says before owner) run whole_log n line us log J a (denies a 13 why seals) F ((tt, tt), tt) refl r (own r.uses r.facts)
 
   -- ---- what is handed out
 
@@ -157,18 +157,18 @@ module _ (leaked : List Name) (whole_log : List Logged) (n : NodeName) (line : �
 
   -- behind all that is sealed but the parts of AUTH_SIGNATURE
   finishing : (a : MonitorArrival) (name : Name) (gid : ℕ) (done : Finished) (vs ws : Uses) (log1 : List Logged) (all : List SealEntry) (js : List Entry) → Finishes a name done → Grows vs ws
-      → Inv leaked whole_log ws (behind n line all log1) (entered J js) → EachBehind EntryLaw J js → OwnOk before owner ws J a.own → AreBelow (entered J js) a.own.server.state.next_gid
+      → Inv run whole_log ws (behind n line all log1) (entered J js) → EachBehind (EntryLaw run.guests) J js → OwnOk before owner ws J a.own → AreBelow (entered J js) a.own.server.state.next_gid
       → ((s : Issued) → Contains (entered J js) (journal.Issued s) → owner s.gid ≡ Some s.entity) → name_form.Fits name → owner gid ≡ Some name
       → length a.draw ≡ 384 → Means ws (session_of Auth a.draw) (Login name) → IsConnected ws (take 16 (connection_of a.draw)) name
-      → After leaked whole_log n line vs log1 J (all ++ done.seals) js (HandedOk a name gid done.secured.keys)
+      → After run whole_log n line vs log1 J (all ++ done.seals) js (HandedOk a name gid done.secured.keys)
   finishing a name gid done vs ws log1 all js fin grows i laws own below owned named owns drawn session connection =
       let K : List Entry = entered J js in
       let f = fin ws K session connection in
-      let inv : Inv leaked whole_log ws (behind n line done.seals (behind n line all log1)) K = inv-all leaked whole_log ws (behind n line all log1) K n line done.seals i f.0 in
+      let inv : Inv run whole_log ws (behind n line done.seals (behind n line all log1)) K = inv-all run whole_log ws (behind n line all log1) K n line done.seals i f.0 in
       record {
         uses = ws;
         grows = grows;
-        inv = subst (λ (l : List Logged). Inv leaked whole_log ws l K) (sym (behind-append n line all done.seals log1)) inv;
+        inv = subst (λ (l : List Logged). Inv run whole_log ws l K) (sym (behind-append n line all done.seals log1)) inv;
         laws = laws;
         good = record {
           own = saved-own a ws K own below owned;
@@ -185,9 +185,9 @@ module _ (leaked : List Name) (whole_log : List Logged) (n : NodeName) (line : �
 
   -- behind the proof, the rotation and the old ticket
   handed_behind : (a : MonitorArrival) (client : ℕ) (name : Name) (gid : ℕ) (secret : List ℕ) (t : Ticket) (ts : List Ticket) (done : Finished) (vs : Uses) (log1 : List Logged)
-      → name_form.Fits name → length a.draw ≡ 384 → FirstOk name gid a.reading a.draw t ts → AllByRecursion (IsOfCurrent a.own.server) (t ∷ ts) → HandsOk a name gid secret vs → Inv leaked whole_log vs log1 J → Finishes a name done
-      → AreGranted leaked whole_log n line log1 ((told_seals a secret (t ∷ ts) ++ last_seals a name) ++ done.seals)
-      → After leaked whole_log n line vs log1 J ((told_seals a secret (t ∷ ts) ++ last_seals a name) ++ done.seals)
+      → name_form.Fits name → length a.draw ≡ 384 → FirstOk name gid a.reading a.draw t ts → AllByRecursion (IsOfCurrent a.own.server) (t ∷ ts) → HandsOk a name gid secret vs → Inv run whole_log vs log1 J → Finishes a name done
+      → AreGranted run.leaked whole_log n line log1 ((told_seals a secret (t ∷ ts) ++ last_seals a name) ++ done.seals)
+      → After run whole_log n line vs log1 J ((told_seals a secret (t ∷ ts) ++ last_seals a name) ++ done.seals)
       (login_entries (changed a.own.saved a.own.server.state) (t ∷ ts)) (HandedOk a name gid done.secured.keys)
   handed_behind a client name gid secret t ts done vs log1 named drawn ok under h i fin g =
       let state : KeptState = a.own.server.state in
@@ -201,15 +201,15 @@ module _ (leaked : List Name) (whole_log : List Logged) (n : NodeName) (line : �
       let below : AreBelow J state.next_gid = λ s has. let b : s.gid < a.own.saved.next_gid = h.own.below s has in omega arith in
       let js : List Entry = login_entries (changed a.own.saved state) (t ∷ ts) in
       let K : List Entry = entered J js in
-      let e = login-entered leaked whole_log vs log1 name gid a.reading a.draw state.next_gid owner h.owns J (changed a.own.saved state) t ts ok low h.given i below h.own.owned in
-      let g3 = granted-first leaked whole_log n line log1 (told ++ last) done.seals g in
-      let s1 = tickets-sealed leaked whole_log n line a.own.server secret session name gid a.reading a.draw K named wide drawn vs log1 t ts e.numbered.inv ok.first ok.auth refl ok.others under e.has
-      (record { generated = h.own.present.generated; told = h.told }) (granted-first leaked whole_log n line log1 told last g3) in
-      let s2 = connection-sealed leaked whole_log n line a.own.server secret session name gid a.reading a.draw K named wide drawn s1.uses (behind n line told log1) a.link.number (AtMonitor client) s1.inv s1.facts
-      (granted-rest leaked whole_log n line log1 told last g3) in
+      let e = login-entered run whole_log vs log1 name gid a.reading a.draw state.next_gid owner h.owns J (changed a.own.saved state) t ts ok low h.given i below h.own.owned in
+      let g3 = granted-first run.leaked whole_log n line log1 (told ++ last) done.seals g in
+      let s1 = tickets-sealed run whole_log n line a.own.server secret session name gid a.reading a.draw K named wide drawn vs log1 t ts e.numbered.inv ok.first ok.auth refl ok.others under e.has
+      (record { generated = h.own.present.generated; told = h.told }) (granted-first run.leaked whole_log n line log1 told last g3) in
+      let s2 = connection-sealed run whole_log n line a.own.server secret session name gid a.reading a.draw K named wide drawn s1.uses (behind n line told log1) a.link.number (AtMonitor client) s1.inv s1.facts
+      (granted-rest run.leaked whole_log n line log1 told last g3) in
       let grows = grows-then vs s1.uses s2.uses s1.grows s2.grows in
-      let inv : Inv leaked whole_log s2.uses (behind n line (told ++ last) log1) K =
-      subst (λ (l : List Logged). Inv leaked whole_log s2.uses l K) (sym (behind-append n line told last log1)) s2.inv in
+      let inv : Inv run whole_log s2.uses (behind n line (told ++ last) log1) K =
+      subst (λ (l : List Logged). Inv run whole_log s2.uses l K) (sym (behind-append n line told last log1)) s2.inv in
       finishing a name gid done vs s2.uses log1 (told ++ last) js fin grows inv e.laws (own-grows before owner vs s2.uses J a.own grows h.own) e.numbered.below e.numbered.owned h.named h.owns drawn
       s2.facts.session s2.facts.connection
 
@@ -221,15 +221,15 @@ module _ (leaked : List Name) (whole_log : List Logged) (n : NodeName) (line : �
       → AfterMonitor (hands_over a (handed_out (occasion a) a.own.server e secret (t ∷ ts)) r)
   handed a client e secret t ts (Err why) named drawn ok under first fin g =
       let r = first g in
-      after-refuses (monitor_says before owner) leaked whole_log n line us log J a (refuses_bytes a why e.seals) (HandsOk a e.name e.gid secret) ((tt, tt), tt) refl r r.facts.own
+      after-refuses (monitor_says before owner) run whole_log n line us log J a (refuses_bytes a why e.seals) (HandsOk a e.name e.gid secret) ((tt, tt), tt) refl r r.facts.own
   handed a client e secret t ts (Ok done) named drawn ok under first fin g =
       let name : Name = e.name in
       let all : List SealEntry = told_seals a secret (t ∷ ts) ++ last_seals a name in
       let js : List Entry = login_entries (changed a.own.saved a.own.server.state) (t ∷ ts) in
-      let r1 = first (granted-first leaked whole_log n line log e.seals (all ++ done.seals) g) in
-      let rest = granted-rest leaked whole_log n line log e.seals (all ++ done.seals) g in
+      let r1 = first (granted-first run.leaked whole_log n line log e.seals (all ++ done.seals) g) in
+      let rest = granted-rest run.leaked whole_log n line log e.seals (all ++ done.seals) g in
       let h = handed_behind a client name e.gid secret t ts done r1.uses (behind n line e.seals log) named drawn ok under r1.facts r1.inv (fin done refl) rest in
-      let whole_step = after-then leaked whole_log n line us log J e.seals (all ++ done.seals) js (HandsOk a name e.gid secret) (HandedOk a name e.gid done.secured.keys) r1 h in
+      let whole_step = after-then run whole_log n line us log J e.seals (all ++ done.seals) js (HandsOk a name e.gid secret) (HandedOk a name e.gid done.secured.keys) r1 h in
       record {
         uses = whole_step.uses;
         grows = whole_step.grows;
@@ -290,30 +290,30 @@ module _ (leaked : List Name) (whole_log : List Logged) (n : NodeName) (line : �
 -- ---- whose the global id becomes
 
 -- behind a row of a login: whose the global ids are then, and what is so
-pub record AfterLogin (leaked : List Name) (whole_log : List Logged) (n : NodeName) (line : ℕ) (before : KeptState) (owner : Owner) (us : Uses) (log : List Logged) (J : List Entry)
+pub record AfterLogin (run : WholeRun) (whole_log : List Logged) (n : NodeName) (line : ℕ) (before : KeptState) (owner : Owner) (us : Uses) (log : List Logged) (J : List Entry)
     (row : MonitorRow) : Type 0 where
   pub later : Owner
   pub keeps : Keeps owner later
-  pub after : AfterMonitor leaked whole_log n line before later us log J row
+  pub after : AfterMonitor run whole_log n line before later us log J row
 
-module _ (leaked : List Name) (whole_log : List Logged) (n : NodeName) (line : ℕ) (before : KeptState) (owner : Owner) (us : Uses) (log : List Logged) (J : List Entry) where
+module _ (run : WholeRun) (whole_log : List Logged) (n : NodeName) (line : ℕ) (before : KeptState) (owner : Owner) (us : Uses) (log : List Logged) (J : List Entry) where
   abbrev Grants : List SealEntry → Type 0
-  Grants es = AreGranted leaked whole_log n line log es
+  Grants es = AreGranted run.leaked whole_log n line log es
 
   abbrev Begins : List SealEntry → (Uses → Type 0) → Type 0
-  Begins seals F = Grants seals → Reached leaked whole_log n line us log J seals F
+  Begins seals F = Grants seals → Reached run whole_log n line us log J seals F
 
   abbrev Becomes : MonitorRow → Type 0
-  Becomes row = AfterLogin leaked whole_log n line before owner us log J row
+  Becomes row = AfterLogin run whole_log n line before owner us log J row
 
   -- by the owners of before
-  stays-owned : (row : MonitorRow) → AfterMonitor leaked whole_log n line before owner us log J row → Becomes row
+  stays-owned : (row : MonitorRow) → AfterMonitor run whole_log n line before owner us log J row → Becomes row
   stays-owned row h = record { later = owner; keeps = λ x m is. is; after = h }
 
   -- what was logged first was granted
   handed-first : (a : MonitorArrival) (h : HandedOut) (done : Result Finished BytesFault) → Grants (hands_over a h done).seals → Grants h.seals
   handed-first a h (Err why) g = g
-  handed-first a h (Ok done) g = granted-first leaked whole_log n line log h.seals (h.sealed ++ done.seals) g
+  handed-first a h (Ok done) g = granted-first run.leaked whole_log n line log h.seals (h.sealed ++ done.seals) g
 
   verdict-first : (a : MonitorArrival) (at : Occasion) (server : Server) (e : Entrant) (own : List ℕ) (tickets : Result (List Ticket) LoginFault)
       → Grants (row_of a (issues at server e own tickets)).seals → Grants e.seals
@@ -330,16 +330,16 @@ module _ (leaked : List Name) (whole_log : List Logged) (n : NodeName) (line : �
       → Begins seals (λ vs. OwnOk before owner vs J a.own × NumbersOk before owner vs J a.own proven.offer.name a.reading r)
       → Grants (row_of a (numbers (occasion a) a.own.server proven seals r)).seals → Becomes (row_of a (numbers (occasion a) a.own.server proven seals r))
   numbers-after a proven seals (Err why) named drawn first g =
-      stays-owned (denies a 13 why seals) (refused leaked whole_log n line before owner us log J a why seals (λ vs. OwnOk before owner vs J a.own × Unit {0}) first (λ vs h. h.0) g)
+      stays-owned (denies a 13 why seals) (refused run whole_log n line before owner us log J a why seals (λ vs. OwnOk before owner vs J a.own × Unit {0}) first (λ vs h. h.0) g)
   numbers-after a proven seals (Ok m) named drawn first g =
       let name : Name = proven.offer.name in
       let e : Entrant = entrant name m.gid proven.ask.other_keys seals in
       let later : Owner = owner_with owner m.gid name in
-      let r = first (issues-first a (occasion a) m.server e (key_in leaked whole_log n line before owner us log J (find (is_named name) m.server.ring)) g) in
+      let r = first (issues-first a (occasion a) m.server e (key_in run whole_log n line before owner us log J (find (is_named name) m.server.ring)) g) in
       record {
         later = later;
         keeps = keeps-with owner m.gid name r.facts.1.free;
-        after = issues_to-after leaked whole_log n line before later us log J (with_server a m.server) proven.ask.client_challenge e (find (is_named name) m.server.ring) refl named drawn
+        after = issues_to-after run whole_log n line before later us log J (with_server a m.server) proven.ask.client_challenge e (find (is_named name) m.server.ring) refl named drawn
             (with-gid owner m.gid name) more g;
       }
     where
@@ -349,17 +349,17 @@ module _ (leaked : List Name) (whole_log : List Logged) (n : NodeName) (line : �
   -- ---- the proof, the rotation and the old ticket
 
   -- the old ticket, under a generation of AUTH
-  old-reached : (vs : Uses) (log1 : List Logged) (gs : List Generation) (key : Option (List ℕ)) (blob : List ℕ) → Inv leaked whole_log vs log1 J
-      → ((k : List ℕ) → key ≡ Some k → (id : ℕ) × Means vs k (Generated Auth id)) → AreGranted leaked whole_log n line log1 (old_under key blob).seals
-      → Inv leaked whole_log vs (behind n line (old_under key blob).seals log1) J × ((x : ServiceTicket) → (old_under key blob).value ≡ Some x → HadTicket J x)
+  old-reached : (vs : Uses) (log1 : List Logged) (gs : List Generation) (key : Option (List ℕ)) (blob : List ℕ) → Inv run whole_log vs log1 J
+      → ((k : List ℕ) → key ≡ Some k → (id : ℕ) × Means vs k (Generated Auth id)) → AreGranted run.leaked whole_log n line log1 (old_under key blob).seals
+      → Inv run whole_log vs (behind n line (old_under key blob).seals log1) J × ((x : ServiceTicket) → (old_under key blob).value ≡ Some x → HadTicket J x)
   old-reached vs log1 gs None blob i means g = (i, λ x e. absurd cc)
   old-reached vs log1 gs (Some key) blob i means g =
       let m = means key refl in
       let form = service_ticket_layout.form in (
-        inv-all leaked whole_log vs log1 J n line (old_under (Some key) blob).seals i (unlocked-allowed leaked whole_log n line vs log1 J form kind.Auth key blob),
+        inv-all run whole_log vs log1 J n line (old_under (Some key) blob).seals i (unlocked-allowed run whole_log n line vs log1 J form kind.Auth key blob),
         λ x e.
-            let s = unlocked_says leaked whole_log n line vs log1 J form kind.Auth key blob (Generated Auth m.0) i m.1
-            (generation-free leaked whole_log n line vs log1 J key Auth m.0 i m.1) g x e in
+            let s = unlocked_says run whole_log n line vs log1 J form kind.Auth key blob (Generated Auth m.0) i m.1
+            (generation-free run whole_log n line vs log1 J key Auth m.0 i m.1) g x e in
             (m.0, key, s.0, (s.2 x s.1).0),
       )
 
@@ -381,7 +381,7 @@ module _ (leaked : List Name) (whole_log : List Logged) (n : NodeName) (line : �
         unowned = more.unowned;
       }
 
-  rotates-after : (a : MonitorArrival) (hello_gid : ℕ) (proven : Proven) → Inv leaked whole_log us log J → OwnOk before owner us J a.own → name_form.Fits proven.offer.name → length a.draw ≡ 384
+  rotates-after : (a : MonitorArrival) (hello_gid : ℕ) (proven : Proven) → Inv run whole_log us log J → OwnOk before owner us J a.own → name_form.Fits proven.offer.name → length a.draw ≡ 384
       → Grants (row_of a (rotates (occasion a) a.own.server hello_gid proven)).seals → Becomes (row_of a (rotates (occasion a) a.own.server hello_gid proven))
   rotates-after a hello_gid proven i ok named drawn g =
       numbers-after (with_server a (rotated_server a.reading a.draw a.own.server)) proven
@@ -405,21 +405,21 @@ module _ (leaked : List Name) (whole_log : List Logged) (n : NodeName) (line : �
           let key : Option (List ℕ) = generation_key gs ticket.generation in
           let opened : List SealEntry = (old_under key ticket.blob).seals in
           let log1 : List Logged = logged n line proof ∷ log in
-          let i1 : Inv leaked whole_log us log1 J = inv-allowed leaked whole_log us log J n line proof i tt in
-          let r = rotates_all leaked whole_log n line J a.reading a.draw a.own.server.state us log1 i1 ok.present (granted-first leaked whole_log n line log1 rotation opened granted.1) in
+          let i1 : Inv run whole_log us log1 J = inv-allowed run whole_log us log J n line proof i tt in
+          let r = rotates_all run whole_log n line J a.reading a.draw a.own.server.state us log1 drawn i1 ok.present (granted-first run.leaked whole_log n line log1 rotation opened granted.1) in
           let o = old-reached r.uses (behind n line rotation log1) gs key ticket.blob r.inv
-          (λ k is. generation_means r.uses Auth gs ticket.generation k (r.facts.generated Auth) is) (granted-rest leaked whole_log n line log1 rotation opened granted.1) in
+          (λ k is. generation_means r.uses Auth gs ticket.generation k (r.facts.generated Auth) is) (granted-rest run.leaked whole_log n line log1 rotation opened granted.1) in
           let own : OwnOk before owner r.uses J (rotated_own a) = own-rotated a r.uses r.grows ok r.facts in
-          let until : Reached leaked whole_log n line us log J (proof ∷ rotation) (λ vs. StateOk vs (rotated_state a.reading a.draw a.own.server.state)) =
+          let until : Reached run whole_log n line us log J (proof ∷ rotation) (λ vs. StateOk vs (rotated_state a.reading a.draw a.own.server.state)) =
           record { uses = r.uses; grows = r.grows; inv = r.inv; facts = r.facts } in
-          reached-then leaked whole_log n line us log J (proof ∷ rotation) opened (λ vs. StateOk vs (rotated_state a.reading a.draw a.own.server.state)) _ until (record {
+          reached-then run whole_log n line us log J (proof ∷ rotation) opened (λ vs. StateOk vs (rotated_state a.reading a.draw a.own.server.state)) _ until (record {
             uses = r.uses;
             grows = stays r.uses;
             inv = o.0;
             facts = (own, numbered-ok before owner r.uses J (rotated_own a) proven.offer.name a.reading hello_gid proven.ask.version (old_under key ticket.blob).value own r.inv.own o.1);
           })
 
-  proves-after : (a : MonitorArrival) (hello_gid : ℕ) (offer : Offer) (ask : Authenticate) → Inv leaked whole_log us log J → OwnOk before owner us J a.own → OfferOk us offer → length a.draw ≡ 384
+  proves-after : (a : MonitorArrival) (hello_gid : ℕ) (offer : Offer) (ask : Authenticate) → Inv run whole_log us log J → OwnOk before owner us J a.own → OfferOk us offer → length a.draw ≡ 384
       → Grants (proves a hello_gid (proving offer ask)).seals → Becomes (proves a hello_gid (proving offer ask))
   proves-after a hello_gid offer ask i ok o drawn g = by_test (due_proof offer.secret offer.challenge ask.client_challenge == ask.key) g
     where
@@ -428,16 +428,16 @@ module _ (leaked : List Name) (whole_log : List Logged) (n : NodeName) (line : �
           → Becomes (proves a hello_gid (if t then Ok (record { offer = offer; ask = ask }) else Err (record { expected = due_proof offer.secret offer.challenge ask.client_challenge; got = ask.key })))
       by_test true g = rotates-after a hello_gid (record { offer = offer; ask = ask }) i ok o.named drawn g
       by_test false g =
-          stays-owned (denies a 13 login.WrongProof []) (after-simple (monitor_says before owner) leaked whole_log n line us log J (denies a 13 login.WrongProof []) i (simple-denies before owner us J n a 13 login.WrongProof [] ok tt))
+          stays-owned (denies a 13 login.WrongProof []) (after-simple (monitor_says before owner) run whole_log n line us log J (denies a 13 login.WrongProof []) i (simple-denies before owner us J n a 13 login.WrongProof [] ok tt))
 
-  authenticate-after : (a : MonitorArrival) (offered : Offered) (ask : Result Authenticate BytesFault) → Inv leaked whole_log us log J → OwnOk before owner us J a.own → OfferOk us offered.offer
+  authenticate-after : (a : MonitorArrival) (offered : Offered) (ask : Result Authenticate BytesFault) → Inv run whole_log us log J → OwnOk before owner us J a.own → OfferOk us offered.offer
       → length a.draw ≡ 384 → Grants (on_authenticate a offered ask).seals → Becomes (on_authenticate a offered ask)
   authenticate-after a offered (Err why) i ok o drawn g =
-      stays-owned (refuses_bytes a why []) (after-simple (monitor_says before owner) leaked whole_log n line us log J (refuses_bytes a why []) i (simple-refuses_bytes (monitor_says before owner) us J n a why [] ok tt))
+      stays-owned (refuses_bytes a why []) (after-simple (monitor_says before owner) run whole_log n line us log J (refuses_bytes a why []) i (simple-refuses_bytes (monitor_says before owner) us J n a why [] ok tt))
   authenticate-after a offered (Ok ask) i ok o drawn g = proves-after a offered.gid offered.offer ask i ok o drawn g
 
-  pub request_more-after : (a : MonitorArrival) (offered : Offered) (more : Result AuthRequestMore BytesFault) → Inv leaked whole_log us log J → OwnOk before owner us J a.own
+  pub request_more-after : (a : MonitorArrival) (offered : Offered) (more : Result AuthRequestMore BytesFault) → Inv run whole_log us log J → OwnOk before owner us J a.own
       → OfferOk us offered.offer → length a.draw ≡ 384 → Grants (on_auth_request_more a offered more).seals → Becomes (on_auth_request_more a offered more)
   request_more-after a offered (Err why) i ok o drawn g =
-      stays-owned (refuses_bytes a why []) (after-simple (monitor_says before owner) leaked whole_log n line us log J (refuses_bytes a why []) i (simple-refuses_bytes (monitor_says before owner) us J n a why [] ok tt))
+      stays-owned (refuses_bytes a why []) (after-simple (monitor_says before owner) run whole_log n line us log J (refuses_bytes a why []) i (simple-refuses_bytes (monitor_says before owner) us J n a why [] ok tt))
   request_more-after a offered (Ok more) i ok o drawn g = authenticate-after a offered (whole authenticate_layout.form more.payload) i ok o drawn g

@@ -15,10 +15,10 @@ use Rattle.cx_rotate.specs.declared.states.KeptState.{KeptState}
 use Rattle.cx_rules.specs.Verdicts.{login_entries}
 use Rattle.cx_rules.specs.Tickets.{issued_entry}
 use Rattle.cx_steps.specs.declared.seals.Logged.{Logged}
-use Rattle.cx_laws_keys.proofs.Journal.{EntryLaw, IsOf, entered, has-before, has-issued, own-issued, own-other}
+use Rattle.cx_laws_keys.proofs.Journal.{EntryLaw, login-law, IsOf, entered, has-before, has-issued, own-issued, own-other}
 use Rattle.cx_laws_keys.proofs.Known.{Inv, Within}
 use Rattle.cx_laws_keys.proofs.Steps.{inv-entered}
-use Rattle.cx_laws_keys.proofs.Uses.{Uses}
+use Rattle.cx_laws_keys.proofs.Uses.{Uses, WholeRun}
 use Rattle.cx_laws_login.proofs.Facts.{AreBelow, Owner}
 use Rattle.cx_laws_login.proofs.Issuing.{FirstOk, IsOther, TicketOk}
 use Rattle.cx_laws_login.proofs.Keeping.{IsGiven, IsLive}
@@ -40,13 +40,13 @@ pub within-all : (K : List Entry) (js : List Entry) → Within K (entered K js)
 within-all K [] = record { has = λ e h. h }
 within-all K (j ∷ js) = record { has = λ e h. (within-all (K ++ j ∷ []) js).has e (Contains-append_left K (j ∷ []) e h) }
 
-module _ (leaked : List Name) (whole : List Logged) (us : Uses) (log : List Logged) (name : Name) (gid reading : ℕ) (block : List ℕ) (mark : ℕ) (owner : Owner) (owns : owner gid ≡ Some name) where
+module _ (run : WholeRun) (whole : List Logged) (us : Uses) (log : List Logged) (name : Name) (gid reading : ℕ) (block : List ℕ) (mark : ℕ) (owner : Owner) (owns : owner gid ≡ Some name) where
   abbrev Others : List Ticket → Type 0
   Others ts = AllByRecursion (IsOther name gid reading block) ts
 
   -- what is known of a journal while the tickets are entered
   pub record IsNumbered (K : List Entry) : Type 0 where
-    pub inv : Inv leaked whole us log K
+    pub inv : Inv run whole us log K
     pub of : IsOf K name gid
     pub below : AreBelow K mark
     pub owned : (s : Issued) → Contains K (journal.Issued s) → owner s.gid ≡ Some s.entity
@@ -54,7 +54,7 @@ module _ (leaked : List Name) (whole : List Logged) (us : Uses) (log : List Logg
   -- an entry that issues nothing
   saved-numbered : (K : List Entry) (next : ℕ) → IsNumbered K → IsNumbered (K ++ journal.Saved next ∷ [])
   saved-numbered K next h = record {
-    inv = inv-entered leaked whole us log K (journal.Saved next) h.inv (own-other K (journal.Saved next) tt h.inv.own);
+    inv = inv-entered run whole us log K (journal.Saved next) h.inv (own-other K (journal.Saved next) tt h.inv.own);
     of = λ s has same. h.of s (has-before K (journal.Saved next) tt s has) same;
     below = λ s has. h.below s (has-before K (journal.Saved next) tt s has);
     owned = λ s has. h.owned s (has-before K (journal.Saved next) tt s has);
@@ -63,7 +63,7 @@ module _ (leaked : List Name) (whole : List Logged) (us : Uses) (log : List Logg
   -- a ticket of this entity under this global id
   issued-numbered : (K : List Entry) (t : Ticket) → TicketOk name gid reading block t → gid < mark → IsNumbered K → IsNumbered (K ++ issued_entry t ∷ [])
   issued-numbered K t ok low h = record {
-    inv = inv-entered leaked whole us log K (issued_entry t) h.inv
+    inv = inv-entered run whole us log K (issued_entry t) h.inv
         (own-issued K (issued_of t) (λ s has same. h.of s has (same ∙ ok.gid_is) ∙ sym ok.entity) h.inv.own);
     of = λ s has same. of_place s same (has-issued K (issued_of t) s has);
     below = λ s has. below_place s (has-issued K (issued_of t) s has);
@@ -85,8 +85,8 @@ module _ (leaked : List Name) (whole : List Logged) (us : Uses) (log : List Logg
 
   -- its law
   issued-law : (K : List Entry) (t : Ticket) → TicketOk name gid reading block t → IsOf K name gid
-      → (t.service ≡ Auth → (s : Issued) → Contains K (journal.Issued s) → s.gid ≡ gid → IsLive K name gid reading) → EntryLaw K (issued_entry t)
-  issued-law K t ok of live = record { login = tt; gid_once = shares }
+      → (t.service ≡ Auth → (s : Issued) → Contains K (journal.Issued s) → s.gid ≡ gid → IsLive K name gid reading) → EntryLaw run.guests K (issued_entry t)
+  issued-law K t ok of live = login-law run.guests K (issued_entry t) tt shares
     where
       renews : IsLive K name gid reading → Renews K (issued_of t)
       renews l =
@@ -107,7 +107,7 @@ module _ (leaked : List Name) (whole : List Logged) (us : Uses) (log : List Logg
   -- behind some tickets
   pub record AreEntered (K : List Entry) (js : List Entry) (ts : List Ticket) : Type 0 where
     pub numbered : IsNumbered (entered K js)
-    pub laws : EachBehind EntryLaw K js
+    pub laws : EachBehind (EntryLaw run.guests) K js
     pub has : AllByRecursion (λ (t : Ticket). Contains (entered K js) (issued_entry t)) ts
 
   others-entered : (K : List Entry) (ts : List Ticket) → Others ts → gid < mark → IsNumbered K → AreEntered K (map issued_entry ts) ts
@@ -146,22 +146,22 @@ module _ (leaked : List Name) (whole : List Logged) (us : Uses) (log : List Logg
   AreOwned K = (s : Issued) → Contains K (journal.Issued s) → owner s.gid ≡ Some s.entity
 
   -- all that a renewal enters
-  pub renewal-entered : (J : List Entry) (save : Option KeptState) (ts : List Ticket) → Others ts → gid < mark → IsOf J name gid → Inv leaked whole us log J → AreBelow J mark
+  pub renewal-entered : (J : List Entry) (save : Option KeptState) (ts : List Ticket) → Others ts → gid < mark → IsOf J name gid → Inv run whole us log J → AreBelow J mark
       → AreOwned J → AreEntered J (login_entries save ts) ts
   renewal-entered J None ts others low of i below owned = others-entered J ts others low (record { inv = i; of = of; below = below; owned = owned })
   renewal-entered J (Some state) ts others low of i below owned =
       let K : List Entry = J ++ journal.Saved state.next_gid ∷ [] in
       let first : IsNumbered K = saved-numbered J state.next_gid (record { inv = i; of = of; below = below; owned = owned }) in
       let more = others-entered K ts others low first in
-      record { numbered = more.numbered; laws = (record { login = tt; gid_once = tt }, more.laws); has = more.has }
+      record { numbered = more.numbered; laws = (login-law run.guests J (journal.Saved state.next_gid) tt tt, more.laws); has = more.has }
 
   -- all that a login enters
   pub login-entered : (J : List Entry) (save : Option KeptState) (t : Ticket) (ts : List Ticket) → FirstOk name gid reading block t ts → gid < mark
-      → IsGiven J name gid reading → Inv leaked whole us log J → AreBelow J mark → AreOwned J → AreEntered J (login_entries save (t ∷ ts)) (t ∷ ts)
+      → IsGiven J name gid reading → Inv run whole us log J → AreBelow J mark → AreOwned J → AreEntered J (login_entries save (t ∷ ts)) (t ∷ ts)
   login-entered J None t ts ok low given i below owned = tickets-entered J t ts ok low given.renews (record { inv = i; of = given.of; below = below; owned = owned })
   login-entered J (Some state) t ts ok low given i below owned =
       let K : List Entry = J ++ journal.Saved state.next_gid ∷ [] in
       let first : IsNumbered K = saved-numbered J state.next_gid (record { inv = i; of = given.of; below = below; owned = owned }) in
       let more = tickets-entered K t ts ok low
       (λ s has same. live-saved J state.next_gid (given.renews s (has-before J (journal.Saved state.next_gid) tt s has) same)) first in
-      record { numbered = more.numbered; laws = (record { login = tt; gid_once = tt }, more.laws); has = more.has }
+      record { numbered = more.numbered; laws = (login-law run.guests J (journal.Saved state.next_gid) tt tt, more.laws); has = more.has }

@@ -19,14 +19,14 @@ use Rattle.cx_rules.specs.Monitor.{Monitor, MonitorStage}
 use Rattle.cx_steps.specs.Premises.{is_server}
 use Rattle.cx_laws_keys.proofs.Journal.{IsNotIssued, has-before, IsOf}
 use Rattle.cx_rules.specs.Secured.{Keys}
-use Rattle.cx_laws_keys.proofs.Known.{IsOfAcceptor, IsOfConnector}
+use Rattle.cx_laws_keys.proofs.Known.{IsOfAcceptor, IsOfConnector, generated-grow}
 use Rattle.cx_laws_keys.proofs.Lists.{all-map}
-use Rattle.cx_laws_keys.proofs.Uses.{Grows, IsConnected, Means, Secret, Uses, connected-grows, Login}
+use Rattle.cx_laws_keys.proofs.Uses.{Grows, IsConnected, Means, Secret, Uses, connected-grows, Login, AreGenerated, IsSavedIn, WholeRun}
 use Rattle.cx_laws_login.proofs.Generations.{StateOk, state-grows}
 use Rattle.cx_rules.specs.declared.responses.Bearer.{Bearer}
-use Rattle.cx_rules.specs.Requests.{Requests}
-use Rattle.cx_rules.specs.declared.requests.Waiting.{Waiting}
-use Rattle.cx_rules.specs.declared.requests.Want.TheVariants as want
+use Rattle.cx_rotate.specs.declared.generations.Generation.{Generation}
+use Rattle.cx_rotate.specs.declared.views.View.{View}
+use Rattle.cx_base.specs.declared.kinds.EntityType.{EntityType}
 
 -- ---- the monitor
 
@@ -257,17 +257,37 @@ none-added : (J : List Entry) (e : Entry) → IsNotIssued e → tickets_in (J ++
 unfolding tickets_in
 none-added J e h = let none : one_if_issued e ≡ 0 = none-more e h in omega (arith, tickets-append J (e ∷ []))
 
--- it is no server, it has its own secret, and its steps issue nothing: all that is issued was so in the journal at first
-pub record AskerOk (first : List Entry) (us : Uses) (J : List Entry) (asker : Asker) : Type 0 where
-  pub client : is_server (node.Entity asker.name) ≡ false
-  pub secret : Means us asker.secret (Secret asker.name)
+-- these generations are a service's, and were saved
+pub record AreFetched (run : WholeRun) (us : Uses) (service : EntityType) (gs : List Generation) : Type 0 where
+  pub generated : AreGenerated us service gs
+  pub saved : AllByRecursion (IsSavedIn run.saved service) gs
+
+pub fetched-grow : (run : WholeRun) (us vs : Uses) (service : EntityType) (gs : List Generation) → Grows us vs → AreFetched run us service gs → AreFetched run vs service gs
+fetched-grow run us vs service gs f h = record { generated = generated-grow us vs service gs f h.generated; saved = h.saved }
+
+pub none-fetched : (run : WholeRun) (us : Uses) (service : EntityType) → AreFetched run us service []
+none-fetched run us service = record { generated = tt; saved = tt }
+
+-- one of this name, with this secret and this view, is no server, or isn't leaked; the secret is its own, and the view is of generations of its own type
+pub record AskerKnown (run : WholeRun) (us : Uses) (name : Name) (secret : List ℕ) (view : View) : Type 0 where
+  pub trusted : (is_server (node.Entity name) ≡ false) ⊎ (Contains run.leaked name → ⊥)
+  pub own : Means us secret (Secret name)
+  pub fetched : AreFetched run us name.kind view.generations
+
+pub known-grows : (run : WholeRun) (us vs : Uses) (name : Name) (secret : List ℕ) (view : View) → Grows us vs → AskerKnown run us name secret view → AskerKnown run vs name secret view
+known-grows run us vs name secret view f h =
+    record { trusted = h.trusted; own = f.means secret (Secret name) h.own; fetched = fetched-grow run us vs name.kind view.generations f h.fetched }
+
+-- so it is, and its steps issue nothing: all that is issued was so in the journal at first
+pub record AskerOk (run : WholeRun) (first : List Entry) (us : Uses) (J : List Entry) (asker : Asker) : Type 0 where
+  pub known : AskerKnown run us asker.name asker.secret asker.view
   pub quiet : (s : Issued) → Contains J (journal.Issued s) → Contains first (journal.Issued s)
   pub count : tickets_in J ≡ tickets_in first
 
-pub asker-entered : (first : List Entry) (us : Uses) (J : List Entry) (asker : Asker) (e : Entry) → IsNotIssued e → AskerOk first us J asker → AskerOk first us (J ++ e ∷ []) asker
-asker-entered first us J asker e other h = record {
-  client = h.client;
-  secret = h.secret;
+pub asker-entered : (run : WholeRun) (first : List Entry) (us : Uses) (J : List Entry) (asker : Asker) (e : Entry) → IsNotIssued e → AskerOk run first us J asker
+    → AskerOk run first us (J ++ e ∷ []) asker
+asker-entered run first us J asker e other h = record {
+  known = h.known;
   quiet = λ s has. h.quiet s (has-before J e other s has);
   count = none-added J e other ∙ h.count;
 }
@@ -285,22 +305,10 @@ connection-grows us vs n key f h = record { name = h.name; connected = connected
 pub seals-own : (us : Uses) (n : NodeName) (keys : Keys) → HasConnection us n keys.key → MaySeal us n keys
 seals-own us n keys h = record { name = h.name; connected = h.connected; own = inl h.own }
 
--- of a client each request that waits asks for tickets
-abbrev pub AsksTickets : Waiting → Type 0
-AsksTickets waiting = waiting.want ≡ want.Tickets
-
--- an open link, and the requests on it
-pub record OpenOk (us : Uses) (n : NodeName) (key : List ℕ) (requests : Requests) : Type 0 where
-  pub has : HasConnection us n key
-  pub tickets : AllByRecursion AsksTickets requests.waiting
-
-pub open-grows : (us vs : Uses) (n : NodeName) (key : List ℕ) (requests : Requests) → Grows us vs → OpenOk us n key requests → OpenOk vs n key requests
-open-grows us vs n key requests f h = record { has = connection-grows us vs n key f h.has; tickets = h.tickets }
-
 abbrev pub AskerStageOk : Uses → NodeName → connector.Stage → Type 0
 AskerStageOk us n (connector.AwaitsSignature s login) = HasConnection us n s.keys.key
 AskerStageOk us n (connector.AwaitsIdent s session) = HasConnection us n s.keys.key
-AskerStageOk us n (connector.Open s requests) = OpenOk us n s.keys.key requests
+AskerStageOk us n (connector.Open s requests) = HasConnection us n s.keys.key
 AskerStageOk us n _ = Unit {0}
 
 pub asker_stage-grows : (us vs : Uses) (n : NodeName) (stage : connector.Stage) → Grows us vs → AskerStageOk us n stage → AskerStageOk vs n stage
@@ -310,4 +318,4 @@ asker_stage-grows us vs n (connector.AwaitsChallenge asked) f h = tt
 asker_stage-grows us vs n connector.AwaitsDone f h = tt
 asker_stage-grows us vs n (connector.AwaitsSignature s login) f h = connection-grows us vs n s.keys.key f h
 asker_stage-grows us vs n (connector.AwaitsIdent s session) f h = connection-grows us vs n s.keys.key f h
-asker_stage-grows us vs n (connector.Open s requests) f h = open-grows us vs n s.keys.key requests f h
+asker_stage-grows us vs n (connector.Open s requests) f h = connection-grows us vs n s.keys.key f h

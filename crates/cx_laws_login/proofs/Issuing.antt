@@ -21,6 +21,7 @@ use Rattle.cx_rules.specs.Secured.{acceptor_keys}
 use Rattle.cx_rules.specs.Tickets.{is_asked, issued_before, issued_for, services_for}
 use Rattle.cx_laws_keys.proofs.Known.{IsOfAcceptor, IsOfConnector}
 use Rattle.cx_laws_login.proofs.Rows.{all-filter}
+use Rattle.cx_laws_login.proofs.Generations.{length-part}
 
 -- a ticket of this entity under this global id, made at this reading, with the session key that was drawn for its service
 pub record TicketOk (name : Name) (gid reading : ℕ) (block : List ℕ) (t : Ticket) : Type 0 where
@@ -143,9 +144,6 @@ module _ (server : Server) (name : Name) (gid : ℕ) (auth_session : List ℕ) (
       (others-issued others (all-filter (λ (s : EntityType). s ≡ Auth → ⊥) (is_asked keys) (Mds ∷ Osd ∷ Mgr ∷ []) apart))
 
 -- ---- the lengths of what is drawn
-
-length-part : (place count : ℕ) (block : List ℕ) → place + count ≤ length block → length (part place count block) ≡ count
-length-part place count block h = omega (arith, length-take count (drop place block), length-drop place block)
 
 pub length-session : (service : EntityType) (block : List ℕ) → length block ≡ 384 → has_keys service ≡ true → length (session_of service block) ≡ 16
 length-session Auth block h e = length-part 80 16 block (omega arith)

@@ -74,7 +74,7 @@ module _ (before : KeptState) (owner : Owner) (us : Uses) (J : List Entry) (own 
           let next : Server = record own.server { state = record own.server.state { next_gid = gid + 1 } } in
           let raised : OwnOk before owner us J (serving own next) = record {
             ring = ok.ring;
-            present = record { generated = ok.present.generated; numbered = short };
+            present = record { generated = ok.present.generated; writable = ok.present.writable; numbered = short };
             saved = ok.saved;
             before_is = ok.before_is;
             grown = ok.grown;

@@ -18,27 +18,27 @@ use Rattle.cx_steps.specs.declared.seals.Logged.{Logged}
 use Rattle.cx_steps.specs.declared.seals.SealMark.{SealMark}
 use Rattle.cx_laws_keys.proofs.Known.{Inv, Says, opened_says}
 use Rattle.cx_laws_keys.proofs.Premises.{AreGranted}
-use Rattle.cx_laws_keys.proofs.Uses.{Generated, Means, Use, Uses, whose}
-use Rattle.cx_laws_login.proofs.Generations.{AreGenerated}
+use Rattle.cx_laws_keys.proofs.Uses.{Generated, Means, Use, Uses, whose, WholeRun}
+use Rattle.cx_laws_keys.proofs.Uses.{AreGenerated}
 use Rattle.cx_laws_login.proofs.Rows.{Allowed}
 
-module _ (leaked : List Name) (whole : List Logged) (n : NodeName) (line : ℕ) (us : Uses) (log : List Logged) (J : List Entry) where
+module _ (run : WholeRun) (whole : List Logged) (n : NodeName) (line : ℕ) (us : Uses) (log : List Logged) (J : List Entry) where
   -- the record that opened was read of a content that the key's use allows
-  pub unlocked_says : {X : Type 0} (form : Form X) (kind : KeyKind) (key bytes : List ℕ) (u : Use) → Inv leaked whole us log J → Means us key u
-      → (IsExcepted leaked whole n key → ⊥) → AreGranted leaked whole n line log (unlocked form kind key bytes).seals → (x : X)
+  pub unlocked_says : {X : Type 0} (form : Form X) (kind : KeyKind) (key bytes : List ℕ) (u : Use) → Inv run whole us log J → Means us key u
+      → (IsExcepted run.leaked whole n key → ⊥) → AreGranted run.leaked whole n line log (unlocked form kind key bytes).seals → (x : X)
       → (unlocked form kind key bytes).value ≡ Some x → (content : List ℕ) × (spelled_by form content ≡ Some x) × Says us J key u content
   unlocked_says {X} form kind key bytes u i means free g x e = by_opened (opened key bytes) g e
     where
-      by_opened : (o : Option (List ℕ)) → AreGranted leaked whole n line log (unlocked_as kind key (unsealed_as form o)).seals
+      by_opened : (o : Option (List ℕ)) → AreGranted run.leaked whole n line log (unlocked_as kind key (unsealed_as form o)).seals
           → (unlocked_as kind key (unsealed_as form o)).value ≡ Some x → (content : List ℕ) × (spelled_by form content ≡ Some x) × Says us J key u content
       by_opened None g e = absurd cc
       by_opened (Some content) g e =
           let mark : SealMark = record { key = key; kind = kind; content = content } in
           (content, e, by_owed g.0.owes)
         where
-          by_owed : IsExcepted leaked whole n key ⊎ HasSealed log (record { key = key; kind = kind; content = content }) → Says us J key u content
+          by_owed : IsExcepted run.leaked whole n key ⊎ HasSealed log (record { key = key; kind = kind; content = content }) → Says us J key u content
           by_owed (inl excepted) = absurd (free excepted)
-          by_owed (inr sealed) = opened_says leaked whole us log J i (record { key = key; kind = kind; content = content }) sealed u means
+          by_owed (inr sealed) = opened_says run whole us log J i (record { key = key; kind = kind; content = content }) sealed u means
 
   -- what opens is allowed in the log
   pub unlocked-allowed : {X : Type 0} (form : Form X) (kind : KeyKind) (key bytes : List ℕ) → Allowed us J n (unlocked form kind key bytes).seals
@@ -49,7 +49,7 @@ module _ (leaked : List Name) (whole : List Logged) (n : NodeName) (line : ℕ) 
       by_opened (Some content) = (tt, tt)
 
   -- nothing is excepted under the key of a generation
-  pub generation-free : (key : List ℕ) (service : EntityType) (id : ℕ) → Inv leaked whole us log J → Means us key (Generated service id) → IsExcepted leaked whole n key → ⊥
+  pub generation-free : (key : List ℕ) (service : EntityType) (id : ℕ) → Inv run whole us log J → Means us key (Generated service id) → IsExcepted run.leaked whole n key → ⊥
   generation-free key service id i means excepted =
       let leak = i.leaks key (Generated service id) means excepted.leak in
       none leak.0 leak.1

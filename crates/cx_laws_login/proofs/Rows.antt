@@ -25,13 +25,14 @@ use Rattle.cx_stream.specs.SecureStreams.{Ahead}
 use Rattle.cx_steps.specs.declared.seals.Logged.{Logged}
 use Rattle.cx_steps.specs.declared.seals.SealEntry.{SealEntry}
 use Rattle.cx_steps.specs.declared.seals.SealEntry.TheVariants as entry
-use Rattle.cx_laws_keys.proofs.Journal.{After, EntryLaw, IsLoginEntry, IsNotIssued, IsOfLogin, Reached, entered, own-other}
+use Rattle.cx_laws_keys.proofs.Journal.{After, EntryLaw, login-law, IsLoginEntry, IsNotIssued, IsOfLogin, Reached, entered, own-other}
 use Rattle.cx_laws_keys.proofs.Known.{Inv, IsAllowed, IsOfAcceptor}
 use Rattle.cx_laws_keys.proofs.Lists.{all-append, all-map, all-of-map}
 use Rattle.cx_laws_keys.proofs.Premises.{AreGranted, behind}
 use Rattle.cx_laws_keys.proofs.Steps.{inv-all, inv-entered}
-use Rattle.cx_laws_keys.proofs.Uses.{Connected, Grows, Login, Means, Uses, stays}
+use Rattle.cx_laws_keys.proofs.Uses.{Connected, Grows, Login, Means, Uses, stays, WholeRun}
 use Rattle.cx_laws_login.proofs.Facts.{IsSameWay, MaySeal}
+use Rattle.cx_journal.specs.GidOnce.{GivesGidOnceBy}
 
 -- ---- entries of the log
 
@@ -92,44 +93,48 @@ module _ (us : Uses) (J : List Entry) (n : NodeName) where
 abbrev pub IsQuietEntry : Entry → Type 0
 IsQuietEntry e = IsLoginEntry e × IsNotIssued e
 
-quiet-law : (J : List Entry) (e : Entry) → IsQuietEntry e → EntryLaw J e
-quiet-law J (journal.Saved gid) h = record { login = tt; gid_once = tt }
-quiet-law J (journal.Issued ticket) h = absurd h.1
-quiet-law J (journal.Fetched f) h = absurd h.0
-quiet-law J (journal.Looked l) h = absurd h.0
-quiet-law J (journal.Admitted a) h = absurd h.0
-quiet-law J (journal.Resumed a) h = absurd h.0
-quiet-law J (journal.Sent s) h = absurd h.0
-quiet-law J (journal.Handled d) h = absurd h.0
-quiet-law J (journal.Answered a) h = absurd h.0
-quiet-law J (journal.Refused r) h = record { login = h.0; gid_once = tt }
-quiet-law J (journal.Ended e) h = absurd h.0
-quiet-law J (journal.Restarted at) h = record { login = tt; gid_once = tt }
-quiet-law J (journal.Broken b) h = absurd h.0
-quiet-law J (journal.Leaked name) h = record { login = tt; gid_once = tt }
+-- what issues nothing gives no global id
+pub none-given : (J : List Entry) (e : Entry) → IsNotIssued e → GivesGidOnceBy J e
+none-given J (journal.Issued ticket) h = absurd h
+none-given J (journal.Saved x) h = tt
+none-given J (journal.Fetched x) h = tt
+none-given J (journal.Looked x) h = tt
+none-given J (journal.Admitted x) h = tt
+none-given J (journal.Resumed x) h = tt
+none-given J (journal.Sent x) h = tt
+none-given J (journal.Handled x) h = tt
+none-given J (journal.Answered x) h = tt
+none-given J (journal.Refused x) h = tt
+none-given J (journal.Ended x) h = tt
+none-given J (journal.Restarted x) h = tt
+none-given J (journal.Broken x) h = tt
+none-given J (journal.Leaked x) h = tt
 
-module _ (leaked : List Name) (whole : List Logged) (n : NodeName) (line : ℕ) where
+quiet-law : (guests : Bool) (J : List Entry) (e : Entry) → IsQuietEntry e → EntryLaw guests J e
+quiet-law guests J e h = login-law guests J e h.0 (none-given J e h.1)
+
+module _ (run : WholeRun) (whole : List Logged) (n : NodeName) (line : ℕ) where
   -- behind entries that issue nothing, where what is said of a node stays so
   pub quiet-entries : (us : Uses) (log : List Logged) (J : List Entry) (js : List Entry) (Good : Uses → List Entry → Type 0)
       → ((K : List Entry) (e : Entry) → IsNotIssued e → Good us K → Good us (K ++ e ∷ []))
-      → AllByRecursion IsQuietEntry js → Inv leaked whole us log J → Good us J
-      → Inv leaked whole us log (entered J js) × EachBehind EntryLaw J js × Good us (entered J js)
+      → AllByRecursion IsQuietEntry js → Inv run whole us log J → Good us J
+      → Inv run whole us log (entered J js) × EachBehind (EntryLaw run.guests) J js × Good us (entered J js)
   quiet-entries us log J [] Good keeps q i good = (i, tt, good)
   quiet-entries us log J (e ∷ js) Good keeps q i good =
-      let more = quiet-entries us log (J ++ e ∷ []) js Good keeps q.1 (inv-entered leaked whole us log J e i (own-other J e q.0.1 i.own)) (keeps J e q.0.1 good) in
-      (more.0, (quiet-law J e q.0, more.1), more.2)
+      let more = quiet-entries us log (J ++ e ∷ []) js Good keeps q.1 (inv-entered run whole us log J e i (own-other J e q.0.1 i.own)) (keeps J e q.0.1 good) in
+      (more.0, (quiet-law run.guests J e q.0, more.1), more.2)
 
   -- the same behind what was reached in the log
   pub after-quiet : (us : Uses) (log : List Logged) (J : List Entry) (es : List SealEntry) (js : List Entry) (F : Uses → Type 0) (Good : Uses → List Entry → Type 0)
       → ((vs : Uses) (K : List Entry) (e : Entry) → IsNotIssued e → Good vs K → Good vs (K ++ e ∷ []))
-      → AllByRecursion IsQuietEntry js → (r : Reached leaked whole n line us log J es F) → Good r.uses J → After leaked whole n line us log J es js Good
+      → AllByRecursion IsQuietEntry js → (r : Reached run whole n line us log J es F) → Good r.uses J → After run whole n line us log J es js Good
   after-quiet us log J es js F Good keeps q r good =
       let all = quiet-entries r.uses (behind n line es log) J js Good (keeps r.uses) q r.inv good in
       record { uses = r.uses; grows = r.grows; inv = all.0; laws = all.1; good = all.2 }
 
-  abbrev pub reached-allowed : (us : Uses) (log : List Logged) (J : List Entry) (es : List SealEntry) (F : Uses → Type 0) → Inv leaked whole us log J
-      → Allowed us J n es → F us → Reached leaked whole n line us log J es F
-  reached-allowed us log J es F i a f = record { uses = us; grows = stays us; inv = inv-all leaked whole us log J n line es i a; facts = f }
+  abbrev pub reached-allowed : (us : Uses) (log : List Logged) (J : List Entry) (es : List SealEntry) (F : Uses → Type 0) → Inv run whole us log J
+      → Allowed us J n es → F us → Reached run whole n line us log J es F
+  reached-allowed us log J es F i a f = record { uses = us; grows = stays us; inv = inv-all run whole us log J n line es i a; facts = f }
 
 -- ---- rows
 
@@ -229,26 +234,26 @@ module _ {Own Stage : Type 0} (say : Saying Own Stage) where
 
   -- ---- steps
 
-  module _ (leaked : List Name) (whole : List Logged) (n : NodeName) (line : ℕ) (us : Uses) (log : List Logged) (J : List Entry) where
+  module _ (run : WholeRun) (whole : List Logged) (n : NodeName) (line : ℕ) (us : Uses) (log : List Logged) (J : List Entry) where
     abbrev pub AfterRow : Row Own Stage → Type 0
-    AfterRow row = After leaked whole n line us log J row.seals row.entries (RowOk row)
+    AfterRow row = After run whole n line us log J row.seals row.entries (RowOk row)
 
     abbrev pub AfterStep : Outcome (Node Own Stage) → Type 0
-    AfterStep o = After leaked whole n line us log J o.out.seals o.out.entries (NodeOk o.state)
+    AfterStep o = After run whole n line us log J o.out.seals o.out.entries (NodeOk o.state)
 
     row-entered : (row : Row Own Stage) (vs : Uses) (K : List Entry) (e : Entry) → IsNotIssued e → RowOk row vs K → RowOk row vs (K ++ e ∷ [])
     row-entered row vs K e other h = record { own = say.own_enters vs K row.own e other h.own; link = h.link }
 
-    pub after-simple : (row : Row Own Stage) → Inv leaked whole us log J → Simple us J n row → AfterRow row
+    pub after-simple : (row : Row Own Stage) → Inv run whole us log J → Simple us J n row → AfterRow row
     after-simple row i s =
-        after-quiet leaked whole n line us log J row.seals row.entries (λ vs. Unit {0}) (RowOk row) (row-entered row) s.entries
-        (reached-allowed leaked whole n line us log J row.seals (λ vs. Unit {0}) i s.seals tt) (record { own = s.own; link = s.link })
+        after-quiet run whole n line us log J row.seals row.entries (λ vs. Unit {0}) (RowOk row) (row-entered row) s.entries
+        (reached-allowed run whole n line us log J row.seals (λ vs. Unit {0}) i s.seals tt) (record { own = s.own; link = s.link })
 
     -- a row that refuses, behind what was reached
     pub after-refuses : (a : Arrival Own Stage) (row : Row Own Stage) (F : Uses → Type 0) → AllByRecursion IsQuietEntry row.entries → row.link ≡ None
-        → (r : Reached leaked whole n line us log J row.seals F) → say.Owns r.uses J row.own → AfterRow row
+        → (r : Reached run whole n line us log J row.seals F) → say.Owns r.uses J row.own → AfterRow row
     after-refuses a row F q none r own =
-        after-quiet leaked whole n line us log J row.seals row.entries F (RowOk row) (row-entered row) q r
+        after-quiet run whole n line us log J row.seals row.entries F (RowOk row) (row-entered row) q r
         (record { own = own; link = subst (λ (l : Option (Link Stage)). LinkOk r.uses l) (sym none) tt })
 
     pub carried : (node : Node Own Stage) (number : ℕ) (turned : Bool) (row : Row Own Stage) → LinksOk us node.links → AfterRow row
@@ -262,17 +267,17 @@ module _ {Own Stage : Type 0} (say : Saying Own Stage) where
     }
 
     -- nothing is logged and nothing entered
-    pub idle : (node : Node Own Stage) → Inv leaked whole us log J → NodeOk node us J → AfterStep (idles node)
+    pub idle : (node : Node Own Stage) → Inv run whole us log J → NodeOk node us J → AfterStep (idles node)
     idle node i ok = record { uses = us; grows = stays us; inv = i; laws = tt; good = ok }
 
     -- what is due of a turn
     abbrev pub TurnOk : Arrival Own Stage → Turned Own Stage → Type 0
     TurnOk a Waits = Unit {0}
     TurnOk a (Refuses why opened) = Allowed us J n opened
-    TurnOk a (Handles row) = AreGranted leaked whole n line log row.seals → AfterRow row
+    TurnOk a (Handles row) = AreGranted run.leaked whole n line log row.seals → AfterRow row
 
-    pub turned-ok : (node : Node Own Stage) (a : Arrival Own Stage) (turned : Turned Own Stage) → Inv leaked whole us log J → NodeOk node us J
-        → say.Owns us J a.own → TurnOk a turned → AreGranted leaked whole n line log (turns node a turned).out.seals → AfterStep (turns node a turned)
+    pub turned-ok : (node : Node Own Stage) (a : Arrival Own Stage) (turned : Turned Own Stage) → Inv run whole us log J → NodeOk node us J
+        → say.Owns us J a.own → TurnOk a turned → AreGranted run.leaked whole n line log (turns node a turned).out.seals → AfterStep (turns node a turned)
     turned-ok node a Waits i ok own t g = idle node i ok
     turned-ok node a (Refuses why opened) i ok own t g =
         carried node a.link.number false (refuses_bytes a why opened) ok.links (after-simple (refuses_bytes a why opened) i (simple-refuses_bytes us J n a why opened own t))

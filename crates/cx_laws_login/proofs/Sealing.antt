@@ -29,9 +29,10 @@ use Rattle.cx_laws_keys.proofs.Lists.{all-append}
 use Rattle.cx_laws_keys.proofs.Premises.{AreGranted, behind, granted-first, granted-rest, logged}
 use Rattle.cx_laws_keys.proofs.Reading.{IsInfoFrom, IsReadFrom, connection_no_info, info_no_connection, info_no_rotating, read_connection, read_info, read_ticket}
 use Rattle.cx_laws_keys.proofs.Steps.{inv-all, inv-drawn}
-use Rattle.cx_laws_keys.proofs.Uses.{Connected, Generated, Grows, IsConnected, Login, Means, Secret, Ticketed, Tie, Use, Uses, grows-one, session_use, stays, whose, with_key}
+use Rattle.cx_laws_keys.proofs.Uses.{Connected, Generated, Grows, IsConnected, Login, Means, Secret, Ticketed, Tie, Use, Uses, grows-one, session_use, stays, whose, with_key, WholeRun}
 use Rattle.cx_laws_login.proofs.Entering.{issued_of}
-use Rattle.cx_laws_login.proofs.Generations.{AreGenerated, generated-grow}
+use Rattle.cx_laws_keys.proofs.Known.{generated-grow}
+use Rattle.cx_laws_keys.proofs.Uses.{AreGenerated}
 use Rattle.cx_laws_login.proofs.Issuing.{IsOther, TicketOk, length-session, short-connection}
 use Rattle.cx_laws_login.proofs.Rows.{Allowed}
 use Rattle.cx_laws_login.proofs.Under.{IsOfCurrent}
@@ -70,7 +71,7 @@ current-ok us service now (a ∷ b ∷ c ∷ []) h = by_test (nat_lt now b.expir
     by_test false = tt
 current-ok us service now (a ∷ b ∷ c ∷ d ∷ gs) h = tt
 
-module _ (leaked : List Name) (whole : List Logged) (n : NodeName) (line : ℕ) (server : Server) (secret auth_session : List ℕ) (name : Name) (gid reading : ℕ) (block : List ℕ) (K : List Entry)
+module _ (run : WholeRun) (whole : List Logged) (n : NodeName) (line : ℕ) (server : Server) (secret auth_session : List ℕ) (name : Name) (gid reading : ℕ) (block : List ℕ) (K : List Entry)
     (named : name_form.Fits name) (wide : gid < 2 ^ 64) (drawn : length block ≡ 384) where
   -- what is known while the tickets are sealed
   pub record Ready (us : Uses) : Type 0 where
@@ -153,16 +154,16 @@ module _ (leaked : List Name) (whole : List Logged) (n : NodeName) (line : ℕ) 
       some_is a b e = cc
 
   -- one ticket
-  ticket-sealed : (us : Uses) (log : List Logged) (t : Ticket) → Inv leaked whole us log K → TicketOk name gid reading block t → IsOfCurrent server t → Contains K (issued_entry t) → Ready us
+  ticket-sealed : (us : Uses) (log : List Logged) (t : Ticket) → Inv run whole us log K → TicketOk name gid reading block t → IsOfCurrent server t → Contains K (issued_entry t) → Ready us
       → Means (with_key us t.session (session_use name t.service)) auth_session (Login name)
-      → AreGranted leaked whole n line log (ticket_seals server secret auth_session t)
-      → Reached leaked whole n line us log K (ticket_seals server secret auth_session t) (λ vs. Means vs auth_session (Login name))
+      → AreGranted run.leaked whole n line log (ticket_seals server secret auth_session t)
+      → Reached run whole n line us log K (ticket_seals server secret auth_session t) (λ vs. Means vs auth_session (Login name))
   ticket-sealed us log t i ok under has ready auth g =
       let u : Use = session_use name t.service in
       let mark = draw.Session t.session t.entity in
       let vs : Uses = with_key us t.session u in
       let for : Some t.entity ≡ whose u = ap (λ (m : Name). Some m) ok.entity ∙ whose-session name t.service in
-      let first : Inv leaked whole vs (logged n line (entry.Drawn mark) ∷ log) K = inv-drawn leaked whole us log K n line mark t.session u i refl for (λ m e. absurd (no_secret name m t.service e)) g.0 in
+      let first : Inv run whole vs (logged n line (entry.Drawn mark) ∷ log) K = inv-drawn run whole us log K n line mark t.session u i refl for (λ m e. absurd (no_secret name m t.service e)) g.0 in
       let means : Means vs t.session u = inl (refl, refl) in
       let more : Ready vs = ready-grows us vs (grows-one us t.session u) ready in
       let current : Option Generation = current_at t.created (generations_of server.state t.service) in
@@ -176,38 +177,38 @@ module _ (leaked : List Name) (whole : List Logged) (n : NodeName) (line : ℕ) 
       record {
         uses = vs;
         grows = grows-one us t.session u;
-        inv = inv-all leaked whole vs (logged n line (entry.Drawn mark) ∷ log) K n line (blob_sealed current t ++ rest) first
+        inv = inv-all run whole vs (logged n line (entry.Drawn mark) ∷ log) K n line (blob_sealed current t ++ rest) first
             (all-append (IsAllowed vs K n) (blob_sealed current t) rest blob (info, tt));
         facts = auth;
       }
 
   -- the tickets for other services than AUTH
-  pub others-sealed : (us : Uses) (log : List Logged) (ts : List Ticket) → Inv leaked whole us log K → AllByRecursion (IsOther name gid reading block) ts → AllByRecursion (IsOfCurrent server) ts
+  pub others-sealed : (us : Uses) (log : List Logged) (ts : List Ticket) → Inv run whole us log K → AllByRecursion (IsOther name gid reading block) ts → AllByRecursion (IsOfCurrent server) ts
       → AllByRecursion (λ (t : Ticket). Contains K (issued_entry t)) ts → Ready us → Means us auth_session (Login name)
-      → AreGranted leaked whole n line log (flat_map (ticket_seals server secret auth_session) ts)
-      → Reached leaked whole n line us log K (flat_map (ticket_seals server secret auth_session) ts) (λ vs. Means vs auth_session (Login name))
+      → AreGranted run.leaked whole n line log (flat_map (ticket_seals server secret auth_session) ts)
+      → Reached run whole n line us log K (flat_map (ticket_seals server secret auth_session) ts) (λ vs. Means vs auth_session (Login name))
   others-sealed us log [] i ok under has ready auth g = record { uses = us; grows = stays us; inv = i; facts = auth }
   others-sealed us log (t ∷ ts) i ok under has ready auth g =
       let here : List SealEntry = ticket_seals server secret auth_session t in
       let later : List SealEntry = flat_map (ticket_seals server secret auth_session) ts in
-      let first = ticket-sealed us log t i ok.0.0 under.0 has.0 ready (inr auth) (granted-first leaked whole n line log here later g) in
-      reached-then leaked whole n line us log K here later (λ vs. Means vs auth_session (Login name)) (λ vs. Means vs auth_session (Login name)) first
-      (others-sealed first.uses (behind n line here log) ts first.inv ok.1 under.1 has.1 (ready-grows us first.uses first.grows ready) first.facts (granted-rest leaked whole n line log here later g))
+      let first = ticket-sealed us log t i ok.0.0 under.0 has.0 ready (inr auth) (granted-first run.leaked whole n line log here later g) in
+      reached-then run whole n line us log K here later (λ vs. Means vs auth_session (Login name)) (λ vs. Means vs auth_session (Login name)) first
+      (others-sealed first.uses (behind n line here log) ts first.inv ok.1 under.1 has.1 (ready-grows us first.uses first.grows ready) first.facts (granted-rest run.leaked whole n line log here later g))
 
   -- all tickets: the first is for AUTH, and its session key is the one under which the others are told
-  pub tickets-sealed : (us : Uses) (log : List Logged) (t : Ticket) (ts : List Ticket) → Inv leaked whole us log K → TicketOk name gid reading block t → t.service ≡ Auth
+  pub tickets-sealed : (us : Uses) (log : List Logged) (t : Ticket) (ts : List Ticket) → Inv run whole us log K → TicketOk name gid reading block t → t.service ≡ Auth
       → auth_session ≡ session_of Auth block → AllByRecursion (IsOther name gid reading block) ts → AllByRecursion (IsOfCurrent server) (t ∷ ts)
       → AllByRecursion (λ (t : Ticket). Contains K (issued_entry t)) (t ∷ ts) → Ready us
-      → AreGranted leaked whole n line log (flat_map (ticket_seals server secret auth_session) (t ∷ ts))
-      → Reached leaked whole n line us log K (flat_map (ticket_seals server secret auth_session) (t ∷ ts)) (λ vs. Means vs auth_session (Login name))
+      → AreGranted run.leaked whole n line log (flat_map (ticket_seals server secret auth_session) (t ∷ ts))
+      → Reached run whole n line us log K (flat_map (ticket_seals server secret auth_session) (t ∷ ts)) (λ vs. Means vs auth_session (Login name))
   tickets-sealed us log t ts i ok auth session_is others under has ready g =
       let here : List SealEntry = ticket_seals server secret auth_session t in
       let later : List SealEntry = flat_map (ticket_seals server secret auth_session) ts in
       let same : t.session ≡ auth_session = ok.session ∙ ap (λ (s : EntityType). session_of s block) auth ∙ sym session_is in
       let use_is : session_use name t.service ≡ Login name = ap (λ (s : EntityType). session_use name s) auth in
-      let first = ticket-sealed us log t i ok under.0 has.0 ready (inl (same, use_is)) (granted-first leaked whole n line log here later g) in
-      reached-then leaked whole n line us log K here later (λ vs. Means vs auth_session (Login name)) (λ vs. Means vs auth_session (Login name)) first
-      (others-sealed first.uses (behind n line here log) ts first.inv others under.1 has.1 (ready-grows us first.uses first.grows ready) first.facts (granted-rest leaked whole n line log here later g))
+      let first = ticket-sealed us log t i ok under.0 has.0 ready (inl (same, use_is)) (granted-first run.leaked whole n line log here later g) in
+      reached-then run whole n line us log K here later (λ vs. Means vs auth_session (Login name)) (λ vs. Means vs auth_session (Login name)) first
+      (others-sealed first.uses (behind n line here log) ts first.inv others under.1 has.1 (ready-grows us first.uses first.grows ready) first.facts (granted-rest run.leaked whole n line log here later g))
 
   -- the secret of the connection, sealed under the session key of AUTH
   pub record Secured (us : Uses) : Type 0 where
@@ -220,19 +221,19 @@ module _ (leaked : List Name) (whole : List Logged) (n : NodeName) (line : ℕ) 
       ∷ entry.Sealed (record { key = auth_session; kind = kind.Session; content = connection_secret_layout.form.text (record { secret = connection_of block }) })
       ∷ []
 
-  pub connection-sealed : (us : Uses) (log : List Logged) (number : ℕ) (tie : Tie) → Inv leaked whole us log K → Means us auth_session (Login name) → AreGranted leaked whole n line log connection_seals
-      → Reached leaked whole n line us log K connection_seals Secured
+  pub connection-sealed : (us : Uses) (log : List Logged) (number : ℕ) (tie : Tie) → Inv run whole us log K → Means us auth_session (Login name) → AreGranted run.leaked whole n line log connection_seals
+      → Reached run whole n line us log K connection_seals Secured
   connection-sealed us log number tie i auth g =
       let secret : List ℕ = connection_of block in
       let key : List ℕ = take 16 secret in
       let mark = draw.Connection secret name in
       let u : Use = Connected n number name tie in
       let vs : Uses = with_key us key u in
-      let first : Inv leaked whole vs (logged n line (entry.Drawn mark) ∷ log) K = inv-drawn leaked whole us log K n line mark key u i refl refl (λ m e. absurd cc) g.0 in
+      let first : Inv run whole vs (logged n line (entry.Drawn mark) ∷ log) K = inv-drawn run whole us log K n line mark key u i refl refl (λ m e. absurd cc) g.0 in
       record {
         uses = vs;
         grows = grows-one us key u;
-        inv = inv-all leaked whole vs (logged n line (entry.Drawn mark) ∷ log) K n line connection_sealed first ((Login name, inr auth, says, tt), tt);
+        inv = inv-all run whole vs (logged n line (entry.Drawn mark) ∷ log) K n line connection_sealed first ((Login name, inr auth, says, tt), tt);
         facts = record { session = inr auth; connection = record { acceptor = n; number = number; tie = tie; means = inl (refl, refl) } };
       }
     where

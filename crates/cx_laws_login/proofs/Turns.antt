@@ -19,53 +19,53 @@ use Rattle.cx_stream.specs.PlainStreams.{plain_frame_at}
 use Rattle.cx_stream.specs.SecureStreams.{secure_frame_at}
 use Rattle.cx_laws_keys.proofs.Known.{Inv}
 use Rattle.cx_laws_keys.proofs.Premises.{AreGranted}
-use Rattle.cx_laws_keys.proofs.Uses.{Uses}
+use Rattle.cx_laws_keys.proofs.Uses.{Uses, WholeRun}
 use Rattle.cx_laws_login.proofs.Facts.{IsSameWay}
 use Rattle.cx_laws_login.proofs.Rows.{AfterRow, Allowed, Saying, Simple, TurnOk, after-simple, opened-allowed, simple-with_opened}
 
-module _ {Own Stage : Type 0} (say : Saying Own Stage) (leaked : List Name) (whole : List Logged) (n : NodeName) (line : ℕ) (us : Uses) (log : List Logged) (J : List Entry) where
-  pub turn-banner : (a : Arrival Own Stage) (row : Link Stage → Row Own Stage) (link : Link Stage) → Inv leaked whole us log J → ((l : Link Stage) → Simple say us J n (row l))
-      → TurnOk say leaked whole n line us log J a (turned_by (λ l _. row l) (banner_next link))
+module _ {Own Stage : Type 0} (say : Saying Own Stage) (run : WholeRun) (whole : List Logged) (n : NodeName) (line : ℕ) (us : Uses) (log : List Logged) (J : List Entry) where
+  pub turn-banner : (a : Arrival Own Stage) (row : Link Stage → Row Own Stage) (link : Link Stage) → Inv run whole us log J → ((l : Link Stage) → Simple say us J n (row l))
+      → TurnOk say run whole n line us log J a (turned_by (λ l _. row l) (banner_next link))
   turn-banner a row link i each = by_read (banner_at (ahead_of link))
     where
-      by_read : (r : Result (Option (Banner × ℕ)) BannerRefusal) → TurnOk say leaked whole n line us log J a (turned_by (λ l _. row l) (banner_read link r))
+      by_read : (r : Result (Option (Banner × ℕ)) BannerRefusal) → TurnOk say run whole n line us log J a (turned_by (λ l _. row l) (banner_read link r))
       by_read (Ok None) = tt
-      by_read (Ok (Some (b, m))) = λ g. after-simple say leaked whole n line us log J (row _) i (each _)
+      by_read (Ok (Some (b, m))) = λ g. after-simple say run whole n line us log J (row _) i (each _)
       by_read (Err e) = tt
 
   pub turn-plain : (a : Arrival Own Stage) (row : Link Stage → Frame → Row Own Stage) (link : Link Stage)
-      → ((l : Link Stage) (f : Frame) → AreGranted leaked whole n line log (row l f).seals → AfterRow say leaked whole n line us log J (row l f))
-      → TurnOk say leaked whole n line us log J a (turned_by (λ (l, f) _. row l f) (plain_next link))
+      → ((l : Link Stage) (f : Frame) → AreGranted run.leaked whole n line log (row l f).seals → AfterRow say run whole n line us log J (row l f))
+      → TurnOk say run whole n line us log J a (turned_by (λ (l, f) _. row l f) (plain_next link))
   turn-plain a row link each = by_read (plain_frame_at (ahead_of link))
     where
-      by_read : (r : Result (Option (Frame × ℕ)) FrameRefusal) → TurnOk say leaked whole n line us log J a (turned_by (λ (l, f) _. row l f) (plain_read link r))
+      by_read : (r : Result (Option (Frame × ℕ)) FrameRefusal) → TurnOk say run whole n line us log J a (turned_by (λ (l, f) _. row l f) (plain_read link r))
       by_read (Ok None) = tt
       by_read (Ok (Some (f, m))) = each _ f
       by_read (Err e) = tt
 
-  pub turn-secure : (a : Arrival Own Stage) (keys : Keys) (row : Link Stage → Keys → Frame → Row Own Stage) (link : Link Stage) → Inv leaked whole us log J
+  pub turn-secure : (a : Arrival Own Stage) (keys : Keys) (row : Link Stage → Keys → Frame → Row Own Stage) (link : Link Stage) → Inv run whole us log J
       → ((l : Link Stage) (k : Keys) (f : Frame) → IsSameWay k keys → Simple say us J n (row l k f))
-      → TurnOk say leaked whole n line us log J a (turned_by (λ (l, f, k) opened. with_opened opened (row l k f)) (secure_next keys link))
+      → TurnOk say run whole n line us log J a (turned_by (λ (l, f, k) opened. with_opened opened (row l k f)) (secure_next keys link))
   turn-secure a keys row link i each =
       by_read (opened_parts (sealed_ahead keys link)) (opened-allowed us J n (sealed_ahead keys link)) (secure_frame_at (sealed_ahead keys link))
     where
       by_read : (opened : List SealEntry) → Allowed us J n opened → (r : Result (Option (Frame × ℕ)) SecureRefusal)
-          → TurnOk say leaked whole n line us log J a (turned_by (λ (l, f, k) opened. with_opened opened (row l k f)) (secure_read keys link opened r))
+          → TurnOk say run whole n line us log J a (turned_by (λ (l, f, k) opened. with_opened opened (row l k f)) (secure_read keys link opened r))
       by_read opened al (Ok None) = tt
       by_read opened al (Ok (Some (f, m))) = λ g.
-          after-simple say leaked whole n line us log J (with_opened opened (row _ _ f)) i (simple-with_opened say us J n opened (row _ _ f) al (each _ _ f (record { key = refl; out = refl; into = refl })))
+          after-simple say run whole n line us log J (with_opened opened (row _ _ f)) i (simple-with_opened say us J n opened (row _ _ f) al (each _ _ f (record { key = refl; out = refl; into = refl })))
       by_read opened al (Err e) = al
 
   -- the same of rows that draw, seal or issue
   pub turn-open : (a : Arrival Own Stage) (keys : Keys) (row : Link Stage → Keys → Frame → Row Own Stage) (link : Link Stage)
-      → ((l : Link Stage) (k : Keys) (f : Frame) (opened : List SealEntry) → IsSameWay k keys → Allowed us J n opened → AreGranted leaked whole n line log (opened ++ (row l k f).seals)
-      → AfterRow say leaked whole n line us log J (with_opened opened (row l k f)))
-      → TurnOk say leaked whole n line us log J a (turned_by (λ (l, f, k) opened. with_opened opened (row l k f)) (secure_next keys link))
+      → ((l : Link Stage) (k : Keys) (f : Frame) (opened : List SealEntry) → IsSameWay k keys → Allowed us J n opened → AreGranted run.leaked whole n line log (opened ++ (row l k f).seals)
+      → AfterRow say run whole n line us log J (with_opened opened (row l k f)))
+      → TurnOk say run whole n line us log J a (turned_by (λ (l, f, k) opened. with_opened opened (row l k f)) (secure_next keys link))
   turn-open a keys row link each =
       by_read (opened_parts (sealed_ahead keys link)) (opened-allowed us J n (sealed_ahead keys link)) (secure_frame_at (sealed_ahead keys link))
     where
       by_read : (opened : List SealEntry) → Allowed us J n opened → (r : Result (Option (Frame × ℕ)) SecureRefusal)
-          → TurnOk say leaked whole n line us log J a (turned_by (λ (l, f, k) opened. with_opened opened (row l k f)) (secure_read keys link opened r))
+          → TurnOk say run whole n line us log J a (turned_by (λ (l, f, k) opened. with_opened opened (row l k f)) (secure_read keys link opened r))
       by_read opened al (Ok None) = tt
       by_read opened al (Ok (Some (f, m))) = λ g. each _ _ f opened (record { key = refl; out = refl; into = refl }) al g
       by_read opened al (Err e) = al
