@@ -1,5 +1,5 @@
 -- What is known of a run's keys gives each authority its ticket, and each session that is entered one that backs it.
-use Rattle.std.proofs.Common.{◌≡◌, ◌⊎◌, ◌<◌, ◌≤◌, ◌^◌, ℕ, List, length, inl, inr, refl, sym, ap, ◌∙◌, subst, arith}
+use Rattle.std.proofs.Common.{false, ◌≡◌, ◌⊎◌, ◌<◌, ◌≤◌, ◌^◌, ℕ, List, length, inl, inr, refl, sym, ap, ◌∙◌, subst, arith, None}
 use Rattle.std.specs.Prelude.{Contains}
 use Rattle.cx_authorize.specs.Daemon.{Authority}
 use Rattle.cx_base.specs.Names.{Name}
@@ -23,9 +23,12 @@ use Rattle.cx_laws_authorize.proofs.Opened.{ShowsTicket}
 use Rattle.cx_laws_authorize.specs.Admission.{GuestHas, IsAuthorizedAt, IsOwnedIn, IsShown}
 use Rattle.cx_laws_keys.proofs.Known.{HasTicket, Inv, Says, Within, opened_says}
 use Rattle.cx_laws_keys.proofs.Premises.{AreGranted}
-use Rattle.cx_laws_keys.proofs.Uses.{Generated, Means, Uses, session_use}
-use Rattle.cx_laws_login.proofs.Generations.{AreGenerated}
+use Rattle.cx_laws_keys.proofs.Uses.{Generated, Means, Uses, session_use, WholeRun, IsSavedIn}
+use Rattle.cx_laws_keys.proofs.Uses.{AreGenerated}
 use Rattle.cx_laws_login.proofs.Opens.{generation-free, generation_means}
+use Rattle.cx_login.specs.Unlocking.{unlocked}
+use Rattle.cx_sealed.specs.Records.{service_ticket_layout}
+use Rattle.cx_rotate.specs.declared.generations.Generation.{Generation}
 
 -- ---- the ticket of an authority
 
@@ -50,11 +53,21 @@ backing-grows J K service authority w h = record {
   live = h.live;
 }
 
--- each ticket's caps can be written
-abbrev pub AreShort : List Entry → Type 0
-AreShort J = (t : Issued) → Contains J (journal.Issued t) → length t.caps < 2 ^ 32
+-- what is so of each ticket of a run: its caps and its expiry can be written, and its blob opens under the key of the saved generation that it names
+pub record IsGood (run : WholeRun) (t : Issued) : Type 0 where
+  pub short : length t.caps < 2 ^ 32
+  pub early : t.expires < 4294967296000000000
+  pub opens : (g : Generation) → IsSavedIn run.saved t.service g → g.id ≡ t.generation
+      → (unlocked service_ticket_layout.form kind.Service g.key t.blob).value ≡ None → ⊥
 
-module _ (leaked : List Name) (whole : List Logged) (n : NodeName) (line : ℕ) (us : Uses) (log : List Logged) (J : List Entry) where
+abbrev pub AreGood : WholeRun → List Entry → Type 0
+AreGood run J = (t : Issued) → Contains J (journal.Issued t) → IsGood run t
+
+-- so they are, where guests come to daemons
+abbrev pub AllGood : WholeRun → List Entry → Type 0
+AllGood run J = (run.guests ≡ false → ⊥) → AreGood run J
+
+module _ (run : WholeRun) (whole : List Logged) (n : NodeName) (line : ℕ) (us : Uses) (log : List Logged) (J : List Entry) where
   -- the ticket that was shown, and whose its session key is
   pub record IsBackedBy (service : EntityType) (reading : ℕ) (ticket : ServiceTicket) : Type 0 where
     pub id : ℕ
@@ -65,27 +78,27 @@ module _ (leaked : List Name) (whole : List Logged) (n : NodeName) (line : ℕ) 
     pub live : reading < ticket.expires
 
   -- a ticket that opened first, by a view of generations of the daemon's own service, is one that was issued; and whose its session key is
-  pub opened-issued : (service : EntityType) (view : View) (ticket : ServiceTicket) (seals : List SealEntry) → Inv leaked whole us log J
-      → AreGenerated us service view.generations → AreGranted leaked whole n line log seals → ShowsTicket view ticket seals
+  pub opened-issued : (service : EntityType) (view : View) (ticket : ServiceTicket) (seals : List SealEntry) → Inv run whole us log J
+      → AreGenerated us service view.generations → AreGranted run.leaked whole n line log seals → ShowsTicket view ticket seals
       → (id : ℕ) × (key : List ℕ) × (content : List ℕ) × HasTicket J service id key content ticket × Means us ticket.session (session_use ticket.name service)
   opened-issued service view ticket seals i generated g h =
       let m = generation_means us service view.generations h.id h.key generated h.known in
-      let granted = subst (λ (es : List SealEntry). AreGranted leaked whole n line log es) h.opened g in
+      let granted = subst (λ (es : List SealEntry). AreGranted run.leaked whole n line log es) h.opened g in
       by_owed m.0 m.1 granted.0.owes
     where
       by_owed : (of : ℕ) → Means us h.key (Generated service of)
-          → IsExcepted leaked whole n h.key ⊎ HasSealed log (record { key = h.key; kind = kind.Service; content = h.content })
+          → IsExcepted run.leaked whole n h.key ⊎ HasSealed log (record { key = h.key; kind = kind.Service; content = h.content })
           → (id : ℕ) × (key : List ℕ) × (content : List ℕ) × HasTicket J service id key content ticket × Means us ticket.session (session_use ticket.name service)
-      by_owed of means (inl excepted) = absurd (generation-free leaked whole n line us log J h.key service of i means excepted)
+      by_owed of means (inl excepted) = absurd (generation-free run whole n line us log J h.key service of i means excepted)
       by_owed of means (inr sealed) =
           let says : Says us J h.key (Generated service of) h.content =
-          opened_says leaked whole us log J i (record { key = h.key; kind = kind.Service; content = h.content }) sealed (Generated service of) means in
+          opened_says run whole us log J i (record { key = h.key; kind = kind.Service; content = h.content }) sealed (Generated service of) means in
           let both = says ticket h.says in
           (of, h.key, h.content, both.0, both.1)
 
   -- so does a second authorizer that is judged right show one
-  pub shown-backed : (service : EntityType) (view : View) (reading challenge : ℕ) (ticket : ServiceTicket) (seals : List SealEntry) → Inv leaked whole us log J
-      → AreGenerated us service view.generations → AreGranted leaked whole n line log seals → IsShown view reading challenge ticket seals → IsBackedBy service reading ticket
+  pub shown-backed : (service : EntityType) (view : View) (reading challenge : ℕ) (ticket : ServiceTicket) (seals : List SealEntry) → Inv run whole us log J
+      → AreGenerated us service view.generations → AreGranted run.leaked whole n line log seals → IsShown view reading challenge ticket seals → IsBackedBy service reading ticket
   shown-backed service view reading challenge ticket seals i generated g h =
       let o = opened-issued service view ticket seals i generated g
       (record { id = h.id; key = h.key; known = h.known; content = h.content; says = h.says; rest = _; opened = h.opened }) in
@@ -93,9 +106,9 @@ module _ (leaked : List Name) (whole : List Logged) (n : NodeName) (line : ℕ) 
 
   -- so each authority that a link gets has its ticket
   pub authorized-backed : (daemon : Asker) (service : EntityType) (number reading : ℕ) (stage : GuestStage) (authority : Authority) (es : List Entry) (seals : List SealEntry)
-      → Inv leaked whole us log J → AreGenerated us service daemon.view.generations → AreShort J → AreGranted leaked whole n line log seals
+      → Inv run whole us log J → AreGenerated us service daemon.view.generations → AreGood run J → AreGranted run.leaked whole n line log seals
       → IsAuthorizedAt daemon number reading stage authority es seals → HasBacking J service authority
-  authorized-backed daemon service number reading stage authority es seals i generated short g h =
+  authorized-backed daemon service number reading stage authority es seals i generated good g h =
       let same : AreGenerated us service authority.view.generations = subst (λ (v : View). AreGenerated us service v.generations) (sym h.view) generated in
       let b : IsBackedBy service reading authority.ticket = shown-backed service authority.view reading h.awaited.challenge authority.ticket seals i same g h.shown in
       let t : HasTicket J service b.id b.key b.content authority.ticket = b.has in
@@ -108,7 +121,7 @@ module _ (leaked : List Name) (whole : List Logged) (n : NodeName) (line : ℕ) 
         service_is = t.service_is;
         entity = t.entity;
         gid = t.gid;
-        caps = sym (t.caps (short t.ticket t.issued));
+        caps = sym (t.caps (good t.ticket t.issued).short);
         live = omega arith;
       }
 

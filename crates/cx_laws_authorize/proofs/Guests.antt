@@ -52,29 +52,33 @@ abbrev pub EntryOwnedIn : Asker → GuestStage → Entry → Type 0
 EntryOwnedIn daemon stage (entry.Admitted session) = IsOwnedIn daemon stage session
 EntryOwnedIn daemon stage (entry.Resumed session) = IsOwnedIn daemon stage session
 EntryOwnedIn daemon stage (entry.Refused r) = IsNoTicket r.reason
+EntryOwnedIn daemon stage (entry.Issued ticket) = ⊥
 EntryOwnedIn daemon stage _ = Unit {0}
 
 -- or the refusal tells what came of it
-abbrev pub ReasonTold : Asker → NodeName → ℕ → ℕ → List Entry → Refused → Reason → Type 0
-ReasonTold daemon me number reading entries r (reason.Ticket why blob) = IsToldAt daemon me number reading entries r why blob
-ReasonTold daemon me number reading entries r _ = Unit {0}
+abbrev pub ReasonTold : Asker → NodeName → ℕ → ℕ → List Entry → List SealEntry → Refused → Reason → Type 0
+ReasonTold daemon me number reading entries seals r (reason.Ticket why blob) = IsToldAt daemon me number reading entries seals r why blob
+ReasonTold daemon me number reading entries seals r _ = Unit {0}
 
-abbrev pub EntryToldIn : Asker → NodeName → ℕ → ℕ → GuestStage → List Entry → Entry → Type 0
-EntryToldIn daemon me number reading stage entries (entry.Admitted session) = IsOwnedIn daemon stage session
-EntryToldIn daemon me number reading stage entries (entry.Resumed session) = IsOwnedIn daemon stage session
-EntryToldIn daemon me number reading stage entries (entry.Refused r) = ReasonTold daemon me number reading entries r r.reason
-EntryToldIn daemon me number reading stage entries _ = Unit {0}
+abbrev pub EntryToldIn : Asker → NodeName → ℕ → ℕ → GuestStage → List Entry → List SealEntry → Entry → Type 0
+EntryToldIn daemon me number reading stage entries seals (entry.Admitted session) = IsOwnedIn daemon stage session
+EntryToldIn daemon me number reading stage entries seals (entry.Resumed session) = IsOwnedIn daemon stage session
+EntryToldIn daemon me number reading stage entries seals (entry.Refused r) = ReasonTold daemon me number reading entries seals r r.reason
+EntryToldIn daemon me number reading stage entries seals (entry.Issued ticket) = ⊥
+EntryToldIn daemon me number reading stage entries seals _ = Unit {0}
 
-reason-told : (daemon : Asker) (me : NodeName) (number reading : ℕ) (entries : List Entry) (r : Refused) (why : Reason) → IsNoTicket why → ReasonTold daemon me number reading entries r why
-reason-told daemon me number reading entries r (reason.Ticket why blob) h = absurd h
-reason-told daemon me number reading entries r _ h = tt
+reason-told : (daemon : Asker) (me : NodeName) (number reading : ℕ) (entries : List Entry) (seals : List SealEntry) (r : Refused) (why : Reason) → IsNoTicket why
+    → ReasonTold daemon me number reading entries seals r why
+reason-told daemon me number reading entries seals r (reason.Ticket why blob) h = absurd h
+reason-told daemon me number reading entries seals r _ h = tt
 
-entry-told : (daemon : Asker) (me : NodeName) (number reading : ℕ) (stage : GuestStage) (entries : List Entry) (e : Entry) → EntryOwnedIn daemon stage e
-    → EntryToldIn daemon me number reading stage entries e
-entry-told daemon me number reading stage entries (entry.Admitted session) h = h
-entry-told daemon me number reading stage entries (entry.Resumed session) h = h
-entry-told daemon me number reading stage entries (entry.Refused r) h = reason-told daemon me number reading entries r r.reason h
-entry-told daemon me number reading stage entries _ h = tt
+entry-told : (daemon : Asker) (me : NodeName) (number reading : ℕ) (stage : GuestStage) (entries : List Entry) (seals : List SealEntry) (e : Entry) → EntryOwnedIn daemon stage e
+    → EntryToldIn daemon me number reading stage entries seals e
+entry-told daemon me number reading stage entries seals (entry.Admitted session) h = h
+entry-told daemon me number reading stage entries seals (entry.Resumed session) h = h
+entry-told daemon me number reading stage entries seals (entry.Refused r) h = reason-told daemon me number reading entries seals r r.reason h
+entry-told daemon me number reading stage entries seals (entry.Issued ticket) h = absurd h
+entry-told daemon me number reading stage entries seals _ h = tt
 
 -- a link goes on with its number, and with no authority but the one that it had
 abbrev pub GoesWith : ℕ → GuestStage → Option (Link GuestStage) → Type 0
@@ -93,13 +97,13 @@ pub record StillRow (daemon : Asker) (number : ℕ) (before : GuestStage) (row :
 
 pub record AuthorizedRow (daemon : Asker) (me : NodeName) (number reading : ℕ) (before : GuestStage) (row : GuestRow) : Type 0 where
   pub link : GainsWith daemon number reading before row.entries row.seals row.link
-  pub entries : AllByRecursion (EntryToldIn daemon me number reading before row.entries) row.entries
+  pub entries : AllByRecursion (EntryToldIn daemon me number reading before row.entries row.seals) row.entries
 
 pub still-authorized : (daemon : Asker) (me : NodeName) (number reading : ℕ) (before : GuestStage) (row : GuestRow) → StillRow daemon number before row
     → AuthorizedRow daemon me number reading before row
 still-authorized daemon me number reading before row h = record {
   link = by_link row.link h.link;
-  entries = all-map (EntryOwnedIn daemon before) (EntryToldIn daemon me number reading before row.entries) (entry-told daemon me number reading before row.entries) row.entries h.entries;
+  entries = all-map (EntryOwnedIn daemon before) (EntryToldIn daemon me number reading before row.entries row.seals) (entry-told daemon me number reading before row.entries row.seals) row.entries h.entries;
 }
   where
     by_link : (link : Option (Link GuestStage)) → GoesWith number before link → GainsWith daemon number reading before row.entries row.seals link
@@ -144,7 +148,7 @@ module _ (b : GuestArrival) where
   abbrev looked : GuestRow → GuestRow
   looked row = entered_before (looked_entry b) row
 
-  away-authorized : (before : GuestStage) (opened : List SealEntry) (why : AuthRefusal) → RefusalTells b.own.view b.reading why
+  away-authorized : (before : GuestStage) (opened : List SealEntry) (why : AuthRefusal) → RefusalTells b.own.view b.reading why opened
       → AuthorizedRow b.own b.me b.link.number b.reading before (looked (turns_away b opened why))
   away-authorized before opened (refusal.Malformed place) h = record { link = tt; entries = (tt, (tt, tt)) }
   away-authorized before opened (refusal.WrongService kept got) h = record { link = tt; entries = (tt, (tt, tt)) }
@@ -163,7 +167,7 @@ module _ (b : GuestArrival) where
 
   -- of what is judged
   judged-still : {X : Type 0} (before : GuestStage) (opened : List SealEntry) (value : Result X AuthRefusal) (part : X → ServiceTicket) (next : X → GuestRow)
-      → ((x : X) → StillRow b.own b.link.number before (next x)) → ((r : AuthRefusal) → judged_by part value ≡ Err r → RefusalTells b.own.view b.reading r)
+      → ((x : X) → StillRow b.own b.link.number before (next x)) → ((r : AuthRefusal) → judged_by part value ≡ Err r → RefusalTells b.own.view b.reading r opened)
       → AuthorizedRow b.own b.me b.link.number b.reading before (looked (unless_turned_away b opened value next))
   judged-still before opened (Ok x) part next h tells =
       still-authorized b.own b.me b.link.number b.reading before (looked (next x)) (still-entered b before (looked_entry b) (next x) tt (h x))
@@ -222,7 +226,7 @@ module _ (b : GuestArrival) where
 
     judged-authorized : {X : Type 0} (opened : List SealEntry) (value : Result X AuthRefusal) (part : X → ServiceTicket) (nonce_of : X → ℕ)
         → ((ticket : ServiceTicket) → judged_by part value ≡ Ok ticket → IsShown b.own.view b.reading awaited.challenge ticket opened)
-        → ((r : AuthRefusal) → judged_by part value ≡ Err r → RefusalTells b.own.view b.reading r) → AuthorizedRow b.own b.me b.link.number b.reading due (looked (unless_turned_away b opened value (λ x. authorizes b opened (part x) (nonce_of x))))
+        → ((r : AuthRefusal) → judged_by part value ≡ Err r → RefusalTells b.own.view b.reading r opened) → AuthorizedRow b.own b.me b.link.number b.reading due (looked (unless_turned_away b opened value (λ x. authorizes b opened (part x) (nonce_of x))))
     judged-authorized opened (Ok x) part nonce_of h tells = authorizes-authorized opened (part x) (nonce_of x) (h (part x) refl)
     judged-authorized opened (Err why) part nonce_of h tells = away-authorized due opened why (tells why refl)
 

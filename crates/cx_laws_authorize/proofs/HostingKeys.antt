@@ -56,16 +56,22 @@ use Rattle.cx_laws_authorize.proofs.Keys.{HostKeys, KeptKeys, KeysRow, StageKeys
 use Rattle.cx_laws_keys.proofs.Known.{Inv, IsAllowed}
 use Rattle.cx_laws_keys.proofs.Lists.{all-append}
 use Rattle.cx_laws_keys.proofs.Premises.{AreGranted}
-use Rattle.cx_laws_keys.proofs.Uses.{Uses}
+use Rattle.cx_laws_keys.proofs.Uses.{Uses, WholeRun}
 use Rattle.cx_laws_login.proofs.Facts.{IsSameWay}
-use Rattle.cx_laws_login.proofs.Generations.{AreGenerated}
+use Rattle.cx_laws_keys.proofs.Uses.{AreGenerated}
 use Rattle.cx_laws_login.proofs.Rows.{Allowed, FrameOk, frame-ok, opened-allowed}
+
+-- what comes of a turn is allowed, and its link goes on under good keys
+abbrev TurnedKeys : Uses → List Entry → NodeName → Turned Asker GuestStage → Type 0
+TurnedKeys us J n Waits = Unit {0}
+TurnedKeys us J n (Refuses why opened) = Allowed us J n opened
+TurnedKeys us J n (Handles row) = KeysRow us J n row
 
 -- ---- idents and reconnections, on a link that has an authority
 
 module _ (us : Uses) (J : List Entry) (n : NodeName) (b : GuestArrival) (s : Secured) (owner : Authority) (host : HostKeys us s.keys) where
   abbrev Stays : Deciding Hosted → Type 0
-  Stays d = Always (λ (h : Hosted). RowOf (KeysRow us J n) h.turned) d
+  Stays d = Always (λ (h : Hosted). TurnedKeys us J n h.turned) d
 
   -- a frame that is sealed on the link
   sealed-frame : (f : Frame) → FrameOk us J n s.keys (secure_frame s.keys f)
@@ -154,7 +160,7 @@ module _ (us : Uses) (J : List Entry) (n : NodeName) (b : GuestArrival) (s : Sec
 
 module _ (us : Uses) (J : List Entry) (n : NodeName) (handlers : Handlers) (b : GuestArrival) (s : Secured) (served : Served) (host : HostKeys us s.keys) where
   abbrev StaysOpen : Deciding Hosted → Type 0
-  StaysOpen d = Always (λ (h : Hosted). RowOf (KeysRow us J n) h.turned) d
+  StaysOpen d = Always (λ (h : Hosted). TurnedKeys us J n h.turned) d
 
   -- some frames that are sealed on the link
   frames-ok : (keys : Keys) (fs : List Frame) → HostKeys us keys → FrameOk us J n keys (secure_frames keys fs)
@@ -240,24 +246,29 @@ module _ (us : Uses) (J : List Entry) (n : NodeName) (handlers : Handlers) (b : 
 
 -- ---- a turn
 
-module _ (leaked : List Name) (whole : List Logged) (n : NodeName) (line : ℕ) (us : Uses) (log : List Logged) (J : List Entry) (a : GuestArrival)
-    (i : Inv leaked whole us log J) (of : is_daemon_type a.own.name.kind ≡ true) (generated : AreGenerated us a.own.name.kind a.own.view.generations) (drawn : length a.draw ≡ 384) where
+module _ (run : WholeRun) (whole : List Logged) (n : NodeName) (line : ℕ) (us : Uses) (log : List Logged) (J : List Entry) (a : GuestArrival)
+    (i : Inv run whole us log J) (of : is_daemon_type a.own.name.kind ≡ true) (generated : AreGenerated us a.own.name.kind a.own.view.generations) (drawn : length a.draw ≡ 384) where
   -- where what a row logs is granted, it keeps what is known
-  abbrev KeepsRow : GuestRow → Type 0
-  KeepsRow row = AreGranted leaked whole n line log row.seals → KeptKeys leaked whole n line us log J a i of generated row
+  abbrev pub KeepsRow : GuestRow → Type 0
+  KeepsRow row = AreGranted run.leaked whole n line log row.seals → KeptKeys run whole n line us log J a i of generated row
+
+  abbrev pub KeepsTurned : Turned Asker GuestStage → Type 0
+  KeepsTurned Waits = Unit {0}
+  KeepsTurned (Refuses why opened) = Allowed us J n opened
+  KeepsTurned (Handles row) = KeepsRow row
 
   abbrev pub KeepsHosted : Hosted → Type 0
-  KeepsHosted hosted = RowOf KeepsRow hosted.turned
+  KeepsHosted hosted = KeepsTurned hosted.turned
 
   simple : (row : GuestRow) → KeysRow us J n row → KeepsRow row
-  simple row h g = keys-kept leaked whole n line us log J a i of generated row h
+  simple row h g = keys-kept run whole n line us log J a i of generated row h
 
-  behind-opened : (opened : List SealEntry) (hosted : Hosted) → Allowed us J n opened → RowOf (KeysRow us J n) hosted.turned → KeepsHosted (hosted_behind opened hosted)
+  behind-opened : (opened : List SealEntry) (hosted : Hosted) → Allowed us J n opened → TurnedKeys us J n hosted.turned → KeepsHosted (hosted_behind opened hosted)
   behind-opened opened hosted al h = by_turned hosted.turned h
     where
-      by_turned : (turned : Turned Asker GuestStage) → RowOf (KeysRow us J n) turned → KeepsHosted (hosted_behind opened (record { turned = turned; moved = hosted.moved }))
+      by_turned : (turned : Turned Asker GuestStage) → TurnedKeys us J n turned → KeepsHosted (hosted_behind opened (record { turned = turned; moved = hosted.moved }))
       by_turned Waits h = tt
-      by_turned (Refuses why broken) h = tt
+      by_turned (Refuses why broken) h = h
       by_turned (Handles row) h =
           simple (with_opened opened row) (record { seals = all-append (IsAllowed us J n) opened row.seals al h.seals; entries = h.entries; link = h.link })
 
@@ -278,15 +289,15 @@ module _ (leaked : List Name) (whole : List Logged) (n : NodeName) (line : ℕ) 
       → Keeps (no_session_moves (turned_by (λ (link, f) _. on_auth_request on_first (at a link) (due 2 auth_request_layout.form f)) (plain_read a.link r)))
   request-keeps (Ok None) = tt
   request-keeps (Ok (Some (f, m))) =
-      λ g. keys-kept leaked whole n line us log J a i of generated (on_auth_request on_first (at a (taking a.link m)) (due 2 auth_request_layout.form f))
-      (request-keys leaked whole n line us log J (at a (taking a.link m)) i of generated (due 2 auth_request_layout.form f) g)
+      λ g. keys-kept run whole n line us log J a i of generated (on_auth_request on_first (at a (taking a.link m)) (due 2 auth_request_layout.form f))
+      (request-keys run whole n line us log J (at a (taking a.link m)) i of generated (due 2 auth_request_layout.form f) g)
   request-keeps (Err e) = tt
 
   more-keeps : (awaited : Awaited) (r : Result (Option (Frame × ℕ)) FrameRefusal)
       → Keeps (no_session_moves (turned_by (λ (link, f) _. on_auth_request_more (at a link) awaited (due 5 auth_request_more_layout.form f)) (plain_read a.link r)))
   more-keeps awaited (Ok None) = tt
   more-keeps awaited (Ok (Some (f, m))) = λ g.
-      let h = more-keys leaked whole n line us log J (at a (taking a.link m)) i of generated awaited (due 5 auth_request_more_layout.form f) drawn g in
+      let h = more-keys run whole n line us log J (at a (taking a.link m)) i of generated awaited (due 5 auth_request_more_layout.form f) drawn g in
       record { uses = h.uses; grows = h.grows; inv = h.inv; entries = h.entries; link = h.link }
   more-keeps awaited (Err e) = tt
 
@@ -300,7 +311,7 @@ module _ (leaked : List Name) (whole : List Logged) (n : NodeName) (line : ℕ) 
       let row : GuestRow = on_signature b k owner (due 7 auth_signature_layout.form f) in
       let h = keys-signature us J n b k owner (due 7 auth_signature_layout.form f) (host-moves us k.keys s.keys (record { key = refl; out = refl; into = refl }) host) in
       simple (with_opened opened row) (record { seals = all-append (IsAllowed us J n) opened row.seals al h.seals; entries = h.entries; link = h.link })
-  signature-keeps s owner opened (Err e) host al = tt
+  signature-keeps s owner opened (Err e) host al = al
 
   ident-keeps : (s : Secured) (owner : Authority) (opened : List SealEntry) (r : Result (Option (Frame × ℕ)) SecureRefusal) → HostKeys us s.keys → Allowed us J n opened
       → Keeps (decided_by (λ (link, f, keys). on_ident (at a link) (under s keys) owner f) (secure_read s.keys a.link opened r))
@@ -310,9 +321,9 @@ module _ (leaked : List Name) (whole : List Logged) (n : NodeName) (line : ℕ) 
       let b : GuestArrival = at a (taking a.link m) in
       let rule : Deciding Hosted = on_ident b k owner f in
       always-map KeepsHosted (hosted_behind opened) rule
-      (always-weaker (λ (h : Hosted). RowOf (KeysRow us J n) h.turned) (λ (h : Hosted). KeepsHosted (hosted_behind opened h)) (λ h ok. behind-opened opened h al ok) rule
+      (always-weaker (λ (h : Hosted). TurnedKeys us J n h.turned) (λ (h : Hosted). KeepsHosted (hosted_behind opened h)) (λ h ok. behind-opened opened h al ok) rule
       (frame-stays us J n b k owner (host-moves us k.keys s.keys (record { key = refl; out = refl; into = refl }) host) f))
-  ident-keeps s owner opened (Err e) host al = tt
+  ident-keeps s owner opened (Err e) host al = al
 
   open-keeps : (handlers : Handlers) (s : Secured) (served : Served) (opened : List SealEntry) (r : Result (Option (Frame × ℕ)) SecureRefusal) → HostKeys us s.keys → Allowed us J n opened
       → Keeps (decided_by (λ (link, f, keys). on_open handlers (at a link) (under s keys) served f) (secure_read s.keys a.link opened r))
@@ -322,9 +333,9 @@ module _ (leaked : List Name) (whole : List Logged) (n : NodeName) (line : ℕ) 
       let b : GuestArrival = at a (taking a.link m) in
       let rule : Deciding Hosted = on_open handlers b k served f in
       always-map KeepsHosted (hosted_behind opened) rule
-      (always-weaker (λ (h : Hosted). RowOf (KeysRow us J n) h.turned) (λ (h : Hosted). KeepsHosted (hosted_behind opened h)) (λ h ok. behind-opened opened h al ok) rule
+      (always-weaker (λ (h : Hosted). TurnedKeys us J n h.turned) (λ (h : Hosted). KeepsHosted (hosted_behind opened h)) (λ h ok. behind-opened opened h al ok) rule
       (open-stays us J n handlers b k served (host-moves us k.keys s.keys (record { key = refl; out = refl; into = refl }) host) f))
-  open-keeps handlers s served opened (Err e) host al = tt
+  open-keeps handlers s served opened (Err e) host al = al
 
   pub guest-keeps : (handlers : Handlers) (stage : GuestStage) → StageKeys us stage → Keeps (guest_turned handlers a stage)
   guest-keeps handlers AwaitsBanner st = banner-keeps (banner_at (ahead_of a.link))

@@ -1,5 +1,5 @@
 -- A daemon refuses no issued ticket for its key while its look lists the generation.
-use Rattle.std.proofs.Common.{◌≡◌, ◌≤◌, ◌<◌, ◌==◌, ℕ, Bool, true, false, cond, List, [], ◌∷◌, ◌++◌, length, Option, Some, None, refl, sym, ap, subst, eq-eqb}
+use Rattle.std.proofs.Common.{◌≡◌, ◌≤◌, ◌<◌, ◌==◌, ℕ, Bool, true, false, cond, List, [], ◌∷◌, ◌++◌, length, Option, Some, None, refl, sym, ap, subst, eq-eqb, eqb-true}
 use Rattle.std.specs.Prelude.{Contains, All, find, ◌||◌}
 use Rattle.std.specs.Option.{option_map}
 use Rattle.cx_aes.specs.Cipher.{IsBlock}
@@ -27,24 +27,11 @@ use Rattle.cx_sealed.specs.Records.{service_ticket_layout}
 use Rattle.cx_sealed.specs.declared.service_ticket.ServiceTicket.{ServiceTicket}
 use Rattle.cx_sealed.specs.declared.unsealed.Unsealed.{Unsealed}
 use Rattle.cx_laws_authorize.specs.Admission.{FaultTells, IsToldAt}
-use Rattle.cx_laws_chain.specs.Chain.{IsSealedUnder, said_by}
 use Rattle.cx_laws_keys.proofs.Journal.{has-before}
-
--- ---- a ticket opens under its generation
-
--- what a ticket says can be written: it is read again as it was, and seals as a content
-pub record IsWritable (x : ServiceTicket) : Type 0 where
-  pub spells : Spells service_ticket_layout.form (service_ticket_layout.form.text x) x
-  pub size : length (service_ticket_layout.form.text x) ≤ 1048576
-  pub octets : All (λ b. b < 256) (service_ticket_layout.form.text x)
-
--- a ticket that is sealed under a generation opens under its key, where it can be written
-pub under-opens : (g : Generation) (t : Issued) (u : IsSealedUnder g t) → IsBlock g.key → IsWritable (said_by t u.session)
-    → (unlocked service_ticket_layout.form kind.Service g.key t.blob).value ≡ Some (said_by t u.session)
-under-opens g t u block w =
-    ap (λ (found : Option (Unsealed ServiceTicket)). (unlocked_as kind.Service g.key found).value)
-    (unsealed_only service_ticket_layout.form service_ticket_layout.lawful g.key t.blob (said_by t u.session) block
-    (service_ticket_layout.form.text (said_by t u.session), record { size = w.size; octets = w.octets; is_sealed = u.blob }, w.spells))
+use Rattle.cx_laws_keys.proofs.Uses.{IsSavedIn, WholeRun}
+use Rattle.cx_laws_authorize.proofs.Backing.{AreGood}
+use Rattle.std.specs.List.{AllByRecursion}
+use Rattle.cx_steps.specs.declared.seals.SealEntry.{SealEntry}
 
 -- ---- refusals
 
@@ -52,6 +39,24 @@ under-opens g t u block w =
 abbrev pub AreKept : List Entry → EntityType → List Generation → Type 0
 AreKept J service generations = (t : Issued) → Contains J (journal.Issued t) → t.service ≡ service → (key : List ℕ) → generation_key generations t.generation ≡ Some key
     → (unlocked service_ticket_layout.form kind.Service key t.blob).value ≡ None → ⊥
+
+-- the generation that has the key of an id
+pub found-generation : (P : Generation → Type 0) (gs : List Generation) (id : ℕ) (key : List ℕ) → AllByRecursion P gs → generation_key gs id ≡ Some key
+    → (g : Generation) × P g × (g.id ≡ id) × (g.key ≡ key)
+found-generation P [] id key h e = absurd cc
+found-generation P (g ∷ gs) id key h e = by_test (g.id == id) refl e (found-generation P gs id key h.1)
+  where
+    by_test : (t : Bool) → (g.id == id) ≡ t → option_map (λ (x : Generation). x.key) (cond t (Some g) (find (λ (x : Generation). x.id == id) gs)) ≡ Some key
+        → (generation_key gs id ≡ Some key → (g : Generation) × P g × (g.id ≡ id) × (g.key ≡ key)) → (g : Generation) × P g × (g.id ≡ id) × (g.key ≡ key)
+    by_test true is found rest = (g, h.0, eqb-true g.id id is, cc)
+    by_test false is found rest = rest found
+
+-- so it is of generations that were saved, where the tickets are good
+pub kept-of : (run : WholeRun) (J : List Entry) (service : EntityType) (gs : List Generation) → AreGood run J → AllByRecursion (IsSavedIn run.saved service) gs → AreKept J service gs
+kept-of run J service gs goods saved t has of key known none =
+    let f = found-generation (IsSavedIn run.saved service) gs t.generation key saved known in
+    (goods t has).opens f.0 (subst (λ (s : EntityType). IsSavedIn run.saved s f.0) (sym of) f.1) f.2
+    (subst (λ (k : List ℕ). (unlocked service_ticket_layout.form kind.Service k t.blob).value ≡ None) (sym f.3) none)
 
 -- where no generation has an id, none is listed
 unlisted : (generations : List Generation) (id : ℕ) → generation_key generations id ≡ None → has_generation generations id ≡ false
@@ -86,14 +91,14 @@ module _ (J : List Entry) (daemon : Asker) (number reading : ℕ) (kept : AreKep
       (subst (λ (n : ℕ). generation_key daemon.view.generations n ≡ Some key) (sym was.under) known)
       (subst (λ (b : List ℕ). (unlocked service_ticket_layout.form kind.Service key b).value ≡ None) (sym was.has_blob) none)
 
-  look-keeps : (why : TicketFault) (blob : List ℕ) → FaultTells daemon.view reading why blob → NeedsLook behind_look daemon.name number why blob
-  look-keeps (told.UnknownGeneration id) blob tells = lacks id blob (λ was. unlisted daemon.view.generations id tells)
-  look-keeps (told.TicketUnopened id) blob (key, known, none) = lacks id blob (λ was. absurd (opens-anyhow id blob was key known none))
-  look-keeps _ blob tells = tt
+  look-keeps : (why : TicketFault) (blob : List ℕ) (seals : List SealEntry) → FaultTells daemon.view reading why blob seals → NeedsLook behind_look daemon.name number why blob
+  look-keeps (told.UnknownGeneration id) blob seals tells = lacks id blob (λ was. unlisted daemon.view.generations id tells)
+  look-keeps (told.TicketUnopened id) blob seals (key, known, none) = lacks id blob (λ was. absurd (opens-anyhow id blob was key known none))
+  look-keeps _ blob seals tells = tt
 
   -- so a refusal that tells what came of the ticket keeps its law behind the look that was entered before it
-  pub told-keeps : (es : List Entry) (r : Refused) (why : TicketFault) (blob : List ℕ) → IsToldAt daemon (node.Entity daemon.name) number reading es r why blob
+  pub told-keeps : (es : List Entry) (seals : List SealEntry) (r : Refused) (why : TicketFault) (blob : List ℕ) → IsToldAt daemon (node.Entity daemon.name) number reading es seals r why blob
       → NeedsFor behind_look r.node r.link (reason.Ticket why blob)
-  told-keeps es r why blob h =
+  told-keeps es seals r why blob h =
       subst (λ (at : NodeName). NeedsFor behind_look at r.link (reason.Ticket why blob)) (sym h.node_is)
-      (subst (λ (link : ℕ). NeedsLook behind_look daemon.name link why blob) (sym h.link) (look-keeps why blob h.tells))
+      (subst (λ (link : ℕ). NeedsLook behind_look daemon.name link why blob) (sym h.link) (look-keeps why blob seals h.tells))

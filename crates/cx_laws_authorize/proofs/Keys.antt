@@ -41,9 +41,9 @@ use Rattle.cx_laws_keys.proofs.Known.{Inv, IsAllowed, IsOfAcceptor}
 use Rattle.cx_laws_keys.proofs.Lists.{all-append, all-map}
 use Rattle.cx_laws_keys.proofs.Premises.{AreGranted, behind, behind-append, granted-first, granted-rest}
 use Rattle.cx_laws_keys.proofs.Steps.{inv-all, inv-drawn}
-use Rattle.cx_laws_keys.proofs.Uses.{AtDaemon, Connected, Grows, IsConnected, Means, Ticketed, Use, Uses, connected-grows, grows-one, session_use, stays, with_key}
+use Rattle.cx_laws_keys.proofs.Uses.{AtDaemon, Connected, Grows, IsConnected, Means, Ticketed, Use, Uses, connected-grows, grows-one, session_use, stays, with_key, WholeRun}
 use Rattle.cx_laws_login.proofs.Facts.{IsSameWay, MaySeal}
-use Rattle.cx_laws_login.proofs.Generations.{AreGenerated}
+use Rattle.cx_laws_keys.proofs.Uses.{AreGenerated}
 use Rattle.cx_laws_login.proofs.Issuing.{acceptor-sends}
 use Rattle.cx_laws_login.proofs.Rows.{Allowed, FrameOk, frame-ok}
 
@@ -156,14 +156,14 @@ module _ (us : Uses) (J : List Entry) (n : NodeName) where
 
 -- ---- the first authorizer
 
-module _ (leaked : List Name) (whole : List Logged) (n : NodeName) (line : ℕ) (us : Uses) (log : List Logged) (J : List Entry) (b : GuestArrival)
-    (i : Inv leaked whole us log J) (of : is_daemon_type b.own.name.kind ≡ true) (generated : AreGenerated us b.own.name.kind b.own.view.generations) where
+module _ (run : WholeRun) (whole : List Logged) (n : NodeName) (line : ℕ) (us : Uses) (log : List Logged) (J : List Entry) (b : GuestArrival)
+    (i : Inv run whole us log J) (of : is_daemon_type b.own.name.kind ≡ true) (generated : AreGenerated us b.own.name.kind b.own.view.generations) where
   abbrev Granted : List SealEntry → Type 0
-  Granted es = AreGranted leaked whole n line log es
+  Granted es = AreGranted run.leaked whole n line log es
 
   -- whose the session key of a ticket is that opened first
   opened-means : (ticket : ServiceTicket) (opened : List SealEntry) → Granted opened → ShowsTicket b.own.view ticket opened → Means us ticket.session (session_use ticket.name b.own.name.kind)
-  opened-means ticket opened g shown = (opened-issued leaked whole n line us log J b.own.name.kind b.own.view ticket opened i generated g shown).4
+  opened-means ticket opened g shown = (opened-issued run whole n line us log J b.own.name.kind b.own.view ticket opened i generated g shown).4
 
   keys-challenges : (opened : List SealEntry) (ticket : ServiceTicket) → AllByRecursion IsOpening opened → ShowsTicket b.own.view ticket opened
       → Granted (challenges b opened ticket).seals → KeysRow us J n (challenges b opened ticket)
@@ -182,9 +182,9 @@ module _ (leaked : List Name) (whole : List Logged) (n : NodeName) (line : ℕ) 
           (λ bytes. goes_on b (AwaitsProof (record { service = b.own.name.kind; challenge = challenge_of b.draw })) bytes
           ((opened ++ seal.Drawn (draw.Challenge (challenge_of b.draw)) ∷ []) ++ session_sealed ticket.session (authorize_challenge_content (challenge_of b.draw)) ∷ [])))
       by_sent (Ok bytes) g =
-          let first = granted-first leaked whole n line log (opened ++ seal.Drawn (draw.Challenge (challenge_of b.draw)) ∷ [])
+          let first = granted-first run.leaked whole n line log (opened ++ seal.Drawn (draw.Challenge (challenge_of b.draw)) ∷ [])
           (session_sealed ticket.session (authorize_challenge_content (challenge_of b.draw)) ∷ []) g in
-          let means = opened-means ticket opened (granted-first leaked whole n line log opened (seal.Drawn (draw.Challenge (challenge_of b.draw)) ∷ []) first) shown in
+          let means = opened-means ticket opened (granted-first run.leaked whole n line log opened (seal.Drawn (draw.Challenge (challenge_of b.draw)) ∷ []) first) shown in
           record {
             seals = all-append (IsAllowed us J n) (opened ++ seal.Drawn (draw.Challenge (challenge_of b.draw)) ∷ []) _ drawn-allowed
                 (session-allowed us J n ticket.name b.own.name.kind ticket.session (authorize_challenge_content (challenge_of b.draw)) of means, tt);
@@ -221,13 +221,13 @@ module _ (leaked : List Name) (whole : List Logged) (n : NodeName) (line : ℕ) 
   pub record KeptKeys (row : GuestRow) : Type 0 where
     pub uses : Uses
     pub grows : Grows us uses
-    pub inv : Inv leaked whole uses (behind n line row.seals log) J
+    pub inv : Inv run whole uses (behind n line row.seals log) J
     pub entries : AllByRecursion IsNotIssued row.entries
     pub link : LinkKeys uses row.link
 
   -- where it draws no key
   pub keys-kept : (row : GuestRow) → KeysRow us J n row → KeptKeys row
-  keys-kept row h = record { uses = us; grows = stays us; inv = inv-all leaked whole us log J n line row.seals i h.seals; entries = h.entries; link = h.link }
+  keys-kept row h = record { uses = us; grows = stays us; inv = inv-all run whole us log J n line row.seals i h.seals; entries = h.entries; link = h.link }
 
   -- a link that is finished
   abbrev FinishedKeys : Uses → Keys → Result Finished BytesFault → Type 0
@@ -265,17 +265,17 @@ module _ (leaked : List Name) (whole : List Logged) (n : NodeName) (line : ℕ) 
     abbrev held : List SealEntry
     held = session_sealed ticket.session (authorize_reply_content nonce secret) ∷ []
 
-    drawn-inv : Granted before → Inv leaked whole vs (behind n line before log) J
+    drawn-inv : Granted before → Inv run whole vs (behind n line before log) J
     drawn-inv g =
-        let first = inv-all leaked whole us log J n line opened i (openings-allowed us J n opened all) in
-        let rest = granted-rest leaked whole n line log opened (drew ∷ []) g in
-        subst (λ (l : List Logged). Inv leaked whole vs l J) (sym (behind-append n line opened (drew ∷ []) log))
-        (inv-drawn leaked whole us (behind n line opened log) J n line (draw.Connection secret ticket.name) (take 16 secret) purpose first refl refl (λ m e. absurd cc) rest.0)
+        let first = inv-all run whole us log J n line opened i (openings-allowed us J n opened all) in
+        let rest = granted-rest run.leaked whole n line log opened (drew ∷ []) g in
+        subst (λ (l : List Logged). Inv run whole vs l J) (sym (behind-append n line opened (drew ∷ []) log))
+        (inv-drawn run whole us (behind n line opened log) J n line (draw.Connection secret ticket.name) (take 16 secret) purpose first refl refl (λ m e. absurd cc) rest.0)
 
     session-means : Granted before → Means vs ticket.session (Ticketed ticket.name b.own.name.kind)
     session-means g =
         inr (subst (λ (u : Use). Means us ticket.session u) (ticketed ticket.name b.own.name.kind of)
-        (opened-means ticket opened (granted-first leaked whole n line log opened (drew ∷ []) g) shown))
+        (opened-means ticket opened (granted-first run.leaked whole n line log opened (drew ∷ []) g) shown))
 
     host : HostKeys vs (acceptor_keys secret)
     host = record {
@@ -288,15 +288,15 @@ module _ (leaked : List Name) (whole : List Logged) (n : NodeName) (line : ℕ) 
         → Granted (done_sent b before held (authority_of b ticket) r).seals → KeptKeys (done_sent b before held (authority_of b ticket) r)
     done-keys (Err why) fin g = record { uses = vs; grows = grows-one us (take 16 secret) purpose; inv = drawn-inv g; entries = (tt, tt); link = tt }
     done-keys (Ok done) fin g =
-        let first = granted-first leaked whole n line log before (held ++ done.seals) g in
+        let first = granted-first run.leaked whole n line log before (held ++ done.seals) g in
         let means = session-means first in
         let f = fin means in
         let allowed : Allowed vs J n (held ++ done.seals) = all-append (IsAllowed vs J n) held done.seals ((Ticketed ticket.name b.own.name.kind, means, tt, tt), tt) f.0 in
         record {
           uses = vs;
           grows = grows-one us (take 16 secret) purpose;
-          inv = subst (λ (l : List Logged). Inv leaked whole vs l J) (sym (behind-append n line before (held ++ done.seals) log))
-              (inv-all leaked whole vs (behind n line before log) J n line (held ++ done.seals) (drawn-inv first) allowed);
+          inv = subst (λ (l : List Logged). Inv run whole vs l J) (sym (behind-append n line before (held ++ done.seals) log))
+              (inv-all run whole vs (behind n line before log) J n line (held ++ done.seals) (drawn-inv first) allowed);
           entries = tt;
           link = host-moves vs done.secured.keys (acceptor_keys secret) f.1 host;
         }

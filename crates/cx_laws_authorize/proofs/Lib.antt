@@ -8,3 +8,5 @@ pub mod Backing
 pub mod KeepingKeys
 pub mod Keys
 pub mod HostingKeys
+pub mod Telling
+pub mod DaemonStep

@@ -108,20 +108,22 @@ module _ (d : DaemonState) (input : Input) (reading : ℕ) where
       turn_of : IsTurnOf d input number stage
       turn_of = record { turn = turn_is; link = link; found = found; stage_is = stage_is }
 
-      reason-told : (es : List Entry) (r : Refused) (why : Reason) → ReasonTold d.node.own.asker (me d.node.own) link.number reading es r why → RefusalTold d input reading es r why
-      reason-told es r (reason.Ticket why blob) h = record {
+      reason-told : (es : List Entry) (ss : List SealEntry) (r : Refused) (why : Reason) → ReasonTold d.node.own.asker (me d.node.own) link.number reading es ss r why
+          → RefusalTold d input reading es ss r why
+      reason-told es ss r (reason.Ticket why blob) h = record {
         number = number;
         stage = stage;
         turn = turn_of;
-        told_at = subst (λ (n : ℕ). IsToldAt d.node.own.asker (me d.node.own) n reading es r why blob) numbered h;
+        told_at = subst (λ (n : ℕ). IsToldAt d.node.own.asker (me d.node.own) n reading es ss r why blob) numbered h;
       }
-      reason-told es r _ h = tt
+      reason-told es ss r _ h = tt
 
-      entry-told : (es : List Entry) (e : Entry) → EntryToldIn d.node.own.asker (me d.node.own) link.number reading stage es e → EntryTold d input reading es e
-      entry-told es (entry.Admitted s) h = record { number = number; stage = stage; turn = turn_of; owned = h }
-      entry-told es (entry.Resumed s) h = record { number = number; stage = stage; turn = turn_of; owned = h }
-      entry-told es (entry.Refused r) h = reason-told es r r.reason h
-      entry-told es _ h = tt
+      entry-told : (es : List Entry) (ss : List SealEntry) (e : Entry) → EntryToldIn d.node.own.asker (me d.node.own) link.number reading stage es ss e → EntryTold d input reading es ss e
+      entry-told es ss (entry.Admitted s) h = record { number = number; stage = stage; turn = turn_of; owned = h }
+      entry-told es ss (entry.Resumed s) h = record { number = number; stage = stage; turn = turn_of; owned = h }
+      entry-told es ss (entry.Refused r) h = reason-told es ss r r.reason h
+      entry-told es ss (entry.Issued ticket) h = absurd h
+      entry-told es ss _ h = tt
 
       -- what the link had
       had-it : (n : ℕ) (x : Authority) → n ≡ link.number → GuestHas stage x → HadAuthority d n x
@@ -162,20 +164,22 @@ module _ (d : DaemonState) (input : Input) (reading : ℕ) where
           by_turned (Refuses why opened) h = record { authorized = without-fits _ opened link.number; told = (tt, tt) }
           by_turned (Handles row) h = record {
             authorized = row-links row row.link h.link;
-            told = all-map (EntryToldIn d.node.own.asker (me d.node.own) link.number reading stage row.entries) (EntryTold d input reading row.entries) (entry-told row.entries) row.entries h.entries;
+            told = all-map (EntryToldIn d.node.own.asker (me d.node.own) link.number reading stage row.entries row.seals) (EntryTold d input reading row.entries row.seals) (entry-told row.entries row.seals)
+                row.entries h.entries;
           }
 
     -- ---- a turn of its own link
 
-    login-told : (es : List Entry) (r : Refused) (why : Reason) → IsOfLogin why → RefusalTold d input reading es r why
-    login-told es r (reason.Ticket why blob) h = absurd h
-    login-told es r _ h = tt
+    login-told : (es : List Entry) (ss : List SealEntry) (r : Refused) (why : Reason) → IsOfLogin why → RefusalTold d input reading es ss r why
+    login-told es ss r (reason.Ticket why blob) h = absurd h
+    login-told es ss r _ h = tt
 
-    asker-told : (es : List Entry) (e : Entry) → IsOfAsker e → EntryTold d input reading es e
-    asker-told es (entry.Refused r) h = login-told es r r.reason h
-    asker-told es (entry.Admitted x) h = absurd h
-    asker-told es (entry.Resumed x) h = absurd h
-    asker-told es _ h = tt
+    asker-told : (es : List Entry) (ss : List SealEntry) (e : Entry) → IsOfAsker e → EntryTold d input reading es ss e
+    asker-told es ss (entry.Refused r) h = login-told es ss r r.reason h
+    asker-told es ss (entry.Admitted x) h = absurd h
+    asker-told es ss (entry.Resumed x) h = absurd h
+    asker-told es ss (entry.Issued x) h = absurd h
+    asker-told es ss _ h = tt
 
     own-links : (es : List Entry) (ss : List SealEntry) (bytes : List ℕ) (l : Option (Link connector.Stage))
         → AllByRecursion (LinkAuthorized d input reading es ss) (links_behind links link.number bytes (option_map (of_kind AsConnector) l))
@@ -188,7 +192,7 @@ module _ (d : DaemonState) (input : Input) (reading : ℕ) where
     own-fits draw (Refuses why opened) h = record { authorized = without-fits _ opened link.number; told = (tt, tt) }
     own-fits draw (Handles row) h = record {
       authorized = own-links row.entries row.seals row.sends row.link;
-      told = all-map IsOfAsker (EntryTold d input reading row.entries) (asker-told row.entries) row.entries h;
+      told = all-map IsOfAsker (EntryTold d input reading row.entries row.seals) (asker-told row.entries row.seals) row.entries h;
     }
 
     stage-turns : (handlers : Handlers) (draw : List ℕ) (stage : DaemonStage) → link.stage ≡ stage
@@ -211,7 +215,7 @@ module _ (d : DaemonState) (input : Input) (reading : ℕ) where
   -- ---- the other events
 
   -- nothing happens to its links
-  still-fits : (o : Outcome DaemonNode) → o.state.links ≡ links → AllByRecursion (EntryTold d input reading o.out.entries) o.out.entries → Fits o
+  still-fits : (o : Outcome DaemonNode) → o.state.links ≡ links → AllByRecursion (EntryTold d input reading o.out.entries o.out.seals) o.out.entries → Fits o
   still-fits o same entries =
       record { authorized = subst (λ (ls : List (Link DaemonStage)). AllByRecursion (LinkAuthorized d input reading o.out.entries o.out.seals) ls) (sym same) (had o.out.entries o.out.seals); told = entries }
 
@@ -298,11 +302,11 @@ module _ (d : DaemonState) (input : Input) (reading : ℕ) where
       sent-fits : (link : Link DaemonStage) (s : Secured) (requests : Requests) (made : Result SealedFrame Reason) → IsMadeOfLogin made → Fits (carried_out d.node link.number false
           (lifted (with_asker d.node.own) (sends_request open_to_ask (arrival (me d.node.own) d.node.own.asker link reading draw) s requests (want.Rotating reading) made)))
       sent-fits link s requests (Ok sealed) h = record { authorized = put-fits [] sealed.seals _ (λ x has. absurd has); told = tt }
-      sent-fits link s requests (Err why) h = record { authorized = without-fits _ [] link.number; told = (of_login _ _ why h, tt) }
+      sent-fits link s requests (Err why) h = record { authorized = without-fits _ [] link.number; told = (of_login _ _ _ why h, tt) }
         where
-          of_login : (es : List Entry) (r : Refused) (x : Reason) → IsOfLogin x → RefusalTold d input reading es r x
-          of_login es r (reason.Ticket w blob) k = absurd k
-          of_login es r _ k = tt
+          of_login : (es : List Entry) (ss : List SealEntry) (r : Refused) (x : Reason) → IsOfLogin x → RefusalTold d input reading es ss r x
+          of_login es ss r (reason.Ticket w blob) k = absurd k
+          of_login es ss r _ k = tt
 
       by_open : (found : Option (Link DaemonStage × (Secured × Requests))) → Fits (fetches_on d.node reading draw found)
       by_open None = still-fits (fetches_on d.node reading draw None) refl tt
@@ -353,7 +357,7 @@ rule-fits handlers d (Look view) reading draw = still-fits d (Look view) reading
 rule-fits handlers d Restart reading draw = record { authorized = tt; told = (tt, tt) }
 
 -- with whatever book
-always-book : {B C R X : Type 0} (P : X → Type 0) (replies : B → C → R) (behind : B → C → B) (book : B) (rule : Asks C R X) → Always P rule → P (with_book replies behind book rule).0
+pub always-book : {B C R X : Type 0} (P : X → Type 0) (replies : B → C → R) (behind : B → C → B) (book : B) (rule : Asks C R X) → Always P rule → P (with_book replies behind book rule).0
 always-book P replies behind book (Finished x) h = h
 always-book P replies behind book (Asking call next) h = always-book P replies behind (behind book call) (next (replies book call)) (h (replies book call))
 

@@ -32,6 +32,7 @@ use Rattle.cx_sealed.specs.declared.service_ticket.ServiceTicket.{ServiceTicket}
 use Rattle.cx_steps.specs.Onto.{SomeOf}
 use Rattle.cx_steps.specs.declared.seals.SealEntry.{SealEntry}
 use Rattle.cx_steps.specs.declared.seals.SealEntry.TheVariants as seal
+use Rattle.cx_cbc.specs.Opened.{opened}
 
 -- ---- who was authorized on a link
 
@@ -89,26 +90,28 @@ pub record IsOwnedIn (daemon : Asker) (stage : GuestStage) (session : Admitted) 
 -- ---- refusals of a ticket
 
 -- A ticket of this blob is refused for this fault, by this view and at this reading: its generation isn't listed; it is, and the blob opens as no
--- ticket under its key; or the blob opens as a ticket under it, which is for another global id than was claimed, or expired at the reading or before. Of a
--- fault of what was sealed beside it nothing is said.
-abbrev pub FaultTells : View → ℕ → TicketFault → List ℕ → Type 0
-FaultTells view reading (told.UnknownGeneration id) blob = generation_key view.generations id ≡ None
-FaultTells view reading (told.TicketUnopened id) blob =
+-- ticket under its key; or the blob opens as a ticket under it, which is for another global id than was claimed; or, as the first thing that is logged, as
+-- one that expired at the reading or before. Of a fault of what was sealed beside it nothing is said.
+abbrev pub FaultTells : View → ℕ → TicketFault → List ℕ → List SealEntry → Type 0
+FaultTells view reading (told.UnknownGeneration id) blob seals = generation_key view.generations id ≡ None
+FaultTells view reading (told.TicketUnopened id) blob seals =
     (key : List ℕ) × (generation_key view.generations id ≡ Some key) × ((unlocked service_ticket_layout.form kind.Service key blob).value ≡ None)
-FaultTells view reading (told.GidDiffers claimed sealed_for) blob =
+FaultTells view reading (told.GidDiffers claimed sealed_for) blob seals =
     (id : ℕ) × (key : List ℕ) × (ticket : ServiceTicket) × (generation_key view.generations id ≡ Some key)
     × ((unlocked service_ticket_layout.form kind.Service key blob).value ≡ Some ticket) × (ticket.gid ≡ sealed_for) × (claimed ≡ sealed_for → ⊥)
-FaultTells view reading (told.Expired expires now) blob =
-    (id : ℕ) × (key : List ℕ) × (ticket : ServiceTicket) × (generation_key view.generations id ≡ Some key)
-    × ((unlocked service_ticket_layout.form kind.Service key blob).value ≡ Some ticket) × (ticket.expires ≡ expires) × (now ≡ reading) × (expires ≤ now)
-FaultTells view reading _ blob = Unit {0}
+FaultTells view reading (told.Expired expires now) blob seals =
+    (id : ℕ) × (key : List ℕ) × (content : List ℕ) × (ticket : ServiceTicket) × (rest : List SealEntry) × (generation_key view.generations id ≡ Some key)
+    × (seals ≡ seal.Opened (record { key = key; kind = kind.Service; content = content }) ∷ rest) × (opened key blob ≡ Some content)
+    × (spelled_by service_ticket_layout.form content ≡ Some ticket) × (ticket.expires ≡ expires) × (now ≡ reading) × (expires ≤ now)
+FaultTells view reading _ blob seals = Unit {0}
 
 -- the refusal is made by this node on the link of this number, and nothing is entered but that the daemon looked at its view, and then the refusal
-pub record IsToldAt (daemon : Asker) (me : NodeName) (number reading : ℕ) (entries : List Entry) (r : Refused) (why : TicketFault) (blob : List ℕ) : Type 0 where
+pub record IsToldAt (daemon : Asker) (me : NodeName) (number reading : ℕ) (entries : List Entry) (seals : List SealEntry) (r : Refused) (why : TicketFault)
+    (blob : List ℕ) : Type 0 where
   pub node_is : r.node ≡ me
   pub link : r.link ≡ number
   pub entries_are : entries ≡ entry.Looked (record { daemon = daemon.name; link = number; view = daemon.view }) ∷ entry.Refused r ∷ []
-  pub tells : FaultTells daemon.view reading why blob
+  pub tells : FaultTells daemon.view reading why blob seals
 
 -- ---- a step
 
@@ -141,28 +144,30 @@ pub record IsOwned (d : DaemonState) (input : Input) (session : Admitted) : Type
   pub owned : IsOwnedIn d.node.own.asker stage session
 
 -- a ticket is refused at a turn of a guest's link
-pub record IsTold (d : DaemonState) (input : Input) (reading : ℕ) (entries : List Entry) (r : Refused) (why : TicketFault) (blob : List ℕ) : Type 0 where
+pub record IsTold (d : DaemonState) (input : Input) (reading : ℕ) (entries : List Entry) (seals : List SealEntry) (r : Refused) (why : TicketFault) (blob : List ℕ)
+    : Type 0 where
   pub number : ℕ
   pub stage : GuestStage
   pub turn : IsTurnOf d input number stage
-  pub told_at : IsToldAt d.node.own.asker (node.Entity d.node.own.asker.name) number reading entries r why blob
+  pub told_at : IsToldAt d.node.own.asker (node.Entity d.node.own.asker.name) number reading entries seals r why blob
 
-abbrev pub RefusalTold : DaemonState → Input → ℕ → List Entry → Refused → Reason → Type 0
-RefusalTold d input reading entries r (reason.Ticket why blob) = IsTold d input reading entries r why blob
-RefusalTold d input reading entries r _ = Unit {0}
+abbrev pub RefusalTold : DaemonState → Input → ℕ → List Entry → List SealEntry → Refused → Reason → Type 0
+RefusalTold d input reading entries seals r (reason.Ticket why blob) = IsTold d input reading entries seals r why blob
+RefusalTold d input reading entries seals r _ = Unit {0}
 
--- what is entered
-abbrev pub EntryTold : DaemonState → Input → ℕ → List Entry → Entry → Type 0
-EntryTold d input reading entries (entry.Admitted session) = IsOwned d input session
-EntryTold d input reading entries (entry.Resumed session) = IsOwned d input session
-EntryTold d input reading entries (entry.Refused r) = RefusalTold d input reading entries r r.reason
-EntryTold d input reading entries _ = Unit {0}
+-- what is entered; a daemon issues no ticket
+abbrev pub EntryTold : DaemonState → Input → ℕ → List Entry → List SealEntry → Entry → Type 0
+EntryTold d input reading entries seals (entry.Admitted session) = IsOwned d input session
+EntryTold d input reading entries seals (entry.Resumed session) = IsOwned d input session
+EntryTold d input reading entries seals (entry.Refused r) = RefusalTold d input reading entries seals r r.reason
+EntryTold d input reading entries seals (entry.Issued ticket) = ⊥
+EntryTold d input reading entries seals _ = Unit {0}
 
 -- what a step comes to: each link's authority is one that it had, or that of the second authorizer which came; each session is owned so; and each
--- refusal of a ticket tells what came of it
+-- refusal of a ticket tells what came of it; no ticket is issued
 pub record Authorizes (d : DaemonState) (input : Input) (reading : ℕ) (entries : List Entry) (seals : List SealEntry) (links : List (Link DaemonStage)) : Type 0 where
   pub authorized : AllByRecursion (LinkAuthorized d input reading entries seals) links
-  pub told : AllByRecursion (EntryTold d input reading entries) entries
+  pub told : AllByRecursion (EntryTold d input reading entries seals) entries
 
 -- so does each step
 abbrev pub StepAuthorizes : Handlers → DaemonState → Input → ℕ → List ℕ → Type 0

@@ -1,0 +1,519 @@
+-- A step of a daemon, at any event and with any book: what is known of a run's keys stays so, and what it enters keeps its laws.
+use Rattle.std.proofs.Common.{◌≡◌, ◌⊎◌, ◌≤◌, ◌==◌, ℕ, Bool, true, false, List, [], ◌∷◌, ◌++◌, length, filter, Option, Some, None, Result, Ok, Err, inl, inr, refl, sym, ap, ◌∙◌, subst, append_assoc, append-nil, arith}
+use Rattle.std.specs.Prelude.{Contains, nat_le, nat_lt, not, if◌then◌else◌, IfSome}
+use Rattle.std.specs.List.{AllByRecursion}
+use Rattle.std.specs.Option.{option_map}
+use Rattle.cx_authorize.specs.Daemon.{Authority}
+use Rattle.cx_base.specs.Names.{Name, is_daemon_type}
+use Rattle.cx_base.specs.declared.kinds.EntityType.{EntityType}
+use Rattle.cx_base.specs.declared.nodes.NodeName.{NodeName}
+use Rattle.cx_base.specs.declared.nodes.NodeName.TheVariants as node
+use Rattle.cx_desk.specs.Handlers.{Handlers}
+use Rattle.cx_journal.specs.Behind.{EachBehind}
+use Rattle.cx_journal.specs.declared.entries.Entry.{Entry}
+use Rattle.cx_journal.specs.declared.entries.Entry.TheVariants as journal
+use Rattle.cx_journal.specs.declared.outcomes.Reason.TheVariants as reason
+use Rattle.cx_rules.specs.Acceptor.{AwaitsBanner, AwaitsHello, AwaitsRequest, AwaitsProof, AwaitsSignature, AwaitsIdent, Open}
+use Rattle.cx_rules.specs.Connector as connector
+use Rattle.cx_rules.specs.Connector.{AskerArrival}
+use Rattle.cx_rules.specs.Greetings.{own_banner}
+use Rattle.cx_rules.specs.Holdings.{Asker}
+use Rattle.cx_rules.specs.Inputs.{Input, Opened, NoLink, Bytes, Turn, Gone, Look, Tick, Submit, Restart}
+use Rattle.cx_rules.specs.Links.{Link, link_of}
+use Rattle.cx_rules.specs.Requests.{Requests, asks_rotating, first_open, is_outdated, open_or, sealed_request, sends_request}
+use Rattle.cx_rules.specs.Rows.{Arrival, Outcome, Row, Turned, Waits, Refuses, Handles, arrival, carried_out, fed, forgotten, goes_on, idles, lifted, new_link, refused_entry, refuses, refuses_bytes, turns}
+use Rattle.cx_rules.specs.Secured.{SealedFrame, Secured}
+use Rattle.cx_rules_session.specs.Asks.{Asks, Finished, Asking, with_book}
+use Rattle.cx_rules_session.specs.DaemonRule.{AsAcceptor, AsConnector, Daemon, DaemonNode, DaemonStage, DaemonState, asking_open, book_after, book_reply, daemon_rule, daemon_step, ended_entry, fetches, fetches_on, gone, gone_by_kind, guest_gone, hosts, is_fetching, is_in, is_older, loses, lossy_gone, me, moved_to, on_dropped, open_to_ask, opens, restarted, opens_guest, opens_own, shut_where, submits, ticks, turn, turned_at, undialled, unreached, with_asker}
+use Rattle.cx_rules_session.specs.Guests.{GuestRow, GuestStage}
+use Rattle.cx_rules_session.specs.Hosting.{Deciding, Hosted, guest_turned}
+use Rattle.cx_rules_session.specs.Kinds.{arrival_in, of_kind, row_of_kind, turn_of_kind}
+use Rattle.cx_session.specs.declared.call.BookCall.TheVariants.{End}
+use Rattle.cx_session.specs.declared.call.BookReply.{BookReply}
+use Rattle.cx_session.specs.declared.call.BookReply.TheVariants as reply
+use Rattle.cx_steps.specs.Nothing.{nothing}
+use Rattle.cx_steps.specs.declared.events.Command.{Command}
+use Rattle.cx_steps.specs.declared.events.Command.TheVariants as command
+use Rattle.cx_steps.specs.declared.events.Peer.{Peer}
+use Rattle.cx_steps.specs.declared.events.Peer.TheVariants as peer
+use Rattle.cx_steps.specs.declared.seals.Logged.{Logged}
+use Rattle.cx_steps.specs.declared.seals.SealEntry.{SealEntry}
+use Rattle.cx_rules.specs.declared.requests.Want.TheVariants as want
+use Rattle.cx_wire.specs.declared.bodies.Request.TheVariants as asked
+use Rattle.cx_run.proofs.GuestTakes.{StaysGuest, TakesHosted, guest-takes}
+use Rattle.cx_run.proofs.Taking.{EachRow}
+use Rattle.cx_laws_authorize.proofs.Backing.{AllGood, HasBacking}
+use Rattle.cx_laws_authorize.proofs.Hosting.{Always, always-map, always-weaker}
+use Rattle.cx_laws_authorize.proofs.HostingKeys.{KeepsHosted, KeepsTurned, guest-keeps}
+use Rattle.cx_laws_authorize.proofs.Keys.{KeptKeys, LinkKeys, StageKeys, host-grows}
+use Rattle.cx_laws_authorize.proofs.Steps.{all-authorize, always-book}
+use Rattle.cx_laws_authorize.proofs.Telling.{IsBackedLink, backed-behind, told-laws}
+use Rattle.cx_laws_authorize.specs.Admission.{Authorizes, EntryTold}
+use Rattle.cx_laws_keys.proofs.Journal.{After, EntryLaw, IsNotIssued, entered, login-law, own-other}
+use Rattle.cx_laws_keys.proofs.Known.{Inv}
+use Rattle.cx_laws_keys.proofs.Lists.{all-append, all-map}
+use Rattle.cx_laws_keys.proofs.Premises.{AreGranted, behind}
+use Rattle.cx_laws_keys.proofs.Steps.{inv-entered}
+use Rattle.cx_laws_keys.proofs.Uses.{Grows, Uses, WholeRun, stays}
+use Rattle.cx_laws_login.proofs.AskerRows.{asker_says, request-sends}
+use Rattle.cx_laws_login.proofs.ClientStep as client_step
+use Rattle.cx_laws_login.proofs.Facts.{AskerKnown, AskerOk, AskerStageOk, HasConnection, asker-entered, asker_stage-grows, known-grows, none-fetched}
+use Rattle.cx_laws_login.proofs.Rows.{AfterRow, AfterStep, Allowed, IsQuietEntry, LinkOk, LinksOk, NodeOk, RowOk, Saying, TurnOk, after-quiet, after-simple, all-behind, all-filter, all-put, all-without, carried, found-link, idle, links-grow, none-given, reached-allowed, simple-goes_on, simple-refuses, turned-ok}
+
+-- guests come to daemons in this run
+abbrev pub GuestsCome : WholeRun → Type 0
+GuestsCome run = run.guests ≡ false → ⊥
+
+abbrev pub DaemonStageOk : WholeRun → Uses → NodeName → DaemonStage → Type 0
+DaemonStageOk run us n (AsAcceptor stage) = StageKeys us stage × GuestsCome run
+DaemonStageOk run us n (AsConnector stage) = AskerStageOk us n stage
+
+stage_keys-grow : (us vs : Uses) (stage : GuestStage) → Grows us vs → StageKeys us stage → StageKeys vs stage
+stage_keys-grow us vs AwaitsBanner f h = tt
+stage_keys-grow us vs AwaitsHello f h = tt
+stage_keys-grow us vs AwaitsRequest f h = tt
+stage_keys-grow us vs (AwaitsProof awaited) f h = tt
+stage_keys-grow us vs (AwaitsSignature s owner) f h = host-grows us vs s.keys f h
+stage_keys-grow us vs (AwaitsIdent s owner) f h = host-grows us vs s.keys f h
+stage_keys-grow us vs (Open s served) f h = host-grows us vs s.keys f h
+
+pub daemon_stage-grows : (run : WholeRun) (us vs : Uses) (n : NodeName) (stage : DaemonStage) → Grows us vs → DaemonStageOk run us n stage → DaemonStageOk run vs n stage
+daemon_stage-grows run us vs n (AsAcceptor stage) f h = (stage_keys-grow us vs stage f h.0, h.1)
+daemon_stage-grows run us vs n (AsConnector stage) f h = asker_stage-grows us vs n stage f h
+
+abbrev pub daemon_says : WholeRun → List Entry → NodeName → Saying Daemon DaemonStage
+daemon_says run first n = record {
+  Owns = λ us J daemon. AskerOk run first us J daemon.asker;
+  Stands = λ us stage. DaemonStageOk run us n stage;
+  own_enters = λ us J daemon e other h. asker-entered run first us J daemon.asker e other h;
+  stage_grows = λ us vs stage f st. daemon_stage-grows run us vs n stage f st;
+}
+
+-- as one that asks
+abbrev pub kind_says : WholeRun → List Entry → NodeName → Saying Asker DaemonStage
+kind_says run first n = record {
+  Owns = AskerOk run first;
+  Stands = λ us stage. DaemonStageOk run us n stage;
+  own_enters = asker-entered run first;
+  stage_grows = λ us vs stage f st. daemon_stage-grows run us vs n stage f st;
+}
+
+-- no view is told but by a reply
+abbrev pub IsNoLook : Input → Type 0
+IsNoLook (Look view) = ⊥
+IsNoLook _ = Unit {0}
+
+-- no guest comes and no session is dropped
+abbrev pub IsNoGuest : Input → Type 0
+IsNoGuest (Opened number None) = ⊥
+IsNoGuest (Submit (command.Drop session)) = ⊥
+IsNoGuest _ = Unit {0}
+
+-- ---- entries that issue nothing, under their laws
+
+module _ (run : WholeRun) (whole : List Logged) where
+  entered-inv : (us : Uses) (log : List Logged) (J js : List Entry) → AllByRecursion IsNotIssued js → Inv run whole us log J → Inv run whole us log (entered J js)
+  entered-inv us log J [] none i = i
+  entered-inv us log J (e ∷ js) none i = entered-inv us log (J ++ e ∷ []) js none.1 (inv-entered run whole us log J e i (own-other J e none.0 i.own))
+
+entered-asker : (run : WholeRun) (first : List Entry) (us : Uses) (J js : List Entry) (asker : Asker) → AllByRecursion IsNotIssued js → AskerOk run first us J asker
+    → AskerOk run first us (entered J js) asker
+entered-asker run first us J [] asker none ok = ok
+entered-asker run first us J (e ∷ js) asker none ok = entered-asker run first us (J ++ e ∷ []) js asker none.1 (asker-entered run first us J asker e none.0 ok)
+
+-- ---- a step
+
+-- both are so, whatever is replied
+always-both : {C R X : Type 0} (P Q : X → Type 0) (rule : Asks C R X) → Always P rule → Always Q rule → Always (λ (x : X). P x × Q x) rule
+always-both P Q (Finished x) p q = (p, q)
+always-both P Q (Asking call next) p q = λ r. always-both P Q (next r) (p r) (q r)
+
+module _ (run : WholeRun) (whole : List Logged) (n : NodeName) (line : ℕ) (us : Uses) (log : List Logged) (J : List Entry) (d : DaemonState) (input : Input) (reading : ℕ) where
+  abbrev Says : Saying Daemon DaemonStage
+  Says = daemon_says run J n
+
+  -- what is known of the daemon before the step
+  pub record IsReady : Type 0 where
+    pub inv : Inv run whole us log J
+    pub ok : NodeOk Says d.node us J
+    pub here : n ≡ node.Entity d.node.own.asker.name
+    pub of : is_daemon_type d.node.own.asker.name.kind ≡ true
+    pub backed : GuestsCome run → AllByRecursion (IsBackedLink J d.node.own.asker.name.kind) d.node.links
+    pub good : AllGood run J
+    pub comes : run.guests ≡ false → IsNoGuest input
+    pub looks : IsNoLook input
+
+  -- where what a step logs is granted, and it authorizes as each does, all stays known
+  abbrev Keeps : Outcome DaemonNode → Type 0
+  Keeps o = AreGranted run.leaked whole n line log o.out.seals → Authorizes d input reading o.out.entries o.out.seals o.state.links
+      → AfterStep Says run whole n line us log J o
+
+  module _ (r : IsReady) where
+    abbrev asker : Asker
+    asker = d.node.own.asker
+
+    -- ---- a turn of a guest's link
+
+    module _ (draw : List ℕ) (drawn : length draw ≡ 384) (link : Link DaemonStage) (stage : GuestStage) (st : DaemonStageOk run us n (AsAcceptor stage)) where
+      abbrev at_link : Arrival Daemon DaemonStage
+      at_link = arrival (me d.node.own) d.node.own link reading draw
+
+      abbrev guest : Arrival Asker GuestStage
+      guest = arrival_in at_link asker stage
+
+      abbrev Hosts_ : Hosted → Type 0
+      Hosts_ hosted = Keeps (hosts d.node at_link hosted)
+
+      -- older links of a session are shut
+      shut-keeps : (is_shut : Link DaemonStage → Bool) (o : Outcome DaemonNode) → AfterStep Says run whole n line us log J o → AfterStep Says run whole n line us log J (shut_where is_shut o)
+      shut-keeps is_shut o a = record {
+        uses = a.uses;
+        grows = a.grows;
+        inv = a.inv;
+        laws = a.laws;
+        good = record { own = a.good.own; links = all-filter (λ (l : Link DaemonStage). DaemonStageOk run a.uses n l.stage) (λ (l : Link DaemonStage). not (is_shut l)) o.state.links a.good.links };
+      }
+
+      moved-keeps : (number : ℕ) (moved : Option ℕ) (o : Outcome DaemonNode) → AfterStep Says run whole n line us log J o → AfterStep Says run whole n line us log J (moved_to number moved o)
+      moved-keeps number None o a = a
+      moved-keeps number (Some session) o a = shut-keeps (is_older number session) o a
+
+      link-ok : (vs : Uses) (l : Option (Link GuestStage)) → LinkKeys vs l → LinkOk Says vs (option_map (of_kind AsAcceptor) l)
+      link-ok vs (Some l) h = (h, st.1)
+      link-ok vs None h = tt
+
+      row-after : (row : GuestRow) → KeptKeys run whole n line us log J guest r.inv r.of r.ok.own.known.fetched.generated row → StaysGuest guest row
+          → AllByRecursion (EntryTold d input reading row.entries row.seals) row.entries → AreGranted run.leaked whole n line log row.seals
+          → AfterRow Says run whole n line us log J (row_of_kind (with_asker d.node.own) AsAcceptor row)
+      row-after row k stays told g =
+          let known : AskerKnown run k.uses asker.name asker.secret asker.view = known-grows run us k.uses asker.name asker.secret asker.view k.grows r.ok.own.known in
+          let own : AskerOk run J k.uses J asker = record { known = known; quiet = r.ok.own.quiet; count = r.ok.own.count } in
+          record {
+            uses = k.uses;
+            grows = k.grows;
+            inv = entered-inv run whole k.uses (behind n line row.seals log) J row.entries k.entries k.inv;
+            laws = told-laws run whole n line us log J d input reading row.entries row.seals r.inv r.ok.own.known.fetched (r.good st.1) (r.backed st.1) st.1 g k.entries told;
+            good = record {
+              own = entered-asker run J k.uses J row.entries row.own k.entries (subst (λ (a : Asker). AskerOk run J k.uses J a) (sym stays.0) own);
+              link = link-ok k.uses row.link k.link;
+            };
+          }
+
+      hosted-keeps : (hosted : Hosted) → KeepsHosted run whole n line us log J guest r.inv r.of r.ok.own.known.fetched.generated drawn hosted → TakesHosted guest hosted → Hosts_ hosted
+      hosted-keeps hosted k takes = by_turned hosted.turned k takes.stays
+        where
+          by_turned : (turned : Turned Asker GuestStage) → KeepsTurned run whole n line us log J guest r.inv r.of r.ok.own.known.fetched.generated drawn turned → EachRow (StaysGuest guest) turned
+              → Keeps (moved_to link.number hosted.moved (turns d.node at_link (turn_of_kind (with_asker d.node.own) AsAcceptor turned)))
+          by_turned Waits k stays g au =
+              moved-keeps link.number hosted.moved (turns d.node at_link Waits) (idle Says run whole n line us log J d.node r.inv r.ok)
+          by_turned (Refuses why opened) k stays g au =
+              moved-keeps link.number hosted.moved (turns d.node at_link (Refuses why opened))
+              (carried Says run whole n line us log J d.node link.number false (refuses_bytes at_link why opened) r.ok.links
+              (after-quiet run whole n line us log J opened (refused_entry (me d.node.own) link.number (reason.Bytes why) ∷ []) (λ vs. Unit {0})
+              (RowOk Says (refuses_bytes at_link why opened)) (λ vs K e other h. record { own = asker-entered run J vs K asker e other h.own; link = tt }) ((tt, tt), tt)
+              (reached-allowed run whole n line us log J opened (λ vs. Unit {0}) r.inv k tt) (record { own = r.ok.own; link = tt })))
+          by_turned (Handles row) k stays g au =
+              moved-keeps link.number hosted.moved (turns d.node at_link (turn_of_kind (with_asker d.node.own) AsAcceptor (Handles row)))
+              (carried Says run whole n line us log J d.node link.number true (row_of_kind (with_asker d.node.own) AsAcceptor row) r.ok.links
+              (row-after row (k (granted-of hosted.moved row g)) stays (told-of hosted.moved row au) (granted-of hosted.moved row g)))
+            where
+              granted-of : (moved : Option ℕ) (row : GuestRow)
+                  → AreGranted run.leaked whole n line log (moved_to link.number moved (turns d.node at_link (turn_of_kind (with_asker d.node.own) AsAcceptor (Handles row)))).out.seals
+                  → AreGranted run.leaked whole n line log row.seals
+              granted-of None row g = g
+              granted-of (Some session) row g = g
+
+              told-of : (moved : Option ℕ) (row : GuestRow) →
+                  let o = moved_to link.number moved (turns d.node at_link (turn_of_kind (with_asker d.node.own) AsAcceptor (Handles row))) in
+                  Authorizes d input reading o.out.entries o.out.seals o.state.links → AllByRecursion (EntryTold d input reading row.entries row.seals) row.entries
+              told-of None row au = au.told
+              told-of (Some session) row au = au.told
+
+      guest-turn : (handlers : Handlers) → Always Keeps (turned_at handlers d.node at_link (AsAcceptor stage))
+      guest-turn handlers =
+          let rule : Deciding Hosted = guest_turned handlers guest stage in
+          let KeepsIt : Hosted → Type 0 = KeepsHosted run whole n line us log J guest r.inv r.of r.ok.own.known.fetched.generated drawn in
+          always-map Keeps (hosts d.node at_link) rule
+          (always-weaker (λ (h : Hosted). KeepsHosted run whole n line us log J guest r.inv r.of r.ok.own.known.fetched.generated drawn h × TakesHosted guest h)
+          (λ (h : Hosted). Keeps (hosts d.node at_link h)) (λ h both. hosted-keeps h both.0 both.1) rule
+          (always-both (KeepsHosted run whole n line us log J guest r.inv r.of r.ok.own.known.fetched.generated drawn) (TakesHosted guest) rule
+          (guest-keeps run whole n line us log J guest r.inv r.of r.ok.own.known.fetched.generated drawn handlers stage st.0) (guest-takes handlers guest stage)))
+
+    -- ---- a turn of its own link
+
+    lifted-after : (row : Row Asker connector.Stage) → AfterRow (asker_says run J n) run whole n line us log J row
+        → AfterRow Says run whole n line us log J (row_of_kind (with_asker d.node.own) AsConnector row)
+    lifted-after row h =
+        record { uses = h.uses; grows = h.grows; inv = h.inv; laws = h.laws; good = record { own = h.good.own; link = link h.uses row.link h.good.link } }
+      where
+        link : (vs : Uses) (l : Option (Link connector.Stage)) → LinkOk (asker_says run J n) vs l → LinkOk Says vs (option_map (of_kind AsConnector) l)
+        link vs (Some l) st = st
+        link vs None st = tt
+
+    lifted-turn : (a : AskerArrival) (b : Arrival Daemon DaemonStage) (turned : Turned Asker connector.Stage) → TurnOk (asker_says run J n) run whole n line us log J a turned
+        → TurnOk Says run whole n line us log J b (turn_of_kind (with_asker d.node.own) AsConnector turned)
+    lifted-turn a b Waits t = tt
+    lifted-turn a b (Refuses why opened) t = t
+    lifted-turn a b (Handles row) t = λ g. lifted-after row (t g)
+
+    own-turn : (draw : List ℕ) (link : Link DaemonStage) (stage : connector.Stage) → AskerStageOk us n stage →
+        let b = arrival (me d.node.own) d.node.own link reading draw in
+        Keeps (turns d.node b (turn_of_kind (with_asker d.node.own) AsConnector (connector.turned_at (arrival_in b asker stage) stage)))
+    own-turn draw link stage st g au =
+        let b : Arrival Daemon DaemonStage = arrival (me d.node.own) d.node.own link reading draw in
+        let a : AskerArrival = arrival_in b asker stage in
+        turned-ok Says run whole n line us log J d.node b (turn_of_kind (with_asker d.node.own) AsConnector (connector.turned_at a stage)) r.inv r.ok r.ok.own
+        (lifted-turn a b (connector.turned_at a stage) (client_step.turn-ok run whole n line us log J J a stage r.inv r.ok.own r.here st)) g
+
+    turn-keeps : (handlers : Handlers) (draw : List ℕ) → length draw ≡ 384 → (found : Option (Link DaemonStage)) → LinkOk Says us found → Always Keeps (turn handlers d.node reading draw found)
+    turn-keeps handlers draw drawn None st = λ g au. idle Says run whole n line us log J d.node r.inv r.ok
+    turn-keeps handlers draw drawn (Some link) st = by_stage link.stage st
+      where
+        by_stage : (stage : DaemonStage) → DaemonStageOk run us n stage → Always Keeps (turned_at handlers d.node (arrival (me d.node.own) d.node.own link reading draw) stage)
+        by_stage (AsAcceptor stage) st = guest-turn draw drawn link stage st handlers
+        by_stage (AsConnector stage) st = own-turn draw link stage st
+
+    -- ---- the other events
+
+    idle-keeps : Keeps (idles d.node)
+    idle-keeps g au = idle Says run whole n line us log J d.node r.inv r.ok
+
+    -- one entry, where nothing is logged
+    entry-keeps : (node_behind : DaemonNode) (e : Entry) → IsNotIssued e → EntryLaw run.guests J e → NodeOk Says node_behind us J
+        → After run whole n line us log J [] (e ∷ []) (NodeOk Says node_behind)
+    entry-keeps m e none law ok = record {
+      uses = us;
+      grows = stays us;
+      inv = inv-entered run whole us log J e r.inv (own-other J e none r.inv.own);
+      laws = (law, tt);
+      good = record { own = asker-entered run J us J m.own.asker e none ok.own; links = ok.links };
+    }
+
+    quiet-keeps : (node_behind : DaemonNode) (e : Entry) → IsQuietEntry e → NodeOk Says node_behind us J → After run whole n line us log J [] (e ∷ []) (NodeOk Says node_behind)
+    quiet-keeps m e q ok = entry-keeps m e q.1 (login-law run.guests J e q.0 (none-given J e q.1)) ok
+
+    forgotten-ok : (number : ℕ) → NodeOk Says (forgotten d.node number) us J
+    forgotten-ok number = record { own = r.ok.own; links = all-without Says us number d.node.links r.ok.links }
+
+    forgotten-keeps : (number : ℕ) → Keeps (idles (forgotten d.node number))
+    forgotten-keeps number g au = idle Says run whole n line us log J (forgotten d.node number) r.inv (forgotten-ok number)
+
+    -- a session has ended, where guests come
+    ended-law : (session : ℕ) → GuestsCome run → EntryLaw run.guests J (ended_entry d.node session)
+    ended-law session come = record { login = λ none. absurd (come none); backed = tt; keeps_keys = tt; keeps_expiry = tt; gid_once = tt }
+
+    guest-opens : (draw : List ℕ) (number : ℕ) → GuestsCome run → Keeps (opens_guest d.node reading draw number)
+    guest-opens draw number come g au = by_test (nat_le 1024 (length d.node.links))
+      where
+        a : Arrival Daemon DaemonStage
+        a = arrival (me d.node.own) d.node.own (new_link number (AsAcceptor AwaitsBanner)) reading draw
+
+        by_row : (row : Row Daemon DaemonStage) → AfterRow Says run whole n line us log J row → AfterStep Says run whole n line us log J (carried_out d.node number false row)
+        by_row row h = carried Says run whole n line us log J d.node number false row r.ok.links h
+
+        by_test : (full : Bool) → AfterStep Says run whole n line us log J (carried_out d.node number false
+            (if full then refuses (arrival (me d.node.own) d.node.own (new_link number (AsAcceptor AwaitsBanner)) reading draw) reason.LinksFull []
+            else goes_on (arrival (me d.node.own) d.node.own (new_link number (AsAcceptor AwaitsBanner)) reading draw) (AsAcceptor AwaitsBanner) own_banner []))
+        by_test true =
+            let b : Arrival Daemon DaemonStage = arrival (me d.node.own) d.node.own (new_link number (AsAcceptor AwaitsBanner)) reading draw in
+            by_row (refuses b reason.LinksFull []) (after-simple Says run whole n line us log J (refuses b reason.LinksFull []) r.inv
+            (simple-refuses Says us J n b reason.LinksFull [] tt r.ok.own tt))
+        by_test false =
+            let b : Arrival Daemon DaemonStage = arrival (me d.node.own) d.node.own (new_link number (AsAcceptor AwaitsBanner)) reading draw in
+            by_row (goes_on b (AsAcceptor AwaitsBanner) own_banner []) (after-simple Says run whole n line us log J (goes_on b (AsAcceptor AwaitsBanner) own_banner []) r.inv
+            (simple-goes_on Says us J n b (AsAcceptor AwaitsBanner) own_banner [] r.ok.own (tt, come) tt))
+
+    undialled-ok : NodeOk Says (undialled d.node) us J
+    undialled-ok = record { own = r.ok.own; links = r.ok.links }
+
+    opens-keeps : (draw : List ℕ) (number : ℕ) (to : Option Peer) → (run.guests ≡ false → IsNoGuest (Opened number to)) → Keeps (opens d.node reading draw number to)
+    opens-keeps draw number None comes = guest-opens draw number comes
+    opens-keeps draw number (Some peer.Monitor) comes = by_test d.node.own.dials
+      where
+        by_test : (dials : Bool) → Keeps (if dials then opens_own (undialled d.node) reading draw number else idles d.node)
+        by_test true g au =
+            let stage : DaemonStage = AsConnector (connector.AwaitsBanner 0) in
+            let b : Arrival Daemon DaemonStage = arrival (me d.node.own) (undialled d.node).own (new_link number stage) reading draw in
+            carried Says run whole n line us log J (undialled d.node) number false (goes_on b stage own_banner []) r.ok.links
+            (after-simple Says run whole n line us log J (goes_on b stage own_banner []) r.inv (simple-goes_on Says us J n b stage own_banner [] r.ok.own tt tt))
+        by_test false g au = idle-keeps g au
+    opens-keeps draw number (Some (peer.Daemon daemon)) comes = idle-keeps
+
+    unreached-keeps : (to : Peer) → Keeps (unreached d.node to)
+    unreached-keeps peer.Monitor g au = quiet-keeps (undialled d.node) (refused_entry (me d.node.own) 0 reason.NoLink) (tt, tt) undialled-ok
+    unreached-keeps (peer.Daemon daemon) g au = quiet-keeps d.node (refused_entry (me d.node.own) 0 reason.NoLink) (tt, tt) r.ok
+
+    fed-keeps : (bytes : List ℕ) (found : Option (Link DaemonStage)) → LinkOk Says us found → Keeps (fed d.node bytes found)
+    fed-keeps bytes None st g au = idle-keeps g au
+    fed-keeps bytes (Some link) st g au = record {
+      uses = us;
+      grows = stays us;
+      inv = r.inv;
+      laws = tt;
+      good = record { own = r.ok.own; links = all-put Says us (record link { received = link.received ++ bytes }) d.node.links r.ok.links st };
+    }
+
+    lossy-keeps : (number session : ℕ) → GuestsCome run → (answer : BookReply) → Always Keeps (lossy_gone d.node number session answer)
+    lossy-keeps number session come (reply.Ended true) = λ g au. entry-keeps (forgotten d.node number) (ended_entry d.node session) tt (ended-law session come) (forgotten-ok number)
+    lossy-keeps number session come (reply.Ended false) = forgotten-keeps number
+    lossy-keeps number session come (reply.Admitted k epoch) = idle-keeps
+    lossy-keeps number session come (reply.Resumed k epoch last lossy) = idle-keeps
+    lossy-keeps number session come reply.Fine = idle-keeps
+    lossy-keeps number session come (reply.Refused why) = idle-keeps
+    lossy-keeps number session come reply.OutOfMemory = idle-keeps
+
+    guest-gone : (number : ℕ) (stage : GuestStage) → GuestsCome run → Always Keeps (guest_gone d.node number stage)
+    guest-gone number AwaitsBanner come = forgotten-keeps number
+    guest-gone number AwaitsHello come = forgotten-keeps number
+    guest-gone number AwaitsRequest come = forgotten-keeps number
+    guest-gone number (AwaitsProof awaited) come = forgotten-keeps number
+    guest-gone number (AwaitsSignature s owner) come = forgotten-keeps number
+    guest-gone number (AwaitsIdent s owner) come = forgotten-keeps number
+    guest-gone number (Open s served) come = by_test served.lossy
+      where
+        by_test : (lossy : Bool) → Always Keeps (if lossy then Asking (End served.number) (lossy_gone d.node number served.number) else Finished (idles (forgotten d.node number)))
+        by_test true = λ answer. lossy-keeps number served.number come answer
+        by_test false = forgotten-keeps number
+
+    loses-keeps : (number : ℕ) (stage : connector.Stage) → Keeps (loses d.node number stage)
+    loses-keeps number stage g au = by_test (connector.is_open stage)
+      where
+        by_test : (is_open : Bool)
+            → After run whole n line us log J [] (if is_open then [] else refused_entry (me d.node.own) number reason.Lost ∷ []) (NodeOk Says (forgotten d.node number))
+        by_test true = idle Says run whole n line us log J (forgotten d.node number) r.inv (forgotten-ok number)
+        by_test false = quiet-keeps (forgotten d.node number) (refused_entry (me d.node.own) number reason.Lost) (tt, tt) (forgotten-ok number)
+
+    gone-keeps : (found : Option (Link DaemonStage)) → LinkOk Says us found → Always Keeps (gone d.node found)
+    gone-keeps None st = idle-keeps
+    gone-keeps (Some link) st = by_kind link.stage st
+      where
+        by_kind : (stage : DaemonStage) → DaemonStageOk run us n stage → Always Keeps (gone_by_kind d.node link.number stage)
+        by_kind (AsAcceptor stage) st = guest-gone link.number stage st.1
+        by_kind (AsConnector stage) st = loses-keeps link.number stage
+
+    found-open : (links : List (Link DaemonStage)) → LinksOk Says us links
+        → IfSome (first_open asking_open links) (λ (f : Link DaemonStage × (Secured × Requests)). HasConnection us n f.1.0.keys.key)
+    found-open [] all = tt
+    found-open (l ∷ links) all = by_stage l.stage all.0 (first_open asking_open links) (found-open links all.1)
+      where
+        by_own : (stage : connector.Stage) → AskerStageOk us n stage → (behind : Option (Link DaemonStage × (Secured × Requests)))
+            → IfSome behind (λ (f : Link DaemonStage × (Secured × Requests)). HasConnection us n f.1.0.keys.key)
+            → IfSome (open_or l (connector.kept_open stage) behind) (λ (f : Link DaemonStage × (Secured × Requests)). HasConnection us n f.1.0.keys.key)
+        by_own (connector.AwaitsBanner asked) st behind rest = rest
+        by_own (connector.AwaitsHello asked) st behind rest = rest
+        by_own (connector.AwaitsChallenge asked) st behind rest = rest
+        by_own connector.AwaitsDone st behind rest = rest
+        by_own (connector.AwaitsSignature s login) st behind rest = rest
+        by_own (connector.AwaitsIdent s session) st behind rest = rest
+        by_own (connector.Open s requests) st behind rest = st
+
+        by_stage : (stage : DaemonStage) → DaemonStageOk run us n stage → (behind : Option (Link DaemonStage × (Secured × Requests)))
+            → IfSome behind (λ (f : Link DaemonStage × (Secured × Requests)). HasConnection us n f.1.0.keys.key)
+            → IfSome (open_or l (asking_open stage) behind) (λ (f : Link DaemonStage × (Secured × Requests)). HasConnection us n f.1.0.keys.key)
+        by_stage (AsAcceptor stage) st behind rest = rest
+        by_stage (AsConnector stage) st behind rest = by_own stage st behind rest
+
+    -- a row of the daemon as one that asks is one of its own
+    as-daemon : (row : Row Asker DaemonStage) → AfterRow (kind_says run J n) run whole n line us log J row → AfterRow Says run whole n line us log J (lifted (with_asker d.node.own) row)
+    as-daemon row h = record { uses = h.uses; grows = h.grows; inv = h.inv; laws = h.laws; good = record { own = h.good.own; link = link h.uses row.link h.good.link } }
+      where
+        link : (vs : Uses) (l : Option (Link DaemonStage)) → LinkOk (kind_says run J n) vs l → LinkOk Says vs l
+        link vs (Some l) st = st
+        link vs None st = tt
+
+    fetches-keeps : (draw : List ℕ) → Keeps (fetches d.node reading draw)
+    fetches-keeps draw = by_test (is_fetching d.node)
+      where
+        by_open : (found : Option (Link DaemonStage × (Secured × Requests))) → IfSome found (λ (f : Link DaemonStage × (Secured × Requests)). HasConnection us n f.1.0.keys.key)
+            → Keeps (fetches_on d.node reading draw found)
+        by_open None has g au = record { uses = us; grows = stays us; inv = r.inv; laws = tt; good = record { own = r.ok.own; links = r.ok.links } }
+        by_open (Some (link, (s, requests))) has g au =
+            let a : Arrival Asker DaemonStage = arrival (me d.node.own) asker link reading draw in
+            let row : Row Asker DaemonStage = asks_rotating open_to_ask a s requests in
+            let simple = request-sends run whole n line us log J J (kind_says run J n) open_to_ask a s requests (want.Rotating reading) asked.Rotating r.ok.own has (λ t k h. h) in
+            carried Says run whole n line us log J d.node link.number false (lifted (with_asker d.node.own) row) r.ok.links
+            (as-daemon row (after-simple (kind_says run J n) run whole n line us log J row r.inv simple))
+
+        by_test : (under_way : Bool) → Keeps (if under_way then idles d.node else fetches_on d.node reading draw (first_open asking_open d.node.links))
+        by_test true = idle-keeps
+        by_test false = by_open (first_open asking_open d.node.links) (found-open d.node.links r.ok.links)
+
+    ticks-keeps : (draw : List ℕ) → Keeps (ticks d.node reading draw)
+    ticks-keeps draw = by_test (is_outdated reading asker.view)
+      where
+        by_test : (outdated : Bool) → Keeps (if outdated then fetches d.node reading draw else idles d.node)
+        by_test true = fetches-keeps draw
+        by_test false = idle-keeps
+
+    dropped-keeps : (session : ℕ) → GuestsCome run → (answer : BookReply) → Always Keeps (on_dropped d.node session answer)
+    dropped-keeps session come (reply.Ended true) = λ g au. record {
+      uses = us;
+      grows = stays us;
+      inv = inv-entered run whole us log J (ended_entry d.node session) r.inv (own-other J (ended_entry d.node session) tt r.inv.own);
+      laws = (ended-law session come, tt);
+      good = record {
+        own = asker-entered run J us J asker (ended_entry d.node session) tt r.ok.own;
+        links = all-filter (λ (l : Link DaemonStage). DaemonStageOk run us n l.stage) (λ (l : Link DaemonStage). not (is_in session l.stage)) d.node.links r.ok.links;
+      };
+    }
+    dropped-keeps session come (reply.Ended false) = idle-keeps
+    dropped-keeps session come (reply.Admitted k epoch) = idle-keeps
+    dropped-keeps session come (reply.Resumed k epoch last lossy) = idle-keeps
+    dropped-keeps session come reply.Fine = idle-keeps
+    dropped-keeps session come (reply.Refused why) = idle-keeps
+    dropped-keeps session come reply.OutOfMemory = idle-keeps
+
+    submits-keeps : (draw : List ℕ) (said : Command) → (run.guests ≡ false → IsNoGuest (Submit said)) → Always Keeps (submits d.node reading draw said)
+    submits-keeps draw command.Fetch comes = fetches-keeps draw
+    submits-keeps draw (command.Drop session) comes = λ answer. dropped-keeps session comes answer
+    submits-keeps draw (command.Login services) comes = idle-keeps
+    submits-keeps draw (command.Renew services) comes = idle-keeps
+    submits-keeps draw (command.Connect daemon lossy) comes = idle-keeps
+    submits-keeps draw (command.Send daemon operation) comes = idle-keeps
+
+    -- ---- any event
+
+    restarted-keeps : Keeps (restarted d.node)
+    restarted-keeps g au = quiet-keeps (restarted d.node).state (journal.Restarted (me d.node.own)) (tt, tt) (record {
+      own = record {
+        known = record { trusted = r.ok.own.known.trusted; own = r.ok.own.known.own; fetched = none-fetched run us asker.name.kind };
+        quiet = r.ok.own.quiet;
+        count = r.ok.own.count;
+      };
+      links = tt;
+    })
+
+module _ (run : WholeRun) (whole : List Logged) (n : NodeName) (line : ℕ) (us : Uses) (log : List Logged) (J : List Entry) (handlers : Handlers) (d : DaemonState) (reading : ℕ)
+    (draw : List ℕ) (drawn : length draw ≡ 384) where
+  abbrev Ready : Input → Type 0
+  Ready input = IsReady run whole n line us log J d input reading
+
+  rule-keeps : (input : Input) → Ready input → Always (Keeps run whole n line us log J d input reading) (daemon_rule handlers d.node input reading draw)
+  rule-keeps (Opened number to) r = opens-keeps run whole n line us log J d (Opened number to) reading r draw number to r.comes
+  rule-keeps (NoLink to) r = unreached-keeps run whole n line us log J d (NoLink to) reading r to
+  rule-keeps (Bytes number bytes) r =
+      fed-keeps run whole n line us log J d (Bytes number bytes) reading r bytes (link_of number d.node.links) (found-link (daemon_says run J n) us number d.node.links r.ok.links)
+  rule-keeps (Turn number) r =
+      turn-keeps run whole n line us log J d (Turn number) reading r handlers draw drawn (link_of number d.node.links) (found-link (daemon_says run J n) us number d.node.links r.ok.links)
+  rule-keeps (Gone number) r =
+      gone-keeps run whole n line us log J d (Gone number) reading r (link_of number d.node.links) (found-link (daemon_says run J n) us number d.node.links r.ok.links)
+  rule-keeps (Submit said) r = submits-keeps run whole n line us log J d (Submit said) reading r draw said r.comes
+  rule-keeps Tick r = ticks-keeps run whole n line us log J d Tick reading r draw
+  rule-keeps (Look view) r = absurd r.looks
+  rule-keeps Restart r = restarted-keeps run whole n line us log J d Restart reading r
+
+  -- what is known behind a step: of the daemon, and of the authority of each of its links
+  pub record AfterDaemon (o : Outcome DaemonState) : Type 0 where
+    pub after : After run whole n line us log J o.out.seals o.out.entries (NodeOk (daemon_says run J n) o.state.node)
+    pub backed : GuestsCome run → AllByRecursion (IsBackedLink (entered J o.out.entries) d.node.own.asker.name.kind) o.state.node.links
+
+  pub daemon-after : (input : Input) → Ready input → AreGranted run.leaked whole n line log (daemon_step handlers d input reading draw).out.seals
+      → AfterDaemon (daemon_step handlers d input reading draw)
+  daemon-after input r g =
+      let au : Authorizes d input reading (daemon_step handlers d input reading draw).out.entries (daemon_step handlers d input reading draw).out.seals
+      (daemon_step handlers d input reading draw).state.node.links = all-authorize handlers d input reading draw in
+      record {
+        after = always-book (Keeps run whole n line us log J d input reading) book_reply book_after d.book (daemon_rule handlers d.node input reading draw) (rule-keeps input r) g au;
+        backed = λ come. backed-behind run whole n line us log J d input reading (daemon_step handlers d input reading draw).out.entries
+            (daemon_step handlers d input reading draw).out.seals r.inv r.ok.own.known.fetched (r.good come) (r.backed come) g (daemon_step handlers d input reading draw).state.node.links au.authorized;
+      }
