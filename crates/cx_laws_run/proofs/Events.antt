@@ -1,9 +1,9 @@
 -- An event of a run, and every list of events.
-use Rattle.std.proofs.Common.{◌≡◌, ℕ, Bool, true, false, List, [], ◌∷◌, ◌++◌, length, map, filter, Option, Some, None, refl, sym, ap, ◌∙◌, subst, arith, append-nil, append_assoc, ◌+◌}
+use Rattle.std.proofs.Common.{◌≡◌, ℕ, Bool, true, false, List, [], ◌∷◌, ◌++◌, length, map, filter, Option, Some, None, refl, sym, ap, ◌∙◌, subst, arith, append-nil, append_assoc, ◌+◌, ◌⊎◌, inl, inr}
 use Rattle.std.specs.Prelude.{Contains, if◌then◌else◌}
 use Rattle.std.specs.List.{AllByRecursion}
 use Rattle.cx_base.proofs.Names.{same_name_is}
-use Rattle.cx_base.specs.Names.{Name}
+use Rattle.cx_base.specs.Names.{Name, is_daemon_type}
 use Rattle.cx_journal.specs.Behind.{EachBehind}
 use Rattle.cx_journal.specs.declared.entries.Entry.{Entry}
 use Rattle.cx_journal.specs.declared.entries.Entry.TheVariants as journal
@@ -20,60 +20,139 @@ use Rattle.cx_rules.specs.Monitor.{MonitorNode}
 use Rattle.cx_rules.specs.MonitorRule.{monitor_rule}
 use Rattle.cx_rules.specs.Rows.{Outcome}
 use Rattle.cx_run.proofs.ClientNamed.{client-named}
-use Rattle.cx_run.specs.Happenings.{Entered, Happening, Nodes, Stepped, client_of, client_steps, entered_by, failed_out, is_of, journal_from, left_as, monitor_steps, seals_from, stays, steps, steps_of}
+use Rattle.cx_run.specs.Happenings.{Entered, Happening, Nodes, Stepped, entered_by, failed_out, is_of, journal_from, left_as, monitor_steps, seals_from, stays, steps, steps_of, EntityNode, OfClient, OfDaemon, entity_of, entity_steps, with_entity}
 use Rattle.cx_steps.specs.Nothing.{nothing}
+use Rattle.cx_steps.specs.declared.events.Command.TheVariants as command
 use Rattle.cx_steps.specs.Onto.{EachOnto}
-use Rattle.cx_steps.specs.Premises.{is_server}
 use Rattle.cx_steps.specs.declared.seals.Logged.{Logged}
 use Rattle.cx_laws_keys.proofs.Journal.{After, EntryLaw, entered}
 use Rattle.cx_laws_keys.proofs.Known.{Inv, Within}
 use Rattle.cx_laws_keys.proofs.Lists.{all-map, found_all, found_passes, map-append}
 use Rattle.cx_laws_keys.proofs.Premises.{AreGranted, IsGranted, behind, granted-step}
-use Rattle.cx_laws_keys.proofs.Uses.{Grows, Means, Secret, Uses}
+use Rattle.cx_laws_keys.proofs.Uses.{Grows, Means, Secret, Uses, WholeRun, grows-from, grows-saved, grows-then}
 use Rattle.cx_laws_keys.proofs.Uses.{stays as same_uses}
 use Rattle.cx_laws_login.proofs.ClientStep.{client-step, client_says}
 use Rattle.cx_laws_login.proofs.Entering.{within-all}
-use Rattle.cx_laws_login.proofs.Facts.{AskerStageOk, OwnOk, asker_stage-grows, own-grows, tickets-append, tickets_in, Owner}
-use Rattle.cx_laws_login.proofs.Generations.{state-grows}
+use Rattle.cx_laws_login.proofs.Facts.{AskerStageOk, OwnOk, asker_stage-grows, own-grows, Owner, AskerKnown, known-grows}
+use Rattle.cx_laws_login.proofs.Generations.{state-grows, AreRecorded, tagged, tagged-recorded}
 use Rattle.cx_laws_login.proofs.MonitorRows.{monitor_says}
 use Rattle.cx_laws_login.proofs.MonitorStep.{MonitorOk, between, between-less, monitor-after, unsaved-ok}
 use Rattle.cx_laws_login.proofs.Rows.{NodeOk, links-grow}
 use Rattle.cx_laws_run.proofs.Journals.{behind-append}
 use Rattle.cx_laws_run.proofs.Saves.{inv-failed, thick}
-use Rattle.cx_laws_run.specs.Laws.{AreDrawn}
+use Rattle.cx_run.proofs.DaemonNamed.{daemon-named}
+use Rattle.cx_rules_session.specs.DaemonRule.{DaemonNode, DaemonStage, DaemonState, daemon_step}
+use Rattle.cx_laws_authorize.proofs.Backing.{AreGood, IsGood, backing-grows, AllGood}
+use Rattle.cx_laws_authorize.proofs.DaemonStep.{DaemonStageOk, IsNoGuest, IsNoLook, daemon-after, daemon_says, daemon_stage-grows}
+use Rattle.cx_laws_authorize.proofs.Telling.{IsBackedLink}
+use Rattle.cx_laws_keys.proofs.Steps.{inv-saved, within-itself}
+use Rattle.std.proofs.lemmas.List.Elements.{Contains-append_cases}
+use Rattle.cx_base.specs.declared.kinds.EntityType.{EntityType}
+use Rattle.cx_rotate.specs.declared.generations.Generation.{Generation}
+use Rattle.cx_run.specs.Visits.{IsUnvisited}
+use Rattle.cx_rules.specs.Inputs.{Input, Opened, NoLink, Bytes, Turn, Gone, Look, Tick, Submit, Restart}
 
--- what is known of a client between steps: it is no server, it has its own secret, and the keys of its secured links are those of connections
-pub record ClientOk (us : Uses) (c : ClientNode) : Type 0 where
-  pub client : is_server (node.Entity c.own.asker.name) ≡ false
-  pub secret : Means us c.own.asker.secret (Secret c.own.asker.name)
+-- what is known of a client between steps: itself as one that asks, and that the keys of its secured links are those of connections
+pub record ClientOk (run : WholeRun) (us : Uses) (c : ClientNode) : Type 0 where
+  pub known : AskerKnown run us c.own.asker.name c.own.asker.secret c.own.asker.view
   pub links : AllByRecursion (λ (l : Link Stage). AskerStageOk us (node.Entity c.own.asker.name) l.stage) c.links
 
-abbrev pub ClientsOk : Uses → List ClientNode → Type 0
-ClientsOk us cs = AllByRecursion (ClientOk us) cs
+-- of a daemon: so also the keys of its guests' links, and that the authority of each has its ticket
+pub record DaemonOk (run : WholeRun) (us : Uses) (J : List Entry) (d : DaemonNode) : Type 0 where
+  pub known : AskerKnown run us d.own.asker.name d.own.asker.secret d.own.asker.view
+  pub of : is_daemon_type d.own.asker.name.kind ≡ true
+  pub links : AllByRecursion (λ (l : Link DaemonStage). DaemonStageOk run us (node.Entity d.own.asker.name) l.stage) d.links
+  pub backed : (run.guests ≡ false → ⊥) → AllByRecursion (IsBackedLink J d.own.asker.name.kind) d.links
 
-pub record NodesOk (nodes : Nodes) (us : Uses) (J : List Entry) : Type 0 where
+abbrev pub EntityOk : WholeRun → Uses → List Entry → EntityNode → Type 0
+EntityOk run us J (OfClient c) = ClientOk run us c
+EntityOk run us J (OfDaemon d) = DaemonOk run us J d.node
+
+abbrev pub EntitiesOk : WholeRun → Uses → List Entry → List EntityNode → Type 0
+EntitiesOk run us J es = AllByRecursion (EntityOk run us J) es
+
+pub record NodesOk (run : WholeRun) (nodes : Nodes) (us : Uses) (J : List Entry) : Type 0 where
   pub monitor : MonitorOk us J nodes.monitor
-  pub clients : ClientsOk us nodes.clients
+  pub entities : EntitiesOk run us J nodes.entities
 
-client-grows : (us vs : Uses) (c : ClientNode) → Grows us vs → ClientOk us c → ClientOk vs c
-client-grows us vs c f h = record {
-  client = h.client;
-  secret = f.means c.own.asker.secret (Secret c.own.asker.name) h.secret;
+entity-grows : (run : WholeRun) (us vs : Uses) (J K : List Entry) (e : EntityNode) → Grows us vs → Within J K → EntityOk run us J e → EntityOk run vs K e
+entity-grows run us vs J K (OfClient c) f w h = record {
+  known = known-grows run us vs c.own.asker.name c.own.asker.secret c.own.asker.view f h.known;
   links = all-map (λ (l : Link Stage). AskerStageOk us (node.Entity c.own.asker.name) l.stage) (λ (l : Link Stage). AskerStageOk vs (node.Entity c.own.asker.name) l.stage)
       (λ l st. asker_stage-grows us vs (node.Entity c.own.asker.name) l.stage f st) c.links h.links;
 }
+entity-grows run us vs J K (OfDaemon d) f w h =
+    let n : NodeName = node.Entity d.node.own.asker.name in
+    record {
+      known = known-grows run us vs d.node.own.asker.name d.node.own.asker.secret d.node.own.asker.view f h.known;
+      of = h.of;
+      links = all-map (λ (l : Link DaemonStage). DaemonStageOk run us n l.stage) (λ (l : Link DaemonStage). DaemonStageOk run vs n l.stage)
+          (λ l st. daemon_stage-grows run us vs n l.stage f st) d.node.links h.links;
+      backed = λ come. all-map (IsBackedLink J d.node.own.asker.name.kind) (IsBackedLink K d.node.own.asker.name.kind)
+          (λ l b x has. backing-grows J K d.node.own.asker.name.kind x w (b x has)) d.node.links (h.backed come);
+    }
 
-clients-grow : (us vs : Uses) (cs : List ClientNode) → Grows us vs → ClientsOk us cs → ClientsOk vs cs
-clients-grow us vs cs f h = all-map (ClientOk us) (ClientOk vs) (λ c ok. client-grows us vs c f ok) cs h
+entities-grow : (run : WholeRun) (us vs : Uses) (J K : List Entry) (es : List EntityNode) → Grows us vs → Within J K → EntitiesOk run us J es → EntitiesOk run vs K es
+entities-grow run us vs J K es f w h = all-map (EntityOk run us J) (EntityOk run vs K) (λ e ok. entity-grows run us vs J K e f w ok) es h
 
--- replacing a client by a good one leaves all good
-replaced : (us : Uses) (name : Name) (client : ClientNode) (cs : List ClientNode) → ClientOk us client → ClientsOk us cs → ClientsOk us (map (λ c. if is_of name c then client else c) cs)
-replaced us name client [] ok h = tt
-replaced us name client (c ∷ cs) ok h = (by_test (is_of name c), replaced us name client cs ok h.1)
+-- replacing an entity by a good one leaves all good
+replaced : (run : WholeRun) (us : Uses) (J : List Entry) (name : Name) (entity : EntityNode) (es : List EntityNode) → EntityOk run us J entity → EntitiesOk run us J es
+    → EntitiesOk run us J (map (λ e. if is_of name e then entity else e) es)
+replaced run us J name entity [] ok h = tt
+replaced run us J name entity (e ∷ es) ok h = (by_test (is_of name e), replaced run us J name entity es ok h.1)
   where
-    by_test : (t : Bool) → ClientOk us (if t then client else c)
+    by_test : (t : Bool) → EntityOk run us J (if t then entity else e)
     by_test true = ok
     by_test false = h.0
+
+-- ---- events that may happen
+
+-- an entity to which no guest comes
+unvisited-guest : (name : Name) (input : Input) → IsUnvisited (node.Entity name) input → IsNoGuest input
+unvisited-guest name (Opened number None) h = absurd h
+unvisited-guest name (Opened number (Some to)) h = tt
+unvisited-guest name (NoLink to) h = tt
+unvisited-guest name (Bytes number bytes) h = tt
+unvisited-guest name (Turn number) h = tt
+unvisited-guest name (Gone number) h = tt
+unvisited-guest name (Look view) h = tt
+unvisited-guest name Tick h = tt
+unvisited-guest name (Submit (command.Drop session)) h = absurd h
+unvisited-guest name (Submit (command.Login services)) h = tt
+unvisited-guest name (Submit (command.Renew services)) h = tt
+unvisited-guest name (Submit command.Fetch) h = tt
+unvisited-guest name (Submit (command.Connect daemon lossy)) h = tt
+unvisited-guest name (Submit (command.Send daemon operation)) h = tt
+unvisited-guest name Restart h = tt
+
+-- nor is it told a view
+pub unvisited-looks : (n : NodeName) (input : Input) → IsUnvisited n input → IsNoLook input
+unvisited-looks n (Look view) h = by_node n h
+  where
+    by_node : (n : NodeName) → IsUnvisited n (Look view) → ⊥
+    by_node node.Monitor h = h
+    by_node (node.Entity name) h = h
+unvisited-looks n (Opened number to) h = tt
+unvisited-looks n (NoLink to) h = tt
+unvisited-looks n (Bytes number bytes) h = tt
+unvisited-looks n (Turn number) h = tt
+unvisited-looks n (Gone number) h = tt
+unvisited-looks n Tick h = tt
+unvisited-looks n (Submit said) h = tt
+unvisited-looks n Restart h = tt
+
+-- what is so of an event of the run: what comes; the state that is saved behind it is one that was saved in the run; and its tickets are good, where guests
+-- come. No daemon is told a view but by a reply
+pub record Occurs (run : WholeRun) (nodes : Nodes) (h : Happening) : Type 0 where
+  pub drawn : length h.draw ≡ 384
+  pub looks : IsNoLook h.input
+  pub comes : run.guests ≡ false → IsUnvisited h.node h.input
+  pub recorded : AreRecorded run (steps nodes h).nodes.monitor.own.saved
+  pub good : (run.guests ≡ false → ⊥) → (t : Issued) → Contains (steps nodes h).out.entries (journal.Issued t) → IsGood run t
+
+abbrev pub AllOccur : WholeRun → Nodes → List Happening → Type 0
+AllOccur run nodes [] = Unit {0}
+AllOccur run nodes (h ∷ hs) = Occurs run nodes h × AllOccur run (steps nodes h).nodes hs
 
 -- the monitor where more is known of keys, and nothing more is issued
 monitor-moved : (us vs : Uses) (J K : List Entry) (m : MonitorNode) → Grows us vs → ((s : Issued) → Contains K (journal.Issued s) → Contains J (journal.Issued s)) → MonitorOk us J m
@@ -102,37 +181,47 @@ entered-append : (J js : List Entry) → entered J js ≡ J ++ js
 entered-append J [] = sym (append-nil J)
 entered-append J (j ∷ js) = entered-append (J ++ j ∷ []) js ∙ append_assoc J (j ∷ []) js
 
-module _ (leaked : List Name) (whole : List Logged) (us : Uses) (log : List Logged) (J : List Entry) (nodes : Nodes) where
+module _ (run : WholeRun) (whole : List Logged) (us : Uses) (log : List Logged) (J : List Entry) (nodes : Nodes) where
   abbrev AfterStepped : NodeName → ℕ → Stepped → Type 0
-  AfterStepped n line s = After leaked whole n line us log J s.out.seals s.out.entries (NodesOk s.nodes)
+  AfterStepped n line s = After run whole n line us log J s.out.seals s.out.entries (NodesOk run s.nodes)
 
   -- nothing happens
-  nothing-after : (n : NodeName) (line : ℕ) → Inv leaked whole us log J → NodesOk nodes us J → AfterStepped n line (record { nodes = nodes; out = nothing; failed = false })
+  nothing-after : (n : NodeName) (line : ℕ) → Inv run whole us log J → NodesOk run nodes us J → AfterStepped n line (record { nodes = nodes; out = nothing; failed = false })
   nothing-after n line i ok = record { uses = us; grows = same_uses us; inv = i; laws = tt; good = ok }
 
-  -- ---- a client
+  -- ---- an entity
 
   -- a client at its own node, before its step
-  client-before : (c : ClientNode) (name : Name) → ClientOk us c → node.Entity name ≡ node.Entity c.own.asker.name → NodeOk (client_says J (node.Entity name)) c us J
+  client-before : (c : ClientNode) (name : Name) → ClientOk run us c → node.Entity name ≡ node.Entity c.own.asker.name → NodeOk (client_says run J (node.Entity name)) c us J
   client-before c name known here = record {
-    own = record { client = known.client; secret = known.secret; quiet = λ s has. has; count = refl };
+    own = record { known = known.known; quiet = λ s has. has; count = refl };
     links = subst (λ (n : NodeName). AllByRecursion (λ (l : Link Stage). AskerStageOk us n l.stage) c.links) (sym here) known.links;
   }
 
-  client-after : (h : Happening) (name : Name) (found : Option ClientNode) → client_of name nodes ≡ found → Inv leaked whole us log J → NodesOk nodes us J
-      → AreGranted leaked whole (node.Entity name) h.line log (client_steps nodes h name found).out.seals → AfterStepped (node.Entity name) h.line (client_steps nodes h name found)
-  client-after h name None is i ok g = nothing-after (node.Entity name) h.line i ok
-  client-after h name (Some c) is i ok g =
-      let known : ClientOk us c = found_all (ClientOk us) (is_of name) nodes.clients c ok.clients is in
-      let named : c.own.asker.name ≡ name = same_name_is c.own.asker.name name (found_passes (is_of name) nodes.clients c is) in
+  daemon-before : (d : DaemonNode) (name : Name) → DaemonOk run us J d → node.Entity name ≡ node.Entity d.own.asker.name → NodeOk (daemon_says run J (node.Entity name)) d us J
+  daemon-before d name known here = record {
+    own = record { known = known.known; quiet = λ s has. has; count = refl };
+    links = subst (λ (n : NodeName). AllByRecursion (λ (l : Link DaemonStage). DaemonStageOk run us n l.stage) d.links) (sym here) known.links;
+  }
+
+  -- the nodes behind the step of an entity
+  nodes-behind : (name : Name) (entity : EntityNode) (vs : Uses) (js : List Entry) → Grows us vs → ((s : Issued) → Contains (entered J js) (journal.Issued s) → Contains J (journal.Issued s))
+      → NodesOk run nodes us J → EntityOk run vs (entered J js) entity → NodesOk run (with_entity nodes name entity) vs (entered J js)
+  nodes-behind name entity vs js f quiet ok behind_it = record {
+    monitor = monitor-moved us vs J (entered J js) nodes.monitor f quiet ok.monitor;
+    entities = replaced run vs (entered J js) name entity nodes.entities behind_it (entities-grow run us vs J (entered J js) nodes.entities f (within-all J js) ok.entities);
+  }
+
+  client-after : (h : Happening) (name : Name) (c : ClientNode) → ClientOk run us c → c.own.asker.name ≡ name → Inv run whole us log J → NodesOk run nodes us J
+      → AreGranted run.leaked whole (node.Entity name) h.line log (client_rule c h.input h.reading h.draw).out.seals → AfterStepped (node.Entity name) h.line (entity_steps nodes h name (Some (OfClient c)))
+  client-after h name c known named i ok g =
       let here : node.Entity name ≡ node.Entity c.own.asker.name = ap (λ (m : Name). node.Entity m) (sym named) in
       let o : Outcome ClientNode = client_rule c h.input h.reading h.draw in
-      let before : NodeOk (client_says J (node.Entity name)) c us J = client-before c name known here in
-      let a = client-step leaked whole (node.Entity name) h.line us log J J c h.input h.reading h.draw i before here g in
+      let before : NodeOk (client_says run J (node.Entity name)) c us J = client-before c name known here in
+      let a = client-step run whole (node.Entity name) h.line us log J J c h.input h.reading h.draw i before here g in
       let still : node.Entity name ≡ node.Entity o.state.own.asker.name = here ∙ ap (λ (m : Name). node.Entity m) (sym (client-named c h.input h.reading h.draw)) in
-      let behind_it : ClientOk a.uses o.state = record {
-        client = a.good.own.client;
-        secret = a.good.own.secret;
+      let behind_it : ClientOk run a.uses o.state = record {
+        known = a.good.own.known;
         links = subst (λ (n : NodeName). AllByRecursion (λ (l : Link Stage). AskerStageOk a.uses n l.stage) o.state.links) still a.good.links;
       } in
       record {
@@ -140,27 +229,53 @@ module _ (leaked : List Name) (whole : List Logged) (us : Uses) (log : List Logg
         grows = a.grows;
         inv = a.inv;
         laws = a.laws;
-        good = record {
-          monitor = monitor-moved us a.uses J (entered J o.out.entries) nodes.monitor a.grows a.good.own.quiet ok.monitor;
-          clients = replaced a.uses name o.state nodes.clients behind_it (clients-grow us a.uses nodes.clients a.grows ok.clients);
-        };
+        good = nodes-behind name (OfClient o.state) a.uses o.out.entries a.grows a.good.own.quiet ok behind_it;
       }
 
-  -- a client issues nothing
-  pub client-quiet : (h : Happening) (name : Name) (found : Option ClientNode) → client_of name nodes ≡ found → Inv leaked whole us log J → NodesOk nodes us J
-      → AreGranted leaked whole (node.Entity name) h.line log (client_steps nodes h name found).out.seals → tickets_in (client_steps nodes h name found).out.entries ≡ 0
-  client-quiet h name None is i ok g = let none : tickets_in ([] ++ []) ≡ tickets_in [] + tickets_in [] = tickets-append [] [] in omega arith
-  client-quiet h name (Some c) is i ok g =
-      let known : ClientOk us c = found_all (ClientOk us) (is_of name) nodes.clients c ok.clients is in
-      let named : c.own.asker.name ≡ name = same_name_is c.own.asker.name name (found_passes (is_of name) nodes.clients c is) in
-      let here : node.Entity name ≡ node.Entity c.own.asker.name = ap (λ (m : Name). node.Entity m) (sym named) in
-      let o : Outcome ClientNode = client_rule c h.input h.reading h.draw in
-      let before : NodeOk (client_says J (node.Entity name)) c us J = client-before c name known here in
-      let a = client-step leaked whole (node.Entity name) h.line us log J J c h.input h.reading h.draw i before here g in
-      let all : tickets_in (entered J o.out.entries) ≡ tickets_in J = a.good.own.count in
-      let parts : tickets_in (J ++ o.out.entries) ≡ tickets_in J + tickets_in o.out.entries = tickets-append J o.out.entries in
-      let same : tickets_in (entered J o.out.entries) ≡ tickets_in (J ++ o.out.entries) = ap (λ (l : List Entry). tickets_in l) (entered-append J o.out.entries) in
-      omega arith
+  daemon-after_step : (h : Happening) (name : Name) (d : DaemonState) → DaemonOk run us J d.node → d.node.own.asker.name ≡ name → Inv run whole us log J → NodesOk run nodes us J
+      → length h.draw ≡ 384 → IsNoLook h.input → (run.guests ≡ false → IsNoGuest h.input) → AllGood run J
+      → AreGranted run.leaked whole (node.Entity name) h.line log (daemon_step nodes.handlers d h.input h.reading h.draw).out.seals
+      → AfterStepped (node.Entity name) h.line (entity_steps nodes h name (Some (OfDaemon d)))
+  daemon-after_step h name d known named i ok drawn looks comes good g =
+      let here : node.Entity name ≡ node.Entity d.node.own.asker.name = ap (λ (m : Name). node.Entity m) (sym named) in
+      let o : Outcome DaemonState = daemon_step nodes.handlers d h.input h.reading h.draw in
+      let b = daemon-after run whole (node.Entity name) h.line us log J nodes.handlers d h.reading h.draw drawn h.input (record {
+        inv = i;
+        ok = daemon-before d.node name known here;
+        here = here;
+        of = known.of;
+        backed = known.backed;
+        good = good;
+        comes = comes;
+        looks = looks;
+      }) g in
+      let a = b.after in
+      let kept : o.state.node.own.asker.name ≡ d.node.own.asker.name = daemon-named nodes.handlers d h.input h.reading h.draw in
+      let still : node.Entity name ≡ node.Entity o.state.node.own.asker.name = here ∙ ap (λ (m : Name). node.Entity m) (sym kept) in
+      let behind_it : DaemonOk run a.uses (entered J o.out.entries) o.state.node = record {
+        known = a.good.own.known;
+        of = subst (λ (m : Name). is_daemon_type m.kind ≡ true) (sym kept) known.of;
+        links = subst (λ (n : NodeName). AllByRecursion (λ (l : Link DaemonStage). DaemonStageOk run a.uses n l.stage) o.state.node.links) still a.good.links;
+        backed = λ come. subst (λ (m : Name). AllByRecursion (IsBackedLink (entered J o.out.entries) m.kind) o.state.node.links) (sym kept) (b.backed come);
+      } in
+      record {
+        uses = a.uses;
+        grows = a.grows;
+        inv = a.inv;
+        laws = a.laws;
+        good = nodes-behind name (OfDaemon o.state) a.uses o.out.entries a.grows a.good.own.quiet ok behind_it;
+      }
+
+  entity-after : (h : Happening) (name : Name) (found : Option EntityNode) → entity_of name nodes ≡ found → Inv run whole us log J → NodesOk run nodes us J → length h.draw ≡ 384
+      → IsNoLook h.input → (run.guests ≡ false → IsUnvisited (node.Entity name) h.input) → AllGood run J
+      → AreGranted run.leaked whole (node.Entity name) h.line log (entity_steps nodes h name found).out.seals → AfterStepped (node.Entity name) h.line (entity_steps nodes h name found)
+  entity-after h name None is i ok drawn looks comes good g = nothing-after (node.Entity name) h.line i ok
+  entity-after h name (Some (OfClient c)) is i ok drawn looks comes good g =
+      client-after h name c (found_all (EntityOk run us J) (is_of name) nodes.entities (OfClient c) ok.entities is)
+      (same_name_is c.own.asker.name name (found_passes (is_of name) nodes.entities (OfClient c) is)) i ok g
+  entity-after h name (Some (OfDaemon d)) is i ok drawn looks comes good g =
+      daemon-after_step h name d (found_all (EntityOk run us J) (is_of name) nodes.entities (OfDaemon d) ok.entities is)
+      (same_name_is d.node.own.asker.name name (found_passes (is_of name) nodes.entities (OfDaemon d) is)) i ok drawn looks (λ none. unvisited-guest name h.input (comes none)) good g
 
   -- ---- the monitor
 
@@ -168,10 +283,11 @@ module _ (leaked : List Name) (whole : List Logged) (us : Uses) (log : List Logg
   rule h = monitor_rule nodes.monitor h.input h.reading h.draw
 
   -- a step whose save stands, or that saves nothing
-  saved-after : (h : Happening) → Inv leaked whole us log J → NodesOk nodes us J → length h.draw ≡ 384 → AreGranted leaked whole node.Monitor h.line log (rule h).out.seals
+  saved-after : (h : Happening) → Inv run whole us log J → NodesOk run nodes us J → length h.draw ≡ 384 → AreRecorded run (rule h).state.own.saved
+      → AreGranted run.leaked whole node.Monitor h.line log (rule h).out.seals
       → AfterStepped node.Monitor h.line (record { nodes = record nodes { monitor = (rule h).state }; out = (rule h).out; failed = false })
-  saved-after h i ok drawn g =
-      let b = monitor-after leaked whole node.Monitor h.line us log J nodes.monitor h.input h.reading h.draw i ok.monitor drawn g in
+  saved-after h i ok drawn rec g =
+      let b = monitor-after run whole node.Monitor h.line us log J nodes.monitor h.input h.reading h.draw i ok.monitor drawn rec g in
       let a = b.after in
       record {
         uses = a.uses;
@@ -180,25 +296,35 @@ module _ (leaked : List Name) (whole : List Logged) (us : Uses) (log : List Logg
         laws = a.laws;
         good = record {
           monitor = between nodes.monitor.own.saved b.owner a.uses (entered J (rule h).out.entries) (rule h).state a.good;
-          clients = clients-grow us a.uses nodes.clients a.grows ok.clients;
+          entities = entities-grow run us a.uses J (entered J (rule h).out.entries) nodes.entities a.grows (within-all J (rule h).out.entries) ok.entities;
         };
       }
 
-  -- a step whose save fails
-  failed-after : (h : Happening) (l : LeftState) → Inv leaked whole us log J → NodesOk nodes us J → length h.draw ≡ 384
-      → AreGranted leaked whole node.Monitor h.line log (filter stays (rule h).out.seals)
+  -- a step whose save fails: what it would have saved is taken as saved meanwhile
+  failed-after : (h : Happening) (l : LeftState) → Inv run whole us log J → NodesOk run nodes us J → length h.draw ≡ 384
+      → AreGranted run.leaked whole node.Monitor h.line log (filter stays (rule h).out.seals)
       → AfterStepped node.Monitor h.line (record { nodes = record nodes { monitor = left_as l (rule h).state }; out = failed_out (rule h).out; failed = true })
   failed-after h l i ok drawn g =
-      let all = thick leaked whole node.Monitor h.line log (rule h).out.seals g in
-      let b = monitor-after leaked whole node.Monitor h.line us log J nodes.monitor h.input h.reading h.draw i ok.monitor drawn all in
+      let all = thick run whole node.Monitor h.line log (rule h).out.seals g in
+      let more : List (EntityType × Generation) = tagged (rule h).state.own.saved in
+      let wide : WholeRun = record run { saved = more ++ run.saved } in
+      let ws : Uses = record us { saved = more ++ us.saved } in
+      let b = monitor-after wide whole node.Monitor h.line ws log J nodes.monitor h.input h.reading h.draw (inv-saved run whole us log J more i)
+      (monitor-moved us ws J J nodes.monitor (grows-saved us (more ++ us.saved)) (λ s has. has) ok.monitor) drawn (tagged-recorded run (rule h).state.own.saved) all in
       let a = b.after in
       let K : List Entry = entered J (rule h).out.entries in
+      let there : Grows us a.uses = grows-from us a.uses (more ++ us.saved) a.grows in
+      let vs : Uses = record a.uses { saved = us.saved } in
+      let f : Grows us vs = grows-then us a.uses vs there (grows-saved a.uses us.saved) in
       record {
-        uses = a.uses;
-        grows = a.grows;
-        inv = inv-failed leaked whole node.Monitor h.line us a.uses log J K (rule h).out.seals a.grows i a.inv;
+        uses = vs;
+        grows = f;
+        inv = inv-failed run whole node.Monitor h.line us a.uses (more ++ run.saved) log J K (rule h).out.seals f i a.inv;
         laws = tt;
-        good = record { monitor = by_left b.owner a.uses K a.grows (within-all J (rule h).out.entries) a.good l; clients = clients-grow us a.uses nodes.clients a.grows ok.clients };
+        good = record {
+          monitor = monitor-moved a.uses vs J J (left_as l (rule h).state) (grows-saved a.uses us.saved) (λ s has. has) (by_left b.owner a.uses K there (within-all J (rule h).out.entries) a.good l);
+          entities = entities-grow run us vs J J nodes.entities f (within-itself J) ok.entities;
+        };
       }
     where
       by_left : (who : Owner) (vs : Uses) (K : List Entry) → Grows us vs → Within J K → NodeOk (monitor_says nodes.monitor.own.saved who) (rule h).state vs K → (l : LeftState)
@@ -207,22 +333,33 @@ module _ (leaked : List Name) (whole : List Logged) (us : Uses) (log : List Logg
           unsaved-ok nodes.monitor.own.saved who vs J K (rule h).state w good (state-grows us vs nodes.monitor.own.saved f ok.monitor.node_ok.own.saved) ok.monitor.node_ok.own.below
       by_left who vs K f w good left.New = between-less nodes.monitor.own.saved who vs J K (rule h).state w good
 
-  monitor-steps-after : (h : Happening) (l : Option LeftState) (saved : Option KeptState) → Inv leaked whole us log J → NodesOk nodes us J → length h.draw ≡ 384
-      → AreGranted leaked whole node.Monitor h.line log (monitor_steps nodes (rule h) l saved).out.seals → AfterStepped node.Monitor h.line (monitor_steps nodes (rule h) l saved)
-  monitor-steps-after h (Some l) (Some saved) i ok drawn g = failed-after h l i ok drawn g
-  monitor-steps-after h None saved i ok drawn g = saved-after h i ok drawn g
-  monitor-steps-after h (Some l) None i ok drawn g = saved-after h i ok drawn g
+  monitor-steps-after : (h : Happening) (l : Option LeftState) (saved : Option KeptState) → Inv run whole us log J → NodesOk run nodes us J → length h.draw ≡ 384
+      → AreRecorded run (monitor_steps nodes (rule h) l saved).nodes.monitor.own.saved
+      → AreGranted run.leaked whole node.Monitor h.line log (monitor_steps nodes (rule h) l saved).out.seals → AfterStepped node.Monitor h.line (monitor_steps nodes (rule h) l saved)
+  monitor-steps-after h (Some l) (Some saved) i ok drawn rec g = failed-after h l i ok drawn g
+  monitor-steps-after h None saved i ok drawn rec g = saved-after h i ok drawn rec g
+  monitor-steps-after h (Some l) None i ok drawn rec g = saved-after h i ok drawn rec g
 
   -- ---- any event
 
-  at-node : (h : Happening) (n : NodeName) → Inv leaked whole us log J → NodesOk nodes us J → length h.draw ≡ 384
-      → AreGranted leaked whole n h.line log (steps_of nodes h n).out.seals → AfterStepped n h.line (steps_of nodes h n)
-  at-node h node.Monitor i ok drawn g = monitor-steps-after h h.left (rule h).out.save i ok drawn g
-  at-node h (node.Entity name) i ok drawn g = client-after h name (client_of name nodes) refl i ok g
+  at-node : (h : Happening) (n : NodeName) → Inv run whole us log J → NodesOk run nodes us J → length h.draw ≡ 384 → IsNoLook h.input → (run.guests ≡ false → IsUnvisited n h.input) → AllGood run J
+      → AreRecorded run (steps_of nodes h n).nodes.monitor.own.saved → AreGranted run.leaked whole n h.line log (steps_of nodes h n).out.seals → AfterStepped n h.line (steps_of nodes h n)
+  at-node h node.Monitor i ok drawn looks comes good rec g = monitor-steps-after h h.left (rule h).out.save i ok drawn rec g
+  at-node h (node.Entity name) i ok drawn looks comes good rec g = entity-after h name (entity_of name nodes) refl i ok drawn looks comes good g
 
-  pub event-after : (h : Happening) → Inv leaked whole us log J → NodesOk nodes us J → length h.draw ≡ 384
-      → AreGranted leaked whole h.node h.line log (steps nodes h).out.seals → AfterStepped h.node h.line (steps nodes h)
-  event-after h i ok drawn g = at-node h h.node i ok drawn g
+  pub event-after : (h : Happening) → Inv run whole us log J → NodesOk run nodes us J → AllGood run J → Occurs run nodes h
+      → AreGranted run.leaked whole h.node h.line log (steps nodes h).out.seals → AfterStepped h.node h.line (steps nodes h)
+  event-after h i ok good m g = at-node h h.node i ok m.drawn m.looks m.comes good m.recorded g
+
+-- all tickets are good behind an event
+pub good-behind : (run : WholeRun) (J js : List Entry) → AllGood run J → ((run.guests ≡ false → ⊥) → (t : Issued) → Contains js (journal.Issued t) → IsGood run t)
+    → AllGood run (entered J js)
+good-behind run J js before here come t has =
+    by_place (Contains-append_cases J js (journal.Issued t) (subst (λ (l : List Entry). Contains l (journal.Issued t)) (entered-append J js) has))
+  where
+    by_place : Contains J (journal.Issued t) ⊎ Contains js (journal.Issued t) → IsGood run t
+    by_place (inl was) = before come t was
+    by_place (inr now) = here come t now
 
 -- ---- every list of events
 
@@ -231,17 +368,17 @@ entries-by : (h : Happening) (es : List Entry) → map (λ (x : Entered). x.entr
 entries-by h [] = refl
 entries-by h (e ∷ es) = ap (λ (l : List Entry). e ∷ l) (entries-by h es)
 
-pub events-law : (leaked : List Name) (whole : List Logged) (hs : List Happening) (nodes : Nodes) (us : Uses) (log : List Logged) (J : List Entry) → Inv leaked whole us log J
-    → NodesOk nodes us J → AreDrawn hs → EachOnto (IsGranted leaked whole) log (seals_from nodes hs)
-    → EachBehind EntryLaw J (map (λ (x : Entered). x.entry) (journal_from nodes hs))
-events-law leaked whole [] nodes us log J i ok drawn g = tt
-events-law leaked whole (h ∷ hs) nodes us log J i ok drawn g =
+pub events-law : (run : WholeRun) (whole : List Logged) (hs : List Happening) (nodes : Nodes) (us : Uses) (log : List Logged) (J : List Entry) → Inv run whole us log J
+    → NodesOk run nodes us J → AllGood run J → AllOccur run nodes hs → EachOnto (IsGranted run.leaked whole) log (seals_from nodes hs)
+    → EachBehind (EntryLaw run.guests) J (map (λ (x : Entered). x.entry) (journal_from nodes hs))
+events-law run whole [] nodes us log J i ok good m g = tt
+events-law run whole (h ∷ hs) nodes us log J i ok good m g =
     let s : Stepped = steps nodes h in
-    let gs = granted-step leaked whole h.node h.line log s.out.seals (seals_from s.nodes hs) g in
-    let a = event-after leaked whole us log J nodes h i ok drawn.0 gs.0 in
-    let rest = events-law leaked whole hs s.nodes a.uses (behind h.node h.line s.out.seals log) (entered J s.out.entries) a.inv a.good drawn.1 gs.1 in
+    let gs = granted-step run.leaked whole h.node h.line log s.out.seals (seals_from s.nodes hs) g in
+    let a = event-after run whole us log J nodes h i ok good m.0 gs.0 in
+    let rest = events-law run whole hs s.nodes a.uses (behind h.node h.line s.out.seals log) (entered J s.out.entries) a.inv a.good (good-behind run J s.out.entries good m.0.good) m.1 gs.1 in
     let later : List Entry = map (λ (x : Entered). x.entry) (journal_from s.nodes hs) in
-    let both : EachBehind EntryLaw J (s.out.entries ++ later) = behind-append EntryLaw J s.out.entries later a.laws rest in
+    let both : EachBehind (EntryLaw run.guests) J (s.out.entries ++ later) = behind-append (EntryLaw run.guests) J s.out.entries later a.laws rest in
     let same : map (λ (x : Entered). x.entry) (entered_by h s.out ++ journal_from s.nodes hs) ≡ s.out.entries ++ later =
     map-append (λ (x : Entered). x.entry) (entered_by h s.out) (journal_from s.nodes hs) ∙ ap (λ (l : List Entry). l ++ later) (entries-by h s.out.entries) in
-    subst (λ (l : List Entry). EachBehind EntryLaw J l) (sym same) both
+    subst (λ (l : List Entry). EachBehind (EntryLaw run.guests) J l) (sym same) both

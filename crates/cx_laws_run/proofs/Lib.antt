@@ -5,3 +5,4 @@ pub mod Opening
 pub mod Draws
 pub mod Asked
 pub mod Logins
+pub mod Happening

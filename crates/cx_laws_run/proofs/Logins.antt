@@ -12,7 +12,7 @@ use Rattle.cx_rules.specs.Links.{Link, link_of}
 use Rattle.cx_rules.specs.Monitor.{MonitorStage, Offered}
 use Rattle.cx_rules.specs.Secured.{Keys}
 use Rattle.cx_run.specs.Happenings.{Entered, Happening, Nodes, Stepped, seals_from, steps}
-use Rattle.cx_run.specs.Opening.{Setup, leaked_of, leaks_entered, nodes_of}
+use Rattle.cx_run.specs.Opening.{Setup, leaked_of, leaks_entered, nodes_of, Leak}
 use Rattle.cx_run.specs.Points.{EachPoint, Point, Since, log_since, logged_until, onto, points, points_onto, seals_at}
 use Rattle.cx_steps.specs.Onto.{EachOnto, SomeOf}
 use Rattle.cx_steps.specs.Premises.{HasSealed, HasSigned, IsExcepted, IsFresh, IsSound, Owes, Seals, Signs}
@@ -23,17 +23,20 @@ use Rattle.cx_steps.specs.declared.seals.SealMark.{SealMark}
 use Rattle.cx_laws_keys.proofs.Journal.{entered, has-before}
 use Rattle.cx_laws_keys.proofs.Known.{Inv, IsOfConnector, sealed_own, signed_own}
 use Rattle.cx_laws_keys.proofs.Premises.{AreGranted, IsGranted, all-granted, behind, granted-step, logged}
-use Rattle.cx_laws_keys.proofs.Uses.{Connected, IsConnected, Means, Secret, Uses, no_uses}
+use Rattle.cx_laws_keys.proofs.Uses.{Connected, IsConnected, Means, Secret, Uses, no_uses, WholeRun}
 use Rattle.cx_laws_login.proofs.Facts.{BearerOk, OfferOk, StageOk}
 use Rattle.cx_laws_login.proofs.Hearing.{HearsPart, heard-begins, part_heard}
 use Rattle.cx_laws_login.proofs.MonitorRows.{monitor_says}
 use Rattle.cx_laws_login.proofs.MonitorStep.{MonitorOk}
 use Rattle.cx_laws_login.proofs.Rows.{LinkOk, found-link, quiet-entries}
 use Rattle.cx_laws_run.proofs.Asked.{Hears, IsHeardFor, all-heard}
-use Rattle.cx_laws_run.proofs.Events.{NodesOk, event-after}
-use Rattle.cx_laws_run.proofs.Opening.{NoneIssued, leaks-quiet, nothing-in, opening-inv, opening-nodes, secrets-known}
+use Rattle.cx_laws_run.proofs.Events.{NodesOk, event-after, AllOccur, good-behind}
+use Rattle.cx_laws_run.proofs.Opening.{NoneIssued, leaks-quiet, nothing-in, opening-inv, opening-nodes, secrets-known, Begins, begins}
 use Rattle.cx_laws_run.specs.Laws.{AreDrawn}
 use Rattle.cx_laws_run.specs.Logins.{IsRenewal, LogIn, LogsIn, OwnFrame, OwnLogin, Proves, proof_of}
+use Rattle.cx_laws_authorize.proofs.Backing.{AreGood, AllGood}
+use Rattle.cx_base.specs.declared.kinds.EntityType.TheVariants.{Client}
+use Rattle.std.specs.List.{AllByRecursion}
 
 -- of each proof that is found equal at this point, of an entity that isn't leaked: its own node signed it before
 abbrev SignedOwn : Setup → List Point → Point → Type 0
@@ -50,44 +53,41 @@ Owned setup older p = SignedOwn setup older p × SealedOwn setup older p
 
 -- ---- an event
 
-module _ (setup : Setup) (whole : List Logged) (us : Uses) (J : List Entry) (past : List Point) (nodes : Nodes) (h : Happening) where
-  abbrev leaked : List Name
-  leaked = leaked_of setup
-
+module _ (run : WholeRun) (setup : Setup) (same : run.leaked ≡ leaked_of setup) (whole : List Logged) (us : Uses) (J : List Entry) (past : List Point) (nodes : Nodes) (h : Happening) where
   abbrev log : List Logged
   log = logged_until setup past
 
   -- a proof that was found equal under the secret of an entity that isn't leaked was signed by its own node
-  signed-by : (offered : Offered) (client : ℕ) → Inv leaked whole us log J → Means us offered.offer.secret (Secret offered.offer.name)
-      → Owes leaked whole h.node log (seal.Checked (proof_of offered.offer client)) → (Contains leaked offered.offer.name → ⊥)
+  signed-by : (offered : Offered) (client : ℕ) → Inv run whole us log J → Means us offered.offer.secret (Secret offered.offer.name)
+      → Owes run.leaked whole h.node log (seal.Checked (proof_of offered.offer client)) → (Contains run.leaked offered.offer.name → ⊥)
       → SomeOf (λ (at : Logged). (at.node ≡ node.Entity offered.offer.name) × Signs (proof_of offered.offer client) at.entry) log
   signed-by offered client i means owed unleaked = by_owed owed
     where
       name_is : (a b : Name) → Some a ≡ Some b → a ≡ b
       name_is a b e = cc
 
-      by_owed : IsExcepted leaked whole h.node offered.offer.secret ⊎ HasSigned log (proof_of offered.offer client)
+      by_owed : IsExcepted run.leaked whole h.node offered.offer.secret ⊎ HasSigned log (proof_of offered.offer client)
           → SomeOf (λ (at : Logged). (at.node ≡ node.Entity offered.offer.name) × Signs (proof_of offered.offer client) at.entry) log
       by_owed (inl excepted) =
           let leak = i.leaks offered.offer.secret (Secret offered.offer.name) means excepted.leak in
-          absurd (unleaked (subst (λ (m : Name). Contains leaked m) (sym (name_is offered.offer.name leak.0 leak.1)) leak.2))
-      by_owed (inr signed) = signed_own leaked whole us log J i (proof_of offered.offer client) offered.offer.name signed means
+          absurd (unleaked (subst (λ (m : Name). Contains run.leaked m) (sym (name_is offered.offer.name leak.0 leak.1)) leak.2))
+      by_owed (inr signed) = signed_own run whole us log J i (proof_of offered.offer client) offered.offer.name signed means
 
   -- a part that opened under the key of a link to an entity that isn't leaked, with the nonce of the one that connects, was sealed by its own node
-  sealed-by : (keys : Keys) (plain : List ℕ) (name : Name) → Inv leaked whole us log J → IsConnected us keys.key name → IsOfConnector keys.into.fixed
-      → Owes leaked whole h.node log (seal.Opened (part_heard keys plain)) → (Contains leaked name → ⊥)
+  sealed-by : (keys : Keys) (plain : List ℕ) (name : Name) → Inv run whole us log J → IsConnected us keys.key name → IsOfConnector keys.into.fixed
+      → Owes run.leaked whole h.node log (seal.Opened (part_heard keys plain)) → (Contains run.leaked name → ⊥)
       → SomeOf (λ (at : Logged). (at.node ≡ node.Entity name) × Seals (part_heard keys plain) at.entry) log
   sealed-by keys plain name i connected begins owed unleaked = by_owed owed
     where
       name_is : (a b : Name) → Some a ≡ Some b → a ≡ b
       name_is a b e = cc
 
-      by_owed : IsExcepted leaked whole h.node keys.key ⊎ HasSealed log (part_heard keys plain)
+      by_owed : IsExcepted run.leaked whole h.node keys.key ⊎ HasSealed log (part_heard keys plain)
           → SomeOf (λ (at : Logged). (at.node ≡ node.Entity name) × Seals (part_heard keys plain) at.entry) log
       by_owed (inl excepted) =
           let leak = i.leaks keys.key (Connected connected.acceptor connected.number name connected.tie) connected.means excepted.leak in
-          absurd (unleaked (subst (λ (m : Name). Contains leaked m) (sym (name_is name leak.0 leak.1)) leak.2))
-      by_owed (inr sealed) = sealed_own leaked whole us log J i (part_heard keys plain) name sealed connected (heard-begins keys plain begins)
+          absurd (unleaked (subst (λ (m : Name). Contains run.leaked m) (sym (name_is name leak.0 leak.1)) leak.2))
+      by_owed (inr sealed) = sealed_own run whole us log J i (part_heard keys plain) name sealed connected (heard-begins keys plain begins)
 
   -- what is known of the stage of a link that is found
   at-link : (ok : MonitorOk us J nodes.monitor) (number : ℕ) (link : Link MonitorStage) → link_of number nodes.monitor.links ≡ Some link → StageOk ok.owner us link.stage
@@ -95,7 +95,7 @@ module _ (setup : Setup) (whole : List Logged) (us : Uses) (J : List Entry) (pas
       let says = monitor_says nodes.monitor.own.saved_before ok.owner in
       subst (λ (l : Option (Link MonitorStage)). LinkOk says us l) found (found-link says us number nodes.monitor.links ok.node_ok.links)
 
-  event-sealed : Inv leaked whole us log J → NodesOk nodes us J → AreGranted leaked whole h.node h.line log (steps nodes h).out.seals
+  event-sealed : Inv run whole us log J → NodesOk run nodes us J → AreGranted run.leaked whole h.node h.line log (steps nodes h).out.seals
       → SealedOwn setup past (record { nodes = nodes; happening = h })
   event-sealed i ok g t renewal heard unleaked =
       let keys : Keys = renewal.secured.keys in
@@ -103,21 +103,23 @@ module _ (setup : Setup) (whole : List Logged) (us : Uses) (J : List Entry) (pas
       let mark : SealMark = part_heard keys heard.plain in
       let bearer : BearerOk ok.monitor.owner us keys renewal.bearer =
       subst (λ (s : MonitorStage). StageOk ok.monitor.owner us s) renewal.stage (at-link ok.monitor renewal.number renewal.link renewal.found) in
-      let granted : AreGranted leaked whole h.node h.line log (seal.Opened mark ∷ heard.rest) =
-      subst (λ (es : List SealEntry). AreGranted leaked whole h.node h.line log es) heard.opened g in
-      let own : Contains leaked name → ⊥ = λ has. unleaked (subst (λ (n : Name). Contains leaked n) (sym renewal.named) has) in
+      let granted : AreGranted run.leaked whole h.node h.line log (seal.Opened mark ∷ heard.rest) =
+      subst (λ (es : List SealEntry). AreGranted run.leaked whole h.node h.line log es) heard.opened g in
+      let own : Contains run.leaked name → ⊥ =
+      λ has. unleaked (subst (λ (names : List Name). Contains names t.entity) same (subst (λ (n : Name). Contains run.leaked n) (sym renewal.named) has)) in
       subst (λ (n : Name). OwnFrame setup n past (record { nodes = nodes; happening = h })) (sym renewal.named)
       (mark, heard.rest, heard.opened, refl, sealed-by keys heard.plain name i bearer.connected bearer.into granted.0.owes own)
 
-  event-signed : Inv leaked whole us log J → NodesOk nodes us J → AreGranted leaked whole h.node h.line log (steps nodes h).out.seals
+  event-signed : Inv run whole us log J → NodesOk run nodes us J → AreGranted run.leaked whole h.node h.line log (steps nodes h).out.seals
       → SignedOwn setup past (record { nodes = nodes; happening = h })
   event-signed i ok g number name p unleaked =
       let offered : Offered = p.offered in
       let at_link : StageOk ok.monitor.owner us p.link.stage = at-link ok.monitor number p.link p.found in
       let offer : OfferOk us offered.offer = subst (λ (s : MonitorStage). StageOk ok.monitor.owner us s) p.stage at_link in
-      let granted : AreGranted leaked whole h.node h.line log (seal.Checked (proof_of offered.offer p.client_challenge) ∷ p.rest) =
-      subst (λ (es : List SealEntry). AreGranted leaked whole h.node h.line log es) p.checked g in
-      let own : Contains leaked offered.offer.name → ⊥ = λ has. unleaked (subst (λ (n : Name). Contains leaked n) p.named has) in
+      let granted : AreGranted run.leaked whole h.node h.line log (seal.Checked (proof_of offered.offer p.client_challenge) ∷ p.rest) =
+      subst (λ (es : List SealEntry). AreGranted run.leaked whole h.node h.line log es) p.checked g in
+      let own : Contains run.leaked offered.offer.name → ⊥ =
+      λ has. unleaked (subst (λ (names : List Name). Contains names name) same (subst (λ (n : Name). Contains run.leaked n) p.named has)) in
       subst (λ (n : Name). SomeOf (λ (at : Logged). (at.node ≡ node.Entity n) × Signs (proof_of offered.offer p.client_challenge) at.entry) log) p.named
       (signed-by offered p.client_challenge i offer.secret granted.0.owes own)
 
@@ -127,22 +129,21 @@ behind-onto : (n : NodeName) (line : ℕ) (es : List SealEntry) (earlier : List 
 behind-onto n line [] earlier = refl
 behind-onto n line (e ∷ es) earlier = behind-onto n line es (logged n line e ∷ earlier)
 
-all-owned : (setup : Setup) (whole : List Logged) (hs : List Happening) (past : List Point) (nodes : Nodes) (us : Uses) (J : List Entry)
-    → Inv (leaked_of setup) whole us (logged_until setup past) J → NodesOk nodes us J → AreDrawn hs
-    → EachOnto (IsGranted (leaked_of setup) whole) (logged_until setup past) (seals_from nodes hs) → EachPoint (Owned setup) past → EachPoint (Owned setup) (points_onto past nodes hs)
-all-owned setup whole [] past nodes us J i ok drawn g each = each
-all-owned setup whole (h ∷ hs) past nodes us J i ok drawn g each =
-    let leaked : List Name = leaked_of setup in
+all-owned : (run : WholeRun) (setup : Setup) → run.leaked ≡ leaked_of setup → (whole : List Logged) (hs : List Happening) (past : List Point) (nodes : Nodes) (us : Uses) (J : List Entry)
+    → Inv run whole us (logged_until setup past) J → NodesOk run nodes us J → AllGood run J → AllOccur run nodes hs
+    → EachOnto (IsGranted run.leaked whole) (logged_until setup past) (seals_from nodes hs) → EachPoint (Owned setup) past → EachPoint (Owned setup) (points_onto past nodes hs)
+all-owned run setup names whole [] past nodes us J i ok good m g each = each
+all-owned run setup names whole (h ∷ hs) past nodes us J i ok good m g each =
     let log : List Logged = logged_until setup past in
     let p : Point = record { nodes = nodes; happening = h } in
     let s : Stepped = steps nodes h in
-    let gs = granted-step leaked whole h.node h.line log s.out.seals (seals_from s.nodes hs) g in
-    let a = event-after leaked whole us log J nodes h i ok drawn.0 gs.0 in
+    let gs = granted-step run.leaked whole h.node h.line log s.out.seals (seals_from s.nodes hs) g in
+    let a = event-after run whole us log J nodes h i ok good m.0 gs.0 in
     let same : behind h.node h.line s.out.seals log ≡ logged_until setup (p ∷ past) = behind-onto h.node h.line s.out.seals log in
-    let later : Inv leaked whole a.uses (logged_until setup (p ∷ past)) (entered J s.out.entries) = subst (λ (l : List Logged). Inv leaked whole a.uses l (entered J s.out.entries)) same a.inv in
-    let rest : EachOnto (IsGranted leaked whole) (logged_until setup (p ∷ past)) (seals_from s.nodes hs) = subst (λ (l : List Logged). EachOnto (IsGranted leaked whole) l (seals_from s.nodes hs)) same gs.1 in
-    all-owned setup whole hs (p ∷ past) s.nodes a.uses (entered J s.out.entries) later a.good drawn.1 rest
-    ((event-signed setup whole us J past nodes h i ok gs.0, event-sealed setup whole us J past nodes h i ok gs.0), each)
+    let later : Inv run whole a.uses (logged_until setup (p ∷ past)) (entered J s.out.entries) = subst (λ (l : List Logged). Inv run whole a.uses l (entered J s.out.entries)) same a.inv in
+    let rest : EachOnto (IsGranted run.leaked whole) (logged_until setup (p ∷ past)) (seals_from s.nodes hs) = subst (λ (l : List Logged). EachOnto (IsGranted run.leaked whole) l (seals_from s.nodes hs)) same gs.1 in
+    all-owned run setup names whole hs (p ∷ past) s.nodes a.uses (entered J s.out.entries) later a.good (good-behind run J s.out.entries good m.0.good) m.1 rest
+    ((event-signed run setup names whole us J past nodes h i ok gs.0, event-sealed run setup names whole us J past nodes h i ok gs.0), each)
 
 -- ---- each ticket
 
@@ -166,15 +167,12 @@ each-logs-in : (setup : Setup) (past : List Point) → EachPoint (Hears setup) p
 each-logs-in setup [] hears own = tt
 each-logs-in setup (p ∷ older) hears own = (logs-in setup older p hears.0 own.0 own.1, each-logs-in setup older hears.1 own.1)
 
-pub run-logins : (setup : Setup) (hs : List Happening) → AreDrawn hs → IsSound (leaked_of setup) (log_since setup hs) → IsFresh (log_since setup hs) → LogIn setup (points setup hs)
-run-logins setup hs drawn sound fresh =
-    let leaked : List Name = leaked_of setup in
+pub run-logins : (run : WholeRun) (setup : Setup) (hs : List Happening) → run.leaked ≡ leaked_of setup → AllByRecursion (λ (l : Leak). l.client.kind ≡ Client) setup.leaks
+    → AllOccur run (nodes_of setup) hs → IsSound (leaked_of setup) (log_since setup hs) → IsFresh (log_since setup hs) → LogIn setup (points setup hs)
+run-logins run setup hs same clients occur sound fresh =
     let whole : List Logged = log_since setup hs in
-    let leaks : List Entry = map (λ (x : Entered). x.entry) (leaks_entered setup) in
-    let K : List Entry = entered [] leaks in
-    let began = quiet-entries leaked whole node.Monitor 0 no_uses [] [] leaks NoneIssued (λ J e other none s has. none s (has-before J e other s has)) (leaks-quiet setup.leaks)
-    (opening-inv leaked whole) (λ s has. nothing-in (journal.Issued s) has) in
-    let known = secrets-known leaked whole K setup.entities no_uses [] (seals_from (nodes_of setup) hs) began.0 (all-granted leaked whole sound fresh) in
-    let nodes : NodesOk (nodes_of setup) known.uses K = opening-nodes known.uses K setup known.theirs began.2 in
-    let owned : EachPoint (Owned setup) (points setup hs) = all-owned setup whole hs [] (nodes_of setup) known.uses K known.inv nodes drawn known.granted tt in
+    let K : List Entry = entered [] (map (λ (x : Entered). x.entry) (leaks_entered setup)) in
+    let b : Begins run whole setup hs = begins run setup hs same clients sound fresh in
+    let owned : EachPoint (Owned setup) (points setup hs) =
+    all-owned run setup same whole hs [] (nodes_of setup) b.uses K b.inv b.nodes (λ come t has. absurd (b.none t has)) occur b.granted tt in
     each-logs-in setup (points setup hs) (all-heard setup hs) owned

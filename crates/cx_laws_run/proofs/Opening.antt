@@ -1,8 +1,8 @@
 -- What is known as a run begins.
-use Rattle.std.proofs.Common.{◌≡◌, ℕ, Bool, true, false, List, [], ◌∷◌, ◌++◌, map, inl, refl, sym, ap, subst, arith}
+use Rattle.std.proofs.Common.{◌≡◌, ℕ, Bool, true, false, List, [], ◌∷◌, ◌++◌, map, inl, refl, sym, ap, subst, arith, ◌⊎◌, inr, ◌∙◌}
 use Rattle.std.specs.Prelude.{Contains, if◌then◌else◌, None}
 use Rattle.std.specs.List.{AllByRecursion, flat_map}
-use Rattle.cx_base.specs.Names.{Name, same_kind}
+use Rattle.cx_base.specs.Names.{Name, same_kind, is_daemon_type}
 use Rattle.cx_base.specs.declared.kinds.EntityType.{EntityType}
 use Rattle.cx_base.specs.declared.kinds.EntityType.TheVariants.{Mon, Mds, Osd, Client, Mgr, Auth}
 use Rattle.cx_journal.specs.Behind.{EachBehind}
@@ -12,8 +12,8 @@ use Rattle.cx_journal.specs.declared.entries.Entry.TheVariants as journal
 use Rattle.cx_journal.specs.declared.entries.Issued.{Issued}
 use Rattle.cx_base.specs.declared.nodes.NodeName.TheVariants as node
 use Rattle.cx_rules.specs.ClientRule.{opening_client}
-use Rattle.cx_run.specs.Happenings.{Entered, Happening, journal_from, seals_from}
-use Rattle.cx_run.specs.Opening.{Declared, Leak, Setup, asker_of, client_in, first_state, leaked_of, leaks_entered, nodes_of, principal_of, secret_drawn, secret_of, secrets_drawn}
+use Rattle.cx_run.specs.Happenings.{Entered, Happening, journal_from, seals_from, OfClient, OfDaemon}
+use Rattle.cx_run.specs.Opening.{Declared, Leak, Setup, asker_of, first_state, leaked_of, leaks_entered, nodes_of, principal_of, secret_drawn, secret_of, secrets_drawn, entity_in, daemon_opening}
 use Rattle.cx_steps.specs.Onto.{EachOnto}
 use Rattle.cx_steps.specs.Premises.{IsFresh, IsSound}
 use Rattle.cx_steps.specs.declared.seals.DrawMark.TheVariants as draw
@@ -23,14 +23,16 @@ use Rattle.cx_laws_keys.proofs.Known.{Inv}
 use Rattle.cx_laws_keys.proofs.Lists.{all-append, map-append}
 use Rattle.cx_laws_keys.proofs.Premises.{IsGranted, all-granted}
 use Rattle.cx_laws_keys.proofs.Steps.{inv-drawn}
-use Rattle.cx_laws_keys.proofs.Uses.{Grows, Means, Secret, Uses, grows-one, grows-then, no_uses, stays, with_key}
-use Rattle.cx_laws_login.proofs.Facts.{AreSecrets}
-use Rattle.cx_laws_login.proofs.Generations.{IsGenerated}
+use Rattle.cx_laws_keys.proofs.Uses.{Grows, Means, Secret, Uses, grows-one, grows-then, no_uses, stays, with_key, WholeRun}
+use Rattle.cx_laws_login.proofs.Facts.{AreSecrets, none-fetched}
+use Rattle.cx_laws_login.proofs.Generations.{IsGenerated, AreWritable, none-writable}
 use Rattle.cx_laws_login.proofs.Rows.{IsQuietEntry, quiet-entries}
-use Rattle.cx_laws_run.proofs.Events.{ClientOk, ClientsOk, NodesOk, events-law}
+use Rattle.cx_laws_run.proofs.Events.{NodesOk, events-law, AllOccur, EntityOk, EntitiesOk}
 use Rattle.cx_laws_run.proofs.Journals.{behind-append}
 use Rattle.cx_run.specs.Points.{journal_since, log_since, onto}
 use Rattle.cx_laws_run.specs.Laws.{AreDrawn}
+use Rattle.cx_keyserver.specs.Servers.{generations_of}
+use Rattle.std.proofs.lemmas.List.Elements.{Contains-append_cases, Contains-push_cases}
 
 -- ---- the entities' secrets
 
@@ -41,21 +43,21 @@ AreTheirs us es = AllByRecursion (λ (e : Declared). Means us (secret_of e) (Sec
 as_secret : (key : List ℕ) (name other : Name) → Secret name ≡ Secret other → draw.Principal key name ≡ draw.Principal key other
 as_secret key name other e = let same : name ≡ other = cc in ap (λ (m : Name). draw.Principal key m) same
 
-module _ (leaked : List Name) (whole : List Logged) (J : List Entry) where
+module _ (run : WholeRun) (whole : List Logged) (J : List Entry) where
   -- behind the secrets of some entities
   pub record AreKnown (us : Uses) (log : List Logged) (es : List Declared) (rest : List Logged) : Type 0 where
     pub uses : Uses
     pub grows : Grows us uses
-    pub inv : Inv leaked whole uses (onto (map secret_drawn es) log) J
+    pub inv : Inv run whole uses (onto (map secret_drawn es) log) J
     pub theirs : AreTheirs uses es
-    pub granted : EachOnto (IsGranted leaked whole) (onto (map secret_drawn es) log) rest
+    pub granted : EachOnto (IsGranted run.leaked whole) (onto (map secret_drawn es) log) rest
 
-  pub secrets-known : (es : List Declared) (us : Uses) (log rest : List Logged) → Inv leaked whole us log J → EachOnto (IsGranted leaked whole) log (map secret_drawn es ++ rest) → AreKnown us log es rest
+  pub secrets-known : (es : List Declared) (us : Uses) (log rest : List Logged) → Inv run whole us log J → EachOnto (IsGranted run.leaked whole) log (map secret_drawn es ++ rest) → AreKnown us log es rest
   secrets-known [] us log rest i g = record { uses = us; grows = stays us; inv = i; theirs = tt; granted = g }
   secrets-known (e ∷ es) us log rest i g =
       let mark = draw.Principal (secret_of e) e.name in
       let vs : Uses = with_key us (secret_of e) (Secret e.name) in
-      let first : Inv leaked whole vs (secret_drawn e ∷ log) J = inv-drawn leaked whole us log J (node.Entity e.name) e.line mark (secret_of e) (Secret e.name) i refl refl (λ name is. as_secret (secret_of e) e.name name is) g.0 in
+      let first : Inv run whole vs (secret_drawn e ∷ log) J = inv-drawn run whole us log J (node.Entity e.name) e.line mark (secret_of e) (Secret e.name) i refl refl (λ name is. as_secret (secret_of e) e.name name is) g.0 in
       let more = secrets-known es vs (secret_drawn e ∷ log) rest first g.1 in
       record {
         uses = more.uses;
@@ -79,14 +81,15 @@ leaks-quiet (l ∷ leaks) = ((tt, tt), leaks-quiet leaks)
 abbrev pub NoneIssued : Uses → List Entry → Type 0
 NoneIssued us J = (s : Issued) → Contains J (journal.Issued s) → ⊥
 
-pub opening-inv : (leaked : List Name) (whole : List Logged) → Inv leaked whole no_uses [] []
-opening-inv leaked whole = record {
+pub opening-inv : (run : WholeRun) (whole : List Logged) → Inv run whole (no_uses run.saved) [] []
+opening-inv run whole = record {
   held = λ key u h. absurd h;
   secrets = λ key name h. absurd h;
   one = λ key u v h g. absurd h;
   leaks = λ key u h l. absurd h;
   allowed = tt;
   own = λ s t hs ht gid. absurd (nothing-in (journal.Issued s) hs);
+  told = refl;
 }
 
 -- ---- the nodes
@@ -103,61 +106,129 @@ none-generated us setup Client = tt
 none-generated us setup Mgr = tt
 none-generated us setup Auth = tt
 
-client-kind : (kind : EntityType) → same_kind kind Client ≡ true → is_daemon_type kind ≡ false
-client-kind Mon e = refl
-client-kind Client e = refl
-client-kind Auth e = refl
-client-kind Mds e = absurd cc
-client-kind Osd e = absurd cc
-client-kind Mgr e = absurd cc
+none-writable_of : (setup : Setup) (service : EntityType) → AreWritable (generations_of (first_state setup) service)
+none-writable_of setup Mon = none-writable
+none-writable_of setup Mds = none-writable
+none-writable_of setup Osd = none-writable
+none-writable_of setup Client = none-writable
+none-writable_of setup Mgr = none-writable
+none-writable_of setup Auth = none-writable
 
-one-client : (us : Uses) (e : Declared) → Means us (secret_of e) (Secret e.name) → ClientsOk us (client_in e)
-one-client us e m = by_test (same_kind e.name.kind Client) refl
+-- of an item of a list with another one in front: it is that one, or one of the others
+contains-either : (x name : Name) (xs : List Name) → Contains (x ∷ xs) name → (x ≡ name) ⊎ Contains xs name
+contains-either x name xs has = by_place (Contains-append_cases (x ∷ []) xs name has)
   where
-    by_test : (t : Bool) → same_kind e.name.kind Client ≡ t → ClientsOk us (if t then opening_client (asker_of e) ∷ [] else [])
-    by_test true is = (record { client = client-kind e.name.kind is; secret = m; links = tt }, tt)
-    by_test false is = tt
+    by_one : Contains {X = Name} [] name ⊎ (x ≡ name) → (x ≡ name) ⊎ Contains xs name
+    by_one (inl (k, below, is)) = absurd (omega arith)
+    by_one (inr is) = inl is
 
-their-clients : (us : Uses) (es : List Declared) → AreTheirs us es → ClientsOk us (flat_map client_in es)
-their-clients us [] h = tt
-their-clients us (e ∷ es) h = all-append (ClientOk us) (client_in e) (flat_map client_in es) (one-client us e h.0) (their-clients us es h.1)
+    by_place : Contains (x ∷ []) name ⊎ Contains xs name → (x ≡ name) ⊎ Contains xs name
+    by_place (inl here) = by_one (Contains-push_cases [] x name here)
+    by_place (inr later) = inr later
 
-pub opening-nodes : (us : Uses) (J : List Entry) (setup : Setup) → AreTheirs us setup.entities → NoneIssued us J → NodesOk (nodes_of setup) us J
-opening-nodes us J setup h none = record {
-  monitor = record {
-    owner = λ gid. None;
-    node_ok = record {
-      own = record {
-        ring = their-ring us setup.entities h;
-        present = record { generated = none-generated us setup; numbered = omega arith };
-        saved = record { generated = none-generated us setup; numbered = omega arith };
-        before_is = refl;
-        grown = omega arith;
-        below = λ s has. absurd (none s has);
-        rises = omega arith;
-        owned = λ s has. absurd (none s has);
-        unowned = λ gid le. refl;
+-- a daemon isn't leaked, where only clients are
+unleaked-by : (name : Name) → is_daemon_type name.kind ≡ true → (leaks : List Leak) → AllByRecursion (λ (l : Leak). l.client.kind ≡ Client) leaks
+    → Contains (map (λ (l : Leak). l.client) leaks) name → ⊥
+unleaked-by name of [] h (k, below, is) = omega arith
+unleaked-by name of (l ∷ leaks) h has = by_place l.client h.0 (unleaked-by name of leaks h.1) (contains-either l.client name (map (λ (x : Leak). x.client) leaks) has)
+  where
+    differ : false ≡ true → ⊥
+    differ e = cc
+
+    by_place : (client : Name) → client.kind ≡ Client → (Contains (map (λ (x : Leak). x.client) leaks) name → ⊥)
+        → (client ≡ name) ⊎ Contains (map (λ (x : Leak). x.client) leaks) name → ⊥
+    by_place client is rest (inl same) = differ (sym (ap is_daemon_type (sym (ap (λ (m : Name). m.kind) same) ∙ is)) ∙ of)
+    by_place client is rest (inr later) = rest later
+
+daemon-unleaked : (setup : Setup) (name : Name) → AllByRecursion (λ (l : Leak). l.client.kind ≡ Client) setup.leaks → is_daemon_type name.kind ≡ true
+    → Contains (leaked_of setup) name → ⊥
+daemon-unleaked setup name clients of has = unleaked-by name of setup.leaks clients has
+
+module _ (run : WholeRun) (setup : Setup) (leaked_is : run.leaked ≡ leaked_of setup) (clients : AllByRecursion (λ (l : Leak). l.client.kind ≡ Client) setup.leaks) where
+  one-entity : (us : Uses) (J : List Entry) (e : Declared) → Means us (secret_of e) (Secret e.name) → EntityOk run us J (entity_in e)
+  one-entity us J e m = by_test (is_daemon_type e.name.kind) refl
+    where
+      by_test : (t : Bool) → is_daemon_type e.name.kind ≡ t
+          → EntityOk run us J (if t then OfDaemon (daemon_opening (asker_of e)) else OfClient (opening_client (asker_of e)))
+      by_test true of = record {
+        known = record {
+          trusted = inr (λ has. daemon-unleaked setup e.name clients of (subst (λ (names : List Name). Contains names e.name) leaked_is has));
+          own = m;
+          fetched = none-fetched run us e.name.kind;
+        };
+        of = of;
+        links = tt;
+        backed = λ come. tt;
+      }
+      by_test false of = record { known = record { trusted = inl of; own = m; fetched = none-fetched run us e.name.kind }; links = tt }
+
+  their-entities : (us : Uses) (J : List Entry) (es : List Declared) → AreTheirs us es → EntitiesOk run us J (map entity_in es)
+  their-entities us J [] h = tt
+  their-entities us J (e ∷ es) h = (one-entity us J e h.0, their-entities us J es h.1)
+
+  pub opening-nodes : (us : Uses) (J : List Entry) → AreTheirs us setup.entities → NoneIssued us J → NodesOk run (nodes_of setup) us J
+  opening-nodes us J h none = record {
+    monitor = record {
+      owner = λ gid. None;
+      node_ok = record {
+        own = record {
+          ring = their-ring us setup.entities h;
+          present = record { generated = none-generated us setup; writable = none-writable_of setup; numbered = omega arith };
+          saved = record { generated = none-generated us setup; writable = none-writable_of setup; numbered = omega arith };
+          before_is = refl;
+          grown = omega arith;
+          below = λ s has. absurd (none s has);
+          rises = omega arith;
+          owned = λ s has. absurd (none s has);
+          unowned = λ gid le. refl;
+        };
+        links = tt;
       };
-      links = tt;
     };
-  };
-  clients = their-clients us setup.entities h;
-}
+    entities = their-entities us J setup.entities h;
+  }
 
 -- ---- a whole run
 
-pub run-law : (setup : Setup) (hs : List Happening) → AreDrawn hs → IsSound (leaked_of setup) (log_since setup hs) → IsFresh (log_since setup hs)
-    → EachBehind EntryLaw [] (journal_since setup hs)
-run-law setup hs drawn sound fresh =
-    let leaked : List Name = leaked_of setup in
+-- what is known as a run begins: of its log and its journal, and of its nodes
+pub record Begins (run : WholeRun) (whole : List Logged) (setup : Setup) (hs : List Happening) : Type 0 where
+  pub uses : Uses
+  pub inv : Inv run whole uses (onto (secrets_drawn setup) []) (entered [] (map (λ (x : Entered). x.entry) (leaks_entered setup)))
+  pub nodes : NodesOk run (nodes_of setup) uses (entered [] (map (λ (x : Entered). x.entry) (leaks_entered setup)))
+  pub granted : EachOnto (IsGranted run.leaked whole) (onto (secrets_drawn setup) []) (seals_from (nodes_of setup) hs)
+  pub laws : EachBehind (EntryLaw run.guests) [] (map (λ (x : Entered). x.entry) (leaks_entered setup))
+  pub none : NoneIssued uses (entered [] (map (λ (x : Entered). x.entry) (leaks_entered setup)))
+
+pub begins : (run : WholeRun) (setup : Setup) (hs : List Happening) → run.leaked ≡ leaked_of setup → AllByRecursion (λ (l : Leak). l.client.kind ≡ Client) setup.leaks
+    → IsSound (leaked_of setup) (log_since setup hs) → IsFresh (log_since setup hs) → Begins run (log_since setup hs) setup hs
+begins run setup hs same clients sound fresh =
+    let whole : List Logged = log_since setup hs in
+    let leaks : List Entry = map (λ (x : Entered). x.entry) (leaks_entered setup) in
+    let K : List Entry = entered [] leaks in
+    let us : Uses = no_uses run.saved in
+    let began = quiet-entries run whole node.Monitor 0 us [] [] leaks NoneIssued (λ J e other none s has. none s (has-before J e other s has)) (leaks-quiet setup.leaks)
+    (opening-inv run whole) (λ s has. nothing-in (journal.Issued s) has) in
+    let granted = all-granted run.leaked whole (subst (λ (names : List Name). IsSound names whole) (sym same) sound) fresh in
+    let known = secrets-known run whole K setup.entities us [] (seals_from (nodes_of setup) hs) began.0 granted in
+    record {
+      uses = known.uses;
+      inv = known.inv;
+      nodes = opening-nodes run setup same clients known.uses K known.theirs began.2;
+      granted = known.granted;
+      laws = began.1;
+      none = began.2;
+    }
+
+pub run-law : (run : WholeRun) (setup : Setup) (hs : List Happening) → run.leaked ≡ leaked_of setup → AllByRecursion (λ (l : Leak). l.client.kind ≡ Client) setup.leaks
+    → AllOccur run (nodes_of setup) hs → IsSound (leaked_of setup) (log_since setup hs) → IsFresh (log_since setup hs)
+    → EachBehind (EntryLaw run.guests) [] (journal_since setup hs)
+run-law run setup hs same clients occur sound fresh =
     let whole : List Logged = log_since setup hs in
     let leaks : List Entry = map (λ (x : Entered). x.entry) (leaks_entered setup) in
     let K : List Entry = entered [] leaks in
     let later : List Entry = map (λ (x : Entered). x.entry) (journal_from (nodes_of setup) hs) in
-    let began = quiet-entries leaked whole node.Monitor 0 no_uses [] [] leaks NoneIssued (λ J e other none s has. none s (has-before J e other s has)) (leaks-quiet setup.leaks)
-    (opening-inv leaked whole) (λ s has. nothing-in (journal.Issued s) has) in
-    let known = secrets-known leaked whole K setup.entities no_uses [] (seals_from (nodes_of setup) hs) began.0 (all-granted leaked whole sound fresh) in
-    let nodes : NodesOk (nodes_of setup) known.uses K = opening-nodes known.uses K setup known.theirs began.2 in
-    let law : EachBehind EntryLaw K later = events-law leaked whole hs (nodes_of setup) known.uses (onto (secrets_drawn setup) []) K known.inv nodes drawn known.granted in
-    let both : EachBehind EntryLaw [] (leaks ++ later) = behind-append EntryLaw [] leaks later began.1 law in
-    subst (λ (l : List Entry). EachBehind EntryLaw [] l) (sym (map-append (λ (x : Entered). x.entry) (leaks_entered setup) (journal_from (nodes_of setup) hs))) both
+    let b : Begins run whole setup hs = begins run setup hs same clients sound fresh in
+    let law : EachBehind (EntryLaw run.guests) K later =
+    events-law run whole hs (nodes_of setup) b.uses (onto (secrets_drawn setup) []) K b.inv b.nodes (λ come t has. absurd (b.none t has)) occur b.granted in
+    let both : EachBehind (EntryLaw run.guests) [] (leaks ++ later) = behind-append (EntryLaw run.guests) [] leaks later b.laws law in
+    subst (λ (l : List Entry). EachBehind (EntryLaw run.guests) [] l) (sym (map-append (λ (x : Entered). x.entry) (leaks_entered setup) (journal_from (nodes_of setup) hs))) both

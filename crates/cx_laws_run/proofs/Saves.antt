@@ -17,7 +17,9 @@ use Rattle.cx_laws_keys.proofs.Known.{Inv, IsAllowed, allowed-grows}
 use Rattle.cx_laws_keys.proofs.Lists.{all-map}
 use Rattle.cx_laws_keys.proofs.Premises.{AreGranted, IsGranted, behind, logged}
 use Rattle.cx_laws_keys.proofs.Steps.{within-itself}
-use Rattle.cx_laws_keys.proofs.Uses.{DrawnAs, Grows, Uses, whose}
+use Rattle.cx_laws_keys.proofs.Uses.{DrawnAs, Grows, Uses, whose, WholeRun}
+use Rattle.cx_base.specs.declared.kinds.EntityType.{EntityType}
+use Rattle.cx_rotate.specs.declared.generations.Generation.{Generation}
 
 some-both : (P : Logged → Type 0) (x : Logged) (full thin : List Logged) → (SomeOf P full → SomeOf P thin) → SomeOf P (x ∷ full) → SomeOf P (x ∷ thin)
 some-both P x full thin h (inl here) = inl here
@@ -66,9 +68,9 @@ thins-both full thin x h = record { sealed = seals; signed = signs; repeats = re
     repeats mark (inl here) = inl here
     repeats mark (inr before) = inr (h.repeats mark before)
 
-module _ (leaked : List Name) (whole : List Logged) (n : NodeName) (line : ℕ) where
+module _ (run : WholeRun) (whole : List Logged) (n : NodeName) (line : ℕ) where
   -- what is granted behind the thin log is so behind the full one
-  thick-owes : (full thin : List Logged) → Thins full thin → (at : NodeName) (e : SealEntry) → Owes leaked whole at thin e → Owes leaked whole at full e
+  thick-owes : (full thin : List Logged) → Thins full thin → (at : NodeName) (e : SealEntry) → Owes run.leaked whole at thin e → Owes run.leaked whole at full e
   thick-owes full thin h at (entry.Opened mark) (inl excepted) = inl excepted
   thick-owes full thin h at (entry.Opened mark) (inr sealed) = inr (h.sealed mark sealed)
   thick-owes full thin h at (entry.Checked mark) (inl excepted) = inl excepted
@@ -84,12 +86,12 @@ module _ (leaked : List Name) (whole : List Logged) (n : NodeName) (line : ℕ) 
   thick-new full thin h (entry.Signed mark) new = tt
   thick-new full thin h (entry.Checked mark) new = tt
 
-  thick-grant : (full thin : List Logged) (e : SealEntry) → Thins full thin → IsGranted leaked whole thin (logged n line e) → IsGranted leaked whole full (logged n line e)
+  thick-grant : (full thin : List Logged) (e : SealEntry) → Thins full thin → IsGranted run.leaked whole thin (logged n line e) → IsGranted run.leaked whole full (logged n line e)
   thick-grant full thin e h g = record { owes = thick-owes full thin h n e g.owes; new = thick-new full thin h e g.new; leak = g.leak }
 
   -- what is granted to what stays is granted to all
-  pub thick-granted : (full thin : List Logged) (es : List SealEntry) → Thins full thin → AreGranted leaked whole n line thin (filter stays es)
-      → AreGranted leaked whole n line full es
+  pub thick-granted : (full thin : List Logged) (es : List SealEntry) → Thins full thin → AreGranted run.leaked whole n line thin (filter stays es)
+      → AreGranted run.leaked whole n line full es
   thick-granted full thin [] h g = tt
   thick-granted full thin (entry.Sealed m ∷ es) h g =
       (record { owes = tt; new = tt; leak = tt }, thick-granted (logged n line (entry.Sealed m) ∷ full) thin es (thins-more full thin (logged n line (entry.Sealed m)) (λ mark r. r) h) g)
@@ -138,20 +140,24 @@ module _ (leaked : List Name) (whole : List Logged) (n : NodeName) (line : ℕ) 
   thin-allowed us J log (entry.Drawn m ∷ es) h = thin-allowed us J (logged n line (entry.Drawn m) ∷ log) es (tt, h)
 
   -- what is known behind a step whose save fails: its draws stand, and nothing is sealed, signed or entered
-  pub inv-failed : (us vs : Uses) (log : List Logged) (J K : List Entry) (es : List SealEntry) → Grows us vs → Inv leaked whole us log J
-      → Inv leaked whole vs (behind n line es log) K → Inv leaked whole vs (behind n line (filter stays es) log) J
-  inv-failed us vs log J K es grows i full = record {
-    held = λ key u m. thin-some (λ (at : Logged). DrawnAs (whose u) key at.entry) (λ _ d. d) (λ _ d. d) log log es (λ d. d) (full.held key u m);
-    secrets = λ key name m. thin-some (λ (at : Logged). at.entry ≡ entry.Drawn (draw.Principal key name)) (λ s d. drawn-only (draw.Principal key name) s d)
-        (λ s d. drawn-unsigned (draw.Principal key name) s d) log log es (λ d. d) (full.secrets key name m);
-    one = full.one;
-    leaks = full.leaks;
-    allowed = thin-allowed vs J log es
-        (all-map (λ (at : Logged). IsAllowed us J at.node at.entry) (λ (at : Logged). IsAllowed vs J at.node at.entry)
-        (λ at a. allowed-grows us vs J J grows (within-itself J) at.node at.entry a) log i.allowed);
-    own = i.own;
-  }
+  pub inv-failed : (us vs : Uses) (saved : List (EntityType × Generation)) (log : List Logged) (J K : List Entry) (es : List SealEntry) → Grows us (record vs { saved = us.saved })
+      → Inv run whole us log J → Inv (record run { saved = saved }) whole vs (behind n line es log) K
+      → Inv run whole (record vs { saved = us.saved }) (behind n line (filter stays es) log) J
+  inv-failed us vs saved log J K es grows i full =
+      let ws : Uses = record vs { saved = us.saved } in
+      record {
+        held = λ key u m. thin-some (λ (at : Logged). DrawnAs (whose u) key at.entry) (λ _ d. d) (λ _ d. d) log log es (λ d. d) (full.held key u m);
+        secrets = λ key name m. thin-some (λ (at : Logged). at.entry ≡ entry.Drawn (draw.Principal key name)) (λ s d. drawn-only (draw.Principal key name) s d)
+            (λ s d. drawn-unsigned (draw.Principal key name) s d) log log es (λ d. d) (full.secrets key name m);
+        one = full.one;
+        leaks = full.leaks;
+        allowed = thin-allowed ws J log es
+            (all-map (λ (at : Logged). IsAllowed us J at.node at.entry) (λ (at : Logged). IsAllowed ws J at.node at.entry)
+            (λ at a. allowed-grows us ws J J grows (λ s g h. h) (within-itself J) at.node at.entry a) log i.allowed);
+        own = i.own;
+        told = i.told;
+      }
 
-pub thick : (leaked : List Name) (whole : List Logged) (n : NodeName) (line : ℕ) (log : List Logged) (es : List SealEntry) → AreGranted leaked whole n line log (filter stays es)
-    → AreGranted leaked whole n line log es
-thick leaked whole n line log es g = thick-granted leaked whole n line log log es (thins-itself log) g
+pub thick : (run : WholeRun) (whole : List Logged) (n : NodeName) (line : ℕ) (log : List Logged) (es : List SealEntry) → AreGranted run.leaked whole n line log (filter stays es)
+    → AreGranted run.leaked whole n line log es
+thick run whole n line log es g = thick-granted run whole n line log log es (thins-itself log) g

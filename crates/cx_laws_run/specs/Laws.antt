@@ -6,14 +6,29 @@ use Rattle.cx_journal.specs.Enforced.{IsEnforced}
 use Rattle.cx_journal.specs.Legal.{IsLegal}
 use Rattle.cx_journal.specs.Truthful.{IsTruthful}
 use Rattle.cx_journal.specs.declared.entries.Entry.{Entry}
+use Rattle.cx_base.specs.declared.kinds.EntityType.TheVariants.{Client}
 use Rattle.cx_run.specs.Happenings.{Happening}
+use Rattle.cx_run.specs.Opening.{Leak, Setup}
+use Rattle.cx_run.specs.Visits.{AreUnvisited}
+
+-- only clients leak
+abbrev pub AreClients : Setup → Type 0
+AreClients setup = AllByRecursion (λ (l : Leak). l.client.kind ≡ Client) setup.leaks
 
 -- each event has a draw of 384 bytes, as every draw has. A shorter one could make a session key of fewer than 16, which isn't read again as it was
 -- written
 abbrev pub AreDrawn : List Happening → Type 0
 AreDrawn hs = AllByRecursion (λ (h : Happening). length h.draw ≡ 384) hs
 
--- the laws of a journal. Until daemons have rules no entry speaks of sessions, operations or answers: of global ids alone is something said yet
+-- what is so of the events of every schedule, from its opening: each has a draw; only clients leak; and neither does a guest come to a daemon, nor is a
+-- session dropped, nor is a daemon told a view but by a reply. A daemon that is leaked, or is told a view by hand, could take generations for those of
+-- its service that are none
+pub record MayHappen (setup : Setup) (hs : List Happening) : Type 0 where
+  pub drawn : AreDrawn hs
+  pub unvisited : AreUnvisited hs
+  pub clients : AreClients setup
+
+-- the laws of a journal. No entry speaks of sessions, operations or answers, where no guest comes to a daemon
 pub record KeepsLaws (has_handler : Access → Bool) (entries : List Entry) : Type 0 where
   pub legal : IsLegal entries
   pub enforced : IsEnforced has_handler entries

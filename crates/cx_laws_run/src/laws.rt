@@ -3,7 +3,7 @@
 ghost use Rattle.std.specs.Prelude.{Bool, List, None};
 ghost use Rattle.cx_base.specs.declared.kinds.Access.{Access};
 ghost use Rattle.cx_laws_chain.specs.Chain.{KeepsGenerations};
-ghost use Rattle.cx_laws_run.specs.Laws.{AreDrawn, KeepsLaws};
+ghost use Rattle.cx_laws_run.specs.Laws.{AreClients, KeepsLaws, MayHappen};
 ghost use Rattle.cx_laws_run.specs.Logins.{LogIn, Stands};
 ghost use Rattle.cx_lines.specs.declared.lines.Numbered.{Numbered};
 ghost use Rattle.cx_run.specs.Happenings.{Happening};
@@ -22,22 +22,23 @@ pub fn standing_laws()
     ensures generations { (setup : Setup) (hs : List Happening) → KeepsGenerations setup hs }
 {}
 
-/// Where nothing opens under a key that didn't seal it and no draw repeats, the journal keeps its laws. No two entities ever get one global id, and a
+/// Where nothing opens under a key that didn't seal it and no draw repeats, the journal keeps its laws, with daemons that fetch too. No two entities ever get one global id, and a
 /// login keeps one only beside a live ticket of its own.
 pub fn journal_laws()
-    // Of every list of events, from every opening.
-    ensures events { (has_handler : Access → Bool) (setup : Setup) (hs : List Happening) → AreDrawn hs
+    // Of every list of events in which no guest comes to a daemon, from every opening.
+    ensures events { (has_handler : Access → Bool) (setup : Setup) (hs : List Happening) → MayHappen setup hs
         → IsSound (leaked_of setup) (log_since setup hs) → IsFresh (log_since setup hs) → KeepsLaws has_handler (journal_since setup hs) }
     // So of the run of every schedule in which no breach of the two premises is found.
-    ensures schedules { (has_handler : Access → Bool) (script : List Numbered) → IsFoundOf script None → KeepsLaws has_handler (run_journal script) }
+    ensures schedules { (has_handler : Access → Bool) (script : List Numbered) → AreClients (setup_of script) → IsFoundOf script None
+        → KeepsLaws has_handler (run_journal script) }
 {}
 
 /// There, too, the proof that was found equal on the link on which a ticket was issued was signed before by the entity's own node, where the entity isn't
 /// leaked; and where the ticket is one that was asked for once the link was open, that node sealed what opened first of the frame which came.
 pub fn login_laws()
-    // Of every list of events, from every opening.
-    ensures events { (setup : Setup) (hs : List Happening) → AreDrawn hs
+    // Of every such list of events, from every opening.
+    ensures events { (setup : Setup) (hs : List Happening) → MayHappen setup hs
         → IsSound (leaked_of setup) (log_since setup hs) → IsFresh (log_since setup hs) → LogIn setup (points setup hs) }
     // So of the run of every schedule in which no breach of the two premises is found.
-    ensures schedules { (script : List Numbered) → IsFoundOf script None → LogIn (setup_of script) (points (setup_of script) (trace script)) }
+    ensures schedules { (script : List Numbered) → AreClients (setup_of script) → IsFoundOf script None → LogIn (setup_of script) (points (setup_of script) (trace script)) }
 {}
