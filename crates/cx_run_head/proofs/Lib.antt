@@ -2,4 +2,5 @@ pub mod Changing
 pub mod Enrolling
 pub mod Following
 pub mod Held
+pub mod Leaking
 pub mod Naming
