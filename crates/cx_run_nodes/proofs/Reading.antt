@@ -6,8 +6,7 @@ use Rattle.cx_base.specs.Names.{Name, same_name}
 use Rattle.cx_base.proofs.Names.{same_name_is, same_name_self}
 use Rattle.cx_base.specs.declared.nodes.NodeName.{NodeName}
 use Rattle.cx_base.specs.declared.nodes.NodeName.TheVariants as node
-use Rattle.cx_rules.specs.ClientRule.{ClientNode}
-use Rattle.cx_run.specs.Happenings.{client_of}
+use Rattle.cx_run.specs.Happenings.{EntityNode, entity_of}
 use Rattle.cx_run.specs.Schedules.{all_read, one_reads}
 use Rattle.cx_run.specs.Wires.{same_node}
 use Rattle.cx_run.specs.Worlds.{Post, World, post_of}
@@ -28,12 +27,12 @@ sits_behind reading old new (Some post) e k =
     let P : Sitting → Type 0 = IsOf (record post { reading = reading }) in
     subst P (sym e) (record { reading = refl; coming = k.coming })
 
-member_behind : (reading : ℕ) (member : Option Member) (post : Option Post) (client : Option ClientNode) → MemberStands member post client
-    → MemberStands (option_map (reads reading) member) (option_map (λ (s : Post). record s { reading = reading }) post) client
-member_behind reading None None client k = tt
-member_behind reading (Some m) (Some s) client k = (record { reading = refl; coming = k.0.coming }, k.1)
-member_behind reading None (Some s) client k = absurd k
-member_behind reading (Some m) None client k = absurd k
+member_behind : (reading : ℕ) (member : Option Member) (post : Option Post) (entity : Option EntityNode) → MemberStands member post entity
+    → MemberStands (option_map (reads reading) member) (option_map (λ (s : Post). record s { reading = reading }) post) entity
+member_behind reading None None entity k = tt
+member_behind reading (Some m) (Some s) entity k = (record { reading = refl; coming = k.0.coming }, k.1)
+member_behind reading None (Some s) entity k = absurd k
+member_behind reading (Some m) None entity k = absurd k
 
 pub all_read_stands : (reading : ℕ) (w : World) (held new : Nodes) → StandFor held w.nodes w.posts → new.monitor ≡ held.monitor
     → new.post ≡ record held.post { reading = reading } → new.members.items ≡ map (λ m. reads reading m) held.members.items
@@ -46,7 +45,8 @@ all_read_stands reading w held new k monitor post members =
       post = rw (there node.Monitor) (sits_behind reading held.post new.post (post_of node.Monitor w.posts) post k.post);
       members = λ n.
           let found = changed_all (λ (m : Member). m.name) same_name (λ m. reads reading m) (λ m. refl) n held.members.items in
-          rw (members, found, there (node.Entity n)) (member_behind reading (member_of n held.members.items) (post_of (node.Entity n) w.posts) (client_of n w.nodes) (k.members n));
+          rw (members, found, there (node.Entity n)) (member_behind reading (member_of n held.members.items) (post_of (node.Entity n) w.posts) (entity_of n w.nodes) (k.members n));
+      handlers = k.handlers;
     }
 
 -- ---- the clock of one node
@@ -92,6 +92,7 @@ monitor_reads reading w held new k monitor post members = record {
   monitor = rw monitor k.monitor;
   post = rw (reads_it node.Monitor node.Monitor reading w.posts refl) (sits_behind reading held.post new.post (post_of node.Monitor w.posts) post k.post);
   members = λ n. rw (members, stays_other node.Monitor (node.Entity n) reading w.posts refl) (k.members n);
+  handlers = k.handlers;
 }
 
 module _ (reading : ℕ) (w : World) (name : Name) (held new : Nodes) (k : StandFor held w.nodes w.posts) (monitor : new.monitor ≡ held.monitor) (post : new.post ≡ held.post) where
@@ -102,14 +103,15 @@ module _ (reading : ℕ) (w : World) (name : Name) (held new : Nodes) (k : Stand
     monitor = rw monitor k.monitor;
     post = rw (post, stays_other (node.Entity name) node.Monitor reading w.posts refl) k.post;
     members = λ n. by n (same_name name n) refl;
+    handlers = k.handlers;
   }
     where
       by : (n : Name) (b : Bool) → same_name name n ≡ b
-          → MemberStands (member_of n new.members.items) (post_of (node.Entity n) (one_reads (node.Entity name) reading w).posts) (client_of n w.nodes)
+          → MemberStands (member_of n new.members.items) (post_of (node.Entity n) (one_reads (node.Entity name) reading w).posts) (entity_of n w.nodes)
       by n true e =
           let same : name ≡ n = same_name_is name n e in
           let back : same_node (node.Entity n) (node.Entity name) ≡ true = rw same (same_name_self n) in
-          rw (here n e, reads_it (node.Entity name) (node.Entity n) reading w.posts back) (member_behind reading (member_of n held.members.items) (post_of (node.Entity n) w.posts) (client_of n w.nodes) (k.members n))
+          rw (here n e, reads_it (node.Entity name) (node.Entity n) reading w.posts back) (member_behind reading (member_of n held.members.items) (post_of (node.Entity n) w.posts) (entity_of n w.nodes) (k.members n))
       by n false e = rw (elsewhere n e, stays_other (node.Entity name) (node.Entity n) reading w.posts (apart n e)) (k.members n)
         where
           apart : (n : Name) → same_name name n ≡ false → same_name n name ≡ false

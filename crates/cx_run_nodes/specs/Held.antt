@@ -3,13 +3,16 @@ use Rattle.std.specs.Prelude.{ℕ, ◌≡◌, Bool, true, false, List, find, Opt
 use Rattle.cx_base.specs.Names.{Name, same_name}
 use Rattle.cx_base.specs.declared.nodes.NodeName.TheVariants as node
 use Rattle.cx_rules.specs.Abridged.{ClientStandsFor, MonitorStandsFor}
-use Rattle.cx_rules.specs.ClientRule.{ClientNode}
+use Rattle.cx_rules_session.specs.Forgets.{DaemonStandsFor}
 use Rattle.cx_run.specs.Deliveries.{Given}
-use Rattle.cx_run.specs.Happenings.{Nodes as RunNodes, client_of}
+use Rattle.cx_run.specs.Happenings.{EntityNode, OfClient, OfDaemon, Nodes as RunNodes, entity_of}
+use Rattle.cx_run.specs.Opening.{no_handlers}
 use Rattle.cx_run.specs.Worlds.{Post, post_of}
 use Rattle.cx_run_nodes.specs.Posts.{IsOf, IsPosted}
 use Rattle.cx_run_nodes.specs.declared.made.Made.{Made}
 use Rattle.cx_run_nodes.specs.declared.members.Member.{Member}
+use Rattle.cx_run_nodes.specs.declared.members.MemberNode.{MemberNode}
+use Rattle.cx_run_nodes.specs.declared.members.MemberNode.TheVariants as held
 use Rattle.cx_run_nodes.specs.declared.nodes.Nodes.{Nodes}
 
 -- the first member of a name
@@ -20,25 +23,28 @@ member_of name members = find (λ m. same_name m.name name) members
 abbrev pub reads : ℕ → Member → Member
 reads reading m = record m { post = record m.post { reading = reading } }
 
--- a client stands for one of the rules, and where there is none, there is none
-abbrev pub ClientStands : Option ClientNode → Option ClientNode → Type 0
-ClientStands None None = Unit {0}
-ClientStands (Some held) (Some client) = ClientStandsFor held client
-ClientStands None (Some client) = ⊥
-ClientStands (Some held) None = ⊥
+-- the node of a member stands for this one of the rules, which is of its kind
+abbrev pub NodeStands : MemberNode → Option EntityNode → Type 0
+NodeStands (held.Client client) (Some (OfClient c)) = ClientStandsFor client c
+NodeStands (held.Daemon daemon) (Some (OfDaemon d)) = DaemonStandsFor daemon d
+NodeStands (held.Client client) (Some (OfDaemon d)) = ⊥
+NodeStands (held.Daemon daemon) (Some (OfClient c)) = ⊥
+NodeStands node None = ⊥
 
--- a member has a post, and its client stands for that of the rules; a name without a member has no post
-abbrev pub MemberStands : Option Member → Option Post → Option ClientNode → Type 0
-MemberStands None None client = Unit {0}
-MemberStands (Some member) (Some post) client = IsOf post member.post × ClientStands member.client client
-MemberStands None (Some post) client = ⊥
-MemberStands (Some member) None client = ⊥
+-- a member has a post, and its node stands for that of the rules; a name without a member has no post
+abbrev pub MemberStands : Option Member → Option Post → Option EntityNode → Type 0
+MemberStands None None entity = Unit {0}
+MemberStands (Some member) (Some post) entity = IsOf post member.post × NodeStands member.node entity
+MemberStands None (Some post) entity = ⊥
+MemberStands (Some member) None entity = ⊥
 
 -- the nodes stand for these of the rules, in these posts
 pub record StandFor (held : Nodes) (nodes : RunNodes) (posts : List Post) : Type 0 where
   pub monitor : MonitorStandsFor held.monitor nodes.monitor
   pub post : IsPosted held.post (post_of node.Monitor posts)
-  pub members : (name : Name) → MemberStands (member_of name held.members.items) (post_of (node.Entity name) posts) (client_of name nodes)
+  pub members : (name : Name) → MemberStands (member_of name held.members.items) (post_of (node.Entity name) posts) (entity_of name nodes)
+  -- the daemons have no handlers yet
+  pub handlers : nodes.handlers ≡ no_handlers
 
 -- ---- one event
 

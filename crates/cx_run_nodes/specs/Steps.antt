@@ -1,14 +1,14 @@
--- What an event comes to at the monitor and at a client in their posts.
+-- What an event comes to at the monitor and at an entity in their posts.
 use Rattle.std.specs.Prelude.{ℕ, suc, ◌≡◌, true, false, Option, Some, None}
 use Rattle.cx_dice.specs.Rolls.{seed_draw}
 use Rattle.cx_line_words.specs.declared.choices.LeftState.{LeftState}
 use Rattle.cx_rules.specs.Abridged.{MonitorStandsFor}
-use Rattle.cx_rules.specs.ClientRule.{ClientNode, client_rule}
+use Rattle.cx_desk.specs.Handlers.{Handlers}
 use Rattle.cx_rules.specs.Inputs.{Input}
 use Rattle.cx_rules.specs.Monitor.{MonitorNode}
 use Rattle.cx_rules.specs.MonitorRule.{monitor_rule}
 use Rattle.cx_rules.specs.Rows.{Outcome}
-use Rattle.cx_run.specs.Happenings.{Nodes as RunNodes, Stepped, monitor_steps}
+use Rattle.cx_run.specs.Happenings.{EntityNode, Nodes as RunNodes, Stepped, entity_rule, monitor_steps}
 use Rattle.cx_run.specs.Worlds.{Post}
 use Rattle.cx_steps.specs.Nothing.{nothing}
 use Rattle.cx_steps.specs.declared.effects.Effects.{Effects}
@@ -21,24 +21,24 @@ use Rattle.cx_run_nodes.specs.declared.members.Member.{Member}
 abbrev pub rolled_once : Post → Post
 rolled_once post = record post { rolled = suc post.rolled }
 
--- ---- a client
+-- ---- an entity
 
-abbrev pub client_made : Input → Post → ClientNode → Outcome ClientNode
-client_made input post client = client_rule client input post.reading (seed_draw post.seed post.rolled)
+abbrev pub entity_made : Handlers → Input → Post → EntityNode → Outcome EntityNode
+entity_made handlers input post entity = entity_rule handlers entity input post.reading (seed_draw post.seed post.rolled)
 
-abbrev pub client_out : Input → Post → Option ClientNode → Effects
-client_out input post None = nothing
-client_out input post (Some client) = (client_made input post client).out
+abbrev pub entity_out : Handlers → Input → Post → Option EntityNode → Effects
+entity_out handlers input post None = nothing
+entity_out handlers input post (Some entity) = (entity_made handlers input post entity).out
 
-abbrev pub client_behind : Input → Post → Option ClientNode → Option ClientNode
-client_behind input post None = None
-client_behind input post (Some client) = Some (client_made input post client).state
+abbrev pub entity_behind : Handlers → Input → Post → Option EntityNode → Option EntityNode
+entity_behind handlers input post None = None
+entity_behind handlers input post (Some entity) = Some (entity_made handlers input post entity).state
 
 -- what an event came to at a member, and the member behind it
-pub record IsMemberStep (input : Input) (post : Post) (client : Option ClientNode) (made : Made) (old new : Member) : Type 0 where
-  pub comes : made ≡ record { out = client_out input post client; failed = false; happened = true }
+pub record IsMemberStep (handlers : Handlers) (input : Input) (post : Post) (entity : Option EntityNode) (made : Made) (old new : Member) : Type 0 where
+  pub comes : made ≡ record { out = entity_out handlers input post entity; failed = false; happened = true }
   pub name : new.name ≡ old.name
-  pub stands : MemberStands (Some new) (Some (rolled_once post)) (client_behind input post client)
+  pub stands : MemberStands (Some new) (Some (rolled_once post)) (entity_behind handlers input post entity)
 
 -- ---- the monitor
 

@@ -9,7 +9,7 @@ mod opening;
 mod posts;
 
 pub use made::Made;
-pub use members::Member;
+pub use members::{Member, MemberNode};
 pub use nodes::Nodes;
 pub use opening::opening_nodes;
 pub use posts::Post;
@@ -20,6 +20,7 @@ fn is_sendable<T: Send + Sync>() {}
 fn all_are_sendable() {
     is_sendable::<Made>();
     is_sendable::<Member>();
+    is_sendable::<MemberNode>();
     is_sendable::<Nodes>();
     is_sendable::<Post>();
 }

@@ -3,45 +3,60 @@
 ghost use Rattle.std.specs.Prelude.{◌≡◌, List, Option, Some, None, IfOk};
 ghost use Rattle.cx_run_nodes.specs.Held.{MemberStands, member_of};
 ghost use Rattle.cx_run_nodes.specs.Steps.{IsMemberStep};
-ghost use Rattle.cx_rules.specs.ClientRule.{ClientNode};
 ghost use Rattle.cx_rules.specs.Inputs.{input_of};
+ghost use Rattle.cx_run.specs.Happenings.{EntityNode};
 ghost use Rattle.cx_run.specs.Worlds.{Post as RunPost};
 
 use crate::made::Made;
 use crate::posts::Post;
 use cx_base::EntityName;
 use cx_client::Client;
+use cx_daemon::Daemon;
+use cx_desk::Desk;
 use cx_steps::{Effects, Event};
 use std::alloc::{AllocError, Global};
 
-/// An entity of a run: its name, what it goes by, and its node, where there are rules for it: a client has one.
+/// The node of an entity, by its kind.
+#[derive(Drop)]
+pub enum MemberNode {
+    Client(Client),
+    Daemon(Daemon),
+}
+
+/// An entity of a run: its name, what it goes by, and its node.
 #[derive(Drop)]
 pub struct Member {
     pub name: EntityName,
     pub post: Post,
-    pub client: Option<Client>,
+    pub node: MemberNode,
 }
 
 impl Member {
     ghost use Rattle.std.specs.Prelude.{◌≡◌, Option, Some, IfOk};
     ghost use Rattle.cx_run_nodes.specs.Held.{MemberStands};
     ghost use Rattle.cx_run_nodes.specs.Steps.{IsMemberStep};
-    ghost use Rattle.cx_rules.specs.ClientRule.{ClientNode};
     ghost use Rattle.cx_rules.specs.Inputs.{input_of};
+    ghost use Rattle.cx_run.specs.Happenings.{EntityNode};
+    ghost use Rattle.cx_run.specs.Opening.{no_handlers};
     ghost use Rattle.cx_run.specs.Worlds.{Post as RunPost};
 
-    /// What comes to it.
+    /// What comes to it. A daemon has no handlers yet: nothing that is served asks for an operation.
     pub(crate) fn step(&mut self, alloc: Global, event: Event<'_>) -> Result<Made, AllocError>
-        ensures { (post : RunPost) (client : Option ClientNode) → MemberStands (Some self.old) (Some post) client
-            → IfOk result (λ made. IsMemberStep (input_of event.entry) post client made self.old self.new) }
+        ensures { (post : RunPost) (entity : Option EntityNode) → MemberStands (Some self.old) (Some post) entity
+            → IfOk result (λ made. IsMemberStep no_handlers (input_of event.entry) post entity made self.old self.new) }
     {
         let draw = self.post.roll();
         let reading = self.post.reading();
-        match &mut self.client {
-            None => Ok(Made::of(Effects::new(alloc))),
-            Some(client) => {
+        match &mut self.node {
+            MemberNode::Client(client) => {
                 let mut out = Effects::new(alloc);
                 client.step(alloc, event, reading, &draw, &mut out)?;
+                Ok(Made::of(out))
+            }
+            MemberNode::Daemon(daemon) => {
+                let desk = Desk::empty();
+                let mut out = Effects::new(alloc);
+                daemon.step(alloc, &desk, event, reading, &draw, &mut out)?;
                 Ok(Made::of(out))
             }
         }

@@ -1,13 +1,14 @@
 //! The nodes with which a run begins.
 
-ghost use Rattle.std.specs.Prelude.{IfOk};
-ghost use Rattle.cx_run_nodes.specs.Held.{ClientStands, StandFor};
-ghost use Rattle.cx_run_nodes.specs.Members.{AreMembersOf, IsMemberOf, client_for};
-ghost use Rattle.cx_run.specs.Opening.{nodes_of, posts_of};
+ghost use Rattle.std.specs.Prelude.{Some, IfOk};
+ghost use Rattle.cx_run_nodes.specs.Held.{NodeStands, StandFor};
+ghost use Rattle.cx_run_nodes.specs.Members.{AreMembersOf, IsMemberOf};
+ghost use Rattle.cx_run.specs.Opening.{entity_in, nodes_of, posts_of};
 
-use crate::{Member, Nodes, Post};
-use cx_base::{Duplicate, EntityType};
+use crate::{Member, MemberNode, Nodes, Post};
+use cx_base::Duplicate;
 use cx_client::Client;
+use cx_daemon::Daemon;
 use cx_run_head::{Declared, Setup};
 use std::alloc::{AllocError, Global};
 
@@ -37,34 +38,39 @@ fn members_of(alloc: Global, entities: &[Declared]) -> Result<Vec<Member>, Alloc
     Ok(members)
 }
 
-/// An entity; one that is a client has a node.
+/// An entity.
 fn member_of(alloc: Global, entity: &Declared) -> Result<Member, AllocError>
     ensures { IfOk result (IsMemberOf entity.now) }
 {
     let name = entity.name.copy(alloc)?;
-    let client = client_of(alloc, entity)?;
+    let node = node_of(alloc, entity)?;
     let seed = entity.seed.unwrap_or(u64::from(entity.number));
     Ok(Member {
         name,
         post: Post::new(alloc, seed),
-        client,
+        node,
     })
 }
 
-/// The node of an entity, where it is a client.
-fn client_of(alloc: Global, entity: &Declared) -> Result<Option<Client>, AllocError>
-    ensures { IfOk result (λ client. ClientStands client (client_for entity.now)) }
+/// The node of an entity, by its type.
+fn node_of(alloc: Global, entity: &Declared) -> Result<MemberNode, AllocError>
+    ensures { IfOk result (λ node. NodeStands node (Some (entity_in entity.now))) }
 {
-    if !entity.name.kind.is(EntityType::Client) {
-        return Ok(None);
-    }
     let name = entity.name.copy(alloc)?;
-    let client = Client::new(
+    if entity.name.kind.is_daemon() {
+        return Ok(MemberNode::Daemon(Daemon::new(
+            alloc,
+            name,
+            entity.key(alloc),
+            entity.offered(),
+            entity.address(),
+        )));
+    }
+    Ok(MemberNode::Client(Client::new(
         alloc,
         name,
         entity.key(alloc),
         entity.offered(),
         entity.address(),
-    );
-    Ok(Some(client))
+    )))
 }

@@ -10,5 +10,5 @@ returns c =
     record {
       name = c.in_ok-name.ensures ∙ ap (λ (e : Declared). e.name) c.entity.view_is;
       post = c.new.ensures (post_for c.args.entity.now) refl (sym seed) refl;
-      client = c.in_ok-client.ensures;
+      node = c.in_ok-node.ensures;
     }

@@ -11,4 +11,5 @@ returns c =
       monitor = c.in_ok-monitor.ensures.stands;
       post = c.new-post.ensures _ refl (sym c.monitor_seed.ensures) refl;
       members = λ name. all_stand name c.args.setup.now.entities c.in_ok-members.members.items are;
+      handlers = c.entities.ensures.handlers;
     }

@@ -1,7 +1,9 @@
-use Rattle.std.proofs.Common.{◌≡◌, List, Option, Some, None, get_or, set, refl, sym, ap, ◌∙◌}
+use Rattle.std.proofs.Common.{◌≡◌, List, Option, Some, None, get_or, set, refl, sym, subst, ap, ◌∙◌}
 use Rattle.std.specs.List.{position}
 use Rattle.cx_base.specs.Names.{same_name}
+use Rattle.cx_desk.specs.Handlers.{Handlers}
 use Rattle.cx_rules.specs.Inputs.{input_of}
+use Rattle.cx_run_nodes.specs.Steps.{IsMemberStep}
 use Rattle.cx_run_nodes.specs.declared.members.Member.{Member}
 use Rattle.cx_run_nodes.specs.declared.nodes.Nodes.{Nodes}
 use Rattle.cx_run_nodes.proofs.Placing.{is_first, is_none}
@@ -16,7 +18,9 @@ returns-in_ok-made-in-Some c =
     let slice : c.as_slice.result.now ≡ held.members.items = c.as_slice.ensures.value in
     let there : position p held.members.items ≡ Some c.in-Some.place = sym (c.in-Some.ensures ∙ ap (λ (ms : List Member). position p ms) slice) in
     member_given (input_of c.args.event) w c.args.name.now held _ c.in-Some.place c.index_mut-member.result.now c.step.new.self c.in_ok-made-in-Some.made k
-    (is_first p held.members.items c.in-Some.place there) c.index_mut-member.ensures.value refl refl refl (λ post client s. c.in_ok-made-in-Some.ensures post client s)
+    (is_first p held.members.items c.in-Some.place there) c.index_mut-member.ensures.value refl refl refl (λ post entity s.
+    let P : Handlers → Type 0 = λ h. IsMemberStep h (input_of c.args.event) post entity c.in_ok-made-in-Some.made c.index_mut-member.result.now c.step.new.self in
+    subst P (sym k.handlers) (c.in_ok-made-in-Some.ensures post entity s))
 
 pub returns-in-None : goal.returns-in-None
 returns-in-None c =
