@@ -10,3 +10,4 @@ pub mod Rounds
 pub mod Started
 pub mod Turns
 pub mod Vanishing
+pub mod Submitting

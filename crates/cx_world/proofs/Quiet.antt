@@ -6,13 +6,24 @@ use Rattle.cx_base.specs.Names.{Name}
 use Rattle.cx_base.specs.declared.nodes.NodeName.{NodeName}
 use Rattle.cx_base.specs.declared.nodes.NodeName.TheVariants as node
 use Rattle.cx_line_words.specs.declared.choices.LeftState.{LeftState}
-use Rattle.cx_rules.specs.ClientRule.{ClientNode, client_rule, loses}
+use Rattle.std.specs.Prelude.{if◌then◌else◌}
+use Rattle.cx_desk.specs.Handlers.{Handlers}
+use Rattle.cx_rules.specs.Acceptor as acceptor
+use Rattle.cx_rules.specs.ClientRule.{ClientNode, loses}
 use Rattle.cx_rules.specs.Connector.{Stage}
 use Rattle.cx_rules.specs.Inputs.{Input, Gone, Opened}
 use Rattle.cx_rules.specs.Links.{Link, link_of}
 use Rattle.cx_rules.specs.MonitorRule.{monitor_rule}
+use Rattle.cx_rules.specs.Rows.{Outcome, forgotten, idles}
+use Rattle.cx_rules_session.specs.Asks.{Finished, Asking}
+use Rattle.cx_rules_session.specs.DaemonRule.{AsAcceptor, AsConnector, DaemonNode, DaemonStage, book_after, book_reply, gone, gone_by_kind, guest_gone, lossy_gone}
+use Rattle.cx_rules_session.specs.Guests.{GuestStage}
+use Rattle.cx_session.specs.declared.call.BookCall.TheVariants.{End}
+use Rattle.cx_session.specs.declared.call.BookReply.{BookReply}
+use Rattle.cx_session.specs.declared.call.BookReply.TheVariants as reply
+use Rattle.cx_run.proofs.GuestTakes.{Always, always-book}
 use Rattle.cx_run.specs.Deliveries.{given, gives, open_all, opens, tells}
-use Rattle.cx_run.specs.Happenings.{Happening, Nodes, client_of, client_steps, monitor_steps, steps, steps_of}
+use Rattle.cx_run.specs.Happenings.{EntityNode, OfClient, OfDaemon, Happening, Nodes, entity_of, entity_rule, entity_steps, monitor_steps, steps, steps_of}
 use Rattle.cx_run.specs.Wires.{Wire, gone_at, new_wire, sent_from, side_of, wire_of, with_wire}
 use Rattle.cx_run.specs.Worlds.{Post, World, carried, happening, node_of, opened_wires, post_of, sends_all, sends_piece, shuts_all, shuts_link}
 use Rattle.cx_steps.specs.declared.effects.Effects.{Effects}
@@ -28,11 +39,48 @@ loses_quiet : (c : ClientNode) (found : Option (Link Stage)) → IsQuiet (loses 
 loses_quiet c None = (refl, refl)
 loses_quiet c (Some link) = (refl, refl)
 
-client_quiet : (nodes : Nodes) (h : Happening) (name : Name) (number : ℕ) → h.input ≡ Gone number → (client : Option ClientNode) → IsQuiet (client_steps nodes h name client).out
-client_quiet nodes h name number e None = (refl, refl)
-client_quiet nodes h name number e (Some c) =
-    let P : Input → Type 0 = λ i. IsQuiet (client_rule c i h.reading h.draw).out in
-    subst P (sym e) (loses_quiet c (link_of number c.links))
+-- whatever a daemon's book replies
+ended_quiet : (d : DaemonNode) (number session : ℕ) (r : BookReply) → Always (λ (o : Outcome DaemonNode). IsQuiet o.out) (lossy_gone d number session r)
+ended_quiet d number session (reply.Ended true) = (refl, refl)
+ended_quiet d number session (reply.Ended false) = (refl, refl)
+ended_quiet d number session (reply.Admitted n epoch) = (refl, refl)
+ended_quiet d number session (reply.Resumed n epoch last lossy) = (refl, refl)
+ended_quiet d number session reply.Fine = (refl, refl)
+ended_quiet d number session (reply.Refused why) = (refl, refl)
+ended_quiet d number session reply.OutOfMemory = (refl, refl)
+
+guest_quiet : (d : DaemonNode) (number : ℕ) (stage : GuestStage) → Always (λ (o : Outcome DaemonNode). IsQuiet o.out) (guest_gone d number stage)
+guest_quiet d number acceptor.AwaitsBanner = (refl, refl)
+guest_quiet d number acceptor.AwaitsHello = (refl, refl)
+guest_quiet d number acceptor.AwaitsRequest = (refl, refl)
+guest_quiet d number (acceptor.AwaitsProof awaited) = (refl, refl)
+guest_quiet d number (acceptor.AwaitsSignature s owner) = (refl, refl)
+guest_quiet d number (acceptor.AwaitsIdent s owner) = (refl, refl)
+guest_quiet d number (acceptor.Open s served) = by_test served.lossy
+  where
+    by_test : (lossy : Bool)
+        → Always (λ (o : Outcome DaemonNode). IsQuiet o.out) (if lossy then Asking (End served.number) (lossy_gone d number served.number) else Finished (idles (forgotten d number)))
+    by_test true = λ r. ended_quiet d number served.number r
+    by_test false = (refl, refl)
+
+gone_quiet : (d : DaemonNode) (found : Option (Link DaemonStage)) → Always (λ (o : Outcome DaemonNode). IsQuiet o.out) (gone d found)
+gone_quiet d None = (refl, refl)
+gone_quiet d (Some link) = by_kind link.stage
+  where
+    by_kind : (stage : DaemonStage) → Always (λ (o : Outcome DaemonNode). IsQuiet o.out) (gone_by_kind d link.number stage)
+    by_kind (AsAcceptor stage) = guest_quiet d link.number stage
+    by_kind (AsConnector stage) = (refl, refl)
+
+rule_quiet : (handlers : Handlers) (entity : EntityNode) (number reading : ℕ) (draw : List ℕ) → IsQuiet (entity_rule handlers entity (Gone number) reading draw).out
+rule_quiet handlers (OfClient c) number reading draw = loses_quiet c (link_of number c.links)
+rule_quiet handlers (OfDaemon d) number reading draw =
+    always-book (λ (o : Outcome DaemonNode). IsQuiet o.out) book_reply book_after d.book (gone d.node (link_of number d.node.links)) (gone_quiet d.node (link_of number d.node.links))
+
+entity_quiet : (nodes : Nodes) (h : Happening) (name : Name) (number : ℕ) → h.input ≡ Gone number → (entity : Option EntityNode) → IsQuiet (entity_steps nodes h name entity).out
+entity_quiet nodes h name number e None = (refl, refl)
+entity_quiet nodes h name number e (Some entity) =
+    let P : Input → Type 0 = λ i. IsQuiet (entity_rule nodes.handlers entity i h.reading h.draw).out in
+    subst P (sym e) (rule_quiet nodes.handlers entity number h.reading h.draw)
 
 monitor_quiet : (nodes : Nodes) (h : Happening) (number : ℕ) → h.input ≡ Gone number
     → (let o = monitor_rule nodes.monitor h.input h.reading h.draw in IsQuiet (monitor_steps nodes o h.left o.out.save).out)
@@ -46,7 +94,7 @@ monitor_quiet nodes h number e =
 
 quiet_at : (nodes : Nodes) (h : Happening) (number : ℕ) → h.input ≡ Gone number → (who : NodeName) → IsQuiet (steps_of nodes h who).out
 quiet_at nodes h number e node.Monitor = monitor_quiet nodes h number e
-quiet_at nodes h number e (node.Entity name) = client_quiet nodes h name number e (client_of name nodes)
+quiet_at nodes h number e (node.Entity name) = entity_quiet nodes h name number e (entity_of name nodes)
 
 quiet_given : (w : World) (number : ℕ) (post : Option Post) → IsQuiet (given w (Gone number) post).out × ((given w (Gone number) post).world.wires ≡ w.wires)
 quiet_given w number None = ((refl, refl), refl)

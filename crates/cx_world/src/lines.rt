@@ -1,4 +1,4 @@
-//! What each line of a schedule does. Lines that no rule serves yet don't come here: fetches, renewals, connects, sends, drops and ticks.
+//! What each line of a schedule does. Lines that no rule serves yet don't come here: connects, sends and drops.
 
 ghost use Rattle.std.specs.Prelude.{◌≡◌, ℕ, Option, IfOk, IsTrue, OnOk};
 ghost use Rattle.cx_rules.specs.Inputs.{Submit};
@@ -46,15 +46,37 @@ impl World {
         self.come(alloc, &who, Event::Submit(Told::Login(sum)))
     }
 
-    /// A client logs in.
+    /// A client asks for tickets.
+    fn renew(
+        &mut self,
+        alloc: Global,
+        client: &EntityName,
+        services: &[EntityType],
+    ) -> Result<(), AllocError>
+        ensures { OnOk result (Makes self.old self.new (λ w. submitted w (command.Renew client.now services.now))) }
+    {
+        let sum = services_sum(services)?;
+        let who = NodeName::Entity(client.copy(alloc)?);
+        self.come(alloc, &who, Event::Submit(Told::Renew(sum)))
+    }
+
+    /// A daemon asks for the generations of its type.
+    fn fetch(&mut self, alloc: Global, daemon: &EntityName) -> Result<(), AllocError>
+        ensures { OnOk result (Makes self.old self.new (λ w. submitted w (command.Fetch daemon.now))) }
+    {
+        let who = NodeName::Entity(daemon.copy(alloc)?);
+        self.come(alloc, &who, Event::Submit(Told::Fetch))
+    }
+
+    /// What a command does.
     fn submit(&mut self, alloc: Global, command: &LineCommand) -> Result<(), AllocError>
         requires { IsTrue (is_command_served command.now) }
         ensures { OnOk result (Makes self.old self.new (λ w. submitted w command.now)) }
     {
         match command {
             LineCommand::Login(client, services) => self.login(alloc, client, services.all()),
-            LineCommand::Fetch(_) => unreachable!(),
-            LineCommand::Renew(_, _) => unreachable!(),
+            LineCommand::Fetch(daemon) => self.fetch(alloc, daemon),
+            LineCommand::Renew(client, services) => self.renew(alloc, client, services.all()),
             LineCommand::Connect(_, _, _) => unreachable!(),
             LineCommand::Send(_, _, _) => unreachable!(),
         }
@@ -65,16 +87,8 @@ impl World {
         requires { IsTrue (is_command_served command.now) }
         ensures { OnOk result (MakesAlone self.old self.new (λ w. submits w command.now)) }
     {
-        match command {
-            LineCommand::Login(client, services) => {
-                self.login(alloc, client, services.all())?;
-                self.settle(alloc)
-            }
-            LineCommand::Fetch(_) => unreachable!(),
-            LineCommand::Renew(_, _) => unreachable!(),
-            LineCommand::Connect(_, _, _) => unreachable!(),
-            LineCommand::Send(_, _, _) => unreachable!(),
-        }
+        self.submit(alloc, command)?;
+        self.settle(alloc)
     }
 
     /// What a line does, once its number was noted.

@@ -3,6 +3,8 @@
 ghost use Rattle.std.specs.Prelude.{◌<◌, Some, IsTrue, OnOk};
 ghost use Rattle.cx_lines.specs.Lines.{is_in_range};
 ghost use Rattle.cx_lines.specs.declared.lines.Line.TheVariants as line;
+ghost use Rattle.cx_rules.specs.Inputs.{Tick};
+ghost use Rattle.cx_run.specs.Deliveries.{comes, settles};
 ghost use Rattle.cx_run.specs.Schedules.{all_read, on_node, one_reads};
 ghost use Rattle.cx_run.specs.Served.{is_step_served};
 ghost use Rattle.cx_run.specs.Worlds.{World as RunWorld};
@@ -12,6 +14,7 @@ use crate::world::World;
 use cx_base::{NodeName, Reading};
 use cx_line_words::LeftState;
 use cx_lines::NodeStep;
+use cx_steps::Event;
 use std::alloc::{AllocError, Global};
 
 impl World {
@@ -38,6 +41,14 @@ impl World {
         self.left = Some(left);
     }
 
+    /// It is time for a node to look after what it holds, and then all settles.
+    fn tick(&mut self, alloc: Global, who: &NodeName) -> Result<(), AllocError>
+        ensures { OnOk result (MakesAlone self.old self.new (λ w. settles (comes w who.now Tick))) }
+    {
+        self.come(alloc, who, Event::Tick)?;
+        self.settle(alloc)
+    }
+
     /// What a line does to clocks, nodes and saves.
     pub(crate) fn act_on_node(&mut self, alloc: Global, step: &NodeStep) -> Result<(), AllocError>
         requires in_range { IsTrue (is_in_range (line.Node step.now)) }
@@ -54,7 +65,7 @@ impl World {
                 Ok(())
             }
             NodeStep::DropSession(_, _) => unreachable!(),
-            NodeStep::Tick(_) => unreachable!(),
+            NodeStep::Tick(who) => self.tick(alloc, who),
             NodeStep::Restart(who) => self.restart(alloc, who),
             NodeStep::FailSave(left) => {
                 self.fail_save(*left);

@@ -3,7 +3,8 @@ use Rattle.cx_run.specs.Worlds.{World as RunWorld}
 use Rattle.cx_world.specs.Carried.{Carries}
 use Rattle.cx_world.proofs.Making.{ok_alone, ok_makes_alone}
 use Rattle.cx_lines.specs.declared.node_steps.NodeStep.{NodeStep}
-use Rattle.cx_run.specs.Deliveries.{restarts}
+use Rattle.cx_rules.specs.Inputs.{Tick}
+use Rattle.cx_run.specs.Deliveries.{comes, restarts, settles}
 use Rattle.cx_run.specs.Schedules.{on_node}
 use Rattle.cx_world.proofs.world.World.act_on_node.Goals as goal
 
@@ -21,3 +22,8 @@ returns-in-Restart c = ok_makes_alone c.restart.result c.args.self.now c.restart
 
 pub returns-in-FailSave : goal.returns-in-FailSave
 returns-in-FailSave c = λ b w h. subst (λ (x : NodeStep). Carries b None c.fail_save.new.self (on_node w x)) (sym c.in-FailSave.is) (c.fail_save.ensures b None w h)
+
+pub returns-in-Tick : goal.returns-in-Tick
+returns-in-Tick c = ok_makes_alone c.tick.result c.args.self.now c.tick.new.self (λ (w : RunWorld). settles (comes w c.in-Tick.who Tick)) c.tick.ensures
+    c.args.self.now (λ (w : RunWorld). on_node w c.args.step.now)
+    (λ b w h m. subst (λ (x : NodeStep). Carries b None c.tick.new.self (on_node w x)) (sym c.in-Tick.is) (m w h))
