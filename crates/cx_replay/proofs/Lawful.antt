@@ -4,7 +4,7 @@ use Rattle.cx_base.specs.declared.kinds.Access.{Access}
 use Rattle.cx_desk.specs.Handlers.{Handlers}
 use Rattle.cx_journal.specs.declared.entries.Entry.{Entry}
 use Rattle.cx_journal.specs.declared.premises.Broken.{Broken}
-use Rattle.cx_laws_run.specs.Laws.{KeepsLaws}
+use Rattle.cx_laws_run.specs.Laws.{AreClients, KeepsLaws}
 use Rattle.cx_laws_run.specs.Logins.{LogIn, Stands}
 use Rattle.cx_lines.specs.declared.lines.Numbered.{Numbered}
 use Rattle.cx_plain.specs.Plain.{serves}
@@ -17,16 +17,16 @@ use Rattle.cx_run.specs.Runs.{IsFoundOf, run_journal, setup_of, trace}
 -- what is so of every run is so of this one; where nothing is found of its premises, the other laws hold too
 pub byte_replay : (handlers : Handlers) (script : List Numbered) (journal : List Entry) (found : Option Broken)
     → ((setup : Setup) (hs : List Happening) → Stands setup hs)
-    → ((has_handler : Access → Bool) (s : List Numbered) → IsFoundOf s None → KeepsLaws has_handler (run_journal s))
-    → ((s : List Numbered) → IsFoundOf s None → LogIn (setup_of s) (points (setup_of s) (trace s)))
-    → journal ≡ run_journal script → IsFoundOf script found → IsByteReplay handlers script journal found
-byte_replay handlers script journal found stands keeps logs run kept =
+    → ((has_handler : Access → Bool) (s : List Numbered) → AreClients (setup_of s) → IsFoundOf s None → KeepsLaws has_handler (run_journal s))
+    → ((s : List Numbered) → AreClients (setup_of s) → IsFoundOf s None → LogIn (setup_of s) (points (setup_of s) (trace s)))
+    → AreClients (setup_of script) → journal ≡ run_journal script → IsFoundOf script found → IsByteReplay handlers script journal found
+byte_replay handlers script journal found stands keeps logs clients run kept =
     let Found : Option Broken → Type 0 = λ f. IsFoundOf script f in
     let Lawful : List Entry → Type 0 = λ j. KeepsLaws (serves handlers) j in
     record {
       run = run;
       found_so = kept;
       stands = stands (setup_of script) (trace script);
-      lawful = λ none. subst Lawful (sym run) (keeps (serves handlers) script (subst Found none kept));
-      logged_in = λ none. logs script (subst Found none kept);
+      lawful = λ none. subst Lawful (sym run) (keeps (serves handlers) script clients (subst Found none kept));
+      logged_in = λ none. logs script clients (subst Found none kept);
     }

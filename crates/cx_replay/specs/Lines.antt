@@ -6,12 +6,11 @@ use Rattle.cx_lines.specs.declared.lines.Line.{Line}
 use Rattle.cx_lines.specs.declared.lines.Line.TheVariants as line
 use Rattle.cx_lines.specs.declared.lines.Numbered.{Numbered}
 
--- a fetch, connect or send line, which only the plain run serves yet
-abbrev pub is_daemon_line : Line → Bool
-is_daemon_line (line.Submit (command.Fetch daemon)) = true
-is_daemon_line (line.Submit (command.Connect client daemon lossy)) = true
-is_daemon_line (line.Submit (command.Send client daemon operation)) = true
-is_daemon_line _ = false
+-- a connect or send line, which only the plain run serves yet
+abbrev pub is_session_line : Line → Bool
+is_session_line (line.Submit (command.Connect client daemon lossy)) = true
+is_session_line (line.Submit (command.Send client daemon operation)) = true
+is_session_line _ = false
 
-abbrev pub has_daemon_line : List Numbered → Bool
-has_daemon_line lines = list_any (λ numbered. is_daemon_line numbered.line) lines
+abbrev pub has_session_line : List Numbered → Bool
+has_session_line lines = list_any (λ numbered. is_session_line numbered.line) lines

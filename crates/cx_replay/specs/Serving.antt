@@ -21,12 +21,12 @@ use Rattle.cx_replay.specs.declared.refusals.ReplayRefusal.{ReplayRefusal}
 use Rattle.cx_replay.specs.declared.refusals.ReplayRefusal.TheVariants.{NotYet, OutOfMemory}
 use Rattle.cx_run.specs.Served as run
 use Rattle.cx_world.specs.Idle.{idle_lines}
-use Rattle.cx_replay.specs.Lines.{has_daemon_line}
+use Rattle.cx_replay.specs.Lines.{has_session_line}
 
--- the first line for which a schedule isn't served yet: where it has a fetch, connect or send line, the first that the plain run doesn't take,
+-- the first line for which a schedule isn't served yet: where it has a connect or send line, the first that the plain run doesn't take,
 -- and else the first that the run through bytes doesn't serve
 abbrev pub first_unserved : List Numbered → Option ℕ
-first_unserved script = if has_daemon_line script then first_untaken script else run.first_unserved script
+first_unserved script = if has_session_line script then first_untaken script else run.first_unserved script
 
 -- ---- what comes of a run
 
@@ -50,17 +50,17 @@ pub record IsByteReplay (handlers : Handlers) (script : List Numbered) (journal 
   pub lawful : found ≡ None → KeepsLaws (serves handlers) journal
   pub logged_in : found ≡ None → LogIn (setup_of script) (points (setup_of script) (trace script))
 
--- by whether the schedule has a fetch, connect or send line; the plain run breaks no premise
+-- by whether the schedule has a connect or send line; the plain run breaks no premise
 abbrev pub IsReplayBy : Bool → Handlers → List Numbered → List Entry → Option Broken → Type 0
 IsReplayBy true handlers script journal found = IsPlainReplay handlers script journal × (found ≡ None)
 IsReplayBy false handlers script journal found = IsByteReplay handlers script journal found
 
 abbrev pub IsReplayOf : Handlers → List Numbered → List Entry → Option Broken → Type 0
-IsReplayOf handlers script journal found = IsReplayBy (has_daemon_line script) handlers script journal found
+IsReplayOf handlers script journal found = IsReplayBy (has_session_line script) handlers script journal found
 
 -- how many lines of a schedule do nothing: such a line is one on a link, which the plain run doesn't take
 abbrev pub idle_of : List Numbered → ℕ
-idle_of script = if has_daemon_line script then 0 else idle_lines script
+idle_of script = if has_session_line script then 0 else idle_lines script
 
 -- the journal with the first breach as its last entry, where there is one
 abbrev pub told : List Entry → Option Broken → List Entry

@@ -2,24 +2,23 @@
 
 ghost use Rattle.std.specs.Prelude.{◌≡◌};
 ghost use Rattle.std.specs.List.{list_any};
-ghost use Rattle.cx_replay.specs.Lines.{has_daemon_line, is_daemon_line};
-ghost use Rattle.cx_run.specs.Served.{first_unserved, has_node, is_command_served, is_served, is_step_served};
+ghost use Rattle.cx_replay.specs.Lines.{has_session_line, is_session_line};
+ghost use Rattle.cx_run.specs.Served.{first_unserved, is_command_served, is_served, is_step_served};
 
-use cx_base::NodeName;
 use cx_lines::{Line, LineCommand, NodeStep, Numbered};
 
-/// Whether a fetch, connect or send line is among these.
-pub fn has_daemon_line(lines: &[Numbered]) -> bool
-    ensures { result ≡ has_daemon_line lines.now }
+/// Whether a connect or send line is among these.
+pub fn has_session_line(lines: &[Numbered]) -> bool
+    ensures { result ≡ has_session_line lines.now }
 {
-    lines.iter().any(|numbered| is_daemon_line(&numbered.line))
+    lines.iter().any(|numbered| is_session_line(&numbered.line))
 }
 
-fn is_daemon_line(line: &Line) -> bool
-    ensures { result ≡ is_daemon_line line.now }
+fn is_session_line(line: &Line) -> bool
+    ensures { result ≡ is_session_line line.now }
 {
     match line {
-        Line::Submit(LineCommand::Fetch(_)) => true,
+        Line::Submit(LineCommand::Fetch(_)) => false,
         Line::Submit(LineCommand::Login(_, _)) => false,
         Line::Submit(LineCommand::Renew(_, _)) => false,
         Line::Submit(LineCommand::Connect(_, _, _)) => true,
@@ -60,8 +59,8 @@ fn is_command_served(command: &LineCommand) -> bool
 {
     match command {
         LineCommand::Login(_, _) => true,
-        LineCommand::Fetch(_) => false,
-        LineCommand::Renew(_, _) => false,
+        LineCommand::Fetch(_) => true,
+        LineCommand::Renew(_, _) => true,
         LineCommand::Connect(_, _, _) => false,
         LineCommand::Send(_, _, _) => false,
     }
@@ -73,19 +72,10 @@ fn is_step_served(step: &NodeStep) -> bool
     match step {
         NodeStep::Clock(_) => true,
         NodeStep::ClockOf(_, _) => true,
-        NodeStep::Restart(node) => has_node(node),
+        NodeStep::Restart(_) => true,
         NodeStep::FailSave(_) => true,
         NodeStep::Settle => true,
         NodeStep::DropSession(_, _) => false,
-        NodeStep::Tick(_) => false,
-    }
-}
-
-fn has_node(node: &NodeName) -> bool
-    ensures { result ≡ has_node node.now }
-{
-    match node {
-        NodeName::Monitor => true,
-        NodeName::Entity(name) => !name.kind.is_daemon(),
+        NodeStep::Tick(_) => true,
     }
 }

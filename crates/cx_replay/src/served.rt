@@ -11,7 +11,7 @@ ghost use Rattle.cx_replay.specs.declared.refusals.ReplayRefusal.TheVariants.{Ou
 ghost use Rattle.cx_replay.specs.Serving.{IsReplayBy, IsReplayCause, IsReplayOf, IsUnservedBy, first_unserved, idle_of};
 ghost use Rattle.cx_world.specs.Idle.{idle_lines};
 
-use crate::lines::{first_unserved, has_daemon_line};
+use crate::lines::{first_unserved, has_session_line};
 use crate::refusals::ReplayRefusal;
 use cx_desk::Desk;
 use cx_laws_run::{journal_laws, login_laws, standing_laws};
@@ -19,7 +19,7 @@ use cx_schedule::Script;
 use cx_world::Report;
 use std::alloc::Global;
 
-/// The run of a schedule: through bytes where it has no fetch, connect or send line, and else the plain run, over this desk of handlers. Where it
+/// The run of a schedule: through bytes where it has no connect or send line, and else the plain run, over this desk of handlers. Where it
 /// has a line that its run doesn't serve yet, it is refused at the first of these.
 pub fn replay(alloc: Global, script: &Script, desk: &Desk) -> Result<Report, ReplayRefusal>
     requires schedule { IsSchedule script.now }
@@ -29,7 +29,7 @@ pub fn replay(alloc: Global, script: &Script, desk: &Desk) -> Result<Report, Rep
     ensures served { OnOk result (first_unserved script.now ≡ None) }
     ensures refused { IfErr result (IsReplayCause script.now) }
 {
-    if has_daemon_line(script.lines()) {
+    if has_session_line(script.lines()) {
         return plainly(alloc, script, desk);
     }
     if let Some(line) = first_unserved(script.lines()) {

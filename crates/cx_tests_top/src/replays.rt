@@ -67,7 +67,7 @@ fn the_first_replay_has_ample_memory(rt: HostRuntime) {
 }
 
 /// Good lines that the plain run doesn't take.
-static LATER_LINES: [&str; 17] = [
+static LATER_LINES: [&str; 20] = [
     "seed mon 1",
     "modes client.a crc",
     "leak client.a",
@@ -75,6 +75,8 @@ static LATER_LINES: [&str; 17] = [
     "renew client.a osd",
     "connect client.a osd.0 lossy",
     "do login client.a",
+    "do fetch osd.0",
+    "do renew client.a osd",
     "drop osd.0 1",
     "tick mon",
     "carry 1 c",
@@ -83,20 +85,16 @@ static LATER_LINES: [&str; 17] = [
     "again 1 c 1 1",
     "cut 1",
     "restart mon",
+    "restart osd.0",
     "failsave old",
     "settle",
 ];
 
 /// Good lines that no run serves.
-static AHEAD: [&str; 8] = [
-    "renew client.a osd",
-    "do fetch osd.0",
-    "do renew client.a osd",
+static AHEAD: [&str; 3] = [
     "do connect client.a osd.0",
     "do send client.a osd.0 read p n o -",
     "drop osd.0 1",
-    "tick mon",
-    "restart osd.0",
 ];
 
 /// Whether a schedule of these two lines below two entities is refused at the first of the two.
@@ -111,7 +109,11 @@ fn is_ahead(rt: &impl Abort, alloc: Global, line: &str, below: &str) -> bool {
 #[test]
 fn the_first_line_that_the_plain_run_does_not_take_is_told(rt: HostRuntime) {
     for line in &LATER_LINES {
-        assert!(rt; is_ahead(&rt, rt.alloc(), line, "fetch osd.0"), "{}", line);
+        assert!(rt;
+            is_ahead(&rt, rt.alloc(), line, "connect client.a osd.0"),
+            "{}",
+            line
+        );
     }
 }
 
