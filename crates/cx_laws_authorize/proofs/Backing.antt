@@ -1,5 +1,5 @@
 -- What is known of a run's keys gives each authority its ticket, and each session that is entered one that backs it.
-use Rattle.std.proofs.Common.{false, ◌≡◌, ◌⊎◌, ◌<◌, ◌≤◌, ◌^◌, ℕ, List, length, inl, inr, refl, sym, ap, ◌∙◌, subst, arith, None}
+use Rattle.std.proofs.Common.{true, ◌≡◌, ◌⊎◌, ◌<◌, ◌≤◌, ◌^◌, ℕ, List, length, inl, inr, refl, sym, ap, ◌∙◌, subst, arith, None}
 use Rattle.std.specs.Prelude.{Contains}
 use Rattle.cx_authorize.specs.Daemon.{Authority}
 use Rattle.cx_base.specs.Names.{Name}
@@ -63,9 +63,9 @@ pub record IsGood (run : WholeRun) (t : Issued) : Type 0 where
 abbrev pub AreGood : WholeRun → List Entry → Type 0
 AreGood run J = (t : Issued) → Contains J (journal.Issued t) → IsGood run t
 
--- so they are, where guests come to daemons
+-- so they are, where that is known of the run
 abbrev pub AllGood : WholeRun → List Entry → Type 0
-AllGood run J = (run.guests ≡ false → ⊥) → AreGood run J
+AllGood run J = run.good ≡ true → AreGood run J
 
 module _ (run : WholeRun) (whole : List Logged) (n : NodeName) (line : ℕ) (us : Uses) (log : List Logged) (J : List Entry) where
   -- the ticket that was shown, and whose its session key is

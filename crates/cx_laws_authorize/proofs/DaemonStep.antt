@@ -49,6 +49,7 @@ use Rattle.cx_laws_authorize.proofs.Keys.{KeptKeys, LinkKeys, StageKeys, host-gr
 use Rattle.cx_laws_authorize.proofs.Steps.{all-authorize, always-book}
 use Rattle.cx_laws_authorize.proofs.Telling.{IsBackedLink, backed-behind, told-laws}
 use Rattle.cx_laws_authorize.specs.Admission.{Authorizes, EntryTold}
+use Rattle.cx_laws_authorize.specs.Coming.{IsNoGuest, IsNoLook}
 use Rattle.cx_laws_keys.proofs.Journal.{After, EntryLaw, IsNotIssued, entered, login-law, own-other}
 use Rattle.cx_laws_keys.proofs.Known.{Inv}
 use Rattle.cx_laws_keys.proofs.Lists.{all-append, all-map}
@@ -98,17 +99,6 @@ kind_says run first n = record {
   stage_grows = λ us vs stage f st. daemon_stage-grows run us vs n stage f st;
 }
 
--- no view is told but by a reply
-abbrev pub IsNoLook : Input → Type 0
-IsNoLook (Look view) = ⊥
-IsNoLook _ = Unit {0}
-
--- no guest comes and no session is dropped
-abbrev pub IsNoGuest : Input → Type 0
-IsNoGuest (Opened number None) = ⊥
-IsNoGuest (Submit (command.Drop session)) = ⊥
-IsNoGuest _ = Unit {0}
-
 -- ---- entries that issue nothing, under their laws
 
 module _ (run : WholeRun) (whole : List Logged) where
@@ -138,7 +128,7 @@ module _ (run : WholeRun) (whole : List Logged) (n : NodeName) (line : ℕ) (us 
     pub ok : NodeOk Says d.node us J
     pub here : n ≡ node.Entity d.node.own.asker.name
     pub of : is_daemon_type d.node.own.asker.name.kind ≡ true
-    pub backed : GuestsCome run → AllByRecursion (IsBackedLink J d.node.own.asker.name.kind) d.node.links
+    pub backed : run.good ≡ true → AllByRecursion (IsBackedLink J d.node.own.asker.name.kind) d.node.links
     pub good : AllGood run J
     pub comes : run.guests ≡ false → IsNoGuest input
     pub looks : IsNoLook input
@@ -192,7 +182,7 @@ module _ (run : WholeRun) (whole : List Logged) (n : NodeName) (line : ℕ) (us 
             uses = k.uses;
             grows = k.grows;
             inv = entered-inv run whole k.uses (behind n line row.seals log) J row.entries k.entries k.inv;
-            laws = told-laws run whole n line us log J d input reading row.entries row.seals r.inv r.ok.own.known.fetched (r.good st.1) (r.backed st.1) st.1 g k.entries told;
+            laws = told-laws run whole n line us log J d input reading row.entries row.seals r.inv r.ok.own.known.fetched r.good r.backed st.1 g k.entries told;
             good = record {
               own = entered-asker run J k.uses J row.entries row.own k.entries (subst (λ (a : Asker). AskerOk run J k.uses J a) (sym stays.0) own);
               link = link-ok k.uses row.link k.link;
@@ -279,7 +269,7 @@ module _ (run : WholeRun) (whole : List Logged) (n : NodeName) (line : ℕ) (us 
     idle-keeps g au = idle Says run whole n line us log J d.node r.inv r.ok
 
     -- one entry, where nothing is logged
-    entry-keeps : (node_behind : DaemonNode) (e : Entry) → IsNotIssued e → EntryLaw run.guests J e → NodeOk Says node_behind us J
+    entry-keeps : (node_behind : DaemonNode) (e : Entry) → IsNotIssued e → EntryLaw run J e → NodeOk Says node_behind us J
         → After run whole n line us log J [] (e ∷ []) (NodeOk Says node_behind)
     entry-keeps m e none law ok = record {
       uses = us;
@@ -290,7 +280,7 @@ module _ (run : WholeRun) (whole : List Logged) (n : NodeName) (line : ℕ) (us 
     }
 
     quiet-keeps : (node_behind : DaemonNode) (e : Entry) → IsQuietEntry e → NodeOk Says node_behind us J → After run whole n line us log J [] (e ∷ []) (NodeOk Says node_behind)
-    quiet-keeps m e q ok = entry-keeps m e q.1 (login-law run.guests J e q.0 (none-given J e q.1)) ok
+    quiet-keeps m e q ok = entry-keeps m e q.1 (login-law run J e q.0 (none-given J e q.1)) ok
 
     forgotten-ok : (number : ℕ) → NodeOk Says (forgotten d.node number) us J
     forgotten-ok number = record { own = r.ok.own; links = all-without Says us number d.node.links r.ok.links }
@@ -299,8 +289,8 @@ module _ (run : WholeRun) (whole : List Logged) (n : NodeName) (line : ℕ) (us 
     forgotten-keeps number g au = idle Says run whole n line us log J (forgotten d.node number) r.inv (forgotten-ok number)
 
     -- a session has ended, where guests come
-    ended-law : (session : ℕ) → GuestsCome run → EntryLaw run.guests J (ended_entry d.node session)
-    ended-law session come = record { login = λ none. absurd (come none); backed = tt; keeps_keys = tt; keeps_expiry = tt; gid_once = tt }
+    ended-law : (session : ℕ) → GuestsCome run → EntryLaw run J (ended_entry d.node session)
+    ended-law session come = record { login = λ none. absurd (come none); told = λ known. record { backed = tt; keeps_keys = tt; keeps_expiry = tt }; gid_once = tt }
 
     guest-opens : (draw : List ℕ) (number : ℕ) → GuestsCome run → Keeps (opens_guest d.node reading draw number)
     guest-opens draw number come g au = by_test (nat_le 1024 (length d.node.links))
@@ -505,7 +495,7 @@ module _ (run : WholeRun) (whole : List Logged) (n : NodeName) (line : ℕ) (us 
   -- what is known behind a step: of the daemon, and of the authority of each of its links
   pub record AfterDaemon (o : Outcome DaemonState) : Type 0 where
     pub after : After run whole n line us log J o.out.seals o.out.entries (NodeOk (daemon_says run J n) o.state.node)
-    pub backed : GuestsCome run → AllByRecursion (IsBackedLink (entered J o.out.entries) d.node.own.asker.name.kind) o.state.node.links
+    pub backed : run.good ≡ true → AllByRecursion (IsBackedLink (entered J o.out.entries) d.node.own.asker.name.kind) o.state.node.links
 
   pub daemon-after : (input : Input) → Ready input → AreGranted run.leaked whole n line log (daemon_step handlers d input reading draw).out.seals
       → AfterDaemon (daemon_step handlers d input reading draw)
@@ -514,6 +504,6 @@ module _ (run : WholeRun) (whole : List Logged) (n : NodeName) (line : ℕ) (us 
       (daemon_step handlers d input reading draw).state.node.links = all-authorize handlers d input reading draw in
       record {
         after = always-book (Keeps run whole n line us log J d input reading) book_reply book_after d.book (daemon_rule handlers d.node input reading draw) (rule-keeps input r) g au;
-        backed = λ come. backed-behind run whole n line us log J d input reading (daemon_step handlers d input reading draw).out.entries
-            (daemon_step handlers d input reading draw).out.seals r.inv r.ok.own.known.fetched (r.good come) (r.backed come) g (daemon_step handlers d input reading draw).state.node.links au.authorized;
+        backed = λ known. backed-behind run whole n line us log J d input reading (daemon_step handlers d input reading draw).out.entries
+            (daemon_step handlers d input reading draw).out.seals r.inv r.ok.own.known.fetched (r.good known) (r.backed known) g (daemon_step handlers d input reading draw).state.node.links au.authorized;
       }

@@ -31,10 +31,10 @@ use Rattle.cx_steps.specs.Premises.{HasSealed, IsExcepted}
 use Rattle.cx_steps.specs.declared.seals.Logged.{Logged}
 use Rattle.cx_steps.specs.declared.seals.SealEntry.{SealEntry}
 use Rattle.cx_steps.specs.declared.seals.SealEntry.TheVariants as seal
-use Rattle.cx_laws_authorize.proofs.Backing.{AreGood, HasBacking, authorized-backed, backing-grows, session-backed}
+use Rattle.cx_laws_authorize.proofs.Backing.{AllGood, AreGood, HasBacking, authorized-backed, backing-grows, session-backed}
 use Rattle.cx_laws_authorize.proofs.KeepingKeys.{kept-of, told-keeps}
 use Rattle.cx_laws_authorize.specs.Admission.{EntryTold, FaultTells, GetsAuthority, GuestHas, HadAuthority, IsOwned, IsTold, LinkAuthorized, RefusalTold, StageHas}
-use Rattle.cx_laws_keys.proofs.Journal.{EntryLaw, IsNotIssued, IsOfLogin, entered, expired-none, needs-none}
+use Rattle.cx_laws_keys.proofs.Journal.{EntryLaw, ToldLaw, IsNotIssued, IsOfLogin, entered, expired-none, needs-none}
 use Rattle.cx_laws_keys.proofs.Known.{HasTicket, Inv, Says, Within, opened_says}
 use Rattle.cx_laws_keys.proofs.Lists.{found_all, some-of}
 use Rattle.cx_laws_keys.proofs.Premises.{AreGranted}
@@ -184,25 +184,32 @@ module _ (run : WholeRun) (whole : List Logged) (n : NodeName) (line : ℕ) (us 
     entry-expires g K w (journal.Refused r) h = reason-expires g K w r r.reason h
     entry-expires g K w _ h = tt
 
-    each-law : (run.guests ≡ false → ⊥) → AreGranted run.leaked whole n line log seals → (front es : List Entry) → front ++ es ≡ entries → AllByRecursion IsNotIssued es
-        → AllByRecursion (EntryTold d input reading entries seals) es → EachBehind (EntryLaw run.guests) (J ++ front) es
-    each-law come g front [] place none told = tt
-    each-law come g front (e ∷ es) place none told = (
+    pub entry-told-law : AreGranted run.leaked whole n line log seals → (front es : List Entry) (e : Entry) → front ++ e ∷ es ≡ entries → EntryTold d input reading entries seals e
+        → ToldLaw (J ++ front) e
+    entry-told-law g front es e place told = record {
+      backed = owned-backed (J ++ front) (within-entered J front) e told;
+      keeps_keys = entry-keeps front es e place told;
+      keeps_expiry = entry-expires g (J ++ front) (within-entered J front) e told;
+    }
+
+  module _ (entries : List Entry) (seals : List SealEntry) (i : Inv run whole us log J) (fetched : AreFetched run us service asker.view.generations) (good : AllGood run J)
+      (backed : run.good ≡ true → AllByRecursion (IsBackedLink J service) d.node.links) (come : run.guests ≡ false → ⊥) (g : AreGranted run.leaked whole n line log seals) where
+    each-law : (front es : List Entry) → front ++ es ≡ entries → AllByRecursion IsNotIssued es → AllByRecursion (EntryTold d input reading entries seals) es
+        → EachBehind (EntryLaw run) (J ++ front) es
+    each-law front [] place none told = tt
+    each-law front (e ∷ es) place none told = (
       record {
         login = λ no. absurd (come no);
-        backed = owned-backed (J ++ front) (within-entered J front) e told.0;
-        keeps_keys = entry-keeps front es e place told.0;
-        keeps_expiry = entry-expires g (J ++ front) (within-entered J front) e told.0;
+        told = λ known. entry-told-law entries seals i fetched (good known) (backed known) g front es e place told.0;
         gid_once = none-given (J ++ front) e none.0;
       },
-      subst (λ (l : List Entry). EachBehind (EntryLaw run.guests) l es) (sym (append_assoc J front (e ∷ [])))
-          (each-law come g (front ++ e ∷ []) es (append_assoc front (e ∷ []) es ∙ place) none.1 told.1),
+      subst (λ (l : List Entry). EachBehind (EntryLaw run) l es) (sym (append_assoc J front (e ∷ [])))
+          (each-law (front ++ e ∷ []) es (append_assoc front (e ∷ []) es ∙ place) none.1 told.1),
     )
 
   -- the entries of a turn of a guest's link
-  pub told-laws : (entries : List Entry) (seals : List SealEntry) → Inv run whole us log J → AreFetched run us service asker.view.generations → AreGood run J
-      → AllByRecursion (IsBackedLink J service) d.node.links → (run.guests ≡ false → ⊥) → AreGranted run.leaked whole n line log seals → AllByRecursion IsNotIssued entries
-      → AllByRecursion (EntryTold d input reading entries seals) entries → EachBehind (EntryLaw run.guests) J entries
+  pub told-laws : (entries : List Entry) (seals : List SealEntry) → Inv run whole us log J → AreFetched run us service asker.view.generations → AllGood run J
+      → (run.good ≡ true → AllByRecursion (IsBackedLink J service) d.node.links) → (run.guests ≡ false → ⊥) → AreGranted run.leaked whole n line log seals
+      → AllByRecursion IsNotIssued entries → AllByRecursion (EntryTold d input reading entries seals) entries → EachBehind (EntryLaw run) J entries
   told-laws entries seals i fetched good backed come g none told =
-      subst (λ (l : List Entry). EachBehind (EntryLaw run.guests) l entries) (append-nil J)
-      (each-law entries seals i fetched good backed come g [] entries refl none told)
+      subst (λ (l : List Entry). EachBehind (EntryLaw run) l entries) (append-nil J) (each-law entries seals i fetched good backed come g [] entries refl none told)

@@ -1,5 +1,5 @@
 -- What a step enters in the journal, and the law of each entry behind those before it.
-use Rattle.std.proofs.Common.{◌≡◌, ◌⊎◌, ℕ, Bool, false, List, [], ◌∷◌, ◌++◌, inl, inr, sym, ap, ◌∙◌, subst}
+use Rattle.std.proofs.Common.{◌≡◌, ◌⊎◌, ℕ, Bool, false, true, List, [], ◌∷◌, ◌++◌, inl, inr, sym, ap, ◌∙◌, subst}
 use Rattle.std.specs.Prelude.{Contains}
 use Rattle.std.proofs.lemmas.List.Elements.{Contains-push_cases}
 use Rattle.cx_base.specs.Names.{Name}
@@ -37,23 +37,22 @@ IsLoginEntry (journal.Leaked name) = Unit {0}
 IsLoginEntry (journal.Fetched f) = Unit {0}
 IsLoginEntry _ = ⊥
 
--- the law of an entry, behind the earlier ones, of a run to whose daemons guests come or not: where none come, it is one of a login
-pub record EntryLaw (guests : Bool) (earlier : List Entry) (e : Entry) : Type 0 where
-  pub login : guests ≡ false → IsLoginEntry e
+-- what is said of a session that is entered, and of a refusal of a ticket
+pub record ToldLaw (earlier : List Entry) (e : Entry) : Type 0 where
   pub backed : IsBackedBy earlier e
   pub keeps_keys : KeepsKeysBy earlier e
   pub keeps_expiry : KeepsExpiryBy earlier e
+
+-- the law of an entry of a run, behind the earlier ones: where no guests come to daemons, it is one of a login
+pub record EntryLaw (run : WholeRun) (earlier : List Entry) (e : Entry) : Type 0 where
+  pub login : run.guests ≡ false → IsLoginEntry e
+  pub told : run.good ≡ true → ToldLaw earlier e
   pub gid_once : GivesGidOnceBy earlier e
 
 -- the journal behind these entries
 abbrev pub entered : List Entry → List Entry → List Entry
 entered J [] = J
 entered J (e ∷ es) = entered (J ++ e ∷ []) es
-
-record PlainLaw (earlier : List Entry) (e : Entry) : Type 0 where
-  backed : IsBackedBy earlier e
-  keeps_keys : KeepsKeysBy earlier e
-  keeps_expiry : KeepsExpiryBy earlier e
 
 pub needs-none : (earlier : List Entry) (at : NodeName) (link : ℕ) (why : Reason) → IsOfLogin why → NeedsFor earlier at link why
 needs-none earlier node.Monitor link why h = tt
@@ -65,27 +64,25 @@ expired-none earlier node.Monitor why h = tt
 expired-none earlier (node.Entity daemon) (reason.Ticket fault blob) h = absurd h
 expired-none earlier (node.Entity daemon) _ h = tt
 
-login-plain : (earlier : List Entry) (e : Entry) → IsLoginEntry e → PlainLaw earlier e
-login-plain earlier (journal.Saved x) h = record { backed = tt; keeps_keys = tt; keeps_expiry = tt }
-login-plain earlier (journal.Issued x) h = record { backed = tt; keeps_keys = tt; keeps_expiry = tt }
-login-plain earlier (journal.Refused r) h = record { backed = tt; keeps_keys = needs-none earlier r.node r.link r.reason h; keeps_expiry = expired-none earlier r.node r.reason h }
-login-plain earlier (journal.Restarted x) h = record { backed = tt; keeps_keys = tt; keeps_expiry = tt }
-login-plain earlier (journal.Leaked x) h = record { backed = tt; keeps_keys = tt; keeps_expiry = tt }
-login-plain earlier (journal.Fetched x) h = record { backed = tt; keeps_keys = tt; keeps_expiry = tt }
-login-plain earlier (journal.Looked x) h = absurd h
-login-plain earlier (journal.Admitted x) h = absurd h
-login-plain earlier (journal.Resumed x) h = absurd h
-login-plain earlier (journal.Sent x) h = absurd h
-login-plain earlier (journal.Handled x) h = absurd h
-login-plain earlier (journal.Answered x) h = absurd h
-login-plain earlier (journal.Ended x) h = absurd h
-login-plain earlier (journal.Broken x) h = absurd h
+pub login-told : (earlier : List Entry) (e : Entry) → IsLoginEntry e → ToldLaw earlier e
+login-told earlier (journal.Saved x) h = record { backed = tt; keeps_keys = tt; keeps_expiry = tt }
+login-told earlier (journal.Issued x) h = record { backed = tt; keeps_keys = tt; keeps_expiry = tt }
+login-told earlier (journal.Refused r) h = record { backed = tt; keeps_keys = needs-none earlier r.node r.link r.reason h; keeps_expiry = expired-none earlier r.node r.reason h }
+login-told earlier (journal.Restarted x) h = record { backed = tt; keeps_keys = tt; keeps_expiry = tt }
+login-told earlier (journal.Leaked x) h = record { backed = tt; keeps_keys = tt; keeps_expiry = tt }
+login-told earlier (journal.Fetched x) h = record { backed = tt; keeps_keys = tt; keeps_expiry = tt }
+login-told earlier (journal.Looked x) h = absurd h
+login-told earlier (journal.Admitted x) h = absurd h
+login-told earlier (journal.Resumed x) h = absurd h
+login-told earlier (journal.Sent x) h = absurd h
+login-told earlier (journal.Handled x) h = absurd h
+login-told earlier (journal.Answered x) h = absurd h
+login-told earlier (journal.Ended x) h = absurd h
+login-told earlier (journal.Broken x) h = absurd h
 
 -- the law of an entry of a login
-pub login-law : (guests : Bool) (earlier : List Entry) (e : Entry) → IsLoginEntry e → GivesGidOnceBy earlier e → EntryLaw guests earlier e
-login-law guests earlier e h gid =
-    let p : PlainLaw earlier e = login-plain earlier e h in
-    record { login = λ none. h; backed = p.backed; keeps_keys = p.keeps_keys; keeps_expiry = p.keeps_expiry; gid_once = gid }
+pub login-law : (run : WholeRun) (earlier : List Entry) (e : Entry) → IsLoginEntry e → GivesGidOnceBy earlier e → EntryLaw run earlier e
+login-law run earlier e h gid = record { login = λ none. h; told = λ known. login-told earlier e h; gid_once = gid }
 
 -- ---- global ids
 
@@ -142,7 +139,7 @@ module _ (run : WholeRun) (whole : List Logged) (n : NodeName) (line : ℕ) wher
     pub uses : Uses
     pub grows : Grows us uses
     pub inv : Inv run whole uses (behind n line es log) (entered J js)
-    pub laws : EachBehind (EntryLaw run.guests) J js
+    pub laws : EachBehind (EntryLaw run) J js
     pub good : Good uses (entered J js)
 
   pub reached-then : (us : Uses) (log : List Logged) (J : List Entry) (xs ys : List SealEntry) (F G : Uses → Type 0) → (r : Reached us log J xs F)

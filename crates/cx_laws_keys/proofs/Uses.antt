@@ -13,12 +13,13 @@ use Rattle.cx_steps.specs.declared.seals.Logged.{Logged}
 use Rattle.cx_steps.specs.declared.seals.SealEntry.{SealEntry}
 use Rattle.cx_steps.specs.declared.seals.SealEntry.TheVariants as entry
 
--- what is fixed for a whole run: which clients leaked; of each service the generations that were ever saved, in whatever state; and whether links
--- of guests come to daemons
+-- what is fixed for a whole run: which clients leaked; of each service the generations that were ever saved, in whatever state; whether links of guests
+-- come to daemons; and whether each of its tickets is known to open where it should
 pub record WholeRun : Type 0 where
   pub leaked : List Name
   pub saved : List (EntityType × Generation)
   pub guests : Bool
+  pub good : Bool
 
 -- the generation was saved as one of this service, with its id and its key
 abbrev pub IsSavedIn : List (EntityType × Generation) → EntityType → Generation → Type 0

@@ -157,7 +157,7 @@ module _ (run : WholeRun) (whole_log : List Logged) (n : NodeName) (line : ℕ) 
 
   -- behind all that is sealed but the parts of AUTH_SIGNATURE
   finishing : (a : MonitorArrival) (name : Name) (gid : ℕ) (done : Finished) (vs ws : Uses) (log1 : List Logged) (all : List SealEntry) (js : List Entry) → Finishes a name done → Grows vs ws
-      → Inv run whole_log ws (behind n line all log1) (entered J js) → EachBehind (EntryLaw run.guests) J js → OwnOk before owner ws J a.own → AreBelow (entered J js) a.own.server.state.next_gid
+      → Inv run whole_log ws (behind n line all log1) (entered J js) → EachBehind (EntryLaw run) J js → OwnOk before owner ws J a.own → AreBelow (entered J js) a.own.server.state.next_gid
       → ((s : Issued) → Contains (entered J js) (journal.Issued s) → owner s.gid ≡ Some s.entity) → name_form.Fits name → owner gid ≡ Some name
       → length a.draw ≡ 384 → Means ws (session_of Auth a.draw) (Login name) → IsConnected ws (take 16 (connection_of a.draw)) name
       → After run whole_log n line vs log1 J (all ++ done.seals) js (HandedOk a name gid done.secured.keys)

@@ -85,8 +85,8 @@ module _ (run : WholeRun) (whole : List Logged) (us : Uses) (log : List Logged) 
 
   -- its law
   issued-law : (K : List Entry) (t : Ticket) → TicketOk name gid reading block t → IsOf K name gid
-      → (t.service ≡ Auth → (s : Issued) → Contains K (journal.Issued s) → s.gid ≡ gid → IsLive K name gid reading) → EntryLaw run.guests K (issued_entry t)
-  issued-law K t ok of live = login-law run.guests K (issued_entry t) tt shares
+      → (t.service ≡ Auth → (s : Issued) → Contains K (journal.Issued s) → s.gid ≡ gid → IsLive K name gid reading) → EntryLaw run K (issued_entry t)
+  issued-law K t ok of live = login-law run K (issued_entry t) tt shares
     where
       renews : IsLive K name gid reading → Renews K (issued_of t)
       renews l =
@@ -107,7 +107,7 @@ module _ (run : WholeRun) (whole : List Logged) (us : Uses) (log : List Logged) 
   -- behind some tickets
   pub record AreEntered (K : List Entry) (js : List Entry) (ts : List Ticket) : Type 0 where
     pub numbered : IsNumbered (entered K js)
-    pub laws : EachBehind (EntryLaw run.guests) K js
+    pub laws : EachBehind (EntryLaw run) K js
     pub has : AllByRecursion (λ (t : Ticket). Contains (entered K js) (issued_entry t)) ts
 
   others-entered : (K : List Entry) (ts : List Ticket) → Others ts → gid < mark → IsNumbered K → AreEntered K (map issued_entry ts) ts
@@ -153,7 +153,7 @@ module _ (run : WholeRun) (whole : List Logged) (us : Uses) (log : List Logged) 
       let K : List Entry = J ++ journal.Saved state.next_gid ∷ [] in
       let first : IsNumbered K = saved-numbered J state.next_gid (record { inv = i; of = of; below = below; owned = owned }) in
       let more = others-entered K ts others low first in
-      record { numbered = more.numbered; laws = (login-law run.guests J (journal.Saved state.next_gid) tt tt, more.laws); has = more.has }
+      record { numbered = more.numbered; laws = (login-law run J (journal.Saved state.next_gid) tt tt, more.laws); has = more.has }
 
   -- all that a login enters
   pub login-entered : (J : List Entry) (save : Option KeptState) (t : Ticket) (ts : List Ticket) → FirstOk name gid reading block t ts → gid < mark
@@ -164,4 +164,4 @@ module _ (run : WholeRun) (whole : List Logged) (us : Uses) (log : List Logged) 
       let first : IsNumbered K = saved-numbered J state.next_gid (record { inv = i; of = given.of; below = below; owned = owned }) in
       let more = tickets-entered K t ts ok low
       (λ s has same. live-saved J state.next_gid (given.renews s (has-before J (journal.Saved state.next_gid) tt s has) same)) first in
-      record { numbered = more.numbered; laws = (login-law run.guests J (journal.Saved state.next_gid) tt tt, more.laws); has = more.has }
+      record { numbered = more.numbered; laws = (login-law run J (journal.Saved state.next_gid) tt tt, more.laws); has = more.has }

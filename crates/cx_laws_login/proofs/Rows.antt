@@ -110,19 +110,19 @@ none-given J (journal.Restarted x) h = tt
 none-given J (journal.Broken x) h = tt
 none-given J (journal.Leaked x) h = tt
 
-quiet-law : (guests : Bool) (J : List Entry) (e : Entry) → IsQuietEntry e → EntryLaw guests J e
-quiet-law guests J e h = login-law guests J e h.0 (none-given J e h.1)
+quiet-law : (run : WholeRun) (J : List Entry) (e : Entry) → IsQuietEntry e → EntryLaw run J e
+quiet-law run J e h = login-law run J e h.0 (none-given J e h.1)
 
 module _ (run : WholeRun) (whole : List Logged) (n : NodeName) (line : ℕ) where
   -- behind entries that issue nothing, where what is said of a node stays so
   pub quiet-entries : (us : Uses) (log : List Logged) (J : List Entry) (js : List Entry) (Good : Uses → List Entry → Type 0)
       → ((K : List Entry) (e : Entry) → IsNotIssued e → Good us K → Good us (K ++ e ∷ []))
       → AllByRecursion IsQuietEntry js → Inv run whole us log J → Good us J
-      → Inv run whole us log (entered J js) × EachBehind (EntryLaw run.guests) J js × Good us (entered J js)
+      → Inv run whole us log (entered J js) × EachBehind (EntryLaw run) J js × Good us (entered J js)
   quiet-entries us log J [] Good keeps q i good = (i, tt, good)
   quiet-entries us log J (e ∷ js) Good keeps q i good =
       let more = quiet-entries us log (J ++ e ∷ []) js Good keeps q.1 (inv-entered run whole us log J e i (own-other J e q.0.1 i.own)) (keeps J e q.0.1 good) in
-      (more.0, (quiet-law run.guests J e q.0, more.1), more.2)
+      (more.0, (quiet-law run J e q.0, more.1), more.2)
 
   -- the same behind what was reached in the log
   pub after-quiet : (us : Uses) (log : List Logged) (J : List Entry) (es : List SealEntry) (js : List Entry) (F : Uses → Type 0) (Good : Uses → List Entry → Type 0)
