@@ -43,7 +43,8 @@ use Rattle.cx_laws_run.proofs.Saves.{inv-failed, thick}
 use Rattle.cx_run.proofs.DaemonNamed.{daemon-named}
 use Rattle.cx_rules_session.specs.DaemonRule.{DaemonNode, DaemonStage, DaemonState, daemon_step}
 use Rattle.cx_laws_authorize.proofs.Backing.{AreGood, IsGood, backing-grows, AllGood}
-use Rattle.cx_laws_authorize.proofs.DaemonStep.{DaemonStageOk, IsNoGuest, IsNoLook, daemon-after, daemon_says, daemon_stage-grows}
+use Rattle.cx_laws_authorize.specs.Coming.{IsNoGuest, IsNoLook}
+use Rattle.cx_laws_authorize.proofs.DaemonStep.{DaemonStageOk, daemon-after, daemon_says, daemon_stage-grows}
 use Rattle.cx_laws_authorize.proofs.Telling.{IsBackedLink}
 use Rattle.cx_laws_keys.proofs.Steps.{inv-saved, within-itself}
 use Rattle.std.proofs.lemmas.List.Elements.{Contains-append_cases}
@@ -62,7 +63,7 @@ pub record DaemonOk (run : WholeRun) (us : Uses) (J : List Entry) (d : DaemonNod
   pub known : AskerKnown run us d.own.asker.name d.own.asker.secret d.own.asker.view
   pub of : is_daemon_type d.own.asker.name.kind ≡ true
   pub links : AllByRecursion (λ (l : Link DaemonStage). DaemonStageOk run us (node.Entity d.own.asker.name) l.stage) d.links
-  pub backed : (run.guests ≡ false → ⊥) → AllByRecursion (IsBackedLink J d.own.asker.name.kind) d.links
+  pub backed : run.good ≡ true → AllByRecursion (IsBackedLink J d.own.asker.name.kind) d.links
 
 abbrev pub EntityOk : WholeRun → Uses → List Entry → EntityNode → Type 0
 EntityOk run us J (OfClient c) = ClientOk run us c
@@ -88,8 +89,8 @@ entity-grows run us vs J K (OfDaemon d) f w h =
       of = h.of;
       links = all-map (λ (l : Link DaemonStage). DaemonStageOk run us n l.stage) (λ (l : Link DaemonStage). DaemonStageOk run vs n l.stage)
           (λ l st. daemon_stage-grows run us vs n l.stage f st) d.node.links h.links;
-      backed = λ come. all-map (IsBackedLink J d.node.own.asker.name.kind) (IsBackedLink K d.node.own.asker.name.kind)
-          (λ l b x has. backing-grows J K d.node.own.asker.name.kind x w (b x has)) d.node.links (h.backed come);
+      backed = λ known. all-map (IsBackedLink J d.node.own.asker.name.kind) (IsBackedLink K d.node.own.asker.name.kind)
+          (λ l b x has. backing-grows J K d.node.own.asker.name.kind x w (b x has)) d.node.links (h.backed known);
     }
 
 entities-grow : (run : WholeRun) (us vs : Uses) (J K : List Entry) (es : List EntityNode) → Grows us vs → Within J K → EntitiesOk run us J es → EntitiesOk run vs K es
@@ -141,14 +142,14 @@ unvisited-looks n Tick h = tt
 unvisited-looks n (Submit said) h = tt
 unvisited-looks n Restart h = tt
 
--- what is so of an event of the run: what comes; the state that is saved behind it is one that was saved in the run; and its tickets are good, where guests
--- come. No daemon is told a view but by a reply
+-- what is so of an event of the run: what comes; the state that is saved behind it is one that was saved in the run; and its tickets are good, where that
+-- is known. No daemon is told a view but by a reply
 pub record Occurs (run : WholeRun) (nodes : Nodes) (h : Happening) : Type 0 where
   pub drawn : length h.draw ≡ 384
   pub looks : IsNoLook h.input
   pub comes : run.guests ≡ false → IsUnvisited h.node h.input
   pub recorded : AreRecorded run (steps nodes h).nodes.monitor.own.saved
-  pub good : (run.guests ≡ false → ⊥) → (t : Issued) → Contains (steps nodes h).out.entries (journal.Issued t) → IsGood run t
+  pub good : run.good ≡ true → (t : Issued) → Contains (steps nodes h).out.entries (journal.Issued t) → IsGood run t
 
 abbrev pub AllOccur : WholeRun → Nodes → List Happening → Type 0
 AllOccur run nodes [] = Unit {0}
@@ -256,7 +257,7 @@ module _ (run : WholeRun) (whole : List Logged) (us : Uses) (log : List Logged) 
         known = a.good.own.known;
         of = subst (λ (m : Name). is_daemon_type m.kind ≡ true) (sym kept) known.of;
         links = subst (λ (n : NodeName). AllByRecursion (λ (l : Link DaemonStage). DaemonStageOk run a.uses n l.stage) o.state.node.links) still a.good.links;
-        backed = λ come. subst (λ (m : Name). AllByRecursion (IsBackedLink (entered J o.out.entries) m.kind) o.state.node.links) (sym kept) (b.backed come);
+        backed = λ known. subst (λ (m : Name). AllByRecursion (IsBackedLink (entered J o.out.entries) m.kind) o.state.node.links) (sym kept) (b.backed known);
       } in
       record {
         uses = a.uses;
@@ -352,14 +353,14 @@ module _ (run : WholeRun) (whole : List Logged) (us : Uses) (log : List Logged) 
   event-after h i ok good m g = at-node h h.node i ok m.drawn m.looks m.comes good m.recorded g
 
 -- all tickets are good behind an event
-pub good-behind : (run : WholeRun) (J js : List Entry) → AllGood run J → ((run.guests ≡ false → ⊥) → (t : Issued) → Contains js (journal.Issued t) → IsGood run t)
+pub good-behind : (run : WholeRun) (J js : List Entry) → AllGood run J → (run.good ≡ true → (t : Issued) → Contains js (journal.Issued t) → IsGood run t)
     → AllGood run (entered J js)
-good-behind run J js before here come t has =
+good-behind run J js before here known t has =
     by_place (Contains-append_cases J js (journal.Issued t) (subst (λ (l : List Entry). Contains l (journal.Issued t)) (entered-append J js) has))
   where
     by_place : Contains J (journal.Issued t) ⊎ Contains js (journal.Issued t) → IsGood run t
-    by_place (inl was) = before come t was
-    by_place (inr now) = here come t now
+    by_place (inl was) = before known t was
+    by_place (inr now) = here known t now
 
 -- ---- every list of events
 
@@ -370,7 +371,7 @@ entries-by h (e ∷ es) = ap (λ (l : List Entry). e ∷ l) (entries-by h es)
 
 pub events-law : (run : WholeRun) (whole : List Logged) (hs : List Happening) (nodes : Nodes) (us : Uses) (log : List Logged) (J : List Entry) → Inv run whole us log J
     → NodesOk run nodes us J → AllGood run J → AllOccur run nodes hs → EachOnto (IsGranted run.leaked whole) log (seals_from nodes hs)
-    → EachBehind (EntryLaw run.guests) J (map (λ (x : Entered). x.entry) (journal_from nodes hs))
+    → EachBehind (EntryLaw run) J (map (λ (x : Entered). x.entry) (journal_from nodes hs))
 events-law run whole [] nodes us log J i ok good m g = tt
 events-law run whole (h ∷ hs) nodes us log J i ok good m g =
     let s : Stepped = steps nodes h in
@@ -378,7 +379,7 @@ events-law run whole (h ∷ hs) nodes us log J i ok good m g =
     let a = event-after run whole us log J nodes h i ok good m.0 gs.0 in
     let rest = events-law run whole hs s.nodes a.uses (behind h.node h.line s.out.seals log) (entered J s.out.entries) a.inv a.good (good-behind run J s.out.entries good m.0.good) m.1 gs.1 in
     let later : List Entry = map (λ (x : Entered). x.entry) (journal_from s.nodes hs) in
-    let both : EachBehind (EntryLaw run.guests) J (s.out.entries ++ later) = behind-append (EntryLaw run.guests) J s.out.entries later a.laws rest in
+    let both : EachBehind (EntryLaw run) J (s.out.entries ++ later) = behind-append (EntryLaw run) J s.out.entries later a.laws rest in
     let same : map (λ (x : Entered). x.entry) (entered_by h s.out ++ journal_from s.nodes hs) ≡ s.out.entries ++ later =
     map-append (λ (x : Entered). x.entry) (entered_by h s.out) (journal_from s.nodes hs) ∙ ap (λ (l : List Entry). l ++ later) (entries-by h s.out.entries) in
-    subst (λ (l : List Entry). EachBehind (EntryLaw run.guests) J l) (sym same) both
+    subst (λ (l : List Entry). EachBehind (EntryLaw run) J l) (sym same) both

@@ -7,14 +7,15 @@ use Rattle.cx_base.specs.declared.operations.Operation.{Operation}
 use Rattle.cx_journal.specs.Backed.{IsBackedBy}
 use Rattle.cx_journal.specs.Behind.{EachBehind}
 use Rattle.cx_journal.specs.Enforced.{IsEnforcedBy}
-use Rattle.cx_journal.specs.GidOnce.{GivesGidOnceBy}
+use Rattle.cx_journal.specs.GidOnce.{GivesGidOnce, GivesGidOnceBy}
 use Rattle.cx_journal.specs.InSession.{IsInSessionBy}
 use Rattle.cx_journal.specs.KeepsKeys.{KeepsKeysBy}
 use Rattle.cx_journal.specs.PrefixOfSent.{IsPrefixOfSent, all_handled_under, handled_under, sent_under}
 use Rattle.cx_journal.specs.Truthful.{IsTruthfulBy}
 use Rattle.cx_journal.specs.declared.entries.Entry.{Entry}
 use Rattle.cx_journal.specs.declared.entries.Entry.TheVariants as journal
-use Rattle.cx_laws_keys.proofs.Journal.{EntryLaw, IsLoginEntry, entered}
+use Rattle.cx_laws_keys.proofs.Journal.{EntryLaw, IsLoginEntry, entered, login-told}
+use Rattle.cx_laws_keys.proofs.Uses.{WholeRun}
 use Rattle.cx_laws_run.specs.Laws.{KeepsLaws}
 
 behind-map : (P Q : List Entry → Entry → Type 0) → ((earlier : List Entry) (e : Entry) → P earlier e → Q earlier e) → (J es : List Entry) → EachBehind P J es → EachBehind Q J es
@@ -52,9 +53,9 @@ no-handling (journal.Broken x) h = absurd h
 
 -- ---- nothing is handled
 
-all-login : (J es : List Entry) → EachBehind (EntryLaw false) J es → AllByRecursion IsLoginEntry es
-all-login J [] h = tt
-all-login J (e ∷ es) h = (h.0.login refl, all-login (J ++ e ∷ []) es h.1)
+all-login : (run : WholeRun) → run.guests ≡ false → (J es : List Entry) → EachBehind (EntryLaw run) J es → AllByRecursion IsLoginEntry es
+all-login run none J [] h = tt
+all-login run none J (e ∷ es) h = (h.0.login none, all-login run none (J ++ e ∷ []) es h.1)
 
 all-front : (xs ys : List Entry) → AllByRecursion IsLoginEntry (xs ++ ys) → AllByRecursion IsLoginEntry xs
 all-front [] ys h = tt
@@ -74,15 +75,19 @@ prefix es h before after is cookie entity unleaked =
     (sent, ap (λ (l : List (ℕ × Operation)). l ++ sent) (sym none))
 
 -- of a run to whose daemons no guests come
-pub keeps-laws : (has_handler : Access → Bool) (es : List Entry) → EachBehind (EntryLaw false) [] es → KeepsLaws has_handler es
-keeps-laws has_handler es h = record {
+pub keeps-laws : (run : WholeRun) → run.guests ≡ false → (has_handler : Access → Bool) (es : List Entry) → EachBehind (EntryLaw run) [] es → KeepsLaws has_handler es
+keeps-laws run none has_handler es h = record {
   legal = record {
-    backed = behind-map (EntryLaw false) IsBackedBy (λ j e law. law.backed) [] es h;
-    in_session = behind-map (EntryLaw false) IsInSessionBy (λ j e law. (no-handling e (law.login refl)).in_session j) [] es h;
-    keeps_keys = behind-map (EntryLaw false) KeepsKeysBy (λ j e law. law.keeps_keys) [] es h;
-    prefix_of_sent = prefix es (all-login [] es h);
-    gid_once = behind-map (EntryLaw false) GivesGidOnceBy (λ j e law. law.gid_once) [] es h;
+    backed = behind-map (EntryLaw run) IsBackedBy (λ j e law. (login-told j e (law.login none)).backed) [] es h;
+    in_session = behind-map (EntryLaw run) IsInSessionBy (λ j e law. (no-handling e (law.login none)).in_session j) [] es h;
+    keeps_keys = behind-map (EntryLaw run) KeepsKeysBy (λ j e law. (login-told j e (law.login none)).keeps_keys) [] es h;
+    prefix_of_sent = prefix es (all-login run none [] es h);
+    gid_once = behind-map (EntryLaw run) GivesGidOnceBy (λ j e law. law.gid_once) [] es h;
   };
-  enforced = behind-map (EntryLaw false) (IsEnforcedBy has_handler) (λ j e law. (no-handling e (law.login refl)).enforced has_handler j) [] es h;
-  truthful = behind-map (EntryLaw false) (IsTruthfulBy es) (λ j e law. (no-handling e (law.login refl)).truthful es j) [] es h;
+  enforced = behind-map (EntryLaw run) (IsEnforcedBy has_handler) (λ j e law. (no-handling e (law.login none)).enforced has_handler j) [] es h;
+  truthful = behind-map (EntryLaw run) (IsTruthfulBy es) (λ j e law. (no-handling e (law.login none)).truthful es j) [] es h;
 }
+
+-- of every run
+pub gives-once : (run : WholeRun) (es : List Entry) → EachBehind (EntryLaw run) [] es → GivesGidOnce es
+gives-once run es h = behind-map (EntryLaw run) GivesGidOnceBy (λ j e law. law.gid_once) [] es h

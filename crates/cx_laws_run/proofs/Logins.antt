@@ -174,5 +174,5 @@ run-logins run setup hs same clients occur sound fresh =
     let K : List Entry = entered [] (map (λ (x : Entered). x.entry) (leaks_entered setup)) in
     let b : Begins run whole setup hs = begins run setup hs same clients sound fresh in
     let owned : EachPoint (Owned setup) (points setup hs) =
-    all-owned run setup same whole hs [] (nodes_of setup) b.uses K b.inv b.nodes (λ come t has. absurd (b.none t has)) occur b.granted tt in
+    all-owned run setup same whole hs [] (nodes_of setup) b.uses K b.inv b.nodes (λ known t has. absurd (b.none t has)) occur b.granted tt in
     each-logs-in setup (points setup hs) (all-heard setup hs) owned

@@ -158,7 +158,7 @@ module _ (run : WholeRun) (setup : Setup) (leaked_is : run.leaked ≡ leaked_of 
         };
         of = of;
         links = tt;
-        backed = λ come. tt;
+        backed = λ known. tt;
       }
       by_test false of = record { known = record { trusted = inl of; own = m; fetched = none-fetched run us e.name.kind }; links = tt }
 
@@ -196,7 +196,7 @@ pub record Begins (run : WholeRun) (whole : List Logged) (setup : Setup) (hs : L
   pub inv : Inv run whole uses (onto (secrets_drawn setup) []) (entered [] (map (λ (x : Entered). x.entry) (leaks_entered setup)))
   pub nodes : NodesOk run (nodes_of setup) uses (entered [] (map (λ (x : Entered). x.entry) (leaks_entered setup)))
   pub granted : EachOnto (IsGranted run.leaked whole) (onto (secrets_drawn setup) []) (seals_from (nodes_of setup) hs)
-  pub laws : EachBehind (EntryLaw run.guests) [] (map (λ (x : Entered). x.entry) (leaks_entered setup))
+  pub laws : EachBehind (EntryLaw run) [] (map (λ (x : Entered). x.entry) (leaks_entered setup))
   pub none : NoneIssued uses (entered [] (map (λ (x : Entered). x.entry) (leaks_entered setup)))
 
 pub begins : (run : WholeRun) (setup : Setup) (hs : List Happening) → run.leaked ≡ leaked_of setup → AllByRecursion (λ (l : Leak). l.client.kind ≡ Client) setup.leaks
@@ -221,14 +221,14 @@ begins run setup hs same clients sound fresh =
 
 pub run-law : (run : WholeRun) (setup : Setup) (hs : List Happening) → run.leaked ≡ leaked_of setup → AllByRecursion (λ (l : Leak). l.client.kind ≡ Client) setup.leaks
     → AllOccur run (nodes_of setup) hs → IsSound (leaked_of setup) (log_since setup hs) → IsFresh (log_since setup hs)
-    → EachBehind (EntryLaw run.guests) [] (journal_since setup hs)
+    → EachBehind (EntryLaw run) [] (journal_since setup hs)
 run-law run setup hs same clients occur sound fresh =
     let whole : List Logged = log_since setup hs in
     let leaks : List Entry = map (λ (x : Entered). x.entry) (leaks_entered setup) in
     let K : List Entry = entered [] leaks in
     let later : List Entry = map (λ (x : Entered). x.entry) (journal_from (nodes_of setup) hs) in
     let b : Begins run whole setup hs = begins run setup hs same clients sound fresh in
-    let law : EachBehind (EntryLaw run.guests) K later =
-    events-law run whole hs (nodes_of setup) b.uses (onto (secrets_drawn setup) []) K b.inv b.nodes (λ come t has. absurd (b.none t has)) occur b.granted in
-    let both : EachBehind (EntryLaw run.guests) [] (leaks ++ later) = behind-append (EntryLaw run.guests) [] leaks later b.laws law in
-    subst (λ (l : List Entry). EachBehind (EntryLaw run.guests) [] l) (sym (map-append (λ (x : Entered). x.entry) (leaks_entered setup) (journal_from (nodes_of setup) hs))) both
+    let law : EachBehind (EntryLaw run) K later =
+    events-law run whole hs (nodes_of setup) b.uses (onto (secrets_drawn setup) []) K b.inv b.nodes (λ known t has. absurd (b.none t has)) occur b.granted in
+    let both : EachBehind (EntryLaw run) [] (leaks ++ later) = behind-append (EntryLaw run) [] leaks later b.laws law in
+    subst (λ (l : List Entry). EachBehind (EntryLaw run) [] l) (sym (map-append (λ (x : Entered). x.entry) (leaks_entered setup) (journal_from (nodes_of setup) hs))) both

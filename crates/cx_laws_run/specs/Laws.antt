@@ -9,7 +9,7 @@ use Rattle.cx_journal.specs.declared.entries.Entry.{Entry}
 use Rattle.cx_base.specs.declared.kinds.EntityType.TheVariants.{Client}
 use Rattle.cx_run.specs.Happenings.{Happening}
 use Rattle.cx_run.specs.Opening.{Leak, Setup}
-use Rattle.cx_run.specs.Visits.{AreUnvisited}
+use Rattle.cx_laws_authorize.specs.Coming.{IsNoLook}
 
 -- only clients leak
 abbrev pub AreClients : Setup → Type 0
@@ -20,12 +20,11 @@ AreClients setup = AllByRecursion (λ (l : Leak). l.client.kind ≡ Client) setu
 abbrev pub AreDrawn : List Happening → Type 0
 AreDrawn hs = AllByRecursion (λ (h : Happening). length h.draw ≡ 384) hs
 
--- what is so of the events of every schedule, from its opening: each has a draw; only clients leak; and neither does a guest come to a daemon, nor is a
--- session dropped, nor is a daemon told a view but by a reply. A daemon that is leaked, or is told a view by hand, could take generations for those of
--- its service that are none
+-- what is so of the events of every schedule, from its opening: each has a draw; only clients leak; and no daemon is told a view but by a reply. A daemon
+-- that is leaked, or is told a view by hand, could take generations for those of its service that are none
 pub record MayHappen (setup : Setup) (hs : List Happening) : Type 0 where
   pub drawn : AreDrawn hs
-  pub unvisited : AreUnvisited hs
+  pub looks : AllByRecursion (λ (h : Happening). IsNoLook h.input) hs
   pub clients : AreClients setup
 
 -- the laws of a journal. No entry speaks of sessions, operations or answers, where no guest comes to a daemon

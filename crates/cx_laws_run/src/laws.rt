@@ -9,6 +9,8 @@ ghost use Rattle.cx_lines.specs.declared.lines.Numbered.{Numbered};
 ghost use Rattle.cx_run.specs.Happenings.{Happening};
 ghost use Rattle.cx_run.specs.Opening.{Setup, leaked_of};
 ghost use Rattle.cx_run.specs.Points.{journal_since, log_since, points};
+ghost use Rattle.cx_run.specs.Visits.{AreUnvisited};
+ghost use Rattle.cx_journal.specs.GidOnce.{GivesGidOnce};
 ghost use Rattle.cx_run.specs.Runs.{IsFoundOf, run_journal, setup_of, trace};
 ghost use Rattle.cx_steps.specs.Premises.{IsFresh, IsSound};
 
@@ -25,8 +27,11 @@ pub fn standing_laws()
 /// Where nothing opens under a key that didn't seal it and no draw repeats, the journal keeps its laws, with daemons that fetch too. No two entities ever get one global id, and a
 /// login keeps one only beside a live ticket of its own.
 pub fn journal_laws()
-    // Of every list of events in which no guest comes to a daemon, from every opening.
-    ensures events { (has_handler : Access → Bool) (setup : Setup) (hs : List Happening) → MayHappen setup hs
+    // Of every list of events, from every opening.
+    ensures once { (setup : Setup) (hs : List Happening) → MayHappen setup hs
+        → IsSound (leaked_of setup) (log_since setup hs) → IsFresh (log_since setup hs) → GivesGidOnce (journal_since setup hs) }
+    // Of each in which no guest comes to a daemon.
+    ensures events { (has_handler : Access → Bool) (setup : Setup) (hs : List Happening) → MayHappen setup hs → AreUnvisited hs
         → IsSound (leaked_of setup) (log_since setup hs) → IsFresh (log_since setup hs) → KeepsLaws has_handler (journal_since setup hs) }
     // So of the run of every schedule in which no breach of the two premises is found.
     ensures schedules { (has_handler : Access → Bool) (script : List Numbered) → AreClients (setup_of script) → IsFoundOf script None
@@ -36,7 +41,7 @@ pub fn journal_laws()
 /// There, too, the proof that was found equal on the link on which a ticket was issued was signed before by the entity's own node, where the entity isn't
 /// leaked; and where the ticket is one that was asked for once the link was open, that node sealed what opened first of the frame which came.
 pub fn login_laws()
-    // Of every such list of events, from every opening.
+    // Of every list of events, from every opening.
     ensures events { (setup : Setup) (hs : List Happening) → MayHappen setup hs
         → IsSound (leaked_of setup) (log_since setup hs) → IsFresh (log_since setup hs) → LogIn setup (points setup hs) }
     // So of the run of every schedule in which no breach of the two premises is found.
