@@ -8,7 +8,7 @@ import struct
 
 from answering import ROTATING, TICKETS, Bearer, Monitor, State, Way
 from answering import blob, header, parts_of, request, ticket_info, ticket_list, ticket_part, time, told_generations
-from broken import changed, flipped, plain, units_of
+from broken import changed, denial, flipped, plain, units_of
 from ciphers import enveloped, secret_of
 from runs import event_told, heads_of, heads_told, key_text, place_of, row_of
 
@@ -701,6 +701,32 @@ def spent_ids(run, scene, first):
         yield from play.end()
 
 
+def spent_logins(run, last):
+    """A monitor whose generations of AUTH, or of OSD, have the last ids and are over, or whose global ids were all given: the recorded login of a client
+    that asks for a ticket for OSD."""
+    recorded = next(line for words, told in run.blocks for line in told if line.startswith("save "))
+    rows = [(words, told) for words, told in run.blocks[:last] if words[0] == "mon" and words[2] == CLIENT]
+    proof = next(i for i, (_, told) in enumerate(rows) if "entry issued" in told)
+    frame = bytes.fromhex(rows[proof - 1][0][3])
+    for what, service, reason in (
+        ("generations of AUTH with the last ids, which are over", "auth", "ids-spent"),
+        ("generations of OSD with the last ids, which are over", "osd", "ids-spent"),
+        ("the last global id was given", None, "gids-spent"),
+    ):
+        state = State(bytes.fromhex(recorded[5:]))
+        if service:
+            state.generations[service] = [(2**64 - 6 + i, bytes([i]) * 16, 100 * (i + 1)) for i in range(3)]
+        else:
+            state.next_gid = LAST
+        heads = [f"{row} {state.bytes().hex()}" if row.startswith("monitor") else row for row in run.heads]
+        yield from begun(f"# spent_logins: {what}", heads)
+        yield from ((row_of(words), event_told(words, told, logs=True)) for words, told in rows[:proof])
+        words = rows[proof][0]
+        yield (row := f"again {len(heads) + proof} a login"), [row]
+        yield row_of(words), ["mon turn 2", *given(CLIENT, None, [None], denial(frame[:28], 13), shut=True)]
+        yield "journal", [f"refused mon {CLIENT} {reason}"]
+
+
 # ---- the monitor's two calls alone: what no frames of a run can bring to it
 
 
@@ -748,4 +774,5 @@ def tried_asked(run):
     yield from spent_counters(run, login, renew)
     yield from more_tickets(run, open_links, renew)
     yield from spent_ids(run, first, login)
+    yield from spent_logins(run, renew)
     yield from unmet(run)

@@ -12,7 +12,7 @@ class Unit:
 
     def __init__(self, event, came, start, kind, way=None, parts=()):
         self.event, self.came, self.start, self.kind, self.way, self.parts = event, came, start, kind, way, list(parts)
-        self.bytes = b""
+        self.bytes, self.lengths = b"", None
 
     def preamble(self):
         return self.bytes[:32] if self.kind == "plain" else self.parts[0][:32]
@@ -99,7 +99,7 @@ def broken_plain(unit):
     yield "a length that is too large", plain(changed(head, 2, struct.pack("<I", 65537)), segment), "too-long"
     yield "a tag that there isn't", plain(changed(head, 0, b"\x15"), segment), "bad-shape"
     yield "a tag that isn't due", plain(changed(head, 0, b"\x14"), segment), "unexpected 20"
-    for base, place, fault, field in LENGTHS.get(unit.tag(), []):
+    for base, place, fault, field in LENGTHS.get(unit.tag(), []) if unit.lengths is None else unit.lengths:
         long = changed(segment, base + place, struct.pack("<I", 65536))
         yield f"a length of a {field} that is too large", plain(head, long), f"malformed {fault}"
 
@@ -130,6 +130,7 @@ def wrong_plain(unit):
     if head[0] == 2:
         yield "another method", plain(head, flipped(segment, 0)), "method", 95
         yield "modes without the secure one", plain(head, changed(segment, 8, bytes(4) * segment[4])), "mode", 95
+        yield "another name", plain(head, changed(segment, 29, b"b")), "unknown-entity", 13
     if head[0] == 5:
         yield "another proof", plain(head, flipped(segment, 4 + 2 + 1 + 8)), "wrong-proof", 13
     if head[0] == 6:
@@ -159,6 +160,8 @@ def broken_sealed(unit):
     yield "a length that is too large", anew(changed(head, 2, struct.pack("<I", 1048577))), "too-long"
     yield "a tag that there isn't", anew(changed(head, 0, b"\x15")), "bad-shape"
     yield "a tag that isn't due", anew(changed(head, 0, b"\x14")), "unexpected 20"
+    if head[0] == 7:
+        yield "another signature", unit.anew([flipped(first, 32), *others]), "signature-wrong"
     if head[1] > 1:
         yield from broken_segments(unit)
 
@@ -205,12 +208,12 @@ def tried_requests(run):
         yield from tried_unit(run, run.blocks, unit, is_open=True)
 
 
-def tried_unit(run, blocks, unit, is_open):
+def tried_unit(run, blocks, unit, is_open, wrong=wrong_plain, connects=("client.a",)):
     words = blocks[unit.event][0]
     node, link = words[0], words[2]
     so_far = run.entered(unit.event)
     half = unit.bytes[: len(unit.bytes) // 2]
-    lost = [f"refused {node} {link} lost"] if node == "client.a" and not is_open else []
+    lost = [f"refused {node} {link} lost"] if node in connects and not is_open else []
     yield from again(unit, blocks, run, "its first half, and then the link is gone", half)
     yield row_of(words), [f"{node} turn {link}"]
     yield f"at {node} 1000 0 gone {link}", [f"{node} gone {link}"] + ["  entries 1"] * len(lost)
@@ -219,7 +222,7 @@ def tried_unit(run, blocks, unit, is_open):
         yield from again(unit, blocks, run, what, new)
         yield row_of(words), [f"{node} turn {link}", "  entries 1", f"  shut {link}"]
         yield "journal", so_far + [f"refused {node} {link} {reason}"]
-    for what, new, reason, code in wrong_plain(unit) if unit.kind == "plain" else ():
+    for what, new, reason, code in wrong(unit) if unit.kind == "plain" and wrong else ():
         yield from again(unit, blocks, run, what, new)
         sent = [f"  send {link} {denial(unit.preamble()[:28], code).hex()}"] if code else []
         yield row_of(words), [f"{node} turn {link}", "  entries 1", *sent, f"  shut {link}"]

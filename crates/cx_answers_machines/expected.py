@@ -14,7 +14,6 @@ from asked import tried_asked
 from broken import tried_login, tried_requests
 from daemons import tried_daemons
 from runs import RUNS, Run
-from whole import WHOLE, WholeRun
 
 # What is tried behind which run.
 BEHIND = {"kept_gid": (tried_login,), "renewed_tickets": (tried_requests, tried_asked, tried_daemons)}
@@ -29,10 +28,6 @@ def main():
             for row, told in tried(run):
                 for line in [row] if sys.argv[1] == "rows" else told:
                     print(line)
-    for name in WHOLE:
-        run = WholeRun(name)
-        for line in run.rows() if sys.argv[1] == "rows" else run.answers():
-            print(line)
 
 
 if __name__ == "__main__":

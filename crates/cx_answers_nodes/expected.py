@@ -166,7 +166,7 @@ class Alone:
             yield f"monitor {seeds.get('mon', 0)} 3600 {life}"
         for i, (entity, _) in enumerate(entities):
             if entity == self.node:
-                yield f"client {seeds.get(entity, i + 1)} {entity} {i + 1} {modes.get(entity, 'crc,secure')}"
+                yield f"client {entity} {seeds.get(entity, i + 1)} {i + 1} {modes.get(entity, 'crc,secure')}"
         for reading, same in itertools.groupby(self.readings):
             yield f"at {reading} {len(list(same))}"
         yield from (f"fails {row}" for row in self.fails)

@@ -2,20 +2,56 @@
 
 ghost use Rattle.std.specs.Prelude.{◌<◌};
 
-use crate::events::reading_of;
-use crate::nodes::{Draws, client_name};
 use cx_answering::hear;
+use cx_answers_rows::{Draws, Others, client_name, reading_of, server_of};
 use cx_base::{Blob, Items, Reading};
+use cx_dice::Draw;
 use cx_frame::{Frame, Segment};
 use cx_journal::Reason;
 use cx_keyserver::KeyServer;
 use cx_mon_grants::{Bearer, Occasion, Response, answer};
+use cx_steps::{Effects, Event};
 use cx_wire::Request;
 use std::alloc::{AllocError, Global};
 
-/// What is told of a row `NAME LAST READING HEADER BODY`: whether the message with this header and body is answered, on the open link of the client
-/// of this name whose last message had that number.
-pub fn asked(alloc: Global, server: KeyServer, row: &str) -> Result<String, AllocError> {
+/// Beside the monitor and clients there are no nodes, and of other rows those of requests.
+#[derive(Drop)]
+pub struct Requests {}
+
+impl Others for Requests {
+    fn anew(&self, _alloc: Global) -> Requests {
+        Requests {}
+    }
+
+    fn told(
+        &mut self,
+        alloc: Global,
+        ring: &[u8],
+        _kind: &str,
+        rest: &str,
+    ) -> Result<String, AllocError> {
+        asked(alloc, server_of(alloc, ring)?, rest)
+    }
+
+    fn draw(&mut self, _node: &str, _number: u32) -> Option<Draw> {
+        None
+    }
+
+    fn step(
+        &mut self,
+        _alloc: Global,
+        _node: &str,
+        _event: Event<'_>,
+        _now: Reading,
+        _draw: &Draw,
+    ) -> Result<Option<Effects>, AllocError> {
+        Ok(None)
+    }
+}
+
+// What is told of a row `NAME LAST READING HEADER BODY`: whether the message with this header and body is answered, on the open link of the client
+// of this name whose last message had that number.
+fn asked(alloc: Global, server: KeyServer, row: &str) -> Result<String, AllocError> {
     let mut words = row.split(' ');
     let word = words.next().unwrap_or("");
     let last = words.next().unwrap_or("");
@@ -81,7 +117,7 @@ fn unanswered(
 {
     let mut server = server;
     let saved = server.state();
-    let draw = Draws::new(alloc, "1").draw(0);
+    let draw = Draws::new(alloc, 1).draw(0);
     let at = Occasion {
         saved: &saved,
         reading,

@@ -1,35 +1,17 @@
-//! Known answers of the machines. Rows name the keyring, the monitor, the clients and the daemons of a recorded run, and what comes to them, event by
+//! Known answers of the machines of the monitor and of clients. Rows name the keyring and the nodes of a recorded run, and what comes to them, event by
 //! event with its reading and its draw. For each event the program prints what the node gave, and at the end of a run its journal.
 #![tactic(auto)]
 
 mod asked;
-mod events;
-mod nodes;
-mod rows;
-mod shown;
 
-use cx_base::{Access, Blob};
-use cx_caps::Permitted;
-use cx_desk::Desk;
-use rows::Rows;
-use std::alloc::{AllocError, Global};
+use asked::Requests;
+use cx_answers_rows::Rows;
 use std::io;
 
 fn main(rt: HostRuntime) -> io::Result<()> {
     let alloc = rt.alloc();
     let text = io::read_to_string(alloc, rt.stdin())?;
-    let mut desk = Desk::empty();
-    let read = |alloc: Global, ask: &Permitted| Blob::of(alloc, ask.operation().object.bytes());
-    desk.set(Access::Read, Box::new(alloc, read)?);
-    let write = |alloc: Global, ask: &Permitted| -> Result<Blob, AllocError> {
-        let count = ask.operation().bytes.bytes().len();
-        let printed = format!(in alloc; "{count}")?;
-        Blob::of(alloc, printed.as_bytes())
-    };
-    desk.set(Access::Write, Box::new(alloc, write)?);
-    let exec = |alloc: Global, ask: &Permitted| Blob::of(alloc, ask.operation().bytes.bytes());
-    desk.set(Access::Exec, Box::new(alloc, exec)?);
-    let mut rows = Rows::new(alloc, &desk);
+    let mut rows = Rows::new(alloc, Requests {});
     for row in text.lines() {
         let told = rows.told(alloc, row)?;
         print!(rt; "{told}")?;

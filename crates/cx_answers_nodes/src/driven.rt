@@ -4,8 +4,8 @@ ghost use Rattle.std.specs.Prelude.{◌≡◌, ◌<◌, length};
 ghost use Rattle.std.specs.List.{list_all};
 ghost use Rattle.cx_clock.specs.Readings.{is_clock_reading};
 
-use crate::nodes::local;
 use crate::shown::told_run;
+use cx_answers_rows::local;
 use cx_base::{Blob, Items, Reading};
 use cx_clock::ListClock;
 use cx_dice::SeedDice;

@@ -4,7 +4,6 @@
 #![tactic(auto)]
 
 mod driven;
-mod nodes;
 mod rows;
 mod shown;
 

@@ -1,7 +1,7 @@
 //! Rows of runs, and what is told of them.
 
 use crate::driven::{Outside, drives};
-use crate::nodes::{client_of, monitor_of};
+use cx_answers_rows::{Named, client_of, monitor_of, seed_of};
 use cx_base::{Blob, SECOND};
 use cx_client::Client;
 use cx_drive::Order;
@@ -55,14 +55,15 @@ impl Rows {
     }
 
     fn monitor(&mut self, alloc: Global, row: &str) -> Result<(), AllocError> {
-        self.outside.seed = seed_of(row);
+        self.outside.seed = seed_of(row.split(' ').next().unwrap_or(""));
         self.monitor = Some(monitor_of(alloc, self.ring.bytes(), row)?);
         Ok(())
     }
 
     fn client(&mut self, alloc: Global, row: &str) -> Result<(), AllocError> {
-        self.outside.seed = seed_of(row);
-        self.client = client_of(alloc, self.ring.bytes(), row)?;
+        let named = Named::of(row);
+        self.outside.seed = named.seed();
+        self.client = client_of(alloc, self.ring.bytes(), &named)?;
         Ok(())
     }
 
@@ -139,9 +140,4 @@ impl Rows {
 // A number; 0 where the word is none.
 fn number_of(word: &str) -> u64 {
     word.parse::<u64>().unwrap_or(0)
-}
-
-// The seed at the front of a row.
-fn seed_of(row: &str) -> u64 {
-    number_of(row.split(' ').next().unwrap_or(""))
 }

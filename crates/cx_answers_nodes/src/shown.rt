@@ -1,41 +1,14 @@
 //! What was done at a node, as it is printed.
 
 use crate::driven::Record;
+use cx_answers_rows::{Ascii, Hex};
 use cx_base::Blob;
 use cx_drive::{Driven, Ended, Stop};
 use cx_journal::{Journal, put_text};
 use cx_links::LinkEvent;
 use cx_site::Did;
 use std::alloc::{AllocError, Global};
-use std::fmt;
 use std::fmt::Write;
-
-/// Bytes in hexadecimal.
-#[derive(Clone, Copy)]
-struct Hex<'a>(&'a [u8]);
-
-impl fmt::Display for Hex<'_> {
-    fn fmt<W: fmt::Write>(&self, f: &mut fmt::Formatter<W>) -> fmt::Result {
-        for byte in self.0 {
-            write!(f, "{byte:02x}")?;
-        }
-        Ok(())
-    }
-}
-
-/// ASCII text.
-#[derive(Clone, Copy)]
-struct Ascii<'a>(&'a [u8]);
-
-impl fmt::Display for Ascii<'_> {
-    fn fmt<W: fmt::Write>(&self, f: &mut fmt::Formatter<W>) -> fmt::Result {
-        for byte in self.0 {
-            let letter = *byte as char;
-            write!(f, "{letter}")?;
-        }
-        Ok(())
-    }
-}
 
 /// What was done, with the bytes that were taken; how the run ended; and the journal.
 pub fn told_run(alloc: Global, record: &Record, taken: &[u8]) -> Result<String, AllocError> {

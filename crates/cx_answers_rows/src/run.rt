@@ -1,100 +1,99 @@
-//! Rows of runs, and what is told of them.
+//! A run that is played.
 
-use crate::asked::asked;
-use crate::events::{Coming, number_of, reading_of};
-use crate::nodes::{
-    ClientNode, DaemonNode, MonitorNode, client_of, daemon_of, monitor_of, server_of,
-};
+ghost use Rattle.std.specs.Prelude.{◌<◌};
+
+use crate::draws::Draws;
+use crate::events::{Coming, number_of, reading_of, seed_of};
+use crate::named::Named;
+use crate::nodes::{client_of, monitor_of};
 use crate::shown::{Ascii, put_effects, put_saved, put_seals};
-use cx_base::{Blob, Duplicate};
-use cx_desk::Desk;
+use cx_base::{Blob, Duplicate, Reading};
+use cx_client::Client;
 use cx_dice::Draw;
 use cx_journal::{Journal, put_text};
+use cx_mon::Monitor;
 use cx_steps::{Effects, Event};
 use std::alloc::{AllocError, Global};
 use std::fmt::Write;
 
-/// Rows: those of the run that began last, to be played again, and the run that is played.
-#[derive(Drop)]
-pub struct Rows<'a> {
-    begun: Vec<String>,
-    run: Run<'a>,
+/// What a program adds to runs of the monitor and clients: rows of other kinds, and nodes of another kind.
+pub trait Others: Drop {
+    ghost use Rattle.std.specs.Prelude.{◌<◌};
+
+    /// None of them yet, as a run begins.
+    fn anew(&self, alloc: Global) -> Self;
+
+    /// What is told of a row of another kind, with the keyring of these lines.
+    fn told(
+        &mut self,
+        alloc: Global,
+        ring: &[u8],
+        kind: &str,
+        rest: &str,
+    ) -> Result<String, AllocError>;
+
+    /// The draw of this number of the node of this name, if that is one of these.
+    fn draw(&mut self, node: &str, number: u32) -> Option<Draw>;
+
+    /// What the node of this name gives at an event, if it is one of these.
+    fn step(
+        &mut self,
+        alloc: Global,
+        node: &str,
+        event: Event<'_>,
+        now: Reading,
+        draw: &Draw,
+    ) -> Result<Option<Effects>, AllocError>
+        requires { now < 4000000000000000000 };
 }
 
-impl<'a> Rows<'a> {
-    /// No rows yet; operations that come to daemons are served by this desk.
-    pub fn new(alloc: Global, desk: &'a Desk) -> Rows<'a> {
-        Rows {
-            begun: Vec::new(alloc),
-            run: Run::new(alloc, desk, true),
-        }
-    }
+#[derive(Drop)]
+struct MonitorNode {
+    monitor: Monitor,
+    draws: Draws,
+}
 
-    /// What is told of a row. One that begins with `#` begins a run; `again COUNT WHAT` begins it anew and plays so many rows of it, of which
-    /// nothing is told, and no log behind it.
-    pub fn told(&mut self, alloc: Global, row: &str) -> Result<String, AllocError> {
-        let (kind, rest) = row.split_once(' ').unwrap_or((row, ""));
-        match kind {
-            "#" => {
-                *self = Rows::new(alloc, self.run.desk);
-                format!(in alloc; "{row}\n")
-            }
-            "again" => {
-                let count = rest.split(' ').next().unwrap_or("");
-                self.again(alloc, number_of(count))?;
-                format!(in alloc; "{row}\n")
-            }
-            _ => {
-                self.begun.push(String::from_str(alloc, row)?)?;
-                self.run.told(alloc, row)
-            }
-        }
-    }
-
-    fn again(&mut self, alloc: Global, count: u32) -> Result<(), AllocError> {
-        self.run = Run::new(alloc, self.run.desk, false);
-        let mut left = count;
-        for row in self.begun.iter() {
-            if left == 0 {
-                break;
-            }
-            left -= 1;
-            let _told = self.run.told(alloc, row.as_str())?;
-        }
-        Ok(())
-    }
+#[derive(Drop)]
+struct ClientNode {
+    name: String,
+    client: Client,
+    draws: Draws,
 }
 
 /// A run so far: the lines of its keyring, its nodes, and its journal; whether the next save fails, and then leaves the old state; and whether
 /// what is drawn, sealed, opened, signed and found equal is told.
 #[derive(Drop)]
-struct Run<'a> {
-    desk: &'a Desk,
+pub struct Run<O: Others> {
+    others: O,
     ring: Blob,
     monitor: Option<MonitorNode>,
     clients: Vec<ClientNode>,
-    daemons: Vec<DaemonNode>,
     journal: Journal,
     fails: Option<bool>,
     logs: bool,
 }
 
-impl<'a> Run<'a> {
-    fn new(alloc: Global, desk: &'a Desk, logs: bool) -> Run<'a> {
+impl<O: Others> Run<O> {
+    /// A run as it begins.
+    pub fn new(alloc: Global, others: O, logs: bool) -> Run<O> {
         Run {
-            desk,
+            others,
             ring: Blob::new(alloc),
             monitor: None,
             clients: Vec::new(alloc),
-            daemons: Vec::new(alloc),
             journal: Journal::new(alloc),
             fails: None,
             logs,
         }
     }
 
-    // What is told of a row.
-    fn told(&mut self, alloc: Global, row: &str) -> Result<String, AllocError> {
+    /// A run with the same other nodes, as it begins.
+    pub fn anew(&self, alloc: Global, logs: bool) -> Run<O> {
+        Run::new(alloc, self.others.anew(alloc), logs)
+    }
+
+    /// What is told of a row.
+    pub fn told(&mut self, alloc: Global, row: &str) -> Result<String, AllocError> {
         let (kind, rest) = row.split_once(' ').unwrap_or((row, ""));
         match kind {
             "ring" => {
@@ -102,36 +101,38 @@ impl<'a> Run<'a> {
                 self.ring.append(alloc, b"\n")?;
                 Ok(String::new(alloc))
             }
-            "monitor" => {
-                self.monitor = Some(monitor_of(alloc, self.ring.bytes(), rest)?);
-                format!(in alloc; "{row}\n")
-            }
+            "monitor" => self.monitor(alloc, row, rest),
             "client" => self.client(alloc, row, rest),
-            "daemon" => self.daemon(alloc, row, rest),
-            "request" => asked(alloc, server_of(alloc, self.ring.bytes())?, rest),
             "fails" => {
                 self.fails = Some(rest == "old");
                 Ok(String::new(alloc))
             }
             "at" => self.comes(alloc, &Coming::of(rest)),
             "drip" => self.drips(alloc, &Coming::of(rest)),
-            _ => self.journal_told(alloc),
+            "journal" => self.journal_told(alloc),
+            _ => self.others.told(alloc, self.ring.bytes(), kind, rest),
         }
     }
 
-    fn client(&mut self, alloc: Global, row: &str, rest: &str) -> Result<String, AllocError> {
-        let Some(client) = client_of(alloc, self.ring.bytes(), rest)? else {
-            return format!(in alloc; "{row}: no such entity\n");
-        };
-        self.clients.push(client)?;
+    fn monitor(&mut self, alloc: Global, row: &str, rest: &str) -> Result<String, AllocError> {
+        let seed = seed_of(rest.split(' ').next().unwrap_or(""));
+        self.monitor = Some(MonitorNode {
+            monitor: monitor_of(alloc, self.ring.bytes(), rest)?,
+            draws: Draws::new(alloc, seed),
+        });
         format!(in alloc; "{row}\n")
     }
 
-    fn daemon(&mut self, alloc: Global, row: &str, rest: &str) -> Result<String, AllocError> {
-        let Some(daemon) = daemon_of(alloc, self.ring.bytes(), rest)? else {
+    fn client(&mut self, alloc: Global, row: &str, rest: &str) -> Result<String, AllocError> {
+        let named = Named::of(rest);
+        let Some(client) = client_of(alloc, self.ring.bytes(), &named)? else {
             return format!(in alloc; "{row}: no such entity\n");
         };
-        self.daemons.push(daemon)?;
+        self.clients.push(ClientNode {
+            name: String::from_str(alloc, named.name)?,
+            client,
+            draws: Draws::new(alloc, named.seed()),
+        })?;
         format!(in alloc; "{row}\n")
     }
 
@@ -150,20 +151,64 @@ impl<'a> Run<'a> {
         let bytes = coming.bytes(alloc);
         let draw = self.draw(coming);
         for (place, byte) in bytes.iter().enumerate() {
-            let mut given = String::new(alloc);
-            self.happens(
-                alloc,
-                coming,
-                Event::Bytes(coming.link(), &[*byte]),
-                &draw,
-                &mut given,
-            )?;
-            self.happens(alloc, coming, Event::Turn(coming.link()), &draw, &mut given)?;
+            let given = self.turned(alloc, coming, &[*byte], &draw)?;
             if !given.is_empty() {
                 let count = place as u64 + 1;
                 write!(told, "  at {count}\n{given}")?;
             }
         }
+        Ok(told)
+    }
+
+    /// What is told of so many of the bytes that come to a node, a turn, and the end of the link.
+    pub fn cut(
+        &mut self,
+        alloc: Global,
+        coming: &Coming<'_>,
+        bytes: &[u8],
+    ) -> Result<String, AllocError> {
+        let draw = self.draw(coming);
+        let mut told = self.turned(alloc, coming, bytes, &draw)?;
+        self.happens(alloc, coming, Event::Gone(coming.link()), &draw, &mut told)?;
+        Ok(told)
+    }
+
+    /// What is told of a link that opens at a node so many numbers behind the one of the row, and of the end of the one that opened so few before it.
+    pub fn opens(
+        &mut self,
+        alloc: Global,
+        coming: &Coming<'_>,
+        place: u32,
+        few: u32,
+    ) -> Result<String, AllocError> {
+        let mut told = String::new(alloc);
+        let draw = self.draw(coming);
+        let link = coming.link().saturating_add(place);
+        self.happens(alloc, coming, Event::Opened(link, None), &draw, &mut told)?;
+        if place >= few {
+            self.happens(
+                alloc,
+                coming,
+                Event::Gone(link.saturating_sub(few)),
+                &draw,
+                &mut told,
+            )?;
+        }
+        Ok(told)
+    }
+
+    // What is told of bytes that come to a node, and of a turn behind them.
+    fn turned(
+        &mut self,
+        alloc: Global,
+        coming: &Coming<'_>,
+        bytes: &[u8],
+        draw: &Draw,
+    ) -> Result<String, AllocError> {
+        let mut told = String::new(alloc);
+        let link = coming.link();
+        self.happens(alloc, coming, Event::Bytes(link, bytes), draw, &mut told)?;
+        self.happens(alloc, coming, Event::Turn(link), draw, &mut told)?;
         Ok(told)
     }
 
@@ -180,12 +225,10 @@ impl<'a> Run<'a> {
                 return node.draws.draw(number);
             }
         }
-        for node in self.daemons.iter_mut() {
-            if node.name.as_str() == coming.node {
-                return node.draws.draw(number);
-            }
+        match self.others.draw(coming.node, number) {
+            Some(draw) => draw,
+            None => Draw { bytes: [0; 384] },
         }
-        Draw { bytes: [0; 384] }
     }
 
     // An event comes to a node.
@@ -200,10 +243,11 @@ impl<'a> Run<'a> {
         if coming.node == "mon" {
             return self.comes_to_monitor(alloc, coming, event, draw, told);
         }
+        let now = reading_of(coming.reading);
         let out = if coming.is_to_client() {
             self.client_step(alloc, coming, event, draw)?
         } else {
-            self.daemon_step(alloc, coming, event, draw)?
+            self.others.step(alloc, coming.node, event, now, draw)?
         };
         let Some(out) = out else {
             return Ok(());
@@ -255,26 +299,6 @@ impl<'a> Run<'a> {
             if node.name.as_str() == coming.node {
                 let mut out = Effects::new(alloc);
                 node.client.step(alloc, event, now, draw, &mut out)?;
-                return Ok(Some(out));
-            }
-        }
-        Ok(None)
-    }
-
-    // What the daemon of this name gives.
-    fn daemon_step(
-        &mut self,
-        alloc: Global,
-        coming: &Coming<'_>,
-        event: Event<'_>,
-        draw: &Draw,
-    ) -> Result<Option<Effects>, AllocError> {
-        let now = reading_of(coming.reading);
-        for node in self.daemons.iter_mut() {
-            if node.name.as_str() == coming.node {
-                let mut out = Effects::new(alloc);
-                node.daemon
-                    .step(alloc, self.desk, event, now, draw, &mut out)?;
                 return Ok(Some(out));
             }
         }

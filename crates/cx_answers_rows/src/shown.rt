@@ -12,7 +12,7 @@ use std::fmt::Write;
 
 /// Bytes in hexadecimal.
 #[derive(Clone, Copy)]
-struct Hex<'a>(&'a [u8]);
+pub struct Hex<'a>(pub &'a [u8]);
 
 impl fmt::Display for Hex<'_> {
     fn fmt<W: fmt::Write>(&self, f: &mut fmt::Formatter<W>) -> fmt::Result {

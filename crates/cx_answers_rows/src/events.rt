@@ -67,6 +67,7 @@ impl<'a> Coming<'a> {
             "bytes" => Event::Bytes(link, bytes),
             "turn" => Event::Turn(link),
             "gone" => Event::Gone(link),
+            "nolink" => Event::NoLink(Peer::Monitor),
             "restart" => Event::Restart,
             _ => Event::Tick,
         }
@@ -92,6 +93,11 @@ fn peer_of(word: &str) -> Option<Peer> {
 /// A number; 0 where the word is none.
 pub fn number_of(word: &str) -> u32 {
     word.parse::<u32>().unwrap_or(0)
+}
+
+/// A seed; 0 where the word is none.
+pub fn seed_of(word: &str) -> u64 {
+    word.parse::<u64>().unwrap_or(0)
 }
 
 /// A reading of so many seconds; 0 where the word is none.
