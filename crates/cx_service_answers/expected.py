@@ -12,20 +12,26 @@ import os
 import sys
 
 sys.path.append(os.path.join(os.path.dirname(os.path.abspath(__file__)), "..", "cx_answers_machines"))
-from hosted import tried_foreign, tried_hosted
+from hosted import DAEMON, tried_alone, tried_foreign, tried_hosted
 from own import tried_own
-from whole import WHOLE, WholeRun
+from whole import WHOLE, LoneRun, WholeRun
 
 # What is tried behind which run.
 BEHIND = {"first_login": (tried_own,), "lost_message": (tried_hosted,), "two_clients_two_daemons": (tried_foreign,)}
 
 
+
+def runs():
+    """The runs, each with what is tried behind it."""
+    yield from ((WholeRun(name), BEHIND.get(name, ())) for name in WHOLE)
+    yield LoneRun("lost_message", DAEMON), (tried_alone,)
+
+
 def main():
-    for name in WHOLE:
-        run = WholeRun(name)
+    for run, behind in runs():
         for line in run.rows() if sys.argv[1] == "rows" else run.answers():
             print(line)
-        for tried in BEHIND.get(name, ()):
+        for tried in behind:
             for row, told in tried(run):
                 for line in [row] if sys.argv[1] == "rows" else told:
                     print(line)

@@ -101,12 +101,14 @@ def sends(play, link, *frames):
 
 
 def cuts(guest):
-    """Each frame that comes to the daemon, cut at each length behind which its link is gone. A session that was admitted lives on, and was not taken
+    """Each kind of frame that comes to the daemon, cut at each length behind which its link is gone. A session that was admitted lives on, and was not taken
     further: it is dropped behind, which tells; or the run goes on with the other link, on which SESSION_RECONNECT tells what was taken."""
     run, blocks = guest.run, guest.run.blocks
     for unit in guest.units:
         words, told = blocks[unit.event]
         link = words[2]
+        if link == SECOND and not (unit.kind == "sealed" and unit.tag() in (11, 17)):
+            continue
         _, reading, draw = place_of(words)
         assert unit.start == 0
         lives = any(line.startswith("admitted") for line in run.entered(unit.event))
@@ -114,7 +116,9 @@ def cuts(guest):
         if lives and link == FIRST:
             behind += taken_up(guest, unit)
         journal = run.entered(unit.event) + [line for _, _, lines in behind for line in lines]
-        behind.append((f"at {DAEMON} {reading} 900 submit drop 1", [f"{DAEMON} submit drop"] + ["  entries 1"] * lives, []))
+        # The drop shuts the links of the session.
+        shown = ["  entries 1"] * lives + [f"  shut {SECOND}"] * (lives and link == FIRST)
+        behind.append((f"at {DAEMON} {reading} 0 submit drop 1", [f"{DAEMON} submit drop", *shown], []))
         journal += ["ended osd.0 1"] * lives
         for row, _, _ in behind:
             yield f"behind {row}", []
@@ -575,12 +579,20 @@ def tried_foreign(run):
 
 
 def tried_hosted(run):
+    """Behind the whole run: authorizers, whose refusals name tickets that were issued, and links at the monitor."""
     guest = Guest(run)
     yield from byte_by_byte(run, run.blocks, guest.units)
+    yield from wrong_authorizers(guest)
+    yield from many_links(guest)
+
+
+def tried_alone(run):
+    """Behind what came to the daemon alone: all else."""
+    guest = Guest(run)
     yield from cuts(guest)
     for unit in guest.units:
         is_open = run.blocks[unit.event][0][2] == SECOND
         if not is_open or (unit.kind == "sealed" and unit.tag() in (11, 17)):
             yield from tried_unit(run, run.blocks, unit, is_open=True, wrong=None)
-    for tried in wrong_authorizers, wrong_signatures, wrong_idents, wrong_reconnects, wrong_messages, taken_messages, stale_epochs, many_frames, many_links:
+    for tried in wrong_signatures, wrong_idents, wrong_reconnects, wrong_messages, taken_messages, stale_epochs, many_frames:
         yield from tried(guest)

@@ -67,3 +67,22 @@ class WholeRun(Run):
 
     def title(self):
         return f"# with daemons: {self.name}: {WHOLE[self.name]}"
+
+
+class LoneRun(WholeRun):
+    """What of a recorded run comes to one of its daemons, alone."""
+
+    def __init__(self, name, daemon):
+        super().__init__(name)
+        self.heads = [row for row in self.heads if row.startswith(("ring ", f"daemon {daemon} "))]
+        entered, alone = 0, []
+        for words, told in self.blocks:
+            count = sum(line.startswith("entry ") for line in told)
+            if words[0] == daemon:
+                alone += self.journal[entered : entered + count]
+            entered += count
+        self.blocks = [(words, told) for words, told in self.blocks if words[0] == daemon]
+        self.journal = alone
+
+    def title(self):
+        return f"# a daemon alone: {self.name}: {WHOLE[self.name]}"
