@@ -6,7 +6,7 @@ ghost use Rattle.cx_desk.specs.Held.{handlers_of};
 ghost use Rattle.cx_lines.specs.Lines.{is_numbered_in_range};
 ghost use Rattle.cx_plain.specs.PlainLines.{first_untaken};
 ghost use Rattle.cx_run.specs.Served as run;
-ghost use Rattle.cx_run_head.specs.Beginning.{IsSchedule};
+ghost use Rattle.cx_world.specs.Heads.{IsSchedule};
 ghost use Rattle.cx_replay.specs.declared.refusals.ReplayRefusal.TheVariants.{OutOfMemory};
 ghost use Rattle.cx_replay.specs.Serving.{IsReplayBy, IsReplayCause, IsReplayOf, IsUnservedBy, first_unserved, idle_of};
 ghost use Rattle.cx_world.specs.Idle.{idle_lines};

@@ -14,6 +14,9 @@ pub use declared::Declared;
 pub use leaks::Leak;
 pub use setup::Setup;
 
+// The monitor with which a run begins.
+pub use cx_mon::Monitor;
+
 // Each public type may be sent to another thread and shared with one.
 fn is_sendable<T: Send + Sync>() {}
 

@@ -1,5 +1,6 @@
 pub mod Finding
 pub mod Keyed
+pub mod Leaking
 pub mod Placing
 pub mod Reading
 pub mod Rolling

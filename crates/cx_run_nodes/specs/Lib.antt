@@ -1,3 +1,4 @@
+pub mod Heads
 pub mod Members
 pub mod Held
 pub mod Posts

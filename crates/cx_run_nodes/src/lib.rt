@@ -14,6 +14,9 @@ pub use nodes::Nodes;
 pub use opening::opening_nodes;
 pub use posts::Post;
 
+// With what a run begins.
+pub use cx_run_head::Setup;
+
 // Each public type may be sent to another thread and shared with one.
 fn is_sendable<T: Send + Sync>() {}
 

@@ -20,7 +20,7 @@ use crate::members::Member;
 use crate::posts::Post;
 use cx_base::{EntityName, NodeName, Reading};
 use cx_line_words::LeftState;
-use cx_mon::Monitor;
+use cx_run_head::Monitor;
 use cx_steps::{Effects, Event};
 use std::alloc::{AllocError, Global};
 

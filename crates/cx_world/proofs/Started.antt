@@ -15,7 +15,7 @@ use Rattle.cx_run.specs.Schedules.{after_line, after_lines}
 use Rattle.cx_run.specs.Served.{first_unserved, is_numbered_served, is_served}
 use Rattle.cx_run.specs.Worlds.{World}
 use Rattle.cx_schedule.proofs.Whole as schedule
-use Rattle.cx_run_head.specs.Beginning.{IsSchedule}
+use Rattle.cx_world.specs.Heads.{IsSchedule}
 use Rattle.cx_steps.specs.Breach.{IsFound}
 use Rattle.cx_steps.specs.declared.seals.Logged.{Logged}
 use Rattle.cx_words.specs.Cutting.{lines_of}

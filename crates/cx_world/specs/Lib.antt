@@ -3,6 +3,7 @@ pub mod Beginning
 pub mod Carried
 pub mod Ends
 pub mod Events
+pub mod Heads
 pub mod Idle
 pub mod Logs
 pub mod Settling

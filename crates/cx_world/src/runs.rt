@@ -9,7 +9,7 @@ ghost use Rattle.cx_run.specs.Opening.{opening_world};
 ghost use Rattle.cx_run.specs.Runs.{IsFoundOf, run_journal, setup_of};
 ghost use Rattle.cx_run.specs.Schedules.{after_lines};
 ghost use Rattle.cx_run.specs.Served.{first_unserved, is_numbered_served};
-ghost use Rattle.cx_run_head.specs.Beginning.{IsSchedule};
+ghost use Rattle.cx_world.specs.Heads.{IsSchedule};
 ghost use Rattle.cx_steps.specs.Breach.{IsFound};
 ghost use Rattle.cx_steps.specs.declared.seals.Logged.{Logged};
 ghost use Rattle.cx_world.specs.Beginning.{began};
@@ -22,7 +22,7 @@ use cx_base::Duplicate;
 use cx_journal::{Broken, Journal};
 use cx_lines::Numbered;
 use cx_premises::Ledger;
-use cx_run_head::Setup;
+use cx_run_nodes::Setup;
 use cx_schedule::Script;
 use std::alloc::{AllocError, Global};
 

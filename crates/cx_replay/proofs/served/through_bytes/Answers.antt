@@ -1,7 +1,7 @@
 use Rattle.cx_desk.specs.Held.{handlers_of}
 use Rattle.cx_replay.proofs.Lawful.{byte_replay}
 use Rattle.cx_replay.proofs.served.through_bytes.Goals as goal
-use Rattle.cx_run_head.proofs.Leaking.{schedule_leaks}
+use Rattle.cx_world.proofs.Leaking.{schedule_leaks}
 
 pub returns-clause-replayed : goal.returns-clause-replayed
 returns-clause-replayed g c =
