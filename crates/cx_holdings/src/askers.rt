@@ -126,6 +126,21 @@ impl Asker {
         self.address
     }
 
+    /// The numbers of the modes that it offers.
+    pub fn modes(&self, alloc: Global) -> Result<Items<u32>, AllocError>
+        ensures modes { IfOk result (λ modes. modes ≡ self.now.modes) }
+        ensures few { IfOk result (λ modes. length modes ≤ 16) }
+    {
+        self.modes.numbers(alloc)
+    }
+
+    /// The global id and the tickets that it holds.
+    pub fn holdings(&self) -> &Holdings
+        ensures { result.now ≡ self.now.holdings }
+    {
+        &self.holdings
+    }
+
     /// The generations that it was told last, and the reading at which it asked for them.
     pub fn view(&self) -> View
         ensures { result ≡ self.now.view }

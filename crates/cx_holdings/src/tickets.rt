@@ -27,6 +27,7 @@ impl Model for Holdings {
 }
 
 impl Holdings {
+    ghost use Rattle.std.specs.Option.{option_copied};
     ghost use Rattle.cx_rules.specs.Holdings.{hello_gid, held_login, holds_nothing, of_gid, put_ticket, put_tickets, unexpired};
 
     /// Nothing is held.
@@ -40,6 +41,41 @@ impl Holdings {
             osd: None,
             mgr: None,
         }
+    }
+
+    /// The global id, once one was given.
+    pub fn gid(&self) -> Option<u64>
+        ensures { result ≡ self.now.gid }
+    {
+        self.gid
+    }
+
+    /// The ticket for AUTH.
+    pub fn auth(&self) -> Option<&HeldTicket>
+        ensures { option_copied result ≡ self.now.auth }
+    {
+        self.auth.as_ref()
+    }
+
+    /// The ticket for the mds.
+    pub fn mds(&self) -> Option<&HeldTicket>
+        ensures { option_copied result ≡ self.now.mds }
+    {
+        self.mds.as_ref()
+    }
+
+    /// The ticket for the osd.
+    pub fn osd(&self) -> Option<&HeldTicket>
+        ensures { option_copied result ≡ self.now.osd }
+    {
+        self.osd.as_ref()
+    }
+
+    /// The ticket for the mgr.
+    pub fn mgr(&self) -> Option<&HeldTicket>
+        ensures { option_copied result ≡ self.now.mgr }
+    {
+        self.mgr.as_ref()
     }
 
     /// Holds a login under its global id. Where that is another one than before, all older tickets are forgotten; else each ticket stands in
