@@ -47,6 +47,30 @@ reply_in session sealed = unlocked authorize_reply_layout.form Session session s
 
 -- ---- what calls answer
 
+-- Why no challenge is taken: the payload spells none, and nothing is opened; or its sealed part opens to no such record. What opened is appended
+-- to the log.
+abbrev pub IsUnasked : Presented → List ℕ → List SealEntry → List SealEntry → PresentRefusal → Type 0
+IsUnasked presented bytes old new Unopened =
+    (sent : challenge_payload.AuthorizeChallenge) × Spells payload.authorize_challenge_layout.form bytes sent
+    × Made (challenge_in presented.held.session sent.sealed) old new None
+IsUnasked presented bytes old new (Malformed place) = IsRefusedFor payload.authorize_challenge_layout.form bytes (wire.Malformed place) × (new ≡ old)
+IsUnasked presented bytes old new (NonceWrong expected got) = ⊥
+IsUnasked presented bytes old new OutOfMemory = Unit {0}
+
+-- a challenge is taken exactly where the payload spells one whose sealed part opens to its record, and what opened is appended to the log
+abbrev pub IsAsked : Presented → List ℕ → List SealEntry → List SealEntry → Result ℕ PresentRefusal → Type 0
+IsAsked presented bytes old new (Ok challenge) =
+    (sent : challenge_payload.AuthorizeChallenge) × Spells payload.authorize_challenge_layout.form bytes sent
+    × (asked : AuthorizeChallenge) × Made (challenge_in presented.held.session sent.sealed) old new (Some asked)
+    × (challenge ≡ asked.challenge)
+IsAsked presented bytes old new (Err why) = IsUnasked presented bytes old new why
+
+-- a challenge is answered by the second authorizer, which shows the same nonce and the challenge plus one
+abbrev pub AnswersOne : Presented → ℕ → Answered × List ℕ → Type 0
+AnswersOne presented challenge (answered, shown) =
+    (answered ≡ record { session = presented.held.session; nonce = presented.nonce })
+    × IsAuthorizer presented.held presented.gid (shown_as presented.nonce (Some challenge)) shown
+
 -- A challenge is answered by the second authorizer, which shows the same nonce and the challenge plus one, exactly where the payload spells
 -- one whose sealed part opens to its record. What opened is appended to the log, also where it is no such record; where the payload spells
 -- none, nothing is opened.

@@ -1,12 +1,12 @@
 -- What a daemon makes of an authorizer that passes: the bytes that answer it, and what was sealed in them, as an entry of the log.
-use Rattle.std.specs.Prelude.{ℕ, ◌≡◌, ◌<◌, ◌^◌, List, length}
+use Rattle.std.specs.Prelude.{ℕ, ◌≡◌, ◌<◌, ◌^◌, List, length, Option}
 use Rattle.cx_base.specs.declared.kinds.EntityType.{EntityType}
 use Rattle.cx_journal.specs.declared.premises.KeyKind.TheVariants as kind
 use Rattle.cx_rotate.specs.declared.views.View.{View}
-use Rattle.cx_sealed.specs.Records.{authorize_challenge_layout, authorize_reply_layout}
+use Rattle.cx_sealed.specs.Records.{authorize_layout, authorize_challenge_layout, authorize_reply_layout}
 use Rattle.cx_steps.specs.declared.seals.SealEntry.{SealEntry}
 use Rattle.cx_steps.specs.declared.seals.SealEntry.TheVariants as entry
-use Rattle.cx_authorize.specs.Answers.{IsChallenge, IsReply}
+use Rattle.cx_authorize.specs.Answers.{IsChallenge, IsReply, shown_as}
 use Rattle.cx_authorize.specs.Verdict.{raised}
 use Rattle.cx_authorize.specs.declared.daemon.FirstPassed.{FirstPassed}
 use Rattle.cx_authorize.specs.declared.daemon.SecondPassed.{SecondPassed}
@@ -17,6 +17,10 @@ use Rattle.cx_authorize.specs.declared.judging.Shown.{Shown}
 -- a content was sealed under a session key
 abbrev pub session_sealed : List ℕ → List ℕ → SealEntry
 session_sealed session content = entry.Sealed (record { key = session; kind = kind.Session; content = content })
+
+-- what an authorizer shows: a nonce, and a challenge where one is answered
+abbrev pub authorize_sealed : List ℕ → ℕ → Option ℕ → SealEntry
+authorize_sealed session nonce challenge = session_sealed session (authorize_layout.form.text (shown_as nonce challenge))
 
 -- a challenge
 abbrev pub challenge_sealed : List ℕ → ℕ → SealEntry

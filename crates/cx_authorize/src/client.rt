@@ -2,12 +2,13 @@
 
 ghost use Rattle.std.specs.Prelude.{◌≡◌, Some, None, IfOk};
 ghost use Rattle.cx_authorize.specs.Answers.{shown_as};
-ghost use Rattle.cx_authorize.specs.Client.{Presents, IsAnswered, IsAgreed};
+ghost use Rattle.cx_authorize.specs.Client.{AnswersOne, IsAgreed, IsAnswered, IsAsked, Presents};
+ghost use Rattle.cx_authorize.specs.Passing.{authorize_sealed};
 
 use crate::judging::raised;
 use crate::opening::{opened_challenge, opened_reply};
 use crate::refusals::PresentRefusal;
-use crate::sealing::authorizer_bytes;
+use crate::sealing::{authorize_sealed, authorizer_bytes};
 use cx_base::{Blob, Duplicate, Items};
 use cx_login::HeldTicket;
 use cx_sealed::Authorize;
@@ -42,9 +43,37 @@ impl Presenting {
     ) -> Result<(Presenting, Blob), AllocError>
         ensures { IfOk result (Presents held.now gid nonce) }
     {
-        let bytes = authorizer_bytes(alloc, held, gid, &shown_first(nonce))?;
+        let bytes = authorizer_bytes(alloc, held, gid, &shown(nonce, None))?;
         let held = held.copy(alloc)?;
         Ok((Presenting { held, gid, nonce }, bytes))
+    }
+
+    /// The challenge in the AuthorizeChallenge of this payload. What opened is appended to the log, also where the challenge is refused.
+    pub fn asked(
+        &self,
+        alloc: Global,
+        payload: &[u8],
+        log: &mut Items<SealEntry>,
+    ) -> Result<u64, PresentRefusal>
+        ensures { IsAsked self.now payload.now log.old log.new result }
+    {
+        asked(alloc, &self.held, self.gid, self.nonce, payload, log)
+    }
+
+    /// Answers a challenge by the bytes of the second authorizer.
+    pub fn answers(self, alloc: Global, challenge: u64) -> Result<(Answering, Blob), AllocError>
+        ensures { IfOk result (AnswersOne self challenge) }
+    {
+        answer_to(alloc, &self.held, self.gid, self.nonce, challenge)
+    }
+
+    /// That its first authorizer was sealed, or the one by which it answers a challenge, as an entry of the log.
+    pub fn sealed(&self, alloc: Global, challenge: Option<u64>) -> Result<SealEntry, AllocError>
+        ensures { IfOk result (λ entry. entry ≡ authorize_sealed self.now.held.session self.now.nonce challenge) }
+    {
+        let held = &self.held;
+        let session = held.session;
+        authorize_sealed(alloc, &session, &shown(self.nonce, challenge))
     }
 
     /// Answers the AuthorizeChallenge of this payload by the bytes of the second authorizer. What opened is appended to the log,
@@ -81,30 +110,64 @@ fn answer(
     let Some(asked) = opened_challenge(alloc, &session, sent.sealed.bytes(), log)? else {
         return Err(PresentRefusal::Unopened);
     };
-    let shown = shown_again(nonce, asked.challenge);
+    let shown = shown(nonce, Some(asked.challenge));
     let bytes = authorizer_bytes(alloc, held, gid, &shown)?;
     Ok((Answering { session, nonce }, bytes))
 }
 
-// What the first authorizer shows.
-fn shown_first(nonce: u64) -> Authorize
-    ensures { result ≡ shown_as nonce None }
+// The challenge to this ticket, shown for this global id with this nonce.
+fn asked(
+    alloc: Global,
+    held: &HeldTicket,
+    gid: u64,
+    nonce: u64,
+    payload: &[u8],
+    log: &mut Items<SealEntry>,
+) -> Result<u64, PresentRefusal>
+    ensures { IsAsked (record { held = held.now; gid = gid; nonce = nonce }) payload.now log.old log.new result }
 {
-    Authorize {
-        nonce,
-        have_challenge: false,
-        server_challenge_plus_one: 0,
-    }
+    let sent = match read_authorize_challenge(alloc, payload) {
+        Ok(sent) => sent,
+        Err(WireRefusal::Malformed(place)) => return Err(PresentRefusal::Malformed(place)),
+        Err(WireRefusal::OutOfMemory) => return Err(PresentRefusal::OutOfMemory),
+    };
+    let session = held.session;
+    let Some(asked) = opened_challenge(alloc, &session, sent.sealed.bytes(), log)? else {
+        return Err(PresentRefusal::Unopened);
+    };
+    Ok(asked.challenge)
 }
 
-// What the second authorizer shows.
-fn shown_again(nonce: u64, challenge: u64) -> Authorize
-    ensures { result ≡ shown_as nonce (Some challenge) }
+// Answers this challenge.
+fn answer_to(
+    alloc: Global,
+    held: &HeldTicket,
+    gid: u64,
+    nonce: u64,
+    challenge: u64,
+) -> Result<(Answering, Blob), AllocError>
+    ensures { IfOk result (AnswersOne (record { held = held.now; gid = gid; nonce = nonce }) challenge) }
 {
-    Authorize {
-        nonce,
-        have_challenge: true,
-        server_challenge_plus_one: raised(challenge),
+    let session = held.session;
+    let bytes = authorizer_bytes(alloc, held, gid, &shown(nonce, Some(challenge)))?;
+    Ok((Answering { session, nonce }, bytes))
+}
+
+// What an authorizer shows: the first one its nonce, the second one the challenge plus one too.
+fn shown(nonce: u64, challenge: Option<u64>) -> Authorize
+    ensures { result ≡ shown_as nonce challenge }
+{
+    match challenge {
+        None => Authorize {
+            nonce,
+            have_challenge: false,
+            server_challenge_plus_one: 0,
+        },
+        Some(challenge) => Authorize {
+            nonce,
+            have_challenge: true,
+            server_challenge_plus_one: raised(challenge),
+        },
     }
 }
 

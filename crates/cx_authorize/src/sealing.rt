@@ -156,6 +156,18 @@ fn written_reply(alloc: Global, reply: &cx_wire::AuthorizeReply) -> Result<Blob,
     Ok(bytes)
 }
 
+// That an authorizer's own part was sealed under a session key, as an entry of the log.
+pub(crate) fn authorize_sealed(
+    alloc: Global,
+    session: &[u8; 16],
+    shown: &Authorize,
+) -> Result<SealEntry, AllocError>
+    ensures { IfOk result (λ entry. entry ≡ session_sealed session.now (authorize_layout.form.text shown.now)) }
+{
+    let content = write_whole(alloc, shown)?;
+    Ok(sealed_entry(session, content))
+}
+
 // That a challenge was sealed under a session key, as an entry of the log.
 pub(crate) fn challenge_sealed(
     alloc: Global,
