@@ -34,7 +34,8 @@ turned_on x y link turned short input dues t due turning noted again =
 
 -- at a quiet moment it isn't told that memory was wanting
 pub quiet_short : (orders : List Order) (rests : Bool) (a : Agenda) → a.short ≡ (at_quiet orders rests a).short
-quiet_short (order.Stop ∷ orders) rests a = refl
+quiet_short (order.Stop ∷ orders) true a = refl
+quiet_short (order.Stop ∷ orders) false a = refl
 quiet_short (order.Submit command ∷ orders) true a = refl
 quiet_short (order.Submit command ∷ orders) false a = refl
 quiet_short (order.Gone links ∷ orders) rests a = refl

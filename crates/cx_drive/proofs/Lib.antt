@@ -3,3 +3,5 @@ mod Loops
 mod Ordered
 mod Performing
 mod Running
+pub mod Standing
+pub mod Written

@@ -80,10 +80,10 @@ passed gone (order.Gone links ∷ orders) = if nat_le links gone then passed gon
 passed gone (order.Submit command ∷ orders) = order.Submit command ∷ orders
 passed gone (order.Stop ∷ orders) = order.Stop ∷ orders
 
--- nothing came: where the orders end the node, the run is over; a command is submitted where it is next and the node waits for nothing;
--- else some time passed
+-- nothing came: where the node waits for nothing, the next of its orders is carried out, which ends the run or is a command; else some time passed
 abbrev pub at_quiet : List Order → Bool → Agenda → Agenda
-at_quiet (order.Stop ∷ orders) rests a = record a { orders = order.Stop ∷ orders; over = true }
+at_quiet (order.Stop ∷ orders) true a = record a { orders = order.Stop ∷ orders; over = true }
+at_quiet (order.Stop ∷ orders) false a = with_due input.Tick (record a { orders = order.Stop ∷ orders })
 at_quiet (order.Submit command ∷ orders) true a = with_due (input.Submit command) (record a { orders = orders })
 at_quiet (order.Submit command ∷ orders) false a = with_due input.Tick (record a { orders = order.Submit command ∷ orders })
 at_quiet (order.Gone links ∷ orders) rests a = with_due input.Tick (record a { orders = order.Gone links ∷ orders })

@@ -18,7 +18,7 @@ pub enum Order {
     Submit(Command),
     /// The next line waits until so many links were gone.
     Gone(u64),
-    /// The node ends.
+    /// The node ends, once it waits for nothing.
     Stop,
 }
 
@@ -60,8 +60,8 @@ impl<'a> Flow<'a> {
         }
     }
 
-    /// What a node is told where nothing comes: nothing where the orders end it, a command where it waits for nothing and one is
-    /// next, else that some time passed.
+    /// What a node is told where nothing comes: where it waits for nothing, the next of its orders, which ends it or is a command; else that
+    /// some time passed.
     pub fn quiet(&mut self, alloc: Global, idle: bool) -> Result<Option<Event<'static>>, AllocError>
         ensures ok { IfOk result (λ event. at_quiet (passed (agenda_of self.old).gone (agenda_of self.old).orders) idle (agenda_of self.old)
             ≡ with_event (option_map input_of event) (agenda_of self.new)) }
@@ -73,13 +73,23 @@ impl<'a> Flow<'a> {
             return Ok(Some(Event::Tick));
         };
         match first {
-            Order::Stop => {
-                self.over = true;
-                Ok(None)
-            }
+            Order::Stop => Ok(self.stop(idle, rest)),
             Order::Submit(command) => self.submit(alloc, idle, command, rest),
             Order::Gone(_) => Ok(Some(Event::Tick)),
         }
+    }
+
+    // The orders end the node, where it is idle.
+    fn stop(&mut self, idle: bool, rest: &[Order]) -> Option<Event<'static>>
+        requires { (agenda_of self.old).orders ≡ Order.Stop ∷ rest.now }
+        ensures ok { at_quiet (agenda_of self.old).orders idle (agenda_of self.old) ≡ with_event (option_map input_of result) (agenda_of self.new) }
+        ensures short { self.new.short ≡ self.old.short }
+    {
+        if !idle {
+            return Some(Event::Tick);
+        }
+        self.over = true;
+        None
     }
 
     // The command that is the first of the orders, where the node is idle.

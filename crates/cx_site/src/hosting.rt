@@ -11,14 +11,15 @@ use std::alloc::Global;
 
 /// Four objects that are lent, as one: each call is one call of one of them.
 #[derive(Drop)]
-pub struct Hosted<'a, K, L, C, D> {
-    pub keeper: &'a mut K,
-    pub links: &'a mut L,
-    pub clock: &'a mut C,
-    pub dice: &'a mut D,
+pub struct Hosted<'k, 'l, 'c, 'd, K, L, C, D> {
+    pub keeper: &'k mut K,
+    pub links: &'l mut L,
+    pub clock: &'c mut C,
+    pub dice: &'d mut D,
 }
 
-impl<'a, K: Keeper, L: Links, C: Clock, D: Dice> Site for Hosted<'a, K, L, C, D> {
+impl<'k, 'l, 'c, 'd, K: Keeper, L: Links, C: Clock, D: Dice> Site
+    for Hosted<'k, 'l, 'c, 'd, K, L, C, D> {
     ghost use Rattle.std.specs.Prelude.{◌≡◌};
     ghost use Rattle.std.proofs.Common.{refl, ◌∙◌};
     ghost use Rattle.cx_site.specs.Acts.{Act};

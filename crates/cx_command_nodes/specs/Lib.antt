@@ -1,0 +1,6 @@
+pub mod Clients
+pub mod Monitors
+pub mod Named
+pub mod Orders
+pub mod Outside
+pub mod Runs

@@ -1,0 +1,13 @@
+//! The commands that run a node: what it begins with, its run over links, clock, dice and keeper that are lent, and how it ended.
+#![tactic(auto)]
+
+mod clients;
+mod ends;
+mod hosting;
+mod monitors;
+mod named;
+mod orders;
+
+pub use clients::run_client;
+pub use ends::NodeReport;
+pub use monitors::run_monitor;

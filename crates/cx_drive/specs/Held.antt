@@ -1,0 +1,35 @@
+-- What the machines do at a step, on what they hold: their written rules, and behind each step they forget of their links what no later step reads.
+use Rattle.std.specs.Prelude.{ℕ, List, [], None}
+use Rattle.cx_client.specs.Machine as client
+pub use Rattle.cx_client.specs.Machine.{opening_asker}
+use Rattle.cx_drive.specs.declared.peers.Peers.{Peers}
+use Rattle.cx_mon.specs.Machine as monitor
+use Rattle.cx_rules.specs.Abridged.{abridged_client, abridged_monitor}
+use Rattle.cx_rules.specs.ClientRule.{ClientNode, client_rule}
+use Rattle.cx_rules.specs.Inputs.{Input}
+use Rattle.cx_rules.specs.Monitor.{MonitorNode}
+use Rattle.cx_rules.specs.MonitorRule.{monitor_rule}
+use Rattle.cx_rules.specs.Rows.{Outcome}
+
+abbrev pub held_monitor : MonitorNode → Input → ℕ → List ℕ → Outcome MonitorNode
+held_monitor node input reading draw = record {
+  state = abridged_monitor (monitor_rule node input reading draw).state;
+  out = (monitor_rule node input reading draw).out;
+}
+
+abbrev pub held_client : ClientNode → Input → ℕ → List ℕ → Outcome ClientNode
+held_client node input reading draw = record {
+  state = abridged_client (client_rule node input reading draw).state;
+  out = (client_rule node input reading draw).out;
+}
+
+-- a node that opens no links knows no addresses
+abbrev pub no_peers : Peers
+no_peers = record { monitor = None; daemons = [] }
+
+-- what is left of either where memory is wanting
+abbrev pub lost_monitor : MonitorNode → Input → MonitorNode
+lost_monitor node input = monitor.lost node input
+
+abbrev pub lost_client : ClientNode → Input → ClientNode
+lost_client node input = client.lost node input
