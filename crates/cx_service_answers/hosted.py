@@ -563,13 +563,14 @@ def tried_foreign(run):
     drawn = next(line for line in run.blocks[other.event][1] if line.startswith("drawn cookie"))
     cookies = theirs[74:82] + bytes.fromhex(drawn.split()[2])
     play = guest.play(mine, "a_session_of_another_entity_is_reset")
+    play.numbers[DAEMON] -= 1
     asks = ident[:19] + cookies + number(2) + number(1) + number(0)
     play.comes(DAEMON, "6", play.frame(DAEMON, "6", 11, asks) + play.frame(DAEMON, "6", 8, ident))
     reason = "owner-differs client.a 3"
     play.turns(DAEMON, "6", given("6", None, [reason], sends(play, "6", (12, b"\x01"))))
     play.journal.append(f"refused {DAEMON} 6 {reason}")
-    # The cookie is that of the draw at which CLIENT_IDENT is handled, one later than was recorded.
-    play.numbers[DAEMON] = int(place_of(run.blocks[mine.event][0])[2])
+    # The cookie is that of the draw at which CLIENT_IDENT was handled.
+    assert play.numbers[DAEMON] == int(place_of(run.blocks[mine.event][0])[2])
     ((tag, (answer,)),) = guest.sent(mine)
     play.turns(DAEMON, "6", given("6", None, guest.entered(mine), sends(play, "6", (tag, answer))))
     yield from finished(play, guest.entered(mine))

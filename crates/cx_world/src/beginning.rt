@@ -7,9 +7,8 @@ ghost use Rattle.cx_world.specs.Carried.{IsRecord};
 use crate::records::{Record, log_all};
 use crate::world::World;
 use cx_premises::Ledger;
-use cx_run_nodes::Setup;
 use cx_run_links::Wires;
-use cx_run_nodes::opening_nodes;
+use cx_run_nodes::{Setup, opening_nodes};
 use std::alloc::{AllocError, Global};
 
 impl World {
