@@ -1,11 +1,13 @@
-//! The program `cephx_cli`: the top call over the words of the command line, standard input and standard output.
+//! The program `cephx_cli`: the top call over the words of the command line, standard input and standard output, sockets, the folder in which it runs,
+//! the time and random bytes of the system.
 #![tactic(auto)]
 
 use cx_base::{Access, Blob};
 use cx_caps::Permitted;
+use cx_commands::{CommandEnd, CommandStatus, Status, run};
 use cx_desk::Desk;
 use cx_edge::{Input, Output};
-use cx_top::{ProgramEnd, Status, run};
+use cx_tcp::{FolderKeeper, SystemClock, SystemDice, TcpLinks};
 use std::alloc::{AllocError, Global};
 use std::process::ExitCode;
 use std::{env, io};
@@ -14,13 +16,17 @@ fn main(rt: HostRuntime) -> ExitCode {
     let ended = match words(&rt) {
         Ok(words) => match serve(&rt, &words) {
             Ok(ended) => ended,
-            Err(_) => ProgramEnd::plain(rt.alloc(), Status::OutOfMemory),
+            Err(_) => plain(&rt, Status::OutOfMemory),
         },
-        Err(error) => ProgramEnd::plain(rt.alloc(), unreadable(&error)),
+        Err(error) => plain(&rt, unreadable(&error)),
     };
     // Where standard error fails too, the number is left.
     let _ = eprint!(rt; "{ended}");
     ExitCode::from(ended.status.number())
+}
+
+fn plain(rt: &HostRuntime, status: Status) -> CommandEnd {
+    CommandEnd::plain(rt.alloc(), CommandStatus::Text(status))
 }
 
 // The words of the command line, without the program's name.
@@ -37,23 +43,45 @@ fn unreadable(error: &io::Error) -> Status {
     }
 }
 
-fn serve(rt: &HostRuntime, words: &[String]) -> Result<ProgramEnd, AllocError> {
+fn serve(rt: &HostRuntime, words: &[String]) -> Result<CommandEnd, AllocError> {
     let mut texts = Vec::new(rt.alloc());
     for word in words {
         texts.push(word.as_str())?;
     }
+    let desk = desk(rt.alloc())?;
+    let mut input = Input::new(rt.stdin());
+    let mut output = Output::new(rt.stdout());
+    let mut keeper = FolderKeeper::new(rt);
+    let mut links = TcpLinks::new(rt.alloc(), rt)?;
+    let mut clock = SystemClock::new(rt);
+    let mut dice = SystemDice::new(rt);
+    let ended = run(
+        rt.alloc(),
+        &texts,
+        &mut input,
+        &mut output,
+        &mut keeper,
+        &mut links,
+        &mut clock,
+        &mut dice,
+        &desk,
+    );
+    links.send_on();
+    Ok(ended)
+}
+
+// What serves the operations that are allowed: a read answers the name of its object, a write how many bytes came, an exec those bytes.
+fn desk(alloc: Global) -> Result<Desk, AllocError> {
     let mut desk = Desk::empty();
     let read = |alloc: Global, ask: &Permitted| Blob::of(alloc, ask.operation().object.bytes());
-    desk.set(Access::Read, Box::new(rt.alloc(), read)?);
+    desk.set(Access::Read, Box::new(alloc, read)?);
     let write = |alloc: Global, ask: &Permitted| -> Result<Blob, AllocError> {
         let count = ask.operation().bytes.bytes().len();
         let printed = format!(in alloc; "{count}")?;
         Blob::of(alloc, printed.as_bytes())
     };
-    desk.set(Access::Write, Box::new(rt.alloc(), write)?);
+    desk.set(Access::Write, Box::new(alloc, write)?);
     let exec = |alloc: Global, ask: &Permitted| Blob::of(alloc, ask.operation().bytes.bytes());
-    desk.set(Access::Exec, Box::new(rt.alloc(), exec)?);
-    let mut input = Input::new(rt.stdin());
-    let mut output = Output::new(rt.stdout());
-    Ok(run(rt.alloc(), &texts, &mut input, &mut output, &desk))
+    desk.set(Access::Exec, Box::new(alloc, exec)?);
+    Ok(desk)
 }

@@ -12,7 +12,7 @@ use Rattle.cx_top.specs.declared.status.Status.TheVariants.{Done, Usage, BadSche
 -- for wrong words: the commands that are served, with examples
 abbrev pub usage_text : List ℕ
 usage_text =
-    codes "the commands are:\n\n  cephx_cli replay\n      reads a schedule from standard input, and writes the journal of its run to standard output, as in:\n      printf 'entity client.a\\nclock 1000\\nlogin client.a\\n' | cephx_cli replay\n      cephx_cli replay < examples/first_login.schedule\n\n  cephx_cli keyring\n      reads a keyring from standard input, and writes it to standard output in its printed form, as in:\n      cephx_cli keyring < /etc/ceph/ceph.client.admin.keyring\n      cephx_cli keyring < examples/keyrings/two_entities.keyring\n\ndocs/guide.md says what the lines of a schedule, of a journal and of a keyring mean"
+    codes "the commands are:\n\n  cephx_cli replay\n      reads a schedule from standard input, and writes the journal of its run to standard output, as in:\n      printf 'entity client.a\\nclock 1000\\nlogin client.a\\n' | cephx_cli replay\n      cephx_cli replay < examples/first_login.schedule\n\n  cephx_cli keyring\n      reads a keyring from standard input, and writes it to standard output in its printed form, as in:\n      cephx_cli keyring < /etc/ceph/ceph.client.admin.keyring\n      cephx_cli keyring < examples/keyrings/two_entities.keyring\n\n  cephx_cli mon EVENTS LISTEN [LIFE AUTHLIFE]\n      runs the monitor of this folder, which has the file keyring, until so many events came, or as its script, from standard input, says:\n      cephx_cli mon 1000000 127.0.0.1:6789 < /dev/null\n\n  cephx_cli client NAME EVENTS MON [PEER ..]\n      runs a client of the keyring of this folder, as its script, from standard input, says, and writes its journal to standard output:\n      printf 'login client.a osd\\nstop\\n' | cephx_cli client client.a 1000 127.0.0.1:6789\n\ndocs/guide.md says what the lines of a schedule, of a script, of a journal and of a keyring mean"
 
 abbrev pub unserved_line_text : ℕ → List ℕ
 unserved_line_text line = codes "line " <> decimal line <> codes " of the schedule is a good one, but not served yet"

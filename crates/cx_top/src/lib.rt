@@ -13,6 +13,8 @@ mod told;
 mod top;
 mod unserved;
 
-pub use program_end::ProgramEnd;
+pub use commands::Subcommand;
+pub use input::{Unread, read_all};
+pub use program_end::{ProgramEnd, StatusLine};
 pub use status::Status;
 pub use top::run;

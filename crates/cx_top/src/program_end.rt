@@ -37,21 +37,21 @@ impl fmt::Display for ProgramEnd {
 
     fn fmt<W: fmt::Write>(&self, f: &mut fmt::Formatter<W>) -> fmt::Result {
         match self.told.as_bytes() {
-            [] => write!(f, "{}", Plain(self.status)),
+            [] => write!(f, "{}", StatusLine(self.status)),
             [..] => write!(f, "{}", self.told),
         }
     }
 }
 
-/// A status as a line of standard error.
+/// The sentence of a status as a line of standard error; `Done` has none.
 #[derive(Clone, Copy)]
-struct Plain(Status);
+pub struct StatusLine(pub Status);
 
-impl fmt::Display for Plain {
+impl fmt::Display for StatusLine {
     ghost use Rattle.std.specs.Prelude.{Some};
     ghost use Rattle.cx_top.specs.Told.{status_told};
 
-    ghost output = { λ plain. Some (status_told plain.0) };
+    ghost output = { λ line. Some (status_told line.0) };
 
     fn fmt<W: fmt::Write>(&self, f: &mut fmt::Formatter<W>) -> fmt::Result {
         if is_done(self.0) {

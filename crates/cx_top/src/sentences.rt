@@ -301,5 +301,13 @@ fn usage() -> &'static str
       cephx_cli keyring < /etc/ceph/ceph.client.admin.keyring
       cephx_cli keyring < examples/keyrings/two_entities.keyring
 
-docs/guide.md says what the lines of a schedule, of a journal and of a keyring mean"
+  cephx_cli mon EVENTS LISTEN [LIFE AUTHLIFE]
+      runs the monitor of this folder, which has the file keyring, until so many events came, or as its script, from standard input, says:
+      cephx_cli mon 1000000 127.0.0.1:6789 < /dev/null
+
+  cephx_cli client NAME EVENTS MON [PEER ..]
+      runs a client of the keyring of this folder, as its script, from standard input, says, and writes its journal to standard output:
+      printf 'login client.a osd\\nstop\\n' | cephx_cli client client.a 1000 127.0.0.1:6789
+
+docs/guide.md says what the lines of a schedule, of a script, of a journal and of a keyring mean"
 }

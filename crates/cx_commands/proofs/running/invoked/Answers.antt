@@ -1,0 +1,15 @@
+use Rattle.std.proofs.Common.{Some, ap, inr, map, ◌∙◌}
+use Rattle.cx_command_line.specs.Commands as asked
+use Rattle.cx_commands.proofs.Words.{spelled_monitor}
+use Rattle.cx_commands.proofs.running.invoked.Goals as goal
+
+pub monitor-requires : goal.monitor-requires
+monitor-requires g c =
+    spelled_monitor (map (λ w. w.now) c.args.words.now) c.in-Monitor.command (c.requires ∙ ap (λ i. Some (asked.asked i)) c.in-Monitor.is)
+
+pub returns-in-Replay-clause-texts : goal.returns-in-Replay-clause-texts
+returns-in-Replay-clause-texts g c = λ command words. inr (c.text.result, c.of_text.ensures.status, c.of_text.ensures.told, c.text.ensures.ends command words)
+
+pub returns-in-Keyring-clause-texts : goal.returns-in-Keyring-clause-texts
+returns-in-Keyring-clause-texts g c = λ command words.
+    inr (c.text-in-Keyring.result, c.of_text-in-Keyring.ensures.status, c.of_text-in-Keyring.ensures.told, c.text-in-Keyring.ensures.ends command words)

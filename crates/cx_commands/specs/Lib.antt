@@ -1,0 +1,4 @@
+pub mod Ends
+pub mod Misread
+pub mod Nodes
+pub mod Texts

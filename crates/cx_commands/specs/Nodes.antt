@@ -1,0 +1,49 @@
+-- What a command answers that runs a node.
+use Rattle.std.specs.Prelude.{ℕ, ◌≡◌, ◌⊎◌, List, Option}
+use Rattle.cx_base.specs.Streams.{Rose, Takes, TakesFront}
+use Rattle.cx_journal.specs.JournalText.{journal_text}
+use Rattle.cx_journal.specs.declared.entries.Entry.{Entry}
+use Rattle.cx_loading.specs.declared.ends.NodeEnd.{NodeEnd}
+use Rattle.cx_loading.specs.declared.ends.NodeEnd.TheVariants as end
+use Rattle.cx_top.specs.Inputs.{IsPastLimit}
+use Rattle.cx_top.specs.Replays.{GaveAll}
+use Rattle.cx_top.specs.declared.status.Status.TheVariants.{ReadFault, TooLong, OutOfMemory, WriteFault}
+use Rattle.cx_commands.specs.declared.ends.CommandStatus.{CommandStatus}
+use Rattle.cx_commands.specs.declared.ends.CommandStatus.TheVariants.{Text, Node}
+
+-- where the output failed, a node that was done gives that status, and any other keeps its own
+abbrev pub unwritten : NodeEnd → CommandStatus
+unwritten end.Done = Text WriteFault
+unwritten end.Links = Node end.Links
+unwritten end.Dice = Node end.Dice
+unwritten end.Keeper = Node end.Keeper
+unwritten end.OutOfMemory = Node end.OutOfMemory
+unwritten (end.Unloaded why) = Node (end.Unloaded why)
+
+-- what the node entered is written, or a front of it, or memory was wanting for its text
+abbrev pub IsAnswered : NodeEnd → List Entry → Option (List ℕ) → Option (List ℕ) → ℕ → ℕ → CommandStatus → Type 0
+IsAnswered ending entries taken after misses missed status =
+    ((status ≡ Node ending) × Takes taken after (journal_text entries))
+    ⊎ ((status ≡ unwritten ending) × TakesFront taken after (journal_text entries) × Rose misses missed)
+    ⊎ (status ≡ Text OutOfMemory)
+
+-- why the script wasn't read: the input failed or is too long, or memory was wanting
+abbrev pub IsUnreadStatus : Option (List ℕ) → Option (List ℕ) → ℕ → ℕ → CommandStatus → Type 0
+IsUnreadStatus left now faults faulted (Text ReadFault) = Rose faults faulted
+IsUnreadStatus left now faults faulted (Text TooLong) = IsPastLimit left now
+IsUnreadStatus left now faults faulted (Text OutOfMemory) = Unit {0}
+IsUnreadStatus left now faults faulted _ = ⊥
+
+module _ (Ends : List ℕ → NodeEnd → List Entry → Type 0) (left now taken after : Option (List ℕ)) (faults faulted misses missed : ℕ) where
+  -- its script was read to its end, the node ended so, and what it entered was written, or a front of it
+  pub record HasRun (status : CommandStatus) : Type 0 where
+    pub bytes : List ℕ
+    pub read : GaveAll left now bytes
+    pub ending : NodeEnd
+    pub entries : List Entry
+    pub ends : Ends bytes ending entries
+    pub answers : IsAnswered ending entries taken after misses missed status
+
+  -- how it ended
+  abbrev pub NodeAnswers : CommandStatus → Type 0
+  NodeAnswers status = HasRun status ⊎ IsUnreadStatus left now faults faulted status

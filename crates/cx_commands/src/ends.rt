@@ -1,0 +1,132 @@
+//! How the program ended, and what is said of it.
+
+ghost use Rattle.std.specs.Prelude.{◌≡◌, [], string_bytes};
+ghost use Rattle.cx_commands.specs.Ends.{is_node_done, number_of, unserved_text};
+
+use cx_loading::NodeEnd;
+use cx_node_help::Ending;
+use cx_top::{ProgramEnd, Status, StatusLine};
+use std::alloc::Global;
+use std::fmt;
+
+/// How the program ended.
+#[derive(Clone, Copy, Debug, PartialEq, Eq)]
+pub enum CommandStatus {
+    /// As a command that reads a text and writes one, or before a node ran or behind it.
+    Text(Status),
+    /// As its node.
+    Node(NodeEnd),
+    /// The command isn't served yet.
+    Unserved,
+}
+
+impl CommandStatus {
+    /// The number with which the program ends.
+    pub fn number(self) -> u8
+        ensures { result ≡ number_of self }
+    {
+        match self {
+            CommandStatus::Text(status) => status.number(),
+            CommandStatus::Node(end) => end.number(),
+            CommandStatus::Unserved => 13,
+        }
+    }
+}
+
+/// How the program ended, and what is said of it on standard error.
+#[derive(Debug, Drop)]
+pub struct CommandEnd {
+    pub status: CommandStatus,
+    /// Lines for standard error. Where there are none, the sentence of the status says all.
+    pub told: String,
+}
+
+impl CommandEnd {
+    /// Of which the sentence of the status says all.
+    pub fn plain(alloc: Global, status: CommandStatus) -> CommandEnd
+        ensures status { result.status ≡ status }
+        ensures told { string_bytes result.told ≡ [] }
+    {
+        CommandEnd {
+            status,
+            told: String::new(alloc),
+        }
+    }
+
+    /// As a command that reads a text and writes one.
+    pub fn of_text(ended: ProgramEnd) -> CommandEnd
+        ensures status { result.status ≡ CommandStatus.Text ended.status }
+        ensures told { result.told ≡ ended.told }
+    {
+        CommandEnd {
+            status: CommandStatus::Text(ended.status),
+            told: ended.told,
+        }
+    }
+}
+
+/// The lines for standard error: those that are told, or else the sentence of the status.
+impl fmt::Display for CommandEnd {
+    ghost use Rattle.std.specs.Prelude.{Some, string_bytes};
+    ghost use Rattle.cx_top.specs.Told.{or_told};
+    ghost use Rattle.cx_commands.specs.Ends.{sentence_of};
+
+    ghost output = { λ ended. Some (or_told (string_bytes ended.told) (sentence_of ended.status)) };
+
+    fn fmt<W: fmt::Write>(&self, f: &mut fmt::Formatter<W>) -> fmt::Result {
+        match self.told.as_bytes() {
+            [] => write!(f, "{}", Sentence(self.status)),
+            [..] => write!(f, "{}", self.told),
+        }
+    }
+}
+
+/// The sentence of a status.
+#[derive(Clone, Copy)]
+struct Sentence(CommandStatus);
+
+impl fmt::Display for Sentence {
+    ghost use Rattle.std.specs.Prelude.{Some};
+    ghost use Rattle.cx_commands.specs.Ends.{sentence_of};
+
+    ghost output = { λ sentence. Some (sentence_of sentence.0) };
+
+    fn fmt<W: fmt::Write>(&self, f: &mut fmt::Formatter<W>) -> fmt::Result {
+        match self.0 {
+            CommandStatus::Text(status) => write!(f, "{}", StatusLine(status)),
+            CommandStatus::Node(end) => write!(f, "{}", NodeLine(end)),
+            CommandStatus::Unserved => write!(f, "cephx_cli: {}\n", unserved_text()),
+        }
+    }
+}
+
+/// The line of how a node ended.
+#[derive(Clone, Copy)]
+struct NodeLine(NodeEnd);
+
+impl fmt::Display for NodeLine {
+    ghost use Rattle.std.specs.Prelude.{Some};
+    ghost use Rattle.cx_commands.specs.Ends.{sentence_of};
+    ghost use Rattle.cx_commands.specs.declared.ends.CommandStatus.TheVariants.{Node};
+
+    ghost output = { λ line. Some (sentence_of (Node line.0)) };
+
+    fn fmt<W: fmt::Write>(&self, f: &mut fmt::Formatter<W>) -> fmt::Result {
+        if is_node_done(self.0) {
+            return Ok(());
+        }
+        write!(f, "cephx_cli: {}\n", Ending(self.0))
+    }
+}
+
+fn is_node_done(end: NodeEnd) -> bool
+    ensures { result ≡ is_node_done end }
+{
+    matches!(end, NodeEnd::Done)
+}
+
+fn unserved_text() -> &'static str
+    ensures { result.now ≡ unserved_text }
+{
+    "drill and daemon are to come; replay, keyring, mon and client are served"
+}

@@ -1,0 +1,14 @@
+//! The top call over all commands: those that read a text and write one, and those that run a node.
+#![tactic(auto)]
+
+mod ends;
+mod misread;
+mod nodes;
+mod running;
+mod texts;
+
+pub use ends::{CommandEnd, CommandStatus};
+pub use running::run;
+
+// What the program names beside them.
+pub use cx_top::Status;

@@ -1,0 +1,97 @@
+//! The commands that run a node: the script is read before it, and what it entered is written behind it.
+
+ghost use Rattle.std.specs.Prelude.{◌≡◌, ◌≤◌};
+ghost use Rattle.cx_command_nodes.specs.Clients.{ClientEnds};
+ghost use Rattle.cx_command_nodes.specs.Monitors.{IsMonitorCommand, MonitorEnds};
+ghost use Rattle.cx_command_nodes.specs.Outside.{outside};
+ghost use Rattle.cx_command_line.specs.Commands.{asked_client};
+ghost use Rattle.cx_commands.specs.Nodes.{IsAnswered, NodeAnswers, unwritten};
+
+use crate::ends::{CommandEnd, CommandStatus};
+use cx_base::{Blob, Sink, Source};
+use cx_clock::Clock;
+use cx_command_line::{ClientCommand, MonitorCommand};
+use cx_command_nodes::{NodeReport, run_client, run_monitor};
+use cx_dice::Dice;
+use cx_journal::put_text;
+use cx_keep::Keeper;
+use cx_links::Links;
+use cx_loading::NodeEnd;
+use cx_top::{Status, read_all};
+use std::alloc::Global;
+
+/// Runs the monitor.
+pub(crate) fn monitor<I: Source, O: Sink, K: Keeper, L: Links, C: Clock, D: Dice>(
+    alloc: Global,
+    command: &MonitorCommand,
+    input: &mut I,
+    out: &mut O,
+    keeper: &mut K,
+    links: &mut L,
+    clock: &mut C,
+    dice: &mut D,
+) -> CommandEnd
+    requires { IsMonitorCommand command.now }
+    ensures ends { NodeAnswers (λ bytes. MonitorEnds L.follows command.now bytes
+        (outside (K.kept keeper.old) (K.faults keeper.old) links.old (L.faults links.old) (L.misses links.old) (C.coming clock.old) (D.coming dice.old) (D.faults dice.old))
+        (outside (K.kept keeper.new) (K.faults keeper.new) links.new (L.faults links.new) (L.misses links.new) (C.coming clock.new) (D.coming dice.new) (D.faults dice.new)))
+        (I.left input.old) (I.left input.new) (O.taken out.old) (O.taken out.new) (I.faults input.old) (I.faults input.new) (O.faults out.old) (O.faults out.new)
+        result.status }
+{
+    let bytes = match read_all(alloc, input) {
+        Ok(bytes) => bytes,
+        Err(unread) => return CommandEnd::plain(alloc, CommandStatus::Text(Status::from(unread))),
+    };
+    let report = run_monitor(alloc, command, bytes.bytes(), keeper, links, clock, dice);
+    answers(alloc, report, out)
+}
+
+/// Runs a client.
+pub(crate) fn client<I: Source, O: Sink, K: Keeper, L: Links, C: Clock, D: Dice>(
+    alloc: Global,
+    command: &ClientCommand<'_>,
+    input: &mut I,
+    out: &mut O,
+    keeper: &mut K,
+    links: &mut L,
+    clock: &mut C,
+    dice: &mut D,
+) -> CommandEnd
+    ensures ends { NodeAnswers (λ bytes. ClientEnds L.follows (asked_client command.now) bytes
+        (outside (K.kept keeper.old) (K.faults keeper.old) links.old (L.faults links.old) (L.misses links.old) (C.coming clock.old) (D.coming dice.old) (D.faults dice.old))
+        (outside (K.kept keeper.new) (K.faults keeper.new) links.new (L.faults links.new) (L.misses links.new) (C.coming clock.new) (D.coming dice.new) (D.faults dice.new)))
+        (I.left input.old) (I.left input.new) (O.taken out.old) (O.taken out.new) (I.faults input.old) (I.faults input.new) (O.faults out.old) (O.faults out.new)
+        result.status }
+{
+    let bytes = match read_all(alloc, input) {
+        Ok(bytes) => bytes,
+        Err(unread) => return CommandEnd::plain(alloc, CommandStatus::Text(Status::from(unread))),
+    };
+    let report = run_client(alloc, command, bytes.bytes(), keeper, links, clock, dice);
+    answers(alloc, report, out)
+}
+
+// What the node entered is written.
+fn answers<O: Sink>(alloc: Global, report: NodeReport, out: &mut O) -> CommandEnd
+    ensures ends { IsAnswered report.end report.journal (O.taken out.old) (O.taken out.new) (O.faults out.old) (O.faults out.new) result.status }
+    ensures later { O.faults out.old ≤ O.faults out.new }
+{
+    let mut text = Blob::new(alloc);
+    if put_text(alloc, &report.journal, &mut text).is_err() {
+        return CommandEnd::plain(alloc, CommandStatus::Text(Status::OutOfMemory));
+    }
+    match out.push(text.bytes()) {
+        Ok(()) => CommandEnd::plain(alloc, CommandStatus::Node(report.end)),
+        Err(_) => CommandEnd::plain(alloc, unwritten(report.end)),
+    }
+}
+
+// Where the output failed.
+fn unwritten(end: NodeEnd) -> CommandStatus
+    ensures { result ≡ unwritten end }
+{
+    match end {
+        NodeEnd::Done => CommandStatus::Text(Status::WriteFault),
+        end => CommandStatus::Node(end),
+    }
+}
