@@ -48,7 +48,18 @@ fn serve(rt: &HostRuntime, words: &[String]) -> Result<CommandEnd, AllocError> {
     for word in words {
         texts.push(word.as_str())?;
     }
-    let desk = desk(rt.alloc())?;
+    // What serves the operations that are allowed: a read answers the name of its object, a write how many bytes came, an exec those bytes.
+    let mut desk = Desk::empty();
+    let read = |alloc: Global, ask: &Permitted| Blob::of(alloc, ask.operation().object.bytes());
+    desk.set(Access::Read, Box::new(rt.alloc(), read)?);
+    let write = |alloc: Global, ask: &Permitted| -> Result<Blob, AllocError> {
+        let count = ask.operation().bytes.bytes().len();
+        let printed = format!(in alloc; "{count}")?;
+        Blob::of(alloc, printed.as_bytes())
+    };
+    desk.set(Access::Write, Box::new(rt.alloc(), write)?);
+    let exec = |alloc: Global, ask: &Permitted| Blob::of(alloc, ask.operation().bytes.bytes());
+    desk.set(Access::Exec, Box::new(rt.alloc(), exec)?);
     let mut input = Input::new(rt.stdin());
     let mut output = Output::new(rt.stdout());
     let mut keeper = FolderKeeper::new(rt);
@@ -68,20 +79,4 @@ fn serve(rt: &HostRuntime, words: &[String]) -> Result<CommandEnd, AllocError> {
     );
     links.send_on();
     Ok(ended)
-}
-
-// What serves the operations that are allowed: a read answers the name of its object, a write how many bytes came, an exec those bytes.
-fn desk(alloc: Global) -> Result<Desk, AllocError> {
-    let mut desk = Desk::empty();
-    let read = |alloc: Global, ask: &Permitted| Blob::of(alloc, ask.operation().object.bytes());
-    desk.set(Access::Read, Box::new(alloc, read)?);
-    let write = |alloc: Global, ask: &Permitted| -> Result<Blob, AllocError> {
-        let count = ask.operation().bytes.bytes().len();
-        let printed = format!(in alloc; "{count}")?;
-        Blob::of(alloc, printed.as_bytes())
-    };
-    desk.set(Access::Write, Box::new(alloc, write)?);
-    let exec = |alloc: Global, ask: &Permitted| Blob::of(alloc, ask.operation().bytes.bytes());
-    desk.set(Access::Exec, Box::new(alloc, exec)?);
-    Ok(desk)
 }
