@@ -38,7 +38,11 @@ impl fmt::Display for WrongWords<'_> {
                 self.wrong.number,
                 place_text(place)
             ),
-            Why::Extra => write!(f, "{}, is one too many", shown),
+            Why::Extra => write!(
+                f,
+                "{}, is one too many; what a command reads is given by <, as in: cephx_cli replay < FILE",
+                shown
+            ),
         }
     }
 }

@@ -1,9 +1,9 @@
 //! Saving the monitor's state.
 
-ghost use Rattle.std.specs.Prelude.{◌≡◌, ◌≤◌, Err, OnOk};
+ghost use Rattle.std.specs.Prelude.{ℕ, ◌≡◌, ◌≢◌, ◌≤◌, Err, OnOk};
 ghost use Rattle.cx_base.specs.Streams.{Rose};
 ghost use Rattle.cx_rotate.specs.Keeping.{IsKeptState};
-ghost use Rattle.cx_keep.specs.Formats.{state_text};
+ghost use Rattle.cx_keep.specs.Formats.{SpellsState, state_text};
 ghost use Rattle.cx_keep.specs.Slots.{Saves, SavesOrNot};
 
 use crate::format::encode_state;
@@ -43,6 +43,8 @@ pub fn commit<K: Keeper>(
     requires { IsKeptState state.now }
     ensures saved { OnOk result (Saves (K.kept keeper.old) (K.kept keeper.new) Slot.State (state_text state.now)) }
     ensures fault { result ≡ Err CommitRefusal.KeepFault → SavesOrNot (K.kept keeper.old) (K.kept keeper.new) Slot.State (state_text state.now) }
+    // What was to be saved is read again as this state, whatever lives are handed in.
+    ensures spells { result ≢ Err CommitRefusal.OutOfMemory → (lives : ℕ × ℕ) → SpellsState lives (state_text state.now) state.now }
     ensures once { OnOk result (K.faults keeper.new ≡ K.faults keeper.old) }
     ensures cause { result ≡ Err CommitRefusal.KeepFault → Rose (K.faults keeper.old) (K.faults keeper.new) }
     ensures later { K.faults keeper.old ≤ K.faults keeper.new }

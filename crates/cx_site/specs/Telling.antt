@@ -4,9 +4,10 @@ use Rattle.std.proofs.Common.{refl, ap, subst, sym}
 use Rattle.cx_base.specs.Streams.{Rose}
 use Rattle.cx_clock.specs.Readings.{GivesReading}
 use Rattle.cx_dice.specs.Rolls.{GivesDraw}
-use Rattle.cx_keep.specs.Formats.{state_text}
+use Rattle.cx_keep.specs.Formats.{SpellsState, state_text}
 use Rattle.cx_keep.specs.Slots.{Kept, Saves, SavesOrNot}
 use Rattle.cx_keep.specs.declared.keeper.Slot.TheVariants.{State}
+use Rattle.cx_rotate.specs.declared.states.KeptState.{KeptState}
 use Rattle.cx_links.specs.Acts.{LinkAct, Listened, Opened, Gave, Broke, Sent, Shut}
 use Rattle.cx_site.specs.Acts.{Act, Linked, Read, Rolled, Saved}
 
@@ -43,10 +44,14 @@ is_there (Some x) = true
 
 -- ---- the keeper
 
+-- the spelling of a state that is saved is read again as this state, whatever lives are handed in
+abbrev pub IsSpelled : KeptState → Type 0
+IsSpelled state = (lives : ℕ × ℕ) → SpellsState lives (state_text state) state
+
 -- what is kept: behind a save that failed the old bytes or the new ones
 abbrev pub Keeps : Option Kept → Act → Option Kept → Type 0
-Keeps old (Saved state true) new = Saves old new State (state_text state)
-Keeps old (Saved state false) new = SavesOrNot old new State (state_text state)
+Keeps old (Saved state true) new = IsSpelled state × Saves old new State (state_text state)
+Keeps old (Saved state false) new = IsSpelled state × SavesOrNot old new State (state_text state)
 Keeps old (Linked act) new = new ≡ old
 Keeps old (Read reading) new = new ≡ old
 Keeps old (Rolled draw) new = new ≡ old

@@ -12,7 +12,8 @@ use std::io::Eprint;
 use std::net::Net;
 use std::time::Clock;
 
-/// Links over TCP, at most 2,048 at a time, with a wait of at most 50 ms for what comes next. Links are served in turn. A peer that was
+/// Links over TCP, at most 2,048 at a time, with a wait of 50 ms for what comes next, or, where the node
+/// listens nowhere, of 1 ms at first, doubled up to 50. Links are served in turn. A peer that was
 /// accepted and says nothing for 10 s is gone, and so is one for which more than 4 MiB wait. A link that is shut still sends what
 /// waits, for at most 2 s. While all places are taken nothing is accepted, and peers wait with the system. What the system refuses
 /// is printed on standard error, and at which address the node listens.

@@ -23,12 +23,17 @@ const NEWS: usize = 256;
 // The place of the listener, behind those of the links. A token is a place.
 const LISTENER: usize = MOST;
 
-// How many milliseconds are waited for news, and how many lie between two looks for links that are overdue.
+// How many milliseconds are waited for news. A node that listens nowhere begins with fewer and doubles them, since it goes on by its
+// orders where nothing comes.
 const WAIT: u64 = 50;
 
+const FIRST_WAIT: u64 = 1;
+
+// How many milliseconds lie between two looks for links that are overdue.
 const SWEEP: u64 = 250;
 
-/// All links of a node by their places, and the listener. The place at which the last look ended goes round.
+/// All links of a node by their places, of which there are as many as there ever were links at a time, and the listener. The place at
+/// which the last look ended goes round.
 #[derive(Drop)]
 pub struct Table<R> {
     rt: R,
@@ -40,15 +45,12 @@ pub struct Table<R> {
     places: Vec<Option<Socket>>,
     last_number: u32,
     place: usize,
+    wait: u64,
     swept: Option<Instant>,
 }
 
 impl<R: Net + Eprint + Clock + Drop> Table<R> {
     pub fn new(alloc: Global, rt: R) -> Result<Table<R>, AllocError> {
-        let mut places = Vec::new(alloc);
-        for _ in 0..MOST {
-            places.push(None)?;
-        }
         Ok(Table {
             rt,
             alloc,
@@ -56,9 +58,10 @@ impl<R: Net + Eprint + Clock + Drop> Table<R> {
             news: Events::with_capacity(alloc, NEWS)?,
             listener: None,
             may_accept: false,
-            places,
+            places: Vec::with_capacity(alloc, MOST)?,
             last_number: 0,
             place: 0,
+            wait: FIRST_WAIT,
             swept: None,
         })
     }
@@ -93,12 +96,28 @@ impl<R: Net + Eprint + Clock + Drop> Table<R> {
     {
         self.hear(Duration::ZERO)?;
         if let Some(event) = self.look(into)? {
+            self.wait = FIRST_WAIT;
             return Ok(event);
         }
-        self.hear(Duration::from_millis(WAIT))?;
+        self.hear(self.patience())?;
         match self.look(into)? {
-            Some(event) => Ok(event),
-            None => Ok(LinkEvent::Quiet),
+            Some(event) => {
+                self.wait = FIRST_WAIT;
+                Ok(event)
+            }
+            None => {
+                self.wait = self.wait.saturating_mul(2);
+                Ok(LinkEvent::Quiet)
+            }
+        }
+    }
+
+    // How long the next wait is.
+    fn patience(&self) -> Duration {
+        if self.listener.is_some() {
+            Duration::from_millis(WAIT)
+        } else {
+            Duration::from_millis(self.wait.min(WAIT))
         }
     }
 
@@ -173,8 +192,11 @@ impl<R: Net + Eprint + Clock + Drop> Table<R> {
         None
     }
 
+    // A place without a link, which may be a new one behind the others; none where all are taken.
     fn free_place(&self) -> Option<usize> {
-        self.places.iter().position(|slot| slot.is_none())
+        let behind = self.places.len();
+        let free = self.places.iter().position(|slot| slot.is_none());
+        free.or(if behind < MOST { Some(behind) } else { None })
     }
 
     // Puts a new link into a free place.
@@ -189,9 +211,10 @@ impl<R: Net + Eprint + Clock + Drop> Table<R> {
         self.poll()?
             .registry()
             .register(&mut stream, Token(place), both)?;
-        let socket = Socket::new(self.alloc, stream, number, stage, now);
-        if let Some(slot) = self.places.get_mut(place) {
-            *slot = Some(socket);
+        let socket = Some(Socket::new(self.alloc, stream, number, stage, now));
+        match self.places.get_mut(place) {
+            Some(slot) => *slot = socket,
+            None => self.places.push(socket)?,
         }
         self.last_number = number;
         Ok(number)
@@ -223,8 +246,9 @@ impl<R: Net + Eprint + Clock + Drop> Table<R> {
         if let Some(gone) = self.sweep()? {
             return Ok(Some(gone));
         }
-        for _ in 0..=LISTENER {
-            self.place = if self.place < LISTENER {
+        let count = self.places.len();
+        for _ in 0..=count {
+            self.place = if self.place < count {
                 self.place + 1
             } else {
                 0
@@ -242,7 +266,7 @@ impl<R: Net + Eprint + Clock + Drop> Table<R> {
         ensures bound { IfSome result (λ event. IsWithin event (length into.old)) }
         ensures room { length into.new ≡ length into.old }
     {
-        if self.place == LISTENER {
+        if self.place == self.places.len() {
             return self.accept();
         }
         let slot = self.places.get_mut(self.place)?;
