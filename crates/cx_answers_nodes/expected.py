@@ -35,6 +35,9 @@ RUNS = (
     ("crc_alone", "mon", "send 1", "the banner can't be sent, so the link is gone, and what comes on it is nothing to the monitor"),
 )
 
+# The run of which each save, roll, wait and send of the monitor fails in turn.
+TABLE = ("first_login", "mon")
+
 # Which entries of a journal a node makes.
 MONITORS = ("saved ", "issued ", "refused mon ", "restarted mon")
 
@@ -55,6 +58,7 @@ class Alone:
         self.comes, self.does, self.readings, self.orders, self.fails = [], [], [], [], []
         self.steps = self.entries = self.saves = self.calls = self.waits = self.sends = 0
         self.dead = False
+        self.last = len(self.blocks)
         self.ended = "done"
         try:
             self.play()
@@ -88,6 +92,8 @@ class Alone:
         """A turn that turned nothing stands nowhere in a record, but it is a step, and costs a draw."""
         turning = False
         for place, (words, told) in enumerate(self.blocks):
+            if place > self.last:
+                break
             kind = words[1]
             _, reading, draw = place_of(words)
             if turning and kind != "turn":
@@ -121,8 +127,11 @@ class Alone:
         """What a step does, in the order of a node: saved, sent, opened, shut."""
         if any(line.startswith("save ") for line in told):
             self.saves += 1
-            if any(line.startswith("the save fails") for line in told):
-                self.fails.append(f"{self.name.rsplit('_', 1)[1]} {self.saves}")
+            left = self.name.rsplit("_", 1)[1] if any(line.startswith("the save fails") for line in told) else None
+            if self.what in ("old", "new") and self.number == self.saves:
+                left = self.what
+            if left:
+                self.fails.append(f"{left} {self.saves}")
                 self.does.append("  save fails")
                 raise Ends("keeper")
             self.does.append("  save")
@@ -132,9 +141,15 @@ class Alone:
                 self.calls += 1
                 self.sends += 1
                 if self.fail("send", self.sends, self.calls, "links"):
-                    # The link is gone, so all else that was recorded on it is nothing to the node: this is tried with one link alone.
-                    self.does.append(f"  send {line.split()[1]} fails")
+                    # The link is gone, so all else that was recorded on it is nothing to the node. Where another link opens behind that, its draws
+                    # would be others, so what was recorded of that is left out.
+                    link = line.split()[1]
+                    self.does.append(f"  send {link} fails")
                     self.dead = True
+                    behind = self.blocks[place + 1 :]
+                    other = next((i for i, (words, _) in enumerate(behind) if words[1] == "opened"), len(behind))
+                    assert all(words[2] == link for words, _ in behind[:other])
+                    self.last = place + other
                     return
                 self.does.append(f"  {line}")
         for line in told:
@@ -182,8 +197,23 @@ class Alone:
         yield from [line for line in self.journal if line.startswith(own)][: self.entries]
 
 
+def table():
+    """Each save leaving the old state and the new one, each roll, each wait and each send of a run, failing in turn."""
+    name, node = TABLE
+    whole = Alone(name, node, "")
+    for i in range(1, whole.saves + 1):
+        yield name, node, f"old {i}", f"save {i} fails and leaves the old state"
+        yield name, node, f"new {i}", f"save {i} fails and leaves the new state"
+    for i in range(1, whole.steps + 1):
+        yield name, node, f"dice {i}", f"roll {i} fails"
+    for i in range(1, whole.waits + 1):
+        yield name, node, f"wait {i}", f"wait {i} fails"
+    for i in range(1, whole.sends + 1):
+        yield name, node, f"send {i}", f"send {i} fails, and its link is gone"
+
+
 def main():
-    for name, node, fails, shows in RUNS:
+    for name, node, fails, shows in (*RUNS, *table()):
         alone = Alone(name, node, fails)
         for line in alone.rows(shows) if sys.argv[1] == "rows" else alone.answers(shows):
             print(line)
