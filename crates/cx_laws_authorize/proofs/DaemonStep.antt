@@ -43,7 +43,7 @@ use Rattle.cx_wire.specs.declared.bodies.Request.TheVariants as asked
 use Rattle.cx_run.proofs.GuestTakes.{StaysGuest, TakesHosted, guest-takes}
 use Rattle.cx_run.proofs.Taking.{EachRow}
 use Rattle.cx_laws_authorize.proofs.Backing.{AllGood, HasBacking}
-use Rattle.cx_laws_authorize.proofs.Hosting.{Always, always-map, always-weaker}
+use Rattle.cx_laws_authorize.proofs.Hosting.{Always, always-both, always-map, always-weaker}
 use Rattle.cx_laws_authorize.proofs.HostingKeys.{KeepsHosted, KeepsTurned, guest-keeps}
 use Rattle.cx_laws_authorize.proofs.Keys.{KeptKeys, LinkKeys, StageKeys, host-grows}
 use Rattle.cx_laws_authorize.proofs.Steps.{all-authorize, always-book}
@@ -74,9 +74,9 @@ stage_keys-grow us vs AwaitsBanner f h = tt
 stage_keys-grow us vs AwaitsHello f h = tt
 stage_keys-grow us vs AwaitsRequest f h = tt
 stage_keys-grow us vs (AwaitsProof awaited) f h = tt
-stage_keys-grow us vs (AwaitsSignature s owner) f h = host-grows us vs s.keys f h
-stage_keys-grow us vs (AwaitsIdent s owner) f h = host-grows us vs s.keys f h
-stage_keys-grow us vs (Open s served) f h = host-grows us vs s.keys f h
+stage_keys-grow us vs (AwaitsSignature s owner) f h = host-grows us vs s.keys owner.ticket.name f h
+stage_keys-grow us vs (AwaitsIdent s owner) f h = host-grows us vs s.keys owner.ticket.name f h
+stage_keys-grow us vs (Open s served) f h = (h.0, host-grows us vs s.keys h.0 f h.1)
 
 pub daemon_stage-grows : (run : WholeRun) (us vs : Uses) (n : NodeName) (stage : DaemonStage) → Grows us vs → DaemonStageOk run us n stage → DaemonStageOk run vs n stage
 daemon_stage-grows run us vs n (AsAcceptor stage) f h = (stage_keys-grow us vs stage f h.0, h.1)
@@ -112,11 +112,6 @@ entered-asker run first us J [] asker none ok = ok
 entered-asker run first us J (e ∷ js) asker none ok = entered-asker run first us (J ++ e ∷ []) js asker none.1 (asker-entered run first us J asker e none.0 ok)
 
 -- ---- a step
-
--- both are so, whatever is replied
-always-both : {C R X : Type 0} (P Q : X → Type 0) (rule : Asks C R X) → Always P rule → Always Q rule → Always (λ (x : X). P x × Q x) rule
-always-both P Q (Finished x) p q = (p, q)
-always-both P Q (Asking call next) p q = λ r. always-both P Q (next r) (p r) (q r)
 
 module _ (run : WholeRun) (whole : List Logged) (n : NodeName) (line : ℕ) (us : Uses) (log : List Logged) (J : List Entry) (d : DaemonState) (input : Input) (reading : ℕ) where
   abbrev Says : Saying Daemon DaemonStage

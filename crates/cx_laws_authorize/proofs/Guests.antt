@@ -47,11 +47,14 @@ abbrev pub IsNoTicket : Reason → Type 0
 IsNoTicket (reason.Ticket why blob) = ⊥
 IsNoTicket _ = Unit {0}
 
--- a session that is entered is owned by the link in this stage, and no ticket is refused
+-- a session that is entered is owned by the link in this stage; a look is at the daemon's own view, which stays; and no ticket is refused
 abbrev pub EntryOwnedIn : Asker → GuestStage → Entry → Type 0
 EntryOwnedIn daemon stage (entry.Admitted session) = IsOwnedIn daemon stage session
 EntryOwnedIn daemon stage (entry.Resumed session) = IsOwnedIn daemon stage session
 EntryOwnedIn daemon stage (entry.Refused r) = IsNoTicket r.reason
+EntryOwnedIn daemon stage (entry.Looked look) = (look.daemon ≡ daemon.name) × (look.view ≡ daemon.view)
+EntryOwnedIn daemon stage (entry.Fetched f) = ⊥
+EntryOwnedIn daemon stage (entry.Restarted at) = ⊥
 EntryOwnedIn daemon stage (entry.Issued ticket) = ⊥
 EntryOwnedIn daemon stage _ = Unit {0}
 
@@ -64,6 +67,9 @@ abbrev pub EntryToldIn : Asker → NodeName → ℕ → ℕ → GuestStage → L
 EntryToldIn daemon me number reading stage entries seals (entry.Admitted session) = IsOwnedIn daemon stage session
 EntryToldIn daemon me number reading stage entries seals (entry.Resumed session) = IsOwnedIn daemon stage session
 EntryToldIn daemon me number reading stage entries seals (entry.Refused r) = ReasonTold daemon me number reading entries seals r r.reason
+EntryToldIn daemon me number reading stage entries seals (entry.Looked look) = (look.daemon ≡ daemon.name) × (look.view ≡ daemon.view)
+EntryToldIn daemon me number reading stage entries seals (entry.Fetched f) = ⊥
+EntryToldIn daemon me number reading stage entries seals (entry.Restarted at) = ⊥
 EntryToldIn daemon me number reading stage entries seals (entry.Issued ticket) = ⊥
 EntryToldIn daemon me number reading stage entries seals _ = Unit {0}
 
@@ -77,6 +83,9 @@ entry-told : (daemon : Asker) (me : NodeName) (number reading : ℕ) (stage : Gu
 entry-told daemon me number reading stage entries seals (entry.Admitted session) h = h
 entry-told daemon me number reading stage entries seals (entry.Resumed session) h = h
 entry-told daemon me number reading stage entries seals (entry.Refused r) h = reason-told daemon me number reading entries seals r r.reason h
+entry-told daemon me number reading stage entries seals (entry.Looked look) h = h
+entry-told daemon me number reading stage entries seals (entry.Fetched f) h = absurd h
+entry-told daemon me number reading stage entries seals (entry.Restarted at) h = absurd h
 entry-told daemon me number reading stage entries seals (entry.Issued ticket) h = absurd h
 entry-told daemon me number reading stage entries seals _ h = tt
 
@@ -150,11 +159,11 @@ module _ (b : GuestArrival) where
 
   away-authorized : (before : GuestStage) (opened : List SealEntry) (why : AuthRefusal) → RefusalTells b.own.view b.reading why opened
       → AuthorizedRow b.own b.me b.link.number b.reading before (looked (turns_away b opened why))
-  away-authorized before opened (refusal.Malformed place) h = record { link = tt; entries = (tt, (tt, tt)) }
-  away-authorized before opened (refusal.WrongService kept got) h = record { link = tt; entries = (tt, (tt, tt)) }
+  away-authorized before opened (refusal.Malformed place) h = record { link = tt; entries = ((refl, refl), (tt, tt)) }
+  away-authorized before opened (refusal.WrongService kept got) h = record { link = tt; entries = ((refl, refl), (tt, tt)) }
   away-authorized before opened (refusal.Ticket why blob) h =
-      record { link = tt; entries = (tt, (record { node_is = refl; link = refl; entries_are = refl; tells = h }, tt)) }
-  away-authorized before opened refusal.OutOfMemory h = record { link = tt; entries = (tt, (tt, tt)) }
+      record { link = tt; entries = ((refl, refl), (record { node_is = refl; link = refl; entries_are = refl; tells = h }, tt)) }
+  away-authorized before opened refusal.OutOfMemory h = record { link = tt; entries = ((refl, refl), (tt, tt)) }
 
   still-challenges : (before : GuestStage) (opened : List SealEntry) (ticket : ServiceTicket) → StillRow b.own b.link.number before (challenges b opened ticket)
   still-challenges before opened ticket = by_sent (plain_frame (sealed_challenge_frame ticket.session (challenge_of b.draw)))
@@ -170,7 +179,7 @@ module _ (b : GuestArrival) where
       → ((x : X) → StillRow b.own b.link.number before (next x)) → ((r : AuthRefusal) → judged_by part value ≡ Err r → RefusalTells b.own.view b.reading r opened)
       → AuthorizedRow b.own b.me b.link.number b.reading before (looked (unless_turned_away b opened value next))
   judged-still before opened (Ok x) part next h tells =
-      still-authorized b.own b.me b.link.number b.reading before (looked (next x)) (still-entered b before (looked_entry b) (next x) tt (h x))
+      still-authorized b.own b.me b.link.number b.reading before (looked (next x)) (still-entered b before (looked_entry b) (next x) (refl, refl) (h x))
   judged-still before opened (Err why) part next h tells = away-authorized before opened why (tells why refl)
 
   first-authorized : (before : GuestStage) (payload : List ℕ) → AuthorizedRow b.own b.me b.link.number b.reading before (on_first b payload)
@@ -197,8 +206,8 @@ module _ (b : GuestArrival) where
 
     done-authorized : (opened held : List SealEntry) (ticket : ServiceTicket) (secret : List ℕ) (r : Result Finished BytesFault) → IsShown b.own.view b.reading awaited.challenge ticket opened
         → AuthorizedRow b.own b.me b.link.number b.reading due (looked (done_sent b (opened ++ Drawn (draw.Connection secret ticket.name) ∷ []) held (authority_of b ticket) r))
-    done-authorized opened held ticket secret (Err why) shown = record { link = tt; entries = (tt, (tt, tt)) }
-    done-authorized opened held ticket secret (Ok done) shown = record { link = (refl, λ x same. inr (gets x same)); entries = (tt, tt) }
+    done-authorized opened held ticket secret (Err why) shown = record { link = tt; entries = ((refl, refl), (tt, tt)) }
+    done-authorized opened held ticket secret (Ok done) shown = record { link = (refl, λ x same. inr (gets x same)); entries = ((refl, refl), tt) }
       where
         seals : List SealEntry
         seals = (opened ++ Drawn (draw.Connection secret ticket.name) ∷ []) ++ (held ++ done.seals)

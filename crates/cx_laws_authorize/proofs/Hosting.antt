@@ -63,6 +63,10 @@ pub always-weaker : {C R X : Type 0} (P Q : X → Type 0) → ((x : X) → P x �
 always-weaker P Q f (Finished x) h = f x h
 always-weaker P Q f (Asking call next) h = λ r. always-weaker P Q f (next r) (h r)
 
+pub always-both : {C R X : Type 0} (P Q : X → Type 0) (rule : Asks C R X) → Always P rule → Always Q rule → Always (λ (x : X). P x × Q x) rule
+always-both P Q (Finished x) p q = (p, q)
+always-both P Q (Asking call next) p q = λ r. always-both P Q (next r) (p r) (q r)
+
 abbrev StillHosted : Asker → ℕ → GuestStage → Hosted → Type 0
 StillHosted daemon number before hosted = RowOf (StillRow daemon number before) hosted.turned
 

@@ -37,41 +37,42 @@ use Rattle.cx_steps.specs.declared.seals.SealEntry.TheVariants as seal
 use Rattle.cx_laws_authorize.proofs.Backing.{opened-issued}
 use Rattle.cx_laws_authorize.proofs.Opened.{IsOpening, ShowsTicket, first-all, first-opened, second-all, second-opened}
 use Rattle.cx_laws_keys.proofs.Journal.{IsNotIssued}
-use Rattle.cx_laws_keys.proofs.Known.{Inv, IsAllowed, IsOfAcceptor}
+use Rattle.cx_laws_keys.proofs.Known.{Inv, IsAllowed, IsOfAcceptor, IsOfConnector}
 use Rattle.cx_laws_keys.proofs.Lists.{all-append, all-map}
 use Rattle.cx_laws_keys.proofs.Premises.{AreGranted, behind, behind-append, granted-first, granted-rest}
 use Rattle.cx_laws_keys.proofs.Steps.{inv-all, inv-drawn}
 use Rattle.cx_laws_keys.proofs.Uses.{AtDaemon, Connected, Grows, IsConnected, Means, Ticketed, Use, Uses, connected-grows, grows-one, session_use, stays, with_key, WholeRun}
 use Rattle.cx_laws_login.proofs.Facts.{IsSameWay, MaySeal}
 use Rattle.cx_laws_keys.proofs.Uses.{AreGenerated}
-use Rattle.cx_laws_login.proofs.Issuing.{acceptor-sends}
+use Rattle.cx_laws_login.proofs.Issuing.{acceptor-sends, connector-sends}
 use Rattle.cx_laws_login.proofs.Rows.{Allowed, FrameOk, frame-ok}
 
 -- ---- keys of a guest's link
 
--- the key of a link to an entity, under which the daemon seals with the nonce of an acceptor
-pub record HostKeys (us : Uses) (keys : Keys) : Type 0 where
-  pub name : Name
+-- the key of a link to this entity, under which the daemon seals with the nonce of an acceptor and opens with that of a connector
+pub record HostKeys (us : Uses) (keys : Keys) (name : Name) : Type 0 where
   pub connected : IsConnected us keys.key name
   pub out : IsOfAcceptor keys.out.fixed
+  pub into : IsOfConnector keys.into.fixed
 
-pub host-grows : (us vs : Uses) (keys : Keys) → Grows us vs → HostKeys us keys → HostKeys vs keys
-host-grows us vs keys f h = record { name = h.name; connected = connected-grows us vs keys.key h.name f h.connected; out = h.out }
+pub host-grows : (us vs : Uses) (keys : Keys) (name : Name) → Grows us vs → HostKeys us keys name → HostKeys vs keys name
+host-grows us vs keys name f h = record { connected = connected-grows us vs keys.key name f h.connected; out = h.out; into = h.into }
 
-pub host-moves : (us : Uses) (k keys : Keys) → IsSameWay k keys → HostKeys us keys → HostKeys us k
-host-moves us k keys same h = record {
-  name = h.name;
-  connected = subst (λ (key : List ℕ). IsConnected us key h.name) (sym same.key) h.connected;
+pub host-moves : (us : Uses) (k keys : Keys) (name : Name) → IsSameWay k keys → HostKeys us keys name → HostKeys us k name
+host-moves us k keys name same h = record {
+  connected = subst (λ (key : List ℕ). IsConnected us key name) (sym same.key) h.connected;
   out = subst IsOfAcceptor (sym same.out) h.out;
+  into = subst IsOfConnector (sym same.into) h.into;
 }
 
-pub host-seals : (us : Uses) (n : NodeName) (keys : Keys) → HostKeys us keys → MaySeal us n keys
-host-seals us n keys h = record { name = h.name; connected = h.connected; own = inr h.out }
+pub host-seals : (us : Uses) (n : NodeName) (keys : Keys) (name : Name) → HostKeys us keys name → MaySeal us n keys
+host-seals us n keys name h = record { name = name; connected = h.connected; own = inr h.out }
 
+-- until a session is open, the entity is the one of the authority
 abbrev pub StageKeys : Uses → GuestStage → Type 0
-StageKeys us (AwaitsSignature s owner) = HostKeys us s.keys
-StageKeys us (AwaitsIdent s owner) = HostKeys us s.keys
-StageKeys us (Open s served) = HostKeys us s.keys
+StageKeys us (AwaitsSignature s owner) = HostKeys us s.keys owner.ticket.name
+StageKeys us (AwaitsIdent s owner) = HostKeys us s.keys owner.ticket.name
+StageKeys us (Open s served) = (name : Name) × HostKeys us s.keys name
 StageKeys us _ = Unit {0}
 
 abbrev pub LinkKeys : Uses → Option (Link GuestStage) → Type 0
@@ -139,7 +140,7 @@ module _ (us : Uses) (J : List Entry) (n : NodeName) where
     keys-hello (Ok hello) = record { seals = tt; entries = tt; link = tt }
     keys-hello (Err why) = record { seals = tt; entries = (tt, tt); link = tt }
 
-    pub keys-signature : (s : Secured) (owner : Authority) (found : Result AuthSignature BytesFault) → HostKeys us s.keys → KeysRow (on_signature b s owner found)
+    pub keys-signature : (s : Secured) (owner : Authority) (found : Result AuthSignature BytesFault) → HostKeys us s.keys owner.ticket.name → KeysRow (on_signature b s owner found)
     keys-signature s owner (Err why) h = record { seals = tt; entries = (tt, tt); link = tt }
     keys-signature s owner (Ok found) h = by_test (is_signed s found.signature)
       where
@@ -163,7 +164,7 @@ module _ (run : WholeRun) (whole : List Logged) (n : NodeName) (line : ℕ) (us 
 
   -- whose the session key of a ticket is that opened first
   opened-means : (ticket : ServiceTicket) (opened : List SealEntry) → Granted opened → ShowsTicket b.own.view ticket opened → Means us ticket.session (session_use ticket.name b.own.name.kind)
-  opened-means ticket opened g shown = (opened-issued run whole n line us log J b.own.name.kind b.own.view ticket opened i generated g shown).4
+  opened-means ticket opened g shown = (opened-issued run whole n line us log J b.own.name.kind b.own.view ticket opened i generated g shown).1
 
   keys-challenges : (opened : List SealEntry) (ticket : ServiceTicket) → AllByRecursion IsOpening opened → ShowsTicket b.own.view ticket opened
       → Granted (challenges b opened ticket).seals → KeysRow us J n (challenges b opened ticket)
@@ -277,11 +278,11 @@ module _ (run : WholeRun) (whole : List Logged) (n : NodeName) (line : ℕ) (us 
         inr (subst (λ (u : Use). Means us ticket.session u) (ticketed ticket.name b.own.name.kind of)
         (opened-means ticket opened (granted-first run.leaked whole n line log opened (drew ∷ []) g) shown))
 
-    host : HostKeys vs (acceptor_keys secret)
+    host : HostKeys vs (acceptor_keys secret) ticket.name
     host = record {
-      name = ticket.name;
       connected = record { acceptor = n; number = b.link.number; tie = AtDaemon b.own.name.kind nonce; means = inl (refl, refl) };
       out = acceptor-sends b.draw drawn;
+      into = connector-sends b.draw drawn;
     }
 
     done-keys : (r : Result Finished BytesFault) → (Means vs ticket.session (Ticketed ticket.name b.own.name.kind) → FinishedKeys vs (acceptor_keys secret) r)
@@ -298,7 +299,7 @@ module _ (run : WholeRun) (whole : List Logged) (n : NodeName) (line : ℕ) (us 
           inv = subst (λ (l : List Logged). Inv run whole vs l J) (sym (behind-append n line before (held ++ done.seals) log))
               (inv-all run whole vs (behind n line before log) J n line (held ++ done.seals) (drawn-inv first) allowed);
           entries = tt;
-          link = host-moves vs done.secured.keys (acceptor_keys secret) f.1 host;
+          link = host-moves vs done.secured.keys (acceptor_keys secret) ticket.name f.1 host;
         }
 
     authorizes-keys : Granted (authorizes b opened ticket nonce).seals → KeptKeys (authorizes b opened ticket nonce)
@@ -307,7 +308,7 @@ module _ (run : WholeRun) (whole : List Logged) (n : NodeName) (line : ℕ) (us 
         (λ means. joined-keys vs (acceptor_keys secret) ticket.session b.link.sent (plain_frame (authorized_frame ticket nonce secret))
         (signed_frame (acceptor_keys secret) ticket.session (take b.link.taken b.link.received))
         (signing-keys vs ticket.name b.own.name.kind (acceptor_keys secret) ticket.session (take b.link.taken b.link.received) (secure_frame (acceptor_keys secret) _) means
-        (frame-ok vs J n (acceptor_keys secret) _ (host-seals vs n (acceptor_keys secret) host)))) g
+        (frame-ok vs J n (acceptor_keys secret) _ (host-seals vs n (acceptor_keys secret) ticket.name host)))) g
 
   kept-looked : (row : GuestRow) → KeptKeys row → KeptKeys (entered_before (looked_entry b) row)
   kept-looked row h = record { uses = h.uses; grows = h.grows; inv = h.inv; entries = (tt, h.entries); link = h.link }

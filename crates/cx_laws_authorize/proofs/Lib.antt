@@ -10,3 +10,5 @@ pub mod Keys
 pub mod HostingKeys
 pub mod Telling
 pub mod DaemonStep
+pub mod Viewing
+pub mod Opening

@@ -123,6 +123,7 @@ module _ (d : DaemonState) (input : Input) (reading : ℕ) where
       entry-told es ss (entry.Resumed s) h = record { number = number; stage = stage; turn = turn_of; owned = h }
       entry-told es ss (entry.Refused r) h = reason-told es ss r r.reason h
       entry-told es ss (entry.Issued ticket) h = absurd h
+      entry-told es ss (entry.Looked look) h = h
       entry-told es ss _ h = tt
 
       -- what the link had
@@ -179,6 +180,7 @@ module _ (d : DaemonState) (input : Input) (reading : ℕ) where
     asker-told es ss (entry.Admitted x) h = absurd h
     asker-told es ss (entry.Resumed x) h = absurd h
     asker-told es ss (entry.Issued x) h = absurd h
+    asker-told es ss (entry.Looked x) h = absurd h
     asker-told es ss _ h = tt
 
     own-links : (es : List Entry) (ss : List SealEntry) (bytes : List ℕ) (l : Option (Link connector.Stage))
@@ -186,13 +188,13 @@ module _ (d : DaemonState) (input : Input) (reading : ℕ) where
     own-links es ss bytes None = without-fits es ss link.number
     own-links es ss bytes (Some l) = put-fits es ss (record (of_kind AsConnector l) { sent = l.sent ++ bytes }) (λ x has. absurd has)
 
-    own-fits : (draw : List ℕ) (turned : Turned Asker connector.Stage) → RowOf RowOfAsker turned
+    own-fits : (draw : List ℕ) (turned : Turned Asker connector.Stage) → RowOf (RowOfAsker d.node.own.asker) turned
         → Fits (turns d.node (arrival (me d.node.own) d.node.own link reading draw) (turn_of_kind (with_asker d.node.own) AsConnector turned))
     own-fits draw Waits h = record { authorized = had [] []; told = tt }
     own-fits draw (Refuses why opened) h = record { authorized = without-fits _ opened link.number; told = (tt, tt) }
     own-fits draw (Handles row) h = record {
       authorized = own-links row.entries row.seals row.sends row.link;
-      told = all-map IsOfAsker (EntryTold d input reading row.entries row.seals) (asker-told row.entries row.seals) row.entries h;
+      told = all-map IsOfAsker (EntryTold d input reading row.entries row.seals) (asker-told row.entries row.seals) row.entries h.enters;
     }
 
     stage-turns : (handlers : Handlers) (draw : List ℕ) (stage : DaemonStage) → link.stage ≡ stage

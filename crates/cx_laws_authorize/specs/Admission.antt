@@ -155,16 +155,17 @@ abbrev pub RefusalTold : DaemonState → Input → ℕ → List Entry → List S
 RefusalTold d input reading entries seals r (reason.Ticket why blob) = IsTold d input reading entries seals r why blob
 RefusalTold d input reading entries seals r _ = Unit {0}
 
--- what is entered; a daemon issues no ticket
+-- what is entered: a look is its own, at the view that it has; and a daemon issues no ticket
 abbrev pub EntryTold : DaemonState → Input → ℕ → List Entry → List SealEntry → Entry → Type 0
 EntryTold d input reading entries seals (entry.Admitted session) = IsOwned d input session
 EntryTold d input reading entries seals (entry.Resumed session) = IsOwned d input session
 EntryTold d input reading entries seals (entry.Refused r) = RefusalTold d input reading entries seals r r.reason
+EntryTold d input reading entries seals (entry.Looked look) = (look.daemon ≡ d.node.own.asker.name) × (look.view ≡ d.node.own.asker.view)
 EntryTold d input reading entries seals (entry.Issued ticket) = ⊥
 EntryTold d input reading entries seals _ = Unit {0}
 
 -- what a step comes to: each link's authority is one that it had, or that of the second authorizer which came; each session is owned so; and each
--- refusal of a ticket tells what came of it; no ticket is issued
+-- refusal of a ticket tells what came of it; each look is its own; no ticket is issued
 pub record Authorizes (d : DaemonState) (input : Input) (reading : ℕ) (entries : List Entry) (seals : List SealEntry) (links : List (Link DaemonStage)) : Type 0 where
   pub authorized : AllByRecursion (LinkAuthorized d input reading entries seals) links
   pub told : AllByRecursion (EntryTold d input reading entries seals) entries

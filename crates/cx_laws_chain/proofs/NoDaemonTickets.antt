@@ -100,10 +100,10 @@ module _ (d : DaemonNode) where
       → IssuesNothing (turns d a (turn_of_kind (with_asker d.own) AsConnector (connector.turned_at (arrival_in a a.own.asker stage) stage)))
   own-issues a stage = by_turned (connector.turned_at (arrival_in a a.own.asker stage) stage) (none-turned (arrival_in a a.own.asker stage) stage)
     where
-      by_turned : (t : Turned Asker connector.Stage) → RowOf RowOfAsker t → IssuesNothing (turns d a (turn_of_kind (with_asker d.own) AsConnector t))
+      by_turned : (t : Turned Asker connector.Stage) → RowOf (RowOfAsker a.own.asker) t → IssuesNothing (turns d a (turn_of_kind (with_asker d.own) AsConnector t))
       by_turned Waits k = tt
       by_turned (Refuses why opened) k = (tt, tt)
-      by_turned (Handles row) k = all-map IsOfAsker IsNotIssued asker-not_issued row.entries k
+      by_turned (Handles row) k = all-map IsOfAsker IsNotIssued asker-not_issued row.entries k.enters
 
   turned-issues : (handlers : Handlers) (reading : ℕ) (draw : List ℕ) (link : Link DaemonStage) (stage : DaemonStage)
       → Always IssuesNothing (turned_at handlers d (arrival (me d.own) d.own link reading draw) stage)

@@ -123,7 +123,7 @@ module _ (setup : Setup) (service : EntityType) (id : ℕ) (g : Generation) wher
   only-points (p ∷ older) c (before, earlier, m) h =
       let rest = only-points older before earlier (only-before m.fate m.added before (subst (λ (k : Chain). IsOnly id g k.kept) m.behind_is h)) in (
         (λ x has same. newest-only id g c.kept h x (subst (λ (gs : List Generation). Contains gs x) m.saved has) same, rest.0),
-        (λ t has of same. under-only id g (life_in setup service) c.kept t h same (m.issued t has of), rest.1),
+        (λ t has of same. under-only id g (life_in setup service) c.kept t h same (m.issued t has of).0, rest.1),
       )
 
 all-one : (setup : Setup) (hs : List Happening) (service : EntityType) (id : ℕ) → IsOne service id (points setup hs)

@@ -8,6 +8,7 @@ use Rattle.cx_base.specs.declared.kinds.EntityType.TheVariants.{Mon, Mds, Osd, C
 use Rattle.cx_base.specs.declared.nodes.NodeName.{NodeName}
 use Rattle.cx_base.specs.declared.nodes.NodeName.TheVariants as node
 use Rattle.cx_dice.specs.Draws.{rotation_of}
+use Rattle.cx_keyring.specs.declared.entries.Entry.{Entry as Principal}
 use Rattle.cx_keyserver.specs.Servers.{generations_of, life_of, rotated_of}
 use Rattle.cx_line_words.specs.declared.choices.LeftState.{LeftState}
 use Rattle.cx_rotate.specs.Rotation.{rotated}
@@ -21,7 +22,7 @@ use Rattle.cx_run.specs.Points.{Point, entries_at, nodes_past, points, points_on
 use Rattle.cx_laws_chain.proofs.Rotating.{AreThree, Rotates, rotates-on}
 use Rattle.cx_laws_chain.proofs.Rows.{AreUnder, StateGoesOn}
 use Rattle.cx_laws_chain.proofs.Steps.{ComesOn, EventBegins, event-goes_on}
-use Rattle.cx_laws_chain.specs.Chain.{Added, AreSpaced, BecomesLost, BecomesSaved, Chain, HasChain, IsAddedAt, IsChained, IsUnderCurrent, StaysInMemory, all_in, chain_behind, life_in, no_chain, three_newest}
+use Rattle.cx_laws_chain.specs.Chain.{Added, AreSpaced, BecomesLost, BecomesSaved, Chain, HasChain, IsAddedAt, IsChained, IsMadeUnder, StaysInMemory, all_in, chain_behind, life_in, no_chain, ring_in, three_newest}
 use Rattle.cx_laws_keys.proofs.Journal.{IsNotIssued}
 use Rattle.cx_laws_chain.proofs.NoDaemonTickets.{entity-none}
 use Rattle.cx_laws_login.proofs.Proving.{none-issued}
@@ -72,6 +73,7 @@ record StandsOn (setup : Setup) (service : EntityType) (past : List Point) (m : 
   present : generations_of m.server.state service ≡ three_newest (all_in c)
   lives : HasLives setup m.server.state
   saved_lives : HasLives setup m.saved
+  ring : m.server.ring ≡ ring_in setup
 
 -- behind a point
 record StandsBehind (setup : Setup) (service : EntityType) (past : List Point) (p : Point) : Type 0 where
@@ -129,8 +131,8 @@ module _ (setup : Setup) (service : EntityType) (past : List Point) (p : Point) 
   grows-by monitor (inr rotates) = grows-rotated monitor (rotates service)
 
   -- nothing is saved, and nothing issued
-  stays-unsaved : Grows → next.saved ≡ own.saved → HasLives setup next.server.state → AllByRecursion IsNotIssued (entries_at p) → StandsBehind setup service past p
-  stays-unsaved g same lives none =
+  stays-unsaved : Grows → next.saved ≡ own.saved → HasLives setup next.server.state → next.server.ring ≡ own.server.ring → AllByRecursion IsNotIssued (entries_at p) → StandsBehind setup service past p
+  stays-unsaved g same lives ring none =
       let c : Chain = chain_behind StaysInMemory g.more b in
       let all : all_in c ≡ g.more ++ all_in b = append_assoc g.more b.unsaved b.kept in
       let saved : generations_of next.saved service ≡ three_newest b.kept = ap (λ (s : KeptState). generations_of s service) same ∙ ok.saved in
@@ -159,12 +161,14 @@ module _ (setup : Setup) (service : EntityType) (past : List Point) (p : Point) 
           present = present;
           lives = lives;
           saved_lives = subst (HasLives setup) (sym same) ok.saved_lives;
+          ring = ring ∙ ok.ring;
         };
       }
 
   -- all is saved, and the tickets are under it
-  is-saved : Grows → next.saved ≡ next.server.state → HasLives setup next.server.state → AreUnder next.server.state (entries_at p) → StandsBehind setup service past p
-  is-saved g same lives tickets =
+  is-saved : Grows → next.saved ≡ next.server.state → HasLives setup next.server.state → next.server.ring ≡ own.server.ring
+      → AreUnder p.happening.reading p.happening.draw next.server (entries_at p) → StandsBehind setup service past p
+  is-saved g same lives ring tickets =
       let c : Chain = chain_behind BecomesSaved g.more b in
       let saved : generations_of next.saved service ≡ three_newest c.kept = ap (λ (s : KeptState). generations_of s service) same ∙ g.newest in
       let lived : life_of next.server.state service ≡ life = lives-of setup next.server.state service lives in
@@ -182,9 +186,11 @@ module _ (setup : Setup) (service : EntityType) (past : List Point) (p : Point) 
               behind_is = refl;
               saved = saved;
               present = g.newest;
-              issued = λ t has is. subst (λ (gs : List Generation). IsUnderCurrent life gs t) g.newest
-                  (subst (λ (n : ℕ). IsUnderCurrent n (generations_of next.server.state service) t) lived
-                  (subst (λ (s : EntityType). IsUnderCurrent (life_of next.server.state s) (generations_of next.server.state s) t) is (tickets t has)));
+              issued = λ t has is. subst (λ (gs : List Generation). IsMadeUnder life gs (ring_in setup) p.happening.reading p.happening.draw t) g.newest
+                  (subst (λ (n : ℕ). IsMadeUnder n (generations_of next.server.state service) (ring_in setup) p.happening.reading p.happening.draw t) lived
+                  (subst (λ (s : EntityType). IsMadeUnder (life_of next.server.state s) (generations_of next.server.state s) (ring_in setup) p.happening.reading p.happening.draw t) is
+                  (subst (λ (ring : List Principal). IsMadeUnder (life_of next.server.state t.service) (generations_of next.server.state t.service) ring p.happening.reading p.happening.draw t)
+                  (ring ∙ ok.ring) (tickets t has))));
             },
           );
           spaced = g.spaced;
@@ -194,6 +200,7 @@ module _ (setup : Setup) (service : EntityType) (past : List Point) (p : Point) 
           present = g.newest;
           lives = lives;
           saved_lives = subst (HasLives setup) (sym same) lives;
+          ring = ring ∙ ok.ring;
         };
       }
 
@@ -227,6 +234,7 @@ module _ (setup : Setup) (service : EntityType) (past : List Point) (p : Point) 
           present = present;
           lives = subst (HasLives setup) (sym e.state) ok.saved_lives;
           saved_lives = subst (HasLives setup) (sym e.saved) ok.saved_lives;
+          ring = e.ring ∙ ok.ring;
         };
       }
 
@@ -237,17 +245,17 @@ module _ (setup : Setup) (service : EntityType) (past : List Point) (p : Point) 
   stands-on : p.happening.node ≡ node.Monitor → ComesOn p.happening.reading p.happening.draw own next (entries_at p) → StandsBehind setup service past p
   stands-on monitor (inl e) = by_saves e.saves
     where
-      by_saves : ((next.saved ≡ own.saved) × AllByRecursion IsNotIssued (entries_at p)) ⊎ ((next.saved ≡ next.server.state) × AreUnder next.server.state (entries_at p))
+      by_saves : ((next.saved ≡ own.saved) × AllByRecursion IsNotIssued (entries_at p)) ⊎ ((next.saved ≡ next.server.state) × AreUnder p.happening.reading p.happening.draw next.server (entries_at p))
           → StandsBehind setup service past p
-      by_saves (inl (same, none)) = stays-unsaved (grows-by monitor e.state.generations) same (lives-on e.state) none
-      by_saves (inr (same, tickets)) = is-saved (grows-by monitor e.state.generations) same (lives-on e.state) tickets
+      by_saves (inl (same, none)) = stays-unsaved (grows-by monitor e.state.generations) same (lives-on e.state) e.ring none
+      by_saves (inr (same, tickets)) = is-saved (grows-by monitor e.state.generations) same (lives-on e.state) e.ring tickets
   stands-on monitor (inr e) = is-lost e
 
   -- an event of another node
   stands-still : next ≡ own → AllByRecursion IsNotIssued (entries_at p) → StandsBehind setup service past p
   stands-still same none =
       stays-unsaved (grows-none (ap (λ (m : Monitor). generations_of m.server.state service) same)) (ap (λ (m : Monitor). m.saved) same)
-      (subst (λ (m : Monitor). HasLives setup m.server.state) (sym same) ok.lives) none
+      (subst (λ (m : Monitor). HasLives setup m.server.state) (sym same) ok.lives) (ap (λ (m : Monitor). m.server.ring) same) none
 
 -- ---- any event
 
@@ -296,4 +304,5 @@ all-chained setup hs service = chained-onto setup service hs [] (nodes_of setup)
   present = none-first setup service;
   lives = record { life = refl; auth_life = refl };
   saved_lives = record { life = refl; auth_life = refl };
+  ring = refl;
 })

@@ -21,6 +21,7 @@ use Rattle.cx_dice.specs.Draws.{challenge_of, connection_of, session_of}
 use Rattle.cx_enc.specs.declared.keys.Key.{Key}
 use Rattle.cx_frame.specs.declared.frame.Frame.{Frame}
 use Rattle.cx_journal.specs.declared.entries.Entry.{Entry}
+use Rattle.cx_base.specs.declared.nodes.NodeName.TheVariants as node
 use Rattle.cx_journal.specs.declared.entries.Entry.TheVariants as journal
 use Rattle.cx_journal.specs.declared.entries.Issued.{Issued}
 use Rattle.cx_journal.specs.declared.faults.BytesFault.{BytesFault}
@@ -55,7 +56,7 @@ use Rattle.cx_rules.specs.Payloads.{control, due, payload, whole}
 use Rattle.cx_rules.specs.Replies.{Responded, answers, answers_by, asking_of, issues_tickets, others_for, tells_generations, tells_tickets}
 use Rattle.cx_rules.specs.Rows.{at, goes_on, plain_sent, refuses, refuses_bytes, secure_sent, sends_secure, with_opened}
 use Rattle.cx_rules.specs.Secured.{SealedFrame, Secured, is_signed, plain_frame, secure_frame, signature_found, under}
-use Rattle.cx_rules.specs.Tickets.{issued_for, rotation_drawn, services_for}
+use Rattle.cx_rules.specs.Tickets.{issued_entry, issued_for, rotation_drawn, services_for}
 use Rattle.cx_rules.specs.Upkeep.{on_keepalive, on_keepalive_ack}
 use Rattle.cx_rules.specs.Verdicts.{Entrant, Numbered, asking_for, entrant, handed_out, issues, issues_to, key_of, login_entries, numbered, numbers, rotates}
 use Rattle.cx_rules.specs.declared.responses.Bearer.{Bearer}
@@ -71,8 +72,9 @@ use Rattle.cx_wire.specs.declared.bodies.Request.{Request}
 use Rattle.cx_wire.specs.declared.bodies.Request.TheVariants as asked
 use Rattle.cx_wire.specs.declared.logins.Authenticate.{Authenticate}
 use Rattle.cx_wire.specs.declared.logins.LoginHello.{LoginHello}
-use Rattle.cx_laws_chain.specs.Chain.{IsUnderCurrent}
+use Rattle.cx_laws_chain.specs.Chain.{IsMadeUnder}
 use Rattle.cx_laws_keys.proofs.Journal.{IsNotIssued}
+use Rattle.cx_laws_keys.proofs.Lists.{all-map, all-of-map}
 use Rattle.cx_laws_login.proofs.Entering.{issued_of}
 use Rattle.cx_laws_login.proofs.Proving.{RowOf, by-front, of-login}
 use Rattle.cx_laws_login.proofs.Under.{AreOfCurrent, IsOfCurrent, all-under}
@@ -105,28 +107,84 @@ rotated-is reading draw old = record { life = refl; auth_life = refl; generation
     by_service Mon = refl
     by_service Client = refl
 
+-- ---- entries
+
+-- what the monitor enters: that it saved its state, a ticket, a refusal, or that it began anew
+abbrev pub IsOfMonitor : Entry → Type 0
+IsOfMonitor (journal.Saved gid) = Unit {0}
+IsOfMonitor (journal.Issued ticket) = Unit {0}
+IsOfMonitor (journal.Refused r) = Unit {0}
+IsOfMonitor (journal.Restarted at) = at ≡ node.Monitor
+IsOfMonitor _ = ⊥
+
+-- and where it issues nothing
+abbrev pub IsBare : Entry → Type 0
+IsBare (journal.Saved gid) = Unit {0}
+IsBare (journal.Refused r) = Unit {0}
+IsBare (journal.Restarted at) = at ≡ node.Monitor
+IsBare _ = ⊥
+
+pub bare-not_issued : (e : Entry) → IsBare e → IsNotIssued e
+bare-not_issued (journal.Saved x) h = tt
+bare-not_issued (journal.Issued x) h = absurd h
+bare-not_issued (journal.Fetched x) h = absurd h
+bare-not_issued (journal.Looked x) h = absurd h
+bare-not_issued (journal.Admitted x) h = absurd h
+bare-not_issued (journal.Resumed x) h = absurd h
+bare-not_issued (journal.Sent x) h = absurd h
+bare-not_issued (journal.Handled x) h = absurd h
+bare-not_issued (journal.Answered x) h = absurd h
+bare-not_issued (journal.Refused x) h = tt
+bare-not_issued (journal.Ended x) h = absurd h
+bare-not_issued (journal.Restarted x) h = tt
+bare-not_issued (journal.Broken x) h = absurd h
+bare-not_issued (journal.Leaked x) h = absurd h
+
+bare-of : (e : Entry) → IsBare e → IsOfMonitor e
+bare-of (journal.Saved x) h = tt
+bare-of (journal.Issued x) h = absurd h
+bare-of (journal.Fetched x) h = absurd h
+bare-of (journal.Looked x) h = absurd h
+bare-of (journal.Admitted x) h = absurd h
+bare-of (journal.Resumed x) h = absurd h
+bare-of (journal.Sent x) h = absurd h
+bare-of (journal.Handled x) h = absurd h
+bare-of (journal.Answered x) h = absurd h
+bare-of (journal.Refused x) h = tt
+bare-of (journal.Ended x) h = absurd h
+bare-of (journal.Restarted x) h = h
+bare-of (journal.Broken x) h = absurd h
+bare-of (journal.Leaked x) h = absurd h
+
+-- so are those of tickets
+login-of : (save : Option KeptState) (ts : List Ticket) → AllByRecursion IsOfMonitor (login_entries save ts)
+login-of None ts = all-of-map IsOfMonitor issued_entry ts (λ t. tt)
+login-of (Some state) ts = (tt, all-of-map IsOfMonitor issued_entry ts (λ t. tt))
+
 -- ---- rows
 
--- each ticket of these entries is under the current generation of its service in this state
-abbrev pub AreUnder : KeptState → List Entry → Type 0
-AreUnder state entries =
-    (t : Issued) → Contains entries (journal.Issued t) → IsUnderCurrent (life_of state t.service) (generations_of state t.service) t
+-- each ticket of these entries is under the current generation of its service in this server, and is made by its keyring at this reading, with this draw
+abbrev pub AreUnder : ℕ → List ℕ → Server → List Entry → Type 0
+AreUnder reading draw server entries =
+    (t : Issued) → Contains entries (journal.Issued t) → IsMadeUnder (life_of server.state t.service) (generations_of server.state t.service) server.ring reading draw t
 
 -- from the one to the other, where these entries are made: nothing is saved and nothing issued, or what there is then is saved, and the tickets are
 -- under it
 pub record GoesOn (reading : ℕ) (draw : List ℕ) (before behind : Monitor) (entries : List Entry) : Type 0 where
   pub state : StateGoesOn reading draw before.server.state behind.server.state
+  pub ring : behind.server.ring ≡ before.server.ring
   pub before_is : behind.saved_before ≡ before.saved_before
-  pub saves : ((behind.saved ≡ before.saved) × AllByRecursion IsNotIssued entries) ⊎ ((behind.saved ≡ behind.server.state) × AreUnder behind.server.state entries)
+  pub of : AllByRecursion IsOfMonitor entries
+  pub saves : ((behind.saved ≡ before.saved) × AllByRecursion IsNotIssued entries) ⊎ ((behind.saved ≡ behind.server.state) × AreUnder reading draw behind.server entries)
 
 abbrev pub RowGoesOn : MonitorArrival → MonitorRow → Type 0
 RowGoesOn a row = GoesOn a.reading a.draw a.own row.own row.entries
 
--- the monitor's own is what it was, and no ticket is issued
+-- the monitor's own is what it was, and no ticket is issued and no view told
 abbrev IsStill : MonitorArrival → MonitorRow → Type 0
-IsStill a row = (row.own ≡ a.own) × AllByRecursion IsNotIssued row.entries
+IsStill a row = (row.own ≡ a.own) × AllByRecursion IsBare row.entries
 
-pub still-goes_on : (reading : ℕ) (draw : List ℕ) (before behind : Monitor) (entries : List Entry) → behind ≡ before → AllByRecursion IsNotIssued entries
+pub still-goes_on : (reading : ℕ) (draw : List ℕ) (before behind : Monitor) (entries : List Entry) → behind ≡ before → AllByRecursion IsBare entries
     → GoesOn reading draw before behind entries
 still-goes_on reading draw before behind entries same none = record {
   state = record {
@@ -134,8 +192,10 @@ still-goes_on reading draw before behind entries same none = record {
     auth_life = ap (λ (m : Monitor). m.server.state.auth_life) same;
     generations = inl (λ s. ap (λ (m : Monitor). generations_of m.server.state s) same);
   };
+  ring = ap (λ (m : Monitor). m.server.ring) same;
   before_is = ap (λ (m : Monitor). m.saved_before) same;
-  saves = inl (ap (λ (m : Monitor). m.saved) same, none);
+  of = all-map IsBare IsOfMonitor bare-of entries none;
+  saves = inl (ap (λ (m : Monitor). m.saved) same, all-map IsBare IsNotIssued bare-not_issued entries none);
 }
 
 still-row : (a : MonitorArrival) (row : MonitorRow) → IsStill a row → RowGoesOn a row
@@ -222,55 +282,64 @@ module _ (bearer : Bearer) (a : MonitorArrival) (s : Secured) where
 -- ---- tickets
 
 -- what was issued of the current generations is under them
-current-under : (server : Server) (ts : List Ticket) → AllByRecursion (IsOfCurrent server) ts
-    → AllByRecursion (λ (k : Ticket). IsUnderCurrent (life_of server.state (issued_of k).service) (generations_of server.state (issued_of k).service) (issued_of k)) ts
-current-under server [] h = tt
-current-under server (t ∷ ts) h =
-    let is : IsOfCurrent server t = h.0 in (
-      record { of = is.of; current = is.current; under = record { id = is.id; session = t.session; blob = is.blob }; expires = is.expires },
-      current-under server ts h.1,
-    )
+module _ (reading : ℕ) (draw : List ℕ) (server : Server) where
+  current-under : (ts : List Ticket) → AllByRecursion (IsOfCurrent server reading draw) ts
+      → AllByRecursion (λ (k : Ticket). IsMadeUnder (life_of server.state (issued_of k).service) (generations_of server.state (issued_of k).service) server.ring reading draw (issued_of k)) ts
+  current-under [] h = tt
+  current-under (t ∷ ts) h =
+      let is : IsOfCurrent server reading draw t = h.0 in (
+        (
+          record { of = is.of; current = is.current; under = record { id = is.id; session = t.session; blob = is.blob }; expires = is.expires },
+          record { created = is.created; keyed = is.keyed; session_is = is.session; principal = is.principal; named = is.named; caps = is.caps },
+        ),
+        current-under ts h.1,
+      )
 
-entered-under : (server : Server) (save : Option KeptState) (ts : List Ticket) → AllByRecursion (IsOfCurrent server) ts → AreUnder server.state (login_entries save ts)
-entered-under server save ts h t has =
-    of-login (λ (i : Issued). IsUnderCurrent (life_of server.state i.service) (generations_of server.state i.service) i) save ts (current-under server ts h) t has
+  entered-under : (save : Option KeptState) (ts : List Ticket) → AllByRecursion (IsOfCurrent server reading draw) ts → AreUnder reading draw server (login_entries save ts)
+  entered-under save ts h t has =
+      of-login (λ (i : Issued). IsMadeUnder (life_of server.state i.service) (generations_of server.state i.service) server.ring reading draw i) save ts (current-under ts h) t has
 
 -- ---- rows behind a rotation
 
 -- where the monitor's key server has another state, which is the rotated one
 module _ (a : MonitorArrival) where
-  -- of rows by another key server
+  -- of rows by another key server, with the same keyring
   abbrev Rotates : Server → Type 0
-  Rotates server = IsRotated a.reading a.draw a.own.server.state server.state
+  Rotates server = IsRotated a.reading a.draw a.own.server.state server.state × (server.ring ≡ a.own.server.ring)
 
   -- nothing is saved
-  unsaved-row : (server : Server) (row : MonitorRow) → Rotates server → row.own ≡ record a.own { server = server } → AllByRecursion IsNotIssued row.entries → RowGoesOn a row
+  unsaved-row : (server : Server) (row : MonitorRow) → Rotates server → row.own ≡ record a.own { server = server } → AllByRecursion IsBare row.entries → RowGoesOn a row
   unsaved-row server row h same none = subst (λ (m : Monitor). GoesOn a.reading a.draw a.own m row.entries) (sym same) (record {
-    state = rotated-goes_on a.reading a.draw a.own.server.state server.state h;
+    state = rotated-goes_on a.reading a.draw a.own.server.state server.state h.0;
+    ring = h.1;
     before_is = refl;
-    saves = inl (refl, none);
+    of = all-map IsBare IsOfMonitor bare-of row.entries none;
+    saves = inl (refl, all-map IsBare IsNotIssued bare-not_issued row.entries none);
   })
 
   -- what there is now is saved
-  saved-goes_on : (server : Server) (saved : KeptState) (entries : List Entry) → Rotates server → saved ≡ server.state → AreUnder server.state entries
+  saved-goes_on : (server : Server) (saved : KeptState) (entries : List Entry) → Rotates server → saved ≡ server.state → AreUnder a.reading a.draw server entries → AllByRecursion IsOfMonitor entries
       → GoesOn a.reading a.draw a.own (record a.own { server = server; saved = saved }) entries
-  saved-goes_on server saved entries h same tickets = record {
-    state = rotated-goes_on a.reading a.draw a.own.server.state server.state h;
+  saved-goes_on server saved entries h same tickets entered = record {
+    state = rotated-goes_on a.reading a.draw a.own.server.state server.state h.0;
+    ring = h.1;
     before_is = refl;
+    of = entered;
     saves = inr (same, tickets);
   }
 
 -- ---- the row of a proof
 
 module _ (a : MonitorArrival) where
-  handed-row : (server : Server) (e : Entrant) (own : List ℕ) (ts : List Ticket) (r : Result Finished BytesFault) → Rotates a server → AllByRecursion (IsOfCurrent server) ts
+  handed-row : (server : Server) (e : Entrant) (own : List ℕ) (ts : List Ticket) (r : Result Finished BytesFault) → Rotates a server → AllByRecursion (IsOfCurrent server a.reading a.draw) ts
       → RowGoesOn a (hands_over (with_server a server) (handed_out (occasion a) server e own ts) r)
   handed-row server e own ts (Err why) h tickets =
       unsaved-row a server (refuses_bytes (with_server a server) why (handed_out (occasion a) server e own ts).seals) h refl (tt, tt)
   handed-row server e own ts (Ok done) h tickets =
-      saved-goes_on a server _ (login_entries (changed a.own.saved server.state) ts) h (saved-changed a.own.saved server.state) (entered-under server (changed a.own.saved server.state) ts tickets)
+      saved-goes_on a server _ (login_entries (changed a.own.saved server.state) ts) h (saved-changed a.own.saved server.state) (entered-under a.reading a.draw server (changed a.own.saved server.state) ts tickets)
+      (login-of (changed a.own.saved server.state) ts)
 
-  issued-row : (server : Server) (e : Entrant) (own : List ℕ) (tickets : Result (List Ticket) LoginFault) → Rotates a server → AreOfCurrent server tickets
+  issued-row : (server : Server) (e : Entrant) (own : List ℕ) (tickets : Result (List Ticket) LoginFault) → Rotates a server → AreOfCurrent server a.reading a.draw tickets
       → RowGoesOn a (row_of a (issues (occasion a) server e own tickets))
   issued-row server e own (Err why) h current = unsaved-row a server (denies (with_server a server) 13 why e.seals) h refl (tt, tt)
   issued-row server e own (Ok ts) h current =
@@ -281,7 +350,7 @@ module _ (a : MonitorArrival) where
   issues_to-row server e None h = unsaved-row a server (denies (with_server a server) 13 login.UnknownEntity e.seals) h refl (tt, tt)
   issues_to-row server e (Some own) h =
       issued-row server e own.secret (issued_for server (asking_for (occasion a) e.name e.gid) (services_for e.asked)) h
-      (all-under server (asking_for (occasion a) e.name e.gid) (services_for e.asked))
+      (all-under server a.reading a.draw (asking_for (occasion a) e.name e.gid) (λ s. (refl, refl)) (services_for e.asked))
 
   -- a key server behind the choice of a global id is as good
   abbrev KeepsRotated : Result Numbered LoginFault → Type 0
@@ -303,7 +372,7 @@ module _ (a : MonitorArrival) where
       by_test : (spent : Bool) → KeepsRotated (if spent then Err login.GidsSpent
           else Ok (record { server = record server { state = record server.state { next_gid = server.state.next_gid + 1 } }; gid = server.state.next_gid }))
       by_test true = tt
-      by_test false = record { life = h.life; auth_life = h.auth_life; generations = λ s. same s ∙ h.generations s }
+      by_test false = (record { life = h.0.life; auth_life = h.0.auth_life; generations = λ s. same s ∙ h.0.generations s }, h.1)
   numbered-rotated server (reclaim.Denied gid) h = tt
 
   numbers-row : (server : Server) (proven : Proven) (seals : List SealEntry) (n : Result Numbered LoginFault) → Rotates a server → KeepsRotated n
@@ -317,7 +386,7 @@ module _ (a : MonitorArrival) where
       let server : Server = rotated_server a.reading a.draw a.own.server in
       let old = old_ticket server.state.auth proven.ask.old_ticket in
       let choice : Reclaim = reclaimed hello_gid proven.ask.version (kept_gid proven.offer.name a.reading old.value) in
-      let h : Rotates a server = rotated-is a.reading a.draw a.own.server.state in
+      let h : Rotates a server = (rotated-is a.reading a.draw a.own.server.state, refl) in
       numbers-row server proven ((proof_found proven.offer proven.ask.client_challenge ∷ rotation_drawn a.reading a.draw a.own.server.state) ++ old.seals)
       (numbered server choice) h (numbered-rotated server choice h)
 
@@ -343,7 +412,8 @@ module _ (a : MonitorArrival) (s : Secured) (bearer : Bearer) where
   -- a reply saves what there is, and its tickets are under it
   record RepliesUnder (server : Server) (made : ReplyMade) : Type 0 where
     save : made.save ≡ changed a.own.saved server.state
-    tickets : AreUnder server.state made.entries
+    tickets : AreUnder a.reading a.draw server made.entries
+    of : AllByRecursion IsOfMonitor made.entries
 
   abbrev AnswersUnder : Server → Response → Type 0
   AnswersUnder server (response.Refuses why drawn) = Unit {0}
@@ -352,22 +422,22 @@ module _ (a : MonitorArrival) (s : Secured) (bearer : Bearer) where
   abbrev RespondsUnder : Server → Responded → Type 0
   RespondsUnder server r = (r.server ≡ server) × AnswersUnder server r.response
 
-  tickets-answer : (server : Server) (drawn : List SealEntry) (own : List ℕ) (tickets : Result (List Ticket) LoginFault) → AreOfCurrent server tickets
+  tickets-answer : (server : Server) (drawn : List SealEntry) (own : List ℕ) (tickets : Result (List Ticket) LoginFault) → AreOfCurrent server a.reading a.draw tickets
       → RespondsUnder server (tells_tickets (request_occasion a) server bearer drawn own tickets)
   tickets-answer server drawn own (Err why) h = (refl, tt)
-  tickets-answer server drawn own (Ok ts) h = (refl, record { save = refl; tickets = entered-under server (changed a.own.saved server.state) ts h })
+  tickets-answer server drawn own (Ok ts) h = (refl, record { save = refl; tickets = entered-under a.reading a.draw server (changed a.own.saved server.state) ts h; of = login-of (changed a.own.saved server.state) ts })
 
   issues-answer : (server : Server) (drawn : List SealEntry) (keys : ℕ) (own : Option Key)
       → RespondsUnder server (issues_tickets (request_occasion a) server bearer drawn keys own)
   issues-answer server drawn keys None = (refl, tt)
   issues-answer server drawn keys (Some own) =
       tickets-answer server drawn own.secret (issued_for server (asking_of (request_occasion a) bearer) (others_for keys))
-      (all-under server (asking_of (request_occasion a) bearer) (others_for keys))
+      (all-under server a.reading a.draw (asking_of (request_occasion a) bearer) (λ s. (refl, refl)) (others_for keys))
 
   generations-answer : (server : Server) (drawn : List SealEntry) (own : Option Key) (found : Result (List Generation) NotADaemon)
       → RespondsUnder server (tells_generations (request_occasion a) server bearer drawn own found)
   generations-answer server drawn (Some own) (Ok generations) =
-      (refl, record { save = refl; tickets = entered-under server (changed a.own.saved server.state) [] tt })
+      (refl, record { save = refl; tickets = entered-under a.reading a.draw server (changed a.own.saved server.state) [] tt; of = login-of (changed a.own.saved server.state) [] })
   generations-answer server drawn (Some own) (Err why) = (refl, tt)
   generations-answer server drawn None (Ok generations) = (refl, tt)
   generations-answer server drawn None (Err why) = (refl, tt)
@@ -381,7 +451,7 @@ module _ (a : MonitorArrival) (s : Secured) (bearer : Bearer) where
       → RowGoesOn a (sends_reply Open (serving a server) s bearer seq made sealing)
   reply-row server seq made (Err why) h reply = unsaved-row a server (refuses_bytes (serving a server) why made.seals) h refl (tt, tt)
   reply-row server seq made (Ok sent) h reply =
-      saved-goes_on a server _ made.entries h (subst (λ (save : Option KeptState). saved_behind a.own.saved save ≡ server.state) (sym reply.save) (saved-changed a.own.saved server.state)) reply.tickets
+      saved-goes_on a server _ made.entries h (subst (λ (save : Option KeptState). saved_behind a.own.saved save ≡ server.state) (sym reply.save) (saved-changed a.own.saved server.state)) reply.tickets reply.of
 
   responds-row : (server : Server) (demand : Demand) (r : Response) → Rotates a server → AnswersUnder server r → RowGoesOn a (responds Open (serving a server) s bearer demand r)
   responds-row server demand (response.Refuses why drawn) h under = unsaved-row a server (refuses (serving a server) why drawn) h refl (tt, tt)
@@ -394,7 +464,7 @@ module _ (a : MonitorArrival) (s : Secured) (bearer : Bearer) where
       let r : Responded = answers (request_occasion a) a.own.server bearer demand.request in
       let h : RespondsUnder server r = request-answer server (rotation_drawn a.reading a.draw a.own.server.state) demand.request in
       subst (λ (behind : Server). RowGoesOn a (responds Open (serving a behind) s bearer demand r.response)) (sym h.0)
-      (responds-row server demand r.response (rotated-is a.reading a.draw a.own.server.state) h.1)
+      (responds-row server demand r.response (rotated-is a.reading a.draw a.own.server.state, refl) h.1)
 
   open-row : (f : Frame) → RowGoesOn a (on_open Open a s bearer f)
   open-row f = by_tests (f.tag == 18) (f.tag == 19)
@@ -409,7 +479,7 @@ module _ (a : MonitorArrival) (s : Secured) (bearer : Bearer) where
 -- ---- turns
 
 opened-row : (a : MonitorArrival) (opened : List SealEntry) (row : MonitorRow) → RowGoesOn a row → RowGoesOn a (with_opened opened row)
-opened-row a opened row h = record { state = h.state; before_is = h.before_is; saves = h.saves }
+opened-row a opened row h = record { state = h.state; ring = h.ring; before_is = h.before_is; of = h.of; saves = h.saves }
 
 pub turned-row : (a : MonitorArrival) (stage : MonitorStage) → RowOf (RowGoesOn a) (turned_at a stage)
 turned-row a AwaitsBanner =

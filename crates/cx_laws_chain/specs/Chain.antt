@@ -1,19 +1,21 @@
 -- The generations of a service over a run, of which the monitor holds the three newest: those that were ever saved, and those that stand in memory
 -- alone; and which of them seals each ticket.
-use Rattle.std.specs.Prelude.{◌≡◌, ◌⊎◌, ◌≤◌, ◌+◌, ℕ, max, List, [], ◌∷◌, ◌++◌, Contains, Some}
+use Rattle.std.specs.Prelude.{◌≡◌, ◌⊎◌, ◌≤◌, ◌+◌, ℕ, max, true, List, [], ◌∷◌, ◌++◌, find, map, Contains, Some}
 use Rattle.std.specs.List.{AllByRecursion}
 use Rattle.cx_base.specs.declared.kinds.EntityType.{EntityType}
 use Rattle.cx_base.specs.declared.nodes.NodeName.TheVariants as node
 use Rattle.cx_cbc.specs.Envelope.{sealed}
-use Rattle.cx_dice.specs.Draws.{rotation_of}
+use Rattle.cx_dice.specs.Draws.{has_keys, rotation_of, session_of}
 use Rattle.cx_journal.specs.declared.entries.Entry.TheVariants as entry
 use Rattle.cx_journal.specs.declared.entries.Issued.{Issued}
-use Rattle.cx_keyserver.specs.Issuing.{current_at}
+use Rattle.cx_keyring.specs.Entries.{is_named}
+use Rattle.cx_keyring.specs.declared.entries.Entry.{Entry as Principal}
+use Rattle.cx_keyserver.specs.Issuing.{caps_for, current_at}
 use Rattle.cx_keyserver.specs.Servers.{generations_of, life_of}
 use Rattle.cx_rotate.specs.Rotation.{rotated}
 use Rattle.cx_rotate.specs.declared.generations.Generation.{Generation}
 use Rattle.cx_run.specs.Happenings.{Happening}
-use Rattle.cx_run.specs.Opening.{Setup, first_state}
+use Rattle.cx_run.specs.Opening.{Setup, first_state, principal_of}
 use Rattle.cx_run.specs.Points.{EachPoint, Point, entries_at, nodes_past, points}
 use Rattle.cx_sealed.specs.Records.{service_ticket_layout}
 use Rattle.cx_sealed.specs.declared.service_ticket.ServiceTicket.{ServiceTicket}
@@ -78,6 +80,21 @@ pub record IsUnderCurrent (life : ℕ) (generations : List Generation) (t : Issu
   pub under : IsSealedUnder of t
   pub expires : t.expires ≡ t.created + life
 
+-- it is made at this reading, with this draw, of which a part is its session key; and it is for an entity of this keyring, with the caps that this one has
+-- for the service
+pub record IsMadeBy (ring : List Principal) (reading : ℕ) (draw session : List ℕ) (t : Issued) : Type 0 where
+  pub created : t.created ≡ reading
+  pub keyed : has_keys t.service ≡ true
+  pub session_is : session ≡ session_of t.service draw
+  pub principal : Principal
+  pub named : find (is_named t.entity) ring ≡ Some principal
+  pub caps : caps_for t.service principal ≡ Some t.caps
+
+-- so is a ticket made, and sealed
+abbrev pub IsMadeUnder : ℕ → List Generation → List Principal → ℕ → List ℕ → Issued → Type 0
+IsMadeUnder life generations ring reading draw t =
+    (under : IsUnderCurrent life generations t) × IsMadeBy ring reading draw under.under.session t
+
 -- ---- a run
 
 -- a generation was added at this point: by the monitor, at the reading of the event, and under a key of its draw
@@ -102,6 +119,10 @@ chain_behind BecomesLost added before = record { kept = before.kept; unsaved = [
 abbrev pub life_in : Setup → EntityType → ℕ
 life_in setup service = life_of (first_state setup) service
 
+-- the entities of a run, as its keyring has them
+abbrev pub ring_in : Setup → List Principal
+ring_in setup = map principal_of setup.entities
+
 -- the generations of a service in the state that the monitor saved last, behind a point, and in its memory
 abbrev pub saved_past : EntityType → Point → List Generation
 saved_past service p = generations_of (nodes_past p).monitor.own.saved service
@@ -110,7 +131,7 @@ abbrev pub present_past : EntityType → Point → List Generation
 present_past service p = generations_of (nodes_past p).monitor.own.server.state service
 
 -- from the one chain to the other at this point: what was added, none or what a rotation adds; what was saved; and each ticket of the service is under
--- the current one of those that are saved
+-- the current one of those that are saved, made at the event's reading with its draw, for an entity of the run and with the caps that it has
 pub record MovesOn (setup : Setup) (service : EntityType) (p : Point) (before behind : Chain) : Type 0 where
   pub added : List Added
   pub here : AllByRecursion (IsAddedAt service p) added
@@ -121,7 +142,7 @@ pub record MovesOn (setup : Setup) (service : EntityType) (p : Point) (before be
   pub saved : saved_past service p ≡ three_newest behind.kept
   pub present : present_past service p ≡ three_newest (all_in behind)
   pub issued : (t : Issued) → Contains (entries_at p) (entry.Issued t) → t.service ≡ service
-      → IsUnderCurrent (life_in setup service) (three_newest behind.kept) t
+      → IsMadeUnder (life_in setup service) (three_newest behind.kept) (ring_in setup) p.happening.reading p.happening.draw t
 
 -- behind these points the generations of the service are those of this chain
 abbrev pub IsChained : Setup → EntityType → List Point → Chain → Type 0

@@ -6,3 +6,4 @@ pub mod Premises
 pub mod Steps
 pub mod Journal
 pub mod ReadGenerations
+pub mod Viewing

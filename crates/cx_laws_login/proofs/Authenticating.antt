@@ -185,7 +185,7 @@ module _ (run : WholeRun) (whole_log : List Logged) (n : NodeName) (line : ℕ) 
 
   -- behind the proof, the rotation and the old ticket
   handed_behind : (a : MonitorArrival) (client : ℕ) (name : Name) (gid : ℕ) (secret : List ℕ) (t : Ticket) (ts : List Ticket) (done : Finished) (vs : Uses) (log1 : List Logged)
-      → name_form.Fits name → length a.draw ≡ 384 → FirstOk name gid a.reading a.draw t ts → AllByRecursion (IsOfCurrent a.own.server) (t ∷ ts) → HandsOk a name gid secret vs → Inv run whole_log vs log1 J → Finishes a name done
+      → name_form.Fits name → length a.draw ≡ 384 → FirstOk name gid a.reading a.draw t ts → AllByRecursion (IsOfCurrent a.own.server a.reading a.draw) (t ∷ ts) → HandsOk a name gid secret vs → Inv run whole_log vs log1 J → Finishes a name done
       → AreGranted run.leaked whole_log n line log1 ((told_seals a secret (t ∷ ts) ++ last_seals a name) ++ done.seals)
       → After run whole_log n line vs log1 J ((told_seals a secret (t ∷ ts) ++ last_seals a name) ++ done.seals)
       (login_entries (changed a.own.saved a.own.server.state) (t ∷ ts)) (HandedOk a name gid done.secured.keys)
@@ -214,7 +214,7 @@ module _ (run : WholeRun) (whole_log : List Logged) (n : NodeName) (line : ℕ) 
       s2.facts.session s2.facts.connection
 
   handed : (a : MonitorArrival) (client : ℕ) (e : Entrant) (secret : List ℕ) (t : Ticket) (ts : List Ticket) (r : Result Finished BytesFault)
-      → name_form.Fits e.name → length a.draw ≡ 384 → FirstOk e.name e.gid a.reading a.draw t ts → AllByRecursion (IsOfCurrent a.own.server) (t ∷ ts)
+      → name_form.Fits e.name → length a.draw ≡ 384 → FirstOk e.name e.gid a.reading a.draw t ts → AllByRecursion (IsOfCurrent a.own.server a.reading a.draw) (t ∷ ts)
       → First e.seals (HandsOk a e.name e.gid secret)
       → ((done : Finished) → r ≡ Ok done → Finishes a e.name done)
       → Granted_ (hands_over a (handed_out (occasion a) a.own.server e secret (t ∷ ts)) r).seals
@@ -246,7 +246,7 @@ module _ (run : WholeRun) (whole_log : List Logged) (n : NodeName) (line : ℕ) 
   -- ---- issuing
 
   issued-after : (a : MonitorArrival) (client : ℕ) (e : Entrant) (own : List ℕ) (tickets : Result (List Ticket) LoginFault) → name_form.Fits e.name → length a.draw ≡ 384
-      → AreIssued a.own.server e.name e.gid (session_of Auth a.draw) a.reading a.draw tickets → AreOfCurrent a.own.server tickets
+      → AreIssued a.own.server e.name e.gid (session_of Auth a.draw) a.reading a.draw tickets → AreOfCurrent a.own.server a.reading a.draw tickets
       → First e.seals (HandsOk a e.name e.gid own)
       → Granted_ (row_of a (issues (occasion a) a.own.server e own tickets)).seals → AfterMonitor (row_of a (issues (occasion a) a.own.server e own tickets))
   issued-after a client e own (Err why) named drawn ok under first g =
@@ -268,7 +268,7 @@ module _ (run : WholeRun) (whole_log : List Logged) (n : NodeName) (line : ℕ) 
   issues_to-after a client e (Some principal) is named drawn owns first g =
       issued-after a client e principal.key.secret (issued_for a.own.server (asking_for (occasion a) e.name e.gid) (services_for e.asked)) named drawn
       (all-issued a.own.server e.name e.gid (session_of Auth a.draw) a.reading a.draw e.asked)
-      (all-under a.own.server (asking_for (occasion a) e.name e.gid) (services_for e.asked)) more g
+      (all-under a.own.server a.reading a.draw (asking_for (occasion a) e.name e.gid) (λ s. (refl, refl)) (services_for e.asked)) more g
     where
       more : First e.seals (HandsOk a e.name e.gid principal.key.secret)
       more granted =

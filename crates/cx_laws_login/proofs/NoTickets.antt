@@ -1,10 +1,10 @@
 -- What one that asks the monitor enters, and so what a client does, whatever comes: no ticket is issued, and no session admitted.
-use Rattle.std.proofs.Common.{ℕ, ◌+◌, ◌-◌, ◌^◌, ◌==◌, Bool, true, false, List, [], ◌∷◌, take, Option, Some, None, Result, Ok, Err}
+use Rattle.std.proofs.Common.{ℕ, ◌+◌, ◌-◌, ◌^◌, ◌==◌, Bool, true, false, List, [], ◌∷◌, take, Option, Some, None, Result, Ok, Err, refl, sym, ◌≡◌}
 use Rattle.std.specs.Prelude.{not, if◌then◌else◌}
 use Rattle.std.specs.List.{AllByRecursion}
 use Rattle.cx_base.specs.Names.{is_daemon_type}
 use Rattle.cx_control.specs.Auth.{auth_done_layout, auth_reply_more_layout, auth_request_more_layout, auth_signature_layout}
-use Rattle.cx_control.specs.BadMethod.{bad_method_layout}
+use Rattle.cx_control.specs.BadMethod.{bad_method_layout, negated}
 use Rattle.cx_control.specs.Hello.{hello_layout}
 use Rattle.cx_control.specs.Idents.{ident_missing_features_layout, server_ident_layout}
 use Rattle.cx_control.specs.Upkeep.{keepalive2_layout, keepalive2_ack_layout}
@@ -34,14 +34,14 @@ use Rattle.cx_rules.specs.ClientRule.{Client, ClientNode, client_rule, loses, me
 use Rattle.cx_rules.specs.Connector.{Stage, AwaitsBanner, AwaitsHello, AwaitsChallenge, AwaitsDone, AwaitsSignature, AwaitsIdent, Open, AskerArrival, AskerRow, Login as Opening, client_ident, holding, identifies, is_open, kept_open, login_request, on_bad_method, on_banner, on_challenge, on_done, on_hello, on_login_done, on_missing_features, on_opened, on_reply_more, on_signature, proves, signs, turned_at, while_challenged, while_identified, while_proved}
 use Rattle.cx_rules.specs.Fronts.{banner_next, plain_next, secure_next}
 use Rattle.cx_rules.specs.Greetings.{own_hello}
-use Rattle.cx_rules.specs.Holdings.{Asker, held_login, unexpired}
+use Rattle.cx_rules.specs.Holdings.{Asker, held_login, holds_nothing, unexpired}
 use Rattle.cx_rules.specs.Inputs.{Input, Opened, NoLink, Bytes, Turn, Gone, Look, Tick, Submit, Restart}
 use Rattle.cx_rules.specs.Links.{Link, link_of}
 use Rattle.cx_rules.specs.Payloads.{control, due, payload, whole}
 use Rattle.cx_rules.specs.Messages.{Message, body_as, message_in}
 use Rattle.cx_rules.specs.Requests.{Requests, asks_rotating, body_taken, first_open, message_taken, no_requests, on_open, on_reply, on_server_ident, reply_taken, request_message, rotating_taken, sealed_request, sends_request, takes, tickets_taken, unless_unsealed, waiting_taken}
 use Rattle.cx_rules.specs.Requests as requests
-use Rattle.cx_rules.specs.Rows.{Arrival, Turned, Waits, Refuses, Handles, arrival, at, fed, goes_on, lifted_turn, plain_sent, refused_entry, refuses, secure_sent, turns, with_opened}
+use Rattle.cx_rules.specs.Rows.{Arrival, Outcome, Turned, Waits, Refuses, Handles, arrival, at, fed, goes_on, lifted_turn, plain_sent, refused_entry, refuses, secure_sent, turns, with_opened}
 use Rattle.cx_rules.specs.Secured.{Keys, SealedFrame, Secured, connector_keys, is_signed, plain_frame, secure_frame, signed_frame, under}
 use Rattle.cx_rules.specs.Upkeep.{on_keepalive, on_keepalive_ack}
 use Rattle.cx_rules.specs.declared.messages.Body.{Body}
@@ -68,6 +68,8 @@ use Rattle.cx_wire.specs.declared.logins.LoginDone.{LoginDone}
 use Rattle.cx_wire.specs.declared.logins.ServerChallenge.{ServerChallenge}
 use Rattle.cx_laws_keys.proofs.Journal.{IsNotIssued, IsOfLogin}
 use Rattle.cx_laws_keys.proofs.Lists.{all-map}
+use Rattle.cx_laws_keys.proofs.Viewing.{ShowsAlong, viewed-own}
+use Rattle.cx_laws_keys.specs.LooksLast.{nothing_viewed}
 use Rattle.cx_laws_login.proofs.Proving.{RowOf, by-front}
 
 -- it refuses something, which is no ticket; it was told generations; or it begins anew
@@ -99,87 +101,98 @@ OfAsker es = AllByRecursion IsOfAsker es
 
 -- ---- rows
 
-abbrev pub RowOfAsker : AskerRow → Type 0
-RowOfAsker row = OfAsker row.entries
+-- of a row of one that asks: what it enters, and that this tells its view
+pub record RowOfAsker (asker : Asker) (row : AskerRow) : Type 0 where
+  pub enters : OfAsker row.entries
+  pub shows : ShowsAlong asker.name asker.view row.entries row.own.view
 
-none-plain : (a : AskerArrival) (stage : Stage) (seals : List SealEntry) (r : Result (List ℕ) BytesFault) → RowOfAsker (plain_sent a stage seals r)
-none-plain a stage seals (Ok bytes) = tt
-none-plain a stage seals (Err why) = (tt, tt)
+-- behind the parts of a frame that opened
+none-behind : (asker : Asker) (opened : List SealEntry) (row : AskerRow) → RowOfAsker asker row → RowOfAsker asker (with_opened opened row)
+none-behind asker opened row h = record { enters = h.enters; shows = h.shows }
 
-none-secure : (a : AskerArrival) (s : Secured) (stage : Secured → Stage) (seals : List SealEntry) (r : Result SealedFrame BytesFault) → RowOfAsker (secure_sent a s stage seals r)
-none-secure a s stage seals (Ok sealed) = tt
-none-secure a s stage seals (Err why) = (tt, tt)
+none-plain : (a : AskerArrival) (stage : Stage) (seals : List SealEntry) (r : Result (List ℕ) BytesFault) → RowOfAsker a.own (plain_sent a stage seals r)
+none-plain a stage seals (Ok bytes) = record { enters = tt; shows = refl }
+none-plain a stage seals (Err why) = record { enters = (tt, tt); shows = (tt, refl) }
 
-none-hello : (a : AskerArrival) (asked : ℕ) (hello : Result Hello BytesFault) → RowOfAsker (on_hello a asked hello)
+none-secure : (a : AskerArrival) (s : Secured) (stage : Secured → Stage) (seals : List SealEntry) (r : Result SealedFrame BytesFault) → RowOfAsker a.own (secure_sent a s stage seals r)
+none-secure a s stage seals (Ok sealed) = record { enters = tt; shows = refl }
+none-secure a s stage seals (Err why) = record { enters = (tt, tt); shows = (tt, refl) }
+
+none-hello : (a : AskerArrival) (asked : ℕ) (hello : Result Hello BytesFault) → RowOfAsker a.own (on_hello a asked hello)
 none-hello a asked (Ok hello) = none-plain a (AwaitsChallenge asked) [] (plain_frame (login_request a.own))
-none-hello a asked (Err why) = (tt, tt)
+none-hello a asked (Err why) = record { enters = (tt, tt); shows = (tt, refl) }
 
-none-proves : (a : AskerArrival) (server : ℕ) (made : Result (List ℕ) BytesFault) → RowOfAsker (proves a server made)
-none-proves a server (Ok bytes) = tt
-none-proves a server (Err why) = (tt, tt)
+none-proves : (a : AskerArrival) (server : ℕ) (made : Result (List ℕ) BytesFault) → RowOfAsker a.own (proves a server made)
+none-proves a server (Ok bytes) = record { enters = tt; shows = refl }
+none-proves a server (Err why) = record { enters = (tt, tt); shows = (tt, refl) }
 
-none-challenge : (a : AskerArrival) (asked : ℕ) (server : Result ServerChallenge BytesFault) → RowOfAsker (on_challenge a asked server)
-none-challenge a asked (Err why) = (tt, tt)
+none-challenge : (a : AskerArrival) (asked : ℕ) (server : Result ServerChallenge BytesFault) → RowOfAsker a.own (on_challenge a asked server)
+none-challenge a asked (Err why) = record { enters = (tt, tt); shows = (tt, refl) }
 none-challenge a asked (Ok server) =
     let ask : Ask = record { secret = a.own.secret; old = unexpired a.reading a.own.holdings.auth; other_keys = asked } in
     none-proves a server.challenge (plain_frame (control 5 auth_request_more_layout.form
     (record { payload = authenticate_layout.form.text (authenticate ask server.challenge (challenge_of a.draw)) })))
 
-none-reply_more : (a : AskerArrival) (asked : ℕ) (more : Result AuthReplyMore BytesFault) → RowOfAsker (on_reply_more a asked more)
-none-reply_more a asked (Err why) = (tt, tt)
+none-reply_more : (a : AskerArrival) (asked : ℕ) (more : Result AuthReplyMore BytesFault) → RowOfAsker a.own (on_reply_more a asked more)
+none-reply_more a asked (Err why) = record { enters = (tt, tt); shows = (tt, refl) }
 none-reply_more a asked (Ok more) = none-challenge a asked (whole server_challenge_layout.form more.payload)
 
-none-bad_method : (a : AskerArrival) (fields : Result (ℕ × (ℕ × (List ℕ × List ℕ))) BytesFault) → RowOfAsker (on_bad_method a fields)
-none-bad_method a (Err why) = (tt, tt)
-none-bad_method a (Ok fields) = (tt, tt)
+none-bad_method : (a : AskerArrival) (fields : Result (ℕ × (ℕ × (List ℕ × List ℕ))) BytesFault) → RowOfAsker a.own (on_bad_method a fields)
+none-bad_method a (Err why) = record { enters = (tt, tt); shows = (tt, refl) }
+none-bad_method a (Ok fields) = record { enters = (tt, tt); shows = (tt, by_test (negated fields.1.0 == 13)) }
+  where
+    by_test : (t : Bool) → a.own.view ≡ (if t then holding a holds_nothing else a).own.view
+    by_test true = refl
+    by_test false = refl
 
-none-challenged : (a : AskerArrival) (asked : ℕ) (f : Frame) → RowOfAsker (while_challenged a asked f)
+none-challenged : (a : AskerArrival) (asked : ℕ) (f : Frame) → RowOfAsker a.own (while_challenged a asked f)
 none-challenged a asked f = by_test (f.tag == 3)
   where
-    by_test : (t : Bool) → RowOfAsker (if t then on_bad_method a (payload bad_method_layout.form f) else on_reply_more a asked (due 4 auth_reply_more_layout.form f))
+    by_test : (t : Bool) → RowOfAsker a.own (if t then on_bad_method a (payload bad_method_layout.form f) else on_reply_more a asked (due 4 auth_reply_more_layout.form f))
     by_test true = none-bad_method a (payload bad_method_layout.form f)
     by_test false = none-reply_more a asked (due 4 auth_reply_more_layout.form f)
 
-none-signs : (a : AskerArrival) (login : Opening) (opened : List SealEntry) (made : Result SealedFrame BytesFault) → RowOfAsker (signs a login opened made)
-none-signs a login opened (Ok sealed) = tt
-none-signs a login opened (Err why) = (tt, tt)
+none-signs : (a : AskerArrival) (login : Opening) (opened : List SealEntry) (made : Result SealedFrame BytesFault) → RowOfAsker a.own (signs a login opened made)
+none-signs a login opened (Ok sealed) = record { enters = tt; shows = refl }
+none-signs a login opened (Err why) = record { enters = (tt, tt); shows = (tt, refl) }
 
-none-opened : (a : AskerArrival) (gid : ℕ) (opened : List SealEntry) (value : Option LoggedIn) → RowOfAsker (on_opened a gid opened value)
-none-opened a gid opened None = (tt, tt)
+none-opened : (a : AskerArrival) (gid : ℕ) (opened : List SealEntry) (value : Option LoggedIn) → RowOfAsker a.own (on_opened a gid opened value)
+none-opened a gid opened None = record { enters = (tt, tt); shows = (tt, refl) }
 none-opened a gid opened (Some x) =
     none-signs a (record { gid = gid; opened = x }) opened (signed_frame (connector_keys x.secret) x.auth.session (take a.link.taken a.link.received))
 
-none-login_done : (a : AskerArrival) (gid : ℕ) (done : Result LoginDone BytesFault) → RowOfAsker (on_login_done a gid done)
-none-login_done a gid (Err why) = (tt, tt)
+none-login_done : (a : AskerArrival) (gid : ℕ) (done : Result LoginDone BytesFault) → RowOfAsker a.own (on_login_done a gid done)
+none-login_done a gid (Err why) = record { enters = (tt, tt); shows = (tt, refl) }
 none-login_done a gid (Ok done) = let unlocked = login_in a.own.secret done in none-opened a gid unlocked.seals unlocked.value
 
-none-done : (a : AskerArrival) (done : Result AuthDone BytesFault) → RowOfAsker (on_done a done)
-none-done a (Err why) = (tt, tt)
+none-done : (a : AskerArrival) (done : Result AuthDone BytesFault) → RowOfAsker a.own (on_done a done)
+none-done a (Err why) = record { enters = (tt, tt); shows = (tt, refl) }
 none-done a (Ok done) = by_test (not (done.mode == 2))
   where
-    by_test : (t : Bool) → RowOfAsker (if t then refuses a (reason.Login Mode) [] else on_login_done a done.gid (whole login_done_layout.form done.payload))
-    by_test true = (tt, tt)
+    by_test : (t : Bool) → RowOfAsker a.own (if t then refuses a (reason.Login Mode) [] else on_login_done a done.gid (whole login_done_layout.form done.payload))
+    by_test true = record { enters = (tt, tt); shows = (tt, refl) }
     by_test false = none-login_done a done.gid (whole login_done_layout.form done.payload)
 
-none-proved : (a : AskerArrival) (f : Frame) → RowOfAsker (while_proved a f)
+none-proved : (a : AskerArrival) (f : Frame) → RowOfAsker a.own (while_proved a f)
 none-proved a f = by_test (f.tag == 3)
   where
-    by_test : (t : Bool) → RowOfAsker (if t then on_bad_method a (payload bad_method_layout.form f) else on_done a (due 6 auth_done_layout.form f))
+    by_test : (t : Bool) → RowOfAsker a.own (if t then on_bad_method a (payload bad_method_layout.form f) else on_done a (due 6 auth_done_layout.form f))
     by_test true = none-bad_method a (payload bad_method_layout.form f)
     by_test false = none-done a (due 6 auth_done_layout.form f)
 
-none-identifies : (a : AskerArrival) (s : Secured) (login : Opening) → RowOfAsker (identifies a s login)
+none-identifies : (a : AskerArrival) (s : Secured) (login : Opening) → RowOfAsker a.own (identifies a s login)
 none-identifies a s login =
-    none-secure (holding a (held_login a.own.holdings login.gid login.opened)) s (λ behind. AwaitsIdent behind login.opened.auth.session) _
-    (secure_frame s.keys (client_ident a.own login.gid 1 (cookie_of a.draw)))
+    let h = none-secure (holding a (held_login a.own.holdings login.gid login.opened)) s (λ behind. AwaitsIdent behind login.opened.auth.session) _
+    (secure_frame s.keys (client_ident a.own login.gid 1 (cookie_of a.draw))) in
+    record { enters = h.enters; shows = h.shows }
 
-none-signature : (a : AskerArrival) (s : Secured) (login : Opening) (found : Result AuthSignature BytesFault) → RowOfAsker (on_signature a s login found)
-none-signature a s login (Err why) = (tt, tt)
+none-signature : (a : AskerArrival) (s : Secured) (login : Opening) (found : Result AuthSignature BytesFault) → RowOfAsker a.own (on_signature a s login found)
+none-signature a s login (Err why) = record { enters = (tt, tt); shows = (tt, refl) }
 none-signature a s login (Ok found) = by_test (is_signed s found.signature)
   where
-    by_test : (t : Bool) → RowOfAsker (if t then identifies a s login else refuses a (reason.Login SignatureWrong) [])
+    by_test : (t : Bool) → RowOfAsker a.own (if t then identifies a s login else refuses a (reason.Login SignatureWrong) [])
     by_test true = none-identifies a s login
-    by_test false = (tt, tt)
+    by_test false = record { enters = (tt, tt); shows = (tt, refl) }
 
 -- ---- requests and replies
 
@@ -241,49 +254,50 @@ taken-of_login secret r (Ok m) = by_type (m.header.type_ == 18)
     by_type false = tt
 
 -- a request, where it could be sealed
-pub none-sends : (a : AskerArrival) (s : Secured) (r : Requests) (wanted : Want) (made : Result SealedFrame Reason) → IsMadeOfLogin made → RowOfAsker (sends_request Open a s r wanted made)
-none-sends a s r wanted (Ok sealed) h = tt
-none-sends a s r wanted (Err why) h = (h, tt)
+pub none-sends : (a : AskerArrival) (s : Secured) (r : Requests) (wanted : Want) (made : Result SealedFrame Reason) → IsMadeOfLogin made → RowOfAsker a.own (sends_request Open a s r wanted made)
+none-sends a s r wanted (Ok sealed) h = record { enters = tt; shows = refl }
+none-sends a s r wanted (Err why) h = record { enters = (h, tt); shows = (tt, refl) }
 
-none-server_ident : (a : AskerArrival) (s : Secured) (session : List ℕ) (ident : Result ServerIdent BytesFault) → RowOfAsker (on_server_ident Open a s session ident)
-none-server_ident a s session (Err why) = (tt, tt)
+none-server_ident : (a : AskerArrival) (s : Secured) (session : List ℕ) (ident : Result ServerIdent BytesFault) → RowOfAsker a.own (on_server_ident Open a s session ident)
+none-server_ident a s session (Err why) = record { enters = (tt, tt); shows = (tt, refl) }
 none-server_ident a s session (Ok ident) = by_test (is_daemon_type a.own.name.kind)
   where
-    by_test : (t : Bool) → RowOfAsker (if t then asks_rotating Open a s (no_requests session) else goes_on a (Open s (no_requests session)) [] [])
+    by_test : (t : Bool) → RowOfAsker a.own (if t then asks_rotating Open a s (no_requests session) else goes_on a (Open s (no_requests session)) [] [])
     by_test true =
         none-sends a s (no_requests session) (want.Rotating a.reading) (sealed_request s.keys (no_requests session) asked.Rotating)
         (sealed-of_login s.keys (no_requests session) asked.Rotating)
-    by_test false = tt
+    by_test false = record { enters = tt; shows = refl }
 
-none-missing : (a : AskerArrival) (missing : Result IdentMissingFeatures BytesFault) → RowOfAsker (on_missing_features a missing)
-none-missing a (Err why) = (tt, tt)
-none-missing a (Ok missing) = (tt, tt)
+none-missing : (a : AskerArrival) (missing : Result IdentMissingFeatures BytesFault) → RowOfAsker a.own (on_missing_features a missing)
+none-missing a (Err why) = record { enters = (tt, tt); shows = (tt, refl) }
+none-missing a (Ok missing) = record { enters = (tt, tt); shows = (tt, refl) }
 
-none-identified : (a : AskerArrival) (s : Secured) (session : List ℕ) (f : Frame) → RowOfAsker (while_identified a s session f)
+none-identified : (a : AskerArrival) (s : Secured) (session : List ℕ) (f : Frame) → RowOfAsker a.own (while_identified a s session f)
 none-identified a s session f = by_test (f.tag == 10)
   where
-    by_test : (t : Bool) → RowOfAsker (if t then on_missing_features a (payload ident_missing_features_layout.form f) else on_server_ident Open a s session (due 9 server_ident_layout.form f))
+    by_test : (t : Bool) → RowOfAsker a.own (if t then on_missing_features a (payload ident_missing_features_layout.form f) else on_server_ident Open a s session (due 9 server_ident_layout.form f))
     by_test true = none-missing a (payload ident_missing_features_layout.form f)
     by_test false = none-server_ident a s session (due 9 server_ident_layout.form f)
 
-none-keepalive : (a : AskerArrival) (s : Secured) (r : Requests) (keepalive : Result Keepalive2 BytesFault) → RowOfAsker (on_keepalive a s (λ behind. Open behind r) keepalive)
-none-keepalive a s r (Err why) = (tt, tt)
+none-keepalive : (a : AskerArrival) (s : Secured) (r : Requests) (keepalive : Result Keepalive2 BytesFault) → RowOfAsker a.own (on_keepalive a s (λ behind. Open behind r) keepalive)
+none-keepalive a s r (Err why) = record { enters = (tt, tt); shows = (tt, refl) }
 none-keepalive a s r (Ok keepalive) =
     none-secure a s (λ behind. Open behind r) [] (secure_frame s.keys (control 19 keepalive2_ack_layout.form (record { time = keepalive.time })))
 
-none-keepalive_ack : (a : AskerArrival) (s : Secured) (r : Requests) (ack : Result Keepalive2Ack BytesFault) → RowOfAsker (on_keepalive_ack a s (λ behind. Open behind r) ack)
-none-keepalive_ack a s r (Err why) = (tt, tt)
-none-keepalive_ack a s r (Ok ack) = tt
+none-keepalive_ack : (a : AskerArrival) (s : Secured) (r : Requests) (ack : Result Keepalive2Ack BytesFault) → RowOfAsker a.own (on_keepalive_ack a s (λ behind. Open behind r) ack)
+none-keepalive_ack a s r (Err why) = record { enters = (tt, tt); shows = (tt, refl) }
+none-keepalive_ack a s r (Ok ack) = record { enters = tt; shows = refl }
 
-none-takes : (a : AskerArrival) (s : Secured) (r : Requests) (what : Taken) → IsTakenOfLogin what → RowOfAsker (takes Open a s r what)
-none-takes a s r (taken.Refuses why opened) h = (h, tt)
-none-takes a s r (taken.Holds held opened) h = tt
-none-takes a s r (taken.Views reading generations opened) h = (tt, tt)
+none-takes : (a : AskerArrival) (s : Secured) (r : Requests) (what : Taken) → IsTakenOfLogin what → RowOfAsker a.own (takes Open a s r what)
+none-takes a s r (taken.Refuses why opened) h = record { enters = (h, tt); shows = (tt, refl) }
+none-takes a s r (taken.Holds held opened) h = record { enters = tt; shows = refl }
+none-takes a s r (taken.Views reading generations opened) h =
+    record { enters = (tt, tt); shows = (refl, viewed-own a.own.name a.own.view (record { generations = generations; asked = Some reading })) }
 
-none-open : (a : AskerArrival) (s : Secured) (r : Requests) (f : Frame) → RowOfAsker (on_open Open a s r f)
+none-open : (a : AskerArrival) (s : Secured) (r : Requests) (f : Frame) → RowOfAsker a.own (on_open Open a s r f)
 none-open a s r f = by_tests (f.tag == 18) (f.tag == 19)
   where
-    by_tests : (ask ack : Bool) → RowOfAsker (if ask then on_keepalive a s (λ behind. Open behind r) (payload keepalive2_layout.form f)
+    by_tests : (ask ack : Bool) → RowOfAsker a.own (if ask then on_keepalive a s (λ behind. Open behind r) (payload keepalive2_layout.form f)
         else if ack then on_keepalive_ack a s (λ behind. Open behind r) (payload keepalive2_ack_layout.form f) else on_reply Open a s r f)
     by_tests true ack = none-keepalive a s r (payload keepalive2_layout.form f)
     by_tests false true = none-keepalive_ack a s r (payload keepalive2_ack_layout.form f)
@@ -291,81 +305,93 @@ none-open a s r f = by_tests (f.tag == 18) (f.tag == 19)
 
 -- ---- a turn
 
-pub none-turned : (a : AskerArrival) (stage : Stage) → RowOf RowOfAsker (turned_at a stage)
+pub none-turned : (a : AskerArrival) (stage : Stage) → RowOf (RowOfAsker a.own) (turned_at a stage)
 none-turned a (AwaitsBanner asked) =
-    by-front RowOfAsker (λ link _. on_banner (at a link) asked) (banner_next a.link)
+    by-front (RowOfAsker a.own) (λ link _. on_banner (at a link) asked) (banner_next a.link)
     (λ link opened. none-plain (at a link) (AwaitsHello asked) [] (plain_frame (own_hello a.own.name.kind)))
 none-turned a (AwaitsHello asked) =
-    by-front RowOfAsker (λ (link, f) _. on_hello (at a link) asked (due 1 hello_layout.form f)) (plain_next a.link)
+    by-front (RowOfAsker a.own) (λ (link, f) _. on_hello (at a link) asked (due 1 hello_layout.form f)) (plain_next a.link)
     (λ (link, f) opened. none-hello (at a link) asked (due 1 hello_layout.form f))
 none-turned a (AwaitsChallenge asked) =
-    by-front RowOfAsker (λ (link, f) _. while_challenged (at a link) asked f) (plain_next a.link) (λ (link, f) opened. none-challenged (at a link) asked f)
-none-turned a AwaitsDone = by-front RowOfAsker (λ (link, f) _. while_proved (at a link) f) (plain_next a.link) (λ (link, f) opened. none-proved (at a link) f)
+    by-front (RowOfAsker a.own) (λ (link, f) _. while_challenged (at a link) asked f) (plain_next a.link) (λ (link, f) opened. none-challenged (at a link) asked f)
+none-turned a AwaitsDone = by-front (RowOfAsker a.own) (λ (link, f) _. while_proved (at a link) f) (plain_next a.link) (λ (link, f) opened. none-proved (at a link) f)
 none-turned a (AwaitsSignature s login) =
-    by-front RowOfAsker (λ (link, f, keys) opened. with_opened opened (on_signature (at a link) (under s keys) login (due 7 auth_signature_layout.form f))) (secure_next s.keys a.link)
-    (λ (link, f, keys) opened. none-signature (at a link) (under s keys) login (due 7 auth_signature_layout.form f))
+    by-front (RowOfAsker a.own) (λ (link, f, keys) opened. with_opened opened (on_signature (at a link) (under s keys) login (due 7 auth_signature_layout.form f))) (secure_next s.keys a.link)
+    (λ (link, f, keys) opened. none-behind a.own opened (on_signature (at a link) (under s keys) login (due 7 auth_signature_layout.form f))
+    (none-signature (at a link) (under s keys) login (due 7 auth_signature_layout.form f)))
 none-turned a (AwaitsIdent s session) =
-    by-front RowOfAsker (λ (link, f, keys) opened. with_opened opened (while_identified (at a link) (under s keys) session f)) (secure_next s.keys a.link)
-    (λ (link, f, keys) opened. none-identified (at a link) (under s keys) session f)
+    by-front (RowOfAsker a.own) (λ (link, f, keys) opened. with_opened opened (while_identified (at a link) (under s keys) session f)) (secure_next s.keys a.link)
+    (λ (link, f, keys) opened. none-behind a.own opened (while_identified (at a link) (under s keys) session f) (none-identified (at a link) (under s keys) session f))
 none-turned a (Open s r) =
-    by-front RowOfAsker (λ (link, f, keys) opened. with_opened opened (on_open Open (at a link) (under s keys) r f)) (secure_next s.keys a.link)
-    (λ (link, f, keys) opened. none-open (at a link) (under s keys) r f)
+    by-front (RowOfAsker a.own) (λ (link, f, keys) opened. with_opened opened (on_open Open (at a link) (under s keys) r f)) (secure_next s.keys a.link)
+    (λ (link, f, keys) opened. none-behind a.own opened (on_open Open (at a link) (under s keys) r f) (none-open (at a link) (under s keys) r f))
 
 -- ---- a step of a client
 
-none-turns : (c : ClientNode) (a : Arrival Client Stage) (turned : Turned Asker Stage) → RowOf RowOfAsker turned → OfAsker (turns c a (lifted_turn (with_asker c.own) turned)).out.entries
-none-turns c a Waits h = tt
-none-turns c a (Refuses why opened) h = (tt, tt)
-none-turns c a (Handles row) h = h
+-- so of a step of a client
+pub record StepOfAsker (asker : Asker) (o : Outcome ClientNode) : Type 0 where
+  pub enters : OfAsker o.out.entries
+  pub shows : ShowsAlong asker.name asker.view o.out.entries o.state.own.asker.view
 
-none-turn : (c : ClientNode) (reading : ℕ) (block : List ℕ) (link : Option (Link Stage)) → OfAsker (turn c reading block link).out.entries
-none-turn c reading block None = tt
+none-turns : (c : ClientNode) (a : Arrival Client Stage) (turned : Turned Asker Stage) → a.own.asker.view ≡ c.own.asker.view → RowOf (RowOfAsker c.own.asker) turned
+    → StepOfAsker c.own.asker (turns c a (lifted_turn (with_asker c.own) turned))
+none-turns c a Waits same h = record { enters = tt; shows = refl }
+none-turns c a (Refuses why opened) same h = record { enters = (tt, tt); shows = (tt, sym same) }
+none-turns c a (Handles row) same h = record { enters = h.enters; shows = h.shows }
+
+none-turn : (c : ClientNode) (reading : ℕ) (block : List ℕ) (link : Option (Link Stage)) → StepOfAsker c.own.asker (turn c reading block link)
+none-turn c reading block None = record { enters = tt; shows = refl }
 none-turn c reading block (Some link) =
-    none-turns c (arrival (me c.own) c.own link reading block) (turned_at (arrival (me c.own) c.own.asker link reading block) link.stage)
+    none-turns c (arrival (me c.own) c.own link reading block) (turned_at (arrival (me c.own) c.own.asker link reading block) link.stage) refl
     (none-turned (arrival (me c.own) c.own.asker link reading block) link.stage)
 
-none-opens : (c : ClientNode) (reading : ℕ) (block : List ℕ) (number : ℕ) (to : Option Peer) → OfAsker (opens c reading block number to).out.entries
-none-opens c reading block number None = tt
-none-opens c reading block number (Some (peer.Daemon daemon)) = tt
-none-opens c reading block number (Some peer.Monitor) = tt
+none-opens : (c : ClientNode) (reading : ℕ) (block : List ℕ) (number : ℕ) (to : Option Peer) → StepOfAsker c.own.asker (opens c reading block number to)
+none-opens c reading block number None = record { enters = tt; shows = refl }
+none-opens c reading block number (Some (peer.Daemon daemon)) = record { enters = tt; shows = refl }
+none-opens c reading block number (Some peer.Monitor) = record { enters = tt; shows = refl }
 
-none-fed : (c : ClientNode) (bytes : List ℕ) (link : Option (Link Stage)) → OfAsker (fed c bytes link).out.entries
-none-fed c bytes None = tt
-none-fed c bytes (Some link) = tt
+none-fed : (c : ClientNode) (bytes : List ℕ) (link : Option (Link Stage)) → StepOfAsker c.own.asker (fed c bytes link)
+none-fed c bytes None = record { enters = tt; shows = refl }
+none-fed c bytes (Some link) = record { enters = tt; shows = refl }
 
-none-loses : (c : ClientNode) (link : Option (Link Stage)) → OfAsker (loses c link).out.entries
-none-loses c None = tt
-none-loses c (Some link) = by_test (is_open link.stage)
+none-loses : (c : ClientNode) (link : Option (Link Stage)) → StepOfAsker c.own.asker (loses c link)
+none-loses c None = record { enters = tt; shows = refl }
+none-loses c (Some link) = record { enters = by_test (is_open link.stage); shows = by_view (is_open link.stage) }
   where
     by_test : (t : Bool) → OfAsker (if t then [] else refused_entry (me c.own) link.number reason.Lost ∷ [])
     by_test true = tt
     by_test false = (tt, tt)
 
-none-renews : (c : ClientNode) (services reading : ℕ) (block : List ℕ) (found : Option (Link Stage × (Secured × Requests))) → OfAsker (renews_on c services reading block found).out.entries
-none-renews c services reading block None = (tt, tt)
+    by_view : (t : Bool) → ShowsAlong c.own.asker.name c.own.asker.view (if t then [] else refused_entry (me c.own) link.number reason.Lost ∷ []) c.own.asker.view
+    by_view true = refl
+    by_view false = (tt, refl)
+
+none-renews : (c : ClientNode) (services reading : ℕ) (block : List ℕ) (found : Option (Link Stage × (Secured × Requests))) → StepOfAsker c.own.asker (renews_on c services reading block found)
+none-renews c services reading block None = record { enters = (tt, tt); shows = (tt, refl) }
 none-renews c services reading block (Some (link, (s, r))) =
-    none-sends (arrival (me c.own) c.own.asker link reading block) s r want.Tickets (sealed_request s.keys r (asked.Tickets services))
-    (sealed-of_login s.keys r (asked.Tickets services))
+    let h = none-sends (arrival (me c.own) c.own.asker link reading block) s r want.Tickets (sealed_request s.keys r (asked.Tickets services))
+    (sealed-of_login s.keys r (asked.Tickets services)) in
+    record { enters = h.enters; shows = h.shows }
 
-none-submits : (c : ClientNode) (reading : ℕ) (block : List ℕ) (said : Command) → OfAsker (submits c reading block said).out.entries
-none-submits c reading block (command.Login services) = tt
+none-submits : (c : ClientNode) (reading : ℕ) (block : List ℕ) (said : Command) → StepOfAsker c.own.asker (submits c reading block said)
+none-submits c reading block (command.Login services) = record { enters = tt; shows = refl }
 none-submits c reading block (command.Renew services) = none-renews c services reading block (first_open kept_open c.links)
-none-submits c reading block command.Fetch = tt
-none-submits c reading block (command.Connect daemon lossy) = tt
-none-submits c reading block (command.Send daemon operation) = tt
-none-submits c reading block (command.Drop session) = tt
+none-submits c reading block command.Fetch = record { enters = tt; shows = refl }
+none-submits c reading block (command.Connect daemon lossy) = record { enters = tt; shows = refl }
+none-submits c reading block (command.Send daemon operation) = record { enters = tt; shows = refl }
+none-submits c reading block (command.Drop session) = record { enters = tt; shows = refl }
 
-client-enters : (c : ClientNode) (input : Input) (reading : ℕ) (block : List ℕ) → OfAsker (client_rule c input reading block).out.entries
+pub client-enters : (c : ClientNode) (input : Input) (reading : ℕ) (block : List ℕ) → StepOfAsker c.own.asker (client_rule c input reading block)
 client-enters c (Opened number to) reading block = none-opens c reading block number to
-client-enters c (NoLink to) reading block = (tt, tt)
+client-enters c (NoLink to) reading block = record { enters = (tt, tt); shows = (tt, refl) }
 client-enters c (Bytes number bytes) reading block = none-fed c bytes (link_of number c.links)
 client-enters c (Turn number) reading block = none-turn c reading block (link_of number c.links)
 client-enters c (Gone number) reading block = none-loses c (link_of number c.links)
 client-enters c (Submit said) reading block = none-submits c reading block said
-client-enters c Restart reading block = (tt, tt)
-client-enters c (Look view) reading block = tt
-client-enters c Tick reading block = tt
+client-enters c Restart reading block = record { enters = (tt, tt); shows = (refl, viewed-own c.own.asker.name c.own.asker.view nothing_viewed) }
+client-enters c (Look view) reading block = record { enters = tt; shows = refl }
+client-enters c Tick reading block = record { enters = tt; shows = refl }
 
 pub client-none : (c : ClientNode) (input : Input) (reading : ℕ) (block : List ℕ) → AllByRecursion IsNotIssued (client_rule c input reading block).out.entries
 client-none c input reading block =
-    all-map IsOfAsker IsNotIssued asker-not_issued (client_rule c input reading block).out.entries (client-enters c input reading block)
+    all-map IsOfAsker IsNotIssued asker-not_issued (client_rule c input reading block).out.entries (client-enters c input reading block).enters

@@ -202,7 +202,7 @@ module _ (run : WholeRun) (whole_log : List Logged) (n : NodeName) (line : ℕ) 
         saved-own run whole_log n line before owner us log J b ws (entered J (login_entries save_due ts)) (own-grows before owner vs ws J b.own grows own) e.numbered.below e.numbered.owned
 
     tickets-reply : (secret : List ℕ) (drawn : List SealEntry) (ts : List Ticket) → ((vs : Uses) → Grows us vs → Owns b vs → Means vs secret (Secret bearer.name))
-        → AllByRecursion (IsOther bearer.name bearer.gid b.reading b.draw) ts → AllByRecursion (IsOfCurrent b.own.server) ts
+        → AllByRecursion (IsOther bearer.name bearer.gid b.reading b.draw) ts → AllByRecursion (IsOfCurrent b.own.server b.reading b.draw) ts
         → Replies_ b (reply_made save_due drawn (flat_map (ticket_seals b.own.server secret bearer.session) ts) ts (given.Tickets (map ticket_part ts)))
     tickets-reply secret drawn ts told others under = λ vs log1 grows i own g.
         let e = enters vs log1 ts i own others in
@@ -271,7 +271,7 @@ module _ (run : WholeRun) (whole_log : List Logged) (n : NodeName) (line : ℕ) 
 
   tickets-after : (a : MonitorArrival) (s : Secured) (bearer : Bearer) (demand : Demand) (p : Principal) (r : Result (List Ticket) LoginFault) → BearerOk owner us s.keys bearer → length a.draw ≡ 384
       → find (is_named bearer.name) (rotated a).own.server.ring ≡ Some p
-      → AreOthers (rotated a).own.server bearer.name bearer.gid bearer.session a.reading a.draw r → AreOfCurrent (rotated a).own.server r → Begins (drawn_of a) (rotated a)
+      → AreOthers (rotated a).own.server bearer.name bearer.gid bearer.session a.reading a.draw r → AreOfCurrent (rotated a).own.server a.reading a.draw r → Begins (drawn_of a) (rotated a)
       → Records (row_for a s bearer demand (tells_tickets (at_of a) (rotated a).own.server bearer (drawn_of a) p.key.secret r))
       → Grants (row_for a s bearer demand (tells_tickets (at_of a) (rotated a).own.server bearer (drawn_of a) p.key.secret r)).seals
       → AfterOpen (row_for a s bearer demand (tells_tickets (at_of a) (rotated a).own.server bearer (drawn_of a) p.key.secret r))
@@ -292,7 +292,7 @@ module _ (run : WholeRun) (whole_log : List Logged) (n : NodeName) (line : ℕ) 
   asks-after a s bearer demand keys (Some p) ok draws is first rec g =
       tickets-after a s bearer demand p (issued_for (rotated a).own.server (asking_of (at_of a) bearer) (others_for keys)) ok draws is
       (others-issued (rotated a).own.server bearer.name bearer.gid bearer.session a.reading a.draw (others_for keys) (apart keys))
-      (all-under (rotated a).own.server (asking_of (at_of a) bearer) (others_for keys)) first rec g
+      (all-under (rotated a).own.server a.reading a.draw (asking_of (at_of a) bearer) (λ s. (refl, refl)) (others_for keys)) first rec g
     where
       apart : (keys : ℕ) → AllByRecursion (λ (s : EntityType). s ≡ Auth → ⊥) (others_for keys)
       apart keys = all-filter (λ (s : EntityType). s ≡ Auth → ⊥) (is_asked keys) (Mds ∷ Osd ∷ Mgr ∷ []) ((λ e. cc), ((λ e. cc), ((λ e. cc), tt)))

@@ -140,7 +140,7 @@ module _ (run : WholeRun) (whole : List Logged) (n : NodeName) (line : ℕ) (ser
       by_service Mgr same = (Login name, auth, other Mgr same (λ m. refl), tt)
 
   blob-allowed : (us : Uses) (t : Ticket) → TicketOk name gid reading block t → Contains K (issued_entry t) → Means us t.session (session_use name t.service)
-      → IsOfCurrent server t → (current : Option Generation) → current_at t.created (generations_of server.state t.service) ≡ current → CurrentOk us t.service current
+      → IsOfCurrent server reading block t → (current : Option Generation) → current_at t.created (generations_of server.state t.service) ≡ current → CurrentOk us t.service current
       → Allowed us K n (blob_sealed current t)
   blob-allowed us t ok has means under None is h = tt
   blob-allowed us t ok has means under (Some g) is h =
@@ -154,7 +154,7 @@ module _ (run : WholeRun) (whole : List Logged) (n : NodeName) (line : ℕ) (ser
       some_is a b e = cc
 
   -- one ticket
-  ticket-sealed : (us : Uses) (log : List Logged) (t : Ticket) → Inv run whole us log K → TicketOk name gid reading block t → IsOfCurrent server t → Contains K (issued_entry t) → Ready us
+  ticket-sealed : (us : Uses) (log : List Logged) (t : Ticket) → Inv run whole us log K → TicketOk name gid reading block t → IsOfCurrent server reading block t → Contains K (issued_entry t) → Ready us
       → Means (with_key us t.session (session_use name t.service)) auth_session (Login name)
       → AreGranted run.leaked whole n line log (ticket_seals server secret auth_session t)
       → Reached run whole n line us log K (ticket_seals server secret auth_session t) (λ vs. Means vs auth_session (Login name))
@@ -183,7 +183,7 @@ module _ (run : WholeRun) (whole : List Logged) (n : NodeName) (line : ℕ) (ser
       }
 
   -- the tickets for other services than AUTH
-  pub others-sealed : (us : Uses) (log : List Logged) (ts : List Ticket) → Inv run whole us log K → AllByRecursion (IsOther name gid reading block) ts → AllByRecursion (IsOfCurrent server) ts
+  pub others-sealed : (us : Uses) (log : List Logged) (ts : List Ticket) → Inv run whole us log K → AllByRecursion (IsOther name gid reading block) ts → AllByRecursion (IsOfCurrent server reading block) ts
       → AllByRecursion (λ (t : Ticket). Contains K (issued_entry t)) ts → Ready us → Means us auth_session (Login name)
       → AreGranted run.leaked whole n line log (flat_map (ticket_seals server secret auth_session) ts)
       → Reached run whole n line us log K (flat_map (ticket_seals server secret auth_session) ts) (λ vs. Means vs auth_session (Login name))
@@ -197,7 +197,7 @@ module _ (run : WholeRun) (whole : List Logged) (n : NodeName) (line : ℕ) (ser
 
   -- all tickets: the first is for AUTH, and its session key is the one under which the others are told
   pub tickets-sealed : (us : Uses) (log : List Logged) (t : Ticket) (ts : List Ticket) → Inv run whole us log K → TicketOk name gid reading block t → t.service ≡ Auth
-      → auth_session ≡ session_of Auth block → AllByRecursion (IsOther name gid reading block) ts → AllByRecursion (IsOfCurrent server) (t ∷ ts)
+      → auth_session ≡ session_of Auth block → AllByRecursion (IsOther name gid reading block) ts → AllByRecursion (IsOfCurrent server reading block) (t ∷ ts)
       → AllByRecursion (λ (t : Ticket). Contains K (issued_entry t)) (t ∷ ts) → Ready us
       → AreGranted run.leaked whole n line log (flat_map (ticket_seals server secret auth_session) (t ∷ ts))
       → Reached run whole n line us log K (flat_map (ticket_seals server secret auth_session) (t ∷ ts)) (λ vs. Means vs auth_session (Login name))

@@ -1,6 +1,8 @@
--- Each event of a run has a draw of 384 bytes.
-use Rattle.std.proofs.Common.{◌≡◌, ℕ, ◌*◌, List, [], ◌∷◌, Option, Some, None, refl, sym, subst, zero, suc, arith, length-append}
+-- Each event of a run has a draw of 384 bytes, which are bytes.
+use Rattle.std.proofs.Common.{◌≡◌, ◌<◌, ℕ, ◌*◌, List, [], ◌∷◌, Option, Some, None, refl, sym, subst, zero, suc, arith, length-append}
 use Rattle.std.specs.Prelude.{length}
+use Rattle.std.specs.Int.{w32, to_le_bytes}
+use Rattle.std.specs.List.{AllByRecursion}
 use Rattle.cx_dice.specs.Rolls.{seed_draw, words_from}
 use Rattle.cx_lines.specs.declared.lines.Numbered.{Numbered}
 use Rattle.cx_rules.specs.Inputs.{Input}
@@ -10,7 +12,7 @@ use Rattle.cx_run.specs.Schedules.{after_lines}
 use Rattle.cx_run.specs.Worlds.{Post, World, happening}
 use Rattle.cx_run.proofs.Walking.{kept-after_lines}
 use Rattle.cx_laws_keys.proofs.Lists.{all-append}
-use Rattle.cx_laws_run.specs.Laws.{AreDrawn}
+use Rattle.cx_laws_run.specs.Laws.{AreBytes, AreDrawn}
 
 -- the draws of a seed have 384 bytes
 length-words : (key : List ℕ) (place n : ℕ) → length (words_from key place n) ≡ 4 * n
@@ -22,18 +24,38 @@ length-words key place (suc n) =
 length-seed : (seed number : ℕ) → length (seed_draw seed number) ≡ 384
 length-seed seed number = length-words _ (96 * number) 96
 
+-- and they are bytes
+word-bytes : (n : ℕ) → AreBytes (to_le_bytes w32 n)
+word-bytes n = (omega arith, (omega arith, (omega arith, (omega arith, tt))))
+
+bytes-words : (key : List ℕ) (place n : ℕ) → AreBytes (words_from key place n)
+unfolding words_from
+bytes-words key place zero = tt
+bytes-words key place (suc n) =
+    all-append (λ (b : ℕ). b < 256) (words_from key place n) _ (bytes-words key place n) (word-bytes _)
+
+bytes-seed : (seed number : ℕ) → AreBytes (seed_draw seed number)
+bytes-seed seed number = bytes-words _ (96 * number) 96
+
 -- each event of a world so far has such a draw
 pub record Drawn (w : World) : Type 0 where
   pub all : AreDrawn w.past
+  pub bytes : AllByRecursion (λ (h : Happening). AreBytes h.draw) w.past
 
 drawn-like : (w v : World) → v.nodes ≡ w.nodes → v.past ≡ w.past → Drawn w → Drawn v
-drawn-like w v n p k = record { all = subst (λ (hs : List Happening). AreDrawn hs) (sym p) k.all }
+drawn-like w v n p k = record {
+  all = subst (λ (hs : List Happening). AreDrawn hs) (sym p) k.all;
+  bytes = subst (λ (hs : List Happening). AllByRecursion (λ (h : Happening). AreBytes h.draw) hs) (sym p) k.bytes;
+}
 
 drawn-given : (w : World) (input : Input) (post : Option Post) → Drawn w → Drawn (given w input post).world
 drawn-given w input None k = k
 drawn-given w input (Some post) k =
     let h = happening w input post in
-    record { all = all-append (λ (x : Happening). length x.draw ≡ 384) w.past (h ∷ []) k.all (length-seed post.seed post.rolled, tt) }
+    record {
+      all = all-append (λ (x : Happening). length x.draw ≡ 384) w.past (h ∷ []) k.all (length-seed post.seed post.rolled, tt);
+      bytes = all-append (λ (x : Happening). AreBytes x.draw) w.past (h ∷ []) k.bytes (bytes-seed post.seed post.rolled, tt);
+    }
 
 pub drawn-after_lines : (w : World) (lines : List Numbered) → Drawn w → Drawn (after_lines w lines)
 drawn-after_lines = kept-after_lines Drawn drawn-like drawn-given

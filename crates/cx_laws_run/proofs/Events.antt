@@ -1,5 +1,5 @@
 -- An event of a run, and every list of events.
-use Rattle.std.proofs.Common.{◌≡◌, ℕ, Bool, true, false, List, [], ◌∷◌, ◌++◌, length, map, filter, Option, Some, None, refl, sym, ap, ◌∙◌, subst, arith, append-nil, append_assoc, ◌+◌, ◌⊎◌, inl, inr}
+use Rattle.std.proofs.Common.{◌≡◌, ℕ, Bool, true, false, List, [], ◌∷◌, ◌++◌, length, map, filter, Option, Some, None, refl, sym, ap, ◌∙◌, subst, arith, append-nil, append_assoc, ◌+◌, ◌⊎◌, inl, inr, ◌<◌, ◌^◌}
 use Rattle.std.specs.Prelude.{Contains, if◌then◌else◌}
 use Rattle.std.specs.List.{AllByRecursion}
 use Rattle.cx_base.proofs.Names.{same_name_is}
@@ -149,7 +149,7 @@ pub record Occurs (run : WholeRun) (nodes : Nodes) (h : Happening) : Type 0 wher
   pub looks : IsNoLook h.input
   pub comes : run.guests ≡ false → IsUnvisited h.node h.input
   pub recorded : AreRecorded run (steps nodes h).nodes.monitor.own.saved
-  pub good : run.good ≡ true → (t : Issued) → Contains (steps nodes h).out.entries (journal.Issued t) → IsGood run t
+  pub good : run.good ≡ true → (t : Issued) → Contains (steps nodes h).out.entries (journal.Issued t) → t.gid < 2 ^ 64 → IsGood run t
 
 abbrev pub AllOccur : WholeRun → Nodes → List Happening → Type 0
 AllOccur run nodes [] = Unit {0}
@@ -178,7 +178,7 @@ monitor-moved us vs J K m f quiet h =
       };
     }
 
-entered-append : (J js : List Entry) → entered J js ≡ J ++ js
+pub entered-append : (J js : List Entry) → entered J js ≡ J ++ js
 entered-append J [] = sym (append-nil J)
 entered-append J (j ∷ js) = entered-append (J ++ j ∷ []) js ∙ append_assoc J (j ∷ []) js
 
@@ -352,20 +352,23 @@ module _ (run : WholeRun) (whole : List Logged) (us : Uses) (log : List Logged) 
       → AreGranted run.leaked whole h.node h.line log (steps nodes h).out.seals → AfterStepped h.node h.line (steps nodes h)
   event-after h i ok good m g = at-node h h.node i ok m.drawn m.looks m.comes good m.recorded g
 
--- all tickets are good behind an event
-pub good-behind : (run : WholeRun) (J js : List Entry) → AllGood run J → (run.good ≡ true → (t : Issued) → Contains js (journal.Issued t) → IsGood run t)
-    → AllGood run (entered J js)
-good-behind run J js before here known t has =
+-- all tickets are good behind an event, where each global id that was issued is a number of eight bytes
+pub good-behind : (run : WholeRun) (nodes : Nodes) (us : Uses) (J js : List Entry) → NodesOk run nodes us (entered J js) → AllGood run J
+    → (run.good ≡ true → (t : Issued) → Contains js (journal.Issued t) → t.gid < 2 ^ 64 → IsGood run t) → AllGood run (entered J js)
+good-behind run nodes us J js ok before here known t has =
     by_place (Contains-append_cases J js (journal.Issued t) (subst (λ (l : List Entry). Contains l (journal.Issued t)) (entered-append J js) has))
   where
     by_place : Contains J (journal.Issued t) ⊎ Contains js (journal.Issued t) → IsGood run t
     by_place (inl was) = before known t was
-    by_place (inr now) = here known t now
+    by_place (inr now) =
+        let below : t.gid < nodes.monitor.own.saved.next_gid = ok.monitor.node_ok.own.below t has in
+        let numbered : nodes.monitor.own.saved.next_gid < 2 ^ 64 = ok.monitor.node_ok.own.saved.numbered in
+        here known t now (omega arith)
 
 -- ---- every list of events
 
 -- the entries of an event are those of its effects
-entries-by : (h : Happening) (es : List Entry) → map (λ (x : Entered). x.entry) (map (λ (e : Entry). record { line = h.line; reading = h.reading; entry = e }) es) ≡ es
+pub entries-by : (h : Happening) (es : List Entry) → map (λ (x : Entered). x.entry) (map (λ (e : Entry). record { line = h.line; reading = h.reading; entry = e }) es) ≡ es
 entries-by h [] = refl
 entries-by h (e ∷ es) = ap (λ (l : List Entry). e ∷ l) (entries-by h es)
 
@@ -377,7 +380,7 @@ events-law run whole (h ∷ hs) nodes us log J i ok good m g =
     let s : Stepped = steps nodes h in
     let gs = granted-step run.leaked whole h.node h.line log s.out.seals (seals_from s.nodes hs) g in
     let a = event-after run whole us log J nodes h i ok good m.0 gs.0 in
-    let rest = events-law run whole hs s.nodes a.uses (behind h.node h.line s.out.seals log) (entered J s.out.entries) a.inv a.good (good-behind run J s.out.entries good m.0.good) m.1 gs.1 in
+    let rest = events-law run whole hs s.nodes a.uses (behind h.node h.line s.out.seals log) (entered J s.out.entries) a.inv a.good (good-behind run s.nodes a.uses J s.out.entries a.good good m.0.good) m.1 gs.1 in
     let later : List Entry = map (λ (x : Entered). x.entry) (journal_from s.nodes hs) in
     let both : EachBehind (EntryLaw run) J (s.out.entries ++ later) = behind-append (EntryLaw run) J s.out.entries later a.laws rest in
     let same : map (λ (x : Entered). x.entry) (entered_by h s.out ++ journal_from s.nodes hs) ≡ s.out.entries ++ later =

@@ -1,5 +1,5 @@
--- The events of a run to whose daemons no guests come, as the laws of each of them need them; and those of every schedule.
-use Rattle.std.proofs.Common.{◌≡◌, ℕ, Bool, true, false, List, [], ◌∷◌, ◌++◌, length, Option, Some, None, inl, inr, refl, sym, ◌∙◌, subst}
+-- The events of a run, as the laws of each of them need them; and those of every schedule.
+use Rattle.std.proofs.Common.{◌≡◌, ◌<◌, ℕ, Bool, true, false, List, [], ◌∷◌, ◌++◌, length, Option, Some, None, inl, inr, refl, sym, ◌∙◌, subst}
 use Rattle.std.specs.Prelude.{Contains}
 use Rattle.std.specs.List.{AllByRecursion}
 use Rattle.cx_base.specs.declared.kinds.EntityType.{EntityType}
@@ -7,38 +7,29 @@ use Rattle.cx_base.specs.declared.nodes.NodeName.{NodeName}
 use Rattle.cx_base.specs.declared.nodes.NodeName.TheVariants as node
 use Rattle.cx_journal.specs.Behind.{EachBehind}
 use Rattle.cx_keyserver.specs.Servers.{generations_of}
-use Rattle.cx_lines.specs.declared.lines.Numbered.{Numbered}
 use Rattle.cx_rotate.specs.declared.generations.Generation.{Generation}
 use Rattle.cx_rotate.specs.declared.states.KeptState.{KeptState}
 use Rattle.cx_run.specs.Happenings.{Happening, Nodes, steps}
-use Rattle.cx_run.specs.Opening.{Setup, leaked_of, nodes_of, opening_world}
+use Rattle.cx_run.specs.Opening.{Setup, leaked_of, nodes_of}
 use Rattle.cx_run.specs.Points.{Point, journal_since, log_since, nodes_past, points, points_onto}
-use Rattle.cx_run.specs.Runs.{setup_of, trace}
 use Rattle.cx_run.specs.Visits.{AreUnvisited, IsUnvisited}
-use Rattle.cx_run.proofs.Visiting.{unvisited}
 use Rattle.cx_steps.specs.Premises.{IsFresh, IsSound}
 use Rattle.cx_laws_authorize.specs.Coming.{IsNoLook}
+use Rattle.cx_laws_chain.proofs.One.{all-kept}
+use Rattle.cx_laws_chain.specs.Chain.{KeepsGenerations}
 use Rattle.cx_laws_keys.proofs.Journal.{EntryLaw}
 use Rattle.cx_laws_keys.proofs.Lists.{all-map, some-left, some-right}
 use Rattle.cx_laws_keys.proofs.Uses.{IsSavedIn, WholeRun}
 use Rattle.cx_laws_login.proofs.Generations.{AreRecorded, all-tagged, tagged}
-use Rattle.cx_laws_run.proofs.Draws.{drawn-after_lines}
-use Rattle.cx_laws_run.proofs.Events.{AllOccur, Occurs, unvisited-looks}
+use Rattle.cx_laws_run.proofs.Events.{AllOccur, Occurs}
+use Rattle.cx_laws_run.proofs.Good.{IsDraw, IsKnown, each-happening, good-point}
 use Rattle.cx_laws_run.proofs.Logins.{run-logins}
 use Rattle.cx_laws_run.proofs.Opening.{run-law}
-use Rattle.cx_laws_run.specs.Laws.{AreClients, AreDrawn, MayHappen}
+use Rattle.cx_laws_run.proofs.Whole.{run_of, saved_in}
+use Rattle.cx_laws_run.specs.Laws.{AreBytes, AreDrawn, MayBegin, MayHappen}
 use Rattle.cx_laws_run.specs.Logins.{LogIn}
 
 -- ---- what is saved
-
--- the generations that are saved behind these points
-abbrev pub saved_in : List Point → List (EntityType × Generation)
-saved_in [] = []
-saved_in (p ∷ older) = tagged (nodes_past p).monitor.own.saved ++ saved_in older
-
--- a run with these events, to whose daemons guests come or not
-abbrev pub run_of : Setup → List Happening → Bool → WholeRun
-run_of setup hs guests = record { leaked = leaked_of setup; saved = saved_in (points setup hs); guests = guests; good = false }
 
 -- what is saved behind earlier points is so behind all
 past-saved : (hs : List Happening) (past : List Point) (nodes : Nodes) (service : EntityType) (g : Generation) → IsSavedIn (saved_in past) service g
@@ -63,51 +54,56 @@ next-recorded run h hs past nodes all service =
 
 -- ---- events that may happen
 
--- where the run is said to have no guests, none come
-all-occur : (run : WholeRun) → run.good ≡ false → (hs : List Happening) (past : List Point) (nodes : Nodes) → AreDrawn hs → AllByRecursion (λ (h : Happening). IsNoLook h.input) hs
-    → (run.guests ≡ false → AreUnvisited hs) → ((s : EntityType) (g : Generation) → IsSavedIn (saved_in (points_onto past nodes hs)) s g → IsSavedIn run.saved s g)
-    → AllOccur run nodes hs
-all-occur run unknown [] past nodes drawn looks away all = tt
-all-occur run unknown (h ∷ hs) past nodes drawn looks away all = (
+-- where the run is said to have no guests, none come; and where its tickets are said to be good, all that is needed for that is known
+all-occur : (setup : Setup) (run : WholeRun) → MayBegin setup → (hs : List Happening) (past : List Point) (nodes : Nodes) → AreDrawn hs
+    → AllByRecursion (λ (h : Happening). IsNoLook h.input) hs → (run.guests ≡ false → AreUnvisited hs) → IsKnown setup run (points_onto past nodes hs)
+    → ((s : EntityType) (g : Generation) → IsSavedIn (saved_in (points_onto past nodes hs)) s g → IsSavedIn run.saved s g) → AllOccur run nodes hs
+all-occur setup run begins [] past nodes drawn looks away known all = tt
+all-occur setup run begins (h ∷ hs) past nodes drawn looks away known all = (
   record {
     drawn = drawn.0;
     looks = looks.0;
     comes = λ none. (away none).0;
     recorded = next-recorded run h hs past nodes all;
-    good = λ known. absurd (differ (sym unknown ∙ known));
+    good = λ is. good-point setup run begins h hs past nodes known;
   },
-  all-occur run unknown hs (record { nodes = nodes; happening = h } ∷ past) (steps nodes h).nodes drawn.1 looks.1 (λ none. (away none).1) all,
+  all-occur setup run begins hs (record { nodes = nodes; happening = h } ∷ past) (steps nodes h).nodes drawn.1 looks.1 (λ none. (away none).1) known all,
 )
-  where
-    differ : false ≡ true → ⊥
-    differ e = cc
+
+all-draws : (hs : List Happening) → AreDrawn hs → AllByRecursion (λ (h : Happening). AreBytes h.draw) hs → AllByRecursion (λ (h : Happening). IsDraw h.draw) hs
+all-draws [] drawn bytes = tt
+all-draws (h ∷ hs) drawn bytes = (record { long = drawn.0; bytes = bytes.0 }, all-draws hs drawn.1 bytes.1)
+
+all-known : (setup : Setup) (hs : List Happening) (guests : Bool) → MayHappen setup hs → IsKnown setup (run_of setup hs guests) (points setup hs)
+all-known setup hs guests m =
+    let kept : KeepsGenerations setup hs = all-kept setup hs in
+    record {
+      chained = kept.chained;
+      one = kept.one;
+      drawn = each-happening (λ (h : Happening). IsDraw h.draw) hs [] (nodes_of setup) (all-draws hs m.drawn m.bytes) tt;
+      read = each-happening (λ (h : Happening). h.reading < 4000000000000000000) hs [] (nodes_of setup) m.readings tt;
+      saved = λ service g h. h;
+    }
 
 -- the law of each entry of a run to whose daemons no guests come
 pub unvisited-law : (setup : Setup) (hs : List Happening) → MayHappen setup hs → AreUnvisited hs → IsSound (leaked_of setup) (log_since setup hs) → IsFresh (log_since setup hs)
     → EachBehind (EntryLaw (run_of setup hs false)) [] (journal_since setup hs)
 unvisited-law setup hs m away sound fresh =
     let run : WholeRun = run_of setup hs false in
-    run-law run setup hs refl m.clients (all-occur run refl hs [] (nodes_of setup) m.drawn m.looks (λ none. away) (λ s g h. h)) sound fresh
+    run-law run setup hs refl m.begins.clients
+    (all-occur setup run m.begins hs [] (nodes_of setup) m.drawn m.looks (λ none. away) (all-known setup hs false m) (λ s g h. h)) sound fresh
 
 -- of every run guests may come
 visited : (setup : Setup) (hs : List Happening) → MayHappen setup hs → AllOccur (run_of setup hs true) (nodes_of setup) hs
-visited setup hs m = all-occur (run_of setup hs true) refl hs [] (nodes_of setup) m.drawn m.looks (λ none. absurd (differ none)) (λ s g h. h)
+visited setup hs m =
+    all-occur setup (run_of setup hs true) m.begins hs [] (nodes_of setup) m.drawn m.looks (λ none. absurd (differ none)) (all-known setup hs true m) (λ s g h. h)
   where
     differ : true ≡ false → ⊥
     differ e = cc
 
 pub any-law : (setup : Setup) (hs : List Happening) → MayHappen setup hs → IsSound (leaked_of setup) (log_since setup hs) → IsFresh (log_since setup hs)
     → EachBehind (EntryLaw (run_of setup hs true)) [] (journal_since setup hs)
-any-law setup hs m sound fresh = run-law (run_of setup hs true) setup hs refl m.clients (visited setup hs m) sound fresh
+any-law setup hs m sound fresh = run-law (run_of setup hs true) setup hs refl m.begins.clients (visited setup hs m) sound fresh
 
 pub any-logins : (setup : Setup) (hs : List Happening) → MayHappen setup hs → IsSound (leaked_of setup) (log_since setup hs) → IsFresh (log_since setup hs) → LogIn setup (points setup hs)
-any-logins setup hs m sound fresh = run-logins (run_of setup hs true) setup hs refl m.clients (visited setup hs m) sound fresh
-
--- ---- schedules
-
-pub schedule-happens : (script : List Numbered) → AreClients (setup_of script) → MayHappen (setup_of script) (trace script)
-schedule-happens script clients = record {
-  drawn = (drawn-after_lines (opening_world (setup_of script)) script (record { all = tt })).all;
-  looks = all-map (λ (h : Happening). IsUnvisited h.node h.input) (λ (h : Happening). IsNoLook h.input) (λ h u. unvisited-looks h.node h.input u) (trace script) (unvisited script);
-  clients = clients;
-}
+any-logins setup hs m sound fresh = run-logins (run_of setup hs true) setup hs refl m.begins.clients (visited setup hs m) sound fresh

@@ -1,5 +1,5 @@
 -- The laws of a journal, of the laws of its entries.
-use Rattle.std.proofs.Common.{◌≡◌, ℕ, Bool, false, List, [], ◌∷◌, ◌++◌, Option, None, refl, sym, ap, ◌∙◌, subst}
+use Rattle.std.proofs.Common.{◌≡◌, ℕ, Bool, false, true, List, [], ◌∷◌, ◌++◌, Option, None, refl, sym, ap, ◌∙◌, subst}
 use Rattle.std.specs.List.{AllByRecursion, cons_option, filter_map}
 use Rattle.cx_base.specs.Names.{Name}
 use Rattle.cx_base.specs.declared.kinds.Access.{Access}
@@ -7,7 +7,7 @@ use Rattle.cx_base.specs.declared.operations.Operation.{Operation}
 use Rattle.cx_journal.specs.Backed.{IsBackedBy}
 use Rattle.cx_journal.specs.Behind.{EachBehind}
 use Rattle.cx_journal.specs.Enforced.{IsEnforcedBy}
-use Rattle.cx_journal.specs.GidOnce.{GivesGidOnce, GivesGidOnceBy}
+use Rattle.cx_journal.specs.GidOnce.{GivesGidOnceBy}
 use Rattle.cx_journal.specs.InSession.{IsInSessionBy}
 use Rattle.cx_journal.specs.KeepsKeys.{KeepsKeysBy}
 use Rattle.cx_journal.specs.PrefixOfSent.{IsPrefixOfSent, all_handled_under, handled_under, sent_under}
@@ -16,7 +16,8 @@ use Rattle.cx_journal.specs.declared.entries.Entry.{Entry}
 use Rattle.cx_journal.specs.declared.entries.Entry.TheVariants as journal
 use Rattle.cx_laws_keys.proofs.Journal.{EntryLaw, IsLoginEntry, entered, login-told}
 use Rattle.cx_laws_keys.proofs.Uses.{WholeRun}
-use Rattle.cx_laws_run.specs.Laws.{KeepsLaws}
+use Rattle.cx_laws_keys.specs.KeepsExpiry.{KeepsExpiryBy}
+use Rattle.cx_laws_run.specs.Laws.{KeepsLaws, KeepsTickets}
 
 behind-map : (P Q : List Entry → Entry → Type 0) → ((earlier : List Entry) (e : Entry) → P earlier e → Q earlier e) → (J es : List Entry) → EachBehind P J es → EachBehind Q J es
 behind-map P Q f J [] h = tt
@@ -88,6 +89,11 @@ keeps-laws run none has_handler es h = record {
   truthful = behind-map (EntryLaw run) (IsTruthfulBy es) (λ j e law. (no-handling e (law.login none)).truthful es j) [] es h;
 }
 
--- of every run
-pub gives-once : (run : WholeRun) (es : List Entry) → EachBehind (EntryLaw run) [] es → GivesGidOnce es
-gives-once run es h = behind-map (EntryLaw run) GivesGidOnceBy (λ j e law. law.gid_once) [] es h
+-- of every run whose tickets are good
+pub keeps-tickets : (run : WholeRun) → run.good ≡ true → (es : List Entry) → EachBehind (EntryLaw run) [] es → KeepsTickets es
+keeps-tickets run good es h = record {
+  backed = behind-map (EntryLaw run) IsBackedBy (λ j e law. (law.told good).backed) [] es h;
+  keeps_keys = behind-map (EntryLaw run) KeepsKeysBy (λ j e law. (law.told good).keeps_keys) [] es h;
+  keeps_expiry = behind-map (EntryLaw run) KeepsExpiryBy (λ j e law. (law.told good).keeps_expiry) [] es h;
+  gid_once = behind-map (EntryLaw run) GivesGidOnceBy (λ j e law. law.gid_once) [] es h;
+}

@@ -5,4 +5,11 @@ pub mod Opening
 pub mod Draws
 pub mod Asked
 pub mod Logins
+pub mod Looks
+pub mod Schedules
+pub mod Whole
+pub mod Written
+pub mod Beginning
+pub mod Clocks
+pub mod Good
 pub mod Happening

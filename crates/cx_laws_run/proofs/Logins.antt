@@ -142,7 +142,7 @@ all-owned run setup names whole (h ∷ hs) past nodes us J i ok good m g each =
     let same : behind h.node h.line s.out.seals log ≡ logged_until setup (p ∷ past) = behind-onto h.node h.line s.out.seals log in
     let later : Inv run whole a.uses (logged_until setup (p ∷ past)) (entered J s.out.entries) = subst (λ (l : List Logged). Inv run whole a.uses l (entered J s.out.entries)) same a.inv in
     let rest : EachOnto (IsGranted run.leaked whole) (logged_until setup (p ∷ past)) (seals_from s.nodes hs) = subst (λ (l : List Logged). EachOnto (IsGranted run.leaked whole) l (seals_from s.nodes hs)) same gs.1 in
-    all-owned run setup names whole hs (p ∷ past) s.nodes a.uses (entered J s.out.entries) later a.good (good-behind run J s.out.entries good m.0.good) m.1 rest
+    all-owned run setup names whole hs (p ∷ past) s.nodes a.uses (entered J s.out.entries) later a.good (good-behind run s.nodes a.uses J s.out.entries a.good good m.0.good) m.1 rest
     ((event-signed run setup names whole us J past nodes h i ok gs.0, event-sealed run setup names whole us J past nodes h i ok gs.0), each)
 
 -- ---- each ticket

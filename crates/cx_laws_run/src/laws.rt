@@ -1,41 +1,50 @@
 //! Laws over every run.
 
-ghost use Rattle.std.specs.Prelude.{Bool, List, None};
+ghost use Rattle.std.specs.Prelude.{ℕ, Bool, List, None};
 ghost use Rattle.cx_base.specs.declared.kinds.Access.{Access};
+ghost use Rattle.std.specs.List.{AllByRecursion};
+ghost use Rattle.cx_laws_authorize.specs.Coming.{IsNoLook};
 ghost use Rattle.cx_laws_chain.specs.Chain.{KeepsGenerations};
-ghost use Rattle.cx_laws_run.specs.Laws.{AreClients, KeepsLaws, MayHappen};
+ghost use Rattle.cx_laws_keys.specs.KeepsExpiry.{KeepsExpiry};
+ghost use Rattle.cx_laws_keys.specs.LooksLast.{LooksLast};
+ghost use Rattle.cx_laws_run.specs.Laws.{KeepsLaws, KeepsTickets, MayHappen};
 ghost use Rattle.cx_laws_run.specs.Logins.{LogIn, Stands};
 ghost use Rattle.cx_lines.specs.declared.lines.Numbered.{Numbered};
 ghost use Rattle.cx_run.specs.Happenings.{Happening};
 ghost use Rattle.cx_run.specs.Opening.{Setup, leaked_of};
 ghost use Rattle.cx_run.specs.Points.{journal_since, log_since, points};
 ghost use Rattle.cx_run.specs.Visits.{AreUnvisited};
-ghost use Rattle.cx_journal.specs.GidOnce.{GivesGidOnce};
 ghost use Rattle.cx_run.specs.Runs.{IsFoundOf, run_journal, setup_of, trace};
+ghost use Rattle.cx_schedule.specs.Files.{Lines};
 ghost use Rattle.cx_steps.specs.Premises.{IsFresh, IsSound};
 
 /// Of every run, whatever is delivered, lost, repeated, forged or cut, restarted, or failed at a save, and whatever opens or repeats: each ticket of the
 /// monitor is issued at a turn of a link, on which a proof was found equal under the own secret of the ticket's entity, over the challenge that was drawn
 /// on that link for it: at that very turn, or, of a ticket for another service than AUTH, at one behind, once the link is open, under the entity's global id.
 /// The generations of each service go on from one to the next, over rotations, restarts and saves that fail, and one id of them has one key for ever; each
-/// ticket is sealed under the generation that it names, which was saved and current when it was made.
+/// ticket is sealed under the generation that it names, which was saved and current when it was made, and is for an entity of the run, with the caps that this
+/// one has for the service.
 pub fn standing_laws()
     ensures events { (setup : Setup) (hs : List Happening) → Stands setup hs }
     ensures generations { (setup : Setup) (hs : List Happening) → KeepsGenerations setup hs }
+    // Where no daemon is told a view by hand, each look is at what the daemon fetched last, since it began anew.
+    ensures looks { (setup : Setup) (hs : List Happening) → AllByRecursion (λ h. IsNoLook h.input) hs → LooksLast (journal_since setup hs) }
 {}
 
-/// Where nothing opens under a key that didn't seal it and no draw repeats, the journal keeps its laws, with daemons that fetch too. No two entities ever get one global id, and a
-/// login keeps one only beside a live ticket of its own.
+/// Where nothing opens under a key that didn't seal it and no draw repeats, the journal keeps its laws, with daemons that fetch and guests that come to them: each session that is
+/// admitted or resumed rests on a ticket that was issued before to its entity, with its global id and its caps, for the daemon's type, and that hadn't expired when the daemon judged
+/// it; no issued ticket is refused for its key while the daemon's look lists its generation, nor as expired before it has; no two entities ever get one global id, and a login keeps
+/// one only beside a live ticket of its own.
 pub fn journal_laws()
-    // Of every list of events, from every opening.
-    ensures once { (setup : Setup) (hs : List Happening) → MayHappen setup hs
-        → IsSound (leaked_of setup) (log_since setup hs) → IsFresh (log_since setup hs) → GivesGidOnce (journal_since setup hs) }
-    // Of each in which no guest comes to a daemon.
+    // Of every list of events that may happen, from every opening.
+    ensures tickets { (setup : Setup) (hs : List Happening) → MayHappen setup hs
+        → IsSound (leaked_of setup) (log_since setup hs) → IsFresh (log_since setup hs) → KeepsTickets (journal_since setup hs) }
+    // All laws of each in which no guest comes to a daemon.
     ensures events { (has_handler : Access → Bool) (setup : Setup) (hs : List Happening) → MayHappen setup hs → AreUnvisited hs
         → IsSound (leaked_of setup) (log_since setup hs) → IsFresh (log_since setup hs) → KeepsLaws has_handler (journal_since setup hs) }
     // So of the run of every schedule in which no breach of the two premises is found.
-    ensures schedules { (has_handler : Access → Bool) (script : List Numbered) → AreClients (setup_of script) → IsFoundOf script None
-        → KeepsLaws has_handler (run_journal script) }
+    ensures schedules { (has_handler : Access → Bool) (bytes : List ℕ) (script : List Numbered) → Lines bytes script → IsFoundOf script None
+        → KeepsLaws has_handler (run_journal script) × KeepsExpiry (run_journal script) }
 {}
 
 /// There, too, the proof that was found equal on the link on which a ticket was issued was signed before by the entity's own node, where the entity isn't
@@ -45,5 +54,5 @@ pub fn login_laws()
     ensures events { (setup : Setup) (hs : List Happening) → MayHappen setup hs
         → IsSound (leaked_of setup) (log_since setup hs) → IsFresh (log_since setup hs) → LogIn setup (points setup hs) }
     // So of the run of every schedule in which no breach of the two premises is found.
-    ensures schedules { (script : List Numbered) → AreClients (setup_of script) → IsFoundOf script None → LogIn (setup_of script) (points (setup_of script) (trace script)) }
+    ensures schedules { (bytes : List ℕ) (script : List Numbered) → Lines bytes script → IsFoundOf script None → LogIn (setup_of script) (points (setup_of script) (trace script)) }
 {}

@@ -1,9 +1,10 @@
 use Rattle.cx_run.specs.Runs.{setup_of, trace}
-use Rattle.cx_laws_run.proofs.Happening.{any-logins, schedule-happens}
+use Rattle.cx_laws_run.proofs.Happening.{any-logins}
+use Rattle.cx_laws_run.proofs.Schedules.{may-happen}
 use Rattle.cx_laws_run.proofs.laws.login_laws.Goals as goal
 
 pub returns-clause-events : goal.returns-clause-events
 returns-clause-events c = any-logins
 
 pub returns-clause-schedules : goal.returns-clause-schedules
-returns-clause-schedules c = λ script clients found. any-logins (setup_of script) (trace script) (schedule-happens script clients) found.0 found.1
+returns-clause-schedules c = λ bytes script said found. any-logins (setup_of script) (trace script) (may-happen bytes script said) found.0 found.1

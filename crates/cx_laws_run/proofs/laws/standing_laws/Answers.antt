@@ -1,6 +1,7 @@
 use Rattle.cx_laws_chain.proofs.One.{all-kept}
 use Rattle.cx_laws_run.proofs.Asked.{all-asked}
+use Rattle.cx_laws_run.proofs.Looks.{all-looks}
 use Rattle.cx_laws_run.proofs.laws.standing_laws.Goals as goal
 
 pub returns : goal.returns
-returns c = record { events = all-asked; generations = all-kept }
+returns c = record { events = all-asked; generations = all-kept; looks = all-looks }
