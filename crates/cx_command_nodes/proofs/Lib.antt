@@ -1,2 +1,3 @@
 mod Causes
+mod Stopping
 mod Telling

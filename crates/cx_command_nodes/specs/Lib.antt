@@ -4,3 +4,4 @@ pub mod Named
 pub mod Orders
 pub mod Outside
 pub mod Runs
+pub mod Stops

@@ -14,7 +14,6 @@ use Rattle.cx_loading.specs.Scripts.{IsScript, IsScriptEnd, IsScriptReason, IsSe
 use Rattle.cx_loading.specs.declared.ends.NodeEnd.{NodeEnd}
 use Rattle.cx_loading.specs.declared.ends.NodeEnd.TheVariants as end
 use Rattle.cx_loading.specs.declared.unloaded.Unloaded.{Unloaded}
-use Rattle.cx_loading.specs.declared.unloaded.Unloaded.TheVariants as unloaded
 use Rattle.cx_rules.specs.Abridged.{MonitorStandsFor}
 use Rattle.cx_rules.specs.Monitor.{MonitorNode}
 use Rattle.cx_rules.specs.MonitorRule.{is_idle, monitor_rule, opening_monitor}

@@ -1,5 +1,5 @@
 -- What the objects tell that lie outside of a node: its keeper, its links, its clock and its dice.
-use Rattle.std.specs.Prelude.{ℕ, ◌≡◌, List, Option}
+use Rattle.std.specs.Prelude.{ℕ, List, Option}
 use Rattle.cx_keep.specs.Slots.{Kept}
 use Rattle.cx_links.specs.Acts.{LinkAct}
 use Rattle.cx_site.specs.Acts.{Act}

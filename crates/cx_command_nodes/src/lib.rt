@@ -4,10 +4,12 @@
 mod clients;
 mod ends;
 mod hosting;
+mod laws;
 mod monitors;
 mod named;
 mod orders;
 
 pub use clients::run_client;
 pub use ends::NodeReport;
+pub use laws::{kept_law, second_monitor_law};
 pub use monitors::run_monitor;

@@ -1,9 +1,11 @@
 //! The command that runs the monitor.
 
-ghost use Rattle.std.specs.Prelude.{◌≡◌, ◌<◌, ◌⊎◌, [], vec_len, IfErr, IfOk, MatchResult, OnOk};
+ghost use Rattle.std.specs.Prelude.{◌≡◌, ◌<◌, ◌⊎◌, [], vec_len, Some, IfErr, IfOk, MatchResult, OnOk};
 ghost use Rattle.cx_base.specs.Streams.{Rose};
 ghost use Rattle.cx_command_nodes.specs.Monitors.{HasNoState, HasServer, IsMonitorCommand, IsMonitorReady, IsMonitorReason, IsMonitorServed, IsMonitorRefusal, IsServerRefusal, MonitorEnds, lives_of};
 ghost use Rattle.cx_command_nodes.specs.Outside.{outside};
+ghost use Rattle.cx_command_nodes.specs.Stops.{IsStopped};
+ghost use Rattle.cx_keep.specs.Slots.{Kept};
 ghost use Rattle.cx_command_nodes.specs.Runs.{HasCause, IsFaultless, IsRefusedFor, IsServed, IsStateless, IsStatelessCause, Listens};
 ghost use Rattle.cx_drive.specs.Held.{lost_monitor, no_peers};
 ghost use Rattle.cx_loading.specs.Loading.{IsOrMemory, TellsNoState, TellsRing, TellsRingReason, TellsState};
@@ -59,6 +61,11 @@ pub fn run_monitor<K: Keeper, L: Links, C: Clock, D: Dice>(
     ensures exact { (why : Unloaded) → IsMonitorReason command.now bytes.now (K.kept keeper.old) why → ¬ Rose (K.faults keeper.old) (K.faults keeper.new)
         → IsRefusedFor why result.end }
     ensures stateless { HasNoState command.now bytes.now (K.kept keeper.old) → ¬ Rose (K.faults keeper.old) (K.faults keeper.new) → IsStateless result.end }
+    // Where a save failed, nothing of its step was done but that, and what is kept spells the state that was saved last, or the one of that step.
+    ensures stopped { (kept : Kept) → K.kept keeper.old ≡ Some kept → result.end ≡ NodeEnd.Keeper → IsStopped L.follows command.now bytes.now
+        (outside (K.kept keeper.old) (K.faults keeper.old) links.old (L.faults links.old) (L.misses links.old) (C.coming clock.old) (D.coming dice.old) (D.faults dice.old))
+        (outside (K.kept keeper.new) (K.faults keeper.new) links.new (L.faults links.new) (L.misses links.new) (C.coming clock.new) (D.coming dice.new) (D.faults dice.new))
+        kept result.journal }
     // Where it didn't run, nothing was done but to load.
     ensures untouched { (why : Unloaded) → result.end ≡ NodeEnd.Unloaded why
         → (K.kept keeper.new ≡ K.kept keeper.old) × (links.new ≡ links.old) × (clock.new ≡ clock.old) × (dice.new ≡ dice.old) }
