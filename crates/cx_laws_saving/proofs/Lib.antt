@@ -1,0 +1,4 @@
+mod AskerSaves
+mod ClientSaves
+mod DaemonSaves
+mod GuestSaves
