@@ -67,7 +67,7 @@ shows-looks name view J (e ∷ es) last is h =
 pub IsElsewhere : Name → Entry → Type 0
 IsElsewhere name e = (view : View) → viewed name view e ≡ view
 
-other-way : (a b : Name) → same_name b a ≡ false → same_name a b ≡ false
+pub other-way : (a b : Name) → same_name b a ≡ false → same_name a b ≡ false
 other-way a b differ = by_test (same_name a b) refl
   where
     by_test : (t : Bool) → same_name a b ≡ t → t ≡ false

@@ -25,9 +25,11 @@ use Rattle.cx_laws_run.proofs.Events.{AllOccur, Occurs}
 use Rattle.cx_laws_run.proofs.Good.{IsDraw, IsKnown, each-happening, good-point}
 use Rattle.cx_laws_run.proofs.Logins.{run-logins}
 use Rattle.cx_laws_run.proofs.Opening.{run-law}
+use Rattle.cx_laws_run.proofs.Origins.{run-origins}
 use Rattle.cx_laws_run.proofs.Whole.{run_of, saved_in}
 use Rattle.cx_laws_run.specs.Laws.{AreBytes, AreDrawn, MayBegin, MayHappen}
 use Rattle.cx_laws_run.specs.Logins.{LogIn}
+use Rattle.cx_laws_run.specs.Origins.{GoBack}
 
 -- ---- what is saved
 
@@ -107,3 +109,6 @@ any-law setup hs m sound fresh = run-law (run_of setup hs true) setup hs refl m.
 
 pub any-logins : (setup : Setup) (hs : List Happening) → MayHappen setup hs → IsSound (leaked_of setup) (log_since setup hs) → IsFresh (log_since setup hs) → LogIn setup (points setup hs)
 any-logins setup hs m sound fresh = run-logins (run_of setup hs true) setup hs refl m.begins.clients (visited setup hs m) sound fresh
+
+pub any-origins : (setup : Setup) (hs : List Happening) → MayHappen setup hs → IsSound (leaked_of setup) (log_since setup hs) → IsFresh (log_since setup hs) → GoBack setup (points setup hs)
+any-origins setup hs m sound fresh = run-origins (run_of setup hs true) setup hs refl refl m.begins.clients (visited setup hs m) sound fresh

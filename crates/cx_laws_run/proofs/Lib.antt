@@ -6,10 +6,12 @@ pub mod Draws
 pub mod Asked
 pub mod Logins
 pub mod Looks
+pub mod Origins
 pub mod Schedules
 pub mod Whole
 pub mod Written
 pub mod Beginning
 pub mod Clocks
+pub mod Gaining
 pub mod Good
 pub mod Happening

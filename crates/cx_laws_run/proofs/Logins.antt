@@ -1,6 +1,6 @@
 -- Who logged in: the proof behind which a ticket is issued, or which opened the link on which it is, was signed by the entity's own node, where the
 -- entity isn't leaked.
-use Rattle.std.proofs.Common.{◌≡◌, ◌⊎◌, ℕ, List, [], ◌∷◌, map, Option, Some, inl, inr, refl, sym, subst}
+use Rattle.std.proofs.Common.{◌≡◌, ◌⊎◌, ◌∙◌, ℕ, List, [], ◌∷◌, ◌++◌, map, Option, Some, ap, inl, inr, refl, sym, subst}
 use Rattle.std.specs.Prelude.{Contains}
 use Rattle.cx_base.specs.Names.{Name}
 use Rattle.cx_base.specs.declared.nodes.NodeName.{NodeName}
@@ -13,7 +13,7 @@ use Rattle.cx_rules.specs.Monitor.{MonitorStage, Offered}
 use Rattle.cx_rules.specs.Secured.{Keys}
 use Rattle.cx_run.specs.Happenings.{Entered, Happening, Nodes, Stepped, seals_from, steps}
 use Rattle.cx_run.specs.Opening.{Setup, leaked_of, leaks_entered, nodes_of, Leak}
-use Rattle.cx_run.specs.Points.{EachPoint, Point, Since, log_since, logged_until, onto, points, points_onto, seals_at}
+use Rattle.cx_run.specs.Points.{EachPoint, Point, Since, entered_until, log_since, logged_until, onto, points, points_onto, seals_at}
 use Rattle.cx_steps.specs.Onto.{EachOnto, SomeOf}
 use Rattle.cx_steps.specs.Premises.{HasSealed, HasSigned, IsExcepted, IsFresh, IsSound, Owes, Seals, Signs}
 use Rattle.cx_steps.specs.declared.seals.Logged.{Logged}
@@ -30,7 +30,7 @@ use Rattle.cx_laws_login.proofs.MonitorRows.{monitor_says}
 use Rattle.cx_laws_login.proofs.MonitorStep.{MonitorOk}
 use Rattle.cx_laws_login.proofs.Rows.{LinkOk, found-link, quiet-entries}
 use Rattle.cx_laws_run.proofs.Asked.{Hears, IsHeardFor, all-heard}
-use Rattle.cx_laws_run.proofs.Events.{NodesOk, event-after, AllOccur, good-behind}
+use Rattle.cx_laws_run.proofs.Events.{NodesOk, entered-append, event-after, AllOccur, good-behind}
 use Rattle.cx_laws_run.proofs.Opening.{NoneIssued, leaks-quiet, nothing-in, opening-inv, opening-nodes, secrets-known, Begins, begins}
 use Rattle.cx_laws_run.specs.Laws.{AreDrawn}
 use Rattle.cx_laws_run.specs.Logins.{IsRenewal, LogIn, LogsIn, OwnFrame, OwnLogin, Proves, proof_of}
@@ -74,7 +74,7 @@ module _ (run : WholeRun) (setup : Setup) (same : run.leaked ≡ leaked_of setup
       by_owed (inr signed) = signed_own run whole us log J i (proof_of offered.offer client) offered.offer.name signed means
 
   -- a part that opened under the key of a link to an entity that isn't leaked, with the nonce of the one that connects, was sealed by its own node
-  sealed-by : (keys : Keys) (plain : List ℕ) (name : Name) → Inv run whole us log J → IsConnected us keys.key name → IsOfConnector keys.into.fixed
+  pub sealed-by : (keys : Keys) (plain : List ℕ) (name : Name) → Inv run whole us log J → IsConnected us keys.key name → IsOfConnector keys.into.fixed
       → Owes run.leaked whole h.node log (seal.Opened (part_heard keys plain)) → (Contains run.leaked name → ⊥)
       → SomeOf (λ (at : Logged). (at.node ≡ node.Entity name) × Seals (part_heard keys plain) at.entry) log
   sealed-by keys plain name i connected begins owed unleaked = by_owed owed
@@ -129,11 +129,15 @@ behind-onto : (n : NodeName) (line : ℕ) (es : List SealEntry) (earlier : List 
 behind-onto n line [] earlier = refl
 behind-onto n line (e ∷ es) earlier = behind-onto n line es (logged n line e ∷ earlier)
 
-all-owned : (run : WholeRun) (setup : Setup) → run.leaked ≡ leaked_of setup → (whole : List Logged) (hs : List Happening) (past : List Point) (nodes : Nodes) (us : Uses) (J : List Entry)
-    → Inv run whole us (logged_until setup past) J → NodesOk run nodes us J → AllGood run J → AllOccur run nodes hs
-    → EachOnto (IsGranted run.leaked whole) (logged_until setup past) (seals_from nodes hs) → EachPoint (Owned setup) past → EachPoint (Owned setup) (points_onto past nodes hs)
-all-owned run setup names whole [] past nodes us J i ok good m g each = each
-all-owned run setup names whole (h ∷ hs) past nodes us J i ok good m g each =
+-- where it follows at each point from what is known of keys, log, journal and nodes, it is so at all points
+all-points : (run : WholeRun) (setup : Setup) (whole : List Logged) (Q : List Point → Point → Type 0)
+    → ((past : List Point) (nodes : Nodes) (h : Happening) (us : Uses) (J : List Entry) → J ≡ entered_until setup past → Inv run whole us (logged_until setup past) J
+    → NodesOk run nodes us J → AllGood run J → AreGranted run.leaked whole h.node h.line (logged_until setup past) (steps nodes h).out.seals → Q past (record { nodes = nodes; happening = h }))
+    → (hs : List Happening) (past : List Point) (nodes : Nodes) (us : Uses) (J : List Entry) → J ≡ entered_until setup past → Inv run whole us (logged_until setup past) J
+    → NodesOk run nodes us J → AllGood run J → AllOccur run nodes hs → EachOnto (IsGranted run.leaked whole) (logged_until setup past) (seals_from nodes hs) → EachPoint Q past
+    → EachPoint Q (points_onto past nodes hs)
+all-points run setup whole Q here [] past nodes us J told i ok good m g each = each
+all-points run setup whole Q here (h ∷ hs) past nodes us J told i ok good m g each =
     let log : List Logged = logged_until setup past in
     let p : Point = record { nodes = nodes; happening = h } in
     let s : Stepped = steps nodes h in
@@ -142,8 +146,21 @@ all-owned run setup names whole (h ∷ hs) past nodes us J i ok good m g each =
     let same : behind h.node h.line s.out.seals log ≡ logged_until setup (p ∷ past) = behind-onto h.node h.line s.out.seals log in
     let later : Inv run whole a.uses (logged_until setup (p ∷ past)) (entered J s.out.entries) = subst (λ (l : List Logged). Inv run whole a.uses l (entered J s.out.entries)) same a.inv in
     let rest : EachOnto (IsGranted run.leaked whole) (logged_until setup (p ∷ past)) (seals_from s.nodes hs) = subst (λ (l : List Logged). EachOnto (IsGranted run.leaked whole) l (seals_from s.nodes hs)) same gs.1 in
-    all-owned run setup names whole hs (p ∷ past) s.nodes a.uses (entered J s.out.entries) later a.good (good-behind run s.nodes a.uses J s.out.entries a.good good m.0.good) m.1 rest
-    ((event-signed run setup names whole us J past nodes h i ok gs.0, event-sealed run setup names whole us J past nodes h i ok gs.0), each)
+    let more : entered J s.out.entries ≡ entered_until setup (p ∷ past) = entered-append J s.out.entries ∙ ap (λ (l : List Entry). l ++ s.out.entries) told in
+    all-points run setup whole Q here hs (p ∷ past) s.nodes a.uses (entered J s.out.entries) more later a.good (good-behind run s.nodes a.uses J s.out.entries a.good good m.0.good) m.1 rest
+    (here past nodes h us J told i ok good gs.0, each)
+
+-- so of a run that is sound and fresh
+pub run-points : (run : WholeRun) (setup : Setup) (hs : List Happening) → run.leaked ≡ leaked_of setup → AllByRecursion (λ (l : Leak). l.client.kind ≡ Client) setup.leaks
+    → AllOccur run (nodes_of setup) hs → IsSound (leaked_of setup) (log_since setup hs) → IsFresh (log_since setup hs) → (Q : List Point → Point → Type 0)
+    → ((past : List Point) (nodes : Nodes) (h : Happening) (us : Uses) (J : List Entry) → J ≡ entered_until setup past → Inv run (log_since setup hs) us (logged_until setup past) J
+    → NodesOk run nodes us J → AllGood run J → AreGranted run.leaked (log_since setup hs) h.node h.line (logged_until setup past) (steps nodes h).out.seals
+    → Q past (record { nodes = nodes; happening = h }))
+    → EachPoint Q (points setup hs)
+run-points run setup hs same clients occur sound fresh Q here =
+    let leaks : List Entry = map (λ (x : Entered). x.entry) (leaks_entered setup) in
+    let b : Begins run (log_since setup hs) setup hs = begins run setup hs same clients sound fresh in
+    all-points run setup (log_since setup hs) Q here hs [] (nodes_of setup) b.uses (entered [] leaks) (entered-append [] leaks) b.inv b.nodes (λ known t has. absurd (b.none t has)) occur b.granted tt
 
 -- ---- each ticket
 
@@ -170,9 +187,6 @@ each-logs-in setup (p ∷ older) hears own = (logs-in setup older p hears.0 own.
 pub run-logins : (run : WholeRun) (setup : Setup) (hs : List Happening) → run.leaked ≡ leaked_of setup → AllByRecursion (λ (l : Leak). l.client.kind ≡ Client) setup.leaks
     → AllOccur run (nodes_of setup) hs → IsSound (leaked_of setup) (log_since setup hs) → IsFresh (log_since setup hs) → LogIn setup (points setup hs)
 run-logins run setup hs same clients occur sound fresh =
-    let whole : List Logged = log_since setup hs in
-    let K : List Entry = entered [] (map (λ (x : Entered). x.entry) (leaks_entered setup)) in
-    let b : Begins run whole setup hs = begins run setup hs same clients sound fresh in
-    let owned : EachPoint (Owned setup) (points setup hs) =
-    all-owned run setup same whole hs [] (nodes_of setup) b.uses K b.inv b.nodes (λ known t has. absurd (b.none t has)) occur b.granted tt in
-    each-logs-in setup (points setup hs) (all-heard setup hs) owned
+    each-logs-in setup (points setup hs) (all-heard setup hs) (run-points run setup hs same clients occur sound fresh (Owned setup)
+    (λ past nodes h us J told i ok good g.
+    (event-signed run setup same (log_since setup hs) us J past nodes h i ok g, event-sealed run setup same (log_since setup hs) us J past nodes h i ok g)))

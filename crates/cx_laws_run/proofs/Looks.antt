@@ -132,7 +132,7 @@ monitor-shows (journal.Restarted x) h = h
 monitor-shows (journal.Broken x) h = absurd h
 monitor-shows (journal.Leaked x) h = absurd h
 
-same-entities : (nodes : Nodes) (o : Outcome MonitorNode) (l : Option LeftState) (saved : Option KeptState) → (monitor_steps nodes o l saved).nodes.entities ≡ nodes.entities
+pub same-entities : (nodes : Nodes) (o : Outcome MonitorNode) (l : Option LeftState) (saved : Option KeptState) → (monitor_steps nodes o l saved).nodes.entities ≡ nodes.entities
 same-entities nodes o (Some l) (Some saved) = refl
 same-entities nodes o None saved = refl
 same-entities nodes o (Some l) None = refl

@@ -9,6 +9,7 @@ ghost use Rattle.cx_laws_keys.specs.KeepsExpiry.{KeepsExpiry};
 ghost use Rattle.cx_laws_keys.specs.LooksLast.{LooksLast};
 ghost use Rattle.cx_laws_run.specs.Laws.{KeepsLaws, KeepsTickets, MayHappen};
 ghost use Rattle.cx_laws_run.specs.Logins.{LogIn, Stands};
+ghost use Rattle.cx_laws_run.specs.Origins.{GoBack};
 ghost use Rattle.cx_lines.specs.declared.lines.Numbered.{Numbered};
 ghost use Rattle.cx_run.specs.Happenings.{Happening};
 ghost use Rattle.cx_run.specs.Opening.{Setup, leaked_of};
@@ -55,4 +56,15 @@ pub fn login_laws()
         → IsSound (leaked_of setup) (log_since setup hs) → IsFresh (log_since setup hs) → LogIn setup (points setup hs) }
     // So of the run of every schedule in which no breach of the two premises is found.
     ensures schedules { (bytes : List ℕ) (script : List Numbered) → Lines bytes script → IsFoundOf script None → LogIn (setup_of script) (points (setup_of script) (trace script)) }
+{}
+
+/// There, too, each session that is admitted or resumed goes back: to the authorizer that was judged on its very link, at the reading that the session has, by a look that lists the
+/// generation of its ticket; to that ticket, which backs the session, and was issued before and asked for on a link of the monitor on which its entity had proved itself; and to the
+/// entity's own node, where that isn't leaked, which sealed what opened first of the frame that came, and signed that proof.
+pub fn origin_laws()
+    // Of every list of events that may happen, from every opening.
+    ensures events { (setup : Setup) (hs : List Happening) → MayHappen setup hs
+        → IsSound (leaked_of setup) (log_since setup hs) → IsFresh (log_since setup hs) → GoBack setup (points setup hs) }
+    // So of the run of every schedule in which no breach of the two premises is found.
+    ensures schedules { (bytes : List ℕ) (script : List Numbered) → Lines bytes script → IsFoundOf script None → GoBack (setup_of script) (points (setup_of script) (trace script)) }
 {}

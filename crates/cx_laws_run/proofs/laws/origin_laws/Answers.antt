@@ -1,0 +1,10 @@
+use Rattle.cx_run.specs.Runs.{setup_of, trace}
+use Rattle.cx_laws_run.proofs.Happening.{any-origins}
+use Rattle.cx_laws_run.proofs.Schedules.{may-happen}
+use Rattle.cx_laws_run.proofs.laws.origin_laws.Goals as goal
+
+pub returns-clause-events : goal.returns-clause-events
+returns-clause-events c = any-origins
+
+pub returns-clause-schedules : goal.returns-clause-schedules
+returns-clause-schedules c = λ bytes script said found. any-origins (setup_of script) (trace script) (may-happen bytes script said) found.0 found.1
