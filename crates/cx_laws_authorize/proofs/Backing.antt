@@ -1,5 +1,5 @@
 -- What is known of a run's keys gives each authority its ticket, and each session that is entered one that backs it.
-use Rattle.std.proofs.Common.{Bool, true, false, cond, ◌≡◌, ◌⊎◌, ◌<◌, ◌≤◌, ◌^◌, ◌==◌, ℕ, List, [], ◌∷◌, length, inl, inr, refl, sym, ap, ◌∙◌, subst, arith, Option, Some, None, eqb-true}
+use Rattle.std.proofs.Common.{Bool, true, false, cond, ◌≡◌, ◌⊎◌, ◌<◌, ◌≤◌, ◌^◌, ◌==◌, ℕ, List, [], ◌∷◌, length, inl, inr, refl, sym, ap, ◌∙◌, subst, arith, Some, None, eqb-true}
 use Rattle.std.specs.Prelude.{Contains, find, ◌||◌}
 use Rattle.std.specs.Option.{option_map}
 use Rattle.cx_authorize.specs.Daemon.{Authority}
@@ -22,7 +22,7 @@ use Rattle.cx_steps.specs.Premises.{HasSealed, IsExcepted}
 use Rattle.cx_steps.specs.declared.seals.Logged.{Logged}
 use Rattle.cx_steps.specs.declared.seals.SealEntry.{SealEntry}
 use Rattle.cx_laws_authorize.proofs.Opened.{ShowsTicket}
-use Rattle.cx_laws_authorize.specs.Admission.{GuestHas, IsAuthorizedAt, IsOwnedIn, IsShown}
+use Rattle.cx_laws_authorize.specs.Admission.{GuestHas, IsAuthorizedAt, IsOwnedIn}
 use Rattle.cx_laws_keys.proofs.Known.{HasTicket, Inv, Says, Within, opened_says}
 use Rattle.cx_laws_keys.proofs.Premises.{AreGranted}
 use Rattle.cx_laws_keys.proofs.Uses.{Generated, Means, Uses, session_use, WholeRun, IsSavedIn}

@@ -1,15 +1,12 @@
 -- A step of a daemon, at any event and with any book: what is known of a run's keys stays so, and what it enters keeps its laws.
-use Rattle.std.proofs.Common.{◌≡◌, ◌⊎◌, ◌≤◌, ◌==◌, ℕ, Bool, true, false, List, [], ◌∷◌, ◌++◌, length, filter, Option, Some, None, Result, Ok, Err, inl, inr, refl, sym, ap, ◌∙◌, subst, append_assoc, append-nil, arith}
-use Rattle.std.specs.Prelude.{Contains, nat_le, nat_lt, not, if◌then◌else◌, IfSome}
+use Rattle.std.proofs.Common.{◌≡◌, ℕ, Bool, true, false, List, [], ◌∷◌, ◌++◌, length, Option, Some, None, sym, subst}
+use Rattle.std.specs.Prelude.{nat_le, not, if◌then◌else◌, IfSome}
 use Rattle.std.specs.List.{AllByRecursion}
 use Rattle.std.specs.Option.{option_map}
-use Rattle.cx_authorize.specs.Daemon.{Authority}
-use Rattle.cx_base.specs.Names.{Name, is_daemon_type}
-use Rattle.cx_base.specs.declared.kinds.EntityType.{EntityType}
+use Rattle.cx_base.specs.Names.{is_daemon_type}
 use Rattle.cx_base.specs.declared.nodes.NodeName.{NodeName}
 use Rattle.cx_base.specs.declared.nodes.NodeName.TheVariants as node
 use Rattle.cx_desk.specs.Handlers.{Handlers}
-use Rattle.cx_journal.specs.Behind.{EachBehind}
 use Rattle.cx_journal.specs.declared.entries.Entry.{Entry}
 use Rattle.cx_journal.specs.declared.entries.Entry.TheVariants as journal
 use Rattle.cx_journal.specs.declared.outcomes.Reason.TheVariants as reason
@@ -20,10 +17,10 @@ use Rattle.cx_rules.specs.Greetings.{own_banner}
 use Rattle.cx_rules.specs.Holdings.{Asker}
 use Rattle.cx_rules.specs.Inputs.{Input, Opened, NoLink, Bytes, Turn, Gone, Look, Tick, Submit, Restart}
 use Rattle.cx_rules.specs.Links.{Link, link_of}
-use Rattle.cx_rules.specs.Requests.{Requests, asks_rotating, first_open, is_outdated, open_or, sealed_request, sends_request}
+use Rattle.cx_rules.specs.Requests.{Requests, asks_rotating, first_open, is_outdated, open_or}
 use Rattle.cx_rules.specs.Rows.{Arrival, Outcome, Row, Turned, Waits, Refuses, Handles, arrival, carried_out, fed, forgotten, goes_on, idles, lifted, new_link, refused_entry, refuses, refuses_bytes, turns}
-use Rattle.cx_rules.specs.Secured.{SealedFrame, Secured}
-use Rattle.cx_rules_session.specs.Asks.{Asks, Finished, Asking, with_book}
+use Rattle.cx_rules.specs.Secured.{Secured}
+use Rattle.cx_rules_session.specs.Asks.{Finished, Asking}
 use Rattle.cx_rules_session.specs.DaemonRule.{AsAcceptor, AsConnector, Daemon, DaemonNode, DaemonStage, DaemonState, asking_open, book_after, book_reply, daemon_rule, daemon_step, ended_entry, fetches, fetches_on, gone, gone_by_kind, guest_gone, hosts, is_fetching, is_in, is_older, loses, lossy_gone, me, moved_to, on_dropped, open_to_ask, opens, restarted, opens_guest, opens_own, shut_where, submits, ticks, turn, turned_at, undialled, unreached, with_asker}
 use Rattle.cx_rules_session.specs.Guests.{GuestRow, GuestStage}
 use Rattle.cx_rules_session.specs.Hosting.{Deciding, Hosted, guest_turned}
@@ -31,18 +28,16 @@ use Rattle.cx_rules_session.specs.Kinds.{arrival_in, of_kind, row_of_kind, turn_
 use Rattle.cx_session.specs.declared.call.BookCall.TheVariants.{End}
 use Rattle.cx_session.specs.declared.call.BookReply.{BookReply}
 use Rattle.cx_session.specs.declared.call.BookReply.TheVariants as reply
-use Rattle.cx_steps.specs.Nothing.{nothing}
 use Rattle.cx_steps.specs.declared.events.Command.{Command}
 use Rattle.cx_steps.specs.declared.events.Command.TheVariants as command
 use Rattle.cx_steps.specs.declared.events.Peer.{Peer}
 use Rattle.cx_steps.specs.declared.events.Peer.TheVariants as peer
 use Rattle.cx_steps.specs.declared.seals.Logged.{Logged}
-use Rattle.cx_steps.specs.declared.seals.SealEntry.{SealEntry}
 use Rattle.cx_rules.specs.declared.requests.Want.TheVariants as want
 use Rattle.cx_wire.specs.declared.bodies.Request.TheVariants as asked
 use Rattle.cx_run.proofs.GuestTakes.{StaysGuest, TakesHosted, guest-takes}
 use Rattle.cx_run.proofs.Taking.{EachRow}
-use Rattle.cx_laws_authorize.proofs.Backing.{AllGood, HasBacking}
+use Rattle.cx_laws_authorize.proofs.Backing.{AllGood}
 use Rattle.cx_laws_authorize.proofs.Hosting.{Always, always-both, always-map, always-weaker}
 use Rattle.cx_laws_authorize.proofs.HostingKeys.{KeepsHosted, KeepsTurned, guest-keeps}
 use Rattle.cx_laws_authorize.proofs.Keys.{KeptKeys, LinkKeys, StageKeys, host-grows}
@@ -52,14 +47,13 @@ use Rattle.cx_laws_authorize.specs.Admission.{Authorizes, EntryTold}
 use Rattle.cx_laws_authorize.specs.Coming.{IsNoGuest, IsNoLook}
 use Rattle.cx_laws_keys.proofs.Journal.{After, EntryLaw, IsNotIssued, entered, login-law, own-other}
 use Rattle.cx_laws_keys.proofs.Known.{Inv}
-use Rattle.cx_laws_keys.proofs.Lists.{all-append, all-map}
 use Rattle.cx_laws_keys.proofs.Premises.{AreGranted, behind}
 use Rattle.cx_laws_keys.proofs.Steps.{inv-entered}
 use Rattle.cx_laws_keys.proofs.Uses.{Grows, Uses, WholeRun, stays}
 use Rattle.cx_laws_login.proofs.AskerRows.{asker_says, request-sends}
 use Rattle.cx_laws_login.proofs.ClientStep as client_step
 use Rattle.cx_laws_login.proofs.Facts.{AskerKnown, AskerOk, AskerStageOk, HasConnection, asker-entered, asker_stage-grows, known-grows, none-fetched}
-use Rattle.cx_laws_login.proofs.Rows.{AfterRow, AfterStep, Allowed, IsQuietEntry, LinkOk, LinksOk, NodeOk, RowOk, Saying, TurnOk, after-quiet, after-simple, all-behind, all-filter, all-put, all-without, carried, found-link, idle, links-grow, none-given, reached-allowed, simple-goes_on, simple-refuses, turned-ok}
+use Rattle.cx_laws_login.proofs.Rows.{AfterRow, AfterStep, IsQuietEntry, LinkOk, LinksOk, NodeOk, RowOk, Saying, TurnOk, after-quiet, after-simple, all-filter, all-put, all-without, carried, found-link, idle, none-given, reached-allowed, simple-goes_on, simple-refuses, turned-ok}
 
 -- guests come to daemons in this run
 abbrev pub GuestsCome : WholeRun → Type 0

@@ -46,7 +46,6 @@ use Rattle.cx_session.specs.declared.call.BookReply.TheVariants as reply
 use Rattle.cx_steps.specs.declared.seals.SealEntry.{SealEntry}
 use Rattle.cx_stream.specs.PlainStreams.{plain_frame_at}
 use Rattle.cx_stream.specs.SecureStreams.{secure_frame_at}
-use Rattle.cx_laws_login.proofs.Proving.{RowOf}
 use Rattle.cx_base.specs.Names.{is_daemon_type}
 use Rattle.cx_steps.specs.declared.seals.Logged.{Logged}
 use Rattle.cx_base.specs.Names.{Name}

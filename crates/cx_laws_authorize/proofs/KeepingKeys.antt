@@ -1,13 +1,11 @@
 -- A daemon refuses no issued ticket for its key while its look lists the generation.
-use Rattle.std.proofs.Common.{◌≡◌, ◌≤◌, ◌<◌, ◌==◌, ℕ, Bool, true, false, cond, List, [], ◌∷◌, ◌++◌, length, Option, Some, None, refl, sym, ap, subst, eq-eqb, eqb-true}
-use Rattle.std.specs.Prelude.{Contains, All, find, ◌||◌}
+use Rattle.std.proofs.Common.{◌≡◌, ◌==◌, ℕ, Bool, true, false, cond, List, [], ◌∷◌, ◌++◌, Some, None, refl, sym, subst, eq-eqb, eqb-true}
+use Rattle.std.specs.Prelude.{Contains, find, ◌||◌}
 use Rattle.std.specs.Option.{option_map}
-use Rattle.cx_aes.specs.Cipher.{IsBlock}
 use Rattle.cx_base.proofs.Names.{same_name_self}
 use Rattle.cx_base.specs.declared.kinds.EntityType.{EntityType}
 use Rattle.cx_base.specs.declared.nodes.NodeName.{NodeName}
 use Rattle.cx_base.specs.declared.nodes.NodeName.TheVariants as node
-use Rattle.cx_enc.specs.Whole.{Spells}
 use Rattle.cx_journal.specs.KeepsKeys.{LacksIssued, NeedsFor, NeedsLook, WasIssued, has_generation, is_look}
 use Rattle.cx_journal.specs.declared.entries.Entry.{Entry}
 use Rattle.cx_journal.specs.declared.entries.Entry.TheVariants as journal
@@ -19,13 +17,10 @@ use Rattle.cx_journal.specs.declared.outcomes.TicketFault.{TicketFault}
 use Rattle.cx_journal.specs.declared.outcomes.TicketFault.TheVariants as told
 use Rattle.cx_journal.specs.declared.premises.KeyKind.TheVariants as kind
 use Rattle.cx_login.specs.Opening.{generation_key}
-use Rattle.cx_login.specs.Unlocking.{unlocked, unlocked_as}
+use Rattle.cx_login.specs.Unlocking.{unlocked}
 use Rattle.cx_rotate.specs.declared.generations.Generation.{Generation}
 use Rattle.cx_rules.specs.Holdings.{Asker}
-use Rattle.cx_sealed.proofs.Found.{unsealed_only}
 use Rattle.cx_sealed.specs.Records.{service_ticket_layout}
-use Rattle.cx_sealed.specs.declared.service_ticket.ServiceTicket.{ServiceTicket}
-use Rattle.cx_sealed.specs.declared.unsealed.Unsealed.{Unsealed}
 use Rattle.cx_laws_authorize.specs.Admission.{FaultTells, IsToldAt}
 use Rattle.cx_laws_keys.proofs.Journal.{has-before}
 use Rattle.cx_laws_keys.proofs.Uses.{IsSavedIn, WholeRun}

@@ -15,10 +15,10 @@ use Rattle.cx_rules.specs.Greetings.{own_banner}
 use Rattle.cx_rules.specs.Holdings.{Asker}
 use Rattle.cx_rules.specs.Inputs.{Turn}
 use Rattle.cx_rules.specs.Links.{Link, link_of, put_link, without_link}
-use Rattle.cx_rules.specs.Rows.{Arrival, Outcome, Turned, Waits, Refuses, Handles, arrival, at, carried_out, goes_on, new_link, refuses, turns, with_opened}
+use Rattle.cx_rules.specs.Rows.{Arrival, Outcome, Turned, Waits, Refuses, Handles, arrival, at, carried_out, goes_on, new_link, refuses, turns}
 use Rattle.cx_rules.specs.Secured.{Keys, Secured, under}
 use Rattle.cx_rules_session.specs.DaemonRule.{AsAcceptor, Daemon, DaemonNode, DaemonStage, DaemonState, book_after, book_reply, daemon_step, hosts, me, moved_to, opens_guest, turn, turned_at, with_asker}
-use Rattle.cx_rules_session.specs.Guests.{GuestArrival, GuestRow, GuestStage}
+use Rattle.cx_rules_session.specs.Guests.{GuestArrival, GuestStage}
 use Rattle.cx_rules_session.specs.Hosting.{Deciding, Hosted, decided_by, guest_turned, hosted_behind, on_ident}
 use Rattle.cx_rules_session.specs.Kinds.{arrival_in, turn_of_kind}
 use Rattle.cx_rules_session.specs.Asks.{Asks, Finished, Asking}

@@ -1,12 +1,11 @@
 -- What a daemon enters at a turn of a guest's link keeps the laws of the journal, by what is known of a run's keys; and so does the authority of each link
 -- behind a step have its ticket.
-use Rattle.std.proofs.Common.{◌≡◌, ◌⊎◌, ◌≤◌, ◌<◌, ℕ, Bool, true, false, List, [], ◌∷◌, ◌++◌, Some, inl, inr, refl, sym, ap, ◌∙◌, subst, append_assoc, append-nil}
-use Rattle.std.specs.Prelude.{Contains, ◌==◌}
+use Rattle.std.proofs.Common.{◌≡◌, ◌⊎◌, ℕ, true, false, List, [], ◌∷◌, ◌++◌, inl, inr, refl, sym, ap, ◌∙◌, subst, append_assoc, append-nil}
+use Rattle.std.specs.Prelude.{◌==◌}
 use Rattle.std.specs.List.{AllByRecursion}
 use Rattle.cx_authorize.specs.Daemon.{Authority}
 use Rattle.cx_base.specs.declared.kinds.EntityType.{EntityType}
 use Rattle.cx_base.specs.declared.nodes.NodeName.{NodeName}
-use Rattle.cx_base.specs.declared.nodes.NodeName.TheVariants as node
 use Rattle.cx_cbc.proofs.OpeningLaws.{opened-Opens}
 use Rattle.cx_journal.specs.Backed.{IsBackedBy}
 use Rattle.cx_journal.specs.Behind.{EachBehind}
@@ -25,16 +24,13 @@ use Rattle.cx_rules.specs.Inputs.{Input}
 use Rattle.cx_rules.specs.Links.{Link}
 use Rattle.cx_rules_session.specs.DaemonRule.{AsAcceptor, DaemonStage, DaemonState}
 use Rattle.cx_rules_session.specs.Guests.{GuestStage}
-use Rattle.cx_sealed.specs.declared.service_ticket.ServiceTicket.{ServiceTicket}
-use Rattle.cx_steps.specs.Onto.{SomeOf}
 use Rattle.cx_steps.specs.Premises.{HasSealed, IsExcepted}
 use Rattle.cx_steps.specs.declared.seals.Logged.{Logged}
 use Rattle.cx_steps.specs.declared.seals.SealEntry.{SealEntry}
-use Rattle.cx_steps.specs.declared.seals.SealEntry.TheVariants as seal
 use Rattle.cx_laws_authorize.proofs.Backing.{AllGood, AreGood, HasBacking, authorized-backed, backing-grows, session-backed}
 use Rattle.cx_laws_authorize.proofs.KeepingKeys.{kept-of, told-keeps}
 use Rattle.cx_laws_authorize.specs.Admission.{EntryTold, FaultTells, GetsAuthority, GuestHas, HadAuthority, IsOwned, IsTold, LinkAuthorized, RefusalTold, StageHas}
-use Rattle.cx_laws_keys.proofs.Journal.{EntryLaw, ToldLaw, IsNotIssued, IsOfLogin, entered, expired-none, needs-none}
+use Rattle.cx_laws_keys.proofs.Journal.{EntryLaw, ToldLaw, IsNotIssued, entered, expired-none, needs-none}
 use Rattle.cx_laws_keys.proofs.Known.{HasTicket, Inv, Says, Within, opened_says}
 use Rattle.cx_laws_keys.proofs.Lists.{found_all, some-of}
 use Rattle.cx_laws_keys.proofs.Premises.{AreGranted}

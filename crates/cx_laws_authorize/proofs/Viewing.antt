@@ -1,7 +1,6 @@
 -- What a daemon enters tells its view at each step, whatever comes to it and whatever its book replies, where it is told none by hand.
-use Rattle.std.proofs.Common.{◌≡◌, Bool, true, false, ℕ, List, [], ◌∷◌, length, Option, Some, None, Result, Ok, Err, refl, sym, subst}
+use Rattle.std.proofs.Common.{Bool, true, false, ℕ, List, [], ◌∷◌, length, Option, Some, None, Result, Ok, Err, refl, sym, subst}
 use Rattle.std.specs.Prelude.{nat_le, if◌then◌else◌}
-use Rattle.std.specs.List.{AllByRecursion}
 use Rattle.cx_desk.specs.Handlers.{Handlers}
 use Rattle.cx_journal.specs.declared.entries.Entry.{Entry}
 use Rattle.cx_journal.specs.declared.entries.Entry.TheVariants as entry
@@ -34,7 +33,7 @@ use Rattle.cx_wire.specs.declared.bodies.Request.TheVariants as asked
 use Rattle.cx_run.proofs.GuestTakes.{Always, StaysGuest, TakesHosted, always-book, always-map, always-weaker, guest-takes}
 use Rattle.cx_run.proofs.Taking.{EachRow}
 use Rattle.cx_laws_keys.proofs.Lists.{all-map}
-use Rattle.cx_laws_keys.proofs.Viewing.{EntryShows, ShowsAlong, ShowsStill, still-along, viewed-own}
+use Rattle.cx_laws_keys.proofs.Viewing.{ShowsAlong, ShowsStill, still-along, viewed-own}
 use Rattle.cx_laws_keys.specs.LooksLast.{nothing_viewed}
 use Rattle.cx_laws_login.proofs.NoTickets.{RowOfAsker, none-turned}
 use Rattle.cx_laws_login.proofs.Proving.{RowOf}

@@ -19,7 +19,7 @@ use Rattle.cx_rules.specs.Secured.{SealedFrame, Secured}
 use Rattle.cx_rules.specs.declared.requests.Want.{Want}
 use Rattle.cx_rules.specs.declared.requests.Want.TheVariants.{Rotating}
 use Rattle.cx_rules_session.specs.Asks.{Finished, Asking}
-use Rattle.cx_rules_session.specs.DaemonRule.{AsAcceptor, AsConnector, Daemon, DaemonNode, DaemonStage, DaemonState, asking_open, book_after, book_reply, daemon_rule, fetches, fetches_on, gone, gone_by_kind, guest_gone, hosts, is_fetching, lossy_gone, me, moved_to, on_dropped, open_to_ask, opens, opens_own, submits, ticks, turn, turned_at, undialled, unreached, with_asker}
+use Rattle.cx_rules_session.specs.DaemonRule.{AsAcceptor, AsConnector, Daemon, DaemonNode, DaemonStage, asking_open, book_after, book_reply, daemon_rule, fetches, fetches_on, gone, gone_by_kind, guest_gone, hosts, is_fetching, lossy_gone, me, moved_to, on_dropped, open_to_ask, opens, opens_own, submits, ticks, turn, turned_at, undialled, unreached, with_asker}
 use Rattle.cx_rules_session.specs.Guests.{GuestStage}
 use Rattle.cx_rules_session.specs.Hosting.{Hosted, guest_turned}
 use Rattle.cx_rules_session.specs.Kinds.{arrival_in, turn_of_kind}

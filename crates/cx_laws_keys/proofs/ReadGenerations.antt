@@ -1,9 +1,7 @@
 -- What is read again of generations that were told: their ids and keys, also where an expiry has no spelling.
-use Rattle.std.proofs.Common.{◌≡◌, ℕ, ◌+◌, ◌<◌, ◌≤◌, ◌^◌, Bool, true, false, cond, zero, suc, List, [], ◌∷◌, ◌++◌, length, Some, None, Result, Ok, Err, refl, sym, ap, ◌∙◌, subst, arith, append_assoc}
+use Rattle.std.proofs.Common.{◌≡◌, ℕ, ◌+◌, ◌<◌, ◌≤◌, ◌^◌, Bool, true, false, cond, List, [], ◌∷◌, ◌++◌, length, Some, None, Ok, refl, sym, ap, ◌∙◌, subst, arith, append_assoc}
 use Rattle.std.specs.List.{AllByRecursion, flat_map}
 use Rattle.std.proofs.lemmas.List.Concat.{flat_map-cons}
-use Rattle.cx_base.specs.declared.kinds.EntityType.{EntityType}
-use Rattle.cx_enc.specs.declared.faults.ReadFault.{ReadFault}
 use Rattle.cx_enc.specs.FieldLaws.{kind_fits, kind-lawful, reading-lawful, secret-lawful}
 use Rattle.cx_enc.specs.FormLaws.{u32-lawful, u64-lawful}
 use Rattle.cx_enc.specs.Forms.{Spot, ◌>>=◌, Form, after, judged, or_bad, pair, passed, times, times_at, u32_form, u64_form, with_count}

@@ -1,6 +1,6 @@
 -- What a node enters tells its view: each look shows it, and behind what it fetches, or a restart, it is another one.
-use Rattle.std.proofs.Common.{◌≡◌, Bool, true, false, List, [], ◌∷◌, ◌++◌, refl, sym, ap, ◌∙◌, subst, append_assoc, append-nil}
-use Rattle.std.specs.Prelude.{Some, if◌then◌else◌}
+use Rattle.std.proofs.Common.{◌≡◌, Bool, true, false, List, [], ◌∷◌, ◌++◌, refl, sym, ap, ◌∙◌, subst}
+use Rattle.std.specs.Prelude.{if◌then◌else◌}
 use Rattle.std.specs.List.{AllByRecursion}
 use Rattle.cx_base.specs.Names.{Name, same_name}
 use Rattle.cx_base.proofs.Names.{same_name_is, same_name_self}

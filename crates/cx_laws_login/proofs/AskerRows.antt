@@ -56,7 +56,7 @@ use Rattle.cx_laws_keys.proofs.Uses.{IsConnected, Login, Means, Secret, Uses, Wh
 use Rattle.cx_laws_login.proofs.Facts.{AreFetched, AskerOk, AskerStageOk, HasConnection, asker-entered, asker_stage-grows, seals-own}
 use Rattle.cx_laws_login.proofs.Opens.{unlocked-allowed, unlocked_says}
 use Rattle.cx_laws_login.proofs.Rows.{AfterRow, Allowed, FrameOk, Saying, Simple, after-simple, frame-ok, signing-ok, simple-goes_on, simple-plain, simple-refuses, simple-refuses_bytes, simple-secure}
-use Rattle.cx_rules.specs.Requests.{Requests, asks_rotating, asks_tickets, behind_reply, behind_request, body_taken, having, later, message_taken, no_requests, on_open, on_reply, on_server_ident, opens_to, reply_taken, request_message, sends_request, takes, tickets_taken, unless_unsealed, waiting_taken, with_tickets, rotating_taken, sealed_request}
+use Rattle.cx_rules.specs.Requests.{Requests, asks_rotating, asks_tickets, behind_reply, behind_request, body_taken, having, message_taken, no_requests, on_open, on_reply, on_server_ident, opens_to, reply_taken, request_message, sends_request, takes, tickets_taken, unless_unsealed, waiting_taken, with_tickets, rotating_taken, sealed_request}
 use Rattle.cx_rules.specs.Messages.{Message, body_as, message_in}
 use Rattle.cx_rules.specs.declared.requests.Taken.{Taken}
 use Rattle.cx_rules.specs.declared.requests.Taken.TheVariants as taken

@@ -18,7 +18,7 @@ use Rattle.cx_rules.specs.Links.{Link, link_of}
 use Rattle.cx_rules.specs.Payloads.{due}
 use Rattle.cx_rules.specs.Rows.{Arrival, Outcome, Row, Turned, Waits, Refuses, Handles, arrival, at, fed, forgotten, goes_on, lifted, lifted_turn, new_link, refused_entry, with_opened}
 use Rattle.cx_rules.specs.Secured.{under, Secured}
-use Rattle.cx_steps.specs.Premises.{IsExcepted, is_server}
+use Rattle.cx_steps.specs.Premises.{is_server}
 use Rattle.cx_steps.specs.declared.events.Command.{Command}
 use Rattle.cx_steps.specs.declared.events.Command.TheVariants as command
 use Rattle.cx_steps.specs.declared.events.Peer.{Peer}
@@ -27,7 +27,7 @@ use Rattle.cx_steps.specs.declared.seals.Logged.{Logged}
 use Rattle.cx_laws_keys.proofs.Journal.{After, IsNotIssued, after-then}
 use Rattle.cx_laws_keys.proofs.Known.{Inv}
 use Rattle.cx_laws_keys.proofs.Premises.{AreGranted, behind, granted-rest}
-use Rattle.cx_laws_keys.proofs.Uses.{Uses, stays, WholeRun, Means, Use, whose}
+use Rattle.cx_laws_keys.proofs.Uses.{Uses, stays, WholeRun, whose}
 use Rattle.cx_laws_login.proofs.AskerRows.{asker_says, banner-simple, challenged-simple, hello-simple, identified-simple, proved-after, signature-simple, open-simple, asks-simple, NeverExcepted}
 use Rattle.cx_laws_login.proofs.Facts.{AskerOk, AskerStageOk, HasConnection, asker-entered, asker_stage-grows, none-fetched}
 use Rattle.cx_laws_login.proofs.Rows.{IsQuietEntry, AfterRow, AfterStep, LinkOk, NodeOk, Saying, TurnOk, after-quiet, after-simple, all-put, all-without, carried, found-link, idle, reached-allowed, simple-goes_on, turned-ok, LinksOk, Allowed, RowOk}

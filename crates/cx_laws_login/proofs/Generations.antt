@@ -1,7 +1,6 @@
 -- The keys that a rotation draws, and the generations that it leaves.
-use Rattle.std.proofs.Common.{◌≡◌, ℕ, zero, suc, ◌+◌, ◌-◌, ◌<◌, ◌^◌, List, [], ◌∷◌, ◌++◌, length, map, max, take, drop, refl, sym, ap, subst, inl, Bool, true, false, find, arith, Some, ◌≤◌, length-take, length-drop, inr}
+use Rattle.std.proofs.Common.{◌≡◌, ℕ, zero, suc, ◌+◌, ◌-◌, ◌<◌, ◌^◌, List, [], ◌∷◌, ◌++◌, length, map, max, take, drop, refl, sym, ap, subst, inl, Bool, true, false, find, arith, ◌≤◌, length-take, length-drop, inr}
 use Rattle.std.specs.List.{AllByRecursion, flat_map}
-use Rattle.cx_base.specs.Names.{Name}
 use Rattle.cx_base.specs.declared.kinds.EntityType.{EntityType}
 use Rattle.cx_base.specs.declared.kinds.EntityType.TheVariants.{Mon, Mds, Osd, Client, Mgr, Auth}
 use Rattle.cx_dice.specs.Draws.{rotation_of, three_keys, part}

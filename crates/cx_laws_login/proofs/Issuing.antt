@@ -1,5 +1,5 @@
 -- The tickets of a login: the first is for AUTH, and no other is; whose they are, and what their keys are.
-use Rattle.std.proofs.Common.{◌≡◌, ℕ, ◌+◌, ◌<◌, ◌≤◌, ◌^◌, Bool, true, false, cond, List, [], ◌∷◌, ◌++◌, length, drop, filter, Option, Some, None, Result, Ok, Err, refl, sym, ◌∙◌, arith, length-take, length-drop, length-append}
+use Rattle.std.proofs.Common.{◌≡◌, ℕ, ◌+◌, ◌<◌, ◌≤◌, ◌^◌, Bool, true, false, cond, List, [], ◌∷◌, ◌++◌, length, drop, filter, Option, Some, None, Result, Ok, Err, refl, sym, ◌∙◌, arith, length-take, length-append}
 use Rattle.std.specs.Prelude.{◌%◌, find, slice_index}
 use Rattle.std.proofs.lemmas.List.{get_or-append_right}
 use Rattle.std.specs.List.{AllByRecursion}

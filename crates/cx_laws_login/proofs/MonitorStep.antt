@@ -1,7 +1,6 @@
 -- A step of the monitor, at any event.
 use Rattle.std.proofs.Common.{◌≡◌, ℕ, ◌≤◌, Bool, true, false, List, [], ◌∷◌, ◌++◌, length, Option, Some, None, refl, sym, subst, arith, ◌<◌, ◌∙◌, Result, Ok, Err, lt-ltb, le-ltb}
 use Rattle.std.specs.Prelude.{nat_le, if◌then◌else◌, nat_lt}
-use Rattle.cx_base.specs.Names.{Name}
 use Rattle.cx_base.specs.declared.kinds.EntityType.TheVariants.{Mon}
 use Rattle.cx_control.specs.Auth.{auth_request_layout, auth_request_more_layout, auth_signature_layout}
 use Rattle.cx_control.specs.Hello.{hello_layout}
@@ -30,7 +29,7 @@ use Rattle.cx_laws_login.proofs.Facts.{AreBelow, OwnOk, StageOk, own-entered, Be
 use Rattle.cx_laws_login.proofs.Generations.{StateOk, AreRecorded}
 use Rattle.cx_laws_login.proofs.MonitorRows.{banner-simple, hello-simple, ident-simple, monitor_says, request-simple, signature-simple}
 use Rattle.cx_laws_login.proofs.Rows.{IsQuietEntry, AfterRow, AfterStep, LinkOk, NodeOk, TurnOk, after-quiet, after-simple, all-put, all-without, carried, found-link, idle, reached-allowed, simple-goes_on, simple-refuses, turned-ok, Allowed, LinksOk, RowOk, simple-refuses_bytes, opened-allowed}
-use Rattle.cx_laws_login.proofs.Turns.{turn-banner, turn-plain, turn-secure, turn-open}
+use Rattle.cx_laws_login.proofs.Turns.{turn-banner, turn-plain, turn-secure}
 use Rattle.cx_rules.specs.declared.responses.Bearer.{Bearer}
 use Rattle.cx_rules.specs.MonitorRequests.{on_open}
 use Rattle.cx_rules.specs.Fronts.{ahead_of, plain_read, taking, opened_parts, sealed_ahead, secure_read, keys_behind}

@@ -45,7 +45,7 @@ use Rattle.cx_laws_keys.proofs.Known.{Inv, IsAllowed, AreToldOf}
 use Rattle.cx_laws_keys.proofs.Premises.{AreGranted, behind, behind-append, granted-first, granted-rest}
 use Rattle.cx_laws_keys.proofs.Steps.{inv-all}
 use Rattle.cx_laws_keys.proofs.Uses.{Grows, Login, Means, Secret, Uses, grows-then, stays, WholeRun, AreGenerated, Generated, IsSavedIn}
-use Rattle.cx_laws_keys.proofs.Reading.{rotating_no_info, rotating_service}
+use Rattle.cx_laws_keys.proofs.Reading.{rotating_no_info}
 use Rattle.cx_laws_login.proofs.Authenticating.{own-rotated, saved-own}
 use Rattle.cx_laws_login.proofs.Entering.{AreEntered, renewal-entered}
 use Rattle.cx_laws_login.proofs.Facts.{AreBelow, BearerOk, MaySeal, OwnOk, Owner, bearer-grows, bearer-moves, own-grows, owned-below, owned-of}

@@ -1,6 +1,5 @@
 -- A turn of a link of any node: what stands next on it, and the row that handles it.
 use Rattle.std.proofs.Common.{ℕ, List, Option, Some, None, Result, Ok, Err, refl, ◌++◌}
-use Rattle.cx_base.specs.Names.{Name}
 use Rattle.cx_frame.specs.Banners.{banner_at}
 use Rattle.cx_frame.specs.declared.banner.Banner.{Banner}
 use Rattle.cx_frame.specs.declared.frame.Frame.{Frame}

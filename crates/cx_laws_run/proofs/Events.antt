@@ -1,5 +1,5 @@
 -- An event of a run, and every list of events.
-use Rattle.std.proofs.Common.{◌≡◌, ℕ, Bool, true, false, List, [], ◌∷◌, ◌++◌, length, map, filter, Option, Some, None, refl, sym, ap, ◌∙◌, subst, arith, append-nil, append_assoc, ◌+◌, ◌⊎◌, inl, inr, ◌<◌, ◌^◌}
+use Rattle.std.proofs.Common.{◌≡◌, ℕ, Bool, true, false, List, [], ◌∷◌, ◌++◌, length, map, filter, Option, Some, None, refl, sym, ap, ◌∙◌, subst, arith, append-nil, append_assoc, ◌⊎◌, inl, inr, ◌<◌, ◌^◌}
 use Rattle.std.specs.Prelude.{Contains, if◌then◌else◌}
 use Rattle.std.specs.List.{AllByRecursion}
 use Rattle.cx_base.proofs.Names.{same_name_is}
@@ -29,7 +29,7 @@ use Rattle.cx_laws_keys.proofs.Journal.{After, EntryLaw, entered}
 use Rattle.cx_laws_keys.proofs.Known.{Inv, Within}
 use Rattle.cx_laws_keys.proofs.Lists.{all-map, found_all, found_passes, map-append}
 use Rattle.cx_laws_keys.proofs.Premises.{AreGranted, IsGranted, behind, granted-step}
-use Rattle.cx_laws_keys.proofs.Uses.{Grows, Means, Secret, Uses, WholeRun, grows-from, grows-saved, grows-then}
+use Rattle.cx_laws_keys.proofs.Uses.{Grows, Uses, WholeRun, grows-from, grows-saved, grows-then}
 use Rattle.cx_laws_keys.proofs.Uses.{stays as same_uses}
 use Rattle.cx_laws_login.proofs.ClientStep.{client-step, client_says}
 use Rattle.cx_laws_login.proofs.Entering.{within-all}
@@ -42,7 +42,7 @@ use Rattle.cx_laws_run.proofs.Journals.{behind-append}
 use Rattle.cx_laws_run.proofs.Saves.{inv-failed, thick}
 use Rattle.cx_run.proofs.DaemonNamed.{daemon-named}
 use Rattle.cx_rules_session.specs.DaemonRule.{DaemonNode, DaemonStage, DaemonState, daemon_step}
-use Rattle.cx_laws_authorize.proofs.Backing.{AreGood, IsGood, backing-grows, AllGood}
+use Rattle.cx_laws_authorize.proofs.Backing.{IsGood, backing-grows, AllGood}
 use Rattle.cx_laws_authorize.specs.Coming.{IsNoGuest, IsNoLook}
 use Rattle.cx_laws_authorize.proofs.DaemonStep.{DaemonStageOk, daemon-after, daemon_says, daemon_stage-grows}
 use Rattle.cx_laws_authorize.proofs.Telling.{IsBackedLink}

@@ -1,5 +1,5 @@
 -- Each authority that a guest's link has, it got at a point of that link: since then no guest's link was opened under its number.
-use Rattle.std.proofs.Common.{◌≡◌, ◌⊎◌, ◌==◌, ℕ, Bool, true, false, List, [], ◌∷◌, map, find, cond, Option, Some, None, inl, inr, refl, sym, ap, ◌∙◌, subst, eqb-true}
+use Rattle.std.proofs.Common.{◌≡◌, ◌⊎◌, ℕ, Bool, true, false, List, [], ◌∷◌, map, find, cond, Option, Some, None, inl, inr, refl, sym, ap, ◌∙◌, subst, eqb-true}
 use Rattle.std.specs.Prelude.{◌&&◌, if◌then◌else◌}
 use Rattle.std.specs.List.{AllByRecursion}
 use Rattle.cx_authorize.specs.Daemon.{Authority}
@@ -7,7 +7,6 @@ use Rattle.cx_base.proofs.Names.{same_name_is}
 use Rattle.cx_base.specs.Names.{Name, is_daemon_type}
 use Rattle.cx_base.specs.declared.nodes.NodeName.{NodeName}
 use Rattle.cx_base.specs.declared.nodes.NodeName.TheVariants as node
-use Rattle.cx_journal.specs.declared.entries.Entry.{Entry}
 use Rattle.cx_line_words.specs.declared.choices.LeftState.{LeftState}
 use Rattle.cx_rules.specs.ClientRule.{opening_client}
 use Rattle.cx_rules.specs.Inputs.{Input, Opened, NoLink, Bytes, Turn, Gone, Look, Tick, Submit, Restart}
@@ -20,8 +19,6 @@ use Rattle.cx_run.specs.Happenings.{EntityNode, OfClient, OfDaemon, Happening, N
 use Rattle.cx_run.specs.Opening.{Declared, Setup, asker_of, daemon_opening, entity_in, nodes_of}
 use Rattle.cx_run.specs.Points.{EachPoint, Point, entries_at, points, points_onto, seals_at}
 use Rattle.cx_run.specs.Wires.{same_node}
-use Rattle.cx_steps.specs.Onto.{SomeOf}
-use Rattle.cx_steps.specs.declared.seals.SealEntry.{SealEntry}
 use Rattle.cx_laws_authorize.proofs.Opening.{HasNoneAt, opens-bare}
 use Rattle.cx_laws_authorize.proofs.Steps.{all-authorize}
 use Rattle.cx_laws_authorize.specs.Admission.{GetsAuthority, HadAuthority, LinkAuthorized, StageHas, StepAuthorizes}

@@ -1,10 +1,10 @@
 -- Each ticket of a run can be written, and its blob opens under the key of each saved generation that it names.
-use Rattle.std.proofs.Common.{◌≡◌, ◌≤◌, ◌<◌, ◌+◌, ◌*◌, ℕ, zero, suc, Bool, true, false, cond, List, [], ◌∷◌, ◌++◌, length, map, find, take, drop, Option, Some, None, inl, inr, refl, sym, ap, ◌∙◌, subst, arith, ◌⊎◌, ◌^◌}
-use Rattle.std.specs.Prelude.{Contains, nat_le, nat_lt, ◌&&◌, if◌then◌else◌, IsTrue}
+use Rattle.std.proofs.Common.{◌≡◌, ◌≤◌, ◌<◌, ◌+◌, ◌*◌, ℕ, zero, suc, Bool, true, false, List, [], ◌∷◌, ◌++◌, length, map, find, take, drop, Option, Some, None, inl, inr, refl, sym, ap, ◌∙◌, subst, arith, ◌⊎◌, ◌^◌}
+use Rattle.std.specs.Prelude.{Contains, nat_lt, if◌then◌else◌, IsTrue}
 use Rattle.std.specs.List.{AllByRecursion}
 use Rattle.std.specs.Option.{option_map}
 use Rattle.std.proofs.lemmas.Bool.Decides.{nat_tests}
-use Rattle.std.proofs.lemmas.List.Elements.{All-contains, All-from_recursion, Contains-append_left, Contains-append_right}
+use Rattle.std.proofs.lemmas.List.Elements.{All-contains, All-from_recursion, Contains-append_right}
 use Rattle.cx_aes.specs.Cipher.{IsBlock}
 use Rattle.cx_base.proofs.Names.{same_name_is}
 use Rattle.cx_base.specs.Names.{Name, same_kind}
@@ -12,34 +12,32 @@ use Rattle.cx_base.specs.Texts.{is_caps}
 use Rattle.cx_base.specs.declared.grants.Grant.{Grant}
 use Rattle.cx_base.specs.declared.kinds.EntityType.{EntityType}
 use Rattle.cx_base.specs.declared.kinds.EntityType.TheVariants.{Mon, Mds, Osd, Client, Mgr, Auth}
-use Rattle.cx_dice.specs.Draws.{has_keys, part, rotation_of, session_of, three_keys}
-use Rattle.cx_enc.specs.FieldLaws.{both_true}
+use Rattle.cx_dice.specs.Draws.{part, rotation_of, session_of, three_keys}
 use Rattle.cx_journal.specs.declared.entries.Entry.TheVariants as journal
 use Rattle.cx_journal.specs.declared.entries.Issued.{Issued}
 use Rattle.cx_journal.specs.declared.premises.KeyKind.TheVariants as kind
 use Rattle.cx_keyring.specs.Entries.{is_named}
 use Rattle.cx_keyring.specs.declared.entries.Entry.{Entry as Principal}
 use Rattle.cx_keyserver.specs.Issuing.{caps_for, current_at}
-use Rattle.cx_keyserver.specs.Servers.{generations_of, life_of}
+use Rattle.cx_keyserver.specs.Servers.{generations_of}
 use Rattle.cx_line_words.specs.Named.{is_name}
 use Rattle.cx_line_words.specs.Values.{is_life}
 use Rattle.cx_login.specs.Unlocking.{unlocked}
 use Rattle.cx_rotate.specs.declared.generations.Generation.{Generation}
 use Rattle.cx_rotate.specs.declared.states.KeptState.{KeptState}
 use Rattle.cx_run.specs.Happenings.{Happening, Nodes, steps}
-use Rattle.cx_run.specs.Opening.{Declared, Setup, first_state, principal_of}
-use Rattle.cx_run.specs.Points.{EachPoint, Point, entries_at, nodes_past, points, points_onto}
+use Rattle.cx_run.specs.Opening.{Declared, Setup, principal_of}
+use Rattle.cx_run.specs.Points.{EachPoint, Point, nodes_past, points_onto}
 use Rattle.cx_sealed.specs.Records.{service_ticket_layout}
-use Rattle.cx_sealed.specs.declared.service_ticket.ServiceTicket.{ServiceTicket}
 use Rattle.cx_steps.specs.Onto.{SomeOf}
 use Rattle.cx_laws_authorize.proofs.Backing.{IsGood}
-use Rattle.cx_laws_chain.specs.Chain.{Added, BecomesLost, BecomesSaved, Chain, Fate, HasChain, IsAddedAt, IsChained, IsMadeBy, IsMadeUnder, IsOne, IsSealedUnder, IsUnderCurrent, KeepsGenerations, MovesOn, StaysInMemory, all_in, chain_behind, life_in, ring_in, said_by, saved_past, three_newest}
-use Rattle.cx_laws_keys.proofs.Lists.{all-append, all-map, found_all, found_passes}
+use Rattle.cx_laws_chain.specs.Chain.{Added, BecomesLost, BecomesSaved, Chain, Fate, HasChain, IsAddedAt, IsChained, IsMadeUnder, IsOne, IsUnderCurrent, StaysInMemory, chain_behind, life_in, ring_in, said_by, saved_past, three_newest}
+use Rattle.cx_laws_keys.proofs.Lists.{all-append, found_all, found_passes}
 use Rattle.cx_laws_keys.proofs.Uses.{IsSavedIn, WholeRun}
 use Rattle.cx_laws_login.proofs.Generations.{length-part, tagged}
 use Rattle.cx_laws_login.proofs.Issuing.{length-session}
 use Rattle.cx_laws_run.proofs.Whole.{saved_in}
-use Rattle.cx_laws_run.proofs.Written.{AreCaps, IsWritable, all-true, caps-are, is-writable, under-opens}
+use Rattle.cx_laws_run.proofs.Written.{AreCaps, IsWritable, caps-are, is-writable, under-opens}
 use Rattle.cx_laws_run.specs.Laws.{AreBytes, MayBegin}
 
 -- ---- draws

@@ -1,10 +1,7 @@
 -- The events of a run, as the laws of each of them need them; and those of every schedule.
-use Rattle.std.proofs.Common.{◌≡◌, ◌<◌, ℕ, Bool, true, false, List, [], ◌∷◌, ◌++◌, length, Option, Some, None, inl, inr, refl, sym, ◌∙◌, subst}
-use Rattle.std.specs.Prelude.{Contains}
+use Rattle.std.proofs.Common.{◌≡◌, ◌<◌, Bool, true, false, List, [], ◌∷◌, refl}
 use Rattle.std.specs.List.{AllByRecursion}
 use Rattle.cx_base.specs.declared.kinds.EntityType.{EntityType}
-use Rattle.cx_base.specs.declared.nodes.NodeName.{NodeName}
-use Rattle.cx_base.specs.declared.nodes.NodeName.TheVariants as node
 use Rattle.cx_journal.specs.Behind.{EachBehind}
 use Rattle.cx_keyserver.specs.Servers.{generations_of}
 use Rattle.cx_rotate.specs.declared.generations.Generation.{Generation}
@@ -12,7 +9,7 @@ use Rattle.cx_rotate.specs.declared.states.KeptState.{KeptState}
 use Rattle.cx_run.specs.Happenings.{Happening, Nodes, steps}
 use Rattle.cx_run.specs.Opening.{Setup, leaked_of, nodes_of}
 use Rattle.cx_run.specs.Points.{Point, journal_since, log_since, nodes_past, points, points_onto}
-use Rattle.cx_run.specs.Visits.{AreUnvisited, IsUnvisited}
+use Rattle.cx_run.specs.Visits.{AreUnvisited}
 use Rattle.cx_steps.specs.Premises.{IsFresh, IsSound}
 use Rattle.cx_laws_authorize.specs.Coming.{IsNoLook}
 use Rattle.cx_laws_chain.proofs.One.{all-kept}
@@ -21,7 +18,7 @@ use Rattle.cx_laws_keys.proofs.Journal.{EntryLaw}
 use Rattle.cx_laws_keys.proofs.Lists.{all-map, some-left, some-right}
 use Rattle.cx_laws_keys.proofs.Uses.{IsSavedIn, WholeRun}
 use Rattle.cx_laws_login.proofs.Generations.{AreRecorded, all-tagged, tagged}
-use Rattle.cx_laws_run.proofs.Events.{AllOccur, Occurs}
+use Rattle.cx_laws_run.proofs.Events.{AllOccur}
 use Rattle.cx_laws_run.proofs.Good.{IsDraw, IsKnown, each-happening, good-point}
 use Rattle.cx_laws_run.proofs.Logins.{run-logins}
 use Rattle.cx_laws_run.proofs.Opening.{run-law}

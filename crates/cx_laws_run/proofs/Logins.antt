@@ -6,7 +6,6 @@ use Rattle.cx_base.specs.Names.{Name}
 use Rattle.cx_base.specs.declared.nodes.NodeName.{NodeName}
 use Rattle.cx_base.specs.declared.nodes.NodeName.TheVariants as node
 use Rattle.cx_journal.specs.declared.entries.Entry.{Entry}
-use Rattle.cx_journal.specs.declared.entries.Entry.TheVariants as journal
 use Rattle.cx_journal.specs.declared.entries.Issued.{Issued}
 use Rattle.cx_rules.specs.Links.{Link, link_of}
 use Rattle.cx_rules.specs.Monitor.{MonitorStage, Offered}
@@ -20,21 +19,20 @@ use Rattle.cx_steps.specs.declared.seals.Logged.{Logged}
 use Rattle.cx_steps.specs.declared.seals.SealEntry.{SealEntry}
 use Rattle.cx_steps.specs.declared.seals.SealEntry.TheVariants as seal
 use Rattle.cx_steps.specs.declared.seals.SealMark.{SealMark}
-use Rattle.cx_laws_keys.proofs.Journal.{entered, has-before}
+use Rattle.cx_laws_keys.proofs.Journal.{entered}
 use Rattle.cx_laws_keys.proofs.Known.{Inv, IsOfConnector, sealed_own, signed_own}
-use Rattle.cx_laws_keys.proofs.Premises.{AreGranted, IsGranted, all-granted, behind, granted-step, logged}
-use Rattle.cx_laws_keys.proofs.Uses.{Connected, IsConnected, Means, Secret, Uses, no_uses, WholeRun}
+use Rattle.cx_laws_keys.proofs.Premises.{AreGranted, IsGranted, behind, granted-step, logged}
+use Rattle.cx_laws_keys.proofs.Uses.{Connected, IsConnected, Means, Secret, Uses, WholeRun}
 use Rattle.cx_laws_login.proofs.Facts.{BearerOk, OfferOk, StageOk}
 use Rattle.cx_laws_login.proofs.Hearing.{HearsPart, heard-begins, part_heard}
 use Rattle.cx_laws_login.proofs.MonitorRows.{monitor_says}
 use Rattle.cx_laws_login.proofs.MonitorStep.{MonitorOk}
-use Rattle.cx_laws_login.proofs.Rows.{LinkOk, found-link, quiet-entries}
+use Rattle.cx_laws_login.proofs.Rows.{LinkOk, found-link}
 use Rattle.cx_laws_run.proofs.Asked.{Hears, IsHeardFor, all-heard}
 use Rattle.cx_laws_run.proofs.Events.{NodesOk, entered-append, event-after, AllOccur, good-behind}
-use Rattle.cx_laws_run.proofs.Opening.{NoneIssued, leaks-quiet, nothing-in, opening-inv, opening-nodes, secrets-known, Begins, begins}
-use Rattle.cx_laws_run.specs.Laws.{AreDrawn}
+use Rattle.cx_laws_run.proofs.Opening.{Begins, begins}
 use Rattle.cx_laws_run.specs.Logins.{IsRenewal, LogIn, LogsIn, OwnFrame, OwnLogin, Proves, proof_of}
-use Rattle.cx_laws_authorize.proofs.Backing.{AreGood, AllGood}
+use Rattle.cx_laws_authorize.proofs.Backing.{AllGood}
 use Rattle.cx_base.specs.declared.kinds.EntityType.TheVariants.{Client}
 use Rattle.std.specs.List.{AllByRecursion}
 

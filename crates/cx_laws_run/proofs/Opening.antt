@@ -1,8 +1,8 @@
 -- What is known as a run begins.
 use Rattle.std.proofs.Common.{◌≡◌, ℕ, Bool, true, false, List, [], ◌∷◌, ◌++◌, map, inl, refl, sym, ap, subst, arith, ◌⊎◌, inr, ◌∙◌}
 use Rattle.std.specs.Prelude.{Contains, if◌then◌else◌, None}
-use Rattle.std.specs.List.{AllByRecursion, flat_map}
-use Rattle.cx_base.specs.Names.{Name, same_kind, is_daemon_type}
+use Rattle.std.specs.List.{AllByRecursion}
+use Rattle.cx_base.specs.Names.{Name, is_daemon_type}
 use Rattle.cx_base.specs.declared.kinds.EntityType.{EntityType}
 use Rattle.cx_base.specs.declared.kinds.EntityType.TheVariants.{Mon, Mds, Osd, Client, Mgr, Auth}
 use Rattle.cx_journal.specs.Behind.{EachBehind}
@@ -20,7 +20,7 @@ use Rattle.cx_steps.specs.declared.seals.DrawMark.TheVariants as draw
 use Rattle.cx_steps.specs.declared.seals.Logged.{Logged}
 use Rattle.cx_laws_keys.proofs.Journal.{EntryLaw, entered, has-before}
 use Rattle.cx_laws_keys.proofs.Known.{Inv}
-use Rattle.cx_laws_keys.proofs.Lists.{all-append, map-append}
+use Rattle.cx_laws_keys.proofs.Lists.{map-append}
 use Rattle.cx_laws_keys.proofs.Premises.{IsGranted, all-granted}
 use Rattle.cx_laws_keys.proofs.Steps.{inv-drawn}
 use Rattle.cx_laws_keys.proofs.Uses.{Grows, Means, Secret, Uses, grows-one, grows-then, no_uses, stays, with_key, WholeRun}
@@ -30,7 +30,6 @@ use Rattle.cx_laws_login.proofs.Rows.{IsQuietEntry, quiet-entries}
 use Rattle.cx_laws_run.proofs.Events.{NodesOk, events-law, AllOccur, EntityOk, EntitiesOk}
 use Rattle.cx_laws_run.proofs.Journals.{behind-append}
 use Rattle.cx_run.specs.Points.{journal_since, log_since, onto}
-use Rattle.cx_laws_run.specs.Laws.{AreDrawn}
 use Rattle.cx_keyserver.specs.Servers.{generations_of}
 use Rattle.std.proofs.lemmas.List.Elements.{Contains-append_cases, Contains-push_cases}
 

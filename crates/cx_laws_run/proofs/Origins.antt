@@ -1,12 +1,11 @@
 -- Each session that is admitted or resumed goes back to its authorizer, to its ticket's issue, and to the entity's own node.
-use Rattle.std.proofs.Common.{◌≡◌, ◌⊎◌, ◌<◌, ◌∙◌, ℕ, Bool, true, false, List, [], ◌∷◌, Option, Some, None, inl, inr, refl, sym, ap, subst, arith}
+use Rattle.std.proofs.Common.{◌≡◌, ◌<◌, ◌∙◌, ℕ, true, List, [], ◌∷◌, Option, Some, None, inl, inr, refl, sym, ap, subst, arith}
 use Rattle.std.specs.Prelude.{Contains, ◌==◌}
 use Rattle.std.specs.List.{AllByRecursion}
 use Rattle.std.proofs.lemmas.List.Elements.{All-contains, All-from_recursion}
 use Rattle.cx_authorize.specs.Daemon.{Authority}
 use Rattle.cx_base.proofs.Names.{same_name_is}
 use Rattle.cx_base.specs.Names.{Name}
-use Rattle.cx_base.specs.declared.kinds.EntityType.{EntityType}
 use Rattle.cx_base.specs.declared.kinds.EntityType.TheVariants.{Client}
 use Rattle.cx_base.specs.declared.nodes.NodeName.{NodeName}
 use Rattle.cx_base.specs.declared.nodes.NodeName.TheVariants as node
@@ -18,25 +17,24 @@ use Rattle.cx_journal.specs.declared.entries.Entry.TheVariants as journal
 use Rattle.cx_journal.specs.declared.entries.Issued.{Issued}
 use Rattle.cx_rules.specs.Acceptor.{AwaitsIdent}
 use Rattle.cx_rules.specs.Inputs.{Input, Turn}
-use Rattle.cx_rules.specs.Links.{Link, link_of}
+use Rattle.cx_rules.specs.Links.{Link}
 use Rattle.cx_rules.specs.Secured.{Keys}
 use Rattle.cx_rules_session.specs.DaemonRule.{AsAcceptor, DaemonStage, DaemonState, daemon_step}
-use Rattle.cx_rules_session.specs.Guests.{GuestStage}
-use Rattle.cx_run.proofs.PointsTell.{at-one, entered-at}
+use Rattle.cx_run.proofs.PointsTell.{entered-at}
 use Rattle.cx_run.proofs.Turning.{found-number}
 use Rattle.cx_run.specs.Happenings.{EntityNode, OfClient, OfDaemon, Happening, Nodes, Stepped, entity_of, entity_steps, is_of, steps, steps_of}
 use Rattle.cx_run.specs.Opening.{Leak, Setup, leaked_of, nodes_of}
-use Rattle.cx_run.specs.Points.{Before, EachPoint, Point, WasEntered, entered_until, entries_at, log_since, logged_until, points, seals_at}
+use Rattle.cx_run.specs.Points.{EachPoint, Point, WasEntered, entered_until, entries_at, log_since, logged_until, points, seals_at}
 use Rattle.cx_steps.specs.Premises.{IsFresh, IsSound}
 use Rattle.cx_steps.specs.declared.seals.Logged.{Logged}
 use Rattle.cx_steps.specs.declared.seals.SealEntry.{SealEntry}
 use Rattle.cx_steps.specs.declared.seals.SealEntry.TheVariants as seal
 use Rattle.cx_laws_authorize.proofs.Backing.{AllGood, HasBacking, authorized-backed}
 use Rattle.cx_laws_authorize.proofs.DaemonStep.{DaemonStageOk}
-use Rattle.cx_laws_authorize.proofs.Keys.{HostKeys, StageKeys}
+use Rattle.cx_laws_authorize.proofs.Keys.{HostKeys}
 use Rattle.cx_laws_authorize.proofs.Opening.{IsOfSession, step-hears}
 use Rattle.cx_laws_authorize.proofs.Steps.{all-authorize}
-use Rattle.cx_laws_authorize.specs.Admission.{EntryTold, IsOwned, StageHas, StepAuthorizes}
+use Rattle.cx_laws_authorize.specs.Admission.{EntryTold, IsOwned, StageHas}
 use Rattle.cx_laws_chain.proofs.Rows.{IsOfMonitor}
 use Rattle.cx_laws_chain.proofs.Steps.{event-enters}
 use Rattle.cx_laws_keys.proofs.Known.{Inv}
@@ -50,8 +48,8 @@ use Rattle.cx_laws_run.proofs.Events.{AllOccur, DaemonOk, EntityOk, NodesOk}
 use Rattle.cx_laws_run.proofs.Gaining.{EntityGained, Gained, IsGained, LinkGained, all-gained}
 use Rattle.cx_laws_run.proofs.Logins.{run-logins, run-points, sealed-by}
 use Rattle.cx_laws_run.proofs.Opening.{nothing-in}
-use Rattle.cx_laws_run.specs.Logins.{Asks, IsAskedFor, LogIn, LogsIn, OwnFrame, Stands}
-use Rattle.cx_laws_run.specs.Origins.{GoBack, GoesBack, GuestSince, IsAuthorized, IsOwed, WasAskedFor, opens_guest_at}
+use Rattle.cx_laws_run.specs.Logins.{Asks, LogsIn, OwnFrame, Stands}
+use Rattle.cx_laws_run.specs.Origins.{GoBack, GoesBack, GuestSince, IsAuthorized, IsOwed, WasAskedFor}
 
 -- ---- a point
 

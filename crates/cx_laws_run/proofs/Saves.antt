@@ -1,7 +1,6 @@
 -- A save that fails: what was sealed and signed in its step counts for nothing, and nothing is entered.
 use Rattle.std.proofs.Common.{◌≡◌, ◌⊎◌, ℕ, List, [], ◌∷◌, filter, inl, inr}
 use Rattle.std.specs.List.{AllByRecursion}
-use Rattle.cx_base.specs.Names.{Name}
 use Rattle.cx_journal.specs.declared.entries.Entry.{Entry}
 use Rattle.cx_base.specs.declared.nodes.NodeName.{NodeName}
 use Rattle.cx_run.specs.Happenings.{stays}

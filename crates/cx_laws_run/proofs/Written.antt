@@ -1,19 +1,18 @@
 -- What a ticket says can be written, and so its blob opens under the key that sealed it.
-use Rattle.std.proofs.Common.{◌≡◌, ℕ, ◌≤◌, ◌<◌, ◌^◌, ◌/◌, ◌%◌, ◌==◌, All, Bool, true, false, cond, List, [], ◌∷◌, ◌++◌, length, map, find, Option, Some, None, refl, sym, ap, ◌∙◌, subst, arith}
-use Rattle.std.specs.Prelude.{◌&&◌, ◌||◌, nat_le, not, if◌then◌else◌}
+use Rattle.std.proofs.Common.{◌≡◌, ℕ, ◌≤◌, ◌<◌, ◌^◌, ◌/◌, ◌%◌, All, Bool, true, List, [], ◌∷◌, ◌++◌, length, Option, Some, refl, ap, ◌∙◌, arith}
+use Rattle.std.specs.Prelude.{◌&&◌, ◌||◌, nat_le}
 use Rattle.std.specs.Int.{w8, w16, w32, w64}
 use Rattle.std.specs.List.{AllByRecursion, list_all}
-use Rattle.std.specs.Option.{option_map}
 use Rattle.std.proofs.lemmas.Bool.Decides.{nat_tests}
 use Rattle.std.proofs.lemmas.List.Elements.{All-from_recursion}
 use Rattle.cx_aes.specs.Cipher.{IsBlock}
 use Rattle.cx_base.specs.Names.{Name, is_id, is_id_byte, same_kind, with_id}
 use Rattle.cx_base.specs.Texts.{is_caps, is_caps_byte}
 use Rattle.cx_base.specs.declared.kinds.EntityType.{EntityType}
-use Rattle.cx_base.specs.declared.kinds.EntityType.TheVariants.{Mon, Auth}
+use Rattle.cx_base.specs.declared.kinds.EntityType.TheVariants.{Mon}
 use Rattle.cx_enc.specs.FieldLaws.{both_true, kind_fits, reading_fits}
 use Rattle.cx_enc.specs.Forms.{little, passed, u8_form, u64_form, blob_form}
-use Rattle.cx_enc.specs.Values.{key_form, kind_form, kind_of, name_form, number_of, reading_form, secret_form, time_form}
+use Rattle.cx_enc.specs.Values.{key_form, kind_form, name_form, number_of, reading_form, secret_form, time_form}
 use Rattle.cx_enc.specs.Whole.{Spells}
 use Rattle.cx_journal.specs.declared.entries.Issued.{Issued}
 use Rattle.cx_journal.specs.declared.premises.KeyKind.TheVariants as kind

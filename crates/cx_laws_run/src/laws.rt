@@ -30,6 +30,8 @@ pub fn standing_laws()
     ensures generations { (setup : Setup) (hs : List Happening) → KeepsGenerations setup hs }
     // Where no daemon is told a view by hand, each look is at what the daemon fetched last, since it began anew.
     ensures looks { (setup : Setup) (hs : List Happening) → AllByRecursion (λ h. IsNoLook h.input) hs → LooksLast (journal_since setup hs) }
+    // So of the run of every schedule.
+    ensures schedules { (script : List Numbered) → LooksLast (run_journal script) }
 {}
 
 /// Where nothing opens under a key that didn't seal it and no draw repeats, the journal keeps its laws, with daemons that fetch and guests that come to them: each session that is
