@@ -1,2 +1,2 @@
 mod Causes
-mod Telling
+pub mod Telling
