@@ -1,3 +1,3 @@
 mod Causes
 mod Stopping
-mod Telling
+pub mod Telling

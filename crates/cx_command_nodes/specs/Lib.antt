@@ -1,4 +1,5 @@
 pub mod Clients
+pub mod Driving
 pub mod Monitors
 pub mod Named
 pub mod Orders

@@ -19,7 +19,7 @@ ghost use Rattle.cx_rules.specs.ClientRule.{client_rule, is_idle};
 
 use crate::ends::NodeReport;
 use crate::hosting::{Ready, room, runs};
-use crate::named::{Kit, named};
+use crate::kits::{Kit, named};
 use cx_base::{Addr, Duplicate, EntityName, Items};
 use cx_clock::Clock;
 use cx_command_line::{ClientCommand, peer};

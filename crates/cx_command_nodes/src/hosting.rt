@@ -23,7 +23,7 @@ const ROOM: usize = 65_536;
 
 /// A node that may run: its peers, what it is told, how many events it takes, and room for what comes on its links.
 #[derive(Drop)]
-pub(crate) struct Ready<M> {
+pub struct Ready<M> {
     pub node: M,
     pub peers: Peers,
     pub orders: Items<Order>,
@@ -32,7 +32,7 @@ pub(crate) struct Ready<M> {
 }
 
 /// It listens there, and runs if it can.
-pub(crate) fn listens<K: Keeper, L: Links, C: Clock, D: Dice, M: Machine + Drop>(
+pub fn listens<K: Keeper, L: Links, C: Clock, D: Dice, M: Machine + Drop>(
     alloc: Global,
     at: &Addr,
     ready: Ready<M>,
@@ -133,7 +133,7 @@ fn hosts<K: Keeper, L: Links, C: Clock, D: Dice, M: Machine>(
 }
 
 /// Room for what comes on links.
-pub(crate) fn room(alloc: Global) -> Result<Vec<u8>, AllocError>
+pub fn room(alloc: Global) -> Result<Vec<u8>, AllocError>
     ensures { IfOk result (λ room. 0 < vec_len room) }
 {
     vec![in alloc; 0; ROOM]

@@ -16,13 +16,13 @@ use std::alloc::Global;
 
 /// The orders of a node, and its key.
 #[derive(Drop)]
-pub(crate) struct Kit {
+pub struct Kit {
     pub orders: Items<Order>,
     pub key: Key,
 }
 
 /// What the node of this name and with these peers begins with.
-pub(crate) fn named<K: Keeper>(
+pub fn named<K: Keeper>(
     alloc: Global,
     name: &EntityName,
     peers: &[EntityName],

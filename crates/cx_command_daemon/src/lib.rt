@@ -1,0 +1,8 @@
+//! The command that runs a daemon: a daemon with the desk by which it serves, which is driven as any node, and what it begins with.
+#![tactic(auto)]
+
+mod daemons;
+mod serving;
+
+pub use daemons::run_daemon;
+pub use serving::Serving;
