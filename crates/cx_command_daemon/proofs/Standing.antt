@@ -10,7 +10,6 @@ use Rattle.cx_rules.specs.Inputs.{Input}
 use Rattle.cx_rules.specs.Rows.{forgotten}
 use Rattle.cx_rules_session.specs.DaemonRule.{DaemonNode, DaemonState, daemon_step, is_idle, undialled}
 use Rattle.cx_rules_session.specs.Forgets.{DaemonNodeStandsFor, DaemonStandsFor, abridged_state}
-use Rattle.cx_steps.specs.declared.events.Peer.{Peer}
 use Rattle.cx_steps.specs.declared.events.Peer.TheVariants as peer
 use Rattle.cx_turns.specs.Events.{link_in}
 use Rattle.cx_turns.specs.Steps.{without_lost}

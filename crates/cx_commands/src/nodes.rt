@@ -4,14 +4,18 @@ ghost use Rattle.std.specs.Prelude.{◌≡◌, ◌≤◌};
 ghost use Rattle.cx_command_nodes.specs.Clients.{ClientEnds};
 ghost use Rattle.cx_command_nodes.specs.Monitors.{IsMonitorCommand, MonitorEnds};
 ghost use Rattle.cx_command_nodes.specs.Outside.{outside};
-ghost use Rattle.cx_command_line.specs.Commands.{asked_client};
+ghost use Rattle.cx_command_daemon.specs.Daemons.{DaemonEnds};
+ghost use Rattle.cx_command_line.specs.Commands.{asked_client, asked_daemon};
+ghost use Rattle.cx_desk.specs.Held.{handlers_of};
 ghost use Rattle.cx_commands.specs.Nodes.{IsAnswered, NodeAnswers, unwritten};
 
 use crate::ends::{CommandEnd, CommandStatus};
 use cx_base::{Blob, Sink, Source};
 use cx_clock::Clock;
-use cx_command_line::{ClientCommand, MonitorCommand};
+use cx_command_daemon::run_daemon;
+use cx_command_line::{ClientCommand, DaemonCommand, MonitorCommand};
 use cx_command_nodes::{NodeReport, run_client, run_monitor};
+use cx_desk::Desk;
 use cx_dice::Dice;
 use cx_journal::put_text;
 use cx_keep::Keeper;
@@ -68,6 +72,32 @@ pub(crate) fn client<I: Source, O: Sink, K: Keeper, L: Links, C: Clock, D: Dice>
         Err(unread) => return CommandEnd::plain(alloc, CommandStatus::Text(Status::from(unread))),
     };
     let report = run_client(alloc, command, bytes.bytes(), keeper, links, clock, dice);
+    answers(alloc, report, out)
+}
+
+/// Runs a daemon, whose operations are served by `desk`.
+pub(crate) fn daemon<I: Source, O: Sink, K: Keeper, L: Links, C: Clock, D: Dice>(
+    alloc: Global,
+    command: &DaemonCommand<'_>,
+    input: &mut I,
+    out: &mut O,
+    keeper: &mut K,
+    links: &mut L,
+    clock: &mut C,
+    dice: &mut D,
+    desk: &Desk,
+) -> CommandEnd
+    ensures ends { NodeAnswers (λ bytes. DaemonEnds L.follows (handlers_of desk.now) (asked_daemon command.now) bytes
+        (outside (K.kept keeper.old) (K.faults keeper.old) links.old (L.faults links.old) (L.misses links.old) (C.coming clock.old) (D.coming dice.old) (D.faults dice.old))
+        (outside (K.kept keeper.new) (K.faults keeper.new) links.new (L.faults links.new) (L.misses links.new) (C.coming clock.new) (D.coming dice.new) (D.faults dice.new)))
+        (I.left input.old) (I.left input.new) (O.taken out.old) (O.taken out.new) (I.faults input.old) (I.faults input.new) (O.faults out.old) (O.faults out.new)
+        result.status }
+{
+    let bytes = match read_all(alloc, input) {
+        Ok(bytes) => bytes,
+        Err(unread) => return CommandEnd::plain(alloc, CommandStatus::Text(Status::from(unread))),
+    };
+    let report = run_daemon(alloc, command, desk, bytes.bytes(), keeper, links, clock, dice);
     answers(alloc, report, out)
 }
 

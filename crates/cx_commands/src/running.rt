@@ -2,7 +2,8 @@
 
 ghost use Rattle.std.specs.Prelude.{◌≡◌, [], ◌∷◌, map, None, Some};
 ghost use Rattle.cx_command_line.specs.Commands as asked;
-ghost use Rattle.cx_command_line.specs.Commands.{AskedClient, spelled};
+ghost use Rattle.cx_command_daemon.specs.Daemons.{DaemonEnds};
+ghost use Rattle.cx_command_line.specs.Commands.{AskedClient, AskedDaemon, spelled};
 ghost use Rattle.cx_command_line.specs.declared.commands.MonitorCommand.{MonitorCommand};
 ghost use Rattle.cx_command_nodes.specs.Clients.{ClientEnds};
 ghost use Rattle.cx_command_nodes.specs.Monitors.{MonitorEnds};
@@ -17,7 +18,7 @@ ghost use Rattle.cx_commands.specs.declared.ends.CommandStatus.TheVariants.{Text
 
 use crate::ends::{CommandEnd, CommandStatus};
 use crate::misread::misread;
-use crate::nodes::{client, monitor};
+use crate::nodes::{client, daemon, monitor};
 use crate::texts::text;
 use cx_base::{Sink, Source};
 use cx_clock::Clock;
@@ -28,9 +29,9 @@ use cx_keep::Keeper;
 use cx_links::Links;
 use std::alloc::Global;
 
-/// Does what these words of the command line ask for. `replay` and `keyring` read a text from `input` and write another to `out`; `mon` and `client`
-/// read a script from `input`, run a node over `keeper`, `links`, `clock` and `dice`, and write what it entered to `out`. The operations of a schedule
-/// are served by `desk`.
+/// Does what these words of the command line ask for. `replay` and `keyring` read a text from `input` and write another to `out`; `mon`, `daemon` and
+/// `client` read a script from `input`, run a node over `keeper`, `links`, `clock` and `dice`, and write what it entered to `out`. The operations of a
+/// schedule, and those that come to a daemon, are served by `desk`.
 pub fn run<I: Source, O: Sink, K: Keeper, L: Links, C: Clock, D: Dice>(
     alloc: Global,
     words: &[&str],
@@ -53,6 +54,13 @@ pub fn run<I: Source, O: Sink, K: Keeper, L: Links, C: Clock, D: Dice>(
     // `mon`.
     ensures mon { (command : MonitorCommand) → spelled (map (λ w. w.now) words.now) ≡ Some (asked.Monitor command)
         → NodeAnswers (λ bytes. MonitorEnds L.follows command bytes
+        (outside (K.kept keeper.old) (K.faults keeper.old) links.old (L.faults links.old) (L.misses links.old) (C.coming clock.old) (D.coming dice.old) (D.faults dice.old))
+        (outside (K.kept keeper.new) (K.faults keeper.new) links.new (L.faults links.new) (L.misses links.new) (C.coming clock.new) (D.coming dice.new) (D.faults dice.new)))
+        (I.left input.old) (I.left input.new) (O.taken out.old) (O.taken out.new) (I.faults input.old) (I.faults input.new) (O.faults out.old) (O.faults out.new)
+        result.status }
+    // `daemon`.
+    ensures daemon { (command : AskedDaemon) → spelled (map (λ w. w.now) words.now) ≡ Some (asked.Daemon command)
+        → NodeAnswers (λ bytes. DaemonEnds L.follows (handlers_of desk.now) command bytes
         (outside (K.kept keeper.old) (K.faults keeper.old) links.old (L.faults links.old) (L.misses links.old) (C.coming clock.old) (D.coming dice.old) (D.faults dice.old))
         (outside (K.kept keeper.new) (K.faults keeper.new) links.new (L.faults links.new) (L.misses links.new) (C.coming clock.new) (D.coming dice.new) (D.faults dice.new)))
         (I.left input.old) (I.left input.new) (O.taken out.old) (O.taken out.new) (I.faults input.old) (I.faults input.new) (O.faults out.old) (O.faults out.new)
@@ -96,6 +104,12 @@ fn invoked<I: Source, O: Sink, K: Keeper, L: Links, C: Clock, D: Dice>(
         (outside (K.kept keeper.new) (K.faults keeper.new) links.new (L.faults links.new) (L.misses links.new) (C.coming clock.new) (D.coming dice.new) (D.faults dice.new)))
         (I.left input.old) (I.left input.new) (O.taken out.old) (O.taken out.new) (I.faults input.old) (I.faults input.new) (O.faults out.old) (O.faults out.new)
         result.status }
+    ensures daemon { (command : AskedDaemon) → asked.asked invocation.entry ≡ asked.Daemon command
+        → NodeAnswers (λ bytes. DaemonEnds L.follows (handlers_of desk.now) command bytes
+        (outside (K.kept keeper.old) (K.faults keeper.old) links.old (L.faults links.old) (L.misses links.old) (C.coming clock.old) (D.coming dice.old) (D.faults dice.old))
+        (outside (K.kept keeper.new) (K.faults keeper.new) links.new (L.faults links.new) (L.misses links.new) (C.coming clock.new) (D.coming dice.new) (D.faults dice.new)))
+        (I.left input.old) (I.left input.new) (O.taken out.old) (O.taken out.new) (I.faults input.old) (I.faults input.new) (O.faults out.old) (O.faults out.new)
+        result.status }
     ensures client { (command : AskedClient) → asked.asked invocation.entry ≡ asked.Client command
         → NodeAnswers (λ bytes. ClientEnds L.follows command bytes
         (outside (K.kept keeper.old) (K.faults keeper.old) links.old (L.faults links.old) (L.misses links.old) (C.coming clock.old) (D.coming dice.old) (D.faults dice.old))
@@ -110,7 +124,9 @@ fn invoked<I: Source, O: Sink, K: Keeper, L: Links, C: Clock, D: Dice>(
         Invocation::Monitor(command) => monitor(
             alloc, &command, input, out, keeper, links, clock, dice,
         ),
-        Invocation::Daemon(_) => CommandEnd::plain(alloc, CommandStatus::Unserved),
+        Invocation::Daemon(command) => daemon(
+            alloc, &command, input, out, keeper, links, clock, dice, desk,
+        ),
         Invocation::Client(command) => client(
             alloc, &command, input, out, keeper, links, clock, dice,
         ),

@@ -18,3 +18,8 @@ pub returns-in-Err-clause-client : goal.returns-in-Err-clause-client
 returns-in-Err-clause-client g c = λ command is.
     misread_node (map (λ w. w.now) c.args.words.now) _ _ _ _ _ _ _ _ _ (asked.Client command) c.in-Err.why c.misread.result.status is
     c.in-Err.ensures.err c.misread.ensures.status
+
+pub returns-in-Err-clause-daemon : goal.returns-in-Err-clause-daemon
+returns-in-Err-clause-daemon g c = λ command is.
+    misread_node (map (λ w. w.now) c.args.words.now) _ _ _ _ _ _ _ _ _ (asked.Daemon command) c.in-Err.why c.misread.result.status is
+    c.in-Err.ensures.err c.misread.ensures.status
