@@ -8,8 +8,9 @@ use Rattle.cx_journal.specs.Backed.{IsBacked}
 use Rattle.cx_journal.specs.Enforced.{IsEnforced}
 use Rattle.cx_journal.specs.InSession.{IsInSession}
 use Rattle.cx_journal.specs.KeepsKeys.{KeepsKeys}
-use Rattle.cx_laws_run.specs.Laws.{KeepsLaws}
+use Rattle.cx_laws_run.specs.Laws.{KeepsExpiry, KeepsLaws, LooksLast}
 use Rattle.cx_laws_run.specs.Logins.{LogIn, Stands}
+use Rattle.cx_laws_run.specs.Origins.{GoBack}
 use Rattle.cx_lines.specs.declared.lines.Numbered.{Numbered}
 use Rattle.cx_plain.specs.Plain.{journal_of, serves}
 use Rattle.cx_plain.specs.PlainLines.{first_untaken, plain_lines}
@@ -41,14 +42,16 @@ pub record IsPlainReplay (handlers : Handlers) (script : List Numbered) (journal
   pub enforced : IsEnforced (serves handlers) journal
 
 -- the journal is that of the run through bytes, and this is found of its premises: that it is sound and fresh, or its first breach. Either way each
--- ticket was asked for. Where it is sound and fresh, the laws over every run hold: those of its journal, and that each ticket of an entity that isn't
--- leaked was asked for by its own node
+-- ticket was asked for, and each look is at what the daemon fetched last. Where it is sound and fresh, the laws over every run hold: those of its journal,
+-- that each ticket of an entity that isn't leaked was asked for by its own node, and that each session goes back to its ticket's issue
 pub record IsByteReplay (handlers : Handlers) (script : List Numbered) (journal : List Entry) (found : Option Broken) : Type 0 where
   pub run : journal ≡ run_journal script
   pub found_so : IsFoundOf script found
   pub stands : Stands (setup_of script) (trace script)
-  pub lawful : found ≡ None → KeepsLaws (serves handlers) journal
+  pub looks : LooksLast journal
+  pub lawful : found ≡ None → KeepsLaws (serves handlers) journal × KeepsExpiry journal
   pub logged_in : found ≡ None → LogIn (setup_of script) (points (setup_of script) (trace script))
+  pub goes_back : found ≡ None → GoBack (setup_of script) (points (setup_of script) (trace script))
 
 -- by whether the schedule has a connect or send line; the plain run breaks no premise
 abbrev pub IsReplayBy : Bool → Handlers → List Numbered → List Entry → Option Broken → Type 0

@@ -14,7 +14,7 @@ ghost use Rattle.cx_world.specs.Idle.{idle_lines};
 use crate::lines::{first_unserved, has_session_line};
 use crate::refusals::ReplayRefusal;
 use cx_desk::Desk;
-use cx_laws_run::{journal_laws, login_laws, standing_laws};
+use cx_laws_run::{journal_laws, login_laws, origin_laws, standing_laws};
 use cx_schedule::Script;
 use cx_world::Report;
 use std::alloc::Global;
@@ -49,6 +49,7 @@ fn through_bytes(alloc: Global, script: &Script, desk: &Desk) -> Result<Report, 
     standing_laws();
     journal_laws();
     login_laws();
+    origin_laws();
     let report = cx_world::run(alloc, script)?;
     Ok(report)
 }
