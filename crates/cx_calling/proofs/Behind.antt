@@ -1,18 +1,12 @@
 -- What a row says of a secured link hangs on the bytes that are left on it alone, and not on those that were taken, and on its keys alone once
 -- the daemon's signature was found right.
-use Rattle.std.proofs.Common.{◌≡◌, ◌∙◌, ℕ, ◌+◌, ◌-◌, ◌^◌, ◌==◌, Bool, true, false, List, [], ◌∷◌, ◌++◌, Option, Some, None, Result, Ok, Err, refl, sym, ap}
+use Rattle.std.proofs.Common.{◌≡◌, ℕ, ◌+◌, ◌-◌, ◌^◌, ◌==◌, Bool, true, false, List, [], ◌∷◌, ◌++◌, Option, Some, None, Result, Ok, Err, refl, ap}
 use Rattle.std.specs.Prelude.{if◌then◌else◌}
 use Rattle.cx_control.specs.Idents.{ident_missing_features_layout, server_ident_layout}
 use Rattle.cx_control.specs.Reconnects.{session_reconnect_ok_layout, session_reset_layout, session_retry_layout, session_retry_global_layout}
-use Rattle.cx_control.specs.Upkeep.{ack_layout}
 use Rattle.cx_control.specs.declared.auth.AuthSignature.{AuthSignature}
 use Rattle.cx_control.specs.declared.idents.IdentMissingFeatures.{IdentMissingFeatures}
 use Rattle.cx_control.specs.declared.idents.ServerIdent.{ServerIdent}
-use Rattle.cx_control.specs.declared.reconnects.SessionReconnectOk.{SessionReconnectOk}
-use Rattle.cx_control.specs.declared.reconnects.SessionReset.{SessionReset}
-use Rattle.cx_control.specs.declared.reconnects.SessionRetry.{SessionRetry}
-use Rattle.cx_control.specs.declared.reconnects.SessionRetryGlobal.{SessionRetryGlobal}
-use Rattle.cx_control.specs.declared.upkeep.Ack.{Ack}
 use Rattle.cx_dice.specs.Draws.{cookie_of}
 use Rattle.cx_frame.specs.declared.frame.Frame.{Frame}
 use Rattle.cx_journal.specs.declared.entries.Entry.{Entry}
@@ -21,24 +15,21 @@ use Rattle.cx_journal.specs.declared.faults.BytesFault.TheVariants.{Unexpected}
 use Rattle.cx_journal.specs.declared.faults.LoginFault.TheVariants.{SignatureWrong}
 use Rattle.cx_journal.specs.declared.outcomes.Reason.TheVariants as reason
 use Rattle.cx_rules.specs.Connector.{client_ident}
-use Rattle.cx_rules.specs.Messages.{message_in, secure_frames}
+use Rattle.cx_rules.specs.Messages.{secure_frames}
 use Rattle.cx_rules.specs.Payloads.{due, payload}
-use Rattle.cx_rules.specs.Rows.{goes_on, refused_entry, refuses, refuses_bytes, secure_sent, unless_refused}
-use Rattle.cx_rules.specs.Secured.{Keys, SealedFrame, Secured, is_signed, secure_frame, signature_found}
+use Rattle.cx_rules.specs.Rows.{refused_entry, refuses, refuses_bytes, secure_sent, unless_refused}
+use Rattle.cx_rules.specs.Secured.{SealedFrame, Secured, is_signed, secure_frame, signature_found}
 use Rattle.cx_rules_session.specs.Forgets.{abridged_call_link}
 use Rattle.cx_rules_session.specs.Kinds.{entered_before}
 use Rattle.cx_rules_session.specs.Lossy.{lossy_flags}
-use Rattle.cx_rules_session.specs.Presenter as call
-use Rattle.cx_rules_session.specs.Presenter.{CallArrival, CallRow, CallStage, Caller, OperationEnd, acknowledges, answered_entry, counting, end_in, goes_on_in, holding_session, identifies, on_ack, on_answer, on_answer_or_ack, on_missing_features, on_reconnect_ok, on_reset, on_retry, on_retry_global, on_server_ident, on_signature, on_signed, reconnects, resets, retries, retries_global, taken_up, takes_up, while_identified, while_reconnecting}
+use Rattle.cx_rules_session.specs.Presenter.{CallArrival, CallRow, CallStage, Caller, counting, holding_session, identifies, on_missing_features, on_reconnect_ok, on_reset, on_retry, on_retry_global, on_server_ident, on_signature, on_signed, reconnects, resets, retries, retries_global, taken_up, takes_up, while_identified, while_reconnecting}
 use Rattle.cx_rules_session.specs.Sessions.{Callee, HeldSession, acknowledged_up_to, held_gid, session_reconnect, waiting_messages}
 use Rattle.cx_steps.specs.declared.seals.DrawMark.TheVariants as draw
 use Rattle.cx_steps.specs.declared.seals.SealEntry.{SealEntry}
 use Rattle.cx_steps.specs.declared.seals.SealEntry.TheVariants.{Drawn}
-use Rattle.cx_turns.proofs.Handling.{Coming, Same, left, taken}
-use Rattle.cx_turns.proofs.Keeping.{keepalive-row, other-row}
+use Rattle.cx_turns.proofs.Handling.{Coming, Same}
 use Rattle.cx_turns.specs.Making.{row_due}
 use Rattle.cx_turns.specs.Stages.{keys_alone}
-use Rattle.cx_turns.specs.Upkeep.{is_keepalive, upkept}
 use Rattle.cx_calling.specs.Sent.{signed_on, stage_ahead}
 use Rattle.cx_calling.specs.declared.frames.Ahead.{Ahead}
 use Rattle.cx_calling.specs.declared.frames.Ahead.TheVariants.{Ident, Reconnect, Open}

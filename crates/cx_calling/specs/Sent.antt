@@ -6,7 +6,6 @@ use Rattle.cx_link.specs.Wires.{SecureWire, secured_link}
 use Rattle.cx_link.specs.declared.links.SentFrame.{SentFrame}
 use Rattle.cx_node.specs.Made.{going_on, refusing_bytes}
 use Rattle.cx_node.specs.declared.rows.Row.{Row as Made}
-use Rattle.cx_rules.specs.Holdings.{Asker}
 use Rattle.cx_rules.specs.Secured.{Keys, Secured}
 use Rattle.cx_rules_session.specs.Forgets.{abridged_call_link}
 use Rattle.cx_rules_session.specs.Presenter as call

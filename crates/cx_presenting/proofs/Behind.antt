@@ -1,5 +1,5 @@
 -- Rows behind what was drawn or what opened, and those by what a daemon answered.
-use Rattle.std.proofs.Common.{◌≡◌, ◌≢◌, ◌∙◌, ℕ, ◌==◌, Bool, true, false, List, [], ◌∷◌, ◌++◌, Option, Some, None, Result, Ok, Err, refl, sym, ap, append-nil, arith}
+use Rattle.std.proofs.Common.{◌≡◌, ◌≢◌, ◌∙◌, ℕ, ◌==◌, Bool, true, false, List, [], ◌∷◌, ◌++◌, Some, Result, Ok, Err, refl, sym, ap, append-nil, arith}
 use Rattle.std.proofs.lemmas.Bool.{ne_eqb}
 use Rattle.std.proofs.lemmas.Bool.Decides.{nat_tests}
 use Rattle.std.specs.Prelude.{take, if◌then◌else◌}
@@ -8,10 +8,7 @@ use Rattle.cx_authorize.specs.Verdict.{raised}
 use Rattle.cx_authorize.specs.declared.client.Agreed.{Agreed}
 use Rattle.cx_authorize.specs.declared.refusals.PresentRefusal.{PresentRefusal}
 use Rattle.cx_authorize.specs.declared.refusals.PresentRefusal.TheVariants as refusal
-use Rattle.cx_control.specs.Auth.{auth_done_layout, auth_reply_more_layout}
 use Rattle.cx_control.specs.BadMethod.{bad_method_layout, kept_method}
-use Rattle.cx_control.specs.declared.auth.AuthDone.{AuthDone}
-use Rattle.cx_control.specs.declared.auth.AuthReplyMore.{AuthReplyMore}
 use Rattle.cx_control.specs.declared.bad_method.AuthBadMethod.{AuthBadMethod}
 use Rattle.cx_enc.specs.Forms.{IsBytes}
 use Rattle.cx_frame.specs.declared.frame.Frame.{Frame}
@@ -28,9 +25,8 @@ use Rattle.cx_rules.specs.Rows.{goes_on, refuses, refuses_bytes, unless_refused,
 use Rattle.cx_rules.specs.Secured.{SealedFrame, connector_keys, plain_frame, signed_frame}
 use Rattle.cx_rules_session.specs.Envelopes.{authorize_content, sends_holding, session_sealed}
 use Rattle.cx_rules_session.specs.Forgets.{abridged_call_link}
-use Rattle.cx_rules_session.specs.Presenter.{AwaitsDone, AwaitsSignature, CallArrival, CallRow, CallStage, agrees, answers_challenge, on_authorize_reply, on_bad_method, on_challenge, on_done, on_reply_more, on_unlocked, second_frame, signs, while_answered, while_challenged}
+use Rattle.cx_rules_session.specs.Presenter.{AwaitsDone, AwaitsSignature, CallArrival, CallRow, CallStage, agrees, answers_challenge, on_authorize_reply, on_bad_method, on_challenge, on_unlocked, second_frame, signs}
 use Rattle.cx_rules_session.specs.Sessions.{Callee}
-use Rattle.cx_sealed.specs.declared.authorize_reply.AuthorizeReply.{AuthorizeReply}
 use Rattle.cx_steps.specs.declared.seals.SealEntry.{SealEntry}
 use Rattle.cx_turns.proofs.MadeRows.{behind_as, unless_behind}
 use Rattle.cx_turns.specs.Making as making

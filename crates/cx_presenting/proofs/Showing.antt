@@ -1,5 +1,5 @@
 -- The bytes of authorizers, and frames that are too long for a plain one.
-use Rattle.std.proofs.Common.{◌≡◌, ◌∙◌, ◌<◌, ◌+◌, ℕ, true, List, [], ◌∷◌, ◌++◌, Option, Some, None, Result, Ok, Err, IfOk, refl, ap, sym, length, arith, length-append}
+use Rattle.std.proofs.Common.{◌≡◌, ◌∙◌, ◌<◌, ◌+◌, ℕ, true, List, ◌++◌, Option, Some, None, Result, Ok, Err, IfOk, refl, ap, length, arith, length-append}
 use Rattle.std.proofs.lemmas.Bool.{lt-ltb}
 use Rattle.std.specs.Int.{w32}
 use Rattle.std.specs.Prelude.{nat_lt}
@@ -14,7 +14,7 @@ use Rattle.cx_login.specs.Held.{Held}
 use Rattle.cx_rules.specs.Holdings.{Asker}
 use Rattle.cx_rules.specs.Payloads.{control}
 use Rattle.cx_rules.specs.Secured.{plain_frame}
-use Rattle.cx_rules_session.specs.Presenter.{authorizer_bytes, presented, presented_by}
+use Rattle.cx_rules_session.specs.Presenter.{authorizer_bytes, presented}
 use Rattle.cx_rules_session.specs.Sessions.{Called, held_gid, ticket_for}
 use Rattle.cx_wire.specs.Logins.{authorizer_layout}
 use Rattle.cx_presenting.specs.Rows.{IsShown}

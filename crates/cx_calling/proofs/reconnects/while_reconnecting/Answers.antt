@@ -1,4 +1,4 @@
-use Rattle.std.proofs.Common.{ap, refl, sym, []}
+use Rattle.std.proofs.Common.{ap, sym, []}
 use Rattle.std.specs.Option.{option_copied}
 use Rattle.cx_control.specs.Reconnects.{session_reconnect_ok_layout, session_reset_layout, session_retry_layout, session_retry_global_layout}
 use Rattle.cx_journal.specs.declared.faults.BytesFault.TheVariants.{Unexpected}

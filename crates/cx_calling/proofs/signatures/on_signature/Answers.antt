@@ -1,4 +1,4 @@
-use Rattle.std.proofs.Common.{◌≡◌, ap, ◌∙◌}
+use Rattle.std.proofs.Common.{ap, ◌∙◌}
 use Rattle.std.specs.Option.{option_copied}
 use Rattle.cx_link.specs.Sending.{secured_of}
 use Rattle.cx_rules.specs.Secured.{Secured, signature_found}

@@ -1,5 +1,5 @@
 -- The ticket is shown behind the entry that the nonce was drawn.
-use Rattle.std.proofs.Common.{◌≡◌, Option, None, List, ℕ, [], ◌∷◌, rules, sym}
+use Rattle.std.proofs.Common.{◌≡◌, Option, None, List, [], ◌∷◌, rules}
 use Rattle.cx_dice.specs.Draws.{challenge_of}
 use Rattle.cx_link.specs.Wires.{wired}
 use Rattle.cx_rules.specs.Secured.{plain_frame}
