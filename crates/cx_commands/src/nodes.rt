@@ -97,7 +97,16 @@ pub(crate) fn daemon<I: Source, O: Sink, K: Keeper, L: Links, C: Clock, D: Dice>
         Ok(bytes) => bytes,
         Err(unread) => return CommandEnd::plain(alloc, CommandStatus::Text(Status::from(unread))),
     };
-    let report = run_daemon(alloc, command, desk, bytes.bytes(), keeper, links, clock, dice);
+    let report = run_daemon(
+        alloc,
+        command,
+        desk,
+        bytes.bytes(),
+        keeper,
+        links,
+        clock,
+        dice,
+    );
     answers(alloc, report, out)
 }
 
