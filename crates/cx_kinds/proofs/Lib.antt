@@ -1,0 +1,3 @@
+pub mod OfKinds
+pub mod Scanning
+pub mod Shutting
