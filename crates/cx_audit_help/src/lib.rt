@@ -1,9 +1,0 @@
-//! What a user reads of a journal: of its first line that is none, and of a rule that it breaks.
-#![tactic(auto)]
-
-mod places;
-mod rules;
-mod wrong;
-
-pub use rules::rule_sentence;
-pub use wrong::WrongInJournal;

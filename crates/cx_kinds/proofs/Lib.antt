@@ -1,3 +1,0 @@
-pub mod OfKinds
-pub mod Scanning
-pub mod Shutting
