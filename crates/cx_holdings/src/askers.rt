@@ -134,6 +134,20 @@ impl Asker {
         self.modes.numbers(alloc)
     }
 
+    /// Its count of connections to daemons.
+    pub fn global_seq(&self) -> u64
+        ensures { result ≡ self.now.global_seq }
+    {
+        self.global_seq
+    }
+
+    /// From now on this is its count of connections to daemons.
+    pub fn put_global_seq(&mut self, count: u64)
+        ensures { self.new ≡ record self.old { global_seq = count } }
+    {
+        self.global_seq = count;
+    }
+
     /// The global id and the tickets that it holds.
     pub fn holdings(&self) -> &Holdings
         ensures { result.now ≡ self.now.holdings }
