@@ -1,9 +1,10 @@
 -- What a daemon draws and seals on a guest's link until it has signed is as the uses of its keys allow.
-use Rattle.std.proofs.Common.{◌≡◌, ◌==◌, ℕ, Bool, true, false, List, [], ◌∷◌, ◌++◌, length, take, Option, Some, None, Result, Ok, Err, inl, inr, refl, sym, subst}
+use Rattle.std.proofs.Common.{◌≡◌, ◌==◌, ℕ, ◌<◌, ◌^◌, Bool, true, false, List, [], ◌∷◌, ◌++◌, length, take, Option, Some, None, Result, Ok, Err, inl, inr, refl, sym, ap, subst, arith}
 use Rattle.std.specs.Prelude.{not, if◌then◌else◌}
 use Rattle.std.specs.List.{AllByRecursion, list_any}
 use Rattle.cx_authorize.specs.Daemon.{Authority, Awaited}
 use Rattle.cx_authorize.specs.Judging.{judged_first, judged_second}
+use Rattle.cx_authorize.specs.Verdict.{raised}
 use Rattle.cx_authorize.specs.declared.refusals.AuthRefusal.{AuthRefusal}
 use Rattle.cx_authorize.specs.declared.refusals.AuthRefusal.TheVariants as refusal
 use Rattle.cx_base.specs.Names.{Name, is_daemon_type}
@@ -37,14 +38,15 @@ use Rattle.cx_steps.specs.declared.seals.SealEntry.TheVariants as seal
 use Rattle.cx_laws_authorize.proofs.Backing.{opened-issued}
 use Rattle.cx_laws_authorize.proofs.Opened.{IsOpening, ShowsTicket, first-all, first-opened, second-all, second-opened}
 use Rattle.cx_laws_keys.proofs.Journal.{IsNotIssued}
-use Rattle.cx_laws_keys.proofs.Known.{Inv, IsAllowed, IsOfAcceptor, IsOfConnector}
+use Rattle.cx_laws_keys.proofs.Known.{Inv, IsAllowed, IsOfAcceptor, IsOfConnector, RepliesTo}
 use Rattle.cx_laws_keys.proofs.Lists.{all-append, all-map}
 use Rattle.cx_laws_keys.proofs.Premises.{AreGranted, behind, behind-append, granted-first, granted-rest}
+use Rattle.cx_laws_keys.proofs.Reading.{challenge_no_reply, read_reply}
 use Rattle.cx_laws_keys.proofs.Steps.{inv-all, inv-drawn}
 use Rattle.cx_laws_keys.proofs.Uses.{AtDaemon, Connected, Grows, IsConnected, Means, Ticketed, Use, Uses, connected-grows, grows-one, session_use, stays, with_key, WholeRun}
 use Rattle.cx_laws_login.proofs.Facts.{IsSameWay, MaySeal}
 use Rattle.cx_laws_keys.proofs.Uses.{AreGenerated}
-use Rattle.cx_laws_login.proofs.Issuing.{acceptor-sends, connector-sends}
+use Rattle.cx_laws_login.proofs.Issuing.{acceptor-sends, connector-sends, short-connection}
 use Rattle.cx_laws_login.proofs.Rows.{Allowed, FrameOk, frame-ok}
 
 -- ---- keys of a guest's link
@@ -88,6 +90,9 @@ ticketed name Mon e = absurd cc
 ticketed name Client e = absurd cc
 ticketed name Auth e = absurd cc
 
+raised-below : (nonce : ℕ) → raised nonce < 2 ^ 64
+raised-below nonce = omega arith
+
 -- ---- rows that draw no key
 
 module _ (us : Uses) (J : List Entry) (n : NodeName) where
@@ -109,9 +114,9 @@ module _ (us : Uses) (J : List Entry) (n : NodeName) where
 
   -- what is sealed under a session key of a daemon's ticket
   pub session-allowed : (name : Name) (service : EntityType) (session content : List ℕ) → is_daemon_type service ≡ true → Means us session (session_use name service)
-      → IsAllowed us J n (session_sealed session content)
-  session-allowed name service session content of means =
-      (Ticketed name service, subst (λ (u : Use). Means us session u) (ticketed name service of) means, tt, tt)
+      → RepliesTo us name content → IsAllowed us J n (session_sealed session content)
+  session-allowed name service session content of means says =
+      (Ticketed name service, subst (λ (u : Use). Means us session u) (ticketed name service of) means, says, tt)
 
   module _ (b : GuestArrival) where
     pub keys-plain : (stage : GuestStage) (seals : List SealEntry) (r : Result (List ℕ) BytesFault) → StageKeys us stage → Allowed us J n seals → KeysRow (plain_sent b stage seals r)
@@ -187,8 +192,11 @@ module _ (run : WholeRun) (whole : List Logged) (n : NodeName) (line : ℕ) (us 
           (session_sealed ticket.session (authorize_challenge_content (challenge_of b.draw)) ∷ []) g in
           let means = opened-means ticket opened (granted-first run.leaked whole n line log opened (seal.Drawn (draw.Challenge (challenge_of b.draw)) ∷ []) first) shown in
           record {
-            seals = all-append (IsAllowed us J n) (opened ++ seal.Drawn (draw.Challenge (challenge_of b.draw)) ∷ []) _ drawn-allowed
-                (session-allowed us J n ticket.name b.own.name.kind ticket.session (authorize_challenge_content (challenge_of b.draw)) of means, tt);
+            seals = all-append (IsAllowed us J n) (opened ++ seal.Drawn (draw.Challenge (challenge_of b.draw)) ∷ []) _ drawn-allowed (
+              session-allowed us J n ticket.name b.own.name.kind ticket.session (authorize_challenge_content (challenge_of b.draw)) of means
+                  (λ x e. absurd (challenge_no_reply (record { challenge = challenge_of b.draw }) x e)),
+              tt,
+            );
             entries = tt;
             link = tt;
           }
@@ -285,6 +293,17 @@ module _ (run : WholeRun) (whole : List Logged) (n : NodeName) (line : ℕ) (us 
       into = connector-sends b.draw drawn;
     }
 
+    -- the secret of the reply is that of this link
+    reply-says : RepliesTo vs ticket.name (authorize_reply_content nonce secret)
+    reply-says = λ x e.
+        let same : x.secret ≡ secret = read_reply (record { nonce_plus_one = raised nonce; secret = secret }) x (raised-below nonce) (short-connection b.draw) e in
+        record {
+          acceptor = n;
+          number = b.link.number;
+          tie = AtDaemon b.own.name.kind nonce;
+          means = inl (ap (λ (s : List ℕ). take 16 s) (sym same), refl);
+        }
+
     done-keys : (r : Result Finished BytesFault) → (Means vs ticket.session (Ticketed ticket.name b.own.name.kind) → FinishedKeys vs (acceptor_keys secret) r)
         → Granted (done_sent b before held (authority_of b ticket) r).seals → KeptKeys (done_sent b before held (authority_of b ticket) r)
     done-keys (Err why) fin g = record { uses = vs; grows = grows-one us (take 16 secret) purpose; inv = drawn-inv g; entries = (tt, tt); link = tt }
@@ -292,7 +311,7 @@ module _ (run : WholeRun) (whole : List Logged) (n : NodeName) (line : ℕ) (us 
         let first = granted-first run.leaked whole n line log before (held ++ done.seals) g in
         let means = session-means first in
         let f = fin means in
-        let allowed : Allowed vs J n (held ++ done.seals) = all-append (IsAllowed vs J n) held done.seals ((Ticketed ticket.name b.own.name.kind, means, tt, tt), tt) f.0 in
+        let allowed : Allowed vs J n (held ++ done.seals) = all-append (IsAllowed vs J n) held done.seals ((Ticketed ticket.name b.own.name.kind, means, reply-says, tt), tt) f.0 in
         record {
           uses = vs;
           grows = grows-one us (take 16 secret) purpose;

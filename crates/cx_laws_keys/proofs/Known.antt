@@ -10,8 +10,9 @@ use Rattle.cx_journal.specs.declared.entries.Entry.TheVariants as journal
 use Rattle.cx_journal.specs.declared.entries.Issued.{Issued}
 use Rattle.cx_base.specs.declared.nodes.NodeName.{NodeName}
 use Rattle.cx_base.specs.declared.nodes.NodeName.TheVariants as node
-use Rattle.cx_sealed.specs.Records.{connection_secret_layout, rotating_reply_layout, service_ticket_layout, ticket_info_layout}
+use Rattle.cx_sealed.specs.Records.{authorize_reply_layout, connection_secret_layout, rotating_reply_layout, service_ticket_layout, ticket_info_layout}
 use Rattle.cx_sealed.specs.Unsealing.{spelled_by}
+use Rattle.cx_sealed.specs.declared.authorize_reply.AuthorizeReply.{AuthorizeReply}
 use Rattle.cx_sealed.specs.declared.connection_secret.ConnectionSecret.{ConnectionSecret}
 use Rattle.cx_sealed.specs.declared.rotating_reply.RotatingReply.{RotatingReply}
 use Rattle.cx_sealed.specs.declared.service_ticket.ServiceTicket.{ServiceTicket}
@@ -48,9 +49,13 @@ pub record AreToldOf (us : Uses) (name : Name) (x : RotatingReply) : Type 0 wher
   pub generated : AreGenerated us x.service x.generations
   pub saved : AllByRecursion (IsSavedIn us.saved x.service) x.generations
 
+-- what a reply to an authorizer says, where this content is one: its secret is that of a link to this entity
+abbrev pub RepliesTo : Uses → Name → List ℕ → Type 0
+RepliesTo us name content = (x : AuthorizeReply) → spelled_by authorize_reply_layout.form content ≡ Some x → IsConnected us (take 16 x.secret) name
+
 -- what may be sealed under a key of this use, by what is read of it: an entity is told the session key of its own ticket for AUTH, and the
--- generations of its own type; under that session key those of its other tickets, and the secret of its link to the monitor; under a generation
--- stand issued tickets of its service
+-- generations of its own type; under that session key those of its other tickets, and the secret of its link to the monitor; under the session key of
+-- any ticket of it the secret of its link to a daemon; under a generation stand issued tickets of its service
 abbrev pub Says : Uses → List Entry → List ℕ → Use → List ℕ → Type 0
 Says us entries key (Secret name) content =
     ((x : TicketInfo) → spelled_by ticket_info_layout.form content ≡ Some x → Means us x.session (Login name))
@@ -60,7 +65,8 @@ Says us entries key (Generated service id) content =
 Says us entries key (Login name) content =
     ((x : TicketInfo) → spelled_by ticket_info_layout.form content ≡ Some x → Means us x.session (Ticketed name x.service))
     × ((x : ConnectionSecret) → spelled_by connection_secret_layout.form content ≡ Some x → IsConnected us (take 16 x.secret) name)
-Says us entries key (Ticketed name service) content = Unit {0}
+    × RepliesTo us name content
+Says us entries key (Ticketed name service) content = RepliesTo us name content
 Says us entries key (Connected acceptor number name tie) content = Unit {0}
 
 -- under an entity's secret only its own node signs
@@ -131,6 +137,9 @@ told-grows us vs name x g k h = record {
   saved = all-map (IsSavedIn us.saved x.service) (IsSavedIn vs.saved x.service) (λ of was. k x.service of was) x.generations h.saved;
 }
 
+replies-grow : (us vs : Uses) (name : Name) (content : List ℕ) → Grows us vs → RepliesTo us name content → RepliesTo vs name content
+replies-grow us vs name content g s = λ x is. connected-grows us vs (take 16 x.secret) name g (s x is)
+
 says-grows : (us vs : Uses) (J K : List Entry) → Grows us vs → KeepsSaved us vs → Within J K → (key : List ℕ) (u : Use) (content : List ℕ) → Says us J key u content → Says vs K key u content
 says-grows us vs J K g k w key (Secret name) content s = (
   λ x is. g.means x.session (Login name) (s.0 x is),
@@ -153,8 +162,8 @@ says-grows us vs J K g k w key (Generated service id) content s = λ x is.
       g.means x.session (session_use x.name service) (s x is).1,
     )
 says-grows us vs J K g k w key (Login name) content s =
-    (λ x is. g.means x.session (Ticketed name x.service) (s.0 x is), λ x is. connected-grows us vs (take 16 x.secret) name g (s.1 x is))
-says-grows us vs J K g k w key (Ticketed name service) content s = tt
+    (λ x is. g.means x.session (Ticketed name x.service) (s.0 x is), λ x is. connected-grows us vs (take 16 x.secret) name g (s.1 x is), replies-grow us vs name content g s.2)
+says-grows us vs J K g k w key (Ticketed name service) content s = replies-grow us vs name content g s
 says-grows us vs J K g k w key (Connected acceptor number name tie) content s = tt
 
 pub allowed-grows : (us vs : Uses) (J K : List Entry) → Grows us vs → KeepsSaved us vs → Within J K → (at : NodeName) (e : SealEntry) → IsAllowed us J at e → IsAllowed vs K at e

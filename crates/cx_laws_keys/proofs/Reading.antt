@@ -9,11 +9,14 @@ use Rattle.cx_enc.specs.FieldLaws.{reading_fits, kind_fits}
 use Rattle.cx_enc.specs.FormLaws.{u8-lawful, u64-lawful, blob-lawful}
 use Rattle.cx_enc.specs.FieldLaws.{secret-lawful, name-lawful, kind-lawful, reading-lawful, fixed-lawful}
 use Rattle.cx_enc.specs.Forms.{Spot, ◌>>=◌, Form, IsLawful, little, pair, seen, or_bad, passed, judged, u8_form, u64_form, blob_form}
-use Rattle.cx_enc.specs.Values.{fixed, fixed_of, key_form, kind_form, name_form, reading_form, secret_form, sized_form, time_form}
+use Rattle.cx_enc.specs.Values.{fixed, fixed_of, flag_form, key_form, kind_form, name_form, reading_form, secret_form, sized_form, time_form}
 use Rattle.cx_enc.specs.Whole.{start}
 use Rattle.cx_rotate.specs.declared.generations.Generation.{Generation}
-use Rattle.cx_sealed.specs.Records.{connection_secret_layout, generations_layout, rotating_reply_layout, service_ticket_layout, ticket_info_layout}
+use Rattle.cx_sealed.specs.Records.{authorize_layout, authorize_challenge_layout, authorize_reply_layout, connection_secret_layout, generations_layout, rotating_reply_layout, service_ticket_layout, ticket_info_layout}
 use Rattle.cx_sealed.specs.Unsealing.{read_to_end, spelled_by, unless_left}
+use Rattle.cx_sealed.specs.declared.authorize.Authorize.{Authorize}
+use Rattle.cx_sealed.specs.declared.authorize_challenge.AuthorizeChallenge.{AuthorizeChallenge}
+use Rattle.cx_sealed.specs.declared.authorize_reply.AuthorizeReply.{AuthorizeReply}
 use Rattle.cx_sealed.specs.declared.connection_secret.ConnectionSecret.{ConnectionSecret}
 use Rattle.cx_sealed.specs.declared.rotating_reply.RotatingReply.{RotatingReply}
 use Rattle.cx_sealed.specs.declared.service_ticket.ServiceTicket.{ServiceTicket}
@@ -320,3 +323,49 @@ rotating_service t x e =
     let b = behind_kind 6 rotating_made (λ (r : RotatingReply). (r.service, r.generations)) (pair kind_form generations_layout.form) t x (omega arith) refl e in
     let p = front kind_form generations_layout.form kind-lawful t.service _ (generations_layout.form.text t.generations) b.0 b.3 (kind_fits t.service) b.4 in
     ap (λ (r : RotatingReply). r.service) (sym b.1) ∙ p.0
+
+-- ---- what a client and a daemon seal for each other
+
+abbrev reply_form : Form (ℕ × List ℕ)
+reply_form = pair u64_form (sized_form 64)
+
+abbrev reply_made : ℕ × List ℕ → AuthorizeReply
+reply_made (raised, secret) = record { nonce_plus_one = raised; secret = secret }
+
+abbrev reply_parts : AuthorizeReply → ℕ × List ℕ
+reply_parts r = (r.nonce_plus_one, r.secret)
+
+-- the secret of a reply is read as it is
+pub read_reply : (t x : AuthorizeReply) → t.nonce_plus_one < 2 ^ 64 → length t.secret < 2 ^ 32
+    → spelled_by authorize_reply_layout.form (authorize_reply_layout.form.text t) ≡ Some x → x.secret ≡ t.secret
+read_reply t x numbered short e =
+    let b = behind_kind 5 reply_made reply_parts reply_form t x (omega arith) refl e in
+    let p = front u64_form (sized_form 64) u64-lawful t.nonce_plus_one _ ((sized_form 64).text t.secret) b.0 b.3 numbered b.4 in
+    ap (λ (r : AuthorizeReply). r.secret) (sym b.1) ∙ sized_read 64 t.secret _ b.0.1 b.3 short p.1
+
+-- nothing else that is sealed under a session key is a reply: what is told of a ticket, the secret of a link to the monitor, a challenge, or what a
+-- client shows; nor does a client show what is told of a ticket, or such a secret
+pub info_no_reply : (t : TicketInfo) (x : AuthorizeReply) → spelled_by authorize_reply_layout.form (ticket_info_layout.form.text t) ≡ Some x → ⊥
+info_no_reply t x e = kinds_differ 5 2 reply_made reply_parts reply_form (info_form.text (info_parts t)) x (omega arith) refl e
+
+pub connection_no_reply : (t : ConnectionSecret) (x : AuthorizeReply) → spelled_by authorize_reply_layout.form (connection_secret_layout.form.text t) ≡ Some x → ⊥
+connection_no_reply t x e = kinds_differ 5 7 reply_made reply_parts reply_form ((sized_form 64).text t.secret) x (omega arith) refl e
+
+pub challenge_no_reply : (t : AuthorizeChallenge) (x : AuthorizeReply) → spelled_by authorize_reply_layout.form (authorize_challenge_layout.form.text t) ≡ Some x → ⊥
+challenge_no_reply t x e = kinds_differ 5 4 reply_made reply_parts reply_form (u64_form.text t.challenge) x (omega arith) refl e
+
+abbrev shown_form : Form (ℕ × (Bool × ℕ))
+shown_form = pair u64_form (pair flag_form u64_form)
+
+abbrev shown_parts : Authorize → ℕ × (Bool × ℕ)
+shown_parts t = (t.nonce, (t.have_challenge, t.server_challenge_plus_one))
+
+pub authorize_no_reply : (t : Authorize) (x : AuthorizeReply) → spelled_by authorize_reply_layout.form (authorize_layout.form.text t) ≡ Some x → ⊥
+authorize_no_reply t x e = kinds_differ 5 3 reply_made reply_parts reply_form (shown_form.text (shown_parts t)) x (omega arith) refl e
+
+pub authorize_no_info : (t : Authorize) (x : TicketInfo) → spelled_by ticket_info_layout.form (authorize_layout.form.text t) ≡ Some x → ⊥
+authorize_no_info t x e = kinds_differ 2 3 info_made info_parts info_form (shown_form.text (shown_parts t)) x (omega arith) refl e
+
+pub authorize_no_connection : (t : Authorize) (x : ConnectionSecret) → spelled_by connection_secret_layout.form (authorize_layout.form.text t) ≡ Some x → ⊥
+authorize_no_connection t x e =
+    kinds_differ 7 3 (λ (secret : List ℕ). record { secret = secret }) (λ (c : ConnectionSecret). c.secret) (sized_form 64) (shown_form.text (shown_parts t)) x (omega arith) refl e

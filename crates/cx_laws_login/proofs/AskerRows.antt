@@ -93,17 +93,17 @@ NeverExcepted run whole_log n us name = (key : List ℕ) (u : Use) → Means us 
 module _ (run : WholeRun) (whole_log : List Logged) (n : NodeName) (line : ℕ) (us : Uses) (J : List Entry) (name : Name)
     (free : NeverExcepted run whole_log n us name) where
   -- what is said of a value that opened, wherever that is
-  abbrev Tells : {X : Type 0} → Unlocked X → (X → Type 0) → Type 0
+  abbrev pub Tells : {X : Type 0} → Unlocked X → (X → Type 0) → Type 0
   Tells {X} u P = (log : List Logged) → Inv run whole_log us log J → AreGranted run.leaked whole_log n line log u.seals → (x : X) → u.value ≡ Some x → P x
 
-  allowed-then : {A B : Type 0} (first : Unlocked A) (next : A → Unlocked B) → Allowed us J n first.seals → ((a : A) → Allowed us J n (next a).seals) → Allowed us J n (first >>= next).seals
+  pub allowed-then : {A B : Type 0} (first : Unlocked A) (next : A → Unlocked B) → Allowed us J n first.seals → ((a : A) → Allowed us J n (next a).seals) → Allowed us J n (first >>= next).seals
   allowed-then {A} {B} first next al more = by_value first.value
     where
       by_value : (v : Option A) → Allowed us J n (going_on first.seals v next).seals
       by_value None = al
       by_value (Some a) = all-append (IsAllowed us J n) first.seals (next a).seals al (more a)
 
-  tells-then : {A B : Type 0} (first : Unlocked A) (next : A → Unlocked B) (P : A → Type 0) (Q : B → Type 0) → Allowed us J n first.seals → Tells first P
+  pub tells-then : {A B : Type 0} (first : Unlocked A) (next : A → Unlocked B) (P : A → Type 0) (Q : B → Type 0) → Allowed us J n first.seals → Tells first P
       → ((a : A) → P a → Tells (next a) Q) → Tells (first >>= next) Q
   tells-then {A} {B} first next P Q al says more log i g x e = by_value first.value refl g e
     where
@@ -113,18 +113,18 @@ module _ (run : WholeRun) (whole_log : List Logged) (n : NodeName) (line : ℕ) 
           more a (says log i (granted-first run.leaked whole_log n line log first.seals (next a).seals g) a is) (behind n line first.seals log)
           (inv-all run whole_log us log J n line first.seals i al) (granted-rest run.leaked whole_log n line log first.seals (next a).seals g) x e
 
-  told-allowed : (k : KeyKind) (key : List ℕ) (part : TicketPart) → Allowed us J n (told k key part).seals
+  pub told-allowed : (k : KeyKind) (key : List ℕ) (part : TicketPart) → Allowed us J n (told k key part).seals
   told-allowed k key part =
       allowed-then (unlocked ticket_info_layout.form k key part.info) (λ info. made (held_as part info)) (unlocked-allowed run whole_log n line us [] J ticket_info_layout.form k key part.info) (λ info. tt)
 
-  each-allowed : (key : List ℕ) (parts : List TicketPart) → Allowed us J n (told_each key parts).seals
+  pub each-allowed : (key : List ℕ) (parts : List TicketPart) → Allowed us J n (told_each key parts).seals
   each-allowed key [] = tt
   each-allowed key (part ∷ parts) =
       allowed-then (told kind.Session key part) (λ held. told_each key parts >>= λ rest. made (held ∷ rest)) (told-allowed kind.Session key part)
       (λ held. allowed-then (told_each key parts) (λ rest. made (held ∷ rest)) (each-allowed key parts) (λ rest. tt))
 
   -- the ticket for AUTH, told under the entity's own secret
-  auth-tells : (secret : List ℕ) (part : TicketPart) → Means us secret (Secret name) → Tells (told kind.Principal secret part) (λ held. Means us held.session (Login name))
+  pub auth-tells : (secret : List ℕ) (part : TicketPart) → Means us secret (Secret name) → Tells (told kind.Principal secret part) (λ held. Means us held.session (Login name))
   auth-tells secret part means =
       tells-then (unlocked ticket_info_layout.form kind.Principal secret part.info) (λ info. made (held_as part info)) (λ info. Means us info.session (Login name)) (λ held. Means us held.session (Login name))
       (unlocked-allowed run whole_log n line us [] J ticket_info_layout.form kind.Principal secret part.info)

@@ -27,7 +27,7 @@ use Rattle.cx_laws_keys.proofs.Journal.{Reached, reached-then}
 use Rattle.cx_laws_keys.proofs.Known.{Inv, IsAllowed, Says}
 use Rattle.cx_laws_keys.proofs.Lists.{all-append}
 use Rattle.cx_laws_keys.proofs.Premises.{AreGranted, behind, granted-first, granted-rest, logged}
-use Rattle.cx_laws_keys.proofs.Reading.{IsInfoFrom, IsReadFrom, connection_no_info, info_no_connection, info_no_rotating, read_connection, read_info, read_ticket}
+use Rattle.cx_laws_keys.proofs.Reading.{IsInfoFrom, IsReadFrom, connection_no_info, connection_no_reply, info_no_connection, info_no_reply, info_no_rotating, read_connection, read_info, read_ticket}
 use Rattle.cx_laws_keys.proofs.Steps.{inv-all, inv-drawn}
 use Rattle.cx_laws_keys.proofs.Uses.{Connected, Generated, Grows, IsConnected, Login, Means, Secret, Ticketed, Tie, Use, Uses, grows-one, session_use, stays, whose, with_key, WholeRun}
 use Rattle.cx_laws_login.proofs.Entering.{issued_of}
@@ -128,6 +128,7 @@ module _ (run : WholeRun) (whole : List Logged) (n : NodeName) (line : ℕ) (ser
             let by : Means us x.session (Ticketed name s) = subst (λ (u : Use). Means us x.session u) (use_is name) (key x s same r) in
             subst (λ (v : EntityType). Means us x.session (Ticketed name v)) (sym same ∙ sym r.service) by,
         λ x e. absurd (info_no_connection (ticket_info_of t) x e),
+        λ x e. absurd (info_no_reply (ticket_info_of t) x e),
       )
 
       by_service : (s : EntityType) → t.service ≡ s
@@ -249,4 +250,5 @@ module _ (run : WholeRun) (whole : List Logged) (n : NodeName) (line : ℕ) (ser
           tie = tie;
           means = inl (ap (λ (s : List ℕ). take 16 s) (sym (read_connection (record { secret = connection_of block }) x (short-connection block) e)), refl);
         },
+        λ x e. absurd (connection_no_reply (record { secret = connection_of block }) x e),
       )
