@@ -14,6 +14,7 @@ abbrev pub form_of : Word → Option Form
 form_of word =
     if bytes_eq word (codes "replay") then Some form.Text
     else if bytes_eq word (codes "keyring") then Some form.Text
+    else if bytes_eq word (codes "audit") then Some form.Text
     else if bytes_eq word (codes "drill") then Some form.Drill
     else if bytes_eq word (codes "mon") then Some form.Monitor
     else if bytes_eq word (codes "daemon") then Some form.Daemon

@@ -25,7 +25,7 @@ abbrev pub shown_text : ℕ → List ℕ → List ℕ
 shown_text number word = codes "word " <> decimal number <> codes ", " <> word_text (shown_of word)
 
 abbrev pub why_text : ℕ → Why → List ℕ → List ℕ
-why_text number Unknown word = shown_text number word <> codes ", begins no command"
+why_text number Unknown word = shown_text number word <> codes ", begins no command; those that are served are replay, keyring, audit, mon, daemon and client"
 why_text number (Bad place) word = shown_text number word <> codes ", is wrong there; it is to be " <> place_text place
 why_text number (Missing place) word = codes "word " <> decimal number <> codes " is missing; it is to be " <> place_text place
 why_text number Extra word = shown_text number word <> codes ", is one too many; what a command reads is given by <, as in: cephx_cli replay < FILE"

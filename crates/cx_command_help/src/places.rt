@@ -50,6 +50,9 @@ pub(crate) fn form_of(word: &str) -> Option<Form>
     if is_text(word, "keyring") {
         return Some(Form::Text);
     }
+    if is_text(word, "audit") {
+        return Some(Form::Text);
+    }
     if is_text(word, "drill") {
         return Some(Form::Drill);
     }

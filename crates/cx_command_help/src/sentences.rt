@@ -25,7 +25,11 @@ impl fmt::Display for WrongWords<'_> {
     fn fmt<W: fmt::Write>(&self, f: &mut fmt::Formatter<W>) -> fmt::Result {
         let shown = Shown(self.wrong.number, self.word);
         match self.wrong.why {
-            Why::Unknown => write!(f, "{}, begins no command", shown),
+            Why::Unknown => write!(
+                f,
+                "{}, begins no command; those that are served are replay, keyring, audit, mon, daemon and client",
+                shown
+            ),
             Why::Bad(place) => write!(
                 f,
                 "{}, is wrong there; it is to be {}",

@@ -34,6 +34,7 @@ pub record AskedClient : Type 0 where
 pub data Asked : Type 0 where
   Replay : Asked
   Keyring : Asked
+  Audit : Asked
   Drill : DrillCommand → Asked
   Monitor : MonitorCommand → Asked
   Daemon : AskedDaemon → Asked
@@ -49,6 +50,7 @@ asked_client c = record { name = name_seen c.name; events = c.events; monitor = 
 abbrev pub asked : Invocation → Asked
 asked words.Replay = Replay
 asked words.Keyring = Keyring
+asked words.Audit = Audit
 asked (words.Drill c) = Drill c
 asked (words.Monitor c) = Monitor c
 asked (words.Daemon c) = Daemon (asked_daemon c)
@@ -113,6 +115,7 @@ abbrev pub spelled_by : Word → List Word → Option Asked
 spelled_by command values =
     if bytes_eq command (codes "replay") then alone Replay values
     else if bytes_eq command (codes "keyring") then alone Keyring values
+    else if bytes_eq command (codes "audit") then alone Audit values
     else if bytes_eq command (codes "drill") then option_map (λ c. Drill c) (drill values)
     else if bytes_eq command (codes "mon") then option_map (λ c. Monitor c) (monitor values)
     else if bytes_eq command (codes "daemon") then option_map (λ c. Daemon c) (daemon values)

@@ -58,6 +58,8 @@ pub enum Invocation<'a> {
     Replay,
     /// Reads a keyring, and writes it in its printed form.
     Keyring,
+    /// Reads a journal, and writes whether it is legal.
+    Audit,
     /// Runs the schedule of a drill, and writes how many entries of five kinds its journal has.
     Drill(DrillCommand),
     /// Runs the monitor.
@@ -95,6 +97,9 @@ fn spelled_by<'a>(command: &str, values: &'a [&'a str]) -> Option<Invocation<'a>
     }
     if is_text(command, "keyring") {
         return alone(Invocation::Keyring, values);
+    }
+    if is_text(command, "audit") {
+        return alone(Invocation::Audit, values);
     }
     if is_text(command, "drill") {
         return drill(values).map(|c| Invocation::Drill(c));

@@ -5,7 +5,7 @@ use Rattle.std.specs.Str.{bytes_eq}
 use Rattle.std.proofs.lemmas.Bool.Decides.{nat_tests}
 use Rattle.cx_base.specs.declared.addresses.Addr.{Addr}
 use Rattle.cx_command_line.specs.Commands as told
-use Rattle.cx_command_line.specs.Commands.{Asked, AskedClient, AskedDaemon, Replay, Keyring, Drill, Monitor, Daemon, Client, IsMisread, alone, client, daemon, drill, events, lifetime, lives, spelled}
+use Rattle.cx_command_line.specs.Commands.{Asked, AskedClient, AskedDaemon, Replay, Keyring, Audit, Drill, Monitor, Daemon, Client, IsMisread, alone, client, daemon, drill, events, lifetime, lives, spelled}
 use Rattle.cx_command_line.specs.Words.{Word, address, both, bounded, within}
 use Rattle.cx_command_line.specs.declared.commands.DrillCommand.{DrillCommand}
 use Rattle.cx_command_line.specs.declared.commands.MonitorCommand.{MonitorCommand}
@@ -31,10 +31,12 @@ use Rattle.cx_commands.specs.declared.ends.CommandStatus.TheVariants.{Text}
 abbrev pub asked_text : Subcommand → Asked
 asked_text text.Replay = Replay
 asked_text text.Keyring = Keyring
+asked_text text.Audit = Audit
 
 pub spelled_text : (command : Subcommand) (words : List Word) → words ≡ command_word command ∷ [] → spelled words ≡ Some (asked_text command)
 spelled_text text.Replay words is = ap spelled is
 spelled_text text.Keyring words is = ap spelled is
+spelled_text text.Audit words is = ap spelled is
 
 -- ---- the monitor's lives are within bounds
 
@@ -108,20 +110,21 @@ monitor_told None c is = absurd (let no : None ≡ Some (Monitor c) = is in cc)
 pub spelled_monitor : (words : List Word) (c : MonitorCommand) → spelled words ≡ Some (Monitor c) → IsMonitorCommand c
 spelled_monitor [] c is = absurd (let no : None ≡ Some (Monitor c) = is in cc)
 spelled_monitor (command ∷ values) c is =
-    by_tests (bytes_eq command (codes "replay")) (bytes_eq command (codes "keyring")) (bytes_eq command (codes "drill")) (bytes_eq command (codes "mon"))
+    by_tests (bytes_eq command (codes "replay")) (bytes_eq command (codes "keyring")) (bytes_eq command (codes "audit")) (bytes_eq command (codes "drill")) (bytes_eq command (codes "mon"))
     (bytes_eq command (codes "daemon")) (bytes_eq command (codes "client")) is
   where
-    by_tests : (r k d m n l : Bool)
-        → (if r then alone Replay values else if k then alone Keyring values else if d then option_map (λ c. Drill c) (drill values)
+    by_tests : (r k a d m n l : Bool)
+        → (if r then alone Replay values else if k then alone Keyring values else if a then alone Audit values else if d then option_map (λ c. Drill c) (drill values)
         else if m then option_map (λ c. Monitor c) (told.monitor values) else if n then option_map (λ c. Daemon c) (daemon values)
         else if l then option_map (λ c. Client c) (client values) else None) ≡ Some (Monitor c) → IsMonitorCommand c
-    by_tests true k d m n l is = absurd (let no : Replay ≡ Monitor c = alone_not Replay values c is in cc)
-    by_tests false true d m n l is = absurd (let no : Keyring ≡ Monitor c = alone_not Keyring values c is in cc)
-    by_tests false false true m n l is = absurd (drill_not (drill values) c is)
-    by_tests false false false true n l is = monitor_is values c (monitor_told (told.monitor values) c is)
-    by_tests false false false false true l is = absurd (daemon_not (daemon values) c is)
-    by_tests false false false false false true is = absurd (client_not (client values) c is)
-    by_tests false false false false false false is = absurd (let no : None ≡ Some (Monitor c) = is in cc)
+    by_tests true k a d m n l is = absurd (let no : Replay ≡ Monitor c = alone_not Replay values c is in cc)
+    by_tests false true a d m n l is = absurd (let no : Keyring ≡ Monitor c = alone_not Keyring values c is in cc)
+    by_tests false false true d m n l is = absurd (let no : Audit ≡ Monitor c = alone_not Audit values c is in cc)
+    by_tests false false false true m n l is = absurd (drill_not (drill values) c is)
+    by_tests false false false false true n l is = monitor_is values c (monitor_told (told.monitor values) c is)
+    by_tests false false false false false true l is = absurd (daemon_not (daemon values) c is)
+    by_tests false false false false false false true is = absurd (client_not (client values) c is)
+    by_tests false false false false false false false is = absurd (let no : None ≡ Some (Monitor c) = is in cc)
 
 -- ---- words that aren't read
 

@@ -24,7 +24,7 @@ is_node_done end.OutOfMemory = false
 is_node_done (end.Unloaded why) = false
 
 abbrev pub unserved_text : List ℕ
-unserved_text = codes "drill is to come; replay, keyring, mon, daemon and client are served"
+unserved_text = codes "drill is to come; replay, keyring, audit, mon, daemon and client are served"
 
 -- the sentence of a status, where it says all
 abbrev pub sentence_of : CommandStatus → List ℕ

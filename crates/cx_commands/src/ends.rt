@@ -128,5 +128,5 @@ fn is_node_done(end: NodeEnd) -> bool
 fn unserved_text() -> &'static str
     ensures { result.now ≡ unserved_text }
 {
-    "drill is to come; replay, keyring, mon, daemon and client are served"
+    "drill is to come; replay, keyring, audit, mon, daemon and client are served"
 }

@@ -29,7 +29,7 @@ use cx_keep::Keeper;
 use cx_links::Links;
 use std::alloc::Global;
 
-/// Does what these words of the command line ask for. `replay` and `keyring` read a text from `input` and write another to `out`; `mon`, `daemon` and
+/// Does what these words of the command line ask for. `replay`, `keyring` and `audit` read a text from `input` and write another to `out`; `mon`, `daemon` and
 /// `client` read a script from `input`, run a node over `keeper`, `links`, `clock` and `dice`, and write what it entered to `out`. The operations of a
 /// schedule, and those that come to a daemon, are served by `desk`.
 pub fn run<I: Source, O: Sink, K: Keeper, L: Links, C: Clock, D: Dice>(
@@ -47,7 +47,7 @@ pub fn run<I: Source, O: Sink, K: Keeper, L: Links, C: Clock, D: Dice>(
     ensures usage { spelled (map (λ w. w.now) words.now) ≡ None
         → (result.status ≡ Text text.Usage) × (input.new ≡ input.old) × (out.new ≡ out.old) × (keeper.new ≡ keeper.old) × (links.new ≡ links.old)
         × (clock.new ≡ clock.old) × (dice.new ≡ dice.old) }
-    // `replay` and `keyring`.
+    // `replay`, `keyring` and `audit`.
     ensures texts { (command : Subcommand) → map (λ w. w.now) words.now ≡ command_word command ∷ []
         → TextAnswers (handlers_of desk.now) command (I.left input.old) (I.left input.new) (O.taken out.old) (O.taken out.new)
         (I.faults input.old) (I.faults input.new) (O.faults out.old) (O.faults out.new) out.old out.new result }
@@ -120,6 +120,7 @@ fn invoked<I: Source, O: Sink, K: Keeper, L: Links, C: Clock, D: Dice>(
     match invocation {
         Invocation::Replay => CommandEnd::of_text(text(alloc, words, input, out, desk)),
         Invocation::Keyring => CommandEnd::of_text(text(alloc, words, input, out, desk)),
+        Invocation::Audit => CommandEnd::of_text(text(alloc, words, input, out, desk)),
         Invocation::Drill(_) => CommandEnd::plain(alloc, CommandStatus::Unserved),
         Invocation::Monitor(command) => monitor(
             alloc, &command, input, out, keeper, links, clock, dice,

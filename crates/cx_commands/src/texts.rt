@@ -11,7 +11,7 @@ use cx_desk::Desk;
 use cx_top::ProgramEnd;
 use std::alloc::Global;
 
-/// `replay` and `keyring`.
+/// `replay`, `keyring` and `audit`.
 pub(crate) fn text<I: Source, O: Sink>(
     alloc: Global,
     words: &[&str],

@@ -1,15 +1,14 @@
 -- What the tests say of an entry is what it keeps, or the least rule that it breaks.
 use Rattle.std.proofs.Common.{◌≡◌, ℕ, ◌<◌, Bool, true, false, List, [], ◌∷◌, ◌++◌, length, Option, Some, None, refl, sym, ap, ◌∙◌, arith}
-use Rattle.std.specs.Prelude.{◌||◌}
 use Rattle.std.specs.List.{filter_map, list_any}
-use Rattle.cx_base.specs.Names.{Name, same_name}
+use Rattle.cx_base.specs.Names.{Name}
 use Rattle.cx_base.specs.declared.nodes.NodeName.{NodeName}
 use Rattle.cx_base.specs.declared.nodes.NodeName.TheVariants as node
 use Rattle.cx_journal.specs.Behind.{EachBehind}
 use Rattle.cx_journal.specs.KeepsKeys.{NeedsFor, NeedsLook}
 use Rattle.cx_journal.specs.Leaks.{IsUnleaked, is_leak}
 use Rattle.cx_journal.specs.PrefixOfSent.{IsPrefix, all_handled_under, sent_under}
-use Rattle.cx_journal.specs.Sessions.{is_session_of, session_at}
+use Rattle.cx_journal.specs.Sessions.{session_at}
 use Rattle.cx_journal.specs.declared.entries.Admitted.{Admitted}
 use Rattle.cx_journal.specs.declared.entries.Entry.{Entry}
 use Rattle.cx_journal.specs.declared.entries.Entry.TheVariants as entry
@@ -22,11 +21,11 @@ use Rattle.cx_journal.specs.declared.outcomes.TicketFault.{TicketFault}
 use Rattle.cx_journal.specs.declared.outcomes.TicketFault.TheVariants as fault
 use Rattle.cx_journal.proofs.SessionLemmas.{session_from, session_is}
 use Rattle.cx_journal_rules.specs.Rules.{BreaksLeast, IsFoundAt, Keeps, KeepsAll, KeepsOrderBy, rule_number}
-use Rattle.cx_journal_rules.specs.Tests.{Knows, backs, broken_by, broken_generation, broken_handled, broken_order, broken_refusal, broken_unleaked, count_of, is_sent_behind, is_under, keeps_key, last_of, leaked_of, shares_gid, unless}
+use Rattle.cx_journal_rules.specs.Tests.{backs, broken_unleaked, is_sent_behind, judged, judged_generation, judged_handled, judged_order, judged_refusal, keeps_key, shares_gid, unless}
 use Rattle.cx_journal_rules.specs.declared.rules.Rule.{Rule}
 use Rattle.cx_journal_rules.specs.declared.rules.Rule.TheVariants as rule
 use Rattle.cx_journal_rules.proofs.Looks.{broken_key, kept_key}
-use Rattle.cx_journal_rules.proofs.Order.{as_many, handled_one, not_sent_next, prefix_all, sent_next}
+use Rattle.cx_journal_rules.proofs.Order.{handled_one, not_sent_next, prefix_all, sent_next}
 use Rattle.cx_journal_rules.proofs.RuleLaws.{keeps_each, order_kept}
 use Rattle.cx_journal_rules.proofs.Tests.{unequal}
 use Rattle.cx_journal_rules.proofs.TicketLaws.{backed, shares, unbacked, unshared}
@@ -43,7 +42,7 @@ issued_least whole earlier t rule.KeepsKeys low = tt
 issued_least whole earlier t rule.PrefixOfSent low = tt
 issued_least whole earlier t rule.GidOnce low = same_rule 16 low
 
-issued_found : (whole earlier : List Entry) (t : Issued) (b : Bool) → shares_gid earlier t ≡ b → IsFoundAt whole earlier (entry.Issued t) (unless b rule.GidOnce)
+issued_found : (whole earlier : List Entry) (t : Issued) (b : Bool) → shares_gid earlier earlier t ≡ b → IsFoundAt whole earlier (entry.Issued t) (unless b rule.GidOnce)
 issued_found whole earlier t true is = keeps_each whole earlier (entry.Issued t) tt tt tt tt (shares earlier t is)
 issued_found whole earlier t false is = record { breaks = unshared earlier t is; least = issued_least whole earlier t }
 
@@ -83,20 +82,20 @@ abbrev IsNeed : Type 0 → Option Rule → Type 0
 IsNeed need None = need
 IsNeed need (Some r) = (need → ⊥) × (r ≡ rule.KeepsKeys)
 
-key_need : (earlier : List Entry) (d : Name) (link g : ℕ) (blob : List ℕ) (b : Bool) → keeps_key earlier d link g blob ≡ b → IsNeed (NeedsLook earlier d link (fault.UnknownGeneration g) blob) (unless b rule.KeepsKeys)
+key_need : (earlier : List Entry) (d : Name) (link g : ℕ) (blob : List ℕ) (b : Bool) → keeps_key earlier earlier d link g blob ≡ b → IsNeed (NeedsLook earlier d link (fault.UnknownGeneration g) blob) (unless b rule.KeepsKeys)
 key_need earlier d link g blob true is = kept_key earlier d link g blob is
 key_need earlier d link g blob false is = (broken_key earlier d link g blob is, refl)
 
-generation_need : (earlier : List Entry) (d : Name) (link : ℕ) (why : TicketFault) (blob : List ℕ) → IsNeed (NeedsLook earlier d link why blob) (broken_generation earlier d link why blob)
-generation_need earlier d link (fault.UnknownGeneration g) blob = key_need earlier d link g blob (keeps_key earlier d link g blob) refl
-generation_need earlier d link (fault.TicketUnopened g) blob = key_need earlier d link g blob (keeps_key earlier d link g blob) refl
+generation_need : (earlier : List Entry) (d : Name) (link : ℕ) (why : TicketFault) (blob : List ℕ) → IsNeed (NeedsLook earlier d link why blob) (judged_generation earlier d link why blob)
+generation_need earlier d link (fault.UnknownGeneration g) blob = key_need earlier d link g blob (keeps_key earlier earlier d link g blob) refl
+generation_need earlier d link (fault.TicketUnopened g) blob = key_need earlier d link g blob (keeps_key earlier earlier d link g blob) refl
 generation_need earlier d link _ blob = tt
 
-daemon_need : (earlier : List Entry) (d : Name) (link : ℕ) (why : Reason) → IsNeed (NeedsFor earlier (node.Entity d) link why) (broken_refusal earlier (node.Entity d) link why)
+daemon_need : (earlier : List Entry) (d : Name) (link : ℕ) (why : Reason) → IsNeed (NeedsFor earlier (node.Entity d) link why) (judged_refusal earlier (node.Entity d) link why)
 daemon_need earlier d link (reason.Ticket why blob) = generation_need earlier d link why blob
 daemon_need earlier d link _ = tt
 
-refusal_need : (earlier : List Entry) (n : NodeName) (link : ℕ) (why : Reason) → IsNeed (NeedsFor earlier n link why) (broken_refusal earlier n link why)
+refusal_need : (earlier : List Entry) (n : NodeName) (link : ℕ) (why : Reason) → IsNeed (NeedsFor earlier n link why) (judged_refusal earlier n link why)
 refusal_need earlier (node.Entity d) link why = daemon_need earlier d link why
 refusal_need earlier node.Monitor link why = tt
 
@@ -121,11 +120,6 @@ order_least whole earlier h s is rule.InSession low = (s, session_from earlier h
 order_least whole earlier h s is rule.KeepsKeys low = tt
 order_least whole earlier h s is rule.PrefixOfSent low = same_rule 15 low
 order_least whole earlier h s is rule.GidOnce low = tt
-
-leak_same : (es : List Entry) (n : Name) → list_any (λ name. same_name name n) (filter_map leaked_of es) ≡ list_any (is_leak n) es
-leak_same [] n = refl
-leak_same (entry.Leaked client ∷ es) n = ap (λ b. same_name client n || b) (leak_same es n)
-leak_same (e ∷ es) n = leak_same es n
 
 one_session : (earlier : List Entry) (h : Handled) (s other : Admitted) → session_at earlier h ≡ Some s → session_at earlier h ≡ Some other → s ≡ other
 one_session earlier h s other is also = let e : Some s ≡ Some other = sym is ∙ also in cc
@@ -159,43 +153,34 @@ order_found whole earlier h s true o =
     keeps_each whole earlier (entry.Handled h) tt (s, session_from earlier h s o.own) tt (ordered whole earlier h s o) tt
 order_found whole earlier h s false o = record { breaks = disordered whole earlier h s o; least = order_least whole earlier h s o.own }
 
-session_found : (whole earlier : List Entry) (leaks : List Name) (opened handlers : List Admitted) (h : Handled) (s : Admitted) (b : Bool) → Knows whole earlier leaks opened handlers
-    → EachBehind (KeepsAll whole) [] earlier → session_at earlier h ≡ Some s → list_any (λ name. same_name name s.entity) leaks ≡ b
-    → IsFoundAt whole earlier (entry.Handled h) (broken_unleaked b (broken_order earlier handlers h s))
-session_found whole earlier leaks opened handlers h s true knows each is leaked =
-    let whole_leak : list_any (is_leak s.entity) whole ≡ true = sym (leak_same whole s.entity) ∙ ap (list_any (λ name. same_name name s.entity)) (sym knows.leaked) ∙ leaked in
-    keeps_each whole earlier (entry.Handled h) tt (s, session_from earlier h s is) tt (leaked_keeps whole earlier h s is whole_leak) tt
-session_found whole earlier leaks opened handlers h s false knows each is leaked =
-    let unleaked : IsUnleaked whole s.entity = sym (leak_same whole s.entity) ∙ ap (list_any (λ name. same_name name s.entity)) (sym knows.leaked) ∙ leaked in
-    let count : count_of (is_under h.cookie s.entity) handlers ≡ length (all_handled_under h.cookie s.entity [] earlier) =
-    ap (count_of (is_under h.cookie s.entity)) knows.handled ∙ as_many h.cookie s.entity [] earlier in
-    order_found whole earlier h s (is_sent_behind h.cookie s.entity (h.seq, h.operation) (count_of (is_under h.cookie s.entity) handlers) earlier) (record {
+session_found : (whole earlier : List Entry) (h : Handled) (s : Admitted) (b : Bool) → EachBehind (KeepsAll whole) [] earlier → session_at earlier h ≡ Some s → list_any (is_leak s.entity) whole ≡ b
+    → IsFoundAt whole earlier (entry.Handled h) (broken_unleaked b (judged_order earlier h s))
+session_found whole earlier h s true each is leaked = keeps_each whole earlier (entry.Handled h) tt (s, session_from earlier h s is) tt (leaked_keeps whole earlier h s is leaked) tt
+session_found whole earlier h s false each is leaked =
+    order_found whole earlier h s (is_sent_behind h.cookie s.entity (h.seq, h.operation) (length (all_handled_under h.cookie s.entity [] earlier)) earlier) (record {
       own = is;
-      unleaked = unleaked;
-      prefix = prefix_all whole [] earlier h.cookie s.entity unleaked (order_kept whole [] earlier each) ([], refl);
-      tested = ap (λ k. is_sent_behind h.cookie s.entity (h.seq, h.operation) k earlier) (sym count);
+      unleaked = leaked;
+      prefix = prefix_all whole [] earlier h.cookie s.entity leaked (order_kept whole [] earlier each) ([], refl);
+      tested = refl;
     })
 
 no_session : (earlier : List Entry) (h : Handled) → session_at earlier h ≡ None → ((s : Admitted) × (session_at earlier h ≡ Some s)) → ⊥
 no_session earlier h none some = let e : None ≡ Some some.0 = sym none ∙ some.1 in cc
 
-handled_found : (whole earlier : List Entry) (leaks : List Name) (opened handlers : List Admitted) (h : Handled) (o : Option Admitted) → Knows whole earlier leaks opened handlers
-    → EachBehind (KeepsAll whole) [] earlier → session_at earlier h ≡ o → IsFoundAt whole earlier (entry.Handled h) (broken_handled earlier leaks handlers h o)
-handled_found whole earlier leaks opened handlers h None knows each is = record {
+handled_found : (whole earlier : List Entry) (h : Handled) (o : Option Admitted) → EachBehind (KeepsAll whole) [] earlier → session_at earlier h ≡ o
+    → IsFoundAt whole earlier (entry.Handled h) (judged_handled whole earlier h o)
+handled_found whole earlier h None each is = record {
   breaks = λ held. no_session earlier h is (held.0, session_is earlier h held.0 held.1);
   least = outside_least whole earlier h;
 }
-handled_found whole earlier leaks opened handlers h (Some s) knows each is =
-    session_found whole earlier leaks opened handlers h s (list_any (λ name. same_name name s.entity) leaks) knows each is refl
+handled_found whole earlier h (Some s) each is = session_found whole earlier h s (list_any (is_leak s.entity) whole) each is refl
 
 -- ---- any entry
 
-pub found_at : (whole earlier : List Entry) (leaks : List Name) (opened handlers : List Admitted) (e : Entry) → Knows whole earlier leaks opened handlers
-    → EachBehind (KeepsAll whole) [] earlier → IsFoundAt whole earlier e (broken_by earlier leaks opened handlers e)
-found_at whole earlier leaks opened handlers (entry.Issued t) knows each = issued_found whole earlier t (shares_gid earlier t) refl
-found_at whole earlier leaks opened handlers (entry.Admitted a) knows each = admitted_found whole earlier a (list_any (backs a) earlier) refl
-found_at whole earlier leaks opened handlers (entry.Resumed a) knows each = resumed_found whole earlier a (list_any (backs a) earlier) refl
-found_at whole earlier leaks opened handlers (entry.Handled h) knows each =
-    handled_found whole earlier leaks opened handlers h (last_of (is_session_of h) opened) knows each (sym (knows.are_open h))
-found_at whole earlier leaks opened handlers (entry.Refused r) knows each = refused_found whole earlier r (broken_refusal earlier r.node r.link r.reason) (refusal_need earlier r.node r.link r.reason)
-found_at whole earlier leaks opened handlers e knows each = keeps_each whole earlier e tt tt tt tt tt
+pub found_at : (whole earlier : List Entry) (e : Entry) → EachBehind (KeepsAll whole) [] earlier → IsFoundAt whole earlier e (judged whole earlier e)
+found_at whole earlier (entry.Issued t) each = issued_found whole earlier t (shares_gid earlier earlier t) refl
+found_at whole earlier (entry.Admitted a) each = admitted_found whole earlier a (list_any (backs a) earlier) refl
+found_at whole earlier (entry.Resumed a) each = resumed_found whole earlier a (list_any (backs a) earlier) refl
+found_at whole earlier (entry.Handled h) each = handled_found whole earlier h (session_at earlier h) each refl
+found_at whole earlier (entry.Refused r) each = refused_found whole earlier r (judged_refusal earlier r.node r.link r.reason) (refusal_need earlier r.node r.link r.reason)
+found_at whole earlier e each = keeps_each whole earlier e tt tt tt tt tt

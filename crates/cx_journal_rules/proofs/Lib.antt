@@ -1,7 +1,10 @@
 pub mod Found
+pub mod Judged
+pub mod Knowing
 pub mod Looks
 pub mod Open
 pub mod Order
+pub mod Owners
 pub mod RuleLaws
 pub mod Tests
 pub mod TicketLaws

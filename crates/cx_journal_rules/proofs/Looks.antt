@@ -1,6 +1,6 @@
 -- The test of a refusal for a generation says what the law of kept keys does.
-use Rattle.std.proofs.Common.{◌≡◌, ℕ, Bool, true, false, cond, List, [], ◌∷◌, ◌++◌, Option, Some, None, ◌⊎◌, inl, inr, refl, sym, ap, ◌∙◌, eq-eqb, ◌==◌}
-use Rattle.std.specs.Prelude.{◌&&◌, ◌||◌, not, Contains}
+use Rattle.std.proofs.Common.{◌≡◌, ℕ, Bool, true, false, List, ◌∷◌, ◌++◌, Option, Some, None, refl, sym, ap, ◌∙◌, eq-eqb, ◌==◌}
+use Rattle.std.specs.Prelude.{◌&&◌, ◌||◌, not}
 use Rattle.std.specs.List.{list_any}
 use Rattle.std.specs.Str.{bytes_eq}
 use Rattle.std.proofs.lemmas.Bool.{eqb-true}
@@ -72,7 +72,7 @@ kept_by earlier d link g blob a true ia il e w = lacks_key earlier d link g (las
 kept_by earlier d link g blob true false ia il e w = unequal (sym e)
 kept_by earlier d link g blob false false ia il e w = unequal (sym (is_issued earlier d g blob w) ∙ ia)
 
-pub kept_key : (earlier : List Entry) (d : Name) (link g : ℕ) (blob : List ℕ) → keeps_key earlier d link g blob ≡ true → LacksIssued earlier d link g blob
+pub kept_key : (earlier : List Entry) (d : Name) (link g : ℕ) (blob : List ℕ) → keeps_key earlier earlier d link g blob ≡ true → LacksIssued earlier d link g blob
 kept_key earlier d link g blob e = kept_by earlier d link g blob (list_any (is_issued_as d g blob) earlier) (lacks g (last_such (is_look d link) earlier)) refl refl e
 
 broken_parts : (a l : Bool) → (not a || l) ≡ false → (a ≡ true) × (l ≡ false)
@@ -80,7 +80,7 @@ broken_parts true false e = (refl, refl)
 broken_parts true true e = cc
 broken_parts false l e = cc
 
-pub broken_key : (earlier : List Entry) (d : Name) (link g : ℕ) (blob : List ℕ) → keeps_key earlier d link g blob ≡ false → LacksIssued earlier d link g blob → ⊥
+pub broken_key : (earlier : List Entry) (d : Name) (link g : ℕ) (blob : List ℕ) → keeps_key earlier earlier d link g blob ≡ false → LacksIssued earlier d link g blob → ⊥
 broken_key earlier d link g blob e law =
     let parts = broken_parts (list_any (is_issued_as d g blob) earlier) (lacks g (last_such (is_look d link) earlier)) e in
     unequal (sym (is_lacking earlier d link g (law (was_issued earlier d g blob parts.0))) ∙ parts.1)

@@ -1,6 +1,6 @@
 -- What is handled and what is sent, entry by entry.
-use Rattle.std.proofs.Common.{◌≡◌, ℕ, suc, ◌+◌, ◌-◌, Bool, true, false, cond, List, [], ◌∷◌, ◌++◌, length, Option, Some, None, refl, sym, ap, ◌∙◌, ◌==◌, arith, append-nil, append_assoc, eq-eqb}
-use Rattle.std.specs.Prelude.{◌&&◌, ◌||◌}
+use Rattle.std.proofs.Common.{◌≡◌, ℕ, suc, ◌-◌, Bool, true, false, cond, List, [], ◌∷◌, ◌++◌, length, Option, Some, None, refl, sym, ap, ◌∙◌, ◌==◌, arith, append-nil, append_assoc, eq-eqb}
+use Rattle.std.specs.Prelude.{◌&&◌}
 use Rattle.std.specs.List.{cons_option, filter_map}
 use Rattle.std.specs.Option.{option_map_or}
 use Rattle.std.specs.Str.{bytes_eq}
@@ -14,15 +14,15 @@ use Rattle.cx_base.specs.declared.operations.Operation.{Operation}
 use Rattle.cx_base.proofs.Names.{same_name_is, same_name_self}
 use Rattle.cx_journal.specs.Behind.{EachBehind}
 use Rattle.cx_journal.specs.Leaks.{IsUnleaked}
-use Rattle.cx_journal.specs.PrefixOfSent.{IsPrefix, IsPrefixOfSent, all_handled_under, handled_under, sent_under}
+use Rattle.cx_journal.specs.PrefixOfSent.{IsPrefix, all_handled_under, handled_under, sent_under}
 use Rattle.cx_journal.specs.Sessions.{session_at}
 use Rattle.cx_journal.specs.declared.entries.Admitted.{Admitted}
 use Rattle.cx_journal.specs.declared.entries.Entry.{Entry}
 use Rattle.cx_journal.specs.declared.entries.Entry.TheVariants as entry
 use Rattle.cx_journal.specs.declared.entries.Handled.{Handled}
-use Rattle.cx_journal.proofs.SessionLemmas.{session_from, session_is}
-use Rattle.cx_journal_rules.specs.Rules.{KeepsAll, KeepsOrderBy}
-use Rattle.cx_journal_rules.specs.Tests.{count_of, handler_of, handlers_of, is_sent, is_sent_behind, is_under, same_access, same_operation}
+use Rattle.cx_journal.proofs.SessionLemmas.{session_from}
+use Rattle.cx_journal_rules.specs.Rules.{KeepsOrderBy}
+use Rattle.cx_journal_rules.specs.Tests.{is_sent, is_sent_behind, same_access, same_operation}
 use Rattle.cx_journal_rules.proofs.Tests.{both, unequal}
 use Rattle.cx_journal_rules.proofs.TicketLaws.{same_bytes_are, same_bytes_self}
 
@@ -40,45 +40,15 @@ handled_push c n earlier (x ∷ xs) e =
     ∙ sym (cons_append (handled_under c n earlier x) (all_handled_under c n (earlier ++ x ∷ []) xs) (cons_option (handled_under c n ((earlier ++ x ∷ []) ++ xs) e) []))
     ∙ ap (λ es. all_handled_under c n earlier (x ∷ xs) ++ cons_option (handled_under c n es e) []) (append_assoc earlier (x ∷ []) xs)
 
-pub handlers_push : (earlier xs : List Entry) (e : Entry) → handlers_of earlier (xs ++ e ∷ []) ≡ handlers_of earlier xs ++ cons_option (handler_of (earlier ++ xs) e) []
-handlers_push earlier [] e = ap (λ es. cons_option (handler_of es e) []) (sym (append-nil earlier))
-handlers_push earlier (x ∷ xs) e =
-    ap (cons_option (handler_of earlier x)) (handlers_push (earlier ++ x ∷ []) xs e)
-    ∙ sym (cons_append (handler_of earlier x) (handlers_of (earlier ++ x ∷ []) xs) (cons_option (handler_of ((earlier ++ x ∷ []) ++ xs) e) []))
-    ∙ ap (λ es. handlers_of earlier (x ∷ xs) ++ cons_option (handler_of es e) []) (append_assoc earlier (x ∷ []) xs)
-
 pub sent_push : (c : ℕ) (n : Name) (xs : List Entry) (e : Entry) → filter_map (sent_under c n) (xs ++ e ∷ []) ≡ filter_map (sent_under c n) xs ++ cons_option (sent_under c n e) []
 sent_push c n xs e = filter_map-append (sent_under c n) xs (e ∷ [])
 
--- ---- as many sessions as operations
-
-abbrev pair_of : Handled → ℕ × Operation
+abbrev pub pair_of : Handled → ℕ × Operation
 pair_of h = (h.seq, h.operation)
-
-under_step : (h : Handled) (c : ℕ) (n : Name) (earlier : List Entry) (o : Option Admitted) (rest : List Admitted) (more : List (ℕ × Operation)) → session_at earlier h ≡ o
-    → count_of (is_under c n) rest ≡ length more
-    → count_of (is_under c n) (cons_option o rest)
-    ≡ length (cons_option (cond ((h.cookie == c) && option_map_or (λ session. same_name session.entity n) o false) (Some (pair_of h)) None) more)
-under_step h c n earlier None rest more is same = elim (h.cookie == c) as (λ b. count_of (is_under c n) rest ≡ length (cons_option (cond (b && false) (Some (pair_of h)) None) more)) [ true ↦ same | false ↦ same ]
-under_step h c n earlier (Some s) rest more is same =
-    let cookie : s.cookie ≡ h.cookie = (session_from earlier h s is).admits.cookie in
-    ap (λ k. cond ((k == c) && same_name s.entity n) (count_of (is_under c n) rest + 1) (count_of (is_under c n) rest)) cookie
-    ∙ under_one ((h.cookie == c) && same_name s.entity n) (count_of (is_under c n) rest) (pair_of h) more same
-  where
-    under_one : (b : Bool) (k : ℕ) (x : ℕ × Operation) (more : List (ℕ × Operation)) → k ≡ length more → cond b (k + 1) k ≡ length (cons_option (cond b (Some x) None) more)
-    under_one true k x more same = omega (arith, same)
-    under_one false k x more same = same
-
-pub as_many : (c : ℕ) (n : Name) (earlier es : List Entry) → count_of (is_under c n) (handlers_of earlier es) ≡ length (all_handled_under c n earlier es)
-as_many c n earlier [] = refl
-as_many c n earlier (entry.Handled h ∷ es) =
-    under_step h c n earlier (session_at earlier h) (handlers_of (earlier ++ entry.Handled h ∷ []) es) (all_handled_under c n (earlier ++ entry.Handled h ∷ []) es) refl
-    (as_many c n (earlier ++ entry.Handled h ∷ []) es)
-as_many c n earlier (e ∷ es) = as_many c n (earlier ++ e ∷ []) es
 
 -- ---- what is sent next
 
-abbrev is_at : ℕ × Operation → ℕ → List (ℕ × Operation) → Bool
+abbrev pub is_at : ℕ × Operation → ℕ → List (ℕ × Operation) → Bool
 is_at what left [] = false
 is_at what left (s ∷ ss) = cond (left == 0) (is_sent s what) (is_at what (left - 1) ss)
 
@@ -89,7 +59,7 @@ sent_step : (c : ℕ) (n : Name) (what : ℕ × Operation) (left : ℕ) (o : Opt
 sent_step c n what left None es same = same left
 sent_step c n what left (Some s) es same = ap (λ b. cond (left == 0) (is_sent s what) b) (same (left - 1))
 
-sent_is : (c : ℕ) (n : Name) (what : ℕ × Operation) (es : List Entry) (left : ℕ) → is_sent_behind c n what left es ≡ is_at what left (filter_map (sent_under c n) es)
+pub sent_is : (c : ℕ) (n : Name) (what : ℕ × Operation) (es : List Entry) (left : ℕ) → is_sent_behind c n what left es ≡ is_at what left (filter_map (sent_under c n) es)
 sent_is c n what [] left = refl
 sent_is c n what (e ∷ es) left = sent_step c n what left (sent_under c n e) es (sent_is c n what es)
 

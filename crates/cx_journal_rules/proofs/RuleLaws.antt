@@ -1,19 +1,16 @@
 -- Each entry keeps each rule exactly where the five laws hold.
-use Rattle.std.proofs.Common.{◌≡◌, ℕ, List, [], ◌∷◌, ◌++◌, refl, sym, ap, ◌∙◌, append-nil, append_assoc}
+use Rattle.std.proofs.Common.{◌≡◌, List, [], ◌∷◌, ◌++◌, refl, sym, ◌∙◌, append-nil, append_assoc}
 use Rattle.std.specs.List.{filter_map}
-use Rattle.cx_base.specs.Names.{Name}
 use Rattle.cx_journal.specs.Backed.{IsBackedBy}
 use Rattle.cx_journal.specs.Behind.{EachBehind}
 use Rattle.cx_journal.specs.GidOnce.{GivesGidOnceBy}
 use Rattle.cx_journal.specs.InSession.{IsInSessionBy}
 use Rattle.cx_journal.specs.KeepsKeys.{KeepsKeysBy}
-use Rattle.cx_journal.specs.Leaks.{IsUnleaked}
 use Rattle.cx_journal.specs.Legal.{IsLegal}
-use Rattle.cx_journal.specs.PrefixOfSent.{IsPrefix, IsPrefixOfSent, all_handled_under, sent_under}
+use Rattle.cx_journal.specs.PrefixOfSent.{IsPrefixOfSent, sent_under}
 use Rattle.cx_journal.specs.declared.entries.Entry.{Entry}
 use Rattle.cx_journal.specs.declared.entries.Entry.TheVariants as entry
-use Rattle.cx_journal_rules.specs.Rules.{Keeps, KeepsAll, KeepsOrderBy}
-use Rattle.cx_journal_rules.specs.declared.rules.Rule.{Rule}
+use Rattle.cx_journal_rules.specs.Rules.{KeepsAll, KeepsOrderBy}
 use Rattle.cx_journal_rules.specs.declared.rules.Rule.TheVariants as rule
 use Rattle.cx_journal_rules.proofs.Order.{prefix_all, sent_push}
 

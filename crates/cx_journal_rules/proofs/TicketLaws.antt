@@ -1,6 +1,6 @@
 -- The tests of tickets say what the laws of admission and of global ids do.
-use Rattle.std.proofs.Common.{◌≡◌, ℕ, ◌<◌, Bool, true, false, cond, List, [], ◌∷◌, ◌⊎◌, inl, inr, refl, sym, ap, ◌∙◌, arith, nat_lt, eq-eqb, ◌==◌, rules}
-use Rattle.std.specs.Prelude.{◌&&◌, ◌||◌, not, Contains}
+use Rattle.std.proofs.Common.{◌≡◌, ℕ, ◌<◌, Bool, true, false, List, ◌⊎◌, inl, inr, refl, sym, ◌∙◌, arith, nat_lt, eq-eqb, ◌==◌}
+use Rattle.std.specs.Prelude.{◌&&◌, ◌||◌, not}
 use Rattle.std.specs.List.{list_any}
 use Rattle.std.specs.Str.{bytes_eq}
 use Rattle.std.proofs.lemmas.Bool.{eqb-true}
@@ -120,7 +120,7 @@ then_renewed true true false is given e = cc
 then_renewed false b false is given e = cc
 then_renewed true false false is given e = cc
 
-pub shares : (earlier : List Entry) (t : Issued) → shares_gid earlier t ≡ true → SharesGid earlier t
+pub shares : (earlier : List Entry) (t : Issued) → shares_gid earlier earlier t ≡ true → SharesGid earlier t
 shares earlier t e other c gid =
     let parts = both (not (list_any (differs t) earlier)) (not (same_kind t.service Auth) || (not (list_any (has_gid t) earlier) || list_any (renews t) earlier)) e in
     let none = unnot (list_any (differs t) earlier) parts.0 in
@@ -152,6 +152,6 @@ unshared_by earlier t law (inr fresh) =
     let old = (law one.0 (rw (← one.1) found.1) one.2).1 (same_kind_is t.service Auth fresh.0) in
     unequal (sym (any_holds (renews t) earlier (entry.Issued old.old) old.issued (is_renews earlier t old)) ∙ fresh.2)
 
-pub unshared : (earlier : List Entry) (t : Issued) → shares_gid earlier t ≡ false → SharesGid earlier t → ⊥
+pub unshared : (earlier : List Entry) (t : Issued) → shares_gid earlier earlier t ≡ false → SharesGid earlier t → ⊥
 unshared earlier t e law =
     unshared_by earlier t law (fails_how (list_any (differs t) earlier) (same_kind t.service Auth) (list_any (has_gid t) earlier) (list_any (renews t) earlier) e)

@@ -1,39 +1,34 @@
 //! Which rule an entry breaks first.
 
-ghost use Rattle.std.specs.Prelude.{◌≡◌, map};
+ghost use Rattle.std.specs.Prelude.{◌≡◌, drop, length, map, IfOk};
 ghost use Rattle.std.specs.List.{list_any};
-ghost use Rattle.std.specs.Option.{option_map};
-ghost use Rattle.cx_base.specs.Names.{same_name};
-ghost use Rattle.cx_journal.specs.PrefixOfSent.{sent_under};
-ghost use Rattle.cx_journal.specs.Sessions.{is_session_of};
-ghost use Rattle.cx_journal_rules.specs.Tests.{broken_by, broken_generation, broken_handled, broken_order, broken_refusal, is_sent_behind, last_of, same_access, same_operation, unless};
+ghost use Rattle.cx_base.specs.declared.kinds.EntityType.TheVariants.{Auth};
+ghost use Rattle.cx_journal.specs.KeepsKeys.{is_look};
+ghost use Rattle.cx_journal.specs.Leaks.{is_leak};
+ghost use Rattle.cx_journal.specs.Sessions.{last_such};
+ghost use Rattle.cx_journal_index.specs.Keyed.{bytes_key, name_key, number_key, under};
+ghost use Rattle.cx_journal_rules.specs.Tests.{backs, broken_by, broken_generation, broken_handled, broken_order, broken_refusal, found_session, is_issued_as, is_next, is_this, keeps_key, lacks, same_access, same_operation, shares_gid, unless};
 
+use crate::known::Known;
 use crate::rules::Rule;
 use crate::sessions::{count_under, session_of};
-use crate::tickets::{is_backed, keeps_key, shares_gid};
+use crate::tickets::{is_backed, lacks_key, shares_gid, was_issued};
 use cx_base::{Access, Blob, EntityName, NodeName, Operation};
-use cx_journal::{Admitted, Entry, Handled, Reason, Refused, Sent, TicketFault};
+use cx_journal::{Admitted, Entry, Handled, Issued, Reason, Refused, TicketFault};
+use cx_journal_index::{Index, Key};
+use std::alloc::{AllocError, Global};
 
-/// What is known of the entries before one: the clients of the whole journal that leaked, the sessions that are open, and those
-/// in which operations were handled.
-#[derive(Clone, Copy)]
-pub struct Standing<'a, 'b> {
-    pub leaks: &'b [&'a EntityName],
-    pub opened: &'b [&'a Admitted],
-    pub handlers: &'b [&'a Admitted],
-}
-
-/// The least rule that the entry breaks behind the earlier ones.
-pub fn broken_by(earlier: &[Entry], standing: Standing, entry: &Entry) -> Option<Rule>
-    ensures { result ≡ broken_by earlier.now (map (λ n. n.now) standing.entry.leaks.now) (map (λ a. a.now) standing.entry.opened.now) (map (λ a. a.now) standing.entry.handlers.now) entry.now }
+/// The least rule that the entry breaks behind those of which this is known.
+pub fn broken_by(alloc: Global, known: &Known, entry: &Entry) -> Result<Option<Rule>, AllocError>
+    ensures { IfOk result (λ rule. rule ≡ broken_by known.now entry.now) }
 {
     match entry {
-        Entry::Issued(t) => unless(shares_gid(earlier, t), Rule::GidOnce),
-        Entry::Admitted(a) => unless(is_backed(earlier, a), Rule::Backed),
-        Entry::Resumed(a) => unless(is_backed(earlier, a), Rule::Backed),
-        Entry::Handled(h) => broken_handled(earlier, standing, h),
-        Entry::Refused(r) => broken_refusal(earlier, r),
-        _ => None,
+        Entry::Issued(t) => Ok(unless(keeps_gid(alloc, known, t), Rule::GidOnce)),
+        Entry::Admitted(a) => Ok(unless(has_ticket(alloc, &known.tickets, a), Rule::Backed)),
+        Entry::Resumed(a) => Ok(unless(has_ticket(alloc, &known.tickets, a), Rule::Backed)),
+        Entry::Handled(h) => broken_handled(alloc, known, h),
+        Entry::Refused(r) => broken_refusal(alloc, known, r),
+        _ => Ok(None),
     }
 }
 
@@ -43,111 +38,196 @@ fn unless(kept: bool, rule: Rule) -> Option<Rule>
     if kept { None } else { Some(rule) }
 }
 
-fn broken_refusal(earlier: &[Entry], refused: &Refused) -> Option<Rule>
-    ensures { result ≡ broken_refusal earlier.now refused.now.node refused.now.link refused.now.reason }
+fn keeps_gid(alloc: Global, known: &Known, ticket: &Issued) -> bool
+    ensures { result ≡ shares_gid (under known.now.owners (number_key ticket.now.gid)) (under known.now.tickets (number_key ticket.now.gid)) ticket.now }
+{
+    let key = Key::of_number(alloc, ticket.gid);
+    shares_gid(&known.owners, &known.tickets, &key, ticket)
+}
+
+fn has_ticket(alloc: Global, tickets: &Index, session: &Admitted) -> bool
+    ensures { result ≡ list_any (backs session.now) (under tickets.now (number_key session.now.gid)) }
+{
+    match tickets.under(&Key::of_number(alloc, session.gid)) {
+        Some(entries) => is_backed(entries.as_slice(), session),
+        None => false,
+    }
+}
+
+fn broken_refusal(
+    alloc: Global,
+    known: &Known,
+    refused: &Refused,
+) -> Result<Option<Rule>, AllocError>
+    ensures { IfOk result (λ rule. rule ≡ broken_refusal known.now refused.now.node refused.now.link refused.now.reason) }
 {
     match &refused.node {
-        NodeName::Monitor => None,
+        NodeName::Monitor => Ok(None),
         NodeName::Entity(daemon) => match &refused.reason {
             Reason::Ticket(why, blob) => {
-                broken_generation(earlier, daemon, refused.link, *why, blob)
+                broken_generation(alloc, known, daemon, refused.link, *why, blob)
             }
-            _ => None,
+            _ => Ok(None),
         },
     }
 }
 
 fn broken_generation(
-    earlier: &[Entry],
+    alloc: Global,
+    known: &Known,
     daemon: &EntityName,
     link: u32,
     why: TicketFault,
     blob: &Blob,
-) -> Option<Rule>
-    ensures { result ≡ broken_generation earlier.now daemon.now link why blob.now }
+) -> Result<Option<Rule>, AllocError>
+    ensures { IfOk result (λ rule. rule ≡ broken_generation known.now daemon.now link why blob.now) }
 {
     match why {
-        TicketFault::UnknownGeneration(generation) => unless(
-            keeps_key(earlier, daemon, link, generation, blob),
-            Rule::KeepsKeys,
-        ),
-        TicketFault::TicketUnopened(generation) => unless(
-            keeps_key(earlier, daemon, link, generation, blob),
-            Rule::KeepsKeys,
-        ),
-        _ => None,
+        TicketFault::UnknownGeneration(generation) => {
+            let kept = keeps_key(alloc, known, daemon, link, generation, blob)?;
+            Ok(unless(kept, Rule::KeepsKeys))
+        }
+        TicketFault::TicketUnopened(generation) => {
+            let kept = keeps_key(alloc, known, daemon, link, generation, blob)?;
+            Ok(unless(kept, Rule::KeepsKeys))
+        }
+        _ => Ok(None),
     }
 }
 
-fn broken_handled(earlier: &[Entry], standing: Standing, handled: &Handled) -> Option<Rule>
-    ensures { result ≡ broken_handled earlier.now (map (λ n. n.now) standing.entry.leaks.now) (map (λ a. a.now) standing.entry.handlers.now) handled.now (last_of (is_session_of handled.now) (map (λ a. a.now) standing.entry.opened.now)) }
+/// Whether a refusal of the ticket of this blob for this generation keeps the law of kept keys.
+fn keeps_key(
+    alloc: Global,
+    known: &Known,
+    daemon: &EntityName,
+    link: u32,
+    generation: u64,
+    blob: &Blob,
+) -> Result<bool, AllocError>
+    ensures { IfOk result (λ kept. kept ≡ keeps_key (under known.now.blobs (bytes_key blob.now generation)) (under known.now.looks (name_key daemon.now link 0)) daemon.now link generation blob.now) }
 {
-    let Some(session) = session_of(standing.opened, handled) else {
-        return Some(Rule::InSession);
-    };
-    if has_name(standing.leaks, &session.entity) {
-        return None;
+    if !is_known(alloc, &known.blobs, daemon, generation, blob)? {
+        return Ok(true);
     }
-    broken_order(earlier, standing.handlers, handled, session)
+    looked_in_vain(alloc, &known.looks, daemon, link, generation)
 }
 
-fn has_name(names: &[&EntityName], name: &EntityName) -> bool
-    ensures { result ≡ list_any (λ other. same_name other name.now) (map (λ n. n.now) names.now) }
+fn is_known(
+    alloc: Global,
+    blobs: &Index,
+    daemon: &EntityName,
+    generation: u64,
+    blob: &Blob,
+) -> Result<bool, AllocError>
+    ensures { IfOk result (λ known. known ≡ list_any (is_issued_as daemon.now generation blob.now) (under blobs.now (bytes_key blob.now generation))) }
 {
-    any_is(names, name)
+    let key = Key::of_bytes(alloc, blob.bytes(), generation)?;
+    match blobs.under(&key) {
+        Some(entries) => Ok(was_issued(entries.as_slice(), daemon, generation, blob)),
+        None => Ok(false),
+    }
 }
 
-fn any_is(names: &[&EntityName], name: &EntityName) -> bool
-    ensures { result ≡ list_any (λ other. same_name other.now name.now) names.now }
+fn looked_in_vain(
+    alloc: Global,
+    looks: &Index,
+    daemon: &EntityName,
+    link: u32,
+    generation: u64,
+) -> Result<bool, AllocError>
+    ensures { IfOk result (λ lacking. lacking ≡ lacks generation (last_such (is_look daemon.now link) (under looks.now (name_key daemon.now link 0)))) }
 {
-    names.iter().any(|other| **other == *name)
+    let key = Key::of_entity(alloc, daemon, link as u64, 0)?;
+    match looks.under(&key) {
+        Some(entries) => Ok(lacks_key(entries.as_slice(), daemon, link, generation)),
+        None => Ok(false),
+    }
 }
 
-fn broken_order(
-    earlier: &[Entry],
-    handlers: &[&Admitted],
+fn broken_handled(
+    alloc: Global,
+    known: &Known,
     handled: &Handled,
-    session: &Admitted,
-) -> Option<Rule>
-    ensures { result ≡ broken_order earlier.now (map (λ a. a.now) handlers.now) handled.now session.now }
+) -> Result<Option<Rule>, AllocError>
+    ensures { IfOk result (λ rule. rule ≡ broken_handled known.now handled.now (found_session known.now handled.now)) }
 {
-    let done = count_under(handlers, handled.cookie, &session.entity);
-    unless(
-        is_sent_behind(earlier, handled, &session.entity, done),
-        Rule::PrefixOfSent,
-    )
+    let Some(session) = session_of(alloc, known, handled)? else {
+        return Ok(Some(Rule::InSession));
+    };
+    if is_leaked(alloc, &known.leaks, &session.entity)? {
+        return Ok(None);
+    }
+    broken_order(alloc, known, handled, session)
 }
 
-/// Whether behind so many that the client sent under the operation's cookie the next one is this operation.
-fn is_sent_behind(earlier: &[Entry], handled: &Handled, client: &EntityName, done: usize) -> bool
-    ensures { result ≡ is_sent_behind handled.now.cookie client.now (handled.now.seq, handled.now.operation) done earlier.now }
+fn is_leaked(alloc: Global, leaks: &Index, name: &EntityName) -> Result<bool, AllocError>
+    ensures { IfOk result (λ leaked. leaked ≡ list_any (is_leak name.now) (under leaks.now (name_key name.now 0 0))) }
 {
-    let mut left = done;
-    for entry in earlier {
-        if let Some(sent) = sent_under(handled.cookie, client, entry) {
-            if left == 0 {
-                return sent.seq == handled.seq
-                    && same_operation(&sent.operation, &handled.operation);
-            }
-            left -= 1;
+    let key = Key::of_entity(alloc, name, 0, 0)?;
+    match leaks.under(&key) {
+        Some(entries) => Ok(some_leak(entries.as_slice(), name)),
+        None => Ok(false),
+    }
+}
+
+fn some_leak(entries: &[&Entry], name: &EntityName) -> bool
+    ensures { result ≡ list_any (is_leak name.now) (map (λ e. e.now) entries.now) }
+{
+    for entry in entries {
+        if is_leak(name, entry) {
+            return true;
         }
     }
     false
 }
 
-/// What the entry says that the client sent under the cookie.
-fn sent_under<'a>(cookie: u64, client: &EntityName, entry: &'a Entry) -> Option<&'a Sent>
-    ensures { option_map (λ s. (s.now.seq, s.now.operation)) result ≡ sent_under cookie client.now entry.now }
+fn is_leak(name: &EntityName, entry: &Entry) -> bool
+    ensures { result ≡ is_leak name.now entry.now }
 {
     match entry {
-        Entry::Sent(s) => {
-            if s.cookie == cookie && s.client == *client {
-                Some(s)
-            } else {
-                None
-            }
-        }
-        _ => None,
+        Entry::Leaked(other) => *other == *name,
+        _ => false,
+    }
+}
+
+fn broken_order(
+    alloc: Global,
+    known: &Known,
+    handled: &Handled,
+    session: &Admitted,
+) -> Result<Option<Rule>, AllocError>
+    ensures { IfOk result (λ rule. rule ≡ broken_order known.now handled.now session.now) }
+{
+    let key = Key::of_entity(alloc, &session.entity, handled.cookie, 0)?;
+    let done = count_under(&known.handled, &key);
+    Ok(unless(
+        is_sent_next(&known.sent, &key, handled, done),
+        Rule::PrefixOfSent,
+    ))
+}
+
+/// Whether behind so many that were sent under this key the next one is this operation.
+fn is_sent_next(sent: &Index, key: &Key, handled: &Handled, done: usize) -> bool
+    ensures { result ≡ is_next (handled.now.seq, handled.now.operation) (drop done (under sent.now key.now)) }
+{
+    match sent.under(key) {
+        Some(entries) => is_next(entries.as_slice(), handled, done),
+        None => false,
+    }
+}
+
+fn is_next(entries: &[&Entry], handled: &Handled, done: usize) -> bool
+    ensures { result ≡ is_next (handled.now.seq, handled.now.operation) (map (λ e. e.now) (drop done entries.now)) }
+{
+    done < entries.len() && is_this(entries[done], handled)
+}
+
+fn is_this(entry: &Entry, handled: &Handled) -> bool
+    ensures { result ≡ is_this (handled.now.seq, handled.now.operation) entry.now }
+{
+    match entry {
+        Entry::Sent(s) => s.seq == handled.seq && same_operation(&s.operation, &handled.operation),
+        _ => false,
     }
 }
 

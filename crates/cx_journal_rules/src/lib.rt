@@ -3,6 +3,7 @@
 
 mod finding;
 mod judging;
+mod known;
 mod laws;
 mod rules;
 mod sessions;

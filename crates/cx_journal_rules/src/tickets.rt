@@ -1,21 +1,28 @@
 //! Tests of tickets.
 
-ghost use Rattle.std.specs.Prelude.{◌≡◌, ◌==◌};
+ghost use Rattle.std.specs.Prelude.{◌≡◌, ◌==◌, map};
 ghost use Rattle.std.specs.List.{list_any};
 ghost use Rattle.std.specs.Option.{option_copied};
 ghost use Rattle.cx_journal.specs.KeepsKeys.{has_generation, is_look};
 ghost use Rattle.cx_journal.specs.Sessions.{last_such};
-ghost use Rattle.cx_journal_rules.specs.Tests.{backs, differs, has_gid, is_for, is_issued_as, keeps_key, lacks, renews, shares_gid};
+ghost use Rattle.cx_journal_index.specs.Keyed.{under};
+ghost use Rattle.cx_journal_rules.specs.Tests.{backs, differs, has_gid, is_for, is_issued_as, lacks, owns, renews, shares_gid};
 
 use cx_base::{Blob, EntityName, EntityType};
 use cx_journal::{Admitted, Entry, Issued};
+use cx_journal_index::{Index, Key};
 use cx_rotate::Generations;
 
 /// Whether one of the entries issued a ticket that backs the session.
-pub fn is_backed(earlier: &[Entry], session: &Admitted) -> bool
-    ensures { result ≡ list_any (backs session.now) earlier.now }
+pub fn is_backed(entries: &[&Entry], session: &Admitted) -> bool
+    ensures { result ≡ list_any (backs session.now) (map (λ e. e.now) entries.now) }
 {
-    earlier.iter().any(|entry| backs(session, entry))
+    for entry in entries {
+        if backs(session, entry) {
+            return true;
+        }
+    }
+    false
 }
 
 fn backs(session: &Admitted, entry: &Entry) -> bool
@@ -36,23 +43,85 @@ fn is_for(session: &Admitted, t: &Issued) -> bool
         && t.service.is(session.daemon.kind)
 }
 
-/// Whether the ticket shares its global id with its entity's alone, and keeps it by renewal.
-pub fn shares_gid(earlier: &[Entry], ticket: &Issued) -> bool
-    ensures { result ≡ shares_gid earlier.now ticket.now }
+/// Whether an entry under this key tells that the ticket's global id is its entity's.
+pub fn is_owned(owners: &Index, key: &Key, ticket: &Issued) -> bool
+    ensures { result ≡ list_any (owns ticket.now) (under owners.now key.now) }
 {
-    if is_taken(earlier, ticket) {
+    match owners.under(key) {
+        Some(entries) => some_owns(entries.as_slice(), ticket),
+        None => false,
+    }
+}
+
+fn some_owns(entries: &[&Entry], ticket: &Issued) -> bool
+    ensures { result ≡ list_any (owns ticket.now) (map (λ e. e.now) entries.now) }
+{
+    for entry in entries {
+        if owns(ticket, entry) {
+            return true;
+        }
+    }
+    false
+}
+
+fn owns(ticket: &Issued, entry: &Entry) -> bool
+    ensures { result ≡ owns ticket.now entry.now }
+{
+    match entry {
+        Entry::Issued(other) => other.gid == ticket.gid && other.entity == ticket.entity,
+        _ => false,
+    }
+}
+
+/// Whether the ticket shares its global id with its entity's alone, and keeps it by renewal, by what stands under this key.
+pub fn shares_gid(owners: &Index, tickets: &Index, key: &Key, ticket: &Issued) -> bool
+    ensures { result ≡ shares_gid (under owners.now key.now) (under tickets.now key.now) ticket.now }
+{
+    if is_taken(owners, key, ticket) {
         return false;
     }
     if !ticket.service.is(EntityType::Auth) {
         return true;
     }
-    !is_given(earlier, ticket) || is_renewed(earlier, ticket)
+    !is_given(owners, key, ticket) || is_renewed(tickets, key, ticket)
 }
 
-fn is_taken(earlier: &[Entry], ticket: &Issued) -> bool
-    ensures { result ≡ list_any (differs ticket.now) earlier.now }
+fn is_taken(owners: &Index, key: &Key, ticket: &Issued) -> bool
+    ensures { result ≡ list_any (differs ticket.now) (under owners.now key.now) }
 {
-    earlier.iter().any(|entry| differs(ticket, entry))
+    match owners.under(key) {
+        Some(entries) => some_differs(entries.as_slice(), ticket),
+        None => false,
+    }
+}
+
+fn is_given(owners: &Index, key: &Key, ticket: &Issued) -> bool
+    ensures { result ≡ list_any (has_gid ticket.now) (under owners.now key.now) }
+{
+    match owners.under(key) {
+        Some(entries) => some_has_gid(entries.as_slice(), ticket),
+        None => false,
+    }
+}
+
+fn is_renewed(tickets: &Index, key: &Key, ticket: &Issued) -> bool
+    ensures { result ≡ list_any (renews ticket.now) (under tickets.now key.now) }
+{
+    match tickets.under(key) {
+        Some(entries) => some_renews(entries.as_slice(), ticket),
+        None => false,
+    }
+}
+
+fn some_differs(entries: &[&Entry], ticket: &Issued) -> bool
+    ensures { result ≡ list_any (differs ticket.now) (map (λ e. e.now) entries.now) }
+{
+    for entry in entries {
+        if differs(ticket, entry) {
+            return true;
+        }
+    }
+    false
 }
 
 fn differs(ticket: &Issued, entry: &Entry) -> bool
@@ -64,10 +133,15 @@ fn differs(ticket: &Issued, entry: &Entry) -> bool
     }
 }
 
-fn is_given(earlier: &[Entry], ticket: &Issued) -> bool
-    ensures { result ≡ list_any (has_gid ticket.now) earlier.now }
+fn some_has_gid(entries: &[&Entry], ticket: &Issued) -> bool
+    ensures { result ≡ list_any (has_gid ticket.now) (map (λ e. e.now) entries.now) }
 {
-    earlier.iter().any(|entry| has_gid(ticket, entry))
+    for entry in entries {
+        if has_gid(ticket, entry) {
+            return true;
+        }
+    }
+    false
 }
 
 fn has_gid(ticket: &Issued, entry: &Entry) -> bool
@@ -79,10 +153,15 @@ fn has_gid(ticket: &Issued, entry: &Entry) -> bool
     }
 }
 
-fn is_renewed(earlier: &[Entry], ticket: &Issued) -> bool
-    ensures { result ≡ list_any (renews ticket.now) earlier.now }
+fn some_renews(entries: &[&Entry], ticket: &Issued) -> bool
+    ensures { result ≡ list_any (renews ticket.now) (map (λ e. e.now) entries.now) }
 {
-    earlier.iter().any(|entry| renews(ticket, entry))
+    for entry in entries {
+        if renews(ticket, entry) {
+            return true;
+        }
+    }
+    false
 }
 
 fn renews(ticket: &Issued, entry: &Entry) -> bool
@@ -99,28 +178,16 @@ fn renews(ticket: &Issued, entry: &Entry) -> bool
     }
 }
 
-/// Whether a refusal of the ticket of this blob for this generation keeps the law of kept keys.
-pub fn keeps_key(
-    earlier: &[Entry],
-    daemon: &EntityName,
-    link: u32,
-    generation: u64,
-    blob: &Blob,
-) -> bool
-    ensures { result ≡ keeps_key earlier.now daemon.now link generation blob.now }
+/// Whether one of the entries issued the ticket of this blob for the daemon's service under this generation.
+pub fn was_issued(entries: &[&Entry], daemon: &EntityName, generation: u64, blob: &Blob) -> bool
+    ensures { result ≡ list_any (is_issued_as daemon.now generation blob.now) (map (λ e. e.now) entries.now) }
 {
-    if !was_issued(earlier, daemon, generation, blob) {
-        return true;
+    for entry in entries {
+        if is_issued_as(daemon, generation, blob, entry) {
+            return true;
+        }
     }
-    lacks(generation, last_look(earlier, daemon, link))
-}
-
-fn was_issued(earlier: &[Entry], daemon: &EntityName, generation: u64, blob: &Blob) -> bool
-    ensures { result ≡ list_any (is_issued_as daemon.now generation blob.now) earlier.now }
-{
-    earlier
-        .iter()
-        .any(|entry| is_issued_as(daemon, generation, blob, entry))
+    false
 }
 
 fn is_issued_as(daemon: &EntityName, generation: u64, blob: &Blob, entry: &Entry) -> bool
@@ -134,15 +201,21 @@ fn is_issued_as(daemon: &EntityName, generation: u64, blob: &Blob, entry: &Entry
     }
 }
 
-/// The daemon's latest look for the link.
+/// Whether there is a look of the daemon's for the link among the entries, and the last such doesn't list the generation.
+pub fn lacks_key(entries: &[&Entry], daemon: &EntityName, link: u32, generation: u64) -> bool
+    ensures { result ≡ lacks generation (last_such (is_look daemon.now link) (map (λ e. e.now) entries.now)) }
+{
+    lacks(generation, last_look(entries, daemon, link))
+}
+
 #[tactic(auto, using(crate::proofs::Walks::or_again))]
-fn last_look<'a>(earlier: &'a [Entry], daemon: &EntityName, link: u32) -> Option<&'a Entry>
-    ensures { option_copied result ≡ last_such (is_look daemon.now link) earlier.now }
+fn last_look<'a>(entries: &[&'a Entry], daemon: &EntityName, link: u32) -> Option<&'a Entry>
+    ensures { option_copied result ≡ last_such (is_look daemon.now link) (map (λ e. e.now) entries.now) }
 {
     let mut found = None;
-    for entry in earlier {
+    for entry in entries {
         if is_look(daemon, link, entry) {
-            found = Some(entry);
+            found = Some(*entry);
         }
     }
     found

@@ -14,6 +14,8 @@ static REPLAY: [&str; 1] = ["replay"];
 
 static KEYRING: [&str; 1] = ["keyring"];
 
+static AUDIT: [&str; 1] = ["audit"];
+
 /// The words of the command line, the input with the numbers of its calls that fail, and how many bytes the sink takes.
 #[derive(Clone, Copy)]
 pub(crate) struct Given<'a> {
@@ -38,6 +40,16 @@ pub(crate) fn print_of(keyring: &[u8]) -> Given<'_> {
     Given {
         words: &KEYRING,
         input: keyring,
+        fails: &[],
+        room: ROOM,
+    }
+}
+
+/// An audit of a journal.
+pub(crate) fn audit_of(journal: &[u8]) -> Given<'_> {
+    Given {
+        words: &AUDIT,
+        input: journal,
         fails: &[],
         room: ROOM,
     }

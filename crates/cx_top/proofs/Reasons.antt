@@ -1,5 +1,11 @@
 -- From a reader's reasons to those of the command.
 use Rattle.std.proofs.Common.{◌≡◌, ℕ, ◌⊎◌, inl, inr, List, Some, None, refl, sym, ap, ◌∙◌}
+use Rattle.cx_audit.specs.Verdicts.{IsAuditCause, IsRefusedAt}
+use Rattle.cx_audit.specs.declared.verdicts.AuditRefusal.{AuditRefusal}
+use Rattle.cx_audit.specs.declared.verdicts.AuditRefusal.TheVariants as audit
+use Rattle.cx_journal_lines.specs.Reading.{IsFirstBad, IsJournal, nothing}
+use Rattle.cx_journal_lines.specs.declared.entries.JournalLine.{JournalLine}
+use Rattle.cx_journal_lines.specs.declared.refusals.WrongLine.{WrongLine}
 use Rattle.cx_keyring.specs.declared.refusals.KeyringRefusal.{KeyringRefusal}
 use Rattle.cx_keyring.specs.declared.refusals.KeyringRefusal.TheVariants as keyring
 use Rattle.cx_keyring.specs.Rings as rings
@@ -10,12 +16,12 @@ use Rattle.cx_replay.specs.declared.refusals.ReplayRefusal.TheVariants as replay
 use Rattle.cx_schedule.specs.Files as files
 use Rattle.cx_schedule.specs.declared.refusals.ScheduleRefusal.{ScheduleRefusal}
 use Rattle.cx_schedule.specs.declared.refusals.ScheduleRefusal.TheVariants as schedule
-use Rattle.cx_words.specs.Cutting.{IsShort}
-use Rattle.cx_top.specs.declared.commands.Subcommand.TheVariants.{Replay, Keyring}
+use Rattle.cx_words.specs.Cutting.{IsShort, lines_of}
+use Rattle.cx_top.specs.declared.commands.Subcommand.TheVariants.{Replay, Keyring, Audit}
 use Rattle.cx_top.specs.declared.status.Status.{Status}
-use Rattle.cx_top.specs.declared.status.Status.TheVariants.{Done, Usage, BadSchedule, ReadFault, WriteFault, OutOfMemory, BadKeyring, Broken, TooLong, NotYet}
+use Rattle.cx_top.specs.declared.status.Status.TheVariants.{Done, Usage, BadSchedule, ReadFault, WriteFault, OutOfMemory, BadKeyring, Broken, TooLong, NotYet, BadJournal}
 use Rattle.cx_top.specs.Causes.{IsAnswered, IsBytesCause, IsReasonFor}
-use Rattle.cx_top.specs.Statuses.{IsOrMemory, keyring_status, replay_status, schedule_status}
+use Rattle.cx_top.specs.Statuses.{IsOrMemory, audit_status, keyring_status, replay_status, schedule_status}
 
 -- ---- schedules
 
@@ -39,6 +45,7 @@ schedule_reason bytes got WriteFault reason exact only = absurd reason
 schedule_reason bytes got Broken reason exact only = absurd reason
 schedule_reason bytes got OutOfMemory reason exact only = absurd reason
 schedule_reason bytes got (BadKeyring line why) reason exact only = absurd reason
+schedule_reason bytes got (BadJournal line bad) reason exact only = absurd reason
 
 -- a schedule that is read is refused at the first line that isn't served, or memory is wanting
 or_replay : (script other : List Numbered) (got : ReplayRefusal) (line : ℕ) → IsReplayCause script got → script ≡ other → first_unserved other ≡ Some line → IsOrMemory (NotYet line) (replay_status got)
@@ -60,6 +67,7 @@ replay_reason bytes script got WriteFault reason cause one exact = absurd reason
 replay_reason bytes script got Broken reason cause one exact = absurd reason
 replay_reason bytes script got OutOfMemory reason cause one exact = absurd reason
 replay_reason bytes script got (BadKeyring line why) reason cause one exact = absurd reason
+replay_reason bytes script got (BadJournal line bad) reason cause one exact = absurd reason
 
 -- a schedule that is served has no reason to be refused
 pub schedule_read : (bytes : List ℕ) (script : List Numbered) (status : Status) → IsReasonFor Replay bytes status → first_unserved script ≡ None
@@ -75,6 +83,7 @@ schedule_read bytes script WriteFault reason taken one exact = reason
 schedule_read bytes script Broken reason taken one exact = reason
 schedule_read bytes script OutOfMemory reason taken one exact = reason
 schedule_read bytes script (BadKeyring line why) reason taken one exact = reason
+schedule_read bytes script (BadJournal line bad) reason taken one exact = reason
 
 -- why there is no replay is why the bytes are refused
 pub replay_cause : (bytes : List ℕ) (script : List Numbered) (got : ReplayRefusal) → IsShort bytes → files.Lines bytes script → IsReplayCause script got → IsBytesCause Replay bytes (replay_status got)
@@ -107,6 +116,7 @@ keyring_reason bytes got (BadKeyring line None) short (_, (is, ring, text, long)
     or_keyring got (keyring.TooMany 4096) (BadKeyring line None) (zero_line line is) (exact (keyring.TooMany 4096) (refl, ring, text, long))
 keyring_reason bytes got (BadSchedule line bad) short reason exact = absurd reason
 keyring_reason bytes got (NotYet line) short reason exact = absurd reason
+keyring_reason bytes got (BadJournal line bad) short reason exact = absurd reason
 keyring_reason bytes got Done short reason exact = absurd reason
 keyring_reason bytes got Usage short reason exact = absurd reason
 keyring_reason bytes got ReadFault short reason exact = absurd reason
@@ -121,9 +131,56 @@ keyring_read bytes (BadKeyring line (Some why)) short reason exact = exact (keyr
 keyring_read bytes (BadKeyring line None) short (_, (is, ring, text, long)) exact = exact (keyring.TooMany 4096) (refl, ring, text, long)
 keyring_read bytes (BadSchedule line bad) short reason exact = reason
 keyring_read bytes (NotYet line) short reason exact = reason
+keyring_read bytes (BadJournal line bad) short reason exact = reason
 keyring_read bytes Done short reason exact = reason
 keyring_read bytes Usage short reason exact = reason
 keyring_read bytes ReadFault short reason exact = reason
 keyring_read bytes WriteFault short reason exact = reason
 keyring_read bytes Broken short reason exact = reason
 keyring_read bytes OutOfMemory short reason exact = reason
+
+-- ---- journals
+
+-- where it refuses the bytes, it is for the reason, or memory is wanting
+or_journal : (line : ℕ) (bad : WrongLine) (got : AuditRefusal) → IsRefusedAt line bad got → IsOrMemory (BadJournal line bad) (audit_status got)
+or_journal line bad (audit.BadLine n worse) (same, also) = ap (λ k. BadJournal k worse) same ∙ ap (λ w. BadJournal line w) also
+or_journal line bad audit.OutOfMemory refused = tt
+
+pub audit_reason : (bytes : List ℕ) (got : AuditRefusal) (status : Status) → IsShort bytes → IsReasonFor Audit bytes status
+    → ((number : ℕ) (bad : WrongLine) → IsShort bytes → IsFirstBad nothing (lines_of bytes) number bad → IsRefusedAt number bad got) → IsOrMemory status (audit_status got)
+audit_reason bytes got TooLong short reason exact = absurd (reason short)
+audit_reason bytes got (BadJournal line bad) short reason exact = or_journal line bad got (exact line bad short reason.1)
+audit_reason bytes got (BadSchedule line bad) short reason exact = absurd reason
+audit_reason bytes got (BadKeyring line why) short reason exact = absurd reason
+audit_reason bytes got (NotYet line) short reason exact = absurd reason
+audit_reason bytes got Done short reason exact = absurd reason
+audit_reason bytes got Usage short reason exact = absurd reason
+audit_reason bytes got ReadFault short reason exact = absurd reason
+audit_reason bytes got WriteFault short reason exact = absurd reason
+audit_reason bytes got Broken short reason exact = absurd reason
+audit_reason bytes got OutOfMemory short reason exact = absurd reason
+
+-- a journal that is read has no reason to be refused
+pub audit_read : (bytes : List ℕ) (status : Status) → IsShort bytes → IsReasonFor Audit bytes status
+    → ((number : ℕ) (bad : WrongLine) → IsShort bytes → IsFirstBad nothing (lines_of bytes) number bad → ⊥) → ⊥
+audit_read bytes TooLong short reason exact = reason short
+audit_read bytes (BadJournal line bad) short reason exact = exact line bad short reason.1
+audit_read bytes (BadSchedule line bad) short reason exact = reason
+audit_read bytes (BadKeyring line why) short reason exact = reason
+audit_read bytes (NotYet line) short reason exact = reason
+audit_read bytes Done short reason exact = reason
+audit_read bytes Usage short reason exact = reason
+audit_read bytes ReadFault short reason exact = reason
+audit_read bytes WriteFault short reason exact = reason
+audit_read bytes Broken short reason exact = reason
+audit_read bytes OutOfMemory short reason exact = reason
+
+-- why it refuses the bytes is why the command does
+pub audit_cause : (bytes : List ℕ) (got : AuditRefusal) → IsShort bytes → IsAuditCause bytes got → IsBytesCause Audit bytes (audit_status got)
+audit_cause bytes (audit.BadLine line bad) short cause = (short, cause)
+audit_cause bytes audit.OutOfMemory short cause = tt
+
+-- a journal is audited, or memory is wanting
+pub audit_answered : (bytes : List ℕ) (got : AuditRefusal) → ((said : List JournalLine) → IsShort bytes → IsJournal bytes said → got ≡ audit.OutOfMemory) → IsAnswered Audit bytes
+    → audit_status got ≡ OutOfMemory
+audit_answered bytes got only (said, journal, short) = ap audit_status (only said short journal)

@@ -1,6 +1,8 @@
 -- Why a command refuses its input, and how it must end where nothing is in its way.
 use Rattle.std.specs.Prelude.{ℕ, ◌<◌, ◌≤◌, ◌≡◌, ◌⊎◌, List, [], length, drop, string_bytes, Option, Some, None}
 use Rattle.cx_base.specs.Streams.{Rose}
+use Rattle.cx_journal_lines.specs.Reading.{IsFirstBad, IsJournal, nothing}
+use Rattle.cx_journal_lines.specs.declared.entries.JournalLine.{JournalLine}
 use Rattle.cx_keyring.specs.declared.entries.Entry.{Entry}
 use Rattle.cx_keyring.specs.declared.faults.KeyringFault.{KeyringFault}
 use Rattle.cx_keyring.specs.declared.refusals.KeyringRefusal.TheVariants as keyring
@@ -9,11 +11,11 @@ use Rattle.cx_lines.specs.declared.lines.Numbered.{Numbered}
 use Rattle.cx_replay.specs.Serving.{first_unserved}
 use Rattle.cx_schedule.specs.declared.refusals.ScheduleRefusal.TheVariants as schedule
 use Rattle.cx_schedule.specs.Files.{Lines, IsScheduleCause}
-use Rattle.cx_words.specs.Cutting.{IsShort}
+use Rattle.cx_words.specs.Cutting.{IsShort, lines_of}
 use Rattle.cx_top.specs.declared.commands.Subcommand.{Subcommand}
-use Rattle.cx_top.specs.declared.commands.Subcommand.TheVariants.{Replay, Keyring}
+use Rattle.cx_top.specs.declared.commands.Subcommand.TheVariants.{Replay, Keyring, Audit}
 use Rattle.cx_top.specs.declared.status.Status.{Status}
-use Rattle.cx_top.specs.declared.status.Status.TheVariants.{Done, Usage, BadSchedule, ReadFault, WriteFault, OutOfMemory, BadKeyring, Broken, TooLong, NotYet}
+use Rattle.cx_top.specs.declared.status.Status.TheVariants.{Done, Usage, BadSchedule, ReadFault, WriteFault, OutOfMemory, BadKeyring, Broken, TooLong, NotYet, BadJournal}
 use Rattle.cx_top.specs.declared.program_end.ProgramEnd.{ProgramEnd}
 use Rattle.cx_top.specs.Replays.{GaveAll}
 use Rattle.cx_top.specs.Told.{refusal_told}
@@ -36,6 +38,7 @@ IsReasonFor command bytes TooLong = IsShort bytes → ⊥
 IsReasonFor Replay bytes (BadSchedule line bad) = IsScheduleCause bytes (schedule.BadLine line bad)
 IsReasonFor Replay bytes (NotYet line) = IsShort bytes × IsUnservedAt bytes line
 IsReasonFor Keyring bytes (BadKeyring line why) = IsShort bytes × IsBadKeyring bytes line why
+IsReasonFor Audit bytes (BadJournal line bad) = IsShort bytes × IsFirstBad nothing (lines_of bytes) line bad
 IsReasonFor command bytes _ = ⊥
 
 -- why these bytes are refused; want of memory is free
@@ -50,11 +53,13 @@ IsBytesCause command bytes TooLong = IsReasonFor command bytes TooLong
 IsBytesCause command bytes (BadSchedule line bad) = IsReasonFor command bytes (BadSchedule line bad)
 IsBytesCause command bytes (NotYet line) = IsReasonFor command bytes (NotYet line)
 IsBytesCause command bytes (BadKeyring line why) = IsReasonFor command bytes (BadKeyring line why)
+IsBytesCause command bytes (BadJournal line bad) = IsReasonFor command bytes (BadJournal line bad)
 
--- the bytes are a schedule that is served, or a keyring, within the limits
+-- the bytes are a schedule that is served, or a keyring, or a journal, within the limits
 abbrev pub IsAnswered : Subcommand → List ℕ → Type 0
 IsAnswered Replay bytes = (script : List Numbered) × Lines bytes script × (first_unserved script ≡ None) × IsShort bytes
 IsAnswered Keyring bytes = (ring : List Entry) × KeyringText bytes ring × (length ring ≤ 4096) × IsShort bytes
+IsAnswered Audit bytes = (said : List JournalLine) × IsJournal bytes said × IsShort bytes
 
 -- how a run of these bytes ended that are refused with this status: with it, and what is said of the bytes; or memory is wanting
 abbrev pub IsEndOf : List ℕ → Status → ProgramEnd → Type 0
@@ -85,6 +90,7 @@ IsRefusedStatus command left now TooLong told = IsTooLong left now × (told ≡ 
 IsRefusedStatus command left now (BadSchedule line bad) told = IsRefused command left now (BadSchedule line bad) told
 IsRefusedStatus command left now (NotYet line) told = IsRefused command left now (NotYet line) told
 IsRefusedStatus command left now (BadKeyring line why) told = IsRefused command left now (BadKeyring line why) told
+IsRefusedStatus command left now (BadJournal line bad) told = IsRefused command left now (BadJournal line bad) told
 IsRefusedStatus command left now Done told = Unit {0}
 IsRefusedStatus command left now Usage told = Unit {0}
 IsRefusedStatus command left now ReadFault told = told ≡ []
@@ -99,13 +105,14 @@ IsInputCause command left now before after TooLong told = IsTooLong left now × 
 IsInputCause command left now before after (BadSchedule line bad) told = IsRefused command left now (BadSchedule line bad) told
 IsInputCause command left now before after (NotYet line) told = IsRefused command left now (NotYet line) told
 IsInputCause command left now before after (BadKeyring line why) told = IsRefused command left now (BadKeyring line why) told
+IsInputCause command left now before after (BadJournal line bad) told = IsRefused command left now (BadJournal line bad) told
 IsInputCause command left now before after OutOfMemory told = Unit {0}
 IsInputCause command left now before after Done told = ⊥
 IsInputCause command left now before after Usage told = ⊥
 IsInputCause command left now before after WriteFault told = ⊥
 IsInputCause command left now before after Broken told = ⊥
 
--- the source tells what it has, and that is a schedule or a keyring within the limits
+-- the source tells what it has, and that is a schedule, a keyring or a journal within the limits
 abbrev pub HasAnswer : Subcommand → Option (List ℕ) → Type 0
 HasAnswer command None = ⊥
 HasAnswer command (Some bytes) = IsAnswered command bytes

@@ -1,19 +1,24 @@
 -- The commands: their words, and what each makes of its input.
 use Rattle.std.specs.Prelude.{ℕ, ◌≤◌, ◌≡◌, Bool, false, List, length, codes, Option}
+use Rattle.cx_audit.specs.Verdicts.{IsAudit}
+use Rattle.cx_audit.specs.declared.verdicts.Verdict.{Verdict}
+use Rattle.cx_audit_help.specs.Said.{verdict_text}
 use Rattle.cx_base.specs.Streams.{Takes, TakesFront}
 use Rattle.cx_desk.specs.Handlers.{Handlers}
 use Rattle.cx_keyring.specs.declared.entries.Entry.{Entry}
 use Rattle.cx_keyring.specs.Rings.{KeyringText, printed_keyring}
 use Rattle.cx_words.specs.Cutting.{IsShort, lines_of}
+use Rattle.cx_top.specs.Audits.{verdict_told}
 use Rattle.cx_top.specs.Notes.{ring_told}
 use Rattle.cx_top.specs.declared.commands.Subcommand.{Subcommand}
-use Rattle.cx_top.specs.declared.commands.Subcommand.TheVariants.{Replay, Keyring}
+use Rattle.cx_top.specs.declared.commands.Subcommand.TheVariants.{Replay, Keyring, Audit}
 use Rattle.cx_top.specs.Replays.{GaveAll, Replays}
 
 -- the word of a command
 abbrev pub command_word : Subcommand → List ℕ
 command_word Replay = codes "replay"
 command_word Keyring = codes "keyring"
+command_word Audit = codes "audit"
 
 -- the bytes are a keyring within the limits, of at most 4,096 entries, and the text is its printed form; each line whose caps
 -- grant nothing is said besides
@@ -25,11 +30,20 @@ pub record Prints (bytes text told : List ℕ) : Type 0 where
   pub written : text ≡ printed_keyring ring
   pub besides : told ≡ ring_told 1 (lines_of bytes)
 
+-- the bytes are the text of a journal within the limits, this is the line of what is said of it, and the rule that it breaks is said besides
+pub record Audits (bytes text told : List ℕ) : Type 0 where
+  pub verdict : Verdict
+  pub audited : IsAudit bytes verdict
+  pub short : IsShort bytes
+  pub written : text ≡ verdict_text verdict
+  pub besides : told ≡ verdict_told verdict
+
 -- the command makes this text of the bytes, where these kinds of operations have a handler; whether a run broke a premise, and
 -- what is said besides
 abbrev pub Makes : Handlers → Subcommand → List ℕ → Bool → List ℕ → List ℕ → Type 0
 Makes handlers Replay bytes is_broken text told = Replays handlers bytes is_broken text told
 Makes handlers Keyring bytes is_broken text told = Prints bytes text told × (is_broken ≡ false)
+Makes handlers Audit bytes is_broken text told = Audits bytes text told × (is_broken ≡ false)
 
 -- the whole input was read, and the command makes this of it
 pub record MakesOfAll (handlers : Handlers) (command : Subcommand) (left now : Option (List ℕ)) (is_broken : Bool) (text told : List ℕ) : Type 0 where

@@ -1,3 +1,4 @@
+pub mod Audits
 pub mod Causes
 pub mod Commands
 pub mod Inputs

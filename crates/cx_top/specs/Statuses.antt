@@ -1,5 +1,7 @@
 -- The statuses of a run.
 use Rattle.std.specs.Prelude.{ℕ, ◌≡◌, Some, None}
+use Rattle.cx_audit.specs.declared.verdicts.AuditRefusal.{AuditRefusal}
+use Rattle.cx_audit.specs.declared.verdicts.AuditRefusal.TheVariants as audit
 use Rattle.cx_keyring.specs.declared.refusals.KeyringRefusal.{KeyringRefusal}
 use Rattle.cx_keyring.specs.declared.refusals.KeyringRefusal.TheVariants as keyring
 use Rattle.cx_replay.specs.declared.refusals.ReplayRefusal.{ReplayRefusal}
@@ -9,7 +11,7 @@ use Rattle.cx_schedule.specs.declared.refusals.ScheduleRefusal.TheVariants as re
 use Rattle.cx_top.specs.declared.input.Unread.{Unread}
 use Rattle.cx_top.specs.declared.input.Unread.TheVariants as unread
 use Rattle.cx_top.specs.declared.status.Status.{Status}
-use Rattle.cx_top.specs.declared.status.Status.TheVariants.{Done, Usage, BadSchedule, ReadFault, WriteFault, OutOfMemory, BadKeyring, Broken, TooLong, NotYet}
+use Rattle.cx_top.specs.declared.status.Status.TheVariants.{Done, Usage, BadSchedule, ReadFault, WriteFault, OutOfMemory, BadKeyring, Broken, TooLong, NotYet, BadJournal}
 
 -- the number with which the program ends
 abbrev pub number_of : Status → ℕ
@@ -23,6 +25,7 @@ number_of (BadKeyring _ _) = 6
 number_of Broken = 7
 number_of TooLong = 12
 number_of (NotYet _) = 13
+number_of (BadJournal _ _) = 14
 
 -- the status of a refused schedule
 abbrev pub schedule_status : ScheduleRefusal → Status
@@ -40,6 +43,11 @@ abbrev pub keyring_status : KeyringRefusal → Status
 keyring_status (keyring.BadLine line why) = BadKeyring line (Some why)
 keyring_status (keyring.TooMany limit) = BadKeyring 0 None
 keyring_status keyring.OutOfMemory = OutOfMemory
+
+-- the status of a refused journal
+abbrev pub audit_status : AuditRefusal → Status
+audit_status (audit.BadLine line bad) = BadJournal line bad
+audit_status audit.OutOfMemory = OutOfMemory
 
 -- the status of an input that was not read to its end
 abbrev pub input_status : Unread → Status
@@ -59,6 +67,7 @@ IsServed WriteFault = ⊥
 IsServed (BadKeyring _ _) = ⊥
 IsServed TooLong = ⊥
 IsServed (NotYet _) = ⊥
+IsServed (BadJournal _ _) = ⊥
 
 -- this status, or want of memory
 abbrev pub IsOrMemory : Status → Status → Type 0
@@ -72,3 +81,4 @@ IsOrMemory expected (BadKeyring line why) = BadKeyring line why ≡ expected
 IsOrMemory expected Broken = Broken ≡ expected
 IsOrMemory expected TooLong = TooLong ≡ expected
 IsOrMemory expected (NotYet line) = NotYet line ≡ expected
+IsOrMemory expected (BadJournal line bad) = BadJournal line bad ≡ expected

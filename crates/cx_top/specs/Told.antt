@@ -17,7 +17,7 @@ use Rattle.cx_line_words.specs.Sights.{shown_of}
 use Rattle.cx_words.specs.Cutting.{lines_of}
 use Rattle.cx_top.specs.declared.status.Status.{Status}
 use Rattle.cx_top.specs.declared.unserved.Unserved.{Unserved}
-use Rattle.cx_top.specs.declared.status.Status.TheVariants.{Done, Usage, BadSchedule, ReadFault, WriteFault, OutOfMemory, BadKeyring, Broken as BrokenStatus, TooLong, NotYet}
+use Rattle.cx_top.specs.declared.status.Status.TheVariants.{Done, Usage, BadSchedule, ReadFault, WriteFault, OutOfMemory, BadKeyring, Broken as BrokenStatus, TooLong, NotYet, BadJournal}
 use Rattle.cx_top.specs.Sentences.{bad_line_text, status_text, unserved_line_text}
 use Rattle.cx_top.specs.Unserved.{unserved_of, unserved_text}
 
@@ -45,6 +45,7 @@ refusal_told bytes WriteFault = []
 refusal_told bytes OutOfMemory = []
 refusal_told bytes BrokenStatus = []
 refusal_told bytes TooLong = []
+refusal_told bytes (BadJournal line bad) = []
 
 -- ---- wrong words of the command line
 
@@ -60,6 +61,7 @@ usage_told (command ∷ []) = []
 usage_told (command ∷ word ∷ words) =
     if bytes_eq command (codes "replay") then line_told (extra_word_text command word)
     else if bytes_eq command (codes "keyring") then line_told (extra_word_text command word)
+    else if bytes_eq command (codes "audit") then line_told (extra_word_text command word)
     else []
 
 -- ---- runs
@@ -113,6 +115,7 @@ is_done (BadKeyring _ _) = false
 is_done BrokenStatus = false
 is_done TooLong = false
 is_done (NotYet _) = false
+is_done (BadJournal _ _) = false
 
 -- the sentence of a status
 abbrev pub status_told : Status → List ℕ

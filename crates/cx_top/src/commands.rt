@@ -13,6 +13,8 @@ pub enum Subcommand {
     Replay,
     /// Reads a keyring, and writes it in its printed form.
     Keyring,
+    /// Reads a journal, and writes whether it is legal.
+    Audit,
 }
 
 /// What a command makes of its input: the text that is to be written, whether a run broke a premise, and what is said besides
@@ -38,6 +40,9 @@ pub fn command_of(words: &[&str]) -> Option<Subcommand>
     }
     if is_word(word, "keyring") {
         return Some(Subcommand::Keyring);
+    }
+    if is_word(word, "audit") {
+        return Some(Subcommand::Audit);
     }
     None
 }

@@ -1,6 +1,7 @@
 //! The top call: everything that the program does, over a source and a sink.
 #![tactic(auto)]
 
+mod audits;
 mod commands;
 mod input;
 mod keyring;

@@ -5,6 +5,7 @@ ghost use Rattle.cx_top.specs.Sentences.{usage_text};
 
 use crate::status::Status;
 use crate::unserved::{Unserved, unserved_text};
+use cx_audit_help::WrongInJournal;
 use cx_journal::{Broken, Premise};
 use cx_keyring_help::{Detail, WrongInKeyring};
 use cx_line_help::{LineSight, Word, Wrong};
@@ -65,6 +66,13 @@ impl fmt::Display for Status {
                 "the input is too long: at most 1,048,576 bytes and 20,000 lines are read; cut it into files of their own"
             ),
             Status::NotYet { line } => write!(f, "{}", NotServed(*line)),
+            Status::BadJournal { line, bad } => {
+                let wrong = WrongInJournal {
+                    line: *line,
+                    bad: *bad,
+                };
+                write!(f, "{}", wrong)
+            }
         }
     }
 }
@@ -301,9 +309,17 @@ fn usage() -> &'static str
       cephx_cli keyring < /etc/ceph/ceph.client.admin.keyring
       cephx_cli keyring < examples/keyrings/two_entities.keyring
 
+  cephx_cli audit
+      reads a journal from standard input, and writes whether it is legal, or which line breaks which rule first, as in:
+      cephx_cli audit < examples/first_login.journal
+
   cephx_cli mon EVENTS LISTEN [LIFE AUTHLIFE]
       runs the monitor of this folder, which has the file keyring, until so many events came, or as its script, from standard input, says:
       cephx_cli mon 1000000 127.0.0.1:6789 < /dev/null
+
+  cephx_cli daemon NAME EVENTS LISTEN MON
+      runs a daemon of the keyring of this folder at an address, until so many events came, or as its script, from standard input, says:
+      printf 'fetch osd.0\\nstop\\n' | cephx_cli daemon osd.0 1000 127.0.0.1:6800 127.0.0.1:6789
 
   cephx_cli client NAME EVENTS MON [PEER ..]
       runs a client of the keyring of this folder, as its script, from standard input, says, and writes its journal to standard output:

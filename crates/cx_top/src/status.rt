@@ -4,6 +4,8 @@ ghost use Rattle.std.specs.Prelude.{◌≡◌};
 ghost use Rattle.cx_top.specs.Statuses.{number_of};
 
 use crate::input::Unread;
+use cx_audit::AuditRefusal;
+use cx_journal_lines::WrongLine;
 use cx_keyring::{KeyringFault, KeyringRefusal};
 use cx_lines::BadWord;
 use cx_replay::ReplayRefusal;
@@ -43,6 +45,11 @@ pub enum Status {
     NotYet {
         line: u32,
     },
+    /// This line, from 1, is the first that is none of a journal, and `bad` is its first wrong word.
+    BadJournal {
+        line: u64,
+        bad: WrongLine,
+    },
 }
 
 impl Status {
@@ -61,6 +68,7 @@ impl Status {
             Status::Broken => 7,
             Status::TooLong => 12,
             Status::NotYet { .. } => 13,
+            Status::BadJournal { .. } => 14,
         }
     }
 }
@@ -119,6 +127,20 @@ impl From<KeyringRefusal> for Status {
             },
             KeyringRefusal::TooMany(_) => Status::BadKeyring { line: 0, why: None },
             KeyringRefusal::OutOfMemory => Status::OutOfMemory,
+        }
+    }
+}
+
+impl From<AuditRefusal> for Status {
+    ghost use Rattle.std.specs.Prelude.{◌≡◌};
+    ghost use Rattle.cx_top.specs.Statuses.{audit_status};
+
+    ghost from_gives = { λ refusal status. status ≡ audit_status refusal };
+
+    fn from(refusal: AuditRefusal) -> Status {
+        match refusal {
+            AuditRefusal::BadLine(line, bad) => Status::BadJournal { line, bad },
+            AuditRefusal::OutOfMemory => Status::OutOfMemory,
         }
     }
 }

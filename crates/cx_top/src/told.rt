@@ -2,6 +2,7 @@
 
 ghost use Rattle.std.specs.Prelude.{◌≡◌, ◌⊎◌, [], map, IfOk, Some, string_bytes};
 ghost use Rattle.std.specs.Str.{bytes_eq};
+ghost use Rattle.cx_top.specs.Audits.{verdict_told};
 ghost use Rattle.cx_top.specs.Causes.{IsEndOf};
 ghost use Rattle.cx_top.specs.Sentences.{bad_line_text};
 ghost use Rattle.cx_top.specs.Told.{extra_word_text, line_told, refusal_told, run_told, usage_told};
@@ -11,6 +12,8 @@ use crate::program_end::ProgramEnd;
 use crate::sentences::{BreachTold, ExtraWord, IdleTold, OfSchedule, UnservedLine};
 use crate::status::Status;
 use crate::unserved::unserved_of;
+use cx_audit::Verdict;
+use cx_audit_help::BreachInJournal;
 use cx_journal::Broken;
 use cx_keyring::KeyringFault;
 use cx_keyring_help::{WrongInKeyring, detail_of};
@@ -103,6 +106,9 @@ fn usage_told(alloc: Global, words: &[&str]) -> Result<String, AllocError>
     if is_text(command, "keyring") {
         return extra_word(alloc, command, word);
     }
+    if is_text(command, "audit") {
+        return extra_word(alloc, command, word);
+    }
     Ok(String::new(alloc))
 }
 
@@ -116,6 +122,18 @@ fn extra_word(alloc: Global, command: &str, word: &str) -> Result<String, AllocE
     ensures { IfOk result (λ told. string_bytes told ≡ line_told (extra_word_text command.now word.now)) }
 {
     format!(in alloc; "cephx_cli: {}\n", ExtraWord(command, word))
+}
+
+/// What is said of a journal that breaks a rule: which line, and the rule in plain words.
+pub fn verdict_told(alloc: Global, verdict: Verdict) -> Result<String, AllocError>
+    ensures { IfOk result (λ told. string_bytes told ≡ verdict_told verdict) }
+{
+    match verdict {
+        Verdict::Legal => Ok(String::new(alloc)),
+        Verdict::Breaks { line, rule } => {
+            format!(in alloc; "cephx_cli: {}\n", BreachInJournal { line, rule })
+        }
+    }
 }
 
 /// What is said of a run: the first breach of its premises, and how many of its lines did nothing.

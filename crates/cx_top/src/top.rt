@@ -10,6 +10,7 @@ ghost use Rattle.cx_top.specs.Told.{usage_told};
 ghost use Rattle.cx_top.specs.declared.commands.Subcommand.{Subcommand};
 ghost use Rattle.cx_top.specs.declared.status.Status.{Status};
 
+use crate::audits::audited;
 use crate::commands::{Made, Subcommand, command_of};
 use crate::input::read_all;
 use crate::keyring::printed;
@@ -22,7 +23,7 @@ use cx_desk::Desk;
 use std::alloc::Global;
 
 /// Does what these words of the command line ask for: `replay` reads a schedule from `input` and writes its journal to `out`,
-/// `keyring` reads a keyring and writes it in its printed form. Each reads up to the end of the input or one byte above the
+/// `keyring` reads a keyring and writes it in its printed form, `audit` reads a journal and writes what is said of it. Each reads up to the end of the input or one byte above the
 /// limit. The operations of a schedule are served by `desk`.
 pub fn run<I: Source, O: Sink>(
     alloc: Global,
@@ -48,7 +49,7 @@ pub fn run<I: Source, O: Sink>(
     ensures unread { result.status ≡ Status.Usage → input.new ≡ input.old }
     ensures misused { result.status ≡ Status.Usage → (string_bytes result.told ≡ []) ⊎ (string_bytes result.told ≡ usage_told (map (λ w. w.now) words.now)) }
 
-    // A schedule or a keyring within the limits is served, where memory isn't wanting and no count of faults rose.
+    // A schedule, a keyring or a journal within the limits is served, where memory isn't wanting and no count of faults rose.
     ensures complete { (command : Subcommand) → map (λ w. w.now) words.now ≡ command_word command ∷ []
         → HasAnswer command (I.left input.old)
         → ¬ Rose (I.faults input.old) (I.faults input.new) → ¬ Rose (O.faults out.old) (O.faults out.new)
@@ -141,5 +142,6 @@ fn text_of(alloc: Global, command: Subcommand, bytes: &[u8], desk: &Desk) -> Res
     match command {
         Subcommand::Replay => replayed(alloc, bytes, desk),
         Subcommand::Keyring => printed(alloc, bytes),
+        Subcommand::Audit => audited(alloc, bytes),
     }
 }

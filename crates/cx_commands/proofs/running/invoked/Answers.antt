@@ -13,3 +13,7 @@ returns-in-Replay-clause-texts g c = λ command words. inr (c.text.result, c.of_
 pub returns-in-Keyring-clause-texts : goal.returns-in-Keyring-clause-texts
 returns-in-Keyring-clause-texts g c = λ command words.
     inr (c.text-in-Keyring.result, c.of_text-in-Keyring.ensures.status, c.of_text-in-Keyring.ensures.told, c.text-in-Keyring.ensures.ends command words)
+
+pub returns-in-Audit-clause-texts : goal.returns-in-Audit-clause-texts
+returns-in-Audit-clause-texts g c = λ command words.
+    inr (c.text-in-Audit.result, c.of_text-in-Audit.ensures.status, c.of_text-in-Audit.ensures.told, c.text-in-Audit.ensures.ends command words)
