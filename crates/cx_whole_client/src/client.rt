@@ -1,0 +1,120 @@
+//! A client.
+
+ghost use Rattle.std.specs.Prelude.{◌≡◌, OnOk, OnErr};
+ghost use Rattle.cx_rules.specs.Inputs.{input_of};
+ghost use Rattle.cx_rules_session.specs.ClientRule.{WholeClientNode, is_idle, opening_whole_client, whole_client_rule};
+ghost use Rattle.cx_rules_session.specs.Forgets.{WholeClientStandsFor, abridged_whole_client};
+ghost use Rattle.cx_turns.specs.Events.{losing};
+ghost use Rattle.cx_client_events.specs.Machine.{lost};
+ghost use Rattle.cx_whole_client.specs.Opening.{IsWritableInput, opening_asker};
+
+use crate::steps::steps;
+use cx_base::{Addr, EntityName, Reading};
+use cx_client_events::Own;
+use cx_client_links::{Link, are_at_rest};
+use cx_dice::Draw;
+use cx_enc::Key;
+use cx_holdings::{Asker, OfferedModes};
+use cx_node::Links;
+use cx_rules_session::client_forgetting_laws;
+use cx_steps::{Effects, Event};
+use cx_turns::{link_in, wanting};
+use std::alloc::{AllocError, Global};
+use std::marker::Model;
+
+/// A client: what it has of its own, with its sessions, and its live links. It never reads a clock or a source of randomness; both come with each event.
+#[derive(Drop)]
+pub struct Client {
+    own: Own,
+    links: Links<Link>,
+}
+
+impl Model for Client {
+    ghost use Rattle.std.specs.Prelude.{◌≡◌, None};
+    ghost use Rattle.cx_rules_session.specs.ClientRule.{WholeClientNode};
+    ghost use Rattle.cx_turns.specs.Steps.{node_of};
+    ghost use Rattle.cx_client_events.specs.Machine.{AreHeld};
+
+    ghost Value = { WholeClientNode };
+
+    ghost view = { λ c. node_of c.own.client c.links.links };
+
+    ghost invariant = { λ c. (c.links.room ≡ None) × AreHeld c.links.links };
+}
+
+impl Client {
+    /// A client as it begins: its name and its key, the modes that it offers, and its address. It holds no ticket and no session.
+    pub fn new(alloc: Global, name: EntityName, key: Key, modes: OfferedModes, me: Addr) -> Client
+        ensures value { result ≡ opening_whole_client (opening_asker name key modes me) }
+        ensures stands { WholeClientStandsFor result (opening_whole_client (opening_asker name key modes me)) }
+    {
+        client_forgetting_laws();
+        Client {
+            own: Own::new(alloc, Asker::new(name, key, me, modes)),
+            links: Links::new(alloc),
+        }
+    }
+
+    /// What the client does at an event. An operation that is to be sent has to be one that can be written.
+    pub fn step(
+        &mut self,
+        alloc: Global,
+        event: Event<'_>,
+        now: Reading,
+        draw: &Draw,
+        out: &mut Effects,
+    ) -> Result<(), AllocError>
+        requires { IsWritableInput (input_of event.entry) }
+        // The step is that of the rules, exactly, on what the client holds.
+        ensures out { OnOk result (out.new ≡ (whole_client_rule self.old (input_of event.entry) now draw.now.bytes).out) }
+        ensures state { OnOk result (self.new ≡ abridged_whole_client (whole_client_rule self.old (input_of event.entry) now draw.now.bytes).state) }
+        // It is that of the rules for each of their states that the client stands for.
+        ensures effects { (s : WholeClientNode) → WholeClientStandsFor self.old s → OnOk result (out.new ≡ (whole_client_rule s (input_of event.entry) now draw.now.bytes).out) }
+        ensures stands { (s : WholeClientNode) → WholeClientStandsFor self.old s
+            → OnOk result (WholeClientStandsFor self.new (whole_client_rule s (input_of event.entry) now draw.now.bytes).state) }
+        // Where memory is wanting, the event's link is forgotten, a link that was waited for is given up, and nothing else happens: the sessions are
+        // as before, with what waits in them.
+        ensures losing { OnErr result (out.new ≡ losing (input_of event.entry)) }
+        ensures lost { OnErr result (self.new ≡ lost self.old (input_of event.entry)) }
+        ensures lost_stands { (s : WholeClientNode) → WholeClientStandsFor self.old s → OnErr result (WholeClientStandsFor self.new (lost s (input_of event.entry))) }
+    {
+        client_forgetting_laws();
+        self.take_step(alloc, event, now, draw, out)
+    }
+
+    fn take_step(
+        &mut self,
+        alloc: Global,
+        event: Event<'_>,
+        now: Reading,
+        draw: &Draw,
+        out: &mut Effects,
+    ) -> Result<(), AllocError>
+        requires { IsWritableInput (input_of event.entry) }
+        ensures out { OnOk result (out.new ≡ (whole_client_rule self.old (input_of event.entry) now draw.now.bytes).out) }
+        ensures state { OnOk result (self.new ≡ abridged_whole_client (whole_client_rule self.old (input_of event.entry) now draw.now.bytes).state) }
+        ensures losing { OnErr result (out.new ≡ losing (input_of event.entry)) }
+        ensures lost { OnErr result (self.new ≡ lost self.old (input_of event.entry)) }
+    {
+        let link = link_in(&event);
+        match steps(alloc, &mut self.own, &mut self.links, event, now, draw) {
+            Ok(effects) => {
+                *out = effects;
+                Ok(())
+            }
+            Err(error) => {
+                *out = wanting(alloc, link);
+                Err(error)
+            }
+        }
+    }
+
+    /// Whether it waits for nothing: each of its links is open, no request waits on it, and no operation of the session with its daemon.
+    pub fn idle(&self) -> bool
+        ensures value { result ≡ is_idle self.now }
+        ensures stands { (s : WholeClientNode) → WholeClientStandsFor self.now s → result ≡ is_idle s }
+    {
+        client_forgetting_laws();
+        are_at_rest(&self.links, self.own.sessions())
+    }
+}

@@ -1,0 +1,14 @@
+//! A client: what it has of its own, its links to the monitor and to daemons, and what it does at each event.
+#![tactic(auto)]
+
+mod client;
+mod steps;
+
+pub use client::Client;
+
+// A client may be sent to another thread and shared with one.
+fn is_sendable<T: Send + Sync>() {}
+
+fn all_are_sendable() {
+    is_sendable::<Client>();
+}
