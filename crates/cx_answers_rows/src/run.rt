@@ -141,10 +141,7 @@ impl<O: Others> Run<O> {
         let mut told = coming.told(alloc)?;
         let bytes = coming.bytes(alloc);
         let draw = self.draw(coming);
-        match coming.event(alloc, &bytes) {
-            Ok(event) => self.happens(alloc, coming, event, &draw, &mut told)?,
-            Err(error) => return Err(error),
-        }
+        self.happens(alloc, coming, coming.event(&bytes), &draw, &mut told)?;
         Ok(told)
     }
 
@@ -247,7 +244,7 @@ impl<O: Others> Run<O> {
             return self.comes_to_monitor(alloc, coming, event, draw, told);
         }
         let now = reading_of(coming.reading);
-        let out = if self.has_client(coming.node) {
+        let out = if coming.is_to_client() {
             self.client_step(alloc, coming, event, draw)?
         } else {
             self.others.step(alloc, coming.node, event, now, draw)?
@@ -287,11 +284,6 @@ impl<O: Others> Run<O> {
             node.monitor.unsave();
         }
         write!(told, "  fails\n")
-    }
-
-    // Whether a client of this name is one of these, and none of the others.
-    fn has_client(&self, name: &str) -> bool {
-        self.clients.iter().any(|node| node.name.as_str() == name)
     }
 
     // What the client of this name gives.

@@ -82,13 +82,13 @@ impl Machine for Monitor {
 }
 
 impl Machine for Client {
-    ghost use Rattle.cx_rules_session.specs.Forgets.{abridged_whole_client};
-    ghost use Rattle.cx_rules_session.specs.ClientRule.{is_idle, whole_client_rule};
+    ghost use Rattle.cx_rules.specs.Abridged.{abridged_client};
+    ghost use Rattle.cx_rules.specs.ClientRule.{client_rule, is_idle};
     ghost use Rattle.cx_client.specs.Machine as machine;
 
     ghost rule = { λ node input reading draw. record {
-      state = abridged_whole_client (whole_client_rule node input reading draw).state;
-      out = (whole_client_rule node input reading draw).out;
+      state = abridged_client (client_rule node input reading draw).state;
+      out = (client_rule node input reading draw).out;
     } };
 
     ghost lost = { machine.lost };

@@ -10,7 +10,7 @@ use Rattle.cx_journal.specs.Behind.{EachBehind}
 use Rattle.cx_journal.specs.declared.entries.Entry.{Entry}
 use Rattle.cx_journal.specs.declared.entries.Entry.TheVariants as journal
 use Rattle.cx_rotate.specs.declared.views.View.{View}
-use Rattle.cx_rules_session.specs.ClientRule.{opening_whole_client}
+use Rattle.cx_rules.specs.ClientRule.{opening_client}
 use Rattle.cx_rotate.specs.declared.states.KeptState.{KeptState}
 use Rattle.cx_line_words.specs.declared.choices.LeftState.{LeftState}
 use Rattle.cx_rules.specs.Monitor.{MonitorNode}
@@ -29,7 +29,7 @@ use Rattle.cx_laws_keys.proofs.Journal.{entered}
 use Rattle.cx_laws_keys.proofs.Lists.{all-map, found_all, found_passes, map-append}
 use Rattle.cx_laws_keys.proofs.Viewing.{ShowsAlong, ShowsNone, all-none-look, none-shown, shows-elsewhere, shows-last, shows-looks, viewed-append}
 use Rattle.cx_laws_keys.specs.LooksLast.{LooksLast, LooksLastBy, nothing_viewed, view_behind, viewed_all}
-use Rattle.cx_laws_calling.proofs.Entering.{whole-enters}
+use Rattle.cx_laws_login.proofs.NoTickets.{client-enters}
 use Rattle.cx_laws_run.proofs.Events.{entered-append, entries-by}
 use Rattle.cx_laws_run.proofs.Journals.{behind-append}
 
@@ -50,7 +50,7 @@ record LooksBehind (J : List Entry) (s : Stepped) : Type 0 where
 -- what an entity enters tells its view
 entity-shows : (nodes : Nodes) (h : Happening) (e : EntityNode) → IsNoLook h.input →
     let o = entity_rule nodes.handlers e h.input h.reading h.draw in ShowsAlong (asker_in e).name (asker_in e).view o.out.entries (asker_in o.state).view
-entity-shows nodes h (OfClient c) looks = (whole-enters c h.input h.reading h.draw).shows
+entity-shows nodes h (OfClient c) looks = (client-enters c h.input h.reading h.draw).shows
 entity-shows nodes h (OfDaemon d) looks = daemon-shows nodes.handlers d h.input h.reading h.draw looks
 
 entity-named : (nodes : Nodes) (h : Happening) (e : EntityNode) → (asker_in (entity_rule nodes.handlers e h.input h.reading h.draw).state).name ≡ (asker_in e).name
@@ -173,7 +173,7 @@ unfolding AllViews ViewIs
 first-views J [] none = tt
 first-views J (e ∷ es) none = (by_kind (is_daemon_type e.name.kind), first-views J es none)
   where
-    by_kind : (t : Bool) → ViewIs J (if t then OfDaemon (daemon_opening (asker_of e)) else OfClient (opening_whole_client (asker_of e)))
+    by_kind : (t : Bool) → ViewIs J (if t then OfDaemon (daemon_opening (asker_of e)) else OfClient (opening_client (asker_of e)))
     by_kind true = sym (none-shown e.name nothing_viewed J none)
     by_kind false = sym (none-shown e.name nothing_viewed J none)
 

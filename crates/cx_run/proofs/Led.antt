@@ -1,5 +1,5 @@
 -- The nodes of a world are those to which its events lead.
-use Rattle.std.proofs.Common.{◌≡◌, List, [], ◌∷◌, ◌++◌, Option, Some, None, refl, ap}
+use Rattle.std.proofs.Common.{◌≡◌, ℕ, List, [], ◌∷◌, ◌++◌, Option, Some, None, refl, ap}
 use Rattle.cx_lines.specs.declared.lines.Numbered.{Numbered}
 use Rattle.cx_rules.specs.Inputs.{Input}
 use Rattle.cx_run.specs.Deliveries.{given}

@@ -2,9 +2,8 @@ pub mod Walking
 pub mod Led
 pub mod Taking
 pub mod MonitorTakes
-pub mod ClientTakes
-pub mod CallTakes
 pub mod ClientNamed
+pub mod ClientTakes
 pub mod GuestTakes
 pub mod DaemonNamed
 pub mod EntityNamed

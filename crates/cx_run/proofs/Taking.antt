@@ -14,6 +14,7 @@ use Rattle.cx_frame.specs.declared.refusals.BannerRefusal.{BannerRefusal}
 use Rattle.cx_frame.specs.declared.refusals.BannerRefusal.TheVariants.{BadBanner, Features}
 use Rattle.cx_frame.specs.declared.refusals.FrameRefusal.{FrameRefusal}
 use Rattle.cx_journal.specs.declared.faults.BytesFault.{BytesFault}
+use Rattle.cx_journal.specs.declared.faults.BytesFault.TheVariants.{Unexpected}
 use Rattle.cx_secure.specs.Opening.{head_step, rest_step}
 use Rattle.cx_secure.specs.Plains as secure
 use Rattle.cx_secure.specs.declared.refusals.SecureRefusal.{SecureRefusal}
@@ -25,7 +26,7 @@ use Rattle.cx_stream.specs.SecureStreams.{Ahead, behind_head, secure_frame_at}
 use Rattle.cx_rules.specs.Fronts.{Front, NotYet, Broken, Next, ahead_of, banner_next, banner_read, keys_behind, opened_parts, plain_next, plain_read, sealed_ahead, secure_next, secure_read, taking}
 use Rattle.cx_rules.specs.Links.{Link}
 use Rattle.cx_rules.specs.Payloads.{payload}
-use Rattle.cx_rules.specs.Rows.{Arrival, Row, Turned, Waits, Refuses, Handles, plain_sent, secure_sent, turned_by}
+use Rattle.cx_rules.specs.Rows.{Arrival, Row, Turned, Waits, Refuses, Handles, plain_sent, refuses_bytes, secure_sent, turned_by}
 use Rattle.cx_rules.specs.Secured.{Keys, SealedFrame, Secured}
 use Rattle.cx_rules.specs.Upkeep.{on_keepalive, on_keepalive_ack}
 use Rattle.cx_rules.proofs.AlikeRows.{SameAhead}

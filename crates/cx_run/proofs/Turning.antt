@@ -12,24 +12,22 @@ use Rattle.cx_line_words.specs.declared.choices.LeftState.TheVariants as left
 use Rattle.cx_line_words.specs.declared.choices.Side.{Side}
 use Rattle.cx_rotate.specs.declared.states.KeptState.{KeptState}
 use Rattle.cx_desk.specs.Handlers.{Handlers}
+use Rattle.cx_rules.specs.ClientRule.{Client, ClientNode, me, with_asker}
+use Rattle.cx_rules.specs.ClientRule as client
 use Rattle.cx_rules.specs.Connector as connector
 use Rattle.cx_rules.specs.Fronts.{ahead_of}
 use Rattle.cx_rules.specs.Inputs.{Input, Turn, Gone, Restart}
 use Rattle.cx_rules.specs.Links.{Link, link_of, put_link, without_link}
 use Rattle.cx_rules.specs.Monitor.{MonitorArrival, MonitorNode, MonitorStage}
 use Rattle.cx_rules.specs.MonitorRule.{monitor_rule, noted, turn, turned_at}
-use Rattle.cx_rules.specs.Rows.{Arrival, Node, Outcome, Turned, Waits, Refuses, Handles, arrival, links_behind}
+use Rattle.cx_rules.specs.Rows.{Arrival, Node, Outcome, Turned, Waits, Refuses, Handles, arrival, links_behind, lifted_turn}
 use Rattle.cx_rules.specs.Rows as rows
 use Rattle.cx_rules_session.specs.Asks.{with_book}
-use Rattle.cx_rules_session.specs.ClientRule as client
-use Rattle.cx_rules_session.specs.ClientRule.{ClientStage, ToMonitor, ToDaemon, WholeClient, WholeClientNode}
 use Rattle.cx_rules_session.specs.DaemonRule as daemon
 use Rattle.cx_rules_session.specs.DaemonRule.{AsAcceptor, AsConnector, Daemon, DaemonNode, DaemonStage, DaemonState, book_after, book_reply, hosts, is_in, is_older, moved_to}
 use Rattle.cx_rules_session.specs.Guests.{GuestStage}
 use Rattle.cx_rules_session.specs.Hosting.{Deciding, Hosted, guest_turned}
 use Rattle.cx_rules_session.specs.Kinds.{arrival_in, in_stage, of_kind, turn_of_kind}
-use Rattle.cx_rules_session.specs.Presenter as call
-use Rattle.cx_rules_session.specs.Presenter.{callee_of}
 use Rattle.cx_rules.specs.Holdings.{Asker}
 use Rattle.cx_steps.specs.declared.events.Peer.{Peer}
 use Rattle.cx_run.specs.Deliveries.{Given, came_at, came_on, came_to, far_side, followed, given, gives, open_all, restarts, tells, tells_gone, turns, vanish}
@@ -37,8 +35,7 @@ use Rattle.cx_run.specs.Happenings.{EntityNode, OfClient, OfDaemon, Happening, N
 use Rattle.cx_run.specs.Turning.{untaken_at, untaken_on, untaken_to}
 use Rattle.cx_run.specs.Wires.{Wire, end_of, ended, has_end, node_at, same_node, with_wire}
 use Rattle.cx_run.specs.Worlds.{Post, World, carried, happening, opened_wires, post_of}
-use Rattle.cx_run.proofs.CallTakes.{call-takes}
-use Rattle.cx_run.proofs.ClientTakes.{asker-takes}
+use Rattle.cx_run.proofs.ClientTakes.{asker-takes, lifted-takes}
 use Rattle.cx_run.proofs.GuestTakes.{Always, TakesHosted, always-book, always-map, always-weaker, guest-takes}
 use Rattle.cx_run.proofs.MonitorTakes.{monitor-takes}
 use Rattle.cx_run.proofs.Taking.{Takes, TurnTakes}
@@ -137,6 +134,20 @@ monitor-less m n reading draw (Some link) e =
       less = turns-less m n a (turned_at a link.stage) (found-number n m.links link e) (monitor-takes a link.stage);
     }
 
+client-less : (c : ClientNode) (n reading : ℕ) (draw : List ℕ) (found : Option (Link connector.Stage)) → link_of n c.links ≡ found
+    → TurnsLess n found (client.turn c reading draw found)
+client-less c n reading draw None e = record { opens = refl; less = λ t. absurd cc }
+client-less c n reading draw (Some link) e =
+    let a : Arrival Client connector.Stage = arrival (me c.own) c.own link reading draw in
+    let t : Turned Client connector.Stage = lifted_turn (with_asker c.own) (connector.turned_at (arrival (me c.own) c.own.asker link reading draw) link.stage) in
+    record {
+      opens = turns-open c a t;
+      less = turns-less c n a t (found-number n c.links link e)
+          (lifted-takes (with_asker c.own) link (connector.turned_at (arrival (me c.own) c.own.asker link reading draw) link.stage) (asker-takes (arrival (me c.own) c.own.asker link reading draw) link.stage));
+    }
+
+-- ---- a turn of a daemon
+
 -- a row of one kind of link takes as one of the node
 kind-takes : {Part Own S T : Type 0} (whole : Part → Own) (kind : S → T) (link : Link T) (stage : S) (t : Turned Part S) → TurnTakes (in_stage link stage) t
     → TurnTakes link (turn_of_kind whole kind t)
@@ -147,27 +158,6 @@ kind-takes {Part} {Own} {S} {T} whole kind link stage (Handles row) h = by_link 
     by_link : (left : Option (Link S)) → Takes (in_stage link stage) left → Takes link (option_map (of_kind kind) left)
     by_link None k = k
     by_link (Some l) k = k
-
-client-takes : (a : Arrival WholeClient ClientStage) (stage : ClientStage) → TurnTakes a.link (client.turned_at a stage)
-client-takes a (ToMonitor stage) =
-    let b : connector.AskerArrival = arrival_in a a.own.asker stage in
-    kind-takes (client.with_asker a.own) ToMonitor a.link stage (connector.turned_at b stage) (asker-takes b stage)
-client-takes a (ToDaemon stage) =
-    let of : Name = (callee_of stage).daemon in
-    let b : call.CallArrival = arrival_in a (client.caller_to of a.own) stage in
-    kind-takes (client.with_caller of a.own) ToDaemon a.link stage (call.turned_at b stage) (call-takes b stage)
-
-client-less : (c : WholeClientNode) (n reading : ℕ) (draw : List ℕ) (found : Option (Link ClientStage)) → link_of n c.links ≡ found
-    → TurnsLess n found (client.turn c reading draw found)
-client-less c n reading draw None e = record { opens = refl; less = λ t. absurd cc }
-client-less c n reading draw (Some link) e =
-    let a : Arrival WholeClient ClientStage = arrival (client.me c.own) c.own link reading draw in
-    record {
-      opens = turns-open c a (client.turned_at a link.stage);
-      less = turns-less c n a (client.turned_at a link.stage) (found-number n c.links link e) (client-takes a link.stage);
-    }
-
--- ---- a turn of a daemon
 
 -- what is found where others than it are left out
 kept-found : {Stage : Type 0} (n : ℕ) (test : Link Stage → Bool) → ((l : Link Stage) → (l.number == n) ≡ true → test l ≡ true) → (links : List (Link Stage))

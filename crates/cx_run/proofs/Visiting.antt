@@ -1,6 +1,6 @@
 -- No guest comes to an entity in the run of a schedule: each link leads to the monitor, and so each event is of such a run.
-use Rattle.std.proofs.Common.{◌≡◌, ℕ, ◌==◌, Bool, true, false, cond, List, [], ◌∷◌, ◌++◌, length, filter, Option, Some, None, refl, sym, subst}
-use Rattle.std.specs.Prelude.{replicate, suc, IfSome, if◌then◌else◌}
+use Rattle.std.proofs.Common.{◌≡◌, ℕ, ◌==◌, Bool, true, false, cond, List, [], ◌∷◌, ◌++◌, length, map, filter, find, Option, Some, None, refl, sym, subst, ◌∙◌}
+use Rattle.std.specs.Prelude.{replicate, suc, zero, IfSome, if◌then◌else◌}
 use Rattle.std.specs.List.{AllByRecursion}
 use Rattle.cx_base.specs.declared.nodes.NodeName.{NodeName}
 use Rattle.cx_base.specs.declared.nodes.NodeName.TheVariants as node
@@ -16,19 +16,20 @@ use Rattle.cx_lines.specs.declared.node_steps.NodeStep.TheVariants as step
 use Rattle.cx_line_words.specs.declared.choices.Side.{Side}
 use Rattle.cx_line_words.specs.declared.choices.Side.TheVariants.{Connector, Acceptor}
 use Rattle.cx_rules.specs.Inputs.{Input, Opened, Bytes, Turn, Gone, Restart, Tick, Submit}
+use Rattle.cx_steps.specs.declared.effects.Effects.{Effects}
 use Rattle.cx_steps.specs.declared.effects.Piece.{Piece}
 use Rattle.cx_steps.specs.declared.events.Command.TheVariants as told
 use Rattle.cx_steps.specs.declared.events.Peer.{Peer}
 use Rattle.cx_steps.specs.declared.events.Peer.TheVariants as peer
 use Rattle.cx_run.specs.Deliveries.{Given, arrives, arrives_from, came_at, comes, delivers, delivers_on, delivers_piece, drains, drains_side, far_side, first_of, followed, given, gives, gone_arrives, open_all, opens, restarts, round, rounds, settles, stay, tells, tells_gone, turns, under_way, vanish}
-use Rattle.cx_run.specs.Happenings.{Happening}
+use Rattle.cx_run.specs.Happenings.{Happening, steps}
 use Rattle.cx_run.specs.Opening.{opening_world}
 use Rattle.cx_run.specs.Runs.{setup_of, trace}
 use Rattle.cx_run.specs.Schedules.{acts_on, after_line, after_lines, arrives_again, cuts, ever_sent, injects, loses, on_link, on_node, services_sum, submits, submitted, without_first}
 use Rattle.cx_run.specs.Visits.{AreUnvisited, IsUnvisited}
 use Rattle.cx_run.specs.Wires.{End, Wire, end_of, ended, gone_at, has_end, new_wire, node_at, other, owes_gone, pieces_from, sent_from, side_of, wire_of, with_end, with_pieces, with_wire}
 use Rattle.cx_run.specs.Worlds.{Post, World, carried, happening, node_of, opened_wires, post_of, sends_all, sends_piece, shuts_all, shuts_link}
-use Rattle.cx_run.proofs.OpensMonitor.{IsNoConnect, OpensMonitor, steps-open, unvisited-opens}
+use Rattle.cx_run.proofs.OpensMonitor.{OpensMonitor, steps-open}
 use Rattle.cx_run.proofs.Turning.{post-is}
 
 -- ---- links to the monitor
@@ -117,9 +118,9 @@ given-stays w who input is k = by_post (post_of who w.posts) refl
           (subst (λ (n : NodeName). IsUnvisited n input) (sym (post-is who w.posts post e)) is);
     }
 
-given-opens : (w : World) (input : Input) (found : Option Post) → IsNoConnect input → OpensMonitor (given w input found).out
-given-opens w input None is = tt
-given-opens w input (Some post) is = steps-open w.nodes (happening w input post) is
+given-opens : (w : World) (input : Input) (found : Option Post) → OpensMonitor (given w input found).out
+given-opens w input None = tt
+given-opens w input (Some post) = steps-open w.nodes (happening w input post)
 
 tells-stays : (w : World) (who : NodeName) (input : Input) → IsUnvisited who input → Unvisited w → Unvisited (tells w who input)
 tells-stays w who input is k =
@@ -204,7 +205,7 @@ followed-stays who g to k =
     }))
 
 given-followed : (w : World) (who : NodeName) (input : Input) → IsUnvisited who input → Unvisited w → Unvisited (followed who (gives w who input))
-given-followed w who input is k = followed-stays who (gives w who input) (given-opens w input (post_of who w.posts) (unvisited-opens who input is)) (given-stays w who input is k)
+given-followed w who input is k = followed-stays who (gives w who input) (given-opens w input (post_of who w.posts)) (given-stays w who input is k)
 
 comes-stays : (w : World) (who : NodeName) (input : Input) → IsUnvisited who input → Unvisited w → Unvisited (comes w who input)
 comes-stays w who input is k = given-followed w who input is k

@@ -17,7 +17,7 @@ use Rattle.cx_line_words.specs.declared.choices.Modes.{Modes}
 use Rattle.cx_line_words.specs.declared.choices.Modes.TheVariants.{Crc, Secure, Both}
 use Rattle.cx_base.specs.declared.nodes.NodeName.{NodeName}
 use Rattle.cx_rotate.specs.declared.states.KeptState.{KeptState}
-use Rattle.cx_rules_session.specs.ClientRule.{opening_whole_client}
+use Rattle.cx_rules.specs.ClientRule.{opening_client}
 use Rattle.cx_rules.specs.Holdings.{Asker, holds_nothing, modes_of, no_view}
 use Rattle.cx_rules.specs.Monitor.{MonitorNode}
 use Rattle.cx_rules.specs.MonitorRule.{opening_monitor}
@@ -153,7 +153,7 @@ daemon_opening asker = record { node = opening_daemon asker; book = empty_book }
 
 -- the node of an entity, by its type
 abbrev pub entity_in : Declared → EntityNode
-entity_in e = if is_daemon_type e.name.kind then OfDaemon (daemon_opening (asker_of e)) else OfClient (opening_whole_client (asker_of e))
+entity_in e = if is_daemon_type e.name.kind then OfDaemon (daemon_opening (asker_of e)) else OfClient (opening_client (asker_of e))
 
 abbrev pub nodes_of : Setup → Nodes
 nodes_of setup = record { monitor = monitor_of setup; entities = map entity_in setup.entities; handlers = setup.handlers }

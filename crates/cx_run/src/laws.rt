@@ -3,13 +3,13 @@
 ghost use Rattle.std.specs.Prelude.{◌≡◌, ◌≤◌, ◌<◌, ℕ, List, length, true, if◌then◌else◌};
 ghost use Rattle.cx_base.specs.declared.nodes.NodeName.{NodeName};
 ghost use Rattle.cx_lines.specs.declared.lines.Numbered.{Numbered};
-ghost use Rattle.cx_rules.specs.Abridged.{MonitorStandsFor};
+ghost use Rattle.cx_rules.specs.Abridged.{ClientStandsFor, MonitorStandsFor};
+ghost use Rattle.cx_rules.specs.ClientRule.{ClientNode};
 ghost use Rattle.cx_rules.specs.Inputs.{Turn};
 ghost use Rattle.cx_rules.specs.Links.{link_of};
 ghost use Rattle.cx_rules.specs.Monitor.{MonitorNode};
-ghost use Rattle.cx_rules_session.specs.ClientRule.{WholeClientNode};
 ghost use Rattle.cx_rules_session.specs.DaemonRule.{DaemonState};
-ghost use Rattle.cx_rules_session.specs.Forgets.{DaemonStandsFor, WholeClientStandsFor};
+ghost use Rattle.cx_rules_session.specs.Forgets.{DaemonStandsFor};
 ghost use Rattle.cx_run.specs.Deliveries.{came_at, followed, gives, turns};
 ghost use Rattle.cx_run.specs.Happenings.{Nodes, nodes_behind};
 ghost use Rattle.cx_run.specs.Opening.{nodes_of, opening_world};
@@ -24,8 +24,7 @@ pub fn run_laws()
     ensures { (script : List Numbered) → (after_lines (opening_world (setup_of script)) script).nodes ≡ nodes_behind (nodes_of (setup_of script)) (trace script) }
 {}
 
-/// No guest comes to an entity in the run of a schedule: no client is told to connect, and so no link opens there but one that it opens itself. And no
-/// view is told but by a reply.
+/// No guest comes to an entity in the run of a schedule: no link opens there but one that it opens itself. And no view is told but by a reply.
 pub fn visit_laws()
     ensures { (script : List Numbered) → AreUnvisited (trace script) }
 {}
@@ -44,6 +43,6 @@ pub fn turning_laws()
     ensures enough { (nodes : Nodes) (number : ℕ) (who : NodeName) → length (untaken_at nodes number who) ≤ length (came_at nodes number who) }
     // As much is left to be taken of the links that a machine holds as of those of the rules for which they stand.
     ensures monitor_held { (m s : MonitorNode) (number : ℕ) → MonitorStandsFor m s → untaken_on (link_of number m.links) ≡ untaken_on (link_of number s.links) }
-    ensures client_held { (c s : WholeClientNode) (number : ℕ) → WholeClientStandsFor c s → untaken_on (link_of number c.links) ≡ untaken_on (link_of number s.links) }
+    ensures client_held { (c s : ClientNode) (number : ℕ) → ClientStandsFor c s → untaken_on (link_of number c.links) ≡ untaken_on (link_of number s.links) }
     ensures daemon_held { (d s : DaemonState) (number : ℕ) → DaemonStandsFor d s → untaken_on (link_of number d.node.links) ≡ untaken_on (link_of number s.node.links) }
 {}

@@ -8,9 +8,8 @@ use Rattle.cx_base.specs.declared.nodes.NodeName.TheVariants as node
 use Rattle.cx_line_words.specs.declared.choices.LeftState.{LeftState}
 use Rattle.cx_rotate.specs.declared.states.KeptState.{KeptState}
 use Rattle.cx_desk.specs.Handlers.{Handlers}
-use Rattle.cx_rules.specs.Abridged.{MonitorStandsFor}
-use Rattle.cx_rules_session.specs.Forgets.{WholeClientStandsFor}
-use Rattle.cx_rules_session.specs.ClientRule.{WholeClientNode, whole_client_rule}
+use Rattle.cx_rules.specs.Abridged.{ClientStandsFor, MonitorStandsFor}
+use Rattle.cx_rules.specs.ClientRule.{ClientNode, client_rule}
 use Rattle.cx_rules.specs.Inputs.{Input}
 use Rattle.cx_rules.specs.Monitor.{MonitorNode}
 use Rattle.cx_rules.specs.MonitorRule.{monitor_rule}
@@ -38,9 +37,9 @@ use Rattle.cx_run_nodes.proofs.Placing.{IsFirst, found_first, member_elsewhere, 
 -- ---- a member
 
 -- the node of the rules for which a member's stands is of its kind
-its_client : (node : MemberNode) (entity : Option EntityNode) (h : WholeClientNode) → node ≡ held.Client h → NodeStands node entity
-    → (c : WholeClientNode) × (entity ≡ Some (OfClient c)) × WholeClientStandsFor h c
-its_client (held.Client g) (Some (OfClient c)) h e k = let P : WholeClientNode → Type 0 = λ x. WholeClientStandsFor x c in (c, refl, subst P (let s : g ≡ h = cc in s) k)
+its_client : (node : MemberNode) (entity : Option EntityNode) (h : ClientNode) → node ≡ held.Client h → NodeStands node entity
+    → (c : ClientNode) × (entity ≡ Some (OfClient c)) × ClientStandsFor h c
+its_client (held.Client g) (Some (OfClient c)) h e k = let P : ClientNode → Type 0 = λ x. ClientStandsFor x c in (c, refl, subst P (let s : g ≡ h = cc in s) k)
 its_client (held.Client g) (Some (OfDaemon d)) h e k = absurd k
 its_client (held.Client g) None h e k = absurd k
 its_client (held.Daemon g) entity h e k = absurd cc
@@ -52,10 +51,10 @@ its_daemon (held.Daemon g) (Some (OfClient c)) h e k = absurd k
 its_daemon (held.Daemon g) None h e k = absurd k
 its_daemon (held.Client g) entity h e k = absurd cc
 
-pub client_step : (handlers : Handlers) (input : Input) (post : Post) (entity : Option EntityNode) (made : Made) (old new : Member) (h g : WholeClientNode)
+pub client_step : (handlers : Handlers) (input : Input) (post : Post) (entity : Option EntityNode) (made : Made) (old new : Member) (h g : ClientNode)
     → NodeStands old.node entity → old.node ≡ held.Client h → new.node ≡ held.Client g → new.name ≡ old.name → IsOf (rolled_once post) new.post
-    → ((c : WholeClientNode) → WholeClientStandsFor h c → (let o = whole_client_rule c input post.reading (seed_draw post.seed post.rolled) in
-    (made ≡ record { out = o.out; failed = false; happened = true }) × WholeClientStandsFor g o.state))
+    → ((c : ClientNode) → ClientStandsFor h c → (let o = client_rule c input post.reading (seed_draw post.seed post.rolled) in
+    (made ≡ record { out = o.out; failed = false; happened = true }) × ClientStandsFor g o.state))
     → IsMemberStep handlers input post entity made old new
 client_step handlers input post entity made old new h g k e f name sits does =
     let its = its_client old.node entity h e k in

@@ -2,8 +2,7 @@
 use Rattle.std.specs.Prelude.{ℕ, ◌≡◌, Bool, true, false, List, find, Option, Some, None}
 use Rattle.cx_base.specs.Names.{Name, same_name}
 use Rattle.cx_base.specs.declared.nodes.NodeName.TheVariants as node
-use Rattle.cx_rules.specs.Abridged.{MonitorStandsFor}
-use Rattle.cx_rules_session.specs.Forgets.{WholeClientStandsFor}
+use Rattle.cx_rules.specs.Abridged.{ClientStandsFor, MonitorStandsFor}
 use Rattle.cx_rules_session.specs.Forgets.{DaemonStandsFor}
 use Rattle.cx_run.specs.Deliveries.{Given}
 use Rattle.cx_run.specs.Happenings.{EntityNode, OfClient, OfDaemon, Nodes as RunNodes, entity_of}
@@ -26,7 +25,7 @@ reads reading m = record m { post = record m.post { reading = reading } }
 
 -- the node of a member stands for this one of the rules, which is of its kind
 abbrev pub NodeStands : MemberNode → Option EntityNode → Type 0
-NodeStands (held.Client client) (Some (OfClient c)) = WholeClientStandsFor client c
+NodeStands (held.Client client) (Some (OfClient c)) = ClientStandsFor client c
 NodeStands (held.Daemon daemon) (Some (OfDaemon d)) = DaemonStandsFor daemon d
 NodeStands (held.Client client) (Some (OfDaemon d)) = ⊥
 NodeStands (held.Daemon daemon) (Some (OfClient c)) = ⊥

@@ -1,8 +1,8 @@
 use Rattle.std.proofs.Common.{◌≡◌, ℕ, List, refl, subst, ap, ◌∙◌, false, true}
 use Rattle.cx_desk.specs.Handlers.{Handlers}
 use Rattle.cx_dice.specs.Rolls.{seed_draw}
-use Rattle.cx_rules_session.specs.Forgets.{WholeClientStandsFor}
-use Rattle.cx_rules_session.specs.ClientRule.{WholeClientNode, whole_client_rule}
+use Rattle.cx_rules.specs.Abridged.{ClientStandsFor}
+use Rattle.cx_rules.specs.ClientRule.{ClientNode, client_rule}
 use Rattle.cx_rules.specs.Rows.{Outcome}
 use Rattle.cx_rules.specs.Inputs.{input_of}
 use Rattle.cx_rules_session.specs.DaemonRule.{DaemonState, daemon_step}
@@ -25,10 +25,10 @@ returns-in_ok-step-in-Client c =
     let as_made : Effects → Made = λ out. record { out = out; failed = false; happened = true } in
     client_step no_handlers input post entity c.of.result c.args.self.now new c.in-Client.client c.step.new.self k.1 c.in-Client.is refl refl (c.roll-draw.ensures.rolled post k.0)
     (λ x s.
-    let step : (whole_client_rule x input c.reading-reading.result c.roll-draw.result.bytes) ≡ (whole_client_rule x input post.reading (seed_draw post.seed post.rolled))
-    = ap (λ (r : ℕ). whole_client_rule x input r c.roll-draw.result.bytes) reading ∙ ap (λ (d : List ℕ). whole_client_rule x input post.reading d) draw in
-    let P : Outcome WholeClientNode → Type 0 = λ o. WholeClientStandsFor c.step.new.self o.state in (
-      c.of.ensures ∙ ap as_made (c.in_ok-step-in-Client.ensures.effects x s ∙ ap (λ (o : Outcome WholeClientNode). o.out) step),
+    let step : (client_rule x input c.reading-reading.result c.roll-draw.result.bytes) ≡ (client_rule x input post.reading (seed_draw post.seed post.rolled))
+    = ap (λ (r : ℕ). client_rule x input r c.roll-draw.result.bytes) reading ∙ ap (λ (d : List ℕ). client_rule x input post.reading d) draw in
+    let P : Outcome ClientNode → Type 0 = λ o. ClientStandsFor c.step.new.self o.state in (
+      c.of.ensures ∙ ap as_made (c.in_ok-step-in-Client.ensures.effects x s ∙ ap (λ (o : Outcome ClientNode). o.out) step),
       subst P step (c.in_ok-step-in-Client.ensures.stands x s),
     ))
 
