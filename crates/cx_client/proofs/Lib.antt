@@ -1,3 +1,4 @@
-pub mod Idling
-pub mod Kept
-pub mod Standing
+pub mod Idle
+pub mod Renewing
+pub mod Steps
+pub mod Turns

@@ -1,7 +1,6 @@
 //! What comes to a node behind its own step.
 
 ghost use Rattle.std.specs.Prelude.{◌≡◌};
-ghost use Rattle.cx_client.specs.Machine.{IsWritableInput};
 ghost use Rattle.cx_drive.specs.Steps.{input_due};
 ghost use Rattle.cx_rules.specs.Inputs.{input_of};
 
@@ -21,8 +20,7 @@ pub enum Due {
 impl Due {
     /// The event as which it comes.
     pub(crate) fn event(self) -> Event<'static>
-        ensures input { input_of result ≡ input_due self }
-        ensures writable { IsWritableInput (input_of result) }
+        ensures { input_of result ≡ input_due self }
     {
         match self {
             Due::Opened(number, peer) => Event::Opened(number, Some(peer)),

@@ -1,4 +1,5 @@
 mod AskerSaves
+mod CallingSaves
 mod ClientSaves
 mod DaemonSaves
 mod GuestSaves

@@ -1,4 +1,1 @@
 pub mod Series
-pub mod Contents
-pub mod Frames
-pub mod Fronts

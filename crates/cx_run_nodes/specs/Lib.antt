@@ -1,4 +1,3 @@
-pub mod Coming
 pub mod Heads
 pub mod Members
 pub mod Held

@@ -1,0 +1,14 @@
+use Rattle.cx_rules.proofs.AskerForgets.{asker-forgets}
+use Rattle.cx_rules.specs.Abridged.{abridged_asker_link}
+use Rattle.cx_turns.proofs.Steps.{comes_held, comes_step}
+use Rattle.cx_client.proofs.events.comes.Goals as goal
+
+pub returns-clause-step : goal.returns-clause-step
+returns-clause-step c =
+    comes_step abridged_asker_link asker-forgets c.args.own.now c.args.number c.args.bytes.now c.args.links.now.links c.comes.new.links.links c.comes.result
+    c.requires.held c.comes.ensures.fed
+
+pub returns-clause-held : goal.returns-clause-held
+returns-clause-held c =
+    comes_held abridged_asker_link asker-forgets c.args.number c.args.bytes.now c.args.links.now.links c.comes.new.links.links c.comes.result
+    c.requires.held c.comes.ensures.fed c.comes.ensures.lost

@@ -1,4 +1,0 @@
-pub mod Leaving
-pub mod OfKinds
-pub mod Scanning
-pub mod Shutting
