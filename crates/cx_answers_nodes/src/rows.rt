@@ -4,7 +4,7 @@ use crate::driven::{Outside, drives};
 use cx_answers_rows::{Named, client_of, monitor_of, seed_of};
 use cx_base::{Blob, SECOND};
 use cx_client::Client;
-use cx_drive::Order;
+use cx_drive::{Order, Told};
 use cx_links::LinkEvent;
 use cx_mon::Monitor;
 use cx_steps::Command;
@@ -95,7 +95,7 @@ impl Rows {
     fn order(&mut self, alloc: Global, row: &str) -> Result<(), AllocError> {
         let (what, number) = row.split_once(' ').unwrap_or((row, ""));
         let order = match what {
-            "login" => Order::Submit(Command::Login(number.parse::<u32>().unwrap_or(0))),
+            "login" => login(number.parse::<u32>().unwrap_or(0)),
             "gone" => Order::Gone(number_of(number)),
             _ => Order::Stop,
         };
@@ -134,6 +134,14 @@ impl Rows {
             Some(client) => drives(alloc, client, outside, events),
             None => format!(in alloc; "no node\n"),
         }
+    }
+}
+
+// The node is told to log in.
+fn login(services: u32) -> Order {
+    match Told::of(Command::Login(services)) {
+        Some(told) => Order::Submit(told),
+        None => Order::Stop,
     }
 }
 

@@ -5,6 +5,7 @@
 mod draws;
 mod events;
 mod named;
+mod nobody;
 mod nodes;
 mod rows;
 mod run;
@@ -13,6 +14,7 @@ mod shown;
 pub use draws::Draws;
 pub use events::{Coming, number_of, reading_of, seed_of};
 pub use named::{Member, Named, client_name, local, member_of};
+pub use nobody::Nobody;
 pub use nodes::{client_of, monitor_of, server_of};
 pub use rows::Rows;
 pub use run::Others;

@@ -81,8 +81,8 @@ pub fn client_name(alloc: Global, word: &str) -> Result<Option<EntityName>, Allo
     }
 }
 
-// The client or the daemon of this name; none where the word is neither's.
-fn entity_name(alloc: Global, word: &str) -> Result<Option<EntityName>, AllocError> {
+/// The client or the daemon of this name; none where the word is neither's.
+pub fn entity_name(alloc: Global, word: &str) -> Result<Option<EntityName>, AllocError> {
     let (kind, id) = word.split_once('.').unwrap_or((word, ""));
     match kind {
         "osd" => name_of(alloc, EntityType::Osd, id),

@@ -8,7 +8,7 @@ use crate::named::Named;
 use crate::nodes::{client_of, monitor_of};
 use crate::shown::{Ascii, put_effects, put_saved, put_seals};
 use cx_base::{Blob, Duplicate, Reading};
-use cx_client::Client;
+use cx_client::{Client, can_come};
 use cx_dice::Draw;
 use cx_journal::{Journal, put_text};
 use cx_mon::Monitor;
@@ -141,7 +141,10 @@ impl<O: Others> Run<O> {
         let mut told = coming.told(alloc)?;
         let bytes = coming.bytes(alloc);
         let draw = self.draw(coming);
-        self.happens(alloc, coming, coming.event(&bytes), &draw, &mut told)?;
+        match coming.event(alloc, &bytes) {
+            Ok(event) => self.happens(alloc, coming, event, &draw, &mut told)?,
+            Err(error) => return Err(error),
+        }
         Ok(told)
     }
 
@@ -244,7 +247,7 @@ impl<O: Others> Run<O> {
             return self.comes_to_monitor(alloc, coming, event, draw, told);
         }
         let now = reading_of(coming.reading);
-        let out = if coming.is_to_client() {
+        let out = if self.has_client(coming.node) {
             self.client_step(alloc, coming, event, draw)?
         } else {
             self.others.step(alloc, coming.node, event, now, draw)?
@@ -286,7 +289,12 @@ impl<O: Others> Run<O> {
         write!(told, "  fails\n")
     }
 
-    // What the client of this name gives.
+    // Whether a client of this name is one of these, and none of the others.
+    fn has_client(&self, name: &str) -> bool {
+        self.clients.iter().any(|node| node.name.as_str() == name)
+    }
+
+    // What the client of this name gives; nothing where it is told to send what can't be written.
     fn client_step(
         &mut self,
         alloc: Global,
@@ -294,6 +302,9 @@ impl<O: Others> Run<O> {
         event: Event<'_>,
         draw: &Draw,
     ) -> Result<Option<Effects>, AllocError> {
+        if !can_come(&event) {
+            return Ok(None);
+        }
         let now = reading_of(coming.reading);
         for node in self.clients.iter_mut() {
             if node.name.as_str() == coming.node {

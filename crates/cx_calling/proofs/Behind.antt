@@ -19,11 +19,11 @@ use Rattle.cx_rules.specs.Messages.{secure_frames}
 use Rattle.cx_rules.specs.Payloads.{due, payload}
 use Rattle.cx_rules.specs.Rows.{refused_entry, refuses, refuses_bytes, secure_sent, unless_refused}
 use Rattle.cx_rules.specs.Secured.{SealedFrame, Secured, is_signed, secure_frame, signature_found}
-use Rattle.cx_rules_session.specs.Forgets.{abridged_call_link}
-use Rattle.cx_rules_session.specs.Kinds.{entered_before}
-use Rattle.cx_rules_session.specs.Lossy.{lossy_flags}
-use Rattle.cx_rules_session.specs.Presenter.{CallArrival, CallRow, CallStage, Caller, counting, holding_session, identifies, on_missing_features, on_reconnect_ok, on_reset, on_retry, on_retry_global, on_server_ident, on_signature, on_signed, reconnects, resets, retries, retries_global, taken_up, takes_up, while_identified, while_reconnecting}
-use Rattle.cx_rules_session.specs.Sessions.{Callee, HeldSession, acknowledged_up_to, held_gid, session_reconnect, waiting_messages}
+use Rattle.cx_presenting.specs.cx_rules_session.specs.Forgets.{abridged_call_link}
+use Rattle.cx_presenting.specs.cx_rules_session.specs.Kinds.{entered_before}
+use Rattle.cx_presenting.specs.cx_rules_session.specs.Lossy.{lossy_flags}
+use Rattle.cx_presenting.specs.cx_rules_session.specs.Presenter.{CallArrival, CallRow, CallStage, Caller, counting, holding_session, identifies, on_missing_features, on_reconnect_ok, on_reset, on_retry, on_retry_global, on_server_ident, on_signature, on_signed, reconnects, resets, retries, retries_global, taken_up, takes_up, while_identified, while_reconnecting}
+use Rattle.cx_presenting.specs.cx_rules_session.specs.Sessions.{Callee, HeldSession, acknowledged_up_to, held_gid, session_reconnect, waiting_messages}
 use Rattle.cx_steps.specs.declared.seals.DrawMark.TheVariants as draw
 use Rattle.cx_steps.specs.declared.seals.SealEntry.{SealEntry}
 use Rattle.cx_steps.specs.declared.seals.SealEntry.TheVariants.{Drawn}

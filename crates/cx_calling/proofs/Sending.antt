@@ -15,12 +15,12 @@ use Rattle.cx_rules.specs.Holdings.{Asker}
 use Rattle.cx_rules.specs.Messages.{secure_frames}
 use Rattle.cx_rules.specs.Rows.{refused_entry, secure_sent}
 use Rattle.cx_rules.specs.Secured.{SealedFrame, Secured, secure_frame}
-use Rattle.cx_rules_session.specs.Forgets.{abridged_call_link}
-use Rattle.cx_rules_session.specs.Lossy.{lossy_flags}
-use Rattle.cx_rules_session.specs.Presenter.{CallArrival, CallRow, CallStage, Caller, counting, goes_on_in, holding_session, identifies, reconnects, resets, retries, retries_global, takes_up}
-use Rattle.cx_rules_session.specs.Sessions.{Callee, HeldSession, acknowledged_up_to, held_gid, session_reconnect, waiting_messages}
-use Rattle.cx_sending.specs.Table.{taken_up}
-use Rattle.cx_sending.specs.declared.table.SessionChange.TheVariants as sessions
+use Rattle.cx_presenting.specs.cx_rules_session.specs.Forgets.{abridged_call_link}
+use Rattle.cx_presenting.specs.cx_rules_session.specs.Lossy.{lossy_flags}
+use Rattle.cx_presenting.specs.cx_rules_session.specs.Presenter.{CallArrival, CallRow, CallStage, Caller, counting, goes_on_in, holding_session, identifies, reconnects, resets, retries, retries_global, takes_up}
+use Rattle.cx_presenting.specs.cx_rules_session.specs.Sessions.{Callee, HeldSession, acknowledged_up_to, held_gid, session_reconnect, waiting_messages}
+use Rattle.cx_presenting.specs.cx_sending.specs.Table.{taken_up}
+use Rattle.cx_presenting.specs.cx_sending.specs.declared.table.SessionChange.TheVariants as sessions
 use Rattle.cx_steps.specs.declared.seals.DrawMark.TheVariants as draw
 use Rattle.cx_steps.specs.declared.seals.SealEntry.{SealEntry}
 use Rattle.cx_steps.specs.declared.seals.SealEntry.TheVariants.{Drawn}

@@ -7,10 +7,10 @@ use Rattle.cx_link.specs.declared.links.SentFrame.{SentFrame}
 use Rattle.cx_node.specs.Made.{going_on, refusing_bytes}
 use Rattle.cx_node.specs.declared.rows.Row.{Row as Made}
 use Rattle.cx_rules.specs.Secured.{Keys, Secured}
-use Rattle.cx_rules_session.specs.Forgets.{abridged_call_link}
-use Rattle.cx_rules_session.specs.Presenter as call
-use Rattle.cx_rules_session.specs.Presenter.{CallArrival, CallRow, CallStage, Caller}
-use Rattle.cx_rules_session.specs.Sessions.{Callee, HeldSession}
+use Rattle.cx_presenting.specs.cx_rules_session.specs.Forgets.{abridged_call_link}
+use Rattle.cx_presenting.specs.cx_rules_session.specs.Presenter as call
+use Rattle.cx_presenting.specs.cx_rules_session.specs.Presenter.{CallArrival, CallRow, CallStage, Caller}
+use Rattle.cx_presenting.specs.cx_rules_session.specs.Sessions.{Callee, HeldSession}
 use Rattle.cx_steps.specs.declared.seals.SealEntry.{SealEntry}
 use Rattle.cx_turns.specs.Making.{IsRow}
 use Rattle.cx_turns.specs.Stages.{keys_alone}

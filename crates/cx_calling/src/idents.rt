@@ -2,9 +2,9 @@
 
 ghost use Rattle.std.specs.Prelude.{ℕ, ◌≡◌, List, Option, IfOk, Ok};
 ghost use Rattle.cx_link.specs.Wires.{secured_link};
-ghost use Rattle.cx_rules_session.specs.Lossy.{lossy_flags};
-ghost use Rattle.cx_rules_session.specs.Presenter.{CallStage, identifies, on_missing_features, on_server_ident, resets, while_identified};
-ghost use Rattle.cx_rules_session.specs.Sessions.{HeldSession};
+ghost use Rattle.cx_presenting.specs.cx_rules_session.specs.Lossy.{lossy_flags};
+ghost use Rattle.cx_presenting.specs.cx_rules_session.specs.Presenter.{CallStage, identifies, on_missing_features, on_server_ident, resets, while_identified};
+ghost use Rattle.cx_presenting.specs.cx_rules_session.specs.Sessions.{HeldSession};
 ghost use Rattle.cx_turns.specs.Stages.{keys_alone};
 ghost use Rattle.cx_presenting.specs.Rows.{MakesFor, caller};
 ghost use Rattle.cx_presenting.specs.Stages.{awaiting_ident};

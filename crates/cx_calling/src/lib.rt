@@ -9,3 +9,9 @@ mod turns;
 
 pub use frames::{Ahead, sent_row};
 pub use turns::{ident_turn, reconnect_turn, signature_turn};
+
+// What crates above name through this one, and so needn't list.
+pub use cx_presenting::{
+    Callee, Change, HeldSession, Link, OperationEnd, SessionChange, Stage, banner_turn,
+    challenge_turn, done_turn, end_in, handles, hello_turn,
+};

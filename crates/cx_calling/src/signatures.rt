@@ -4,7 +4,7 @@ ghost use Rattle.std.specs.Prelude.{◌≡◌};
 ghost use Rattle.std.specs.Option.{option_copied};
 ghost use Rattle.cx_link.specs.Sending.{secured_of};
 ghost use Rattle.cx_link.specs.Wires.{secured_link};
-ghost use Rattle.cx_rules_session.specs.Presenter.{CallStage, on_signature};
+ghost use Rattle.cx_presenting.specs.cx_rules_session.specs.Presenter.{CallStage, on_signature};
 ghost use Rattle.cx_presenting.specs.Rows.{MakesFor, caller};
 ghost use Rattle.cx_presenting.specs.Stages.{awaiting_signature};
 ghost use Rattle.cx_calling.specs.Sent.{signed_on};

@@ -2,7 +2,7 @@
 
 ghost use Rattle.std.specs.Prelude.{◌≡◌, Option, IfOk};
 ghost use Rattle.std.specs.Option.{option_copied};
-ghost use Rattle.cx_rules_session.specs.Sessions.{HeldSession};
+ghost use Rattle.cx_presenting.specs.cx_rules_session.specs.Sessions.{HeldSession};
 ghost use Rattle.cx_presenting.specs.Rows.{IsCallTurn, caller};
 ghost use Rattle.cx_presenting.specs.Stages.{awaiting_ident, awaiting_reconnect, awaiting_signature};
 

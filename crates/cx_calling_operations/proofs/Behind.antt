@@ -6,11 +6,11 @@ use Rattle.cx_rules.specs.Messages.{message_in}
 use Rattle.cx_rules.specs.Payloads.{payload}
 use Rattle.cx_rules.specs.Rows.{goes_on}
 use Rattle.cx_rules.specs.Secured.{Keys, Secured}
-use Rattle.cx_rules_session.specs.Forgets.{abridged_call_link}
-use Rattle.cx_rules_session.specs.Kinds.{entered_before}
-use Rattle.cx_rules_session.specs.Presenter as call
-use Rattle.cx_rules_session.specs.Presenter.{CallRow, acknowledges, answered_entry, end_in, on_ack, on_answer, on_answer_or_ack}
-use Rattle.cx_rules_session.specs.Sessions.{Callee, HeldSession}
+use Rattle.cx_calling.specs.cx_rules_session.specs.Forgets.{abridged_call_link}
+use Rattle.cx_calling.specs.cx_rules_session.specs.Kinds.{entered_before}
+use Rattle.cx_calling.specs.cx_rules_session.specs.Presenter as call
+use Rattle.cx_calling.specs.cx_rules_session.specs.Presenter.{CallRow, acknowledges, answered_entry, end_in, on_ack, on_answer, on_answer_or_ack}
+use Rattle.cx_calling.specs.cx_rules_session.specs.Sessions.{Callee, HeldSession}
 use Rattle.cx_turns.proofs.Handling.{left, taken}
 use Rattle.cx_turns.proofs.Keeping.{keepalive-row, other-row}
 use Rattle.cx_turns.specs.Making.{row_due}

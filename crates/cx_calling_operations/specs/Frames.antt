@@ -7,11 +7,11 @@ use Rattle.cx_rules.specs.Holdings.{Asker}
 use Rattle.cx_rules.specs.Messages.{on_upkeep_or}
 use Rattle.cx_rules.specs.Rows.{sends_secure}
 use Rattle.cx_rules.specs.Secured.{Secured}
-use Rattle.cx_rules_session.specs.Presenter.{CallArrival, CallRow, CallStage, Caller, Open, on_answer_or_ack}
-use Rattle.cx_rules_session.specs.Sessions.{Callee, HeldSession, operation_message}
+use Rattle.cx_calling.specs.cx_rules_session.specs.Presenter.{CallArrival, CallRow, CallStage, Caller, Open, on_answer_or_ack}
+use Rattle.cx_calling.specs.cx_rules_session.specs.Sessions.{Callee, HeldSession, operation_message}
 use Rattle.cx_turns.specs.declared.moments.Moment.{Moment}
-use Rattle.cx_presenting.specs.Rows.{caller}
-use Rattle.cx_presenting.specs.Stages.{CallLink}
+use Rattle.cx_calling.specs.cx_presenting.specs.Rows.{caller}
+use Rattle.cx_calling.specs.cx_presenting.specs.Stages.{CallLink}
 use Rattle.cx_calling.specs.Sent.{IsRowAt}
 
 -- a keepalive is answered as ever, any other is an acknowledgement or an answer

@@ -2,23 +2,22 @@
 
 ghost use Rattle.std.specs.Prelude.{◌≡◌, [], Option, IfOk};
 ghost use Rattle.cx_rules.specs.Rows.{secure_sent};
-ghost use Rattle.cx_rules_session.specs.Presenter.{OperationEnd, Open, answered_entry, on_ack, on_answer, on_answer_or_ack};
-ghost use Rattle.cx_rules_session.specs.Sessions.{HeldSession};
+ghost use Rattle.cx_calling.specs.cx_rules_session.specs.Presenter.{OperationEnd, Open, answered_entry, on_ack, on_answer, on_answer_or_ack};
+ghost use Rattle.cx_calling.specs.cx_rules_session.specs.Sessions.{HeldSession};
 ghost use Rattle.cx_turns.specs.Stages.{keys_alone};
 ghost use Rattle.cx_turns.specs.Upkeep.{upkept};
-ghost use Rattle.cx_presenting.specs.Rows.{MakesFor, caller};
-ghost use Rattle.cx_presenting.specs.Stages.{open_link};
+ghost use Rattle.cx_calling.specs.cx_presenting.specs.Rows.{MakesFor, caller};
+ghost use Rattle.cx_calling.specs.cx_presenting.specs.Stages.{open_link};
 ghost use Rattle.cx_calling_operations.specs.Frames.{on_open};
 
 use cx_base::{Blob, Duplicate, Items};
+use cx_calling::{Callee, Change, Link, OperationEnd, SessionChange, Stage, end_in};
 use cx_control::Ack;
 use cx_frame::Frame;
 use cx_holdings::Asker;
 use cx_journal::{Answered, BytesFault, Entry};
 use cx_link::SecureLink;
 use cx_node::payload;
-use cx_presenting::{Callee, Change, Link, SessionChange, Stage};
-use cx_sending::{OperationEnd, end_in};
 use cx_turns::{Moment, NoRow, NodeRow, goes_on, is_keepalive, upkept};
 use std::alloc::{AllocError, Global};
 

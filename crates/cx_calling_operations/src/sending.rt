@@ -2,21 +2,20 @@
 
 ghost use Rattle.std.specs.Prelude.{◌≡◌, true, IfOk};
 ghost use Rattle.cx_rules.specs.Secured.{secure_frame};
-ghost use Rattle.cx_rules_session.specs.Presenter.{is_open};
-ghost use Rattle.cx_rules_session.specs.Sessions.{operation_message};
+ghost use Rattle.cx_calling.specs.cx_rules_session.specs.Presenter.{is_open};
+ghost use Rattle.cx_calling.specs.cx_rules_session.specs.Sessions.{operation_message};
 ghost use Rattle.cx_turns.specs.Sending.{SendsSecure};
 ghost use Rattle.cx_wire.specs.Operations.{IsWritable};
-ghost use Rattle.cx_presenting.specs.Stages.{open_link};
+ghost use Rattle.cx_calling.specs.cx_presenting.specs.Stages.{open_link};
 ghost use Rattle.cx_calling_operations.specs.Frames.{IsSent};
 
 use cx_base::{Blob, Duplicate, Items, Operation};
-use cx_calling::{Ahead, sent_row};
+use cx_calling::{Ahead, Callee, Link, Stage, sent_row};
 use cx_holdings::Asker;
 use cx_journal::BytesFault;
 use cx_link::{SecureLink, SentFrame};
 use cx_messages::send_message;
 use cx_node::Row;
-use cx_presenting::{Callee, Link, Stage};
 use cx_turns::Moment;
 use cx_wire::{Header, OPERATION, put_operation};
 use std::alloc::{AllocError, Global};

@@ -2,19 +2,18 @@
 
 ghost use Rattle.std.specs.Prelude.{◌≡◌, Option, IfOk};
 ghost use Rattle.std.specs.Option.{option_copied};
-ghost use Rattle.cx_rules_session.specs.Sessions.{HeldSession};
-ghost use Rattle.cx_presenting.specs.Rows.{IsCallTurn, caller};
-ghost use Rattle.cx_presenting.specs.Stages.{link_held, open_link};
+ghost use Rattle.cx_calling.specs.cx_rules_session.specs.Sessions.{HeldSession};
+ghost use Rattle.cx_calling.specs.cx_presenting.specs.Rows.{IsCallTurn, caller};
+ghost use Rattle.cx_calling.specs.cx_presenting.specs.Stages.{link_held, open_link};
 
 use crate::open::on_open;
 use cx_base::Items;
-use cx_calling::{ident_turn, reconnect_turn, signature_turn};
+use cx_calling::{
+    Callee, Change, HeldSession, Link, Stage, banner_turn, challenge_turn, done_turn, handles,
+    hello_turn, ident_turn, reconnect_turn, signature_turn,
+};
 use cx_holdings::Asker;
 use cx_link::{LinkTurn, SecureLink};
-use cx_presenting::{
-    Callee, Change, HeldSession, Link, Stage, banner_turn, challenge_turn, done_turn, handles,
-    hello_turn,
-};
 use cx_turns::{Came, Moment};
 use std::alloc::{AllocError, Global};
 

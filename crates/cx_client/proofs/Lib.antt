@@ -1,4 +1,3 @@
-pub mod Idle
-pub mod Renewing
-pub mod Steps
-pub mod Turns
+pub mod Idling
+pub mod Kept
+pub mod Standing

@@ -1,13 +1,12 @@
-//! A client: what it has of its own, its links, and what it does at each event.
+//! A client: what it has of its own, its links to the monitor and to daemons, and what it does at each event.
 #![tactic(auto)]
 
 mod client;
-mod commands;
-mod events;
-mod links;
-mod own;
+mod steps;
+mod told;
 
 pub use client::Client;
+pub use told::{can_be_told, can_come};
 
 // A client may be sent to another thread and shared with one.
 fn is_sendable<T: Send + Sync>() {}

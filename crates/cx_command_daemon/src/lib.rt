@@ -6,3 +6,6 @@ mod serving;
 
 pub use daemons::run_daemon;
 pub use serving::Serving;
+
+// What crates above name through this one, and so needn't list.
+pub use cx_command_nodes::{NodeReport, run_client, run_monitor};

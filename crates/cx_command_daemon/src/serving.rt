@@ -1,11 +1,10 @@
 //! A daemon with the desk by which it serves.
 
 use cx_base::Reading;
-use cx_command_nodes::Machine;
+use cx_command_nodes::{Machine, saving_laws};
 use cx_daemon::Daemon;
 use cx_desk::Desk;
 use cx_dice::Draw;
-use cx_laws_saving::saving_laws;
 use cx_steps::{Effects, Event};
 use std::alloc::{AllocError, Global};
 

@@ -16,8 +16,8 @@ use Rattle.cx_keep.specs.Slots.{Kept}
 use Rattle.cx_links.specs.Acts.{LinkAct}
 use Rattle.cx_loading.specs.declared.ends.NodeEnd.{NodeEnd}
 use Rattle.cx_loading.specs.declared.ends.NodeEnd.TheVariants as end
-use Rattle.cx_rules.specs.Abridged.{ClientStandsFor}
-use Rattle.cx_rules.specs.ClientRule.{ClientNode, client_rule, is_idle, opening_client}
+use Rattle.cx_rules_session.specs.Forgets.{WholeClientStandsFor}
+use Rattle.cx_rules_session.specs.ClientRule.{WholeClientNode, is_idle, opening_whole_client, whole_client_rule}
 use Rattle.cx_command_nodes.specs.Named.{IsNamedRefusal, NamedLoad}
 use Rattle.cx_command_nodes.specs.Outside.{Outside}
 use Rattle.cx_command_nodes.specs.Runs.{Runs}
@@ -52,15 +52,15 @@ both_modes = record { crc = true; secure = true }
 abbrev pub nowhere : Addr
 nowhere = record { nonce = 0; ip = 0 ∷ 0 ∷ 0 ∷ 0 ∷ []; port = 0 }
 
-abbrev pub client_with : Name → Key → ClientNode
-client_with name key = opening_client (opening_asker name key both_modes nowhere)
+abbrev pub client_with : Name → Key → WholeClientNode
+client_with name key = opening_whole_client (opening_asker name key both_modes nowhere)
 
 -- a client that may run, with what it begins with, and room for what comes on its links
-pub record IsClientReady (asked : AskedClient) (bytes : List ℕ) (kept : Option Kept) (ready : Ready ClientNode) : Type 0 where
+pub record IsClientReady (asked : AskedClient) (bytes : List ℕ) (kept : Option Kept) (ready : Ready WholeClientNode) : Type 0 where
   pub key : Key
   pub load : NamedLoad asked.name (client_peers asked) bytes kept ready.orders key
   pub node : ready.node ≡ client_with asked.name key
-  pub stands : ClientStandsFor ready.node ready.node
+  pub stands : WholeClientStandsFor ready.node ready.node
   pub peers : ready.peers ≡ peers_of asked
   pub events : ready.events ≡ asked.events
   pub room : 0 < vec_len ready.room
@@ -71,7 +71,7 @@ module _ {L : Type 0} (follows : L → L → List LinkAct → Type 0) (asked : A
     pub orders : List Order
     pub key : Key
     pub load : NamedLoad asked.name (client_peers asked) bytes a.kept orders key
-    pub runs : Runs follows client_rule lost_client is_idle (peers_of asked) [] a b (client_with asked.name key) orders asked.events ending entries
+    pub runs : Runs follows whole_client_rule lost_client is_idle (peers_of asked) [] a b (client_with asked.name key) orders asked.events ending entries
 
   -- how the command ends, and what was entered
   abbrev pub ClientEnds : NodeEnd → List JournalEntry → Type 0

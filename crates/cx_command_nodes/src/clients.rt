@@ -14,8 +14,8 @@ ghost use Rattle.cx_enc.specs.Names.{name_seen};
 ghost use Rattle.cx_loading.specs.Loading.{IsOrMemory};
 ghost use Rattle.cx_loading.specs.declared.ends.NodeEnd.{NodeEnd};
 ghost use Rattle.cx_loading.specs.declared.unloaded.Unloaded.{Unloaded};
-ghost use Rattle.cx_rules.specs.Abridged.{ClientStandsFor};
-ghost use Rattle.cx_rules.specs.ClientRule.{client_rule, is_idle};
+ghost use Rattle.cx_rules_session.specs.Forgets.{WholeClientStandsFor};
+ghost use Rattle.cx_rules_session.specs.ClientRule.{is_idle, whole_client_rule};
 
 use crate::ends::NodeReport;
 use crate::hosting::{Ready, room, runs};
@@ -31,7 +31,7 @@ use cx_journal::Journal;
 use cx_keep::Keeper;
 use cx_links::Links;
 use cx_loading::{NodeEnd, Unloaded};
-use cx_rules::forgetting_laws;
+use cx_rules_session::client_forgetting_laws;
 use std::alloc::{AllocError, Global};
 
 /// Runs a client: it reads its script, loads its key, and is driven until so many events came or the script says that it ends. What it sends and
@@ -112,7 +112,7 @@ fn loads<K: Keeper>(
 // A client that offers both modes, the CRC one first. It has no address of its own, since it doesn't listen.
 fn client_with(alloc: Global, name: EntityName, key: Key) -> Client
     ensures value { result ≡ client_with name key }
-    ensures stands { ClientStandsFor result (client_with name key) }
+    ensures stands { WholeClientStandsFor result (client_with name key) }
 {
     let modes = OfferedModes {
         crc: true,
@@ -175,9 +175,9 @@ fn serves<K: Keeper, L: Links, C: Clock, D: Dice>(
     journal: &mut Journal,
 ) -> NodeEnd
     requires room { 0 < vec_len ready.room }
-    requires stands { ClientStandsFor ready.node ready.node }
+    requires stands { WholeClientStandsFor ready.node ready.node }
     requires empty { journal.old ≡ [] }
-    ensures ran { Runs L.follows client_rule lost_client is_idle ready.peers []
+    ensures ran { Runs L.follows whole_client_rule lost_client is_idle ready.peers []
         (outside (K.kept keeper.old) (K.faults keeper.old) links.old (L.faults links.old) (L.misses links.old) (C.coming clock.old) (D.coming dice.old) (D.faults dice.old))
         (outside (K.kept keeper.new) (K.faults keeper.new) links.new (L.faults links.new) (L.misses links.new) (C.coming clock.new) (D.coming dice.new) (D.faults dice.new))
         ready.node ready.orders ready.events result journal.new }
@@ -186,6 +186,6 @@ fn serves<K: Keeper, L: Links, C: Clock, D: Dice>(
         (outside (K.kept keeper.new) (K.faults keeper.new) links.new (L.faults links.new) (L.misses links.new) (C.coming clock.new) (D.coming dice.new) (D.faults dice.new))
         result }
 {
-    forgetting_laws();
+    client_forgetting_laws();
     runs(alloc, ready, keeper, links, clock, dice, journal)
 }

@@ -17,4 +17,4 @@ pub use laws::{kept_law, second_monitor_law};
 pub use monitors::run_monitor;
 
 // What drives a node.
-pub use cx_drive::{Machine, Order, Peers};
+pub use cx_drive::{Machine, Order, Peers, saving_laws};

@@ -5,7 +5,7 @@ ghost use Rattle.cx_command_nodes.specs.Orders.{command_told, order_of};
 ghost use Rattle.cx_enc.specs.Values.{number_of};
 
 use cx_base::{Duplicate, EntityName, EntityType, Items, Operation};
-use cx_drive::Order;
+use cx_drive::{Order, Told};
 use cx_enc::number_of;
 use cx_lines::LineCommand;
 use cx_schedule::{NodeLine, NodeScript};
@@ -33,10 +33,20 @@ fn order_of(alloc: Global, line: &NodeLine) -> Result<Order, AllocError>
     ensures { IfOk result (λ order. order ≡ order_of line.now) }
 {
     match line {
-        NodeLine::Submit(command) => Ok(Order::Submit(command_told(alloc, command)?)),
-        NodeLine::DropSession(_, session) => Ok(Order::Submit(Command::Drop(*session))),
+        NodeLine::Submit(command) => submit(command_told(alloc, command)?),
+        NodeLine::DropSession(_, session) => submit(Command::Drop(*session)),
         NodeLine::Gone(links) => Ok(Order::Gone(*links)),
         NodeLine::Stop => Ok(Order::Stop),
+    }
+}
+
+// That the node is told to do this. An operation that can't be written counts as memory wanting; no line of a script has one.
+fn submit(command: Command) -> Result<Order, AllocError>
+    ensures { IfOk result (λ order. order ≡ Order.Submit command) }
+{
+    match Told::of(command) {
+        Some(told) => Ok(Order::Submit(told)),
+        None => Err(AllocError),
     }
 }
 

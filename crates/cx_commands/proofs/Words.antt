@@ -9,7 +9,7 @@ use Rattle.cx_command_line.specs.Commands.{Asked, AskedClient, AskedDaemon, Repl
 use Rattle.cx_command_line.specs.Words.{Word, address, both, bounded, within}
 use Rattle.cx_command_line.specs.declared.commands.DrillCommand.{DrillCommand}
 use Rattle.cx_command_line.specs.declared.commands.MonitorCommand.{MonitorCommand}
-use Rattle.cx_command_nodes.specs.Monitors.{IsMonitorCommand}
+use Rattle.cx_command_daemon.specs.cx_command_nodes.specs.Monitors.{IsMonitorCommand}
 use Rattle.cx_top.specs.Commands.{command_word}
 use Rattle.cx_top.specs.declared.commands.Subcommand.{Subcommand}
 use Rattle.cx_top.specs.declared.commands.Subcommand.TheVariants as text

@@ -1,9 +1,9 @@
 //! The commands that run a node: the script is read before it, and what it entered is written behind it.
 
 ghost use Rattle.std.specs.Prelude.{◌≡◌, ◌≤◌};
-ghost use Rattle.cx_command_nodes.specs.Clients.{ClientEnds};
-ghost use Rattle.cx_command_nodes.specs.Monitors.{IsMonitorCommand, MonitorEnds};
-ghost use Rattle.cx_command_nodes.specs.Outside.{outside};
+ghost use Rattle.cx_command_daemon.specs.cx_command_nodes.specs.Clients.{ClientEnds};
+ghost use Rattle.cx_command_daemon.specs.cx_command_nodes.specs.Monitors.{IsMonitorCommand, MonitorEnds};
+ghost use Rattle.cx_command_daemon.specs.cx_command_nodes.specs.Outside.{outside};
 ghost use Rattle.cx_command_daemon.specs.Daemons.{DaemonEnds};
 ghost use Rattle.cx_command_line.specs.Commands.{asked_client, asked_daemon};
 ghost use Rattle.cx_desk.specs.Held.{handlers_of};
@@ -12,9 +12,8 @@ ghost use Rattle.cx_commands.specs.Nodes.{IsAnswered, NodeAnswers, unwritten};
 use crate::ends::{CommandEnd, CommandStatus};
 use cx_base::{Blob, Sink, Source};
 use cx_clock::Clock;
-use cx_command_daemon::run_daemon;
+use cx_command_daemon::{NodeReport, run_client, run_daemon, run_monitor};
 use cx_command_line::{ClientCommand, DaemonCommand, MonitorCommand};
-use cx_command_nodes::{NodeReport, run_client, run_monitor};
 use cx_desk::Desk;
 use cx_dice::Dice;
 use cx_journal::put_text;

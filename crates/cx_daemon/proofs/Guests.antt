@@ -7,11 +7,11 @@ use Rattle.cx_rules.specs.Abridged.{abridged_link}
 use Rattle.cx_rules.specs.Holdings.{Asker}
 use Rattle.cx_rules.specs.Links.{link_of, without_link}
 use Rattle.cx_rules.specs.Rows.{Outcome, arrival, turns}
-use Rattle.cx_rules_session.specs.DaemonRule.{AsAcceptor, Daemon, DaemonNode, book_after, book_reply, hosts, me, moved_to, with_asker}
-use Rattle.cx_rules_session.specs.Forgets.{abridged_daemon_link}
-use Rattle.cx_rules_session.specs.Hosting.{Hosted, guest_turned}
-use Rattle.cx_rules_session.specs.Kinds.{of_kind, turn_of_kind}
-use Rattle.cx_rules_session.proofs.DaemonForgets.{daemon-forgets-links}
+use Rattle.cx_daemon_events.specs.cx_rules_session.specs.DaemonRule.{AsAcceptor, Daemon, DaemonNode, book_after, book_reply, hosts, me, moved_to, with_asker}
+use Rattle.cx_daemon_events.specs.cx_rules_session.specs.Forgets.{abridged_daemon_link}
+use Rattle.cx_daemon_events.specs.cx_rules_session.specs.Hosting.{Hosted, guest_turned}
+use Rattle.cx_daemon_events.specs.cx_rules_session.specs.Kinds.{of_kind, turn_of_kind}
+use Rattle.cx_daemon_events.specs.cx_rules_session.proofs.DaemonForgets.{daemon-forgets-links}
 use Rattle.cx_session.specs.Book.{Book}
 use Rattle.cx_steps.specs.declared.effects.Effects.{Effects}
 use Rattle.cx_turns.specs.Making.{own_behind}
@@ -36,7 +36,7 @@ use Rattle.cx_hosted.proofs.Booking.{with_book_map}
 use Rattle.cx_daemon.proofs.Settled.{settled_left}
 use Rattle.cx_hosted.specs.declared.hosting.HostedTurn.{HostedTurn}
 use Rattle.cx_turns.specs.Turns.{HasNumber}
-use Rattle.cx_connector.specs.declared.rows.Change.{Change}
+use Rattle.cx_daemon_events.specs.cx_connector.specs.declared.rows.Change.{Change}
 
 -- a guest's row changes nothing of the daemon's own
 abbrev pub nothing_of : Option (Unit {0}) → Option Change

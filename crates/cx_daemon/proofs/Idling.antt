@@ -1,7 +1,7 @@
 -- Where nothing happens, the step is that of the rules.
 use Rattle.std.proofs.Common.{◌≡◌, List}
 use Rattle.cx_rules.specs.Rows.{idles}
-use Rattle.cx_rules_session.specs.DaemonRule.{Daemon}
+use Rattle.cx_daemon_events.specs.cx_rules_session.specs.DaemonRule.{Daemon}
 use Rattle.cx_steps.specs.Nothing.{nothing}
 use Rattle.cx_steps.specs.declared.effects.Effects.{Effects}
 use Rattle.cx_turns.specs.Steps.{node_of}

@@ -3,8 +3,8 @@ use Rattle.std.proofs.Common.{◌≡◌, ◌∙◌, ℕ, List, Result, Ok, Err, 
 use Rattle.std.specs.Prelude.{OnErr, OnOk}
 use Rattle.cx_node.specs.Tables.{Table}
 use Rattle.cx_rules.specs.Links.{without_link}
-use Rattle.cx_rules_session.specs.DaemonRule.{DaemonState}
-use Rattle.cx_rules_session.specs.Forgets.{DaemonStandsFor}
+use Rattle.cx_daemon_events.specs.cx_rules_session.specs.DaemonRule.{DaemonState}
+use Rattle.cx_daemon_events.specs.cx_rules_session.specs.Forgets.{DaemonStandsFor}
 use Rattle.cx_daemon_events.specs.Kinds.{DaemonLink}
 use Rattle.cx_daemon.proofs.Behind.{left_twice}
 

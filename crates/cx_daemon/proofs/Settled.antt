@@ -2,14 +2,14 @@
 use Rattle.std.proofs.Common.{◌≡◌, ◌∙◌, ℕ, List, Some, None, Result, Ok, Err, IfOk, refl, ap}
 use Rattle.cx_authorize.specs.Daemon.{Authority}
 use Rattle.cx_base.specs.declared.nodes.NodeName.{NodeName}
-use Rattle.cx_connector.specs.declared.rows.Change.{Change}
+use Rattle.cx_daemon_events.specs.cx_connector.specs.declared.rows.Change.{Change}
 use Rattle.cx_desk.specs.Handlers.{Handlers}
 use Rattle.cx_rules.specs.Connector as connector
 use Rattle.cx_rules.specs.Links.{Link, link_of, without_link}
-use Rattle.cx_rules_session.specs.DaemonRule.{AsConnector, Daemon, me}
-use Rattle.cx_rules_session.specs.Forgets.{abridged_daemon_link}
-use Rattle.cx_rules_session.specs.Kinds.{of_kind}
-use Rattle.cx_rules_session.proofs.DaemonForgets.{daemon-forgets-links}
+use Rattle.cx_daemon_events.specs.cx_rules_session.specs.DaemonRule.{AsConnector, Daemon, me}
+use Rattle.cx_daemon_events.specs.cx_rules_session.specs.Forgets.{abridged_daemon_link}
+use Rattle.cx_daemon_events.specs.cx_rules_session.specs.Kinds.{of_kind}
+use Rattle.cx_daemon_events.specs.cx_rules_session.proofs.DaemonForgets.{daemon-forgets-links}
 use Rattle.cx_session.specs.Book.{Book}
 use Rattle.cx_steps.specs.declared.effects.Effects.{Effects}
 use Rattle.cx_turns.specs.Turns.{HasNumber, IsSettled, IsTurned}

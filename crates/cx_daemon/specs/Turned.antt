@@ -2,7 +2,7 @@
 use Rattle.std.specs.Prelude.{List, Some}
 use Rattle.cx_authorize.specs.Daemon.{Authority}
 use Rattle.cx_desk.specs.Handlers.{Handlers}
-use Rattle.cx_rules_session.specs.DaemonRule.{Daemon, turn}
+use Rattle.cx_daemon_events.specs.cx_rules_session.specs.DaemonRule.{Daemon, turn}
 use Rattle.cx_session.specs.Book.{Book}
 use Rattle.cx_steps.specs.declared.effects.Effects.{Effects}
 use Rattle.cx_turns.specs.Steps.{node_of}

@@ -3,20 +3,19 @@
 ghost use Rattle.std.specs.Prelude.{◌≡◌, OnOk, OnErr};
 ghost use Rattle.cx_desk.specs.Held.{handlers_of};
 ghost use Rattle.cx_rules.specs.Inputs.{input_of};
-ghost use Rattle.cx_rules_session.specs.DaemonRule.{DaemonState, daemon_step, is_idle};
-ghost use Rattle.cx_rules_session.specs.Forgets.{DaemonStandsFor, abridged_state};
+ghost use Rattle.cx_daemon_events.specs.cx_rules_session.specs.DaemonRule.{DaemonState, daemon_step, is_idle};
+ghost use Rattle.cx_daemon_events.specs.cx_rules_session.specs.Forgets.{DaemonStandsFor, abridged_state};
 ghost use Rattle.cx_turns.specs.Events.{losing};
 ghost use Rattle.cx_daemon_events.specs.Machine.{lost_state, opening_asker, opening_state};
 
 use crate::steps::steps;
 use cx_base::{Addr, EntityName, Reading};
-use cx_daemon_events::{Book, Link, Own, is_busy};
+use cx_daemon_events::{Book, Link, Own, daemon_forgetting_laws, is_busy};
 use cx_desk::Desk;
 use cx_dice::Draw;
 use cx_enc::Key;
 use cx_holdings::OfferedModes;
 use cx_node::Links;
-use cx_rules_session::daemon_forgetting_laws;
 use cx_steps::{Effects, Event};
 use cx_turns::{link_in, wanting};
 use std::alloc::{AllocError, Global};
@@ -33,7 +32,7 @@ pub struct Daemon {
 
 impl Model for Daemon {
     ghost use Rattle.std.specs.Prelude.{◌≡◌, None};
-    ghost use Rattle.cx_rules_session.specs.DaemonRule.{DaemonState};
+    ghost use Rattle.cx_daemon_events.specs.cx_rules_session.specs.DaemonRule.{DaemonState};
     ghost use Rattle.cx_turns.specs.Steps.{node_of};
     ghost use Rattle.cx_daemon_events.specs.Machine.{AreHeld};
 

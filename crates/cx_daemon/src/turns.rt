@@ -4,9 +4,9 @@ ghost use Rattle.std.specs.Prelude.{◌≡◌, List, None, Some, IfOk, IfSome, O
 ghost use Rattle.cx_desk.specs.Held.{handlers_of};
 ghost use Rattle.cx_node.specs.Tables.{without};
 ghost use Rattle.cx_rules.specs.Links.{link_of, without_link};
-ghost use Rattle.cx_rules_session.specs.DaemonRule as rule;
-ghost use Rattle.cx_rules_session.specs.DaemonRule.{AsAcceptor};
-ghost use Rattle.cx_rules_session.specs.Kinds.{of_kind};
+ghost use Rattle.cx_daemon_events.specs.cx_rules_session.specs.DaemonRule as rule;
+ghost use Rattle.cx_daemon_events.specs.cx_rules_session.specs.DaemonRule.{AsAcceptor};
+ghost use Rattle.cx_daemon_events.specs.cx_rules_session.specs.Kinds.{of_kind};
 ghost use Rattle.cx_session.specs.Answers.{IsReserved};
 ghost use Rattle.cx_turns.specs.Steps.{node_of};
 ghost use Rattle.cx_daemon_events.specs.Kinds.{DaemonLink};
@@ -15,7 +15,7 @@ ghost use Rattle.cx_hosted.specs.Hosting.{behind_call};
 ghost use Rattle.cx_daemon.specs.Turned.{IsLinkTurned};
 
 use crate::moving::shuts_older;
-use cx_daemon_events::{Book, Kind, Link, Own, came_of_guest, own_turns, settles};
+use cx_daemon_events::{Book, Kind, Link, Own, SessionOwner, came_of_guest, own_turns, settles};
 use cx_desk::Desk;
 use cx_hosted::{HostedTurn, hosts};
 use cx_node::Links;
@@ -23,7 +23,6 @@ use cx_session::BookCall;
 use cx_steps::Effects;
 use cx_turns::Moment;
 use cx_verifying as guests;
-use cx_verifying::SessionOwner;
 use std::alloc::{AllocError, Global};
 
 // One banner or frame of what came on a link is handled, if it lives.

@@ -9,9 +9,9 @@ use Rattle.cx_rules.specs.Connector.{is_open, kept_open}
 use Rattle.cx_rules.specs.Links.{Link}
 use Rattle.cx_rules.specs.Requests.{Requests, first_open}
 use Rattle.cx_rules.specs.Secured.{Secured}
-use Rattle.cx_rules_session.specs.DaemonRule.{Daemon, DaemonNode, asking_open, fetches_on}
-use Rattle.cx_rules_session.specs.Forgets.{abridged_daemon_link}
-use Rattle.cx_rules_session.proofs.DaemonForgets.{daemon-forgets-links}
+use Rattle.cx_verifying.specs.cx_rules_session.specs.DaemonRule.{Daemon, DaemonNode, asking_open, fetches_on}
+use Rattle.cx_verifying.specs.cx_rules_session.specs.Forgets.{abridged_daemon_link}
+use Rattle.cx_verifying.specs.cx_rules_session.proofs.DaemonForgets.{daemon-forgets-links}
 use Rattle.cx_steps.specs.Nothing.{nothing}
 use Rattle.cx_steps.specs.declared.effects.Effects.{Effects}
 use Rattle.cx_steps.specs.declared.events.Peer.TheVariants.{Monitor}

@@ -7,11 +7,11 @@ use Rattle.cx_rules.specs.Acceptor as acceptor
 use Rattle.cx_rules.specs.Connector as connector
 use Rattle.cx_rules.specs.Links.{Link, without_link}
 use Rattle.cx_rules.specs.Rows.{Outcome, forgotten, idles, refused_entry}
-use Rattle.cx_rules_session.specs.Asks.{Asking, Finished}
-use Rattle.cx_rules_session.specs.DaemonRule.{AsAcceptor, AsConnector, Daemon, DaemonNode, DaemonStage, drops, gone, gone_by_kind, lossy_gone, me, on_dropped}
-use Rattle.cx_rules_session.specs.Forgets.{abridged_daemon_link}
-use Rattle.cx_rules_session.specs.Guests.{GuestStage}
-use Rattle.cx_rules_session.specs.Kinds.{of_kind}
+use Rattle.cx_verifying.specs.cx_rules_session.specs.Asks.{Asking, Finished}
+use Rattle.cx_verifying.specs.cx_rules_session.specs.DaemonRule.{AsAcceptor, AsConnector, Daemon, DaemonNode, DaemonStage, drops, gone, gone_by_kind, lossy_gone, me, on_dropped}
+use Rattle.cx_verifying.specs.cx_rules_session.specs.Forgets.{abridged_daemon_link}
+use Rattle.cx_verifying.specs.cx_rules_session.specs.Guests.{GuestStage}
+use Rattle.cx_verifying.specs.cx_rules_session.specs.Kinds.{of_kind}
 use Rattle.cx_session.specs.Book.{Book, ended, with_number}
 use Rattle.cx_session.specs.declared.call.BookCall.TheVariants.{End}
 use Rattle.cx_session.specs.declared.call.BookReply.TheVariants.{Ended}

@@ -2,10 +2,10 @@
 use Rattle.std.proofs.Common.{◌≡◌, ◌∙◌, ℕ, ◌==◌, Bool, List, ◌++◌, map, Option, Some, None, sym, ap}
 use Rattle.std.specs.Prelude.{not, filter, ◌&&◌}
 use Rattle.cx_rules.specs.Rows.{Outcome}
-use Rattle.cx_rules_session.specs.DaemonRule.{Daemon, DaemonNode, is_in, shut_where}
-use Rattle.cx_rules_session.specs.Forgets.{abridged_daemon_link}
-use Rattle.cx_rules_session.proofs.DaemonForgets.{daemon-forgets-links, in-same}
-use Rattle.cx_rules_session.proofs.KindsAlike.{links-left, numbers-picked}
+use Rattle.cx_verifying.specs.cx_rules_session.specs.DaemonRule.{Daemon, DaemonNode, is_in, shut_where}
+use Rattle.cx_verifying.specs.cx_rules_session.specs.Forgets.{abridged_daemon_link}
+use Rattle.cx_verifying.specs.cx_rules_session.proofs.DaemonForgets.{daemon-forgets-links, in-same}
+use Rattle.cx_verifying.specs.cx_rules_session.proofs.KindsAlike.{links-left, numbers-picked}
 use Rattle.cx_steps.specs.declared.effects.Effects.{Effects}
 use Rattle.cx_turns.specs.Steps.{node_of}
 use Rattle.cx_turns.proofs.Rising.{filter_rising}

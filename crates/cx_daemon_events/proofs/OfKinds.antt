@@ -8,11 +8,11 @@ use Rattle.cx_rules.specs.Abridged.{abridged_asker_link, abridged_link}
 use Rattle.cx_rules.specs.Connector as connector
 use Rattle.cx_rules.specs.Links.{Link}
 use Rattle.cx_rules.specs.Rows.{Row, Turned, Waits, Refuses, Handles}
-use Rattle.cx_rules_session.specs.DaemonRule.{DaemonStage, AsAcceptor, AsConnector}
-use Rattle.cx_rules_session.specs.Forgets.{abridged_daemon_link}
-use Rattle.cx_rules_session.specs.Guests.{GuestStage}
-use Rattle.cx_rules_session.specs.Kinds.{of_kind, row_of_kind, turn_of_kind}
-use Rattle.cx_rules_session.proofs.KindsAlike.{FollowsKind}
+use Rattle.cx_verifying.specs.cx_rules_session.specs.DaemonRule.{DaemonStage, AsAcceptor, AsConnector}
+use Rattle.cx_verifying.specs.cx_rules_session.specs.Forgets.{abridged_daemon_link}
+use Rattle.cx_verifying.specs.cx_rules_session.specs.Guests.{GuestStage}
+use Rattle.cx_verifying.specs.cx_rules_session.specs.Kinds.{of_kind, row_of_kind, turn_of_kind}
+use Rattle.cx_verifying.specs.cx_rules_session.proofs.KindsAlike.{FollowsKind}
 use Rattle.cx_turns.specs.Making.{own_behind, row_due}
 use Rattle.cx_turns.specs.Steps.{IsFed, IsTurn, Stays, turn_due, turn_made}
 use Rattle.cx_turns.specs.Turns.{HasNumber}

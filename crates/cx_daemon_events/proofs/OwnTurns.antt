@@ -5,7 +5,7 @@ use Rattle.cx_connector.specs.declared.rows.Change.{Change}
 use Rattle.cx_rules.specs.Abridged.{abridged_asker_link}
 use Rattle.cx_rules.specs.Connector as connector
 use Rattle.cx_rules.specs.Links.{Link}
-use Rattle.cx_rules_session.specs.DaemonRule.{AsConnector, Daemon, with_asker}
+use Rattle.cx_verifying.specs.cx_rules_session.specs.DaemonRule.{AsConnector, Daemon, with_asker}
 use Rattle.cx_turns.specs.Making.{own_behind}
 use Rattle.cx_turns.specs.Turns.{HasNumber}
 use Rattle.cx_turns.specs.declared.came.Came.{Came}

@@ -12,8 +12,8 @@ use Rattle.cx_rules.specs.Connector.{AwaitsBanner, AwaitsHello, AwaitsChallenge,
 use Rattle.cx_rules.specs.Links.{Link}
 use Rattle.cx_rules.specs.Requests.{Requests, first_open, open_or}
 use Rattle.cx_rules.specs.Secured.{Secured}
-use Rattle.cx_rules_session.specs.DaemonRule.{AsConnector, asking_open}
-use Rattle.cx_rules_session.specs.Kinds.{of_kind}
+use Rattle.cx_verifying.specs.cx_rules_session.specs.DaemonRule.{AsConnector, asking_open}
+use Rattle.cx_verifying.specs.cx_rules_session.specs.Kinds.{of_kind}
 use Rattle.cx_daemon_events.specs.Kinds.{DaemonLink}
 use Rattle.cx_daemon_events.specs.Machine.{IsFirstOpen}
 

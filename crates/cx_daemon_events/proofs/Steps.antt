@@ -3,9 +3,9 @@ use Rattle.std.proofs.Common.{◌≡◌, ℕ, List, [], ◌∷◌, Result, Ok, E
 use Rattle.cx_journal.specs.declared.outcomes.Reason.TheVariants.{NoLink}
 use Rattle.cx_rules.specs.Links.{without_link}
 use Rattle.cx_rules.specs.Rows.{idles, opens_none, refused_entry}
-use Rattle.cx_rules_session.specs.DaemonRule.{Daemon, DaemonNode, me, unreached}
-use Rattle.cx_rules_session.specs.Forgets.{abridged_daemon_link}
-use Rattle.cx_rules_session.proofs.DaemonForgets.{daemon-forgets-links}
+use Rattle.cx_verifying.specs.cx_rules_session.specs.DaemonRule.{Daemon, DaemonNode, me, unreached}
+use Rattle.cx_verifying.specs.cx_rules_session.specs.Forgets.{abridged_daemon_link}
+use Rattle.cx_verifying.specs.cx_rules_session.proofs.DaemonForgets.{daemon-forgets-links}
 use Rattle.cx_steps.specs.Nothing.{nothing}
 use Rattle.cx_steps.specs.declared.effects.Effects.{Effects}
 use Rattle.cx_steps.specs.declared.events.Peer.{Peer}

@@ -16,11 +16,11 @@ use Rattle.cx_rules.specs.Links.{Link}
 use Rattle.cx_rules.specs.Requests.{Requests, asks_rotating, first_open}
 use Rattle.cx_rules.specs.Rows.{Outcome, Row, arrival, goes_on, lifted, new_link, refuses}
 use Rattle.cx_rules.specs.Secured.{Secured}
-use Rattle.cx_rules_session.specs.Asks.{with_book}
-use Rattle.cx_rules_session.specs.DaemonRule.{AsAcceptor, AsConnector, Daemon, DaemonNode, DaemonStage, DaemonState, asking_open, book_after, book_reply, opening_daemon, me, open_to_ask, undialled, with_asker}
-use Rattle.cx_rules_session.specs.Forgets.{abridged_daemon_link, abridged_state}
-use Rattle.cx_rules_session.specs.Hosting.{Deciding}
-use Rattle.cx_rules_session.specs.Kinds.{of_kind}
+use Rattle.cx_verifying.specs.cx_rules_session.specs.Asks.{with_book}
+use Rattle.cx_verifying.specs.cx_rules_session.specs.DaemonRule.{AsAcceptor, AsConnector, Daemon, DaemonNode, DaemonStage, DaemonState, asking_open, book_after, book_reply, opening_daemon, me, open_to_ask, undialled, with_asker}
+use Rattle.cx_verifying.specs.cx_rules_session.specs.Forgets.{abridged_daemon_link, abridged_state}
+use Rattle.cx_verifying.specs.cx_rules_session.specs.Hosting.{Deciding}
+use Rattle.cx_verifying.specs.cx_rules_session.specs.Kinds.{of_kind}
 use Rattle.cx_session.specs.Book.{Book, empty_book}
 use Rattle.cx_steps.specs.declared.effects.Effects.{Effects}
 use Rattle.cx_steps.specs.declared.events.Peer.TheVariants as peer

@@ -5,9 +5,9 @@ use Rattle.cx_connector.specs.declared.rows.Change.{Change}
 use Rattle.cx_rules.specs.Connector as connector
 use Rattle.cx_rules.specs.Links.{Link}
 use Rattle.cx_rules.specs.Rows.{Turned, arrival}
-use Rattle.cx_rules_session.specs.DaemonRule.{AsConnector, Daemon, DaemonStage, me, with_asker}
-use Rattle.cx_rules_session.specs.Forgets.{abridged_daemon_link}
-use Rattle.cx_rules_session.specs.Kinds.{of_kind, turn_of_kind}
+use Rattle.cx_verifying.specs.cx_rules_session.specs.DaemonRule.{AsConnector, Daemon, DaemonStage, me, with_asker}
+use Rattle.cx_verifying.specs.cx_rules_session.specs.Forgets.{abridged_daemon_link}
+use Rattle.cx_verifying.specs.cx_rules_session.specs.Kinds.{of_kind, turn_of_kind}
 use Rattle.cx_turns.specs.Steps.{IsTurn}
 use Rattle.cx_turns.specs.declared.came.Came.{Came}
 use Rattle.cx_daemon_events.specs.Kinds.{DaemonLink}

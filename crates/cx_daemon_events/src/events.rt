@@ -5,8 +5,8 @@ ghost use Rattle.cx_journal.specs.declared.outcomes.Reason.TheVariants as reason
 ghost use Rattle.cx_rules.specs.Inputs.{Opened};
 ghost use Rattle.cx_rules.specs.Links.{link_of, without_link};
 ghost use Rattle.cx_rules.specs.Rows as rows;
-ghost use Rattle.cx_rules_session.specs.DaemonRule as rule;
-ghost use Rattle.cx_rules_session.specs.DaemonRule.{me};
+ghost use Rattle.cx_verifying.specs.cx_rules_session.specs.DaemonRule as rule;
+ghost use Rattle.cx_verifying.specs.cx_rules_session.specs.DaemonRule.{me};
 ghost use Rattle.cx_steps.specs.Nothing.{nothing};
 ghost use Rattle.cx_steps.specs.declared.events.Peer.TheVariants.{Monitor};
 ghost use Rattle.cx_turns.specs.Steps.{node_of};

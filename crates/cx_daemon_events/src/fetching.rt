@@ -2,8 +2,8 @@
 
 ghost use Rattle.std.specs.Prelude.{◌≡◌, [], ◌∷◌, None, true, IfOk, OnErr};
 ghost use Rattle.cx_rules.specs.Requests.{first_open};
-ghost use Rattle.cx_rules_session.specs.DaemonRule as rule;
-ghost use Rattle.cx_rules_session.specs.DaemonRule.{asking_open};
+ghost use Rattle.cx_verifying.specs.cx_rules_session.specs.DaemonRule as rule;
+ghost use Rattle.cx_verifying.specs.cx_rules_session.specs.DaemonRule.{asking_open};
 ghost use Rattle.cx_steps.specs.Nothing.{nothing};
 ghost use Rattle.cx_steps.specs.declared.events.Peer.TheVariants.{Monitor};
 ghost use Rattle.cx_turns.specs.Steps.{node_of};

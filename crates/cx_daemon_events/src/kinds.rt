@@ -1,7 +1,7 @@
 //! What was made on a link of a kind, as made on one of the daemon.
 
 ghost use Rattle.std.specs.Prelude.{◌≡◌, None};
-ghost use Rattle.cx_rules_session.specs.DaemonRule.{AsAcceptor, AsConnector};
+ghost use Rattle.cx_verifying.specs.cx_rules_session.specs.DaemonRule.{AsAcceptor, AsConnector};
 ghost use Rattle.cx_daemon_events.specs.Kinds.{came_of_kind, made_of_kind};
 
 use crate::links::{Kind, Link};

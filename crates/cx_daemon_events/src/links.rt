@@ -23,7 +23,7 @@ pub struct Link {
 
 impl Model for Link {
     ghost use Rattle.cx_rules.specs.Links as links;
-    ghost use Rattle.cx_rules_session.specs.DaemonRule.{DaemonStage};
+    ghost use Rattle.cx_verifying.specs.cx_rules_session.specs.DaemonRule.{DaemonStage};
 
     ghost Value = { links.Link DaemonStage };
 
@@ -35,8 +35,8 @@ impl Model for Link {
 impl Link {
     ghost use Rattle.std.specs.Prelude.{◌≡◌, Some, IfSome, IfNone, None, true};
     ghost use Rattle.cx_rules.specs.Connector.{is_open};
-    ghost use Rattle.cx_rules_session.specs.DaemonRule.{AsConnector, asking_open, is_for_fetch, is_in};
-    ghost use Rattle.cx_rules_session.specs.Kinds.{of_kind};
+    ghost use Rattle.cx_verifying.specs.cx_rules_session.specs.DaemonRule.{AsConnector, asking_open, is_for_fetch, is_in};
+    ghost use Rattle.cx_verifying.specs.cx_rules_session.specs.Kinds.{of_kind};
 
     /// Whether a fetch is under way on it.
     pub fn is_for_fetch(&self) -> bool
@@ -82,7 +82,7 @@ impl Numbered for Link {
 }
 
 impl Feeds for Link {
-    ghost use Rattle.cx_rules_session.specs.Forgets.{abridged_daemon_link};
+    ghost use Rattle.cx_verifying.specs.cx_rules_session.specs.Forgets.{abridged_daemon_link};
     ghost use Rattle.cx_turns.specs.Steps as steps;
 
     ghost IsFed = { steps.IsFed abridged_daemon_link };

@@ -2,7 +2,7 @@
 
 ghost use Rattle.std.specs.Prelude.{◌≡◌, List, None, Some, IfOk, OnOk, OnErr};
 ghost use Rattle.cx_node.specs.Tables.{without};
-ghost use Rattle.cx_rules_session.specs.DaemonRule.{me};
+ghost use Rattle.cx_verifying.specs.cx_rules_session.specs.DaemonRule.{me};
 ghost use Rattle.cx_turns.specs.Making.{own_behind};
 ghost use Rattle.cx_turns.specs.Turns.{HasNumber, IsSettled, IsTurned};
 ghost use Rattle.cx_daemon_events.specs.Kinds.{DaemonLink};

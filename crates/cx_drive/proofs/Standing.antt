@@ -1,10 +1,9 @@
 -- What the machines stand for where memory is wanting.
 use Rattle.std.proofs.Common.{ℕ, Option, Some, None, ap}
-use Rattle.cx_client.specs.Machine as client
+pub use Rattle.cx_client.proofs.Standing.{client_loses}
 use Rattle.cx_turns.specs.Events.{link_in}
 use Rattle.cx_mon.specs.Machine as monitor
-use Rattle.cx_rules.specs.Abridged.{ClientStandsFor, MonitorStandsFor}
-use Rattle.cx_rules.specs.ClientRule.{ClientNode}
+use Rattle.cx_rules.specs.Abridged.{MonitorStandsFor}
 use Rattle.cx_rules.specs.Inputs.{Input}
 use Rattle.cx_rules.specs.Monitor.{MonitorNode}
 use Rattle.cx_rules.specs.MonitorRule.{noted}
@@ -18,11 +17,3 @@ module _ (loses : (m s : MonitorNode) (n : ℕ) → MonitorStandsFor m s → Mon
 
   pub monitor_loses : (m s : MonitorNode) (input : Input) → MonitorStandsFor m s → MonitorStandsFor (monitor.lost m input) (monitor.lost s input)
   monitor_loses m s input st = by_link (link_in input) m s st
-
-module _ (loses : (c s : ClientNode) (n : ℕ) → ClientStandsFor c s → ClientStandsFor (forgotten c n) (forgotten s n)) where
-  client_by_link : (link : Option ℕ) (c s : ClientNode) → ClientStandsFor c s → ClientStandsFor (without_lost link c) (without_lost link s)
-  client_by_link None c s st = st
-  client_by_link (Some number) c s st = loses c s number st
-
-  pub client_loses : (c s : ClientNode) (input : Input) → ClientStandsFor c s → ClientStandsFor (client.lost c input) (client.lost s input)
-  client_loses c s input st = client_by_link (link_in input) c s st

@@ -4,8 +4,9 @@ use Rattle.cx_client.specs.Machine as client
 pub use Rattle.cx_client.specs.Machine.{opening_asker}
 use Rattle.cx_drive.specs.declared.peers.Peers.{Peers}
 use Rattle.cx_mon.specs.Machine as monitor
-use Rattle.cx_rules.specs.Abridged.{abridged_client, abridged_monitor}
-use Rattle.cx_rules.specs.ClientRule.{ClientNode, client_rule}
+use Rattle.cx_rules.specs.Abridged.{abridged_monitor}
+use Rattle.cx_rules_session.specs.Forgets.{abridged_whole_client}
+use Rattle.cx_rules_session.specs.ClientRule.{WholeClientNode, whole_client_rule}
 use Rattle.cx_rules.specs.Inputs.{Input}
 use Rattle.cx_rules.specs.Monitor.{MonitorNode}
 use Rattle.cx_rules.specs.MonitorRule.{monitor_rule}
@@ -17,10 +18,10 @@ held_monitor node input reading draw = record {
   out = (monitor_rule node input reading draw).out;
 }
 
-abbrev pub held_client : ClientNode → Input → ℕ → List ℕ → Outcome ClientNode
+abbrev pub held_client : WholeClientNode → Input → ℕ → List ℕ → Outcome WholeClientNode
 held_client node input reading draw = record {
-  state = abridged_client (client_rule node input reading draw).state;
-  out = (client_rule node input reading draw).out;
+  state = abridged_whole_client (whole_client_rule node input reading draw).state;
+  out = (whole_client_rule node input reading draw).out;
 }
 
 -- a node that opens no links knows no addresses
@@ -31,5 +32,5 @@ no_peers = record { monitor = None; daemons = [] }
 abbrev pub lost_monitor : MonitorNode → Input → MonitorNode
 lost_monitor node input = monitor.lost node input
 
-abbrev pub lost_client : ClientNode → Input → ClientNode
+abbrev pub lost_client : WholeClientNode → Input → WholeClientNode
 lost_client node input = client.lost node input

@@ -5,8 +5,8 @@ ghost use Rattle.cx_client.specs.Machine.{lost};
 ghost use Rattle.cx_drive.specs.Agendas.{opening_agenda};
 ghost use Rattle.cx_drive.specs.Courses.{RanTo};
 ghost use Rattle.cx_drive.specs.Stops.{scene};
-ghost use Rattle.cx_rules.specs.Abridged.{ClientStandsFor};
-ghost use Rattle.cx_rules.specs.ClientRule.{ClientNode, client_rule, is_idle};
+ghost use Rattle.cx_rules_session.specs.Forgets.{WholeClientStandsFor};
+ghost use Rattle.cx_rules_session.specs.ClientRule.{WholeClientNode, is_idle, whole_client_rule};
 
 use crate::driving::drive;
 use crate::ends::Driven;
@@ -14,7 +14,7 @@ use crate::flow::Order;
 use crate::peers::Peers;
 use cx_client::Client;
 use cx_journal::Journal;
-use cx_rules::forgetting_laws;
+use cx_rules_session::client_forgetting_laws;
 use cx_site::Site;
 use std::alloc::Global;
 
@@ -31,10 +31,10 @@ pub fn drive_client<S: Site>(
     buffer: &mut [u8],
 ) -> Driven
     requires { 0 < length buffer.old }
-    ensures { (s : ClientNode) → ClientStandsFor client.old s → (t : ClientNode) × ClientStandsFor client.new t
-        × RanTo S.follows client_rule lost is_idle peers.now (scene site.old s journal.old) (scene site.new t journal.new)
+    ensures { (s : WholeClientNode) → WholeClientStandsFor client.old s → (t : WholeClientNode) × WholeClientStandsFor client.new t
+        × RanTo S.follows whole_client_rule lost is_idle peers.now (scene site.old s journal.old) (scene site.new t journal.new)
         (opening_agenda orders.now events) result }
 {
-    forgetting_laws();
+    client_forgetting_laws();
     drive(alloc, site, client, peers, orders, events, journal, buffer)
 }

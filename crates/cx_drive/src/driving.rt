@@ -1,6 +1,7 @@
 //! The loop that drives a node.
 
 ghost use Rattle.std.specs.Prelude.{◌≡◌, ◌<◌, [], None, Some, length, IfOk, IfErr, OnErr};
+ghost use Rattle.cx_client.specs.Machine.{IsWritableInput};
 ghost use Rattle.cx_drive.specs.Agendas.{after_came, agenda_of, at_quiet, opening_agenda, passed, with_due};
 ghost use Rattle.cx_drive.specs.Courses.{RanOn, RanTo, StepsOn};
 ghost use Rattle.cx_drive.specs.Stops.{Stopped, scene};
@@ -102,6 +103,7 @@ fn comes<S: Site, M: Machine>(
     flow: &mut Flow<'_>,
     event: Event<'_>,
 ) -> Option<Ended>
+    requires { IsWritableInput (input_of event) }
     ensures { RanOn S.follows M.rule M.lost M.rests peers.now (scene site.old node.old journal.old) (scene site.new node.new journal.new)
         (with_due (input_of event.entry) (agenda_of flow.old)) (agenda_of flow.new) result }
 {
@@ -145,6 +147,7 @@ fn step_on<S: Site, M: Machine>(
     flow: &mut Flow<'_>,
     event: Event<'_>,
 ) -> Result<bool, Stop>
+    requires { IsWritableInput (input_of event) }
     ensures ok { IfOk result (StepsOn S.follows M.rule M.lost M.rests peers.now (input_of event.entry)
         (scene site.old node.old journal.old) (scene site.new node.new journal.new) (agenda_of flow.old) (agenda_of flow.new)) }
     ensures err { IfErr result (Stopped S.follows M.rule M.lost (input_of event.entry)

@@ -1,6 +1,7 @@
 //! What comes to a node behind its own step.
 
 ghost use Rattle.std.specs.Prelude.{◌≡◌};
+ghost use Rattle.cx_client.specs.Machine.{IsWritableInput};
 ghost use Rattle.cx_drive.specs.Steps.{input_due};
 ghost use Rattle.cx_rules.specs.Inputs.{input_of};
 
@@ -20,7 +21,8 @@ pub enum Due {
 impl Due {
     /// The event as which it comes.
     pub(crate) fn event(self) -> Event<'static>
-        ensures { input_of result ≡ input_due self }
+        ensures input { input_of result ≡ input_due self }
+        ensures writable { IsWritableInput (input_of result) }
     {
         match self {
             Due::Opened(number, peer) => Event::Opened(number, Some(peer)),

@@ -1,21 +1,65 @@
 //! What comes to a node next.
 
-ghost use Rattle.std.specs.Prelude.{◌≡◌, [], ◌∷◌, Some, IfOk, OnErr};
+ghost use Rattle.std.specs.Prelude.{◌≡◌, [], ◌∷◌, Some, IfNone, IfOk, IfSome, OnErr};
 ghost use Rattle.std.specs.Option.{option_map};
+ghost use Rattle.cx_client.specs.Machine.{IsWritableCommand, IsWritableInput};
 ghost use Rattle.cx_drive.specs.Agendas.{agenda_of, at_quiet, gone_count, opening_agenda, passed, turning_behind, with_event};
 ghost use Rattle.cx_rules.specs.Inputs.{input_of};
 
 use crate::dues::Due;
 use cx_base::Duplicate;
+use cx_client::can_be_told;
 use cx_steps::{Command, Event};
 use std::alloc::{AllocError, Global};
 use std::collections::VecDeque;
+use std::marker::Model;
+
+/// What a node may be told to do: an operation that is to be sent can be written.
+#[derive(PartialEq, Eq, Drop)]
+pub struct Told {
+    command: Command,
+}
+
+impl Model for Told {
+    ghost use Rattle.cx_client.specs.Machine.{IsWritableCommand};
+    ghost use Rattle.cx_steps.specs.declared.events.Command.{Command};
+
+    ghost Value = { Command };
+
+    ghost view = { λ t. t.command };
+
+    ghost inverse = { λ c. record { command = c } };
+
+    ghost invariant = { λ t. IsWritableCommand t.command };
+}
+
+impl Told {
+    /// That it is told to do this; none where this is to send an operation that can't be written.
+    pub fn of(command: Command) -> Option<Told>
+        ensures told { IfSome result (λ told. told ≡ command) }
+        ensures none { IfNone result (¬ IsWritableCommand command) }
+    {
+        if can_be_told(&command) {
+            Some(Told { command })
+        } else {
+            None
+        }
+    }
+
+    // The command, once more.
+    fn command(&self, alloc: Global) -> Result<Command, AllocError>
+        ensures same { IfOk result (λ command. command ≡ self.now) }
+        ensures writable { IfOk result (λ command. IsWritableCommand command) }
+    {
+        self.command.copy(alloc)
+    }
+}
 
 /// What the script of a node says.
 #[derive(PartialEq, Eq, Drop)]
 pub enum Order {
     /// The node is told to do this, once it waits for nothing.
-    Submit(Command),
+    Submit(Told),
     /// The next line waits until so many links were gone.
     Gone(u64),
     /// The node ends, once it waits for nothing.
@@ -65,6 +109,7 @@ impl<'a> Flow<'a> {
     pub fn quiet(&mut self, alloc: Global, idle: bool) -> Result<Option<Event<'static>>, AllocError>
         ensures ok { IfOk result (λ event. at_quiet (passed (agenda_of self.old).gone (agenda_of self.old).orders) idle (agenda_of self.old)
             ≡ with_event (option_map input_of event) (agenda_of self.new)) }
+        ensures writable { IfOk result (λ event. IfSome event (λ e. IsWritableInput (input_of e))) }
         ensures err { OnErr result (self.new.short ≡ self.old.short) }
     {
         let orders = passed(self.orders, self.gone);
@@ -74,7 +119,7 @@ impl<'a> Flow<'a> {
         };
         match first {
             Order::Stop => Ok(self.stop(idle, rest)),
-            Order::Submit(command) => self.submit(alloc, idle, command, rest),
+            Order::Submit(told) => self.submit(alloc, idle, told, rest),
             Order::Gone(_) => Ok(Some(Event::Tick)),
         }
     }
@@ -83,6 +128,7 @@ impl<'a> Flow<'a> {
     fn stop(&mut self, idle: bool, rest: &[Order]) -> Option<Event<'static>>
         requires { (agenda_of self.old).orders ≡ Order.Stop ∷ rest.now }
         ensures ok { at_quiet (agenda_of self.old).orders idle (agenda_of self.old) ≡ with_event (option_map input_of result) (agenda_of self.new) }
+        ensures writable { IfSome result (λ event. IsWritableInput (input_of event)) }
         ensures short { self.new.short ≡ self.old.short }
     {
         if !idle {
@@ -97,18 +143,19 @@ impl<'a> Flow<'a> {
         &mut self,
         alloc: Global,
         idle: bool,
-        command: &Command,
+        told: &Told,
         rest: &'a [Order],
     ) -> Result<Option<Event<'static>>, AllocError>
-        requires { (agenda_of self.old).orders ≡ Order.Submit command.now ∷ rest.now }
+        requires { (agenda_of self.old).orders ≡ Order.Submit told.now ∷ rest.now }
         ensures ok { IfOk result (λ event. at_quiet (agenda_of self.old).orders idle (agenda_of self.old)
             ≡ with_event (option_map input_of event) (agenda_of self.new)) }
+        ensures writable { IfOk result (λ event. IfSome event (λ e. IsWritableInput (input_of e))) }
         ensures err { OnErr result (self.new.short ≡ self.old.short) }
     {
         if !idle {
             return Ok(Some(Event::Tick));
         }
-        let command = command.copy(alloc)?;
+        let command = told.command(alloc)?;
         self.orders = rest;
         Ok(Some(Event::Submit(command)))
     }

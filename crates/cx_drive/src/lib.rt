@@ -21,7 +21,7 @@ pub use clients::drive_client;
 pub use driving::drive;
 pub use dues::Due;
 pub use ends::{Driven, Ended};
-pub use flow::Order;
+pub use flow::{Order, Told};
 pub use laws::order_law;
 pub use machine::Machine;
 pub use monitors::drive_monitor;
@@ -29,6 +29,7 @@ pub use peers::{DaemonAt, Peers};
 pub use steps::{Stepped, perform};
 pub use stops::Stop;
 
-// The nodes that it drives.
+// The law of those that save nothing, and the nodes that it drives.
 pub use cx_client::Client;
+pub use cx_laws_saving::saving_laws;
 pub use cx_mon::Monitor;

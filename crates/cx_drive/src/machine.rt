@@ -1,6 +1,7 @@
 //! A node that can be driven.
 
 ghost use Rattle.std.specs.Prelude.{ℕ, ◌≡◌, ◌<◌, Bool, List, IfOk, IfSome, OnOk, OnErr};
+ghost use Rattle.cx_client.specs.Machine.{IsWritableInput};
 ghost use Rattle.cx_turns.specs.Events.{losing};
 ghost use Rattle.cx_rotate.specs.Keeping.{IsKeptState};
 ghost use Rattle.cx_rules.specs.Inputs.{Input, input_of};
@@ -9,6 +10,7 @@ ghost use Rattle.cx_rules.specs.Rows.{Outcome};
 use cx_base::Reading;
 use cx_client::Client;
 use cx_dice::Draw;
+use cx_laws_saving::saving_laws;
 use cx_mon::Monitor;
 use cx_steps::{Effects, Event};
 use std::alloc::{AllocError, Global};
@@ -37,7 +39,9 @@ pub trait Machine {
         draw: &Draw,
         out: &mut Effects,
     ) -> Result<(), AllocError>
-        requires { now < 4000000000000000000 }
+        requires reading { now < 4000000000000000000 }
+        // An operation that is to be sent can be written.
+        requires writable { IsWritableInput (input_of event) }
         ensures out { OnOk result (out.new ≡ (rule self.old (input_of event.entry) now draw.now.bytes).out) }
         ensures state { OnOk result (self.new ≡ (rule self.old (input_of event.entry) now draw.now.bytes).state) }
         // A state that it saves may be kept.
@@ -82,13 +86,13 @@ impl Machine for Monitor {
 }
 
 impl Machine for Client {
-    ghost use Rattle.cx_rules.specs.Abridged.{abridged_client};
-    ghost use Rattle.cx_rules.specs.ClientRule.{client_rule, is_idle};
+    ghost use Rattle.cx_rules_session.specs.Forgets.{abridged_whole_client};
+    ghost use Rattle.cx_rules_session.specs.ClientRule.{is_idle, whole_client_rule};
     ghost use Rattle.cx_client.specs.Machine as machine;
 
     ghost rule = { λ node input reading draw. record {
-      state = abridged_client (client_rule node input reading draw).state;
-      out = (client_rule node input reading draw).out;
+      state = abridged_whole_client (whole_client_rule node input reading draw).state;
+      out = (whole_client_rule node input reading draw).out;
     } };
 
     ghost lost = { machine.lost };
@@ -103,6 +107,7 @@ impl Machine for Client {
         draw: &Draw,
         out: &mut Effects,
     ) -> Result<(), AllocError> {
+        saving_laws();
         self.step(alloc, event, now, draw, out)
     }
 

@@ -1,6 +1,7 @@
 //! A step of a node, carried out.
 
 ghost use Rattle.std.specs.Prelude.{◌≡◌, ◌<◌, ◌++◌, length, take, IfOk, IfErr, IfSome, OnOk, OnErr};
+ghost use Rattle.cx_client.specs.Machine.{IsWritableInput};
 ghost use Rattle.cx_drive.specs.Steps.{effects_of, node_behind};
 ghost use Rattle.cx_drive.specs.Stops.{Carried, GivesUp, Performed, Stopped, scene};
 ghost use Rattle.cx_rotate.specs.Keeping.{IsKeptState};
@@ -27,7 +28,8 @@ pub struct Stepped {
 }
 
 /// One step of a node: the dice are rolled and the clock is read, the node takes its step, and that is carried out, saved first. What is due
-/// of it stands behind what was due before. A step for which memory was wanting loses its link, and the run may go on.
+/// of it stands behind what was due before. A step for which memory was wanting loses its link, and the run may go on. An operation that is to be
+/// sent has to be one that can be written.
 pub fn perform<S: Site, M: Machine>(
     alloc: Global,
     site: &mut S,
@@ -37,6 +39,7 @@ pub fn perform<S: Site, M: Machine>(
     event: Event<'_>,
     dues: &mut VecDeque<Due>,
 ) -> Result<Stepped, Stop>
+    requires { IsWritableInput (input_of event) }
     ensures ok { IfOk result (Performed S.follows M.rule M.lost peers.now (input_of event.entry)
         (scene site.old node.old journal.old) (scene site.new node.new journal.new) dues.old.items dues.new.items) }
     ensures err { IfErr result (Stopped S.follows M.rule M.lost (input_of event.entry)
@@ -66,7 +69,8 @@ fn take_step<M: Machine>(
     draw: &Draw,
     out: &mut Effects,
 ) -> bool
-    requires { now < 4000000000000000000 }
+    requires reading { now < 4000000000000000000 }
+    requires writable { IsWritableInput (input_of event) }
     ensures out { out.new ≡ effects_of M.rule M.lost node.old (input_of event.entry) now draw.now.bytes result }
     ensures node { node.new ≡ node_behind M.rule M.lost node.old (input_of event.entry) now draw.now.bytes result }
     ensures kept { IfSome out.new.save IsKeptState }

@@ -5,10 +5,10 @@ use Rattle.cx_journal.specs.declared.entries.Entry.{Entry}
 use Rattle.cx_rules.specs.Abridged.{abridged_link}
 use Rattle.cx_rules.specs.Rows.{Handles, Refuses, Turned, Waits, with_opened}
 use Rattle.cx_rules.specs.Holdings.{Asker}
-use Rattle.cx_rules_session.specs.Asks.{Asking, Finished}
-use Rattle.cx_rules_session.specs.Guests.{GuestArrival, GuestRow, GuestStage}
-use Rattle.cx_rules_session.specs.Hosting.{Deciding, Hosted, comes_to}
-use Rattle.cx_rules_session.specs.Kinds.{entered_before}
+use Rattle.cx_verifying.specs.cx_rules_session.specs.Asks.{Asking, Finished}
+use Rattle.cx_verifying.specs.cx_rules_session.specs.Guests.{GuestArrival, GuestRow, GuestStage}
+use Rattle.cx_verifying.specs.cx_rules_session.specs.Hosting.{Deciding, Hosted, comes_to}
+use Rattle.cx_verifying.specs.cx_rules_session.specs.Kinds.{entered_before}
 use Rattle.cx_steps.specs.declared.seals.SealEntry.{SealEntry}
 use Rattle.cx_turns.proofs.MadeRows.{behind_due, entered_as}
 use Rattle.cx_turns.specs.Steps.{Stays}

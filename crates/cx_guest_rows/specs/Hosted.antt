@@ -3,9 +3,9 @@
 use Rattle.std.specs.Prelude.{◌≡◌, ℕ, List, Option, None}
 use Rattle.cx_rules.specs.Abridged.{abridged_link}
 use Rattle.cx_rules.specs.Holdings.{Asker}
-use Rattle.cx_rules_session.specs.Asks.{Finished, asks_map}
-use Rattle.cx_rules_session.specs.Forgets.{AskAlike}
-use Rattle.cx_rules_session.specs.Hosting.{Deciding, Hosted, hosted_behind}
+use Rattle.cx_verifying.specs.cx_rules_session.specs.Asks.{Finished, asks_map}
+use Rattle.cx_verifying.specs.cx_rules_session.specs.Forgets.{AskAlike}
+use Rattle.cx_verifying.specs.cx_rules_session.specs.Hosting.{Deciding, Hosted, hosted_behind}
 use Rattle.cx_steps.specs.declared.seals.SealEntry.{SealEntry}
 use Rattle.cx_turns.specs.Steps.{turn_due, turn_made}
 use Rattle.cx_turns.specs.Turns.{HasNumber}

@@ -5,3 +5,6 @@
 mod rows;
 
 pub use rows::{come, entered};
+
+// What crates above name through this one, and so needn't list.
+pub use cx_verifying::{GuestTurn, Link, Served, SessionOwner, Stage, turned};

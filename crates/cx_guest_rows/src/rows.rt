@@ -2,9 +2,9 @@
 
 ghost use Rattle.std.specs.Prelude.{◌≡◌, IfOk};
 ghost use Rattle.cx_journal.specs.declared.entries.Entry.{Entry};
-ghost use Rattle.cx_rules_session.specs.Guests.{GuestRow};
-ghost use Rattle.cx_rules_session.specs.Hosting.{comes_to};
-ghost use Rattle.cx_rules_session.specs.Kinds.{entered_before};
+ghost use Rattle.cx_verifying.specs.cx_rules_session.specs.Guests.{GuestRow};
+ghost use Rattle.cx_verifying.specs.cx_rules_session.specs.Hosting.{comes_to};
+ghost use Rattle.cx_verifying.specs.cx_rules_session.specs.Kinds.{entered_before};
 ghost use Rattle.cx_verifying.specs.Rows.{MakesRow, arrived};
 ghost use Rattle.cx_verifying.specs.Stages.{GuestLink};
 ghost use Rattle.cx_guest_rows.specs.Hosted.{IsCome};

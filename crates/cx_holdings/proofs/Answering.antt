@@ -5,10 +5,10 @@ use Rattle.cx_control.specs.declared.refusals.WireRefusal.TheVariants as wire
 use Rattle.cx_enc.specs.Forms.{IsBytes}
 use Rattle.cx_enc.specs.Whole.{Spells}
 use Rattle.cx_journal.specs.declared.faults.BytesFault.TheVariants as fault
-use Rattle.cx_login.specs.Client.{Ask, IsAnswered, IsDone, authenticate}
-use Rattle.cx_login.specs.declared.client.LoggedIn.{LoggedIn}
-use Rattle.cx_login.specs.declared.refusals.LoginRefusal.TheVariants.{Malformed, Unopened}
-use Rattle.cx_login.proofs.Tried.{spells_one}
+use Rattle.cx_rules.specs.cx_login.specs.Client.{Ask, IsAnswered, IsDone, authenticate}
+use Rattle.cx_rules.specs.cx_login.specs.declared.client.LoggedIn.{LoggedIn}
+use Rattle.cx_rules.specs.cx_login.specs.declared.refusals.LoginRefusal.TheVariants.{Malformed, Unopened}
+use Rattle.cx_rules.specs.cx_login.proofs.Tried.{spells_one}
 use Rattle.cx_rules.specs.Payloads.{whole}
 use Rattle.cx_steps.specs.declared.seals.SealEntry.{SealEntry}
 use Rattle.cx_wire.specs.Logins.{authenticate_layout, login_done_layout, server_challenge_layout}

@@ -1,9 +1,9 @@
 -- The steps of a login at its client, by what was read of the monitor's payloads ("detailed cephx protocol").
 use Rattle.std.specs.Prelude.{ℕ, ◌≡◌, List, Option, Result, Ok, Err}
 use Rattle.cx_journal.specs.declared.faults.BytesFault.{BytesFault}
-use Rattle.cx_login.specs.Client.{Ask, authenticate}
-use Rattle.cx_login.specs.Unlocking.{Made, login_in}
-use Rattle.cx_login.specs.declared.client.LoggedIn.{LoggedIn}
+use Rattle.cx_rules.specs.cx_login.specs.Client.{Ask, authenticate}
+use Rattle.cx_rules.specs.cx_login.specs.Unlocking.{Made, login_in}
+use Rattle.cx_rules.specs.cx_login.specs.declared.client.LoggedIn.{LoggedIn}
 use Rattle.cx_steps.specs.declared.seals.SealEntry.{SealEntry}
 use Rattle.cx_wire.specs.Logins.{authenticate_layout}
 use Rattle.cx_wire.specs.declared.logins.LoginDone.{LoginDone}

@@ -3,7 +3,7 @@
 ghost use Rattle.std.specs.Prelude.{◌≡◌, IfOk};
 
 use cx_base::{Duplicate, Items};
-use cx_login::{HeldTicket, LoggedIn};
+use cx_rules::{HeldTicket, LoggedIn};
 use std::alloc::{AllocError, Global};
 use std::marker::Model;
 
@@ -70,7 +70,7 @@ pub struct Renewed {
 
 impl Model for Renewed {
     ghost use Rattle.std.specs.Prelude.{List};
-    ghost use Rattle.cx_login.specs.Held.{Held};
+    ghost use Rattle.cx_rules.specs.cx_login.specs.Held.{Held};
 
     ghost Value = { List Held };
 

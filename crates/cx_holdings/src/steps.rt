@@ -9,7 +9,7 @@ ghost use Rattle.cx_wire.specs.Logins.{login_done_layout, login_hello_layout, se
 use crate::answers::Answer;
 use cx_base::{Blob, Duplicate, EntityName, Items};
 use cx_journal::BytesFault;
-use cx_login::{Asking, LoggedIn, LoginRefusal, opened_login};
+use cx_rules::{Asking, LoggedIn, LoginRefusal, opened_login};
 use cx_steps::SealEntry;
 use cx_wire::{LoginHello, ServerChallenge, WireRefusal, put_login_hello, read_server_challenge};
 use std::alloc::{AllocError, Global};

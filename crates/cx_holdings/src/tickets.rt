@@ -4,7 +4,7 @@ ghost use Rattle.std.specs.Prelude.{◌≡◌, IfOk};
 
 use crate::pending::{Login, Renewed};
 use cx_base::{Duplicate, EntityType, Reading};
-use cx_login::HeldTicket;
+use cx_rules::HeldTicket;
 use std::alloc::{AllocError, Global};
 use std::marker::Model;
 

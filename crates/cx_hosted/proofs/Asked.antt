@@ -19,10 +19,10 @@ use Rattle.cx_rules.specs.Payloads.{payload}
 use Rattle.cx_rules.specs.Rows.{Turned, Waits, Refuses, Handles, at, refuses_bytes}
 use Rattle.cx_rules.specs.Secured.{Secured, under}
 use Rattle.cx_rules.specs.Upkeep.{on_keepalive, on_keepalive_ack}
-use Rattle.cx_rules_session.specs.Asks.{Finished, Asking, asks_map}
-use Rattle.cx_rules_session.specs.DaemonRule.{book_after, book_reply, owner_entity, owner_gid}
-use Rattle.cx_rules_session.specs.Guests.{GuestArrival, GuestStage, Served}
-use Rattle.cx_rules_session.specs.Hosting.{Deciding, Hosted, Instruction, asks_admission, comes_to, decided_by, guest_turned, hosted_behind, instruction_of, on_admission, on_checked, on_client_ident, on_ident, on_message, on_open, on_reconnect, on_resumption, on_taken, turned_behind}
+use Rattle.cx_hosting.specs.cx_rules_session.specs.Asks.{Finished, Asking, asks_map}
+use Rattle.cx_hosting.specs.cx_rules_session.specs.DaemonRule.{book_after, book_reply, owner_entity, owner_gid}
+use Rattle.cx_hosting.specs.cx_rules_session.specs.Guests.{GuestArrival, GuestStage, Served}
+use Rattle.cx_hosting.specs.cx_rules_session.specs.Hosting.{Deciding, Hosted, Instruction, asks_admission, comes_to, decided_by, guest_turned, hosted_behind, instruction_of, on_admission, on_checked, on_client_ident, on_ident, on_message, on_open, on_reconnect, on_resumption, on_taken, turned_behind}
 use Rattle.cx_session.specs.Answers.{admission_reply, message_reply, resumption_reply}
 use Rattle.cx_session.specs.Book.{Book, admission, resumption, same_owner, take_reply, with_client_cookie, with_cookies}
 use Rattle.cx_session.specs.declared.faults.AdmitFault.TheVariants as admit

@@ -1,6 +1,6 @@
 -- A rule that asks a book, with a book of its own.
 use Rattle.std.proofs.Common.{◌≡◌, refl}
-use Rattle.cx_rules_session.specs.Asks.{Asks, Finished, Asking, asks_map, with_book}
+use Rattle.cx_hosting.specs.cx_rules_session.specs.Asks.{Asks, Finished, Asking, asks_map, with_book}
 
 module _ {B C R X Y : Type 0} (book_reply : B → C → R) (book_after : B → C → B) (f : X → Y) where
   -- what is made of what it comes to

@@ -5,11 +5,11 @@ use Rattle.cx_desk.specs.Handlers.{Handlers}
 use Rattle.cx_rules.specs.Abridged.{abridged_link}
 use Rattle.cx_rules.specs.Holdings.{Asker}
 use Rattle.cx_rules.specs.Rows.{Turned, Waits, Refuses, Handles}
-use Rattle.cx_rules_session.specs.Asks.{Finished, Asking}
-use Rattle.cx_rules_session.specs.DaemonRule.{book_after, book_reply, owner_entity, owner_gid}
-use Rattle.cx_rules_session.specs.Guests.{GuestStage}
-use Rattle.cx_rules_session.specs.Hosting.{Deciding, Hosted, no_session_moves}
-use Rattle.cx_rules_session.proofs.AskingAlike.{with_book-alike}
+use Rattle.cx_hosting.specs.cx_rules_session.specs.Asks.{Finished, Asking}
+use Rattle.cx_hosting.specs.cx_rules_session.specs.DaemonRule.{book_after, book_reply, owner_entity, owner_gid}
+use Rattle.cx_hosting.specs.cx_rules_session.specs.Guests.{GuestStage}
+use Rattle.cx_hosting.specs.cx_rules_session.specs.Hosting.{Deciding, Hosted, no_session_moves}
+use Rattle.cx_hosting.specs.cx_rules_session.proofs.AskingAlike.{with_book-alike}
 use Rattle.cx_session.specs.Answers.{admission_reply, behind, message_reply, resumption_reply}
 use Rattle.cx_session.specs.Book.{Book, admit_reply, admitted, resume_reply, resumed, take_reply, taken}
 use Rattle.cx_session.specs.declared.call.BookCall.{BookCall}
@@ -22,10 +22,10 @@ use Rattle.cx_turns.specs.Turns.{HasNumber}
 use Rattle.cx_turns.specs.declared.came.Came.{Came}
 use Rattle.cx_turns.specs.declared.came.Came.TheVariants as came
 use Rattle.cx_turns.specs.declared.moments.Moment.{Moment}
-use Rattle.cx_verifying.specs.Rows.{arrived, unchanged}
-use Rattle.cx_verifying.specs.Stages.{GuestLink}
-use Rattle.cx_verifying.specs.Turns.{IsGuestTurn, guest_due, unasked}
-use Rattle.cx_guest_rows.specs.Hosted.{AreOne, asks_due, done_as, hosted_due}
+use Rattle.cx_hosting.specs.cx_verifying.specs.Rows.{arrived, unchanged}
+use Rattle.cx_hosting.specs.cx_verifying.specs.Stages.{GuestLink}
+use Rattle.cx_hosting.specs.cx_verifying.specs.Turns.{IsGuestTurn, guest_due, unasked}
+use Rattle.cx_hosting.specs.cx_guest_rows.specs.Hosted.{AreOne, asks_due, done_as, hosted_due}
 use Rattle.cx_hosting.specs.Pending.{IsApplied}
 use Rattle.cx_hosted.specs.Hosting.{IsHosted, IsMade, as_hosted, behind_call, decided_with, hosted_by}
 use Rattle.cx_hosted.specs.declared.hosting.HostedTurn.{HostedTurn}

@@ -4,17 +4,17 @@ use Rattle.cx_authorize.specs.Daemon.{Authority}
 use Rattle.cx_desk.specs.Handlers.{Handlers}
 use Rattle.cx_rules.specs.Abridged.{abridged_link}
 use Rattle.cx_rules.specs.Holdings.{Asker}
-use Rattle.cx_rules_session.specs.Asks.{with_book}
-use Rattle.cx_rules_session.specs.DaemonRule.{book_after, book_reply}
-use Rattle.cx_rules_session.specs.Hosting.{Deciding, Hosted}
+use Rattle.cx_hosting.specs.cx_rules_session.specs.Asks.{with_book}
+use Rattle.cx_hosting.specs.cx_rules_session.specs.DaemonRule.{book_after, book_reply}
+use Rattle.cx_hosting.specs.cx_rules_session.specs.Hosting.{Deciding, Hosted}
 use Rattle.cx_session.specs.Book.{Book}
 use Rattle.cx_session.specs.declared.call.BookCall.{BookCall}
 use Rattle.cx_turns.specs.Steps.{IsTurn, turn_made}
 use Rattle.cx_turns.specs.Turns.{HasNumber}
 use Rattle.cx_turns.specs.declared.moments.Moment.{Moment}
-use Rattle.cx_verifying.specs.Rows.{unchanged}
-use Rattle.cx_verifying.specs.Stages.{GuestLink}
-use Rattle.cx_verifying.specs.Turns.{guest_due}
+use Rattle.cx_hosting.specs.cx_verifying.specs.Rows.{unchanged}
+use Rattle.cx_hosting.specs.cx_verifying.specs.Stages.{GuestLink}
+use Rattle.cx_hosting.specs.cx_verifying.specs.Turns.{guest_due}
 use Rattle.cx_hosted.specs.declared.hosting.HostedTurn.{HostedTurn}
 
 -- what a turn comes to with this book, and the book behind it

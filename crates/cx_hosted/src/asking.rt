@@ -1,11 +1,11 @@
 //! What the book of sessions is asked.
 
 ghost use Rattle.std.specs.Prelude.{◌≡◌, IfOk, OnOk};
-ghost use Rattle.cx_rules_session.specs.DaemonRule.{book_reply};
+ghost use Rattle.cx_hosting.specs.cx_rules_session.specs.DaemonRule.{book_reply};
 ghost use Rattle.cx_session.specs.Answers.{IsReserved};
 
+use cx_hosting::SessionOwner;
 use cx_session::{BookCall, BookReply, SessionBook};
-use cx_verifying::SessionOwner;
 use std::alloc::{AllocError, Global};
 
 /// The sessions of a daemon.

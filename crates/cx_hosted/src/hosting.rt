@@ -10,9 +10,9 @@ use crate::idents::identifies;
 use crate::operations::operates;
 use cx_desk::Desk;
 use cx_holdings::Asker;
+use cx_hosting::{GuestTurn, Link, SessionOwner, turned};
 use cx_session::BookCall;
 use cx_turns::{Came, Moment};
-use cx_verifying::{GuestTurn, Link, SessionOwner, turned};
 use std::alloc::{AllocError, Global};
 
 /// What a turn of a guest's link came to: the session that moved to it, whose other links are to be shut, and the call that changes the book last, if

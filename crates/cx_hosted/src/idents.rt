@@ -5,16 +5,15 @@ ghost use Rattle.cx_desk.specs.Handlers.{Handlers};
 ghost use Rattle.cx_hosting.specs.Pending.{begun_as};
 ghost use Rattle.cx_hosting.specs.declared.pending.IdentTurn.TheVariants as begun;
 ghost use Rattle.cx_session.specs.Answers.{IsReserved};
-ghost use Rattle.cx_verifying.specs.Stages.{awaiting_ident};
+ghost use Rattle.cx_hosting.specs.cx_verifying.specs.Stages.{awaiting_ident};
 ghost use Rattle.cx_hosted.specs.Hosting.{IsHosted, IsMade};
 
 use crate::asking::{Book, asks};
 use crate::hosting::HostedTurn;
 use cx_holdings::Asker;
-use cx_hosting::{Admitting, IdentTurn, Resuming, admitted, ident_turn, resumed};
+use cx_hosting::{Admitting, IdentTurn, Resuming, SessionOwner, admitted, ident_turn, resumed};
 use cx_link::SecureLink;
 use cx_turns::Moment;
-use cx_verifying::SessionOwner;
 use std::alloc::{AllocError, Global};
 
 // The turn is done, or the book is asked for a session.

@@ -6,17 +6,17 @@ ghost use Rattle.cx_hosting_operations.specs.Pending.{begun_as, checked_as};
 ghost use Rattle.cx_hosting_operations.specs.declared.pending.CheckedTurn.TheVariants as checked;
 ghost use Rattle.cx_hosting_operations.specs.declared.pending.OpenTurn.TheVariants as begun;
 ghost use Rattle.cx_session.specs.Answers.{IsReserved};
-ghost use Rattle.cx_verifying.specs.Stages.{open_link};
+ghost use Rattle.cx_hosting.specs.cx_verifying.specs.Stages.{open_link};
 ghost use Rattle.cx_hosted.specs.Hosting.{IsHosted, IsMade};
 
 use crate::asking::{Book, asks};
 use crate::hosting::HostedTurn;
 use cx_desk::Desk;
 use cx_holdings::Asker;
+use cx_hosting::Served;
 use cx_hosting_operations::{CheckedTurn, Checking, OpenTurn, Taking, checked, open_turn, took};
 use cx_link::SecureLink;
 use cx_turns::Moment;
-use cx_verifying::Served;
 use std::alloc::{AllocError, Global};
 
 // The turn is done, or a message is to be checked.

@@ -20,11 +20,11 @@ use Rattle.cx_rules.specs.MonitorRule.{session_reset}
 use Rattle.cx_rules.specs.Payloads.{control, payload}
 use Rattle.cx_rules.specs.Rows.{Handles, refused_entry, refuses_bytes, secure_sent}
 use Rattle.cx_rules.specs.Secured.{SealedFrame, Secured, secure_frame}
-use Rattle.cx_rules_session.specs.Asks.{Finished}
-use Rattle.cx_rules_session.specs.Guests.{GuestRow, GuestStage, Served}
-use Rattle.cx_rules_session.specs.Hosting.{Deciding, Hosted, admission_of, asks_admission, comes_to, cookie_drawn, on_admission, on_client_ident, on_ident, on_reconnect, on_resumption, reconnect_ok, served_as, session_retry, session_retry_global, tells_why}
-use Rattle.cx_rules_session.specs.Kinds.{entered_before}
-use Rattle.cx_rules_session.specs.Lossy.{is_lossy, lossy_flags}
+use Rattle.cx_guest_rows.specs.cx_rules_session.specs.Asks.{Finished}
+use Rattle.cx_guest_rows.specs.cx_rules_session.specs.Guests.{GuestRow, GuestStage, Served}
+use Rattle.cx_guest_rows.specs.cx_rules_session.specs.Hosting.{Deciding, Hosted, admission_of, asks_admission, comes_to, cookie_drawn, on_admission, on_client_ident, on_ident, on_reconnect, on_resumption, reconnect_ok, served_as, session_retry, session_retry_global, tells_why}
+use Rattle.cx_guest_rows.specs.cx_rules_session.specs.Kinds.{entered_before}
+use Rattle.cx_guest_rows.specs.cx_rules_session.specs.Lossy.{is_lossy, lossy_flags}
 use Rattle.cx_session.specs.declared.call.BookFault.TheVariants as fault
 use Rattle.cx_session.specs.declared.call.BookReply.{BookReply}
 use Rattle.cx_session.specs.declared.call.BookReply.TheVariants as reply

@@ -5,14 +5,14 @@ use Rattle.cx_journal.specs.declared.faults.BytesFault.{BytesFault}
 use Rattle.cx_rules.specs.Abridged.{abridged_link}
 use Rattle.cx_rules.specs.Rows.{secure_sent, sends_secure, with_opened}
 use Rattle.cx_rules.specs.Secured.{SealedFrame, Secured, secure_frame}
-use Rattle.cx_rules_session.specs.Guests.{GuestArrival, GuestStage}
+use Rattle.cx_guest_rows.specs.cx_rules_session.specs.Guests.{GuestArrival, GuestStage}
 use Rattle.cx_steps.specs.declared.seals.SealEntry.{SealEntry}
 use Rattle.cx_turns.proofs.MadeRows.{behind_as}
 use Rattle.cx_turns.specs.Making.{IsRowOf}
 use Rattle.cx_turns.specs.declared.rows.NoRow.{NoRow}
 use Rattle.cx_turns.specs.declared.rows.NodeRow.{NodeRow}
-use Rattle.cx_verifying.specs.Rows.{MakesRow, unchanged}
-use Rattle.cx_verifying.specs.Stages.{GuestLink}
+use Rattle.cx_guest_rows.specs.cx_verifying.specs.Rows.{MakesRow, unchanged}
+use Rattle.cx_guest_rows.specs.cx_verifying.specs.Stages.{GuestLink}
 
 sent_behind : (a : GuestArrival) (s : Secured) (stage : Secured → GuestStage) (drawn : SealEntry) (made : Result SealedFrame BytesFault)
     → with_opened (drawn ∷ []) (secure_sent a s stage [] made) ≡ secure_sent a s stage (drawn ∷ []) made

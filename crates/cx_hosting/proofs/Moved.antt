@@ -2,12 +2,12 @@
 use Rattle.std.proofs.Common.{◌≡◌, ℕ, List, Option, Some, None, ap}
 use Rattle.cx_rules.specs.Holdings.{Asker}
 use Rattle.cx_rules.specs.Rows.{Handles}
-use Rattle.cx_rules_session.specs.Asks.{Finished, Asking}
-use Rattle.cx_rules_session.specs.Guests.{GuestRow}
-use Rattle.cx_rules_session.specs.Hosting.{Deciding, Hosted, comes_to}
+use Rattle.cx_guest_rows.specs.cx_rules_session.specs.Asks.{Finished, Asking}
+use Rattle.cx_guest_rows.specs.cx_rules_session.specs.Guests.{GuestRow}
+use Rattle.cx_guest_rows.specs.cx_rules_session.specs.Hosting.{Deciding, Hosted, comes_to}
 use Rattle.cx_steps.specs.declared.seals.SealEntry.{SealEntry}
 use Rattle.cx_turns.specs.declared.came.Came.{Came}
-use Rattle.cx_verifying.specs.Stages.{GuestLink}
+use Rattle.cx_guest_rows.specs.cx_verifying.specs.Stages.{GuestLink}
 use Rattle.cx_guest_rows.specs.Hosted.{done_as, due_behind}
 
 abbrev moving : ℕ → Deciding Hosted → Deciding Hosted

@@ -6,10 +6,10 @@ use Rattle.cx_desk.specs.Handlers.{Handlers}
 use Rattle.cx_dice.specs.Draws.{cookie_of}
 use Rattle.cx_link.specs.Wires.{SecureWire}
 use Rattle.cx_rules.specs.Holdings.{Asker}
-use Rattle.cx_rules_session.specs.Asks.{Asking}
-use Rattle.cx_rules_session.specs.Guests.{GuestArrival}
-use Rattle.cx_rules_session.specs.Hosting.{Deciding, Hosted, on_admission, on_resumption, passes_over}
-use Rattle.cx_rules_session.specs.Lossy.{is_lossy}
+use Rattle.cx_guest_rows.specs.cx_rules_session.specs.Asks.{Asking}
+use Rattle.cx_guest_rows.specs.cx_rules_session.specs.Guests.{GuestArrival}
+use Rattle.cx_guest_rows.specs.cx_rules_session.specs.Hosting.{Deciding, Hosted, on_admission, on_resumption, passes_over}
+use Rattle.cx_guest_rows.specs.cx_rules_session.specs.Lossy.{is_lossy}
 use Rattle.cx_session.specs.declared.call.BookCall.{BookCall}
 use Rattle.cx_session.specs.declared.call.BookCall.TheVariants.{Admit, Resume}
 use Rattle.cx_session.specs.declared.call.BookFault.{BookFault}
@@ -20,9 +20,9 @@ use Rattle.cx_turns.specs.Stages.{keys_alone}
 use Rattle.cx_turns.specs.Steps.{Stays}
 use Rattle.cx_turns.specs.Turns.{HasNumber}
 use Rattle.cx_turns.specs.declared.moments.Moment.{Moment}
-use Rattle.cx_verifying.specs.Rows.{arrived}
-use Rattle.cx_verifying.specs.Stages.{GuestLink, awaiting_ident}
-use Rattle.cx_verifying.specs.Turns.{guest_due}
+use Rattle.cx_guest_rows.specs.cx_verifying.specs.Rows.{arrived}
+use Rattle.cx_guest_rows.specs.cx_verifying.specs.Stages.{GuestLink, awaiting_ident}
+use Rattle.cx_guest_rows.specs.cx_verifying.specs.Turns.{guest_due}
 use Rattle.cx_guest_rows.specs.Hosted.{AreOne, asks_due, done_as, due_behind}
 use Rattle.cx_hosting.specs.declared.pending.Admitting.{Admitting}
 use Rattle.cx_hosting.specs.declared.pending.IdentTurn.{IdentTurn}

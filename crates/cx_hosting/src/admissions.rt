@@ -5,14 +5,14 @@ ghost use Rattle.cx_authorize.specs.Daemon.{Authority};
 ghost use Rattle.cx_dice.specs.Draws.{cookie_of};
 ghost use Rattle.cx_rules.specs.Acceptor.{Open, server_ident};
 ghost use Rattle.cx_rules.specs.Rows.{refuses, sends_secure};
-ghost use Rattle.cx_rules_session.specs.Hosting.{admits, comes_to, cookie_drawn, on_admission};
+ghost use Rattle.cx_guest_rows.specs.cx_rules_session.specs.Hosting.{admits, comes_to, cookie_drawn, on_admission};
 ghost use Rattle.cx_rules.specs.Holdings.{Asker};
-ghost use Rattle.cx_rules_session.specs.Lossy.{lossy_flags};
+ghost use Rattle.cx_guest_rows.specs.cx_rules_session.specs.Lossy.{lossy_flags};
 ghost use Rattle.cx_session.specs.declared.call.BookReply.TheVariants as reply;
 ghost use Rattle.cx_turns.specs.Stages.{keys_alone};
 ghost use Rattle.cx_turns.specs.Turns.{HasNumber};
-ghost use Rattle.cx_verifying.specs.Rows.{Makes, arrived};
-ghost use Rattle.cx_verifying.specs.Stages.{GuestLink, awaiting_ident};
+ghost use Rattle.cx_guest_rows.specs.cx_verifying.specs.Rows.{Makes, arrived};
+ghost use Rattle.cx_guest_rows.specs.cx_verifying.specs.Stages.{GuestLink, awaiting_ident};
 ghost use Rattle.cx_guest_rows.specs.Hosted.{IsCome, done_as};
 ghost use Rattle.cx_hosting.specs.Pending.{behind_admission, ident_arrival};
 
@@ -20,7 +20,7 @@ use crate::entries::{admission_of, is_lossy, lossy_flags, served_as};
 use crate::pending::{AdmittedTurn, Admitting};
 use cx_base::Items;
 use cx_control::{ClientIdent, ServerIdent};
-use cx_guest_rows::{come, entered};
+use cx_guest_rows::{Link, Served, SessionOwner, Stage, come, entered};
 use cx_holdings::Asker;
 use cx_journal::{Entry, Reason, SessionFault};
 use cx_link::SecureLink;
@@ -28,7 +28,6 @@ use cx_node::refuses;
 use cx_session::{BookCall, BookFault, BookReply};
 use cx_steps::{DrawMark, SealEntry};
 use cx_turns::{Came, Moment, NoRow, NodeRow, goes_on, send_secure, unless_refused};
-use cx_verifying::{Link, Served, SessionOwner, Stage};
 use std::alloc::{AllocError, Global};
 
 /// What a CLIENT_IDENT comes to by the book's reply to `Admit`: the session is entered, SERVER_IDENT is sent with the drawn cookie, and the link is

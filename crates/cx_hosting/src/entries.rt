@@ -1,16 +1,16 @@
 //! What is entered and kept of a session that a guest got.
 
 ghost use Rattle.std.specs.Prelude.{◌≡◌, ◌==◌, ◌%◌, IfOk};
-ghost use Rattle.cx_rules_session.specs.Hosting.{admission_of, served_as};
-ghost use Rattle.cx_rules_session.specs.Lossy.{is_lossy, lossy_flags};
-ghost use Rattle.cx_verifying.specs.Rows.{arrived};
-ghost use Rattle.cx_verifying.specs.Stages.{GuestLink};
+ghost use Rattle.cx_guest_rows.specs.cx_rules_session.specs.Hosting.{admission_of, served_as};
+ghost use Rattle.cx_guest_rows.specs.cx_rules_session.specs.Lossy.{is_lossy, lossy_flags};
+ghost use Rattle.cx_guest_rows.specs.cx_verifying.specs.Rows.{arrived};
+ghost use Rattle.cx_guest_rows.specs.cx_verifying.specs.Stages.{GuestLink};
 
 use cx_base::{Duplicate, Owner};
+use cx_guest_rows::{Served, SessionOwner};
 use cx_holdings::Asker;
 use cx_journal::Admitted;
 use cx_turns::Moment;
-use cx_verifying::{Served, SessionOwner};
 use std::alloc::{AllocError, Global};
 
 // What a session's ticket gives from now on: all but the numbers is what was authorized, whatever the peer claims.

@@ -4,10 +4,10 @@ ghost use Rattle.std.specs.Prelude.{◌≡◌, [], IfOk};
 ghost use Rattle.cx_authorize.specs.Daemon.{Authority};
 ghost use Rattle.cx_desk.specs.Handlers.{Handlers};
 ghost use Rattle.cx_rules.specs.Acceptor.{misses};
-ghost use Rattle.cx_rules_session.specs.Hosting.{on_client_ident, on_ident, on_reconnect};
+ghost use Rattle.cx_guest_rows.specs.cx_rules_session.specs.Hosting.{on_client_ident, on_ident, on_reconnect};
 ghost use Rattle.cx_turns.specs.Stages.{keys_alone};
-ghost use Rattle.cx_verifying.specs.Rows.{Makes};
-ghost use Rattle.cx_verifying.specs.Stages.{GuestLink, awaiting_ident};
+ghost use Rattle.cx_guest_rows.specs.cx_verifying.specs.Rows.{Makes};
+ghost use Rattle.cx_guest_rows.specs.cx_verifying.specs.Stages.{GuestLink, awaiting_ident};
 ghost use Rattle.cx_hosting.specs.Pending.{IsBegun, IsDecided, StaysOn, admission_call, ident_arrival};
 
 use crate::entries::is_lossy;
@@ -15,7 +15,7 @@ use crate::pending::{Admitting, IdentTurn, Resuming};
 use cx_base::Items;
 use cx_control::{ClientIdent, IdentMissingFeatures, SessionReconnect};
 use cx_frame::Frame;
-use cx_guest_rows::come;
+use cx_guest_rows::{Link, SessionOwner, Stage, come};
 use cx_holdings::Asker;
 use cx_journal::{BytesFault, Reason};
 use cx_link::{LinkTurn, SecureLink};
@@ -23,7 +23,6 @@ use cx_node::{Row, payload, refuses};
 use cx_session::BookCall;
 use cx_steps::SealEntry;
 use cx_turns::{Came, Moment, NoRow, NodeRow, send_secure};
-use cx_verifying::{Link, SessionOwner, Stage};
 use std::alloc::{AllocError, Global};
 
 /// What stands next on a link whose peer has signed. Nothing of what the daemon has is changed.

@@ -12,6 +12,9 @@ pub use idents::ident_turn;
 pub use pending::{AdmittedTurn, Admitting, IdentTurn, ResumedTurn, Resuming};
 pub use resumptions::resumed;
 
+// What crates above name through this one, and so needn't list.
+pub use cx_guest_rows::{GuestTurn, Link, Served, SessionOwner, turned};
+
 // Each public type may be sent to another thread and shared with one.
 fn is_sendable<T: Send + Sync>() {}
 

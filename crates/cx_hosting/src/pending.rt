@@ -5,11 +5,11 @@ ghost use Rattle.cx_authorize.specs.Daemon.{Authority};
 
 use cx_base::Items;
 use cx_control::{ClientIdent, SessionReconnect};
+use cx_guest_rows::{Link, SessionOwner};
 use cx_link::SecureLink;
 use cx_session::BookCall;
 use cx_steps::SealEntry;
 use cx_turns::Came;
-use cx_verifying::{Link, SessionOwner};
 
 /// A CLIENT_IDENT of which the book has still to say whether its session is admitted: the link behind it, what opened of the frame, and the call, which
 /// holds whose session it would be.

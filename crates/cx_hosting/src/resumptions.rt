@@ -10,12 +10,12 @@ ghost use Rattle.cx_rules.specs.Acceptor.{AwaitsIdent, Open};
 ghost use Rattle.cx_rules.specs.MonitorRule.{session_reset};
 ghost use Rattle.cx_rules.specs.Rows.{sends_secure};
 ghost use Rattle.cx_rules.specs.Secured.{secure_frame};
-ghost use Rattle.cx_rules_session.specs.Hosting.{comes_to, on_resumption, reconnect_ok, resumes, session_retry, session_retry_global, tells_why};
+ghost use Rattle.cx_guest_rows.specs.cx_rules_session.specs.Hosting.{comes_to, on_resumption, reconnect_ok, resumes, session_retry, session_retry_global, tells_why};
 ghost use Rattle.cx_session.specs.declared.call.BookReply.TheVariants as reply;
 ghost use Rattle.cx_turns.specs.Sending.{SendsSecure};
 ghost use Rattle.cx_turns.specs.Stages.{keys_alone};
-ghost use Rattle.cx_verifying.specs.Rows.{Makes};
-ghost use Rattle.cx_verifying.specs.Stages.{awaiting_ident};
+ghost use Rattle.cx_guest_rows.specs.cx_verifying.specs.Rows.{Makes};
+ghost use Rattle.cx_guest_rows.specs.cx_verifying.specs.Stages.{awaiting_ident};
 ghost use Rattle.cx_guest_rows.specs.Hosted.{IsCome};
 ghost use Rattle.cx_hosting.specs.Pending.{IsResumed, ident_arrival};
 
@@ -25,7 +25,7 @@ use cx_base::{Duplicate, Items};
 use cx_control::{
     SessionReconnect, SessionReconnectOk, SessionReset, SessionRetry, SessionRetryGlobal,
 };
-use cx_guest_rows::{come, entered};
+use cx_guest_rows::{Link, Served, SessionOwner, Stage, come, entered};
 use cx_holdings::Asker;
 use cx_journal::{BytesFault, Entry, Reason, SessionFault};
 use cx_link::{SecureLink, SentFrame};
@@ -33,7 +33,6 @@ use cx_node::refused_entry;
 use cx_session::{BookCall, BookFault, BookReply};
 use cx_steps::SealEntry;
 use cx_turns::{Came, Moment, NoRow, NodeRow, goes_on, send_secure};
-use cx_verifying::{Link, Served, SessionOwner, Stage};
 use std::alloc::{AllocError, Global};
 
 /// What a SESSION_RECONNECT comes to by the book's reply to `Resume`: the session is entered, SESSION_RECONNECT_OK is sent and the link is open, and its

@@ -15,9 +15,9 @@ use Rattle.cx_rules.specs.Payloads.{control, payload}
 use Rattle.cx_rules.specs.Rows.{refuses_bytes, secure_sent}
 use Rattle.cx_rules.specs.Secured.{Keys, SealedFrame, Secured, secure_frame}
 use Rattle.cx_rules.specs.Upkeep.{on_keepalive, on_keepalive_ack}
-use Rattle.cx_rules_session.specs.Guests.{GuestArrival, GuestRow, GuestStage, Served}
-use Rattle.cx_rules_session.specs.Hosting.{Deciding, Hosted, Instruction, answer_message, comes_to, handled_entry, instruction_of, on_checked, on_message, on_open, on_taken, on_untaken, outcome_of}
-use Rattle.cx_rules_session.specs.Kinds.{entered_before}
+use Rattle.cx_guest_rows.specs.cx_rules_session.specs.Guests.{GuestArrival, GuestRow, GuestStage, Served}
+use Rattle.cx_guest_rows.specs.cx_rules_session.specs.Hosting.{Deciding, Hosted, Instruction, answer_message, comes_to, handled_entry, instruction_of, on_checked, on_message, on_open, on_taken, on_untaken, outcome_of}
+use Rattle.cx_guest_rows.specs.cx_rules_session.specs.Kinds.{entered_before}
 use Rattle.cx_session.specs.declared.call.BookFault.TheVariants as fault
 use Rattle.cx_session.specs.declared.call.BookReply.{BookReply}
 use Rattle.cx_session.specs.declared.call.BookReply.TheVariants as reply

@@ -13,7 +13,7 @@ use Rattle.cx_desk.specs.Handlers.{answer_of}
 use Rattle.cx_enc.specs.FieldLaws.{both_true}
 use Rattle.cx_journal.specs.declared.outcomes.Outcome.{Outcome}
 use Rattle.cx_journal.specs.declared.outcomes.Outcome.TheVariants.{Done, Denied, NoHandler}
-use Rattle.cx_rules_session.specs.Hosting.{answer_data}
+use Rattle.cx_guest_rows.specs.cx_rules_session.specs.Hosting.{answer_data}
 use Rattle.cx_wire.specs.Operations.{IsWritable}
 
 part_short : (text : List ℕ) → is_part text ≡ true → length text ≤ 255

@@ -3,7 +3,7 @@ use Rattle.std.specs.Prelude.{ℕ, List}
 use Rattle.cx_frame.specs.declared.frame.Frame.{Frame}
 use Rattle.cx_journal.specs.declared.outcomes.Outcome.{Outcome}
 use Rattle.cx_rules.specs.Messages.{message}
-use Rattle.cx_rules_session.specs.Hosting.{outcome_number}
+use Rattle.cx_guest_rows.specs.cx_rules_session.specs.Hosting.{outcome_number}
 use Rattle.cx_wire.specs.Operations.{answer_layout}
 
 -- message 43: the seq 0, the tid, how the operation ended, and the data that answer it

@@ -3,9 +3,9 @@ use Rattle.std.specs.Prelude.{◌≡◌, ℕ, List, None}
 use Rattle.cx_desk.specs.Handlers.{Handlers}
 use Rattle.cx_link.specs.Wires.{SecureWire}
 use Rattle.cx_rules.specs.Holdings.{Asker}
-use Rattle.cx_rules_session.specs.Asks.{Asking}
-use Rattle.cx_rules_session.specs.Guests.{GuestArrival, Served}
-use Rattle.cx_rules_session.specs.Hosting.{Deciding, Hosted, on_checked, on_taken}
+use Rattle.cx_guest_rows.specs.cx_rules_session.specs.Asks.{Asking}
+use Rattle.cx_guest_rows.specs.cx_rules_session.specs.Guests.{GuestArrival, Served}
+use Rattle.cx_guest_rows.specs.cx_rules_session.specs.Hosting.{Deciding, Hosted, on_checked, on_taken}
 use Rattle.cx_session.specs.declared.call.BookCall.TheVariants.{Check, Take}
 use Rattle.cx_session.specs.declared.call.BookReply.{BookReply}
 use Rattle.cx_steps.specs.declared.seals.SealEntry.{SealEntry}
@@ -13,9 +13,9 @@ use Rattle.cx_turns.specs.Stages.{keys_alone}
 use Rattle.cx_turns.specs.Steps.{Stays}
 use Rattle.cx_turns.specs.Turns.{HasNumber}
 use Rattle.cx_turns.specs.declared.moments.Moment.{Moment}
-use Rattle.cx_verifying.specs.Rows.{arrived}
-use Rattle.cx_verifying.specs.Stages.{GuestLink, open_link}
-use Rattle.cx_verifying.specs.Turns.{guest_due}
+use Rattle.cx_guest_rows.specs.cx_verifying.specs.Rows.{arrived}
+use Rattle.cx_guest_rows.specs.cx_verifying.specs.Stages.{GuestLink, open_link}
+use Rattle.cx_guest_rows.specs.cx_verifying.specs.Turns.{guest_due}
 use Rattle.cx_guest_rows.specs.Hosted.{AreOne, asks_due, done_as, due_behind}
 use Rattle.cx_hosting_operations.specs.declared.pending.CheckedTurn.{CheckedTurn}
 use Rattle.cx_hosting_operations.specs.declared.pending.CheckedTurn.TheVariants as checked

@@ -5,8 +5,8 @@ use Rattle.cx_desk.specs.Handlers.{Handlers}
 use Rattle.cx_journal.specs.declared.entries.Entry.{Entry}
 use Rattle.cx_journal.specs.declared.entries.Entry.TheVariants as entry
 use Rattle.cx_journal.specs.declared.outcomes.Outcome.{Outcome}
-use Rattle.cx_rules_session.specs.Guests.{GuestArrival, Served}
-use Rattle.cx_rules_session.specs.Hosting.{answer_data, outcome_of}
+use Rattle.cx_guest_rows.specs.cx_rules_session.specs.Guests.{GuestArrival, Served}
+use Rattle.cx_guest_rows.specs.cx_rules_session.specs.Hosting.{answer_data, outcome_of}
 use Rattle.cx_hosting_operations.specs.declared.performing.Performed.{Performed}
 
 -- an operation that ended so, and the data that answer it

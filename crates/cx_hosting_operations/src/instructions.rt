@@ -3,7 +3,7 @@
 ghost use Rattle.std.specs.Prelude.{◌≡◌, IfOk, Ok};
 ghost use Rattle.cx_rules.specs.Messages.{message_in};
 ghost use Rattle.cx_rules.specs.Payloads.{whole};
-ghost use Rattle.cx_rules_session.specs.Hosting.{instruction_of};
+ghost use Rattle.cx_guest_rows.specs.cx_rules_session.specs.Hosting.{instruction_of};
 ghost use Rattle.cx_wire.specs.Operations.{IsWritable, operation_layout};
 
 use cx_base::Operation;
@@ -24,7 +24,7 @@ pub struct Instruction {
 }
 
 impl Model for Instruction {
-    ghost use Rattle.cx_rules_session.specs.Hosting as hosting;
+    ghost use Rattle.cx_guest_rows.specs.cx_rules_session.specs.Hosting as hosting;
     ghost use Rattle.cx_wire.specs.Operations.{IsWritable};
 
     ghost Value = { hosting.Instruction };

@@ -6,11 +6,11 @@ ghost use Rattle.cx_session.specs.declared.call.BookCall.TheVariants.{Check, Tak
 
 use crate::instructions::Instruction;
 use cx_base::Items;
+use cx_guest_rows::{Link, Served, SessionOwner};
 use cx_link::SecureLink;
 use cx_session::BookCall;
 use cx_steps::SealEntry;
 use cx_turns::Came;
-use cx_verifying::{Link, Served, SessionOwner};
 
 /// A message of which the book has still to say whether it is the next one of its session: the link behind it, what is kept of the session, the
 /// operation, and what opened of the frame.

@@ -6,11 +6,11 @@ ghost use Rattle.cx_desk.specs.Held.{handlers_of};
 ghost use Rattle.cx_rules.specs.Acceptor.{Open};
 ghost use Rattle.cx_rules.specs.Messages.{acknowledgement};
 ghost use Rattle.cx_rules.specs.Rows.{sends_secure};
-ghost use Rattle.cx_rules_session.specs.Hosting.{on_taken, on_untaken};
+ghost use Rattle.cx_guest_rows.specs.cx_rules_session.specs.Hosting.{on_taken, on_untaken};
 ghost use Rattle.cx_session.specs.declared.call.BookReply.TheVariants as reply;
 ghost use Rattle.cx_turns.specs.Stages.{keys_alone};
-ghost use Rattle.cx_verifying.specs.Rows.{Makes};
-ghost use Rattle.cx_verifying.specs.Stages.{open_link};
+ghost use Rattle.cx_guest_rows.specs.cx_verifying.specs.Rows.{Makes};
+ghost use Rattle.cx_guest_rows.specs.cx_verifying.specs.Stages.{open_link};
 ghost use Rattle.cx_guest_rows.specs.Hosted.{IsCome};
 ghost use Rattle.cx_hosting_operations.specs.Pending.{IsChecked, open_arrival};
 
@@ -18,7 +18,7 @@ use crate::handling::handled;
 use crate::pending::{CheckedTurn, Checking, Taking};
 use cx_base::Items;
 use cx_desk::Desk;
-use cx_guest_rows::come;
+use cx_guest_rows::{Link, Served, Stage, come};
 use cx_holdings::Asker;
 use cx_journal::{Reason, SessionFault};
 use cx_link::SecureLink;
@@ -26,7 +26,6 @@ use cx_messages::send_acknowledgement;
 use cx_session::{BookFault, BookReply};
 use cx_steps::SealEntry;
 use cx_turns::{Came, Moment, NoRow, NodeRow, goes_on};
-use cx_verifying::{Link, Served, Stage};
 use std::alloc::{AllocError, Global};
 
 /// What a message comes to by the book's reply to `Check`: the next one is to be taken; one that was taken before is acknowledged again, and for any

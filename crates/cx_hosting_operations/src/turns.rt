@@ -4,24 +4,23 @@ ghost use Rattle.std.specs.Prelude.{◌≡◌, [], List, IfOk};
 ghost use Rattle.cx_desk.specs.Handlers.{Handlers};
 ghost use Rattle.cx_rules.specs.Acceptor.{Open};
 ghost use Rattle.cx_rules.specs.Rows.{secure_sent};
-ghost use Rattle.cx_rules_session.specs.Hosting.{instruction_of, on_message, on_open};
+ghost use Rattle.cx_guest_rows.specs.cx_rules_session.specs.Hosting.{instruction_of, on_message, on_open};
 ghost use Rattle.cx_rules.specs.Messages.{message_in};
 ghost use Rattle.cx_turns.specs.Stages.{keys_alone};
 ghost use Rattle.cx_turns.specs.Upkeep.{upkept};
-ghost use Rattle.cx_verifying.specs.Rows.{Makes};
-ghost use Rattle.cx_verifying.specs.Stages.{GuestLink, open_link};
+ghost use Rattle.cx_guest_rows.specs.cx_verifying.specs.Rows.{Makes};
+ghost use Rattle.cx_guest_rows.specs.cx_verifying.specs.Stages.{GuestLink, open_link};
 ghost use Rattle.cx_hosting_operations.specs.Pending.{IsBegun, IsDecided, StaysOn, open_arrival};
 
 use crate::instructions::instruction_in;
 use crate::pending::{Checking, OpenTurn};
 use cx_base::Items;
 use cx_frame::Frame;
-use cx_guest_rows::come;
+use cx_guest_rows::{Link, Served, Stage, come};
 use cx_holdings::Asker;
 use cx_link::{LinkTurn, SecureLink};
 use cx_steps::SealEntry;
 use cx_turns::{Came, Moment, NoRow, NodeRow, goes_on, is_keepalive, upkept};
-use cx_verifying::{Link, Served, Stage};
 use std::alloc::{AllocError, Global};
 
 /// What stands next on an open link of a guest. Nothing of what the daemon has is changed, and no handler is called.

@@ -44,7 +44,8 @@ use Rattle.cx_laws_authorize.proofs.Keys.{KeptKeys, LinkKeys, StageKeys, host-gr
 use Rattle.cx_laws_authorize.proofs.Steps.{all-authorize, always-book}
 use Rattle.cx_laws_authorize.proofs.Telling.{IsBackedLink, backed-behind, told-laws}
 use Rattle.cx_laws_authorize.specs.Admission.{Authorizes, EntryTold}
-use Rattle.cx_laws_authorize.specs.Coming.{IsNoGuest, IsNoLook}
+use Rattle.cx_run.specs.Visits.{IsNoLook}
+use Rattle.cx_laws_authorize.specs.Coming.{IsNoGuest}
 use Rattle.cx_laws_keys.proofs.Journal.{After, EntryLaw, IsNotIssued, entered, login-law, own-other}
 use Rattle.cx_laws_keys.proofs.Known.{Inv}
 use Rattle.cx_laws_keys.proofs.Premises.{AreGranted, behind}

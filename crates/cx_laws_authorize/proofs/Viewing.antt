@@ -41,7 +41,7 @@ use Rattle.cx_base.specs.declared.nodes.NodeName.{NodeName}
 use Rattle.cx_steps.specs.declared.seals.SealEntry.{SealEntry}
 use Rattle.cx_laws_authorize.proofs.Guests.{AuthorizedRow, EntryToldIn}
 use Rattle.cx_laws_authorize.proofs.Hosting.{AuthorizedHosted, always-both, guest-authorized}
-use Rattle.cx_laws_authorize.specs.Coming.{IsNoLook}
+use Rattle.cx_run.specs.Visits.{IsNoLook}
 
 -- what it is told of its own row, of a guest's link, leaves its view
 told-still : (daemon : Asker) (me : NodeName) (number reading : ℕ) (stage : GuestStage) (es : List Entry) (ss : List SealEntry) (e : Entry)

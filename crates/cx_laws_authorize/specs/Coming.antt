@@ -1,12 +1,7 @@
--- What comes to a daemon: a view that it is told by hand, and guests.
+-- What doesn't come to a daemon to which no guests come.
 use Rattle.std.specs.Prelude.{None}
-use Rattle.cx_rules.specs.Inputs.{Input, Opened, Look, Submit}
+use Rattle.cx_rules.specs.Inputs.{Input, Opened, Submit}
 use Rattle.cx_steps.specs.declared.events.Command.TheVariants as command
-
--- no view is told but by a reply
-abbrev pub IsNoLook : Input → Type 0
-IsNoLook (Look view) = ⊥
-IsNoLook _ = Unit {0}
 
 -- no guest comes and no session is dropped
 abbrev pub IsNoGuest : Input → Type 0

@@ -14,8 +14,8 @@ use Rattle.cx_rules_session.specs.Sessions.{HeldSession}
 use Rattle.cx_steps.specs.declared.seals.Logged.{Logged}
 use Rattle.cx_laws_calling.proofs.ClientAfter.{client-after, whole_client_says}
 use Rattle.cx_laws_calling.proofs.Sessions.{ClientStageOk, DialOk, GuestsCome, HoldingsOk, client_stage-grows, dial-grows, holdings-grow}
-use Rattle.cx_laws_calls.proofs.ClientKept.{whole-named}
-use Rattle.cx_laws_calls.specs.Calling.{IsNoCall}
+use Rattle.cx_run.proofs.ClientKept.{whole-named}
+use Rattle.cx_run.specs.Calling.{IsNoCall}
 use Rattle.cx_laws_keys.proofs.Known.{Inv}
 use Rattle.cx_laws_keys.proofs.Lists.{all-map}
 use Rattle.cx_laws_keys.proofs.Premises.{AreGranted}

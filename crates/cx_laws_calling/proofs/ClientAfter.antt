@@ -38,9 +38,9 @@ use Rattle.cx_run.proofs.Taking.{EachRow}
 use Rattle.cx_laws_calling.proofs.Asking.{Holds, HoldsWhere, LinkSessions, asker-holds}
 use Rattle.cx_laws_calling.proofs.CallSeals.{LinkCalls, Seals, TurnSeals, call-seals}
 use Rattle.cx_laws_calling.proofs.Sessions.{CallKeys, ClientStageOk, DialOk, GuestsCome, HeldOk, HoldingsOk, IsLoginKey, IsSession, SessionsIn, client_stage-grows, dial-grows, found-ticket, holdings-grow, stage_sessions-grow}
-use Rattle.cx_laws_calls.proofs.CallKeeps.{IsCallEntry, Leaves, call-takes}
-use Rattle.cx_laws_calls.proofs.Outcomes.{EachOutcome, IsNoTicket, asker_turn, call_turn, on_link, renewed, sent_in, step-keeps}
-use Rattle.cx_laws_calls.specs.Calling.{IsNoCall}
+use Rattle.cx_run.proofs.CallKeeps.{IsCallEntry, Leaves, call-takes}
+use Rattle.cx_run.proofs.Outcomes.{EachOutcome, IsNoTicket, asker_turn, call_turn, on_link, renewed, sent_in, step-keeps}
+use Rattle.cx_run.specs.Calling.{IsNoCall}
 use Rattle.cx_laws_keys.proofs.Journal.{After, EntryLaw, IsNotIssued, IsOfLogin, entered, login-law, own-other}
 use Rattle.cx_laws_keys.proofs.Known.{Inv}
 use Rattle.cx_laws_keys.proofs.Lists.{all-append, all-map, found_all}

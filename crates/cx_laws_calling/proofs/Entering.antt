@@ -25,8 +25,8 @@ use Rattle.cx_rules_session.specs.Sessions.{Callee, HeldSession, operation_messa
 use Rattle.cx_session.specs.Queue.{pushed}
 use Rattle.cx_wire.specs.declared.bodies.Request.TheVariants as asked
 use Rattle.cx_run.proofs.Taking.{EachRow}
-use Rattle.cx_laws_calls.proofs.CallKeeps.{IsCallEntry, Leaves, call-takes}
-use Rattle.cx_laws_calls.proofs.Outcomes.{EachOutcome, asker_turn, call_turn, on_link, renewed, sent_in, step-keeps}
+use Rattle.cx_run.proofs.CallKeeps.{IsCallEntry, Leaves, call-takes}
+use Rattle.cx_run.proofs.Outcomes.{EachOutcome, asker_turn, call_turn, on_link, renewed, sent_in, step-keeps}
 use Rattle.cx_laws_keys.proofs.Journal.{IsNotIssued, IsOfLogin}
 use Rattle.cx_laws_keys.proofs.Lists.{all-map}
 use Rattle.cx_laws_keys.proofs.Viewing.{ShowsAlong, ShowsStill, still-along, viewed-own}

@@ -36,7 +36,8 @@ use Rattle.cx_run.proofs.GuestTakes.{Always, IssuesNone, StaysGuest, TakesHosted
 use Rattle.cx_run.proofs.Taking.{EachRow}
 use Rattle.cx_laws_keys.proofs.Journal.{IsNotIssued}
 use Rattle.cx_laws_keys.proofs.Lists.{all-map}
-use Rattle.cx_laws_login.proofs.NoTickets.{IsOfAsker, RowOfAsker, client-none, none-turned}
+use Rattle.cx_laws_calling.proofs.Entering.{whole-none}
+use Rattle.cx_laws_login.proofs.NoTickets.{IsOfAsker, RowOfAsker, none-turned}
 use Rattle.cx_laws_login.proofs.Proving.{RowOf}
 
 not-issued : (e : Entry) → IssuesNone e → IsNotIssued e
@@ -230,6 +231,6 @@ module _ (d : DaemonNode) where
 
 pub entity-none : (handlers : Handlers) (entity : EntityNode) (input : Input) (reading : ℕ) (draw : List ℕ)
     → AllByRecursion IsNotIssued (entity_rule handlers entity input reading draw).out.entries
-entity-none handlers (OfClient client) input reading draw = client-none client input reading draw
+entity-none handlers (OfClient client) input reading draw = whole-none client input reading draw
 entity-none handlers (OfDaemon daemon) input reading draw =
     always-book IssuesNothing book_reply book_after daemon.book (daemon_rule handlers daemon.node input reading draw) (rule-issues daemon.node handlers input reading draw)

@@ -12,7 +12,7 @@ use Rattle.cx_desk.specs.Handlers.{Handlers}
 use Rattle.cx_laws_node.specs.Alone.{client_behind, client_outs, client_steps_alone, daemon_behind, daemon_outs, daemon_steps_alone, entity_behind, entity_outs, entity_steps_alone, given_at, given_if, of_node}
 use Rattle.cx_line_words.specs.declared.choices.LeftState.{LeftState}
 use Rattle.cx_rotate.specs.declared.states.KeptState.{KeptState}
-use Rattle.cx_rules.specs.ClientRule.{ClientNode}
+use Rattle.cx_rules_session.specs.ClientRule.{WholeClientNode}
 use Rattle.cx_rules.specs.Monitor.{MonitorNode}
 use Rattle.cx_rules.specs.MonitorRule.{monitor_rule}
 use Rattle.cx_rules.specs.Rows.{Outcome}
@@ -181,11 +181,11 @@ entity_gives nodes name (h ∷ hs) =
 
 -- ---- by its kind
 
-pub client_is : (handlers : Handlers) (c : ClientNode) (hs : List Happening) → entity_behind handlers (OfClient c) hs ≡ OfClient (client_behind c hs)
+pub client_is : (handlers : Handlers) (c : WholeClientNode) (hs : List Happening) → entity_behind handlers (OfClient c) hs ≡ OfClient (client_behind c hs)
 client_is handlers c [] = refl
 client_is handlers c (h ∷ hs) = client_is handlers (client_steps_alone c h).state hs
 
-pub client_gives : (handlers : Handlers) (c : ClientNode) (hs : List Happening) → entity_outs handlers (Some (OfClient c)) hs ≡ client_outs c hs
+pub client_gives : (handlers : Handlers) (c : WholeClientNode) (hs : List Happening) → entity_outs handlers (Some (OfClient c)) hs ≡ client_outs c hs
 client_gives handlers c [] = refl
 client_gives handlers c (h ∷ hs) = ap (λ (outs : List Effects). (client_steps_alone c h).out ∷ outs) (client_gives handlers (client_steps_alone c h).state hs)
 

@@ -4,7 +4,7 @@ use Rattle.cx_base.specs.declared.nodes.NodeName.{NodeName}
 use Rattle.cx_line_words.specs.declared.choices.LeftState.{LeftState}
 use Rattle.cx_rotate.specs.declared.states.KeptState.{KeptState}
 use Rattle.cx_desk.specs.Handlers.{Handlers}
-use Rattle.cx_rules.specs.ClientRule.{ClientNode, client_rule}
+use Rattle.cx_rules_session.specs.ClientRule.{WholeClientNode, whole_client_rule}
 use Rattle.cx_rules.specs.Monitor.{MonitorNode}
 use Rattle.cx_rules.specs.MonitorRule.{monitor_rule}
 use Rattle.cx_rules.specs.Rows.{Outcome}
@@ -67,14 +67,14 @@ entity_outs handlers (Some entity) (h ∷ hs) =
 
 -- ---- a client alone
 
-abbrev pub client_steps_alone : ClientNode → Happening → Outcome ClientNode
-client_steps_alone c h = client_rule c h.input h.reading h.draw
+abbrev pub client_steps_alone : WholeClientNode → Happening → Outcome WholeClientNode
+client_steps_alone c h = whole_client_rule c h.input h.reading h.draw
 
-abbrev pub client_behind : ClientNode → List Happening → ClientNode
+abbrev pub client_behind : WholeClientNode → List Happening → WholeClientNode
 client_behind c [] = c
 client_behind c (h ∷ hs) = client_behind (client_steps_alone c h).state hs
 
-abbrev pub client_outs : ClientNode → List Happening → List Effects
+abbrev pub client_outs : WholeClientNode → List Happening → List Effects
 client_outs c [] = []
 client_outs c (h ∷ hs) = (client_steps_alone c h).out ∷ client_outs (client_steps_alone c h).state hs
 

@@ -6,7 +6,7 @@ ghost use Rattle.cx_base.specs.Names.{Name};
 ghost use Rattle.cx_base.specs.declared.nodes.NodeName.TheVariants as node;
 ghost use Rattle.cx_desk.specs.Handlers.{Handlers};
 ghost use Rattle.cx_laws_node.specs.Alone.{client_behind, client_outs, daemon_behind, daemon_outs, entity_behind, entity_outs, given_at, monitor_behind, monitor_outs, of_node};
-ghost use Rattle.cx_rules.specs.ClientRule.{ClientNode};
+ghost use Rattle.cx_rules_session.specs.ClientRule.{WholeClientNode};
 ghost use Rattle.cx_rules_session.specs.DaemonRule.{DaemonState};
 ghost use Rattle.cx_run.specs.Happenings.{OfClient, OfDaemon, Happening, Nodes, entity_of, nodes_behind};
 
@@ -21,8 +21,8 @@ pub fn node_laws()
     ensures entity_gives { (nodes : Nodes) (name : Name) (hs : List Happening)
         → given_at (node.Entity name) nodes hs ≡ entity_outs nodes.handlers (entity_of name nodes) (of_node (node.Entity name) hs) }
     // Of a client these are what its rule gives, and of a daemon what its own does, with its book of sessions.
-    ensures client { (handlers : Handlers) (c : ClientNode) (hs : List Happening) → entity_behind handlers (OfClient c) hs ≡ OfClient (client_behind c hs) }
-    ensures client_gives { (handlers : Handlers) (c : ClientNode) (hs : List Happening) → entity_outs handlers (Some (OfClient c)) hs ≡ client_outs c hs }
+    ensures client { (handlers : Handlers) (c : WholeClientNode) (hs : List Happening) → entity_behind handlers (OfClient c) hs ≡ OfClient (client_behind c hs) }
+    ensures client_gives { (handlers : Handlers) (c : WholeClientNode) (hs : List Happening) → entity_outs handlers (Some (OfClient c)) hs ≡ client_outs c hs }
     ensures daemon { (handlers : Handlers) (d : DaemonState) (hs : List Happening) → entity_behind handlers (OfDaemon d) hs ≡ OfDaemon (daemon_behind handlers d hs) }
     ensures daemon_gives { (handlers : Handlers) (d : DaemonState) (hs : List Happening) → entity_outs handlers (Some (OfDaemon d)) hs ≡ daemon_outs handlers d hs }
 {}

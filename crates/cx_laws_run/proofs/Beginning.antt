@@ -8,6 +8,7 @@ use Rattle.cx_base.specs.declared.grants.Grant.{Grant}
 use Rattle.cx_base.specs.declared.kinds.EntityType.{EntityType}
 use Rattle.cx_base.specs.declared.kinds.EntityType.TheVariants.{Mon, Mds, Osd, Client, Mgr, Auth}
 use Rattle.cx_base.specs.declared.nodes.NodeName.TheVariants as place
+use Rattle.cx_desk.specs.Handlers.{Handlers}
 use Rattle.cx_line_words.specs.Named.{is_among, is_name}
 use Rattle.cx_line_words.specs.Values.{SpellsItems}
 use Rattle.cx_line_words.specs.declared.known.Known.{Known}
@@ -115,16 +116,20 @@ set_up-push : (setup : Setup) (lines : List Numbered) (l : Numbered) → set_up 
 set_up-push setup [] l = refl
 set_up-push setup (x ∷ lines) l = set_up-push (set_up_line setup x.number x.line) lines l
 
-added-begins : (number : ℕ) (earlier now : List Numbered) (l : List ℕ) → Adds number earlier l now → MayBegin (setup_of earlier) → MayBegin (setup_of now)
-added-begins number earlier now l (inl skipped) m = rw skipped.1 m
-added-begins number earlier now l (inr (kept, x, spelled, is)) m =
-    rw is (subst MayBegin (sym (set_up-push plain_setup earlier (numbered number x))) (line-begins (known_of earlier) (setup_of earlier) number x (line_words l) spelled m))
+added-begins : (handlers : Handlers) (number : ℕ) (earlier now : List Numbered) (l : List ℕ) → Adds number earlier l now → MayBegin (setup_of handlers earlier)
+    → MayBegin (setup_of handlers now)
+added-begins handlers number earlier now l (inl skipped) m = rw skipped.1 m
+added-begins handlers number earlier now l (inr (kept, x, spelled, is)) m =
+    rw is (subst MayBegin (sym (set_up-push (plain_setup handlers) earlier (numbered number x)))
+    (line-begins (known_of earlier) (setup_of handlers earlier) number x (line_words l) spelled m))
 
-said-begins : (number : ℕ) (earlier script : List Numbered) (lines : List (List ℕ)) → Said number earlier lines script → MayBegin (setup_of earlier) → MayBegin (setup_of script)
-said-begins number earlier script [] said m = rw said m
-said-begins number earlier script (l ∷ lines) (now, adds, said) m = said-begins (number + 1) now script lines said (added-begins number earlier now l adds m)
+said-begins : (handlers : Handlers) (number : ℕ) (earlier script : List Numbered) (lines : List (List ℕ)) → Said number earlier lines script → MayBegin (setup_of handlers earlier)
+    → MayBegin (setup_of handlers script)
+said-begins handlers number earlier script [] said m = rw said m
+said-begins handlers number earlier script (l ∷ lines) (now, adds, said) m =
+    said-begins handlers (number + 1) now script lines said (added-begins handlers number earlier now l adds m)
 
 -- so it may begin
-pub schedule-begins : (bytes : List ℕ) (script : List Numbered) → Lines bytes script → MayBegin (setup_of script)
-schedule-begins bytes script said =
-    said-begins 1 [] script (lines_of bytes) said (record { life = refl; auth_life = refl; names = tt; caps = tt; clients = tt })
+pub schedule-begins : (handlers : Handlers) (bytes : List ℕ) (script : List Numbered) → Lines bytes script → MayBegin (setup_of handlers script)
+schedule-begins handlers bytes script said =
+    said-begins handlers 1 [] script (lines_of bytes) said (record { life = refl; auth_life = refl; names = tt; caps = tt; clients = tt })

@@ -4,6 +4,7 @@ use Rattle.std.specs.Prelude.{filter, length, map, replicate, suc, if◌then◌e
 use Rattle.std.specs.List.{AllByRecursion, list_all}
 use Rattle.cx_base.specs.declared.nodes.NodeName.{NodeName}
 use Rattle.cx_base.specs.declared.nodes.NodeName.TheVariants as node
+use Rattle.cx_desk.specs.Handlers.{Handlers}
 use Rattle.cx_enc.specs.FieldLaws.{both_true}
 use Rattle.cx_lines.specs.Lines.{is_in_range, is_numbered_in_range}
 use Rattle.cx_lines.specs.declared.commands.LineCommand.{LineCommand}
@@ -172,7 +173,7 @@ kept-submitted : (w : World) (c : LineCommand) → Low w → Low (submitted w c)
 kept-submitted w (command.Login client services) k = kept-comes w (node.Entity client) (Submit (told.Login (services_sum services))) k
 kept-submitted w (command.Fetch daemon) k = kept-comes w (node.Entity daemon) (Submit told.Fetch) k
 kept-submitted w (command.Renew client services) k = kept-comes w (node.Entity client) (Submit (told.Renew (services_sum services))) k
-kept-submitted w (command.Connect client daemon lossy) k = k
+kept-submitted w (command.Connect client daemon lossy) k = kept-comes w (node.Entity client) (Submit (told.Connect daemon lossy)) k
 kept-submitted w (command.Send client daemon operation) k = k
 
 kept-submits : (w : World) (c : LineCommand) → Low w → Low (submits w c)
@@ -181,7 +182,8 @@ kept-submits w (command.Login client services) k =
 kept-submits w (command.Fetch daemon) k = kept-settles (submitted w (command.Fetch daemon)) (kept-submitted w (command.Fetch daemon) k)
 kept-submits w (command.Renew client services) k =
     kept-settles (submitted w (command.Renew client services)) (kept-submitted w (command.Renew client services) k)
-kept-submits w (command.Connect client daemon lossy) k = k
+kept-submits w (command.Connect client daemon lossy) k =
+    kept-settles (submitted w (command.Connect client daemon lossy)) (kept-submitted w (command.Connect client daemon lossy) k)
 kept-submits w (command.Send client daemon operation) k = k
 
 kept-without_first : (w : World) (wire : Wire) (side : Side) (pieces : List (List ℕ)) → Low w → Low (without_first w wire side pieces)
@@ -233,7 +235,7 @@ kept-on_node w (step.ClockOf who reading) within k =
 kept-on_node w (step.Restart who) within k = kept-restarts w who k
 kept-on_node w (step.FailSave left) within k = like w (on_node w (step.FailSave left)) refl refl k
 kept-on_node w step.Settle within k = kept-settles w k
-kept-on_node w (step.DropSession daemon number) within k = k
+kept-on_node w (step.DropSession daemon number) within k = kept-comes w (node.Entity daemon) (Submit (told.Drop number)) k
 kept-on_node w (step.Tick who) within k = kept-settles (comes w who Tick) (kept-comes w who Tick k)
 
 kept-acts_on : (w : World) (l : Line) → is_in_range l ≡ true → Low w → Low (acts_on w l)
@@ -257,6 +259,7 @@ posts-low : (es : List Declared) → AllByRecursion (λ (p : Post). IsLow p.read
 posts-low [] = tt
 posts-low (e ∷ es) = (omega arith, posts-low es)
 
-pub trace-low : (script : List Numbered) → list_all is_numbered_in_range script ≡ true → AllByRecursion (λ (h : Happening). h.reading < 4000000000000000000) (trace script)
-trace-low script within =
-    (kept-after_lines (opening_world (setup_of script)) script within (record { posts = (omega arith, posts-low (setup_of script).entities); past = tt })).past
+pub trace-low : (handlers : Handlers) (script : List Numbered) → list_all is_numbered_in_range script ≡ true
+    → AllByRecursion (λ (h : Happening). h.reading < 4000000000000000000) (trace handlers script)
+trace-low handlers script within =
+    (kept-after_lines (opening_world (setup_of handlers script)) script within (record { posts = (omega arith, posts-low (setup_of handlers script).entities); past = tt })).past

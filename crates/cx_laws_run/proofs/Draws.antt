@@ -9,6 +9,7 @@ use Rattle.cx_rules.specs.Inputs.{Input}
 use Rattle.cx_run.specs.Deliveries.{given}
 use Rattle.cx_run.specs.Happenings.{Happening}
 use Rattle.cx_run.specs.Schedules.{after_lines}
+use Rattle.cx_run.specs.Visits.{IsNoLook}
 use Rattle.cx_run.specs.Worlds.{Post, World, happening}
 use Rattle.cx_run.proofs.Walking.{kept-after_lines}
 use Rattle.cx_laws_keys.proofs.Lists.{all-append}
@@ -48,9 +49,9 @@ drawn-like w v n p k = record {
   bytes = subst (λ (hs : List Happening). AllByRecursion (λ (h : Happening). AreBytes h.draw) hs) (sym p) k.bytes;
 }
 
-drawn-given : (w : World) (input : Input) (post : Option Post) → Drawn w → Drawn (given w input post).world
-drawn-given w input None k = k
-drawn-given w input (Some post) k =
+drawn-given : (w : World) (input : Input) (post : Option Post) → IsNoLook input → Drawn w → Drawn (given w input post).world
+drawn-given w input None untold k = k
+drawn-given w input (Some post) untold k =
     let h = happening w input post in
     record {
       all = all-append (λ (x : Happening). length x.draw ≡ 384) w.past (h ∷ []) k.all (length-seed post.seed post.rolled, tt);

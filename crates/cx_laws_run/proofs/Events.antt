@@ -13,13 +13,11 @@ use Rattle.cx_base.specs.declared.nodes.NodeName.TheVariants as node
 use Rattle.cx_line_words.specs.declared.choices.LeftState.{LeftState}
 use Rattle.cx_line_words.specs.declared.choices.LeftState.TheVariants as left
 use Rattle.cx_rotate.specs.declared.states.KeptState.{KeptState}
-use Rattle.cx_rules.specs.ClientRule.{ClientNode, client_rule}
-use Rattle.cx_rules.specs.Connector.{Stage}
+use Rattle.cx_rules_session.specs.ClientRule.{WholeClientNode, whole_client_rule}
 use Rattle.cx_rules.specs.Links.{Link}
 use Rattle.cx_rules.specs.Monitor.{MonitorNode}
 use Rattle.cx_rules.specs.MonitorRule.{monitor_rule}
 use Rattle.cx_rules.specs.Rows.{Outcome}
-use Rattle.cx_run.proofs.ClientNamed.{client-named}
 use Rattle.cx_run.specs.Happenings.{Entered, Happening, Nodes, Stepped, entered_by, failed_out, is_of, journal_from, left_as, monitor_steps, seals_from, stays, steps, steps_of, EntityNode, OfClient, OfDaemon, entity_of, entity_steps, with_entity}
 use Rattle.cx_steps.specs.Nothing.{nothing}
 use Rattle.cx_steps.specs.declared.events.Command.TheVariants as command
@@ -31,9 +29,11 @@ use Rattle.cx_laws_keys.proofs.Lists.{all-map, found_all, found_passes, map-appe
 use Rattle.cx_laws_keys.proofs.Premises.{AreGranted, IsGranted, behind, granted-step}
 use Rattle.cx_laws_keys.proofs.Uses.{Grows, Uses, WholeRun, grows-from, grows-saved, grows-then}
 use Rattle.cx_laws_keys.proofs.Uses.{stays as same_uses}
-use Rattle.cx_laws_login.proofs.ClientStep.{client-step, client_says}
+use Rattle.cx_laws_chain.specs.cx_laws_calling.proofs.Between.{ClientOk, client-grows, client-steps}
+use Rattle.cx_run.proofs.OpensMonitor.{unvisited-opens}
+use Rattle.cx_run.specs.Calling.{IsNoCall}
 use Rattle.cx_laws_login.proofs.Entering.{within-all}
-use Rattle.cx_laws_login.proofs.Facts.{AskerStageOk, OwnOk, asker_stage-grows, own-grows, Owner, AskerKnown, known-grows}
+use Rattle.cx_laws_login.proofs.Facts.{OwnOk, own-grows, Owner, AskerKnown, known-grows}
 use Rattle.cx_laws_login.proofs.Generations.{state-grows, AreRecorded, tagged, tagged-recorded}
 use Rattle.cx_laws_login.proofs.MonitorRows.{monitor_says}
 use Rattle.cx_laws_login.proofs.MonitorStep.{MonitorOk, between, between-less, monitor-after, unsaved-ok}
@@ -43,20 +43,15 @@ use Rattle.cx_laws_run.proofs.Saves.{inv-failed, thick}
 use Rattle.cx_run.proofs.DaemonNamed.{daemon-named}
 use Rattle.cx_rules_session.specs.DaemonRule.{DaemonNode, DaemonStage, DaemonState, daemon_step}
 use Rattle.cx_laws_authorize.proofs.Backing.{IsGood, backing-grows, AllGood}
-use Rattle.cx_laws_authorize.specs.Coming.{IsNoGuest, IsNoLook}
+use Rattle.cx_laws_authorize.specs.Coming.{IsNoGuest}
 use Rattle.cx_laws_authorize.proofs.DaemonStep.{DaemonStageOk, daemon-after, daemon_says, daemon_stage-grows}
 use Rattle.cx_laws_authorize.proofs.Telling.{IsBackedLink}
 use Rattle.cx_laws_keys.proofs.Steps.{inv-saved, within-itself}
 use Rattle.std.proofs.lemmas.List.Elements.{Contains-append_cases}
 use Rattle.cx_base.specs.declared.kinds.EntityType.{EntityType}
 use Rattle.cx_rotate.specs.declared.generations.Generation.{Generation}
-use Rattle.cx_run.specs.Visits.{IsUnvisited}
+use Rattle.cx_run.specs.Visits.{IsNoLook, IsUnvisited}
 use Rattle.cx_rules.specs.Inputs.{Input, Opened, NoLink, Bytes, Turn, Gone, Look, Tick, Submit, Restart}
-
--- what is known of a client between steps: itself as one that asks, and that the keys of its secured links are those of connections
-pub record ClientOk (run : WholeRun) (us : Uses) (c : ClientNode) : Type 0 where
-  pub known : AskerKnown run us c.own.asker.name c.own.asker.secret c.own.asker.view
-  pub links : AllByRecursion (λ (l : Link Stage). AskerStageOk us (node.Entity c.own.asker.name) l.stage) c.links
 
 -- of a daemon: so also the keys of its guests' links, and that the authority of each has its ticket
 pub record DaemonOk (run : WholeRun) (us : Uses) (J : List Entry) (d : DaemonNode) : Type 0 where
@@ -77,11 +72,7 @@ pub record NodesOk (run : WholeRun) (nodes : Nodes) (us : Uses) (J : List Entry)
   pub entities : EntitiesOk run us J nodes.entities
 
 entity-grows : (run : WholeRun) (us vs : Uses) (J K : List Entry) (e : EntityNode) → Grows us vs → Within J K → EntityOk run us J e → EntityOk run vs K e
-entity-grows run us vs J K (OfClient c) f w h = record {
-  known = known-grows run us vs c.own.asker.name c.own.asker.secret c.own.asker.view f h.known;
-  links = all-map (λ (l : Link Stage). AskerStageOk us (node.Entity c.own.asker.name) l.stage) (λ (l : Link Stage). AskerStageOk vs (node.Entity c.own.asker.name) l.stage)
-      (λ l st. asker_stage-grows us vs (node.Entity c.own.asker.name) l.stage f st) c.links h.links;
-}
+entity-grows run us vs J K (OfClient c) f w h = client-grows run us vs c f h
 entity-grows run us vs J K (OfDaemon d) f w h =
     let n : NodeName = node.Entity d.node.own.asker.name in
     record {
@@ -122,25 +113,9 @@ unvisited-guest name (Submit (command.Drop session)) h = absurd h
 unvisited-guest name (Submit (command.Login services)) h = tt
 unvisited-guest name (Submit (command.Renew services)) h = tt
 unvisited-guest name (Submit command.Fetch) h = tt
-unvisited-guest name (Submit (command.Connect daemon lossy)) h = tt
+unvisited-guest name (Submit (command.Connect daemon lossy)) h = absurd h
 unvisited-guest name (Submit (command.Send daemon operation)) h = tt
 unvisited-guest name Restart h = tt
-
--- nor is it told a view
-pub unvisited-looks : (n : NodeName) (input : Input) → IsUnvisited n input → IsNoLook input
-unvisited-looks n (Look view) h = by_node n h
-  where
-    by_node : (n : NodeName) → IsUnvisited n (Look view) → ⊥
-    by_node node.Monitor h = h
-    by_node (node.Entity name) h = h
-unvisited-looks n (Opened number to) h = tt
-unvisited-looks n (NoLink to) h = tt
-unvisited-looks n (Bytes number bytes) h = tt
-unvisited-looks n (Turn number) h = tt
-unvisited-looks n (Gone number) h = tt
-unvisited-looks n Tick h = tt
-unvisited-looks n (Submit said) h = tt
-unvisited-looks n Restart h = tt
 
 -- what is so of an event of the run: what comes; the state that is saved behind it is one that was saved in the run; and its tickets are good, where that
 -- is known. No daemon is told a view but by a reply
@@ -192,13 +167,6 @@ module _ (run : WholeRun) (whole : List Logged) (us : Uses) (log : List Logged) 
 
   -- ---- an entity
 
-  -- a client at its own node, before its step
-  client-before : (c : ClientNode) (name : Name) → ClientOk run us c → node.Entity name ≡ node.Entity c.own.asker.name → NodeOk (client_says run J (node.Entity name)) c us J
-  client-before c name known here = record {
-    own = record { known = known.known; quiet = λ s has. has; count = refl };
-    links = subst (λ (n : NodeName). AllByRecursion (λ (l : Link Stage). AskerStageOk us n l.stage) c.links) (sym here) known.links;
-  }
-
   daemon-before : (d : DaemonNode) (name : Name) → DaemonOk run us J d → node.Entity name ≡ node.Entity d.own.asker.name → NodeOk (daemon_says run J (node.Entity name)) d us J
   daemon-before d name known here = record {
     own = record { known = known.known; quiet = λ s has. has; count = refl };
@@ -213,24 +181,19 @@ module _ (run : WholeRun) (whole : List Logged) (us : Uses) (log : List Logged) 
     entities = replaced run vs (entered J js) name entity nodes.entities behind_it (entities-grow run us vs J (entered J js) nodes.entities f (within-all J js) ok.entities);
   }
 
-  client-after : (h : Happening) (name : Name) (c : ClientNode) → ClientOk run us c → c.own.asker.name ≡ name → Inv run whole us log J → NodesOk run nodes us J
-      → AreGranted run.leaked whole (node.Entity name) h.line log (client_rule c h.input h.reading h.draw).out.seals → AfterStepped (node.Entity name) h.line (entity_steps nodes h name (Some (OfClient c)))
-  client-after h name c known named i ok g =
-      let here : node.Entity name ≡ node.Entity c.own.asker.name = ap (λ (m : Name). node.Entity m) (sym named) in
-      let o : Outcome ClientNode = client_rule c h.input h.reading h.draw in
-      let before : NodeOk (client_says run J (node.Entity name)) c us J = client-before c name known here in
-      let a = client-step run whole (node.Entity name) h.line us log J J c h.input h.reading h.draw i before here g in
-      let still : node.Entity name ≡ node.Entity o.state.own.asker.name = here ∙ ap (λ (m : Name). node.Entity m) (sym (client-named c h.input h.reading h.draw)) in
-      let behind_it : ClientOk run a.uses o.state = record {
-        known = a.good.own.known;
-        links = subst (λ (n : NodeName). AllByRecursion (λ (l : Link Stage). AskerStageOk a.uses n l.stage) o.state.links) still a.good.links;
-      } in
+  client-after : (h : Happening) (name : Name) (c : WholeClientNode) → ClientOk run us c → c.own.asker.name ≡ name → Inv run whole us log J → NodesOk run nodes us J
+      → (run.guests ≡ false → IsNoCall h.input)
+      → AreGranted run.leaked whole (node.Entity name) h.line log (whole_client_rule c h.input h.reading h.draw).out.seals → AfterStepped (node.Entity name) h.line (entity_steps nodes h name (Some (OfClient c)))
+  client-after h name c known named i ok comes g =
+      let o : Outcome WholeClientNode = whole_client_rule c h.input h.reading h.draw in
+      let b = client-steps run whole name h.line us log J c h.input h.reading h.draw known named i comes g in
+      let a = b.after in
       record {
         uses = a.uses;
         grows = a.grows;
         inv = a.inv;
         laws = a.laws;
-        good = nodes-behind name (OfClient o.state) a.uses o.out.entries a.grows a.good.own.quiet ok behind_it;
+        good = nodes-behind name (OfClient o.state) a.uses o.out.entries a.grows a.good.own.asker.quiet ok b.ok;
       }
 
   daemon-after_step : (h : Happening) (name : Name) (d : DaemonState) → DaemonOk run us J d.node → d.node.own.asker.name ≡ name → Inv run whole us log J → NodesOk run nodes us J
@@ -273,7 +236,7 @@ module _ (run : WholeRun) (whole : List Logged) (us : Uses) (log : List Logged) 
   entity-after h name None is i ok drawn looks comes good g = nothing-after (node.Entity name) h.line i ok
   entity-after h name (Some (OfClient c)) is i ok drawn looks comes good g =
       client-after h name c (found_all (EntityOk run us J) (is_of name) nodes.entities (OfClient c) ok.entities is)
-      (same_name_is c.own.asker.name name (found_passes (is_of name) nodes.entities (OfClient c) is)) i ok g
+      (same_name_is c.own.asker.name name (found_passes (is_of name) nodes.entities (OfClient c) is)) i ok (λ none. unvisited-opens (node.Entity name) h.input (comes none)) g
   entity-after h name (Some (OfDaemon d)) is i ok drawn looks comes good g =
       daemon-after_step h name d (found_all (EntityOk run us J) (is_of name) nodes.entities (OfDaemon d) ok.entities is)
       (same_name_is d.node.own.asker.name name (found_passes (is_of name) nodes.entities (OfDaemon d) is)) i ok drawn looks (λ none. unvisited-guest name h.input (comes none)) good g

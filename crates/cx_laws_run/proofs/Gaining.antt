@@ -8,7 +8,7 @@ use Rattle.cx_base.specs.Names.{Name, is_daemon_type}
 use Rattle.cx_base.specs.declared.nodes.NodeName.{NodeName}
 use Rattle.cx_base.specs.declared.nodes.NodeName.TheVariants as node
 use Rattle.cx_line_words.specs.declared.choices.LeftState.{LeftState}
-use Rattle.cx_rules.specs.ClientRule.{opening_client}
+use Rattle.cx_rules_session.specs.ClientRule.{opening_whole_client}
 use Rattle.cx_rules.specs.Inputs.{Input, Opened, NoLink, Bytes, Turn, Gone, Look, Tick, Submit, Restart}
 use Rattle.cx_rules.specs.Links.{Link}
 use Rattle.cx_rules.specs.MonitorRule.{monitor_rule}
@@ -193,7 +193,7 @@ first-gained : (es : List Declared) → AllGained [] (map entity_in es)
 first-gained [] = tt
 first-gained (e ∷ es) = (by_kind (is_daemon_type e.name.kind), first-gained es)
   where
-    by_kind : (t : Bool) → EntityGained [] (if t then OfDaemon (daemon_opening (asker_of e)) else OfClient (opening_client (asker_of e)))
+    by_kind : (t : Bool) → EntityGained [] (if t then OfDaemon (daemon_opening (asker_of e)) else OfClient (opening_whole_client (asker_of e)))
     by_kind true = tt
     by_kind false = tt
 

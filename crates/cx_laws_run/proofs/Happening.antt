@@ -9,9 +9,8 @@ use Rattle.cx_rotate.specs.declared.states.KeptState.{KeptState}
 use Rattle.cx_run.specs.Happenings.{Happening, Nodes, steps}
 use Rattle.cx_run.specs.Opening.{Setup, leaked_of, nodes_of}
 use Rattle.cx_run.specs.Points.{Point, journal_since, log_since, nodes_past, points, points_onto}
-use Rattle.cx_run.specs.Visits.{AreUnvisited}
+use Rattle.cx_run.specs.Visits.{AreUntold, AreUnvisited}
 use Rattle.cx_steps.specs.Premises.{IsFresh, IsSound}
-use Rattle.cx_laws_authorize.specs.Coming.{IsNoLook}
 use Rattle.cx_laws_chain.proofs.One.{all-kept}
 use Rattle.cx_laws_chain.specs.Chain.{KeepsGenerations}
 use Rattle.cx_laws_keys.proofs.Journal.{EntryLaw}
@@ -55,7 +54,7 @@ next-recorded run h hs past nodes all service =
 
 -- where the run is said to have no guests, none come; and where its tickets are said to be good, all that is needed for that is known
 all-occur : (setup : Setup) (run : WholeRun) → MayBegin setup → (hs : List Happening) (past : List Point) (nodes : Nodes) → AreDrawn hs
-    → AllByRecursion (λ (h : Happening). IsNoLook h.input) hs → (run.guests ≡ false → AreUnvisited hs) → IsKnown setup run (points_onto past nodes hs)
+    → AreUntold hs → (run.guests ≡ false → AreUnvisited hs) → IsKnown setup run (points_onto past nodes hs)
     → ((s : EntityType) (g : Generation) → IsSavedIn (saved_in (points_onto past nodes hs)) s g → IsSavedIn run.saved s g) → AllOccur run nodes hs
 all-occur setup run begins [] past nodes drawn looks away known all = tt
 all-occur setup run begins (h ∷ hs) past nodes drawn looks away known all = (

@@ -10,26 +10,25 @@ use Rattle.cx_journal.specs.Behind.{EachBehind}
 use Rattle.cx_journal.specs.declared.entries.Entry.{Entry}
 use Rattle.cx_journal.specs.declared.entries.Entry.TheVariants as journal
 use Rattle.cx_rotate.specs.declared.views.View.{View}
-use Rattle.cx_rules.specs.ClientRule.{opening_client}
+use Rattle.cx_rules_session.specs.ClientRule.{opening_whole_client}
 use Rattle.cx_rotate.specs.declared.states.KeptState.{KeptState}
 use Rattle.cx_line_words.specs.declared.choices.LeftState.{LeftState}
 use Rattle.cx_rules.specs.Monitor.{MonitorNode}
 use Rattle.cx_rules.specs.MonitorRule.{monitor_rule}
 use Rattle.cx_rules.specs.Rows.{Outcome}
-use Rattle.cx_run.proofs.ClientNamed.{client-named}
-use Rattle.cx_run.proofs.DaemonNamed.{daemon-named}
+use Rattle.cx_run.proofs.EntityNamed.{entity-named}
 use Rattle.cx_run.specs.Happenings.{Entered, EntityNode, OfClient, OfDaemon, Happening, Nodes, Stepped, asker_in, entered_by, entity_of, entity_rule, entity_steps, is_of, journal_from, monitor_steps, steps, steps_of}
 use Rattle.cx_run.specs.Opening.{Declared, Leak, Setup, asker_of, daemon_opening, entity_in, leaks_entered, nodes_of}
 use Rattle.cx_run.specs.Points.{journal_since}
 use Rattle.cx_laws_authorize.proofs.Viewing.{daemon-shows}
-use Rattle.cx_laws_authorize.specs.Coming.{IsNoLook}
+use Rattle.cx_run.specs.Visits.{AreUntold, IsNoLook}
 use Rattle.cx_laws_chain.proofs.Rows.{IsOfMonitor}
 use Rattle.cx_laws_chain.proofs.Steps.{event-enters}
 use Rattle.cx_laws_keys.proofs.Journal.{entered}
 use Rattle.cx_laws_keys.proofs.Lists.{all-map, found_all, found_passes, map-append}
 use Rattle.cx_laws_keys.proofs.Viewing.{ShowsAlong, ShowsNone, all-none-look, none-shown, shows-elsewhere, shows-last, shows-looks, viewed-append}
 use Rattle.cx_laws_keys.specs.LooksLast.{LooksLast, LooksLastBy, nothing_viewed, view_behind, viewed_all}
-use Rattle.cx_laws_login.proofs.NoTickets.{client-enters}
+use Rattle.cx_laws_chain.specs.cx_laws_calling.proofs.Entering.{whole-enters}
 use Rattle.cx_laws_run.proofs.Events.{entered-append, entries-by}
 use Rattle.cx_laws_run.proofs.Journals.{behind-append}
 
@@ -50,12 +49,8 @@ record LooksBehind (J : List Entry) (s : Stepped) : Type 0 where
 -- what an entity enters tells its view
 entity-shows : (nodes : Nodes) (h : Happening) (e : EntityNode) → IsNoLook h.input →
     let o = entity_rule nodes.handlers e h.input h.reading h.draw in ShowsAlong (asker_in e).name (asker_in e).view o.out.entries (asker_in o.state).view
-entity-shows nodes h (OfClient c) looks = (client-enters c h.input h.reading h.draw).shows
+entity-shows nodes h (OfClient c) looks = (whole-enters c h.input h.reading h.draw).shows
 entity-shows nodes h (OfDaemon d) looks = daemon-shows nodes.handlers d h.input h.reading h.draw looks
-
-entity-named : (nodes : Nodes) (h : Happening) (e : EntityNode) → (asker_in (entity_rule nodes.handlers e h.input h.reading h.draw).state).name ≡ (asker_in e).name
-entity-named nodes h (OfClient c) = client-named c h.input h.reading h.draw
-entity-named nodes h (OfDaemon d) = daemon-named nodes.handlers d h.input h.reading h.draw
 
 module _ (J es : List Entry) (name : Name) (view last : View) (entity : EntityNode) (shows : ShowsAlong name view es last) (here : view ≡ view_behind name J) where
   -- behind what it enters
@@ -98,7 +93,7 @@ entity-looks J nodes h name None is looks views = record { looks = tt; views = n
 entity-looks J nodes h name (Some e) is looks views =
     subst (λ (n : Name). LooksBehind J (entity_steps nodes h n (Some e))) named (record {
       looks = shows-looks (asker_in e).name (asker_in e).view J o.out.entries (asker_in o.state).view here shows;
-      views = all-stay J o.out.entries (asker_in e).name (asker_in e).view (asker_in o.state).view o.state shows here (entity-named nodes h e) refl nodes.entities views;
+      views = all-stay J o.out.entries (asker_in e).name (asker_in e).view (asker_in o.state).view o.state shows here (entity-named nodes.handlers e h.input h.reading h.draw) refl nodes.entities views;
     })
   where
     o : Outcome EntityNode
@@ -150,7 +145,7 @@ node-looks J nodes h (node.Entity name) looks views = entity-looks J nodes h nam
 
 -- ---- every list of events
 
-looks-from : (hs : List Happening) (nodes : Nodes) (J : List Entry) → AllByRecursion (λ (h : Happening). IsNoLook h.input) hs → AllViews J nodes.entities
+looks-from : (hs : List Happening) (nodes : Nodes) (J : List Entry) → AreUntold hs → AllViews J nodes.entities
     → EachBehind LooksLastBy J (map (λ (x : Entered). x.entry) (journal_from nodes hs))
 looks-from [] nodes J looks views = tt
 looks-from (h ∷ hs) nodes J looks views =
@@ -173,11 +168,11 @@ unfolding AllViews ViewIs
 first-views J [] none = tt
 first-views J (e ∷ es) none = (by_kind (is_daemon_type e.name.kind), first-views J es none)
   where
-    by_kind : (t : Bool) → ViewIs J (if t then OfDaemon (daemon_opening (asker_of e)) else OfClient (opening_client (asker_of e)))
+    by_kind : (t : Bool) → ViewIs J (if t then OfDaemon (daemon_opening (asker_of e)) else OfClient (opening_whole_client (asker_of e)))
     by_kind true = sym (none-shown e.name nothing_viewed J none)
     by_kind false = sym (none-shown e.name nothing_viewed J none)
 
-pub all-looks : (setup : Setup) (hs : List Happening) → AllByRecursion (λ (h : Happening). IsNoLook h.input) hs → LooksLast (journal_since setup hs)
+pub all-looks : (setup : Setup) (hs : List Happening) → AreUntold hs → LooksLast (journal_since setup hs)
 all-looks setup hs looks =
     let leaks : List Entry = map (λ (x : Entered). x.entry) (leaks_entered setup) in
     let later : List Entry = map (λ (x : Entered). x.entry) (journal_from (nodes_of setup) hs) in

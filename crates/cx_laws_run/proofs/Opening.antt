@@ -11,7 +11,8 @@ use Rattle.cx_journal.specs.declared.entries.Entry.{Entry}
 use Rattle.cx_journal.specs.declared.entries.Entry.TheVariants as journal
 use Rattle.cx_journal.specs.declared.entries.Issued.{Issued}
 use Rattle.cx_base.specs.declared.nodes.NodeName.TheVariants as node
-use Rattle.cx_rules.specs.ClientRule.{opening_client}
+use Rattle.cx_rules_session.specs.ClientRule.{opening_whole_client}
+use Rattle.cx_laws_chain.specs.cx_laws_calling.proofs.Between.{client-begins}
 use Rattle.cx_run.specs.Happenings.{Entered, Happening, journal_from, seals_from, OfClient, OfDaemon}
 use Rattle.cx_run.specs.Opening.{Declared, Leak, Setup, asker_of, first_state, leaked_of, leaks_entered, nodes_of, principal_of, secret_drawn, secret_of, secrets_drawn, entity_in, daemon_opening}
 use Rattle.cx_steps.specs.Onto.{EachOnto}
@@ -148,7 +149,7 @@ module _ (run : WholeRun) (setup : Setup) (leaked_is : run.leaked ≡ leaked_of 
   one-entity us J e m = by_test (is_daemon_type e.name.kind) refl
     where
       by_test : (t : Bool) → is_daemon_type e.name.kind ≡ t
-          → EntityOk run us J (if t then OfDaemon (daemon_opening (asker_of e)) else OfClient (opening_client (asker_of e)))
+          → EntityOk run us J (if t then OfDaemon (daemon_opening (asker_of e)) else OfClient (opening_whole_client (asker_of e)))
       by_test true of = record {
         known = record {
           trusted = inr (λ has. daemon-unleaked setup e.name clients of (subst (λ (names : List Name). Contains names e.name) leaked_is has));
@@ -159,7 +160,7 @@ module _ (run : WholeRun) (setup : Setup) (leaked_is : run.leaked ≡ leaked_of 
         links = tt;
         backed = λ known. tt;
       }
-      by_test false of = record { known = record { trusted = inl of; own = m; fetched = none-fetched run us e.name.kind }; links = tt }
+      by_test false of = client-begins run us (asker_of e) (record { trusted = inl of; own = m; fetched = none-fetched run us e.name.kind })
 
   their-entities : (us : Uses) (J : List Entry) (es : List Declared) → AreTheirs us es → EntitiesOk run us J (map entity_in es)
   their-entities us J [] h = tt

@@ -42,7 +42,7 @@ use Rattle.cx_laws_keys.proofs.Lists.{found_all, found_passes}
 use Rattle.cx_laws_keys.proofs.Premises.{AreGranted}
 use Rattle.cx_laws_keys.proofs.Uses.{Uses, WholeRun}
 use Rattle.cx_laws_login.proofs.Hearing.{HearsPart, part_heard}
-use Rattle.cx_laws_login.proofs.NoTickets.{IsOfAsker, client-enters}
+use Rattle.cx_laws_chain.specs.cx_laws_calling.proofs.Entering.{IsOfClient, whole-enters}
 use Rattle.cx_laws_run.proofs.Asked.{all-asked}
 use Rattle.cx_laws_run.proofs.Events.{AllOccur, DaemonOk, EntityOk, NodesOk}
 use Rattle.cx_laws_run.proofs.Gaining.{EntityGained, Gained, IsGained, LinkGained, all-gained}
@@ -237,10 +237,10 @@ monitor-none (journal.Admitted s) h of = h
 monitor-none (journal.Resumed s) h of = h
 monitor-none _ h of = of
 
-client-none : (e : Entry) → IsOfAsker e → IsOfSession e → ⊥
-client-none (journal.Admitted s) h of = h
-client-none (journal.Resumed s) h of = h
-client-none _ h of = of
+client-none : (name : Name) (e : Entry) → IsOfClient name e → IsOfSession e → ⊥
+client-none name (journal.Admitted s) h of = h
+client-none name (journal.Resumed s) h of = h
+client-none name _ h of = of
 
 one-of : (P : Entry → Type 0) (es : List Entry) (e : Entry) → AllByRecursion P es → Contains es e → P e
 one-of P es e all has = All-contains P es e (All-from_recursion P es all) has
@@ -258,7 +258,7 @@ module _ (setup : Setup) (older : List Point) (nodes : Nodes) (h : Happening) (g
       absurd (nothing-in e none)
   owed-entity name (Some (OfClient c)) here is has =
       let there = subst (λ (s : Stepped). Contains s.out.entries e) (stepped-is nodes h name (Some (OfClient c)) here is) has in
-      absurd (client-none e (one-of IsOfAsker _ e (client-enters c h.input h.reading h.draw).enters there) of)
+      absurd (client-none c.own.asker.name e (one-of (IsOfClient c.own.asker.name) _ e (whole-enters c h.input h.reading h.draw).enters there) of)
   owed-entity name (Some (OfDaemon d)) here is has =
       let there = subst (λ (s : Stepped). Contains s.out.entries e) (stepped-is nodes h name (Some (OfDaemon d)) here is) has in
       let step = daemon_step nodes.handlers d h.input h.reading h.draw in

@@ -16,7 +16,7 @@ use Rattle.cx_line_words.specs.Named.{is_name}
 use Rattle.cx_line_words.specs.Values.{is_life}
 use Rattle.cx_run.specs.Happenings.{Happening}
 use Rattle.cx_run.specs.Opening.{Declared, Leak, Setup}
-use Rattle.cx_laws_authorize.specs.Coming.{IsNoLook}
+use Rattle.cx_run.specs.Visits.{AreUntold}
 pub use Rattle.cx_laws_keys.specs.KeepsExpiry.{KeepsExpiry}
 pub use Rattle.cx_laws_keys.specs.LooksLast.{LooksLast}
 
@@ -50,7 +50,7 @@ pub record MayHappen (setup : Setup) (hs : List Happening) : Type 0 where
   pub drawn : AreDrawn hs
   pub bytes : AllByRecursion (λ (h : Happening). AreBytes h.draw) hs
   pub readings : AllByRecursion (λ (h : Happening). h.reading < 4000000000000000000) hs
-  pub looks : AllByRecursion (λ (h : Happening). IsNoLook h.input) hs
+  pub looks : AreUntold hs
 
 -- the laws of a journal that speak of tickets alone: each session that is admitted or resumed is backed by one that was issued; no issued ticket is
 -- refused for its key while the daemon's look lists its generation, nor as expired before it has; and a global id is given once

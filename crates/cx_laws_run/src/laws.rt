@@ -1,11 +1,9 @@
 //! Laws over every run.
 
-ghost use Rattle.std.specs.Prelude.{ℕ, Bool, List, None};
+ghost use Rattle.std.specs.Prelude.{◌≡◌, ℕ, Bool, false, List, None};
 ghost use Rattle.cx_base.specs.declared.kinds.Access.{Access};
-ghost use Rattle.std.specs.List.{AllByRecursion};
-ghost use Rattle.cx_laws_authorize.specs.Coming.{IsNoLook};
+ghost use Rattle.cx_desk.specs.Handlers.{Handlers};
 ghost use Rattle.cx_laws_chain.specs.Chain.{KeepsGenerations};
-ghost use Rattle.cx_laws_keys.specs.KeepsExpiry.{KeepsExpiry};
 ghost use Rattle.cx_laws_keys.specs.LooksLast.{LooksLast};
 ghost use Rattle.cx_laws_run.specs.Laws.{KeepsLaws, KeepsTickets, MayHappen};
 ghost use Rattle.cx_laws_run.specs.Logins.{LogIn, Stands};
@@ -14,7 +12,7 @@ ghost use Rattle.cx_lines.specs.declared.lines.Numbered.{Numbered};
 ghost use Rattle.cx_run.specs.Happenings.{Happening};
 ghost use Rattle.cx_run.specs.Opening.{Setup, leaked_of};
 ghost use Rattle.cx_run.specs.Points.{journal_since, log_since, points};
-ghost use Rattle.cx_run.specs.Visits.{AreUnvisited};
+ghost use Rattle.cx_run.specs.Visits.{AreUntold, AreUnvisited, has_session_line};
 ghost use Rattle.cx_run.specs.Runs.{IsFoundOf, run_journal, setup_of, trace};
 ghost use Rattle.cx_schedule.specs.Files.{Lines};
 ghost use Rattle.cx_steps.specs.Premises.{IsFresh, IsSound};
@@ -29,9 +27,9 @@ pub fn standing_laws()
     ensures events { (setup : Setup) (hs : List Happening) → Stands setup hs }
     ensures generations { (setup : Setup) (hs : List Happening) → KeepsGenerations setup hs }
     // Where no daemon is told a view by hand, each look is at what the daemon fetched last, since it began anew.
-    ensures looks { (setup : Setup) (hs : List Happening) → AllByRecursion (λ h. IsNoLook h.input) hs → LooksLast (journal_since setup hs) }
+    ensures looks { (setup : Setup) (hs : List Happening) → AreUntold hs → LooksLast (journal_since setup hs) }
     // So of the run of every schedule.
-    ensures schedules { (script : List Numbered) → LooksLast (run_journal script) }
+    ensures schedules { (handlers : Handlers) (script : List Numbered) → LooksLast (run_journal handlers script) }
 {}
 
 /// Where nothing opens under a key that didn't seal it and no draw repeats, the journal keeps its laws, with daemons that fetch and guests that come to them: each session that is
@@ -46,8 +44,11 @@ pub fn journal_laws()
     ensures events { (has_handler : Access → Bool) (setup : Setup) (hs : List Happening) → MayHappen setup hs → AreUnvisited hs
         → IsSound (leaked_of setup) (log_since setup hs) → IsFresh (log_since setup hs) → KeepsLaws has_handler (journal_since setup hs) }
     // So of the run of every schedule in which no breach of the two premises is found.
-    ensures schedules { (has_handler : Access → Bool) (bytes : List ℕ) (script : List Numbered) → Lines bytes script → IsFoundOf script None
-        → KeepsLaws has_handler (run_journal script) × KeepsExpiry (run_journal script) }
+    ensures schedules { (handlers : Handlers) (bytes : List ℕ) (script : List Numbered) → Lines bytes script → IsFoundOf handlers script None
+        → KeepsTickets (run_journal handlers script) }
+    // All laws of each of these in which no client is told to connect and no session is dropped.
+    ensures unvisited { (handlers : Handlers) (has_handler : Access → Bool) (bytes : List ℕ) (script : List Numbered) → Lines bytes script
+        → has_session_line script ≡ false → IsFoundOf handlers script None → KeepsLaws has_handler (run_journal handlers script) }
 {}
 
 /// There, too, the proof that was found equal on the link on which a ticket was issued was signed before by the entity's own node, where the entity isn't
@@ -57,7 +58,8 @@ pub fn login_laws()
     ensures events { (setup : Setup) (hs : List Happening) → MayHappen setup hs
         → IsSound (leaked_of setup) (log_since setup hs) → IsFresh (log_since setup hs) → LogIn setup (points setup hs) }
     // So of the run of every schedule in which no breach of the two premises is found.
-    ensures schedules { (bytes : List ℕ) (script : List Numbered) → Lines bytes script → IsFoundOf script None → LogIn (setup_of script) (points (setup_of script) (trace script)) }
+    ensures schedules { (handlers : Handlers) (bytes : List ℕ) (script : List Numbered) → Lines bytes script → IsFoundOf handlers script None
+        → LogIn (setup_of handlers script) (points (setup_of handlers script) (trace handlers script)) }
 {}
 
 /// There, too, each session that is admitted or resumed goes back: to the authorizer that was judged on its very link, at the reading that the session has, by a look that lists the
@@ -68,5 +70,6 @@ pub fn origin_laws()
     ensures events { (setup : Setup) (hs : List Happening) → MayHappen setup hs
         → IsSound (leaked_of setup) (log_since setup hs) → IsFresh (log_since setup hs) → GoBack setup (points setup hs) }
     // So of the run of every schedule in which no breach of the two premises is found.
-    ensures schedules { (bytes : List ℕ) (script : List Numbered) → Lines bytes script → IsFoundOf script None → GoBack (setup_of script) (points (setup_of script) (trace script)) }
+    ensures schedules { (handlers : Handlers) (bytes : List ℕ) (script : List Numbered) → Lines bytes script → IsFoundOf handlers script None
+        → GoBack (setup_of handlers script) (points (setup_of handlers script) (trace handlers script)) }
 {}

@@ -1,70 +1,82 @@
 -- A client saves nothing.
-use Rattle.std.proofs.Common.{◌≡◌, ℕ, List, Option, Some, None, refl}
-use Rattle.cx_rules.specs.ClientRule as client
-use Rattle.cx_rules.specs.ClientRule.{Client, ClientNode, client_rule}
+use Rattle.std.proofs.Common.{◌≡◌, ℕ, List, [], Some, None, Result, Ok, Err, refl}
+use Rattle.cx_base.specs.Names.{Name}
+use Rattle.cx_base.specs.declared.operations.Operation.{Operation}
+use Rattle.cx_journal.specs.declared.faults.BytesFault.{BytesFault}
 use Rattle.cx_rules.specs.Connector as connector
-use Rattle.cx_rules.specs.Connector.{Stage}
 use Rattle.cx_rules.specs.Holdings.{Asker}
-use Rattle.cx_rules.specs.Inputs.{Input, Opened, NoLink, Bytes, Turn, Gone, Look, Tick, Submit, Restart}
-use Rattle.cx_rules.specs.Links.{Link, link_of}
-use Rattle.cx_rules.specs.Requests.{Requests, first_open, sealed_request}
-use Rattle.cx_rules.specs.Rows.{Arrival, Turned, Waits, Refuses, Handles, arrival, fed, lifted_turn, turns}
-use Rattle.cx_rules.specs.Secured.{Secured}
+use Rattle.cx_rules.specs.Inputs.{Input}
+use Rattle.cx_rules.specs.Links.{Link}
+use Rattle.cx_rules.specs.Requests.{sealed_request}
+use Rattle.cx_rules.specs.Rows.{Outcome, Turned, Waits, Refuses, Handles, arrival, secure_sent, turns}
+use Rattle.cx_rules.specs.Secured.{SealedFrame, Secured, secure_frame}
 use Rattle.cx_rules.specs.declared.requests.Want.TheVariants.{Tickets}
+use Rattle.cx_rules_session.specs.ClientRule.{ClientStage, ToMonitor, ToDaemon, WholeClientNode, caller_to, having_session, me, open_to_ask, whole_client_rule, with_asker, with_caller}
+use Rattle.cx_rules_session.specs.Kinds.{arrival_in, turn_of_kind}
+use Rattle.cx_rules_session.specs.Presenter as call
+use Rattle.cx_rules_session.specs.Presenter.{CallStage, Caller, callee_of}
+use Rattle.cx_rules_session.specs.Sessions.{Callee, HeldSession, operation_message}
 use Rattle.cx_run.proofs.Taking.{EachRow}
-use Rattle.cx_steps.specs.declared.events.Command.{Command}
-use Rattle.cx_steps.specs.declared.events.Command.TheVariants as command
-use Rattle.cx_steps.specs.declared.events.Peer.{Peer}
-use Rattle.cx_steps.specs.declared.events.Peer.TheVariants as peer
+use Rattle.cx_session.specs.Queue.{pushed}
 use Rattle.cx_wire.specs.declared.bodies.Request.TheVariants as asked
+use Rattle.cx_run.proofs.CallKeeps.{Leaves, call-takes}
+use Rattle.cx_run.proofs.Outcomes.{EachOutcome, asker_turn, call_turn, on_link, sent_in, step-keeps}
 use Rattle.cx_laws_saving.proofs.AskerSaves.{asker-none, fetch-none}
 use Rattle.cx_laws_saving.proofs.GuestSaves.{SavesNone}
 
-module _ (c : ClientNode) where
-  turned-by-none : (a : Arrival Client Stage) (t : Turned Asker Stage) → EachRow SavesNone t → (turns c a (lifted_turn (client.with_asker c.own) t)).out.save ≡ None
-  turned-by-none a Waits h = refl
-  turned-by-none a (Refuses why opened) h = refl
-  turned-by-none a (Handles row) h = h
+module _ (c : WholeClientNode) (reading : ℕ) (draw : List ℕ) where
+  abbrev KeepsNone : Outcome WholeClientNode → Type 0
+  KeepsNone o = o.out.save ≡ None
 
-  turn-none : (reading : ℕ) (draw : List ℕ) (found : Option (Link Stage)) → (client.turn c reading draw found).out.save ≡ None
-  turn-none reading draw None = refl
-  turn-none reading draw (Some link) =
-      let a = arrival (client.me c.own) c.own.asker link reading draw in
-      turned-by-none (arrival (client.me c.own) c.own link reading draw) (connector.turned_at a link.stage) (asker-none a link.stage)
+  asks-none : (link : Link ClientStage) (stage : connector.Stage) → KeepsNone (asker_turn c reading draw link stage)
+  asks-none link stage =
+      let a = arrival_in (on_link c reading draw link) c.own.asker stage in by_turned (connector.turned_at a stage) (asker-none a stage)
+    where
+      by_turned : (t : Turned Asker connector.Stage) → EachRow SavesNone t → KeepsNone (turns c (on_link c reading draw link) (turn_of_kind (with_asker c.own) ToMonitor t))
+      by_turned Waits h = refl
+      by_turned (Refuses why opened) h = refl
+      by_turned (Handles row) h = h
 
-  begins-none : (reading : ℕ) (draw : List ℕ) (number : ℕ) (to : Option Peer) → (client.opens c reading draw number to).out.save ≡ None
-  begins-none reading draw number None = refl
-  begins-none reading draw number (Some (peer.Daemon daemon)) = refl
-  begins-none reading draw number (Some peer.Monitor) = refl
+  presents-none : (link : Link ClientStage) (stage : CallStage) → KeepsNone (call_turn c reading draw link stage)
+  presents-none link stage =
+      let daemon : Name = (callee_of stage).daemon in
+      let a = arrival_in (on_link c reading draw link) (caller_to daemon c.own) stage in
+      by_turned daemon (call.turned_at a stage) (call-takes a stage).leaves
+    where
+      by_turned : (daemon : Name) (t : Turned Caller CallStage) → EachRow (Leaves c.own.asker) t
+          → KeepsNone (turns c (on_link c reading draw link) (turn_of_kind (with_caller daemon c.own) ToDaemon t))
+      by_turned daemon Waits h = refl
+      by_turned daemon (Refuses why opened) h = refl
+      by_turned daemon (Handles row) h = h.saves_none
 
-  bytes-none : (bytes : List ℕ) (found : Option (Link Stage)) → (fed c bytes found).out.save ≡ None
-  bytes-none bytes None = refl
-  bytes-none bytes (Some link) = refl
+  sends-none : (session : HeldSession) (operation : Operation) (seq : ℕ) (link : Link ClientStage) (s : Secured) (callee : Callee) (cookie : ℕ)
+      → KeepsNone (sent_in c reading draw session operation seq (Some (link, (s, (callee, cookie)))))
+  sends-none session operation seq link s callee cookie = by_sent (secure_frame s.keys (operation_message (seq, operation)))
+    where
+      by_sent : (made : Result SealedFrame BytesFault) →
+          let m : WholeClientNode = having_session c (record session { queue = pushed session.queue operation }) in
+          (secure_sent (arrival (me m.own) m.own link reading draw) s (λ behind. ToDaemon (call.Open behind callee cookie)) [] made).save ≡ None
+      by_sent (Ok sealed) = refl
+      by_sent (Err why) = refl
 
-  loses-none : (found : Option (Link Stage)) → (client.loses c found).out.save ≡ None
-  loses-none None = refl
-  loses-none (Some link) = refl
+  each-none : (input : Input) → EachOutcome c reading draw input KeepsNone
+  each-none input = record {
+    idle = refl;
+    comes = λ number link bytes is. refl;
+    asks = λ number link stage is of. asks-none link stage;
+    presents = λ number link stage is of. presents-none link stage;
+    refuses = λ why told. refl;
+    begins = λ number to dial is. refl;
+    reaches_none = λ to. refl;
+    goes = λ number link is. refl;
+    logs = λ services. refl;
+    renews_there = λ services link s requests is.
+        fetch-none open_to_ask (arrival (me c.own) c.own.asker link reading draw) s requests Tickets (sealed_request s.keys requests (asked.Tickets services));
+    dials = λ daemon lossy held is of. refl;
+    sends_later = λ daemon session operation seq of. refl;
+    sends_there = λ daemon session operation seq link s callee cookie of is. sends-none session operation seq link s callee cookie;
+    restarts = refl;
+  }
 
-  renews-none : (services reading : ℕ) (draw : List ℕ) (found : Option (Link Stage × (Secured × Requests))) → (client.renews_on c services reading draw found).out.save ≡ None
-  renews-none services reading draw None = refl
-  renews-none services reading draw (Some (link, (s, requests))) =
-      fetch-none connector.Open (arrival (client.me c.own) c.own.asker link reading draw) s requests Tickets (sealed_request s.keys requests (asked.Tickets services))
-
-  submits-none : (reading : ℕ) (draw : List ℕ) (said : Command) → (client.submits c reading draw said).out.save ≡ None
-  submits-none reading draw (command.Login services) = refl
-  submits-none reading draw (command.Renew services) = renews-none services reading draw (first_open connector.kept_open c.links)
-  submits-none reading draw command.Fetch = refl
-  submits-none reading draw (command.Connect daemon lossy) = refl
-  submits-none reading draw (command.Send daemon operation) = refl
-  submits-none reading draw (command.Drop session) = refl
-
-pub client_saves_none : (c : ClientNode) (input : Input) (reading : ℕ) (draw : List ℕ) → (client_rule c input reading draw).out.save ≡ None
-client_saves_none c (Opened number to) reading draw = begins-none c reading draw number to
-client_saves_none c (NoLink to) reading draw = refl
-client_saves_none c (Bytes number bytes) reading draw = bytes-none c bytes (link_of number c.links)
-client_saves_none c (Turn number) reading draw = turn-none c reading draw (link_of number c.links)
-client_saves_none c (Gone number) reading draw = loses-none c (link_of number c.links)
-client_saves_none c (Submit said) reading draw = submits-none c reading draw said
-client_saves_none c Tick reading draw = refl
-client_saves_none c (Look view) reading draw = refl
-client_saves_none c Restart reading draw = refl
+pub client_saves_none : (c : WholeClientNode) (input : Input) (reading : ℕ) (draw : List ℕ) → (whole_client_rule c input reading draw).out.save ≡ None
+client_saves_none c input reading draw = step-keeps c reading draw (KeepsNone c reading draw) input (each-none c reading draw input)

@@ -1,5 +1,4 @@
 mod AskerSaves
-mod CallingSaves
 mod ClientSaves
 mod DaemonSaves
 mod GuestSaves

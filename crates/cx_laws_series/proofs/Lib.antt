@@ -1,1 +1,4 @@
 pub mod Series
+pub mod Contents
+pub mod Frames
+pub mod Fronts

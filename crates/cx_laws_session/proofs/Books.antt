@@ -1,17 +1,18 @@
 -- What a book of sessions answers, and which sessions live behind its calls.
-use Rattle.std.proofs.Common.{◌≡◌, ◌⊎◌, ◌+◌, ◌-◌, ◌^◌, ℕ, Bool, true, false, cond, List, [], ◌∷◌, filter, length, Option, Some, None, Ok, inl, inr, refl, sym, ap, ◌∙◌, eqb-true}
+use Rattle.std.proofs.Common.{◌≡◌, ◌⊎◌, ◌+◌, ◌-◌, ◌^◌, ℕ, Bool, true, false, cond, List, [], ◌∷◌, filter, length, Option, Some, None, Ok, inl, inr, arith, refl, sym, ap, ◌∙◌, eqb-true}
 use Rattle.std.specs.Prelude.{◌==◌, ◌&&◌, nat_le, nat_lt, not, if◌then◌else◌}
 use Rattle.std.specs.List.{AllByRecursion}
 use Rattle.std.proofs.lemmas.Bool.{and_parts, eqb-false}
+use Rattle.std.proofs.lemmas.Bool.Decides.{nat_tests}
 use Rattle.cx_authorize.specs.Daemon.{Authority}
 use Rattle.cx_base.specs.Names.{Name}
 use Rattle.cx_journal.specs.declared.entries.Admitted.{Admitted}
 use Rattle.cx_session.specs.Book.{Book, admission, admit_reply, admitted, changed, ended, opened, raised, renewed, resume_reply, resumption, same_owner, take_reply, taken, taking, with_client_cookie, with_cookies, with_number}
 use Rattle.cx_session.specs.declared.session.Session.{Session}
 use Rattle.cx_steps.specs.Onto.{SomeOf}
-use Rattle.cx_laws_session.proofs.Keeping.{same-book, same-self}
+use Rattle.cx_laws_session.proofs.Keeping.{same-book, same-lasts, same-self}
 use Rattle.cx_laws_session.proofs.Lists.{all-append, all-map, found-passes, found-some}
-use Rattle.cx_laws_session.proofs.Moves.{IsLive, IsRenewed, IsSame, LivesOn, SameBook, Tells}
+use Rattle.cx_laws_session.proofs.Moves.{IsLive, IsRenewed, IsSame, KeepsLast, LivesOn, SameBook, StillBook, Tells}
 
 -- ---- admissions
 
@@ -37,6 +38,14 @@ admitted-lives book owner client server global lossy a tells =
     let P : Session Authority → Type 0 = λ s. LivesOn book s ⊎ ((s.number ≡ book.next) × Tells a s) in
     all-append P book.live (opened book.next owner client server global lossy ∷ [])
     (all-map (LivesOn book) P (λ s lives. inl lives) book.live (same-book book).lives) (inr (refl, tells), tt)
+
+-- of that one nothing was taken
+pub admitted-lasts : (book : Book Authority) (owner : Authority) (client server global : ℕ) (lossy : Bool)
+    → AllByRecursion (λ (s : Session Authority). KeepsLast book s ⊎ ((s.number ≡ book.next) × (s.last ≡ 0))) (admitted book owner client server global lossy).live
+admitted-lasts book owner client server global lossy =
+    let P : Session Authority → Type 0 = λ s. KeepsLast book s ⊎ ((s.number ≡ book.next) × (s.last ≡ 0)) in
+    all-append P book.live (opened book.next owner client server global lossy ∷ [])
+    (all-map (KeepsLast book) P (λ s keeps. inl keeps) book.live (same-lasts book)) (inr (refl, refl), tt)
 
 -- ---- resumptions
 
@@ -107,23 +116,44 @@ module _ (book : Book Authority) (number : ℕ) (owner : Authority) (global conn
   pub resumed-lives : AllByRecursion IsBehind (changed number (renewed owner global connect) book.live)
   resumed-lives = changed-lives book.live (λ Q some. some)
 
+module _ (book : Book Authority) (number : ℕ) (owner : Authority) (global connect : ℕ) where
+  changed-lasts : (live : List (Session Authority)) → ((Q : Session Authority → Type 0) → SomeOf Q live → SomeOf Q book.live)
+      → AllByRecursion (KeepsLast book) (changed number (renewed owner global connect) live)
+  changed-lasts [] into = tt
+  changed-lasts (s ∷ live) into = (by_test (s.number == number), changed-lasts live (λ Q some. into Q (inr some)))
+    where
+      by_test : (t : Bool) → KeepsLast book (if t then renewed owner global connect s else s)
+      by_test true = into (λ (old : Session Authority). (s.number ≡ old.number) × (s.last ≡ old.last)) (inl (refl, refl))
+      by_test false = into (λ (old : Session Authority). (s.number ≡ old.number) × (s.last ≡ old.last)) (inl (refl, refl))
+
+  pub resumed-lasts : AllByRecursion (KeepsLast book) (changed number (renewed owner global connect) book.live)
+  resumed-lasts = changed-lasts book.live (λ Q some. some)
+
 -- ---- messages
 
--- a message is taken of a session that lives, under its epoch
-pub record IsTaken (book : Book Authority) (told under : ℕ) : Type 0 where
+-- a message is taken of a session that lives, under its epoch, behind the last one
+pub record IsTaken (book : Book Authority) (told under seq : ℕ) : Type 0 where
   pub live : Session Authority
   pub lives : IsLive book live
   pub number : live.number ≡ told
   pub epoch : live.epoch ≡ under
+  pub next : seq ≡ live.last + 1
 
 taking-epoch : (s : Session Authority) (epoch seq : ℕ) (u : Unit {0}) (same : Bool) → (s.epoch == epoch) ≡ same → taking (Some s) epoch seq ≡ Ok u → s.epoch ≡ epoch
 taking-epoch s epoch seq u true same is = eqb-true s.epoch epoch same
 taking-epoch s epoch seq u false same is = let bad = rw same at is in absurd cc
 
-pub take-given : (book : Book Authority) (number epoch seq : ℕ) (u : Unit {0}) → take_reply book number epoch seq ≡ Ok u → IsTaken book number epoch
+taking-next : (s : Session Authority) (epoch seq : ℕ) (u : Unit {0}) (same old gap : Bool) → (s.epoch == epoch) ≡ same → nat_le seq s.last ≡ old → nat_lt (s.last + 1) seq ≡ gap
+    → taking (Some s) epoch seq ≡ Ok u → seq ≡ s.last + 1
+taking-next s epoch seq u false old gap a b c is = let bad = rw a at is in absurd cc
+taking-next s epoch seq u true true gap a b c is = let bad = rw (a, b) at is in absurd cc
+taking-next s epoch seq u true false true a b c is = let bad = rw (a, b, c) at is in absurd cc
+taking-next s epoch seq u true false false a b c is = grind (arith, nat_tests)
+
+pub take-given : (book : Book Authority) (number epoch seq : ℕ) (u : Unit {0}) → take_reply book number epoch seq ≡ Ok u → IsTaken book number epoch seq
 take-given book number epoch seq u is = by_found (with_number number book.live) refl is
   where
-    by_found : (found : Option (Session Authority)) → with_number number book.live ≡ found → taking found epoch seq ≡ Ok u → IsTaken book number epoch
+    by_found : (found : Option (Session Authority)) → with_number number book.live ≡ found → taking found epoch seq ≡ Ok u → IsTaken book number epoch seq
     by_found None found bad = absurd cc
     by_found (Some s) found ok =
         let test : Session Authority → Bool = λ t. t.number == number in
@@ -132,6 +162,7 @@ take-given book number epoch seq u is = by_found (with_number number book.live) 
           lives = found-some (λ (t : Session Authority). t ≡ s) test book.live s found refl;
           number = eqb-true s.number number (found-passes test book.live s found);
           epoch = taking-epoch s epoch seq u (s.epoch == epoch) refl ok;
+          next = taking-next s epoch seq u (s.epoch == epoch) (nat_le seq s.last) (nat_lt (s.last + 1) seq) refl refl refl ok;
         }
 
 -- the sessions stay
@@ -147,6 +178,23 @@ module _ (book : Book Authority) (number seq : ℕ) where
 
   pub taken-same : SameBook book (taken book number seq)
   taken-same = record { next = refl; lives = raised-lives book.live (λ Q some. some) }
+
+  -- that message is the last one of each session of the number, and of the others the last one stays
+  abbrev IsRaised : Session Authority → Type 0
+  IsRaised s = ((number ≡ s.number → ⊥) × KeepsLast book s) ⊎ ((s.number ≡ number) × (s.last ≡ seq))
+
+  raised-lasts : (live : List (Session Authority)) → ((Q : Session Authority → Type 0) → SomeOf Q live → SomeOf Q book.live)
+      → AllByRecursion IsRaised (changed number (raised seq) live)
+  raised-lasts [] into = tt
+  raised-lasts (s ∷ live) into = (by_test (s.number == number) refl, raised-lasts live (λ Q some. into Q (inr some)))
+    where
+      by_test : (t : Bool) → (s.number == number) ≡ t → IsRaised (if t then raised seq s else s)
+      by_test true is = inr (eqb-true s.number number is, refl)
+      by_test false is =
+          inl (λ same. eqb-false s.number number is (sym same), into (λ (old : Session Authority). (s.number ≡ old.number) × (s.last ≡ old.last)) (inl (refl, refl)))
+
+  pub taken-lasts : AllByRecursion IsRaised (taken book number seq).live
+  taken-lasts = raised-lasts book.live (λ Q some. some)
 
 -- ---- ends
 
@@ -166,8 +214,24 @@ module _ (book : Book Authority) (number : ℕ) where
   pub ended-lives : AllByRecursion (λ (s : Session Authority). LivesOn book s × (number ≡ s.number → ⊥)) (ended book number).live
   ended-lives = left-lives book.live (λ Q some. some)
 
-  pub ended-same : SameBook book (ended book number)
-  ended-same = record {
-    next = refl;
-    lives = all-map (λ (s : Session Authority). LivesOn book s × (number ≡ s.number → ⊥)) (LivesOn book) (λ s both. both.0) (ended book number).live ended-lives;
-  }
+  left-lasts : (live : List (Session Authority)) → ((Q : Session Authority → Type 0) → SomeOf Q live → SomeOf Q book.live)
+      → AllByRecursion (KeepsLast book) (filter (λ s. not (s.number == number)) live)
+  left-lasts [] into = tt
+  left-lasts (s ∷ live) into = by_test (s.number == number) (left-lasts live (λ Q some. into Q (inr some)))
+    where
+      by_test : (t : Bool) → AllByRecursion (KeepsLast book) (filter (λ s. not (s.number == number)) live)
+          → AllByRecursion (KeepsLast book) (cond (not t) (s ∷ filter (λ s. not (s.number == number)) live) (filter (λ s. not (s.number == number)) live))
+      by_test true h = h
+      by_test false h = (into (λ (old : Session Authority). (s.number ≡ old.number) × (s.last ≡ old.last)) (inl (refl, refl)), h)
+
+  pub ended-lasts : AllByRecursion (KeepsLast book) (ended book number).live
+  ended-lasts = left-lasts book.live (λ Q some. some)
+
+  pub ended-still : StillBook book (ended book number)
+  ended-still = (
+    record {
+      next = refl;
+      lives = all-map (λ (s : Session Authority). LivesOn book s × (number ≡ s.number → ⊥)) (LivesOn book) (λ s both. both.0) (ended book number).live ended-lives;
+    },
+    ended-lasts,
+  )

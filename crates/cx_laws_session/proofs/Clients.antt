@@ -1,32 +1,36 @@
 -- What a client enters, whatever comes: nothing of a daemon's sessions; at most that it began anew.
-use Rattle.std.proofs.Common.{◌≡◌, ℕ, Bool, true, false, List, [], ◌∷◌, ◌++◌, Option, Some, None, refl, subst, sym}
+use Rattle.std.proofs.Common.{◌≡◌, ℕ, Bool, true, false, List, [], ◌∷◌, ◌++◌, Some, Result, Ok, Err, refl, ap, ◌∙◌, subst, sym}
 use Rattle.std.specs.Prelude.{if◌then◌else◌}
 use Rattle.std.specs.List.{AllByRecursion}
 use Rattle.cx_base.specs.Names.{Name}
 use Rattle.cx_base.specs.declared.nodes.NodeName.{NodeName}
+use Rattle.cx_base.specs.declared.nodes.NodeName.TheVariants as node
+use Rattle.cx_base.specs.declared.operations.Operation.{Operation}
 use Rattle.cx_desk.specs.Handlers.{Handlers}
 use Rattle.cx_journal.specs.Behind.{EachBehind}
 use Rattle.cx_journal.specs.Enforced.{IsEnforcedBy}
 use Rattle.cx_journal.specs.Nodes.{is_node_of}
 use Rattle.cx_journal.specs.declared.entries.Entry.{Entry}
 use Rattle.cx_journal.specs.declared.entries.Entry.TheVariants as entry
+use Rattle.cx_journal.specs.declared.faults.BytesFault.{BytesFault}
 use Rattle.cx_journal.specs.declared.outcomes.Reason.TheVariants.{Lost}
-use Rattle.cx_rules.specs.ClientRule as client
-use Rattle.cx_rules.specs.ClientRule.{Client, ClientNode, client_rule}
 use Rattle.cx_rules.specs.Connector as connector
-use Rattle.cx_rules.specs.Connector.{Stage}
 use Rattle.cx_rules.specs.Holdings.{Asker}
-use Rattle.cx_rules.specs.Inputs.{Input, Opened, NoLink, Bytes, Turn, Gone, Look, Tick, Submit, Restart}
-use Rattle.cx_rules.specs.Links.{Link, link_of}
-use Rattle.cx_rules.specs.Requests.{Requests, first_open, sealed_request}
-use Rattle.cx_rules.specs.Rows.{Arrival, Outcome, Turned, Waits, Refuses, Handles, arrival, fed, lifted_turn, refused_entry, turns}
-use Rattle.cx_rules.specs.Secured.{Secured}
+use Rattle.cx_rules.specs.Inputs.{Input}
+use Rattle.cx_rules.specs.Links.{Link}
+use Rattle.cx_rules.specs.Requests.{Requests, sealed_request, sends_request}
+use Rattle.cx_rules.specs.Rows.{Arrival, Outcome, Turned, Waits, Refuses, Handles, arrival, carried_out, refused_entry, secure_sent, turns}
+use Rattle.cx_rules.specs.Secured.{SealedFrame, Secured, secure_frame}
 use Rattle.cx_rules.specs.declared.requests.Want.TheVariants.{Tickets}
+use Rattle.cx_rules_session.specs.ClientRule.{ClientStage, ToMonitor, ToDaemon, WholeClientNode, caller_to, having_session, is_open, loses, me, open_to_ask, sent_entry, whole_client_rule, with_asker, with_caller}
+use Rattle.cx_rules_session.specs.Kinds.{arrival_in, entered_before, turn_of_kind}
+use Rattle.cx_rules_session.specs.Presenter as call
+use Rattle.cx_rules_session.specs.Presenter.{CallStage, Caller, callee_of}
+use Rattle.cx_rules_session.specs.Sessions.{Callee, HeldSession, operation_message}
+use Rattle.cx_run.proofs.CallKeeps.{IsCallEntry, Leaves, call-takes}
+use Rattle.cx_run.proofs.Outcomes.{EachOutcome, asker_turn, call_turn, on_link, renewed, sent_in, step-keeps}
 use Rattle.cx_run.proofs.Taking.{EachRow}
-use Rattle.cx_steps.specs.declared.events.Command.{Command}
-use Rattle.cx_steps.specs.declared.events.Command.TheVariants as command
-use Rattle.cx_steps.specs.declared.events.Peer.{Peer}
-use Rattle.cx_steps.specs.declared.events.Peer.TheVariants as peer
+use Rattle.cx_session.specs.Queue.{pushed}
 use Rattle.cx_wire.specs.declared.bodies.Request.TheVariants as asked
 use Rattle.cx_laws_session.specs.Serving.{serves}
 use Rattle.cx_laws_session.proofs.Askers.{EntersNone, asker-enters, fetch-enters}
@@ -36,11 +40,13 @@ use Rattle.cx_laws_session.proofs.Standing.{LeavesOf, turns_session}
 
 -- ---- of a node that has no sessions
 
--- the entry opens, ends and handles nothing, but that this node began anew
+-- the entry opens, ends and handles nothing, but that this node began anew; and what is sent and answered is so at this node
 abbrev pub IsMute : NodeName → Entry → Type 0
 IsMute who (entry.Admitted a) = ⊥
 IsMute who (entry.Resumed a) = ⊥
+IsMute who (entry.Sent s) = node.Entity s.client ≡ who
 IsMute who (entry.Handled h) = ⊥
+IsMute who (entry.Answered a) = node.Entity a.client ≡ who
 IsMute who (entry.Ended e) = ⊥
 IsMute who (entry.Restarted at) = at ≡ who
 IsMute who _ = Unit {0}
@@ -55,8 +61,8 @@ quiet-mute who (entry.Saved x) h = tt
 quiet-mute who (entry.Issued x) h = tt
 quiet-mute who (entry.Fetched x) h = tt
 quiet-mute who (entry.Looked x) h = tt
-quiet-mute who (entry.Sent x) h = tt
-quiet-mute who (entry.Answered x) h = tt
+quiet-mute who (entry.Sent x) h = absurd h
+quiet-mute who (entry.Answered x) h = absurd h
 quiet-mute who (entry.Refused x) h = tt
 quiet-mute who (entry.Broken x) h = tt
 quiet-mute who (entry.Leaked x) h = tt
@@ -91,61 +97,95 @@ mute-enforced handlers who (e ∷ es) J h = (one e h.0, mute-enforced handlers w
 
 -- ---- a client
 
-module _ (c : ClientNode) where
-  abbrev IsStill : Outcome ClientNode → Type 0
-  IsStill o = AllByRecursion IsQuiet o.out.entries
+-- what a link to a daemon enters is a refusal or an answer
+call-mute : (asker : Asker) (who : NodeName) → node.Entity asker.name ≡ who → (e : Entry) → IsCallEntry asker e → IsMute who e
+call-mute asker who own (entry.Refused x) h = tt
+call-mute asker who own (entry.Answered x) h = ap (λ (n : Name). node.Entity n) h ∙ own
+call-mute asker who own (entry.Admitted x) h = absurd h
+call-mute asker who own (entry.Resumed x) h = absurd h
+call-mute asker who own (entry.Handled x) h = absurd h
+call-mute asker who own (entry.Ended x) h = absurd h
+call-mute asker who own (entry.Restarted x) h = absurd h
+call-mute asker who own (entry.Saved x) h = absurd h
+call-mute asker who own (entry.Issued x) h = absurd h
+call-mute asker who own (entry.Fetched x) h = absurd h
+call-mute asker who own (entry.Looked x) h = absurd h
+call-mute asker who own (entry.Sent x) h = absurd h
+call-mute asker who own (entry.Broken x) h = absurd h
+call-mute asker who own (entry.Leaked x) h = absurd h
 
-  turned-by-enters : (a : Arrival Client Stage) (t : Turned Asker Stage) → EachRow EntersNone t → IsStill (turns c a (lifted_turn (client.with_asker c.own) t))
-  turned-by-enters a Waits h = tt
-  turned-by-enters a (Refuses why opened) h = (tt, tt)
-  turned-by-enters a (Handles row) h = h
+module _ (c : WholeClientNode) (reading : ℕ) (draw : List ℕ) where
+  abbrev AreMute : List Entry → Type 0
+  AreMute es = AllByRecursion (IsMute (me c.own)) es
 
-  turn-enters : (reading : ℕ) (draw : List ℕ) (found : Option (Link Stage)) → IsStill (client.turn c reading draw found)
-  turn-enters reading draw None = tt
-  turn-enters reading draw (Some link) =
-      let a = arrival (client.me c.own) c.own.asker link reading draw in
-      turned-by-enters (arrival (client.me c.own) c.own link reading draw) (connector.turned_at a link.stage) (asker-enters a link.stage)
+  abbrev EntersMute : Outcome WholeClientNode → Type 0
+  EntersMute o = AreMute o.out.entries
 
-  begins-enters : (reading : ℕ) (draw : List ℕ) (number : ℕ) (to : Option Peer) → IsStill (client.opens c reading draw number to)
-  begins-enters reading draw number None = tt
-  begins-enters reading draw number (Some (peer.Daemon daemon)) = tt
-  begins-enters reading draw number (Some peer.Monitor) = tt
+  quiet-all : (es : List Entry) → AllByRecursion IsQuiet es → AreMute es
+  quiet-all es h = all-map IsQuiet (IsMute (me c.own)) (quiet-mute (me c.own)) es h
 
-  bytes-enters : (bytes : List ℕ) (found : Option (Link Stage)) → IsStill (fed c bytes found)
-  bytes-enters bytes None = tt
-  bytes-enters bytes (Some link) = tt
-
-  loses-enters : (found : Option (Link Stage)) → IsStill (client.loses c found)
-  loses-enters None = tt
-  loses-enters (Some link) = by_test (connector.is_open link.stage)
+  asks-mute : (link : Link ClientStage) (stage : connector.Stage) → EntersMute (asker_turn c reading draw link stage)
+  asks-mute link stage =
+      let a = arrival_in (on_link c reading draw link) c.own.asker stage in by_turned (connector.turned_at a stage) (asker-enters a stage)
     where
-      by_test : (open_ : Bool) → AllByRecursion IsQuiet (if open_ then [] else refused_entry (client.me c.own) link.number Lost ∷ [])
+      by_turned : (t : Turned Asker connector.Stage) → EachRow EntersNone t → EntersMute (turns c (on_link c reading draw link) (turn_of_kind (with_asker c.own) ToMonitor t))
+      by_turned Waits h = tt
+      by_turned (Refuses why opened) h = (tt, tt)
+      by_turned (Handles row) h = quiet-all row.entries h
+
+  presents-mute : (link : Link ClientStage) (stage : CallStage) → EntersMute (call_turn c reading draw link stage)
+  presents-mute link stage =
+      let daemon : Name = (callee_of stage).daemon in
+      let a = arrival_in (on_link c reading draw link) (caller_to daemon c.own) stage in
+      by_turned daemon (call.turned_at a stage) (call-takes a stage).leaves
+    where
+      by_turned : (daemon : Name) (t : Turned Caller CallStage) → EachRow (Leaves c.own.asker) t
+          → EntersMute (turns c (on_link c reading draw link) (turn_of_kind (with_caller daemon c.own) ToDaemon t))
+      by_turned daemon Waits h = tt
+      by_turned daemon (Refuses why opened) h = (tt, tt)
+      by_turned daemon (Handles row) h = all-map (IsCallEntry c.own.asker) (IsMute (me c.own)) (call-mute c.own.asker (me c.own) refl) row.entries h.enters
+
+  goes-mute : (link : Link ClientStage) → EntersMute (loses c (Some link))
+  goes-mute link = by_test (is_open link.stage)
+    where
+      by_test : (open_ : Bool) → AreMute (if open_ then [] else refused_entry (me c.own) link.number Lost ∷ [])
       by_test true = tt
       by_test false = (tt, tt)
 
-  renews-enters : (services reading : ℕ) (draw : List ℕ) (found : Option (Link Stage × (Secured × Requests))) → IsStill (client.renews_on c services reading draw found)
-  renews-enters services reading draw None = (tt, tt)
-  renews-enters services reading draw (Some (link, (s, requests))) =
-      fetch-enters connector.Open (arrival (client.me c.own) c.own.asker link reading draw) s requests Tickets (sealed_request s.keys requests (asked.Tickets services))
+  renews-mute : (services : ℕ) (link : Link ClientStage) (s : Secured) (requests : Requests) → EntersMute (renewed c reading draw services link s requests)
+  renews-mute services link s requests =
+      let a : Arrival Asker ClientStage = arrival (me c.own) c.own.asker link reading draw in
+      let sealed = sealed_request s.keys requests (asked.Tickets services) in
+      quiet-all (sends_request open_to_ask a s requests Tickets sealed).entries (fetch-enters open_to_ask a s requests Tickets sealed)
 
-  submits-enters : (reading : ℕ) (draw : List ℕ) (said : Command) → IsStill (client.submits c reading draw said)
-  submits-enters reading draw (command.Login services) = tt
-  submits-enters reading draw (command.Renew services) = renews-enters services reading draw (first_open connector.kept_open c.links)
-  submits-enters reading draw command.Fetch = tt
-  submits-enters reading draw (command.Connect daemon lossy) = tt
-  submits-enters reading draw (command.Send daemon operation) = tt
-  submits-enters reading draw (command.Drop session) = tt
+  sends-mute : (session : HeldSession) (operation : Operation) (seq : ℕ) (link : Link ClientStage) (s : Secured) (callee : Callee) (cookie : ℕ)
+      → EntersMute (sent_in c reading draw session operation seq (Some (link, (s, (callee, cookie)))))
+  sends-mute session operation seq link s callee cookie = by_sent (secure_frame s.keys (operation_message (seq, operation)))
+    where
+      by_sent : (made : Result SealedFrame BytesFault) →
+          let m : WholeClientNode = having_session c (record session { queue = pushed session.queue operation }) in
+          EntersMute (carried_out m link.number false (entered_before (sent_entry c.own session seq operation)
+          (secure_sent (arrival (me m.own) m.own link reading draw) s (λ behind. ToDaemon (call.Open behind callee cookie)) [] made)))
+      by_sent (Ok sealed) = (refl, tt)
+      by_sent (Err why) = (refl, (tt, tt))
 
-  still-mute : (o : Outcome ClientNode) → IsStill o → AllByRecursion (IsMute (client.me c.own)) o.out.entries
-  still-mute o h = all-map IsQuiet (IsMute (client.me c.own)) (quiet-mute (client.me c.own)) o.out.entries h
+  each-mute : (input : Input) → EachOutcome c reading draw input EntersMute
+  each-mute input = record {
+    idle = tt;
+    comes = λ number link bytes is. tt;
+    asks = λ number link stage is of. asks-mute link stage;
+    presents = λ number link stage is of. presents-mute link stage;
+    refuses = λ why told. (tt, tt);
+    begins = λ number to dial is. tt;
+    reaches_none = λ to. (tt, tt);
+    goes = λ number link is. goes-mute link;
+    logs = λ services. tt;
+    renews_there = λ services link s requests is. renews-mute services link s requests;
+    dials = λ daemon lossy held is of. tt;
+    sends_later = λ daemon session operation seq of. (refl, tt);
+    sends_there = λ daemon session operation seq link s callee cookie of is. sends-mute session operation seq link s callee cookie;
+    restarts = (refl, tt);
+  }
 
-  pub client-mute : (input : Input) (reading : ℕ) (draw : List ℕ) → AllByRecursion (IsMute (client.me c.own)) (client_rule c input reading draw).out.entries
-  client-mute (Opened number to) reading draw = still-mute (client.opens c reading draw number to) (begins-enters reading draw number to)
-  client-mute (NoLink to) reading draw = (tt, tt)
-  client-mute (Bytes number bytes) reading draw = still-mute (fed c bytes (link_of number c.links)) (bytes-enters bytes (link_of number c.links))
-  client-mute (Turn number) reading draw = still-mute (client.turn c reading draw (link_of number c.links)) (turn-enters reading draw (link_of number c.links))
-  client-mute (Gone number) reading draw = still-mute (client.loses c (link_of number c.links)) (loses-enters (link_of number c.links))
-  client-mute (Submit said) reading draw = still-mute (client.submits c reading draw said) (submits-enters reading draw said)
-  client-mute Tick reading draw = tt
-  client-mute (Look view) reading draw = tt
-  client-mute Restart reading draw = (refl, tt)
+pub client-mute : (c : WholeClientNode) (input : Input) (reading : ℕ) (draw : List ℕ) → AllByRecursion (IsMute (me c.own)) (whole_client_rule c input reading draw).out.entries
+client-mute c input reading draw = step-keeps c reading draw (EntersMute c reading draw) input (each-mute c reading draw input)

@@ -34,11 +34,11 @@ use Rattle.cx_steps.specs.declared.events.Peer.TheVariants as peer
 use Rattle.cx_wire.specs.declared.bodies.Request.TheVariants as asked
 use Rattle.cx_run.proofs.Taking.{EachRow}
 use Rattle.cx_laws_session.proofs.Askers.{EntersNone, asker-enters, fetch-enters}
-use Rattle.cx_laws_session.proofs.Books.{ended-lives, ended-same}
+use Rattle.cx_laws_session.proofs.Books.{ended-lasts, ended-lives, ended-still}
 use Rattle.cx_laws_session.proofs.Guests.{HostedComes, TurnComes, guest-comes, with-map}
-use Rattle.cx_laws_session.proofs.Keeping.{same-book}
+use Rattle.cx_laws_session.proofs.Keeping.{still-book}
 use Rattle.cx_laws_session.proofs.Lists.{all-map, found-some, some-either, some-filtered}
-use Rattle.cx_laws_session.proofs.Moves.{Comes, Ending, HasServed, IsQuiet, IsRight, LinkServes, LinksServe, Rested, SameBook, StageServed, StepComes, quiet-right, row-comes}
+use Rattle.cx_laws_session.proofs.Moves.{Comes, Ending, HasServed, IsQuiet, IsRight, LinkServes, LinksServe, Rested, StageServed, StepComes, StillBook, quiet-right, row-comes}
 
 -- ---- links
 
@@ -95,12 +95,17 @@ module _ (handlers : Handlers) (d : DaemonState) where
   abbrev IsStill : Outcome DaemonNode → Type 0
   IsStill o = AllByRecursion IsQuiet o.out.entries × ((x : Served) → LinksServe o.state.links x → had x)
 
-  still-becomes : (new : Book Authority) → SameBook d.book new → (o : Outcome DaemonNode) → IsStill o → Becomes (o, new)
+  still-becomes : (new : Book Authority) → StillBook d.book new → (o : Outcome DaemonNode) → IsStill o → Becomes (o, new)
   still-becomes new same o h =
-      Rested (record { book_is = same; keeps = h.1; right = all-map IsQuiet (IsRight handlers name d.book had) (quiet-right handlers name d.book had) o.out.entries h.0 })
+      Rested (record {
+        book_is = same.0;
+        keeps = h.1;
+        right = all-map IsQuiet (IsRight handlers name d.book had) (quiet-right handlers name d.book had) o.out.entries h.0;
+        takes = inl (record { quiet = h.0; lasts = same.1 });
+      })
 
   rests : (o : Outcome DaemonNode) → IsStill o → Becomes (o, d.book)
-  rests o h = still-becomes d.book (same-book d.book) o h
+  rests o h = still-becomes d.book (still-book d.book) o h
 
   idle : IsStill (idles d.node)
   idle = (tt, λ x h. h)
@@ -204,8 +209,8 @@ module _ (handlers : Handlers) (d : DaemonState) where
   -- the book is asked to end a session
   ended-becomes : (number session : ℕ) (lived : Bool) → Becomes (with_book book_reply book_after (ended d.book session) (lossy_gone d.node number session (reply.Ended lived)))
   ended-becomes number session true =
-      Ending (record { number = session; entries_are = refl; next = refl; lives = ended-lives d.book session; keeps = forgotten-serves number })
-  ended-becomes number session false = still-becomes (ended d.book session) (ended-same d.book session) (idles (forgotten d.node number)) (tt, forgotten-serves number)
+      Ending (record { number = session; entries_are = refl; next = refl; lives = ended-lives d.book session; lasts = ended-lasts d.book session; keeps = forgotten-serves number })
+  ended-becomes number session false = still-becomes (ended d.book session) (ended-still d.book session) (idles (forgotten d.node number)) (tt, forgotten-serves number)
 
   forgets : (number : ℕ) → Becomes (idles (forgotten d.node number), d.book)
   forgets number = rests (idles (forgotten d.node number)) (tt, forgotten-serves number)
@@ -274,9 +279,10 @@ module _ (handlers : Handlers) (d : DaemonState) where
         entries_are = refl;
         next = refl;
         lives = ended-lives d.book session;
+        lasts = ended-lasts d.book session;
         keeps = λ x left. some-filtered (λ (l : Link DaemonStage). StageServed l.stage x) (λ (l : Link DaemonStage). not (is_in session l.stage)) d.node.links left;
       })
-  dropped-becomes session false = still-becomes (ended d.book session) (ended-same d.book session) (idles d.node) idle
+  dropped-becomes session false = still-becomes (ended d.book session) (ended-still d.book session) (idles d.node) idle
 
   submits-becomes : (reading : ℕ) (draw : List ℕ) (said : Command) → Decides (submits d.node reading draw said)
   submits-becomes reading draw command.Fetch = rests (fetches d.node reading draw) (fetches-still reading draw)

@@ -1,5 +1,5 @@
 -- What each turn of a guest's link comes to for a daemon's sessions, with the replies of its book.
-use Rattle.std.proofs.Common.{◌≡◌, ℕ, ◌==◌, Bool, true, false, List, [], ◌∷◌, ◌++◌, Result, Ok, Err, inr, refl, subst, sym}
+use Rattle.std.proofs.Common.{◌≡◌, ℕ, ◌==◌, Bool, true, false, List, [], ◌∷◌, ◌++◌, Result, Ok, Err, inl, inr, refl, subst, sym}
 use Rattle.std.specs.Prelude.{not, if◌then◌else◌}
 use Rattle.std.specs.List.{AllByRecursion, list_any}
 use Rattle.cx_authorize.specs.Daemon.{Authority, Awaited}
@@ -63,10 +63,10 @@ use Rattle.cx_steps.specs.declared.seals.DrawMark.TheVariants as draw
 use Rattle.cx_steps.specs.declared.seals.SealEntry.{SealEntry}
 use Rattle.cx_steps.specs.declared.seals.SealEntry.TheVariants.{Drawn}
 use Rattle.cx_run.proofs.Taking.{EachRow, each-turned}
-use Rattle.cx_laws_session.proofs.Books.{admit-given, admitted-lives, resume-given, resumed-lives, take-given, taken-same}
-use Rattle.cx_laws_session.proofs.Keeping.{same-book}
+use Rattle.cx_laws_session.proofs.Books.{admit-given, admitted-lasts, admitted-lives, resume-given, resumed-lasts, resumed-lives, take-given, taken-lasts, taken-same}
+use Rattle.cx_laws_session.proofs.Keeping.{still-book}
 use Rattle.cx_laws_session.proofs.Lists.{all-map}
-use Rattle.cx_laws_session.proofs.Moves.{Admitting, Comes, HasServed, IsQuiet, IsRight, IsServedAs, LinkServes, Rested, Resuming, SameBook, quiet-right}
+use Rattle.cx_laws_session.proofs.Moves.{Admitting, Comes, HasServed, IsQuiet, IsRight, IsServedAs, LinkServes, Rested, Resuming, StillBook, quiet-right}
 
 -- ---- rows
 
@@ -161,8 +161,8 @@ signature-bare a s owner (Ok found) = by_test (is_signed s found.signature)
 -- ---- with a book
 
 abbrev pub TurnComes : Handlers → Name → Book Authority → (Served → Type 0) → Turned Asker GuestStage → Book Authority → Type 0
-TurnComes handlers name book had Waits new = SameBook book new
-TurnComes handlers name book had (Refuses why opened) new = SameBook book new
+TurnComes handlers name book had Waits new = StillBook book new
+TurnComes handlers name book had (Refuses why opened) new = StillBook book new
 TurnComes handlers name book had (Handles row) new = Comes handlers name book had (LinkServes row.link) row.entries new
 
 abbrev pub HostedComes : Handlers → Name → Book Authority → (Served → Type 0) → Hosted × Book Authority → Type 0
@@ -179,14 +179,19 @@ module _ (handlers : Handlers) (name : Name) (book : Book Authority) (had : Serv
   RuleComes rule = HostedComes handlers name book had (with_book book_reply book_after book rule)
 
   -- a row that opens and ends no session
-  still-comes : (new : Book Authority) → SameBook book new → (row : GuestRow) → StillRow had row → TurnComes handlers name book had (Handles row) new
+  still-comes : (new : Book Authority) → StillBook book new → (row : GuestRow) → StillRow had row → TurnComes handlers name book had (Handles row) new
   still-comes new same row h =
-      Rested (record { book_is = same; keeps = h.1; right = all-map IsQuiet (IsRight handlers name book had) (quiet-right handlers name book had) row.entries h.0 })
+      Rested (record {
+        book_is = same.0;
+        keeps = h.1;
+        right = all-map IsQuiet (IsRight handlers name book had) (quiet-right handlers name book had) row.entries h.0;
+        takes = inl (record { quiet = h.0; lasts = same.1 });
+      })
 
   each-comes : (turned : Turned Asker GuestStage) → EachRow (StillRow had) turned → TurnComes handlers name book had turned book
-  each-comes Waits h = same-book book
-  each-comes (Refuses why opened) h = same-book book
-  each-comes (Handles row) h = still-comes book (same-book book) row h
+  each-comes Waits h = still-book book
+  each-comes (Refuses why opened) h = still-book book
+  each-comes (Handles row) h = still-comes book (still-book book) row h
 
   behind-comes : (opened : List SealEntry) (p : Hosted × Book Authority) → HostedComes handlers name book had p → HostedComes handlers name book had (hosted_behind opened p.0, p.1)
   behind-comes opened (hosted, new) = by_turned hosted.turned
@@ -197,8 +202,8 @@ module _ (handlers : Handlers) (name : Name) (book : Book Authority) (had : Serv
       by_turned (Handles row) h = h
 
   decided-comes : {X : Type 0} (decide : X → Deciding Hosted) → ((x : X) → RuleComes (decide x)) → (front : Front X) → RuleComes (decided_by decide front)
-  decided-comes decide each NotYet = same-book book
-  decided-comes decide each (Broken why opened) = same-book book
+  decided-comes decide each NotYet = still-book book
+  decided-comes decide each (Broken why opened) = still-book book
   decided-comes decide each (Next x opened) =
       subst (HostedComes handlers name book had) (sym (with-map (hosted_behind opened) book (decide x)))
       (behind-comes opened (with_book book_reply book_after book (decide x)) (each x))
@@ -216,7 +221,7 @@ module _ (handlers : Handlers) (book : Book Authority) (a : GuestArrival) (s : S
   Decides rule = Becomes (with_book book_reply book_after book rule)
 
   bare-comes : (row : GuestRow) → IsBare row → TurnComes handlers a.own.name book none_had (Handles row) book
-  bare-comes row h = still-comes handlers a.own.name book none_had book (same-book book) row h
+  bare-comes row h = still-comes handlers a.own.name book none_had book (still-book book) row h
 
   refused-comes : (why : Reason) (seals : List SealEntry) → TurnComes handlers a.own.name book none_had (Handles (refuses a why seals)) book
   refused-comes why seals = bare-comes (refuses a why seals) ((tt, tt), λ x here. absurd here)
@@ -249,6 +254,7 @@ module _ (handlers : Handlers) (book : Book Authority) (a : GuestArrival) (s : S
           next = refl;
           lives = admitted-lives book owner ident.cookie (cookie_of a.draw) ident.global_seq (is_lossy ident.flags) (admission_of a owner number epoch ident.cookie)
               (record { epoch = first; cookie = refl; entity = refl; gid = refl; caps = refl });
+          lasts = admitted-lasts book owner ident.cookie (cookie_of a.draw) ident.global_seq (is_lossy ident.flags);
           keeps = λ x here. inr (is-served number epoch ident.cookie (is_lossy ident.flags) x (h.1 x here));
         })
 
@@ -261,7 +267,7 @@ module _ (handlers : Handlers) (book : Book Authority) (a : GuestArrival) (s : S
         by_reply (Err (admit.CookieInUse number)) is = refused-comes (reason.Session (session.CookieInUse number)) (cookie_drawn a ∷ [])
         by_reply (Err (admit.BookFull limit)) is = refused-comes (reason.Session session.BookFull) (cookie_drawn a ∷ [])
         by_reply (Err admit.Spent) is = refused-comes reason.Spent (cookie_drawn a ∷ [])
-        by_reply (Err admit.OutOfMemory) is = same-book book
+        by_reply (Err admit.OutOfMemory) is = still-book book
 
   missing-comes : (features : ℕ) (r : Result SealedFrame BytesFault) → TurnComes handlers a.own.name book none_had (Handles (missing_told a features r)) book
   missing-comes features (Err why) = bare-comes (missing_told a features (Err why)) ((tt, tt), λ x here. absurd here)
@@ -301,6 +307,7 @@ module _ (handlers : Handlers) (book : Book Authority) (a : GuestArrival) (s : S
           epoch = g.epoch;
           next = refl;
           lives = resumed-lives book given.0 owner reconnect.global_seq reconnect.connect_seq (admission_of a owner given.0 given.1 reconnect.client_cookie) refl refl refl refl;
+          lasts = resumed-lasts book given.0 owner reconnect.global_seq reconnect.connect_seq;
           keeps = λ x here. inr (is-served given.0 given.1 reconnect.client_cookie given.3 x (h.1 x here));
         })
 
@@ -317,7 +324,7 @@ module _ (handlers : Handlers) (book : Book Authority) (a : GuestArrival) (s : S
         by_reply (Err (resume.StaleConnect kept)) is = told-comes (reason.Session (session.StaleConnect kept)) (session_retry kept)
         by_reply (Err (resume.StaleGlobal kept)) is = told-comes (reason.Session (session.StaleGlobal kept)) (session_retry_global kept)
         by_reply (Err resume.Spent) is = told-comes reason.Spent session_reset
-        by_reply (Err resume.OutOfMemory) is = same-book book
+        by_reply (Err resume.OutOfMemory) is = still-book book
 
   reconnect-comes : (read : Result SessionReconnect BytesFault) → Decides (on_reconnect a s owner read)
   reconnect-comes (Err why) = refused-comes (reason.Bytes why) []
@@ -345,7 +352,7 @@ module _ (handlers : Handlers) (book : Book Authority) (a : GuestArrival) (s : S
   DecidesOpen rule = BecomesOpen (with_book book_reply book_after book rule)
 
   open-comes : (row : GuestRow) → StillRow served_had row → TurnComes handlers a.own.name book served_had (Handles row) book
-  open-comes row h = still-comes handlers a.own.name book served_had book (same-book book) row h
+  open-comes row h = still-comes handlers a.own.name book served_had book (still-book book) row h
 
   shut-comes : (why : Reason) (seals : List SealEntry) → TurnComes handlers a.own.name book served_had (Handles (refuses a why seals)) book
   shut-comes why seals = open-comes (refuses a why seals) ((tt, tt), λ x here. absurd here)
@@ -379,6 +386,18 @@ module _ (handlers : Handlers) (book : Book Authority) (a : GuestArrival) (s : S
             },
             all-map IsQuiet (IsRight handlers a.own.name book served_had) (quiet-right handlers a.own.name book served_had) _ h.0,
           );
+          takes = inr (record {
+            handled = _;
+            rest = _;
+            entries_are = refl;
+            quiet = h.0;
+            daemon = refl;
+            live = g.live;
+            lives = g.lives;
+            number = g.number;
+            seq = g.next;
+            lasts = taken-lasts book served.number i.seq;
+          });
         })
 
     untaken-comes : (why : TakeRefusal) → BecomesOpen (with_book book_reply book_after book (on_untaken a s served (refused_message why)))

@@ -25,7 +25,7 @@ use Rattle.cx_session.specs.declared.session.Session.{Session}
 use Rattle.cx_steps.specs.Onto.{SomeOf}
 use Rattle.cx_laws_session.specs.Serving.{serves}
 use Rattle.cx_laws_session.proofs.Lists.{all-map, all-self, some-of}
-use Rattle.cx_laws_session.proofs.Moves.{AdmitsOne, Admitting, Comes, EndsOne, Ending, IsHandledRight, IsLive, IsQuiet, IsRenewed, IsRight, IsSame, IsServedAs, LivesOn, Rested, Rests, ResumesOne, Resuming, SameBook, StepComes, Tells, quiet-leaves, right-leaves}
+use Rattle.cx_laws_session.proofs.Moves.{AdmitsOne, Admitting, Comes, EndsOne, Ending, IsHandledRight, IsLive, IsQuiet, IsRenewed, IsRight, IsSame, IsServedAs, KeepsLast, LivesOn, Rested, Rests, ResumesOne, Resuming, SameBook, StepComes, StillBook, Tells, quiet-leaves, right-leaves}
 use Rattle.cx_laws_session.proofs.Standing.{LeavesOf, elsewhere-turn, other-turn, own-turn, standing, standing-first, standing-handles, standing-still, turns_session}
 
 -- ---- what is so of a daemon
@@ -90,6 +90,12 @@ same-self s = record { number = refl; epoch = refl; cookie = refl; owner = refl 
 
 pub same-book : (book : Book Authority) → SameBook book book
 same-book book = record { next = refl; lives = all-self IsSame same-self book.live }
+
+pub same-lasts : (book : Book Authority) → AllByRecursion (KeepsLast book) book.live
+same-lasts book = all-self (λ (old new : Session Authority). (new.number ≡ old.number) × (new.last ≡ old.last)) (λ s. (refl, refl)) book.live
+
+pub still-book : (book : Book Authority) → StillBook book book
+still-book book = (same-book book, same-lasts book)
 
 -- entries that leave a daemon's sessions
 pub stands-still : (J es : List Entry) (name : Name) (book new : Book Authority) (had has : Served → Type 0) → AllByRecursion (LeavesOf name) es → SameBook book new

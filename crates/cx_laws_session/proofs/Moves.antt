@@ -56,6 +56,14 @@ pub record SameBook (book new : Book Authority) : Type 0 where
   pub next : new.next ≡ book.next
   pub lives : AllByRecursion (LivesOn book) new.live
 
+-- the last message that was taken of a session is that of the session of its number before
+abbrev pub KeepsLast : Book Authority → Session Authority → Type 0
+KeepsLast book new = SomeOf (λ (old : Session Authority). (new.number ≡ old.number) × (new.last ≡ old.last)) book.live
+
+-- the book is as before, also in what was taken last of each session
+abbrev pub StillBook : Book Authority → Book Authority → Type 0
+StillBook book new = SameBook book new × AllByRecursion (KeepsLast book) new.live
+
 -- it is one of the book's
 abbrev pub IsLive : Book Authority → Session Authority → Type 0
 IsLive book s = SomeOf (λ (t : Session Authority). t ≡ s) book.live
@@ -87,11 +95,13 @@ pub record IsRenewed (a : Admitted) (new old : Session Authority) : Type 0 where
 
 -- ---- entries
 
--- the entry opens, ends and handles nothing
+-- the entry opens, ends and handles nothing, and nothing is sent and answered
 abbrev pub IsQuiet : Entry → Type 0
 IsQuiet (entry.Admitted a) = ⊥
 IsQuiet (entry.Resumed a) = ⊥
+IsQuiet (entry.Sent s) = ⊥
 IsQuiet (entry.Handled h) = ⊥
+IsQuiet (entry.Answered a) = ⊥
 IsQuiet (entry.Ended e) = ⊥
 IsQuiet (entry.Restarted at) = ⊥
 IsQuiet _ = Unit {0}
@@ -110,10 +120,12 @@ pub record IsHandledRight (handlers : Handlers) (name : Name) (book : Book Autho
   pub cookie : handled.cookie ≡ served.cookie
   pub outcome : handled.outcome ≡ outcome_of handlers served.caps handled.operation
 
--- the entry opens and ends nothing, and what it handles is handled right
+-- the entry opens and ends nothing, nothing is sent and answered, and what it handles is handled right
 abbrev pub IsRight : Handlers → Name → Book Authority → (Served → Type 0) → Entry → Type 0
 IsRight handlers name book had (entry.Admitted a) = ⊥
 IsRight handlers name book had (entry.Resumed a) = ⊥
+IsRight handlers name book had (entry.Sent s) = ⊥
+IsRight handlers name book had (entry.Answered a) = ⊥
 IsRight handlers name book had (entry.Handled h) = IsHandledRight handlers name book had h
 IsRight handlers name book had (entry.Ended e) = ⊥
 IsRight handlers name book had (entry.Restarted at) = ⊥
@@ -129,8 +141,8 @@ quiet-right handlers name book had (entry.Saved x) h = tt
 quiet-right handlers name book had (entry.Issued x) h = tt
 quiet-right handlers name book had (entry.Fetched x) h = tt
 quiet-right handlers name book had (entry.Looked x) h = tt
-quiet-right handlers name book had (entry.Sent x) h = tt
-quiet-right handlers name book had (entry.Answered x) h = tt
+quiet-right handlers name book had (entry.Sent x) h = absurd h
+quiet-right handlers name book had (entry.Answered x) h = absurd h
 quiet-right handlers name book had (entry.Refused x) h = tt
 quiet-right handlers name book had (entry.Broken x) h = tt
 quiet-right handlers name book had (entry.Leaked x) h = tt
@@ -145,8 +157,8 @@ right-leaves handlers name book had (entry.Saved x) h = λ daemon number. refl
 right-leaves handlers name book had (entry.Issued x) h = λ daemon number. refl
 right-leaves handlers name book had (entry.Fetched x) h = λ daemon number. refl
 right-leaves handlers name book had (entry.Looked x) h = λ daemon number. refl
-right-leaves handlers name book had (entry.Sent x) h = λ daemon number. refl
-right-leaves handlers name book had (entry.Answered x) h = λ daemon number. refl
+right-leaves handlers name book had (entry.Sent x) h = absurd h
+right-leaves handlers name book had (entry.Answered x) h = absurd h
 right-leaves handlers name book had (entry.Refused x) h = λ daemon number. refl
 right-leaves handlers name book had (entry.Broken x) h = λ daemon number. refl
 right-leaves handlers name book had (entry.Leaked x) h = λ daemon number. refl
@@ -161,8 +173,8 @@ quiet-leaves (entry.Saved x) h = λ daemon number. refl
 quiet-leaves (entry.Issued x) h = λ daemon number. refl
 quiet-leaves (entry.Fetched x) h = λ daemon number. refl
 quiet-leaves (entry.Looked x) h = λ daemon number. refl
-quiet-leaves (entry.Sent x) h = λ daemon number. refl
-quiet-leaves (entry.Answered x) h = λ daemon number. refl
+quiet-leaves (entry.Sent x) h = absurd h
+quiet-leaves (entry.Answered x) h = absurd h
 quiet-leaves (entry.Refused x) h = λ daemon number. refl
 quiet-leaves (entry.Broken x) h = λ daemon number. refl
 quiet-leaves (entry.Leaked x) h = λ daemon number. refl
@@ -171,11 +183,30 @@ quiet-leaves (entry.Leaked x) h = λ daemon number. refl
 
 -- From this book, and from links that had what is kept of sessions, these entries are made, and another book and other links come of it.
 
+-- the operation of one message is handled, which comes behind the last one that was taken of its session
+pub record TakesOne (name : Name) (book : Book Authority) (es : List Entry) (new : Book Authority) : Type 0 where
+  pub handled : Handled
+  pub rest : List Entry
+  pub entries_are : es ≡ entry.Handled handled ∷ rest
+  pub quiet : AllByRecursion IsQuiet rest
+  pub daemon : handled.daemon ≡ name
+  pub live : Session Authority
+  pub lives : IsLive book live
+  pub number : live.number ≡ handled.session
+  pub seq : handled.seq ≡ live.last + 1
+  pub lasts : AllByRecursion (λ (s : Session Authority). ((handled.session ≡ s.number → ⊥) × KeepsLast book s) ⊎ ((s.number ≡ handled.session) × (s.last ≡ handled.seq))) new.live
+
+-- or none is
+pub record TakesNone (book : Book Authority) (es : List Entry) (new : Book Authority) : Type 0 where
+  pub quiet : AllByRecursion IsQuiet es
+  pub lasts : AllByRecursion (KeepsLast book) new.live
+
 -- no session is opened or ended
 pub record Rests (handlers : Handlers) (name : Name) (book : Book Authority) (had has : Served → Type 0) (es : List Entry) (new : Book Authority) : Type 0 where
   pub book_is : SameBook book new
   pub keeps : (x : Served) → has x → had x
   pub right : AllByRecursion (IsRight handlers name book had) es
+  pub takes : TakesNone book es new ⊎ TakesOne name book es new
 
 -- one is admitted under the next number
 pub record AdmitsOne (name : Name) (book : Book Authority) (had has : Served → Type 0) (es : List Entry) (new : Book Authority) : Type 0 where
@@ -187,6 +218,7 @@ pub record AdmitsOne (name : Name) (book : Book Authority) (had has : Served →
   pub session : admitted.session ≡ book.next
   pub next : new.next ≡ book.next + 1
   pub lives : AllByRecursion (λ (s : Session Authority). LivesOn book s ⊎ ((s.number ≡ book.next) × Tells admitted s)) new.live
+  pub lasts : AllByRecursion (λ (s : Session Authority). KeepsLast book s ⊎ ((s.number ≡ book.next) × (s.last ≡ 0))) new.live
   pub keeps : (x : Served) → has x → had x ⊎ IsServedAs admitted x
 
 -- one that lives is resumed under the next epoch
@@ -203,6 +235,7 @@ pub record ResumesOne (name : Name) (book : Book Authority) (had has : Served �
   pub epoch : resumed.epoch ≡ old.epoch + 1
   pub next : new.next ≡ book.next
   pub lives : AllByRecursion (λ (s : Session Authority). (LivesOn book s × (resumed.session ≡ s.number → ⊥)) ⊎ SomeOf (IsRenewed resumed s) book.live) new.live
+  pub lasts : AllByRecursion (KeepsLast book) new.live
   pub keeps : (x : Served) → has x → had x ⊎ IsServedAs resumed x
 
 -- one ends
@@ -211,6 +244,7 @@ pub record EndsOne (name : Name) (book : Book Authority) (had has : Served → T
   pub entries_are : es ≡ entry.Ended (record { daemon = name; session = number }) ∷ []
   pub next : new.next ≡ book.next
   pub lives : AllByRecursion (λ (s : Session Authority). LivesOn book s × (number ≡ s.number → ⊥)) new.live
+  pub lasts : AllByRecursion (KeepsLast book) new.live
   pub keeps : (x : Served) → has x → had x
 
 -- all are lost
@@ -273,8 +307,8 @@ module _ (handlers : Handlers) (name : Name) (book new : Book Authority) (es : L
   right-all (entry.Issued x) h = tt
   right-all (entry.Fetched x) h = tt
   right-all (entry.Looked x) h = tt
-  right-all (entry.Sent x) h = tt
-  right-all (entry.Answered x) h = tt
+  right-all (entry.Sent x) h = absurd h
+  right-all (entry.Answered x) h = absurd h
   right-all (entry.Refused x) h = tt
   right-all (entry.Broken x) h = tt
   right-all (entry.Leaked x) h = tt
@@ -285,7 +319,7 @@ module _ (handlers : Handlers) (name : Name) (book new : Book Authority) (es : L
 
   -- what a row of one link comes to, the node comes to
   pub row-comes : Comes handlers name book had has es new → Comes handlers name book all_had all_have es new
-  row-comes (Rested r) = Rested (record { book_is = r.book_is; keeps = keeps-all r.keeps; right = all-right es r.right })
+  row-comes (Rested r) = Rested (record { book_is = r.book_is; keeps = keeps-all r.keeps; right = all-right es r.right; takes = r.takes })
   row-comes (Admitting r) = Admitting (record {
     admitted = r.admitted;
     rest = r.rest;
@@ -295,6 +329,7 @@ module _ (handlers : Handlers) (name : Name) (book new : Book Authority) (es : L
     session = r.session;
     next = r.next;
     lives = r.lives;
+    lasts = r.lasts;
     keeps = gains-all r.admitted r.keeps;
   })
   row-comes (Resuming r) = Resuming (record {
@@ -310,6 +345,7 @@ module _ (handlers : Handlers) (name : Name) (book new : Book Authority) (es : L
     epoch = r.epoch;
     next = r.next;
     lives = r.lives;
+    lasts = r.lasts;
     keeps = gains-all r.resumed r.keeps;
   })
-  row-comes (Ending r) = Ending (record { number = r.number; entries_are = r.entries_are; next = r.next; lives = r.lives; keeps = keeps-all r.keeps })
+  row-comes (Ending r) = Ending (record { number = r.number; entries_are = r.entries_are; next = r.next; lives = r.lives; lasts = r.lasts; keeps = keeps-all r.keeps })

@@ -16,13 +16,14 @@ use Rattle.cx_journal.specs.declared.entries.Entry.TheVariants as journal
 use Rattle.cx_line_words.specs.declared.choices.LeftState.{LeftState}
 use Rattle.cx_lines.specs.declared.lines.Numbered.{Numbered}
 use Rattle.cx_rotate.specs.declared.states.KeptState.{KeptState}
-use Rattle.cx_rules.specs.ClientRule.{me, opening_client}
 use Rattle.cx_rules.specs.Monitor.{MonitorNode}
 use Rattle.cx_rules.specs.MonitorRule.{monitor_rule}
 use Rattle.cx_rules.specs.Rows.{Outcome}
+use Rattle.cx_rules_session.specs.ClientRule.{me, opening_whole_client}
 use Rattle.cx_rules_session.specs.DaemonRule.{daemon_step}
 use Rattle.cx_rules_session.specs.Guests.{Served}
 use Rattle.cx_run.proofs.DaemonNamed.{daemon-named}
+use Rattle.cx_run.proofs.SetUp.{handlers-stay}
 use Rattle.cx_run.specs.Happenings.{Entered, EntityNode, OfClient, OfDaemon, Happening, Nodes, Stepped, asker_in, entered_by, entity_of, entity_rule, entity_steps, is_of, journal_from, monitor_steps, steps, steps_of}
 use Rattle.cx_run.specs.Opening.{Declared, Leak, Setup, asker_of, daemon_opening, entity_in, leaks_entered, nodes_of}
 use Rattle.cx_run.specs.Points.{journal_since}
@@ -81,7 +82,7 @@ left-stands J es (OfDaemon d) leaves stands =
     let has : Served → Type 0 = λ x. LinksServe d.node.links x in
     stands-still J es d.node.own.asker.name d.book d.book has has leaves (same-book d.book) (λ x was. was) stands
 
-other-way : (a b : Name) → same_name b a ≡ false → same_name a b ≡ false
+pub other-way : (a b : Name) → same_name b a ≡ false → same_name a b ≡ false
 other-way a b apart = by_test (same_name a b) refl
   where
     by_test : (t : Bool) → same_name a b ≡ t → t ≡ false
@@ -159,12 +160,12 @@ node-run J nodes h (node.Entity name) stand = entity-run J nodes h name (entity_
 -- ---- every list of events
 
 -- the law of all, behind some
-behind-append : (P : List Entry → Entry → Type 0) (J xs ys : List Entry) → EachBehind P J xs → EachBehind P (J ++ xs) ys → EachBehind P J (xs ++ ys)
+pub behind-append : (P : List Entry → Entry → Type 0) (J xs ys : List Entry) → EachBehind P J xs → EachBehind P (J ++ xs) ys → EachBehind P J (xs ++ ys)
 behind-append P J [] ys h g = subst (λ (l : List Entry). EachBehind P l ys) (append-nil J) g
 behind-append P J (x ∷ xs) ys h g =
     (h.0, behind-append P (J ++ x ∷ []) xs ys h.1 (subst (λ (l : List Entry). EachBehind P l ys) (sym (append_assoc J (x ∷ []) xs)) g))
 
-entries-by : (h : Happening) (es : List Entry)
+pub entries-by : (h : Happening) (es : List Entry)
     → map (λ (x : Entered). x.entry) (map (λ (e : Entry). record { line = h.line; reading = h.reading; entry = e }) es) ≡ es
 entries-by h [] = refl
 entries-by h (e ∷ es) = ap (λ (l : List Entry). e ∷ l) (entries-by h es)
@@ -188,7 +189,7 @@ first-stand : (J : List Entry) (es : List Declared) → AllStand J (map entity_i
 first-stand J [] = tt
 first-stand J (e ∷ es) = (by_kind (is_daemon_type e.name.kind), first-stand J es)
   where
-    by_kind : (t : Bool) → EntityStands J (if t then OfDaemon (daemon_opening (asker_of e)) else OfClient (opening_client (asker_of e)))
+    by_kind : (t : Bool) → EntityStands J (if t then OfDaemon (daemon_opening (asker_of e)) else OfClient (opening_whole_client (asker_of e)))
     by_kind true = record { sessions = tt; served = λ x here. absurd here }
     by_kind false = tt
 
@@ -217,5 +218,8 @@ sessions-behind handlers (e ∷ es) J h = (one e h.0, sessions-behind handlers e
 pub all-in-session : (setup : Setup) (hs : List Happening) → IsInSession (journal_since setup hs)
 all-in-session setup hs = sessions-behind setup.handlers (journal_since setup hs) [] (all-enforced setup hs)
 
-pub schedules-in-session : (script : List Numbered) → IsInSession (run_journal script) × IsEnforced (serves (setup_of script).handlers) (run_journal script)
-schedules-in-session script = (all-in-session (setup_of script) (trace script), all-enforced (setup_of script) (trace script))
+pub schedules-in-session : (handlers : Handlers) (script : List Numbered) → IsInSession (run_journal handlers script) × IsEnforced (serves handlers) (run_journal handlers script)
+schedules-in-session handlers script = (
+  all-in-session (setup_of handlers script) (trace handlers script),
+  subst (λ (has : Handlers). IsEnforced (serves has) (run_journal handlers script)) (handlers-stay handlers script) (all-enforced (setup_of handlers script) (trace handlers script)),
+)

@@ -1,6 +1,7 @@
 //! The laws of sessions over every run.
 
 ghost use Rattle.std.specs.Prelude.{List};
+ghost use Rattle.cx_desk.specs.Handlers.{Handlers};
 ghost use Rattle.cx_journal.specs.Enforced.{IsEnforced};
 ghost use Rattle.cx_journal.specs.InSession.{IsInSession};
 ghost use Rattle.cx_laws_session.specs.Serving.{serves};
@@ -8,7 +9,7 @@ ghost use Rattle.cx_lines.specs.declared.lines.Numbered.{Numbered};
 ghost use Rattle.cx_run.specs.Happenings.{Happening};
 ghost use Rattle.cx_run.specs.Opening.{Setup};
 ghost use Rattle.cx_run.specs.Points.{journal_since};
-ghost use Rattle.cx_run.specs.Runs.{run_journal, setup_of};
+ghost use Rattle.cx_run.specs.Runs.{run_journal};
 
 /// Of every run, from every opening and with any handlers, whatever is delivered, lost, repeated, forged or cut, restarted, or failed at a save, and whatever
 /// opens or repeats: there is no premise. Each operation is handled in a session that its daemon admitted or resumed before, under the same number, epoch and
@@ -18,6 +19,6 @@ pub fn session_laws()
     // Of every list of events.
     ensures in_session { (setup : Setup) (hs : List Happening) → IsInSession (journal_since setup hs) }
     ensures enforced { (setup : Setup) (hs : List Happening) → IsEnforced (serves setup.handlers) (journal_since setup hs) }
-    // So of the run of every schedule.
-    ensures schedules { (script : List Numbered) → IsInSession (run_journal script) × IsEnforced (serves (setup_of script).handlers) (run_journal script) }
+    // So of the run of every schedule, whose daemons have these handlers.
+    ensures schedules { (handlers : Handlers) (script : List Numbered) → IsInSession (run_journal handlers script) × IsEnforced (serves handlers) (run_journal handlers script) }
 {}

@@ -5,7 +5,7 @@ use Rattle.cx_enc.specs.Forms.{little}
 use Rattle.cx_frame.specs.Frames.{IsAnnounceable}
 use Rattle.cx_frame.specs.declared.frame.Frame.{Frame}
 use Rattle.cx_frame.specs.declared.frame.Segment.{Segment}
-use Rattle.cx_rules.specs.Messages.{message, segment}
+use Rattle.cx_turns.specs.cx_rules.specs.Messages.{message, segment}
 use Rattle.cx_wire.specs.Headers.{header_layout, written_header}
 use Rattle.cx_wire.specs.declared.headers.Header.{Header}
 

@@ -5,9 +5,9 @@ use Rattle.cx_enc.specs.Forms.{IsBytes}
 use Rattle.cx_enc.specs.Layouts.{Layout}
 use Rattle.cx_enc.specs.Whole.{start}
 use Rattle.cx_journal.specs.declared.faults.BytesFault.TheVariants.{Malformed}
-use Rattle.cx_rules.proofs.Payloads.{refused_is, spelled_is}
-use Rattle.cx_rules.specs.Messages.{body_as, body_by}
-use Rattle.cx_rules.specs.declared.messages.Body.TheVariants.{Spelled, OtherCode, Misspelled}
+use Rattle.cx_turns.specs.cx_rules.proofs.Payloads.{refused_is, spelled_is}
+use Rattle.cx_turns.specs.cx_rules.specs.Messages.{body_as, body_by}
+use Rattle.cx_turns.specs.cx_rules.specs.declared.messages.Body.TheVariants.{Spelled, OtherCode, Misspelled}
 use Rattle.cx_wire.specs.BodyCalls.{IsBodyReadBy}
 use Rattle.cx_wire.specs.Codes.{other_code}
 use Rattle.cx_wire.specs.declared.refusals.BodyRefusal.TheVariants as refusal

@@ -4,8 +4,8 @@ use Rattle.std.specs.List.{list_all}
 use Rattle.cx_frame.specs.declared.frame.Segment.{Segment}
 use Rattle.cx_journal.specs.declared.faults.BytesFault.{BytesFault}
 use Rattle.cx_journal.specs.declared.faults.BytesFault.TheVariants.{Malformed}
-use Rattle.cx_node.specs.Parts.{part_of}
-use Rattle.cx_rules.specs.Messages.{Message, is_empty, message_by}
+use Rattle.cx_turns.specs.cx_node.specs.Parts.{part_of}
+use Rattle.cx_turns.specs.cx_rules.specs.Messages.{Message, is_empty, message_by}
 use Rattle.cx_wire.specs.Headers.{Fields, kept_header}
 use Rattle.cx_wire.specs.declared.headers.Header.{Header}
 

@@ -3,8 +3,8 @@ use Rattle.std.proofs.Common.{◌≡◌, ℕ, ◌+◌, ◌<◌, ◌≤◌, List,
 use Rattle.std.proofs.lemmas.List.{append-nil, nil_from_length}
 use Rattle.cx_frame.specs.declared.frame.Frame.{Frame}
 use Rattle.cx_journal.specs.declared.faults.BytesFault.{BytesFault}
-use Rattle.cx_rules.specs.Messages.{sealed_behind, sealed_then, secure_frames}
-use Rattle.cx_rules.specs.Secured.{Keys, SealedFrame, secure_frame}
+use Rattle.cx_turns.specs.cx_rules.specs.Messages.{sealed_behind, sealed_then, secure_frames}
+use Rattle.cx_turns.specs.cx_rules.specs.Secured.{Keys, SealedFrame, secure_frame}
 use Rattle.cx_steps.specs.declared.seals.SealEntry.{SealEntry}
 
 abbrev Sealed : Type 0

@@ -3,9 +3,9 @@ use Rattle.std.specs.Prelude.{ℕ, List, [], ◌∷◌, Result, Ok, Err}
 use Rattle.cx_frame.specs.declared.frame.Frame.{Frame}
 use Rattle.cx_frame.specs.declared.frame.Segment.{Segment}
 use Rattle.cx_journal.specs.declared.faults.BytesFault.{BytesFault}
-use Rattle.cx_rules.specs.Messages.{Message}
-use Rattle.cx_rules.specs.declared.messages.Body.{Body}
-use Rattle.cx_rules.specs.declared.messages.Body.TheVariants.{Spelled, OtherCode, Misspelled}
+use Rattle.cx_turns.specs.cx_rules.specs.Messages.{Message}
+use Rattle.cx_turns.specs.cx_rules.specs.declared.messages.Body.{Body}
+use Rattle.cx_turns.specs.cx_rules.specs.declared.messages.Body.TheVariants.{Spelled, OtherCode, Misspelled}
 use Rattle.cx_wire.specs.declared.headers.Header.{Header}
 
 -- the second segment, or nothing

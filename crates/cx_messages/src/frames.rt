@@ -2,7 +2,7 @@
 
 ghost use Rattle.std.specs.Prelude.{◌≡◌, ◌<◌, ◌^◌, IfOk, length};
 ghost use Rattle.cx_frame.specs.Frames.{IsAnnounceable};
-ghost use Rattle.cx_rules.specs.Messages.{message};
+ghost use Rattle.cx_turns.specs.cx_rules.specs.Messages.{message};
 
 use cx_base::{Blob, Items};
 use cx_frame::{Frame, Segment};

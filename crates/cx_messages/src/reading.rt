@@ -2,8 +2,8 @@
 
 ghost use Rattle.std.specs.Prelude.{ℕ, ◌≡◌, List, IfOk};
 ghost use Rattle.std.specs.List.{list_all};
-ghost use Rattle.cx_rules.specs.Messages.{body_as, is_empty, message_by, message_in, message_of};
-ghost use Rattle.cx_rules.specs.Payloads.{whole};
+ghost use Rattle.cx_turns.specs.cx_rules.specs.Messages.{body_as, is_empty, message_by, message_in, message_of};
+ghost use Rattle.cx_turns.specs.cx_rules.specs.Payloads.{whole};
 ghost use Rattle.cx_wire.specs.Bodies.{reply_layout, request_layout};
 ghost use Rattle.cx_wire.specs.Headers.{header_layout};
 ghost use Rattle.cx_messages.specs.Reading.{body_in, body_of, IfSpelled, with_body};
@@ -11,8 +11,7 @@ ghost use Rattle.cx_messages.specs.Reading.{body_in, body_of, IfSpelled, with_bo
 use cx_base::Blob;
 use cx_frame::{Frame, Segment};
 use cx_journal::BytesFault;
-use cx_node::whole_part;
-use cx_rules::Body;
+use cx_turns::{Body, whole_part};
 use cx_wire::{BodyRefusal, Header, Reply, Request, read_reply, read_request};
 use std::alloc::{AllocError, Global};
 

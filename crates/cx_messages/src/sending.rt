@@ -2,8 +2,8 @@
 
 ghost use Rattle.std.specs.Prelude.{◌≡◌, ◌<◌, ◌^◌, All, IfOk, length};
 ghost use Rattle.cx_frame.specs.Frames.{IsAnnounceable};
-ghost use Rattle.cx_rules.specs.Messages.{acknowledgement, message, sealed_behind, secure_frames};
-ghost use Rattle.cx_rules.specs.Secured.{secure_frame};
+ghost use Rattle.cx_turns.specs.cx_rules.specs.Messages.{acknowledgement, message, sealed_behind, secure_frames};
+ghost use Rattle.cx_turns.specs.cx_rules.specs.Secured.{secure_frame};
 ghost use Rattle.cx_turns.specs.Sending.{SendsSecure};
 ghost use Rattle.cx_messages.specs.Sending.{sealed_of};
 
@@ -12,8 +12,7 @@ use cx_base::{Blob, Items};
 use cx_control::Ack;
 use cx_frame::Frame;
 use cx_journal::BytesFault;
-use cx_link::{LinkRefusal, SecureLink, SentFrame};
-use cx_turns::send_secure;
+use cx_turns::{LinkRefusal, SecureLink, SentFrame, send_secure};
 use cx_wire::Header;
 use std::alloc::{AllocError, Global};
 

@@ -22,6 +22,9 @@ pub use numbered::Numbered;
 pub use payloads::{due, payload, payload_part, whole, whole_part};
 pub use rows::Row;
 
+// What crates above name through this one, and so needn't list.
+pub use cx_rules::Body;
+
 // Each public type may be sent to another thread and shared with one, where its links may.
 fn is_sendable<T: Send + Sync>() {}
 

@@ -23,10 +23,10 @@ use Rattle.cx_rules.specs.Payloads as payload
 use Rattle.cx_rules.specs.Payloads.{whole}
 use Rattle.cx_rules.specs.Rows.{goes_on, refuses, refuses_bytes, unless_refused, with_opened}
 use Rattle.cx_rules.specs.Secured.{SealedFrame, connector_keys, plain_frame, signed_frame}
-use Rattle.cx_rules_session.specs.Envelopes.{authorize_content, sends_holding, session_sealed}
-use Rattle.cx_rules_session.specs.Forgets.{abridged_call_link}
-use Rattle.cx_rules_session.specs.Presenter.{AwaitsDone, AwaitsSignature, CallArrival, CallRow, CallStage, agrees, answers_challenge, on_authorize_reply, on_bad_method, on_challenge, on_unlocked, second_frame, signs}
-use Rattle.cx_rules_session.specs.Sessions.{Callee}
+use Rattle.cx_sending.specs.cx_rules_session.specs.Envelopes.{authorize_content, sends_holding, session_sealed}
+use Rattle.cx_sending.specs.cx_rules_session.specs.Forgets.{abridged_call_link}
+use Rattle.cx_sending.specs.cx_rules_session.specs.Presenter.{AwaitsDone, AwaitsSignature, CallArrival, CallRow, CallStage, agrees, answers_challenge, on_authorize_reply, on_bad_method, on_challenge, on_unlocked, second_frame, signs}
+use Rattle.cx_sending.specs.cx_rules_session.specs.Sessions.{Callee}
 use Rattle.cx_steps.specs.declared.seals.SealEntry.{SealEntry}
 use Rattle.cx_turns.proofs.MadeRows.{behind_as, unless_behind}
 use Rattle.cx_turns.specs.Making as making

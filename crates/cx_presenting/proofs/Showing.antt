@@ -14,8 +14,8 @@ use Rattle.cx_login.specs.Held.{Held}
 use Rattle.cx_rules.specs.Holdings.{Asker}
 use Rattle.cx_rules.specs.Payloads.{control}
 use Rattle.cx_rules.specs.Secured.{plain_frame}
-use Rattle.cx_rules_session.specs.Presenter.{authorizer_bytes, presented}
-use Rattle.cx_rules_session.specs.Sessions.{Called, held_gid, ticket_for}
+use Rattle.cx_sending.specs.cx_rules_session.specs.Presenter.{authorizer_bytes, presented}
+use Rattle.cx_sending.specs.cx_rules_session.specs.Sessions.{Called, held_gid, ticket_for}
 use Rattle.cx_wire.specs.Logins.{authorizer_layout}
 use Rattle.cx_presenting.specs.Rows.{IsShown}
 

@@ -1,6 +1,6 @@
 -- Facts of the links as they are held.
 use Rattle.std.proofs.Common.{◌≡◌, ℕ, List, Result, Ok, Err, OnOk, refl}
-use Rattle.cx_rules_session.specs.Forgets.{abridged_call_link}
+use Rattle.cx_sending.specs.cx_rules_session.specs.Forgets.{abridged_call_link}
 use Rattle.cx_turns.specs.Stages.{with_more}
 use Rattle.cx_turns.specs.Steps.{IsFed}
 use Rattle.cx_presenting.specs.Stages.{link_held}

@@ -15,9 +15,9 @@ use Rattle.cx_node.specs.declared.rows.Row.{Row as Made}
 use Rattle.cx_rules.specs.Greetings.{own_banner}
 use Rattle.cx_rules.specs.Holdings.{Asker}
 use Rattle.cx_rules.specs.Rows.{arrival, refuses, unless_refused}
-use Rattle.cx_rules_session.specs.Forgets.{abridged_call_link}
-use Rattle.cx_rules_session.specs.Presenter.{AwaitsBanner, CallArrival, CallRow, Caller, authorizer_bytes, turned_at}
-use Rattle.cx_rules_session.specs.Sessions.{Called, HeldSession}
+use Rattle.cx_sending.specs.cx_rules_session.specs.Forgets.{abridged_call_link}
+use Rattle.cx_sending.specs.cx_rules_session.specs.Presenter.{AwaitsBanner, CallArrival, CallRow, Caller, authorizer_bytes, turned_at}
+use Rattle.cx_sending.specs.cx_rules_session.specs.Sessions.{Called, HeldSession}
 use Rattle.cx_sending.specs.Table as table
 use Rattle.cx_turns.specs.Making as making
 use Rattle.cx_turns.specs.Steps.{IsTurn}

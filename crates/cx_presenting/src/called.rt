@@ -15,7 +15,7 @@ pub struct Called {
 }
 
 impl Model for Called {
-    ghost use Rattle.cx_rules_session.specs.Sessions as rules;
+    ghost use Rattle.cx_sending.specs.cx_rules_session.specs.Sessions as rules;
 
     ghost Value = { rules.Called };
 

@@ -2,7 +2,7 @@
 
 ghost use Rattle.std.specs.Prelude.{◌≡◌};
 ghost use Rattle.cx_link.specs.Wires.{Wire, wired};
-ghost use Rattle.cx_rules_session.specs.Presenter.{CallStage};
+ghost use Rattle.cx_sending.specs.cx_rules_session.specs.Presenter.{CallStage};
 ghost use Rattle.cx_presenting.specs.Rows.{Makes, denied, no_row};
 
 use crate::links::Link;

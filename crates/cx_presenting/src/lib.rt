@@ -21,6 +21,9 @@ pub use making::{handles, unless_refused};
 pub use rows::Change;
 pub use turns::{banner_turn, challenge_turn, done_turn, hello_turn};
 
+// What crates above name through this one, and so needn't list.
+pub use cx_sending::{OperationEnd, Sessions, end_in, send_waiting};
+
 // Each public type may be sent to another thread and shared with one.
 fn is_sendable<T: Send + Sync>() {}
 

@@ -26,7 +26,7 @@ pub enum Stage {
 
 impl Stage {
     ghost use Rattle.std.specs.Prelude.{ℕ, ◌≡◌, OnOk};
-    ghost use Rattle.cx_rules_session.specs.Presenter.{callee_of, is_open};
+    ghost use Rattle.cx_sending.specs.cx_rules_session.specs.Presenter.{callee_of, is_open};
     ghost use Rattle.cx_presenting.specs.Stages.{link_held};
     ghost use Rattle.cx_turns.specs.Stages.{with_more};
 
@@ -88,7 +88,7 @@ pub struct Link {
 
 impl Model for Link {
     ghost use Rattle.cx_rules.specs.Links.{Link};
-    ghost use Rattle.cx_rules_session.specs.Presenter.{CallStage};
+    ghost use Rattle.cx_sending.specs.cx_rules_session.specs.Presenter.{CallStage};
 
     ghost Value = { Link CallStage };
 
@@ -108,7 +108,7 @@ impl Numbered for Link {
 
 impl Link {
     ghost use Rattle.std.specs.Prelude.{◌≡◌};
-    ghost use Rattle.cx_rules_session.specs.Presenter.{callee_of, is_open};
+    ghost use Rattle.cx_sending.specs.cx_rules_session.specs.Presenter.{callee_of, is_open};
     ghost use Rattle.cx_presenting.specs.Stages.{link_held};
 
     /// The link of this number, in a stage.
@@ -134,7 +134,7 @@ impl Link {
 }
 
 impl Feeds for Link {
-    ghost use Rattle.cx_rules_session.specs.Forgets.{abridged_call_link};
+    ghost use Rattle.cx_sending.specs.cx_rules_session.specs.Forgets.{abridged_call_link};
     ghost use Rattle.cx_turns.specs.Steps as steps;
 
     ghost IsFed = { steps.IsFed abridged_call_link };

@@ -2,8 +2,8 @@
 
 ghost use Rattle.std.specs.Prelude.{Option, IfOk};
 ghost use Rattle.cx_link.specs.Wires.{wired};
-ghost use Rattle.cx_rules_session.specs.Presenter.{AwaitsBanner, AwaitsHello};
-ghost use Rattle.cx_rules_session.specs.Sessions.{HeldSession};
+ghost use Rattle.cx_sending.specs.cx_rules_session.specs.Presenter.{AwaitsBanner, AwaitsHello};
+ghost use Rattle.cx_sending.specs.cx_rules_session.specs.Sessions.{HeldSession};
 ghost use Rattle.cx_presenting.specs.Rows.{IsCallTurn, caller};
 ghost use Rattle.cx_presenting.specs.Stages.{awaiting_challenge, awaiting_done};
 

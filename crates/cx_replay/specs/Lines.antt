@@ -6,11 +6,10 @@ use Rattle.cx_lines.specs.declared.lines.Line.{Line}
 use Rattle.cx_lines.specs.declared.lines.Line.TheVariants as line
 use Rattle.cx_lines.specs.declared.lines.Numbered.{Numbered}
 
--- a connect or send line, which only the plain run serves yet
-abbrev pub is_session_line : Line → Bool
-is_session_line (line.Submit (command.Connect client daemon lossy)) = true
-is_session_line (line.Submit (command.Send client daemon operation)) = true
-is_session_line _ = false
+-- an operation that is sent, which only the plain run serves yet
+abbrev pub is_send_line : Line → Bool
+is_send_line (line.Submit (command.Send client daemon operation)) = true
+is_send_line _ = false
 
-abbrev pub has_session_line : List Numbered → Bool
-has_session_line lines = list_any (λ numbered. is_session_line numbered.line) lines
+abbrev pub has_send_line : List Numbered → Bool
+has_send_line lines = list_any (λ numbered. is_send_line numbered.line) lines

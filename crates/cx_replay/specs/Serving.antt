@@ -8,7 +8,7 @@ use Rattle.cx_journal.specs.Backed.{IsBacked}
 use Rattle.cx_journal.specs.Enforced.{IsEnforced}
 use Rattle.cx_journal.specs.InSession.{IsInSession}
 use Rattle.cx_journal.specs.KeepsKeys.{KeepsKeys}
-use Rattle.cx_laws_run.specs.Laws.{KeepsExpiry, KeepsLaws, LooksLast}
+use Rattle.cx_laws_run.specs.Laws.{KeepsLaws, KeepsTickets, LooksLast}
 use Rattle.cx_laws_run.specs.Logins.{LogIn, Stands}
 use Rattle.cx_laws_run.specs.Origins.{GoBack}
 use Rattle.cx_lines.specs.declared.lines.Numbered.{Numbered}
@@ -21,13 +21,14 @@ use Rattle.cx_run.specs.Runs.{IsFoundOf, run_journal, setup_of, trace}
 use Rattle.cx_replay.specs.declared.refusals.ReplayRefusal.{ReplayRefusal}
 use Rattle.cx_replay.specs.declared.refusals.ReplayRefusal.TheVariants.{NotYet, OutOfMemory}
 use Rattle.cx_run.specs.Served as run
+use Rattle.cx_run.specs.Visits.{has_session_line}
 use Rattle.cx_world.specs.Idle.{idle_lines}
-use Rattle.cx_replay.specs.Lines.{has_session_line}
+use Rattle.cx_replay.specs.Lines.{has_send_line}
 
--- the first line for which a schedule isn't served yet: where it has a connect or send line, the first that the plain run doesn't take,
+-- the first line for which a schedule isn't served yet: where it has a send line, the first that the plain run doesn't take,
 -- and else the first that the run through bytes doesn't serve
 abbrev pub first_unserved : List Numbered → Option ℕ
-first_unserved script = if has_session_line script then first_untaken script else run.first_unserved script
+first_unserved script = if has_send_line script then first_untaken script else run.first_unserved script
 
 -- ---- what comes of a run
 
@@ -41,29 +42,34 @@ pub record IsPlainReplay (handlers : Handlers) (script : List Numbered) (journal
   pub keeps_keys : KeepsKeys journal
   pub enforced : IsEnforced (serves handlers) journal
 
--- the journal is that of the run through bytes, and this is found of its premises: that it is sound and fresh, or its first breach. Either way each
--- ticket was asked for, and each look is at what the daemon fetched last. Where it is sound and fresh, the laws over every run hold: those of its journal,
--- that each ticket of an entity that isn't leaked was asked for by its own node, and that each session goes back to its ticket's issue
+-- the journal is that of the run through bytes over these handlers, and this is found of its premises: that it is sound and fresh, or its first breach.
+-- Either way each ticket was asked for, each look is at what the daemon fetched last, and each operation is handled in an admitted session and ends as
+-- the caps of that session and the handlers say. Where it is sound and fresh, the other laws over every run hold: those of tickets, that each ticket of an
+-- entity that isn't leaked was asked for by its own node, and that each session goes back to its ticket's issue. And where moreover no line tells a client
+-- to connect or a daemon to drop a session, all laws of a journal hold
 pub record IsByteReplay (handlers : Handlers) (script : List Numbered) (journal : List Entry) (found : Option Broken) : Type 0 where
-  pub run : journal ≡ run_journal script
-  pub found_so : IsFoundOf script found
-  pub stands : Stands (setup_of script) (trace script)
+  pub run : journal ≡ run_journal handlers script
+  pub found_so : IsFoundOf handlers script found
+  pub stands : Stands (setup_of handlers script) (trace handlers script)
   pub looks : LooksLast journal
-  pub lawful : found ≡ None → KeepsLaws (serves handlers) journal × KeepsExpiry journal
-  pub logged_in : found ≡ None → LogIn (setup_of script) (points (setup_of script) (trace script))
-  pub goes_back : found ≡ None → GoBack (setup_of script) (points (setup_of script) (trace script))
+  pub in_session : IsInSession journal
+  pub enforced : IsEnforced (serves handlers) journal
+  pub tickets : found ≡ None → KeepsTickets journal
+  pub lawful : found ≡ None → has_session_line script ≡ false → KeepsLaws (serves handlers) journal
+  pub logged_in : found ≡ None → LogIn (setup_of handlers script) (points (setup_of handlers script) (trace handlers script))
+  pub goes_back : found ≡ None → GoBack (setup_of handlers script) (points (setup_of handlers script) (trace handlers script))
 
--- by whether the schedule has a connect or send line; the plain run breaks no premise
+-- by whether the schedule has a send line; the plain run breaks no premise
 abbrev pub IsReplayBy : Bool → Handlers → List Numbered → List Entry → Option Broken → Type 0
 IsReplayBy true handlers script journal found = IsPlainReplay handlers script journal × (found ≡ None)
 IsReplayBy false handlers script journal found = IsByteReplay handlers script journal found
 
 abbrev pub IsReplayOf : Handlers → List Numbered → List Entry → Option Broken → Type 0
-IsReplayOf handlers script journal found = IsReplayBy (has_session_line script) handlers script journal found
+IsReplayOf handlers script journal found = IsReplayBy (has_send_line script) handlers script journal found
 
 -- how many lines of a schedule do nothing: such a line is one on a link, which the plain run doesn't take
-abbrev pub idle_of : List Numbered → ℕ
-idle_of script = if has_session_line script then 0 else idle_lines script
+abbrev pub idle_of : Handlers → List Numbered → ℕ
+idle_of handlers script = if has_send_line script then 0 else idle_lines handlers script
 
 -- the journal with the first breach as its last entry, where there is one
 abbrev pub told : List Entry → Option Broken → List Entry

@@ -2,26 +2,26 @@
 
 ghost use Rattle.std.specs.Prelude.{◌≡◌};
 ghost use Rattle.std.specs.List.{list_any};
-ghost use Rattle.cx_replay.specs.Lines.{has_session_line, is_session_line};
+ghost use Rattle.cx_replay.specs.Lines.{has_send_line, is_send_line};
 ghost use Rattle.cx_run.specs.Served.{first_unserved, is_command_served, is_served, is_step_served};
 
 use cx_lines::{Line, LineCommand, NodeStep, Numbered};
 
-/// Whether a connect or send line is among these.
-pub fn has_session_line(lines: &[Numbered]) -> bool
-    ensures { result ≡ has_session_line lines.now }
+/// Whether a send line is among these.
+pub fn has_send_line(lines: &[Numbered]) -> bool
+    ensures { result ≡ has_send_line lines.now }
 {
-    lines.iter().any(|numbered| is_session_line(&numbered.line))
+    lines.iter().any(|numbered| is_send_line(&numbered.line))
 }
 
-fn is_session_line(line: &Line) -> bool
-    ensures { result ≡ is_session_line line.now }
+fn is_send_line(line: &Line) -> bool
+    ensures { result ≡ is_send_line line.now }
 {
     match line {
         Line::Submit(LineCommand::Fetch(_)) => false,
         Line::Submit(LineCommand::Login(_, _)) => false,
         Line::Submit(LineCommand::Renew(_, _)) => false,
-        Line::Submit(LineCommand::Connect(_, _, _)) => true,
+        Line::Submit(LineCommand::Connect(_, _, _)) => false,
         Line::Submit(LineCommand::Send(_, _, _)) => true,
         Line::Setting(_) => false,
         Line::Do(_) => false,
@@ -61,7 +61,7 @@ fn is_command_served(command: &LineCommand) -> bool
         LineCommand::Login(_, _) => true,
         LineCommand::Fetch(_) => true,
         LineCommand::Renew(_, _) => true,
-        LineCommand::Connect(_, _, _) => false,
+        LineCommand::Connect(_, _, _) => true,
         LineCommand::Send(_, _, _) => false,
     }
 }
@@ -75,7 +75,7 @@ fn is_step_served(step: &NodeStep) -> bool
         NodeStep::Restart(_) => true,
         NodeStep::FailSave(_) => true,
         NodeStep::Settle => true,
-        NodeStep::DropSession(_, _) => false,
+        NodeStep::DropSession(_, _) => true,
         NodeStep::Tick(_) => true,
     }
 }

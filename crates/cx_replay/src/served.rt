@@ -11,25 +11,26 @@ ghost use Rattle.cx_replay.specs.declared.refusals.ReplayRefusal.TheVariants.{Ou
 ghost use Rattle.cx_replay.specs.Serving.{IsReplayBy, IsReplayCause, IsReplayOf, IsUnservedBy, first_unserved, idle_of};
 ghost use Rattle.cx_world.specs.Idle.{idle_lines};
 
-use crate::lines::{first_unserved, has_session_line};
+use crate::lines::{first_unserved, has_send_line};
 use crate::refusals::ReplayRefusal;
 use cx_desk::Desk;
 use cx_laws_run::{journal_laws, login_laws, origin_laws, standing_laws};
+use cx_laws_session::session_laws;
 use cx_schedule::Script;
 use cx_world::Report;
 use std::alloc::Global;
 
-/// The run of a schedule: through bytes where it has no connect or send line, and else the plain run, over this desk of handlers. Where it
+/// The run of a schedule: through bytes where it has no send line, and else the plain run, over this desk of handlers. Where it
 /// has a line that its run doesn't serve yet, it is refused at the first of these.
 pub fn replay(alloc: Global, script: &Script, desk: &Desk) -> Result<Report, ReplayRefusal>
     requires schedule { IsSchedule script.now }
     requires in_range { IsTrue (list_all is_numbered_in_range script.now) }
     ensures replayed { IfOk result (λ report. IsReplayOf (handlers_of desk.now) script.now report.journal report.broken) }
-    ensures idle { IfOk result (λ report. report.idle ≡ idle_of script.now) }
+    ensures idle { IfOk result (λ report. report.idle ≡ idle_of (handlers_of desk.now) script.now) }
     ensures served { OnOk result (first_unserved script.now ≡ None) }
     ensures refused { IfErr result (IsReplayCause script.now) }
 {
-    if has_session_line(script.lines()) {
+    if has_send_line(script.lines()) {
         return plainly(alloc, script, desk);
     }
     if let Some(line) = first_unserved(script.lines()) {
@@ -38,19 +39,20 @@ pub fn replay(alloc: Global, script: &Script, desk: &Desk) -> Result<Report, Rep
     through_bytes(alloc, script, desk)
 }
 
-/// The run through bytes. What is so of every run is so of it, and where it keeps both premises, the other laws hold of it too.
+/// The run through bytes, over this desk of handlers. What is so of every run is so of it, and where it keeps both premises, the other laws hold of it too.
 fn through_bytes(alloc: Global, script: &Script, desk: &Desk) -> Result<Report, ReplayRefusal>
     requires schedule { IsSchedule script.now }
     requires served { run.first_unserved script.now ≡ None }
     ensures replayed { IfOk result (λ report. IsReplayBy false (handlers_of desk.now) script.now report.journal report.broken) }
-    ensures idle { IfOk result (λ report. report.idle ≡ idle_lines script.now) }
+    ensures idle { IfOk result (λ report. report.idle ≡ idle_lines (handlers_of desk.now) script.now) }
     ensures memory { IfErr result (λ why. why ≡ OutOfMemory) }
 {
     standing_laws();
     journal_laws();
     login_laws();
     origin_laws();
-    let report = cx_world::run(alloc, script)?;
+    session_laws();
+    let report = cx_world::run(alloc, script, desk)?;
     Ok(report)
 }
 

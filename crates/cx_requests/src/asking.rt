@@ -1,7 +1,7 @@
 //! Requests that are sent.
 
 ghost use Rattle.std.specs.Prelude.{◌≡◌, ◌<◌, ◌-◌, ◌^◌, IfOk, length};
-ghost use Rattle.cx_turns.specs.Sending.{SendsSecure};
+ghost use Rattle.cx_messages.specs.cx_turns.specs.Sending.{SendsSecure};
 ghost use Rattle.cx_rules.specs.Requests.{request_message, sealed_request};
 ghost use Rattle.cx_rules.specs.Secured.{secure_frame};
 ghost use Rattle.cx_rules.specs.declared.requests.Want.TheVariants.{Rotating, Tickets};

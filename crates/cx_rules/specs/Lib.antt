@@ -1,3 +1,6 @@
+-- Behind `pub use`: what crates above name through this one, and so needn't list (`checks/ways`).
+pub use Rattle.cx_login as cx_login
+pub use Rattle.cx_steps as cx_steps
 pub mod Abridged
 pub mod Acceptor
 pub mod Answering

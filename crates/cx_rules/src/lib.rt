@@ -13,6 +13,9 @@ pub use requests::{Taken, Waiting, Want};
 pub use responses::{Bearer, Demand, ReplyMade, Response};
 pub use verdicts::{HandedOut, Verdict};
 
+// What crates above name through this one, and so needn't list.
+pub use cx_login::{Asking, HeldTicket, LoggedIn, LoginRefusal, opened_login};
+
 // Each public type may be sent to another thread and shared with one.
 fn is_sendable<T: Send + Sync>() {}
 

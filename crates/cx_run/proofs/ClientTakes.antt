@@ -27,9 +27,7 @@ use Rattle.cx_rules.specs.Connector.{AskerArrival, AskerRow, Login, Stage, Await
 use Rattle.cx_rules.specs.Holdings.{Asker, held_login, holds_nothing}
 use Rattle.cx_rules.specs.Fronts.{banner_next, plain_next, secure_next}
 use Rattle.cx_rules.specs.Payloads.{due, payload, whole}
-use Rattle.cx_rules.specs.Rows.{Turned, Waits, Refuses, Handles, at, lifted_turn, plain_sent, refuses, with_opened, goes_on}
-use Rattle.cx_rules.specs.ClientRule.{Client}
-use Rattle.cx_rules.specs.Links.{Link}
+use Rattle.cx_rules.specs.Rows.{Turned, at, plain_sent, refuses, with_opened, goes_on}
 use Rattle.cx_rules.specs.Secured.{SealedFrame, Secured, is_signed, secure_frame, signature_found, under}
 use Rattle.cx_run.proofs.Taking.{EachRow, Keeps, TurnTakes, banner-takes, each-turned, plain-takes, plain_sent-keeps, plain_sent-own, secure-takes, secure_sent-keeps, secure_sent-own, keepalive-keeps, keepalive-own, keepalive_ack-keeps, keepalive_ack-own}
 use Rattle.cx_rules.specs.Upkeep.{on_keepalive, on_keepalive_ack}
@@ -220,9 +218,3 @@ asker-named a (AwaitsIdent s session) =
 asker-named a (Open s requests) =
     each-turned (λ (row : AskerRow). row.own.name ≡ a.own.name) (λ (link, f, keys) opened. with_opened opened (on_open Open (at a link) (under s keys) requests f))
     (λ (link, f, keys) opened. (open-keeps (at a link) (under s keys) requests f).1) (secure_next s.keys a.link)
-
--- of one that logs in, as one of the client
-pub lifted-takes : (whole : Asker → Client) (link : Link Stage) (t : Turned Asker Stage) → TurnTakes link t → TurnTakes link (lifted_turn whole t)
-lifted-takes whole link Waits h = tt
-lifted-takes whole link (Refuses why opened) h = tt
-lifted-takes whole link (Handles row) h = h

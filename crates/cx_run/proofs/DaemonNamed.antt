@@ -1,5 +1,5 @@
 -- A daemon keeps its name, whatever comes to it and whatever its book replies.
-use Rattle.std.proofs.Common.{◌≡◌, ◌==◌, ℕ, Bool, true, false, List, [], ◌∷◌, length, Option, Some, None, Result, Ok, Err, refl, ap, ◌∙◌}
+use Rattle.std.proofs.Common.{◌≡◌, ℕ, Bool, true, false, List, [], length, Option, Some, None, Result, Ok, Err, refl, ap, ◌∙◌}
 use Rattle.std.specs.Prelude.{nat_le, if◌then◌else◌}
 use Rattle.cx_desk.specs.Handlers.{Handlers}
 use Rattle.cx_journal.specs.declared.outcomes.Reason.{Reason}
@@ -13,7 +13,7 @@ use Rattle.cx_rules.specs.Links.{Link, link_of}
 use Rattle.cx_rules.specs.Requests.{Requests, first_open, is_outdated, sealed_request, sends_request}
 use Rattle.cx_rules.specs.Rows.{Arrival, Outcome, Turned, Waits, Refuses, Handles, arrival, carried_out, fed, forgotten, goes_on, idles, new_link, refuses, turns}
 use Rattle.cx_rules.specs.Secured.{SealedFrame, Secured}
-use Rattle.cx_rules_session.specs.Asks.{Asks, Finished, Asking}
+use Rattle.cx_rules_session.specs.Asks.{Finished, Asking}
 use Rattle.cx_rules_session.specs.DaemonRule.{AsAcceptor, AsConnector, Daemon, DaemonNode, DaemonStage, DaemonState, asking_open, book_after, book_reply, daemon_rule, daemon_step, fetches, fetches_on, gone, gone_by_kind, guest_gone, hosts, is_fetching, lossy_gone, me, moved_to, on_dropped, open_to_ask, opens, opens_own, submits, ticks, turn, turned_at, undialled, unreached, with_asker}
 use Rattle.cx_rules_session.specs.Guests.{GuestStage}
 use Rattle.cx_rules_session.specs.Hosting.{Hosted, guest_turned}

@@ -30,25 +30,23 @@ use Rattle.cx_journal.specs.declared.faults.BytesFault.{BytesFault}
 use Rattle.cx_journal.specs.declared.faults.SessionFault.TheVariants as session
 use Rattle.cx_journal.specs.declared.faults.BytesFault.TheVariants.{Unexpected}
 use Rattle.cx_journal.specs.declared.faults.LoginFault.TheVariants.{Method, Mode, SignatureWrong}
-use Rattle.cx_journal.specs.declared.outcomes.Outcome.{Outcome}
 use Rattle.cx_journal.specs.declared.outcomes.Reason.{Reason}
 use Rattle.cx_journal.specs.declared.outcomes.Reason.TheVariants as reason
 use Rattle.cx_rules.specs.Acceptor.{AwaitsBanner, AwaitsHello, AwaitsRequest, AwaitsProof, AwaitsSignature, AwaitsIdent, Open, Finished as Done, denies, finished, missing_told, misses, on_auth_request, on_banner, on_hello, on_signature, server_ident}
-use Rattle.cx_rules.specs.Fronts.{Front, ahead_of, banner_next, keys_behind, opened_parts, plain_next, sealed_ahead, secure_next, secure_read, taking}
+use Rattle.cx_rules.specs.Fronts.{ahead_of, banner_next, keys_behind, opened_parts, plain_next, sealed_ahead, secure_next, secure_read, taking}
 use Rattle.cx_rules.specs.Greetings.{own_hello}
 use Rattle.cx_rules.specs.Holdings.{Asker}
 use Rattle.cx_rules.specs.Links.{Link}
 use Rattle.cx_rules.specs.Messages.{acknowledgement, message_in, secure_frames}
 use Rattle.cx_rules.specs.MonitorRule.{session_reset}
 use Rattle.cx_rules.specs.Payloads.{control, due, payload}
-use Rattle.cx_rules.specs.Rows.{Turned, Waits, Refuses, Handles, at, goes_on, plain_sent, refused_entry, refuses, refuses_bytes, secure_sent, turned_by, unless_refused, with_opened}
+use Rattle.cx_rules.specs.Rows.{Turned, Waits, Refuses, Handles, at, goes_on, plain_sent, refuses, refuses_bytes, secure_sent, unless_refused, with_opened}
 use Rattle.cx_rules.specs.Secured.{Keys, SealedFrame, Secured, is_signed, plain_frame, secure_frame, signature_found, under}
 use Rattle.cx_rules.specs.Upkeep.{on_keepalive, on_keepalive_ack}
 use Rattle.cx_rules_session.specs.Asks.{Asks, Finished, Asking, asks_map, with_book}
 use Rattle.cx_rules_session.specs.Envelopes.{authorize_challenge_content, authorize_reply_content, session_sealed}
-use Rattle.cx_rules_session.specs.Guests.{GuestArrival, GuestRow, GuestStage, Served, authority_of, authorized_frame, challenges, done_sent, looked_entry, on_auth_request_more, on_first, on_second, sealed_challenge_frame, authorizes, turns_away, unless_turned_away}
-use Rattle.cx_rules_session.specs.Hosting.{Deciding, Hosted, Instruction, admission_of, answer_message, asks_admission, comes_to, cookie_drawn, decided_by, guest_turned, handled_entry, hosted_behind, instruction_of, no_session_moves, on_admission, on_checked, on_client_ident, on_ident, on_message, on_open, on_reconnect, on_resumption, on_taken, on_untaken, outcome_of, reconnect_ok, served_as, session_retry, session_retry_global, tells_why}
-use Rattle.cx_rules_session.specs.Kinds.{entered_before}
+use Rattle.cx_rules_session.specs.Guests.{GuestArrival, GuestRow, GuestStage, Served, authority_of, authorized_frame, challenges, done_sent, on_auth_request_more, on_first, on_second, sealed_challenge_frame, authorizes, turns_away, unless_turned_away}
+use Rattle.cx_rules_session.specs.Hosting.{Deciding, Hosted, Instruction, answer_message, asks_admission, comes_to, cookie_drawn, decided_by, guest_turned, hosted_behind, instruction_of, on_admission, on_checked, on_client_ident, on_ident, on_message, on_open, on_reconnect, on_resumption, on_taken, on_untaken, outcome_of, reconnect_ok, served_as, session_retry, session_retry_global, tells_why}
 use Rattle.cx_rules_session.specs.Lossy.{is_lossy, lossy_flags}
 use Rattle.cx_sealed.specs.declared.service_ticket.ServiceTicket.{ServiceTicket}
 use Rattle.cx_secure.specs.declared.refusals.SecureRefusal.{SecureRefusal}

@@ -2,8 +2,10 @@ pub mod Walking
 pub mod Led
 pub mod Taking
 pub mod MonitorTakes
-pub mod ClientNamed
 pub mod ClientTakes
+pub mod Outcomes
+pub mod CallKeeps
+pub mod ClientKept
 pub mod GuestTakes
 pub mod DaemonNamed
 pub mod EntityNamed
@@ -11,4 +13,6 @@ pub mod Turning
 pub mod Untaken
 pub mod OpensMonitor
 pub mod Visiting
+pub mod Untold
+pub mod SetUp
 pub mod PointsTell

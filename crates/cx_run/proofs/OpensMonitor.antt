@@ -1,6 +1,6 @@
--- No step of a node opens a link but to the monitor.
-use Rattle.std.proofs.Common.{◌≡◌, ℕ, Bool, true, false, List, [], ◌∷◌, length, Option, Some, None, Result, Ok, Err, refl}
-use Rattle.std.specs.Prelude.{nat_le, if◌then◌else◌}
+-- No step of a node opens a link but to the monitor, where no link to a daemon is asked for.
+use Rattle.std.proofs.Common.{◌≡◌, ℕ, Bool, true, false, List, Option, Some, None, refl}
+use Rattle.std.specs.Prelude.{if◌then◌else◌}
 use Rattle.std.specs.List.{AllByRecursion}
 use Rattle.cx_base.specs.declared.nodes.NodeName.{NodeName}
 use Rattle.cx_base.specs.declared.nodes.NodeName.TheVariants as node
@@ -8,20 +8,17 @@ use Rattle.cx_desk.specs.Handlers.{Handlers}
 use Rattle.cx_line_words.specs.declared.choices.LeftState.{LeftState}
 use Rattle.cx_rotate.specs.declared.states.KeptState.{KeptState}
 use Rattle.cx_rules.specs.Acceptor.{AwaitsBanner, AwaitsHello, AwaitsRequest, AwaitsProof, AwaitsSignature, AwaitsIdent, Open}
-use Rattle.cx_rules.specs.ClientRule as client
-use Rattle.cx_rules.specs.ClientRule.{Client, ClientNode, client_rule}
 use Rattle.cx_rules.specs.Connector as connector
-use Rattle.cx_rules.specs.Greetings.{own_banner}
 use Rattle.cx_rules.specs.Inputs.{Input, Opened, NoLink, Bytes, Turn, Gone, Look, Tick, Submit, Restart}
 use Rattle.cx_rules.specs.Links.{Link, link_of}
 use Rattle.cx_rules.specs.Monitor.{MonitorNode, MonitorStage}
 use Rattle.cx_rules.specs.MonitorRule as monitor
 use Rattle.cx_rules.specs.MonitorRule.{monitor_rule, noted}
 use Rattle.cx_rules.specs.Requests.{Requests, first_open, is_outdated}
-use Rattle.cx_rules.specs.Rows.{Arrival, Node, Outcome, Turned, Waits, Refuses, Handles, arrival, carried_out, fed, forgotten, goes_on, idles, lifted_turn, new_link, refuses, turns}
+use Rattle.cx_rules.specs.Rows.{Arrival, Node, Outcome, Turned, Waits, Refuses, Handles, arrival, fed, forgotten, idles, turns}
 use Rattle.cx_rules.specs.Secured.{Secured}
 use Rattle.cx_rules_session.specs.Asks.{Finished, Asking}
-use Rattle.cx_rules_session.specs.DaemonRule.{AsAcceptor, AsConnector, Daemon, DaemonNode, DaemonStage, DaemonState, asking_open, book_after, book_reply, daemon_rule, fetches, fetches_on, gone, gone_by_kind, guest_gone, hosts, is_fetching, lossy_gone, me, moved_to, on_dropped, opens, opens_own, submits, ticks, turn, turned_at, undialled, unreached, with_asker}
+use Rattle.cx_rules_session.specs.DaemonRule.{AsAcceptor, AsConnector, Daemon, DaemonNode, DaemonStage, asking_open, book_after, book_reply, daemon_rule, fetches, fetches_on, gone, gone_by_kind, guest_gone, hosts, is_fetching, lossy_gone, me, moved_to, on_dropped, opens, opens_own, submits, ticks, turn, turned_at, undialled, unreached, with_asker}
 use Rattle.cx_rules_session.specs.Guests.{GuestStage}
 use Rattle.cx_rules_session.specs.Hosting.{Hosted, guest_turned}
 use Rattle.cx_rules_session.specs.Kinds.{arrival_in, turn_of_kind}
@@ -33,7 +30,10 @@ use Rattle.cx_steps.specs.declared.events.Command.{Command}
 use Rattle.cx_steps.specs.declared.events.Command.TheVariants as command
 use Rattle.cx_steps.specs.declared.events.Peer.{Peer}
 use Rattle.cx_steps.specs.declared.events.Peer.TheVariants as peer
+use Rattle.cx_run.specs.Calling.{IsNoCall}
+use Rattle.cx_run.specs.Visits.{IsUnvisited}
 use Rattle.cx_run.specs.Happenings.{EntityNode, OfClient, OfDaemon, Happening, Nodes, entity_of, entity_rule, entity_steps, monitor_steps, steps, steps_of}
+use Rattle.cx_run.proofs.ClientKept.{whole-opens-monitor}
 use Rattle.cx_run.proofs.GuestTakes.{Always, TakesHosted, always-book, always-map, always-weaker, guest-takes}
 
 abbrev pub OpensMonitor : Effects → Type 0
@@ -66,47 +66,6 @@ monitor-opens m (Submit said) reading draw = tt
 monitor-opens m Tick reading draw = tt
 monitor-opens m (Look view) reading draw = tt
 monitor-opens m Restart reading draw = tt
-
--- ---- a client
-
-client-turn : (c : ClientNode) (reading : ℕ) (draw : List ℕ) (found : Option (Link connector.Stage)) → OpensMonitor (client.turn c reading draw found).out
-client-turn c reading draw None = tt
-client-turn c reading draw (Some link) =
-    turns-open c (arrival (client.me c.own) c.own link reading draw)
-    (lifted_turn (client.with_asker c.own) (connector.turned_at (arrival (client.me c.own) c.own.asker link reading draw) link.stage))
-
-client-begins : (c : ClientNode) (reading : ℕ) (draw : List ℕ) (number : ℕ) (to : Option Peer) → OpensMonitor (client.opens c reading draw number to).out
-client-begins c reading draw number None = tt
-client-begins c reading draw number (Some (peer.Daemon daemon)) = tt
-client-begins c reading draw number (Some peer.Monitor) = tt
-
-client-loses : (c : ClientNode) (found : Option (Link connector.Stage)) → OpensMonitor (client.loses c found).out
-client-loses c None = tt
-client-loses c (Some link) = tt
-
-client-renews : (c : ClientNode) (services reading : ℕ) (draw : List ℕ) (found : Option (Link connector.Stage × (Secured × Requests)))
-    → OpensMonitor (client.renews_on c services reading draw found).out
-client-renews c services reading draw None = tt
-client-renews c services reading draw (Some (link, (s, requests))) = tt
-
-client-submits : (c : ClientNode) (reading : ℕ) (draw : List ℕ) (said : Command) → OpensMonitor (client.submits c reading draw said).out
-client-submits c reading draw (command.Login services) = (refl, tt)
-client-submits c reading draw (command.Renew services) = client-renews c services reading draw (first_open connector.kept_open c.links)
-client-submits c reading draw command.Fetch = tt
-client-submits c reading draw (command.Connect daemon lossy) = tt
-client-submits c reading draw (command.Send daemon operation) = tt
-client-submits c reading draw (command.Drop session) = tt
-
-client-opens : (c : ClientNode) (input : Input) (reading : ℕ) (draw : List ℕ) → OpensMonitor (client_rule c input reading draw).out
-client-opens c (Opened number to) reading draw = client-begins c reading draw number to
-client-opens c (NoLink to) reading draw = tt
-client-opens c (Bytes number bytes) reading draw = fed-opens c bytes (link_of number c.links)
-client-opens c (Turn number) reading draw = client-turn c reading draw (link_of number c.links)
-client-opens c (Gone number) reading draw = client-loses c (link_of number c.links)
-client-opens c (Submit said) reading draw = client-submits c reading draw said
-client-opens c Tick reading draw = tt
-client-opens c (Look view) reading draw = tt
-client-opens c Restart reading draw = tt
 
 -- ---- a daemon, whatever its book replies
 
@@ -230,9 +189,10 @@ module _ (d : DaemonNode) where
 
 -- ---- any node
 
-entity-opens : (handlers : Handlers) (entity : EntityNode) (input : Input) (reading : ℕ) (draw : List ℕ) → OpensMonitor (entity_rule handlers entity input reading draw).out
-entity-opens handlers (OfClient c) input reading draw = client-opens c input reading draw
-entity-opens handlers (OfDaemon d) input reading draw =
+entity-opens : (handlers : Handlers) (entity : EntityNode) (input : Input) (reading : ℕ) (draw : List ℕ) → IsNoCall input
+    → OpensMonitor (entity_rule handlers entity input reading draw).out
+entity-opens handlers (OfClient c) input reading draw is = whole-opens-monitor c input reading draw is
+entity-opens handlers (OfDaemon d) input reading draw is =
     always-book (Opens d.node) book_reply book_after d.book (daemon_rule handlers d.node input reading draw) (rule-opens d.node handlers input reading draw)
 
 saved-opens : (nodes : Nodes) (o : Outcome MonitorNode) (left : Option LeftState) (saved : Option KeptState) → OpensMonitor o.out → OpensMonitor (monitor_steps nodes o left saved).out
@@ -240,15 +200,33 @@ saved-opens nodes o (Some left) (Some saved) h = tt
 saved-opens nodes o (Some left) None h = h
 saved-opens nodes o None saved h = h
 
-found-opens : (nodes : Nodes) (h : Happening) (who : NodeName) → OpensMonitor (steps_of nodes h who).out
-found-opens nodes h node.Monitor =
+found-opens : (nodes : Nodes) (h : Happening) (who : NodeName) → IsNoCall h.input → OpensMonitor (steps_of nodes h who).out
+found-opens nodes h node.Monitor is =
     let o : Outcome MonitorNode = monitor_rule nodes.monitor h.input h.reading h.draw in
     saved-opens nodes o h.left o.out.save (monitor-opens nodes.monitor h.input h.reading h.draw)
-found-opens nodes h (node.Entity name) = by_found (entity_of name nodes)
+found-opens nodes h (node.Entity name) is = by_found (entity_of name nodes)
   where
     by_found : (found : Option EntityNode) → OpensMonitor (entity_steps nodes h name found).out
     by_found None = tt
-    by_found (Some entity) = entity-opens nodes.handlers entity h.input h.reading h.draw
+    by_found (Some entity) = entity-opens nodes.handlers entity h.input h.reading h.draw is
 
-pub steps-open : (nodes : Nodes) (h : Happening) → OpensMonitor (steps nodes h).out
-steps-open nodes h = found-opens nodes h h.node
+pub steps-open : (nodes : Nodes) (h : Happening) → IsNoCall h.input → OpensMonitor (steps nodes h).out
+steps-open nodes h is = found-opens nodes h h.node is
+
+-- so it is of each event of such a run
+pub unvisited-opens : (who : NodeName) (input : Input) → IsUnvisited who input → IsNoCall input
+unvisited-opens node.Monitor (Submit (command.Connect daemon lossy)) is = is
+unvisited-opens (node.Entity name) (Submit (command.Connect daemon lossy)) is = is
+unvisited-opens who (Submit (command.Login services)) is = tt
+unvisited-opens who (Submit (command.Renew services)) is = tt
+unvisited-opens who (Submit command.Fetch) is = tt
+unvisited-opens who (Submit (command.Send daemon operation)) is = tt
+unvisited-opens who (Submit (command.Drop session)) is = tt
+unvisited-opens who (Opened number to) is = tt
+unvisited-opens who (NoLink to) is = tt
+unvisited-opens who (Bytes number bytes) is = tt
+unvisited-opens who (Turn number) is = tt
+unvisited-opens who (Gone number) is = tt
+unvisited-opens who Tick is = tt
+unvisited-opens who (Look view) is = tt
+unvisited-opens who Restart is = tt

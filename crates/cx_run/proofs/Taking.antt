@@ -1,5 +1,6 @@
 -- A turn that handles something takes some of what is ahead on its link, which goes on with its number, or is shut.
 use Rattle.std.proofs.Common.{◌≡◌, ℕ, ◌+◌, ◌<◌, ◌≤◌, ◌==◌, Bool, true, false, List, [], length, take, drop, Option, Some, None, Result, Ok, Err, refl, ap, arith, length-drop}
+use Rattle.std.specs.Option.{option_map}
 use Rattle.std.specs.Prelude.{◌-◌, ◌%◌, ◌||◌, IfSome, nat_lt, if◌then◌else◌}
 use Rattle.cx_control.specs.Upkeep.{keepalive2_layout, keepalive2_ack_layout}
 use Rattle.cx_control.specs.declared.upkeep.Keepalive2.{Keepalive2}
@@ -14,7 +15,6 @@ use Rattle.cx_frame.specs.declared.refusals.BannerRefusal.{BannerRefusal}
 use Rattle.cx_frame.specs.declared.refusals.BannerRefusal.TheVariants.{BadBanner, Features}
 use Rattle.cx_frame.specs.declared.refusals.FrameRefusal.{FrameRefusal}
 use Rattle.cx_journal.specs.declared.faults.BytesFault.{BytesFault}
-use Rattle.cx_journal.specs.declared.faults.BytesFault.TheVariants.{Unexpected}
 use Rattle.cx_secure.specs.Opening.{head_step, rest_step}
 use Rattle.cx_secure.specs.Plains as secure
 use Rattle.cx_secure.specs.declared.refusals.SecureRefusal.{SecureRefusal}
@@ -26,12 +26,13 @@ use Rattle.cx_stream.specs.SecureStreams.{Ahead, behind_head, secure_frame_at}
 use Rattle.cx_rules.specs.Fronts.{Front, NotYet, Broken, Next, ahead_of, banner_next, banner_read, keys_behind, opened_parts, plain_next, plain_read, sealed_ahead, secure_next, secure_read, taking}
 use Rattle.cx_rules.specs.Links.{Link}
 use Rattle.cx_rules.specs.Payloads.{payload}
-use Rattle.cx_rules.specs.Rows.{Arrival, Row, Turned, Waits, Refuses, Handles, plain_sent, refuses_bytes, secure_sent, turned_by}
+use Rattle.cx_rules.specs.Rows.{Arrival, Row, Turned, Waits, Refuses, Handles, plain_sent, secure_sent, turned_by}
 use Rattle.cx_rules.specs.Secured.{Keys, SealedFrame, Secured}
 use Rattle.cx_rules.specs.Upkeep.{on_keepalive, on_keepalive_ack}
 use Rattle.cx_rules.proofs.AlikeRows.{SameAhead}
 use Rattle.cx_rules.proofs.Fitting.{Fits, banner-fits, plain-fits, secure-fits}
 use Rattle.cx_rules.specs.Messages.{on_upkeep_or}
+use Rattle.cx_rules_session.specs.Kinds.{in_stage, of_kind, turn_of_kind}
 
 -- ---- what is read has bytes
 
@@ -232,3 +233,14 @@ module _ {Own Stage : Type 0} where
       by_cases opened (Ok (Some (f, n))) some le =
           taking-takes link n (row (taking link n, f, keys_behind keys f) opened).link some le (each (taking link n) f (keys_behind keys f) opened)
       by_cases opened (Err why) some le = tt
+
+-- a row of one kind of link takes as one of the node
+pub kind-takes : {Part Own S T : Type 0} (whole : Part → Own) (kind : S → T) (link : Link T) (stage : S) (t : Turned Part S) → TurnTakes (in_stage link stage) t
+    → TurnTakes link (turn_of_kind whole kind t)
+kind-takes whole kind link stage Waits h = tt
+kind-takes whole kind link stage (Refuses why opened) h = tt
+kind-takes {Part} {Own} {S} {T} whole kind link stage (Handles row) h = by_link row.link h
+  where
+    by_link : (left : Option (Link S)) → Takes (in_stage link stage) left → Takes link (option_map (of_kind kind) left)
+    by_link None k = k
+    by_link (Some l) k = k

@@ -1,7 +1,6 @@
 -- A turn that handles something leaves less to be taken of its link, so a list that is as long as what is left bounds no turns.
 use Rattle.std.proofs.Common.{◌≡◌, ℕ, ◌<◌, ◌≤◌, ◌==◌, Bool, true, false, cond, List, [], ◌∷◌, ◌++◌, length, map, Option, Some, None, refl, sym, ap, subst, ◌∙◌, arith, eqb-true, eq-eqb, length-drop}
 use Rattle.std.specs.Prelude.{◌&&◌, filter, find, nat_lt, not, if◌then◌else◌}
-use Rattle.std.specs.Option.{option_map}
 use Rattle.std.proofs.lemmas.Bool.{ltb-true}
 use Rattle.cx_base.proofs.Names.{same_name_is}
 use Rattle.cx_base.specs.Names.{Name}
@@ -12,22 +11,22 @@ use Rattle.cx_line_words.specs.declared.choices.LeftState.TheVariants as left
 use Rattle.cx_line_words.specs.declared.choices.Side.{Side}
 use Rattle.cx_rotate.specs.declared.states.KeptState.{KeptState}
 use Rattle.cx_desk.specs.Handlers.{Handlers}
-use Rattle.cx_rules.specs.ClientRule.{Client, ClientNode, me, with_asker}
-use Rattle.cx_rules.specs.ClientRule as client
 use Rattle.cx_rules.specs.Connector as connector
 use Rattle.cx_rules.specs.Fronts.{ahead_of}
 use Rattle.cx_rules.specs.Inputs.{Input, Turn, Gone, Restart}
 use Rattle.cx_rules.specs.Links.{Link, link_of, put_link, without_link}
 use Rattle.cx_rules.specs.Monitor.{MonitorArrival, MonitorNode, MonitorStage}
 use Rattle.cx_rules.specs.MonitorRule.{monitor_rule, noted, turn, turned_at}
-use Rattle.cx_rules.specs.Rows.{Arrival, Node, Outcome, Turned, Waits, Refuses, Handles, arrival, links_behind, lifted_turn}
+use Rattle.cx_rules.specs.Rows.{Arrival, Node, Outcome, Turned, Waits, Refuses, Handles, arrival, links_behind}
 use Rattle.cx_rules.specs.Rows as rows
 use Rattle.cx_rules_session.specs.Asks.{with_book}
+use Rattle.cx_rules_session.specs.ClientRule as client
+use Rattle.cx_rules_session.specs.ClientRule.{ClientStage, WholeClient, WholeClientNode}
 use Rattle.cx_rules_session.specs.DaemonRule as daemon
-use Rattle.cx_rules_session.specs.DaemonRule.{AsAcceptor, AsConnector, Daemon, DaemonNode, DaemonStage, DaemonState, book_after, book_reply, hosts, is_in, is_older, moved_to}
+use Rattle.cx_rules_session.specs.DaemonRule.{AsAcceptor, AsConnector, Daemon, DaemonNode, DaemonStage, book_after, book_reply, hosts, is_in, is_older, moved_to}
 use Rattle.cx_rules_session.specs.Guests.{GuestStage}
 use Rattle.cx_rules_session.specs.Hosting.{Deciding, Hosted, guest_turned}
-use Rattle.cx_rules_session.specs.Kinds.{arrival_in, in_stage, of_kind, turn_of_kind}
+use Rattle.cx_rules_session.specs.Kinds.{arrival_in, turn_of_kind}
 use Rattle.cx_rules.specs.Holdings.{Asker}
 use Rattle.cx_steps.specs.declared.events.Peer.{Peer}
 use Rattle.cx_run.specs.Deliveries.{Given, came_at, came_on, came_to, far_side, followed, given, gives, open_all, restarts, tells, tells_gone, turns, vanish}
@@ -35,10 +34,11 @@ use Rattle.cx_run.specs.Happenings.{EntityNode, OfClient, OfDaemon, Happening, N
 use Rattle.cx_run.specs.Turning.{untaken_at, untaken_on, untaken_to}
 use Rattle.cx_run.specs.Wires.{Wire, end_of, ended, has_end, node_at, same_node, with_wire}
 use Rattle.cx_run.specs.Worlds.{Post, World, carried, happening, opened_wires, post_of}
-use Rattle.cx_run.proofs.ClientTakes.{asker-takes, lifted-takes}
+use Rattle.cx_run.proofs.ClientKept.{whole-takes}
+use Rattle.cx_run.proofs.ClientTakes.{asker-takes}
 use Rattle.cx_run.proofs.GuestTakes.{Always, TakesHosted, always-book, always-map, always-weaker, guest-takes}
 use Rattle.cx_run.proofs.MonitorTakes.{monitor-takes}
-use Rattle.cx_run.proofs.Taking.{Takes, TurnTakes}
+use Rattle.cx_run.proofs.Taking.{Takes, TurnTakes, kind-takes}
 
 -- ---- a table of links
 
@@ -134,30 +134,17 @@ monitor-less m n reading draw (Some link) e =
       less = turns-less m n a (turned_at a link.stage) (found-number n m.links link e) (monitor-takes a link.stage);
     }
 
-client-less : (c : ClientNode) (n reading : ℕ) (draw : List ℕ) (found : Option (Link connector.Stage)) → link_of n c.links ≡ found
+client-less : (c : WholeClientNode) (n reading : ℕ) (draw : List ℕ) (found : Option (Link ClientStage)) → link_of n c.links ≡ found
     → TurnsLess n found (client.turn c reading draw found)
 client-less c n reading draw None e = record { opens = refl; less = λ t. absurd cc }
 client-less c n reading draw (Some link) e =
-    let a : Arrival Client connector.Stage = arrival (me c.own) c.own link reading draw in
-    let t : Turned Client connector.Stage = lifted_turn (with_asker c.own) (connector.turned_at (arrival (me c.own) c.own.asker link reading draw) link.stage) in
+    let a : Arrival WholeClient ClientStage = arrival (client.me c.own) c.own link reading draw in
     record {
-      opens = turns-open c a t;
-      less = turns-less c n a t (found-number n c.links link e)
-          (lifted-takes (with_asker c.own) link (connector.turned_at (arrival (me c.own) c.own.asker link reading draw) link.stage) (asker-takes (arrival (me c.own) c.own.asker link reading draw) link.stage));
+      opens = turns-open c a (client.turned_at a link.stage);
+      less = turns-less c n a (client.turned_at a link.stage) (found-number n c.links link e) (whole-takes c reading draw link link.stage);
     }
 
 -- ---- a turn of a daemon
-
--- a row of one kind of link takes as one of the node
-kind-takes : {Part Own S T : Type 0} (whole : Part → Own) (kind : S → T) (link : Link T) (stage : S) (t : Turned Part S) → TurnTakes (in_stage link stage) t
-    → TurnTakes link (turn_of_kind whole kind t)
-kind-takes whole kind link stage Waits h = tt
-kind-takes whole kind link stage (Refuses why opened) h = tt
-kind-takes {Part} {Own} {S} {T} whole kind link stage (Handles row) h = by_link row.link h
-  where
-    by_link : (left : Option (Link S)) → Takes (in_stage link stage) left → Takes link (option_map (of_kind kind) left)
-    by_link None k = k
-    by_link (Some l) k = k
 
 -- what is found where others than it are left out
 kept-found : {Stage : Type 0} (n : ℕ) (test : Link Stage → Bool) → ((l : Link Stage) → (l.number == n) ≡ true → test l ≡ true) → (links : List (Link Stage))

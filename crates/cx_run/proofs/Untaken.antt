@@ -1,20 +1,21 @@
 -- Of what a machine holds of its links as much is left to be taken as of those for which they stand.
 use Rattle.std.proofs.Common.{◌≡◌, ℕ, Option, Some, None, refl, ap, ◌∙◌}
 use Rattle.std.specs.Option.{option_map}
-use Rattle.cx_rules.specs.Abridged.{ClientStandsFor, MonitorStandsFor, abridged_asker_link, abridged_link}
+use Rattle.cx_rules.specs.Abridged.{MonitorStandsFor, abridged_link}
 use Rattle.cx_rules.specs.Acceptor.{AwaitsBanner, AwaitsHello, AwaitsRequest, AwaitsProof, AwaitsSignature, AwaitsIdent, Open}
-use Rattle.cx_rules.specs.ClientRule.{ClientNode}
 use Rattle.cx_rules.specs.Connector as connector
 use Rattle.cx_rules.specs.Fronts.{ahead_of}
 use Rattle.cx_rules.specs.Links.{Link, link_of}
 use Rattle.cx_rules.specs.Monitor.{MonitorNode, MonitorStage}
 use Rattle.cx_rules.proofs.AcceptorForgets.{acceptor_link_of}
 use Rattle.cx_rules.proofs.Abridging.{link_of_map}
-use Rattle.cx_rules.proofs.AskerForgets.{asker_link_of}
 use Rattle.cx_rules_session.proofs.DaemonForgets.{daemon-forgets-links}
+use Rattle.cx_rules_session.proofs.WholeClientForgets.{client-forgets-links}
+use Rattle.cx_rules_session.specs.ClientRule.{ClientStage, ToMonitor, ToDaemon, WholeClientNode}
 use Rattle.cx_rules_session.specs.DaemonRule.{DaemonNode, DaemonStage, DaemonState, AsAcceptor, AsConnector}
-use Rattle.cx_rules_session.specs.Forgets.{DaemonStandsFor, abridged_daemon_link}
+use Rattle.cx_rules_session.specs.Forgets.{DaemonStandsFor, WholeClientStandsFor, abridged_client_link, abridged_daemon_link}
 use Rattle.cx_rules_session.specs.Guests.{GuestStage}
+use Rattle.cx_rules_session.specs.Presenter as call
 use Rattle.cx_run.specs.Turning.{untaken_on}
 
 -- ---- the monitor
@@ -40,25 +41,32 @@ monitor-untaken m s n stands =
 
 -- ---- a client
 
-asker-ahead : (l : Link connector.Stage) (stage : connector.Stage)
-    → (let k : Link connector.Stage = record l { stage = stage } in ahead_of (abridged_asker_link k)) ≡ ahead_of l
-asker-ahead l (connector.AwaitsBanner asked) = refl
-asker-ahead l (connector.AwaitsHello asked) = refl
-asker-ahead l (connector.AwaitsChallenge asked) = refl
-asker-ahead l connector.AwaitsDone = refl
-asker-ahead l (connector.AwaitsSignature s login) = refl
-asker-ahead l (connector.AwaitsIdent s session) = refl
-asker-ahead l (connector.Open s requests) = refl
+client-ahead : (l : Link ClientStage) (stage : ClientStage) → (let k : Link ClientStage = record l { stage = stage } in ahead_of (abridged_client_link k)) ≡ ahead_of l
+client-ahead l (ToMonitor (connector.AwaitsBanner services)) = refl
+client-ahead l (ToMonitor (connector.AwaitsHello services)) = refl
+client-ahead l (ToMonitor (connector.AwaitsChallenge services)) = refl
+client-ahead l (ToMonitor connector.AwaitsDone) = refl
+client-ahead l (ToMonitor (connector.AwaitsSignature s login)) = refl
+client-ahead l (ToMonitor (connector.AwaitsIdent s session)) = refl
+client-ahead l (ToMonitor (connector.Open s requests)) = refl
+client-ahead l (ToDaemon (call.AwaitsBanner called)) = refl
+client-ahead l (ToDaemon (call.AwaitsHello called)) = refl
+client-ahead l (ToDaemon (call.AwaitsChallenge callee p)) = refl
+client-ahead l (ToDaemon (call.AwaitsDone callee answered)) = refl
+client-ahead l (ToDaemon (call.AwaitsSignature s callee)) = refl
+client-ahead l (ToDaemon (call.AwaitsIdent s callee cookie)) = refl
+client-ahead l (ToDaemon (call.AwaitsReconnect s callee cookie)) = refl
+client-ahead l (ToDaemon (call.Open s callee cookie)) = refl
 
-asker-found : (found : Option (Link connector.Stage)) → untaken_on (option_map abridged_asker_link found) ≡ untaken_on found
-asker-found None = refl
-asker-found (Some l) = asker-ahead l l.stage
+client-found : (found : Option (Link ClientStage)) → untaken_on (option_map abridged_client_link found) ≡ untaken_on found
+client-found None = refl
+client-found (Some l) = client-ahead l l.stage
 
-pub client-untaken : (c s : ClientNode) (n : ℕ) → ClientStandsFor c s → untaken_on (link_of n c.links) ≡ untaken_on (link_of n s.links)
+pub client-untaken : (c s : WholeClientNode) (n : ℕ) → WholeClientStandsFor c s → untaken_on (link_of n c.links) ≡ untaken_on (link_of n s.links)
 client-untaken c s n stands =
-    ap (λ (x : ClientNode). untaken_on (link_of n x.links)) stands.held
-    ∙ ap (λ (o : Option (Link connector.Stage)). untaken_on o) (asker_link_of n s.links)
-    ∙ asker-found (link_of n s.links)
+    ap (λ (x : WholeClientNode). untaken_on (link_of n x.links)) stands.held
+    ∙ ap (λ (o : Option (Link ClientStage)). untaken_on o) (link_of_map abridged_client_link client-forgets-links.number n s.links)
+    ∙ client-found (link_of n s.links)
 
 -- ---- a daemon
 

@@ -1,6 +1,6 @@
--- No guest comes to an entity in the run of a schedule: each link leads to the monitor, and so each event is of such a run.
-use Rattle.std.proofs.Common.{◌≡◌, ℕ, ◌==◌, Bool, true, false, cond, List, [], ◌∷◌, ◌++◌, length, map, filter, find, Option, Some, None, refl, sym, subst, ◌∙◌}
-use Rattle.std.specs.Prelude.{replicate, suc, zero, IfSome, if◌then◌else◌}
+-- No guest comes to an entity in the run of a schedule that tells no client to connect: each link leads to the monitor, and so each event is of such a run.
+use Rattle.std.proofs.Common.{◌≡◌, ℕ, ◌==◌, ◌||◌, Bool, true, false, cond, List, [], ◌∷◌, ◌++◌, length, filter, Option, Some, None, refl, sym, subst}
+use Rattle.std.specs.Prelude.{replicate, suc, IfSome, if◌then◌else◌}
 use Rattle.std.specs.List.{AllByRecursion}
 use Rattle.cx_base.specs.declared.nodes.NodeName.{NodeName}
 use Rattle.cx_base.specs.declared.nodes.NodeName.TheVariants as node
@@ -13,23 +13,24 @@ use Rattle.cx_lines.specs.declared.link_steps.LinkStep.{LinkStep}
 use Rattle.cx_lines.specs.declared.link_steps.LinkStep.TheVariants as link
 use Rattle.cx_lines.specs.declared.node_steps.NodeStep.{NodeStep}
 use Rattle.cx_lines.specs.declared.node_steps.NodeStep.TheVariants as step
+use Rattle.cx_desk.specs.Handlers.{Handlers}
 use Rattle.cx_line_words.specs.declared.choices.Side.{Side}
 use Rattle.cx_line_words.specs.declared.choices.Side.TheVariants.{Connector, Acceptor}
 use Rattle.cx_rules.specs.Inputs.{Input, Opened, Bytes, Turn, Gone, Restart, Tick, Submit}
-use Rattle.cx_steps.specs.declared.effects.Effects.{Effects}
 use Rattle.cx_steps.specs.declared.effects.Piece.{Piece}
 use Rattle.cx_steps.specs.declared.events.Command.TheVariants as told
 use Rattle.cx_steps.specs.declared.events.Peer.{Peer}
 use Rattle.cx_steps.specs.declared.events.Peer.TheVariants as peer
+use Rattle.cx_run.specs.Calling.{IsNoCall}
 use Rattle.cx_run.specs.Deliveries.{Given, arrives, arrives_from, came_at, comes, delivers, delivers_on, delivers_piece, drains, drains_side, far_side, first_of, followed, given, gives, gone_arrives, open_all, opens, restarts, round, rounds, settles, stay, tells, tells_gone, turns, under_way, vanish}
-use Rattle.cx_run.specs.Happenings.{Happening, steps}
+use Rattle.cx_run.specs.Happenings.{Happening}
 use Rattle.cx_run.specs.Opening.{opening_world}
 use Rattle.cx_run.specs.Runs.{setup_of, trace}
 use Rattle.cx_run.specs.Schedules.{acts_on, after_line, after_lines, arrives_again, cuts, ever_sent, injects, loses, on_link, on_node, services_sum, submits, submitted, without_first}
-use Rattle.cx_run.specs.Visits.{AreUnvisited, IsUnvisited}
+use Rattle.cx_run.specs.Visits.{AreUnvisited, IsUnvisited, has_session_line, is_call, is_drop, is_session_line}
 use Rattle.cx_run.specs.Wires.{End, Wire, end_of, ended, gone_at, has_end, new_wire, node_at, other, owes_gone, pieces_from, sent_from, side_of, wire_of, with_end, with_pieces, with_wire}
 use Rattle.cx_run.specs.Worlds.{Post, World, carried, happening, node_of, opened_wires, post_of, sends_all, sends_piece, shuts_all, shuts_link}
-use Rattle.cx_run.proofs.OpensMonitor.{OpensMonitor, steps-open}
+use Rattle.cx_run.proofs.OpensMonitor.{OpensMonitor, steps-open, unvisited-opens}
 use Rattle.cx_run.proofs.Turning.{post-is}
 
 -- ---- links to the monitor
@@ -40,7 +41,7 @@ ToMonitor wire = wire.accepting ≡ node.Monitor
 abbrev AllToMonitor : List Wire → Type 0
 AllToMonitor wires = AllByRecursion ToMonitor wires
 
-all-push : {X : Type 0} (P : X → Type 0) (xs : List X) (x : X) → AllByRecursion P xs → P x → AllByRecursion P (xs ++ x ∷ [])
+pub all-push : {X : Type 0} (P : X → Type 0) (xs : List X) (x : X) → AllByRecursion P xs → P x → AllByRecursion P (xs ++ x ∷ [])
 all-push P [] x h p = (p, tt)
 all-push P (y ∷ ys) x h p = (h.0, all-push P ys x h.1 p)
 
@@ -118,9 +119,9 @@ given-stays w who input is k = by_post (post_of who w.posts) refl
           (subst (λ (n : NodeName). IsUnvisited n input) (sym (post-is who w.posts post e)) is);
     }
 
-given-opens : (w : World) (input : Input) (found : Option Post) → OpensMonitor (given w input found).out
-given-opens w input None = tt
-given-opens w input (Some post) = steps-open w.nodes (happening w input post)
+given-opens : (w : World) (input : Input) (found : Option Post) → IsNoCall input → OpensMonitor (given w input found).out
+given-opens w input None is = tt
+given-opens w input (Some post) is = steps-open w.nodes (happening w input post) is
 
 tells-stays : (w : World) (who : NodeName) (input : Input) → IsUnvisited who input → Unvisited w → Unvisited (tells w who input)
 tells-stays w who input is k =
@@ -205,7 +206,7 @@ followed-stays who g to k =
     }))
 
 given-followed : (w : World) (who : NodeName) (input : Input) → IsUnvisited who input → Unvisited w → Unvisited (followed who (gives w who input))
-given-followed w who input is k = followed-stays who (gives w who input) (given-opens w input (post_of who w.posts)) (given-stays w who input is k)
+given-followed w who input is k = followed-stays who (gives w who input) (given-opens w input (post_of who w.posts) (unvisited-opens who input is)) (given-stays w who input is k)
 
 comes-stays : (w : World) (who : NodeName) (input : Input) → IsUnvisited who input → Unvisited w → Unvisited (comes w who input)
 comes-stays w who input is k = given-followed w who input is k
@@ -274,19 +275,19 @@ settles-stays w k = rounds-stays w (replicate 64 0) k
 
 -- ---- lines
 
-submitted-stays : (w : World) (c : LineCommand) → Unvisited w → Unvisited (submitted w c)
-submitted-stays w (command.Login client services) k = comes-stays w (node.Entity client) (Submit (told.Login (services_sum services))) tt k
-submitted-stays w (command.Fetch daemon) k = comes-stays w (node.Entity daemon) (Submit told.Fetch) tt k
-submitted-stays w (command.Renew client services) k = comes-stays w (node.Entity client) (Submit (told.Renew (services_sum services))) tt k
-submitted-stays w (command.Connect client daemon lossy) k = k
-submitted-stays w (command.Send client daemon operation) k = k
+submitted-stays : (w : World) (c : LineCommand) → is_call c ≡ false → Unvisited w → Unvisited (submitted w c)
+submitted-stays w (command.Login client services) away k = comes-stays w (node.Entity client) (Submit (told.Login (services_sum services))) tt k
+submitted-stays w (command.Fetch daemon) away k = comes-stays w (node.Entity daemon) (Submit told.Fetch) tt k
+submitted-stays w (command.Renew client services) away k = comes-stays w (node.Entity client) (Submit (told.Renew (services_sum services))) tt k
+submitted-stays w (command.Connect client daemon lossy) away k = absurd (cc)
+submitted-stays w (command.Send client daemon operation) away k = k
 
-submits-stays : (w : World) (c : LineCommand) → Unvisited w → Unvisited (submits w c)
-submits-stays w (command.Login client services) k = settles-stays (submitted w (command.Login client services)) (submitted-stays w (command.Login client services) k)
-submits-stays w (command.Fetch daemon) k = settles-stays (submitted w (command.Fetch daemon)) (submitted-stays w (command.Fetch daemon) k)
-submits-stays w (command.Renew client services) k = settles-stays (submitted w (command.Renew client services)) (submitted-stays w (command.Renew client services) k)
-submits-stays w (command.Connect client daemon lossy) k = k
-submits-stays w (command.Send client daemon operation) k = k
+submits-stays : (w : World) (c : LineCommand) → is_call c ≡ false → Unvisited w → Unvisited (submits w c)
+submits-stays w (command.Login client services) away k = settles-stays (submitted w (command.Login client services)) (submitted-stays w (command.Login client services) away k)
+submits-stays w (command.Fetch daemon) away k = settles-stays (submitted w (command.Fetch daemon)) (submitted-stays w (command.Fetch daemon) away k)
+submits-stays w (command.Renew client services) away k = settles-stays (submitted w (command.Renew client services)) (submitted-stays w (command.Renew client services) away k)
+submits-stays w (command.Connect client daemon lossy) away k = absurd (cc)
+submits-stays w (command.Send client daemon operation) away k = k
 
 first-stays : (w : World) (wire : Wire) (side : Side) (pieces : List (List ℕ)) → ToMonitor wire → Unvisited w → Unvisited (without_first w wire side pieces)
 first-stays w wire side [] to k = k
@@ -319,27 +320,32 @@ on_link-stays w (link.Inject number side bytes) k = injects-stays w side bytes (
 on_link-stays w (link.Again number side n to) k = again-stays w side (ever_sent n side (wire_of number w.wires)) (wire_of to w.wires) k
 on_link-stays w (link.Cut number) k = cuts-stays w (wire_of number w.wires) (found-to number w.wires k.wires) k
 
-on_node-stays : (w : World) (s : NodeStep) → Unvisited w → Unvisited (on_node w s)
-on_node-stays w (step.Clock reading) k = record { wires = k.wires; past = k.past }
-on_node-stays w (step.ClockOf who reading) k = record { wires = k.wires; past = k.past }
-on_node-stays w (step.Restart who) k = restarts-stays w who k
-on_node-stays w (step.FailSave left) k = record { wires = k.wires; past = k.past }
-on_node-stays w step.Settle k = settles-stays w k
-on_node-stays w (step.DropSession daemon number) k = k
-on_node-stays w (step.Tick who) k = settles-stays (comes w who Tick) (comes-stays w who Tick (tick-is who) k)
+on_node-stays : (w : World) (s : NodeStep) → is_drop s ≡ false → Unvisited w → Unvisited (on_node w s)
+on_node-stays w (step.Clock reading) away k = record { wires = k.wires; past = k.past }
+on_node-stays w (step.ClockOf who reading) away k = record { wires = k.wires; past = k.past }
+on_node-stays w (step.Restart who) away k = restarts-stays w who k
+on_node-stays w (step.FailSave left) away k = record { wires = k.wires; past = k.past }
+on_node-stays w step.Settle away k = settles-stays w k
+on_node-stays w (step.DropSession daemon number) away k = absurd (cc)
+on_node-stays w (step.Tick who) away k = settles-stays (comes w who Tick) (comes-stays w who Tick (tick-is who) k)
 
-acts-stays : (w : World) (l : Line) → Unvisited w → Unvisited (acts_on w l)
-acts-stays w (line.Setting setting) k = k
-acts-stays w (line.Submit c) k = submits-stays w c k
-acts-stays w (line.Do c) k = submitted-stays w c k
-acts-stays w (line.Link s) k = on_link-stays w s k
-acts-stays w (line.Node s) k = on_node-stays w s k
+acts-stays : (w : World) (l : Line) → is_session_line l ≡ false → Unvisited w → Unvisited (acts_on w l)
+acts-stays w (line.Setting setting) away k = k
+acts-stays w (line.Submit c) away k = submits-stays w c away k
+acts-stays w (line.Do c) away k = submitted-stays w c away k
+acts-stays w (line.Link s) away k = on_link-stays w s k
+acts-stays w (line.Node s) away k = on_node-stays w s away k
 
-lines-stay : (w : World) (lines : List Numbered) → Unvisited w → Unvisited (after_lines w lines)
-lines-stay w [] k = k
-lines-stay w (l ∷ lines) k =
+lines-stay : (w : World) (lines : List Numbered) → has_session_line lines ≡ false → Unvisited w → Unvisited (after_lines w lines)
+lines-stay w [] away k = k
+lines-stay w (l ∷ lines) away k =
     let there : World = record w { line = l.number } in
-    lines-stay (after_line w l) lines (acts-stays there l.line (record { wires = k.wires; past = k.past }))
+    let none = neither (is_session_line l.line) (has_session_line lines) away in
+    lines-stay (after_line w l) lines none.1 (acts-stays there l.line none.0 (record { wires = k.wires; past = k.past }))
+  where
+    neither : (a b : Bool) → (a || b) ≡ false → (a ≡ false) × (b ≡ false)
+    neither true b e = absurd (cc)
+    neither false b e = (refl, e)
 
-pub unvisited : (script : List Numbered) → AreUnvisited (trace script)
-unvisited script = (lines-stay (opening_world (setup_of script)) script (record { wires = tt; past = tt })).past
+pub unvisited : (handlers : Handlers) (script : List Numbered) → has_session_line script ≡ false → AreUnvisited (trace handlers script)
+unvisited handlers script away = (lines-stay (opening_world (setup_of handlers script)) script away (record { wires = tt; past = tt })).past

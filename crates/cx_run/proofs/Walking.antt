@@ -17,6 +17,7 @@ use Rattle.cx_line_words.specs.declared.choices.Side.TheVariants.{Connector, Acc
 use Rattle.cx_rules.specs.Inputs.{Input, Opened, Bytes, Turn, Gone, Restart, Tick, Submit}
 use Rattle.cx_steps.specs.declared.events.Command.TheVariants as told
 use Rattle.cx_steps.specs.declared.events.Peer.{Peer}
+use Rattle.cx_run.specs.Visits.{IsNoLook}
 use Rattle.cx_run.specs.Wires.{Wire, end_of, ended, gone_at, has_end, node_at, other, owes_gone, pieces_from, wire_of, with_pieces, with_wire}
 use Rattle.cx_run.specs.Worlds.{Post, World, carried, opened_wires, post_of}
 use Rattle.cx_run.specs.Deliveries.{Given, arrives, arrives_from, came_at, comes, delivers, delivers_on, delivers_piece, drains, drains_side, far_side, first_of, followed, given, gives, gone_arrives, open_all, opens, restarts, round, rounds, settles, stay, tells, tells_gone, turns, under_way, vanish}
@@ -25,20 +26,20 @@ use Rattle.cx_run.specs.Schedules.{acts_on, after_line, after_lines, arrives_aga
 module _ (P : World → Type 0)
     -- the same nodes and the same past
     (like : (w v : World) → v.nodes ≡ w.nodes → v.past ≡ w.past → P w → P v)
-    -- one event more
-    (given-keeps : (w : World) (input : Input) (post : Option Post) → P w → P (given w input post).world) where
-  kept-gives : (w : World) (who : NodeName) (input : Input) → P w → P (gives w who input).world
-  kept-gives w who input k = given-keeps w input (post_of who w.posts) k
+    -- one event more, which tells no view
+    (given-keeps : (w : World) (input : Input) (post : Option Post) → IsNoLook input → P w → P (given w input post).world) where
+  kept-gives : (w : World) (who : NodeName) (input : Input) → IsNoLook input → P w → P (gives w who input).world
+  kept-gives w who input untold k = given-keeps w input (post_of who w.posts) untold k
 
-  kept-tells : (w : World) (who : NodeName) (input : Input) → P w → P (tells w who input)
-  kept-tells w who input k = like (gives w who input).world (tells w who input) refl refl (kept-gives w who input k)
+  kept-tells : (w : World) (who : NodeName) (input : Input) → IsNoLook input → P w → P (tells w who input)
+  kept-tells w who input untold k = like (gives w who input).world (tells w who input) refl refl (kept-gives w who input untold k)
 
   kept-if : (b : Bool) (v w : World) → P v → P w → P (if b then v else w)
   kept-if true v w kv kw = kv
   kept-if false v w kv kw = kw
 
   kept-tells_gone : (w : World) (wire : Wire) (side : Side) → P w → P (tells_gone w wire side)
-  kept-tells_gone w wire side k = kept-if (end_of wire side).lives _ _ (kept-tells w (node_at wire side) (Gone wire.number) k) k
+  kept-tells_gone w wire side k = kept-if (end_of wire side).lives _ _ (kept-tells w (node_at wire side) (Gone wire.number) tt k) k
 
   kept-vanish : (who : NodeName) (w : World) (wires : List Wire) → P w → P (vanish who w wires)
   kept-vanish who w [] k = k
@@ -49,13 +50,13 @@ module _ (P : World → Type 0)
   kept-restarts : (w : World) (who : NodeName) → P w → P (restarts w who)
   kept-restarts w who k =
       let began = tells w who Restart in
-      kept-vanish who began (filter (has_end who) began.wires) (kept-tells w who Restart k)
+      kept-vanish who began (filter (has_end who) began.wires) (kept-tells w who Restart tt k)
 
   kept-opens : (w : World) (wire : Wire) (to : Peer) → P w → P (opens w wire to)
   kept-opens w wire to k =
       let there : World = record w { wires = w.wires ++ wire ∷ [] } in
-      kept-tells (tells there wire.connecting (Opened wire.number (Some to))) wire.accepting (Opened wire.number None)
-      (kept-tells there wire.connecting (Opened wire.number (Some to)) (like w there refl refl k))
+      kept-tells (tells there wire.connecting (Opened wire.number (Some to))) wire.accepting (Opened wire.number None) tt
+      (kept-tells there wire.connecting (Opened wire.number (Some to)) tt (like w there refl refl k))
 
   kept-open_all : (w : World) (links : List (Wire × Peer)) → P w → P (open_all w links)
   kept-open_all w [] k = k
@@ -69,20 +70,20 @@ module _ (P : World → Type 0)
       (kept-restarts free who (like g.world free refl refl k))
       (kept-open_all done (opened_wires who (length g.world.wires) g.out.opens) (like g.world done refl refl k))
 
-  kept-comes : (w : World) (who : NodeName) (input : Input) → P w → P (comes w who input)
-  kept-comes w who input k = kept-followed who (gives w who input) (kept-gives w who input k)
+  kept-comes : (w : World) (who : NodeName) (input : Input) → IsNoLook input → P w → P (comes w who input)
+  kept-comes w who input untold k = kept-followed who (gives w who input) (kept-gives w who input untold k)
 
   kept-turns : (w : World) (who : NodeName) (number : ℕ) (fuel : List ℕ) → P w → P (turns w who number fuel)
-  kept-turns w who number [] k = kept-comes w who (Turn number) k
+  kept-turns w who number [] k = kept-comes w who (Turn number) tt k
   kept-turns w who number (_ ∷ more) k =
       let g = gives w who (Turn number) in
-      let behind : P (followed who g) = kept-followed who g (kept-gives w who (Turn number) k) in
+      let behind : P (followed who g) = kept-followed who g (kept-gives w who (Turn number) tt k) in
       kept-if g.out.turned _ _ (kept-turns (followed who g) who number more behind) behind
 
   kept-arrives : (w : World) (who : NodeName) (number : ℕ) (bytes : List ℕ) → P w → P (arrives w who number bytes)
   kept-arrives w who number bytes k =
       let fed = comes w who (Bytes number bytes) in
-      kept-turns fed who number (came_at fed.nodes number who) (kept-comes w who (Bytes number bytes) k)
+      kept-turns fed who number (came_at fed.nodes number who) (kept-comes w who (Bytes number bytes) tt k)
 
   kept-arrives_from : (w : World) (wire : Wire) (side : Side) (bytes : List ℕ) → P w → P (arrives_from w wire side bytes)
   kept-arrives_from w wire side bytes k =
@@ -133,10 +134,10 @@ module _ (P : World → Type 0)
   -- ---- lines
 
   kept-submitted : (w : World) (c : LineCommand) → P w → P (submitted w c)
-  kept-submitted w (command.Login client services) k = kept-comes w (node.Entity client) (Submit (told.Login (services_sum services))) k
-  kept-submitted w (command.Fetch daemon) k = kept-comes w (node.Entity daemon) (Submit told.Fetch) k
-  kept-submitted w (command.Renew client services) k = kept-comes w (node.Entity client) (Submit (told.Renew (services_sum services))) k
-  kept-submitted w (command.Connect client daemon lossy) k = k
+  kept-submitted w (command.Login client services) k = kept-comes w (node.Entity client) (Submit (told.Login (services_sum services))) tt k
+  kept-submitted w (command.Fetch daemon) k = kept-comes w (node.Entity daemon) (Submit told.Fetch) tt k
+  kept-submitted w (command.Renew client services) k = kept-comes w (node.Entity client) (Submit (told.Renew (services_sum services))) tt k
+  kept-submitted w (command.Connect client daemon lossy) k = kept-comes w (node.Entity client) (Submit (told.Connect daemon lossy)) tt k
   kept-submitted w (command.Send client daemon operation) k = k
 
   kept-submits : (w : World) (c : LineCommand) → P w → P (submits w c)
@@ -145,7 +146,8 @@ module _ (P : World → Type 0)
   kept-submits w (command.Fetch daemon) k = kept-settles (submitted w (command.Fetch daemon)) (kept-submitted w (command.Fetch daemon) k)
   kept-submits w (command.Renew client services) k =
       kept-settles (submitted w (command.Renew client services)) (kept-submitted w (command.Renew client services) k)
-  kept-submits w (command.Connect client daemon lossy) k = k
+  kept-submits w (command.Connect client daemon lossy) k =
+      kept-settles (submitted w (command.Connect client daemon lossy)) (kept-submitted w (command.Connect client daemon lossy) k)
   kept-submits w (command.Send client daemon operation) k = k
 
   kept-without_first : (w : World) (wire : Wire) (side : Side) (pieces : List (List ℕ)) → P w → P (without_first w wire side pieces)
@@ -183,8 +185,8 @@ module _ (P : World → Type 0)
   kept-on_node w (step.Restart who) k = kept-restarts w who k
   kept-on_node w (step.FailSave left) k = like w (on_node w (step.FailSave left)) refl refl k
   kept-on_node w step.Settle k = kept-settles w k
-  kept-on_node w (step.DropSession daemon number) k = k
-  kept-on_node w (step.Tick who) k = kept-settles (comes w who Tick) (kept-comes w who Tick k)
+  kept-on_node w (step.DropSession daemon number) k = kept-comes w (node.Entity daemon) (Submit (told.Drop number)) tt k
+  kept-on_node w (step.Tick who) k = kept-settles (comes w who Tick) (kept-comes w who Tick tt k)
 
   kept-acts_on : (w : World) (l : Line) → P w → P (acts_on w l)
   kept-acts_on w (line.Setting setting) k = k

@@ -8,12 +8,12 @@ use Rattle.cx_line_words.specs.declared.choices.LeftState.{LeftState}
 use Rattle.cx_line_words.specs.declared.choices.LeftState.TheVariants as left
 use Rattle.cx_rotate.specs.declared.states.KeptState.{KeptState}
 use Rattle.cx_desk.specs.Handlers.{Handlers}
-use Rattle.cx_rules.specs.ClientRule.{ClientNode, client_rule}
 use Rattle.cx_rules.specs.Holdings.{Asker}
 use Rattle.cx_rules.specs.Inputs.{Input}
 use Rattle.cx_rules.specs.Monitor.{MonitorNode}
 use Rattle.cx_rules.specs.MonitorRule.{monitor_rule, unsaved}
 use Rattle.cx_rules.specs.Rows.{Outcome}
+use Rattle.cx_rules_session.specs.ClientRule.{WholeClientNode, whole_client_rule}
 use Rattle.cx_rules_session.specs.DaemonRule.{DaemonState, daemon_step}
 use Rattle.cx_steps.specs.Nothing.{nothing}
 use Rattle.cx_steps.specs.declared.effects.Effects.{Effects}
@@ -33,7 +33,7 @@ pub record Happening : Type 0 where
 
 -- the node of an entity: of a client, or of a daemon with its book of sessions
 pub data EntityNode : Type 0 where
-  OfClient : ClientNode → EntityNode
+  OfClient : WholeClientNode → EntityNode
   OfDaemon : DaemonState → EntityNode
 
 -- the nodes of a run: one monitor, and the entities; and for which kinds of operation the daemons have handlers
@@ -70,7 +70,7 @@ outcome_of kind o = record { state = kind o.state; out = o.out }
 
 -- by the rule of its kind
 abbrev pub entity_rule : Handlers → EntityNode → Input → ℕ → List ℕ → Outcome EntityNode
-entity_rule handlers (OfClient client) input reading draw = outcome_of OfClient (client_rule client input reading draw)
+entity_rule handlers (OfClient client) input reading draw = outcome_of OfClient (whole_client_rule client input reading draw)
 entity_rule handlers (OfDaemon daemon) input reading draw = outcome_of OfDaemon (daemon_step handlers daemon input reading draw)
 
 -- nothing comes to an entity that isn't declared

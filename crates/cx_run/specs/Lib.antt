@@ -3,6 +3,7 @@ pub mod Opening
 pub mod Wires
 pub mod Worlds
 pub mod Turning
+pub mod Calling
 pub mod Deliveries
 pub mod Schedules
 pub mod Served

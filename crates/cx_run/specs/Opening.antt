@@ -17,7 +17,7 @@ use Rattle.cx_line_words.specs.declared.choices.Modes.{Modes}
 use Rattle.cx_line_words.specs.declared.choices.Modes.TheVariants.{Crc, Secure, Both}
 use Rattle.cx_base.specs.declared.nodes.NodeName.{NodeName}
 use Rattle.cx_rotate.specs.declared.states.KeptState.{KeptState}
-use Rattle.cx_rules.specs.ClientRule.{opening_client}
+use Rattle.cx_rules_session.specs.ClientRule.{opening_whole_client}
 use Rattle.cx_rules.specs.Holdings.{Asker, holds_nothing, modes_of, no_view}
 use Rattle.cx_rules.specs.Monitor.{MonitorNode}
 use Rattle.cx_rules.specs.MonitorRule.{opening_monitor}
@@ -56,13 +56,9 @@ pub record Setup : Type 0 where
   pub leaks : List Leak
   pub handlers : Handlers
 
--- a daemon is asked for no operation yet: no line that is served opens a session
-abbrev pub no_handlers : Handlers
-no_handlers = record { read = false; write = false; exec = false }
-
--- where nothing is said
-abbrev pub plain_setup : Setup
-plain_setup = record { life = 3600; auth_life = 43200; entities = []; monitor_seed = 0; leaks = []; handlers = no_handlers }
+-- where nothing is said, and the daemons have these handlers
+abbrev pub plain_setup : Handlers → Setup
+plain_setup handlers = record { life = 3600; auth_life = 43200; entities = []; monitor_seed = 0; leaks = []; handlers = handlers }
 
 -- the entity of a name is changed
 abbrev pub changed : Name → (Declared → Declared) → Setup → Setup
@@ -153,7 +149,7 @@ daemon_opening asker = record { node = opening_daemon asker; book = empty_book }
 
 -- the node of an entity, by its type
 abbrev pub entity_in : Declared → EntityNode
-entity_in e = if is_daemon_type e.name.kind then OfDaemon (daemon_opening (asker_of e)) else OfClient (opening_client (asker_of e))
+entity_in e = if is_daemon_type e.name.kind then OfDaemon (daemon_opening (asker_of e)) else OfClient (opening_whole_client (asker_of e))
 
 abbrev pub nodes_of : Setup → Nodes
 nodes_of setup = record { monitor = monitor_of setup; entities = map entity_in setup.entities; handlers = setup.handlers }

@@ -1,4 +1,4 @@
--- What each line of a schedule does to the world. Lines that no rule serves yet do nothing: connects, sends and drops.
+-- What each line of a schedule does to the world. A line that isn't served yet, an operation that is sent, does nothing.
 use Rattle.std.specs.Prelude.{ℕ, zero, suc, List, [], ◌∷◌, map, sum_by, Option, Some, None, if◌then◌else◌}
 use Rattle.std.specs.List.{slice_get}
 use Rattle.cx_base.specs.declared.kinds.EntityType.{EntityType}
@@ -28,12 +28,12 @@ use Rattle.cx_run.specs.Worlds.{Post, World}
 abbrev pub services_sum : List EntityType → ℕ
 services_sum services = sum_by number_of services
 
--- a client logs in or asks for tickets, a daemon for the generations of its type; the other commands do nothing yet
+-- a client logs in, asks for tickets, or calls a daemon; a daemon asks for the generations of its type
 abbrev pub submitted : World → LineCommand → World
 submitted w (command.Login client services) = comes w (node.Entity client) (Submit (told.Login (services_sum services)))
 submitted w (command.Fetch daemon) = comes w (node.Entity daemon) (Submit told.Fetch)
 submitted w (command.Renew client services) = comes w (node.Entity client) (Submit (told.Renew (services_sum services)))
-submitted w (command.Connect client daemon lossy) = w
+submitted w (command.Connect client daemon lossy) = comes w (node.Entity client) (Submit (told.Connect daemon lossy))
 submitted w (command.Send client daemon operation) = w
 
 -- and then all settles
@@ -41,7 +41,7 @@ abbrev pub submits : World → LineCommand → World
 submits w (command.Login client services) = settles (submitted w (command.Login client services))
 submits w (command.Fetch daemon) = settles (submitted w (command.Fetch daemon))
 submits w (command.Renew client services) = settles (submitted w (command.Renew client services))
-submits w (command.Connect client daemon lossy) = w
+submits w (command.Connect client daemon lossy) = settles (submitted w (command.Connect client daemon lossy))
 submits w (command.Send client daemon operation) = w
 
 -- ---- links
@@ -96,7 +96,7 @@ on_node w (step.ClockOf who reading) = one_reads who reading w
 on_node w (step.Restart who) = restarts w who
 on_node w (step.FailSave left) = record w { left = Some left }
 on_node w step.Settle = settles w
-on_node w (step.DropSession daemon number) = w
+on_node w (step.DropSession daemon number) = comes w (node.Entity daemon) (Submit (told.Drop number))
 on_node w (step.Tick who) = settles (comes w who Tick)
 
 -- ---- a line

@@ -8,22 +8,21 @@ use Rattle.cx_lines.specs.declared.lines.Numbered.{Numbered}
 use Rattle.cx_lines.specs.declared.node_steps.NodeStep.{NodeStep}
 use Rattle.cx_lines.specs.declared.node_steps.NodeStep.TheVariants as step
 
--- a login, a fetch, a renewal; no connect or send yet
+-- a login, a fetch, a renewal, a connect; no operation that is sent yet
 abbrev pub is_command_served : LineCommand → Bool
 is_command_served (command.Login client services) = true
 is_command_served (command.Fetch daemon) = true
 is_command_served (command.Renew client services) = true
-is_command_served (command.Connect client daemon lossy) = false
+is_command_served (command.Connect client daemon lossy) = true
 is_command_served (command.Send client daemon operation) = false
 
--- no end of a session yet
 abbrev pub is_step_served : NodeStep → Bool
 is_step_served (step.Clock reading) = true
 is_step_served (step.ClockOf who reading) = true
 is_step_served (step.Restart who) = true
 is_step_served (step.FailSave left) = true
 is_step_served step.Settle = true
-is_step_served (step.DropSession daemon number) = false
+is_step_served (step.DropSession daemon number) = true
 is_step_served (step.Tick who) = true
 
 abbrev pub is_served : Line → Bool

@@ -1,32 +1,46 @@
 //! Laws of the definition of a run.
 
-ghost use Rattle.std.specs.Prelude.{◌≡◌, ◌≤◌, ◌<◌, ℕ, List, length, true, if◌then◌else◌};
+ghost use Rattle.std.specs.Prelude.{◌≡◌, ◌≤◌, ◌<◌, ℕ, List, length, true, false, if◌then◌else◌};
 ghost use Rattle.cx_base.specs.declared.nodes.NodeName.{NodeName};
+ghost use Rattle.cx_desk.specs.Handlers.{Handlers};
 ghost use Rattle.cx_lines.specs.declared.lines.Numbered.{Numbered};
-ghost use Rattle.cx_rules.specs.Abridged.{ClientStandsFor, MonitorStandsFor};
-ghost use Rattle.cx_rules.specs.ClientRule.{ClientNode};
-ghost use Rattle.cx_rules.specs.Inputs.{Turn};
+ghost use Rattle.cx_rules.specs.Abridged.{MonitorStandsFor};
+ghost use Rattle.cx_rules.specs.Inputs.{Input, Turn};
 ghost use Rattle.cx_rules.specs.Links.{link_of};
 ghost use Rattle.cx_rules.specs.Monitor.{MonitorNode};
+ghost use Rattle.cx_rules_session.specs.ClientRule.{WholeClientNode, whole_client_rule};
 ghost use Rattle.cx_rules_session.specs.DaemonRule.{DaemonState};
-ghost use Rattle.cx_rules_session.specs.Forgets.{DaemonStandsFor};
+ghost use Rattle.cx_rules_session.specs.Forgets.{DaemonStandsFor, WholeClientStandsFor};
+ghost use Rattle.cx_run.specs.Calling.{OpensAsTold};
 ghost use Rattle.cx_run.specs.Deliveries.{came_at, followed, gives, turns};
 ghost use Rattle.cx_run.specs.Happenings.{Nodes, nodes_behind};
 ghost use Rattle.cx_run.specs.Opening.{nodes_of, opening_world};
 ghost use Rattle.cx_run.specs.Runs.{setup_of, trace};
 ghost use Rattle.cx_run.specs.Schedules.{after_lines};
 ghost use Rattle.cx_run.specs.Turning.{untaken_at, untaken_on};
-ghost use Rattle.cx_run.specs.Visits.{AreUnvisited};
+ghost use Rattle.cx_run.specs.Visits.{AreUntold, AreUnvisited, has_session_line};
 ghost use Rattle.cx_run.specs.Worlds.{World};
 
 /// The nodes at the end of a run are those that its events lead to: nothing else changes a node.
 pub fn run_laws()
-    ensures { (script : List Numbered) → (after_lines (opening_world (setup_of script)) script).nodes ≡ nodes_behind (nodes_of (setup_of script)) (trace script) }
+    ensures { (handlers : Handlers) (script : List Numbered)
+        → (after_lines (opening_world (setup_of handlers script)) script).nodes ≡ nodes_behind (nodes_of (setup_of handlers script)) (trace handlers script) }
 {}
 
-/// No guest comes to an entity in the run of a schedule: no link opens there but one that it opens itself. And no view is told but by a reply.
+/// No view is told by hand in the run of a schedule. And no guest comes to an entity in that of one in which no client is told to connect and no session
+/// is dropped: no link opens there but one that it opens itself.
 pub fn visit_laws()
-    ensures { (script : List Numbered) → AreUnvisited (trace script) }
+    ensures untold { (handlers : Handlers) (script : List Numbered) → AreUntold (trace handlers script) }
+    ensures unvisited { (handlers : Handlers) (script : List Numbered) → has_session_line script ≡ false → AreUnvisited (trace handlers script) }
+{}
+
+/// Of every state, event, reading and draw: a client keeps its name, and each link that it opens leads to the monitor, or to the daemon that the command
+/// names.
+pub fn client_laws()
+    ensures name { (c : WholeClientNode) (input : Input) (reading : ℕ) (draw : List ℕ)
+        → (whole_client_rule c input reading draw).state.own.asker.name ≡ c.own.asker.name }
+    ensures opens { (c : WholeClientNode) (input : Input) (reading : ℕ) (draw : List ℕ)
+        → OpensAsTold input (whole_client_rule c input reading draw).out }
 {}
 
 /// The list that bounds the turns behind what arrived is no bound at all: a node is turned until it handles nothing.
@@ -43,6 +57,6 @@ pub fn turning_laws()
     ensures enough { (nodes : Nodes) (number : ℕ) (who : NodeName) → length (untaken_at nodes number who) ≤ length (came_at nodes number who) }
     // As much is left to be taken of the links that a machine holds as of those of the rules for which they stand.
     ensures monitor_held { (m s : MonitorNode) (number : ℕ) → MonitorStandsFor m s → untaken_on (link_of number m.links) ≡ untaken_on (link_of number s.links) }
-    ensures client_held { (c s : ClientNode) (number : ℕ) → ClientStandsFor c s → untaken_on (link_of number c.links) ≡ untaken_on (link_of number s.links) }
+    ensures client_held { (c s : WholeClientNode) (number : ℕ) → WholeClientStandsFor c s → untaken_on (link_of number c.links) ≡ untaken_on (link_of number s.links) }
     ensures daemon_held { (d s : DaemonState) (number : ℕ) → DaemonStandsFor d s → untaken_on (link_of number d.node.links) ≡ untaken_on (link_of number s.node.links) }
 {}

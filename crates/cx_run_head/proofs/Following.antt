@@ -10,6 +10,7 @@ use Rattle.std.proofs.lemmas.Slice.Eq.{bytes_eq-Decides}
 use Rattle.cx_base.specs.declared.kinds.EntityType.{EntityType}
 use Rattle.cx_base.specs.Names.{Name, same_kind, same_name, type_word}
 use Rattle.cx_base.proofs.Names.{same_kind_is}
+use Rattle.cx_desk.specs.Handlers.{Handlers}
 use Rattle.cx_keyring.specs.Entries.{are_grants, differ, has_service, is_grant, is_named}
 use Rattle.cx_words.specs.Cutting.{lines_of}
 use Rattle.cx_base.specs.declared.grants.Grant.{Grant}
@@ -159,16 +160,16 @@ line_follows known setup (line.Node step) (w ∷ ws) is spells = tt
 
 -- ---- all lines
 
-added_follows : (number : ℕ) (earlier now : List Numbered) (l : List ℕ) → Adds number earlier l now → AllFollow plain_setup earlier → AllFollow plain_setup now
-added_follows number earlier now l (inl skipped) all = rw skipped.1 all
-added_follows number earlier now l (inr (kept, x, spelled, is)) all =
-    rw is (follows_push plain_setup earlier (numbered number x) all
-    (line_follows (known_of earlier) (set_up plain_setup earlier) x (line_words l) (all_names nothing plain_setup earlier refl) spelled))
+added_follows : (handlers : Handlers) (number : ℕ) (earlier now : List Numbered) (l : List ℕ) → Adds number earlier l now → AllFollow (plain_setup handlers) earlier → AllFollow (plain_setup handlers) now
+added_follows handlers number earlier now l (inl skipped) all = rw skipped.1 all
+added_follows handlers number earlier now l (inr (kept, x, spelled, is)) all =
+    rw is (follows_push (plain_setup handlers) earlier (numbered number x) all
+    (line_follows (known_of earlier) (set_up (plain_setup handlers) earlier) x (line_words l) (all_names nothing (plain_setup handlers) earlier refl) spelled))
 
-said_follows : (number : ℕ) (earlier script : List Numbered) (lines : List (List ℕ)) → Said number earlier lines script → AllFollow plain_setup earlier → AllFollow plain_setup script
-said_follows number earlier script [] said all = rw said all
-said_follows number earlier script (l ∷ lines) (now, adds, said) all = said_follows (number + 1) now script lines said (added_follows number earlier now l adds all)
+said_follows : (handlers : Handlers) (number : ℕ) (earlier script : List Numbered) (lines : List (List ℕ)) → Said number earlier lines script → AllFollow (plain_setup handlers) earlier → AllFollow (plain_setup handlers) script
+said_follows handlers number earlier script [] said all = rw said all
+said_follows handlers number earlier script (l ∷ lines) (now, adds, said) all = said_follows handlers (number + 1) now script lines said (added_follows handlers number earlier now l adds all)
 
 -- each line of a schedule may stand behind those before it
-pub schedule_follows : (bytes : List ℕ) (script : List Numbered) → Lines bytes script → AllFollow plain_setup script
-schedule_follows bytes script said = said_follows 1 [] script (lines_of bytes) said tt
+pub schedule_follows : (handlers : Handlers) (bytes : List ℕ) (script : List Numbered) → Lines bytes script → AllFollow (plain_setup handlers) script
+schedule_follows handlers bytes script said = said_follows handlers 1 [] script (lines_of bytes) said tt

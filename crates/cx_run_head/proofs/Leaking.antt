@@ -6,6 +6,7 @@ use Rattle.cx_base.specs.Names.{same_kind}
 use Rattle.cx_base.specs.declared.kinds.EntityType.{EntityType}
 use Rattle.cx_base.specs.declared.kinds.EntityType.TheVariants.{Mon, Mds, Osd, Client, Mgr, Auth}
 use Rattle.cx_base.specs.declared.nodes.NodeName.TheVariants as place
+use Rattle.cx_desk.specs.Handlers.{Handlers}
 use Rattle.cx_line_words.specs.Named.{is_among}
 use Rattle.cx_line_words.specs.declared.known.Known.{Known}
 use Rattle.cx_line_words.specs.Values.{SpellsItems}
@@ -69,15 +70,15 @@ set_up-push : (setup : Setup) (lines : List Numbered) (l : Numbered) → set_up 
 set_up-push setup [] l = refl
 set_up-push setup (x ∷ lines) l = set_up-push (set_up_line setup x.number x.line) lines l
 
-added_leaks : (number : ℕ) (earlier now : List Numbered) (l : List ℕ) → Adds number earlier l now → AreOfClients (setup_of earlier) → AreOfClients (setup_of now)
-added_leaks number earlier now l (inl skipped) all = rw skipped.1 all
-added_leaks number earlier now l (inr (kept, x, spelled, is)) all =
-    rw is (subst AreOfClients (sym (set_up-push plain_setup earlier (numbered number x))) (line_leaks (known_of earlier) (setup_of earlier) number x (line_words l) spelled all))
+added_leaks : (handlers : Handlers) (number : ℕ) (earlier now : List Numbered) (l : List ℕ) → Adds number earlier l now → AreOfClients (setup_of handlers earlier) → AreOfClients (setup_of handlers now)
+added_leaks handlers number earlier now l (inl skipped) all = rw skipped.1 all
+added_leaks handlers number earlier now l (inr (kept, x, spelled, is)) all =
+    rw is (subst AreOfClients (sym (set_up-push (plain_setup handlers) earlier (numbered number x))) (line_leaks (known_of earlier) (setup_of handlers earlier) number x (line_words l) spelled all))
 
-said_leaks : (number : ℕ) (earlier script : List Numbered) (lines : List (List ℕ)) → Said number earlier lines script → AreOfClients (setup_of earlier) → AreOfClients (setup_of script)
-said_leaks number earlier script [] said all = rw said all
-said_leaks number earlier script (l ∷ lines) (now, adds, said) all = said_leaks (number + 1) now script lines said (added_leaks number earlier now l adds all)
+said_leaks : (handlers : Handlers) (number : ℕ) (earlier script : List Numbered) (lines : List (List ℕ)) → Said number earlier lines script → AreOfClients (setup_of handlers earlier) → AreOfClients (setup_of handlers script)
+said_leaks handlers number earlier script [] said all = rw said all
+said_leaks handlers number earlier script (l ∷ lines) (now, adds, said) all = said_leaks handlers (number + 1) now script lines said (added_leaks handlers number earlier now l adds all)
 
 -- each leak that a schedule tells is one of a client
-pub schedule_leaks : (bytes : List ℕ) (script : List Numbered) → Lines bytes script → AllByRecursion (λ (l : Leak). l.client.kind ≡ Client) (setup_of script).leaks
-schedule_leaks bytes script said = said_leaks 1 [] script (lines_of bytes) said tt
+pub schedule_leaks : (handlers : Handlers) (bytes : List ℕ) (script : List Numbered) → Lines bytes script → AllByRecursion (λ (l : Leak). l.client.kind ≡ Client) (setup_of handlers script).leaks
+schedule_leaks handlers bytes script said = said_leaks handlers 1 [] script (lines_of bytes) said tt

@@ -1,6 +1,7 @@
 pub mod Changing
 pub mod Enrolling
 pub mod Following
+pub mod Handling
 pub mod Held
 pub mod Leaking
 pub mod Naming

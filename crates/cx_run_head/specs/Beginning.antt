@@ -4,6 +4,7 @@ use Rattle.std.specs.BTreeMap.{BTreeMap}
 use Rattle.std.specs.List.{list_any}
 use Rattle.std.specs.declared.alloc.Global.{Global}
 use Rattle.cx_base.specs.Names.{Name}
+use Rattle.cx_desk.specs.Handlers.{Handlers}
 use Rattle.cx_keyring.specs.Entries.{are_grants, is_named, is_ring}
 use Rattle.cx_lines.specs.declared.lines.Line.{Line}
 use Rattle.cx_lines.specs.declared.lines.Line.TheVariants as line
@@ -19,6 +20,14 @@ use Rattle.cx_run_head.specs.Places.{place_of}
 -- the lines are those of a schedule: bytes within the limits spell them
 abbrev pub IsSchedule : List Numbered → Type 0
 IsSchedule lines = (bytes : List ℕ) × IsShort bytes × Lines bytes lines
+
+-- no line of a schedule says for which kinds of operation daemons have handlers: what its lines say is told of daemons with none
+abbrev pub unhandled : Handlers
+unhandled = record { read = false; write = false; exec = false }
+
+-- the same, where the daemons have these
+abbrev pub with_handlers : Handlers → Setup → Setup
+with_handlers handlers setup = record setup { handlers = handlers }
 
 -- the nodes can begin: the lives are within their bounds, and the entities are those of a keyring
 pub record CanBegin (setup : Setup) : Type 0 where

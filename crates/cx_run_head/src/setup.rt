@@ -2,11 +2,12 @@
 
 ghost use Rattle.std.specs.Prelude.{◌≡◌, ◌<◌, [], ◌∷◌, ◌++◌, Some, false, length, map, IfOk, IsTrue, OnOk};
 ghost use Rattle.std.specs.List.{list_any};
+ghost use Rattle.cx_desk.specs.Handlers.{Handlers};
 ghost use Rattle.cx_keyring.specs.Entries.{are_grants, is_named};
 ghost use Rattle.cx_base.specs.declared.nodes.NodeName.TheVariants as place;
-ghost use Rattle.cx_run.specs.Opening.{changed, declared, no_handlers, plain_setup, principal_of, seeded, set_up_by, set_up_line};
+ghost use Rattle.cx_run.specs.Opening.{changed, declared, plain_setup, principal_of, seeded, set_up_by, set_up_line};
 ghost use Rattle.cx_run.specs.Runs.{setup_of};
-ghost use Rattle.cx_run_head.specs.Beginning.{CanBegin, IsSchedule, MayFollow, MaySay};
+ghost use Rattle.cx_run_head.specs.Beginning.{CanBegin, IsSchedule, MayFollow, MaySay, unhandled, with_handlers};
 
 use crate::declared::Declared;
 use crate::leaks::Leak;
@@ -30,7 +31,7 @@ pub struct Setup {
 
 impl Model for Setup {
     ghost use Rattle.cx_run.specs.Opening as run;
-    ghost use Rattle.cx_run_head.specs.Beginning.{AreHeld};
+    ghost use Rattle.cx_run_head.specs.Beginning.{AreHeld, unhandled};
 
     ghost Value = { run.Setup };
 
@@ -40,17 +41,27 @@ impl Model for Setup {
       entities = s.entities.items;
       monitor_seed = s.monitor_seed;
       leaks = s.leaks;
-      handlers = run.no_handlers;
+      handlers = unhandled;
     } };
 
     ghost invariant = { λ s. AreHeld s.life s.auth_life s.entities.items s.places.texts };
 }
 
 impl Setup {
-    /// What the head lines of a schedule say. A second line that names an entity finds it without going through the others.
+    /// What the head lines of a schedule say, whichever handlers the daemons have.
+    #[tactic(auto, using(crate::proofs::Handling::handled))]
     pub fn of(alloc: Global, lines: &[Numbered]) -> Result<Setup, AllocError>
         requires { IsSchedule lines.now }
-        ensures { IfOk result (λ setup. setup ≡ setup_of lines.now) }
+        ensures { IfOk result (λ setup. (handlers : Handlers) → with_handlers handlers setup ≡ setup_of handlers lines.now) }
+    {
+        let setup = Setup::read_all(alloc, lines)?;
+        Ok(setup)
+    }
+
+    /// What all of these lines say. A second line that names an entity finds it without going through the others.
+    fn read_all(alloc: Global, lines: &[Numbered]) -> Result<Setup, AllocError>
+        requires { IsSchedule lines.now }
+        ensures { IfOk result (λ setup. setup ≡ setup_of unhandled lines.now) }
     {
         let mut setup = Setup::plain(alloc);
         for line in lines {
@@ -63,7 +74,6 @@ impl Setup {
     pub fn entities(&self) -> &[Declared]
         ensures value { result.now ≡ self.now.entities }
         ensures fit { CanBegin self.now }
-        ensures handlers { self.now.handlers ≡ no_handlers }
     {
         self.entities.as_slice()
     }
@@ -77,7 +87,7 @@ impl Setup {
 
     /// Where nothing is said.
     fn plain(alloc: Global) -> Setup
-        ensures { result ≡ plain_setup }
+        ensures { result ≡ plain_setup unhandled }
     {
         Setup {
             life: 3600,

@@ -7,7 +7,7 @@ use Rattle.cx_base.specs.Names.{Name, is_daemon_type, same_name}
 use Rattle.cx_base.specs.declared.nodes.NodeName.TheVariants as node
 use Rattle.cx_run_nodes.specs.Held.{MemberStands, member_of}
 use Rattle.cx_run_nodes.specs.declared.members.Member.{Member}
-use Rattle.cx_rules.specs.ClientRule.{opening_client}
+use Rattle.cx_rules_session.specs.ClientRule.{opening_whole_client}
 use Rattle.cx_run.specs.Happenings.{OfClient, OfDaemon, asker_in, is_of}
 use Rattle.cx_run.specs.Opening.{Declared, asker_of, daemon_opening, entity_in, post_for}
 use Rattle.cx_run.specs.Worlds.{Post, post_of}
@@ -17,7 +17,7 @@ use Rattle.cx_run_nodes.specs.Members.{AreMembersOf, IsMemberOf}
 named : (e : Declared) → (asker_in (entity_in e)).name ≡ e.name
 named e = by_kind (is_daemon_type e.name.kind)
   where
-    by_kind : (daemon : Bool) → (asker_in (if daemon then OfDaemon (daemon_opening (asker_of e)) else OfClient (opening_client (asker_of e)))).name ≡ e.name
+    by_kind : (daemon : Bool) → (asker_in (if daemon then OfDaemon (daemon_opening (asker_of e)) else OfClient (opening_whole_client (asker_of e)))).name ≡ e.name
     by_kind true = refl
     by_kind false = refl
 

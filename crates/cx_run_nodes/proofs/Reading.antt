@@ -5,6 +5,7 @@ use Rattle.std.specs.Option.{option_map}
 use Rattle.cx_base.specs.Names.{Name, same_name}
 use Rattle.cx_base.proofs.Names.{same_name_is, same_name_self}
 use Rattle.cx_base.specs.declared.nodes.NodeName.{NodeName}
+use Rattle.cx_desk.specs.Handlers.{Handlers}
 use Rattle.cx_base.specs.declared.nodes.NodeName.TheVariants as node
 use Rattle.cx_run.specs.Happenings.{EntityNode, entity_of}
 use Rattle.cx_run.specs.Schedules.{all_read, one_reads}
@@ -34,9 +35,9 @@ member_behind reading (Some m) (Some s) entity k = (record { reading = refl; com
 member_behind reading None (Some s) entity k = absurd k
 member_behind reading (Some m) None entity k = absurd k
 
-pub all_read_stands : (reading : ℕ) (w : World) (held new : Nodes) → StandFor held w.nodes w.posts → new.monitor ≡ held.monitor
+pub all_read_stands : {handlers : Handlers} (reading : ℕ) (w : World) (held new : Nodes) → StandFor handlers held w.nodes w.posts → new.monitor ≡ held.monitor
     → new.post ≡ record held.post { reading = reading } → new.members.items ≡ map (λ m. reads reading m) held.members.items
-    → StandFor new (all_read reading w).nodes (all_read reading w).posts
+    → StandFor handlers new (all_read reading w).nodes (all_read reading w).posts
 all_read_stands reading w held new k monitor post members =
     let read : Post → Post = λ s. record s { reading = reading } in
     let there = λ (who : NodeName). changed_all (λ (s : Post). s.node) same_node read (λ s. refl) who w.posts in
@@ -46,7 +47,7 @@ all_read_stands reading w held new k monitor post members =
       members = λ n.
           let found = changed_all (λ (m : Member). m.name) same_name (λ m. reads reading m) (λ m. refl) n held.members.items in
           rw (members, found, there (node.Entity n)) (member_behind reading (member_of n held.members.items) (post_of (node.Entity n) w.posts) (entity_of n w.nodes) (k.members n));
-      handlers = k.handlers;
+      serves = k.serves;
     }
 
 -- ---- the clock of one node
@@ -85,25 +86,25 @@ module _ (who at : NodeName) (reading : ℕ) (posts : List Post) where
           let t : same_node s.node who ≡ true = rw k same in
           ap (λ (b : Bool). Some (let x : Post = (if b then record s { reading = reading } else s) in x)) t
 
-pub monitor_reads : (reading : ℕ) (w : World) (held new : Nodes) → StandFor held w.nodes w.posts → new.monitor ≡ held.monitor
+pub monitor_reads : {handlers : Handlers} (reading : ℕ) (w : World) (held new : Nodes) → StandFor handlers held w.nodes w.posts → new.monitor ≡ held.monitor
     → new.post ≡ record held.post { reading = reading } → new.members.items ≡ held.members.items
-    → StandFor new (one_reads node.Monitor reading w).nodes (one_reads node.Monitor reading w).posts
+    → StandFor handlers new (one_reads node.Monitor reading w).nodes (one_reads node.Monitor reading w).posts
 monitor_reads reading w held new k monitor post members = record {
   monitor = rw monitor k.monitor;
   post = rw (reads_it node.Monitor node.Monitor reading w.posts refl) (sits_behind reading held.post new.post (post_of node.Monitor w.posts) post k.post);
   members = λ n. rw (members, stays_other node.Monitor (node.Entity n) reading w.posts refl) (k.members n);
-  handlers = k.handlers;
+  serves = k.serves;
 }
 
-module _ (reading : ℕ) (w : World) (name : Name) (held new : Nodes) (k : StandFor held w.nodes w.posts) (monitor : new.monitor ≡ held.monitor) (post : new.post ≡ held.post) where
+module _ {handlers : Handlers} (reading : ℕ) (w : World) (name : Name) (held new : Nodes) (k : StandFor handlers held w.nodes w.posts) (monitor : new.monitor ≡ held.monitor) (post : new.post ≡ held.post) where
   behind : ((n : Name) → same_name name n ≡ true → member_of n new.members.items ≡ option_map (reads reading) (member_of n held.members.items))
       → ((n : Name) → same_name name n ≡ false → member_of n new.members.items ≡ member_of n held.members.items)
-      → StandFor new (one_reads (node.Entity name) reading w).nodes (one_reads (node.Entity name) reading w).posts
+      → StandFor handlers new (one_reads (node.Entity name) reading w).nodes (one_reads (node.Entity name) reading w).posts
   behind here elsewhere = record {
     monitor = rw monitor k.monitor;
     post = rw (post, stays_other (node.Entity name) node.Monitor reading w.posts refl) k.post;
     members = λ n. by n (same_name name n) refl;
-    handlers = k.handlers;
+    serves = k.serves;
   }
     where
       by : (n : Name) (b : Bool) → same_name name n ≡ b
@@ -123,7 +124,7 @@ module _ (reading : ℕ) (w : World) (name : Name) (held new : Nodes) (k : Stand
 
   pub member_reads : (place : ℕ) (old next : Member) → IsFirst (λ (m : Member). same_name m.name name) held.members.items place → old ≡ get_or held.members.items place old
       → next ≡ reads reading old → new.members.items ≡ set held.members.items place next
-      → StandFor new (one_reads (node.Entity name) reading w).nodes (one_reads (node.Entity name) reading w).posts
+      → StandFor handlers new (one_reads (node.Entity name) reading w).nodes (one_reads (node.Entity name) reading w).posts
   member_reads place old next at read is put =
       let named : next.name ≡ old.name = ap (λ (m : Member). m.name) is in
       let there : member_of name held.members.items ≡ Some old = (found_first (λ (m : Member). same_name m.name name) held.members.items place old at read).0 in
@@ -135,7 +136,7 @@ module _ (reading : ℕ) (w : World) (name : Name) (held new : Nodes) (k : Stand
       (λ n e. rw put (member_elsewhere held.members.items name place old next at read named n e))
 
   pub nobody_reads : member_of name held.members.items ≡ None → new.members.items ≡ held.members.items
-      → StandFor new (one_reads (node.Entity name) reading w).nodes (one_reads (node.Entity name) reading w).posts
+      → StandFor handlers new (one_reads (node.Entity name) reading w).nodes (one_reads (node.Entity name) reading w).posts
   nobody_reads none same =
       behind
       (λ n e.

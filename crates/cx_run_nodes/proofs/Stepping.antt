@@ -8,8 +8,9 @@ use Rattle.cx_base.specs.declared.nodes.NodeName.TheVariants as node
 use Rattle.cx_line_words.specs.declared.choices.LeftState.{LeftState}
 use Rattle.cx_rotate.specs.declared.states.KeptState.{KeptState}
 use Rattle.cx_desk.specs.Handlers.{Handlers}
-use Rattle.cx_rules.specs.Abridged.{ClientStandsFor, MonitorStandsFor}
-use Rattle.cx_rules.specs.ClientRule.{ClientNode, client_rule}
+use Rattle.cx_rules.specs.Abridged.{MonitorStandsFor}
+use Rattle.cx_rules_session.specs.Forgets.{WholeClientStandsFor}
+use Rattle.cx_rules_session.specs.ClientRule.{WholeClientNode, whole_client_rule}
 use Rattle.cx_rules.specs.Inputs.{Input}
 use Rattle.cx_rules.specs.Monitor.{MonitorNode}
 use Rattle.cx_rules.specs.MonitorRule.{monitor_rule}
@@ -18,7 +19,6 @@ use Rattle.cx_rules_session.specs.DaemonRule.{DaemonState, daemon_step}
 use Rattle.cx_rules_session.specs.Forgets.{DaemonStandsFor}
 use Rattle.cx_run.specs.Deliveries.{Given, given}
 use Rattle.cx_run.specs.Happenings.{EntityNode, OfClient, OfDaemon, Nodes as RunNodes, Stepped, asker_in, entity_of, entity_steps, monitor_steps, steps, steps_of, with_entity}
-use Rattle.cx_run.specs.Opening.{no_handlers}
 use Rattle.cx_run.specs.Wires.{same_node}
 use Rattle.cx_run.specs.Worlds.{Post, World, happened, happening, post_of, with_post}
 use Rattle.cx_steps.specs.Nothing.{nothing}
@@ -37,9 +37,9 @@ use Rattle.cx_run_nodes.proofs.Placing.{IsFirst, found_first, member_elsewhere, 
 -- ---- a member
 
 -- the node of the rules for which a member's stands is of its kind
-its_client : (node : MemberNode) (entity : Option EntityNode) (h : ClientNode) → node ≡ held.Client h → NodeStands node entity
-    → (c : ClientNode) × (entity ≡ Some (OfClient c)) × ClientStandsFor h c
-its_client (held.Client g) (Some (OfClient c)) h e k = let P : ClientNode → Type 0 = λ x. ClientStandsFor x c in (c, refl, subst P (let s : g ≡ h = cc in s) k)
+its_client : (node : MemberNode) (entity : Option EntityNode) (h : WholeClientNode) → node ≡ held.Client h → NodeStands node entity
+    → (c : WholeClientNode) × (entity ≡ Some (OfClient c)) × WholeClientStandsFor h c
+its_client (held.Client g) (Some (OfClient c)) h e k = let P : WholeClientNode → Type 0 = λ x. WholeClientStandsFor x c in (c, refl, subst P (let s : g ≡ h = cc in s) k)
 its_client (held.Client g) (Some (OfDaemon d)) h e k = absurd k
 its_client (held.Client g) None h e k = absurd k
 its_client (held.Daemon g) entity h e k = absurd cc
@@ -51,10 +51,10 @@ its_daemon (held.Daemon g) (Some (OfClient c)) h e k = absurd k
 its_daemon (held.Daemon g) None h e k = absurd k
 its_daemon (held.Client g) entity h e k = absurd cc
 
-pub client_step : (handlers : Handlers) (input : Input) (post : Post) (entity : Option EntityNode) (made : Made) (old new : Member) (h g : ClientNode)
+pub client_step : (handlers : Handlers) (input : Input) (post : Post) (entity : Option EntityNode) (made : Made) (old new : Member) (h g : WholeClientNode)
     → NodeStands old.node entity → old.node ≡ held.Client h → new.node ≡ held.Client g → new.name ≡ old.name → IsOf (rolled_once post) new.post
-    → ((c : ClientNode) → ClientStandsFor h c → (let o = client_rule c input post.reading (seed_draw post.seed post.rolled) in
-    (made ≡ record { out = o.out; failed = false; happened = true }) × ClientStandsFor g o.state))
+    → ((c : WholeClientNode) → WholeClientStandsFor h c → (let o = whole_client_rule c input post.reading (seed_draw post.seed post.rolled) in
+    (made ≡ record { out = o.out; failed = false; happened = true }) × WholeClientStandsFor g o.state))
     → IsMemberStep handlers input post entity made old new
 client_step handlers input post entity made old new h g k e f name sits does =
     let its = its_client old.node entity h e k in
@@ -78,8 +78,8 @@ daemon_steps handlers input post entity made old new h g k e f name sits does =
     subst P (sym its.1) (record { comes = done.0; name = name; stands = (sits, subst Q (sym f) done.1) })
 
 -- the members behind an event of one of them
-module _ (held new : Nodes) (nodes after : RunNodes) (posts : List Post) (name : Name) (place : ℕ) (old next : Member) (post rolled : Post)
-    (k : StandFor held nodes posts) (at : IsFirst (λ (m : Member). same_name m.name name) held.members.items place) (read : old ≡ get_or held.members.items place old)
+module _ {handlers : Handlers} (held new : Nodes) (nodes after : RunNodes) (posts : List Post) (name : Name) (place : ℕ) (old next : Member) (post rolled : Post)
+    (k : StandFor handlers held nodes posts) (at : IsFirst (λ (m : Member). same_name m.name name) held.members.items place) (read : old ≡ get_or held.members.items place old)
     (same : next.name ≡ old.name) (put : new.members.items ≡ set held.members.items place next)
     (found : post_of (node.Entity name) posts ≡ Some post) (who : post.node ≡ node.Entity name) (there : rolled.node ≡ post.node)
     (stands : MemberStands (Some next) (Some rolled) (entity_of name after))
@@ -119,8 +119,8 @@ post_at who posts post e = same_node_is post.node who (key_found (λ (s : Post).
 abbrev as_made : Given → Made
 as_made g = record { out = g.out; failed = g.failed; happened = true }
 
-module _ (input : Input) (w : World) (name : Name) (held new : Nodes) (place : ℕ) (old next : Member) (made : Made)
-    (k : StandFor held w.nodes w.posts) (at : IsFirst (λ (m : Member). same_name m.name name) held.members.items place) (read : old ≡ get_or held.members.items place old)
+module _ {handlers : Handlers} (input : Input) (w : World) (name : Name) (held new : Nodes) (place : ℕ) (old next : Member) (made : Made)
+    (k : StandFor handlers held w.nodes w.posts) (at : IsFirst (λ (m : Member). same_name m.name name) held.members.items place) (read : old ≡ get_or held.members.items place old)
     (monitor : new.monitor ≡ held.monitor) (sitting : new.post ≡ held.post) (put : new.members.items ≡ set held.members.items place next)
     (does : (post : Post) (entity : Option EntityNode) → MemberStands (Some old) (Some post) entity → IsMemberStep w.nodes.handlers input post entity made old next) where
   module _ (post : Post) (found : post_of (node.Entity name) w.posts ≡ Some post) where
@@ -133,7 +133,7 @@ module _ (input : Input) (w : World) (name : Name) (held new : Nodes) (place : �
         ∙ ap (λ (e : Option EntityNode). entity_steps w.nodes (happening w input post) name e) there
 
     abbrev Gives : Stepped → Type 0
-    Gives s = IsGiven new made (Some post) (record { world = happened w (happening w input post) post s.nodes; out = s.out; failed = s.failed })
+    Gives s = IsGiven handlers new made (Some post) (record { world = happened w (happening w input post) post s.nodes; out = s.out; failed = s.failed })
 
     sits_still : IsPosted new.post (post_of node.Monitor (with_post w.posts (rolled_once post)))
     sits_still =
@@ -143,20 +143,20 @@ module _ (input : Input) (w : World) (name : Name) (held new : Nodes) (place : �
 
     behind : (entity : Option EntityNode) (after : RunNodes) → IsMemberStep w.nodes.handlers input post entity made old next → after.monitor ≡ w.nodes.monitor → after.handlers ≡ w.nodes.handlers
         → entity_of name after ≡ entity_behind w.nodes.handlers input post entity → ((n : Name) → same_name name n ≡ false → entity_of n after ≡ entity_of n w.nodes)
-        → IsGiven new made (Some post) (record { world = happened w (happening w input post) post after; out = entity_out w.nodes.handlers input post entity; failed = false })
+        → IsGiven handlers new made (Some post) (record { world = happened w (happening w input post) post after; out = entity_out w.nodes.handlers input post entity; failed = false })
     behind entity after step m h there others = record {
       nodes = record {
         monitor = rw (monitor, m) k.monitor;
         post = sits_still;
         members = members_behind held new w.nodes after w.posts name place old next post (rolled_once post) k at read step.name put found who refl (rw there step.stands) others;
-        handlers = h ∙ k.handlers;
+        serves = h ∙ k.serves;
       };
       out = ap (λ (x : Made). x.out) step.comes;
       failed = ap (λ (x : Made). x.failed) step.comes;
       happened = ap (λ (x : Made). x.happened) step.comes;
     }
 
-    at_post : (entity : Option EntityNode) → entity_of name w.nodes ≡ entity → MemberStands (Some old) (Some post) entity → IsGiven new made (Some post) (given w input (Some post))
+    at_post : (entity : Option EntityNode) → entity_of name w.nodes ≡ entity → MemberStands (Some old) (Some post) entity → IsGiven handlers new made (Some post) (given w input (Some post))
     at_post None none stands =
         let P : Stepped → Type 0 = Gives in
         subst P (sym (stepped None none)) (behind None w.nodes (does post None stands) refl refl none (λ n e. refl))
@@ -171,25 +171,25 @@ module _ (input : Input) (w : World) (name : Name) (held new : Nodes) (place : �
         (λ n e. replaced_elsewhere key same_name same_name_is w.nodes.entities name n o.state kept e))
 
   by_post : (post : Option Post) → post_of (node.Entity name) w.posts ≡ post → MemberStands (Some old) post (entity_of name w.nodes)
-      → IsGiven new made post (given w input post)
+      → IsGiven handlers new made post (given w input post)
   by_post None e stands = absurd stands
   by_post (Some post) e stands = at_post post e (entity_of name w.nodes) refl stands
 
-  pub member_given : IsGiven new made (post_of (node.Entity name) w.posts) (given w input (post_of (node.Entity name) w.posts))
+  pub member_given : IsGiven handlers new made (post_of (node.Entity name) w.posts) (given w input (post_of (node.Entity name) w.posts))
   member_given =
       let there : member_of name held.members.items ≡ Some old = (found_first (λ (m : Member). same_name m.name name) held.members.items place old at read).0 in
       let P : Option Member → Type 0 = λ m. MemberStands m (post_of (node.Entity name) w.posts) (entity_of name w.nodes) in
       by_post (post_of (node.Entity name) w.posts) refl (subst P there (k.members name))
 
 -- where there is no such entity
-pub nobody_given : (input : Input) (w : World) (name : Name) (held : Nodes) (made : Made) → StandFor held w.nodes w.posts → member_of name held.members.items ≡ None
+pub nobody_given : {handlers : Handlers} (input : Input) (w : World) (name : Name) (held : Nodes) (made : Made) → StandFor handlers held w.nodes w.posts → member_of name held.members.items ≡ None
     → made ≡ record { out = nothing; failed = false; happened = false }
-    → IsGiven held made (post_of (node.Entity name) w.posts) (given w input (post_of (node.Entity name) w.posts))
-nobody_given input w name held made k none comes =
+    → IsGiven handlers held made (post_of (node.Entity name) w.posts) (given w input (post_of (node.Entity name) w.posts))
+nobody_given {handlers} input w name held made k none comes =
     let P : Option Member → Type 0 = λ m. MemberStands m (post_of (node.Entity name) w.posts) (entity_of name w.nodes) in
     by (post_of (node.Entity name) w.posts) (subst P none (k.members name))
   where
-    by : (post : Option Post) → MemberStands None post (entity_of name w.nodes) → IsGiven held made post (given w input post)
+    by : (post : Option Post) → MemberStands None post (entity_of name w.nodes) → IsGiven handlers held made post (given w input post)
     by None stands = record { nodes = k; out = ap (λ (x : Made). x.out) comes; failed = ap (λ (x : Made). x.failed) comes; happened = ap (λ (x : Made). x.happened) comes }
     by (Some post) stands = absurd stands
 
@@ -207,12 +207,12 @@ same_handlers nodes o None (Some saved) = refl
 same_handlers nodes o (Some left) None = refl
 same_handlers nodes o (Some left) (Some saved) = refl
 
-pub monitor_given : (input : Input) (w : World) (held new : Nodes) (made : Made) → StandFor held w.nodes w.posts → new.members.items ≡ held.members.items
+pub monitor_given : {handlers : Handlers} (input : Input) (w : World) (held new : Nodes) (made : Made) → StandFor handlers held w.nodes w.posts → new.members.items ≡ held.members.items
     → ((post : Post) → IsOf post held.post → IsMonitorStep post (monitor_made input post w.nodes w.left) made new.monitor new.post)
-    → IsGiven new made (post_of node.Monitor w.posts) (given w input (post_of node.Monitor w.posts))
-monitor_given input w held new made k same does = by (post_of node.Monitor w.posts) refl k.post
+    → IsGiven handlers new made (post_of node.Monitor w.posts) (given w input (post_of node.Monitor w.posts))
+monitor_given {handlers} input w held new made k same does = by (post_of node.Monitor w.posts) refl k.post
   where
-    by : (post : Option Post) → post_of node.Monitor w.posts ≡ post → IsPosted held.post post → IsGiven new made post (given w input post)
+    by : (post : Option Post) → post_of node.Monitor w.posts ≡ post → IsPosted held.post post → IsGiven handlers new made post (given w input post)
     by None e sits = absurd sits
     by (Some post) e sits =
         let who : post.node ≡ node.Monitor = post_at node.Monitor w.posts post e in
@@ -220,7 +220,7 @@ monitor_given input w held new made k same does = by (post_of node.Monitor w.pos
         let after : Stepped = monitor_made input post w.nodes w.left in
         let o = monitor_rule w.nodes.monitor input post.reading (seed_draw post.seed post.rolled) in
         let s : steps w.nodes (happening w input post) ≡ after = ap (λ (n : NodeName). steps_of w.nodes (happening w input post) n) who in
-        let P : Stepped → Type 0 = λ s. IsGiven new made (Some post) (record { world = happened w (happening w input post) post s.nodes; out = s.out; failed = s.failed }) in
+        let P : Stepped → Type 0 = λ s. IsGiven handlers new made (Some post) (record { world = happened w (happening w input post) post s.nodes; out = s.out; failed = s.failed }) in
         let here : post_of node.Monitor (with_post w.posts (rolled_once post)) ≡ Some (rolled_once post) =
         (let Q : NodeName → Type 0 = λ x. post_of x (with_post w.posts (rolled_once post)) ≡ Some (rolled_once post) in
         let R : NodeName → Type 0 = λ x. post_of x w.posts ≡ Some post in
@@ -234,7 +234,7 @@ monitor_given input w held new made k same does = by (post_of node.Monitor w.pos
                 let still : post_of (node.Entity n) (with_post w.posts (rolled_once post)) ≡ post_of (node.Entity n) w.posts = replaced_elsewhere (λ (s : Post). s.node) same_node same_node_is w.posts post.node (node.Entity n) (rolled_once post) refl apart in
                 let entities : entity_of n after.nodes ≡ entity_of n w.nodes = ap (λ (es : List EntityNode). entity_of n (record w.nodes { entities = es })) (same_entities w.nodes o w.left o.out.save) in
                 rw (same, still, entities) (k.members n);
-            handlers = same_handlers w.nodes o w.left o.out.save ∙ k.handlers;
+            serves = same_handlers w.nodes o w.left o.out.save ∙ k.serves;
           };
           out = ap (λ (x : Made). x.out) step.saved.comes;
           failed = ap (λ (x : Made). x.failed) step.saved.comes;

@@ -2,11 +2,11 @@
 use Rattle.std.specs.Prelude.{ℕ, ◌≡◌, Bool, true, false, List, find, Option, Some, None}
 use Rattle.cx_base.specs.Names.{Name, same_name}
 use Rattle.cx_base.specs.declared.nodes.NodeName.TheVariants as node
-use Rattle.cx_rules.specs.Abridged.{ClientStandsFor, MonitorStandsFor}
-use Rattle.cx_rules_session.specs.Forgets.{DaemonStandsFor}
+use Rattle.cx_desk.specs.Handlers.{Handlers}
+use Rattle.cx_rules.specs.Abridged.{MonitorStandsFor}
+use Rattle.cx_rules_session.specs.Forgets.{DaemonStandsFor, WholeClientStandsFor}
 use Rattle.cx_run.specs.Deliveries.{Given}
 use Rattle.cx_run.specs.Happenings.{EntityNode, OfClient, OfDaemon, Nodes as RunNodes, entity_of}
-use Rattle.cx_run.specs.Opening.{no_handlers}
 use Rattle.cx_run.specs.Worlds.{Post, post_of}
 use Rattle.cx_run_nodes.specs.Posts.{IsOf, IsPosted}
 use Rattle.cx_run_nodes.specs.declared.made.Made.{Made}
@@ -25,7 +25,7 @@ reads reading m = record m { post = record m.post { reading = reading } }
 
 -- the node of a member stands for this one of the rules, which is of its kind
 abbrev pub NodeStands : MemberNode → Option EntityNode → Type 0
-NodeStands (held.Client client) (Some (OfClient c)) = ClientStandsFor client c
+NodeStands (held.Client client) (Some (OfClient c)) = WholeClientStandsFor client c
 NodeStands (held.Daemon daemon) (Some (OfDaemon d)) = DaemonStandsFor daemon d
 NodeStands (held.Client client) (Some (OfDaemon d)) = ⊥
 NodeStands (held.Daemon daemon) (Some (OfClient c)) = ⊥
@@ -38,13 +38,12 @@ MemberStands (Some member) (Some post) entity = IsOf post member.post × NodeSta
 MemberStands None (Some post) entity = ⊥
 MemberStands (Some member) None entity = ⊥
 
--- the nodes stand for these of the rules, in these posts
-pub record StandFor (held : Nodes) (nodes : RunNodes) (posts : List Post) : Type 0 where
+-- the nodes stand for these of the rules, in these posts, whose daemons have these handlers
+pub record StandFor (handlers : Handlers) (held : Nodes) (nodes : RunNodes) (posts : List Post) : Type 0 where
   pub monitor : MonitorStandsFor held.monitor nodes.monitor
   pub post : IsPosted held.post (post_of node.Monitor posts)
   pub members : (name : Name) → MemberStands (member_of name held.members.items) (post_of (node.Entity name) posts) (entity_of name nodes)
-  -- the daemons have no handlers yet
-  pub handlers : nodes.handlers ≡ no_handlers
+  pub serves : nodes.handlers ≡ handlers
 
 -- ---- one event
 
@@ -53,8 +52,8 @@ is_posted None = false
 is_posted (Some post) = true
 
 -- what an event came to is what the rules give, and the nodes stand for those behind it
-pub record IsGiven (held : Nodes) (made : Made) (post : Option Post) (g : Given) : Type 0 where
-  pub nodes : StandFor held g.world.nodes g.world.posts
+pub record IsGiven (handlers : Handlers) (held : Nodes) (made : Made) (post : Option Post) (g : Given) : Type 0 where
+  pub nodes : StandFor handlers held g.world.nodes g.world.posts
   pub out : made.out ≡ g.out
   pub failed : made.failed ≡ g.failed
   pub happened : made.happened ≡ is_posted post

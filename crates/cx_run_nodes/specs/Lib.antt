@@ -1,3 +1,4 @@
+pub mod Coming
 pub mod Heads
 pub mod Members
 pub mod Held

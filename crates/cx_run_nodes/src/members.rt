@@ -33,17 +33,24 @@ pub struct Member {
 
 impl Member {
     ghost use Rattle.std.specs.Prelude.{◌≡◌, Option, Some, IfOk};
+    ghost use Rattle.cx_desk.specs.Held.{handlers_of};
+    ghost use Rattle.cx_run_nodes.specs.Coming.{IsWritableInput};
     ghost use Rattle.cx_run_nodes.specs.Held.{MemberStands};
     ghost use Rattle.cx_run_nodes.specs.Steps.{IsMemberStep};
     ghost use Rattle.cx_rules.specs.Inputs.{input_of};
     ghost use Rattle.cx_run.specs.Happenings.{EntityNode};
-    ghost use Rattle.cx_run.specs.Opening.{no_handlers};
     ghost use Rattle.cx_run.specs.Worlds.{Post as RunPost};
 
-    /// What comes to it. A daemon has no handlers yet: nothing that is served asks for an operation.
-    pub(crate) fn step(&mut self, alloc: Global, event: Event<'_>) -> Result<Made, AllocError>
+    /// What comes to it. A daemon has the handlers of this desk.
+    pub(crate) fn step(
+        &mut self,
+        alloc: Global,
+        desk: &Desk,
+        event: Event<'_>,
+    ) -> Result<Made, AllocError>
+        requires { IsWritableInput (input_of event) }
         ensures { (post : RunPost) (entity : Option EntityNode) → MemberStands (Some self.old) (Some post) entity
-            → IfOk result (λ made. IsMemberStep no_handlers (input_of event.entry) post entity made self.old self.new) }
+            → IfOk result (λ made. IsMemberStep (handlers_of desk.now) (input_of event.entry) post entity made self.old self.new) }
     {
         let draw = self.post.roll();
         let reading = self.post.reading();
@@ -54,9 +61,8 @@ impl Member {
                 Ok(Made::of(out))
             }
             MemberNode::Daemon(daemon) => {
-                let desk = Desk::empty();
                 let mut out = Effects::new(alloc);
-                daemon.step(alloc, &desk, event, reading, &draw, &mut out)?;
+                daemon.step(alloc, desk, event, reading, &draw, &mut out)?;
                 Ok(Made::of(out))
             }
         }

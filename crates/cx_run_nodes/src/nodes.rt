@@ -3,6 +3,9 @@
 ghost use Rattle.std.specs.Prelude.{ℕ, ◌≡◌, ◌<◌, ◌+◌, [], ◌∷◌, ◌++◌, List, length, map, position, slice_get, Some, None, IfOk, OnOk, IfSome, IfNone};
 ghost use Rattle.cx_base.specs.Names.{same_name};
 ghost use Rattle.cx_base.specs.declared.nodes.NodeName.TheVariants as node;
+ghost use Rattle.cx_desk.specs.Handlers.{Handlers};
+ghost use Rattle.cx_desk.specs.Held.{handlers_of};
+ghost use Rattle.cx_run_nodes.specs.Coming.{IsWritableInput};
 ghost use Rattle.cx_run_nodes.specs.Held.{IsGiven, StandFor, reads};
 ghost use Rattle.cx_run_nodes.specs.Posts.{IsOf};
 ghost use Rattle.cx_run_nodes.specs.Steps.{IsMonitorStep, IsSaved, monitor_made};
@@ -19,6 +22,7 @@ use crate::made::Made;
 use crate::members::Member;
 use crate::posts::Post;
 use cx_base::{EntityName, NodeName, Reading};
+use cx_desk::Desk;
 use cx_line_words::LeftState;
 use cx_run_head::Monitor;
 use cx_steps::{Effects, Event};
@@ -33,20 +37,22 @@ pub struct Nodes {
 }
 
 impl Nodes {
-    /// What comes to a node, where the monitor's save, if one fails, leaves this state.
+    /// What comes to a node, where the daemons have the handlers of this desk, and the monitor's save, if one fails, leaves this state.
     pub fn step(
         &mut self,
         alloc: Global,
+        desk: &Desk,
         who: &NodeName,
         event: Event<'_>,
         left: Option<LeftState>,
     ) -> Result<Made, AllocError>
-        ensures { (w : World) → StandFor self.old w.nodes w.posts → left ≡ w.left
-            → IfOk result (λ made. IsGiven self.new made (post_of who.now w.posts) (given w (input_of event.entry) (post_of who.now w.posts))) }
+        requires { IsWritableInput (input_of event) }
+        ensures { (w : World) → StandFor (handlers_of desk.now) self.old w.nodes w.posts → left ≡ w.left
+            → IfOk result (λ made. IsGiven (handlers_of desk.now) self.new made (post_of who.now w.posts) (given w (input_of event.entry) (post_of who.now w.posts))) }
     {
         match who {
             NodeName::Monitor => self.step_monitor(alloc, event, left),
-            NodeName::Entity(name) => self.step_member(alloc, name, event),
+            NodeName::Entity(name) => self.step_member(alloc, desk, name, event),
         }
     }
 
@@ -56,8 +62,8 @@ impl Nodes {
         event: Event<'_>,
         left: Option<LeftState>,
     ) -> Result<Made, AllocError>
-        ensures { (w : World) → StandFor self.old w.nodes w.posts → left ≡ w.left
-            → IfOk result (λ made. IsGiven self.new made (post_of node.Monitor w.posts) (given w (input_of event.entry) (post_of node.Monitor w.posts))) }
+        ensures { (handlers : Handlers) (w : World) → StandFor handlers self.old w.nodes w.posts → left ≡ w.left
+            → IfOk result (λ made. IsGiven handlers self.new made (post_of node.Monitor w.posts) (given w (input_of event.entry) (post_of node.Monitor w.posts))) }
     {
         let made = take_step(alloc, &mut self.monitor, &mut self.post, event, left)?;
         Ok(made)
@@ -66,16 +72,18 @@ impl Nodes {
     fn step_member(
         &mut self,
         alloc: Global,
+        desk: &Desk,
         name: &EntityName,
         event: Event<'_>,
     ) -> Result<Made, AllocError>
-        ensures { (w : World) → StandFor self.old w.nodes w.posts
-            → IfOk result (λ made. IsGiven self.new made (post_of (node.Entity name.now) w.posts) (given w (input_of event.entry) (post_of (node.Entity name.now) w.posts))) }
+        requires { IsWritableInput (input_of event) }
+        ensures { (w : World) → StandFor (handlers_of desk.now) self.old w.nodes w.posts
+            → IfOk result (λ made. IsGiven (handlers_of desk.now) self.new made (post_of (node.Entity name.now) w.posts) (given w (input_of event.entry) (post_of (node.Entity name.now) w.posts))) }
     {
         match place_of(self.members.as_slice(), name) {
             Some(place) => {
                 let member = &mut self.members[place];
-                let made = member.step(alloc, event)?;
+                let made = member.step(alloc, desk, event)?;
                 Ok(made)
             }
             None => Ok(Made::nothing(alloc)),
@@ -85,7 +93,7 @@ impl Nodes {
     /// All clocks read this from here on.
     pub fn read_all(&mut self, reading: Reading)
         requires { reading < 4000000000000000000 }
-        ensures { (w : World) → StandFor self.old w.nodes w.posts → StandFor self.new (all_read reading w).nodes (all_read reading w).posts }
+        ensures { (handlers : Handlers) (w : World) → StandFor handlers self.old w.nodes w.posts → StandFor handlers self.new (all_read reading w).nodes (all_read reading w).posts }
     {
         self.post.set(reading);
         read_members(&mut self.members, reading);
@@ -94,7 +102,7 @@ impl Nodes {
     /// The clock of one node reads this from here on.
     pub fn read_one(&mut self, who: &NodeName, reading: Reading)
         requires { reading < 4000000000000000000 }
-        ensures { (w : World) → StandFor self.old w.nodes w.posts → StandFor self.new (one_reads who.now reading w).nodes (one_reads who.now reading w).posts }
+        ensures { (handlers : Handlers) (w : World) → StandFor handlers self.old w.nodes w.posts → StandFor handlers self.new (one_reads who.now reading w).nodes (one_reads who.now reading w).posts }
     {
         match who {
             NodeName::Monitor => self.post.set(reading),

@@ -1,9 +1,11 @@
 //! The nodes with which a run begins.
 
 ghost use Rattle.std.specs.Prelude.{Some, IfOk};
+ghost use Rattle.cx_desk.specs.Handlers.{Handlers};
 ghost use Rattle.cx_run_nodes.specs.Held.{NodeStands, StandFor};
 ghost use Rattle.cx_run_nodes.specs.Members.{AreMembersOf, IsMemberOf};
 ghost use Rattle.cx_run.specs.Opening.{entity_in, nodes_of, posts_of};
+ghost use Rattle.cx_run_head.specs.Beginning.{with_handlers};
 
 use crate::{Member, MemberNode, Nodes, Post};
 use cx_base::Duplicate;
@@ -12,9 +14,9 @@ use cx_daemon::Daemon;
 use cx_run_head::{Declared, Setup};
 use std::alloc::{AllocError, Global};
 
-/// The monitor and the entities as a run begins: with clocks that read 0, and dice of which nothing was rolled.
+/// The monitor and the entities as a run begins, whichever handlers the daemons have: with clocks that read 0, and dice of which nothing was rolled.
 pub fn opening_nodes(alloc: Global, setup: &Setup) -> Result<Nodes, AllocError>
-    ensures { IfOk result (λ nodes. StandFor nodes (nodes_of setup.now) (posts_of setup.now)) }
+    ensures { IfOk result (λ nodes. (handlers : Handlers) → StandFor handlers nodes (nodes_of (with_handlers handlers setup.now)) (posts_of setup.now)) }
 {
     let monitor = setup.monitor(alloc)?;
     let post = Post::new(alloc, setup.monitor_seed());

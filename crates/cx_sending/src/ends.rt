@@ -2,13 +2,12 @@
 
 ghost use Rattle.std.specs.Prelude.{◌≡◌, IfOk, Ok};
 ghost use Rattle.cx_messages.specs.Reading.{with_body};
-ghost use Rattle.cx_rules.specs.Messages.{message_in};
+ghost use Rattle.cx_rules_session.specs.cx_rules.specs.Messages.{message_in};
 ghost use Rattle.cx_rules_session.specs.Presenter.{end_in, outcome_by};
 
 use cx_frame::Frame;
 use cx_journal::{BytesFault, Outcome};
-use cx_messages::{body_in, header_in};
-use cx_node::whole;
+use cx_messages::{body_in, header_in, whole};
 use cx_wire::{ANSWER, Answer, Header};
 use std::alloc::{AllocError, Global};
 use std::marker::Model;

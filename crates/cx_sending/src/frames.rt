@@ -3,11 +3,11 @@
 ghost use Rattle.std.specs.Prelude.{◌≡◌, ◌<◌, ◌^◌, ◌++◌, All, IfOk, OnOk, filter, length, map, nat_lt};
 ghost use Rattle.cx_control.specs.Reconnects.{session_reconnect_layout};
 ghost use Rattle.cx_frame.specs.Frames.{IsAnnounceable};
-ghost use Rattle.cx_rules.specs.Holdings.{Asker};
-ghost use Rattle.cx_rules.specs.Messages.{secure_frames};
-ghost use Rattle.cx_rules.specs.Payloads.{control};
+ghost use Rattle.cx_rules_session.specs.cx_rules.specs.Holdings.{Asker};
+ghost use Rattle.cx_rules_session.specs.cx_rules.specs.Messages.{secure_frames};
+ghost use Rattle.cx_rules_session.specs.cx_rules.specs.Payloads.{control};
 ghost use Rattle.cx_rules_session.specs.Sessions.{acknowledged_up_to, operation_message, session_reconnect, waiting_messages};
-ghost use Rattle.cx_turns.specs.Sending.{SendsSecure};
+ghost use Rattle.cx_messages.specs.cx_turns.specs.Sending.{SendsSecure};
 ghost use Rattle.cx_wire.specs.Operations.{IsWritable, operation_layout};
 ghost use Rattle.cx_sending.specs.Waiting.{above};
 
@@ -16,8 +16,7 @@ use cx_base::{Addr, Blob, Operation};
 use cx_control::SessionReconnect;
 use cx_frame::Frame;
 use cx_journal::BytesFault;
-use cx_link::{SecureLink, SentFrame};
-use cx_messages::{message_frame, send_frames};
+use cx_messages::{SecureLink, SentFrame, message_frame, send_frames};
 use cx_wire::{Header, OPERATION, put_operation};
 use std::alloc::{AllocError, Global};
 

@@ -67,7 +67,7 @@ fn the_first_replay_has_ample_memory(rt: HostRuntime) {
 }
 
 /// Good lines that the plain run doesn't take.
-static LATER_LINES: [&str; 20] = [
+static LATER_LINES: [&str; 21] = [
     "seed mon 1",
     "modes client.a crc",
     "leak client.a",
@@ -77,6 +77,7 @@ static LATER_LINES: [&str; 20] = [
     "do login client.a",
     "do fetch osd.0",
     "do renew client.a osd",
+    "do connect client.a osd.0",
     "drop osd.0 1",
     "tick mon",
     "carry 1 c",
@@ -90,12 +91,11 @@ static LATER_LINES: [&str; 20] = [
     "settle",
 ];
 
-/// Good lines that no run serves.
-static AHEAD: [&str; 3] = [
-    "do connect client.a osd.0",
-    "do send client.a osd.0 read p n o -",
-    "drop osd.0 1",
-];
+/// An operation that is sent.
+const SEND: &str = "send client.a osd.0 read p n o -";
+
+/// A good line that no run serves.
+const AHEAD: &str = "do send client.a osd.0 read p n o -";
 
 /// Whether a schedule of these two lines below two entities is refused at the first of the two.
 fn is_ahead(rt: &impl Abort, alloc: Global, line: &str, below: &str) -> bool {
@@ -109,19 +109,13 @@ fn is_ahead(rt: &impl Abort, alloc: Global, line: &str, below: &str) -> bool {
 #[test]
 fn the_first_line_that_the_plain_run_does_not_take_is_told(rt: HostRuntime) {
     for line in &LATER_LINES {
-        assert!(rt;
-            is_ahead(&rt, rt.alloc(), line, "connect client.a osd.0"),
-            "{}",
-            line
-        );
+        assert!(rt; is_ahead(&rt, rt.alloc(), line, SEND), "{}", line);
     }
 }
 
 #[test]
 fn the_first_line_that_no_run_serves_is_told(rt: HostRuntime) {
-    for line in &AHEAD {
-        assert!(rt; is_ahead(&rt, rt.alloc(), line, "settle"), "{}", line);
-    }
+    assert!(rt; is_ahead(&rt, rt.alloc(), AHEAD, "settle"));
 }
 
 /// Two clients with one seed draw one challenge.

@@ -24,7 +24,7 @@ bad_line_told bytes line bad sight said says is = says ∙ ap (λ (s : LineSight
 -- a replay with what is said of it
 pub replay_made : (handlers : Handlers) (bytes : List ℕ) (is_broken : Bool) (text said : List ℕ) (script : List Numbered) (journal : List Entry) (found : Option Broken) (idle : ℕ)
     → Lines bytes script → IsShort bytes → first_unserved script ≡ None → IsReplayOf handlers script journal found → is_broken ≡ is_some found
-    → text ≡ journal_text (told journal found) → said ≡ run_told found idle → idle ≡ idle_of script → Replays handlers bytes is_broken text said
+    → text ≡ journal_text (told journal found) → said ≡ run_told found idle → idle ≡ idle_of handlers script → Replays handlers bytes is_broken text said
 replay_made handlers bytes is_broken text said script journal found idle lines short served replayed tells written says is = record {
   script = script;
   lines = lines;

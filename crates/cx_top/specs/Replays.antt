@@ -33,4 +33,4 @@ pub record Replays (handlers : Handlers) (bytes : List ℕ) (is_broken : Bool) (
   pub replayed : IsReplayOf handlers script journal found
   pub tells : is_broken ≡ is_some found
   pub written : text ≡ journal_text (told journal found)
-  pub besides : told_besides ≡ run_told found (idle_of script)
+  pub besides : told_besides ≡ run_told found (idle_of handlers script)

@@ -5,8 +5,8 @@ use Rattle.std.specs.Prelude.{not, if◌then◌else◌}
 use Rattle.cx_control.specs.declared.auth.AuthRequest.{AuthRequest}
 use Rattle.cx_journal.specs.declared.faults.LoginFault.{LoginFault}
 use Rattle.cx_journal.specs.declared.faults.LoginFault.TheVariants.{Method, Mode}
-use Rattle.cx_rules.specs.Acceptor.{Stage, denies, on_auth_request}
-use Rattle.cx_rules.specs.Rows.{Arrival, Row}
+use Rattle.cx_node.specs.cx_rules.specs.Acceptor.{Stage, denies, on_auth_request}
+use Rattle.cx_node.specs.cx_rules.specs.Rows.{Arrival, Row}
 use Rattle.cx_turns.specs.Requests.{request_fault}
 
 module _ {Own Pending Proven Peer : Type 0} (by_role : Arrival Own (Stage Pending Proven Peer) → List ℕ → Row Own (Stage Pending Proven Peer))

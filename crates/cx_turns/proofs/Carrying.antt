@@ -4,12 +4,12 @@ use Rattle.std.specs.Option.{option_map}
 use Rattle.cx_node.specs.Made.{as_row, out_of}
 use Rattle.cx_node.specs.Tables.{behind}
 use Rattle.cx_node.specs.declared.rows.Row.{Row as Made}
-use Rattle.cx_rules.specs.Abridged.{abridged_node}
-use Rattle.cx_rules.specs.Links.{Link, put_link, without_link}
-use Rattle.cx_rules.specs.Rows.{Node, Row, carried_out, links_behind, piece, shuts}
+use Rattle.cx_node.specs.cx_rules.specs.Abridged.{abridged_node}
+use Rattle.cx_node.specs.cx_rules.specs.Links.{Link, put_link, without_link}
+use Rattle.cx_node.specs.cx_rules.specs.Rows.{Node, Row, carried_out, links_behind, piece, shuts}
 use Rattle.cx_steps.specs.declared.effects.Effects.{Effects}
 use Rattle.cx_turns.specs.Making.{row_due}
-use Rattle.cx_rules.proofs.Abridging.{Forgets, put_link_map, without_link_map}
+use Rattle.cx_node.specs.cx_rules.proofs.Abridging.{Forgets, put_link_map, without_link_map}
 
 shuts_mapped : {X Y : Type 0} (number : ℕ) (f : X → Y) (x : Option X) → shuts number (option_map f x) ≡ shuts number x
 shuts_mapped number f None = refl

@@ -5,7 +5,7 @@ use Rattle.cx_enc.specs.Whole.{Spells}
 use Rattle.cx_enc.proofs.Wholes.{read_again}
 use Rattle.cx_frame.specs.declared.frame.Frame.{Frame}
 use Rattle.cx_link.specs.Sending.{IsControl}
-use Rattle.cx_rules.specs.Payloads.{control, to_end, whole}
+use Rattle.cx_node.specs.cx_rules.specs.Payloads.{control, to_end, whole}
 
 pub control_frame : {X : Type 0} (f : Frame) (tag : ℕ) (form : Form X) (x : X) → f ≡ control tag form x → 1 ≤ tag → tag ≤ 20 → IsControl f
 control_frame f tag form x e low high =

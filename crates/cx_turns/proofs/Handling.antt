@@ -3,10 +3,10 @@ use Rattle.std.proofs.Common.{◌≡◌, ◌∙◌, ℕ, ◌+◌, List, [], drop
 use Rattle.cx_frame.specs.declared.frame.Frame.{Frame}
 use Rattle.cx_link.specs.Turning.{TakesBanner, TakesPlain, TakesSecure}
 use Rattle.cx_link.specs.Wires.{SecureWire, Wire, secure_ahead, secured_link, wired}
-use Rattle.cx_rules.specs.Fronts.{banner_next, keys_behind, opened_parts, plain_next, secure_next}
-use Rattle.cx_rules.specs.Links.{Link}
-use Rattle.cx_rules.specs.Rows.{Arrival, Handles, Row, Turned, at, turned_by, with_opened}
-use Rattle.cx_rules.specs.Secured.{Keys}
+use Rattle.cx_node.specs.cx_rules.specs.Fronts.{banner_next, keys_behind, opened_parts, plain_next, secure_next}
+use Rattle.cx_node.specs.cx_rules.specs.Links.{Link}
+use Rattle.cx_node.specs.cx_rules.specs.Rows.{Arrival, Handles, Row, Turned, at, turned_by, with_opened}
+use Rattle.cx_node.specs.cx_rules.specs.Secured.{Keys}
 use Rattle.cx_steps.specs.declared.seals.SealEntry.{SealEntry}
 use Rattle.cx_turns.specs.Making.{IsHandled, IsRowOf, Makes, row_due}
 use Rattle.cx_turns.specs.Steps.{IsTurn}

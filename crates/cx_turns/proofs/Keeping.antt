@@ -8,11 +8,11 @@ use Rattle.cx_control.specs.declared.upkeep.Keepalive2Ack.{Keepalive2Ack}
 use Rattle.cx_frame.specs.declared.frame.Frame.{Frame}
 use Rattle.cx_journal.specs.declared.faults.BytesFault.{BytesFault}
 use Rattle.cx_journal.specs.declared.faults.BytesFault.TheVariants.{Unexpected}
-use Rattle.cx_rules.specs.Messages.{on_upkeep_or}
-use Rattle.cx_rules.specs.Payloads.{payload}
-use Rattle.cx_rules.specs.Rows.{Arrival, Row, secure_sent}
-use Rattle.cx_rules.specs.Secured.{Keys, SealedFrame, Secured}
-use Rattle.cx_rules.specs.Upkeep.{on_keepalive, on_keepalive_ack}
+use Rattle.cx_node.specs.cx_rules.specs.Messages.{on_upkeep_or}
+use Rattle.cx_node.specs.cx_rules.specs.Payloads.{payload}
+use Rattle.cx_node.specs.cx_rules.specs.Rows.{Arrival, Row, secure_sent}
+use Rattle.cx_node.specs.cx_rules.specs.Secured.{Keys, SealedFrame, Secured}
+use Rattle.cx_node.specs.cx_rules.specs.Upkeep.{on_keepalive, on_keepalive_ack}
 use Rattle.cx_turns.specs.Stages.{keys_alone}
 use Rattle.cx_turns.specs.Upkeep.{acknowledged, answered, is_keepalive, upkept}
 

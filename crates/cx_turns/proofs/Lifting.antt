@@ -1,8 +1,8 @@
 -- A turn over a part of what a node has of its own is one of the node.
 use Rattle.std.proofs.Common.{◌≡◌, ◌∙◌, Option, Some, None, refl, sym, ap}
 use Rattle.cx_node.specs.Made.{as_row}
-use Rattle.cx_rules.specs.Links.{Link}
-use Rattle.cx_rules.specs.Rows.{Handles, Refuses, Turned, Waits, lifted_turn}
+use Rattle.cx_node.specs.cx_rules.specs.Links.{Link}
+use Rattle.cx_node.specs.cx_rules.specs.Rows.{Handles, Refuses, Turned, Waits, lifted_turn}
 use Rattle.cx_turns.specs.Making.{own_behind}
 use Rattle.cx_turns.specs.Steps.{IsTurn, turn_due, turn_made}
 use Rattle.cx_turns.specs.declared.came.Came.{Came}

@@ -9,9 +9,9 @@ use Rattle.cx_journal.specs.declared.outcomes.Reason.{Reason}
 use Rattle.cx_journal.specs.declared.outcomes.Reason.TheVariants.{Bytes, Login}
 use Rattle.cx_link.specs.Sending.{secured_of}
 use Rattle.cx_link.specs.declared.links.Signing.{Signing}
-use Rattle.cx_rules.specs.Links.{Link}
-use Rattle.cx_rules.specs.Rows.{Arrival, Row, refuses, unless_refused, with_opened}
-use Rattle.cx_rules.specs.Secured.{Secured, is_signed}
+use Rattle.cx_node.specs.cx_rules.specs.Links.{Link}
+use Rattle.cx_node.specs.cx_rules.specs.Rows.{Arrival, Row, refuses, unless_refused, with_opened}
+use Rattle.cx_node.specs.cx_rules.specs.Secured.{Secured, is_signed}
 use Rattle.cx_steps.specs.declared.seals.SealEntry.{SealEntry}
 use Rattle.cx_turns.specs.Making.{IsRow, IsRowOf, Makes, entering, own_behind, row_due}
 use Rattle.cx_turns.specs.Signatures.{Checks, signature_refusal}

@@ -2,7 +2,7 @@
 use Rattle.std.proofs.Common.{◌≡◌, ℕ, ◌==◌, ◌+◌, ◌<◌, ◌≤◌, Bool, true, false, cond, List, [], ◌∷◌, ◌++◌, Some, refl, ap, subst, arith}
 use Rattle.std.specs.Prelude.{not, nat_lt, filter}
 use Rattle.std.proofs.lemmas.Bool.Decides.{nat_tests}
-use Rattle.cx_rules.specs.Links.{Link, link_of, put_link, without_link}
+use Rattle.cx_node.specs.cx_rules.specs.Links.{Link, link_of, put_link, without_link}
 use Rattle.cx_turns.specs.Stages.{AreRising}
 
 module _ {Stage : Type 0} where

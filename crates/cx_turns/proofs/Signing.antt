@@ -11,13 +11,13 @@ use Rattle.cx_link.specs.Sending.{secured_of}
 use Rattle.cx_link.specs.Turning.{TakesSecure}
 use Rattle.cx_link.specs.Wires.{secured_link}
 use Rattle.cx_link.specs.declared.links.Signing.{Signing}
-use Rattle.cx_rules.specs.Abridged.{abridged_link}
-use Rattle.cx_rules.specs.Acceptor.{Stage, AwaitsIdent, AwaitsSignature, on_signature}
-use Rattle.cx_rules.specs.Fronts.{keys_behind, secure_next}
-use Rattle.cx_rules.specs.Links.{Link}
-use Rattle.cx_rules.specs.Payloads.{due}
-use Rattle.cx_rules.specs.Rows.{Arrival, Row, at, goes_on, refuses, turned_by, with_opened}
-use Rattle.cx_rules.specs.Secured.{Keys, Secured, is_signed, signature_found, under}
+use Rattle.cx_node.specs.cx_rules.specs.Abridged.{abridged_link}
+use Rattle.cx_node.specs.cx_rules.specs.Acceptor.{Stage, AwaitsIdent, AwaitsSignature, on_signature}
+use Rattle.cx_node.specs.cx_rules.specs.Fronts.{keys_behind, secure_next}
+use Rattle.cx_node.specs.cx_rules.specs.Links.{Link}
+use Rattle.cx_node.specs.cx_rules.specs.Payloads.{due}
+use Rattle.cx_node.specs.cx_rules.specs.Rows.{Arrival, Row, at, goes_on, refuses, turned_by, with_opened}
+use Rattle.cx_node.specs.cx_rules.specs.Secured.{Keys, Secured, is_signed, signature_found, under}
 use Rattle.cx_steps.specs.declared.seals.SealEntry.{SealEntry}
 use Rattle.cx_turns.specs.Making.{IsHandled, Makes}
 use Rattle.cx_turns.specs.Steps.{IsTurn}

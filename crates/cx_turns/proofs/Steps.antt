@@ -5,8 +5,8 @@ use Rattle.std.specs.Option.{option_map}
 use Rattle.cx_node.specs.Made.{as_row}
 use Rattle.cx_node.specs.Tables.{behind}
 use Rattle.cx_node.specs.declared.rows.Row.{Row as Made}
-use Rattle.cx_rules.specs.Links.{Link, link_of, put_link, without_link}
-use Rattle.cx_rules.specs.Rows.{Node, Row, carried_out, fed, idles}
+use Rattle.cx_node.specs.cx_rules.specs.Links.{Link, link_of, put_link, without_link}
+use Rattle.cx_node.specs.cx_rules.specs.Rows.{Node, Row, carried_out, fed, idles}
 use Rattle.cx_steps.specs.Nothing.{nothing}
 use Rattle.cx_steps.specs.declared.effects.Effects.{Effects}
 use Rattle.cx_turns.specs.Making.{row_due}
@@ -14,7 +14,7 @@ use Rattle.cx_turns.specs.Steps.{AreHeld, IsFed, IsStep, node_of}
 use Rattle.cx_turns.specs.Turns.{IsCarried, IsFedInto}
 use Rattle.cx_turns.proofs.Carrying.{row_out, row_state}
 use Rattle.cx_turns.proofs.Rising.{put_rising, without_rising}
-use Rattle.cx_rules.proofs.Abridging.{Forgets, put_link_map, without_link_map}
+use Rattle.cx_node.specs.cx_rules.proofs.Abridging.{Forgets, put_link_map, without_link_map}
 
 module _ {Stage : Type 0} (abridged : Link Stage → Link Stage) (forgets : Forgets abridged) where
   -- ---- the links are held

@@ -5,8 +5,8 @@ use Rattle.cx_base.specs.declared.nodes.NodeName.{NodeName}
 use Rattle.cx_journal.specs.declared.faults.BytesFault.{BytesFault}
 use Rattle.cx_node.specs.Made.{as_row, refusing_bytes}
 use Rattle.cx_node.specs.declared.rows.Row.{Row as Made}
-use Rattle.cx_rules.specs.Links.{Link, link_of, put_link, without_link}
-use Rattle.cx_rules.specs.Rows.{Node, Outcome, Row, Turned, Waits, Refuses, Handles, arrival, carried_out, idles, refuses_bytes, turns}
+use Rattle.cx_node.specs.cx_rules.specs.Links.{Link, link_of, put_link, without_link}
+use Rattle.cx_node.specs.cx_rules.specs.Rows.{Node, Outcome, Row, Turned, Waits, Refuses, Handles, arrival, carried_out, idles, refuses_bytes, turns}
 use Rattle.cx_steps.specs.declared.effects.Effects.{Effects}
 use Rattle.cx_steps.specs.declared.seals.SealEntry.{SealEntry}
 use Rattle.cx_turns.specs.Making.{own_behind, row_due}
@@ -17,7 +17,7 @@ use Rattle.cx_turns.specs.declared.came.Came.TheVariants as came
 use Rattle.cx_turns.specs.declared.rows.NodeRow.{NodeRow}
 use Rattle.cx_turns.proofs.Steps.{row_held, row_step, without_held}
 use Rattle.cx_turns.proofs.Rising.{found_put}
-use Rattle.cx_rules.proofs.Abridging.{Forgets}
+use Rattle.cx_node.specs.cx_rules.proofs.Abridging.{Forgets}
 
 module _ {Own Stage Change : Type 0} (abridged : Link Stage → Link Stage) (forgets : Forgets abridged) (changed : Own → Change → Own) (me : NodeName)
     (reading : ℕ) (draw : List ℕ) (own new : Own) (number : ℕ) (link : Link Stage) (all links : List (Link Stage)) (out : Effects) where

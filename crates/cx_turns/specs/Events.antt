@@ -1,6 +1,6 @@
 -- Events, by the link that they are about, and what is told of it where memory is wanting.
 use Rattle.std.specs.Prelude.{ℕ, Option, Some, None}
-use Rattle.cx_rules.specs.Inputs.{Input, Opened, Bytes, Turn, Gone}
+use Rattle.cx_node.specs.cx_rules.specs.Inputs.{Input, Opened, Bytes, Turn, Gone}
 use Rattle.cx_steps.specs.Nothing.{nothing}
 use Rattle.cx_steps.specs.declared.effects.Effects.{Effects}
 

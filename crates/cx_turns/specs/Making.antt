@@ -8,8 +8,8 @@ use Rattle.cx_link.specs.declared.refusals.LinkRefusal.{LinkRefusal}
 use Rattle.cx_link.specs.declared.refusals.LinkRefusal.TheVariants as link
 use Rattle.cx_node.specs.Made.{as_row, behind_opened, refusing}
 use Rattle.cx_node.specs.declared.rows.Row.{Row as Made}
-use Rattle.cx_rules.specs.Links.{Link}
-use Rattle.cx_rules.specs.Rows.{Arrival, Row, refuses}
+use Rattle.cx_node.specs.cx_rules.specs.Links.{Link}
+use Rattle.cx_node.specs.cx_rules.specs.Rows.{Arrival, Row, refuses}
 use Rattle.cx_steps.specs.declared.seals.SealEntry.{SealEntry}
 use Rattle.cx_turns.specs.declared.came.Came.{Came}
 use Rattle.cx_turns.specs.declared.came.Came.TheVariants as came

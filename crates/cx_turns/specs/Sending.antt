@@ -3,7 +3,7 @@ use Rattle.std.specs.Prelude.{◌≡◌, ◌++◌, List, ℕ, Result, Ok, Err}
 use Rattle.cx_journal.specs.declared.faults.BytesFault.{BytesFault}
 use Rattle.cx_link.specs.Wires.{SecureWire, Wire}
 use Rattle.cx_link.specs.declared.links.SentFrame.{SentFrame}
-use Rattle.cx_rules.specs.Secured.{SealedFrame}
+use Rattle.cx_node.specs.cx_rules.specs.Secured.{SealedFrame}
 use Rattle.cx_turns.specs.declared.sending.SentPlain.{SentPlain}
 
 -- the bytes of a plain frame were sent on the link, or it can't be written, as it is due

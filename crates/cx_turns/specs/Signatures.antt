@@ -8,7 +8,7 @@ use Rattle.cx_journal.specs.declared.outcomes.Reason.TheVariants.{Bytes, Login}
 use Rattle.cx_link.specs.Sending.{secured_of}
 use Rattle.cx_link.specs.declared.links.Checked.{Checked}
 use Rattle.cx_link.specs.declared.links.Signing.{Signing}
-use Rattle.cx_rules.specs.Secured.{Secured, is_signed, signature_found}
+use Rattle.cx_node.specs.cx_rules.specs.Secured.{Secured, is_signed, signature_found}
 use Rattle.cx_turns.specs.declared.rows.NoRow.{NoRow}
 use Rattle.cx_turns.specs.declared.rows.NoRow.TheVariants.{Refused, OutOfMemory}
 

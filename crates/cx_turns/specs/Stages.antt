@@ -1,7 +1,7 @@
 -- The links of a node, as either end holds them.
 use Rattle.std.specs.Prelude.{ℕ, ◌≤◌, ◌+◌, List, [], ◌∷◌, ◌++◌}
-use Rattle.cx_rules.specs.Links.{Link}
-use Rattle.cx_rules.specs.Secured.{Keys, Secured}
+use Rattle.cx_node.specs.cx_rules.specs.Links.{Link}
+use Rattle.cx_node.specs.cx_rules.specs.Secured.{Keys, Secured}
 
 -- of a link whose peer has proved itself the keys alone are held
 abbrev pub keys_alone : Keys → Secured

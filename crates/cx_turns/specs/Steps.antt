@@ -1,9 +1,9 @@
 -- A step of a node as the rules have it: its machine holds its links abridged.
 use Rattle.std.specs.Prelude.{◌≡◌, ℕ, List, Option, Some, None, map}
 use Rattle.cx_node.specs.Made.{as_row}
-use Rattle.cx_rules.specs.Abridged.{abridged_node}
-use Rattle.cx_rules.specs.Links.{Link}
-use Rattle.cx_rules.specs.Rows.{Handles, Node, Outcome, Refuses, Turned, Waits, forgotten}
+use Rattle.cx_node.specs.cx_rules.specs.Abridged.{abridged_node}
+use Rattle.cx_node.specs.cx_rules.specs.Links.{Link}
+use Rattle.cx_node.specs.cx_rules.specs.Rows.{Handles, Node, Outcome, Refuses, Turned, Waits, forgotten}
 use Rattle.cx_steps.specs.declared.effects.Effects.{Effects}
 use Rattle.cx_turns.specs.Making.{own_behind, row_due}
 use Rattle.cx_turns.specs.Stages.{AreRising, with_more}

@@ -6,8 +6,8 @@ use Rattle.cx_control.specs.declared.upkeep.Keepalive2Ack.{Keepalive2Ack}
 use Rattle.cx_frame.specs.declared.frame.Frame.{Frame}
 use Rattle.cx_journal.specs.declared.faults.BytesFault.{BytesFault}
 use Rattle.cx_journal.specs.declared.faults.BytesFault.TheVariants.{Unexpected}
-use Rattle.cx_rules.specs.Payloads.{control, payload}
-use Rattle.cx_rules.specs.Secured.{Keys, SealedFrame, secure_frame}
+use Rattle.cx_node.specs.cx_rules.specs.Payloads.{control, payload}
+use Rattle.cx_node.specs.cx_rules.specs.Secured.{Keys, SealedFrame, secure_frame}
 
 -- KEEPALIVE2: the same time is sent back
 abbrev pub answered : Keys → Result Keepalive2 BytesFault → Result SealedFrame BytesFault

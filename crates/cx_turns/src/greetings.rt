@@ -2,8 +2,8 @@
 
 ghost use Rattle.std.specs.Prelude.{◌≡◌, IfOk};
 ghost use Rattle.cx_link.specs.Wires.{new_wire};
-ghost use Rattle.cx_rules.specs.Greetings.{own_banner, own_hello};
-ghost use Rattle.cx_rules.specs.Secured.{plain_frame};
+ghost use Rattle.cx_node.specs.cx_rules.specs.Greetings.{own_banner, own_hello};
+ghost use Rattle.cx_node.specs.cx_rules.specs.Secured.{plain_frame};
 ghost use Rattle.cx_turns.specs.Sending.{SendsPlain};
 
 use crate::sending::{SentPlain, send_plain};

@@ -32,6 +32,10 @@ pub use turner::Turner;
 pub use turns::{carries, turn};
 pub use upkeep::{is_keepalive, upkept};
 
+// What crates above name through this one, and so needn't list.
+pub use cx_link::{LinkRefusal, SecureLink, SentFrame};
+pub use cx_node::{Body, whole, whole_part};
+
 // Each public type that owns something may be sent to another thread and shared with one, where its links and its changes may.
 fn is_sendable<T: Send + Sync>() {}
 

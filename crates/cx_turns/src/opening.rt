@@ -3,7 +3,7 @@
 ghost use Rattle.std.specs.Prelude.{◌≡◌, [], ◌∷◌, None, false, IfOk, IsOkAnd, OnOk, OnErr};
 ghost use Rattle.cx_journal.specs.declared.outcomes.Reason.TheVariants as reason;
 ghost use Rattle.cx_node.specs.Tables.{behind, without};
-ghost use Rattle.cx_rules.specs.Rows as rows;
+ghost use Rattle.cx_node.specs.cx_rules.specs.Rows as rows;
 ghost use Rattle.cx_steps.specs.Nothing.{nothing};
 ghost use Rattle.cx_turns.specs.Turns.{IsCarried};
 

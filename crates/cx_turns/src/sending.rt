@@ -1,8 +1,8 @@
 //! What is sent on a link.
 
 ghost use Rattle.std.specs.Prelude.{◌≡◌, ◌≤◌, IfOk};
-ghost use Rattle.cx_rules.specs.Payloads.{control};
-ghost use Rattle.cx_rules.specs.Secured.{plain_frame, secure_frame};
+ghost use Rattle.cx_node.specs.cx_rules.specs.Payloads.{control};
+ghost use Rattle.cx_node.specs.cx_rules.specs.Secured.{plain_frame, secure_frame};
 ghost use Rattle.cx_turns.specs.Sending.{SendsPlain, SendsSecure};
 
 use cx_base::Blob;

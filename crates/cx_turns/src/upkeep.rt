@@ -3,7 +3,7 @@
 ghost use Rattle.std.specs.Prelude.{◌≡◌, IfOk};
 ghost use Rattle.cx_control.specs.Upkeep.{keepalive2_layout};
 ghost use Rattle.cx_enc.specs.Moments.{IsReading};
-ghost use Rattle.cx_rules.specs.Payloads.{payload, whole};
+ghost use Rattle.cx_node.specs.cx_rules.specs.Payloads.{payload, whole};
 ghost use Rattle.cx_turns.specs.Sending.{SendsSecure};
 ghost use Rattle.cx_turns.specs.Upkeep.{acknowledged, answered, is_keepalive, upkept};
 

@@ -19,6 +19,9 @@ pub use owners::SessionOwner;
 pub use served::Served;
 pub use turns::{GuestTurn, turned};
 
+// What crates above name through this one, and so needn't list.
+pub use cx_rules_session::daemon_forgetting_laws;
+
 // Each public type may be sent to another thread and shared with one.
 fn is_sendable<T: Send + Sync>() {}
 

@@ -1,6 +1,7 @@
 -- What arrives from a side of a link.
 use Rattle.std.proofs.Common.{◌≡◌, ℕ, true, false, List, [], ◌∷◌, Option, Some, None, refl, sym, ap, ◌∙◌, subst}
 use Rattle.std.specs.Option.{option_map}
+use Rattle.cx_desk.specs.Handlers.{Handlers}
 use Rattle.cx_line_words.specs.declared.choices.Side.{Side}
 use Rattle.cx_line_words.specs.declared.choices.Side.TheVariants.{Connector, Acceptor}
 use Rattle.cx_run.specs.Deliveries.{arrives_from, delivers, delivers_on, delivers_piece, first_of, gone_arrives, stay, under_way}
@@ -17,7 +18,7 @@ use Rattle.cx_world.specs.declared.world.World.{World as Held}
 use Rattle.cx_world.proofs.Making.{if_not, if_so}
 
 -- other links are there
-pub rewired : (b : Began) (seen : Option ℕ) (held : Held) (w : RunWorld) (new wires : List Wire) → Carries b seen held w → new ≡ wires
+pub rewired : {handlers : Handlers} (b : Began handlers) (seen : Option ℕ) (held : Held) (w : RunWorld) (new wires : List Wire) → Carries b seen held w → new ≡ wires
     → Carries b seen (record held { wires = new }) (record w { wires = wires })
 rewired b seen held w new wires k e =
     record { nodes = k.nodes; led = k.led; wires = e; left = k.left; line = k.line; told = k.told; stirred = k.stirred }
@@ -37,13 +38,13 @@ not_owed : (w : RunWorld) (side : Side) (o : Option Wire) → owed_on side o ≡
 not_owed w side None e = refl
 not_owed w side (Some wire) e = sym (if_not (owes_gone wire side) (gone_arrives w wire side) w e)
 
-pub nothing_owed : (b : Began) (seen : Option ℕ) (held : Held) (w : RunWorld) (number : ℕ) (side : Side) → Carries b seen held w
+pub nothing_owed : {handlers : Handlers} (b : Began handlers) (seen : Option ℕ) (held : Held) (w : RunWorld) (number : ℕ) (side : Side) → Carries b seen held w
     → owed_on side (wire_of number held.wires) ≡ false → Carries b seen held (delivers_gone w side (wire_of number w.wires))
 nothing_owed b seen held w number side k e =
     let o : owed_on side (wire_of number w.wires) ≡ false = ap (λ (ws : List Wire). owed_on side (wire_of number ws)) (sym k.wires) ∙ e in
     subst (λ (x : RunWorld). Carries b seen held x) (not_owed w side (wire_of number w.wires) o) k
 
-pub gone_comes : (b : Began) (seen : Option ℕ) (held after : Held) (w : RunWorld) (number : ℕ) (side : Side) (new : List Wire) (far : Option LinkEnd)
+pub gone_comes : {handlers : Handlers} (b : Began handlers) (seen : Option ℕ) (held after : Held) (w : RunWorld) (number : ℕ) (side : Side) (new : List Wire) (far : Option LinkEnd)
     → Carries b seen held w → owed_on side (wire_of number held.wires) ≡ true
     → far ≡ seen_at (other side) (wire_of number held.wires) → new ≡ with_changed (λ x. gone_at x (other side)) number held.wires
     → ((x : RunWorld) → Carries b seen (record held { wires = new }) x → Carries b seen after (tells_there x far))
@@ -73,7 +74,7 @@ piece_on : (w : RunWorld) (side : Side) (n : Option ℕ) (bytes : List ℕ) (o :
 piece_on w side n bytes None e = cc
 piece_on w side n bytes (Some wire) e = piece_comes w wire side n bytes (pieces_from wire side) e
 
-pub arrived : (b : Began) (seen : Option ℕ) (held after : Held) (w : RunWorld) (number : ℕ) (side : Side) (n : Option ℕ) (new : List Wire) (far : Option LinkEnd) (bytes : List ℕ)
+pub arrived : {handlers : Handlers} (b : Began handlers) (seen : Option ℕ) (held after : Held) (w : RunWorld) (number : ℕ) (side : Side) (n : Option ℕ) (new : List Wire) (far : Option LinkEnd) (bytes : List ℕ)
     → Carries b seen held w → Some bytes ≡ arriving n (under_way side (wire_of number held.wires))
     → far ≡ seen_at (other side) (wire_of number held.wires) → new ≡ taken_on side n held.wires (wire_of number held.wires)
     → ((x : RunWorld) → Carries b seen (record held { wires = new }) x → Carries b seen after (arrives_there x far bytes))
@@ -100,7 +101,7 @@ none_on : (w : RunWorld) (side : Side) (n : Option ℕ) (o : Option Wire) → No
 none_on w side n None e = (refl, refl)
 none_on w side n (Some wire) e = none_from w wire side n (pieces_from wire side) e
 
-pub none_arrived : (b : Began) (seen : Option ℕ) (held after : Held) (w : RunWorld) (number : ℕ) (side : Side) (n : Option ℕ) (new : List Wire)
+pub none_arrived : {handlers : Handlers} (b : Began handlers) (seen : Option ℕ) (held after : Held) (w : RunWorld) (number : ℕ) (side : Side) (n : Option ℕ) (new : List Wire)
     → Carries b seen held w → None ≡ arriving n (under_way side (wire_of number held.wires)) → new ≡ taken_on side n held.wires (wire_of number held.wires)
     → ((x : RunWorld) → Carries b seen (record held { wires = new }) x → Carries b seen after (delivers_gone x side (wire_of number x.wires)))
     → Carries b seen after (delivers w number side n)
@@ -117,7 +118,7 @@ inject_on : (w : RunWorld) (side : Side) (bytes : List ℕ) (o : Option Wire) �
 inject_on w side bytes None = refl
 inject_on w side bytes (Some wire) = refl
 
-pub injected : (b : Began) (seen : Option ℕ) (held after : Held) (w : RunWorld) (number : ℕ) (side : Side) (far : Option LinkEnd) (bytes : List ℕ)
+pub injected : {handlers : Handlers} (b : Began handlers) (seen : Option ℕ) (held after : Held) (w : RunWorld) (number : ℕ) (side : Side) (far : Option LinkEnd) (bytes : List ℕ)
     → Carries b seen held w → far ≡ seen_at (other side) (wire_of number held.wires)
     → ((x : RunWorld) → Carries b seen held x → Carries b seen after (arrives_there x far bytes))
     → Carries b seen after (injects w side bytes (wire_of number w.wires))
@@ -132,7 +133,7 @@ cut_on : (w : RunWorld) (o : Option Wire)
 cut_on w None = refl
 cut_on w (Some wire) = refl
 
-pub was_cut : (b : Began) (seen : Option ℕ) (held after : Held) (w : RunWorld) (number : ℕ) (new : List Wire) (connector acceptor : Option LinkEnd)
+pub was_cut : {handlers : Handlers} (b : Began handlers) (seen : Option ℕ) (held after : Held) (w : RunWorld) (number : ℕ) (new : List Wire) (connector acceptor : Option LinkEnd)
     → Carries b seen held w → connector ≡ seen_at Connector (wire_of number held.wires) → acceptor ≡ seen_at Acceptor (wire_of number held.wires)
     → new ≡ with_changed ended number held.wires
     → ((x : RunWorld) → Carries b seen (record held { wires = new }) x → Carries b seen after (tells_there (tells_there x connector) acceptor))
@@ -148,7 +149,7 @@ was_cut b seen held after w number new connector acceptor k f g n told =
     ap (λ (x : Option LinkEnd). tells_there (tells_there now x) acceptor) one ∙ ap (λ (x : Option LinkEnd). tells_there (tells_there now (seen_at Connector o)) x) two ∙ cut_on w o in
     subst (λ (x : RunWorld). Carries b seen after x) is (told now (rewired b seen held w new wires k made))
 
-pub came_again : (b : Began) (seen : Option ℕ) (held after : Held) (w : RunWorld) (number : ℕ) (side : Side) (place to : ℕ) (bytes : List ℕ)
+pub came_again : {handlers : Handlers} (b : Began handlers) (seen : Option ℕ) (held after : Held) (w : RunWorld) (number : ℕ) (side : Side) (place to : ℕ) (bytes : List ℕ)
     → Carries b seen held w → Some bytes ≡ ever_sent place side (wire_of number held.wires)
     → Carries b seen after (injects w side bytes (wire_of to w.wires))
     → Carries b seen after (arrives_again w side (ever_sent place side (wire_of number w.wires)) (wire_of to w.wires))

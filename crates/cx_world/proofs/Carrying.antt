@@ -4,6 +4,7 @@ use Rattle.std.specs.Prelude.{if◌then◌else◌}
 use Rattle.std.specs.Option.{option_map}
 use Rattle.std.proofs.lemmas.Option.{none-some, same_Some}
 use Rattle.cx_base.specs.declared.nodes.NodeName.{NodeName}
+use Rattle.cx_desk.specs.Handlers.{Handlers}
 use Rattle.cx_line_words.specs.declared.choices.Side.{Side}
 use Rattle.cx_line_words.specs.declared.choices.Side.TheVariants.{Connector, Acceptor}
 use Rattle.cx_rules.specs.Inputs.{Opened}
@@ -28,13 +29,13 @@ with_links held wires = record held { wires = wires }
 abbrev linked : World → List Wire → World
 linked w wires = record w { wires = wires }
 
-module _ (b : Began) (seen : Option ℕ) (old : Held) (w : World) (k : Carries b seen old w) where
+module _ {handlers : Handlers} (b : Began handlers) (seen : Option ℕ) (old : Held) (w : World) (k : Carries b seen old w) where
   -- ---- a link opens
 
   pub opened_to : (mid last : Held) (who : NodeName) (to : Peer) (connecting accepting there : NodeName) (peer : Peer) (n : ℕ) (ws : List Wire)
       → connecting ≡ who → accepting ≡ node_of to → there ≡ accepting → peer ≡ to → n ≡ suc (length old.wires)
       → ws ≡ old.wires ++ new_wire (suc (length old.wires)) connecting accepting ∷ []
-      → Makes (with_links old ws) mid (λ v. tells v who (Opened n (Some peer))) → Makes mid last (λ v. tells v there (Opened n None)) → Carries b seen last (opens_to who w to)
+      → Makes handlers (with_links old ws) mid (λ v. tells v who (Opened n (Some peer))) → Makes handlers mid last (λ v. tells v there (Opened n None)) → Carries b seen last (opens_to who w to)
   opened_to mid last who to connecting accepting there peer n ws ce ae te pe ne we first second =
       let wire : Wire = new_wire (suc (length w.wires)) who (node_of to) in
       let e : ws ≡ w.wires ++ wire ∷ [] = we
@@ -51,7 +52,7 @@ module _ (b : Began) (seen : Option ℕ) (old : Held) (w : World) (k : Carries b
   -- ---- ends that are gone
 
   pub gone_carried : (new : Held) (number : ℕ) (side s : Side) (far : LinkEnd) (ws : List Wire) → s ≡ other side → ws ≡ with_changed (λ wire. gone_at wire s) number old.wires
-      → Makes (with_links old ws) new (λ v. tells_end v far) → Carries b seen new (gone_arriving true number side far w)
+      → Makes handlers (with_links old ws) new (λ v. tells_end v far) → Carries b seen new (gone_arriving true number side far w)
   gone_carried new number side s far ws se we makes =
       let there : List Wire = with_changed (λ wire. gone_at wire (other side)) number w.wires in
       let e : ws ≡ there = we ∙ ap (λ (t : Side). with_changed (λ wire. gone_at wire t) number old.wires) se
@@ -61,7 +62,7 @@ module _ (b : Began) (seen : Option ℕ) (old : Held) (w : World) (k : Carries b
   pub cut_carried : (mid last : Held) (number : ℕ) (connector acceptor : LinkEnd) (ws : List Wire)
       → Some connector ≡ option_map (λ (wire : Wire). end_seen wire Connector) (wire_of number old.wires)
       → Some acceptor ≡ option_map (λ (wire : Wire). end_seen wire Acceptor) (wire_of number old.wires)
-      → ws ≡ with_changed ended number old.wires → Makes (with_links old ws) mid (λ v. tells_end v connector) → Makes mid last (λ v. tells_end v acceptor)
+      → ws ≡ with_changed ended number old.wires → Makes handlers (with_links old ws) mid (λ v. tells_end v connector) → Makes handlers mid last (λ v. tells_end v acceptor)
       → Carries b seen last (cuts w (wire_of number w.wires))
   cut_carried mid last number connector acceptor ws ce ae we first second =
       let same : wire_of number old.wires ≡ wire_of number w.wires = ap (λ (xs : List Wire). wire_of number xs) k.wires in
@@ -82,7 +83,7 @@ module _ (b : Began) (seen : Option ℕ) (old : Held) (w : World) (k : Carries b
           subst Q a (subst P c (second b seen (tells_end (linked w there) connector) (first b seen (linked w there) (wired b seen old w k ws there ws'))))
 
   pub vanished_carried : (new : Held) (who : NodeName) (number : ℕ) (far : LinkEnd) (ws : List Wire) → Some far ≡ far_seen who (wire_of number old.wires)
-      → ws ≡ with_changed ended number old.wires → Makes (with_links old ws) new (λ v. tells_end v far) → Carries b seen new (vanished_at who (wire_of number w.wires) w)
+      → ws ≡ with_changed ended number old.wires → Makes handlers (with_links old ws) new (λ v. tells_end v far) → Carries b seen new (vanished_at who (wire_of number w.wires) w)
   vanished_carried new who number far ws fe we makes =
       by (wire_of number w.wires) refl (fe ∙ ap (λ (xs : List Wire). far_seen who (wire_of number xs)) k.wires) (we ∙ ap (λ (xs : List Wire). with_changed ended number xs) k.wires)
     where
@@ -112,7 +113,7 @@ module _ (b : Began) (seen : Option ℕ) (old : Held) (w : World) (k : Carries b
   module _ (last : Held) (number : ℕ) (side : Side) (n : Option ℕ) (far : LinkEnd) (ws : List Wire)
       (fe : Some far ≡ option_map (λ (wire : Wire). end_seen wire (other side)) (wire_of number old.wires))
       (we : ws ≡ taken_on side n old.wires (wire_of number old.wires)) where
-    pub piece_carried : (bytes : List ℕ) → Some bytes ≡ arriving n (under_way side (wire_of number old.wires)) → Makes (with_links old ws) last (λ v. arrives_end v far bytes)
+    pub piece_carried : (bytes : List ℕ) → Some bytes ≡ arriving n (under_way side (wire_of number old.wires)) → Makes handlers (with_links old ws) last (λ v. arrives_end v far bytes)
         → Carries b seen last (delivers w number side n)
     piece_carried bytes be makes =
         by (wire_of number w.wires) (fe ∙ ap (λ (xs : List Wire). option_map (λ (wire : Wire). end_seen wire (other side)) (wire_of number xs)) k.wires)
@@ -134,7 +135,7 @@ module _ (b : Began) (seen : Option ℕ) (old : Held) (w : World) (k : Carries b
         by (Some wire) fe we be = on wire (pieces_from wire side) (same_Some far (end_seen wire (other side)) fe) we be
 
     pub none_carried : (is_owed : Bool) → is_owed ≡ owed_on side (wire_of number old.wires) → None ≡ arriving n (under_way side (wire_of number old.wires))
-        → Makes (with_links old ws) last (λ v. gone_arriving is_owed number side far v) → Carries b seen last (delivers w number side n)
+        → Makes handlers (with_links old ws) last (λ v. gone_arriving is_owed number side far v) → Carries b seen last (delivers w number side n)
     none_carried is_owed oe be makes =
         by (wire_of number w.wires) refl (fe ∙ ap (λ (xs : List Wire). option_map (λ (wire : Wire). end_seen wire (other side)) (wire_of number xs)) k.wires)
         (we ∙ ap (λ (xs : List Wire). taken_on side n xs (wire_of number xs)) k.wires) (be ∙ ap (λ (xs : List Wire). arriving n (under_way side (wire_of number xs))) k.wires)

@@ -3,6 +3,7 @@ use Rattle.std.proofs.Common.{◌≡◌, ℕ, ◌+◌, ◌≤◌, Bool, true, fa
 use Rattle.std.specs.Prelude.{◌==◌, ◌||◌, not}
 use Rattle.std.proofs.lemmas.Bool.Decides.{nat_tests}
 use Rattle.std.proofs.lemmas.List.{map-append}
+use Rattle.cx_desk.specs.Handlers.{Handlers}
 use Rattle.cx_journal.specs.declared.entries.Entry.{Entry}
 use Rattle.cx_base.specs.declared.nodes.NodeName.{NodeName}
 use Rattle.cx_run_nodes.proofs.Keyed.{key_found, same_node_is}
@@ -58,9 +59,9 @@ stirs_same : (seen : Option ℕ) (old new : Bool) (past : List Happening) → ne
 stirs_same None old new past e k = tt
 stirs_same (Some n) old new past e k = (k.0, e ∙ k.1)
 
-module _ (b : Began) (seen : Option ℕ) (old new : Held) (nodes : HeldNodes) (who : NodeName) (made : Made)
+module _ {handlers : Handlers} (b : Began handlers) (seen : Option ℕ) (old new : Held) (nodes : HeldNodes) (who : NodeName) (made : Made)
     (noted : (let there : Held = record old { nodes = nodes } in IsNoted who made there new)) (w : World) (k : Carries b seen old w) (input : Input) where
-  nothing_came : IsGiven nodes made None (given w input None) → IsGivenTo b seen new made (given w input None)
+  nothing_came : IsGiven handlers nodes made None (given w input None) → IsGivenTo b seen new made (given w input None)
   nothing_came g =
       let out : made.out ≡ nothing = g.out in
       let quiet : made.happened ≡ false = g.happened in
@@ -86,7 +87,7 @@ module _ (b : Began) (seen : Option ℕ) (old new : Held) (nodes : HeldNodes) (w
         failed = g.failed;
       }
 
-  something_came : (post : Post) → post_of who w.posts ≡ Some post → IsGiven nodes made (Some post) (given w input (Some post)) → IsGivenTo b seen new made (given w input (Some post))
+  something_came : (post : Post) → post_of who w.posts ≡ Some post → IsGiven handlers nodes made (Some post) (given w input (Some post)) → IsGivenTo b seen new made (given w input (Some post))
   something_came post found g =
       let h : Happening = happening w input post in
       let named : post.node ≡ who = same_node_is post.node who (key_found (λ (s : Post). s.node) same_node w.posts who post found) in
@@ -125,9 +126,9 @@ module _ (b : Began) (seen : Option ℕ) (old new : Held) (nodes : HeldNodes) (w
         failed = g.failed;
       }
 
-  pub given_to : IsGiven nodes made (post_of who w.posts) (gives w who input) → IsGivenTo b seen new made (gives w who input)
+  pub given_to : IsGiven handlers nodes made (post_of who w.posts) (gives w who input) → IsGivenTo b seen new made (gives w who input)
   given_to g = by (post_of who w.posts) refl g
     where
-      by : (post : Option Post) → post_of who w.posts ≡ post → IsGiven nodes made post (given w input post) → IsGivenTo b seen new made (given w input post)
+      by : (post : Option Post) → post_of who w.posts ≡ post → IsGiven handlers nodes made post (given w input post) → IsGivenTo b seen new made (given w input post)
       by None e g = nothing_came g
       by (Some post) e g = something_came post e g

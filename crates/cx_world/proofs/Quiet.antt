@@ -9,7 +9,7 @@ use Rattle.cx_line_words.specs.declared.choices.LeftState.{LeftState}
 use Rattle.std.specs.Prelude.{if◌then◌else◌}
 use Rattle.cx_desk.specs.Handlers.{Handlers}
 use Rattle.cx_rules.specs.Acceptor as acceptor
-use Rattle.cx_rules.specs.ClientRule.{ClientNode, loses}
+use Rattle.cx_rules_session.specs.ClientRule.{ClientStage, WholeClientNode, loses}
 use Rattle.cx_rules.specs.Connector.{Stage}
 use Rattle.cx_rules.specs.Inputs.{Input, Gone, Opened}
 use Rattle.cx_rules.specs.Links.{Link, link_of}
@@ -35,7 +35,7 @@ use Rattle.cx_steps.specs.declared.events.Peer.{Peer}
 abbrev IsQuiet : Effects → Type 0
 IsQuiet out = (out.sends ≡ []) × (out.shuts ≡ [])
 
-loses_quiet : (c : ClientNode) (found : Option (Link Stage)) → IsQuiet (loses c found).out
+loses_quiet : (c : WholeClientNode) (found : Option (Link ClientStage)) → IsQuiet (loses c found).out
 loses_quiet c None = (refl, refl)
 loses_quiet c (Some link) = (refl, refl)
 

@@ -2,6 +2,7 @@
 use Rattle.std.proofs.Common.{◌≡◌, ℕ, ◌+◌, ◌<◌, ◌≤◌, ◌==◌, Bool, true, false, suc, zero, List, [], ◌∷◌, length, Option, Some, None, refl, sym, ap, ◌∙◌, subst, arith, add-one, zero-add}
 use Rattle.std.specs.Prelude.{◌-◌, not, replicate, IfSome}
 use Rattle.std.proofs.lemmas.Bool.Decides.{nat_tests}
+use Rattle.cx_desk.specs.Handlers.{Handlers}
 use Rattle.cx_line_words.specs.declared.choices.Side.{Side}
 use Rattle.cx_line_words.specs.declared.choices.Side.TheVariants.{Connector, Acceptor}
 use Rattle.cx_run.specs.Deliveries.{delivers, delivers_on, delivers_piece, drains, drains_side, gone_arrives, round, rounds, settles, under_way}
@@ -28,7 +29,7 @@ drained_by number side w (piece ∷ pieces) =
     ap (λ (x : RunWorld). delivers x number side None) (sym (first_one (length pieces) number side w))
     ∙ drained_by number side (delivers w number side None) pieces
 
-pub drained : (b : Began) (seen : Option ℕ) (held after : Held) (w : RunWorld) (number count : ℕ) (side : Side) → Carries b seen held w
+pub drained : {handlers : Handlers} (b : Began handlers) (seen : Option ℕ) (held after : Held) (w : RunWorld) (number count : ℕ) (side : Side) → Carries b seen held w
     → count ≡ length (under_way side (wire_of number held.wires))
     → Carries b seen after (delivers (delivers_many count number side w) number side None)
     → Carries b seen after (drains_side w number side)
@@ -39,10 +40,10 @@ drained b seen held after w number count side k n h =
     ap (λ (x : ℕ). delivers (delivers_many x number side w) number side None) many ∙ drained_by number side w pieces in
     subst (λ (x : RunWorld). Carries b seen after x) is h
 
-pub delivered_one_more : (old held after : Held) (number count : ℕ) (side : Side) → Makes old held (delivers_many count number side)
-    → Makes held after (λ w. delivers w number side None) → Makes old after (delivers_many (count + 1) number side)
-delivered_one_more old held after number count side first next =
-    rw add-one (λ (b : Began) (seen : Option ℕ) (w : RunWorld) (k : Carries b seen old w). next b seen (delivers_many count number side w) (first b seen w k))
+pub delivered_one_more : {handlers : Handlers} (old held after : Held) (number count : ℕ) (side : Side) → Makes handlers old held (delivers_many count number side)
+    → Makes handlers held after (λ w. delivers w number side None) → Makes handlers old after (delivers_many (count + 1) number side)
+delivered_one_more {handlers} old held after number count side first next =
+    rw add-one (λ (b : Began handlers) (seen : Option ℕ) (w : RunWorld) (k : Carries b seen old w). next b seen (delivers_many count number side w) (first b seen w k))
 
 -- ---- all links
 
@@ -55,7 +56,7 @@ links_from count w (wire ∷ wires) k =
     let more : count + length (wire ∷ wires) ≡ suc count + length wires = omega arith in
     ap (λ (n : ℕ). drains_links n w) more ∙ links_from (suc count) w wires k.1 ∙ ap (λ (n : ℕ). round (drains_both n next) wires) number
 
-pub went_round : (b : Began) (seen : Option ℕ) (held after : Held) (w : RunWorld) (count : ℕ) → Carries b seen held w → AreNumbered 1 held.wires
+pub went_round : {handlers : Handlers} (b : Began handlers) (seen : Option ℕ) (held after : Held) (w : RunWorld) (count : ℕ) → Carries b seen held w → AreNumbered 1 held.wires
     → count ≡ length held.wires → Carries b seen after (drains_links count w) → Carries b seen after (round w w.wires)
 went_round b seen held after w count k n c h =
     let numbered : AreNumbered 1 w.wires = subst (λ (ws : List Wire). AreNumbered 1 ws) k.wires n in
@@ -66,7 +67,7 @@ went_round b seen held after w count k n c h =
 -- ---- links on which nothing is to come
 
 -- a table with the same links carries the same worlds
-pub same_wires : (b : Began) (seen : Option ℕ) (held : Held) (w : RunWorld) (new : List Wire) → new ≡ held.wires → Carries b seen held w
+pub same_wires : {handlers : Handlers} (b : Began handlers) (seen : Option ℕ) (held : Held) (w : RunWorld) (new : List Wire) → new ≡ held.wires → Carries b seen held w
     → (let h : Held = record held { wires = new } in Carries b seen h w)
 same_wires b seen held w new e k =
     record { nodes = k.nodes; led = k.led; wires = e ∙ k.wires; left = k.left; line = k.line; told = k.told; stirred = k.stirred }
@@ -106,8 +107,8 @@ all_passed after last w h k =
     ap (λ (n : ℕ). drains_links n w) more ∙ passed_over (last - after) after w calm
 
 -- the next link that may not be calm was drained
-pub drained_next : (old held behind : Held) (after number : ℕ) → after < number → AreCalm after number held.wires → Makes old held (drains_links after)
-    → Makes held behind (drains_both number) → Makes old behind (drains_links number)
+pub drained_next : {handlers : Handlers} (old held behind : Held) (after number : ℕ) → after < number → AreCalm after number held.wires → Makes handlers old held (drains_links after)
+    → Makes handlers held behind (drains_both number) → Makes handlers old behind (drains_links number)
 drained_next old held behind after zero h k first next = absurd (omega arith)
 drained_next old held behind after (suc before) h k first next = λ b seen w c.
     let here : RunWorld = drains_links after w in
@@ -117,7 +118,7 @@ drained_next old held behind after (suc before) h k first next = λ b seen w c.
     subst (λ (x : RunWorld). Carries b seen behind (drains_both (suc before) x)) (sym is) (next b seen here d)
 
 -- no link is left that may not be calm
-pub rested : (old held : Held) (after last : ℕ) → after ≤ last → AreCalm after (suc last) held.wires → Makes old held (drains_links after) → Makes old held (drains_links last)
+pub rested : {handlers : Handlers} (old held : Held) (after last : ℕ) → after ≤ last → AreCalm after (suc last) held.wires → Makes handlers old held (drains_links after) → Makes handlers old held (drains_links last)
 rested old held after last h k first = λ b seen w c.
     let here : RunWorld = drains_links after w in
     let d : Carries b seen held here = first b seen w c in
@@ -127,23 +128,23 @@ rested old held after last h k first = λ b seen w c.
 -- ---- rounds
 
 -- behind so many rounds, each of which delivered something, the further ones are those of the world that is carried now
-pub record IsSettling (b : Began) (count : ℕ) (w : RunWorld) (held : Held) : Type 0 where
+pub record IsSettling {handlers : Handlers} (b : Began handlers) (count : ℕ) (w : RunWorld) (held : Held) : Type 0 where
   pub world : RunWorld
   pub carried : Carries b None held world
   pub same : (left : ℕ) → rounds w (replicate (count + left) 0) ≡ rounds world (replicate left 0)
 
-pub unsettled : (b : Began) (w : RunWorld) (held : Held) → Carries b None held w → IsSettling b 0 w held
+pub unsettled : {handlers : Handlers} (b : Began handlers) (w : RunWorld) (held : Held) → Carries b None held w → IsSettling b 0 w held
 unsettled b w held k = record { world = w; carried = k; same = λ left. ap (λ (n : ℕ). rounds w (replicate n 0)) (zero-add left) }
 
 -- it is asked whether something happens from here on
-pub asked : (b : Began) (w : RunWorld) (held : Held) → Carries b None held w → Carries b (Some (length w.past)) (record held { stirred = false }) w
+pub asked : {handlers : Handlers} (b : Began handlers) (w : RunWorld) (held : Held) → Carries b None held w → Carries b (Some (length w.past)) (record held { stirred = false }) w
 asked b w held k =
     let n : ℕ = length w.past in
     let stirred : (n ≤ n) × (false ≡ not (n == n)) = (omega arith, grind (arith, nat_tests)) in
     record { nodes = k.nodes; led = k.led; wires = k.wires; left = k.left; line = k.line; told = k.told; stirred = stirred }
 
 -- it is no longer asked
-pub unasked : (b : Began) (seen : Option ℕ) (w : RunWorld) (held : Held) → Carries b seen held w → Carries b None held w
+pub unasked : {handlers : Handlers} (b : Began handlers) (seen : Option ℕ) (w : RunWorld) (held : Held) → Carries b seen held w → Carries b None held w
 unasked b seen w held k =
     record { nodes = k.nodes; led = k.led; wires = k.wires; left = k.left; line = k.line; told = k.told; stirred = tt }
 
@@ -156,7 +157,7 @@ not_false true e = refl
 not_false false e = cc
 
 -- a round delivered something
-pub went_on : (b : Began) (count : ℕ) (w : RunWorld) (held after : Held) (s : IsSettling b count w held)
+pub went_on : {handlers : Handlers} (b : Began handlers) (count : ℕ) (w : RunWorld) (held after : Held) (s : IsSettling b count w held)
     → Carries b (Some (length s.world.past)) after (round s.world s.world.wires) → after.stirred ≡ true → IsSettling b (count + 1) w after
 went_on b count w held after s k e =
     let next : RunWorld = round s.world s.world.wires in
@@ -166,12 +167,12 @@ went_on b count w held after s k e =
     ap (λ (n : ℕ). rounds w (replicate n 0)) more ∙ s.same (suc left) ∙ if_not (length next.past == length s.world.past) next (rounds next (replicate left 0)) test in
     record { world = next; carried = unasked b (Some (length s.world.past)) next after k; same = step }
 
-settled : (b : Began) (held : Held) (w : RunWorld) (all : ℕ) → all ≡ 64 → Carries b None held (rounds w (replicate all 0)) → Carries b None held (settles w)
+settled : {handlers : Handlers} (b : Began handlers) (held : Held) (w : RunWorld) (all : ℕ) → all ≡ 64 → Carries b None held (rounds w (replicate all 0)) → Carries b None held (settles w)
 unfolding settles
 settled b held w all e k = subst (λ (n : ℕ). Carries b None held (rounds w (replicate n 0))) e k
 
 -- a round delivered nothing
-pub came_to_rest : (b : Began) (count all : ℕ) (w : RunWorld) (held after : Held) (s : IsSettling b count w held) → all ≡ 64 → count < all
+pub came_to_rest : {handlers : Handlers} (b : Began handlers) (count all : ℕ) (w : RunWorld) (held after : Held) (s : IsSettling b count w held) → all ≡ 64 → count < all
     → Carries b (Some (length s.world.past)) after (round s.world s.world.wires) → after.stirred ≡ false
     → Carries b None after (settles w)
 came_to_rest b count all w held after s a h k e =
@@ -184,7 +185,7 @@ came_to_rest b count all w held after s a h k e =
     settled b after w all a (subst (λ (x : RunWorld). Carries b None after x) (sym is) (unasked b (Some (length s.world.past)) next after k))
 
 -- all rounds were gone
-pub all_gone : (b : Began) (count all : ℕ) (w : RunWorld) (held : Held) (s : IsSettling b count w held) → all ≡ 64 → count ≡ all
+pub all_gone : {handlers : Handlers} (b : Began handlers) (count all : ℕ) (w : RunWorld) (held : Held) (s : IsSettling b count w held) → all ≡ 64 → count ≡ all
     → Carries b None held (settles w)
 all_gone b count all w held s a e =
     let more : all ≡ count + 0 = omega arith in

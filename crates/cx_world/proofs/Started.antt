@@ -3,6 +3,7 @@ use Rattle.std.proofs.Common.{◌≡◌, ℕ, ◌+◌, ◌<◌, ◌≤◌, Bool,
 use Rattle.std.specs.List.{list_all}
 use Rattle.std.proofs.lemmas.List.{map-append, take_all, take_more}
 use Rattle.cx_base.specs.Names.{Name}
+use Rattle.cx_desk.specs.Handlers.{Handlers}
 use Rattle.cx_journal.specs.declared.premises.Broken.{Broken}
 use Rattle.cx_lines.specs.Lines.{is_numbered_in_range}
 use Rattle.cx_lines.specs.declared.lines.Numbered.{Numbered}
@@ -15,7 +16,7 @@ use Rattle.cx_run.specs.Schedules.{after_line, after_lines}
 use Rattle.cx_run.specs.Served.{first_unserved, is_numbered_served, is_served}
 use Rattle.cx_run.specs.Worlds.{World}
 use Rattle.cx_schedule.proofs.Whole as schedule
-use Rattle.cx_world.specs.Heads.{IsSchedule}
+use Rattle.cx_world.specs.Heads.{IsSchedule, with_handlers}
 use Rattle.cx_steps.specs.Breach.{IsFound}
 use Rattle.cx_steps.specs.declared.seals.Logged.{Logged}
 use Rattle.cx_words.specs.Cutting.{lines_of}
@@ -25,15 +26,16 @@ use Rattle.cx_world.specs.declared.records.Record.{Record}
 use Rattle.cx_world.specs.declared.world.World.{World as Held}
 
 -- nothing happened yet
-pub recorded : (b : Began) (told : Record) → told.journal ≡ b.journal → StandsFor told.ledger b.leaked b.log → IsRecord b told []
+pub recorded : {handlers : Handlers} (b : Began handlers) (told : Record) → told.journal ≡ b.journal → StandsFor told.ledger b.leaked b.log → IsRecord b told []
 recorded b told journal ledger = record {
   journal = journal ∙ sym (append-nil b.journal);
   ledger = rw (append-nil b.log) ledger;
 }
 
-pub begun : (setup : Setup) (world : Held) → StandFor world.nodes (nodes_of setup) (posts_of setup) → world.wires ≡ [] → world.left ≡ None → world.line ≡ 0
-    → IsRecord (began setup) world.told [] → Carries (began setup) None world (opening_world setup)
-begun setup world nodes wires left line told = record {
+pub begun : (handlers : Handlers) (setup : Setup) (world : Held) → StandFor handlers world.nodes (nodes_of (with_handlers handlers setup)) (posts_of setup) → world.wires ≡ [] → world.left ≡ None → world.line ≡ 0
+    → IsRecord (began (with_handlers handlers setup)) world.told []
+    → Carries (began (with_handlers handlers setup)) None world (opening_world (with_handlers handlers setup))
+begun handlers setup world nodes wires left line told = record {
   nodes = nodes;
   led = refl;
   wires = wires;
@@ -45,15 +47,15 @@ begun setup world nodes wires left line told = record {
 
 -- ---- at the end
 
-pub journal_told : (script : List Numbered) (world : Held) → Carries (began (setup_of script)) None world (after_lines (opening_world (setup_of script)) script)
-    → world.told.journal ≡ run_journal script
-journal_told script world k =
-    k.told.journal ∙ sym (map-append (λ (e : Entered). e.entry) (leaks_entered (setup_of script)) (journal_from (nodes_of (setup_of script)) (trace script)))
+pub journal_told : (handlers : Handlers) (script : List Numbered) (world : Held) → Carries (began (setup_of handlers script)) None world (after_lines (opening_world (setup_of handlers script)) script)
+    → world.told.journal ≡ run_journal handlers script
+journal_told handlers script world k =
+    k.told.journal ∙ sym (map-append (λ (e : Entered). e.entry) (leaks_entered (setup_of handlers script)) (journal_from (nodes_of (setup_of handlers script)) (trace handlers script)))
 
-pub breach_told : (script : List Numbered) (world : Held) (found : Option Broken)
-    → Carries (began (setup_of script)) None world (after_lines (opening_world (setup_of script)) script)
-    → ((leaked : List Name) (log : List Logged) → StandsFor world.told.ledger leaked log → IsFound leaked log found) → IsFoundOf script found
-breach_told script world found k finds = finds _ _ k.told.ledger
+pub breach_told : (handlers : Handlers) (script : List Numbered) (world : Held) (found : Option Broken)
+    → Carries (began (setup_of handlers script)) None world (after_lines (opening_world (setup_of handlers script)) script)
+    → ((leaked : List Name) (log : List Logged) → StandsFor world.told.ledger leaked log → IsFound leaked log found) → IsFoundOf handlers script found
+breach_told handlers script world found k finds = finds _ _ k.told.ledger
 
 -- ---- lines
 
@@ -76,27 +78,28 @@ pub after_more : (w : World) (lines : List Numbered) (line : Numbered) → after
 after_more w [] line = refl
 after_more w (l ∷ lines) line = after_more (after_line w l) lines line
 
-pub acted_more : (old mid new : Held) (lines : List Numbered) (i : ℕ) (line : Numbered) → i < length lines → line ≡ get_or lines i line
-    → MakesAlone old mid (λ w. after_lines w (take i lines)) → MakesAlone mid new (λ w. after_line w line) → MakesAlone old new (λ w. after_lines w (take (i + 1) lines))
-acted_more old mid new lines i line h e first last =
+pub acted_more : {handlers : Handlers} (old mid new : Held) (lines : List Numbered) (i : ℕ) (line : Numbered) → i < length lines → line ≡ get_or lines i line
+    → MakesAlone handlers old mid (λ w. after_lines w (take i lines)) → MakesAlone handlers mid new (λ w. after_line w line) → MakesAlone handlers old new (λ w. after_lines w (take (i + 1) lines))
+acted_more {handlers} old mid new lines i line h e first last =
     let more : take (i + 1) lines ≡ take i lines ++ line ∷ [] = take_more lines i line h ∙ ap (λ (y : Numbered). take i lines ++ y ∷ []) (sym e) in
-    λ (b : Began) (w : World) (k : Carries b None old w).
+    λ (b : Began handlers) (w : World) (k : Carries b None old w).
     let P : List Numbered → Type 0 = λ ls. Carries b None new (after_lines w ls) in
     let Q : World → Type 0 = Carries b None new in
     subst P (sym more) (subst Q (sym (after_more w (take i lines) line)) (last b (after_lines w (take i lines)) (first b w k)))
 
 -- all of them
-pub acted_all : (old new : Held) (lines : List Numbered) (i : ℕ) → length lines ≤ i → MakesAlone old new (λ w. after_lines w (take i lines))
-    → MakesAlone old new (λ w. after_lines w lines)
-acted_all old new lines i h all =
-    λ (b : Began) (w : World) (k : Carries b None old w).
+pub acted_all : {handlers : Handlers} (old new : Held) (lines : List Numbered) (i : ℕ) → length lines ≤ i → MakesAlone handlers old new (λ w. after_lines w (take i lines))
+    → MakesAlone handlers old new (λ w. after_lines w lines)
+acted_all {handlers} old new lines i h all =
+    λ (b : Began handlers) (w : World) (k : Carries b None old w).
     let P : List Numbered → Type 0 = λ ls. Carries b None new (after_lines w ls) in
     subst P (take_all i lines h) (all b w k)
 
 -- the world behind all lines of a schedule
-pub behind : (setup : Setup) (script : List Numbered) (first last : Held) → setup ≡ setup_of script → Carries (began setup) None first (opening_world setup)
-    → MakesAlone first last (λ w. after_lines w script)
-    → Carries (began (setup_of script)) None last (after_lines (opening_world (setup_of script)) script)
-behind setup script first last is begins acts =
+pub behind : (handlers : Handlers) (setup : Setup) (script : List Numbered) (first last : Held) → with_handlers handlers setup ≡ setup_of handlers script
+    → Carries (began (with_handlers handlers setup)) None first (opening_world (with_handlers handlers setup))
+    → MakesAlone handlers first last (λ w. after_lines w script)
+    → Carries (began (setup_of handlers script)) None last (after_lines (opening_world (setup_of handlers script)) script)
+behind handlers setup script first last is begins acts =
     let P : Setup → Type 0 = λ s. Carries (began s) None last (after_lines (opening_world s) script) in
-    subst P is (acts (began setup) (opening_world setup) begins)
+    subst P is (acts (began (with_handlers handlers setup)) (opening_world (with_handlers handlers setup)) begins)

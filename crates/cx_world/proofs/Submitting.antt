@@ -12,5 +12,5 @@ pub submits_served : (w : World) (c : LineCommand) → IsTrue (is_command_served
 submits_served w (command.Login client services) h = refl
 submits_served w (command.Fetch daemon) h = refl
 submits_served w (command.Renew client services) h = refl
-submits_served w (command.Connect client daemon lossy) h = absurd cc
+submits_served w (command.Connect client daemon lossy) h = refl
 submits_served w (command.Send client daemon operation) h = absurd cc

@@ -4,7 +4,7 @@ use Rattle.cx_run.specs.Opening.{Setup, leaked_of, leaks_entered, nodes_of, secr
 use Rattle.cx_world.specs.Carried.{Began}
 
 -- its nodes; the leaked clients stand first in the journal, and the entities' secrets in the log
-abbrev pub began : Setup → Began
+abbrev pub began : (setup : Setup) → Began setup.handlers
 began setup = record {
   nodes = nodes_of setup;
   journal = map (λ e. e.entry) (leaks_entered setup);

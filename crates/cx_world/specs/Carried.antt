@@ -1,6 +1,7 @@
 -- What the code of a run holds, and which worlds of the rules it carries.
 use Rattle.std.specs.Prelude.{ℕ, ◌≡◌, ◌≤◌, ◌==◌, ◌||◌, not, Bool, List, ◌++◌, length, map, Option, Some, None}
 use Rattle.cx_base.specs.Names.{Name}
+use Rattle.cx_desk.specs.Handlers.{Handlers}
 use Rattle.cx_journal.specs.declared.entries.Entry.{Entry}
 use Rattle.cx_base.specs.declared.nodes.NodeName.{NodeName}
 use Rattle.cx_run_nodes.specs.Held.{StandFor}
@@ -15,15 +16,15 @@ use Rattle.cx_world.specs.Logs.{logged_at}
 use Rattle.cx_world.specs.declared.records.Record.{Record}
 use Rattle.cx_world.specs.declared.world.World.{World as Held}
 
--- where a run began: its nodes, what stood in journal and log before all events, and the clients that leaked
-pub record Began : Type 0 where
+-- where a run began whose daemons have these handlers: its nodes, what stood in journal and log before all events, and the clients that leaked
+pub record Began (handlers : Handlers) : Type 0 where
   pub nodes : Nodes
   pub journal : List Entry
   pub log : List Logged
   pub leaked : List Name
 
 -- journal and log so far are those of these events
-pub record IsRecord (b : Began) (held : Record) (past : List Happening) : Type 0 where
+pub record IsRecord {handlers : Handlers} (b : Began handlers) (held : Record) (past : List Happening) : Type 0 where
   pub journal : held.journal ≡ b.journal ++ map (λ e. e.entry) (journal_from b.nodes past)
   pub ledger : StandsFor held.ledger b.leaked (b.log ++ seals_from b.nodes past)
 
@@ -33,8 +34,8 @@ HasStirred stirred None past = Unit {0}
 HasStirred stirred (Some seen) past = (seen ≤ length past) × (stirred ≡ not (length past == seen))
 
 -- the code carries this world of a run that began so, and tells whether something happened since there were so many events
-pub record Carries (b : Began) (seen : Option ℕ) (held : Held) (w : World) : Type 0 where
-  pub nodes : StandFor held.nodes w.nodes w.posts
+pub record Carries {handlers : Handlers} (b : Began handlers) (seen : Option ℕ) (held : Held) (w : World) : Type 0 where
+  pub nodes : StandFor handlers held.nodes w.nodes w.posts
   pub led : w.nodes ≡ nodes_behind b.nodes w.past
   pub wires : held.wires ≡ w.wires
   pub left : held.left ≡ w.left
@@ -42,16 +43,16 @@ pub record Carries (b : Began) (seen : Option ℕ) (held : Held) (w : World) : T
   pub told : IsRecord b held.told w.past
   pub stirred : HasStirred held.stirred seen w.past
 
--- each world that the code carries before is this one behind
-abbrev pub Makes : Held → Held → (World → World) → Type 0
-Makes old new change = (b : Began) (seen : Option ℕ) (w : World) → Carries b seen old w → Carries b seen new (change w)
+-- each world whose daemons have these handlers, and that the code carries before, is this one behind
+abbrev pub Makes : Handlers → Held → Held → (World → World) → Type 0
+Makes handlers old new change = (b : Began handlers) (seen : Option ℕ) (w : World) → Carries b seen old w → Carries b seen new (change w)
 
 -- the same where it isn't asked whether something happened
-abbrev pub MakesAlone : Held → Held → (World → World) → Type 0
-MakesAlone old new change = (b : Began) (w : World) → Carries b None old w → Carries b None new (change w)
+abbrev pub MakesAlone : Handlers → Held → Held → (World → World) → Type 0
+MakesAlone handlers old new change = (b : Began handlers) (w : World) → Carries b None old w → Carries b None new (change w)
 
 -- what an event came to is what the definition gives, and the world behind it is carried
-pub record IsGivenTo (b : Began) (seen : Option ℕ) (held : Held) (made : Made) (g : Given) : Type 0 where
+pub record IsGivenTo {handlers : Handlers} (b : Began handlers) (seen : Option ℕ) (held : Held) (made : Made) (g : Given) : Type 0 where
   pub world : Carries b seen held g.world
   pub out : made.out ≡ g.out
   pub failed : made.failed ≡ g.failed

@@ -1,5 +1,6 @@
 -- Lines that do nothing: those on a link, an end or a piece that isn't there.
 use Rattle.std.specs.Prelude.{ℕ, ◌+◌, ◌==◌, ◌≡◌, ◌&&◌, not, Bool, true, false, List, [], ◌∷◌, length, Option, Some, None, if◌then◌else◌}
+use Rattle.cx_desk.specs.Handlers.{Handlers}
 use Rattle.cx_line_words.specs.declared.choices.Side.{Side}
 use Rattle.cx_line_words.specs.declared.choices.Side.TheVariants.{Connector, Acceptor}
 use Rattle.cx_lines.specs.declared.lines.Line.{Line}
@@ -64,10 +65,10 @@ abbrev pub idle_among : World → List Numbered → ℕ
 idle_among w [] = 0
 idle_among w (l ∷ lines) = idle_at w.wires l.line + idle_among (after_line w l) lines
 
--- how many lines of a schedule do nothing
-abbrev pub idle_lines : List Numbered → ℕ
-idle_lines script = idle_among (opening_world (setup_of script)) script
+-- how many lines of a schedule do nothing, where the daemons have these handlers
+abbrev pub idle_lines : Handlers → List Numbered → ℕ
+idle_lines handlers script = idle_among (opening_world (setup_of handlers script)) script
 
 -- so many of these lines do nothing, from each world on that is carried
-abbrev pub CountsIdle : Held → List Numbered → ℕ → Type 0
-CountsIdle held lines n = (b : Began) (w : World) → Carries b None held w → n ≡ idle_among w lines
+abbrev pub CountsIdle : Handlers → Held → List Numbered → ℕ → Type 0
+CountsIdle handlers held lines n = (b : Began handlers) (w : World) → Carries b None held w → n ≡ idle_among w lines

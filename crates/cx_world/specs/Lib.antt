@@ -1,6 +1,7 @@
 pub mod Arriving
 pub mod Beginning
 pub mod Carried
+pub mod Coming
 pub mod Ends
 pub mod Events
 pub mod Heads

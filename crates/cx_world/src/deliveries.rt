@@ -1,6 +1,7 @@
 //! What arrives at the end of a link, and all that follows at once.
 
 ghost use Rattle.std.specs.Prelude.{ℕ, ◌≡◌, Option, OnOk};
+ghost use Rattle.cx_desk.specs.Held.{handlers_of};
 ghost use Rattle.cx_run.specs.Deliveries.{arrives, delivers};
 ghost use Rattle.cx_run.specs.Wires.{wire_of};
 ghost use Rattle.cx_run.specs.Worlds.{World as RunWorld};
@@ -11,6 +12,7 @@ ghost use Rattle.cx_world.specs.Ends.{arrives_end};
 use crate::ends::{LinkEnd, end_at};
 use crate::world::World;
 use cx_base::NodeName;
+use cx_desk::Desk;
 use cx_line_words::Side;
 use cx_run_links::{Wires, other};
 use cx_steps::Event;
@@ -28,12 +30,18 @@ fn owes_gone(wires: &Wires, number: u64, side: Side) -> bool
 
 impl World {
     /// A node is turned until it handles nothing of what came on a link.
-    fn turn_all(&mut self, alloc: Global, who: &NodeName, number: u32) -> Result<(), AllocError>
-        ensures { OnOk result (Makes self.old self.new (turns_all who.now number)) }
+    fn turn_all(
+        &mut self,
+        alloc: Global,
+        desk: &Desk,
+        who: &NodeName,
+        number: u32,
+    ) -> Result<(), AllocError>
+        ensures { OnOk result (Makes (handlers_of desk.now) self.old self.new (turns_all who.now number)) }
     {
         for _ in 0..u64::MAX {
-            let made = self.give(alloc, who, Event::Turn(number))?;
-            self.follow(alloc, who, &made)?;
+            let made = self.give(alloc, desk, who, Event::Turn(number))?;
+            self.follow(alloc, desk, who, &made)?;
             if !made.out.turned {
                 return Ok(());
             }
@@ -45,22 +53,29 @@ impl World {
     fn arrive(
         &mut self,
         alloc: Global,
+        desk: &Desk,
         who: &NodeName,
         number: u32,
         bytes: &[u8],
     ) -> Result<(), AllocError>
-        ensures { OnOk result (Makes self.old self.new (λ w. arrives w who.now number bytes.now)) }
+        ensures { OnOk result (Makes (handlers_of desk.now) self.old self.new (λ w. arrives w who.now number bytes.now)) }
     {
-        self.come(alloc, who, Event::Bytes(number, bytes))?;
-        self.turn_all(alloc, who, number)
+        self.come(alloc, desk, who, Event::Bytes(number, bytes))?;
+        self.turn_all(alloc, desk, who, number)
     }
 
     /// Bytes come to an end of a link, where it lives.
-    fn arrive_at(&mut self, alloc: Global, end: &LinkEnd, bytes: &[u8]) -> Result<(), AllocError>
-        ensures { OnOk result (Makes self.old self.new (λ w. arrives_end w end.now bytes.now)) }
+    fn arrive_at(
+        &mut self,
+        alloc: Global,
+        desk: &Desk,
+        end: &LinkEnd,
+        bytes: &[u8],
+    ) -> Result<(), AllocError>
+        ensures { OnOk result (Makes (handlers_of desk.now) self.old self.new (λ w. arrives_end w end.now bytes.now)) }
     {
         if end.lives {
-            self.arrive(alloc, &end.node, end.number, bytes)
+            self.arrive(alloc, desk, &end.node, end.number, bytes)
         } else {
             Ok(())
         }
@@ -70,13 +85,14 @@ impl World {
     pub(crate) fn arrive_there(
         &mut self,
         alloc: Global,
+        desk: &Desk,
         end: &Option<LinkEnd>,
         bytes: &[u8],
     ) -> Result<(), AllocError>
-        ensures { OnOk result (Makes self.old self.new (λ w. arrives_there w end.now bytes.now)) }
+        ensures { OnOk result (Makes (handlers_of desk.now) self.old self.new (λ w. arrives_there w end.now bytes.now)) }
     {
         match end {
-            Some(end) => self.arrive_at(alloc, end, bytes),
+            Some(end) => self.arrive_at(alloc, desk, end, bytes),
             None => Ok(()),
         }
     }
@@ -85,19 +101,26 @@ impl World {
     pub(crate) fn tell_there(
         &mut self,
         alloc: Global,
+        desk: &Desk,
         end: &Option<LinkEnd>,
     ) -> Result<(), AllocError>
-        ensures { OnOk result (Makes self.old self.new (λ w. tells_there w end.now)) }
+        ensures { OnOk result (Makes (handlers_of desk.now) self.old self.new (λ w. tells_there w end.now)) }
     {
         match end {
-            Some(end) => self.tell_gone(alloc, end),
+            Some(end) => self.tell_gone(alloc, desk, end),
             None => Ok(()),
         }
     }
 
     /// No piece is under way from a side of a link: that the side is gone arrives, where it is.
-    fn deliver_gone(&mut self, alloc: Global, number: u64, side: Side) -> Result<(), AllocError>
-        ensures { OnOk result (Makes self.old self.new (λ w. delivers_gone w side (wire_of number w.wires))) }
+    fn deliver_gone(
+        &mut self,
+        alloc: Global,
+        desk: &Desk,
+        number: u64,
+        side: Side,
+    ) -> Result<(), AllocError>
+        ensures { OnOk result (Makes (handlers_of desk.now) self.old self.new (λ w. delivers_gone w side (wire_of number w.wires))) }
     {
         let there = other(side);
         let far = end_at(alloc, &self.wires, number, there)?;
@@ -105,23 +128,24 @@ impl World {
             return Ok(());
         }
         self.wires.go(number, there)?;
-        self.tell_there(alloc, &far)
+        self.tell_there(alloc, desk, &far)
     }
 
     /// The oldest piece from a side of a link arrives, or so many first bytes of it. Where none is under way, that the side is gone arrives.
     pub(crate) fn deliver(
         &mut self,
         alloc: Global,
+        desk: &Desk,
         number: u64,
         side: Side,
         n: Option<u64>,
     ) -> Result<(), AllocError>
-        ensures { OnOk result (Makes self.old self.new (λ w. delivers w number side n)) }
+        ensures { OnOk result (Makes (handlers_of desk.now) self.old self.new (λ w. delivers w number side n)) }
     {
         let far = end_at(alloc, &self.wires, number, other(side))?;
         match self.wires.take(alloc, number, side, n)? {
-            Some(bytes) => self.arrive_there(alloc, &far, bytes.bytes()),
-            None => self.deliver_gone(alloc, number, side),
+            Some(bytes) => self.arrive_there(alloc, desk, &far, bytes.bytes()),
+            None => self.deliver_gone(alloc, desk, number, side),
         }
     }
 }

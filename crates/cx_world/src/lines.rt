@@ -1,6 +1,7 @@
-//! What each line of a schedule does. Lines that no rule serves yet don't come here: connects, sends and drops.
+//! What each line of a schedule does. Lines that no rule serves yet don't come here: operations that are sent.
 
 ghost use Rattle.std.specs.Prelude.{◌≡◌, ℕ, Option, IfOk, IsTrue, OnOk};
+ghost use Rattle.cx_desk.specs.Held.{handlers_of};
 ghost use Rattle.cx_rules.specs.Inputs.{Submit};
 ghost use Rattle.cx_base.specs.declared.nodes.NodeName.TheVariants as node;
 ghost use Rattle.cx_lines.specs.Lines.{is_in_range, is_numbered_in_range};
@@ -12,6 +13,7 @@ ghost use Rattle.cx_world.specs.Carried.{Began, Carries, Makes, MakesAlone};
 
 use crate::world::World;
 use cx_base::{Duplicate, EntityName, EntityType, NodeName};
+use cx_desk::Desk;
 use cx_enc::number_of;
 use cx_lines::{Line, LineCommand, Numbered};
 use cx_steps::{Command as Told, Event};
@@ -36,83 +38,126 @@ impl World {
     fn login(
         &mut self,
         alloc: Global,
+        desk: &Desk,
         client: &EntityName,
         services: &[EntityType],
     ) -> Result<(), AllocError>
-        ensures { OnOk result (Makes self.old self.new (λ w. submitted w (command.Login client.now services.now))) }
+        ensures { OnOk result (Makes (handlers_of desk.now) self.old self.new (λ w. submitted w (command.Login client.now services.now))) }
     {
         let sum = services_sum(services)?;
         let who = NodeName::Entity(client.copy(alloc)?);
-        self.come(alloc, &who, Event::Submit(Told::Login(sum)))
+        self.come(alloc, desk, &who, Event::Submit(Told::Login(sum)))
     }
 
     /// A client asks for tickets.
     fn renew(
         &mut self,
         alloc: Global,
+        desk: &Desk,
         client: &EntityName,
         services: &[EntityType],
     ) -> Result<(), AllocError>
-        ensures { OnOk result (Makes self.old self.new (λ w. submitted w (command.Renew client.now services.now))) }
+        ensures { OnOk result (Makes (handlers_of desk.now) self.old self.new (λ w. submitted w (command.Renew client.now services.now))) }
     {
         let sum = services_sum(services)?;
         let who = NodeName::Entity(client.copy(alloc)?);
-        self.come(alloc, &who, Event::Submit(Told::Renew(sum)))
+        self.come(alloc, desk, &who, Event::Submit(Told::Renew(sum)))
     }
 
     /// A daemon asks for the generations of its type.
-    fn fetch(&mut self, alloc: Global, daemon: &EntityName) -> Result<(), AllocError>
-        ensures { OnOk result (Makes self.old self.new (λ w. submitted w (command.Fetch daemon.now))) }
+    fn fetch(&mut self, alloc: Global, desk: &Desk, daemon: &EntityName) -> Result<(), AllocError>
+        ensures { OnOk result (Makes (handlers_of desk.now) self.old self.new (λ w. submitted w (command.Fetch daemon.now))) }
     {
         let who = NodeName::Entity(daemon.copy(alloc)?);
-        self.come(alloc, &who, Event::Submit(Told::Fetch))
+        self.come(alloc, desk, &who, Event::Submit(Told::Fetch))
+    }
+
+    /// A client calls a daemon.
+    fn connect(
+        &mut self,
+        alloc: Global,
+        desk: &Desk,
+        client: &EntityName,
+        daemon: &EntityName,
+        lossy: bool,
+    ) -> Result<(), AllocError>
+        ensures { OnOk result (Makes (handlers_of desk.now) self.old self.new (λ w. submitted w (command.Connect client.now daemon.now lossy))) }
+    {
+        let called = daemon.copy(alloc)?;
+        let who = NodeName::Entity(client.copy(alloc)?);
+        self.come(
+            alloc,
+            desk,
+            &who,
+            Event::Submit(Told::Connect {
+                daemon: called,
+                lossy,
+            }),
+        )
     }
 
     /// What a command does.
-    fn submit(&mut self, alloc: Global, command: &LineCommand) -> Result<(), AllocError>
+    fn submit(
+        &mut self,
+        alloc: Global,
+        desk: &Desk,
+        command: &LineCommand,
+    ) -> Result<(), AllocError>
         requires { IsTrue (is_command_served command.now) }
-        ensures { OnOk result (Makes self.old self.new (λ w. submitted w command.now)) }
+        ensures { OnOk result (Makes (handlers_of desk.now) self.old self.new (λ w. submitted w command.now)) }
     {
         match command {
-            LineCommand::Login(client, services) => self.login(alloc, client, services.all()),
-            LineCommand::Fetch(daemon) => self.fetch(alloc, daemon),
-            LineCommand::Renew(client, services) => self.renew(alloc, client, services.all()),
-            LineCommand::Connect(_, _, _) => unreachable!(),
+            LineCommand::Login(client, services) => self.login(alloc, desk, client, services.all()),
+            LineCommand::Fetch(daemon) => self.fetch(alloc, desk, daemon),
+            LineCommand::Renew(client, services) => self.renew(alloc, desk, client, services.all()),
+            LineCommand::Connect(client, daemon, lossy) => {
+                self.connect(alloc, desk, client, daemon, *lossy)
+            }
             LineCommand::Send(_, _, _) => unreachable!(),
         }
     }
 
     /// The same, and then all settles.
-    fn submit_and_settle(&mut self, alloc: Global, command: &LineCommand) -> Result<(), AllocError>
+    fn submit_and_settle(
+        &mut self,
+        alloc: Global,
+        desk: &Desk,
+        command: &LineCommand,
+    ) -> Result<(), AllocError>
         requires { IsTrue (is_command_served command.now) }
-        ensures { OnOk result (MakesAlone self.old self.new (λ w. submits w command.now)) }
+        ensures { OnOk result (MakesAlone (handlers_of desk.now) self.old self.new (λ w. submits w command.now)) }
     {
-        self.submit(alloc, command)?;
-        self.settle(alloc)
+        self.submit(alloc, desk, command)?;
+        self.settle(alloc, desk)
     }
 
     /// What a line does, once its number was noted.
-    fn act_on(&mut self, alloc: Global, line: &Line) -> Result<(), AllocError>
+    fn act_on(&mut self, alloc: Global, desk: &Desk, line: &Line) -> Result<(), AllocError>
         requires in_range { IsTrue (is_in_range line.now) }
         requires served { IsTrue (is_served line.now) }
-        ensures { OnOk result (MakesAlone self.old self.new (λ w. acts_on w line.now)) }
+        ensures { OnOk result (MakesAlone (handlers_of desk.now) self.old self.new (λ w. acts_on w line.now)) }
     {
         match line {
             Line::Setting(_) => Ok(()),
-            Line::Submit(command) => self.submit_and_settle(alloc, command),
-            Line::Do(command) => self.submit(alloc, command),
-            Line::Link(step) => self.act_on_link(alloc, step),
-            Line::Node(step) => self.act_on_node(alloc, step),
+            Line::Submit(command) => self.submit_and_settle(alloc, desk, command),
+            Line::Do(command) => self.submit(alloc, desk, command),
+            Line::Link(step) => self.act_on_link(alloc, desk, step),
+            Line::Node(step) => self.act_on_node(alloc, desk, step),
         }
     }
 
     /// What a line does.
-    pub(crate) fn act(&mut self, alloc: Global, line: &Numbered) -> Result<(), AllocError>
+    pub(crate) fn act(
+        &mut self,
+        alloc: Global,
+        desk: &Desk,
+        line: &Numbered,
+    ) -> Result<(), AllocError>
         requires in_range { IsTrue (is_numbered_in_range line.now) }
         requires served { IsTrue (is_numbered_served line.now) }
-        ensures { OnOk result (MakesAlone self.old self.new (λ w. after_line w line.now)) }
+        ensures { OnOk result (MakesAlone (handlers_of desk.now) self.old self.new (λ w. after_line w line.now)) }
     {
         self.line = line.number;
-        self.act_on(alloc, &line.line)
+        self.act_on(alloc, desk, &line.line)
     }
 }

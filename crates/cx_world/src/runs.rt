@@ -3,6 +3,7 @@
 ghost use Rattle.std.specs.Prelude.{◌≡◌, List, None, IfOk, IsTrue, OnOk};
 ghost use Rattle.std.specs.List.{list_all};
 ghost use Rattle.cx_base.specs.Names.{Name};
+ghost use Rattle.cx_desk.specs.Held.{handlers_of};
 ghost use Rattle.cx_lines.specs.Lines.{is_numbered_in_range};
 ghost use Rattle.cx_premises.specs.Ledgers.{StandsFor};
 ghost use Rattle.cx_run.specs.Opening.{opening_world};
@@ -19,6 +20,7 @@ ghost use Rattle.cx_world.specs.Idle.{idle_lines, CountsIdle};
 use crate::records::Record;
 use crate::world::World;
 use cx_base::Duplicate;
+use cx_desk::Desk;
 use cx_journal::{Broken, Journal};
 use cx_lines::Numbered;
 use cx_premises::Ledger;
@@ -34,16 +36,16 @@ pub struct Report {
     pub idle: u64,
 }
 
-/// The run of a schedule of which each line is served.
+/// The run of a schedule of which each line is served, where the daemons have the handlers of this desk.
 #[tactic(auto, using(crate::proofs::Started::journal_told, crate::proofs::Started::breach_told))]
-pub fn run(alloc: Global, script: &Script) -> Result<Report, AllocError>
+pub fn run(alloc: Global, script: &Script, desk: &Desk) -> Result<Report, AllocError>
     requires schedule { IsSchedule script.now }
     requires served { first_unserved script.now ≡ None }
-    ensures journal { IfOk result (λ report. report.journal ≡ run_journal script.now) }
-    ensures found { IfOk result (λ report. IsFoundOf script.now report.broken) }
-    ensures idle { IfOk result (λ report. report.idle ≡ idle_lines script.now) }
+    ensures journal { IfOk result (λ report. report.journal ≡ run_journal (handlers_of desk.now) script.now) }
+    ensures found { IfOk result (λ report. IsFoundOf (handlers_of desk.now) script.now report.broken) }
+    ensures idle { IfOk result (λ report. report.idle ≡ idle_lines (handlers_of desk.now) script.now) }
 {
-    let (world, idle) = behind_all(alloc, script.lines())?;
+    let (world, idle) = behind_all(alloc, script.lines(), desk)?;
     let World {
         nodes: _,
         wires: _,
@@ -63,29 +65,34 @@ pub fn run(alloc: Global, script: &Script) -> Result<Report, AllocError>
 
 /// The world behind all lines of a schedule, and how many of these did nothing.
 #[tactic(auto, using(crate::proofs::Started::in_range, crate::proofs::Started::all_served))]
-fn behind_all(alloc: Global, lines: &[Numbered]) -> Result<(World, u64), AllocError>
+fn behind_all(alloc: Global, lines: &[Numbered], desk: &Desk) -> Result<(World, u64), AllocError>
     requires schedule { IsSchedule lines.now }
     requires served { first_unserved lines.now ≡ None }
-    ensures world { IfOk result (λ found. Carries (began (setup_of lines.now)) None found.0 (after_lines (opening_world (setup_of lines.now)) lines.now)) }
-    ensures idle { IfOk result (λ found. found.1 ≡ idle_lines lines.now) }
+    ensures world { IfOk result (λ found. Carries (began (setup_of (handlers_of desk.now) lines.now)) None found.0 (after_lines (opening_world (setup_of (handlers_of desk.now) lines.now)) lines.now)) }
+    ensures idle { IfOk result (λ found. found.1 ≡ idle_lines (handlers_of desk.now) lines.now) }
 {
     let setup = Setup::of(alloc, lines)?;
     let mut world = World::begin(alloc, &setup)?;
-    let idle = act_all(alloc, &mut world, lines)?;
+    let idle = act_all(alloc, desk, &mut world, lines)?;
     Ok((world, idle))
 }
 
 /// What all of these lines do, one by one, and how many of them do nothing.
-fn act_all(alloc: Global, world: &mut World, lines: &[Numbered]) -> Result<u64, AllocError>
+fn act_all(
+    alloc: Global,
+    desk: &Desk,
+    world: &mut World,
+    lines: &[Numbered],
+) -> Result<u64, AllocError>
     requires in_range { IsTrue (list_all is_numbered_in_range lines.now) }
     requires served { IsTrue (list_all is_numbered_served lines.now) }
-    ensures acts { OnOk result (MakesAlone world.old world.new (λ w. after_lines w lines.now)) }
-    ensures idle { IfOk result (CountsIdle world.old lines.now) }
+    ensures acts { OnOk result (MakesAlone (handlers_of desk.now) world.old world.new (λ w. after_lines w lines.now)) }
+    ensures idle { IfOk result (CountsIdle (handlers_of desk.now) world.old lines.now) }
 {
     let mut idle = 0;
     for line in lines {
         idle += world.idle_at(&line.line);
-        world.act(alloc, line)?;
+        world.act(alloc, desk, line)?;
     }
     Ok(idle)
 }

@@ -4,6 +4,7 @@ ghost use Rattle.std.specs.Prelude.{◌≡◌, ◌||◌};
 
 use crate::records::{Record, enter, log};
 use cx_base::NodeName;
+use cx_desk::Desk;
 use cx_line_words::LeftState;
 use cx_run_links::Wires;
 use cx_run_nodes::{Made, Nodes};
@@ -30,22 +31,27 @@ pub struct World {
 
 impl World {
     ghost use Rattle.std.specs.Prelude.{ℕ, ◌≡◌, Option, IfOk, OnOk};
+    ghost use Rattle.cx_desk.specs.Handlers.{Handlers};
+    ghost use Rattle.cx_desk.specs.Held.{handlers_of};
     ghost use Rattle.cx_rules.specs.Inputs.{input_of};
     ghost use Rattle.cx_run.specs.Deliveries.{gives, tells};
     ghost use Rattle.cx_run.specs.Worlds.{World as RunWorld, carried};
+    ghost use Rattle.cx_world.specs.Coming.{IsWritableInput};
     ghost use Rattle.cx_world.specs.Carried.{Began, Carries, IsGivenTo, IsNoted, Makes};
 
     /// One event of one node.
     pub(crate) fn give(
         &mut self,
         alloc: Global,
+        desk: &Desk,
         who: &NodeName,
         event: Event<'_>,
     ) -> Result<Made, AllocError>
-        ensures { (b : Began) (seen : Option ℕ) (w : RunWorld) → Carries b seen self.old w
+        requires { IsWritableInput (input_of event) }
+        ensures { (b : Began (handlers_of desk.now)) (seen : Option ℕ) (w : RunWorld) → Carries b seen self.old w
             → IfOk result (λ made. IsGivenTo b seen self.new made (gives w who.now (input_of event.entry))) }
     {
-        let made = self.nodes.step(alloc, who, event, self.left)?;
+        let made = self.nodes.step(alloc, desk, who, event, self.left)?;
         self.note(alloc, who, &made)?;
         Ok(made)
     }
@@ -73,7 +79,7 @@ impl World {
         who: &NodeName,
         out: &Effects,
     ) -> Result<(), AllocError>
-        ensures { OnOk result (Makes self.old self.new (λ w. carried w who.now out.now)) }
+        ensures { OnOk result ((handlers : Handlers) → Makes handlers self.old self.new (λ w. carried w who.now out.now)) }
     {
         self.wires.send(alloc, who, out.sends.all())?;
         self.wires.shut(who, out.shuts.all())?;
@@ -84,12 +90,14 @@ impl World {
     pub(crate) fn tell(
         &mut self,
         alloc: Global,
+        desk: &Desk,
         who: &NodeName,
         event: Event<'_>,
     ) -> Result<(), AllocError>
-        ensures { OnOk result (Makes self.old self.new (λ w. tells w who.now (input_of event.entry))) }
+        requires { IsWritableInput (input_of event) }
+        ensures { OnOk result (Makes (handlers_of desk.now) self.old self.new (λ w. tells w who.now (input_of event.entry))) }
     {
-        let made = self.give(alloc, who, event)?;
+        let made = self.give(alloc, desk, who, event)?;
         self.carry(alloc, who, &made.out)
     }
 }

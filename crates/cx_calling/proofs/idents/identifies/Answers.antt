@@ -1,7 +1,7 @@
 use Rattle.std.proofs.Common.{◌≡◌, ◌++◌, ◌∷◌, [], Bool, Option, ap, rules}
 use Rattle.cx_dice.specs.Draws.{cookie_of}
-use Rattle.cx_rules_session.specs.Presenter.{CallStage}
-use Rattle.cx_rules_session.specs.Sessions.{Callee, HeldSession}
+use Rattle.cx_presenting.specs.cx_rules_session.specs.Presenter.{CallStage}
+use Rattle.cx_presenting.specs.cx_rules_session.specs.Sessions.{Callee, HeldSession}
 use Rattle.cx_steps.specs.declared.seals.DrawMark.TheVariants as draw
 use Rattle.cx_steps.specs.declared.seals.SealEntry.TheVariants.{Drawn}
 use Rattle.cx_calling.proofs.Sending.{identified}

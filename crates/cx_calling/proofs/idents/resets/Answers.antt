@@ -1,6 +1,6 @@
 use Rattle.std.proofs.Common.{Option, None}
-use Rattle.cx_rules_session.specs.Presenter.{CallStage}
-use Rattle.cx_rules_session.specs.Sessions.{HeldSession}
+use Rattle.cx_presenting.specs.cx_rules_session.specs.Presenter.{CallStage}
+use Rattle.cx_presenting.specs.cx_rules_session.specs.Sessions.{HeldSession}
 use Rattle.cx_calling.proofs.Sending.{reset}
 use Rattle.cx_calling.proofs.idents.resets.Goals as goal
 

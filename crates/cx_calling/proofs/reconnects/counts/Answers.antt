@@ -1,4 +1,4 @@
-use Rattle.cx_rules_session.specs.Presenter.{CallStage}
+use Rattle.cx_presenting.specs.cx_rules_session.specs.Presenter.{CallStage}
 use Rattle.cx_calling.proofs.Sending.{counted}
 use Rattle.cx_calling.proofs.reconnects.counts.Goals as goal
 

@@ -1,6 +1,6 @@
 use Rattle.std.proofs.Common.{Option}
-use Rattle.cx_rules_session.specs.Presenter.{CallStage}
-use Rattle.cx_rules_session.specs.Sessions.{HeldSession}
+use Rattle.cx_presenting.specs.cx_rules_session.specs.Presenter.{CallStage}
+use Rattle.cx_presenting.specs.cx_rules_session.specs.Sessions.{HeldSession}
 use Rattle.cx_calling.proofs.reconnects.on_reset.Goals as goal
 
 pub returns : goal.returns

@@ -1,4 +1,4 @@
-use Rattle.cx_rules_session.specs.Presenter.{CallStage}
+use Rattle.cx_presenting.specs.cx_rules_session.specs.Presenter.{CallStage}
 use Rattle.cx_calling.proofs.reconnects.on_retry.Goals as goal
 
 pub returns : goal.returns

@@ -1,6 +1,6 @@
 use Rattle.cx_rules.specs.Holdings.{Asker}
-use Rattle.cx_rules_session.specs.Presenter.{CallStage}
-use Rattle.cx_sending.specs.Table.{taken_up}
+use Rattle.cx_presenting.specs.cx_rules_session.specs.Presenter.{CallStage}
+use Rattle.cx_presenting.specs.cx_sending.specs.Table.{taken_up}
 use Rattle.cx_calling.proofs.Sending.{reconnected}
 use Rattle.cx_calling.proofs.reconnects.reconnects.Goals as goal
 

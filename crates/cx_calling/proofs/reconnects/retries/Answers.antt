@@ -1,6 +1,6 @@
 use Rattle.std.proofs.Common.{Some, None, []}
 use Rattle.cx_link.specs.Wires.{secured_link}
-use Rattle.cx_rules_session.specs.Presenter.{CallArrival, CallStage, resets, retries}
+use Rattle.cx_presenting.specs.cx_rules_session.specs.Presenter.{CallArrival, CallStage, resets, retries}
 use Rattle.cx_turns.specs.Stages.{keys_alone}
 use Rattle.cx_presenting.specs.Rows.{arrived, caller}
 use Rattle.cx_calling.proofs.Sending.{last_retried, makes_ok, more_retried}

@@ -5,8 +5,8 @@ use Rattle.cx_journal.specs.declared.faults.BytesFault.TheVariants.{Unexpected}
 use Rattle.cx_rules.specs.Payloads.{payload}
 use Rattle.cx_rules.specs.Rows.{refuses_bytes}
 use Rattle.cx_rules.specs.Secured.{Secured}
-use Rattle.cx_rules_session.specs.Forgets.{abridged_call_link}
-use Rattle.cx_rules_session.specs.Presenter.{AwaitsReconnect, CallArrival, CallRow, on_reconnect_ok, on_reset, on_retry, on_retry_global, while_reconnecting}
+use Rattle.cx_presenting.specs.cx_rules_session.specs.Forgets.{abridged_call_link}
+use Rattle.cx_presenting.specs.cx_rules_session.specs.Presenter.{AwaitsReconnect, CallArrival, CallRow, on_reconnect_ok, on_reset, on_retry, on_retry_global, while_reconnecting}
 use Rattle.cx_turns.proofs.MadeRows.{makes_as}
 use Rattle.cx_turns.specs.Making.{row_due}
 use Rattle.cx_turns.specs.Stages.{keys_alone}

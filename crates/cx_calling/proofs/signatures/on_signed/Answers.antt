@@ -1,5 +1,5 @@
 use Rattle.std.proofs.Common.{◌≡◌, None, [], ◌∷◌, rules}
-use Rattle.cx_rules_session.specs.Presenter.{CallStage}
+use Rattle.cx_presenting.specs.cx_rules_session.specs.Presenter.{CallStage}
 use Rattle.cx_calling.proofs.signatures.on_signed.Goals as goal
 
 pub returns-in_ok-row-in-Some : goal.returns-in_ok-row-in-Some

@@ -5,8 +5,8 @@ use Rattle.cx_frame.specs.declared.frame.Frame.{Frame}
 use Rattle.cx_link.specs.Sending.{secured_of}
 use Rattle.cx_rules.specs.Payloads.{due}
 use Rattle.cx_rules.specs.Secured.{Secured}
-use Rattle.cx_rules_session.specs.Forgets.{abridged_call_link}
-use Rattle.cx_rules_session.specs.Presenter.{AwaitsSignature, CallArrival, on_signature}
+use Rattle.cx_presenting.specs.cx_rules_session.specs.Forgets.{abridged_call_link}
+use Rattle.cx_presenting.specs.cx_rules_session.specs.Presenter.{AwaitsSignature, CallArrival, on_signature}
 use Rattle.cx_turns.proofs.Signing.{signing_turn}
 use Rattle.cx_presenting.specs.Rows.{arrived, caller, changed}
 use Rattle.cx_presenting.specs.Stages.{awaiting_signature}

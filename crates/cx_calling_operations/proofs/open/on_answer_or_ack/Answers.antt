@@ -4,15 +4,15 @@ use Rattle.cx_control.specs.Upkeep.{ack_layout}
 use Rattle.cx_rules.specs.Messages.{message_in}
 use Rattle.cx_rules.specs.Payloads.{payload}
 use Rattle.cx_rules.specs.Secured.{Secured}
-use Rattle.cx_rules_session.specs.Forgets.{abridged_call_link}
-use Rattle.cx_rules_session.specs.Presenter.{CallArrival, CallRow, end_in, on_ack, on_answer, on_answer_or_ack}
-use Rattle.cx_rules_session.specs.Sessions.{HeldSession}
+use Rattle.cx_calling.specs.cx_rules_session.specs.Forgets.{abridged_call_link}
+use Rattle.cx_calling.specs.cx_rules_session.specs.Presenter.{CallArrival, CallRow, end_in, on_ack, on_answer, on_answer_or_ack}
+use Rattle.cx_calling.specs.cx_rules_session.specs.Sessions.{HeldSession}
 use Rattle.cx_turns.proofs.MadeRows.{makes_as}
 use Rattle.cx_turns.specs.Making.{row_due}
 use Rattle.cx_turns.specs.Stages.{keys_alone}
-use Rattle.cx_presenting.specs.Rows.{arrived, caller, changed}
-use Rattle.cx_presenting.specs.Stages.{open_link}
-use Rattle.cx_presenting.proofs.Behind.{first_of, same_number, second_of}
+use Rattle.cx_calling.specs.cx_presenting.specs.Rows.{arrived, caller, changed}
+use Rattle.cx_calling.specs.cx_presenting.specs.Stages.{open_link}
+use Rattle.cx_calling.specs.cx_presenting.proofs.Behind.{first_of, same_number, second_of}
 use Rattle.cx_calling_operations.proofs.open.on_answer_or_ack.Goals as goal
 
 pub returns-in_ok-read : goal.returns-in_ok-read

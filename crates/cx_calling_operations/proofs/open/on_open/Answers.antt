@@ -1,15 +1,15 @@
 use Rattle.std.proofs.Common.{◌∙◌, [], Option, ap, sym}
 use Rattle.cx_rules.specs.Rows.{secure_sent}
-use Rattle.cx_rules_session.specs.Forgets.{abridged_call_link}
-use Rattle.cx_rules_session.specs.Presenter.{CallArrival, CallRow, Open, on_answer_or_ack}
-use Rattle.cx_rules_session.specs.Sessions.{HeldSession}
+use Rattle.cx_calling.specs.cx_rules_session.specs.Forgets.{abridged_call_link}
+use Rattle.cx_calling.specs.cx_rules_session.specs.Presenter.{CallArrival, CallRow, Open, on_answer_or_ack}
+use Rattle.cx_calling.specs.cx_rules_session.specs.Sessions.{HeldSession}
 use Rattle.cx_turns.proofs.Keeping.{keepalive-row, other-row}
 use Rattle.cx_turns.proofs.MadeRows.{makes_as}
 use Rattle.cx_turns.specs.Making.{row_due}
 use Rattle.cx_turns.specs.Stages.{keys_alone}
 use Rattle.cx_turns.specs.Upkeep.{upkept}
-use Rattle.cx_presenting.specs.Rows.{arrived, caller, changed}
-use Rattle.cx_presenting.specs.Stages.{open_link}
+use Rattle.cx_calling.specs.cx_presenting.specs.Rows.{arrived, caller, changed}
+use Rattle.cx_calling.specs.cx_presenting.specs.Stages.{open_link}
 use Rattle.cx_calling_operations.specs.Frames.{on_open}
 use Rattle.cx_calling_operations.proofs.open.on_open.Goals as goal
 

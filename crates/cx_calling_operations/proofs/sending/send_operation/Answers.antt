@@ -1,4 +1,4 @@
-use Rattle.cx_sending.proofs.Writable.{short_body}
+use Rattle.cx_calling.specs.cx_sending.proofs.Writable.{short_body}
 use Rattle.cx_calling_operations.proofs.sending.send_operation.Goals as goal
 
 pub send_message-requires : goal.send_message-requires

@@ -1,9 +1,9 @@
 use Rattle.std.proofs.Common.{[], Option}
 use Rattle.cx_rules.specs.Secured.{secure_frame}
-use Rattle.cx_rules_session.specs.Presenter.{Open}
-use Rattle.cx_rules_session.specs.Sessions.{HeldSession, operation_message}
+use Rattle.cx_calling.specs.cx_rules_session.specs.Presenter.{Open}
+use Rattle.cx_calling.specs.cx_rules_session.specs.Sessions.{HeldSession, operation_message}
 use Rattle.cx_turns.specs.Stages.{keys_alone}
-use Rattle.cx_presenting.specs.Rows.{caller}
+use Rattle.cx_calling.specs.cx_presenting.specs.Rows.{caller}
 use Rattle.cx_calling.proofs.Sending.{sent_is}
 use Rattle.cx_calling.specs.declared.frames.Ahead.TheVariants as ahead
 use Rattle.cx_calling_operations.proofs.sending.sends_on.Goals as goal

@@ -2,13 +2,13 @@ use Rattle.std.proofs.Common.{ℕ, Option}
 use Rattle.cx_frame.specs.declared.frame.Frame.{Frame}
 use Rattle.cx_rules.specs.Fronts.{keys_behind}
 use Rattle.cx_rules.specs.Secured.{Keys, under}
-use Rattle.cx_rules_session.specs.Forgets.{abridged_call_link}
-use Rattle.cx_rules_session.specs.Presenter.{Open, CallArrival}
-use Rattle.cx_rules_session.specs.Sessions.{HeldSession}
+use Rattle.cx_calling.specs.cx_rules_session.specs.Forgets.{abridged_call_link}
+use Rattle.cx_calling.specs.cx_rules_session.specs.Presenter.{Open, CallArrival}
+use Rattle.cx_calling.specs.cx_rules_session.specs.Sessions.{HeldSession}
 use Rattle.cx_turns.proofs.Handling.{secure_turn}
 use Rattle.cx_turns.specs.Stages.{keys_alone}
-use Rattle.cx_presenting.specs.Rows.{arrived, caller, changed}
-use Rattle.cx_presenting.specs.Stages.{open_link}
+use Rattle.cx_calling.specs.cx_presenting.specs.Rows.{arrived, caller, changed}
+use Rattle.cx_calling.specs.cx_presenting.specs.Stages.{open_link}
 use Rattle.cx_calling_operations.specs.Frames.{on_open}
 use Rattle.cx_calling_operations.proofs.Behind.{open-same}
 use Rattle.cx_calling_operations.proofs.turns.open_turn.Goals as goal

@@ -1,7 +1,7 @@
 -- The link is the one of the event.
 use Rattle.std.proofs.Common.{◌≡◌, ◌∙◌, ap, sym}
-use Rattle.cx_presenting.specs.Stages.{CallLink}
-use Rattle.cx_presenting.proofs.Stages.{number_held}
+use Rattle.cx_calling.specs.cx_presenting.specs.Stages.{CallLink}
+use Rattle.cx_calling.specs.cx_presenting.proofs.Stages.{number_held}
 use Rattle.cx_calling_operations.proofs.turns.turned.Goals as goal
 
 pub returns : goal.returns

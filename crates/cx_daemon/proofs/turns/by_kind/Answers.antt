@@ -1,7 +1,7 @@
 use Rattle.std.proofs.Common.{◌≡◌, ◌∙◌, sym, ap}
 use Rattle.cx_desk.specs.Held.{handlers_of}
-use Rattle.cx_rules_session.specs.DaemonRule.{AsConnector}
-use Rattle.cx_rules_session.specs.Kinds.{of_kind}
+use Rattle.cx_daemon_events.specs.cx_rules_session.specs.DaemonRule.{AsConnector}
+use Rattle.cx_daemon_events.specs.cx_rules_session.specs.Kinds.{of_kind}
 use Rattle.cx_daemon_events.specs.Kinds.{link_held}
 use Rattle.cx_daemon.proofs.Kept.{left_on_err}
 use Rattle.cx_daemon.proofs.Settled.{own_turned_result}

@@ -1,6 +1,6 @@
 use Rattle.std.proofs.Common.{◌≡◌, ◌∙◌, ℕ, Option, Some, refl, sym, ap}
-use Rattle.cx_rules_session.specs.DaemonRule.{AsAcceptor, AsConnector}
-use Rattle.cx_rules_session.specs.Kinds.{of_kind}
+use Rattle.cx_verifying.specs.cx_rules_session.specs.DaemonRule.{AsAcceptor, AsConnector}
+use Rattle.cx_verifying.specs.cx_rules_session.specs.Kinds.{of_kind}
 use Rattle.cx_daemon_events.specs.Kinds.{DaemonLink, link_held}
 use Rattle.cx_daemon_events.proofs.Leaving.{gone_guest, gone_own}
 use Rattle.cx_daemon_events.proofs.Steps.{without_held}

@@ -1,6 +1,6 @@
 use Rattle.std.specs.Prelude.{length, nat_le}
-use Rattle.cx_rules_session.specs.Forgets.{abridged_daemon_link}
-use Rattle.cx_rules_session.proofs.DaemonForgets.{daemon-forgets-links}
+use Rattle.cx_verifying.specs.cx_rules_session.specs.Forgets.{abridged_daemon_link}
+use Rattle.cx_verifying.specs.cx_rules_session.proofs.DaemonForgets.{daemon-forgets-links}
 use Rattle.cx_turns.proofs.Steps.{opens_held, opens_step}
 use Rattle.cx_daemon_events.specs.Machine.{guest_greeted}
 use Rattle.cx_daemon_events.proofs.events.greets_guest.Goals as goal

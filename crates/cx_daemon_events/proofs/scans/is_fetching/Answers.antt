@@ -1,5 +1,5 @@
 use Rattle.std.proofs.Common.{◌∙◌, sym}
-use Rattle.cx_rules_session.specs.DaemonRule.{is_for_fetch}
+use Rattle.cx_verifying.specs.cx_rules_session.specs.DaemonRule.{is_for_fetch}
 use Rattle.cx_daemon_events.specs.Kinds.{DaemonLink}
 use Rattle.cx_daemon_events.proofs.Scanning.{none_more, one_passes}
 use Rattle.cx_daemon_events.proofs.scans.is_fetching.Goals as goal

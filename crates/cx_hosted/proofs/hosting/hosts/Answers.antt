@@ -2,7 +2,7 @@
 use Rattle.std.proofs.Common.{IfOk, subst, sym}
 use Rattle.cx_desk.specs.Handlers.{Handlers}
 use Rattle.cx_desk.specs.Held.{handlers_of}
-use Rattle.cx_verifying.specs.Stages.{GuestLink}
+use Rattle.cx_hosting.specs.cx_verifying.specs.Stages.{GuestLink}
 use Rattle.cx_hosted.specs.Hosting.{IsHosted}
 use Rattle.cx_hosted.proofs.Made.{hosted_unasked}
 use Rattle.cx_hosted.proofs.hosting.hosts.Goals as goal

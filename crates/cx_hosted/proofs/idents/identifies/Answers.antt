@@ -1,11 +1,11 @@
 -- What was begun is the turn of the rules, and so is what it came to with the book.
 use Rattle.std.proofs.Common.{None}
 use Rattle.cx_desk.specs.Handlers.{Handlers}
-use Rattle.cx_guest_rows.proofs.Made.{ok_each}
-use Rattle.cx_guest_rows.specs.Hosted.{done_as}
+use Rattle.cx_hosting.specs.cx_guest_rows.proofs.Made.{ok_each}
+use Rattle.cx_hosting.specs.cx_guest_rows.specs.Hosted.{done_as}
 use Rattle.cx_hosting.specs.Pending.{behind_admission, behind_resumption, begun_as}
 use Rattle.cx_hosting.specs.declared.pending.IdentTurn.TheVariants as begun
-use Rattle.cx_verifying.specs.Stages.{GuestLink, awaiting_ident}
+use Rattle.cx_hosting.specs.cx_verifying.specs.Stages.{GuestLink, awaiting_ident}
 use Rattle.cx_hosted.specs.Hosting.{IsHosted, IsMade}
 use Rattle.cx_hosted.specs.declared.hosting.HostedTurn.{HostedTurn}
 use Rattle.cx_hosted.proofs.Made.{done_made, done_turn, hosted_as, hosted_asked}

@@ -1,7 +1,7 @@
 -- A check leaves the book as it is.
 use Rattle.std.proofs.Common.{None}
 use Rattle.cx_desk.specs.Held.{handlers_of}
-use Rattle.cx_guest_rows.specs.Hosted.{done_as}
+use Rattle.cx_hosting.specs.cx_guest_rows.specs.Hosted.{done_as}
 use Rattle.cx_hosting_operations.specs.Pending.{behind_check}
 use Rattle.cx_hosted.proofs.Made.{checked_made, done_made, done_turn}
 use Rattle.cx_hosted.proofs.operations.checks.Goals as goal

@@ -2,12 +2,12 @@
 use Rattle.std.proofs.Common.{None}
 use Rattle.cx_desk.specs.Handlers.{Handlers}
 use Rattle.cx_desk.specs.Held.{handlers_of}
-use Rattle.cx_guest_rows.proofs.Made.{ok_each}
-use Rattle.cx_guest_rows.specs.Hosted.{done_as}
+use Rattle.cx_hosting.specs.cx_guest_rows.proofs.Made.{ok_each}
+use Rattle.cx_hosting.specs.cx_guest_rows.specs.Hosted.{done_as}
 use Rattle.cx_hosting_operations.specs.Pending.{behind_check, begun_as}
 use Rattle.cx_hosting_operations.specs.declared.pending.OpenTurn.TheVariants as begun
 use Rattle.cx_session.specs.declared.call.BookCall.TheVariants.{Check}
-use Rattle.cx_verifying.specs.Stages.{GuestLink, open_link}
+use Rattle.cx_hosting.specs.cx_verifying.specs.Stages.{GuestLink, open_link}
 use Rattle.cx_hosted.specs.Hosting.{IsHosted, IsMade}
 use Rattle.cx_hosted.specs.declared.hosting.HostedTurn.{HostedTurn}
 use Rattle.cx_hosted.proofs.Made.{done_made, done_turn, hosted_as, hosted_asked}

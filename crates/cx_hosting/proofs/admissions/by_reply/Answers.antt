@@ -1,8 +1,8 @@
 -- The session was admitted.
 use Rattle.std.proofs.Common.{refl}
-use Rattle.cx_rules_session.specs.Hosting.{admits}
+use Rattle.cx_guest_rows.specs.cx_rules_session.specs.Hosting.{admits}
 use Rattle.cx_turns.specs.Stages.{keys_alone}
-use Rattle.cx_verifying.specs.Stages.{awaiting_ident}
+use Rattle.cx_guest_rows.specs.cx_verifying.specs.Stages.{awaiting_ident}
 use Rattle.cx_hosting.specs.Pending.{ident_arrival}
 use Rattle.cx_hosting.proofs.admissions.by_reply.Goals as goal
 

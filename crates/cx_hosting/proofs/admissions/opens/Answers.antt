@@ -3,11 +3,11 @@ use Rattle.std.proofs.Common.{[], ◌∷◌}
 use Rattle.cx_authorize.specs.Daemon.{Authority}
 use Rattle.cx_dice.specs.Draws.{cookie_of}
 use Rattle.cx_rules.specs.Acceptor.{Open, server_ident}
-use Rattle.cx_rules_session.specs.Guests.{GuestArrival}
-use Rattle.cx_rules_session.specs.Hosting.{cookie_drawn}
-use Rattle.cx_rules_session.specs.Lossy.{lossy_flags}
+use Rattle.cx_guest_rows.specs.cx_rules_session.specs.Guests.{GuestArrival}
+use Rattle.cx_guest_rows.specs.cx_rules_session.specs.Hosting.{cookie_drawn}
+use Rattle.cx_guest_rows.specs.cx_rules_session.specs.Lossy.{lossy_flags}
 use Rattle.cx_turns.specs.Stages.{keys_alone}
-use Rattle.cx_verifying.specs.Stages.{awaiting_ident}
+use Rattle.cx_guest_rows.specs.cx_verifying.specs.Stages.{awaiting_ident}
 use Rattle.cx_hosting.specs.Pending.{ident_arrival}
 use Rattle.cx_hosting.proofs.Drawn.{behind_drawn}
 use Rattle.cx_hosting.proofs.admissions.opens.Goals as goal

@@ -1,6 +1,6 @@
 -- Each refusal of the book has its row.
 use Rattle.std.proofs.Common.{refl}
-use Rattle.cx_verifying.specs.Stages.{awaiting_ident}
+use Rattle.cx_guest_rows.specs.cx_verifying.specs.Stages.{awaiting_ident}
 use Rattle.cx_hosting.proofs.admissions.refused.Goals as goal
 
 pub returns-in-CookieInUse : goal.returns-in-CookieInUse

@@ -6,10 +6,10 @@ use Rattle.cx_control.specs.Reconnects.{session_reconnect_layout}
 use Rattle.cx_journal.specs.declared.faults.BytesFault.TheVariants.{Unexpected}
 use Rattle.cx_rules.specs.Payloads.{payload}
 use Rattle.cx_rules.specs.Rows.{refuses_bytes}
-use Rattle.cx_rules_session.specs.Guests.{GuestArrival, GuestRow}
-use Rattle.cx_rules_session.specs.Hosting.{Deciding, Hosted, comes_to, on_client_ident, on_ident, on_reconnect}
+use Rattle.cx_guest_rows.specs.cx_rules_session.specs.Guests.{GuestArrival, GuestRow}
+use Rattle.cx_guest_rows.specs.cx_rules_session.specs.Hosting.{Deciding, Hosted, comes_to, on_client_ident, on_ident, on_reconnect}
 use Rattle.cx_turns.specs.Stages.{keys_alone}
-use Rattle.cx_verifying.specs.Stages.{awaiting_ident}
+use Rattle.cx_guest_rows.specs.cx_verifying.specs.Stages.{awaiting_ident}
 use Rattle.cx_guest_rows.proofs.Deciding.{one-from}
 use Rattle.cx_guest_rows.proofs.Made.{come_stays}
 use Rattle.cx_guest_rows.specs.Hosted.{done_as, due_behind}

@@ -5,10 +5,10 @@ use Rattle.cx_control.specs.declared.reconnects.SessionReconnect.{SessionReconne
 use Rattle.cx_journal.specs.declared.faults.BytesFault.{BytesFault}
 use Rattle.cx_rules.specs.Acceptor.{misses}
 use Rattle.cx_rules.specs.Rows.{refuses_bytes}
-use Rattle.cx_rules_session.specs.Guests.{GuestArrival, GuestRow}
-use Rattle.cx_rules_session.specs.Hosting.{Deciding, Hosted, asks_admission, comes_to, on_reconnect}
+use Rattle.cx_guest_rows.specs.cx_rules_session.specs.Guests.{GuestArrival, GuestRow}
+use Rattle.cx_guest_rows.specs.cx_rules_session.specs.Hosting.{Deciding, Hosted, asks_admission, comes_to, on_reconnect}
 use Rattle.cx_turns.specs.Stages.{keys_alone}
-use Rattle.cx_verifying.specs.Stages.{awaiting_ident}
+use Rattle.cx_guest_rows.specs.cx_verifying.specs.Stages.{awaiting_ident}
 use Rattle.cx_guest_rows.proofs.Deciding.{one-from}
 use Rattle.cx_guest_rows.proofs.Made.{come_stays}
 use Rattle.cx_guest_rows.specs.Hosted.{done_as, due_behind}

@@ -1,7 +1,7 @@
 -- The session moves to this link.
 use Rattle.std.proofs.Common.{refl}
-use Rattle.cx_rules_session.specs.Guests.{GuestRow}
-use Rattle.cx_rules_session.specs.Hosting.{resumes}
+use Rattle.cx_guest_rows.specs.cx_rules_session.specs.Guests.{GuestRow}
+use Rattle.cx_guest_rows.specs.cx_rules_session.specs.Hosting.{resumes}
 use Rattle.cx_turns.specs.Stages.{keys_alone}
 use Rattle.cx_hosting.specs.Pending.{ident_arrival}
 use Rattle.cx_hosting.proofs.Moved.{moved_made}

@@ -4,12 +4,12 @@ use Rattle.cx_journal.specs.declared.entries.Admitted.{Admitted}
 use Rattle.cx_journal.specs.declared.entries.Entry.TheVariants as entry
 use Rattle.cx_rules.specs.Acceptor.{Open}
 use Rattle.cx_rules.specs.Rows.{sends_secure}
-use Rattle.cx_rules_session.specs.Guests.{GuestArrival, GuestRow}
-use Rattle.cx_rules_session.specs.Hosting.{admission_of, reconnect_ok, served_as}
-use Rattle.cx_rules_session.specs.Kinds.{entered_before}
+use Rattle.cx_guest_rows.specs.cx_rules_session.specs.Guests.{GuestArrival, GuestRow}
+use Rattle.cx_guest_rows.specs.cx_rules_session.specs.Hosting.{admission_of, reconnect_ok, served_as}
+use Rattle.cx_guest_rows.specs.cx_rules_session.specs.Kinds.{entered_before}
 use Rattle.cx_turns.specs.Stages.{keys_alone}
-use Rattle.cx_verifying.specs.Rows.{MakesRow}
-use Rattle.cx_verifying.specs.Stages.{GuestLink, awaiting_ident}
+use Rattle.cx_guest_rows.specs.cx_verifying.specs.Rows.{MakesRow}
+use Rattle.cx_guest_rows.specs.cx_verifying.specs.Stages.{GuestLink, awaiting_ident}
 use Rattle.cx_hosting.specs.Pending.{ident_arrival}
 use Rattle.cx_hosting.proofs.resumptions.resumes.Goals as goal
 

@@ -7,12 +7,12 @@ use Rattle.cx_link.specs.Wires.{SecureWire}
 use Rattle.cx_rules.specs.Acceptor.{AwaitsIdent}
 use Rattle.cx_rules.specs.Rows.{refused_entry, sends_secure}
 use Rattle.cx_rules.specs.Secured.{secure_frame}
-use Rattle.cx_rules_session.specs.Guests.{GuestArrival, GuestRow}
-use Rattle.cx_rules_session.specs.Kinds.{entered_before}
+use Rattle.cx_guest_rows.specs.cx_rules_session.specs.Guests.{GuestArrival, GuestRow}
+use Rattle.cx_guest_rows.specs.cx_rules_session.specs.Kinds.{entered_before}
 use Rattle.cx_turns.specs.Sending.{SendsSecure}
 use Rattle.cx_turns.specs.Stages.{keys_alone}
-use Rattle.cx_verifying.specs.Rows.{MakesRow}
-use Rattle.cx_verifying.specs.Stages.{GuestLink, awaiting_ident}
+use Rattle.cx_guest_rows.specs.cx_verifying.specs.Rows.{MakesRow}
+use Rattle.cx_guest_rows.specs.cx_verifying.specs.Stages.{GuestLink, awaiting_ident}
 use Rattle.cx_hosting.specs.Pending.{ident_arrival}
 use Rattle.cx_hosting.proofs.resumptions.tells.Goals as goal
 

@@ -4,11 +4,11 @@ use Rattle.cx_journal.specs.declared.entries.Entry.{Entry}
 use Rattle.cx_rules.specs.Acceptor.{Open}
 use Rattle.cx_rules.specs.Messages.{acknowledgement, secure_frames}
 use Rattle.cx_rules.specs.Rows.{secure_sent}
-use Rattle.cx_rules_session.specs.Guests.{GuestArrival, GuestRow}
-use Rattle.cx_rules_session.specs.Kinds.{entered_before}
+use Rattle.cx_guest_rows.specs.cx_rules_session.specs.Guests.{GuestArrival, GuestRow}
+use Rattle.cx_guest_rows.specs.cx_rules_session.specs.Kinds.{entered_before}
 use Rattle.cx_turns.specs.Stages.{keys_alone}
-use Rattle.cx_verifying.specs.Rows.{MakesRow, arrived}
-use Rattle.cx_verifying.specs.Stages.{open_link}
+use Rattle.cx_guest_rows.specs.cx_verifying.specs.Rows.{MakesRow, arrived}
+use Rattle.cx_guest_rows.specs.cx_verifying.specs.Stages.{open_link}
 use Rattle.cx_hosting_operations.specs.Answering.{answering}
 use Rattle.cx_hosting_operations.proofs.handling.answers.Goals as goal
 

@@ -1,10 +1,10 @@
 -- The row of an operation that ended so is the one of the rules.
 use Rattle.std.proofs.Common.{refl}
 use Rattle.cx_desk.specs.Held.{handlers_of}
-use Rattle.cx_rules_session.specs.Guests.{GuestRow}
-use Rattle.cx_rules_session.specs.Hosting.{handles, outcome_of}
+use Rattle.cx_guest_rows.specs.cx_rules_session.specs.Guests.{GuestRow}
+use Rattle.cx_guest_rows.specs.cx_rules_session.specs.Hosting.{handles, outcome_of}
 use Rattle.cx_turns.specs.Stages.{keys_alone}
-use Rattle.cx_verifying.specs.Stages.{open_link}
+use Rattle.cx_guest_rows.specs.cx_verifying.specs.Stages.{open_link}
 use Rattle.cx_hosting_operations.specs.Pending.{open_arrival}
 use Rattle.cx_hosting_operations.proofs.handling.handled.Goals as goal
 

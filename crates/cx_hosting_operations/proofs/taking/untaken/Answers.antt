@@ -6,7 +6,7 @@ use Rattle.cx_rules.specs.Acceptor.{Open}
 use Rattle.cx_rules.specs.Messages.{acknowledgement}
 use Rattle.cx_rules.specs.Rows.{refuses, sends_secure}
 use Rattle.cx_turns.specs.Stages.{keys_alone}
-use Rattle.cx_verifying.specs.Stages.{open_link}
+use Rattle.cx_guest_rows.specs.cx_verifying.specs.Stages.{open_link}
 use Rattle.cx_hosting_operations.specs.Pending.{open_arrival}
 use Rattle.cx_hosting_operations.proofs.taking.untaken.Goals as goal
 

@@ -3,11 +3,11 @@ use Rattle.std.proofs.Common.{◌≡◌, ◌∙◌, [], None, true, refl, sym, a
 use Rattle.cx_desk.specs.Handlers.{Handlers}
 use Rattle.cx_rules.specs.Acceptor.{Open}
 use Rattle.cx_rules.specs.Rows.{secure_sent}
-use Rattle.cx_rules_session.specs.Guests.{GuestArrival, GuestRow}
-use Rattle.cx_rules_session.specs.Hosting.{on_open}
+use Rattle.cx_guest_rows.specs.cx_rules_session.specs.Guests.{GuestArrival, GuestRow}
+use Rattle.cx_guest_rows.specs.cx_rules_session.specs.Hosting.{on_open}
 use Rattle.cx_turns.specs.Stages.{keys_alone}
 use Rattle.cx_turns.specs.Upkeep.{upkept}
-use Rattle.cx_verifying.specs.Stages.{open_link}
+use Rattle.cx_guest_rows.specs.cx_verifying.specs.Stages.{open_link}
 use Rattle.cx_guest_rows.proofs.Deciding.{one-from}
 use Rattle.cx_guest_rows.proofs.Made.{come_stays}
 use Rattle.cx_guest_rows.specs.Hosted.{done_as, due_behind}

@@ -5,11 +5,11 @@ use Rattle.cx_frame.specs.declared.frame.Frame.{Frame}
 use Rattle.cx_rules.specs.Acceptor.{Open}
 use Rattle.cx_rules.specs.Fronts.{keys_behind}
 use Rattle.cx_rules.specs.Secured.{Keys, under}
-use Rattle.cx_rules_session.specs.Guests.{GuestArrival, GuestStage}
-use Rattle.cx_rules_session.specs.Hosting.{on_open}
+use Rattle.cx_guest_rows.specs.cx_rules_session.specs.Guests.{GuestArrival, GuestStage}
+use Rattle.cx_guest_rows.specs.cx_rules_session.specs.Hosting.{on_open}
 use Rattle.cx_turns.specs.Stages.{keys_alone}
-use Rattle.cx_verifying.specs.Rows.{arrived}
-use Rattle.cx_verifying.specs.Stages.{open_link}
+use Rattle.cx_guest_rows.specs.cx_verifying.specs.Rows.{arrived}
+use Rattle.cx_guest_rows.specs.cx_verifying.specs.Stages.{open_link}
 use Rattle.cx_guest_rows.proofs.Deciding.{secure_decided}
 use Rattle.cx_guest_rows.proofs.Made.{ok_each}
 use Rattle.cx_hosting_operations.specs.Pending.{IsBegun, IsDecided, begun_as, open_arrival}

@@ -16,10 +16,14 @@ returns-clause-events c = λ has_handler setup hs m away sound fresh.
     keeps-laws (run_of setup hs false) refl has_handler (journal_since setup hs) (unvisited-law setup hs m away sound fresh)
 
 pub returns-clause-schedules : goal.returns-clause-schedules
-returns-clause-schedules c = λ has_handler bytes script said found.
-    let m = may-happen bytes script said in (
-      keeps-laws (run_of (setup_of script) (trace script) false) refl has_handler (journal_since (setup_of script) (trace script))
-          (unvisited-law (setup_of script) (trace script) m (unvisited script) found.0 found.1),
-      (keeps-tickets (run_of (setup_of script) (trace script) true) refl (journal_since (setup_of script) (trace script))
-          (any-law (setup_of script) (trace script) m found.0 found.1)).keeps_expiry,
-    )
+returns-clause-schedules c = λ handlers bytes script said found.
+    let setup = setup_of handlers script in
+    let hs = trace handlers script in
+    keeps-tickets (run_of setup hs true) refl (journal_since setup hs) (any-law setup hs (may-happen handlers bytes script said) found.0 found.1)
+
+pub returns-clause-unvisited : goal.returns-clause-unvisited
+returns-clause-unvisited c = λ handlers has_handler bytes script said away found.
+    let setup = setup_of handlers script in
+    let hs = trace handlers script in
+    keeps-laws (run_of setup hs false) refl has_handler (journal_since setup hs)
+    (unvisited-law setup hs (may-happen handlers bytes script said) (unvisited handlers script away) found.0 found.1)

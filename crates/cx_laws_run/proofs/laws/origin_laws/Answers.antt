@@ -7,4 +7,5 @@ pub returns-clause-events : goal.returns-clause-events
 returns-clause-events c = any-origins
 
 pub returns-clause-schedules : goal.returns-clause-schedules
-returns-clause-schedules c = λ bytes script said found. any-origins (setup_of script) (trace script) (may-happen bytes script said) found.0 found.1
+returns-clause-schedules c = λ handlers bytes script said found.
+    any-origins (setup_of handlers script) (trace handlers script) (may-happen handlers bytes script said) found.0 found.1

@@ -1,8 +1,8 @@
 -- Frame by frame.
 use Rattle.std.proofs.Common.{ap, refl, sym, ◌∙◌}
 use Rattle.cx_frame.specs.declared.frame.Frame.{Frame}
-use Rattle.cx_rules.specs.Messages.{sealed_behind, secure_frames}
-use Rattle.cx_rules.specs.Secured.{secure_frame}
+use Rattle.cx_turns.specs.cx_rules.specs.Messages.{sealed_behind, secure_frames}
+use Rattle.cx_turns.specs.cx_rules.specs.Secured.{secure_frame}
 use Rattle.cx_messages.specs.Sending.{sealed_of}
 use Rattle.cx_messages.proofs.Joining.{all_due, more_due, none_due, nothing_due}
 use Rattle.cx_messages.proofs.sending.send_frames.Goals as goal

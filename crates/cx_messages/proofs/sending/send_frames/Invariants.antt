@@ -1,5 +1,5 @@
 use Rattle.std.proofs.Common.{◌≡◌, drop}
-use Rattle.cx_rules.specs.Messages.{secure_frames}
+use Rattle.cx_turns.specs.cx_rules.specs.Messages.{secure_frames}
 use Rattle.cx_messages.proofs.Joining.{due}
 use Rattle.cx_messages.specs.Sending.{sealed_of}
 use Rattle.cx_messages.proofs.sending.send_frames.Given as goal

@@ -1,5 +1,5 @@
 use Rattle.std.proofs.Common.{Option}
-use Rattle.cx_rules_session.specs.Sessions.{HeldSession}
+use Rattle.cx_sending.specs.cx_rules_session.specs.Sessions.{HeldSession}
 use Rattle.cx_presenting.proofs.dones.on_done.Goals as goal
 
 pub returns-then-done-eq2 : goal.returns-then-done-eq2

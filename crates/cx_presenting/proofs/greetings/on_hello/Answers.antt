@@ -7,9 +7,9 @@ use Rattle.cx_journal.specs.declared.faults.BytesFault.{BytesFault}
 use Rattle.cx_link.specs.Wires.{wired}
 use Rattle.cx_login.specs.Held.{Held}
 use Rattle.cx_rules.specs.Holdings.{Asker}
-use Rattle.cx_rules_session.specs.Forgets.{abridged_call_link}
-use Rattle.cx_rules_session.specs.Presenter.{AwaitsHello, CallArrival, CallRow, authorizer_bytes, on_hello, presented, presented_by, presents}
-use Rattle.cx_rules_session.specs.Sessions.{Called, Callee, HeldSession, ticket_for}
+use Rattle.cx_sending.specs.cx_rules_session.specs.Forgets.{abridged_call_link}
+use Rattle.cx_sending.specs.cx_rules_session.specs.Presenter.{AwaitsHello, CallArrival, CallRow, authorizer_bytes, on_hello, presented, presented_by, presents}
+use Rattle.cx_sending.specs.cx_rules_session.specs.Sessions.{Called, Callee, HeldSession, ticket_for}
 use Rattle.cx_turns.proofs.MadeRows.{makes_as}
 use Rattle.cx_turns.specs.Making.{row_due}
 use Rattle.cx_presenting.specs.Rows.{arrived, caller, changed}

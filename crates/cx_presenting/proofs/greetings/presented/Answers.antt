@@ -1,7 +1,7 @@
 -- The ticket that is held now, or the one of the call.
 use Rattle.std.proofs.Common.{IfOk, subst, sym}
 use Rattle.cx_authorize.specs.Client.{Presents}
-use Rattle.cx_rules_session.specs.Sessions.{Called}
+use Rattle.cx_sending.specs.cx_rules_session.specs.Sessions.{Called}
 use Rattle.cx_presenting.proofs.Showing.{shows_called, shows_held}
 use Rattle.cx_presenting.proofs.greetings.presented.Goals as goal
 

@@ -3,10 +3,10 @@ use Rattle.std.proofs.Common.{◌≡◌, Option, None, List, [], ◌∷◌, rule
 use Rattle.cx_dice.specs.Draws.{challenge_of}
 use Rattle.cx_link.specs.Wires.{wired}
 use Rattle.cx_rules.specs.Secured.{plain_frame}
-use Rattle.cx_rules_session.specs.Envelopes.{authorize_content, sends_holding, session_sealed}
-use Rattle.cx_rules_session.specs.Forgets.{abridged_call_link}
-use Rattle.cx_rules_session.specs.Presenter.{AwaitsChallenge, CallArrival, CallStage, authorizer_bytes, first_frame, presents}
-use Rattle.cx_rules_session.specs.Sessions.{HeldSession}
+use Rattle.cx_sending.specs.cx_rules_session.specs.Envelopes.{authorize_content, sends_holding, session_sealed}
+use Rattle.cx_sending.specs.cx_rules_session.specs.Forgets.{abridged_call_link}
+use Rattle.cx_sending.specs.cx_rules_session.specs.Presenter.{AwaitsChallenge, CallArrival, CallStage, authorizer_bytes, first_frame, presents}
+use Rattle.cx_sending.specs.cx_rules_session.specs.Sessions.{HeldSession}
 use Rattle.cx_steps.specs.declared.seals.DrawMark.TheVariants as draw
 use Rattle.cx_steps.specs.declared.seals.SealEntry.{SealEntry}
 use Rattle.cx_steps.specs.declared.seals.SealEntry.TheVariants.{Drawn}

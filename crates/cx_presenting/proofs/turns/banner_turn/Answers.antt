@@ -1,8 +1,8 @@
 use Rattle.std.proofs.Common.{Option}
 use Rattle.cx_link.specs.Wires.{wired}
-use Rattle.cx_rules_session.specs.Forgets.{abridged_call_link}
-use Rattle.cx_rules_session.specs.Presenter.{AwaitsBanner, CallArrival, on_banner}
-use Rattle.cx_rules_session.specs.Sessions.{HeldSession}
+use Rattle.cx_sending.specs.cx_rules_session.specs.Forgets.{abridged_call_link}
+use Rattle.cx_sending.specs.cx_rules_session.specs.Presenter.{AwaitsBanner, CallArrival, on_banner}
+use Rattle.cx_sending.specs.cx_rules_session.specs.Sessions.{HeldSession}
 use Rattle.cx_turns.proofs.Handling.{banner_turn}
 use Rattle.cx_presenting.specs.Rows.{arrived, caller, changed}
 use Rattle.cx_presenting.proofs.turns.banner_turn.Goals as goal

@@ -3,9 +3,9 @@ use Rattle.cx_control.specs.Hello.{hello_layout}
 use Rattle.cx_frame.specs.declared.frame.Frame.{Frame}
 use Rattle.cx_link.specs.Wires.{wired}
 use Rattle.cx_rules.specs.Payloads.{due}
-use Rattle.cx_rules_session.specs.Forgets.{abridged_call_link}
-use Rattle.cx_rules_session.specs.Presenter.{AwaitsHello, CallArrival, on_hello}
-use Rattle.cx_rules_session.specs.Sessions.{HeldSession}
+use Rattle.cx_sending.specs.cx_rules_session.specs.Forgets.{abridged_call_link}
+use Rattle.cx_sending.specs.cx_rules_session.specs.Presenter.{AwaitsHello, CallArrival, on_hello}
+use Rattle.cx_sending.specs.cx_rules_session.specs.Sessions.{HeldSession}
 use Rattle.cx_turns.proofs.Handling.{plain_turn}
 use Rattle.cx_presenting.specs.Rows.{arrived, caller, changed}
 use Rattle.cx_presenting.proofs.turns.hello_turn.Goals as goal

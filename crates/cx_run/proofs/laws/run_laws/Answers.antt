@@ -5,4 +5,4 @@ use Rattle.cx_run.specs.Opening.{nodes_of, opening_world}
 use Rattle.cx_run.specs.Runs.{setup_of}
 
 pub returns : goal.returns
-returns c = λ script. (led-after_lines (nodes_of (setup_of script)) (opening_world (setup_of script)) script (record { to = refl })).to
+returns c = λ handlers script. (led-after_lines (nodes_of (setup_of handlers script)) (opening_world (setup_of handlers script)) script (record { to = refl })).to

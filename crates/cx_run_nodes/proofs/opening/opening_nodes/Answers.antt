@@ -7,9 +7,9 @@ use Rattle.cx_run_nodes.proofs.opening.opening_nodes.Goals as goal
 pub returns : goal.returns
 returns c =
     let are = rw c.entities.ensures.value at c.in_ok-members.ensures in
-    record {
+    λ handlers. record {
       monitor = c.in_ok-monitor.ensures.stands;
       post = c.new-post.ensures _ refl (sym c.monitor_seed.ensures) refl;
       members = λ name. all_stand name c.args.setup.now.entities c.in_ok-members.members.items are;
-      handlers = c.entities.ensures.handlers;
+      serves = refl;
     }

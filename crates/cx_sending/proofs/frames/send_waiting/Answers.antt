@@ -3,8 +3,8 @@ use Rattle.std.proofs.Common.{List, ap, ◌∙◌, map, subst, ℕ}
 use Rattle.std.specs.Prelude.{IfOk, filter, nat_lt}
 use Rattle.cx_base.specs.declared.operations.Operation.{Operation}
 use Rattle.cx_frame.specs.declared.frame.Frame.{Frame}
-use Rattle.cx_rules.specs.Messages.{secure_frames}
-use Rattle.cx_turns.specs.Sending.{SendsSecure}
+use Rattle.cx_rules_session.specs.cx_rules.specs.Messages.{secure_frames}
+use Rattle.cx_messages.specs.cx_turns.specs.Sending.{SendsSecure}
 use Rattle.cx_sending.proofs.Above.{messages_above}
 use Rattle.cx_sending.proofs.frames.send_waiting.Goals as goal
 

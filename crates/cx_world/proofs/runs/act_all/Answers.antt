@@ -4,7 +4,7 @@ use Rattle.cx_world.proofs.Started.{acted_all, acted_more}
 use Rattle.cx_world.proofs.runs.act_all.Goals as goal
 
 pub loop-line-preserved : goal.loop-line-preserved
-loop-line-preserved c = record {
+loop-line-preserved g c = record {
   acts = acted_more c.args.world.now c.loop-line.world c.act.new.self c.args.lines.now c.loop-line.line-index c.line-item.result c.loop-line-test.true c.line-item.is
       c.loop-line.invariant.acts c.in_ok-act.ensures;
   idle = counted_more c.args.world.now c.loop-line.world c.args.lines.now c.loop-line.line-index c.line-item.result c.loop-line.idle c.idle_at-idle.result
@@ -13,7 +13,7 @@ loop-line-preserved c = record {
 }
 
 pub returns : goal.returns
-returns c = record {
+returns g c = record {
   acts = acted_all c.args.world.now c.loop-line.world c.args.lines.now c.loop-line.line-index c.loop-line-test.false c.loop-line.invariant.acts;
   idle = counted_all c.args.world.now c.args.lines.now c.loop-line.line-index c.loop-line.idle c.loop-line-test.false c.loop-line.invariant.idle;
 }

@@ -1,8 +1,13 @@
 -- What it tells of what it holds is what the rules tell.
-use Rattle.std.proofs.Common.{◌∙◌, ap}
-use Rattle.cx_rules.specs.ClientRule.{is_idle}
+use Rattle.std.proofs.Common.{◌∙◌, List, ap}
+use Rattle.std.specs.List.{list_all}
+use Rattle.cx_client_calls.specs.cx_client_links.specs.Kinds.{ClientLink}
+use Rattle.cx_rules_session.specs.ClientRule.{is_at_rest, is_idle}
+use Rattle.cx_rules_session.specs.Sessions.{HeldSession}
 use Rattle.cx_client.proofs.client.Client.idle.Goals as goal
 
 pub returns-clause-stands : goal.returns-clause-stands
 returns-clause-stands c = λ s stands.
-    c.are_quiet.ensures ∙ ap is_idle c.self.view_is ∙ c.forgetting_laws.ensures.client_idle c.args.self.now s stands
+    c.are_at_rest.ensures
+    ∙ ap (λ (ss : List HeldSession). list_all (λ (l : ClientLink). is_at_rest ss l.stage) c.self.inside.links.links) c.sessions.ensures
+    ∙ ap is_idle c.self.view_is ∙ c.client_forgetting_laws.ensures.idle c.args.self.now s stands

@@ -1,7 +1,7 @@
 -- What it tells of what it holds is what the rules tell.
 use Rattle.std.proofs.Common.{◌∙◌, ap}
 use Rattle.std.specs.Prelude.{not}
-use Rattle.cx_rules_session.specs.DaemonRule.{DaemonState, is_idle}
+use Rattle.cx_daemon_events.specs.cx_rules_session.specs.DaemonRule.{DaemonState, is_idle}
 use Rattle.cx_daemon.proofs.daemon.Daemon.idle.Goals as goal
 
 pub returns-clause-stands : goal.returns-clause-stands

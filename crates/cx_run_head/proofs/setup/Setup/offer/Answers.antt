@@ -1,6 +1,7 @@
 use Rattle.std.proofs.Common.{◌≡◌, List, Some, refl, sym, ap, ◌∙◌}
-use Rattle.cx_run.specs.Opening.{Declared, Setup, changed, no_handlers}
+use Rattle.cx_run.specs.Opening.{Declared, Setup, changed}
 use Rattle.cx_run_head.proofs.Held.{held_changed, unwritten, written}
+use Rattle.cx_run_head.specs.Beginning.{unhandled}
 use Rattle.cx_run_head.specs.Places.{place_of}
 use Rattle.cx_run_head.proofs.setup.Setup.offer.Goals as goal
 
@@ -18,11 +19,11 @@ returns-in-Some-get_mut c =
     let old : Declared = record { number = c.entity.inside.number; line = c.entity.inside.line; name = c.entity.inside.name; grants = c.entity.inside.grants; seed = c.entity.inside.seed; modes = c.entity.inside.modes } in
     let here : place_of c.self.inside.places.texts c.args.name.now ≡ Some c.in-Some.place = sym c.in_ok-place.ensures ∙ c.in-Some.is in
     let is = rw (← c.entity.view_is) at c.in-Some-get_mut.ensures.value in
-    let with_entities : List Declared → Setup = λ es. record { life = c.self.inside.life; auth_life = c.self.inside.auth_life; entities = es; monitor_seed = c.self.inside.monitor_seed; leaks = c.self.inside.leaks; handlers = no_handlers } in
+    let with_entities : List Declared → Setup = λ es. record { life = c.self.inside.life; auth_life = c.self.inside.auth_life; entities = es; monitor_seed = c.self.inside.monitor_seed; leaks = c.self.inside.leaks; handlers = unhandled } in
     ap with_entities (written _ _ _ _ c.args.name.now change c.in-Some.place old c.self.invariant here is) ∙ ap (changed c.args.name.now change) c.self.view_is
 
 pub returns-in_default : goal.returns-in_default
 returns-in_default c =
     let change : Declared → Declared = λ e. record e { modes = c.args.modes } in
-    let with_entities : List Declared → Setup = λ es. record { life = c.self.inside.life; auth_life = c.self.inside.auth_life; entities = es; monitor_seed = c.self.inside.monitor_seed; leaks = c.self.inside.leaks; handlers = no_handlers } in
+    let with_entities : List Declared → Setup = λ es. record { life = c.self.inside.life; auth_life = c.self.inside.auth_life; entities = es; monitor_seed = c.self.inside.monitor_seed; leaks = c.self.inside.leaks; handlers = unhandled } in
     sym c.self.view_is ∙ sym (ap with_entities (unwritten _ _ _ _ c.args.name.now change c.self.invariant (sym c.in_ok-place.ensures ∙ c.in_default.is))) ∙ ap (changed c.args.name.now change) c.self.view_is

@@ -9,11 +9,11 @@ use Rattle.cx_run_nodes.proofs.Reading.{member_reads, monitor_reads, nobody_read
 use Rattle.cx_run_nodes.proofs.nodes.Nodes.read_one.Goals as goal
 
 pub returns-in-Monitor : goal.returns-in-Monitor
-returns-in-Monitor c = rw c.in-Monitor.is (λ w k. monitor_reads c.args.reading w c.args.self.now _ k refl c.set.ensures refl)
+returns-in-Monitor c = rw c.in-Monitor.is (λ handlers w k. monitor_reads c.args.reading w c.args.self.now _ k refl c.set.ensures refl)
 
 pub returns-in-Some : goal.returns-in-Some
 returns-in-Some c = rw c.in-Entity.is (
-    λ w k.
+    λ handlers w k.
     let held : Nodes = c.args.self.now in
     let old : Member = c.index_mut-member.result.now in
     let p = λ (m : Member). same_name m.name c.in-Entity.name in
@@ -25,7 +25,7 @@ returns-in-Some c = rw c.in-Entity.is (
 
 pub returns-in-None : goal.returns-in-None
 returns-in-None c = rw c.in-Entity.is (
-    λ w k.
+    λ handlers w k.
     let held : Nodes = c.args.self.now in
     let p = λ (m : Member). same_name m.name c.in-Entity.name in
     let slice : c.as_slice.result.now ≡ held.members.items = c.as_slice.ensures.value in

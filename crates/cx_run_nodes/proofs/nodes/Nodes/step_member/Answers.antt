@@ -11,7 +11,7 @@ use Rattle.cx_run_nodes.proofs.Stepping.{member_given, nobody_given}
 use Rattle.cx_run_nodes.proofs.nodes.Nodes.step_member.Goals as goal
 
 pub returns-in_ok-made-in-Some : goal.returns-in_ok-made-in-Some
-returns-in_ok-made-in-Some c =
+returns-in_ok-made-in-Some g c =
     λ w k.
     let held : Nodes = c.args.self.now in
     let p = λ (m : Member). same_name m.name c.args.name.now in
@@ -20,10 +20,10 @@ returns-in_ok-made-in-Some c =
     member_given (input_of c.args.event) w c.args.name.now held _ c.in-Some.place c.index_mut-member.result.now c.step.new.self c.in_ok-made-in-Some.made k
     (is_first p held.members.items c.in-Some.place there) c.index_mut-member.ensures.value refl refl refl (λ post entity s.
     let P : Handlers → Type 0 = λ h. IsMemberStep h (input_of c.args.event) post entity c.in_ok-made-in-Some.made c.index_mut-member.result.now c.step.new.self in
-    subst P (sym k.handlers) (c.in_ok-made-in-Some.ensures post entity s))
+    subst P (sym k.serves) (c.in_ok-made-in-Some.ensures post entity s))
 
 pub returns-in-None : goal.returns-in-None
-returns-in-None c =
+returns-in-None g c =
     λ w k.
     let held : Nodes = c.args.self.now in
     let p = λ (m : Member). same_name m.name c.args.name.now in

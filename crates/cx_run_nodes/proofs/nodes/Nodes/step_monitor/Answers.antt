@@ -7,7 +7,7 @@ use Rattle.cx_run_nodes.proofs.nodes.Nodes.step_monitor.Goals as goal
 
 pub returns : goal.returns
 returns c =
-    λ w k e.
+    λ handlers w k e.
     monitor_given (input_of c.args.event) w c.args.self.now _ c.in_ok-made.made k refl
     (λ post sits.
     let P : Option LeftState → Type 0 = λ left. IsMonitorStep post (monitor_made (input_of c.args.event) post w.nodes left) c.in_ok-made.made c.take_step.new.monitor c.take_step.new.post in

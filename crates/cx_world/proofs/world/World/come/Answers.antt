@@ -3,4 +3,4 @@ use Rattle.cx_run.specs.Deliveries.{gives}
 use Rattle.cx_world.proofs.world.World.come.Goals as goal
 
 pub returns : goal.returns
-returns c = λ b seen w k. c.in_ok-follow.ensures b seen (gives w c.args.who.now (input_of c.args.event)) (c.in_ok-made.ensures b seen w k)
+returns g c = λ b seen w k. c.in_ok-follow.ensures b seen (gives w c.args.who.now (input_of c.args.event)) (c.in_ok-made.ensures b seen w k)

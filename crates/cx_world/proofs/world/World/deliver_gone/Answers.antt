@@ -9,11 +9,11 @@ use Rattle.cx_world.proofs.Arrivals.{gone_comes, nothing_owed, seen_at}
 use Rattle.cx_world.proofs.world.World.deliver_gone.Goals as goal
 
 pub returns-then-not-owes_gone : goal.returns-then-not-owes_gone
-returns-then-not-owes_gone c = λ b seen w h.
+returns-then-not-owes_gone g c = λ b seen w h.
     nothing_owed b seen c.args.self.now w c.args.number c.args.side h (sym c.owes_gone.ensures ∙ c.if-not-owes_gone.true)
 
 pub returns : goal.returns
-returns c = ok_makes c.tell_there.result (record c.args.self.now { wires = c.go.new.self }) c.tell_there.new.self
+returns g c = ok_makes c.tell_there.result (record c.args.self.now { wires = c.go.new.self }) c.tell_there.new.self
     (λ (w : RunWorld). tells_there w c.in_ok-far.far) c.tell_there.ensures
     c.args.self.now (λ (w : RunWorld). delivers_gone w c.args.side (wire_of c.args.number w.wires))
     (λ b seen w h m. gone_comes b seen c.args.self.now c.tell_there.new.self w c.args.number c.args.side c.go.new.self c.in_ok-far.far h

@@ -7,14 +7,14 @@ use Rattle.cx_world.proofs.Rounds.{delivered_one_more, drained}
 use Rattle.cx_world.proofs.world.World.drain.Goals as goal
 
 pub loop-init : goal.loop-init
-loop-init c = λ b seen w h. h
+loop-init g c = λ b seen w h. h
 
 pub loop-preserved : goal.loop-preserved
-loop-preserved c =
+loop-preserved g c =
     delivered_one_more c.args.self.now c.loop.self c.deliver.new.self c.args.number c.loop.counter c.args.side c.loop.invariant c.in_ok-deliver.ensures
 
 pub returns : goal.returns
-returns c =
+returns g c =
     let same : c.loop.counter ≡ c.under_way-end.result = omega arith in
     ok_makes c.deliver-2.result c.loop.self c.deliver-2.new.self
     (λ (w : RunWorld). delivers w c.args.number c.args.side None) c.deliver-2.ensures

@@ -10,7 +10,7 @@ use Rattle.cx_world.proofs.Quiet.{carried_count}
 use Rattle.cx_world.proofs.world.World.follow.Goals as goal
 
 pub returns-then-made : goal.returns-then-made
-returns-then-made c =
+returns-then-made g c =
     λ b seen g k.
     let failed : g.failed ≡ true = sym k.failed ∙ c.if-made.true in
     let there : World = record g.world { left = None } in
@@ -19,7 +19,7 @@ returns-then-made c =
     c.restart.ensures
 
 pub returns : goal.returns
-returns c =
+returns g c =
     λ b seen g k.
     let failed : g.failed ≡ false = sym k.failed ∙ c.if-made.false in
     let who = c.args.who.now in
@@ -30,5 +30,5 @@ returns c =
     let N : ℕ → Type 0 = λ n. Carries b seen new (open_all v (opened_wires who n out.opens)) in
     let O : List Peer → Type 0 = λ ps. Carries b seen new (open_all v (opened_wires who (length v.wires) ps)) in
     on_ok_weaker c.open_all.result
-    (λ makes. rw failed (subst P k.out (subst N (carried_count g.world who out) (subst O c.all.ensures (makes b seen v (c.in_ok-carry.ensures b seen g.world k.world))))))
+    (λ makes. rw failed (subst P k.out (subst N (carried_count g.world who out) (subst O c.all.ensures (makes b seen v (c.in_ok-carry.ensures _ b seen g.world k.world))))))
     c.open_all.ensures

@@ -12,7 +12,7 @@ use Rattle.cx_steps.specs.declared.events.Command.TheVariants as told
 use Rattle.cx_world.proofs.world.World.login.Goals as goal
 
 pub returns : goal.returns
-returns c = ok_makes c.come.result c.args.self.now c.come.new.self
+returns g c = ok_makes c.come.result c.args.self.now c.come.new.self
     (λ (w : RunWorld). comes w (node.Entity c.in_ok-copy.field-0) (Submit (told.Login c.in_ok-sum.sum))) c.come.ensures
     c.args.self.now (λ (w : RunWorld). submitted w (command.Login c.args.client.now c.args.services.now))
     (λ b seen w h m.

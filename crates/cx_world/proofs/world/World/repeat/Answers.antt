@@ -7,7 +7,7 @@ use Rattle.cx_world.proofs.Arrivals.{came_again}
 use Rattle.cx_world.proofs.world.World.repeat.Goals as goal
 
 pub returns : goal.returns
-returns c = ok_makes c.inject.result c.args.self.now c.inject.new.self
+returns g c = ok_makes c.inject.result c.args.self.now c.inject.new.self
     (λ (w : RunWorld). injects w c.args.side c.bytes.result.now (wire_of c.args.to w.wires)) c.inject.ensures
     c.args.self.now
     (λ (w : RunWorld). arrives_again w c.args.side (ever_sent c.args.place c.args.side (wire_of c.args.number w.wires)) (wire_of c.args.to w.wires))

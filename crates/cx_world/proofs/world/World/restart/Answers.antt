@@ -4,7 +4,7 @@ use Rattle.cx_run.specs.Deliveries.{tells}
 use Rattle.cx_world.proofs.world.World.restart.Goals as goal
 
 pub returns : goal.returns
-returns c =
+returns g c =
     on_ok_weaker c.vanish.result
     (λ makes b seen w k. makes b seen (tells w c.args.who.now Restart) (c.in_ok-tell.ensures b seen w k))
     c.vanish.ensures

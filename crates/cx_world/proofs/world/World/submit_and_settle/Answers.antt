@@ -8,7 +8,7 @@ use Rattle.cx_run.specs.Schedules.{submits, submitted}
 use Rattle.cx_world.proofs.world.World.submit_and_settle.Goals as goal
 
 pub returns : goal.returns
-returns c =
+returns g c =
     ok_makes_alone c.settle.result c.submit.new.self c.settle.new.self (λ (w : RunWorld). settles w) c.settle.ensures
     c.args.self.now (λ (w : RunWorld). submits w c.args.command.now)
     (λ b w h m. subst (λ (x : RunWorld). Carries b None c.settle.new.self x) (sym (submits_served w c.args.command.now c.requires))

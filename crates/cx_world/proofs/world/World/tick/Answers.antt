@@ -6,7 +6,7 @@ use Rattle.cx_world.proofs.Making.{ok_makes_alone}
 use Rattle.cx_world.proofs.world.World.tick.Goals as goal
 
 pub returns : goal.returns
-returns c =
+returns g c =
     ok_makes_alone c.settle.result c.come.new.self c.settle.new.self (λ (w : RunWorld). settles w) c.settle.ensures
     c.args.self.now (λ (w : RunWorld). settles (comes w c.args.who.now Tick))
     (λ b w h m. m (comes w c.args.who.now Tick) (c.in_ok-come.ensures b None w h))

@@ -7,10 +7,10 @@ use Rattle.cx_world.proofs.Turns.{IsTurning, begun, rested, turned}
 use Rattle.cx_world.proofs.world.World.turn_all.Goals as goal
 
 pub loop-init : goal.loop-init
-loop-init c = λ b seen w k. begun b seen c.args.who.now c.args.number w c.args.self.now k
+loop-init g c = λ b seen w k. begun b seen c.args.who.now c.args.number w c.args.self.now k
 
 pub loop-preserved : goal.loop-preserved
-loop-preserved c = λ b seen w k.
+loop-preserved g c = λ b seen w k.
     let t : IsTurning b seen c.args.who.now c.args.number w c.loop.self = c.loop.invariant b seen w k in
     let given : IsGivenTo b seen c.give.new.self c.in_ok-made.made (gives t.world c.args.who.now (Turn c.args.number)) = c.in_ok-made.ensures b seen t.world t.carried in
     turned b seen c.args.who.now c.args.number w c.loop.self c.follow.new.self t
@@ -18,7 +18,7 @@ loop-preserved c = λ b seen w k.
     (c.in_ok-follow.ensures b seen (gives t.world c.args.who.now (Turn c.args.number)) given)
 
 pub returns-then-not-made : goal.returns-then-not-made
-returns-then-not-made c = λ b seen w k.
+returns-then-not-made g c = λ b seen w k.
     let t : IsTurning b seen c.args.who.now c.args.number w c.loop.self = c.loop.invariant b seen w k in
     let given : IsGivenTo b seen c.give.new.self c.in_ok-made.made (gives t.world c.args.who.now (Turn c.args.number)) = c.in_ok-made.ensures b seen t.world t.carried in
     rested b seen c.args.who.now c.args.number w c.loop.self c.follow.new.self t

@@ -10,7 +10,7 @@ use Rattle.cx_world.proofs.Vanishing.{vanish_more}
 use Rattle.cx_world.proofs.world.World.vanish.Goals as goal
 
 pub links-preserved : goal.links-preserved
-links-preserved c =
+links-preserved g c =
     λ b seen w k.
     let P : List Wire → Type 0 = AreNumbered 1 in
     let count : length c.args.self.now.wires ≡ length w.wires = ap (λ (ws : List Wire). length ws) k.wires in
@@ -20,7 +20,7 @@ links-preserved c =
     (c.in_ok-vanish_at.ensures b seen _ (c.links.invariant b seen w k))
 
 pub returns : goal.returns
-returns c =
+returns g c =
     λ b seen w k.
     let count : length c.args.self.now.wires ≡ length w.wires = ap (λ (ws : List Wire). length ws) k.wires in
     let all : length w.wires ≤ c.links.place = omega (arith, c.len-place-end.ensures.value) in

@@ -1,0 +1,4 @@
+-- Behind `pub use`: what crates above name through this one, and so needn't list (`checks/ways`).
+pub use Rattle.cx_client_events as cx_client_events
+pub use Rattle.cx_client_events.specs.cx_client_links as cx_client_links
+pub mod Sending

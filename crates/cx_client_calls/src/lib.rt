@@ -1,0 +1,13 @@
+//! What a client does in its sessions: a turn of a link of either kind, and operations that it sends.
+#![tactic(auto)]
+
+mod links;
+mod sending;
+
+pub use links::turns;
+pub use sending::sends;
+
+// What crates above name through this one, and so needn't list.
+pub use cx_client_events::{
+    Link, Own, are_at_rest, comes, connects, goes, logs_in, opens, opens_none, renews, restarts,
+};

@@ -1,0 +1,14 @@
+use Rattle.cx_client_links.specs.cx_rules_session.specs.Forgets.{abridged_client_link}
+use Rattle.cx_client_links.specs.cx_rules_session.proofs.WholeClientForgets.{client-forgets-links}
+use Rattle.cx_turns.proofs.Steps.{comes_held, comes_step}
+use Rattle.cx_client_events.proofs.events.comes.Goals as goal
+
+pub returns-clause-step : goal.returns-clause-step
+returns-clause-step c =
+    comes_step abridged_client_link client-forgets-links c.args.own.now.client c.args.number c.args.bytes.now c.args.links.now.links c.comes.new.links.links c.comes.result
+    c.requires.held c.comes.ensures.fed
+
+pub returns-clause-held : goal.returns-clause-held
+returns-clause-held c =
+    comes_held abridged_client_link client-forgets-links c.args.number c.args.bytes.now c.args.links.now.links c.comes.new.links.links c.comes.result
+    c.requires.held c.comes.ensures.fed c.comes.ensures.lost

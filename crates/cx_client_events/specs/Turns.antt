@@ -1,0 +1,25 @@
+-- Turns of a client's links, with what they change of its own.
+use Rattle.std.specs.Prelude.{ℕ, List}
+use Rattle.cx_connector.specs.Rows as monitor
+use Rattle.cx_presenting.specs.Rows as daemon
+use Rattle.cx_rules.specs.Rows.{Turned, arrival}
+use Rattle.cx_client_links.specs.cx_rules_session.specs.ClientRule.{ClientStage, WholeClient, caller_to, me, turned_at, with_asker, with_caller}
+use Rattle.cx_client_links.specs.cx_rules_session.specs.Forgets.{abridged_client_link}
+use Rattle.cx_turns.specs.Steps.{IsTurn}
+use Rattle.cx_turns.specs.declared.came.Came.{Came}
+use Rattle.cx_client_links.specs.Kinds.{ClientLink}
+use Rattle.cx_client_links.specs.declared.kinds.Change.{Change}
+use Rattle.cx_client_links.specs.declared.kinds.Change.TheVariants.{Asked, Called}
+
+-- a client that holds what a row of either kind changes
+abbrev pub with_change : WholeClient → Change → WholeClient
+with_change own (Asked change) = with_asker own (monitor.changed own.asker change)
+with_change own (Called name change) = with_caller name own (daemon.changed (caller_to name own) change)
+
+-- what the rules have a turn of a link come to
+abbrev pub turn_due : WholeClient → ℕ → List ℕ → ClientLink → Turned WholeClient ClientStage
+turn_due own reading draw link = turned_at (arrival (me own) own link reading draw) link.stage
+
+-- a turn of it came to that
+abbrev pub IsClientTurn : WholeClient → ℕ → List ℕ → ClientLink → Came ClientLink Change → Type 0
+IsClientTurn own reading draw link come = IsTurn abridged_client_link with_change own link (turn_due own reading draw link) come

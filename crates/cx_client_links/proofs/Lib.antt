@@ -1,0 +1,5 @@
+pub mod Calling
+pub mod Dialled
+pub mod OfKinds
+pub mod Resting
+pub mod Scanning

@@ -1,0 +1,7 @@
+-- Behind `pub use`: what crates above name through this one, and so needn't list (`checks/ways`).
+pub use Rattle.cx_kinds as cx_kinds
+pub use Rattle.cx_presenting.specs.cx_rules_session as cx_rules_session
+pub use Rattle.cx_presenting.specs.cx_sending as cx_sending
+pub mod Kinds
+pub mod Scans
+pub mod Waiting

@@ -1,0 +1,27 @@
+//! The links of a client, to the monitor and to daemons, and those that it waits for; and what is looked for among them.
+#![tactic(auto)]
+
+mod dials;
+mod kinds;
+mod links;
+mod scans;
+
+pub use dials::{Dial, Dials, Purpose};
+pub use kinds::{Change, came_of_daemon, came_of_monitor, of_daemon, of_monitor};
+pub use links::{Kind, Link};
+pub use scans::{are_at_rest, calls, first_call, first_open, numbers_to_monitor, shut_all};
+
+// What crates above name through this one, and so needn't list.
+pub use cx_presenting::{HeldSession, Sessions};
+
+// Each public type may be sent to another thread and shared with one.
+fn is_sendable<T: Send + Sync>() {}
+
+fn all_are_sendable() {
+    is_sendable::<Kind>();
+    is_sendable::<Link>();
+    is_sendable::<Change>();
+    is_sendable::<Purpose>();
+    is_sendable::<Dial>();
+    is_sendable::<Dials>();
+}

@@ -1,0 +1,4 @@
+pub mod Leaving
+pub mod OfKinds
+pub mod Scanning
+pub mod Shutting

@@ -1,0 +1,12 @@
+pub mod Steady
+pub mod Kept
+pub mod Arithmetic
+pub mod Covering
+pub mod Looking
+pub mod OwnLooks
+pub mod AllCovered
+pub mod Moments
+pub mod Transcripts
+pub mod Banners
+pub mod Telling
+pub mod Lives

@@ -1,0 +1,2 @@
+//! Coverage by time: how long a daemon holds the generations of its service's unexpired tickets.
+#![tactic(auto)]

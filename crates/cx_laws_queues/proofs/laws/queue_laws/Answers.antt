@@ -1,0 +1,10 @@
+use Rattle.cx_laws_queues.proofs.Runs.{all-handled-in-order, all-queued, all-sent-in-order, schedules-in-order}
+use Rattle.cx_laws_queues.proofs.laws.queue_laws.Goals as goal
+
+pub returns : goal.returns
+returns c = record {
+  sent = all-sent-in-order;
+  handled = all-handled-in-order;
+  queued = all-queued;
+  schedules = schedules-in-order;
+}

@@ -1,0 +1,26 @@
+//! The laws of queues over every run.
+
+ghost use Rattle.std.specs.Prelude.{List};
+ghost use Rattle.cx_desk.specs.Handlers.{Handlers};
+ghost use Rattle.cx_laws_queues.specs.Counting.{IsHandledInOrder};
+ghost use Rattle.cx_laws_queues.specs.Sending.{IsSentInOrder};
+ghost use Rattle.cx_laws_queues.specs.Waiting.{AreQueuedAt};
+ghost use Rattle.cx_lines.specs.declared.lines.Numbered.{Numbered};
+ghost use Rattle.cx_run.specs.Happenings.{Happening, nodes_behind};
+ghost use Rattle.cx_run.specs.Opening.{Setup, nodes_of};
+ghost use Rattle.cx_run.specs.Points.{journal_since};
+ghost use Rattle.cx_run.specs.Runs.{run_journal};
+
+/// Of every run, from every opening and with any handlers, whatever is delivered, lost, repeated, forged or cut, restarted, or failed at a save, and whatever
+/// opens or repeats: there is no premise. Each operation that a client sends to a daemon is numbered next to what it sent last to that daemon under the same
+/// cookie, from 1 on. Each operation that a daemon handles is numbered next to the one that it handled last in that session, from 1 on behind its admission.
+/// And behind all events what waits at a client in a session is the end of what it sent in that session, and what a daemon took last of a session is the
+/// count of what it handled in it.
+pub fn queue_laws()
+    // Of every list of events.
+    ensures sent { (setup : Setup) (hs : List Happening) → IsSentInOrder (journal_since setup hs) }
+    ensures handled { (setup : Setup) (hs : List Happening) → IsHandledInOrder (journal_since setup hs) }
+    ensures queued { (setup : Setup) (hs : List Happening) → AreQueuedAt (journal_since setup hs) (nodes_behind (nodes_of setup) hs).entities }
+    // So of the run of every schedule, whatever handlers its daemons have.
+    ensures schedules { (handlers : Handlers) (script : List Numbered) → IsSentInOrder (run_journal handlers script) × IsHandledInOrder (run_journal handlers script) }
+{}

@@ -1,0 +1,6 @@
+//! Laws of what clients send in a session and daemons handle in one: in order, each once.
+#![tactic(auto)]
+
+mod laws;
+
+pub use laws::queue_laws;
