@@ -1,8 +1,8 @@
 -- What each step of a client keeps of its queues, whatever comes to it: what it sends is the next one of its session, and what waits is the end of what was sent.
-use Rattle.std.proofs.Common.{◌≡◌, ℕ, ◌==◌, ◌+◌, ◌-◌, ◌^◌, Bool, true, false, List, [], ◌∷◌, ◌++◌, find, length, Option, Some, None, Result, Ok, Err, refl, sym, ap, subst}
+use Rattle.std.proofs.Common.{◌≡◌, ℕ, ◌==◌, ◌+◌, ◌-◌, ◌^◌, Bool, true, false, List, [], ◌∷◌, ◌++◌, find, length, Option, Some, None, Result, Ok, Err, refl, sym, ap, ◌∙◌, subst}
 use Rattle.std.specs.List.{AllByRecursion, list_any}
 use Rattle.std.specs.Prelude.{◌&&◌, nat_le, not, if◌then◌else◌}
-use Rattle.cx_base.proofs.Names.{same_name_self}
+use Rattle.cx_base.proofs.Names.{same_name_is, same_name_self}
 use Rattle.cx_base.specs.Names.{Name, same_name}
 use Rattle.cx_base.specs.declared.operations.Operation.{Operation}
 use Rattle.cx_journal.specs.Behind.{EachBehind}
@@ -11,14 +11,14 @@ use Rattle.cx_journal.specs.declared.entries.Entry.TheVariants as entry
 use Rattle.cx_journal.specs.declared.faults.BytesFault.{BytesFault}
 use Rattle.cx_journal.specs.declared.outcomes.Reason.{Reason}
 use Rattle.cx_journal.specs.declared.outcomes.Reason.TheVariants as reason
-use Rattle.cx_laws_queues.proofs.Calls.{Held, call-held}
+use Rattle.cx_laws_queues.proofs.Calls.{Held, call-held, opens-each}
 use Rattle.cx_laws_queues.proofs.Entries.{IsInOrderBy, IsPlain, Untouched, all-unsent, call-plain, plain-ordered, plain-untouched, quiet-plain, sent-still, sent_where, unsent-still}
 use Rattle.cx_laws_queues.proofs.Queues.{acknowledged-queued, again-queued, new-queued, next-sent, pushed-queued, sent_now, still-queued}
 use Rattle.cx_laws_queues.proofs.Sessions.{AreApart, HeldIs, all-filter, apart-filter, apart-put, apart-with, held-all, put-all, with-all}
 use Rattle.cx_laws_queues.specs.Sending.{all_sent_to, sent_to}
 use Rattle.cx_laws_queues.specs.Waiting.{IsQueued}
 use Rattle.cx_laws_session.proofs.Askers.{asker-enters, EntersNone, fetch-enters}
-use Rattle.cx_laws_session.proofs.Lists.{all-map}
+use Rattle.cx_laws_session.proofs.Lists.{all-map, found-passes}
 use Rattle.cx_laws_session.proofs.Moves.{IsQuiet}
 use Rattle.cx_laws_session.proofs.Runs.{other-way}
 use Rattle.cx_login.specs.Held.{Held as Ticket}
@@ -57,6 +57,23 @@ queues-still J es client sessions left h = record {
   apart = h.apart;
 }
 
+-- an operation that is sent has the next number of its session
+abbrev pub IsPushed : List HeldSession → Entry → Type 0
+IsPushed sessions (entry.Sent s) = (session : HeldSession) → session_with s.daemon sessions ≡ Some session → s.seq ≡ session.queue.last + 1
+IsPushed sessions _ = Unit {0}
+
+plain-pushed : (sessions : List HeldSession) (e : Entry) → IsPlain e → IsPushed sessions e
+plain-pushed sessions (entry.Sent x) h = absurd h
+plain-pushed sessions _ h = tt
+
+some-session : (a b : HeldSession) → Some a ≡ Some b → a ≡ b
+some-session a b e = cc
+
+-- the session with a daemon is the one with its daemon
+pub with-its : (sessions : List HeldSession) (daemon : Name) (session : HeldSession) → session_with daemon sessions ≡ Some session → session_with session.daemon sessions ≡ Some session
+with-its sessions daemon session is =
+    ap (λ (n : Name). session_with n sessions) (same_name_is session.daemon daemon (found-passes (λ (s : HeldSession). same_name s.daemon daemon) sessions session is)) ∙ is
+
 -- what a push answers is the next number
 abbrev reply_by : ℕ → Bool → Bool → Result ℕ QueueFault
 reply_by last full spent = if full then Err (queue.QueueFull 1024) else (if spent then Err queue.Spent else Ok (last + 1))
@@ -74,11 +91,13 @@ module _ (J : List Entry) (c : WholeClientNode) (h : ClientQueues J c.own.asker.
   pub record Kept (o : Outcome WholeClientNode) : Type 0 where
     pub ordered : EachBehind IsInOrderBy J o.out.entries
     pub queues : ClientQueues (J ++ o.out.entries) client o.state.own.sessions
+    pub numbered : AllByRecursion (IsPushed c.own.sessions) o.out.entries
 
   still-kept : (o : Outcome WholeClientNode) → AllByRecursion IsPlain o.out.entries → ClientQueues J client o.state.own.sessions → Kept o
   still-kept o plain now = record {
     ordered = plain-ordered o.out.entries J plain;
     queues = queues-still J o.out.entries client o.state.own.sessions (all-map IsPlain (Untouched client) (plain-untouched client) o.out.entries plain) now;
+    numbered = all-map IsPlain (IsPushed c.own.sessions) (plain-pushed c.own.sessions) o.out.entries plain;
   }
 
   idle-kept : Kept (idles c)
@@ -109,8 +128,8 @@ module _ (J : List Entry) (c : WholeClientNode) (h : ClientQueues J c.own.asker.
         let a = arrival_in (on_link link) (caller_to daemon c.own) stage in
         let Q : HeldSession → Type 0 = IsQueued J client in
         by_turned daemon (call.turned_at a stage) (call-takes a stage).leaves
-        (call-held Q (λ count s q. again-queued J client count s q) (λ seq s q. acknowledged-queued J client seq s q) (λ callee own server. new-queued J client callee own server) a stage
-        (held-all Q daemon c.own.sessions h.queued))
+        (call-held Q (λ count s q. again-queued J client count s q) (λ seq s q. acknowledged-queued J client seq s q) a stage
+        (opens-each Q (λ callee own server. new-queued J client callee own server) stage) (held-all Q daemon c.own.sessions h.queued))
       where
         by_turned : (daemon : Name) (t : Turned Caller CallStage) → EachRow (Leaves c.own.asker) t → EachRow (Held (IsQueued J client)) t
             → Kept (turns c (on_link link) (turn_of_kind (with_caller daemon c.own) ToDaemon t))
@@ -118,7 +137,7 @@ module _ (J : List Entry) (c : WholeClientNode) (h : ClientQueues J c.own.asker.
         by_turned daemon (Refuses why opened) l held = still-kept (turns c (on_link link) (Refuses why opened)) (tt, tt) h
         by_turned daemon (Handles row) l held =
             still-kept (turns c (on_link link) (turn_of_kind (with_caller daemon c.own) ToDaemon (Handles row))) (all-map (IsCallEntry c.own.asker) IsPlain (call-plain c.own.asker) row.entries l.enters)
-            (record { queued = with-all (IsQueued J client) daemon row.own.session held c.own.sessions h.queued; apart = apart-with daemon row.own.session c.own.sessions h.apart })
+            (record { queued = with-all (IsQueued J client) daemon row.own.session held.0 c.own.sessions h.queued; apart = apart-with daemon row.own.session c.own.sessions h.apart })
 
     turn-kept : (found : Option (Link ClientStage)) → Kept (turn c reading draw found)
     turn-kept None = idle-kept
@@ -188,7 +207,7 @@ module _ (J : List Entry) (c : WholeClientNode) (h : ClientQueues J c.own.asker.
         by_busy false = by_ticket (ticket_for daemon.kind c.own.asker.holdings)
 
     -- an operation is sent, which is entered first; what is entered behind it is plain
-    module _ (session : HeldSession) (q : IsQueued J client session) (operation : Operation) where
+    module _ (session : HeldSession) (q : IsQueued J client session) (there : session_with session.daemon c.own.sessions ≡ Some session) (operation : Operation) where
       sent-kept : (o : Outcome WholeClientNode) (rest : List Entry) → AllByRecursion IsPlain rest → o.out.entries ≡ entry.Sent (sent_now J client session operation q) ∷ rest
           → o.state.own.sessions ≡ put_session (record session { queue = pushed session.queue operation }) c.own.sessions → Kept o
       sent-kept o rest plain entries sessions =
@@ -202,6 +221,10 @@ module _ (J : List Entry) (c : WholeClientNode) (h : ClientQueues J c.own.asker.
                   (λ s off was. still-queued J client K s (others s off) was) c.own.sessions h.apart h.queued;
               apart = apart-put new c.own.sessions h.apart;
             }));
+            numbered = subst (AllByRecursion (IsPushed c.own.sessions)) (sym entries) (
+              (λ other is. ap (λ (s : HeldSession). s.queue.last + 1) (some-session session other (sym there ∙ is))),
+              all-map IsPlain (IsPushed c.own.sessions) (plain-pushed c.own.sessions) rest plain,
+            );
           }
         where
           to-others : (s : HeldSession) → same_name s.daemon session.daemon ≡ false → sent_to client s.daemon (entry.Sent (sent_now J client session operation q)) ≡ None
@@ -240,11 +263,11 @@ module _ (J : List Entry) (c : WholeClientNode) (h : ClientQueues J c.own.asker.
           (sends-on-kept (first_call session.daemon c.links))
 
     sends-kept : (daemon : Name) (operation : Operation) → Kept (sends c daemon operation reading draw)
-    sends-kept daemon operation = by_session (session_with daemon c.own.sessions) (held-all (IsQueued J client) daemon c.own.sessions h.queued)
+    sends-kept daemon operation = by_session (session_with daemon c.own.sessions) refl (held-all (IsQueued J client) daemon c.own.sessions h.queued)
       where
-        by_session : (found : Option HeldSession) → HeldIs (IsQueued J client) found → Kept (sends_in c operation reading draw found)
-        by_session None q = refuses-kept reason.NoSession
-        by_session (Some session) q = pushes-kept session q operation (push_reply session.queue) refl
+        by_session : (found : Option HeldSession) → session_with daemon c.own.sessions ≡ found → HeldIs (IsQueued J client) found → Kept (sends_in c operation reading draw found)
+        by_session None is q = refuses-kept reason.NoSession
+        by_session (Some session) is q = pushes-kept session q (with-its c.own.sessions daemon session is) operation (push_reply session.queue) refl
 
     submits-kept : (said : Command) → Kept (submits c reading draw said)
     submits-kept (command.Login services) = still-kept (logs_in c services) tt h

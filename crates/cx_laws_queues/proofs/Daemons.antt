@@ -10,7 +10,7 @@ use Rattle.cx_desk.specs.Handlers.{Handlers}
 use Rattle.cx_journal.specs.Behind.{EachBehind}
 use Rattle.cx_journal.specs.declared.entries.Entry.{Entry}
 use Rattle.cx_journal.specs.declared.entries.Entry.TheVariants as entry
-use Rattle.cx_laws_queues.proofs.Entries.{IsInOrderBy, IsOf, IsPlain, Untouched, count-first, count-still, plain-of, plain-ordered, plain-untouched, quiet-plain}
+use Rattle.cx_laws_queues.proofs.Entries.{IsInOrderBy, IsOf, IsPlain, IsSilent, Untouched, count-first, count-still, plain-of, plain-ordered, plain-silent, plain-untouched, quiet-plain}
 use Rattle.cx_laws_queues.specs.Counting.{handled_since}
 use Rattle.cx_laws_session.proofs.Lists.{all-map, some-of}
 use Rattle.cx_laws_session.proofs.Moves.{AdmitsOne, Admitting, Comes, Ending, IsQuiet, KeepsLast, Rested, Rests, Resuming, StepComes, TakesNone, TakesOne}
@@ -50,6 +50,7 @@ pub record DaemonKept (J es : List Entry) (name : Name) (new : Book Authority) :
   pub ordered : EachBehind IsInOrderBy J es
   pub counts : Counts (J ++ es) name new
   pub own : AllByRecursion (IsOf (node.Entity name)) es
+  pub silent : AllByRecursion IsSilent es
 
 module _ (handlers : Handlers) (name : Name) (J : List Entry) (book new : Book Authority) (had has : Served → Type 0) (es : List Entry) (h : Counts J name book) where
   -- what is plain stays out of it
@@ -61,6 +62,7 @@ module _ (handlers : Handlers) (name : Name) (J : List Entry) (book new : Book A
         counts = all-map (KeepsLast book) (SessionCounts (J ++ es) name new.next)
             (λ s keeps. kept-counts J (J ++ es) name book new.next le h s keeps (λ below. count-still name s.number J es (all-map IsPlain (Untouched name) (plain-untouched name) es plain))) new.live lasts;
         own = all-map IsPlain (IsOf (node.Entity name)) (plain-of (node.Entity name)) es plain;
+        silent = all-map IsPlain IsSilent plain-silent es plain;
       }
 
   rest-left : (rest : List Entry) → AllByRecursion IsQuiet rest → AllByRecursion IsPlain rest
@@ -113,6 +115,7 @@ module _ (handlers : Handlers) (name : Name) (J : List Entry) (book new : Book A
         ap (λ (n : Name). node.Entity n) t.daemon,
         all-map IsPlain (IsOf (node.Entity name)) (plain-of (node.Entity name)) t.rest (rest-left t.rest t.quiet),
       );
+      silent = (tt, all-map IsPlain IsSilent plain-silent t.rest (rest-left t.rest t.quiet));
     })
 
   rests-kept : Rests handlers name book had has es new → DaemonKept J es name new
@@ -154,6 +157,7 @@ module _ (handlers : Handlers) (name : Name) (J : List Entry) (book new : Book A
         ap (λ (n : Name). node.Entity n) r.daemon,
         all-map IsPlain (IsOf (node.Entity name)) (plain-of (node.Entity name)) r.rest (rest-left r.rest r.quiet),
       );
+      silent = (tt, all-map IsPlain IsSilent plain-silent r.rest (rest-left r.rest r.quiet));
     })
 
   comes-kept : Comes handlers name book had has es new → DaemonKept J es name new
@@ -171,4 +175,5 @@ module _ (handlers : Handlers) (name : Name) (J : List Entry) (book new : Book A
         ordered = plain-ordered es J plain;
         counts = subst (AllByRecursion (SessionCounts (J ++ es) name new.next)) (sym r.lives) tt;
         own = all-map IsPlain (IsOf (node.Entity name)) (plain-of (node.Entity name)) es plain;
+        silent = all-map IsPlain IsSilent plain-silent es plain;
       }

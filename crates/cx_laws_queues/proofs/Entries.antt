@@ -29,6 +29,15 @@ IsPlain (entry.Sent s) = ⊥
 IsPlain (entry.Handled h) = ⊥
 IsPlain _ = Unit {0}
 
+-- nothing is sent
+abbrev pub IsSilent : Entry → Type 0
+IsSilent (entry.Sent s) = ⊥
+IsSilent _ = Unit {0}
+
+pub plain-silent : (e : Entry) → IsPlain e → IsSilent e
+plain-silent (entry.Sent x) h = h
+plain-silent _ h = tt
+
 -- what is sent, admitted and handled is so at this node
 abbrev pub IsOf : NodeName → Entry → Type 0
 IsOf who (entry.Admitted a) = node.Entity a.daemon ≡ who

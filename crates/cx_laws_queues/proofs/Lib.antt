@@ -1,7 +1,12 @@
 pub mod Entries
 pub mod Queues
 pub mod Sessions
+pub mod Drawing
 pub mod Calls
 pub mod Clients
 pub mod Daemons
 pub mod Runs
+pub mod Numbers
+pub mod Places
+pub mod ClientCookies
+pub mod Cookies

@@ -28,7 +28,7 @@ run-end last [] asks run = run
 run-end last (first ∷ front) asks run = run-end last front asks run.1
 
 -- one number more behind a run
-run-more : (last : ℕ) (ask : Operation) (asks : Asks) → IsRun last asks → IsRun (last + 1) (asks ++ (last + 1, ask) ∷ [])
+pub run-more : (last : ℕ) (ask : Operation) (asks : Asks) → IsRun last asks → IsRun (last + 1) (asks ++ (last + 1, ask) ∷ [])
 run-more last ask [] run = (omega arith, tt)
 run-more last ask (first ∷ asks) run = (omega (arith, length-append asks ((last + 1, ask) ∷ [])), run-more last ask asks run.1)
 

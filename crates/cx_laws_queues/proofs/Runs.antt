@@ -44,20 +44,20 @@ use Rattle.cx_session.specs.declared.session.Session.{Session}
 -- ---- an entity
 
 -- what is so of an entity behind this journal
-abbrev EntityQueues : List Entry → EntityNode → Type 0
+abbrev pub EntityQueues : List Entry → EntityNode → Type 0
 EntityQueues J (OfClient c) = ClientQueues J c.own.asker.name c.own.sessions
 EntityQueues J (OfDaemon d) = Counts J d.node.own.asker.name d.book
 
-abbrev AllQueues : List Entry → List EntityNode → Type 0
+abbrev pub AllQueues : List Entry → List EntityNode → Type 0
 AllQueues J entities = AllByRecursion (EntityQueues J) entities
 
 -- what is so behind a step of an entity: what it enters is in order, and is of its own node
-record EntityBehind (J : List Entry) (name : Name) (o : Outcome EntityNode) : Type 0 where
+pub record EntityBehind (J : List Entry) (name : Name) (o : Outcome EntityNode) : Type 0 where
   ordered : EachBehind IsInOrderBy J o.out.entries
-  own : AllByRecursion (IsOf (node.Entity name)) o.out.entries
+  pub own : AllByRecursion (IsOf (node.Entity name)) o.out.entries
   queues : EntityQueues (J ++ o.out.entries) o.state
 
-entity-behind : (nodes : Nodes) (h : Happening) (J : List Entry) (e : EntityNode) → EntityQueues J e
+pub entity-behind : (nodes : Nodes) (h : Happening) (J : List Entry) (e : EntityNode) → EntityQueues J e
     → EntityBehind J (asker_in e).name (entity_rule nodes.handlers e h.input h.reading h.draw)
 entity-behind nodes h J (OfClient c) queues =
     let o = whole_client_rule c h.input h.reading h.draw in
@@ -86,9 +86,9 @@ left-queues J es (OfDaemon d) left counts = counts-still J es d.node.own.asker.n
 -- ---- all entities
 
 -- what is so behind a step of any node
-record RunBehind (J : List Entry) (s : Stepped) : Type 0 where
+pub record RunBehind (J : List Entry) (s : Stepped) : Type 0 where
   ordered : EachBehind IsInOrderBy J s.out.entries
-  queues : AllQueues (J ++ s.out.entries) s.nodes.entities
+  pub queues : AllQueues (J ++ s.out.entries) s.nodes.entities
 
 all-left : (J es : List Entry) (entities : List EntityNode) → ((name : Name) → AllByRecursion (Untouched name) es) → AllQueues J entities → AllQueues (J ++ es) entities
 all-left J es [] left queues = tt
@@ -115,7 +115,7 @@ entity-run J nodes h name (Some e) is queues =
     record { ordered = b.ordered; queues = replaced-queues J o.out.entries name o.state b.queues elsewhere nodes.entities queues }
 
 -- what the monitor enters sends and handles nothing
-monitor-plain : (e : Entry) → IsMute node.Monitor e → IsPlain e
+pub monitor-plain : (e : Entry) → IsMute node.Monitor e → IsPlain e
 monitor-plain (journal.Admitted x) h = absurd h
 monitor-plain (journal.Handled x) h = absurd h
 monitor-plain (journal.Sent x) h = absurd cc
@@ -156,13 +156,13 @@ monitor-run J nodes h queues =
       queues = all-left J o.out.entries nodes.entities (untouched o.out.entries mute) queues;
     }
 
-node-run : (J : List Entry) (nodes : Nodes) (h : Happening) (n : NodeName) → AllQueues J nodes.entities → RunBehind J (steps_of nodes h n)
+pub node-run : (J : List Entry) (nodes : Nodes) (h : Happening) (n : NodeName) → AllQueues J nodes.entities → RunBehind J (steps_of nodes h n)
 node-run J nodes h node.Monitor queues = monitor-run J nodes h queues
 node-run J nodes h (node.Entity name) queues = entity-run J nodes h name (entity_of name nodes) refl queues
 
 -- ---- every list of events
 
-abbrev entries_in : List Entered → List Entry
+abbrev pub entries_in : List Entered → List Entry
 entries_in entered = map (λ (x : Entered). x.entry) entered
 
 -- behind these events
@@ -186,7 +186,7 @@ behind-from (h ∷ hs) nodes J queues =
     }
 
 -- no session lives at first, at any node
-first-queues : (J : List Entry) (es : List Declared) → AllQueues J (map entity_in es)
+pub first-queues : (J : List Entry) (es : List Declared) → AllQueues J (map entity_in es)
 first-queues J [] = tt
 first-queues J (e ∷ es) = (by_kind (is_daemon_type e.name.kind), first-queues J es)
   where
@@ -194,7 +194,7 @@ first-queues J (e ∷ es) = (by_kind (is_daemon_type e.name.kind), first-queues 
     by_kind true = tt
     by_kind false = record { queued = tt; apart = tt }
 
-leaks-plain : (leaks : List Leak) → AllByRecursion IsPlain (entries_in (map (λ (l : Leak). record { line = l.line; reading = 0; entry = journal.Leaked l.client }) leaks))
+pub leaks-plain : (leaks : List Leak) → AllByRecursion IsPlain (entries_in (map (λ (l : Leak). record { line = l.line; reading = 0; entry = journal.Leaked l.client }) leaks))
 leaks-plain [] = tt
 leaks-plain (l ∷ leaks) = (tt, leaks-plain leaks)
 

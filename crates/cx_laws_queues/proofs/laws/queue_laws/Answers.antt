@@ -1,3 +1,4 @@
+use Rattle.cx_laws_queues.proofs.Cookies.{cookies-numbered, schedule-cookies-numbered}
 use Rattle.cx_laws_queues.proofs.Runs.{all-handled-in-order, all-queued, all-sent-in-order, schedules-in-order}
 use Rattle.cx_laws_queues.proofs.laws.queue_laws.Goals as goal
 
@@ -7,4 +8,6 @@ returns c = record {
   handled = all-handled-in-order;
   queued = all-queued;
   schedules = schedules-in-order;
+  cookies = cookies-numbered;
+  schedule_cookies = schedule-cookies-numbered;
 }
