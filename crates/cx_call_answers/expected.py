@@ -4,24 +4,35 @@
     ./expected.py rows > stdin
     ./expected.py answers > stdout
 
-An independent implementation recorded the runs. What is tried behind them is made here. Nothing of it was taken from the crates.
+An independent implementation recorded the runs. What is tried behind them is made here by docs/formats.md and docs/rules.md, with ciphers bit by
+bit. Nothing of it was taken from the crates.
 """
 
 import os
 import sys
 
-sys.path.append(os.path.join(os.path.dirname(os.path.abspath(__file__)), "..", "cx_answers_machines"))
+FOLDER = os.path.dirname(os.path.abspath(__file__))
+sys.path += [os.path.join(FOLDER, "..", other) for other in ("cx_answers_machines", "cx_service_answers")]
 from called import CALLED, CallerRun, tried
+from calling import LoneCaller
+from hostile import tried_hostile
+from told import tried_told
+
+
+def runs():
+    """The runs, each with what is tried behind it."""
+    yield from ((CallerRun(name), (tried,)) for name in CALLED)
+    yield LoneCaller("lost_message"), (tried_hostile, tried_told)
 
 
 def main():
-    for name in CALLED:
-        run = CallerRun(name)
+    for run, behind in runs():
         for line in run.rows() if sys.argv[1] == "rows" else run.answers():
             print(line)
-        for row, told in tried(run):
-            for line in [row] if sys.argv[1] == "rows" else told:
-                print(line)
+        for each in behind:
+            for row, told in each(run):
+                for line in [row] if sys.argv[1] == "rows" else told:
+                    print(line)
 
 
 if __name__ == "__main__":

@@ -2,6 +2,9 @@
 //! and its draw. For each event the program prints what the client gave, and at the end of a run its journal.
 #![tactic(auto)]
 
+mod links;
+
+use crate::links::calls;
 use cx_answers_rows::{Nobody, Rows};
 use std::io;
 
@@ -10,7 +13,10 @@ fn main(rt: HostRuntime) -> io::Result<()> {
     let text = io::read_to_string(alloc, rt.stdin())?;
     let mut rows = Rows::new(alloc, Nobody {});
     for row in text.lines() {
-        let told = rows.told(alloc, row)?;
+        let told = match row.strip_prefix("calls ") {
+            Some(rest) => calls(alloc, &mut rows, rest)?,
+            None => rows.told(alloc, row)?,
+        };
         print!(rt; "{told}")?;
     }
     Ok(())
