@@ -144,6 +144,7 @@ def each_alone(run):
     for unit, tell in due_frames(run):
         link = run.link(unit)
         play = run.at(unit, f"{named(unit)}: each byte comes alone")
+        play.numbers[NODE] = int(place_of(run.blocks[unit.event][0])[2])
         play.links[link].taken += unit.bytes
         tell(play, link)
         row, told = play.lines.pop()
@@ -416,7 +417,7 @@ def wrong_dones(run):
 def other_secrets(run, unit, good):
     """AUTH_SIGNATURE under another secret than the one that was told: its tag is wrong."""
     play = run.at(unit, "AUTH_DONE: another secret, and AUTH_SIGNATURE under the first one")
-    play.arrives(FIRST, good)
+    play.arrives(FIRST, plain_frame(6, good))
     play.at_done(FIRST, SECRET)
     play.comes(NODE, FIRST, run.unit(FIRST, 7).bytes)
     play.refuses(NODE, FIRST, "bad-tag")
