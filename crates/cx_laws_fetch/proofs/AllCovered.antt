@@ -34,7 +34,7 @@ use Rattle.cx_laws_fetch.specs.Fetches.{AreOfMoments, IsAsking, IsMoment, IsOfMo
 
 -- ---- the life of a daemon's service
 
-service-life : (setup : Setup) (service : EntityType) → is_daemon_type service ≡ true → life_in setup service ≡ (first_state setup).life
+pub service-life : (setup : Setup) (service : EntityType) → is_daemon_type service ≡ true → life_in setup service ≡ (first_state setup).life
 service-life setup Mds is = refl
 service-life setup Osd is = refl
 service-life setup Mgr is = refl

@@ -10,3 +10,13 @@ pub mod Transcripts
 pub mod Banners
 pub mod Telling
 pub mod Lives
+pub mod Turns
+pub mod HeardFrames
+pub mod WrittenFrames
+pub mod AskerTells
+pub mod ClientTells
+pub mod DaemonTells
+pub mod AllTold
+pub mod SameChallenge
+pub mod OwnChallenges
+pub mod RepliedMoments
