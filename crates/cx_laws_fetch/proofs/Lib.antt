@@ -13,6 +13,7 @@ pub mod Lives
 pub mod Turns
 pub mod HeardFrames
 pub mod WrittenFrames
+pub mod AskerFacts
 pub mod AskerTells
 pub mod ClientTells
 pub mod DaemonTells

@@ -25,7 +25,7 @@ use Rattle.cx_stream.specs.PlainStreams.{IsPlain}
 use Rattle.cx_wire.specs.Logins.{authenticate_layout, is_version}
 use Rattle.cx_wire.specs.declared.logins.Authenticate.{Authenticate}
 use Rattle.cx_laws_keys.proofs.Reading.{front, unseen}
-use Rattle.cx_laws_fetch.proofs.AskerTells.{HasAnswered, HasHeard}
+use Rattle.cx_laws_fetch.proofs.AskerFacts.{HasAnswered, HasHeard}
 use Rattle.cx_laws_fetch.proofs.Banners.{IsRead, read-written}
 use Rattle.cx_laws_fetch.proofs.HeardFrames.{HeardAnswer, IsAnswer}
 use Rattle.cx_laws_fetch.proofs.WrittenFrames.{IsWritten, answer_frame, answer_text}
