@@ -95,45 +95,45 @@ module _ (past : List Point) (p : Point) where
 
 -- the entity whose event it is
 module _ (past : List Point) (nodes : Nodes) (h : Happening) where
-  abbrev p_ : Point
-  p_ = record { nodes = nodes; happening = h }
+  abbrev point : Point
+  point = record { nodes = nodes; happening = h }
 
   own-told : (name : Name) → h.node ≡ node.Entity name → (e : EntityNode) → (asker_in e).name ≡ name → (steps nodes h).out ≡ (entity_rule nodes.handlers e h.input h.reading h.draw).out
-      → EntityTold past e → EntityTold (p_ ∷ past) (entity_rule nodes.handlers e h.input h.reading h.draw).state
+      → EntityTold past e → EntityTold (point ∷ past) (entity_rule nodes.handlers e h.input h.reading h.draw).state
   own-told name here (OfClient c) named is told =
       let o : Outcome WholeClientNode = whole_client_rule c h.input h.reading h.draw in
       let own : Name = c.own.asker.name in
       let at_own : h.node ≡ node.Entity own = here ∙ ap (λ (n : Name). node.Entity n) (sym named) in
       let behind : AllByRecursion (ClientLinkTold (DrewBehind (WasDrawn past own) h.draw o.out) (AskedBehind (WasAsked past own) h.reading)) o.state.links =
       client-tells (WasDrawn past own) (WasAsked past own) c h.reading h.draw told h.input in
-      subst (λ (n : Name). AllByRecursion (ClientLinkTold (WasDrawn (p_ ∷ past) n) (WasAsked (p_ ∷ past) n)) o.state.links) (sym (whole-named c h.input h.reading h.draw))
-      (all-map (ClientLinkTold (DrewBehind (WasDrawn past own) h.draw o.out) (AskedBehind (WasAsked past own) h.reading)) (ClientLinkTold (WasDrawn (p_ ∷ past) own) (WasAsked (p_ ∷ past) own))
-      (client-map (DrewBehind (WasDrawn past own) h.draw o.out) (WasDrawn (p_ ∷ past) own) (AskedBehind (WasAsked past own) h.reading) (WasAsked (p_ ∷ past) own)
-      (drawn-now past p_ own at_own o.out is) (asked-now past p_ own at_own o.out is)) o.state.links behind)
+      subst (λ (n : Name). AllByRecursion (ClientLinkTold (WasDrawn (point ∷ past) n) (WasAsked (point ∷ past) n)) o.state.links) (sym (whole-named c h.input h.reading h.draw))
+      (all-map (ClientLinkTold (DrewBehind (WasDrawn past own) h.draw o.out) (AskedBehind (WasAsked past own) h.reading)) (ClientLinkTold (WasDrawn (point ∷ past) own) (WasAsked (point ∷ past) own))
+      (client-map (DrewBehind (WasDrawn past own) h.draw o.out) (WasDrawn (point ∷ past) own) (AskedBehind (WasAsked past own) h.reading) (WasAsked (point ∷ past) own)
+      (drawn-now past point own at_own o.out is) (asked-now past point own at_own o.out is)) o.state.links behind)
   own-told name here (OfDaemon d) named is told =
       let o : Outcome DaemonState = daemon_step nodes.handlers d h.input h.reading h.draw in
       let own : Name = d.node.own.asker.name in
       let at_own : h.node ≡ node.Entity own = here ∙ ap (λ (n : Name). node.Entity n) (sym named) in
       let behind : AllByRecursion (DaemonLinkTold (DrewBehind (WasDrawn past own) h.draw o.out) (AskedBehind (WasAsked past own) h.reading)) o.state.node.links =
       daemon-tells (WasDrawn past own) (WasAsked past own) nodes.handlers d h.input h.reading h.draw told in
-      subst (λ (n : Name). AllByRecursion (DaemonLinkTold (WasDrawn (p_ ∷ past) n) (WasAsked (p_ ∷ past) n)) o.state.node.links) (sym (daemon-named nodes.handlers d h.input h.reading h.draw))
-      (all-map (DaemonLinkTold (DrewBehind (WasDrawn past own) h.draw o.out) (AskedBehind (WasAsked past own) h.reading)) (DaemonLinkTold (WasDrawn (p_ ∷ past) own) (WasAsked (p_ ∷ past) own))
-      (daemon-map (DrewBehind (WasDrawn past own) h.draw o.out) (WasDrawn (p_ ∷ past) own) (AskedBehind (WasAsked past own) h.reading) (WasAsked (p_ ∷ past) own)
-      (drawn-now past p_ own at_own o.out is) (asked-now past p_ own at_own o.out is)) o.state.node.links behind)
+      subst (λ (n : Name). AllByRecursion (DaemonLinkTold (WasDrawn (point ∷ past) n) (WasAsked (point ∷ past) n)) o.state.node.links) (sym (daemon-named nodes.handlers d h.input h.reading h.draw))
+      (all-map (DaemonLinkTold (DrewBehind (WasDrawn past own) h.draw o.out) (AskedBehind (WasAsked past own) h.reading)) (DaemonLinkTold (WasDrawn (point ∷ past) own) (WasAsked (point ∷ past) own))
+      (daemon-map (DrewBehind (WasDrawn past own) h.draw o.out) (WasDrawn (point ∷ past) own) (AskedBehind (WasAsked past own) h.reading) (WasAsked (point ∷ past) own)
+      (drawn-now past point own at_own o.out is) (asked-now past point own at_own o.out is)) o.state.node.links behind)
 
   -- it stands in the place of the one before
-  replaced-told : (name : Name) (new : EntityNode) → EntityTold (p_ ∷ past) new → (entities : List EntityNode) → AllTold past entities
-      → AllTold (p_ ∷ past) (map (λ (e : EntityNode). if is_of name e then new else e) entities)
+  replaced-told : (name : Name) (new : EntityNode) → EntityTold (point ∷ past) new → (entities : List EntityNode) → AllTold past entities
+      → AllTold (point ∷ past) (map (λ (e : EntityNode). if is_of name e then new else e) entities)
   replaced-told name new here [] h = tt
   replaced-told name new here (e ∷ entities) h = (by_test (is_of name e), replaced-told name new here entities h.1)
     where
-      by_test : (t : Bool) → EntityTold (p_ ∷ past) (if t then new else e)
+      by_test : (t : Bool) → EntityTold (point ∷ past) (if t then new else e)
       by_test true = here
-      by_test false = stays-told past p_ e h.0
+      by_test false = stays-told past point e h.0
 
   entity-told : (name : Name) → h.node ≡ node.Entity name → (found : Option EntityNode) → entity_of name nodes ≡ found → AllTold past nodes.entities
-      → AllTold (p_ ∷ past) (entity_steps nodes h name found).nodes.entities
-  entity-told name here None is told = all-stay past p_ nodes.entities told
+      → AllTold (point ∷ past) (entity_steps nodes h name found).nodes.entities
+  entity-told name here None is told = all-stay past point nodes.entities told
   entity-told name here (Some e) is told =
       let stepped : steps nodes h ≡ entity_steps nodes h name (Some e) =
       ap (λ (n : NodeName). steps_of nodes h n) here ∙ ap (λ (f : Option EntityNode). entity_steps nodes h name f) is in
@@ -148,10 +148,10 @@ module _ (past : List Point) (nodes : Nodes) (h : Happening) where
   same-entities o None saved = refl
   same-entities o (Some left) None = refl
 
-  node-told : (n : NodeName) → h.node ≡ n → AllTold past nodes.entities → AllTold (p_ ∷ past) (steps_of nodes h n).nodes.entities
+  node-told : (n : NodeName) → h.node ≡ n → AllTold past nodes.entities → AllTold (point ∷ past) (steps_of nodes h n).nodes.entities
   node-told node.Monitor here told =
       let o : Outcome MonitorNode = monitor_rule nodes.monitor h.input h.reading h.draw in
-      subst (λ (entities : List EntityNode). AllTold (p_ ∷ past) entities) (sym (same-entities o h.left o.out.save)) (all-stay past p_ nodes.entities told)
+      subst (λ (entities : List EntityNode). AllTold (point ∷ past) entities) (sym (same-entities o h.left o.out.save)) (all-stay past point nodes.entities told)
   node-told (node.Entity name) here told = entity-told name here (entity_of name nodes) refl told
 
 -- ---- every list of events

@@ -205,7 +205,7 @@ found-open {T} P kept_of (l ∷ links) link s r is h = by_kept (kept_of l.stage)
         → (first_open kept_of links ≡ Some (link, (s, r)) → P link × (kept_of link.stage ≡ Some (s, r))) → P link × (kept_of link.stage ≡ Some (s, r))
     by_kept None keeps found rest = rest found
     by_kept (Some kept) keeps found rest =
-        let both : _ = some_is {X = Link T × (Secured × Requests)} (l, kept) (link, (s, r)) found in
+        let both : (l, kept) ≡ (link, (s, r)) = some_is {X = Link T × (Secured × Requests)} (l, kept) (link, (s, r)) found in
         let same : l ≡ link = ap (λ (x : Link T × (Secured × Requests)). x.0) both in
         let what : kept ≡ (s, r) = ap (λ (x : Link T × (Secured × Requests)). x.1) both in
         (subst P same h.0, ap (λ (k : Link T). kept_of k.stage) (sym same) ∙ keeps ∙ ap (λ (x : Secured × Requests). some_of x) what)
@@ -213,6 +213,7 @@ found-open {T} P kept_of (l ∷ links) link s r is h = by_kept (kept_of l.stage)
         some_of : Secured × Requests → Option (Secured × Requests)
         some_of x = Some x
 
+-- a stage that keeps keys and requests is the open one
 pub kept-is : (stage : Stage) (s : Secured) (r : Requests) → kept_open stage ≡ Some (s, r) → stage ≡ Open s r
 kept-is (AwaitsBanner asked) s r e = absurd cc
 kept-is (AwaitsHello asked) s r e = absurd cc
