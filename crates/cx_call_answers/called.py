@@ -14,6 +14,8 @@ CALLED = {
     "resumed_session": "a session that is taken up again behind an answer that was lost",
     "reset_session": "a session that the daemon dropped, and another one",
     "two_clients_two_daemons": "two clients and two daemons",
+    "wrong_challenge": "an authorizer that was made for another link",
+    "renewed_tickets": "a ticket that was renewed is shown",
 }
 
 
