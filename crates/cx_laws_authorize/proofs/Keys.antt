@@ -1,5 +1,5 @@
 -- What a daemon draws and seals on a guest's link until it has signed is as the uses of its keys allow.
-use Rattle.std.proofs.Common.{◌≡◌, ◌==◌, ℕ, ◌<◌, ◌^◌, Bool, true, false, List, [], ◌∷◌, ◌++◌, length, take, Option, Some, None, Result, Ok, Err, inl, inr, refl, sym, ap, subst, arith}
+use Rattle.std.proofs.Common.{◌≡◌, ◌==◌, ℕ, ◌<◌, ◌≤◌, ◌^◌, Bool, true, false, List, [], ◌∷◌, ◌++◌, length, slice_index, take, Option, Some, None, Result, Ok, Err, inl, inr, refl, sym, ap, ◌∙◌, subst, arith}
 use Rattle.std.specs.Prelude.{not, if◌then◌else◌}
 use Rattle.std.specs.List.{AllByRecursion, list_any}
 use Rattle.cx_authorize.specs.Daemon.{Authority, Awaited}
@@ -38,7 +38,7 @@ use Rattle.cx_steps.specs.declared.seals.SealEntry.TheVariants as seal
 use Rattle.cx_laws_authorize.proofs.Backing.{opened-issued}
 use Rattle.cx_laws_authorize.proofs.Opened.{IsOpening, ShowsTicket, first-all, first-opened, second-all, second-opened}
 use Rattle.cx_laws_keys.proofs.Journal.{IsNotIssued}
-use Rattle.cx_laws_keys.proofs.Known.{Inv, IsAllowed, IsOfAcceptor, IsOfConnector, RepliesTo}
+use Rattle.cx_laws_keys.proofs.Known.{Inv, IsAllowed, IsOfAcceptor, IsOfConnector, RepliesTo, counter_at}
 use Rattle.cx_laws_keys.proofs.Lists.{all-append, all-map}
 use Rattle.cx_laws_keys.proofs.Premises.{AreGranted, behind, behind-append, granted-first, granted-rest}
 use Rattle.cx_laws_keys.proofs.Reading.{challenge_no_reply, read_reply}
@@ -46,7 +46,7 @@ use Rattle.cx_laws_keys.proofs.Steps.{inv-all, inv-drawn}
 use Rattle.cx_laws_keys.proofs.Uses.{AtDaemon, Connected, Grows, IsConnected, Means, Ticketed, Use, Uses, connected-grows, grows-one, session_use, stays, with_key, WholeRun}
 use Rattle.cx_laws_login.proofs.Facts.{IsSameWay, MaySeal}
 use Rattle.cx_laws_keys.proofs.Uses.{AreGenerated}
-use Rattle.cx_laws_login.proofs.Issuing.{acceptor-sends, connector-sends, short-connection}
+use Rattle.cx_laws_login.proofs.Issuing.{acceptor-counts, acceptor-sends, connector-counts, connector-sends, short-connection}
 use Rattle.cx_laws_login.proofs.Rows.{Allowed, FrameOk, frame-ok}
 
 -- ---- keys of a guest's link
@@ -260,7 +260,7 @@ module _ (run : WholeRun) (whole : List Logged) (n : NodeName) (line : ℕ) (us 
     secret = connection_of b.draw
 
     abbrev purpose : Use
-    purpose = Connected n b.link.number ticket.name (AtDaemon b.own.name.kind nonce)
+    purpose = Connected n b.link.number ticket.name (AtDaemon b.own.name.kind (raised nonce))
 
     abbrev vs : Uses
     vs = with_key us (take 16 secret) purpose
@@ -288,20 +288,27 @@ module _ (run : WholeRun) (whole : List Logged) (n : NodeName) (line : ℕ) (us 
 
     host : HostKeys vs (acceptor_keys secret) ticket.name
     host = record {
-      connected = record { acceptor = n; number = b.link.number; tie = AtDaemon b.own.name.kind nonce; means = inl (refl, refl) };
+      connected = record { acceptor = n; number = b.link.number; tie = AtDaemon b.own.name.kind (raised nonce); means = inl (refl, refl) };
       out = acceptor-sends b.draw drawn;
       into = connector-sends b.draw drawn;
     }
 
-    -- the secret of the reply is that of this link
+    -- the reply raises the nonce that it answers, and its secret is that of this link
     reply-says : RepliesTo vs ticket.name (authorize_reply_content nonce secret)
     reply-says = λ x e.
-        let same : x.secret ≡ secret = read_reply (record { nonce_plus_one = raised nonce; secret = secret }) x (raised-below nonce) (short-connection b.draw) e in
+        let same = read_reply (record { nonce_plus_one = raised nonce; secret = secret }) x (raised-below nonce) (short-connection b.draw) e in
         record {
           acceptor = n;
           number = b.link.number;
-          tie = AtDaemon b.own.name.kind nonce;
-          means = inl (ap (λ (s : List ℕ). take 16 s) (sym same), refl);
+          service = b.own.name.kind;
+          means = inl (
+            ap (λ (s : List ℕ). take 16 s) (sym same.1),
+            ap (λ (m : ℕ). Connected n b.link.number ticket.name (AtDaemon b.own.name.kind m)) (sym same.0),
+          );
+          into = subst (λ (s : List ℕ). slice_index s 16 < 128) (sym same.1) (acceptor-sends b.draw drawn);
+          out = subst (λ (s : List ℕ). 128 ≤ slice_index s 28) (sym same.1) (connector-sends b.draw drawn);
+          counts_into = ap (λ (s : List ℕ). counter_at s 20) same.1 ∙ acceptor-counts b.draw drawn;
+          counts_out = ap (λ (s : List ℕ). counter_at s 32) same.1 ∙ connector-counts b.draw drawn;
         }
 
     done-keys : (r : Result Finished BytesFault) → (Means vs ticket.session (Ticketed ticket.name b.own.name.kind) → FinishedKeys vs (acceptor_keys secret) r)

@@ -70,11 +70,11 @@ use Rattle.cx_wire.specs.Logins as shown_layout
 use Rattle.cx_wire.specs.declared.authorizers.AuthorizeChallenge as shown_challenge
 use Rattle.cx_wire.specs.declared.authorizers.AuthorizeReply as shown_reply
 use Rattle.cx_laws_calling.proofs.Sessions.{CallKeys, HeldOk, HoldingsOk, IsSession, found-ticket, same-entity}
-use Rattle.cx_laws_keys.proofs.Known.{Inv, IsAllowed}
+use Rattle.cx_laws_keys.proofs.Known.{HasReply, Inv, IsAllowed, reply-connected}
 use Rattle.cx_laws_keys.proofs.Lists.{all-append}
 use Rattle.cx_laws_keys.proofs.Premises.{AreGranted, granted-first}
 use Rattle.cx_laws_keys.proofs.Reading.{authorize_no_connection, authorize_no_info, authorize_no_reply}
-use Rattle.cx_laws_keys.proofs.Uses.{IsConnected, Login, Means, Ticketed, Uses, WholeRun}
+use Rattle.cx_laws_keys.proofs.Uses.{Login, Means, Ticketed, Uses, WholeRun}
 use Rattle.cx_laws_login.proofs.AskerRows.{NeverExcepted}
 use Rattle.cx_laws_login.proofs.Facts.{HasConnection, IsSameWay, seals-own}
 use Rattle.cx_laws_login.proofs.Opens.{unlocked-allowed, unlocked_says}
@@ -328,20 +328,24 @@ module _ (run : WholeRun) (whole_log : List Logged) (n : NodeName) (line : ℕ) 
   abbrev Grants : List SealEntry → Type 0
   Grants es = AreGranted run.leaked whole_log n line log es
 
-  -- the secret of the reply that opened is that of a link to this entity: a daemon sealed it so
-  reply-connects : (key bytes : List ℕ) (x : AuthorizeReply) → IsSession us n key → Grants (reply_in key bytes).seals → (reply_in key bytes).value ≡ Some x
-      → HasConnection us n (take 16 x.secret)
-  reply-connects key bytes x h g e = record { name = h.name; own = h.own; connected = by_use h.means }
+  -- whose reply it is that opened: a daemon sealed it for a link to this entity, behind the nonce that it raises
+  pub reply-ties : (key bytes : List ℕ) (x : AuthorizeReply) → (h : IsSession us n key) → Grants (reply_in key bytes).seals → (reply_in key bytes).value ≡ Some x
+      → HasReply us h.name x
+  reply-ties key bytes x h g e = by_use h.means
     where
       same : Some h.name ≡ Some name
       same = ap (λ (m : Name). Some m) (same-entity n h.name name h.own here)
 
-      by_use : Means us key (Login h.name) ⊎ ((service : EntityType) × Means us key (Ticketed h.name service)) → IsConnected us (take 16 x.secret) h.name
+      by_use : Means us key (Login h.name) ⊎ ((service : EntityType) × Means us key (Ticketed h.name service)) → HasReply us h.name x
       by_use (inl m) =
           let s = unlocked_says run whole_log n line us log J authorize_reply_layout.form kind.Session key bytes (Login h.name) i m (free key (Login h.name) m same) g x e in s.2.2 x s.1
       by_use (inr (service, m)) =
           let s = unlocked_says run whole_log n line us log J authorize_reply_layout.form kind.Session key bytes (Ticketed h.name service) i m (free key (Ticketed h.name service) m same) g x e in
           s.2 x s.1
+
+  reply-connects : (key bytes : List ℕ) (x : AuthorizeReply) → IsSession us n key → Grants (reply_in key bytes).seals → (reply_in key bytes).value ≡ Some x
+      → HasConnection us n (take 16 x.secret)
+  reply-connects key bytes x h g e = record { name = h.name; own = h.own; connected = reply-connected us h.name x (reply-ties key bytes x h g e) }
 
   module _ (a : CallArrival) where
     -- the ticket that is shown is one that is held, or was

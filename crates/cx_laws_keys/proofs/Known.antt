@@ -1,6 +1,7 @@
 -- What is known of a run so far: what each key is for, and that all that is sealed and signed under it says what its use allows.
-use Rattle.std.proofs.Common.{◌≡◌, ℕ, ◌^◌, ◌<◌, ◌≤◌, List, [], ◌∷◌, length, take, Some, inl, inr, subst, arith, ◌⊎◌}
+use Rattle.std.proofs.Common.{◌≡◌, ℕ, ◌+◌, ◌^◌, ◌<◌, ◌≤◌, List, [], ◌∷◌, length, slice_index, take, Some, inl, inr, subst, arith, ◌⊎◌}
 use Rattle.std.specs.Prelude.{Contains}
+use Rattle.std.specs.Int.{from_le_bytes, w64}
 use Rattle.std.specs.List.{AllByRecursion}
 use Rattle.cx_base.specs.Names.{Name}
 use Rattle.cx_base.specs.declared.kinds.EntityType.{EntityType}
@@ -24,7 +25,7 @@ use Rattle.cx_steps.specs.declared.seals.SealEntry.{SealEntry}
 use Rattle.cx_steps.specs.declared.seals.SealEntry.TheVariants as entry
 use Rattle.cx_steps.specs.declared.seals.SealMark.{SealMark}
 use Rattle.cx_laws_keys.proofs.Lists.{some-of, some-with, all-map}
-use Rattle.cx_laws_keys.proofs.Uses.{Use, Secret, Generated, Login, Ticketed, Connected, Uses, IsConnected, Means, Grows, HasDrawn, HasSecret, connected-grows, session_use, whose, WholeRun, AreGenerated, IsSavedIn}
+use Rattle.cx_laws_keys.proofs.Uses.{Use, Secret, Generated, Login, Ticketed, Connected, AtDaemon, Uses, IsConnected, Means, Grows, HasDrawn, HasSecret, connected-grows, session_use, whose, WholeRun, AreGenerated, IsSavedIn}
 use Rattle.cx_rotate.specs.declared.generations.Generation.{Generation}
 
 -- ---- what is said under a key
@@ -49,9 +50,29 @@ pub record AreToldOf (us : Uses) (name : Name) (x : RotatingReply) : Type 0 wher
   pub generated : AreGenerated us x.service x.generations
   pub saved : AllByRecursion (IsSavedIn us.saved x.service) x.generations
 
--- what a reply to an authorizer says, where this content is one: its secret is that of a link to this entity
+-- the counter that stands at a place of a connection secret, of eight bytes
+abbrev pub counter_at : List ℕ → ℕ → ℕ
+counter_at b i = from_le_bytes w64 (slice_index b i ∷ slice_index b (i + 1) ∷ slice_index b (i + 2) ∷ slice_index b (i + 3)
+    ∷ slice_index b (i + 4) ∷ slice_index b (i + 5) ∷ slice_index b (i + 6) ∷ slice_index b (i + 7) ∷ [])
+
+-- a reply to an authorizer: its secret is that of a link of a daemon to this entity, tied to the number in the reply, the nonce plus one; its two
+-- directions begin with the nonce of an acceptor, of which the highest bit is 0, and with that of a connector, and both count from 0 on
+pub record HasReply (us : Uses) (name : Name) (x : AuthorizeReply) : Type 0 where
+  pub acceptor : NodeName
+  pub number : ℕ
+  pub service : EntityType
+  pub means : Means us (take 16 x.secret) (Connected acceptor number name (AtDaemon service x.nonce_plus_one))
+  pub into : slice_index x.secret 16 < 128
+  pub out : 128 ≤ slice_index x.secret 28
+  pub counts_into : counter_at x.secret 20 ≡ 0
+  pub counts_out : counter_at x.secret 32 ≡ 0
+
+-- what a reply to an authorizer says, where this content is one
 abbrev pub RepliesTo : Uses → Name → List ℕ → Type 0
-RepliesTo us name content = (x : AuthorizeReply) → spelled_by authorize_reply_layout.form content ≡ Some x → IsConnected us (take 16 x.secret) name
+RepliesTo us name content = (x : AuthorizeReply) → spelled_by authorize_reply_layout.form content ≡ Some x → HasReply us name x
+
+pub reply-connected : (us : Uses) (name : Name) (x : AuthorizeReply) → HasReply us name x → IsConnected us (take 16 x.secret) name
+reply-connected us name x h = record { acceptor = h.acceptor; number = h.number; tie = AtDaemon h.service x.nonce_plus_one; means = h.means }
 
 -- what may be sealed under a key of this use, by what is read of it: an entity is told the session key of its own ticket for AUTH, and the
 -- generations of its own type; under that session key those of its other tickets, and the secret of its link to the monitor; under the session key of
@@ -137,8 +158,20 @@ told-grows us vs name x g k h = record {
   saved = all-map (IsSavedIn us.saved x.service) (IsSavedIn vs.saved x.service) (λ of was. k x.service of was) x.generations h.saved;
 }
 
+reply-grows : (us vs : Uses) (name : Name) (x : AuthorizeReply) → Grows us vs → HasReply us name x → HasReply vs name x
+reply-grows us vs name x g h = record {
+  acceptor = h.acceptor;
+  number = h.number;
+  service = h.service;
+  means = g.means (take 16 x.secret) (Connected h.acceptor h.number name (AtDaemon h.service x.nonce_plus_one)) h.means;
+  into = h.into;
+  out = h.out;
+  counts_into = h.counts_into;
+  counts_out = h.counts_out;
+}
+
 replies-grow : (us vs : Uses) (name : Name) (content : List ℕ) → Grows us vs → RepliesTo us name content → RepliesTo vs name content
-replies-grow us vs name content g s = λ x is. connected-grows us vs (take 16 x.secret) name g (s x is)
+replies-grow us vs name content g s = λ x is. reply-grows us vs name x g (s x is)
 
 says-grows : (us vs : Uses) (J K : List Entry) → Grows us vs → KeepsSaved us vs → Within J K → (key : List ℕ) (u : Use) (content : List ℕ) → Says us J key u content → Says vs K key u content
 says-grows us vs J K g k w key (Secret name) content s = (

@@ -335,13 +335,13 @@ reply_made (raised, secret) = record { nonce_plus_one = raised; secret = secret 
 abbrev reply_parts : AuthorizeReply → ℕ × List ℕ
 reply_parts r = (r.nonce_plus_one, r.secret)
 
--- the secret of a reply is read as it is
+-- a reply is read as it is
 pub read_reply : (t x : AuthorizeReply) → t.nonce_plus_one < 2 ^ 64 → length t.secret < 2 ^ 32
-    → spelled_by authorize_reply_layout.form (authorize_reply_layout.form.text t) ≡ Some x → x.secret ≡ t.secret
+    → spelled_by authorize_reply_layout.form (authorize_reply_layout.form.text t) ≡ Some x → (x.nonce_plus_one ≡ t.nonce_plus_one) × (x.secret ≡ t.secret)
 read_reply t x numbered short e =
     let b = behind_kind 5 reply_made reply_parts reply_form t x (omega arith) refl e in
     let p = front u64_form (sized_form 64) u64-lawful t.nonce_plus_one _ ((sized_form 64).text t.secret) b.0 b.3 numbered b.4 in
-    ap (λ (r : AuthorizeReply). r.secret) (sym b.1) ∙ sized_read 64 t.secret _ b.0.1 b.3 short p.1
+    (ap (λ (r : AuthorizeReply). r.nonce_plus_one) (sym b.1) ∙ p.0, ap (λ (r : AuthorizeReply). r.secret) (sym b.1) ∙ sized_read 64 t.secret _ b.0.1 b.3 short p.1)
 
 -- nothing else that is sealed under a session key is a reply: what is told of a ticket, the secret of a link to the monitor, a challenge, or what a
 -- client shows; nor does a client show what is told of a ticket, or such a secret

@@ -25,8 +25,8 @@ pub record WholeRun : Type 0 where
 abbrev pub IsSavedIn : List (EntityType × Generation) → EntityType → Generation → Type 0
 IsSavedIn saved service g = SomeOf (λ (p : EntityType × Generation). (p.0 ≡ service) × (p.1.id ≡ g.id) × (p.1.key ≡ g.key)) saved
 
--- what ties the key of a link to the one that connects: at the monitor the challenge of its proof; at a daemon the service and the nonce of its
--- authorizers
+-- what ties the key of a link to the one that connects: at the monitor the challenge of its proof; at a daemon the service, and the nonce of its
+-- authorizers plus one, as the daemon's reply has it
 pub data Tie : Type 0 where
   AtMonitor : ℕ → Tie
   AtDaemon : EntityType → ℕ → Tie
@@ -53,35 +53,16 @@ whose (Login name) = Some name
 whose (Ticketed name service) = Some name
 whose (Connected acceptor number name tie) = Some name
 
--- ---- lists that grow together
+-- ---- what is known
 
--- a nonce, a challenge or a cookie, and the node that drew it, for a link of its own
-pub record Mine : Type 0 where
-  pub value : ℕ
-  pub node : NodeName
-  pub number : ℕ
-
--- a frame that was sealed behind AUTH_SIGNATURE: its parts; and the nonce or challenge of the connector, and the key
-pub record Framed : Type 0 where
-  pub nonce : ℕ
-  pub key : List ℕ
-  pub parts : List (List ℕ)
-
--- what is known of a run and stands in no state, the newest first: what each key is for; what was drawn by whom; the frames of connectors, and those
--- of acceptors; the cookie of the session that an acceptor took under a key; the nonce, and the place among the acceptor's frames, of each reply and
--- answer that was taken. And, of the whole run, the generations that were ever saved
+-- what is known of a run and stands in no state: what each key is for, the newest first; and, of the whole run, the generations that were ever saved
 pub record Uses : Type 0 where
   pub keys : List (List ℕ × Use)
-  pub mine : List Mine
-  pub frames : List Framed
-  pub given : List Framed
-  pub joins : List (List ℕ × ℕ)
-  pub reads : List (ℕ × ℕ)
   pub saved : List (EntityType × Generation)
 
 -- nothing is known yet, but what was ever saved
 abbrev pub no_uses : List (EntityType × Generation) → Uses
-no_uses saved = record { keys = []; mine = []; frames = []; given = []; joins = []; reads = []; saved = saved }
+no_uses saved = record { keys = []; saved = saved }
 
 -- a key with what it is for
 abbrev pub with_key : Uses → List ℕ → Use → Uses
@@ -110,56 +91,23 @@ extends-then {X} xs ys zs f g =
 -- all that is known stays so
 pub record Grows (us vs : Uses) : Type 0 where
   pub means : (key : List ℕ) (u : Use) → Means us key u → Means vs key u
-  pub mine : Extends us.mine vs.mine
-  pub frames : Extends us.frames vs.frames
-  pub given : Extends us.given vs.given
-  pub joins : Extends us.joins vs.joins
-  pub reads : Extends us.reads vs.reads
 
 pub stays : (us : Uses) → Grows us us
-stays us = record {
-  means = λ key u h. h;
-  mine = extends-itself us.mine;
-  frames = extends-itself us.frames;
-  given = extends-itself us.given;
-  joins = extends-itself us.joins;
-  reads = extends-itself us.reads;
-}
+stays us = record { means = λ key u h. h }
 
 pub grows-then : (us vs ws : Uses) → Grows us vs → Grows vs ws → Grows us ws
-grows-then us vs ws f g = record {
-  means = λ key u h. g.means key u (f.means key u h);
-  mine = extends-then us.mine vs.mine ws.mine f.mine g.mine;
-  frames = extends-then us.frames vs.frames ws.frames f.frames g.frames;
-  given = extends-then us.given vs.given ws.given f.given g.given;
-  joins = extends-then us.joins vs.joins ws.joins f.joins g.joins;
-  reads = extends-then us.reads vs.reads ws.reads f.reads g.reads;
-}
+grows-then us vs ws f g = record { means = λ key u h. g.means key u (f.means key u h) }
 
 pub grows-one : (us : Uses) (key : List ℕ) (u : Use) → Grows us (with_key us key u)
-grows-one us key u = record {
-  means = λ k v h. inr h;
-  mine = extends-itself us.mine;
-  frames = extends-itself us.frames;
-  given = extends-itself us.given;
-  joins = extends-itself us.joins;
-  reads = extends-itself us.reads;
-}
+grows-one us key u = record { means = λ k v h. inr h }
 
 -- whatever is said of what was saved
 pub grows-saved : (us : Uses) (saved : List (EntityType × Generation)) → Grows us (record us { saved = saved })
-grows-saved us saved = record {
-  means = λ key u h. h;
-  mine = extends-itself us.mine;
-  frames = extends-itself us.frames;
-  given = extends-itself us.given;
-  joins = extends-itself us.joins;
-  reads = extends-itself us.reads;
-}
+grows-saved us saved = record { means = λ key u h. h }
 
 -- what is known behind them, as that behind those of which something else was saved
 pub grows-from : (us vs : Uses) (saved : List (EntityType × Generation)) → Grows (record us { saved = saved }) vs → Grows us vs
-grows-from us vs saved f = record { means = f.means; mine = f.mine; frames = f.frames; given = f.given; joins = f.joins; reads = f.reads }
+grows-from us vs saved f = record { means = f.means }
 
 -- the key is the one of a link to this entity
 pub record IsConnected (us : Uses) (key : List ℕ) (name : Name) : Type 0 where

@@ -1,5 +1,5 @@
 -- The tickets of a login: the first is for AUTH, and no other is; whose they are, and what their keys are.
-use Rattle.std.proofs.Common.{◌≡◌, ℕ, ◌+◌, ◌<◌, ◌≤◌, ◌^◌, Bool, true, false, cond, List, [], ◌∷◌, ◌++◌, length, drop, filter, Option, Some, None, Result, Ok, Err, refl, sym, ◌∙◌, arith, length-take, length-append}
+use Rattle.std.proofs.Common.{◌≡◌, ℕ, ◌+◌, ◌-◌, ◌<◌, ◌≤◌, ◌^◌, Bool, true, false, cond, List, [], ◌∷◌, ◌++◌, length, drop, filter, Option, Some, None, Result, Ok, Err, refl, sym, ap, ◌∙◌, arith, append_assoc, length-take, length-append}
 use Rattle.std.specs.Prelude.{◌%◌, find, slice_index}
 use Rattle.std.proofs.lemmas.List.{get_or-append_right}
 use Rattle.std.specs.List.{AllByRecursion}
@@ -19,7 +19,7 @@ use Rattle.cx_keyserver.specs.declared.tickets.Ticket.{Ticket}
 use Rattle.cx_rotate.specs.declared.generations.Generation.{Generation}
 use Rattle.cx_rules.specs.Secured.{acceptor_keys}
 use Rattle.cx_rules.specs.Tickets.{is_asked, issued_before, issued_for, services_for}
-use Rattle.cx_laws_keys.proofs.Known.{IsOfAcceptor, IsOfConnector}
+use Rattle.cx_laws_keys.proofs.Known.{IsOfAcceptor, IsOfConnector, counter_at}
 use Rattle.cx_laws_login.proofs.Rows.{all-filter}
 use Rattle.cx_laws_login.proofs.Generations.{length-part}
 
@@ -195,3 +195,47 @@ connector-sends block drawn =
     ∙ get_or-append_right (nonce_start 0 32 block) b 4 12 0 first (omega arith)
     ∙ get_or-append_right counter_0 c 8 8 0 refl (omega arith) in
     omega (arith, is)
+
+-- eight zeros behind a front are the counter 0
+zeros-behind : (front rest : List ℕ) (n : ℕ) → length front ≡ n → counter_at (front ++ (counter_0 ++ rest)) n ≡ 0
+zeros-behind front rest n len =
+    let is : (i j : ℕ) → n ≤ i → i - n ≡ j → slice_index (front ++ (counter_0 ++ rest)) i ≡ slice_index (counter_0 ++ rest) j =
+    λ i j le at. get_or-append_right front (counter_0 ++ rest) n i 0 len le ∙ ap (λ (k : ℕ). slice_index (counter_0 ++ rest) k) at in
+    let e0 = is n 0 (omega arith) (omega arith) in
+    let e1 = is (n + 1) 1 (omega arith) (omega arith) in
+    let e2 = is (n + 2) 2 (omega arith) (omega arith) in
+    let e3 = is (n + 3) 3 (omega arith) (omega arith) in
+    let e4 = is (n + 4) 4 (omega arith) (omega arith) in
+    let e5 = is (n + 5) 5 (omega arith) (omega arith) in
+    let e6 = is (n + 6) 6 (omega arith) (omega arith) in
+    let e7 = is (n + 7) 7 (omega arith) (omega arith) in
+    rw (e0, e1, e2, e3, e4, e5, e6, e7) refl
+
+-- both count from 0 on
+pub acceptor-counts : (block : List ℕ) → length block ≡ 384 → counter_at (connection_of block) 20 ≡ 0
+acceptor-counts block drawn =
+    let key : List ℕ = part 16 16 block in
+    let start : List ℕ = nonce_start 0 32 block in
+    let rest : List ℕ = nonce_start 128 44 block ++ (counter_0 ++ part 56 24 block) in
+    let sixteen : length key ≡ 16 = length-part 16 16 block (omega arith) in
+    let three : length (part 33 3 block) ≡ 3 = length-part 33 3 block (omega arith) in
+    let twenty : length (key ++ start) ≡ 20 = omega (arith, length-append key start) in
+    ap (λ (bytes : List ℕ). counter_at bytes 20) (sym (append_assoc key start (counter_0 ++ rest))) ∙ zeros-behind (key ++ start) rest 20 twenty
+
+pub connector-counts : (block : List ℕ) → length block ≡ 384 → counter_at (connection_of block) 32 ≡ 0
+connector-counts block drawn =
+    let key : List ℕ = part 16 16 block in
+    let start : List ℕ = nonce_start 0 32 block in
+    let second : List ℕ = nonce_start 128 44 block in
+    let rest : List ℕ = part 56 24 block in
+    let front : List ℕ = (key ++ (start ++ counter_0)) ++ second in
+    let sixteen : length key ≡ 16 = length-part 16 16 block (omega arith) in
+    let three : length (part 33 3 block) ≡ 3 = length-part 33 3 block (omega arith) in
+    let three_too : length (part 45 3 block) ≡ 3 = length-part 45 3 block (omega arith) in
+    let long : length front ≡ 32 =
+    omega (arith, length-append (key ++ (start ++ counter_0)) second, length-append key (start ++ counter_0), length-append start counter_0) in
+    let whole : connection_of block ≡ front ++ (counter_0 ++ rest) =
+    ap (λ (l : List ℕ). key ++ l) (sym (append_assoc start counter_0 (second ++ (counter_0 ++ rest))))
+    ∙ sym (append_assoc key (start ++ counter_0) (second ++ (counter_0 ++ rest)))
+    ∙ sym (append_assoc (key ++ (start ++ counter_0)) second (counter_0 ++ rest)) in
+    ap (λ (bytes : List ℕ). counter_at bytes 32) whole ∙ zeros-behind front rest 32 long

@@ -24,6 +24,19 @@ use Rattle.cx_steps.specs.declared.seals.SealMark.{SealMark}
 
 -- ---- sealed
 
+-- what is sealed is the frame under these keys; its numbers have a spelling, and it is no longer than a frame may be
+pub frame-sealed : (keys : Keys) (f : Frame) (s : SealedFrame) → secure_frame keys f ≡ Ok s → (s ≡ sealed_under keys f) × (keys.out.counter + length (plains f) < 2 ^ 64) × (total f ≤ 1048576)
+frame-sealed keys f s = by_tests (nat_lt (2 ^ 64 - 1) (keys.out.counter + length (plains f))) (nat_lt 1048576 (total f)) refl refl
+  where
+    by_tests : (spent long : Bool) → nat_lt (2 ^ 64 - 1) (keys.out.counter + length (plains f)) ≡ spent → nat_lt 1048576 (total f) ≡ long
+        → (let r : Result SealedFrame BytesFault = (if spent then Err CounterSpent else if long then Err TooLong else Ok (sealed_under keys f)) in r ≡ Ok s)
+        → (s ≡ sealed_under keys f) × (keys.out.counter + length (plains f) < 2 ^ 64) × (total f ≤ 1048576)
+    by_tests true long is fits made = absurd cc
+    by_tests false true is fits made = absurd cc
+    by_tests false false is fits made =
+        let same : sealed_under keys f ≡ s = cc in
+        (sym same, grind (arith, nat_tests), grind (arith, nat_tests))
+
 module _ (test : List ℕ → Bool) where
   -- An end has sealed these parts under its key, from number 0 on, and the next part gets the next number.
   pub record HasParts (keys : Keys) (parts : List (List ℕ)) (log : List Logged) : Type 0 where
@@ -43,23 +56,10 @@ module _ (test : List ℕ → Bool) where
           counter = ap (λ (m : ℕ). m + length (plains f)) h.counter ∙ sym (length-append parts (plains f));
         }
 
-    -- what is sealed is the frame under these keys, and its numbers have a spelling
-    pub frame-sealed : (f : Frame) (s : SealedFrame) → secure_frame keys f ≡ Ok s → (s ≡ sealed_under keys f) × (keys.out.counter + length (plains f) < 2 ^ 64)
-    frame-sealed f s = by_tests (nat_lt (2 ^ 64 - 1) (keys.out.counter + length (plains f))) (nat_lt 1048576 (total f)) refl
-      where
-        by_tests : (spent long : Bool) → nat_lt (2 ^ 64 - 1) (keys.out.counter + length (plains f)) ≡ spent
-            → (let r : Result SealedFrame BytesFault = (if spent then Err CounterSpent else if long then Err TooLong else Ok (sealed_under keys f)) in r ≡ Ok s)
-            → (s ≡ sealed_under keys f) × (keys.out.counter + length (plains f) < 2 ^ 64)
-        by_tests true long is made = absurd cc
-        by_tests false true is made = absurd cc
-        by_tests false false is made =
-            let same : sealed_under keys f ≡ s = cc in
-            (sym same, grind (arith, nat_tests))
-
     -- so its parts have the next numbers
     pub frame-parts : (f : Frame) (s : SealedFrame) (parts : List (List ℕ)) → secure_frame keys f ≡ Ok s → HasParts keys parts log → HasParts s.keys (parts ++ plains f) (behind n line s.seals log)
     frame-parts f s parts made h =
-        subst (λ (x : SealedFrame). HasParts x.keys (parts ++ plains f) (behind n line x.seals log)) (sym (frame-sealed f s made).0) (under-sealed f parts h)
+        subst (λ (x : SealedFrame). HasParts x.keys (parts ++ plains f) (behind n line x.seals log)) (sym (frame-sealed keys f s made).0) (under-sealed f parts h)
 
   -- several frames in one piece: all their parts have the next numbers
   abbrev PartsOf : NodeName → ℕ → List Frame → Type 0
@@ -82,7 +82,7 @@ module _ (test : List ℕ → Bool) where
       by_rest one first (Ok later) rest both on =
           let all : SealedFrame = record { bytes = one.bytes ++ later.bytes; seals = one.seals ++ later.seals; keys = later.keys } in
           let same : all ≡ s = cc in
-          let fixed : keys.out.fixed ≡ one.keys.out.fixed = ap (λ (x : SealedFrame). x.keys.out.fixed) (sym (frame-sealed n line log keys passes f one first).0) in
+          let fixed : keys.out.fixed ≡ one.keys.out.fixed = ap (λ (x : SealedFrame). x.keys.out.fixed) (sym (frame-sealed keys f one first).0) in
           let next : (m : ℕ) (plain : List ℕ) → test (nonce_at one.keys.out.fixed m ++ plain) ≡ true =
           subst (λ (w : List ℕ). (m : ℕ) (plain : List ℕ) → test (nonce_at w m ++ plain) ≡ true) fixed passes in
           let two = on (behind n line one.seals log) one.keys later (parts ++ plains f) next rest (frame-parts n line log keys passes f one parts first h) in

@@ -1,5 +1,5 @@
 -- What is read at the front of a link where all that opens there is parts of a frame: that frame, and all its parts open.
-use Rattle.std.proofs.Common.{◌≡◌, ◌+◌, ◌-◌, ◌≤◌, ◌^◌, ◌==◌, ℕ, Bool, true, false, nat_lt, List, [], ◌∷◌, ◌++◌, drop, length, take, Option, Some, None, Result, Ok, Err, inl, inr, arith, length-take, length-drop, refl, sym, ap, ◌∙◌, subst}
+use Rattle.std.proofs.Common.{◌≡◌, ◌+◌, ◌-◌, ◌<◌, ◌≤◌, ◌^◌, ◌==◌, ℕ, Bool, true, false, nat_lt, List, [], ◌∷◌, ◌++◌, drop, length, take, Option, Some, None, Result, Ok, Err, inl, inr, arith, length-take, length-drop, refl, sym, ap, ◌∙◌, subst}
 use Rattle.std.proofs.lemmas.Bool.{ne_eqb}
 use Rattle.std.proofs.lemmas.Bool.Decides.{nat_tests}
 use Rattle.std.proofs.lemmas.List.{take_at, drop_at}
@@ -168,7 +168,7 @@ with-frame m n f (Err e) is = absurd cc
 module _ (a : Ahead) (t : ℕ) (s : Segment) (ss : List Segment) (few : length ss ≤ 3) (fine : IsAllowed 1048576 (preamble_of (framed t s ss))) (more : List (List ℕ)) where
   -- each content that opens at the front is the part of its number
   abbrev pub AreParts : Type 0
-  AreParts = (i : ℕ) (plain : List ℕ) → SomeOf (λ (content : List ℕ). content ≡ nonce_at a.fixed (a.counter + i) ++ plain) (front_contents a) → IsAt (plains (framed t s ss) ++ more) i plain
+  AreParts = (i : ℕ) (plain : List ℕ) → a.counter + i < 2 ^ 64 → SomeOf (λ (content : List ℕ). content ≡ nonce_at a.fixed (a.counter + i) ++ plain) (front_contents a) → IsAt (plains (framed t s ss) ++ more) i plain
 
   -- that frame is read, and its parts opened
   abbrev pub IsRead : Frame → Type 0
@@ -186,17 +186,22 @@ module _ (a : Ahead) (t : ℕ) (s : Segment) (ss : List Segment) (few : length s
   abbrev after : ℕ
   after = a.counter + 1 + one_if (second_len pre)
 
-  part-of : AreParts → (i : ℕ) (plain : List ℕ) → SomeOf (λ (content : List ℕ). content ≡ nonce_at a.fixed (a.counter + i) ++ plain) (front_contents a)
+  part-of : AreParts → (i : ℕ) (plain : List ℕ) → a.counter + i < 2 ^ 64 → SomeOf (λ (content : List ℕ). content ≡ nonce_at a.fixed (a.counter + i) ++ plain) (front_contents a)
       → IsAt (Goes more (preamble_text pre ++ inline_of s.bytes) (second_plain s.bytes) (last_plain ss)) i plain
-  part-of opens i plain some = subst (λ (l : List (List ℕ)). IsAt (l ++ more) i plain) (parts_is t s ss) (opens i plain some)
+  part-of opens i plain low some = subst (λ (l : List (List ℕ)). IsAt (l ++ more) i plain) (parts_is t s ss) (opens i plain low some)
+
+  -- the second part is one of those behind the head
+  few-parts : one_if (second_len pre) ≤ rest_parts pre
+  unfolding rest_parts
+  few-parts = omega arith
 
   -- behind its head
-  rest-front : (f : Frame) (plain : List ℕ) → AreParts → length rest ≡ rest_len pre
+  rest-front : (f : Frame) (plain : List ℕ) → AreParts → after < 2 ^ 64 → length rest ≡ rest_len pre
       → front_contents a ≡ (nonce_at a.fixed a.counter ++ plain) ∷ parts_contents a.key (nonce_at a.fixed (a.counter + 1)) (nonce_at a.fixed after) pre rest
       → preamble_text pre ++ inline_of s.bytes ≡ plain
       → rest_of a.key (nonce_at a.fixed (a.counter + 1)) (nonce_at a.fixed after) (head_of_frame t s ss few) rest ≡ Ok f → IsRead f
   unfolding parts_contents
-  rest-front f plain opens long contents first read =
+  rest-front f plain opens low long contents first read =
       let both = rest-read t s ss few a.key (nonce_at a.fixed (a.counter + 1)) (nonce_at a.fixed after) rest f long opens_second opens_last read in (
         both.0,
         contents ∙ ap (λ (l : List (List ℕ)). (nonce_at a.fixed a.counter ++ plain) ∷ l) both.1
@@ -210,7 +215,7 @@ module _ (a : Ahead) (t : ℕ) (s : Segment) (ss : List Segment) (few : length s
       opens_second : OpensAs t s ss few a.key (nonce_at a.fixed (a.counter + 1)) (take (tagged (second_len (preamble_of (framed t s ss)))) rest) (second_plain s.bytes)
       opens_second b bs is x some =
           at-second more (preamble_text pre ++ inline_of s.bytes) (second_plain s.bytes) (last_plain ss) b bs is x
-          (part-of opens 1 x (subst (λ (l : List (List ℕ)). SomeOf (λ (content : List ℕ). content ≡ nonce_at a.fixed (a.counter + 1) ++ x) l) (sym contents)
+          (part-of opens 1 x (omega (arith, low)) (subst (λ (l : List (List ℕ)). SomeOf (λ (content : List ℕ). content ≡ nonce_at a.fixed (a.counter + 1) ++ x) l) (sym contents)
           (inr (some-front (λ (content : List ℕ). content ≡ nonce_at a.fixed (a.counter + 1) ++ x) (part_content a.key (nonce_at a.fixed (a.counter + 1)) (take (tagged (second_len pre)) rest))
           (part_content a.key (nonce_at a.fixed after) (drop (tagged (second_len pre)) rest)) some))))
 
@@ -220,7 +225,7 @@ module _ (a : Ahead) (t : ℕ) (s : Segment) (ss : List Segment) (few : length s
           let number : after ≡ a.counter + (1 + one_if (second_len pre)) = omega arith in
           let place : 1 + one_if (second_len pre) ≡ 1 + one_if (length (second_plain s.bytes)) = ap (λ (k : ℕ). 1 + one_if k) (second_is t s ss) in
           at-last more (preamble_text pre ++ inline_of s.bytes) (second_plain s.bytes) (last_plain ss) b bs is (1 + one_if (second_len pre)) place x
-          (part-of opens (1 + one_if (second_len pre)) x
+          (part-of opens (1 + one_if (second_len pre)) x (omega (arith, low))
           (subst (λ (k : ℕ). SomeOf (λ (content : List ℕ). content ≡ nonce_at a.fixed k ++ x) (front_contents a)) number
           (subst (λ (l : List (List ℕ)). SomeOf (λ (content : List ℕ). content ≡ nonce_at a.fixed after ++ x) l) (sym contents)
           (inr (some-behind (λ (content : List ℕ). content ≡ nonce_at a.fixed after ++ x) (part_content a.key (nonce_at a.fixed (a.counter + 1)) (take (tagged (second_len pre)) rest))
@@ -238,7 +243,8 @@ module _ (a : Ahead) (t : ℕ) (s : Segment) (ss : List Segment) (few : length s
           → IsRead f
       by_counter true is long bad = absurd cc
       by_counter false is long ok =
-          rest-front f plain opens long
+          let fits : a.counter + 1 + rest_parts pre < 2 ^ 64 = grind (arith, nat_tests) in
+          rest-front f plain opens (omega (arith, fits, few-parts)) long
           (contents ∙ ap (λ (u : Bool). (nonce_at a.fixed a.counter ++ plain) ∷ (if u then [] else parts_contents a.key (nonce_at a.fixed (a.counter + 1)) (nonce_at a.fixed after) pre rest)) is)
           first ok
 
@@ -253,13 +259,13 @@ module _ (a : Ahead) (t : ℕ) (s : Segment) (ss : List Segment) (few : length s
           by_counter (nat_lt (2 ^ 64 - 1) (a.counter + 1 + rest_parts pre)) refl long
           (with-frame (96 + rest_len pre) n f (rest_step a.key a.fixed (a.counter + 1) (head_of_frame t s ss few) rest) ok)
 
-  front-plain : (f : Frame) (n : ℕ) (plain : List ℕ) → AreParts → front_contents a ≡ (nonce_at a.fixed a.counter ++ plain) ∷ contents_behind a (preamble_at 1048576 (take 32 plain))
+  front-plain : (f : Frame) (n : ℕ) (plain : List ℕ) → AreParts → a.counter + 0 < 2 ^ 64 → front_contents a ≡ (nonce_at a.fixed a.counter ++ plain) ∷ contents_behind a (preamble_at 1048576 (take 32 plain))
       → behind_head (record a { counter = a.counter + 1; bytes = left }) (head_of (Some plain)) ≡ Ok (Some (f, n)) → IsRead f
   unfolding head_of with_inline
-  front-plain f n plain opens contents read =
+  front-plain f n plain opens low contents read =
       let zero_more : a.counter ≡ a.counter + 0 = omega arith in
       let first : preamble_text pre ++ inline_of s.bytes ≡ plain =
-      part-of opens 0 plain (subst (λ (l : List (List ℕ)). SomeOf (λ (content : List ℕ). content ≡ nonce_at a.fixed (a.counter + 0) ++ plain) l) (sym contents)
+      part-of opens 0 plain low (subst (λ (l : List (List ℕ)). SomeOf (λ (content : List ℕ). content ≡ nonce_at a.fixed (a.counter + 0) ++ plain) l) (sym contents)
       (inl (ap (λ (k : ℕ). nonce_at a.fixed k ++ plain) zero_more))) in
       let front : take 32 plain ≡ preamble_text pre = ap (λ (l : List ℕ). take 32 l) (sym first) ∙ take_at (preamble_text pre) (inline_of s.bytes) 32 (preamble_len (framed t s ss)) in
       let inline : drop 32 plain ≡ inline_of s.bytes = ap (λ (l : List ℕ). drop 32 l) (sym first) ∙ drop_at (preamble_text pre) (inline_of s.bytes) 32 (preamble_len (framed t s ss)) in
@@ -277,7 +283,8 @@ module _ (a : Ahead) (t : ℕ) (s : Segment) (ss : List Segment) (few : length s
           → behind_head (record a { counter = a.counter + 1; bytes = left }) (head_of o) ≡ Ok (Some (f, n)) → IsRead f
       by_open None is free bad = absurd cc
       by_open (Some plain) is free ok =
-          front-plain f n plain opens
+          let low : a.counter + 0 < 2 ^ 64 = grind (arith, nat_tests) in
+          front-plain f n plain opens low
           (ap (λ (u : Bool). if u then [] else contents_from a (opened a.key (nonce_at a.fixed a.counter) 80 (take 96 a.bytes))) free ∙ ap (λ (o : Option (List ℕ)). contents_from a o) is) ok
 
       by_spent : (spent : Bool) → nat_lt (2 ^ 64 - 1) (a.counter + 1) ≡ spent
