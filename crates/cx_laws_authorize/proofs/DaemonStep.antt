@@ -17,7 +17,7 @@ use Rattle.cx_rules.specs.Greetings.{own_banner}
 use Rattle.cx_rules.specs.Holdings.{Asker}
 use Rattle.cx_rules.specs.Inputs.{Input, Opened, NoLink, Bytes, Turn, Gone, Look, Tick, Submit, Restart}
 use Rattle.cx_rules.specs.Links.{Link, link_of}
-use Rattle.cx_rules.specs.Requests.{Requests, asks_rotating, first_open, is_outdated, open_or}
+use Rattle.cx_rules.specs.Requests.{Requests, asks_rotating, first_open, is_outdated}
 use Rattle.cx_rules.specs.Rows.{Arrival, Outcome, Row, Turned, Waits, Refuses, Handles, arrival, carried_out, fed, forgotten, goes_on, idles, lifted, new_link, refused_entry, refuses, refuses_bytes, turns}
 use Rattle.cx_rules.specs.Secured.{Secured}
 use Rattle.cx_rules_session.specs.Asks.{Finished, Asking}
@@ -40,7 +40,8 @@ use Rattle.cx_run.proofs.Taking.{EachRow}
 use Rattle.cx_laws_authorize.proofs.Backing.{AllGood}
 use Rattle.cx_laws_authorize.proofs.Hosting.{Always, always-both, always-map, always-weaker}
 use Rattle.cx_laws_authorize.proofs.HostingKeys.{KeepsHosted, KeepsTurned, guest-keeps}
-use Rattle.cx_laws_authorize.proofs.Keys.{KeptKeys, LinkKeys, StageKeys, host-grows}
+use Rattle.cx_laws_authorize.proofs.DaemonRows.{DaemonHas, DaemonStageOk, GuestsCome, LinkHas, LinksHave, RowAfter, RowHas, StepAfter, TurnHas, daemon_says, kind_says, link-found, links-filtered, links-put, links-without, open-found, row-anywhere, row-carried, stays-idle, turn-carried}
+use Rattle.cx_laws_authorize.proofs.Keys.{KeptKeys, LinkKeys}
 use Rattle.cx_laws_authorize.proofs.Steps.{all-authorize, always-book}
 use Rattle.cx_laws_authorize.proofs.Telling.{IsBackedLink, backed-behind, told-laws}
 use Rattle.cx_laws_authorize.specs.Admission.{Authorizes, EntryTold}
@@ -53,46 +54,8 @@ use Rattle.cx_laws_keys.proofs.Steps.{inv-entered}
 use Rattle.cx_laws_keys.proofs.Uses.{Grows, Uses, WholeRun, stays}
 use Rattle.cx_laws_login.proofs.AskerRows.{asker_says, request-sends}
 use Rattle.cx_laws_login.proofs.ClientStep as client_step
-use Rattle.cx_laws_login.proofs.Facts.{AskerKnown, AskerOk, AskerStageOk, HasConnection, asker-entered, asker_stage-grows, known-grows, none-fetched}
-use Rattle.cx_laws_login.proofs.Rows.{AfterRow, AfterStep, IsQuietEntry, LinkOk, LinksOk, NodeOk, RowOk, Saying, TurnOk, after-quiet, after-simple, all-filter, all-put, all-without, carried, found-link, idle, none-given, reached-allowed, simple-goes_on, simple-refuses, turned-ok}
-
--- guests come to daemons in this run
-abbrev pub GuestsCome : WholeRun → Type 0
-GuestsCome run = run.guests ≡ false → ⊥
-
-abbrev pub DaemonStageOk : WholeRun → Uses → NodeName → DaemonStage → Type 0
-DaemonStageOk run us n (AsAcceptor stage) = StageKeys us stage × GuestsCome run
-DaemonStageOk run us n (AsConnector stage) = AskerStageOk us n stage
-
-stage_keys-grow : (us vs : Uses) (stage : GuestStage) → Grows us vs → StageKeys us stage → StageKeys vs stage
-stage_keys-grow us vs AwaitsBanner f h = tt
-stage_keys-grow us vs AwaitsHello f h = tt
-stage_keys-grow us vs AwaitsRequest f h = tt
-stage_keys-grow us vs (AwaitsProof awaited) f h = tt
-stage_keys-grow us vs (AwaitsSignature s owner) f h = host-grows us vs s.keys owner.ticket.name f h
-stage_keys-grow us vs (AwaitsIdent s owner) f h = host-grows us vs s.keys owner.ticket.name f h
-stage_keys-grow us vs (Open s served) f h = (h.0, host-grows us vs s.keys h.0 f h.1)
-
-pub daemon_stage-grows : (run : WholeRun) (us vs : Uses) (n : NodeName) (stage : DaemonStage) → Grows us vs → DaemonStageOk run us n stage → DaemonStageOk run vs n stage
-daemon_stage-grows run us vs n (AsAcceptor stage) f h = (stage_keys-grow us vs stage f h.0, h.1)
-daemon_stage-grows run us vs n (AsConnector stage) f h = asker_stage-grows us vs n stage f h
-
-abbrev pub daemon_says : WholeRun → List Entry → NodeName → Saying Daemon DaemonStage
-daemon_says run first n = record {
-  Owns = λ us J daemon. AskerOk run first us J daemon.asker;
-  Stands = λ us stage. DaemonStageOk run us n stage;
-  own_enters = λ us J daemon e other h. asker-entered run first us J daemon.asker e other h;
-  stage_grows = λ us vs stage f st. daemon_stage-grows run us vs n stage f st;
-}
-
--- as one that asks
-abbrev pub kind_says : WholeRun → List Entry → NodeName → Saying Asker DaemonStage
-kind_says run first n = record {
-  Owns = AskerOk run first;
-  Stands = λ us stage. DaemonStageOk run us n stage;
-  own_enters = asker-entered run first;
-  stage_grows = λ us vs stage f st. daemon_stage-grows run us vs n stage f st;
-}
+use Rattle.cx_laws_login.proofs.Facts.{AskerKnown, AskerOk, AskerStageOk, HasMonitorKey, asker-entered, known-grows, none-fetched}
+use Rattle.cx_laws_login.proofs.Rows.{AfterRow, IsQuietEntry, LinkOk, Saying, TurnOk, after-quiet, after-simple, none-given, reached-allowed, simple-goes_on, simple-refuses}
 
 -- ---- entries that issue nothing, under their laws
 
@@ -115,7 +78,7 @@ module _ (run : WholeRun) (whole : List Logged) (n : NodeName) (line : ℕ) (us 
   -- what is known of the daemon before the step
   pub record IsReady : Type 0 where
     pub inv : Inv run whole us log J
-    pub ok : NodeOk Says d.node us J
+    pub ok : DaemonHas run J n d.node us J
     pub here : n ≡ node.Entity d.node.own.asker.name
     pub of : is_daemon_type d.node.own.asker.name.kind ≡ true
     pub backed : run.good ≡ true → AllByRecursion (IsBackedLink J d.node.own.asker.name.kind) d.node.links
@@ -126,7 +89,7 @@ module _ (run : WholeRun) (whole : List Logged) (n : NodeName) (line : ℕ) (us 
   -- where what a step logs is granted, and it authorizes as each does, all stays known
   abbrev Keeps : Outcome DaemonNode → Type 0
   Keeps o = AreGranted run.leaked whole n line log o.out.seals → Authorizes d input reading o.out.entries o.out.seals o.state.links
-      → AfterStep Says run whole n line us log J o
+      → StepAfter run J n whole line us log J o
 
   module _ (r : IsReady) where
     abbrev asker : Asker
@@ -134,7 +97,7 @@ module _ (run : WholeRun) (whole : List Logged) (n : NodeName) (line : ℕ) (us 
 
     -- ---- a turn of a guest's link
 
-    module _ (draw : List ℕ) (drawn : length draw ≡ 384) (link : Link DaemonStage) (stage : GuestStage) (st : DaemonStageOk run us n (AsAcceptor stage)) where
+    module _ (draw : List ℕ) (drawn : length draw ≡ 384) (link : Link DaemonStage) (stage : GuestStage) (st : DaemonStageOk run us n link.number (AsAcceptor stage)) where
       abbrev at_link : Arrival Daemon DaemonStage
       at_link = arrival (me d.node.own) d.node.own link reading draw
 
@@ -145,26 +108,26 @@ module _ (run : WholeRun) (whole : List Logged) (n : NodeName) (line : ℕ) (us 
       Hosts_ hosted = Keeps (hosts d.node at_link hosted)
 
       -- older links of a session are shut
-      shut-keeps : (is_shut : Link DaemonStage → Bool) (o : Outcome DaemonNode) → AfterStep Says run whole n line us log J o → AfterStep Says run whole n line us log J (shut_where is_shut o)
+      shut-keeps : (is_shut : Link DaemonStage → Bool) (o : Outcome DaemonNode) → StepAfter run J n whole line us log J o → StepAfter run J n whole line us log J (shut_where is_shut o)
       shut-keeps is_shut o a = record {
         uses = a.uses;
         grows = a.grows;
         inv = a.inv;
         laws = a.laws;
-        good = record { own = a.good.own; links = all-filter (λ (l : Link DaemonStage). DaemonStageOk run a.uses n l.stage) (λ (l : Link DaemonStage). not (is_shut l)) o.state.links a.good.links };
+        good = record { own = a.good.own; links = links-filtered run n a.uses (λ (l : Link DaemonStage). not (is_shut l)) o.state.links a.good.links };
       }
 
-      moved-keeps : (number : ℕ) (moved : Option ℕ) (o : Outcome DaemonNode) → AfterStep Says run whole n line us log J o → AfterStep Says run whole n line us log J (moved_to number moved o)
+      moved-keeps : (number : ℕ) (moved : Option ℕ) (o : Outcome DaemonNode) → StepAfter run J n whole line us log J o → StepAfter run J n whole line us log J (moved_to number moved o)
       moved-keeps number None o a = a
       moved-keeps number (Some session) o a = shut-keeps (is_older number session) o a
 
-      link-ok : (vs : Uses) (l : Option (Link GuestStage)) → LinkKeys vs l → LinkOk Says vs (option_map (of_kind AsAcceptor) l)
+      link-ok : (vs : Uses) (l : Option (Link GuestStage)) → LinkKeys vs n l → LinkHas run n vs (option_map (of_kind AsAcceptor) l)
       link-ok vs (Some l) h = (h, st.1)
       link-ok vs None h = tt
 
       row-after : (row : GuestRow) → KeptKeys run whole n line us log J guest r.inv r.of r.ok.own.known.fetched.generated row → StaysGuest guest row
           → AllByRecursion (EntryTold d input reading row.entries row.seals) row.entries → AreGranted run.leaked whole n line log row.seals
-          → AfterRow Says run whole n line us log J (row_of_kind (with_asker d.node.own) AsAcceptor row)
+          → RowAfter run J n whole line us log J (row_of_kind (with_asker d.node.own) AsAcceptor row)
       row-after row k stays told g =
           let known : AskerKnown run k.uses asker.name asker.secret asker.view = known-grows run us k.uses asker.name asker.secret asker.view k.grows r.ok.own.known in
           let own : AskerOk run J k.uses J asker = record { known = known; quiet = r.ok.own.quiet; count = r.ok.own.count } in
@@ -185,16 +148,16 @@ module _ (run : WholeRun) (whole : List Logged) (n : NodeName) (line : ℕ) (us 
           by_turned : (turned : Turned Asker GuestStage) → KeepsTurned run whole n line us log J guest r.inv r.of r.ok.own.known.fetched.generated drawn turned → EachRow (StaysGuest guest) turned
               → Keeps (moved_to link.number hosted.moved (turns d.node at_link (turn_of_kind (with_asker d.node.own) AsAcceptor turned)))
           by_turned Waits k stays g au =
-              moved-keeps link.number hosted.moved (turns d.node at_link Waits) (idle Says run whole n line us log J d.node r.inv r.ok)
+              moved-keeps link.number hosted.moved (turns d.node at_link Waits) (stays-idle run J n whole line us log J d.node r.inv r.ok)
           by_turned (Refuses why opened) k stays g au =
               moved-keeps link.number hosted.moved (turns d.node at_link (Refuses why opened))
-              (carried Says run whole n line us log J d.node link.number false (refuses_bytes at_link why opened) r.ok.links
+              (row-carried run J n whole line us log J d.node link.number false (refuses_bytes at_link why opened) r.ok.links
               (after-quiet run whole n line us log J opened (refused_entry (me d.node.own) link.number (reason.Bytes why) ∷ []) (λ vs. Unit {0})
-              (RowOk Says (refuses_bytes at_link why opened)) (λ vs K e other h. record { own = asker-entered run J vs K asker e other h.own; link = tt }) ((tt, tt), tt)
+              (RowHas run J n (refuses_bytes at_link why opened)) (λ vs K e other h. record { own = asker-entered run J vs K asker e other h.own; link = tt }) ((tt, tt), tt)
               (reached-allowed run whole n line us log J opened (λ vs. Unit {0}) r.inv k tt) (record { own = r.ok.own; link = tt })))
           by_turned (Handles row) k stays g au =
               moved-keeps link.number hosted.moved (turns d.node at_link (turn_of_kind (with_asker d.node.own) AsAcceptor (Handles row)))
-              (carried Says run whole n line us log J d.node link.number true (row_of_kind (with_asker d.node.own) AsAcceptor row) r.ok.links
+              (row-carried run J n whole line us log J d.node link.number true (row_of_kind (with_asker d.node.own) AsAcceptor row) r.ok.links
               (row-after row (k (granted-of hosted.moved row g)) stays (told-of hosted.moved row au) (granted-of hosted.moved row g)))
             where
               granted-of : (moved : Option ℕ) (row : GuestRow)
@@ -222,19 +185,19 @@ module _ (run : WholeRun) (whole : List Logged) (n : NodeName) (line : ℕ) (us 
     -- ---- a turn of its own link
 
     lifted-after : (row : Row Asker connector.Stage) → AfterRow (asker_says run J n) run whole n line us log J row
-        → AfterRow Says run whole n line us log J (row_of_kind (with_asker d.node.own) AsConnector row)
+        → RowAfter run J n whole line us log J (row_of_kind (with_asker d.node.own) AsConnector row)
     lifted-after row h =
         record { uses = h.uses; grows = h.grows; inv = h.inv; laws = h.laws; good = record { own = h.good.own; link = link h.uses row.link h.good.link } }
       where
-        link : (vs : Uses) (l : Option (Link connector.Stage)) → LinkOk (asker_says run J n) vs l → LinkOk Says vs (option_map (of_kind AsConnector) l)
+        link : (vs : Uses) (l : Option (Link connector.Stage)) → LinkOk (asker_says run J n) vs l → LinkHas run n vs (option_map (of_kind AsConnector) l)
         link vs (Some l) st = st
         link vs None st = tt
 
-    lifted-turn : (a : AskerArrival) (b : Arrival Daemon DaemonStage) (turned : Turned Asker connector.Stage) → TurnOk (asker_says run J n) run whole n line us log J a turned
-        → TurnOk Says run whole n line us log J b (turn_of_kind (with_asker d.node.own) AsConnector turned)
-    lifted-turn a b Waits t = tt
-    lifted-turn a b (Refuses why opened) t = t
-    lifted-turn a b (Handles row) t = λ g. lifted-after row (t g)
+    lifted-turn : (a : AskerArrival) (turned : Turned Asker connector.Stage) → TurnOk (asker_says run J n) run whole n line us log J a turned
+        → TurnHas run J n whole line us log J (turn_of_kind (with_asker d.node.own) AsConnector turned)
+    lifted-turn a Waits t = tt
+    lifted-turn a (Refuses why opened) t = t
+    lifted-turn a (Handles row) t = λ g. lifted-after row (t g)
 
     own-turn : (draw : List ℕ) (link : Link DaemonStage) (stage : connector.Stage) → AskerStageOk us n stage →
         let b = arrival (me d.node.own) d.node.own link reading draw in
@@ -242,25 +205,25 @@ module _ (run : WholeRun) (whole : List Logged) (n : NodeName) (line : ℕ) (us 
     own-turn draw link stage st g au =
         let b : Arrival Daemon DaemonStage = arrival (me d.node.own) d.node.own link reading draw in
         let a : AskerArrival = arrival_in b asker stage in
-        turned-ok Says run whole n line us log J d.node b (turn_of_kind (with_asker d.node.own) AsConnector (connector.turned_at a stage)) r.inv r.ok r.ok.own
-        (lifted-turn a b (connector.turned_at a stage) (client_step.turn-ok run whole n line us log J J a stage r.inv r.ok.own r.here st)) g
+        turn-carried run J n whole line us log J d.node b (turn_of_kind (with_asker d.node.own) AsConnector (connector.turned_at a stage)) r.inv r.ok r.ok.own
+        (lifted-turn a (connector.turned_at a stage) (client_step.turn-ok run whole n line us log J J a stage r.inv r.ok.own r.here st)) g
 
-    turn-keeps : (handlers : Handlers) (draw : List ℕ) → length draw ≡ 384 → (found : Option (Link DaemonStage)) → LinkOk Says us found → Always Keeps (turn handlers d.node reading draw found)
-    turn-keeps handlers draw drawn None st = λ g au. idle Says run whole n line us log J d.node r.inv r.ok
+    turn-keeps : (handlers : Handlers) (draw : List ℕ) → length draw ≡ 384 → (found : Option (Link DaemonStage)) → LinkHas run n us found → Always Keeps (turn handlers d.node reading draw found)
+    turn-keeps handlers draw drawn None st = λ g au. stays-idle run J n whole line us log J d.node r.inv r.ok
     turn-keeps handlers draw drawn (Some link) st = by_stage link.stage st
       where
-        by_stage : (stage : DaemonStage) → DaemonStageOk run us n stage → Always Keeps (turned_at handlers d.node (arrival (me d.node.own) d.node.own link reading draw) stage)
+        by_stage : (stage : DaemonStage) → DaemonStageOk run us n link.number stage → Always Keeps (turned_at handlers d.node (arrival (me d.node.own) d.node.own link reading draw) stage)
         by_stage (AsAcceptor stage) st = guest-turn draw drawn link stage st handlers
         by_stage (AsConnector stage) st = own-turn draw link stage st
 
     -- ---- the other events
 
     idle-keeps : Keeps (idles d.node)
-    idle-keeps g au = idle Says run whole n line us log J d.node r.inv r.ok
+    idle-keeps g au = stays-idle run J n whole line us log J d.node r.inv r.ok
 
     -- one entry, where nothing is logged
-    entry-keeps : (node_behind : DaemonNode) (e : Entry) → IsNotIssued e → EntryLaw run J e → NodeOk Says node_behind us J
-        → After run whole n line us log J [] (e ∷ []) (NodeOk Says node_behind)
+    entry-keeps : (node_behind : DaemonNode) (e : Entry) → IsNotIssued e → EntryLaw run J e → DaemonHas run J n node_behind us J
+        → After run whole n line us log J [] (e ∷ []) (DaemonHas run J n node_behind)
     entry-keeps m e none law ok = record {
       uses = us;
       grows = stays us;
@@ -269,14 +232,14 @@ module _ (run : WholeRun) (whole : List Logged) (n : NodeName) (line : ℕ) (us 
       good = record { own = asker-entered run J us J m.own.asker e none ok.own; links = ok.links };
     }
 
-    quiet-keeps : (node_behind : DaemonNode) (e : Entry) → IsQuietEntry e → NodeOk Says node_behind us J → After run whole n line us log J [] (e ∷ []) (NodeOk Says node_behind)
+    quiet-keeps : (node_behind : DaemonNode) (e : Entry) → IsQuietEntry e → DaemonHas run J n node_behind us J → After run whole n line us log J [] (e ∷ []) (DaemonHas run J n node_behind)
     quiet-keeps m e q ok = entry-keeps m e q.1 (login-law run J e q.0 (none-given J e q.1)) ok
 
-    forgotten-ok : (number : ℕ) → NodeOk Says (forgotten d.node number) us J
-    forgotten-ok number = record { own = r.ok.own; links = all-without Says us number d.node.links r.ok.links }
+    forgotten-ok : (number : ℕ) → DaemonHas run J n (forgotten d.node number) us J
+    forgotten-ok number = record { own = r.ok.own; links = links-without run n us number d.node.links r.ok.links }
 
     forgotten-keeps : (number : ℕ) → Keeps (idles (forgotten d.node number))
-    forgotten-keeps number g au = idle Says run whole n line us log J (forgotten d.node number) r.inv (forgotten-ok number)
+    forgotten-keeps number g au = stays-idle run J n whole line us log J (forgotten d.node number) r.inv (forgotten-ok number)
 
     -- a session has ended, where guests come
     ended-law : (session : ℕ) → GuestsCome run → EntryLaw run J (ended_entry d.node session)
@@ -288,22 +251,23 @@ module _ (run : WholeRun) (whole : List Logged) (n : NodeName) (line : ℕ) (us 
         a : Arrival Daemon DaemonStage
         a = arrival (me d.node.own) d.node.own (new_link number (AsAcceptor AwaitsBanner)) reading draw
 
-        by_row : (row : Row Daemon DaemonStage) → AfterRow Says run whole n line us log J row → AfterStep Says run whole n line us log J (carried_out d.node number false row)
-        by_row row h = carried Says run whole n line us log J d.node number false row r.ok.links h
+        by_row : (row : Row Daemon DaemonStage) → RowAfter run J n whole line us log J row → StepAfter run J n whole line us log J (carried_out d.node number false row)
+        by_row row h = row-carried run J n whole line us log J d.node number false row r.ok.links h
 
-        by_test : (full : Bool) → AfterStep Says run whole n line us log J (carried_out d.node number false
+        by_test : (full : Bool) → StepAfter run J n whole line us log J (carried_out d.node number false
             (if full then refuses (arrival (me d.node.own) d.node.own (new_link number (AsAcceptor AwaitsBanner)) reading draw) reason.LinksFull []
             else goes_on (arrival (me d.node.own) d.node.own (new_link number (AsAcceptor AwaitsBanner)) reading draw) (AsAcceptor AwaitsBanner) own_banner []))
         by_test true =
             let b : Arrival Daemon DaemonStage = arrival (me d.node.own) d.node.own (new_link number (AsAcceptor AwaitsBanner)) reading draw in
-            by_row (refuses b reason.LinksFull []) (after-simple Says run whole n line us log J (refuses b reason.LinksFull []) r.inv
-            (simple-refuses Says us J n b reason.LinksFull [] tt r.ok.own tt))
+            by_row (refuses b reason.LinksFull []) (row-anywhere run J n whole line us log J (refuses b reason.LinksFull [])
+            (after-simple Says run whole n line us log J (refuses b reason.LinksFull []) r.inv (simple-refuses Says us J n b reason.LinksFull [] tt r.ok.own tt)))
         by_test false =
             let b : Arrival Daemon DaemonStage = arrival (me d.node.own) d.node.own (new_link number (AsAcceptor AwaitsBanner)) reading draw in
-            by_row (goes_on b (AsAcceptor AwaitsBanner) own_banner []) (after-simple Says run whole n line us log J (goes_on b (AsAcceptor AwaitsBanner) own_banner []) r.inv
-            (simple-goes_on Says us J n b (AsAcceptor AwaitsBanner) own_banner [] r.ok.own (tt, come) tt))
+            by_row (goes_on b (AsAcceptor AwaitsBanner) own_banner []) (row-anywhere run J n whole line us log J (goes_on b (AsAcceptor AwaitsBanner) own_banner [])
+            (after-simple Says run whole n line us log J (goes_on b (AsAcceptor AwaitsBanner) own_banner []) r.inv
+            (simple-goes_on Says us J n b (AsAcceptor AwaitsBanner) own_banner [] r.ok.own (λ at. (tt, come)) tt)))
 
-    undialled-ok : NodeOk Says (undialled d.node) us J
+    undialled-ok : DaemonHas run J n (undialled d.node) us J
     undialled-ok = record { own = r.ok.own; links = r.ok.links }
 
     opens-keeps : (draw : List ℕ) (number : ℕ) (to : Option Peer) → (run.guests ≡ false → IsNoGuest (Opened number to)) → Keeps (opens d.node reading draw number to)
@@ -314,8 +278,9 @@ module _ (run : WholeRun) (whole : List Logged) (n : NodeName) (line : ℕ) (us 
         by_test true g au =
             let stage : DaemonStage = AsConnector (connector.AwaitsBanner 0) in
             let b : Arrival Daemon DaemonStage = arrival (me d.node.own) (undialled d.node).own (new_link number stage) reading draw in
-            carried Says run whole n line us log J (undialled d.node) number false (goes_on b stage own_banner []) r.ok.links
-            (after-simple Says run whole n line us log J (goes_on b stage own_banner []) r.inv (simple-goes_on Says us J n b stage own_banner [] r.ok.own tt tt))
+            row-carried run J n whole line us log J (undialled d.node) number false (goes_on b stage own_banner []) r.ok.links
+            (row-anywhere run J n whole line us log J (goes_on b stage own_banner [])
+            (after-simple Says run whole n line us log J (goes_on b stage own_banner []) r.inv (simple-goes_on Says us J n b stage own_banner [] r.ok.own (λ at. tt) tt)))
         by_test false g au = idle-keeps g au
     opens-keeps draw number (Some (peer.Daemon daemon)) comes = idle-keeps
 
@@ -323,14 +288,14 @@ module _ (run : WholeRun) (whole : List Logged) (n : NodeName) (line : ℕ) (us 
     unreached-keeps peer.Monitor g au = quiet-keeps (undialled d.node) (refused_entry (me d.node.own) 0 reason.NoLink) (tt, tt) undialled-ok
     unreached-keeps (peer.Daemon daemon) g au = quiet-keeps d.node (refused_entry (me d.node.own) 0 reason.NoLink) (tt, tt) r.ok
 
-    fed-keeps : (bytes : List ℕ) (found : Option (Link DaemonStage)) → LinkOk Says us found → Keeps (fed d.node bytes found)
+    fed-keeps : (bytes : List ℕ) (found : Option (Link DaemonStage)) → LinkHas run n us found → Keeps (fed d.node bytes found)
     fed-keeps bytes None st g au = idle-keeps g au
     fed-keeps bytes (Some link) st g au = record {
       uses = us;
       grows = stays us;
       inv = r.inv;
       laws = tt;
-      good = record { own = r.ok.own; links = all-put Says us (record link { received = link.received ++ bytes }) d.node.links r.ok.links st };
+      good = record { own = r.ok.own; links = links-put run n us (record link { received = link.received ++ bytes }) d.node.links r.ok.links st };
     }
 
     lossy-keeps : (number session : ℕ) → GuestsCome run → (answer : BookReply) → Always Keeps (lossy_gone d.node number session answer)
@@ -359,64 +324,42 @@ module _ (run : WholeRun) (whole : List Logged) (n : NodeName) (line : ℕ) (us 
     loses-keeps number stage g au = by_test (connector.is_open stage)
       where
         by_test : (is_open : Bool)
-            → After run whole n line us log J [] (if is_open then [] else refused_entry (me d.node.own) number reason.Lost ∷ []) (NodeOk Says (forgotten d.node number))
-        by_test true = idle Says run whole n line us log J (forgotten d.node number) r.inv (forgotten-ok number)
+            → After run whole n line us log J [] (if is_open then [] else refused_entry (me d.node.own) number reason.Lost ∷ []) (DaemonHas run J n (forgotten d.node number))
+        by_test true = stays-idle run J n whole line us log J (forgotten d.node number) r.inv (forgotten-ok number)
         by_test false = quiet-keeps (forgotten d.node number) (refused_entry (me d.node.own) number reason.Lost) (tt, tt) (forgotten-ok number)
 
-    gone-keeps : (found : Option (Link DaemonStage)) → LinkOk Says us found → Always Keeps (gone d.node found)
+    gone-keeps : (found : Option (Link DaemonStage)) → LinkHas run n us found → Always Keeps (gone d.node found)
     gone-keeps None st = idle-keeps
     gone-keeps (Some link) st = by_kind link.stage st
       where
-        by_kind : (stage : DaemonStage) → DaemonStageOk run us n stage → Always Keeps (gone_by_kind d.node link.number stage)
+        by_kind : (stage : DaemonStage) → DaemonStageOk run us n link.number stage → Always Keeps (gone_by_kind d.node link.number stage)
         by_kind (AsAcceptor stage) st = guest-gone link.number stage st.1
         by_kind (AsConnector stage) st = loses-keeps link.number stage
 
-    found-open : (links : List (Link DaemonStage)) → LinksOk Says us links
-        → IfSome (first_open asking_open links) (λ (f : Link DaemonStage × (Secured × Requests)). HasConnection us n f.1.0.keys.key)
-    found-open [] all = tt
-    found-open (l ∷ links) all = by_stage l.stage all.0 (first_open asking_open links) (found-open links all.1)
-      where
-        by_own : (stage : connector.Stage) → AskerStageOk us n stage → (behind : Option (Link DaemonStage × (Secured × Requests)))
-            → IfSome behind (λ (f : Link DaemonStage × (Secured × Requests)). HasConnection us n f.1.0.keys.key)
-            → IfSome (open_or l (connector.kept_open stage) behind) (λ (f : Link DaemonStage × (Secured × Requests)). HasConnection us n f.1.0.keys.key)
-        by_own (connector.AwaitsBanner asked) st behind rest = rest
-        by_own (connector.AwaitsHello asked) st behind rest = rest
-        by_own (connector.AwaitsChallenge asked) st behind rest = rest
-        by_own connector.AwaitsDone st behind rest = rest
-        by_own (connector.AwaitsSignature s login) st behind rest = rest
-        by_own (connector.AwaitsIdent s session) st behind rest = rest
-        by_own (connector.Open s requests) st behind rest = st
-
-        by_stage : (stage : DaemonStage) → DaemonStageOk run us n stage → (behind : Option (Link DaemonStage × (Secured × Requests)))
-            → IfSome behind (λ (f : Link DaemonStage × (Secured × Requests)). HasConnection us n f.1.0.keys.key)
-            → IfSome (open_or l (asking_open stage) behind) (λ (f : Link DaemonStage × (Secured × Requests)). HasConnection us n f.1.0.keys.key)
-        by_stage (AsAcceptor stage) st behind rest = rest
-        by_stage (AsConnector stage) st behind rest = by_own stage st behind rest
-
     -- a row of the daemon as one that asks is one of its own
-    as-daemon : (row : Row Asker DaemonStage) → AfterRow (kind_says run J n) run whole n line us log J row → AfterRow Says run whole n line us log J (lifted (with_asker d.node.own) row)
+    as-daemon : (row : Row Asker DaemonStage) → AfterRow (kind_says run J n) run whole n line us log J row → RowAfter run J n whole line us log J (lifted (with_asker d.node.own) row)
     as-daemon row h = record { uses = h.uses; grows = h.grows; inv = h.inv; laws = h.laws; good = record { own = h.good.own; link = link h.uses row.link h.good.link } }
       where
-        link : (vs : Uses) (l : Option (Link DaemonStage)) → LinkOk (kind_says run J n) vs l → LinkOk Says vs l
-        link vs (Some l) st = st
+        link : (vs : Uses) (l : Option (Link DaemonStage)) → LinkOk (kind_says run J n) vs l → LinkHas run n vs l
+        link vs (Some l) st = st l.number
         link vs None st = tt
 
     fetches-keeps : (draw : List ℕ) → Keeps (fetches d.node reading draw)
     fetches-keeps draw = by_test (is_fetching d.node)
       where
-        by_open : (found : Option (Link DaemonStage × (Secured × Requests))) → IfSome found (λ (f : Link DaemonStage × (Secured × Requests)). HasConnection us n f.1.0.keys.key)
+        by_open : (found : Option (Link DaemonStage × (Secured × Requests))) → IfSome found (λ (f : Link DaemonStage × (Secured × Requests)). HasMonitorKey us n f.1.0.keys.key)
             → Keeps (fetches_on d.node reading draw found)
         by_open None has g au = record { uses = us; grows = stays us; inv = r.inv; laws = tt; good = record { own = r.ok.own; links = r.ok.links } }
         by_open (Some (link, (s, requests))) has g au =
             let a : Arrival Asker DaemonStage = arrival (me d.node.own) asker link reading draw in
             let row : Row Asker DaemonStage = asks_rotating open_to_ask a s requests in
-            let simple = request-sends run whole n line us log J J (kind_says run J n) open_to_ask a s requests (want.Rotating reading) asked.Rotating r.ok.own has (λ t k h. h) in
-            carried Says run whole n line us log J d.node link.number false (lifted (with_asker d.node.own) row) r.ok.links
+            let simple = request-sends run whole n line us log J J (kind_says run J n) open_to_ask a s requests (want.Rotating reading) asked.Rotating r.ok.own has (λ t k h at. h) in
+            row-carried run J n whole line us log J d.node link.number false (lifted (with_asker d.node.own) row) r.ok.links
             (as-daemon row (after-simple (kind_says run J n) run whole n line us log J row r.inv simple))
 
         by_test : (under_way : Bool) → Keeps (if under_way then idles d.node else fetches_on d.node reading draw (first_open asking_open d.node.links))
         by_test true = idle-keeps
-        by_test false = by_open (first_open asking_open d.node.links) (found-open d.node.links r.ok.links)
+        by_test false = by_open (first_open asking_open d.node.links) (open-found run n us d.node.links r.ok.links)
 
     ticks-keeps : (draw : List ℕ) → Keeps (ticks d.node reading draw)
     ticks-keeps draw = by_test (is_outdated reading asker.view)
@@ -433,7 +376,7 @@ module _ (run : WholeRun) (whole : List Logged) (n : NodeName) (line : ℕ) (us 
       laws = (ended-law session come, tt);
       good = record {
         own = asker-entered run J us J asker (ended_entry d.node session) tt r.ok.own;
-        links = all-filter (λ (l : Link DaemonStage). DaemonStageOk run us n l.stage) (λ (l : Link DaemonStage). not (is_in session l.stage)) d.node.links r.ok.links;
+        links = links-filtered run n us (λ (l : Link DaemonStage). not (is_in session l.stage)) d.node.links r.ok.links;
       };
     }
     dropped-keeps session come (reply.Ended false) = idle-keeps
@@ -472,11 +415,11 @@ module _ (run : WholeRun) (whole : List Logged) (n : NodeName) (line : ℕ) (us 
   rule-keeps (Opened number to) r = opens-keeps run whole n line us log J d (Opened number to) reading r draw number to r.comes
   rule-keeps (NoLink to) r = unreached-keeps run whole n line us log J d (NoLink to) reading r to
   rule-keeps (Bytes number bytes) r =
-      fed-keeps run whole n line us log J d (Bytes number bytes) reading r bytes (link_of number d.node.links) (found-link (daemon_says run J n) us number d.node.links r.ok.links)
+      fed-keeps run whole n line us log J d (Bytes number bytes) reading r bytes (link_of number d.node.links) (link-found run n us number d.node.links r.ok.links)
   rule-keeps (Turn number) r =
-      turn-keeps run whole n line us log J d (Turn number) reading r handlers draw drawn (link_of number d.node.links) (found-link (daemon_says run J n) us number d.node.links r.ok.links)
+      turn-keeps run whole n line us log J d (Turn number) reading r handlers draw drawn (link_of number d.node.links) (link-found run n us number d.node.links r.ok.links)
   rule-keeps (Gone number) r =
-      gone-keeps run whole n line us log J d (Gone number) reading r (link_of number d.node.links) (found-link (daemon_says run J n) us number d.node.links r.ok.links)
+      gone-keeps run whole n line us log J d (Gone number) reading r (link_of number d.node.links) (link-found run n us number d.node.links r.ok.links)
   rule-keeps (Submit said) r = submits-keeps run whole n line us log J d (Submit said) reading r draw said r.comes
   rule-keeps Tick r = ticks-keeps run whole n line us log J d Tick reading r draw
   rule-keeps (Look view) r = absurd r.looks
@@ -484,7 +427,7 @@ module _ (run : WholeRun) (whole : List Logged) (n : NodeName) (line : ℕ) (us 
 
   -- what is known behind a step: of the daemon, and of the authority of each of its links
   pub record AfterDaemon (o : Outcome DaemonState) : Type 0 where
-    pub after : After run whole n line us log J o.out.seals o.out.entries (NodeOk (daemon_says run J n) o.state.node)
+    pub after : After run whole n line us log J o.out.seals o.out.entries (DaemonHas run J n o.state.node)
     pub backed : run.good ≡ true → AllByRecursion (IsBackedLink (entered J o.out.entries) d.node.own.asker.name.kind) o.state.node.links
 
   pub daemon-after : (input : Input) → Ready input → AreGranted run.leaked whole n line log (daemon_step handlers d input reading draw).out.seals

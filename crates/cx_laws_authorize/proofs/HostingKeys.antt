@@ -68,18 +68,18 @@ TurnedKeys us J n (Handles row) = KeysRow us J n row
 
 -- ---- idents and reconnections, on a link that has an authority
 
-module _ (us : Uses) (J : List Entry) (n : NodeName) (b : GuestArrival) (s : Secured) (owner : Authority) (host : HostKeys us s.keys owner.ticket.name) where
+module _ (us : Uses) (J : List Entry) (n : NodeName) (b : GuestArrival) (s : Secured) (owner : Authority) (host : HostKeys us n b.link.number s.keys owner.ticket.name) where
   abbrev Stays : Deciding Hosted → Type 0
   Stays d = Always (λ (h : Hosted). TurnedKeys us J n h.turned) d
 
   -- a frame that is sealed on the link
   sealed-frame : (f : Frame) → FrameOk us J n s.keys (secure_frame s.keys f)
-  sealed-frame f = frame-ok us J n s.keys f (host-seals us n s.keys owner.ticket.name host)
+  sealed-frame f = frame-ok us J n s.keys f (host-seals us n b.link.number s.keys owner.ticket.name host)
 
-  moves : (t : Secured) → IsSameWay t.keys s.keys → HostKeys us t.keys owner.ticket.name
-  moves t same = host-moves us t.keys s.keys owner.ticket.name same host
+  moves : (t : Secured) → IsSameWay t.keys s.keys → HostKeys us n b.link.number t.keys owner.ticket.name
+  moves t same = host-moves us n b.link.number t.keys s.keys owner.ticket.name same host
 
-  opens : (t : Secured) → IsSameWay t.keys s.keys → (name : Name) × HostKeys us t.keys name
+  opens : (t : Secured) → IsSameWay t.keys s.keys → (name : Name) × HostKeys us n b.link.number t.keys name
   opens t same = (owner.ticket.name, moves t same)
 
   admits-still : (ident : ClientIdent) (number epoch : ℕ) → KeysRow us J n (admits b s owner ident number epoch)
@@ -160,14 +160,14 @@ module _ (us : Uses) (J : List Entry) (n : NodeName) (b : GuestArrival) (s : Sec
 
 -- ---- messages, on a link that is open
 
-module _ (us : Uses) (J : List Entry) (n : NodeName) (handlers : Handlers) (b : GuestArrival) (s : Secured) (served : Served) (name : Name) (host : HostKeys us s.keys name) where
+module _ (us : Uses) (J : List Entry) (n : NodeName) (handlers : Handlers) (b : GuestArrival) (s : Secured) (served : Served) (name : Name) (host : HostKeys us n b.link.number s.keys name) where
   abbrev StaysOpen : Deciding Hosted → Type 0
   StaysOpen d = Always (λ (h : Hosted). TurnedKeys us J n h.turned) d
 
   -- some frames that are sealed on the link
-  frames-ok : (keys : Keys) (fs : List Frame) → HostKeys us keys name → FrameOk us J n keys (secure_frames keys fs)
+  frames-ok : (keys : Keys) (fs : List Frame) → HostKeys us n b.link.number keys name → FrameOk us J n keys (secure_frames keys fs)
   frames-ok keys [] h = (tt, record { key = refl; out = refl; into = refl })
-  frames-ok keys (f ∷ fs) h = by_first (secure_frame keys f) (frame-ok us J n keys f (host-seals us n keys name h)) (λ k moved. frames-ok k fs moved)
+  frames-ok keys (f ∷ fs) h = by_first (secure_frame keys f) (frame-ok us J n keys f (host-seals us n b.link.number keys name h)) (λ k moved. frames-ok k fs moved)
     where
       by_rest : (one : SealedFrame) → Allowed us J n one.seals × IsSameWay one.keys keys → (r : Result SealedFrame BytesFault) → FrameOk us J n one.keys r → FrameOk us J n keys (sealed_behind one r)
       by_rest one ok (Err why) rest = tt
@@ -176,15 +176,15 @@ module _ (us : Uses) (J : List Entry) (n : NodeName) (handlers : Handlers) (b : 
         record { key = rest.1.key ∙ ok.1.key; out = rest.1.out ∙ ok.1.out; into = rest.1.into ∙ ok.1.into },
       )
 
-      by_first : (r : Result SealedFrame BytesFault) → FrameOk us J n keys r → ((k : Keys) → HostKeys us k name → FrameOk us J n k (secure_frames k fs)) → FrameOk us J n keys (sealed_then r (λ one. sealed_behind one (secure_frames one.keys fs)))
+      by_first : (r : Result SealedFrame BytesFault) → FrameOk us J n keys r → ((k : Keys) → HostKeys us n b.link.number k name → FrameOk us J n k (secure_frames k fs)) → FrameOk us J n keys (sealed_then r (λ one. sealed_behind one (secure_frames one.keys fs)))
       by_first (Err why) ok rest = tt
-      by_first (Ok one) ok rest = by_rest one ok (secure_frames one.keys fs) (rest one.keys (host-moves us one.keys keys name ok.1 h))
+      by_first (Ok one) ok rest = by_rest one ok (secure_frames one.keys fs) (rest one.keys (host-moves us n b.link.number one.keys keys name ok.1 h))
 
   sends-still : (r : Result SealedFrame BytesFault) → FrameOk us J n s.keys r → KeysRow us J n (secure_sent b s (λ behind. Open behind served) [] r)
-  sends-still r ok = keys-secure us J n b s (λ behind. Open behind served) [] r ok (λ t same. (name, host-moves us t.keys s.keys name same host)) tt
+  sends-still r ok = keys-secure us J n b s (λ behind. Open behind served) [] r ok (λ t same. (name, host-moves us n b.link.number t.keys s.keys name same host)) tt
 
   frame-still : (f : Frame) → KeysRow us J n (secure_sent b s (λ behind. Open behind served) [] (secure_frame s.keys f))
-  frame-still f = sends-still (secure_frame s.keys f) (frame-ok us J n s.keys f (host-seals us n s.keys name host))
+  frame-still f = sends-still (secure_frame s.keys f) (frame-ok us J n s.keys f (host-seals us n b.link.number s.keys name host))
 
   untaken-stays : (r : BookReply) → StaysOpen (on_untaken b s served r)
   untaken-stays (reply.Refused (fault.Repeat last)) = frame-still (acknowledgement last)
@@ -303,7 +303,7 @@ module _ (run : WholeRun) (whole : List Logged) (n : NodeName) (line : ℕ) (us 
       record { uses = h.uses; grows = h.grows; inv = h.inv; entries = h.entries; link = h.link }
   more-keeps awaited (Err e) = tt
 
-  signature-keeps : (s : Secured) (owner : Authority) (opened : List SealEntry) (r : Result (Option (Frame × ℕ)) SecureRefusal) → HostKeys us s.keys owner.ticket.name → Allowed us J n opened
+  signature-keeps : (s : Secured) (owner : Authority) (opened : List SealEntry) (r : Result (Option (Frame × ℕ)) SecureRefusal) → HostKeys us n a.link.number s.keys owner.ticket.name → Allowed us J n opened
       → Keeps (no_session_moves (turned_by
       (λ (link, f, keys) parts. with_opened parts (on_signature (at a link) (under s keys) owner (due 7 auth_signature_layout.form f))) (secure_read s.keys a.link opened r)))
   signature-keeps s owner opened (Ok None) host al = tt
@@ -311,11 +311,11 @@ module _ (run : WholeRun) (whole : List Logged) (n : NodeName) (line : ℕ) (us 
       let k : Secured = under s (keys_behind s.keys f) in
       let b : GuestArrival = at a (taking a.link m) in
       let row : GuestRow = on_signature b k owner (due 7 auth_signature_layout.form f) in
-      let h = keys-signature us J n b k owner (due 7 auth_signature_layout.form f) (host-moves us k.keys s.keys owner.ticket.name (record { key = refl; out = refl; into = refl }) host) in
+      let h = keys-signature us J n b k owner (due 7 auth_signature_layout.form f) (host-moves us n a.link.number k.keys s.keys owner.ticket.name (record { key = refl; out = refl; into = refl }) host) in
       simple (with_opened opened row) (record { seals = all-append (IsAllowed us J n) opened row.seals al h.seals; entries = h.entries; link = h.link })
   signature-keeps s owner opened (Err e) host al = al
 
-  ident-keeps : (s : Secured) (owner : Authority) (opened : List SealEntry) (r : Result (Option (Frame × ℕ)) SecureRefusal) → HostKeys us s.keys owner.ticket.name → Allowed us J n opened
+  ident-keeps : (s : Secured) (owner : Authority) (opened : List SealEntry) (r : Result (Option (Frame × ℕ)) SecureRefusal) → HostKeys us n a.link.number s.keys owner.ticket.name → Allowed us J n opened
       → Keeps (decided_by (λ (link, f, keys). on_ident (at a link) (under s keys) owner f) (secure_read s.keys a.link opened r))
   ident-keeps s owner opened (Ok None) host al = tt
   ident-keeps s owner opened (Ok (Some (f, m))) host al =
@@ -324,10 +324,10 @@ module _ (run : WholeRun) (whole : List Logged) (n : NodeName) (line : ℕ) (us 
       let rule : Deciding Hosted = on_ident b k owner f in
       always-map KeepsHosted (hosted_behind opened) rule
       (always-weaker (λ (h : Hosted). TurnedKeys us J n h.turned) (λ (h : Hosted). KeepsHosted (hosted_behind opened h)) (λ h ok. behind-opened opened h al ok) rule
-      (frame-stays us J n b k owner (host-moves us k.keys s.keys owner.ticket.name (record { key = refl; out = refl; into = refl }) host) f))
+      (frame-stays us J n b k owner (host-moves us n a.link.number k.keys s.keys owner.ticket.name (record { key = refl; out = refl; into = refl }) host) f))
   ident-keeps s owner opened (Err e) host al = al
 
-  open-keeps : (handlers : Handlers) (s : Secured) (served : Served) (opened : List SealEntry) (r : Result (Option (Frame × ℕ)) SecureRefusal) → (name : Name) × HostKeys us s.keys name → Allowed us J n opened
+  open-keeps : (handlers : Handlers) (s : Secured) (served : Served) (opened : List SealEntry) (r : Result (Option (Frame × ℕ)) SecureRefusal) → (name : Name) × HostKeys us n a.link.number s.keys name → Allowed us J n opened
       → Keeps (decided_by (λ (link, f, keys). on_open handlers (at a link) (under s keys) served f) (secure_read s.keys a.link opened r))
   open-keeps handlers s served opened (Ok None) host al = tt
   open-keeps handlers s served opened (Ok (Some (f, m))) host al =
@@ -336,10 +336,10 @@ module _ (run : WholeRun) (whole : List Logged) (n : NodeName) (line : ℕ) (us 
       let rule : Deciding Hosted = on_open handlers b k served f in
       always-map KeepsHosted (hosted_behind opened) rule
       (always-weaker (λ (h : Hosted). TurnedKeys us J n h.turned) (λ (h : Hosted). KeepsHosted (hosted_behind opened h)) (λ h ok. behind-opened opened h al ok) rule
-      (open-stays us J n handlers b k served host.0 (host-moves us k.keys s.keys host.0 (record { key = refl; out = refl; into = refl }) host.1) f))
+      (open-stays us J n handlers b k served host.0 (host-moves us n a.link.number k.keys s.keys host.0 (record { key = refl; out = refl; into = refl }) host.1) f))
   open-keeps handlers s served opened (Err e) host al = al
 
-  pub guest-keeps : (handlers : Handlers) (stage : GuestStage) → StageKeys us stage → Keeps (guest_turned handlers a stage)
+  pub guest-keeps : (handlers : Handlers) (stage : GuestStage) → StageKeys us n a.link.number stage → Keeps (guest_turned handlers a stage)
   guest-keeps handlers AwaitsBanner st = banner-keeps (banner_at (ahead_of a.link))
   guest-keeps handlers AwaitsHello st = hello-keeps (plain_frame_at (ahead_of a.link))
   guest-keeps handlers AwaitsRequest st = request-keeps (plain_frame_at (ahead_of a.link))

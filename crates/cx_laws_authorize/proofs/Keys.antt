@@ -43,7 +43,7 @@ use Rattle.cx_laws_keys.proofs.Lists.{all-append, all-map}
 use Rattle.cx_laws_keys.proofs.Premises.{AreGranted, behind, behind-append, granted-first, granted-rest}
 use Rattle.cx_laws_keys.proofs.Reading.{challenge_no_reply, read_reply}
 use Rattle.cx_laws_keys.proofs.Steps.{inv-all, inv-drawn}
-use Rattle.cx_laws_keys.proofs.Uses.{AtDaemon, Connected, Grows, IsConnected, Means, Ticketed, Use, Uses, connected-grows, grows-one, session_use, stays, with_key, WholeRun}
+use Rattle.cx_laws_keys.proofs.Uses.{AtDaemon, Connected, Grows, IsConnected, Means, Ticketed, Use, Uses, grows-one, session_use, stays, with_key, WholeRun}
 use Rattle.cx_laws_login.proofs.Facts.{IsSameWay, MaySeal}
 use Rattle.cx_laws_keys.proofs.Uses.{AreGenerated}
 use Rattle.cx_laws_login.proofs.Issuing.{acceptor-counts, acceptor-sends, connector-counts, connector-sends, short-connection}
@@ -51,35 +51,44 @@ use Rattle.cx_laws_login.proofs.Rows.{Allowed, FrameOk, frame-ok}
 
 -- ---- keys of a guest's link
 
--- the key of a link to this entity, under which the daemon seals with the nonce of an acceptor and opens with that of a connector
-pub record HostKeys (us : Uses) (keys : Keys) (name : Name) : Type 0 where
-  pub connected : IsConnected us keys.key name
+-- the key of this link of this acceptor to this entity, under which the daemon seals with the nonce of an acceptor and opens with that of a connector
+pub record HostKeys (us : Uses) (n : NodeName) (number : ℕ) (keys : Keys) (name : Name) : Type 0 where
+  pub service : EntityType
+  pub tie : ℕ
+  pub means : Means us keys.key (Connected n number name (AtDaemon service tie))
   pub out : IsOfAcceptor keys.out.fixed
   pub into : IsOfConnector keys.into.fixed
 
-pub host-grows : (us vs : Uses) (keys : Keys) (name : Name) → Grows us vs → HostKeys us keys name → HostKeys vs keys name
-host-grows us vs keys name f h = record { connected = connected-grows us vs keys.key name f h.connected; out = h.out; into = h.into }
+-- so its key is one of a link to the entity
+pub host-connected : (us : Uses) (n : NodeName) (number : ℕ) (keys : Keys) (name : Name) → HostKeys us n number keys name → IsConnected us keys.key name
+host-connected us n number keys name h = record { acceptor = n; number = number; tie = AtDaemon h.service h.tie; means = h.means }
 
-pub host-moves : (us : Uses) (k keys : Keys) (name : Name) → IsSameWay k keys → HostKeys us keys name → HostKeys us k name
-host-moves us k keys name same h = record {
-  connected = subst (λ (key : List ℕ). IsConnected us key name) (sym same.key) h.connected;
+pub host-grows : (us vs : Uses) (n : NodeName) (number : ℕ) (keys : Keys) (name : Name) → Grows us vs → HostKeys us n number keys name → HostKeys vs n number keys name
+host-grows us vs n number keys name f h =
+    record { service = h.service; tie = h.tie; means = f.means keys.key (Connected n number name (AtDaemon h.service h.tie)) h.means; out = h.out; into = h.into }
+
+pub host-moves : (us : Uses) (n : NodeName) (number : ℕ) (k keys : Keys) (name : Name) → IsSameWay k keys → HostKeys us n number keys name → HostKeys us n number k name
+host-moves us n number k keys name same h = record {
+  service = h.service;
+  tie = h.tie;
+  means = subst (λ (key : List ℕ). Means us key (Connected n number name (AtDaemon h.service h.tie))) (sym same.key) h.means;
   out = subst IsOfAcceptor (sym same.out) h.out;
   into = subst IsOfConnector (sym same.into) h.into;
 }
 
-pub host-seals : (us : Uses) (n : NodeName) (keys : Keys) (name : Name) → HostKeys us keys name → MaySeal us n keys
-host-seals us n keys name h = record { name = name; connected = h.connected; own = inr h.out }
+pub host-seals : (us : Uses) (n : NodeName) (number : ℕ) (keys : Keys) (name : Name) → HostKeys us n number keys name → MaySeal us n keys
+host-seals us n number keys name h = record { name = name; connected = host-connected us n number keys name h; own = inr h.out }
 
 -- until a session is open, the entity is the one of the authority
-abbrev pub StageKeys : Uses → GuestStage → Type 0
-StageKeys us (AwaitsSignature s owner) = HostKeys us s.keys owner.ticket.name
-StageKeys us (AwaitsIdent s owner) = HostKeys us s.keys owner.ticket.name
-StageKeys us (Open s served) = (name : Name) × HostKeys us s.keys name
-StageKeys us _ = Unit {0}
+abbrev pub StageKeys : Uses → NodeName → ℕ → GuestStage → Type 0
+StageKeys us n number (AwaitsSignature s owner) = HostKeys us n number s.keys owner.ticket.name
+StageKeys us n number (AwaitsIdent s owner) = HostKeys us n number s.keys owner.ticket.name
+StageKeys us n number (Open s served) = (name : Name) × HostKeys us n number s.keys name
+StageKeys us n number _ = Unit {0}
 
-abbrev pub LinkKeys : Uses → Option (Link GuestStage) → Type 0
-LinkKeys us (Some link) = StageKeys us link.stage
-LinkKeys us None = Unit {0}
+abbrev pub LinkKeys : Uses → NodeName → Option (Link GuestStage) → Type 0
+LinkKeys us n (Some link) = StageKeys us n link.number link.stage
+LinkKeys us n None = Unit {0}
 
 -- the session key of a ticket for a daemon
 ticketed : (name : Name) (service : EntityType) → is_daemon_type service ≡ true → session_use name service ≡ Ticketed name service
@@ -100,7 +109,7 @@ module _ (us : Uses) (J : List Entry) (n : NodeName) where
   pub record KeysRow (row : GuestRow) : Type 0 where
     pub seals : Allowed us J n row.seals
     pub entries : AllByRecursion IsNotIssued row.entries
-    pub link : LinkKeys us row.link
+    pub link : LinkKeys us n row.link
 
   pub openings-allowed : (es : List SealEntry) → AllByRecursion IsOpening es → Allowed us J n es
   openings-allowed es h = all-map IsOpening (IsAllowed us J n) opening-allowed es h
@@ -119,7 +128,7 @@ module _ (us : Uses) (J : List Entry) (n : NodeName) where
       (Ticketed name service, subst (λ (u : Use). Means us session u) (ticketed name service of) means, says, tt)
 
   module _ (b : GuestArrival) where
-    pub keys-plain : (stage : GuestStage) (seals : List SealEntry) (r : Result (List ℕ) BytesFault) → StageKeys us stage → Allowed us J n seals → KeysRow (plain_sent b stage seals r)
+    pub keys-plain : (stage : GuestStage) (seals : List SealEntry) (r : Result (List ℕ) BytesFault) → StageKeys us n b.link.number stage → Allowed us J n seals → KeysRow (plain_sent b stage seals r)
     keys-plain stage seals (Ok bytes) st al = record { seals = al; entries = tt; link = st }
     keys-plain stage seals (Err why) st al = record { seals = al; entries = (tt, tt); link = tt }
 
@@ -127,7 +136,7 @@ module _ (us : Uses) (J : List Entry) (n : NodeName) where
     keys-refuses why seals al = record { seals = al; entries = (tt, tt); link = tt }
 
     pub keys-secure : (s : Secured) (stage : Secured → GuestStage) (seals : List SealEntry) (r : Result SealedFrame BytesFault) → FrameOk us J n s.keys r
-        → ((t : Secured) → IsSameWay t.keys s.keys → StageKeys us (stage t)) → Allowed us J n seals → KeysRow (secure_sent b s stage seals r)
+        → ((t : Secured) → IsSameWay t.keys s.keys → StageKeys us n b.link.number (stage t)) → Allowed us J n seals → KeysRow (secure_sent b s stage seals r)
     keys-secure s stage seals (Ok sealed) ok st al = record {
       seals = all-append (IsAllowed us J n) seals sealed.seals al ok.0;
       entries = tt;
@@ -145,7 +154,7 @@ module _ (us : Uses) (J : List Entry) (n : NodeName) where
     keys-hello (Ok hello) = record { seals = tt; entries = tt; link = tt }
     keys-hello (Err why) = record { seals = tt; entries = (tt, tt); link = tt }
 
-    pub keys-signature : (s : Secured) (owner : Authority) (found : Result AuthSignature BytesFault) → HostKeys us s.keys owner.ticket.name → KeysRow (on_signature b s owner found)
+    pub keys-signature : (s : Secured) (owner : Authority) (found : Result AuthSignature BytesFault) → HostKeys us n b.link.number s.keys owner.ticket.name → KeysRow (on_signature b s owner found)
     keys-signature s owner (Err why) h = record { seals = tt; entries = (tt, tt); link = tt }
     keys-signature s owner (Ok found) h = by_test (is_signed s found.signature)
       where
@@ -232,7 +241,7 @@ module _ (run : WholeRun) (whole : List Logged) (n : NodeName) (line : ℕ) (us 
     pub grows : Grows us uses
     pub inv : Inv run whole uses (behind n line row.seals log) J
     pub entries : AllByRecursion IsNotIssued row.entries
-    pub link : LinkKeys uses row.link
+    pub link : LinkKeys uses n row.link
 
   -- where it draws no key
   pub keys-kept : (row : GuestRow) → KeysRow us J n row → KeptKeys row
@@ -286,9 +295,11 @@ module _ (run : WholeRun) (whole : List Logged) (n : NodeName) (line : ℕ) (us 
         inr (subst (λ (u : Use). Means us ticket.session u) (ticketed ticket.name b.own.name.kind of)
         (opened-means ticket opened (granted-first run.leaked whole n line log opened (drew ∷ []) g) shown))
 
-    host : HostKeys vs (acceptor_keys secret) ticket.name
+    host : HostKeys vs n b.link.number (acceptor_keys secret) ticket.name
     host = record {
-      connected = record { acceptor = n; number = b.link.number; tie = AtDaemon b.own.name.kind (raised nonce); means = inl (refl, refl) };
+      service = b.own.name.kind;
+      tie = raised nonce;
+      means = inl (refl, refl);
       out = acceptor-sends b.draw drawn;
       into = connector-sends b.draw drawn;
     }
@@ -325,7 +336,7 @@ module _ (run : WholeRun) (whole : List Logged) (n : NodeName) (line : ℕ) (us 
           inv = subst (λ (l : List Logged). Inv run whole vs l J) (sym (behind-append n line before (held ++ done.seals) log))
               (inv-all run whole vs (behind n line before log) J n line (held ++ done.seals) (drawn-inv first) allowed);
           entries = tt;
-          link = host-moves vs done.secured.keys (acceptor_keys secret) ticket.name f.1 host;
+          link = host-moves vs n b.link.number done.secured.keys (acceptor_keys secret) ticket.name f.1 host;
         }
 
     authorizes-keys : Granted (authorizes b opened ticket nonce).seals → KeptKeys (authorizes b opened ticket nonce)
@@ -334,7 +345,7 @@ module _ (run : WholeRun) (whole : List Logged) (n : NodeName) (line : ℕ) (us 
         (λ means. joined-keys vs (acceptor_keys secret) ticket.session b.link.sent (plain_frame (authorized_frame ticket nonce secret))
         (signed_frame (acceptor_keys secret) ticket.session (take b.link.taken b.link.received))
         (signing-keys vs ticket.name b.own.name.kind (acceptor_keys secret) ticket.session (take b.link.taken b.link.received) (secure_frame (acceptor_keys secret) _) means
-        (frame-ok vs J n (acceptor_keys secret) _ (host-seals vs n (acceptor_keys secret) ticket.name host)))) g
+        (frame-ok vs J n (acceptor_keys secret) _ (host-seals vs n b.link.number (acceptor_keys secret) ticket.name host)))) g
 
   kept-looked : (row : GuestRow) → KeptKeys row → KeptKeys (entered_before (looked_entry b) row)
   kept-looked row h = record { uses = h.uses; grows = h.grows; inv = h.inv; entries = (tt, h.entries); link = h.link }

@@ -9,6 +9,7 @@ pub mod KeepingKeys
 pub mod Keys
 pub mod HostingKeys
 pub mod Telling
+pub mod DaemonRows
 pub mod DaemonStep
 pub mod Viewing
 pub mod Opening

@@ -49,7 +49,7 @@ use Rattle.cx_laws_keys.proofs.Steps.{inv-all, inv-entered}
 use Rattle.cx_laws_keys.proofs.Uses.{Grows, Uses, WholeRun, stays}
 use Rattle.cx_laws_login.proofs.AskerRows.{NeverExcepted, asker_says}
 use Rattle.cx_laws_login.proofs.ClientStep as client_step
-use Rattle.cx_laws_login.proofs.Facts.{AskerOk, AskerStageOk, HasConnection, asker-entered, none-fetched, seals-own}
+use Rattle.cx_laws_login.proofs.Facts.{AskerOk, AskerStageOk, HasConnection, HasMonitorKey, asker-entered, none-fetched, seals-monitor, seals-own}
 use Rattle.cx_laws_login.proofs.Rows.{AfterRow, AfterStep, Allowed, FrameOk, LinkOk, LinksOk, NodeOk, Saying, TurnOk, all-filter, all-put, all-without, carried, frame-ok, idle, turned-ok}
 
 -- ---- what is known of a client
@@ -348,7 +348,7 @@ module _ (run : WholeRun) (whole : List Logged) (n : NodeName) (line : ℕ) (us 
 
     -- Renew
     abbrev Asks_ : Link ClientStage × (Secured × Requests) → Type 0
-    Asks_ f = HasConnection us n f.1.0.keys.key × IsLoginKey us n f.1.1.session
+    Asks_ f = HasMonitorKey us n f.1.0.keys.key × IsLoginKey us n f.1.1.session
 
     found-open : (links : List (Link ClientStage)) → LinksOk Says us links → IfSome (first_open asking_open links) Asks_
     found-open [] all = tt
@@ -369,13 +369,13 @@ module _ (run : WholeRun) (whole : List Logged) (n : NodeName) (line : ℕ) (us 
         by_kind (ToMonitor stage) st behind rest = by_stage stage st behind rest
         by_kind (ToDaemon stage) st behind rest = rest
 
-    keyed : (key other : List ℕ) → other ≡ key → HasConnection us n key → HasConnection us n other
-    keyed key other same h = subst (λ (k : List ℕ). HasConnection us n k) (sym same) h
+    renewed-keyed : (key other : List ℕ) → other ≡ key → HasMonitorKey us n key → HasMonitorKey us n other
+    renewed-keyed key other same h = subst (λ (k : List ℕ). HasMonitorKey us n k) (sym same) h
 
     abbrev renew_row : Link ClientStage → Secured → Requests → Result SealedFrame Reason → Row WholeClient ClientStage
     renew_row link s requests sealed = lifted (with_asker c.own) (sends_request open_to_ask (arrival (me c.own) c.own.asker link reading draw) s requests want.Tickets sealed)
 
-    renews-keeps : (services : ℕ) (link : Link ClientStage) (s : Secured) (requests : Requests) → HasConnection us n s.keys.key → IsLoginKey us n requests.session
+    renews-keeps : (services : ℕ) (link : Link ClientStage) (s : Secured) (requests : Requests) → HasMonitorKey us n s.keys.key → IsLoginKey us n requests.session
         → Keeps (renewed c reading draw services link s requests)
     renews-keeps services link s requests has auth g =
         carried Says run whole n line us log J c link.number false (renew_row link s requests (sealed_request s.keys requests (asked.Tickets services))) r.ok.links
@@ -383,7 +383,7 @@ module _ (run : WholeRun) (whole : List Logged) (n : NodeName) (line : ℕ) (us 
       where
         by_sent : (made : Result SealedFrame BytesFault) → FrameOk us J n s.keys made → AfterRow Says run whole n line us log J (renew_row link s requests (unless_unsealed made))
         by_sent (Ok sealed) h =
-            row-after (renew_row link s requests (Ok sealed)) h.0 tt r.ok.own (keyed s.keys.key sealed.keys.key h.1.key has, auth)
+            row-after (renew_row link s requests (Ok sealed)) h.0 tt r.ok.own (renewed-keyed s.keys.key sealed.keys.key h.1.key has, auth)
         by_sent (Err why) h =
             row-after (renew_row link s requests (Err (reason.Bytes why))) tt (lawful-refused run (me c.own) link.number (reason.Bytes why) tt, tt) r.ok.own tt
 
@@ -393,7 +393,7 @@ module _ (run : WholeRun) (whole : List Logged) (n : NodeName) (line : ℕ) (us 
             row-after (renew_row link s requests (Err reason.Spent)) tt (lawful-refused run (me c.own) link.number reason.Spent tt, tt) r.ok.own tt
         by_count false =
             by_sent (secure_frame s.keys (request_message (requests.count + 1) (asked.Tickets services)))
-            (frame-ok us J n s.keys (request_message (requests.count + 1) (asked.Tickets services)) (seals-own us n s.keys has))
+            (frame-ok us J n s.keys (request_message (requests.count + 1) (asked.Tickets services)) (seals-monitor us n s.keys has))
 
     -- Connect
     calls-come : (daemon : Name) (lossy : Bool) → input ≡ Submit (command.Connect daemon lossy) → GuestsCome run
@@ -471,6 +471,9 @@ module _ (run : WholeRun) (whole : List Logged) (n : NodeName) (line : ℕ) (us 
         let m : WholeClientNode = pushed_node session operation in
         entered_before (sent_entry c.own session seq operation)
         (secure_sent (arrival (me m.own) m.own link reading draw) s (λ behind. ToDaemon (call.Open behind callee cookie)) [] made)
+
+    keyed : (key other : List ℕ) → other ≡ key → HasConnection us n key → HasConnection us n other
+    keyed key other same h = subst (λ (k : List ℕ). HasConnection us n k) (sym same) h
 
     sends_there-keeps : (session : HeldSession) (operation : Operation) (seq : ℕ) (link : Link ClientStage) (s : Secured) (callee : Callee) (cookie : ℕ) → GuestsCome run
         → HasConnection us n s.keys.key → Keeps (sent_in c reading draw session operation seq (Some (link, (s, (callee, cookie)))))

@@ -25,7 +25,7 @@ use Rattle.cx_steps.specs.declared.seals.SealEntry.{SealEntry}
 use Rattle.cx_steps.specs.declared.seals.SealEntry.TheVariants as entry
 use Rattle.cx_steps.specs.declared.seals.SealMark.{SealMark}
 use Rattle.cx_laws_keys.proofs.Lists.{some-of, some-with, all-map}
-use Rattle.cx_laws_keys.proofs.Uses.{Use, Secret, Generated, Login, Ticketed, Connected, AtDaemon, Uses, IsConnected, Means, Grows, HasDrawn, HasSecret, connected-grows, session_use, whose, WholeRun, AreGenerated, IsSavedIn}
+use Rattle.cx_laws_keys.proofs.Uses.{Use, Secret, Generated, Login, Ticketed, Connected, AtDaemon, AtMonitor, Uses, IsConnected, Means, Grows, HasDrawn, HasSecret, session_use, whose, WholeRun, AreGenerated, IsSavedIn}
 use Rattle.cx_rotate.specs.declared.generations.Generation.{Generation}
 
 -- ---- what is said under a key
@@ -74,6 +74,15 @@ RepliesTo us name content = (x : AuthorizeReply) → spelled_by authorize_reply_
 pub reply-connected : (us : Uses) (name : Name) (x : AuthorizeReply) → HasReply us name x → IsConnected us (take 16 x.secret) name
 reply-connected us name x h = record { acceptor = h.acceptor; number = h.number; tie = AtDaemon h.service x.nonce_plus_one; means = h.means }
 
+-- the key is that of a link of the monitor to this entity, tied to the challenge of its proof
+pub record HasLogin (us : Uses) (name : Name) (key : List ℕ) : Type 0 where
+  pub number : ℕ
+  pub challenge : ℕ
+  pub means : Means us key (Connected node.Monitor number name (AtMonitor challenge))
+
+pub login-connected : (us : Uses) (name : Name) (key : List ℕ) → HasLogin us name key → IsConnected us key name
+login-connected us name key h = record { acceptor = node.Monitor; number = h.number; tie = AtMonitor h.challenge; means = h.means }
+
 -- what may be sealed under a key of this use, by what is read of it: an entity is told the session key of its own ticket for AUTH, and the
 -- generations of its own type; under that session key those of its other tickets, and the secret of its link to the monitor; under the session key of
 -- any ticket of it the secret of its link to a daemon; under a generation stand issued tickets of its service
@@ -85,7 +94,7 @@ Says us entries key (Generated service id) content =
     (x : ServiceTicket) → spelled_by service_ticket_layout.form content ≡ Some x → HasTicket entries service id key content x × Means us x.session (session_use x.name service)
 Says us entries key (Login name) content =
     ((x : TicketInfo) → spelled_by ticket_info_layout.form content ≡ Some x → Means us x.session (Ticketed name x.service))
-    × ((x : ConnectionSecret) → spelled_by connection_secret_layout.form content ≡ Some x → IsConnected us (take 16 x.secret) name)
+    × ((x : ConnectionSecret) → spelled_by connection_secret_layout.form content ≡ Some x → HasLogin us name (take 16 x.secret))
     × RepliesTo us name content
 Says us entries key (Ticketed name service) content = RepliesTo us name content
 Says us entries key (Connected acceptor number name tie) content = Unit {0}
@@ -170,6 +179,10 @@ reply-grows us vs name x g h = record {
   counts_out = h.counts_out;
 }
 
+pub login-grows : (us vs : Uses) (name : Name) (key : List ℕ) → Grows us vs → HasLogin us name key → HasLogin vs name key
+login-grows us vs name key g h =
+    record { number = h.number; challenge = h.challenge; means = g.means key (Connected node.Monitor h.number name (AtMonitor h.challenge)) h.means }
+
 replies-grow : (us vs : Uses) (name : Name) (content : List ℕ) → Grows us vs → RepliesTo us name content → RepliesTo vs name content
 replies-grow us vs name content g s = λ x is. reply-grows us vs name x g (s x is)
 
@@ -195,7 +208,7 @@ says-grows us vs J K g k w key (Generated service id) content s = λ x is.
       g.means x.session (session_use x.name service) (s x is).1,
     )
 says-grows us vs J K g k w key (Login name) content s =
-    (λ x is. g.means x.session (Ticketed name x.service) (s.0 x is), λ x is. connected-grows us vs (take 16 x.secret) name g (s.1 x is), replies-grow us vs name content g s.2)
+    (λ x is. g.means x.session (Ticketed name x.service) (s.0 x is), λ x is. login-grows us vs name (take 16 x.secret) g (s.1 x is), replies-grow us vs name content g s.2)
 says-grows us vs J K g k w key (Ticketed name service) content s = replies-grow us vs name content g s
 says-grows us vs J K g k w key (Connected acceptor number name tie) content s = tt
 

@@ -8,8 +8,7 @@ use Rattle.cx_base.specs.Names.{Name}
 use Rattle.cx_base.specs.declared.nodes.NodeName.{NodeName}
 use Rattle.cx_journal.specs.declared.entries.Entry.{Entry}
 use Rattle.cx_laws_keys.proofs.Journal.{entered}
-use Rattle.cx_laws_keys.proofs.Known.{Within}
-use Rattle.cx_laws_keys.proofs.Lists.{all-append}
+use Rattle.cx_laws_keys.proofs.Lists.{all-append, all-map}
 use Rattle.cx_laws_keys.proofs.Uses.{Means, Use, Uses, WholeRun, stays}
 use Rattle.cx_rules.specs.Acceptor as acceptor
 use Rattle.cx_rules.specs.Links.{Link}
@@ -19,8 +18,9 @@ use Rattle.cx_rules_session.specs.DaemonRule.{AsAcceptor, AsConnector, DaemonSta
 use Rattle.cx_rules_session.specs.Guests.{GuestRow, GuestStage}
 use Rattle.cx_rules_session.specs.Kinds.{of_kind}
 use Rattle.cx_laws_links.proofs.GuestJoins.{guests-apart}
-use Rattle.cx_laws_links.proofs.GuestSteps.{IsApartFrom, ServesOpen, entered-has, others-told, serves-stays, stage-serves}
-use Rattle.cx_laws_links.proofs.GuestTakes.{HearsRow, LinkHeard, LinkServes, told_by}
+use Rattle.cx_laws_links.proofs.GuestSteps.{IsApartFrom, ServesOpen, heard-goes, others-told, serves-stays, stage-serves}
+use Rattle.cx_laws_links.proofs.Since.{Goes, since-within}
+use Rattle.cx_laws_links.proofs.GuestTakes.{EntryHeard, HearsRow, LinkHeard, LinkServes, told_by}
 use Rattle.cx_laws_links.proofs.Known.{GuestTold, IsGuest, Told}
 use Rattle.cx_laws_links.proofs.Written.{IsLinkKey}
 
@@ -56,9 +56,6 @@ module _ (run : WholeRun) (us : Uses) (told : Told) (J : List Entry) (n : NodeNa
   abbrev later : List Entry
   later = entered J row.entries
 
-  within : Within J (entered J row.entries)
-  within = record { has = λ e has. entered-has J row.entries e (inl has) }
-
   is-link : IsLinkKey us key name g.tie
   is-link = record { acceptor = n; number = number; service = g.service; means = g.means }
 
@@ -71,12 +68,12 @@ module _ (run : WholeRun) (us : Uses) (told : Told) (J : List Entry) (n : NodeNa
   apart-from second other acceptor.AwaitsRequest h = tt
   apart-from second other (acceptor.AwaitsProof awaited) h = tt
 
-  -- a link of another number
-  other-known : (second : ℕ) → (second ≡ number → ⊥) → (stage : DaemonStage) → HostKnown run us told J daemon n second stage → HostKnown run us next later daemon n second stage
-  other-known second other (AsAcceptor stage) h =
+  -- a link of another number, behind a row that says nothing of a restart
+  other-known : AllByRecursion (Goes daemon) row.entries → (second : ℕ) → (second ≡ number → ⊥) → (stage : DaemonStage) → HostKnown run us told J daemon n second stage → HostKnown run us next later daemon n second stage
+  other-known goes second other (AsAcceptor stage) h =
       let kept : GuestTold run us next n second stage = others-told run us told n second key row.entries stage (apart-from second other stage h.0) h.0 in
-      (kept, serves-stays run us us told next J later daemon n second one (stays us) within stage h.0 kept h.1)
-  other-known second other (AsConnector stage) h = tt
+      (kept, serves-stays run us us told next J later daemon n second one (stays us) (since-within daemon row.entries J goes) stage h.0 kept h.1)
+  other-known goes second other (AsConnector stage) h = tt
 
   -- what is known of the links behind the row
   pub links-known : (Given : Type 0) → HearsRow run us told J n daemon key name Given row → Given → ((link : Link GuestStage) → row.link ≡ Some link → link.number ≡ number)
@@ -84,23 +81,26 @@ module _ (run : WholeRun) (us : Uses) (told : Told) (J : List Entry) (n : NodeNa
       → LinksKnown run us next later daemon n (links_behind links number row.sends (option_map (of_kind AsAcceptor) row.link))
   links-known Given h given same links known = by_link row.link same (h.link given) h.serves
     where
+      goes : AllByRecursion (Goes daemon) row.entries
+      goes = all-map (EntryHeard run told.said J key name) (Goes daemon) (heard-goes run told.said J key name daemon) row.entries (h.entries given)
+
       by_link : (found : Option (Link GuestStage)) → ((link : Link GuestStage) → found ≡ Some link → link.number ≡ number) → LinkHeard run us (told_by told s.keys.key row.entries) n found
           → LinkServes J row.entries daemon s.keys.key name found
           → LinksKnown run us (told_by told s.keys.key row.entries) (entered J row.entries) daemon n (links_behind links number row.sends (option_map (of_kind AsAcceptor) found))
       by_link None is heard serves =
           passing (λ (link : Link DaemonStage). HostKnown run us told J daemon n link.number link.stage) (λ (link : Link DaemonStage). HostKnown run us next later daemon n link.number link.stage)
           (λ (link : Link DaemonStage). not (link.number == number))
-          (λ link test was. other-known link.number (λ e. not-both (link.number == number) (eq-eqb link.number number e) test) link.stage was) links known
+          (λ link test was. other-known goes link.number (λ e. not-both (link.number == number) (eq-eqb link.number number e) test) link.stage was) links known
       by_link (Some link) is heard serves =
           let own : link.number ≡ number = is link refl in
           all-append (λ (l : Link DaemonStage). HostKnown run us next later daemon n l.number l.stage) _ _
           (passing (λ (l : Link DaemonStage). HostKnown run us told J daemon n l.number l.stage) (λ (l : Link DaemonStage). HostKnown run us next later daemon n l.number l.stage)
           (λ (l : Link DaemonStage). nat_lt l.number link.number)
-          (λ l test was. other-known l.number (λ e. lower-apart l.number link.number test (e ∙ sym own)) l.stage was) links known) (
-            (heard, stage-serves run us next J row.entries daemon n link.number key name g.tie one is-link link.stage heard serves),
+          (λ l test was. other-known goes l.number (λ e. lower-apart l.number link.number test (e ∙ sym own)) l.stage was) links known) (
+            (heard, stage-serves run us next J row.entries daemon n link.number key name g.tie one is-link goes link.stage heard serves),
             passing (λ (l : Link DaemonStage). HostKnown run us told J daemon n l.number l.stage) (λ (l : Link DaemonStage). HostKnown run us next later daemon n l.number l.stage)
                 (λ (l : Link DaemonStage). nat_lt link.number l.number)
-                (λ l test was. other-known l.number (λ e. lower-apart link.number l.number test (own ∙ sym e)) l.stage was) links known,
+                (λ l test was. other-known goes l.number (λ e. lower-apart link.number l.number test (own ∙ sym e)) l.stage was) links known,
           )
         where
           lower-apart : (a b : ℕ) → nat_lt a b ≡ true → a ≡ b → ⊥

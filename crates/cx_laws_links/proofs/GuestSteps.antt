@@ -1,5 +1,5 @@
 -- A step of a daemon on a guest's link behind authentication: all that is known stays known behind it, of that link, of the daemon's others, and of clients.
-use Rattle.std.proofs.Common.{◌≡◌, ℕ, List, [], ◌∷◌, ◌++◌, Option, Some, None, inl, inr, ◌⊎◌, sym, ap, ◌∙◌, subst, arith, append-nil}
+use Rattle.std.proofs.Common.{◌≡◌, ℕ, List, [], ◌∷◌, ◌++◌, Option, Some, None, inl, inr, ◌⊎◌, refl, sym, ap, ◌∙◌, subst, arith, append-nil}
 use Rattle.std.proofs.lemmas.List.Elements.{Contains-append_left, Contains-push, Contains-push_cases}
 use Rattle.std.specs.Prelude.{Contains}
 use Rattle.std.specs.List.{AllByRecursion}
@@ -24,12 +24,13 @@ use Rattle.cx_rules_session.specs.Presenter.{CallStage}
 use Rattle.cx_steps.specs.declared.seals.Logged.{Logged}
 use Rattle.cx_steps.specs.declared.seals.SealEntry.{SealEntry}
 use Rattle.cx_laws_links.proofs.GuestJoins.{JoinsNone, guest-joins, told-joins}
+use Rattle.cx_laws_links.proofs.Since.{Goes, since, since-entered}
 use Rattle.cx_laws_links.proofs.GuestTakes.{EntryHeard, HearsRow, IsOfNoConnector, OpenedFor, ServedFor, StandsIn, joins_behind, joins_by, told_by}
 use Rattle.cx_laws_links.proofs.Known.{AreTold, CallTold, ClientTold, GuestTold, IsGuest, IsKeyed, IsShown, IsSpoken, StageTold, Told}
 use Rattle.cx_laws_links.proofs.Lifting.{link-grows, told-stays, words-grow}
 use Rattle.cx_laws_links.proofs.Others.{link-one}
 use Rattle.cx_laws_links.proofs.Speaking.{cons-cases}
-use Rattle.cx_laws_links.proofs.Spoken.{is_connectors, said_under}
+use Rattle.cx_laws_links.proofs.Spoken.{Spoken, is_connectors, said_under}
 use Rattle.cx_laws_links.proofs.Written.{IsLinkKey}
 
 -- ---- the journal
@@ -112,8 +113,8 @@ entered-has J (x ∷ js) e (inr now) = entered-has (J ++ x ∷ []) js e (by_plac
     by_place (inl here) = inl (subst (λ (y : Entry). Contains (J ++ x ∷ []) y) here (Contains-push J x))
     by_place (inr there) = inr there
 
-pub opened-stays : (J js : List Entry) (daemon name : Name) (served : Served) → OpenedFor J js daemon name served → OpenedFor (entered J js) [] daemon name served
-opened-stays J js daemon name served h = record {
+pub opened-stays : (J js : List Entry) (daemon name : Name) (served : Served) → AllByRecursion (Goes daemon) js → OpenedFor J js daemon name served → OpenedFor (entered J js) [] daemon name served
+opened-stays J js daemon name served goes h = record {
   session = h.session;
   opens = by_kind h.opens;
   daemon_is = h.daemon_is;
@@ -123,34 +124,54 @@ opened-stays J js daemon name served h = record {
   cookie = h.cookie;
 }
   where
-    by_kind : StandsIn J js (journal.Admitted h.session) ⊎ StandsIn J js (journal.Resumed h.session)
-        → StandsIn (entered J js) [] (journal.Admitted h.session) ⊎ StandsIn (entered J js) [] (journal.Resumed h.session)
-    by_kind (inl has) = inl (inl (entered-has J js (journal.Admitted h.session) has))
-    by_kind (inr has) = inr (inl (entered-has J js (journal.Resumed h.session) has))
+    later : (e : Entry) → StandsIn (since daemon J) js e → StandsIn (since daemon (entered J js)) [] e
+    later e has = inl (subst (λ (l : List Entry). Contains l e) (sym (since-entered daemon js J goes)) (entered-has (since daemon J) js e has))
+
+    by_kind : StandsIn (since daemon J) js (journal.Admitted h.session) ⊎ StandsIn (since daemon J) js (journal.Resumed h.session)
+        → StandsIn (since daemon (entered J js)) [] (journal.Admitted h.session) ⊎ StandsIn (since daemon (entered J js)) [] (journal.Resumed h.session)
+    by_kind (inl has) = inl (later (journal.Admitted h.session) has)
+    by_kind (inr has) = inr (later (journal.Resumed h.session) has)
 
 -- what is known of a link that is open: it serves a session of the entity whose key it has
 abbrev pub ServesOpen : (run : WholeRun) (us : Uses) (told : Told) (J : List Entry) (daemon : Name) (n : NodeName) (number : ℕ) (stage : GuestStage) → GuestTold run us told n number stage → Type 0
 ServesOpen run us told J daemon n number (acceptor.Open s served) h = OpenedFor J [] daemon h.0 served
 ServesOpen run us told J daemon n number _ h = Unit {0}
 
+-- what a row of a guest enters says nothing of a restart
+pub heard-goes : (run : WholeRun) (said : List (List ℕ × Spoken)) (J : List Entry) (key : List ℕ) (name daemon : Name) (e : Entry) → EntryHeard run said J key name e → Goes daemon e
+heard-goes run said J key name daemon (journal.Restarted x) h = absurd h
+heard-goes run said J key name daemon (journal.Admitted x) h = refl
+heard-goes run said J key name daemon (journal.Resumed x) h = refl
+heard-goes run said J key name daemon (journal.Handled x) h = refl
+heard-goes run said J key name daemon (journal.Saved x) h = refl
+heard-goes run said J key name daemon (journal.Issued x) h = refl
+heard-goes run said J key name daemon (journal.Fetched x) h = refl
+heard-goes run said J key name daemon (journal.Looked x) h = refl
+heard-goes run said J key name daemon (journal.Sent x) h = refl
+heard-goes run said J key name daemon (journal.Answered x) h = refl
+heard-goes run said J key name daemon (journal.Refused x) h = refl
+heard-goes run said J key name daemon (journal.Ended x) h = refl
+heard-goes run said J key name daemon (journal.Broken x) h = refl
+heard-goes run said J key name daemon (journal.Leaked x) h = refl
+
 -- so it is of the link that goes on behind a row
 pub stage-serves : (run : WholeRun) (us : Uses) (told : Told) (J js : List Entry) (daemon : Name) (n : NodeName) (number : ℕ) (key : List ℕ) (name : Name) (tie : ℕ)
-    → ((k : List ℕ) (u v : Use) → Means us k u → Means us k v → u ≡ v) → IsLinkKey us key name tie → (stage : GuestStage) → (h : GuestTold run us told n number stage) → ServedFor J js daemon key name stage
+    → ((k : List ℕ) (u v : Use) → Means us k u → Means us k v → u ≡ v) → IsLinkKey us key name tie → AllByRecursion (Goes daemon) js → (stage : GuestStage) → (h : GuestTold run us told n number stage) → ServedFor J js daemon key name stage
     → ServesOpen run us told (entered J js) daemon n number stage h
-stage-serves run us told J js daemon n number key name tie one is (acceptor.Open s served) h serves =
+stage-serves run us told J js daemon n number key name tie one is goes (acceptor.Open s served) h serves =
     let g : IsGuest run us told n number s h.0 = h.1 in
     let link : IsLinkKey us s.keys.key h.0 g.tie = record { acceptor = n; number = number; service = g.service; means = g.means } in
     let there : IsLinkKey us key h.0 g.tie = subst (λ (k : List ℕ). IsLinkKey us k h.0 g.tie) serves.0 link in
     let same : name ≡ h.0 = (link-one us one key name h.0 tie g.tie is there).0 in
-    opened-stays J js daemon h.0 served (subst (λ (m : Name). OpenedFor J js daemon m served) same serves.1)
-stage-serves run us told J js daemon n number key name tie one is acceptor.AwaitsBanner h serves = tt
-stage-serves run us told J js daemon n number key name tie one is acceptor.AwaitsHello h serves = tt
-stage-serves run us told J js daemon n number key name tie one is acceptor.AwaitsRequest h serves = tt
-stage-serves run us told J js daemon n number key name tie one is (acceptor.AwaitsProof awaited) h serves = tt
-stage-serves run us told J js daemon n number key name tie one is (acceptor.AwaitsSignature s owner) h serves = tt
-stage-serves run us told J js daemon n number key name tie one is (acceptor.AwaitsIdent s owner) h serves = tt
+    opened-stays J js daemon h.0 served goes (subst (λ (m : Name). OpenedFor J js daemon m served) same serves.1)
+stage-serves run us told J js daemon n number key name tie one is goes acceptor.AwaitsBanner h serves = tt
+stage-serves run us told J js daemon n number key name tie one is goes acceptor.AwaitsHello h serves = tt
+stage-serves run us told J js daemon n number key name tie one is goes acceptor.AwaitsRequest h serves = tt
+stage-serves run us told J js daemon n number key name tie one is goes (acceptor.AwaitsProof awaited) h serves = tt
+stage-serves run us told J js daemon n number key name tie one is goes (acceptor.AwaitsSignature s owner) h serves = tt
+stage-serves run us told J js daemon n number key name tie one is goes (acceptor.AwaitsIdent s owner) h serves = tt
 
-opened-within : (J K : List Entry) (daemon name : Name) (served : Served) → Within J K → OpenedFor J [] daemon name served → OpenedFor K [] daemon name served
+opened-within : (J K : List Entry) (daemon name : Name) (served : Served) → Within (since daemon J) (since daemon K) → OpenedFor J [] daemon name served → OpenedFor K [] daemon name served
 opened-within J K daemon name served w h = record {
   session = h.session;
   opens = by_kind h.opens;
@@ -161,17 +182,18 @@ opened-within J K daemon name served w h = record {
   cookie = h.cookie;
 }
   where
-    stood : (e : Entry) → StandsIn J [] e → StandsIn K [] e
+    stood : (e : Entry) → StandsIn (since daemon J) [] e → StandsIn (since daemon K) [] e
     stood e (inl was) = inl (w.has e was)
     stood e (inr none) = inr none
 
-    by_kind : StandsIn J [] (journal.Admitted h.session) ⊎ StandsIn J [] (journal.Resumed h.session) → StandsIn K [] (journal.Admitted h.session) ⊎ StandsIn K [] (journal.Resumed h.session)
+    by_kind : StandsIn (since daemon J) [] (journal.Admitted h.session) ⊎ StandsIn (since daemon J) [] (journal.Resumed h.session)
+        → StandsIn (since daemon K) [] (journal.Admitted h.session) ⊎ StandsIn (since daemon K) [] (journal.Resumed h.session)
     by_kind (inl has) = inl (stood (journal.Admitted h.session) has)
     by_kind (inr has) = inr (stood (journal.Resumed h.session) has)
 
 -- and of each other link, behind any step
 pub serves-stays : (run : WholeRun) (us vs : Uses) (told next : Told) (J K : List Entry) (daemon : Name) (n : NodeName) (number : ℕ) → ((k : List ℕ) (u v : Use) → Means vs k u → Means vs k v → u ≡ v)
-    → Grows us vs → Within J K → (stage : GuestStage) → (h : GuestTold run us told n number stage) → (g : GuestTold run vs next n number stage)
+    → Grows us vs → Within (since daemon J) (since daemon K) → (stage : GuestStage) → (h : GuestTold run us told n number stage) → (g : GuestTold run vs next n number stage)
     → ServesOpen run us told J daemon n number stage h → ServesOpen run vs next K daemon n number stage g
 serves-stays run us vs told next J K daemon n number one f w (acceptor.Open s served) h g serves =
     let a : IsGuest run us told n number s h.0 = h.1 in

@@ -74,6 +74,7 @@ use Rattle.cx_laws_links.proofs.GuestJoins.{guest-joins}
 use Rattle.cx_laws_links.proofs.GuestWords.{AreSpelled, Heard, heard-next}
 use Rattle.cx_laws_links.proofs.Hearing.{hears-else, hears-ident, hears-order, hears-reconnect}
 use Rattle.cx_laws_links.proofs.Known.{AreTold, AsksFor, GuestTold, HasTaken, IsGuest, IsTrueWord, Told}
+use Rattle.cx_laws_links.proofs.Since.{since}
 use Rattle.cx_laws_links.proofs.Spoken.{Orders, Reconnects, Spoken, cookie_after, is_connectors, said_under}
 
 -- ---- keys of a link that goes on
@@ -160,10 +161,10 @@ frames-so keys (f ∷ fs) acceptor = by_first (secure_frame keys f) (frame-so ke
 abbrev pub WasSentAs : List Entry → Name → Handled → Type 0
 WasSentAs J name h = (daemon : Name) × Contains J (journal.Sent (record { client = name; daemon = daemon; cookie = h.cookie; seq = h.seq; operation = h.operation }))
 
--- it is handled in a session of this entity, which was opened
+-- it is handled in a session of this entity, which was opened since the daemon's last restart
 pub record IsServedIn (J : List Entry) (name : Name) (h : Handled) : Type 0 where
   pub session : Admitted
-  pub opens : Contains J (journal.Admitted session) ⊎ Contains J (journal.Resumed session)
+  pub opens : Contains (since h.daemon J) (journal.Admitted session) ⊎ Contains (since h.daemon J) (journal.Resumed session)
   pub daemon_is : session.daemon ≡ h.daemon
   pub entity : session.entity ≡ name
   pub number : session.session ≡ h.session
@@ -182,6 +183,7 @@ abbrev pub EntryHeard : WholeRun → List (List ℕ × Spoken) → List Entry �
 EntryHeard run said J key name (journal.Handled h) = IsServedIn J name h × ((Contains run.leaked name → ⊥) → WasSentAs J name h)
 EntryHeard run said J key name (journal.Admitted a) = (a.entity ≡ name) × ((Contains run.leaked name → ⊥) → AsksFor said key a.cookie)
 EntryHeard run said J key name (journal.Resumed a) = (a.entity ≡ name) × ((Contains run.leaked name → ⊥) → TakesUp said key a.cookie)
+EntryHeard run said J key name (journal.Restarted at) = ⊥
 EntryHeard run said J key name _ = Unit {0}
 
 -- the sessions that are admitted by these entries are joined to the link's key
@@ -204,10 +206,10 @@ LinkHeard run us told n None = Unit {0}
 abbrev pub StandsIn : List Entry → List Entry → Entry → Type 0
 StandsIn J es e = Contains J e ⊎ Contains es e
 
--- a session of this entity was opened at a daemon, which serves it
+-- a session of this entity was opened at a daemon, which serves it, since its last restart
 pub record OpenedFor (J es : List Entry) (daemon name : Name) (served : Served) : Type 0 where
   pub session : Admitted
-  pub opens : StandsIn J es (journal.Admitted session) ⊎ StandsIn J es (journal.Resumed session)
+  pub opens : StandsIn (since daemon J) es (journal.Admitted session) ⊎ StandsIn (since daemon J) es (journal.Resumed session)
   pub daemon_is : session.daemon ≡ daemon
   pub entity : session.entity ≡ name
   pub number : session.session ≡ served.number
@@ -223,7 +225,7 @@ abbrev pub LinkServes : List Entry → List Entry → Name → List ℕ → Name
 LinkServes J es daemon key name (Some link) = ServedFor J es daemon key name link.stage
 LinkServes J es daemon key name None = Unit {0}
 
-opened-so : (J es fs : List Entry) (daemon name : Name) (served : Served) → ((e : Entry) → StandsIn J es e → StandsIn J fs e) → OpenedFor J es daemon name served → OpenedFor J fs daemon name served
+opened-so : (J es fs : List Entry) (daemon name : Name) (served : Served) → ((e : Entry) → StandsIn (since daemon J) es e → StandsIn (since daemon J) fs e) → OpenedFor J es daemon name served → OpenedFor J fs daemon name served
 opened-so J es fs daemon name served more h = record {
   session = h.session;
   opens = by_kind h.opens;
@@ -234,7 +236,8 @@ opened-so J es fs daemon name served more h = record {
   cookie = h.cookie;
 }
   where
-    by_kind : StandsIn J es (journal.Admitted h.session) ⊎ StandsIn J es (journal.Resumed h.session) → StandsIn J fs (journal.Admitted h.session) ⊎ StandsIn J fs (journal.Resumed h.session)
+    by_kind : StandsIn (since daemon J) es (journal.Admitted h.session) ⊎ StandsIn (since daemon J) es (journal.Resumed h.session)
+        → StandsIn (since daemon J) fs (journal.Admitted h.session) ⊎ StandsIn (since daemon J) fs (journal.Resumed h.session)
     by_kind (inl was) = inl (more (journal.Admitted h.session) was)
     by_kind (inr was) = inr (more (journal.Resumed h.session) was)
 
@@ -243,7 +246,7 @@ stands-more J es e x (inl was) = inl was
 stands-more J es e x (inr now) = inr (Contains-append_right (e ∷ []) es x now)
 
 served-so : (J es : List Entry) (e : Entry) (daemon : Name) (key : List ℕ) (name : Name) (stage : GuestStage) → ServedFor J es daemon key name stage → ServedFor J (e ∷ es) daemon key name stage
-served-so J es e daemon key name (Open s served) h = (h.0, opened-so J es (e ∷ es) daemon name served (λ x has. stands-more J es e x has) h.1)
+served-so J es e daemon key name (Open s served) h = (h.0, opened-so J es (e ∷ es) daemon name served (λ x has. stands-more (since daemon J) es e x has) h.1)
 served-so J es e daemon key name AwaitsBanner h = tt
 served-so J es e daemon key name AwaitsHello h = tt
 served-so J es e daemon key name AwaitsRequest h = tt
@@ -576,11 +579,12 @@ module _ (run : WholeRun) (us : Uses) (told : Told) (J : List Entry) (n : NodeNa
     cookie = serves.cookie;
   }
     where
-      stood : (e : Entry) → StandsIn J [] e → Contains J e
+      stood : (e : Entry) → StandsIn (since b.own.name J) [] e → Contains (since b.own.name J) e
       stood e (inl was) = was
       stood e (inr none) = absurd (omega (arith, none.1))
 
-      by_kind : StandsIn J [] (journal.Admitted serves.session) ⊎ StandsIn J [] (journal.Resumed serves.session) → Contains J (journal.Admitted serves.session) ⊎ Contains J (journal.Resumed serves.session)
+      by_kind : StandsIn (since b.own.name J) [] (journal.Admitted serves.session) ⊎ StandsIn (since b.own.name J) [] (journal.Resumed serves.session)
+          → Contains (since b.own.name J) (journal.Admitted serves.session) ⊎ Contains (since b.own.name J) (journal.Resumed serves.session)
       by_kind (inl has) = inl (stood (journal.Admitted serves.session) has)
       by_kind (inr has) = inr (stood (journal.Resumed serves.session) has)
 

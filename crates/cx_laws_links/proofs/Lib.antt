@@ -18,6 +18,7 @@ pub mod Single
 pub mod Alone
 pub mod Hearing
 pub mod GuestWords
+pub mod Since
 pub mod GuestTakes
 pub mod GuestBegins
 pub mod GuestJoins

@@ -48,12 +48,12 @@ use Rattle.cx_wire.specs.Logins.{authenticate_layout, login_done_layout, server_
 use Rattle.cx_wire.specs.declared.logins.LoginDone.{LoginDone}
 use Rattle.cx_wire.specs.declared.logins.ServerChallenge.{ServerChallenge}
 use Rattle.cx_wire.specs.declared.tickets.TicketPart.{TicketPart}
-use Rattle.cx_laws_keys.proofs.Known.{Inv, IsAllowed, AreToldOf}
+use Rattle.cx_laws_keys.proofs.Known.{AreToldOf, HasLogin, Inv, IsAllowed}
 use Rattle.cx_laws_keys.proofs.Lists.{all-append}
 use Rattle.cx_laws_keys.proofs.Premises.{AreGranted, behind, granted-first, granted-rest}
 use Rattle.cx_laws_keys.proofs.Steps.{inv-all}
-use Rattle.cx_laws_keys.proofs.Uses.{IsConnected, Login, Means, Secret, Uses, WholeRun, AreGenerated, IsSavedIn, Use, whose}
-use Rattle.cx_laws_login.proofs.Facts.{AreFetched, AskerOk, AskerStageOk, HasConnection, asker-entered, asker_stage-grows, seals-own}
+use Rattle.cx_laws_keys.proofs.Uses.{Login, Means, Secret, Uses, WholeRun, AreGenerated, IsSavedIn, Use, whose}
+use Rattle.cx_laws_login.proofs.Facts.{AreFetched, AskerOk, AskerStageOk, HasMonitorKey, asker-entered, asker_stage-grows, seals-monitor}
 use Rattle.cx_laws_login.proofs.Opens.{unlocked-allowed, unlocked_says}
 use Rattle.cx_laws_login.proofs.Rows.{AfterRow, Allowed, FrameOk, Saying, Simple, after-simple, frame-ok, signing-ok, simple-goes_on, simple-plain, simple-refuses, simple-refuses_bytes, simple-secure}
 use Rattle.cx_rules.specs.Requests.{Requests, asks_rotating, asks_tickets, behind_reply, behind_request, body_taken, having, message_taken, no_requests, on_open, on_reply, on_server_ident, opens_to, reply_taken, request_message, sends_request, takes, tickets_taken, unless_unsealed, waiting_taken, with_tickets, rotating_taken, sealed_request}
@@ -136,18 +136,18 @@ module _ (run : WholeRun) (whole_log : List Logged) (n : NodeName) (line : ℕ) 
 
   -- the secret of the connection, under the session key of that ticket
   abbrev IsLogin : LoggedIn → Type 0
-  IsLogin login = Means us login.auth.session (Login name) × IsConnected us (take 16 login.secret) name
+  IsLogin login = Means us login.auth.session (Login name) × HasLogin us name (take 16 login.secret)
 
   connection-tells : (auth : Held) (tickets : List Held) (connection : List ℕ) → Means us auth.session (Login name)
       → Tells (unlocked connection_secret_layout.form kind.Session auth.session connection >>= λ opened. made (record { auth = auth; tickets = tickets; secret = opened.secret })) IsLogin
   connection-tells auth tickets connection means =
       tells-then (unlocked connection_secret_layout.form kind.Session auth.session connection) (λ opened. made (record { auth = auth; tickets = tickets; secret = opened.secret }))
-      (λ opened. IsConnected us (take 16 opened.secret) name) IsLogin
+      (λ opened. HasLogin us name (take 16 opened.secret)) IsLogin
       (unlocked-allowed run whole_log n line us [] J connection_secret_layout.form kind.Session auth.session connection)
       (λ log i g x e. let s = unlocked_says run whole_log n line us log J connection_secret_layout.form kind.Session auth.session connection (Login name) i means (free auth.session (Login name) means refl) g x e in s.2.1 x s.1)
       (λ opened m log i g x e. login_means opened x m e)
     where
-      login_means : (opened : ConnectionSecret) (x : LoggedIn) → IsConnected us (take 16 opened.secret) name
+      login_means : (opened : ConnectionSecret) (x : LoggedIn) → HasLogin us name (take 16 opened.secret)
           → Some (record { auth = auth; tickets = tickets; secret = opened.secret }) ≡ Some x → IsLogin x
       login_means opened x m e =
           let login : LoggedIn = record { auth = auth; tickets = tickets; secret = opened.secret } in
@@ -246,21 +246,21 @@ module _ (run : WholeRun) (whole_log : List Logged) (n : NodeName) (line : ℕ) 
   Grants es = AreGranted run.leaked whole_log n line log es
 
   signs-simple : (a : AskerArrival) (login : Opening) (opened : List SealEntry) (r : Result SealedFrame BytesFault) (keys : Keys) → AskerOk run before us J a.own → Allowed us J n opened
-      → HasConnection us n keys.key → FrameOk us J n keys r → IsSimple (signs a login opened r)
+      → HasMonitorKey us n keys.key → FrameOk us J n keys r → IsSimple (signs a login opened r)
   signs-simple a login opened (Err why) keys ok al has f = refuses-simple a why opened ok al
   signs-simple a login opened (Ok sealed) keys ok al has f =
       simple-goes_on (asker_says run before n) us J n a (AwaitsSignature (record { keys = sealed.keys; session = login.opened.auth.session; covered = a.link.sent }) login) sealed.bytes (opened ++ sealed.seals) ok
-      (subst (λ (k : List ℕ). HasConnection us n k) (sym f.1.key) has) (all-append (IsAllowed us J n) opened sealed.seals al f.0)
+      (subst (λ (k : List ℕ). HasMonitorKey us n k) (sym f.1.key) has) (all-append (IsAllowed us J n) opened sealed.seals al f.0)
 
   opened-simple : (a : AskerArrival) (gid : ℕ) (name : Name) (opened : List SealEntry) (value : Option LoggedIn) → AskerOk run before us J a.own → Allowed us J n opened
-      → ((x : LoggedIn) → value ≡ Some x → Means us x.auth.session (Login name) × IsConnected us (take 16 x.secret) name) → n ≡ node.Entity name → IsSimple (on_opened a gid opened value)
+      → ((x : LoggedIn) → value ≡ Some x → Means us x.auth.session (Login name) × HasLogin us name (take 16 x.secret)) → n ≡ node.Entity name → IsSimple (on_opened a gid opened value)
   opened-simple a gid name opened None ok al says here = simple-refuses (asker_says run before n) us J n a (reason.Login Unopened) opened tt ok al
   opened-simple a gid name opened (Some x) ok al says here =
       let m = says x refl in
       let keys : Keys = connector_keys x.secret in
-      let has : HasConnection us n keys.key = record { name = name; connected = m.1; own = here } in
+      let has : HasMonitorKey us n keys.key = record { name = name; login = m.1; own = here } in
       signs-simple a (record { gid = gid; opened = x }) opened (signed_frame keys x.auth.session (take a.link.taken a.link.received)) keys ok al has
-      (signing-ok us J n name keys x.auth.session (take a.link.taken a.link.received) (secure_frame keys _) m.0 (frame-ok us J n keys _ (seals-own us n keys has)))
+      (signing-ok us J n name keys x.auth.session (take a.link.taken a.link.received) (secure_frame keys _) m.0 (frame-ok us J n keys _ (seals-monitor us n keys has)))
 
   -- what opened is granted, whatever comes of it
   opened-granted : (a : AskerArrival) (gid : ℕ) (opened : List SealEntry) (value : Option LoggedIn) → Grants (on_opened a gid opened value).seals → Grants opened
@@ -305,15 +305,15 @@ module _ (run : WholeRun) (whole_log : List Logged) (n : NodeName) (line : ℕ) 
 
   -- ---- AUTH_SIGNATURE, SERVER_IDENT, KEEPALIVE2
 
-  same_connection : (key other : List ℕ) → other ≡ key → HasConnection us n key → HasConnection us n other
-  same_connection key other same h = subst (λ (k : List ℕ). HasConnection us n k) (sym same) h
+  same_connection : (key other : List ℕ) → other ≡ key → HasMonitorKey us n key → HasMonitorKey us n other
+  same_connection key other same h = subst (λ (k : List ℕ). HasMonitorKey us n k) (sym same) h
 
-  identifies-simple : (a : AskerArrival) (s : Secured) (login : Opening) → AskerOk run before us J a.own → HasConnection us n s.keys.key → IsSimple (identifies a s login)
+  identifies-simple : (a : AskerArrival) (s : Secured) (login : Opening) → AskerOk run before us J a.own → HasMonitorKey us n s.keys.key → IsSimple (identifies a s login)
   identifies-simple a s login ok has =
       simple-secure (asker_says run before n) us J n (holding a (held_login a.own.holdings login.gid login.opened)) s (λ behind. AwaitsIdent behind login.opened.auth.session) (signature_found s ∷ entry.Drawn (draw.Cookie (cookie_of a.draw)) ∷ [])
-      (client_ident a.own login.gid 1 (cookie_of a.draw)) (record { known = ok.known; quiet = ok.quiet; count = ok.count }) (seals-own us n s.keys has) (λ t same. same_connection s.keys.key t.keys.key same.key has) (tt, (tt, tt))
+      (client_ident a.own login.gid 1 (cookie_of a.draw)) (record { known = ok.known; quiet = ok.quiet; count = ok.count }) (seals-monitor us n s.keys has) (λ t same. same_connection s.keys.key t.keys.key same.key has) (tt, (tt, tt))
 
-  pub signature-simple : (a : AskerArrival) (s : Secured) (login : Opening) (found : Result AuthSignature BytesFault) → AskerOk run before us J a.own → HasConnection us n s.keys.key
+  pub signature-simple : (a : AskerArrival) (s : Secured) (login : Opening) (found : Result AuthSignature BytesFault) → AskerOk run before us J a.own → HasMonitorKey us n s.keys.key
       → IsSimple (on_signature a s login found)
   signature-simple a s login (Err why) ok has = refuses-simple a why [] ok tt
   signature-simple a s login (Ok found) ok has = by_test (is_signed s found.signature)
@@ -326,8 +326,8 @@ module _ (run : WholeRun) (whole_log : List Logged) (n : NodeName) (line : ℕ) 
 
   -- a request is sent, whatever it asks for and however the open stage is called
   module _ {Stage : Type 0} (say : Saying Asker Stage) (open_with : Secured → Requests → Stage) where
-    pub request-sends : (a : Arrival Asker Stage) (s : Secured) (requests : Requests) (asked : Want) (request : Request) → say.Owns us J a.own → HasConnection us n s.keys.key
-        → ((t : Secured) (r : Requests) → HasConnection us n t.keys.key → say.Stands us (open_with t r))
+    pub request-sends : (a : Arrival Asker Stage) (s : Secured) (requests : Requests) (asked : Want) (request : Request) → say.Owns us J a.own → HasMonitorKey us n s.keys.key
+        → ((t : Secured) (r : Requests) → HasMonitorKey us n t.keys.key → say.Stands us (open_with t r))
         → Simple say us J n (sends_request open_with a s requests asked (sealed_request s.keys requests request))
     request-sends a s requests asked request ok has stands = by_count (requests.count == 2 ^ 64 - 1)
       where
@@ -337,34 +337,34 @@ module _ (run : WholeRun) (whole_log : List Logged) (n : NodeName) (line : ℕ) 
         by_sent : (r : Result SealedFrame BytesFault) → FrameOk us J n s.keys r → Simple say us J n (sends_request open_with a s requests asked (unless_unsealed r))
         by_sent (Ok sealed) h =
             simple-goes_on say us J n a (open_with (under s sealed.keys) (behind_request requests asked)) sealed.bytes sealed.seals ok
-            (stands (under s sealed.keys) (behind_request requests asked) (subst (λ (k : List ℕ). HasConnection us n k) (sym h.1.key) has)) h.0
+            (stands (under s sealed.keys) (behind_request requests asked) (subst (λ (k : List ℕ). HasMonitorKey us n k) (sym h.1.key) has)) h.0
         by_sent (Err why) h = simple-refuses say us J n a (reason.Bytes why) [] tt ok tt
 
         by_count : (t : Bool) → Simple say us J n (sends_request open_with a s requests asked (if t then Err reason.Spent else unless_unsealed (secure_frame s.keys f)))
         by_count true = simple-refuses say us J n a reason.Spent [] tt ok tt
-        by_count false = by_sent (secure_frame s.keys f) (frame-ok us J n s.keys f (seals-own us n s.keys has))
+        by_count false = by_sent (secure_frame s.keys f) (frame-ok us J n s.keys f (seals-monitor us n s.keys has))
 
-  request-simple : (a : AskerArrival) (s : Secured) (requests : Requests) (asked : Want) (request : Request) → AskerOk run before us J a.own → HasConnection us n s.keys.key
+  request-simple : (a : AskerArrival) (s : Secured) (requests : Requests) (asked : Want) (request : Request) → AskerOk run before us J a.own → HasMonitorKey us n s.keys.key
       → IsSimple (sends_request Open a s requests asked (sealed_request s.keys requests request))
   request-simple a s requests asked request ok has = request-sends (asker_says run before n) Open a s requests asked request ok has (λ t r h. h)
 
-  pub asks-simple : (a : AskerArrival) (s : Secured) (requests : Requests) (services : ℕ) → AskerOk run before us J a.own → HasConnection us n s.keys.key
+  pub asks-simple : (a : AskerArrival) (s : Secured) (requests : Requests) (services : ℕ) → AskerOk run before us J a.own → HasMonitorKey us n s.keys.key
       → IsSimple (asks_tickets Open a s requests services)
   asks-simple a s requests services ok has = request-simple a s requests want.Tickets (asked.Tickets services) ok has
 
   -- a daemon asks for generations
-  pub rotating-simple : (a : AskerArrival) (s : Secured) (requests : Requests) → AskerOk run before us J a.own → HasConnection us n s.keys.key → IsSimple (asks_rotating Open a s requests)
+  pub rotating-simple : (a : AskerArrival) (s : Secured) (requests : Requests) → AskerOk run before us J a.own → HasMonitorKey us n s.keys.key → IsSimple (asks_rotating Open a s requests)
   rotating-simple a s requests ok has = request-simple a s requests (want.Rotating a.reading) asked.Rotating ok has
 
   -- as its link opens a daemon does, and a client asks for nothing
-  opens_to-simple : (a : AskerArrival) (s : Secured) (session : List ℕ) → AskerOk run before us J a.own → HasConnection us n s.keys.key → IsSimple (opens_to Open a s (no_requests session))
+  opens_to-simple : (a : AskerArrival) (s : Secured) (session : List ℕ) → AskerOk run before us J a.own → HasMonitorKey us n s.keys.key → IsSimple (opens_to Open a s (no_requests session))
   opens_to-simple a s session ok has = by_test (is_daemon_type a.own.name.kind)
     where
       by_test : (t : Bool) → IsSimple (if t then asks_rotating Open a s (no_requests session) else goes_on a (Open s (no_requests session)) [] [])
       by_test true = rotating-simple a s (no_requests session) ok has
       by_test false = simple-goes_on (asker_says run before n) us J n a (Open s (no_requests session)) [] [] ok has tt
 
-  server_ident-simple : (a : AskerArrival) (s : Secured) (session : List ℕ) (ident : Result ServerIdent BytesFault) → AskerOk run before us J a.own → HasConnection us n s.keys.key
+  server_ident-simple : (a : AskerArrival) (s : Secured) (session : List ℕ) (ident : Result ServerIdent BytesFault) → AskerOk run before us J a.own → HasMonitorKey us n s.keys.key
       → IsSimple (on_server_ident Open a s session ident)
   server_ident-simple a s session (Err why) ok has = refuses-simple a why [] ok tt
   server_ident-simple a s session (Ok ident) ok has = opens_to-simple a s session ok has
@@ -373,7 +373,7 @@ module _ (run : WholeRun) (whole_log : List Logged) (n : NodeName) (line : ℕ) 
   missing-simple a (Err why) ok = refuses-simple a why [] ok tt
   missing-simple a (Ok missing) ok = refuses-simple a (Features missing.features) [] ok tt
 
-  pub identified-simple : (a : AskerArrival) (s : Secured) (session : List ℕ) (f : Frame) → AskerOk run before us J a.own → HasConnection us n s.keys.key → IsSimple (while_identified a s session f)
+  pub identified-simple : (a : AskerArrival) (s : Secured) (session : List ℕ) (f : Frame) → AskerOk run before us J a.own → HasMonitorKey us n s.keys.key → IsSimple (while_identified a s session f)
   identified-simple a s session f ok has = by_test (f.tag == 10)
     where
       by_test : (t : Bool) → IsSimple (if t then on_missing_features a (payload ident_missing_features_layout.form f) else on_server_ident Open a s session (due 9 server_ident_layout.form f))
@@ -382,14 +382,14 @@ module _ (run : WholeRun) (whole_log : List Logged) (n : NodeName) (line : ℕ) 
 
   -- ---- on an open link
 
-  keepalive-simple : (a : AskerArrival) (s : Secured) (requests : Requests) (keepalive : Result Keepalive2 BytesFault) → AskerOk run before us J a.own → HasConnection us n s.keys.key
+  keepalive-simple : (a : AskerArrival) (s : Secured) (requests : Requests) (keepalive : Result Keepalive2 BytesFault) → AskerOk run before us J a.own → HasMonitorKey us n s.keys.key
       → IsSimple (on_keepalive a s (λ behind. Open behind requests) keepalive)
   keepalive-simple a s requests (Err why) ok has = refuses-simple a why [] ok tt
   keepalive-simple a s requests (Ok keepalive) ok has =
       simple-secure (asker_says run before n) us J n a s (λ behind. Open behind requests) [] (control 19 keepalive2_ack_layout.form (record { time = keepalive.time })) ok
-      (seals-own us n s.keys has) (λ t same. same_connection s.keys.key t.keys.key same.key has) tt
+      (seals-monitor us n s.keys has) (λ t same. same_connection s.keys.key t.keys.key same.key has) tt
 
-  keepalive_ack-simple : (a : AskerArrival) (s : Secured) (requests : Requests) (ack : Result Keepalive2Ack BytesFault) → AskerOk run before us J a.own → HasConnection us n s.keys.key
+  keepalive_ack-simple : (a : AskerArrival) (s : Secured) (requests : Requests) (ack : Result Keepalive2Ack BytesFault) → AskerOk run before us J a.own → HasMonitorKey us n s.keys.key
       → IsSimple (on_keepalive_ack a s (λ behind. Open behind requests) ack)
   keepalive_ack-simple a s requests (Err why) ok has = refuses-simple a why [] ok tt
   keepalive_ack-simple a s requests (Ok ack) ok has = simple-goes_on (asker_says run before n) us J n a (Open s requests) [] [] ok has tt
@@ -454,7 +454,7 @@ module _ (run : WholeRun) (whole_log : List Logged) (n : NodeName) (line : ℕ) 
         by_test true = body-of requests m.header.tid (body_as reply_layout.form m.body)
         by_test false = (tt, tt)
 
-  takes-simple : (a : AskerArrival) (s : Secured) (requests : Requests) (t : Taken) → AskerOk run before us J a.own → HasConnection us n s.keys.key → IsTaken a.own.name.kind t
+  takes-simple : (a : AskerArrival) (s : Secured) (requests : Requests) (t : Taken) → AskerOk run before us J a.own → HasMonitorKey us n s.keys.key → IsTaken a.own.name.kind t
       → Grants (takes Open a s requests t).seals → IsSimple (takes Open a s requests t)
   takes-simple a s requests (taken.Refuses why opened) ok has of g = simple-refuses (asker_says run before n) us J n a why opened of.0 ok of.1
   takes-simple a s requests (taken.Holds held opened) ok has of g =
@@ -468,7 +468,7 @@ module _ (run : WholeRun) (whole_log : List Logged) (n : NodeName) (line : ℕ) 
   }
 
   pub open-simple : (a : AskerArrival) (s : Secured) (requests : Requests) (f : Frame) → Free a.own.name → Inv run whole_log us log J → AskerOk run before us J a.own
-      → HasConnection us n s.keys.key → Grants (on_open Open a s requests f).seals → IsSimple (on_open Open a s requests f)
+      → HasMonitorKey us n s.keys.key → Grants (on_open Open a s requests f).seals → IsSimple (on_open Open a s requests f)
   open-simple a s requests f free i ok has g = by_tests (f.tag == 18) (f.tag == 19) g
     where
       by_tests : (ask ack : Bool) → Grants (if ask then on_keepalive a s (λ behind. Open behind requests) (payload keepalive2_layout.form f)

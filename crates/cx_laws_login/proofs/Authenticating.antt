@@ -51,7 +51,7 @@ use Rattle.cx_laws_keys.proofs.Journal.{After, EntryLaw, Reached, after-then, en
 use Rattle.cx_laws_keys.proofs.Known.{IsOfAcceptor, Inv}
 use Rattle.cx_laws_keys.proofs.Premises.{AreGranted, behind, behind-append, granted-first, granted-rest, logged}
 use Rattle.cx_laws_keys.proofs.Steps.{inv-all, inv-allowed}
-use Rattle.cx_laws_keys.proofs.Uses.{AtMonitor, Generated, Grows, IsConnected, Login, Means, Secret, Uses, grows-then, stays, WholeRun}
+use Rattle.cx_laws_keys.proofs.Uses.{Generated, Grows, IsConnected, Login, Means, Secret, Uses, grows-then, stays, WholeRun}
 use Rattle.cx_laws_login.proofs.Entering.{login-entered}
 use Rattle.cx_laws_login.proofs.Facts.{AreBelow, IsSameWay, bearer-moves, OfferOk, OwnOk, own-grows, Owner, BearerOk, Keeps, keeps-with, owner_with, with-gid}
 use Rattle.cx_laws_login.proofs.Generations.{StateOk, rotates_all}
@@ -205,7 +205,7 @@ module _ (run : WholeRun) (whole_log : List Logged) (n : NodeName) (line : ℕ) 
       let g3 = granted-first run.leaked whole_log n line log1 (told ++ last) done.seals g in
       let s1 = tickets-sealed run whole_log n line a.own.server secret session name gid a.reading a.draw K named wide drawn vs log1 t ts e.numbered.inv ok.first ok.auth refl ok.others under e.has
       (record { generated = h.own.present.generated; told = h.told }) (granted-first run.leaked whole_log n line log1 told last g3) in
-      let s2 = connection-sealed run whole_log n line a.own.server secret session name gid a.reading a.draw K named wide drawn s1.uses (behind n line told log1) a.link.number (AtMonitor client) s1.inv s1.facts
+      let s2 = connection-sealed run whole_log n line a.own.server secret session name gid a.reading a.draw K named wide drawn s1.uses (behind n line told log1) a.link.number client s1.inv s1.facts
       (granted-rest run.leaked whole_log n line log1 told last g3) in
       let grows = grows-then vs s1.uses s2.uses s1.grows s2.grows in
       let inv : Inv run whole_log s2.uses (behind n line (told ++ last) log1) K =

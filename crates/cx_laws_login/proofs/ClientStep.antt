@@ -29,7 +29,7 @@ use Rattle.cx_laws_keys.proofs.Known.{Inv}
 use Rattle.cx_laws_keys.proofs.Premises.{AreGranted, behind, granted-rest}
 use Rattle.cx_laws_keys.proofs.Uses.{Uses, stays, WholeRun, whose}
 use Rattle.cx_laws_login.proofs.AskerRows.{asker_says, banner-simple, challenged-simple, hello-simple, identified-simple, proved-after, signature-simple, open-simple, asks-simple, NeverExcepted}
-use Rattle.cx_laws_login.proofs.Facts.{AskerOk, AskerStageOk, HasConnection, asker-entered, asker_stage-grows, none-fetched}
+use Rattle.cx_laws_login.proofs.Facts.{AskerOk, AskerStageOk, HasMonitorKey, asker-entered, asker_stage-grows, none-fetched}
 use Rattle.cx_laws_login.proofs.Rows.{IsQuietEntry, AfterRow, AfterStep, LinkOk, NodeOk, Saying, TurnOk, after-quiet, after-simple, all-put, all-without, carried, found-link, idle, reached-allowed, simple-goes_on, turned-ok, LinksOk, Allowed, RowOk}
 use Rattle.cx_laws_login.proofs.Turns.{turn-banner, turn-open, turn-plain, turn-secure}
 use Rattle.cx_rules.specs.Requests.{Requests, asks_tickets, first_open, on_open, open_or}
@@ -64,12 +64,12 @@ module _ (run : WholeRun) (whole : List Logged) (n : NodeName) (line : ℕ) (us 
       by_trust (inr unleaked) =
           let leak = i.leaks key u means e.leak in unleaked (subst (λ (m : Name). Contains run.leaked m) (same leak.0 leak.1) leak.2)
 
-  keyed : (key other : List ℕ) → other ≡ key → HasConnection us n key → HasConnection us n other
-  keyed key other same h = subst (λ (k : List ℕ). HasConnection us n k) (sym same) h
+  keyed : (key other : List ℕ) → other ≡ key → HasMonitorKey us n key → HasMonitorKey us n other
+  keyed key other same h = subst (λ (k : List ℕ). HasMonitorKey us n k) (sym same) h
 
   -- a frame on an open link, behind the parts of it that opened
   opened-after : (b : AskerArrival) (t : Secured) (requests : Requests) (f : Frame) (opened : List SealEntry) → Inv run whole us log J → AskerOk run before us J b.own
-      → n ≡ node.Entity b.own.name → HasConnection us n t.keys.key → Allowed us J n opened → AreGranted run.leaked whole n line log (opened ++ (on_open Open b t requests f).seals)
+      → n ≡ node.Entity b.own.name → HasMonitorKey us n t.keys.key → Allowed us J n opened → AreGranted run.leaked whole n line log (opened ++ (on_open Open b t requests f).seals)
       → AfterRow (asker_says run before n) run whole n line us log J (with_opened opened (on_open Open b t requests f))
   opened-after b t requests f opened i ok here has al g =
       let row : AskerRow = on_open Open b t requests f in
@@ -167,7 +167,7 @@ module _ (run : WholeRun) (whole : List Logged) (n : NodeName) (line : ℕ) (us 
 
   -- Renew, on the open link that was found
   renews-step : (c : ClientNode) (services reading : ℕ) (draw : List ℕ) (found : Option (Link Stage × (Secured × Requests))) → Inv run whole us log J → Ok_ us J c
-      → IfSome found (λ (f : Link Stage × (Secured × Requests)). HasConnection us n f.1.0.keys.key) → Steps (renews_on c services reading draw found)
+      → IfSome found (λ (f : Link Stage × (Secured × Requests)). HasMonitorKey us n f.1.0.keys.key) → Steps (renews_on c services reading draw found)
   renews-step c services reading draw None i ok st = entry-step c (refused_entry (me c.own) 0 reason.NoSession) (tt, tt) i ok
   renews-step c services reading draw (Some (link, (s, requests))) i ok st =
       let a : AskerArrival = arrival (me c.own) c.own.asker link reading draw in
@@ -176,13 +176,13 @@ module _ (run : WholeRun) (whole : List Logged) (n : NodeName) (line : ℕ) (us 
       (lifted-after c.own row (after-simple (asker_says run before n) run whole n line us log J row i (asks-simple run whole n line us log J before a s requests services ok.own st)))
 
   found-open : (links : List (Link Stage)) → LinksOk (client_says run before n) us links
-      → IfSome (first_open kept_open links) (λ (f : Link Stage × (Secured × Requests)). HasConnection us n f.1.0.keys.key)
+      → IfSome (first_open kept_open links) (λ (f : Link Stage × (Secured × Requests)). HasMonitorKey us n f.1.0.keys.key)
   found-open [] all = tt
   found-open (l ∷ links) all = by_stage l.stage all.0 (first_open kept_open links) (found-open links all.1)
     where
       by_stage : (stage : Stage) → AskerStageOk us n stage → (behind : Option (Link Stage × (Secured × Requests)))
-          → IfSome behind (λ (f : Link Stage × (Secured × Requests)). HasConnection us n f.1.0.keys.key)
-          → IfSome (open_or l (kept_open stage) behind) (λ (f : Link Stage × (Secured × Requests)). HasConnection us n f.1.0.keys.key)
+          → IfSome behind (λ (f : Link Stage × (Secured × Requests)). HasMonitorKey us n f.1.0.keys.key)
+          → IfSome (open_or l (kept_open stage) behind) (λ (f : Link Stage × (Secured × Requests)). HasMonitorKey us n f.1.0.keys.key)
       by_stage (AwaitsBanner asked) st behind rest = rest
       by_stage (AwaitsHello asked) st behind rest = rest
       by_stage (AwaitsChallenge asked) st behind rest = rest

@@ -19,7 +19,7 @@ use Rattle.cx_rules.specs.Monitor.{Monitor, MonitorStage}
 use Rattle.cx_steps.specs.Premises.{is_server}
 use Rattle.cx_laws_keys.proofs.Journal.{IsNotIssued, has-before, IsOf}
 use Rattle.cx_rules.specs.Secured.{Keys}
-use Rattle.cx_laws_keys.proofs.Known.{IsOfAcceptor, IsOfConnector, generated-grow}
+use Rattle.cx_laws_keys.proofs.Known.{HasLogin, IsOfAcceptor, IsOfConnector, generated-grow, login-connected, login-grows}
 use Rattle.cx_laws_keys.proofs.Lists.{all-map}
 use Rattle.cx_laws_keys.proofs.Uses.{Grows, IsConnected, Means, Secret, Uses, connected-grows, Login, AreGenerated, IsSavedIn, WholeRun}
 use Rattle.cx_laws_login.proofs.Generations.{StateOk, state-grows}
@@ -305,10 +305,26 @@ connection-grows us vs n key f h = record { name = h.name; connected = connected
 pub seals-own : (us : Uses) (n : NodeName) (keys : Keys) → HasConnection us n keys.key → MaySeal us n keys
 seals-own us n keys h = record { name = h.name; connected = h.connected; own = inl h.own }
 
+-- the key of a link to the monitor is one that the monitor made for this node, tied to the challenge of a proof
+pub record HasMonitorKey (us : Uses) (n : NodeName) (key : List ℕ) : Type 0 where
+  pub name : Name
+  pub login : HasLogin us name key
+  pub own : n ≡ node.Entity name
+
+pub monitor_key-grows : (us vs : Uses) (n : NodeName) (key : List ℕ) → Grows us vs → HasMonitorKey us n key → HasMonitorKey vs n key
+monitor_key-grows us vs n key f h = record { name = h.name; login = login-grows us vs h.name key f h.login; own = h.own }
+
+pub monitor-connection : (us : Uses) (n : NodeName) (key : List ℕ) → HasMonitorKey us n key → HasConnection us n key
+monitor-connection us n key h = record { name = h.name; connected = login-connected us h.name key h.login; own = h.own }
+
+-- under it the node may seal
+pub seals-monitor : (us : Uses) (n : NodeName) (keys : Keys) → HasMonitorKey us n keys.key → MaySeal us n keys
+seals-monitor us n keys h = seals-own us n keys (monitor-connection us n keys.key h)
+
 abbrev pub AskerStageOk : Uses → NodeName → connector.Stage → Type 0
-AskerStageOk us n (connector.AwaitsSignature s login) = HasConnection us n s.keys.key
-AskerStageOk us n (connector.AwaitsIdent s session) = HasConnection us n s.keys.key
-AskerStageOk us n (connector.Open s requests) = HasConnection us n s.keys.key
+AskerStageOk us n (connector.AwaitsSignature s login) = HasMonitorKey us n s.keys.key
+AskerStageOk us n (connector.AwaitsIdent s session) = HasMonitorKey us n s.keys.key
+AskerStageOk us n (connector.Open s requests) = HasMonitorKey us n s.keys.key
 AskerStageOk us n _ = Unit {0}
 
 pub asker_stage-grows : (us vs : Uses) (n : NodeName) (stage : connector.Stage) → Grows us vs → AskerStageOk us n stage → AskerStageOk vs n stage
@@ -316,6 +332,6 @@ asker_stage-grows us vs n (connector.AwaitsBanner asked) f h = tt
 asker_stage-grows us vs n (connector.AwaitsHello asked) f h = tt
 asker_stage-grows us vs n (connector.AwaitsChallenge asked) f h = tt
 asker_stage-grows us vs n connector.AwaitsDone f h = tt
-asker_stage-grows us vs n (connector.AwaitsSignature s login) f h = connection-grows us vs n s.keys.key f h
-asker_stage-grows us vs n (connector.AwaitsIdent s session) f h = connection-grows us vs n s.keys.key f h
-asker_stage-grows us vs n (connector.Open s requests) f h = connection-grows us vs n s.keys.key f h
+asker_stage-grows us vs n (connector.AwaitsSignature s login) f h = monitor_key-grows us vs n s.keys.key f h
+asker_stage-grows us vs n (connector.AwaitsIdent s session) f h = monitor_key-grows us vs n s.keys.key f h
+asker_stage-grows us vs n (connector.Open s requests) f h = monitor_key-grows us vs n s.keys.key f h

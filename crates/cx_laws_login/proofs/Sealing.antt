@@ -10,6 +10,7 @@ use Rattle.cx_dice.specs.Draws.{connection_of, session_of}
 use Rattle.cx_enc.specs.Values.{name_form}
 use Rattle.cx_journal.specs.declared.entries.Entry.{Entry}
 use Rattle.cx_base.specs.declared.nodes.NodeName.{NodeName}
+use Rattle.cx_base.specs.declared.nodes.NodeName.TheVariants as node
 use Rattle.cx_journal.specs.declared.premises.KeyKind.TheVariants as kind
 use Rattle.cx_keyserver.specs.Issuing.{current_at, service_ticket_of, ticket_info_of}
 use Rattle.cx_keyserver.specs.Servers.{Server, generations_of}
@@ -29,7 +30,7 @@ use Rattle.cx_laws_keys.proofs.Lists.{all-append}
 use Rattle.cx_laws_keys.proofs.Premises.{AreGranted, behind, granted-first, granted-rest, logged}
 use Rattle.cx_laws_keys.proofs.Reading.{IsInfoFrom, IsReadFrom, connection_no_info, connection_no_reply, info_no_connection, info_no_reply, info_no_rotating, read_connection, read_info, read_ticket}
 use Rattle.cx_laws_keys.proofs.Steps.{inv-all, inv-drawn}
-use Rattle.cx_laws_keys.proofs.Uses.{Connected, Generated, Grows, IsConnected, Login, Means, Secret, Ticketed, Tie, Use, Uses, grows-one, session_use, stays, whose, with_key, WholeRun}
+use Rattle.cx_laws_keys.proofs.Uses.{AtMonitor, Connected, Generated, Grows, IsConnected, Login, Means, Secret, Ticketed, Use, Uses, grows-one, session_use, stays, whose, with_key, WholeRun}
 use Rattle.cx_laws_login.proofs.Entering.{issued_of}
 use Rattle.cx_laws_keys.proofs.Known.{generated-grow}
 use Rattle.cx_laws_keys.proofs.Uses.{AreGenerated}
@@ -222,32 +223,31 @@ module _ (run : WholeRun) (whole : List Logged) (n : NodeName) (line : ℕ) (ser
       ∷ entry.Sealed (record { key = auth_session; kind = kind.Session; content = connection_secret_layout.form.text (record { secret = connection_of block }) })
       ∷ []
 
-  pub connection-sealed : (us : Uses) (log : List Logged) (number : ℕ) (tie : Tie) → Inv run whole us log K → Means us auth_session (Login name) → AreGranted run.leaked whole n line log connection_seals
+  pub connection-sealed : (us : Uses) (log : List Logged) (number challenge : ℕ) → Inv run whole us log K → Means us auth_session (Login name) → AreGranted run.leaked whole n line log connection_seals
       → Reached run whole n line us log K connection_seals Secured
-  connection-sealed us log number tie i auth g =
+  connection-sealed us log number challenge i auth g =
       let secret : List ℕ = connection_of block in
       let key : List ℕ = take 16 secret in
       let mark = draw.Connection secret name in
-      let u : Use = Connected n number name tie in
+      let u : Use = Connected node.Monitor number name (AtMonitor challenge) in
       let vs : Uses = with_key us key u in
       let first : Inv run whole vs (logged n line (entry.Drawn mark) ∷ log) K = inv-drawn run whole us log K n line mark key u i refl refl (λ m e. absurd cc) g.0 in
       record {
         uses = vs;
         grows = grows-one us key u;
         inv = inv-all run whole vs (logged n line (entry.Drawn mark) ∷ log) K n line connection_sealed first ((Login name, inr auth, says, tt), tt);
-        facts = record { session = inr auth; connection = record { acceptor = n; number = number; tie = tie; means = inl (refl, refl) } };
+        facts = record { session = inr auth; connection = record { acceptor = node.Monitor; number = number; tie = AtMonitor challenge; means = inl (refl, refl) } };
       }
     where
       connection_sealed : List SealEntry
       connection_sealed = entry.Sealed (record { key = auth_session; kind = kind.Session; content = connection_secret_layout.form.text (record { secret = connection_of block }) }) ∷ []
 
-      says : Says (with_key us (take 16 (connection_of block)) (Connected n number name tie)) K auth_session (Login name) (connection_secret_layout.form.text (record { secret = connection_of block }))
+      says : Says (with_key us (take 16 (connection_of block)) (Connected node.Monitor number name (AtMonitor challenge))) K auth_session (Login name) (connection_secret_layout.form.text (record { secret = connection_of block }))
       says = (
         λ x e. absurd (connection_no_info (record { secret = connection_of block }) x e),
         λ x e. record {
-          acceptor = n;
           number = number;
-          tie = tie;
+          challenge = challenge;
           means = inl (ap (λ (s : List ℕ). take 16 s) (sym (read_connection (record { secret = connection_of block }) x (short-connection block) e)), refl);
         },
         λ x e. absurd (connection_no_reply (record { secret = connection_of block }) x e),

@@ -3,4 +3,5 @@
 
 mod laws;
 
+pub use cx_laws_session::session_laws;
 pub use laws::queue_laws;

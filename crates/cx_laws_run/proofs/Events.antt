@@ -44,7 +44,8 @@ use Rattle.cx_run.proofs.DaemonNamed.{daemon-named}
 use Rattle.cx_rules_session.specs.DaemonRule.{DaemonNode, DaemonStage, DaemonState, daemon_step}
 use Rattle.cx_laws_authorize.proofs.Backing.{IsGood, backing-grows, AllGood}
 use Rattle.cx_laws_authorize.specs.Coming.{IsNoGuest}
-use Rattle.cx_laws_authorize.proofs.DaemonStep.{DaemonStageOk, daemon-after, daemon_says, daemon_stage-grows}
+use Rattle.cx_laws_authorize.proofs.DaemonRows.{DaemonHas, LinksHave, daemon_links-grow}
+use Rattle.cx_laws_authorize.proofs.DaemonStep.{daemon-after}
 use Rattle.cx_laws_authorize.proofs.Telling.{IsBackedLink}
 use Rattle.cx_laws_keys.proofs.Steps.{inv-saved, within-itself}
 use Rattle.std.proofs.lemmas.List.Elements.{Contains-append_cases}
@@ -57,7 +58,7 @@ use Rattle.cx_rules.specs.Inputs.{Input, Opened, NoLink, Bytes, Turn, Gone, Look
 pub record DaemonOk (run : WholeRun) (us : Uses) (J : List Entry) (d : DaemonNode) : Type 0 where
   pub known : AskerKnown run us d.own.asker.name d.own.asker.secret d.own.asker.view
   pub of : is_daemon_type d.own.asker.name.kind ≡ true
-  pub links : AllByRecursion (λ (l : Link DaemonStage). DaemonStageOk run us (node.Entity d.own.asker.name) l.stage) d.links
+  pub links : LinksHave run (node.Entity d.own.asker.name) us d.links
   pub backed : run.good ≡ true → AllByRecursion (IsBackedLink J d.own.asker.name.kind) d.links
 
 abbrev pub EntityOk : WholeRun → Uses → List Entry → EntityNode → Type 0
@@ -78,8 +79,7 @@ entity-grows run us vs J K (OfDaemon d) f w h =
     record {
       known = known-grows run us vs d.node.own.asker.name d.node.own.asker.secret d.node.own.asker.view f h.known;
       of = h.of;
-      links = all-map (λ (l : Link DaemonStage). DaemonStageOk run us n l.stage) (λ (l : Link DaemonStage). DaemonStageOk run vs n l.stage)
-          (λ l st. daemon_stage-grows run us vs n l.stage f st) d.node.links h.links;
+      links = daemon_links-grow run n us vs d.node.links f h.links;
       backed = λ known. all-map (IsBackedLink J d.node.own.asker.name.kind) (IsBackedLink K d.node.own.asker.name.kind)
           (λ l b x has. backing-grows J K d.node.own.asker.name.kind x w (b x has)) d.node.links (h.backed known);
     }
@@ -167,10 +167,10 @@ module _ (run : WholeRun) (whole : List Logged) (us : Uses) (log : List Logged) 
 
   -- ---- an entity
 
-  daemon-before : (d : DaemonNode) (name : Name) → DaemonOk run us J d → node.Entity name ≡ node.Entity d.own.asker.name → NodeOk (daemon_says run J (node.Entity name)) d us J
+  daemon-before : (d : DaemonNode) (name : Name) → DaemonOk run us J d → node.Entity name ≡ node.Entity d.own.asker.name → DaemonHas run J (node.Entity name) d us J
   daemon-before d name known here = record {
     own = record { known = known.known; quiet = λ s has. has; count = refl };
-    links = subst (λ (n : NodeName). AllByRecursion (λ (l : Link DaemonStage). DaemonStageOk run us n l.stage) d.links) (sym here) known.links;
+    links = subst (λ (n : NodeName). LinksHave run n us d.links) (sym here) known.links;
   }
 
   -- the nodes behind the step of an entity
@@ -219,7 +219,7 @@ module _ (run : WholeRun) (whole : List Logged) (us : Uses) (log : List Logged) 
       let behind_it : DaemonOk run a.uses (entered J o.out.entries) o.state.node = record {
         known = a.good.own.known;
         of = subst (λ (m : Name). is_daemon_type m.kind ≡ true) (sym kept) known.of;
-        links = subst (λ (n : NodeName). AllByRecursion (λ (l : Link DaemonStage). DaemonStageOk run a.uses n l.stage) o.state.node.links) still a.good.links;
+        links = subst (λ (n : NodeName). LinksHave run n a.uses o.state.node.links) still a.good.links;
         backed = λ known. subst (λ (m : Name). AllByRecursion (IsBackedLink (entered J o.out.entries) m.kind) o.state.node.links) (sym kept) (b.backed known);
       } in
       record {

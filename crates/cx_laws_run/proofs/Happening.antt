@@ -92,7 +92,7 @@ unvisited-law setup hs m away sound fresh =
     (all-occur setup run m.begins hs [] (nodes_of setup) m.drawn m.looks (λ none. away) (all-known setup hs false m) (λ s g h. h)) sound fresh
 
 -- of every run guests may come
-visited : (setup : Setup) (hs : List Happening) → MayHappen setup hs → AllOccur (run_of setup hs true) (nodes_of setup) hs
+pub visited : (setup : Setup) (hs : List Happening) → MayHappen setup hs → AllOccur (run_of setup hs true) (nodes_of setup) hs
 visited setup hs m =
     all-occur setup (run_of setup hs true) m.begins hs [] (nodes_of setup) m.drawn m.looks (λ none. absurd (differ none)) (all-known setup hs true m) (λ s g h. h)
   where

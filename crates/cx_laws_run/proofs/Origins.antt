@@ -30,8 +30,8 @@ use Rattle.cx_steps.specs.declared.seals.Logged.{Logged}
 use Rattle.cx_steps.specs.declared.seals.SealEntry.{SealEntry}
 use Rattle.cx_steps.specs.declared.seals.SealEntry.TheVariants as seal
 use Rattle.cx_laws_authorize.proofs.Backing.{AllGood, HasBacking, authorized-backed}
-use Rattle.cx_laws_authorize.proofs.DaemonStep.{DaemonStageOk}
-use Rattle.cx_laws_authorize.proofs.Keys.{HostKeys}
+use Rattle.cx_laws_authorize.proofs.DaemonRows.{DaemonStageOk}
+use Rattle.cx_laws_authorize.proofs.Keys.{HostKeys, host-connected}
 use Rattle.cx_laws_authorize.proofs.Opening.{IsOfSession, step-hears}
 use Rattle.cx_laws_authorize.proofs.Steps.{all-authorize}
 use Rattle.cx_laws_authorize.specs.Admission.{EntryTold, IsOwned, StageHas}
@@ -121,9 +121,9 @@ module _ (run : WholeRun) (setup : Setup) (same : run.leaked ≡ leaked_of setup
         let heard : HearsPart keys (daemon_step nodes.handlers d (Turn o.number) h.reading h.draw).out.seals =
         step-hears nodes.handlers d o.number h.reading h.draw link o.owned.secured authority o.turn.found stage_is e (subst (λ (es : List Entry). Contains es e) entries_are has) of in
         let n : NodeName = node.Entity d.node.own.asker.name in
-        let at_link : DaemonStageOk run us n link.stage =
-        found_all (λ (l : Link DaemonStage). DaemonStageOk run us n l.stage) (λ (l : Link DaemonStage). l.number == o.number) d.node.links link known.links o.turn.found in
-        let host : HostKeys us keys authority.ticket.name = (subst (λ (stage : DaemonStage). DaemonStageOk run us n stage) stage_is at_link).0 in
+        let at_link : DaemonStageOk run us n link.number link.stage =
+        found_all (λ (l : Link DaemonStage). DaemonStageOk run us n l.number l.stage) (λ (l : Link DaemonStage). l.number == o.number) d.node.links link known.links o.turn.found in
+        let host : HostKeys us n link.number keys authority.ticket.name = (subst (λ (stage : DaemonStage). DaemonStageOk run us n link.number stage) stage_is at_link).0 in
         let opened : seals_at p ≡ seal.Opened (part_heard keys heard.plain) ∷ heard.rest = seals_are ∙ heard.opened in
         let granted : AreGranted run.leaked whole h.node h.line (logged_until setup past) (seal.Opened (part_heard keys heard.plain) ∷ heard.rest) =
         subst (λ (es : List SealEntry). AreGranted run.leaked whole h.node h.line (logged_until setup past) es) opened g in
@@ -134,7 +134,7 @@ module _ (run : WholeRun) (setup : Setup) (same : run.leaked ≡ leaked_of setup
           heard.rest,
           opened,
           refl,
-          sealed-by run setup same whole us J past nodes h keys heard.plain authority.ticket.name i host.connected host.into granted.0.owes own,
+          sealed-by run setup same whole us J past nodes h keys heard.plain authority.ticket.name i (host-connected us n link.number keys authority.ticket.name host) host.into granted.0.owes own,
         )
 
   knows-here : Knows setup past p

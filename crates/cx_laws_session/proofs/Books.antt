@@ -5,7 +5,8 @@ use Rattle.std.specs.List.{AllByRecursion}
 use Rattle.std.proofs.lemmas.Bool.{and_parts, eqb-false}
 use Rattle.std.proofs.lemmas.Bool.Decides.{nat_tests}
 use Rattle.cx_authorize.specs.Daemon.{Authority}
-use Rattle.cx_base.specs.Names.{Name}
+use Rattle.cx_base.proofs.Names.{same_name_is}
+use Rattle.cx_base.specs.Names.{Name, same_name}
 use Rattle.cx_journal.specs.declared.entries.Admitted.{Admitted}
 use Rattle.cx_session.specs.Book.{Book, admission, admit_reply, admitted, changed, ended, opened, raised, renewed, resume_reply, resumption, same_owner, take_reply, taken, taking, with_client_cookie, with_cookies, with_number}
 use Rattle.cx_session.specs.declared.session.Session.{Session}
@@ -49,13 +50,14 @@ admitted-lasts book owner client server global lossy =
 
 -- ---- resumptions
 
--- a session is resumed that has both cookies, under the next epoch
-pub record IsResumed (book : Book Authority) (client : ℕ) (given : ℕ × ℕ × ℕ × Bool) : Type 0 where
+-- a session is resumed that has both cookies and an owner of the same entity, under the next epoch
+pub record IsResumed (entity_of : Authority → Name) (book : Book Authority) (owner : Authority) (client : ℕ) (given : ℕ × ℕ × ℕ × Bool) : Type 0 where
   pub old : Session Authority
   pub lived : IsLive book old
   pub number : old.number ≡ given.0
   pub cookie : client ≡ old.client_cookie
   pub epoch : given.1 ≡ old.epoch + 1
+  pub entity : entity_of old.owner ≡ entity_of owner
 
 module _ (entity_of : Authority → Name) (gid_of : Authority → ℕ) where
   resumption-given : (s : Session Authority) (owner : Authority) (global connect : ℕ) (given : ℕ × ℕ × ℕ × Bool) (same older fewer spent : Bool)
@@ -70,12 +72,18 @@ module _ (entity_of : Authority → Name) (gid_of : Authority → ℕ) where
       let same : (s.number, s.epoch + 1, s.last, s.lossy) ≡ given = cc in
       (ap (λ (g : ℕ × ℕ × ℕ × Bool). g.0) same, sym (ap (λ (g : ℕ × ℕ × ℕ × Bool). g.1) same))
 
+  resumption-owner : (s : Session Authority) (owner : Authority) (global connect : ℕ) (given : ℕ × ℕ × ℕ × Bool) (same : Bool) → same_owner entity_of gid_of s.owner owner ≡ same
+      → resumption entity_of gid_of (Some s) owner global connect ≡ Ok given → entity_of s.owner ≡ entity_of owner
+  resumption-owner s owner global connect given false a is = let bad = rw a at is in absurd cc
+  resumption-owner s owner global connect given true a is =
+      same_name_is (entity_of s.owner) (entity_of owner) (and_parts (same_name (entity_of s.owner) (entity_of owner)) (gid_of s.owner == gid_of owner) a).0
+
   pub resume-given : (book : Book Authority) (owner : Authority) (client server global connect : ℕ) (given : ℕ × ℕ × ℕ × Bool)
-      → resume_reply entity_of gid_of book owner client server global connect ≡ Ok given → IsResumed book client given
+      → resume_reply entity_of gid_of book owner client server global connect ≡ Ok given → IsResumed entity_of book owner client given
   resume-given book owner client server global connect given is = by_found (with_cookies client server book.live) refl is
     where
       by_found : (found : Option (Session Authority)) → with_cookies client server book.live ≡ found → resumption entity_of gid_of found owner global connect ≡ Ok given
-          → IsResumed book client given
+          → IsResumed entity_of book owner client given
       by_found None found bad = absurd cc
       by_found (Some s) found ok =
           let g = resumption-given s owner global connect given (same_owner entity_of gid_of s.owner owner) (nat_le connect s.connect_seq) (nat_lt global s.global_seq)
@@ -88,6 +96,7 @@ module _ (entity_of : Authority → Name) (gid_of : Authority → ℕ) where
             number = g.0;
             cookie = sym (eqb-true s.client_cookie client both.0);
             epoch = g.1;
+            entity = resumption-owner s owner global connect given (same_owner entity_of gid_of s.owner owner) refl ok;
           }
 
 -- behind it each session of another number is one of before, and each of this number is one resumed

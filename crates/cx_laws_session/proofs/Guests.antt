@@ -304,6 +304,7 @@ module _ (handlers : Handlers) (book : Book Authority) (a : GuestArrival) (s : S
           lived = g.lived;
           number = g.number;
           cookie = g.cookie;
+          entity = sym g.entity;
           epoch = g.epoch;
           next = refl;
           lives = resumed-lives book given.0 owner reconnect.global_seq reconnect.connect_seq (admission_of a owner given.0 given.1 reconnect.client_cookie) refl refl refl refl;

@@ -232,6 +232,7 @@ pub record ResumesOne (name : Name) (book : Book Authority) (had has : Served �
   pub lived : IsLive book old
   pub number : old.number ≡ resumed.session
   pub cookie : resumed.cookie ≡ old.client_cookie
+  pub entity : resumed.entity ≡ old.owner.ticket.name
   pub epoch : resumed.epoch ≡ old.epoch + 1
   pub next : new.next ≡ book.next
   pub lives : AllByRecursion (λ (s : Session Authority). (LivesOn book s × (resumed.session ≡ s.number → ⊥)) ⊎ SomeOf (IsRenewed resumed s) book.live) new.live
@@ -342,6 +343,7 @@ module _ (handlers : Handlers) (name : Name) (book new : Book Authority) (es : L
     lived = r.lived;
     number = r.number;
     cookie = r.cookie;
+    entity = r.entity;
     epoch = r.epoch;
     next = r.next;
     lives = r.lives;

@@ -6,9 +6,10 @@ use Rattle.cx_journal.specs.declared.entries.Entry.{Entry}
 use Rattle.cx_journal.specs.declared.premises.Broken.{Broken}
 use Rattle.cx_journal.specs.Enforced.{IsEnforced}
 use Rattle.cx_journal.specs.InSession.{IsInSession}
-use Rattle.cx_laws_run.specs.Laws.{KeepsLaws, KeepsTickets, LooksLast}
-use Rattle.cx_laws_run.specs.Logins.{LogIn, Stands}
-use Rattle.cx_laws_run.specs.Origins.{GoBack}
+use Rattle.cx_journal.specs.PrefixOfSent.{IsPrefixOfSent}
+use Rattle.cx_laws_sent.specs.cx_laws_run.specs.Laws.{KeepsLaws, KeepsTickets, LooksLast}
+use Rattle.cx_laws_sent.specs.cx_laws_run.specs.Logins.{LogIn, Stands}
+use Rattle.cx_laws_sent.specs.cx_laws_run.specs.Origins.{GoBack}
 use Rattle.cx_lines.specs.declared.lines.Numbered.{Numbered}
 use Rattle.cx_plain.specs.Plain.{serves}
 use Rattle.cx_replay.specs.Serving.{IsByteReplay}
@@ -29,14 +30,16 @@ pub byte_replay : (handlers : Handlers) (bytes : List ℕ) (script : List Number
     → KeepsLaws has_handler (run_journal h s))
     → ((h : Handlers) (b : List ℕ) (s : List Numbered) → Lines b s → IsFoundOf h s None → LogIn (setup_of h s) (points (setup_of h s) (trace h s)))
     → ((h : Handlers) (b : List ℕ) (s : List Numbered) → Lines b s → IsFoundOf h s None → GoBack (setup_of h s) (points (setup_of h s) (trace h s)))
+    → ((h : Handlers) (b : List ℕ) (s : List Numbered) → Lines b s → IsFoundOf h s None → IsPrefixOfSent (run_journal h s))
     → Lines bytes script → journal ≡ run_journal handlers script → IsFoundOf handlers script found → IsByteReplay handlers script journal found
-byte_replay handlers bytes script journal found stands looks sessions tickets keeps logs goes said run kept =
+byte_replay handlers bytes script journal found stands looks sessions tickets keeps logs goes orders said run kept =
     let Found : Option Broken → Type 0 = λ f. IsFoundOf handlers script f in
     let Looks : List Entry → Type 0 = λ j. LooksLast j in
     let InSession : List Entry → Type 0 = λ j. IsInSession j in
     let Enforced : List Entry → Type 0 = λ j. IsEnforced (serves handlers) j in
     let Tickets : List Entry → Type 0 = λ j. KeepsTickets j in
     let Lawful : List Entry → Type 0 = λ j. KeepsLaws (serves handlers) j in
+    let Ordered : List Entry → Type 0 = λ j. IsPrefixOfSent j in
     record {
       run = run;
       found_so = kept;
@@ -48,4 +51,5 @@ byte_replay handlers bytes script journal found stands looks sessions tickets ke
       lawful = λ none away. subst Lawful (sym run) (keeps handlers (serves handlers) bytes script said away (subst Found none kept));
       logged_in = λ none. logs handlers bytes script said (subst Found none kept);
       goes_back = λ none. goes handlers bytes script said (subst Found none kept);
+      ordered = λ none. subst Ordered (sym run) (orders handlers bytes script said (subst Found none kept));
     }

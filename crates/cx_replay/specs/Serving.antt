@@ -8,9 +8,10 @@ use Rattle.cx_journal.specs.Backed.{IsBacked}
 use Rattle.cx_journal.specs.Enforced.{IsEnforced}
 use Rattle.cx_journal.specs.InSession.{IsInSession}
 use Rattle.cx_journal.specs.KeepsKeys.{KeepsKeys}
-use Rattle.cx_laws_run.specs.Laws.{KeepsLaws, KeepsTickets, LooksLast}
-use Rattle.cx_laws_run.specs.Logins.{LogIn, Stands}
-use Rattle.cx_laws_run.specs.Origins.{GoBack}
+use Rattle.cx_journal.specs.PrefixOfSent.{IsPrefixOfSent}
+use Rattle.cx_laws_sent.specs.cx_laws_run.specs.Laws.{KeepsLaws, KeepsTickets, LooksLast}
+use Rattle.cx_laws_sent.specs.cx_laws_run.specs.Logins.{LogIn, Stands}
+use Rattle.cx_laws_sent.specs.cx_laws_run.specs.Origins.{GoBack}
 use Rattle.cx_lines.specs.declared.lines.Numbered.{Numbered}
 use Rattle.cx_plain.specs.Plain.{journal_of, serves}
 use Rattle.cx_plain.specs.PlainLines.{first_untaken, plain_lines}
@@ -45,8 +46,8 @@ pub record IsPlainReplay (handlers : Handlers) (script : List Numbered) (journal
 -- the journal is that of the run through bytes over these handlers, and this is found of its premises: that it is sound and fresh, or its first breach.
 -- Either way each ticket was asked for, each look is at what the daemon fetched last, and each operation is handled in an admitted session and ends as
 -- the caps of that session and the handlers say. Where it is sound and fresh, the other laws over every run hold: those of tickets, that each ticket of an
--- entity that isn't leaked was asked for by its own node, and that each session goes back to its ticket's issue. And where moreover no line tells a client
--- to connect or a daemon to drop a session, all laws of a journal hold
+-- entity that isn't leaked was asked for by its own node, that each session goes back to its ticket's issue, and that what is handled under a cookie for such an
+-- entity is a front of what it sent under it. And where moreover no line tells a client to connect or a daemon to drop a session, all laws of a journal hold
 pub record IsByteReplay (handlers : Handlers) (script : List Numbered) (journal : List Entry) (found : Option Broken) : Type 0 where
   pub run : journal ≡ run_journal handlers script
   pub found_so : IsFoundOf handlers script found
@@ -58,6 +59,7 @@ pub record IsByteReplay (handlers : Handlers) (script : List Numbered) (journal 
   pub lawful : found ≡ None → has_session_line script ≡ false → KeepsLaws (serves handlers) journal
   pub logged_in : found ≡ None → LogIn (setup_of handlers script) (points (setup_of handlers script) (trace handlers script))
   pub goes_back : found ≡ None → GoBack (setup_of handlers script) (points (setup_of handlers script) (trace handlers script))
+  pub ordered : found ≡ None → IsPrefixOfSent journal
 
 -- by whether the schedule has a send line; the plain run breaks no premise
 abbrev pub IsReplayBy : Bool → Handlers → List Numbered → List Entry → Option Broken → Type 0

@@ -14,8 +14,7 @@ ghost use Rattle.cx_world.specs.Idle.{idle_lines};
 use crate::lines::{first_unserved, has_send_line};
 use crate::refusals::ReplayRefusal;
 use cx_desk::Desk;
-use cx_laws_run::{journal_laws, login_laws, origin_laws, standing_laws};
-use cx_laws_session::session_laws;
+use cx_laws_sent::{journal_laws, login_laws, origin_laws, sent_laws, session_laws, standing_laws};
 use cx_schedule::Script;
 use cx_world::Report;
 use std::alloc::Global;
@@ -52,6 +51,7 @@ fn through_bytes(alloc: Global, script: &Script, desk: &Desk) -> Result<Report, 
     login_laws();
     origin_laws();
     session_laws();
+    sent_laws();
     let report = cx_world::run(alloc, script, desk)?;
     Ok(report)
 }

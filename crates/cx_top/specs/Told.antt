@@ -75,7 +75,7 @@ abbrev pub breach_text : Premise → List ℕ → List ℕ → List ℕ → List
 breach_text premise.Sealing place node kind =
     codes "what opens was sealed before, and what is found equal was made before; but " <> place <> codes ", " <> node
     <> codes " opened or found equal what nobody had made under its key, of the kind " <> kind
-    <> codes "; leave out what is injected there, or leak the client under whose keys it is made"
+    <> codes "; leave out what is injected there, or, where a client's key made it, leak that client"
 breach_text premise.Draw place node kind =
     codes "no draw repeats; but " <> place <> codes ", " <> node <> codes " drew what had been drawn before, of the kind " <> kind
     <> codes "; give the nodes different seeds"

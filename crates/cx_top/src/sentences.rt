@@ -197,8 +197,8 @@ impl fmt::Display for Breach<'_> {
             Premise::Sealing => write!(
                 f,
                 "what opens was sealed before, and what is found equal was made before; but {}, {} opened or found equal what \
-                nobody had made under its key, of the kind {}; leave out what is injected there, or leak the client under \
-                whose keys it is made",
+                nobody had made under its key, of the kind {}; leave out what is injected there, or, where a \
+                client's key made it, leak that client",
                 Place(broken.line),
                 broken.node,
                 broken.kind
