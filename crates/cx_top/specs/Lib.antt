@@ -7,4 +7,3 @@ pub mod Replays
 pub mod Sentences
 pub mod Statuses
 pub mod Told
-pub mod Unserved

@@ -12,7 +12,6 @@ mod sentences;
 mod status;
 mod told;
 mod top;
-mod unserved;
 
 pub use commands::Subcommand;
 pub use input::{Unread, read_all};
