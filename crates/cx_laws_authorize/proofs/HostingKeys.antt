@@ -52,7 +52,7 @@ use Rattle.cx_base.specs.Names.{Name}
 use Rattle.cx_journal.specs.declared.entries.Entry.{Entry}
 use Rattle.cx_laws_authorize.proofs.Hosting.{Always, always-map, always-weaker}
 use Rattle.cx_laws_authorize.proofs.Keys.{HostKeys, KeptKeys, KeysRow, StageKeys, host-moves, host-seals, keys-banner, keys-entered, keys-hello, keys-kept, keys-refuses, keys-secure, keys-signature, more-keys, request-keys}
-use Rattle.cx_laws_keys.proofs.Known.{Inv, IsAllowed, IsOfKind}
+use Rattle.cx_laws_keys.proofs.Known.{Inv, IsAllowed}
 use Rattle.cx_laws_keys.proofs.Lists.{all-append}
 use Rattle.cx_laws_keys.proofs.Premises.{AreGranted}
 use Rattle.cx_laws_keys.proofs.Uses.{Uses, WholeRun}
@@ -249,10 +249,10 @@ module _ (us : Uses) (J : List Entry) (n : NodeName) (handlers : Handlers) (b : 
 -- ---- a turn
 
 module _ (run : WholeRun) (whole : List Logged) (n : NodeName) (line : ℕ) (us : Uses) (log : List Logged) (J : List Entry) (a : GuestArrival)
-    (i : Inv run whole us log J) (of : is_daemon_type a.own.name.kind ≡ true) (placed : IsOfKind n a.own.name.kind) (generated : AreGenerated us a.own.name.kind a.own.view.generations) (drawn : length a.draw ≡ 384) where
+    (i : Inv run whole us log J) (of : is_daemon_type a.own.name.kind ≡ true) (generated : AreGenerated us a.own.name.kind a.own.view.generations) (drawn : length a.draw ≡ 384) where
   -- where what a row logs is granted, it keeps what is known
   abbrev pub KeepsRow : GuestRow → Type 0
-  KeepsRow row = AreGranted run.leaked whole n line log row.seals → KeptKeys run whole n line us log J a i of placed generated row
+  KeepsRow row = AreGranted run.leaked whole n line log row.seals → KeptKeys run whole n line us log J a i of generated row
 
   abbrev pub KeepsTurned : Turned Asker GuestStage → Type 0
   KeepsTurned Waits = Unit {0}
@@ -263,7 +263,7 @@ module _ (run : WholeRun) (whole : List Logged) (n : NodeName) (line : ℕ) (us 
   KeepsHosted hosted = KeepsTurned hosted.turned
 
   simple : (row : GuestRow) → KeysRow us J n row → KeepsRow row
-  simple row h g = keys-kept run whole n line us log J a i of placed generated row h
+  simple row h g = keys-kept run whole n line us log J a i of generated row h
 
   behind-opened : (opened : List SealEntry) (hosted : Hosted) → Allowed us J n opened → TurnedKeys us J n hosted.turned → KeepsHosted (hosted_behind opened hosted)
   behind-opened opened hosted al h = by_turned hosted.turned h
@@ -291,15 +291,15 @@ module _ (run : WholeRun) (whole : List Logged) (n : NodeName) (line : ℕ) (us 
       → Keeps (no_session_moves (turned_by (λ (link, f) _. on_auth_request on_first (at a link) (due 2 auth_request_layout.form f)) (plain_read a.link r)))
   request-keeps (Ok None) = tt
   request-keeps (Ok (Some (f, m))) =
-      λ g. keys-kept run whole n line us log J a i of placed generated (on_auth_request on_first (at a (taking a.link m)) (due 2 auth_request_layout.form f))
-      (request-keys run whole n line us log J (at a (taking a.link m)) i of placed generated (due 2 auth_request_layout.form f) g)
+      λ g. keys-kept run whole n line us log J a i of generated (on_auth_request on_first (at a (taking a.link m)) (due 2 auth_request_layout.form f))
+      (request-keys run whole n line us log J (at a (taking a.link m)) i of generated (due 2 auth_request_layout.form f) g)
   request-keeps (Err e) = tt
 
   more-keeps : (awaited : Awaited) (r : Result (Option (Frame × ℕ)) FrameRefusal)
       → Keeps (no_session_moves (turned_by (λ (link, f) _. on_auth_request_more (at a link) awaited (due 5 auth_request_more_layout.form f)) (plain_read a.link r)))
   more-keeps awaited (Ok None) = tt
   more-keeps awaited (Ok (Some (f, m))) = λ g.
-      let h = more-keys run whole n line us log J (at a (taking a.link m)) i of placed generated awaited (due 5 auth_request_more_layout.form f) drawn g in
+      let h = more-keys run whole n line us log J (at a (taking a.link m)) i of generated awaited (due 5 auth_request_more_layout.form f) drawn g in
       record { uses = h.uses; grows = h.grows; inv = h.inv; entries = h.entries; link = h.link }
   more-keeps awaited (Err e) = tt
 

@@ -38,7 +38,7 @@ use Rattle.cx_steps.specs.declared.seals.SealEntry.TheVariants as seal
 use Rattle.cx_laws_authorize.proofs.Backing.{opened-issued}
 use Rattle.cx_laws_authorize.proofs.Opened.{IsOpening, ShowsTicket, first-all, first-opened, second-all, second-opened}
 use Rattle.cx_laws_keys.proofs.Journal.{IsNotIssued}
-use Rattle.cx_laws_keys.proofs.Known.{Inv, IsAllowed, IsOfKind, IsOfAcceptor, IsOfConnector, RepliesFor, counter_at}
+use Rattle.cx_laws_keys.proofs.Known.{Inv, IsAllowed, IsOfAcceptor, IsOfConnector, RepliesTo, counter_at}
 use Rattle.cx_laws_keys.proofs.Lists.{all-append, all-map}
 use Rattle.cx_laws_keys.proofs.Premises.{AreGranted, behind, behind-append, granted-first, granted-rest}
 use Rattle.cx_laws_keys.proofs.Reading.{challenge_no_reply, read_reply}
@@ -77,11 +77,7 @@ host-moves us n number k keys name same h = record {
 }
 
 pub host-seals : (us : Uses) (n : NodeName) (number : ℕ) (keys : Keys) (name : Name) → HostKeys us n number keys name → MaySeal us n keys
-host-seals us n number keys name h = record {
-  name = name;
-  connected = record { acceptor = n; number = number; tie = AtDaemon h.service h.tie; means = h.means };
-  own = inr (h.out, inl refl);
-}
+host-seals us n number keys name h = record { name = name; connected = host-connected us n number keys name h; own = inr h.out }
 
 -- until a session is open, the entity is the one of the authority
 abbrev pub StageKeys : Uses → NodeName → ℕ → GuestStage → Type 0
@@ -127,7 +123,7 @@ module _ (us : Uses) (J : List Entry) (n : NodeName) where
 
   -- what is sealed under a session key of a daemon's ticket
   pub session-allowed : (name : Name) (service : EntityType) (session content : List ℕ) → is_daemon_type service ≡ true → Means us session (session_use name service)
-      → RepliesFor us name service content → IsAllowed us J n (session_sealed session content)
+      → RepliesTo us name content → IsAllowed us J n (session_sealed session content)
   session-allowed name service session content of means says =
       (Ticketed name service, subst (λ (u : Use). Means us session u) (ticketed name service of) means, says, tt)
 
@@ -176,7 +172,7 @@ module _ (us : Uses) (J : List Entry) (n : NodeName) where
 -- ---- the first authorizer
 
 module _ (run : WholeRun) (whole : List Logged) (n : NodeName) (line : ℕ) (us : Uses) (log : List Logged) (J : List Entry) (b : GuestArrival)
-    (i : Inv run whole us log J) (of : is_daemon_type b.own.name.kind ≡ true) (placed : IsOfKind n b.own.name.kind) (generated : AreGenerated us b.own.name.kind b.own.view.generations) where
+    (i : Inv run whole us log J) (of : is_daemon_type b.own.name.kind ≡ true) (generated : AreGenerated us b.own.name.kind b.own.view.generations) where
   abbrev Granted : List SealEntry → Type 0
   Granted es = AreGranted run.leaked whole n line log es
 
@@ -292,7 +288,7 @@ module _ (run : WholeRun) (whole : List Logged) (n : NodeName) (line : ℕ) (us 
         let first = inv-all run whole us log J n line opened i (openings-allowed us J n opened all) in
         let rest = granted-rest run.leaked whole n line log opened (drew ∷ []) g in
         subst (λ (l : List Logged). Inv run whole vs l J) (sym (behind-append n line opened (drew ∷ []) log))
-        (inv-drawn run whole us (behind n line opened log) J n line (draw.Connection secret ticket.name) (take 16 secret) purpose first refl refl placed (λ m e. absurd cc) rest.0)
+        (inv-drawn run whole us (behind n line opened log) J n line (draw.Connection secret ticket.name) (take 16 secret) purpose first refl refl (λ m e. absurd cc) rest.0)
 
     session-means : Granted before → Means vs ticket.session (Ticketed ticket.name b.own.name.kind)
     session-means g =
@@ -309,24 +305,22 @@ module _ (run : WholeRun) (whole : List Logged) (n : NodeName) (line : ℕ) (us 
     }
 
     -- the reply raises the nonce that it answers, and its secret is that of this link
-    reply-says : RepliesFor vs ticket.name b.own.name.kind (authorize_reply_content nonce secret)
+    reply-says : RepliesTo vs ticket.name (authorize_reply_content nonce secret)
     reply-says = λ x e.
-        let same = read_reply (record { nonce_plus_one = raised nonce; secret = secret }) x (raised-below nonce) (short-connection b.draw) e in (
-          record {
-            acceptor = n;
-            number = b.link.number;
-            service = b.own.name.kind;
-            means = inl (
-              ap (λ (s : List ℕ). take 16 s) (sym same.1),
-              ap (λ (m : ℕ). Connected n b.link.number ticket.name (AtDaemon b.own.name.kind m)) (sym same.0),
-            );
-            into = subst (λ (s : List ℕ). slice_index s 16 < 128) (sym same.1) (acceptor-sends b.draw drawn);
-            out = subst (λ (s : List ℕ). 128 ≤ slice_index s 28) (sym same.1) (connector-sends b.draw drawn);
-            counts_into = ap (λ (s : List ℕ). counter_at s 20) same.1 ∙ acceptor-counts b.draw drawn;
-            counts_out = ap (λ (s : List ℕ). counter_at s 32) same.1 ∙ connector-counts b.draw drawn;
-          },
-          refl,
-        )
+        let same = read_reply (record { nonce_plus_one = raised nonce; secret = secret }) x (raised-below nonce) (short-connection b.draw) e in
+        record {
+          acceptor = n;
+          number = b.link.number;
+          service = b.own.name.kind;
+          means = inl (
+            ap (λ (s : List ℕ). take 16 s) (sym same.1),
+            ap (λ (m : ℕ). Connected n b.link.number ticket.name (AtDaemon b.own.name.kind m)) (sym same.0),
+          );
+          into = subst (λ (s : List ℕ). slice_index s 16 < 128) (sym same.1) (acceptor-sends b.draw drawn);
+          out = subst (λ (s : List ℕ). 128 ≤ slice_index s 28) (sym same.1) (connector-sends b.draw drawn);
+          counts_into = ap (λ (s : List ℕ). counter_at s 20) same.1 ∙ acceptor-counts b.draw drawn;
+          counts_out = ap (λ (s : List ℕ). counter_at s 32) same.1 ∙ connector-counts b.draw drawn;
+        }
 
     done-keys : (r : Result Finished BytesFault) → (Means vs ticket.session (Ticketed ticket.name b.own.name.kind) → FinishedKeys vs (acceptor_keys secret) r)
         → Granted (done_sent b before held (authority_of b ticket) r).seals → KeptKeys (done_sent b before held (authority_of b ticket) r)

@@ -74,7 +74,7 @@ use Rattle.cx_laws_keys.proofs.Known.{HasReply, Inv, IsAllowed, reply-connected}
 use Rattle.cx_laws_keys.proofs.Lists.{all-append}
 use Rattle.cx_laws_keys.proofs.Premises.{AreGranted, granted-first}
 use Rattle.cx_laws_keys.proofs.Reading.{authorize_no_connection, authorize_no_info, authorize_no_reply}
-use Rattle.cx_laws_keys.proofs.Uses.{AtDaemon, Connected, Login, Means, Ticketed, Uses, WholeRun}
+use Rattle.cx_laws_keys.proofs.Uses.{Login, Means, Ticketed, Uses, WholeRun}
 use Rattle.cx_laws_login.proofs.AskerRows.{NeverExcepted}
 use Rattle.cx_laws_login.proofs.Facts.{HasConnection, IsSameWay, seals-own}
 use Rattle.cx_laws_login.proofs.Opens.{unlocked-allowed, unlocked_says}
@@ -341,19 +341,7 @@ module _ (run : WholeRun) (whole_log : List Logged) (n : NodeName) (line : ℕ) 
           let s = unlocked_says run whole_log n line us log J authorize_reply_layout.form kind.Session key bytes (Login h.name) i m (free key (Login h.name) m same) g x e in s.2.2 x s.1
       by_use (inr (service, m)) =
           let s = unlocked_says run whole_log n line us log J authorize_reply_layout.form kind.Session key bytes (Ticketed h.name service) i m (free key (Ticketed h.name service) m same) g x e in
-          (s.2 x s.1).0
-
-  -- under the session key of a ticket for a service it is of a daemon of this type
-  pub reply-service : (key bytes : List ℕ) (x : AuthorizeReply) (service : EntityType) → Means us key (Ticketed name service) → Grants (reply_in key bytes).seals
-      → (reply_in key bytes).value ≡ Some x → (r : HasReply us name x) → r.service ≡ service
-  reply-service key bytes x service m g e r =
-      let s = unlocked_says run whole_log n line us log J authorize_reply_layout.form kind.Session key bytes (Ticketed name service) i m (free key (Ticketed name service) m refl) g x e in
-      let own = s.2 x s.1 in
-      same-service (i.one (take 16 x.secret) (Connected r.acceptor r.number name (AtDaemon r.service x.nonce_plus_one)) (Connected own.0.acceptor own.0.number name (AtDaemon own.0.service x.nonce_plus_one)) r.means own.0.means)
-      ∙ own.1
-    where
-      same-service : {at other : NodeName} {number second tie : ℕ} {a b : EntityType} → Connected at number name (AtDaemon a tie) ≡ Connected other second name (AtDaemon b tie) → a ≡ b
-      same-service e = cc
+          s.2 x s.1
 
   reply-connects : (key bytes : List ℕ) (x : AuthorizeReply) → IsSession us n key → Grants (reply_in key bytes).seals → (reply_in key bytes).value ≡ Some x
       → HasConnection us n (take 16 x.secret)

@@ -44,7 +44,7 @@ is-refused : Response → Bool
 is-refused (Replies made) = false
 is-refused (Refuses why opened) = true
 
-pub service-rotated : (now : ℕ) (draw : List ℕ) (state : KeptState) (service : EntityType) → is_daemon_type service ≡ true
+service-rotated : (now : ℕ) (draw : List ℕ) (state : KeptState) (service : EntityType) → is_daemon_type service ≡ true
     → generations_of (rotated_state now draw state) service ≡ rotated_of now draw state service
 service-rotated now draw state Mds is = refl
 service-rotated now draw state Osd is = refl
@@ -58,7 +58,7 @@ lists_in (Ok gs) = gs
 lists_in (Err e) = []
 
 -- what a daemon of the keyring is told
-pub secrets-are : (server : Server) (name : Name) (gs : List Generation) → secrets_of server name ≡ Ok gs → (is_daemon_type name.kind ≡ true) × (gs ≡ generations_of server.state name.kind)
+secrets-are : (server : Server) (name : Name) (gs : List Generation) → secrets_of server name ≡ Ok gs → (is_daemon_type name.kind ≡ true) × (gs ≡ generations_of server.state name.kind)
 unfolding lists_in
 secrets-are server name gs is = by_test (is_some (find (is_named name) server.ring)) (is_daemon_type name.kind) refl is
   where

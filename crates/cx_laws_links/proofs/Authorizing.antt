@@ -47,7 +47,7 @@ use Rattle.cx_wire.specs.Logins.{authorize_challenge_layout, authorize_reply_lay
 use Rattle.cx_wire.specs.declared.authorizers.AuthorizeChallenge as shown_challenge
 use Rattle.cx_wire.specs.declared.authorizers.AuthorizeReply as shown_reply
 use Rattle.cx_run.proofs.Taking.{EachRow, each-turned}
-use Rattle.cx_laws_links.proofs.CallWords.{AreQuiet, HeldAt, KeyedStage, OneWord, Says, SignedOn, quiet-append, pending_of}
+use Rattle.cx_laws_links.proofs.CallWords.{AreQuiet, HeldAt, KeyedStage, OneWord, Says, SignedOn, quiet-append}
 use Rattle.cx_laws_links.proofs.Spoken.{Signs, frame_of}
 
 -- ---- what rows come to until the link has a key
@@ -233,10 +233,6 @@ module _ (W : ℕ → ℕ × Operation → Type 0) (a : CallArrival) (callee : C
               let s : Secured = record { keys = one.keys; session = answered.session; covered = a.link.sent } in
               let it : record a.link { stage = AwaitsSignature s callee } ≡ link = cc in
               subst (λ (l : Link CallStage). HeldAt a.own.session l.stage) it (signs-held a.own.session s callee);
-          waits = λ link is.
-              let s : Secured = record { keys = one.keys; session = answered.session; covered = a.link.sent } in
-              let it : record a.link { stage = AwaitsSignature s callee } ≡ link = cc in
-              subst (λ (l : Link CallStage). [] ≡ pending_of l.stage) it refl;
           said = OneWord (Signs (hmac answered.session received)) tt;
         };
       })

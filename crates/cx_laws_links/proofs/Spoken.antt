@@ -48,19 +48,6 @@ pub cookie-append : (before : Option ℕ) (xs ys : List Spoken) → cookie_behin
 cookie-append before [] ys = refl
 cookie-append before (x ∷ xs) ys = cookie-append (cookie_after before x) xs ys
 
--- the cookies of the sessions that were asked for or taken up
-abbrev pub asked_by : Spoken → List ℕ
-asked_by (Idents asker gid flags cookie) = cookie ∷ []
-asked_by (Reconnects asker session) = session.client_cookie ∷ []
-asked_by _ = []
-
-abbrev pub asked : List Spoken → List ℕ
-asked xs = flat_map asked_by xs
-
-pub asked-append : (xs ys : List Spoken) → asked (xs ++ ys) ≡ asked xs ++ asked ys
-asked-append [] ys = refl
-asked-append (x ∷ xs) ys = ap (λ (l : List ℕ). asked_by x ++ l) (asked-append xs ys) ∙ sym (append_assoc (asked_by x) (asked xs) (asked ys))
-
 pub parts-append : (xs ys : List Spoken) → parts_of (xs ++ ys) ≡ parts_of xs ++ parts_of ys
 parts-append [] ys = refl
 parts-append (x ∷ xs) ys = ap (λ (l : List (List ℕ)). plains (frame_of x) ++ l) (parts-append xs ys) ∙ sym (append_assoc (plains (frame_of x)) (parts_of xs) (parts_of ys))

@@ -174,10 +174,17 @@ kept-submitted w (command.Login client services) k = kept-comes w (node.Entity c
 kept-submitted w (command.Fetch daemon) k = kept-comes w (node.Entity daemon) (Submit told.Fetch) k
 kept-submitted w (command.Renew client services) k = kept-comes w (node.Entity client) (Submit (told.Renew (services_sum services))) k
 kept-submitted w (command.Connect client daemon lossy) k = kept-comes w (node.Entity client) (Submit (told.Connect daemon lossy)) k
-kept-submitted w (command.Send client daemon operation) k = kept-comes w (node.Entity client) (Submit (told.Send daemon operation)) k
+kept-submitted w (command.Send client daemon operation) k = k
 
 kept-submits : (w : World) (c : LineCommand) → Low w → Low (submits w c)
-kept-submits w c k = kept-settles (submitted w c) (kept-submitted w c k)
+kept-submits w (command.Login client services) k =
+    kept-settles (submitted w (command.Login client services)) (kept-submitted w (command.Login client services) k)
+kept-submits w (command.Fetch daemon) k = kept-settles (submitted w (command.Fetch daemon)) (kept-submitted w (command.Fetch daemon) k)
+kept-submits w (command.Renew client services) k =
+    kept-settles (submitted w (command.Renew client services)) (kept-submitted w (command.Renew client services) k)
+kept-submits w (command.Connect client daemon lossy) k =
+    kept-settles (submitted w (command.Connect client daemon lossy)) (kept-submitted w (command.Connect client daemon lossy) k)
+kept-submits w (command.Send client daemon operation) k = k
 
 kept-without_first : (w : World) (wire : Wire) (side : Side) (pieces : List (List ℕ)) → Low w → Low (without_first w wire side pieces)
 kept-without_first w wire side [] k = k

@@ -20,7 +20,7 @@ use Rattle.cx_steps.specs.declared.seals.SealEntry.{SealEntry}
 use Rattle.cx_steps.specs.declared.seals.SealEntry.TheVariants as seal
 use Rattle.cx_steps.specs.declared.seals.SealMark.{SealMark}
 use Rattle.cx_laws_keys.proofs.Journal.{entered}
-use Rattle.cx_laws_keys.proofs.Known.{Inv, IsOfConnector, login-connected, sealed_own, signed_own}
+use Rattle.cx_laws_keys.proofs.Known.{Inv, IsOfConnector, sealed_own, signed_own}
 use Rattle.cx_laws_keys.proofs.Premises.{AreGranted, IsGranted, behind, granted-step, logged}
 use Rattle.cx_laws_keys.proofs.Uses.{Connected, IsConnected, Means, Secret, Uses, WholeRun}
 use Rattle.cx_laws_login.proofs.Facts.{BearerOk, OfferOk, StageOk}
@@ -106,7 +106,7 @@ module _ (run : WholeRun) (setup : Setup) (same : run.leaked ≡ leaked_of setup
       let own : Contains run.leaked name → ⊥ =
       λ has. unleaked (subst (λ (names : List Name). Contains names t.entity) same (subst (λ (n : Name). Contains run.leaked n) (sym renewal.named) has)) in
       subst (λ (n : Name). OwnFrame setup n past (record { nodes = nodes; happening = h })) (sym renewal.named)
-      (mark, heard.rest, heard.opened, refl, sealed-by keys heard.plain name i (login-connected us name keys.key bearer.login) bearer.into granted.0.owes own)
+      (mark, heard.rest, heard.opened, refl, sealed-by keys heard.plain name i bearer.connected bearer.into granted.0.owes own)
 
   event-signed : Inv run whole us log J → NodesOk run nodes us J → AreGranted run.leaked whole h.node h.line log (steps nodes h).out.seals
       → SignedOwn setup past (record { nodes = nodes; happening = h })

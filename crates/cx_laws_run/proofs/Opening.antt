@@ -57,7 +57,7 @@ module _ (run : WholeRun) (whole : List Logged) (J : List Entry) where
   secrets-known (e ∷ es) us log rest i g =
       let mark = draw.Principal (secret_of e) e.name in
       let vs : Uses = with_key us (secret_of e) (Secret e.name) in
-      let first : Inv run whole vs (secret_drawn e ∷ log) J = inv-drawn run whole us log J (node.Entity e.name) e.line mark (secret_of e) (Secret e.name) i refl refl tt (λ name is. as_secret (secret_of e) e.name name is) g.0 in
+      let first : Inv run whole vs (secret_drawn e ∷ log) J = inv-drawn run whole us log J (node.Entity e.name) e.line mark (secret_of e) (Secret e.name) i refl refl (λ name is. as_secret (secret_of e) e.name name is) g.0 in
       let more = secrets-known es vs (secret_drawn e ∷ log) rest first g.1 in
       record {
         uses = more.uses;
@@ -90,7 +90,6 @@ opening-inv run whole = record {
   allowed = tt;
   own = λ s t hs ht gid. absurd (nothing-in (journal.Issued s) hs);
   told = refl;
-  placed = λ key u h. absurd h;
 }
 
 -- ---- the nodes

@@ -155,7 +155,6 @@ module _ (run : WholeRun) (whole : List Logged) (n : NodeName) (line : ℕ) wher
             (λ at a. allowed-grows us ws J J grows (λ s g h. h) (within-itself J) at.node at.entry a) log i.allowed);
         own = i.own;
         told = i.told;
-        placed = full.placed;
       }
 
 pub thick : (run : WholeRun) (whole : List Logged) (n : NodeName) (line : ℕ) (log : List Logged) (es : List SealEntry) → AreGranted run.leaked whole n line log (filter stays es)

@@ -83,6 +83,7 @@ use Rattle.cx_laws_series.proofs.Contents.{content_where, contents_by}
 use Rattle.cx_laws_links.proofs.CallTells.{quiet-none}
 use Rattle.cx_laws_links.proofs.CallTurn.{quiet-opened}
 use Rattle.cx_laws_links.proofs.CallWords.{AreQuiet, quiet-append}
+use Rattle.cx_laws_links.proofs.Spoken.{is_connectors}
 use Rattle.cx_laws_links.proofs.Written.{IsLinkKey}
 
 -- ---- sealed under one key
@@ -461,18 +462,18 @@ module _ (vs : Uses) (n : NodeName) (one : (k : List ℕ) (u v : Use) → Means 
           (subst (λ (k : List ℕ). Means vs k (Connected node.Monitor h.login.number h.name (AtMonitor h.login.challenge))) same h.login.means) is.means
 
   -- what is sealed under another key is nothing there
-  under-none : (test : List ℕ → Bool) (key : List ℕ) → bytes_eq key other ≡ false → (es : List SealEntry) → AreUnder key es → contents_by other test es ≡ []
-  under-none test key apart [] h = refl
-  under-none test key apart (entry.Sealed mark ∷ es) h =
+  under-none : (key : List ℕ) → bytes_eq key other ≡ false → (es : List SealEntry) → AreUnder key es → contents_by other is_connectors es ≡ []
+  under-none key apart [] h = refl
+  under-none key apart (entry.Sealed mark ∷ es) h =
       let off : bytes_eq mark.key other ≡ false = ap (λ (k : List ℕ). bytes_eq k other) h.0 ∙ apart in
-      ap (λ (t : Bool). cons_option (content_where (t && test mark.content) mark.content) (contents_by other test es)) off ∙ under-none test key apart es h.1
-  under-none test key apart (entry.Signed mark ∷ es) h = under-none test key apart es h.1
-  under-none test key apart (entry.Opened mark ∷ es) h = under-none test key apart es h.1
-  under-none test key apart (entry.Checked mark ∷ es) h = under-none test key apart es h.1
-  under-none test key apart (entry.Drawn mark ∷ es) h = under-none test key apart es h.1
+      ap (λ (t : Bool). cons_option (content_where (t && is_connectors mark.content) mark.content) (contents_by other is_connectors es)) off ∙ under-none key apart es h.1
+  under-none key apart (entry.Signed mark ∷ es) h = under-none key apart es h.1
+  under-none key apart (entry.Opened mark ∷ es) h = under-none key apart es h.1
+  under-none key apart (entry.Checked mark ∷ es) h = under-none key apart es h.1
+  under-none key apart (entry.Drawn mark ∷ es) h = under-none key apart es h.1
 
   -- a row whose link goes on with a key that the monitor made
-  pub row-none : (test : List ℕ → Bool) {Own S : Type 0} (kept : S → List ℕ → Type 0) (row : Row Own S) → SealsOwn kept row
-      → ((link : Link S) (key : List ℕ) → row.link ≡ Some link → kept link.stage key → HasMonitorKey vs n key) → contents_by other test row.seals ≡ []
-  row-none test kept row (SealsNone quiet) known = quiet-none other test row.seals quiet
-  row-none test kept row (SealsUnder key link goes keyed h) known = under-none test key (monitor-apart key (known link key goes keyed)) row.seals h
+  pub row-none : {Own S : Type 0} (kept : S → List ℕ → Type 0) (row : Row Own S) → SealsOwn kept row
+      → ((link : Link S) (key : List ℕ) → row.link ≡ Some link → kept link.stage key → HasMonitorKey vs n key) → contents_by other is_connectors row.seals ≡ []
+  row-none kept row (SealsNone quiet) known = quiet-none other is_connectors row.seals quiet
+  row-none kept row (SealsUnder key link goes keyed h) known = under-none key (monitor-apart key (known link key goes keyed)) row.seals h

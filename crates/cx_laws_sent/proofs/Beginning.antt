@@ -33,16 +33,16 @@ use Rattle.cx_laws_sent.proofs.Steps.{ClientStep, DaemonStep}
 use Rattle.cx_laws_sent.specs.Fitting.{AreFit}
 
 -- nothing was said, shown or joined
-abbrev pub first_told : Told
+abbrev first_told : Told
 first_told = record { said = []; nonces = λ nonce. Unshown; joins = [] }
 
 nothing-in : {X : Type 0} (x : X) → Contains [] x → ⊥
 nothing-in x has = omega (arith, has.1)
 
 -- the secrets of entities are drawn, and seal nothing
-pub secrets-silent : (test : List ℕ → Bool) (key : List ℕ) (es : List Declared) (log : List Logged) → contents_in key test (onto (map secret_drawn es) log) ≡ contents_in key test log
-secrets-silent test key [] log = refl
-secrets-silent test key (e ∷ es) log = secrets-silent test key es (secret_drawn e ∷ log) ∙ append-nil (contents_in key test log)
+secrets-silent : (key : List ℕ) (es : List Declared) (log : List Logged) → contents_in key is_connectors (onto (map secret_drawn es) log) ≡ contents_in key is_connectors log
+secrets-silent key [] log = refl
+secrets-silent key (e ∷ es) log = secrets-silent key es (secret_drawn e ∷ log) ∙ append-nil (contents_in key is_connectors log)
 
 -- leaked clients are no sessions
 plain-admits : (es : List Entry) → AllByRecursion IsPlain es → (a : Admitted) → Contains es (journal.Admitted a) → ⊥
@@ -102,12 +102,12 @@ module _ (run : WholeRun) (setup : Setup) (hs : List Happening) (same : run.leak
   plain : AllByRecursion IsPlain (map (λ (x : Entered). x.entry) (leaks_entered setup))
   plain = leaks-plain setup.leaks
 
-  pub first-known : (us : Uses) → RunKnown run us first_told log J (map entity_in setup.entities)
+  first-known : (us : Uses) → RunKnown run us first_told log J (map entity_in setup.entities)
   first-known us =
       let none : (a : Admitted) → Contains J (journal.Admitted a) → ⊥ =
       λ a has. plain-admits leaks plain a (subst (λ (l : List Entry). Contains l (journal.Admitted a)) (entered-append [] leaks) has) in
       record {
-        known_of = first-told-of run us log J (λ key. secrets-silent is_connectors key setup.entities []) none;
+        known_of = first-told-of run us log J (λ key. secrets-silent key setup.entities []) none;
         spelled = λ key x has. absurd (nothing-in (key, x) has);
         all = first-entities run us log J setup.entities;
       }

@@ -13,8 +13,11 @@ use Rattle.cx_laws_links.proofs.CallSteps.{WasSent}
 use Rattle.cx_laws_links.proofs.CallWords.{AreWords, Identified, IsDrawnIn, KeyedStage, NoWord, OneWord, Opened, Reconnecting, Says, SomeOrders}
 use Rattle.cx_laws_links.proofs.Hearing.{IsSpelled}
 use Rattle.cx_laws_links.proofs.Spoken.{Idents, KeepsUp, Orders, Reconnects, Signs, Spoken, cookie_behind}
-use Rattle.cx_laws_sent.proofs.Shown.{SentFits}
-use Rattle.cx_laws_sent.proofs.State.{CallFits}
+use Rattle.cx_laws_sent.proofs.State.{CallFits, OrderFits}
+
+-- an operation was sent by this entity under a cookie, and has a spelling
+abbrev pub SentFits : List Entry → Name → ℕ → ℕ × Operation → Type 0
+SentFits J name cookie order = WasSent J name cookie order × OrderFits order
 
 module _ (J : List Entry) (name : Name) where
   orders-sent : (cookie : ℕ) (orders : List (ℕ × Operation)) → AllByRecursion (SentFits J name cookie) orders → AllByRecursion (WasSent J name cookie) orders
@@ -39,7 +42,6 @@ module _ (J : List Entry) (name : Name) where
     link = h.link;
     calls = h.calls;
     held = h.held;
-    waits = h.waits;
     said = words-sent before h.quiet h.words h.said;
   }
 

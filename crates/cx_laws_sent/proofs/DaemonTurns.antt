@@ -188,7 +188,7 @@ module _ (run : WholeRun) (whole : List Logged) (us vs : Uses) (told : Told) (lo
       let rule : Deciding Hosted = guest_turned handlers (guest_at link stage) stage in
       always-map Stays (hosts d (at_link link)) rule
       (always-weaker (HostedBegins run whole vs told log n line d.own.asker.name) (λ (h : Hosted). Stays (hosts d (at_link link) h)) (hosted-begins link) rule
-      (before-begins run whole vs told log n line d.own.asker.name us J i f t (guest_at link stage) generated drawn refl handlers stage is))
+      (before-begins run whole vs told log n line d.own.asker.name us J i f t (guest_at link stage) generated drawn handlers stage is))
 
   -- ---- behind authentication
 

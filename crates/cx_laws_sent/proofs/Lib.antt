@@ -1,4 +1,3 @@
-pub mod Shown
 pub mod State
 pub mod DaemonKnown
 pub mod GuestsBefore

@@ -105,7 +105,7 @@ module _ (run : WholeRun) where
 
   one-said : (J : List Entry) (e : Entry) → StandsBy J e → OnceBy J e → HeardLaw run J e → WasSaidBy (DidntLeak run.leaked) J e
   one-said J (journal.Handled x) stands once heard = handled-said J x stands once heard
-  one-said J (journal.Admitted x) stands once heard = λ free b has entity cookie. heard free b has (subst (λ (m : Name). Contains run.leaked m → ⊥) (sym entity) free) cookie
+  one-said J (journal.Admitted x) stands once heard = heard
   one-said J (journal.Resumed x) stands once heard = tt
   one-said J (journal.Saved x) stands once heard = tt
   one-said J (journal.Issued x) stands once heard = tt

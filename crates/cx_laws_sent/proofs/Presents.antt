@@ -57,14 +57,13 @@ use Rattle.cx_laws_series.proofs.Contents.{contents_by}
 use Rattle.cx_journal.specs.declared.faults.BytesFault.{BytesFault}
 use Rattle.cx_base.specs.declared.operations.Operation.{Operation}
 use Rattle.cx_laws_sent.proofs.Before.{ClientBefore}
-use Rattle.cx_laws_answers.proofs.Given.{is_acceptors}
-use Rattle.cx_laws_sent.proofs.CallBehind.{RowKnown}
+use Rattle.cx_laws_sent.proofs.CallBehind.{RowBehind}
 use Rattle.cx_laws_sent.proofs.CallFits.{CookieFits}
 use Rattle.cx_laws_sent.proofs.CallTurns.{StageKnown, turn-is}
 use Rattle.cx_laws_sent.proofs.ClientLinks.{with-other, with-own}
 use Rattle.cx_laws_sent.proofs.ClientNode.{LeftIs, left-known, quiet-known}
-use Rattle.cx_laws_sent.proofs.Shown.{OrderFits, SentFits, ShowsNone, ShowsRow, all-from, left-from, was-at, without-from}
-use Rattle.cx_laws_sent.proofs.State.{CallFits, ClientBehind, SessionFits, StageFits}
+use Rattle.cx_laws_sent.proofs.CallWords.{SentFits}
+use Rattle.cx_laws_sent.proofs.State.{CallFits, ClientBehind, OrderFits, SessionFits, StageFits}
 use Rattle.cx_laws_sent.proofs.Waiting.{held-here}
 
 -- ---- no session is admitted
@@ -233,7 +232,7 @@ module _ (run : WholeRun) (whole : List Logged) (us vs : Uses) (told : Told) (lo
     stage-known (call.Open s callee cookie) same keys of =
         subst (λ (d : Name). IsHeldHere (SentFits K name) (Some cookie) (session_with d c.own.sessions)) (ap (λ (x : CallStage). (callee_of x).daemon) same) (here-held callee cookie of)
 
-    turned-is : TurnIs (λ row. AreGranted run.leaked whole n line log row.seals → RowKnown run us vs told log K n line name link.number a stage row) (call.turned_at a stage)
+    turned-is : TurnIs (λ row. AreGranted run.leaked whole n line log row.seals → RowBehind run us vs told log K n line name link.number row) (call.turned_at a stage)
     turned-is = turn-is run whole us vs told log J K n line b.inv.one b.one b.grows w b.inv none b.all_told b.spelled name a b.challenge b.cookie held-cookie stage stands.0 fit
         (stage-known stage refl ok.0 stands.1)
 
@@ -248,10 +247,10 @@ module _ (run : WholeRun) (whole : List Logged) (us vs : Uses) (told : Told) (lo
   no-session (Handles row) l = all-map (IsCallEntry c.own.asker) IsNoSession (call-no_session c.own.asker) row.entries l.enters
 
   abbrev Comes : Turned Caller CallStage → Type 0
-  Comes t = ClientBehind run us vs told log line (entered J (outcome t).out.entries) name c (outcome t)
+  Comes t = ClientBehind run us vs told log line (entered J (outcome t).out.entries) name (outcome t)
 
   abbrev RowsAt : List Entry → CallRow → Type 0
-  RowsAt K row = AreGranted run.leaked whole n line log row.seals → RowKnown run us vs told log K n line name link.number a stage row
+  RowsAt K row = AreGranted run.leaked whole n line log row.seals → RowBehind run us vs told log K n line name link.number row
 
   waits-comes : Comes Waits
   waits-comes = record {
@@ -261,8 +260,6 @@ module _ (run : WholeRun) (whole : List Logged) (us vs : Uses) (told : Told) (lo
     known_of = told-stays run whole us vs told log J J n line [] b.one b.grows (within-all J []) b.inv (λ other whose tie its. refl) (λ session has. has) b.all_told;
     spelled = b.spelled;
     client = quiet-known us vs b.inv.one b.grows told log n line [] name c refl b.known c.own refl refl b.known.sessions (λ other whose tie its. refl) (λ st any h. h);
-    gives_none = λ other whose tie its. refl;
-    shows = ShowsNone refl (all-from c.links) tt;
   }
 
   refuses-comes : (why : BytesFault) (opened : List SealEntry) → AreQuiet opened → Comes (Refuses why opened)
@@ -275,26 +272,22 @@ module _ (run : WholeRun) (whole : List Logged) (us vs : Uses) (told : Told) (lo
     spelled = b.spelled;
     client = left-known us vs b.inv.one b.grows told log n line opened name c refl b.known c.own refl refl b.known.sessions link stage there is told
         (Quiets told.nonces (same-nonces told name link.number) none) (λ st apart h. h) None (λ l e. absurd cc) [];
-    gives_none = λ other whose tie its. quiet-none other is_acceptors opened quiet;
-    shows = ShowsNone refl (without-from c.links link.number) (tt, tt);
   }
     where
       none : (other : List ℕ) (whose : Name) (tie : ℕ) → IsLinkKey vs other whose tie → contents_by other is_connectors opened ≡ []
       none other whose tie its = quiet-none other is_connectors opened quiet
 
   handles-comes : (row : CallRow) → Leaves c.own.asker row → Held (FitsWith daemon) row → RowKeeps link.number (callee_of stage) row
-      → RowKnown run us vs told log (entered J row.entries) n line name link.number a stage row → Comes (Handles row)
-  handles-comes row leaves held keeps known = record {
-    next = known.behind.next;
+      → RowBehind run us vs told log (entered J row.entries) n line name link.number row → Comes (Handles row)
+  handles-comes row leaves held keeps r = record {
+    next = r.next;
     number = link.number;
-    moved = known.behind.moved;
-    known_of = known.behind.known;
-    spelled = known.behind.spelled;
+    moved = r.moved;
+    known_of = r.known;
+    spelled = r.spelled;
     client = left-known us vs b.inv.one b.grows told log n line row.seals name c refl b.known (with_caller daemon c.own row.own) still refl
-        (with-all SessionFits daemon row.own.session (held-map (FitsWith daemon) SessionFits (λ s h. h.0) row.own.session held.0) c.own.sessions b.known.sessions) link stage there is known.behind.next known.behind.moved
+        (with-all SessionFits daemon row.own.session (held-map (FitsWith daemon) SessionFits (λ s h. h.0) row.own.session held.0) c.own.sessions b.known.sessions) link stage there is r.next r.moved
         (other-session c.own.sessions daemon row.own.session with_it) row.link left row.sends;
-    gives_none = known.behind.gives_none;
-    shows = ShowsRow a stage row (was-at c.links link (ToDaemon stage) there is) refl refl refl refl known.shown known.behind.grown (left-from c.links link.number row.link row.sends (λ it e. (known.behind.link it e).0));
   }
     where
       still : row.own.asker.name ≡ name
@@ -305,9 +298,9 @@ module _ (run : WholeRun) (whole : List Logged) (us vs : Uses) (told : Told) (lo
 
       left : (l : Link CallStage) → row.link ≡ Some l
           → LeftIs us vs b.inv.one b.grows told log n line row.seals name c refl b.known (with_caller daemon c.own row.own) still refl
-          (with-all SessionFits daemon row.own.session (held-map (FitsWith daemon) SessionFits (λ s h. h.0) row.own.session held.0) c.own.sessions b.known.sessions) link stage there is known.behind.next known.behind.moved
+          (with-all SessionFits daemon row.own.session (held-map (FitsWith daemon) SessionFits (λ s h. h.0) row.own.session held.0) c.own.sessions b.known.sessions) link stage there is r.next r.moved
           (other-session c.own.sessions daemon row.own.session with_it) l
-      left l e = let k = keeps.link l e in let h = known.behind.link l e in record {
+      left l e = let k = keeps.link l e in let h = r.link l e in record {
         number = h.0;
         call_told = h.1;
         cookie_fits = h.2;
@@ -334,13 +327,13 @@ module _ (run : WholeRun) (whole : List Logged) (us vs : Uses) (told : Told) (lo
 pub presents-behind : (run : WholeRun) (whole : List Logged) (us vs : Uses) (told : Told) (log : List Logged) (J : List Entry) (line : ℕ) (name : Name) (c : WholeClientNode) (reading : ℕ) (draw : List ℕ)
     → ClientBefore run whole us vs told log J name c draw → (number : ℕ) (link : Link ClientStage) (stage : CallStage) → link_of number c.links ≡ Some link → link.stage ≡ ToDaemon stage
     → AreGranted run.leaked whole (node.Entity name) line log (call_turn c reading draw link stage).out.seals
-    → ClientBehind run us vs told log line (entered J (call_turn c reading draw link stage).out.entries) name c (call_turn c reading draw link stage)
+    → ClientBehind run us vs told log line (entered J (call_turn c reading draw link stage).out.entries) name (call_turn c reading draw link stage)
 presents-behind run whole us vs told log J line whose c reading draw b number link stage found is g =
     subst (λ (m : Name). ClientBefore run whole us vs told log J m c draw → AreGranted run.leaked whole (node.Entity m) line log (call_turn c reading draw link stage).out.seals
-    → ClientBehind run us vs told log line (entered J (call_turn c reading draw link stage).out.entries) m c (call_turn c reading draw link stage)) b.named itself b g
+    → ClientBehind run us vs told log line (entered J (call_turn c reading draw link stage).out.entries) m (call_turn c reading draw link stage)) b.named itself b g
   where
     itself : ClientBefore run whole us vs told log J c.own.asker.name c draw → AreGranted run.leaked whole (node.Entity c.own.asker.name) line log (call_turn c reading draw link stage).out.seals
-        → ClientBehind run us vs told log line (entered J (call_turn c reading draw link stage).out.entries) c.own.asker.name c (call_turn c reading draw link stage)
+        → ClientBehind run us vs told log line (entered J (call_turn c reading draw link stage).out.entries) c.own.asker.name (call_turn c reading draw link stage)
     itself h granted =
         turn-comes run whole us vs told log J line c reading draw h link stage
         (found-some (λ (l : Link ClientStage). l ≡ link) (λ (l : Link ClientStage). l.number == number) c.links link found refl) is

@@ -153,7 +153,7 @@ kept-submitted w (command.Login client services) fits k = kept-comes w (node.Ent
 kept-submitted w (command.Fetch daemon) fits k = kept-comes w (node.Entity daemon) (Submit told.Fetch) tt k
 kept-submitted w (command.Renew client services) fits k = kept-comes w (node.Entity client) (Submit (told.Renew (services_sum services))) tt k
 kept-submitted w (command.Connect client daemon lossy) fits k = kept-comes w (node.Entity client) (Submit (told.Connect daemon lossy)) tt k
-kept-submitted w (command.Send client daemon operation) fits k = kept-comes w (node.Entity client) (Submit (told.Send daemon operation)) fits k
+kept-submitted w (command.Send client daemon operation) fits k = k
 
 kept-submits : (w : World) (c : LineCommand) → CommandFits c → Fits w → Fits (submits w c)
 kept-submits w (command.Login client services) fits k =
@@ -163,8 +163,7 @@ kept-submits w (command.Renew client services) fits k =
     kept-settles (submitted w (command.Renew client services)) (kept-submitted w (command.Renew client services) fits k)
 kept-submits w (command.Connect client daemon lossy) fits k =
     kept-settles (submitted w (command.Connect client daemon lossy)) (kept-submitted w (command.Connect client daemon lossy) fits k)
-kept-submits w (command.Send client daemon operation) fits k =
-    kept-settles (submitted w (command.Send client daemon operation)) (kept-submitted w (command.Send client daemon operation) fits k)
+kept-submits w (command.Send client daemon operation) fits k = k
 
 kept-without_first : (w : World) (wire : Wire) (side : Side) (pieces : List (List ℕ)) → Fits w → Fits (without_first w wire side pieces)
 kept-without_first w wire side [] k = k

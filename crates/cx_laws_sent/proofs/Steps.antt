@@ -52,7 +52,7 @@ pub record ClientReady (run : WholeRun) (whole : List Logged) (us vs : Uses) (to
 abbrev pub ClientStep : WholeRun → List Logged → Type 0
 ClientStep run whole = (us vs : Uses) (told : Told) (log : List Logged) (line : ℕ) (J : List Entry) (name : Name) (c : WholeClientNode) (input : Input) (reading : ℕ) (draw : List ℕ)
     → ClientReady run whole us vs told log line J name c input draw (whole_client_rule c input reading draw)
-    → ClientBehind run us vs told log line (entered J (whole_client_rule c input reading draw).out.entries) name c (whole_client_rule c input reading draw)
+    → ClientBehind run us vs told log line (entered J (whole_client_rule c input reading draw).out.entries) name (whole_client_rule c input reading draw)
 
 -- ---- a daemon
 

@@ -17,8 +17,8 @@ use Rattle.cx_laws_queues.specs.Waiting.{IsQueued}
 use Rattle.cx_laws_queues.specs.cx_laws_session.proofs.Lists.{found-all}
 use Rattle.cx_laws_links.proofs.CallSteps.{WasSent}
 use Rattle.cx_laws_links.proofs.CallWords.{IsHeldHere}
-use Rattle.cx_laws_sent.proofs.Shown.{OrderFits, SentFits}
-use Rattle.cx_laws_sent.proofs.State.{SessionFits}
+use Rattle.cx_laws_sent.proofs.CallWords.{SentFits}
+use Rattle.cx_laws_sent.proofs.State.{OrderFits, SessionFits}
 
 -- ---- of lists
 

@@ -7,3 +7,4 @@ pub mod Replays
 pub mod Sentences
 pub mod Statuses
 pub mod Told
+pub mod Unserved

@@ -12,6 +12,7 @@ mod sentences;
 mod status;
 mod told;
 mod top;
+mod unserved;
 
 pub use commands::Subcommand;
 pub use input::{Unread, read_all};

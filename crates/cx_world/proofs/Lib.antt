@@ -11,3 +11,4 @@ pub mod Rounds
 pub mod Started
 pub mod Turns
 pub mod Vanishing
+pub mod Submitting

@@ -4,7 +4,7 @@ use Rattle.cx_replay.proofs.served.through_bytes.Goals as goal
 
 pub returns-clause-replayed : goal.returns-clause-replayed
 returns-clause-replayed g c =
-    byte_replay (handlers_of c.args.desk.now) c.requires.0 c.args.script.now c.in_ok-report.report.journal c.in_ok-report.report.broken
+    byte_replay (handlers_of c.args.desk.now) c.requires.schedule.0 c.args.script.now c.in_ok-report.report.journal c.in_ok-report.report.broken
     c.standing_laws.ensures.events c.standing_laws.ensures.schedules c.session_laws.ensures.schedules
     c.journal_laws.ensures.schedules c.journal_laws.ensures.unvisited c.login_laws.ensures.schedules c.origin_laws.ensures.schedules c.sent_laws.ensures.schedules
-    c.requires.2 c.in_ok-report.ensures.journal c.in_ok-report.ensures.found
+    c.requires.schedule.2 c.in_ok-report.ensures.journal c.in_ok-report.ensures.found
