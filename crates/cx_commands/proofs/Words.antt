@@ -12,6 +12,7 @@ use Rattle.cx_command_line.specs.declared.commands.MonitorCommand.{MonitorComman
 use Rattle.cx_command_daemon.specs.cx_command_nodes.specs.Monitors.{IsMonitorCommand}
 use Rattle.cx_top.specs.Commands.{command_word}
 use Rattle.cx_top.specs.declared.commands.Subcommand.{Subcommand}
+use Rattle.cx_top.specs.declared.program_end.ProgramEnd.{ProgramEnd}
 use Rattle.cx_top.specs.declared.commands.Subcommand.TheVariants as text
 use Rattle.cx_words.specs.Words.{number_of}
 use Rattle.cx_command_line.specs.declared.reading.Misread.{Misread}
@@ -19,6 +20,7 @@ use Rattle.cx_command_line.specs.declared.reading.Misread.TheVariants as misread
 use Rattle.cx_desk.specs.Handlers.{Handlers}
 use Rattle.cx_journal.specs.declared.entries.Entry.{Entry}
 use Rattle.cx_loading.specs.declared.ends.NodeEnd.{NodeEnd}
+use Rattle.cx_commands.specs.Drills.{DrillAnswers, DrillEnds, IsDrillCommand}
 use Rattle.cx_commands.specs.Misread.{misread_status}
 use Rattle.cx_commands.specs.Nodes.{IsUnreadStatus, NodeAnswers}
 use Rattle.cx_commands.specs.Texts.{TextAnswers}
@@ -126,6 +128,68 @@ spelled_monitor (command ∷ values) c is =
     by_tests false false false false false false true is = absurd (client_not (client values) c is)
     by_tests false false false false false false false is = absurd (let no : None ≡ Some (Monitor c) = is in cc)
 
+-- ---- a drill has 1 to 1,000 clients
+
+drill_is : (values : List Word) (c : DrillCommand) → drill values ≡ Some c → IsDrillCommand c
+drill_is [] c is = absurd (let no : None ≡ Some c = is in cc)
+drill_is (clients ∷ []) c is = absurd (let no : None ≡ Some c = is in cc)
+drill_is (clients ∷ seed ∷ []) c is = by_parts (bounded 1 1000 clients) (number_of seed) refl is
+  where
+    by_parts : (o q : Option ℕ) → bounded 1 1000 clients ≡ o → option_map (λ (p : ℕ × ℕ). record { clients = p.0; seed = p.1 }) (both o q) ≡ Some c → IsDrillCommand c
+    by_parts (Some n) (Some s) e is =
+        let same : record { clients = n; seed = s } ≡ c = cc in
+        let within : (1 ≤ n) × (n ≤ 1000) = bounded_is 1 1000 clients n e in
+        subst IsDrillCommand same (record { some = within.0; few = within.1 })
+    by_parts (Some n) None e is = absurd (let no : None ≡ Some c = is in cc)
+    by_parts None q e is = absurd (let no : None ≡ Some c = is in cc)
+drill_is (clients ∷ seed ∷ more ∷ rest) c is = absurd (let no : None ≡ Some c = is in cc)
+
+alone_no_drill : (asked : Asked) (values : List Word) (c : DrillCommand) → alone asked values ≡ Some (Drill c) → asked ≡ Drill c
+alone_no_drill asked [] c is = cc
+alone_no_drill asked (word ∷ words) c is = absurd (let no : None ≡ Some (Drill c) = is in cc)
+
+drill_told : (o : Option DrillCommand) (c : DrillCommand) → option_map (λ d. Drill d) o ≡ Some (Drill c) → o ≡ Some c
+drill_told (Some d) c is = cc
+drill_told None c is = absurd (let no : None ≡ Some (Drill c) = is in cc)
+
+monitor_no_drill : (o : Option MonitorCommand) (c : DrillCommand) → option_map (λ d. Monitor d) o ≡ Some (Drill c) → ⊥
+monitor_no_drill (Some d) c is = let no : Monitor d ≡ Drill c = cc in cc
+monitor_no_drill None c is = let no : None ≡ Some (Drill c) = is in cc
+
+daemon_no_drill : (o : Option AskedDaemon) (c : DrillCommand) → option_map (λ d. Daemon d) o ≡ Some (Drill c) → ⊥
+daemon_no_drill (Some d) c is = let no : Daemon d ≡ Drill c = cc in cc
+daemon_no_drill None c is = let no : None ≡ Some (Drill c) = is in cc
+
+client_no_drill : (o : Option AskedClient) (c : DrillCommand) → option_map (λ d. Client d) o ≡ Some (Drill c) → ⊥
+client_no_drill (Some d) c is = let no : Client d ≡ Drill c = cc in cc
+client_no_drill None c is = let no : None ≡ Some (Drill c) = is in cc
+
+pub spelled_drill : (words : List Word) (c : DrillCommand) → spelled words ≡ Some (Drill c) → IsDrillCommand c
+spelled_drill [] c is = absurd (let no : None ≡ Some (Drill c) = is in cc)
+spelled_drill (command ∷ values) c is =
+    by_tests (bytes_eq command (codes "replay")) (bytes_eq command (codes "keyring")) (bytes_eq command (codes "audit")) (bytes_eq command (codes "drill")) (bytes_eq command (codes "mon"))
+    (bytes_eq command (codes "daemon")) (bytes_eq command (codes "client")) is
+  where
+    by_tests : (r k a d m n l : Bool)
+        → (if r then alone Replay values else if k then alone Keyring values else if a then alone Audit values else if d then option_map (λ c. Drill c) (drill values)
+        else if m then option_map (λ c. Monitor c) (told.monitor values) else if n then option_map (λ c. Daemon c) (daemon values)
+        else if l then option_map (λ c. Client c) (client values) else None) ≡ Some (Drill c) → IsDrillCommand c
+    by_tests true k a d m n l is = absurd (let no : Replay ≡ Drill c = alone_no_drill Replay values c is in cc)
+    by_tests false true a d m n l is = absurd (let no : Keyring ≡ Drill c = alone_no_drill Keyring values c is in cc)
+    by_tests false false true d m n l is = absurd (let no : Audit ≡ Drill c = alone_no_drill Audit values c is in cc)
+    by_tests false false false true m n l is = drill_is values c (drill_told (drill values) c is)
+    by_tests false false false false true n l is = absurd (monitor_no_drill (told.monitor values) c is)
+    by_tests false false false false false true l is = absurd (daemon_no_drill (daemon values) c is)
+    by_tests false false false false false false true is = absurd (client_no_drill (client values) c is)
+    by_tests false false false false false false false is = absurd (let no : None ≡ Some (Drill c) = is in cc)
+
+-- the command that ran is the one that was asked for
+pub drill_ended : {O : Type 0} (taken after : Option (List ℕ)) (misses missed : ℕ) (handlers : Handlers) (ran command : DrillCommand) (out written : O) (result : CommandEnd)
+    (ended : ProgramEnd) → Drill ran ≡ Drill command → result.status ≡ Text ended.status → result.told ≡ ended.told
+    → DrillEnds handlers ran taken after misses missed out written ended → DrillAnswers handlers command taken after misses missed out written result
+drill_ended taken after misses missed handlers ran command out written result ended is status told ends =
+    let same : ran ≡ command = cc in inr (ended, status, told, subst (λ c. DrillEnds handlers c taken after misses missed out written ended) same ends)
+
 -- ---- words that aren't read
 
 module _ (words : List Word) (left now taken after : Option (List ℕ)) (faults faulted misses missed : ℕ) where
@@ -141,3 +205,10 @@ module _ (words : List Word) (left now taken after : Option (List ℕ)) (faults 
       → IsMisread words why → status ≡ Text (misread_status why) → NodeAnswers Ends left now taken after faults faulted misses missed status
   misread_node Ends asked misread.OutOfMemory status is err ended = inr (subst (λ s. IsUnreadStatus left now faults faulted s) (sym ended) tt)
   misread_node Ends asked misread.Usage status is err ended = absurd (let no : None ≡ Some asked = sym err ∙ is in cc)
+
+-- as those of a drill
+pub misread_drill : {O : Type 0} (words : List Word) (taken after : Option (List ℕ)) (misses missed : ℕ) (handlers : Handlers) (command : DrillCommand) (out : O) (why : Misread) (result : CommandEnd)
+    → spelled words ≡ Some (Drill command) → IsMisread words why → result.status ≡ Text (misread_status why)
+    → DrillAnswers handlers command taken after misses missed out out result
+misread_drill words taken after misses missed handlers command out misread.OutOfMemory result is err status = inl (status, refl)
+misread_drill words taken after misses missed handlers command out misread.Usage result is err status = absurd (let no : None ≡ Some (Drill command) = sym err ∙ is in cc)

@@ -1,5 +1,5 @@
 -- How the program ended, whichever command it ran.
-use Rattle.std.specs.Prelude.{ℕ, Bool, true, false, List, [], codes, if◌then◌else◌}
+use Rattle.std.specs.Prelude.{ℕ, Bool, true, false, List, [], if◌then◌else◌}
 use Rattle.cx_loading.specs.Ends as node
 use Rattle.cx_loading.specs.declared.ends.NodeEnd.{NodeEnd}
 use Rattle.cx_loading.specs.declared.ends.NodeEnd.TheVariants as end
@@ -7,13 +7,12 @@ use Rattle.cx_node_help.specs.Sentences.{end_text}
 use Rattle.cx_top.specs.Statuses as text
 use Rattle.cx_top.specs.Told.{line_told, status_told}
 use Rattle.cx_commands.specs.declared.ends.CommandStatus.{CommandStatus}
-use Rattle.cx_commands.specs.declared.ends.CommandStatus.TheVariants.{Text, Node, Unserved}
+use Rattle.cx_commands.specs.declared.ends.CommandStatus.TheVariants.{Text, Node}
 
 -- the number with which it ends
 abbrev pub number_of : CommandStatus → ℕ
 number_of (Text status) = text.number_of status
 number_of (Node end) = node.number_of end
-number_of Unserved = 13
 
 abbrev pub is_node_done : NodeEnd → Bool
 is_node_done end.Done = true
@@ -23,11 +22,7 @@ is_node_done end.Keeper = false
 is_node_done end.OutOfMemory = false
 is_node_done (end.Unloaded why) = false
 
-abbrev pub unserved_text : List ℕ
-unserved_text = codes "drill is to come; replay, keyring, audit, mon, daemon and client are served"
-
 -- the sentence of a status, where it says all
 abbrev pub sentence_of : CommandStatus → List ℕ
 sentence_of (Text status) = status_told status
 sentence_of (Node end) = if is_node_done end then [] else line_told (end_text end)
-sentence_of Unserved = line_told unserved_text

@@ -1,3 +1,4 @@
+pub mod Drills
 pub mod Ends
 pub mod Misread
 pub mod Nodes

@@ -1,7 +1,7 @@
 //! How the program ended, and what is said of it.
 
 ghost use Rattle.std.specs.Prelude.{◌≡◌, [], string_bytes};
-ghost use Rattle.cx_commands.specs.Ends.{is_node_done, number_of, unserved_text};
+ghost use Rattle.cx_commands.specs.Ends.{is_node_done, number_of};
 
 use cx_loading::NodeEnd;
 use cx_node_help::Ending;
@@ -16,8 +16,6 @@ pub enum CommandStatus {
     Text(Status),
     /// As its node.
     Node(NodeEnd),
-    /// The command isn't served yet.
-    Unserved,
 }
 
 impl CommandStatus {
@@ -28,7 +26,6 @@ impl CommandStatus {
         match self {
             CommandStatus::Text(status) => status.number(),
             CommandStatus::Node(end) => end.number(),
-            CommandStatus::Unserved => 13,
         }
     }
 }
@@ -95,7 +92,6 @@ impl fmt::Display for Sentence {
         match self.0 {
             CommandStatus::Text(status) => write!(f, "{}", StatusLine(status)),
             CommandStatus::Node(end) => write!(f, "{}", NodeLine(end)),
-            CommandStatus::Unserved => write!(f, "cephx_cli: {}\n", unserved_text()),
         }
     }
 }
@@ -123,10 +119,4 @@ fn is_node_done(end: NodeEnd) -> bool
     ensures { result ≡ is_node_done end }
 {
     matches!(end, NodeEnd::Done)
-}
-
-fn unserved_text() -> &'static str
-    ensures { result.now ≡ unserved_text }
-{
-    "drill is to come; replay, keyring, audit, mon, daemon and client are served"
 }

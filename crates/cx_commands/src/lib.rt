@@ -1,6 +1,7 @@
 //! The top call over all commands: those that read a text and write one, and those that run a node.
 #![tactic(auto)]
 
+mod drills;
 mod ends;
 mod misread;
 mod nodes;

@@ -4,6 +4,7 @@ ghost use Rattle.std.specs.Prelude.{◌≡◌, [], ◌∷◌, map, None, Some};
 ghost use Rattle.cx_command_line.specs.Commands as asked;
 ghost use Rattle.cx_command_daemon.specs.Daemons.{DaemonEnds};
 ghost use Rattle.cx_command_line.specs.Commands.{AskedClient, AskedDaemon, spelled};
+ghost use Rattle.cx_command_line.specs.declared.commands.DrillCommand.{DrillCommand};
 ghost use Rattle.cx_command_line.specs.declared.commands.MonitorCommand.{MonitorCommand};
 ghost use Rattle.cx_command_daemon.specs.cx_command_nodes.specs.Clients.{ClientEnds};
 ghost use Rattle.cx_command_daemon.specs.cx_command_nodes.specs.Monitors.{MonitorEnds};
@@ -12,11 +13,13 @@ ghost use Rattle.cx_desk.specs.Held.{handlers_of};
 ghost use Rattle.cx_top.specs.Commands.{command_word};
 ghost use Rattle.cx_top.specs.declared.commands.Subcommand.{Subcommand};
 ghost use Rattle.cx_top.specs.declared.status.Status.TheVariants as text;
+ghost use Rattle.cx_commands.specs.Drills.{DrillAnswers};
 ghost use Rattle.cx_commands.specs.Nodes.{NodeAnswers};
 ghost use Rattle.cx_commands.specs.Texts.{TextAnswers};
 ghost use Rattle.cx_commands.specs.declared.ends.CommandStatus.TheVariants.{Text};
 
-use crate::ends::{CommandEnd, CommandStatus};
+use crate::drills::drill;
+use crate::ends::CommandEnd;
 use crate::misread::misread;
 use crate::nodes::{client, daemon, monitor};
 use crate::texts::text;
@@ -29,8 +32,8 @@ use cx_keep::Keeper;
 use cx_links::Links;
 use std::alloc::Global;
 
-/// Does what these words of the command line ask for. `replay`, `keyring` and `audit` read a text from `input` and write another to `out`; `mon`, `daemon` and
-/// `client` read a script from `input`, run a node over `keeper`, `links`, `clock` and `dice`, and write what it entered to `out`. The operations of a
+/// Does what these words of the command line ask for. `replay`, `keyring` and `audit` read a text from `input` and write another to `out`; `drill` reads nothing,
+/// and writes how many entries of five kinds the journal of its schedule has; `mon`, `daemon` and `client` read a script from `input`, run a node over `keeper`, `links`, `clock` and `dice`, and write what it entered to `out`. The operations of a
 /// schedule, and those that come to a daemon, are served by `desk`.
 pub fn run<I: Source, O: Sink, K: Keeper, L: Links, C: Clock, D: Dice>(
     alloc: Global,
@@ -51,6 +54,9 @@ pub fn run<I: Source, O: Sink, K: Keeper, L: Links, C: Clock, D: Dice>(
     ensures texts { (command : Subcommand) → map (λ w. w.now) words.now ≡ command_word command ∷ []
         → TextAnswers (handlers_of desk.now) command (I.left input.old) (I.left input.new) (O.taken out.old) (O.taken out.new)
         (I.faults input.old) (I.faults input.new) (O.faults out.old) (O.faults out.new) out.old out.new result }
+    // `drill`.
+    ensures drill { (command : DrillCommand) → spelled (map (λ w. w.now) words.now) ≡ Some (asked.Drill command)
+        → DrillAnswers (handlers_of desk.now) command (O.taken out.old) (O.taken out.new) (O.faults out.old) (O.faults out.new) out.old out.new result }
     // `mon`.
     ensures mon { (command : MonitorCommand) → spelled (map (λ w. w.now) words.now) ≡ Some (asked.Monitor command)
         → NodeAnswers (λ bytes. MonitorEnds L.follows command bytes
@@ -98,6 +104,8 @@ fn invoked<I: Source, O: Sink, K: Keeper, L: Links, C: Clock, D: Dice>(
     ensures texts { (command : Subcommand) → map (λ w. w.now) words.now ≡ command_word command ∷ []
         → TextAnswers (handlers_of desk.now) command (I.left input.old) (I.left input.new) (O.taken out.old) (O.taken out.new)
         (I.faults input.old) (I.faults input.new) (O.faults out.old) (O.faults out.new) out.old out.new result }
+    ensures drill { (command : DrillCommand) → asked.asked invocation.entry ≡ asked.Drill command
+        → DrillAnswers (handlers_of desk.now) command (O.taken out.old) (O.taken out.new) (O.faults out.old) (O.faults out.new) out.old out.new result }
     ensures mon { (command : MonitorCommand) → asked.asked invocation.entry ≡ asked.Monitor command
         → NodeAnswers (λ bytes. MonitorEnds L.follows command bytes
         (outside (K.kept keeper.old) (K.faults keeper.old) links.old (L.faults links.old) (L.misses links.old) (C.coming clock.old) (D.coming dice.old) (D.faults dice.old))
@@ -121,7 +129,7 @@ fn invoked<I: Source, O: Sink, K: Keeper, L: Links, C: Clock, D: Dice>(
         Invocation::Replay => CommandEnd::of_text(text(alloc, words, input, out, desk)),
         Invocation::Keyring => CommandEnd::of_text(text(alloc, words, input, out, desk)),
         Invocation::Audit => CommandEnd::of_text(text(alloc, words, input, out, desk)),
-        Invocation::Drill(_) => CommandEnd::plain(alloc, CommandStatus::Unserved),
+        Invocation::Drill(command) => CommandEnd::of_text(drill(alloc, &command, out, desk)),
         Invocation::Monitor(command) => monitor(
             alloc, &command, input, out, keeper, links, clock, dice,
         ),

@@ -4,13 +4,13 @@ use Rattle.std.specs.Prelude.{nat_lt, not, IfSome}
 use Rattle.std.specs.List.{AllByRecursion}
 use Rattle.cx_base.specs.declared.nodes.NodeName.{NodeName}
 use Rattle.cx_journal.specs.declared.entries.Entry.{Entry}
-use Rattle.cx_rules.specs.Acceptor.{AwaitsBanner, AwaitsHello, AwaitsRequest, AwaitsProof, AwaitsSignature, AwaitsIdent, Open}
-use Rattle.cx_rules.specs.Connector as connector
-use Rattle.cx_rules.specs.Holdings.{Asker}
-use Rattle.cx_rules.specs.Links.{Link, link_of, put_link, without_link}
-use Rattle.cx_rules.specs.Requests.{Requests, first_open, open_or}
-use Rattle.cx_rules.specs.Rows.{Arrival, Outcome, Row, Turned, Waits, Refuses, Handles, carried_out, idles, links_behind, refuses_bytes, turns}
-use Rattle.cx_rules.specs.Secured.{Secured}
+use Rattle.cx_laws_login.specs.cx_rules.specs.Acceptor.{AwaitsBanner, AwaitsHello, AwaitsRequest, AwaitsProof, AwaitsSignature, AwaitsIdent, Open}
+use Rattle.cx_laws_login.specs.cx_rules.specs.Connector as connector
+use Rattle.cx_laws_login.specs.cx_rules.specs.Holdings.{Asker}
+use Rattle.cx_laws_login.specs.cx_rules.specs.Links.{Link, link_of, put_link, without_link}
+use Rattle.cx_laws_login.specs.cx_rules.specs.Requests.{Requests, first_open, open_or}
+use Rattle.cx_laws_login.specs.cx_rules.specs.Rows.{Arrival, Outcome, Row, Turned, Waits, Refuses, Handles, carried_out, idles, links_behind, refuses_bytes, turns}
+use Rattle.cx_laws_login.specs.cx_rules.specs.Secured.{Secured}
 use Rattle.cx_rules_session.specs.DaemonRule.{AsAcceptor, AsConnector, Daemon, DaemonNode, DaemonStage, asking_open}
 use Rattle.cx_rules_session.specs.Guests.{GuestStage}
 use Rattle.cx_steps.specs.declared.seals.Logged.{Logged}

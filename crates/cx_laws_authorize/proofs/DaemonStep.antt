@@ -1,5 +1,5 @@
 -- A step of a daemon, at any event and with any book: what is known of a run's keys stays so, and what it enters keeps its laws.
-use Rattle.std.proofs.Common.{◌≡◌, ℕ, Bool, true, false, List, [], ◌∷◌, ◌++◌, length, Option, Some, None, sym, subst}
+use Rattle.std.proofs.Common.{◌≡◌, ℕ, Bool, true, false, List, [], ◌∷◌, ◌++◌, length, Option, Some, None, refl, sym, subst}
 use Rattle.std.specs.Prelude.{nat_le, not, if◌then◌else◌, IfSome}
 use Rattle.std.specs.List.{AllByRecursion}
 use Rattle.std.specs.Option.{option_map}
@@ -10,16 +10,16 @@ use Rattle.cx_desk.specs.Handlers.{Handlers}
 use Rattle.cx_journal.specs.declared.entries.Entry.{Entry}
 use Rattle.cx_journal.specs.declared.entries.Entry.TheVariants as journal
 use Rattle.cx_journal.specs.declared.outcomes.Reason.TheVariants as reason
-use Rattle.cx_rules.specs.Acceptor.{AwaitsBanner, AwaitsHello, AwaitsRequest, AwaitsProof, AwaitsSignature, AwaitsIdent, Open}
-use Rattle.cx_rules.specs.Connector as connector
-use Rattle.cx_rules.specs.Connector.{AskerArrival}
-use Rattle.cx_rules.specs.Greetings.{own_banner}
-use Rattle.cx_rules.specs.Holdings.{Asker}
-use Rattle.cx_rules.specs.Inputs.{Input, Opened, NoLink, Bytes, Turn, Gone, Look, Tick, Submit, Restart}
-use Rattle.cx_rules.specs.Links.{Link, link_of}
-use Rattle.cx_rules.specs.Requests.{Requests, asks_rotating, first_open, is_outdated}
-use Rattle.cx_rules.specs.Rows.{Arrival, Outcome, Row, Turned, Waits, Refuses, Handles, arrival, carried_out, fed, forgotten, goes_on, idles, lifted, new_link, refused_entry, refuses, refuses_bytes, turns}
-use Rattle.cx_rules.specs.Secured.{Secured}
+use Rattle.cx_laws_login.specs.cx_rules.specs.Acceptor.{AwaitsBanner, AwaitsHello, AwaitsRequest, AwaitsProof, AwaitsSignature, AwaitsIdent, Open}
+use Rattle.cx_laws_login.specs.cx_rules.specs.Connector as connector
+use Rattle.cx_laws_login.specs.cx_rules.specs.Connector.{AskerArrival}
+use Rattle.cx_laws_login.specs.cx_rules.specs.Greetings.{own_banner}
+use Rattle.cx_laws_login.specs.cx_rules.specs.Holdings.{Asker}
+use Rattle.cx_laws_login.specs.cx_rules.specs.Inputs.{Input, Opened, NoLink, Bytes, Turn, Gone, Look, Tick, Submit, Restart}
+use Rattle.cx_laws_login.specs.cx_rules.specs.Links.{Link, link_of}
+use Rattle.cx_laws_login.specs.cx_rules.specs.Requests.{Requests, asks_rotating, first_open, is_outdated}
+use Rattle.cx_laws_login.specs.cx_rules.specs.Rows.{Arrival, Outcome, Row, Turned, Waits, Refuses, Handles, arrival, carried_out, fed, forgotten, goes_on, idles, lifted, new_link, refused_entry, refuses, refuses_bytes, turns}
+use Rattle.cx_laws_login.specs.cx_rules.specs.Secured.{Secured}
 use Rattle.cx_rules_session.specs.Asks.{Finished, Asking}
 use Rattle.cx_rules_session.specs.DaemonRule.{AsAcceptor, AsConnector, Daemon, DaemonNode, DaemonStage, DaemonState, asking_open, book_after, book_reply, daemon_rule, daemon_step, ended_entry, fetches, fetches_on, gone, gone_by_kind, guest_gone, hosts, is_fetching, is_in, is_older, loses, lossy_gone, me, moved_to, on_dropped, open_to_ask, opens, restarted, opens_guest, opens_own, shut_where, submits, ticks, turn, turned_at, undialled, unreached, with_asker}
 use Rattle.cx_rules_session.specs.Guests.{GuestRow, GuestStage}
@@ -33,7 +33,7 @@ use Rattle.cx_steps.specs.declared.events.Command.TheVariants as command
 use Rattle.cx_steps.specs.declared.events.Peer.{Peer}
 use Rattle.cx_steps.specs.declared.events.Peer.TheVariants as peer
 use Rattle.cx_steps.specs.declared.seals.Logged.{Logged}
-use Rattle.cx_rules.specs.declared.requests.Want.TheVariants as want
+use Rattle.cx_laws_login.specs.cx_rules.specs.declared.requests.Want.TheVariants as want
 use Rattle.cx_wire.specs.declared.bodies.Request.TheVariants as asked
 use Rattle.cx_run.proofs.GuestTakes.{StaysGuest, TakesHosted, guest-takes}
 use Rattle.cx_run.proofs.Taking.{EachRow}
@@ -48,7 +48,7 @@ use Rattle.cx_laws_authorize.specs.Admission.{Authorizes, EntryTold}
 use Rattle.cx_run.specs.Visits.{IsNoLook}
 use Rattle.cx_laws_authorize.specs.Coming.{IsNoGuest}
 use Rattle.cx_laws_keys.proofs.Journal.{After, EntryLaw, IsNotIssued, entered, login-law, own-other}
-use Rattle.cx_laws_keys.proofs.Known.{Inv}
+use Rattle.cx_laws_keys.proofs.Known.{Inv, IsOfKind}
 use Rattle.cx_laws_keys.proofs.Premises.{AreGranted, behind}
 use Rattle.cx_laws_keys.proofs.Steps.{inv-entered}
 use Rattle.cx_laws_keys.proofs.Uses.{Grows, Uses, WholeRun, stays}
@@ -95,6 +95,9 @@ module _ (run : WholeRun) (whole : List Logged) (n : NodeName) (line : ℕ) (us 
     abbrev asker : Asker
     asker = d.node.own.asker
 
+    own-kind : IsOfKind n d.node.own.asker.name.kind
+    own-kind = subst (λ (m : NodeName). IsOfKind m d.node.own.asker.name.kind) (sym r.here) refl
+
     -- ---- a turn of a guest's link
 
     module _ (draw : List ℕ) (drawn : length draw ≡ 384) (link : Link DaemonStage) (stage : GuestStage) (st : DaemonStageOk run us n link.number (AsAcceptor stage)) where
@@ -125,7 +128,7 @@ module _ (run : WholeRun) (whole : List Logged) (n : NodeName) (line : ℕ) (us 
       link-ok vs (Some l) h = (h, st.1)
       link-ok vs None h = tt
 
-      row-after : (row : GuestRow) → KeptKeys run whole n line us log J guest r.inv r.of r.ok.own.known.fetched.generated row → StaysGuest guest row
+      row-after : (row : GuestRow) → KeptKeys run whole n line us log J guest r.inv r.of own-kind r.ok.own.known.fetched.generated row → StaysGuest guest row
           → AllByRecursion (EntryTold d input reading row.entries row.seals) row.entries → AreGranted run.leaked whole n line log row.seals
           → RowAfter run J n whole line us log J (row_of_kind (with_asker d.node.own) AsAcceptor row)
       row-after row k stays told g =
@@ -142,10 +145,10 @@ module _ (run : WholeRun) (whole : List Logged) (n : NodeName) (line : ℕ) (us 
             };
           }
 
-      hosted-keeps : (hosted : Hosted) → KeepsHosted run whole n line us log J guest r.inv r.of r.ok.own.known.fetched.generated drawn hosted → TakesHosted guest hosted → Hosts_ hosted
+      hosted-keeps : (hosted : Hosted) → KeepsHosted run whole n line us log J guest r.inv r.of own-kind r.ok.own.known.fetched.generated drawn hosted → TakesHosted guest hosted → Hosts_ hosted
       hosted-keeps hosted k takes = by_turned hosted.turned k takes.stays
         where
-          by_turned : (turned : Turned Asker GuestStage) → KeepsTurned run whole n line us log J guest r.inv r.of r.ok.own.known.fetched.generated drawn turned → EachRow (StaysGuest guest) turned
+          by_turned : (turned : Turned Asker GuestStage) → KeepsTurned run whole n line us log J guest r.inv r.of own-kind r.ok.own.known.fetched.generated drawn turned → EachRow (StaysGuest guest) turned
               → Keeps (moved_to link.number hosted.moved (turns d.node at_link (turn_of_kind (with_asker d.node.own) AsAcceptor turned)))
           by_turned Waits k stays g au =
               moved-keeps link.number hosted.moved (turns d.node at_link Waits) (stays-idle run J n whole line us log J d.node r.inv r.ok)
@@ -175,12 +178,12 @@ module _ (run : WholeRun) (whole : List Logged) (n : NodeName) (line : ℕ) (us 
       guest-turn : (handlers : Handlers) → Always Keeps (turned_at handlers d.node at_link (AsAcceptor stage))
       guest-turn handlers =
           let rule : Deciding Hosted = guest_turned handlers guest stage in
-          let KeepsIt : Hosted → Type 0 = KeepsHosted run whole n line us log J guest r.inv r.of r.ok.own.known.fetched.generated drawn in
+          let KeepsIt : Hosted → Type 0 = KeepsHosted run whole n line us log J guest r.inv r.of own-kind r.ok.own.known.fetched.generated drawn in
           always-map Keeps (hosts d.node at_link) rule
-          (always-weaker (λ (h : Hosted). KeepsHosted run whole n line us log J guest r.inv r.of r.ok.own.known.fetched.generated drawn h × TakesHosted guest h)
+          (always-weaker (λ (h : Hosted). KeepsHosted run whole n line us log J guest r.inv r.of own-kind r.ok.own.known.fetched.generated drawn h × TakesHosted guest h)
           (λ (h : Hosted). Keeps (hosts d.node at_link h)) (λ h both. hosted-keeps h both.0 both.1) rule
-          (always-both (KeepsHosted run whole n line us log J guest r.inv r.of r.ok.own.known.fetched.generated drawn) (TakesHosted guest) rule
-          (guest-keeps run whole n line us log J guest r.inv r.of r.ok.own.known.fetched.generated drawn handlers stage st.0) (guest-takes handlers guest stage)))
+          (always-both (KeepsHosted run whole n line us log J guest r.inv r.of own-kind r.ok.own.known.fetched.generated drawn) (TakesHosted guest) rule
+          (guest-keeps run whole n line us log J guest r.inv r.of own-kind r.ok.own.known.fetched.generated drawn handlers stage st.0) (guest-takes handlers guest stage)))
 
     -- ---- a turn of its own link
 

@@ -21,12 +21,12 @@ use Rattle.cx_journal.specs.declared.faults.LoginFault.TheVariants.{Method, Mode
 use Rattle.cx_journal.specs.declared.outcomes.Reason.{Reason}
 use Rattle.cx_journal.specs.declared.outcomes.Reason.TheVariants.{Login}
 use Rattle.cx_journal.specs.declared.outcomes.Reason.TheVariants as reason
-use Rattle.cx_rules.specs.Acceptor.{AwaitsHello, AwaitsRequest, AwaitsProof, AwaitsSignature, AwaitsIdent, Finished, denies, finished, on_auth_request, on_banner, on_hello, on_signature}
-use Rattle.cx_rules.specs.Greetings.{own_hello}
-use Rattle.cx_rules.specs.Holdings.{Asker}
-use Rattle.cx_rules.specs.Links.{Link}
-use Rattle.cx_rules.specs.Rows.{goes_on, plain_sent, refuses, secure_sent, unless_refused}
-use Rattle.cx_rules.specs.Secured.{SealedFrame, Secured, is_signed, plain_frame, signature_found}
+use Rattle.cx_laws_login.specs.cx_rules.specs.Acceptor.{AwaitsHello, AwaitsRequest, AwaitsProof, AwaitsSignature, AwaitsIdent, Finished, denies, finished, on_auth_request, on_banner, on_hello, on_signature}
+use Rattle.cx_laws_login.specs.cx_rules.specs.Greetings.{own_hello}
+use Rattle.cx_laws_login.specs.cx_rules.specs.Holdings.{Asker}
+use Rattle.cx_laws_login.specs.cx_rules.specs.Links.{Link}
+use Rattle.cx_laws_login.specs.cx_rules.specs.Rows.{goes_on, plain_sent, refuses, secure_sent, unless_refused}
+use Rattle.cx_laws_login.specs.cx_rules.specs.Secured.{SealedFrame, Secured, is_signed, plain_frame, signature_found}
 use Rattle.cx_rules_session.specs.Complete.{judged_by}
 use Rattle.cx_rules_session.specs.Envelopes.{authorize_challenge_content, authorize_reply_content, session_sealed}
 use Rattle.cx_rules_session.specs.Guests.{GuestArrival, GuestRow, GuestStage, authority_of, authorized_frame, authorizes, challenges, done_sent, looked_entry, on_auth_request_more, on_first, on_second, sealed_challenge_frame, turns_away, unless_turned_away}

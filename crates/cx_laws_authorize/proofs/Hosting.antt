@@ -26,15 +26,15 @@ use Rattle.cx_journal.specs.declared.outcomes.Outcome.{Outcome}
 use Rattle.cx_journal.specs.declared.faults.SessionFault.TheVariants as session
 use Rattle.cx_journal.specs.declared.outcomes.Reason.{Reason}
 use Rattle.cx_journal.specs.declared.outcomes.Reason.TheVariants as reason
-use Rattle.cx_rules.specs.Acceptor.{AwaitsBanner, AwaitsHello, AwaitsRequest, AwaitsProof, AwaitsSignature, AwaitsIdent, Open, missing_told, misses, on_auth_request, on_banner, on_hello, on_signature, server_ident}
-use Rattle.cx_rules.specs.Fronts.{ahead_of, banner_read, keys_behind, opened_parts, plain_read, sealed_ahead, secure_read, taking}
-use Rattle.cx_rules.specs.Holdings.{Asker}
-use Rattle.cx_rules.specs.Messages.{acknowledgement, message_in, secure_frames}
-use Rattle.cx_rules.specs.MonitorRule.{session_reset}
-use Rattle.cx_rules.specs.Payloads.{control, due, payload}
-use Rattle.cx_rules.specs.Rows.{Turned, Waits, Refuses, Handles, at, refused_entry, refuses_bytes, secure_sent, turned_by, with_opened}
-use Rattle.cx_rules.specs.Secured.{SealedFrame, Secured, secure_frame, under}
-use Rattle.cx_rules.specs.Upkeep.{on_keepalive, on_keepalive_ack}
+use Rattle.cx_laws_login.specs.cx_rules.specs.Acceptor.{AwaitsBanner, AwaitsHello, AwaitsRequest, AwaitsProof, AwaitsSignature, AwaitsIdent, Open, missing_told, misses, on_auth_request, on_banner, on_hello, on_signature, server_ident}
+use Rattle.cx_laws_login.specs.cx_rules.specs.Fronts.{ahead_of, banner_read, keys_behind, opened_parts, plain_read, sealed_ahead, secure_read, taking}
+use Rattle.cx_laws_login.specs.cx_rules.specs.Holdings.{Asker}
+use Rattle.cx_laws_login.specs.cx_rules.specs.Messages.{acknowledgement, message_in, secure_frames}
+use Rattle.cx_laws_login.specs.cx_rules.specs.MonitorRule.{session_reset}
+use Rattle.cx_laws_login.specs.cx_rules.specs.Payloads.{control, due, payload}
+use Rattle.cx_laws_login.specs.cx_rules.specs.Rows.{Turned, Waits, Refuses, Handles, at, refused_entry, refuses_bytes, secure_sent, turned_by, with_opened}
+use Rattle.cx_laws_login.specs.cx_rules.specs.Secured.{SealedFrame, Secured, secure_frame, under}
+use Rattle.cx_laws_login.specs.cx_rules.specs.Upkeep.{on_keepalive, on_keepalive_ack}
 use Rattle.cx_rules_session.specs.Asks.{Asks, Finished, Asking, asks_map}
 use Rattle.cx_rules_session.specs.Guests.{GuestArrival, GuestStage, Served, on_auth_request_more, on_first}
 use Rattle.cx_rules_session.specs.Hosting.{Deciding, Hosted, Instruction, admission_of, admits, answer_message, asks_admission, comes_to, cookie_drawn, decided_by, guest_turned, handled_entry, handles, hosted_behind, instruction_of, no_session_moves, on_admission, on_checked, on_client_ident, on_ident, on_message, on_open, on_reconnect, on_resumption, on_taken, on_untaken, outcome_of, reconnect_ok, resumes, served_as, session_retry, session_retry_global, tells_why}

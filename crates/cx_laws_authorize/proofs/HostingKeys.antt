@@ -27,15 +27,15 @@ use Rattle.cx_journal.specs.declared.outcomes.Outcome.{Outcome}
 use Rattle.cx_journal.specs.declared.faults.SessionFault.TheVariants as session
 use Rattle.cx_journal.specs.declared.outcomes.Reason.{Reason}
 use Rattle.cx_journal.specs.declared.outcomes.Reason.TheVariants as reason
-use Rattle.cx_rules.specs.Acceptor.{AwaitsBanner, AwaitsHello, AwaitsRequest, AwaitsProof, AwaitsSignature, AwaitsIdent, Open, missing_told, misses, on_auth_request, on_banner, on_hello, on_signature, server_ident}
-use Rattle.cx_rules.specs.Fronts.{ahead_of, banner_read, keys_behind, opened_parts, plain_read, sealed_ahead, secure_read, taking}
-use Rattle.cx_rules.specs.Holdings.{Asker}
-use Rattle.cx_rules.specs.Messages.{acknowledgement, message_in, sealed_behind, sealed_then, secure_frames}
-use Rattle.cx_rules.specs.MonitorRule.{session_reset}
-use Rattle.cx_rules.specs.Payloads.{control, due, payload}
-use Rattle.cx_rules.specs.Rows.{Turned, Waits, Refuses, Handles, at, refused_entry, refuses_bytes, secure_sent, turned_by, with_opened}
-use Rattle.cx_rules.specs.Secured.{Keys, SealedFrame, Secured, secure_frame, under}
-use Rattle.cx_rules.specs.Upkeep.{on_keepalive, on_keepalive_ack}
+use Rattle.cx_laws_login.specs.cx_rules.specs.Acceptor.{AwaitsBanner, AwaitsHello, AwaitsRequest, AwaitsProof, AwaitsSignature, AwaitsIdent, Open, missing_told, misses, on_auth_request, on_banner, on_hello, on_signature, server_ident}
+use Rattle.cx_laws_login.specs.cx_rules.specs.Fronts.{ahead_of, banner_read, keys_behind, opened_parts, plain_read, sealed_ahead, secure_read, taking}
+use Rattle.cx_laws_login.specs.cx_rules.specs.Holdings.{Asker}
+use Rattle.cx_laws_login.specs.cx_rules.specs.Messages.{acknowledgement, message_in, sealed_behind, sealed_then, secure_frames}
+use Rattle.cx_laws_login.specs.cx_rules.specs.MonitorRule.{session_reset}
+use Rattle.cx_laws_login.specs.cx_rules.specs.Payloads.{control, due, payload}
+use Rattle.cx_laws_login.specs.cx_rules.specs.Rows.{Turned, Waits, Refuses, Handles, at, refused_entry, refuses_bytes, secure_sent, turned_by, with_opened}
+use Rattle.cx_laws_login.specs.cx_rules.specs.Secured.{Keys, SealedFrame, Secured, secure_frame, under}
+use Rattle.cx_laws_login.specs.cx_rules.specs.Upkeep.{on_keepalive, on_keepalive_ack}
 use Rattle.cx_rules_session.specs.Guests.{GuestArrival, GuestRow, GuestStage, Served, on_auth_request_more, on_first}
 use Rattle.cx_rules_session.specs.Hosting.{Deciding, Hosted, Instruction, admission_of, admits, answer_message, asks_admission, comes_to, cookie_drawn, decided_by, guest_turned, handled_entry, handles, hosted_behind, instruction_of, no_session_moves, on_admission, on_checked, on_client_ident, on_ident, on_message, on_open, on_reconnect, on_resumption, on_taken, on_untaken, outcome_of, reconnect_ok, resumes, served_as, session_retry, session_retry_global, tells_why}
 use Rattle.cx_rules_session.specs.Lossy.{is_lossy, lossy_flags}
@@ -52,7 +52,7 @@ use Rattle.cx_base.specs.Names.{Name}
 use Rattle.cx_journal.specs.declared.entries.Entry.{Entry}
 use Rattle.cx_laws_authorize.proofs.Hosting.{Always, always-map, always-weaker}
 use Rattle.cx_laws_authorize.proofs.Keys.{HostKeys, KeptKeys, KeysRow, StageKeys, host-moves, host-seals, keys-banner, keys-entered, keys-hello, keys-kept, keys-refuses, keys-secure, keys-signature, more-keys, request-keys}
-use Rattle.cx_laws_keys.proofs.Known.{Inv, IsAllowed}
+use Rattle.cx_laws_keys.proofs.Known.{Inv, IsAllowed, IsOfKind}
 use Rattle.cx_laws_keys.proofs.Lists.{all-append}
 use Rattle.cx_laws_keys.proofs.Premises.{AreGranted}
 use Rattle.cx_laws_keys.proofs.Uses.{Uses, WholeRun}
@@ -61,7 +61,7 @@ use Rattle.cx_laws_keys.proofs.Uses.{AreGenerated}
 use Rattle.cx_laws_login.proofs.Rows.{Allowed, FrameOk, frame-ok, opened-allowed}
 
 -- what comes of a turn is allowed, and its link goes on under good keys
-abbrev TurnedKeys : Uses → List Entry → NodeName → Turned Asker GuestStage → Type 0
+abbrev pub TurnedKeys : Uses → List Entry → NodeName → Turned Asker GuestStage → Type 0
 TurnedKeys us J n Waits = Unit {0}
 TurnedKeys us J n (Refuses why opened) = Allowed us J n opened
 TurnedKeys us J n (Handles row) = KeysRow us J n row
@@ -149,7 +149,7 @@ module _ (us : Uses) (J : List Entry) (n : NodeName) (b : GuestArrival) (s : Sec
   reconnect-stays (Err why) = record { seals = tt; entries = (tt, tt); link = tt }
   reconnect-stays (Ok reconnect) = λ r. resumption-stays reconnect r
 
-  frame-stays : (f : Frame) → Stays (on_ident b s owner f)
+  pub frame-stays : (f : Frame) → Stays (on_ident b s owner f)
   frame-stays f = by_tests (f.tag == 8) (f.tag == 11)
     where
       by_tests : (client again : Bool) → Stays (if client then on_client_ident b s owner (payload client_ident_layout.form f)
@@ -236,7 +236,7 @@ module _ (us : Uses) (J : List Entry) (n : NodeName) (handlers : Handlers) (b : 
   ack-still (Err why) = record { seals = tt; entries = (tt, tt); link = tt }
   ack-still (Ok ack) = record { seals = tt; entries = tt; link = (name, host) }
 
-  open-stays : (f : Frame) → StaysOpen (on_open handlers b s served f)
+  pub open-stays : (f : Frame) → StaysOpen (on_open handlers b s served f)
   open-stays f = by_tests (f.tag == 18) (f.tag == 19)
     where
       by_tests : (ask ack : Bool) → StaysOpen (if ask then comes_to (on_keepalive b s (λ behind. Open behind served) (payload keepalive2_layout.form f))
@@ -249,10 +249,10 @@ module _ (us : Uses) (J : List Entry) (n : NodeName) (handlers : Handlers) (b : 
 -- ---- a turn
 
 module _ (run : WholeRun) (whole : List Logged) (n : NodeName) (line : ℕ) (us : Uses) (log : List Logged) (J : List Entry) (a : GuestArrival)
-    (i : Inv run whole us log J) (of : is_daemon_type a.own.name.kind ≡ true) (generated : AreGenerated us a.own.name.kind a.own.view.generations) (drawn : length a.draw ≡ 384) where
+    (i : Inv run whole us log J) (of : is_daemon_type a.own.name.kind ≡ true) (placed : IsOfKind n a.own.name.kind) (generated : AreGenerated us a.own.name.kind a.own.view.generations) (drawn : length a.draw ≡ 384) where
   -- where what a row logs is granted, it keeps what is known
   abbrev pub KeepsRow : GuestRow → Type 0
-  KeepsRow row = AreGranted run.leaked whole n line log row.seals → KeptKeys run whole n line us log J a i of generated row
+  KeepsRow row = AreGranted run.leaked whole n line log row.seals → KeptKeys run whole n line us log J a i of placed generated row
 
   abbrev pub KeepsTurned : Turned Asker GuestStage → Type 0
   KeepsTurned Waits = Unit {0}
@@ -263,7 +263,7 @@ module _ (run : WholeRun) (whole : List Logged) (n : NodeName) (line : ℕ) (us 
   KeepsHosted hosted = KeepsTurned hosted.turned
 
   simple : (row : GuestRow) → KeysRow us J n row → KeepsRow row
-  simple row h g = keys-kept run whole n line us log J a i of generated row h
+  simple row h g = keys-kept run whole n line us log J a i of placed generated row h
 
   behind-opened : (opened : List SealEntry) (hosted : Hosted) → Allowed us J n opened → TurnedKeys us J n hosted.turned → KeepsHosted (hosted_behind opened hosted)
   behind-opened opened hosted al h = by_turned hosted.turned h
@@ -291,15 +291,15 @@ module _ (run : WholeRun) (whole : List Logged) (n : NodeName) (line : ℕ) (us 
       → Keeps (no_session_moves (turned_by (λ (link, f) _. on_auth_request on_first (at a link) (due 2 auth_request_layout.form f)) (plain_read a.link r)))
   request-keeps (Ok None) = tt
   request-keeps (Ok (Some (f, m))) =
-      λ g. keys-kept run whole n line us log J a i of generated (on_auth_request on_first (at a (taking a.link m)) (due 2 auth_request_layout.form f))
-      (request-keys run whole n line us log J (at a (taking a.link m)) i of generated (due 2 auth_request_layout.form f) g)
+      λ g. keys-kept run whole n line us log J a i of placed generated (on_auth_request on_first (at a (taking a.link m)) (due 2 auth_request_layout.form f))
+      (request-keys run whole n line us log J (at a (taking a.link m)) i of placed generated (due 2 auth_request_layout.form f) g)
   request-keeps (Err e) = tt
 
   more-keeps : (awaited : Awaited) (r : Result (Option (Frame × ℕ)) FrameRefusal)
       → Keeps (no_session_moves (turned_by (λ (link, f) _. on_auth_request_more (at a link) awaited (due 5 auth_request_more_layout.form f)) (plain_read a.link r)))
   more-keeps awaited (Ok None) = tt
   more-keeps awaited (Ok (Some (f, m))) = λ g.
-      let h = more-keys run whole n line us log J (at a (taking a.link m)) i of generated awaited (due 5 auth_request_more_layout.form f) drawn g in
+      let h = more-keys run whole n line us log J (at a (taking a.link m)) i of placed generated awaited (due 5 auth_request_more_layout.form f) drawn g in
       record { uses = h.uses; grows = h.grows; inv = h.inv; entries = h.entries; link = h.link }
   more-keeps awaited (Err e) = tt
 

@@ -19,7 +19,7 @@ use Rattle.cx_journal.specs.declared.premises.KeyKind.TheVariants as kind
 use Rattle.cx_login.specs.Opening.{generation_key}
 use Rattle.cx_login.specs.Unlocking.{unlocked}
 use Rattle.cx_rotate.specs.declared.generations.Generation.{Generation}
-use Rattle.cx_rules.specs.Holdings.{Asker}
+use Rattle.cx_laws_login.specs.cx_rules.specs.Holdings.{Asker}
 use Rattle.cx_sealed.specs.Records.{service_ticket_layout}
 use Rattle.cx_laws_authorize.specs.Admission.{FaultTells, IsToldAt}
 use Rattle.cx_laws_keys.proofs.Journal.{has-before}

@@ -21,11 +21,11 @@ use Rattle.cx_journal.specs.declared.faults.BytesFault.{BytesFault}
 use Rattle.cx_journal.specs.declared.faults.LoginFault.TheVariants.{Method, Mode, SignatureWrong}
 use Rattle.cx_journal.specs.declared.outcomes.Reason.{Reason}
 use Rattle.cx_journal.specs.declared.outcomes.Reason.TheVariants.{Login}
-use Rattle.cx_rules.specs.Acceptor.{AwaitsHello, AwaitsProof, AwaitsSignature, AwaitsIdent, Open, Finished, denies, finished, joined, on_auth_request, on_banner, on_hello, on_signature}
-use Rattle.cx_rules.specs.Greetings.{own_hello}
-use Rattle.cx_rules.specs.Links.{Link}
-use Rattle.cx_rules.specs.Rows.{goes_on, plain_sent, refuses, refuses_bytes, secure_sent, unless_refused}
-use Rattle.cx_rules.specs.Secured.{Keys, SealedFrame, Secured, acceptor_keys, is_signed, plain_frame, secure_frame, signature_found, signed_frame, signing}
+use Rattle.cx_laws_login.specs.cx_rules.specs.Acceptor.{AwaitsHello, AwaitsProof, AwaitsSignature, AwaitsIdent, Open, Finished, denies, finished, joined, on_auth_request, on_banner, on_hello, on_signature}
+use Rattle.cx_laws_login.specs.cx_rules.specs.Greetings.{own_hello}
+use Rattle.cx_laws_login.specs.cx_rules.specs.Links.{Link}
+use Rattle.cx_laws_login.specs.cx_rules.specs.Rows.{goes_on, plain_sent, refuses, refuses_bytes, secure_sent, unless_refused}
+use Rattle.cx_laws_login.specs.cx_rules.specs.Secured.{Keys, SealedFrame, Secured, acceptor_keys, is_signed, plain_frame, secure_frame, signature_found, signed_frame, signing}
 use Rattle.cx_rules_session.specs.Complete.{judged_by}
 use Rattle.cx_rules_session.specs.Envelopes.{authorize_challenge_content, authorize_reply_content, session_sealed}
 use Rattle.cx_rules_session.specs.Guests.{GuestArrival, GuestRow, GuestStage, authority_of, authorized_frame, authorizes, challenges, done_sent, looked_entry, on_auth_request_more, on_first, sealed_challenge_frame, turns_away, unless_turned_away}
@@ -38,7 +38,7 @@ use Rattle.cx_steps.specs.declared.seals.SealEntry.TheVariants as seal
 use Rattle.cx_laws_authorize.proofs.Backing.{opened-issued}
 use Rattle.cx_laws_authorize.proofs.Opened.{IsOpening, ShowsTicket, first-all, first-opened, second-all, second-opened}
 use Rattle.cx_laws_keys.proofs.Journal.{IsNotIssued}
-use Rattle.cx_laws_keys.proofs.Known.{Inv, IsAllowed, IsOfAcceptor, IsOfConnector, RepliesTo, counter_at}
+use Rattle.cx_laws_keys.proofs.Known.{Inv, IsAllowed, IsOfKind, IsOfAcceptor, IsOfConnector, RepliesFor, counter_at}
 use Rattle.cx_laws_keys.proofs.Lists.{all-append, all-map}
 use Rattle.cx_laws_keys.proofs.Premises.{AreGranted, behind, behind-append, granted-first, granted-rest}
 use Rattle.cx_laws_keys.proofs.Reading.{challenge_no_reply, read_reply}
@@ -77,7 +77,11 @@ host-moves us n number k keys name same h = record {
 }
 
 pub host-seals : (us : Uses) (n : NodeName) (number : ℕ) (keys : Keys) (name : Name) → HostKeys us n number keys name → MaySeal us n keys
-host-seals us n number keys name h = record { name = name; connected = host-connected us n number keys name h; own = inr h.out }
+host-seals us n number keys name h = record {
+  name = name;
+  connected = record { acceptor = n; number = number; tie = AtDaemon h.service h.tie; means = h.means };
+  own = inr (h.out, inl refl);
+}
 
 -- until a session is open, the entity is the one of the authority
 abbrev pub StageKeys : Uses → NodeName → ℕ → GuestStage → Type 0
@@ -123,7 +127,7 @@ module _ (us : Uses) (J : List Entry) (n : NodeName) where
 
   -- what is sealed under a session key of a daemon's ticket
   pub session-allowed : (name : Name) (service : EntityType) (session content : List ℕ) → is_daemon_type service ≡ true → Means us session (session_use name service)
-      → RepliesTo us name content → IsAllowed us J n (session_sealed session content)
+      → RepliesFor us name service content → IsAllowed us J n (session_sealed session content)
   session-allowed name service session content of means says =
       (Ticketed name service, subst (λ (u : Use). Means us session u) (ticketed name service of) means, says, tt)
 
@@ -172,7 +176,7 @@ module _ (us : Uses) (J : List Entry) (n : NodeName) where
 -- ---- the first authorizer
 
 module _ (run : WholeRun) (whole : List Logged) (n : NodeName) (line : ℕ) (us : Uses) (log : List Logged) (J : List Entry) (b : GuestArrival)
-    (i : Inv run whole us log J) (of : is_daemon_type b.own.name.kind ≡ true) (generated : AreGenerated us b.own.name.kind b.own.view.generations) where
+    (i : Inv run whole us log J) (of : is_daemon_type b.own.name.kind ≡ true) (placed : IsOfKind n b.own.name.kind) (generated : AreGenerated us b.own.name.kind b.own.view.generations) where
   abbrev Granted : List SealEntry → Type 0
   Granted es = AreGranted run.leaked whole n line log es
 
@@ -259,9 +263,9 @@ module _ (run : WholeRun) (whole : List Logged) (n : NodeName) (line : ℕ) (us 
   joined-keys vs keys session sent (Ok done) (Ok signed) h = h
 
   signing-keys : (vs : Uses) (name : Name) (service : EntityType) (keys : Keys) (session received : List ℕ) (r : Result SealedFrame BytesFault) → Means vs session (Ticketed name service)
-      → FrameOk vs J n keys r → FrameOk vs J n keys (signing session received r)
-  signing-keys vs name service keys session received (Ok s) means h = (((Ticketed name service, means, tt), h.0), h.1)
-  signing-keys vs name service keys session received (Err why) means h = tt
+      → IsOfKind n service → FrameOk vs J n keys r → FrameOk vs J n keys (signing session received r)
+  signing-keys vs name service keys session received (Ok s) means kind h = (((Ticketed name service, means, inr kind), h.0), h.1)
+  signing-keys vs name service keys session received (Err why) means kind h = tt
 
   module _ (drawn : length b.draw ≡ 384) (awaited : Awaited) (nonce : ℕ) (opened : List SealEntry) (ticket : ServiceTicket) (all : AllByRecursion IsOpening opened)
       (shown : ShowsTicket b.own.view ticket opened) where
@@ -288,7 +292,7 @@ module _ (run : WholeRun) (whole : List Logged) (n : NodeName) (line : ℕ) (us 
         let first = inv-all run whole us log J n line opened i (openings-allowed us J n opened all) in
         let rest = granted-rest run.leaked whole n line log opened (drew ∷ []) g in
         subst (λ (l : List Logged). Inv run whole vs l J) (sym (behind-append n line opened (drew ∷ []) log))
-        (inv-drawn run whole us (behind n line opened log) J n line (draw.Connection secret ticket.name) (take 16 secret) purpose first refl refl (λ m e. absurd cc) rest.0)
+        (inv-drawn run whole us (behind n line opened log) J n line (draw.Connection secret ticket.name) (take 16 secret) purpose first refl refl placed (λ m e. absurd cc) rest.0)
 
     session-means : Granted before → Means vs ticket.session (Ticketed ticket.name b.own.name.kind)
     session-means g =
@@ -305,22 +309,24 @@ module _ (run : WholeRun) (whole : List Logged) (n : NodeName) (line : ℕ) (us 
     }
 
     -- the reply raises the nonce that it answers, and its secret is that of this link
-    reply-says : RepliesTo vs ticket.name (authorize_reply_content nonce secret)
+    reply-says : RepliesFor vs ticket.name b.own.name.kind (authorize_reply_content nonce secret)
     reply-says = λ x e.
-        let same = read_reply (record { nonce_plus_one = raised nonce; secret = secret }) x (raised-below nonce) (short-connection b.draw) e in
-        record {
-          acceptor = n;
-          number = b.link.number;
-          service = b.own.name.kind;
-          means = inl (
-            ap (λ (s : List ℕ). take 16 s) (sym same.1),
-            ap (λ (m : ℕ). Connected n b.link.number ticket.name (AtDaemon b.own.name.kind m)) (sym same.0),
-          );
-          into = subst (λ (s : List ℕ). slice_index s 16 < 128) (sym same.1) (acceptor-sends b.draw drawn);
-          out = subst (λ (s : List ℕ). 128 ≤ slice_index s 28) (sym same.1) (connector-sends b.draw drawn);
-          counts_into = ap (λ (s : List ℕ). counter_at s 20) same.1 ∙ acceptor-counts b.draw drawn;
-          counts_out = ap (λ (s : List ℕ). counter_at s 32) same.1 ∙ connector-counts b.draw drawn;
-        }
+        let same = read_reply (record { nonce_plus_one = raised nonce; secret = secret }) x (raised-below nonce) (short-connection b.draw) e in (
+          record {
+            acceptor = n;
+            number = b.link.number;
+            service = b.own.name.kind;
+            means = inl (
+              ap (λ (s : List ℕ). take 16 s) (sym same.1),
+              ap (λ (m : ℕ). Connected n b.link.number ticket.name (AtDaemon b.own.name.kind m)) (sym same.0),
+            );
+            into = subst (λ (s : List ℕ). slice_index s 16 < 128) (sym same.1) (acceptor-sends b.draw drawn);
+            out = subst (λ (s : List ℕ). 128 ≤ slice_index s 28) (sym same.1) (connector-sends b.draw drawn);
+            counts_into = ap (λ (s : List ℕ). counter_at s 20) same.1 ∙ acceptor-counts b.draw drawn;
+            counts_out = ap (λ (s : List ℕ). counter_at s 32) same.1 ∙ connector-counts b.draw drawn;
+          },
+          refl,
+        )
 
     done-keys : (r : Result Finished BytesFault) → (Means vs ticket.session (Ticketed ticket.name b.own.name.kind) → FinishedKeys vs (acceptor_keys secret) r)
         → Granted (done_sent b before held (authority_of b ticket) r).seals → KeptKeys (done_sent b before held (authority_of b ticket) r)
@@ -344,7 +350,7 @@ module _ (run : WholeRun) (whole : List Logged) (n : NodeName) (line : ℕ) (us 
         done-keys (finished b.link ticket.session secret (authorized_frame ticket nonce secret))
         (λ means. joined-keys vs (acceptor_keys secret) ticket.session b.link.sent (plain_frame (authorized_frame ticket nonce secret))
         (signed_frame (acceptor_keys secret) ticket.session (take b.link.taken b.link.received))
-        (signing-keys vs ticket.name b.own.name.kind (acceptor_keys secret) ticket.session (take b.link.taken b.link.received) (secure_frame (acceptor_keys secret) _) means
+        (signing-keys vs ticket.name b.own.name.kind (acceptor_keys secret) ticket.session (take b.link.taken b.link.received) (secure_frame (acceptor_keys secret) _) means placed
         (frame-ok vs J n (acceptor_keys secret) _ (host-seals vs n b.link.number (acceptor_keys secret) ticket.name host)))) g
 
   kept-looked : (row : GuestRow) → KeptKeys row → KeptKeys (entered_before (looked_entry b) row)

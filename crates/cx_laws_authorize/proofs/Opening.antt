@@ -9,14 +9,14 @@ use Rattle.cx_frame.specs.declared.frame.Frame.{Frame}
 use Rattle.cx_journal.specs.declared.entries.Entry.{Entry}
 use Rattle.cx_journal.specs.declared.entries.Entry.TheVariants as entry
 use Rattle.cx_journal.specs.declared.outcomes.Reason.TheVariants.{LinksFull}
-use Rattle.cx_rules.specs.Acceptor.{AwaitsBanner, AwaitsIdent}
-use Rattle.cx_rules.specs.Fronts.{Front, NotYet, Broken, Next, secure_next}
-use Rattle.cx_rules.specs.Greetings.{own_banner}
-use Rattle.cx_rules.specs.Holdings.{Asker}
-use Rattle.cx_rules.specs.Inputs.{Turn}
-use Rattle.cx_rules.specs.Links.{Link, link_of, put_link, without_link}
-use Rattle.cx_rules.specs.Rows.{Arrival, Outcome, Turned, Waits, Refuses, Handles, arrival, at, carried_out, goes_on, new_link, refuses, turns}
-use Rattle.cx_rules.specs.Secured.{Keys, Secured, under}
+use Rattle.cx_laws_login.specs.cx_rules.specs.Acceptor.{AwaitsBanner, AwaitsIdent}
+use Rattle.cx_laws_login.specs.cx_rules.specs.Fronts.{Front, NotYet, Broken, Next, secure_next}
+use Rattle.cx_laws_login.specs.cx_rules.specs.Greetings.{own_banner}
+use Rattle.cx_laws_login.specs.cx_rules.specs.Holdings.{Asker}
+use Rattle.cx_laws_login.specs.cx_rules.specs.Inputs.{Turn}
+use Rattle.cx_laws_login.specs.cx_rules.specs.Links.{Link, link_of, put_link, without_link}
+use Rattle.cx_laws_login.specs.cx_rules.specs.Rows.{Arrival, Outcome, Turned, Waits, Refuses, Handles, arrival, at, carried_out, goes_on, new_link, refuses, turns}
+use Rattle.cx_laws_login.specs.cx_rules.specs.Secured.{Keys, Secured, under}
 use Rattle.cx_rules_session.specs.DaemonRule.{AsAcceptor, Daemon, DaemonNode, DaemonStage, DaemonState, book_after, book_reply, daemon_step, hosts, me, moved_to, opens_guest, turn, turned_at, with_asker}
 use Rattle.cx_rules_session.specs.Guests.{GuestArrival, GuestStage}
 use Rattle.cx_rules_session.specs.Hosting.{Deciding, Hosted, decided_by, guest_turned, hosted_behind, on_ident}

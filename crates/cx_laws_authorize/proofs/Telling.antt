@@ -19,9 +19,9 @@ use Rattle.cx_journal.specs.declared.outcomes.Reason.TheVariants as reason
 use Rattle.cx_journal.specs.declared.outcomes.TicketFault.{TicketFault}
 use Rattle.cx_journal.specs.declared.outcomes.TicketFault.TheVariants as told
 use Rattle.cx_journal.specs.declared.premises.KeyKind.TheVariants as kind
-use Rattle.cx_rules.specs.Holdings.{Asker}
-use Rattle.cx_rules.specs.Inputs.{Input}
-use Rattle.cx_rules.specs.Links.{Link}
+use Rattle.cx_laws_login.specs.cx_rules.specs.Holdings.{Asker}
+use Rattle.cx_laws_login.specs.cx_rules.specs.Inputs.{Input}
+use Rattle.cx_laws_login.specs.cx_rules.specs.Links.{Link}
 use Rattle.cx_rules_session.specs.DaemonRule.{AsAcceptor, DaemonStage, DaemonState}
 use Rattle.cx_rules_session.specs.Guests.{GuestStage}
 use Rattle.cx_steps.specs.Premises.{HasSealed, IsExcepted}

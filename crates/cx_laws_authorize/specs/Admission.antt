@@ -18,11 +18,11 @@ use Rattle.cx_journal.specs.declared.premises.KeyKind.TheVariants as kind
 use Rattle.cx_login.specs.Opening.{generation_key}
 use Rattle.cx_login.specs.Unlocking.{unlocked}
 use Rattle.cx_rotate.specs.declared.views.View.{View}
-use Rattle.cx_rules.specs.Acceptor.{AwaitsProof, AwaitsSignature, AwaitsIdent}
-use Rattle.cx_rules.specs.Holdings.{Asker}
-use Rattle.cx_rules.specs.Inputs.{Input, Turn}
-use Rattle.cx_rules.specs.Links.{Link, link_of}
-use Rattle.cx_rules.specs.Secured.{Secured}
+use Rattle.cx_laws_login.specs.cx_rules.specs.Acceptor.{AwaitsProof, AwaitsSignature, AwaitsIdent}
+use Rattle.cx_laws_login.specs.cx_rules.specs.Holdings.{Asker}
+use Rattle.cx_laws_login.specs.cx_rules.specs.Inputs.{Input, Turn}
+use Rattle.cx_laws_login.specs.cx_rules.specs.Links.{Link, link_of}
+use Rattle.cx_laws_login.specs.cx_rules.specs.Secured.{Secured}
 use Rattle.cx_rules_session.specs.DaemonRule.{AsAcceptor, AsConnector, DaemonStage, DaemonState, daemon_step}
 use Rattle.cx_rules_session.specs.Guests.{GuestStage}
 use Rattle.cx_sealed.specs.Records.{authorize_layout, service_ticket_layout}

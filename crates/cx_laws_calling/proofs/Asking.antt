@@ -29,24 +29,24 @@ use Rattle.cx_journal.specs.declared.outcomes.Reason.TheVariants as reason
 use Rattle.cx_login.specs.Held.{Held}
 use Rattle.cx_login.specs.Unlocking.{Unlocked, login_in, told_each, unlocked}
 use Rattle.cx_login.specs.declared.client.LoggedIn.{LoggedIn}
-use Rattle.cx_rules.specs.Connector.{AskerArrival, AskerRow, Login as Opening, Stage, AwaitsBanner, AwaitsHello, AwaitsChallenge, AwaitsDone, AwaitsSignature, AwaitsIdent, Open, client_ident, holding, identifies, on_bad_method, on_banner, on_challenge, on_denial, on_done, on_hello, on_login_done, on_missing_features, on_opened, on_reply_more, on_signature, proves, signs, turned_at, while_challenged, while_identified, while_proved}
-use Rattle.cx_rules.specs.Fronts.{banner_next, plain_next, opened_parts, sealed_ahead, secure_next, secure_read}
-use Rattle.cx_rules.specs.Greetings.{own_hello}
-use Rattle.cx_rules.specs.Holdings.{held_login, holds_nothing}
-use Rattle.cx_rules.specs.Links.{Link}
-use Rattle.cx_rules.specs.Messages.{Message, body_as, message_in}
-use Rattle.cx_rules.specs.Payloads.{due, payload, whole}
-use Rattle.cx_rules.specs.Requests.{Requests, asks_rotating, body_taken, message_taken, no_requests, on_open, on_reply, on_server_ident, reply_taken, rotating_taken, sends_request, takes, tickets_taken, waiting_taken}
-use Rattle.cx_rules.specs.Rows.{Row, at, goes_on, plain_sent, refuses, secure_sent, turned_by, with_opened}
-use Rattle.cx_rules.specs.Secured.{Keys, SealedFrame, Secured, connector_keys, is_signed, plain_frame, secure_frame, signature_found, signed_frame, under}
-use Rattle.cx_rules.specs.Upkeep.{on_keepalive, on_keepalive_ack}
-use Rattle.cx_rules.specs.declared.messages.Body.{Body}
-use Rattle.cx_rules.specs.declared.messages.Body.TheVariants as body
-use Rattle.cx_rules.specs.declared.requests.Taken.{Taken}
-use Rattle.cx_rules.specs.declared.requests.Taken.TheVariants as taken
-use Rattle.cx_rules.specs.declared.requests.Waiting.{Waiting}
-use Rattle.cx_rules.specs.declared.requests.Want.{Want}
-use Rattle.cx_rules.specs.declared.requests.Want.TheVariants as want
+use Rattle.cx_laws_login.specs.cx_rules.specs.Connector.{AskerArrival, AskerRow, Login as Opening, Stage, AwaitsBanner, AwaitsHello, AwaitsChallenge, AwaitsDone, AwaitsSignature, AwaitsIdent, Open, client_ident, holding, identifies, on_bad_method, on_banner, on_challenge, on_denial, on_done, on_hello, on_login_done, on_missing_features, on_opened, on_reply_more, on_signature, proves, signs, turned_at, while_challenged, while_identified, while_proved}
+use Rattle.cx_laws_login.specs.cx_rules.specs.Fronts.{banner_next, plain_next, opened_parts, sealed_ahead, secure_next, secure_read}
+use Rattle.cx_laws_login.specs.cx_rules.specs.Greetings.{own_hello}
+use Rattle.cx_laws_login.specs.cx_rules.specs.Holdings.{held_login, holds_nothing}
+use Rattle.cx_laws_login.specs.cx_rules.specs.Links.{Link}
+use Rattle.cx_laws_login.specs.cx_rules.specs.Messages.{Message, body_as, message_in}
+use Rattle.cx_laws_login.specs.cx_rules.specs.Payloads.{due, payload, whole}
+use Rattle.cx_laws_login.specs.cx_rules.specs.Requests.{Requests, asks_rotating, body_taken, message_taken, no_requests, on_open, on_reply, on_server_ident, reply_taken, rotating_taken, sends_request, takes, tickets_taken, waiting_taken}
+use Rattle.cx_laws_login.specs.cx_rules.specs.Rows.{Row, at, goes_on, plain_sent, refuses, secure_sent, turned_by, with_opened}
+use Rattle.cx_laws_login.specs.cx_rules.specs.Secured.{Keys, SealedFrame, Secured, connector_keys, is_signed, plain_frame, secure_frame, signature_found, signed_frame, under}
+use Rattle.cx_laws_login.specs.cx_rules.specs.Upkeep.{on_keepalive, on_keepalive_ack}
+use Rattle.cx_laws_login.specs.cx_rules.specs.declared.messages.Body.{Body}
+use Rattle.cx_laws_login.specs.cx_rules.specs.declared.messages.Body.TheVariants as body
+use Rattle.cx_laws_login.specs.cx_rules.specs.declared.requests.Taken.{Taken}
+use Rattle.cx_laws_login.specs.cx_rules.specs.declared.requests.Taken.TheVariants as taken
+use Rattle.cx_laws_login.specs.cx_rules.specs.declared.requests.Waiting.{Waiting}
+use Rattle.cx_laws_login.specs.cx_rules.specs.declared.requests.Want.{Want}
+use Rattle.cx_laws_login.specs.cx_rules.specs.declared.requests.Want.TheVariants as want
 use Rattle.cx_sealed.specs.Records.{rotating_reply_layout}
 use Rattle.cx_sealed.specs.declared.rotating_reply.RotatingReply.{RotatingReply}
 use Rattle.cx_secure.specs.declared.refusals.SecureRefusal.{SecureRefusal}

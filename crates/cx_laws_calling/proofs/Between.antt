@@ -5,10 +5,10 @@ use Rattle.cx_base.specs.Names.{Name}
 use Rattle.cx_base.specs.declared.nodes.NodeName.{NodeName}
 use Rattle.cx_base.specs.declared.nodes.NodeName.TheVariants as node
 use Rattle.cx_journal.specs.declared.entries.Entry.{Entry}
-use Rattle.cx_rules.specs.Holdings.{Asker, no_view}
-use Rattle.cx_rules.specs.Inputs.{Input}
-use Rattle.cx_rules.specs.Links.{Link}
-use Rattle.cx_rules.specs.Rows.{Outcome}
+use Rattle.cx_laws_login.specs.cx_rules.specs.Holdings.{Asker, no_view}
+use Rattle.cx_laws_login.specs.cx_rules.specs.Inputs.{Input}
+use Rattle.cx_laws_login.specs.cx_rules.specs.Links.{Link}
+use Rattle.cx_laws_login.specs.cx_rules.specs.Rows.{Outcome}
 use Rattle.cx_rules_session.specs.ClientRule.{ClientStage, WholeClientNode, opening_whole_client, whole_client_rule}
 use Rattle.cx_rules_session.specs.Sessions.{HeldSession}
 use Rattle.cx_steps.specs.declared.seals.Logged.{Logged}

@@ -43,15 +43,15 @@ use Rattle.cx_journal.specs.declared.outcomes.Reason.TheVariants as reason
 use Rattle.cx_journal.specs.declared.premises.KeyKind.TheVariants as kind
 use Rattle.cx_login.specs.Held.{Held}
 use Rattle.cx_login.specs.Unlocking.{Unlocked}
-use Rattle.cx_rules.specs.Connector.{client_ident}
-use Rattle.cx_rules.specs.Fronts.{ahead_of, banner_next, banner_read, opened_parts, plain_next, plain_read, sealed_ahead, secure_next, secure_read}
-use Rattle.cx_rules.specs.Greetings.{own_hello}
-use Rattle.cx_rules.specs.Links.{Link}
-use Rattle.cx_rules.specs.Messages.{message_in, on_upkeep_or, sealed_behind, sealed_then, secure_frames}
-use Rattle.cx_rules.specs.Payloads.{due, payload, whole}
-use Rattle.cx_rules.specs.Rows.{Turned, Waits, Refuses, Handles, at, goes_on, plain_sent, refuses, refuses_bytes, secure_sent, turned_by, unless_refused, with_opened}
-use Rattle.cx_rules.specs.Secured.{Keys, SealedFrame, Secured, connector_keys, is_signed, plain_frame, secure_frame, signature, signature_found, signed_frame, signing, under}
-use Rattle.cx_rules.specs.Upkeep.{on_keepalive, on_keepalive_ack}
+use Rattle.cx_laws_login.specs.cx_rules.specs.Connector.{client_ident}
+use Rattle.cx_laws_login.specs.cx_rules.specs.Fronts.{ahead_of, banner_next, banner_read, opened_parts, plain_next, plain_read, sealed_ahead, secure_next, secure_read}
+use Rattle.cx_laws_login.specs.cx_rules.specs.Greetings.{own_hello}
+use Rattle.cx_laws_login.specs.cx_rules.specs.Links.{Link}
+use Rattle.cx_laws_login.specs.cx_rules.specs.Messages.{message_in, on_upkeep_or, sealed_behind, sealed_then, secure_frames}
+use Rattle.cx_laws_login.specs.cx_rules.specs.Payloads.{due, payload, whole}
+use Rattle.cx_laws_login.specs.cx_rules.specs.Rows.{Turned, Waits, Refuses, Handles, at, goes_on, plain_sent, refuses, refuses_bytes, secure_sent, turned_by, unless_refused, with_opened}
+use Rattle.cx_laws_login.specs.cx_rules.specs.Secured.{Keys, SealedFrame, Secured, connector_keys, is_signed, plain_frame, secure_frame, signature, signature_found, signed_frame, signing, under}
+use Rattle.cx_laws_login.specs.cx_rules.specs.Upkeep.{on_keepalive, on_keepalive_ack}
 use Rattle.cx_rules_session.specs.Envelopes.{authorize_content, sends_holding, session_sealed}
 use Rattle.cx_rules_session.specs.Lossy.{lossy_flags}
 use Rattle.cx_rules_session.specs.Presenter.{CallArrival, CallRow, CallStage, AwaitsBanner, AwaitsHello, AwaitsChallenge, AwaitsDone, AwaitsSignature, AwaitsIdent, AwaitsReconnect, Open, Caller, OperationEnd, acknowledges, answers_challenge, counting, end_in, first_frame, holding_session, identifies, on_ack, on_answer, on_answer_or_ack, on_authorize_reply, on_bad_method, on_banner, on_challenge, on_done, on_hello, on_missing_features, on_reconnect_ok, on_reply_more, on_reset, on_retry, on_retry_global, on_server_ident, on_signature, on_signed, on_unlocked, presented, presented_by, reconnects, resets, retries, retries_global, second_frame, signs, taken_up, takes_up, turned_at, while_answered, while_challenged, while_identified, while_reconnecting}
@@ -69,12 +69,12 @@ use Rattle.cx_stream.specs.SecureStreams.{secure_frame_at}
 use Rattle.cx_wire.specs.Logins as shown_layout
 use Rattle.cx_wire.specs.declared.authorizers.AuthorizeChallenge as shown_challenge
 use Rattle.cx_wire.specs.declared.authorizers.AuthorizeReply as shown_reply
-use Rattle.cx_laws_calling.proofs.Sessions.{CallKeys, HeldOk, HoldingsOk, IsSession, found-ticket, same-entity}
-use Rattle.cx_laws_keys.proofs.Known.{HasReply, Inv, IsAllowed, reply-connected}
+use Rattle.cx_laws_calling.proofs.Sessions.{CallKeys, HeldOk, HoldingsOk, IsRepliedFor, IsSession, IsShownFor, found-ticket, replied-connection, same-entity}
+use Rattle.cx_laws_keys.proofs.Known.{HasReply, Inv, IsAllowed}
 use Rattle.cx_laws_keys.proofs.Lists.{all-append}
 use Rattle.cx_laws_keys.proofs.Premises.{AreGranted, granted-first}
 use Rattle.cx_laws_keys.proofs.Reading.{authorize_no_connection, authorize_no_info, authorize_no_reply}
-use Rattle.cx_laws_keys.proofs.Uses.{Login, Means, Ticketed, Uses, WholeRun}
+use Rattle.cx_laws_keys.proofs.Uses.{AtDaemon, Connected, Login, Means, Ticketed, Uses, WholeRun}
 use Rattle.cx_laws_login.proofs.AskerRows.{NeverExcepted}
 use Rattle.cx_laws_login.proofs.Facts.{HasConnection, IsSameWay, seals-own}
 use Rattle.cx_laws_login.proofs.Opens.{unlocked-allowed, unlocked_says}
@@ -117,7 +117,7 @@ module _ (us : Uses) (J : List Entry) (n : NodeName) where
     where
       by_use : Means us session (Login h.name) ⊎ ((service : EntityType) × Means us session (Ticketed h.name service)) → IsAllowed us J n (signature session received)
       by_use (inl m) = (Login h.name, m, tt)
-      by_use (inr (service, m)) = (Ticketed h.name service, m, tt)
+      by_use (inr (service, m)) = (Ticketed h.name service, m, inl h.own)
 
   keyed : (key other : List ℕ) → other ≡ key → HasConnection us n key → HasConnection us n other
   keyed key other same h = subst (λ (k : List ℕ). HasConnection us n k) (sym same) h
@@ -200,7 +200,7 @@ module _ (us : Uses) (J : List Entry) (n : NodeName) where
     signed-seals a None = identifies-seals a (signature_found s ∷ []) (tt, tt)
     signed-seals a (Some session) = takes_up-seals a (signature_found s ∷ []) session (tt, tt)
 
-    signature-seals : (a : CallArrival) (read : Result AuthSignature BytesFault) → S (on_signature a s callee read)
+    pub signature-seals : (a : CallArrival) (read : Result AuthSignature BytesFault) → S (on_signature a s callee read)
     signature-seals a (Err why) = bytes-seals a why [] tt
     signature-seals a (Ok found) = by_test (is_signed s found.signature)
       where
@@ -216,7 +216,7 @@ module _ (us : Uses) (J : List Entry) (n : NodeName) where
     missing-seals a (Err why) = bytes-seals a why [] tt
     missing-seals a (Ok missing) = bytes-seals a _ [] tt
 
-    identified-seals : (a : CallArrival) (cookie : ℕ) (f : Frame) → S (while_identified a s callee cookie f)
+    pub identified-seals : (a : CallArrival) (cookie : ℕ) (f : Frame) → S (while_identified a s callee cookie f)
     identified-seals a cookie f = by_test (f.tag == 10)
       where
         by_test : (lacks : Bool) → S (if lacks then on_missing_features a (payload ident_missing_features_layout.form f)
@@ -263,7 +263,7 @@ module _ (us : Uses) (J : List Entry) (n : NodeName) where
     retry_global-seals a (Err why) = bytes-seals a why [] tt
     retry_global-seals a (Ok retry) = retries_global-seals a retry.global_seq a.own.session
 
-    reconnecting-seals : (a : CallArrival) (cookie : ℕ) (f : Frame) → S (while_reconnecting a s callee cookie f)
+    pub reconnecting-seals : (a : CallArrival) (cookie : ℕ) (f : Frame) → S (while_reconnecting a s callee cookie f)
     reconnecting-seals a cookie f = by_tests (f.tag == 15) (f.tag == 12) (f.tag == 13) (f.tag == 14)
       where
         by_tests : (ok reset retry global : Bool) → S
@@ -305,7 +305,7 @@ module _ (us : Uses) (J : List Entry) (n : NodeName) where
     keepalive_ack-seals a cookie (Err why) = bytes-seals a why [] tt
     keepalive_ack-seals a cookie (Ok ack) = record { seals = tt; link = has }
 
-    open-seals : (a : CallArrival) (cookie : ℕ) (f : Frame) → S (on_upkeep_or (on_answer_or_ack a s callee cookie) a s (λ behind. Open behind callee cookie) f)
+    pub open-seals : (a : CallArrival) (cookie : ℕ) (f : Frame) → S (on_upkeep_or (on_answer_or_ack a s callee cookie) a s (λ behind. Open behind callee cookie) f)
     open-seals a cookie f = by_tests (f.tag == 18) (f.tag == 19)
       where
         by_tests : (ask ack : Bool) → S
@@ -328,59 +328,85 @@ module _ (run : WholeRun) (whole_log : List Logged) (n : NodeName) (line : ℕ) 
   abbrev Grants : List SealEntry → Type 0
   Grants es = AreGranted run.leaked whole_log n line log es
 
-  -- whose reply it is that opened: a daemon sealed it for a link to this entity, behind the nonce that it raises
-  pub reply-ties : (key bytes : List ℕ) (x : AuthorizeReply) → (h : IsSession us n key) → Grants (reply_in key bytes).seals → (reply_in key bytes).value ≡ Some x
-      → HasReply us h.name x
-  reply-ties key bytes x h g e = by_use h.means
+  -- whose reply it is that opened, under the session key of a ticket for which service: a daemon of that type sealed it for a link to this entity, behind the nonce that it raises
+  pub record IsReplyFor (key : List ℕ) (x : AuthorizeReply) : Type 0 where
+    pub whose : Name
+    pub own : n ≡ node.Entity whose
+    pub service : EntityType
+    pub ticketed : Means us key (Ticketed whose service)
+    pub reply : HasReply us whose x
+    pub service_is : reply.service ≡ service
+
+  reply-for : (key bytes : List ℕ) (x : AuthorizeReply) → (h : IsSession us n key) → Grants (reply_in key bytes).seals → (reply_in key bytes).value ≡ Some x
+      → (f : IsReplyFor key x) × (f.whose ≡ h.name)
+  reply-for key bytes x h g e = by_use h.means
     where
       same : Some h.name ≡ Some name
       same = ap (λ (m : Name). Some m) (same-entity n h.name name h.own here)
 
-      by_use : Means us key (Login h.name) ⊎ ((service : EntityType) × Means us key (Ticketed h.name service)) → HasReply us h.name x
+      by_use : Means us key (Login h.name) ⊎ ((service : EntityType) × Means us key (Ticketed h.name service)) → (f : IsReplyFor key x) × (f.whose ≡ h.name)
       by_use (inl m) =
-          let s = unlocked_says run whole_log n line us log J authorize_reply_layout.form kind.Session key bytes (Login h.name) i m (free key (Login h.name) m same) g x e in s.2.2 x s.1
+          let s = unlocked_says run whole_log n line us log J authorize_reply_layout.form kind.Session key bytes (Login h.name) i m (free key (Login h.name) m same) g x e in absurd (s.2.2 x s.1)
       by_use (inr (service, m)) =
           let s = unlocked_says run whole_log n line us log J authorize_reply_layout.form kind.Session key bytes (Ticketed h.name service) i m (free key (Ticketed h.name service) m same) g x e in
-          s.2 x s.1
+          let r = s.2 x s.1 in
+          (record { whose = h.name; own = h.own; service = service; ticketed = m; reply = r.0; service_is = r.1 }, refl)
 
+  pub reply-ties : (key bytes : List ℕ) (x : AuthorizeReply) → (h : IsSession us n key) → Grants (reply_in key bytes).seals → (reply_in key bytes).value ≡ Some x
+      → HasReply us h.name x
+  reply-ties key bytes x h g e = let f = reply-for key bytes x h g e in subst (λ (m : Name). HasReply us m x) f.1 f.0.reply
+
+  -- so its secret gives a key of a link to a daemon of that type
   reply-connects : (key bytes : List ℕ) (x : AuthorizeReply) → IsSession us n key → Grants (reply_in key bytes).seals → (reply_in key bytes).value ≡ Some x
-      → HasConnection us n (take 16 x.secret)
-  reply-connects key bytes x h g e = record { name = h.name; own = h.own; connected = reply-connected us h.name x (reply-ties key bytes x h g e) }
+      → IsRepliedFor us n key (take 16 x.secret)
+  reply-connects key bytes x h g e =
+      let f = (reply-for key bytes x h g e).0 in
+      let r = f.reply in
+      record {
+        name = f.whose;
+        own = f.own;
+        service = f.service;
+        ticketed = f.ticketed;
+        acceptor = r.acceptor;
+        number = r.number;
+        tie = x.nonce_plus_one;
+        means = subst (λ (service : EntityType). Means us (take 16 x.secret) (Connected r.acceptor r.number f.whose (AtDaemon service x.nonce_plus_one))) f.service_is r.means;
+      }
 
   module _ (a : CallArrival) where
     -- the ticket that is shown is one that is held, or was
-    presented-session : (called : Called) (nonce : ℕ) → HoldingsOk us n a.own.asker.holdings → IsSession us n called.held.session
-        → IsSession us n (presented called a.own.asker nonce).held.session
+    presented-session : (called : Called) (nonce : ℕ) → HoldingsOk us n a.own.asker.holdings → IsShownFor us n called.callee called.held
+        → IsShownFor us n called.callee (presented called a.own.asker nonce).held
     presented-session called nonce ok before =
         by_ticket (ticket_for called.callee.daemon.kind a.own.asker.holdings) (found-ticket us n a.own.asker.holdings called.callee.daemon.kind ok)
       where
-        by_ticket : (t : Option Held) → HeldOk us n t → IsSession us n (presented_by called a.own.asker t nonce).held.session
+        by_ticket : (t : Option Held) → HeldOk us n called.callee.daemon.kind t → IsShownFor us n called.callee (presented_by called a.own.asker t nonce).held
         by_ticket (Some held) h = h
         by_ticket None h = before
 
-    hello-seals : (called : Called) (read : Result Hello BytesFault) → HoldingsOk us n a.own.asker.holdings → IsSession us n called.held.session → Sealed_ (on_hello a called read)
+    hello-seals : (called : Called) (read : Result Hello BytesFault) → HoldingsOk us n a.own.asker.holdings → IsShownFor us n called.callee called.held → Sealed_ (on_hello a called read)
     hello-seals called (Err why) ok before = bytes-seals us J n a why [] tt
     hello-seals called (Ok hello) ok before =
         let p : Presented = presented called a.own.asker (challenge_of a.draw) in
-        let is : IsSession us n p.held.session = presented-session called (challenge_of a.draw) ok before in
+        let is : IsShownFor us n called.callee p.held = presented-session called (challenge_of a.draw) ok before in
         holding-seals us J n a (AwaitsChallenge called.callee p) (Drawn (draw.Nonce p.nonce) ∷ []) (session_sealed p.held.session (authorize_content p.nonce None) ∷ []) (first_frame a.own.asker p)
-        is (tt, tt) (shown-allowed us J n p.held.session p.nonce None is, tt)
+        is (tt, tt) (shown-allowed us J n p.held.session p.nonce None is.0, tt)
 
-    answers-seals : (callee : Callee) (p : Presented) (opened : List SealEntry) (value : Option AuthorizeChallenge) → IsSession us n p.held.session → Allowed us J n opened
+    answers-seals : (callee : Callee) (p : Presented) (opened : List SealEntry) (value : Option AuthorizeChallenge) → IsShownFor us n callee p.held → Allowed us J n opened
         → Sealed_ (answers_challenge a callee p opened value)
     answers-seals callee p opened None is al = refuses-seals us J n a _ opened al
     answers-seals callee p opened (Some asked) is al =
         holding-seals us J n a (AwaitsDone callee (record { session = p.held.session; nonce = p.nonce })) opened
         (session_sealed p.held.session (authorize_content p.nonce (Some asked.challenge)) ∷ []) (second_frame p asked.challenge)
-        is al (shown-allowed us J n p.held.session p.nonce (Some asked.challenge) is, tt)
+        is.0 al (shown-allowed us J n p.held.session p.nonce (Some asked.challenge) is.0, tt)
 
-    challenge-seals : (callee : Callee) (p : Presented) (read : Result shown_challenge.AuthorizeChallenge BytesFault) → IsSession us n p.held.session → Sealed_ (on_challenge a callee p read)
+    challenge-seals : (callee : Callee) (p : Presented) (read : Result shown_challenge.AuthorizeChallenge BytesFault) → IsShownFor us n callee p.held → Sealed_ (on_challenge a callee p read)
     challenge-seals callee p (Err why) is = bytes-seals us J n a why [] tt
     challenge-seals callee p (Ok shown) is =
         let u : Unlocked AuthorizeChallenge = challenge_in p.held.session shown.sealed in
         answers-seals callee p u.seals u.value is (unlocked-allowed run whole_log n line us [] J authorize_challenge_layout.form kind.Session p.held.session shown.sealed)
 
-    reply_more-seals : (callee : Callee) (p : Presented) (read : Result AuthReplyMore BytesFault) → IsSession us n p.held.session → Sealed_ (on_reply_more a callee p read)
+    reply_more-seals : (callee : Callee) (p : Presented) (read : Result AuthReplyMore BytesFault) → IsShownFor us n callee p.held → Sealed_ (on_reply_more a callee p read)
     reply_more-seals callee p (Err why) is = bytes-seals us J n a why [] tt
     reply_more-seals callee p (Ok more) is = challenge-seals callee p (whole shown_layout.authorize_challenge_layout.form more.payload) is
 
@@ -388,19 +414,19 @@ module _ (run : WholeRun) (whole_log : List Logged) (n : NodeName) (line : ℕ) 
     bad_method-seals (Err why) = bytes-seals us J n a why [] tt
     bad_method-seals (Ok fields) = refuses-seals us J n a _ [] tt
 
-    challenged-seals : (callee : Callee) (p : Presented) (f : Frame) → IsSession us n p.held.session → Sealed_ (while_challenged a callee p f)
+    challenged-seals : (callee : Callee) (p : Presented) (f : Frame) → IsShownFor us n callee p.held → Sealed_ (while_challenged a callee p f)
     challenged-seals callee p f is = by_test (f.tag == 3)
       where
         by_test : (denied : Bool) → Sealed_ (if denied then on_bad_method a (payload bad_method_layout.form f) else on_reply_more a callee p (due 4 auth_reply_more_layout.form f))
         by_test true = bad_method-seals (payload bad_method_layout.form f)
         by_test false = reply_more-seals callee p (due 4 auth_reply_more_layout.form f) is
 
-    signs-seals : (callee : Callee) (answered : Answered) (opened : List SealEntry) (made : Result SealedFrame BytesFault) (keys : Keys) → HasConnection us n keys.key → Allowed us J n opened
-        → FrameOk us J n keys made → Sealed_ (signs a callee answered opened made)
+    signs-seals : (callee : Callee) (answered : Answered) (opened : List SealEntry) (made : Result SealedFrame BytesFault) (keys : Keys) → IsRepliedFor us n answered.session keys.key
+        → Allowed us J n opened → FrameOk us J n keys made → Sealed_ (signs a callee answered opened made)
     signs-seals callee answered opened (Err why) keys has al f = bytes-seals us J n a why opened al
     signs-seals callee answered opened (Ok sealed) keys has al f =
         goes-seals us J n a (AwaitsSignature (record { keys = sealed.keys; session = answered.session; covered = a.link.sent }) callee) sealed.bytes (opened ++ sealed.seals)
-        (keyed us J n keys.key sealed.keys.key f.1.key has) (all-append (IsAllowed us J n) opened sealed.seals al f.0)
+        (subst (λ (k : List ℕ). IsRepliedFor us n answered.session k) (sym f.1.key) has) (all-append (IsAllowed us J n) opened sealed.seals al f.0)
 
     -- what opened is granted, whatever comes of it
     opened-granted : (callee : Callee) (answered : Answered) (opened : List SealEntry) (value : Option AuthorizeReply) → Grants (on_unlocked a callee answered opened value).seals → Grants opened
@@ -418,7 +444,7 @@ module _ (run : WholeRun) (whole_log : List Logged) (n : NodeName) (line : ℕ) 
         by_test false g = g
 
     unlocked-seals : (callee : Callee) (answered : Answered) (opened : List SealEntry) (value : Option AuthorizeReply) → IsSession us n answered.session → Allowed us J n opened
-        → ((x : AuthorizeReply) → value ≡ Some x → HasConnection us n (take 16 x.secret)) → Sealed_ (on_unlocked a callee answered opened value)
+        → ((x : AuthorizeReply) → value ≡ Some x → IsRepliedFor us n answered.session (take 16 x.secret)) → Sealed_ (on_unlocked a callee answered opened value)
     unlocked-seals callee answered opened None is al connects = refuses-seals us J n a _ opened al
     unlocked-seals callee answered opened (Some reply) is al connects = by_test (reply.nonce_plus_one == raised answered.nonce)
       where
@@ -427,9 +453,9 @@ module _ (run : WholeRun) (whole_log : List Logged) (n : NodeName) (line : ℕ) 
             else refuses a (reason.Login (login.NonceWrong (raised answered.nonce) reply.nonce_plus_one)) opened)
         by_test true =
             let keys : Keys = connector_keys reply.secret in
-            let has : HasConnection us n keys.key = connects reply refl in
+            let has : IsRepliedFor us n answered.session keys.key = connects reply refl in
             signs-seals callee answered opened (signed_frame keys answered.session (take a.link.taken a.link.received)) keys has al
-            (signing-ok us J n keys answered.session (take a.link.taken a.link.received) (secure_frame keys _) is (frame-ok us J n keys _ (seals-own us n keys has)))
+            (signing-ok us J n keys answered.session (take a.link.taken a.link.received) (secure_frame keys _) is (frame-ok us J n keys _ (seals-own us n keys (replied-connection us n answered.session keys.key has))))
         by_test false = refuses-seals us J n a _ opened al
 
     authorize_reply-seals : (callee : Callee) (answered : Answered) (read : Result shown_reply.AuthorizeReply BytesFault) → IsSession us n answered.session
@@ -505,7 +531,7 @@ module _ (run : WholeRun) (whole_log : List Logged) (n : NodeName) (line : ℕ) 
   call-seals a (AwaitsDone callee answered) ok st = plain-turn (λ l f. while_answered (at a l) callee answered f) a.link (λ l f g. answered-seals (at a l) callee answered f st g)
   call-seals a (AwaitsSignature s callee) ok st =
       secure-turn s.keys (λ l k f. on_signature (at a l) (under s k) callee (due 7 auth_signature_layout.form f)) a.link
-      (λ l k f same. signature-seals us J n (under s k) callee (keyed us J n s.keys.key k.key same.key st) (at a l) (due 7 auth_signature_layout.form f))
+      (λ l k f same. signature-seals us J n (under s k) callee (keyed us J n s.keys.key k.key same.key (replied-connection us n s.session s.keys.key st)) (at a l) (due 7 auth_signature_layout.form f))
   call-seals a (AwaitsIdent s callee cookie) ok st =
       secure-turn s.keys (λ l k f. while_identified (at a l) (under s k) callee cookie f) a.link
       (λ l k f same. identified-seals us J n (under s k) callee (keyed us J n s.keys.key k.key same.key st) (at a l) cookie f)

@@ -14,16 +14,16 @@ use Rattle.cx_journal.specs.declared.faults.BytesFault.{BytesFault}
 use Rattle.cx_journal.specs.declared.outcomes.Reason.{Reason}
 use Rattle.cx_journal.specs.declared.outcomes.Reason.TheVariants as reason
 use Rattle.cx_login.specs.Held.{Held}
-use Rattle.cx_rules.specs.Connector as connector
-use Rattle.cx_rules.specs.Connector.{AskerArrival, AskerRow}
-use Rattle.cx_rules.specs.Greetings.{own_banner}
-use Rattle.cx_rules.specs.Holdings.{Asker}
-use Rattle.cx_rules.specs.Inputs.{Input, Submit}
-use Rattle.cx_rules.specs.Links.{Link, link_of}
-use Rattle.cx_rules.specs.Requests.{Requests, first_open, open_or, request_message, sealed_request, sends_request, unless_unsealed}
-use Rattle.cx_rules.specs.Rows.{Arrival, Outcome, Row, Turned, Waits, Refuses, Handles, arrival, fed, forgotten, goes_on, lifted, new_link, refused_entry, secure_sent}
-use Rattle.cx_rules.specs.Secured.{SealedFrame, Secured, secure_frame}
-use Rattle.cx_rules.specs.declared.requests.Want.TheVariants as want
+use Rattle.cx_laws_login.specs.cx_rules.specs.Connector as connector
+use Rattle.cx_laws_login.specs.cx_rules.specs.Connector.{AskerArrival, AskerRow}
+use Rattle.cx_laws_login.specs.cx_rules.specs.Greetings.{own_banner}
+use Rattle.cx_laws_login.specs.cx_rules.specs.Holdings.{Asker}
+use Rattle.cx_laws_login.specs.cx_rules.specs.Inputs.{Input, Submit}
+use Rattle.cx_laws_login.specs.cx_rules.specs.Links.{Link, link_of}
+use Rattle.cx_laws_login.specs.cx_rules.specs.Requests.{Requests, first_open, open_or, request_message, sealed_request, sends_request, unless_unsealed}
+use Rattle.cx_laws_login.specs.cx_rules.specs.Rows.{Arrival, Outcome, Row, Turned, Waits, Refuses, Handles, arrival, fed, forgotten, goes_on, lifted, new_link, refused_entry, secure_sent}
+use Rattle.cx_laws_login.specs.cx_rules.specs.Secured.{SealedFrame, Secured, secure_frame}
+use Rattle.cx_laws_login.specs.cx_rules.specs.declared.requests.Want.TheVariants as want
 use Rattle.cx_rules_session.specs.ClientRule.{ClientStage, ToMonitor, ToDaemon, Dial, ForLogin, ForCall, WholeClient, WholeClientNode, asking_open, call_open, call_or, caller_to, calls, dial_of, first_call, first_stage, having_session, is_for, is_for_login, is_open, is_to_monitor, logs_in, loses, me, open_to_ask, opens_dialled, own_behind_gone, restarted, sent_entry, undialled, whole_client_rule, with_asker, with_caller}
 use Rattle.cx_rules_session.specs.Kinds.{arrival_in, entered_before, of_kind, row_of_kind, turn_of_kind}
 use Rattle.cx_rules_session.specs.Presenter as call
@@ -37,7 +37,7 @@ use Rattle.cx_wire.specs.declared.bodies.Request.TheVariants as asked
 use Rattle.cx_run.proofs.Taking.{EachRow}
 use Rattle.cx_laws_calling.proofs.Asking.{Holds, HoldsWhere, LinkSessions, asker-holds}
 use Rattle.cx_laws_calling.proofs.CallSeals.{LinkCalls, Seals, TurnSeals, call-seals}
-use Rattle.cx_laws_calling.proofs.Sessions.{CallKeys, ClientStageOk, DialOk, GuestsCome, HeldOk, HoldingsOk, IsLoginKey, IsSession, SessionsIn, client_stage-grows, dial-grows, found-ticket, holdings-grow, stage_sessions-grow}
+use Rattle.cx_laws_calling.proofs.Sessions.{CallKeys, ClientStageOk, DialOk, GuestsCome, HeldOk, HoldingsOk, IsLoginKey, IsShownFor, SessionsIn, client_stage-grows, dial-grows, found-ticket, holdings-grow, stage_sessions-grow}
 use Rattle.cx_run.proofs.CallKeeps.{IsCallEntry, Leaves, call-takes}
 use Rattle.cx_run.proofs.Outcomes.{EachOutcome, IsNoTicket, asker_turn, call_turn, on_link, renewed, sent_in, step-keeps}
 use Rattle.cx_run.specs.Calling.{IsNoCall}
@@ -399,10 +399,10 @@ module _ (run : WholeRun) (whole : List Logged) (n : NodeName) (line : ℕ) (us 
     calls-come : (daemon : Name) (lossy : Bool) → input ≡ Submit (command.Connect daemon lossy) → GuestsCome run
     calls-come daemon lossy is = λ none. subst IsNoCall is (r.comes none)
 
-    held-session : (held : Option Held) (found : Held) → held ≡ Some found → HeldOk us n held → IsSession us n found.session
-    held-session held found is h = subst (λ (o : Option Held). HeldOk us n o) is h
+    held-session : (callee : Callee) (held : Option Held) (found : Held) → held ≡ Some found → HeldOk us n callee.daemon.kind held → IsShownFor us n callee found
+    held-session callee held found is h = subst (λ (o : Option Held). HeldOk us n callee.daemon.kind o) is h
 
-    dials-keeps : (callee : Callee) (held : Held) → IsSession us n held.session → GuestsCome run
+    dials-keeps : (callee : Callee) (held : Held) → IsShownFor us n callee held → GuestsCome run
         → Keeps (calls c (record { callee = callee; held = held; gid = held_gid c.own.asker.holdings }))
     dials-keeps callee held session come g =
         let called : Called = record { callee = callee; held = held; gid = held_gid c.own.asker.holdings } in
@@ -523,7 +523,7 @@ module _ (run : WholeRun) (whole : List Logged) (n : NodeName) (line : ℕ) (us 
           let h = subst (λ (o : Option (Link ClientStage × (Secured × Requests))). IfSome o Asks_) is (found-open c.links r.ok.links) in renews-keeps services link s requests h.0 h.1;
       dials = λ daemon lossy held is of.
           dials-keeps (record { daemon = daemon; lossy = lossy }) held
-          (held-session (ticket_for daemon.kind c.own.asker.holdings) held of (found-ticket us n c.own.asker.holdings daemon.kind r.ok.own.holds)) (calls-come daemon lossy is);
+          (held-session (record { daemon = daemon; lossy = lossy }) (ticket_for daemon.kind c.own.asker.holdings) held of (found-ticket us n c.own.asker.holdings daemon.kind r.ok.own.holds)) (calls-come daemon lossy is);
       sends_later = λ daemon session operation seq of. sends_later-keeps session operation seq (session-come daemon session of);
       sends_there = λ daemon session operation seq link s callee cookie of is.
           sends_there-keeps session operation seq link s callee cookie (session-come daemon session of)

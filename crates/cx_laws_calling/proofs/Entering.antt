@@ -9,14 +9,14 @@ use Rattle.cx_journal.specs.declared.entries.Entry.TheVariants as journal
 use Rattle.cx_journal.specs.declared.faults.BytesFault.{BytesFault}
 use Rattle.cx_journal.specs.declared.outcomes.Reason.TheVariants as reason
 use Rattle.cx_rotate.specs.declared.views.View.{View}
-use Rattle.cx_rules.specs.Connector as connector
-use Rattle.cx_rules.specs.Holdings.{Asker}
-use Rattle.cx_rules.specs.Inputs.{Input}
-use Rattle.cx_rules.specs.Links.{Link}
-use Rattle.cx_rules.specs.Requests.{Requests, request_message, sends_request, unless_unsealed}
-use Rattle.cx_rules.specs.Rows.{Outcome, Turned, Waits, Refuses, Handles, arrival, carried_out, lifted, refused_entry, secure_sent, turns}
-use Rattle.cx_rules.specs.Secured.{SealedFrame, Secured, secure_frame}
-use Rattle.cx_rules.specs.declared.requests.Want.TheVariants as want
+use Rattle.cx_laws_login.specs.cx_rules.specs.Connector as connector
+use Rattle.cx_laws_login.specs.cx_rules.specs.Holdings.{Asker}
+use Rattle.cx_laws_login.specs.cx_rules.specs.Inputs.{Input}
+use Rattle.cx_laws_login.specs.cx_rules.specs.Links.{Link}
+use Rattle.cx_laws_login.specs.cx_rules.specs.Requests.{Requests, request_message, sends_request, unless_unsealed}
+use Rattle.cx_laws_login.specs.cx_rules.specs.Rows.{Outcome, Turned, Waits, Refuses, Handles, arrival, carried_out, lifted, refused_entry, secure_sent, turns}
+use Rattle.cx_laws_login.specs.cx_rules.specs.Secured.{SealedFrame, Secured, secure_frame}
+use Rattle.cx_laws_login.specs.cx_rules.specs.declared.requests.Want.TheVariants as want
 use Rattle.cx_rules_session.specs.ClientRule.{ClientStage, ToMonitor, ToDaemon, WholeClientNode, caller_to, having_session, is_open, loses, me, open_to_ask, own_behind_gone, sent_entry, whole_client_rule, with_asker, with_caller}
 use Rattle.cx_rules_session.specs.Kinds.{arrival_in, entered_before, turn_of_kind}
 use Rattle.cx_rules_session.specs.Presenter as call

@@ -7,22 +7,22 @@ use Rattle.cx_journal.specs.declared.entries.Entry.{Entry}
 use Rattle.cx_journal.specs.declared.entries.Entry.TheVariants as entry
 use Rattle.cx_journal.specs.declared.outcomes.Reason.{Reason}
 use Rattle.cx_journal.specs.declared.outcomes.Reason.TheVariants.{LinksFull, Lost}
-use Rattle.cx_rules.specs.Acceptor.{AwaitsBanner, AwaitsHello, AwaitsRequest, AwaitsProof, AwaitsSignature, AwaitsIdent, Open}
-use Rattle.cx_rules.specs.Connector as connector
-use Rattle.cx_rules.specs.Greetings.{own_banner}
-use Rattle.cx_rules.specs.Holdings.{Asker}
-use Rattle.cx_rules.specs.Inputs.{Input, Opened, NoLink, Bytes, Turn, Gone, Look, Tick, Submit, Restart}
-use Rattle.cx_rules.specs.Links.{Link, link_of}
-use Rattle.cx_rules.specs.Requests.{Requests, first_open, is_outdated, sealed_request, sends_request}
-use Rattle.cx_rules.specs.Rows.{Arrival, Outcome, Turned, Waits, Refuses, Handles, arrival, carried_out, fed, forgotten, goes_on, idles, new_link, refused_entry, refuses, turns}
-use Rattle.cx_rules.specs.Secured.{SealedFrame, Secured}
-use Rattle.cx_rules.specs.declared.requests.Want.{Want}
-use Rattle.cx_rules.specs.declared.requests.Want.TheVariants.{Rotating}
-use Rattle.cx_rules_session.specs.Asks.{Finished, Asking}
-use Rattle.cx_rules_session.specs.DaemonRule.{AsAcceptor, AsConnector, Daemon, DaemonNode, DaemonStage, asking_open, book_after, book_reply, daemon_rule, fetches, fetches_on, gone, gone_by_kind, guest_gone, hosts, is_fetching, lossy_gone, me, moved_to, on_dropped, open_to_ask, opens, opens_own, submits, ticks, turn, turned_at, undialled, unreached, with_asker}
-use Rattle.cx_rules_session.specs.Guests.{GuestStage}
-use Rattle.cx_rules_session.specs.Hosting.{Hosted, guest_turned}
-use Rattle.cx_rules_session.specs.Kinds.{arrival_in, turn_of_kind}
+use Rattle.cx_laws_calling.specs.cx_rules.specs.Acceptor.{AwaitsBanner, AwaitsHello, AwaitsRequest, AwaitsProof, AwaitsSignature, AwaitsIdent, Open}
+use Rattle.cx_laws_calling.specs.cx_rules.specs.Connector as connector
+use Rattle.cx_laws_calling.specs.cx_rules.specs.Greetings.{own_banner}
+use Rattle.cx_laws_calling.specs.cx_rules.specs.Holdings.{Asker}
+use Rattle.cx_laws_calling.specs.cx_rules.specs.Inputs.{Input, Opened, NoLink, Bytes, Turn, Gone, Look, Tick, Submit, Restart}
+use Rattle.cx_laws_calling.specs.cx_rules.specs.Links.{Link, link_of}
+use Rattle.cx_laws_calling.specs.cx_rules.specs.Requests.{Requests, first_open, is_outdated, sealed_request, sends_request}
+use Rattle.cx_laws_calling.specs.cx_rules.specs.Rows.{Arrival, Outcome, Turned, Waits, Refuses, Handles, arrival, carried_out, fed, forgotten, goes_on, idles, new_link, refused_entry, refuses, turns}
+use Rattle.cx_laws_calling.specs.cx_rules.specs.Secured.{SealedFrame, Secured}
+use Rattle.cx_laws_calling.specs.cx_rules.specs.declared.requests.Want.{Want}
+use Rattle.cx_laws_calling.specs.cx_rules.specs.declared.requests.Want.TheVariants.{Rotating}
+use Rattle.cx_laws_calling.specs.cx_rules_session.specs.Asks.{Finished, Asking}
+use Rattle.cx_laws_calling.specs.cx_rules_session.specs.DaemonRule.{AsAcceptor, AsConnector, Daemon, DaemonNode, DaemonStage, asking_open, book_after, book_reply, daemon_rule, fetches, fetches_on, gone, gone_by_kind, guest_gone, hosts, is_fetching, lossy_gone, me, moved_to, on_dropped, open_to_ask, opens, opens_own, submits, ticks, turn, turned_at, undialled, unreached, with_asker}
+use Rattle.cx_laws_calling.specs.cx_rules_session.specs.Guests.{GuestStage}
+use Rattle.cx_laws_calling.specs.cx_rules_session.specs.Hosting.{Hosted, guest_turned}
+use Rattle.cx_laws_calling.specs.cx_rules_session.specs.Kinds.{arrival_in, turn_of_kind}
 use Rattle.cx_session.specs.declared.call.BookCall.TheVariants.{End}
 use Rattle.cx_session.specs.declared.call.BookReply.{BookReply}
 use Rattle.cx_session.specs.declared.call.BookReply.TheVariants as reply
@@ -31,14 +31,14 @@ use Rattle.cx_steps.specs.declared.events.Command.TheVariants as command
 use Rattle.cx_steps.specs.declared.events.Peer.{Peer}
 use Rattle.cx_steps.specs.declared.events.Peer.TheVariants as peer
 use Rattle.cx_wire.specs.declared.bodies.Request.TheVariants as asked
-use Rattle.cx_run.specs.Happenings.{EntityNode, OfClient, OfDaemon, entity_rule}
-use Rattle.cx_run.proofs.GuestTakes.{Always, IssuesNone, StaysGuest, TakesHosted, always-book, always-map, always-weaker, guest-takes}
-use Rattle.cx_run.proofs.Taking.{EachRow}
+use Rattle.cx_laws_calling.specs.cx_run.specs.Happenings.{EntityNode, OfClient, OfDaemon, entity_rule}
+use Rattle.cx_laws_calling.specs.cx_run.proofs.GuestTakes.{Always, IssuesNone, StaysGuest, TakesHosted, always-book, always-map, always-weaker, guest-takes}
+use Rattle.cx_laws_calling.specs.cx_run.proofs.Taking.{EachRow}
 use Rattle.cx_laws_keys.proofs.Journal.{IsNotIssued}
 use Rattle.cx_laws_keys.proofs.Lists.{all-map}
 use Rattle.cx_laws_calling.proofs.Entering.{whole-none}
-use Rattle.cx_laws_login.proofs.NoTickets.{IsOfAsker, RowOfAsker, none-turned}
-use Rattle.cx_laws_login.proofs.Proving.{RowOf}
+use Rattle.cx_laws_calling.specs.cx_laws_login.proofs.NoTickets.{IsOfAsker, RowOfAsker, none-turned}
+use Rattle.cx_laws_calling.specs.cx_laws_login.proofs.Proving.{RowOf}
 
 not-issued : (e : Entry) → IssuesNone e → IsNotIssued e
 not-issued (entry.Issued ticket) h = absurd h

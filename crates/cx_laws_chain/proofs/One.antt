@@ -8,9 +8,9 @@ use Rattle.cx_journal.specs.declared.entries.Entry.TheVariants as journal
 use Rattle.cx_journal.specs.declared.entries.Issued.{Issued}
 use Rattle.cx_keyserver.specs.Issuing.{current_at}
 use Rattle.cx_rotate.specs.declared.generations.Generation.{Generation}
-use Rattle.cx_run.specs.Happenings.{Happening}
-use Rattle.cx_run.specs.Opening.{Setup}
-use Rattle.cx_run.specs.Points.{EachPoint, Point, entries_at, points}
+use Rattle.cx_laws_calling.specs.cx_run.specs.Happenings.{Happening}
+use Rattle.cx_laws_calling.specs.cx_run.specs.Opening.{Setup}
+use Rattle.cx_laws_calling.specs.cx_run.specs.Points.{EachPoint, Point, entries_at, points}
 use Rattle.cx_laws_chain.proofs.Points.{all-chained, spaced-behind}
 use Rattle.cx_laws_chain.specs.Chain.{Added, AreSpaced, BecomesLost, BecomesSaved, Chain, Fate, HasChain, IsChained, IsOne, IsSealedUnder, IsUnderCurrent, KeepsGenerations, StaysInMemory, chain_behind, life_in, saved_past, three_newest}
 

@@ -14,18 +14,18 @@ use Rattle.cx_line_words.specs.declared.choices.LeftState.{LeftState}
 use Rattle.cx_rotate.specs.Rotation.{rotated}
 use Rattle.cx_rotate.specs.declared.generations.Generation.{Generation}
 use Rattle.cx_rotate.specs.declared.states.KeptState.{KeptState}
-use Rattle.cx_rules.specs.Inputs.{Input}
-use Rattle.cx_rules.specs.Monitor.{Monitor}
-use Rattle.cx_run.specs.Happenings.{EntityNode, Happening, Nodes, entity_of, entity_steps, steps}
-use Rattle.cx_run.specs.Opening.{Setup, first_state, nodes_of}
-use Rattle.cx_run.specs.Points.{Point, entries_at, nodes_past, points, points_onto}
+use Rattle.cx_laws_calling.specs.cx_rules.specs.Inputs.{Input}
+use Rattle.cx_laws_calling.specs.cx_rules.specs.Monitor.{Monitor}
+use Rattle.cx_laws_calling.specs.cx_run.specs.Happenings.{EntityNode, Happening, Nodes, entity_of, entity_steps, steps}
+use Rattle.cx_laws_calling.specs.cx_run.specs.Opening.{Setup, first_state, nodes_of}
+use Rattle.cx_laws_calling.specs.cx_run.specs.Points.{Point, entries_at, nodes_past, points, points_onto}
 use Rattle.cx_laws_chain.proofs.Rotating.{AreThree, Rotates, rotates-on}
 use Rattle.cx_laws_chain.proofs.Rows.{AreUnder, StateGoesOn}
 use Rattle.cx_laws_chain.proofs.Steps.{ComesOn, EventBegins, event-goes_on}
 use Rattle.cx_laws_chain.specs.Chain.{Added, AreSpaced, BecomesLost, BecomesSaved, Chain, HasChain, IsAddedAt, IsChained, IsMadeUnder, StaysInMemory, all_in, chain_behind, life_in, no_chain, ring_in, three_newest}
 use Rattle.cx_laws_keys.proofs.Journal.{IsNotIssued}
 use Rattle.cx_laws_chain.proofs.NoDaemonTickets.{entity-none}
-use Rattle.cx_laws_login.proofs.Proving.{none-issued}
+use Rattle.cx_laws_calling.specs.cx_laws_login.proofs.Proving.{none-issued}
 
 -- ---- chains
 

@@ -43,27 +43,27 @@ use Rattle.cx_login.specs.declared.monitor.Reclaim.{Reclaim}
 use Rattle.cx_login.specs.declared.monitor.Reclaim.TheVariants as reclaim
 use Rattle.cx_rotate.specs.declared.generations.Generation.{Generation}
 use Rattle.cx_rotate.specs.declared.states.KeptState.{KeptState}
-use Rattle.cx_rules.proofs.Granting.{saved-changed}
-use Rattle.cx_rules.specs.Acceptor.{AwaitsBanner, AwaitsHello, AwaitsRequest, AwaitsProof, AwaitsSignature, AwaitsIdent, Open, Finished, denies, finished, misses, missing_told, on_auth_request, on_banner, on_hello, on_signature, server_ident}
-use Rattle.cx_rules.specs.Fronts.{banner_next, plain_next, secure_next}
-use Rattle.cx_rules.specs.Greetings.{own_hello}
-use Rattle.cx_rules.specs.KeptStates.{changed, saved_behind}
-use Rattle.cx_rules.specs.Monitor.{Monitor, MonitorArrival, MonitorRow, MonitorStage, Offered}
-use Rattle.cx_rules.specs.MonitorLogin.{challenges, done_frame, hands_over, occasion, on_authenticate, on_login_hello, proves, row_of, with_server}
-use Rattle.cx_rules.specs.MonitorRequests.{heard, on_demand, on_message, on_open, reply_message, request_occasion, responds, sends_reply, serving}
-use Rattle.cx_rules.specs.MonitorRule.{on_auth_request_more, on_client_ident, on_ident, on_request_payload, on_session_reconnect, session_reset, turned_at}
-use Rattle.cx_rules.specs.Payloads.{control, due, payload, whole}
-use Rattle.cx_rules.specs.Replies.{Responded, answers, answers_by, asking_of, issues_tickets, others_for, tells_generations, tells_tickets}
-use Rattle.cx_rules.specs.Rows.{at, goes_on, plain_sent, refuses, refuses_bytes, secure_sent, sends_secure, with_opened}
-use Rattle.cx_rules.specs.Secured.{SealedFrame, Secured, is_signed, plain_frame, secure_frame, signature_found, under}
-use Rattle.cx_rules.specs.Tickets.{issued_entry, issued_for, rotation_drawn, services_for}
-use Rattle.cx_rules.specs.Upkeep.{on_keepalive, on_keepalive_ack}
-use Rattle.cx_rules.specs.Verdicts.{Entrant, Numbered, asking_for, entrant, handed_out, issues, issues_to, key_of, login_entries, numbered, numbers, rotates}
-use Rattle.cx_rules.specs.declared.responses.Bearer.{Bearer}
-use Rattle.cx_rules.specs.declared.responses.Demand.{Demand}
-use Rattle.cx_rules.specs.declared.responses.ReplyMade.{ReplyMade}
-use Rattle.cx_rules.specs.declared.responses.Response.{Response}
-use Rattle.cx_rules.specs.declared.responses.Response.TheVariants as response
+use Rattle.cx_laws_calling.specs.cx_rules.proofs.Granting.{saved-changed}
+use Rattle.cx_laws_calling.specs.cx_rules.specs.Acceptor.{AwaitsBanner, AwaitsHello, AwaitsRequest, AwaitsProof, AwaitsSignature, AwaitsIdent, Open, Finished, denies, finished, misses, missing_told, on_auth_request, on_banner, on_hello, on_signature, server_ident}
+use Rattle.cx_laws_calling.specs.cx_rules.specs.Fronts.{banner_next, plain_next, secure_next}
+use Rattle.cx_laws_calling.specs.cx_rules.specs.Greetings.{own_hello}
+use Rattle.cx_laws_calling.specs.cx_rules.specs.KeptStates.{changed, saved_behind}
+use Rattle.cx_laws_calling.specs.cx_rules.specs.Monitor.{Monitor, MonitorArrival, MonitorRow, MonitorStage, Offered}
+use Rattle.cx_laws_calling.specs.cx_rules.specs.MonitorLogin.{challenges, done_frame, hands_over, occasion, on_authenticate, on_login_hello, proves, row_of, with_server}
+use Rattle.cx_laws_calling.specs.cx_rules.specs.MonitorRequests.{heard, on_demand, on_message, on_open, reply_message, request_occasion, responds, sends_reply, serving}
+use Rattle.cx_laws_calling.specs.cx_rules.specs.MonitorRule.{on_auth_request_more, on_client_ident, on_ident, on_request_payload, on_session_reconnect, session_reset, turned_at}
+use Rattle.cx_laws_calling.specs.cx_rules.specs.Payloads.{control, due, payload, whole}
+use Rattle.cx_laws_calling.specs.cx_rules.specs.Replies.{Responded, answers, answers_by, asking_of, issues_tickets, others_for, tells_generations, tells_tickets}
+use Rattle.cx_laws_calling.specs.cx_rules.specs.Rows.{at, goes_on, plain_sent, refuses, refuses_bytes, secure_sent, sends_secure, with_opened}
+use Rattle.cx_laws_calling.specs.cx_rules.specs.Secured.{SealedFrame, Secured, is_signed, plain_frame, secure_frame, signature_found, under}
+use Rattle.cx_laws_calling.specs.cx_rules.specs.Tickets.{issued_entry, issued_for, rotation_drawn, services_for}
+use Rattle.cx_laws_calling.specs.cx_rules.specs.Upkeep.{on_keepalive, on_keepalive_ack}
+use Rattle.cx_laws_calling.specs.cx_rules.specs.Verdicts.{Entrant, Numbered, asking_for, entrant, handed_out, issues, issues_to, key_of, login_entries, numbered, numbers, rotates}
+use Rattle.cx_laws_calling.specs.cx_rules.specs.declared.responses.Bearer.{Bearer}
+use Rattle.cx_laws_calling.specs.cx_rules.specs.declared.responses.Demand.{Demand}
+use Rattle.cx_laws_calling.specs.cx_rules.specs.declared.responses.ReplyMade.{ReplyMade}
+use Rattle.cx_laws_calling.specs.cx_rules.specs.declared.responses.Response.{Response}
+use Rattle.cx_laws_calling.specs.cx_rules.specs.declared.responses.Response.TheVariants as response
 use Rattle.cx_steps.specs.declared.seals.DrawMark.TheVariants as draw
 use Rattle.cx_steps.specs.declared.seals.SealEntry.{SealEntry}
 use Rattle.cx_steps.specs.declared.seals.SealEntry.TheVariants.{Drawn}
@@ -75,9 +75,9 @@ use Rattle.cx_wire.specs.declared.logins.LoginHello.{LoginHello}
 use Rattle.cx_laws_chain.specs.Chain.{IsMadeUnder}
 use Rattle.cx_laws_keys.proofs.Journal.{IsNotIssued}
 use Rattle.cx_laws_keys.proofs.Lists.{all-map, all-of-map}
-use Rattle.cx_laws_login.proofs.Entering.{issued_of}
-use Rattle.cx_laws_login.proofs.Proving.{RowOf, by-front, of-login}
-use Rattle.cx_laws_login.proofs.Under.{AreOfCurrent, IsOfCurrent, all-under}
+use Rattle.cx_laws_calling.specs.cx_laws_login.proofs.Entering.{issued_of}
+use Rattle.cx_laws_calling.specs.cx_laws_login.proofs.Proving.{RowOf, by-front, of-login}
+use Rattle.cx_laws_calling.specs.cx_laws_login.proofs.Under.{AreOfCurrent, IsOfCurrent, all-under}
 
 -- ---- states
 

@@ -8,17 +8,17 @@ use Rattle.cx_journal.specs.declared.outcomes.Reason.TheVariants.{LinksFull}
 use Rattle.cx_line_words.specs.declared.choices.LeftState.{LeftState}
 use Rattle.cx_line_words.specs.declared.choices.LeftState.TheVariants as left
 use Rattle.cx_rotate.specs.declared.states.KeptState.{KeptState}
-use Rattle.cx_rules.specs.Acceptor.{AwaitsBanner}
-use Rattle.cx_rules.specs.Greetings.{own_banner}
-use Rattle.cx_rules.specs.Inputs.{Input, Opened, NoLink, Bytes, Turn, Gone, Look, Tick, Submit, Restart}
-use Rattle.cx_rules.specs.Links.{Link, link_of}
-use Rattle.cx_rules.specs.Monitor.{Monitor, MonitorArrival, MonitorNode, MonitorStage}
-use Rattle.cx_rules.specs.MonitorRule.{monitor_rule, monitor_step, noted, opens, turn, turned_at}
-use Rattle.cx_rules.specs.Rows.{Outcome, Turned, Waits, Refuses, Handles, arrival, carried_out, fed, goes_on, new_link, refuses, turns}
-use Rattle.cx_run.specs.Happenings.{Nodes, monitor_steps}
+use Rattle.cx_laws_calling.specs.cx_rules.specs.Acceptor.{AwaitsBanner}
+use Rattle.cx_laws_calling.specs.cx_rules.specs.Greetings.{own_banner}
+use Rattle.cx_laws_calling.specs.cx_rules.specs.Inputs.{Input, Opened, NoLink, Bytes, Turn, Gone, Look, Tick, Submit, Restart}
+use Rattle.cx_laws_calling.specs.cx_rules.specs.Links.{Link, link_of}
+use Rattle.cx_laws_calling.specs.cx_rules.specs.Monitor.{Monitor, MonitorArrival, MonitorNode, MonitorStage}
+use Rattle.cx_laws_calling.specs.cx_rules.specs.MonitorRule.{monitor_rule, monitor_step, noted, opens, turn, turned_at}
+use Rattle.cx_laws_calling.specs.cx_rules.specs.Rows.{Outcome, Turned, Waits, Refuses, Handles, arrival, carried_out, fed, goes_on, new_link, refuses, turns}
+use Rattle.cx_laws_calling.specs.cx_run.specs.Happenings.{Nodes, monitor_steps}
 use Rattle.cx_laws_chain.proofs.Rows.{AreUnder, GoesOn, IsBare, IsOfMonitor, RowGoesOn, StateGoesOn, still-goes_on, turned-row}
 use Rattle.cx_laws_keys.proofs.Journal.{IsNotIssued}
-use Rattle.cx_laws_login.proofs.Proving.{RowOf, none-issued}
+use Rattle.cx_laws_calling.specs.cx_laws_login.proofs.Proving.{RowOf, none-issued}
 
 -- ---- steps
 

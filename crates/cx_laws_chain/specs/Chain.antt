@@ -14,9 +14,9 @@ use Rattle.cx_keyserver.specs.Issuing.{caps_for, current_at}
 use Rattle.cx_keyserver.specs.Servers.{generations_of, life_of}
 use Rattle.cx_rotate.specs.Rotation.{rotated}
 use Rattle.cx_rotate.specs.declared.generations.Generation.{Generation}
-use Rattle.cx_run.specs.Happenings.{Happening}
-use Rattle.cx_run.specs.Opening.{Setup, first_state, principal_of}
-use Rattle.cx_run.specs.Points.{EachPoint, Point, entries_at, nodes_past, points}
+use Rattle.cx_laws_calling.specs.cx_run.specs.Happenings.{Happening}
+use Rattle.cx_laws_calling.specs.cx_run.specs.Opening.{Setup, first_state, principal_of}
+use Rattle.cx_laws_calling.specs.cx_run.specs.Points.{EachPoint, Point, entries_at, nodes_past, points}
 use Rattle.cx_sealed.specs.Records.{service_ticket_layout}
 use Rattle.cx_sealed.specs.declared.service_ticket.ServiceTicket.{ServiceTicket}
 

@@ -2,8 +2,8 @@
 
 ghost use Rattle.std.specs.Prelude.{List};
 ghost use Rattle.cx_laws_chain.specs.Chain.{KeepsGenerations};
-ghost use Rattle.cx_run.specs.Happenings.{Happening};
-ghost use Rattle.cx_run.specs.Opening.{Setup};
+ghost use Rattle.cx_laws_calling.specs.cx_run.specs.Happenings.{Happening};
+ghost use Rattle.cx_laws_calling.specs.cx_run.specs.Opening.{Setup};
 
 /// Of every list of events, from every opening, whatever is delivered, lost, repeated, forged or cut, restarted, or failed at a save: the generations of
 /// each service are one growing list, of which the monitor's saved state holds the three newest of those that were ever saved, and its memory

@@ -15,10 +15,10 @@ use Rattle.cx_journal.specs.declared.entries.Issued.{Issued}
 use Rattle.cx_journal.specs.declared.entries.Looked.{Looked}
 use Rattle.cx_rotate.specs.Keeping.{IsLife}
 use Rattle.cx_rotate.specs.declared.generations.Generation.{Generation}
-use Rattle.cx_run.proofs.PointsTell.{journal-told}
-use Rattle.cx_run.specs.Happenings.{Happening, Nodes, steps}
-use Rattle.cx_run.specs.Opening.{Setup, first_state, nodes_of}
-use Rattle.cx_run.specs.Points.{Before, EachPoint, Point, WasEntered, entries_at, journal_since, points, points_onto}
+use Rattle.cx_laws_authorize.specs.cx_run.proofs.PointsTell.{journal-told}
+use Rattle.cx_laws_authorize.specs.cx_run.specs.Happenings.{Happening, Nodes, steps}
+use Rattle.cx_laws_authorize.specs.cx_run.specs.Opening.{Setup, first_state, nodes_of}
+use Rattle.cx_laws_authorize.specs.cx_run.specs.Points.{Before, EachPoint, Point, WasEntered, entries_at, journal_since, points, points_onto}
 use Rattle.cx_laws_chain.proofs.Points.{spaced-behind}
 use Rattle.cx_laws_chain.specs.Chain.{AreSpaced, Chain, HasChain, IsChained, KeepsGenerations, life_in}
 use Rattle.cx_laws_keys.proofs.Uses.{Extends}

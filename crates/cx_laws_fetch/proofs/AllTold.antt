@@ -12,24 +12,24 @@ use Rattle.cx_frame.specs.Frames.{frame_text}
 use Rattle.cx_frame.specs.declared.frame.Frame.{Frame}
 use Rattle.cx_line_words.specs.declared.choices.LeftState.{LeftState}
 use Rattle.cx_rotate.specs.declared.states.KeptState.{KeptState}
-use Rattle.cx_rules_session.specs.ClientRule.{WholeClientNode, opening_whole_client, whole_client_rule}
-use Rattle.cx_rules_session.specs.DaemonRule.{AsConnector, DaemonStage, DaemonState, daemon_step}
-use Rattle.cx_rules_session.specs.cx_rules.specs.Connector as connector
-use Rattle.cx_rules_session.specs.cx_rules.specs.Judged.{LogsDraw}
-use Rattle.cx_rules_session.specs.cx_rules.specs.Links.{Link, link_of}
-use Rattle.cx_rules_session.specs.cx_rules.specs.Monitor.{MonitorNode}
-use Rattle.cx_rules_session.specs.cx_rules.specs.MonitorRule.{monitor_rule}
-use Rattle.cx_rules_session.specs.cx_rules.specs.Requests.{Requests}
-use Rattle.cx_rules_session.specs.cx_rules.specs.Rows.{Outcome, piece}
-use Rattle.cx_rules_session.specs.cx_rules.specs.Secured.{Secured}
-use Rattle.cx_rules_session.specs.cx_rules.specs.cx_steps.specs.declared.effects.Effects.{Effects}
-use Rattle.cx_rules_session.specs.cx_rules.specs.cx_steps.specs.declared.seals.DrawMark.TheVariants as draw
-use Rattle.cx_run.proofs.ClientKept.{whole-named}
-use Rattle.cx_run.proofs.DaemonNamed.{daemon-named}
-use Rattle.cx_run.proofs.PointsTell.{each-map}
-use Rattle.cx_run.specs.Happenings.{EntityNode, OfClient, OfDaemon, Happening, Nodes, Stepped, asker_in, entity_of, entity_rule, entity_steps, is_of, monitor_steps, steps, steps_of}
-use Rattle.cx_run.specs.Opening.{Declared, Setup, asker_of, daemon_opening, entity_in, nodes_of}
-use Rattle.cx_run.specs.Points.{Before, EachPoint, Point, points, points_onto, seals_at, stepped_at}
+use Rattle.cx_laws_authorize.specs.cx_rules_session.specs.ClientRule.{WholeClientNode, opening_whole_client, whole_client_rule}
+use Rattle.cx_laws_authorize.specs.cx_rules_session.specs.DaemonRule.{AsConnector, DaemonStage, DaemonState, daemon_step}
+use Rattle.cx_laws_authorize.specs.cx_rules_session.specs.cx_rules.specs.Connector as connector
+use Rattle.cx_laws_authorize.specs.cx_rules_session.specs.cx_rules.specs.Judged.{LogsDraw}
+use Rattle.cx_laws_authorize.specs.cx_rules_session.specs.cx_rules.specs.Links.{Link, link_of}
+use Rattle.cx_laws_authorize.specs.cx_rules_session.specs.cx_rules.specs.Monitor.{MonitorNode}
+use Rattle.cx_laws_authorize.specs.cx_rules_session.specs.cx_rules.specs.MonitorRule.{monitor_rule}
+use Rattle.cx_laws_authorize.specs.cx_rules_session.specs.cx_rules.specs.Requests.{Requests}
+use Rattle.cx_laws_authorize.specs.cx_rules_session.specs.cx_rules.specs.Rows.{Outcome, piece}
+use Rattle.cx_laws_authorize.specs.cx_rules_session.specs.cx_rules.specs.Secured.{Secured}
+use Rattle.cx_laws_authorize.specs.cx_rules_session.specs.cx_rules.specs.cx_steps.specs.declared.effects.Effects.{Effects}
+use Rattle.cx_laws_authorize.specs.cx_rules_session.specs.cx_rules.specs.cx_steps.specs.declared.seals.DrawMark.TheVariants as draw
+use Rattle.cx_laws_authorize.specs.cx_run.proofs.ClientKept.{whole-named}
+use Rattle.cx_laws_authorize.specs.cx_run.proofs.DaemonNamed.{daemon-named}
+use Rattle.cx_laws_authorize.specs.cx_run.proofs.PointsTell.{each-map}
+use Rattle.cx_laws_authorize.specs.cx_run.specs.Happenings.{EntityNode, OfClient, OfDaemon, Happening, Nodes, Stepped, asker_in, entity_of, entity_rule, entity_steps, is_of, monitor_steps, steps, steps_of}
+use Rattle.cx_laws_authorize.specs.cx_run.specs.Opening.{Declared, Setup, asker_of, daemon_opening, entity_in, nodes_of}
+use Rattle.cx_laws_authorize.specs.cx_run.specs.Points.{Before, EachPoint, Point, points, points_onto, seals_at, stepped_at}
 use Rattle.cx_laws_keys.proofs.Lists.{all-map, found_all, found_passes}
 use Rattle.cx_laws_fetch.proofs.AskerFacts.{AreAskedAt, AskedBehind, DrewBehind, StageTold}
 use Rattle.cx_laws_fetch.proofs.ClientTells.{ClientLinkTold, client-map, client-tells}
@@ -148,7 +148,7 @@ module _ (past : List Point) (nodes : Nodes) (h : Happening) where
   same-entities o None saved = refl
   same-entities o (Some left) None = refl
 
-  node-told : (n : NodeName) → h.node ≡ n → AllTold past nodes.entities → AllTold (point ∷ past) (steps_of nodes h n).nodes.entities
+  pub node-told : (n : NodeName) → h.node ≡ n → AllTold past nodes.entities → AllTold (point ∷ past) (steps_of nodes h n).nodes.entities
   node-told node.Monitor here told =
       let o : Outcome MonitorNode = monitor_rule nodes.monitor h.input h.reading h.draw in
       subst (λ (entities : List EntityNode). AllTold (point ∷ past) entities) (sym (same-entities o h.left o.out.save)) (all-stay past point nodes.entities told)
@@ -166,7 +166,7 @@ told-onto (h ∷ hs) past nodes told each =
     told-onto hs (record { nodes = nodes; happening = h } ∷ past) (steps nodes h).nodes (node-told past nodes h h.node refl told) (told, each)
 
 -- no link lives at first
-first-told : (es : List Declared) → AllTold [] (map entity_in es)
+pub first-told : (es : List Declared) → AllTold [] (map entity_in es)
 first-told [] = tt
 first-told (e ∷ es) = (by_kind (is_daemon_type e.name.kind), first-told es)
   where

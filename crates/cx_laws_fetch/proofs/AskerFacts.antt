@@ -6,21 +6,21 @@ use Rattle.cx_base.specs.declared.kinds.EntityType.{EntityType}
 use Rattle.cx_dice.specs.Draws.{challenge_of}
 use Rattle.cx_frame.specs.Frames.{frame_text}
 use Rattle.cx_frame.specs.declared.frame.Frame.{Frame}
-use Rattle.cx_rules_session.specs.cx_rules.specs.Connector.{Stage, AwaitsBanner, AwaitsHello, AwaitsChallenge, AwaitsDone, AwaitsSignature, AwaitsIdent, Open, kept_open, login_request}
-use Rattle.cx_rules_session.specs.cx_rules.specs.Greetings.{own_banner, own_hello}
-use Rattle.cx_rules_session.specs.cx_rules.specs.Holdings.{Asker}
-use Rattle.cx_rules_session.specs.cx_rules.specs.Judged.{LogsDraw}
-use Rattle.cx_rules_session.specs.cx_rules.specs.Links.{Link}
-use Rattle.cx_rules_session.specs.cx_rules.specs.Requests.{Requests, behind_request, first_open, later, open_or, taken}
-use Rattle.cx_rules_session.specs.cx_rules.specs.Rows.{piece}
-use Rattle.cx_rules_session.specs.cx_rules.specs.Secured.{Keys, Secured, under}
-use Rattle.cx_rules_session.specs.cx_rules.specs.declared.requests.Waiting.{Waiting}
-use Rattle.cx_rules_session.specs.cx_rules.specs.declared.requests.Want.{Want}
-use Rattle.cx_rules_session.specs.cx_rules.specs.declared.requests.Want.TheVariants.{Tickets, Rotating}
-use Rattle.cx_rules_session.specs.cx_rules.specs.cx_login.specs.Client.{Ask}
-use Rattle.cx_rules_session.specs.cx_rules.specs.cx_steps.specs.declared.effects.Effects.{Effects}
-use Rattle.cx_rules_session.specs.cx_rules.specs.cx_steps.specs.declared.seals.DrawMark.TheVariants as draw
-use Rattle.cx_rules_session.specs.cx_rules.specs.cx_steps.specs.declared.seals.SealEntry.{SealEntry}
+use Rattle.cx_laws_authorize.specs.cx_rules_session.specs.cx_rules.specs.Connector.{Stage, AwaitsBanner, AwaitsHello, AwaitsChallenge, AwaitsDone, AwaitsSignature, AwaitsIdent, Open, kept_open, login_request}
+use Rattle.cx_laws_authorize.specs.cx_rules_session.specs.cx_rules.specs.Greetings.{own_banner, own_hello}
+use Rattle.cx_laws_authorize.specs.cx_rules_session.specs.cx_rules.specs.Holdings.{Asker}
+use Rattle.cx_laws_authorize.specs.cx_rules_session.specs.cx_rules.specs.Judged.{LogsDraw}
+use Rattle.cx_laws_authorize.specs.cx_rules_session.specs.cx_rules.specs.Links.{Link}
+use Rattle.cx_laws_authorize.specs.cx_rules_session.specs.cx_rules.specs.Requests.{Requests, behind_request, first_open, later, open_or, taken}
+use Rattle.cx_laws_authorize.specs.cx_rules_session.specs.cx_rules.specs.Rows.{piece}
+use Rattle.cx_laws_authorize.specs.cx_rules_session.specs.cx_rules.specs.Secured.{Keys, Secured, under}
+use Rattle.cx_laws_authorize.specs.cx_rules_session.specs.cx_rules.specs.declared.requests.Waiting.{Waiting}
+use Rattle.cx_laws_authorize.specs.cx_rules_session.specs.cx_rules.specs.declared.requests.Want.{Want}
+use Rattle.cx_laws_authorize.specs.cx_rules_session.specs.cx_rules.specs.declared.requests.Want.TheVariants.{Tickets, Rotating}
+use Rattle.cx_laws_authorize.specs.cx_rules_session.specs.cx_rules.specs.cx_login.specs.Client.{Ask}
+use Rattle.cx_laws_authorize.specs.cx_rules_session.specs.cx_rules.specs.cx_steps.specs.declared.effects.Effects.{Effects}
+use Rattle.cx_laws_authorize.specs.cx_rules_session.specs.cx_rules.specs.cx_steps.specs.declared.seals.DrawMark.TheVariants as draw
+use Rattle.cx_laws_authorize.specs.cx_rules_session.specs.cx_rules.specs.cx_steps.specs.declared.seals.SealEntry.{SealEntry}
 use Rattle.cx_stream.specs.PlainStreams.{plain_frame_at}
 use Rattle.cx_laws_keys.proofs.Lists.{all-append, all-map, map-append}
 use Rattle.cx_laws_fetch.proofs.Banners.{IsRead, read-frame, read-grows}
@@ -37,7 +37,7 @@ pub record HasHeard (received : List ℕ) (taken : ℕ) (tags : List ℕ) : Type
   pub read : IsRead received frames taken
   pub tags_are : map tag_of frames ≡ tags
 
-heard-grows : (received more : List ℕ) (taken : ℕ) (tags : List ℕ) → HasHeard received taken tags → HasHeard (received ++ more) taken tags
+pub heard-grows : (received more : List ℕ) (taken : ℕ) (tags : List ℕ) → HasHeard received taken tags → HasHeard (received ++ more) taken tags
 heard-grows received more taken tags h = record { frames = h.frames; read = read-grows received more h.frames taken h.read; tags_are = h.tags_are }
 
 -- one frame more was read, of whatever tag
@@ -126,7 +126,7 @@ told-grows D A received more taken sent (Open s requests) h = h
 
 -- what is said of challenges and of readings may be said otherwise
 module _ (D E : ℕ → Frame → Type 0) (A B : ℕ → Type 0) (drew : (challenge : ℕ) (f : Frame) → D challenge f → E challenge f) (asking : (reading : ℕ) → A reading → B reading) where
-  answered-map : (bytes : List ℕ) → HasAnswered D bytes → HasAnswered E bytes
+  pub answered-map : (bytes : List ℕ) → HasAnswered D bytes → HasAnswered E bytes
   answered-map bytes h = record {
     kind = h.kind;
     asker = h.asker;

@@ -24,32 +24,32 @@ use Rattle.cx_journal.specs.declared.faults.BytesFault.{BytesFault}
 use Rattle.cx_journal.specs.declared.faults.LoginFault.TheVariants.{Mode, SignatureWrong}
 use Rattle.cx_journal.specs.declared.outcomes.Reason.{Reason}
 use Rattle.cx_journal.specs.declared.outcomes.Reason.TheVariants as reason
-use Rattle.cx_rules_session.specs.cx_rules.specs.Connector.{AskerArrival, AskerRow, Login, Stage, AwaitsBanner, AwaitsHello, AwaitsChallenge, AwaitsDone, AwaitsSignature, AwaitsIdent, Open, client_ident, holding, identifies, login_request, on_bad_method, on_banner, on_challenge, on_done, on_hello, on_login_done, on_missing_features, on_opened, on_reply_more, on_signature, proves, signs, turned_at, while_challenged, while_identified, while_proved}
-use Rattle.cx_rules_session.specs.cx_rules.specs.Fronts.{keys_behind, taking}
-use Rattle.cx_rules_session.specs.cx_rules.specs.Greetings.{own_hello}
-use Rattle.cx_rules_session.specs.cx_rules.specs.Holdings.{Asker, held_login, unexpired}
-use Rattle.cx_rules_session.specs.cx_rules.specs.Links.{Link}
-use Rattle.cx_rules_session.specs.cx_rules.specs.Payloads.{due, payload, whole}
-use Rattle.cx_rules_session.specs.cx_rules.specs.Requests.{Requests, asks_rotating, no_requests, on_open, on_reply, on_server_ident, opens_to, sealed_request, sends_request, taken, takes}
-use Rattle.cx_rules_session.specs.cx_rules.specs.Rows.{at, goes_on, plain_sent, refuses, secure_sent, with_opened}
-use Rattle.cx_rules_session.specs.cx_rules.specs.Secured.{SealedFrame, Secured, connector_keys, is_signed, plain_frame, secure_frame, signature_found, signed_frame, under}
-use Rattle.cx_rules_session.specs.cx_rules.specs.Upkeep.{on_keepalive, on_keepalive_ack}
-use Rattle.cx_rules_session.specs.cx_rules.specs.declared.requests.Taken.{Taken}
-use Rattle.cx_rules_session.specs.cx_rules.specs.declared.requests.Taken.TheVariants as reply
-use Rattle.cx_rules_session.specs.cx_rules.specs.declared.requests.Waiting.{Waiting}
-use Rattle.cx_rules_session.specs.cx_rules.specs.declared.requests.Want.{Want}
-use Rattle.cx_rules_session.specs.cx_rules.specs.declared.requests.Want.TheVariants.{Rotating}
-use Rattle.cx_rules_session.specs.cx_rules.specs.cx_login.specs.Client.{Ask}
-use Rattle.cx_rules_session.specs.cx_rules.specs.cx_login.specs.Unlocking.{login_in}
-use Rattle.cx_rules_session.specs.cx_rules.specs.cx_login.specs.declared.client.LoggedIn.{LoggedIn}
-use Rattle.cx_rules_session.specs.cx_rules.specs.cx_steps.specs.declared.seals.DrawMark.TheVariants as draw
-use Rattle.cx_rules_session.specs.cx_rules.specs.cx_steps.specs.declared.seals.SealEntry.{SealEntry}
-use Rattle.cx_rules_session.specs.cx_rules.specs.cx_steps.specs.declared.seals.SealEntry.TheVariants.{Drawn}
+use Rattle.cx_laws_authorize.specs.cx_rules_session.specs.cx_rules.specs.Connector.{AskerArrival, AskerRow, Login, Stage, AwaitsBanner, AwaitsHello, AwaitsChallenge, AwaitsDone, AwaitsSignature, AwaitsIdent, Open, client_ident, holding, identifies, login_request, on_bad_method, on_banner, on_challenge, on_done, on_hello, on_login_done, on_missing_features, on_opened, on_reply_more, on_signature, proves, signs, turned_at, while_challenged, while_identified, while_proved}
+use Rattle.cx_laws_authorize.specs.cx_rules_session.specs.cx_rules.specs.Fronts.{keys_behind, taking}
+use Rattle.cx_laws_authorize.specs.cx_rules_session.specs.cx_rules.specs.Greetings.{own_hello}
+use Rattle.cx_laws_authorize.specs.cx_rules_session.specs.cx_rules.specs.Holdings.{Asker, held_login, unexpired}
+use Rattle.cx_laws_authorize.specs.cx_rules_session.specs.cx_rules.specs.Links.{Link}
+use Rattle.cx_laws_authorize.specs.cx_rules_session.specs.cx_rules.specs.Payloads.{due, payload, whole}
+use Rattle.cx_laws_authorize.specs.cx_rules_session.specs.cx_rules.specs.Requests.{Requests, asks_rotating, no_requests, on_open, on_reply, on_server_ident, opens_to, sealed_request, sends_request, taken, takes}
+use Rattle.cx_laws_authorize.specs.cx_rules_session.specs.cx_rules.specs.Rows.{at, goes_on, plain_sent, refuses, secure_sent, with_opened}
+use Rattle.cx_laws_authorize.specs.cx_rules_session.specs.cx_rules.specs.Secured.{SealedFrame, Secured, connector_keys, is_signed, plain_frame, secure_frame, signature_found, signed_frame, under}
+use Rattle.cx_laws_authorize.specs.cx_rules_session.specs.cx_rules.specs.Upkeep.{on_keepalive, on_keepalive_ack}
+use Rattle.cx_laws_authorize.specs.cx_rules_session.specs.cx_rules.specs.declared.requests.Taken.{Taken}
+use Rattle.cx_laws_authorize.specs.cx_rules_session.specs.cx_rules.specs.declared.requests.Taken.TheVariants as reply
+use Rattle.cx_laws_authorize.specs.cx_rules_session.specs.cx_rules.specs.declared.requests.Waiting.{Waiting}
+use Rattle.cx_laws_authorize.specs.cx_rules_session.specs.cx_rules.specs.declared.requests.Want.{Want}
+use Rattle.cx_laws_authorize.specs.cx_rules_session.specs.cx_rules.specs.declared.requests.Want.TheVariants.{Rotating}
+use Rattle.cx_laws_authorize.specs.cx_rules_session.specs.cx_rules.specs.cx_login.specs.Client.{Ask}
+use Rattle.cx_laws_authorize.specs.cx_rules_session.specs.cx_rules.specs.cx_login.specs.Unlocking.{login_in}
+use Rattle.cx_laws_authorize.specs.cx_rules_session.specs.cx_rules.specs.cx_login.specs.declared.client.LoggedIn.{LoggedIn}
+use Rattle.cx_laws_authorize.specs.cx_rules_session.specs.cx_rules.specs.cx_steps.specs.declared.seals.DrawMark.TheVariants as draw
+use Rattle.cx_laws_authorize.specs.cx_rules_session.specs.cx_rules.specs.cx_steps.specs.declared.seals.SealEntry.{SealEntry}
+use Rattle.cx_laws_authorize.specs.cx_rules_session.specs.cx_rules.specs.cx_steps.specs.declared.seals.SealEntry.TheVariants.{Drawn}
 use Rattle.cx_wire.specs.Logins.{login_done_layout, server_challenge_layout}
 use Rattle.cx_wire.specs.declared.bodies.Request.TheVariants as asked
 use Rattle.cx_wire.specs.declared.logins.LoginDone.{LoginDone}
 use Rattle.cx_wire.specs.declared.logins.ServerChallenge.{ServerChallenge}
-use Rattle.cx_run.proofs.Taking.{EachRow}
+use Rattle.cx_laws_authorize.specs.cx_run.proofs.Taking.{EachRow}
 use Rattle.cx_laws_keys.proofs.Lists.{all-append}
 use Rattle.cx_laws_fetch.proofs.Banners.{IsRead, read-banner}
 use Rattle.cx_laws_fetch.proofs.Turns.{banner-each, plain-each, secure-each}

@@ -7,28 +7,28 @@ use Rattle.cx_base.specs.declared.operations.Operation.{Operation}
 use Rattle.cx_frame.specs.declared.frame.Frame.{Frame}
 use Rattle.cx_journal.specs.declared.faults.BytesFault.{BytesFault}
 use Rattle.cx_journal.specs.declared.outcomes.Reason.{Reason}
-use Rattle.cx_rules_session.specs.ClientRule.{ClientStage, ToMonitor, ToDaemon, Dial, ForLogin, ForCall, WholeClientNode, asking_open, caller_to, calls, first_stage, having_session, is_to_monitor, logs_in, loses, me, open_to_ask, opens_dialled, refuses_command, sent_entry, unreached, whole_client_rule, with_asker, with_caller}
-use Rattle.cx_rules_session.specs.Kinds.{arrival_in, entered_before, of_kind, row_of_kind, turn_of_kind}
-use Rattle.cx_rules_session.specs.Presenter as call
-use Rattle.cx_rules_session.specs.Presenter.{CallStage, Caller, callee_of}
-use Rattle.cx_rules_session.specs.Sessions.{Callee, HeldSession, held_gid, operation_message}
-use Rattle.cx_rules_session.specs.cx_rules.specs.Connector as connector
-use Rattle.cx_rules_session.specs.cx_rules.specs.Connector.{AskerArrival, AskerRow}
-use Rattle.cx_rules_session.specs.cx_rules.specs.Greetings.{own_banner}
-use Rattle.cx_rules_session.specs.cx_rules.specs.Holdings.{Asker}
-use Rattle.cx_rules_session.specs.cx_rules.specs.Inputs.{Input}
-use Rattle.cx_rules_session.specs.cx_rules.specs.Links.{Link, link_of, without_link}
-use Rattle.cx_rules_session.specs.cx_rules.specs.Requests.{Requests, behind_request, first_open, sealed_request, sends_request}
-use Rattle.cx_rules_session.specs.cx_rules.specs.Rows.{Outcome, Turned, Waits, Refuses, Handles, arrival, carried_out, fed, lifted, refuses_bytes, secure_sent, turns}
-use Rattle.cx_rules_session.specs.cx_rules.specs.Secured.{SealedFrame, Secured, secure_frame, under}
-use Rattle.cx_rules_session.specs.cx_rules.specs.declared.requests.Want.TheVariants.{Tickets}
-use Rattle.cx_rules_session.specs.cx_rules.specs.cx_steps.specs.Nothing.{nothing}
-use Rattle.cx_rules_session.specs.cx_rules.specs.cx_steps.specs.declared.effects.Effects.{Effects}
-use Rattle.cx_rules_session.specs.cx_rules.specs.cx_steps.specs.declared.events.Peer.{Peer}
+use Rattle.cx_laws_authorize.specs.cx_rules_session.specs.ClientRule.{ClientStage, ToMonitor, ToDaemon, Dial, ForLogin, ForCall, WholeClientNode, asking_open, caller_to, calls, first_stage, having_session, is_to_monitor, logs_in, loses, me, open_to_ask, opens_dialled, refuses_command, sent_entry, unreached, whole_client_rule, with_asker, with_caller}
+use Rattle.cx_laws_authorize.specs.cx_rules_session.specs.Kinds.{arrival_in, entered_before, of_kind, row_of_kind, turn_of_kind}
+use Rattle.cx_laws_authorize.specs.cx_rules_session.specs.Presenter as call
+use Rattle.cx_laws_authorize.specs.cx_rules_session.specs.Presenter.{CallStage, Caller, callee_of}
+use Rattle.cx_laws_authorize.specs.cx_rules_session.specs.Sessions.{Callee, HeldSession, held_gid, operation_message}
+use Rattle.cx_laws_authorize.specs.cx_rules_session.specs.cx_rules.specs.Connector as connector
+use Rattle.cx_laws_authorize.specs.cx_rules_session.specs.cx_rules.specs.Connector.{AskerArrival, AskerRow}
+use Rattle.cx_laws_authorize.specs.cx_rules_session.specs.cx_rules.specs.Greetings.{own_banner}
+use Rattle.cx_laws_authorize.specs.cx_rules_session.specs.cx_rules.specs.Holdings.{Asker}
+use Rattle.cx_laws_authorize.specs.cx_rules_session.specs.cx_rules.specs.Inputs.{Input}
+use Rattle.cx_laws_authorize.specs.cx_rules_session.specs.cx_rules.specs.Links.{Link, link_of, without_link}
+use Rattle.cx_laws_authorize.specs.cx_rules_session.specs.cx_rules.specs.Requests.{Requests, behind_request, first_open, sealed_request, sends_request}
+use Rattle.cx_laws_authorize.specs.cx_rules_session.specs.cx_rules.specs.Rows.{Outcome, Turned, Waits, Refuses, Handles, arrival, carried_out, fed, lifted, refuses_bytes, secure_sent, turns}
+use Rattle.cx_laws_authorize.specs.cx_rules_session.specs.cx_rules.specs.Secured.{SealedFrame, Secured, secure_frame, under}
+use Rattle.cx_laws_authorize.specs.cx_rules_session.specs.cx_rules.specs.declared.requests.Want.TheVariants.{Tickets}
+use Rattle.cx_laws_authorize.specs.cx_rules_session.specs.cx_rules.specs.cx_steps.specs.Nothing.{nothing}
+use Rattle.cx_laws_authorize.specs.cx_rules_session.specs.cx_rules.specs.cx_steps.specs.declared.effects.Effects.{Effects}
+use Rattle.cx_laws_authorize.specs.cx_rules_session.specs.cx_rules.specs.cx_steps.specs.declared.events.Peer.{Peer}
 use Rattle.cx_session.specs.Queue.{pushed}
 use Rattle.cx_wire.specs.declared.bodies.Request.TheVariants as asked
-use Rattle.cx_run.proofs.Outcomes.{EachOutcome, asker_turn, call_turn, on_link, renewed, sent_in, step-keeps}
-use Rattle.cx_run.proofs.Taking.{EachRow}
+use Rattle.cx_laws_authorize.specs.cx_run.proofs.Outcomes.{EachOutcome, asker_turn, call_turn, on_link, renewed, sent_in, step-keeps}
+use Rattle.cx_laws_authorize.specs.cx_run.proofs.Taking.{EachRow}
 use Rattle.cx_laws_keys.proofs.Lists.{all-map, found_all}
 use Rattle.cx_laws_fetch.proofs.AskerFacts.{AskedBehind, Drew, DrewBehind, StageTold, first-told, found-open, kept-is, request-told, row-behind, told-grows, told-map}
 use Rattle.cx_laws_fetch.proofs.AskerTells.{RowTold, turned-told}

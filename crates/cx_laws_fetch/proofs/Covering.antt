@@ -13,9 +13,9 @@ use Rattle.cx_keyserver.specs.Issuing.{current_at}
 use Rattle.cx_rotate.specs.Keeping.{IsLife}
 use Rattle.cx_rotate.specs.Rotation.{is_current, is_full}
 use Rattle.cx_rotate.specs.declared.generations.Generation.{Generation}
-use Rattle.cx_run.specs.Opening.{Setup}
-use Rattle.cx_run.specs.Points.{Before, Point, entries_at}
-use Rattle.cx_run.specs.Wires.{same_node}
+use Rattle.cx_laws_authorize.specs.cx_run.specs.Opening.{Setup}
+use Rattle.cx_laws_authorize.specs.cx_run.specs.Points.{Before, Point, entries_at}
+use Rattle.cx_laws_authorize.specs.cx_run.specs.Wires.{same_node}
 use Rattle.cx_laws_chain.proofs.Points.{spaced-behind}
 use Rattle.cx_laws_chain.specs.Chain.{Added, AreSpaced, Chain, IsChained, IsUnderCurrent, MovesOn, life_in, three_newest}
 use Rattle.cx_laws_keys.proofs.Uses.{Extends, extends-then}

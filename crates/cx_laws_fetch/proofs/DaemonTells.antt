@@ -7,34 +7,34 @@ use Rattle.cx_desk.specs.Handlers.{Handlers}
 use Rattle.cx_frame.specs.declared.frame.Frame.{Frame}
 use Rattle.cx_journal.specs.declared.outcomes.Reason.{Reason}
 use Rattle.cx_journal.specs.declared.outcomes.Reason.TheVariants.{LinksFull}
-use Rattle.cx_rules_session.specs.Asks.{Asks, Finished, Asking}
-use Rattle.cx_rules_session.specs.DaemonRule.{AsAcceptor, AsConnector, Daemon, DaemonNode, DaemonStage, DaemonState, asking_open, book_after, book_reply, daemon_rule, daemon_step, ended_entry, fetches, fetches_on, gone, gone_by_kind, guest_gone, hosts, is_fetching, is_in, is_older, loses, lossy_gone, me, moved_to, on_dropped, open_to_ask, opens, opens_own, shut_where, submits, ticks, turn, turned_at, undialled, unreached, with_asker}
-use Rattle.cx_rules_session.specs.Guests.{GuestStage}
-use Rattle.cx_rules_session.specs.Hosting.{Deciding, Hosted, guest_turned}
-use Rattle.cx_rules_session.specs.Kinds.{arrival_in, of_kind, row_of_kind, turn_of_kind}
-use Rattle.cx_rules_session.specs.cx_rules.specs.Acceptor.{AwaitsBanner, AwaitsHello, AwaitsRequest, AwaitsProof, AwaitsSignature, AwaitsIdent, Open}
-use Rattle.cx_rules_session.specs.cx_rules.specs.Connector as connector
-use Rattle.cx_rules_session.specs.cx_rules.specs.Connector.{AskerArrival, AskerRow}
-use Rattle.cx_rules_session.specs.cx_rules.specs.Greetings.{own_banner}
-use Rattle.cx_rules_session.specs.cx_rules.specs.Holdings.{Asker}
-use Rattle.cx_rules_session.specs.cx_rules.specs.Inputs.{Input, Opened, NoLink, Bytes, Turn, Gone, Look, Tick, Submit, Restart}
-use Rattle.cx_rules_session.specs.cx_rules.specs.Links.{Link, link_of, without_link}
-use Rattle.cx_rules_session.specs.cx_rules.specs.Requests.{Requests, behind_request, first_open, is_outdated, sealed_request, sends_request}
-use Rattle.cx_rules_session.specs.cx_rules.specs.Rows.{Arrival, Outcome, Turned, Waits, Refuses, Handles, arrival, carried_out, fed, forgotten, goes_on, idles, lifted, new_link, refuses, refuses_bytes, turns}
-use Rattle.cx_rules_session.specs.cx_rules.specs.Secured.{SealedFrame, Secured, under}
-use Rattle.cx_rules_session.specs.cx_rules.specs.declared.requests.Want.TheVariants as want
-use Rattle.cx_rules_session.specs.cx_rules.specs.cx_steps.specs.Nothing.{nothing}
-use Rattle.cx_rules_session.specs.cx_rules.specs.cx_steps.specs.declared.effects.Effects.{Effects}
-use Rattle.cx_rules_session.specs.cx_rules.specs.cx_steps.specs.declared.events.Command.{Command}
-use Rattle.cx_rules_session.specs.cx_rules.specs.cx_steps.specs.declared.events.Command.TheVariants as command
-use Rattle.cx_rules_session.specs.cx_rules.specs.cx_steps.specs.declared.events.Peer.{Peer}
-use Rattle.cx_rules_session.specs.cx_rules.specs.cx_steps.specs.declared.events.Peer.TheVariants as peer
+use Rattle.cx_laws_authorize.specs.cx_rules_session.specs.Asks.{Asks, Finished, Asking}
+use Rattle.cx_laws_authorize.specs.cx_rules_session.specs.DaemonRule.{AsAcceptor, AsConnector, Daemon, DaemonNode, DaemonStage, DaemonState, asking_open, book_after, book_reply, daemon_rule, daemon_step, ended_entry, fetches, fetches_on, gone, gone_by_kind, guest_gone, hosts, is_fetching, is_in, is_older, loses, lossy_gone, me, moved_to, on_dropped, open_to_ask, opens, opens_own, shut_where, submits, ticks, turn, turned_at, undialled, unreached, with_asker}
+use Rattle.cx_laws_authorize.specs.cx_rules_session.specs.Guests.{GuestStage}
+use Rattle.cx_laws_authorize.specs.cx_rules_session.specs.Hosting.{Deciding, Hosted, guest_turned}
+use Rattle.cx_laws_authorize.specs.cx_rules_session.specs.Kinds.{arrival_in, of_kind, row_of_kind, turn_of_kind}
+use Rattle.cx_laws_authorize.specs.cx_rules_session.specs.cx_rules.specs.Acceptor.{AwaitsBanner, AwaitsHello, AwaitsRequest, AwaitsProof, AwaitsSignature, AwaitsIdent, Open}
+use Rattle.cx_laws_authorize.specs.cx_rules_session.specs.cx_rules.specs.Connector as connector
+use Rattle.cx_laws_authorize.specs.cx_rules_session.specs.cx_rules.specs.Connector.{AskerArrival, AskerRow}
+use Rattle.cx_laws_authorize.specs.cx_rules_session.specs.cx_rules.specs.Greetings.{own_banner}
+use Rattle.cx_laws_authorize.specs.cx_rules_session.specs.cx_rules.specs.Holdings.{Asker}
+use Rattle.cx_laws_authorize.specs.cx_rules_session.specs.cx_rules.specs.Inputs.{Input, Opened, NoLink, Bytes, Turn, Gone, Look, Tick, Submit, Restart}
+use Rattle.cx_laws_authorize.specs.cx_rules_session.specs.cx_rules.specs.Links.{Link, link_of, without_link}
+use Rattle.cx_laws_authorize.specs.cx_rules_session.specs.cx_rules.specs.Requests.{Requests, behind_request, first_open, is_outdated, sealed_request, sends_request}
+use Rattle.cx_laws_authorize.specs.cx_rules_session.specs.cx_rules.specs.Rows.{Arrival, Outcome, Turned, Waits, Refuses, Handles, arrival, carried_out, fed, forgotten, goes_on, idles, lifted, new_link, refuses, refuses_bytes, turns}
+use Rattle.cx_laws_authorize.specs.cx_rules_session.specs.cx_rules.specs.Secured.{SealedFrame, Secured, under}
+use Rattle.cx_laws_authorize.specs.cx_rules_session.specs.cx_rules.specs.declared.requests.Want.TheVariants as want
+use Rattle.cx_laws_authorize.specs.cx_rules_session.specs.cx_rules.specs.cx_steps.specs.Nothing.{nothing}
+use Rattle.cx_laws_authorize.specs.cx_rules_session.specs.cx_rules.specs.cx_steps.specs.declared.effects.Effects.{Effects}
+use Rattle.cx_laws_authorize.specs.cx_rules_session.specs.cx_rules.specs.cx_steps.specs.declared.events.Command.{Command}
+use Rattle.cx_laws_authorize.specs.cx_rules_session.specs.cx_rules.specs.cx_steps.specs.declared.events.Command.TheVariants as command
+use Rattle.cx_laws_authorize.specs.cx_rules_session.specs.cx_rules.specs.cx_steps.specs.declared.events.Peer.{Peer}
+use Rattle.cx_laws_authorize.specs.cx_rules_session.specs.cx_rules.specs.cx_steps.specs.declared.events.Peer.TheVariants as peer
 use Rattle.cx_session.specs.declared.call.BookCall.TheVariants.{End}
 use Rattle.cx_session.specs.declared.call.BookReply.{BookReply}
 use Rattle.cx_session.specs.declared.call.BookReply.TheVariants as reply
 use Rattle.cx_wire.specs.declared.bodies.Request.TheVariants as asked
-use Rattle.cx_run.proofs.GuestTakes.{Always, always-book, always-map}
-use Rattle.cx_run.proofs.Taking.{EachRow}
+use Rattle.cx_laws_authorize.specs.cx_run.proofs.GuestTakes.{Always, always-book, always-map}
+use Rattle.cx_laws_authorize.specs.cx_run.proofs.Taking.{EachRow}
 use Rattle.cx_laws_keys.proofs.Lists.{all-map, found_all}
 use Rattle.cx_laws_fetch.proofs.AskerFacts.{AskedBehind, Drew, DrewBehind, StageTold, first-told, found-open, kept-is, request-told, row-behind, told-grows, told-map}
 use Rattle.cx_laws_fetch.proofs.AskerTells.{RowTold, turned-told}

@@ -31,41 +31,41 @@ use Rattle.cx_journal.specs.declared.outcomes.Reason.TheVariants.{LinksFull, Log
 use Rattle.cx_keyring.specs.Entries.{is_named}
 use Rattle.cx_keyring.specs.declared.entries.Entry.{Entry as Principal}
 use Rattle.cx_rotate.specs.declared.states.KeptState.{KeptState}
-use Rattle.cx_rules_session.specs.cx_rules.specs.Acceptor.{AwaitsBanner, AwaitsHello, AwaitsRequest, AwaitsProof, AwaitsSignature, AwaitsIdent, Open, Finished, denies, finished, missing_told, misses, on_auth_request, on_banner, on_hello, on_signature, server_ident}
-use Rattle.cx_rules_session.specs.cx_rules.specs.Fronts.{keys_behind, taking}
-use Rattle.cx_rules_session.specs.cx_rules.specs.Greetings.{own_banner, own_hello}
-use Rattle.cx_rules_session.specs.cx_rules.specs.Inputs.{Input, Opened, NoLink, Bytes, Turn, Gone, Look, Tick, Submit, Restart}
-use Rattle.cx_rules_session.specs.cx_rules.specs.Links.{Link, link_of}
-use Rattle.cx_rules_session.specs.cx_rules.specs.Monitor.{Monitor, MonitorArrival, MonitorNode, MonitorRow, MonitorStage, Offered}
-use Rattle.cx_rules_session.specs.cx_rules.specs.MonitorLogin.{challenges, done_frame, hands_over, occasion, on_authenticate, on_login_hello, proves, row_by, with_server}
-use Rattle.cx_rules_session.specs.cx_rules.specs.MonitorRequests.{heard, on_demand, on_message, on_open, request_occasion, responds, sends_reply, serving}
-use Rattle.cx_rules_session.specs.cx_rules.specs.MonitorRule.{monitor_rule, noted, on_auth_request_more, on_client_ident, on_ident, on_request_payload, on_session_reconnect, opens, turn, turned_at}
-use Rattle.cx_rules_session.specs.cx_rules.specs.Payloads.{due, payload, whole}
-use Rattle.cx_rules_session.specs.cx_rules.specs.Replies.{Responded, answers}
-use Rattle.cx_rules_session.specs.cx_rules.specs.Rows.{Outcome, Turned, Waits, Refuses, Handles, arrival, at, carried_out, fed, goes_on, new_link, plain_sent, refuses, refuses_bytes, secure_sent, sends_secure, turns, with_opened}
-use Rattle.cx_rules_session.specs.cx_rules.specs.Secured.{SealedFrame, Secured, is_signed, plain_frame, signature_found, under}
-use Rattle.cx_rules_session.specs.cx_rules.specs.Upkeep.{on_keepalive, on_keepalive_ack}
-use Rattle.cx_rules_session.specs.cx_rules.specs.Verdicts.{Decided, rotates}
-use Rattle.cx_rules_session.specs.cx_rules.specs.declared.responses.Bearer.{Bearer}
-use Rattle.cx_rules_session.specs.cx_rules.specs.declared.responses.Demand.{Demand}
-use Rattle.cx_rules_session.specs.cx_rules.specs.declared.responses.ReplyMade.{ReplyMade}
-use Rattle.cx_rules_session.specs.cx_rules.specs.declared.responses.Response.{Response}
-use Rattle.cx_rules_session.specs.cx_rules.specs.declared.responses.Response.TheVariants as response
-use Rattle.cx_rules_session.specs.cx_rules.specs.declared.verdicts.HandedOut.{HandedOut}
-use Rattle.cx_rules_session.specs.cx_rules.specs.declared.verdicts.Verdict.{Verdict}
-use Rattle.cx_rules_session.specs.cx_rules.specs.declared.verdicts.Verdict.TheVariants.{Denied, Granted}
-use Rattle.cx_rules_session.specs.cx_rules.specs.cx_login.specs.Monitor.{Proven, proving}
-use Rattle.cx_rules_session.specs.cx_rules.specs.cx_login.specs.declared.refusals.WrongProof.{WrongProof}
-use Rattle.cx_rules_session.specs.cx_rules.specs.cx_steps.specs.declared.seals.SealEntry.{SealEntry}
+use Rattle.cx_laws_authorize.specs.cx_rules_session.specs.cx_rules.specs.Acceptor.{AwaitsBanner, AwaitsHello, AwaitsRequest, AwaitsProof, AwaitsSignature, AwaitsIdent, Open, Finished, denies, finished, missing_told, misses, on_auth_request, on_banner, on_hello, on_signature, server_ident}
+use Rattle.cx_laws_authorize.specs.cx_rules_session.specs.cx_rules.specs.Fronts.{keys_behind, taking}
+use Rattle.cx_laws_authorize.specs.cx_rules_session.specs.cx_rules.specs.Greetings.{own_banner, own_hello}
+use Rattle.cx_laws_authorize.specs.cx_rules_session.specs.cx_rules.specs.Inputs.{Input, Opened, NoLink, Bytes, Turn, Gone, Look, Tick, Submit, Restart}
+use Rattle.cx_laws_authorize.specs.cx_rules_session.specs.cx_rules.specs.Links.{Link, link_of}
+use Rattle.cx_laws_authorize.specs.cx_rules_session.specs.cx_rules.specs.Monitor.{Monitor, MonitorArrival, MonitorNode, MonitorRow, MonitorStage, Offered}
+use Rattle.cx_laws_authorize.specs.cx_rules_session.specs.cx_rules.specs.MonitorLogin.{challenges, done_frame, hands_over, occasion, on_authenticate, on_login_hello, proves, row_by, with_server}
+use Rattle.cx_laws_authorize.specs.cx_rules_session.specs.cx_rules.specs.MonitorRequests.{heard, on_demand, on_message, on_open, request_occasion, responds, sends_reply, serving}
+use Rattle.cx_laws_authorize.specs.cx_rules_session.specs.cx_rules.specs.MonitorRule.{monitor_rule, noted, on_auth_request_more, on_client_ident, on_ident, on_request_payload, on_session_reconnect, opens, turn, turned_at}
+use Rattle.cx_laws_authorize.specs.cx_rules_session.specs.cx_rules.specs.Payloads.{due, payload, whole}
+use Rattle.cx_laws_authorize.specs.cx_rules_session.specs.cx_rules.specs.Replies.{Responded, answers}
+use Rattle.cx_laws_authorize.specs.cx_rules_session.specs.cx_rules.specs.Rows.{Outcome, Turned, Waits, Refuses, Handles, arrival, at, carried_out, fed, goes_on, new_link, plain_sent, refuses, refuses_bytes, secure_sent, sends_secure, turns, with_opened}
+use Rattle.cx_laws_authorize.specs.cx_rules_session.specs.cx_rules.specs.Secured.{SealedFrame, Secured, is_signed, plain_frame, signature_found, under}
+use Rattle.cx_laws_authorize.specs.cx_rules_session.specs.cx_rules.specs.Upkeep.{on_keepalive, on_keepalive_ack}
+use Rattle.cx_laws_authorize.specs.cx_rules_session.specs.cx_rules.specs.Verdicts.{Decided, rotates}
+use Rattle.cx_laws_authorize.specs.cx_rules_session.specs.cx_rules.specs.declared.responses.Bearer.{Bearer}
+use Rattle.cx_laws_authorize.specs.cx_rules_session.specs.cx_rules.specs.declared.responses.Demand.{Demand}
+use Rattle.cx_laws_authorize.specs.cx_rules_session.specs.cx_rules.specs.declared.responses.ReplyMade.{ReplyMade}
+use Rattle.cx_laws_authorize.specs.cx_rules_session.specs.cx_rules.specs.declared.responses.Response.{Response}
+use Rattle.cx_laws_authorize.specs.cx_rules_session.specs.cx_rules.specs.declared.responses.Response.TheVariants as response
+use Rattle.cx_laws_authorize.specs.cx_rules_session.specs.cx_rules.specs.declared.verdicts.HandedOut.{HandedOut}
+use Rattle.cx_laws_authorize.specs.cx_rules_session.specs.cx_rules.specs.declared.verdicts.Verdict.{Verdict}
+use Rattle.cx_laws_authorize.specs.cx_rules_session.specs.cx_rules.specs.declared.verdicts.Verdict.TheVariants.{Denied, Granted}
+use Rattle.cx_laws_authorize.specs.cx_rules_session.specs.cx_rules.specs.cx_login.specs.Monitor.{Proven, proving}
+use Rattle.cx_laws_authorize.specs.cx_rules_session.specs.cx_rules.specs.cx_login.specs.declared.refusals.WrongProof.{WrongProof}
+use Rattle.cx_laws_authorize.specs.cx_rules_session.specs.cx_rules.specs.cx_steps.specs.declared.seals.SealEntry.{SealEntry}
 use Rattle.cx_wire.specs.Logins.{authenticate_layout, login_hello_layout}
 use Rattle.cx_wire.specs.declared.logins.Authenticate.{Authenticate}
 use Rattle.cx_wire.specs.declared.logins.LoginHello.{LoginHello}
 use Rattle.cx_line_words.specs.declared.choices.LeftState.{LeftState}
 use Rattle.cx_line_words.specs.declared.choices.LeftState.TheVariants as left
-use Rattle.cx_run.proofs.Taking.{EachRow}
-use Rattle.cx_run.specs.Happenings.{EntityNode, Happening, Nodes, entity_of, entity_steps, monitor_steps, steps, steps_of}
-use Rattle.cx_run.specs.Opening.{Setup, nodes_of}
-use Rattle.cx_run.specs.Points.{EachPoint, Point, points, points_onto}
+use Rattle.cx_laws_authorize.specs.cx_run.proofs.Taking.{EachRow}
+use Rattle.cx_laws_authorize.specs.cx_run.specs.Happenings.{EntityNode, Happening, Nodes, entity_of, entity_steps, monitor_steps, steps, steps_of}
+use Rattle.cx_laws_authorize.specs.cx_run.specs.Opening.{Setup, nodes_of}
+use Rattle.cx_laws_authorize.specs.cx_run.specs.Points.{EachPoint, Point, points, points_onto}
 use Rattle.cx_laws_keys.proofs.Lists.{found_all}
 use Rattle.cx_laws_fetch.proofs.Banners.{IsRead, read-banner, read-frame, read-grows}
 use Rattle.cx_laws_fetch.proofs.Turns.{banner-each, behind-row, left_out, placed, plain-each, secure-each}
@@ -401,7 +401,7 @@ entity-heard : (nodes : Nodes) (h : Happening) (name : Name) (found : Option Ent
 entity-heard nodes h name None ok = ok
 entity-heard nodes h name (Some entity) ok = ok
 
-node-heard : (nodes : Nodes) (h : Happening) (n : NodeName) → AllHeard nodes.monitor.links → AllHeard (steps_of nodes h n).nodes.monitor.links
+pub node-heard : (nodes : Nodes) (h : Happening) (n : NodeName) → AllHeard nodes.monitor.links → AllHeard (steps_of nodes h n).nodes.monitor.links
 node-heard nodes h node.Monitor ok =
     let o : Outcome MonitorNode = monitor_rule nodes.monitor h.input h.reading h.draw in
     subst AllHeard (sym (saved-links nodes o h.left o.out.save)) (rule-heard nodes.monitor h.input h.reading h.draw ok)

@@ -3,8 +3,8 @@ use Rattle.std.proofs.Common.{◌≡◌, ◌≤◌, ℕ, List, [], ◌∷◌, �
 use Rattle.std.specs.List.{AllByRecursion}
 use Rattle.cx_base.specs.declared.kinds.EntityType.{EntityType}
 use Rattle.cx_base.specs.declared.nodes.NodeName.TheVariants as node
-use Rattle.cx_run.specs.Opening.{Setup}
-use Rattle.cx_run.specs.Points.{Before, EachPoint, Point}
+use Rattle.cx_laws_authorize.specs.cx_run.specs.Opening.{Setup}
+use Rattle.cx_laws_authorize.specs.cx_run.specs.Points.{Before, EachPoint, Point}
 use Rattle.cx_laws_chain.specs.Chain.{Added, BecomesLost, BecomesSaved, Chain, Fate, IsAddedAt, IsChained, MovesOn, StaysInMemory, all_in, chain_behind}
 use Rattle.cx_laws_keys.proofs.Lists.{all-append, all-map}
 use Rattle.cx_laws_keys.proofs.Uses.{Extends, extends-itself, extends-then}

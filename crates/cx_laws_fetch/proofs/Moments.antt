@@ -12,9 +12,9 @@ use Rattle.cx_rotate.proofs.Opened.{opened}
 use Rattle.cx_rotate.proofs.Results.{gained, gained_two, kept}
 use Rattle.cx_rotate.specs.Rotation.{Rotated, grown, is_current, is_full, rotated}
 use Rattle.cx_rotate.specs.declared.generations.Generation.{Generation}
-use Rattle.cx_run.specs.Happenings.{Happening, Nodes, steps}
-use Rattle.cx_run.specs.Opening.{Setup, first_state, nodes_of}
-use Rattle.cx_run.specs.Points.{EachPoint, Point, nodes_past, points, points_onto}
+use Rattle.cx_laws_authorize.specs.cx_run.specs.Happenings.{Happening, Nodes, steps}
+use Rattle.cx_laws_authorize.specs.cx_run.specs.Opening.{Setup, first_state, nodes_of}
+use Rattle.cx_laws_authorize.specs.cx_run.specs.Points.{EachPoint, Point, nodes_past, points, points_onto}
 use Rattle.cx_laws_chain.specs.Chain.{Added, Chain, IsChained, all_in, life_in, saved_past, three_newest}
 use Rattle.cx_laws_fetch.specs.Fetches.{IsMoment}
 

@@ -3,7 +3,7 @@ use Rattle.std.proofs.Common.{◌≡◌, ◌<◌, ◌^◌, ℕ, List, [], ◌∷
 use Rattle.std.specs.List.{AllByRecursion}
 use Rattle.cx_base.specs.Names.{Name}
 use Rattle.cx_frame.specs.declared.frame.Frame.{Frame}
-use Rattle.cx_run.specs.Points.{EachPoint, Point}
+use Rattle.cx_laws_authorize.specs.cx_run.specs.Points.{EachPoint, Point}
 use Rattle.cx_laws_fetch.proofs.AllTold.{WasDrawn}
 use Rattle.cx_laws_fetch.proofs.AskerFacts.{HasAnswered}
 use Rattle.cx_laws_fetch.proofs.SameChallenge.{TellsChallenge, challenge-small, same-challenge}

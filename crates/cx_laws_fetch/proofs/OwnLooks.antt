@@ -10,9 +10,9 @@ use Rattle.cx_base.specs.declared.nodes.NodeName.TheVariants as node
 use Rattle.cx_journal.specs.declared.entries.Entry.{Entry}
 use Rattle.cx_journal.specs.declared.entries.Entry.TheVariants as journal
 use Rattle.cx_journal.specs.declared.entries.Looked.{Looked}
-use Rattle.cx_rules_session.specs.DaemonRule.{daemon_step}
-use Rattle.cx_run.specs.Happenings.{EntityNode, OfClient, OfDaemon, Happening, Nodes, Stepped, entity_of, entity_steps, is_of, steps, steps_of}
-use Rattle.cx_run.specs.Points.{Point, entries_at}
+use Rattle.cx_laws_authorize.specs.cx_rules_session.specs.DaemonRule.{daemon_step}
+use Rattle.cx_laws_authorize.specs.cx_run.specs.Happenings.{EntityNode, OfClient, OfDaemon, Happening, Nodes, Stepped, entity_of, entity_steps, is_of, steps, steps_of}
+use Rattle.cx_laws_authorize.specs.cx_run.specs.Points.{Point, entries_at}
 use Rattle.cx_laws_authorize.proofs.Steps.{all-authorize}
 use Rattle.cx_laws_authorize.specs.Admission.{EntryTold}
 use Rattle.cx_laws_chain.proofs.Rows.{IsOfMonitor}

@@ -16,34 +16,34 @@ use Rattle.cx_keyserver.specs.Servers.{life_of, rotated_of, rotated_state}
 use Rattle.cx_line_words.specs.declared.choices.LeftState.{LeftState}
 use Rattle.cx_rotate.specs.declared.generations.Generation.{Generation}
 use Rattle.cx_rotate.specs.declared.states.KeptState.{KeptState}
-use Rattle.cx_rules_session.specs.cx_rules.proofs.Granting.{saved-changed}
-use Rattle.cx_rules_session.specs.cx_rules.specs.Acceptor.{Open}
-use Rattle.cx_rules_session.specs.cx_rules.specs.Fronts.{Front, Next, secure_next}
-use Rattle.cx_rules_session.specs.cx_rules.specs.Inputs.{Input, Turn}
-use Rattle.cx_rules_session.specs.cx_rules.specs.KeptStates.{saved_behind}
-use Rattle.cx_rules_session.specs.cx_rules.specs.Links.{Link, link_of}
-use Rattle.cx_rules_session.specs.cx_rules.specs.Messages.{Message, message_of}
-use Rattle.cx_rules_session.specs.cx_rules.specs.Monitor.{MonitorArrival, MonitorNode, MonitorRow, MonitorStage}
-use Rattle.cx_rules_session.specs.cx_rules.specs.MonitorRequests.{demand_of, heard, on_demand, on_message, on_open, ordered, reply_message, request_occasion, responds, sends_reply, serving}
-use Rattle.cx_rules_session.specs.cx_rules.specs.MonitorRule.{monitor_rule, noted, turn, turned_at}
-use Rattle.cx_rules_session.specs.cx_rules.specs.Payloads.{payload}
-use Rattle.cx_rules_session.specs.cx_rules.specs.Replies.{answers}
-use Rattle.cx_rules_session.specs.cx_rules.specs.Rows.{Outcome, arrival, at, turned_by, turns, with_opened}
-use Rattle.cx_rules_session.specs.cx_rules.specs.Secured.{Keys, SealedFrame, Secured, secure_frame, under}
-use Rattle.cx_rules_session.specs.cx_rules.specs.Tickets.{rotation_drawn}
-use Rattle.cx_rules_session.specs.cx_rules.specs.Upkeep.{on_keepalive, on_keepalive_ack}
-use Rattle.cx_rules_session.specs.cx_rules.specs.Verdicts.{Occasion}
-use Rattle.cx_rules_session.specs.cx_rules.specs.declared.responses.Bearer.{Bearer}
-use Rattle.cx_rules_session.specs.cx_rules.specs.declared.responses.Demand.{Demand}
-use Rattle.cx_rules_session.specs.cx_rules.specs.declared.responses.ReplyMade.{ReplyMade}
-use Rattle.cx_rules_session.specs.cx_rules.specs.declared.responses.Response.{Response}
-use Rattle.cx_rules_session.specs.cx_rules.specs.declared.responses.Response.TheVariants.{Replies}
-use Rattle.cx_rules_session.specs.cx_rules.specs.cx_steps.specs.declared.seals.SealEntry.{SealEntry}
+use Rattle.cx_laws_authorize.specs.cx_rules_session.specs.cx_rules.proofs.Granting.{saved-changed}
+use Rattle.cx_laws_authorize.specs.cx_rules_session.specs.cx_rules.specs.Acceptor.{Open}
+use Rattle.cx_laws_authorize.specs.cx_rules_session.specs.cx_rules.specs.Fronts.{Front, Next, secure_next}
+use Rattle.cx_laws_authorize.specs.cx_rules_session.specs.cx_rules.specs.Inputs.{Input, Turn}
+use Rattle.cx_laws_authorize.specs.cx_rules_session.specs.cx_rules.specs.KeptStates.{saved_behind}
+use Rattle.cx_laws_authorize.specs.cx_rules_session.specs.cx_rules.specs.Links.{Link, link_of}
+use Rattle.cx_laws_authorize.specs.cx_rules_session.specs.cx_rules.specs.Messages.{Message, message_of}
+use Rattle.cx_laws_authorize.specs.cx_rules_session.specs.cx_rules.specs.Monitor.{MonitorArrival, MonitorNode, MonitorRow, MonitorStage}
+use Rattle.cx_laws_authorize.specs.cx_rules_session.specs.cx_rules.specs.MonitorRequests.{demand_of, heard, on_demand, on_message, on_open, ordered, reply_message, request_occasion, responds, sends_reply, serving}
+use Rattle.cx_laws_authorize.specs.cx_rules_session.specs.cx_rules.specs.MonitorRule.{monitor_rule, noted, turn, turned_at}
+use Rattle.cx_laws_authorize.specs.cx_rules_session.specs.cx_rules.specs.Payloads.{payload}
+use Rattle.cx_laws_authorize.specs.cx_rules_session.specs.cx_rules.specs.Replies.{answers}
+use Rattle.cx_laws_authorize.specs.cx_rules_session.specs.cx_rules.specs.Rows.{Outcome, arrival, at, turned_by, turns, with_opened}
+use Rattle.cx_laws_authorize.specs.cx_rules_session.specs.cx_rules.specs.Secured.{Keys, SealedFrame, Secured, secure_frame, under}
+use Rattle.cx_laws_authorize.specs.cx_rules_session.specs.cx_rules.specs.Tickets.{rotation_drawn}
+use Rattle.cx_laws_authorize.specs.cx_rules_session.specs.cx_rules.specs.Upkeep.{on_keepalive, on_keepalive_ack}
+use Rattle.cx_laws_authorize.specs.cx_rules_session.specs.cx_rules.specs.Verdicts.{Occasion}
+use Rattle.cx_laws_authorize.specs.cx_rules_session.specs.cx_rules.specs.declared.responses.Bearer.{Bearer}
+use Rattle.cx_laws_authorize.specs.cx_rules_session.specs.cx_rules.specs.declared.responses.Demand.{Demand}
+use Rattle.cx_laws_authorize.specs.cx_rules_session.specs.cx_rules.specs.declared.responses.ReplyMade.{ReplyMade}
+use Rattle.cx_laws_authorize.specs.cx_rules_session.specs.cx_rules.specs.declared.responses.Response.{Response}
+use Rattle.cx_laws_authorize.specs.cx_rules_session.specs.cx_rules.specs.declared.responses.Response.TheVariants.{Replies}
+use Rattle.cx_laws_authorize.specs.cx_rules_session.specs.cx_rules.specs.cx_steps.specs.declared.seals.SealEntry.{SealEntry}
 use Rattle.cx_wire.specs.declared.bodies.Request.{Request}
 use Rattle.cx_wire.specs.declared.bodies.Request.TheVariants as asked
-use Rattle.cx_run.specs.Happenings.{Happening, Nodes, Stepped, monitor_steps, steps_of}
-use Rattle.cx_run.specs.Opening.{Setup, first_state}
-use Rattle.cx_run.specs.Points.{Before, EachPoint, Point, entries_at, nodes_past, points, stepped_at}
+use Rattle.cx_laws_authorize.specs.cx_run.specs.Happenings.{Happening, Nodes, Stepped, monitor_steps, steps_of}
+use Rattle.cx_laws_authorize.specs.cx_run.specs.Opening.{Setup, first_state}
+use Rattle.cx_laws_authorize.specs.cx_run.specs.Points.{Before, EachPoint, Point, entries_at, nodes_past, points, stepped_at}
 use Rattle.cx_laws_chain.proofs.One.{all-kept}
 use Rattle.cx_laws_chain.specs.Chain.{Chain, IsChained, life_in}
 use Rattle.cx_laws_fetch.proofs.AllCovered.{service-life}
@@ -89,7 +89,7 @@ told_at p service = rotated_of p.happening.reading p.happening.draw p.nodes.moni
 -- ---- what is saved
 
 -- a frame that is heard as a message has the tag of messages
-message-tag : (bearer : Bearer) (f : Frame) (demand : Demand) → heard bearer f ≡ Ok demand → f.tag ≡ 17
+pub message-tag : (bearer : Bearer) (f : Frame) (demand : Demand) → heard bearer f ≡ Ok demand → f.tag ≡ 17
 message-tag bearer f demand is = by_test (f.tag == 17) refl is
   where
     by_test : (t : Bool) → (f.tag == 17) ≡ t

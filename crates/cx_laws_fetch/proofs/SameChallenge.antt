@@ -15,12 +15,12 @@ use Rattle.cx_enc.specs.declared.tickets.TicketBlob.{TicketBlob}
 use Rattle.cx_frame.specs.Preambles.{preamble_of}
 use Rattle.cx_frame.specs.declared.frame.Frame.{Frame}
 use Rattle.cx_journal.specs.declared.faults.BytesFault.{BytesFault}
-use Rattle.cx_rules_session.specs.cx_rules.proofs.Payloads.{spelled_is}
-use Rattle.cx_rules_session.specs.cx_rules.specs.Connector.{login_request}
-use Rattle.cx_rules_session.specs.cx_rules.specs.Greetings.{own_hello}
-use Rattle.cx_rules_session.specs.cx_rules.specs.Payloads.{to_end, unless_left, whole}
-use Rattle.cx_rules_session.specs.cx_rules.specs.cx_login.specs.Client.{Ask, authenticate, version_of}
-use Rattle.cx_rules_session.specs.cx_rules.specs.cx_login.specs.Held.{Held}
+use Rattle.cx_laws_authorize.specs.cx_rules_session.specs.cx_rules.proofs.Payloads.{spelled_is}
+use Rattle.cx_laws_authorize.specs.cx_rules_session.specs.cx_rules.specs.Connector.{login_request}
+use Rattle.cx_laws_authorize.specs.cx_rules_session.specs.cx_rules.specs.Greetings.{own_hello}
+use Rattle.cx_laws_authorize.specs.cx_rules_session.specs.cx_rules.specs.Payloads.{to_end, unless_left, whole}
+use Rattle.cx_laws_authorize.specs.cx_rules_session.specs.cx_rules.specs.cx_login.specs.Client.{Ask, authenticate, version_of}
+use Rattle.cx_laws_authorize.specs.cx_rules_session.specs.cx_rules.specs.cx_login.specs.Held.{Held}
 use Rattle.cx_stream.specs.PlainStreams.{IsPlain}
 use Rattle.cx_wire.specs.Logins.{authenticate_layout, is_version}
 use Rattle.cx_wire.specs.declared.logins.Authenticate.{Authenticate}

@@ -2,9 +2,9 @@
 use Rattle.std.proofs.Common.{◌≡◌, ◌≤◌, ℕ, Bool, true, false, List, [], ◌∷◌, map, filter, refl, arith}
 use Rattle.std.specs.Prelude.{if◌then◌else◌}
 use Rattle.cx_base.specs.Names.{Name}
-use Rattle.cx_run.specs.Happenings.{Happening, Nodes, steps}
-use Rattle.cx_run.specs.Opening.{Setup, nodes_of}
-use Rattle.cx_run.specs.Points.{EachPoint, Point, points, points_onto}
+use Rattle.cx_laws_authorize.specs.cx_run.specs.Happenings.{Happening, Nodes, steps}
+use Rattle.cx_laws_authorize.specs.cx_run.specs.Opening.{Setup, nodes_of}
+use Rattle.cx_laws_authorize.specs.cx_run.specs.Points.{EachPoint, Point, points, points_onto}
 use Rattle.cx_laws_fetch.specs.Covered.{IsSteadyFor, NeverFall, is_of_either}
 
 -- no event of the monitor or of this daemon at these points has a reading above this one

@@ -13,16 +13,16 @@ use Rattle.cx_keyserver.specs.declared.refusals.NotADaemon.{NotADaemon}
 use Rattle.cx_rotate.specs.Rotation.{rotated}
 use Rattle.cx_rotate.specs.declared.generations.Generation.{Generation}
 use Rattle.cx_rotate.specs.declared.states.KeptState.{KeptState}
-use Rattle.cx_rules_session.specs.cx_rules.specs.KeptStates.{changed}
-use Rattle.cx_rules_session.specs.cx_rules.specs.Replies.{on_rotating, tells_generations, told_content, told_seal}
-use Rattle.cx_rules_session.specs.cx_rules.specs.Verdicts.{Occasion, key_of}
-use Rattle.cx_rules_session.specs.cx_rules.specs.declared.responses.Bearer.{Bearer}
-use Rattle.cx_rules_session.specs.cx_rules.specs.declared.responses.ReplyMade.{ReplyMade}
-use Rattle.cx_rules_session.specs.cx_rules.specs.declared.responses.Response.{Response}
-use Rattle.cx_rules_session.specs.cx_rules.specs.declared.responses.Response.TheVariants.{Refuses, Replies}
-use Rattle.cx_rules_session.specs.cx_rules.specs.cx_steps.specs.declared.seals.SealEntry.{SealEntry}
-use Rattle.cx_run.specs.Opening.{Setup}
-use Rattle.cx_run.specs.Points.{Point, nodes_past}
+use Rattle.cx_laws_authorize.specs.cx_rules_session.specs.cx_rules.specs.KeptStates.{changed}
+use Rattle.cx_laws_authorize.specs.cx_rules_session.specs.cx_rules.specs.Replies.{on_rotating, tells_generations, told_content, told_seal}
+use Rattle.cx_laws_authorize.specs.cx_rules_session.specs.cx_rules.specs.Verdicts.{Occasion, key_of}
+use Rattle.cx_laws_authorize.specs.cx_rules_session.specs.cx_rules.specs.declared.responses.Bearer.{Bearer}
+use Rattle.cx_laws_authorize.specs.cx_rules_session.specs.cx_rules.specs.declared.responses.ReplyMade.{ReplyMade}
+use Rattle.cx_laws_authorize.specs.cx_rules_session.specs.cx_rules.specs.declared.responses.Response.{Response}
+use Rattle.cx_laws_authorize.specs.cx_rules_session.specs.cx_rules.specs.declared.responses.Response.TheVariants.{Refuses, Replies}
+use Rattle.cx_laws_authorize.specs.cx_rules_session.specs.cx_rules.specs.cx_steps.specs.declared.seals.SealEntry.{SealEntry}
+use Rattle.cx_laws_authorize.specs.cx_run.specs.Opening.{Setup}
+use Rattle.cx_laws_authorize.specs.cx_run.specs.Points.{Point, nodes_past}
 use Rattle.cx_laws_chain.specs.Chain.{Chain, IsChained, life_in}
 use Rattle.cx_laws_fetch.proofs.Moments.{is-moment, nodes_last}
 use Rattle.cx_laws_fetch.specs.Fetches.{IsMoment}
@@ -44,7 +44,7 @@ is-refused : Response → Bool
 is-refused (Replies made) = false
 is-refused (Refuses why opened) = true
 
-service-rotated : (now : ℕ) (draw : List ℕ) (state : KeptState) (service : EntityType) → is_daemon_type service ≡ true
+pub service-rotated : (now : ℕ) (draw : List ℕ) (state : KeptState) (service : EntityType) → is_daemon_type service ≡ true
     → generations_of (rotated_state now draw state) service ≡ rotated_of now draw state service
 service-rotated now draw state Mds is = refl
 service-rotated now draw state Osd is = refl
@@ -58,7 +58,7 @@ lists_in (Ok gs) = gs
 lists_in (Err e) = []
 
 -- what a daemon of the keyring is told
-secrets-are : (server : Server) (name : Name) (gs : List Generation) → secrets_of server name ≡ Ok gs → (is_daemon_type name.kind ≡ true) × (gs ≡ generations_of server.state name.kind)
+pub secrets-are : (server : Server) (name : Name) (gs : List Generation) → secrets_of server name ≡ Ok gs → (is_daemon_type name.kind ≡ true) × (gs ≡ generations_of server.state name.kind)
 unfolding lists_in
 secrets-are server name gs is = by_test (is_some (find (is_named name) server.ring)) (is_daemon_type name.kind) refl is
   where

@@ -7,15 +7,15 @@ use Rattle.cx_frame.specs.declared.banner.Banner.{Banner}
 use Rattle.cx_frame.specs.declared.frame.Frame.{Frame}
 use Rattle.cx_frame.specs.declared.refusals.BannerRefusal.{BannerRefusal}
 use Rattle.cx_frame.specs.declared.refusals.FrameRefusal.{FrameRefusal}
-use Rattle.cx_rules_session.specs.cx_rules.specs.Fronts.{ahead_of, banner_next, banner_read, keys_behind, opened_parts, plain_next, plain_read, sealed_ahead, secure_next, secure_read, taking}
-use Rattle.cx_rules_session.specs.cx_rules.specs.Links.{Link, put_link, without_link}
-use Rattle.cx_rules_session.specs.cx_rules.specs.Rows.{Row, links_behind, turned_by}
-use Rattle.cx_rules_session.specs.cx_rules.specs.Secured.{Keys}
-use Rattle.cx_rules_session.specs.cx_rules.specs.cx_steps.specs.declared.seals.SealEntry.{SealEntry}
+use Rattle.cx_laws_authorize.specs.cx_rules_session.specs.cx_rules.specs.Fronts.{ahead_of, banner_next, banner_read, keys_behind, opened_parts, plain_next, plain_read, sealed_ahead, secure_next, secure_read, taking}
+use Rattle.cx_laws_authorize.specs.cx_rules_session.specs.cx_rules.specs.Links.{Link, put_link, without_link}
+use Rattle.cx_laws_authorize.specs.cx_rules_session.specs.cx_rules.specs.Rows.{Row, links_behind, turned_by}
+use Rattle.cx_laws_authorize.specs.cx_rules_session.specs.cx_rules.specs.Secured.{Keys}
+use Rattle.cx_laws_authorize.specs.cx_rules_session.specs.cx_rules.specs.cx_steps.specs.declared.seals.SealEntry.{SealEntry}
 use Rattle.cx_secure.specs.declared.refusals.SecureRefusal.{SecureRefusal}
 use Rattle.cx_stream.specs.PlainStreams.{plain_frame_at}
 use Rattle.cx_stream.specs.SecureStreams.{secure_frame_at}
-use Rattle.cx_run.proofs.Taking.{EachRow}
+use Rattle.cx_laws_authorize.specs.cx_run.proofs.Taking.{EachRow}
 use Rattle.cx_laws_keys.proofs.Lists.{all-append}
 
 -- ---- what handles a turn

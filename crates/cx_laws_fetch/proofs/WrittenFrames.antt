@@ -12,10 +12,10 @@ use Rattle.cx_frame.specs.declared.frame.Frame.{Frame}
 use Rattle.cx_frame.specs.declared.frame.Segment.{Segment}
 use Rattle.cx_journal.specs.declared.faults.BytesFault.{BytesFault}
 use Rattle.cx_journal.specs.declared.faults.BytesFault.TheVariants.{TooLong, Unexpected}
-use Rattle.cx_rules_session.specs.cx_rules.specs.Greetings.{own_banner}
-use Rattle.cx_rules_session.specs.cx_rules.specs.Payloads.{due, payload}
-use Rattle.cx_rules_session.specs.cx_rules.specs.Secured.{plain_frame}
-use Rattle.cx_rules_session.specs.cx_rules.specs.cx_login.specs.Client.{Ask, authenticate}
+use Rattle.cx_laws_authorize.specs.cx_rules_session.specs.cx_rules.specs.Greetings.{own_banner}
+use Rattle.cx_laws_authorize.specs.cx_rules_session.specs.cx_rules.specs.Payloads.{due, payload}
+use Rattle.cx_laws_authorize.specs.cx_rules_session.specs.cx_rules.specs.Secured.{plain_frame}
+use Rattle.cx_laws_authorize.specs.cx_rules_session.specs.cx_rules.specs.cx_login.specs.Client.{Ask, authenticate}
 use Rattle.cx_stream.specs.PlainStreams.{IsPlain}
 use Rattle.cx_wire.specs.Logins.{authenticate_layout}
 

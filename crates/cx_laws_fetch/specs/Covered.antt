@@ -9,10 +9,10 @@ use Rattle.cx_journal.specs.declared.entries.Fetched.{Fetched}
 use Rattle.cx_journal.specs.declared.entries.Issued.{Issued}
 use Rattle.cx_journal.specs.declared.entries.Looked.{Looked}
 use Rattle.cx_rotate.specs.declared.generations.Generation.{Generation}
-use Rattle.cx_run.specs.Happenings.{Happening}
-use Rattle.cx_run.specs.Opening.{Setup, first_state}
-use Rattle.cx_run.specs.Points.{EachPoint, Point, WasEntered, entries_at}
-use Rattle.cx_run.specs.Wires.{same_node}
+use Rattle.cx_laws_authorize.specs.cx_run.specs.Happenings.{Happening}
+use Rattle.cx_laws_authorize.specs.cx_run.specs.Opening.{Setup, first_state}
+use Rattle.cx_laws_authorize.specs.cx_run.specs.Points.{EachPoint, Point, WasEntered, entries_at}
+use Rattle.cx_laws_authorize.specs.cx_run.specs.Wires.{same_node}
 
 -- ---- clocks
 

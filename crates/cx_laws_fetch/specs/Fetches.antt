@@ -7,7 +7,7 @@ use Rattle.cx_journal.specs.declared.entries.Entry.TheVariants as entry
 use Rattle.cx_journal.specs.declared.entries.Fetched.{Fetched}
 use Rattle.cx_rotate.specs.Rotation.{is_current, is_full}
 use Rattle.cx_rotate.specs.declared.generations.Generation.{Generation}
-use Rattle.cx_run.specs.Points.{Before, EachPoint, Point, entries_at}
+use Rattle.cx_laws_authorize.specs.cx_run.specs.Points.{Before, EachPoint, Point, entries_at}
 use Rattle.cx_laws_chain.specs.Chain.{saved_past}
 
 -- at this point of the monitor these were the generations of the service that it had saved, and the second of them was unexpired, save at the bounds

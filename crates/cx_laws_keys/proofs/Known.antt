@@ -5,6 +5,7 @@ use Rattle.std.specs.Int.{from_le_bytes, w64}
 use Rattle.std.specs.List.{AllByRecursion}
 use Rattle.cx_base.specs.Names.{Name}
 use Rattle.cx_base.specs.declared.kinds.EntityType.{EntityType}
+use Rattle.cx_base.specs.declared.kinds.EntityType.TheVariants.{Mon, Mds, Osd, Client, Mgr, Auth}
 use Rattle.cx_cbc.specs.Envelope.{sealed as enveloped}
 use Rattle.cx_journal.specs.declared.entries.Entry.{Entry}
 use Rattle.cx_journal.specs.declared.entries.Entry.TheVariants as journal
@@ -67,9 +68,9 @@ pub record HasReply (us : Uses) (name : Name) (x : AuthorizeReply) : Type 0 wher
   pub counts_into : counter_at x.secret 20 ≡ 0
   pub counts_out : counter_at x.secret 32 ≡ 0
 
--- what a reply to an authorizer says, where this content is one
-abbrev pub RepliesTo : Uses → Name → List ℕ → Type 0
-RepliesTo us name content = (x : AuthorizeReply) → spelled_by authorize_reply_layout.form content ≡ Some x → HasReply us name x
+-- what a reply to an authorizer says, where this content is one: it is of a daemon of this type
+abbrev pub RepliesFor : Uses → Name → EntityType → List ℕ → Type 0
+RepliesFor us name service content = (x : AuthorizeReply) → spelled_by authorize_reply_layout.form content ≡ Some x → (h : HasReply us name x) × (h.service ≡ service)
 
 pub reply-connected : (us : Uses) (name : Name) (x : AuthorizeReply) → HasReply us name x → IsConnected us (take 16 x.secret) name
 reply-connected us name x h = record { acceptor = h.acceptor; number = h.number; tie = AtDaemon h.service x.nonce_plus_one; means = h.means }
@@ -83,9 +84,13 @@ pub record HasLogin (us : Uses) (name : Name) (key : List ℕ) : Type 0 where
 pub login-connected : (us : Uses) (name : Name) (key : List ℕ) → HasLogin us name key → IsConnected us key name
 login-connected us name key h = record { acceptor = node.Monitor; number = h.number; tie = AtMonitor h.challenge; means = h.means }
 
+-- it is none
+abbrev pub IsNoReply : List ℕ → Type 0
+IsNoReply content = (x : AuthorizeReply) → spelled_by authorize_reply_layout.form content ≡ Some x → ⊥
+
 -- what may be sealed under a key of this use, by what is read of it: an entity is told the session key of its own ticket for AUTH, and the
--- generations of its own type; under that session key those of its other tickets, and the secret of its link to the monitor; under the session key of
--- any ticket of it the secret of its link to a daemon; under a generation stand issued tickets of its service
+-- generations of its own type; under that session key those of its other tickets, and the secret of its link to the monitor, and no reply to an authorizer;
+-- under the session key of any other ticket of it the secret of its link to a daemon, of the ticket's service; under a generation stand issued tickets of its service
 abbrev pub Says : Uses → List Entry → List ℕ → Use → List ℕ → Type 0
 Says us entries key (Secret name) content =
     ((x : TicketInfo) → spelled_by ticket_info_layout.form content ≡ Some x → Means us x.session (Login name))
@@ -95,13 +100,19 @@ Says us entries key (Generated service id) content =
 Says us entries key (Login name) content =
     ((x : TicketInfo) → spelled_by ticket_info_layout.form content ≡ Some x → Means us x.session (Ticketed name x.service))
     × ((x : ConnectionSecret) → spelled_by connection_secret_layout.form content ≡ Some x → HasLogin us name (take 16 x.secret))
-    × RepliesTo us name content
-Says us entries key (Ticketed name service) content = RepliesTo us name content
+    × IsNoReply content
+Says us entries key (Ticketed name service) content = RepliesFor us name service content
 Says us entries key (Connected acceptor number name tie) content = Unit {0}
 
--- under an entity's secret only its own node signs
+-- a node is a daemon of this type
+abbrev pub IsOfKind : NodeName → EntityType → Type 0
+IsOfKind (node.Entity name) service = name.kind ≡ service
+IsOfKind node.Monitor service = ⊥
+
+-- under an entity's secret only its own node signs; under the session key of its ticket for a service so do the daemons of that
 abbrev pub SignedAt : NodeName → Use → Type 0
 SignedAt at (Secret name) = at ≡ node.Entity name
+SignedAt at (Ticketed name service) = (at ≡ node.Entity name) ⊎ IsOfKind at service
 SignedAt at _ = Unit {0}
 
 -- these bytes begin with the nonce of an acceptor, of which the highest bit is 0
@@ -114,9 +125,14 @@ abbrev pub IsOfConnector : List ℕ → Type 0
 IsOfConnector [] = ⊥
 IsOfConnector (b ∷ bytes) = 128 ≤ b
 
--- under the key of a link only the entity's own node seals anything but what begins with the nonce of an acceptor
+-- a node is the acceptor, or that is the monitor
+abbrev pub IsAcceptorOr : NodeName → NodeName → Type 0
+IsAcceptorOr at acceptor = (at ≡ acceptor) ⊎ (acceptor ≡ node.Monitor)
+
+-- under the key of a link only the entity's own node seals anything but what begins with the nonce of an acceptor; and that, where the acceptor isn't the monitor,
+-- only the acceptor and that node
 abbrev pub SealedAt : NodeName → Use → List ℕ → Type 0
-SealedAt at (Connected acceptor number name tie) content = (at ≡ node.Entity name) ⊎ IsOfAcceptor content
+SealedAt at (Connected acceptor number name tie) content = (at ≡ node.Entity name) ⊎ IsOfAcceptor content × IsAcceptorOr at acceptor
 SealedAt at _ content = Unit {0}
 
 -- what is sealed or signed is so under a key of some use, as that use allows
@@ -124,6 +140,24 @@ abbrev pub IsAllowed : Uses → List Entry → NodeName → SealEntry → Type 0
 IsAllowed us entries at (entry.Sealed mark) = (u : Use) × Means us mark.key u × Says us entries mark.key u mark.content × SealedAt at u mark.content
 IsAllowed us entries at (entry.Signed mark) = (u : Use) × Means us mark.key u × SignedAt at u
 IsAllowed us entries at _ = Unit {0}
+
+-- the key of a link to a daemon of a type has a daemon of that type as its acceptor
+abbrev pub IsPlaced : Use → Type 0
+IsPlaced (Connected acceptor number name (AtDaemon service tie)) = IsOfKind acceptor service
+IsPlaced (Connected acceptor number name (AtMonitor challenge)) = Unit {0}
+IsPlaced (Secret name) = Unit {0}
+IsPlaced (Generated service id) = Unit {0}
+IsPlaced (Login name) = Unit {0}
+IsPlaced (Ticketed name service) = Unit {0}
+
+-- a session key is that of no link
+pub session-placed : (name : Name) (service : EntityType) → IsPlaced (session_use name service)
+session-placed name Auth = tt
+session-placed name Mon = tt
+session-placed name Mds = tt
+session-placed name Osd = tt
+session-placed name Client = tt
+session-placed name Mgr = tt
 
 -- ---- what is known
 
@@ -142,6 +176,7 @@ pub record Inv (run : WholeRun) (whole : List Logged) (us : Uses) (log : List Lo
   pub allowed : AllByRecursion (λ (at : Logged). IsAllowed us entries at.node at.entry) log
   pub own : AreOwn entries
   pub told : us.saved ≡ run.saved
+  pub placed : (key : List ℕ) (u : Use) → Means us key u → IsPlaced u
 
 -- ---- what is known stays so
 
@@ -167,7 +202,7 @@ told-grows us vs name x g k h = record {
   saved = all-map (IsSavedIn us.saved x.service) (IsSavedIn vs.saved x.service) (λ of was. k x.service of was) x.generations h.saved;
 }
 
-reply-grows : (us vs : Uses) (name : Name) (x : AuthorizeReply) → Grows us vs → HasReply us name x → HasReply vs name x
+abbrev reply-grows : (us vs : Uses) (name : Name) (x : AuthorizeReply) → Grows us vs → HasReply us name x → HasReply vs name x
 reply-grows us vs name x g h = record {
   acceptor = h.acceptor;
   number = h.number;
@@ -182,9 +217,6 @@ reply-grows us vs name x g h = record {
 pub login-grows : (us vs : Uses) (name : Name) (key : List ℕ) → Grows us vs → HasLogin us name key → HasLogin vs name key
 login-grows us vs name key g h =
     record { number = h.number; challenge = h.challenge; means = g.means key (Connected node.Monitor h.number name (AtMonitor h.challenge)) h.means }
-
-replies-grow : (us vs : Uses) (name : Name) (content : List ℕ) → Grows us vs → RepliesTo us name content → RepliesTo vs name content
-replies-grow us vs name content g s = λ x is. reply-grows us vs name x g (s x is)
 
 says-grows : (us vs : Uses) (J K : List Entry) → Grows us vs → KeepsSaved us vs → Within J K → (key : List ℕ) (u : Use) (content : List ℕ) → Says us J key u content → Says vs K key u content
 says-grows us vs J K g k w key (Secret name) content s = (
@@ -208,8 +240,8 @@ says-grows us vs J K g k w key (Generated service id) content s = λ x is.
       g.means x.session (session_use x.name service) (s x is).1,
     )
 says-grows us vs J K g k w key (Login name) content s =
-    (λ x is. g.means x.session (Ticketed name x.service) (s.0 x is), λ x is. login-grows us vs name (take 16 x.secret) g (s.1 x is), replies-grow us vs name content g s.2)
-says-grows us vs J K g k w key (Ticketed name service) content s = replies-grow us vs name content g s
+    (λ x is. g.means x.session (Ticketed name x.service) (s.0 x is), λ x is. login-grows us vs name (take 16 x.secret) g (s.1 x is), s.2)
+says-grows us vs J K g k w key (Ticketed name service) content s = λ x is. (reply-grows us vs name x g (s x is).0, (s x is).1)
 says-grows us vs J K g k w key (Connected acceptor number name tie) content s = tt
 
 pub allowed-grows : (us vs : Uses) (J K : List Entry) → Grows us vs → KeepsSaved us vs → Within J K → (at : NodeName) (e : SealEntry) → IsAllowed us J at e → IsAllowed vs K at e
@@ -267,9 +299,9 @@ module _ (run : WholeRun) (whole : List Logged) (us : Uses) (log : List Logged) 
       not_both [] connector acceptor = connector
       not_both (b ∷ bytes) connector acceptor = omega arith
 
-      by_place : (n : NodeName) → (n ≡ node.Entity name) ⊎ IsOfAcceptor mark.content → n ≡ node.Entity name
+      by_place : (n : NodeName) → (n ≡ node.Entity name) ⊎ IsOfAcceptor mark.content × IsAcceptorOr n h.acceptor → n ≡ node.Entity name
       by_place n (inl own) = own
-      by_place n (inr acceptor) = absurd (not_both mark.content begins acceptor)
+      by_place n (inr acceptor) = absurd (not_both mark.content begins acceptor.0)
 
       by_entry : (n : NodeName) (e : SealEntry) → Seals mark e → IsAllowed us J n e → n ≡ node.Entity name
       by_entry n (entry.Sealed other) same a =

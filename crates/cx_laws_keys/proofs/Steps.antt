@@ -1,5 +1,5 @@
 -- What is known grows entry by entry: one step for each kind of entry of the log and of the journal.
-use Rattle.std.proofs.Common.{◌≡◌, ℕ, List, [], ◌∷◌, ◌++◌, Option, Some, inl, inr, sym, ap, ◌∙◌}
+use Rattle.std.proofs.Common.{subst, ◌≡◌, ℕ, List, [], ◌∷◌, ◌++◌, Option, Some, inl, inr, sym, ap, ◌∙◌}
 use Rattle.std.specs.Prelude.{Contains}
 use Rattle.std.specs.List.{AllByRecursion}
 use Rattle.std.proofs.lemmas.List.Elements.{Contains-append_left}
@@ -14,7 +14,7 @@ use Rattle.cx_steps.specs.declared.seals.Logged.{Logged}
 use Rattle.cx_steps.specs.declared.seals.SealEntry.{SealEntry}
 use Rattle.cx_steps.specs.declared.seals.SealEntry.TheVariants as entry
 use Rattle.cx_laws_keys.proofs.Lists.{all-map, some-map, some-right}
-use Rattle.cx_laws_keys.proofs.Known.{AreOwn, Inv, IsAllowed, Within, allowed-grows}
+use Rattle.cx_laws_keys.proofs.Known.{IsPlaced, AreOwn, Inv, IsAllowed, Within, allowed-grows}
 use Rattle.cx_laws_keys.proofs.Premises.{DrawsKey, IsGranted, behind, logged, new-key}
 use Rattle.cx_laws_keys.proofs.Uses.{DrawnAs, HasDrawn, HasSecret, Means, Secret, Use, Uses, grows-one, stays, whose, with_key, WholeRun, grows-saved}
 use Rattle.cx_rotate.specs.declared.generations.Generation.{Generation}
@@ -47,12 +47,13 @@ module _ (run : WholeRun) (whole : List Logged) where
       allowed = (a, i.allowed);
       own = i.own;
       told = i.told;
+      placed = i.placed;
     }
 
     -- a key that is drawn for a use
-    pub inv-drawn : (n : NodeName) (line : ℕ) (mark : DrawMark) (key : List ℕ) (u : Use) → Inv run whole us log J → key_of mark ≡ Some key → for_whom mark ≡ whose u
+    pub inv-drawn : (n : NodeName) (line : ℕ) (mark : DrawMark) (key : List ℕ) (u : Use) → Inv run whole us log J → key_of mark ≡ Some key → for_whom mark ≡ whose u → IsPlaced u
         → ((name : Name) → u ≡ Secret name → mark ≡ draw.Principal key name) → IsGranted run.leaked whole log (logged n line (entry.Drawn mark)) → Inv run whole (with_key us key u) (logged n line (entry.Drawn mark) ∷ log) J
-    inv-drawn n line mark key u i is for exact grant = record {
+    inv-drawn n line mark key u i is for place exact grant = record {
       held = held;
       secrets = secrets;
       one = one;
@@ -64,6 +65,7 @@ module _ (run : WholeRun) (whole : List Logged) where
       );
       own = i.own;
       told = i.told;
+      placed = placed;
     }
       where
         unused : (k : List ℕ) (v : Use) → key ≡ k → Means us k v → ⊥
@@ -80,6 +82,10 @@ module _ (run : WholeRun) (whole : List Logged) where
         secrets : (k : List ℕ) (name : Name) → Means (with_key us key u) k (Secret name) → HasSecret (logged n line (entry.Drawn mark) ∷ log) name k
         secrets k name (inl (same, purpose)) = inl (ap (λ (m : DrawMark). entry.Drawn m) (exact name purpose ∙ ap (λ (x : List ℕ). draw.Principal x name) same))
         secrets k name (inr h) = inr (i.secrets k name h)
+
+        placed : (k : List ℕ) (v : Use) → Means (with_key us key u) k v → IsPlaced v
+        placed k v (inl (same, purpose)) = subst IsPlaced purpose place
+        placed k v (inr h) = i.placed k v h
 
         one : (k : List ℕ) (v w : Use) → Means (with_key us key u) k v → Means (with_key us key u) k w → v ≡ w
         one k v w (inl (a, b)) (inl (c, d)) = sym b ∙ d
@@ -104,6 +110,7 @@ module _ (run : WholeRun) (whole : List Logged) where
           (λ at a. allowed-grows us us J (J ++ e ∷ []) (stays us) (λ s g h. h) (within-entered J (e ∷ [])) at.node at.entry a) log i.allowed;
       own = own;
       told = i.told;
+      placed = i.placed;
     }
 
   -- nothing else is said of what was saved: behind more of that all stays known
@@ -121,6 +128,7 @@ module _ (run : WholeRun) (whole : List Logged) where
             (within-itself J) at.node at.entry a) log i.allowed;
         own = i.own;
         told = ap (λ (s : List (EntityType × Generation)). more ++ s) i.told;
+        placed = i.placed;
       }
 
   -- entries that are allowed, in order

@@ -7,11 +7,11 @@ use Rattle.cx_control.specs.Auth.{auth_done_layout, auth_reply_more_layout}
 use Rattle.cx_control.specs.Hello.{hello_layout}
 use Rattle.cx_dice.specs.Draws.{challenge_of}
 use Rattle.cx_frame.specs.declared.frame.Frame.{Frame}
-use Rattle.cx_rules.specs.Fronts.{banner_next, plain_next, secure_next, taking}
-use Rattle.cx_rules.specs.Links.{Link}
-use Rattle.cx_rules.specs.Payloads.{due}
-use Rattle.cx_rules.specs.Rows.{Turned, Waits, Refuses, Handles, at}
-use Rattle.cx_rules.specs.Secured.{Secured}
+use Rattle.cx_laws_series.specs.cx_rules.specs.Fronts.{banner_next, plain_next, secure_next, taking}
+use Rattle.cx_laws_series.specs.cx_rules.specs.Links.{Link}
+use Rattle.cx_laws_series.specs.cx_rules.specs.Payloads.{due}
+use Rattle.cx_laws_series.specs.cx_rules.specs.Rows.{Turned, Waits, Refuses, Handles, at}
+use Rattle.cx_laws_series.specs.cx_rules.specs.Secured.{Secured}
 use Rattle.cx_rules_session.specs.Presenter.{Caller, CallArrival, CallRow, CallStage, AwaitsBanner, AwaitsHello, AwaitsChallenge, AwaitsDone, AwaitsSignature, AwaitsIdent, AwaitsReconnect, Open, callee_of, on_banner, on_hello, presented, turned_at, while_answered, while_challenged}
 use Rattle.cx_rules_session.specs.Sessions.{Called, Callee, HeldSession}
 use Rattle.cx_run.proofs.Taking.{EachRow}
@@ -25,14 +25,14 @@ pub record RowKeeps (number : ℕ) (callee : Callee) (row : CallRow) : Type 0 wh
   pub link : (link : Link CallStage) → row.link ≡ Some link → (link.number ≡ number) × (callee_of link.stage ≡ callee) × HeldAt row.own.session link.stage
 
 -- nothing is asked of the operations that wait
-abbrev Anything : ℕ → ℕ × Operation → Type 0
+abbrev pub Anything : ℕ → ℕ × Operation → Type 0
 Anything cookie order = Unit {0}
 
 all-anything : (cookie : ℕ) (orders : List (ℕ × Operation)) → AllByRecursion (Anything cookie) orders
 all-anything cookie [] = tt
 all-anything cookie (order ∷ orders) = (tt, all-anything cookie orders)
 
-here-of : (cookie : ℕ) (session : Option HeldSession) → ((s : HeldSession) → session ≡ Some s → s.client_cookie ≡ cookie) → IsHeldHere Anything (Some cookie) session
+pub here-of : (cookie : ℕ) (session : Option HeldSession) → ((s : HeldSession) → session ≡ Some s → s.client_cookie ≡ cookie) → IsHeldHere Anything (Some cookie) session
 here-of cookie None same = tt
 here-of cookie (Some s) same = (ap (λ (k : ℕ). let o : Option ℕ = Some k in o) (sym (same s refl)), all-anything s.client_cookie s.queue.waiting)
 

@@ -21,13 +21,13 @@ use Rattle.cx_journal.specs.declared.faults.BytesFault.{BytesFault}
 use Rattle.cx_journal.specs.declared.faults.LoginFault.TheVariants.{Mode, NonceWrong, Unopened}
 use Rattle.cx_journal.specs.declared.outcomes.Reason.{Reason}
 use Rattle.cx_journal.specs.declared.outcomes.Reason.TheVariants as reason
-use Rattle.cx_rules.specs.Fronts.{banner_next, plain_next}
-use Rattle.cx_rules.specs.Greetings.{own_hello}
-use Rattle.cx_rules.specs.Links.{Link}
-use Rattle.cx_rules.specs.Messages.{sealed_behind, sealed_then, secure_frames}
-use Rattle.cx_rules.specs.Payloads.{control, due, payload, whole}
-use Rattle.cx_rules.specs.Rows.{at, goes_on, plain_sent, refuses, turned_by, unless_refused}
-use Rattle.cx_rules.specs.Secured.{SealedFrame, Secured, connector_keys, plain_frame, secure_frame, signature, signed_frame, signing}
+use Rattle.cx_laws_series.specs.cx_rules.specs.Fronts.{banner_next, plain_next}
+use Rattle.cx_laws_series.specs.cx_rules.specs.Greetings.{own_hello}
+use Rattle.cx_laws_series.specs.cx_rules.specs.Links.{Link}
+use Rattle.cx_laws_series.specs.cx_rules.specs.Messages.{sealed_behind, sealed_then, secure_frames}
+use Rattle.cx_laws_series.specs.cx_rules.specs.Payloads.{control, due, payload, whole}
+use Rattle.cx_laws_series.specs.cx_rules.specs.Rows.{at, goes_on, plain_sent, refuses, turned_by, unless_refused}
+use Rattle.cx_laws_series.specs.cx_rules.specs.Secured.{SealedFrame, Secured, connector_keys, plain_frame, secure_frame, signature, signed_frame, signing}
 use Rattle.cx_rules_session.specs.Envelopes.{authorize_content, sends_holding, session_sealed}
 use Rattle.cx_rules_session.specs.Presenter.{CallArrival, CallRow, CallStage, AwaitsBanner, AwaitsHello, AwaitsChallenge, AwaitsDone, AwaitsSignature, callee_of, answers_challenge, first_frame, on_authorize_reply, on_bad_method, on_banner, on_challenge, on_done, on_hello, on_reply_more, on_unlocked, presented, presents, second_frame, signs, turned_at, while_answered, while_challenged}
 use Rattle.cx_rules_session.specs.Sessions.{Called, Callee, HeldSession}
@@ -47,7 +47,7 @@ use Rattle.cx_wire.specs.Logins.{authorize_challenge_layout, authorize_reply_lay
 use Rattle.cx_wire.specs.declared.authorizers.AuthorizeChallenge as shown_challenge
 use Rattle.cx_wire.specs.declared.authorizers.AuthorizeReply as shown_reply
 use Rattle.cx_run.proofs.Taking.{EachRow, each-turned}
-use Rattle.cx_laws_links.proofs.CallWords.{AreQuiet, HeldAt, KeyedStage, OneWord, Says, SignedOn, quiet-append}
+use Rattle.cx_laws_links.proofs.CallWords.{AreQuiet, HeldAt, KeyedStage, OneWord, Says, SignedOn, quiet-append, pending_of}
 use Rattle.cx_laws_links.proofs.Spoken.{Signs, frame_of}
 
 -- ---- what rows come to until the link has a key
@@ -233,6 +233,10 @@ module _ (W : ℕ → ℕ × Operation → Type 0) (a : CallArrival) (callee : C
               let s : Secured = record { keys = one.keys; session = answered.session; covered = a.link.sent } in
               let it : record a.link { stage = AwaitsSignature s callee } ≡ link = cc in
               subst (λ (l : Link CallStage). HeldAt a.own.session l.stage) it (signs-held a.own.session s callee);
+          waits = λ link is.
+              let s : Secured = record { keys = one.keys; session = answered.session; covered = a.link.sent } in
+              let it : record a.link { stage = AwaitsSignature s callee } ≡ link = cc in
+              subst (λ (l : Link CallStage). [] ≡ pending_of l.stage) it refl;
           said = OneWord (Signs (hmac answered.session received)) tt;
         };
       })

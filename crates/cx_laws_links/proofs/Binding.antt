@@ -9,7 +9,7 @@ use Rattle.cx_journal.specs.declared.entries.Entry.{Entry}
 use Rattle.cx_laws_keys.proofs.Known.{HasReply}
 use Rattle.cx_laws_keys.proofs.Uses.{Means, Use, Uses, WholeRun}
 use Rattle.cx_laws_series.proofs.Contents.{contents_in}
-use Rattle.cx_rules.specs.Secured.{Secured, connector_keys}
+use Rattle.cx_laws_series.specs.cx_rules.specs.Secured.{Secured, connector_keys}
 use Rattle.cx_sealed.specs.declared.authorize_reply.AuthorizeReply.{AuthorizeReply}
 use Rattle.cx_secure.specs.Contents.{sealed_contents}
 use Rattle.cx_steps.specs.declared.seals.Logged.{Logged}

@@ -17,9 +17,9 @@ use Rattle.cx_laws_keys.proofs.Premises.{AreGranted, behind, behind-append}
 use Rattle.cx_laws_keys.proofs.Uses.{Grows, Means, Use, Uses, WholeRun}
 use Rattle.cx_laws_series.proofs.Contents.{contents-behind, contents_by, contents_in}
 use Rattle.cx_laws_series.proofs.Frames.{HasParts, frames-parts}
-use Rattle.cx_rules.specs.Holdings.{Asker}
-use Rattle.cx_rules.specs.Links.{Link}
-use Rattle.cx_rules.specs.Secured.{Keys, SealedFrame, Secured}
+use Rattle.cx_laws_series.specs.cx_rules.specs.Holdings.{Asker}
+use Rattle.cx_laws_series.specs.cx_rules.specs.Links.{Link}
+use Rattle.cx_laws_series.specs.cx_rules.specs.Secured.{Keys, SealedFrame, Secured}
 use Rattle.cx_rules_session.specs.Presenter.{CallRow}
 use Rattle.cx_rules_session.specs.Sessions.{Callee}
 use Rattle.cx_secure.specs.Parts.{nonce_at}

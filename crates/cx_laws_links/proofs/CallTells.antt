@@ -18,8 +18,8 @@ use Rattle.cx_laws_keys.proofs.Premises.{AreGranted, IsGranted, behind, behind-a
 use Rattle.cx_laws_keys.proofs.Uses.{Uses}
 use Rattle.cx_laws_series.proofs.Contents.{content_of, contents-behind, contents_by, contents_in, parts-others}
 use Rattle.cx_laws_series.proofs.Frames.{HasParts, frame-sealed, frames-parts}
-use Rattle.cx_rules.specs.Messages.{sealed_behind, sealed_then, secure_frames}
-use Rattle.cx_rules.specs.Secured.{Keys, SealedFrame, sealed_under, secure_frame}
+use Rattle.cx_laws_series.specs.cx_rules.specs.Messages.{sealed_behind, sealed_then, secure_frames}
+use Rattle.cx_laws_series.specs.cx_rules.specs.Secured.{Keys, SealedFrame, sealed_under, secure_frame}
 use Rattle.cx_secure.specs.Plains.{plains}
 use Rattle.cx_steps.specs.Onto.{SomeOf}
 use Rattle.cx_steps.specs.Premises.{IsNew, RepeatsIn}

@@ -1,5 +1,5 @@
 -- A turn of a client's link to a daemon: all that is known stays known behind it, all other links keep what is known of them, and so does this one.
-use Rattle.std.proofs.Common.{◌≡◌, ℕ, ◌<◌, ◌^◌, Bool, true, false, List, [], ◌∷◌, ◌++◌, take, Option, Some, None, inl, inr, ◌⊎◌, refl, sym, ap, ◌∙◌, subst}
+use Rattle.std.proofs.Common.{◌≡◌, ℕ, ◌<◌, ◌^◌, Bool, true, false, List, [], ◌∷◌, ◌++◌, map, take, Option, Some, None, inl, inr, ◌⊎◌, refl, sym, ap, ◌∙◌, subst}
 use Rattle.std.proofs.lemmas.Bool.{false_from_ne_true}
 use Rattle.std.proofs.lemmas.List.Elements.{Contains-append_left, Contains-push}
 use Rattle.std.proofs.lemmas.Slice.Eq.{bytes_eq-Decides}
@@ -19,10 +19,11 @@ use Rattle.cx_laws_keys.proofs.Known.{HasReply, Inv, Within}
 use Rattle.cx_laws_keys.proofs.Premises.{AreGranted, behind, granted-first}
 use Rattle.cx_laws_keys.proofs.Uses.{AtDaemon, Connected, Grows, Login, Means, Ticketed, Use, Uses, WholeRun}
 use Rattle.cx_laws_series.proofs.Contents.{content_of, content_where, contents_by}
-use Rattle.cx_rules.specs.Links.{Link}
-use Rattle.cx_rules.specs.Secured.{Secured, connector_keys, under}
-use Rattle.cx_rules.specs.Fronts.{keys_behind}
+use Rattle.cx_laws_series.specs.cx_rules.specs.Links.{Link}
+use Rattle.cx_laws_series.specs.cx_rules.specs.Secured.{Keys, Secured, connector_keys, under}
+use Rattle.cx_laws_series.specs.cx_rules.specs.Fronts.{keys_behind}
 use Rattle.cx_rules_session.specs.Envelopes.{authorize_content, session_sealed}
+use Rattle.cx_rules_session.specs.Presenter as call
 use Rattle.cx_rules_session.specs.Presenter.{CallArrival, CallRow, CallStage, callee_of}
 use Rattle.cx_rules_session.specs.Sessions.{Called, Callee}
 use Rattle.cx_sealed.specs.declared.authorize_reply.AuthorizeReply.{AuthorizeReply}
@@ -35,15 +36,15 @@ use Rattle.cx_steps.specs.declared.seals.SealEntry.TheVariants as entry
 use Rattle.cx_laws_links.proofs.Authorizing.{ShowsAgain, ShowsFirst, ShowsNothing, ShutsQuietly, SpeaksFirst}
 use Rattle.cx_laws_links.proofs.Binding.{binds, binds-keyed, bound-unshown, placed, placed-other, shown-bound, shown-here, shows}
 use Rattle.cx_laws_links.proofs.CallSteps.{WasSent, row-keyed, row-told, speaks}
-use Rattle.cx_laws_links.proofs.CallTells.{by-append, drawn-new, drawn-there, quiet-none}
+use Rattle.cx_laws_links.proofs.CallTells.{are-sealed, by-append, drawn-new, drawn-there, quiet-none}
 use Rattle.cx_laws_links.proofs.CallTurn.{TurnSays, keyed-behind}
-use Rattle.cx_laws_links.proofs.CallWords.{AreQuiet, HeldAt, Identified, KeyedStage, Opened, Reconnecting, Says, SignedOn}
+use Rattle.cx_laws_links.proofs.CallWords.{AreQuiet, HeldAt, Identified, KeyedStage, Opened, Reconnecting, Says, SignedOn, pending_of}
 use Rattle.cx_laws_links.proofs.Known.{AreTold, Bound, CallTold, HasNonce, IsKeyed, IsShown, NoncePlace, Shown, Told, Unshown}
 use Rattle.cx_laws_links.proofs.Lifting.{told-stays}
 use Rattle.cx_laws_links.proofs.Moving.{KeepsNonces, Moved, Quiets, Speaks}
 use Rattle.cx_laws_links.proofs.Others.{keyed-one, link-one, raised-one}
-use Rattle.cx_laws_links.proofs.Speaking.{speaking}
-use Rattle.cx_laws_links.proofs.Spoken.{Spoken, cookie_behind, is_connectors}
+use Rattle.cx_laws_links.proofs.Speaking.{said-append, said-own, speaking}
+use Rattle.cx_laws_links.proofs.Spoken.{Spoken, asked, asked-append, cookie_behind, frame_of, is_connectors, said_under, tagged}
 use Rattle.cx_laws_links.proofs.Written.{IsLinkKey}
 
 -- a link that has a key, as its stage says
@@ -53,6 +54,34 @@ keyed-told us told log name number _ _ _ (SignedOn s callee) h = h
 keyed-told us told log name number _ _ _ (Identified s callee cookie) h = h
 keyed-told us told log name number _ _ _ (Reconnecting s callee cookie) h = h
 keyed-told us told log name number _ _ _ (Opened s callee cookie) h = h
+
+-- ---- what a link asks for
+
+-- of a link that has a key: what was asked for under it, and behind that this
+abbrev pub KeyedAsks : Told → Told → Secured → List ℕ → Type 0
+KeyedAsks told next s pending = asked (said_under s.keys.key next.said) ≡ asked (said_under s.keys.key told.said) ++ pending
+
+-- what a link waits for was asked for in this step
+abbrev pub AsksOn : Told → Told → CallStage → Type 0
+AsksOn told next (call.AwaitsSignature s callee) = KeyedAsks told next s []
+AsksOn told next (call.AwaitsIdent s callee cookie) = KeyedAsks told next s (cookie ∷ [])
+AsksOn told next (call.AwaitsReconnect s callee cookie) = KeyedAsks told next s (cookie ∷ [])
+AsksOn told next (call.Open s callee cookie) = KeyedAsks told next s []
+AsksOn told next _ = Unit {0}
+
+keyed-asks : (told next : Told) (stage : CallStage) (s : Secured) (cookie : Option ℕ) → KeyedStage stage s cookie → KeyedAsks told next s (pending_of stage) → AsksOn told next stage
+keyed-asks told next _ _ _ (SignedOn s callee) h = h
+keyed-asks told next _ _ _ (Identified s callee cookie) h = h
+keyed-asks told next _ _ _ (Reconnecting s callee cookie) h = h
+keyed-asks told next _ _ _ (Opened s callee cookie) h = h
+
+-- where some words are spoken under the link's key, and it waits for what they ask for
+words-ask : (told : Told) (nonces : ℕ → NoncePlace) (key : List ℕ) (words : List Spoken) (t : Secured) (pending : List ℕ) → t.keys.key ≡ key → asked words ≡ pending
+    → KeyedAsks told (speaking told nonces key words) t pending
+words-ask told nonces key words t pending same waits =
+    subst (λ (k : List ℕ). asked (said_under k (told.said ++ tagged key words)) ≡ asked (said_under k told.said) ++ pending) (sym same)
+    (ap (λ (l : List Spoken). asked l) (said-append key told.said (tagged key words) ∙ ap (λ (l : List Spoken). said_under key told.said ++ l) (said-own key words))
+    ∙ asked-append (said_under key told.said) words ∙ ap (λ (l : List ℕ). asked (said_under key told.said) ++ l) waits)
 
 pub same-nonces : (told : Told) (name : Name) (number : ℕ) → KeepsNonces told name number told.nonces
 same-nonces told name number = record { bound = λ nonce whose second key stands. stands; shown = λ nonce whose second apart stands. stands }
@@ -67,21 +96,28 @@ module _ (run : WholeRun) (whole : List Logged) (us vs : Uses) (told : Told) (lo
     pub moved : Moved us vs told log row.seals name number next
     pub known : AreTold run vs next (behind n line row.seals log) K
     pub link : (link : Link CallStage) → row.link ≡ Some link → (link.number ≡ number) × CallTold vs next (behind n line row.seals log) name number link.stage
+    pub asks : (link : Link CallStage) → row.link ≡ Some link → AsksOn told next link.stage
 
   -- ---- a row that says nothing
 
   quiet-step : (row : CallRow) → ((other : List ℕ) (whose : Name) (tie : ℕ) → IsLinkKey vs other whose tie → contents_by other is_connectors row.seals ≡ [])
-      → ((link : Link CallStage) → row.link ≡ Some link → (link.number ≡ number) × CallTold vs told (behind n line row.seals log) name number link.stage) → CallStep row
-  quiet-step row quiet link = record {
+      → ((link : Link CallStage) → row.link ≡ Some link → (link.number ≡ number) × CallTold vs told (behind n line row.seals log) name number link.stage)
+      → ((link : Link CallStage) → row.link ≡ Some link → AsksOn told told link.stage) → CallStep row
+  quiet-step row quiet link asks = record {
     next = told;
     moved = Quiets told.nonces (same-nonces told name number) quiet;
     known = told-stays run whole us vs told log J K n line row.seals one f w i quiet none t;
     link = link;
+    asks = asks;
   }
 
   pub shuts-step : (row : CallRow) → ShutsQuietly row → CallStep row
   shuts-step row h = quiet-step row (λ other whose tie is. quiet-none other is_connectors row.seals h.quiet) (λ link is. none-there link (sym h.link ∙ is))
+      (λ link is. none-asks link (sym h.link ∙ is))
     where
+      none-asks : (link : Link CallStage) → (let o : Option (Link CallStage) = None in o ≡ Some link) → AsksOn told told link.stage
+      none-asks link e = absurd cc
+
       none-there : (link : Link CallStage) → (let o : Option (Link CallStage) = None in o ≡ Some link) → (link.number ≡ number) × CallTold vs told (behind n line row.seals log) name number link.stage
       none-there link e = absurd cc
 
@@ -102,6 +138,11 @@ module _ (run : WholeRun) (whole : List Logged) (us vs : Uses) (told : Told) (lo
           keyed-told vs (speaking told told.nonces s.keys.key h.words) (behind n line row.seals log) name number link.stage l.0 (cookie_behind before h.words) l.1
               (row-keyed run whole us vs told log J K n line one_before one f w i none t name number callee s before k row h g l.0 l.2),
         );
+    asks = λ link is.
+        let l = h.link link is in
+        let key : l.0.keys.key ≡ s.keys.key = ap (λ (x : Keys). x.key) l.2 ∙ (are-sealed s.keys.key s.keys (map frame_of h.words) h.sealed refl h.made).key_is in
+        keyed-asks told (speaking told told.nonces s.keys.key h.words) link.stage l.0 (cookie_behind before h.words) l.1
+        (words-ask told told.nonces s.keys.key h.words l.0 (pending_of link.stage) key (h.waits link is));
   }
     where
       by_one : (whose : Name) (second : ℕ) → (name ≡ whose) × (number ≡ second) → (whose ≡ name) × (second ≡ number)
@@ -116,6 +157,7 @@ module _ (run : WholeRun) (whole : List Logged) (us vs : Uses) (told : Told) (lo
       quiet-step row (λ other whose tie is. quiet-none other is_connectors row.seals h.quiet)
       (λ link is. let l = h.link link is in
       (l.1 ∙ here, subst (λ (stage : CallStage). CallTold vs told (behind n line row.seals log) name number stage) (sym l.0) tt))
+      (λ link is. subst (λ (stage : CallStage). AsksOn told told stage) (sym (h.link link is).0) tt)
 
   -- ---- what is sealed under the session key of a ticket
 
@@ -151,6 +193,7 @@ module _ (run : WholeRun) (whole : List Logged) (us vs : Uses) (told : Told) (lo
       (session-none p.held.session h.content m other whose tie is))
       (λ link is. let l = h.link link is in
       (l.1 ∙ here, subst (λ (stage : CallStage). CallTold vs told (behind n line row.seals log) name number stage) (sym l.0) shown))
+      (λ link is. subst (λ (stage : CallStage). AsksOn told told stage) (sym (h.link link is).0) tt)
 
   -- ---- a nonce is shown for the first time
 
@@ -175,6 +218,7 @@ module _ (run : WholeRun) (whole : List Logged) (us vs : Uses) (told : Told) (lo
       subst (λ (stage : CallStage). CallTold vs (record told { nonces = placed told.nonces p.nonce (Shown name number) }) (behind n line row.seals log) name number stage) (sym l.0)
           (shown-here told p.nonce name number low),
     );
+    asks = λ link is. subst (λ (stage : CallStage). AsksOn told (record told { nonces = placed told.nonces p.nonce (Shown name number) }) stage) (sym (h.link link is).0) tt;
   }
     where
       shown-unshown : (whose : Name) (second : ℕ) → Unshown ≡ Shown whose second → ⊥
@@ -257,4 +301,9 @@ module _ (run : WholeRun) (whole : List Logged) (us vs : Uses) (told : Told) (lo
                   keyed-told vs (speaking bound bound.nonces key says.words) (behind n line row.seals log) name number link.stage l.0 (cookie_behind None says.words) l.1
                       (row-keyed run whole us vs bound log J K n line one_before one f w i none first name number callee s None k row says g l.0 l.2),
                 );
+            asks = λ link is.
+                let l = says.link link is in
+                let own : l.0.keys.key ≡ key = ap (λ (x : Keys). x.key) l.2 ∙ (are-sealed key s.keys (map frame_of says.words) says.sealed refl says.made).key_is in
+                keyed-asks told (speaking bound bound.nonces key says.words) link.stage l.0 (cookie_behind None says.words) l.1
+                (words-ask told bound.nonces key says.words l.0 (pending_of link.stage) own (says.waits link is));
           }

@@ -19,13 +19,13 @@ use Rattle.cx_journal.specs.declared.entries.Entry.TheVariants as journal
 use Rattle.cx_laws_keys.proofs.Known.{HasReply, Inv, Within}
 use Rattle.cx_laws_keys.proofs.Premises.{AreGranted}
 use Rattle.cx_laws_keys.proofs.Uses.{Grows, Login, Means, Ticketed, Use, Uses, WholeRun}
-use Rattle.cx_rules.specs.Fronts.{ahead_of, banner_next, banner_read, opened_parts, plain_next, plain_read, sealed_ahead, secure_next, secure_read, taking}
+use Rattle.cx_laws_series.specs.cx_rules.specs.Fronts.{ahead_of, banner_next, banner_read, opened_parts, plain_next, plain_read, sealed_ahead, secure_next, secure_read, taking}
 use Rattle.cx_login.specs.Held.{Held}
-use Rattle.cx_rules.specs.Holdings.{Asker}
-use Rattle.cx_rules.specs.Links.{Link}
-use Rattle.cx_rules.specs.Payloads.{due}
-use Rattle.cx_rules.specs.Rows.{Turned, Waits, Refuses, Handles, at, turned_by}
-use Rattle.cx_rules.specs.Secured.{Keys, Secured}
+use Rattle.cx_laws_series.specs.cx_rules.specs.Holdings.{Asker}
+use Rattle.cx_laws_series.specs.cx_rules.specs.Links.{Link}
+use Rattle.cx_laws_series.specs.cx_rules.specs.Payloads.{due}
+use Rattle.cx_laws_series.specs.cx_rules.specs.Rows.{Turned, Waits, Refuses, Handles, at, turned_by}
+use Rattle.cx_laws_series.specs.cx_rules.specs.Secured.{Keys, Secured}
 use Rattle.cx_rules_session.specs.Presenter.{Caller, CallArrival, CallRow, CallStage, AwaitsBanner, AwaitsHello, AwaitsChallenge, AwaitsDone, AwaitsSignature, AwaitsIdent, AwaitsReconnect, Open, callee_of, on_banner, on_hello, presented, presented_by, turned_at, while_answered, while_challenged}
 use Rattle.cx_rules_session.specs.Sessions.{Called, Callee, ticket_for}
 use Rattle.cx_sealed.specs.declared.authorize_reply.AuthorizeReply.{AuthorizeReply}

@@ -27,13 +27,13 @@ use Rattle.cx_journal.specs.declared.faults.BytesFault.TheVariants.{Features, Un
 use Rattle.cx_journal.specs.declared.faults.LoginFault.TheVariants.{SignatureWrong}
 use Rattle.cx_journal.specs.declared.outcomes.Reason.{Reason}
 use Rattle.cx_journal.specs.declared.outcomes.Reason.TheVariants as reason
-use Rattle.cx_rules.specs.Connector.{client_ident}
-use Rattle.cx_rules.specs.Links.{Link}
-use Rattle.cx_rules.specs.Messages.{message_in, on_upkeep_or, sealed_behind, sealed_then, secure_frames}
-use Rattle.cx_rules.specs.Payloads.{due, payload}
-use Rattle.cx_rules.specs.Rows.{goes_on, refused_entry, refuses, refuses_bytes, secure_sent, with_opened}
-use Rattle.cx_rules.specs.Secured.{SealedFrame, Secured, is_signed, secure_frame, signature_found}
-use Rattle.cx_rules.specs.Upkeep.{on_keepalive, on_keepalive_ack}
+use Rattle.cx_laws_series.specs.cx_rules.specs.Connector.{client_ident}
+use Rattle.cx_laws_series.specs.cx_rules.specs.Links.{Link}
+use Rattle.cx_laws_series.specs.cx_rules.specs.Messages.{message_in, on_upkeep_or, sealed_behind, sealed_then, secure_frames}
+use Rattle.cx_laws_series.specs.cx_rules.specs.Payloads.{due, payload}
+use Rattle.cx_laws_series.specs.cx_rules.specs.Rows.{goes_on, refused_entry, refuses, refuses_bytes, secure_sent, with_opened}
+use Rattle.cx_laws_series.specs.cx_rules.specs.Secured.{SealedFrame, Secured, is_signed, secure_frame, signature_found}
+use Rattle.cx_laws_series.specs.cx_rules.specs.Upkeep.{on_keepalive, on_keepalive_ack}
 use Rattle.cx_rules_session.specs.Kinds.{entered_before}
 use Rattle.cx_rules_session.specs.Lossy.{lossy_flags}
 use Rattle.cx_rules_session.specs.Presenter.{CallArrival, CallRow, CallStage, AwaitsBanner, AwaitsHello, AwaitsChallenge, AwaitsDone, AwaitsSignature, AwaitsIdent, AwaitsReconnect, Open, OperationEnd, callee_of, acknowledges, counting, end_in, holding_session, identifies, on_ack, on_answer, on_answer_or_ack, on_missing_features, on_reconnect_ok, on_reset, on_retry, on_retry_global, on_server_ident, on_signature, on_signed, reconnects, resets, retries, retries_global, taken_up, takes_up, while_identified, while_reconnecting}
@@ -42,7 +42,7 @@ use Rattle.cx_steps.specs.declared.seals.DrawMark.TheVariants as draw
 use Rattle.cx_steps.specs.declared.seals.SealEntry.{SealEntry}
 use Rattle.cx_steps.specs.declared.seals.SealEntry.TheVariants as entry
 use Rattle.cx_laws_login.proofs.Rows.{all-filter}
-use Rattle.cx_laws_links.proofs.Spoken.{Idents, KeepsUp, Orders, Reconnects, Signs, Spoken, cookie_after, cookie_behind, frame_of}
+use Rattle.cx_laws_links.proofs.Spoken.{Idents, KeepsUp, Orders, Reconnects, Signs, Spoken, asked, cookie_after, cookie_behind, frame_of}
 
 -- nothing is sealed by it
 abbrev pub IsQuiet : SealEntry → Type 0
@@ -96,6 +96,12 @@ HeldAt (Some session) (AwaitsReconnect s callee cookie) = session.client_cookie 
 HeldAt (Some session) (Open s callee cookie) = session.client_cookie ≡ cookie
 HeldAt session stage = Unit {0}
 
+-- the session that a link waits for a reply to
+abbrev pub pending_of : CallStage → List ℕ
+pending_of (AwaitsIdent s callee cookie) = cookie ∷ []
+pending_of (AwaitsReconnect s callee cookie) = cookie ∷ []
+pending_of _ = []
+
 -- what a row says from these keys on, where this session was spoken of last: these words, sealed in their order behind what opened and was drawn; the link
 -- goes on under the keys behind them, for the session that is spoken of last then
 pub record Says (W : ℕ → ℕ × Operation → Type 0) (number : ℕ) (callee : Callee) (s : Secured) (before : Option ℕ) (row : CallRow) : Type 0 where
@@ -108,6 +114,7 @@ pub record Says (W : ℕ → ℕ × Operation → Type 0) (number : ℕ) (callee
   pub link : (link : Link CallStage) → row.link ≡ Some link → (t : Secured) × KeyedStage link.stage t (cookie_behind before words) × (t.keys ≡ sealed.keys) × (link.number ≡ number)
   pub calls : (link : Link CallStage) → row.link ≡ Some link → callee_of link.stage ≡ callee
   pub held : (link : Link CallStage) → row.link ≡ Some link → HeldAt row.own.session link.stage
+  pub waits : (link : Link CallStage) → row.link ≡ Some link → asked words ≡ pending_of link.stage
   pub said : AreWords W before quiet words
 
 abbrev nothing_sealed : Secured → SealedFrame
@@ -128,12 +135,14 @@ module _ (W : ℕ → ℕ × Operation → Type 0) (before : Option ℕ) where
     link = λ link is. absurd cc;
     calls = λ link is. absurd cc;
     held = λ link is. absurd cc;
+    waits = λ link is. absurd cc;
     said = NoWord;
   }
 
   -- it goes on without a word
-  goes-says : (callee : Callee) (a b : CallArrival) (s : Secured) (stage : CallStage) → KeyedStage stage s before → b.link ≡ a.link → callee_of stage ≡ callee → HeldAt b.own.session stage → S callee a s (goes_on b stage [] [])
-  goes-says callee a b s stage keyed same calls held = record {
+  goes-says : (callee : Callee) (a b : CallArrival) (s : Secured) (stage : CallStage) → KeyedStage stage s before → b.link ≡ a.link → callee_of stage ≡ callee → HeldAt b.own.session stage → [] ≡ pending_of stage
+      → S callee a s (goes_on b stage [] [])
+  goes-says callee a b s stage keyed same calls held waits = record {
     words = [];
     quiet = [];
     silent = tt;
@@ -149,13 +158,17 @@ module _ (W : ℕ → ℕ × Operation → Type 0) (before : Option ℕ) where
     held = λ link is.
         let it : record b.link { stage = stage } ≡ link = cc in
         subst (λ (l : Link CallStage). HeldAt b.own.session l.stage) it held;
+    waits = λ link is.
+        let it : record b.link { stage = stage } ≡ link = cc in
+        subst (λ (l : Link CallStage). [] ≡ pending_of l.stage) it waits;
     said = NoWord;
   }
 
   -- one word
   one-says : (callee : Callee) (a b : CallArrival) (s : Secured) (stage : Secured → CallStage) (quiet : List SealEntry) (x : Spoken) → AreQuiet quiet → IsDrawnIn quiet x
-      → ((t : Secured) → KeyedStage (stage t) t (cookie_after before x)) → b.link ≡ a.link → ((t : Secured) → callee_of (stage t) ≡ callee) → ((t : Secured) → HeldAt b.own.session (stage t)) → S callee a s (secure_sent b s stage quiet (secure_frame s.keys (frame_of x)))
-  one-says callee a b s stage quiet x silent drawn keyed same calls held = by_sealed (secure_frame s.keys (frame_of x)) refl
+      → ((t : Secured) → KeyedStage (stage t) t (cookie_after before x)) → b.link ≡ a.link → ((t : Secured) → callee_of (stage t) ≡ callee) → ((t : Secured) → HeldAt b.own.session (stage t)) → ((t : Secured) → asked (x ∷ []) ≡ pending_of (stage t))
+      → S callee a s (secure_sent b s stage quiet (secure_frame s.keys (frame_of x)))
+  one-says callee a b s stage quiet x silent drawn keyed same calls held waits = by_sealed (secure_frame s.keys (frame_of x)) refl
     where
       by_sealed : (r : Result SealedFrame BytesFault) → secure_frame s.keys (frame_of x) ≡ r → S callee a s (secure_sent b s stage quiet r)
       by_sealed (Err why) e = record {
@@ -168,6 +181,7 @@ module _ (W : ℕ → ℕ × Operation → Type 0) (before : Option ℕ) where
         link = λ link is. absurd cc;
         calls = λ link is. absurd cc;
         held = λ link is. absurd cc;
+        waits = λ link is. absurd cc;
         said = NoWord;
       }
       by_sealed (Ok one) e = record {
@@ -190,6 +204,9 @@ module _ (W : ℕ → ℕ × Operation → Type 0) (before : Option ℕ) where
         held = λ link is.
             let it : record b.link { stage = stage (record s { keys = one.keys }) } ≡ link = cc in
             subst (λ (l : Link CallStage). HeldAt b.own.session l.stage) it (held (record s { keys = one.keys }));
+        waits = λ link is.
+            let it : record b.link { stage = stage (record s { keys = one.keys }) } ≡ link = cc in
+            subst (λ (l : Link CallStage). asked (x ∷ []) ≡ pending_of l.stage) it (waits (record s { keys = one.keys }));
         said = OneWord x drawn;
       }
 
@@ -205,9 +222,10 @@ module _ (W : ℕ → ℕ × Operation → Type 0) (before : Option ℕ) where
       one-says callee a b s (λ behind. AwaitsIdent behind callee cookie) (quiet ++ entry.Drawn (draw.Cookie cookie) ∷ [])
       (Idents b.own.asker (held_gid b.own.asker.holdings) (lossy_flags callee.lossy) cookie) (quiet-append quiet (entry.Drawn (draw.Cookie cookie) ∷ []) silent (tt, tt))
       (Contains-push quiet (entry.Drawn (draw.Cookie cookie))) (λ t. Identified t callee cookie) same (λ t. refl) (λ t. held-none b.own.session t callee cookie)
+      (λ t. refl)
 
   entered-says : (callee : Callee) (a : CallArrival) (s : Secured) (e : Entry) (row : CallRow) → S callee a s row → S callee a s (entered_before e row)
-  entered-says callee a s e row h = record { words = h.words; quiet = h.quiet; silent = h.silent; sealed = h.sealed; made = h.made; seals = h.seals; link = h.link; calls = h.calls; held = h.held; said = h.said }
+  entered-says callee a s e row h = record { words = h.words; quiet = h.quiet; silent = h.silent; sealed = h.sealed; made = h.made; seals = h.seals; link = h.link; calls = h.calls; held = h.held; waits = h.waits; said = h.said }
 
   resets-says : (a b : CallArrival) (s : Secured) (callee : Callee) (quiet : List SealEntry) → AreQuiet quiet → b.link ≡ a.link → S callee a s (resets b s callee quiet)
   resets-says a b s callee quiet silent same =
@@ -216,7 +234,7 @@ module _ (W : ℕ → ℕ × Operation → Type 0) (before : Option ℕ) where
   reconnects-says : (a b : CallArrival) (s : Secured) (callee : Callee) (quiet : List SealEntry) (session : HeldSession) → AreQuiet quiet → b.link ≡ a.link → S callee a s (reconnects b s callee quiet session)
   reconnects-says a b s callee quiet session silent same =
       one-says callee a (holding_session b (Some session)) s (λ behind. AwaitsReconnect behind callee session.client_cookie) quiet (Reconnects b.own.asker session) silent tt
-      (λ t. Reconnecting t callee session.client_cookie) same (λ t. refl) (λ t. refl)
+      (λ t. Reconnecting t callee session.client_cookie) same (λ t. refl) (λ t. refl) (λ t. refl)
 
   takes_up-says : (a : CallArrival) (s : Secured) (callee : Callee) (quiet : List SealEntry) (session : HeldSession) → AreQuiet quiet → S callee a s (takes_up a s callee quiet session)
   takes_up-says a s callee quiet session silent = by_test (session.connect_seq == 2 ^ 64 - 1)
@@ -245,7 +263,7 @@ module _ (W : ℕ → ℕ × Operation → Type 0) (before : Option ℕ) where
       by_ident : (read : Result ServerIdent BytesFault) → S callee a s (on_server_ident a s callee cookie read)
       by_ident (Err why) = refuses-says callee a s (reason.Bytes why) [] tt
       by_ident (Ok ident) = goes-says callee a (holding_session a (Some (new_session callee cookie ident.cookie))) s (Open s callee cookie)
-          (subst (λ (o : Option ℕ). KeyedStage (Open s callee cookie) s o) (sym here) (Opened s callee cookie)) refl refl refl
+          (subst (λ (o : Option ℕ). KeyedStage (Open s callee cookie) s o) (sym here) (Opened s callee cookie)) refl refl refl refl
 
       by_lack : (read : Result IdentMissingFeatures BytesFault) → S callee a s (on_missing_features a read)
       by_lack (Err why) = refuses-says callee a s (reason.Bytes why) [] tt
@@ -263,6 +281,10 @@ module _ (W : ℕ → ℕ × Operation → Type 0) (before : Option ℕ) where
   orders-behind : (orders : List (ℕ × Operation)) → cookie_behind before (map Orders orders) ≡ before
   orders-behind [] = refl
   orders-behind (order ∷ orders) = orders-behind orders
+
+  orders-ask : (orders : List (ℕ × Operation)) → asked (map Orders orders) ≡ []
+  orders-ask [] = refl
+  orders-ask (order ∷ orders) = orders-ask orders
 
   frames-are : (orders : List (ℕ × Operation)) → map frame_of (map Orders orders) ≡ map operation_message orders
   frames-are [] = refl
@@ -283,6 +305,7 @@ module _ (W : ℕ → ℕ × Operation → Type 0) (before : Option ℕ) where
         link = λ link is. absurd cc;
         calls = λ link is. absurd cc;
         held = λ link is. absurd cc;
+        waits = λ link is. absurd cc;
         said = NoWord;
       }
       by_sealed (Ok all) e = record {
@@ -306,6 +329,9 @@ module _ (W : ℕ → ℕ × Operation → Type 0) (before : Option ℕ) where
         held = λ link is.
             let it : record b.link { stage = Open (record s { keys = all.keys }) callee cookie } ≡ link = cc in
             subst (λ (l : Link CallStage). HeldAt b.own.session l.stage) it (held (record s { keys = all.keys }));
+        waits = λ link is.
+            let it : record b.link { stage = Open (record s { keys = all.keys }) callee cookie } ≡ link = cc in
+            subst (λ (l : Link CallStage). asked (map Orders orders) ≡ pending_of l.stage) it (orders-ask orders);
         said = SomeOrders cookie orders here were;
       }
 
@@ -325,7 +351,7 @@ module _ (W : ℕ → ℕ × Operation → Type 0) (before : Option ℕ) where
   held-open s callee cookie here (Some session) held = some-is session.client_cookie cookie (sym held.0 ∙ here)
 
   taken_up-says : (a : CallArrival) (s : Secured) (callee : Callee) (cookie last : ℕ) (session : Option HeldSession) → before ≡ Some cookie → IsHeldHere session → IsHeldHere a.own.session → S callee a s (taken_up a s callee cookie last session)
-  taken_up-says a s callee cookie last None here held own = goes-says callee a a s (Open s callee cookie) (opened-at s callee cookie here) refl refl (held-open s callee cookie here a.own.session own)
+  taken_up-says a s callee cookie last None here held own = goes-says callee a a s (Open s callee cookie) (opened-at s callee cookie here) refl refl (held-open s callee cookie here a.own.session own) refl
   taken_up-says a s callee cookie last (Some session) here held own =
       let same : session.client_cookie ≡ cookie = some-is session.client_cookie cookie (sym held.0 ∙ here) in
       waiting-says a (holding_session a (Some (acknowledged_up_to last session))) s callee cookie (acknowledged_up_to last session).queue.waiting here
@@ -386,12 +412,12 @@ module _ (W : ℕ → ℕ × Operation → Type 0) (before : Option ℕ) where
     where
       by_end : (read : Result OperationEnd BytesFault) → S callee a s (on_answer a s callee cookie read)
       by_end (Err why) = refuses-says callee a s (reason.Bytes why) [] tt
-      by_end (Ok end) = entered-says callee a s _ _ (goes-says callee a a s (Open s callee cookie) (opened-at s callee cookie here) refl refl (held-open s callee cookie here a.own.session held))
+      by_end (Ok end) = entered-says callee a s _ _ (goes-says callee a a s (Open s callee cookie) (opened-at s callee cookie here) refl refl (held-open s callee cookie here a.own.session held) refl)
 
       by_session : (seq : ℕ) (session : Option HeldSession) → IsHeldHere session → S callee a s (acknowledges a s callee cookie seq session)
-      by_session seq None is = goes-says callee a a s (Open s callee cookie) (opened-at s callee cookie here) refl refl (held-open s callee cookie here a.own.session held)
+      by_session seq None is = goes-says callee a a s (Open s callee cookie) (opened-at s callee cookie here) refl refl (held-open s callee cookie here a.own.session held) refl
       by_session seq (Some session) is = goes-says callee a (holding_session a (Some (acknowledged_up_to seq session))) s (Open s callee cookie) (opened-at s callee cookie here) refl refl
-          (held-open s callee cookie here (Some session) is)
+          (held-open s callee cookie here (Some session) is) refl
 
       by_ack : (read : Result Ack BytesFault) → S callee a s (on_ack a s callee cookie read)
       by_ack (Err why) = refuses-says callee a s (reason.Bytes why) [] tt
@@ -404,11 +430,11 @@ module _ (W : ℕ → ℕ × Operation → Type 0) (before : Option ℕ) where
       by_keepalive : (read : Result Keepalive2 BytesFault) → S callee a s (on_keepalive a s (λ behind. Open behind callee cookie) read)
       by_keepalive (Err why) = refuses-says callee a s (reason.Bytes why) [] tt
       by_keepalive (Ok keepalive) = one-says callee a a s (λ behind. Open behind callee cookie) [] (KeepsUp (record { time = keepalive.time })) tt tt
-          (λ t. subst (λ (o : Option ℕ). KeyedStage (Open t callee cookie) t o) (sym here) (Opened t callee cookie)) refl (λ t. refl) (λ t. held-open t callee cookie here a.own.session held)
+          (λ t. subst (λ (o : Option ℕ). KeyedStage (Open t callee cookie) t o) (sym here) (Opened t callee cookie)) refl (λ t. refl) (λ t. held-open t callee cookie here a.own.session held) (λ t. refl)
 
       by_keepalive_ack : (read : Result Keepalive2Ack BytesFault) → S callee a s (on_keepalive_ack a s (λ behind. Open behind callee cookie) read)
       by_keepalive_ack (Err why) = refuses-says callee a s (reason.Bytes why) [] tt
-      by_keepalive_ack (Ok ack) = goes-says callee a a s (Open s callee cookie) (opened-at s callee cookie here) refl refl (held-open s callee cookie here a.own.session held)
+      by_keepalive_ack (Ok ack) = goes-says callee a a s (Open s callee cookie) (opened-at s callee cookie here) refl refl (held-open s callee cookie here a.own.session held) refl
 
       by_tests : (ask ack : Bool) → S callee a s
           (if ask then on_keepalive a s (λ behind. Open behind callee cookie) (payload keepalive2_layout.form f)
@@ -430,6 +456,7 @@ module _ (W : ℕ → ℕ × Operation → Type 0) (before : Option ℕ) where
     link = h.link;
     calls = h.calls;
     held = h.held;
+    waits = h.waits;
     said = behind_said h.words h.said;
   }
     where

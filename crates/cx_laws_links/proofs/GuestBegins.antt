@@ -15,8 +15,8 @@ use Rattle.cx_laws_keys.proofs.Premises.{AreGranted, DrawsKey, behind, granted-f
 use Rattle.cx_laws_keys.proofs.Uses.{AtDaemon, Connected, DrawnAs, Means, Use, Uses, WholeRun}
 use Rattle.cx_laws_login.proofs.Issuing.{acceptor-sends, connector-counts, connector-sends}
 use Rattle.cx_laws_series.proofs.Contents.{content_where, contents_by}
-use Rattle.cx_rules.specs.Acceptor.{Finished, finished, joined}
-use Rattle.cx_rules.specs.Secured.{Keys, SealedFrame, Secured, Way, acceptor_keys, plain_frame, secure_frame, signed_frame, signing}
+use Rattle.cx_laws_series.specs.cx_rules.specs.Acceptor.{Finished, finished, joined}
+use Rattle.cx_laws_series.specs.cx_rules.specs.Secured.{Keys, SealedFrame, Secured, Way, acceptor_keys, plain_frame, secure_frame, signed_frame, signing}
 use Rattle.cx_rules_session.specs.Envelopes.{authorize_reply_content, session_sealed}
 use Rattle.cx_rules_session.specs.Guests.{GuestArrival, authority_of, authorized_frame, authorizes, done_sent}
 use Rattle.cx_sealed.specs.declared.service_ticket.ServiceTicket.{ServiceTicket}

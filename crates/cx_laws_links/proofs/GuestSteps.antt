@@ -14,9 +14,9 @@ use Rattle.cx_laws_keys.proofs.Lists.{all-map}
 use Rattle.cx_laws_keys.proofs.Premises.{behind}
 use Rattle.cx_laws_keys.proofs.Uses.{Grows, Means, Use, Uses, WholeRun, stays}
 use Rattle.cx_laws_series.proofs.Contents.{contents-behind, contents_in}
-use Rattle.cx_rules.specs.Acceptor as acceptor
-use Rattle.cx_rules.specs.Links.{Link}
-use Rattle.cx_rules.specs.Secured.{Secured}
+use Rattle.cx_laws_series.specs.cx_rules.specs.Acceptor as acceptor
+use Rattle.cx_laws_series.specs.cx_rules.specs.Links.{Link}
+use Rattle.cx_laws_series.specs.cx_rules.specs.Secured.{Secured}
 use Rattle.cx_rules_session.specs.ClientRule.{ClientStage, ToDaemon, ToMonitor, WholeClientNode}
 use Rattle.cx_rules_session.specs.Guests.{GuestRow, GuestStage, Served}
 use Rattle.cx_rules_session.specs.Presenter as call

@@ -40,16 +40,16 @@ use Rattle.cx_laws_keys.proofs.Premises.{AreGranted, granted-first}
 use Rattle.cx_laws_keys.proofs.Uses.{AtDaemon, Connected, Means, Uses, WholeRun}
 use Rattle.cx_laws_series.proofs.Contents.{contents_by, parts-others}
 use Rattle.cx_laws_series.proofs.Frames.{frame-sealed}
-use Rattle.cx_rules.specs.Acceptor.{AwaitsBanner, AwaitsHello, AwaitsRequest, AwaitsProof, AwaitsSignature, AwaitsIdent, Open, missing_told, misses, on_signature, server_ident}
-use Rattle.cx_rules.specs.Fronts.{keys_behind, opened_parts, sealed_ahead, secure_read, taking}
-use Rattle.cx_rules.specs.Holdings.{Asker}
-use Rattle.cx_rules.specs.Links.{Link}
-use Rattle.cx_rules.specs.Messages.{acknowledgement, message_in, message_of, sealed_behind, sealed_then, secure_frames}
-use Rattle.cx_rules.specs.MonitorRule.{session_reset}
-use Rattle.cx_rules.specs.Payloads.{control, due, payload}
-use Rattle.cx_rules.specs.Rows.{Turned, Waits, Refuses, Handles, at, goes_on, refused_entry, refuses, refuses_bytes, secure_sent, turned_by, with_opened}
-use Rattle.cx_rules.specs.Secured.{Keys, SealedFrame, Secured, Way, is_signed, secure_frame, signature_found, under}
-use Rattle.cx_rules.specs.Upkeep.{on_keepalive, on_keepalive_ack}
+use Rattle.cx_laws_series.specs.cx_rules.specs.Acceptor.{AwaitsBanner, AwaitsHello, AwaitsRequest, AwaitsProof, AwaitsSignature, AwaitsIdent, Open, missing_told, misses, on_signature, server_ident}
+use Rattle.cx_laws_series.specs.cx_rules.specs.Fronts.{keys_behind, opened_parts, sealed_ahead, secure_read, taking}
+use Rattle.cx_laws_series.specs.cx_rules.specs.Holdings.{Asker}
+use Rattle.cx_laws_series.specs.cx_rules.specs.Links.{Link}
+use Rattle.cx_laws_series.specs.cx_rules.specs.Messages.{acknowledgement, message_in, message_of, sealed_behind, sealed_then, secure_frames}
+use Rattle.cx_laws_series.specs.cx_rules.specs.MonitorRule.{session_reset}
+use Rattle.cx_laws_series.specs.cx_rules.specs.Payloads.{control, due, payload}
+use Rattle.cx_laws_series.specs.cx_rules.specs.Rows.{Turned, Waits, Refuses, Handles, at, goes_on, refused_entry, refuses, refuses_bytes, secure_sent, turned_by, with_opened}
+use Rattle.cx_laws_series.specs.cx_rules.specs.Secured.{Keys, SealedFrame, Secured, Way, is_signed, secure_frame, signature_found, under}
+use Rattle.cx_laws_series.specs.cx_rules.specs.Upkeep.{on_keepalive, on_keepalive_ack}
 use Rattle.cx_rules_session.specs.Asks.{Asks, Finished, Asking}
 use Rattle.cx_rules_session.specs.Guests.{GuestArrival, GuestRow, GuestStage, Served}
 use Rattle.cx_rules_session.specs.Hosting.{Deciding, Hosted, Instruction, admission_of, admits, answer_message, asks_admission, comes_to, cookie_drawn, decided_by, guest_turned, handled_entry, handles, hosted_behind, instruction_of, no_session_moves, on_admission, on_checked, on_client_ident, on_ident, on_message, on_open, on_reconnect, on_resumption, on_taken, on_untaken, outcome_of, reconnect_ok, resumes, served_as, session_retry, session_retry_global, tells_why}

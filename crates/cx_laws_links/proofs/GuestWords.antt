@@ -12,9 +12,9 @@ use Rattle.cx_journal.specs.declared.entries.Entry.{Entry}
 use Rattle.cx_laws_keys.proofs.Known.{Inv}
 use Rattle.cx_laws_keys.proofs.Premises.{AreGranted}
 use Rattle.cx_laws_keys.proofs.Uses.{AtDaemon, Connected, Means, Tie, Use, Uses, WholeRun}
-use Rattle.cx_rules.specs.Fronts.{keys_behind, opened_parts, sealed_ahead}
-use Rattle.cx_rules.specs.Links.{Link}
-use Rattle.cx_rules.specs.Secured.{Secured, under}
+use Rattle.cx_laws_series.specs.cx_rules.specs.Fronts.{keys_behind, opened_parts, sealed_ahead}
+use Rattle.cx_laws_series.specs.cx_rules.specs.Links.{Link}
+use Rattle.cx_laws_series.specs.cx_rules.specs.Secured.{Secured, under}
 use Rattle.cx_rules_session.specs.Guests.{GuestStage}
 use Rattle.cx_secure.specs.Contents.{sealed_contents}
 use Rattle.cx_secure.specs.Parts.{nonce_at}
@@ -88,7 +88,7 @@ no-contents : (fixed : List ℕ) → sealed_contents fixed 0 [] ≡ []
 unfolding sealed_contents
 no-contents fixed = refl
 
-frames-behind : (xs ys : List Spoken) → AreFrames (xs ++ ys) → AreFrames ys
+pub frames-behind : (xs ys : List Spoken) → AreFrames (xs ++ ys) → AreFrames ys
 frames-behind [] ys h = h
 frames-behind (x ∷ xs) ys h = frames-behind xs ys h.1
 
@@ -99,7 +99,7 @@ words-behind J name before (x ∷ xs) ys h = words-behind J name (cookie_after b
 module _ (run : WholeRun) (us : Uses) (told : Told) (log : List Logged) (J : List Entry) (one : (k : List ℕ) (u v : Use) → Means us k u → Means us k v → u ≡ v) (t : AreTold run us told log J)
     (key : List ℕ) (name : Name) (tie : ℕ) (is : IsLinkKey us key name tie) where
   -- what the log has of a link's connector is what was spoken, which is true, and fits into frames
-  written-there : (fixed : List ℕ) → length fixed ≡ 4 → ((m : ℕ) (plain : List ℕ) → is_connectors (nonce_at fixed m ++ plain) ≡ true) → IsWritten log told.said key
+  pub written-there : (fixed : List ℕ) → length fixed ≡ 4 → ((m : ℕ) (plain : List ℕ) → is_connectors (nonce_at fixed m ++ plain) ≡ true) → IsWritten log told.said key
   written-there fixed four passes = by_said (said_under key told.said) refl
     where
       by_said : (xs : List Spoken) → said_under key told.said ≡ xs → IsWritten log told.said key
@@ -114,7 +114,7 @@ module _ (run : WholeRun) (us : Uses) (told : Told) (log : List Logged) (J : Lis
           }
       by_said (x ∷ xs) e = (t.spoken key x (said-has key told.said x xs e)).written
 
-  said-there : AreTrueWords J name None (said_under key told.said) × AreFrames (said_under key told.said)
+  pub said-there : AreTrueWords J name None (said_under key told.said) × AreFrames (said_under key told.said)
   said-there = by_said (said_under key told.said) refl
     where
       by_said : (xs : List Spoken) → said_under key told.said ≡ xs → AreTrueWords J name None xs × AreFrames xs

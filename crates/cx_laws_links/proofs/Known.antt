@@ -16,10 +16,10 @@ use Rattle.cx_laws_keys.proofs.Known.{IsOfConnector}
 use Rattle.cx_laws_keys.proofs.Uses.{AtDaemon, Connected, Means, Uses, WholeRun}
 use Rattle.cx_laws_series.proofs.Contents.{contents_in}
 use Rattle.cx_laws_series.proofs.Frames.{HasParts}
-use Rattle.cx_rules.specs.Acceptor as acceptor
-use Rattle.cx_rules.specs.Holdings.{Asker}
-use Rattle.cx_rules.specs.Links.{Link}
-use Rattle.cx_rules.specs.Secured.{Secured}
+use Rattle.cx_laws_series.specs.cx_rules.specs.Acceptor as acceptor
+use Rattle.cx_laws_series.specs.cx_rules.specs.Holdings.{Asker}
+use Rattle.cx_laws_series.specs.cx_rules.specs.Links.{Link}
+use Rattle.cx_laws_series.specs.cx_rules.specs.Secured.{Secured}
 use Rattle.cx_rules_session.specs.ClientRule.{ClientStage, ToDaemon, ToMonitor, WholeClient, WholeClientNode}
 use Rattle.cx_rules_session.specs.DaemonRule.{AsAcceptor, AsConnector, DaemonNode, DaemonStage}
 use Rattle.cx_rules_session.specs.Guests.{GuestStage, Served}

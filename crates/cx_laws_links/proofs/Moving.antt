@@ -10,8 +10,8 @@ use Rattle.cx_laws_keys.proofs.Premises.{behind}
 use Rattle.cx_laws_keys.proofs.Uses.{Connected, Grows, Means, Use, Uses, WholeRun}
 use Rattle.cx_laws_series.proofs.Contents.{contents-behind, contents_by, contents_in}
 use Rattle.cx_laws_series.proofs.Frames.{HasParts}
-use Rattle.cx_rules.specs.Acceptor as acceptor
-use Rattle.cx_rules.specs.Secured.{Secured}
+use Rattle.cx_laws_series.specs.cx_rules.specs.Acceptor as acceptor
+use Rattle.cx_laws_series.specs.cx_rules.specs.Secured.{Secured}
 use Rattle.cx_rules_session.specs.Guests.{GuestStage}
 use Rattle.cx_rules_session.specs.Presenter as call
 use Rattle.cx_rules_session.specs.Presenter.{CallStage}

@@ -17,8 +17,8 @@ use Rattle.cx_laws_keys.proofs.Premises.{behind}
 use Rattle.cx_laws_keys.proofs.Uses.{AtDaemon, Connected, Grows, Means, Use, Uses, WholeRun}
 use Rattle.cx_laws_series.proofs.Contents.{contents-behind, contents_by, contents_in}
 use Rattle.cx_laws_series.proofs.Frames.{HasParts}
-use Rattle.cx_rules.specs.Holdings.{Asker}
-use Rattle.cx_rules.specs.Secured.{Keys}
+use Rattle.cx_laws_series.specs.cx_rules.specs.Holdings.{Asker}
+use Rattle.cx_laws_series.specs.cx_rules.specs.Secured.{Keys}
 use Rattle.cx_secure.specs.Contents.{sealed_contents}
 use Rattle.cx_secure.specs.Parts.{nonce_at}
 use Rattle.cx_steps.specs.declared.seals.DrawMark.TheVariants as draw

@@ -9,9 +9,9 @@ use Rattle.cx_control.specs.Auth.{auth_signature_layout}
 use Rattle.cx_control.specs.Upkeep.{keepalive2_ack_layout}
 use Rattle.cx_control.specs.declared.upkeep.Keepalive2Ack.{Keepalive2Ack}
 use Rattle.cx_frame.specs.declared.frame.Frame.{Frame}
-use Rattle.cx_rules.specs.Connector.{client_ident}
-use Rattle.cx_rules.specs.Holdings.{Asker}
-use Rattle.cx_rules.specs.Payloads.{control}
+use Rattle.cx_laws_series.specs.cx_rules.specs.Connector.{client_ident}
+use Rattle.cx_laws_series.specs.cx_rules.specs.Holdings.{Asker}
+use Rattle.cx_laws_series.specs.cx_rules.specs.Payloads.{control}
 use Rattle.cx_rules_session.specs.Sessions.{HeldSession, operation_message, session_reconnect}
 use Rattle.cx_secure.specs.Plains.{plains}
 
@@ -47,6 +47,19 @@ cookie_behind before (x ∷ xs) = cookie_behind (cookie_after before x) xs
 pub cookie-append : (before : Option ℕ) (xs ys : List Spoken) → cookie_behind before (xs ++ ys) ≡ cookie_behind (cookie_behind before xs) ys
 cookie-append before [] ys = refl
 cookie-append before (x ∷ xs) ys = cookie-append (cookie_after before x) xs ys
+
+-- the cookies of the sessions that were asked for or taken up
+abbrev pub asked_by : Spoken → List ℕ
+asked_by (Idents asker gid flags cookie) = cookie ∷ []
+asked_by (Reconnects asker session) = session.client_cookie ∷ []
+asked_by _ = []
+
+abbrev pub asked : List Spoken → List ℕ
+asked xs = flat_map asked_by xs
+
+pub asked-append : (xs ys : List Spoken) → asked (xs ++ ys) ≡ asked xs ++ asked ys
+asked-append [] ys = refl
+asked-append (x ∷ xs) ys = ap (λ (l : List ℕ). asked_by x ++ l) (asked-append xs ys) ∙ sym (append_assoc (asked_by x) (asked xs) (asked ys))
 
 pub parts-append : (xs ys : List Spoken) → parts_of (xs ++ ys) ≡ parts_of xs ++ parts_of ys
 parts-append [] ys = refl

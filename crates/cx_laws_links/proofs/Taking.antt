@@ -89,11 +89,11 @@ module _ (a : Ahead) (f : Frame) (n : ℕ) (read : secure_frame_at a ≡ Ok (Som
   abbrev pub OpensAt : List (List ℕ) → Type 0
   OpensAt parts = (i : ℕ) (plain : List ℕ) → a.counter + i < 2 ^ 64 → SomeOf (λ (content : List ℕ). content ≡ nonce_at a.fixed (a.counter + i) ++ plain) (front_contents a) → IsAt parts i plain
 
-  one-read : (t : ℕ) (bytes : List ℕ) (more : List (List ℕ)) → 1 ≤ t → t ≤ 20 → length bytes ≤ 1048576 → OpensAt (plains (framed t (aligned bytes) []) ++ more)
+  pub one-read : (t : ℕ) (bytes : List ℕ) (more : List (List ℕ)) → 1 ≤ t → t ≤ 20 → length bytes ≤ 1048576 → OpensAt (plains (framed t (aligned bytes) []) ++ more)
       → f ≡ framed t (aligned bytes) []
   one-read t bytes more low high fits opens = (front-read a t (aligned bytes) [] (omega arith) (one-allowed t bytes low high fits) more f n opens read).0
 
-  two-read : (t : ℕ) (first second : List ℕ) (more : List (List ℕ)) → 1 ≤ t → t ≤ 20 → length first + length second ≤ 1048576
+  pub two-read : (t : ℕ) (first second : List ℕ) (more : List (List ℕ)) → 1 ≤ t → t ≤ 20 → length first + length second ≤ 1048576
       → OpensAt (plains (framed t (aligned first) (aligned second ∷ [])) ++ more) → f ≡ framed t (aligned first) (aligned second ∷ [])
   two-read t first second more low high fits opens =
       (front-read a t (aligned first) (aligned second ∷ []) (omega arith) (two-allowed t first second low high fits) more f n opens read).0
@@ -118,13 +118,13 @@ module _ (a : Ahead) (f : Frame) (n : ℕ) (read : secure_frame_at a ≡ Ok (Som
 
 -- ---- what is taken next
 
-at-rest : (xs ys : List (List ℕ)) (i : ℕ) (x : List ℕ) → IsAt (xs ++ ys) (length xs + i) x → IsAt ys i x
+pub at-rest : (xs ys : List (List ℕ)) (i : ℕ) (x : List ℕ) → IsAt (xs ++ ys) (length xs + i) x → IsAt ys i x
 at-rest [] ys i x h = let same : length {A = List ℕ} [] + i ≡ i = omega arith in subst (λ (k : ℕ). IsAt ys k x) same h
 at-rest (z ∷ xs) ys i x h =
     let same : length (z ∷ xs) + i ≡ suc (length xs + i) = omega arith in
     at-rest xs ys i x (subst (λ (k : ℕ). IsAt (z ∷ (xs ++ ys)) k x) same h)
 
-some-sealed : (P : List ℕ → Type 0) (contents : List (List ℕ)) (content : List ℕ) → SomeOf (λ (c : List ℕ). c ≡ content) contents → AllByRecursion P contents → P content
+pub some-sealed : (P : List ℕ → Type 0) (contents : List (List ℕ)) (content : List ℕ) → SomeOf (λ (c : List ℕ). c ≡ content) contents → AllByRecursion P contents → P content
 some-sealed P [] content some all = absurd some
 some-sealed P (c ∷ cs) content (inl here) all = subst P here all.0
 some-sealed P (c ∷ cs) content (inr later) all = some-sealed P cs content later all.1

@@ -11,11 +11,11 @@ use Rattle.cx_base.specs.declared.kinds.EntityType.{EntityType}
 use Rattle.cx_base.specs.declared.nodes.NodeName.{NodeName}
 use Rattle.cx_base.specs.declared.nodes.NodeName.TheVariants as node
 use Rattle.cx_journal.specs.declared.entries.Entry.{Entry}
-use Rattle.cx_laws_keys.proofs.Known.{Inv, IsAllowed, IsOfAcceptor, SealedAt}
+use Rattle.cx_laws_keys.proofs.Known.{Inv, IsAcceptorOr, IsAllowed, IsOfAcceptor, SealedAt}
 use Rattle.cx_laws_keys.proofs.Premises.{behind, logged}
 use Rattle.cx_laws_keys.proofs.Uses.{AtDaemon, Connected, Means, Use, Uses, WholeRun}
 use Rattle.cx_laws_series.proofs.Contents.{content_of, content_where, contents-behind, contents_by, contents_in}
-use Rattle.cx_rules.specs.Secured.{Keys}
+use Rattle.cx_laws_series.specs.cx_rules.specs.Secured.{Keys}
 use Rattle.cx_secure.specs.Contents.{sealed_contents}
 use Rattle.cx_secure.specs.Parts.{nonce_at}
 use Rattle.cx_steps.specs.declared.seals.Logged.{Logged}
@@ -68,9 +68,9 @@ module _ (us : Uses) (J : List Entry) (n : NodeName) (key : List ℕ) (name : Na
       let purpose : a.0 ≡ Connected is.acceptor is.number name (AtDaemon is.service tie) = one key a.0 (Connected is.acceptor is.number name (AtDaemon is.service tie)) means is.means in
       by_place (subst (λ (u : Use). SealedAt n u other.content) purpose a.3)
     where
-      by_place : (n ≡ node.Entity name) ⊎ IsOfAcceptor other.content → content_where (is_connectors other.content) other.content ≡ None
+      by_place : (n ≡ node.Entity name) ⊎ IsOfAcceptor other.content × IsAcceptorOr n is.acceptor → content_where (is_connectors other.content) other.content ≡ None
       by_place (inl here) = absurd (apart here)
-      by_place (inr acceptor) = ap (λ (t : Bool). content_where t other.content) (not-connectors other.content acceptor)
+      by_place (inr (sends, acceptor)) = ap (λ (t : Bool). content_where t other.content) (not-connectors other.content sends)
 
   -- what a node that isn't the entity's own seals is nothing there of a connector
   pub elsewhere : (es : List SealEntry) → AllByRecursion (IsAllowed us J n) es → contents_by key is_connectors es ≡ []

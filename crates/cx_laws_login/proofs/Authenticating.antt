@@ -48,12 +48,12 @@ use Rattle.cx_wire.specs.Logins.{authenticate_layout}
 use Rattle.cx_wire.specs.declared.logins.Authenticate.{Authenticate}
 use Rattle.cx_journal.specs.Behind.{EachBehind}
 use Rattle.cx_laws_keys.proofs.Journal.{After, EntryLaw, Reached, after-then, entered, reached-then}
-use Rattle.cx_laws_keys.proofs.Known.{IsOfAcceptor, Inv}
+use Rattle.cx_laws_keys.proofs.Known.{HasLogin, IsOfAcceptor, Inv}
 use Rattle.cx_laws_keys.proofs.Premises.{AreGranted, behind, behind-append, granted-first, granted-rest, logged}
 use Rattle.cx_laws_keys.proofs.Steps.{inv-all, inv-allowed}
-use Rattle.cx_laws_keys.proofs.Uses.{Generated, Grows, IsConnected, Login, Means, Secret, Uses, grows-then, stays, WholeRun}
+use Rattle.cx_laws_keys.proofs.Uses.{Generated, Grows, Login, Means, Secret, Uses, grows-then, stays, WholeRun}
 use Rattle.cx_laws_login.proofs.Entering.{login-entered}
-use Rattle.cx_laws_login.proofs.Facts.{AreBelow, IsSameWay, bearer-moves, OfferOk, OwnOk, own-grows, Owner, BearerOk, Keeps, keeps-with, owner_with, with-gid}
+use Rattle.cx_laws_login.proofs.Facts.{acceptor-seals, AreBelow, IsSameWay, bearer-moves, OfferOk, OwnOk, own-grows, Owner, BearerOk, Keeps, keeps-with, owner_with, with-gid}
 use Rattle.cx_laws_login.proofs.Generations.{StateOk, rotates_all}
 use Rattle.cx_laws_login.proofs.Issuing.{acceptor-sends, connector-sends, AreIssued, FirstOk, all-issued}
 use Rattle.cx_laws_login.proofs.Keeping.{IsGiven, NumbersOk, HadTicket, numbered-ok}
@@ -107,11 +107,11 @@ module _ (run : WholeRun) (whole_log : List Logged) (n : NodeName) (line : ℕ) 
   joined-ok vs K keys session sent (Ok done) (Ok signed) h = h
 
   finished-ok : (vs : Uses) (K : List Entry) (name : Name) (link : Link MonitorStage) (session secret : List ℕ) (f : Frame) → Means vs session (Login name)
-      → IsConnected vs (take 16 secret) name → IsOfAcceptor (acceptor_keys secret).out.fixed → FinishedOk vs K (acceptor_keys secret) (finished link session secret f)
+      → HasLogin vs name (take 16 secret) → IsOfAcceptor (acceptor_keys secret).out.fixed → FinishedOk vs K (acceptor_keys secret) (finished link session secret f)
   finished-ok vs K name link session secret f means connection out =
       joined-ok vs K (acceptor_keys secret) session link.sent (plain_frame f) (signed_frame (acceptor_keys secret) session (take link.taken link.received))
       (signing-ok vs K n name (acceptor_keys secret) session (take link.taken link.received) (secure_frame (acceptor_keys secret) _) means
-      (frame-ok vs K n (acceptor_keys secret) _ (record { name = name; connected = connection; own = inr out })))
+      (frame-ok vs K n (acceptor_keys secret) _ (acceptor-seals vs n (acceptor_keys secret) name connection out)))
 
   -- what is drawn and sealed with these tickets
   abbrev last_seals : MonitorArrival → Name → List SealEntry
@@ -125,7 +125,7 @@ module _ (run : WholeRun) (whole_log : List Logged) (n : NodeName) (line : ℕ) 
   -- with what a finished link was made, its parts are allowed
   abbrev Finishes : MonitorArrival → Name → Finished → Type 0
   Finishes a name done =
-      (vs : Uses) (K : List Entry) → Means vs (session_of Auth a.draw) (Login name) → IsConnected vs (take 16 (connection_of a.draw)) name
+      (vs : Uses) (K : List Entry) → Means vs (session_of Auth a.draw) (Login name) → HasLogin vs name (take 16 (connection_of a.draw))
       → Allowed vs K n done.seals × IsSameWay done.secured.keys (acceptor_keys (connection_of a.draw))
 
   -- the monitor's own behind it, and the keys of the link
@@ -159,7 +159,7 @@ module _ (run : WholeRun) (whole_log : List Logged) (n : NodeName) (line : ℕ) 
   finishing : (a : MonitorArrival) (name : Name) (gid : ℕ) (done : Finished) (vs ws : Uses) (log1 : List Logged) (all : List SealEntry) (js : List Entry) → Finishes a name done → Grows vs ws
       → Inv run whole_log ws (behind n line all log1) (entered J js) → EachBehind (EntryLaw run) J js → OwnOk before owner ws J a.own → AreBelow (entered J js) a.own.server.state.next_gid
       → ((s : Issued) → Contains (entered J js) (journal.Issued s) → owner s.gid ≡ Some s.entity) → name_form.Fits name → owner gid ≡ Some name
-      → length a.draw ≡ 384 → Means ws (session_of Auth a.draw) (Login name) → IsConnected ws (take 16 (connection_of a.draw)) name
+      → length a.draw ≡ 384 → Means ws (session_of Auth a.draw) (Login name) → HasLogin ws name (take 16 (connection_of a.draw))
       → After run whole_log n line vs log1 J (all ++ done.seals) js (HandedOk a name gid done.secured.keys)
   finishing a name gid done vs ws log1 all js fin grows i laws own below owned named owns drawn session connection =
       let K : List Entry = entered J js in
@@ -173,7 +173,7 @@ module _ (run : WholeRun) (whole_log : List Logged) (n : NodeName) (line : ℕ) 
         good = record {
           own = saved-own a ws K own below owned;
           bearer = bearer-moves owner ws done.secured.keys (acceptor_keys (connection_of a.draw)) (record { name = name; gid = gid; session = session_of Auth a.draw; last = 0 }) f.1 (record {
-            connected = connection;
+            login = connection;
             out = acceptor-sends a.draw drawn;
             into = connector-sends a.draw drawn;
             named = named;

@@ -1,5 +1,5 @@
 -- What is known of the monitor and of one that logs in.
-use Rattle.std.proofs.Common.{◌≡◌, ℕ, ◌+◌, ◌<◌, ◌≤◌, false, List, [], ◌∷◌, ◌++◌, refl, ◌∙◌, arith, Option, Some, None, Bool, true, sym, ap, ◌==◌, ltb-true, eqb-true, eq-eqb, ltb-false, subst, inl, ◌⊎◌}
+use Rattle.std.proofs.Common.{◌≡◌, ℕ, ◌+◌, ◌<◌, ◌≤◌, false, List, [], ◌∷◌, ◌++◌, refl, ◌∙◌, arith, Option, Some, None, Bool, true, sym, ap, ◌==◌, ltb-true, eqb-true, eq-eqb, ltb-false, subst, inl, inr, ◌⊎◌}
 use Rattle.std.specs.Prelude.{Contains, if◌then◌else◌, nat_lt}
 use Rattle.std.specs.List.{AllByRecursion}
 use Rattle.cx_base.specs.Names.{Name}
@@ -19,9 +19,9 @@ use Rattle.cx_rules.specs.Monitor.{Monitor, MonitorStage}
 use Rattle.cx_steps.specs.Premises.{is_server}
 use Rattle.cx_laws_keys.proofs.Journal.{IsNotIssued, has-before, IsOf}
 use Rattle.cx_rules.specs.Secured.{Keys}
-use Rattle.cx_laws_keys.proofs.Known.{HasLogin, IsOfAcceptor, IsOfConnector, generated-grow, login-connected, login-grows}
+use Rattle.cx_laws_keys.proofs.Known.{HasLogin, IsAcceptorOr, IsOfAcceptor, IsOfConnector, generated-grow, login-connected, login-grows}
 use Rattle.cx_laws_keys.proofs.Lists.{all-map}
-use Rattle.cx_laws_keys.proofs.Uses.{Grows, IsConnected, Means, Secret, Uses, connected-grows, Login, AreGenerated, IsSavedIn, WholeRun}
+use Rattle.cx_laws_keys.proofs.Uses.{AtMonitor, Grows, IsConnected, Means, Secret, Uses, connected-grows, Login, AreGenerated, IsSavedIn, WholeRun}
 use Rattle.cx_laws_login.proofs.Generations.{StateOk, state-grows}
 use Rattle.cx_rules.specs.declared.responses.Bearer.{Bearer}
 use Rattle.cx_rotate.specs.declared.generations.Generation.{Generation}
@@ -94,16 +94,25 @@ pub record IsSameWay (k keys : Keys) : Type 0 where
   pub out : k.out.fixed ≡ keys.out.fixed
   pub into : k.into.fixed ≡ keys.into.fixed
 
--- this node may seal under these keys: the key is the one of a link to an entity, whose own node it is, or it sends with the nonce of an acceptor
+-- this node may seal under these keys: the key is the one of a link to an entity, whose own node it is, or it sends with the nonce of an acceptor, which it is, or the
+-- monitor
 pub record MaySeal (us : Uses) (n : NodeName) (keys : Keys) : Type 0 where
   pub name : Name
   pub connected : IsConnected us keys.key name
-  pub own : (n ≡ node.Entity name) ⊎ IsOfAcceptor keys.out.fixed
+  pub own : (n ≡ node.Entity name) ⊎ IsOfAcceptor keys.out.fixed × IsAcceptorOr n connected.acceptor
+
+-- under the key of a link that the monitor made it may seal with the nonce of an acceptor
+pub acceptor-seals : (us : Uses) (n : NodeName) (keys : Keys) (name : Name) → HasLogin us name keys.key → IsOfAcceptor keys.out.fixed → MaySeal us n keys
+acceptor-seals us n keys name h out = record {
+  name = name;
+  connected = record { acceptor = node.Monitor; number = h.number; tie = AtMonitor h.challenge; means = h.means };
+  own = inr (out, inr refl);
+}
 
 -- an entity that has proved itself on a link with these keys, which are those of an acceptor: its name can be written, the session key is that of its
 -- ticket for AUTH, and the global id is its own
 pub record BearerOk (owner : Owner) (us : Uses) (keys : Keys) (bearer : Bearer) : Type 0 where
-  pub connected : IsConnected us keys.key bearer.name
+  pub login : HasLogin us bearer.name keys.key
   pub out : IsOfAcceptor keys.out.fixed
   pub into : IsOfConnector keys.into.fixed
   pub named : name_form.Fits bearer.name
@@ -119,7 +128,7 @@ StageOk owner us _ = Unit {0}
 
 pub bearer-grows : (owner : Owner) (us vs : Uses) (keys : Keys) (bearer : Bearer) → Grows us vs → BearerOk owner us keys bearer → BearerOk owner vs keys bearer
 bearer-grows owner us vs keys bearer f h = record {
-  connected = connected-grows us vs keys.key bearer.name f h.connected;
+  login = login-grows us vs bearer.name keys.key f h.login;
   out = h.out;
   into = h.into;
   named = h.named;
@@ -130,7 +139,7 @@ bearer-grows owner us vs keys bearer f h = record {
 -- behind a frame the keys are as good
 pub bearer-moves : (owner : Owner) (us : Uses) (k keys : Keys) (bearer : Bearer) → IsSameWay k keys → BearerOk owner us keys bearer → BearerOk owner us k bearer
 bearer-moves owner us k keys bearer same h = record {
-  connected = subst (λ (key : List ℕ). IsConnected us key bearer.name) (sym same.key) h.connected;
+  login = subst (λ (key : List ℕ). HasLogin us bearer.name key) (sym same.key) h.login;
   out = subst IsOfAcceptor (sym same.out) h.out;
   into = subst IsOfConnector (sym same.into) h.into;
   named = h.named;
@@ -210,7 +219,7 @@ own-with before owner us J own gid name free low h = record {
 
 pub bearer-keeps : (owner later : Owner) (us : Uses) (keys : Keys) (bearer : Bearer) → Keeps owner later → BearerOk owner us keys bearer → BearerOk later us keys bearer
 bearer-keeps owner later us keys bearer k h =
-    record { connected = h.connected; out = h.out; into = h.into; named = h.named; session = h.session; owns = k bearer.gid bearer.name h.owns }
+    record { login = h.login; out = h.out; into = h.into; named = h.named; session = h.session; owns = k bearer.gid bearer.name h.owns }
 
 pub stage-keeps : (owner later : Owner) (us : Uses) (stage : MonitorStage) → Keeps owner later → StageOk owner us stage → StageOk later us stage
 stage-keeps owner later us AwaitsBanner k h = tt

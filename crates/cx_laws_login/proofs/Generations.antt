@@ -219,7 +219,7 @@ module _ (run : WholeRun) (whole : List Logged) (n : NodeName) (line : ℕ) (J :
   draws-each service us log (x ∷ xs) i g =
       let mark = draw.Rotation x.key in
       let u : Use = Generated service x.id in
-      let first : Inv run whole (with_key us x.key u) (logged n line (entry.Drawn mark) ∷ log) J = inv-drawn run whole us log J n line mark x.key u i refl refl (λ name e. absurd cc) g.0 in
+      let first : Inv run whole (with_key us x.key u) (logged n line (entry.Drawn mark) ∷ log) J = inv-drawn run whole us log J n line mark x.key u i refl refl tt (λ name e. absurd cc) g.0 in
       let rest = draws-each service (with_key us x.key u) (logged n line (entry.Drawn mark) ∷ log) xs first g.1 in
       record {
         uses = rest.uses;

@@ -44,7 +44,7 @@ use Rattle.cx_steps.specs.declared.seals.SealEntry.TheVariants.{Drawn}
 use Rattle.cx_wire.specs.Logins.{login_hello_layout, server_challenge_layout}
 use Rattle.cx_wire.specs.declared.logins.LoginHello.{LoginHello}
 use Rattle.cx_laws_keys.proofs.Uses.{Means, Secret, Uses}
-use Rattle.cx_laws_login.proofs.Facts.{BearerOk, MaySeal, Owner, OwnOk, StageOk, bearer-moves, own-entered, stage-grows}
+use Rattle.cx_laws_login.proofs.Facts.{acceptor-seals, BearerOk, MaySeal, Owner, OwnOk, StageOk, bearer-moves, own-entered, stage-grows}
 use Rattle.cx_laws_login.proofs.Named.{found_secret, hello_named}
 use Rattle.cx_laws_login.proofs.Rows.{Allowed, FrameOk, Saying, Simple, frame-ok, simple-goes_on, simple-plain, simple-refuses, simple-refuses_bytes, simple-secure}
 use Rattle.cx_rules.specs.declared.responses.Bearer.{Bearer}
@@ -115,7 +115,7 @@ module _ (before : KeptState) (owner : Owner) (us : Uses) (J : List Entry) (n : 
 
   -- on its link the monitor may seal: it sends with the nonce of an acceptor
   abbrev pub connected : (s : Secured) (bearer : Bearer) → BearerOk owner us s.keys bearer → MaySeal us n s.keys
-  connected s bearer h = record { name = bearer.name; connected = h.connected; own = inr h.out }
+  connected s bearer h = acceptor-seals us n s.keys bearer.name h.login h.out
 
   client_ident-simple : (a : MonitorArrival) (s : Secured) (bearer : Bearer) (ident : Result ClientIdent BytesFault) → Owns a → BearerOk owner us s.keys bearer
       → IsSimple (on_client_ident a s bearer ident)

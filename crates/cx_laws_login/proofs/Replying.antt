@@ -48,7 +48,7 @@ use Rattle.cx_laws_keys.proofs.Uses.{Grows, Login, Means, Secret, Uses, grows-th
 use Rattle.cx_laws_keys.proofs.Reading.{rotating_no_info}
 use Rattle.cx_laws_login.proofs.Authenticating.{own-rotated, saved-own}
 use Rattle.cx_laws_login.proofs.Entering.{AreEntered, renewal-entered}
-use Rattle.cx_laws_login.proofs.Facts.{AreBelow, BearerOk, MaySeal, OwnOk, Owner, bearer-grows, bearer-moves, own-grows, owned-below, owned-of}
+use Rattle.cx_laws_login.proofs.Facts.{acceptor-seals, AreBelow, BearerOk, MaySeal, OwnOk, Owner, bearer-grows, bearer-moves, own-grows, owned-below, owned-of}
 use Rattle.cx_laws_login.proofs.Generations.{rotates_all, AreWritable, AreRecorded}
 use Rattle.cx_laws_login.proofs.Issuing.{AreOthers, IsOther, others-issued}
 use Rattle.cx_laws_login.proofs.MonitorRows.{keepalive-simple, keepalive_ack-simple, monitor_says}
@@ -153,7 +153,7 @@ module _ (run : WholeRun) (whole_log : List Logged) (n : NodeName) (line : ℕ) 
       let K : List Entry = entered J made.entries in
       let ws : Uses = x.uses in
       let there : BearerOk owner ws s.keys bearer = bearer-grows owner us ws s.keys bearer (grows-then us r1.uses ws r1.grows x.grows) ok in
-      let f = sealed ws K (record { name = bearer.name; connected = there.connected; own = inr there.out }) in
+      let f = sealed ws K (acceptor-seals ws n s.keys bearer.name there.login there.out) in
       let inv : Inv run whole_log ws (behind n line sent.seals (behind n line made.sealed log1)) K = inv-all run whole_log ws (behind n line made.sealed log1) K n line sent.seals x.inv f.0 in
       after-then run whole_log n line us log J made.seals (made.sealed ++ sent.seals) made.entries (Owns b) (RowOk (monitor_says before owner) row) r1 (record {
         uses = ws;
@@ -163,7 +163,7 @@ module _ (run : WholeRun) (whole_log : List Logged) (n : NodeName) (line : ℕ) 
         good = record {
           own = x.good;
           link = bearer-moves owner ws sent.keys s.keys (record bearer { last = seq }) f.1 (record {
-            connected = there.connected;
+            login = there.login;
             out = there.out;
             into = there.into;
             named = there.named;

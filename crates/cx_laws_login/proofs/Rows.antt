@@ -26,7 +26,7 @@ use Rattle.cx_steps.specs.declared.seals.Logged.{Logged}
 use Rattle.cx_steps.specs.declared.seals.SealEntry.{SealEntry}
 use Rattle.cx_steps.specs.declared.seals.SealEntry.TheVariants as entry
 use Rattle.cx_laws_keys.proofs.Journal.{After, EntryLaw, login-law, IsLoginEntry, IsNotIssued, IsOfLogin, Reached, entered, own-other}
-use Rattle.cx_laws_keys.proofs.Known.{Inv, IsAllowed, IsOfAcceptor}
+use Rattle.cx_laws_keys.proofs.Known.{Inv, IsAcceptorOr, IsAllowed, IsOfAcceptor}
 use Rattle.cx_laws_keys.proofs.Lists.{all-append, all-map, all-of-map}
 use Rattle.cx_laws_keys.proofs.Premises.{AreGranted, behind}
 use Rattle.cx_laws_keys.proofs.Steps.{inv-all, inv-entered}
@@ -61,9 +61,10 @@ module _ (us : Uses) (J : List Entry) (n : NodeName) where
     parts-allowed keys (counter + 1) texts h,
   )
     where
-      by_own : (n ≡ node.Entity h.name) ⊎ IsOfAcceptor keys.out.fixed → (n ≡ node.Entity h.name) ⊎ IsOfAcceptor (nonce_at keys.out.fixed counter ++ text)
+      by_own : (n ≡ node.Entity h.name) ⊎ IsOfAcceptor keys.out.fixed × IsAcceptorOr n h.connected.acceptor
+          → (n ≡ node.Entity h.name) ⊎ IsOfAcceptor (nonce_at keys.out.fixed counter ++ text) × IsAcceptorOr n h.connected.acceptor
       by_own (inl own) = inl own
-      by_own (inr acceptor) = inr (part-begins keys.out.fixed counter text acceptor)
+      by_own (inr (sends, acceptor)) = inr (part-begins keys.out.fixed counter text sends, acceptor)
 
   -- the frame, if it was sealed, was so under its keys
   abbrev pub FrameOk : Keys → Result SealedFrame BytesFault → Type 0

@@ -25,12 +25,12 @@ use Rattle.cx_steps.specs.declared.seals.Logged.{Logged}
 use Rattle.cx_steps.specs.declared.seals.SealEntry.{SealEntry}
 use Rattle.cx_steps.specs.declared.seals.SealEntry.TheVariants as entry
 use Rattle.cx_laws_keys.proofs.Journal.{Reached, reached-then}
-use Rattle.cx_laws_keys.proofs.Known.{Inv, IsAllowed, Says}
+use Rattle.cx_laws_keys.proofs.Known.{HasLogin, Inv, IsAllowed, Says, session-placed}
 use Rattle.cx_laws_keys.proofs.Lists.{all-append}
 use Rattle.cx_laws_keys.proofs.Premises.{AreGranted, behind, granted-first, granted-rest, logged}
 use Rattle.cx_laws_keys.proofs.Reading.{IsInfoFrom, IsReadFrom, connection_no_info, connection_no_reply, info_no_connection, info_no_reply, info_no_rotating, read_connection, read_info, read_ticket}
 use Rattle.cx_laws_keys.proofs.Steps.{inv-all, inv-drawn}
-use Rattle.cx_laws_keys.proofs.Uses.{AtMonitor, Connected, Generated, Grows, IsConnected, Login, Means, Secret, Ticketed, Use, Uses, grows-one, session_use, stays, whose, with_key, WholeRun}
+use Rattle.cx_laws_keys.proofs.Uses.{AtMonitor, Connected, Generated, Grows, Login, Means, Secret, Ticketed, Use, Uses, grows-one, session_use, stays, whose, with_key, WholeRun}
 use Rattle.cx_laws_login.proofs.Entering.{issued_of}
 use Rattle.cx_laws_keys.proofs.Known.{generated-grow}
 use Rattle.cx_laws_keys.proofs.Uses.{AreGenerated}
@@ -165,7 +165,7 @@ module _ (run : WholeRun) (whole : List Logged) (n : NodeName) (line : ℕ) (ser
       let mark = draw.Session t.session t.entity in
       let vs : Uses = with_key us t.session u in
       let for : Some t.entity ≡ whose u = ap (λ (m : Name). Some m) ok.entity ∙ whose-session name t.service in
-      let first : Inv run whole vs (logged n line (entry.Drawn mark) ∷ log) K = inv-drawn run whole us log K n line mark t.session u i refl for (λ m e. absurd (no_secret name m t.service e)) g.0 in
+      let first : Inv run whole vs (logged n line (entry.Drawn mark) ∷ log) K = inv-drawn run whole us log K n line mark t.session u i refl for (session-placed name t.service) (λ m e. absurd (no_secret name m t.service e)) g.0 in
       let means : Means vs t.session u = inl (refl, refl) in
       let more : Ready vs = ready-grows us vs (grows-one us t.session u) ready in
       let current : Option Generation = current_at t.created (generations_of server.state t.service) in
@@ -215,7 +215,7 @@ module _ (run : WholeRun) (whole : List Logged) (n : NodeName) (line : ℕ) (ser
   -- the secret of the connection, sealed under the session key of AUTH
   pub record Secured (us : Uses) : Type 0 where
     pub session : Means us auth_session (Login name)
-    pub connection : IsConnected us (take 16 (connection_of block)) name
+    pub connection : HasLogin us name (take 16 (connection_of block))
 
   abbrev pub connection_seals : List SealEntry
   connection_seals =
@@ -231,12 +231,12 @@ module _ (run : WholeRun) (whole : List Logged) (n : NodeName) (line : ℕ) (ser
       let mark = draw.Connection secret name in
       let u : Use = Connected node.Monitor number name (AtMonitor challenge) in
       let vs : Uses = with_key us key u in
-      let first : Inv run whole vs (logged n line (entry.Drawn mark) ∷ log) K = inv-drawn run whole us log K n line mark key u i refl refl (λ m e. absurd cc) g.0 in
+      let first : Inv run whole vs (logged n line (entry.Drawn mark) ∷ log) K = inv-drawn run whole us log K n line mark key u i refl refl tt (λ m e. absurd cc) g.0 in
       record {
         uses = vs;
         grows = grows-one us key u;
         inv = inv-all run whole vs (logged n line (entry.Drawn mark) ∷ log) K n line connection_sealed first ((Login name, inr auth, says, tt), tt);
-        facts = record { session = inr auth; connection = record { acceptor = node.Monitor; number = number; tie = AtMonitor challenge; means = inl (refl, refl) } };
+        facts = record { session = inr auth; connection = record { number = number; challenge = challenge; means = inl (refl, refl) } };
       }
     where
       connection_sealed : List SealEntry

@@ -38,21 +38,21 @@ use Rattle.cx_steps.specs.declared.seals.SealEntry.TheVariants.{Drawn}
 use Rattle.cx_wire.specs.Logins.{authorize_challenge_layout, authorize_reply_layout}
 use Rattle.cx_wire.specs.declared.authorizers.AuthorizeChallenge as shown_challenge
 use Rattle.cx_wire.specs.declared.authorizers.AuthorizeReply as shown_reply
-use Rattle.cx_rules.specs.Connector.{client_ident}
-use Rattle.cx_rules.specs.Fronts.{banner_next, plain_next, secure_next}
-use Rattle.cx_rules.specs.Greetings.{own_hello}
-use Rattle.cx_rules.specs.Links.{Link}
-use Rattle.cx_rules.specs.Messages.{message_in, secure_frames}
-use Rattle.cx_rules.specs.Payloads.{due, payload, whole}
-use Rattle.cx_rules.specs.Rows.{at, goes_on, plain_sent, refuses, refuses_bytes, secure_sent, unless_refused, with_opened}
-use Rattle.cx_rules.specs.Secured.{SealedFrame, Secured, connector_keys, is_signed, plain_frame, secure_frame, signature_found, signed_frame, under}
-use Rattle.cx_rules.specs.Upkeep.{on_keepalive, on_keepalive_ack}
-use Rattle.cx_rules.specs.Messages.{on_upkeep_or}
-use Rattle.cx_rules_session.specs.Envelopes.{authorize_content, sends_holding, session_sealed}
-use Rattle.cx_rules_session.specs.Lossy.{lossy_flags}
-use Rattle.cx_rules_session.specs.Presenter.{CallArrival, CallRow, CallStage, AwaitsBanner, AwaitsHello, AwaitsChallenge, AwaitsDone, AwaitsSignature, AwaitsIdent, AwaitsReconnect, Open, OperationEnd, acknowledges, answers_challenge, counting, end_in, first_frame, holding_session, identifies, on_ack, on_answer, on_answer_or_ack, on_authorize_reply, on_bad_method, on_banner, on_challenge, on_done, on_hello, on_missing_features, on_reconnect_ok, on_reply_more, on_reset, on_retry, on_retry_global, on_server_ident, on_signature, on_signed, on_unlocked, presented, reconnects, resets, retries, retries_global, second_frame, signs, taken_up, takes_up, turned_at, while_answered, while_challenged, while_identified, while_reconnecting}
-use Rattle.cx_rules_session.specs.Sessions.{Called, Callee, HeldSession, acknowledged_up_to, held_gid, new_session, session_reconnect, waiting_messages}
-use Rattle.cx_run.proofs.Taking.{EachRow, each-turned}
+use Rattle.cx_laws_session.specs.cx_rules.specs.Connector.{client_ident}
+use Rattle.cx_laws_session.specs.cx_rules.specs.Fronts.{banner_next, plain_next, secure_next}
+use Rattle.cx_laws_session.specs.cx_rules.specs.Greetings.{own_hello}
+use Rattle.cx_laws_session.specs.cx_rules.specs.Links.{Link}
+use Rattle.cx_laws_session.specs.cx_rules.specs.Messages.{message_in, secure_frames}
+use Rattle.cx_laws_session.specs.cx_rules.specs.Payloads.{due, payload, whole}
+use Rattle.cx_laws_session.specs.cx_rules.specs.Rows.{at, goes_on, plain_sent, refuses, refuses_bytes, secure_sent, unless_refused, with_opened}
+use Rattle.cx_laws_session.specs.cx_rules.specs.Secured.{SealedFrame, Secured, connector_keys, is_signed, plain_frame, secure_frame, signature_found, signed_frame, under}
+use Rattle.cx_laws_session.specs.cx_rules.specs.Upkeep.{on_keepalive, on_keepalive_ack}
+use Rattle.cx_laws_session.specs.cx_rules.specs.Messages.{on_upkeep_or}
+use Rattle.cx_laws_session.specs.cx_rules_session.specs.Envelopes.{authorize_content, sends_holding, session_sealed}
+use Rattle.cx_laws_session.specs.cx_rules_session.specs.Lossy.{lossy_flags}
+use Rattle.cx_laws_session.specs.cx_rules_session.specs.Presenter.{CallArrival, CallRow, CallStage, AwaitsBanner, AwaitsHello, AwaitsChallenge, AwaitsDone, AwaitsSignature, AwaitsIdent, AwaitsReconnect, Open, OperationEnd, acknowledges, answers_challenge, counting, end_in, first_frame, holding_session, identifies, on_ack, on_answer, on_answer_or_ack, on_authorize_reply, on_bad_method, on_banner, on_challenge, on_done, on_hello, on_missing_features, on_reconnect_ok, on_reply_more, on_reset, on_retry, on_retry_global, on_server_ident, on_signature, on_signed, on_unlocked, presented, reconnects, resets, retries, retries_global, second_frame, signs, taken_up, takes_up, turned_at, while_answered, while_challenged, while_identified, while_reconnecting}
+use Rattle.cx_laws_session.specs.cx_rules_session.specs.Sessions.{Called, Callee, HeldSession, acknowledged_up_to, held_gid, new_session, session_reconnect, waiting_messages}
+use Rattle.cx_laws_session.specs.cx_run.proofs.Taking.{EachRow, each-turned}
 use Rattle.cx_laws_queues.proofs.Drawing.{DrawsCookie, some-right}
 use Rattle.cx_laws_queues.proofs.Sessions.{HeldIs}
 use Rattle.cx_laws_session.proofs.Lists.{some-left}

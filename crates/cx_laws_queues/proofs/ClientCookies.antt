@@ -25,23 +25,23 @@ use Rattle.cx_laws_queues.proofs.Sessions.{AreApart, HeldIs, all-filter, held-al
 use Rattle.cx_laws_session.proofs.Askers.{EntersNone, asker-enters}
 use Rattle.cx_laws_session.proofs.Lists.{all-map, found-all}
 use Rattle.cx_laws_session.proofs.Moves.{IsQuiet}
-use Rattle.cx_rules.specs.Connector as connector
-use Rattle.cx_rules.specs.Greetings.{own_banner}
-use Rattle.cx_rules.specs.Holdings.{Asker}
-use Rattle.cx_rules.specs.Inputs.{Input}
-use Rattle.cx_rules.specs.Links.{Link, put_link, without_link}
-use Rattle.cx_rules.specs.Requests.{Requests, behind_request, sealed_request, sends_request}
-use Rattle.cx_rules.specs.Rows.{Outcome, Turned, Waits, Refuses, Handles, arrival, carried_out, fed, idles, lifted, links_behind, new_link, refused_entry, secure_sent, turns}
-use Rattle.cx_rules.specs.Secured.{SealedFrame, Secured, secure_frame, under}
-use Rattle.cx_rules.specs.declared.requests.Want.TheVariants.{Tickets}
-use Rattle.cx_rules_session.specs.ClientRule.{ClientStage, ToMonitor, ToDaemon, Dial, ForLogin, ForCall, WholeClientNode, caller_to, calls, first_stage, having_session, is_open, is_to_monitor, logs_in, loses, me, open_to_ask, opens_dialled, own_behind_gone, refuses_command, restarted, sent_entry, unreached, whole_client_rule, with_asker, with_caller}
-use Rattle.cx_rules_session.specs.Kinds.{arrival_in, entered_before, in_stage, of_kind, turn_of_kind}
-use Rattle.cx_rules_session.specs.Presenter as call
-use Rattle.cx_rules_session.specs.Presenter.{CallStage, Caller, callee_of}
-use Rattle.cx_rules_session.specs.Sessions.{Callee, HeldSession, held_gid, operation_message, put_session, session_with, with_session}
-use Rattle.cx_run.proofs.CallKeeps.{IsCallEntry, Leaves, call-takes}
-use Rattle.cx_run.proofs.Outcomes.{EachOutcome, asker_turn, call_turn, on_link, renewed, sent_in, step-keeps}
-use Rattle.cx_run.proofs.Taking.{EachRow, Takes, TurnTakes}
+use Rattle.cx_laws_session.specs.cx_rules.specs.Connector as connector
+use Rattle.cx_laws_session.specs.cx_rules.specs.Greetings.{own_banner}
+use Rattle.cx_laws_session.specs.cx_rules.specs.Holdings.{Asker}
+use Rattle.cx_laws_session.specs.cx_rules.specs.Inputs.{Input}
+use Rattle.cx_laws_session.specs.cx_rules.specs.Links.{Link, put_link, without_link}
+use Rattle.cx_laws_session.specs.cx_rules.specs.Requests.{Requests, behind_request, sealed_request, sends_request}
+use Rattle.cx_laws_session.specs.cx_rules.specs.Rows.{Outcome, Turned, Waits, Refuses, Handles, arrival, carried_out, fed, idles, lifted, links_behind, new_link, refused_entry, secure_sent, turns}
+use Rattle.cx_laws_session.specs.cx_rules.specs.Secured.{SealedFrame, Secured, secure_frame, under}
+use Rattle.cx_laws_session.specs.cx_rules.specs.declared.requests.Want.TheVariants.{Tickets}
+use Rattle.cx_laws_session.specs.cx_rules_session.specs.ClientRule.{ClientStage, ToMonitor, ToDaemon, Dial, ForLogin, ForCall, WholeClientNode, caller_to, calls, first_stage, having_session, is_open, is_to_monitor, logs_in, loses, me, open_to_ask, opens_dialled, own_behind_gone, refuses_command, restarted, sent_entry, unreached, whole_client_rule, with_asker, with_caller}
+use Rattle.cx_laws_session.specs.cx_rules_session.specs.Kinds.{arrival_in, entered_before, in_stage, of_kind, turn_of_kind}
+use Rattle.cx_laws_session.specs.cx_rules_session.specs.Presenter as call
+use Rattle.cx_laws_session.specs.cx_rules_session.specs.Presenter.{CallStage, Caller, callee_of}
+use Rattle.cx_laws_session.specs.cx_rules_session.specs.Sessions.{Callee, HeldSession, held_gid, operation_message, put_session, session_with, with_session}
+use Rattle.cx_laws_session.specs.cx_run.proofs.CallKeeps.{IsCallEntry, Leaves, call-takes}
+use Rattle.cx_laws_session.specs.cx_run.proofs.Outcomes.{EachOutcome, asker_turn, call_turn, on_link, renewed, sent_in, step-keeps}
+use Rattle.cx_laws_session.specs.cx_run.proofs.Taking.{EachRow, Takes, TurnTakes}
 use Rattle.cx_session.specs.Queue.{pushed}
 use Rattle.cx_steps.specs.declared.events.Peer.{Peer}
 use Rattle.cx_steps.specs.declared.seals.SealEntry.{SealEntry}

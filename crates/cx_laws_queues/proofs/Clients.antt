@@ -22,21 +22,21 @@ use Rattle.cx_laws_session.proofs.Lists.{all-map, found-passes}
 use Rattle.cx_laws_session.proofs.Moves.{IsQuiet}
 use Rattle.cx_laws_session.proofs.Runs.{other-way}
 use Rattle.cx_login.specs.Held.{Held as Ticket}
-use Rattle.cx_rules.specs.Connector as connector
-use Rattle.cx_rules.specs.Holdings.{Asker}
-use Rattle.cx_rules.specs.Inputs.{Input, Opened, NoLink, Bytes, Turn, Gone, Look, Tick, Submit, Restart}
-use Rattle.cx_rules.specs.Links.{Link, link_of}
-use Rattle.cx_rules.specs.Requests.{Requests, first_open, sealed_request, sends_request}
-use Rattle.cx_rules.specs.Rows.{Arrival, Outcome, Turned, Waits, Refuses, Handles, arrival, carried_out, fed, idles, refused_entry, secure_sent, turns}
-use Rattle.cx_rules.specs.Secured.{SealedFrame, Secured, secure_frame}
-use Rattle.cx_rules.specs.declared.requests.Want.TheVariants.{Tickets}
-use Rattle.cx_rules_session.specs.ClientRule.{ClientStage, ToMonitor, ToDaemon, Dial, WholeClient, WholeClientNode, asking_open, caller_to, calls, calls_with, connects, dial_of, first_call, having_session, is_open, is_to, logs_in, loses, me, open_to_ask, opens, opens_dialled, own_behind_gone, pushes, queue_reason, refuses_command, renews, renews_on, restarted, sends, sends_in, sends_on, sent_entry, submits, turn, turned_at, unreached, whole_client_rule, with_asker, with_caller}
-use Rattle.cx_rules_session.specs.Kinds.{arrival_in, entered_before, turn_of_kind}
-use Rattle.cx_rules_session.specs.Presenter as call
-use Rattle.cx_rules_session.specs.Presenter.{CallStage, Caller, callee_of}
-use Rattle.cx_rules_session.specs.Sessions.{Callee, HeldSession, held_gid, operation_message, put_session, session_with, ticket_for}
-use Rattle.cx_run.proofs.CallKeeps.{IsCallEntry, Leaves, call-takes}
-use Rattle.cx_run.proofs.Taking.{EachRow}
+use Rattle.cx_laws_session.specs.cx_rules.specs.Connector as connector
+use Rattle.cx_laws_session.specs.cx_rules.specs.Holdings.{Asker}
+use Rattle.cx_laws_session.specs.cx_rules.specs.Inputs.{Input, Opened, NoLink, Bytes, Turn, Gone, Look, Tick, Submit, Restart}
+use Rattle.cx_laws_session.specs.cx_rules.specs.Links.{Link, link_of}
+use Rattle.cx_laws_session.specs.cx_rules.specs.Requests.{Requests, first_open, sealed_request, sends_request}
+use Rattle.cx_laws_session.specs.cx_rules.specs.Rows.{Arrival, Outcome, Turned, Waits, Refuses, Handles, arrival, carried_out, fed, idles, refused_entry, secure_sent, turns}
+use Rattle.cx_laws_session.specs.cx_rules.specs.Secured.{SealedFrame, Secured, secure_frame}
+use Rattle.cx_laws_session.specs.cx_rules.specs.declared.requests.Want.TheVariants.{Tickets}
+use Rattle.cx_laws_session.specs.cx_rules_session.specs.ClientRule.{ClientStage, ToMonitor, ToDaemon, Dial, WholeClient, WholeClientNode, asking_open, caller_to, calls, calls_with, connects, dial_of, first_call, having_session, is_open, is_to, logs_in, loses, me, open_to_ask, opens, opens_dialled, own_behind_gone, pushes, queue_reason, refuses_command, renews, renews_on, restarted, sends, sends_in, sends_on, sent_entry, submits, turn, turned_at, unreached, whole_client_rule, with_asker, with_caller}
+use Rattle.cx_laws_session.specs.cx_rules_session.specs.Kinds.{arrival_in, entered_before, turn_of_kind}
+use Rattle.cx_laws_session.specs.cx_rules_session.specs.Presenter as call
+use Rattle.cx_laws_session.specs.cx_rules_session.specs.Presenter.{CallStage, Caller, callee_of}
+use Rattle.cx_laws_session.specs.cx_rules_session.specs.Sessions.{Callee, HeldSession, held_gid, operation_message, put_session, session_with, ticket_for}
+use Rattle.cx_laws_session.specs.cx_run.proofs.CallKeeps.{IsCallEntry, Leaves, call-takes}
+use Rattle.cx_laws_session.specs.cx_run.proofs.Taking.{EachRow}
 use Rattle.cx_session.specs.Queue.{pushed, push_reply}
 use Rattle.cx_session.specs.declared.outbox.QueueFault.{QueueFault}
 use Rattle.cx_session.specs.declared.outbox.QueueFault.TheVariants as queue

@@ -28,17 +28,17 @@ use Rattle.cx_laws_session.proofs.Runs.{behind-append, entries-by, other-way}
 use Rattle.cx_line_words.specs.declared.choices.LeftState.{LeftState}
 use Rattle.cx_lines.specs.declared.lines.Numbered.{Numbered}
 use Rattle.cx_rotate.specs.declared.states.KeptState.{KeptState}
-use Rattle.cx_rules.specs.Monitor.{MonitorNode}
-use Rattle.cx_rules.specs.MonitorRule.{monitor_rule}
-use Rattle.cx_rules.specs.Rows.{Outcome}
-use Rattle.cx_rules_session.specs.ClientRule.{opening_whole_client, whole_client_rule}
-use Rattle.cx_rules_session.specs.DaemonRule.{daemon_step}
-use Rattle.cx_rules_session.specs.Guests.{Served}
-use Rattle.cx_run.proofs.ClientKept.{whole-named}
-use Rattle.cx_run.specs.Happenings.{Entered, EntityNode, OfClient, OfDaemon, Happening, Nodes, Stepped, asker_in, entered_by, entity_of, entity_rule, entity_steps, is_of, journal_from, logged_by, monitor_steps, seals_from, steps, steps_of}
-use Rattle.cx_run.specs.Opening.{Declared, Setup, asker_of, daemon_opening, entity_in, leaks_entered, nodes_of, secrets_drawn}
-use Rattle.cx_run.specs.Points.{journal_since, log_since, onto}
-use Rattle.cx_run.specs.Runs.{run_journal, run_log, setup_of, trace}
+use Rattle.cx_laws_session.specs.cx_rules.specs.Monitor.{MonitorNode}
+use Rattle.cx_laws_session.specs.cx_rules.specs.MonitorRule.{monitor_rule}
+use Rattle.cx_laws_session.specs.cx_rules.specs.Rows.{Outcome}
+use Rattle.cx_laws_session.specs.cx_rules_session.specs.ClientRule.{opening_whole_client, whole_client_rule}
+use Rattle.cx_laws_session.specs.cx_rules_session.specs.DaemonRule.{daemon_step}
+use Rattle.cx_laws_session.specs.cx_rules_session.specs.Guests.{Served}
+use Rattle.cx_laws_session.specs.cx_run.proofs.ClientKept.{whole-named}
+use Rattle.cx_laws_session.specs.cx_run.specs.Happenings.{Entered, EntityNode, OfClient, OfDaemon, Happening, Nodes, Stepped, asker_in, entered_by, entity_of, entity_rule, entity_steps, is_of, journal_from, logged_by, monitor_steps, seals_from, steps, steps_of}
+use Rattle.cx_laws_session.specs.cx_run.specs.Opening.{Declared, Setup, asker_of, daemon_opening, entity_in, leaks_entered, nodes_of, secrets_drawn}
+use Rattle.cx_laws_session.specs.cx_run.specs.Points.{journal_since, log_since, onto}
+use Rattle.cx_laws_session.specs.cx_run.specs.Runs.{run_journal, run_log, setup_of, trace}
 use Rattle.cx_steps.specs.Onto.{EachOnto}
 use Rattle.cx_steps.specs.Premises.{IsFresh}
 use Rattle.cx_steps.specs.declared.seals.Logged.{Logged}

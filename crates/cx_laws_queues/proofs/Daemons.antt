@@ -15,7 +15,7 @@ use Rattle.cx_laws_queues.specs.Counting.{handled_since}
 use Rattle.cx_laws_session.proofs.Lists.{all-map, some-of}
 use Rattle.cx_laws_session.proofs.Moves.{AdmitsOne, Admitting, Comes, Ending, IsQuiet, KeepsLast, Rested, Rests, Resuming, StepComes, TakesNone, TakesOne}
 use Rattle.cx_laws_session.proofs.Standing.{other-turn, own-turn}
-use Rattle.cx_rules_session.specs.Guests.{Served}
+use Rattle.cx_laws_session.specs.cx_rules_session.specs.Guests.{Served}
 use Rattle.cx_session.specs.Book.{Book}
 use Rattle.cx_session.specs.declared.session.Session.{Session}
 

@@ -1,8 +1,8 @@
 -- Cookies that are drawn: what a log has of them, and that none is drawn twice where draws are fresh.
 use Rattle.std.proofs.Common.{◌≡◌, inl, inr, ℕ, List, [], ◌∷◌, ◌++◌, map, sym, ◌∙◌}
 use Rattle.cx_laws_session.proofs.Lists.{some-map}
-use Rattle.cx_run.specs.Happenings.{Happening, logged_by}
-use Rattle.cx_run.specs.Points.{onto}
+use Rattle.cx_laws_session.specs.cx_run.specs.Happenings.{Happening, logged_by}
+use Rattle.cx_laws_session.specs.cx_run.specs.Points.{onto}
 use Rattle.cx_steps.specs.Draws.{Repeats}
 use Rattle.cx_steps.specs.Onto.{EachOnto, SomeOf}
 use Rattle.cx_steps.specs.Premises.{IsNew, RepeatsIn}

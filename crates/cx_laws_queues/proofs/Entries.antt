@@ -17,8 +17,8 @@ use Rattle.cx_laws_queues.specs.Sending.{IsSentInOrderBy, all_sent_to, sent_to}
 use Rattle.cx_laws_session.proofs.Clients.{IsMute}
 use Rattle.cx_laws_session.proofs.Lists.{all-map}
 use Rattle.cx_laws_session.proofs.Moves.{IsQuiet}
-use Rattle.cx_rules.specs.Holdings.{Asker}
-use Rattle.cx_run.proofs.CallKeeps.{IsCallEntry}
+use Rattle.cx_laws_session.specs.cx_rules.specs.Holdings.{Asker}
+use Rattle.cx_laws_session.specs.cx_run.proofs.CallKeeps.{IsCallEntry}
 
 -- ---- which entries count
 

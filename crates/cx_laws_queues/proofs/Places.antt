@@ -8,9 +8,9 @@ use Rattle.cx_journal.specs.declared.entries.Entry.{Entry}
 use Rattle.cx_laws_queues.proofs.Calls.{awaited}
 use Rattle.cx_laws_queues.proofs.Numbers.{all_under}
 use Rattle.cx_laws_session.proofs.Lists.{all-append, all-map}
-use Rattle.cx_rules.specs.Links.{Link, put_link, without_link}
-use Rattle.cx_rules_session.specs.ClientRule.{ClientStage, ToMonitor, ToDaemon}
-use Rattle.cx_rules_session.specs.Sessions.{HeldSession}
+use Rattle.cx_laws_session.specs.cx_rules.specs.Links.{Link, put_link, without_link}
+use Rattle.cx_laws_session.specs.cx_rules_session.specs.ClientRule.{ClientStage, ToMonitor, ToDaemon}
+use Rattle.cx_laws_session.specs.cx_rules_session.specs.Sessions.{HeldSession}
 
 -- ---- places
 

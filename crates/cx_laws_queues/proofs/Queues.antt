@@ -14,7 +14,7 @@ use Rattle.cx_journal.specs.declared.entries.Sent.{Sent}
 use Rattle.cx_laws_queues.proofs.Entries.{Untouched, all-unsent, none-sent, sent_where}
 use Rattle.cx_laws_queues.specs.Sending.{IsNextSent, IsNumbered, all_sent_to, sent_to, under_cookie}
 use Rattle.cx_laws_queues.specs.Waiting.{IsQueued}
-use Rattle.cx_rules_session.specs.Sessions.{Callee, HeldSession, acknowledged_up_to, new_session}
+use Rattle.cx_laws_session.specs.cx_rules_session.specs.Sessions.{Callee, HeldSession, acknowledged_up_to, new_session}
 use Rattle.cx_session.specs.Queue.{IsRun, pushed}
 
 -- ---- runs of numbers

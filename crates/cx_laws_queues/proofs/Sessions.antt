@@ -6,7 +6,7 @@ use Rattle.cx_base.proofs.Names.{same_name_is}
 use Rattle.cx_base.specs.Names.{Name, same_name}
 use Rattle.cx_laws_session.proofs.Lists.{all-map, found-all}
 use Rattle.cx_laws_session.proofs.Runs.{other-way}
-use Rattle.cx_rules_session.specs.Sessions.{HeldSession, put_session, session_with, with_session}
+use Rattle.cx_laws_session.specs.cx_rules_session.specs.Sessions.{HeldSession, put_session, session_with, with_session}
 
 -- none of them is with this daemon
 abbrev pub NoneWith : Name → List HeldSession → Type 0

@@ -6,8 +6,8 @@ use Rattle.cx_base.specs.declared.operations.Operation.{Operation}
 use Rattle.cx_journal.specs.declared.entries.Entry.{Entry}
 use Rattle.cx_laws_queues.specs.Counting.{IsCounted}
 use Rattle.cx_laws_queues.specs.Sending.{IsNumbered, all_sent_to, under_cookie}
-use Rattle.cx_rules_session.specs.Sessions.{HeldSession}
-use Rattle.cx_run.specs.Happenings.{EntityNode, OfClient, OfDaemon}
+use Rattle.cx_laws_session.specs.cx_rules_session.specs.Sessions.{HeldSession}
+use Rattle.cx_laws_session.specs.cx_run.specs.Happenings.{EntityNode, OfClient, OfDaemon}
 
 -- What the client sent last to the daemon of its session was sent in that session, under its cookie: operations 1, 2, 3 and so on up to the last seq that
 -- was given. Those that wait are the end of them, behind those that were acknowledged: all, in their order, each once.

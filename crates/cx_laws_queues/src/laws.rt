@@ -9,10 +9,10 @@ ghost use Rattle.cx_laws_queues.specs.Counting.{IsHandledInOrder};
 ghost use Rattle.cx_laws_queues.specs.Sending.{IsNumbered, IsSentInOrder};
 ghost use Rattle.cx_laws_queues.specs.Waiting.{AreQueuedAt};
 ghost use Rattle.cx_lines.specs.declared.lines.Numbered.{Numbered};
-ghost use Rattle.cx_run.specs.Happenings.{Happening, nodes_behind};
-ghost use Rattle.cx_run.specs.Opening.{Setup, nodes_of};
-ghost use Rattle.cx_run.specs.Points.{journal_since, log_since};
-ghost use Rattle.cx_run.specs.Runs.{run_journal, run_log};
+ghost use Rattle.cx_laws_session.specs.cx_run.specs.Happenings.{Happening, nodes_behind};
+ghost use Rattle.cx_laws_session.specs.cx_run.specs.Opening.{Setup, nodes_of};
+ghost use Rattle.cx_laws_session.specs.cx_run.specs.Points.{journal_since, log_since};
+ghost use Rattle.cx_laws_session.specs.cx_run.specs.Runs.{run_journal, run_log};
 ghost use Rattle.cx_steps.specs.Premises.{IsFresh};
 
 /// Of every run, from every opening and with any handlers, whatever is delivered, lost, repeated, forged or cut, restarted, or failed at a save, and whatever

@@ -16,24 +16,24 @@ use Rattle.cx_keyring.specs.declared.entries.Entry.{Entry as Principal}
 use Rattle.cx_line_words.specs.declared.choices.LeftState.{LeftState}
 use Rattle.cx_line_words.specs.declared.choices.LeftState.TheVariants as left
 use Rattle.cx_rotate.specs.declared.states.KeptState.{KeptState}
-use Rattle.cx_rules.proofs.Drawing.{monitor-logs}
-use Rattle.cx_rules.specs.Acceptor.{AwaitsBanner, AwaitsHello, AwaitsRequest, AwaitsProof, AwaitsSignature, AwaitsIdent, Open}
-use Rattle.cx_rules.specs.Greetings.{own_banner}
-use Rattle.cx_rules.specs.Inputs.{Input, Opened, NoLink, Bytes, Turn, Gone, Look, Tick, Submit, Restart}
-use Rattle.cx_rules.specs.Judged.{LogsDraw, LogsLink, LogsStage, LogsTurn}
-use Rattle.cx_rules.specs.Links.{Link, link_of, put_link, without_link}
-use Rattle.cx_rules.specs.Monitor.{Monitor, MonitorArrival, MonitorNode, MonitorRow, MonitorStage, Offered}
-use Rattle.cx_rules.specs.MonitorRule.{monitor_rule, noted, opens, turn, turned_at}
-use Rattle.cx_rules.specs.Rows.{Outcome, Turned, Waits, Refuses, Handles, arrival, carried_out, fed, goes_on, links_behind, new_link, refuses, turns}
-use Rattle.cx_rules.specs.Secured.{Keys}
-use Rattle.cx_rules.specs.declared.responses.Bearer.{Bearer}
-use Rattle.cx_run.proofs.MonitorTakes.{monitor-takes}
-use Rattle.cx_run.proofs.PointsTell.{each-map, some-onto, some-until}
-use Rattle.cx_run.proofs.Taking.{Takes, TurnTakes}
-use Rattle.cx_run.proofs.Turning.{found-number, put-found}
-use Rattle.cx_run.specs.Happenings.{EntityNode, Happening, Nodes, Stepped, entity_of, entity_rule, entity_steps, failed_out, monitor_steps, stays, steps}
-use Rattle.cx_run.specs.Opening.{Declared, Setup, nodes_of, principal_of, secret_drawn, secrets_drawn}
-use Rattle.cx_run.specs.Points.{EachPoint, Point, Since, entries_at, logged_until, nodes_past, onto, points, points_onto, seals_at, stepped_at}
+use Rattle.cx_laws_authorize.specs.cx_rules.proofs.Drawing.{monitor-logs}
+use Rattle.cx_laws_authorize.specs.cx_rules.specs.Acceptor.{AwaitsBanner, AwaitsHello, AwaitsRequest, AwaitsProof, AwaitsSignature, AwaitsIdent, Open}
+use Rattle.cx_laws_authorize.specs.cx_rules.specs.Greetings.{own_banner}
+use Rattle.cx_laws_authorize.specs.cx_rules.specs.Inputs.{Input, Opened, NoLink, Bytes, Turn, Gone, Look, Tick, Submit, Restart}
+use Rattle.cx_laws_authorize.specs.cx_rules.specs.Judged.{LogsDraw, LogsLink, LogsStage, LogsTurn}
+use Rattle.cx_laws_authorize.specs.cx_rules.specs.Links.{Link, link_of, put_link, without_link}
+use Rattle.cx_laws_authorize.specs.cx_rules.specs.Monitor.{Monitor, MonitorArrival, MonitorNode, MonitorRow, MonitorStage, Offered}
+use Rattle.cx_laws_authorize.specs.cx_rules.specs.MonitorRule.{monitor_rule, noted, opens, turn, turned_at}
+use Rattle.cx_laws_authorize.specs.cx_rules.specs.Rows.{Outcome, Turned, Waits, Refuses, Handles, arrival, carried_out, fed, goes_on, links_behind, new_link, refuses, turns}
+use Rattle.cx_laws_authorize.specs.cx_rules.specs.Secured.{Keys}
+use Rattle.cx_laws_authorize.specs.cx_rules.specs.declared.responses.Bearer.{Bearer}
+use Rattle.cx_laws_authorize.specs.cx_run.proofs.MonitorTakes.{monitor-takes}
+use Rattle.cx_laws_authorize.specs.cx_run.proofs.PointsTell.{each-map, some-onto, some-until}
+use Rattle.cx_laws_authorize.specs.cx_run.proofs.Taking.{Takes, TurnTakes}
+use Rattle.cx_laws_authorize.specs.cx_run.proofs.Turning.{found-number, put-found}
+use Rattle.cx_laws_authorize.specs.cx_run.specs.Happenings.{EntityNode, Happening, Nodes, Stepped, entity_of, entity_rule, entity_steps, failed_out, monitor_steps, stays, steps}
+use Rattle.cx_laws_authorize.specs.cx_run.specs.Opening.{Declared, Setup, nodes_of, principal_of, secret_drawn, secrets_drawn}
+use Rattle.cx_laws_authorize.specs.cx_run.specs.Points.{EachPoint, Point, Since, entries_at, logged_until, nodes_past, onto, points, points_onto, seals_at, stepped_at}
 use Rattle.cx_steps.specs.Onto.{SomeOf}
 use Rattle.cx_steps.specs.declared.effects.Effects.{Effects}
 use Rattle.cx_steps.specs.declared.seals.DrawMark.{DrawMark}
@@ -42,9 +42,9 @@ use Rattle.cx_steps.specs.declared.seals.Logged.{Logged}
 use Rattle.cx_steps.specs.declared.seals.SealEntry.{SealEntry}
 use Rattle.cx_steps.specs.declared.seals.SealEntry.TheVariants as seal
 use Rattle.cx_laws_keys.proofs.Lists.{all-append, all-map, found_all, found_passes}
-use Rattle.cx_laws_login.proofs.Hearing.{HearsPart, part_heard}
+use Rattle.cx_laws_authorize.specs.cx_laws_login.proofs.Hearing.{HearsPart, part_heard}
 use Rattle.cx_laws_chain.proofs.NoDaemonTickets.{entity-none}
-use Rattle.cx_laws_login.proofs.Proving.{Bears, IsBehind, IsBehindProof, IsBehindReply, IsRinged, LinkTells, RowOf, RowTells, StageTells, none-issued, step-tells, turned-tells}
+use Rattle.cx_laws_authorize.specs.cx_laws_login.proofs.Proving.{Bears, IsBehind, IsBehindProof, IsBehindReply, IsRinged, LinkTells, RowOf, RowTells, StageTells, none-issued, step-tells, turned-tells}
 use Rattle.cx_laws_run.proofs.Opening.{nothing-in}
 use Rattle.cx_laws_run.specs.Logins.{Asks, IsAskedFor, IsRenewal, Offers, Proves, Stands, proof_of}
 

@@ -20,8 +20,8 @@ use Rattle.cx_lines.specs.declared.lines.Line.TheVariants as line
 use Rattle.cx_lines.specs.declared.lines.Numbered.{Numbered}
 use Rattle.cx_lines.specs.declared.settings.Setting.{Setting}
 use Rattle.cx_lines.specs.declared.settings.Setting.TheVariants as setting
-use Rattle.cx_run.specs.Opening.{Declared, Leak, Setup, changed, plain_setup, set_up, set_up_by, set_up_line}
-use Rattle.cx_run.specs.Runs.{setup_of}
+use Rattle.cx_laws_authorize.specs.cx_run.specs.Opening.{Declared, Leak, Setup, changed, plain_setup, set_up, set_up_by, set_up_line}
+use Rattle.cx_laws_authorize.specs.cx_run.specs.Runs.{setup_of}
 use Rattle.cx_schedule.specs.Files.{Adds, Lines, Said, numbered}
 use Rattle.cx_schedule.specs.Grammars.{line_words}
 use Rattle.cx_words.specs.Cutting.{lines_of}

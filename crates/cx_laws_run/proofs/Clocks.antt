@@ -18,17 +18,17 @@ use Rattle.cx_lines.specs.declared.node_steps.NodeStep.{NodeStep}
 use Rattle.cx_lines.specs.declared.node_steps.NodeStep.TheVariants as step
 use Rattle.cx_line_words.specs.declared.choices.Side.{Side}
 use Rattle.cx_line_words.specs.declared.choices.Side.TheVariants.{Connector, Acceptor}
-use Rattle.cx_rules.specs.Inputs.{Input, Opened, Bytes, Turn, Gone, Restart, Tick, Submit}
+use Rattle.cx_laws_authorize.specs.cx_rules.specs.Inputs.{Input, Opened, Bytes, Turn, Gone, Restart, Tick, Submit}
 use Rattle.cx_steps.specs.declared.events.Command.TheVariants as told
 use Rattle.cx_steps.specs.declared.events.Peer.{Peer}
-use Rattle.cx_run.specs.Happenings.{Happening}
-use Rattle.cx_run.specs.Opening.{Declared, opening_world, post_for}
-use Rattle.cx_run.specs.Runs.{setup_of, trace}
-use Rattle.cx_run.specs.Wires.{same_node, Wire, end_of, ended, gone_at, has_end, node_at, other, owes_gone, pieces_from, wire_of, with_pieces, with_wire}
-use Rattle.cx_run.specs.Worlds.{Post, World, carried, happening, opened_wires, post_of, with_post}
+use Rattle.cx_laws_authorize.specs.cx_run.specs.Happenings.{Happening}
+use Rattle.cx_laws_authorize.specs.cx_run.specs.Opening.{Declared, opening_world, post_for}
+use Rattle.cx_laws_authorize.specs.cx_run.specs.Runs.{setup_of, trace}
+use Rattle.cx_laws_authorize.specs.cx_run.specs.Wires.{same_node, Wire, end_of, ended, gone_at, has_end, node_at, other, owes_gone, pieces_from, wire_of, with_pieces, with_wire}
+use Rattle.cx_laws_authorize.specs.cx_run.specs.Worlds.{Post, World, carried, happening, opened_wires, post_of, with_post}
 use Rattle.cx_laws_keys.proofs.Lists.{all-append, found_all}
-use Rattle.cx_run.specs.Deliveries.{Given, arrives, arrives_from, came_at, comes, delivers, delivers_on, delivers_piece, drains, drains_side, far_side, first_of, followed, given, gives, gone_arrives, open_all, opens, restarts, round, rounds, settles, stay, tells, tells_gone, turns, under_way, vanish}
-use Rattle.cx_run.specs.Schedules.{acts_on, after_line, after_lines, arrives_again, cuts, ever_sent, injects, loses, on_link, on_node, services_sum, submits, submitted, without_first}
+use Rattle.cx_laws_authorize.specs.cx_run.specs.Deliveries.{Given, arrives, arrives_from, came_at, comes, delivers, delivers_on, delivers_piece, drains, drains_side, far_side, first_of, followed, given, gives, gone_arrives, open_all, opens, restarts, round, rounds, settles, stay, tells, tells_gone, turns, under_way, vanish}
+use Rattle.cx_laws_authorize.specs.cx_run.specs.Schedules.{acts_on, after_line, after_lines, arrives_again, cuts, ever_sent, injects, loses, on_link, on_node, services_sum, submits, submitted, without_first}
 
 -- a reading below 4,000,000,000 s
 abbrev IsLow : ℕ → Type 0
@@ -174,17 +174,10 @@ kept-submitted w (command.Login client services) k = kept-comes w (node.Entity c
 kept-submitted w (command.Fetch daemon) k = kept-comes w (node.Entity daemon) (Submit told.Fetch) k
 kept-submitted w (command.Renew client services) k = kept-comes w (node.Entity client) (Submit (told.Renew (services_sum services))) k
 kept-submitted w (command.Connect client daemon lossy) k = kept-comes w (node.Entity client) (Submit (told.Connect daemon lossy)) k
-kept-submitted w (command.Send client daemon operation) k = k
+kept-submitted w (command.Send client daemon operation) k = kept-comes w (node.Entity client) (Submit (told.Send daemon operation)) k
 
 kept-submits : (w : World) (c : LineCommand) → Low w → Low (submits w c)
-kept-submits w (command.Login client services) k =
-    kept-settles (submitted w (command.Login client services)) (kept-submitted w (command.Login client services) k)
-kept-submits w (command.Fetch daemon) k = kept-settles (submitted w (command.Fetch daemon)) (kept-submitted w (command.Fetch daemon) k)
-kept-submits w (command.Renew client services) k =
-    kept-settles (submitted w (command.Renew client services)) (kept-submitted w (command.Renew client services) k)
-kept-submits w (command.Connect client daemon lossy) k =
-    kept-settles (submitted w (command.Connect client daemon lossy)) (kept-submitted w (command.Connect client daemon lossy) k)
-kept-submits w (command.Send client daemon operation) k = k
+kept-submits w c k = kept-settles (submitted w c) (kept-submitted w c k)
 
 kept-without_first : (w : World) (wire : Wire) (side : Side) (pieces : List (List ℕ)) → Low w → Low (without_first w wire side pieces)
 kept-without_first w wire side [] k = k

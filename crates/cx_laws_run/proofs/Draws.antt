@@ -5,13 +5,13 @@ use Rattle.std.specs.Int.{w32, to_le_bytes}
 use Rattle.std.specs.List.{AllByRecursion}
 use Rattle.cx_dice.specs.Rolls.{seed_draw, words_from}
 use Rattle.cx_lines.specs.declared.lines.Numbered.{Numbered}
-use Rattle.cx_rules.specs.Inputs.{Input}
-use Rattle.cx_run.specs.Deliveries.{given}
-use Rattle.cx_run.specs.Happenings.{Happening}
-use Rattle.cx_run.specs.Schedules.{after_lines}
-use Rattle.cx_run.specs.Visits.{IsNoLook}
-use Rattle.cx_run.specs.Worlds.{Post, World, happening}
-use Rattle.cx_run.proofs.Walking.{kept-after_lines}
+use Rattle.cx_laws_authorize.specs.cx_rules.specs.Inputs.{Input}
+use Rattle.cx_laws_authorize.specs.cx_run.specs.Deliveries.{given}
+use Rattle.cx_laws_authorize.specs.cx_run.specs.Happenings.{Happening}
+use Rattle.cx_laws_authorize.specs.cx_run.specs.Schedules.{after_lines}
+use Rattle.cx_laws_authorize.specs.cx_run.specs.Visits.{IsNoLook}
+use Rattle.cx_laws_authorize.specs.cx_run.specs.Worlds.{Post, World, happening}
+use Rattle.cx_laws_authorize.specs.cx_run.proofs.Walking.{kept-after_lines}
 use Rattle.cx_laws_keys.proofs.Lists.{all-append}
 use Rattle.cx_laws_run.specs.Laws.{AreBytes, AreDrawn}
 
@@ -22,7 +22,7 @@ length-words key place zero = refl
 length-words key place (suc n) =
     rw length-append (omega (arith, length-words key place n))
 
-length-seed : (seed number : ℕ) → length (seed_draw seed number) ≡ 384
+pub length-seed : (seed number : ℕ) → length (seed_draw seed number) ≡ 384
 length-seed seed number = length-words _ (96 * number) 96
 
 -- and they are bytes
@@ -35,7 +35,7 @@ bytes-words key place zero = tt
 bytes-words key place (suc n) =
     all-append (λ (b : ℕ). b < 256) (words_from key place n) _ (bytes-words key place n) (word-bytes _)
 
-bytes-seed : (seed number : ℕ) → AreBytes (seed_draw seed number)
+pub bytes-seed : (seed number : ℕ) → AreBytes (seed_draw seed number)
 bytes-seed seed number = bytes-words _ (96 * number) 96
 
 -- each event of a world so far has such a draw

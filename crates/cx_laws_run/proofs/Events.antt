@@ -13,12 +13,12 @@ use Rattle.cx_base.specs.declared.nodes.NodeName.TheVariants as node
 use Rattle.cx_line_words.specs.declared.choices.LeftState.{LeftState}
 use Rattle.cx_line_words.specs.declared.choices.LeftState.TheVariants as left
 use Rattle.cx_rotate.specs.declared.states.KeptState.{KeptState}
-use Rattle.cx_rules_session.specs.ClientRule.{WholeClientNode, whole_client_rule}
-use Rattle.cx_rules.specs.Links.{Link}
-use Rattle.cx_rules.specs.Monitor.{MonitorNode}
-use Rattle.cx_rules.specs.MonitorRule.{monitor_rule}
-use Rattle.cx_rules.specs.Rows.{Outcome}
-use Rattle.cx_run.specs.Happenings.{Entered, Happening, Nodes, Stepped, entered_by, failed_out, is_of, journal_from, left_as, monitor_steps, seals_from, stays, steps, steps_of, EntityNode, OfClient, OfDaemon, entity_of, entity_steps, with_entity}
+use Rattle.cx_laws_authorize.specs.cx_rules_session.specs.ClientRule.{WholeClientNode, whole_client_rule}
+use Rattle.cx_laws_authorize.specs.cx_rules.specs.Links.{Link}
+use Rattle.cx_laws_authorize.specs.cx_rules.specs.Monitor.{MonitorNode}
+use Rattle.cx_laws_authorize.specs.cx_rules.specs.MonitorRule.{monitor_rule}
+use Rattle.cx_laws_authorize.specs.cx_rules.specs.Rows.{Outcome}
+use Rattle.cx_laws_authorize.specs.cx_run.specs.Happenings.{Entered, Happening, Nodes, Stepped, entered_by, failed_out, is_of, journal_from, left_as, monitor_steps, seals_from, stays, steps, steps_of, EntityNode, OfClient, OfDaemon, entity_of, entity_steps, with_entity}
 use Rattle.cx_steps.specs.Nothing.{nothing}
 use Rattle.cx_steps.specs.declared.events.Command.TheVariants as command
 use Rattle.cx_steps.specs.Onto.{EachOnto}
@@ -30,18 +30,18 @@ use Rattle.cx_laws_keys.proofs.Premises.{AreGranted, IsGranted, behind, granted-
 use Rattle.cx_laws_keys.proofs.Uses.{Grows, Uses, WholeRun, grows-from, grows-saved, grows-then}
 use Rattle.cx_laws_keys.proofs.Uses.{stays as same_uses}
 use Rattle.cx_laws_chain.specs.cx_laws_calling.proofs.Between.{ClientOk, client-grows, client-steps}
-use Rattle.cx_run.proofs.OpensMonitor.{unvisited-opens}
-use Rattle.cx_run.specs.Calling.{IsNoCall}
-use Rattle.cx_laws_login.proofs.Entering.{within-all}
-use Rattle.cx_laws_login.proofs.Facts.{OwnOk, own-grows, Owner, AskerKnown, known-grows}
-use Rattle.cx_laws_login.proofs.Generations.{state-grows, AreRecorded, tagged, tagged-recorded}
-use Rattle.cx_laws_login.proofs.MonitorRows.{monitor_says}
-use Rattle.cx_laws_login.proofs.MonitorStep.{MonitorOk, between, between-less, monitor-after, unsaved-ok}
-use Rattle.cx_laws_login.proofs.Rows.{NodeOk, links-grow}
+use Rattle.cx_laws_authorize.specs.cx_run.proofs.OpensMonitor.{unvisited-opens}
+use Rattle.cx_laws_authorize.specs.cx_run.specs.Calling.{IsNoCall}
+use Rattle.cx_laws_authorize.specs.cx_laws_login.proofs.Entering.{within-all}
+use Rattle.cx_laws_authorize.specs.cx_laws_login.proofs.Facts.{OwnOk, own-grows, Owner, AskerKnown, known-grows}
+use Rattle.cx_laws_authorize.specs.cx_laws_login.proofs.Generations.{state-grows, AreRecorded, tagged, tagged-recorded}
+use Rattle.cx_laws_authorize.specs.cx_laws_login.proofs.MonitorRows.{monitor_says}
+use Rattle.cx_laws_authorize.specs.cx_laws_login.proofs.MonitorStep.{MonitorOk, between, between-less, monitor-after, unsaved-ok}
+use Rattle.cx_laws_authorize.specs.cx_laws_login.proofs.Rows.{NodeOk, links-grow}
 use Rattle.cx_laws_run.proofs.Journals.{behind-append}
 use Rattle.cx_laws_run.proofs.Saves.{inv-failed, thick}
-use Rattle.cx_run.proofs.DaemonNamed.{daemon-named}
-use Rattle.cx_rules_session.specs.DaemonRule.{DaemonNode, DaemonStage, DaemonState, daemon_step}
+use Rattle.cx_laws_authorize.specs.cx_run.proofs.DaemonNamed.{daemon-named}
+use Rattle.cx_laws_authorize.specs.cx_rules_session.specs.DaemonRule.{DaemonNode, DaemonStage, DaemonState, daemon_step}
 use Rattle.cx_laws_authorize.proofs.Backing.{IsGood, backing-grows, AllGood}
 use Rattle.cx_laws_authorize.specs.Coming.{IsNoGuest}
 use Rattle.cx_laws_authorize.proofs.DaemonRows.{DaemonHas, LinksHave, daemon_links-grow}
@@ -51,8 +51,8 @@ use Rattle.cx_laws_keys.proofs.Steps.{inv-saved, within-itself}
 use Rattle.std.proofs.lemmas.List.Elements.{Contains-append_cases}
 use Rattle.cx_base.specs.declared.kinds.EntityType.{EntityType}
 use Rattle.cx_rotate.specs.declared.generations.Generation.{Generation}
-use Rattle.cx_run.specs.Visits.{IsNoLook, IsUnvisited}
-use Rattle.cx_rules.specs.Inputs.{Input, Opened, NoLink, Bytes, Turn, Gone, Look, Tick, Submit, Restart}
+use Rattle.cx_laws_authorize.specs.cx_run.specs.Visits.{IsNoLook, IsUnvisited}
+use Rattle.cx_laws_authorize.specs.cx_rules.specs.Inputs.{Input, Opened, NoLink, Bytes, Turn, Gone, Look, Tick, Submit, Restart}
 
 -- of a daemon: so also the keys of its guests' links, and that the authority of each has its ticket
 pub record DaemonOk (run : WholeRun) (us : Uses) (J : List Entry) (d : DaemonNode) : Type 0 where

@@ -8,17 +8,17 @@ use Rattle.cx_base.specs.Names.{Name, is_daemon_type}
 use Rattle.cx_base.specs.declared.nodes.NodeName.{NodeName}
 use Rattle.cx_base.specs.declared.nodes.NodeName.TheVariants as node
 use Rattle.cx_line_words.specs.declared.choices.LeftState.{LeftState}
-use Rattle.cx_rules_session.specs.ClientRule.{opening_whole_client}
-use Rattle.cx_rules.specs.Inputs.{Input, Opened, NoLink, Bytes, Turn, Gone, Look, Tick, Submit, Restart}
-use Rattle.cx_rules.specs.Links.{Link}
-use Rattle.cx_rules.specs.MonitorRule.{monitor_rule}
-use Rattle.cx_rules.specs.Rows.{Outcome}
-use Rattle.cx_rules_session.specs.DaemonRule.{DaemonStage, DaemonState, daemon_step}
-use Rattle.cx_run.proofs.DaemonNamed.{daemon-named}
-use Rattle.cx_run.specs.Happenings.{EntityNode, OfClient, OfDaemon, Happening, Nodes, asker_in, entity_of, entity_rule, entity_steps, is_of, steps}
-use Rattle.cx_run.specs.Opening.{Declared, Setup, asker_of, daemon_opening, entity_in, nodes_of}
-use Rattle.cx_run.specs.Points.{EachPoint, Point, entries_at, points, points_onto, seals_at}
-use Rattle.cx_run.specs.Wires.{same_node}
+use Rattle.cx_laws_authorize.specs.cx_rules_session.specs.ClientRule.{opening_whole_client}
+use Rattle.cx_laws_authorize.specs.cx_rules.specs.Inputs.{Input, Opened, NoLink, Bytes, Turn, Gone, Look, Tick, Submit, Restart}
+use Rattle.cx_laws_authorize.specs.cx_rules.specs.Links.{Link}
+use Rattle.cx_laws_authorize.specs.cx_rules.specs.MonitorRule.{monitor_rule}
+use Rattle.cx_laws_authorize.specs.cx_rules.specs.Rows.{Outcome}
+use Rattle.cx_laws_authorize.specs.cx_rules_session.specs.DaemonRule.{DaemonStage, DaemonState, daemon_step}
+use Rattle.cx_laws_authorize.specs.cx_run.proofs.DaemonNamed.{daemon-named}
+use Rattle.cx_laws_authorize.specs.cx_run.specs.Happenings.{EntityNode, OfClient, OfDaemon, Happening, Nodes, asker_in, entity_of, entity_rule, entity_steps, is_of, steps}
+use Rattle.cx_laws_authorize.specs.cx_run.specs.Opening.{Declared, Setup, asker_of, daemon_opening, entity_in, nodes_of}
+use Rattle.cx_laws_authorize.specs.cx_run.specs.Points.{EachPoint, Point, entries_at, points, points_onto, seals_at}
+use Rattle.cx_laws_authorize.specs.cx_run.specs.Wires.{same_node}
 use Rattle.cx_laws_authorize.proofs.Opening.{HasNoneAt, opens-bare}
 use Rattle.cx_laws_authorize.proofs.Steps.{all-authorize}
 use Rattle.cx_laws_authorize.specs.Admission.{GetsAuthority, HadAuthority, LinkAuthorized, StageHas, StepAuthorizes}

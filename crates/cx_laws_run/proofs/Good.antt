@@ -25,17 +25,17 @@ use Rattle.cx_line_words.specs.Values.{is_life}
 use Rattle.cx_login.specs.Unlocking.{unlocked}
 use Rattle.cx_rotate.specs.declared.generations.Generation.{Generation}
 use Rattle.cx_rotate.specs.declared.states.KeptState.{KeptState}
-use Rattle.cx_run.specs.Happenings.{Happening, Nodes, steps}
-use Rattle.cx_run.specs.Opening.{Declared, Setup, principal_of}
-use Rattle.cx_run.specs.Points.{EachPoint, Point, nodes_past, points_onto}
+use Rattle.cx_laws_authorize.specs.cx_run.specs.Happenings.{Happening, Nodes, steps}
+use Rattle.cx_laws_authorize.specs.cx_run.specs.Opening.{Declared, Setup, principal_of}
+use Rattle.cx_laws_authorize.specs.cx_run.specs.Points.{EachPoint, Point, nodes_past, points_onto}
 use Rattle.cx_sealed.specs.Records.{service_ticket_layout}
 use Rattle.cx_steps.specs.Onto.{SomeOf}
 use Rattle.cx_laws_authorize.proofs.Backing.{IsGood}
 use Rattle.cx_laws_chain.specs.Chain.{Added, BecomesLost, BecomesSaved, Chain, Fate, HasChain, IsAddedAt, IsChained, IsMadeUnder, IsOne, IsUnderCurrent, StaysInMemory, chain_behind, life_in, ring_in, said_by, saved_past, three_newest}
 use Rattle.cx_laws_keys.proofs.Lists.{all-append, found_all, found_passes}
 use Rattle.cx_laws_keys.proofs.Uses.{IsSavedIn, WholeRun}
-use Rattle.cx_laws_login.proofs.Generations.{length-part, tagged}
-use Rattle.cx_laws_login.proofs.Issuing.{length-session}
+use Rattle.cx_laws_authorize.specs.cx_laws_login.proofs.Generations.{length-part, tagged}
+use Rattle.cx_laws_authorize.specs.cx_laws_login.proofs.Issuing.{length-session}
 use Rattle.cx_laws_run.proofs.Whole.{saved_in}
 use Rattle.cx_laws_run.proofs.Written.{AreCaps, IsWritable, caps-are, is-writable, under-opens}
 use Rattle.cx_laws_run.specs.Laws.{AreBytes, MayBegin}
@@ -68,7 +68,7 @@ session-bytes Mgr draw h = part-bytes 128 16 draw h
 session-bytes Mon draw h = tt
 session-bytes Client draw h = tt
 
-block-of : (place : ℕ) (draw : List ℕ) → IsDraw draw → place + 16 ≤ 384 → IsBlock (part place 16 draw)
+pub block-of : (place : ℕ) (draw : List ℕ) → IsDraw draw → place + 16 ≤ 384 → IsBlock (part place 16 draw)
 block-of place draw d low = record {
   len = let long : length draw ≡ 384 = d.long in length-part place 16 draw (omega arith);
   bytes = All-from_recursion (λ (b : ℕ). b < 256) (part place 16 draw) (part-bytes place 16 draw d.bytes);
@@ -132,6 +132,12 @@ module _ (setup : Setup) (service : EntityType) where
   chain-keyed [] c is d = none-keyed c is
   chain-keyed (p ∷ older) c (before, earlier, m) d =
       subst IsKeyedChain (sym m.behind_is) (behind-keyed m.fate m.added before (added-keyed p d.0 m.added m.here) (chain-keyed older before earlier d.1))
+
+  -- so the key of each that was ever saved is one
+  pub kept-blocks : (past : List Point) (c : Chain) → IsChained setup service past c → EachPoint (λ older p. IsDraw p.happening.draw) past
+      → AllByRecursion (λ (x : Added). IsBlock x.generation.key) c.kept
+  unfolding AreKeyed IsKeyed
+  kept-blocks past c is d = (chain-keyed past c is d).kept
 
   -- the one that is current is the second of the three newest
   current-is : (now : ℕ) (xs : List Added) (g : Generation) → AreKeyed xs → current_at now (three_newest xs) ≡ Some g → Contains (three_newest xs) g × IsBlock g.key

@@ -6,17 +6,17 @@ use Rattle.cx_journal.specs.Behind.{EachBehind}
 use Rattle.cx_keyserver.specs.Servers.{generations_of}
 use Rattle.cx_rotate.specs.declared.generations.Generation.{Generation}
 use Rattle.cx_rotate.specs.declared.states.KeptState.{KeptState}
-use Rattle.cx_run.specs.Happenings.{Happening, Nodes, steps}
-use Rattle.cx_run.specs.Opening.{Setup, leaked_of, nodes_of}
-use Rattle.cx_run.specs.Points.{Point, journal_since, log_since, nodes_past, points, points_onto}
-use Rattle.cx_run.specs.Visits.{AreUntold, AreUnvisited}
+use Rattle.cx_laws_authorize.specs.cx_run.specs.Happenings.{Happening, Nodes, steps}
+use Rattle.cx_laws_authorize.specs.cx_run.specs.Opening.{Setup, leaked_of, nodes_of}
+use Rattle.cx_laws_authorize.specs.cx_run.specs.Points.{Point, journal_since, log_since, nodes_past, points, points_onto}
+use Rattle.cx_laws_authorize.specs.cx_run.specs.Visits.{AreUntold, AreUnvisited}
 use Rattle.cx_steps.specs.Premises.{IsFresh, IsSound}
 use Rattle.cx_laws_chain.proofs.One.{all-kept}
 use Rattle.cx_laws_chain.specs.Chain.{KeepsGenerations}
 use Rattle.cx_laws_keys.proofs.Journal.{EntryLaw}
 use Rattle.cx_laws_keys.proofs.Lists.{all-map, some-left, some-right}
 use Rattle.cx_laws_keys.proofs.Uses.{IsSavedIn, WholeRun}
-use Rattle.cx_laws_login.proofs.Generations.{AreRecorded, all-tagged, tagged}
+use Rattle.cx_laws_authorize.specs.cx_laws_login.proofs.Generations.{AreRecorded, all-tagged, tagged}
 use Rattle.cx_laws_run.proofs.Events.{AllOccur}
 use Rattle.cx_laws_run.proofs.Good.{IsDraw, IsKnown, each-happening, good-point}
 use Rattle.cx_laws_run.proofs.Logins.{run-logins}
@@ -72,7 +72,7 @@ all-draws : (hs : List Happening) → AreDrawn hs → AllByRecursion (λ (h : Ha
 all-draws [] drawn bytes = tt
 all-draws (h ∷ hs) drawn bytes = (record { long = drawn.0; bytes = bytes.0 }, all-draws hs drawn.1 bytes.1)
 
-all-known : (setup : Setup) (hs : List Happening) (guests : Bool) → MayHappen setup hs → IsKnown setup (run_of setup hs guests) (points setup hs)
+pub all-known : (setup : Setup) (hs : List Happening) (guests : Bool) → MayHappen setup hs → IsKnown setup (run_of setup hs guests) (points setup hs)
 all-known setup hs guests m =
     let kept : KeepsGenerations setup hs = all-kept setup hs in
     record {

@@ -8,6 +8,7 @@ pub mod Logins
 pub mod Looks
 pub mod Origins
 pub mod Schedules
+pub mod Sending
 pub mod Whole
 pub mod Written
 pub mod Beginning

@@ -7,12 +7,12 @@ use Rattle.cx_base.specs.declared.nodes.NodeName.{NodeName}
 use Rattle.cx_base.specs.declared.nodes.NodeName.TheVariants as node
 use Rattle.cx_journal.specs.declared.entries.Entry.{Entry}
 use Rattle.cx_journal.specs.declared.entries.Issued.{Issued}
-use Rattle.cx_rules.specs.Links.{Link, link_of}
-use Rattle.cx_rules.specs.Monitor.{MonitorStage, Offered}
-use Rattle.cx_rules.specs.Secured.{Keys}
-use Rattle.cx_run.specs.Happenings.{Entered, Happening, Nodes, Stepped, seals_from, steps}
-use Rattle.cx_run.specs.Opening.{Setup, leaked_of, leaks_entered, nodes_of, Leak}
-use Rattle.cx_run.specs.Points.{EachPoint, Point, Since, entered_until, log_since, logged_until, onto, points, points_onto, seals_at}
+use Rattle.cx_laws_authorize.specs.cx_rules.specs.Links.{Link, link_of}
+use Rattle.cx_laws_authorize.specs.cx_rules.specs.Monitor.{MonitorStage, Offered}
+use Rattle.cx_laws_authorize.specs.cx_rules.specs.Secured.{Keys}
+use Rattle.cx_laws_authorize.specs.cx_run.specs.Happenings.{Entered, Happening, Nodes, Stepped, seals_from, steps}
+use Rattle.cx_laws_authorize.specs.cx_run.specs.Opening.{Setup, leaked_of, leaks_entered, nodes_of, Leak}
+use Rattle.cx_laws_authorize.specs.cx_run.specs.Points.{EachPoint, Point, Since, entered_until, log_since, logged_until, onto, points, points_onto, seals_at}
 use Rattle.cx_steps.specs.Onto.{EachOnto, SomeOf}
 use Rattle.cx_steps.specs.Premises.{HasSealed, HasSigned, IsExcepted, IsFresh, IsSound, Owes, Seals, Signs}
 use Rattle.cx_steps.specs.declared.seals.Logged.{Logged}
@@ -20,14 +20,14 @@ use Rattle.cx_steps.specs.declared.seals.SealEntry.{SealEntry}
 use Rattle.cx_steps.specs.declared.seals.SealEntry.TheVariants as seal
 use Rattle.cx_steps.specs.declared.seals.SealMark.{SealMark}
 use Rattle.cx_laws_keys.proofs.Journal.{entered}
-use Rattle.cx_laws_keys.proofs.Known.{Inv, IsOfConnector, sealed_own, signed_own}
+use Rattle.cx_laws_keys.proofs.Known.{Inv, IsOfConnector, login-connected, sealed_own, signed_own}
 use Rattle.cx_laws_keys.proofs.Premises.{AreGranted, IsGranted, behind, granted-step, logged}
 use Rattle.cx_laws_keys.proofs.Uses.{Connected, IsConnected, Means, Secret, Uses, WholeRun}
-use Rattle.cx_laws_login.proofs.Facts.{BearerOk, OfferOk, StageOk}
-use Rattle.cx_laws_login.proofs.Hearing.{HearsPart, heard-begins, part_heard}
-use Rattle.cx_laws_login.proofs.MonitorRows.{monitor_says}
-use Rattle.cx_laws_login.proofs.MonitorStep.{MonitorOk}
-use Rattle.cx_laws_login.proofs.Rows.{LinkOk, found-link}
+use Rattle.cx_laws_authorize.specs.cx_laws_login.proofs.Facts.{BearerOk, OfferOk, StageOk}
+use Rattle.cx_laws_authorize.specs.cx_laws_login.proofs.Hearing.{HearsPart, heard-begins, part_heard}
+use Rattle.cx_laws_authorize.specs.cx_laws_login.proofs.MonitorRows.{monitor_says}
+use Rattle.cx_laws_authorize.specs.cx_laws_login.proofs.MonitorStep.{MonitorOk}
+use Rattle.cx_laws_authorize.specs.cx_laws_login.proofs.Rows.{LinkOk, found-link}
 use Rattle.cx_laws_run.proofs.Asked.{Hears, IsHeardFor, all-heard}
 use Rattle.cx_laws_run.proofs.Events.{NodesOk, entered-append, event-after, AllOccur, good-behind}
 use Rattle.cx_laws_run.proofs.Opening.{Begins, begins}
@@ -106,7 +106,7 @@ module _ (run : WholeRun) (setup : Setup) (same : run.leaked ≡ leaked_of setup
       let own : Contains run.leaked name → ⊥ =
       λ has. unleaked (subst (λ (names : List Name). Contains names t.entity) same (subst (λ (n : Name). Contains run.leaked n) (sym renewal.named) has)) in
       subst (λ (n : Name). OwnFrame setup n past (record { nodes = nodes; happening = h })) (sym renewal.named)
-      (mark, heard.rest, heard.opened, refl, sealed-by keys heard.plain name i bearer.connected bearer.into granted.0.owes own)
+      (mark, heard.rest, heard.opened, refl, sealed-by keys heard.plain name i (login-connected us name keys.key bearer.login) bearer.into granted.0.owes own)
 
   event-signed : Inv run whole us log J → NodesOk run nodes us J → AreGranted run.leaked whole h.node h.line log (steps nodes h).out.seals
       → SignedOwn setup past (record { nodes = nodes; happening = h })

@@ -10,18 +10,18 @@ use Rattle.cx_journal.specs.Behind.{EachBehind}
 use Rattle.cx_journal.specs.declared.entries.Entry.{Entry}
 use Rattle.cx_journal.specs.declared.entries.Entry.TheVariants as journal
 use Rattle.cx_rotate.specs.declared.views.View.{View}
-use Rattle.cx_rules_session.specs.ClientRule.{opening_whole_client}
+use Rattle.cx_laws_authorize.specs.cx_rules_session.specs.ClientRule.{opening_whole_client}
 use Rattle.cx_rotate.specs.declared.states.KeptState.{KeptState}
 use Rattle.cx_line_words.specs.declared.choices.LeftState.{LeftState}
-use Rattle.cx_rules.specs.Monitor.{MonitorNode}
-use Rattle.cx_rules.specs.MonitorRule.{monitor_rule}
-use Rattle.cx_rules.specs.Rows.{Outcome}
-use Rattle.cx_run.proofs.EntityNamed.{entity-named}
-use Rattle.cx_run.specs.Happenings.{Entered, EntityNode, OfClient, OfDaemon, Happening, Nodes, Stepped, asker_in, entered_by, entity_of, entity_rule, entity_steps, is_of, journal_from, monitor_steps, steps, steps_of}
-use Rattle.cx_run.specs.Opening.{Declared, Leak, Setup, asker_of, daemon_opening, entity_in, leaks_entered, nodes_of}
-use Rattle.cx_run.specs.Points.{journal_since}
+use Rattle.cx_laws_authorize.specs.cx_rules.specs.Monitor.{MonitorNode}
+use Rattle.cx_laws_authorize.specs.cx_rules.specs.MonitorRule.{monitor_rule}
+use Rattle.cx_laws_authorize.specs.cx_rules.specs.Rows.{Outcome}
+use Rattle.cx_laws_authorize.specs.cx_run.proofs.EntityNamed.{entity-named}
+use Rattle.cx_laws_authorize.specs.cx_run.specs.Happenings.{Entered, EntityNode, OfClient, OfDaemon, Happening, Nodes, Stepped, asker_in, entered_by, entity_of, entity_rule, entity_steps, is_of, journal_from, monitor_steps, steps, steps_of}
+use Rattle.cx_laws_authorize.specs.cx_run.specs.Opening.{Declared, Leak, Setup, asker_of, daemon_opening, entity_in, leaks_entered, nodes_of}
+use Rattle.cx_laws_authorize.specs.cx_run.specs.Points.{journal_since}
 use Rattle.cx_laws_authorize.proofs.Viewing.{daemon-shows}
-use Rattle.cx_run.specs.Visits.{AreUntold, IsNoLook}
+use Rattle.cx_laws_authorize.specs.cx_run.specs.Visits.{AreUntold, IsNoLook}
 use Rattle.cx_laws_chain.proofs.Rows.{IsOfMonitor}
 use Rattle.cx_laws_chain.proofs.Steps.{event-enters}
 use Rattle.cx_laws_keys.proofs.Journal.{entered}

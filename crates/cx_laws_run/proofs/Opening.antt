@@ -11,10 +11,10 @@ use Rattle.cx_journal.specs.declared.entries.Entry.{Entry}
 use Rattle.cx_journal.specs.declared.entries.Entry.TheVariants as journal
 use Rattle.cx_journal.specs.declared.entries.Issued.{Issued}
 use Rattle.cx_base.specs.declared.nodes.NodeName.TheVariants as node
-use Rattle.cx_rules_session.specs.ClientRule.{opening_whole_client}
+use Rattle.cx_laws_authorize.specs.cx_rules_session.specs.ClientRule.{opening_whole_client}
 use Rattle.cx_laws_chain.specs.cx_laws_calling.proofs.Between.{client-begins}
-use Rattle.cx_run.specs.Happenings.{Entered, Happening, journal_from, seals_from, OfClient, OfDaemon}
-use Rattle.cx_run.specs.Opening.{Declared, Leak, Setup, asker_of, first_state, leaked_of, leaks_entered, nodes_of, principal_of, secret_drawn, secret_of, secrets_drawn, entity_in, daemon_opening}
+use Rattle.cx_laws_authorize.specs.cx_run.specs.Happenings.{Entered, Happening, journal_from, seals_from, OfClient, OfDaemon}
+use Rattle.cx_laws_authorize.specs.cx_run.specs.Opening.{Declared, Leak, Setup, asker_of, first_state, leaked_of, leaks_entered, nodes_of, principal_of, secret_drawn, secret_of, secrets_drawn, entity_in, daemon_opening}
 use Rattle.cx_steps.specs.Onto.{EachOnto}
 use Rattle.cx_steps.specs.Premises.{IsFresh, IsSound}
 use Rattle.cx_steps.specs.declared.seals.DrawMark.TheVariants as draw
@@ -25,12 +25,12 @@ use Rattle.cx_laws_keys.proofs.Lists.{map-append}
 use Rattle.cx_laws_keys.proofs.Premises.{IsGranted, all-granted}
 use Rattle.cx_laws_keys.proofs.Steps.{inv-drawn}
 use Rattle.cx_laws_keys.proofs.Uses.{Grows, Means, Secret, Uses, grows-one, grows-then, no_uses, stays, with_key, WholeRun}
-use Rattle.cx_laws_login.proofs.Facts.{AreSecrets, none-fetched}
-use Rattle.cx_laws_login.proofs.Generations.{IsGenerated, AreWritable, none-writable}
-use Rattle.cx_laws_login.proofs.Rows.{IsQuietEntry, quiet-entries}
+use Rattle.cx_laws_authorize.specs.cx_laws_login.proofs.Facts.{AreSecrets, none-fetched}
+use Rattle.cx_laws_authorize.specs.cx_laws_login.proofs.Generations.{IsGenerated, AreWritable, none-writable}
+use Rattle.cx_laws_authorize.specs.cx_laws_login.proofs.Rows.{IsQuietEntry, quiet-entries}
 use Rattle.cx_laws_run.proofs.Events.{NodesOk, events-law, AllOccur, EntityOk, EntitiesOk}
 use Rattle.cx_laws_run.proofs.Journals.{behind-append}
-use Rattle.cx_run.specs.Points.{journal_since, log_since, onto}
+use Rattle.cx_laws_authorize.specs.cx_run.specs.Points.{journal_since, log_since, onto}
 use Rattle.cx_keyserver.specs.Servers.{generations_of}
 use Rattle.std.proofs.lemmas.List.Elements.{Contains-append_cases, Contains-push_cases}
 
@@ -57,7 +57,7 @@ module _ (run : WholeRun) (whole : List Logged) (J : List Entry) where
   secrets-known (e ∷ es) us log rest i g =
       let mark = draw.Principal (secret_of e) e.name in
       let vs : Uses = with_key us (secret_of e) (Secret e.name) in
-      let first : Inv run whole vs (secret_drawn e ∷ log) J = inv-drawn run whole us log J (node.Entity e.name) e.line mark (secret_of e) (Secret e.name) i refl refl (λ name is. as_secret (secret_of e) e.name name is) g.0 in
+      let first : Inv run whole vs (secret_drawn e ∷ log) J = inv-drawn run whole us log J (node.Entity e.name) e.line mark (secret_of e) (Secret e.name) i refl refl tt (λ name is. as_secret (secret_of e) e.name name is) g.0 in
       let more = secrets-known es vs (secret_drawn e ∷ log) rest first g.1 in
       record {
         uses = more.uses;
@@ -90,6 +90,7 @@ opening-inv run whole = record {
   allowed = tt;
   own = λ s t hs ht gid. absurd (nothing-in (journal.Issued s) hs);
   told = refl;
+  placed = λ key u h. absurd h;
 }
 
 -- ---- the nodes

@@ -15,16 +15,16 @@ use Rattle.cx_journal.specs.declared.entries.Admitted.{Admitted}
 use Rattle.cx_journal.specs.declared.entries.Entry.{Entry}
 use Rattle.cx_journal.specs.declared.entries.Entry.TheVariants as journal
 use Rattle.cx_journal.specs.declared.entries.Issued.{Issued}
-use Rattle.cx_rules.specs.Acceptor.{AwaitsIdent}
-use Rattle.cx_rules.specs.Inputs.{Input, Turn}
-use Rattle.cx_rules.specs.Links.{Link}
-use Rattle.cx_rules.specs.Secured.{Keys}
-use Rattle.cx_rules_session.specs.DaemonRule.{AsAcceptor, DaemonStage, DaemonState, daemon_step}
-use Rattle.cx_run.proofs.PointsTell.{entered-at}
-use Rattle.cx_run.proofs.Turning.{found-number}
-use Rattle.cx_run.specs.Happenings.{EntityNode, OfClient, OfDaemon, Happening, Nodes, Stepped, entity_of, entity_steps, is_of, steps, steps_of}
-use Rattle.cx_run.specs.Opening.{Leak, Setup, leaked_of, nodes_of}
-use Rattle.cx_run.specs.Points.{EachPoint, Point, WasEntered, entered_until, entries_at, log_since, logged_until, points, seals_at}
+use Rattle.cx_laws_authorize.specs.cx_rules.specs.Acceptor.{AwaitsIdent}
+use Rattle.cx_laws_authorize.specs.cx_rules.specs.Inputs.{Input, Turn}
+use Rattle.cx_laws_authorize.specs.cx_rules.specs.Links.{Link}
+use Rattle.cx_laws_authorize.specs.cx_rules.specs.Secured.{Keys}
+use Rattle.cx_laws_authorize.specs.cx_rules_session.specs.DaemonRule.{AsAcceptor, DaemonStage, DaemonState, daemon_step}
+use Rattle.cx_laws_authorize.specs.cx_run.proofs.PointsTell.{entered-at}
+use Rattle.cx_laws_authorize.specs.cx_run.proofs.Turning.{found-number}
+use Rattle.cx_laws_authorize.specs.cx_run.specs.Happenings.{EntityNode, OfClient, OfDaemon, Happening, Nodes, Stepped, entity_of, entity_steps, is_of, steps, steps_of}
+use Rattle.cx_laws_authorize.specs.cx_run.specs.Opening.{Leak, Setup, leaked_of, nodes_of}
+use Rattle.cx_laws_authorize.specs.cx_run.specs.Points.{EachPoint, Point, WasEntered, entered_until, entries_at, log_since, logged_until, points, seals_at}
 use Rattle.cx_steps.specs.Premises.{IsFresh, IsSound}
 use Rattle.cx_steps.specs.declared.seals.Logged.{Logged}
 use Rattle.cx_steps.specs.declared.seals.SealEntry.{SealEntry}
@@ -41,7 +41,7 @@ use Rattle.cx_laws_keys.proofs.Known.{Inv}
 use Rattle.cx_laws_keys.proofs.Lists.{found_all, found_passes}
 use Rattle.cx_laws_keys.proofs.Premises.{AreGranted}
 use Rattle.cx_laws_keys.proofs.Uses.{Uses, WholeRun}
-use Rattle.cx_laws_login.proofs.Hearing.{HearsPart, part_heard}
+use Rattle.cx_laws_authorize.specs.cx_laws_login.proofs.Hearing.{HearsPart, part_heard}
 use Rattle.cx_laws_chain.specs.cx_laws_calling.proofs.Entering.{IsOfClient, whole-enters}
 use Rattle.cx_laws_run.proofs.Asked.{all-asked}
 use Rattle.cx_laws_run.proofs.Events.{AllOccur, DaemonOk, EntityOk, NodesOk}

@@ -3,7 +3,7 @@ use Rattle.std.proofs.Common.{◌≡◌, ◌⊎◌, ℕ, List, [], ◌∷◌, fi
 use Rattle.std.specs.List.{AllByRecursion}
 use Rattle.cx_journal.specs.declared.entries.Entry.{Entry}
 use Rattle.cx_base.specs.declared.nodes.NodeName.{NodeName}
-use Rattle.cx_run.specs.Happenings.{stays}
+use Rattle.cx_laws_authorize.specs.cx_run.specs.Happenings.{stays}
 use Rattle.cx_steps.specs.Onto.{SomeOf}
 use Rattle.cx_steps.specs.Premises.{HasSealed, HasSigned, IsNew, Owes, RepeatsIn}
 use Rattle.cx_steps.specs.declared.seals.DrawMark.{DrawMark}
@@ -155,6 +155,7 @@ module _ (run : WholeRun) (whole : List Logged) (n : NodeName) (line : ℕ) wher
             (λ at a. allowed-grows us ws J J grows (λ s g h. h) (within-itself J) at.node at.entry a) log i.allowed);
         own = i.own;
         told = i.told;
+        placed = full.placed;
       }
 
 pub thick : (run : WholeRun) (whole : List Logged) (n : NodeName) (line : ℕ) (log : List Logged) (es : List SealEntry) → AreGranted run.leaked whole n line log (filter stays es)

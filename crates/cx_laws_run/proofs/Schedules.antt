@@ -3,9 +3,9 @@ use Rattle.std.proofs.Common.{ℕ, List, []}
 use Rattle.std.specs.Prelude.{refl}
 use Rattle.cx_desk.specs.Handlers.{Handlers}
 use Rattle.cx_lines.specs.declared.lines.Numbered.{Numbered}
-use Rattle.cx_run.specs.Opening.{opening_world}
-use Rattle.cx_run.specs.Runs.{setup_of, trace}
-use Rattle.cx_run.proofs.Untold.{untold}
+use Rattle.cx_laws_authorize.specs.cx_run.specs.Opening.{opening_world}
+use Rattle.cx_laws_authorize.specs.cx_run.specs.Runs.{setup_of, trace}
+use Rattle.cx_laws_authorize.specs.cx_run.proofs.Untold.{untold}
 use Rattle.cx_schedule.proofs.Whole.{all_in_range}
 use Rattle.cx_schedule.specs.Files.{Lines}
 use Rattle.cx_words.specs.Cutting.{lines_of}

@@ -2,11 +2,11 @@
 use Rattle.std.specs.Prelude.{Bool, true, List, [], ◌∷◌, ◌++◌}
 use Rattle.cx_base.specs.declared.kinds.EntityType.{EntityType}
 use Rattle.cx_rotate.specs.declared.generations.Generation.{Generation}
-use Rattle.cx_run.specs.Happenings.{Happening}
-use Rattle.cx_run.specs.Opening.{Setup, leaked_of}
-use Rattle.cx_run.specs.Points.{Point, nodes_past, points}
+use Rattle.cx_laws_authorize.specs.cx_run.specs.Happenings.{Happening}
+use Rattle.cx_laws_authorize.specs.cx_run.specs.Opening.{Setup, leaked_of}
+use Rattle.cx_laws_authorize.specs.cx_run.specs.Points.{Point, nodes_past, points}
 use Rattle.cx_laws_keys.proofs.Uses.{WholeRun}
-use Rattle.cx_laws_login.proofs.Generations.{tagged}
+use Rattle.cx_laws_authorize.specs.cx_laws_login.proofs.Generations.{tagged}
 
 -- the generations that are saved behind these points
 abbrev pub saved_in : List Point → List (EntityType × Generation)

@@ -33,10 +33,10 @@ use Rattle.cx_laws_run.specs.Laws.{AreBytes}
 abbrev IsByte : ℕ → Type 0
 IsByte b = b < 256
 
-both : (xs ys : List ℕ) → AreBytes xs → AreBytes ys → AreBytes (xs ++ ys)
+pub both : (xs ys : List ℕ) → AreBytes xs → AreBytes ys → AreBytes (xs ++ ys)
 both xs ys h g = all-append IsByte xs ys h g
 
-bytes_1 : (n : ℕ) → AreBytes (little w8 n)
+pub bytes_1 : (n : ℕ) → AreBytes (little w8 n)
 unfolding little
 bytes_1 n = (omega arith, tt)
 
@@ -44,15 +44,15 @@ bytes_2 : (n : ℕ) → AreBytes (little w16 n)
 unfolding little
 bytes_2 n = (omega arith, (omega arith, tt))
 
-bytes_4 : (n : ℕ) → AreBytes (little w32 n)
+pub bytes_4 : (n : ℕ) → AreBytes (little w32 n)
 unfolding little
 bytes_4 n = (omega arith, (omega arith, (omega arith, (omega arith, tt))))
 
-bytes_8 : (n : ℕ) → AreBytes (little w64 n)
+pub bytes_8 : (n : ℕ) → AreBytes (little w64 n)
 unfolding little
 bytes_8 n = (omega arith, (omega arith, (omega arith, (omega arith, (omega arith, (omega arith, (omega arith, (omega arith, tt))))))))
 
-secret-bytes : (secret : List ℕ) → AreBytes secret → AreBytes (secret_form.text secret)
+pub secret-bytes : (secret : List ℕ) → AreBytes secret → AreBytes (secret_form.text secret)
 unfolding secret_form key_form
 secret-bytes secret h =
     both (little w16 1) (little w32 0 ++ (little w32 0 ++ (little w16 16 ++ secret))) (bytes_2 1)
@@ -65,7 +65,7 @@ name-bytes name h =
     both (little w32 (number_of name.kind)) (little w32 (length name.id) ++ name.id) (bytes_4 (number_of name.kind))
     (both (little w32 (length name.id)) name.id (bytes_4 (length name.id)) h)
 
-reading-bytes : (r : ℕ) → AreBytes (reading_form.text r)
+pub reading-bytes : (r : ℕ) → AreBytes (reading_form.text r)
 unfolding reading_form time_form
 reading-bytes r = both (little w32 (r / 1000000000)) (little w32 (r % 1000000000)) (bytes_4 (r / 1000000000)) (bytes_4 (r % 1000000000))
 

@@ -14,9 +14,9 @@ use Rattle.cx_journal.specs.GidOnce.{GivesGidOnce}
 use Rattle.cx_journal.specs.KeepsKeys.{KeepsKeys}
 use Rattle.cx_line_words.specs.Named.{is_name}
 use Rattle.cx_line_words.specs.Values.{is_life}
-use Rattle.cx_run.specs.Happenings.{Happening}
-use Rattle.cx_run.specs.Opening.{Declared, Leak, Setup}
-use Rattle.cx_run.specs.Visits.{AreUntold}
+use Rattle.cx_laws_authorize.specs.cx_run.specs.Happenings.{Happening}
+use Rattle.cx_laws_authorize.specs.cx_run.specs.Opening.{Declared, Leak, Setup}
+use Rattle.cx_laws_authorize.specs.cx_run.specs.Visits.{AreUntold}
 pub use Rattle.cx_laws_keys.specs.KeepsExpiry.{KeepsExpiry}
 pub use Rattle.cx_laws_keys.specs.LooksLast.{LooksLast}
 

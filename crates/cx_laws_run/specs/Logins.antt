@@ -8,16 +8,16 @@ use Rattle.cx_journal.specs.declared.entries.Entry.TheVariants as entry
 use Rattle.cx_journal.specs.declared.entries.Issued.{Issued}
 use Rattle.cx_journal.specs.declared.premises.KeyKind.TheVariants as kind
 use Rattle.cx_login.specs.Monitor.{Offer}
-use Rattle.cx_rules.specs.Acceptor.{AwaitsProof, Open}
-use Rattle.cx_rules.specs.Inputs.{Turn}
-use Rattle.cx_rules.specs.Judged.{LogsDraw}
-use Rattle.cx_rules.specs.Links.{Link, link_of}
-use Rattle.cx_rules.specs.Monitor.{MonitorStage, Offered}
-use Rattle.cx_rules.specs.Secured.{Secured}
-use Rattle.cx_rules.specs.declared.responses.Bearer.{Bearer}
-use Rattle.cx_run.specs.Happenings.{Happening}
-use Rattle.cx_run.specs.Opening.{Setup, leaked_of}
-use Rattle.cx_run.specs.Points.{EachPoint, Point, Since, entries_at, logged_until, nodes_past, points, seals_at}
+use Rattle.cx_laws_authorize.specs.cx_rules.specs.Acceptor.{AwaitsProof, Open}
+use Rattle.cx_laws_authorize.specs.cx_rules.specs.Inputs.{Turn}
+use Rattle.cx_laws_authorize.specs.cx_rules.specs.Judged.{LogsDraw}
+use Rattle.cx_laws_authorize.specs.cx_rules.specs.Links.{Link, link_of}
+use Rattle.cx_laws_authorize.specs.cx_rules.specs.Monitor.{MonitorStage, Offered}
+use Rattle.cx_laws_authorize.specs.cx_rules.specs.Secured.{Secured}
+use Rattle.cx_laws_authorize.specs.cx_rules.specs.declared.responses.Bearer.{Bearer}
+use Rattle.cx_laws_authorize.specs.cx_run.specs.Happenings.{Happening}
+use Rattle.cx_laws_authorize.specs.cx_run.specs.Opening.{Setup, leaked_of}
+use Rattle.cx_laws_authorize.specs.cx_run.specs.Points.{EachPoint, Point, Since, entries_at, logged_until, nodes_past, points, seals_at}
 use Rattle.cx_steps.specs.Onto.{SomeOf}
 use Rattle.cx_steps.specs.Premises.{Seals, Signs}
 use Rattle.cx_steps.specs.declared.seals.DrawMark.TheVariants as draw

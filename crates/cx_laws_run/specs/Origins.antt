@@ -9,10 +9,10 @@ use Rattle.cx_journal.specs.declared.entries.Admitted.{Admitted}
 use Rattle.cx_journal.specs.declared.entries.Entry.TheVariants as entry
 use Rattle.cx_journal.specs.declared.entries.Issued.{Issued}
 use Rattle.cx_journal.specs.declared.entries.Looked.{Looked}
-use Rattle.cx_rules.specs.Inputs.{Input, Opened, NoLink, Bytes, Turn, Gone, Look, Tick, Submit, Restart}
-use Rattle.cx_run.specs.Opening.{Setup, leaked_of}
-use Rattle.cx_run.specs.Points.{Before, EachPoint, Point, entries_at}
-use Rattle.cx_run.specs.Wires.{same_node}
+use Rattle.cx_laws_authorize.specs.cx_rules.specs.Inputs.{Input, Opened, NoLink, Bytes, Turn, Gone, Look, Tick, Submit, Restart}
+use Rattle.cx_laws_authorize.specs.cx_run.specs.Opening.{Setup, leaked_of}
+use Rattle.cx_laws_authorize.specs.cx_run.specs.Points.{Before, EachPoint, Point, entries_at}
+use Rattle.cx_laws_authorize.specs.cx_run.specs.Wires.{same_node}
 use Rattle.cx_laws_run.specs.Logins.{IsAskedFor, LogsIn, OwnFrame}
 
 -- ---- a guest's link

@@ -9,11 +9,12 @@ ghost use Rattle.cx_laws_run.specs.Laws.{KeepsLaws, KeepsTickets, MayHappen};
 ghost use Rattle.cx_laws_run.specs.Logins.{LogIn, Stands};
 ghost use Rattle.cx_laws_run.specs.Origins.{GoBack};
 ghost use Rattle.cx_lines.specs.declared.lines.Numbered.{Numbered};
-ghost use Rattle.cx_run.specs.Happenings.{Happening};
-ghost use Rattle.cx_run.specs.Opening.{Setup, leaked_of};
-ghost use Rattle.cx_run.specs.Points.{journal_since, log_since, points};
-ghost use Rattle.cx_run.specs.Visits.{AreUntold, AreUnvisited, has_session_line};
-ghost use Rattle.cx_run.specs.Runs.{IsFoundOf, run_journal, setup_of, trace};
+ghost use Rattle.cx_laws_authorize.specs.cx_run.specs.Happenings.{Happening};
+ghost use Rattle.cx_laws_authorize.specs.cx_run.specs.Opening.{Setup, leaked_of};
+ghost use Rattle.cx_laws_authorize.specs.cx_run.specs.Points.{journal_since, log_since, points};
+ghost use Rattle.cx_laws_authorize.specs.cx_run.specs.Visits.{AreUntold, AreUnvisited, has_session_line};
+ghost use Rattle.cx_laws_authorize.specs.cx_run.specs.Runs.{IsFoundOf, run_journal, setup_of, trace};
+ghost use Rattle.cx_laws_authorize.specs.cx_run.specs.Sending.{AreWritten};
 ghost use Rattle.cx_schedule.specs.Files.{Lines};
 ghost use Rattle.cx_steps.specs.Premises.{IsFresh, IsSound};
 
@@ -72,4 +73,10 @@ pub fn origin_laws()
     // So of the run of every schedule in which no breach of the two premises is found.
     ensures schedules { (handlers : Handlers) (bytes : List ℕ) (script : List Numbered) → Lines bytes script → IsFoundOf handlers script None
         → GoBack (setup_of handlers script) (points (setup_of handlers script) (trace handlers script)) }
+{}
+
+/// In the run of every schedule each operation that a client is told to send can be written: its pool, namespace and object are parts of an address, and its data
+/// at most 65,536 bytes.
+pub fn sending_laws()
+    ensures { (handlers : Handlers) (bytes : List ℕ) (script : List Numbered) → Lines bytes script → AreWritten (trace handlers script) }
 {}

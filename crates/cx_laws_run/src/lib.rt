@@ -3,4 +3,4 @@
 
 mod laws;
 
-pub use laws::{journal_laws, login_laws, origin_laws, standing_laws};
+pub use laws::{journal_laws, login_laws, origin_laws, sending_laws, standing_laws};

@@ -23,16 +23,16 @@ use Rattle.cx_laws_queues.specs.cx_laws_session.proofs.Runs.{behind-append, entr
 use Rattle.cx_laws_queues.specs.cx_laws_session.proofs.Standing.{LeavesOf}
 use Rattle.cx_line_words.specs.declared.choices.LeftState.{LeftState}
 use Rattle.cx_rotate.specs.declared.states.KeptState.{KeptState}
-use Rattle.cx_rules.specs.Monitor.{MonitorNode}
-use Rattle.cx_rules.specs.MonitorRule.{monitor_rule}
-use Rattle.cx_rules.specs.Rows.{Outcome}
-use Rattle.cx_rules_session.specs.ClientRule.{me, opening_whole_client}
-use Rattle.cx_rules_session.specs.DaemonRule.{daemon_step}
-use Rattle.cx_rules_session.specs.Guests.{Served}
-use Rattle.cx_run.proofs.DaemonNamed.{daemon-named}
-use Rattle.cx_run.specs.Happenings.{Entered, EntityNode, OfClient, OfDaemon, Happening, Nodes, Stepped, asker_in, entered_by, entity_of, entity_rule, entity_steps, is_of, journal_from, monitor_steps, steps, steps_of}
-use Rattle.cx_run.specs.Opening.{Declared, Leak, Setup, asker_of, daemon_opening, entity_in, leaks_entered, nodes_of}
-use Rattle.cx_run.specs.Points.{journal_since}
+use Rattle.cx_laws_queues.specs.cx_rules.specs.Monitor.{MonitorNode}
+use Rattle.cx_laws_queues.specs.cx_rules.specs.MonitorRule.{monitor_rule}
+use Rattle.cx_laws_queues.specs.cx_rules.specs.Rows.{Outcome}
+use Rattle.cx_laws_queues.specs.cx_rules_session.specs.ClientRule.{me, opening_whole_client}
+use Rattle.cx_laws_queues.specs.cx_rules_session.specs.DaemonRule.{daemon_step}
+use Rattle.cx_laws_queues.specs.cx_rules_session.specs.Guests.{Served}
+use Rattle.cx_laws_queues.specs.cx_run.proofs.DaemonNamed.{daemon-named}
+use Rattle.cx_laws_queues.specs.cx_run.specs.Happenings.{Entered, EntityNode, OfClient, OfDaemon, Happening, Nodes, Stepped, asker_in, entered_by, entity_of, entity_rule, entity_steps, is_of, journal_from, monitor_steps, steps, steps_of}
+use Rattle.cx_laws_queues.specs.cx_run.specs.Opening.{Declared, Leak, Setup, asker_of, daemon_opening, entity_in, leaks_entered, nodes_of}
+use Rattle.cx_laws_queues.specs.cx_run.specs.Points.{journal_since}
 
 -- ---- an entity
 

@@ -39,23 +39,23 @@ use Rattle.cx_journal.specs.declared.premises.KeyKind.TheVariants as kind
 use Rattle.cx_login.specs.Held.{Held, held_as}
 use Rattle.cx_login.specs.Unlocking.{Unlocked, ◌>>=◌, going_on, login_in, login_of_parts, made, told, told_each, unlocked, unlocked_as}
 use Rattle.cx_login.specs.declared.client.LoggedIn.{LoggedIn}
-use Rattle.cx_rules.specs.Connector.{AskerArrival, AskerRow, Login as Opening, Stage, AwaitsBanner, AwaitsHello, AwaitsChallenge, AwaitsDone, AwaitsSignature, AwaitsIdent, Open, client_ident, holding, identifies, on_bad_method, on_banner, on_challenge, on_done, on_hello, on_login_done, on_missing_features, on_opened, on_reply_more, on_signature, proves, signs, turned_at, while_challenged, while_identified, while_proved}
-use Rattle.cx_rules.specs.Fronts.{ahead_of, banner_next, banner_read, keys_behind, opened_parts, plain_next, plain_read, sealed_ahead, secure_next, secure_read, taking}
-use Rattle.cx_rules.specs.Holdings.{Asker, held_login}
-use Rattle.cx_rules.specs.Links.{Link}
-use Rattle.cx_rules.specs.Messages.{Message, body_as, message_in}
-use Rattle.cx_rules.specs.Payloads.{due, payload, whole}
-use Rattle.cx_rules.specs.Requests.{Requests, asks_rotating, behind_request, body_taken, message_taken, no_requests, on_open, on_reply, on_server_ident, reply_taken, rotating_taken, sealed_request, request_message, sends_request, takes, tickets_taken, unless_unsealed, waiting_taken}
-use Rattle.cx_rules.specs.Rows.{Arrival, Row, Turned, Waits, Refuses, Handles, at, goes_on, plain_sent, refuses, secure_sent, sends_secure, turned_by, with_opened}
-use Rattle.cx_rules.specs.Secured.{Keys, SealedFrame, Secured, connector_keys, is_signed, part_seals, sealed_under, secure_frame, signature_found, signed_frame, signing, under}
-use Rattle.cx_rules.specs.Upkeep.{on_keepalive, on_keepalive_ack}
-use Rattle.cx_rules.specs.declared.messages.Body.{Body}
-use Rattle.cx_rules.specs.declared.messages.Body.TheVariants as body
-use Rattle.cx_rules.specs.declared.requests.Taken.{Taken}
-use Rattle.cx_rules.specs.declared.requests.Taken.TheVariants as taken
-use Rattle.cx_rules.specs.declared.requests.Waiting.{Waiting}
-use Rattle.cx_rules.specs.declared.requests.Want.{Want}
-use Rattle.cx_rules.specs.declared.requests.Want.TheVariants as want
+use Rattle.cx_laws_queues.specs.cx_rules.specs.Connector.{AskerArrival, AskerRow, Login as Opening, Stage, AwaitsBanner, AwaitsHello, AwaitsChallenge, AwaitsDone, AwaitsSignature, AwaitsIdent, Open, client_ident, holding, identifies, on_bad_method, on_banner, on_challenge, on_done, on_hello, on_login_done, on_missing_features, on_opened, on_reply_more, on_signature, proves, signs, turned_at, while_challenged, while_identified, while_proved}
+use Rattle.cx_laws_queues.specs.cx_rules.specs.Fronts.{ahead_of, banner_next, banner_read, keys_behind, opened_parts, plain_next, plain_read, sealed_ahead, secure_next, secure_read, taking}
+use Rattle.cx_laws_queues.specs.cx_rules.specs.Holdings.{Asker, held_login}
+use Rattle.cx_laws_queues.specs.cx_rules.specs.Links.{Link}
+use Rattle.cx_laws_queues.specs.cx_rules.specs.Messages.{Message, body_as, message_in}
+use Rattle.cx_laws_queues.specs.cx_rules.specs.Payloads.{due, payload, whole}
+use Rattle.cx_laws_queues.specs.cx_rules.specs.Requests.{Requests, asks_rotating, behind_request, body_taken, message_taken, no_requests, on_open, on_reply, on_server_ident, reply_taken, rotating_taken, sealed_request, request_message, sends_request, takes, tickets_taken, unless_unsealed, waiting_taken}
+use Rattle.cx_laws_queues.specs.cx_rules.specs.Rows.{Arrival, Row, Turned, Waits, Refuses, Handles, at, goes_on, plain_sent, refuses, secure_sent, sends_secure, turned_by, with_opened}
+use Rattle.cx_laws_queues.specs.cx_rules.specs.Secured.{Keys, SealedFrame, Secured, connector_keys, is_signed, part_seals, sealed_under, secure_frame, signature_found, signed_frame, signing, under}
+use Rattle.cx_laws_queues.specs.cx_rules.specs.Upkeep.{on_keepalive, on_keepalive_ack}
+use Rattle.cx_laws_queues.specs.cx_rules.specs.declared.messages.Body.{Body}
+use Rattle.cx_laws_queues.specs.cx_rules.specs.declared.messages.Body.TheVariants as body
+use Rattle.cx_laws_queues.specs.cx_rules.specs.declared.requests.Taken.{Taken}
+use Rattle.cx_laws_queues.specs.cx_rules.specs.declared.requests.Taken.TheVariants as taken
+use Rattle.cx_laws_queues.specs.cx_rules.specs.declared.requests.Waiting.{Waiting}
+use Rattle.cx_laws_queues.specs.cx_rules.specs.declared.requests.Want.{Want}
+use Rattle.cx_laws_queues.specs.cx_rules.specs.declared.requests.Want.TheVariants as want
 use Rattle.cx_sealed.specs.Records.{connection_secret_layout, rotating_reply_layout, ticket_info_layout}
 use Rattle.cx_sealed.specs.Unsealing.{unsealed}
 use Rattle.cx_sealed.specs.declared.rotating_reply.RotatingReply.{RotatingReply}
@@ -78,13 +78,12 @@ use Rattle.cx_wire.specs.declared.logins.ServerChallenge.{ServerChallenge}
 use Rattle.cx_wire.specs.declared.tickets.TicketPart.{TicketPart}
 use Rattle.cx_laws_keys.proofs.Lists.{all-append}
 use Rattle.cx_laws_keys.proofs.Uses.{AtDaemon, AtMonitor, Connected, Means, Use, Uses}
-use Rattle.cx_laws_login.proofs.Facts.{AskerStageOk, HasMonitorKey}
-use Rattle.cx_laws_series.proofs.Contents.{content_where, contents_by}
-use Rattle.cx_laws_links.proofs.CallTells.{quiet-none}
-use Rattle.cx_laws_links.proofs.CallTurn.{quiet-opened}
-use Rattle.cx_laws_links.proofs.CallWords.{AreQuiet, quiet-append}
-use Rattle.cx_laws_links.proofs.Spoken.{is_connectors}
-use Rattle.cx_laws_links.proofs.Written.{IsLinkKey}
+use Rattle.cx_laws_run.specs.cx_laws_login.proofs.Facts.{AskerStageOk, HasMonitorKey}
+use Rattle.cx_laws_answers.specs.cx_laws_series.proofs.Contents.{content_where, contents_by}
+use Rattle.cx_laws_answers.specs.cx_laws_links.proofs.CallTells.{quiet-none}
+use Rattle.cx_laws_answers.specs.cx_laws_links.proofs.CallTurn.{quiet-opened}
+use Rattle.cx_laws_answers.specs.cx_laws_links.proofs.CallWords.{AreQuiet, quiet-append}
+use Rattle.cx_laws_answers.specs.cx_laws_links.proofs.Written.{IsLinkKey}
 
 -- ---- sealed under one key
 
@@ -462,18 +461,18 @@ module _ (vs : Uses) (n : NodeName) (one : (k : List ℕ) (u v : Use) → Means 
           (subst (λ (k : List ℕ). Means vs k (Connected node.Monitor h.login.number h.name (AtMonitor h.login.challenge))) same h.login.means) is.means
 
   -- what is sealed under another key is nothing there
-  under-none : (key : List ℕ) → bytes_eq key other ≡ false → (es : List SealEntry) → AreUnder key es → contents_by other is_connectors es ≡ []
-  under-none key apart [] h = refl
-  under-none key apart (entry.Sealed mark ∷ es) h =
+  under-none : (test : List ℕ → Bool) (key : List ℕ) → bytes_eq key other ≡ false → (es : List SealEntry) → AreUnder key es → contents_by other test es ≡ []
+  under-none test key apart [] h = refl
+  under-none test key apart (entry.Sealed mark ∷ es) h =
       let off : bytes_eq mark.key other ≡ false = ap (λ (k : List ℕ). bytes_eq k other) h.0 ∙ apart in
-      ap (λ (t : Bool). cons_option (content_where (t && is_connectors mark.content) mark.content) (contents_by other is_connectors es)) off ∙ under-none key apart es h.1
-  under-none key apart (entry.Signed mark ∷ es) h = under-none key apart es h.1
-  under-none key apart (entry.Opened mark ∷ es) h = under-none key apart es h.1
-  under-none key apart (entry.Checked mark ∷ es) h = under-none key apart es h.1
-  under-none key apart (entry.Drawn mark ∷ es) h = under-none key apart es h.1
+      ap (λ (t : Bool). cons_option (content_where (t && test mark.content) mark.content) (contents_by other test es)) off ∙ under-none test key apart es h.1
+  under-none test key apart (entry.Signed mark ∷ es) h = under-none test key apart es h.1
+  under-none test key apart (entry.Opened mark ∷ es) h = under-none test key apart es h.1
+  under-none test key apart (entry.Checked mark ∷ es) h = under-none test key apart es h.1
+  under-none test key apart (entry.Drawn mark ∷ es) h = under-none test key apart es h.1
 
   -- a row whose link goes on with a key that the monitor made
-  pub row-none : {Own S : Type 0} (kept : S → List ℕ → Type 0) (row : Row Own S) → SealsOwn kept row
-      → ((link : Link S) (key : List ℕ) → row.link ≡ Some link → kept link.stage key → HasMonitorKey vs n key) → contents_by other is_connectors row.seals ≡ []
-  row-none kept row (SealsNone quiet) known = quiet-none other is_connectors row.seals quiet
-  row-none kept row (SealsUnder key link goes keyed h) known = under-none key (monitor-apart key (known link key goes keyed)) row.seals h
+  pub row-none : (test : List ℕ → Bool) {Own S : Type 0} (kept : S → List ℕ → Type 0) (row : Row Own S) → SealsOwn kept row
+      → ((link : Link S) (key : List ℕ) → row.link ≡ Some link → kept link.stage key → HasMonitorKey vs n key) → contents_by other test row.seals ≡ []
+  row-none test kept row (SealsNone quiet) known = quiet-none other test row.seals quiet
+  row-none test kept row (SealsUnder key link goes keyed h) known = under-none test key (monitor-apart key (known link key goes keyed)) row.seals h

@@ -1,32 +1,30 @@
--- A turn of a link to the monitor, and a request that is sent on an open one, of a client or a daemon: nothing is sealed that the connector of a link to a
--- daemon could have said.
+-- A turn of a link to the monitor, and a request that is sent on an open one, of a client or a daemon: nothing is sealed that either end of a link to a daemon could have said.
 use Rattle.std.proofs.Common.{◌≡◌, ℕ, Bool, true, false, nat_lt, List, [], ◌∷◌, ◌++◌, Option, Some, None, refl, subst}
 use Rattle.std.specs.Option.{option_map}
 use Rattle.std.specs.Prelude.{filter, if◌then◌else◌}
 use Rattle.std.specs.List.{AllByRecursion}
 use Rattle.cx_base.specs.Names.{Name}
 use Rattle.cx_base.specs.declared.nodes.NodeName.{NodeName}
-use Rattle.cx_rules.specs.Connector.{AskerArrival, Stage, Open, turned_at}
-use Rattle.cx_rules.specs.Holdings.{Asker}
-use Rattle.cx_rules.specs.Links.{Link, put_link}
-use Rattle.cx_rules.specs.Requests.{Requests, first_open, is_outdated}
-use Rattle.cx_rules.specs.Rows.{Arrival, Node, Row, Turned, Waits, Refuses, Handles, arrival, carried_out, idles, lifted, links_behind, turns}
-use Rattle.cx_rules.specs.Secured.{Secured}
-use Rattle.cx_rules.specs.declared.requests.Want.TheVariants as want
-use Rattle.cx_rules_session.specs.ClientRule as client
-use Rattle.cx_rules_session.specs.ClientRule.{ClientStage, ToMonitor, WholeClientNode}
-use Rattle.cx_rules_session.specs.DaemonRule as daemon
-use Rattle.cx_rules_session.specs.DaemonRule.{AsAcceptor, AsConnector, DaemonNode, Daemon, DaemonStage, asking_open, fetches, fetches_on, is_fetching, ticks}
-use Rattle.cx_rules_session.specs.Kinds.{arrival_in, of_kind, turn_of_kind}
-use Rattle.cx_run.proofs.Outcomes.{asker_turn, renewed}
+use Rattle.cx_laws_queues.specs.cx_rules.specs.Connector.{AskerArrival, Stage, Open, turned_at}
+use Rattle.cx_laws_queues.specs.cx_rules.specs.Holdings.{Asker}
+use Rattle.cx_laws_queues.specs.cx_rules.specs.Links.{Link, put_link}
+use Rattle.cx_laws_queues.specs.cx_rules.specs.Requests.{Requests, first_open, is_outdated}
+use Rattle.cx_laws_queues.specs.cx_rules.specs.Rows.{Arrival, Node, Row, Turned, Waits, Refuses, Handles, arrival, carried_out, idles, lifted, links_behind, turns}
+use Rattle.cx_laws_queues.specs.cx_rules.specs.Secured.{Secured}
+use Rattle.cx_laws_queues.specs.cx_rules.specs.declared.requests.Want.TheVariants as want
+use Rattle.cx_laws_queues.specs.cx_rules_session.specs.ClientRule as client
+use Rattle.cx_laws_queues.specs.cx_rules_session.specs.ClientRule.{ClientStage, ToMonitor, WholeClientNode}
+use Rattle.cx_laws_queues.specs.cx_rules_session.specs.DaemonRule as daemon
+use Rattle.cx_laws_queues.specs.cx_rules_session.specs.DaemonRule.{AsAcceptor, AsConnector, DaemonNode, Daemon, DaemonStage, asking_open, fetches, fetches_on, is_fetching, ticks}
+use Rattle.cx_laws_queues.specs.cx_rules_session.specs.Kinds.{arrival_in, of_kind, turn_of_kind}
+use Rattle.cx_laws_queues.specs.cx_run.proofs.Outcomes.{asker_turn, renewed}
 use Rattle.cx_wire.specs.declared.bodies.Request.TheVariants as asked
 use Rattle.cx_laws_run.specs.cx_laws_chain.specs.cx_laws_calling.proofs.Sessions.{ClientStageOk}
 use Rattle.cx_laws_keys.proofs.Uses.{Means, Use, Uses, WholeRun}
-use Rattle.cx_laws_login.proofs.Facts.{AskerStageOk, HasMonitorKey}
-use Rattle.cx_laws_series.proofs.Contents.{contents_by}
-use Rattle.cx_laws_links.proofs.CallTells.{quiet-none}
-use Rattle.cx_laws_links.proofs.Spoken.{is_connectors}
-use Rattle.cx_laws_links.proofs.Written.{IsLinkKey}
+use Rattle.cx_laws_run.specs.cx_laws_login.proofs.Facts.{AskerStageOk, HasMonitorKey}
+use Rattle.cx_laws_answers.specs.cx_laws_series.proofs.Contents.{contents_by}
+use Rattle.cx_laws_answers.specs.cx_laws_links.proofs.CallTells.{quiet-none}
+use Rattle.cx_laws_answers.specs.cx_laws_links.proofs.Written.{IsLinkKey}
 use Rattle.cx_laws_sent.proofs.AskerSeals.{AskerSeals, HasKey, SealsOwn, TurnSeals, asker-seals, monitor_key-of, request-seals, row-none}
 
 -- what holds of all links holds of the one that was put among them
@@ -42,14 +40,15 @@ abbrev pub OwnStands : Uses → NodeName → DaemonStage → Type 0
 OwnStands vs n (AsConnector stage) = AskerStageOk vs n stage
 OwnStands vs n (AsAcceptor stage) = Unit {0}
 
-module _ (vs : Uses) (n : NodeName) (one : (k : List ℕ) (u v : Use) → Means vs k u → Means vs k v → u ≡ v) (other : List ℕ) (whose : Name) (tie : ℕ) (is : IsLinkKey vs other whose tie) where
+module _ (vs : Uses) (n : NodeName) (one : (k : List ℕ) (u v : Use) → Means vs k u → Means vs k v → u ≡ v) (other : List ℕ) (whose : Name) (tie : ℕ) (is : IsLinkKey vs other whose tie)
+    (test : List ℕ → Bool) where
   -- at a node whose links are known, those to the monitor as one that logs in knows them
   module _ {Own S : Type 0} (part : Asker → Own) (kind : Stage → S) (node : Node Own S) (Stands : S → Type 0) (known : (stage : Stage) → Stands (kind stage) → AskerStageOk vs n stage) where
     abbrev AllStand : List (Link S) → Type 0
     AllStand links = AllByRecursion (λ (l : Link S). Stands l.stage) links
 
     pub turn-none : (b : Arrival Own S) (a : AskerArrival) (stage : Stage) → AllStand (turns node b (turn_of_kind part kind (turned_at a stage))).state.links
-        → contents_by other is_connectors (turns node b (turn_of_kind part kind (turned_at a stage))).out.seals ≡ []
+        → contents_by other test (turns node b (turn_of_kind part kind (turned_at a stage))).out.seals ≡ []
     turn-none b a stage links = by_turned (turned_at a stage) (asker-seals a stage) links
       where
         stands : (l : Option (Link Stage)) (bytes : List ℕ) (link : Link Stage) → l ≡ Some link → AllStand (links_behind node.links b.link.number bytes (option_map (of_kind kind) l))
@@ -60,11 +59,11 @@ module _ (vs : Uses) (n : NodeName) (one : (k : List ℕ) (u v : Use) → Means 
             (subst (λ (o : Option (Link Stage)). AllStand (links_behind node.links b.link.number bytes (option_map (of_kind kind) o))) goes all)
 
         by_turned : (t : Turned Asker Stage) → TurnSeals AskerSeals t → AllStand (turns node b (turn_of_kind part kind t)).state.links
-            → contents_by other is_connectors (turns node b (turn_of_kind part kind t)).out.seals ≡ []
+            → contents_by other test (turns node b (turn_of_kind part kind t)).out.seals ≡ []
         by_turned Waits h all = refl
-        by_turned (Refuses why opened) h all = quiet-none other is_connectors opened h
+        by_turned (Refuses why opened) h all = quiet-none other test opened h
         by_turned (Handles row) h all =
-            row-none vs n one other whose tie is HasKey row h
+            row-none vs n one other whose tie is test HasKey row h
             (λ link key goes keyed. monitor_key-of vs n link.stage key (known link.stage (stands row.link row.sends link goes all)) keyed)
 
     -- the key of an open link to the monitor
@@ -72,8 +71,8 @@ module _ (vs : Uses) (n : NodeName) (one : (k : List ℕ) (u v : Use) → Means 
     HasOpenKey stage key = (s : Secured) × (requests : Requests) × (stage ≡ kind (Open s requests)) × (s.keys.key ≡ key)
 
     pub request-none : (number : ℕ) (turned : Bool) (row : Row Asker S) → SealsOwn HasOpenKey row → AllStand (carried_out node number turned (lifted part row)).state.links
-        → contents_by other is_connectors row.seals ≡ []
-    request-none number turned row h all = row-none vs n one other whose tie is HasOpenKey row h (λ link key goes keyed. by_stage link key goes keyed)
+        → contents_by other test row.seals ≡ []
+    request-none number turned row h all = row-none vs n one other whose tie is test HasOpenKey row h (λ link key goes keyed. by_stage link key goes keyed)
       where
         by_stage : (link : Link S) (key : List ℕ) → row.link ≡ Some link → HasOpenKey link.stage key → HasMonitorKey vs n key
         by_stage link key goes (s, requests, stage, same) =
@@ -89,13 +88,13 @@ module _ (vs : Uses) (n : NodeName) (one : (k : List ℕ) (u v : Use) → Means 
     ClientStands links = AllByRecursion (λ (l : Link ClientStage). ClientStageOk run vs n l.stage) links
 
     pub asks-none : (link : Link ClientStage) (stage : Stage) → ClientStands (asker_turn c reading draw link stage).state.links
-        → contents_by other is_connectors (asker_turn c reading draw link stage).out.seals ≡ []
+        → contents_by other test (asker_turn c reading draw link stage).out.seals ≡ []
     asks-none link stage all =
         let b = arrival (client.me c.own) c.own link reading draw in
         turn-none (client.with_asker c.own) ToMonitor c (ClientStageOk run vs n) (λ stage h. h.0) b (arrival_in b c.own.asker stage) stage all
 
     pub renewed-none : (services : ℕ) (link : Link ClientStage) (s : Secured) (requests : Requests) → ClientStands (renewed c reading draw services link s requests).state.links
-        → contents_by other is_connectors (renewed c reading draw services link s requests).out.seals ≡ []
+        → contents_by other test (renewed c reading draw services link s requests).out.seals ≡ []
     renewed-none services link s requests all =
         let a : Arrival Asker ClientStage = arrival (client.me c.own) c.own.asker link reading draw in
         request-none (client.with_asker c.own) ToMonitor c (ClientStageOk run vs n) (λ stage h. h.0) link.number false _
@@ -109,30 +108,30 @@ module _ (vs : Uses) (n : NodeName) (one : (k : List ℕ) (u v : Use) → Means 
 
     -- its own link to the monitor
     pub own_turn-none : (b : Arrival Daemon DaemonStage) (a : AskerArrival) (stage : Stage) → DaemonStands (turns d b (turn_of_kind (daemon.with_asker d.own) AsConnector (turned_at a stage))).state.links
-        → contents_by other is_connectors (turns d b (turn_of_kind (daemon.with_asker d.own) AsConnector (turned_at a stage))).out.seals ≡ []
+        → contents_by other test (turns d b (turn_of_kind (daemon.with_asker d.own) AsConnector (turned_at a stage))).out.seals ≡ []
     own_turn-none b a stage all = turn-none (daemon.with_asker d.own) AsConnector d (OwnStands vs n) (λ stage h. h) b a stage all
 
     -- generations are asked for
     pub fetches_on-none : (found : Option (Link DaemonStage × (Secured × Requests))) → DaemonStands (fetches_on d reading draw found).state.links
-        → contents_by other is_connectors (fetches_on d reading draw found).out.seals ≡ []
+        → contents_by other test (fetches_on d reading draw found).out.seals ≡ []
     fetches_on-none None all = refl
     fetches_on-none (Some (link, (s, requests))) all =
         let a : Arrival Asker DaemonStage = arrival (daemon.me d.own) d.own.asker link reading draw in
         request-none (daemon.with_asker d.own) AsConnector d (OwnStands vs n) (λ stage h. h) link.number false _
         (request-seals (HasOpenKey (daemon.with_asker d.own) AsConnector d (OwnStands vs n) (λ stage h. h)) daemon.open_to_ask (λ t r. (t, r, refl, refl)) a s requests (want.Rotating reading) asked.Rotating) all
 
-    pub fetches-none : DaemonStands (fetches d reading draw).state.links → contents_by other is_connectors (fetches d reading draw).out.seals ≡ []
+    pub fetches-none : DaemonStands (fetches d reading draw).state.links → contents_by other test (fetches d reading draw).out.seals ≡ []
     fetches-none all = by_test (is_fetching d) all
       where
         by_test : (under_way : Bool) → DaemonStands (if under_way then idles d else fetches_on d reading draw (first_open asking_open d.links)).state.links
-            → contents_by other is_connectors (if under_way then idles d else fetches_on d reading draw (first_open asking_open d.links)).out.seals ≡ []
+            → contents_by other test (if under_way then idles d else fetches_on d reading draw (first_open asking_open d.links)).out.seals ≡ []
         by_test true all = refl
         by_test false all = fetches_on-none (first_open asking_open d.links) all
 
-    pub ticks-none : DaemonStands (ticks d reading draw).state.links → contents_by other is_connectors (ticks d reading draw).out.seals ≡ []
+    pub ticks-none : DaemonStands (ticks d reading draw).state.links → contents_by other test (ticks d reading draw).out.seals ≡ []
     ticks-none all = by_test (is_outdated reading d.own.asker.view) all
       where
         by_test : (outdated : Bool) → DaemonStands (if outdated then fetches d reading draw else idles d).state.links
-            → contents_by other is_connectors (if outdated then fetches d reading draw else idles d).out.seals ≡ []
+            → contents_by other test (if outdated then fetches d reading draw else idles d).out.seals ≡ []
         by_test true all = fetches-none all
         by_test false all = refl

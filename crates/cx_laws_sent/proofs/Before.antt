@@ -8,10 +8,10 @@ use Rattle.cx_laws_keys.proofs.Known.{Inv}
 use Rattle.cx_laws_keys.proofs.Uses.{Grows, Means, Use, Uses, WholeRun}
 use Rattle.cx_laws_run.specs.cx_laws_chain.specs.cx_laws_calling.proofs.Between.{ClientOk}
 use Rattle.cx_laws_queues.proofs.Clients.{ClientQueues}
-use Rattle.cx_rules_session.specs.ClientRule.{WholeClientNode}
+use Rattle.cx_laws_queues.specs.cx_rules_session.specs.ClientRule.{WholeClientNode}
 use Rattle.cx_steps.specs.declared.seals.Logged.{Logged}
-use Rattle.cx_laws_links.proofs.GuestWords.{AreSpelled}
-use Rattle.cx_laws_links.proofs.Known.{AreTold, Told}
+use Rattle.cx_laws_answers.specs.cx_laws_links.proofs.GuestWords.{AreSpelled}
+use Rattle.cx_laws_answers.specs.cx_laws_links.proofs.Known.{AreTold, Told}
 use Rattle.cx_laws_sent.proofs.State.{ClientKnown}
 
 -- of a client of this name, with this draw: keys have one use, behind the step too

@@ -11,20 +11,20 @@ use Rattle.cx_journal.specs.declared.entries.Entry.TheVariants as journal
 use Rattle.cx_laws_keys.proofs.Journal.{entered}
 use Rattle.cx_laws_keys.proofs.Lists.{map-append}
 use Rattle.cx_laws_keys.proofs.Uses.{Uses, WholeRun}
-use Rattle.cx_laws_links.proofs.Known.{AreTold, Told, Unshown}
-use Rattle.cx_laws_links.proofs.Speaking.{cons-cases}
-use Rattle.cx_laws_links.proofs.Spoken.{Idents, is_connectors}
+use Rattle.cx_laws_answers.specs.cx_laws_links.proofs.Known.{AreTold, Told, Unshown}
+use Rattle.cx_laws_answers.specs.cx_laws_links.proofs.Speaking.{cons-cases}
+use Rattle.cx_laws_answers.specs.cx_laws_links.proofs.Spoken.{Idents, is_connectors}
 use Rattle.cx_laws_queues.proofs.Entries.{IsPlain}
 use Rattle.cx_laws_queues.proofs.Runs.{first-queues, leaks-plain}
 use Rattle.cx_laws_run.proofs.Events.{AllOccur, entered-append}
 use Rattle.cx_laws_run.proofs.Journals.{behind-append}
 use Rattle.cx_laws_run.proofs.Opening.{Begins, begins}
 use Rattle.cx_laws_run.specs.Laws.{AreBytes}
-use Rattle.cx_laws_series.proofs.Contents.{contents_in}
-use Rattle.cx_rules_session.specs.ClientRule.{opening_whole_client}
-use Rattle.cx_run.specs.Happenings.{Entered, Happening, OfClient, OfDaemon, journal_from}
-use Rattle.cx_run.specs.Opening.{Declared, Leak, Setup, asker_of, daemon_opening, entity_in, leaked_of, leaks_entered, nodes_of, secret_drawn, secrets_drawn}
-use Rattle.cx_run.specs.Points.{journal_since, log_since, onto}
+use Rattle.cx_laws_answers.specs.cx_laws_series.proofs.Contents.{contents_in}
+use Rattle.cx_laws_queues.specs.cx_rules_session.specs.ClientRule.{opening_whole_client}
+use Rattle.cx_laws_queues.specs.cx_run.specs.Happenings.{Entered, Happening, OfClient, OfDaemon, journal_from}
+use Rattle.cx_laws_queues.specs.cx_run.specs.Opening.{Declared, Leak, Setup, asker_of, daemon_opening, entity_in, leaked_of, leaks_entered, nodes_of, secret_drawn, secrets_drawn}
+use Rattle.cx_laws_queues.specs.cx_run.specs.Points.{journal_since, log_since, onto}
 use Rattle.cx_steps.specs.Premises.{IsFresh, IsSound}
 use Rattle.cx_steps.specs.declared.seals.Logged.{Logged}
 use Rattle.cx_laws_sent.proofs.Events.{RunKnown, events-heard}
@@ -33,16 +33,16 @@ use Rattle.cx_laws_sent.proofs.Steps.{ClientStep, DaemonStep}
 use Rattle.cx_laws_sent.specs.Fitting.{AreFit}
 
 -- nothing was said, shown or joined
-abbrev first_told : Told
+abbrev pub first_told : Told
 first_told = record { said = []; nonces = λ nonce. Unshown; joins = [] }
 
 nothing-in : {X : Type 0} (x : X) → Contains [] x → ⊥
 nothing-in x has = omega (arith, has.1)
 
 -- the secrets of entities are drawn, and seal nothing
-secrets-silent : (key : List ℕ) (es : List Declared) (log : List Logged) → contents_in key is_connectors (onto (map secret_drawn es) log) ≡ contents_in key is_connectors log
-secrets-silent key [] log = refl
-secrets-silent key (e ∷ es) log = secrets-silent key es (secret_drawn e ∷ log) ∙ append-nil (contents_in key is_connectors log)
+pub secrets-silent : (test : List ℕ → Bool) (key : List ℕ) (es : List Declared) (log : List Logged) → contents_in key test (onto (map secret_drawn es) log) ≡ contents_in key test log
+secrets-silent test key [] log = refl
+secrets-silent test key (e ∷ es) log = secrets-silent test key es (secret_drawn e ∷ log) ∙ append-nil (contents_in key test log)
 
 -- leaked clients are no sessions
 plain-admits : (es : List Entry) → AllByRecursion IsPlain es → (a : Admitted) → Contains es (journal.Admitted a) → ⊥
@@ -102,12 +102,12 @@ module _ (run : WholeRun) (setup : Setup) (hs : List Happening) (same : run.leak
   plain : AllByRecursion IsPlain (map (λ (x : Entered). x.entry) (leaks_entered setup))
   plain = leaks-plain setup.leaks
 
-  first-known : (us : Uses) → RunKnown run us first_told log J (map entity_in setup.entities)
+  pub first-known : (us : Uses) → RunKnown run us first_told log J (map entity_in setup.entities)
   first-known us =
       let none : (a : Admitted) → Contains J (journal.Admitted a) → ⊥ =
       λ a has. plain-admits leaks plain a (subst (λ (l : List Entry). Contains l (journal.Admitted a)) (entered-append [] leaks) has) in
       record {
-        known_of = first-told-of run us log J (λ key. secrets-silent key setup.entities []) none;
+        known_of = first-told-of run us log J (λ key. secrets-silent is_connectors key setup.entities []) none;
         spelled = λ key x has. absurd (nothing-in (key, x) has);
         all = first-entities run us log J setup.entities;
       }

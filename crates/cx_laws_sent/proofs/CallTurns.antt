@@ -1,5 +1,5 @@
 -- A turn of a client's link to a daemon, in any stage: what its row comes to, and that only what opened is told where it refuses.
-use Rattle.std.proofs.Common.{◌≡◌, ℕ, ◌<◌, ◌^◌, List, Option, Some, None, Result, Ok, Err, inl, inr, ◌⊎◌, refl, sym, subst}
+use Rattle.std.proofs.Common.{◌≡◌, ℕ, ◌<◌, ◌^◌, List, [], Option, Some, None, Result, Ok, Err, inl, inr, ◌⊎◌, refl, sym, ◌∙◌, subst}
 use Rattle.std.specs.Prelude.{Contains}
 use Rattle.cx_authorize.specs.Client.{Answered, Presented, reply_in}
 use Rattle.cx_base.specs.Names.{Name}
@@ -15,30 +15,32 @@ use Rattle.cx_laws_keys.proofs.Known.{HasReply, Inv, Within}
 use Rattle.cx_laws_keys.proofs.Premises.{AreGranted}
 use Rattle.cx_laws_keys.proofs.Uses.{Grows, Login, Means, Ticketed, Use, Uses, WholeRun}
 use Rattle.cx_login.specs.Held.{Held}
-use Rattle.cx_rules.specs.Fronts.{opened_parts, sealed_ahead, secure_next, secure_read, taking}
-use Rattle.cx_rules.specs.Links.{Link}
-use Rattle.cx_rules.specs.Holdings.{Asker}
-use Rattle.cx_rules.specs.Payloads.{due}
-use Rattle.cx_rules.specs.Rows.{Turned, Waits, Refuses, Handles, at, turned_by}
-use Rattle.cx_rules.specs.Secured.{Keys, Secured}
-use Rattle.cx_rules_session.specs.Presenter.{Caller, CallArrival, CallRow, CallStage, AwaitsBanner, AwaitsHello, AwaitsChallenge, AwaitsDone, AwaitsSignature, AwaitsIdent, AwaitsReconnect, Open, on_banner, on_hello, presented, presented_by, turned_at, while_answered, while_challenged}
-use Rattle.cx_rules_session.specs.Sessions.{Called, Callee, ticket_for}
-use Rattle.cx_run.proofs.Taking.{EachRow}
+use Rattle.cx_laws_queues.specs.cx_rules.specs.Fronts.{opened_parts, sealed_ahead, secure_next, secure_read, taking}
+use Rattle.cx_laws_queues.specs.cx_rules.specs.Links.{Link}
+use Rattle.cx_laws_queues.specs.cx_rules.specs.Holdings.{Asker}
+use Rattle.cx_laws_queues.specs.cx_rules.specs.Payloads.{due}
+use Rattle.cx_laws_queues.specs.cx_rules.specs.Rows.{Turned, Waits, Refuses, Handles, at, turned_by}
+use Rattle.cx_laws_queues.specs.cx_rules.specs.Secured.{Keys, Secured}
+use Rattle.cx_laws_queues.specs.cx_rules_session.specs.Presenter.{Caller, CallArrival, CallRow, CallStage, AwaitsBanner, AwaitsHello, AwaitsChallenge, AwaitsDone, AwaitsSignature, AwaitsIdent, AwaitsReconnect, Open, on_banner, on_hello, presented, presented_by, turned_at, while_answered, while_challenged}
+use Rattle.cx_laws_queues.specs.cx_rules_session.specs.Sessions.{Called, Callee, ticket_for}
+use Rattle.cx_laws_queues.specs.cx_run.proofs.Taking.{EachRow}
 use Rattle.cx_sealed.specs.declared.authorize_reply.AuthorizeReply.{AuthorizeReply}
 use Rattle.cx_secure.specs.declared.refusals.SecureRefusal.{SecureRefusal}
 use Rattle.cx_steps.specs.declared.seals.Logged.{Logged}
 use Rattle.cx_steps.specs.declared.seals.SealEntry.{SealEntry}
 use Rattle.cx_stream.specs.SecureStreams.{secure_frame_at}
 use Rattle.cx_laws_queues.proofs.Sessions.{HeldIs}
-use Rattle.cx_laws_links.proofs.Authorizing.{ShowsAgain, ShowsFirst, ShutsQuietly, SpeaksFirst, answered-row_at, banner-row, challenged-row, hello-row}
-use Rattle.cx_laws_links.proofs.CallTurn.{IsHeldOn, TurnSays, keyed-turn, quiet-opened}
-use Rattle.cx_laws_links.proofs.CallTurned.{TurnIs, banner-turned, plain-turned}
-use Rattle.cx_laws_links.proofs.CallWords.{Identified, Opened, Reconnecting, SignedOn}
-use Rattle.cx_laws_links.proofs.GuestWords.{AreSpelled}
-use Rattle.cx_laws_links.proofs.Known.{AreTold, CallTold, IsKeyed, IsShown, Told}
-use Rattle.cx_laws_sent.proofs.CallBehind.{RowBehind, again-behind, first-behind, nothing-behind, shuts-behind, speaks-behind, turn-behind}
+use Rattle.cx_laws_answers.specs.cx_laws_links.proofs.Authorizing.{ShowsAgain, ShowsFirst, ShutsQuietly, SpeaksFirst, answered-row_at, banner-row, challenged-row, hello-row}
+use Rattle.cx_laws_answers.specs.cx_laws_links.proofs.CallTurn.{IsHeldOn, quiet-opened}
+use Rattle.cx_laws_answers.specs.cx_laws_links.proofs.CallTurned.{TurnIs, banner-turned, plain-turned}
+use Rattle.cx_laws_answers.specs.cx_laws_links.proofs.CallWords.{Identified, KeyedStage, Opened, Reconnecting, SignedOn}
+use Rattle.cx_laws_answers.specs.cx_laws_links.proofs.GuestWords.{AreSpelled}
+use Rattle.cx_laws_answers.specs.cx_laws_links.proofs.Known.{AreTold, CallTold, IsKeyed, IsShown, Told}
+use Rattle.cx_laws_answers.proofs.CallSilent.{NoEnds, answered-silent, banner-silent, challenged-silent, hello-silent}
+use Rattle.cx_laws_answers.proofs.CallTurns.{TurnHears, keyed-hears}
+use Rattle.cx_laws_sent.proofs.CallBehind.{RowBehind, RowKnown, again-behind, first-behind, nothing-behind, shuts-behind, speaks-behind, turn-behind}
 use Rattle.cx_laws_sent.proofs.CallFits.{CookieFits, RowFits, answered-fits, keyed-fits}
-use Rattle.cx_laws_sent.proofs.CallWords.{SentFits}
+use Rattle.cx_laws_sent.proofs.Shown.{IsUnkeyed, SentFits, Unkeyed}
 use Rattle.cx_laws_sent.proofs.State.{CallFits}
 
 -- a turn of a link that has a key: its row, or what opened where there is none
@@ -73,74 +75,99 @@ module _ (run : WholeRun) (whole : List Logged) (us vs : Uses) (told : Told) (lo
   StageKnown (AwaitsReconnect s callee cookie) = IsHeldOn (SentFits K name) (AwaitsReconnect s callee cookie) (Some cookie) a
   StageKnown (Open s callee cookie) = IsHeldOn (SentFits K name) (Open s callee cookie) (Some cookie) a
 
-  abbrev pub RowIs : CallRow → Type 0
-  RowIs row = AreGranted run.leaked whole n line log row.seals → RowBehind run us vs told log K n line name a.link.number row
+  abbrev pub RowIs : CallStage → CallRow → Type 0
+  RowIs stage row = AreGranted run.leaked whole n line log row.seals → RowKnown run us vs told log K n line name a.link.number a stage row
 
-  shuts-is : (row : CallRow) → ShutsQuietly row → RowIs row
-  shuts-is row h = λ g. shuts-behind run whole us vs told log J K n line one_before one f w i none t spelled name a.link.number row h
+  abbrev Silent : CallRow → Type 0
+  Silent row = RowBehind run us vs told log K n line name a.link.number [] row
+
+  -- a link that has no key behind its row
+  unkeyed-is : (stage : CallStage) (row : CallRow) → ((link : Link CallStage) → row.link ≡ Some link → IsUnkeyed link.stage) → NoEnds row.entries → Silent row
+      → RowKnown run us vs told log K n line name a.link.number a stage row
+  unkeyed-is stage row keyless ends b = record { shown = Unkeyed keyless ends; behind = b }
+
+  shut-unkeyed : (row : CallRow) → ShutsQuietly row → (link : Link CallStage) → row.link ≡ Some link → IsUnkeyed link.stage
+  shut-unkeyed row h link is = none-left link (sym h.link ∙ is)
+    where
+      none-left : (l : Link CallStage) → (let o : Option (Link CallStage) = None in o ≡ Some l) → IsUnkeyed l.stage
+      none-left l e = absurd cc
+
+  shuts-is : (stage : CallStage) (row : CallRow) → NoEnds row.entries → ShutsQuietly row → RowIs stage row
+  shuts-is stage row ends h = λ g.
+      unkeyed-is stage row (shut-unkeyed row h) ends (shuts-behind run whole us vs told log J K n line one_before one f w i none t spelled name a.link.number [] row h)
 
   -- a turn behind authentication
-  keyed-is : (s : Secured) (callee : Callee) (before : Option ℕ) (turned : Turned Caller CallStage) → IsKeyed us told log name a.link.number s before
-      → EachRow (TurnSays (SentFits K name) a.link.number s callee before) turned → EachRow RowFits turned → EachRow RowIs turned
-  keyed-is s callee before Waits k h fits = tt
-  keyed-is s callee before (Refuses why opened) k h fits = tt
-  keyed-is s callee before (Handles row) k h fits =
-      λ g. turn-behind run whole us vs told log J K n line one_before one f w i none t spelled name a.link.number callee s before k row h fits g
+  keyed-is : (stage : CallStage) (s : Secured) (before : Option ℕ) → KeyedStage stage s before → (turned : Turned Caller CallStage) → IsKeyed us told log name a.link.number s before
+      → EachRow (TurnHears (SentFits K name) a stage s before) turned → EachRow RowFits turned → EachRow (RowIs stage) turned
+  keyed-is stage s before keyed Waits k h fits = tt
+  keyed-is stage s before keyed (Refuses why opened) k h fits = tt
+  keyed-is stage s before keyed (Handles row) k h fits =
+      λ g. turn-behind run whole us vs told log J K n line one_before one f w i none t spelled name a.link.number a stage s before refl keyed k row h fits g
 
   presented-nonce : (called : Called) (asker : Asker) (nonce : ℕ) (found : Option Held) → (presented_by called asker found nonce).nonce ≡ nonce
   presented-nonce called asker nonce None = refl
   presented-nonce called asker nonce (Some found) = refl
 
-  hello-is : (called : Called) → IsOwnSession (presented called a.own.asker (challenge_of a.draw)).held.session → (m : ℕ) (row : CallRow)
-      → ShutsQuietly row ⊎ ShowsFirst (at a (taking a.link m)) called.callee (presented called a.own.asker (challenge_of a.draw)) row → RowIs row
-  hello-is called known m row (inl shuts) = shuts-is row shuts
-  hello-is called known m row (inr shows) = λ g.
+  hello-is : (called : Called) → IsOwnSession (presented called a.own.asker (challenge_of a.draw)).held.session → (m : ℕ) (row : CallRow) → NoEnds row.entries
+      → ShutsQuietly row ⊎ ShowsFirst (at a (taking a.link m)) called.callee (presented called a.own.asker (challenge_of a.draw)) row → RowIs (AwaitsHello called) row
+  hello-is called known m row ends (inl shuts) = shuts-is (AwaitsHello called) row ends shuts
+  hello-is called known m row ends (inr shows) = λ g.
       let nonce = presented-nonce called a.own.asker (challenge_of a.draw) (ticket_for called.callee.daemon.kind a.own.asker.holdings) in
-      first-behind run whole us vs told log J K n line one_before one f w i none t spelled name a.link.number (at a (taking a.link m)) called.callee
-      (presented called a.own.asker (challenge_of a.draw)) row refl (subst (λ (k : ℕ). k < 2 ^ 64) (sym nonce) low) known shows g
+      unkeyed-is (AwaitsHello called) row (λ link is. subst IsUnkeyed (sym (shows.link link is).0) tt) ends
+      (first-behind run whole us vs told log J K n line one_before one f w i none t spelled name a.link.number (at a (taking a.link m)) called.callee
+      (presented called a.own.asker (challenge_of a.draw)) row refl (subst (λ (k : ℕ). k < 2 ^ 64) (sym nonce) low) known shows g)
 
   challenged-is : (callee : Callee) (p : Presented) → IsShown told name a.link.number p.nonce → IsOwnSession p.held.session → (m : ℕ) (row : CallRow)
-      → ShutsQuietly row ⊎ ShowsAgain (at a (taking a.link m)) callee p row → RowIs row
-  challenged-is callee p shown known m row (inl shuts) = shuts-is row shuts
-  challenged-is callee p shown known m row (inr shows) = λ g.
-      again-behind run whole us vs told log J K n line one_before one f w i none t spelled name a.link.number (at a (taking a.link m)) callee p row refl shown known shows
+      → NoEnds row.entries → ShutsQuietly row ⊎ ShowsAgain (at a (taking a.link m)) callee p row → RowIs (AwaitsChallenge callee p) row
+  challenged-is callee p shown known m row ends (inl shuts) = shuts-is (AwaitsChallenge callee p) row ends shuts
+  challenged-is callee p shown known m row ends (inr shows) = λ g.
+      unkeyed-is (AwaitsChallenge callee p) row (λ link is. subst IsUnkeyed (sym (shows.link link is).0) tt) ends
+      (again-behind run whole us vs told log J K n line one_before one f w i none t spelled name a.link.number (at a (taking a.link m)) callee p row refl shown known shows)
 
-  answered-is : (callee : Callee) (answered : Answered) → IsShown told name a.link.number answered.nonce → StageKnown (AwaitsDone callee answered) → (m : ℕ) (row : CallRow) → RowFits row
-      → ShutsQuietly row ⊎ SpeaksFirst (SentFits K name) (at a (taking a.link m)) callee answered row → RowIs row
-  answered-is callee answered shown known m row fits (inl shuts) = shuts-is row shuts
-  answered-is callee answered shown known m row fits (inr speaks) = λ g.
-      speaks-behind run whole us vs told log J K n line one_before one f w i none t spelled name a.link.number (at a (taking a.link m)) callee answered row refl shown known speaks fits g
+  answered-is : (callee : Callee) (answered : Answered) → IsShown told name a.link.number answered.nonce → StageKnown (AwaitsDone callee answered) → (m : ℕ) (row : CallRow) → RowFits row → NoEnds row.entries
+      → ShutsQuietly row ⊎ SpeaksFirst (SentFits K name) (at a (taking a.link m)) callee answered row → RowIs (AwaitsDone callee answered) row
+  answered-is callee answered shown known m row fits ends (inl shuts) = shuts-is (AwaitsDone callee answered) row ends shuts
+  answered-is callee answered shown known m row fits ends (inr speaks) = λ g.
+      speaks-behind run whole us vs told log J K n line one_before one f w i none t spelled name a.link.number (at a (taking a.link m)) callee answered row refl shown known speaks fits ends g
+      a (AwaitsDone callee answered)
 
-  pub turn-is : (stage : CallStage) → CallTold us told log name a.link.number stage → CallFits stage → StageKnown stage → TurnIs RowIs (turned_at a stage)
+  pub turn-is : (stage : CallStage) → CallTold us told log name a.link.number stage → CallFits stage → StageKnown stage → TurnIs (RowIs stage) (turned_at a stage)
   turn-is (AwaitsBanner called) h fits known =
-      banner-turned RowIs a.link (λ link _. on_banner (at a link) called)
-      (λ m g. nothing-behind run whole us vs told log J K n line one_before one f w i none t spelled name a.link.number (at a (taking a.link m)) called (on_banner (at a (taking a.link m)) called) refl
-      (banner-row (at a (taking a.link m)) called))
+      banner-turned (RowIs (AwaitsBanner called)) a.link (λ link _. on_banner (at a link) called)
+      (λ m g.
+      let shows = banner-row (at a (taking a.link m)) called in
+      unkeyed-is (AwaitsBanner called) (on_banner (at a (taking a.link m)) called) (λ link is. subst IsUnkeyed (sym (shows.link link is).0) tt) (banner-silent (at a (taking a.link m)) called)
+      (nothing-behind run whole us vs told log J K n line one_before one f w i none t spelled name a.link.number (at a (taking a.link m)) called (on_banner (at a (taking a.link m)) called) refl shows))
   turn-is (AwaitsHello called) h fits known =
-      plain-turned RowIs a.link (λ (link, fr) _. on_hello (at a link) called (due 1 hello_layout.form fr))
-      (λ fr m. hello-is called known m (on_hello (at a (taking a.link m)) called (due 1 hello_layout.form fr)) (hello-row (at a (taking a.link m)) called (due 1 hello_layout.form fr)))
+      plain-turned (RowIs (AwaitsHello called)) a.link (λ (link, fr) _. on_hello (at a link) called (due 1 hello_layout.form fr))
+      (λ fr m. hello-is called known m (on_hello (at a (taking a.link m)) called (due 1 hello_layout.form fr))
+      (hello-silent (at a (taking a.link m)) called (due 1 hello_layout.form fr)) (hello-row (at a (taking a.link m)) called (due 1 hello_layout.form fr)))
   turn-is (AwaitsChallenge callee p) h fits known =
-      plain-turned RowIs a.link (λ (link, fr) _. while_challenged (at a link) callee p fr)
-      (λ fr m. challenged-is callee p h known m (while_challenged (at a (taking a.link m)) callee p fr) (challenged-row (at a (taking a.link m)) callee p fr))
+      plain-turned (RowIs (AwaitsChallenge callee p)) a.link (λ (link, fr) _. while_challenged (at a link) callee p fr)
+      (λ fr m. challenged-is callee p h known m (while_challenged (at a (taking a.link m)) callee p fr)
+      (challenged-silent (at a (taking a.link m)) callee p fr) (challenged-row (at a (taking a.link m)) callee p fr))
   turn-is (AwaitsDone callee answered) h fits known =
-      plain-turned RowIs a.link (λ (link, fr) _. while_answered (at a link) callee answered fr)
+      plain-turned (RowIs (AwaitsDone callee answered)) a.link (λ (link, fr) _. while_answered (at a link) callee answered fr)
       (λ fr m. answered-is callee answered h known m (while_answered (at a (taking a.link m)) callee answered fr) (answered-fits (at a (taking a.link m)) callee answered fr)
+      (answered-silent (at a (taking a.link m)) callee answered fr)
       (answered-row_at (SentFits K name) (at a (taking a.link m)) callee answered fr))
   turn-is (AwaitsSignature s callee) h fits known =
-      secure-refuses RowIs s.keys a.link _
-      (keyed-is s callee None (turned_at a (AwaitsSignature s callee)) h (keyed-turn (SentFits K name) a (AwaitsSignature s callee) s None (SignedOn s callee) tt)
+      secure-refuses (RowIs (AwaitsSignature s callee)) s.keys a.link _
+      (keyed-is (AwaitsSignature s callee) s None (SignedOn s callee) (turned_at a (AwaitsSignature s callee)) h
+      (keyed-hears (SentFits K name) a (AwaitsSignature s callee) s None (SignedOn s callee) tt)
       (keyed-fits a (AwaitsSignature s callee) low_cookie fits held tt))
   turn-is (AwaitsIdent s callee cookie) h fits known =
-      secure-refuses RowIs s.keys a.link _
-      (keyed-is s callee (Some cookie) (turned_at a (AwaitsIdent s callee cookie)) h
-      (keyed-turn (SentFits K name) a (AwaitsIdent s callee cookie) s (Some cookie) (Identified s callee cookie) tt)
+      secure-refuses (RowIs (AwaitsIdent s callee cookie)) s.keys a.link _
+      (keyed-is (AwaitsIdent s callee cookie) s (Some cookie) (Identified s callee cookie) (turned_at a (AwaitsIdent s callee cookie)) h
+      (keyed-hears (SentFits K name) a (AwaitsIdent s callee cookie) s (Some cookie) (Identified s callee cookie) tt)
       (keyed-fits a (AwaitsIdent s callee cookie) low_cookie fits held tt))
   turn-is (AwaitsReconnect s callee cookie) h fits known =
-      secure-refuses RowIs s.keys a.link _
-      (keyed-is s callee (Some cookie) (turned_at a (AwaitsReconnect s callee cookie)) h
-      (keyed-turn (SentFits K name) a (AwaitsReconnect s callee cookie) s (Some cookie) (Reconnecting s callee cookie) known)
+      secure-refuses (RowIs (AwaitsReconnect s callee cookie)) s.keys a.link _
+      (keyed-is (AwaitsReconnect s callee cookie) s (Some cookie) (Reconnecting s callee cookie) (turned_at a (AwaitsReconnect s callee cookie)) h
+      (keyed-hears (SentFits K name) a (AwaitsReconnect s callee cookie) s (Some cookie) (Reconnecting s callee cookie) known)
       (keyed-fits a (AwaitsReconnect s callee cookie) low_cookie fits held tt))
   turn-is (Open s callee cookie) h fits known =
-      secure-refuses RowIs s.keys a.link _
-      (keyed-is s callee (Some cookie) (turned_at a (Open s callee cookie)) h (keyed-turn (SentFits K name) a (Open s callee cookie) s (Some cookie) (Opened s callee cookie) known)
+      secure-refuses (RowIs (Open s callee cookie)) s.keys a.link _
+      (keyed-is (Open s callee cookie) s (Some cookie) (Opened s callee cookie) (turned_at a (Open s callee cookie)) h
+      (keyed-hears (SentFits K name) a (Open s callee cookie) s (Some cookie) (Opened s callee cookie) known)
       (keyed-fits a (Open s callee cookie) low_cookie fits held tt))

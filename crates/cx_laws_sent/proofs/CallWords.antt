@@ -5,19 +5,16 @@ use Rattle.std.specs.List.{AllByRecursion}
 use Rattle.cx_base.specs.Names.{Name}
 use Rattle.cx_base.specs.declared.operations.Operation.{Operation}
 use Rattle.cx_journal.specs.declared.entries.Entry.{Entry}
-use Rattle.cx_rules.specs.Secured.{Secured}
-use Rattle.cx_rules_session.specs.Presenter.{CallRow, CallStage}
-use Rattle.cx_rules_session.specs.Sessions.{Callee}
+use Rattle.cx_laws_queues.specs.cx_rules.specs.Secured.{Secured}
+use Rattle.cx_laws_queues.specs.cx_rules_session.specs.Presenter.{CallRow, CallStage}
+use Rattle.cx_laws_queues.specs.cx_rules_session.specs.Sessions.{Callee}
 use Rattle.cx_steps.specs.declared.seals.SealEntry.{SealEntry}
-use Rattle.cx_laws_links.proofs.CallSteps.{WasSent}
-use Rattle.cx_laws_links.proofs.CallWords.{AreWords, Identified, IsDrawnIn, KeyedStage, NoWord, OneWord, Opened, Reconnecting, Says, SomeOrders}
-use Rattle.cx_laws_links.proofs.Hearing.{IsSpelled}
-use Rattle.cx_laws_links.proofs.Spoken.{Idents, KeepsUp, Orders, Reconnects, Signs, Spoken, cookie_behind}
-use Rattle.cx_laws_sent.proofs.State.{CallFits, OrderFits}
-
--- an operation was sent by this entity under a cookie, and has a spelling
-abbrev pub SentFits : List Entry → Name → ℕ → ℕ × Operation → Type 0
-SentFits J name cookie order = WasSent J name cookie order × OrderFits order
+use Rattle.cx_laws_answers.specs.cx_laws_links.proofs.CallSteps.{WasSent}
+use Rattle.cx_laws_answers.specs.cx_laws_links.proofs.CallWords.{AreWords, Identified, IsDrawnIn, KeyedStage, NoWord, OneWord, Opened, Reconnecting, Says, SomeOrders}
+use Rattle.cx_laws_answers.specs.cx_laws_links.proofs.Hearing.{IsSpelled}
+use Rattle.cx_laws_answers.specs.cx_laws_links.proofs.Spoken.{Idents, KeepsUp, Orders, Reconnects, Signs, Spoken, cookie_behind}
+use Rattle.cx_laws_sent.proofs.Shown.{SentFits}
+use Rattle.cx_laws_sent.proofs.State.{CallFits}
 
 module _ (J : List Entry) (name : Name) where
   orders-sent : (cookie : ℕ) (orders : List (ℕ × Operation)) → AllByRecursion (SentFits J name cookie) orders → AllByRecursion (WasSent J name cookie) orders
@@ -42,6 +39,7 @@ module _ (J : List Entry) (name : Name) where
     link = h.link;
     calls = h.calls;
     held = h.held;
+    waits = h.waits;
     said = words-sent before h.quiet h.words h.said;
   }
 

@@ -10,27 +10,29 @@ use Rattle.cx_base.specs.Names.{Name, same_name}
 use Rattle.cx_base.specs.declared.nodes.NodeName.TheVariants as node
 use Rattle.cx_base.specs.declared.operations.Operation.{Operation}
 use Rattle.cx_journal.specs.declared.entries.Admitted.{Admitted}
+use Rattle.cx_journal.specs.declared.entries.Answered.{Answered}
 use Rattle.cx_journal.specs.declared.entries.Entry.{Entry}
 use Rattle.cx_journal.specs.declared.entries.Entry.TheVariants as journal
 use Rattle.cx_journal.specs.declared.outcomes.Reason.{Reason}
 use Rattle.cx_journal.specs.declared.outcomes.Reason.TheVariants as reason
 use Rattle.cx_login.specs.Held.{Held}
-use Rattle.cx_rules.specs.Connector as connector
-use Rattle.cx_rules.specs.Greetings.{own_banner}
-use Rattle.cx_rules.specs.Holdings.{Asker}
-use Rattle.cx_rules.specs.Inputs.{Input, Submit}
-use Rattle.cx_rules.specs.Links.{Link, link_of, put_link, without_link}
-use Rattle.cx_rules.specs.Requests.{Requests, sealed_request, sends_request}
-use Rattle.cx_rules.specs.Rows.{Outcome, Turned, Waits, Refuses, Handles, arrival, carried_out, fed, idles, lifted, links_behind, new_link, turns}
-use Rattle.cx_rules.specs.Secured.{SealedFrame, Secured}
-use Rattle.cx_rules.specs.declared.requests.Want.TheVariants as want
-use Rattle.cx_rules_session.specs.ClientRule.{ClientStage, Dial, ForCall, ForLogin, ToDaemon, ToMonitor, WholeClientNode, calls, calls_with, connects, dial_of, first_call, first_stage, is_for, is_for_login, is_to, is_to_monitor, logs_in, loses, me, open_to_ask, opens_dialled, own_behind_gone, refuses_command, restarted, undialled, unreached, waits_for_login, whole_client_rule, with_asker}
-use Rattle.cx_rules_session.specs.Kinds.{arrival_in, of_kind, turn_of_kind}
-use Rattle.cx_rules_session.specs.Presenter as call
-use Rattle.cx_rules_session.specs.Presenter.{CallStage, callee_of}
-use Rattle.cx_rules_session.specs.Sessions.{Called, Callee, HeldSession, held_gid, session_with, ticket_for}
-use Rattle.cx_run.proofs.ClientKept.{whole-named}
-use Rattle.cx_run.proofs.Outcomes.{asker_turn, call_turn, on_link, renewed, sent_in}
+use Rattle.cx_laws_queues.specs.cx_rules.specs.Connector as connector
+use Rattle.cx_laws_queues.specs.cx_rules.specs.Greetings.{own_banner}
+use Rattle.cx_laws_queues.specs.cx_rules.specs.Holdings.{Asker}
+use Rattle.cx_laws_queues.specs.cx_rules.specs.Inputs.{Input, Submit}
+use Rattle.cx_laws_queues.specs.cx_rules.specs.Links.{Link, link_of, put_link, without_link}
+use Rattle.cx_laws_queues.specs.cx_rules.specs.Requests.{Requests, sealed_request, sends_request}
+use Rattle.cx_laws_queues.specs.cx_rules.specs.Rows.{Outcome, Turned, Waits, Refuses, Handles, arrival, carried_out, fed, idles, lifted, links_behind, new_link, refused_entry, turns}
+use Rattle.cx_laws_queues.specs.cx_rules.specs.Secured.{SealedFrame, Secured}
+use Rattle.cx_laws_queues.specs.cx_rules.specs.declared.requests.Want.TheVariants as want
+use Rattle.cx_laws_queues.specs.cx_rules_session.specs.ClientRule.{ClientStage, Dial, ForCall, ForLogin, ToDaemon, ToMonitor, WholeClientNode, calls, calls_with, connects, dial_of, first_call, first_stage, is_for, is_for_login, is_open, is_to, is_to_monitor, logs_in, loses, me, open_to_ask, opens_dialled, own_behind_gone, refuses_command, restarted, undialled, unreached, waits_for_login, whole_client_rule, with_asker}
+use Rattle.cx_laws_queues.specs.cx_rules_session.specs.Kinds.{arrival_in, of_kind, turn_of_kind}
+use Rattle.cx_laws_queues.specs.cx_rules_session.specs.Presenter as call
+use Rattle.cx_laws_queues.specs.cx_rules_session.specs.Presenter.{CallStage, callee_of}
+use Rattle.cx_laws_queues.specs.cx_rules_session.specs.Sessions.{Called, Callee, HeldSession, held_gid, session_with, ticket_for}
+use Rattle.cx_laws_queues.specs.cx_run.proofs.ClientKept.{whole-named}
+use Rattle.cx_laws_queues.specs.cx_run.proofs.Outcomes.{asker_turn, call_turn, on_link, renewed, sent_in}
+use Rattle.cx_laws_queues.specs.cx_run.proofs.Taking.{EachRow}
 use Rattle.cx_laws_sent.proofs.EachStep.{EachStep, each-step}
 use Rattle.cx_session.specs.Queue.{push_reply}
 use Rattle.cx_steps.specs.declared.events.Command.TheVariants as command
@@ -45,18 +47,24 @@ use Rattle.cx_laws_keys.proofs.Known.{Inv}
 use Rattle.cx_laws_keys.proofs.Lists.{all-append, all-map, found_all, found_passes}
 use Rattle.cx_laws_keys.proofs.Premises.{behind}
 use Rattle.cx_laws_keys.proofs.Uses.{Grows, Uses, WholeRun}
-use Rattle.cx_laws_login.proofs.Entering.{within-all}
-use Rattle.cx_laws_login.proofs.Rows.{all-filter}
-use Rattle.cx_laws_series.proofs.Contents.{contents_by}
-use Rattle.cx_laws_links.proofs.CallTold.{same-nonces}
-use Rattle.cx_laws_links.proofs.GuestWords.{AreSpelled}
-use Rattle.cx_laws_links.proofs.Known.{AreTold, CallTold, IsOfSession, StageTold, Told}
-use Rattle.cx_laws_links.proofs.Lifting.{told-stays}
-use Rattle.cx_laws_links.proofs.Moving.{Quiets, moved-call}
-use Rattle.cx_laws_links.proofs.Single.{IsSingle, count-append, count-filter, count-found, count-none, count_where, one_where, put-more, put-moved, single-calls, single-less, to_where}
-use Rattle.cx_laws_links.proofs.Spoken.{is_connectors}
-use Rattle.cx_laws_links.proofs.Written.{IsLinkKey}
+use Rattle.cx_laws_run.specs.cx_laws_login.proofs.Entering.{within-all}
+use Rattle.cx_laws_run.specs.cx_laws_login.proofs.Rows.{all-filter}
+use Rattle.cx_laws_answers.specs.cx_laws_series.proofs.Contents.{contents_by}
+use Rattle.cx_laws_answers.specs.cx_laws_links.proofs.CallTold.{same-nonces}
+use Rattle.cx_laws_answers.specs.cx_laws_links.proofs.GuestWords.{AreSpelled}
+use Rattle.cx_laws_answers.specs.cx_laws_links.proofs.Known.{AreTold, CallTold, IsOfSession, StageTold, Told}
+use Rattle.cx_laws_answers.specs.cx_laws_links.proofs.Lifting.{told-stays}
+use Rattle.cx_laws_answers.specs.cx_laws_links.proofs.Moving.{Quiets, moved-call}
+use Rattle.cx_laws_answers.specs.cx_laws_links.proofs.Single.{IsSingle, count-append, count-filter, count-found, count-none, count_where, one_where, put-more, put-moved, single-calls, single-less, to_where}
+use Rattle.cx_laws_answers.specs.cx_laws_links.proofs.Spoken.{is_connectors}
+use Rattle.cx_laws_answers.specs.cx_laws_links.proofs.Written.{IsLinkKey}
+use Rattle.cx_laws_answers.proofs.CallHears.{EndsSo}
+use Rattle.cx_laws_answers.proofs.CallSilent.{NoEnds}
+use Rattle.cx_laws_answers.proofs.Given.{is_acceptors}
+use Rattle.cx_laws_queues.specs.cx_laws_session.proofs.Askers.{EntersNone, asker-enters}
+use Rattle.cx_laws_queues.specs.cx_laws_session.proofs.Moves.{IsQuiet}
 use Rattle.cx_laws_sent.proofs.AskerSteps.{asks-none, renewed-none}
+use Rattle.cx_laws_sent.proofs.Shown.{ShowsNone, StageFrom, all-from}
 use Rattle.cx_laws_sent.proofs.State.{CallFits, ClientBehind, ClientKnown, SessionFits, StageFits}
 
 -- ---- lists
@@ -67,7 +75,7 @@ all-both P Q R f [] h g = tt
 all-both P Q R f (x ∷ xs) h g = (f x h.0 g.0, all-both P Q R f xs h.1 g.1)
 
 -- what holds of all links and of this one holds where it is put among them
-all-put : {S : Type 0} (P : Link S → Type 0) (link : Link S) (links : List (Link S)) → P link → AllByRecursion P links → AllByRecursion P (put_link link links)
+pub all-put : {S : Type 0} (P : Link S → Type 0) (link : Link S) (links : List (Link S)) → P link → AllByRecursion P links → AllByRecursion P (put_link link links)
 all-put {S} P link links h all =
     all-append P (filter (λ (l : Link S). nat_lt l.number link.number) links) (link ∷ filter (λ (l : Link S). nat_lt link.number l.number) links)
     (all-filter P (λ (l : Link S). nat_lt l.number link.number) links all) (h, all-filter P (λ (l : Link S). nat_lt link.number l.number) links all)
@@ -102,6 +110,14 @@ find-kept {X} test keeps kept (x ∷ xs) = by_tests (keeps x) (test x) refl refl
     by_tests true t is passes rest = ap (λ (b : Bool). cond b (Some x) (find test (filter keeps xs))) passes ∙ ap (λ (o : Option X). cond t (Some x) o) rest
     by_tests false true is passes rest = let no : true ≡ false = sym (kept x passes) ∙ is in absurd cc
     by_tests false false is passes rest = rest
+
+-- what is quiet is no answer
+quiet-ends : (es : List Entry) → AllByRecursion IsQuiet es → NoEnds es
+quiet-ends es h = all-map IsQuiet (EndsSo (λ (x : Answered). ⊥)) by_entry es h
+  where
+    by_entry : (e : Entry) → IsQuiet e → EndsSo (λ (x : Answered). ⊥) e
+    by_entry (journal.Answered x) quiet = quiet
+    by_entry _ quiet = tt
 
 -- no session was admitted by what a client enters
 none-admitted : (name : Name) (J es : List Entry) → AllByRecursion (IsOfClient name) es → (session : Admitted) → Contains (entered J es) (journal.Admitted session) → Contains J (journal.Admitted session)
@@ -173,7 +189,7 @@ module _ (run : WholeRun) (whole : List Logged) (us vs : Uses) (told : Told) (lo
     pub ok : ClientOk run vs o.state
 
   abbrev pub Behind : Outcome WholeClientNode → Type 0
-  Behind o = IsStep o → ClientBehind run us vs told log line (entered J o.out.entries) name o
+  Behind o = IsStep o → ClientBehind run us vs told log line (entered J o.out.entries) name c o
 
   still-named : (o : Outcome WholeClientNode) → IsStep o → o.state.own.asker.name ≡ name
   still-named o s = ap (λ (p : Outcome WholeClientNode). p.state.own.asker.name) s.is ∙ whole-named c input reading draw ∙ named
@@ -187,7 +203,7 @@ module _ (run : WholeRun) (whole : List Logged) (us vs : Uses) (told : Told) (lo
 
   abbrev StageKept : List HeldSession → ℕ → ClientStage → Type 0
   StageKept sessions number (ToMonitor stage) = Unit {0}
-  StageKept sessions number (ToDaemon stage) = CallTold us told log name number stage × IsOfSession sessions stage × CallFits stage
+  StageKept sessions number (ToDaemon stage) = CallTold us told log name number stage × IsOfSession sessions stage × CallFits stage × StageFrom c.links number (ToDaemon stage)
 
   abbrev LinkKept : List HeldSession → Link ClientStage → Type 0
   LinkKept sessions link = StageKept sessions link.number link.stage
@@ -200,23 +216,27 @@ module _ (run : WholeRun) (whole : List Logged) (us vs : Uses) (told : Told) (lo
     single : IsSingle o.state.links o.state.own.dials
     sessions : AllByRecursion SessionFits o.state.own.sessions
     links : AreKept o.state.own.sessions o.state.links
+    ends : NoEnds o.out.entries
 
   kept-before : AreKept c.own.sessions c.links
   kept-before =
-      all-both (λ (l : Link ClientStage). StageTold us told log c.own l.number l.stage) (λ (l : Link ClientStage). StageFits l.stage) (LinkKept c.own.sessions)
-      (λ l h fits. by_stage l.number l.stage h fits) c.links known.links.links known.stages
+      all-both (λ (l : Link ClientStage). StageTold us told log c.own l.number l.stage) (λ (l : Link ClientStage). StageFits l.stage × StageFrom c.links l.number l.stage) (LinkKept c.own.sessions)
+      (λ l h g. by_stage l.number l.stage h g.0 g.1) c.links known.links.links
+      (all-both (λ (l : Link ClientStage). StageFits l.stage) (λ (l : Link ClientStage). StageFrom c.links l.number l.stage) (λ (l : Link ClientStage). StageFits l.stage × StageFrom c.links l.number l.stage)
+      (λ l fits from. (fits, from)) c.links known.stages (all-from c.links))
     where
-      by_stage : (number : ℕ) (stage : ClientStage) → StageTold us told log c.own number stage → StageFits stage → StageKept c.own.sessions number stage
-      by_stage number (ToMonitor stage) h fits = tt
-      by_stage number (ToDaemon stage) h fits = (subst (λ (m : Name). CallTold us told log m number stage) named h.0, h.1, fits)
+      by_stage : (number : ℕ) (stage : ClientStage) → StageTold us told log c.own number stage → StageFits stage → StageFrom c.links number stage → StageKept c.own.sessions number stage
+      by_stage number (ToMonitor stage) h fits from = tt
+      by_stage number (ToDaemon stage) h fits from = (subst (λ (m : Name). CallTold us told log m number stage) named h.0, h.1, fits, from)
 
   -- ---- such a step
 
-  module _ (o : Outcome WholeClientNode) (s : IsStep o) (quiet : (key : List ℕ) (whose : Name) (tie : ℕ) → IsLinkKey vs key whose tie → contents_by key is_connectors o.out.seals ≡ []) where
+  module _ (o : Outcome WholeClientNode) (s : IsStep o)
+      (quiet : (test : List ℕ → Bool) (key : List ℕ) (whose : Name) (tie : ℕ) → IsLinkKey vs key whose tie → contents_by key test o.out.seals ≡ []) where
     call-behind : (number : ℕ) (stage : CallStage) → CallTold us told log name number stage → CallTold vs told (later o) o.state.own.asker.name number stage
     call-behind number stage h =
         subst (λ (m : Name). CallTold vs told (later o) m number stage) (sym (still-named o s))
-        (moved-call us vs i.one f told log (node.Entity name) line o.out.seals name (number + 1) told (Quiets told.nonces (same-nonces told name (number + 1)) quiet) name number
+        (moved-call us vs i.one f told log (node.Entity name) line o.out.seals name (number + 1) told (Quiets told.nonces (same-nonces told name (number + 1)) (quiet is_connectors)) name number
         (λ e. let same : number ≡ number + 1 = e.1 in absurd (omega (arith, same))) stage h)
 
     stage-behind : (number : ℕ) (stage : ClientStage) → StageKept o.state.own.sessions number stage → StageTold vs told (later o) o.state.own number stage
@@ -227,12 +247,16 @@ module _ (run : WholeRun) (whole : List Logged) (us vs : Uses) (told : Told) (lo
     stage-fits number (ToMonitor stage) h = tt
     stage-fits number (ToDaemon stage) h = h.2
 
-    quiet-behind : IsKept o → ClientBehind run us vs told log line (entered J o.out.entries) name o
+    stage-from : (number : ℕ) (stage : ClientStage) → StageKept o.state.own.sessions number stage → StageFrom c.links number stage
+    stage-from number (ToMonitor stage) h = tt
+    stage-from number (ToDaemon stage) h = h.3
+
+    quiet-behind : IsKept o → ClientBehind run us vs told log line (entered J o.out.entries) name c o
     quiet-behind k = record {
       next = told;
       number = 0;
-      moved = Quiets told.nonces (same-nonces told name 0) quiet;
-      known_of = told-stays run whole us vs told log J (entered J o.out.entries) (node.Entity name) line o.out.seals s.inv.one f (within-all J o.out.entries) i quiet (none-there o s) t;
+      moved = Quiets told.nonces (same-nonces told name 0) (quiet is_connectors);
+      known_of = told-stays run whole us vs told log J (entered J o.out.entries) (node.Entity name) line o.out.seals s.inv.one f (within-all J o.out.entries) i (quiet is_connectors) (none-there o s) t;
       spelled = spelled;
       client = record {
         links = record {
@@ -242,11 +266,14 @@ module _ (run : WholeRun) (whole : List Logged) (us vs : Uses) (told : Told) (lo
         sessions = k.sessions;
         stages = all-map (LinkKept o.state.own.sessions) (λ (l : Link ClientStage). StageFits l.stage) (λ l h. stage-fits l.number l.stage h) o.state.links k.links;
       };
+      gives_none = quiet is_acceptors;
+      shows = ShowsNone refl
+          (all-map (LinkKept o.state.own.sessions) (λ (l : Link ClientStage). StageFrom c.links l.number l.stage) (λ l h. stage-from l.number l.stage h) o.state.links k.links) k.ends;
     }
 
   -- a step that seals nothing
   still-behind : (o : Outcome WholeClientNode) → o.out.seals ≡ [] → IsKept o → Behind o
-  still-behind o none k s = quiet-behind o s (λ key whose tie is. ap (λ es. contents_by key is_connectors es) none) k
+  still-behind o none k s = quiet-behind o s (λ test key whose tie is. ap (λ es. contents_by key test es) none) k
 
   -- ---- links to the monitor
 
@@ -272,11 +299,12 @@ module _ (run : WholeRun) (whole : List Logged) (us vs : Uses) (told : Told) (lo
   turned-kept number bytes (Some link) = asks-kept (record (of_kind ToMonitor link) { sent = link.sent ++ bytes }) link.stage refl
   turned-kept number bytes None = without-kept number
 
-  kept-of : (o : Outcome WholeClientNode) → o.state.own.dials ≡ c.own.dials → o.state.own.sessions ≡ c.own.sessions → LinksKept o.state.links → IsKept o
-  kept-of o dials sessions h = record {
+  kept-of : (o : Outcome WholeClientNode) → o.state.own.dials ≡ c.own.dials → o.state.own.sessions ≡ c.own.sessions → NoEnds o.out.entries → LinksKept o.state.links → IsKept o
+  kept-of o dials sessions ends h = record {
     single = subst (λ (ds : List Dial). IsSingle o.state.links ds) (sym dials) h.single;
     sessions = subst (λ (ss : List HeldSession). AllByRecursion SessionFits ss) (sym sessions) known.sessions;
     links = subst (λ (ss : List HeldSession). AreKept ss o.state.links) (sym sessions) h.kept;
+    ends = ends;
   }
 
   idle-kept : LinksKept c.links
@@ -285,7 +313,7 @@ module _ (run : WholeRun) (whole : List Logged) (us vs : Uses) (told : Told) (lo
   -- ---- each outcome
 
   idle-behind : Behind (idles c)
-  idle-behind = still-behind (idles c) refl (kept-of (idles c) refl refl idle-kept)
+  idle-behind = still-behind (idles c) refl (kept-of (idles c) refl refl tt idle-kept)
 
   numbered : (number : ℕ) (link : Link ClientStage) → link_of number c.links ≡ Some link → link_of link.number c.links ≡ Some link
   numbered number link is =
@@ -295,7 +323,7 @@ module _ (run : WholeRun) (whole : List Logged) (us vs : Uses) (told : Told) (lo
   comes-behind : (number : ℕ) (link : Link ClientStage) (bytes : List ℕ) → link_of number c.links ≡ Some link → Behind (fed c bytes (Some link))
   comes-behind number link bytes is =
       let fuller : Link ClientStage = record link { received = link.received ++ bytes } in
-      still-behind (fed c bytes (Some link)) refl (kept-of (fed c bytes (Some link)) refl refl (record {
+      still-behind (fed c bytes (Some link)) refl (kept-of (fed c bytes (Some link)) refl refl tt (record {
         single = single-less c.links c.own.dials (put_link fuller c.links) c.own.dials
             (λ daemon. put-moved (to_where daemon) fuller link c.links (numbered number link is) (λ e. e)) (λ daemon. omega arith) known.single;
         kept = all-put (LinkKept c.own.sessions) fuller c.links (found_all (LinkKept c.own.sessions) (λ (l : Link ClientStage). l.number == number) c.links link kept-before is) kept-before;
@@ -304,27 +332,27 @@ module _ (run : WholeRun) (whole : List Logged) (us vs : Uses) (told : Told) (lo
   asks-behind : (link : Link ClientStage) (stage : connector.Stage) → Behind (asker_turn c reading draw link stage)
   asks-behind link stage s =
       quiet-behind (asker_turn c reading draw link stage) s
-      (λ key whose tie is. asks-none vs (node_of (asker_turn c reading draw link stage).state) s.inv.one key whose tie is run c reading draw link stage s.ok.links)
-      (by_turned (connector.turned_at (arrival_in (on_link c reading draw link) c.own.asker stage) stage))
+      (λ test key whose tie is. asks-none vs (node_of (asker_turn c reading draw link stage).state) s.inv.one key whose tie is test run c reading draw link stage s.ok.links)
+      (by_turned (connector.turned_at (arrival_in (on_link c reading draw link) c.own.asker stage) stage) (asker-enters (arrival_in (on_link c reading draw link) c.own.asker stage) stage))
     where
-      by_turned : (turned : Turned Asker connector.Stage) → IsKept (turns c (on_link c reading draw link) (turn_of_kind (with_asker c.own) ToMonitor turned))
-      by_turned Waits = kept-of (idles c) refl refl idle-kept
-      by_turned (Refuses why opened) = kept-of _ refl refl (without-kept link.number)
-      by_turned (Handles row) = kept-of _ refl refl (turned-kept link.number row.sends row.link)
+      by_turned : (turned : Turned Asker connector.Stage) → EachRow EntersNone turned → IsKept (turns c (on_link c reading draw link) (turn_of_kind (with_asker c.own) ToMonitor turned))
+      by_turned Waits enters = kept-of (idles c) refl refl tt idle-kept
+      by_turned (Refuses why opened) enters = kept-of _ refl refl (tt, tt) (without-kept link.number)
+      by_turned (Handles row) enters = kept-of _ refl refl (quiet-ends row.entries enters) (turned-kept link.number row.sends row.link)
 
   refuses-behind : (why : Reason) → Behind (refuses_command c why)
-  refuses-behind why = still-behind (refuses_command c why) refl (kept-of (refuses_command c why) refl refl idle-kept)
+  refuses-behind why = still-behind (refuses_command c why) refl (kept-of (refuses_command c why) refl refl (tt, tt) idle-kept)
 
   renewed-behind : (services : ℕ) (link : Link ClientStage) (s : Secured) (requests : Requests) → Behind (renewed c reading draw services link s requests)
   renewed-behind services link s requests st =
       quiet-behind (renewed c reading draw services link s requests) st
-      (λ key whose tie is. renewed-none vs (node_of (renewed c reading draw services link s requests).state) st.inv.one key whose tie is run c reading draw services link s requests st.ok.links)
+      (λ test key whose tie is. renewed-none vs (node_of (renewed c reading draw services link s requests).state) st.inv.one key whose tie is test run c reading draw services link s requests st.ok.links)
       (by_sealed (sealed_request s.keys requests (asked.Tickets services)))
     where
       by_sealed : (r : Result SealedFrame Reason)
           → IsKept (carried_out c link.number false (lifted (with_asker c.own) (sends_request open_to_ask (arrival (me c.own) c.own.asker link reading draw) s requests want.Tickets r)))
-      by_sealed (Ok sealed) = kept-of _ refl refl (asks-kept _ _ refl)
-      by_sealed (Err why) = kept-of _ refl refl (without-kept link.number)
+      by_sealed (Ok sealed) = kept-of _ refl refl tt (asks-kept _ _ refl)
+      by_sealed (Err why) = kept-of _ refl refl (tt, tt) (without-kept link.number)
 
   -- a link isn't waited for any more
   less-dials : (keeps : Dial → Bool) (daemon : Name) → count_where (is_for daemon) (filter keeps c.own.dials) ≤ count_where (is_for daemon) c.own.dials
@@ -335,6 +363,7 @@ module _ (run : WholeRun) (whole : List Logged) (us vs : Uses) (told : Told) (lo
     single = single-less c.links c.own.dials c.links (undialled c to).own.dials (λ daemon. omega arith) (less-dials (λ (dial : Dial). not (dial_of to dial))) known.single;
     sessions = known.sessions;
     links = kept-before;
+    ends = (tt, tt);
   })
 
   -- the link that opens
@@ -347,13 +376,15 @@ module _ (run : WholeRun) (whole : List Logged) (us vs : Uses) (told : Told) (lo
         (single-less c.links c.own.dials c.links (undialled c to).own.dials (λ daemon. omega arith) (less-dials (λ (dial : Dial). not (dial_of to dial))) known.single);
     sessions = known.sessions;
     links = all-put (LinkKept c.own.sessions) (opened_link number (first_stage (ForLogin services))) c.links tt kept-before;
+    ends = tt;
   })
   begins-behind number peer.Monitor (ForCall called) is =
       let no : false ≡ true = found_passes is_for_login c.own.dials (ForCall called) is in absurd cc
   begins-behind number (peer.Daemon daemon) (ForCall called) is = still-behind _ refl (record {
     single = opens-single c.links c.own.dials daemon called (opened_link number (first_stage (ForCall called))) is (λ to. refl) known.single;
     sessions = known.sessions;
-    links = all-put (LinkKept c.own.sessions) (opened_link number (first_stage (ForCall called))) c.links (tt, tt, tt) kept-before;
+    links = all-put (LinkKept c.own.sessions) (opened_link number (first_stage (ForCall called))) c.links (tt, tt, tt, inl tt) kept-before;
+    ends = tt;
   })
 
   logs-behind : (services : ℕ) → Behind (logs_in c services)
@@ -366,10 +397,11 @@ module _ (run : WholeRun) (whole : List Logged) (us vs : Uses) (told : Told) (lo
         omega (arith, fewer, more)) known.single;
     sessions = known.sessions;
     links = all-filter (LinkKept c.own.sessions) (λ (l : Link ClientStage). not (is_to_monitor l.stage)) c.links kept-before;
+    ends = tt;
   })
 
   restarts-behind : Behind (restarted c)
-  restarts-behind = still-behind (restarted c) refl (record { single = λ daemon. omega arith; sessions = tt; links = tt })
+  restarts-behind = still-behind (restarted c) refl (record { single = λ daemon. omega arith; sessions = tt; links = tt; ends = (tt, tt) })
 
   -- ---- a link is asked for
 
@@ -379,6 +411,7 @@ module _ (run : WholeRun) (whole : List Logged) (us vs : Uses) (told : Told) (lo
     single = single-calls c.links c.own.dials called (by_busy (list_any (λ (link : Link ClientStage). is_to daemon link.stage) c.links) refl) known.single;
     sessions = known.sessions;
     links = kept-before;
+    ends = tt;
   }) s
     where
       called : Called
@@ -434,7 +467,7 @@ module _ (run : WholeRun) (whole : List Logged) (us vs : Uses) (told : Told) (lo
     where
       by_stage : (daemon : Name) (number : ℕ) (st : ClientStage) → StageKept c.own.sessions number st → is_to daemon st ≡ false → StageKept (filter (outlives daemon) c.own.sessions) number st
       by_stage daemon number (ToMonitor st) h apart = tt
-      by_stage daemon number (ToDaemon st) h apart = (h.0, of-other daemon st apart h.1, h.2)
+      by_stage daemon number (ToDaemon st) h apart = (h.0, of-other daemon st apart h.1, h.2, h.3)
 
   own-dials : (stage : ClientStage) → (own_behind_gone c.own stage).dials ≡ c.own.dials
   own-dials (ToMonitor stage) = refl
@@ -447,7 +480,12 @@ module _ (run : WholeRun) (whole : List Logged) (us vs : Uses) (told : Told) (lo
         single = subst (λ (ds : List Dial). IsSingle (without_link link.number c.links) ds) (sym (own-dials link.stage)) (without-kept link.number).single;
         sessions = k.0;
         links = k.1;
+        ends = by_open (is_open link.stage);
       })
+    where
+      by_open : (open_ : Bool) → NoEnds (if open_ then [] else refused_entry (me c.own) link.number reason.Lost ∷ [])
+      by_open true = tt
+      by_open false = (tt, tt)
 
   -- ---- any event
 

@@ -8,22 +8,22 @@ use Rattle.cx_base.specs.declared.nodes.NodeName.{NodeName}
 use Rattle.cx_laws_keys.proofs.Lists.{all-map}
 use Rattle.cx_laws_keys.proofs.Premises.{behind}
 use Rattle.cx_laws_keys.proofs.Uses.{Grows, Means, Use, Uses}
-use Rattle.cx_laws_series.proofs.Contents.{contents_by}
-use Rattle.cx_rules.specs.Links.{Link, put_link, without_link}
-use Rattle.cx_rules.specs.Rows.{links_behind}
-use Rattle.cx_rules_session.specs.ClientRule.{ClientStage, Dial, ToDaemon, ToMonitor, WholeClient, WholeClientNode, is_to}
-use Rattle.cx_rules_session.specs.Kinds.{of_kind}
-use Rattle.cx_rules_session.specs.Presenter.{CallStage, callee_of}
-use Rattle.cx_rules_session.specs.Sessions.{Callee, HeldSession}
+use Rattle.cx_laws_answers.specs.cx_laws_series.proofs.Contents.{contents_by}
+use Rattle.cx_laws_queues.specs.cx_rules.specs.Links.{Link, put_link, without_link}
+use Rattle.cx_laws_queues.specs.cx_rules.specs.Rows.{links_behind}
+use Rattle.cx_laws_queues.specs.cx_rules_session.specs.ClientRule.{ClientStage, Dial, ToDaemon, ToMonitor, WholeClient, WholeClientNode, is_to}
+use Rattle.cx_laws_queues.specs.cx_rules_session.specs.Kinds.{of_kind}
+use Rattle.cx_laws_queues.specs.cx_rules_session.specs.Presenter.{CallStage, callee_of}
+use Rattle.cx_laws_queues.specs.cx_rules_session.specs.Sessions.{Callee, HeldSession}
 use Rattle.cx_steps.specs.Onto.{SomeOf}
 use Rattle.cx_steps.specs.declared.seals.Logged.{Logged}
 use Rattle.cx_steps.specs.declared.seals.SealEntry.{SealEntry}
-use Rattle.cx_laws_links.proofs.CallTold.{same-nonces}
-use Rattle.cx_laws_links.proofs.Known.{CallTold, IsOfSession, StageTold, Told}
-use Rattle.cx_laws_links.proofs.Moving.{Moved, Quiets, moved-call}
-use Rattle.cx_laws_links.proofs.Single.{IsSingle, to_where}
-use Rattle.cx_laws_links.proofs.Spoken.{is_connectors}
-use Rattle.cx_laws_links.proofs.Written.{IsLinkKey}
+use Rattle.cx_laws_answers.specs.cx_laws_links.proofs.CallTold.{same-nonces}
+use Rattle.cx_laws_answers.specs.cx_laws_links.proofs.Known.{CallTold, IsOfSession, StageTold, Told}
+use Rattle.cx_laws_answers.specs.cx_laws_links.proofs.Moving.{Moved, Quiets, moved-call}
+use Rattle.cx_laws_answers.specs.cx_laws_links.proofs.Single.{IsSingle, to_where}
+use Rattle.cx_laws_answers.specs.cx_laws_links.proofs.Spoken.{is_connectors}
+use Rattle.cx_laws_answers.specs.cx_laws_links.proofs.Written.{IsLinkKey}
 use Rattle.cx_laws_sent.proofs.ClientLinks.{all-put, all-without, alone, single-put, single-shut}
 use Rattle.cx_laws_sent.proofs.State.{CallFits, ClientKnown, SessionFits, StageFits}
 use Rattle.cx_laws_sent.proofs.Waiting.{all-both}

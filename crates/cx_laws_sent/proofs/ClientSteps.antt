@@ -6,10 +6,10 @@ use Rattle.cx_base.specs.declared.operations.Operation.{Operation}
 use Rattle.cx_journal.specs.declared.entries.Entry.{Entry}
 use Rattle.cx_laws_keys.proofs.Premises.{AreGranted}
 use Rattle.cx_laws_keys.proofs.Uses.{Uses, WholeRun}
-use Rattle.cx_laws_links.proofs.Known.{Told}
-use Rattle.cx_rules.specs.Inputs.{Input, Submit}
-use Rattle.cx_rules.specs.Rows.{Outcome}
-use Rattle.cx_rules_session.specs.ClientRule.{WholeClientNode, whole_client_rule}
+use Rattle.cx_laws_answers.specs.cx_laws_links.proofs.Known.{Told}
+use Rattle.cx_laws_queues.specs.cx_rules.specs.Inputs.{Input, Submit}
+use Rattle.cx_laws_queues.specs.cx_rules.specs.Rows.{Outcome}
+use Rattle.cx_laws_queues.specs.cx_rules_session.specs.ClientRule.{WholeClientNode, whole_client_rule}
 use Rattle.cx_steps.specs.declared.events.Command.TheVariants as command
 use Rattle.cx_steps.specs.declared.seals.Logged.{Logged}
 use Rattle.cx_wire.specs.Operations.{operation_layout}

@@ -13,15 +13,16 @@ use Rattle.cx_laws_keys.proofs.Lists.{all-map}
 use Rattle.cx_laws_keys.proofs.Premises.{AreGranted, behind}
 use Rattle.cx_laws_keys.proofs.Uses.{Grows, Uses, WholeRun}
 use Rattle.cx_laws_run.proofs.Events.{DaemonOk}
-use Rattle.cx_rules.specs.Inputs.{Input}
-use Rattle.cx_rules.specs.Links.{Link}
-use Rattle.cx_rules.specs.Rows.{arrival}
-use Rattle.cx_rules_session.specs.DaemonRule.{AsAcceptor, AsConnector, DaemonNode, DaemonStage, DaemonState, daemon_step, me}
-use Rattle.cx_rules_session.specs.Kinds.{arrival_in}
+use Rattle.cx_laws_queues.specs.cx_rules.specs.Inputs.{Input}
+use Rattle.cx_laws_queues.specs.cx_rules.specs.Links.{Link}
+use Rattle.cx_laws_queues.specs.cx_rules.specs.Rows.{arrival}
+use Rattle.cx_laws_queues.specs.cx_rules_session.specs.DaemonRule.{AsAcceptor, AsConnector, DaemonNode, DaemonStage, DaemonState, daemon_step, me}
+use Rattle.cx_laws_queues.specs.cx_rules_session.specs.Kinds.{arrival_in}
 use Rattle.cx_steps.specs.declared.seals.Logged.{Logged}
-use Rattle.cx_laws_links.proofs.GuestNodes.{LinksKnown}
-use Rattle.cx_laws_links.proofs.GuestWords.{AreSpelled}
-use Rattle.cx_laws_links.proofs.Known.{AreTold, Told}
+use Rattle.cx_laws_answers.specs.cx_laws_links.proofs.GuestNodes.{LinksKnown}
+use Rattle.cx_laws_answers.specs.cx_laws_links.proofs.GuestWords.{AreSpelled}
+use Rattle.cx_laws_answers.specs.cx_laws_links.proofs.Known.{AreTold, Told}
+use Rattle.cx_laws_answers.specs.cx_laws_links.proofs.Spoken.{is_connectors}
 use Rattle.cx_laws_sent.proofs.AskerSteps.{OwnStands, fetches-none, own_turn-none}
 use Rattle.cx_laws_sent.proofs.DaemonSteps.{daemon-behind_as}
 use Rattle.cx_laws_sent.proofs.DaemonTurns.{AsksSilently}
@@ -31,7 +32,7 @@ own-stands : (run : WholeRun) (vs : Uses) (n : NodeName) (number : ℕ) (stage :
 own-stands run vs n number (AsAcceptor stage) h = tt
 own-stands run vs n number (AsConnector stage) h = h
 
-own-stand : (run : WholeRun) (vs : Uses) (n : NodeName) (links : List (Link DaemonStage)) → LinksHave run n vs links → AllByRecursion (λ (l : Link DaemonStage). OwnStands vs n l.stage) links
+pub own-stand : (run : WholeRun) (vs : Uses) (n : NodeName) (links : List (Link DaemonStage)) → LinksHave run n vs links → AllByRecursion (λ (l : Link DaemonStage). OwnStands vs n l.stage) links
 own-stand run vs n links h =
     all-map (λ (l : Link DaemonStage). DaemonStageOk run vs n l.number l.stage) (λ (l : Link DaemonStage). OwnStands vs n l.stage) (λ l st. own-stands run vs n l.number l.stage st) links h
 
@@ -40,8 +41,8 @@ pub asks-silently : (run : WholeRun) (vs : Uses) (n : NodeName) (d : DaemonNode)
 asks-silently run vs n d reading draw = record {
   turns = λ link stage one all key name tie is.
       let b = arrival (me d.own) d.own link reading draw in
-      own_turn-none vs n one key name tie is d reading draw b (arrival_in b d.own.asker stage) stage (own-stand run vs n _ all);
-  asks = λ one all key name tie is. fetches-none vs n one key name tie is d reading draw (own-stand run vs n _ all);
+      own_turn-none vs n one key name tie is is_connectors d reading draw b (arrival_in b d.own.asker stage) stage (own-stand run vs n _ all);
+  asks = λ one all key name tie is. fetches-none vs n one key name tie is is_connectors d reading draw (own-stand run vs n _ all);
 }
 
 -- what is known behind each step of a daemon of this name

@@ -16,24 +16,24 @@ use Rattle.cx_laws_keys.proofs.Known.{Inv, Within}
 use Rattle.cx_laws_keys.proofs.Lists.{all-map}
 use Rattle.cx_laws_keys.proofs.Premises.{AreGranted, behind}
 use Rattle.cx_laws_keys.proofs.Uses.{Grows, Means, Use, Uses, WholeRun}
-use Rattle.cx_laws_login.proofs.Entering.{within-all}
-use Rattle.cx_laws_series.proofs.Contents.{contents-behind, contents_by, contents_in}
-use Rattle.cx_rules.specs.Links.{Link}
-use Rattle.cx_rules.specs.Rows.{Outcome}
-use Rattle.cx_rules_session.specs.DaemonRule.{AsAcceptor, AsConnector, DaemonNode, DaemonStage}
-use Rattle.cx_rules_session.specs.Guests.{GuestStage}
+use Rattle.cx_laws_run.specs.cx_laws_login.proofs.Entering.{within-all}
+use Rattle.cx_laws_answers.specs.cx_laws_series.proofs.Contents.{contents-behind, contents_by, contents_in}
+use Rattle.cx_laws_queues.specs.cx_rules.specs.Links.{Link}
+use Rattle.cx_laws_queues.specs.cx_rules.specs.Rows.{Outcome}
+use Rattle.cx_laws_queues.specs.cx_rules_session.specs.DaemonRule.{AsAcceptor, AsConnector, DaemonNode, DaemonStage}
+use Rattle.cx_laws_queues.specs.cx_rules_session.specs.Guests.{GuestStage}
 use Rattle.cx_steps.specs.declared.seals.Logged.{Logged}
 use Rattle.cx_steps.specs.declared.seals.SealEntry.{SealEntry}
-use Rattle.cx_laws_links.proofs.GuestNodes.{HostKnown, LinksKnown}
-use Rattle.cx_laws_links.proofs.GuestSteps.{serves-stays}
-use Rattle.cx_laws_links.proofs.GuestTakes.{EntryHeard, IsServedIn}
-use Rattle.cx_laws_links.proofs.Known.{AreTold, AsksFor, GuestTold, IsAsked, IsJoined, IsSpoken, Told}
-use Rattle.cx_laws_links.proofs.Lifting.{link-grows, silent-before, told-stays}
-use Rattle.cx_laws_links.proofs.Moving.{KeepsNonces, Quiets, moved-guest}
-use Rattle.cx_laws_links.proofs.Others.{link-one}
-use Rattle.cx_laws_links.proofs.Since.{Goes, since, since-within}
-use Rattle.cx_laws_links.proofs.Spoken.{is_connectors}
-use Rattle.cx_laws_links.proofs.Written.{IsLinkKey}
+use Rattle.cx_laws_answers.specs.cx_laws_links.proofs.GuestNodes.{HostKnown, LinksKnown}
+use Rattle.cx_laws_answers.specs.cx_laws_links.proofs.GuestSteps.{serves-stays}
+use Rattle.cx_laws_answers.specs.cx_laws_links.proofs.GuestTakes.{EntryHeard, IsServedIn}
+use Rattle.cx_laws_answers.specs.cx_laws_links.proofs.Known.{AreTold, AsksFor, GuestTold, IsAsked, IsJoined, IsSpoken, Told}
+use Rattle.cx_laws_answers.specs.cx_laws_links.proofs.Lifting.{link-grows, silent-before, told-stays}
+use Rattle.cx_laws_answers.specs.cx_laws_links.proofs.Moving.{KeepsNonces, Quiets, moved-guest}
+use Rattle.cx_laws_answers.specs.cx_laws_links.proofs.Others.{link-one}
+use Rattle.cx_laws_answers.specs.cx_laws_links.proofs.Since.{Goes, since, since-within}
+use Rattle.cx_laws_answers.specs.cx_laws_links.proofs.Spoken.{is_connectors}
+use Rattle.cx_laws_answers.specs.cx_laws_links.proofs.Written.{IsLinkKey}
 use Rattle.cx_laws_sent.proofs.State.{HeardLaw, IsLinkAt}
 
 -- each key has one use
@@ -202,11 +202,11 @@ module _ (run : WholeRun) (whole : List Logged) (us vs : Uses) (told : Told) (lo
 -- of an entity's link with this key, to which no session was joined
 pub heard-law : (run : WholeRun) (us : Uses) (told : Told) (log : List Logged) (J : List Entry) → IsOne us → AreTold run us told log J → (key : List ℕ) (name : Name) (e : Entry)
     → ((a : Admitted) → e ≡ journal.Admitted a → (cookie : ℕ) → Contains told.joins (key, cookie) → ⊥) → EntryHeard run told.said J key name e → HeardLaw run J e
-heard-law run us told log J one t key name (journal.Admitted a) unjoined h = λ free b has entity cookie.
+heard-law run us told log J one t key name (journal.Admitted a) unjoined h = λ free b has free_too cookie.
     let j : IsJoined us told b = t.joined b has in
     let asked : IsAsked run us told j.key b.cookie = t.asked j.key b.cookie j.joined in
     let whose : asked.name ≡ b.entity = (link-one us one j.key asked.name b.entity asked.tie j.tie asked.is j.is).0 in
-    let other : AsksFor told.said j.key b.cookie = asked.asks (subst (λ (m : Name). Contains run.leaked m → ⊥) (sym (whose ∙ entity)) free) in
+    let other : AsksFor told.said j.key b.cookie = asked.asks (subst (λ (m : Name). Contains run.leaked m → ⊥) (sym whose) free_too) in
     let own : AsksFor told.said key a.cookie = h.1 (subst (λ (m : Name). Contains run.leaked m → ⊥) h.0 free) in
     let same : j.key ≡ key = t.once j.key key a.cookie (subst (λ (k : ℕ). AsksFor told.said j.key k) cookie other) own in
     unjoined a refl a.cookie (subst (λ (k : List ℕ). Contains told.joins (k, a.cookie)) same (subst (λ (k : ℕ). Contains told.joins (j.key, k)) cookie j.joined))

@@ -21,21 +21,21 @@ use Rattle.cx_laws_run.proofs.Events.{DaemonOk}
 use Rattle.cx_laws_queues.specs.cx_laws_session.proofs.Daemons.{daemon-comes}
 use Rattle.cx_laws_queues.specs.cx_laws_session.proofs.Moves.{Admitting, Ending, IsQuiet, IsRight, LinksServe, Rested, Resuming, StepComes}
 use Rattle.cx_authorize.specs.Daemon.{Authority}
-use Rattle.cx_rules.specs.Acceptor.{AwaitsBanner, AwaitsHello, AwaitsRequest, AwaitsProof, AwaitsSignature, AwaitsIdent, Open}
-use Rattle.cx_rules.specs.Connector as connector
-use Rattle.cx_rules.specs.Greetings.{own_banner}
-use Rattle.cx_rules.specs.Holdings.{Asker}
-use Rattle.cx_rules.specs.Inputs.{Input, Opened, NoLink, Bytes, Turn, Gone, Look, Tick, Submit, Restart}
-use Rattle.cx_rules.specs.Links.{Link, link_of}
-use Rattle.cx_rules.specs.Requests.{Requests, asks_rotating, first_open, is_outdated, sealed_request, sends_request}
-use Rattle.cx_rules.specs.Rows.{Arrival, Outcome, Row, arrival, carried_out, fed, forgotten, goes_on, idles, lifted, new_link, refused_entry, refuses}
-use Rattle.cx_rules.specs.Secured.{SealedFrame, Secured}
-use Rattle.cx_rules.specs.declared.requests.Want.TheVariants as want
-use Rattle.cx_rules_session.specs.Asks.{Finished, Asking}
-use Rattle.cx_rules_session.specs.DaemonRule.{AsAcceptor, AsConnector, Daemon, DaemonNode, DaemonStage, DaemonState, asking_open, book_after, book_reply, daemon_rule, daemon_step, ended_entry, fetches, fetches_on, gone, gone_by_kind, guest_gone, is_fetching, is_in, looks, loses, lossy_gone, me, on_dropped, open_to_ask, opens, opens_own, restarted, shut_where, submits, ticks, undialled, unreached, with_asker}
-use Rattle.cx_rules_session.specs.Guests.{GuestStage, Served}
-use Rattle.cx_run.proofs.DaemonNamed.{daemon-named}
-use Rattle.cx_run.proofs.GuestTakes.{Always, always-book}
+use Rattle.cx_laws_queues.specs.cx_rules.specs.Acceptor.{AwaitsBanner, AwaitsHello, AwaitsRequest, AwaitsProof, AwaitsSignature, AwaitsIdent, Open}
+use Rattle.cx_laws_queues.specs.cx_rules.specs.Connector as connector
+use Rattle.cx_laws_queues.specs.cx_rules.specs.Greetings.{own_banner}
+use Rattle.cx_laws_queues.specs.cx_rules.specs.Holdings.{Asker}
+use Rattle.cx_laws_queues.specs.cx_rules.specs.Inputs.{Input, Opened, NoLink, Bytes, Turn, Gone, Look, Tick, Submit, Restart}
+use Rattle.cx_laws_queues.specs.cx_rules.specs.Links.{Link, link_of}
+use Rattle.cx_laws_queues.specs.cx_rules.specs.Requests.{Requests, asks_rotating, first_open, is_outdated, sealed_request, sends_request}
+use Rattle.cx_laws_queues.specs.cx_rules.specs.Rows.{Arrival, Outcome, Row, arrival, carried_out, fed, forgotten, goes_on, idles, lifted, new_link, refused_entry, refuses}
+use Rattle.cx_laws_queues.specs.cx_rules.specs.Secured.{SealedFrame, Secured}
+use Rattle.cx_laws_queues.specs.cx_rules.specs.declared.requests.Want.TheVariants as want
+use Rattle.cx_laws_queues.specs.cx_rules_session.specs.Asks.{Finished, Asking}
+use Rattle.cx_laws_queues.specs.cx_rules_session.specs.DaemonRule.{AsAcceptor, AsConnector, Daemon, DaemonNode, DaemonStage, DaemonState, asking_open, book_after, book_reply, daemon_rule, daemon_step, ended_entry, fetches, fetches_on, gone, gone_by_kind, guest_gone, is_fetching, is_in, looks, loses, lossy_gone, me, on_dropped, open_to_ask, opens, opens_own, restarted, shut_where, submits, ticks, undialled, unreached, with_asker}
+use Rattle.cx_laws_queues.specs.cx_rules_session.specs.Guests.{GuestStage, Served}
+use Rattle.cx_laws_queues.specs.cx_run.proofs.DaemonNamed.{daemon-named}
+use Rattle.cx_laws_queues.specs.cx_run.proofs.GuestTakes.{Always, always-book}
 use Rattle.cx_session.specs.Book.{Book}
 use Rattle.cx_session.specs.declared.call.BookCall.TheVariants.{End}
 use Rattle.cx_session.specs.declared.call.BookReply.{BookReply}
@@ -48,10 +48,10 @@ use Rattle.cx_steps.specs.declared.events.Peer.TheVariants as peer
 use Rattle.cx_steps.specs.declared.seals.Logged.{Logged}
 use Rattle.cx_steps.specs.declared.seals.SealEntry.{SealEntry}
 use Rattle.cx_wire.specs.declared.bodies.Request.TheVariants as asked
-use Rattle.cx_laws_links.proofs.GuestNodes.{HostKnown, LinksKnown}
-use Rattle.cx_laws_links.proofs.GuestWords.{AreSpelled}
-use Rattle.cx_laws_links.proofs.Known.{AreTold, Told}
-use Rattle.cx_laws_links.proofs.Since.{since}
+use Rattle.cx_laws_answers.specs.cx_laws_links.proofs.GuestNodes.{HostKnown, LinksKnown}
+use Rattle.cx_laws_answers.specs.cx_laws_links.proofs.GuestWords.{AreSpelled}
+use Rattle.cx_laws_answers.specs.cx_laws_links.proofs.Known.{AreTold, Told}
+use Rattle.cx_laws_answers.specs.cx_laws_links.proofs.Since.{since}
 use Rattle.cx_laws_sent.proofs.DaemonKnown.{AdmitsFirst, AdmitsNone, GoesOn, GoesOrEnds, IsOne, IsSilent, IsStill, IsUnheard, Keeps, StepKnown, heard-behind, host-lifts, hosts-lift, quiet-known, still-unheard, still-within}
 use Rattle.cx_laws_sent.proofs.DaemonTurns.{AsksSilently, LinkGoes, rests-known, row-known, turn-stays}
 use Rattle.cx_laws_sent.proofs.State.{DaemonBehind}

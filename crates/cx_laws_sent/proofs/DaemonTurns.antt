@@ -23,30 +23,30 @@ use Rattle.cx_laws_keys.proofs.Premises.{AreGranted, behind}
 use Rattle.cx_laws_keys.proofs.Uses.{AreGenerated, AtDaemon, Connected, Grows, Uses, WholeRun}
 use Rattle.cx_laws_queues.specs.cx_laws_session.proofs.Askers.{EntersNone, asker-enters}
 use Rattle.cx_laws_queues.specs.cx_laws_session.proofs.Moves.{IsQuiet}
-use Rattle.cx_laws_login.proofs.Proving.{RowOf}
-use Rattle.cx_rules.specs.Acceptor.{AwaitsBanner, AwaitsHello, AwaitsRequest, AwaitsProof, AwaitsSignature, AwaitsIdent, Open}
-use Rattle.cx_rules.specs.Connector as connector
-use Rattle.cx_rules.specs.Connector.{AskerArrival}
-use Rattle.cx_rules.specs.Holdings.{Asker}
-use Rattle.cx_rules.specs.Links.{Link, link_of}
-use Rattle.cx_rules.specs.Rows.{Arrival, Outcome, Row, Turned, Waits, Refuses, Handles, arrival, carried_out, idles, links_behind, refuses_bytes, turns}
-use Rattle.cx_rules.specs.Secured.{Secured}
-use Rattle.cx_rules_session.specs.Asks.{Asks, Finished, Asking}
-use Rattle.cx_rules_session.specs.DaemonRule.{AsAcceptor, AsConnector, Daemon, DaemonNode, DaemonStage, fetches, hosts, is_older, me, moved_to, turn, turned_at, with_asker}
-use Rattle.cx_rules_session.specs.Guests.{GuestArrival, GuestRow, GuestStage, Served}
-use Rattle.cx_rules_session.specs.Hosting.{Deciding, Hosted, guest_turned}
-use Rattle.cx_rules_session.specs.Kinds.{arrival_in, of_kind, row_of_kind, turn_of_kind}
-use Rattle.cx_run.proofs.GuestTakes.{Always, TakesHosted, always-map, always-weaker, guest-takes}
-use Rattle.cx_run.proofs.Taking.{EachRow, Takes, TurnTakes}
+use Rattle.cx_laws_run.specs.cx_laws_login.proofs.Proving.{RowOf}
+use Rattle.cx_laws_queues.specs.cx_rules.specs.Acceptor.{AwaitsBanner, AwaitsHello, AwaitsRequest, AwaitsProof, AwaitsSignature, AwaitsIdent, Open}
+use Rattle.cx_laws_queues.specs.cx_rules.specs.Connector as connector
+use Rattle.cx_laws_queues.specs.cx_rules.specs.Connector.{AskerArrival}
+use Rattle.cx_laws_queues.specs.cx_rules.specs.Holdings.{Asker}
+use Rattle.cx_laws_queues.specs.cx_rules.specs.Links.{Link, link_of}
+use Rattle.cx_laws_queues.specs.cx_rules.specs.Rows.{Arrival, Outcome, Row, Turned, Waits, Refuses, Handles, arrival, carried_out, idles, links_behind, refuses_bytes, turns}
+use Rattle.cx_laws_queues.specs.cx_rules.specs.Secured.{Secured}
+use Rattle.cx_laws_queues.specs.cx_rules_session.specs.Asks.{Asks, Finished, Asking}
+use Rattle.cx_laws_queues.specs.cx_rules_session.specs.DaemonRule.{AsAcceptor, AsConnector, Daemon, DaemonNode, DaemonStage, fetches, hosts, is_older, me, moved_to, turn, turned_at, with_asker}
+use Rattle.cx_laws_queues.specs.cx_rules_session.specs.Guests.{GuestArrival, GuestRow, GuestStage, Served}
+use Rattle.cx_laws_queues.specs.cx_rules_session.specs.Hosting.{Deciding, Hosted, guest_turned}
+use Rattle.cx_laws_queues.specs.cx_rules_session.specs.Kinds.{arrival_in, of_kind, row_of_kind, turn_of_kind}
+use Rattle.cx_laws_queues.specs.cx_run.proofs.GuestTakes.{Always, TakesHosted, always-map, always-weaker, guest-takes}
+use Rattle.cx_laws_queues.specs.cx_run.proofs.Taking.{EachRow, Takes, TurnTakes}
 use Rattle.cx_steps.specs.declared.seals.Logged.{Logged}
 use Rattle.cx_steps.specs.declared.seals.SealEntry.{SealEntry}
-use Rattle.cx_laws_links.proofs.GuestNodes.{HostKnown, LinksKnown, links-known, passing}
-use Rattle.cx_laws_links.proofs.GuestSteps.{row-told}
-use Rattle.cx_laws_links.proofs.GuestTakes.{EntryHeard, HearsHosted, HearsRow, HearsTurned, IsOfNoConnector, guest-hears, joins_behind, joins_by, turned_seals}
-use Rattle.cx_laws_links.proofs.GuestWords.{AreSpelled}
-use Rattle.cx_laws_links.proofs.Known.{AreTold, IsGuest, Told}
-use Rattle.cx_laws_links.proofs.Since.{since}
-use Rattle.cx_laws_links.proofs.Written.{IsLinkKey}
+use Rattle.cx_laws_answers.specs.cx_laws_links.proofs.GuestNodes.{HostKnown, LinksKnown, links-known, passing}
+use Rattle.cx_laws_answers.specs.cx_laws_links.proofs.GuestSteps.{row-told}
+use Rattle.cx_laws_answers.specs.cx_laws_links.proofs.GuestTakes.{EntryHeard, HearsHosted, HearsRow, HearsTurned, IsOfNoConnector, guest-hears, joins_behind, joins_by, turned_seals}
+use Rattle.cx_laws_answers.specs.cx_laws_links.proofs.GuestWords.{AreSpelled}
+use Rattle.cx_laws_answers.specs.cx_laws_links.proofs.Known.{AreTold, IsGuest, Told}
+use Rattle.cx_laws_answers.specs.cx_laws_links.proofs.Since.{since}
+use Rattle.cx_laws_answers.specs.cx_laws_links.proofs.Written.{IsLinkKey}
 use Rattle.cx_laws_sent.proofs.DaemonKnown.{IsOne, IsSilent, IsStill, IsUnheard, Keeps, heard-law, host-lifts, hosts-lift, quiet-known, still-unheard, still-within, told-lifts}
 use Rattle.cx_laws_sent.proofs.GuestsBefore.{HostedBegins, IsBefore, LinkBegins, TurnedBegins, before-begins}
 use Rattle.cx_laws_sent.proofs.State.{HeardLaw, IsLinkAt}
@@ -188,7 +188,7 @@ module _ (run : WholeRun) (whole : List Logged) (us vs : Uses) (told : Told) (lo
       let rule : Deciding Hosted = guest_turned handlers (guest_at link stage) stage in
       always-map Stays (hosts d (at_link link)) rule
       (always-weaker (HostedBegins run whole vs told log n line d.own.asker.name) (λ (h : Hosted). Stays (hosts d (at_link link) h)) (hosted-begins link) rule
-      (before-begins run whole vs told log n line d.own.asker.name us J i f t (guest_at link stage) generated drawn handlers stage is))
+      (before-begins run whole vs told log n line d.own.asker.name us J i f t (guest_at link stage) generated drawn refl handlers stage is))
 
   -- ---- behind authentication
 

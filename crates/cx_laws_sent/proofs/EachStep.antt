@@ -8,22 +8,22 @@ use Rattle.cx_base.specs.declared.operations.Operation.{Operation}
 use Rattle.cx_journal.specs.declared.outcomes.Reason.{Reason}
 use Rattle.cx_journal.specs.declared.outcomes.Reason.TheVariants as reason
 use Rattle.cx_login.specs.Held.{Held}
-use Rattle.cx_rules.specs.Connector as connector
-use Rattle.cx_rules.specs.Inputs.{Input, Opened, NoLink, Bytes, Turn, Gone, Look, Tick, Submit, Restart}
-use Rattle.cx_rules.specs.Links.{Link, link_of}
-use Rattle.cx_rules.specs.Requests.{Requests, first_open}
-use Rattle.cx_rules.specs.Rows.{Outcome, fed, idles, turns}
-use Rattle.cx_rules.specs.Secured.{Secured}
-use Rattle.cx_rules_session.specs.ClientRule.{ClientStage, ToMonitor, ToDaemon, Dial, WholeClientNode, asking_open, calls, calls_with, connects, dial_of, first_call, is_to, logs_in, loses, opens, opens_dialled, pushes, queue_reason, refuses_command, renews, renews_on, restarted, sends, sends_in, submits, turn, turned_at, unreached, whole_client_rule}
-use Rattle.cx_rules_session.specs.Presenter.{CallStage}
-use Rattle.cx_rules_session.specs.Sessions.{Callee, HeldSession, held_gid, session_with, ticket_for}
+use Rattle.cx_laws_queues.specs.cx_rules.specs.Connector as connector
+use Rattle.cx_laws_queues.specs.cx_rules.specs.Inputs.{Input, Opened, NoLink, Bytes, Turn, Gone, Look, Tick, Submit, Restart}
+use Rattle.cx_laws_queues.specs.cx_rules.specs.Links.{Link, link_of}
+use Rattle.cx_laws_queues.specs.cx_rules.specs.Requests.{Requests, first_open}
+use Rattle.cx_laws_queues.specs.cx_rules.specs.Rows.{Outcome, fed, idles, turns}
+use Rattle.cx_laws_queues.specs.cx_rules.specs.Secured.{Secured}
+use Rattle.cx_laws_queues.specs.cx_rules_session.specs.ClientRule.{ClientStage, ToMonitor, ToDaemon, Dial, WholeClientNode, asking_open, calls, calls_with, connects, dial_of, first_call, is_to, logs_in, loses, opens, opens_dialled, pushes, queue_reason, refuses_command, renews, renews_on, restarted, sends, sends_in, submits, turn, turned_at, unreached, whole_client_rule}
+use Rattle.cx_laws_queues.specs.cx_rules_session.specs.Presenter.{CallStage}
+use Rattle.cx_laws_queues.specs.cx_rules_session.specs.Sessions.{Callee, HeldSession, held_gid, session_with, ticket_for}
 use Rattle.cx_session.specs.Queue.{push_reply}
 use Rattle.cx_session.specs.declared.outbox.QueueFault.{QueueFault}
 use Rattle.cx_session.specs.declared.outbox.QueueFault.TheVariants as queue
 use Rattle.cx_steps.specs.declared.events.Command.{Command}
 use Rattle.cx_steps.specs.declared.events.Command.TheVariants as command
 use Rattle.cx_steps.specs.declared.events.Peer.{Peer}
-use Rattle.cx_run.proofs.Outcomes.{IsNoTicket, asker_turn, call_turn, on_link, renewed, sent_in}
+use Rattle.cx_laws_queues.specs.cx_run.proofs.Outcomes.{IsNoTicket, asker_turn, call_turn, on_link, renewed, sent_in}
 
 module _ (c : WholeClientNode) (reading : ℕ) (draw : List ℕ) where
   module _ (input : Input) (P : Outcome WholeClientNode → Type 0) where

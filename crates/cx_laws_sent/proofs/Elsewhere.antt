@@ -13,7 +13,7 @@ use Rattle.cx_journal.specs.declared.entries.Entry.{Entry}
 use Rattle.cx_journal.specs.declared.entries.Entry.TheVariants as journal
 use Rattle.cx_laws_keys.proofs.Journal.{entered}
 use Rattle.cx_laws_keys.proofs.Known.{Within}
-use Rattle.cx_laws_links.proofs.Since.{Goes, since, since-within}
+use Rattle.cx_laws_answers.specs.cx_laws_links.proofs.Since.{Goes, since, since-within}
 use Rattle.cx_laws_sent.proofs.Lives.{leaves-goes}
 use Rattle.cx_laws_queues.specs.cx_laws_session.proofs.Clients.{IsMute, client-mute, mute-leaves}
 use Rattle.cx_laws_queues.specs.cx_laws_session.proofs.Daemons.{daemon-comes}
@@ -24,14 +24,14 @@ use Rattle.cx_laws_queues.specs.cx_laws_session.proofs.Moves.{Admitting, Comes, 
 use Rattle.cx_laws_queues.specs.cx_laws_session.proofs.Standing.{LeavesOf}
 use Rattle.cx_line_words.specs.declared.choices.LeftState.{LeftState}
 use Rattle.cx_rotate.specs.declared.states.KeptState.{KeptState}
-use Rattle.cx_rules.specs.Monitor.{MonitorNode}
-use Rattle.cx_rules.specs.MonitorRule.{monitor_rule}
-use Rattle.cx_rules.specs.Inputs.{Input}
-use Rattle.cx_rules.specs.Rows.{Outcome}
-use Rattle.cx_rules_session.specs.ClientRule.{me}
-use Rattle.cx_rules_session.specs.DaemonRule.{DaemonState, daemon_step}
-use Rattle.cx_rules_session.specs.Guests.{Served}
-use Rattle.cx_run.specs.Happenings.{EntityNode, OfClient, OfDaemon, Happening, Nodes, asker_in, entity_of, entity_rule, entity_steps, is_of, monitor_steps, steps_of}
+use Rattle.cx_laws_queues.specs.cx_rules.specs.Monitor.{MonitorNode}
+use Rattle.cx_laws_queues.specs.cx_rules.specs.MonitorRule.{monitor_rule}
+use Rattle.cx_laws_queues.specs.cx_rules.specs.Inputs.{Input}
+use Rattle.cx_laws_queues.specs.cx_rules.specs.Rows.{Outcome}
+use Rattle.cx_laws_queues.specs.cx_rules_session.specs.ClientRule.{me}
+use Rattle.cx_laws_queues.specs.cx_rules_session.specs.DaemonRule.{DaemonState, daemon_step}
+use Rattle.cx_laws_queues.specs.cx_rules_session.specs.Guests.{Served}
+use Rattle.cx_laws_queues.specs.cx_run.specs.Happenings.{EntityNode, OfClient, OfDaemon, Happening, Nodes, asker_in, entity_of, entity_rule, entity_steps, is_of, monitor_steps, steps_of}
 use Rattle.cx_session.specs.Book.{Book}
 
 all-go : (daemon : Name) (es : List Entry) → AllByRecursion (LeavesOf daemon) es → AllByRecursion (Goes daemon) es

@@ -18,37 +18,37 @@ use Rattle.cx_laws_keys.proofs.Known.{Inv, IsAllowed, Within}
 use Rattle.cx_laws_keys.proofs.Lists.{all-map, found_all, found_passes, map-append}
 use Rattle.cx_laws_keys.proofs.Premises.{AreGranted, IsGranted, behind, granted-step}
 use Rattle.cx_laws_keys.proofs.Uses.{Uses, WholeRun}
-use Rattle.cx_laws_links.proofs.GuestNodes.{LinksKnown}
-use Rattle.cx_laws_links.proofs.GuestWords.{AreSpelled}
-use Rattle.cx_laws_links.proofs.Known.{AreTold, Told}
-use Rattle.cx_laws_links.proofs.Lifting.{told-stays}
-use Rattle.cx_laws_links.proofs.Spoken.{is_connectors}
-use Rattle.cx_laws_links.proofs.Written.{IsLinkKey, all-behind, elsewhere}
-use Rattle.cx_laws_login.proofs.Entering.{within-all}
+use Rattle.cx_laws_answers.specs.cx_laws_links.proofs.GuestNodes.{LinksKnown}
+use Rattle.cx_laws_answers.specs.cx_laws_links.proofs.GuestWords.{AreSpelled}
+use Rattle.cx_laws_answers.specs.cx_laws_links.proofs.Known.{AreTold, Told}
+use Rattle.cx_laws_answers.specs.cx_laws_links.proofs.Lifting.{told-stays}
+use Rattle.cx_laws_answers.specs.cx_laws_links.proofs.Spoken.{is_connectors}
+use Rattle.cx_laws_answers.specs.cx_laws_links.proofs.Written.{IsLinkKey, all-behind, elsewhere}
+use Rattle.cx_laws_run.specs.cx_laws_login.proofs.Entering.{within-all}
 use Rattle.cx_laws_queues.proofs.Runs.{AllQueues, EntityQueues, node-run}
 use Rattle.cx_laws_run.proofs.Events.{AllOccur, DaemonOk, EntityOk, NodesOk, entered-append, entries-by, event-after, good-behind}
 use Rattle.cx_laws_run.proofs.Journals.{behind-append}
 use Rattle.cx_laws_run.specs.Laws.{AreBytes}
-use Rattle.cx_laws_series.proofs.Contents.{contents_by}
+use Rattle.cx_laws_answers.specs.cx_laws_series.proofs.Contents.{contents_by}
 use Rattle.cx_laws_queues.specs.cx_laws_session.proofs.Clients.{IsMute, client-mute}
 use Rattle.cx_laws_queues.specs.cx_laws_session.proofs.Monitors.{monitor-mute}
 use Rattle.cx_line_words.specs.declared.choices.LeftState.{LeftState}
 use Rattle.cx_rotate.specs.declared.states.KeptState.{KeptState}
-use Rattle.cx_rules.specs.Monitor.{MonitorNode}
-use Rattle.cx_rules.specs.MonitorRule.{monitor_rule}
-use Rattle.cx_rules.specs.Rows.{Outcome}
-use Rattle.cx_rules_session.specs.ClientRule.{WholeClientNode, me, whole_client_rule}
-use Rattle.cx_rules_session.specs.DaemonRule.{DaemonState, daemon_step}
-use Rattle.cx_run.proofs.DaemonNamed.{daemon-named}
-use Rattle.cx_run.specs.Happenings.{Entered, EntityNode, Happening, Nodes, OfClient, OfDaemon, Stepped, asker_in, entered_by, entity_of, entity_steps, is_of, journal_from, monitor_steps, seals_from, steps, steps_of}
-use Rattle.cx_run.specs.Visits.{IsNoLook, IsUnvisited}
+use Rattle.cx_laws_queues.specs.cx_rules.specs.Monitor.{MonitorNode}
+use Rattle.cx_laws_queues.specs.cx_rules.specs.MonitorRule.{monitor_rule}
+use Rattle.cx_laws_queues.specs.cx_rules.specs.Rows.{Outcome}
+use Rattle.cx_laws_queues.specs.cx_rules_session.specs.ClientRule.{WholeClientNode, me, whole_client_rule}
+use Rattle.cx_laws_queues.specs.cx_rules_session.specs.DaemonRule.{DaemonState, daemon_step}
+use Rattle.cx_laws_queues.specs.cx_run.proofs.DaemonNamed.{daemon-named}
+use Rattle.cx_laws_queues.specs.cx_run.specs.Happenings.{Entered, EntityNode, Happening, Nodes, OfClient, OfDaemon, Stepped, asker_in, entered_by, entity_of, entity_steps, is_of, journal_from, monitor_steps, seals_from, steps, steps_of}
+use Rattle.cx_laws_queues.specs.cx_run.specs.Visits.{IsNoLook, IsUnvisited}
 use Rattle.cx_steps.specs.Onto.{EachOnto}
 use Rattle.cx_steps.specs.declared.seals.Logged.{Logged}
 use Rattle.cx_laws_sent.proofs.OtherNodes.{acceptors-one, all-replaced, moved-entity, one-replaced, silent-entity}
-use Rattle.cx_laws_links.proofs.Since.{since}
+use Rattle.cx_laws_answers.specs.cx_laws_links.proofs.Since.{since}
 use Rattle.cx_laws_sent.proofs.Elsewhere.{entity-within, mute-within}
 use Rattle.cx_laws_sent.proofs.State.{ClientBehind, DaemonBehind, EntitiesKnown, EntityKnown, HeardLaw, IsLinkAt}
-use Rattle.cx_laws_sent.proofs.Steps.{ClientStep, DaemonStep}
+use Rattle.cx_laws_sent.proofs.Steps.{ClientReady, ClientStep, DaemonReady, DaemonStep}
 use Rattle.cx_laws_sent.specs.Fitting.{AreFit, IsFit}
 
 -- ---- entries of nodes that have no sessions
@@ -112,9 +112,10 @@ module _ (run : WholeRun) (whole : List Logged) (client_step : ClientStep run wh
 
     -- ---- of a node that says nothing, and changes no entity
 
-    silent-known : (n : NodeName) (line : ℕ) (s : Stepped) → (a : AfterStepped n line s) → s.nodes.entities ≡ nodes.entities → AllByRecursion (IsMute n) s.out.entries
-        → ((daemon : Name) → Within (since daemon J) (since daemon (entered J s.out.entries))) → ((key : List ℕ) (name : Name) (tie : ℕ) → IsLinkKey a.uses key name tie → contents_by key is_connectors s.out.seals ≡ []) → KnownBehind run a.uses log n line J s
-    silent-known n line s a same mute w quiet =
+    pub silent-run : (n : NodeName) (line : ℕ) (s : Stepped) → (a : AfterStepped n line s) → s.nodes.entities ≡ nodes.entities → AllByRecursion (IsMute n) s.out.entries
+        → ((daemon : Name) → Within (since daemon J) (since daemon (entered J s.out.entries))) → ((key : List ℕ) (name : Name) (tie : ℕ) → IsLinkKey a.uses key name tie → contents_by key is_connectors s.out.seals ≡ [])
+        → RunKnown run a.uses told (behind n line s.out.seals log) (entered J s.out.entries) s.nodes.entities
+    silent-run n line s a same mute w quiet =
         let K : List Entry = entered J s.out.entries in
         let later : List Logged = behind n line s.out.seals log in
         let all : EntitiesKnown run a.uses told later K nodes.entities =
@@ -122,40 +123,41 @@ module _ (run : WholeRun) (whole : List Logged) (client_step : ClientStep run wh
         (λ e h. silent-entity run us a.uses i.one a.inv.one a.grows told log n line s.out.seals J K quiet told.joins e (w (asker_in e).name) (λ key cookie has. inl has) h)
         nodes.entities known.all in
         record {
-          next = told;
-          known = record {
-            known_of = told-stays run whole us a.uses told log J K n line s.out.seals a.inv.one a.grows (within-all J s.out.entries) i quiet (mute-admits n J s.out.entries mute) known.known_of;
-            spelled = known.spelled;
-            all = subst (λ (es : List EntityNode). EntitiesKnown run a.uses told later K es) (sym same) all;
-          };
-          heard = mute-heard run n J s.out.entries mute;
+          known_of = told-stays run whole us a.uses told log J K n line s.out.seals a.inv.one a.grows (within-all J s.out.entries) i quiet (mute-admits n J s.out.entries mute) known.known_of;
+          spelled = known.spelled;
+          all = subst (λ (es : List EntityNode). EntitiesKnown run a.uses told later K es) (sym same) all;
         }
+
+    silent-known : (n : NodeName) (line : ℕ) (s : Stepped) → (a : AfterStepped n line s) → s.nodes.entities ≡ nodes.entities → AllByRecursion (IsMute n) s.out.entries
+        → ((daemon : Name) → Within (since daemon J) (since daemon (entered J s.out.entries))) → ((key : List ℕ) (name : Name) (tie : ℕ) → IsLinkKey a.uses key name tie → contents_by key is_connectors s.out.seals ≡ []) → KnownBehind run a.uses log n line J s
+    silent-known n line s a same mute w quiet = record { next = told; known = silent-run n line s a same mute w quiet; heard = mute-heard run n J s.out.entries mute }
 
     -- ---- the monitor
 
-    monitor-known : (line : ℕ) (s : Stepped) → (a : AfterStepped node.Monitor line s) → s.nodes.entities ≡ nodes.entities → AllByRecursion (IsMute node.Monitor) s.out.entries
-        → KnownBehind run a.uses log node.Monitor line J s
-    monitor-known line s a same mute =
+    pub monitor-run : (line : ℕ) (s : Stepped) → (a : AfterStepped node.Monitor line s) → s.nodes.entities ≡ nodes.entities → AllByRecursion (IsMute node.Monitor) s.out.entries
+        → RunKnown run a.uses told (behind node.Monitor line s.out.seals log) (entered J s.out.entries) s.nodes.entities
+    monitor-run line s a same mute =
         let K : List Entry = entered J s.out.entries in
         let allowed : AllByRecursion (IsAllowed a.uses K node.Monitor) s.out.seals =
         (all-behind (λ (at : Logged). IsAllowed a.uses K at.node at.entry) node.Monitor line s.out.seals log a.inv.allowed).0 in
-        silent-known node.Monitor line s a same mute (λ daemon. mute-within node.Monitor daemon refl s.out.entries J mute)
+        silent-run node.Monitor line s a same mute (λ daemon. mute-within node.Monitor daemon refl s.out.entries J mute)
         (λ key name tie is. elsewhere a.uses K node.Monitor key name tie a.inv.one is (entity-apart name) s.out.seals allowed)
+
+    monitor-known : (line : ℕ) (s : Stepped) → (a : AfterStepped node.Monitor line s) → s.nodes.entities ≡ nodes.entities → AllByRecursion (IsMute node.Monitor) s.out.entries
+        → KnownBehind run a.uses log node.Monitor line J s
+    monitor-known line s a same mute = record { next = told; known = monitor-run line s a same mute; heard = mute-heard run node.Monitor J s.out.entries mute }
 
     -- ---- an entity
 
-    client-known : (h : Happening) (name : Name) (c : WholeClientNode) → entity_of name nodes ≡ Some (OfClient c) → Comes run (node.Entity name) h
+    pub client-ready : (h : Happening) (name : Name) (c : WholeClientNode) → entity_of name nodes ≡ Some (OfClient c) → Comes run (node.Entity name) h
         → AreGranted run.leaked whole (node.Entity name) h.line log (whole_client_rule c h.input h.reading h.draw).out.seals
         → (a : AfterStepped (node.Entity name) h.line (entity_steps nodes h name (Some (OfClient c))))
-        → KnownBehind run a.uses log (node.Entity name) h.line J (entity_steps nodes h name (Some (OfClient c)))
-    client-known h name c found comes g a =
+        → ClientReady run whole us a.uses told log h.line J name c h.input h.draw (whole_client_rule c h.input h.reading h.draw)
+    client-ready h name c found comes g a =
         let o : Outcome WholeClientNode = whole_client_rule c h.input h.reading h.draw in
         let K : List Entry = entered J o.out.entries in
-        let later : List Logged = behind (node.Entity name) h.line o.out.seals log in
-        let named : c.own.asker.name ≡ name = same_name_is c.own.asker.name name (found_passes (is_of name) nodes.entities (OfClient c) found) in
-        let ok_behind : ClientOk run a.uses o.state = one-replaced (EntityOk run a.uses K) name (OfClient o.state) (OfClient c) nodes.entities found a.good.entities in
-        let b : ClientBehind run us a.uses told log h.line K name o = client_step us a.uses told log h.line J name c h.input h.reading h.draw (record {
-          named = named;
+        record {
+          named = same_name_is c.own.asker.name name (found_passes (is_of name) nodes.entities (OfClient c) found);
           inv = i;
           grows = a.grows;
           inv_behind = a.inv;
@@ -163,7 +165,7 @@ module _ (run : WholeRun) (whole : List Logged) (client_step : ClientStep run wh
           spelled = known.spelled;
           client = found_all (EntityKnown run us told log J) (is_of name) nodes.entities (OfClient c) known.all found;
           ok = found_all (EntityOk run us J) (is_of name) nodes.entities (OfClient c) ok.entities found;
-          ok_behind = ok_behind;
+          ok_behind = one-replaced (EntityOk run a.uses K) name (OfClient o.state) (OfClient c) nodes.entities found a.good.entities;
           queues = found_all (EntityQueues J) (is_of name) nodes.entities (OfClient c) queues found;
           drawn = comes.drawn;
           bytes = comes.bytes;
@@ -171,34 +173,53 @@ module _ (run : WholeRun) (whole : List Logged) (client_step : ClientStep run wh
           looks = comes.looks;
           comes = comes.comes;
           granted = g;
-        }) in
+        }
+
+    -- what is known of all entities where what a step of it comes to is
+    pub client-run : (h : Happening) (name : Name) (c : WholeClientNode) → entity_of name nodes ≡ Some (OfClient c)
+        → (a : AfterStepped (node.Entity name) h.line (entity_steps nodes h name (Some (OfClient c)))) →
+        let o : Outcome WholeClientNode = whole_client_rule c h.input h.reading h.draw in
+        (b : ClientBehind run us a.uses told log h.line (entered J o.out.entries) name c o)
+        → RunKnown run a.uses b.next (behind (node.Entity name) h.line o.out.seals log) (entered J o.out.entries) (entity_steps nodes h name (Some (OfClient c))).nodes.entities
+    client-run h name c found a b =
+        let o : Outcome WholeClientNode = whole_client_rule c h.input h.reading h.draw in
+        let K : List Entry = entered J o.out.entries in
+        let later : List Logged = behind (node.Entity name) h.line o.out.seals log in
+        let named : c.own.asker.name ≡ name = same_name_is c.own.asker.name name (found_passes (is_of name) nodes.entities (OfClient c) found) in
+        record {
+          known_of = b.known_of;
+          spelled = b.spelled;
+          all = all-replaced (EntityKnown run us told log J) (EntityKnown run a.uses b.next later K) name (OfClient o.state) b.client
+              (λ e apart x. moved-entity run us a.uses i.one a.inv.one a.grows told log (node.Entity name) h.line o.out.seals J K name b.number b.next b.moved e
+              (entity-within nodes h (OfClient c) (asker_in e).name (λ same. apart (sym same ∙ named)) J) apart x)
+              nodes.entities known.all;
+        }
+
+    client-known : (h : Happening) (name : Name) (c : WholeClientNode) → entity_of name nodes ≡ Some (OfClient c) → Comes run (node.Entity name) h
+        → AreGranted run.leaked whole (node.Entity name) h.line log (whole_client_rule c h.input h.reading h.draw).out.seals
+        → (a : AfterStepped (node.Entity name) h.line (entity_steps nodes h name (Some (OfClient c))))
+        → KnownBehind run a.uses log (node.Entity name) h.line J (entity_steps nodes h name (Some (OfClient c)))
+    client-known h name c found comes g a =
+        let o : Outcome WholeClientNode = whole_client_rule c h.input h.reading h.draw in
+        let b : ClientBehind run us a.uses told log h.line (entered J o.out.entries) name c o =
+        client_step us a.uses told log h.line J name c h.input h.reading h.draw (client-ready h name c found comes g a) in
         record {
           next = b.next;
-          known = record {
-            known_of = b.known_of;
-            spelled = b.spelled;
-            all = all-replaced (EntityKnown run us told log J) (EntityKnown run a.uses b.next later K) name (OfClient o.state) b.client
-                (λ e apart x. moved-entity run us a.uses i.one a.inv.one a.grows told log (node.Entity name) h.line o.out.seals J K name b.number b.next b.moved e
-                (entity-within nodes h (OfClient c) (asker_in e).name (λ same. apart (sym same ∙ named)) J) apart x)
-                nodes.entities known.all;
-          };
+          known = client-run h name c found a b;
           heard = mute-heard run (me c.own) J o.out.entries (client-mute c h.input h.reading h.draw);
         }
 
-    daemon-known : (h : Happening) (name : Name) (d : DaemonState) → entity_of name nodes ≡ Some (OfDaemon d) → Comes run (node.Entity name) h
+    pub daemon-ready : (h : Happening) (name : Name) (d : DaemonState) → entity_of name nodes ≡ Some (OfDaemon d) → Comes run (node.Entity name) h
         → AreGranted run.leaked whole (node.Entity name) h.line log (daemon_step nodes.handlers d h.input h.reading h.draw).out.seals
         → (a : AfterStepped (node.Entity name) h.line (entity_steps nodes h name (Some (OfDaemon d))))
-        → KnownBehind run a.uses log (node.Entity name) h.line J (entity_steps nodes h name (Some (OfDaemon d)))
-    daemon-known h name d found comes g a =
+        → DaemonReady run whole us a.uses told log h.line J name d h.input h.draw (daemon_step nodes.handlers d h.input h.reading h.draw)
+    daemon-ready h name d found comes g a =
         let o : Outcome DaemonState = daemon_step nodes.handlers d h.input h.reading h.draw in
         let K : List Entry = entered J o.out.entries in
-        let later : List Logged = behind (node.Entity name) h.line o.out.seals log in
         let named : d.node.own.asker.name ≡ name = same_name_is d.node.own.asker.name name (found_passes (is_of name) nodes.entities (OfDaemon d) found) in
-        let still : o.state.node.own.asker.name ≡ name = daemon-named nodes.handlers d h.input h.reading h.draw ∙ named in
         let links : LinksKnown run us told J d.node.own.asker.name (node.Entity d.node.own.asker.name) d.node.links =
         found_all (EntityKnown run us told log J) (is_of name) nodes.entities (OfDaemon d) known.all found in
-        let ok_behind : DaemonOk run a.uses K o.state.node = one-replaced (EntityOk run a.uses K) name (OfDaemon o.state) (OfDaemon d) nodes.entities found a.good.entities in
-        let b : DaemonBehind run a.uses told log h.line J K name o = daemon_step_of us a.uses told log h.line J name nodes.handlers d h.input h.reading h.draw (record {
+        record {
           named = named;
           inv = i;
           grows = a.grows;
@@ -207,7 +228,7 @@ module _ (run : WholeRun) (whole : List Logged) (client_step : ClientStep run wh
           spelled = known.spelled;
           links = subst (λ (m : Name). LinksKnown run us told J m (node.Entity m) d.node.links) named links;
           ok = found_all (EntityOk run us J) (is_of name) nodes.entities (OfDaemon d) ok.entities found;
-          ok_behind = ok_behind;
+          ok_behind = one-replaced (EntityOk run a.uses K) name (OfDaemon o.state) (OfDaemon d) nodes.entities found a.good.entities;
           good = good;
           counts = found_all (EntityQueues J) (is_of name) nodes.entities (OfDaemon d) queues found;
           drawn = comes.drawn;
@@ -215,21 +236,29 @@ module _ (run : WholeRun) (whole : List Logged) (client_step : ClientStep run wh
           looks = comes.looks;
           comes = comes.comes;
           granted = g;
-        }) in
+        }
+
+    pub daemon-run : (h : Happening) (name : Name) (d : DaemonState) → entity_of name nodes ≡ Some (OfDaemon d)
+        → (a : AfterStepped (node.Entity name) h.line (entity_steps nodes h name (Some (OfDaemon d)))) →
+        let o : Outcome DaemonState = daemon_step nodes.handlers d h.input h.reading h.draw in
+        (b : DaemonBehind run a.uses told log h.line J (entered J o.out.entries) name o)
+        → RunKnown run a.uses (record told { joins = b.joins }) (behind (node.Entity name) h.line o.out.seals log) (entered J o.out.entries) (entity_steps nodes h name (Some (OfDaemon d))).nodes.entities
+    daemon-run h name d found a b =
+        let o : Outcome DaemonState = daemon_step nodes.handlers d h.input h.reading h.draw in
+        let K : List Entry = entered J o.out.entries in
+        let later : List Logged = behind (node.Entity name) h.line o.out.seals log in
+        let named : d.node.own.asker.name ≡ name = same_name_is d.node.own.asker.name name (found_passes (is_of name) nodes.entities (OfDaemon d) found) in
+        let still : o.state.node.own.asker.name ≡ name = daemon-named nodes.handlers d h.input h.reading h.draw ∙ named in
         let next : Told = record told { joins = b.joins } in
         record {
-          next = next;
-          known = record {
-            known_of = b.known_of;
-            spelled = known.spelled;
-            all = all-replaced (EntityKnown run us told log J) (EntityKnown run a.uses next later K) name (OfDaemon o.state)
-                (subst (λ (m : Name). LinksKnown run a.uses next K m (node.Entity m) o.state.node.links) (sym still) b.links)
-                (λ e apart x. silent-entity run us a.uses i.one a.inv.one a.grows told log (node.Entity name) h.line o.out.seals J K b.quiet b.joins e
-                (entity-within nodes h (OfDaemon d) (asker_in e).name (λ same. apart (sym same ∙ named)) J)
-                (λ key cookie has. elsewhere_joined key cookie (asker_in e).name apart (b.own key cookie has)) x)
-                nodes.entities known.all;
-          };
-          heard = b.heard;
+          known_of = b.known_of;
+          spelled = known.spelled;
+          all = all-replaced (EntityKnown run us told log J) (EntityKnown run a.uses next later K) name (OfDaemon o.state)
+              (subst (λ (m : Name). LinksKnown run a.uses next K m (node.Entity m) o.state.node.links) (sym still) b.links)
+              (λ e apart x. silent-entity run us a.uses i.one a.inv.one a.grows told log (node.Entity name) h.line o.out.seals J K b.quiet b.joins e
+              (entity-within nodes h (OfDaemon d) (asker_in e).name (λ same. apart (sym same ∙ named)) J)
+              (λ key cookie has. elsewhere_joined key cookie (asker_in e).name apart (b.own key cookie has)) x)
+              nodes.entities known.all;
         }
       where
         elsewhere_joined : (key : List ℕ) (cookie : ℕ) (other : Name) → (other ≡ name → ⊥) → Contains told.joins (key, cookie) ⊎ IsLinkAt a.uses key (node.Entity name)
@@ -237,6 +266,16 @@ module _ (run : WholeRun) (whole : List Logged) (client_step : ClientStep run wh
         elsewhere_joined key cookie other apart (inl was) = inl was
         elsewhere_joined key cookie other apart (inr own) =
             inr (λ there. apart (same-entity other name (acceptors-one a.uses a.inv.one key (node.Entity other) (node.Entity name) there own)))
+
+    daemon-known : (h : Happening) (name : Name) (d : DaemonState) → entity_of name nodes ≡ Some (OfDaemon d) → Comes run (node.Entity name) h
+        → AreGranted run.leaked whole (node.Entity name) h.line log (daemon_step nodes.handlers d h.input h.reading h.draw).out.seals
+        → (a : AfterStepped (node.Entity name) h.line (entity_steps nodes h name (Some (OfDaemon d))))
+        → KnownBehind run a.uses log (node.Entity name) h.line J (entity_steps nodes h name (Some (OfDaemon d)))
+    daemon-known h name d found comes g a =
+        let o : Outcome DaemonState = daemon_step nodes.handlers d h.input h.reading h.draw in
+        let b : DaemonBehind run a.uses told log h.line J (entered J o.out.entries) name o =
+        daemon_step_of us a.uses told log h.line J name nodes.handlers d h.input h.reading h.draw (daemon-ready h name d found comes g a) in
+        record { next = record told { joins = b.joins }; known = daemon-run h name d found a b; heard = b.heard }
 
     entity-known : (h : Happening) (name : Name) (found : Option EntityNode) → entity_of name nodes ≡ found → Comes run (node.Entity name) h
         → AreGranted run.leaked whole (node.Entity name) h.line log (entity_steps nodes h name found).out.seals → (a : AfterStepped (node.Entity name) h.line (entity_steps nodes h name found))

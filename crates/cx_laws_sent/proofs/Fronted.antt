@@ -18,7 +18,7 @@ use Rattle.cx_journal.specs.declared.entries.Admitted.{Admitted}
 use Rattle.cx_journal.specs.declared.entries.Entry.{Entry}
 use Rattle.cx_journal.specs.declared.entries.Entry.TheVariants as journal
 use Rattle.cx_journal.specs.declared.entries.Handled.{Handled}
-use Rattle.cx_laws_links.proofs.GuestTakes.{WasSentAs}
+use Rattle.cx_laws_answers.specs.cx_laws_links.proofs.GuestTakes.{WasSentAs}
 use Rattle.cx_laws_queues.proofs.Entries.{counted-append}
 use Rattle.cx_laws_queues.specs.Counting.{IsHandledInOrderBy, counted, handled_since}
 use Rattle.cx_laws_queues.specs.Sending.{IsNumbered}
@@ -95,38 +95,38 @@ sent-there cookie client daemon seq operation (x ∷ J) has =
 
 module _ (Free : Name → Type 0) (entity : Name) (free : Free entity) (cookie : ℕ) where
   -- a session is the entity's, under the cookie
-  abbrev Its : Admitted → Type 0
+  abbrev pub Its : Admitted → Type 0
   Its a = (a.entity ≡ entity) × (a.cookie ≡ cookie)
 
-  abbrev handled : List Entry → List (ℕ × Operation)
+  abbrev pub handled : List Entry → List (ℕ × Operation)
   handled J = all_handled_under cookie entity [] J
 
-  abbrev sent : List Entry → List (ℕ × Operation)
+  abbrev pub sent : List Entry → List (ℕ × Operation)
   sent J = filter_map (sent_under cookie entity) J
 
   -- no such session was admitted
-  record Unborn (J : List Entry) : Type 0 where
-    none : (b : Admitted) → Contains J (journal.Admitted b) → Its b → ⊥
-    empty : handled J ≡ []
-    stands : (daemon : Name) (number : ℕ) (a : Admitted) → standing daemon number J ≡ Some a → Its a → ⊥
+  pub record Unborn (J : List Entry) : Type 0 where
+    pub none : (b : Admitted) → Contains J (journal.Admitted b) → Its b → ⊥
+    pub empty : handled J ≡ []
+    pub stands : (daemon : Name) (number : ℕ) (a : Admitted) → standing daemon number J ≡ Some a → Its a → ⊥
 
   -- it stands where the first one was admitted, and all that was handled in it was so since then
-  record IsAt (J : List Entry) (first : Admitted) (daemon : Name) (number : ℕ) : Type 0 where
-    daemon_is : daemon ≡ first.daemon
-    number_is : number ≡ first.session
-    count : handled_since daemon number J ≡ length (handled J)
+  pub record IsAt (J : List Entry) (first : Admitted) (daemon : Name) (number : ℕ) : Type 0 where
+    pub daemon_is : daemon ≡ first.daemon
+    pub number_is : number ≡ first.session
+    pub count : handled_since daemon number J ≡ length (handled J)
 
   -- one was
-  record Born (J : List Entry) : Type 0 where
-    first : Admitted
-    here : Contains J (journal.Admitted first)
-    its : Its first
-    stands : (daemon : Name) (number : ℕ) (a : Admitted) → standing daemon number J ≡ Some a → Its a → IsAt J first daemon number
+  pub record Born (J : List Entry) : Type 0 where
+    pub first : Admitted
+    pub here : Contains J (journal.Admitted first)
+    pub its : Its first
+    pub stands : (daemon : Name) (number : ℕ) (a : Admitted) → standing daemon number J ≡ Some a → Its a → IsAt J first daemon number
 
   -- and what was handled in it is a front of what was sent
-  record Fronted (J : List Entry) : Type 0 where
-    state : Unborn J ⊎ Born J
-    prefix : IsPrefix (handled J) (sent J)
+  pub record Fronted (J : List Entry) : Type 0 where
+    pub state : Unborn J ⊎ Born J
+    pub prefix : IsPrefix (handled J) (sent J)
 
   sent-push : (J : List Entry) (e : Entry) → sent (J ++ e ∷ []) ≡ sent J ++ cons_option (sent_under cookie entity e) []
   sent-push J e = filter_map-append (sent_under cookie entity) J (e ∷ [])
@@ -518,17 +518,17 @@ module _ (Free : Name → Type 0) (entity : Name) (free : Free entity) (cookie :
   one-step J (journal.Leaked x) stands said order numbered f =
       other-step J (journal.Leaked x) (record { opens = refl; counts = λ d n c. refl; unhandled = λ j. refl; unadmitted = λ b same. cc }) f
 
-  first-fronted : Fronted []
+  pub first-fronted : Fronted []
   first-fronted = record {
     state = inl (record { none = λ b has its. omega (arith, has.1); empty = refl; stands = λ daemon number a is its. no-one a is });
     prefix = ([], refl);
   }
 
-  sent-front : (J es : List Entry) → IsNumbered (sent (J ++ es)) → IsNumbered (sent J)
+  pub sent-front : (J es : List Entry) → IsNumbered (sent (J ++ es)) → IsNumbered (sent J)
   sent-front J es numbered =
       front-numbered (sent J) (sent es) (subst IsNumbered (filter_map-append (sent_under cookie entity) J es) numbered)
 
-  along : (es J : List Entry) → EachBehind StandsBy J es → EachBehind (WasSaidBy Free) J es → EachBehind IsHandledInOrderBy J es → IsNumbered (sent (J ++ es)) → Fronted J → Fronted (J ++ es)
+  pub along : (es J : List Entry) → EachBehind StandsBy J es → EachBehind (WasSaidBy Free) J es → EachBehind IsHandledInOrderBy J es → IsNumbered (sent (J ++ es)) → Fronted J → Fronted (J ++ es)
   along [] J stands said order numbered f = subst Fronted (sym (append-nil J)) f
   along (e ∷ es) J stands said order numbered f =
       subst Fronted (append_assoc J (e ∷ []) es)
@@ -537,7 +537,7 @@ module _ (Free : Name → Type 0) (entity : Name) (free : Free entity) (cookie :
 
 -- ---- a journal
 
-each-front : (P : List Entry → Entry → Type 0) (J xs ys : List Entry) → EachBehind P J (xs ++ ys) → EachBehind P J xs
+pub each-front : (P : List Entry → Entry → Type 0) (J xs ys : List Entry) → EachBehind P J (xs ++ ys) → EachBehind P J xs
 each-front P J [] ys h = tt
 each-front P J (x ∷ xs) ys h = (h.0, each-front P (J ++ x ∷ []) xs ys h.1)
 

@@ -49,7 +49,7 @@ cons-cases {X} y ys x has = by_place (Contains-append_cases (y ∷ []) ys x has)
     by_place (inr later) = inr later
 
 -- one of the front is numbered so that all behind the front fit between it and the last
-within-front : (xs ys : Asks) (last : ℕ) (x : ℕ × Operation) → IsRun last (xs ++ ys) → Contains xs x → x.0 + length ys ≤ last
+pub within-front : (xs ys : Asks) (last : ℕ) (x : ℕ × Operation) → IsRun last (xs ++ ys) → Contains xs x → x.0 + length ys ≤ last
 within-front [] ys last x run has = absurd (none-there x has)
 within-front (y ∷ xs) ys last x run has = by_place (cons-cases y xs x has) (λ later. within-front xs ys last x run.1 later)
   where

@@ -36,36 +36,36 @@ use Rattle.cx_laws_keys.proofs.Known.{Inv}
 use Rattle.cx_laws_keys.proofs.Lists.{all-map}
 use Rattle.cx_laws_keys.proofs.Premises.{AreGranted, granted-first}
 use Rattle.cx_laws_keys.proofs.Uses.{AreGenerated, AtDaemon, Connected, Grows, Means, Tie, Use, Uses, WholeRun, session_use, with_key}
-use Rattle.cx_laws_series.proofs.Contents.{content_where, contents_by}
-use Rattle.cx_rules.specs.Acceptor.{AwaitsBanner, AwaitsHello, AwaitsRequest, AwaitsProof, AwaitsSignature, AwaitsIdent, Open, Finished, denies, finished, on_auth_request, on_banner, on_hello}
-use Rattle.cx_rules.specs.Fronts.{ahead_of, banner_read, plain_read, taking}
-use Rattle.cx_rules.specs.Greetings.{own_hello}
-use Rattle.cx_rules.specs.Holdings.{Asker}
-use Rattle.cx_rules.specs.Links.{Link}
-use Rattle.cx_rules.specs.Payloads.{due}
-use Rattle.cx_rules.specs.Rows.{Turned, Waits, Refuses, Handles, at, goes_on, plain_sent, refuses_bytes, turned_by, unless_refused}
-use Rattle.cx_rules.specs.Secured.{plain_frame}
-use Rattle.cx_rules_session.specs.Complete.{judged_by}
-use Rattle.cx_rules_session.specs.DaemonRule.{AsAcceptor}
-use Rattle.cx_rules_session.specs.Envelopes.{authorize_challenge_content, authorize_reply_content, session_sealed}
-use Rattle.cx_rules_session.specs.Guests.{GuestArrival, GuestRow, GuestStage, authority_of, authorized_frame, authorizes, challenges, done_sent, looked_entry, on_auth_request_more, on_first, sealed_challenge_frame, turns_away, unless_turned_away}
-use Rattle.cx_rules_session.specs.Hosting.{Hosted, guest_turned, no_session_moves}
-use Rattle.cx_rules_session.specs.Kinds.{entered_before}
-use Rattle.cx_run.proofs.GuestTakes.{Always}
+use Rattle.cx_laws_answers.specs.cx_laws_series.proofs.Contents.{content_where, contents_by}
+use Rattle.cx_laws_queues.specs.cx_rules.specs.Acceptor.{AwaitsBanner, AwaitsHello, AwaitsRequest, AwaitsProof, AwaitsSignature, AwaitsIdent, Open, Finished, denies, finished, on_auth_request, on_banner, on_hello}
+use Rattle.cx_laws_queues.specs.cx_rules.specs.Fronts.{ahead_of, banner_read, plain_read, taking}
+use Rattle.cx_laws_queues.specs.cx_rules.specs.Greetings.{own_hello}
+use Rattle.cx_laws_queues.specs.cx_rules.specs.Holdings.{Asker}
+use Rattle.cx_laws_queues.specs.cx_rules.specs.Links.{Link}
+use Rattle.cx_laws_queues.specs.cx_rules.specs.Payloads.{due}
+use Rattle.cx_laws_queues.specs.cx_rules.specs.Rows.{Turned, Waits, Refuses, Handles, at, goes_on, plain_sent, refuses_bytes, turned_by, unless_refused}
+use Rattle.cx_laws_queues.specs.cx_rules.specs.Secured.{plain_frame}
+use Rattle.cx_laws_queues.specs.cx_rules_session.specs.Complete.{judged_by}
+use Rattle.cx_laws_queues.specs.cx_rules_session.specs.DaemonRule.{AsAcceptor}
+use Rattle.cx_laws_queues.specs.cx_rules_session.specs.Envelopes.{authorize_challenge_content, authorize_reply_content, session_sealed}
+use Rattle.cx_laws_queues.specs.cx_rules_session.specs.Guests.{GuestArrival, GuestRow, GuestStage, authority_of, authorized_frame, authorizes, challenges, done_sent, looked_entry, on_auth_request_more, on_first, sealed_challenge_frame, turns_away, unless_turned_away}
+use Rattle.cx_laws_queues.specs.cx_rules_session.specs.Hosting.{Hosted, guest_turned, no_session_moves}
+use Rattle.cx_laws_queues.specs.cx_rules_session.specs.Kinds.{entered_before}
+use Rattle.cx_laws_queues.specs.cx_run.proofs.GuestTakes.{Always}
 use Rattle.cx_sealed.specs.declared.service_ticket.ServiceTicket.{ServiceTicket}
 use Rattle.cx_steps.specs.declared.seals.DrawMark.TheVariants as draw
 use Rattle.cx_steps.specs.declared.seals.Logged.{Logged}
 use Rattle.cx_steps.specs.declared.seals.SealEntry.{SealEntry}
 use Rattle.cx_steps.specs.declared.seals.SealEntry.TheVariants as entry
 use Rattle.cx_stream.specs.PlainStreams.{plain_frame_at}
-use Rattle.cx_laws_links.proofs.CallTells.{by-append, quiet-none}
-use Rattle.cx_laws_links.proofs.CallWords.{AreQuiet, IsQuiet, quiet-append}
-use Rattle.cx_laws_links.proofs.GuestBegins.{authorizes-begins, authorizes-quiet}
-use Rattle.cx_laws_links.proofs.GuestNodes.{HostKnown}
-use Rattle.cx_laws_links.proofs.GuestTakes.{LinkHeard}
-use Rattle.cx_laws_links.proofs.Known.{AreTold, Told}
-use Rattle.cx_laws_links.proofs.Spoken.{is_connectors}
-use Rattle.cx_laws_links.proofs.Written.{IsLinkKey}
+use Rattle.cx_laws_answers.specs.cx_laws_links.proofs.CallTells.{by-append, quiet-none}
+use Rattle.cx_laws_answers.specs.cx_laws_links.proofs.CallWords.{AreQuiet, IsQuiet, quiet-append}
+use Rattle.cx_laws_answers.specs.cx_laws_links.proofs.GuestBegins.{authorizes-begins, authorizes-quiet}
+use Rattle.cx_laws_answers.specs.cx_laws_links.proofs.GuestNodes.{HostKnown}
+use Rattle.cx_laws_answers.specs.cx_laws_links.proofs.GuestTakes.{LinkHeard}
+use Rattle.cx_laws_answers.specs.cx_laws_links.proofs.Known.{AreTold, Told}
+use Rattle.cx_laws_answers.specs.cx_laws_links.proofs.Spoken.{is_connectors}
+use Rattle.cx_laws_answers.specs.cx_laws_links.proofs.Written.{IsLinkKey}
 use Rattle.cx_laws_sent.proofs.DaemonKnown.{IsOne, IsSilent, IsStill}
 
 -- ---- session keys are no keys of links
@@ -111,41 +111,72 @@ module _ (run : WholeRun) (whole : List Logged) (vs : Uses) (told : Told) (log :
   LinkBegins (Some link) = (K : List Entry) → HostKnown run vs told K daemon n link.number (AsAcceptor link.stage)
   LinkBegins None = Unit {0}
 
+  -- a link is before authentication
+  abbrev pub IsBefore : GuestStage → Type 0
+  IsBefore (AwaitsSignature s owner) = ⊥
+  IsBefore (AwaitsIdent s owner) = ⊥
+  IsBefore (Open s served) = ⊥
+  IsBefore _ = Unit {0}
+
+  -- whichever end of a link, it could have said nothing that these are
+  abbrev pub SaysNone : List SealEntry → Type 0
+  SaysNone es = (test : List ℕ → Bool) (key : List ℕ) (name : Name) (tie : ℕ) → IsLinkKey vs key name tie → contents_by key test es ≡ []
+
+  -- a link has no key yet
+  abbrev pub IsKeyless : Option (Link GuestStage) → Type 0
+  IsKeyless (Some link) = IsBefore link.stage
+  IsKeyless None = Unit {0}
+
+  -- a row seals nothing that an end of a link could have said, and its link has no key yet; or a second authorizer passes
+  pub data RowFirst (row : GuestRow) : Type 0 where
+    SaysNothing : (AreGranted run.leaked whole n line log row.seals → IsOne vs → SaysNone row.seals) → IsKeyless row.link → RowFirst row
+    Authorizes : (b : GuestArrival) (opened : List SealEntry) (ticket : ServiceTicket) (nonce : ℕ) → b.own.name ≡ daemon → length b.draw ≡ 384 → AreQuiet opened
+        → (AreGranted run.leaked whole n line log opened → IsOne vs → (key : List ℕ) (name : Name) (tie : ℕ) → IsLinkKey vs key name tie → bytes_eq ticket.session key ≡ false)
+        → row.seals ≡ (authorizes b opened ticket nonce).seals → row.link ≡ (authorizes b opened ticket nonce).link → RowFirst row
+
   -- a row that seals nothing as a connector, admits no session, and whose link is known where its key is
   pub record RowBegins (row : GuestRow) : Type 0 where
     pub seals : AreGranted run.leaked whole n line log row.seals → IsOne vs → IsSilent vs row.seals
     pub entries : AllByRecursion IsStill row.entries
     pub link : AreGranted run.leaked whole n line log row.seals → LinkKeys vs n row.link → LinkBegins row.link
+    pub first : RowFirst row
 
   quiet-silent : (es : List SealEntry) → AreQuiet es → IsSilent vs es
   quiet-silent es quiet key name tie is = quiet-none key is_connectors es quiet
 
+  quiet-says : (es : List SealEntry) → AreQuiet es → SaysNone es
+  quiet-says es quiet test key name tie is = quiet-none key test es quiet
+
   begins-entered : (e : Entry) (row : GuestRow) → IsStill e → RowBegins row → RowBegins (entered_before e row)
-  begins-entered e row unheard h = record { seals = h.seals; entries = (unheard, h.entries); link = h.link }
+  begins-entered e row unheard h = record { seals = h.seals; entries = (unheard, h.entries); link = h.link; first = by_first h.first }
+    where
+      by_first : RowFirst row → RowFirst (entered_before e row)
+      by_first (SaysNothing none keyless) = SaysNothing none keyless
+      by_first (Authorizes b opened ticket nonce own drawn quiet apart seals link) = Authorizes b opened ticket nonce own drawn quiet apart seals link
 
   begins-refuses : (b : GuestArrival) (why : BytesFault) (seals : List SealEntry) → AreQuiet seals → RowBegins (refuses_bytes b why seals)
-  begins-refuses b why seals quiet = record { seals = λ g one. quiet-silent seals quiet; entries = (tt, tt); link = λ g keys. tt }
+  begins-refuses b why seals quiet = record { seals = λ g one. quiet-silent seals quiet; entries = (tt, tt); link = λ g keys. tt; first = SaysNothing (λ g one. quiet-says seals quiet) tt }
 
   begins-away : (b : GuestArrival) (opened : List SealEntry) (why : AuthRefusal) → AreQuiet opened → RowBegins (turns_away b opened why)
-  begins-away b opened (refusal.Malformed place) quiet = record { seals = λ g one. quiet-silent opened quiet; entries = (tt, tt); link = λ g keys. tt }
-  begins-away b opened (refusal.WrongService kept got) quiet = record { seals = λ g one. quiet-silent opened quiet; entries = (tt, tt); link = λ g keys. tt }
-  begins-away b opened (refusal.Ticket why blob) quiet = record { seals = λ g one. quiet-silent opened quiet; entries = (tt, tt); link = λ g keys. tt }
-  begins-away b opened refusal.OutOfMemory quiet = record { seals = λ g one. quiet-silent opened quiet; entries = (tt, tt); link = λ g keys. tt }
+  begins-away b opened (refusal.Malformed place) quiet = record { seals = λ g one. quiet-silent opened quiet; entries = (tt, tt); link = λ g keys. tt; first = SaysNothing (λ g one. quiet-says opened quiet) tt }
+  begins-away b opened (refusal.WrongService kept got) quiet = record { seals = λ g one. quiet-silent opened quiet; entries = (tt, tt); link = λ g keys. tt; first = SaysNothing (λ g one. quiet-says opened quiet) tt }
+  begins-away b opened (refusal.Ticket why blob) quiet = record { seals = λ g one. quiet-silent opened quiet; entries = (tt, tt); link = λ g keys. tt; first = SaysNothing (λ g one. quiet-says opened quiet) tt }
+  begins-away b opened refusal.OutOfMemory quiet = record { seals = λ g one. quiet-silent opened quiet; entries = (tt, tt); link = λ g keys. tt; first = SaysNothing (λ g one. quiet-says opened quiet) tt }
 
   begins-banner : (b : GuestArrival) (kind : EntityType) → RowBegins (on_banner kind b)
   begins-banner b kind = by_sent (plain_frame (own_hello kind))
     where
       by_sent : (r : Result (List ℕ) BytesFault) → RowBegins (plain_sent b AwaitsHello [] r)
-      by_sent (Ok bytes) = record { seals = λ g one key name tie is. refl; entries = tt; link = λ g keys K. (tt, tt) }
+      by_sent (Ok bytes) = record { seals = λ g one key name tie is. refl; entries = tt; link = λ g keys K. (tt, tt); first = SaysNothing (λ g one test key name tie is. refl) tt }
       by_sent (Err why) = begins-refuses b why [] tt
 
   begins-hello : (b : GuestArrival) (read : Result Hello BytesFault) → RowBegins (on_hello b read)
-  begins-hello b (Ok hello) = record { seals = λ g one key name tie is. refl; entries = tt; link = λ g keys K. (tt, tt) }
+  begins-hello b (Ok hello) = record { seals = λ g one key name tie is. refl; entries = tt; link = λ g keys K. (tt, tt); first = SaysNothing (λ g one test key name tie is. refl) tt }
   begins-hello b (Err why) = begins-refuses b why [] tt
 
   -- ---- authorizers
 
-  module _ (us : Uses) (J : List Entry) (i : Inv run whole us log J) (f : Grows us vs) (b : GuestArrival) (generated : AreGenerated us b.own.name.kind b.own.view.generations) where
+  module _ (us : Uses) (J : List Entry) (i : Inv run whole us log J) (f : Grows us vs) (b : GuestArrival) (generated : AreGenerated us b.own.name.kind b.own.view.generations) (own : b.own.name ≡ daemon) where
     -- a ticket that opened has a session key that is no key of a link
     ticket-apart : (ticket : ServiceTicket) (opened : List SealEntry) → Granted opened → ShowsTicket b.own.view ticket opened → IsOne vs → (key : List ℕ) (name : Name) (tie : ℕ) → IsLinkKey vs key name tie
         → bytes_eq ticket.session key ≡ false
@@ -164,21 +195,21 @@ module _ (run : WholeRun) (whole : List Logged) (vs : Uses) (told : Told) (log :
         held : List SealEntry
         held = session_sealed ticket.session (authorize_challenge_content (challenge_of b.draw)) ∷ []
 
-        held-none : (key : List ℕ) → bytes_eq ticket.session key ≡ false
-            → contents_by key is_connectors (session_sealed ticket.session (authorize_challenge_content (challenge_of b.draw)) ∷ []) ≡ []
-        held-none key apart =
+        held-none : (test : List ℕ → Bool) (key : List ℕ) → bytes_eq ticket.session key ≡ false
+            → contents_by key test (session_sealed ticket.session (authorize_challenge_content (challenge_of b.draw)) ∷ []) ≡ []
+        held-none test key apart =
             let content : List ℕ = authorize_challenge_content (challenge_of b.draw) in
-            ap (λ (here : Bool). cons_option (content_where (here && is_connectors content) content) []) apart
+            ap (λ (here : Bool). cons_option (content_where (here && test content) content) []) apart
 
-        sent-silent : Granted (before ++ held) → IsOne vs → IsSilent vs (before ++ held)
-        sent-silent g one key name tie is =
+        sent-says : Granted (before ++ held) → IsOne vs → SaysNone (before ++ held)
+        sent-says g one test key name tie is =
             let opens = granted-first run.leaked whole n line log opened (entry.Drawn (draw.Challenge (challenge_of b.draw)) ∷ []) (granted-first run.leaked whole n line log before held g) in
-            by-append key is_connectors before held (quiet-none key is_connectors before silent) (held-none key (ticket-apart ticket opened opens shown one key name tie is))
+            by-append key test before held (quiet-none key test before silent) (held-none test key (ticket-apart ticket opened opens shown one key name tie is))
 
         by_sent : (r : Result (List ℕ) BytesFault) → RowBegins (unless_refused b (opened ++ entry.Drawn (draw.Challenge (challenge_of b.draw)) ∷ []) r
             (λ bytes. goes_on b (AwaitsProof (record { service = b.own.name.kind; challenge = challenge_of b.draw })) bytes
             ((opened ++ entry.Drawn (draw.Challenge (challenge_of b.draw)) ∷ []) ++ session_sealed ticket.session (authorize_challenge_content (challenge_of b.draw)) ∷ [])))
-        by_sent (Ok bytes) = record { seals = sent-silent; entries = tt; link = λ g keys K. (tt, tt) }
+        by_sent (Ok bytes) = record { seals = λ g one. sent-says g one is_connectors; entries = tt; link = λ g keys K. (tt, tt); first = SaysNothing sent-says tt }
         by_sent (Err why) = begins-refuses b why before silent
 
     judged-begins : {X : Type 0} (opened : List SealEntry) (value : Result X AuthRefusal) (part : X → ServiceTicket) (next : X → GuestRow) → AllByRecursion IsOpening opened
@@ -200,8 +231,8 @@ module _ (run : WholeRun) (whole : List Logged) (vs : Uses) (told : Told) (log :
     begins-request (Ok request) = by_tests (not (request.method == 2)) (not (list_any (λ mode. mode == 2) request.modes))
       where
         by_tests : (other plain : Bool) → RowBegins (if other then denies b 95 Method [] else if plain then denies b 95 Mode [] else on_first b request.payload)
-        by_tests true plain = record { seals = λ g one key name tie is. refl; entries = (tt, tt); link = λ g keys. tt }
-        by_tests false true = record { seals = λ g one key name tie is. refl; entries = (tt, tt); link = λ g keys. tt }
+        by_tests true plain = record { seals = λ g one key name tie is. refl; entries = (tt, tt); link = λ g keys. tt; first = SaysNothing (λ g one test key name tie is. refl) tt }
+        by_tests false true = record { seals = λ g one key name tie is. refl; entries = (tt, tt); link = λ g keys. tt; first = SaysNothing (λ g one test key name tie is. refl) tt }
         by_tests false false = begins-first request.payload
 
     -- ---- the second authorizer
@@ -252,6 +283,7 @@ module _ (run : WholeRun) (whole : List Logged) (vs : Uses) (told : Told) (log :
           entries = enters ends;
           link = λ g keys.
               begins ends (authorizes-begins run whole us told log J i t n line b drawn opened (openings-quiet opened all) ticket nonce ws (inl (refl, refl)) g) keys;
+          first = Authorizes b opened ticket nonce own drawn (openings-quiet opened all) (λ g one key name tie is. ticket-apart ticket opened g shown one key name tie is) refl refl;
         }
 
       begins-more : (awaited : Awaited) (more : Result AuthRequestMore BytesFault) → RowBegins (on_auth_request_more b awaited more)
@@ -274,15 +306,8 @@ module _ (run : WholeRun) (whole : List Logged) (vs : Uses) (told : Told) (log :
   abbrev pub HostedBegins : Hosted → Type 0
   HostedBegins hosted = (hosted.moved ≡ None) × TurnedBegins hosted.turned
 
-  -- a link is before authentication
-  abbrev pub IsBefore : GuestStage → Type 0
-  IsBefore (AwaitsSignature s owner) = ⊥
-  IsBefore (AwaitsIdent s owner) = ⊥
-  IsBefore (Open s served) = ⊥
-  IsBefore _ = Unit {0}
-
   module _ (us : Uses) (J : List Entry) (i : Inv run whole us log J) (f : Grows us vs) (t : AreTold run us told log J) (a : GuestArrival)
-      (generated : AreGenerated us a.own.name.kind a.own.view.generations) (drawn : length a.draw ≡ 384) where
+      (generated : AreGenerated us a.own.name.kind a.own.view.generations) (drawn : length a.draw ≡ 384) (own : a.own.name ≡ daemon) where
     banner-begins : (r : Result (Option (Banner × ℕ)) BannerRefusal) → Always HostedBegins (no_session_moves (turned_by (λ link _. on_banner a.own.name.kind (at a link)) (banner_read a.link r)))
     banner-begins (Ok None) = (refl, tt)
     banner-begins (Ok (Some (x, m))) = (refl, begins-banner (at a (taking a.link m)) a.own.name.kind)
@@ -297,13 +322,13 @@ module _ (run : WholeRun) (whole : List Logged) (vs : Uses) (told : Told) (log :
     request-begins : (r : Result (Option (Frame × ℕ)) FrameRefusal)
         → Always HostedBegins (no_session_moves (turned_by (λ (link, x) _. on_auth_request on_first (at a link) (due 2 auth_request_layout.form x)) (plain_read a.link r)))
     request-begins (Ok None) = (refl, tt)
-    request-begins (Ok (Some (x, m))) = (refl, begins-request us J i f (at a (taking a.link m)) generated (due 2 auth_request_layout.form x))
+    request-begins (Ok (Some (x, m))) = (refl, begins-request us J i f (at a (taking a.link m)) generated own (due 2 auth_request_layout.form x))
     request-begins (Err e) = (refl, refl)
 
     more-begins : (awaited : Awaited) (r : Result (Option (Frame × ℕ)) FrameRefusal)
         → Always HostedBegins (no_session_moves (turned_by (λ (link, x) _. on_auth_request_more (at a link) awaited (due 5 auth_request_more_layout.form x)) (plain_read a.link r)))
     more-begins awaited (Ok None) = (refl, tt)
-    more-begins awaited (Ok (Some (x, m))) = (refl, begins-more us J i f (at a (taking a.link m)) generated t drawn awaited (due 5 auth_request_more_layout.form x))
+    more-begins awaited (Ok (Some (x, m))) = (refl, begins-more us J i f (at a (taking a.link m)) generated own t drawn awaited (due 5 auth_request_more_layout.form x))
     more-begins awaited (Err e) = (refl, refl)
 
     pub before-begins : (handlers : Handlers) (stage : GuestStage) → IsBefore stage → Always HostedBegins (guest_turned handlers a stage)

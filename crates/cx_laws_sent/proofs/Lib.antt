@@ -1,3 +1,4 @@
+pub mod Shown
 pub mod State
 pub mod DaemonKnown
 pub mod GuestsBefore

@@ -7,7 +7,7 @@ use Rattle.cx_base.specs.Names.{Name}
 use Rattle.cx_journal.specs.declared.entries.Admitted.{Admitted}
 use Rattle.cx_journal.specs.declared.entries.Entry.{Entry}
 use Rattle.cx_journal.specs.declared.entries.Entry.TheVariants as journal
-use Rattle.cx_laws_links.proofs.Since.{Goes, since}
+use Rattle.cx_laws_answers.specs.cx_laws_links.proofs.Since.{Goes, since}
 use Rattle.cx_laws_sent.proofs.Fronts.{cons-cases}
 use Rattle.cx_laws_queues.specs.cx_laws_session.proofs.Standing.{LeavesOf, own-turn, standing, turns_session}
 

@@ -10,9 +10,9 @@ use Rattle.cx_laws_sent.proofs.Beginning.{run-heard}
 use Rattle.cx_laws_sent.proofs.Prefix.{prefix-of-sent}
 use Rattle.cx_laws_sent.proofs.Steps.{ClientStep, DaemonStep}
 use Rattle.cx_laws_sent.specs.Fitting.{AreFit}
-use Rattle.cx_run.specs.Happenings.{Happening}
-use Rattle.cx_run.specs.Opening.{Leak, Setup, leaked_of, nodes_of}
-use Rattle.cx_run.specs.Points.{journal_since, log_since}
+use Rattle.cx_laws_queues.specs.cx_run.specs.Happenings.{Happening}
+use Rattle.cx_laws_queues.specs.cx_run.specs.Opening.{Leak, Setup, leaked_of, nodes_of}
+use Rattle.cx_laws_queues.specs.cx_run.specs.Points.{journal_since, log_since}
 use Rattle.cx_steps.specs.Premises.{IsFresh, IsSound}
 
 pub run-ordered : (setup : Setup) (hs : List Happening) (guests : Bool) → AllByRecursion (λ (l : Leak). l.client.kind ≡ Client) setup.leaks

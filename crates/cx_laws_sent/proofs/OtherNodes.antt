@@ -12,23 +12,23 @@ use Rattle.cx_laws_keys.proofs.Known.{Within}
 use Rattle.cx_laws_keys.proofs.Lists.{all-map}
 use Rattle.cx_laws_keys.proofs.Premises.{behind}
 use Rattle.cx_laws_keys.proofs.Uses.{AtDaemon, Connected, Grows, Means, Use, Uses, WholeRun}
-use Rattle.cx_laws_links.proofs.GuestJoins.{JoinsNone, guest-joins}
-use Rattle.cx_laws_links.proofs.GuestNodes.{HostKnown, LinksKnown}
-use Rattle.cx_laws_links.proofs.Since.{since}
-use Rattle.cx_laws_links.proofs.GuestSteps.{client-later, serves-stays}
-use Rattle.cx_laws_links.proofs.Known.{CallTold, ClientTold, GuestTold, IsGuest, StageTold, Told}
-use Rattle.cx_laws_links.proofs.Moving.{Moved, Quiets, moved-call, moved-guest}
-use Rattle.cx_laws_links.proofs.Spoken.{is_connectors}
-use Rattle.cx_laws_links.proofs.Written.{IsLinkKey}
-use Rattle.cx_laws_series.proofs.Contents.{contents_by}
-use Rattle.cx_rules.specs.Acceptor as acceptor
-use Rattle.cx_rules.specs.Links.{Link}
-use Rattle.cx_rules.specs.Secured.{Secured}
-use Rattle.cx_rules_session.specs.ClientRule.{ClientStage, ToDaemon, ToMonitor, WholeClientNode}
-use Rattle.cx_rules_session.specs.DaemonRule.{AsAcceptor, AsConnector, DaemonStage}
-use Rattle.cx_rules_session.specs.Guests.{GuestStage}
-use Rattle.cx_rules_session.specs.Presenter.{CallStage}
-use Rattle.cx_run.specs.Happenings.{EntityNode, OfClient, OfDaemon, asker_in, is_of}
+use Rattle.cx_laws_answers.specs.cx_laws_links.proofs.GuestJoins.{JoinsNone, guest-joins}
+use Rattle.cx_laws_answers.specs.cx_laws_links.proofs.GuestNodes.{HostKnown, LinksKnown}
+use Rattle.cx_laws_answers.specs.cx_laws_links.proofs.Since.{since}
+use Rattle.cx_laws_answers.specs.cx_laws_links.proofs.GuestSteps.{client-later, serves-stays}
+use Rattle.cx_laws_answers.specs.cx_laws_links.proofs.Known.{CallTold, ClientTold, GuestTold, IsGuest, StageTold, Told}
+use Rattle.cx_laws_answers.specs.cx_laws_links.proofs.Moving.{Moved, Quiets, moved-call, moved-guest}
+use Rattle.cx_laws_answers.specs.cx_laws_links.proofs.Spoken.{is_connectors}
+use Rattle.cx_laws_answers.specs.cx_laws_links.proofs.Written.{IsLinkKey}
+use Rattle.cx_laws_answers.specs.cx_laws_series.proofs.Contents.{contents_by}
+use Rattle.cx_laws_queues.specs.cx_rules.specs.Acceptor as acceptor
+use Rattle.cx_laws_queues.specs.cx_rules.specs.Links.{Link}
+use Rattle.cx_laws_queues.specs.cx_rules.specs.Secured.{Secured}
+use Rattle.cx_laws_queues.specs.cx_rules_session.specs.ClientRule.{ClientStage, ToDaemon, ToMonitor, WholeClientNode}
+use Rattle.cx_laws_queues.specs.cx_rules_session.specs.DaemonRule.{AsAcceptor, AsConnector, DaemonStage}
+use Rattle.cx_laws_queues.specs.cx_rules_session.specs.Guests.{GuestStage}
+use Rattle.cx_laws_queues.specs.cx_rules_session.specs.Presenter.{CallStage}
+use Rattle.cx_laws_queues.specs.cx_run.specs.Happenings.{EntityNode, OfClient, OfDaemon, asker_in, is_of}
 use Rattle.cx_steps.specs.declared.seals.Logged.{Logged}
 use Rattle.cx_steps.specs.declared.seals.SealEntry.{SealEntry}
 use Rattle.cx_laws_sent.proofs.State.{ClientKnown, EntityKnown, IsLinkAt}

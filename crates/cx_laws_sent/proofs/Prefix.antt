@@ -16,7 +16,7 @@ use Rattle.cx_journal.specs.declared.entries.Entry.{Entry}
 use Rattle.cx_journal.specs.declared.entries.Entry.TheVariants as journal
 use Rattle.cx_journal.specs.declared.entries.Handled.{Handled}
 use Rattle.cx_laws_keys.proofs.Uses.{WholeRun}
-use Rattle.cx_laws_links.proofs.GuestTakes.{IsServedIn, WasSentAs}
+use Rattle.cx_laws_answers.specs.cx_laws_links.proofs.GuestTakes.{IsServedIn, WasSentAs}
 use Rattle.cx_laws_queues.proofs.Cookies.{cookies-numbered}
 use Rattle.cx_laws_queues.proofs.Runs.{all-handled-in-order}
 use Rattle.cx_laws_run.proofs.Whole.{run_of}
@@ -29,10 +29,10 @@ use Rattle.cx_laws_sent.proofs.Said.{IsSaid, WasSaidBy}
 use Rattle.cx_laws_queues.specs.cx_laws_session.proofs.Lists.{map-append}
 use Rattle.cx_laws_queues.specs.cx_laws_session.proofs.Standing.{standing-handles}
 use Rattle.cx_lines.specs.declared.lines.Numbered.{Numbered}
-use Rattle.cx_run.specs.Happenings.{Entered, Happening, journal_from}
-use Rattle.cx_run.specs.Opening.{Leak, Setup, leaked_of, leaks_entered, nodes_of}
-use Rattle.cx_run.specs.Points.{journal_since, log_since}
-use Rattle.cx_run.specs.Runs.{run_journal, run_log, setup_of, trace}
+use Rattle.cx_laws_queues.specs.cx_run.specs.Happenings.{Entered, Happening, journal_from}
+use Rattle.cx_laws_queues.specs.cx_run.specs.Opening.{Leak, Setup, leaked_of, leaks_entered, nodes_of}
+use Rattle.cx_laws_queues.specs.cx_run.specs.Points.{journal_since, log_since}
+use Rattle.cx_laws_queues.specs.cx_run.specs.Runs.{run_journal, run_log, setup_of, trace}
 use Rattle.cx_steps.specs.Premises.{IsFresh}
 
 -- ---- who leaked
@@ -105,7 +105,7 @@ module _ (run : WholeRun) where
 
   one-said : (J : List Entry) (e : Entry) → StandsBy J e → OnceBy J e → HeardLaw run J e → WasSaidBy (DidntLeak run.leaked) J e
   one-said J (journal.Handled x) stands once heard = handled-said J x stands once heard
-  one-said J (journal.Admitted x) stands once heard = heard
+  one-said J (journal.Admitted x) stands once heard = λ free b has entity cookie. heard free b has (subst (λ (m : Name). Contains run.leaked m → ⊥) (sym entity) free) cookie
   one-said J (journal.Resumed x) stands once heard = tt
   one-said J (journal.Saved x) stands once heard = tt
   one-said J (journal.Issued x) stands once heard = tt

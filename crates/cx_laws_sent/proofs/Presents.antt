@@ -20,50 +20,51 @@ use Rattle.cx_laws_keys.proofs.Premises.{AreGranted}
 use Rattle.cx_laws_keys.proofs.Uses.{Login, Means, Ticketed, Uses, WholeRun}
 use Rattle.cx_laws_run.specs.cx_laws_chain.specs.cx_laws_calling.proofs.CallSeals.{reply-ties}
 use Rattle.cx_laws_run.specs.cx_laws_chain.specs.cx_laws_calling.proofs.Sessions.{CallKeys, ClientStageOk, HeldOk, IsSession, found-ticket, same-entity}
-use Rattle.cx_laws_login.proofs.ClientStep as client_step
-use Rattle.cx_laws_login.proofs.AskerRows.{NeverExcepted}
-use Rattle.cx_laws_login.proofs.Entering.{within-all}
+use Rattle.cx_laws_run.specs.cx_laws_login.proofs.ClientStep as client_step
+use Rattle.cx_laws_run.specs.cx_laws_login.proofs.AskerRows.{NeverExcepted}
+use Rattle.cx_laws_run.specs.cx_laws_login.proofs.Entering.{within-all}
 use Rattle.cx_laws_queues.proofs.Calls.{Held, OpensFor, call-held}
 use Rattle.cx_laws_queues.proofs.Sessions.{HeldIs, all-filter, with-all}
 use Rattle.cx_laws_queues.specs.cx_laws_session.proofs.Lists.{found-all, found-passes, found-some}
 use Rattle.cx_laws_queues.specs.cx_laws_session.proofs.Runs.{other-way}
 use Rattle.cx_login.specs.Held.{Held as Ticket}
-use Rattle.cx_rules.specs.Holdings.{Asker}
-use Rattle.cx_rules.specs.Links.{Link, link_of}
-use Rattle.cx_rules.specs.Rows.{Outcome, Turned, Waits, Refuses, Handles, turns}
-use Rattle.cx_rules_session.specs.ClientRule.{ClientStage, ToDaemon, WholeClientNode, caller_to, with_caller}
-use Rattle.cx_rules_session.specs.Kinds.{arrival_in, turn_of_kind}
-use Rattle.cx_rules_session.specs.Presenter as call
-use Rattle.cx_rules_session.specs.Presenter.{Caller, CallArrival, CallRow, CallStage, callee_of, presented, presented_by}
-use Rattle.cx_rules_session.specs.Sessions.{Called, Callee, HeldSession, acknowledged_up_to, session_with, ticket_for, with_session}
-use Rattle.cx_run.proofs.CallKeeps.{IsCallEntry, Leaves, call-takes}
-use Rattle.cx_run.proofs.Outcomes.{call_turn, on_link}
-use Rattle.cx_run.proofs.Taking.{EachRow}
+use Rattle.cx_laws_queues.specs.cx_rules.specs.Holdings.{Asker}
+use Rattle.cx_laws_queues.specs.cx_rules.specs.Links.{Link, link_of}
+use Rattle.cx_laws_queues.specs.cx_rules.specs.Rows.{Outcome, Turned, Waits, Refuses, Handles, turns}
+use Rattle.cx_laws_queues.specs.cx_rules_session.specs.ClientRule.{ClientStage, ToDaemon, WholeClientNode, caller_to, with_caller}
+use Rattle.cx_laws_queues.specs.cx_rules_session.specs.Kinds.{arrival_in, turn_of_kind}
+use Rattle.cx_laws_queues.specs.cx_rules_session.specs.Presenter as call
+use Rattle.cx_laws_queues.specs.cx_rules_session.specs.Presenter.{Caller, CallArrival, CallRow, CallStage, callee_of, presented, presented_by}
+use Rattle.cx_laws_queues.specs.cx_rules_session.specs.Sessions.{Called, Callee, HeldSession, acknowledged_up_to, session_with, ticket_for, with_session}
+use Rattle.cx_laws_queues.specs.cx_run.proofs.CallKeeps.{IsCallEntry, Leaves, call-takes}
+use Rattle.cx_laws_queues.specs.cx_run.proofs.Outcomes.{call_turn, on_link}
+use Rattle.cx_laws_queues.specs.cx_run.proofs.Taking.{EachRow}
 use Rattle.cx_sealed.specs.declared.authorize_reply.AuthorizeReply.{AuthorizeReply}
 use Rattle.cx_steps.specs.Onto.{SomeOf}
 use Rattle.cx_steps.specs.declared.seals.Logged.{Logged}
 use Rattle.cx_steps.specs.declared.seals.SealEntry.{SealEntry}
-use Rattle.cx_laws_links.proofs.Alone.{RowKeeps, row-keeps}
-use Rattle.cx_laws_links.proofs.CallTells.{quiet-none}
-use Rattle.cx_laws_links.proofs.CallTold.{same-nonces}
-use Rattle.cx_laws_links.proofs.CallTurned.{TurnIs}
-use Rattle.cx_laws_links.proofs.CallWords.{AreQuiet, HeldAt, IsHeldHere}
-use Rattle.cx_laws_links.proofs.Known.{IsOfSession, StageTold, Told}
-use Rattle.cx_laws_links.proofs.Lifting.{told-stays}
-use Rattle.cx_laws_links.proofs.Moving.{Quiets}
-use Rattle.cx_laws_links.proofs.Spoken.{is_connectors}
-use Rattle.cx_laws_links.proofs.Written.{IsLinkKey}
-use Rattle.cx_laws_series.proofs.Contents.{contents_by}
+use Rattle.cx_laws_answers.specs.cx_laws_links.proofs.Alone.{RowKeeps, row-keeps}
+use Rattle.cx_laws_answers.specs.cx_laws_links.proofs.CallTells.{quiet-none}
+use Rattle.cx_laws_answers.specs.cx_laws_links.proofs.CallTold.{same-nonces}
+use Rattle.cx_laws_answers.specs.cx_laws_links.proofs.CallTurned.{TurnIs}
+use Rattle.cx_laws_answers.specs.cx_laws_links.proofs.CallWords.{AreQuiet, HeldAt, IsHeldHere}
+use Rattle.cx_laws_answers.specs.cx_laws_links.proofs.Known.{IsOfSession, StageTold, Told}
+use Rattle.cx_laws_answers.specs.cx_laws_links.proofs.Lifting.{told-stays}
+use Rattle.cx_laws_answers.specs.cx_laws_links.proofs.Moving.{Quiets}
+use Rattle.cx_laws_answers.specs.cx_laws_links.proofs.Spoken.{is_connectors}
+use Rattle.cx_laws_answers.specs.cx_laws_links.proofs.Written.{IsLinkKey}
+use Rattle.cx_laws_answers.specs.cx_laws_series.proofs.Contents.{contents_by}
 use Rattle.cx_journal.specs.declared.faults.BytesFault.{BytesFault}
 use Rattle.cx_base.specs.declared.operations.Operation.{Operation}
 use Rattle.cx_laws_sent.proofs.Before.{ClientBefore}
-use Rattle.cx_laws_sent.proofs.CallBehind.{RowBehind}
+use Rattle.cx_laws_answers.proofs.Given.{is_acceptors}
+use Rattle.cx_laws_sent.proofs.CallBehind.{RowKnown}
 use Rattle.cx_laws_sent.proofs.CallFits.{CookieFits}
 use Rattle.cx_laws_sent.proofs.CallTurns.{StageKnown, turn-is}
 use Rattle.cx_laws_sent.proofs.ClientLinks.{with-other, with-own}
 use Rattle.cx_laws_sent.proofs.ClientNode.{LeftIs, left-known, quiet-known}
-use Rattle.cx_laws_sent.proofs.CallWords.{SentFits}
-use Rattle.cx_laws_sent.proofs.State.{CallFits, ClientBehind, OrderFits, SessionFits, StageFits}
+use Rattle.cx_laws_sent.proofs.Shown.{OrderFits, SentFits, ShowsNone, ShowsRow, all-from, left-from, was-at, without-from}
+use Rattle.cx_laws_sent.proofs.State.{CallFits, ClientBehind, SessionFits, StageFits}
 use Rattle.cx_laws_sent.proofs.Waiting.{held-here}
 
 -- ---- no session is admitted
@@ -207,9 +208,9 @@ module _ (run : WholeRun) (whole : List Logged) (us vs : Uses) (told : Told) (lo
   replies key h bytes x e g =
       subst (λ (whose : Name). HasReply us whose x) (same-entity n h.name name h.own refl) (reply-ties run whole n line us log J name never refl b.inv key bytes x h g e)
 
-  shown-session : (called : Called) (found : Option Ticket) → HeldOk us n found → IsSession us n called.held.session → IsSession us n (presented_by called c.own.asker found (challenge_of draw)).held.session
+  shown-session : (called : Called) (found : Option Ticket) → HeldOk us n called.callee.daemon.kind found → IsSession us n called.held.session → IsSession us n (presented_by called c.own.asker found (challenge_of draw)).held.session
   shown-session called None held before = before
-  shown-session called (Some held) of before = of
+  shown-session called (Some held) of before = of.0
 
   module _ (K : List Entry) (w : Within J K) (none : (session : Admitted) → Contains K (journal.Admitted session) → Contains J (journal.Admitted session)) where
     abbrev Knows : CallStage → Type 0
@@ -222,8 +223,8 @@ module _ (run : WholeRun) (whole : List Logged) (us vs : Uses) (told : Told) (lo
     stage-known : (st : CallStage) → st ≡ stage → CallKeys us n st → IsOfSession c.own.sessions st → Knows st
     stage-known (call.AwaitsBanner called) same keys of = tt
     stage-known (call.AwaitsHello called) same keys of =
-        is-own _ (shown-session called (ticket_for called.callee.daemon.kind c.own.asker.holdings) (found-ticket us n c.own.asker.holdings called.callee.daemon.kind b.ok.holds) keys)
-    stage-known (call.AwaitsChallenge callee p) same keys of = is-own p.held.session keys
+        is-own _ (shown-session called (ticket_for called.callee.daemon.kind c.own.asker.holdings) (found-ticket us n c.own.asker.holdings called.callee.daemon.kind b.ok.holds) keys.0)
+    stage-known (call.AwaitsChallenge callee p) same keys of = is-own p.held.session keys.0
     stage-known (call.AwaitsDone callee answered) same keys of = λ bytes x e g. replies answered.session keys bytes x e g
     stage-known (call.AwaitsSignature s callee) same keys of = tt
     stage-known (call.AwaitsIdent s callee cookie) same keys of = tt
@@ -232,7 +233,7 @@ module _ (run : WholeRun) (whole : List Logged) (us vs : Uses) (told : Told) (lo
     stage-known (call.Open s callee cookie) same keys of =
         subst (λ (d : Name). IsHeldHere (SentFits K name) (Some cookie) (session_with d c.own.sessions)) (ap (λ (x : CallStage). (callee_of x).daemon) same) (here-held callee cookie of)
 
-    turned-is : TurnIs (λ row. AreGranted run.leaked whole n line log row.seals → RowBehind run us vs told log K n line name link.number row) (call.turned_at a stage)
+    turned-is : TurnIs (λ row. AreGranted run.leaked whole n line log row.seals → RowKnown run us vs told log K n line name link.number a stage row) (call.turned_at a stage)
     turned-is = turn-is run whole us vs told log J K n line b.inv.one b.one b.grows w b.inv none b.all_told b.spelled name a b.challenge b.cookie held-cookie stage stands.0 fit
         (stage-known stage refl ok.0 stands.1)
 
@@ -247,10 +248,10 @@ module _ (run : WholeRun) (whole : List Logged) (us vs : Uses) (told : Told) (lo
   no-session (Handles row) l = all-map (IsCallEntry c.own.asker) IsNoSession (call-no_session c.own.asker) row.entries l.enters
 
   abbrev Comes : Turned Caller CallStage → Type 0
-  Comes t = ClientBehind run us vs told log line (entered J (outcome t).out.entries) name (outcome t)
+  Comes t = ClientBehind run us vs told log line (entered J (outcome t).out.entries) name c (outcome t)
 
   abbrev RowsAt : List Entry → CallRow → Type 0
-  RowsAt K row = AreGranted run.leaked whole n line log row.seals → RowBehind run us vs told log K n line name link.number row
+  RowsAt K row = AreGranted run.leaked whole n line log row.seals → RowKnown run us vs told log K n line name link.number a stage row
 
   waits-comes : Comes Waits
   waits-comes = record {
@@ -260,6 +261,8 @@ module _ (run : WholeRun) (whole : List Logged) (us vs : Uses) (told : Told) (lo
     known_of = told-stays run whole us vs told log J J n line [] b.one b.grows (within-all J []) b.inv (λ other whose tie its. refl) (λ session has. has) b.all_told;
     spelled = b.spelled;
     client = quiet-known us vs b.inv.one b.grows told log n line [] name c refl b.known c.own refl refl b.known.sessions (λ other whose tie its. refl) (λ st any h. h);
+    gives_none = λ other whose tie its. refl;
+    shows = ShowsNone refl (all-from c.links) tt;
   }
 
   refuses-comes : (why : BytesFault) (opened : List SealEntry) → AreQuiet opened → Comes (Refuses why opened)
@@ -272,22 +275,26 @@ module _ (run : WholeRun) (whole : List Logged) (us vs : Uses) (told : Told) (lo
     spelled = b.spelled;
     client = left-known us vs b.inv.one b.grows told log n line opened name c refl b.known c.own refl refl b.known.sessions link stage there is told
         (Quiets told.nonces (same-nonces told name link.number) none) (λ st apart h. h) None (λ l e. absurd cc) [];
+    gives_none = λ other whose tie its. quiet-none other is_acceptors opened quiet;
+    shows = ShowsNone refl (without-from c.links link.number) (tt, tt);
   }
     where
       none : (other : List ℕ) (whose : Name) (tie : ℕ) → IsLinkKey vs other whose tie → contents_by other is_connectors opened ≡ []
       none other whose tie its = quiet-none other is_connectors opened quiet
 
   handles-comes : (row : CallRow) → Leaves c.own.asker row → Held (FitsWith daemon) row → RowKeeps link.number (callee_of stage) row
-      → RowBehind run us vs told log (entered J row.entries) n line name link.number row → Comes (Handles row)
-  handles-comes row leaves held keeps r = record {
-    next = r.next;
+      → RowKnown run us vs told log (entered J row.entries) n line name link.number a stage row → Comes (Handles row)
+  handles-comes row leaves held keeps known = record {
+    next = known.behind.next;
     number = link.number;
-    moved = r.moved;
-    known_of = r.known;
-    spelled = r.spelled;
+    moved = known.behind.moved;
+    known_of = known.behind.known;
+    spelled = known.behind.spelled;
     client = left-known us vs b.inv.one b.grows told log n line row.seals name c refl b.known (with_caller daemon c.own row.own) still refl
-        (with-all SessionFits daemon row.own.session (held-map (FitsWith daemon) SessionFits (λ s h. h.0) row.own.session held.0) c.own.sessions b.known.sessions) link stage there is r.next r.moved
+        (with-all SessionFits daemon row.own.session (held-map (FitsWith daemon) SessionFits (λ s h. h.0) row.own.session held.0) c.own.sessions b.known.sessions) link stage there is known.behind.next known.behind.moved
         (other-session c.own.sessions daemon row.own.session with_it) row.link left row.sends;
+    gives_none = known.behind.gives_none;
+    shows = ShowsRow a stage row (was-at c.links link (ToDaemon stage) there is) refl refl refl refl known.shown known.behind.grown (left-from c.links link.number row.link row.sends (λ it e. (known.behind.link it e).0));
   }
     where
       still : row.own.asker.name ≡ name
@@ -298,9 +305,9 @@ module _ (run : WholeRun) (whole : List Logged) (us vs : Uses) (told : Told) (lo
 
       left : (l : Link CallStage) → row.link ≡ Some l
           → LeftIs us vs b.inv.one b.grows told log n line row.seals name c refl b.known (with_caller daemon c.own row.own) still refl
-          (with-all SessionFits daemon row.own.session (held-map (FitsWith daemon) SessionFits (λ s h. h.0) row.own.session held.0) c.own.sessions b.known.sessions) link stage there is r.next r.moved
+          (with-all SessionFits daemon row.own.session (held-map (FitsWith daemon) SessionFits (λ s h. h.0) row.own.session held.0) c.own.sessions b.known.sessions) link stage there is known.behind.next known.behind.moved
           (other-session c.own.sessions daemon row.own.session with_it) l
-      left l e = let k = keeps.link l e in let h = r.link l e in record {
+      left l e = let k = keeps.link l e in let h = known.behind.link l e in record {
         number = h.0;
         call_told = h.1;
         cookie_fits = h.2;
@@ -327,13 +334,13 @@ module _ (run : WholeRun) (whole : List Logged) (us vs : Uses) (told : Told) (lo
 pub presents-behind : (run : WholeRun) (whole : List Logged) (us vs : Uses) (told : Told) (log : List Logged) (J : List Entry) (line : ℕ) (name : Name) (c : WholeClientNode) (reading : ℕ) (draw : List ℕ)
     → ClientBefore run whole us vs told log J name c draw → (number : ℕ) (link : Link ClientStage) (stage : CallStage) → link_of number c.links ≡ Some link → link.stage ≡ ToDaemon stage
     → AreGranted run.leaked whole (node.Entity name) line log (call_turn c reading draw link stage).out.seals
-    → ClientBehind run us vs told log line (entered J (call_turn c reading draw link stage).out.entries) name (call_turn c reading draw link stage)
+    → ClientBehind run us vs told log line (entered J (call_turn c reading draw link stage).out.entries) name c (call_turn c reading draw link stage)
 presents-behind run whole us vs told log J line whose c reading draw b number link stage found is g =
     subst (λ (m : Name). ClientBefore run whole us vs told log J m c draw → AreGranted run.leaked whole (node.Entity m) line log (call_turn c reading draw link stage).out.seals
-    → ClientBehind run us vs told log line (entered J (call_turn c reading draw link stage).out.entries) m (call_turn c reading draw link stage)) b.named itself b g
+    → ClientBehind run us vs told log line (entered J (call_turn c reading draw link stage).out.entries) m c (call_turn c reading draw link stage)) b.named itself b g
   where
     itself : ClientBefore run whole us vs told log J c.own.asker.name c draw → AreGranted run.leaked whole (node.Entity c.own.asker.name) line log (call_turn c reading draw link stage).out.seals
-        → ClientBehind run us vs told log line (entered J (call_turn c reading draw link stage).out.entries) c.own.asker.name (call_turn c reading draw link stage)
+        → ClientBehind run us vs told log line (entered J (call_turn c reading draw link stage).out.entries) c.own.asker.name c (call_turn c reading draw link stage)
     itself h granted =
         turn-comes run whole us vs told log J line c reading draw h link stage
         (found-some (λ (l : Link ClientStage). l ≡ link) (λ (l : Link ClientStage). l.number == number) c.links link found refl) is

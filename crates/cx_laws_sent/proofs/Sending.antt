@@ -16,16 +16,16 @@ use Rattle.cx_lines.specs.declared.node_steps.NodeStep.{NodeStep}
 use Rattle.cx_lines.specs.declared.node_steps.NodeStep.TheVariants as step
 use Rattle.cx_line_words.specs.declared.choices.Side.{Side}
 use Rattle.cx_line_words.specs.declared.choices.Side.TheVariants.{Connector, Acceptor}
-use Rattle.cx_rules.specs.Inputs.{Input, Opened, Bytes, Turn, Gone, Restart, Tick, Submit}
+use Rattle.cx_laws_queues.specs.cx_rules.specs.Inputs.{Input, Opened, Bytes, Turn, Gone, Restart, Tick, Submit}
 use Rattle.cx_steps.specs.declared.events.Command.TheVariants as told
 use Rattle.cx_steps.specs.declared.events.Peer.{Peer}
-use Rattle.cx_run.specs.Happenings.{Happening}
-use Rattle.cx_run.specs.Opening.{opening_world}
-use Rattle.cx_run.specs.Runs.{setup_of, trace}
-use Rattle.cx_run.specs.Wires.{Wire, end_of, ended, gone_at, has_end, node_at, other, owes_gone, pieces_from, wire_of, with_pieces, with_wire}
-use Rattle.cx_run.specs.Worlds.{Post, World, carried, happening, opened_wires, post_of}
-use Rattle.cx_run.specs.Deliveries.{Given, arrives, arrives_from, came_at, comes, delivers, delivers_on, delivers_piece, drains, drains_side, far_side, first_of, followed, given, gives, gone_arrives, open_all, opens, restarts, round, rounds, settles, stay, tells, tells_gone, turns, under_way, vanish}
-use Rattle.cx_run.specs.Schedules.{acts_on, after_line, after_lines, arrives_again, cuts, ever_sent, injects, loses, on_link, on_node, services_sum, submits, submitted, without_first}
+use Rattle.cx_laws_queues.specs.cx_run.specs.Happenings.{Happening}
+use Rattle.cx_laws_queues.specs.cx_run.specs.Opening.{opening_world}
+use Rattle.cx_laws_queues.specs.cx_run.specs.Runs.{setup_of, trace}
+use Rattle.cx_laws_queues.specs.cx_run.specs.Wires.{Wire, end_of, ended, gone_at, has_end, node_at, other, owes_gone, pieces_from, wire_of, with_pieces, with_wire}
+use Rattle.cx_laws_queues.specs.cx_run.specs.Worlds.{Post, World, carried, happening, opened_wires, post_of}
+use Rattle.cx_laws_queues.specs.cx_run.specs.Deliveries.{Given, arrives, arrives_from, came_at, comes, delivers, delivers_on, delivers_piece, drains, drains_side, far_side, first_of, followed, given, gives, gone_arrives, open_all, opens, restarts, round, rounds, settles, stay, tells, tells_gone, turns, under_way, vanish}
+use Rattle.cx_laws_queues.specs.cx_run.specs.Schedules.{acts_on, after_line, after_lines, arrives_again, cuts, ever_sent, injects, loses, on_link, on_node, services_sum, submits, submitted, without_first}
 use Rattle.cx_schedule.specs.Files.{Lines}
 use Rattle.cx_laws_sent.proofs.Spelling.{CommandFits, LineFits, LinesFit, schedule-fits}
 use Rattle.cx_laws_sent.specs.Fitting.{AreFit, IsFit}
@@ -153,7 +153,7 @@ kept-submitted w (command.Login client services) fits k = kept-comes w (node.Ent
 kept-submitted w (command.Fetch daemon) fits k = kept-comes w (node.Entity daemon) (Submit told.Fetch) tt k
 kept-submitted w (command.Renew client services) fits k = kept-comes w (node.Entity client) (Submit (told.Renew (services_sum services))) tt k
 kept-submitted w (command.Connect client daemon lossy) fits k = kept-comes w (node.Entity client) (Submit (told.Connect daemon lossy)) tt k
-kept-submitted w (command.Send client daemon operation) fits k = k
+kept-submitted w (command.Send client daemon operation) fits k = kept-comes w (node.Entity client) (Submit (told.Send daemon operation)) fits k
 
 kept-submits : (w : World) (c : LineCommand) → CommandFits c → Fits w → Fits (submits w c)
 kept-submits w (command.Login client services) fits k =
@@ -163,7 +163,8 @@ kept-submits w (command.Renew client services) fits k =
     kept-settles (submitted w (command.Renew client services)) (kept-submitted w (command.Renew client services) fits k)
 kept-submits w (command.Connect client daemon lossy) fits k =
     kept-settles (submitted w (command.Connect client daemon lossy)) (kept-submitted w (command.Connect client daemon lossy) fits k)
-kept-submits w (command.Send client daemon operation) fits k = k
+kept-submits w (command.Send client daemon operation) fits k =
+    kept-settles (submitted w (command.Send client daemon operation)) (kept-submitted w (command.Send client daemon operation) fits k)
 
 kept-without_first : (w : World) (wire : Wire) (side : Side) (pieces : List (List ℕ)) → Fits w → Fits (without_first w wire side pieces)
 kept-without_first w wire side [] k = k

@@ -17,44 +17,45 @@ use Rattle.cx_laws_keys.proofs.Journal.{entered}
 use Rattle.cx_laws_keys.proofs.Lists.{all-append}
 use Rattle.cx_laws_keys.proofs.Premises.{AreGranted}
 use Rattle.cx_laws_keys.proofs.Uses.{Uses, WholeRun}
-use Rattle.cx_laws_login.proofs.Entering.{within-all}
+use Rattle.cx_laws_run.specs.cx_laws_login.proofs.Entering.{within-all}
+use Rattle.cx_laws_answers.specs.cx_laws_series.proofs.Frames.{frame-sealed}
 use Rattle.cx_laws_queues.proofs.Clients.{with-its}
 use Rattle.cx_laws_queues.proofs.Sessions.{with-all}
 use Rattle.cx_laws_queues.specs.cx_laws_session.proofs.Lists.{found-all, some-of}
-use Rattle.cx_rules.specs.Links.{Link}
-use Rattle.cx_rules.specs.Messages.{sealed_behind, sealed_then, secure_frames}
-use Rattle.cx_rules.specs.Rows.{Outcome, arrival, carried_out, refused_entry, secure_sent}
-use Rattle.cx_rules.specs.Secured.{SealedFrame, Secured, secure_frame}
-use Rattle.cx_rules_session.specs.ClientRule.{ClientStage, ToDaemon, WholeClient, WholeClientNode, call_open, call_or, first_call, having_session, me, sent_entry}
-use Rattle.cx_rules_session.specs.Kinds.{entered_before, in_stage}
-use Rattle.cx_rules_session.specs.Presenter as call
-use Rattle.cx_rules_session.specs.Presenter.{CallRow, CallStage}
-use Rattle.cx_rules_session.specs.Sessions.{Callee, HeldSession, operation_message, put_session, session_with}
-use Rattle.cx_run.proofs.Outcomes.{sent_in}
+use Rattle.cx_laws_queues.specs.cx_rules.specs.Links.{Link}
+use Rattle.cx_laws_queues.specs.cx_rules.specs.Messages.{sealed_behind, sealed_then, secure_frames}
+use Rattle.cx_laws_queues.specs.cx_rules.specs.Rows.{Outcome, arrival, carried_out, refused_entry, secure_sent}
+use Rattle.cx_laws_queues.specs.cx_rules.specs.Secured.{SealedFrame, Secured, sealed_under, secure_frame}
+use Rattle.cx_laws_queues.specs.cx_rules_session.specs.ClientRule.{ClientStage, ToDaemon, WholeClient, WholeClientNode, call_open, call_or, first_call, having_session, me, sent_entry}
+use Rattle.cx_laws_queues.specs.cx_rules_session.specs.Kinds.{entered_before, in_stage}
+use Rattle.cx_laws_queues.specs.cx_rules_session.specs.Presenter as call
+use Rattle.cx_laws_queues.specs.cx_rules_session.specs.Presenter.{CallRow, CallStage}
+use Rattle.cx_laws_queues.specs.cx_rules_session.specs.Sessions.{Callee, HeldSession, operation_message, put_session, session_with}
+use Rattle.cx_laws_queues.specs.cx_run.proofs.Outcomes.{sent_in}
 use Rattle.cx_session.specs.Queue.{Queue, push_reply, pushed}
 use Rattle.cx_session.specs.declared.outbox.QueueFault.{QueueFault}
 use Rattle.cx_session.specs.declared.outbox.QueueFault.TheVariants as queue
 use Rattle.cx_steps.specs.Onto.{SomeOf}
 use Rattle.cx_steps.specs.declared.seals.Logged.{Logged}
 use Rattle.cx_wire.specs.Operations.{operation_layout}
-use Rattle.cx_laws_links.proofs.CallTold.{same-nonces}
-use Rattle.cx_laws_links.proofs.CallWords.{KeyedStage, Opened, Says, SomeOrders}
-use Rattle.cx_laws_links.proofs.Known.{IsKeyed, IsOfSession, StageTold, Told}
-use Rattle.cx_laws_links.proofs.Lifting.{told-stays}
-use Rattle.cx_laws_links.proofs.Moving.{Quiets}
-use Rattle.cx_laws_links.proofs.Spoken.{Orders}
+use Rattle.cx_laws_answers.specs.cx_laws_links.proofs.CallTold.{same-nonces}
+use Rattle.cx_laws_answers.specs.cx_laws_links.proofs.CallWords.{KeyedStage, Opened, Says, SomeOrders, pending_of}
+use Rattle.cx_laws_answers.specs.cx_laws_links.proofs.Known.{IsKeyed, IsOfSession, StageTold, Told}
+use Rattle.cx_laws_answers.specs.cx_laws_links.proofs.Lifting.{told-stays}
+use Rattle.cx_laws_answers.specs.cx_laws_links.proofs.Moving.{Quiets}
+use Rattle.cx_laws_answers.specs.cx_laws_links.proofs.Spoken.{Orders, Spoken, tagged}
 use Rattle.cx_laws_sent.proofs.Before.{ClientBefore}
 use Rattle.cx_laws_sent.proofs.CallBehind.{RowBehind, keyed-row}
-use Rattle.cx_laws_sent.proofs.CallWords.{SentFits}
+use Rattle.cx_laws_sent.proofs.Shown.{OrderFits, SentFits, ShowsNone, ShowsOrder, all-from, left-from, was-at, without-from}
 use Rattle.cx_laws_sent.proofs.ClientLinks.{with-other, with-own}
 use Rattle.cx_laws_sent.proofs.ClientNode.{LeftIs, left-known, quiet-known}
 use Rattle.cx_laws_sent.proofs.Presents.{none-admitted}
-use Rattle.cx_laws_sent.proofs.State.{ClientBehind, OrderFits, SessionFits, StageFits}
+use Rattle.cx_laws_sent.proofs.State.{ClientBehind, SessionFits, StageFits}
 
 -- ---- the open link to a daemon
 
 -- the link that is found, and what it keeps
-found-call : (daemon : Name) (links : List (Link ClientStage)) (link : Link ClientStage) (kept : Secured × (Callee × ℕ)) → first_call daemon links ≡ Some (link, kept)
+pub found-call : (daemon : Name) (links : List (Link ClientStage)) (link : Link ClientStage) (kept : Secured × (Callee × ℕ)) → first_call daemon links ≡ Some (link, kept)
     → SomeOf (λ (l : Link ClientStage). l ≡ link) links × (call_open daemon link.stage ≡ Some kept)
 found-call daemon [] link kept e = absurd cc
 found-call daemon (l ∷ links) link kept e = by_open (call_open daemon l.stage) refl e (λ later. found-call daemon links link kept later)
@@ -70,7 +71,7 @@ found-call daemon (l ∷ links) link kept e = by_open (call_open daemon l.stage)
         (inl here, ap (λ (m : Link ClientStage). call_open daemon m.stage) (sym here) ∙ is ∙ ap (λ (x : Secured × (Callee × ℕ)). Some x) keeps)
 
 -- it is open, to this daemon
-open-stage : (daemon : Name) (stage : ClientStage) (kept : Secured × (Callee × ℕ)) → call_open daemon stage ≡ Some kept
+pub open-stage : (daemon : Name) (stage : ClientStage) (kept : Secured × (Callee × ℕ)) → call_open daemon stage ≡ Some kept
     → (stage ≡ ToDaemon (call.Open kept.0 kept.1.0 kept.1.1)) × (kept.1.0.daemon ≡ daemon)
 open-stage daemon (ToDaemon (call.Open s callee cookie)) kept e = by_test (same_name callee.daemon daemon) refl e
   where
@@ -157,7 +158,7 @@ module _ (run : WholeRun) (whole : List Logged) (us vs : Uses) (told : Told) (lo
       c.own.sessions b.known.sessions
 
   abbrev Comes : Outcome WholeClientNode → Type 0
-  Comes o = ClientBehind run us vs told log line (entered J o.out.entries) name o
+  Comes o = ClientBehind run us vs told log line (entered J o.out.entries) name c o
 
   -- ---- no link is open
 
@@ -171,6 +172,8 @@ module _ (run : WholeRun) (whole : List Logged) (us vs : Uses) (told : Told) (lo
     spelled = b.spelled;
     client = quiet-known us vs b.inv.one b.grows told log n line [] name c refl b.known own refl refl fits (λ other whose tie its. refl)
         (λ st any h. still-of c.own.sessions session (pushed session.queue operation) held st h);
+    gives_none = λ other whose tie its. refl;
+    shows = ShowsNone refl (all-from c.links) (tt, tt);
   }
 
   -- ---- on an open link
@@ -203,6 +206,8 @@ module _ (run : WholeRun) (whole : List Logged) (us vs : Uses) (told : Told) (lo
           spelled = b.spelled;
           client = left-known us vs b.inv.one b.grows told log n line [] name c refl b.known own refl refl fits link (call.Open s callee cookie) there is told
               (Quiets told.nonces (same-nonces told name link.number) (λ other whose tie its. refl)) still None (λ l e. absurd cc) [];
+          gives_none = λ other whose tie its. refl;
+          shows = ShowsNone refl (without-from c.links link.number) (tt, (tt, tt));
         }
 
     module _ (one : SealedFrame) (made : secure_frame s.keys (operation_message order) ≡ Ok one) where
@@ -216,7 +221,10 @@ module _ (run : WholeRun) (whole : List Logged) (us vs : Uses) (told : Told) (lo
       abbrev row : CallRow
       row = record { own = record { asker = c.own.asker; session = None }; link = Some left; sends = one.bytes; save = None; entries = []; seals = one.seals }
 
-      says : Says (SentFits (J ++ sent ∷ []) name) link.number callee s (Some cookie) row
+      was : Contains (J ++ sent ∷ []) (sent_as cookie)
+      was = subst (λ (m : ℕ). Contains (J ++ sent ∷ []) (sent_as m)) same-cookie (Contains-push J sent)
+
+      abbrev says : Says (SentFits (J ++ sent ∷ []) name) link.number callee s (Some cookie) row
       says = record {
         words = Orders order ∷ [];
         quiet = [];
@@ -229,18 +237,19 @@ module _ (run : WholeRun) (whole : List Logged) (us vs : Uses) (told : Told) (lo
             (behind_it, subst (λ (m : Link CallStage). KeyedStage m.stage behind_it (Some cookie)) it (Opened behind_it callee cookie), refl, ap (λ (m : Link CallStage). m.number) (sym it));
         calls = λ l e. let it : left ≡ l = cc in subst (λ (m : Link CallStage). call.callee_of m.stage ≡ callee) it refl;
         held = λ l e. tt;
+        waits = λ l e. let it : left ≡ l = cc in subst (λ (m : Link CallStage). [] ≡ pending_of m.stage) it refl;
         said = SomeOrders cookie (order ∷ []) refl (((session.daemon, was), (low, spelled)), tt);
       }
-        where
-          was : Contains (J ++ sent ∷ []) (sent_as cookie)
-          was = subst (λ (m : ℕ). Contains (J ++ sent ∷ []) (sent_as m)) same-cookie (Contains-push J sent)
 
-      spoken : AreGranted run.leaked whole n line log one.seals → RowBehind run us vs told log (J ++ sent ∷ []) n line name link.number row
+      abbrev more : List (List ℕ × Spoken)
+      more = tagged s.keys.key (Orders order ∷ [])
+
+      spoken : AreGranted run.leaked whole n line log one.seals → RowBehind run us vs told log (J ++ sent ∷ []) n line name link.number more row
       spoken g = keyed-row run whole us vs told log J (J ++ sent ∷ []) n line b.inv.one b.one b.grows (within-all J (sent ∷ [])) b.inv (none-admitted J (sent ∷ []) (tt, tt)) b.all_told b.spelled name
           link.number callee s (Some cookie) k row says fit g
 
       -- the link is as before, under the keys behind it
-      left-is : (r : RowBehind run us vs told log (J ++ sent ∷ []) n line name link.number row) (l : Link CallStage) → Some left ≡ Some l
+      left-is : (r : RowBehind run us vs told log (J ++ sent ∷ []) n line name link.number more row) (l : Link CallStage) → Some left ≡ Some l
           → LeftIs us vs b.inv.one b.grows told log n line one.seals name c refl b.known own refl refl fits link (call.Open s callee cookie) there is r.next r.moved still l
       left-is r l e =
           let it : left ≡ l = cc in
@@ -262,7 +271,17 @@ module _ (run : WholeRun) (whole : List Logged) (us vs : Uses) (told : Told) (lo
         spelled = r.spelled;
         client = left-known us vs b.inv.one b.grows told log n line one.seals name c refl b.known own refl refl fits link (call.Open s callee cookie) there is r.next r.moved still (Some left)
             (left-is r) one.bytes;
+        gives_none = r.gives_none;
+        shows = ShowsOrder s behind_it callee cookie order left (was-at c.links link (ToDaemon (call.Open s callee cookie)) there is) refl
+            (ap (λ (x : SealedFrame). x.keys.key) made-so) (ap (λ (x : SealedFrame). x.keys.into) made-so) (r.grown left refl)
+            (left-from c.links link.number (Some left) one.bytes (λ it e. numbered it e)) (tt, tt);
       }
+        where
+          made-so : one ≡ sealed_under s.keys (operation_message order)
+          made-so = (frame-sealed s.keys (operation_message order) one made).0
+
+          numbered : (it : Link CallStage) → Some left ≡ Some it → it.number ≡ link.number
+          numbered it e = let same : left ≡ it = cc in ap (λ (l : Link CallStage). l.number) (sym same)
 
     sealed-comes : (made : Result SealedFrame BytesFault) → secure_frame s.keys (operation_message order) ≡ made → AreGranted run.leaked whole n line log (outcome made).out.seals → Comes (outcome made)
     sealed-comes (Err why) e g = refused-comes why
@@ -287,7 +306,7 @@ module _ (run : WholeRun) (whole : List Logged) (us vs : Uses) (told : Told) (lo
   next-of = push-next session.queue.last seq (nat_le 1024 (length session.queue.waiting)) (session.queue.last == 2 ^ 64 - 1) refl session-fits.last pushes
 
   abbrev Behind : Option (Link ClientStage × (Secured × (Callee × ℕ))) → Type 0
-  Behind found = ClientBehind run us vs told log line (entered J (sent_in c reading draw session operation seq found).out.entries) c.own.asker.name (sent_in c reading draw session operation seq found)
+  Behind found = ClientBehind run us vs told log line (entered J (sent_in c reading draw session operation seq found).out.entries) c.own.asker.name c (sent_in c reading draw session operation seq found)
 
   pub sent-later : Behind None
   sent-later = later-comes run whole us vs told log J line c reading draw b session own-held operation seq next-of.0 next-of.1 spelled
@@ -312,12 +331,12 @@ pub sends-behind : (run : WholeRun) (whole : List Logged) (us vs : Uses) (told :
     → push_reply session.queue ≡ Ok seq → operation_layout.form.Fits operation → (link : Link ClientStage) (s : Secured) (callee : Callee) (cookie : ℕ)
     → first_call session.daemon c.links ≡ Some (link, (s, (callee, cookie)))
     → AreGranted run.leaked whole (node.Entity name) line log (sent_in c reading draw session operation seq (Some (link, (s, (callee, cookie))))).out.seals
-    → ClientBehind run us vs told log line (entered J (sent_in c reading draw session operation seq (Some (link, (s, (callee, cookie))))).out.entries) name
+    → ClientBehind run us vs told log line (entered J (sent_in c reading draw session operation seq (Some (link, (s, (callee, cookie))))).out.entries) name c
     (sent_in c reading draw session operation seq (Some (link, (s, (callee, cookie)))))
 sends-behind run whole us vs told log J line whose c reading draw b daemon session operation seq held pushes spelled link s callee cookie found g =
     subst (λ (m : Name). ClientBefore run whole us vs told log J m c draw
     → AreGranted run.leaked whole (node.Entity m) line log (sent_in c reading draw session operation seq (Some (link, (s, (callee, cookie))))).out.seals
-    → ClientBehind run us vs told log line (entered J (sent_in c reading draw session operation seq (Some (link, (s, (callee, cookie))))).out.entries) m
+    → ClientBehind run us vs told log line (entered J (sent_in c reading draw session operation seq (Some (link, (s, (callee, cookie))))).out.entries) m c
     (sent_in c reading draw session operation seq (Some (link, (s, (callee, cookie)))))) b.named
     (λ h granted. sent-there run whole us vs told log J line c reading draw h daemon session operation seq held pushes spelled link s callee cookie found granted) b g
 
@@ -325,8 +344,8 @@ sends-behind run whole us vs told log J line whose c reading draw b daemon sessi
 pub waits-behind : (run : WholeRun) (whole : List Logged) (us vs : Uses) (told : Told) (log : List Logged) (J : List Entry) (line : ℕ) (name : Name) (c : WholeClientNode) (reading : ℕ) (draw : List ℕ)
     → ClientBefore run whole us vs told log J name c draw → (daemon : Name) (session : HeldSession) (operation : Operation) (seq : ℕ) → session_with daemon c.own.sessions ≡ Some session
     → push_reply session.queue ≡ Ok seq → operation_layout.form.Fits operation
-    → ClientBehind run us vs told log line (entered J (sent_in c reading draw session operation seq None).out.entries) name (sent_in c reading draw session operation seq None)
+    → ClientBehind run us vs told log line (entered J (sent_in c reading draw session operation seq None).out.entries) name c (sent_in c reading draw session operation seq None)
 waits-behind run whole us vs told log J line whose c reading draw b daemon session operation seq held pushes spelled =
     subst (λ (m : Name). ClientBefore run whole us vs told log J m c draw
-    → ClientBehind run us vs told log line (entered J (sent_in c reading draw session operation seq None).out.entries) m (sent_in c reading draw session operation seq None)) b.named
+    → ClientBehind run us vs told log line (entered J (sent_in c reading draw session operation seq None).out.entries) m c (sent_in c reading draw session operation seq None)) b.named
     (λ h. sent-later run whole us vs told log J line c reading draw h daemon session operation seq held pushes spelled) b

@@ -4,7 +4,7 @@ use Rattle.std.proofs.lemmas.Bool.{leb-true}
 use Rattle.std.specs.List.{AllByRecursion}
 use Rattle.cx_base.specs.declared.operations.Operation.{Operation}
 use Rattle.cx_laws_keys.proofs.Lists.{all-append}
-use Rattle.cx_laws_links.proofs.Hearing.{writable-fits}
+use Rattle.cx_laws_answers.specs.cx_laws_links.proofs.Hearing.{writable-fits}
 use Rattle.cx_line_words.specs.Values.{SpellsItems}
 use Rattle.cx_line_words.specs.declared.known.Known.{Known}
 use Rattle.cx_lines.specs.Commands.{command_items, operation_items}

@@ -5,40 +5,36 @@ use Rattle.std.specs.List.{AllByRecursion}
 use Rattle.cx_base.specs.Names.{Name}
 use Rattle.cx_base.specs.declared.nodes.NodeName.{NodeName}
 use Rattle.cx_base.specs.declared.nodes.NodeName.TheVariants as node
-use Rattle.cx_base.specs.declared.operations.Operation.{Operation}
 use Rattle.cx_journal.specs.Behind.{EachBehind}
 use Rattle.cx_journal.specs.declared.entries.Admitted.{Admitted}
 use Rattle.cx_journal.specs.declared.entries.Entry.{Entry}
 use Rattle.cx_journal.specs.declared.entries.Entry.TheVariants as journal
 use Rattle.cx_laws_keys.proofs.Premises.{behind}
 use Rattle.cx_laws_keys.proofs.Uses.{Connected, Means, Tie, Uses, WholeRun}
-use Rattle.cx_laws_series.proofs.Contents.{contents_by}
-use Rattle.cx_rules.specs.Links.{Link}
-use Rattle.cx_rules.specs.Rows.{Outcome}
-use Rattle.cx_rules_session.specs.ClientRule.{ClientStage, ToDaemon, ToMonitor, WholeClientNode}
-use Rattle.cx_rules_session.specs.DaemonRule.{DaemonState}
-use Rattle.cx_rules_session.specs.Presenter as call
-use Rattle.cx_rules_session.specs.Presenter.{CallStage}
-use Rattle.cx_rules_session.specs.Sessions.{HeldSession}
-use Rattle.cx_run.specs.Happenings.{EntityNode, OfClient, OfDaemon}
+use Rattle.cx_laws_answers.specs.cx_laws_series.proofs.Contents.{contents_by}
+use Rattle.cx_laws_queues.specs.cx_rules.specs.Links.{Link}
+use Rattle.cx_laws_queues.specs.cx_rules.specs.Rows.{Outcome}
+use Rattle.cx_laws_queues.specs.cx_rules_session.specs.ClientRule.{ClientStage, ToDaemon, ToMonitor, WholeClientNode}
+use Rattle.cx_laws_queues.specs.cx_rules_session.specs.DaemonRule.{DaemonState}
+use Rattle.cx_laws_queues.specs.cx_rules_session.specs.Presenter as call
+use Rattle.cx_laws_queues.specs.cx_rules_session.specs.Presenter.{CallStage}
+use Rattle.cx_laws_queues.specs.cx_rules_session.specs.Sessions.{HeldSession}
+use Rattle.cx_laws_queues.specs.cx_run.specs.Happenings.{EntityNode, OfClient, OfDaemon}
 use Rattle.cx_steps.specs.declared.seals.Logged.{Logged}
-use Rattle.cx_wire.specs.Operations.{operation_layout}
-use Rattle.cx_laws_links.proofs.GuestNodes.{LinksKnown}
-use Rattle.cx_laws_links.proofs.GuestTakes.{IsServedIn, WasSentAs}
-use Rattle.cx_laws_links.proofs.GuestWords.{AreSpelled}
-use Rattle.cx_laws_links.proofs.Known.{AreTold, ClientTold, Told}
-use Rattle.cx_laws_links.proofs.Moving.{Moved}
-use Rattle.cx_laws_links.proofs.Single.{IsSingle}
-use Rattle.cx_laws_links.proofs.Spoken.{is_connectors}
-use Rattle.cx_laws_links.proofs.Written.{IsLinkKey}
+use Rattle.cx_laws_answers.specs.cx_laws_links.proofs.GuestNodes.{LinksKnown}
+use Rattle.cx_laws_answers.specs.cx_laws_links.proofs.GuestTakes.{IsServedIn, WasSentAs}
+use Rattle.cx_laws_answers.specs.cx_laws_links.proofs.GuestWords.{AreSpelled}
+use Rattle.cx_laws_answers.specs.cx_laws_links.proofs.Known.{AreTold, ClientTold, Told}
+use Rattle.cx_laws_answers.specs.cx_laws_links.proofs.Moving.{Moved}
+use Rattle.cx_laws_answers.specs.cx_laws_links.proofs.Single.{IsSingle}
+use Rattle.cx_laws_answers.specs.cx_laws_links.proofs.Spoken.{is_connectors}
+use Rattle.cx_laws_answers.specs.cx_laws_links.proofs.Written.{IsLinkKey}
+use Rattle.cx_laws_answers.proofs.Given.{is_acceptors}
+use Rattle.cx_laws_sent.proofs.Shown.{ClientShows, OrderFits}
 
 -- ---- a client
 
--- an operation that waits, and its seq, have a spelling
-abbrev pub OrderFits : ℕ × Operation → Type 0
-OrderFits order = (order.0 < 2 ^ 64) × operation_layout.form.Fits order.1
-
--- so has the cookie of a session, and all that waits in it
+-- the cookie of a session has a spelling, and so has all that waits in it
 pub record SessionFits (session : HeldSession) : Type 0 where
   pub cookie : session.client_cookie < 2 ^ 64
   pub last : session.queue.last < 2 ^ 64
@@ -62,14 +58,16 @@ pub record ClientKnown (us : Uses) (told : Told) (log : List Logged) (c : WholeC
   pub sessions : AllByRecursion SessionFits c.own.sessions
   pub stages : AllByRecursion (λ (link : Link ClientStage). StageFits link.stage) c.links
 
--- behind a step of a client, of this name, that comes to this: what is said then, by one link of its own at most
-pub record ClientBehind (run : WholeRun) (us vs : Uses) (told : Told) (log : List Logged) (line : ℕ) (K : List Entry) (name : Name) (o : Outcome WholeClientNode) : Type 0 where
+-- behind a step of a client, of this name, that comes to this: what is said then, by one link of its own at most; and nothing is given as by an acceptor
+pub record ClientBehind (run : WholeRun) (us vs : Uses) (told : Told) (log : List Logged) (line : ℕ) (K : List Entry) (name : Name) (c : WholeClientNode) (o : Outcome WholeClientNode) : Type 0 where
   pub next : Told
   pub number : ℕ
   pub moved : Moved us vs told log o.out.seals name number next
   pub known_of : AreTold run vs next (behind (node.Entity name) line o.out.seals log) K
   pub spelled : AreSpelled next
   pub client : ClientKnown vs next (behind (node.Entity name) line o.out.seals log) o.state
+  pub gives_none : (key : List ℕ) (whose : Name) (tie : ℕ) → IsLinkKey vs key whose tie → contents_by key is_acceptors o.out.seals ≡ []
+  pub shows : ClientShows us told log K name c number o next
 
 -- ---- a daemon
 
@@ -77,10 +75,11 @@ pub record ClientBehind (run : WholeRun) (us vs : Uses) (told : Told) (log : Lis
 abbrev pub SaysNothing : Uses → Outcome DaemonState → Type 0
 SaysNothing vs o = (key : List ℕ) (name : Name) (tie : ℕ) → IsLinkKey vs key name tie → contents_by key is_connectors o.out.seals ≡ []
 
--- a session that is admitted for an entity that didn't leak is the first one under its cookie; and an operation is handled in a session of an entity, which
+-- a session that is admitted for an entity that didn't leak is the first one under its cookie, of all such entities; and an operation is handled in a session of an entity, which
 -- sent it under the cookie of that session, where it didn't leak
 abbrev pub HeardLaw : WholeRun → List Entry → Entry → Type 0
-HeardLaw run earlier (journal.Admitted a) = (Contains run.leaked a.entity → ⊥) → (b : Admitted) → Contains earlier (journal.Admitted b) → b.entity ≡ a.entity → b.cookie ≡ a.cookie → ⊥
+HeardLaw run earlier (journal.Admitted a) =
+    (Contains run.leaked a.entity → ⊥) → (b : Admitted) → Contains earlier (journal.Admitted b) → (Contains run.leaked b.entity → ⊥) → b.cookie ≡ a.cookie → ⊥
 HeardLaw run earlier (journal.Handled h) = (name : Name) × IsServedIn earlier name h × ((Contains run.leaked name → ⊥) → WasSentAs earlier name h)
 HeardLaw run earlier _ = Unit {0}
 

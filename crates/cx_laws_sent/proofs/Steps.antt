@@ -10,18 +10,18 @@ use Rattle.cx_laws_keys.proofs.Journal.{entered}
 use Rattle.cx_laws_keys.proofs.Known.{Inv}
 use Rattle.cx_laws_keys.proofs.Premises.{AreGranted, behind}
 use Rattle.cx_laws_keys.proofs.Uses.{Grows, Uses, WholeRun}
-use Rattle.cx_laws_links.proofs.GuestNodes.{LinksKnown}
-use Rattle.cx_laws_links.proofs.GuestWords.{AreSpelled}
-use Rattle.cx_laws_links.proofs.Known.{AreTold, Told}
+use Rattle.cx_laws_answers.specs.cx_laws_links.proofs.GuestNodes.{LinksKnown}
+use Rattle.cx_laws_answers.specs.cx_laws_links.proofs.GuestWords.{AreSpelled}
+use Rattle.cx_laws_answers.specs.cx_laws_links.proofs.Known.{AreTold, Told}
 use Rattle.cx_laws_queues.proofs.Clients.{ClientQueues}
 use Rattle.cx_laws_queues.proofs.Daemons.{Counts}
 use Rattle.cx_laws_run.proofs.Events.{DaemonOk}
 use Rattle.cx_laws_run.specs.Laws.{AreBytes}
-use Rattle.cx_rules.specs.Inputs.{Input}
-use Rattle.cx_rules.specs.Rows.{Outcome}
-use Rattle.cx_rules_session.specs.ClientRule.{WholeClientNode, whole_client_rule}
-use Rattle.cx_rules_session.specs.DaemonRule.{DaemonState, daemon_step}
-use Rattle.cx_run.specs.Visits.{IsNoLook, IsUnvisited}
+use Rattle.cx_laws_queues.specs.cx_rules.specs.Inputs.{Input}
+use Rattle.cx_laws_queues.specs.cx_rules.specs.Rows.{Outcome}
+use Rattle.cx_laws_queues.specs.cx_rules_session.specs.ClientRule.{WholeClientNode, whole_client_rule}
+use Rattle.cx_laws_queues.specs.cx_rules_session.specs.DaemonRule.{DaemonState, daemon_step}
+use Rattle.cx_laws_queues.specs.cx_run.specs.Visits.{IsNoLook, IsUnvisited}
 use Rattle.cx_steps.specs.declared.seals.Logged.{Logged}
 use Rattle.cx_laws_sent.proofs.State.{ClientBehind, ClientKnown, DaemonBehind}
 use Rattle.cx_laws_sent.specs.Fitting.{IsFit}
@@ -52,7 +52,7 @@ pub record ClientReady (run : WholeRun) (whole : List Logged) (us vs : Uses) (to
 abbrev pub ClientStep : WholeRun → List Logged → Type 0
 ClientStep run whole = (us vs : Uses) (told : Told) (log : List Logged) (line : ℕ) (J : List Entry) (name : Name) (c : WholeClientNode) (input : Input) (reading : ℕ) (draw : List ℕ)
     → ClientReady run whole us vs told log line J name c input draw (whole_client_rule c input reading draw)
-    → ClientBehind run us vs told log line (entered J (whole_client_rule c input reading draw).out.entries) name (whole_client_rule c input reading draw)
+    → ClientBehind run us vs told log line (entered J (whole_client_rule c input reading draw).out.entries) name c (whole_client_rule c input reading draw)
 
 -- ---- a daemon
 

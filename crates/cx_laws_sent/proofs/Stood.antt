@@ -16,7 +16,7 @@ use Rattle.cx_journal.specs.declared.entries.Admitted.{Admitted}
 use Rattle.cx_journal.specs.declared.entries.Entry.{Entry}
 use Rattle.cx_journal.specs.declared.entries.Entry.TheVariants as journal
 use Rattle.cx_journal.specs.declared.entries.Handled.{Handled}
-use Rattle.cx_laws_links.proofs.Since.{Goes, since, since-append, since-on}
+use Rattle.cx_laws_answers.specs.cx_laws_links.proofs.Since.{Goes, since, since-append, since-on}
 use Rattle.cx_laws_sent.proofs.Fronted.{StandsBy}
 use Rattle.cx_laws_sent.proofs.Fronts.{cons-cases}
 use Rattle.cx_laws_sent.proofs.Lives.{OnceBy, OpenedIn, leaves-goes, none-opened, opened-cases}
@@ -25,7 +25,7 @@ use Rattle.cx_laws_queues.specs.cx_laws_session.proofs.Keeping.{SessionStands, S
 use Rattle.cx_laws_queues.specs.cx_laws_session.proofs.Lists.{all-map, some-of}
 use Rattle.cx_laws_queues.specs.cx_laws_session.proofs.Moves.{AdmitsOne, Admitting, Comes, EndsOne, Ending, IsHandledRight, IsLive, IsQuiet, IsRight, Rested, Rests, ResumesOne, Resuming, StepComes, quiet-leaves, right-leaves}
 use Rattle.cx_laws_queues.specs.cx_laws_session.proofs.Standing.{LeavesOf, other-turn, own-turn, standing, standing-first, standing-still, turns_session}
-use Rattle.cx_rules_session.specs.Guests.{Served}
+use Rattle.cx_laws_queues.specs.cx_rules_session.specs.Guests.{Served}
 use Rattle.cx_session.specs.Book.{Book}
 use Rattle.cx_session.specs.declared.session.Session.{Session}
 

@@ -11,14 +11,14 @@ use Rattle.cx_journal.specs.declared.entries.Entry.{Entry}
 use Rattle.cx_journal.specs.declared.entries.Entry.TheVariants as journal
 use Rattle.cx_journal.specs.declared.entries.Sent.{Sent}
 use Rattle.cx_laws_keys.proofs.Known.{Within}
-use Rattle.cx_rules_session.specs.Sessions.{HeldSession, session_with}
+use Rattle.cx_laws_queues.specs.cx_rules_session.specs.Sessions.{HeldSession, session_with}
 use Rattle.cx_laws_queues.specs.Sending.{all_sent_to, sent_to, under_cookie}
 use Rattle.cx_laws_queues.specs.Waiting.{IsQueued}
 use Rattle.cx_laws_queues.specs.cx_laws_session.proofs.Lists.{found-all}
-use Rattle.cx_laws_links.proofs.CallSteps.{WasSent}
-use Rattle.cx_laws_links.proofs.CallWords.{IsHeldHere}
-use Rattle.cx_laws_sent.proofs.CallWords.{SentFits}
-use Rattle.cx_laws_sent.proofs.State.{OrderFits, SessionFits}
+use Rattle.cx_laws_answers.specs.cx_laws_links.proofs.CallSteps.{WasSent}
+use Rattle.cx_laws_answers.specs.cx_laws_links.proofs.CallWords.{IsHeldHere}
+use Rattle.cx_laws_sent.proofs.Shown.{OrderFits, SentFits}
+use Rattle.cx_laws_sent.proofs.State.{SessionFits}
 
 -- ---- of lists
 

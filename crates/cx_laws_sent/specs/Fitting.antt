@@ -1,8 +1,8 @@
 -- The operations that clients of a run are told to send have a spelling.
 use Rattle.std.specs.Prelude.{List}
 use Rattle.std.specs.List.{AllByRecursion}
-use Rattle.cx_rules.specs.Inputs.{Input, Submit}
-use Rattle.cx_run.specs.Happenings.{Happening}
+use Rattle.cx_laws_queues.specs.cx_rules.specs.Inputs.{Input, Submit}
+use Rattle.cx_laws_queues.specs.cx_run.specs.Happenings.{Happening}
 use Rattle.cx_steps.specs.declared.events.Command.TheVariants as command
 use Rattle.cx_wire.specs.Operations.{operation_layout}
 

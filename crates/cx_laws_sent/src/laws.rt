@@ -6,10 +6,10 @@ ghost use Rattle.cx_journal.specs.PrefixOfSent.{IsPrefixOfSent};
 ghost use Rattle.cx_laws_run.specs.Laws.{MayHappen};
 ghost use Rattle.cx_laws_sent.specs.Fitting.{AreFit};
 ghost use Rattle.cx_lines.specs.declared.lines.Numbered.{Numbered};
-ghost use Rattle.cx_run.specs.Happenings.{Happening};
-ghost use Rattle.cx_run.specs.Opening.{Setup, leaked_of};
-ghost use Rattle.cx_run.specs.Points.{journal_since, log_since};
-ghost use Rattle.cx_run.specs.Runs.{IsFoundOf, run_journal};
+ghost use Rattle.cx_laws_queues.specs.cx_run.specs.Happenings.{Happening};
+ghost use Rattle.cx_laws_queues.specs.cx_run.specs.Opening.{Setup, leaked_of};
+ghost use Rattle.cx_laws_queues.specs.cx_run.specs.Points.{journal_since, log_since};
+ghost use Rattle.cx_laws_queues.specs.cx_run.specs.Runs.{IsFoundOf, run_journal};
 ghost use Rattle.cx_schedule.specs.Files.{Lines};
 ghost use Rattle.cx_steps.specs.Premises.{IsFresh, IsSound};
 

@@ -5,12 +5,11 @@ use Rattle.cx_keyring.specs.Entries.{is_named}
 use Rattle.cx_keyring.specs.declared.entries.Entry.{Entry}
 use Rattle.cx_loading.specs.Loading.{IsKeyReason, IsKeyRefusal, IsKeyServed, IsNameless, IsOrMemory, IsRingOf, IsRingReason, IsRingRefusal, IsRingServed}
 use Rattle.cx_loading.specs.declared.unloaded.Unloaded.{Unloaded}
-use Rattle.cx_loading.specs.declared.unloaded.Unloaded.TheVariants.{Script, NotYet, Keeper, NoKeyring, Keyring, NoEntity, State, OutOfMemory}
+use Rattle.cx_loading.specs.declared.unloaded.Unloaded.TheVariants.{Script, Keeper, NoKeyring, Keyring, NoEntity, State, OutOfMemory}
 
 -- without a keyring there is no key
 pub key_refused : (name : Name) (loaded : Option (List ℕ)) (why : Unloaded) → IsRingRefusal loaded why → IsKeyRefusal name loaded why
 key_refused name loaded (Script refusal) never = never
-key_refused name loaded (NotYet line) never = never
 key_refused name loaded Keeper never = never
 key_refused name loaded NoKeyring never = never
 key_refused name loaded (Keyring refusal) never = never
@@ -34,7 +33,6 @@ key_only name loaded got only served = only (ring_served name loaded served)
 pub key_reason : (name : Name) (loaded : Option (List ℕ)) (got : Unloaded) → (IsRingServed loaded → got ≡ OutOfMemory)
     → ((why : Unloaded) → IsRingReason loaded why → IsOrMemory why got) → (why : Unloaded) → IsKeyReason name loaded why → IsOrMemory why got
 key_reason name loaded got only exact (Script refusal) reason = exact (Script refusal) reason
-key_reason name loaded got only exact (NotYet line) reason = exact (NotYet line) reason
 key_reason name loaded got only exact Keeper reason = exact Keeper reason
 key_reason name loaded got only exact NoKeyring reason = exact NoKeyring reason
 key_reason name loaded got only exact (Keyring refusal) reason = exact (Keyring refusal) reason
@@ -46,7 +44,6 @@ key_reason name loaded got only exact OutOfMemory reason = exact OutOfMemory rea
 pub key_missing : (name : Name) (loaded : Option (List ℕ)) → ((why : Unloaded) → IsRingReason loaded why → ⊥)
     → (why : Unloaded) → IsKeyReason name loaded why → IsOrMemory why NoEntity
 key_missing name loaded exact (Script refusal) reason = absurd (exact (Script refusal) reason)
-key_missing name loaded exact (NotYet line) reason = absurd (exact (NotYet line) reason)
 key_missing name loaded exact Keeper reason = absurd (exact Keeper reason)
 key_missing name loaded exact NoKeyring reason = absurd (exact NoKeyring reason)
 key_missing name loaded exact (Keyring refusal) reason = absurd (exact (Keyring refusal) reason)
@@ -66,7 +63,6 @@ served_so name (Some bytes) ring is never = ap (λ (r : List Entry). is_some (fi
 pub key_found : (name : Name) (loaded : Option (List ℕ)) (ring : List Entry) (entry : Entry) → IsRingOf loaded ring → find (is_named name) ring ≡ Some entry
     → ((why : Unloaded) → IsRingReason loaded why → ⊥) → (why : Unloaded) → IsKeyReason name loaded why → ⊥
 key_found name loaded ring entry is found exact (Script refusal) reason = exact (Script refusal) reason
-key_found name loaded ring entry is found exact (NotYet line) reason = exact (NotYet line) reason
 key_found name loaded ring entry is found exact Keeper reason = exact Keeper reason
 key_found name loaded ring entry is found exact NoKeyring reason = exact NoKeyring reason
 key_found name loaded ring entry is found exact (Keyring refusal) reason = exact (Keyring refusal) reason

@@ -1,4 +1,3 @@
 mod Keys
-mod Lines
 mod Refusing
 mod Unspelled

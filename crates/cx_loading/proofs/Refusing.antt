@@ -1,5 +1,5 @@
 -- From why a script isn't read to why a node doesn't run.
-use Rattle.std.proofs.Common.{◌≡◌, ◌⊎◌, ℕ, List, Option, Some, None, inl, inr, sym, ap, ◌∙◌}
+use Rattle.std.proofs.Common.{◌≡◌, ◌⊎◌, ℕ, List, Option, inl, inr, ap}
 use Rattle.cx_schedule.specs.NodeFiles as file
 use Rattle.cx_schedule.specs.NodeFiles.{NodeLines}
 use Rattle.cx_schedule.specs.declared.node_lines.NodeLine.{NodeLine}
@@ -8,9 +8,9 @@ use Rattle.cx_schedule.specs.declared.refusals.ScheduleRefusal.{ScheduleRefusal}
 use Rattle.cx_schedule.specs.declared.refusals.ScheduleRefusal.TheVariants as schedule
 use Rattle.cx_words.specs.Cutting.{IsShort}
 use Rattle.cx_loading.specs.Loading.{IsOrMemory, script_refusal}
-use Rattle.cx_loading.specs.Scripts.{IsScriptReason, IsServed, first_waiting}
+use Rattle.cx_loading.specs.Scripts.{IsScriptReason, IsServed}
 use Rattle.cx_loading.specs.declared.unloaded.Unloaded.{Unloaded}
-use Rattle.cx_loading.specs.declared.unloaded.Unloaded.TheVariants.{Script, NotYet, Keeper, NoKeyring, Keyring, NoEntity, State, OutOfMemory}
+use Rattle.cx_loading.specs.declared.unloaded.Unloaded.TheVariants.{Script, Keeper, NoKeyring, Keyring, NoEntity, State, OutOfMemory}
 
 module _ (names : Option NodeNames) (bytes : List ℕ) where
   -- ---- a script that isn't read
@@ -29,7 +29,6 @@ module _ (names : Option NodeNames) (bytes : List ℕ) where
       → ((why : ScheduleRefusal) → file.IsScriptReason names bytes why → (got ≡ schedule.OutOfMemory) ⊎ (got ≡ why))
       → (why : Unloaded) → IsScriptReason names bytes why → IsOrMemory why (script_refusal got)
   unread_exact got only exact (Script why) reason = or_script got why reason (exact why reason)
-  unread_exact got only exact (NotYet line) reason = inl (ap script_refusal (only reason.script reason.short reason.lines))
   unread_exact got only exact Keeper reason = absurd reason
   unread_exact got only exact NoKeyring reason = absurd reason
   unread_exact got only exact (Keyring refusal) reason = absurd reason
@@ -39,27 +38,12 @@ module _ (names : Option NodeNames) (bytes : List ℕ) where
 
   -- ---- one that is read
 
-  same_line : (first : Option ℕ) (line other : ℕ) → first ≡ Some line → first ≡ Some other → line ≡ other
-  same_line first line other one two = (let e : Some line ≡ Some other = sym one ∙ two in cc)
-
-  pub waits_exact : (line : ℕ) → first_waiting bytes ≡ Some line → ((why : ScheduleRefusal) → file.IsScriptReason names bytes why → ⊥)
-      → (why : Unloaded) → IsScriptReason names bytes why → IsOrMemory why (NotYet line)
-  waits_exact line first exact (Script why) reason = absurd (exact why reason)
-  waits_exact line first exact (NotYet other) reason = inr (ap (λ n. NotYet n) (same_line (first_waiting bytes) line other first reason.first))
-  waits_exact line first exact Keeper reason = absurd reason
-  waits_exact line first exact NoKeyring reason = absurd reason
-  waits_exact line first exact (Keyring refusal) reason = absurd reason
-  waits_exact line first exact NoEntity reason = absurd reason
-  waits_exact line first exact (State bad) reason = absurd reason
-  waits_exact line first exact OutOfMemory reason = absurd reason
-
-  pub read_exact : first_waiting bytes ≡ None → ((why : ScheduleRefusal) → file.IsScriptReason names bytes why → ⊥)
+  pub read_exact : ((why : ScheduleRefusal) → file.IsScriptReason names bytes why → ⊥)
       → (why : Unloaded) → IsScriptReason names bytes why → ⊥
-  read_exact none exact (Script why) reason = exact why reason
-  read_exact none exact (NotYet line) reason = (let e : None ≡ Some line = sym none ∙ reason.first in cc)
-  read_exact none exact Keeper reason = reason
-  read_exact none exact NoKeyring reason = reason
-  read_exact none exact (Keyring refusal) reason = reason
-  read_exact none exact NoEntity reason = reason
-  read_exact none exact (State bad) reason = reason
-  read_exact none exact OutOfMemory reason = reason
+  read_exact exact (Script why) reason = exact why reason
+  read_exact exact Keeper reason = reason
+  read_exact exact NoKeyring reason = reason
+  read_exact exact (Keyring refusal) reason = reason
+  read_exact exact NoEntity reason = reason
+  read_exact exact (State bad) reason = reason
+  read_exact exact OutOfMemory reason = reason

@@ -5,7 +5,7 @@ use Rattle.cx_schedule.specs.declared.refusals.ScheduleRefusal.TheVariants as sc
 use Rattle.cx_loading.specs.declared.ends.NodeEnd.{NodeEnd}
 use Rattle.cx_loading.specs.declared.ends.NodeEnd.TheVariants as end
 use Rattle.cx_loading.specs.declared.unloaded.Unloaded.{Unloaded}
-use Rattle.cx_loading.specs.declared.unloaded.Unloaded.TheVariants.{Script, NotYet, Keeper, NoKeyring, Keyring, NoEntity, State, OutOfMemory}
+use Rattle.cx_loading.specs.declared.unloaded.Unloaded.TheVariants.{Script, Keeper, NoKeyring, Keyring, NoEntity, State, OutOfMemory}
 
 -- the number with which the program ends
 abbrev pub script_number : ScheduleRefusal → ℕ
@@ -15,7 +15,6 @@ script_number schedule.OutOfMemory = 5
 
 abbrev pub unloaded_number : Unloaded → ℕ
 unloaded_number (Script refusal) = script_number refusal
-unloaded_number (NotYet line) = 13
 unloaded_number Keeper = 8
 unloaded_number NoKeyring = 6
 unloaded_number (Keyring refusal) = 6

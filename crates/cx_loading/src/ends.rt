@@ -44,7 +44,6 @@ fn unloaded_number(why: Unloaded) -> u8
 {
     match why {
         Unloaded::Script(refusal) => script_number(refusal),
-        Unloaded::NotYet { .. } => 13,
         Unloaded::Keeper => 8,
         Unloaded::NoKeyring => 6,
         Unloaded::Keyring(_) => 6,

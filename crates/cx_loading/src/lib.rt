@@ -5,7 +5,6 @@ mod ends;
 mod loading;
 mod scripts;
 mod unloaded;
-mod waiting;
 
 pub use ends::NodeEnd;
 pub use loading::{key_of, ring_of, state_of};

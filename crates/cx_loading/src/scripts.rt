@@ -8,14 +8,11 @@ ghost use Rattle.cx_loading.specs.Scripts.{IsScript, IsScriptEnd, IsScriptReason
 ghost use Rattle.cx_loading.specs.declared.unloaded.Unloaded.{Unloaded};
 
 use crate::unloaded::Unloaded;
-use crate::waiting::first_waiting;
 use cx_base::EntityName;
 use cx_schedule::{NodeScript, read_node};
 use std::alloc::Global;
 
-/// The script that these bytes are, for a node of this name and with these peers, or for the monitor, which has no name. One that
-/// has a line that no node serves yet is refused at the first of these.
-
+/// The script that these bytes are, for a node of this name and with these peers, or for the monitor, which has no name.
 pub fn script_of(
     alloc: Global,
     bytes: &[u8],
@@ -29,8 +26,5 @@ pub fn script_of(
         → MatchResult result (λ _. ⊥) (IsOrMemory why) }
 {
     let script = read_node(alloc, bytes, name, peers)?;
-    match first_waiting(bytes) {
-        Some(line) => Err(Unloaded::NotYet { line }),
-        None => Ok(script),
-    }
+    Ok(script)
 }

@@ -10,8 +10,6 @@ use std::alloc::AllocError;
 pub enum Unloaded {
     /// The script isn't read.
     Script(ScheduleRefusal),
-    /// This line of the script, from 1, is the first that isn't served yet.
-    NotYet { line: u32 },
     /// The keeper failed.
     Keeper,
     /// No keyring is kept.

@@ -12,7 +12,7 @@ use Rattle.cx_schedule.specs.declared.refusals.ScheduleRefusal.TheVariants as sc
 use Rattle.cx_loading.specs.declared.ends.NodeEnd.{NodeEnd}
 use Rattle.cx_loading.specs.declared.ends.NodeEnd.TheVariants as end
 use Rattle.cx_loading.specs.declared.unloaded.Unloaded.{Unloaded}
-use Rattle.cx_loading.specs.declared.unloaded.Unloaded.TheVariants.{Script, NotYet, Keeper, NoKeyring, Keyring, NoEntity, State, OutOfMemory}
+use Rattle.cx_loading.specs.declared.unloaded.Unloaded.TheVariants.{Script, Keeper, NoKeyring, Keyring, NoEntity, State, OutOfMemory}
 
 abbrev pub no_memory : List ℕ
 no_memory = codes "memory was wanting before the node ran; give the program more memory"
@@ -29,8 +29,6 @@ keyring_text keyring.OutOfMemory = no_memory
 
 abbrev pub unloaded_text : Unloaded → List ℕ
 unloaded_text (Script refusal) = script_text refusal
-unloaded_text (NotYet line) =
-    codes "line " <> decimal line <> codes " of the script is a good one, but not served yet: connect and send lines are to come; leave it out"
 unloaded_text Keeper =
     codes "what is kept in this folder could not be loaded; see that its files keyring and state may be read, and that no other monitor runs in it"
 unloaded_text NoKeyring = codes "this folder has no keyring; put one with the node's section into the file keyring"

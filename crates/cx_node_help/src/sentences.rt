@@ -56,11 +56,6 @@ impl fmt::Display for Unready {
     fn fmt<W: fmt::Write>(&self, f: &mut fmt::Formatter<W>) -> fmt::Result {
         match self.0 {
             Unloaded::Script(refusal) => write!(f, "{}", OfScript(&refusal)),
-            Unloaded::NotYet { line } => write!(
-                f,
-                "line {} of the script is a good one, but not served yet: connect and send lines are to come; leave it out",
-                line
-            ),
             Unloaded::Keeper => write!(
                 f,
                 "what is kept in this folder could not be loaded; see that its files keyring and state may be read, and that no other \

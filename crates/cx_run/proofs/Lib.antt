@@ -14,5 +14,6 @@ pub mod Untaken
 pub mod OpensMonitor
 pub mod Visiting
 pub mod Untold
+pub mod Written
 pub mod SetUp
 pub mod PointsTell

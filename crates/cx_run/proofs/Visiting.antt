@@ -280,14 +280,10 @@ submitted-stays w (command.Login client services) away k = comes-stays w (node.E
 submitted-stays w (command.Fetch daemon) away k = comes-stays w (node.Entity daemon) (Submit told.Fetch) tt k
 submitted-stays w (command.Renew client services) away k = comes-stays w (node.Entity client) (Submit (told.Renew (services_sum services))) tt k
 submitted-stays w (command.Connect client daemon lossy) away k = absurd (cc)
-submitted-stays w (command.Send client daemon operation) away k = k
+submitted-stays w (command.Send client daemon operation) away k = comes-stays w (node.Entity client) (Submit (told.Send daemon operation)) tt k
 
 submits-stays : (w : World) (c : LineCommand) → is_call c ≡ false → Unvisited w → Unvisited (submits w c)
-submits-stays w (command.Login client services) away k = settles-stays (submitted w (command.Login client services)) (submitted-stays w (command.Login client services) away k)
-submits-stays w (command.Fetch daemon) away k = settles-stays (submitted w (command.Fetch daemon)) (submitted-stays w (command.Fetch daemon) away k)
-submits-stays w (command.Renew client services) away k = settles-stays (submitted w (command.Renew client services)) (submitted-stays w (command.Renew client services) away k)
-submits-stays w (command.Connect client daemon lossy) away k = absurd (cc)
-submits-stays w (command.Send client daemon operation) away k = k
+submits-stays w c away k = settles-stays (submitted w c) (submitted-stays w c away k)
 
 first-stays : (w : World) (wire : Wire) (side : Side) (pieces : List (List ℕ)) → ToMonitor wire → Unvisited w → Unvisited (without_first w wire side pieces)
 first-stays w wire side [] to k = k

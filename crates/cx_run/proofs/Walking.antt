@@ -1,8 +1,10 @@
 -- What is kept by each thing that is done to a world is kept by a run: by a step that keeps nodes and events, and by one event more.
 use Rattle.std.proofs.Common.{◌≡◌, ℕ, ◌==◌, Bool, true, false, List, [], ◌∷◌, ◌++◌, Option, Some, None, refl}
 use Rattle.std.specs.Prelude.{filter, length, replicate, if◌then◌else◌}
+use Rattle.std.specs.List.{AllByRecursion}
 use Rattle.cx_base.specs.declared.nodes.NodeName.{NodeName}
 use Rattle.cx_base.specs.declared.nodes.NodeName.TheVariants as node
+use Rattle.cx_base.specs.declared.operations.Operation.{Operation}
 use Rattle.cx_lines.specs.declared.commands.LineCommand.{LineCommand}
 use Rattle.cx_lines.specs.declared.commands.LineCommand.TheVariants as command
 use Rattle.cx_lines.specs.declared.lines.Line.{Line}
@@ -14,24 +16,26 @@ use Rattle.cx_lines.specs.declared.node_steps.NodeStep.{NodeStep}
 use Rattle.cx_lines.specs.declared.node_steps.NodeStep.TheVariants as step
 use Rattle.cx_line_words.specs.declared.choices.Side.{Side}
 use Rattle.cx_line_words.specs.declared.choices.Side.TheVariants.{Connector, Acceptor}
-use Rattle.cx_rules.specs.Inputs.{Input, Opened, Bytes, Turn, Gone, Restart, Tick, Submit}
+use Rattle.cx_rules.specs.Inputs.{Input, Opened, NoLink, Bytes, Turn, Gone, Look, Restart, Tick, Submit}
 use Rattle.cx_steps.specs.declared.events.Command.TheVariants as told
 use Rattle.cx_steps.specs.declared.events.Peer.{Peer}
 use Rattle.cx_run.specs.Visits.{IsNoLook}
+use Rattle.cx_run.specs.Sending.{ComesWith, SendsOnly, SendsOnlyAt}
 use Rattle.cx_run.specs.Wires.{Wire, end_of, ended, gone_at, has_end, node_at, other, owes_gone, pieces_from, wire_of, with_pieces, with_wire}
 use Rattle.cx_run.specs.Worlds.{Post, World, carried, opened_wires, post_of}
 use Rattle.cx_run.specs.Deliveries.{Given, arrives, arrives_from, came_at, comes, delivers, delivers_on, delivers_piece, drains, drains_side, far_side, first_of, followed, given, gives, gone_arrives, open_all, opens, restarts, round, rounds, settles, stay, tells, tells_gone, turns, under_way, vanish}
 use Rattle.cx_run.specs.Schedules.{acts_on, after_line, after_lines, arrives_again, cuts, ever_sent, injects, loses, on_link, on_node, services_sum, submits, submitted, without_first}
 
-module _ (P : World → Type 0)
+-- where no operation is sent but these:
+module _ (Sends : Operation → Type 0) (P : World → Type 0)
     -- the same nodes and the same past
     (like : (w v : World) → v.nodes ≡ w.nodes → v.past ≡ w.past → P w → P v)
     -- one event more, which tells no view
-    (given-keeps : (w : World) (input : Input) (post : Option Post) → IsNoLook input → P w → P (given w input post).world) where
-  kept-gives : (w : World) (who : NodeName) (input : Input) → IsNoLook input → P w → P (gives w who input).world
+    (given-keeps : (w : World) (input : Input) (post : Option Post) → ComesWith Sends input → P w → P (given w input post).world) where
+  kept-gives : (w : World) (who : NodeName) (input : Input) → ComesWith Sends input → P w → P (gives w who input).world
   kept-gives w who input untold k = given-keeps w input (post_of who w.posts) untold k
 
-  kept-tells : (w : World) (who : NodeName) (input : Input) → IsNoLook input → P w → P (tells w who input)
+  kept-tells : (w : World) (who : NodeName) (input : Input) → ComesWith Sends input → P w → P (tells w who input)
   kept-tells w who input untold k = like (gives w who input).world (tells w who input) refl refl (kept-gives w who input untold k)
 
   kept-if : (b : Bool) (v w : World) → P v → P w → P (if b then v else w)
@@ -70,7 +74,7 @@ module _ (P : World → Type 0)
       (kept-restarts free who (like g.world free refl refl k))
       (kept-open_all done (opened_wires who (length g.world.wires) g.out.opens) (like g.world done refl refl k))
 
-  kept-comes : (w : World) (who : NodeName) (input : Input) → IsNoLook input → P w → P (comes w who input)
+  kept-comes : (w : World) (who : NodeName) (input : Input) → ComesWith Sends input → P w → P (comes w who input)
   kept-comes w who input untold k = kept-followed who (gives w who input) (kept-gives w who input untold k)
 
   kept-turns : (w : World) (who : NodeName) (number : ℕ) (fuel : List ℕ) → P w → P (turns w who number fuel)
@@ -133,22 +137,15 @@ module _ (P : World → Type 0)
 
   -- ---- lines
 
-  kept-submitted : (w : World) (c : LineCommand) → P w → P (submitted w c)
-  kept-submitted w (command.Login client services) k = kept-comes w (node.Entity client) (Submit (told.Login (services_sum services))) tt k
-  kept-submitted w (command.Fetch daemon) k = kept-comes w (node.Entity daemon) (Submit told.Fetch) tt k
-  kept-submitted w (command.Renew client services) k = kept-comes w (node.Entity client) (Submit (told.Renew (services_sum services))) tt k
-  kept-submitted w (command.Connect client daemon lossy) k = kept-comes w (node.Entity client) (Submit (told.Connect daemon lossy)) tt k
-  kept-submitted w (command.Send client daemon operation) k = k
+  kept-submitted : (w : World) (c : LineCommand) → SendsOnly Sends c → P w → P (submitted w c)
+  kept-submitted w (command.Login client services) sends k = kept-comes w (node.Entity client) (Submit (told.Login (services_sum services))) tt k
+  kept-submitted w (command.Fetch daemon) sends k = kept-comes w (node.Entity daemon) (Submit told.Fetch) tt k
+  kept-submitted w (command.Renew client services) sends k = kept-comes w (node.Entity client) (Submit (told.Renew (services_sum services))) tt k
+  kept-submitted w (command.Connect client daemon lossy) sends k = kept-comes w (node.Entity client) (Submit (told.Connect daemon lossy)) tt k
+  kept-submitted w (command.Send client daemon operation) sends k = kept-comes w (node.Entity client) (Submit (told.Send daemon operation)) sends k
 
-  kept-submits : (w : World) (c : LineCommand) → P w → P (submits w c)
-  kept-submits w (command.Login client services) k =
-      kept-settles (submitted w (command.Login client services)) (kept-submitted w (command.Login client services) k)
-  kept-submits w (command.Fetch daemon) k = kept-settles (submitted w (command.Fetch daemon)) (kept-submitted w (command.Fetch daemon) k)
-  kept-submits w (command.Renew client services) k =
-      kept-settles (submitted w (command.Renew client services)) (kept-submitted w (command.Renew client services) k)
-  kept-submits w (command.Connect client daemon lossy) k =
-      kept-settles (submitted w (command.Connect client daemon lossy)) (kept-submitted w (command.Connect client daemon lossy) k)
-  kept-submits w (command.Send client daemon operation) k = k
+  kept-submits : (w : World) (c : LineCommand) → SendsOnly Sends c → P w → P (submits w c)
+  kept-submits w c sends k = kept-settles (submitted w c) (kept-submitted w c sends k)
 
   kept-without_first : (w : World) (wire : Wire) (side : Side) (pieces : List (List ℕ)) → P w → P (without_first w wire side pieces)
   kept-without_first w wire side [] k = k
@@ -188,16 +185,60 @@ module _ (P : World → Type 0)
   kept-on_node w (step.DropSession daemon number) k = kept-comes w (node.Entity daemon) (Submit (told.Drop number)) tt k
   kept-on_node w (step.Tick who) k = kept-settles (comes w who Tick) (kept-comes w who Tick tt k)
 
-  kept-acts_on : (w : World) (l : Line) → P w → P (acts_on w l)
-  kept-acts_on w (line.Setting setting) k = k
-  kept-acts_on w (line.Submit c) k = kept-submits w c k
-  kept-acts_on w (line.Do c) k = kept-submitted w c k
-  kept-acts_on w (line.Link s) k = kept-on_link w s k
-  kept-acts_on w (line.Node s) k = kept-on_node w s k
+  kept-acts_on : (w : World) (l : Line) → SendsOnlyAt Sends l → P w → P (acts_on w l)
+  kept-acts_on w (line.Setting setting) sends k = k
+  kept-acts_on w (line.Submit c) sends k = kept-submits w c sends k
+  kept-acts_on w (line.Do c) sends k = kept-submitted w c sends k
+  kept-acts_on w (line.Link s) sends k = kept-on_link w s k
+  kept-acts_on w (line.Node s) sends k = kept-on_node w s k
 
-  kept-after_line : (w : World) (l : Numbered) → P w → P (after_line w l)
-  kept-after_line w l k = let there : World = record w { line = l.number } in kept-acts_on there l.line (like w there refl refl k)
+  kept-after_line : (w : World) (l : Numbered) → SendsOnlyAt Sends l.line → P w → P (after_line w l)
+  kept-after_line w l sends k = let there : World = record w { line = l.number } in kept-acts_on there l.line sends (like w there refl refl k)
 
+  pub kept-after_sends : (w : World) (lines : List Numbered) → AllByRecursion (λ (l : Numbered). SendsOnlyAt Sends l.line) lines → P w → P (after_lines w lines)
+  kept-after_sends w [] sends k = k
+  kept-after_sends w (l ∷ lines) sends k = kept-after_sends (after_line w l) lines sends.1 (kept-after_line w l sends.0 k)
+
+-- ---- whatever is sent
+
+-- any operation
+abbrev Any : Operation → Type 0
+Any operation = Unit {0}
+
+any-look : (input : Input) → ComesWith Any input → IsNoLook input
+any-look (Look view) comes = comes
+any-look (Opened number peer) comes = tt
+any-look (NoLink peer) comes = tt
+any-look (Bytes number bytes) comes = tt
+any-look (Turn number) comes = tt
+any-look (Gone number) comes = tt
+any-look Tick comes = tt
+any-look (Submit command) comes = tt
+any-look Restart comes = tt
+
+any-sent : (c : LineCommand) → SendsOnly Any c
+any-sent (command.Login client services) = tt
+any-sent (command.Fetch daemon) = tt
+any-sent (command.Renew client services) = tt
+any-sent (command.Connect client daemon lossy) = tt
+any-sent (command.Send client daemon operation) = tt
+
+any-at : (l : Line) → SendsOnlyAt Any l
+any-at (line.Setting setting) = tt
+any-at (line.Submit c) = any-sent c
+any-at (line.Do c) = any-sent c
+any-at (line.Link s) = tt
+any-at (line.Node s) = tt
+
+any-of : (lines : List Numbered) → AllByRecursion (λ (l : Numbered). SendsOnlyAt Any l.line) lines
+any-of [] = tt
+any-of (l ∷ lines) = (any-at l.line, any-of lines)
+
+module _ (P : World → Type 0)
+    -- the same nodes and the same past
+    (like : (w v : World) → v.nodes ≡ w.nodes → v.past ≡ w.past → P w → P v)
+    -- one event more, which tells no view
+    (given-keeps : (w : World) (input : Input) (post : Option Post) → IsNoLook input → P w → P (given w input post).world) where
   pub kept-after_lines : (w : World) (lines : List Numbered) → P w → P (after_lines w lines)
-  kept-after_lines w [] k = k
-  kept-after_lines w (l ∷ lines) k = kept-after_lines (after_line w l) lines (kept-after_line w l k)
+  kept-after_lines w lines k =
+      kept-after_sends Any P like (λ v input post comes kept. given-keeps v input post (any-look input comes) kept) w lines (any-of lines) k

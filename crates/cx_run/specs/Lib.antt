@@ -6,7 +6,7 @@ pub mod Turning
 pub mod Calling
 pub mod Deliveries
 pub mod Schedules
-pub mod Served
+pub mod Sending
 pub mod Runs
 pub mod Points
 pub mod Visits

@@ -1,4 +1,4 @@
--- The run of a schedule of logins, fetches and connects, whose daemons have handlers for these kinds of operation: what happens, the journal, the log, and whether the run kept its premises.
+-- The run of a schedule, whose daemons have handlers for these kinds of operation: what happens, the journal, the log, and whether the run kept its premises.
 use Rattle.std.specs.Prelude.{List, ◌++◌, map, Option}
 use Rattle.cx_desk.specs.Handlers.{Handlers}
 use Rattle.cx_journal.specs.declared.entries.Entry.{Entry}

@@ -1,4 +1,4 @@
--- What each line of a schedule does to the world. A line that isn't served yet, an operation that is sent, does nothing.
+-- What each line of a schedule does to the world.
 use Rattle.std.specs.Prelude.{ℕ, zero, suc, List, [], ◌∷◌, map, sum_by, Option, Some, None, if◌then◌else◌}
 use Rattle.std.specs.List.{slice_get}
 use Rattle.cx_base.specs.declared.kinds.EntityType.{EntityType}
@@ -28,21 +28,17 @@ use Rattle.cx_run.specs.Worlds.{Post, World}
 abbrev pub services_sum : List EntityType → ℕ
 services_sum services = sum_by number_of services
 
--- a client logs in, asks for tickets, or calls a daemon; a daemon asks for the generations of its type
+-- a client logs in, asks for tickets, calls a daemon or sends it an operation; a daemon asks for the generations of its type
 abbrev pub submitted : World → LineCommand → World
 submitted w (command.Login client services) = comes w (node.Entity client) (Submit (told.Login (services_sum services)))
 submitted w (command.Fetch daemon) = comes w (node.Entity daemon) (Submit told.Fetch)
 submitted w (command.Renew client services) = comes w (node.Entity client) (Submit (told.Renew (services_sum services)))
 submitted w (command.Connect client daemon lossy) = comes w (node.Entity client) (Submit (told.Connect daemon lossy))
-submitted w (command.Send client daemon operation) = w
+submitted w (command.Send client daemon operation) = comes w (node.Entity client) (Submit (told.Send daemon operation))
 
 -- and then all settles
 abbrev pub submits : World → LineCommand → World
-submits w (command.Login client services) = settles (submitted w (command.Login client services))
-submits w (command.Fetch daemon) = settles (submitted w (command.Fetch daemon))
-submits w (command.Renew client services) = settles (submitted w (command.Renew client services))
-submits w (command.Connect client daemon lossy) = settles (submitted w (command.Connect client daemon lossy))
-submits w (command.Send client daemon operation) = w
+submits w command = settles (submitted w command)
 
 -- ---- links
 

@@ -1,8 +1,12 @@
 //! Laws of the definition of a run.
 
 ghost use Rattle.std.specs.Prelude.{◌≡◌, ◌≤◌, ◌<◌, ℕ, List, length, true, false, if◌then◌else◌};
+ghost use Rattle.std.specs.List.{list_all};
 ghost use Rattle.cx_base.specs.declared.nodes.NodeName.{NodeName};
 ghost use Rattle.cx_desk.specs.Handlers.{Handlers};
+ghost use Rattle.cx_line_words.specs.declared.known.Known.{Known};
+ghost use Rattle.cx_lines.specs.Lines.{Spells};
+ghost use Rattle.cx_lines.specs.declared.lines.Line.{Line};
 ghost use Rattle.cx_lines.specs.declared.lines.Numbered.{Numbered};
 ghost use Rattle.cx_rules.specs.Abridged.{MonitorStandsFor};
 ghost use Rattle.cx_rules.specs.Inputs.{Input, Turn};
@@ -17,6 +21,7 @@ ghost use Rattle.cx_run.specs.Happenings.{Nodes, nodes_behind};
 ghost use Rattle.cx_run.specs.Opening.{nodes_of, opening_world};
 ghost use Rattle.cx_run.specs.Runs.{setup_of, trace};
 ghost use Rattle.cx_run.specs.Schedules.{after_lines};
+ghost use Rattle.cx_run.specs.Sending.{AreWritten, is_line_written, is_numbered_written};
 ghost use Rattle.cx_run.specs.Turning.{untaken_at, untaken_on};
 ghost use Rattle.cx_run.specs.Visits.{AreUntold, AreUnvisited, has_session_line};
 ghost use Rattle.cx_run.specs.Worlds.{World};
@@ -32,6 +37,12 @@ pub fn run_laws()
 pub fn visit_laws()
     ensures untold { (handlers : Handlers) (script : List Numbered) → AreUntold (trace handlers script) }
     ensures unvisited { (handlers : Handlers) (script : List Numbered) → has_session_line script ≡ false → AreUnvisited (trace handlers script) }
+{}
+
+/// Where each operation of a schedule's lines can be written, so can each that its run tells a client to send. And each line that words spell is such.
+pub fn sending_laws()
+    ensures events { (handlers : Handlers) (script : List Numbered) → list_all is_numbered_written script ≡ true → AreWritten (trace handlers script) }
+    ensures lines { (known : Known) (line : Line) (words : List (List ℕ)) → Spells known line words → is_line_written line ≡ true }
 {}
 
 /// Of every state, event, reading and draw: a client keeps its name, and each link that it opens leads to the monitor, or to the daemon that the command

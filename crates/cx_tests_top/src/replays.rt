@@ -1,4 +1,4 @@
-//! Replays: whole journals, lines that aren't served yet, and long schedules.
+//! Replays: whole journals, lines beside those that send operations, and long schedules.
 
 use crate::given::{Given, ends, replay_of, run_over, writes};
 use cx_base::Sink;
@@ -66,8 +66,8 @@ fn the_first_replay_has_ample_memory(rt: HostRuntime) {
     assert!(rt; writes(&rt, rt.alloc(), &given, Status::Done, FIRST_JOURNAL));
 }
 
-/// Good lines that the plain run doesn't take.
-static LATER_LINES: [&str; 21] = [
+/// Each form of line that the first schedules don't have.
+static OTHER_LINES: [&str; 21] = [
     "seed mon 1",
     "modes client.a crc",
     "leak client.a",
@@ -91,31 +91,37 @@ static LATER_LINES: [&str; 21] = [
     "settle",
 ];
 
-/// An operation that is sent.
-const SEND: &str = "send client.a osd.0 read p n o -";
-
-/// A good line that no run serves.
-const AHEAD: &str = "do send client.a osd.0 read p n o -";
-
-/// Whether a schedule of these two lines below two entities is refused at the first of the two.
-fn is_ahead(rt: &impl Abort, alloc: Global, line: &str, below: &str) -> bool {
-    let input = format!(in alloc; "entity client.a\n\nentity osd.0\n{line}\n{below}\n").expect(
-        rt, "memory",
-    );
+/// Whether a schedule of this line and an operation that is sent, below two entities, is replayed.
+fn is_replayed(rt: &impl Abort, alloc: Global, line: &str) -> bool {
+    let input = format!(in alloc;
+        "entity client.a\n\nentity osd.0\n{line}\nsend client.a osd.0 read p n o -\n"
+    ).expect(rt, "memory");
     let given = replay_of(input.as_bytes());
-    ends(rt, alloc, &given, Status::NotYet { line: 4 })
+    ends(rt, alloc, &given, Status::Done)
 }
 
 #[test]
-fn the_first_line_that_the_plain_run_does_not_take_is_told(rt: HostRuntime) {
-    for line in &LATER_LINES {
-        assert!(rt; is_ahead(&rt, rt.alloc(), line, SEND), "{}", line);
+fn every_line_is_served_beside_a_send_line(rt: HostRuntime) {
+    for line in &OTHER_LINES {
+        assert!(rt; is_replayed(&rt, rt.alloc(), line), "{}", line);
     }
 }
 
+/// An operation that is sent without a session, and no settling.
+const DO_SEND: &str = "entity client.a\nentity osd.0\ndo send client.a osd.0 read p n o -\n";
+
 #[test]
-fn the_first_line_that_no_run_serves_is_told(rt: HostRuntime) {
-    assert!(rt; is_ahead(&rt, rt.alloc(), AHEAD, "settle"));
+fn an_operation_is_sent_without_settling(rt: HostRuntime) {
+    let given = replay_of(DO_SEND.as_bytes());
+    assert!(rt;
+        writes(
+            &rt,
+            rt.alloc(),
+            &given,
+            Status::Done,
+            "refused client.a 0 no-session\n"
+        )
+    );
 }
 
 /// Two clients with one seed draw one challenge.

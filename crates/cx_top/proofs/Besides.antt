@@ -8,7 +8,7 @@ use Rattle.cx_line_help.specs.Sights.{line_at, sight_of}
 use Rattle.cx_line_help.specs.declared.sights.LineSight.{LineSight}
 use Rattle.cx_lines.specs.declared.lines.Numbered.{Numbered}
 use Rattle.cx_lines.specs.declared.sight.BadWord.{BadWord}
-use Rattle.cx_replay.specs.Serving.{IsReplayOf, first_unserved, idle_of, told}
+use Rattle.cx_replay.specs.Serving.{IsReplayOf, idle_lines, told}
 use Rattle.cx_schedule.specs.Files.{Lines}
 use Rattle.cx_words.specs.Cutting.{IsShort, lines_of}
 use Rattle.cx_top.specs.Replays.{Replays}
@@ -23,13 +23,12 @@ bad_line_told bytes line bad sight said says is = says ∙ ap (λ (s : LineSight
 
 -- a replay with what is said of it
 pub replay_made : (handlers : Handlers) (bytes : List ℕ) (is_broken : Bool) (text said : List ℕ) (script : List Numbered) (journal : List Entry) (found : Option Broken) (idle : ℕ)
-    → Lines bytes script → IsShort bytes → first_unserved script ≡ None → IsReplayOf handlers script journal found → is_broken ≡ is_some found
-    → text ≡ journal_text (told journal found) → said ≡ run_told found idle → idle ≡ idle_of handlers script → Replays handlers bytes is_broken text said
-replay_made handlers bytes is_broken text said script journal found idle lines short served replayed tells written says is = record {
+    → Lines bytes script → IsShort bytes → IsReplayOf handlers script journal found → is_broken ≡ is_some found
+    → text ≡ journal_text (told journal found) → said ≡ run_told found idle → idle ≡ idle_lines handlers script → Replays handlers bytes is_broken text said
+replay_made handlers bytes is_broken text said script journal found idle lines short replayed tells written says is = record {
   script = script;
   lines = lines;
   short = short;
-  served = served;
   journal = journal;
   found = found;
   replayed = replayed;

@@ -4,7 +4,7 @@ use Rattle.std.proofs.Math.ListN.{drop_of_length-le}
 use Rattle.cx_words.specs.Cutting.{IsShort}
 use Rattle.cx_top.specs.declared.commands.Subcommand.{Subcommand}
 use Rattle.cx_top.specs.declared.status.Status.{Status}
-use Rattle.cx_top.specs.declared.status.Status.TheVariants.{Done, Usage, BadSchedule, ReadFault, WriteFault, OutOfMemory, BadKeyring, Broken, TooLong, NotYet, BadJournal}
+use Rattle.cx_top.specs.declared.status.Status.TheVariants.{Done, Usage, BadSchedule, ReadFault, WriteFault, OutOfMemory, BadKeyring, Broken, TooLong, BadJournal}
 use Rattle.cx_top.specs.Replays.{GaveAll}
 use Rattle.cx_top.specs.Causes.{IsBytesCause, IsBytesEnd, IsEndOf, IsInputCause, IsTooLong}
 use Rattle.cx_top.specs.Inputs.{IsPastLimit, IsUnread}
@@ -25,7 +25,6 @@ status_cause : (command : Subcommand) (status : Status) (left now : Option (List
     → IsBytesCause command bytes status → told ≡ refusal_told bytes status → IsInputCause command left now before after status told
 status_cause command TooLong left now bytes before after told all short cause says = (too_long left now bytes all short cause, says)
 status_cause command (BadSchedule line bad) left now bytes before after told all short cause says = record { bytes = bytes; read = all; cause = cause; says = says }
-status_cause command (NotYet line) left now bytes before after told all short cause says = record { bytes = bytes; read = all; cause = cause; says = says }
 status_cause command (BadKeyring line why) left now bytes before after told all short cause says = record { bytes = bytes; read = all; cause = cause; says = says }
 status_cause command (BadJournal line bad) left now bytes before after told all short cause says = record { bytes = bytes; read = all; cause = cause; says = says }
 status_cause command OutOfMemory left now bytes before after told all short cause says = tt

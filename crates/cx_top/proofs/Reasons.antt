@@ -9,19 +9,15 @@ use Rattle.cx_journal_lines.specs.declared.refusals.WrongLine.{WrongLine}
 use Rattle.cx_keyring.specs.declared.refusals.KeyringRefusal.{KeyringRefusal}
 use Rattle.cx_keyring.specs.declared.refusals.KeyringRefusal.TheVariants as keyring
 use Rattle.cx_keyring.specs.Rings as rings
-use Rattle.cx_lines.specs.declared.lines.Numbered.{Numbered}
-use Rattle.cx_replay.specs.Serving.{IsReplayCause, first_unserved}
-use Rattle.cx_replay.specs.declared.refusals.ReplayRefusal.{ReplayRefusal}
-use Rattle.cx_replay.specs.declared.refusals.ReplayRefusal.TheVariants as replay
 use Rattle.cx_schedule.specs.Files as files
 use Rattle.cx_schedule.specs.declared.refusals.ScheduleRefusal.{ScheduleRefusal}
 use Rattle.cx_schedule.specs.declared.refusals.ScheduleRefusal.TheVariants as schedule
 use Rattle.cx_words.specs.Cutting.{IsShort, lines_of}
 use Rattle.cx_top.specs.declared.commands.Subcommand.TheVariants.{Replay, Keyring, Audit}
 use Rattle.cx_top.specs.declared.status.Status.{Status}
-use Rattle.cx_top.specs.declared.status.Status.TheVariants.{Done, Usage, BadSchedule, ReadFault, WriteFault, OutOfMemory, BadKeyring, Broken, TooLong, NotYet, BadJournal}
+use Rattle.cx_top.specs.declared.status.Status.TheVariants.{Done, Usage, BadSchedule, ReadFault, WriteFault, OutOfMemory, BadKeyring, Broken, TooLong, BadJournal}
 use Rattle.cx_top.specs.Causes.{IsAnswered, IsBytesCause, IsReasonFor}
-use Rattle.cx_top.specs.Statuses.{IsOrMemory, audit_status, keyring_status, replay_status, schedule_status}
+use Rattle.cx_top.specs.Statuses.{IsOrMemory, audit_status, keyring_status, schedule_status}
 
 -- ---- schedules
 
@@ -33,68 +29,30 @@ or_schedule (schedule.BadLine line fault) why status is (inr same) = ap schedule
 or_schedule schedule.OutOfMemory why status is (inr same) = tt
 
 pub schedule_reason : (bytes : List ℕ) (got : ScheduleRefusal) (status : Status) → IsReasonFor Replay bytes status
-    → ((why : ScheduleRefusal) → files.IsReason bytes why → (got ≡ schedule.OutOfMemory) ⊎ (got ≡ why))
-    → ((script : List Numbered) → IsShort bytes → files.Lines bytes script → got ≡ schedule.OutOfMemory) → IsOrMemory status (schedule_status got)
-schedule_reason bytes got TooLong reason exact only = or_schedule got schedule.TooLong TooLong refl (exact schedule.TooLong reason)
-schedule_reason bytes got (BadSchedule line bad) reason exact only = or_schedule got (schedule.BadLine line bad) (BadSchedule line bad) refl (exact (schedule.BadLine line bad) reason)
-schedule_reason bytes got (NotYet line) (short, (script, lines, untaken)) exact only = rw (only script short lines) tt
-schedule_reason bytes got Done reason exact only = absurd reason
-schedule_reason bytes got Usage reason exact only = absurd reason
-schedule_reason bytes got ReadFault reason exact only = absurd reason
-schedule_reason bytes got WriteFault reason exact only = absurd reason
-schedule_reason bytes got Broken reason exact only = absurd reason
-schedule_reason bytes got OutOfMemory reason exact only = absurd reason
-schedule_reason bytes got (BadKeyring line why) reason exact only = absurd reason
-schedule_reason bytes got (BadJournal line bad) reason exact only = absurd reason
+    → ((why : ScheduleRefusal) → files.IsReason bytes why → (got ≡ schedule.OutOfMemory) ⊎ (got ≡ why)) → IsOrMemory status (schedule_status got)
+schedule_reason bytes got TooLong reason exact = or_schedule got schedule.TooLong TooLong refl (exact schedule.TooLong reason)
+schedule_reason bytes got (BadSchedule line bad) reason exact = or_schedule got (schedule.BadLine line bad) (BadSchedule line bad) refl (exact (schedule.BadLine line bad) reason)
+schedule_reason bytes got Done reason exact = absurd reason
+schedule_reason bytes got Usage reason exact = absurd reason
+schedule_reason bytes got ReadFault reason exact = absurd reason
+schedule_reason bytes got WriteFault reason exact = absurd reason
+schedule_reason bytes got Broken reason exact = absurd reason
+schedule_reason bytes got OutOfMemory reason exact = absurd reason
+schedule_reason bytes got (BadKeyring line why) reason exact = absurd reason
+schedule_reason bytes got (BadJournal line bad) reason exact = absurd reason
 
--- a schedule that is read is refused at the first line that isn't served, or memory is wanting
-or_replay : (script other : List Numbered) (got : ReplayRefusal) (line : ℕ) → IsReplayCause script got → script ≡ other → first_unserved other ≡ Some line → IsOrMemory (NotYet line) (replay_status got)
-or_replay script other (replay.NotYet n) line cause same untaken =
-    let e : Some n ≡ Some line = sym cause ∙ ap first_unserved same ∙ untaken in
-    let is : n ≡ line = cc in
-    ap (λ k. NotYet k) is
-or_replay script other replay.OutOfMemory line cause same untaken = tt
-
-pub replay_reason : (bytes : List ℕ) (script : List Numbered) (got : ReplayRefusal) (status : Status) → IsReasonFor Replay bytes status → IsReplayCause script got
-    → ((other : List Numbered) → files.Lines bytes other → script ≡ other) → ((why : ScheduleRefusal) → files.IsReason bytes why → ⊥) → IsOrMemory status (replay_status got)
-replay_reason bytes script got TooLong reason cause one exact = absurd (exact schedule.TooLong reason)
-replay_reason bytes script got (BadSchedule line bad) reason cause one exact = absurd (exact (schedule.BadLine line bad) reason)
-replay_reason bytes script got (NotYet line) (short, (other, lines, untaken)) cause one exact = or_replay script other got line cause (one other lines) untaken
-replay_reason bytes script got Done reason cause one exact = absurd reason
-replay_reason bytes script got Usage reason cause one exact = absurd reason
-replay_reason bytes script got ReadFault reason cause one exact = absurd reason
-replay_reason bytes script got WriteFault reason cause one exact = absurd reason
-replay_reason bytes script got Broken reason cause one exact = absurd reason
-replay_reason bytes script got OutOfMemory reason cause one exact = absurd reason
-replay_reason bytes script got (BadKeyring line why) reason cause one exact = absurd reason
-replay_reason bytes script got (BadJournal line bad) reason cause one exact = absurd reason
-
--- a schedule that is served has no reason to be refused
-pub schedule_read : (bytes : List ℕ) (script : List Numbered) (status : Status) → IsReasonFor Replay bytes status → first_unserved script ≡ None
-    → ((other : List Numbered) → files.Lines bytes other → script ≡ other) → ((why : ScheduleRefusal) → files.IsReason bytes why → ⊥) → ⊥
-schedule_read bytes script TooLong reason taken one exact = exact schedule.TooLong reason
-schedule_read bytes script (BadSchedule line bad) reason taken one exact = exact (schedule.BadLine line bad) reason
-schedule_read bytes script (NotYet line) (short, (other, lines, untaken)) taken one exact =
-    absurd (let e : None ≡ Some line = sym taken ∙ ap first_unserved (one other lines) ∙ untaken in cc)
-schedule_read bytes script Done reason taken one exact = reason
-schedule_read bytes script Usage reason taken one exact = reason
-schedule_read bytes script ReadFault reason taken one exact = reason
-schedule_read bytes script WriteFault reason taken one exact = reason
-schedule_read bytes script Broken reason taken one exact = reason
-schedule_read bytes script OutOfMemory reason taken one exact = reason
-schedule_read bytes script (BadKeyring line why) reason taken one exact = reason
-schedule_read bytes script (BadJournal line bad) reason taken one exact = reason
-
--- why there is no replay is why the bytes are refused
-pub replay_cause : (bytes : List ℕ) (script : List Numbered) (got : ReplayRefusal) → IsShort bytes → files.Lines bytes script → IsReplayCause script got → IsBytesCause Replay bytes (replay_status got)
-replay_cause bytes script (replay.NotYet n) short lines cause = (short, (script, lines, cause))
-replay_cause bytes script replay.OutOfMemory short lines cause = tt
-
--- a schedule that is served is replayed, or memory is wanting
-pub replay_answered : (bytes : List ℕ) (script : List Numbered) (got : ReplayRefusal) → ((other : List Numbered) → files.Lines bytes other → script ≡ other) → IsReplayCause script got → IsAnswered Replay bytes → replay_status got ≡ OutOfMemory
-replay_answered bytes script (replay.NotYet n) one cause (other, lines, taken, short) =
-    absurd (let e : None ≡ Some n = sym taken ∙ ap first_unserved (sym (one other lines)) ∙ cause in cc)
-replay_answered bytes script replay.OutOfMemory one cause answered = refl
+-- a schedule that is read has no reason to be refused
+pub schedule_read : (bytes : List ℕ) (status : Status) → IsReasonFor Replay bytes status → ((why : ScheduleRefusal) → files.IsReason bytes why → ⊥) → ⊥
+schedule_read bytes TooLong reason exact = exact schedule.TooLong reason
+schedule_read bytes (BadSchedule line bad) reason exact = exact (schedule.BadLine line bad) reason
+schedule_read bytes Done reason exact = reason
+schedule_read bytes Usage reason exact = reason
+schedule_read bytes ReadFault reason exact = reason
+schedule_read bytes WriteFault reason exact = reason
+schedule_read bytes Broken reason exact = reason
+schedule_read bytes OutOfMemory reason exact = reason
+schedule_read bytes (BadKeyring line why) reason exact = reason
+schedule_read bytes (BadJournal line bad) reason exact = reason
 
 -- ---- keyrings
 
@@ -115,7 +73,6 @@ keyring_reason bytes got (BadKeyring line (Some why)) short reason exact =
 keyring_reason bytes got (BadKeyring line None) short (_, (is, ring, text, long)) exact =
     or_keyring got (keyring.TooMany 4096) (BadKeyring line None) (zero_line line is) (exact (keyring.TooMany 4096) (refl, ring, text, long))
 keyring_reason bytes got (BadSchedule line bad) short reason exact = absurd reason
-keyring_reason bytes got (NotYet line) short reason exact = absurd reason
 keyring_reason bytes got (BadJournal line bad) short reason exact = absurd reason
 keyring_reason bytes got Done short reason exact = absurd reason
 keyring_reason bytes got Usage short reason exact = absurd reason
@@ -130,7 +87,6 @@ keyring_read bytes TooLong short reason exact = reason short
 keyring_read bytes (BadKeyring line (Some why)) short reason exact = exact (keyring.BadLine line why) reason.1
 keyring_read bytes (BadKeyring line None) short (_, (is, ring, text, long)) exact = exact (keyring.TooMany 4096) (refl, ring, text, long)
 keyring_read bytes (BadSchedule line bad) short reason exact = reason
-keyring_read bytes (NotYet line) short reason exact = reason
 keyring_read bytes (BadJournal line bad) short reason exact = reason
 keyring_read bytes Done short reason exact = reason
 keyring_read bytes Usage short reason exact = reason
@@ -152,7 +108,6 @@ audit_reason bytes got TooLong short reason exact = absurd (reason short)
 audit_reason bytes got (BadJournal line bad) short reason exact = or_journal line bad got (exact line bad short reason.1)
 audit_reason bytes got (BadSchedule line bad) short reason exact = absurd reason
 audit_reason bytes got (BadKeyring line why) short reason exact = absurd reason
-audit_reason bytes got (NotYet line) short reason exact = absurd reason
 audit_reason bytes got Done short reason exact = absurd reason
 audit_reason bytes got Usage short reason exact = absurd reason
 audit_reason bytes got ReadFault short reason exact = absurd reason
@@ -167,7 +122,6 @@ audit_read bytes TooLong short reason exact = reason short
 audit_read bytes (BadJournal line bad) short reason exact = exact line bad short reason.1
 audit_read bytes (BadSchedule line bad) short reason exact = reason
 audit_read bytes (BadKeyring line why) short reason exact = reason
-audit_read bytes (NotYet line) short reason exact = reason
 audit_read bytes Done short reason exact = reason
 audit_read bytes Usage short reason exact = reason
 audit_read bytes ReadFault short reason exact = reason

@@ -8,14 +8,13 @@ use Rattle.cx_keyring.specs.declared.faults.KeyringFault.{KeyringFault}
 use Rattle.cx_keyring.specs.declared.refusals.KeyringRefusal.TheVariants as keyring
 use Rattle.cx_keyring.specs.Rings.{KeyringText, IsKeyringCause}
 use Rattle.cx_lines.specs.declared.lines.Numbered.{Numbered}
-use Rattle.cx_replay.specs.Serving.{first_unserved}
 use Rattle.cx_schedule.specs.declared.refusals.ScheduleRefusal.TheVariants as schedule
 use Rattle.cx_schedule.specs.Files.{Lines, IsScheduleCause}
 use Rattle.cx_words.specs.Cutting.{IsShort, lines_of}
 use Rattle.cx_top.specs.declared.commands.Subcommand.{Subcommand}
 use Rattle.cx_top.specs.declared.commands.Subcommand.TheVariants.{Replay, Keyring, Audit}
 use Rattle.cx_top.specs.declared.status.Status.{Status}
-use Rattle.cx_top.specs.declared.status.Status.TheVariants.{Done, Usage, BadSchedule, ReadFault, WriteFault, OutOfMemory, BadKeyring, Broken, TooLong, NotYet, BadJournal}
+use Rattle.cx_top.specs.declared.status.Status.TheVariants.{Done, Usage, BadSchedule, ReadFault, WriteFault, OutOfMemory, BadKeyring, Broken, TooLong, BadJournal}
 use Rattle.cx_top.specs.declared.program_end.ProgramEnd.{ProgramEnd}
 use Rattle.cx_top.specs.Replays.{GaveAll}
 use Rattle.cx_top.specs.Told.{refusal_told}
@@ -28,15 +27,10 @@ abbrev pub IsBadKeyring : List ℕ → ℕ → Option KeyringFault → Type 0
 IsBadKeyring bytes line (Some why) = IsKeyringCause bytes (keyring.BadLine line why)
 IsBadKeyring bytes line None = (line ≡ 0) × (ring : List Entry) × KeyringText bytes ring × (4096 < length ring)
 
--- the bytes are a schedule, and this line is the first for which it isn't served yet
-abbrev pub IsUnservedAt : List ℕ → ℕ → Type 0
-IsUnservedAt bytes line = (script : List Numbered) × Lines bytes script × (first_unserved script ≡ Some line)
-
 -- these bytes must be refused with this status
 abbrev pub IsReasonFor : Subcommand → List ℕ → Status → Type 0
 IsReasonFor command bytes TooLong = IsShort bytes → ⊥
 IsReasonFor Replay bytes (BadSchedule line bad) = IsScheduleCause bytes (schedule.BadLine line bad)
-IsReasonFor Replay bytes (NotYet line) = IsShort bytes × IsUnservedAt bytes line
 IsReasonFor Keyring bytes (BadKeyring line why) = IsShort bytes × IsBadKeyring bytes line why
 IsReasonFor Audit bytes (BadJournal line bad) = IsShort bytes × IsFirstBad nothing (lines_of bytes) line bad
 IsReasonFor command bytes _ = ⊥
@@ -51,13 +45,12 @@ IsBytesCause command bytes WriteFault = ⊥
 IsBytesCause command bytes Broken = ⊥
 IsBytesCause command bytes TooLong = IsReasonFor command bytes TooLong
 IsBytesCause command bytes (BadSchedule line bad) = IsReasonFor command bytes (BadSchedule line bad)
-IsBytesCause command bytes (NotYet line) = IsReasonFor command bytes (NotYet line)
 IsBytesCause command bytes (BadKeyring line why) = IsReasonFor command bytes (BadKeyring line why)
 IsBytesCause command bytes (BadJournal line bad) = IsReasonFor command bytes (BadJournal line bad)
 
--- the bytes are a schedule that is served, or a keyring, or a journal, within the limits
+-- the bytes are a schedule, a keyring or a journal, within the limits
 abbrev pub IsAnswered : Subcommand → List ℕ → Type 0
-IsAnswered Replay bytes = (script : List Numbered) × Lines bytes script × (first_unserved script ≡ None) × IsShort bytes
+IsAnswered Replay bytes = (script : List Numbered) × Lines bytes script × IsShort bytes
 IsAnswered Keyring bytes = (ring : List Entry) × KeyringText bytes ring × (length ring ≤ 4096) × IsShort bytes
 IsAnswered Audit bytes = (said : List JournalLine) × IsJournal bytes said × IsShort bytes
 
@@ -88,7 +81,6 @@ IsTooLong (Some left) now = (IsShort left → ⊥) × (now ≡ Some (drop 104857
 abbrev pub IsRefusedStatus : Subcommand → Option (List ℕ) → Option (List ℕ) → Status → List ℕ → Type 0
 IsRefusedStatus command left now TooLong told = IsTooLong left now × (told ≡ [])
 IsRefusedStatus command left now (BadSchedule line bad) told = IsRefused command left now (BadSchedule line bad) told
-IsRefusedStatus command left now (NotYet line) told = IsRefused command left now (NotYet line) told
 IsRefusedStatus command left now (BadKeyring line why) told = IsRefused command left now (BadKeyring line why) told
 IsRefusedStatus command left now (BadJournal line bad) told = IsRefused command left now (BadJournal line bad) told
 IsRefusedStatus command left now Done told = Unit {0}
@@ -103,7 +95,6 @@ abbrev pub IsInputCause : Subcommand → Option (List ℕ) → Option (List ℕ)
 IsInputCause command left now before after ReadFault told = Rose before after × (told ≡ [])
 IsInputCause command left now before after TooLong told = IsTooLong left now × (told ≡ [])
 IsInputCause command left now before after (BadSchedule line bad) told = IsRefused command left now (BadSchedule line bad) told
-IsInputCause command left now before after (NotYet line) told = IsRefused command left now (NotYet line) told
 IsInputCause command left now before after (BadKeyring line why) told = IsRefused command left now (BadKeyring line why) told
 IsInputCause command left now before after (BadJournal line bad) told = IsRefused command left now (BadJournal line bad) told
 IsInputCause command left now before after OutOfMemory told = Unit {0}

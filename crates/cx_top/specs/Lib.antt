@@ -1,10 +1,10 @@
 pub mod Audits
 pub mod Causes
 pub mod Commands
+pub mod Drills
 pub mod Inputs
 pub mod Notes
 pub mod Replays
 pub mod Sentences
 pub mod Statuses
 pub mod Told
-pub mod Unserved

@@ -4,14 +4,12 @@ use Rattle.cx_audit.specs.declared.verdicts.AuditRefusal.{AuditRefusal}
 use Rattle.cx_audit.specs.declared.verdicts.AuditRefusal.TheVariants as audit
 use Rattle.cx_keyring.specs.declared.refusals.KeyringRefusal.{KeyringRefusal}
 use Rattle.cx_keyring.specs.declared.refusals.KeyringRefusal.TheVariants as keyring
-use Rattle.cx_replay.specs.declared.refusals.ReplayRefusal.{ReplayRefusal}
-use Rattle.cx_replay.specs.declared.refusals.ReplayRefusal.TheVariants as replay
 use Rattle.cx_schedule.specs.declared.refusals.ScheduleRefusal.{ScheduleRefusal}
 use Rattle.cx_schedule.specs.declared.refusals.ScheduleRefusal.TheVariants as refusal
 use Rattle.cx_top.specs.declared.input.Unread.{Unread}
 use Rattle.cx_top.specs.declared.input.Unread.TheVariants as unread
 use Rattle.cx_top.specs.declared.status.Status.{Status}
-use Rattle.cx_top.specs.declared.status.Status.TheVariants.{Done, Usage, BadSchedule, ReadFault, WriteFault, OutOfMemory, BadKeyring, Broken, TooLong, NotYet, BadJournal}
+use Rattle.cx_top.specs.declared.status.Status.TheVariants.{Done, Usage, BadSchedule, ReadFault, WriteFault, OutOfMemory, BadKeyring, Broken, TooLong, BadJournal}
 
 -- the number with which the program ends
 abbrev pub number_of : Status → ℕ
@@ -24,7 +22,6 @@ number_of OutOfMemory = 5
 number_of (BadKeyring _ _) = 6
 number_of Broken = 7
 number_of TooLong = 12
-number_of (NotYet _) = 13
 number_of (BadJournal _ _) = 14
 
 -- the status of a refused schedule
@@ -32,11 +29,6 @@ abbrev pub schedule_status : ScheduleRefusal → Status
 schedule_status refusal.TooLong = TooLong
 schedule_status (refusal.BadLine line bad) = BadSchedule line bad
 schedule_status refusal.OutOfMemory = OutOfMemory
-
--- the status of a schedule that isn't replayed
-abbrev pub replay_status : ReplayRefusal → Status
-replay_status (replay.NotYet line) = NotYet line
-replay_status replay.OutOfMemory = OutOfMemory
 
 -- the status of a refused keyring
 abbrev pub keyring_status : KeyringRefusal → Status
@@ -66,7 +58,6 @@ IsServed ReadFault = ⊥
 IsServed WriteFault = ⊥
 IsServed (BadKeyring _ _) = ⊥
 IsServed TooLong = ⊥
-IsServed (NotYet _) = ⊥
 IsServed (BadJournal _ _) = ⊥
 
 -- this status, or want of memory
@@ -80,5 +71,4 @@ IsOrMemory expected WriteFault = WriteFault ≡ expected
 IsOrMemory expected (BadKeyring line why) = BadKeyring line why ≡ expected
 IsOrMemory expected Broken = Broken ≡ expected
 IsOrMemory expected TooLong = TooLong ≡ expected
-IsOrMemory expected (NotYet line) = NotYet line ≡ expected
 IsOrMemory expected (BadJournal line bad) = BadJournal line bad ≡ expected

@@ -16,10 +16,8 @@ use Rattle.cx_line_help.specs.Words.{word_text}
 use Rattle.cx_line_words.specs.Sights.{shown_of}
 use Rattle.cx_words.specs.Cutting.{lines_of}
 use Rattle.cx_top.specs.declared.status.Status.{Status}
-use Rattle.cx_top.specs.declared.unserved.Unserved.{Unserved}
-use Rattle.cx_top.specs.declared.status.Status.TheVariants.{Done, Usage, BadSchedule, ReadFault, WriteFault, OutOfMemory, BadKeyring, Broken as BrokenStatus, TooLong, NotYet, BadJournal}
-use Rattle.cx_top.specs.Sentences.{bad_line_text, status_text, unserved_line_text}
-use Rattle.cx_top.specs.Unserved.{unserved_of, unserved_text}
+use Rattle.cx_top.specs.declared.status.Status.TheVariants.{Done, Usage, BadSchedule, ReadFault, WriteFault, OutOfMemory, BadKeyring, Broken as BrokenStatus, TooLong, BadJournal}
+use Rattle.cx_top.specs.Sentences.{bad_line_text, status_text}
 
 -- a line of standard error
 abbrev pub line_told : List ℕ → List ℕ
@@ -27,16 +25,10 @@ line_told text = codes "cephx_cli: " <> text <> codes "\n"
 
 -- ---- inputs that are refused
 
--- a line that isn't served, and why
-abbrev pub unserved_told : ℕ → Unserved → List ℕ
-unserved_told line why = unserved_line_text line <> codes ": " <> unserved_text why
-
 abbrev pub refusal_told : List ℕ → Status → List ℕ
 refusal_told bytes (BadSchedule line bad) = line_told (bad_line_text line (sight_of (line_at (lines_of bytes) line) bad))
 refusal_told bytes (BadKeyring line (Some why)) =
     line_told (wrong_keyring_text (record { line = line; why = why; detail = detail_of (lines_of bytes) line why }))
-refusal_told bytes (NotYet line) =
-    line_told (unserved_told line (unserved_of (line_at (lines_of bytes) line)))
 refusal_told bytes (BadKeyring line None) = []
 refusal_told bytes Done = []
 refusal_told bytes Usage = []
@@ -114,7 +106,6 @@ is_done OutOfMemory = false
 is_done (BadKeyring _ _) = false
 is_done BrokenStatus = false
 is_done TooLong = false
-is_done (NotYet _) = false
 is_done (BadJournal _ _) = false
 
 -- the sentence of a status

@@ -3,6 +3,7 @@
 
 mod audits;
 mod commands;
+mod drills;
 mod input;
 mod keyring;
 mod notes;
@@ -12,9 +13,9 @@ mod sentences;
 mod status;
 mod told;
 mod top;
-mod unserved;
 
 pub use commands::Subcommand;
+pub use drills::drill;
 pub use input::{Unread, read_all};
 pub use program_end::{ProgramEnd, StatusLine};
 pub use status::Status;

@@ -4,7 +4,6 @@ ghost use Rattle.std.specs.Prelude.{◌≡◌};
 ghost use Rattle.cx_top.specs.Sentences.{usage_text};
 
 use crate::status::Status;
-use crate::unserved::{Unserved, unserved_text};
 use cx_audit_help::WrongInJournal;
 use cx_journal::{Broken, Premise};
 use cx_keyring_help::{Detail, WrongInKeyring};
@@ -65,7 +64,6 @@ impl fmt::Display for Status {
                 f,
                 "the input is too long: at most 1,048,576 bytes and 20,000 lines are read; cut it into files of their own"
             ),
-            Status::NotYet { line } => write!(f, "{}", NotServed(*line)),
             Status::BadJournal { line, bad } => {
                 let wrong = WrongInJournal {
                     line: *line,
@@ -89,40 +87,6 @@ impl fmt::Display for OfSchedule<'_> {
 
     fn fmt<W: fmt::Write>(&self, f: &mut fmt::Formatter<W>) -> fmt::Result {
         write!(f, "line {} of the schedule: {}", self.0, Wrong(self.1))
-    }
-}
-
-/// A line of a schedule that isn't served yet.
-#[derive(Clone, Copy)]
-struct NotServed(u32);
-
-impl fmt::Display for NotServed {
-    ghost use Rattle.std.specs.Prelude.{Some};
-    ghost use Rattle.cx_top.specs.Sentences.{unserved_line_text};
-
-    ghost output = { λ line. Some (unserved_line_text line.0) };
-
-    fn fmt<W: fmt::Write>(&self, f: &mut fmt::Formatter<W>) -> fmt::Result {
-        write!(
-            f,
-            "line {} of the schedule is a good one, but not served yet",
-            self.0
-        )
-    }
-}
-
-/// The same with its cause.
-#[derive(Clone, Copy)]
-pub(crate) struct UnservedLine(pub(crate) u32, pub(crate) Unserved);
-
-impl fmt::Display for UnservedLine {
-    ghost use Rattle.std.specs.Prelude.{Some};
-    ghost use Rattle.cx_top.specs.Told.{unserved_told};
-
-    ghost output = { λ line. Some (unserved_told line.0 line.1) };
-
-    fn fmt<W: fmt::Write>(&self, f: &mut fmt::Formatter<W>) -> fmt::Result {
-        write!(f, "{}: {}", NotServed(self.0), unserved_text(self.1))
     }
 }
 

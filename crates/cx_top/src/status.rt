@@ -8,7 +8,6 @@ use cx_audit::AuditRefusal;
 use cx_journal_lines::WrongLine;
 use cx_keyring::{KeyringFault, KeyringRefusal};
 use cx_lines::BadWord;
-use cx_replay::ReplayRefusal;
 use cx_schedule::ScheduleRefusal;
 use std::alloc::AllocError;
 
@@ -41,10 +40,6 @@ pub enum Status {
     Broken,
     /// The input has more than 1,048,576 bytes or 20,000 lines.
     TooLong,
-    /// The input is a schedule, and this line, from 1, is the first for which it is not served yet.
-    NotYet {
-        line: u32,
-    },
     /// This line, from 1, is the first that is none of a journal, and `bad` is its first wrong word.
     BadJournal {
         line: u64,
@@ -67,7 +62,6 @@ impl Status {
             Status::BadKeyring { .. } => 6,
             Status::Broken => 7,
             Status::TooLong => 12,
-            Status::NotYet { .. } => 13,
             Status::BadJournal { .. } => 14,
         }
     }
@@ -95,20 +89,6 @@ impl From<ScheduleRefusal> for Status {
             ScheduleRefusal::TooLong => Status::TooLong,
             ScheduleRefusal::BadLine { line, bad } => Status::BadSchedule { line, bad },
             ScheduleRefusal::OutOfMemory => Status::OutOfMemory,
-        }
-    }
-}
-
-impl From<ReplayRefusal> for Status {
-    ghost use Rattle.std.specs.Prelude.{◌≡◌};
-    ghost use Rattle.cx_top.specs.Statuses.{replay_status};
-
-    ghost from_gives = { λ refusal status. status ≡ replay_status refusal };
-
-    fn from(refusal: ReplayRefusal) -> Status {
-        match refusal {
-            ReplayRefusal::NotYet { line } => Status::NotYet { line },
-            ReplayRefusal::OutOfMemory => Status::OutOfMemory,
         }
     }
 }

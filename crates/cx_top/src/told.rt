@@ -9,9 +9,8 @@ ghost use Rattle.cx_top.specs.Told.{extra_word_text, line_told, refusal_told, ru
 ghost use Rattle.cx_top.specs.declared.status.Status.{Status};
 
 use crate::program_end::ProgramEnd;
-use crate::sentences::{BreachTold, ExtraWord, IdleTold, OfSchedule, UnservedLine};
+use crate::sentences::{BreachTold, ExtraWord, IdleTold, OfSchedule};
 use crate::status::Status;
-use crate::unserved::unserved_of;
 use cx_audit::Verdict;
 use cx_audit_help::BreachInJournal;
 use cx_journal::Broken;
@@ -41,7 +40,6 @@ fn refusal_told(alloc: Global, bytes: &[u8], status: Status) -> Result<String, A
             line,
             why: Some(why),
         } => bad_keyring(alloc, bytes, line, why),
-        Status::NotYet { line } => unserved(alloc, bytes, line),
         _ => Ok(String::new(alloc)),
     }
 }
@@ -70,13 +68,6 @@ fn bad_keyring(
 {
     let detail = detail_of(alloc, bytes, line, why)?;
     format!(in alloc; "cephx_cli: {}\n", WrongInKeyring { line, why, detail })
-}
-
-fn unserved(alloc: Global, bytes: &[u8], line: u32) -> Result<String, AllocError>
-    ensures { IfOk result (λ told. string_bytes told ≡ refusal_told bytes.now (Status.NotYet line)) }
-{
-    let why = unserved_of(line_at(bytes, u64::from(line)));
-    format!(in alloc; "cephx_cli: {}\n", UnservedLine(line, why))
 }
 
 #[tactic(auto, using(crate::proofs::Causes::says_it, crate::proofs::Causes::says_nothing))]

@@ -11,4 +11,3 @@ pub mod Rounds
 pub mod Started
 pub mod Turns
 pub mod Vanishing
-pub mod Submitting

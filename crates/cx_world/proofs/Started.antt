@@ -1,10 +1,12 @@
 -- How a run begins, and what is told of it at its end.
-use Rattle.std.proofs.Common.{◌≡◌, ℕ, ◌+◌, ◌<◌, ◌≤◌, Bool, true, false, List, [], ◌∷◌, ◌++◌, length, get_or, map, take, Option, None, refl, sym, subst, ap, ◌∙◌, append-nil}
+use Rattle.std.proofs.Common.{◌≡◌, ℕ, ◌+◌, ◌<◌, ◌≤◌, Bool, true, false, List, [], ◌∷◌, ◌++◌, length, get_or, map, take, Option, None, refl, sym, subst, ap, ◌∙◌, append-nil, inl, inr}
 use Rattle.std.specs.List.{list_all}
 use Rattle.std.proofs.lemmas.List.{map-append, take_all, take_more}
+use Rattle.std.proofs.lemmas.List.Folds.{list_all-append}
 use Rattle.cx_base.specs.Names.{Name}
 use Rattle.cx_desk.specs.Handlers.{Handlers}
 use Rattle.cx_journal.specs.declared.premises.Broken.{Broken}
+use Rattle.cx_lines.specs.Knowing.{known_of}
 use Rattle.cx_lines.specs.Lines.{is_numbered_in_range}
 use Rattle.cx_lines.specs.declared.lines.Numbered.{Numbered}
 use Rattle.cx_run_nodes.specs.Held.{StandFor}
@@ -13,9 +15,12 @@ use Rattle.cx_run.specs.Happenings.{Entered, journal_from}
 use Rattle.cx_run.specs.Opening.{Setup, leaks_entered, nodes_of, opening_world, posts_of}
 use Rattle.cx_run.specs.Runs.{IsFoundOf, run_journal, setup_of, trace}
 use Rattle.cx_run.specs.Schedules.{after_line, after_lines}
-use Rattle.cx_run.specs.Served.{first_unserved, is_numbered_served, is_served}
+use Rattle.cx_run.specs.Sending.{is_numbered_written}
 use Rattle.cx_run.specs.Worlds.{World}
+use Rattle.cx_run.proofs.Written.{line-written}
 use Rattle.cx_schedule.proofs.Whole as schedule
+use Rattle.cx_schedule.specs.Files.{Adds, Said}
+use Rattle.cx_schedule.specs.Grammars.{line_words}
 use Rattle.cx_world.specs.Heads.{IsSchedule, with_handlers}
 use Rattle.cx_steps.specs.Breach.{IsFound}
 use Rattle.cx_steps.specs.declared.seals.Logged.{Logged}
@@ -63,15 +68,20 @@ breach_told handlers script world found k finds = finds _ _ k.told.ledger
 pub in_range : (script : List Numbered) → IsSchedule script → list_all is_numbered_in_range script ≡ true
 in_range script (bytes, short, said) = schedule.all_in_range 1 [] script (lines_of bytes) said refl
 
--- each line of one of which none is unserved is served
-pub all_served : (script : List Numbered) → first_unserved script ≡ None → list_all is_numbered_served script ≡ true
-all_served [] none = refl
-all_served (line ∷ lines) none = by_first (is_served line.line) refl (λ later. all_served lines later)
-  where
-    by_first : (served : Bool) → is_served line.line ≡ served → (first_unserved lines ≡ None → list_all is_numbered_served lines ≡ true)
-        → list_all is_numbered_served (line ∷ lines) ≡ true
-    by_first true is rest = rw is (rest (rw is at none))
-    by_first false is rest = absurd (let e = rw is at none in cc)
+-- each operation of its lines can be written
+written_more : (number : ℕ) (earlier now : List Numbered) (line : List ℕ) → Adds number earlier line now → list_all is_numbered_written earlier ≡ true → list_all is_numbered_written now ≡ true
+written_more number earlier now line (inl p) all = rw p.1 all
+written_more number earlier now line (inr (kept, x, spelled, is)) all =
+    let one = line-written (known_of earlier) x (line_words line) spelled in
+    rw (is, list_all-append, all, one) refl
+
+written_all : (number : ℕ) (earlier script : List Numbered) (lines : List (List ℕ)) → Said number earlier lines script → list_all is_numbered_written earlier ≡ true → list_all is_numbered_written script ≡ true
+written_all number earlier script [] said all = rw said all
+written_all number earlier script (line ∷ lines) (now, adds, said) all =
+    written_all (number + 1) now script lines said (written_more number earlier now line adds all)
+
+pub all_written : (script : List Numbered) → IsSchedule script → list_all is_numbered_written script ≡ true
+all_written script (bytes, short, said) = written_all 1 [] script (lines_of bytes) said refl
 
 -- one line more
 pub after_more : (w : World) (lines : List Numbered) (line : Numbered) → after_lines w (lines ++ line ∷ []) ≡ after_line (after_lines w lines) line

@@ -1,4 +1,4 @@
-//! The run of a schedule of logins, carried out: the nodes with their clocks and dice, the links between them, and the lines.
+//! The run of a schedule, carried out: the nodes with their clocks and dice, the links between them, and the lines.
 #![tactic(auto)]
 
 mod beginning;

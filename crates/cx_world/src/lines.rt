@@ -1,4 +1,4 @@
-//! What each line of a schedule does. Lines that no rule serves yet don't come here: operations that are sent.
+//! What each line of a schedule does.
 
 ghost use Rattle.std.specs.Prelude.{◌≡◌, ℕ, Option, IfOk, IsTrue, OnOk};
 ghost use Rattle.cx_desk.specs.Held.{handlers_of};
@@ -7,12 +7,13 @@ ghost use Rattle.cx_base.specs.declared.nodes.NodeName.TheVariants as node;
 ghost use Rattle.cx_lines.specs.Lines.{is_in_range, is_numbered_in_range};
 ghost use Rattle.cx_lines.specs.declared.commands.LineCommand.TheVariants as command;
 ghost use Rattle.cx_run.specs.Schedules.{acts_on, after_line, services_sum, submits, submitted};
-ghost use Rattle.cx_run.specs.Served.{is_command_served, is_numbered_served, is_served};
+ghost use Rattle.cx_run.specs.Sending.{is_command_written, is_line_written, is_numbered_written, is_written};
 ghost use Rattle.cx_run.specs.Worlds.{World as RunWorld};
+ghost use Rattle.cx_steps.specs.declared.events.Command.TheVariants as told;
 ghost use Rattle.cx_world.specs.Carried.{Began, Carries, Makes, MakesAlone};
 
 use crate::world::World;
-use cx_base::{Duplicate, EntityName, EntityType, NodeName};
+use cx_base::{Duplicate, EntityName, EntityType, NodeName, Operation};
 use cx_desk::Desk;
 use cx_enc::number_of;
 use cx_lines::{Line, LineCommand, Numbered};
@@ -31,6 +32,15 @@ fn services_sum(services: &[EntityType]) -> Result<u32, AllocError>
         }
     }
     Ok(sum)
+}
+
+// That a client is told to send a daemon this operation.
+fn send_told(alloc: Global, daemon: &EntityName, operation: &Operation) -> Result<Told, AllocError>
+    ensures { IfOk result (λ command. command ≡ told.Send daemon.now operation.now) }
+{
+    let daemon = daemon.copy(alloc)?;
+    let operation = operation.copy(alloc)?;
+    Ok(Told::Send { daemon, operation })
 }
 
 impl World {
@@ -96,6 +106,23 @@ impl World {
         )
     }
 
+    /// A client sends a daemon an operation.
+    fn send(
+        &mut self,
+        alloc: Global,
+        desk: &Desk,
+        client: &EntityName,
+        daemon: &EntityName,
+        operation: &Operation,
+    ) -> Result<(), AllocError>
+        requires { IsTrue (is_written operation.now) }
+        ensures { OnOk result (Makes (handlers_of desk.now) self.old self.new (λ w. submitted w (command.Send client.now daemon.now operation.now))) }
+    {
+        let told = send_told(alloc, daemon, operation)?;
+        let who = NodeName::Entity(client.copy(alloc)?);
+        self.come(alloc, desk, &who, Event::Submit(told))
+    }
+
     /// What a command does.
     fn submit(
         &mut self,
@@ -103,7 +130,7 @@ impl World {
         desk: &Desk,
         command: &LineCommand,
     ) -> Result<(), AllocError>
-        requires { IsTrue (is_command_served command.now) }
+        requires { IsTrue (is_command_written command.now) }
         ensures { OnOk result (Makes (handlers_of desk.now) self.old self.new (λ w. submitted w command.now)) }
     {
         match command {
@@ -113,7 +140,9 @@ impl World {
             LineCommand::Connect(client, daemon, lossy) => {
                 self.connect(alloc, desk, client, daemon, *lossy)
             }
-            LineCommand::Send(_, _, _) => unreachable!(),
+            LineCommand::Send(client, daemon, operation) => {
+                self.send(alloc, desk, client, daemon, operation)
+            }
         }
     }
 
@@ -124,7 +153,7 @@ impl World {
         desk: &Desk,
         command: &LineCommand,
     ) -> Result<(), AllocError>
-        requires { IsTrue (is_command_served command.now) }
+        requires { IsTrue (is_command_written command.now) }
         ensures { OnOk result (MakesAlone (handlers_of desk.now) self.old self.new (λ w. submits w command.now)) }
     {
         self.submit(alloc, desk, command)?;
@@ -134,7 +163,7 @@ impl World {
     /// What a line does, once its number was noted.
     fn act_on(&mut self, alloc: Global, desk: &Desk, line: &Line) -> Result<(), AllocError>
         requires in_range { IsTrue (is_in_range line.now) }
-        requires served { IsTrue (is_served line.now) }
+        requires written { IsTrue (is_line_written line.now) }
         ensures { OnOk result (MakesAlone (handlers_of desk.now) self.old self.new (λ w. acts_on w line.now)) }
     {
         match line {
@@ -154,7 +183,7 @@ impl World {
         line: &Numbered,
     ) -> Result<(), AllocError>
         requires in_range { IsTrue (is_numbered_in_range line.now) }
-        requires served { IsTrue (is_numbered_served line.now) }
+        requires written { IsTrue (is_numbered_written line.now) }
         ensures { OnOk result (MakesAlone (handlers_of desk.now) self.old self.new (λ w. after_line w line.now)) }
     {
         self.line = line.number;

@@ -9,7 +9,6 @@ ghost use Rattle.cx_lines.specs.declared.node_steps.NodeStep.TheVariants as step
 ghost use Rattle.cx_rules.specs.Inputs.{Tick};
 ghost use Rattle.cx_run.specs.Deliveries.{comes, settles};
 ghost use Rattle.cx_run.specs.Schedules.{all_read, on_node, one_reads};
-ghost use Rattle.cx_run.specs.Served.{is_step_served};
 ghost use Rattle.cx_run.specs.Worlds.{World as RunWorld};
 ghost use Rattle.cx_world.specs.Carried.{Makes, MakesAlone};
 
@@ -74,8 +73,7 @@ impl World {
         desk: &Desk,
         step: &NodeStep,
     ) -> Result<(), AllocError>
-        requires in_range { IsTrue (is_in_range (line.Node step.now)) }
-        requires served { IsTrue (is_step_served step.now) }
+        requires { IsTrue (is_in_range (line.Node step.now)) }
         ensures { OnOk result (MakesAlone (handlers_of desk.now) self.old self.new (λ w. on_node w step.now)) }
     {
         match step {

@@ -9,7 +9,7 @@ ghost use Rattle.cx_premises.specs.Ledgers.{StandsFor};
 ghost use Rattle.cx_run.specs.Opening.{opening_world};
 ghost use Rattle.cx_run.specs.Runs.{IsFoundOf, run_journal, setup_of};
 ghost use Rattle.cx_run.specs.Schedules.{after_lines};
-ghost use Rattle.cx_run.specs.Served.{first_unserved, is_numbered_served};
+ghost use Rattle.cx_run.specs.Sending.{is_numbered_written};
 ghost use Rattle.cx_world.specs.Heads.{IsSchedule};
 ghost use Rattle.cx_steps.specs.Breach.{IsFound};
 ghost use Rattle.cx_steps.specs.declared.seals.Logged.{Logged};
@@ -36,11 +36,10 @@ pub struct Report {
     pub idle: u64,
 }
 
-/// The run of a schedule of which each line is served, where the daemons have the handlers of this desk.
+/// The run of a schedule, where the daemons have the handlers of this desk.
 #[tactic(auto, using(crate::proofs::Started::journal_told, crate::proofs::Started::breach_told))]
 pub fn run(alloc: Global, script: &Script, desk: &Desk) -> Result<Report, AllocError>
-    requires schedule { IsSchedule script.now }
-    requires served { first_unserved script.now ≡ None }
+    requires { IsSchedule script.now }
     ensures journal { IfOk result (λ report. report.journal ≡ run_journal (handlers_of desk.now) script.now) }
     ensures found { IfOk result (λ report. IsFoundOf (handlers_of desk.now) script.now report.broken) }
     ensures idle { IfOk result (λ report. report.idle ≡ idle_lines (handlers_of desk.now) script.now) }
@@ -64,10 +63,9 @@ pub fn run(alloc: Global, script: &Script, desk: &Desk) -> Result<Report, AllocE
 }
 
 /// The world behind all lines of a schedule, and how many of these did nothing.
-#[tactic(auto, using(crate::proofs::Started::in_range, crate::proofs::Started::all_served))]
+#[tactic(auto, using(crate::proofs::Started::in_range, crate::proofs::Started::all_written))]
 fn behind_all(alloc: Global, lines: &[Numbered], desk: &Desk) -> Result<(World, u64), AllocError>
-    requires schedule { IsSchedule lines.now }
-    requires served { first_unserved lines.now ≡ None }
+    requires { IsSchedule lines.now }
     ensures world { IfOk result (λ found. Carries (began (setup_of (handlers_of desk.now) lines.now)) None found.0 (after_lines (opening_world (setup_of (handlers_of desk.now) lines.now)) lines.now)) }
     ensures idle { IfOk result (λ found. found.1 ≡ idle_lines (handlers_of desk.now) lines.now) }
 {
@@ -85,7 +83,7 @@ fn act_all(
     lines: &[Numbered],
 ) -> Result<u64, AllocError>
     requires in_range { IsTrue (list_all is_numbered_in_range lines.now) }
-    requires served { IsTrue (list_all is_numbered_served lines.now) }
+    requires written { IsTrue (list_all is_numbered_written lines.now) }
     ensures acts { OnOk result (MakesAlone (handlers_of desk.now) world.old world.new (λ w. after_lines w lines.now)) }
     ensures idle { IfOk result (CountsIdle (handlers_of desk.now) world.old lines.now) }
 {

@@ -1,7 +1,7 @@
 use Rattle.std.proofs.Common.{false, refl, true}
-use Rattle.cx_run.specs.Points.{journal_since}
-use Rattle.cx_run.specs.Runs.{setup_of, trace}
-use Rattle.cx_run.proofs.Visiting.{unvisited}
+use Rattle.cx_laws_authorize.specs.cx_run.specs.Points.{journal_since}
+use Rattle.cx_laws_authorize.specs.cx_run.specs.Runs.{setup_of, trace}
+use Rattle.cx_laws_authorize.specs.cx_run.proofs.Visiting.{unvisited}
 use Rattle.cx_laws_run.proofs.Happening.{any-law, unvisited-law}
 use Rattle.cx_laws_run.proofs.Journals.{keeps-laws, keeps-tickets}
 use Rattle.cx_laws_run.proofs.Schedules.{may-happen}

@@ -1,4 +1,4 @@
-use Rattle.cx_run.specs.Runs.{setup_of, trace}
+use Rattle.cx_laws_authorize.specs.cx_run.specs.Runs.{setup_of, trace}
 use Rattle.cx_laws_run.proofs.Happening.{any-logins}
 use Rattle.cx_laws_run.proofs.Schedules.{may-happen}
 use Rattle.cx_laws_run.proofs.laws.login_laws.Goals as goal

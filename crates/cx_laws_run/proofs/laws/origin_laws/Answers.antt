@@ -1,4 +1,4 @@
-use Rattle.cx_run.specs.Runs.{setup_of, trace}
+use Rattle.cx_laws_authorize.specs.cx_run.specs.Runs.{setup_of, trace}
 use Rattle.cx_laws_run.proofs.Happening.{any-origins}
 use Rattle.cx_laws_run.proofs.Schedules.{may-happen}
 use Rattle.cx_laws_run.proofs.laws.origin_laws.Goals as goal

@@ -1,5 +1,5 @@
-use Rattle.cx_run.specs.Runs.{setup_of, trace}
-use Rattle.cx_run.proofs.Untold.{untold}
+use Rattle.cx_laws_authorize.specs.cx_run.specs.Runs.{setup_of, trace}
+use Rattle.cx_laws_authorize.specs.cx_run.proofs.Untold.{untold}
 use Rattle.cx_laws_chain.proofs.One.{all-kept}
 use Rattle.cx_laws_run.proofs.Asked.{all-asked}
 use Rattle.cx_laws_run.proofs.Looks.{all-looks}

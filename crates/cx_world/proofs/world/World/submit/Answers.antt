@@ -36,3 +36,10 @@ returns-in-Connect g c =
     (λ (w : RunWorld). submitted w (command.Connect c.in-Connect.client c.in-Connect.daemon c.in-Connect.lossy)) c.connect.ensures
     c.args.self.now (λ (w : RunWorld). submitted w c.args.command.now)
     (λ b seen w h m. subst (λ (x : LineCommand). Carries b seen c.connect.new.self (submitted w x)) (sym c.in-Connect.is) (m w h))
+
+pub returns-in-Send : goal.returns-in-Send
+returns-in-Send g c =
+    ok_makes c.send.result c.args.self.now c.send.new.self
+    (λ (w : RunWorld). submitted w (command.Send c.in-Send.client c.in-Send.daemon c.in-Send.operation)) c.send.ensures
+    c.args.self.now (λ (w : RunWorld). submitted w c.args.command.now)
+    (λ b seen w h m. subst (λ (x : LineCommand). Carries b seen c.send.new.self (submitted w x)) (sym c.in-Send.is) (m w h))

@@ -1,0 +1,460 @@
+-- What each row of a guest's link gives behind authentication, whatever the book of sessions replies: some words, each sealed in its order, behind what opened
+-- and was drawn; an ident is replied to with its cookie, and an answer tells what was handled in the same row. The link goes on under the keys behind them.
+use Rattle.std.proofs.Common.{◌≡◌, ℕ, ◌==◌, Bool, true, false, List, [], ◌∷◌, ◌++◌, map, Option, Some, None, Result, Ok, Err, refl, sym, ap, ◌∙◌, subst, arith, append-nil, append_assoc}
+use Rattle.std.proofs.lemmas.Bool.{eqb-true}
+use Rattle.std.specs.Prelude.{if◌then◌else◌}
+use Rattle.std.specs.List.{AllByRecursion}
+use Rattle.cx_authorize.specs.Daemon.{Authority}
+use Rattle.cx_base.specs.Names.{Name}
+use Rattle.cx_control.specs.Auth.{auth_signature_layout}
+use Rattle.cx_control.specs.Idents.{client_ident_layout}
+use Rattle.cx_control.specs.Reconnects.{session_reconnect_layout}
+use Rattle.cx_control.specs.Upkeep.{keepalive2_layout, keepalive2_ack_layout}
+use Rattle.cx_control.specs.declared.auth.AuthSignature.{AuthSignature}
+use Rattle.cx_control.specs.declared.idents.ClientIdent.{ClientIdent}
+use Rattle.cx_control.specs.declared.reconnects.SessionReconnect.{SessionReconnect}
+use Rattle.cx_control.specs.declared.upkeep.Keepalive2.{Keepalive2}
+use Rattle.cx_control.specs.declared.upkeep.Keepalive2Ack.{Keepalive2Ack}
+use Rattle.cx_desk.specs.Handlers.{Handlers}
+use Rattle.cx_dice.specs.Draws.{cookie_of}
+use Rattle.cx_frame.specs.declared.frame.Frame.{Frame}
+use Rattle.cx_journal.specs.declared.entries.Entry.{Entry}
+use Rattle.cx_journal.specs.declared.entries.Entry.TheVariants as journal
+use Rattle.cx_journal.specs.declared.entries.Handled.{Handled}
+use Rattle.cx_journal.specs.declared.faults.BytesFault.{BytesFault}
+use Rattle.cx_journal.specs.declared.faults.BytesFault.TheVariants.{Unexpected}
+use Rattle.cx_journal.specs.declared.faults.LoginFault.TheVariants.{SignatureWrong}
+use Rattle.cx_journal.specs.declared.faults.SessionFault.TheVariants as session
+use Rattle.cx_journal.specs.declared.outcomes.Outcome.{Outcome}
+use Rattle.cx_journal.specs.declared.outcomes.Reason.{Reason}
+use Rattle.cx_journal.specs.declared.outcomes.Reason.TheVariants as reason
+use Rattle.cx_laws_links.specs.cx_rules.specs.Acceptor.{AwaitsIdent, Open, missing_told, misses, on_signature}
+use Rattle.cx_laws_links.specs.cx_rules.specs.Holdings.{Asker}
+use Rattle.cx_laws_links.specs.cx_rules.specs.Links.{Link}
+use Rattle.cx_laws_links.specs.cx_rules.specs.Messages.{message_in, message_of, sealed_behind, sealed_then, secure_frames}
+use Rattle.cx_laws_links.specs.cx_rules.specs.Payloads.{due, payload}
+use Rattle.cx_laws_links.specs.cx_rules.specs.Rows.{goes_on, refused_entry, refuses, refuses_bytes, secure_sent, with_opened}
+use Rattle.cx_laws_links.specs.cx_rules.specs.Secured.{SealedFrame, Secured, is_signed, secure_frame, signature_found}
+use Rattle.cx_laws_links.specs.cx_rules.specs.Upkeep.{on_keepalive, on_keepalive_ack}
+use Rattle.cx_laws_links.specs.cx_rules_session.specs.Guests.{GuestArrival, GuestRow, GuestStage, Served}
+use Rattle.cx_laws_links.specs.cx_rules_session.specs.Hosting.{Deciding, Hosted, Instruction, admission_of, admits, asks_admission, comes_to, cookie_drawn, handled_entry, handles, instruction_of, on_admission, on_checked, on_client_ident, on_ident, on_message, on_open, on_reconnect, on_resumption, on_taken, on_untaken, outcome_of, resumes, served_as, tells_why}
+use Rattle.cx_laws_links.specs.cx_rules_session.specs.Kinds.{entered_before}
+use Rattle.cx_laws_links.specs.cx_rules_session.specs.Lossy.{is_lossy, lossy_flags}
+use Rattle.cx_laws_links.specs.cx_rules.specs.Rows.{Turned, Waits, Refuses, Handles}
+use Rattle.cx_laws_links.specs.cx_run.proofs.GuestTakes.{Always}
+use Rattle.cx_session.specs.declared.call.BookFault.TheVariants as fault
+use Rattle.cx_session.specs.declared.call.BookReply.{BookReply}
+use Rattle.cx_session.specs.declared.call.BookReply.TheVariants as reply
+use Rattle.cx_steps.specs.declared.seals.SealEntry.{SealEntry}
+use Rattle.cx_laws_links.proofs.CallWords.{AreQuiet, quiet-append}
+use Rattle.cx_laws_answers.proofs.Given.{Acks, Admits, Answers, Given, KeepsUp, Misses, Replies, Reply, Resets, Resumes, Retries, RetriesGlobal, given_frame, reply_frame}
+
+-- the keys of a link that goes on behind authentication
+pub data KeyedGuest : GuestStage → Secured → Type 0 where
+  WaitsOn : (s : Secured) (owner : Authority) → KeyedGuest (AwaitsIdent s owner) s
+  Serves : (s : Secured) (served : Served) → KeyedGuest (Open s served) s
+
+-- what a row gives from these keys on, of which this is so: these words, sealed in their order behind what opened and was drawn; the link goes on under the
+-- keys behind them
+pub record RowGives (P : List Given → List Entry → Option (Link GuestStage) → Type 0) (number : ℕ) (s : Secured) (row : GuestRow) : Type 0 where
+  pub words : List Given
+  pub quiet : List SealEntry
+  pub silent : AreQuiet quiet
+  pub sealed : SealedFrame
+  pub made : secure_frames s.keys (map given_frame words) ≡ Ok sealed
+  pub seals : row.seals ≡ quiet ++ sealed.seals
+  pub link : (link : Link GuestStage) → row.link ≡ Some link → (t : Secured) × KeyedGuest link.stage t × (t.keys ≡ sealed.keys) × (link.number ≡ number)
+  pub so : P words row.entries row.link
+
+abbrev nothing_sealed : Secured → SealedFrame
+nothing_sealed s = record { bytes = []; seals = []; keys = s.keys }
+
+module _ (P : List Given → List Entry → Option (Link GuestStage) → Type 0) (b : GuestArrival) (s : Secured) where
+  abbrev R : GuestRow → Type 0
+  R row = RowGives P b.link.number s row
+
+  -- a link is shut without a word
+  shuts-gives : (why : Reason) (seals : List SealEntry) → AreQuiet seals → P [] (refused_entry b.me b.link.number why ∷ []) None → R (refuses b why seals)
+  shuts-gives why seals quiet so = record {
+    words = [];
+    quiet = seals;
+    silent = quiet;
+    sealed = nothing_sealed s;
+    made = refl;
+    seals = sym (append-nil seals);
+    link = λ link is. absurd cc;
+    so = so;
+  }
+
+  -- it goes on without a word
+  goes-gives : (stage : GuestStage) (seals : List SealEntry) → KeyedGuest stage s → AreQuiet seals → P [] [] (Some (record b.link { stage = stage })) → R (goes_on b stage [] seals)
+  goes-gives stage seals keyed quiet so = record {
+    words = [];
+    quiet = seals;
+    silent = quiet;
+    sealed = nothing_sealed s;
+    made = refl;
+    seals = sym (append-nil seals);
+    link = λ link is.
+        let it : record b.link { stage = stage } ≡ link = cc in
+        (s, subst (λ (l : Link GuestStage). KeyedGuest l.stage s) it keyed, refl, ap (λ (l : Link GuestStage). l.number) (sym it));
+    so = so;
+  }
+
+  -- where nothing can be sealed the link is shut
+  cant-gives : (stage : Secured → GuestStage) (quiet : List SealEntry) (why : BytesFault) → AreQuiet quiet → P [] (refused_entry b.me b.link.number (reason.Bytes why) ∷ []) None
+      → R (secure_sent b s stage quiet (Err why))
+  cant-gives stage quiet why silent shut = shuts-gives (reason.Bytes why) quiet silent shut
+
+  -- some words in one piece
+  some-gives : (stage : Secured → GuestStage) (quiet : List SealEntry) (words : List Given) (sealed : SealedFrame) → secure_frames s.keys (map given_frame words) ≡ Ok sealed
+      → ((t : Secured) → KeyedGuest (stage t) t) → AreQuiet quiet → ((t : Secured) → P words [] (Some (record b.link { stage = stage t })))
+      → (bytes : List ℕ) (seals : List SealEntry) → seals ≡ quiet ++ sealed.seals → R (goes_on b (stage (record s { keys = sealed.keys })) bytes seals)
+  some-gives stage quiet words sealed made keyed silent so bytes seals is = record {
+    words = words;
+    quiet = quiet;
+    silent = silent;
+    sealed = sealed;
+    made = made;
+    seals = is;
+    link = λ link e.
+        let it : record b.link { stage = stage (record s { keys = sealed.keys }) } ≡ link = cc in (
+          record s { keys = sealed.keys },
+          subst (λ (l : Link GuestStage). KeyedGuest l.stage (record s { keys = sealed.keys })) it (keyed (record s { keys = sealed.keys })),
+          refl,
+          ap (λ (l : Link GuestStage). l.number) (sym it),
+        );
+    so = so (record s { keys = sealed.keys });
+  }
+
+  sends-gives : (stage : Secured → GuestStage) (quiet : List SealEntry) (words : List Given) → ((t : Secured) → KeyedGuest (stage t) t) → AreQuiet quiet
+      → ((t : Secured) → P words [] (Some (record b.link { stage = stage t }))) → ((why : Reason) → P [] (refused_entry b.me b.link.number why ∷ []) None)
+      → R (secure_sent b s stage quiet (secure_frames s.keys (map given_frame words)))
+  sends-gives stage quiet words keyed silent so shut = by_sealed (secure_frames s.keys (map given_frame words)) refl
+    where
+      by_sealed : (r : Result SealedFrame BytesFault) → secure_frames s.keys (map given_frame words) ≡ r → R (secure_sent b s stage quiet r)
+      by_sealed (Err why) e = cant-gives stage quiet why silent (shut (reason.Bytes why))
+      by_sealed (Ok sealed) e = some-gives stage quiet words sealed e keyed silent so sealed.bytes (quiet ++ sealed.seals) refl
+
+  -- one word
+  one-gives : (stage : Secured → GuestStage) (quiet : List SealEntry) (x : Given) → ((t : Secured) → KeyedGuest (stage t) t) → AreQuiet quiet
+      → ((t : Secured) → P (x ∷ []) [] (Some (record b.link { stage = stage t }))) → ((why : Reason) → P [] (refused_entry b.me b.link.number why ∷ []) None)
+      → R (secure_sent b s stage quiet (secure_frame s.keys (given_frame x)))
+  one-gives stage quiet x keyed silent so shut = by_sealed (secure_frame s.keys (given_frame x)) refl
+    where
+      by_sealed : (r : Result SealedFrame BytesFault) → secure_frame s.keys (given_frame x) ≡ r → R (secure_sent b s stage quiet r)
+      by_sealed (Err why) e = cant-gives stage quiet why silent (shut (reason.Bytes why))
+      by_sealed (Ok one) e =
+          some-gives stage quiet (x ∷ []) (record { bytes = one.bytes ++ []; seals = one.seals ++ []; keys = one.keys })
+          (ap (λ (q : Result SealedFrame BytesFault). sealed_then q (λ first. sealed_behind first (secure_frames first.keys []))) e) keyed silent so
+          one.bytes (quiet ++ one.seals) (ap (λ (es : List SealEntry). quiet ++ es) (sym (append-nil one.seals)))
+
+  -- behind an entry
+  entered-gives : (e : Entry) (row : GuestRow) → RowGives (λ words es link. P words (e ∷ es) link) b.link.number s row → R (entered_before e row)
+  entered-gives e row h = record { words = h.words; quiet = h.quiet; silent = h.silent; sealed = h.sealed; made = h.made; seals = h.seals; link = h.link; so = h.so }
+
+  -- behind what opened
+  pub opened-gives : (opened : List SealEntry) (row : GuestRow) → AreQuiet opened → R row → R (with_opened opened row)
+  opened-gives opened row quiet h = record {
+    words = h.words;
+    quiet = opened ++ h.quiet;
+    silent = quiet-append opened h.quiet quiet h.silent;
+    sealed = h.sealed;
+    made = h.made;
+    seals = ap (λ (es : List SealEntry). opened ++ es) h.seals ∙ sym (append_assoc opened h.quiet h.sealed.seals);
+    link = h.link;
+    so = h.so;
+  }
+
+abbrev pub TurnedGives : (List Given → List Entry → Option (Link GuestStage) → Type 0) → ℕ → Secured → Turned Asker GuestStage → Type 0
+TurnedGives P number s Waits = Unit {0}
+TurnedGives P number s (Refuses why opened) = AreQuiet opened
+TurnedGives P number s (Handles row) = RowGives P number s row
+
+abbrev pub AlwaysGives : (List Given → List Entry → Option (Link GuestStage) → Type 0) → ℕ → Secured → Deciding Hosted → Type 0
+AlwaysGives P number s rule = Always (λ (h : Hosted). TurnedGives P number s h.turned) rule
+
+-- ---- a link that waits for the signature
+
+-- a link that waits for an ident is this owner's
+abbrev pub WaitsFor : Authority → GuestStage → Type 0
+WaitsFor owner (AwaitsIdent s other) = other ≡ owner
+WaitsFor owner _ = ⊥
+
+-- nothing is given; where it goes on, the signature was read
+pub data SignedGives (owner : Authority) (f : Frame) : List Given → List Entry → Option (Link GuestStage) → Type 0 where
+  SignedShut : (es : List Entry) → SignedGives owner f [] es None
+  SignedOn : (link : Link GuestStage) → f.tag ≡ 7 → WaitsFor owner link.stage → SignedGives owner f [] [] (Some link)
+
+pub signature-gives : (b : GuestArrival) (s : Secured) (owner : Authority) (f : Frame) → RowGives (SignedGives owner f) b.link.number s (on_signature b s owner (due 7 auth_signature_layout.form f))
+signature-gives b s owner f = by_tag (f.tag == 7) refl
+  where
+    by_test : f.tag ≡ 7 → (right : Bool) → RowGives (SignedGives owner f) b.link.number s (if right then goes_on b (AwaitsIdent s owner) [] (signature_found s ∷ []) else refuses b (reason.Login SignatureWrong) [])
+    by_test tag true =
+        goes-gives (SignedGives owner f) b s (AwaitsIdent s owner) (signature_found s ∷ []) (WaitsOn s owner) (tt, tt)
+        (SignedOn (record b.link { stage = AwaitsIdent s owner }) tag refl)
+    by_test tag false = shuts-gives (SignedGives owner f) b s (reason.Login SignatureWrong) [] tt (SignedShut _)
+
+    by_read : f.tag ≡ 7 → (read : Result AuthSignature BytesFault) → RowGives (SignedGives owner f) b.link.number s (on_signature b s owner read)
+    by_read tag (Err why) = shuts-gives (SignedGives owner f) b s (reason.Bytes why) [] tt (SignedShut _)
+    by_read tag (Ok found) = by_test tag (is_signed s found.signature)
+
+    by_tag : (due_now : Bool) → (f.tag == 7) ≡ due_now
+        → RowGives (SignedGives owner f) b.link.number s (on_signature b s owner (if due_now then payload auth_signature_layout.form f else Err (Unexpected f.tag)))
+    by_tag true e = by_read (eqb-true f.tag 7 e) (payload auth_signature_layout.form f)
+    by_tag false e = shuts-gives (SignedGives owner f) b s (reason.Bytes (Unexpected f.tag)) [] tt (SignedShut _)
+
+-- ---- a link that waits for an ident
+
+-- the cookie of the session that this frame asks for
+pub data AsksWith (f : Frame) (cookie : ℕ) : Type 0 where
+  ByIdent : (ident : ClientIdent) → f.tag ≡ 8 → payload client_ident_layout.form f ≡ Ok ident → ident.cookie ≡ cookie → AsksWith f cookie
+  ByReconnect : (again : SessionReconnect) → f.tag ≡ 11 → payload session_reconnect_layout.form f ≡ Ok again → again.client_cookie ≡ cookie → AsksWith f cookie
+
+-- a link that is open serves the session of this cookie; one that waits for an ident is this owner's
+abbrev pub IsServedAs : Authority → ℕ → GuestStage → Type 0
+IsServedAs owner cookie (Open s served) = served.cookie ≡ cookie
+IsServedAs owner cookie (AwaitsIdent s other) = other ≡ owner
+IsServedAs owner cookie _ = Unit {0}
+
+-- one reply, with the cookie that was asked for; or the link is shut, and at most the features that are missing are told
+pub data IdentGives (owner : Authority) (f : Frame) : List Given → List Entry → Option (Link GuestStage) → Type 0 where
+  IdentShut : (es : List Entry) → IdentGives owner f [] es None
+  IdentMisses : (features : ℕ) (es : List Entry) → IdentGives owner f (Misses features ∷ []) es None
+  IdentReplies : (cookie : ℕ) (told : Reply) (es : List Entry) (link : Link GuestStage) → AsksWith f cookie → IsServedAs owner cookie link.stage
+      → IdentGives owner f (Replies cookie told ∷ []) es (Some link)
+
+module _ (b : GuestArrival) (s : Secured) (owner : Authority) (f : Frame) where
+  abbrev I : GuestRow → Type 0
+  I row = RowGives (IdentGives owner f) b.link.number s row
+
+  abbrev StaysI : Deciding Hosted → Type 0
+  StaysI rule = AlwaysGives (IdentGives owner f) b.link.number s rule
+
+  refuses-ident : (why : Reason) (seals : List SealEntry) → AreQuiet seals → I (refuses b why seals)
+  refuses-ident why seals quiet = shuts-gives (IdentGives owner f) b s why seals quiet (IdentShut _)
+
+  admits-gives : (ident : ClientIdent) (number epoch : ℕ) → AsksWith f ident.cookie → I (admits b s owner ident number epoch)
+  admits-gives ident number epoch asks =
+      entered-gives (IdentGives owner f) b s (journal.Admitted (admission_of b owner number epoch ident.cookie)) _
+      (one-gives (λ words es link. IdentGives owner f words (journal.Admitted (admission_of b owner number epoch ident.cookie) ∷ es) link) b s
+      (λ behind. Open behind (served_as owner number epoch ident.cookie (is_lossy ident.flags))) (cookie_drawn b ∷ [])
+      (Replies ident.cookie (Admits b.own.address (lossy_flags (is_lossy ident.flags)) (cookie_of b.draw)))
+      (λ t. Serves t (served_as owner number epoch ident.cookie (is_lossy ident.flags))) (tt, tt)
+      (λ t. IdentReplies ident.cookie _ _ _ asks refl) (λ why. IdentShut _))
+
+  refuses-drawn : (why : Reason) → I (refuses b why (cookie_drawn b ∷ []))
+  refuses-drawn why = refuses-ident why (cookie_drawn b ∷ []) (tt, tt)
+
+  admission-gives : (ident : ClientIdent) → AsksWith f ident.cookie → (r : BookReply) → StaysI (on_admission b s owner ident r)
+  admission-gives ident asks (reply.Admitted number epoch) = admits-gives ident number epoch asks
+  admission-gives ident asks (reply.Refused (fault.CookieInUse number)) = refuses-drawn (reason.Session (session.CookieInUse number))
+  admission-gives ident asks (reply.Refused (fault.BookFull limit)) = refuses-drawn (reason.Session session.BookFull)
+  admission-gives ident asks (reply.Refused fault.Spent) = refuses-drawn reason.Spent
+  admission-gives ident asks (reply.Refused fault.Unknown) = tt
+  admission-gives ident asks (reply.Refused (fault.OwnerDiffers entity gid)) = tt
+  admission-gives ident asks (reply.Refused (fault.StaleConnect kept)) = tt
+  admission-gives ident asks (reply.Refused (fault.StaleGlobal kept)) = tt
+  admission-gives ident asks (reply.Refused (fault.Stale epoch)) = tt
+  admission-gives ident asks (reply.Refused (fault.Repeat last)) = tt
+  admission-gives ident asks (reply.Refused (fault.Gap expected)) = tt
+  admission-gives ident asks (reply.Resumed number epoch last lossy) = tt
+  admission-gives ident asks reply.Fine = tt
+  admission-gives ident asks (reply.Ended lived) = tt
+  admission-gives ident asks reply.OutOfMemory = tt
+
+  misses-gives : (features : ℕ) → I (misses b s features)
+  misses-gives features = by_sealed (secure_frame s.keys (given_frame (Misses features))) refl
+    where
+      by_sealed : (r : Result SealedFrame BytesFault) → secure_frame s.keys (given_frame (Misses features)) ≡ r → I (missing_told b features r)
+      by_sealed (Err why) e = refuses-ident (reason.Bytes why) [] tt
+      by_sealed (Ok one) e = record {
+        words = Misses features ∷ [];
+        quiet = [];
+        silent = tt;
+        sealed = record { bytes = one.bytes ++ []; seals = one.seals ++ []; keys = one.keys };
+        made = ap (λ (q : Result SealedFrame BytesFault). sealed_then q (λ first. sealed_behind first (secure_frames first.keys []))) e;
+        seals = sym (append-nil one.seals);
+        link = λ link is. absurd cc;
+        so = IdentMisses features _;
+      }
+
+  client_ident-gives : f.tag ≡ 8 → (read : Result ClientIdent BytesFault) → payload client_ident_layout.form f ≡ read → StaysI (on_client_ident b s owner read)
+  client_ident-gives tag (Err why) is = refuses-ident (reason.Bytes why) [] tt
+  client_ident-gives tag (Ok ident) is = by_test (ident.required == 0)
+    where
+      by_test : (plain : Bool) → StaysI (if plain then asks_admission b s owner ident else comes_to (misses b s ident.required))
+      by_test true = λ r. admission-gives ident (ByIdent ident tag is refl) r
+      by_test false = misses-gives ident.required
+
+  tells-gives : (cookie : ℕ) → AsksWith f cookie → (why : Reason) (told : Reply) → StaysI (tells_why b s owner why (reply_frame told))
+  tells-gives cookie asks why told =
+      entered-gives (IdentGives owner f) b s (refused_entry b.me b.link.number why) _
+      (one-gives (λ words es link. IdentGives owner f words (refused_entry b.me b.link.number why ∷ es) link) b s (λ behind. AwaitsIdent behind owner) [] (Replies cookie told)
+      (λ t. WaitsOn t owner) tt (λ t. IdentReplies cookie told _ _ asks refl) (λ other. IdentShut _))
+
+  resumes-gives : (again : SessionReconnect) (number epoch last : ℕ) (lossy : Bool) → AsksWith f again.client_cookie → I (resumes b s owner again number epoch last lossy)
+  resumes-gives again number epoch last lossy asks =
+      entered-gives (IdentGives owner f) b s (journal.Resumed (admission_of b owner number epoch again.client_cookie)) _
+      (one-gives (λ words es link. IdentGives owner f words (journal.Resumed (admission_of b owner number epoch again.client_cookie) ∷ es) link) b s
+      (λ behind. Open behind (served_as owner number epoch again.client_cookie lossy)) [] (Replies again.client_cookie (Resumes last))
+      (λ t. Serves t (served_as owner number epoch again.client_cookie lossy)) tt (λ t. IdentReplies again.client_cookie (Resumes last) _ _ asks refl) (λ why. IdentShut _))
+
+  resumption-gives : (again : SessionReconnect) → AsksWith f again.client_cookie → (r : BookReply) → StaysI (on_resumption b s owner again r)
+  resumption-gives again asks (reply.Resumed number epoch last lossy) = resumes-gives again number epoch last lossy asks
+  resumption-gives again asks (reply.Refused fault.Unknown) = tells-gives again.client_cookie asks (reason.Session session.UnknownSession) Resets
+  resumption-gives again asks (reply.Refused (fault.OwnerDiffers entity gid)) = tells-gives again.client_cookie asks (reason.Session (session.OwnerDiffers entity gid)) Resets
+  resumption-gives again asks (reply.Refused fault.Spent) = tells-gives again.client_cookie asks reason.Spent Resets
+  resumption-gives again asks (reply.Refused (fault.StaleConnect kept)) = tells-gives again.client_cookie asks (reason.Session (session.StaleConnect kept)) (Retries kept)
+  resumption-gives again asks (reply.Refused (fault.StaleGlobal kept)) = tells-gives again.client_cookie asks (reason.Session (session.StaleGlobal kept)) (RetriesGlobal kept)
+  resumption-gives again asks (reply.Refused (fault.CookieInUse number)) = tt
+  resumption-gives again asks (reply.Refused (fault.BookFull limit)) = tt
+  resumption-gives again asks (reply.Refused (fault.Stale epoch)) = tt
+  resumption-gives again asks (reply.Refused (fault.Repeat last)) = tt
+  resumption-gives again asks (reply.Refused (fault.Gap expected)) = tt
+  resumption-gives again asks (reply.Admitted number epoch) = tt
+  resumption-gives again asks reply.Fine = tt
+  resumption-gives again asks (reply.Ended lived) = tt
+  resumption-gives again asks reply.OutOfMemory = tt
+
+  reconnect-gives : f.tag ≡ 11 → (read : Result SessionReconnect BytesFault) → payload session_reconnect_layout.form f ≡ read → StaysI (on_reconnect b s owner read)
+  reconnect-gives tag (Err why) is = refuses-ident (reason.Bytes why) [] tt
+  reconnect-gives tag (Ok again) is = λ r. resumption-gives again (ByReconnect again tag is refl) r
+
+  pub ident-gives : StaysI (on_ident b s owner f)
+  ident-gives = by_tests (f.tag == 8) (f.tag == 11) refl refl
+    where
+      by_tests : (client again : Bool) → (f.tag == 8) ≡ client → (f.tag == 11) ≡ again → StaysI (if client then on_client_ident b s owner (payload client_ident_layout.form f)
+          else if again then on_reconnect b s owner (payload session_reconnect_layout.form f) else comes_to (refuses_bytes b (Unexpected f.tag) []))
+      by_tests true again e d = client_ident-gives (eqb-true f.tag 8 e) (payload client_ident_layout.form f) refl
+      by_tests false true e d = reconnect-gives (eqb-true f.tag 11 d) (payload session_reconnect_layout.form f) refl
+      by_tests false false e d = refuses-ident (reason.Bytes (Unexpected f.tag)) [] tt
+
+-- ---- an open link
+
+-- the link is open in the same session
+abbrev pub StillServes : Served → GuestStage → Type 0
+StillServes served (Open s other) = other ≡ served
+StillServes served _ = ⊥
+
+-- an acknowledgement, or KEEPALIVE2_ACK
+abbrev pub IsUpkeep : Given → Type 0
+IsUpkeep (Acks seq) = Unit {0}
+IsUpkeep (KeepsUp ack) = Unit {0}
+IsUpkeep _ = ⊥
+
+abbrev pub AreUpkeep : List Given → Type 0
+AreUpkeep xs = AllByRecursion IsUpkeep xs
+
+-- what is entered of an operation that a daemon handles in a session
+abbrev pub handled_by : Name → Served → Instruction → Outcome → Handled
+handled_by daemon served i outcome = record {
+  daemon = daemon;
+  session = served.number;
+  epoch = served.epoch;
+  cookie = served.cookie;
+  seq = i.seq;
+  operation = i.operation;
+  outcome = outcome;
+}
+
+-- the link is shut without a word; or it goes on, in its session, and what was read is no ident: it may tell how the operation that was read ended, which the row
+-- has as handled
+pub data OpenGives (daemon : Name) (served : Served) (f : Frame) : List Given → List Entry → Option (Link GuestStage) → Type 0 where
+  OpenShut : (es : List Entry) → OpenGives daemon served f [] es None
+  OpenUpkeep : (words : List Given) (link : Link GuestStage) → AreUpkeep words → (f.tag ≡ 8 → ⊥) → (f.tag ≡ 11 → ⊥) → StillServes served link.stage
+      → OpenGives daemon served f words [] (Some link)
+  OpenAnswers : (i : Instruction) (outcome : Outcome) (link : Link GuestStage) → f.tag ≡ 17 → instruction_of (message_in f) ≡ Ok i → StillServes served link.stage
+      → OpenGives daemon served f (Answers served.cookie i outcome ∷ Acks i.seq ∷ []) (journal.Handled (handled_by daemon served i outcome) ∷ []) (Some link)
+
+module _ (handlers : Handlers) (b : GuestArrival) (s : Secured) (served : Served) (f : Frame) where
+  abbrev O : GuestRow → Type 0
+  O row = RowGives (OpenGives b.own.name served f) b.link.number s row
+
+  abbrev StaysO : Deciding Hosted → Type 0
+  StaysO rule = AlwaysGives (OpenGives b.own.name served f) b.link.number s rule
+
+  abbrev IsElse : Type 0
+  IsElse = (f.tag ≡ 8 → ⊥) × (f.tag ≡ 11 → ⊥)
+
+  refuses-open : (why : Reason) → O (refuses b why [])
+  refuses-open why = shuts-gives (OpenGives b.own.name served f) b s why [] tt (OpenShut _)
+
+  upkeep-gives : IsElse → (x : Given) → IsUpkeep x → O (secure_sent b s (λ behind. Open behind served) [] (secure_frame s.keys (given_frame x)))
+  upkeep-gives other x keeps =
+      one-gives (OpenGives b.own.name served f) b s (λ behind. Open behind served) [] x (λ t. Serves t served) tt (λ t. OpenUpkeep (x ∷ []) _ (keeps, tt) other.0 other.1 refl) (λ why. OpenShut _)
+
+  untaken-gives : IsElse → (r : BookReply) → StaysO (on_untaken b s served r)
+  untaken-gives other (reply.Refused (fault.Repeat last)) = upkeep-gives other (Acks last) tt
+  untaken-gives other (reply.Refused (fault.Gap expected)) = refuses-open (reason.Session (session.Gap expected))
+  untaken-gives other (reply.Refused (fault.Stale epoch)) = refuses-open (reason.Session (session.Stale epoch))
+  untaken-gives other (reply.Refused (fault.CookieInUse number)) = tt
+  untaken-gives other (reply.Refused (fault.BookFull limit)) = tt
+  untaken-gives other (reply.Refused fault.Spent) = tt
+  untaken-gives other (reply.Refused fault.Unknown) = tt
+  untaken-gives other (reply.Refused (fault.OwnerDiffers entity gid)) = tt
+  untaken-gives other (reply.Refused (fault.StaleConnect kept)) = tt
+  untaken-gives other (reply.Refused (fault.StaleGlobal kept)) = tt
+  untaken-gives other (reply.Admitted number epoch) = tt
+  untaken-gives other (reply.Resumed number epoch last lossy) = tt
+  untaken-gives other reply.Fine = tt
+  untaken-gives other (reply.Ended lived) = tt
+  untaken-gives other reply.OutOfMemory = tt
+
+  handles-gives : f.tag ≡ 17 → (i : Instruction) (outcome : Outcome) → instruction_of (message_in f) ≡ Ok i → O (handles b s served i outcome)
+  handles-gives tag i outcome read =
+      entered-gives (OpenGives b.own.name served f) b s (handled_entry b served i outcome) _
+      (sends-gives (λ words es link. OpenGives b.own.name served f words (handled_entry b served i outcome ∷ es) link) b s (λ behind. Open behind served) []
+      (Answers served.cookie i outcome ∷ Acks i.seq ∷ []) (λ t. Serves t served) tt (λ t. OpenAnswers i outcome _ tag read refl) (λ why. OpenShut _))
+
+  taken-gives : IsElse → f.tag ≡ 17 → (i : Instruction) → instruction_of (message_in f) ≡ Ok i → (r : BookReply) → StaysO (on_taken handlers b s served i r)
+  taken-gives other tag i read reply.Fine = handles-gives tag i (outcome_of handlers served.caps i.operation) read
+  taken-gives other tag i read (reply.Refused why) = untaken-gives other (reply.Refused why)
+  taken-gives other tag i read (reply.Admitted number epoch) = tt
+  taken-gives other tag i read (reply.Resumed number epoch last lossy) = tt
+  taken-gives other tag i read (reply.Ended lived) = tt
+  taken-gives other tag i read reply.OutOfMemory = tt
+
+  checked-gives : IsElse → f.tag ≡ 17 → (i : Instruction) → instruction_of (message_in f) ≡ Ok i → (r : BookReply) → StaysO (on_checked handlers b s served i r)
+  checked-gives other tag i read reply.Fine = λ r. taken-gives other tag i read r
+  checked-gives other tag i read (reply.Refused why) = untaken-gives other (reply.Refused why)
+  checked-gives other tag i read (reply.Admitted number epoch) = tt
+  checked-gives other tag i read (reply.Resumed number epoch last lossy) = tt
+  checked-gives other tag i read (reply.Ended lived) = tt
+  checked-gives other tag i read reply.OutOfMemory = tt
+
+  -- a message stands in a frame of tag 17
+  message-tag : (i : Instruction) → instruction_of (message_in f) ≡ Ok i → f.tag ≡ 17
+  message-tag i = by_test (f.tag == 17) refl
+    where
+      by_test : (message : Bool) → (f.tag == 17) ≡ message → instruction_of (if message then message_of f.segments else Err (Unexpected f.tag)) ≡ Ok i → f.tag ≡ 17
+      by_test true e is = eqb-true f.tag 17 e
+      by_test false e is = absurd cc
+
+  message-gives : (read : Result Instruction BytesFault) → instruction_of (message_in f) ≡ read → StaysO (on_message handlers b s served read)
+  message-gives (Err why) is = refuses-open (reason.Bytes why)
+  message-gives (Ok i) is =
+      let tag : f.tag ≡ 17 = message-tag i is in
+      λ r. checked-gives ((λ e. omega (arith, e, tag)), (λ e. omega (arith, e, tag))) tag i is r
+
+  keepalive-gives : IsElse → (read : Result Keepalive2 BytesFault) → O (on_keepalive b s (λ behind. Open behind served) read)
+  keepalive-gives other (Err why) = refuses-open (reason.Bytes why)
+  keepalive-gives other (Ok keepalive) = upkeep-gives other (KeepsUp (record { time = keepalive.time })) tt
+
+  ack-gives : IsElse → (read : Result Keepalive2Ack BytesFault) → O (on_keepalive_ack b s (λ behind. Open behind served) read)
+  ack-gives other (Err why) = refuses-open (reason.Bytes why)
+  ack-gives other (Ok ack) = goes-gives (OpenGives b.own.name served f) b s (Open s served) [] (Serves s served) tt (OpenUpkeep [] _ tt other.0 other.1 refl)
+
+  pub open-gives : StaysO (on_open handlers b s served f)
+  open-gives = by_tests (f.tag == 18) (f.tag == 19) refl refl
+    where
+      by_tests : (ask ack : Bool) → (f.tag == 18) ≡ ask → (f.tag == 19) ≡ ack → StaysO (if ask then comes_to (on_keepalive b s (λ behind. Open behind served) (payload keepalive2_layout.form f))
+          else if ack then comes_to (on_keepalive_ack b s (λ behind. Open behind served) (payload keepalive2_ack_layout.form f))
+          else on_message handlers b s served (instruction_of (message_in f)))
+      by_tests true ack e d =
+          let tag : f.tag ≡ 18 = eqb-true f.tag 18 e in
+          keepalive-gives ((λ t. omega (arith, t, tag)), (λ t. omega (arith, t, tag))) (payload keepalive2_layout.form f)
+      by_tests false true e d =
+          let tag : f.tag ≡ 19 = eqb-true f.tag 19 d in
+          ack-gives ((λ t. omega (arith, t, tag)), (λ t. omega (arith, t, tag))) (payload keepalive2_ack_layout.form f)
+      by_tests false false e d = message-gives (instruction_of (message_in f)) refl

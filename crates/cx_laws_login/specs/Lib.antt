@@ -1,0 +1,2 @@
+-- Behind `pub use`: what crates above name through this one, and so needn't list (`checks/ways`).
+pub use Rattle.cx_rules as cx_rules

@@ -1,0 +1,322 @@
+-- A step of a daemon at any event, with any book: all that is known of what was given stays known behind it, with what it gives.
+use Rattle.std.proofs.Common.{◌≡◌, ℕ, ◌==◌, Bool, true, false, List, [], ◌∷◌, ◌++◌, filter, nat_lt, length, Option, Some, None, Result, Ok, Err, refl, sym, ap, subst}
+use Rattle.std.specs.Prelude.{not, if◌then◌else◌}
+use Rattle.std.specs.List.{AllByRecursion}
+use Rattle.std.specs.Option.{option_map}
+use Rattle.cx_base.specs.Names.{Name}
+use Rattle.cx_base.specs.declared.nodes.NodeName.{NodeName}
+use Rattle.cx_base.specs.declared.nodes.NodeName.TheVariants as node
+use Rattle.cx_desk.specs.Handlers.{Handlers}
+use Rattle.cx_journal.specs.Behind.{EachBehind}
+use Rattle.cx_journal.specs.declared.entries.Entry.{Entry}
+use Rattle.cx_journal.specs.declared.outcomes.Reason.{Reason}
+use Rattle.cx_laws_sent.specs.cx_laws_run.specs.cx_laws_authorize.proofs.DaemonRows.{DaemonStageOk, LinksHave}
+use Rattle.cx_laws_sent.specs.cx_laws_run.specs.cx_laws_authorize.proofs.Keys.{LinkKeys}
+use Rattle.cx_laws_keys.proofs.Journal.{entered}
+use Rattle.cx_laws_keys.proofs.Known.{Inv}
+use Rattle.cx_laws_keys.proofs.Lists.{found_all}
+use Rattle.cx_laws_keys.proofs.Premises.{AreGranted, behind}
+use Rattle.cx_laws_keys.proofs.Uses.{AreGenerated, AtDaemon, Connected, Grows, Uses, WholeRun}
+use Rattle.cx_laws_sent.specs.cx_laws_series.proofs.Contents.{contents_by}
+use Rattle.cx_laws_sent.specs.cx_rules.specs.Acceptor.{AwaitsBanner, AwaitsHello, AwaitsRequest, AwaitsProof, AwaitsSignature, AwaitsIdent, Open}
+use Rattle.cx_laws_sent.specs.cx_rules.specs.Connector as connector
+use Rattle.cx_laws_sent.specs.cx_rules.specs.Holdings.{Asker}
+use Rattle.cx_laws_sent.specs.cx_rules.specs.Inputs.{Input}
+use Rattle.cx_laws_sent.specs.cx_rules.specs.Links.{Link, link_of}
+use Rattle.cx_laws_sent.specs.cx_rules.specs.Requests.{Requests, asks_rotating, first_open, sealed_request, sends_request}
+use Rattle.cx_laws_sent.specs.cx_rules.specs.Rows.{Arrival, Outcome, Row, Turned, Waits, Refuses, Handles, arrival, carried_out, idles, lifted, links_behind, refuses_bytes, turns}
+use Rattle.cx_laws_sent.specs.cx_rules.specs.Secured.{SealedFrame, Secured}
+use Rattle.cx_laws_sent.specs.cx_rules.specs.declared.requests.Want.TheVariants as want
+use Rattle.cx_laws_sent.specs.cx_rules_session.specs.DaemonRule.{AsAcceptor, AsConnector, Daemon, DaemonNode, DaemonStage, asking_open, daemon_rule, fetches, fetches_on, hosts, is_fetching, is_older, me, moved_to, open_to_ask, turn, turned_at, with_asker}
+use Rattle.cx_laws_sent.specs.cx_rules_session.specs.Guests.{GuestArrival, GuestRow, GuestStage, Served}
+use Rattle.cx_laws_sent.specs.cx_rules_session.specs.Hosting.{Deciding, Hosted, guest_turned}
+use Rattle.cx_laws_sent.specs.cx_rules_session.specs.Kinds.{arrival_in, of_kind, row_of_kind, turn_of_kind}
+use Rattle.cx_laws_sent.specs.cx_run.proofs.GuestTakes.{Always, always-map, always-weaker}
+use Rattle.cx_steps.specs.declared.seals.Logged.{Logged}
+use Rattle.cx_steps.specs.declared.seals.SealEntry.{SealEntry}
+use Rattle.cx_wire.specs.declared.bodies.Request.TheVariants as asked
+use Rattle.cx_laws_sent.specs.cx_laws_links.proofs.CallTells.{quiet-none}
+use Rattle.cx_laws_sent.specs.cx_laws_links.proofs.GuestNodes.{HostKnown, LinksKnown}
+use Rattle.cx_laws_sent.specs.cx_laws_links.proofs.GuestTakes.{OpenedFor}
+use Rattle.cx_laws_sent.specs.cx_laws_links.proofs.GuestWords.{AreSpelled}
+use Rattle.cx_laws_sent.specs.cx_laws_links.proofs.Known.{AreTold, IsGuest, Told}
+use Rattle.cx_laws_sent.specs.cx_laws_links.proofs.Others.{link-one}
+use Rattle.cx_laws_sent.specs.cx_laws_links.proofs.Written.{IsLinkKey}
+use Rattle.cx_laws_sent.specs.cx_laws_answers.proofs.AllGiven.{AllGiven}
+use Rattle.cx_laws_sent.specs.cx_laws_answers.proofs.Given.{Given, is_acceptors}
+use Rattle.cx_laws_sent.specs.cx_laws_answers.proofs.GuestGives.{IdentGives, OpenGives, SignedGives}
+use Rattle.cx_laws_sent.specs.cx_laws_answers.proofs.GuestKnown.{GuestStep, ident-step, open-step, signature-step}
+use Rattle.cx_laws_sent.specs.cx_laws_answers.proofs.GuestTurn.{EachGives, Said, TurnGives, guest-gives}
+use Rattle.cx_laws_sent.specs.cx_laws_answers.proofs.Known.{continues}
+use Rattle.cx_laws_sent.specs.cx_laws_answers.proofs.Replied.{GuestGiven, IsGiver}
+use Rattle.cx_laws_sent.proofs.AskerSteps.{fetches-none, own_turn-none}
+use Rattle.cx_laws_sent.proofs.DaemonAsks.{own-stand}
+use Rattle.cx_laws_sent.proofs.DaemonKnown.{IsOne}
+use Rattle.cx_laws_sent.proofs.GuestsBefore.{Authorizes, HostedBegins, IsBefore, IsKeyless, RowFirst, SaysNothing, TurnedBegins, before-begins}
+use Rattle.cx_laws_truth.proofs.DaemonGives.{StepGiven, quiet-given, step-given}
+use Rattle.cx_laws_truth.proofs.DaemonWalk.{AreFrom, IsBlank, IsRest, all-some, behind-all, fed-same, from-behind, from-same, walk}
+use Rattle.cx_laws_truth.proofs.FirstGiven.{GivenBy, first-by}
+use Rattle.cx_laws_truth.proofs.OnceHandled.{HandledOnce}
+use Rattle.cx_laws_truth.proofs.State.{GivesNothing, HostGiven, LinksGiven}
+
+all-middle : {X : Type 0} (P : X → Type 0) (xs : List X) (y : X) (ys : List X) → AllByRecursion P (xs ++ y ∷ ys) → P y
+all-middle P [] y ys h = h.0
+all-middle P (x ∷ xs) y ys h = all-middle P xs y ys h.1
+
+module _ (run : WholeRun) (whole : List Logged) (us vs : Uses) (told : Told) (given : List (List ℕ × Given)) (log : List Logged) (J : List Entry) (line : ℕ) (i : Inv run whole us log J) (f : Grows us vs)
+    (t : AreTold run us told log J) (spelled : AreSpelled told) (h : AllGiven run us told given log J) (d : DaemonNode) (known : LinksKnown run us told J d.own.asker.name (node.Entity d.own.asker.name) d.links)
+    (gives : LinksGiven run us told given log d.own.asker.name (node.Entity d.own.asker.name) d.links) (generated : AreGenerated us d.own.asker.name.kind d.own.asker.view.generations) (reading : ℕ) (draw : List ℕ)
+    (drawn : length draw ≡ 384) where
+  abbrev daemon : Name
+  daemon = d.own.asker.name
+
+  abbrev n : NodeName
+  n = node.Entity d.own.asker.name
+
+  abbrev Gives : Outcome DaemonNode → Type 0
+  Gives o = StepGiven run whole us vs told given log J line i f h d.own.asker.name o
+
+  -- so it is where what it logs is granted, what is known of keys behind it is known, also of those of its links, and each operation that it handles wasn't before
+  abbrev pub Keeps : Outcome DaemonNode → Type 0
+  Keeps o = AreGranted run.leaked whole (node.Entity d.own.asker.name) line log o.out.seals → Inv run whole vs (behind (node.Entity d.own.asker.name) line o.out.seals log) (entered J o.out.entries)
+      → LinksHave run (node.Entity d.own.asker.name) vs o.state.links → EachBehind (HandledOnce run) J o.out.entries → Gives o
+
+  quiet-keeps : (o : Outcome DaemonNode) → (AreGranted run.leaked whole n line log o.out.seals → IsOne vs → LinksHave run n vs o.state.links → GivesNothing vs o.out.seals) → AreFrom d.links o.state.links → Keeps o
+  quiet-keeps o quiet from = λ g iv have once. quiet-given run whole us vs told given log J line i f h d.own.asker.name d gives o iv.one (quiet g iv.one have) from
+
+  nothing-said : (es : List SealEntry) → es ≡ [] → GivesNothing vs es
+  nothing-said es none key name tie is = ap (λ (l : List SealEntry). contents_by key is_acceptors l) none
+
+  rests : (o : Outcome DaemonNode) → IsRest d o → Keeps o
+  rests o r = quiet-keeps o (λ g one have. nothing-said o.out.seals r.seals) r.links
+
+  idle : Keeps (idles d)
+  idle = rests (idles d) (record { seals = refl; links = from-same d.links; fed = fed-same d.links })
+
+  abbrev at_link : Link DaemonStage → Arrival Daemon DaemonStage
+  at_link link = arrival (me d.own) d.own link reading draw
+
+  abbrev guest_at : Link DaemonStage → GuestStage → GuestArrival
+  guest_at link stage = arrival_in (at_link link) d.own.asker stage
+
+  -- ---- its own link to the monitor
+
+  own-blank : (found : Option (Link connector.Stage)) (l : Link DaemonStage) → option_map (of_kind AsConnector) found ≡ Some l → IsBlank l.stage
+  own-blank None l e = absurd cc
+  own-blank (Some link) l e = let same : of_kind AsConnector link ≡ l = cc in subst (λ (x : Link DaemonStage). IsBlank x.stage) same tt
+
+  own-keeps : (link : Link DaemonStage) (stage : connector.Stage) (turned : Turned Asker connector.Stage)
+      → (IsOne vs → LinksHave run n vs (turns d (at_link link) (turn_of_kind (with_asker d.own) AsConnector turned)).state.links
+      → GivesNothing vs (turns d (at_link link) (turn_of_kind (with_asker d.own) AsConnector turned)).out.seals)
+      → Keeps (turns d (at_link link) (turn_of_kind (with_asker d.own) AsConnector turned))
+  own-keeps link stage Waits quiet = idle
+  own-keeps link stage (Refuses why opened) quiet =
+      quiet-keeps (carried_out d link.number false (refuses_bytes (at_link link) why opened)) (λ g one have. quiet one have) (from-behind d.links link.number [] None (λ l e. absurd cc))
+  own-keeps link stage (Handles row) quiet =
+      quiet-keeps (carried_out d link.number true (row_of_kind (with_asker d.own) AsConnector row)) (λ g one have. quiet one have)
+      (from-behind d.links link.number row.sends (option_map (of_kind AsConnector) row.link) (own-blank row.link))
+
+  asks-keeps : Keeps (fetches d reading draw)
+  asks-keeps = by_test (is_fetching d) (λ one have key name tie is. fetches-none vs n one key name tie is is_acceptors d reading draw (own-stand run vs n _ have))
+    where
+      sent-blank : (a : Arrival Asker DaemonStage) (s : Secured) (requests : Requests) (r : Result SealedFrame Reason) (l : Link DaemonStage)
+          → (sends_request open_to_ask a s requests (want.Rotating reading) r).link ≡ Some l → IsBlank l.stage
+      sent-blank a s requests (Ok sealed) l e =
+          subst (λ (x : Link DaemonStage). IsBlank x.stage) (some-link _ l e) tt
+        where
+          some-link : (x y : Link DaemonStage) → (let o : Option (Link DaemonStage) = Some x in let q : Option (Link DaemonStage) = Some y in o ≡ q) → x ≡ y
+          some-link x y e = cc
+      sent-blank a s requests (Err why) l e = absurd cc
+
+      by_open : (found : Option (Link DaemonStage × (Secured × Requests))) → (IsOne vs → LinksHave run n vs (fetches_on d reading draw found).state.links → GivesNothing vs (fetches_on d reading draw found).out.seals)
+          → Keeps (fetches_on d reading draw found)
+      by_open None quiet = rests (fetches_on d reading draw None) (record { seals = refl; links = from-same d.links; fed = fed-same d.links })
+      by_open (Some (link, (s, requests))) quiet =
+          let a : Arrival Asker DaemonStage = arrival (me d.own) d.own.asker link reading draw in
+          let row : Row Asker DaemonStage = asks_rotating open_to_ask a s requests in
+          quiet-keeps (carried_out d link.number false (lifted (with_asker d.own) row)) (λ g one have. quiet one have)
+          (from-behind d.links link.number row.sends row.link (sent-blank a s requests (sealed_request s.keys requests asked.Rotating)))
+
+      by_test : (under_way : Bool) → (IsOne vs → LinksHave run n vs (if under_way then idles d else fetches_on d reading draw (first_open asking_open d.links)).state.links
+          → GivesNothing vs (if under_way then idles d else fetches_on d reading draw (first_open asking_open d.links)).out.seals)
+          → Keeps (if under_way then idles d else fetches_on d reading draw (first_open asking_open d.links))
+      by_test true quiet = idle
+      by_test false quiet = by_open (first_open asking_open d.links) quiet
+
+  -- ---- a guest's link
+
+  moved-keeps : (number : ℕ) (moved : Option ℕ) (o : Outcome DaemonNode) → Gives o → Gives (moved_to number moved o)
+  moved-keeps number None o k = k
+  moved-keeps number (Some session) o k = record {
+    more = k.more;
+    own = k.own;
+    known = k.known;
+    links = all-some (λ (l : Link DaemonStage). HostGiven run vs told (given ++ k.more) (behind n line o.out.seals log) n daemon l.number l.stage)
+        (λ (l : Link DaemonStage). not (is_older number session l)) o.state.links k.links;
+    elsewhere = k.elsewhere;
+  }
+
+  -- what is known behind a row
+  by-row : (link : Link DaemonStage) (turned : Bool) (row : GuestRow) → GivenBy run whole us vs told given log J (entered J row.entries) line i f h daemon (continues J row.entries) row.seals row.link
+      → Gives (carried_out d link.number turned (row_of_kind (with_asker d.own) AsAcceptor row))
+  by-row link turned row b =
+      let later : List Logged = behind n line row.seals log in
+      record {
+        more = b.more;
+        own = b.own;
+        known = b.known;
+        links = behind-all (λ (number : ℕ) (stage : DaemonStage). HostGiven run vs told (given ++ b.more) later n daemon number stage) d.links link.number row.sends (option_map (of_kind AsAcceptor) row.link)
+            (all-lifted (λ (l : Link DaemonStage). HostGiven run us told given log n daemon l.number l.stage) (λ (l : Link DaemonStage). HostGiven run vs told (given ++ b.more) later n daemon l.number l.stage)
+            (λ l was. b.others l.number l.stage was) d.links gives) (goes row.link b.link);
+        elsewhere = b.elsewhere;
+      }
+    where
+      all-lifted : {X : Type 0} (P Q : X → Type 0) → ((x : X) → P x → Q x) → (xs : List X) → AllByRecursion P xs → AllByRecursion Q xs
+      all-lifted P Q lift [] h = tt
+      all-lifted P Q lift (x ∷ xs) h = (lift x h.0, all-lifted P Q lift xs h.1)
+
+      goes : (found : Option (Link GuestStage)) → ((l : Link GuestStage) → found ≡ Some l → GuestGiven run vs told (given ++ b.more) (behind n line row.seals log) n daemon l.number l.stage)
+          → (l : Link DaemonStage) → option_map (of_kind AsAcceptor) found ≡ Some l → HostGiven run vs told (given ++ b.more) (behind n line row.seals log) n daemon l.number l.stage
+      goes None each l e = absurd cc
+      goes (Some found) each l e =
+          let same : of_kind AsAcceptor found ≡ l = cc in
+          subst (λ (x : Link DaemonStage). HostGiven run vs told (given ++ b.more) (behind n line row.seals log) n daemon x.number x.stage) same (each found refl)
+
+  -- the link that goes on has good keys
+  had-keys : (link : Link DaemonStage) (bytes : List ℕ) (found : Option (Link GuestStage)) → LinksHave run n vs (links_behind d.links link.number bytes (option_map (of_kind AsAcceptor) found)) → LinkKeys vs n found
+  had-keys link bytes None have = tt
+  had-keys link bytes (Some found) have =
+      (all-middle (λ (l : Link DaemonStage). DaemonStageOk run vs n l.number l.stage) (filter (λ (l : Link DaemonStage). nat_lt l.number found.number) d.links) (record (of_kind AsAcceptor found) { sent = found.sent ++ bytes })
+      (filter (λ (l : Link DaemonStage). nat_lt found.number l.number) d.links) have).0
+
+  -- ---- before authentication
+
+  keyless-blank : (found : Option (Link GuestStage)) → IsKeyless run whole vs told log n line daemon found → (l : Link DaemonStage) → option_map (of_kind AsAcceptor) found ≡ Some l → IsBlank l.stage
+  keyless-blank None keyless l e = absurd cc
+  keyless-blank (Some found) keyless l e =
+      let same : of_kind AsAcceptor found ≡ l = cc in subst (λ (x : Link DaemonStage). IsBlank x.stage) same (by_stage found.stage keyless)
+    where
+      by_stage : (stage : GuestStage) → IsBefore run whole vs told log n line daemon stage → IsBlank (AsAcceptor stage)
+      by_stage AwaitsBanner is = tt
+      by_stage AwaitsHello is = tt
+      by_stage AwaitsRequest is = tt
+      by_stage (AwaitsProof awaited) is = tt
+      by_stage (AwaitsSignature s owner) is = absurd is
+      by_stage (AwaitsIdent s owner) is = absurd is
+      by_stage (Open s served) is = absurd is
+
+  first-keeps : (link : Link DaemonStage) (turned : Bool) (row : GuestRow) → RowFirst run whole vs told log n line daemon row → Keeps (carried_out d link.number turned (row_of_kind (with_asker d.own) AsAcceptor row))
+  first-keeps link turned row (SaysNothing none keyless) =
+      quiet-keeps (carried_out d link.number turned (row_of_kind (with_asker d.own) AsAcceptor row)) (λ g one have key name tie is. none g one is_acceptors key name tie is)
+      (from-behind d.links link.number row.sends (option_map (of_kind AsAcceptor) row.link) (keyless-blank row.link keyless))
+  first-keeps link turned row (Authorizes b opened ticket nonce own drawn_too quiet apart seals link_is) = λ g iv have once.
+      let K : List Entry = entered J row.entries in
+      let keys : LinkKeys vs n row.link = had-keys link row.sends row.link have in
+      by-row link turned row
+      (first-by run whole us vs told given log J K line i f h daemon (continues J row.entries) iv.one b own drawn_too opened quiet ticket nonce
+      (λ opens key name tie is. apart opens iv.one key name tie is) (λ key service tie number name means. iv.placed key (Connected n number name (AtDaemon service tie)) means)
+      row.seals row.link seals link_is g keys)
+
+  hosted-first : (link : Link DaemonStage) (hosted : Hosted) → HostedBegins run whole vs told log n line daemon hosted → Keeps (hosts d (at_link link) hosted)
+  hosted-first link hosted begins =
+      subst (λ (moved : Option ℕ). Keeps (moved_to link.number moved (turns d (at_link link) (turn_of_kind (with_asker d.own) AsAcceptor hosted.turned)))) (sym begins.0) (by_turned hosted.turned begins.1)
+    where
+      by_turned : (turned : Turned Asker GuestStage) → TurnedBegins run whole vs told log n line daemon turned
+          → Keeps (turns d (arrival (me d.own) d.own link reading draw) (turn_of_kind (with_asker d.own) AsAcceptor turned))
+      by_turned Waits b = idle
+      by_turned (Refuses why opened) b =
+          quiet-keeps (carried_out d link.number false (refuses_bytes (arrival (me d.own) d.own link reading draw) why opened)) (λ g one have. nothing-said opened b)
+          (from-behind d.links link.number [] None (λ l e. absurd cc))
+      by_turned (Handles row) b = first-keeps link true row b.first
+
+  before-keeps : (handlers : Handlers) (link : Link DaemonStage) (stage : GuestStage) → IsBefore run whole vs told log n line daemon stage → Always Keeps (turned_at handlers d (at_link link) (AsAcceptor stage))
+  before-keeps handlers link stage is =
+      let rule : Deciding Hosted = guest_turned handlers (guest_at link stage) stage in
+      always-map Keeps (hosts d (at_link link)) rule
+      (always-weaker (HostedBegins run whole vs told log n line daemon) (λ (x : Hosted). Keeps (hosts d (at_link link) x)) (hosted-first link) rule
+      (before-begins run whole vs told log n line daemon us J i f t (guest_at link stage) generated drawn refl handlers stage is))
+
+  -- ---- behind authentication
+
+  module _ (handlers : Handlers) (link : Link DaemonStage) (stage : GuestStage) (s : Secured) (name : Name) (k : IsGiver us given log (node.Entity d.own.asker.name) d.own.asker.name link.number s name) (P : Said)
+      (steps : (row : GuestRow) → AreGranted run.leaked whole (node.Entity d.own.asker.name) line log row.seals → TurnGives P (guest_at link stage).link s row
+      → GuestStep run whole us told given log J (node.Entity d.own.asker.name) line i t spelled h.known d.own.asker.name link.number s.keys.key name row) where
+    behind-hosted : (hosted : Hosted) → EachGives P (guest_at link stage).link s hosted.turned → Keeps (hosts d (at_link link) hosted)
+    behind-hosted hosted each = λ g iv have once.
+        moved-keeps link.number hosted.moved (turns d (at_link link) (turn_of_kind (with_asker d.own) AsAcceptor hosted.turned)) (by_turned hosted.turned each hosted.moved g iv once)
+      where
+        by_turned : (turned : Turned Asker GuestStage) → EachGives P (guest_at link stage).link s turned → (moved : Option ℕ) →
+            let o = turns d (arrival (me d.own) d.own link reading draw) (turn_of_kind (with_asker d.own) AsAcceptor turned) in
+            AreGranted run.leaked whole n line log (moved_to link.number moved o).out.seals
+            → Inv run whole vs (behind n line (moved_to link.number moved o).out.seals log) (entered J (moved_to link.number moved o).out.entries)
+            → EachBehind (HandledOnce run) J (moved_to link.number moved o).out.entries → Gives o
+        by_turned Waits e None g iv once = quiet-given run whole us vs told given log J line i f h daemon d gives (idles d) iv.one (λ key whose tie is. refl) (from-same d.links)
+        by_turned Waits e (Some session) g iv once = quiet-given run whole us vs told given log J line i f h daemon d gives (idles d) iv.one (λ key whose tie is. refl) (from-same d.links)
+        by_turned (Refuses why opened) e None g iv once =
+            quiet-given run whole us vs told given log J line i f h daemon d gives (carried_out d link.number false (refuses_bytes (arrival (me d.own) d.own link reading draw) why opened)) iv.one
+            (λ key whose tie is. quiet-none key is_acceptors opened e) (from-behind d.links link.number [] None (λ l e. absurd cc))
+        by_turned (Refuses why opened) e (Some session) g iv once =
+            quiet-given run whole us vs told given log J line i f h daemon d gives (carried_out d link.number false (refuses_bytes (arrival (me d.own) d.own link reading draw) why opened)) iv.one
+            (λ key whose tie is. quiet-none key is_acceptors opened e) (from-behind d.links link.number [] None (λ l e. absurd cc))
+        by_turned (Handles row) e None g iv once =
+            step-given run whole us vs told given log J line i f h daemon t spelled link.number s name k row (steps row g e) iv.one once d gives true
+        by_turned (Handles row) e (Some session) g iv once =
+            step-given run whole us vs told given log J line i f h daemon t spelled link.number s name k row (steps row g e) iv.one once d gives true
+
+    behind-keeps : Always (λ (x : Hosted). EachGives P (guest_at link stage).link s x.turned) (guest_turned handlers (guest_at link stage) stage) → Always Keeps (turned_at handlers d (at_link link) (AsAcceptor stage))
+    behind-keeps each =
+        let rule : Deciding Hosted = guest_turned handlers (guest_at link stage) stage in
+        always-map Keeps (hosts d (at_link link)) rule
+        (always-weaker (λ (x : Hosted). EachGives P (guest_at link stage).link s x.turned) (λ (x : Hosted). Keeps (hosts d (at_link link) x)) behind-hosted rule each)
+
+  -- the entity of an open link's session is the one whose key it has
+  opened-for : (number : ℕ) (s : Secured) (served : Served) (g : GuestGiven run us told given log n daemon number (Open s served)) → (k : HostKnown run us told J daemon n number (AsAcceptor (Open s served)))
+      → OpenedFor J [] daemon g.0 served
+  opened-for number s served g k =
+      let guest : IsGuest run us told n number s k.0.0 = k.0.1 in
+      let first : IsLinkKey us s.keys.key k.0.0 guest.tie = record { acceptor = n; number = number; service = guest.service; means = guest.means } in
+      let last : IsLinkKey us s.keys.key g.0 g.1.tie = record { acceptor = n; number = number; service = daemon.kind; means = g.1.means } in
+      let same : k.0.0 ≡ g.0 = (link-one us i.one s.keys.key k.0.0 g.0 guest.tie g.1.tie first last).0 in
+      subst (λ (m : Name). OpenedFor J [] daemon m served) same k.1
+
+  guest-keeps : (handlers : Handlers) (link : Link DaemonStage) (stage : GuestStage) → HostKnown run us told J daemon n link.number (AsAcceptor stage) → GuestGiven run us told given log n daemon link.number stage
+      → Always Keeps (turned_at handlers d (at_link link) (AsAcceptor stage))
+  guest-keeps handlers link AwaitsBanner k g = before-keeps handlers link AwaitsBanner tt
+  guest-keeps handlers link AwaitsHello k g = before-keeps handlers link AwaitsHello tt
+  guest-keeps handlers link AwaitsRequest k g = before-keeps handlers link AwaitsRequest tt
+  guest-keeps handlers link (AwaitsProof awaited) k g = before-keeps handlers link (AwaitsProof awaited) tt
+  guest-keeps handlers link (AwaitsSignature s owner) k g =
+      let stage : GuestStage = AwaitsSignature s owner in
+      behind-keeps handlers link stage s owner.ticket.name g.0 (SignedGives owner)
+      (λ row granted turn. signature-step run whole us told given log J n line i t spelled h.known daemon (guest_at link stage).link s owner.ticket.name g.0 g.1 row granted owner refl turn)
+      (guest-gives handlers (guest_at link stage) stage)
+  guest-keeps handlers link (AwaitsIdent s owner) k g =
+      let stage : GuestStage = AwaitsIdent s owner in
+      behind-keeps handlers link stage s owner.ticket.name g.0 (IdentGives owner)
+      (λ row granted turn. ident-step run whole us told given log J n line i t spelled h.known daemon (guest_at link stage).link s owner.ticket.name g.0 g.1 row granted owner refl turn)
+      (guest-gives handlers (guest_at link stage) stage)
+  guest-keeps handlers link (Open s served) k g =
+      let stage : GuestStage = Open s served in
+      behind-keeps handlers link stage s g.0 g.1 (OpenGives daemon served)
+      (λ row granted turn. open-step run whole us told given log J n line i t spelled h.known daemon (guest_at link stage).link s g.0 g.1 g.3 row granted served (opened-for link.number s served g k) g.2 turn)
+      (guest-gives handlers (guest_at link stage) stage)
+
+  -- ---- any link
+
+  turns-keep : (handlers : Handlers) (number : ℕ) (found : Option (Link DaemonStage)) → link_of number d.links ≡ found → Always Keeps (turn handlers d reading draw found)
+  turns-keep handlers number None is = idle
+  turns-keep handlers number (Some link) is =
+      by_stage link.stage (found_all (λ (l : Link DaemonStage). HostKnown run us told J daemon n l.number l.stage) (λ (l : Link DaemonStage). l.number == number) d.links link known is)
+      (found_all (λ (l : Link DaemonStage). HostGiven run us told given log n daemon l.number l.stage) (λ (l : Link DaemonStage). l.number == number) d.links link gives is)
+    where
+      by_stage : (stage : DaemonStage) → HostKnown run us told J daemon n link.number stage → HostGiven run us told given log n daemon link.number stage
+          → Always Keeps (turned_at handlers d (arrival (me d.own) d.own link reading draw) stage)
+      by_stage (AsAcceptor stage) k g = guest-keeps handlers link stage k g
+      by_stage (AsConnector stage) k g =
+          own-keeps link stage (connector.turned_at (arrival_in (arrival (me d.own) d.own link reading draw) d.own.asker stage) stage)
+          (λ one have key name tie is. own_turn-none vs n one key name tie is is_acceptors d reading draw (at_link link) (arrival_in (at_link link) d.own.asker stage) stage (own-stand run vs n _ have))
+
+  -- ---- any event
+
+  pub rule-keeps : (handlers : Handlers) (input : Input) → Always Keeps (daemon_rule handlers d input reading draw)
+  rule-keeps handlers = walk d reading draw handlers Keeps rests (λ number. turns-keep handlers number (link_of number d.links) refl) asks-keeps

@@ -1,7 +1,0 @@
--- Where no bytes are left, no line is.
-use Rattle.std.proofs.Common.{◌≡◌, ℕ, List, [], subst}
-use Rattle.cx_words.specs.Cutting.{lines_of}
-
-pub no_lines_left : (P : List (List ℕ) → Type 0) (rest : List ℕ) → rest ≡ [] → P (lines_of rest) → P []
-unfolding lines_of
-no_lines_left P rest is holds = let Q : List ℕ → Type 0 = λ (bytes : List ℕ). P (lines_of bytes) in subst Q is holds

@@ -1,9 +1,0 @@
-pub mod Changed
-pub mod Delivers
-pub mod Lawful
-pub mod Laws
-pub mod Lists
-pub mod Presents
-pub mod Steps
-pub mod Taken
-pub mod Timely

@@ -1,5 +1,0 @@
-pub mod Changes
-pub mod Monitors
-pub mod Nodes
-pub mod Plain
-pub mod PlainLines
