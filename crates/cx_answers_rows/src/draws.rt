@@ -22,7 +22,7 @@ impl Draws {
 
     /// The draw of this number, which is none of the earlier ones.
     pub fn draw(&mut self, number: u32) -> Draw {
-        let mut draw = Draw { bytes: [0; 384] };
+        let mut draw = Draw::of([0; 384]);
         let end = number.saturating_add(1);
         for _ in self.next..end {
             if let Ok(next) = self.dice.block() {

@@ -230,7 +230,7 @@ impl<O: Others> Run<O> {
         }
         match self.others.draw(coming.node, number) {
             Some(draw) => draw,
-            None => Draw { bytes: [0; 384] },
+            None => Draw::of([0; 384]),
         }
     }
 

@@ -25,19 +25,6 @@ pub fn copy_items<T: Duplicate>(alloc: Global, items: &Items<T>) -> Result<Items
     Ok(copied)
 }
 
-/// Copies what may be missing.
-pub fn copy_option<T: Duplicate>(alloc: Global, held: &Option<T>) -> Result<Option<T>, AllocError>
-    ensures { IfOk result (λ copied. copied ≡ held.now) }
-{
-    match held {
-        None => Ok(None),
-        Some(item) => {
-            let copied = item.copy(alloc)?;
-            Ok(Some(copied))
-        }
-    }
-}
-
 impl Duplicate for EntityType {
     fn copy(&self, _alloc: Global) -> Result<EntityType, AllocError> {
         Ok(*self)

@@ -17,7 +17,7 @@ mod refusals;
 mod texts;
 
 pub use addresses::Addr;
-pub use copies::{Duplicate, copy_items, copy_option};
+pub use copies::{Duplicate, copy_items};
 pub use entity::{BadName, EntityName, is_id};
 pub use grants::Grant;
 pub use in_memory::{ByteSource, VecSink};

@@ -5,6 +5,10 @@ use Rattle.cx_base.specs.Joined.{◌<>◌}
 use Rattle.cx_base.specs.declared.kinds.EntityType.{EntityType}
 use Rattle.cx_base.specs.declared.kinds.EntityType.TheVariants.{Mon, Mds, Osd, Client, Mgr, Auth}
 
+-- a draw as contracts see it: its bytes
+pub record Drawing : Type 0 where
+  pub bytes : List ℕ
+
 -- so many bytes from a place on
 abbrev pub part : ℕ → ℕ → List ℕ → List ℕ
 part place count bytes = take count (drop place bytes)

@@ -14,6 +14,10 @@ GivesDraw (Some coming) new draw = (draw ≡ coming 0) × (new ≡ Some (λ n. c
 abbrev pub seed_bytes : ℕ → List ℕ
 seed_bytes seed = to_le_bytes w64 seed ++ replicate 24 0
 
+-- the generator of a number before this word
+abbrev pub generator_at : ℕ → ℕ → ChaCha
+generator_at seed word = record { key = key_of (seed_bytes seed); stream = 0; word_pos = word % 2 ^ 68 }
+
 -- the next draw of a generator of ChaCha20, and the generator behind it
 abbrev pub rolled : ChaCha → List ℕ × ChaCha
 rolled generator = fill_via_u32 (next_word 10) 384 generator

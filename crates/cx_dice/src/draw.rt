@@ -1,29 +1,77 @@
 //! Draws.
 
-ghost use Rattle.std.specs.Prelude.{◌≡◌, length, ◌+◌, ◌≤◌, ◌<◌, IsTrue};
-ghost use Rattle.cx_dice.specs.Draws.{challenge_of, connection_of, cookie_of, has_keys, nonce_start, part, put_in, rotation_of, session_of, three_keys};
+ghost use Rattle.std.specs.Prelude.{◌≡◌, length, ◌+◌, ◌%◌, ◌≤◌, ◌<◌, IsTrue};
+ghost use Rattle.cx_dice.specs.Draws.{Drawing, challenge_of, connection_of, cookie_of, has_keys, nonce_start, part, put_in, rotation_of, session_of, three_keys};
+ghost use Rattle.cx_dice.specs.Rolls.{generator_at, seed_bytes, seed_draw};
 
 use cx_base::EntityType;
+use rand_chacha::ChaCha20Rng;
+use rand_core::SeedableRng;
+use rand_core::utils::fill_bytes_via_u32;
+use std::marker::Model;
 
-/// What a node draws for one event: 384 random bytes, of which each use has a place of its own. An event uses few of them.
-#[derive(Clone, Copy, Debug, PartialEq, Eq)]
+/// What a node draws for one event: 384 random bytes, of which each use has a place of its own. An event uses few of them, and
+/// those of a seed are computed where they are used.
+#[derive(Debug, Drop)]
 pub struct Draw {
-    pub bytes: [u8; 384],
+    source: Source,
+}
+
+// Where the bytes of a draw come from: they are these, or those of a seed's draw of this number.
+#[derive(Debug, Drop)]
+enum Source {
+    Given([u8; 384]),
+    Numbered(u64, u64),
+}
+
+impl Model for Draw {
+    ghost use Rattle.cx_dice.specs.Draws.{Drawing};
+    ghost use Rattle.cx_dice.specs.Sources.{bytes_of};
+
+    ghost Value = { Drawing };
+
+    ghost view = { λ d. record { bytes = bytes_of d.source } };
 }
 
 impl Draw {
+    /// The draw of these bytes.
+    pub fn of(bytes: [u8; 384]) -> Draw
+        ensures { result ≡ record { bytes = bytes } }
+    {
+        Draw {
+            source: Source::Given(bytes),
+        }
+    }
+
+    /// The draw of this number, from 0, of a seed.
+    pub(crate) fn numbered(seed: u64, number: u64) -> Draw
+        ensures { result ≡ record { bytes = seed_draw seed number } }
+    {
+        Draw {
+            source: Source::Numbered(seed, number),
+        }
+    }
+
+    /// All its bytes.
+    pub fn bytes(&self) -> [u8; 384]
+        ensures bytes { result ≡ self.now.bytes }
+        ensures whole { length self.now.bytes ≡ 384 }
+    {
+        self.part(0)
+    }
+
     /// A challenge, or the nonce of an authorizer.
     pub fn challenge(&self) -> u64
         ensures { result ≡ challenge_of self.now.bytes }
     {
-        u64::from_le_bytes(part(&self.bytes, 0))
+        u64::from_le_bytes(self.part(0))
     }
 
     /// A cookie.
     pub fn cookie(&self) -> u64
         ensures { result ≡ cookie_of self.now.bytes }
     {
-        u64::from_le_bytes(part(&self.bytes, 8))
+        u64::from_le_bytes(self.part(8))
     }
 
     /// The secret of a connection: a key, the nonce with which the acceptor begins, and the one with which the connector
@@ -31,11 +79,12 @@ impl Draw {
     pub fn connection_secret(&self) -> [u8; 64]
         ensures { result ≡ connection_of self.now.bytes }
     {
+        let drawn = self.part::<64>(16);
         let mut secret = [0; 64];
-        put(&mut secret, 0, &part::<16>(&self.bytes, 16));
-        put(&mut secret, 16, &nonce_start(&self.bytes, 32, 0));
-        put(&mut secret, 28, &nonce_start(&self.bytes, 44, 128));
-        put(&mut secret, 40, &part::<24>(&self.bytes, 56));
+        put(&mut secret, 0, &piece::<16>(&drawn, 0));
+        put(&mut secret, 16, &nonce_start(&drawn, 16, 0));
+        put(&mut secret, 28, &nonce_start(&drawn, 28, 128));
+        put(&mut secret, 40, &piece::<24>(&drawn, 40));
         secret
     }
 
@@ -45,10 +94,10 @@ impl Draw {
         ensures { result ≡ session_of service self.now.bytes }
     {
         match service {
-            EntityType::Auth => part(&self.bytes, 80),
-            EntityType::Mds => part(&self.bytes, 96),
-            EntityType::Osd => part(&self.bytes, 112),
-            EntityType::Mgr => part(&self.bytes, 128),
+            EntityType::Auth => self.part(80),
+            EntityType::Mds => self.part(96),
+            EntityType::Osd => self.part(112),
+            EntityType::Mgr => self.part(128),
             EntityType::Mon => unreachable!(),
             EntityType::Client => unreachable!(),
         }
@@ -60,46 +109,76 @@ impl Draw {
         ensures { result ≡ rotation_of service self.now.bytes }
     {
         match service {
-            EntityType::Mds => three_keys(&self.bytes, 144),
-            EntityType::Osd => three_keys(&self.bytes, 192),
-            EntityType::Mgr => three_keys(&self.bytes, 240),
-            EntityType::Auth => three_keys(&self.bytes, 288),
+            EntityType::Mds => three_keys(&self.part(144)),
+            EntityType::Osd => three_keys(&self.part(192)),
+            EntityType::Mgr => three_keys(&self.part(240)),
+            EntityType::Auth => three_keys(&self.part(288)),
             EntityType::Mon => unreachable!(),
             EntityType::Client => unreachable!(),
         }
     }
+
+    // The bytes from this place on, which is that of a word.
+    fn part<const N: usize>(&self, place: usize) -> [u8; N]
+        requires word { place % 4 ≡ 0 }
+        requires within { place + N ≤ 384 }
+        ensures taken { result ≡ part place N self.now.bytes }
+        ensures whole { length self.now.bytes ≡ 384 }
+    {
+        match &self.source {
+            Source::Given(bytes) => piece(bytes, place),
+            Source::Numbered(seed, number) => {
+                let mut part = [0; N];
+                let word = 96 * u128::from(*number) + place as u128 / 4;
+                fill_bytes_via_u32(&mut generator_at(*seed, word), &mut part);
+                part
+            }
+        }
+    }
 }
 
-// The three keys from this place on.
-fn three_keys(bytes: &[u8; 384], place: usize) -> [[u8; 16]; 3]
-    requires { place + 48 ≤ 384 }
-    ensures { result ≡ three_keys place bytes.now }
+// The generator of a seed before this word.
+fn generator_at(seed: u64, word: u128) -> ChaCha20Rng
+    ensures { result ≡ generator_at seed word }
 {
-    [
-        part(bytes, place),
-        part(bytes, place + 16),
-        part(bytes, place + 32),
-    ]
+    let mut generator = ChaCha20Rng::from_seed(seed_bytes(seed));
+    generator.set_word_pos(word);
+    generator
+}
+
+fn seed_bytes(seed: u64) -> [u8; 32]
+    ensures { result ≡ seed_bytes seed }
+{
+    let mut bytes = [0; 32];
+    bytes[..8].copy_from_slice(&seed.to_le_bytes());
+    bytes
+}
+
+// The three keys that these bytes are.
+fn three_keys(bytes: &[u8; 48]) -> [[u8; 16]; 3]
+    ensures { result ≡ three_keys 0 bytes.now }
+{
+    [piece(bytes, 0), piece(bytes, 16), piece(bytes, 32)]
 }
 
 // The four bytes from this place on with which a nonce begins, the highest bit that of `high`, which is 0 or 128.
-fn nonce_start(bytes: &[u8; 384], place: usize, high: u8) -> [u8; 4]
-    requires place { place + 4 ≤ 384 }
+fn nonce_start(bytes: &[u8; 64], place: usize, high: u8) -> [u8; 4]
+    requires place { place + 4 ≤ 64 }
     requires high { high ≤ 128 }
     ensures { result ≡ nonce_start high place bytes.now }
 {
-    let [first, second, third, fourth] = part::<4>(bytes, place);
+    let [first, second, third, fourth] = piece::<4>(bytes, place);
     [first % 128 + high, second, third, fourth]
 }
 
 // The bytes from this place on.
-fn part<const N: usize>(bytes: &[u8; 384], place: usize) -> [u8; N]
-    requires { place + N ≤ 384 }
+fn piece<const N: usize>(bytes: &[u8], place: usize) -> [u8; N]
+    requires { place + N ≤ length bytes.now }
     ensures { result ≡ part place N bytes.now }
 {
-    let mut part = [0; N];
-    part.copy_from_slice(&bytes[place..place + N]);
-    part
+    let mut piece = [0; N];
+    piece.copy_from_slice(&bytes[place..place + N]);
+    piece
 }
 
 // Puts the bytes at this place of the secret.

@@ -8,27 +8,27 @@ ghost use Rattle.cx_dice.specs.Rolls.{GivesDraw, after_block, draws_of, rolled, 
 use crate::dice::Dice;
 use crate::draw::Draw;
 use cx_base::{Blob, Failed};
-use rand_chacha::ChaCha20Rng;
-use rand_core::SeedableRng;
-use rand_core::utils::fill_bytes_via_u32;
 use std::marker::Model;
 
 /// The draws of ChaCha20, seeded by a number. Call number i, from 1, fails where `fails` holds the byte i, and the next call
 /// gives the draw that it would have given.
 #[derive(Debug, Drop)]
 pub struct SeedDice {
-    generator: ChaCha20Rng,
+    seed: u64,
+    // The number of the next draw, from 0: after 2^63 draws the stream repeats, so the highest bit makes no difference.
+    number: u64,
     fails: Blob,
     calls: u64,
     faults: u64,
 }
 
 impl Model for SeedDice {
-    ghost use Rattle.cx_dice.specs.Rolls.{Rolling};
+    ghost use Rattle.std.specs.Prelude.{◌*◌};
+    ghost use Rattle.cx_dice.specs.Rolls.{Rolling, generator_at};
 
     ghost Value = { Rolling };
 
-    ghost view = { λ d. record { generator = d.generator; fails = d.fails; calls = d.calls; faults = d.faults } };
+    ghost view = { λ d. record { generator = generator_at d.seed (96 * d.number); fails = d.fails; calls = d.calls; faults = d.faults } };
 }
 
 impl SeedDice {
@@ -37,29 +37,13 @@ impl SeedDice {
         ensures { result ≡ record { generator = of_seed (seed_bytes seed); fails = fails; calls = 0; faults = 0 } }
     {
         SeedDice {
-            generator: ChaCha20Rng::from_seed(seed_bytes(seed)),
+            seed,
+            number: 0,
             fails,
             calls: 0,
             faults: 0,
         }
     }
-}
-
-fn seed_bytes(seed: u64) -> [u8; 32]
-    ensures { result ≡ seed_bytes seed }
-{
-    let mut bytes = [0; 32];
-    bytes[..8].copy_from_slice(&seed.to_le_bytes());
-    bytes
-}
-
-// The next draw of the generator.
-fn roll(generator: &mut ChaCha20Rng) -> Draw
-    ensures { (result.bytes, generator.new) ≡ rolled generator.old }
-{
-    let mut bytes = [0; 384];
-    fill_bytes_via_u32(generator, &mut bytes);
-    Draw { bytes }
 }
 
 impl Dice for SeedDice {
@@ -82,7 +66,9 @@ impl Dice for SeedDice {
             self.faults = self.faults.saturating_add(1);
             return Err(Failed);
         }
-        Ok(roll(&mut self.generator))
+        let draw = Draw::numbered(self.seed, self.number);
+        self.number = self.number.wrapping_add(1);
+        Ok(draw)
     }
 }
 

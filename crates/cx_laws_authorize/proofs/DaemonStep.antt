@@ -53,7 +53,7 @@ use Rattle.cx_laws_keys.proofs.Premises.{AreGranted, behind}
 use Rattle.cx_laws_keys.proofs.Steps.{inv-entered}
 use Rattle.cx_laws_keys.proofs.Uses.{Grows, Uses, WholeRun, stays}
 use Rattle.cx_laws_login.proofs.AskerRows.{asker_says, request-sends}
-use Rattle.cx_laws_login.proofs.ClientStep as client_step
+use Rattle.cx_laws_login.proofs.AskerTurns as asker_turns
 use Rattle.cx_laws_login.proofs.Facts.{AskerKnown, AskerOk, AskerStageOk, HasMonitorKey, asker-entered, known-grows, none-fetched}
 use Rattle.cx_laws_login.proofs.Rows.{AfterRow, IsQuietEntry, LinkOk, Saying, TurnOk, after-quiet, after-simple, none-given, reached-allowed, simple-goes_on, simple-refuses}
 
@@ -209,7 +209,7 @@ module _ (run : WholeRun) (whole : List Logged) (n : NodeName) (line : ℕ) (us 
         let b : Arrival Daemon DaemonStage = arrival (me d.node.own) d.node.own link reading draw in
         let a : AskerArrival = arrival_in b asker stage in
         turn-carried run J n whole line us log J d.node b (turn_of_kind (with_asker d.node.own) AsConnector (connector.turned_at a stage)) r.inv r.ok r.ok.own
-        (lifted-turn a (connector.turned_at a stage) (client_step.turn-ok run whole n line us log J J a stage r.inv r.ok.own r.here st)) g
+        (lifted-turn a (connector.turned_at a stage) (asker_turns.turn-ok run whole n line us log J J a stage r.inv r.ok.own r.here st)) g
 
     turn-keeps : (handlers : Handlers) (draw : List ℕ) → length draw ≡ 384 → (found : Option (Link DaemonStage)) → LinkHas run n us found → Always Keeps (turn handlers d.node reading draw found)
     turn-keeps handlers draw drawn None st = λ g au. stays-idle run J n whole line us log J d.node r.inv r.ok

@@ -48,7 +48,7 @@ use Rattle.cx_laws_keys.proofs.Premises.{AreGranted, behind}
 use Rattle.cx_laws_keys.proofs.Steps.{inv-all, inv-entered}
 use Rattle.cx_laws_keys.proofs.Uses.{Grows, Uses, WholeRun, stays}
 use Rattle.cx_laws_login.proofs.AskerRows.{NeverExcepted, asker_says}
-use Rattle.cx_laws_login.proofs.ClientStep as client_step
+use Rattle.cx_laws_login.proofs.AskerTurns as asker_turns
 use Rattle.cx_laws_login.proofs.Facts.{AskerOk, AskerStageOk, HasConnection, HasMonitorKey, asker-entered, none-fetched, seals-monitor, seals-own}
 use Rattle.cx_laws_login.proofs.Rows.{AfterRow, AfterStep, Allowed, FrameOk, LinkOk, LinksOk, NodeOk, Saying, TurnOk, all-filter, all-put, all-without, carried, frame-ok, idle, turned-ok}
 
@@ -168,7 +168,7 @@ module _ (run : WholeRun) (whole : List Logged) (n : NodeName) (line : ℕ) (us 
 
     -- nothing is excepted here under its keys
     never : NeverExcepted run whole n us c.own.asker.name
-    never = client_step.asker-free run whole n line us log J first asker r.here r.inv r.ok.own.asker
+    never = asker_turns.asker-free run whole n line us log J first asker r.here r.inv r.ok.own.asker
 
     -- a row that draws no key
     row-after : (row : Row WholeClient ClientStage) → Allowed us J n row.seals → AllByRecursion (IsLawful run) row.entries → OwnOk run first n us J row.own → LinkOk Says us row.link
@@ -234,7 +234,7 @@ module _ (run : WholeRun) (whole : List Logged) (n : NodeName) (line : ℕ) (us 
           let a : AskerArrival = arrival_in here asker stage in
           let turned : Turned Asker connector.Stage = connector.turned_at a stage in
           turned-ok Says run whole n line us log J c here (turn_of_kind (with_asker c.own) ToMonitor turned) r.inv r.ok r.ok.own
-          (lifted-turn a turned (client_step.turn-ok run whole n line us log J first a stage r.inv r.ok.own.asker r.here st.0)
+          (lifted-turn a turned (asker_turns.turn-ok run whole n line us log J first a stage r.inv r.ok.own.asker r.here st.0)
           (asker-holds run whole n line us log J asker.name never r.here r.inv a stage r.ok.own.asker.known.own r.ok.own.holds st.1)) g
 
       -- ---- a turn of a link to a daemon

@@ -21,7 +21,7 @@ use Rattle.cx_laws_keys.proofs.Lists.{all-map, found_all, found_passes}
 use Rattle.cx_laws_keys.proofs.Premises.{behind}
 use Rattle.cx_laws_keys.proofs.Uses.{AtMonitor, Connected, Uses, WholeRun}
 use Rattle.cx_laws_truth.specs.cx_laws_login.proofs.AskerRows.{NeverExcepted}
-use Rattle.cx_laws_truth.specs.cx_laws_login.proofs.ClientStep as client_step
+use Rattle.cx_laws_truth.specs.cx_laws_login.proofs.AskerTurns as asker_turns
 use Rattle.cx_laws_truth.specs.cx_laws_login.proofs.Facts.{AskerOk}
 use Rattle.cx_laws_truth.specs.cx_laws_run.proofs.Events.{EntityOk}
 use Rattle.cx_laws_truth.specs.cx_rules.specs.Links.{Link}
@@ -82,7 +82,7 @@ step-of run whole us vs logins told past p log J c ok tells has r = record {
     asker = record { known = ok.known; quiet = λ t there. there; count = refl }
 
     free : NeverExcepted run whole (node.Entity name) us name
-    free = client_step.asker-free run whole (node.Entity name) p.happening.line us log J J c.own.asker refl r.inv asker
+    free = asker_turns.asker-free run whole (node.Entity name) p.happening.line us log J J c.own.asker refl r.inv asker
 
     ready : AskerReady run whole (retied logins us) xs logins told past p name log J
     ready = asker-ready run whole us vs logins told past p name log J s r free

@@ -22,7 +22,7 @@ use Rattle.cx_laws_keys.proofs.Lists.{found_all, found_passes}
 use Rattle.cx_laws_keys.proofs.Premises.{behind}
 use Rattle.cx_laws_keys.proofs.Uses.{AtMonitor, Connected, Uses, WholeRun}
 use Rattle.cx_laws_truth.specs.cx_laws_login.proofs.AskerRows.{NeverExcepted}
-use Rattle.cx_laws_truth.specs.cx_laws_login.proofs.ClientStep as client_step
+use Rattle.cx_laws_truth.specs.cx_laws_login.proofs.AskerTurns as asker_turns
 use Rattle.cx_laws_truth.specs.cx_laws_login.proofs.Facts.{AskerOk}
 use Rattle.cx_laws_truth.specs.cx_laws_run.proofs.Events.{DaemonOk, EntityOk}
 use Rattle.cx_laws_truth.specs.cx_rules.specs.Rows.{Outcome}
@@ -76,7 +76,7 @@ module _ (run : WholeRun) (whole : List Logged) (us vs : Uses) (logins : List Ha
   asker = record { known = ok.known; quiet = λ t there. there; count = refl }
 
   free : NeverExcepted run whole (node.Entity name) us name
-  free = client_step.asker-free run whole (node.Entity name) p.happening.line us log J J d.node.own.asker refl r.inv asker
+  free = asker_turns.asker-free run whole (node.Entity name) p.happening.line us log J J d.node.own.asker refl r.inv asker
 
   ready : DaemonReady run whole us vs logins told past p log J d.node
   ready = record {

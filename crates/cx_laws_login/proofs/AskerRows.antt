@@ -56,7 +56,7 @@ use Rattle.cx_laws_keys.proofs.Uses.{Login, Means, Secret, Uses, WholeRun, AreGe
 use Rattle.cx_laws_login.proofs.Facts.{AreFetched, AskerOk, AskerStageOk, HasMonitorKey, asker-entered, asker_stage-grows, seals-monitor}
 use Rattle.cx_laws_login.proofs.Opens.{unlocked-allowed, unlocked_says}
 use Rattle.cx_laws_login.proofs.Rows.{AfterRow, Allowed, FrameOk, Saying, Simple, after-simple, frame-ok, signing-ok, simple-goes_on, simple-plain, simple-refuses, simple-refuses_bytes, simple-secure}
-use Rattle.cx_rules.specs.Requests.{Requests, asks_rotating, asks_tickets, behind_reply, behind_request, body_taken, having, message_taken, no_requests, on_open, on_reply, on_server_ident, opens_to, reply_taken, request_message, sends_request, takes, tickets_taken, unless_unsealed, waiting_taken, with_tickets, rotating_taken, sealed_request}
+use Rattle.cx_rules.specs.Requests.{Requests, asks_rotating, behind_reply, behind_request, body_taken, having, message_taken, no_requests, on_open, on_reply, on_server_ident, opens_to, reply_taken, request_message, sends_request, takes, tickets_taken, unless_unsealed, waiting_taken, with_tickets, rotating_taken, sealed_request}
 use Rattle.cx_rules.specs.Messages.{Message, body_as, message_in}
 use Rattle.cx_rules.specs.declared.requests.Taken.{Taken}
 use Rattle.cx_rules.specs.declared.requests.Taken.TheVariants as taken
@@ -347,10 +347,6 @@ module _ (run : WholeRun) (whole_log : List Logged) (n : NodeName) (line : ℕ) 
   request-simple : (a : AskerArrival) (s : Secured) (requests : Requests) (asked : Want) (request : Request) → AskerOk run before us J a.own → HasMonitorKey us n s.keys.key
       → IsSimple (sends_request Open a s requests asked (sealed_request s.keys requests request))
   request-simple a s requests asked request ok has = request-sends (asker_says run before n) Open a s requests asked request ok has (λ t r h. h)
-
-  pub asks-simple : (a : AskerArrival) (s : Secured) (requests : Requests) (services : ℕ) → AskerOk run before us J a.own → HasMonitorKey us n s.keys.key
-      → IsSimple (asks_tickets Open a s requests services)
-  asks-simple a s requests services ok has = request-simple a s requests want.Tickets (asked.Tickets services) ok has
 
   -- a daemon asks for generations
   pub rotating-simple : (a : AskerArrival) (s : Secured) (requests : Requests) → AskerOk run before us J a.own → HasMonitorKey us n s.keys.key → IsSimple (asks_rotating Open a s requests)

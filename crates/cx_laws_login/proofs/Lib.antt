@@ -14,7 +14,7 @@ pub mod Authenticating
 pub mod Turns
 pub mod MonitorStep
 pub mod AskerRows
-pub mod ClientStep
+pub mod AskerTurns
 pub mod Hearing
 pub mod Proving
 pub mod NoTickets

@@ -1,5 +1,5 @@
--- What one that asks the monitor enters, and so what a client does, whatever comes: no ticket is issued, and no session admitted.
-use Rattle.std.proofs.Common.{ℕ, ◌+◌, ◌-◌, ◌^◌, ◌==◌, Bool, true, false, List, [], ◌∷◌, take, Option, Some, None, Result, Ok, Err, refl, sym, ◌≡◌}
+-- What one that asks the monitor enters at a turn, whatever comes: no ticket is issued, and no session admitted.
+use Rattle.std.proofs.Common.{ℕ, ◌+◌, ◌-◌, ◌^◌, ◌==◌, Bool, true, false, List, [], ◌∷◌, take, Option, Some, None, Result, Ok, Err, refl, ◌≡◌}
 use Rattle.std.specs.Prelude.{not, if◌then◌else◌}
 use Rattle.std.specs.List.{AllByRecursion}
 use Rattle.cx_base.specs.Names.{is_daemon_type}
@@ -30,18 +30,15 @@ use Rattle.cx_journal.specs.declared.outcomes.Reason.TheVariants as reason
 use Rattle.cx_login.specs.Client.{Ask, authenticate}
 use Rattle.cx_login.specs.Unlocking.{login_in, told_each, unlocked}
 use Rattle.cx_login.specs.declared.client.LoggedIn.{LoggedIn}
-use Rattle.cx_rules.specs.ClientRule.{Client, ClientNode, client_rule, loses, me, opens, renews_on, submits, turn, with_asker}
-use Rattle.cx_rules.specs.Connector.{Stage, AwaitsBanner, AwaitsHello, AwaitsChallenge, AwaitsDone, AwaitsSignature, AwaitsIdent, Open, AskerArrival, AskerRow, Login as Opening, client_ident, holding, identifies, is_open, kept_open, login_request, on_bad_method, on_banner, on_challenge, on_done, on_hello, on_login_done, on_missing_features, on_opened, on_reply_more, on_signature, proves, signs, turned_at, while_challenged, while_identified, while_proved}
+use Rattle.cx_rules.specs.Connector.{Stage, AwaitsBanner, AwaitsHello, AwaitsChallenge, AwaitsDone, AwaitsSignature, AwaitsIdent, Open, AskerArrival, AskerRow, Login as Opening, client_ident, holding, identifies, login_request, on_bad_method, on_banner, on_challenge, on_done, on_hello, on_login_done, on_missing_features, on_opened, on_reply_more, on_signature, proves, signs, turned_at, while_challenged, while_identified, while_proved}
 use Rattle.cx_rules.specs.Fronts.{banner_next, plain_next, secure_next}
 use Rattle.cx_rules.specs.Greetings.{own_hello}
 use Rattle.cx_rules.specs.Holdings.{Asker, held_login, holds_nothing, unexpired}
-use Rattle.cx_rules.specs.Inputs.{Input, Opened, NoLink, Bytes, Turn, Gone, Look, Tick, Submit, Restart}
-use Rattle.cx_rules.specs.Links.{Link, link_of}
 use Rattle.cx_rules.specs.Payloads.{control, due, payload, whole}
 use Rattle.cx_rules.specs.Messages.{Message, body_as, message_in}
-use Rattle.cx_rules.specs.Requests.{Requests, asks_rotating, body_taken, first_open, message_taken, no_requests, on_open, on_reply, on_server_ident, reply_taken, request_message, rotating_taken, sealed_request, sends_request, takes, tickets_taken, unless_unsealed, waiting_taken}
+use Rattle.cx_rules.specs.Requests.{Requests, asks_rotating, body_taken, message_taken, no_requests, on_open, on_reply, on_server_ident, reply_taken, request_message, rotating_taken, sealed_request, sends_request, takes, tickets_taken, unless_unsealed, waiting_taken}
 use Rattle.cx_rules.specs.Requests as requests
-use Rattle.cx_rules.specs.Rows.{Arrival, Outcome, Turned, Waits, Refuses, Handles, arrival, at, fed, goes_on, lifted_turn, plain_sent, refused_entry, refuses, secure_sent, turns, with_opened}
+use Rattle.cx_rules.specs.Rows.{at, goes_on, plain_sent, refuses, secure_sent, with_opened}
 use Rattle.cx_rules.specs.Secured.{Keys, SealedFrame, Secured, connector_keys, is_signed, plain_frame, secure_frame, signed_frame, under}
 use Rattle.cx_rules.specs.Upkeep.{on_keepalive, on_keepalive_ack}
 use Rattle.cx_rules.specs.declared.messages.Body.{Body}
@@ -51,10 +48,6 @@ use Rattle.cx_rules.specs.declared.requests.Taken.TheVariants as taken
 use Rattle.cx_rules.specs.declared.requests.Waiting.{Waiting}
 use Rattle.cx_rules.specs.declared.requests.Want.{Want}
 use Rattle.cx_rules.specs.declared.requests.Want.TheVariants as want
-use Rattle.cx_steps.specs.declared.events.Command.{Command}
-use Rattle.cx_steps.specs.declared.events.Command.TheVariants as command
-use Rattle.cx_steps.specs.declared.events.Peer.{Peer}
-use Rattle.cx_steps.specs.declared.events.Peer.TheVariants as peer
 use Rattle.cx_steps.specs.declared.seals.SealEntry.{SealEntry}
 use Rattle.cx_sealed.specs.Records.{rotating_reply_layout}
 use Rattle.cx_sealed.specs.declared.rotating_reply.RotatingReply.{RotatingReply}
@@ -66,10 +59,8 @@ use Rattle.cx_wire.specs.declared.bodies.Request.TheVariants as asked
 use Rattle.cx_wire.specs.Logins.{authenticate_layout, login_done_layout, server_challenge_layout}
 use Rattle.cx_wire.specs.declared.logins.LoginDone.{LoginDone}
 use Rattle.cx_wire.specs.declared.logins.ServerChallenge.{ServerChallenge}
-use Rattle.cx_laws_keys.proofs.Journal.{IsNotIssued, IsOfLogin}
-use Rattle.cx_laws_keys.proofs.Lists.{all-map}
+use Rattle.cx_laws_keys.proofs.Journal.{IsOfLogin}
 use Rattle.cx_laws_keys.proofs.Viewing.{ShowsAlong, viewed-own}
-use Rattle.cx_laws_keys.specs.LooksLast.{nothing_viewed}
 use Rattle.cx_laws_login.proofs.Proving.{RowOf, by-front}
 
 -- it refuses something, which is no ticket; it was told generations; or it begins anew
@@ -78,23 +69,6 @@ IsOfAsker (journal.Refused r) = IsOfLogin r.reason
 IsOfAsker (journal.Fetched f) = Unit {0}
 IsOfAsker (journal.Restarted at) = Unit {0}
 IsOfAsker _ = ⊥
-
--- none of these issues a ticket
-asker-not_issued : (e : Entry) → IsOfAsker e → IsNotIssued e
-asker-not_issued (journal.Issued t) h = h
-asker-not_issued (journal.Refused r) h = tt
-asker-not_issued (journal.Fetched f) h = tt
-asker-not_issued (journal.Restarted at) h = tt
-asker-not_issued (journal.Saved x) h = tt
-asker-not_issued (journal.Looked x) h = tt
-asker-not_issued (journal.Admitted x) h = tt
-asker-not_issued (journal.Resumed x) h = tt
-asker-not_issued (journal.Sent x) h = tt
-asker-not_issued (journal.Handled x) h = tt
-asker-not_issued (journal.Answered x) h = tt
-asker-not_issued (journal.Ended x) h = tt
-asker-not_issued (journal.Broken x) h = tt
-asker-not_issued (journal.Leaked x) h = tt
 
 abbrev pub OfAsker : List Entry → Type 0
 OfAsker es = AllByRecursion IsOfAsker es
@@ -325,73 +299,3 @@ none-turned a (AwaitsIdent s session) =
 none-turned a (Open s r) =
     by-front (RowOfAsker a.own) (λ (link, f, keys) opened. with_opened opened (on_open Open (at a link) (under s keys) r f)) (secure_next s.keys a.link)
     (λ (link, f, keys) opened. none-behind a.own opened (on_open Open (at a link) (under s keys) r f) (none-open (at a link) (under s keys) r f))
-
--- ---- a step of a client
-
--- so of a step of a client
-pub record StepOfAsker (asker : Asker) (o : Outcome ClientNode) : Type 0 where
-  pub enters : OfAsker o.out.entries
-  pub shows : ShowsAlong asker.name asker.view o.out.entries o.state.own.asker.view
-
-none-turns : (c : ClientNode) (a : Arrival Client Stage) (turned : Turned Asker Stage) → a.own.asker.view ≡ c.own.asker.view → RowOf (RowOfAsker c.own.asker) turned
-    → StepOfAsker c.own.asker (turns c a (lifted_turn (with_asker c.own) turned))
-none-turns c a Waits same h = record { enters = tt; shows = refl }
-none-turns c a (Refuses why opened) same h = record { enters = (tt, tt); shows = (tt, sym same) }
-none-turns c a (Handles row) same h = record { enters = h.enters; shows = h.shows }
-
-none-turn : (c : ClientNode) (reading : ℕ) (block : List ℕ) (link : Option (Link Stage)) → StepOfAsker c.own.asker (turn c reading block link)
-none-turn c reading block None = record { enters = tt; shows = refl }
-none-turn c reading block (Some link) =
-    none-turns c (arrival (me c.own) c.own link reading block) (turned_at (arrival (me c.own) c.own.asker link reading block) link.stage) refl
-    (none-turned (arrival (me c.own) c.own.asker link reading block) link.stage)
-
-none-opens : (c : ClientNode) (reading : ℕ) (block : List ℕ) (number : ℕ) (to : Option Peer) → StepOfAsker c.own.asker (opens c reading block number to)
-none-opens c reading block number None = record { enters = tt; shows = refl }
-none-opens c reading block number (Some (peer.Daemon daemon)) = record { enters = tt; shows = refl }
-none-opens c reading block number (Some peer.Monitor) = record { enters = tt; shows = refl }
-
-none-fed : (c : ClientNode) (bytes : List ℕ) (link : Option (Link Stage)) → StepOfAsker c.own.asker (fed c bytes link)
-none-fed c bytes None = record { enters = tt; shows = refl }
-none-fed c bytes (Some link) = record { enters = tt; shows = refl }
-
-none-loses : (c : ClientNode) (link : Option (Link Stage)) → StepOfAsker c.own.asker (loses c link)
-none-loses c None = record { enters = tt; shows = refl }
-none-loses c (Some link) = record { enters = by_test (is_open link.stage); shows = by_view (is_open link.stage) }
-  where
-    by_test : (t : Bool) → OfAsker (if t then [] else refused_entry (me c.own) link.number reason.Lost ∷ [])
-    by_test true = tt
-    by_test false = (tt, tt)
-
-    by_view : (t : Bool) → ShowsAlong c.own.asker.name c.own.asker.view (if t then [] else refused_entry (me c.own) link.number reason.Lost ∷ []) c.own.asker.view
-    by_view true = refl
-    by_view false = (tt, refl)
-
-none-renews : (c : ClientNode) (services reading : ℕ) (block : List ℕ) (found : Option (Link Stage × (Secured × Requests))) → StepOfAsker c.own.asker (renews_on c services reading block found)
-none-renews c services reading block None = record { enters = (tt, tt); shows = (tt, refl) }
-none-renews c services reading block (Some (link, (s, r))) =
-    let h = none-sends (arrival (me c.own) c.own.asker link reading block) s r want.Tickets (sealed_request s.keys r (asked.Tickets services))
-    (sealed-of_login s.keys r (asked.Tickets services)) in
-    record { enters = h.enters; shows = h.shows }
-
-none-submits : (c : ClientNode) (reading : ℕ) (block : List ℕ) (said : Command) → StepOfAsker c.own.asker (submits c reading block said)
-none-submits c reading block (command.Login services) = record { enters = tt; shows = refl }
-none-submits c reading block (command.Renew services) = none-renews c services reading block (first_open kept_open c.links)
-none-submits c reading block command.Fetch = record { enters = tt; shows = refl }
-none-submits c reading block (command.Connect daemon lossy) = record { enters = tt; shows = refl }
-none-submits c reading block (command.Send daemon operation) = record { enters = tt; shows = refl }
-none-submits c reading block (command.Drop session) = record { enters = tt; shows = refl }
-
-pub client-enters : (c : ClientNode) (input : Input) (reading : ℕ) (block : List ℕ) → StepOfAsker c.own.asker (client_rule c input reading block)
-client-enters c (Opened number to) reading block = none-opens c reading block number to
-client-enters c (NoLink to) reading block = record { enters = (tt, tt); shows = (tt, refl) }
-client-enters c (Bytes number bytes) reading block = none-fed c bytes (link_of number c.links)
-client-enters c (Turn number) reading block = none-turn c reading block (link_of number c.links)
-client-enters c (Gone number) reading block = none-loses c (link_of number c.links)
-client-enters c (Submit said) reading block = none-submits c reading block said
-client-enters c Restart reading block = record { enters = (tt, tt); shows = (refl, viewed-own c.own.asker.name c.own.asker.view nothing_viewed) }
-client-enters c (Look view) reading block = record { enters = tt; shows = refl }
-client-enters c Tick reading block = record { enters = tt; shows = refl }
-
-pub client-none : (c : ClientNode) (input : Input) (reading : ℕ) (block : List ℕ) → AllByRecursion IsNotIssued (client_rule c input reading block).out.entries
-client-none c input reading block =
-    all-map IsOfAsker IsNotIssued asker-not_issued (client_rule c input reading block).out.entries (client-enters c input reading block).enters

@@ -14,13 +14,11 @@ use Rattle.cx_line_words.specs.declared.choices.LeftState.{LeftState}
 use Rattle.cx_line_words.specs.declared.choices.LeftState.TheVariants as left
 use Rattle.cx_rotate.specs.declared.states.KeptState.{KeptState}
 use Rattle.cx_laws_authorize.specs.cx_rules_session.specs.ClientRule.{WholeClientNode, whole_client_rule}
-use Rattle.cx_laws_authorize.specs.cx_rules.specs.Links.{Link}
 use Rattle.cx_laws_authorize.specs.cx_rules.specs.Monitor.{MonitorNode}
 use Rattle.cx_laws_authorize.specs.cx_rules.specs.MonitorRule.{monitor_rule}
 use Rattle.cx_laws_authorize.specs.cx_rules.specs.Rows.{Outcome}
 use Rattle.cx_laws_authorize.specs.cx_run.specs.Happenings.{Entered, Happening, Nodes, Stepped, entered_by, failed_out, is_of, journal_from, left_as, monitor_steps, seals_from, stays, steps, steps_of, EntityNode, OfClient, OfDaemon, entity_of, entity_steps, with_entity}
 use Rattle.cx_steps.specs.Nothing.{nothing}
-use Rattle.cx_steps.specs.declared.events.Command.TheVariants as command
 use Rattle.cx_steps.specs.Onto.{EachOnto}
 use Rattle.cx_steps.specs.declared.seals.Logged.{Logged}
 use Rattle.cx_laws_keys.proofs.Journal.{After, EntryLaw, entered}
@@ -30,7 +28,6 @@ use Rattle.cx_laws_keys.proofs.Premises.{AreGranted, IsGranted, behind, granted-
 use Rattle.cx_laws_keys.proofs.Uses.{Grows, Uses, WholeRun, grows-from, grows-saved, grows-then}
 use Rattle.cx_laws_keys.proofs.Uses.{stays as same_uses}
 use Rattle.cx_laws_chain.specs.cx_laws_calling.proofs.Between.{ClientOk, client-grows, client-steps}
-use Rattle.cx_laws_authorize.specs.cx_run.proofs.OpensMonitor.{unvisited-opens}
 use Rattle.cx_laws_authorize.specs.cx_run.specs.Calling.{IsNoCall}
 use Rattle.cx_laws_authorize.specs.cx_laws_login.proofs.Entering.{within-all}
 use Rattle.cx_laws_authorize.specs.cx_laws_login.proofs.Facts.{OwnOk, own-grows, Owner, AskerKnown, known-grows}
@@ -40,8 +37,9 @@ use Rattle.cx_laws_authorize.specs.cx_laws_login.proofs.MonitorStep.{MonitorOk, 
 use Rattle.cx_laws_authorize.specs.cx_laws_login.proofs.Rows.{NodeOk, links-grow}
 use Rattle.cx_laws_run.proofs.Journals.{behind-append}
 use Rattle.cx_laws_run.proofs.Saves.{inv-failed, thick}
+use Rattle.cx_laws_run.proofs.Unvisited.{unvisited-calls, unvisited-guest}
 use Rattle.cx_laws_authorize.specs.cx_run.proofs.DaemonNamed.{daemon-named}
-use Rattle.cx_laws_authorize.specs.cx_rules_session.specs.DaemonRule.{DaemonNode, DaemonStage, DaemonState, daemon_step}
+use Rattle.cx_laws_authorize.specs.cx_rules_session.specs.DaemonRule.{DaemonNode, DaemonState, daemon_step}
 use Rattle.cx_laws_authorize.proofs.Backing.{IsGood, backing-grows, AllGood}
 use Rattle.cx_laws_authorize.specs.Coming.{IsNoGuest}
 use Rattle.cx_laws_authorize.proofs.DaemonRows.{DaemonHas, LinksHave, daemon_links-grow}
@@ -52,7 +50,6 @@ use Rattle.std.proofs.lemmas.List.Elements.{Contains-append_cases}
 use Rattle.cx_base.specs.declared.kinds.EntityType.{EntityType}
 use Rattle.cx_rotate.specs.declared.generations.Generation.{Generation}
 use Rattle.cx_laws_authorize.specs.cx_run.specs.Visits.{IsNoLook, IsUnvisited}
-use Rattle.cx_laws_authorize.specs.cx_rules.specs.Inputs.{Input, Opened, NoLink, Bytes, Turn, Gone, Look, Tick, Submit, Restart}
 
 -- of a daemon: so also the keys of its guests' links, and that the authority of each has its ticket
 pub record DaemonOk (run : WholeRun) (us : Uses) (J : List Entry) (d : DaemonNode) : Type 0 where
@@ -98,24 +95,6 @@ replaced run us J name entity (e ∷ es) ok h = (by_test (is_of name e), replace
     by_test false = h.0
 
 -- ---- events that may happen
-
--- an entity to which no guest comes
-unvisited-guest : (name : Name) (input : Input) → IsUnvisited (node.Entity name) input → IsNoGuest input
-unvisited-guest name (Opened number None) h = absurd h
-unvisited-guest name (Opened number (Some to)) h = tt
-unvisited-guest name (NoLink to) h = tt
-unvisited-guest name (Bytes number bytes) h = tt
-unvisited-guest name (Turn number) h = tt
-unvisited-guest name (Gone number) h = tt
-unvisited-guest name (Look view) h = tt
-unvisited-guest name Tick h = tt
-unvisited-guest name (Submit (command.Drop session)) h = absurd h
-unvisited-guest name (Submit (command.Login services)) h = tt
-unvisited-guest name (Submit (command.Renew services)) h = tt
-unvisited-guest name (Submit command.Fetch) h = tt
-unvisited-guest name (Submit (command.Connect daemon lossy)) h = absurd h
-unvisited-guest name (Submit (command.Send daemon operation)) h = tt
-unvisited-guest name Restart h = tt
 
 -- what is so of an event of the run: what comes; the state that is saved behind it is one that was saved in the run; and its tickets are good, where that
 -- is known. No daemon is told a view but by a reply
@@ -236,7 +215,7 @@ module _ (run : WholeRun) (whole : List Logged) (us : Uses) (log : List Logged) 
   entity-after h name None is i ok drawn looks comes good g = nothing-after (node.Entity name) h.line i ok
   entity-after h name (Some (OfClient c)) is i ok drawn looks comes good g =
       client-after h name c (found_all (EntityOk run us J) (is_of name) nodes.entities (OfClient c) ok.entities is)
-      (same_name_is c.own.asker.name name (found_passes (is_of name) nodes.entities (OfClient c) is)) i ok (λ none. unvisited-opens (node.Entity name) h.input (comes none)) g
+      (same_name_is c.own.asker.name name (found_passes (is_of name) nodes.entities (OfClient c) is)) i ok (λ none. unvisited-calls (node.Entity name) h.input (comes none)) g
   entity-after h name (Some (OfDaemon d)) is i ok drawn looks comes good g =
       daemon-after_step h name d (found_all (EntityOk run us J) (is_of name) nodes.entities (OfDaemon d) ok.entities is)
       (same_name_is d.node.own.asker.name name (found_passes (is_of name) nodes.entities (OfDaemon d) is)) i ok drawn looks (λ none. unvisited-guest name h.input (comes none)) good g

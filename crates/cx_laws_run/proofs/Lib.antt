@@ -1,5 +1,6 @@
 pub mod Journals
 pub mod Saves
+pub mod Unvisited
 pub mod Events
 pub mod Opening
 pub mod Draws

@@ -1,6 +1,6 @@
 //! Laws over every run.
 
-ghost use Rattle.std.specs.Prelude.{◌≡◌, ℕ, Bool, false, List, None};
+ghost use Rattle.std.specs.Prelude.{ℕ, Bool, List, None};
 ghost use Rattle.cx_base.specs.declared.kinds.Access.{Access};
 ghost use Rattle.cx_desk.specs.Handlers.{Handlers};
 ghost use Rattle.cx_laws_chain.specs.Chain.{KeepsGenerations};
@@ -12,7 +12,7 @@ ghost use Rattle.cx_lines.specs.declared.lines.Numbered.{Numbered};
 ghost use Rattle.cx_laws_authorize.specs.cx_run.specs.Happenings.{Happening};
 ghost use Rattle.cx_laws_authorize.specs.cx_run.specs.Opening.{Setup, leaked_of};
 ghost use Rattle.cx_laws_authorize.specs.cx_run.specs.Points.{journal_since, log_since, points};
-ghost use Rattle.cx_laws_authorize.specs.cx_run.specs.Visits.{AreUntold, AreUnvisited, has_session_line};
+ghost use Rattle.cx_laws_authorize.specs.cx_run.specs.Visits.{AreUntold, AreUnvisited};
 ghost use Rattle.cx_laws_authorize.specs.cx_run.specs.Runs.{IsFoundOf, run_journal, setup_of, trace};
 ghost use Rattle.cx_laws_authorize.specs.cx_run.specs.Sending.{AreWritten};
 ghost use Rattle.cx_schedule.specs.Files.{Lines};
@@ -47,9 +47,6 @@ pub fn journal_laws()
     // So of the run of every schedule in which no breach of the two premises is found.
     ensures schedules { (handlers : Handlers) (bytes : List ℕ) (script : List Numbered) → Lines bytes script → IsFoundOf handlers script None
         → KeepsTickets (run_journal handlers script) }
-    // All laws of each of these in which no client is told to connect and no session is dropped.
-    ensures unvisited { (handlers : Handlers) (has_handler : Access → Bool) (bytes : List ℕ) (script : List Numbered) → Lines bytes script
-        → has_session_line script ≡ false → IsFoundOf handlers script None → KeepsLaws has_handler (run_journal handlers script) }
 {}
 
 /// There, too, the proof that was found equal on the link on which a ticket was issued was signed before by the entity's own node, where the entity isn't

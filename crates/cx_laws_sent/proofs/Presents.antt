@@ -20,7 +20,7 @@ use Rattle.cx_laws_keys.proofs.Premises.{AreGranted}
 use Rattle.cx_laws_keys.proofs.Uses.{Login, Means, Ticketed, Uses, WholeRun}
 use Rattle.cx_laws_run.specs.cx_laws_chain.specs.cx_laws_calling.proofs.CallSeals.{reply-ties}
 use Rattle.cx_laws_run.specs.cx_laws_chain.specs.cx_laws_calling.proofs.Sessions.{CallKeys, ClientStageOk, HeldOk, IsSession, found-ticket, same-entity}
-use Rattle.cx_laws_run.specs.cx_laws_login.proofs.ClientStep as client_step
+use Rattle.cx_laws_run.specs.cx_laws_login.proofs.AskerTurns as asker_turns
 use Rattle.cx_laws_run.specs.cx_laws_login.proofs.AskerRows.{NeverExcepted}
 use Rattle.cx_laws_run.specs.cx_laws_login.proofs.Entering.{within-all}
 use Rattle.cx_laws_queues.proofs.Calls.{Held, OpensFor, call-held}
@@ -201,7 +201,7 @@ module _ (run : WholeRun) (whole : List Logged) (us vs : Uses) (told : Told) (lo
       by_use (inr (service, m)) = inr (service, b.grows.means key (Ticketed name service) (subst (λ (whose : Name). Means us key (Ticketed whose service)) same m))
 
   never : NeverExcepted run whole n us name
-  never = client_step.asker-free run whole n line us log J J c.own.asker refl b.inv (record { known = b.ok.known; quiet = λ s has. has; count = refl })
+  never = asker_turns.asker-free run whole n line us log J J c.own.asker refl b.inv (record { known = b.ok.known; quiet = λ s has. has; count = refl })
 
   replies : (key : List ℕ) → IsSession us n key → (bytes : List ℕ) (x : AuthorizeReply) → (reply_in key bytes).value ≡ Some x
       → AreGranted run.leaked whole n line log (reply_in key bytes).seals → HasReply us name x

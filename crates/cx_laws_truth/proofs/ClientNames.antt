@@ -17,7 +17,7 @@ use Rattle.cx_laws_keys.proofs.Premises.{AreGranted}
 use Rattle.cx_laws_keys.proofs.Uses.{Grows, Means, Use, Uses, WholeRun}
 use Rattle.cx_laws_sent.specs.cx_laws_links.proofs.Known.{IsOfSession, StageTold, Told}
 use Rattle.cx_laws_sent.specs.cx_laws_login.proofs.AskerRows.{NeverExcepted}
-use Rattle.cx_laws_sent.specs.cx_laws_login.proofs.ClientStep as client_step
+use Rattle.cx_laws_sent.specs.cx_laws_login.proofs.AskerTurns as asker_turns
 use Rattle.cx_laws_sent.specs.cx_laws_login.proofs.Facts.{AskerStageOk, HasMonitorKey, monitor_key-grows}
 use Rattle.cx_laws_sent.specs.cx_laws_login.proofs.Rows.{all-filter}
 use Rattle.cx_laws_sent.specs.cx_laws_series.proofs.Frames.{frame-sealed}
@@ -117,7 +117,7 @@ module _ (run : WholeRun) (whole : List Logged) (us vs : Uses) (told : Told) (lo
   Names o = Grants o.out.seals → StepNamed vs o
 
   free : NeverExcepted run whole n us c.own.asker.name
-  free = client_step.asker-free run whole n line us log J J c.own.asker refl i (record { known = ok.known; quiet = λ s has. has; count = refl })
+  free = asker_turns.asker-free run whole n line us log J J c.own.asker refl i (record { known = ok.known; quiet = λ s has. has; count = refl })
 
   links : LinksNamed vs c.links
   links = links-grow us vs f c.links h.links

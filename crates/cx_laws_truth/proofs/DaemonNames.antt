@@ -22,7 +22,7 @@ use Rattle.cx_laws_keys.proofs.Uses.{AtDaemon, Connected, Grows, Means, Ticketed
 use Rattle.cx_laws_sent.specs.cx_laws_links.proofs.Known.{Told}
 use Rattle.cx_laws_sent.specs.cx_laws_links.proofs.Written.{all-behind}
 use Rattle.cx_laws_sent.specs.cx_laws_login.proofs.AskerRows.{NeverExcepted}
-use Rattle.cx_laws_sent.specs.cx_laws_login.proofs.ClientStep as client_step
+use Rattle.cx_laws_sent.specs.cx_laws_login.proofs.AskerTurns as asker_turns
 use Rattle.cx_laws_sent.specs.cx_laws_login.proofs.Facts.{AskerStageOk, HasMonitorKey, monitor_key-grows}
 use Rattle.cx_laws_sent.specs.cx_laws_run.proofs.Events.{DaemonOk}
 use Rattle.cx_laws_sent.specs.cx_laws_run.specs.cx_laws_authorize.proofs.DaemonRows.{DaemonStageOk, daemon_stage-grows}
@@ -254,7 +254,7 @@ module _ (run : WholeRun) (whole : List Logged) (us vs : Uses) (log : List Logge
       → StepRead vs d.own.asker.name.kind o
 
   free : NeverExcepted run whole n us d.own.asker.name
-  free = client_step.asker-free run whole n line us log J J d.own.asker refl i (record { known = ok.known; quiet = λ s has. has; count = refl })
+  free = asker_turns.asker-free run whole n line us log J J d.own.asker refl i (record { known = ok.known; quiet = λ s has. has; count = refl })
 
   fed-read : (l : Link DaemonStage) → IsFed d.links l → LinkRead kind l
   fed-read l (inl (new, none)) = by_stage l.stage new

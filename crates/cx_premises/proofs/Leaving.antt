@@ -52,8 +52,8 @@ key_in _ = None
 
 -- whether a draw leaves such a fact
 abbrev pub is_drawn : Fact → Bool
-is_drawn (fact.Sealed key content) = false
-is_drawn (fact.Signed key content) = false
+is_drawn (fact.Sealed content key) = false
+is_drawn (fact.Signed content key) = false
 is_drawn _ = true
 
 key_is_drawn : (leaks : Bool) (key : List ℕ) → is_drawn (key_fact leaks key) ≡ true
@@ -96,7 +96,7 @@ left_seals leaked mark (entry.Drawn other) e = undrawn leaked other (sealed_fact
 left_seals leaked mark _ e = cc
 
 pub seals_left : (leaked : List Name) (mark : SealMark) (e : SealEntry) → Seals mark e → fact_of leaked e ≡ Some (sealed_fact mark)
-seals_left leaked mark (entry.Sealed sealed) same = ap (λ key. Some (fact.Sealed key sealed.content)) same.key ∙ ap (λ content. Some (fact.Sealed mark.key content)) same.content
+seals_left leaked mark (entry.Sealed sealed) same = ap (λ key. Some (fact.Sealed sealed.content key)) same.key ∙ ap (λ content. Some (fact.Sealed content mark.key)) same.content
 seals_left leaked mark _ none = absurd none
 
 pub left_signs : (leaked : List Name) (mark : SealMark) (e : SealEntry) → fact_of leaked e ≡ Some (signed_fact mark) → Signs mark e
@@ -105,7 +105,7 @@ left_signs leaked mark (entry.Drawn other) e = undrawn leaked other (signed_fact
 left_signs leaked mark _ e = cc
 
 pub signs_left : (leaked : List Name) (mark : SealMark) (e : SealEntry) → Signs mark e → fact_of leaked e ≡ Some (signed_fact mark)
-signs_left leaked mark (entry.Signed signed) same = ap (λ key. Some (fact.Signed key signed.content)) same.key ∙ ap (λ content. Some (fact.Signed mark.key content)) same.content
+signs_left leaked mark (entry.Signed signed) same = ap (λ key. Some (fact.Signed signed.content key)) same.key ∙ ap (λ content. Some (fact.Signed content mark.key)) same.content
 signs_left leaked mark _ none = absurd none
 
 -- ---- leaked keys

@@ -31,8 +31,8 @@ both_parts made k l x y e =
     ap (λ a. made a x) keys ∙ ap (λ b. made l b) contents
 
 exact : (a b : Fact) → order a b ≡ Equal → a ≡ b
-exact (fact.Sealed k x) (fact.Sealed l y) e = both_parts fact.Sealed k l x y (both_equal (slice_cmp nat_cmp k l) (slice_cmp nat_cmp x y) e)
-exact (fact.Signed k x) (fact.Signed l y) e = both_parts fact.Signed k l x y (both_equal (slice_cmp nat_cmp k l) (slice_cmp nat_cmp x y) e)
+exact (fact.Sealed x k) (fact.Sealed y l) e = both_parts fact.Sealed x y k l (both_equal (slice_cmp nat_cmp x y) (slice_cmp nat_cmp k l) e)
+exact (fact.Signed x k) (fact.Signed y l) e = both_parts fact.Signed x y k l (both_equal (slice_cmp nat_cmp x y) (slice_cmp nat_cmp k l) e)
 exact (fact.Key k) (fact.Key l) e = ap fact.Key (exact_bytes k l e)
 exact (fact.LeakedKey k) (fact.LeakedKey l) e = ap fact.LeakedKey (exact_bytes k l e)
 exact (fact.Challenge x) (fact.Challenge y) e = ap fact.Challenge (exact_unsigned x y e)

@@ -147,11 +147,11 @@ module _ (leaked : List Name) where
       let same : left ≡ draw_fact leaked other = cc in
       twins_repeat other mark (subst (λ f. AreTwins f (draw_fact leaked mark)) same twins)
   twin_in mark left (entry.Sealed m) twins is =
-      let same : left ≡ fact.Sealed m.key m.content = cc in
-      no_twin mark (fact.Sealed m.key m.content) refl refl (subst (λ f. AreTwins f (draw_fact leaked mark)) same twins)
+      let same : left ≡ fact.Sealed m.content m.key = cc in
+      no_twin mark (fact.Sealed m.content m.key) refl refl (subst (λ f. AreTwins f (draw_fact leaked mark)) same twins)
   twin_in mark left (entry.Signed m) twins is =
-      let same : left ≡ fact.Signed m.key m.content = cc in
-      no_twin mark (fact.Signed m.key m.content) refl refl (subst (λ f. AreTwins f (draw_fact leaked mark)) same twins)
+      let same : left ≡ fact.Signed m.content m.key = cc in
+      no_twin mark (fact.Signed m.content m.key) refl refl (subst (λ f. AreTwins f (draw_fact leaked mark)) same twins)
   twin_in mark left _ twins is = cc
 
   left_twin : (mark : DrawMark) (e : SealEntry) → RepeatsIn mark e → (left : Fact) × (fact_of leaked e ≡ Some left) × AreTwins left (draw_fact leaked mark)

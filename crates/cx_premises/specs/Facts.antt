@@ -16,10 +16,10 @@ use Rattle.cx_steps.specs.declared.seals.SealEntry.TheVariants as entry
 use Rattle.cx_steps.specs.declared.seals.SealMark.{SealMark}
 
 abbrev pub sealed_fact : SealMark → Fact
-sealed_fact mark = fact.Sealed mark.key mark.content
+sealed_fact mark = fact.Sealed mark.content mark.key
 
 abbrev pub signed_fact : SealMark → Fact
-signed_fact mark = fact.Signed mark.key mark.content
+signed_fact mark = fact.Signed mark.content mark.key
 
 -- a key that was drawn, for a leaked client or not
 abbrev pub key_fact : Bool → List ℕ → Fact

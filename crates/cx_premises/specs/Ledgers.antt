@@ -7,6 +7,7 @@ use Rattle.cx_journal.specs.declared.premises.Premise.{Premise}
 use Rattle.cx_journal.specs.declared.premises.Premise.TheVariants as premise
 use Rattle.cx_premises.specs.Facts.{Adds, AreLeft, draw_fact, is_kept, is_repeated, sealed_fact, signed_fact}
 use Rattle.cx_premises.specs.Findings.{AreFound, demanded, drawn}
+use Rattle.cx_premises.specs.declared.ledger.Lent.{Lent}
 use Rattle.cx_premises.specs.declared.facts.Fact.{Fact}
 use Rattle.cx_premises.specs.declared.facts.Fact.TheVariants as fact
 use Rattle.cx_premises.specs.declared.findings.Findings.{Findings}
@@ -55,6 +56,10 @@ pub record Finds (old new : Ledger) (findings : Findings) : Type 0 where
   pub names : new.leaked ≡ old.leaked
   pub facts : IsUnchanged old.kept.facts new.kept.facts
   pub found : new.findings ≡ findings
+
+-- an entry that is lent
+abbrev pub logged : Lent → Logged
+logged at = record { node = at.node.now; line = at.line; entry = at.seal.now }
 
 -- the ledger behind an entry
 abbrev pub EntersAt : Ledger → Ledger → Logged → SealEntry → Type 0

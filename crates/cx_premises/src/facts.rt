@@ -11,8 +11,9 @@ use std::alloc::{AllocError, Global};
 /// What an entry of a log leaves behind.
 #[derive(PartialEq, Eq, PartialOrd, Ord, Drop)]
 pub enum Fact {
-    Sealed { key: [u8; 16], content: Blob },
-    Signed { key: [u8; 16], content: Blob },
+    /// Contents come first, since they differ sooner: of one connection each begins with its own nonce, and all have one key.
+    Sealed { content: Blob, key: [u8; 16] },
+    Signed { content: Blob, key: [u8; 16] },
     /// A key was drawn, and not for a leaked client.
     Key([u8; 16]),
     /// A key was drawn for a leaked client.
@@ -29,8 +30,8 @@ impl Fact {
     {
         let content = mark.content.copy(alloc)?;
         Ok(Fact::Sealed {
-            key: mark.key,
             content,
+            key: mark.key,
         })
     }
 
@@ -40,8 +41,8 @@ impl Fact {
     {
         let content = mark.content.copy(alloc)?;
         Ok(Fact::Signed {
-            key: mark.key,
             content,
+            key: mark.key,
         })
     }
 

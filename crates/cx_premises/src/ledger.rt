@@ -4,7 +4,7 @@ ghost use Rattle.std.specs.Prelude.{◌≡◌, List, [], ◌∷◌, ◌++◌, If
 ghost use Rattle.std.specs.Option.{option_copied};
 ghost use Rattle.cx_base.specs.Names.{Name};
 ghost use Rattle.cx_premises.specs.Facts.{draw_fact, sealed_fact, signed_fact};
-ghost use Rattle.cx_premises.specs.Ledgers.{Enters, Finds, StandsFor, Takes, breach_at, findings_at, findings_drawn};
+ghost use Rattle.cx_premises.specs.Ledgers.{Enters, Finds, StandsFor, Takes, breach_at, findings_at, findings_drawn, logged};
 ghost use Rattle.cx_steps.specs.Breach.{IsFound, drawn_kind, kind_of};
 ghost use Rattle.cx_steps.specs.Premises.{is_server};
 ghost use Rattle.cx_steps.specs.declared.seals.Logged.{Logged as Entry};
@@ -17,6 +17,14 @@ use cx_journal::{Broken, KeyKind, Premise};
 use cx_line_words::Names;
 use cx_steps::{DrawMark, Logged, SealEntry, SealMark};
 use std::alloc::{AllocError, Global};
+
+/// An entry of a log, lent: the node that logs it, the line, and what it logs.
+#[derive(Clone, Copy)]
+struct Lent<'a> {
+    node: &'a NodeName,
+    line: u32,
+    seal: &'a SealEntry,
+}
 
 /// What has to be known of a log so as to go on with it and to name its first breach: the log itself isn't kept.
 #[derive(Drop)]
@@ -47,14 +55,36 @@ impl Ledger {
         ensures ok { (leaked : List Name) (log : List Entry) → StandsFor self.old leaked log → OnOk result (StandsFor self.new leaked (log ++ at.now ∷ [])) }
         ensures err { (leaked : List Name) (log : List Entry) → StandsFor self.old leaked log → OnErr result (StandsFor self.new leaked log) }
     {
-        self.take(alloc, at)
+        self.enter_at(alloc, &at.node, at.line, &at.entry)
     }
 
-    fn take(&mut self, alloc: Global, at: &Logged) -> Result<(), AllocError>
-        ensures ok { OnOk result (Enters self.old self.new at.now) }
+    /// The next entry of the log, which a node logs at a line. Where memory is wanting, the ledger stands for the log as before.
+    pub fn enter_at(
+        &mut self,
+        alloc: Global,
+        node: &NodeName,
+        line: u32,
+        entry: &SealEntry,
+    ) -> Result<(), AllocError>
+        ensures ok { (leaked : List Name) (log : List Entry) → StandsFor self.old leaked log
+            → OnOk result (StandsFor self.new leaked (log ++ record { node = node.now; line = line; entry = entry.now } ∷ [])) }
+        ensures err { (leaked : List Name) (log : List Entry) → StandsFor self.old leaked log → OnErr result (StandsFor self.new leaked log) }
+    {
+        self.take(
+            alloc,
+            Lent {
+                node,
+                line,
+                seal: entry,
+            },
+        )
+    }
+
+    fn take(&mut self, alloc: Global, at: Lent<'_>) -> Result<(), AllocError>
+        ensures ok { OnOk result (Enters self.old self.new (logged at.entry)) }
         ensures err { OnErr result (Finds self.old self.new self.old.findings) }
     {
-        match &at.entry {
+        match at.seal {
             SealEntry::Sealed(mark) => {
                 let fact = Fact::sealed(alloc, mark)?;
                 self.kept.put(fact)
@@ -82,18 +112,18 @@ impl Ledger {
     fn demand(
         &mut self,
         alloc: Global,
-        at: &Logged,
+        at: Lent<'_>,
         mark: &SealMark,
         due: &Fact,
     ) -> Result<(), AllocError>
-        ensures ok { OnOk result (Finds self.old self.new (findings_at self.old at.now mark.now due.now)) }
+        ensures ok { OnOk result (Finds self.old self.new (findings_at self.old (logged at.entry) mark.now due.now)) }
         ensures err { OnErr result (Finds self.old self.new self.old.findings) }
     {
         if self.kept.has(due) {
             return Ok(());
         }
         let broken = breach_at(alloc, at, Premise::Sealing)?;
-        if !is_server(&at.node) {
+        if !is_server(at.node) {
             self.findings.close(broken);
             return Ok(());
         }
@@ -108,8 +138,8 @@ impl Ledger {
     }
 
     // Something was drawn, which leaves this fact.
-    fn draw(&mut self, alloc: Global, at: &Logged, fact: Fact) -> Result<(), AllocError>
-        ensures ok { OnOk result (Takes self.old self.new fact (findings_drawn self.old at.now fact)) }
+    fn draw(&mut self, alloc: Global, at: Lent<'_>, fact: Fact) -> Result<(), AllocError>
+        ensures ok { OnOk result (Takes self.old self.new fact (findings_drawn self.old (logged at.entry) fact)) }
         ensures err { OnErr result (Finds self.old self.new self.old.findings) }
     {
         if !self.kept.has_drawn(&fact) {
@@ -129,14 +159,14 @@ impl Ledger {
     }
 }
 
-fn breach_at(alloc: Global, at: &Logged, why: Premise) -> Result<Broken, AllocError>
-    ensures { IfOk result (λ broken. broken ≡ breach_at at.now why) }
+fn breach_at(alloc: Global, at: Lent<'_>, why: Premise) -> Result<Broken, AllocError>
+    ensures { IfOk result (λ broken. broken ≡ breach_at (logged at.entry) why) }
 {
     let node = at.node.copy(alloc)?;
     Ok(Broken {
         why,
         node,
-        kind: kind_of(&at.entry),
+        kind: kind_of(at.seal),
         line: at.line,
     })
 }

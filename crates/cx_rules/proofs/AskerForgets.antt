@@ -1,7 +1,6 @@
 -- What may be forgotten of the link of one that logs in, and its rows.
-use Rattle.std.proofs.Common.{◌≡◌, ℕ, ◌==◌, ◌++◌, Bool, true, false, List, [], ◌∷◌, map, Option, Some, None, Result, Ok, Err, refl}
+use Rattle.std.proofs.Common.{◌≡◌, ℕ, ◌==◌, ◌++◌, Bool, true, false, List, [], ◌∷◌, Option, Some, None, Result, Ok, Err, refl}
 use Rattle.std.specs.Prelude.{not, if◌then◌else◌}
-use Rattle.std.specs.Option.{option_map}
 use Rattle.cx_base.specs.Names.{is_daemon_type}
 use Rattle.cx_control.specs.Auth.{auth_done_layout, auth_reply_more_layout, auth_signature_layout}
 use Rattle.cx_control.specs.BadMethod.{bad_method_layout}
@@ -32,7 +31,7 @@ use Rattle.cx_rules.specs.Abridged.{IsWithin, abridged_asker_at, abridged_asker_
 use Rattle.cx_rules.specs.Connector.{AskerArrival, AskerRow, Login, Stage, AwaitsBanner, AwaitsHello, AwaitsChallenge, AwaitsDone, AwaitsSignature, AwaitsIdent, Open, client_ident, holding, identifies, login_request, on_bad_method, on_banner, on_challenge, on_done, on_hello, on_login_done, on_missing_features, on_opened, on_reply_more, on_signature, proves, signs, turned_at, while_challenged, while_identified, while_proved}
 use Rattle.cx_rules.specs.Greetings.{own_hello}
 use Rattle.cx_rules.specs.Holdings.{held_login}
-use Rattle.cx_rules.specs.Links.{Link, link_of, put_link, without_link}
+use Rattle.cx_rules.specs.Links.{Link}
 use Rattle.cx_rules.specs.Payloads.{due, payload, whole}
 use Rattle.cx_rules.specs.Requests.{Requests, asks_rotating, behind_reply, behind_request, fetched_entry, having, no_requests, on_open, on_reply, on_server_ident, opens_to, sealed_request, sends_request, taken, takes, with_tickets, with_view}
 use Rattle.cx_rules.specs.Rows.{at, goes_on, refuses}
@@ -41,7 +40,7 @@ use Rattle.cx_rules.specs.declared.requests.Taken.{Taken}
 use Rattle.cx_rules.specs.declared.requests.Taken.TheVariants.{Refuses, Holds, Views}
 use Rattle.cx_rules.specs.declared.requests.Want.{Want}
 use Rattle.cx_rules.specs.declared.requests.Want.TheVariants.{Rotating}
-use Rattle.cx_rules.proofs.Abridging.{Alike, Forgets, link_of_map, put_link_map, without_link_map}
+use Rattle.cx_rules.proofs.Abridging.{Alike, Forgets}
 use Rattle.cx_rules.proofs.AlikeRows.{RowWithin, SameAhead, SameTurn, banner-turn, cut-fed, entered-alike, goes-alike, plain-turn, plain_sent-within, refuses-alike, same-turn, secure-alike, secure-turn, upkeep-alike}
 
 -- ---- a link
@@ -93,17 +92,6 @@ asker-forgets = record {
   sends = λ l bytes. sends-of l l.stage bytes;
   comes = λ l bytes w. comes-of l l.stage bytes w;
 }
-
--- ---- a table of them
-
-pub asker_link_of : (n : ℕ) (links : List (Link Stage)) → link_of n (map abridged_asker_link links) ≡ option_map abridged_asker_link (link_of n links)
-asker_link_of n links = link_of_map abridged_asker_link asker-forgets.number n links
-
-pub asker_put_link : (l : Link Stage) (links : List (Link Stage)) → put_link (abridged_asker_link l) (map abridged_asker_link links) ≡ map abridged_asker_link (put_link l links)
-asker_put_link l links = put_link_map abridged_asker_link asker-forgets.number l links
-
-pub asker_without_link : (n : ℕ) (links : List (Link Stage)) → without_link n (map abridged_asker_link links) ≡ map abridged_asker_link (without_link n links)
-asker_without_link n links = without_link_map abridged_asker_link asker-forgets.number n links
 
 -- ---- rows with plain frames: their links are whole
 
@@ -183,7 +171,7 @@ opens-alike : (a : AskerArrival) (l : Link Stage) (s : Secured) (requests : Requ
 opens-alike a l s requests bytes seals e w =
     goes-alike abridged_asker_link a l (Open (unsigned s) requests) (Open s requests) (Open (unsigned s) requests) bytes seals e w (λ k. refl) (λ k. refl)
 
-pub request-alike : (a : AskerArrival) (l : Link Stage) (s : Secured) (requests : Requests) (want : Want) (sealed : Result SealedFrame Reason) → SameAhead l a.link → IsWithin a.link
+request-alike : (a : AskerArrival) (l : Link Stage) (s : Secured) (requests : Requests) (want : Want) (sealed : Result SealedFrame Reason) → SameAhead l a.link → IsWithin a.link
     → Alike abridged_asker_link (sends_request Open (at a l) (unsigned s) requests want sealed) (sends_request Open a s requests want sealed)
 request-alike a l s requests want (Ok sealed) e w = opens-alike a l (under s sealed.keys) (behind_request requests want) sealed.bytes sealed.seals e w
 request-alike a l s requests want (Err why) e w = refuses-alike abridged_asker_link a l why [] e.number

@@ -4,7 +4,6 @@ pub mod Affording
 pub mod AlikeRows
 pub mod AskerDrawing
 pub mod AskerForgets
-pub mod ClientForgets
 pub mod Drawing
 pub mod Fitting
 pub mod Granting

@@ -1,26 +1,18 @@
 -- The links that effects name, and what a step of the monitor comes to.
-use Rattle.std.proofs.Common.{◌≡◌, ℕ, ◌==◌, inl, inr, Bool, true, false, List, [], ◌∷◌, map, Option, Some, None, refl, ap, subst, eqb-true, eq-eqb}
-use Rattle.std.specs.Prelude.{IsSome, nat_le, length, if◌then◌else◌, IfSome}
+use Rattle.std.proofs.Common.{◌≡◌, ℕ, ◌==◌, inl, inr, Bool, true, false, List, [], ◌∷◌, Option, Some, None, refl, ap, subst, eqb-true}
+use Rattle.std.specs.Prelude.{IsSome, nat_le, length, if◌then◌else◌}
 use Rattle.std.specs.List.{AllByRecursion}
 use Rattle.cx_base.specs.declared.nodes.NodeName.TheVariants as node
 use Rattle.cx_journal.specs.declared.outcomes.Reason.TheVariants.{LinksFull}
 use Rattle.cx_steps.specs.declared.effects.Piece.{Piece}
-use Rattle.cx_steps.specs.declared.events.Command.{Command}
-use Rattle.cx_steps.specs.declared.events.Command.TheVariants as command
-use Rattle.cx_steps.specs.declared.events.Peer.{Peer}
-use Rattle.cx_steps.specs.declared.events.Peer.TheVariants as peer
 use Rattle.cx_rules.specs.Acceptor.{AwaitsBanner}
-use Rattle.cx_rules.specs.ClientRule.{ClientNode, client_rule, me, opens, submits, turn, with_asker, loses, renews_on}
-use Rattle.cx_rules.specs.Connector.{Stage, Open, kept_open, turned_at}
 use Rattle.cx_rules.specs.Inputs.{Input, Opened, NoLink, Bytes, Turn, Gone, Look, Tick, Submit, Restart}
 use Rattle.cx_rules.specs.Judged.{HearsFrame, IsJudged, IsThere, NamesLinks}
 use Rattle.cx_rules.specs.Links.{Link, link_of}
 use Rattle.cx_rules.specs.Monitor.{Monitor, MonitorArrival, MonitorNode, MonitorRow, MonitorStage}
 use Rattle.cx_rules.specs.MonitorRule.{monitor_rule, noted}
 use Rattle.cx_rules.specs.MonitorRule as monitor
-use Rattle.cx_rules.specs.Requests.{Requests, asks_tickets, first_open, open_or}
-use Rattle.cx_rules.specs.Secured.{Secured}
-use Rattle.cx_rules.specs.Rows.{Arrival, Node, Row, Turned, Waits, Refuses, Handles, arrival, carried_out, fed, goes_on, lifted, lifted_turn, new_link, piece, refuses, refuses_bytes, shuts, turns}
+use Rattle.cx_rules.specs.Rows.{Arrival, Node, Row, Turned, Waits, Refuses, Handles, arrival, carried_out, fed, goes_on, new_link, piece, refuses, refuses_bytes, shuts, turns}
 use Rattle.cx_rules.specs.Greetings.{own_banner}
 use Rattle.cx_rules.proofs.Granting.{Judged, Rated}
 use Rattle.cx_rules.proofs.MonitorRows.{TurnJudged, turned-judged}
@@ -41,26 +33,6 @@ module _ {Stage : Type 0} where
   -- a link that is found is found by its own number
   pub found-there : (n : ℕ) (links : List (Link Stage)) (l : Link Stage) → link_of n links ≡ Some l → IsSome (link_of l.number links)
   found-there n links l e = rw (found-number n links l e, e) refl
-
-  found-here : (x : Link Stage) (links : List (Link Stage)) → IsSome (link_of x.number (x ∷ links))
-  found-here x links = rw (eq-eqb x.number x.number refl) refl
-
-  found-later : (n : ℕ) (x : Link Stage) (links : List (Link Stage)) → IsSome (link_of n links) → IsSome (link_of n (x ∷ links))
-  found-later n x links h = by_test (x.number == n) refl
-    where
-      by_test : (t : Bool) → (x.number == n) ≡ t → IsSome (link_of n (x ∷ links))
-      by_test true t = rw t refl
-      by_test false t = rw t h
-
-weaker : {X : Type 0} (P Q : X → Type 0) (xs : List X) → ((x : X) → P x → Q x) → AllByRecursion P xs → AllByRecursion Q xs
-weaker P Q [] f h = tt
-weaker P Q (x ∷ xs) f h = (f x h.0, weaker P Q xs f h.1)
-
--- each live link is there
-pub each-there : {Stage : Type 0} (links : List (Link Stage)) → AllByRecursion (λ n. IsSome (link_of n links)) (map (λ (l : Link Stage). l.number) links)
-each-there [] = tt
-each-there (x ∷ links) =
-    (found-here x links, weaker (λ n. IsSome (link_of n links)) (λ n. IsSome (link_of n (x ∷ links))) (map (λ l. l.number) links) (λ n h. found-later n x links h) (each-there links))
 
 -- ---- rows that are carried out
 
@@ -169,58 +141,3 @@ monitor-judged m (Look view) reading draw = inl (record { entries = tt; seals = 
 monitor-judged m Tick reading draw = inl (record { entries = tt; seals = tt; save = refl; saved = refl })
 monitor-judged m (Submit command) reading draw = inl (record { entries = tt; seals = tt; save = refl; saved = refl })
 monitor-judged m Restart reading draw = inl (record { entries = (λ x. x, tt); seals = tt; save = refl; saved = refl })
-
--- ---- a client
-
-client-turn : (c : ClientNode) (n reading : ℕ) (draw : List ℕ) (found : Option (Link Stage)) → link_of n c.links ≡ found → NamesLinks c (Turn n) (turn c reading draw found).out
-client-turn c n reading draw None e = record { sends = tt; shuts = tt }
-client-turn c n reading draw (Some link) e =
-    names-turns c c (Turn n) (arrival (me c.own) c.own link reading draw)
-    (lifted_turn (with_asker c.own) (turned_at (arrival (me c.own) c.own.asker link reading draw) link.stage)) (found-there n c.links link e)
-
-client-opens : (c : ClientNode) (n reading : ℕ) (draw : List ℕ) (p : Option Peer) → NamesLinks c (Opened n p) (opens c reading draw n p).out
-client-opens c n reading draw None = record { sends = tt; shuts = tt }
-client-opens c n reading draw (Some (peer.Daemon daemon)) = record { sends = tt; shuts = tt }
-client-opens c n reading draw (Some peer.Monitor) = record { sends = names-piece c (Opened n (Some peer.Monitor)) n own_banner (inl refl); shuts = tt }
-
-found-open : (links : List (Link Stage)) → IfSome (first_open kept_open links) (λ (found : Link Stage × (Secured × Requests)). IsSome (link_of found.0.number links))
-found-open [] = tt
-found-open (l ∷ links) = by_kept (kept_open l.stage) (first_open kept_open links) (found-open links)
-  where
-    by_kept : (kept : Option (Secured × Requests)) (behind : Option (Link Stage × (Secured × Requests)))
-        → IfSome behind (λ (found : Link Stage × (Secured × Requests)). IsSome (link_of found.0.number links))
-        → IfSome (open_or l kept behind) (λ (found : Link Stage × (Secured × Requests)). IsSome (link_of found.0.number (l ∷ links)))
-    by_kept (Some pair) behind there = found-here l links
-    by_kept None None there = tt
-    by_kept None (Some found) there = found-later found.0.number l links there
-
-client-renews : (c : ClientNode) (services reading : ℕ) (draw : List ℕ) (found : Option (Link Stage × (Secured × Requests)))
-    → IfSome found (λ (f : Link Stage × (Secured × Requests)). IsSome (link_of f.0.number c.links))
-    → NamesLinks c (Submit (command.Renew services)) (renews_on c services reading draw found).out
-client-renews c services reading draw None there = record { sends = tt; shuts = tt }
-client-renews c services reading draw (Some (link, (s, requests))) there =
-    names-carried c c (Submit (command.Renew services)) link.number false
-    (lifted (with_asker c.own) (asks_tickets Open (arrival (me c.own) c.own.asker link reading draw) s requests services)) there
-
-client-submits : (c : ClientNode) (reading : ℕ) (draw : List ℕ) (command : Command) → NamesLinks c (Submit command) (submits c reading draw command).out
-client-submits c reading draw (command.Login services) = record { sends = tt; shuts = each-there c.links }
-client-submits c reading draw (command.Renew services) = client-renews c services reading draw (first_open kept_open c.links) (found-open c.links)
-client-submits c reading draw command.Fetch = record { sends = tt; shuts = tt }
-client-submits c reading draw (command.Connect daemon lossy) = record { sends = tt; shuts = tt }
-client-submits c reading draw (command.Send daemon operation) = record { sends = tt; shuts = tt }
-client-submits c reading draw (command.Drop session) = record { sends = tt; shuts = tt }
-
-client-loses : (c : ClientNode) (n : ℕ) (link : Option (Link Stage)) → NamesLinks c (Gone n) (loses c link).out
-client-loses c n None = record { sends = tt; shuts = tt }
-client-loses c n (Some link) = record { sends = tt; shuts = tt }
-
-pub client-names : (c : ClientNode) (input : Input) (reading : ℕ) (draw : List ℕ) → NamesLinks c input (client_rule c input reading draw).out
-client-names c (Opened n p) reading draw = client-opens c n reading draw p
-client-names c (NoLink p) reading draw = record { sends = tt; shuts = tt }
-client-names c (Bytes n bytes) reading draw = names-fed c c (Bytes n bytes) bytes (link_of n c.links)
-client-names c (Turn n) reading draw = client-turn c n reading draw (link_of n c.links) refl
-client-names c (Gone n) reading draw = client-loses c n (link_of n c.links)
-client-names c (Look view) reading draw = record { sends = tt; shuts = tt }
-client-names c Tick reading draw = record { sends = tt; shuts = tt }
-client-names c (Submit command) reading draw = client-submits c reading draw command
-client-names c Restart reading draw = record { sends = tt; shuts = tt }

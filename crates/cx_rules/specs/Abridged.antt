@@ -4,7 +4,6 @@ use Rattle.std.specs.Prelude.{◌≡◌, ◌≤◌, [], length, map}
 use Rattle.std.specs.List.{AllByRecursion}
 use Rattle.std.specs.Option.{option_map}
 use Rattle.cx_rules.specs.Acceptor.{Stage, AwaitsSignature, AwaitsIdent, Open}
-use Rattle.cx_rules.specs.ClientRule.{ClientNode}
 use Rattle.cx_rules.specs.Connector as connector
 use Rattle.cx_rules.specs.Fronts.{ahead_of}
 use Rattle.cx_rules.specs.Links.{Link}
@@ -60,9 +59,6 @@ module _ {Own Stage : Type 0} where
 abbrev pub abridged_monitor : MonitorNode → MonitorNode
 abridged_monitor m = abridged_node abridged_link m
 
-abbrev pub abridged_client : ClientNode → ClientNode
-abridged_client c = abridged_node abridged_asker_link c
-
 -- what a machine holds stands for a state of the rules, which forget nothing: it is that state, abridged
 pub record StandsFor {Own Stage : Type 0} (abridged : Link Stage → Link Stage) (m s : Node Own Stage) : Type 0 where
   pub held : m ≡ abridged_node abridged s
@@ -70,6 +66,3 @@ pub record StandsFor {Own Stage : Type 0} (abridged : Link Stage → Link Stage)
 
 abbrev pub MonitorStandsFor : MonitorNode → MonitorNode → Type 0
 MonitorStandsFor m s = StandsFor abridged_link m s
-
-abbrev pub ClientStandsFor : ClientNode → ClientNode → Type 0
-ClientStandsFor c s = StandsFor abridged_asker_link c s

@@ -4,7 +4,6 @@ pub use Rattle.cx_steps as cx_steps
 pub mod Abridged
 pub mod Acceptor
 pub mod Answering
-pub mod ClientRule
 pub mod Connector
 pub mod Fronts
 pub mod Greetings

@@ -10,26 +10,23 @@ ghost use Rattle.cx_keyserver.specs.Servers.{Server};
 ghost use Rattle.cx_wire.specs.declared.bodies.Request.TheVariants as asked;
 ghost use Rattle.cx_wire.specs.declared.logins.Authenticate.{Authenticate};
 ghost use Rattle.cx_wire.specs.declared.logins.LoginHello.{LoginHello};
-ghost use Rattle.cx_rules.specs.Abridged.{ClientStandsFor, MonitorStandsFor, abridged_client, abridged_monitor};
+ghost use Rattle.cx_rules.specs.Abridged.{MonitorStandsFor, abridged_monitor};
 ghost use Rattle.cx_rules.specs.Answering.{AreGenerationsDue, AreTicketsDue, GivesChallenge, GivesGenerations, GivesLogin, GivesTickets, HearsHello, HearsProof, HearsRequest, IsDue, RotatesToCurrent, RotatesToThree};
-ghost use Rattle.cx_rules.specs.ClientRule.{ClientNode, client_rule, is_idle, opening_client};
 ghost use Rattle.cx_rules.specs.Connector as connector;
 ghost use Rattle.cx_rules.specs.Connector.{AskerArrival};
-ghost use Rattle.cx_rules.specs.Holdings.{Asker};
 ghost use Rattle.cx_rules.specs.Inputs.{Input, Turn};
 ghost use Rattle.cx_rules.specs.Judged.{AskerLogsTurn, IsJudged, LogsTurn, NamesLinks};
 ghost use Rattle.cx_rules.specs.Monitor.{MonitorArrival, MonitorNode, Offered};
 ghost use Rattle.cx_rules.specs.MonitorRule.{monitor_rule, noted, opening_monitor, turned_at, unsaved};
 ghost use Rattle.cx_rules.specs.Rows.{forgotten};
 
-/// Of every step of the monitor, and of a client.
+/// Of every step of the monitor, and of every turn of one that logs in.
 pub fn rule_laws()
     // The monitor hands out tickets only behind a proof that was found equal, or behind a frame that opened on a link that was open, on a link
     // that goes on, once what there is is saved; and a step that denies or refuses hands out nothing, seals no ticket and saves nothing.
     ensures judged { (m : MonitorNode) (input : Input) (reading : ℕ) (draw : List ℕ) → IsJudged m input (monitor_rule m input reading draw) }
     // Effects name links that live, or the one that opens.
     ensures monitor_links { (m : MonitorNode) (input : Input) (reading : ℕ) (draw : List ℕ) → NamesLinks m input (monitor_rule m input reading draw).out }
-    ensures client_links { (c : ClientNode) (input : Input) (reading : ℕ) (draw : List ℕ) → NamesLinks c input (client_rule c input reading draw).out }
     // What a turn draws is logged.
     ensures monitor_draws { (a : MonitorArrival) → LogsTurn a (turned_at a a.link.stage) }
     ensures asker_draws { (a : AskerArrival) → AskerLogsTurn a (connector.turned_at a a.link.stage) }
@@ -60,24 +57,17 @@ pub fn answering_laws()
     ensures three { (reading : ℕ) (draw : List ℕ) (server : Server) (service : EntityType) → RotatesToThree reading draw server service }
 {}
 
-/// What a machine may forget of its links: from what it holds, the rules do the same as from the state for which that stands, which forgets
+/// What the monitor may forget of its links: from what it holds, the rules do the same as from the state for which that stands, which forgets
 /// nothing, and what it holds behind the step, abridged, stands for the state behind it.
 pub fn forgetting_laws()
     ensures monitor_forgets { (m s : MonitorNode) (input : Input) (reading : ℕ) (draw : List ℕ) → MonitorStandsFor m s
         → ((monitor_rule m input reading draw).out ≡ (monitor_rule s input reading draw).out)
         × MonitorStandsFor (abridged_monitor (monitor_rule m input reading draw).state) (monitor_rule s input reading draw).state }
-    ensures client_forgets { (c s : ClientNode) (input : Input) (reading : ℕ) (draw : List ℕ) → ClientStandsFor c s
-        → ((client_rule c input reading draw).out ≡ (client_rule s input reading draw).out)
-        × ClientStandsFor (abridged_client (client_rule c input reading draw).state) (client_rule s input reading draw).state }
-    // What was saved may be taken back, and whether a client is idle can be told.
+    // What was saved may be taken back.
     ensures monitor_unsaved { (m s : MonitorNode) → MonitorStandsFor m s → MonitorStandsFor (unsaved m) (unsaved s) }
-    ensures client_idle { (c s : ClientNode) → ClientStandsFor c s → is_idle c ≡ is_idle s }
     // A link may be lost, as where memory is wanting.
     ensures monitor_loses { (m s : MonitorNode) (n : ℕ) → MonitorStandsFor m s → MonitorStandsFor (forgotten (noted m) n) (forgotten (noted s) n) }
-    ensures client_loses { (c s : ClientNode) (n : ℕ) → ClientStandsFor c s → ClientStandsFor (forgotten c n) (forgotten s n) }
-    // As it begins, a machine has forgotten nothing; and what is abridged once can't be abridged further.
+    // As it begins, it has forgotten nothing; and what is abridged once can't be abridged further.
     ensures monitor_opening { (server : Server) (address : Addr) → MonitorStandsFor (opening_monitor server address) (opening_monitor server address) }
-    ensures client_opening { (asker : Asker) → ClientStandsFor (opening_client asker) (opening_client asker) }
     ensures monitor_twice { (s : MonitorNode) → abridged_monitor (abridged_monitor s) ≡ abridged_monitor s }
-    ensures client_twice { (s : ClientNode) → abridged_client (abridged_client s) ≡ abridged_client s }
 {}

@@ -1,12 +1,11 @@
 -- A client keeps its name, and opens links but as it is told, whatever comes to it; and a turn of it takes some of what is ahead on its link.
-use Rattle.std.proofs.Common.{◌≡◌, ℕ, Bool, List, [], ◌∷◌, Some, Result, Ok, Err, refl, ap, subst}
-use Rattle.std.specs.List.{AllByRecursion}
+use Rattle.std.proofs.Common.{◌≡◌, ℕ, Bool, List, [], Some, Result, Ok, Err, refl, ap, subst}
 use Rattle.cx_base.specs.Names.{Name}
 use Rattle.cx_base.specs.declared.operations.Operation.{Operation}
 use Rattle.cx_journal.specs.declared.outcomes.Reason.{Reason}
 use Rattle.cx_rules.specs.Connector as connector
 use Rattle.cx_rules.specs.Holdings.{Asker}
-use Rattle.cx_rules.specs.Inputs.{Input, Opened, NoLink, Bytes, Turn, Gone, Look, Tick, Submit, Restart}
+use Rattle.cx_rules.specs.Inputs.{Input, Submit}
 use Rattle.cx_rules.specs.Links.{Link}
 use Rattle.cx_rules.specs.Requests.{Requests, sealed_request, sends_request}
 use Rattle.cx_rules.specs.Rows.{Arrival, Outcome, Turned, Waits, Refuses, Handles, arrival, turns}
@@ -20,14 +19,13 @@ use Rattle.cx_rules_session.specs.Presenter.{Caller, CallStage, callee_of}
 use Rattle.cx_rules_session.specs.Sessions.{Callee, HeldSession, operation_message}
 use Rattle.cx_session.specs.Queue.{pushed}
 use Rattle.cx_steps.specs.declared.events.Command.TheVariants as command
-use Rattle.cx_steps.specs.declared.events.Peer.{Peer}
 use Rattle.cx_steps.specs.declared.events.Peer.TheVariants as peer
 use Rattle.cx_wire.specs.declared.bodies.Request.TheVariants as asked
 use Rattle.cx_run.proofs.ClientTakes.{KeepsName, asker-named, asker-takes}
 use Rattle.cx_run.proofs.Taking.{EachRow, TurnTakes, kind-takes, secure_sent-own}
 use Rattle.cx_run.proofs.CallKeeps.{Leaves, call-takes}
 use Rattle.cx_run.proofs.Outcomes.{EachOutcome, on_link, sent_in, step-keeps}
-use Rattle.cx_run.specs.Calling.{IsNoCall, LeadsTo, OpensAsTold}
+use Rattle.cx_run.specs.Calling.{LeadsTo, OpensAsTold}
 
 -- ---- its name
 
@@ -131,33 +129,6 @@ each-opens c reading draw input = record {
 
 pub whole-opens : (c : WholeClientNode) (input : Input) (reading : ℕ) (draw : List ℕ) → OpensAsTold input (whole_client_rule c input reading draw).out
 whole-opens c input reading draw = step-keeps c reading draw (λ o. OpensAsTold input o.out) input (each-opens c reading draw input)
-
--- to the monitor alone, where no link to a daemon is asked for
-opens-monitor : (input : Input) → IsNoCall input → (peers : List Peer) → AllByRecursion (LeadsTo input) peers → AllByRecursion (λ (p : Peer). p ≡ peer.Monitor) peers
-opens-monitor input none [] h = tt
-opens-monitor input none (to ∷ peers) h = (one input to none h.0, opens-monitor input none peers h.1)
-  where
-    one : (i : Input) (p : Peer) → IsNoCall i → LeadsTo i p → p ≡ peer.Monitor
-    one i peer.Monitor none h = refl
-    one (Submit (command.Connect daemon lossy)) (peer.Daemon other) none h = absurd none
-    one (Submit (command.Login services)) (peer.Daemon other) none h = absurd h
-    one (Submit (command.Renew services)) (peer.Daemon other) none h = absurd h
-    one (Submit command.Fetch) (peer.Daemon other) none h = absurd h
-    one (Submit (command.Send daemon operation)) (peer.Daemon other) none h = absurd h
-    one (Submit (command.Drop session)) (peer.Daemon other) none h = absurd h
-    one (Opened number to) (peer.Daemon other) none h = absurd h
-    one (NoLink to) (peer.Daemon other) none h = absurd h
-    one (Bytes number bytes) (peer.Daemon other) none h = absurd h
-    one (Turn number) (peer.Daemon other) none h = absurd h
-    one (Gone number) (peer.Daemon other) none h = absurd h
-    one (Look view) (peer.Daemon other) none h = absurd h
-    one Tick (peer.Daemon other) none h = absurd h
-    one Restart (peer.Daemon other) none h = absurd h
-
-pub whole-opens-monitor : (c : WholeClientNode) (input : Input) (reading : ℕ) (draw : List ℕ) → IsNoCall input
-    → AllByRecursion (λ (p : Peer). p ≡ peer.Monitor) (whole_client_rule c input reading draw).out.opens
-whole-opens-monitor c input reading draw none =
-    opens-monitor input none (whole_client_rule c input reading draw).out.opens (whole-opens c input reading draw)
 
 -- ---- a turn takes of its link
 

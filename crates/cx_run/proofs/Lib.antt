@@ -11,8 +11,6 @@ pub mod DaemonNamed
 pub mod EntityNamed
 pub mod Turning
 pub mod Untaken
-pub mod OpensMonitor
-pub mod Visiting
 pub mod Untold
 pub mod Written
 pub mod SetUp

@@ -9,8 +9,7 @@ use Rattle.cx_run.specs.Opening.{opening_world}
 use Rattle.cx_run.specs.Runs.{setup_of, trace}
 use Rattle.cx_run.specs.Visits.{AreUntold, IsNoLook}
 use Rattle.cx_run.specs.Worlds.{Post, World, happening}
-use Rattle.cx_run.proofs.Visiting.{all-push}
-use Rattle.cx_run.proofs.Walking.{kept-after_lines}
+use Rattle.cx_run.proofs.Walking.{all-push, kept-after_lines}
 
 -- of each event so far
 abbrev Untold : World → Type 0

@@ -25,8 +25,7 @@ use Rattle.cx_run.specs.Opening.{opening_world}
 use Rattle.cx_run.specs.Runs.{setup_of, trace}
 use Rattle.cx_run.specs.Sending.{AreWritten, ComesWith, IsWrittenInput, SendsOnly, SendsOnlyAt, is_command_written, is_line_written, is_numbered_written, is_written}
 use Rattle.cx_run.specs.Worlds.{Post, World, happening}
-use Rattle.cx_run.proofs.Visiting.{all-push}
-use Rattle.cx_run.proofs.Walking.{kept-after_sends}
+use Rattle.cx_run.proofs.Walking.{all-push, kept-after_sends}
 
 -- ---- lines
 

@@ -1,6 +1,6 @@
 //! Laws of the definition of a run.
 
-ghost use Rattle.std.specs.Prelude.{◌≡◌, ◌≤◌, ◌<◌, ℕ, List, length, true, false, if◌then◌else◌};
+ghost use Rattle.std.specs.Prelude.{◌≡◌, ◌≤◌, ◌<◌, ℕ, List, length, true, if◌then◌else◌};
 ghost use Rattle.std.specs.List.{list_all};
 ghost use Rattle.cx_base.specs.declared.nodes.NodeName.{NodeName};
 ghost use Rattle.cx_desk.specs.Handlers.{Handlers};
@@ -23,7 +23,7 @@ ghost use Rattle.cx_run.specs.Runs.{setup_of, trace};
 ghost use Rattle.cx_run.specs.Schedules.{after_lines};
 ghost use Rattle.cx_run.specs.Sending.{AreWritten, is_line_written, is_numbered_written};
 ghost use Rattle.cx_run.specs.Turning.{untaken_at, untaken_on};
-ghost use Rattle.cx_run.specs.Visits.{AreUntold, AreUnvisited, has_session_line};
+ghost use Rattle.cx_run.specs.Visits.{AreUntold};
 ghost use Rattle.cx_run.specs.Worlds.{World};
 
 /// The nodes at the end of a run are those that its events lead to: nothing else changes a node.
@@ -32,11 +32,9 @@ pub fn run_laws()
         → (after_lines (opening_world (setup_of handlers script)) script).nodes ≡ nodes_behind (nodes_of (setup_of handlers script)) (trace handlers script) }
 {}
 
-/// No view is told by hand in the run of a schedule. And no guest comes to an entity in that of one in which no client is told to connect and no session
-/// is dropped: no link opens there but one that it opens itself.
+/// No view is told by hand in the run of a schedule.
 pub fn visit_laws()
     ensures untold { (handlers : Handlers) (script : List Numbered) → AreUntold (trace handlers script) }
-    ensures unvisited { (handlers : Handlers) (script : List Numbered) → has_session_line script ≡ false → AreUnvisited (trace handlers script) }
 {}
 
 /// Where each operation of a schedule's lines can be written, so can each that its run tells a client to send. And each line that words spell is such.

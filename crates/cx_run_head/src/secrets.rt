@@ -13,7 +13,7 @@ pub fn secret_of_seed(alloc: Global, seed: u64) -> [u8; 16]
 {
     let draw = first_draw(alloc, seed);
     let mut secret = [0; 16];
-    secret.copy_from_slice(&draw.bytes[..16]);
+    secret.copy_from_slice(&draw.bytes()[..16]);
     secret
 }
 

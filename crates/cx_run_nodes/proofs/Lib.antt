@@ -1,7 +1,9 @@
 pub mod Finding
 pub mod Keyed
 pub mod Leaking
+pub mod Passing
 pub mod Placing
+pub mod Placed
 pub mod Reading
 pub mod Rolling
 pub mod Stepping

@@ -11,11 +11,12 @@ use Rattle.cx_run.specs.Happenings.{EntityNode, entity_of}
 use Rattle.cx_run.specs.Schedules.{all_read, one_reads}
 use Rattle.cx_run.specs.Wires.{same_node}
 use Rattle.cx_run.specs.Worlds.{Post, World, post_of}
-use Rattle.cx_run_nodes.specs.Held.{MemberStands, StandFor, member_of, reads}
+use Rattle.cx_run_nodes.specs.Held.{ArePlaced, MemberStands, StandFor, member_of, reads}
 use Rattle.cx_run_nodes.specs.Posts.{IsOf, IsPosted, Sitting}
 use Rattle.cx_run_nodes.specs.declared.members.Member.{Member}
 use Rattle.cx_run_nodes.specs.declared.nodes.Nodes.{Nodes}
 use Rattle.cx_run_nodes.proofs.Keyed.{changed_all, key_found, same_node_is, same_node_self}
+use Rattle.cx_run_nodes.proofs.Placed.{placed-read, placed-same, placed-set}
 use Rattle.cx_run_nodes.proofs.Placing.{IsFirst, found_first, member_elsewhere, member_here}
 
 post_reads : ℕ → Post → Post
@@ -36,9 +37,9 @@ member_behind reading None (Some s) entity k = absurd k
 member_behind reading (Some m) None entity k = absurd k
 
 pub all_read_stands : {handlers : Handlers} (reading : ℕ) (w : World) (held new : Nodes) → StandFor handlers held w.nodes w.posts → new.monitor ≡ held.monitor
-    → new.post ≡ record held.post { reading = reading } → new.members.items ≡ map (λ m. reads reading m) held.members.items
+    → new.post ≡ record held.post { reading = reading } → new.places ≡ held.places → new.members.items ≡ map (λ m. reads reading m) held.members.items
     → StandFor handlers new (all_read reading w).nodes (all_read reading w).posts
-all_read_stands reading w held new k monitor post members =
+all_read_stands reading w held new k monitor post places members =
     let read : Post → Post = λ s. record s { reading = reading } in
     let there = λ (who : NodeName). changed_all (λ (s : Post). s.node) same_node read (λ s. refl) who w.posts in
     record {
@@ -47,6 +48,7 @@ all_read_stands reading w held new k monitor post members =
       members = λ n.
           let found = changed_all (λ (m : Member). m.name) same_name (λ m. reads reading m) (λ m. refl) n held.members.items in
           rw (members, found, there (node.Entity n)) (member_behind reading (member_of n held.members.items) (post_of (node.Entity n) w.posts) (entity_of n w.nodes) (k.members n));
+      placed = placed-read held new reading places members k.placed;
       serves = k.serves;
     }
 
@@ -87,23 +89,25 @@ module _ (who at : NodeName) (reading : ℕ) (posts : List Post) where
           ap (λ (b : Bool). Some (let x : Post = (if b then record s { reading = reading } else s) in x)) t
 
 pub monitor_reads : {handlers : Handlers} (reading : ℕ) (w : World) (held new : Nodes) → StandFor handlers held w.nodes w.posts → new.monitor ≡ held.monitor
-    → new.post ≡ record held.post { reading = reading } → new.members.items ≡ held.members.items
+    → new.post ≡ record held.post { reading = reading } → new.places ≡ held.places → new.members.items ≡ held.members.items
     → StandFor handlers new (one_reads node.Monitor reading w).nodes (one_reads node.Monitor reading w).posts
-monitor_reads reading w held new k monitor post members = record {
+monitor_reads reading w held new k monitor post places members = record {
   monitor = rw monitor k.monitor;
   post = rw (reads_it node.Monitor node.Monitor reading w.posts refl) (sits_behind reading held.post new.post (post_of node.Monitor w.posts) post k.post);
   members = λ n. rw (members, stays_other node.Monitor (node.Entity n) reading w.posts refl) (k.members n);
+  placed = placed-same held new places members k.placed;
   serves = k.serves;
 }
 
-module _ {handlers : Handlers} (reading : ℕ) (w : World) (name : Name) (held new : Nodes) (k : StandFor handlers held w.nodes w.posts) (monitor : new.monitor ≡ held.monitor) (post : new.post ≡ held.post) where
-  behind : ((n : Name) → same_name name n ≡ true → member_of n new.members.items ≡ option_map (reads reading) (member_of n held.members.items))
+module _ {handlers : Handlers} (reading : ℕ) (w : World) (name : Name) (held new : Nodes) (k : StandFor handlers held w.nodes w.posts) (monitor : new.monitor ≡ held.monitor) (post : new.post ≡ held.post) (places : new.places ≡ held.places) where
+  behind : ArePlaced new → ((n : Name) → same_name name n ≡ true → member_of n new.members.items ≡ option_map (reads reading) (member_of n held.members.items))
       → ((n : Name) → same_name name n ≡ false → member_of n new.members.items ≡ member_of n held.members.items)
       → StandFor handlers new (one_reads (node.Entity name) reading w).nodes (one_reads (node.Entity name) reading w).posts
-  behind here elsewhere = record {
+  behind placed here elsewhere = record {
     monitor = rw monitor k.monitor;
     post = rw (post, stays_other (node.Entity name) node.Monitor reading w.posts refl) k.post;
     members = λ n. by n (same_name name n) refl;
+    placed = placed;
     serves = k.serves;
   }
     where
@@ -128,7 +132,7 @@ module _ {handlers : Handlers} (reading : ℕ) (w : World) (name : Name) (held n
   member_reads place old next at read is put =
       let named : next.name ≡ old.name = ap (λ (m : Member). m.name) is in
       let there : member_of name held.members.items ≡ Some old = (found_first (λ (m : Member). same_name m.name name) held.members.items place old at read).0 in
-      behind
+      behind (placed-set held new place old next places read named put k.placed)
       (λ n e.
       let same : name ≡ n = same_name_is name n e in
       let P : Name → Type 0 = λ x. member_of x new.members.items ≡ option_map (reads reading) (member_of x held.members.items) in
@@ -138,7 +142,7 @@ module _ {handlers : Handlers} (reading : ℕ) (w : World) (name : Name) (held n
   pub nobody_reads : member_of name held.members.items ≡ None → new.members.items ≡ held.members.items
       → StandFor handlers new (one_reads (node.Entity name) reading w).nodes (one_reads (node.Entity name) reading w).posts
   nobody_reads none same =
-      behind
+      behind (placed-same held new places same k.placed)
       (λ n e.
       let s : name ≡ n = same_name_is name n e in
       let P : Name → Type 0 = λ x. member_of x new.members.items ≡ option_map (reads reading) (member_of x held.members.items) in

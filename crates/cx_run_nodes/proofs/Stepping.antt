@@ -32,6 +32,7 @@ use Rattle.cx_run_nodes.specs.declared.members.MemberNode.TheVariants as held
 use Rattle.cx_run_nodes.specs.declared.nodes.Nodes.{Nodes}
 use Rattle.cx_run.proofs.EntityNamed.{entity-named}
 use Rattle.cx_run_nodes.proofs.Keyed.{key_found, replaced_elsewhere, replaced_here, same_node_is, same_node_self}
+use Rattle.cx_run_nodes.proofs.Placed.{placed-same, placed-set}
 use Rattle.cx_run_nodes.proofs.Placing.{IsFirst, found_first, member_elsewhere, member_here, old_name}
 
 -- ---- a member
@@ -121,7 +122,7 @@ as_made g = record { out = g.out; failed = g.failed; happened = true }
 
 module _ {handlers : Handlers} (input : Input) (w : World) (name : Name) (held new : Nodes) (place : ℕ) (old next : Member) (made : Made)
     (k : StandFor handlers held w.nodes w.posts) (at : IsFirst (λ (m : Member). same_name m.name name) held.members.items place) (read : old ≡ get_or held.members.items place old)
-    (monitor : new.monitor ≡ held.monitor) (sitting : new.post ≡ held.post) (put : new.members.items ≡ set held.members.items place next)
+    (monitor : new.monitor ≡ held.monitor) (sitting : new.post ≡ held.post) (places : new.places ≡ held.places) (put : new.members.items ≡ set held.members.items place next)
     (does : (post : Post) (entity : Option EntityNode) → MemberStands (Some old) (Some post) entity → IsMemberStep w.nodes.handlers input post entity made old next) where
   module _ (post : Post) (found : post_of (node.Entity name) w.posts ≡ Some post) where
     who : post.node ≡ node.Entity name
@@ -149,6 +150,7 @@ module _ {handlers : Handlers} (input : Input) (w : World) (name : Name) (held n
         monitor = rw (monitor, m) k.monitor;
         post = sits_still;
         members = members_behind held new w.nodes after w.posts name place old next post (rolled_once post) k at read step.name put found who refl (rw there step.stands) others;
+        placed = placed-set held new place old next places read step.name put k.placed;
         serves = h ∙ k.serves;
       };
       out = ap (λ (x : Made). x.out) step.comes;
@@ -207,10 +209,10 @@ same_handlers nodes o None (Some saved) = refl
 same_handlers nodes o (Some left) None = refl
 same_handlers nodes o (Some left) (Some saved) = refl
 
-pub monitor_given : {handlers : Handlers} (input : Input) (w : World) (held new : Nodes) (made : Made) → StandFor handlers held w.nodes w.posts → new.members.items ≡ held.members.items
+pub monitor_given : {handlers : Handlers} (input : Input) (w : World) (held new : Nodes) (made : Made) → StandFor handlers held w.nodes w.posts → new.places ≡ held.places → new.members.items ≡ held.members.items
     → ((post : Post) → IsOf post held.post → IsMonitorStep post (monitor_made input post w.nodes w.left) made new.monitor new.post)
     → IsGiven handlers new made (post_of node.Monitor w.posts) (given w input (post_of node.Monitor w.posts))
-monitor_given {handlers} input w held new made k same does = by (post_of node.Monitor w.posts) refl k.post
+monitor_given {handlers} input w held new made k places same does = by (post_of node.Monitor w.posts) refl k.post
   where
     by : (post : Option Post) → post_of node.Monitor w.posts ≡ post → IsPosted held.post post → IsGiven handlers new made post (given w input post)
     by None e sits = absurd sits
@@ -234,6 +236,7 @@ monitor_given {handlers} input w held new made k same does = by (post_of node.Mo
                 let still : post_of (node.Entity n) (with_post w.posts (rolled_once post)) ≡ post_of (node.Entity n) w.posts = replaced_elsewhere (λ (s : Post). s.node) same_node same_node_is w.posts post.node (node.Entity n) (rolled_once post) refl apart in
                 let entities : entity_of n after.nodes ≡ entity_of n w.nodes = ap (λ (es : List EntityNode). entity_of n (record w.nodes { entities = es })) (same_entities w.nodes o w.left o.out.save) in
                 rw (same, still, entities) (k.members n);
+            placed = placed-same held new places same k.placed;
             serves = same_handlers w.nodes o w.left o.out.save ∙ k.serves;
           };
           out = ap (λ (x : Made). x.out) step.saved.comes;

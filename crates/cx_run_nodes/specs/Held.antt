@@ -1,8 +1,9 @@
 -- The nodes of a run as the code holds them, and for which nodes and posts of the rules they stand.
-use Rattle.std.specs.Prelude.{ℕ, ◌≡◌, Bool, true, false, List, find, Option, Some, None}
+use Rattle.std.specs.Prelude.{ℕ, ◌≡◌, Bool, true, false, List, find, position, Option, Some, None}
 use Rattle.cx_base.specs.Names.{Name, same_name}
 use Rattle.cx_base.specs.declared.nodes.NodeName.TheVariants as node
 use Rattle.cx_desk.specs.Handlers.{Handlers}
+use Rattle.cx_name_index.specs.Indexed.{place_of}
 use Rattle.cx_rules.specs.Abridged.{MonitorStandsFor}
 use Rattle.cx_rules_session.specs.Forgets.{DaemonStandsFor, WholeClientStandsFor}
 use Rattle.cx_run.specs.Deliveries.{Given}
@@ -18,6 +19,10 @@ use Rattle.cx_run_nodes.specs.declared.nodes.Nodes.{Nodes}
 -- the first member of a name
 abbrev pub member_of : Name → List Member → Option Member
 member_of name members = find (λ m. same_name m.name name) members
+
+-- each name has the place of the first member of that name
+abbrev pub ArePlaced : Nodes → Type 0
+ArePlaced held = (name : Name) → place_of held.places.ids name ≡ position (λ m. same_name m.name name) held.members.items
 
 -- its clock reads this
 abbrev pub reads : ℕ → Member → Member
@@ -38,11 +43,12 @@ MemberStands (Some member) (Some post) entity = IsOf post member.post × NodeSta
 MemberStands None (Some post) entity = ⊥
 MemberStands (Some member) None entity = ⊥
 
--- the nodes stand for these of the rules, in these posts, whose daemons have these handlers
+-- the nodes stand for these of the rules, in these posts, whose daemons have these handlers, and are found where they stand
 pub record StandFor (handlers : Handlers) (held : Nodes) (nodes : RunNodes) (posts : List Post) : Type 0 where
   pub monitor : MonitorStandsFor held.monitor nodes.monitor
   pub post : IsPosted held.post (post_of node.Monitor posts)
   pub members : (name : Name) → MemberStands (member_of name held.members.items) (post_of (node.Entity name) posts) (entity_of name nodes)
+  pub placed : ArePlaced held
   pub serves : nodes.handlers ≡ handlers
 
 -- ---- one event

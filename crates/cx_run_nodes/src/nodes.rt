@@ -1,10 +1,11 @@
 //! The nodes of a run.
 
 ghost use Rattle.std.specs.Prelude.{ℕ, ◌≡◌, ◌<◌, ◌+◌, [], ◌∷◌, ◌++◌, List, length, map, position, slice_get, Some, None, IfOk, OnOk, IfSome, IfNone};
-ghost use Rattle.cx_base.specs.Names.{same_name};
+ghost use Rattle.cx_base.specs.Names.{Name, same_name};
 ghost use Rattle.cx_base.specs.declared.nodes.NodeName.TheVariants as node;
 ghost use Rattle.cx_desk.specs.Handlers.{Handlers};
 ghost use Rattle.cx_desk.specs.Held.{handlers_of};
+ghost use Rattle.cx_name_index.specs.Indexed.{place_of};
 ghost use Rattle.cx_run_nodes.specs.Coming.{IsWritableInput};
 ghost use Rattle.cx_run_nodes.specs.Held.{IsGiven, StandFor, reads};
 ghost use Rattle.cx_run_nodes.specs.Posts.{IsOf};
@@ -24,16 +25,18 @@ use crate::posts::Post;
 use cx_base::{EntityName, NodeName, Reading};
 use cx_desk::Desk;
 use cx_line_words::LeftState;
+use cx_name_index::Index;
 use cx_run_head::Monitor;
 use cx_steps::{Effects, Event};
 use std::alloc::{AllocError, Global};
 
-/// The nodes of a run: the monitor with what it goes by, and the entities.
+/// The nodes of a run: the monitor with what it goes by, and the entities with the places at which they stand among them, by their names.
 #[derive(Drop)]
 pub struct Nodes {
     pub monitor: Monitor,
     pub post: Post,
     pub members: Vec<Member>,
+    pub places: Index,
 }
 
 impl Nodes {
@@ -80,7 +83,7 @@ impl Nodes {
         ensures { (w : World) → StandFor (handlers_of desk.now) self.old w.nodes w.posts
             → IfOk result (λ made. IsGiven (handlers_of desk.now) self.new made (post_of (node.Entity name.now) w.posts) (given w (input_of event.entry) (post_of (node.Entity name.now) w.posts))) }
     {
-        match place_of(self.members.as_slice(), name) {
+        match place_of(&self.places, self.members.as_slice(), name) {
             Some(place) => {
                 let member = &mut self.members[place];
                 let made = member.step(alloc, desk, event)?;
@@ -107,7 +110,7 @@ impl Nodes {
         match who {
             NodeName::Monitor => self.post.set(reading),
             NodeName::Entity(name) => {
-                match place_of(self.members.as_slice(), name) {
+                match place_of(&self.places, self.members.as_slice(), name) {
                     Some(place) => {
                         let member = &mut self.members[place];
                         member.post.set(reading);
@@ -129,11 +132,27 @@ fn read_members(members: &mut Vec<Member>, reading: Reading)
     }
 }
 
-// The place of the first member of a name.
-fn place_of(members: &[Member], name: &EntityName) -> Option<usize>
-    ensures { result ≡ position (λ m. same_name m.name name.now) members.now }
+// The place of the first member of a name, where each name has such a place.
+fn place_of(places: &Index, members: &[Member], name: &EntityName) -> Option<usize>
+    ensures within { IfSome result (λ place. place < length members.now) }
+    ensures found { ((n : Name) → place_of places.now.ids n ≡ position (λ m. same_name m.name n) members.now)
+        → result ≡ position (λ m. same_name m.name name.now) members.now }
 {
-    members.iter().position(|m| m.name == *name)
+    match places.find(name) {
+        Some(place) if place < members.len() => Some(place),
+        _ => None,
+    }
+}
+
+/// Where entities stand, by their names.
+pub(crate) fn places_of(alloc: Global, members: &[Member]) -> Result<Index, AllocError>
+    ensures { IfOk result (λ places. (name : Name) → place_of places.ids name ≡ position (λ m. same_name m.name name) members.now) }
+{
+    let mut places = Index::new(alloc);
+    for i in 0..members.len() {
+        places.note(alloc, &members[i].name, i)?;
+    }
+    Ok(places)
 }
 
 // What comes to the monitor in its post.

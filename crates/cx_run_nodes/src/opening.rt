@@ -7,6 +7,7 @@ ghost use Rattle.cx_run_nodes.specs.Members.{AreMembersOf, IsMemberOf};
 ghost use Rattle.cx_run.specs.Opening.{entity_in, nodes_of, posts_of};
 ghost use Rattle.cx_run_head.specs.Beginning.{with_handlers};
 
+use crate::nodes::places_of;
 use crate::{Member, MemberNode, Nodes, Post};
 use cx_base::Duplicate;
 use cx_client::Client;
@@ -21,10 +22,12 @@ pub fn opening_nodes(alloc: Global, setup: &Setup) -> Result<Nodes, AllocError>
     let monitor = setup.monitor(alloc)?;
     let post = Post::new(alloc, setup.monitor_seed());
     let members = members_of(alloc, setup.entities())?;
+    let places = places_of(alloc, members.as_slice())?;
     Ok(Nodes {
         monitor,
         post,
         members,
+        places,
     })
 }
 

@@ -59,6 +59,6 @@ impl<R: RandomSource> Dice for SystemDice<R> {
             next.fill(0);
         }
         self.place = self.place.saturating_add(384);
-        Ok(Draw { bytes })
+        Ok(Draw::of(bytes))
     }
 }

@@ -42,7 +42,7 @@ fn seen(rt: &HostRuntime) -> Option<usize> {
     let mut seen = HashSet::new(rt.alloc());
     for _ in 0..2_000 {
         let draw = dice.block().ok()?;
-        for part in draw.bytes.chunks_exact(8) {
+        for part in draw.bytes().chunks_exact(8) {
             let mut word = [0; 8];
             word.copy_from_slice(part);
             seen.insert(u64::from_le_bytes(word)).ok()?;

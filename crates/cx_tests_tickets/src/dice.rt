@@ -118,6 +118,6 @@ fn a_call_that_fails_rolls_nothing(rt: HostRuntime) {
     let first = dice.block().expect(&rt, "the first call doesn't fail");
     assert!(rt; dice.block().is_err());
     let second = dice.block().expect(&rt, "the third call doesn't fail");
-    assert!(rt; first == draw(&rt, alloc, 7, 0));
-    assert!(rt; second == draw(&rt, alloc, 7, 1));
+    assert!(rt; first.bytes() == draw(&rt, alloc, 7, 0).bytes());
+    assert!(rt; second.bytes() == draw(&rt, alloc, 7, 1).bytes());
 }

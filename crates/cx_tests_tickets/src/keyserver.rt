@@ -53,10 +53,12 @@ fn name(rt: &impl Abort, alloc: Global, kind: EntityType, id: &[u8]) -> EntityNa
     EntityName::new(kind, id).expect(rt, "a name")
 }
 
-const DRAW: Draw = Draw { bytes: [7; 384] };
+fn sevens() -> Draw {
+    Draw::of([7; 384])
+}
 
 fn rotate(server: &mut KeyServer) -> bool {
-    server.rotate(1000 * SECOND, &DRAW)
+    server.rotate(1000 * SECOND, &sevens())
 }
 
 /// Whether a server tells this entity secrets, and doesn't say that it is no daemon.
@@ -131,7 +133,7 @@ fn issue(alloc: Global, server: &mut KeyServer, who: &EntityName) -> Result<Tick
         1,
         &[0; 16],
         1000 * SECOND,
-        &DRAW,
+        &sevens(),
     )
 }
 

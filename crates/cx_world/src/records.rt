@@ -47,12 +47,7 @@ pub(crate) fn log(
         → OnOk result (StandsFor ledger.new leaked (log ++ map (λ (e : Seal). logged_at who.now line e) seals.now)) }
 {
     for seal in seals {
-        let logged = Logged {
-            node: who.copy(alloc)?,
-            line,
-            entry: seal.copy(alloc)?,
-        };
-        ledger.enter(alloc, &logged)?;
+        ledger.enter_at(alloc, who, line, seal)?;
     }
     Ok(())
 }

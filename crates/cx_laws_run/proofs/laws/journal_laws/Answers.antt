@@ -1,7 +1,6 @@
 use Rattle.std.proofs.Common.{false, refl, true}
 use Rattle.cx_laws_authorize.specs.cx_run.specs.Points.{journal_since}
 use Rattle.cx_laws_authorize.specs.cx_run.specs.Runs.{setup_of, trace}
-use Rattle.cx_laws_authorize.specs.cx_run.proofs.Visiting.{unvisited}
 use Rattle.cx_laws_run.proofs.Happening.{any-law, unvisited-law}
 use Rattle.cx_laws_run.proofs.Journals.{keeps-laws, keeps-tickets}
 use Rattle.cx_laws_run.proofs.Schedules.{may-happen}
@@ -20,10 +19,3 @@ returns-clause-schedules c = λ handlers bytes script said found.
     let setup = setup_of handlers script in
     let hs = trace handlers script in
     keeps-tickets (run_of setup hs true) refl (journal_since setup hs) (any-law setup hs (may-happen handlers bytes script said) found.0 found.1)
-
-pub returns-clause-unvisited : goal.returns-clause-unvisited
-returns-clause-unvisited c = λ handlers has_handler bytes script said away found.
-    let setup = setup_of handlers script in
-    let hs = trace handlers script in
-    keeps-laws (run_of setup hs false) refl has_handler (journal_since setup hs)
-    (unvisited-law setup hs (may-happen handlers bytes script said) (unvisited handlers script away) found.0 found.1)

@@ -15,6 +15,3 @@ returns-clause-asker_links c = are_the_links _
 
 pub returns-clause-asker_rows : goal.returns-clause-asker_rows
 returns-clause-asker_rows c = are_the_rows _ _
-
-pub returns-clause-client_rows : goal.returns-clause-client_rows
-returns-clause-client_rows c = are_the_rows _ _

@@ -1,8 +1,7 @@
-use Rattle.std.proofs.Common.{◌≡◌, List, ◌++◌, map, take, subst, ap, ◌∙◌}
+use Rattle.std.proofs.Common.{◌≡◌, List, ◌++◌, map, take, refl, subst}
 use Rattle.std.proofs.lemmas.List.{take_all}
 use Rattle.cx_premises.specs.Ledgers.{StandsFor}
 use Rattle.cx_steps.specs.declared.seals.Logged.{Logged}
-use Rattle.cx_base.specs.declared.nodes.NodeName.{NodeName}
 use Rattle.cx_steps.specs.declared.seals.SealEntry.{SealEntry}
 use Rattle.cx_world.specs.Logs.{logged_at}
 use Rattle.cx_world.proofs.Logging.{logs_more}
@@ -11,9 +10,8 @@ use Rattle.cx_world.proofs.records.log.Goals as goal
 pub loop-seal-preserved : goal.loop-seal-preserved
 loop-seal-preserved c =
     λ leaked log k.
-    logs_more (λ (e : SealEntry). logged_at c.args.who.now c.args.line e) c.enter.new.self leaked log c.args.seals.now c.loop-seal.seal-index c.seal-item.result _ c.loop-seal-test.true c.seal-item.is
-    (ap (λ (n : NodeName). logged_at n c.args.line c.in_ok-copy-2.field-0) c.in_ok-copy.ensures ∙ ap (λ (e : SealEntry). logged_at c.args.who.now c.args.line e) c.in_ok-copy-2.ensures)
-    (c.in_ok-enter.ensures.ok leaked _ (c.loop-seal.invariant leaked log k))
+    logs_more (λ (e : SealEntry). logged_at c.args.who.now c.args.line e) c.enter_at.new.self leaked log c.args.seals.now c.loop-seal.seal-index c.seal-item.result _ c.loop-seal-test.true c.seal-item.is
+    refl (c.in_ok-enter_at.ensures.ok leaked _ (c.loop-seal.invariant leaked log k))
 
 pub returns : goal.returns
 returns c =

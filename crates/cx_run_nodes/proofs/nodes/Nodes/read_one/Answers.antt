@@ -9,7 +9,7 @@ use Rattle.cx_run_nodes.proofs.Reading.{member_reads, monitor_reads, nobody_read
 use Rattle.cx_run_nodes.proofs.nodes.Nodes.read_one.Goals as goal
 
 pub returns-in-Monitor : goal.returns-in-Monitor
-returns-in-Monitor c = rw c.in-Monitor.is (λ handlers w k. monitor_reads c.args.reading w c.args.self.now _ k refl c.set.ensures refl)
+returns-in-Monitor c = rw c.in-Monitor.is (λ handlers w k. monitor_reads c.args.reading w c.args.self.now _ k refl c.set.ensures refl refl)
 
 pub returns-in-Some : goal.returns-in-Some
 returns-in-Some c = rw c.in-Entity.is (
@@ -18,8 +18,8 @@ returns-in-Some c = rw c.in-Entity.is (
     let old : Member = c.index_mut-member.result.now in
     let p = λ (m : Member). same_name m.name c.in-Entity.name in
     let slice : c.as_slice.result.now ≡ held.members.items = c.as_slice.ensures.value in
-    let there : position p held.members.items ≡ Some c.in-Some.place = sym (c.in-Some.ensures ∙ ap (λ (ms : List Member). position p ms) slice) in
-    member_reads c.args.reading w c.in-Entity.name held _ k refl refl c.in-Some.place old _
+    let there : position p held.members.items ≡ Some c.in-Some.place = sym (c.in-Some.ensures.found (λ n. k.placed n ∙ sym (ap (λ (ms : List Member). position (λ (m : Member). same_name m.name n) ms) slice)) ∙ ap (λ (ms : List Member). position p ms) slice) in
+    member_reads c.args.reading w c.in-Entity.name held _ k refl refl refl c.in-Some.place old _
     (is_first p held.members.items c.in-Some.place there) c.index_mut-member.ensures.value
     (ap (λ (s : Sitting). let m : Member = record old { post = s } in m) c.set-in-Some.ensures) refl)
 
@@ -29,5 +29,5 @@ returns-in-None c = rw c.in-Entity.is (
     let held : Nodes = c.args.self.now in
     let p = λ (m : Member). same_name m.name c.in-Entity.name in
     let slice : c.as_slice.result.now ≡ held.members.items = c.as_slice.ensures.value in
-    let there : position p held.members.items ≡ None = sym (c.in-None.ensures ∙ ap (λ (ms : List Member). position p ms) slice) in
-    nobody_reads c.args.reading w c.in-Entity.name held _ k refl refl (is_none p held.members.items there) refl)
+    let there : position p held.members.items ≡ None = sym (c.in-None.ensures.found (λ n. k.placed n ∙ sym (ap (λ (ms : List Member). position (λ (m : Member). same_name m.name n) ms) slice)) ∙ ap (λ (ms : List Member). position p ms) slice) in
+    nobody_reads c.args.reading w c.in-Entity.name held _ k refl refl refl (is_none p held.members.items there) refl)

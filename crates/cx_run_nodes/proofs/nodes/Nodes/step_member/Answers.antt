@@ -16,9 +16,9 @@ returns-in_ok-made-in-Some g c =
     let held : Nodes = c.args.self.now in
     let p = λ (m : Member). same_name m.name c.args.name.now in
     let slice : c.as_slice.result.now ≡ held.members.items = c.as_slice.ensures.value in
-    let there : position p held.members.items ≡ Some c.in-Some.place = sym (c.in-Some.ensures ∙ ap (λ (ms : List Member). position p ms) slice) in
+    let there : position p held.members.items ≡ Some c.in-Some.place = sym (c.in-Some.ensures.found (λ n. k.placed n ∙ sym (ap (λ (ms : List Member). position (λ (m : Member). same_name m.name n) ms) slice)) ∙ ap (λ (ms : List Member). position p ms) slice) in
     member_given (input_of c.args.event) w c.args.name.now held _ c.in-Some.place c.index_mut-member.result.now c.step.new.self c.in_ok-made-in-Some.made k
-    (is_first p held.members.items c.in-Some.place there) c.index_mut-member.ensures.value refl refl refl (λ post entity s.
+    (is_first p held.members.items c.in-Some.place there) c.index_mut-member.ensures.value refl refl refl refl (λ post entity s.
     let P : Handlers → Type 0 = λ h. IsMemberStep h (input_of c.args.event) post entity c.in_ok-made-in-Some.made c.index_mut-member.result.now c.step.new.self in
     subst P (sym k.serves) (c.in_ok-made-in-Some.ensures post entity s))
 
@@ -28,5 +28,5 @@ returns-in-None g c =
     let held : Nodes = c.args.self.now in
     let p = λ (m : Member). same_name m.name c.args.name.now in
     let slice : c.as_slice.result.now ≡ held.members.items = c.as_slice.ensures.value in
-    let there : position p held.members.items ≡ None = sym (c.in-None.ensures ∙ ap (λ (ms : List Member). position p ms) slice) in
+    let there : position p held.members.items ≡ None = sym (c.in-None.ensures.found (λ n. k.placed n ∙ sym (ap (λ (ms : List Member). position (λ (m : Member). same_name m.name n) ms) slice)) ∙ ap (λ (ms : List Member). position p ms) slice) in
     nobody_given (input_of c.args.event) w c.args.name.now held c.nothing.result k (is_none p held.members.items there) c.nothing.ensures

@@ -1,0 +1,89 @@
+-- A turn of one that logs in, on its link to the monitor.
+use Rattle.std.proofs.Common.{◌≡◌, ℕ, Bool, true, false, List, ◌++◌, Some, sym, ap, ◌∙◌, subst, inl, inr}
+use Rattle.std.specs.Prelude.{IsTrue, Contains, ◌⊎◌}
+use Rattle.cx_base.specs.Names.{Name}
+use Rattle.cx_control.specs.Auth.{auth_signature_layout}
+use Rattle.cx_control.specs.Hello.{hello_layout}
+use Rattle.cx_journal.specs.declared.entries.Entry.{Entry}
+use Rattle.cx_base.specs.declared.nodes.NodeName.{NodeName}
+use Rattle.cx_base.specs.declared.nodes.NodeName.TheVariants as node
+use Rattle.cx_rules.specs.Connector.{Stage, AwaitsBanner, AwaitsHello, AwaitsChallenge, AwaitsDone, AwaitsSignature, AwaitsIdent, Open, AskerArrival, on_banner, on_hello, on_signature, turned_at, while_challenged, while_identified, while_proved, AskerRow}
+use Rattle.cx_rules.specs.Holdings.{Asker}
+use Rattle.cx_rules.specs.Payloads.{due}
+use Rattle.cx_rules.specs.Rows.{at, with_opened}
+use Rattle.cx_rules.specs.Secured.{under, Secured}
+use Rattle.cx_steps.specs.Premises.{is_server}
+use Rattle.cx_steps.specs.declared.seals.Logged.{Logged}
+use Rattle.cx_laws_keys.proofs.Journal.{after-then}
+use Rattle.cx_laws_keys.proofs.Known.{Inv}
+use Rattle.cx_laws_keys.proofs.Premises.{AreGranted, behind, granted-rest}
+use Rattle.cx_laws_keys.proofs.Uses.{Uses, WholeRun, whose}
+use Rattle.cx_laws_login.proofs.AskerRows.{asker_says, banner-simple, challenged-simple, hello-simple, identified-simple, proved-after, signature-simple, open-simple, NeverExcepted}
+use Rattle.cx_laws_login.proofs.Facts.{AskerOk, AskerStageOk, HasMonitorKey}
+use Rattle.cx_laws_login.proofs.Rows.{AfterRow, TurnOk, after-simple, reached-allowed, Allowed, RowOk}
+use Rattle.cx_laws_login.proofs.Turns.{turn-banner, turn-open, turn-plain, turn-secure}
+use Rattle.cx_rules.specs.Requests.{Requests, on_open}
+use Rattle.cx_frame.specs.declared.frame.Frame.{Frame}
+use Rattle.cx_steps.specs.declared.seals.SealEntry.{SealEntry}
+
+module _ (run : WholeRun) (whole : List Logged) (n : NodeName) (line : ℕ) (us : Uses) (log : List Logged) (J before : List Entry) where
+  -- nothing is excepted here under its keys
+  pub asker-free : (asker : Asker) → n ≡ node.Entity asker.name → Inv run whole us log J → AskerOk run before us J asker → NeverExcepted run whole n us asker.name
+  asker-free asker here i ok key u means its e = by_trust ok.known.trusted
+    where
+      none : (b : Bool) → b ≡ false → IsTrue b → ⊥
+      none true is h = cc
+      none false is h = cc
+
+      same : (m : Name) → whose u ≡ Some m → m ≡ asker.name
+      same m is = let some : Some m ≡ Some asker.name = sym is ∙ its in cc
+
+      by_trust : (is_server (node.Entity asker.name) ≡ false) ⊎ (Contains run.leaked asker.name → ⊥) → ⊥
+      by_trust (inl client) = none (is_server n) (ap is_server here ∙ client) e.server
+      by_trust (inr unleaked) =
+          let leak = i.leaks key u means e.leak in unleaked (subst (λ (m : Name). Contains run.leaked m) (same leak.0 leak.1) leak.2)
+
+  keyed : (key other : List ℕ) → other ≡ key → HasMonitorKey us n key → HasMonitorKey us n other
+  keyed key other same h = subst (λ (k : List ℕ). HasMonitorKey us n k) (sym same) h
+
+  -- a frame on an open link, behind the parts of it that opened
+  opened-after : (b : AskerArrival) (t : Secured) (requests : Requests) (f : Frame) (opened : List SealEntry) → Inv run whole us log J → AskerOk run before us J b.own
+      → n ≡ node.Entity b.own.name → HasMonitorKey us n t.keys.key → Allowed us J n opened → AreGranted run.leaked whole n line log (opened ++ (on_open Open b t requests f).seals)
+      → AfterRow (asker_says run before n) run whole n line us log J (with_opened opened (on_open Open b t requests f))
+  opened-after b t requests f opened i ok here has al g =
+      let row : AskerRow = on_open Open b t requests f in
+      let later : List Logged = behind n line opened log in
+      let r = reached-allowed run whole n line us log J opened (λ vs. Unit {0}) i al tt in
+      let simple = open-simple run whole n line us later J before b t requests f (asker-free b.own here i ok) r.inv ok has (granted-rest run.leaked whole n line log opened row.seals g) in
+      let x = after-simple (asker_says run before n) run whole n line us later J row r.inv simple in
+      after-then run whole n line us log J opened row.seals row.entries (λ vs. Unit {0}) (RowOk (asker_says run before n) (with_opened opened row)) r (record {
+        uses = x.uses;
+        grows = x.grows;
+        inv = x.inv;
+        laws = x.laws;
+        good = record { own = x.good.own; link = x.good.link };
+      })
+
+  pub turn-ok : (a : AskerArrival) (stage : Stage) → Inv run whole us log J → AskerOk run before us J a.own → n ≡ node.Entity a.own.name → AskerStageOk us n stage
+      → TurnOk (asker_says run before n) run whole n line us log J a (turned_at a stage)
+  turn-ok a (AwaitsBanner asked) i ok here st =
+      turn-banner (asker_says run before n) run whole n line us log J a (λ l. on_banner (at a l) asked) a.link i (λ l. banner-simple run whole n line us log J before (at a l) asked ok)
+  turn-ok a (AwaitsHello asked) i ok here st =
+      turn-plain (asker_says run before n) run whole n line us log J a (λ l f. on_hello (at a l) asked (due 1 hello_layout.form f)) a.link
+      (λ l f g. after-simple (asker_says run before n) run whole n line us log J (on_hello (at a l) asked (due 1 hello_layout.form f)) i
+      (hello-simple run whole n line us log J before (at a l) asked (due 1 hello_layout.form f) ok))
+  turn-ok a (AwaitsChallenge asked) i ok here st =
+      turn-plain (asker_says run before n) run whole n line us log J a (λ l f. while_challenged (at a l) asked f) a.link
+      (λ l f g. after-simple (asker_says run before n) run whole n line us log J (while_challenged (at a l) asked f) i (challenged-simple run whole n line us log J before (at a l) asked f ok here))
+  turn-ok a AwaitsDone i ok here st =
+      turn-plain (asker_says run before n) run whole n line us log J a (λ l f. while_proved (at a l) f) a.link
+      (λ l f g. proved-after run whole n line us log J before (at a l) f (asker-free a.own here i ok) i ok here g)
+  turn-ok a (AwaitsSignature s login) i ok here st =
+      turn-secure (asker_says run before n) run whole n line us log J a s.keys (λ l k f. on_signature (at a l) (under s k) login (due 7 auth_signature_layout.form f)) a.link i
+      (λ l k f same. signature-simple run whole n line us log J before (at a l) (under s k) login (due 7 auth_signature_layout.form f) ok (keyed s.keys.key k.key same.key st))
+  turn-ok a (AwaitsIdent s session) i ok here st =
+      turn-secure (asker_says run before n) run whole n line us log J a s.keys (λ l k f. while_identified (at a l) (under s k) session f) a.link i
+      (λ l k f same. identified-simple run whole n line us log J before (at a l) (under s k) session f ok (keyed s.keys.key k.key same.key st))
+  turn-ok a (Open s requests) i ok here st =
+      turn-open (asker_says run before n) run whole n line us log J a s.keys (λ l k f. on_open Open (at a l) (under s k) requests f) a.link
+      (λ l k f opened same al g. opened-after (at a l) (under s k) requests f opened i ok here (keyed s.keys.key k.key same.key st) al g)

@@ -1,0 +1,13 @@
+pub mod Back
+pub mod ChoicesPlain
+pub mod Counted
+pub mod Good
+pub mod Legal
+pub mod LineTexts
+pub mod Once
+pub mod Places
+pub mod Plain
+pub mod ReadItems
+pub mod Says
+pub mod Spaced
+pub mod Tellables
