@@ -1,7 +1,7 @@
 -- What a row changes of the monitor's own: what is kept, and what was saved last.
 use Rattle.std.proofs.Common.{◌≡◌, ℕ, Bool, true, false, ◌⊎◌, inl, inr, List, Some, None, refl, sym, ap, subst}
 use Rattle.std.specs.Prelude.{if◌then◌else◌}
-use Rattle.cx_keyring.specs.declared.entries.Entry.{Entry}
+use Rattle.cx_keyserver.specs.cx_keyring.specs.declared.entries.Entry.{Entry}
 use Rattle.cx_keyserver.specs.Servers.{Server}
 use Rattle.cx_node.specs.declared.rows.Row.{Row as Made}
 use Rattle.cx_rotate.specs.declared.states.KeptState.{KeptState}

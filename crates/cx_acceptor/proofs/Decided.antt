@@ -19,7 +19,7 @@ use Rattle.cx_rotate.specs.declared.states.KeptState.{KeptState}
 use Rattle.cx_rules.specs.KeptStates.{same_state}
 use Rattle.cx_rules.specs.Monitor.{Monitor, MonitorRow}
 use Rattle.cx_rules.specs.Tickets.{issued_for, rotation_drawn, services_for}
-use Rattle.cx_sealed.specs.declared.service_ticket.ServiceTicket.{ServiceTicket}
+use Rattle.cx_keyserver.specs.cx_sealed.specs.declared.service_ticket.ServiceTicket.{ServiceTicket}
 use Rattle.cx_steps.specs.declared.seals.SealEntry.{SealEntry}
 use Rattle.cx_acceptor.proofs.Changed.{changed-saves}
 use Rattle.cx_acceptor.specs.Rows.{IsMonitorRow, arrived, saves, saving}

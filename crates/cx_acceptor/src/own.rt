@@ -57,7 +57,7 @@ impl Model for KeyChange {
 impl Own {
     ghost use Rattle.std.specs.Prelude.{◌≡◌, ◌⊎◌, None, Some, find};
     ghost use Rattle.std.specs.Option.{option_map};
-    ghost use Rattle.cx_keyring.specs.Entries.{is_named};
+    ghost use Rattle.cx_keyserver.specs.cx_keyring.specs.Entries.{is_named};
     ghost use Rattle.cx_keyserver.specs.Servers.{Server};
     ghost use Rattle.cx_rotate.specs.Keeping.{IsKeptState};
     ghost use Rattle.cx_rules.specs.KeptStates.{saved_behind};

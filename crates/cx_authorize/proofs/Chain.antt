@@ -5,10 +5,10 @@ use Rattle.std.specs.List.{AllByRecursion}
 use Rattle.std.specs.Option.{option_map}
 use Rattle.std.specs.declared.alloc.AllocError.{AllocError}
 use Rattle.std.proofs.lemmas.List.{append-nil}
-use Rattle.cx_aes.specs.Cipher.{IsBlock}
+use Rattle.cx_sealed.specs.cx_aes.specs.Cipher.{IsBlock}
 use Rattle.cx_base.specs.Names.{same_kind}
-use Rattle.cx_control.specs.Calls.{IsRefusedFor, stop_of}
-use Rattle.cx_control.specs.declared.refusals.WireRefusal.TheVariants as wire
+use Rattle.cx_wire.specs.cx_control.specs.Calls.{IsRefusedFor, stop_of}
+use Rattle.cx_wire.specs.cx_control.specs.declared.refusals.WireRefusal.TheVariants as wire
 use Rattle.cx_enc.specs.Forms.{Spot, IsBytes}
 use Rattle.cx_enc.specs.Layouts.{Layout}
 use Rattle.cx_enc.specs.Whole.{start, Spells}

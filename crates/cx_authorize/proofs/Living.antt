@@ -3,7 +3,7 @@ use Rattle.std.proofs.Common.{◌≡◌, ℕ, ◌<◌, Bool, true, false, cond, 
 use Rattle.std.specs.Prelude.{◌==◌, ◌&&◌, not, nat_le}
 use Rattle.std.proofs.lemmas.Bool.{leb-false}
 use Rattle.cx_base.specs.Names.{same_kind}
-use Rattle.cx_control.specs.Calls.{stop_of}
+use Rattle.cx_wire.specs.cx_control.specs.Calls.{stop_of}
 use Rattle.cx_enc.specs.Whole.{start}
 use Rattle.cx_journal.specs.declared.premises.KeyKind.TheVariants as kind
 use Rattle.cx_sealed.specs.Records.{service_ticket_layout, authorize_layout}

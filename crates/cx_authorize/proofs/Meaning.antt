@@ -1,6 +1,6 @@
 -- What a client answers and agrees on is what sealed parts open to.
 use Rattle.std.proofs.Common.{ℕ, List, Option, Some, None, Ok, Err, sym, subst}
-use Rattle.cx_aes.specs.Cipher.{IsBlock}
+use Rattle.cx_sealed.specs.cx_aes.specs.Cipher.{IsBlock}
 use Rattle.cx_enc.specs.Forms.{Form, IsLawful}
 use Rattle.cx_journal.specs.declared.premises.KeyKind.TheVariants.{Session}
 use Rattle.cx_sealed.specs.Records.{authorize_challenge_layout, authorize_reply_layout}

@@ -2,7 +2,7 @@
 use Rattle.std.proofs.Common.{◌≡◌, ℕ, ◌<◌, List, All, length, take, drop, Option, Some, None, refl, ap, subst, ◌∙◌}
 use Rattle.std.proofs.lemmas.List.{take_at}
 use Rattle.std.proofs.lemmas.List.Elements.{All-take, All-drop}
-use Rattle.cx_aes.specs.Cipher.{IsBlock}
+use Rattle.cx_sealed.specs.cx_aes.specs.Cipher.{IsBlock}
 use Rattle.cx_enc.specs.Forms.{Form, IsLawful, little}
 use Rattle.cx_enc.specs.Values.{secret_form, key_form, time_form}
 use Rattle.cx_journal.specs.declared.premises.KeyKind.{KeyKind}

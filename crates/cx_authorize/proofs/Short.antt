@@ -1,7 +1,7 @@
 -- A sealed record can be written in a blob, and that blob in a frame.
 use Rattle.std.proofs.Common.{◌≡◌, ℕ, ◌≤◌, ◌<◌, ◌^◌, List, length, get_or, ap, arith}
-use Rattle.cx_aes.proofs.Keys.{IsBlock-array}
-use Rattle.cx_cbc.proofs.Contents.{length-opens}
+use Rattle.cx_sealed.specs.cx_aes.proofs.Keys.{IsBlock-array}
+use Rattle.cx_sealed.specs.cx_cbc.proofs.Contents.{length-opens}
 use Rattle.cx_enc.specs.Forms.{Form, little}
 use Rattle.cx_enc.specs.Whole.{Spells}
 use Rattle.cx_sealed.specs.Sealing.{IsSealed}

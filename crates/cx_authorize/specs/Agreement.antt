@@ -2,7 +2,7 @@
 -- mean.
 use Rattle.std.specs.Prelude.{ℕ, ◌≡◌, ◌<◌, ◌↔◌, true, List, All, Some, Result, Ok, IfOk, IfErr}
 use Rattle.std.specs.List.{AllByRecursion}
-use Rattle.cx_aes.specs.Cipher.{IsBlock}
+use Rattle.cx_sealed.specs.cx_aes.specs.Cipher.{IsBlock}
 use Rattle.cx_base.specs.Names.{same_kind}
 use Rattle.cx_sealed.specs.Records.{service_ticket_layout}
 use Rattle.cx_sealed.specs.Sealing.{OpensTo}

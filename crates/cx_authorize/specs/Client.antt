@@ -2,8 +2,8 @@
 -- takes the reply to its own nonce).
 use Rattle.std.specs.Prelude.{ℕ, ◌≡◌, ◌≢◌, List, Some, None, Result, Ok, Err, IfOk, IfErr}
 use Rattle.cx_enc.specs.Whole.{Spells}
-use Rattle.cx_control.specs.Calls.{IsRefusedFor}
-use Rattle.cx_control.specs.declared.refusals.WireRefusal.TheVariants as wire
+use Rattle.cx_wire.specs.cx_control.specs.Calls.{IsRefusedFor}
+use Rattle.cx_wire.specs.cx_control.specs.declared.refusals.WireRefusal.TheVariants as wire
 use Rattle.cx_journal.specs.declared.premises.KeyKind.TheVariants.{Session}
 use Rattle.cx_sealed.specs.Records.{authorize_challenge_layout, authorize_reply_layout}
 use Rattle.cx_sealed.specs.declared.authorize_challenge.AuthorizeChallenge.{AuthorizeChallenge}

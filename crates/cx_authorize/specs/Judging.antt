@@ -5,7 +5,7 @@ use Rattle.std.specs.Prelude.{ℕ, ◌≡◌, ◌⊎◌, List, [], ◌++◌, Opt
 use Rattle.std.specs.declared.alloc.AllocError.{AllocError}
 use Rattle.cx_base.specs.Names.{same_kind}
 use Rattle.cx_base.specs.declared.kinds.EntityType.{EntityType}
-use Rattle.cx_control.specs.Calls.{stop_of}
+use Rattle.cx_wire.specs.cx_control.specs.Calls.{stop_of}
 use Rattle.cx_enc.specs.Whole.{start}
 use Rattle.cx_journal.specs.declared.premises.KeyKind.TheVariants as kind
 use Rattle.cx_rotate.specs.declared.views.View.{View}

@@ -3,8 +3,8 @@
 use Rattle.std.specs.Prelude.{ℕ, ◌≡◌, ◌==◌, ◌+◌, ◌%◌, ◌^◌, ◌&&◌, ◌⊎◌, not, nat_le, List, Option, Some, None, Result, Ok, Err, MatchBool, if◌then◌else◌}
 use Rattle.cx_base.specs.Names.{same_kind}
 use Rattle.cx_enc.specs.Whole.{Spells}
-use Rattle.cx_control.specs.Calls.{IsRefusedFor}
-use Rattle.cx_control.specs.declared.refusals.WireRefusal.TheVariants as wire
+use Rattle.cx_wire.specs.cx_control.specs.Calls.{IsRefusedFor}
+use Rattle.cx_wire.specs.cx_control.specs.declared.refusals.WireRefusal.TheVariants as wire
 use Rattle.cx_sealed.specs.Records.{service_ticket_layout, authorize_layout}
 use Rattle.cx_sealed.specs.declared.service_ticket.ServiceTicket.{ServiceTicket}
 use Rattle.cx_sealed.specs.declared.authorize.Authorize.{Authorize}

@@ -14,11 +14,11 @@ use Rattle.cx_journal.specs.declared.faults.BytesFault.{BytesFault}
 use Rattle.cx_journal.specs.declared.faults.BytesFault.TheVariants.{Unexpected}
 use Rattle.cx_journal.specs.declared.faults.LoginFault.TheVariants.{SignatureWrong}
 use Rattle.cx_journal.specs.declared.outcomes.Reason.TheVariants as reason
-use Rattle.cx_rules.specs.Connector.{client_ident}
-use Rattle.cx_rules.specs.Messages.{secure_frames}
-use Rattle.cx_rules.specs.Payloads.{due, payload}
-use Rattle.cx_rules.specs.Rows.{refused_entry, refuses, refuses_bytes, secure_sent, unless_refused}
-use Rattle.cx_rules.specs.Secured.{SealedFrame, Secured, is_signed, secure_frame, signature_found}
+use Rattle.cx_node.specs.cx_rules.specs.Connector.{client_ident}
+use Rattle.cx_node.specs.cx_rules.specs.Messages.{secure_frames}
+use Rattle.cx_node.specs.cx_rules.specs.Payloads.{due, payload}
+use Rattle.cx_node.specs.cx_rules.specs.Rows.{refused_entry, refuses, refuses_bytes, secure_sent, unless_refused}
+use Rattle.cx_node.specs.cx_rules.specs.Secured.{SealedFrame, Secured, is_signed, secure_frame, signature_found}
 use Rattle.cx_presenting.specs.cx_rules_session.specs.Forgets.{abridged_call_link}
 use Rattle.cx_presenting.specs.cx_rules_session.specs.Kinds.{entered_before}
 use Rattle.cx_presenting.specs.cx_rules_session.specs.Lossy.{lossy_flags}

@@ -10,11 +10,11 @@ use Rattle.cx_journal.specs.declared.outcomes.Reason.TheVariants as reason
 use Rattle.cx_link.specs.Wires.{SecureWire, secured_link}
 use Rattle.cx_link.specs.declared.links.SentFrame.{SentFrame}
 use Rattle.cx_node.specs.declared.rows.Row.{Row as Made}
-use Rattle.cx_rules.specs.Connector.{client_ident}
-use Rattle.cx_rules.specs.Holdings.{Asker}
-use Rattle.cx_rules.specs.Messages.{secure_frames}
-use Rattle.cx_rules.specs.Rows.{refused_entry, secure_sent}
-use Rattle.cx_rules.specs.Secured.{SealedFrame, Secured, secure_frame}
+use Rattle.cx_node.specs.cx_rules.specs.Connector.{client_ident}
+use Rattle.cx_node.specs.cx_rules.specs.Holdings.{Asker}
+use Rattle.cx_node.specs.cx_rules.specs.Messages.{secure_frames}
+use Rattle.cx_node.specs.cx_rules.specs.Rows.{refused_entry, secure_sent}
+use Rattle.cx_node.specs.cx_rules.specs.Secured.{SealedFrame, Secured, secure_frame}
 use Rattle.cx_presenting.specs.cx_rules_session.specs.Forgets.{abridged_call_link}
 use Rattle.cx_presenting.specs.cx_rules_session.specs.Lossy.{lossy_flags}
 use Rattle.cx_presenting.specs.cx_rules_session.specs.Presenter.{CallArrival, CallRow, CallStage, Caller, counting, goes_on_in, holding_session, identifies, reconnects, resets, retries, retries_global, takes_up}

@@ -6,7 +6,7 @@ use Rattle.cx_link.specs.Wires.{SecureWire, secured_link}
 use Rattle.cx_link.specs.declared.links.SentFrame.{SentFrame}
 use Rattle.cx_node.specs.Made.{going_on, refusing_bytes}
 use Rattle.cx_node.specs.declared.rows.Row.{Row as Made}
-use Rattle.cx_rules.specs.Secured.{Keys, Secured}
+use Rattle.cx_node.specs.cx_rules.specs.Secured.{Keys, Secured}
 use Rattle.cx_presenting.specs.cx_rules_session.specs.Forgets.{abridged_call_link}
 use Rattle.cx_presenting.specs.cx_rules_session.specs.Presenter as call
 use Rattle.cx_presenting.specs.cx_rules_session.specs.Presenter.{CallArrival, CallRow, CallStage, Caller}

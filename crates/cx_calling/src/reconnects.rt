@@ -5,7 +5,7 @@ ghost use Rattle.std.specs.Option.{option_copied};
 ghost use Rattle.cx_link.specs.Wires.{secured_link};
 ghost use Rattle.cx_presenting.specs.cx_rules_session.specs.Presenter.{CallStage, counting, on_reconnect_ok, on_reset, on_retry, on_retry_global, reconnects, retries, retries_global, taken_up, takes_up, while_reconnecting};
 ghost use Rattle.cx_control.specs.Reconnects.{session_reconnect_layout};
-ghost use Rattle.cx_rules.specs.Payloads.{control};
+ghost use Rattle.cx_node.specs.cx_rules.specs.Payloads.{control};
 ghost use Rattle.cx_presenting.specs.cx_rules_session.specs.Sessions.{HeldSession, session_reconnect};
 ghost use Rattle.cx_presenting.specs.cx_sending.specs.Table as table;
 ghost use Rattle.cx_turns.specs.Stages.{keys_alone};

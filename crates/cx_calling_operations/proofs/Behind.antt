@@ -2,10 +2,10 @@
 use Rattle.std.proofs.Common.{◌≡◌, ◌∙◌, ℕ, ◌==◌, Bool, true, false, [], Option, Some, None, refl, sym, ap}
 use Rattle.cx_control.specs.Upkeep.{ack_layout}
 use Rattle.cx_frame.specs.declared.frame.Frame.{Frame}
-use Rattle.cx_rules.specs.Messages.{message_in}
-use Rattle.cx_rules.specs.Payloads.{payload}
-use Rattle.cx_rules.specs.Rows.{goes_on}
-use Rattle.cx_rules.specs.Secured.{Keys, Secured}
+use Rattle.cx_node.specs.cx_rules.specs.Messages.{message_in}
+use Rattle.cx_node.specs.cx_rules.specs.Payloads.{payload}
+use Rattle.cx_node.specs.cx_rules.specs.Rows.{goes_on}
+use Rattle.cx_node.specs.cx_rules.specs.Secured.{Keys, Secured}
 use Rattle.cx_calling.specs.cx_rules_session.specs.Forgets.{abridged_call_link}
 use Rattle.cx_calling.specs.cx_rules_session.specs.Kinds.{entered_before}
 use Rattle.cx_calling.specs.cx_rules_session.specs.Presenter as call

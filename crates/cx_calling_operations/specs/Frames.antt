@@ -3,10 +3,10 @@ use Rattle.std.specs.Prelude.{ℕ, [], Option, Some, None}
 use Rattle.cx_base.specs.declared.operations.Operation.{Operation}
 use Rattle.cx_frame.specs.declared.frame.Frame.{Frame}
 use Rattle.cx_node.specs.declared.rows.Row.{Row as Made}
-use Rattle.cx_rules.specs.Holdings.{Asker}
-use Rattle.cx_rules.specs.Messages.{on_upkeep_or}
-use Rattle.cx_rules.specs.Rows.{sends_secure}
-use Rattle.cx_rules.specs.Secured.{Secured}
+use Rattle.cx_node.specs.cx_rules.specs.Holdings.{Asker}
+use Rattle.cx_node.specs.cx_rules.specs.Messages.{on_upkeep_or}
+use Rattle.cx_node.specs.cx_rules.specs.Rows.{sends_secure}
+use Rattle.cx_node.specs.cx_rules.specs.Secured.{Secured}
 use Rattle.cx_calling.specs.cx_rules_session.specs.Presenter.{CallArrival, CallRow, CallStage, Caller, Open, on_answer_or_ack}
 use Rattle.cx_calling.specs.cx_rules_session.specs.Sessions.{Callee, HeldSession, operation_message}
 use Rattle.cx_turns.specs.declared.moments.Moment.{Moment}

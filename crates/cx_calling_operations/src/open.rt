@@ -1,7 +1,7 @@
 //! Frames on an open link: KEEPALIVE2, KEEPALIVE2_ACK, acknowledgements, and answers to operations.
 
 ghost use Rattle.std.specs.Prelude.{◌≡◌, [], Option, IfOk};
-ghost use Rattle.cx_rules.specs.Rows.{secure_sent};
+ghost use Rattle.cx_node.specs.cx_rules.specs.Rows.{secure_sent};
 ghost use Rattle.cx_calling.specs.cx_rules_session.specs.Presenter.{OperationEnd, Open, answered_entry, on_ack, on_answer, on_answer_or_ack};
 ghost use Rattle.cx_calling.specs.cx_rules_session.specs.Sessions.{HeldSession};
 ghost use Rattle.cx_turns.specs.Stages.{keys_alone};

@@ -1,7 +1,7 @@
 //! An operation that is sent on an open link.
 
 ghost use Rattle.std.specs.Prelude.{◌≡◌, true, IfOk};
-ghost use Rattle.cx_rules.specs.Secured.{secure_frame};
+ghost use Rattle.cx_node.specs.cx_rules.specs.Secured.{secure_frame};
 ghost use Rattle.cx_calling.specs.cx_rules_session.specs.Presenter.{is_open};
 ghost use Rattle.cx_calling.specs.cx_rules_session.specs.Sessions.{operation_message};
 ghost use Rattle.cx_turns.specs.Sending.{SendsSecure};

@@ -12,5 +12,8 @@ pub use opening::{open, opening_laws, opens_one_content};
 pub use refusals::{OpenRefusal, SealRefusal};
 pub use sealing::{seal, seal_16};
 
+// What crates above name through this one, and so needn't list.
+pub use cx_aes::Schedule;
+
 /// The bytes of the longest content.
 pub const LONGEST: usize = 1_048_576;

@@ -1,7 +1,7 @@
 -- Where nothing happens, the step is that of the rules.
 use Rattle.std.proofs.Common.{◌≡◌, List}
-use Rattle.cx_rules.specs.Rows.{idles}
-use Rattle.cx_rules_session.specs.ClientRule.{WholeClient}
+use Rattle.cx_node.specs.cx_rules.specs.Rows.{idles}
+use Rattle.cx_client_calls.specs.cx_rules_session.specs.ClientRule.{WholeClient}
 use Rattle.cx_steps.specs.Nothing.{nothing}
 use Rattle.cx_steps.specs.declared.effects.Effects.{Effects}
 use Rattle.cx_turns.specs.Steps.{node_of}

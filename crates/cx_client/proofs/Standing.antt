@@ -1,10 +1,10 @@
 -- What a client stands for where memory is wanting.
 use Rattle.std.proofs.Common.{ℕ, Option, Some, None}
-use Rattle.cx_rules.specs.Inputs as input
-use Rattle.cx_rules.specs.Inputs.{Input}
-use Rattle.cx_rules.specs.Rows.{forgotten}
-use Rattle.cx_rules_session.specs.ClientRule.{WholeClientNode, undialled}
-use Rattle.cx_rules_session.specs.Forgets.{WholeClientStandsFor}
+use Rattle.cx_node.specs.cx_rules.specs.Inputs as input
+use Rattle.cx_node.specs.cx_rules.specs.Inputs.{Input}
+use Rattle.cx_node.specs.cx_rules.specs.Rows.{forgotten}
+use Rattle.cx_client_calls.specs.cx_rules_session.specs.ClientRule.{WholeClientNode, undialled}
+use Rattle.cx_client_calls.specs.cx_rules_session.specs.Forgets.{WholeClientStandsFor}
 use Rattle.cx_steps.specs.declared.events.Peer.{Peer}
 use Rattle.cx_turns.specs.Events.{link_in}
 use Rattle.cx_turns.specs.Steps.{without_lost}

@@ -1,20 +1,18 @@
 //! A client.
 
 ghost use Rattle.std.specs.Prelude.{◌≡◌, OnOk, OnErr};
-ghost use Rattle.cx_rules.specs.Inputs.{input_of};
-ghost use Rattle.cx_rules_session.specs.ClientRule.{WholeClientNode, is_idle, opening_whole_client, whole_client_rule};
-ghost use Rattle.cx_rules_session.specs.Forgets.{WholeClientStandsFor, abridged_whole_client};
+ghost use Rattle.cx_node.specs.cx_rules.specs.Inputs.{input_of};
+ghost use Rattle.cx_client_calls.specs.cx_rules_session.specs.ClientRule.{WholeClientNode, is_idle, opening_whole_client, whole_client_rule};
+ghost use Rattle.cx_client_calls.specs.cx_rules_session.specs.Forgets.{WholeClientStandsFor, abridged_whole_client};
 ghost use Rattle.cx_turns.specs.Events.{losing};
 ghost use Rattle.cx_client.specs.Machine.{IsWritableInput, lost, opening_asker};
 
 use crate::steps::steps;
 use cx_base::{Addr, EntityName, Reading};
-use cx_client_calls::{Link, Own, are_at_rest};
+use cx_client_calls::{Asker, Link, OfferedModes, Own, are_at_rest, client_forgetting_laws};
 use cx_dice::Draw;
 use cx_enc::Key;
-use cx_holdings::{Asker, OfferedModes};
 use cx_node::Links;
-use cx_rules_session::client_forgetting_laws;
 use cx_steps::{Effects, Event};
 use cx_turns::{link_in, wanting};
 use std::alloc::{AllocError, Global};
@@ -29,7 +27,7 @@ pub struct Client {
 
 impl Model for Client {
     ghost use Rattle.std.specs.Prelude.{◌≡◌, None};
-    ghost use Rattle.cx_rules_session.specs.ClientRule.{WholeClientNode};
+    ghost use Rattle.cx_client_calls.specs.cx_rules_session.specs.ClientRule.{WholeClientNode};
     ghost use Rattle.cx_turns.specs.Steps.{node_of};
     ghost use Rattle.cx_client.specs.Machine.{AreHeld};
 

@@ -1,8 +1,8 @@
 //! What a client does at each event.
 
 ghost use Rattle.std.specs.Prelude.{◌≡◌, None, IfOk, OnErr};
-ghost use Rattle.cx_rules.specs.Inputs.{input_of};
-ghost use Rattle.cx_rules_session.specs.ClientRule as rule;
+ghost use Rattle.cx_node.specs.cx_rules.specs.Inputs.{input_of};
+ghost use Rattle.cx_client_calls.specs.cx_rules_session.specs.ClientRule as rule;
 ghost use Rattle.cx_turns.specs.Steps.{node_of};
 ghost use Rattle.cx_client.specs.Machine.{AreHeld, IsStep, IsWritableCommand, IsWritableInput, lost};
 

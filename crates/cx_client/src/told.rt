@@ -1,8 +1,8 @@
 //! What may come to a client: an operation that is to be sent can be written.
 
 ghost use Rattle.std.specs.Prelude.{IsTrue};
-ghost use Rattle.cx_rules.specs.Inputs.{input_of};
-ghost use Rattle.cx_wire.specs.Operations.{IsWritable};
+ghost use Rattle.cx_node.specs.cx_rules.specs.Inputs.{input_of};
+ghost use Rattle.cx_node.specs.cx_wire.specs.Operations.{IsWritable};
 ghost use Rattle.cx_client.specs.Machine.{IsWritableCommand, IsWritableInput};
 
 use cx_base::{Operation, is_part};

@@ -2,24 +2,24 @@
 use Rattle.std.proofs.Common.{◌≡◌, ◌∙◌, ℕ, Option, Some, None, refl, sym, ap, subst}
 use Rattle.std.specs.Option.{option_map}
 use Rattle.cx_base.specs.Names.{Name}
-use Rattle.cx_connector.specs.Rows as monitor
-use Rattle.cx_connector.specs.declared.rows.Change.{Change as MonitorChange}
+use Rattle.cx_client_events.specs.cx_connector.specs.Rows as monitor
+use Rattle.cx_client_events.specs.cx_connector.specs.declared.rows.Change.{Change as MonitorChange}
 use Rattle.cx_client_events.specs.cx_kinds.specs.Made.{came_of_kind}
 use Rattle.cx_client_events.specs.cx_kinds.proofs.OfKinds.{turn_lifts}
-use Rattle.cx_presenting.specs.Rows as calls
-use Rattle.cx_presenting.specs.Stages.{CallLink}
-use Rattle.cx_presenting.specs.declared.rows.Change.{Change as DaemonChange}
-use Rattle.cx_rules.specs.Abridged.{abridged_asker_link}
-use Rattle.cx_rules.specs.Connector as connector
-use Rattle.cx_rules.specs.Holdings.{Asker}
-use Rattle.cx_rules.specs.Links.{Link}
-use Rattle.cx_rules.specs.Rows.{Turned}
-use Rattle.cx_rules_session.specs.ClientRule.{ClientStage, ToDaemon, ToMonitor, WholeClient, caller_to, with_asker, with_caller}
-use Rattle.cx_rules_session.specs.Forgets.{abridged_call_link, abridged_client_link}
-use Rattle.cx_rules_session.specs.Kinds.{of_kind, turn_of_kind}
-use Rattle.cx_rules_session.specs.Presenter as call
-use Rattle.cx_rules_session.specs.Presenter.{Caller}
-use Rattle.cx_rules_session.specs.Sessions.{HeldSession, session_with}
+use Rattle.cx_calling_operations.specs.cx_presenting.specs.Rows as calls
+use Rattle.cx_calling_operations.specs.cx_presenting.specs.Stages.{CallLink}
+use Rattle.cx_calling_operations.specs.cx_presenting.specs.declared.rows.Change.{Change as DaemonChange}
+use Rattle.cx_node.specs.cx_rules.specs.Abridged.{abridged_asker_link}
+use Rattle.cx_node.specs.cx_rules.specs.Connector as connector
+use Rattle.cx_node.specs.cx_rules.specs.Holdings.{Asker}
+use Rattle.cx_node.specs.cx_rules.specs.Links.{Link}
+use Rattle.cx_node.specs.cx_rules.specs.Rows.{Turned}
+use Rattle.cx_calling_operations.specs.cx_rules_session.specs.ClientRule.{ClientStage, ToDaemon, ToMonitor, WholeClient, caller_to, with_asker, with_caller}
+use Rattle.cx_calling_operations.specs.cx_rules_session.specs.Forgets.{abridged_call_link, abridged_client_link}
+use Rattle.cx_calling_operations.specs.cx_rules_session.specs.Kinds.{of_kind, turn_of_kind}
+use Rattle.cx_calling_operations.specs.cx_rules_session.specs.Presenter as call
+use Rattle.cx_calling_operations.specs.cx_rules_session.specs.Presenter.{Caller}
+use Rattle.cx_calling_operations.specs.cx_rules_session.specs.Sessions.{HeldSession, session_with}
 use Rattle.cx_turns.specs.Making.{own_behind}
 use Rattle.cx_turns.specs.Steps.{IsTurn}
 use Rattle.cx_turns.specs.Turns.{HasNumber}

@@ -17,19 +17,19 @@ use Rattle.cx_client_events.specs.cx_kinds.proofs.OfKinds.{made_due}
 use Rattle.cx_node.specs.Made.{as_row}
 use Rattle.cx_node.specs.Tables.{Table, with_number}
 use Rattle.cx_node.specs.declared.rows.Row.{Row as Made}
-use Rattle.cx_presenting.specs.Rows.{arrived, caller}
-use Rattle.cx_presenting.specs.Stages.{CallLink}
-use Rattle.cx_rules.specs.Holdings.{Asker}
-use Rattle.cx_rules.specs.Links.{Link}
-use Rattle.cx_rules.specs.Rows.{Outcome, Row, arrival, refused_entry, secure_sent, sends_secure}
-use Rattle.cx_rules.specs.Secured.{SealedFrame, Secured, secure_frame}
-use Rattle.cx_rules_session.specs.ClientRule.{ClientStage, ToDaemon, WholeClient, WholeClientNode, call_open, call_or, first_call, me, pushes, queue_reason, refuses_command, sends, sends_in, sends_on, sent_entry}
-use Rattle.cx_rules_session.specs.Forgets.{abridged_call_link, abridged_client_link}
-use Rattle.cx_rules_session.specs.Kinds.{entered_before, of_kind, row_of_kind}
-use Rattle.cx_rules_session.specs.Presenter as call
-use Rattle.cx_rules_session.specs.Presenter.{CallArrival, CallRow, CallStage, Caller, callee_of, is_open}
-use Rattle.cx_rules_session.specs.Sessions.{Callee, HeldSession, operation_message, put_session, session_with}
-use Rattle.cx_rules_session.proofs.WholeClientForgets.{client-forgets-links}
+use Rattle.cx_calling_operations.specs.cx_presenting.specs.Rows.{arrived, caller}
+use Rattle.cx_calling_operations.specs.cx_presenting.specs.Stages.{CallLink}
+use Rattle.cx_node.specs.cx_rules.specs.Holdings.{Asker}
+use Rattle.cx_node.specs.cx_rules.specs.Links.{Link}
+use Rattle.cx_node.specs.cx_rules.specs.Rows.{Outcome, Row, arrival, refused_entry, secure_sent, sends_secure}
+use Rattle.cx_node.specs.cx_rules.specs.Secured.{SealedFrame, Secured, secure_frame}
+use Rattle.cx_calling_operations.specs.cx_rules_session.specs.ClientRule.{ClientStage, ToDaemon, WholeClient, WholeClientNode, call_open, call_or, first_call, me, pushes, queue_reason, refuses_command, sends, sends_in, sends_on, sent_entry}
+use Rattle.cx_calling_operations.specs.cx_rules_session.specs.Forgets.{abridged_call_link, abridged_client_link}
+use Rattle.cx_calling_operations.specs.cx_rules_session.specs.Kinds.{entered_before, of_kind, row_of_kind}
+use Rattle.cx_calling_operations.specs.cx_rules_session.specs.Presenter as call
+use Rattle.cx_calling_operations.specs.cx_rules_session.specs.Presenter.{CallArrival, CallRow, CallStage, Caller, callee_of, is_open}
+use Rattle.cx_calling_operations.specs.cx_rules_session.specs.Sessions.{Callee, HeldSession, operation_message, put_session, session_with}
+use Rattle.cx_calling_operations.specs.cx_rules_session.proofs.WholeClientForgets.{client-forgets-links}
 use Rattle.cx_client_events.specs.cx_sending.specs.Table.{having_pushed, in_session}
 use Rattle.cx_session.specs.Queue.{push_reply, pushed}
 use Rattle.cx_session.specs.declared.outbox.QueueFault.{QueueFault}

@@ -8,15 +8,15 @@ use Rattle.cx_journal.specs.declared.outcomes.Reason.{Reason}
 use Rattle.cx_journal.specs.declared.outcomes.Reason.TheVariants as reason
 use Rattle.cx_node.specs.Made.{as_row}
 use Rattle.cx_node.specs.declared.rows.Row.{Row as Made}
-use Rattle.cx_rules.specs.Links.{Link}
-use Rattle.cx_rules.specs.Rows.{arrival, sends_secure}
-use Rattle.cx_rules.specs.Secured.{Secured}
-use Rattle.cx_rules_session.specs.ClientRule.{ToDaemon, WholeClient, me, queue_reason, sent_entry}
-use Rattle.cx_rules_session.specs.Forgets.{abridged_client_link}
-use Rattle.cx_rules_session.specs.Kinds.{entered_before, of_kind}
-use Rattle.cx_rules_session.specs.Presenter as call
-use Rattle.cx_rules_session.specs.Presenter.{CallStage}
-use Rattle.cx_rules_session.specs.Sessions.{Callee, HeldSession, operation_message}
+use Rattle.cx_node.specs.cx_rules.specs.Links.{Link}
+use Rattle.cx_node.specs.cx_rules.specs.Rows.{arrival, sends_secure}
+use Rattle.cx_node.specs.cx_rules.specs.Secured.{Secured}
+use Rattle.cx_calling_operations.specs.cx_rules_session.specs.ClientRule.{ToDaemon, WholeClient, me, queue_reason, sent_entry}
+use Rattle.cx_calling_operations.specs.cx_rules_session.specs.Forgets.{abridged_client_link}
+use Rattle.cx_calling_operations.specs.cx_rules_session.specs.Kinds.{entered_before, of_kind}
+use Rattle.cx_calling_operations.specs.cx_rules_session.specs.Presenter as call
+use Rattle.cx_calling_operations.specs.cx_rules_session.specs.Presenter.{CallStage}
+use Rattle.cx_calling_operations.specs.cx_rules_session.specs.Sessions.{Callee, HeldSession, operation_message}
 use Rattle.cx_client_events.specs.cx_sending.specs.Table.{having_pushed, in_session}
 use Rattle.cx_session.specs.Queue.{push_reply}
 use Rattle.cx_session.specs.declared.outbox.QueueFault.{QueueFault}

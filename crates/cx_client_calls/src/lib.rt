@@ -9,5 +9,6 @@ pub use sending::sends;
 
 // What crates above name through this one, and so needn't list.
 pub use cx_client_events::{
-    Link, Own, are_at_rest, comes, connects, goes, logs_in, opens, opens_none, renews, restarts,
+    Asker, Link, OfferedModes, Own, are_at_rest, client_forgetting_laws, comes, connects, goes,
+    logs_in, opens, opens_none, renews, restarts,
 };

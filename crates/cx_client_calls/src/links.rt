@@ -2,10 +2,10 @@
 
 ghost use Rattle.std.specs.Prelude.{◌≡◌, ◌<◌, List, None, Some, IfOk, OnOk, OnErr};
 ghost use Rattle.cx_node.specs.Tables.{with_number, without};
-ghost use Rattle.cx_rules.specs.Links.{link_of, without_link};
-ghost use Rattle.cx_rules_session.specs.ClientRule as rule;
-ghost use Rattle.cx_rules_session.specs.ClientRule.{ToDaemon, ToMonitor, me};
-ghost use Rattle.cx_rules_session.specs.Kinds.{of_kind};
+ghost use Rattle.cx_node.specs.cx_rules.specs.Links.{link_of, without_link};
+ghost use Rattle.cx_calling_operations.specs.cx_rules_session.specs.ClientRule as rule;
+ghost use Rattle.cx_calling_operations.specs.cx_rules_session.specs.ClientRule.{ToDaemon, ToMonitor, me};
+ghost use Rattle.cx_calling_operations.specs.cx_rules_session.specs.Kinds.{of_kind};
 ghost use Rattle.cx_turns.specs.Making.{own_behind};
 ghost use Rattle.cx_turns.specs.Steps.{node_of};
 ghost use Rattle.cx_turns.specs.Turns.{HasNumber, IsSettled, IsTurned, Turning};

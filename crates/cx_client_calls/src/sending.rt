@@ -2,13 +2,13 @@
 
 ghost use Rattle.std.specs.Prelude.{◌≡◌, [], ◌∷◌, Some, None, true, false, IfOk, IfSome, IsSome, OnErr};
 ghost use Rattle.cx_node.specs.Tables.{behind, with_number};
-ghost use Rattle.cx_rules_session.specs.ClientRule as rule;
-ghost use Rattle.cx_rules_session.specs.Presenter.{is_open};
-ghost use Rattle.cx_rules_session.specs.Sessions.{session_with};
+ghost use Rattle.cx_calling_operations.specs.cx_rules_session.specs.ClientRule as rule;
+ghost use Rattle.cx_calling_operations.specs.cx_rules_session.specs.Presenter.{is_open};
+ghost use Rattle.cx_calling_operations.specs.cx_rules_session.specs.Sessions.{session_with};
 ghost use Rattle.cx_steps.specs.Nothing.{nothing};
 ghost use Rattle.cx_turns.specs.Steps.{node_of};
 ghost use Rattle.cx_turns.specs.Turns.{IsCarried};
-ghost use Rattle.cx_wire.specs.Operations.{IsWritable};
+ghost use Rattle.cx_calling_operations.specs.cx_wire.specs.Operations.{IsWritable};
 ghost use Rattle.cx_client_events.specs.Machine.{AreHeld, IsStep};
 ghost use Rattle.cx_client_calls.specs.Sending.{IsSentRow, numbered, with_pushed};
 

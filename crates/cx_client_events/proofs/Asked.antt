@@ -5,12 +5,12 @@ use Rattle.cx_journal.specs.declared.outcomes.Reason.TheVariants.{NoSession}
 use Rattle.cx_node.specs.Made.{as_row}
 use Rattle.cx_node.specs.Tables.{Table}
 use Rattle.cx_node.specs.declared.rows.Row.{Row as Made}
-use Rattle.cx_rules.specs.Connector as connector
-use Rattle.cx_rules.specs.Connector.{kept_open}
-use Rattle.cx_rules.specs.Links.{Link}
-use Rattle.cx_rules.specs.Requests.{Requests, first_open}
-use Rattle.cx_rules.specs.Rows.{refused_entry}
-use Rattle.cx_rules.specs.Secured.{Secured}
+use Rattle.cx_node.specs.cx_rules.specs.Connector as connector
+use Rattle.cx_node.specs.cx_rules.specs.Connector.{kept_open}
+use Rattle.cx_node.specs.cx_rules.specs.Links.{Link}
+use Rattle.cx_node.specs.cx_rules.specs.Requests.{Requests, first_open}
+use Rattle.cx_node.specs.cx_rules.specs.Rows.{refused_entry}
+use Rattle.cx_node.specs.cx_rules.specs.Secured.{Secured}
 use Rattle.cx_client_links.specs.cx_rules_session.specs.ClientRule.{ClientStage, ToDaemon, ToMonitor, WholeClient, WholeClientNode, asking_open, is_to_monitor, logs_in, me, renews, waits_for_login}
 use Rattle.cx_client_links.specs.cx_rules_session.specs.Forgets.{abridged_client_at, abridged_client_link}
 use Rattle.cx_client_links.specs.cx_rules_session.proofs.WholeClientForgets.{client-forgets-links}

@@ -5,8 +5,8 @@ use Rattle.std.specs.List.{list_any}
 use Rattle.cx_base.specs.Names.{Name}
 use Rattle.cx_journal.specs.declared.outcomes.Reason.{Reason}
 use Rattle.cx_journal.specs.declared.outcomes.Reason.TheVariants as reason
-use Rattle.cx_login.specs.Held.{Held}
-use Rattle.cx_rules.specs.Rows.{refused_entry}
+use Rattle.cx_node.specs.cx_login.specs.Held.{Held}
+use Rattle.cx_node.specs.cx_rules.specs.Rows.{refused_entry}
 use Rattle.cx_client_links.specs.cx_rules_session.specs.ClientRule.{WholeClient, WholeClientNode, calls, calls_with, connects, is_to, me, refuses_command}
 use Rattle.cx_client_links.specs.cx_rules_session.specs.Sessions.{Called, Callee, held_gid, ticket_for}
 use Rattle.cx_steps.specs.Nothing.{nothing}

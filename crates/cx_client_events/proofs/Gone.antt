@@ -2,9 +2,9 @@
 use Rattle.std.proofs.Common.{◌≡◌, ◌∙◌, ℕ, Bool, List, [], ◌∷◌, map, Option, Some, None, Result, Ok, Err, IfOk, sym, ap}
 use Rattle.std.specs.Prelude.{if◌then◌else◌}
 use Rattle.cx_journal.specs.declared.outcomes.Reason.TheVariants.{Lost}
-use Rattle.cx_rules.specs.Connector as connector
-use Rattle.cx_rules.specs.Links.{Link, without_link}
-use Rattle.cx_rules.specs.Rows.{refused_entry}
+use Rattle.cx_node.specs.cx_rules.specs.Connector as connector
+use Rattle.cx_node.specs.cx_rules.specs.Links.{Link, without_link}
+use Rattle.cx_node.specs.cx_rules.specs.Rows.{refused_entry}
 use Rattle.cx_client_links.specs.cx_rules_session.specs.ClientRule.{ToDaemon, ToMonitor, WholeClient, WholeClientNode, loses, me, own_behind_gone}
 use Rattle.cx_client_links.specs.cx_rules_session.specs.Forgets.{abridged_client_link}
 use Rattle.cx_client_links.specs.cx_rules_session.specs.Kinds.{of_kind}

@@ -2,10 +2,10 @@
 use Rattle.std.proofs.Common.{◌≡◌, ◌∙◌, ℕ, ◌<◌, Bool, true, false, cond, List, [], ◌∷◌, Option, Some, None, refl, sym, ap}
 use Rattle.std.specs.Prelude.{IfSome}
 use Rattle.cx_base.specs.Names.{Name, same_name}
-use Rattle.cx_presenting.specs.Rows.{changed}
-use Rattle.cx_presenting.specs.declared.rows.Change.{Change}
-use Rattle.cx_presenting.specs.declared.rows.Change.TheVariants.{Counts}
-use Rattle.cx_rules.specs.Holdings.{Asker}
+use Rattle.cx_client_links.specs.cx_presenting.specs.Rows.{changed}
+use Rattle.cx_client_links.specs.cx_presenting.specs.declared.rows.Change.{Change}
+use Rattle.cx_client_links.specs.cx_presenting.specs.declared.rows.Change.TheVariants.{Counts}
+use Rattle.cx_node.specs.cx_rules.specs.Holdings.{Asker}
 use Rattle.cx_base.proofs.Names.{same_name_is, same_name_self}
 use Rattle.cx_client_links.specs.cx_rules_session.specs.ClientRule.{Dial, WholeClient, caller_to, with_caller}
 use Rattle.cx_client_links.specs.cx_rules_session.specs.Sessions.{HeldSession, session_with, with_session}

@@ -3,9 +3,9 @@ use Rattle.std.proofs.Common.{◌≡◌, ◌∙◌, ℕ, false, List, [], ◌∷
 use Rattle.std.specs.Prelude.{OnErr, find}
 use Rattle.cx_journal.specs.declared.outcomes.Reason.{Reason}
 use Rattle.cx_journal.specs.declared.outcomes.Reason.TheVariants.{NoLink}
-use Rattle.cx_rules.specs.Inputs.{Opened}
-use Rattle.cx_rules.specs.Links.{without_link}
-use Rattle.cx_rules.specs.Rows.{carried_out, idles, refused_entry}
+use Rattle.cx_node.specs.cx_rules.specs.Inputs.{Opened}
+use Rattle.cx_node.specs.cx_rules.specs.Links.{without_link}
+use Rattle.cx_node.specs.cx_rules.specs.Rows.{carried_out, idles, refused_entry}
 use Rattle.cx_client_links.specs.cx_rules_session.specs.ClientRule.{Dial, WholeClient, WholeClientNode, dial_of, me, opens, refuses_command, undialled, unreached}
 use Rattle.cx_client_links.specs.cx_rules_session.specs.Forgets.{abridged_client_link}
 use Rattle.cx_client_links.specs.cx_rules_session.proofs.WholeClientForgets.{client-forgets-links}

@@ -2,14 +2,14 @@
 use Rattle.std.specs.Prelude.{ℕ, ◌==◌, ◌-◌, ◌^◌, List, [], Option, Some, None, Result, Ok, Err, if◌then◌else◌}
 use Rattle.cx_journal.specs.declared.outcomes.Reason.{Reason}
 use Rattle.cx_journal.specs.declared.outcomes.Reason.TheVariants as reason
-use Rattle.cx_login.specs.Held.{Held}
-use Rattle.cx_rules.specs.Connector as connector
-use Rattle.cx_rules.specs.Greetings.{own_banner}
-use Rattle.cx_rules.specs.Inputs.{Input, Opened, NoLink}
-use Rattle.cx_rules.specs.Links.{Link}
-use Rattle.cx_rules.specs.Requests.{Requests, asks_tickets}
-use Rattle.cx_rules.specs.Rows.{Outcome, Row, arrival, goes_on, lifted, new_link}
-use Rattle.cx_rules.specs.Secured.{Secured}
+use Rattle.cx_node.specs.cx_login.specs.Held.{Held}
+use Rattle.cx_node.specs.cx_rules.specs.Connector as connector
+use Rattle.cx_node.specs.cx_rules.specs.Greetings.{own_banner}
+use Rattle.cx_node.specs.cx_rules.specs.Inputs.{Input, Opened, NoLink}
+use Rattle.cx_node.specs.cx_rules.specs.Links.{Link}
+use Rattle.cx_node.specs.cx_rules.specs.Requests.{Requests, asks_tickets}
+use Rattle.cx_node.specs.cx_rules.specs.Rows.{Outcome, Row, arrival, goes_on, lifted, new_link}
+use Rattle.cx_node.specs.cx_rules.specs.Secured.{Secured}
 use Rattle.cx_client_links.specs.cx_rules_session.specs.ClientRule.{ClientStage, Dial, ToMonitor, WholeClient, WholeClientNode, first_stage, me, open_to_ask, undialled, with_asker}
 use Rattle.cx_client_links.specs.cx_rules_session.specs.Forgets.{abridged_client_link}
 use Rattle.cx_client_links.specs.cx_rules_session.specs.Kinds.{of_kind}

@@ -1,8 +1,8 @@
 -- Turns of a client's links, with what they change of its own.
 use Rattle.std.specs.Prelude.{ℕ, List}
-use Rattle.cx_connector.specs.Rows as monitor
-use Rattle.cx_presenting.specs.Rows as daemon
-use Rattle.cx_rules.specs.Rows.{Turned, arrival}
+use Rattle.cx_client_links.specs.cx_connector.specs.Rows as monitor
+use Rattle.cx_client_links.specs.cx_presenting.specs.Rows as daemon
+use Rattle.cx_node.specs.cx_rules.specs.Rows.{Turned, arrival}
 use Rattle.cx_client_links.specs.cx_rules_session.specs.ClientRule.{ClientStage, WholeClient, caller_to, me, turned_at, with_asker, with_caller}
 use Rattle.cx_client_links.specs.cx_rules_session.specs.Forgets.{abridged_client_link}
 use Rattle.cx_turns.specs.Steps.{IsTurn}

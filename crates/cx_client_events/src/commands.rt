@@ -1,7 +1,7 @@
 //! What a client does at a command: Login, Renew and Connect.
 
 ghost use Rattle.std.specs.Prelude.{◌≡◌, ◌<◌, ◌-◌, ◌^◌, [], ◌∷◌, None, IfOk, OnErr};
-ghost use Rattle.cx_rules.specs.Rows as rows;
+ghost use Rattle.cx_node.specs.cx_rules.specs.Rows as rows;
 ghost use Rattle.cx_client_links.specs.cx_rules_session.specs.ClientRule as rule;
 ghost use Rattle.cx_client_links.specs.cx_rules_session.specs.ClientRule.{me};
 ghost use Rattle.cx_steps.specs.Nothing.{nothing};
@@ -11,11 +11,10 @@ ghost use Rattle.cx_client_events.specs.Machine.{AreHeld, IsStep};
 
 use crate::own::Own;
 use cx_base::{Duplicate, EntityName, Items, Reading};
-use cx_client_links::{Link, calls, first_open, numbers_to_monitor, shut_all};
+use cx_client_links::{Called, Callee, Link, calls, first_open, numbers_to_monitor, shut_all};
 use cx_dice::Draw;
 use cx_journal::Reason;
 use cx_node::{Links, Numbered, enters, refused_entry};
-use cx_presenting::{Called, Callee};
 use cx_steps::{Effects, Peer};
 use cx_turns::{Moment, stands};
 use std::alloc::{AllocError, Global};

@@ -2,9 +2,9 @@
 
 ghost use Rattle.std.specs.Prelude.{◌≡◌, [], ◌∷◌, Some, None, false, IfOk, OnErr, if◌then◌else◌};
 ghost use Rattle.cx_journal.specs.declared.outcomes.Reason.TheVariants as reason;
-ghost use Rattle.cx_rules.specs.Inputs.{Opened};
-ghost use Rattle.cx_rules.specs.Links.{link_of, without_link};
-ghost use Rattle.cx_rules.specs.Rows as rows;
+ghost use Rattle.cx_node.specs.cx_rules.specs.Inputs.{Opened};
+ghost use Rattle.cx_node.specs.cx_rules.specs.Links.{link_of, without_link};
+ghost use Rattle.cx_node.specs.cx_rules.specs.Rows as rows;
 ghost use Rattle.cx_client_links.specs.cx_rules_session.specs.ClientRule as rule;
 ghost use Rattle.cx_client_links.specs.cx_rules_session.specs.ClientRule.{me};
 ghost use Rattle.cx_client_links.specs.cx_rules_session.specs.Presenter as call;

@@ -12,9 +12,10 @@ pub use own::Own;
 
 // What crates above name through this one, and so needn't list.
 pub use cx_client_links::{
-    Change, HeldSession, Kind, Link, are_at_rest, came_of_daemon, came_of_monitor, first_call,
-    of_daemon,
+    Change, HeldSession, Kind, Link, are_at_rest, came_of_daemon, came_of_monitor,
+    client_forgetting_laws, first_call, of_daemon,
 };
+pub use cx_holdings::{Asker, OfferedModes};
 
 // Each public type may be sent to another thread and shared with one.
 fn is_sendable<T: Send + Sync>() {}

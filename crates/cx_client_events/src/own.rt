@@ -3,29 +3,29 @@
 ghost use Rattle.std.specs.Prelude.{◌≡◌, ◌<◌, ◌-◌, ◌^◌, [], true, Some, IfOk, IfNone, OnOk, OnErr, find};
 ghost use Rattle.std.specs.Option.{option_copied};
 ghost use Rattle.cx_node.specs.Made.{as_row};
-ghost use Rattle.cx_presenting.specs.Rows as call_rows;
-ghost use Rattle.cx_rules.specs.Connector.{is_open, kept_open};
-ghost use Rattle.cx_rules.specs.Requests.{Requests};
-ghost use Rattle.cx_rules.specs.Secured.{Secured};
+ghost use Rattle.cx_client_links.specs.cx_presenting.specs.Rows as call_rows;
+ghost use Rattle.cx_node.specs.cx_rules.specs.Connector.{is_open, kept_open};
+ghost use Rattle.cx_node.specs.cx_rules.specs.Requests.{Requests};
+ghost use Rattle.cx_node.specs.cx_rules.specs.Secured.{Secured};
 ghost use Rattle.cx_client_links.specs.cx_rules_session.specs.ClientRule as rule;
 ghost use Rattle.cx_client_links.specs.cx_rules_session.specs.Forgets.{abridged_client_link};
 ghost use Rattle.cx_client_links.specs.cx_rules_session.specs.Sessions.{session_with, ticket_for};
 ghost use Rattle.cx_client_links.specs.cx_sending.specs.Table.{having_pushed, in_session};
 ghost use Rattle.cx_turns.specs.Making.{row_due};
-ghost use Rattle.cx_wire.specs.Operations.{IsWritable};
+ghost use Rattle.cx_holdings.specs.cx_wire.specs.Operations.{IsWritable};
 ghost use Rattle.cx_client_events.specs.Machine.{banner_sent, called_with, tickets_asked};
 ghost use Rattle.cx_client_events.specs.Turns.{with_change};
 
 use cx_base::{Duplicate, EntityName, NodeName, Operation};
 use cx_client_links::{
-    Change, Dial, Dials, HeldSession, Link, Purpose, Sessions, of_daemon, of_monitor,
+    Called, Callee, Change, Dial, Dials, HeldSession, Link, Purpose, Sessions, held_gid, of_daemon,
+    of_monitor, ticket_for,
 };
 use cx_connector as connector;
 use cx_holdings::Asker;
 use cx_journal::Reason;
 use cx_node::Row;
 use cx_presenting as calls;
-use cx_presenting::{Called, Callee, held_gid, ticket_for};
 use cx_steps::Peer;
 use cx_turns::Moment;
 use std::alloc::{AllocError, Global};
@@ -48,7 +48,7 @@ impl Model for Own {
 }
 
 impl Own {
-    ghost use Rattle.cx_rules.specs.Holdings.{afresh};
+    ghost use Rattle.cx_node.specs.cx_rules.specs.Holdings.{afresh};
     ghost use Rattle.cx_client_links.specs.cx_rules_session.specs.ClientRule.{caller_to, dial_of, me, undialled, waits_for_login, with_caller};
     ghost use Rattle.cx_client_links.specs.cx_sending.specs.Table.{without_lossy};
 

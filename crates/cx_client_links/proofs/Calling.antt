@@ -5,8 +5,8 @@ use Rattle.std.specs.Prelude.{slice_get, if◌then◌else◌}
 use Rattle.std.proofs.lemmas.List.{at_drop_more}
 use Rattle.std.proofs.lemmas.Option.{get_or_from_slice_get, slice_get_within}
 use Rattle.cx_base.specs.Names.{Name, same_name}
-use Rattle.cx_rules.specs.Links.{Link}
-use Rattle.cx_rules.specs.Secured.{Secured}
+use Rattle.cx_node.specs.cx_rules.specs.Links.{Link}
+use Rattle.cx_node.specs.cx_rules.specs.Secured.{Secured}
 use Rattle.cx_kinds.specs.cx_rules_session.specs.ClientRule.{ToDaemon, call_open, call_or, first_call}
 use Rattle.cx_kinds.specs.cx_rules_session.specs.Kinds.{of_kind}
 use Rattle.cx_kinds.specs.cx_rules_session.specs.Presenter.{CallStage, AwaitsBanner, AwaitsHello, AwaitsChallenge, AwaitsDone, AwaitsSignature, AwaitsIdent, AwaitsReconnect, Open, callee_of, is_open}

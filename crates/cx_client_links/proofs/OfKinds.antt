@@ -2,9 +2,9 @@
 use Rattle.std.proofs.Common.{ℕ, List, Result, refl}
 use Rattle.std.specs.Prelude.{OnOk}
 use Rattle.cx_kinds.proofs.OfKinds.{fed_result}
-use Rattle.cx_rules.specs.Abridged.{abridged_asker_link}
-use Rattle.cx_rules.specs.Connector as connector
-use Rattle.cx_rules.specs.Links.{Link}
+use Rattle.cx_node.specs.cx_rules.specs.Abridged.{abridged_asker_link}
+use Rattle.cx_node.specs.cx_rules.specs.Connector as connector
+use Rattle.cx_node.specs.cx_rules.specs.Links.{Link}
 use Rattle.cx_kinds.specs.cx_rules_session.specs.ClientRule.{ToMonitor, ToDaemon}
 use Rattle.cx_kinds.specs.cx_rules_session.specs.Forgets.{abridged_call_link, abridged_client_link}
 use Rattle.cx_kinds.specs.cx_rules_session.specs.Kinds.{of_kind}

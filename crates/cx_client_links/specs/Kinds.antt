@@ -1,5 +1,5 @@
 -- Links of both kinds as one.
-use Rattle.cx_rules.specs.Links.{Link}
+use Rattle.cx_node.specs.cx_rules.specs.Links.{Link}
 use Rattle.cx_kinds.specs.cx_rules_session.specs.ClientRule.{ClientStage, ToMonitor, ToDaemon}
 use Rattle.cx_kinds.specs.cx_rules_session.specs.Kinds.{of_kind}
 use Rattle.cx_client_links.specs.declared.links.Kind.{Kind}

@@ -2,9 +2,9 @@
 use Rattle.std.specs.Prelude.{◌≡◌, true, List}
 use Rattle.std.specs.Option.{option_map}
 use Rattle.cx_base.specs.Names.{Name, same_name}
-use Rattle.cx_rules.specs.Connector as connector
-use Rattle.cx_rules.specs.Links.{Link}
-use Rattle.cx_rules.specs.Requests.{first_open}
+use Rattle.cx_node.specs.cx_rules.specs.Connector as connector
+use Rattle.cx_node.specs.cx_rules.specs.Links.{Link}
+use Rattle.cx_node.specs.cx_rules.specs.Requests.{first_open}
 use Rattle.cx_kinds.specs.cx_rules_session.specs.ClientRule.{ToMonitor, ToDaemon, asking_open, call_open, first_call}
 use Rattle.cx_kinds.specs.cx_rules_session.specs.Kinds.{of_kind}
 use Rattle.cx_kinds.specs.cx_rules_session.specs.Presenter as call

@@ -12,7 +12,9 @@ pub use links::{Kind, Link};
 pub use scans::{are_at_rest, calls, first_call, first_open, numbers_to_monitor, shut_all};
 
 // What crates above name through this one, and so needn't list.
-pub use cx_presenting::{HeldSession, Sessions};
+pub use cx_presenting::{
+    Called, Callee, HeldSession, Sessions, client_forgetting_laws, held_gid, ticket_for,
+};
 
 // Each public type may be sent to another thread and shared with one.
 fn is_sendable<T: Send + Sync>() {}

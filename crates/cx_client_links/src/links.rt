@@ -26,7 +26,7 @@ pub struct Link {
 }
 
 impl Model for Link {
-    ghost use Rattle.cx_rules.specs.Links as links;
+    ghost use Rattle.cx_node.specs.cx_rules.specs.Links as links;
     ghost use Rattle.cx_kinds.specs.cx_rules_session.specs.ClientRule.{ClientStage};
 
     ghost Value = { links.Link ClientStage };
@@ -39,7 +39,7 @@ impl Model for Link {
 impl Link {
     ghost use Rattle.std.specs.Prelude.{◌≡◌, Some, IfSome, IfNone, None, true};
     ghost use Rattle.cx_base.specs.Names.{same_name};
-    ghost use Rattle.cx_rules.specs.Connector as connector;
+    ghost use Rattle.cx_node.specs.cx_rules.specs.Connector as connector;
     ghost use Rattle.cx_kinds.specs.cx_rules_session.specs.ClientRule.{ToMonitor, ToDaemon, asking_open, call_open, is_at_rest, is_open, is_to, is_to_monitor};
     ghost use Rattle.cx_kinds.specs.cx_rules_session.specs.Kinds.{of_kind};
     ghost use Rattle.cx_kinds.specs.cx_rules_session.specs.Presenter as call;

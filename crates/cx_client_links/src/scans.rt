@@ -2,7 +2,7 @@
 
 ghost use Rattle.std.specs.Prelude.{◌≡◌, ◌==◌, ◌++◌, [], ◌∷◌, None, IfSome, IfNone, IfOk, OnOk, filter, if◌then◌else◌, map, not};
 ghost use Rattle.std.specs.List.{list_all, list_any};
-ghost use Rattle.cx_rules.specs.Requests.{first_open};
+ghost use Rattle.cx_node.specs.cx_rules.specs.Requests.{first_open};
 ghost use Rattle.cx_kinds.specs.cx_rules_session.specs.ClientRule.{asking_open, first_call, is_at_rest, is_to, is_to_monitor};
 ghost use Rattle.cx_client_links.specs.Scans.{IsFirstCall, IsFirstOpen};
 

@@ -2,17 +2,17 @@
 use Rattle.std.proofs.Common.{ℕ, ◌≡◌, List, Option, Some, None, sym, subst}
 use Rattle.cx_command_daemon.specs.Held.{lost_daemon, rests_daemon, serving_lost, serving_rests, serving_rule}
 use Rattle.cx_command_daemon.specs.declared.serving.Serving.{Serving}
-use Rattle.cx_daemon_events.specs.Machine.{undialled_at}
+use Rattle.cx_daemon.specs.cx_daemon_events.specs.Machine.{undialled_at}
 use Rattle.cx_desk.specs.Handlers.{Handlers}
 use Rattle.cx_desk.specs.Held.{handlers_of}
-use Rattle.cx_rules.specs.Inputs as input
-use Rattle.cx_rules.specs.Inputs.{Input}
-use Rattle.cx_rules.specs.Rows.{forgotten}
+use Rattle.cx_holdings.specs.cx_rules.specs.Inputs as input
+use Rattle.cx_holdings.specs.cx_rules.specs.Inputs.{Input}
+use Rattle.cx_holdings.specs.cx_rules.specs.Rows.{forgotten}
 use Rattle.cx_rules_session.specs.DaemonRule.{DaemonNode, DaemonState, daemon_step, is_idle, undialled}
 use Rattle.cx_rules_session.specs.Forgets.{DaemonNodeStandsFor, DaemonStandsFor, abridged_state}
 use Rattle.cx_steps.specs.declared.events.Peer.TheVariants as peer
-use Rattle.cx_turns.specs.Events.{link_in}
-use Rattle.cx_turns.specs.Steps.{without_lost}
+use Rattle.cx_daemon.specs.cx_turns.specs.Events.{link_in}
+use Rattle.cx_daemon.specs.cx_turns.specs.Steps.{without_lost}
 
 -- ---- where memory is wanting
 

@@ -9,7 +9,7 @@ use Rattle.cx_command_nodes.specs.Named.{IsNamedRefusal, NamedLoad}
 use Rattle.cx_command_nodes.specs.Outside.{Outside}
 use Rattle.cx_command_nodes.specs.Runs.{Listens}
 use Rattle.cx_command_nodes.specs.declared.hosting.Ready.{Ready}
-use Rattle.cx_daemon_events.specs.Machine.{opening_asker, opening_state}
+use Rattle.cx_daemon.specs.cx_daemon_events.specs.Machine.{opening_asker, opening_state}
 use Rattle.cx_desk.specs.Handlers.{Handlers}
 use Rattle.cx_enc.specs.declared.keys.Key.{Key}
 use Rattle.cx_holdings.specs.declared.offers.OfferedModes.{OfferedModes}

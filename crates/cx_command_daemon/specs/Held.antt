@@ -2,11 +2,11 @@
 -- daemon with the desk by which it serves.
 use Rattle.std.specs.Prelude.{ℕ, Bool, List}
 use Rattle.cx_command_daemon.specs.declared.serving.Serving.{Serving}
-use Rattle.cx_daemon_events.specs.Machine.{lost_state}
+use Rattle.cx_daemon.specs.cx_daemon_events.specs.Machine.{lost_state}
 use Rattle.cx_desk.specs.Handlers.{Handlers}
 use Rattle.cx_desk.specs.Held.{handlers_of}
-use Rattle.cx_rules.specs.Inputs.{Input}
-use Rattle.cx_rules.specs.Rows.{Outcome}
+use Rattle.cx_holdings.specs.cx_rules.specs.Inputs.{Input}
+use Rattle.cx_holdings.specs.cx_rules.specs.Rows.{Outcome}
 use Rattle.cx_rules_session.specs.DaemonRule.{DaemonState, daemon_step, is_idle}
 use Rattle.cx_rules_session.specs.Forgets.{abridged_state}
 

@@ -6,7 +6,7 @@ use Rattle.cx_control.specs.Idents.{ident_missing_features_layout, server_ident_
 use Rattle.cx_control.specs.declared.auth.AuthSignature.{AuthSignature}
 use Rattle.cx_control.specs.declared.idents.IdentMissingFeatures.{IdentMissingFeatures}
 use Rattle.cx_control.specs.declared.idents.ServerIdent.{ServerIdent}
-use Rattle.cx_dice.specs.Draws.{cookie_of}
+use Rattle.cx_turns.specs.cx_dice.specs.Draws.{cookie_of}
 use Rattle.cx_turns.proofs.Keeping.{keepalive-row, other-row}
 use Rattle.cx_turns.specs.Stages.{keys_alone}
 use Rattle.cx_turns.specs.Upkeep.{is_keepalive, upkept}
@@ -16,18 +16,18 @@ use Rattle.cx_journal.specs.declared.faults.LoginFault.TheVariants.{SignatureWro
 use Rattle.cx_base.specs.Names.{is_daemon_type}
 use Rattle.cx_journal.specs.declared.outcomes.Reason.{Reason}
 use Rattle.cx_journal.specs.declared.outcomes.Reason.TheVariants as reason
-use Rattle.cx_wire.specs.declared.bodies.Request.TheVariants as asked
-use Rattle.cx_rules.specs.Connector.{AskerArrival, AskerRow, Stage, AwaitsIdent, Open, Login, client_ident, holding, identifies, on_missing_features, on_signature, while_identified}
-use Rattle.cx_rules.specs.Holdings.{Asker, Holdings, held_login}
-use Rattle.cx_rules.specs.Payloads as payload
-use Rattle.cx_rules.specs.Abridged.{abridged_asker_link}
-use Rattle.cx_rules.specs.Requests.{Requests, asks_rotating, no_requests, on_open, on_reply, on_server_ident, sealed_request, sends_request, taken as taken_of, takes}
-use Rattle.cx_rules.specs.Rows.{goes_on, refuses, secure_sent}
-use Rattle.cx_rules.specs.Secured.{Keys, SealedFrame, Secured, is_signed, secure_frame, signature_found}
-use Rattle.cx_rules.specs.declared.requests.Taken.{Taken}
-use Rattle.cx_rules.specs.declared.requests.Taken.TheVariants.{Refuses, Holds, Views}
-use Rattle.cx_rules.specs.declared.requests.Want.{Want}
-use Rattle.cx_rules.specs.declared.requests.Want.TheVariants.{Rotating}
+use Rattle.cx_login.specs.cx_wire.specs.declared.bodies.Request.TheVariants as asked
+use Rattle.cx_node.specs.cx_rules.specs.Connector.{AskerArrival, AskerRow, Stage, AwaitsIdent, Open, Login, client_ident, holding, identifies, on_missing_features, on_signature, while_identified}
+use Rattle.cx_node.specs.cx_rules.specs.Holdings.{Asker, Holdings, held_login}
+use Rattle.cx_node.specs.cx_rules.specs.Payloads as payload
+use Rattle.cx_node.specs.cx_rules.specs.Abridged.{abridged_asker_link}
+use Rattle.cx_node.specs.cx_rules.specs.Requests.{Requests, asks_rotating, no_requests, on_open, on_reply, on_server_ident, sealed_request, sends_request, taken as taken_of, takes}
+use Rattle.cx_node.specs.cx_rules.specs.Rows.{goes_on, refuses, secure_sent}
+use Rattle.cx_node.specs.cx_rules.specs.Secured.{Keys, SealedFrame, Secured, is_signed, secure_frame, signature_found}
+use Rattle.cx_node.specs.cx_rules.specs.declared.requests.Taken.{Taken}
+use Rattle.cx_node.specs.cx_rules.specs.declared.requests.Taken.TheVariants.{Refuses, Holds, Views}
+use Rattle.cx_node.specs.cx_rules.specs.declared.requests.Want.{Want}
+use Rattle.cx_node.specs.cx_rules.specs.declared.requests.Want.TheVariants.{Rotating}
 use Rattle.cx_steps.specs.declared.seals.DrawMark.TheVariants as draw
 use Rattle.cx_steps.specs.declared.seals.SealEntry.{SealEntry}
 use Rattle.cx_steps.specs.declared.seals.SealEntry.TheVariants.{Drawn}

@@ -9,20 +9,20 @@ use Rattle.cx_control.specs.Idents.{ident_missing_features_layout, server_ident_
 use Rattle.cx_control.specs.declared.auth.AuthDone.{AuthDone}
 use Rattle.cx_control.specs.declared.bad_method.AuthBadMethod.{AuthBadMethod}
 use Rattle.cx_control.specs.declared.idents.IdentMissingFeatures.{IdentMissingFeatures}
-use Rattle.cx_dice.specs.Draws.{challenge_of}
+use Rattle.cx_turns.specs.cx_dice.specs.Draws.{challenge_of}
 use Rattle.cx_frame.specs.declared.frame.Frame.{Frame}
 use Rattle.cx_journal.specs.declared.faults.BytesFault.{BytesFault}
 use Rattle.cx_login.specs.Client.{authenticate}
 use Rattle.cx_node.specs.Parts.{part_of}
-use Rattle.cx_rules.specs.Connector.{AskerArrival, AskerRow, Open, on_bad_method, on_challenge, on_done, on_missing_features, on_reply_more, proves, while_challenged, while_identified, while_proved}
-use Rattle.cx_rules.specs.Holdings.{unexpired}
-use Rattle.cx_rules.specs.Payloads as payload
-use Rattle.cx_rules.specs.Requests.{Requests, asks_rotating, on_server_ident, opens_to}
-use Rattle.cx_rules.specs.Payloads.{control}
-use Rattle.cx_rules.specs.Secured.{Secured, plain_frame}
-use Rattle.cx_wire.specs.Logins.{authenticate_layout}
-use Rattle.cx_wire.specs.declared.logins.ServerChallenge.{ServerChallenge}
-use Rattle.cx_rules.specs.Abridged.{abridged_asker_link}
+use Rattle.cx_node.specs.cx_rules.specs.Connector.{AskerArrival, AskerRow, Open, on_bad_method, on_challenge, on_done, on_missing_features, on_reply_more, proves, while_challenged, while_identified, while_proved}
+use Rattle.cx_node.specs.cx_rules.specs.Holdings.{unexpired}
+use Rattle.cx_node.specs.cx_rules.specs.Payloads as payload
+use Rattle.cx_node.specs.cx_rules.specs.Requests.{Requests, asks_rotating, on_server_ident, opens_to}
+use Rattle.cx_node.specs.cx_rules.specs.Payloads.{control}
+use Rattle.cx_node.specs.cx_rules.specs.Secured.{Secured, plain_frame}
+use Rattle.cx_login.specs.cx_wire.specs.Logins.{authenticate_layout}
+use Rattle.cx_login.specs.cx_wire.specs.declared.logins.ServerChallenge.{ServerChallenge}
+use Rattle.cx_node.specs.cx_rules.specs.Abridged.{abridged_asker_link}
 use Rattle.cx_turns.specs.Making.{row_due}
 use Rattle.cx_connector.specs.Rows.{denied}
 

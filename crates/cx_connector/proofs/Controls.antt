@@ -4,12 +4,12 @@ use Rattle.std.proofs.lemmas.Bool.{lt-ltb}
 use Rattle.std.specs.Int.{w32}
 use Rattle.std.specs.Prelude.{nat_lt}
 use Rattle.cx_control.specs.Auth.{auth_request_more_layout}
-use Rattle.cx_enc.specs.Forms.{little}
+use Rattle.cx_control.specs.cx_enc.specs.Forms.{little}
 use Rattle.cx_frame.specs.Frames.{total}
 use Rattle.cx_frame.specs.declared.frame.Frame.{Frame}
 use Rattle.cx_journal.specs.declared.faults.BytesFault.TheVariants.{TooLong}
-use Rattle.cx_rules.specs.Payloads.{control}
-use Rattle.cx_rules.specs.Secured.{plain_frame}
+use Rattle.cx_node.specs.cx_rules.specs.Payloads.{control}
+use Rattle.cx_node.specs.cx_rules.specs.Secured.{plain_frame}
 
 -- a payload of the method that is too long for a plain frame
 pub proof_long : (payload : List ℕ) → 65536 < length payload

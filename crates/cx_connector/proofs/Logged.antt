@@ -1,20 +1,20 @@
 -- Rows that are logged behind what was drawn or opened.
 use Rattle.std.proofs.Common.{◌≡◌, ℕ, List, [], ◌∷◌, Option, Some, None, Result, Ok, ap, append-nil}
 use Rattle.std.specs.Prelude.{take}
-use Rattle.cx_dice.specs.Draws.{challenge_of}
+use Rattle.cx_turns.specs.cx_dice.specs.Draws.{challenge_of}
 use Rattle.cx_journal.specs.declared.faults.BytesFault.{BytesFault}
 use Rattle.cx_journal.specs.declared.faults.LoginFault.TheVariants.{Unopened}
 use Rattle.cx_journal.specs.declared.outcomes.Reason.TheVariants.{Login as OfLogin}
 use Rattle.cx_login.specs.Unlocking.{login_in}
 use Rattle.cx_login.specs.declared.client.LoggedIn.{LoggedIn}
-use Rattle.cx_rules.specs.Connector.{AskerArrival, AwaitsDone, AwaitsSignature, Login, on_login_done, on_opened, proof_made, proves, signs}
-use Rattle.cx_rules.specs.Rows.{goes_on, refuses, with_opened}
-use Rattle.cx_rules.specs.Secured.{SealedFrame, connector_keys, signed_frame}
+use Rattle.cx_node.specs.cx_rules.specs.Connector.{AskerArrival, AwaitsDone, AwaitsSignature, Login, on_login_done, on_opened, proof_made, proves, signs}
+use Rattle.cx_node.specs.cx_rules.specs.Rows.{goes_on, refuses, with_opened}
+use Rattle.cx_node.specs.cx_rules.specs.Secured.{SealedFrame, connector_keys, signed_frame}
 use Rattle.cx_steps.specs.declared.seals.DrawMark.TheVariants as draw
 use Rattle.cx_steps.specs.declared.seals.SealEntry.{SealEntry}
 use Rattle.cx_steps.specs.declared.seals.SealEntry.TheVariants as entry
 use Rattle.cx_turns.proofs.MadeRows.{unless_behind}
-use Rattle.cx_wire.specs.declared.logins.LoginDone.{LoginDone}
+use Rattle.cx_login.specs.cx_wire.specs.declared.logins.LoginDone.{LoginDone}
 use Rattle.cx_connector.specs.Rows.{proof_sent}
 
 -- the proof is sent behind one's own challenge

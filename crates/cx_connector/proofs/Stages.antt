@@ -3,7 +3,7 @@ use Rattle.std.proofs.Common.{◌≡◌, ℕ, List, Result, Ok, Err, OnOk, refl}
 use Rattle.cx_connector.specs.Stages.{link_held}
 use Rattle.cx_connector.specs.declared.links.Stage.{Stage}
 use Rattle.cx_connector.specs.declared.links.Stage.TheVariants as held
-use Rattle.cx_rules.specs.Abridged.{abridged_asker_link}
+use Rattle.cx_node.specs.cx_rules.specs.Abridged.{abridged_asker_link}
 use Rattle.cx_turns.specs.Stages.{with_more}
 use Rattle.cx_turns.specs.Steps.{IsFed}
 

@@ -1,7 +1,7 @@
 -- The rows and the turns of the rules as they are made on a link to the monitor.
 use Rattle.std.specs.Prelude.{ℕ, List, [], ◌∷◌, Option, Some, None, Result}
 use Rattle.cx_control.specs.declared.bad_method.AuthBadMethod.{AuthBadMethod}
-use Rattle.cx_dice.specs.Draws.{challenge_of, cookie_of}
+use Rattle.cx_turns.specs.cx_dice.specs.Draws.{challenge_of, cookie_of}
 use Rattle.cx_turns.specs.Stages.{keys_alone}
 use Rattle.cx_turns.specs.declared.moments.Moment.{Moment}
 use Rattle.cx_journal.specs.declared.faults.BytesFault.{BytesFault}
@@ -9,14 +9,14 @@ use Rattle.cx_base.specs.declared.nodes.NodeName.TheVariants as node
 use Rattle.cx_link.specs.Wires.{new_wire, wired}
 use Rattle.cx_node.specs.Made.{going_on}
 use Rattle.cx_node.specs.declared.rows.Row.{Row as Made}
-use Rattle.cx_rules.specs.Abridged.{abridged_asker_link}
-use Rattle.cx_rules.specs.Connector as connector
-use Rattle.cx_rules.specs.Connector.{AskerArrival, AskerRow, AwaitsDone, AwaitsIdent, Login, Open, client_ident, holding, kept_open, on_denial, proof_made, turned_at}
-use Rattle.cx_rules.specs.Greetings.{own_banner}
-use Rattle.cx_rules.specs.Holdings.{Asker, held_login, holds_nothing}
-use Rattle.cx_rules.specs.Requests.{Requests, asks_rotating, asks_tickets, with_tickets}
-use Rattle.cx_rules.specs.Rows.{arrival, goes_on, sends_secure, unless_refused}
-use Rattle.cx_rules.specs.Secured.{Keys, Secured}
+use Rattle.cx_node.specs.cx_rules.specs.Abridged.{abridged_asker_link}
+use Rattle.cx_node.specs.cx_rules.specs.Connector as connector
+use Rattle.cx_node.specs.cx_rules.specs.Connector.{AskerArrival, AskerRow, AwaitsDone, AwaitsIdent, Login, Open, client_ident, holding, kept_open, on_denial, proof_made, turned_at}
+use Rattle.cx_node.specs.cx_rules.specs.Greetings.{own_banner}
+use Rattle.cx_node.specs.cx_rules.specs.Holdings.{Asker, held_login, holds_nothing}
+use Rattle.cx_node.specs.cx_rules.specs.Requests.{Requests, asks_rotating, asks_tickets, with_tickets}
+use Rattle.cx_node.specs.cx_rules.specs.Rows.{arrival, goes_on, sends_secure, unless_refused}
+use Rattle.cx_node.specs.cx_rules.specs.Secured.{Keys, Secured}
 use Rattle.cx_steps.specs.declared.seals.DrawMark.TheVariants as draw
 use Rattle.cx_steps.specs.declared.seals.SealEntry.{SealEntry}
 use Rattle.cx_steps.specs.declared.seals.SealEntry.TheVariants.{Drawn}

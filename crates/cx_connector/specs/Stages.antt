@@ -4,10 +4,10 @@ use Rattle.cx_turns.specs.Stages.{keys_alone}
 use Rattle.cx_link.specs.Sending.{secured_of}
 use Rattle.cx_link.specs.Wires.{SecureWire, secured_link, wired}
 use Rattle.cx_link.specs.declared.links.Signing.{Signing}
-use Rattle.cx_rules.specs.Connector as connector
-use Rattle.cx_rules.specs.Connector.{Login}
-use Rattle.cx_rules.specs.Links.{Link}
-use Rattle.cx_rules.specs.Requests.{Requests, carries_fetch}
+use Rattle.cx_node.specs.cx_rules.specs.Connector as connector
+use Rattle.cx_node.specs.cx_rules.specs.Connector.{Login}
+use Rattle.cx_node.specs.cx_rules.specs.Links.{Link}
+use Rattle.cx_node.specs.cx_rules.specs.Requests.{Requests, carries_fetch}
 use Rattle.cx_connector.specs.declared.links.Stage.{Stage}
 use Rattle.cx_connector.specs.declared.links.Stage.TheVariants as held
 

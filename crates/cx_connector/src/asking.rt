@@ -3,10 +3,10 @@
 ghost use Rattle.std.specs.Prelude.{◌≡◌, true, IfOk};
 ghost use Rattle.cx_link.specs.Wires.{secured_link};
 ghost use Rattle.cx_node.specs.Made.{going_on};
-ghost use Rattle.cx_rules.specs.Abridged.{abridged_asker_link};
-ghost use Rattle.cx_rules.specs.Connector as connector;
-ghost use Rattle.cx_rules.specs.Connector.{Open, is_open, kept_open};
-ghost use Rattle.cx_rules.specs.Requests.{asks_rotating, asks_tickets};
+ghost use Rattle.cx_node.specs.cx_rules.specs.Abridged.{abridged_asker_link};
+ghost use Rattle.cx_node.specs.cx_rules.specs.Connector as connector;
+ghost use Rattle.cx_node.specs.cx_rules.specs.Connector.{Open, is_open, kept_open};
+ghost use Rattle.cx_node.specs.cx_rules.specs.Requests.{asks_rotating, asks_tickets};
 ghost use Rattle.cx_turns.specs.Stages.{keys_alone};
 ghost use Rattle.cx_connector.specs.Rows.{AsksGenerations, AsksTickets, Makes};
 ghost use Rattle.cx_connector.specs.Stages.{open_link};

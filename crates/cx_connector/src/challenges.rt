@@ -3,11 +3,11 @@
 ghost use Rattle.std.specs.Prelude.{◌≡◌, IfOk};
 ghost use Rattle.cx_control.specs.Auth.{auth_request_more_layout};
 ghost use Rattle.cx_link.specs.Wires.{wired};
-ghost use Rattle.cx_rules.specs.Connector as connector;
-ghost use Rattle.cx_rules.specs.Connector.{AwaitsChallenge, on_challenge, on_reply_more, proof_made, proves, while_challenged};
-ghost use Rattle.cx_rules.specs.Payloads.{control, whole};
-ghost use Rattle.cx_rules.specs.Secured.{plain_frame};
-ghost use Rattle.cx_wire.specs.Logins.{server_challenge_layout};
+ghost use Rattle.cx_node.specs.cx_rules.specs.Connector as connector;
+ghost use Rattle.cx_node.specs.cx_rules.specs.Connector.{AwaitsChallenge, on_challenge, on_reply_more, proof_made, proves, while_challenged};
+ghost use Rattle.cx_node.specs.cx_rules.specs.Payloads.{control, whole};
+ghost use Rattle.cx_node.specs.cx_rules.specs.Secured.{plain_frame};
+ghost use Rattle.cx_login.specs.cx_wire.specs.Logins.{server_challenge_layout};
 ghost use Rattle.cx_connector.specs.Rows.{Makes, proof_sent};
 ghost use Rattle.cx_turns.specs.Sending.{SendsPlain};
 

@@ -1,7 +1,7 @@
 //! AUTH_BAD_METHOD.
 
 ghost use Rattle.cx_link.specs.Wires.{Wire, wired};
-ghost use Rattle.cx_rules.specs.Connector.{Stage, on_denial};
+ghost use Rattle.cx_node.specs.cx_rules.specs.Connector.{Stage, on_denial};
 ghost use Rattle.cx_connector.specs.Rows.{Makes, denied};
 
 use crate::links::Link;

@@ -2,10 +2,10 @@
 
 ghost use Rattle.std.specs.Prelude.{[], take};
 ghost use Rattle.cx_link.specs.Wires.{wired};
-ghost use Rattle.cx_rules.specs.Connector.{AwaitsDone, on_done, on_login_done, on_opened, signs, while_proved};
-ghost use Rattle.cx_rules.specs.Payloads.{whole};
-ghost use Rattle.cx_rules.specs.Secured.{connector_keys, signed_frame};
-ghost use Rattle.cx_wire.specs.Logins.{login_done_layout};
+ghost use Rattle.cx_node.specs.cx_rules.specs.Connector.{AwaitsDone, on_done, on_login_done, on_opened, signs, while_proved};
+ghost use Rattle.cx_node.specs.cx_rules.specs.Payloads.{whole};
+ghost use Rattle.cx_node.specs.cx_rules.specs.Secured.{connector_keys, signed_frame};
+ghost use Rattle.cx_login.specs.cx_wire.specs.Logins.{login_done_layout};
 ghost use Rattle.cx_connector.specs.Rows.{Makes};
 
 use crate::denials::on_bad_method;

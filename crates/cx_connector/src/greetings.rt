@@ -2,8 +2,8 @@
 
 ghost use Rattle.std.specs.Prelude.{◌≡◌, [], IfOk};
 ghost use Rattle.cx_link.specs.Wires.{wired};
-ghost use Rattle.cx_rules.specs.Connector.{AwaitsBanner, AwaitsHello, AwaitsChallenge, login_request, on_banner, on_hello};
-ghost use Rattle.cx_rules.specs.Rows.{sends_plain};
+ghost use Rattle.cx_node.specs.cx_rules.specs.Connector.{AwaitsBanner, AwaitsHello, AwaitsChallenge, login_request, on_banner, on_hello};
+ghost use Rattle.cx_node.specs.cx_rules.specs.Rows.{sends_plain};
 ghost use Rattle.cx_connector.specs.Rows.{Makes, opening_row};
 
 use crate::links::{Link, Stage};

@@ -3,9 +3,9 @@
 ghost use Rattle.std.specs.Prelude.{ℕ, ◌≡◌, List};
 ghost use Rattle.cx_base.specs.Names.{is_daemon_type};
 ghost use Rattle.cx_link.specs.Wires.{secured_link};
-ghost use Rattle.cx_rules.specs.Connector as connector;
-ghost use Rattle.cx_rules.specs.Connector.{Open, on_missing_features, while_identified};
-ghost use Rattle.cx_rules.specs.Requests.{on_server_ident, opens_to};
+ghost use Rattle.cx_node.specs.cx_rules.specs.Connector as connector;
+ghost use Rattle.cx_node.specs.cx_rules.specs.Connector.{Open, on_missing_features, while_identified};
+ghost use Rattle.cx_node.specs.cx_rules.specs.Requests.{on_server_ident, opens_to};
 ghost use Rattle.cx_connector.specs.Rows.{Makes};
 ghost use Rattle.cx_connector.specs.Stages.{awaiting_ident};
 ghost use Rattle.cx_turns.specs.Stages.{keys_alone};

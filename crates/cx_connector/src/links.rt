@@ -1,7 +1,7 @@
 //! The links to the monitor: a number, and a stage with all that is held of the link.
 
 ghost use Rattle.std.specs.Prelude.{ℕ, ◌≡◌, OnOk};
-ghost use Rattle.cx_rules.specs.Connector.{is_open, is_quiet};
+ghost use Rattle.cx_node.specs.cx_rules.specs.Connector.{is_open, is_quiet};
 ghost use Rattle.cx_connector.specs.Stages.{is_fetching, link_held};
 ghost use Rattle.cx_turns.specs.Stages.{with_more};
 
@@ -97,8 +97,8 @@ pub struct Link {
 }
 
 impl Model for Link {
-    ghost use Rattle.cx_rules.specs.Connector as connector;
-    ghost use Rattle.cx_rules.specs.Links as links;
+    ghost use Rattle.cx_node.specs.cx_rules.specs.Connector as connector;
+    ghost use Rattle.cx_node.specs.cx_rules.specs.Links as links;
 
     ghost Value = { links.Link connector.Stage };
 
@@ -118,7 +118,7 @@ impl Numbered for Link {
 
 impl Link {
     ghost use Rattle.std.specs.Prelude.{◌≡◌};
-    ghost use Rattle.cx_rules.specs.Connector.{is_open, is_quiet};
+    ghost use Rattle.cx_node.specs.cx_rules.specs.Connector.{is_open, is_quiet};
     ghost use Rattle.cx_connector.specs.Stages.{is_fetching, link_held};
 
     // The link of this number, in a stage.
@@ -151,7 +151,7 @@ impl Link {
 }
 
 impl Feeds for Link {
-    ghost use Rattle.cx_rules.specs.Abridged.{abridged_asker_link};
+    ghost use Rattle.cx_node.specs.cx_rules.specs.Abridged.{abridged_asker_link};
     ghost use Rattle.cx_turns.specs.Steps as steps;
 
     ghost IsFed = { steps.IsFed abridged_asker_link };

@@ -4,9 +4,9 @@ ghost use Rattle.std.specs.Prelude.{◌≡◌, [], ◌∷◌, IfOk};
 ghost use Rattle.cx_turns.specs.Stages.{keys_alone};
 ghost use Rattle.cx_turns.specs.Upkeep.{upkept};
 ghost use Rattle.cx_node.specs.Made.{going_on};
-ghost use Rattle.cx_rules.specs.Connector.{Open};
-ghost use Rattle.cx_rules.specs.Requests.{behind_reply, fetched_entry, on_open, on_reply, takes};
-ghost use Rattle.cx_rules.specs.Rows.{secure_sent};
+ghost use Rattle.cx_node.specs.cx_rules.specs.Connector.{Open};
+ghost use Rattle.cx_node.specs.cx_rules.specs.Requests.{behind_reply, fetched_entry, on_open, on_reply, takes};
+ghost use Rattle.cx_node.specs.cx_rules.specs.Rows.{secure_sent};
 ghost use Rattle.cx_connector.specs.Rows.{Makes};
 ghost use Rattle.cx_connector.specs.Stages.{open_link};
 

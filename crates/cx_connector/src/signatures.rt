@@ -3,8 +3,8 @@
 ghost use Rattle.std.specs.Prelude.{◌≡◌, [], ◌∷◌, ◌++◌, Some, IfOk};
 ghost use Rattle.cx_link.specs.Sending.{secured_of};
 ghost use Rattle.cx_link.specs.Wires.{secured_link};
-ghost use Rattle.cx_rules.specs.Connector as connector;
-ghost use Rattle.cx_rules.specs.Connector.{on_signature};
+ghost use Rattle.cx_node.specs.cx_rules.specs.Connector as connector;
+ghost use Rattle.cx_node.specs.cx_rules.specs.Connector.{on_signature};
 ghost use Rattle.cx_connector.specs.Rows.{Makes, identified};
 ghost use Rattle.cx_connector.specs.Stages.{awaiting_ident, awaiting_signature};
 ghost use Rattle.cx_connector.specs.declared.rows.Change.TheVariants.{Holds};

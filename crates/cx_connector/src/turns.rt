@@ -2,7 +2,7 @@
 
 ghost use Rattle.std.specs.Prelude.{◌≡◌, IfOk};
 ghost use Rattle.cx_link.specs.Wires.{wired};
-ghost use Rattle.cx_rules.specs.Connector.{AwaitsBanner, AwaitsHello, AwaitsChallenge, AwaitsDone};
+ghost use Rattle.cx_node.specs.cx_rules.specs.Connector.{AwaitsBanner, AwaitsHello, AwaitsChallenge, AwaitsDone};
 ghost use Rattle.cx_turns.specs.Turns.{HasNumber};
 ghost use Rattle.cx_connector.specs.Rows.{IsAskerTurn};
 ghost use Rattle.cx_connector.specs.Stages.{awaiting_ident, awaiting_signature, link_held, open_link};

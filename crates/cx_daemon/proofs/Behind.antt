@@ -3,7 +3,7 @@ use Rattle.std.proofs.Common.{◌≡◌, ℕ, ◌==◌, ◌+◌, ◌<◌, ◌≤
 use Rattle.std.specs.Prelude.{not, nat_lt, filter, IfSome}
 use Rattle.std.proofs.lemmas.Bool.Decides.{nat_tests}
 use Rattle.cx_node.specs.Tables.{behind}
-use Rattle.cx_rules.specs.Links.{Link, put_link, without_link}
+use Rattle.cx_node.specs.cx_rules.specs.Links.{Link, put_link, without_link}
 use Rattle.cx_turns.specs.Stages.{AreRising}
 
 module _ {Stage : Type 0} where

@@ -1,12 +1,12 @@
 -- A turn of a guest's link that is settled is a step of the rules, abridged, with the book behind it.
 use Rattle.std.proofs.Common.{◌≡◌, ◌∙◌, ℕ, List, Option, Some, None, refl, sym, ap, subst}
 use Rattle.std.specs.Prelude.{not, filter}
-use Rattle.cx_authorize.specs.Daemon.{Authority}
+use Rattle.cx_daemon_events.specs.cx_authorize.specs.Daemon.{Authority}
 use Rattle.cx_desk.specs.Handlers.{Handlers}
-use Rattle.cx_rules.specs.Abridged.{abridged_link}
-use Rattle.cx_rules.specs.Holdings.{Asker}
-use Rattle.cx_rules.specs.Links.{link_of, without_link}
-use Rattle.cx_rules.specs.Rows.{Outcome, arrival, turns}
+use Rattle.cx_node.specs.cx_rules.specs.Abridged.{abridged_link}
+use Rattle.cx_node.specs.cx_rules.specs.Holdings.{Asker}
+use Rattle.cx_node.specs.cx_rules.specs.Links.{link_of, without_link}
+use Rattle.cx_node.specs.cx_rules.specs.Rows.{Outcome, arrival, turns}
 use Rattle.cx_daemon_events.specs.cx_rules_session.specs.DaemonRule.{AsAcceptor, Daemon, DaemonNode, book_after, book_reply, hosts, me, moved_to, with_asker}
 use Rattle.cx_daemon_events.specs.cx_rules_session.specs.Forgets.{abridged_daemon_link}
 use Rattle.cx_daemon_events.specs.cx_rules_session.specs.Hosting.{Hosted, guest_turned}
@@ -20,8 +20,8 @@ use Rattle.cx_turns.specs.Turns.{IsSettled}
 use Rattle.cx_turns.specs.declared.came.Came.{Came}
 use Rattle.cx_turns.specs.declared.moments.Moment.{Moment}
 use Rattle.cx_turns.proofs.Turning.{settled}
-use Rattle.cx_verifying.specs.Rows.{arrived, unchanged}
-use Rattle.cx_verifying.specs.Stages.{GuestLink}
+use Rattle.cx_daemon_events.specs.cx_verifying.specs.Rows.{arrived, unchanged}
+use Rattle.cx_daemon_events.specs.cx_verifying.specs.Stages.{GuestLink}
 use Rattle.cx_daemon_events.specs.Kinds.{DaemonLink, came_of_kind}
 use Rattle.cx_daemon_events.specs.Machine.{AreHeld, IsStep}
 use Rattle.cx_daemon_events.specs.Shutting.{is_shut_by}

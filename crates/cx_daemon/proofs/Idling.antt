@@ -1,6 +1,6 @@
 -- Where nothing happens, the step is that of the rules.
 use Rattle.std.proofs.Common.{◌≡◌, List}
-use Rattle.cx_rules.specs.Rows.{idles}
+use Rattle.cx_node.specs.cx_rules.specs.Rows.{idles}
 use Rattle.cx_daemon_events.specs.cx_rules_session.specs.DaemonRule.{Daemon}
 use Rattle.cx_steps.specs.Nothing.{nothing}
 use Rattle.cx_steps.specs.declared.effects.Effects.{Effects}

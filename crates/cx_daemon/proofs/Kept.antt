@@ -2,7 +2,7 @@
 use Rattle.std.proofs.Common.{◌≡◌, ◌∙◌, ℕ, List, Result, Ok, Err, sym, ap, subst}
 use Rattle.std.specs.Prelude.{OnErr, OnOk}
 use Rattle.cx_node.specs.Tables.{Table}
-use Rattle.cx_rules.specs.Links.{without_link}
+use Rattle.cx_node.specs.cx_rules.specs.Links.{without_link}
 use Rattle.cx_daemon_events.specs.cx_rules_session.specs.DaemonRule.{DaemonState}
 use Rattle.cx_daemon_events.specs.cx_rules_session.specs.Forgets.{DaemonStandsFor}
 use Rattle.cx_daemon_events.specs.Kinds.{DaemonLink}

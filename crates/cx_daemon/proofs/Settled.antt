@@ -1,11 +1,11 @@
 -- What a turn that was settled leaves of the links, and a turn of the daemon's own link.
 use Rattle.std.proofs.Common.{◌≡◌, ◌∙◌, ℕ, List, Some, None, Result, Ok, Err, IfOk, refl, ap}
-use Rattle.cx_authorize.specs.Daemon.{Authority}
+use Rattle.cx_daemon_events.specs.cx_authorize.specs.Daemon.{Authority}
 use Rattle.cx_base.specs.declared.nodes.NodeName.{NodeName}
 use Rattle.cx_daemon_events.specs.cx_connector.specs.declared.rows.Change.{Change}
 use Rattle.cx_desk.specs.Handlers.{Handlers}
-use Rattle.cx_rules.specs.Connector as connector
-use Rattle.cx_rules.specs.Links.{Link, link_of, without_link}
+use Rattle.cx_node.specs.cx_rules.specs.Connector as connector
+use Rattle.cx_node.specs.cx_rules.specs.Links.{Link, link_of, without_link}
 use Rattle.cx_daemon_events.specs.cx_rules_session.specs.DaemonRule.{AsConnector, Daemon, me}
 use Rattle.cx_daemon_events.specs.cx_rules_session.specs.Forgets.{abridged_daemon_link}
 use Rattle.cx_daemon_events.specs.cx_rules_session.specs.Kinds.{of_kind}

@@ -1,6 +1,6 @@
 -- A turn of a link of a daemon, with its book of sessions.
 use Rattle.std.specs.Prelude.{List, Some}
-use Rattle.cx_authorize.specs.Daemon.{Authority}
+use Rattle.cx_daemon_events.specs.cx_authorize.specs.Daemon.{Authority}
 use Rattle.cx_desk.specs.Handlers.{Handlers}
 use Rattle.cx_daemon_events.specs.cx_rules_session.specs.DaemonRule.{Daemon, turn}
 use Rattle.cx_session.specs.Book.{Book}

@@ -2,7 +2,7 @@
 
 ghost use Rattle.std.specs.Prelude.{◌≡◌, OnOk, OnErr};
 ghost use Rattle.cx_desk.specs.Held.{handlers_of};
-ghost use Rattle.cx_rules.specs.Inputs.{input_of};
+ghost use Rattle.cx_node.specs.cx_rules.specs.Inputs.{input_of};
 ghost use Rattle.cx_daemon_events.specs.cx_rules_session.specs.DaemonRule.{DaemonState, daemon_step, is_idle};
 ghost use Rattle.cx_daemon_events.specs.cx_rules_session.specs.Forgets.{DaemonStandsFor, abridged_state};
 ghost use Rattle.cx_turns.specs.Events.{losing};
@@ -10,11 +10,10 @@ ghost use Rattle.cx_daemon_events.specs.Machine.{lost_state, opening_asker, open
 
 use crate::steps::steps;
 use cx_base::{Addr, EntityName, Reading};
-use cx_daemon_events::{Book, Link, Own, daemon_forgetting_laws, is_busy};
+use cx_daemon_events::{Book, Link, OfferedModes, Own, daemon_forgetting_laws, is_busy};
 use cx_desk::Desk;
 use cx_dice::Draw;
 use cx_enc::Key;
-use cx_holdings::OfferedModes;
 use cx_node::Links;
 use cx_steps::{Effects, Event};
 use cx_turns::{link_in, wanting};

@@ -2,7 +2,7 @@
 
 ghost use Rattle.std.specs.Prelude.{◌≡◌, None, IfOk, OnErr};
 ghost use Rattle.cx_desk.specs.Held.{handlers_of};
-ghost use Rattle.cx_rules.specs.Inputs.{input_of};
+ghost use Rattle.cx_node.specs.cx_rules.specs.Inputs.{input_of};
 ghost use Rattle.cx_daemon_events.specs.cx_rules_session.specs.DaemonRule as rule;
 ghost use Rattle.cx_session.specs.Book.{empty_book};
 ghost use Rattle.cx_turns.specs.Steps.{node_of};

@@ -3,7 +3,7 @@
 ghost use Rattle.std.specs.Prelude.{◌≡◌, List, None, Some, IfOk, IfSome, OnOk, OnErr};
 ghost use Rattle.cx_desk.specs.Held.{handlers_of};
 ghost use Rattle.cx_node.specs.Tables.{without};
-ghost use Rattle.cx_rules.specs.Links.{link_of, without_link};
+ghost use Rattle.cx_node.specs.cx_rules.specs.Links.{link_of, without_link};
 ghost use Rattle.cx_daemon_events.specs.cx_rules_session.specs.DaemonRule as rule;
 ghost use Rattle.cx_daemon_events.specs.cx_rules_session.specs.DaemonRule.{AsAcceptor};
 ghost use Rattle.cx_daemon_events.specs.cx_rules_session.specs.Kinds.{of_kind};

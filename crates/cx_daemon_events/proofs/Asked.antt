@@ -4,11 +4,11 @@ use Rattle.std.specs.Prelude.{IsOkAnd, OnErr}
 use Rattle.cx_node.specs.Made.{as_row}
 use Rattle.cx_node.specs.Tables.{Table}
 use Rattle.cx_node.specs.declared.rows.Row.{Row as Made}
-use Rattle.cx_rules.specs.Connector as connector
-use Rattle.cx_rules.specs.Connector.{is_open, kept_open}
-use Rattle.cx_rules.specs.Links.{Link}
-use Rattle.cx_rules.specs.Requests.{Requests, first_open}
-use Rattle.cx_rules.specs.Secured.{Secured}
+use Rattle.cx_node.specs.cx_rules.specs.Connector as connector
+use Rattle.cx_node.specs.cx_rules.specs.Connector.{is_open, kept_open}
+use Rattle.cx_node.specs.cx_rules.specs.Links.{Link}
+use Rattle.cx_node.specs.cx_rules.specs.Requests.{Requests, first_open}
+use Rattle.cx_node.specs.cx_rules.specs.Secured.{Secured}
 use Rattle.cx_verifying.specs.cx_rules_session.specs.DaemonRule.{Daemon, DaemonNode, asking_open, fetches_on}
 use Rattle.cx_verifying.specs.cx_rules_session.specs.Forgets.{abridged_daemon_link}
 use Rattle.cx_verifying.specs.cx_rules_session.proofs.DaemonForgets.{daemon-forgets-links}

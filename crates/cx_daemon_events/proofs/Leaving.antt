@@ -1,12 +1,12 @@
 -- Sessions that end, over plain values: each step is that of the rules, abridged, with the book behind it.
 use Rattle.std.proofs.Common.{◌≡◌, ◌∙◌, ℕ, Bool, true, false, List, [], ◌∷◌, map, Option, Some, None, Result, Ok, Err, IfOk, refl, sym, ap, append-nil}
 use Rattle.std.specs.Prelude.{is_some, filter, not, if◌then◌else◌}
-use Rattle.cx_authorize.specs.Daemon.{Authority}
+use Rattle.cx_verifying.specs.cx_authorize.specs.Daemon.{Authority}
 use Rattle.cx_journal.specs.declared.outcomes.Reason.TheVariants.{Lost}
-use Rattle.cx_rules.specs.Acceptor as acceptor
-use Rattle.cx_rules.specs.Connector as connector
-use Rattle.cx_rules.specs.Links.{Link, without_link}
-use Rattle.cx_rules.specs.Rows.{Outcome, forgotten, idles, refused_entry}
+use Rattle.cx_node.specs.cx_rules.specs.Acceptor as acceptor
+use Rattle.cx_node.specs.cx_rules.specs.Connector as connector
+use Rattle.cx_node.specs.cx_rules.specs.Links.{Link, without_link}
+use Rattle.cx_node.specs.cx_rules.specs.Rows.{Outcome, forgotten, idles, refused_entry}
 use Rattle.cx_verifying.specs.cx_rules_session.specs.Asks.{Asking, Finished}
 use Rattle.cx_verifying.specs.cx_rules_session.specs.DaemonRule.{AsAcceptor, AsConnector, Daemon, DaemonNode, DaemonStage, drops, gone, gone_by_kind, lossy_gone, me, on_dropped}
 use Rattle.cx_verifying.specs.cx_rules_session.specs.Forgets.{abridged_daemon_link}

@@ -1,7 +1,7 @@
 -- A session that moved to a link has its older links shut, and one that ended all of them: a step of the rules with these links shut.
 use Rattle.std.proofs.Common.{◌≡◌, ◌∙◌, ℕ, ◌==◌, Bool, List, ◌++◌, map, Option, Some, None, sym, ap}
 use Rattle.std.specs.Prelude.{not, filter, ◌&&◌}
-use Rattle.cx_rules.specs.Rows.{Outcome}
+use Rattle.cx_node.specs.cx_rules.specs.Rows.{Outcome}
 use Rattle.cx_verifying.specs.cx_rules_session.specs.DaemonRule.{Daemon, DaemonNode, is_in, shut_where}
 use Rattle.cx_verifying.specs.cx_rules_session.specs.Forgets.{abridged_daemon_link}
 use Rattle.cx_verifying.specs.cx_rules_session.proofs.DaemonForgets.{daemon-forgets-links, in-same}

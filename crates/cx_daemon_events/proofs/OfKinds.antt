@@ -4,10 +4,10 @@ use Rattle.std.specs.Prelude.{IfSome, OnOk}
 use Rattle.std.specs.Option.{option_map}
 use Rattle.cx_node.specs.Made.{as_row}
 use Rattle.cx_node.specs.declared.rows.Row.{Row as Made}
-use Rattle.cx_rules.specs.Abridged.{abridged_asker_link, abridged_link}
-use Rattle.cx_rules.specs.Connector as connector
-use Rattle.cx_rules.specs.Links.{Link}
-use Rattle.cx_rules.specs.Rows.{Row, Turned, Waits, Refuses, Handles}
+use Rattle.cx_node.specs.cx_rules.specs.Abridged.{abridged_asker_link, abridged_link}
+use Rattle.cx_node.specs.cx_rules.specs.Connector as connector
+use Rattle.cx_node.specs.cx_rules.specs.Links.{Link}
+use Rattle.cx_node.specs.cx_rules.specs.Rows.{Row, Turned, Waits, Refuses, Handles}
 use Rattle.cx_verifying.specs.cx_rules_session.specs.DaemonRule.{DaemonStage, AsAcceptor, AsConnector}
 use Rattle.cx_verifying.specs.cx_rules_session.specs.Forgets.{abridged_daemon_link}
 use Rattle.cx_verifying.specs.cx_rules_session.specs.Guests.{GuestStage}

@@ -7,11 +7,11 @@ use Rattle.std.proofs.lemmas.List.{at_drop_more}
 use Rattle.std.proofs.lemmas.List.Elements.{filter_more}
 use Rattle.std.proofs.lemmas.List.Folds.{list_any_at, list_any_more}
 use Rattle.std.proofs.lemmas.Option.{get_or_from_slice_get, slice_get_within}
-use Rattle.cx_rules.specs.Connector as connector
-use Rattle.cx_rules.specs.Connector.{AwaitsBanner, AwaitsHello, AwaitsChallenge, AwaitsDone, AwaitsSignature, AwaitsIdent, Open, is_open, kept_open}
-use Rattle.cx_rules.specs.Links.{Link}
-use Rattle.cx_rules.specs.Requests.{Requests, first_open, open_or}
-use Rattle.cx_rules.specs.Secured.{Secured}
+use Rattle.cx_node.specs.cx_rules.specs.Connector as connector
+use Rattle.cx_node.specs.cx_rules.specs.Connector.{AwaitsBanner, AwaitsHello, AwaitsChallenge, AwaitsDone, AwaitsSignature, AwaitsIdent, Open, is_open, kept_open}
+use Rattle.cx_node.specs.cx_rules.specs.Links.{Link}
+use Rattle.cx_node.specs.cx_rules.specs.Requests.{Requests, first_open, open_or}
+use Rattle.cx_node.specs.cx_rules.specs.Secured.{Secured}
 use Rattle.cx_verifying.specs.cx_rules_session.specs.DaemonRule.{AsConnector, asking_open}
 use Rattle.cx_verifying.specs.cx_rules_session.specs.Kinds.{of_kind}
 use Rattle.cx_daemon_events.specs.Kinds.{DaemonLink}

@@ -4,7 +4,7 @@ use Rattle.std.specs.Prelude.{not, filter, ◌||◌}
 use Rattle.std.specs.List.{list_any}
 use Rattle.std.proofs.lemmas.Bool.Decides.{nat_tests}
 use Rattle.std.proofs.lemmas.List.Folds.{list_any_more}
-use Rattle.cx_rules.specs.Links.{Link}
+use Rattle.cx_node.specs.cx_rules.specs.Links.{Link}
 use Rattle.cx_turns.specs.Stages.{AreRising}
 
 either_way : (m n : ℕ) → (m == n) ≡ (n == m)

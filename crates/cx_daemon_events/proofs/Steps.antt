@@ -1,8 +1,8 @@
 -- What happens at an event, over plain values: each step is that of the rules, abridged, and the links are held behind it as before.
 use Rattle.std.proofs.Common.{◌≡◌, ℕ, List, [], ◌∷◌, Result, Ok, Err, IfOk, refl, sym, ap}
 use Rattle.cx_journal.specs.declared.outcomes.Reason.TheVariants.{NoLink}
-use Rattle.cx_rules.specs.Links.{without_link}
-use Rattle.cx_rules.specs.Rows.{idles, opens_none, refused_entry}
+use Rattle.cx_node.specs.cx_rules.specs.Links.{without_link}
+use Rattle.cx_node.specs.cx_rules.specs.Rows.{idles, opens_none, refused_entry}
 use Rattle.cx_verifying.specs.cx_rules_session.specs.DaemonRule.{Daemon, DaemonNode, me, unreached}
 use Rattle.cx_verifying.specs.cx_rules_session.specs.Forgets.{abridged_daemon_link}
 use Rattle.cx_verifying.specs.cx_rules_session.proofs.DaemonForgets.{daemon-forgets-links}

@@ -1,6 +1,6 @@
 -- What is told of a session that ends, with its link or by a command.
 use Rattle.std.specs.Prelude.{ℕ, ◌≡◌, Bool, true, List, [], ◌∷◌, Option, Some, None, filter, is_some, map, if◌then◌else◌}
-use Rattle.cx_authorize.specs.Daemon.{Authority}
+use Rattle.cx_verifying.specs.cx_authorize.specs.Daemon.{Authority}
 use Rattle.cx_journal.specs.declared.entries.Entry.TheVariants as entry
 use Rattle.cx_verifying.specs.cx_rules_session.specs.DaemonRule.{Daemon}
 use Rattle.cx_session.specs.Book.{Book, ended, with_number}

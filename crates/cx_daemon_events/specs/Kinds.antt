@@ -2,7 +2,7 @@
 use Rattle.std.specs.Prelude.{Option}
 use Rattle.std.specs.Option.{option_map}
 use Rattle.cx_node.specs.declared.rows.Row.{Row as Made}
-use Rattle.cx_rules.specs.Links.{Link}
+use Rattle.cx_node.specs.cx_rules.specs.Links.{Link}
 use Rattle.cx_verifying.specs.cx_rules_session.specs.DaemonRule.{DaemonStage, AsAcceptor, AsConnector}
 use Rattle.cx_verifying.specs.cx_rules_session.specs.Kinds.{of_kind}
 use Rattle.cx_turns.specs.declared.came.Came.{Came}

@@ -1,21 +1,21 @@
 -- The daemon as its machine holds it.
 use Rattle.std.specs.Prelude.{ℕ, ◌≡◌, Bool, true, List, [], Some, if◌then◌else◌}
 use Rattle.std.specs.Option.{option_map}
-use Rattle.cx_authorize.specs.Daemon.{Authority}
+use Rattle.cx_verifying.specs.cx_authorize.specs.Daemon.{Authority}
 use Rattle.cx_base.specs.Names.{Name}
 use Rattle.cx_base.specs.declared.addresses.Addr.{Addr}
 use Rattle.cx_enc.specs.declared.keys.Key.{Key}
 use Rattle.cx_holdings.specs.declared.offers.OfferedModes.{OfferedModes}
 use Rattle.cx_journal.specs.declared.outcomes.Reason.TheVariants.{LinksFull}
-use Rattle.cx_rules.specs.Acceptor as acceptor
-use Rattle.cx_rules.specs.Connector as connector
-use Rattle.cx_rules.specs.Greetings.{own_banner}
-use Rattle.cx_rules.specs.Holdings.{Asker, holds_nothing, modes_of, no_view}
-use Rattle.cx_rules.specs.Inputs.{Input, Opened, NoLink}
-use Rattle.cx_rules.specs.Links.{Link}
-use Rattle.cx_rules.specs.Requests.{Requests, asks_rotating, first_open}
-use Rattle.cx_rules.specs.Rows.{Outcome, Row, arrival, goes_on, lifted, new_link, refuses}
-use Rattle.cx_rules.specs.Secured.{Secured}
+use Rattle.cx_node.specs.cx_rules.specs.Acceptor as acceptor
+use Rattle.cx_node.specs.cx_rules.specs.Connector as connector
+use Rattle.cx_node.specs.cx_rules.specs.Greetings.{own_banner}
+use Rattle.cx_node.specs.cx_rules.specs.Holdings.{Asker, holds_nothing, modes_of, no_view}
+use Rattle.cx_node.specs.cx_rules.specs.Inputs.{Input, Opened, NoLink}
+use Rattle.cx_node.specs.cx_rules.specs.Links.{Link}
+use Rattle.cx_node.specs.cx_rules.specs.Requests.{Requests, asks_rotating, first_open}
+use Rattle.cx_node.specs.cx_rules.specs.Rows.{Outcome, Row, arrival, goes_on, lifted, new_link, refuses}
+use Rattle.cx_node.specs.cx_rules.specs.Secured.{Secured}
 use Rattle.cx_verifying.specs.cx_rules_session.specs.Asks.{with_book}
 use Rattle.cx_verifying.specs.cx_rules_session.specs.DaemonRule.{AsAcceptor, AsConnector, Daemon, DaemonNode, DaemonStage, DaemonState, asking_open, book_after, book_reply, opening_daemon, me, open_to_ask, undialled, with_asker}
 use Rattle.cx_verifying.specs.cx_rules_session.specs.Forgets.{abridged_daemon_link, abridged_state}

@@ -1,7 +1,7 @@
 //! Sessions that end: with their links, or by a command.
 
 ghost use Rattle.std.specs.Prelude.{◌≡◌, None, IfOk, OnErr, is_some};
-ghost use Rattle.cx_rules.specs.Links.{link_of, without_link};
+ghost use Rattle.cx_node.specs.cx_rules.specs.Links.{link_of, without_link};
 ghost use Rattle.cx_verifying.specs.cx_rules_session.specs.DaemonRule as rule;
 ghost use Rattle.cx_session.specs.Book.{ended, with_number};
 ghost use Rattle.cx_turns.specs.Steps.{node_of};

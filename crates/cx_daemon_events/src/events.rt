@@ -2,9 +2,9 @@
 
 ghost use Rattle.std.specs.Prelude.{◌≡◌, List, [], ◌∷◌, Some, None, IfOk, OnErr, if◌then◌else◌};
 ghost use Rattle.cx_journal.specs.declared.outcomes.Reason.TheVariants as reason;
-ghost use Rattle.cx_rules.specs.Inputs.{Opened};
-ghost use Rattle.cx_rules.specs.Links.{link_of, without_link};
-ghost use Rattle.cx_rules.specs.Rows as rows;
+ghost use Rattle.cx_node.specs.cx_rules.specs.Inputs.{Opened};
+ghost use Rattle.cx_node.specs.cx_rules.specs.Links.{link_of, without_link};
+ghost use Rattle.cx_node.specs.cx_rules.specs.Rows as rows;
 ghost use Rattle.cx_verifying.specs.cx_rules_session.specs.DaemonRule as rule;
 ghost use Rattle.cx_verifying.specs.cx_rules_session.specs.DaemonRule.{me};
 ghost use Rattle.cx_steps.specs.Nothing.{nothing};

@@ -1,7 +1,7 @@
 //! The generations of a daemon's own type, asked for on its link to the monitor.
 
 ghost use Rattle.std.specs.Prelude.{◌≡◌, [], ◌∷◌, None, true, IfOk, OnErr};
-ghost use Rattle.cx_rules.specs.Requests.{first_open};
+ghost use Rattle.cx_node.specs.cx_rules.specs.Requests.{first_open};
 ghost use Rattle.cx_verifying.specs.cx_rules_session.specs.DaemonRule as rule;
 ghost use Rattle.cx_verifying.specs.cx_rules_session.specs.DaemonRule.{asking_open};
 ghost use Rattle.cx_steps.specs.Nothing.{nothing};

@@ -22,7 +22,7 @@ pub struct Link {
 }
 
 impl Model for Link {
-    ghost use Rattle.cx_rules.specs.Links as links;
+    ghost use Rattle.cx_node.specs.cx_rules.specs.Links as links;
     ghost use Rattle.cx_verifying.specs.cx_rules_session.specs.DaemonRule.{DaemonStage};
 
     ghost Value = { links.Link DaemonStage };
@@ -34,7 +34,7 @@ impl Model for Link {
 
 impl Link {
     ghost use Rattle.std.specs.Prelude.{◌≡◌, Some, IfSome, IfNone, None, true};
-    ghost use Rattle.cx_rules.specs.Connector.{is_open};
+    ghost use Rattle.cx_node.specs.cx_rules.specs.Connector.{is_open};
     ghost use Rattle.cx_verifying.specs.cx_rules_session.specs.DaemonRule.{AsConnector, asking_open, is_for_fetch, is_in};
     ghost use Rattle.cx_verifying.specs.cx_rules_session.specs.Kinds.{of_kind};
 

@@ -2,9 +2,9 @@
 
 ghost use Rattle.std.specs.Prelude.{◌≡◌, true, false, Some, IfOk};
 ghost use Rattle.cx_node.specs.Made.{as_row};
-ghost use Rattle.cx_rules.specs.Connector.{is_open, kept_open};
-ghost use Rattle.cx_rules.specs.Requests.{Requests, is_outdated};
-ghost use Rattle.cx_rules.specs.Secured.{Secured};
+ghost use Rattle.cx_node.specs.cx_rules.specs.Connector.{is_open, kept_open};
+ghost use Rattle.cx_node.specs.cx_rules.specs.Requests.{Requests, is_outdated};
+ghost use Rattle.cx_node.specs.cx_rules.specs.Secured.{Secured};
 ghost use Rattle.cx_verifying.specs.cx_rules_session.specs.Forgets.{abridged_daemon_link};
 ghost use Rattle.cx_turns.specs.Making.{row_due};
 ghost use Rattle.cx_daemon_events.specs.Machine.{banner_sent, generations_asked, guest_greeted};
@@ -38,7 +38,7 @@ impl Model for Own {
 }
 
 impl Own {
-    ghost use Rattle.cx_rules.specs.Holdings.{afresh};
+    ghost use Rattle.cx_node.specs.cx_rules.specs.Holdings.{afresh};
     ghost use Rattle.cx_verifying.specs.cx_rules_session.specs.DaemonRule.{me, with_asker};
     ghost use Rattle.cx_connector.specs.Rows.{changed};
     ghost use Rattle.cx_daemon_events.specs.Machine.{opening_asker};

@@ -2,7 +2,7 @@
 
 ghost use Rattle.std.specs.Prelude.{◌≡◌, ◌==◌, ◌++◌, [], ◌∷◌, None, IfSome, IfNone, IfOk, OnOk, filter, if◌then◌else◌, map, not};
 ghost use Rattle.std.specs.List.{list_any};
-ghost use Rattle.cx_rules.specs.Requests.{first_open};
+ghost use Rattle.cx_node.specs.cx_rules.specs.Requests.{first_open};
 ghost use Rattle.cx_verifying.specs.cx_rules_session.specs.DaemonRule.{asking_open, is_for_fetch};
 ghost use Rattle.cx_daemon_events.specs.Machine.{IsFirstOpen};
 ghost use Rattle.cx_daemon_events.specs.Shutting.{is_shut_by};

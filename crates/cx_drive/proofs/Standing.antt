@@ -1,14 +1,14 @@
 -- What the machines stand for where memory is wanting.
 use Rattle.std.proofs.Common.{ℕ, Option, Some, None, ap}
 pub use Rattle.cx_client.proofs.Standing.{client_loses}
-use Rattle.cx_turns.specs.Events.{link_in}
+use Rattle.cx_mon.specs.cx_turns.specs.Events.{link_in}
 use Rattle.cx_mon.specs.Machine as monitor
 use Rattle.cx_rules.specs.Abridged.{MonitorStandsFor}
 use Rattle.cx_rules.specs.Inputs.{Input}
 use Rattle.cx_rules.specs.Monitor.{MonitorNode}
 use Rattle.cx_rules.specs.MonitorRule.{noted}
 use Rattle.cx_rules.specs.Rows.{forgotten}
-use Rattle.cx_turns.specs.Steps.{without_lost}
+use Rattle.cx_mon.specs.cx_turns.specs.Steps.{without_lost}
 
 module _ (loses : (m s : MonitorNode) (n : ℕ) → MonitorStandsFor m s → MonitorStandsFor (forgotten (noted m) n) (forgotten (noted s) n)) where
   by_link : (link : Option ℕ) (m s : MonitorNode) → MonitorStandsFor m s → MonitorStandsFor (without_lost link (noted m)) (without_lost link (noted s))

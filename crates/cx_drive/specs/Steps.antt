@@ -7,7 +7,7 @@ use Rattle.cx_base.specs.declared.addresses.Addr.{Addr}
 use Rattle.cx_drive.specs.declared.dues.Due.{Due}
 use Rattle.cx_drive.specs.declared.dues.Due.TheVariants as due
 use Rattle.cx_drive.specs.declared.peers.Peers.{Peers}
-use Rattle.cx_turns.specs.Events.{losing}
+use Rattle.cx_mon.specs.cx_turns.specs.Events.{losing}
 use Rattle.cx_links.specs.Acts.{Opened, Sent, Shut}
 use Rattle.cx_rotate.specs.declared.states.KeptState.{KeptState}
 use Rattle.cx_rules.specs.Inputs as input

@@ -2,7 +2,7 @@
 
 ghost use Rattle.std.specs.Prelude.{ℕ, ◌≡◌, ◌<◌, Bool, List, IfOk, IfSome, OnOk, OnErr};
 ghost use Rattle.cx_client.specs.Machine.{IsWritableInput};
-ghost use Rattle.cx_turns.specs.Events.{losing};
+ghost use Rattle.cx_mon.specs.cx_turns.specs.Events.{losing};
 ghost use Rattle.cx_rotate.specs.Keeping.{IsKeptState};
 ghost use Rattle.cx_rules.specs.Inputs.{Input, input_of};
 ghost use Rattle.cx_rules.specs.Rows.{Outcome};

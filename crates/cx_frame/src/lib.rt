@@ -24,6 +24,9 @@ pub use preambles::{MAX_PLAIN, read_preamble, read_preamble_within};
 pub use reading::{read_rest, rest_len};
 pub use refusals::{BannerRefusal, FrameRefusal};
 
+// What crates above name through this one, and so needn't list.
+pub use cx_base::{Blob, Duplicate, Items};
+
 // Each public type may be sent to another thread and shared with one.
 fn is_sendable<T: Send + Sync>() {}
 

@@ -1,18 +1,18 @@
 -- What stands ahead on a secured link of a guest is decided as the rule has it, from the link that holds what is left of the bytes.
 use Rattle.std.proofs.Common.{◌≡◌, ◌∙◌, ℕ, ◌+◌, List, [], drop, Option, Some, None, Result, Ok, Err, refl, sym, ap, subst, arith}
-use Rattle.cx_frame.specs.declared.frame.Frame.{Frame}
+use Rattle.cx_verifying.specs.cx_frame.specs.declared.frame.Frame.{Frame}
 use Rattle.cx_verifying.specs.cx_link.specs.Turning.{TakesSecure}
 use Rattle.cx_verifying.specs.cx_link.specs.Wires.{SecureWire, secure_ahead, secured_link}
-use Rattle.cx_rules.specs.Fronts.{keys_behind, opened_parts, secure_next}
-use Rattle.cx_rules.specs.Holdings.{Asker}
-use Rattle.cx_rules.specs.Rows.{at}
-use Rattle.cx_rules.specs.Secured.{Keys}
+use Rattle.cx_verifying.specs.cx_rules.specs.Fronts.{keys_behind, opened_parts, secure_next}
+use Rattle.cx_verifying.specs.cx_rules.specs.Holdings.{Asker}
+use Rattle.cx_verifying.specs.cx_rules.specs.Rows.{at}
+use Rattle.cx_verifying.specs.cx_rules.specs.Secured.{Keys}
 use Rattle.cx_verifying.specs.cx_rules_session.specs.Asks.{Asks, Finished, Asking}
 use Rattle.cx_verifying.specs.cx_rules_session.specs.Forgets.{AskAlike}
 use Rattle.cx_verifying.specs.cx_rules_session.specs.Guests.{GuestArrival, GuestStage}
 use Rattle.cx_verifying.specs.cx_rules_session.specs.Hosting.{Deciding, Hosted, decided_by}
 use Rattle.cx_steps.specs.declared.seals.SealEntry.{SealEntry}
-use Rattle.cx_turns.proofs.Handling.{Coming, left, taken}
+use Rattle.cx_verifying.specs.cx_turns.proofs.Handling.{Coming, left, taken}
 use Rattle.cx_guest_rows.specs.Hosted.{AreOne, asks_due, due_behind}
 
 -- ---- two that are one

@@ -2,22 +2,22 @@
 use Rattle.std.proofs.Common.{◌≡◌, ◌∙◌, ℕ, Bool, true, false, List, [], None, Result, Ok, Err, IfOk, ap, subst, sym}
 use Rattle.std.specs.Prelude.{IfSome}
 use Rattle.cx_journal.specs.declared.entries.Entry.{Entry}
-use Rattle.cx_rules.specs.Abridged.{abridged_link}
-use Rattle.cx_rules.specs.Rows.{Handles, Refuses, Turned, Waits, with_opened}
-use Rattle.cx_rules.specs.Holdings.{Asker}
+use Rattle.cx_verifying.specs.cx_rules.specs.Abridged.{abridged_link}
+use Rattle.cx_verifying.specs.cx_rules.specs.Rows.{Handles, Refuses, Turned, Waits, with_opened}
+use Rattle.cx_verifying.specs.cx_rules.specs.Holdings.{Asker}
 use Rattle.cx_verifying.specs.cx_rules_session.specs.Asks.{Asking, Finished}
 use Rattle.cx_verifying.specs.cx_rules_session.specs.Guests.{GuestArrival, GuestRow, GuestStage}
 use Rattle.cx_verifying.specs.cx_rules_session.specs.Hosting.{Deciding, Hosted, comes_to}
 use Rattle.cx_verifying.specs.cx_rules_session.specs.Kinds.{entered_before}
 use Rattle.cx_steps.specs.declared.seals.SealEntry.{SealEntry}
-use Rattle.cx_turns.proofs.MadeRows.{behind_due, entered_as}
-use Rattle.cx_turns.specs.Steps.{Stays}
-use Rattle.cx_turns.specs.Turns.{HasNumber}
-use Rattle.cx_turns.specs.Making.{IsHandled, IsRowOf, entering, row_due}
-use Rattle.cx_turns.specs.declared.came.Came.{Came}
-use Rattle.cx_turns.specs.declared.came.Came.TheVariants as came
-use Rattle.cx_turns.specs.declared.rows.NoRow.{NoRow}
-use Rattle.cx_turns.specs.declared.rows.NodeRow.{NodeRow}
+use Rattle.cx_verifying.specs.cx_turns.proofs.MadeRows.{behind_due, entered_as}
+use Rattle.cx_verifying.specs.cx_turns.specs.Steps.{Stays}
+use Rattle.cx_verifying.specs.cx_turns.specs.Turns.{HasNumber}
+use Rattle.cx_verifying.specs.cx_turns.specs.Making.{IsHandled, IsRowOf, entering, row_due}
+use Rattle.cx_verifying.specs.cx_turns.specs.declared.came.Came.{Came}
+use Rattle.cx_verifying.specs.cx_turns.specs.declared.came.Came.TheVariants as came
+use Rattle.cx_verifying.specs.cx_turns.specs.declared.rows.NoRow.{NoRow}
+use Rattle.cx_verifying.specs.cx_turns.specs.declared.rows.NodeRow.{NodeRow}
 use Rattle.cx_verifying.specs.Rows.{MakesRow, unchanged}
 use Rattle.cx_verifying.specs.Stages.{GuestLink}
 use Rattle.cx_guest_rows.specs.Hosted.{IsCome}

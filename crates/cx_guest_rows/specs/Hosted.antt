@@ -1,15 +1,15 @@
 -- A turn of a guest's link on which the book of sessions may be asked, as code makes it, against the rule: what it comes to once it is done, and
 -- when two that go on by the replies of a book are one.
 use Rattle.std.specs.Prelude.{◌≡◌, ℕ, List, Option, None}
-use Rattle.cx_rules.specs.Abridged.{abridged_link}
-use Rattle.cx_rules.specs.Holdings.{Asker}
+use Rattle.cx_verifying.specs.cx_rules.specs.Abridged.{abridged_link}
+use Rattle.cx_verifying.specs.cx_rules.specs.Holdings.{Asker}
 use Rattle.cx_verifying.specs.cx_rules_session.specs.Asks.{Finished, asks_map}
 use Rattle.cx_verifying.specs.cx_rules_session.specs.Forgets.{AskAlike}
 use Rattle.cx_verifying.specs.cx_rules_session.specs.Hosting.{Deciding, Hosted, hosted_behind}
 use Rattle.cx_steps.specs.declared.seals.SealEntry.{SealEntry}
-use Rattle.cx_turns.specs.Steps.{turn_due, turn_made}
-use Rattle.cx_turns.specs.Turns.{HasNumber}
-use Rattle.cx_turns.specs.declared.came.Came.{Came}
+use Rattle.cx_verifying.specs.cx_turns.specs.Steps.{turn_due, turn_made}
+use Rattle.cx_verifying.specs.cx_turns.specs.Turns.{HasNumber}
+use Rattle.cx_verifying.specs.cx_turns.specs.declared.came.Came.{Came}
 use Rattle.cx_verifying.specs.Rows.{unchanged}
 use Rattle.cx_verifying.specs.Stages.{GuestLink}
 

@@ -10,11 +10,11 @@ ghost use Rattle.cx_verifying.specs.Stages.{GuestLink};
 ghost use Rattle.cx_guest_rows.specs.Hosted.{IsCome};
 
 use cx_base::Items;
-use cx_holdings::Asker;
 use cx_journal::Entry;
 use cx_steps::SealEntry;
-use cx_turns::{Came, Moment, NoRow, NodeRow, entered_before, handles, unless_refused};
-use cx_verifying::Link;
+use cx_verifying::{
+    Asker, Came, Link, Moment, NoRow, NodeRow, entered_before, handles, unless_refused,
+};
 use std::alloc::{AllocError, Global};
 
 /// What was made, or the refusal, behind what is entered first: that stands whether or not the row can send.

@@ -1,24 +1,24 @@
 -- A turn for which the book was asked waits for nothing: by each reply that the book gives, a row is handled.
 use Rattle.std.proofs.Common.{◌≡◌, ◌∙◌, ℕ, ◌+◌, ◌==◌, Bool, true, false, List, [], Option, Some, None, Result, Ok, Err, refl, ap}
 use Rattle.std.specs.Prelude.{◌-◌, ◌^◌, if◌then◌else◌, length, not, nat_le, nat_lt}
-use Rattle.cx_authorize.specs.Daemon.{Authority}
-use Rattle.cx_control.specs.Idents.{client_ident_layout}
-use Rattle.cx_control.specs.Reconnects.{session_reconnect_layout}
-use Rattle.cx_control.specs.Upkeep.{keepalive2_layout, keepalive2_ack_layout}
-use Rattle.cx_control.specs.declared.idents.ClientIdent.{ClientIdent}
-use Rattle.cx_control.specs.declared.reconnects.SessionReconnect.{SessionReconnect}
+use Rattle.cx_hosting.specs.cx_authorize.specs.Daemon.{Authority}
+use Rattle.cx_link.specs.cx_control.specs.Idents.{client_ident_layout}
+use Rattle.cx_link.specs.cx_control.specs.Reconnects.{session_reconnect_layout}
+use Rattle.cx_link.specs.cx_control.specs.Upkeep.{keepalive2_layout, keepalive2_ack_layout}
+use Rattle.cx_link.specs.cx_control.specs.declared.idents.ClientIdent.{ClientIdent}
+use Rattle.cx_link.specs.cx_control.specs.declared.reconnects.SessionReconnect.{SessionReconnect}
 use Rattle.cx_desk.specs.Handlers.{Handlers}
 use Rattle.cx_frame.specs.declared.frame.Frame.{Frame}
-use Rattle.cx_journal.specs.declared.faults.BytesFault.{BytesFault}
-use Rattle.cx_journal.specs.declared.faults.BytesFault.TheVariants.{Unexpected}
-use Rattle.cx_rules.specs.Acceptor.{AwaitsBanner, AwaitsHello, AwaitsRequest, AwaitsProof, AwaitsSignature, AwaitsIdent, Open, misses}
-use Rattle.cx_rules.specs.Fronts.{Front, NotYet, Broken, Next, secure_next}
-use Rattle.cx_rules.specs.Holdings.{Asker}
-use Rattle.cx_rules.specs.Messages.{message_in}
-use Rattle.cx_rules.specs.Payloads.{payload}
-use Rattle.cx_rules.specs.Rows.{Turned, Waits, Refuses, Handles, at, refuses_bytes}
-use Rattle.cx_rules.specs.Secured.{Secured, under}
-use Rattle.cx_rules.specs.Upkeep.{on_keepalive, on_keepalive_ack}
+use Rattle.cx_link.specs.cx_journal.specs.declared.faults.BytesFault.{BytesFault}
+use Rattle.cx_link.specs.cx_journal.specs.declared.faults.BytesFault.TheVariants.{Unexpected}
+use Rattle.cx_turns.specs.cx_rules.specs.Acceptor.{AwaitsBanner, AwaitsHello, AwaitsRequest, AwaitsProof, AwaitsSignature, AwaitsIdent, Open, misses}
+use Rattle.cx_turns.specs.cx_rules.specs.Fronts.{Front, NotYet, Broken, Next, secure_next}
+use Rattle.cx_turns.specs.cx_rules.specs.Holdings.{Asker}
+use Rattle.cx_turns.specs.cx_rules.specs.Messages.{message_in}
+use Rattle.cx_turns.specs.cx_rules.specs.Payloads.{payload}
+use Rattle.cx_turns.specs.cx_rules.specs.Rows.{Turned, Waits, Refuses, Handles, at, refuses_bytes}
+use Rattle.cx_turns.specs.cx_rules.specs.Secured.{Secured, under}
+use Rattle.cx_turns.specs.cx_rules.specs.Upkeep.{on_keepalive, on_keepalive_ack}
 use Rattle.cx_hosting.specs.cx_rules_session.specs.Asks.{Finished, Asking, asks_map}
 use Rattle.cx_hosting.specs.cx_rules_session.specs.DaemonRule.{book_after, book_reply, owner_entity, owner_gid}
 use Rattle.cx_hosting.specs.cx_rules_session.specs.Guests.{GuestArrival, GuestStage, Served}
@@ -30,7 +30,7 @@ use Rattle.cx_session.specs.declared.faults.ResumeFault.TheVariants as resume
 use Rattle.cx_session.specs.declared.faults.TakeRefusal.{TakeRefusal}
 use Rattle.cx_session.specs.declared.faults.TakeRefusal.TheVariants as message
 use Rattle.cx_session.specs.declared.session.Session.{Session}
-use Rattle.cx_steps.specs.declared.seals.SealEntry.{SealEntry}
+use Rattle.cx_turns.specs.cx_steps.specs.declared.seals.SealEntry.{SealEntry}
 use Rattle.cx_hosted.specs.Hosting.{decided_with}
 use Rattle.cx_hosted.proofs.Booking.{with_book_map}
 

@@ -1,10 +1,10 @@
 -- A turn that was made by the replies of a book is the one of the rules with that book.
 use Rattle.std.proofs.Common.{◌≡◌, ◌∙◌, ℕ, Bool, true, false, Option, Some, None, Result, Ok, Err, refl, sym, ap, subst}
-use Rattle.cx_authorize.specs.Daemon.{Authority}
+use Rattle.cx_hosting.specs.cx_authorize.specs.Daemon.{Authority}
 use Rattle.cx_desk.specs.Handlers.{Handlers}
-use Rattle.cx_rules.specs.Abridged.{abridged_link}
-use Rattle.cx_rules.specs.Holdings.{Asker}
-use Rattle.cx_rules.specs.Rows.{Turned, Waits, Refuses, Handles}
+use Rattle.cx_turns.specs.cx_rules.specs.Abridged.{abridged_link}
+use Rattle.cx_turns.specs.cx_rules.specs.Holdings.{Asker}
+use Rattle.cx_turns.specs.cx_rules.specs.Rows.{Turned, Waits, Refuses, Handles}
 use Rattle.cx_hosting.specs.cx_rules_session.specs.Asks.{Finished, Asking}
 use Rattle.cx_hosting.specs.cx_rules_session.specs.DaemonRule.{book_after, book_reply, owner_entity, owner_gid}
 use Rattle.cx_hosting.specs.cx_rules_session.specs.Guests.{GuestStage}

@@ -1,9 +1,9 @@
 -- A turn of a guest's link, with the book of sessions.
 use Rattle.std.specs.Prelude.{◌≡◌, ℕ, Option, Some, None}
-use Rattle.cx_authorize.specs.Daemon.{Authority}
+use Rattle.cx_hosting.specs.cx_authorize.specs.Daemon.{Authority}
 use Rattle.cx_desk.specs.Handlers.{Handlers}
-use Rattle.cx_rules.specs.Abridged.{abridged_link}
-use Rattle.cx_rules.specs.Holdings.{Asker}
+use Rattle.cx_turns.specs.cx_rules.specs.Abridged.{abridged_link}
+use Rattle.cx_turns.specs.cx_rules.specs.Holdings.{Asker}
 use Rattle.cx_hosting.specs.cx_rules_session.specs.Asks.{with_book}
 use Rattle.cx_hosting.specs.cx_rules_session.specs.DaemonRule.{book_after, book_reply}
 use Rattle.cx_hosting.specs.cx_rules_session.specs.Hosting.{Deciding, Hosted}

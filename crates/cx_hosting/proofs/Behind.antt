@@ -2,7 +2,7 @@
 use Rattle.std.proofs.Common.{◌≡◌, ℕ, ◌==◌, Bool, true, false, [], ◌∷◌, Option, Some, Result, Ok, Err, inl, inr, refl}
 use Rattle.std.proofs.lemmas.Bool.Decides.{eqb_tells}
 use Rattle.std.specs.Prelude.{if◌then◌else◌}
-use Rattle.cx_authorize.specs.Daemon.{Authority}
+use Rattle.cx_guest_rows.specs.cx_authorize.specs.Daemon.{Authority}
 use Rattle.cx_control.specs.Idents.{client_ident_layout, ident_missing_features_layout}
 use Rattle.cx_control.specs.Reconnects.{session_reconnect_layout}
 use Rattle.cx_control.specs.declared.idents.ClientIdent.{ClientIdent}
@@ -15,11 +15,11 @@ use Rattle.cx_journal.specs.declared.faults.BytesFault.TheVariants.{Unexpected}
 use Rattle.cx_journal.specs.declared.faults.SessionFault.TheVariants as session
 use Rattle.cx_journal.specs.declared.outcomes.Reason.{Reason}
 use Rattle.cx_journal.specs.declared.outcomes.Reason.TheVariants as reason
-use Rattle.cx_rules.specs.Acceptor.{AwaitsIdent, Open, missing_told, misses, server_ident}
-use Rattle.cx_rules.specs.MonitorRule.{session_reset}
-use Rattle.cx_rules.specs.Payloads.{control, payload}
-use Rattle.cx_rules.specs.Rows.{Handles, refused_entry, refuses_bytes, secure_sent}
-use Rattle.cx_rules.specs.Secured.{SealedFrame, Secured, secure_frame}
+use Rattle.cx_node.specs.cx_rules.specs.Acceptor.{AwaitsIdent, Open, missing_told, misses, server_ident}
+use Rattle.cx_node.specs.cx_rules.specs.MonitorRule.{session_reset}
+use Rattle.cx_node.specs.cx_rules.specs.Payloads.{control, payload}
+use Rattle.cx_node.specs.cx_rules.specs.Rows.{Handles, refused_entry, refuses_bytes, secure_sent}
+use Rattle.cx_node.specs.cx_rules.specs.Secured.{SealedFrame, Secured, secure_frame}
 use Rattle.cx_guest_rows.specs.cx_rules_session.specs.Asks.{Finished}
 use Rattle.cx_guest_rows.specs.cx_rules_session.specs.Guests.{GuestRow, GuestStage, Served}
 use Rattle.cx_guest_rows.specs.cx_rules_session.specs.Hosting.{Deciding, Hosted, admission_of, asks_admission, comes_to, cookie_drawn, on_admission, on_client_ident, on_ident, on_reconnect, on_resumption, reconnect_ok, served_as, session_retry, session_retry_global, tells_why}

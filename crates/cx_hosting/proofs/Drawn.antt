@@ -2,9 +2,9 @@
 use Rattle.std.proofs.Common.{◌≡◌, List, [], ◌∷◌, Result, Ok, Err, refl}
 use Rattle.cx_frame.specs.declared.frame.Frame.{Frame}
 use Rattle.cx_journal.specs.declared.faults.BytesFault.{BytesFault}
-use Rattle.cx_rules.specs.Abridged.{abridged_link}
-use Rattle.cx_rules.specs.Rows.{secure_sent, sends_secure, with_opened}
-use Rattle.cx_rules.specs.Secured.{SealedFrame, Secured, secure_frame}
+use Rattle.cx_node.specs.cx_rules.specs.Abridged.{abridged_link}
+use Rattle.cx_node.specs.cx_rules.specs.Rows.{secure_sent, sends_secure, with_opened}
+use Rattle.cx_node.specs.cx_rules.specs.Secured.{SealedFrame, Secured, secure_frame}
 use Rattle.cx_guest_rows.specs.cx_rules_session.specs.Guests.{GuestArrival, GuestStage}
 use Rattle.cx_steps.specs.declared.seals.SealEntry.{SealEntry}
 use Rattle.cx_turns.proofs.MadeRows.{behind_as}

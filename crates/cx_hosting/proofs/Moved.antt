@@ -1,7 +1,7 @@
 -- A turn that is done, with the session that moved to its link.
 use Rattle.std.proofs.Common.{◌≡◌, ℕ, List, Option, Some, None, ap}
-use Rattle.cx_rules.specs.Holdings.{Asker}
-use Rattle.cx_rules.specs.Rows.{Handles}
+use Rattle.cx_node.specs.cx_rules.specs.Holdings.{Asker}
+use Rattle.cx_node.specs.cx_rules.specs.Rows.{Handles}
 use Rattle.cx_guest_rows.specs.cx_rules_session.specs.Asks.{Finished, Asking}
 use Rattle.cx_guest_rows.specs.cx_rules_session.specs.Guests.{GuestRow}
 use Rattle.cx_guest_rows.specs.cx_rules_session.specs.Hosting.{Deciding, Hosted, comes_to}

@@ -1,11 +1,11 @@
 -- A turn of a guest's link whose peer has signed, as it is made: what waits for a reply of the book goes on as the rule does.
 use Rattle.std.specs.Prelude.{◌≡◌, ℕ, List, Option, Some, None}
-use Rattle.cx_authorize.specs.Daemon.{Authority}
+use Rattle.cx_guest_rows.specs.cx_authorize.specs.Daemon.{Authority}
 use Rattle.cx_control.specs.declared.idents.ClientIdent.{ClientIdent}
-use Rattle.cx_desk.specs.Handlers.{Handlers}
+use Rattle.cx_guest_rows.specs.cx_desk.specs.Handlers.{Handlers}
 use Rattle.cx_dice.specs.Draws.{cookie_of}
 use Rattle.cx_link.specs.Wires.{SecureWire}
-use Rattle.cx_rules.specs.Holdings.{Asker}
+use Rattle.cx_node.specs.cx_rules.specs.Holdings.{Asker}
 use Rattle.cx_guest_rows.specs.cx_rules_session.specs.Asks.{Asking}
 use Rattle.cx_guest_rows.specs.cx_rules_session.specs.Guests.{GuestArrival}
 use Rattle.cx_guest_rows.specs.cx_rules_session.specs.Hosting.{Deciding, Hosted, on_admission, on_resumption, passes_over}

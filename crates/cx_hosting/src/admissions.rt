@@ -1,12 +1,12 @@
 //! A CLIENT_IDENT, by the book's reply.
 
 ghost use Rattle.std.specs.Prelude.{◌≡◌, [], ◌∷◌, None, IfOk};
-ghost use Rattle.cx_authorize.specs.Daemon.{Authority};
+ghost use Rattle.cx_guest_rows.specs.cx_authorize.specs.Daemon.{Authority};
 ghost use Rattle.cx_dice.specs.Draws.{cookie_of};
-ghost use Rattle.cx_rules.specs.Acceptor.{Open, server_ident};
-ghost use Rattle.cx_rules.specs.Rows.{refuses, sends_secure};
+ghost use Rattle.cx_node.specs.cx_rules.specs.Acceptor.{Open, server_ident};
+ghost use Rattle.cx_node.specs.cx_rules.specs.Rows.{refuses, sends_secure};
 ghost use Rattle.cx_guest_rows.specs.cx_rules_session.specs.Hosting.{admits, comes_to, cookie_drawn, on_admission};
-ghost use Rattle.cx_rules.specs.Holdings.{Asker};
+ghost use Rattle.cx_node.specs.cx_rules.specs.Holdings.{Asker};
 ghost use Rattle.cx_guest_rows.specs.cx_rules_session.specs.Lossy.{lossy_flags};
 ghost use Rattle.cx_session.specs.declared.call.BookReply.TheVariants as reply;
 ghost use Rattle.cx_turns.specs.Stages.{keys_alone};

@@ -1,9 +1,9 @@
 //! A turn of a link whose peer has signed, up to what the book is asked.
 
 ghost use Rattle.std.specs.Prelude.{◌≡◌, [], IfOk};
-ghost use Rattle.cx_authorize.specs.Daemon.{Authority};
-ghost use Rattle.cx_desk.specs.Handlers.{Handlers};
-ghost use Rattle.cx_rules.specs.Acceptor.{misses};
+ghost use Rattle.cx_guest_rows.specs.cx_authorize.specs.Daemon.{Authority};
+ghost use Rattle.cx_guest_rows.specs.cx_desk.specs.Handlers.{Handlers};
+ghost use Rattle.cx_node.specs.cx_rules.specs.Acceptor.{misses};
 ghost use Rattle.cx_guest_rows.specs.cx_rules_session.specs.Hosting.{on_client_ident, on_ident, on_reconnect};
 ghost use Rattle.cx_turns.specs.Stages.{keys_alone};
 ghost use Rattle.cx_guest_rows.specs.cx_verifying.specs.Rows.{Makes};

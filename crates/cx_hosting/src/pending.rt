@@ -1,7 +1,7 @@
 //! Idents and reconnections that wait for a reply of the book.
 
 ghost use Rattle.std.specs.Prelude.{◌≡◌};
-ghost use Rattle.cx_authorize.specs.Daemon.{Authority};
+ghost use Rattle.cx_guest_rows.specs.cx_authorize.specs.Daemon.{Authority};
 
 use cx_base::Items;
 use cx_control::{ClientIdent, SessionReconnect};

@@ -1,15 +1,15 @@
 //! A SESSION_RECONNECT, by the book's reply.
 
 ghost use Rattle.std.specs.Prelude.{◌≡◌, [], IfOk};
-ghost use Rattle.cx_authorize.specs.Daemon.{Authority};
+ghost use Rattle.cx_guest_rows.specs.cx_authorize.specs.Daemon.{Authority};
 ghost use Rattle.cx_frame.specs.declared.frame.Frame.{Frame};
 ghost use Rattle.cx_journal.specs.declared.faults.SessionFault.TheVariants as session;
 ghost use Rattle.cx_journal.specs.declared.outcomes.Reason.TheVariants as reason;
 ghost use Rattle.cx_link.specs.Wires.{SecureWire};
-ghost use Rattle.cx_rules.specs.Acceptor.{AwaitsIdent, Open};
-ghost use Rattle.cx_rules.specs.MonitorRule.{session_reset};
-ghost use Rattle.cx_rules.specs.Rows.{sends_secure};
-ghost use Rattle.cx_rules.specs.Secured.{secure_frame};
+ghost use Rattle.cx_node.specs.cx_rules.specs.Acceptor.{AwaitsIdent, Open};
+ghost use Rattle.cx_node.specs.cx_rules.specs.MonitorRule.{session_reset};
+ghost use Rattle.cx_node.specs.cx_rules.specs.Rows.{sends_secure};
+ghost use Rattle.cx_node.specs.cx_rules.specs.Secured.{secure_frame};
 ghost use Rattle.cx_guest_rows.specs.cx_rules_session.specs.Hosting.{comes_to, on_resumption, reconnect_ok, resumes, session_retry, session_retry_global, tells_why};
 ghost use Rattle.cx_session.specs.declared.call.BookReply.TheVariants as reply;
 ghost use Rattle.cx_turns.specs.Sending.{SendsSecure};

@@ -9,12 +9,12 @@ use Rattle.cx_frame.specs.declared.frame.Frame.{Frame}
 use Rattle.cx_journal.specs.declared.faults.BytesFault.{BytesFault}
 use Rattle.cx_journal.specs.declared.faults.BytesFault.TheVariants.{Unexpected}
 use Rattle.cx_journal.specs.declared.outcomes.Outcome.{Outcome}
-use Rattle.cx_rules.specs.Acceptor.{Open}
-use Rattle.cx_rules.specs.Messages.{acknowledgement, message_in, secure_frames}
-use Rattle.cx_rules.specs.Payloads.{control, payload}
-use Rattle.cx_rules.specs.Rows.{refuses_bytes, secure_sent}
-use Rattle.cx_rules.specs.Secured.{Keys, SealedFrame, Secured, secure_frame}
-use Rattle.cx_rules.specs.Upkeep.{on_keepalive, on_keepalive_ack}
+use Rattle.cx_node.specs.cx_rules.specs.Acceptor.{Open}
+use Rattle.cx_node.specs.cx_rules.specs.Messages.{acknowledgement, message_in, secure_frames}
+use Rattle.cx_node.specs.cx_rules.specs.Payloads.{control, payload}
+use Rattle.cx_node.specs.cx_rules.specs.Rows.{refuses_bytes, secure_sent}
+use Rattle.cx_node.specs.cx_rules.specs.Secured.{Keys, SealedFrame, Secured, secure_frame}
+use Rattle.cx_node.specs.cx_rules.specs.Upkeep.{on_keepalive, on_keepalive_ack}
 use Rattle.cx_guest_rows.specs.cx_rules_session.specs.Guests.{GuestArrival, GuestRow, GuestStage, Served}
 use Rattle.cx_guest_rows.specs.cx_rules_session.specs.Hosting.{Deciding, Hosted, Instruction, answer_message, comes_to, handled_entry, instruction_of, on_checked, on_message, on_open, on_taken, on_untaken, outcome_of}
 use Rattle.cx_guest_rows.specs.cx_rules_session.specs.Kinds.{entered_before}

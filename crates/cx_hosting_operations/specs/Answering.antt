@@ -2,7 +2,7 @@
 use Rattle.std.specs.Prelude.{ℕ, List}
 use Rattle.cx_frame.specs.declared.frame.Frame.{Frame}
 use Rattle.cx_journal.specs.declared.outcomes.Outcome.{Outcome}
-use Rattle.cx_rules.specs.Messages.{message}
+use Rattle.cx_node.specs.cx_rules.specs.Messages.{message}
 use Rattle.cx_guest_rows.specs.cx_rules_session.specs.Hosting.{outcome_number}
 use Rattle.cx_wire.specs.Operations.{answer_layout}
 

@@ -2,7 +2,7 @@
 use Rattle.std.specs.Prelude.{◌≡◌, ℕ, List, None}
 use Rattle.cx_desk.specs.Handlers.{Handlers}
 use Rattle.cx_link.specs.Wires.{SecureWire}
-use Rattle.cx_rules.specs.Holdings.{Asker}
+use Rattle.cx_node.specs.cx_rules.specs.Holdings.{Asker}
 use Rattle.cx_guest_rows.specs.cx_rules_session.specs.Asks.{Asking}
 use Rattle.cx_guest_rows.specs.cx_rules_session.specs.Guests.{GuestArrival, Served}
 use Rattle.cx_guest_rows.specs.cx_rules_session.specs.Hosting.{Deciding, Hosted, on_checked, on_taken}

@@ -2,7 +2,7 @@
 
 ghost use Rattle.std.specs.Prelude.{◌≡◌, ◌≤◌, [], ◌∷◌, All, IfOk, length};
 ghost use Rattle.cx_frame.specs.Frames.{IsAnnounceable};
-ghost use Rattle.cx_rules.specs.Messages.{acknowledgement, message, secure_frames};
+ghost use Rattle.cx_node.specs.cx_rules.specs.Messages.{acknowledgement, message, secure_frames};
 ghost use Rattle.cx_guest_rows.specs.cx_rules_session.specs.Hosting.{outcome_number};
 ghost use Rattle.cx_turns.specs.Sending.{SendsSecure};
 ghost use Rattle.cx_wire.specs.Operations.{answer_layout};

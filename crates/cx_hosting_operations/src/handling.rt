@@ -4,9 +4,9 @@ ghost use Rattle.std.specs.Prelude.{◌≡◌, ◌≤◌, [], ◌∷◌, IfOk, l
 ghost use Rattle.cx_base.specs.declared.operations.Operation.{Operation};
 ghost use Rattle.cx_desk.specs.Held.{handlers_of};
 ghost use Rattle.cx_journal.specs.declared.entries.Entry.TheVariants as entry;
-ghost use Rattle.cx_rules.specs.Acceptor.{Open};
-ghost use Rattle.cx_rules.specs.Messages.{acknowledgement, secure_frames};
-ghost use Rattle.cx_rules.specs.Rows.{secure_sent};
+ghost use Rattle.cx_node.specs.cx_rules.specs.Acceptor.{Open};
+ghost use Rattle.cx_node.specs.cx_rules.specs.Messages.{acknowledgement, secure_frames};
+ghost use Rattle.cx_node.specs.cx_rules.specs.Rows.{secure_sent};
 ghost use Rattle.cx_guest_rows.specs.cx_rules_session.specs.Hosting.{comes_to, handles, outcome_of};
 ghost use Rattle.cx_guest_rows.specs.cx_rules_session.specs.Kinds.{entered_before};
 ghost use Rattle.cx_turns.specs.Stages.{keys_alone};

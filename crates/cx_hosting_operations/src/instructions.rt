@@ -1,8 +1,8 @@
 //! Operations, as messages bring them.
 
 ghost use Rattle.std.specs.Prelude.{◌≡◌, IfOk, Ok};
-ghost use Rattle.cx_rules.specs.Messages.{message_in};
-ghost use Rattle.cx_rules.specs.Payloads.{whole};
+ghost use Rattle.cx_node.specs.cx_rules.specs.Messages.{message_in};
+ghost use Rattle.cx_node.specs.cx_rules.specs.Payloads.{whole};
 ghost use Rattle.cx_guest_rows.specs.cx_rules_session.specs.Hosting.{instruction_of};
 ghost use Rattle.cx_wire.specs.Operations.{IsWritable, operation_layout};
 

@@ -1,7 +1,7 @@
 //! Messages that wait for a reply of the book.
 
 ghost use Rattle.std.specs.Prelude.{◌≡◌};
-ghost use Rattle.cx_authorize.specs.Daemon.{Authority};
+ghost use Rattle.cx_guest_rows.specs.cx_authorize.specs.Daemon.{Authority};
 ghost use Rattle.cx_session.specs.declared.call.BookCall.TheVariants.{Check, Take};
 
 use crate::instructions::Instruction;

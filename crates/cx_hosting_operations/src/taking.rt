@@ -3,9 +3,9 @@
 ghost use Rattle.std.specs.Prelude.{◌≡◌, [], IfOk};
 ghost use Rattle.cx_desk.specs.Handlers.{Handlers};
 ghost use Rattle.cx_desk.specs.Held.{handlers_of};
-ghost use Rattle.cx_rules.specs.Acceptor.{Open};
-ghost use Rattle.cx_rules.specs.Messages.{acknowledgement};
-ghost use Rattle.cx_rules.specs.Rows.{sends_secure};
+ghost use Rattle.cx_node.specs.cx_rules.specs.Acceptor.{Open};
+ghost use Rattle.cx_node.specs.cx_rules.specs.Messages.{acknowledgement};
+ghost use Rattle.cx_node.specs.cx_rules.specs.Rows.{sends_secure};
 ghost use Rattle.cx_guest_rows.specs.cx_rules_session.specs.Hosting.{on_taken, on_untaken};
 ghost use Rattle.cx_session.specs.declared.call.BookReply.TheVariants as reply;
 ghost use Rattle.cx_turns.specs.Stages.{keys_alone};

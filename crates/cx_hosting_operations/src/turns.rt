@@ -2,10 +2,10 @@
 
 ghost use Rattle.std.specs.Prelude.{◌≡◌, [], List, IfOk};
 ghost use Rattle.cx_desk.specs.Handlers.{Handlers};
-ghost use Rattle.cx_rules.specs.Acceptor.{Open};
-ghost use Rattle.cx_rules.specs.Rows.{secure_sent};
+ghost use Rattle.cx_node.specs.cx_rules.specs.Acceptor.{Open};
+ghost use Rattle.cx_node.specs.cx_rules.specs.Rows.{secure_sent};
 ghost use Rattle.cx_guest_rows.specs.cx_rules_session.specs.Hosting.{instruction_of, on_message, on_open};
-ghost use Rattle.cx_rules.specs.Messages.{message_in};
+ghost use Rattle.cx_node.specs.cx_rules.specs.Messages.{message_in};
 ghost use Rattle.cx_turns.specs.Stages.{keys_alone};
 ghost use Rattle.cx_turns.specs.Upkeep.{upkept};
 ghost use Rattle.cx_guest_rows.specs.cx_verifying.specs.Rows.{Makes};

@@ -24,3 +24,6 @@ pub use laws::session_laws;
 pub use outcomes::{Outcome, Reason, TicketFault};
 pub use premises::{Broken, KeyKind, Premise};
 pub use texts::put_text;
+
+// What crates above name through this one, and so needn't list.
+pub use cx_rotate::{KeptState, View};

@@ -23,6 +23,9 @@ pub use printing::print;
 pub use reading::parse;
 pub use refusals::{AddRefusal, KeyringRefusal};
 
+// What crates above name through this one, and so needn't list.
+pub use cx_enc::Key;
+
 // Each public type may be sent to another thread and shared with one.
 fn is_sendable<T: Send + Sync>() {}
 

@@ -5,7 +5,7 @@ use Rattle.std.specs.List.{list_all}
 use Rattle.cx_base.specs.declared.kinds.EntityType.{EntityType}
 use Rattle.cx_base.specs.Names.{same_kind}
 use Rattle.cx_base.specs.Texts.{is_caps}
-use Rattle.cx_enc.specs.FieldLaws.{both_true}
+use Rattle.cx_keyring.specs.cx_enc.specs.FieldLaws.{both_true}
 use Rattle.cx_base.specs.declared.grants.Grant.{Grant}
 use Rattle.cx_keyring.specs.Entries.{are_grants, differ, is_grant}
 

@@ -10,8 +10,8 @@ use Rattle.cx_keyring.specs.Entries.{is_named}
 use Rattle.cx_rotate.specs.declared.generations.Generation.{Generation}
 use Rattle.cx_rotate.specs.declared.states.KeptState.{KeptState}
 use Rattle.cx_dice.specs.Draws.{has_keys, session_of}
-use Rattle.cx_enc.specs.Forms.{passed}
-use Rattle.cx_cbc.specs.Envelope.{sealed}
+use Rattle.cx_keyring.specs.cx_enc.specs.Forms.{passed}
+use Rattle.cx_sealed.specs.cx_cbc.specs.Envelope.{sealed}
 use Rattle.cx_sealed.specs.declared.service_ticket.ServiceTicket.{ServiceTicket}
 use Rattle.cx_sealed.specs.declared.ticket_info.TicketInfo.{TicketInfo}
 use Rattle.cx_sealed.specs.Records.{service_ticket_layout, ticket_info_layout}

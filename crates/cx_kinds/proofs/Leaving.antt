@@ -1,8 +1,8 @@
 -- Where links that pass a test are given up, those that are left are held as before.
 use Rattle.std.proofs.Common.{◌≡◌, ◌∙◌, Bool, List, map, sym, ap}
 use Rattle.std.specs.Prelude.{not, filter}
-use Rattle.cx_rules.specs.Links.{Link}
-use Rattle.cx_rules.proofs.Abridging.{Forgets}
+use Rattle.cx_rules_session.specs.cx_rules.specs.Links.{Link}
+use Rattle.cx_rules_session.specs.cx_rules.proofs.Abridging.{Forgets}
 use Rattle.cx_rules_session.proofs.KindsAlike.{links-left}
 use Rattle.cx_turns.specs.Steps.{AreHeld}
 use Rattle.cx_turns.proofs.Rising.{filter_rising}

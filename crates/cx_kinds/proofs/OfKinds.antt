@@ -2,10 +2,10 @@
 use Rattle.std.proofs.Common.{◌≡◌, ◌∙◌, ℕ, List, ◌++◌, Option, Some, None, Result, Ok, Err, refl, sym, ap}
 use Rattle.std.specs.Prelude.{IfSome, OnOk}
 use Rattle.std.specs.Option.{option_map}
-use Rattle.cx_node.specs.Made.{as_row}
-use Rattle.cx_node.specs.declared.rows.Row.{Row as Made}
-use Rattle.cx_rules.specs.Links.{Link}
-use Rattle.cx_rules.specs.Rows.{Row, Turned, Waits, Refuses, Handles}
+use Rattle.cx_turns.specs.cx_node.specs.Made.{as_row}
+use Rattle.cx_turns.specs.cx_node.specs.declared.rows.Row.{Row as Made}
+use Rattle.cx_rules_session.specs.cx_rules.specs.Links.{Link}
+use Rattle.cx_rules_session.specs.cx_rules.specs.Rows.{Row, Turned, Waits, Refuses, Handles}
 use Rattle.cx_rules_session.specs.Kinds.{of_kind, row_of_kind, turn_of_kind}
 use Rattle.cx_rules_session.proofs.KindsAlike.{FollowsKind}
 use Rattle.cx_turns.specs.Making.{own_behind, row_due}

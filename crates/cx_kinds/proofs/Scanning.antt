@@ -5,7 +5,7 @@ use Rattle.std.specs.Prelude.{filter, slice_get}
 use Rattle.std.proofs.lemmas.List.Elements.{filter_more}
 use Rattle.std.proofs.lemmas.List.Folds.{list_all_at, list_all_more, list_any_at, list_any_more}
 use Rattle.std.proofs.lemmas.Option.{get_or_from_slice_get, slice_get_within}
-use Rattle.cx_rules.specs.Links.{Link}
+use Rattle.cx_rules_session.specs.cx_rules.specs.Links.{Link}
 
 module _ {X : Type 0} (p : X → Bool) where
   pub none_more : (xs : List X) (i : ℕ) (x : X) → list_any p (take i xs) ≡ false → Some x ≡ slice_get xs i → p x ≡ false → list_any p (take (i + 1) xs) ≡ false

@@ -1,8 +1,8 @@
 -- What was made on a link of a kind, as made on one of the node.
 use Rattle.std.specs.Prelude.{Option}
 use Rattle.std.specs.Option.{option_map}
-use Rattle.cx_node.specs.declared.rows.Row.{Row as Made}
-use Rattle.cx_rules.specs.Links.{Link}
+use Rattle.cx_turns.specs.cx_node.specs.declared.rows.Row.{Row as Made}
+use Rattle.cx_rules_session.specs.cx_rules.specs.Links.{Link}
 use Rattle.cx_rules_session.specs.Kinds.{of_kind}
 use Rattle.cx_turns.specs.declared.came.Came.{Came}
 use Rattle.cx_turns.specs.declared.came.Came.TheVariants as came

@@ -10,15 +10,15 @@ use Rattle.cx_journal.specs.declared.faults.BytesFault.{BytesFault}
 use Rattle.cx_journal.specs.declared.faults.BytesFault.TheVariants.{Unexpected}
 use Rattle.cx_journal.specs.declared.outcomes.Outcome.{Outcome}
 use Rattle.cx_journal.specs.declared.outcomes.Outcome.TheVariants.{Done, Denied, NoHandler}
-use Rattle.cx_laws_keys.proofs.Reading.{ok_is, pair_parts, unseen}
+use Rattle.cx_laws_links.specs.cx_laws_keys.proofs.Reading.{ok_is, pair_parts, unseen}
 use Rattle.cx_laws_links.specs.cx_rules.specs.Messages.{Message, message_by, message_in, message_of}
 use Rattle.cx_laws_links.specs.cx_rules.specs.Payloads.{whole}
 use Rattle.cx_laws_links.specs.cx_rules_session.specs.Hosting.{Instruction, answer_data, answer_message, outcome_number}
 use Rattle.cx_laws_links.specs.cx_rules_session.specs.Presenter.{OperationEnd, end_by, end_in, outcome_by}
-use Rattle.cx_wire.specs.Headers.{Fields, header_layout, written_header}
-use Rattle.cx_wire.specs.Operations.{answer_layout, data_field, is_outcome}
-use Rattle.cx_wire.specs.declared.answers.Answer.{Answer}
-use Rattle.cx_wire.specs.declared.headers.Header.{Header}
+use Rattle.cx_laws_fetch.specs.cx_wire.specs.Headers.{Fields, header_layout, written_header}
+use Rattle.cx_laws_fetch.specs.cx_wire.specs.Operations.{answer_layout, data_field, is_outcome}
+use Rattle.cx_laws_fetch.specs.cx_wire.specs.declared.answers.Answer.{Answer}
+use Rattle.cx_laws_fetch.specs.cx_wire.specs.declared.headers.Header.{Header}
 use Rattle.cx_laws_links.proofs.Hearing.{whole-again, whole-read}
 use Rattle.cx_laws_answers.proofs.Given.{Acks, Admits, Answers, Given, KeepsUp, Misses, Replies, Resets, Resumes, Retries, RetriesGlobal, Signs, given_frame}
 

@@ -4,7 +4,7 @@ use Rattle.std.proofs.Common.{◌≡◌, ℕ, ◌≤◌, ◌^◌, Bool, true, fa
 use Rattle.std.specs.Prelude.{◌&&◌}
 use Rattle.std.specs.List.{cons_option}
 use Rattle.std.specs.Str.{bytes_eq}
-use Rattle.cx_authorize.specs.Verdict.{raised}
+use Rattle.cx_laws_links.specs.cx_authorize.specs.Verdict.{raised}
 use Rattle.cx_base.specs.Names.{Name}
 use Rattle.cx_base.specs.declared.nodes.NodeName.{NodeName}
 use Rattle.cx_digest.specs.Code.{hmac}
@@ -12,19 +12,19 @@ use Rattle.cx_dice.specs.Draws.{connection_of}
 use Rattle.cx_frame.specs.Frames.{total}
 use Rattle.cx_journal.specs.declared.entries.Entry.{Entry}
 use Rattle.cx_journal.specs.declared.faults.BytesFault.{BytesFault}
-use Rattle.cx_laws_keys.proofs.Journal.{entered}
-use Rattle.cx_laws_keys.proofs.Known.{HasReply, Inv, IsOfAcceptor, IsOfConnector}
-use Rattle.cx_laws_keys.proofs.Lists.{some-map}
-use Rattle.cx_laws_keys.proofs.Premises.{AreGranted, DrawsKey, behind, behind-append, granted-rest, new-key}
-use Rattle.cx_laws_keys.proofs.Uses.{AtDaemon, Connected, DrawnAs, Grows, Means, Use, Uses, WholeRun, whose}
+use Rattle.cx_laws_links.specs.cx_laws_keys.proofs.Journal.{entered}
+use Rattle.cx_laws_links.specs.cx_laws_keys.proofs.Known.{HasReply, Inv, IsOfAcceptor, IsOfConnector}
+use Rattle.cx_laws_links.specs.cx_laws_keys.proofs.Lists.{some-map}
+use Rattle.cx_laws_links.specs.cx_laws_keys.proofs.Premises.{AreGranted, DrawsKey, behind, behind-append, granted-rest, new-key}
+use Rattle.cx_laws_links.specs.cx_laws_keys.proofs.Uses.{AtDaemon, Connected, DrawnAs, Grows, Means, Use, Uses, WholeRun, whose}
 use Rattle.cx_laws_links.specs.cx_laws_login.proofs.Issuing.{acceptor-counts, acceptor-sends, connector-counts, connector-sends}
 use Rattle.cx_laws_links.specs.cx_laws_series.proofs.Contents.{content_where, contents-behind, contents_by, contents_in, parts-others}
 use Rattle.cx_laws_links.specs.cx_laws_series.proofs.Frames.{HasParts, frame-parts, frame-sealed}
 use Rattle.cx_laws_links.specs.cx_rules.specs.Secured.{Keys, SealedFrame, Secured, acceptor_keys, connector_keys, secure_frame, Way, signature}
 use Rattle.cx_laws_links.specs.cx_rules_session.specs.Envelopes.{authorize_reply_content, session_sealed}
 use Rattle.cx_laws_links.specs.cx_rules_session.specs.Guests.{GuestArrival}
-use Rattle.cx_sealed.specs.declared.authorize_reply.AuthorizeReply.{AuthorizeReply}
-use Rattle.cx_sealed.specs.declared.service_ticket.ServiceTicket.{ServiceTicket}
+use Rattle.cx_laws_links.specs.cx_sealed.specs.declared.authorize_reply.AuthorizeReply.{AuthorizeReply}
+use Rattle.cx_laws_links.specs.cx_sealed.specs.declared.service_ticket.ServiceTicket.{ServiceTicket}
 use Rattle.cx_secure.specs.Contents.{sealed_contents}
 use Rattle.cx_secure.specs.Parts.{nonce_at}
 use Rattle.cx_secure.specs.Plains.{plains}

@@ -2,17 +2,17 @@
 use Rattle.std.proofs.Common.{◌≡◌, ℕ, zero, suc, false, List, [], ◌∷◌, ◌++◌, length, take, Option, Some, None, Result, Ok, Err, refl, sym, ap, ◌∙◌, subst, append-nil}
 use Rattle.std.specs.Prelude.{Contains}
 use Rattle.std.specs.Str.{bytes_eq}
-use Rattle.cx_authorize.specs.Daemon.{Authority}
-use Rattle.cx_authorize.specs.Verdict.{raised}
+use Rattle.cx_laws_links.specs.cx_authorize.specs.Daemon.{Authority}
+use Rattle.cx_laws_links.specs.cx_authorize.specs.Verdict.{raised}
 use Rattle.cx_base.specs.Names.{Name}
 use Rattle.cx_base.specs.declared.nodes.NodeName.{NodeName}
 use Rattle.cx_digest.specs.Code.{hmac}
 use Rattle.cx_dice.specs.Draws.{connection_of}
 use Rattle.cx_journal.specs.declared.entries.Entry.{Entry}
 use Rattle.cx_journal.specs.declared.faults.BytesFault.{BytesFault}
-use Rattle.cx_laws_keys.proofs.Known.{Inv}
-use Rattle.cx_laws_keys.proofs.Premises.{AreGranted, behind, granted-first}
-use Rattle.cx_laws_keys.proofs.Uses.{AtDaemon, Connected, Grows, Means, Use, Uses, WholeRun}
+use Rattle.cx_laws_links.specs.cx_laws_keys.proofs.Known.{Inv}
+use Rattle.cx_laws_links.specs.cx_laws_keys.proofs.Premises.{AreGranted, behind, granted-first}
+use Rattle.cx_laws_links.specs.cx_laws_keys.proofs.Uses.{AtDaemon, Connected, Grows, Means, Use, Uses, WholeRun}
 use Rattle.cx_laws_links.specs.cx_laws_series.proofs.Contents.{contents_by}
 use Rattle.cx_laws_links.specs.cx_laws_series.proofs.Series.{IsAt}
 use Rattle.cx_laws_links.specs.cx_rules.specs.Acceptor as acceptor
@@ -23,7 +23,7 @@ use Rattle.cx_laws_links.specs.cx_rules_session.specs.Envelopes.{authorize_reply
 use Rattle.cx_laws_links.specs.cx_rules_session.specs.Guests.{GuestArrival, GuestRow, GuestStage, authority_of, authorized_frame, authorizes, done_sent}
 use Rattle.cx_laws_links.specs.cx_rules_session.specs.Hosting.{Instruction}
 use Rattle.cx_journal.specs.declared.outcomes.Outcome.{Outcome}
-use Rattle.cx_sealed.specs.declared.service_ticket.ServiceTicket.{ServiceTicket}
+use Rattle.cx_laws_links.specs.cx_sealed.specs.declared.service_ticket.ServiceTicket.{ServiceTicket}
 use Rattle.cx_steps.specs.declared.seals.DrawMark.TheVariants as draw
 use Rattle.cx_steps.specs.declared.seals.Logged.{Logged}
 use Rattle.cx_steps.specs.declared.seals.SealEntry.{SealEntry}

@@ -6,7 +6,7 @@ use Rattle.std.proofs.lemmas.Slice.Eq.{bytes_eq-Decides}
 use Rattle.std.specs.Prelude.{◌&&◌, Contains}
 use Rattle.std.specs.List.{AllByRecursion, cons_option}
 use Rattle.std.specs.Str.{bytes_eq}
-use Rattle.cx_authorize.specs.Client.{Answered as Shown, Presented, reply_in}
+use Rattle.cx_laws_links.specs.cx_authorize.specs.Client.{Answered as Shown, Presented, reply_in}
 use Rattle.cx_base.specs.Names.{Name}
 use Rattle.cx_base.specs.declared.kinds.EntityType.{EntityType}
 use Rattle.cx_base.specs.declared.nodes.NodeName.{NodeName}
@@ -22,10 +22,10 @@ use Rattle.cx_journal.specs.declared.entries.Answered.{Answered}
 use Rattle.cx_journal.specs.declared.entries.Entry.{Entry}
 use Rattle.cx_journal.specs.declared.entries.Entry.TheVariants as journal
 use Rattle.cx_journal.specs.declared.entries.Handled.{Handled}
-use Rattle.cx_laws_keys.proofs.Known.{HasReply, Inv}
-use Rattle.cx_laws_keys.proofs.Lists.{all-map}
-use Rattle.cx_laws_keys.proofs.Premises.{AreGranted, granted-first}
-use Rattle.cx_laws_keys.proofs.Uses.{AtDaemon, Connected, Grows, Login, Means, Ticketed, Use, Uses, WholeRun}
+use Rattle.cx_laws_links.specs.cx_laws_keys.proofs.Known.{HasReply, Inv}
+use Rattle.cx_laws_links.specs.cx_laws_keys.proofs.Lists.{all-map}
+use Rattle.cx_laws_links.specs.cx_laws_keys.proofs.Premises.{AreGranted, granted-first}
+use Rattle.cx_laws_links.specs.cx_laws_keys.proofs.Uses.{AtDaemon, Connected, Grows, Login, Means, Ticketed, Use, Uses, WholeRun}
 use Rattle.cx_laws_links.specs.cx_laws_series.proofs.Contents.{content_where, contents_by}
 use Rattle.cx_laws_links.specs.cx_rules.specs.Fronts.{ahead_of, banner_next, banner_read, plain_next, plain_read, taking}
 use Rattle.cx_laws_links.specs.cx_rules.specs.Links.{Link}
@@ -36,10 +36,10 @@ use Rattle.cx_laws_links.specs.cx_rules_session.specs.Envelopes.{authorize_conte
 use Rattle.cx_laws_links.specs.cx_rules_session.specs.Presenter.{Caller, CallArrival, CallRow, CallStage, AwaitsBanner, AwaitsHello, AwaitsChallenge, AwaitsDone, AwaitsSignature, AwaitsIdent, AwaitsReconnect, Open, callee_of, on_banner, on_hello, presented, turned_at, while_answered, while_challenged}
 use Rattle.cx_laws_links.specs.cx_rules_session.specs.Sessions.{Called, Callee}
 use Rattle.cx_laws_links.specs.cx_run.proofs.Taking.{EachRow}
-use Rattle.cx_sealed.specs.declared.authorize_reply.AuthorizeReply.{AuthorizeReply}
+use Rattle.cx_laws_links.specs.cx_sealed.specs.declared.authorize_reply.AuthorizeReply.{AuthorizeReply}
 use Rattle.cx_steps.specs.declared.seals.Logged.{Logged}
 use Rattle.cx_steps.specs.declared.seals.SealEntry.{SealEntry}
-use Rattle.cx_stream.specs.PlainStreams.{plain_frame_at}
+use Rattle.cx_laws_links.specs.cx_stream.specs.PlainStreams.{plain_frame_at}
 use Rattle.cx_laws_links.proofs.Authorizing.{ShowsAgain, ShowsFirst, ShowsNothing, ShutsQuietly, SpeaksFirst, answered-row_at, banner-row, challenged-row, hello-row}
 use Rattle.cx_laws_links.proofs.Binding.{unspoken}
 use Rattle.cx_laws_links.proofs.CallTells.{are-sealed, by-append, quiet-none}

@@ -2,9 +2,9 @@
 -- the service of the daemon that it calls, as they are written. So the daemon whose signature covers it heard an authorizer for that service.
 use Rattle.std.proofs.Common.{◌≡◌, ℕ, ◌==◌, ◌<◌, ◌≤◌, ◌^◌, Bool, true, false, List, [], ◌∷◌, ◌++◌, map, take, Option, Some, None, Result, Ok, Err, inl, inr, ◌⊎◌, refl, sym, ap, ◌∙◌, subst, arith, ◌+◌}
 use Rattle.std.specs.Prelude.{if◌then◌else◌, not}
-use Rattle.cx_authorize.specs.Answers.{authorizer_of}
-use Rattle.cx_authorize.specs.Client.{Answered, Presented, challenge_in, reply_in}
-use Rattle.cx_authorize.specs.Verdict.{raised}
+use Rattle.cx_laws_links.specs.cx_authorize.specs.Answers.{authorizer_of}
+use Rattle.cx_laws_links.specs.cx_authorize.specs.Client.{Answered, Presented, challenge_in, reply_in}
+use Rattle.cx_laws_links.specs.cx_authorize.specs.Verdict.{raised}
 use Rattle.cx_base.specs.declared.kinds.EntityType.{EntityType}
 use Rattle.cx_cbc.specs.Envelope.{sealed}
 use Rattle.cx_control.specs.Auth.{auth_done_layout, auth_reply_more_layout, auth_request_layout, auth_request_more_layout}
@@ -25,11 +25,11 @@ use Rattle.cx_enc.specs.Forms.{Form}
 use Rattle.cx_journal.specs.declared.premises.KeyKind.{KeyKind}
 use Rattle.cx_journal.specs.declared.premises.KeyKind.TheVariants as kind
 use Rattle.cx_laws_fetch.proofs.AskerFacts.{HasHeard}
-use Rattle.cx_laws_keys.proofs.Lists.{all-append}
+use Rattle.cx_laws_links.specs.cx_laws_keys.proofs.Lists.{all-append}
 use Rattle.cx_laws_links.specs.cx_laws_series.proofs.Frames.{frame-sealed}
-use Rattle.cx_login.specs.Unlocking.{unlocked, unlocked_as}
-use Rattle.cx_sealed.specs.Records as records
-use Rattle.cx_sealed.specs.Unsealing.{unsealed_as}
+use Rattle.cx_laws_links.specs.cx_login.specs.Unlocking.{unlocked, unlocked_as}
+use Rattle.cx_laws_links.specs.cx_sealed.specs.Records as records
+use Rattle.cx_laws_links.specs.cx_sealed.specs.Unsealing.{unsealed_as}
 use Rattle.cx_secure.specs.Plains.{plains}
 use Rattle.cx_laws_answers.proofs.Given as given_words
 use Rattle.cx_laws_answers.proofs.Given.{given_frame}
@@ -43,16 +43,16 @@ use Rattle.cx_laws_links.specs.cx_rules.specs.Secured.{SealedFrame, connector_ke
 use Rattle.cx_laws_links.specs.cx_rules_session.specs.Envelopes.{authorize_content, session_sealed}
 use Rattle.cx_laws_links.specs.cx_rules_session.specs.Presenter.{CallArrival, CallRow, CallStage, AwaitsBanner, AwaitsHello, AwaitsChallenge, AwaitsDone, AwaitsSignature, answers_challenge, authorizer_bytes, first_frame, on_authorize_reply, on_bad_method, on_banner, on_challenge, on_done, on_hello, on_reply_more, on_unlocked, presented, signs, while_answered, while_challenged}
 use Rattle.cx_laws_links.specs.cx_rules_session.specs.Sessions.{Called, Callee}
-use Rattle.cx_sealed.specs.declared.authorize_challenge.AuthorizeChallenge.{AuthorizeChallenge}
-use Rattle.cx_sealed.specs.declared.authorize_reply.AuthorizeReply.{AuthorizeReply}
+use Rattle.cx_laws_links.specs.cx_sealed.specs.declared.authorize_challenge.AuthorizeChallenge.{AuthorizeChallenge}
+use Rattle.cx_laws_links.specs.cx_sealed.specs.declared.authorize_reply.AuthorizeReply.{AuthorizeReply}
 use Rattle.cx_steps.specs.declared.seals.DrawMark.TheVariants as draw
 use Rattle.cx_steps.specs.declared.seals.SealEntry.{SealEntry}
 use Rattle.cx_steps.specs.declared.seals.SealEntry.TheVariants.{Drawn}
 use Rattle.cx_steps.specs.declared.seals.SealEntry.TheVariants as entry
-use Rattle.cx_wire.specs.Logins.{authorize_challenge_layout, authorize_reply_layout, authorizer_layout}
-use Rattle.cx_wire.specs.declared.authorizers.AuthorizeChallenge as shown_challenge
-use Rattle.cx_wire.specs.declared.authorizers.AuthorizeReply as shown_reply
-use Rattle.cx_wire.specs.declared.authorizers.Authorizer.{Authorizer}
+use Rattle.cx_laws_fetch.specs.cx_wire.specs.Logins.{authorize_challenge_layout, authorize_reply_layout, authorizer_layout}
+use Rattle.cx_laws_fetch.specs.cx_wire.specs.declared.authorizers.AuthorizeChallenge as shown_challenge
+use Rattle.cx_laws_fetch.specs.cx_wire.specs.declared.authorizers.AuthorizeReply as shown_reply
+use Rattle.cx_laws_fetch.specs.cx_wire.specs.declared.authorizers.Authorizer.{Authorizer}
 use Rattle.cx_laws_answers.proofs.SameService.{HearsService, SentAuthorizer, more_frame, same-service}
 
 -- an authorizer for this service was sent last

@@ -2,8 +2,8 @@
 use Rattle.std.proofs.Common.{ℕ, ◌==◌, Bool, true, false, List, [], ◌∷◌, ◌++◌, take, Option, Some, None, Result, Ok, Err}
 use Rattle.std.specs.Prelude.{if◌then◌else◌, not}
 use Rattle.std.specs.List.{AllByRecursion}
-use Rattle.cx_authorize.specs.Client.{Answered as Shown, Presented, challenge_in, reply_in}
-use Rattle.cx_authorize.specs.Verdict.{raised}
+use Rattle.cx_laws_links.specs.cx_authorize.specs.Client.{Answered as Shown, Presented, challenge_in, reply_in}
+use Rattle.cx_laws_links.specs.cx_authorize.specs.Verdict.{raised}
 use Rattle.cx_control.specs.Auth.{auth_done_layout, auth_reply_more_layout}
 use Rattle.cx_control.specs.BadMethod.{bad_method_layout}
 use Rattle.cx_control.specs.declared.auth.AuthDone.{AuthDone}
@@ -23,14 +23,14 @@ use Rattle.cx_laws_links.specs.cx_rules.specs.Secured.{SealedFrame, connector_ke
 use Rattle.cx_laws_links.specs.cx_rules_session.specs.Envelopes.{authorize_content, session_sealed}
 use Rattle.cx_laws_links.specs.cx_rules_session.specs.Presenter.{CallArrival, CallStage, AwaitsHello, AwaitsChallenge, AwaitsDone, answers_challenge, on_authorize_reply, on_bad_method, on_banner, on_challenge, on_done, on_hello, on_reply_more, on_unlocked, presented, second_frame, first_frame, signs, while_answered, while_challenged}
 use Rattle.cx_laws_links.specs.cx_rules_session.specs.Sessions.{Called, Callee}
-use Rattle.cx_sealed.specs.declared.authorize_challenge.AuthorizeChallenge.{AuthorizeChallenge}
-use Rattle.cx_sealed.specs.declared.authorize_reply.AuthorizeReply.{AuthorizeReply}
+use Rattle.cx_laws_links.specs.cx_sealed.specs.declared.authorize_challenge.AuthorizeChallenge.{AuthorizeChallenge}
+use Rattle.cx_laws_links.specs.cx_sealed.specs.declared.authorize_reply.AuthorizeReply.{AuthorizeReply}
 use Rattle.cx_steps.specs.declared.seals.DrawMark.TheVariants as draw
 use Rattle.cx_steps.specs.declared.seals.SealEntry.{SealEntry}
 use Rattle.cx_steps.specs.declared.seals.SealEntry.TheVariants.{Drawn}
-use Rattle.cx_wire.specs.Logins.{authorize_challenge_layout, authorize_reply_layout}
-use Rattle.cx_wire.specs.declared.authorizers.AuthorizeChallenge as shown_challenge
-use Rattle.cx_wire.specs.declared.authorizers.AuthorizeReply as shown_reply
+use Rattle.cx_laws_fetch.specs.cx_wire.specs.Logins.{authorize_challenge_layout, authorize_reply_layout}
+use Rattle.cx_laws_fetch.specs.cx_wire.specs.declared.authorizers.AuthorizeChallenge as shown_challenge
+use Rattle.cx_laws_fetch.specs.cx_wire.specs.declared.authorizers.AuthorizeReply as shown_reply
 use Rattle.cx_laws_answers.proofs.CallHears.{EndsSo}
 
 -- no answer is entered

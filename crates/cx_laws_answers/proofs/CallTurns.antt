@@ -13,7 +13,7 @@ use Rattle.cx_laws_links.specs.cx_rules_session.specs.Presenter.{CallArrival, Ca
 use Rattle.cx_laws_links.specs.cx_run.proofs.Taking.{EachRow}
 use Rattle.cx_secure.specs.declared.refusals.SecureRefusal.{SecureRefusal}
 use Rattle.cx_steps.specs.declared.seals.SealEntry.{SealEntry}
-use Rattle.cx_stream.specs.SecureStreams.{secure_frame_at}
+use Rattle.cx_laws_links.specs.cx_stream.specs.SecureStreams.{secure_frame_at}
 use Rattle.cx_laws_links.proofs.CallTurn.{IsHeldOn, quiet-opened}
 use Rattle.cx_laws_links.proofs.CallWords.{Identified, KeyedStage, Opened, Reconnecting, Says, SignedOn, identified-says, open-says, opened-says, reconnecting-says, signature-says}
 use Rattle.cx_laws_answers.proofs.CallHears.{GoesAt, RowHears, TellsEnd, identified-hears, open-hears, reconnecting-hears, signature-hears}

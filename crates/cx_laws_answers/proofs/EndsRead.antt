@@ -3,21 +3,21 @@
 use Rattle.std.proofs.Common.{◌≡◌, ℕ, ◌+◌, ◌<◌, List, [], ◌∷◌, ◌++◌, length, inl, inr, ◌⊎◌, refl, sym, ap, ◌∙◌, subst, arith, append_assoc, take, Option}
 use Rattle.std.proofs.lemmas.List.Elements.{Contains-append_left, Contains-push_cases}
 use Rattle.std.specs.Prelude.{Contains}
-use Rattle.cx_authorize.specs.Verdict.{raised}
+use Rattle.cx_laws_links.specs.cx_authorize.specs.Verdict.{raised}
 use Rattle.cx_base.specs.Names.{Name}
 use Rattle.cx_frame.specs.declared.frame.Frame.{Frame}
 use Rattle.cx_journal.specs.declared.entries.Answered.{Answered}
 use Rattle.cx_journal.specs.declared.entries.Entry.{Entry}
 use Rattle.cx_journal.specs.declared.entries.Entry.TheVariants as journal
 use Rattle.cx_journal.specs.declared.outcomes.Outcome.{Outcome}
-use Rattle.cx_laws_keys.proofs.Known.{HasReply}
-use Rattle.cx_laws_keys.proofs.Uses.{Grows, Means, Use, Uses, WholeRun}
+use Rattle.cx_laws_links.specs.cx_laws_keys.proofs.Known.{HasReply}
+use Rattle.cx_laws_links.specs.cx_laws_keys.proofs.Uses.{Grows, Means, Use, Uses, WholeRun}
 use Rattle.cx_laws_links.specs.cx_laws_series.proofs.Series.{IsAt, at-behind}
 use Rattle.cx_laws_links.specs.cx_rules.specs.Fronts.{keys_behind}
 use Rattle.cx_laws_links.specs.cx_rules.specs.Secured.{Secured, Way}
 use Rattle.cx_laws_links.specs.cx_rules_session.specs.Hosting.{Instruction}
 use Rattle.cx_secure.specs.Plains.{parts_of, plains, plains_of}
-use Rattle.cx_sealed.specs.declared.authorize_reply.AuthorizeReply.{AuthorizeReply}
+use Rattle.cx_laws_links.specs.cx_sealed.specs.declared.authorize_reply.AuthorizeReply.{AuthorizeReply}
 use Rattle.cx_steps.specs.declared.seals.Logged.{Logged}
 use Rattle.cx_laws_links.proofs.Binding.{shown-bound}
 use Rattle.cx_laws_links.proofs.Known.{Bound, IsBound, IsKeyed, IsShown, Told}

@@ -11,10 +11,10 @@ use Rattle.cx_base.specs.declared.kinds.EntityType.{EntityType}
 use Rattle.cx_base.specs.declared.nodes.NodeName.{NodeName}
 use Rattle.cx_frame.specs.Frames.{total}
 use Rattle.cx_journal.specs.declared.entries.Entry.{Entry}
-use Rattle.cx_laws_keys.proofs.Known.{Inv, IsAllowed}
-use Rattle.cx_laws_keys.proofs.Lists.{all-append}
-use Rattle.cx_laws_keys.proofs.Premises.{behind}
-use Rattle.cx_laws_keys.proofs.Uses.{AtDaemon, Connected, Grows, Means, Use, Uses, WholeRun}
+use Rattle.cx_laws_links.specs.cx_laws_keys.proofs.Known.{Inv, IsAllowed}
+use Rattle.cx_laws_links.specs.cx_laws_keys.proofs.Lists.{all-append}
+use Rattle.cx_laws_links.specs.cx_laws_keys.proofs.Premises.{behind}
+use Rattle.cx_laws_links.specs.cx_laws_keys.proofs.Uses.{AtDaemon, Connected, Grows, Means, Use, Uses, WholeRun}
 use Rattle.cx_laws_links.specs.cx_laws_series.proofs.Contents.{content_of, content_where, contents-behind, contents_by, contents_in}
 use Rattle.cx_laws_links.specs.cx_laws_series.proofs.Frames.{HasParts}
 use Rattle.cx_laws_links.specs.cx_rules.specs.Secured.{Keys}

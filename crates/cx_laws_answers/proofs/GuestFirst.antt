@@ -4,12 +4,12 @@ use Rattle.std.proofs.Common.{◌≡◌, ℕ, ◌==◌, Bool, true, false, List,
 use Rattle.std.specs.Prelude.{◌&&◌, if◌then◌else◌, not}
 use Rattle.std.specs.List.{AllByRecursion, cons_option, list_any}
 use Rattle.std.specs.Str.{bytes_eq}
-use Rattle.cx_authorize.specs.Daemon.{Awaited}
-use Rattle.cx_authorize.specs.Judging.{judged_first, judged_second}
-use Rattle.cx_authorize.specs.Verdict.{raised}
-use Rattle.cx_authorize.specs.declared.judging.Shown.{Shown}
-use Rattle.cx_authorize.specs.declared.refusals.AuthRefusal.{AuthRefusal}
-use Rattle.cx_authorize.specs.declared.refusals.AuthRefusal.TheVariants as refusal
+use Rattle.cx_laws_links.specs.cx_authorize.specs.Daemon.{Awaited}
+use Rattle.cx_laws_links.specs.cx_authorize.specs.Judging.{judged_first, judged_second}
+use Rattle.cx_laws_links.specs.cx_authorize.specs.Verdict.{raised}
+use Rattle.cx_laws_links.specs.cx_authorize.specs.declared.judging.Shown.{Shown}
+use Rattle.cx_laws_links.specs.cx_authorize.specs.declared.refusals.AuthRefusal.{AuthRefusal}
+use Rattle.cx_laws_links.specs.cx_authorize.specs.declared.refusals.AuthRefusal.TheVariants as refusal
 use Rattle.cx_base.specs.Names.{Name}
 use Rattle.cx_base.specs.declared.nodes.NodeName.{NodeName}
 use Rattle.cx_control.specs.Auth.{auth_request_layout, auth_request_more_layout}
@@ -28,9 +28,9 @@ use Rattle.cx_journal.specs.declared.entries.Entry.{Entry}
 use Rattle.cx_journal.specs.declared.faults.BytesFault.{BytesFault}
 use Rattle.cx_journal.specs.declared.faults.LoginFault.TheVariants.{Method, Mode}
 use Rattle.cx_laws_fetch.specs.cx_laws_authorize.proofs.Opened.{IsOpening, first-all, second-all}
-use Rattle.cx_laws_keys.proofs.Known.{Inv}
-use Rattle.cx_laws_keys.proofs.Premises.{AreGranted, behind, granted-first}
-use Rattle.cx_laws_keys.proofs.Uses.{AtDaemon, Connected, Grows, Means, Use, Uses, WholeRun}
+use Rattle.cx_laws_links.specs.cx_laws_keys.proofs.Known.{Inv}
+use Rattle.cx_laws_links.specs.cx_laws_keys.proofs.Premises.{AreGranted, behind, granted-first}
+use Rattle.cx_laws_links.specs.cx_laws_keys.proofs.Uses.{AtDaemon, Connected, Grows, Means, Use, Uses, WholeRun}
 use Rattle.cx_laws_links.specs.cx_laws_series.proofs.Contents.{content_where, contents_by}
 use Rattle.cx_laws_links.specs.cx_rules.specs.Acceptor.{AwaitsBanner, AwaitsHello, AwaitsRequest, AwaitsProof, AwaitsSignature, AwaitsIdent, Open, denies, on_auth_request, on_banner, on_hello}
 use Rattle.cx_laws_links.specs.cx_rules.specs.Fronts.{ahead_of, banner_next, banner_read, plain_next, plain_read, taking}
@@ -45,12 +45,12 @@ use Rattle.cx_laws_links.specs.cx_rules_session.specs.Guests.{GuestArrival, Gues
 use Rattle.cx_laws_links.specs.cx_rules_session.specs.Hosting.{Hosted, guest_turned}
 use Rattle.cx_laws_links.specs.cx_rules_session.specs.Kinds.{entered_before}
 use Rattle.cx_laws_links.specs.cx_run.proofs.GuestTakes.{Always}
-use Rattle.cx_sealed.specs.declared.service_ticket.ServiceTicket.{ServiceTicket}
+use Rattle.cx_laws_links.specs.cx_sealed.specs.declared.service_ticket.ServiceTicket.{ServiceTicket}
 use Rattle.cx_steps.specs.declared.seals.DrawMark.TheVariants as draw
 use Rattle.cx_steps.specs.declared.seals.Logged.{Logged}
 use Rattle.cx_steps.specs.declared.seals.SealEntry.{SealEntry}
 use Rattle.cx_steps.specs.declared.seals.SealEntry.TheVariants as entry
-use Rattle.cx_stream.specs.PlainStreams.{plain_frame_at}
+use Rattle.cx_laws_links.specs.cx_stream.specs.PlainStreams.{plain_frame_at}
 use Rattle.cx_laws_links.proofs.CallTells.{by-append, quiet-none}
 use Rattle.cx_laws_links.proofs.CallWords.{AreQuiet, quiet-append}
 use Rattle.cx_laws_links.proofs.Known.{Told}

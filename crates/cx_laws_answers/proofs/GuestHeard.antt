@@ -3,11 +3,11 @@
 use Rattle.std.proofs.Common.{◌≡◌, ℕ, ◌+◌, Bool, true, false, List, [], ◌∷◌, ◌++◌, take, Option, Some, None, Result, Ok, Err, refl, sym, ◌∙◌, subst}
 use Rattle.std.specs.Prelude.{if◌then◌else◌}
 use Rattle.std.specs.List.{AllByRecursion}
-use Rattle.cx_authorize.specs.Daemon.{Awaited}
-use Rattle.cx_authorize.specs.Judging.{judged_by_payload, judged_second, judged_with, judged_by_key, refused_as, second_terms}
-use Rattle.cx_authorize.specs.declared.judging.Shown.{Shown}
-use Rattle.cx_authorize.specs.declared.refusals.AuthRefusal.{AuthRefusal}
-use Rattle.cx_authorize.specs.declared.refusals.AuthRefusal.TheVariants as refusal
+use Rattle.cx_laws_links.specs.cx_authorize.specs.Daemon.{Awaited}
+use Rattle.cx_laws_links.specs.cx_authorize.specs.Judging.{judged_by_payload, judged_second, judged_with, judged_by_key, refused_as, second_terms}
+use Rattle.cx_laws_links.specs.cx_authorize.specs.declared.judging.Shown.{Shown}
+use Rattle.cx_laws_links.specs.cx_authorize.specs.declared.refusals.AuthRefusal.{AuthRefusal}
+use Rattle.cx_laws_links.specs.cx_authorize.specs.declared.refusals.AuthRefusal.TheVariants as refusal
 use Rattle.cx_base.proofs.Names.{same_kind_is}
 use Rattle.cx_base.specs.Names.{same_kind}
 use Rattle.cx_base.specs.declared.kinds.EntityType.{EntityType}
@@ -21,21 +21,21 @@ use Rattle.cx_frame.specs.declared.frame.Frame.{Frame}
 use Rattle.cx_journal.specs.declared.faults.BytesFault.{BytesFault}
 use Rattle.cx_laws_fetch.specs.cx_laws_authorize.proofs.Opened.{IsOpening, second-all}
 use Rattle.cx_laws_fetch.proofs.Banners.{IsRead}
-use Rattle.cx_laws_keys.proofs.Lists.{all-append}
-use Rattle.cx_login.specs.Opening.{generation_key}
+use Rattle.cx_laws_links.specs.cx_laws_keys.proofs.Lists.{all-append}
+use Rattle.cx_laws_links.specs.cx_login.specs.Opening.{generation_key}
 use Rattle.cx_rotate.specs.declared.views.View.{View}
 use Rattle.cx_laws_links.specs.cx_rules.specs.Acceptor.{joined}
 use Rattle.cx_laws_links.specs.cx_rules.specs.Payloads.{payload}
 use Rattle.cx_laws_links.specs.cx_rules.specs.Secured.{SealedFrame, acceptor_keys, part_seals, plain_frame, secure_frame, signature, signing}
 use Rattle.cx_laws_links.specs.cx_rules_session.specs.Envelopes.{authorize_reply_content, session_sealed}
 use Rattle.cx_laws_links.specs.cx_rules_session.specs.Guests.{GuestArrival, authority_of, authorized_frame, authorizes, done_sent, on_second, turns_away, unless_turned_away}
-use Rattle.cx_sealed.specs.Unsealing.{spelled_by}
-use Rattle.cx_sealed.specs.declared.service_ticket.ServiceTicket.{ServiceTicket}
+use Rattle.cx_laws_links.specs.cx_sealed.specs.Unsealing.{spelled_by}
+use Rattle.cx_laws_links.specs.cx_sealed.specs.declared.service_ticket.ServiceTicket.{ServiceTicket}
 use Rattle.cx_steps.specs.declared.seals.DrawMark.TheVariants as draw
 use Rattle.cx_steps.specs.declared.seals.SealEntry.{SealEntry}
 use Rattle.cx_steps.specs.declared.seals.SealEntry.TheVariants as entry
-use Rattle.cx_wire.specs.Logins.{authorizer_layout}
-use Rattle.cx_wire.specs.declared.authorizers.Authorizer.{Authorizer}
+use Rattle.cx_laws_fetch.specs.cx_wire.specs.Logins.{authorizer_layout}
+use Rattle.cx_laws_fetch.specs.cx_wire.specs.declared.authorizers.Authorizer.{Authorizer}
 use Rattle.cx_laws_links.specs.cx_laws_series.proofs.Frames.{frame-sealed}
 use Rattle.cx_secure.specs.Plains.{plains}
 use Rattle.cx_laws_answers.proofs.Given as given_words

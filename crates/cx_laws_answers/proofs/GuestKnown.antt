@@ -4,7 +4,7 @@ use Rattle.std.proofs.Common.{◌≡◌, ℕ, zero, suc, false, List, [], ◌∷
 use Rattle.std.proofs.lemmas.List.Elements.{Contains-push}
 use Rattle.std.specs.Prelude.{Contains}
 use Rattle.std.specs.Str.{bytes_eq}
-use Rattle.cx_authorize.specs.Daemon.{Authority}
+use Rattle.cx_laws_links.specs.cx_authorize.specs.Daemon.{Authority}
 use Rattle.cx_base.specs.Names.{Name}
 use Rattle.cx_base.specs.declared.nodes.NodeName.{NodeName}
 use Rattle.cx_frame.specs.declared.frame.Frame.{Frame}
@@ -12,10 +12,10 @@ use Rattle.cx_journal.specs.declared.entries.Entry.{Entry}
 use Rattle.cx_journal.specs.declared.entries.Entry.TheVariants as journal
 use Rattle.cx_journal.specs.declared.entries.Handled.{Handled}
 use Rattle.cx_journal.specs.declared.outcomes.Outcome.{Outcome}
-use Rattle.cx_laws_keys.proofs.Journal.{entered}
-use Rattle.cx_laws_keys.proofs.Known.{Inv}
-use Rattle.cx_laws_keys.proofs.Premises.{AreGranted, behind, granted-first}
-use Rattle.cx_laws_keys.proofs.Uses.{Uses, WholeRun}
+use Rattle.cx_laws_links.specs.cx_laws_keys.proofs.Journal.{entered}
+use Rattle.cx_laws_links.specs.cx_laws_keys.proofs.Known.{Inv}
+use Rattle.cx_laws_links.specs.cx_laws_keys.proofs.Premises.{AreGranted, behind, granted-first}
+use Rattle.cx_laws_links.specs.cx_laws_keys.proofs.Uses.{Uses, WholeRun}
 use Rattle.cx_laws_links.specs.cx_laws_series.proofs.Contents.{contents_by}
 use Rattle.cx_laws_links.specs.cx_laws_series.proofs.Series.{IsAt}
 use Rattle.cx_laws_links.specs.cx_rules.specs.Acceptor as acceptor

@@ -3,11 +3,11 @@
 use Rattle.std.proofs.Common.{◌≡◌, ℕ, ◌+◌, ◌==◌, Bool, true, false, List, [], ◌∷◌, ◌++◌, drop, Option, Some, None, Result, Ok, Err, refl, sym, ◌∙◌, subst, arith}
 use Rattle.std.specs.Prelude.{if◌then◌else◌, not}
 use Rattle.std.specs.List.{list_any}
-use Rattle.cx_authorize.specs.Daemon.{Awaited}
-use Rattle.cx_authorize.specs.Judging.{judged_first, judged_second}
-use Rattle.cx_authorize.specs.declared.judging.Shown.{Shown}
-use Rattle.cx_authorize.specs.declared.refusals.AuthRefusal.{AuthRefusal}
-use Rattle.cx_authorize.specs.declared.refusals.AuthRefusal.TheVariants as refusal
+use Rattle.cx_laws_links.specs.cx_authorize.specs.Daemon.{Awaited}
+use Rattle.cx_laws_links.specs.cx_authorize.specs.Judging.{judged_first, judged_second}
+use Rattle.cx_laws_links.specs.cx_authorize.specs.declared.judging.Shown.{Shown}
+use Rattle.cx_laws_links.specs.cx_authorize.specs.declared.refusals.AuthRefusal.{AuthRefusal}
+use Rattle.cx_laws_links.specs.cx_authorize.specs.declared.refusals.AuthRefusal.TheVariants as refusal
 use Rattle.cx_base.specs.declared.kinds.EntityType.{EntityType}
 use Rattle.cx_control.specs.Auth.{auth_request_layout, auth_request_more_layout}
 use Rattle.cx_control.specs.Hello.{hello_layout}
@@ -27,7 +27,7 @@ use Rattle.cx_journal.specs.declared.faults.BytesFault.TheVariants.{Unexpected}
 use Rattle.cx_journal.specs.declared.faults.LoginFault.TheVariants.{Method, Mode}
 use Rattle.cx_laws_fetch.specs.cx_laws_authorize.proofs.Opened.{first-all}
 use Rattle.cx_laws_fetch.proofs.Banners.{IsRead, read-banner, read-frame, read-grows}
-use Rattle.cx_laws_keys.proofs.Lists.{all-append}
+use Rattle.cx_laws_links.specs.cx_laws_keys.proofs.Lists.{all-append}
 use Rattle.cx_laws_links.specs.cx_rules.specs.Acceptor.{AwaitsBanner, AwaitsHello, AwaitsRequest, AwaitsProof, AwaitsSignature, AwaitsIdent, Open, Finished, denies, finished, on_auth_request, on_banner, on_hello}
 use Rattle.cx_laws_links.specs.cx_rules.specs.Fronts.{ahead_of, banner_next, banner_read, plain_next, plain_read, taking}
 use Rattle.cx_laws_links.specs.cx_rules.specs.Greetings.{own_hello}
@@ -41,11 +41,11 @@ use Rattle.cx_laws_links.specs.cx_rules_session.specs.Guests.{GuestArrival, Gues
 use Rattle.cx_laws_links.specs.cx_rules_session.specs.Hosting.{Hosted, guest_turned}
 use Rattle.cx_laws_links.specs.cx_rules_session.specs.Kinds.{entered_before}
 use Rattle.cx_laws_links.specs.cx_run.proofs.GuestTakes.{Always}
-use Rattle.cx_sealed.specs.declared.service_ticket.ServiceTicket.{ServiceTicket}
+use Rattle.cx_laws_links.specs.cx_sealed.specs.declared.service_ticket.ServiceTicket.{ServiceTicket}
 use Rattle.cx_steps.specs.declared.seals.DrawMark.TheVariants as draw
 use Rattle.cx_steps.specs.declared.seals.SealEntry.{SealEntry}
 use Rattle.cx_steps.specs.declared.seals.SealEntry.TheVariants as entry
-use Rattle.cx_stream.specs.PlainStreams.{plain_frame_at}
+use Rattle.cx_laws_links.specs.cx_stream.specs.PlainStreams.{plain_frame_at}
 use Rattle.cx_laws_answers.proofs.GuestFirst.{IsEarly}
 use Rattle.cx_laws_answers.proofs.GuestHeard.{Signs, SignsHeard, opening-signs, second-signs}
 

@@ -8,10 +8,10 @@ use Rattle.cx_base.specs.declared.nodes.NodeName.{NodeName}
 use Rattle.cx_frame.specs.Frames.{total}
 use Rattle.cx_frame.specs.declared.frame.Frame.{Frame}
 use Rattle.cx_journal.specs.declared.entries.Entry.{Entry}
-use Rattle.cx_laws_keys.proofs.Journal.{entered}
-use Rattle.cx_laws_keys.proofs.Known.{Inv, IsOfAcceptor, IsOfConnector}
-use Rattle.cx_laws_keys.proofs.Premises.{AreGranted, behind, behind-append, granted-first}
-use Rattle.cx_laws_keys.proofs.Uses.{AtDaemon, Connected, Means, Uses, WholeRun, stays}
+use Rattle.cx_laws_links.specs.cx_laws_keys.proofs.Journal.{entered}
+use Rattle.cx_laws_links.specs.cx_laws_keys.proofs.Known.{Inv, IsOfAcceptor, IsOfConnector}
+use Rattle.cx_laws_links.specs.cx_laws_keys.proofs.Premises.{AreGranted, behind, behind-append, granted-first}
+use Rattle.cx_laws_links.specs.cx_laws_keys.proofs.Uses.{AtDaemon, Connected, Means, Uses, WholeRun, stays}
 use Rattle.cx_laws_links.specs.cx_laws_series.proofs.Contents.{contents-behind, contents_by, contents_in}
 use Rattle.cx_laws_links.specs.cx_laws_series.proofs.Frames.{HasParts, frames-parts}
 use Rattle.cx_laws_links.specs.cx_rules.specs.Fronts.{keys_behind}

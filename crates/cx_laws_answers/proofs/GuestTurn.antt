@@ -1,6 +1,6 @@
 -- A turn of a guest's link behind authentication: what its row gives, behind what opened of the frame that was read, under the keys behind that.
 use Rattle.std.proofs.Common.{◌≡◌, ℕ, List, [], ◌∷◌, ◌++◌, map, Option, Some, None, Result, Ok, Err, refl}
-use Rattle.cx_authorize.specs.Daemon.{Authority}
+use Rattle.cx_laws_links.specs.cx_authorize.specs.Daemon.{Authority}
 use Rattle.cx_control.specs.Auth.{auth_signature_layout}
 use Rattle.cx_desk.specs.Handlers.{Handlers}
 use Rattle.cx_frame.specs.declared.frame.Frame.{Frame}
@@ -20,8 +20,8 @@ use Rattle.cx_laws_links.specs.cx_run.proofs.GuestTakes.{Always, always-map, alw
 use Rattle.cx_secure.specs.declared.refusals.SecureRefusal.{SecureRefusal}
 use Rattle.cx_steps.specs.declared.seals.SealEntry.{SealEntry}
 use Rattle.cx_steps.specs.declared.seals.SealEntry.TheVariants as entry
-use Rattle.cx_stream.specs.Openings.{front_contents}
-use Rattle.cx_stream.specs.SecureStreams.{Ahead, secure_frame_at}
+use Rattle.cx_laws_links.specs.cx_stream.specs.Openings.{front_contents}
+use Rattle.cx_laws_links.specs.cx_stream.specs.SecureStreams.{Ahead, secure_frame_at}
 use Rattle.cx_laws_links.proofs.CallWords.{AreQuiet}
 use Rattle.cx_laws_answers.proofs.Given.{Given}
 use Rattle.cx_laws_answers.proofs.GuestGives.{AlwaysGives, IdentGives, OpenGives, RowGives, SignedGives, TurnedGives, ident-gives, open-gives, opened-gives, signature-gives}

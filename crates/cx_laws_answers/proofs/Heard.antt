@@ -10,9 +10,9 @@ use Rattle.cx_frame.specs.Frames.{total}
 use Rattle.cx_frame.specs.declared.frame.Frame.{Frame}
 use Rattle.cx_journal.specs.declared.entries.Entry.{Entry}
 use Rattle.cx_journal.specs.declared.premises.KeyKind.TheVariants as kind
-use Rattle.cx_laws_keys.proofs.Known.{Inv, IsOfAcceptor}
-use Rattle.cx_laws_keys.proofs.Premises.{AreGranted}
-use Rattle.cx_laws_keys.proofs.Uses.{AtDaemon, Uses, WholeRun}
+use Rattle.cx_laws_links.specs.cx_laws_keys.proofs.Known.{Inv, IsOfAcceptor}
+use Rattle.cx_laws_links.specs.cx_laws_keys.proofs.Premises.{AreGranted}
+use Rattle.cx_laws_links.specs.cx_laws_keys.proofs.Uses.{AtDaemon, Uses, WholeRun}
 use Rattle.cx_laws_links.specs.cx_laws_series.proofs.Frames.{parts-taken}
 use Rattle.cx_laws_links.specs.cx_laws_series.proofs.Series.{IsAt}
 use Rattle.cx_laws_links.specs.cx_rules.specs.Fronts.{keys_behind, opened_parts, sealed_ahead}
@@ -24,8 +24,8 @@ use Rattle.cx_secure.specs.Plains.{plains}
 use Rattle.cx_steps.specs.Onto.{SomeOf}
 use Rattle.cx_steps.specs.Premises.{HasSealed}
 use Rattle.cx_steps.specs.declared.seals.Logged.{Logged}
-use Rattle.cx_stream.specs.Openings.{front_contents}
-use Rattle.cx_stream.specs.SecureStreams.{Ahead, secure_frame_at}
+use Rattle.cx_laws_links.specs.cx_stream.specs.Openings.{front_contents}
+use Rattle.cx_laws_links.specs.cx_stream.specs.SecureStreams.{Ahead, secure_frame_at}
 use Rattle.cx_laws_links.proofs.GuestWords.{none-excepted}
 use Rattle.cx_laws_links.proofs.Taking.{OpensAt, at-rest, none-read, one-read, opened-sealed, some-sealed, two-read}
 use Rattle.cx_laws_links.proofs.Written.{IsLinkKey}

@@ -11,10 +11,10 @@ use Rattle.cx_journal.specs.declared.entries.Entry.{Entry}
 use Rattle.cx_journal.specs.declared.entries.Entry.TheVariants as journal
 use Rattle.cx_journal.specs.declared.entries.Handled.{Handled}
 use Rattle.cx_journal.specs.declared.outcomes.Outcome.{Outcome}
-use Rattle.cx_laws_keys.proofs.Journal.{entered}
-use Rattle.cx_laws_keys.proofs.Known.{Inv, IsAllowed}
-use Rattle.cx_laws_keys.proofs.Premises.{behind}
-use Rattle.cx_laws_keys.proofs.Uses.{AtDaemon, Connected, Grows, Means, Use, Uses, WholeRun}
+use Rattle.cx_laws_links.specs.cx_laws_keys.proofs.Journal.{entered}
+use Rattle.cx_laws_links.specs.cx_laws_keys.proofs.Known.{Inv, IsAllowed}
+use Rattle.cx_laws_links.specs.cx_laws_keys.proofs.Premises.{behind}
+use Rattle.cx_laws_links.specs.cx_laws_keys.proofs.Uses.{AtDaemon, Connected, Grows, Means, Use, Uses, WholeRun}
 use Rattle.cx_laws_links.specs.cx_laws_series.proofs.Contents.{content_of, content_where, contents-behind, contents_by, contents_in}
 use Rattle.cx_laws_links.specs.cx_rules_session.specs.Hosting.{Instruction}
 use Rattle.cx_secure.specs.Contents.{sealed_contents}

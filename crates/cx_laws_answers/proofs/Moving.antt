@@ -7,9 +7,9 @@ use Rattle.std.specs.Str.{bytes_eq}
 use Rattle.cx_base.specs.Names.{Name}
 use Rattle.cx_base.specs.declared.nodes.NodeName.{NodeName}
 use Rattle.cx_journal.specs.declared.entries.Entry.{Entry}
-use Rattle.cx_laws_keys.proofs.Known.{IsOfAcceptor}
-use Rattle.cx_laws_keys.proofs.Premises.{behind}
-use Rattle.cx_laws_keys.proofs.Uses.{AtDaemon, Connected, Grows, Means, Use, Uses, WholeRun}
+use Rattle.cx_laws_links.specs.cx_laws_keys.proofs.Known.{IsOfAcceptor}
+use Rattle.cx_laws_links.specs.cx_laws_keys.proofs.Premises.{behind}
+use Rattle.cx_laws_links.specs.cx_laws_keys.proofs.Uses.{AtDaemon, Connected, Grows, Means, Use, Uses, WholeRun}
 use Rattle.cx_laws_links.specs.cx_laws_series.proofs.Contents.{contents-behind, contents_by, contents_in}
 use Rattle.cx_laws_links.specs.cx_rules.specs.Acceptor as acceptor
 use Rattle.cx_laws_links.specs.cx_rules.specs.Secured.{Secured, Way}

@@ -9,7 +9,7 @@ use Rattle.cx_journal.specs.declared.entries.Entry.{Entry}
 use Rattle.cx_journal.specs.declared.entries.Entry.TheVariants as journal
 use Rattle.cx_journal.specs.declared.entries.Handled.{Handled}
 use Rattle.cx_journal.specs.declared.outcomes.Outcome.{Outcome}
-use Rattle.cx_laws_keys.proofs.Uses.{Grows, Means, Use, Uses, WholeRun}
+use Rattle.cx_laws_links.specs.cx_laws_keys.proofs.Uses.{Grows, Means, Use, Uses, WholeRun}
 use Rattle.cx_laws_links.specs.cx_laws_series.proofs.Series.{IsAt}
 use Rattle.cx_laws_links.specs.cx_rules_session.specs.Hosting.{Instruction}
 use Rattle.cx_steps.specs.declared.seals.Logged.{Logged}

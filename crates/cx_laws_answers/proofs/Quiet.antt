@@ -11,8 +11,8 @@ use Rattle.cx_base.specs.declared.nodes.NodeName.{NodeName}
 use Rattle.cx_base.specs.declared.operations.Operation.{Operation}
 use Rattle.cx_frame.specs.declared.frame.Frame.{Frame}
 use Rattle.cx_journal.specs.declared.faults.BytesFault.{BytesFault}
-use Rattle.cx_laws_keys.proofs.Known.{IsOfConnector}
-use Rattle.cx_laws_keys.proofs.Uses.{AtDaemon, Connected, Means, Use, Uses}
+use Rattle.cx_laws_links.specs.cx_laws_keys.proofs.Known.{IsOfConnector}
+use Rattle.cx_laws_links.specs.cx_laws_keys.proofs.Uses.{AtDaemon, Connected, Means, Use, Uses}
 use Rattle.cx_laws_links.specs.cx_laws_series.proofs.Contents.{content_where, contents_by, parts-others}
 use Rattle.cx_laws_links.specs.cx_laws_series.proofs.Frames.{frame-sealed}
 use Rattle.cx_laws_links.specs.cx_rules.specs.Messages.{sealed_behind, sealed_then, secure_frames}

@@ -7,9 +7,9 @@ use Rattle.cx_base.specs.Names.{Name}
 use Rattle.cx_base.specs.declared.nodes.NodeName.{NodeName}
 use Rattle.cx_frame.specs.declared.frame.Frame.{Frame}
 use Rattle.cx_journal.specs.declared.entries.Entry.{Entry}
-use Rattle.cx_laws_keys.proofs.Known.{Inv, IsOfAcceptor, IsOfConnector}
-use Rattle.cx_laws_keys.proofs.Premises.{AreGranted}
-use Rattle.cx_laws_keys.proofs.Uses.{AtDaemon, Connected, Means, Uses, WholeRun}
+use Rattle.cx_laws_links.specs.cx_laws_keys.proofs.Known.{Inv, IsOfAcceptor, IsOfConnector}
+use Rattle.cx_laws_links.specs.cx_laws_keys.proofs.Premises.{AreGranted}
+use Rattle.cx_laws_links.specs.cx_laws_keys.proofs.Uses.{AtDaemon, Connected, Means, Uses, WholeRun}
 use Rattle.cx_laws_links.specs.cx_laws_series.proofs.Frames.{HasParts}
 use Rattle.cx_laws_links.specs.cx_rules.specs.Acceptor as acceptor
 use Rattle.cx_laws_links.specs.cx_rules.specs.Fronts.{keys_behind, opened_parts, sealed_ahead}
@@ -18,8 +18,8 @@ use Rattle.cx_laws_links.specs.cx_rules.specs.Secured.{Secured, under}
 use Rattle.cx_laws_links.specs.cx_rules_session.specs.Guests.{GuestStage}
 use Rattle.cx_secure.specs.Plains.{plains}
 use Rattle.cx_steps.specs.declared.seals.Logged.{Logged}
-use Rattle.cx_stream.specs.Openings.{front_contents}
-use Rattle.cx_stream.specs.SecureStreams.{secure_frame_at}
+use Rattle.cx_laws_links.specs.cx_stream.specs.Openings.{front_contents}
+use Rattle.cx_laws_links.specs.cx_stream.specs.SecureStreams.{secure_frame_at}
 use Rattle.cx_laws_links.proofs.CallSteps.{passes-connector}
 use Rattle.cx_laws_links.proofs.GuestWords.{frames-behind, none-excepted, said-there, said-within, written-there}
 use Rattle.cx_laws_links.proofs.Known.{AreTold, Told}

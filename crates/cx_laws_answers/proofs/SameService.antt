@@ -17,12 +17,12 @@ use Rattle.cx_journal.specs.declared.faults.BytesFault.{BytesFault}
 use Rattle.cx_laws_fetch.proofs.Banners.{IsRead}
 use Rattle.cx_laws_fetch.proofs.SameChallenge.{written-read}
 use Rattle.cx_laws_fetch.proofs.WrittenFrames.{IsWritten}
-use Rattle.cx_laws_keys.proofs.Reading.{front, spelled_read, unseen}
+use Rattle.cx_laws_links.specs.cx_laws_keys.proofs.Reading.{front, spelled_read, unseen}
 use Rattle.cx_laws_links.specs.cx_rules.specs.Payloads.{payload, whole}
-use Rattle.cx_sealed.specs.Unsealing.{spelled_by}
-use Rattle.cx_stream.specs.PlainStreams.{IsPlain}
-use Rattle.cx_wire.specs.Logins.{authorizer_layout}
-use Rattle.cx_wire.specs.declared.authorizers.Authorizer.{Authorizer}
+use Rattle.cx_laws_links.specs.cx_sealed.specs.Unsealing.{spelled_by}
+use Rattle.cx_laws_links.specs.cx_stream.specs.PlainStreams.{IsPlain}
+use Rattle.cx_laws_fetch.specs.cx_wire.specs.Logins.{authorizer_layout}
+use Rattle.cx_laws_fetch.specs.cx_wire.specs.declared.authorizers.Authorizer.{Authorizer}
 use Rattle.cx_laws_links.proofs.Hearing.{whole-again}
 
 -- ---- a service is read as it was written

@@ -18,9 +18,9 @@ use Rattle.cx_journal.specs.declared.premises.KeyKind.TheVariants as kind
 use Rattle.cx_laws_fetch.proofs.SameChallenge.{TellsReply}
 use Rattle.cx_frame.specs.declared.frame.Frame.{Frame}
 use Rattle.cx_laws_links.specs.cx_laws_series.proofs.Frames.{frame-sealed}
-use Rattle.cx_laws_keys.proofs.Known.{Inv, IsAllowed}
-use Rattle.cx_laws_keys.proofs.Premises.{behind, logged}
-use Rattle.cx_laws_keys.proofs.Uses.{Grows, Means, Ticketed, Use, Uses, WholeRun}
+use Rattle.cx_laws_links.specs.cx_laws_keys.proofs.Known.{Inv, IsAllowed}
+use Rattle.cx_laws_links.specs.cx_laws_keys.proofs.Premises.{behind, logged}
+use Rattle.cx_laws_links.specs.cx_laws_keys.proofs.Uses.{Grows, Means, Ticketed, Use, Uses, WholeRun}
 use Rattle.cx_laws_links.specs.cx_rules.specs.Connector.{client_ident}
 use Rattle.cx_laws_links.specs.cx_rules.specs.Links.{Link}
 use Rattle.cx_laws_links.specs.cx_rules.specs.Rows.{refuses, secure_sent}

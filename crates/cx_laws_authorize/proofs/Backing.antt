@@ -2,7 +2,7 @@
 use Rattle.std.proofs.Common.{Bool, true, false, cond, ◌≡◌, ◌⊎◌, ◌<◌, ◌≤◌, ◌^◌, ◌==◌, ℕ, List, [], ◌∷◌, length, inl, inr, refl, sym, ap, ◌∙◌, subst, arith, Some, None, eqb-true}
 use Rattle.std.specs.Prelude.{Contains, find, ◌||◌}
 use Rattle.std.specs.Option.{option_map}
-use Rattle.cx_authorize.specs.Daemon.{Authority}
+use Rattle.cx_run.specs.cx_authorize.specs.Daemon.{Authority}
 use Rattle.cx_base.specs.Names.{Name}
 use Rattle.cx_base.specs.declared.kinds.EntityType.{EntityType}
 use Rattle.cx_base.specs.declared.nodes.NodeName.{NodeName}
@@ -16,21 +16,21 @@ use Rattle.cx_journal.specs.declared.entries.Issued.{Issued}
 use Rattle.cx_journal.specs.declared.premises.KeyKind.TheVariants as kind
 use Rattle.cx_rotate.specs.declared.views.View.{View}
 use Rattle.cx_laws_login.specs.cx_rules.specs.Holdings.{Asker}
-use Rattle.cx_rules_session.specs.Guests.{GuestStage}
-use Rattle.cx_sealed.specs.declared.service_ticket.ServiceTicket.{ServiceTicket}
-use Rattle.cx_steps.specs.Premises.{HasSealed, IsExcepted}
-use Rattle.cx_steps.specs.declared.seals.Logged.{Logged}
-use Rattle.cx_steps.specs.declared.seals.SealEntry.{SealEntry}
+use Rattle.cx_run.specs.cx_rules_session.specs.Guests.{GuestStage}
+use Rattle.cx_laws_login.specs.cx_sealed.specs.declared.service_ticket.ServiceTicket.{ServiceTicket}
+use Rattle.cx_laws_login.specs.cx_steps.specs.Premises.{HasSealed, IsExcepted}
+use Rattle.cx_laws_login.specs.cx_steps.specs.declared.seals.Logged.{Logged}
+use Rattle.cx_laws_login.specs.cx_steps.specs.declared.seals.SealEntry.{SealEntry}
 use Rattle.cx_laws_authorize.proofs.Opened.{ShowsTicket}
 use Rattle.cx_laws_authorize.specs.Admission.{GuestHas, IsAuthorizedAt, IsOwnedIn}
-use Rattle.cx_laws_keys.proofs.Known.{HasTicket, Inv, Says, Within, opened_says}
-use Rattle.cx_laws_keys.proofs.Premises.{AreGranted}
-use Rattle.cx_laws_keys.proofs.Uses.{Generated, Means, Uses, session_use, WholeRun, IsSavedIn}
-use Rattle.cx_laws_keys.proofs.Uses.{AreGenerated}
+use Rattle.cx_laws_login.specs.cx_laws_keys.proofs.Known.{HasTicket, Inv, Says, Within, opened_says}
+use Rattle.cx_laws_login.specs.cx_laws_keys.proofs.Premises.{AreGranted}
+use Rattle.cx_laws_login.specs.cx_laws_keys.proofs.Uses.{Generated, Means, Uses, session_use, WholeRun, IsSavedIn}
+use Rattle.cx_laws_login.specs.cx_laws_keys.proofs.Uses.{AreGenerated}
 use Rattle.cx_laws_login.proofs.Opens.{generation-free}
-use Rattle.cx_login.specs.Opening.{generation_key}
-use Rattle.cx_login.specs.Unlocking.{unlocked}
-use Rattle.cx_sealed.specs.Records.{service_ticket_layout}
+use Rattle.cx_laws_login.specs.cx_login.specs.Opening.{generation_key}
+use Rattle.cx_laws_login.specs.cx_login.specs.Unlocking.{unlocked}
+use Rattle.cx_laws_login.specs.cx_sealed.specs.Records.{service_ticket_layout}
 use Rattle.cx_rotate.specs.declared.generations.Generation.{Generation}
 
 -- ---- the ticket of an authority

@@ -11,15 +11,15 @@ use Rattle.cx_laws_login.specs.cx_rules.specs.Links.{Link, link_of, put_link, wi
 use Rattle.cx_laws_login.specs.cx_rules.specs.Requests.{Requests, first_open, open_or}
 use Rattle.cx_laws_login.specs.cx_rules.specs.Rows.{Arrival, Outcome, Row, Turned, Waits, Refuses, Handles, carried_out, idles, links_behind, refuses_bytes, turns}
 use Rattle.cx_laws_login.specs.cx_rules.specs.Secured.{Secured}
-use Rattle.cx_rules_session.specs.DaemonRule.{AsAcceptor, AsConnector, Daemon, DaemonNode, DaemonStage, asking_open}
-use Rattle.cx_rules_session.specs.Guests.{GuestStage}
-use Rattle.cx_steps.specs.declared.seals.Logged.{Logged}
+use Rattle.cx_run.specs.cx_rules_session.specs.DaemonRule.{AsAcceptor, AsConnector, Daemon, DaemonNode, DaemonStage, asking_open}
+use Rattle.cx_run.specs.cx_rules_session.specs.Guests.{GuestStage}
+use Rattle.cx_laws_login.specs.cx_steps.specs.declared.seals.Logged.{Logged}
 use Rattle.cx_laws_authorize.proofs.Keys.{StageKeys, host-grows}
-use Rattle.cx_laws_keys.proofs.Journal.{After}
-use Rattle.cx_laws_keys.proofs.Known.{Inv}
-use Rattle.cx_laws_keys.proofs.Lists.{all-append, all-map}
-use Rattle.cx_laws_keys.proofs.Premises.{AreGranted}
-use Rattle.cx_laws_keys.proofs.Uses.{Grows, Uses, WholeRun, stays}
+use Rattle.cx_laws_login.specs.cx_laws_keys.proofs.Journal.{After}
+use Rattle.cx_laws_login.specs.cx_laws_keys.proofs.Known.{Inv}
+use Rattle.cx_laws_login.specs.cx_laws_keys.proofs.Lists.{all-append, all-map}
+use Rattle.cx_laws_login.specs.cx_laws_keys.proofs.Premises.{AreGranted}
+use Rattle.cx_laws_login.specs.cx_laws_keys.proofs.Uses.{Grows, Uses, WholeRun, stays}
 use Rattle.cx_laws_login.proofs.Facts.{AskerOk, AskerStageOk, HasMonitorKey, asker-entered, asker_stage-grows}
 use Rattle.cx_laws_login.proofs.Rows.{AfterRow, Allowed, LinkOk, Saying, after-simple, all-filter, simple-refuses_bytes}
 

@@ -2,10 +2,10 @@
 use Rattle.std.proofs.Common.{◌≡◌, ◌⊎◌, ◌==◌, ℕ, Bool, true, false, List, [], ◌∷◌, ◌++◌, Option, Some, None, Result, Ok, Err, inl, inr, refl, subst, arith}
 use Rattle.std.specs.Prelude.{not, if◌then◌else◌}
 use Rattle.std.specs.List.{AllByRecursion, list_any}
-use Rattle.cx_authorize.specs.Daemon.{Authority, Awaited}
-use Rattle.cx_authorize.specs.Judging.{judged_first, judged_second}
-use Rattle.cx_authorize.specs.declared.refusals.AuthRefusal.{AuthRefusal}
-use Rattle.cx_authorize.specs.declared.refusals.AuthRefusal.TheVariants as refusal
+use Rattle.cx_run.specs.cx_authorize.specs.Daemon.{Authority, Awaited}
+use Rattle.cx_run.specs.cx_authorize.specs.Judging.{judged_first, judged_second}
+use Rattle.cx_run.specs.cx_authorize.specs.declared.refusals.AuthRefusal.{AuthRefusal}
+use Rattle.cx_run.specs.cx_authorize.specs.declared.refusals.AuthRefusal.TheVariants as refusal
 use Rattle.cx_base.specs.declared.kinds.EntityType.{EntityType}
 use Rattle.cx_base.specs.declared.nodes.NodeName.{NodeName}
 use Rattle.cx_control.specs.declared.auth.AuthRequest.{AuthRequest}
@@ -27,17 +27,17 @@ use Rattle.cx_laws_login.specs.cx_rules.specs.Holdings.{Asker}
 use Rattle.cx_laws_login.specs.cx_rules.specs.Links.{Link}
 use Rattle.cx_laws_login.specs.cx_rules.specs.Rows.{goes_on, plain_sent, refuses, secure_sent, unless_refused}
 use Rattle.cx_laws_login.specs.cx_rules.specs.Secured.{SealedFrame, Secured, is_signed, plain_frame, signature_found}
-use Rattle.cx_rules_session.specs.Complete.{judged_by}
-use Rattle.cx_rules_session.specs.Envelopes.{authorize_challenge_content, authorize_reply_content, session_sealed}
-use Rattle.cx_rules_session.specs.Guests.{GuestArrival, GuestRow, GuestStage, authority_of, authorized_frame, authorizes, challenges, done_sent, looked_entry, on_auth_request_more, on_first, on_second, sealed_challenge_frame, turns_away, unless_turned_away}
-use Rattle.cx_rules_session.specs.Kinds.{entered_before}
-use Rattle.cx_sealed.specs.declared.service_ticket.ServiceTicket.{ServiceTicket}
-use Rattle.cx_steps.specs.declared.seals.DrawMark.TheVariants as draw
-use Rattle.cx_steps.specs.declared.seals.SealEntry.{SealEntry}
-use Rattle.cx_steps.specs.declared.seals.SealEntry.TheVariants.{Drawn}
+use Rattle.cx_run.specs.cx_rules_session.specs.Complete.{judged_by}
+use Rattle.cx_run.specs.cx_rules_session.specs.Envelopes.{authorize_challenge_content, authorize_reply_content, session_sealed}
+use Rattle.cx_run.specs.cx_rules_session.specs.Guests.{GuestArrival, GuestRow, GuestStage, authority_of, authorized_frame, authorizes, challenges, done_sent, looked_entry, on_auth_request_more, on_first, on_second, sealed_challenge_frame, turns_away, unless_turned_away}
+use Rattle.cx_run.specs.cx_rules_session.specs.Kinds.{entered_before}
+use Rattle.cx_laws_login.specs.cx_sealed.specs.declared.service_ticket.ServiceTicket.{ServiceTicket}
+use Rattle.cx_laws_login.specs.cx_steps.specs.declared.seals.DrawMark.TheVariants as draw
+use Rattle.cx_laws_login.specs.cx_steps.specs.declared.seals.SealEntry.{SealEntry}
+use Rattle.cx_laws_login.specs.cx_steps.specs.declared.seals.SealEntry.TheVariants.{Drawn}
 use Rattle.cx_laws_authorize.proofs.Judging.{second-shows, shown-more}
 use Rattle.cx_laws_authorize.proofs.Refusing.{RefusalTells, first-tells, second-tells}
-use Rattle.cx_laws_keys.proofs.Lists.{all-map}
+use Rattle.cx_laws_login.specs.cx_laws_keys.proofs.Lists.{all-map}
 use Rattle.cx_laws_authorize.specs.Admission.{GuestHas, IsAuthorizedAt, IsOwnedIn, IsShown, IsToldAt}
 
 -- ---- rows

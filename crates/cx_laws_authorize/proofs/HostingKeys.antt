@@ -2,7 +2,7 @@
 -- what it does at each turn of such a link.
 use Rattle.std.proofs.Common.{◌≡◌, ◌∙◌, length, ◌==◌, ℕ, Bool, true, false, List, [], ◌∷◌, Option, Some, None, Result, Ok, Err, refl}
 use Rattle.std.specs.Prelude.{if◌then◌else◌}
-use Rattle.cx_authorize.specs.Daemon.{Authority, Awaited}
+use Rattle.cx_run.specs.cx_authorize.specs.Daemon.{Authority, Awaited}
 use Rattle.cx_base.specs.declared.nodes.NodeName.{NodeName}
 use Rattle.cx_control.specs.Auth.{auth_request_layout, auth_request_more_layout, auth_signature_layout}
 use Rattle.cx_control.specs.Hello.{hello_layout}
@@ -13,7 +13,7 @@ use Rattle.cx_control.specs.declared.idents.ClientIdent.{ClientIdent}
 use Rattle.cx_control.specs.declared.reconnects.SessionReconnect.{SessionReconnect}
 use Rattle.cx_control.specs.declared.upkeep.Keepalive2.{Keepalive2}
 use Rattle.cx_control.specs.declared.upkeep.Keepalive2Ack.{Keepalive2Ack}
-use Rattle.cx_desk.specs.Handlers.{Handlers}
+use Rattle.cx_run.specs.cx_desk.specs.Handlers.{Handlers}
 use Rattle.cx_dice.specs.Draws.{cookie_of}
 use Rattle.cx_frame.specs.Banners.{banner_at}
 use Rattle.cx_frame.specs.declared.banner.Banner.{Banner}
@@ -36,28 +36,28 @@ use Rattle.cx_laws_login.specs.cx_rules.specs.Payloads.{control, due, payload}
 use Rattle.cx_laws_login.specs.cx_rules.specs.Rows.{Turned, Waits, Refuses, Handles, at, refused_entry, refuses_bytes, secure_sent, turned_by, with_opened}
 use Rattle.cx_laws_login.specs.cx_rules.specs.Secured.{Keys, SealedFrame, Secured, secure_frame, under}
 use Rattle.cx_laws_login.specs.cx_rules.specs.Upkeep.{on_keepalive, on_keepalive_ack}
-use Rattle.cx_rules_session.specs.Guests.{GuestArrival, GuestRow, GuestStage, Served, on_auth_request_more, on_first}
-use Rattle.cx_rules_session.specs.Hosting.{Deciding, Hosted, Instruction, admission_of, admits, answer_message, asks_admission, comes_to, cookie_drawn, decided_by, guest_turned, handled_entry, handles, hosted_behind, instruction_of, no_session_moves, on_admission, on_checked, on_client_ident, on_ident, on_message, on_open, on_reconnect, on_resumption, on_taken, on_untaken, outcome_of, reconnect_ok, resumes, served_as, session_retry, session_retry_global, tells_why}
-use Rattle.cx_rules_session.specs.Lossy.{is_lossy, lossy_flags}
-use Rattle.cx_secure.specs.declared.refusals.SecureRefusal.{SecureRefusal}
+use Rattle.cx_run.specs.cx_rules_session.specs.Guests.{GuestArrival, GuestRow, GuestStage, Served, on_auth_request_more, on_first}
+use Rattle.cx_run.specs.cx_rules_session.specs.Hosting.{Deciding, Hosted, Instruction, admission_of, admits, answer_message, asks_admission, comes_to, cookie_drawn, decided_by, guest_turned, handled_entry, handles, hosted_behind, instruction_of, no_session_moves, on_admission, on_checked, on_client_ident, on_ident, on_message, on_open, on_reconnect, on_resumption, on_taken, on_untaken, outcome_of, reconnect_ok, resumes, served_as, session_retry, session_retry_global, tells_why}
+use Rattle.cx_run.specs.cx_rules_session.specs.Lossy.{is_lossy, lossy_flags}
+use Rattle.cx_laws_login.specs.cx_secure.specs.declared.refusals.SecureRefusal.{SecureRefusal}
 use Rattle.cx_session.specs.declared.call.BookFault.TheVariants as fault
 use Rattle.cx_session.specs.declared.call.BookReply.{BookReply}
 use Rattle.cx_session.specs.declared.call.BookReply.TheVariants as reply
-use Rattle.cx_steps.specs.declared.seals.SealEntry.{SealEntry}
-use Rattle.cx_stream.specs.PlainStreams.{plain_frame_at}
-use Rattle.cx_stream.specs.SecureStreams.{secure_frame_at}
+use Rattle.cx_laws_login.specs.cx_steps.specs.declared.seals.SealEntry.{SealEntry}
+use Rattle.cx_laws_login.specs.cx_stream.specs.PlainStreams.{plain_frame_at}
+use Rattle.cx_laws_login.specs.cx_stream.specs.SecureStreams.{secure_frame_at}
 use Rattle.cx_base.specs.Names.{is_daemon_type}
-use Rattle.cx_steps.specs.declared.seals.Logged.{Logged}
+use Rattle.cx_laws_login.specs.cx_steps.specs.declared.seals.Logged.{Logged}
 use Rattle.cx_base.specs.Names.{Name}
 use Rattle.cx_journal.specs.declared.entries.Entry.{Entry}
 use Rattle.cx_laws_authorize.proofs.Hosting.{Always, always-map, always-weaker}
 use Rattle.cx_laws_authorize.proofs.Keys.{HostKeys, KeptKeys, KeysRow, StageKeys, host-moves, host-seals, keys-banner, keys-entered, keys-hello, keys-kept, keys-refuses, keys-secure, keys-signature, more-keys, request-keys}
-use Rattle.cx_laws_keys.proofs.Known.{Inv, IsAllowed, IsOfKind}
-use Rattle.cx_laws_keys.proofs.Lists.{all-append}
-use Rattle.cx_laws_keys.proofs.Premises.{AreGranted}
-use Rattle.cx_laws_keys.proofs.Uses.{Uses, WholeRun}
+use Rattle.cx_laws_login.specs.cx_laws_keys.proofs.Known.{Inv, IsAllowed, IsOfKind}
+use Rattle.cx_laws_login.specs.cx_laws_keys.proofs.Lists.{all-append}
+use Rattle.cx_laws_login.specs.cx_laws_keys.proofs.Premises.{AreGranted}
+use Rattle.cx_laws_login.specs.cx_laws_keys.proofs.Uses.{Uses, WholeRun}
 use Rattle.cx_laws_login.proofs.Facts.{IsSameWay}
-use Rattle.cx_laws_keys.proofs.Uses.{AreGenerated}
+use Rattle.cx_laws_login.specs.cx_laws_keys.proofs.Uses.{AreGenerated}
 use Rattle.cx_laws_login.proofs.Rows.{Allowed, FrameOk, frame-ok, opened-allowed}
 
 -- what comes of a turn is allowed, and its link goes on under good keys

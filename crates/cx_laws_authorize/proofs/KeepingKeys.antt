@@ -16,17 +16,17 @@ use Rattle.cx_journal.specs.declared.outcomes.Reason.TheVariants as reason
 use Rattle.cx_journal.specs.declared.outcomes.TicketFault.{TicketFault}
 use Rattle.cx_journal.specs.declared.outcomes.TicketFault.TheVariants as told
 use Rattle.cx_journal.specs.declared.premises.KeyKind.TheVariants as kind
-use Rattle.cx_login.specs.Opening.{generation_key}
-use Rattle.cx_login.specs.Unlocking.{unlocked}
+use Rattle.cx_laws_login.specs.cx_login.specs.Opening.{generation_key}
+use Rattle.cx_laws_login.specs.cx_login.specs.Unlocking.{unlocked}
 use Rattle.cx_rotate.specs.declared.generations.Generation.{Generation}
 use Rattle.cx_laws_login.specs.cx_rules.specs.Holdings.{Asker}
-use Rattle.cx_sealed.specs.Records.{service_ticket_layout}
+use Rattle.cx_laws_login.specs.cx_sealed.specs.Records.{service_ticket_layout}
 use Rattle.cx_laws_authorize.specs.Admission.{FaultTells, IsToldAt}
-use Rattle.cx_laws_keys.proofs.Journal.{has-before}
-use Rattle.cx_laws_keys.proofs.Uses.{IsSavedIn, WholeRun}
+use Rattle.cx_laws_login.specs.cx_laws_keys.proofs.Journal.{has-before}
+use Rattle.cx_laws_login.specs.cx_laws_keys.proofs.Uses.{IsSavedIn, WholeRun}
 use Rattle.cx_laws_authorize.proofs.Backing.{AreGood}
 use Rattle.std.specs.List.{AllByRecursion}
-use Rattle.cx_steps.specs.declared.seals.SealEntry.{SealEntry}
+use Rattle.cx_laws_login.specs.cx_steps.specs.declared.seals.SealEntry.{SealEntry}
 
 -- ---- refusals
 

@@ -2,11 +2,11 @@
 use Rattle.std.proofs.Common.{◌≡◌, ◌==◌, ℕ, ◌<◌, ◌≤◌, ◌^◌, Bool, true, false, List, [], ◌∷◌, ◌++◌, length, slice_index, take, Option, Some, None, Result, Ok, Err, inl, inr, refl, sym, ap, ◌∙◌, subst, arith}
 use Rattle.std.specs.Prelude.{not, if◌then◌else◌}
 use Rattle.std.specs.List.{AllByRecursion, list_any}
-use Rattle.cx_authorize.specs.Daemon.{Authority, Awaited}
-use Rattle.cx_authorize.specs.Judging.{judged_first, judged_second}
-use Rattle.cx_authorize.specs.Verdict.{raised}
-use Rattle.cx_authorize.specs.declared.refusals.AuthRefusal.{AuthRefusal}
-use Rattle.cx_authorize.specs.declared.refusals.AuthRefusal.TheVariants as refusal
+use Rattle.cx_run.specs.cx_authorize.specs.Daemon.{Authority, Awaited}
+use Rattle.cx_run.specs.cx_authorize.specs.Judging.{judged_first, judged_second}
+use Rattle.cx_run.specs.cx_authorize.specs.Verdict.{raised}
+use Rattle.cx_run.specs.cx_authorize.specs.declared.refusals.AuthRefusal.{AuthRefusal}
+use Rattle.cx_run.specs.cx_authorize.specs.declared.refusals.AuthRefusal.TheVariants as refusal
 use Rattle.cx_base.specs.Names.{Name, is_daemon_type}
 use Rattle.cx_base.specs.declared.kinds.EntityType.{EntityType}
 use Rattle.cx_base.specs.declared.kinds.EntityType.TheVariants.{Mon, Mds, Osd, Client, Mgr, Auth}
@@ -26,26 +26,26 @@ use Rattle.cx_laws_login.specs.cx_rules.specs.Greetings.{own_hello}
 use Rattle.cx_laws_login.specs.cx_rules.specs.Links.{Link}
 use Rattle.cx_laws_login.specs.cx_rules.specs.Rows.{goes_on, plain_sent, refuses, refuses_bytes, secure_sent, unless_refused}
 use Rattle.cx_laws_login.specs.cx_rules.specs.Secured.{Keys, SealedFrame, Secured, acceptor_keys, is_signed, plain_frame, secure_frame, signature_found, signed_frame, signing}
-use Rattle.cx_rules_session.specs.Complete.{judged_by}
-use Rattle.cx_rules_session.specs.Envelopes.{authorize_challenge_content, authorize_reply_content, session_sealed}
-use Rattle.cx_rules_session.specs.Guests.{GuestArrival, GuestRow, GuestStage, authority_of, authorized_frame, authorizes, challenges, done_sent, looked_entry, on_auth_request_more, on_first, sealed_challenge_frame, turns_away, unless_turned_away}
-use Rattle.cx_rules_session.specs.Kinds.{entered_before}
-use Rattle.cx_sealed.specs.declared.service_ticket.ServiceTicket.{ServiceTicket}
-use Rattle.cx_steps.specs.declared.seals.DrawMark.TheVariants as draw
-use Rattle.cx_steps.specs.declared.seals.Logged.{Logged}
-use Rattle.cx_steps.specs.declared.seals.SealEntry.{SealEntry}
-use Rattle.cx_steps.specs.declared.seals.SealEntry.TheVariants as seal
+use Rattle.cx_run.specs.cx_rules_session.specs.Complete.{judged_by}
+use Rattle.cx_run.specs.cx_rules_session.specs.Envelopes.{authorize_challenge_content, authorize_reply_content, session_sealed}
+use Rattle.cx_run.specs.cx_rules_session.specs.Guests.{GuestArrival, GuestRow, GuestStage, authority_of, authorized_frame, authorizes, challenges, done_sent, looked_entry, on_auth_request_more, on_first, sealed_challenge_frame, turns_away, unless_turned_away}
+use Rattle.cx_run.specs.cx_rules_session.specs.Kinds.{entered_before}
+use Rattle.cx_laws_login.specs.cx_sealed.specs.declared.service_ticket.ServiceTicket.{ServiceTicket}
+use Rattle.cx_laws_login.specs.cx_steps.specs.declared.seals.DrawMark.TheVariants as draw
+use Rattle.cx_laws_login.specs.cx_steps.specs.declared.seals.Logged.{Logged}
+use Rattle.cx_laws_login.specs.cx_steps.specs.declared.seals.SealEntry.{SealEntry}
+use Rattle.cx_laws_login.specs.cx_steps.specs.declared.seals.SealEntry.TheVariants as seal
 use Rattle.cx_laws_authorize.proofs.Backing.{opened-issued}
 use Rattle.cx_laws_authorize.proofs.Opened.{IsOpening, ShowsTicket, first-all, first-opened, second-all, second-opened}
-use Rattle.cx_laws_keys.proofs.Journal.{IsNotIssued}
-use Rattle.cx_laws_keys.proofs.Known.{Inv, IsAllowed, IsOfKind, IsOfAcceptor, IsOfConnector, RepliesFor, counter_at}
-use Rattle.cx_laws_keys.proofs.Lists.{all-append, all-map}
-use Rattle.cx_laws_keys.proofs.Premises.{AreGranted, behind, behind-append, granted-first, granted-rest}
-use Rattle.cx_laws_keys.proofs.Reading.{challenge_no_reply, read_reply}
-use Rattle.cx_laws_keys.proofs.Steps.{inv-all, inv-drawn}
-use Rattle.cx_laws_keys.proofs.Uses.{AtDaemon, Connected, Grows, IsConnected, Means, Ticketed, Use, Uses, grows-one, session_use, stays, with_key, WholeRun}
+use Rattle.cx_laws_login.specs.cx_laws_keys.proofs.Journal.{IsNotIssued}
+use Rattle.cx_laws_login.specs.cx_laws_keys.proofs.Known.{Inv, IsAllowed, IsOfKind, IsOfAcceptor, IsOfConnector, RepliesFor, counter_at}
+use Rattle.cx_laws_login.specs.cx_laws_keys.proofs.Lists.{all-append, all-map}
+use Rattle.cx_laws_login.specs.cx_laws_keys.proofs.Premises.{AreGranted, behind, behind-append, granted-first, granted-rest}
+use Rattle.cx_laws_login.specs.cx_laws_keys.proofs.Reading.{challenge_no_reply, read_reply}
+use Rattle.cx_laws_login.specs.cx_laws_keys.proofs.Steps.{inv-all, inv-drawn}
+use Rattle.cx_laws_login.specs.cx_laws_keys.proofs.Uses.{AtDaemon, Connected, Grows, IsConnected, Means, Ticketed, Use, Uses, grows-one, session_use, stays, with_key, WholeRun}
 use Rattle.cx_laws_login.proofs.Facts.{IsSameWay, MaySeal}
-use Rattle.cx_laws_keys.proofs.Uses.{AreGenerated}
+use Rattle.cx_laws_login.specs.cx_laws_keys.proofs.Uses.{AreGenerated}
 use Rattle.cx_laws_login.proofs.Issuing.{acceptor-counts, acceptor-sends, connector-counts, connector-sends, short-connection}
 use Rattle.cx_laws_login.proofs.Rows.{Allowed, FrameOk, frame-ok}
 

@@ -2,31 +2,31 @@
 use Rattle.std.proofs.Common.{◌≡◌, ℕ, Bool, true, false, List, [], ◌∷◌, Option, Some, None, Ok, Err, refl, subst}
 use Rattle.std.specs.Prelude.{◌&&◌, ◌==◌, if◌then◌else◌}
 use Rattle.std.specs.List.{AllByRecursion}
-use Rattle.cx_authorize.specs.Daemon.{Awaited}
-use Rattle.cx_authorize.specs.Judging.{Judged, behind, judged_by_fault, judged_by_key, judged_by_payload, judged_by_service, judged_by_ticket, judged_first, judged_second, judged_with, refused_as}
-use Rattle.cx_authorize.specs.Verdict.{answering, fault_of, raised, with_blob}
-use Rattle.cx_authorize.specs.declared.refusals.AuthFault.{AuthFault}
-use Rattle.cx_authorize.specs.declared.refusals.AuthFault.TheVariants as fault
-use Rattle.cx_authorize.specs.declared.refusals.AuthRefusal.{AuthRefusal}
-use Rattle.cx_authorize.specs.declared.refusals.AuthRefusal.TheVariants as refusal
+use Rattle.cx_run.specs.cx_authorize.specs.Daemon.{Awaited}
+use Rattle.cx_run.specs.cx_authorize.specs.Judging.{Judged, behind, judged_by_fault, judged_by_key, judged_by_payload, judged_by_service, judged_by_ticket, judged_first, judged_second, judged_with, refused_as}
+use Rattle.cx_run.specs.cx_authorize.specs.Verdict.{answering, fault_of, raised, with_blob}
+use Rattle.cx_run.specs.cx_authorize.specs.declared.refusals.AuthFault.{AuthFault}
+use Rattle.cx_run.specs.cx_authorize.specs.declared.refusals.AuthFault.TheVariants as fault
+use Rattle.cx_run.specs.cx_authorize.specs.declared.refusals.AuthRefusal.{AuthRefusal}
+use Rattle.cx_run.specs.cx_authorize.specs.declared.refusals.AuthRefusal.TheVariants as refusal
 use Rattle.cx_base.specs.Names.{same_kind}
 use Rattle.cx_base.specs.declared.kinds.EntityType.{EntityType}
 use Rattle.cx_cbc.specs.Opened.{opened}
 use Rattle.cx_control.specs.Calls.{stop_of}
 use Rattle.cx_enc.specs.Whole.{start}
 use Rattle.cx_journal.specs.declared.premises.KeyKind.TheVariants as kind
-use Rattle.cx_login.specs.Opening.{generation_key}
-use Rattle.cx_login.specs.Unlocking.{unlocked_as}
+use Rattle.cx_laws_login.specs.cx_login.specs.Opening.{generation_key}
+use Rattle.cx_laws_login.specs.cx_login.specs.Unlocking.{unlocked_as}
 use Rattle.cx_rotate.specs.declared.views.View.{View}
-use Rattle.cx_rules_session.specs.Complete.{judged_by}
-use Rattle.cx_sealed.specs.Records.{authorize_layout, service_ticket_layout}
-use Rattle.cx_sealed.specs.Unsealing.{spelled_by, unsealed_as}
-use Rattle.cx_sealed.specs.declared.authorize.Authorize.{Authorize}
-use Rattle.cx_sealed.specs.declared.service_ticket.ServiceTicket.{ServiceTicket}
-use Rattle.cx_steps.specs.declared.seals.SealEntry.{SealEntry}
-use Rattle.cx_steps.specs.declared.seals.SealEntry.TheVariants as seal
-use Rattle.cx_wire.specs.Logins.{authorizer_layout}
-use Rattle.cx_wire.specs.declared.authorizers.Authorizer.{Authorizer}
+use Rattle.cx_run.specs.cx_rules_session.specs.Complete.{judged_by}
+use Rattle.cx_laws_login.specs.cx_sealed.specs.Records.{authorize_layout, service_ticket_layout}
+use Rattle.cx_laws_login.specs.cx_sealed.specs.Unsealing.{spelled_by, unsealed_as}
+use Rattle.cx_laws_login.specs.cx_sealed.specs.declared.authorize.Authorize.{Authorize}
+use Rattle.cx_laws_login.specs.cx_sealed.specs.declared.service_ticket.ServiceTicket.{ServiceTicket}
+use Rattle.cx_laws_login.specs.cx_steps.specs.declared.seals.SealEntry.{SealEntry}
+use Rattle.cx_laws_login.specs.cx_steps.specs.declared.seals.SealEntry.TheVariants as seal
+use Rattle.cx_laws_login.specs.cx_wire.specs.Logins.{authorizer_layout}
+use Rattle.cx_laws_login.specs.cx_wire.specs.declared.authorizers.Authorizer.{Authorizer}
 
 -- something opened
 abbrev pub IsOpening : SealEntry → Type 0

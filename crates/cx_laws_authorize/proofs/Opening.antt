@@ -3,8 +3,8 @@ use Rattle.std.proofs.Common.{◌≡◌, ◌<◌, ◌==◌, ◌⊎◌, inl, inr,
 use Rattle.std.specs.Prelude.{Contains, nat_le, nat_lt, not, if◌then◌else◌}
 use Rattle.std.proofs.lemmas.List.Elements.{Contains-push_cases}
 use Rattle.std.specs.List.{AllByRecursion}
-use Rattle.cx_authorize.specs.Daemon.{Authority}
-use Rattle.cx_desk.specs.Handlers.{Handlers}
+use Rattle.cx_run.specs.cx_authorize.specs.Daemon.{Authority}
+use Rattle.cx_run.specs.cx_desk.specs.Handlers.{Handlers}
 use Rattle.cx_frame.specs.declared.frame.Frame.{Frame}
 use Rattle.cx_journal.specs.declared.entries.Entry.{Entry}
 use Rattle.cx_journal.specs.declared.entries.Entry.TheVariants as entry
@@ -17,16 +17,16 @@ use Rattle.cx_laws_login.specs.cx_rules.specs.Inputs.{Turn}
 use Rattle.cx_laws_login.specs.cx_rules.specs.Links.{Link, link_of, put_link, without_link}
 use Rattle.cx_laws_login.specs.cx_rules.specs.Rows.{Arrival, Outcome, Turned, Waits, Refuses, Handles, arrival, at, carried_out, goes_on, new_link, refuses, turns}
 use Rattle.cx_laws_login.specs.cx_rules.specs.Secured.{Keys, Secured, under}
-use Rattle.cx_rules_session.specs.DaemonRule.{AsAcceptor, Daemon, DaemonNode, DaemonStage, DaemonState, book_after, book_reply, daemon_step, hosts, me, moved_to, opens_guest, turn, turned_at, with_asker}
-use Rattle.cx_rules_session.specs.Guests.{GuestArrival, GuestStage}
-use Rattle.cx_rules_session.specs.Hosting.{Deciding, Hosted, decided_by, guest_turned, hosted_behind, on_ident}
-use Rattle.cx_rules_session.specs.Kinds.{arrival_in, turn_of_kind}
-use Rattle.cx_rules_session.specs.Asks.{Asks, Finished, Asking}
-use Rattle.cx_steps.specs.declared.seals.SealEntry.{SealEntry}
+use Rattle.cx_run.specs.cx_rules_session.specs.DaemonRule.{AsAcceptor, Daemon, DaemonNode, DaemonStage, DaemonState, book_after, book_reply, daemon_step, hosts, me, moved_to, opens_guest, turn, turned_at, with_asker}
+use Rattle.cx_run.specs.cx_rules_session.specs.Guests.{GuestArrival, GuestStage}
+use Rattle.cx_run.specs.cx_rules_session.specs.Hosting.{Deciding, Hosted, decided_by, guest_turned, hosted_behind, on_ident}
+use Rattle.cx_run.specs.cx_rules_session.specs.Kinds.{arrival_in, turn_of_kind}
+use Rattle.cx_run.specs.cx_rules_session.specs.Asks.{Asks, Finished, Asking}
+use Rattle.cx_laws_login.specs.cx_steps.specs.declared.seals.SealEntry.{SealEntry}
 use Rattle.cx_laws_authorize.proofs.Hosting.{Always, always-map, always-weaker}
 use Rattle.cx_laws_authorize.proofs.Steps.{always-book}
 use Rattle.cx_laws_authorize.specs.Admission.{StageHas}
-use Rattle.cx_laws_keys.proofs.Lists.{all-append, all-map}
+use Rattle.cx_laws_login.specs.cx_laws_keys.proofs.Lists.{all-append, all-map}
 use Rattle.cx_laws_login.proofs.Hearing.{HearsPart, hears-more, next-heard}
 
 -- ---- links that open

@@ -3,8 +3,8 @@ use Rattle.std.proofs.Common.{◌≡◌, ◌⊎◌, ◌==◌, ℕ, Bool, true, f
 use Rattle.std.specs.Prelude.{find, nat_le, nat_lt, not, if◌then◌else◌}
 use Rattle.std.specs.List.{AllByRecursion}
 use Rattle.std.specs.Option.{option_map}
-use Rattle.cx_authorize.specs.Daemon.{Authority}
-use Rattle.cx_desk.specs.Handlers.{Handlers}
+use Rattle.cx_run.specs.cx_authorize.specs.Daemon.{Authority}
+use Rattle.cx_run.specs.cx_desk.specs.Handlers.{Handlers}
 use Rattle.cx_journal.specs.declared.entries.Entry.{Entry}
 use Rattle.cx_journal.specs.declared.entries.Entry.TheVariants as entry
 use Rattle.cx_journal.specs.declared.entries.Refused.{Refused}
@@ -21,27 +21,27 @@ use Rattle.cx_laws_login.specs.cx_rules.specs.Requests.{Requests, first_open, is
 use Rattle.cx_laws_login.specs.cx_rules.specs.Rows.{Arrival, Outcome, Turned, Waits, Refuses, Handles, arrival, carried_out, fed, forgotten, goes_on, idles, lifted, links_behind, new_link, refused_entry, refuses, turns}
 use Rattle.cx_laws_login.specs.cx_rules.specs.Secured.{SealedFrame, Secured}
 use Rattle.cx_laws_login.specs.cx_rules.specs.declared.requests.Want.TheVariants as want
-use Rattle.cx_rules_session.specs.Asks.{Asks, Finished, Asking, with_book}
-use Rattle.cx_rules_session.specs.DaemonRule.{AsAcceptor, AsConnector, Daemon, DaemonNode, DaemonStage, DaemonState, asking_open, book_after, book_reply, daemon_rule, ended_entry, fetches, fetches_on, gone, gone_by_kind, guest_gone, hosts, is_fetching, is_in, is_older, loses, lossy_gone, me, moved_to, on_dropped, open_to_ask, opens, opens_guest, opens_own, shut_where, submits, ticks, turn, turned_at, undialled, unreached, with_asker}
-use Rattle.cx_rules_session.specs.Guests.{GuestRow, GuestStage}
-use Rattle.cx_rules_session.specs.Hosting.{Deciding, Hosted, guest_turned}
-use Rattle.cx_rules_session.specs.Kinds.{arrival_in, of_kind, turn_of_kind}
+use Rattle.cx_run.specs.cx_rules_session.specs.Asks.{Asks, Finished, Asking, with_book}
+use Rattle.cx_run.specs.cx_rules_session.specs.DaemonRule.{AsAcceptor, AsConnector, Daemon, DaemonNode, DaemonStage, DaemonState, asking_open, book_after, book_reply, daemon_rule, ended_entry, fetches, fetches_on, gone, gone_by_kind, guest_gone, hosts, is_fetching, is_in, is_older, loses, lossy_gone, me, moved_to, on_dropped, open_to_ask, opens, opens_guest, opens_own, shut_where, submits, ticks, turn, turned_at, undialled, unreached, with_asker}
+use Rattle.cx_run.specs.cx_rules_session.specs.Guests.{GuestRow, GuestStage}
+use Rattle.cx_run.specs.cx_rules_session.specs.Hosting.{Deciding, Hosted, guest_turned}
+use Rattle.cx_run.specs.cx_rules_session.specs.Kinds.{arrival_in, of_kind, turn_of_kind}
 use Rattle.cx_session.specs.declared.call.BookCall.TheVariants.{End}
 use Rattle.cx_session.specs.declared.call.BookReply.{BookReply}
 use Rattle.cx_session.specs.declared.call.BookReply.TheVariants as reply
-use Rattle.cx_steps.specs.Nothing.{nothing}
-use Rattle.cx_steps.specs.Onto.{SomeOf}
-use Rattle.cx_steps.specs.declared.events.Command.{Command}
-use Rattle.cx_steps.specs.declared.events.Command.TheVariants as command
-use Rattle.cx_steps.specs.declared.events.Peer.{Peer}
-use Rattle.cx_steps.specs.declared.events.Peer.TheVariants as peer
-use Rattle.cx_steps.specs.declared.seals.SealEntry.{SealEntry}
-use Rattle.cx_wire.specs.declared.bodies.Request.TheVariants as asked
+use Rattle.cx_laws_login.specs.cx_steps.specs.Nothing.{nothing}
+use Rattle.cx_laws_login.specs.cx_steps.specs.Onto.{SomeOf}
+use Rattle.cx_laws_login.specs.cx_steps.specs.declared.events.Command.{Command}
+use Rattle.cx_laws_login.specs.cx_steps.specs.declared.events.Command.TheVariants as command
+use Rattle.cx_laws_login.specs.cx_steps.specs.declared.events.Peer.{Peer}
+use Rattle.cx_laws_login.specs.cx_steps.specs.declared.events.Peer.TheVariants as peer
+use Rattle.cx_laws_login.specs.cx_steps.specs.declared.seals.SealEntry.{SealEntry}
+use Rattle.cx_laws_login.specs.cx_wire.specs.declared.bodies.Request.TheVariants as asked
 use Rattle.cx_laws_authorize.proofs.Guests.{AuthorizedRow, EntryToldIn, GainsWith, ReasonTold}
 use Rattle.cx_laws_authorize.proofs.Hosting.{Always, AuthorizedHosted, always-map, always-weaker, guest-authorized}
 use Rattle.cx_laws_authorize.specs.Admission.{Authorizes, EntryTold, GetsAuthority, GuestHas, HadAuthority, IsAuthorizedAt, IsToldAt, IsTurnOf, LinkAuthorized, RefusalTold, StageHas, StepAuthorizes}
-use Rattle.cx_laws_keys.proofs.Journal.{IsOfLogin}
-use Rattle.cx_laws_keys.proofs.Lists.{all-append, all-map, found_all}
+use Rattle.cx_laws_login.specs.cx_laws_keys.proofs.Journal.{IsOfLogin}
+use Rattle.cx_laws_login.specs.cx_laws_keys.proofs.Lists.{all-append, all-map, found_all}
 use Rattle.cx_laws_login.proofs.NoTickets.{IsMadeOfLogin, IsOfAsker, RowOfAsker, none-turned, sealed-of_login}
 use Rattle.cx_laws_login.proofs.Proving.{RowOf}
 use Rattle.cx_laws_login.proofs.Rows.{all-filter}

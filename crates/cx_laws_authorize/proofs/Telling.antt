@@ -3,7 +3,7 @@
 use Rattle.std.proofs.Common.{◌≡◌, ◌⊎◌, ℕ, true, false, List, [], ◌∷◌, ◌++◌, inl, inr, refl, sym, ap, ◌∙◌, subst, append_assoc, append-nil}
 use Rattle.std.specs.Prelude.{◌==◌}
 use Rattle.std.specs.List.{AllByRecursion}
-use Rattle.cx_authorize.specs.Daemon.{Authority}
+use Rattle.cx_run.specs.cx_authorize.specs.Daemon.{Authority}
 use Rattle.cx_base.specs.declared.kinds.EntityType.{EntityType}
 use Rattle.cx_base.specs.declared.nodes.NodeName.{NodeName}
 use Rattle.cx_cbc.proofs.OpeningLaws.{opened-Opens}
@@ -22,21 +22,21 @@ use Rattle.cx_journal.specs.declared.premises.KeyKind.TheVariants as kind
 use Rattle.cx_laws_login.specs.cx_rules.specs.Holdings.{Asker}
 use Rattle.cx_laws_login.specs.cx_rules.specs.Inputs.{Input}
 use Rattle.cx_laws_login.specs.cx_rules.specs.Links.{Link}
-use Rattle.cx_rules_session.specs.DaemonRule.{AsAcceptor, DaemonStage, DaemonState}
-use Rattle.cx_rules_session.specs.Guests.{GuestStage}
-use Rattle.cx_steps.specs.Premises.{HasSealed, IsExcepted}
-use Rattle.cx_steps.specs.declared.seals.Logged.{Logged}
-use Rattle.cx_steps.specs.declared.seals.SealEntry.{SealEntry}
+use Rattle.cx_run.specs.cx_rules_session.specs.DaemonRule.{AsAcceptor, DaemonStage, DaemonState}
+use Rattle.cx_run.specs.cx_rules_session.specs.Guests.{GuestStage}
+use Rattle.cx_laws_login.specs.cx_steps.specs.Premises.{HasSealed, IsExcepted}
+use Rattle.cx_laws_login.specs.cx_steps.specs.declared.seals.Logged.{Logged}
+use Rattle.cx_laws_login.specs.cx_steps.specs.declared.seals.SealEntry.{SealEntry}
 use Rattle.cx_laws_authorize.proofs.Backing.{AllGood, AreGood, HasBacking, authorized-backed, backing-grows, session-backed}
 use Rattle.cx_laws_authorize.proofs.KeepingKeys.{kept-of, told-keeps}
 use Rattle.cx_laws_authorize.specs.Admission.{EntryTold, FaultTells, GetsAuthority, GuestHas, HadAuthority, IsOwned, IsTold, LinkAuthorized, RefusalTold, StageHas}
-use Rattle.cx_laws_keys.proofs.Journal.{EntryLaw, ToldLaw, IsNotIssued, entered, expired-none, needs-none}
-use Rattle.cx_laws_keys.proofs.Known.{HasTicket, Inv, Says, Within, opened_says}
-use Rattle.cx_laws_keys.proofs.Lists.{found_all, some-of}
-use Rattle.cx_laws_keys.proofs.Premises.{AreGranted}
-use Rattle.cx_laws_keys.proofs.Steps.{within-entered}
-use Rattle.cx_laws_keys.proofs.Uses.{Generated, Means, Uses, WholeRun}
-use Rattle.cx_laws_keys.specs.KeepsExpiry.{ExpiredFor, KeepsExpiryBy, NeedsExpired}
+use Rattle.cx_laws_login.specs.cx_laws_keys.proofs.Journal.{EntryLaw, ToldLaw, IsNotIssued, entered, expired-none, needs-none}
+use Rattle.cx_laws_login.specs.cx_laws_keys.proofs.Known.{HasTicket, Inv, Says, Within, opened_says}
+use Rattle.cx_laws_login.specs.cx_laws_keys.proofs.Lists.{found_all, some-of}
+use Rattle.cx_laws_login.specs.cx_laws_keys.proofs.Premises.{AreGranted}
+use Rattle.cx_laws_login.specs.cx_laws_keys.proofs.Steps.{within-entered}
+use Rattle.cx_laws_login.specs.cx_laws_keys.proofs.Uses.{Generated, Means, Uses, WholeRun}
+use Rattle.cx_laws_login.specs.cx_laws_keys.specs.KeepsExpiry.{ExpiredFor, KeepsExpiryBy, NeedsExpired}
 use Rattle.cx_laws_login.proofs.Entering.{within-all}
 use Rattle.cx_laws_login.proofs.Facts.{AreFetched}
 use Rattle.cx_laws_login.proofs.Opens.{generation-free, generation_means}

@@ -1,7 +1,7 @@
 -- What a daemon enters tells its view at each step, whatever comes to it and whatever its book replies, where it is told none by hand.
 use Rattle.std.proofs.Common.{Bool, true, false, ℕ, List, [], ◌∷◌, length, Option, Some, None, Result, Ok, Err, refl, sym, subst}
 use Rattle.std.specs.Prelude.{nat_le, if◌then◌else◌}
-use Rattle.cx_desk.specs.Handlers.{Handlers}
+use Rattle.cx_run.specs.cx_desk.specs.Handlers.{Handlers}
 use Rattle.cx_journal.specs.declared.entries.Entry.{Entry}
 use Rattle.cx_journal.specs.declared.entries.Entry.TheVariants as entry
 use Rattle.cx_journal.specs.declared.outcomes.Reason.{Reason}
@@ -17,28 +17,28 @@ use Rattle.cx_laws_login.specs.cx_rules.specs.Rows.{Arrival, Outcome, Turned, Wa
 use Rattle.cx_laws_login.specs.cx_rules.specs.Secured.{SealedFrame, Secured}
 use Rattle.cx_laws_login.specs.cx_rules.specs.declared.requests.Want.{Want}
 use Rattle.cx_laws_login.specs.cx_rules.specs.declared.requests.Want.TheVariants.{Rotating}
-use Rattle.cx_rules_session.specs.Asks.{Finished, Asking}
-use Rattle.cx_rules_session.specs.DaemonRule.{AsAcceptor, AsConnector, Daemon, DaemonNode, DaemonStage, DaemonState, asking_open, book_after, book_reply, daemon_rule, daemon_step, fetches, fetches_on, gone, gone_by_kind, guest_gone, hosts, is_fetching, lossy_gone, me, moved_to, on_dropped, open_to_ask, opens, opens_own, submits, ticks, turn, turned_at, undialled, unreached, with_asker}
-use Rattle.cx_rules_session.specs.Guests.{GuestStage}
-use Rattle.cx_rules_session.specs.Hosting.{Hosted, guest_turned}
-use Rattle.cx_rules_session.specs.Kinds.{arrival_in, turn_of_kind}
+use Rattle.cx_run.specs.cx_rules_session.specs.Asks.{Finished, Asking}
+use Rattle.cx_run.specs.cx_rules_session.specs.DaemonRule.{AsAcceptor, AsConnector, Daemon, DaemonNode, DaemonStage, DaemonState, asking_open, book_after, book_reply, daemon_rule, daemon_step, fetches, fetches_on, gone, gone_by_kind, guest_gone, hosts, is_fetching, lossy_gone, me, moved_to, on_dropped, open_to_ask, opens, opens_own, submits, ticks, turn, turned_at, undialled, unreached, with_asker}
+use Rattle.cx_run.specs.cx_rules_session.specs.Guests.{GuestStage}
+use Rattle.cx_run.specs.cx_rules_session.specs.Hosting.{Hosted, guest_turned}
+use Rattle.cx_run.specs.cx_rules_session.specs.Kinds.{arrival_in, turn_of_kind}
 use Rattle.cx_session.specs.declared.call.BookCall.TheVariants.{End}
 use Rattle.cx_session.specs.declared.call.BookReply.{BookReply}
 use Rattle.cx_session.specs.declared.call.BookReply.TheVariants as reply
-use Rattle.cx_steps.specs.declared.events.Command.{Command}
-use Rattle.cx_steps.specs.declared.events.Command.TheVariants as command
-use Rattle.cx_steps.specs.declared.events.Peer.{Peer}
-use Rattle.cx_steps.specs.declared.events.Peer.TheVariants as peer
-use Rattle.cx_wire.specs.declared.bodies.Request.TheVariants as asked
+use Rattle.cx_laws_login.specs.cx_steps.specs.declared.events.Command.{Command}
+use Rattle.cx_laws_login.specs.cx_steps.specs.declared.events.Command.TheVariants as command
+use Rattle.cx_laws_login.specs.cx_steps.specs.declared.events.Peer.{Peer}
+use Rattle.cx_laws_login.specs.cx_steps.specs.declared.events.Peer.TheVariants as peer
+use Rattle.cx_laws_login.specs.cx_wire.specs.declared.bodies.Request.TheVariants as asked
 use Rattle.cx_run.proofs.GuestTakes.{Always, StaysGuest, TakesHosted, always-book, always-map, always-weaker, guest-takes}
 use Rattle.cx_run.proofs.Taking.{EachRow}
-use Rattle.cx_laws_keys.proofs.Lists.{all-map}
-use Rattle.cx_laws_keys.proofs.Viewing.{ShowsAlong, ShowsStill, still-along, viewed-own}
-use Rattle.cx_laws_keys.specs.LooksLast.{nothing_viewed}
+use Rattle.cx_laws_login.specs.cx_laws_keys.proofs.Lists.{all-map}
+use Rattle.cx_laws_login.specs.cx_laws_keys.proofs.Viewing.{ShowsAlong, ShowsStill, still-along, viewed-own}
+use Rattle.cx_laws_login.specs.cx_laws_keys.specs.LooksLast.{nothing_viewed}
 use Rattle.cx_laws_login.proofs.NoTickets.{RowOfAsker, none-turned}
 use Rattle.cx_laws_login.proofs.Proving.{RowOf}
 use Rattle.cx_base.specs.declared.nodes.NodeName.{NodeName}
-use Rattle.cx_steps.specs.declared.seals.SealEntry.{SealEntry}
+use Rattle.cx_laws_login.specs.cx_steps.specs.declared.seals.SealEntry.{SealEntry}
 use Rattle.cx_laws_authorize.proofs.Guests.{AuthorizedRow, EntryToldIn}
 use Rattle.cx_laws_authorize.proofs.Hosting.{AuthorizedHosted, always-both, guest-authorized}
 use Rattle.cx_run.specs.Visits.{IsNoLook}

@@ -1,11 +1,11 @@
 -- By what a daemon admits a session: what is said of one step, of every daemon and every event, whatever is forged.
 use Rattle.std.specs.Prelude.{◌≡◌, ◌⊎◌, ◌<◌, ◌≤◌, ℕ, true, List, [], ◌∷◌, Contains, Some, None}
 use Rattle.std.specs.List.{AllByRecursion}
-use Rattle.cx_authorize.specs.Daemon.{Authority, Awaited}
-use Rattle.cx_authorize.specs.Verdict.{raised}
+use Rattle.cx_run.specs.cx_authorize.specs.Daemon.{Authority, Awaited}
+use Rattle.cx_run.specs.cx_authorize.specs.Verdict.{raised}
 use Rattle.cx_base.specs.declared.nodes.NodeName.{NodeName}
 use Rattle.cx_base.specs.declared.nodes.NodeName.TheVariants as node
-use Rattle.cx_desk.specs.Handlers.{Handlers}
+use Rattle.cx_run.specs.cx_desk.specs.Handlers.{Handlers}
 use Rattle.cx_journal.specs.declared.entries.Admitted.{Admitted}
 use Rattle.cx_journal.specs.declared.entries.Entry.{Entry}
 use Rattle.cx_journal.specs.declared.entries.Entry.TheVariants as entry
@@ -15,23 +15,23 @@ use Rattle.cx_journal.specs.declared.outcomes.Reason.TheVariants as reason
 use Rattle.cx_journal.specs.declared.outcomes.TicketFault.{TicketFault}
 use Rattle.cx_journal.specs.declared.outcomes.TicketFault.TheVariants as told
 use Rattle.cx_journal.specs.declared.premises.KeyKind.TheVariants as kind
-use Rattle.cx_login.specs.Opening.{generation_key}
-use Rattle.cx_login.specs.Unlocking.{unlocked}
+use Rattle.cx_laws_login.specs.cx_login.specs.Opening.{generation_key}
+use Rattle.cx_laws_login.specs.cx_login.specs.Unlocking.{unlocked}
 use Rattle.cx_rotate.specs.declared.views.View.{View}
 use Rattle.cx_laws_login.specs.cx_rules.specs.Acceptor.{AwaitsProof, AwaitsSignature, AwaitsIdent}
 use Rattle.cx_laws_login.specs.cx_rules.specs.Holdings.{Asker}
 use Rattle.cx_laws_login.specs.cx_rules.specs.Inputs.{Input, Turn}
 use Rattle.cx_laws_login.specs.cx_rules.specs.Links.{Link, link_of}
 use Rattle.cx_laws_login.specs.cx_rules.specs.Secured.{Secured}
-use Rattle.cx_rules_session.specs.DaemonRule.{AsAcceptor, AsConnector, DaemonStage, DaemonState, daemon_step}
-use Rattle.cx_rules_session.specs.Guests.{GuestStage}
-use Rattle.cx_sealed.specs.Records.{authorize_layout, service_ticket_layout}
-use Rattle.cx_sealed.specs.Unsealing.{spelled_by}
-use Rattle.cx_sealed.specs.declared.authorize.Authorize.{Authorize}
-use Rattle.cx_sealed.specs.declared.service_ticket.ServiceTicket.{ServiceTicket}
-use Rattle.cx_steps.specs.Onto.{SomeOf}
-use Rattle.cx_steps.specs.declared.seals.SealEntry.{SealEntry}
-use Rattle.cx_steps.specs.declared.seals.SealEntry.TheVariants as seal
+use Rattle.cx_run.specs.cx_rules_session.specs.DaemonRule.{AsAcceptor, AsConnector, DaemonStage, DaemonState, daemon_step}
+use Rattle.cx_run.specs.cx_rules_session.specs.Guests.{GuestStage}
+use Rattle.cx_laws_login.specs.cx_sealed.specs.Records.{authorize_layout, service_ticket_layout}
+use Rattle.cx_laws_login.specs.cx_sealed.specs.Unsealing.{spelled_by}
+use Rattle.cx_laws_login.specs.cx_sealed.specs.declared.authorize.Authorize.{Authorize}
+use Rattle.cx_laws_login.specs.cx_sealed.specs.declared.service_ticket.ServiceTicket.{ServiceTicket}
+use Rattle.cx_laws_login.specs.cx_steps.specs.Onto.{SomeOf}
+use Rattle.cx_laws_login.specs.cx_steps.specs.declared.seals.SealEntry.{SealEntry}
+use Rattle.cx_laws_login.specs.cx_steps.specs.declared.seals.SealEntry.TheVariants as seal
 use Rattle.cx_cbc.specs.Opened.{opened}
 
 -- ---- who was authorized on a link

@@ -1,7 +1,12 @@
 -- Behind `pub use`: what crates above name through this one, and so needn't list (`checks/ways`).
+pub use Rattle.cx_run.specs.cx_authorize as cx_authorize
+pub use Rattle.cx_laws_login.specs.cx_keyserver as cx_keyserver
+pub use Rattle.cx_laws_login.specs.cx_laws_keys as cx_laws_keys
 pub use Rattle.cx_laws_login as cx_laws_login
-pub use Rattle.cx_rules_session as cx_rules_session
-pub use Rattle.cx_rules_session.specs.cx_rules as cx_rules
+pub use Rattle.cx_laws_login.specs.cx_login as cx_login
+pub use Rattle.cx_laws_login.specs.cx_rules as cx_rules
+pub use Rattle.cx_run.specs.cx_rules_session as cx_rules_session
 pub use Rattle.cx_run as cx_run
+pub use Rattle.cx_laws_login.specs.cx_sealed as cx_sealed
 pub mod Admission
 pub mod Coming

@@ -1,10 +1,10 @@
 //! The law of a daemon's steps.
 
 ghost use Rattle.std.specs.Prelude.{ℕ, List};
-ghost use Rattle.cx_desk.specs.Handlers.{Handlers};
+ghost use Rattle.cx_run.specs.cx_desk.specs.Handlers.{Handlers};
 ghost use Rattle.cx_laws_authorize.specs.Admission.{StepAuthorizes};
 ghost use Rattle.cx_laws_login.specs.cx_rules.specs.Inputs.{Input};
-ghost use Rattle.cx_rules_session.specs.DaemonRule.{DaemonState};
+ghost use Rattle.cx_run.specs.cx_rules_session.specs.DaemonRule.{DaemonState};
 
 /// Of every daemon, at every event, whatever came: a link gets an authority by the second authorizer alone, which answers the challenge that was sent on
 /// that link; its ticket opened, as the first thing that the step logs, under a generation of the view at which the daemon looked, as is entered, and

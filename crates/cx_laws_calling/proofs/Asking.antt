@@ -20,15 +20,15 @@ use Rattle.cx_control.specs.declared.upkeep.Keepalive2.{Keepalive2}
 use Rattle.cx_control.specs.declared.upkeep.Keepalive2Ack.{Keepalive2Ack}
 use Rattle.cx_dice.specs.Draws.{cookie_of}
 use Rattle.cx_frame.specs.declared.frame.Frame.{Frame}
-use Rattle.cx_journal.specs.declared.entries.Entry.{Entry}
-use Rattle.cx_journal.specs.declared.faults.BytesFault.{BytesFault}
-use Rattle.cx_journal.specs.declared.faults.BytesFault.TheVariants.{Unexpected}
-use Rattle.cx_journal.specs.declared.faults.LoginFault.TheVariants.{Mode, SignatureWrong}
-use Rattle.cx_journal.specs.declared.outcomes.Reason.{Reason}
-use Rattle.cx_journal.specs.declared.outcomes.Reason.TheVariants as reason
-use Rattle.cx_login.specs.Held.{Held}
-use Rattle.cx_login.specs.Unlocking.{Unlocked, login_in, told_each, unlocked}
-use Rattle.cx_login.specs.declared.client.LoggedIn.{LoggedIn}
+use Rattle.cx_laws_login.specs.cx_journal.specs.declared.entries.Entry.{Entry}
+use Rattle.cx_laws_login.specs.cx_journal.specs.declared.faults.BytesFault.{BytesFault}
+use Rattle.cx_laws_login.specs.cx_journal.specs.declared.faults.BytesFault.TheVariants.{Unexpected}
+use Rattle.cx_laws_login.specs.cx_journal.specs.declared.faults.LoginFault.TheVariants.{Mode, SignatureWrong}
+use Rattle.cx_laws_login.specs.cx_journal.specs.declared.outcomes.Reason.{Reason}
+use Rattle.cx_laws_login.specs.cx_journal.specs.declared.outcomes.Reason.TheVariants as reason
+use Rattle.cx_laws_login.specs.cx_login.specs.Held.{Held}
+use Rattle.cx_laws_login.specs.cx_login.specs.Unlocking.{Unlocked, login_in, told_each, unlocked}
+use Rattle.cx_laws_login.specs.cx_login.specs.declared.client.LoggedIn.{LoggedIn}
 use Rattle.cx_laws_login.specs.cx_rules.specs.Connector.{AskerArrival, AskerRow, Login as Opening, Stage, AwaitsBanner, AwaitsHello, AwaitsChallenge, AwaitsDone, AwaitsSignature, AwaitsIdent, Open, client_ident, holding, identifies, on_bad_method, on_banner, on_challenge, on_denial, on_done, on_hello, on_login_done, on_missing_features, on_opened, on_reply_more, on_signature, proves, signs, turned_at, while_challenged, while_identified, while_proved}
 use Rattle.cx_laws_login.specs.cx_rules.specs.Fronts.{banner_next, plain_next, opened_parts, sealed_ahead, secure_next, secure_read}
 use Rattle.cx_laws_login.specs.cx_rules.specs.Greetings.{own_hello}
@@ -47,28 +47,28 @@ use Rattle.cx_laws_login.specs.cx_rules.specs.declared.requests.Taken.TheVariant
 use Rattle.cx_laws_login.specs.cx_rules.specs.declared.requests.Waiting.{Waiting}
 use Rattle.cx_laws_login.specs.cx_rules.specs.declared.requests.Want.{Want}
 use Rattle.cx_laws_login.specs.cx_rules.specs.declared.requests.Want.TheVariants as want
-use Rattle.cx_sealed.specs.Records.{rotating_reply_layout}
-use Rattle.cx_sealed.specs.declared.rotating_reply.RotatingReply.{RotatingReply}
-use Rattle.cx_secure.specs.declared.refusals.SecureRefusal.{SecureRefusal}
-use Rattle.cx_journal.specs.declared.premises.KeyKind.TheVariants as kind
-use Rattle.cx_steps.specs.declared.seals.DrawMark.TheVariants as draw
-use Rattle.cx_steps.specs.declared.seals.Logged.{Logged}
-use Rattle.cx_steps.specs.declared.seals.SealEntry.{SealEntry}
-use Rattle.cx_steps.specs.declared.seals.SealEntry.TheVariants.{Drawn}
-use Rattle.cx_stream.specs.SecureStreams.{secure_frame_at}
-use Rattle.cx_wire.specs.Bodies.{reply_layout}
-use Rattle.cx_wire.specs.Logins.{login_done_layout}
-use Rattle.cx_wire.specs.declared.bodies.Reply.{Reply}
-use Rattle.cx_wire.specs.declared.bodies.Reply.TheVariants as given
-use Rattle.cx_wire.specs.declared.logins.LoginDone.{LoginDone}
-use Rattle.cx_wire.specs.declared.logins.ServerChallenge.{ServerChallenge}
+use Rattle.cx_laws_login.specs.cx_sealed.specs.Records.{rotating_reply_layout}
+use Rattle.cx_laws_login.specs.cx_sealed.specs.declared.rotating_reply.RotatingReply.{RotatingReply}
+use Rattle.cx_laws_login.specs.cx_secure.specs.declared.refusals.SecureRefusal.{SecureRefusal}
+use Rattle.cx_laws_login.specs.cx_journal.specs.declared.premises.KeyKind.TheVariants as kind
+use Rattle.cx_laws_login.specs.cx_steps.specs.declared.seals.DrawMark.TheVariants as draw
+use Rattle.cx_laws_login.specs.cx_steps.specs.declared.seals.Logged.{Logged}
+use Rattle.cx_laws_login.specs.cx_steps.specs.declared.seals.SealEntry.{SealEntry}
+use Rattle.cx_laws_login.specs.cx_steps.specs.declared.seals.SealEntry.TheVariants.{Drawn}
+use Rattle.cx_laws_login.specs.cx_stream.specs.SecureStreams.{secure_frame_at}
+use Rattle.cx_laws_login.specs.cx_wire.specs.Bodies.{reply_layout}
+use Rattle.cx_laws_login.specs.cx_wire.specs.Logins.{login_done_layout}
+use Rattle.cx_laws_login.specs.cx_wire.specs.declared.bodies.Reply.{Reply}
+use Rattle.cx_laws_login.specs.cx_wire.specs.declared.bodies.Reply.TheVariants as given
+use Rattle.cx_laws_login.specs.cx_wire.specs.declared.logins.LoginDone.{LoginDone}
+use Rattle.cx_laws_login.specs.cx_wire.specs.declared.logins.ServerChallenge.{ServerChallenge}
 use Rattle.cx_run.proofs.Taking.{EachRow, each-turned}
 use Rattle.cx_laws_calling.proofs.Sessions.{AreSessions, HoldingsOk, IsLoginKey, SessionsIn, login-ok, nothing-ok, same-entity, tickets-ok}
 use Rattle.cx_laws_calling.proofs.Told.{each-tells, login-told}
-use Rattle.cx_laws_keys.proofs.Known.{Inv}
-use Rattle.cx_laws_keys.proofs.Premises.{AreGranted, behind, granted-first, granted-rest}
-use Rattle.cx_laws_keys.proofs.Steps.{inv-all}
-use Rattle.cx_laws_keys.proofs.Uses.{Login, Means, Secret, Uses, WholeRun}
+use Rattle.cx_laws_login.specs.cx_laws_keys.proofs.Known.{Inv}
+use Rattle.cx_laws_login.specs.cx_laws_keys.proofs.Premises.{AreGranted, behind, granted-first, granted-rest}
+use Rattle.cx_laws_login.specs.cx_laws_keys.proofs.Steps.{inv-all}
+use Rattle.cx_laws_login.specs.cx_laws_keys.proofs.Uses.{Login, Means, Secret, Uses, WholeRun}
 use Rattle.cx_laws_login.proofs.AskerRows.{NeverExcepted}
 use Rattle.cx_laws_login.proofs.Facts.{IsSameWay}
 use Rattle.cx_laws_login.proofs.Rows.{Allowed, opened-allowed}

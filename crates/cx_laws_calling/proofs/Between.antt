@@ -4,22 +4,22 @@ use Rattle.std.specs.List.{AllByRecursion}
 use Rattle.cx_base.specs.Names.{Name}
 use Rattle.cx_base.specs.declared.nodes.NodeName.{NodeName}
 use Rattle.cx_base.specs.declared.nodes.NodeName.TheVariants as node
-use Rattle.cx_journal.specs.declared.entries.Entry.{Entry}
+use Rattle.cx_laws_login.specs.cx_journal.specs.declared.entries.Entry.{Entry}
 use Rattle.cx_laws_login.specs.cx_rules.specs.Holdings.{Asker, no_view}
 use Rattle.cx_laws_login.specs.cx_rules.specs.Inputs.{Input}
 use Rattle.cx_laws_login.specs.cx_rules.specs.Links.{Link}
 use Rattle.cx_laws_login.specs.cx_rules.specs.Rows.{Outcome}
-use Rattle.cx_rules_session.specs.ClientRule.{ClientStage, WholeClientNode, opening_whole_client, whole_client_rule}
-use Rattle.cx_rules_session.specs.Sessions.{HeldSession}
-use Rattle.cx_steps.specs.declared.seals.Logged.{Logged}
+use Rattle.cx_run.specs.cx_rules_session.specs.ClientRule.{ClientStage, WholeClientNode, opening_whole_client, whole_client_rule}
+use Rattle.cx_run.specs.cx_rules_session.specs.Sessions.{HeldSession}
+use Rattle.cx_laws_login.specs.cx_steps.specs.declared.seals.Logged.{Logged}
 use Rattle.cx_laws_calling.proofs.ClientAfter.{client-after, whole_client_says}
 use Rattle.cx_laws_calling.proofs.Sessions.{ClientStageOk, DialOk, GuestsCome, HoldingsOk, client_stage-grows, dial-grows, holdings-grow}
 use Rattle.cx_run.proofs.ClientKept.{whole-named}
 use Rattle.cx_run.specs.Calling.{IsNoCall}
-use Rattle.cx_laws_keys.proofs.Known.{Inv}
-use Rattle.cx_laws_keys.proofs.Lists.{all-map}
-use Rattle.cx_laws_keys.proofs.Premises.{AreGranted}
-use Rattle.cx_laws_keys.proofs.Uses.{Grows, Uses, WholeRun}
+use Rattle.cx_laws_login.specs.cx_laws_keys.proofs.Known.{Inv}
+use Rattle.cx_laws_login.specs.cx_laws_keys.proofs.Lists.{all-map}
+use Rattle.cx_laws_login.specs.cx_laws_keys.proofs.Premises.{AreGranted}
+use Rattle.cx_laws_login.specs.cx_laws_keys.proofs.Uses.{Grows, Uses, WholeRun}
 use Rattle.cx_laws_login.proofs.Facts.{AskerKnown, known-grows}
 use Rattle.cx_laws_login.proofs.Rows.{AfterStep, NodeOk}
 

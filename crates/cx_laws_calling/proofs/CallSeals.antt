@@ -2,9 +2,9 @@
 -- daemon's reply under a key of a connection of its own. No row draws a key.
 use Rattle.std.proofs.Common.{◌≡◌, ◌⊎◌, ℕ, ◌==◌, ◌+◌, ◌-◌, ◌^◌, ◌++◌, Bool, true, false, List, [], ◌∷◌, take, Option, Some, None, Result, Ok, Err, inl, inr, refl, sym, ap, ◌∙◌, subst}
 use Rattle.std.specs.Prelude.{not, if◌then◌else◌}
-use Rattle.cx_authorize.specs.Answers.{shown_as}
-use Rattle.cx_authorize.specs.Client.{Answered, Presented, challenge_in, reply_in}
-use Rattle.cx_authorize.specs.Verdict.{raised}
+use Rattle.cx_run.specs.cx_authorize.specs.Answers.{shown_as}
+use Rattle.cx_run.specs.cx_authorize.specs.Client.{Answered, Presented, challenge_in, reply_in}
+use Rattle.cx_run.specs.cx_authorize.specs.Verdict.{raised}
 use Rattle.cx_base.specs.Names.{Name}
 use Rattle.cx_base.specs.declared.kinds.EntityType.{EntityType}
 use Rattle.cx_base.specs.declared.nodes.NodeName.{NodeName}
@@ -34,15 +34,15 @@ use Rattle.cx_frame.specs.declared.banner.Banner.{Banner}
 use Rattle.cx_frame.specs.declared.frame.Frame.{Frame}
 use Rattle.cx_frame.specs.declared.refusals.BannerRefusal.{BannerRefusal}
 use Rattle.cx_frame.specs.declared.refusals.FrameRefusal.{FrameRefusal}
-use Rattle.cx_journal.specs.declared.entries.Entry.{Entry}
-use Rattle.cx_journal.specs.declared.faults.BytesFault.{BytesFault}
-use Rattle.cx_journal.specs.declared.faults.BytesFault.TheVariants.{Unexpected}
-use Rattle.cx_journal.specs.declared.faults.LoginFault.TheVariants as login
-use Rattle.cx_journal.specs.declared.outcomes.Reason.{Reason}
-use Rattle.cx_journal.specs.declared.outcomes.Reason.TheVariants as reason
-use Rattle.cx_journal.specs.declared.premises.KeyKind.TheVariants as kind
-use Rattle.cx_login.specs.Held.{Held}
-use Rattle.cx_login.specs.Unlocking.{Unlocked}
+use Rattle.cx_laws_login.specs.cx_journal.specs.declared.entries.Entry.{Entry}
+use Rattle.cx_laws_login.specs.cx_journal.specs.declared.faults.BytesFault.{BytesFault}
+use Rattle.cx_laws_login.specs.cx_journal.specs.declared.faults.BytesFault.TheVariants.{Unexpected}
+use Rattle.cx_laws_login.specs.cx_journal.specs.declared.faults.LoginFault.TheVariants as login
+use Rattle.cx_laws_login.specs.cx_journal.specs.declared.outcomes.Reason.{Reason}
+use Rattle.cx_laws_login.specs.cx_journal.specs.declared.outcomes.Reason.TheVariants as reason
+use Rattle.cx_laws_login.specs.cx_journal.specs.declared.premises.KeyKind.TheVariants as kind
+use Rattle.cx_laws_login.specs.cx_login.specs.Held.{Held}
+use Rattle.cx_laws_login.specs.cx_login.specs.Unlocking.{Unlocked}
 use Rattle.cx_laws_login.specs.cx_rules.specs.Connector.{client_ident}
 use Rattle.cx_laws_login.specs.cx_rules.specs.Fronts.{ahead_of, banner_next, banner_read, opened_parts, plain_next, plain_read, sealed_ahead, secure_next, secure_read}
 use Rattle.cx_laws_login.specs.cx_rules.specs.Greetings.{own_hello}
@@ -52,29 +52,29 @@ use Rattle.cx_laws_login.specs.cx_rules.specs.Payloads.{due, payload, whole}
 use Rattle.cx_laws_login.specs.cx_rules.specs.Rows.{Turned, Waits, Refuses, Handles, at, goes_on, plain_sent, refuses, refuses_bytes, secure_sent, turned_by, unless_refused, with_opened}
 use Rattle.cx_laws_login.specs.cx_rules.specs.Secured.{Keys, SealedFrame, Secured, connector_keys, is_signed, plain_frame, secure_frame, signature, signature_found, signed_frame, signing, under}
 use Rattle.cx_laws_login.specs.cx_rules.specs.Upkeep.{on_keepalive, on_keepalive_ack}
-use Rattle.cx_rules_session.specs.Envelopes.{authorize_content, sends_holding, session_sealed}
-use Rattle.cx_rules_session.specs.Lossy.{lossy_flags}
-use Rattle.cx_rules_session.specs.Presenter.{CallArrival, CallRow, CallStage, AwaitsBanner, AwaitsHello, AwaitsChallenge, AwaitsDone, AwaitsSignature, AwaitsIdent, AwaitsReconnect, Open, Caller, OperationEnd, acknowledges, answers_challenge, counting, end_in, first_frame, holding_session, identifies, on_ack, on_answer, on_answer_or_ack, on_authorize_reply, on_bad_method, on_banner, on_challenge, on_done, on_hello, on_missing_features, on_reconnect_ok, on_reply_more, on_reset, on_retry, on_retry_global, on_server_ident, on_signature, on_signed, on_unlocked, presented, presented_by, reconnects, resets, retries, retries_global, second_frame, signs, taken_up, takes_up, turned_at, while_answered, while_challenged, while_identified, while_reconnecting}
-use Rattle.cx_rules_session.specs.Sessions.{Called, Callee, HeldSession, acknowledged_up_to, held_gid, session_reconnect, ticket_for, waiting_messages}
-use Rattle.cx_sealed.specs.Records.{authorize_challenge_layout, authorize_reply_layout}
-use Rattle.cx_sealed.specs.declared.authorize_challenge.AuthorizeChallenge.{AuthorizeChallenge}
-use Rattle.cx_sealed.specs.declared.authorize_reply.AuthorizeReply.{AuthorizeReply}
-use Rattle.cx_secure.specs.declared.refusals.SecureRefusal.{SecureRefusal}
-use Rattle.cx_steps.specs.declared.seals.DrawMark.TheVariants as draw
-use Rattle.cx_steps.specs.declared.seals.Logged.{Logged}
-use Rattle.cx_steps.specs.declared.seals.SealEntry.{SealEntry}
-use Rattle.cx_steps.specs.declared.seals.SealEntry.TheVariants.{Drawn}
-use Rattle.cx_stream.specs.PlainStreams.{plain_frame_at}
-use Rattle.cx_stream.specs.SecureStreams.{secure_frame_at}
-use Rattle.cx_wire.specs.Logins as shown_layout
-use Rattle.cx_wire.specs.declared.authorizers.AuthorizeChallenge as shown_challenge
-use Rattle.cx_wire.specs.declared.authorizers.AuthorizeReply as shown_reply
+use Rattle.cx_run.specs.cx_rules_session.specs.Envelopes.{authorize_content, sends_holding, session_sealed}
+use Rattle.cx_run.specs.cx_rules_session.specs.Lossy.{lossy_flags}
+use Rattle.cx_run.specs.cx_rules_session.specs.Presenter.{CallArrival, CallRow, CallStage, AwaitsBanner, AwaitsHello, AwaitsChallenge, AwaitsDone, AwaitsSignature, AwaitsIdent, AwaitsReconnect, Open, Caller, OperationEnd, acknowledges, answers_challenge, counting, end_in, first_frame, holding_session, identifies, on_ack, on_answer, on_answer_or_ack, on_authorize_reply, on_bad_method, on_banner, on_challenge, on_done, on_hello, on_missing_features, on_reconnect_ok, on_reply_more, on_reset, on_retry, on_retry_global, on_server_ident, on_signature, on_signed, on_unlocked, presented, presented_by, reconnects, resets, retries, retries_global, second_frame, signs, taken_up, takes_up, turned_at, while_answered, while_challenged, while_identified, while_reconnecting}
+use Rattle.cx_run.specs.cx_rules_session.specs.Sessions.{Called, Callee, HeldSession, acknowledged_up_to, held_gid, session_reconnect, ticket_for, waiting_messages}
+use Rattle.cx_laws_login.specs.cx_sealed.specs.Records.{authorize_challenge_layout, authorize_reply_layout}
+use Rattle.cx_laws_login.specs.cx_sealed.specs.declared.authorize_challenge.AuthorizeChallenge.{AuthorizeChallenge}
+use Rattle.cx_laws_login.specs.cx_sealed.specs.declared.authorize_reply.AuthorizeReply.{AuthorizeReply}
+use Rattle.cx_laws_login.specs.cx_secure.specs.declared.refusals.SecureRefusal.{SecureRefusal}
+use Rattle.cx_laws_login.specs.cx_steps.specs.declared.seals.DrawMark.TheVariants as draw
+use Rattle.cx_laws_login.specs.cx_steps.specs.declared.seals.Logged.{Logged}
+use Rattle.cx_laws_login.specs.cx_steps.specs.declared.seals.SealEntry.{SealEntry}
+use Rattle.cx_laws_login.specs.cx_steps.specs.declared.seals.SealEntry.TheVariants.{Drawn}
+use Rattle.cx_laws_login.specs.cx_stream.specs.PlainStreams.{plain_frame_at}
+use Rattle.cx_laws_login.specs.cx_stream.specs.SecureStreams.{secure_frame_at}
+use Rattle.cx_laws_login.specs.cx_wire.specs.Logins as shown_layout
+use Rattle.cx_laws_login.specs.cx_wire.specs.declared.authorizers.AuthorizeChallenge as shown_challenge
+use Rattle.cx_laws_login.specs.cx_wire.specs.declared.authorizers.AuthorizeReply as shown_reply
 use Rattle.cx_laws_calling.proofs.Sessions.{CallKeys, HeldOk, HoldingsOk, IsRepliedFor, IsSession, IsShownFor, found-ticket, replied-connection, same-entity}
-use Rattle.cx_laws_keys.proofs.Known.{HasReply, Inv, IsAllowed}
-use Rattle.cx_laws_keys.proofs.Lists.{all-append}
-use Rattle.cx_laws_keys.proofs.Premises.{AreGranted, granted-first}
-use Rattle.cx_laws_keys.proofs.Reading.{authorize_no_connection, authorize_no_info, authorize_no_reply}
-use Rattle.cx_laws_keys.proofs.Uses.{AtDaemon, Connected, Login, Means, Ticketed, Uses, WholeRun}
+use Rattle.cx_laws_login.specs.cx_laws_keys.proofs.Known.{HasReply, Inv, IsAllowed}
+use Rattle.cx_laws_login.specs.cx_laws_keys.proofs.Lists.{all-append}
+use Rattle.cx_laws_login.specs.cx_laws_keys.proofs.Premises.{AreGranted, granted-first}
+use Rattle.cx_laws_login.specs.cx_laws_keys.proofs.Reading.{authorize_no_connection, authorize_no_info, authorize_no_reply}
+use Rattle.cx_laws_login.specs.cx_laws_keys.proofs.Uses.{AtDaemon, Connected, Login, Means, Ticketed, Uses, WholeRun}
 use Rattle.cx_laws_login.proofs.AskerRows.{NeverExcepted}
 use Rattle.cx_laws_login.proofs.Facts.{HasConnection, IsSameWay, seals-own}
 use Rattle.cx_laws_login.proofs.Opens.{unlocked-allowed, unlocked_says}

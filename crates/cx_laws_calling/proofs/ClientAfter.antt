@@ -7,13 +7,13 @@ use Rattle.cx_base.specs.Names.{Name, same_name}
 use Rattle.cx_base.specs.declared.nodes.NodeName.{NodeName}
 use Rattle.cx_base.specs.declared.nodes.NodeName.TheVariants as node
 use Rattle.cx_base.specs.declared.operations.Operation.{Operation}
-use Rattle.cx_journal.specs.Behind.{EachBehind}
-use Rattle.cx_journal.specs.declared.entries.Entry.{Entry}
-use Rattle.cx_journal.specs.declared.entries.Entry.TheVariants as journal
-use Rattle.cx_journal.specs.declared.faults.BytesFault.{BytesFault}
-use Rattle.cx_journal.specs.declared.outcomes.Reason.{Reason}
-use Rattle.cx_journal.specs.declared.outcomes.Reason.TheVariants as reason
-use Rattle.cx_login.specs.Held.{Held}
+use Rattle.cx_laws_login.specs.cx_journal.specs.Behind.{EachBehind}
+use Rattle.cx_laws_login.specs.cx_journal.specs.declared.entries.Entry.{Entry}
+use Rattle.cx_laws_login.specs.cx_journal.specs.declared.entries.Entry.TheVariants as journal
+use Rattle.cx_laws_login.specs.cx_journal.specs.declared.faults.BytesFault.{BytesFault}
+use Rattle.cx_laws_login.specs.cx_journal.specs.declared.outcomes.Reason.{Reason}
+use Rattle.cx_laws_login.specs.cx_journal.specs.declared.outcomes.Reason.TheVariants as reason
+use Rattle.cx_laws_login.specs.cx_login.specs.Held.{Held}
 use Rattle.cx_laws_login.specs.cx_rules.specs.Connector as connector
 use Rattle.cx_laws_login.specs.cx_rules.specs.Connector.{AskerArrival, AskerRow}
 use Rattle.cx_laws_login.specs.cx_rules.specs.Greetings.{own_banner}
@@ -24,16 +24,16 @@ use Rattle.cx_laws_login.specs.cx_rules.specs.Requests.{Requests, first_open, op
 use Rattle.cx_laws_login.specs.cx_rules.specs.Rows.{Arrival, Outcome, Row, Turned, Waits, Refuses, Handles, arrival, fed, forgotten, goes_on, lifted, new_link, refused_entry, secure_sent}
 use Rattle.cx_laws_login.specs.cx_rules.specs.Secured.{SealedFrame, Secured, secure_frame}
 use Rattle.cx_laws_login.specs.cx_rules.specs.declared.requests.Want.TheVariants as want
-use Rattle.cx_rules_session.specs.ClientRule.{ClientStage, ToMonitor, ToDaemon, Dial, ForLogin, ForCall, WholeClient, WholeClientNode, asking_open, call_open, call_or, caller_to, calls, dial_of, first_call, first_stage, having_session, is_for, is_for_login, is_open, is_to_monitor, logs_in, loses, me, open_to_ask, opens_dialled, own_behind_gone, restarted, sent_entry, undialled, whole_client_rule, with_asker, with_caller}
-use Rattle.cx_rules_session.specs.Kinds.{arrival_in, entered_before, of_kind, row_of_kind, turn_of_kind}
-use Rattle.cx_rules_session.specs.Presenter as call
-use Rattle.cx_rules_session.specs.Presenter.{CallArrival, CallRow, CallStage, Caller, callee_of}
-use Rattle.cx_rules_session.specs.Sessions.{Called, Callee, HeldSession, held_gid, operation_message, put_session, session_with, ticket_for, with_session}
+use Rattle.cx_run.specs.cx_rules_session.specs.ClientRule.{ClientStage, ToMonitor, ToDaemon, Dial, ForLogin, ForCall, WholeClient, WholeClientNode, asking_open, call_open, call_or, caller_to, calls, dial_of, first_call, first_stage, having_session, is_for, is_for_login, is_open, is_to_monitor, logs_in, loses, me, open_to_ask, opens_dialled, own_behind_gone, restarted, sent_entry, undialled, whole_client_rule, with_asker, with_caller}
+use Rattle.cx_run.specs.cx_rules_session.specs.Kinds.{arrival_in, entered_before, of_kind, row_of_kind, turn_of_kind}
+use Rattle.cx_run.specs.cx_rules_session.specs.Presenter as call
+use Rattle.cx_run.specs.cx_rules_session.specs.Presenter.{CallArrival, CallRow, CallStage, Caller, callee_of}
+use Rattle.cx_run.specs.cx_rules_session.specs.Sessions.{Called, Callee, HeldSession, held_gid, operation_message, put_session, session_with, ticket_for, with_session}
 use Rattle.cx_session.specs.Queue.{pushed}
-use Rattle.cx_steps.specs.declared.events.Command.TheVariants as command
-use Rattle.cx_steps.specs.declared.events.Peer.{Peer}
-use Rattle.cx_steps.specs.declared.seals.Logged.{Logged}
-use Rattle.cx_wire.specs.declared.bodies.Request.TheVariants as asked
+use Rattle.cx_laws_login.specs.cx_steps.specs.declared.events.Command.TheVariants as command
+use Rattle.cx_laws_login.specs.cx_steps.specs.declared.events.Peer.{Peer}
+use Rattle.cx_laws_login.specs.cx_steps.specs.declared.seals.Logged.{Logged}
+use Rattle.cx_laws_login.specs.cx_wire.specs.declared.bodies.Request.TheVariants as asked
 use Rattle.cx_run.proofs.Taking.{EachRow}
 use Rattle.cx_laws_calling.proofs.Asking.{Holds, HoldsWhere, LinkSessions, asker-holds}
 use Rattle.cx_laws_calling.proofs.CallSeals.{LinkCalls, Seals, TurnSeals, call-seals}
@@ -41,12 +41,12 @@ use Rattle.cx_laws_calling.proofs.Sessions.{CallKeys, ClientStageOk, DialOk, Gue
 use Rattle.cx_run.proofs.CallKeeps.{IsCallEntry, Leaves, call-takes}
 use Rattle.cx_run.proofs.Outcomes.{EachOutcome, IsNoTicket, asker_turn, call_turn, on_link, renewed, sent_in, step-keeps}
 use Rattle.cx_run.specs.Calling.{IsNoCall}
-use Rattle.cx_laws_keys.proofs.Journal.{After, EntryLaw, IsNotIssued, IsOfLogin, entered, login-law, own-other}
-use Rattle.cx_laws_keys.proofs.Known.{Inv}
-use Rattle.cx_laws_keys.proofs.Lists.{all-append, all-map, found_all}
-use Rattle.cx_laws_keys.proofs.Premises.{AreGranted, behind}
-use Rattle.cx_laws_keys.proofs.Steps.{inv-all, inv-entered}
-use Rattle.cx_laws_keys.proofs.Uses.{Grows, Uses, WholeRun, stays}
+use Rattle.cx_laws_login.specs.cx_laws_keys.proofs.Journal.{After, EntryLaw, IsNotIssued, IsOfLogin, entered, login-law, own-other}
+use Rattle.cx_laws_login.specs.cx_laws_keys.proofs.Known.{Inv}
+use Rattle.cx_laws_login.specs.cx_laws_keys.proofs.Lists.{all-append, all-map, found_all}
+use Rattle.cx_laws_login.specs.cx_laws_keys.proofs.Premises.{AreGranted, behind}
+use Rattle.cx_laws_login.specs.cx_laws_keys.proofs.Steps.{inv-all, inv-entered}
+use Rattle.cx_laws_login.specs.cx_laws_keys.proofs.Uses.{Grows, Uses, WholeRun, stays}
 use Rattle.cx_laws_login.proofs.AskerRows.{NeverExcepted, asker_says}
 use Rattle.cx_laws_login.proofs.AskerTurns as asker_turns
 use Rattle.cx_laws_login.proofs.Facts.{AskerOk, AskerStageOk, HasConnection, HasMonitorKey, asker-entered, none-fetched, seals-monitor, seals-own}

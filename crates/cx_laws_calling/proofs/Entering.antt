@@ -4,10 +4,10 @@ use Rattle.std.specs.Prelude.{if◌then◌else◌}
 use Rattle.std.specs.List.{AllByRecursion}
 use Rattle.cx_base.specs.Names.{Name}
 use Rattle.cx_base.specs.declared.operations.Operation.{Operation}
-use Rattle.cx_journal.specs.declared.entries.Entry.{Entry}
-use Rattle.cx_journal.specs.declared.entries.Entry.TheVariants as journal
-use Rattle.cx_journal.specs.declared.faults.BytesFault.{BytesFault}
-use Rattle.cx_journal.specs.declared.outcomes.Reason.TheVariants as reason
+use Rattle.cx_laws_login.specs.cx_journal.specs.declared.entries.Entry.{Entry}
+use Rattle.cx_laws_login.specs.cx_journal.specs.declared.entries.Entry.TheVariants as journal
+use Rattle.cx_laws_login.specs.cx_journal.specs.declared.faults.BytesFault.{BytesFault}
+use Rattle.cx_laws_login.specs.cx_journal.specs.declared.outcomes.Reason.TheVariants as reason
 use Rattle.cx_rotate.specs.declared.views.View.{View}
 use Rattle.cx_laws_login.specs.cx_rules.specs.Connector as connector
 use Rattle.cx_laws_login.specs.cx_rules.specs.Holdings.{Asker}
@@ -17,20 +17,20 @@ use Rattle.cx_laws_login.specs.cx_rules.specs.Requests.{Requests, request_messag
 use Rattle.cx_laws_login.specs.cx_rules.specs.Rows.{Outcome, Turned, Waits, Refuses, Handles, arrival, carried_out, lifted, refused_entry, secure_sent, turns}
 use Rattle.cx_laws_login.specs.cx_rules.specs.Secured.{SealedFrame, Secured, secure_frame}
 use Rattle.cx_laws_login.specs.cx_rules.specs.declared.requests.Want.TheVariants as want
-use Rattle.cx_rules_session.specs.ClientRule.{ClientStage, ToMonitor, ToDaemon, WholeClientNode, caller_to, having_session, is_open, loses, me, open_to_ask, own_behind_gone, sent_entry, whole_client_rule, with_asker, with_caller}
-use Rattle.cx_rules_session.specs.Kinds.{arrival_in, entered_before, turn_of_kind}
-use Rattle.cx_rules_session.specs.Presenter as call
-use Rattle.cx_rules_session.specs.Presenter.{CallStage, Caller, callee_of}
-use Rattle.cx_rules_session.specs.Sessions.{Callee, HeldSession, operation_message}
+use Rattle.cx_run.specs.cx_rules_session.specs.ClientRule.{ClientStage, ToMonitor, ToDaemon, WholeClientNode, caller_to, having_session, is_open, loses, me, open_to_ask, own_behind_gone, sent_entry, whole_client_rule, with_asker, with_caller}
+use Rattle.cx_run.specs.cx_rules_session.specs.Kinds.{arrival_in, entered_before, turn_of_kind}
+use Rattle.cx_run.specs.cx_rules_session.specs.Presenter as call
+use Rattle.cx_run.specs.cx_rules_session.specs.Presenter.{CallStage, Caller, callee_of}
+use Rattle.cx_run.specs.cx_rules_session.specs.Sessions.{Callee, HeldSession, operation_message}
 use Rattle.cx_session.specs.Queue.{pushed}
-use Rattle.cx_wire.specs.declared.bodies.Request.TheVariants as asked
+use Rattle.cx_laws_login.specs.cx_wire.specs.declared.bodies.Request.TheVariants as asked
 use Rattle.cx_run.proofs.Taking.{EachRow}
 use Rattle.cx_run.proofs.CallKeeps.{IsCallEntry, Leaves, call-takes}
 use Rattle.cx_run.proofs.Outcomes.{EachOutcome, asker_turn, call_turn, on_link, renewed, sent_in, step-keeps}
-use Rattle.cx_laws_keys.proofs.Journal.{IsNotIssued, IsOfLogin}
-use Rattle.cx_laws_keys.proofs.Lists.{all-map}
-use Rattle.cx_laws_keys.proofs.Viewing.{ShowsAlong, ShowsStill, still-along, viewed-own}
-use Rattle.cx_laws_keys.specs.LooksLast.{nothing_viewed}
+use Rattle.cx_laws_login.specs.cx_laws_keys.proofs.Journal.{IsNotIssued, IsOfLogin}
+use Rattle.cx_laws_login.specs.cx_laws_keys.proofs.Lists.{all-map}
+use Rattle.cx_laws_login.specs.cx_laws_keys.proofs.Viewing.{ShowsAlong, ShowsStill, still-along, viewed-own}
+use Rattle.cx_laws_login.specs.cx_laws_keys.specs.LooksLast.{nothing_viewed}
 use Rattle.cx_laws_login.proofs.NoTickets.{IsOfAsker, RowOfAsker, none-turned}
 use Rattle.cx_laws_login.proofs.Proving.{RowOf}
 use Rattle.cx_laws_calling.proofs.ClientAfter.{of-login}

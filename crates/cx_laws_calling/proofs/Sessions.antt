@@ -8,16 +8,16 @@ use Rattle.cx_base.specs.declared.kinds.EntityType.{EntityType}
 use Rattle.cx_base.specs.declared.kinds.EntityType.TheVariants.{Mon, Mds, Osd, Client, Mgr, Auth}
 use Rattle.cx_base.specs.declared.nodes.NodeName.{NodeName}
 use Rattle.cx_base.specs.declared.nodes.NodeName.TheVariants as node
-use Rattle.cx_login.specs.Held.{Held}
-use Rattle.cx_login.specs.declared.client.LoggedIn.{LoggedIn}
+use Rattle.cx_laws_login.specs.cx_login.specs.Held.{Held}
+use Rattle.cx_laws_login.specs.cx_login.specs.declared.client.LoggedIn.{LoggedIn}
 use Rattle.cx_laws_login.specs.cx_rules.specs.Connector as connector
 use Rattle.cx_laws_login.specs.cx_rules.specs.Holdings.{Holdings, held_login, holds_nothing, of_gid, put_ticket, put_tickets}
-use Rattle.cx_rules_session.specs.ClientRule.{ClientStage, ToMonitor, ToDaemon, Dial, ForLogin, ForCall}
-use Rattle.cx_rules_session.specs.Presenter as call
-use Rattle.cx_rules_session.specs.Presenter.{CallStage}
-use Rattle.cx_rules_session.specs.Sessions.{Callee, ticket_for}
-use Rattle.cx_laws_keys.proofs.Lists.{all-map}
-use Rattle.cx_laws_keys.proofs.Uses.{AtDaemon, Connected, Grows, Login, Means, Ticketed, Uses, WholeRun}
+use Rattle.cx_run.specs.cx_rules_session.specs.ClientRule.{ClientStage, ToMonitor, ToDaemon, Dial, ForLogin, ForCall}
+use Rattle.cx_run.specs.cx_rules_session.specs.Presenter as call
+use Rattle.cx_run.specs.cx_rules_session.specs.Presenter.{CallStage}
+use Rattle.cx_run.specs.cx_rules_session.specs.Sessions.{Callee, ticket_for}
+use Rattle.cx_laws_login.specs.cx_laws_keys.proofs.Lists.{all-map}
+use Rattle.cx_laws_login.specs.cx_laws_keys.proofs.Uses.{AtDaemon, Connected, Grows, Login, Means, Ticketed, Uses, WholeRun}
 use Rattle.cx_laws_login.proofs.Facts.{AskerStageOk, HasConnection, asker_stage-grows, connection-grows}
 
 -- links to daemons are asked for in this run

@@ -3,18 +3,18 @@ use Rattle.std.proofs.Common.{◌≡◌, ℕ, List, [], ◌∷◌, Some, inr, re
 use Rattle.cx_base.specs.Names.{Name}
 use Rattle.cx_base.specs.declared.nodes.NodeName.{NodeName}
 use Rattle.cx_base.specs.declared.nodes.NodeName.TheVariants as node
-use Rattle.cx_journal.specs.declared.entries.Entry.{Entry}
-use Rattle.cx_journal.specs.declared.premises.KeyKind.TheVariants as kind
-use Rattle.cx_login.specs.Held.{Held, held_as}
-use Rattle.cx_login.specs.Unlocking.{Unlocked, ◌>>=◌, login_of_parts, made, told, told_each, unlocked}
-use Rattle.cx_login.specs.declared.client.LoggedIn.{LoggedIn}
-use Rattle.cx_sealed.specs.Records.{connection_secret_layout, ticket_info_layout}
-use Rattle.cx_sealed.specs.declared.connection_secret.ConnectionSecret.{ConnectionSecret}
-use Rattle.cx_sealed.specs.declared.ticket_info.TicketInfo.{TicketInfo}
-use Rattle.cx_steps.specs.declared.seals.Logged.{Logged}
-use Rattle.cx_wire.specs.declared.tickets.TicketPart.{TicketPart}
+use Rattle.cx_laws_login.specs.cx_journal.specs.declared.entries.Entry.{Entry}
+use Rattle.cx_laws_login.specs.cx_journal.specs.declared.premises.KeyKind.TheVariants as kind
+use Rattle.cx_laws_login.specs.cx_login.specs.Held.{Held, held_as}
+use Rattle.cx_laws_login.specs.cx_login.specs.Unlocking.{Unlocked, ◌>>=◌, login_of_parts, made, told, told_each, unlocked}
+use Rattle.cx_laws_login.specs.cx_login.specs.declared.client.LoggedIn.{LoggedIn}
+use Rattle.cx_laws_login.specs.cx_sealed.specs.Records.{connection_secret_layout, ticket_info_layout}
+use Rattle.cx_laws_login.specs.cx_sealed.specs.declared.connection_secret.ConnectionSecret.{ConnectionSecret}
+use Rattle.cx_laws_login.specs.cx_sealed.specs.declared.ticket_info.TicketInfo.{TicketInfo}
+use Rattle.cx_laws_login.specs.cx_steps.specs.declared.seals.Logged.{Logged}
+use Rattle.cx_laws_login.specs.cx_wire.specs.declared.tickets.TicketPart.{TicketPart}
 use Rattle.cx_laws_calling.proofs.Sessions.{AreSessions, IsLoginKey, IsSession}
-use Rattle.cx_laws_keys.proofs.Uses.{Login, Means, Secret, Ticketed, Uses, WholeRun}
+use Rattle.cx_laws_login.specs.cx_laws_keys.proofs.Uses.{Login, Means, Secret, Ticketed, Uses, WholeRun}
 use Rattle.cx_laws_login.proofs.AskerRows.{NeverExcepted, Tells, auth-tells, each-allowed, tells-then, told-allowed}
 use Rattle.cx_laws_login.proofs.Opens.{unlocked-allowed, unlocked_says}
 

@@ -2,11 +2,11 @@
 use Rattle.std.proofs.Common.{Bool, true, false, ℕ, List, [], ◌∷◌, length, Option, Some, None, Result, Ok, Err}
 use Rattle.std.specs.Prelude.{nat_le, if◌then◌else◌}
 use Rattle.std.specs.List.{AllByRecursion}
-use Rattle.cx_desk.specs.Handlers.{Handlers}
-use Rattle.cx_journal.specs.declared.entries.Entry.{Entry}
-use Rattle.cx_journal.specs.declared.entries.Entry.TheVariants as entry
-use Rattle.cx_journal.specs.declared.outcomes.Reason.{Reason}
-use Rattle.cx_journal.specs.declared.outcomes.Reason.TheVariants.{LinksFull, Lost}
+use Rattle.cx_laws_calling.specs.cx_desk.specs.Handlers.{Handlers}
+use Rattle.cx_laws_calling.specs.cx_journal.specs.declared.entries.Entry.{Entry}
+use Rattle.cx_laws_calling.specs.cx_journal.specs.declared.entries.Entry.TheVariants as entry
+use Rattle.cx_laws_calling.specs.cx_journal.specs.declared.outcomes.Reason.{Reason}
+use Rattle.cx_laws_calling.specs.cx_journal.specs.declared.outcomes.Reason.TheVariants.{LinksFull, Lost}
 use Rattle.cx_laws_calling.specs.cx_rules.specs.Acceptor.{AwaitsBanner, AwaitsHello, AwaitsRequest, AwaitsProof, AwaitsSignature, AwaitsIdent, Open}
 use Rattle.cx_laws_calling.specs.cx_rules.specs.Connector as connector
 use Rattle.cx_laws_calling.specs.cx_rules.specs.Greetings.{own_banner}
@@ -26,16 +26,16 @@ use Rattle.cx_laws_calling.specs.cx_rules_session.specs.Kinds.{arrival_in, turn_
 use Rattle.cx_session.specs.declared.call.BookCall.TheVariants.{End}
 use Rattle.cx_session.specs.declared.call.BookReply.{BookReply}
 use Rattle.cx_session.specs.declared.call.BookReply.TheVariants as reply
-use Rattle.cx_steps.specs.declared.events.Command.{Command}
-use Rattle.cx_steps.specs.declared.events.Command.TheVariants as command
-use Rattle.cx_steps.specs.declared.events.Peer.{Peer}
-use Rattle.cx_steps.specs.declared.events.Peer.TheVariants as peer
-use Rattle.cx_wire.specs.declared.bodies.Request.TheVariants as asked
+use Rattle.cx_laws_calling.specs.cx_steps.specs.declared.events.Command.{Command}
+use Rattle.cx_laws_calling.specs.cx_steps.specs.declared.events.Command.TheVariants as command
+use Rattle.cx_laws_calling.specs.cx_steps.specs.declared.events.Peer.{Peer}
+use Rattle.cx_laws_calling.specs.cx_steps.specs.declared.events.Peer.TheVariants as peer
+use Rattle.cx_laws_calling.specs.cx_wire.specs.declared.bodies.Request.TheVariants as asked
 use Rattle.cx_laws_calling.specs.cx_run.specs.Happenings.{EntityNode, OfClient, OfDaemon, entity_rule}
 use Rattle.cx_laws_calling.specs.cx_run.proofs.GuestTakes.{Always, IssuesNone, StaysGuest, TakesHosted, always-book, always-map, always-weaker, guest-takes}
 use Rattle.cx_laws_calling.specs.cx_run.proofs.Taking.{EachRow}
-use Rattle.cx_laws_keys.proofs.Journal.{IsNotIssued}
-use Rattle.cx_laws_keys.proofs.Lists.{all-map}
+use Rattle.cx_laws_calling.specs.cx_laws_keys.proofs.Journal.{IsNotIssued}
+use Rattle.cx_laws_calling.specs.cx_laws_keys.proofs.Lists.{all-map}
 use Rattle.cx_laws_calling.proofs.Entering.{whole-none}
 use Rattle.cx_laws_calling.specs.cx_laws_login.proofs.NoTickets.{IsOfAsker, RowOfAsker, none-turned}
 use Rattle.cx_laws_calling.specs.cx_laws_login.proofs.Proving.{RowOf}

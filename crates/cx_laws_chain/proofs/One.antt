@@ -4,9 +4,9 @@ use Rattle.std.specs.Prelude.{Contains, nat_lt, if◌then◌else◌}
 use Rattle.std.specs.List.{AllByRecursion}
 use Rattle.std.proofs.lemmas.List.Elements.{Contains-append_cases, Contains-push_cases}
 use Rattle.cx_base.specs.declared.kinds.EntityType.{EntityType}
-use Rattle.cx_journal.specs.declared.entries.Entry.TheVariants as journal
-use Rattle.cx_journal.specs.declared.entries.Issued.{Issued}
-use Rattle.cx_keyserver.specs.Issuing.{current_at}
+use Rattle.cx_laws_calling.specs.cx_journal.specs.declared.entries.Entry.TheVariants as journal
+use Rattle.cx_laws_calling.specs.cx_journal.specs.declared.entries.Issued.{Issued}
+use Rattle.cx_laws_calling.specs.cx_keyserver.specs.Issuing.{current_at}
 use Rattle.cx_rotate.specs.declared.generations.Generation.{Generation}
 use Rattle.cx_laws_calling.specs.cx_run.specs.Happenings.{Happening}
 use Rattle.cx_laws_calling.specs.cx_run.specs.Opening.{Setup}

@@ -8,9 +8,9 @@ use Rattle.cx_base.specs.declared.kinds.EntityType.TheVariants.{Mon, Mds, Osd, C
 use Rattle.cx_base.specs.declared.nodes.NodeName.{NodeName}
 use Rattle.cx_base.specs.declared.nodes.NodeName.TheVariants as node
 use Rattle.cx_dice.specs.Draws.{rotation_of}
-use Rattle.cx_keyring.specs.declared.entries.Entry.{Entry as Principal}
-use Rattle.cx_keyserver.specs.Servers.{generations_of, life_of, rotated_of}
-use Rattle.cx_line_words.specs.declared.choices.LeftState.{LeftState}
+use Rattle.cx_laws_calling.specs.cx_keyring.specs.declared.entries.Entry.{Entry as Principal}
+use Rattle.cx_laws_calling.specs.cx_keyserver.specs.Servers.{generations_of, life_of, rotated_of}
+use Rattle.cx_laws_calling.specs.cx_line_words.specs.declared.choices.LeftState.{LeftState}
 use Rattle.cx_rotate.specs.Rotation.{rotated}
 use Rattle.cx_rotate.specs.declared.generations.Generation.{Generation}
 use Rattle.cx_rotate.specs.declared.states.KeptState.{KeptState}
@@ -23,7 +23,7 @@ use Rattle.cx_laws_chain.proofs.Rotating.{AreThree, Rotates, rotates-on}
 use Rattle.cx_laws_chain.proofs.Rows.{AreUnder, StateGoesOn}
 use Rattle.cx_laws_chain.proofs.Steps.{ComesOn, EventBegins, event-goes_on}
 use Rattle.cx_laws_chain.specs.Chain.{Added, AreSpaced, BecomesLost, BecomesSaved, Chain, HasChain, IsAddedAt, IsChained, IsMadeUnder, StaysInMemory, all_in, chain_behind, life_in, no_chain, ring_in, three_newest}
-use Rattle.cx_laws_keys.proofs.Journal.{IsNotIssued}
+use Rattle.cx_laws_calling.specs.cx_laws_keys.proofs.Journal.{IsNotIssued}
 use Rattle.cx_laws_chain.proofs.NoDaemonTickets.{entity-none}
 use Rattle.cx_laws_calling.specs.cx_laws_login.proofs.Proving.{none-issued}
 

@@ -4,43 +4,43 @@ use Rattle.std.specs.Prelude.{Contains, find, not, if◌then◌else◌}
 use Rattle.std.specs.List.{AllByRecursion, list_any}
 use Rattle.cx_base.specs.declared.kinds.EntityType.{EntityType}
 use Rattle.cx_base.specs.declared.kinds.EntityType.TheVariants.{Mon, Mds, Osd, Client, Mgr, Auth}
-use Rattle.cx_control.specs.Auth.{auth_reply_more_layout, auth_request_layout, auth_request_more_layout, auth_signature_layout}
-use Rattle.cx_control.specs.Hello.{hello_layout}
-use Rattle.cx_control.specs.Idents.{client_ident_layout, ident_missing_features_layout}
-use Rattle.cx_control.specs.Reconnects.{session_reconnect_layout}
-use Rattle.cx_control.specs.Upkeep.{keepalive2_layout, keepalive2_ack_layout}
-use Rattle.cx_control.specs.declared.auth.AuthRequest.{AuthRequest}
-use Rattle.cx_control.specs.declared.auth.AuthRequestMore.{AuthRequestMore}
-use Rattle.cx_control.specs.declared.auth.AuthSignature.{AuthSignature}
-use Rattle.cx_control.specs.declared.hello.Hello.{Hello}
-use Rattle.cx_control.specs.declared.idents.ClientIdent.{ClientIdent}
-use Rattle.cx_control.specs.declared.reconnects.SessionReconnect.{SessionReconnect}
-use Rattle.cx_control.specs.declared.upkeep.Keepalive2.{Keepalive2}
-use Rattle.cx_control.specs.declared.upkeep.Keepalive2Ack.{Keepalive2Ack}
+use Rattle.cx_laws_calling.specs.cx_control.specs.Auth.{auth_reply_more_layout, auth_request_layout, auth_request_more_layout, auth_signature_layout}
+use Rattle.cx_laws_calling.specs.cx_control.specs.Hello.{hello_layout}
+use Rattle.cx_laws_calling.specs.cx_control.specs.Idents.{client_ident_layout, ident_missing_features_layout}
+use Rattle.cx_laws_calling.specs.cx_control.specs.Reconnects.{session_reconnect_layout}
+use Rattle.cx_laws_calling.specs.cx_control.specs.Upkeep.{keepalive2_layout, keepalive2_ack_layout}
+use Rattle.cx_laws_calling.specs.cx_control.specs.declared.auth.AuthRequest.{AuthRequest}
+use Rattle.cx_laws_calling.specs.cx_control.specs.declared.auth.AuthRequestMore.{AuthRequestMore}
+use Rattle.cx_laws_calling.specs.cx_control.specs.declared.auth.AuthSignature.{AuthSignature}
+use Rattle.cx_laws_calling.specs.cx_control.specs.declared.hello.Hello.{Hello}
+use Rattle.cx_laws_calling.specs.cx_control.specs.declared.idents.ClientIdent.{ClientIdent}
+use Rattle.cx_laws_calling.specs.cx_control.specs.declared.reconnects.SessionReconnect.{SessionReconnect}
+use Rattle.cx_laws_calling.specs.cx_control.specs.declared.upkeep.Keepalive2.{Keepalive2}
+use Rattle.cx_laws_calling.specs.cx_control.specs.declared.upkeep.Keepalive2Ack.{Keepalive2Ack}
 use Rattle.cx_dice.specs.Draws.{challenge_of, connection_of, session_of}
 use Rattle.cx_enc.specs.declared.keys.Key.{Key}
 use Rattle.cx_frame.specs.declared.frame.Frame.{Frame}
-use Rattle.cx_journal.specs.declared.entries.Entry.{Entry}
+use Rattle.cx_laws_calling.specs.cx_journal.specs.declared.entries.Entry.{Entry}
 use Rattle.cx_base.specs.declared.nodes.NodeName.TheVariants as node
-use Rattle.cx_journal.specs.declared.entries.Entry.TheVariants as journal
-use Rattle.cx_journal.specs.declared.entries.Issued.{Issued}
-use Rattle.cx_journal.specs.declared.faults.BytesFault.{BytesFault}
-use Rattle.cx_journal.specs.declared.faults.BytesFault.TheVariants.{Unexpected}
-use Rattle.cx_journal.specs.declared.faults.LoginFault.{LoginFault}
-use Rattle.cx_journal.specs.declared.faults.LoginFault.TheVariants.{Method, Mode, SignatureWrong}
-use Rattle.cx_journal.specs.declared.faults.LoginFault.TheVariants as login
-use Rattle.cx_journal.specs.declared.outcomes.Reason.{Reason}
-use Rattle.cx_journal.specs.declared.outcomes.Reason.TheVariants.{Login}
-use Rattle.cx_keyring.specs.Entries.{is_named}
-use Rattle.cx_keyring.specs.declared.entries.Entry.{Entry as Principal}
-use Rattle.cx_keyserver.specs.Servers.{Server, generations_of, life_of, rotated_of, rotated_server, rotated_state, secrets_of}
-use Rattle.cx_keyserver.specs.declared.refusals.NotADaemon.{NotADaemon}
-use Rattle.cx_keyserver.specs.declared.tickets.Ticket.{Ticket}
-use Rattle.cx_login.specs.Monitor.{Offer, Proven, kept_gid, proof_found, proving, reclaimed}
-use Rattle.cx_login.specs.Proving.{due_proof}
-use Rattle.cx_login.specs.Unlocking.{old_ticket}
-use Rattle.cx_login.specs.declared.monitor.Reclaim.{Reclaim}
-use Rattle.cx_login.specs.declared.monitor.Reclaim.TheVariants as reclaim
+use Rattle.cx_laws_calling.specs.cx_journal.specs.declared.entries.Entry.TheVariants as journal
+use Rattle.cx_laws_calling.specs.cx_journal.specs.declared.entries.Issued.{Issued}
+use Rattle.cx_laws_calling.specs.cx_journal.specs.declared.faults.BytesFault.{BytesFault}
+use Rattle.cx_laws_calling.specs.cx_journal.specs.declared.faults.BytesFault.TheVariants.{Unexpected}
+use Rattle.cx_laws_calling.specs.cx_journal.specs.declared.faults.LoginFault.{LoginFault}
+use Rattle.cx_laws_calling.specs.cx_journal.specs.declared.faults.LoginFault.TheVariants.{Method, Mode, SignatureWrong}
+use Rattle.cx_laws_calling.specs.cx_journal.specs.declared.faults.LoginFault.TheVariants as login
+use Rattle.cx_laws_calling.specs.cx_journal.specs.declared.outcomes.Reason.{Reason}
+use Rattle.cx_laws_calling.specs.cx_journal.specs.declared.outcomes.Reason.TheVariants.{Login}
+use Rattle.cx_laws_calling.specs.cx_keyring.specs.Entries.{is_named}
+use Rattle.cx_laws_calling.specs.cx_keyring.specs.declared.entries.Entry.{Entry as Principal}
+use Rattle.cx_laws_calling.specs.cx_keyserver.specs.Servers.{Server, generations_of, life_of, rotated_of, rotated_server, rotated_state, secrets_of}
+use Rattle.cx_laws_calling.specs.cx_keyserver.specs.declared.refusals.NotADaemon.{NotADaemon}
+use Rattle.cx_laws_calling.specs.cx_keyserver.specs.declared.tickets.Ticket.{Ticket}
+use Rattle.cx_laws_calling.specs.cx_login.specs.Monitor.{Offer, Proven, kept_gid, proof_found, proving, reclaimed}
+use Rattle.cx_laws_calling.specs.cx_login.specs.Proving.{due_proof}
+use Rattle.cx_laws_calling.specs.cx_login.specs.Unlocking.{old_ticket}
+use Rattle.cx_laws_calling.specs.cx_login.specs.declared.monitor.Reclaim.{Reclaim}
+use Rattle.cx_laws_calling.specs.cx_login.specs.declared.monitor.Reclaim.TheVariants as reclaim
 use Rattle.cx_rotate.specs.declared.generations.Generation.{Generation}
 use Rattle.cx_rotate.specs.declared.states.KeptState.{KeptState}
 use Rattle.cx_laws_calling.specs.cx_rules.proofs.Granting.{saved-changed}
@@ -64,17 +64,17 @@ use Rattle.cx_laws_calling.specs.cx_rules.specs.declared.responses.Demand.{Deman
 use Rattle.cx_laws_calling.specs.cx_rules.specs.declared.responses.ReplyMade.{ReplyMade}
 use Rattle.cx_laws_calling.specs.cx_rules.specs.declared.responses.Response.{Response}
 use Rattle.cx_laws_calling.specs.cx_rules.specs.declared.responses.Response.TheVariants as response
-use Rattle.cx_steps.specs.declared.seals.DrawMark.TheVariants as draw
-use Rattle.cx_steps.specs.declared.seals.SealEntry.{SealEntry}
-use Rattle.cx_steps.specs.declared.seals.SealEntry.TheVariants.{Drawn}
-use Rattle.cx_wire.specs.Logins.{authenticate_layout, login_hello_layout, server_challenge_layout}
-use Rattle.cx_wire.specs.declared.bodies.Request.{Request}
-use Rattle.cx_wire.specs.declared.bodies.Request.TheVariants as asked
-use Rattle.cx_wire.specs.declared.logins.Authenticate.{Authenticate}
-use Rattle.cx_wire.specs.declared.logins.LoginHello.{LoginHello}
+use Rattle.cx_laws_calling.specs.cx_steps.specs.declared.seals.DrawMark.TheVariants as draw
+use Rattle.cx_laws_calling.specs.cx_steps.specs.declared.seals.SealEntry.{SealEntry}
+use Rattle.cx_laws_calling.specs.cx_steps.specs.declared.seals.SealEntry.TheVariants.{Drawn}
+use Rattle.cx_laws_calling.specs.cx_wire.specs.Logins.{authenticate_layout, login_hello_layout, server_challenge_layout}
+use Rattle.cx_laws_calling.specs.cx_wire.specs.declared.bodies.Request.{Request}
+use Rattle.cx_laws_calling.specs.cx_wire.specs.declared.bodies.Request.TheVariants as asked
+use Rattle.cx_laws_calling.specs.cx_wire.specs.declared.logins.Authenticate.{Authenticate}
+use Rattle.cx_laws_calling.specs.cx_wire.specs.declared.logins.LoginHello.{LoginHello}
 use Rattle.cx_laws_chain.specs.Chain.{IsMadeUnder}
-use Rattle.cx_laws_keys.proofs.Journal.{IsNotIssued}
-use Rattle.cx_laws_keys.proofs.Lists.{all-map, all-of-map}
+use Rattle.cx_laws_calling.specs.cx_laws_keys.proofs.Journal.{IsNotIssued}
+use Rattle.cx_laws_calling.specs.cx_laws_keys.proofs.Lists.{all-map, all-of-map}
 use Rattle.cx_laws_calling.specs.cx_laws_login.proofs.Entering.{issued_of}
 use Rattle.cx_laws_calling.specs.cx_laws_login.proofs.Proving.{RowOf, by-front, of-login}
 use Rattle.cx_laws_calling.specs.cx_laws_login.proofs.Under.{AreOfCurrent, IsOfCurrent, all-under}

@@ -3,10 +3,10 @@ use Rattle.std.proofs.Common.{◌≡◌, ◌⊎◌, ℕ, Bool, true, false, List
 use Rattle.std.specs.Prelude.{nat_le, if◌then◌else◌}
 use Rattle.std.specs.List.{AllByRecursion}
 use Rattle.cx_base.specs.declared.nodes.NodeName.TheVariants as node
-use Rattle.cx_journal.specs.declared.entries.Entry.{Entry}
-use Rattle.cx_journal.specs.declared.outcomes.Reason.TheVariants.{LinksFull}
-use Rattle.cx_line_words.specs.declared.choices.LeftState.{LeftState}
-use Rattle.cx_line_words.specs.declared.choices.LeftState.TheVariants as left
+use Rattle.cx_laws_calling.specs.cx_journal.specs.declared.entries.Entry.{Entry}
+use Rattle.cx_laws_calling.specs.cx_journal.specs.declared.outcomes.Reason.TheVariants.{LinksFull}
+use Rattle.cx_laws_calling.specs.cx_line_words.specs.declared.choices.LeftState.{LeftState}
+use Rattle.cx_laws_calling.specs.cx_line_words.specs.declared.choices.LeftState.TheVariants as left
 use Rattle.cx_rotate.specs.declared.states.KeptState.{KeptState}
 use Rattle.cx_laws_calling.specs.cx_rules.specs.Acceptor.{AwaitsBanner}
 use Rattle.cx_laws_calling.specs.cx_rules.specs.Greetings.{own_banner}
@@ -17,7 +17,7 @@ use Rattle.cx_laws_calling.specs.cx_rules.specs.MonitorRule.{monitor_rule, monit
 use Rattle.cx_laws_calling.specs.cx_rules.specs.Rows.{Outcome, Turned, Waits, Refuses, Handles, arrival, carried_out, fed, goes_on, new_link, refuses, turns}
 use Rattle.cx_laws_calling.specs.cx_run.specs.Happenings.{Nodes, monitor_steps}
 use Rattle.cx_laws_chain.proofs.Rows.{AreUnder, GoesOn, IsBare, IsOfMonitor, RowGoesOn, StateGoesOn, still-goes_on, turned-row}
-use Rattle.cx_laws_keys.proofs.Journal.{IsNotIssued}
+use Rattle.cx_laws_calling.specs.cx_laws_keys.proofs.Journal.{IsNotIssued}
 use Rattle.cx_laws_calling.specs.cx_laws_login.proofs.Proving.{RowOf, none-issued}
 
 -- ---- steps

@@ -4,21 +4,21 @@ use Rattle.std.specs.Prelude.{◌≡◌, ◌⊎◌, ◌≤◌, ◌+◌, ℕ, max
 use Rattle.std.specs.List.{AllByRecursion}
 use Rattle.cx_base.specs.declared.kinds.EntityType.{EntityType}
 use Rattle.cx_base.specs.declared.nodes.NodeName.TheVariants as node
-use Rattle.cx_cbc.specs.Envelope.{sealed}
+use Rattle.cx_laws_calling.specs.cx_cbc.specs.Envelope.{sealed}
 use Rattle.cx_dice.specs.Draws.{has_keys, rotation_of, session_of}
-use Rattle.cx_journal.specs.declared.entries.Entry.TheVariants as entry
-use Rattle.cx_journal.specs.declared.entries.Issued.{Issued}
-use Rattle.cx_keyring.specs.Entries.{is_named}
-use Rattle.cx_keyring.specs.declared.entries.Entry.{Entry as Principal}
-use Rattle.cx_keyserver.specs.Issuing.{caps_for, current_at}
-use Rattle.cx_keyserver.specs.Servers.{generations_of, life_of}
+use Rattle.cx_laws_calling.specs.cx_journal.specs.declared.entries.Entry.TheVariants as entry
+use Rattle.cx_laws_calling.specs.cx_journal.specs.declared.entries.Issued.{Issued}
+use Rattle.cx_laws_calling.specs.cx_keyring.specs.Entries.{is_named}
+use Rattle.cx_laws_calling.specs.cx_keyring.specs.declared.entries.Entry.{Entry as Principal}
+use Rattle.cx_laws_calling.specs.cx_keyserver.specs.Issuing.{caps_for, current_at}
+use Rattle.cx_laws_calling.specs.cx_keyserver.specs.Servers.{generations_of, life_of}
 use Rattle.cx_rotate.specs.Rotation.{rotated}
 use Rattle.cx_rotate.specs.declared.generations.Generation.{Generation}
 use Rattle.cx_laws_calling.specs.cx_run.specs.Happenings.{Happening}
 use Rattle.cx_laws_calling.specs.cx_run.specs.Opening.{Setup, first_state, principal_of}
 use Rattle.cx_laws_calling.specs.cx_run.specs.Points.{EachPoint, Point, entries_at, nodes_past, points}
-use Rattle.cx_sealed.specs.Records.{service_ticket_layout}
-use Rattle.cx_sealed.specs.declared.service_ticket.ServiceTicket.{ServiceTicket}
+use Rattle.cx_laws_calling.specs.cx_sealed.specs.Records.{service_ticket_layout}
+use Rattle.cx_laws_calling.specs.cx_sealed.specs.declared.service_ticket.ServiceTicket.{ServiceTicket}
 
 -- ---- generations one behind the other
 

@@ -17,8 +17,8 @@ use Rattle.cx_laws_truth.specs.cx_laws_fetch.proofs.MonitorMoves.{IsAnyLogin}
 use Rattle.cx_laws_truth.specs.cx_laws_fetch.proofs.PointEvents.{events_of, more-events}
 use Rattle.cx_laws_truth.specs.cx_laws_fetch.proofs.Retied.{Handed}
 use Rattle.cx_laws_truth.specs.cx_laws_fetch.proofs.Words.{said_under}
-use Rattle.cx_laws_keys.proofs.Premises.{behind}
-use Rattle.cx_laws_keys.proofs.Uses.{AtMonitor, Connected, Means, Use, Uses, WholeRun}
+use Rattle.cx_laws_truth.specs.cx_laws_keys.proofs.Premises.{behind}
+use Rattle.cx_laws_truth.specs.cx_laws_keys.proofs.Uses.{AtMonitor, Connected, Means, Use, Uses, WholeRun}
 use Rattle.cx_laws_truth.specs.cx_rules.specs.Connector.{Open}
 use Rattle.cx_laws_truth.specs.cx_rules.specs.Holdings.{Asker}
 use Rattle.cx_laws_truth.specs.cx_rules.specs.Links.{Link}
@@ -28,7 +28,7 @@ use Rattle.cx_laws_truth.specs.cx_rules.specs.Secured.{Secured}
 use Rattle.cx_laws_truth.specs.cx_rules.specs.declared.requests.Want.TheVariants as want
 use Rattle.cx_laws_truth.specs.cx_run.specs.Points.{Point}
 use Rattle.cx_steps.specs.declared.seals.Logged.{Logged}
-use Rattle.cx_wire.specs.declared.bodies.Request.TheVariants as asked
+use Rattle.cx_laws_truth.specs.cx_wire.specs.declared.bodies.Request.TheVariants as asked
 
 -- the link is open, with what it has of its requests
 abbrev pub HasOpen : {S : Type 0} → Uses → List Point → Name → ℕ → (Secured → Requests → S) → Told → List Logged → List ℕ → S → Type 0

@@ -23,10 +23,10 @@ use Rattle.cx_laws_truth.specs.cx_laws_fetch.proofs.RowOthers.{row-others}
 use Rattle.cx_laws_truth.specs.cx_laws_fetch.proofs.RowWords.{AreQuiet, RowSays, quiet-none}
 use Rattle.cx_laws_truth.specs.cx_laws_fetch.proofs.ToldStays.{told-stays}
 use Rattle.cx_laws_truth.specs.cx_laws_fetch.proofs.Words.{said_under}
-use Rattle.cx_laws_keys.proofs.Known.{Inv}
-use Rattle.cx_laws_keys.proofs.Lists.{all-map}
-use Rattle.cx_laws_keys.proofs.Premises.{AreGranted, behind}
-use Rattle.cx_laws_keys.proofs.Uses.{AtMonitor, Connected, Grows, Means, Use, Uses, WholeRun}
+use Rattle.cx_laws_truth.specs.cx_laws_keys.proofs.Known.{Inv}
+use Rattle.cx_laws_truth.specs.cx_laws_keys.proofs.Lists.{all-map}
+use Rattle.cx_laws_truth.specs.cx_laws_keys.proofs.Premises.{AreGranted, behind}
+use Rattle.cx_laws_truth.specs.cx_laws_keys.proofs.Uses.{AtMonitor, Connected, Grows, Means, Use, Uses, WholeRun}
 use Rattle.cx_laws_truth.specs.cx_laws_login.proofs.AskerRows.{NeverExcepted}
 use Rattle.cx_laws_truth.specs.cx_laws_series.proofs.Contents.{contents_by, parts-others}
 use Rattle.cx_laws_truth.specs.cx_laws_series.proofs.Frames.{frame-sealed}

@@ -29,8 +29,8 @@ use Rattle.cx_laws_truth.specs.cx_laws_fetch.proofs.Retied.{Handed}
 use Rattle.cx_laws_truth.specs.cx_laws_fetch.proofs.RowWords.{AreQuiet, opened-quiet}
 use Rattle.cx_laws_truth.specs.cx_laws_fetch.proofs.SameChallenge.{challenge-small}
 use Rattle.cx_laws_truth.specs.cx_laws_fetch.proofs.WrittenFrames.{answer_frame}
-use Rattle.cx_laws_keys.proofs.Premises.{behind}
-use Rattle.cx_laws_keys.proofs.Uses.{Uses, WholeRun}
+use Rattle.cx_laws_truth.specs.cx_laws_keys.proofs.Premises.{behind}
+use Rattle.cx_laws_truth.specs.cx_laws_keys.proofs.Uses.{Uses, WholeRun}
 use Rattle.cx_laws_truth.specs.cx_rules.specs.Connector.{AskerArrival, AskerRow, Stage, AwaitsHello, AwaitsChallenge, AwaitsDone, login_request, on_banner, on_hello}
 use Rattle.cx_laws_truth.specs.cx_rules.specs.Fronts.{ahead_of, banner_next, banner_read, keys_behind, opened_parts, plain_next, plain_read, sealed_ahead, secure_next, secure_read, taking}
 use Rattle.cx_laws_truth.specs.cx_rules.specs.Greetings.{own_hello}
@@ -45,8 +45,8 @@ use Rattle.cx_secure.specs.declared.refusals.SecureRefusal.{SecureRefusal}
 use Rattle.cx_steps.specs.declared.seals.DrawMark.TheVariants as draw
 use Rattle.cx_steps.specs.declared.seals.Logged.{Logged}
 use Rattle.cx_steps.specs.declared.seals.SealEntry.{SealEntry}
-use Rattle.cx_stream.specs.PlainStreams.{plain_frame_at}
-use Rattle.cx_stream.specs.SecureStreams.{secure_frame_at}
+use Rattle.cx_laws_truth.specs.cx_stream.specs.PlainStreams.{plain_frame_at}
+use Rattle.cx_laws_truth.specs.cx_stream.specs.SecureStreams.{secure_frame_at}
 
 module _ (run : WholeRun) (whole : List Logged) (us vs : Uses) (logins : List Handed) (told : Told) (past : List Point) (p : Point) (name : Name) (log : List Logged) (J : List Entry)
     (r : AskerReady run whole us vs logins told past p name log J) (link : ℕ) where

@@ -36,9 +36,9 @@ use Rattle.cx_laws_truth.specs.cx_laws_fetch.proofs.Retied.{Handed}
 use Rattle.cx_laws_truth.specs.cx_laws_fetch.proofs.RowWords.{AreQuiet, opened-quiet, opened-says}
 use Rattle.cx_laws_truth.specs.cx_laws_fetch.proofs.SameChallenge.{TellsReply}
 use Rattle.cx_laws_truth.specs.cx_laws_fetch.proofs.Words.{said_under}
-use Rattle.cx_laws_keys.proofs.Lists.{all-append}
-use Rattle.cx_laws_keys.proofs.Premises.{behind}
-use Rattle.cx_laws_keys.proofs.Uses.{AtMonitor, Connected, Means, Secret, Use, Uses, WholeRun}
+use Rattle.cx_laws_truth.specs.cx_laws_keys.proofs.Lists.{all-append}
+use Rattle.cx_laws_truth.specs.cx_laws_keys.proofs.Premises.{behind}
+use Rattle.cx_laws_truth.specs.cx_laws_keys.proofs.Uses.{AtMonitor, Connected, Means, Secret, Use, Uses, WholeRun}
 use Rattle.cx_laws_truth.specs.cx_rules.specs.Connector.{AskerArrival, AskerRow, Stage, Login, on_bad_method, on_done, on_signature, while_proved}
 use Rattle.cx_laws_truth.specs.cx_rules.specs.Fronts.{keys_behind, opened_parts, sealed_ahead, taking}
 use Rattle.cx_laws_truth.specs.cx_rules.specs.Links.{Link}

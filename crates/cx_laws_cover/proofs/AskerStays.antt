@@ -4,9 +4,9 @@ use Rattle.cx_base.specs.Names.{Name}
 use Rattle.cx_base.specs.declared.nodes.NodeName.{NodeName}
 use Rattle.cx_frame.specs.declared.frame.Frame.{Frame}
 use Rattle.cx_journal.specs.declared.entries.Entry.{Entry}
-use Rattle.cx_laws_keys.proofs.Known.{Inv}
-use Rattle.cx_laws_keys.proofs.Premises.{behind}
-use Rattle.cx_laws_keys.proofs.Uses.{Grows, Login, Means, Use, Uses, WholeRun}
+use Rattle.cx_laws_truth.specs.cx_laws_keys.proofs.Known.{Inv}
+use Rattle.cx_laws_truth.specs.cx_laws_keys.proofs.Premises.{behind}
+use Rattle.cx_laws_truth.specs.cx_laws_keys.proofs.Uses.{Grows, Login, Means, Use, Uses, WholeRun}
 use Rattle.cx_laws_truth.specs.cx_rules.specs.Connector as connector
 use Rattle.cx_laws_truth.specs.cx_rules.specs.Secured.{Secured}
 use Rattle.cx_steps.specs.declared.seals.Logged.{Logged}

@@ -28,9 +28,9 @@ use Rattle.cx_laws_truth.specs.cx_laws_fetch.proofs.PointEvents.{events_of, more
 use Rattle.cx_laws_truth.specs.cx_laws_fetch.proofs.Retied.{Handed}
 use Rattle.cx_laws_truth.specs.cx_laws_fetch.proofs.RowWords.{opened-quiet, opened-says}
 use Rattle.cx_laws_truth.specs.cx_laws_fetch.proofs.Words.{said_under}
-use Rattle.cx_laws_keys.proofs.Lists.{all-append}
-use Rattle.cx_laws_keys.proofs.Premises.{behind, granted-first}
-use Rattle.cx_laws_keys.proofs.Uses.{AtMonitor, Connected, Means, Secret, Use, Uses, WholeRun}
+use Rattle.cx_laws_truth.specs.cx_laws_keys.proofs.Lists.{all-append}
+use Rattle.cx_laws_truth.specs.cx_laws_keys.proofs.Premises.{behind, granted-first}
+use Rattle.cx_laws_truth.specs.cx_laws_keys.proofs.Uses.{AtMonitor, Connected, Means, Secret, Use, Uses, WholeRun}
 use Rattle.cx_laws_truth.specs.cx_rules.specs.Connector.{AskerArrival, AskerRow, Stage, AwaitsBanner, AwaitsHello, AwaitsChallenge, AwaitsDone, AwaitsSignature, AwaitsIdent, Open, on_banner, on_hello, on_signature, turned_at, while_challenged, while_identified, while_proved}
 use Rattle.cx_laws_truth.specs.cx_rules.specs.Fronts.{keys_behind, opened_parts, sealed_ahead, taking}
 use Rattle.cx_laws_truth.specs.cx_rules.specs.Links.{Link}
@@ -42,7 +42,7 @@ use Rattle.cx_laws_truth.specs.cx_run.specs.Points.{Point}
 use Rattle.cx_steps.specs.Premises.{IsExcepted}
 use Rattle.cx_steps.specs.declared.seals.Logged.{Logged}
 use Rattle.cx_steps.specs.declared.seals.SealEntry.{SealEntry}
-use Rattle.cx_stream.specs.SecureStreams.{secure_frame_at}
+use Rattle.cx_laws_truth.specs.cx_stream.specs.SecureStreams.{secure_frame_at}
 use Rattle.cx_laws_cover.proofs.AskerFirst as first
 use Rattle.cx_laws_cover.proofs.AskerSigning.{done-behind, signature-behind}
 

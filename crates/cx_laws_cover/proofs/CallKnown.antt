@@ -9,9 +9,9 @@ use Rattle.cx_base.specs.Names.{Name}
 use Rattle.cx_base.specs.declared.nodes.NodeName.TheVariants as node
 use Rattle.cx_laws_truth.specs.cx_rules_session.specs.Presenter as call
 use Rattle.cx_laws_truth.specs.cx_rules_session.specs.Presenter.{CallStage}
-use Rattle.cx_sealed.specs.Records.{connection_secret_layout}
-use Rattle.cx_sealed.specs.Unsealing.{spelled_by}
-use Rattle.cx_sealed.specs.declared.connection_secret.ConnectionSecret.{ConnectionSecret}
+use Rattle.cx_laws_truth.specs.cx_sealed.specs.Records.{connection_secret_layout}
+use Rattle.cx_laws_truth.specs.cx_sealed.specs.Unsealing.{spelled_by}
+use Rattle.cx_laws_truth.specs.cx_sealed.specs.declared.connection_secret.ConnectionSecret.{ConnectionSecret}
 use Rattle.cx_steps.specs.declared.seals.SealEntry.{SealEntry}
 use Rattle.cx_steps.specs.declared.seals.SealEntry.TheVariants as entry
 use Rattle.cx_laws_truth.specs.cx_laws_fetch.proofs.AskerFacts.{HasHeard, heard-grows}
@@ -20,8 +20,8 @@ use Rattle.cx_laws_truth.specs.cx_laws_fetch.proofs.Later.{of_acceptor, of_conne
 use Rattle.cx_laws_truth.specs.cx_laws_fetch.proofs.Retied.{Handed, means-retied, retied, retied_use}
 use Rattle.cx_laws_truth.specs.cx_laws_fetch.proofs.SameChallenge.{TellsReply}
 use Rattle.cx_laws_truth.specs.cx_laws_fetch.proofs.ToldStays.{SealsNone}
-use Rattle.cx_laws_keys.proofs.Lists.{all-map}
-use Rattle.cx_laws_keys.proofs.Uses.{AtDaemon, AtMonitor, Connected, Generated, Grows, Login, Means, Secret, Ticketed, Use, Uses}
+use Rattle.cx_laws_truth.specs.cx_laws_keys.proofs.Lists.{all-map}
+use Rattle.cx_laws_truth.specs.cx_laws_keys.proofs.Uses.{AtDaemon, AtMonitor, Connected, Generated, Grows, Login, Means, Secret, Ticketed, Use, Uses}
 use Rattle.cx_laws_truth.specs.cx_laws_links.proofs.Written.{IsLinkKey}
 use Rattle.cx_laws_truth.specs.cx_laws_series.proofs.Contents.{content_where, contents_by}
 

@@ -35,8 +35,8 @@ use Rattle.cx_steps.specs.declared.seals.SealEntry.{SealEntry}
 use Rattle.cx_steps.specs.declared.seals.SealEntry.TheVariants as entry
 use Rattle.cx_laws_cover.proofs.CallKnown.{AreHarmless, CallKnown, IsHarmless, IsOfDaemon}
 use Rattle.cx_laws_cover.proofs.CallOpening.{RowKnown, parts-harmless}
-use Rattle.cx_laws_keys.proofs.Lists.{all-append}
-use Rattle.cx_laws_keys.proofs.Uses.{Uses}
+use Rattle.cx_laws_truth.specs.cx_laws_keys.proofs.Lists.{all-append}
+use Rattle.cx_laws_truth.specs.cx_laws_keys.proofs.Uses.{Uses}
 use Rattle.cx_laws_truth.specs.cx_laws_series.proofs.Frames.{frame-sealed}
 
 module _ (us : Uses) where

@@ -2,9 +2,9 @@
 -- under the session key of its ticket and is no connection secret; and what it signs is a HELLO, an AUTH_REPLY_MORE and an AUTH_DONE, whatever ticket it presents.
 use Rattle.std.proofs.Common.{◌≡◌, ℕ, ◌==◌, ◌+◌, Bool, true, false, List, [], ◌∷◌, ◌++◌, take, Option, Some, None, Result, Ok, Err, inl, inr, ◌⊎◌, refl, sym, subst}
 use Rattle.std.specs.Prelude.{if◌then◌else◌, not}
-use Rattle.cx_authorize.specs.Answers.{shown_as}
-use Rattle.cx_authorize.specs.Client.{Answered, Presented, challenge_in, reply_in}
-use Rattle.cx_authorize.specs.Verdict.{raised}
+use Rattle.cx_laws_truth.specs.cx_authorize.specs.Answers.{shown_as}
+use Rattle.cx_laws_truth.specs.cx_authorize.specs.Client.{Answered, Presented, challenge_in, reply_in}
+use Rattle.cx_laws_truth.specs.cx_authorize.specs.Verdict.{raised}
 use Rattle.cx_base.specs.Names.{Name}
 use Rattle.cx_base.specs.declared.kinds.EntityType.{EntityType}
 use Rattle.cx_control.specs.Auth.{auth_done_layout, auth_reply_more_layout, auth_signature_layout}
@@ -22,7 +22,7 @@ use Rattle.cx_journal.specs.declared.outcomes.Reason.{Reason}
 use Rattle.cx_journal.specs.declared.outcomes.Reason.TheVariants as reason
 use Rattle.cx_journal.specs.declared.premises.KeyKind.{KeyKind}
 use Rattle.cx_journal.specs.declared.premises.KeyKind.TheVariants as kind
-use Rattle.cx_login.specs.Unlocking.{unlocked, unlocked_as}
+use Rattle.cx_laws_truth.specs.cx_login.specs.Unlocking.{unlocked, unlocked_as}
 use Rattle.cx_laws_truth.specs.cx_rules.specs.Greetings.{own_hello}
 use Rattle.cx_laws_truth.specs.cx_rules.specs.Links.{Link}
 use Rattle.cx_laws_truth.specs.cx_rules.specs.Payloads.{control, due, payload, whole}
@@ -31,24 +31,24 @@ use Rattle.cx_laws_truth.specs.cx_rules.specs.Secured.{Keys, SealedFrame, connec
 use Rattle.cx_laws_truth.specs.cx_rules_session.specs.Envelopes.{authorize_content, session_sealed}
 use Rattle.cx_laws_truth.specs.cx_rules_session.specs.Presenter.{CallArrival, CallRow, CallStage, AwaitsHello, AwaitsChallenge, AwaitsDone, answers_challenge, first_frame, on_authorize_reply, on_bad_method, on_banner, on_challenge, on_done, on_hello, on_reply_more, on_unlocked, presented, second_frame, signs, while_answered, while_challenged}
 use Rattle.cx_laws_truth.specs.cx_rules_session.specs.Sessions.{Called, Callee}
-use Rattle.cx_sealed.specs.Records as records
-use Rattle.cx_sealed.specs.Unsealing.{unsealed}
-use Rattle.cx_sealed.specs.declared.authorize_challenge.AuthorizeChallenge.{AuthorizeChallenge}
-use Rattle.cx_sealed.specs.declared.authorize_reply.AuthorizeReply.{AuthorizeReply}
-use Rattle.cx_sealed.specs.declared.unsealed.Unsealed.{Unsealed}
+use Rattle.cx_laws_truth.specs.cx_sealed.specs.Records as records
+use Rattle.cx_laws_truth.specs.cx_sealed.specs.Unsealing.{unsealed}
+use Rattle.cx_laws_truth.specs.cx_sealed.specs.declared.authorize_challenge.AuthorizeChallenge.{AuthorizeChallenge}
+use Rattle.cx_laws_truth.specs.cx_sealed.specs.declared.authorize_reply.AuthorizeReply.{AuthorizeReply}
+use Rattle.cx_laws_truth.specs.cx_sealed.specs.declared.unsealed.Unsealed.{Unsealed}
 use Rattle.cx_secure.specs.Plains.{plains}
 use Rattle.cx_steps.specs.declared.seals.DrawMark.TheVariants as draw
 use Rattle.cx_steps.specs.declared.seals.SealEntry.{SealEntry}
 use Rattle.cx_steps.specs.declared.seals.SealEntry.TheVariants as entry
-use Rattle.cx_wire.specs.Logins.{authorize_challenge_layout, authorize_reply_layout}
-use Rattle.cx_wire.specs.declared.authorizers.AuthorizeChallenge as shown_challenge
-use Rattle.cx_wire.specs.declared.authorizers.AuthorizeReply as shown_reply
+use Rattle.cx_laws_truth.specs.cx_wire.specs.Logins.{authorize_challenge_layout, authorize_reply_layout}
+use Rattle.cx_laws_truth.specs.cx_wire.specs.declared.authorizers.AuthorizeChallenge as shown_challenge
+use Rattle.cx_laws_truth.specs.cx_wire.specs.declared.authorizers.AuthorizeReply as shown_reply
 use Rattle.cx_laws_cover.proofs.CallKnown.{AreHarmless, CallKnown, IsHarmless, IsOfDaemon}
 use Rattle.cx_laws_truth.specs.cx_laws_fetch.proofs.AskerFacts.{HasHeard}
 use Rattle.cx_laws_truth.specs.cx_laws_fetch.proofs.WrittenFrames.{due-tag}
-use Rattle.cx_laws_keys.proofs.Lists.{all-append}
-use Rattle.cx_laws_keys.proofs.Reading.{authorize_no_connection}
-use Rattle.cx_laws_keys.proofs.Uses.{AtDaemon, Connected, Login, Means, Ticketed, Uses}
+use Rattle.cx_laws_truth.specs.cx_laws_keys.proofs.Lists.{all-append}
+use Rattle.cx_laws_truth.specs.cx_laws_keys.proofs.Reading.{authorize_no_connection}
+use Rattle.cx_laws_truth.specs.cx_laws_keys.proofs.Uses.{AtDaemon, Connected, Login, Means, Ticketed, Uses}
 use Rattle.cx_laws_truth.specs.cx_laws_series.proofs.Frames.{frame-sealed}
 
 -- the session key of a ticket of some entity, for AUTH or for another service

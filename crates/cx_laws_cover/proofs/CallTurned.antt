@@ -1,6 +1,6 @@
 -- A turn of a client's link to a daemon, in any stage: what is known of the link behind it, and that what it logs is harmless.
 use Rattle.std.proofs.Common.{◌≡◌, ℕ, List, [], ◌∷◌, ◌++◌, map, drop, take, Option, Some, None, Result, Ok, Err, refl, subst, arith, ◌+◌}
-use Rattle.cx_authorize.specs.Client.{reply_in}
+use Rattle.cx_laws_truth.specs.cx_authorize.specs.Client.{reply_in}
 use Rattle.cx_control.specs.Auth.{auth_signature_layout}
 use Rattle.cx_control.specs.Hello.{hello_layout}
 use Rattle.cx_control.specs.declared.hello.Hello.{Hello}
@@ -19,20 +19,20 @@ use Rattle.cx_laws_truth.specs.cx_rules.specs.Payloads.{due}
 use Rattle.cx_laws_truth.specs.cx_rules.specs.Rows.{Turned, Waits, Refuses, Handles, at, turned_by, with_opened}
 use Rattle.cx_laws_truth.specs.cx_rules.specs.Secured.{Keys, under}
 use Rattle.cx_laws_truth.specs.cx_rules_session.specs.Presenter.{CallArrival, CallRow, CallStage, Caller, AwaitsBanner, AwaitsHello, AwaitsChallenge, AwaitsDone, AwaitsSignature, AwaitsIdent, AwaitsReconnect, Open, on_answer_or_ack, on_banner, on_hello, on_signature, presented, turned_at, while_answered, while_challenged, while_identified, while_reconnecting}
-use Rattle.cx_sealed.specs.declared.authorize_reply.AuthorizeReply.{AuthorizeReply}
+use Rattle.cx_laws_truth.specs.cx_sealed.specs.declared.authorize_reply.AuthorizeReply.{AuthorizeReply}
 use Rattle.cx_secure.specs.declared.refusals.SecureRefusal.{SecureRefusal}
 use Rattle.cx_steps.specs.declared.seals.SealEntry.{SealEntry}
 use Rattle.cx_steps.specs.declared.seals.SealEntry.TheVariants as entry
-use Rattle.cx_stream.specs.Openings.{front_contents}
-use Rattle.cx_stream.specs.PlainStreams.{plain_frame_at}
-use Rattle.cx_stream.specs.SecureStreams.{Ahead, secure_frame_at}
+use Rattle.cx_laws_truth.specs.cx_stream.specs.Openings.{front_contents}
+use Rattle.cx_laws_truth.specs.cx_stream.specs.PlainStreams.{plain_frame_at}
+use Rattle.cx_laws_truth.specs.cx_stream.specs.SecureStreams.{Ahead, secure_frame_at}
 use Rattle.cx_laws_cover.proofs.CallKnown.{AreHarmless, CallKnown, IsOfDaemon}
 use Rattle.cx_laws_cover.proofs.CallOpen.{identified-known, open-known, opened-known, reconnecting-known, signature-known}
 use Rattle.cx_laws_cover.proofs.CallOpening.{IsTicketKey, RowKnown, answered-known, banner-known, challenged-known, hello-known}
 use Rattle.cx_laws_truth.specs.cx_laws_fetch.proofs.AskerFacts.{HasHeard, heard-one, hears-one}
 use Rattle.cx_laws_truth.specs.cx_laws_fetch.proofs.Banners.{IsRead, read-banner}
 use Rattle.cx_laws_truth.specs.cx_laws_fetch.proofs.WrittenFrames.{due-tag}
-use Rattle.cx_laws_keys.proofs.Uses.{Uses}
+use Rattle.cx_laws_truth.specs.cx_laws_keys.proofs.Uses.{Uses}
 
 -- what a turn comes to: a row, of which this is known; or a refusal, before which what opened is harmless
 abbrev pub TurnKnown : Uses → (CallRow → Type 0) → Turned Caller CallStage → Type 0

@@ -23,10 +23,10 @@ use Rattle.cx_laws_truth.specs.cx_laws_fetch.proofs.AskerFacts.{StageTold, found
 use Rattle.cx_laws_truth.specs.cx_laws_fetch.proofs.ClientTells.{ClientLinkTold, ClientStageTold}
 use Rattle.cx_laws_truth.specs.cx_laws_fetch.proofs.PointEvents.{events_of}
 use Rattle.cx_laws_truth.specs.cx_laws_fetch.proofs.Retied.{Handed, means-retied, retied}
-use Rattle.cx_laws_keys.proofs.Known.{Inv}
-use Rattle.cx_laws_keys.proofs.Lists.{found_all}
-use Rattle.cx_laws_keys.proofs.Premises.{AreGranted, behind}
-use Rattle.cx_laws_keys.proofs.Uses.{Means, Secret, Uses, WholeRun}
+use Rattle.cx_laws_truth.specs.cx_laws_keys.proofs.Known.{Inv}
+use Rattle.cx_laws_truth.specs.cx_laws_keys.proofs.Lists.{found_all}
+use Rattle.cx_laws_truth.specs.cx_laws_keys.proofs.Premises.{AreGranted, behind}
+use Rattle.cx_laws_truth.specs.cx_laws_keys.proofs.Uses.{Means, Secret, Uses, WholeRun}
 use Rattle.cx_laws_truth.specs.cx_laws_login.proofs.AskerRows.{NeverExcepted}
 use Rattle.cx_laws_truth.specs.cx_rules.specs.Connector as connector
 use Rattle.cx_laws_truth.specs.cx_rules.specs.Connector.{AskerArrival, AskerRow}
@@ -41,7 +41,7 @@ use Rattle.cx_steps.specs.declared.effects.Effects.{Effects}
 use Rattle.cx_steps.specs.declared.seals.Logged.{Logged}
 use Rattle.cx_steps.specs.declared.seals.SealEntry.{SealEntry}
 use Rattle.cx_laws_truth.specs.cx_rules.specs.declared.requests.Want.TheVariants.{Tickets}
-use Rattle.cx_wire.specs.declared.bodies.Request.TheVariants as asked
+use Rattle.cx_laws_truth.specs.cx_wire.specs.declared.bodies.Request.TheVariants as asked
 use Rattle.cx_laws_truth.specs.cx_run.proofs.Outcomes.{asker_turn, on_link, renewed}
 use Rattle.cx_laws_truth.specs.cx_run.proofs.Taking.{EachRow}
 use Rattle.cx_laws_truth.specs.cx_run.specs.Points.{Point, stepped_at}

@@ -15,7 +15,7 @@ use Rattle.cx_laws_truth.specs.cx_rules.specs.declared.requests.Waiting.{Waiting
 use Rattle.cx_laws_truth.specs.cx_rules.specs.declared.requests.Want.{Want}
 use Rattle.cx_laws_truth.specs.cx_rules.specs.declared.requests.Want.TheVariants.{Rotating, Tickets}
 use Rattle.cx_laws_truth.specs.cx_rules_session.specs.ClientRule.{ClientStage, ToDaemon, ToMonitor, WholeClientNode}
-use Rattle.cx_laws_keys.proofs.Lists.{all-append}
+use Rattle.cx_laws_truth.specs.cx_laws_keys.proofs.Lists.{all-append}
 
 -- ---- what waits
 

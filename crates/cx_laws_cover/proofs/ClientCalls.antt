@@ -29,12 +29,12 @@ use Rattle.cx_laws_truth.specs.cx_laws_fetch.proofs.AskedKnown.{Told}
 use Rattle.cx_laws_truth.specs.cx_laws_fetch.proofs.ClientTells.{ClientLinkTold}
 use Rattle.cx_laws_truth.specs.cx_laws_fetch.proofs.PointEvents.{events_of}
 use Rattle.cx_laws_truth.specs.cx_laws_fetch.proofs.Retied.{Handed, means-retied, retied}
-use Rattle.cx_laws_keys.proofs.Known.{Inv}
-use Rattle.cx_laws_keys.proofs.Lists.{all-map, found_all}
-use Rattle.cx_laws_keys.proofs.Premises.{AreGranted, behind, granted-first}
-use Rattle.cx_laws_keys.proofs.Uses.{Login, Means, Ticketed, Uses, WholeRun}
+use Rattle.cx_laws_truth.specs.cx_laws_keys.proofs.Known.{Inv}
+use Rattle.cx_laws_truth.specs.cx_laws_keys.proofs.Lists.{all-map, found_all}
+use Rattle.cx_laws_truth.specs.cx_laws_keys.proofs.Premises.{AreGranted, behind, granted-first}
+use Rattle.cx_laws_truth.specs.cx_laws_keys.proofs.Uses.{Login, Means, Ticketed, Uses, WholeRun}
 use Rattle.cx_laws_truth.specs.cx_laws_login.proofs.AskerRows.{NeverExcepted}
-use Rattle.cx_login.specs.Held.{Held}
+use Rattle.cx_laws_truth.specs.cx_login.specs.Held.{Held}
 use Rattle.cx_laws_truth.specs.cx_rules.specs.Holdings.{Asker}
 use Rattle.cx_laws_truth.specs.cx_rules.specs.Links.{Link, link_of}
 use Rattle.cx_laws_truth.specs.cx_rules.specs.Rows.{Outcome, Row, Turned, Waits, Refuses, Handles, arrival, carried_out, idles, refuses_bytes, secure_sent, turns}

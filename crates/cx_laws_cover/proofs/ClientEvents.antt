@@ -12,9 +12,9 @@ use Rattle.cx_laws_truth.specs.cx_laws_fetch.proofs.AllTold.{WasAsked, WasDrawn}
 use Rattle.cx_laws_truth.specs.cx_laws_fetch.proofs.AskedKnown.{Told}
 use Rattle.cx_laws_truth.specs.cx_laws_fetch.proofs.ClientTells.{ClientLinkTold}
 use Rattle.cx_laws_truth.specs.cx_laws_fetch.proofs.Retied.{Handed, retied}
-use Rattle.cx_laws_keys.proofs.Known.{Inv}
-use Rattle.cx_laws_keys.proofs.Premises.{AreGranted}
-use Rattle.cx_laws_keys.proofs.Uses.{Uses, WholeRun}
+use Rattle.cx_laws_truth.specs.cx_laws_keys.proofs.Known.{Inv}
+use Rattle.cx_laws_truth.specs.cx_laws_keys.proofs.Premises.{AreGranted}
+use Rattle.cx_laws_truth.specs.cx_laws_keys.proofs.Uses.{Uses, WholeRun}
 use Rattle.cx_laws_truth.specs.cx_laws_login.proofs.AskerRows.{NeverExcepted}
 use Rattle.cx_laws_truth.specs.cx_rules.specs.Inputs.{Input}
 use Rattle.cx_laws_truth.specs.cx_rules.specs.Rows.{Outcome, idles}

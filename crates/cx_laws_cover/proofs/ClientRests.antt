@@ -16,9 +16,9 @@ use Rattle.cx_laws_cover.proofs.State.{ClientStageHas}
 use Rattle.cx_laws_truth.specs.cx_laws_fetch.proofs.AskedKnown.{Told}
 use Rattle.cx_laws_truth.specs.cx_laws_fetch.proofs.PointEvents.{events_of}
 use Rattle.cx_laws_truth.specs.cx_laws_fetch.proofs.Retied.{Handed, retied}
-use Rattle.cx_laws_keys.proofs.Lists.{found_all}
-use Rattle.cx_laws_keys.proofs.Premises.{AreGranted, behind}
-use Rattle.cx_laws_keys.proofs.Uses.{Uses, WholeRun}
+use Rattle.cx_laws_truth.specs.cx_laws_keys.proofs.Lists.{found_all}
+use Rattle.cx_laws_truth.specs.cx_laws_keys.proofs.Premises.{AreGranted, behind}
+use Rattle.cx_laws_truth.specs.cx_laws_keys.proofs.Uses.{Uses, WholeRun}
 use Rattle.cx_laws_truth.specs.cx_laws_login.proofs.Rows.{all-filter}
 use Rattle.cx_laws_truth.specs.cx_rules.specs.Greetings.{own_banner}
 use Rattle.cx_laws_truth.specs.cx_rules.specs.Links.{Link, link_of, without_link}

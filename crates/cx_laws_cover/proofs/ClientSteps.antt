@@ -17,9 +17,9 @@ use Rattle.cx_laws_truth.specs.cx_laws_fetch.proofs.AllTold.{EntityTold}
 use Rattle.cx_laws_truth.specs.cx_laws_fetch.proofs.AskedKnown.{Told}
 use Rattle.cx_laws_truth.specs.cx_laws_fetch.proofs.PointEvents.{events_of}
 use Rattle.cx_laws_truth.specs.cx_laws_fetch.proofs.Retied.{Handed, retied}
-use Rattle.cx_laws_keys.proofs.Lists.{all-map, found_all, found_passes}
-use Rattle.cx_laws_keys.proofs.Premises.{behind}
-use Rattle.cx_laws_keys.proofs.Uses.{AtMonitor, Connected, Uses, WholeRun}
+use Rattle.cx_laws_truth.specs.cx_laws_keys.proofs.Lists.{all-map, found_all, found_passes}
+use Rattle.cx_laws_truth.specs.cx_laws_keys.proofs.Premises.{behind}
+use Rattle.cx_laws_truth.specs.cx_laws_keys.proofs.Uses.{AtMonitor, Connected, Uses, WholeRun}
 use Rattle.cx_laws_truth.specs.cx_laws_login.proofs.AskerRows.{NeverExcepted}
 use Rattle.cx_laws_truth.specs.cx_laws_login.proofs.AskerTurns as asker_turns
 use Rattle.cx_laws_truth.specs.cx_laws_login.proofs.Facts.{AskerOk}

@@ -22,9 +22,9 @@ use Rattle.cx_laws_truth.specs.cx_laws_fetch.proofs.PointEvents.{events_of}
 use Rattle.cx_laws_truth.specs.cx_laws_fetch.proofs.Retied.{Handed, means-retied, retied, retied_use}
 use Rattle.cx_laws_truth.specs.cx_laws_fetch.proofs.ToldStays.{SealsNone}
 use Rattle.cx_laws_truth.specs.cx_laws_fetch.proofs.Turns.{behind-row, filtered}
-use Rattle.cx_laws_keys.proofs.Lists.{all-map}
-use Rattle.cx_laws_keys.proofs.Premises.{behind}
-use Rattle.cx_laws_keys.proofs.Uses.{AtDaemon, AtMonitor, Connected, Generated, Login, Secret, Ticketed, Use, Uses, WholeRun}
+use Rattle.cx_laws_truth.specs.cx_laws_keys.proofs.Lists.{all-map}
+use Rattle.cx_laws_truth.specs.cx_laws_keys.proofs.Premises.{behind}
+use Rattle.cx_laws_truth.specs.cx_laws_keys.proofs.Uses.{AtDaemon, AtMonitor, Connected, Generated, Login, Secret, Ticketed, Use, Uses, WholeRun}
 use Rattle.cx_laws_truth.specs.cx_laws_login.proofs.Proving.{RowOf}
 use Rattle.cx_laws_truth.specs.cx_rules.specs.Holdings.{Asker}
 use Rattle.cx_laws_truth.specs.cx_rules.specs.Links.{Link}

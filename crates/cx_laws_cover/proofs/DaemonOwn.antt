@@ -24,8 +24,8 @@ use Rattle.cx_laws_truth.specs.cx_laws_fetch.proofs.AskerTurn.{open-replied}
 use Rattle.cx_laws_truth.specs.cx_laws_fetch.proofs.PointEvents.{events_of, more-events}
 use Rattle.cx_laws_truth.specs.cx_laws_fetch.proofs.RepliedMoments.{WasReplied}
 use Rattle.cx_laws_truth.specs.cx_laws_fetch.proofs.Retied.{Handed, retied}
-use Rattle.cx_laws_keys.proofs.Premises.{AreGranted, behind, granted-first}
-use Rattle.cx_laws_keys.proofs.Uses.{AtMonitor, Connected, Means, Secret, Uses, WholeRun}
+use Rattle.cx_laws_truth.specs.cx_laws_keys.proofs.Premises.{AreGranted, behind, granted-first}
+use Rattle.cx_laws_truth.specs.cx_laws_keys.proofs.Uses.{AtMonitor, Connected, Means, Secret, Uses, WholeRun}
 use Rattle.cx_laws_truth.specs.cx_rules.specs.Connector as connector
 use Rattle.cx_laws_truth.specs.cx_rules.specs.Connector.{AskerArrival, AskerRow}
 use Rattle.cx_laws_truth.specs.cx_rules.specs.Fronts.{opened_parts, sealed_ahead}
@@ -42,7 +42,7 @@ use Rattle.cx_laws_truth.specs.cx_run.specs.Points.{Before, Point}
 use Rattle.cx_steps.specs.declared.effects.Effects.{Effects}
 use Rattle.cx_steps.specs.declared.seals.Logged.{Logged}
 use Rattle.cx_steps.specs.declared.seals.SealEntry.{SealEntry}
-use Rattle.cx_wire.specs.declared.bodies.Request.TheVariants as asked
+use Rattle.cx_laws_truth.specs.cx_wire.specs.declared.bodies.Request.TheVariants as asked
 use Rattle.std.proofs.Common.{◌≡◌, ℕ, Bool, true, false, List, ◌∷◌, ◌++◌, Option, Some, None, refl, sym, ap, subst}
 use Rattle.std.specs.Option.{option_map}
 use Rattle.std.specs.Prelude.{Contains, IfSome, if◌then◌else◌}

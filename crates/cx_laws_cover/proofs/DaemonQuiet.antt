@@ -16,9 +16,9 @@ use Rattle.cx_laws_truth.specs.cx_laws_fetch.proofs.Later.{of_acceptor, of_conne
 use Rattle.cx_laws_truth.specs.cx_laws_fetch.proofs.PointEvents.{events_of, more-events}
 use Rattle.cx_laws_truth.specs.cx_laws_fetch.proofs.Retied.{Handed, retied}
 use Rattle.cx_laws_truth.specs.cx_laws_fetch.proofs.ToldStays.{SealsNone, told-stays}
-use Rattle.cx_laws_keys.proofs.Lists.{all-map}
-use Rattle.cx_laws_keys.proofs.Premises.{behind}
-use Rattle.cx_laws_keys.proofs.Uses.{Uses, WholeRun}
+use Rattle.cx_laws_truth.specs.cx_laws_keys.proofs.Lists.{all-map}
+use Rattle.cx_laws_truth.specs.cx_laws_keys.proofs.Premises.{behind}
+use Rattle.cx_laws_truth.specs.cx_laws_keys.proofs.Uses.{Uses, WholeRun}
 use Rattle.cx_laws_truth.specs.cx_laws_series.proofs.Contents.{contents_by}
 use Rattle.cx_laws_truth.specs.cx_rules.specs.Connector as connector
 use Rattle.cx_laws_truth.specs.cx_rules.specs.Links.{Link}

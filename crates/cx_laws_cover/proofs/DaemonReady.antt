@@ -17,17 +17,17 @@ use Rattle.cx_laws_truth.specs.cx_laws_fetch.proofs.Later.{of_acceptor, of_conne
 use Rattle.cx_laws_truth.specs.cx_laws_fetch.proofs.PointEvents.{RepliedAt, events_of}
 use Rattle.cx_laws_truth.specs.cx_laws_fetch.proofs.RepliedMoments.{WasReplied}
 use Rattle.cx_laws_truth.specs.cx_laws_fetch.proofs.Retied.{Handed, retied}
-use Rattle.cx_laws_keys.proofs.Known.{Inv}
-use Rattle.cx_laws_keys.proofs.Premises.{AreGranted, behind}
-use Rattle.cx_laws_keys.proofs.Uses.{AtMonitor, Connected, Grows, Means, Uses, WholeRun}
+use Rattle.cx_laws_truth.specs.cx_laws_keys.proofs.Known.{Inv}
+use Rattle.cx_laws_truth.specs.cx_laws_keys.proofs.Premises.{AreGranted, behind}
+use Rattle.cx_laws_truth.specs.cx_laws_keys.proofs.Uses.{AtMonitor, Connected, Grows, Means, Uses, WholeRun}
 use Rattle.cx_laws_truth.specs.cx_laws_login.proofs.Facts.{AskerKnown}
 use Rattle.cx_laws_truth.specs.cx_laws_series.proofs.Contents.{contents_by}
-use Rattle.cx_login.specs.Unlocking.{unlocked}
+use Rattle.cx_laws_truth.specs.cx_login.specs.Unlocking.{unlocked}
 use Rattle.cx_laws_truth.specs.cx_rules.specs.Rows.{Outcome}
 use Rattle.cx_laws_truth.specs.cx_rules_session.specs.DaemonRule.{DaemonNode}
 use Rattle.cx_laws_truth.specs.cx_run.specs.Points.{Before, Point, stepped_at}
-use Rattle.cx_sealed.specs.Records.{rotating_reply_layout}
-use Rattle.cx_sealed.specs.declared.rotating_reply.RotatingReply.{RotatingReply}
+use Rattle.cx_laws_truth.specs.cx_sealed.specs.Records.{rotating_reply_layout}
+use Rattle.cx_laws_truth.specs.cx_sealed.specs.declared.rotating_reply.RotatingReply.{RotatingReply}
 use Rattle.cx_steps.specs.declared.seals.Logged.{Logged}
 use Rattle.std.proofs.Common.{◌≡◌, ℕ, true, List, [], ◌∷◌, Some}
 use Rattle.std.specs.List.{AllByRecursion}

@@ -16,8 +16,8 @@ use Rattle.cx_laws_truth.specs.cx_laws_fetch.proofs.AskedKnown.{Told}
 use Rattle.cx_laws_truth.specs.cx_laws_fetch.proofs.DaemonTells.{DaemonLinkTold, DaemonStageTold}
 use Rattle.cx_laws_truth.specs.cx_laws_fetch.proofs.PointEvents.{events_of}
 use Rattle.cx_laws_truth.specs.cx_laws_fetch.proofs.Retied.{Handed, means-retied, retied}
-use Rattle.cx_laws_keys.proofs.Lists.{found_all}
-use Rattle.cx_laws_keys.proofs.Uses.{Secret, Uses, WholeRun}
+use Rattle.cx_laws_truth.specs.cx_laws_keys.proofs.Lists.{found_all}
+use Rattle.cx_laws_truth.specs.cx_laws_keys.proofs.Uses.{Secret, Uses, WholeRun}
 use Rattle.cx_laws_truth.specs.cx_rules.specs.Inputs.{Input}
 use Rattle.cx_laws_truth.specs.cx_rules.specs.Links.{Link, link_of}
 use Rattle.cx_laws_truth.specs.cx_rules.specs.Rows.{Outcome, arrival}

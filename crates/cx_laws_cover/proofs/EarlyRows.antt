@@ -30,9 +30,9 @@ use Rattle.cx_laws_truth.specs.cx_rules.specs.Secured.{plain_frame}
 use Rattle.cx_steps.specs.declared.seals.DrawMark.TheVariants as draw
 use Rattle.cx_steps.specs.declared.seals.SealEntry.{SealEntry}
 use Rattle.cx_steps.specs.declared.seals.SealEntry.TheVariants as entry
-use Rattle.cx_stream.specs.PlainStreams.{plain_frame_at}
-use Rattle.cx_wire.specs.Logins.{login_hello_layout, server_challenge_layout}
-use Rattle.cx_wire.specs.declared.logins.LoginHello.{LoginHello}
+use Rattle.cx_laws_truth.specs.cx_stream.specs.PlainStreams.{plain_frame_at}
+use Rattle.cx_laws_truth.specs.cx_wire.specs.Logins.{login_hello_layout, server_challenge_layout}
+use Rattle.cx_laws_truth.specs.cx_wire.specs.declared.logins.LoginHello.{LoginHello}
 use Rattle.cx_laws_truth.specs.cx_laws_fetch.proofs.MonitorHands.{AreSilent}
 
 -- a stage without keys

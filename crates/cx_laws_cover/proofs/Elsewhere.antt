@@ -8,8 +8,8 @@ use Rattle.cx_base.specs.declared.nodes.NodeName.TheVariants as node
 use Rattle.cx_frame.specs.declared.frame.Frame.{Frame}
 use Rattle.cx_journal.specs.declared.faults.BytesFault.{BytesFault}
 use Rattle.cx_journal.specs.declared.premises.KeyKind.TheVariants as kind
-use Rattle.cx_laws_keys.proofs.Lists.{all-append, all-map, all-of-map}
-use Rattle.cx_laws_keys.proofs.Uses.{AtDaemon, AtMonitor, Connected, Generated, Login, Means, Secret, Ticketed, Use, Uses}
+use Rattle.cx_laws_truth.specs.cx_laws_keys.proofs.Lists.{all-append, all-map, all-of-map}
+use Rattle.cx_laws_truth.specs.cx_laws_keys.proofs.Uses.{AtDaemon, AtMonitor, Connected, Generated, Login, Means, Secret, Ticketed, Use, Uses}
 use Rattle.cx_laws_truth.specs.cx_laws_series.proofs.Contents.{content_of, content_where, contents_by}
 use Rattle.cx_laws_truth.specs.cx_laws_series.proofs.Frames.{frame-sealed}
 use Rattle.cx_laws_truth.specs.cx_rules.specs.Fronts.{opened_parts}
@@ -19,8 +19,8 @@ use Rattle.cx_secure.specs.Plains.{plains}
 use Rattle.cx_steps.specs.declared.seals.SealEntry.{SealEntry}
 use Rattle.cx_steps.specs.declared.seals.SealEntry.TheVariants as entry
 use Rattle.cx_steps.specs.declared.seals.SealMark.{SealMark}
-use Rattle.cx_stream.specs.Openings.{front_contents}
-use Rattle.cx_stream.specs.SecureStreams.{Ahead}
+use Rattle.cx_laws_truth.specs.cx_stream.specs.Openings.{front_contents}
+use Rattle.cx_laws_truth.specs.cx_stream.specs.SecureStreams.{Ahead}
 use Rattle.cx_laws_truth.specs.cx_laws_fetch.proofs.Handed.{IsNoLogin, IsPlain}
 use Rattle.cx_laws_truth.specs.cx_laws_fetch.proofs.Later.{of_acceptor, of_connector}
 use Rattle.cx_laws_truth.specs.cx_laws_fetch.proofs.MonitorMoves.{IsAnyLogin}

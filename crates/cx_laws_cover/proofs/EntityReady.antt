@@ -8,9 +8,9 @@ use Rattle.cx_laws_cover.proofs.AskerBehind.{AskerReady}
 use Rattle.cx_laws_cover.proofs.Steps.{Ready}
 use Rattle.cx_laws_truth.specs.cx_laws_fetch.proofs.AskedKnown.{Told}
 use Rattle.cx_laws_truth.specs.cx_laws_fetch.proofs.Retied.{Handed, grows-retied, inv-retied, means-before, retied, whose-retied}
-use Rattle.cx_laws_keys.proofs.Journal.{entered}
-use Rattle.cx_laws_keys.proofs.Premises.{behind}
-use Rattle.cx_laws_keys.proofs.Uses.{Uses, WholeRun, whose}
+use Rattle.cx_laws_truth.specs.cx_laws_keys.proofs.Journal.{entered}
+use Rattle.cx_laws_truth.specs.cx_laws_keys.proofs.Premises.{behind}
+use Rattle.cx_laws_truth.specs.cx_laws_keys.proofs.Uses.{Uses, WholeRun, whose}
 use Rattle.cx_laws_truth.specs.cx_laws_login.proofs.AskerRows.{NeverExcepted}
 use Rattle.cx_laws_truth.specs.cx_run.specs.Happenings.{Stepped}
 use Rattle.cx_laws_truth.specs.cx_run.specs.Points.{Point}

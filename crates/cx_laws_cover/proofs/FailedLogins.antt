@@ -10,9 +10,9 @@ use Rattle.cx_control.specs.Auth.{auth_signature_layout}
 use Rattle.cx_dice.specs.Draws.{connection_of, session_of}
 use Rattle.cx_frame.specs.declared.frame.Frame.{Frame}
 use Rattle.cx_journal.specs.declared.entries.Entry.{Entry}
-use Rattle.cx_laws_keys.proofs.Lists.{all-map}
-use Rattle.cx_laws_keys.proofs.Premises.{DrawsKey, behind}
-use Rattle.cx_laws_keys.proofs.Uses.{AtMonitor, Connected, Grows, Login, Means, Use, Uses, WholeRun}
+use Rattle.cx_laws_truth.specs.cx_laws_keys.proofs.Lists.{all-map}
+use Rattle.cx_laws_truth.specs.cx_laws_keys.proofs.Premises.{DrawsKey, behind}
+use Rattle.cx_laws_truth.specs.cx_laws_keys.proofs.Uses.{AtMonitor, Connected, Grows, Login, Means, Use, Uses, WholeRun}
 use Rattle.cx_laws_truth.specs.cx_laws_series.proofs.Contents.{contents-behind, contents_by, contents_in}
 use Rattle.cx_laws_truth.specs.cx_laws_series.proofs.Frames.{frame-sealed}
 use Rattle.cx_laws_truth.specs.cx_rules.specs.Judged.{LogsLink}

@@ -5,8 +5,8 @@ use Rattle.cx_base.specs.Names.{Name}
 use Rattle.cx_base.specs.declared.nodes.NodeName.TheVariants as node
 use Rattle.cx_frame.specs.declared.frame.Frame.{Frame}
 use Rattle.cx_journal.specs.declared.entries.Entry.{Entry}
-use Rattle.cx_laws_keys.proofs.Premises.{AreGranted, behind, granted-first}
-use Rattle.cx_laws_keys.proofs.Uses.{Grows, Uses, WholeRun}
+use Rattle.cx_laws_truth.specs.cx_laws_keys.proofs.Premises.{AreGranted, behind, granted-first}
+use Rattle.cx_laws_truth.specs.cx_laws_keys.proofs.Uses.{Grows, Uses, WholeRun}
 use Rattle.cx_laws_truth.specs.cx_laws_login.proofs.Facts.{BearerOk}
 use Rattle.cx_laws_truth.specs.cx_laws_run.proofs.Saves.{thick}
 use Rattle.cx_laws_truth.specs.cx_laws_series.proofs.Frames.{frame-sealed}
@@ -21,7 +21,7 @@ use Rattle.cx_laws_truth.specs.cx_rules.specs.declared.responses.Bearer.{Bearer}
 use Rattle.cx_laws_truth.specs.cx_run.specs.Points.{Point}
 use Rattle.cx_steps.specs.declared.seals.Logged.{Logged}
 use Rattle.cx_steps.specs.declared.seals.SealEntry.{SealEntry}
-use Rattle.cx_stream.specs.SecureStreams.{secure_frame_at}
+use Rattle.cx_laws_truth.specs.cx_stream.specs.SecureStreams.{secure_frame_at}
 use Rattle.cx_laws_truth.specs.cx_laws_fetch.proofs.AskedKnown.{IsBearing, Told}
 use Rattle.cx_laws_truth.specs.cx_laws_fetch.proofs.AskedMoving.{Quiets, bearing-stays}
 use Rattle.cx_laws_truth.specs.cx_laws_fetch.proofs.AskedWords.{given_frame}

@@ -1,5 +1,5 @@
 -- What a daemon seals on a guest's link behind authentication, whatever its book replies, is under the key of that very link; so it has nothing to do with logins.
-use Rattle.cx_authorize.specs.Daemon.{Authority}
+use Rattle.cx_laws_truth.specs.cx_authorize.specs.Daemon.{Authority}
 use Rattle.cx_base.specs.Names.{Name, is_daemon_type}
 use Rattle.cx_base.specs.declared.kinds.EntityType.TheVariants.{Mon, Mds, Osd, Client, Mgr, Auth}
 use Rattle.cx_base.specs.declared.kinds.EntityType.{EntityType}
@@ -20,8 +20,8 @@ use Rattle.cx_journal.specs.declared.faults.LoginFault.TheVariants.{SignatureWro
 use Rattle.cx_journal.specs.declared.outcomes.Reason.TheVariants as reason
 use Rattle.cx_laws_truth.specs.cx_laws_authorize.proofs.Opened.{IsOpening}
 use Rattle.cx_laws_cover.proofs.Elsewhere.{ArePutElsewhere, IsElsewhere, IsPutElsewhere, IsUsedElsewhere, SealedElsewhere, frame-elsewhere, frames-elsewhere}
-use Rattle.cx_laws_keys.proofs.Lists.{all-append, all-map}
-use Rattle.cx_laws_keys.proofs.Uses.{Uses, session_use}
+use Rattle.cx_laws_truth.specs.cx_laws_keys.proofs.Lists.{all-append, all-map}
+use Rattle.cx_laws_truth.specs.cx_laws_keys.proofs.Uses.{Uses, session_use}
 use Rattle.cx_laws_truth.specs.cx_rules.specs.Acceptor.{AwaitsIdent, Open, misses, missing_told, on_signature, server_ident}
 use Rattle.cx_laws_truth.specs.cx_rules.specs.Holdings.{Asker}
 use Rattle.cx_laws_truth.specs.cx_rules.specs.Messages.{acknowledgement, message_in, secure_frames}

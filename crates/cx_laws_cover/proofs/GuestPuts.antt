@@ -1,9 +1,9 @@
 -- What a daemon seals and signs at a turn of a guest's link, whatever its book replies, has nothing to do with logins: it is under the session key of a ticket for its
 -- own service, or under the key of that very link.
-use Rattle.cx_authorize.specs.Daemon.{Authority, Awaited}
-use Rattle.cx_authorize.specs.Judging.{judged_first, judged_second}
-use Rattle.cx_authorize.specs.declared.refusals.AuthRefusal.TheVariants as refusal
-use Rattle.cx_authorize.specs.declared.refusals.AuthRefusal.{AuthRefusal}
+use Rattle.cx_laws_truth.specs.cx_authorize.specs.Daemon.{Authority, Awaited}
+use Rattle.cx_laws_truth.specs.cx_authorize.specs.Judging.{judged_first, judged_second}
+use Rattle.cx_laws_truth.specs.cx_authorize.specs.declared.refusals.AuthRefusal.TheVariants as refusal
+use Rattle.cx_laws_truth.specs.cx_authorize.specs.declared.refusals.AuthRefusal.{AuthRefusal}
 use Rattle.cx_base.specs.Names.{Name, is_daemon_type}
 use Rattle.cx_base.specs.declared.nodes.NodeName.{NodeName}
 use Rattle.cx_control.specs.Auth.{auth_request_layout, auth_request_more_layout, auth_signature_layout}
@@ -26,10 +26,10 @@ use Rattle.cx_laws_truth.specs.cx_laws_authorize.proofs.Keys.{HostKeys, LinkKeys
 use Rattle.cx_laws_truth.specs.cx_laws_authorize.proofs.Opened.{IsOpening, ShowsTicket, first-all, first-opened, second-all, second-opened}
 use Rattle.cx_laws_cover.proofs.Elsewhere.{ArePutElsewhere, IsPutElsewhere, IsUsedElsewhere, opened-elsewhere, parts-elsewhere}
 use Rattle.cx_laws_cover.proofs.GuestElsewhere.{PutsTurned, StaysPut, ident-puts, open-puts, openings-elsewhere, session-elsewhere, signature-puts}
-use Rattle.cx_laws_keys.proofs.Known.{Inv}
-use Rattle.cx_laws_keys.proofs.Lists.{all-append}
-use Rattle.cx_laws_keys.proofs.Premises.{AreGranted, granted-first}
-use Rattle.cx_laws_keys.proofs.Uses.{AreGenerated, AtDaemon, Connected, Grows, Uses, WholeRun, session_use}
+use Rattle.cx_laws_truth.specs.cx_laws_keys.proofs.Known.{Inv}
+use Rattle.cx_laws_truth.specs.cx_laws_keys.proofs.Lists.{all-append}
+use Rattle.cx_laws_truth.specs.cx_laws_keys.proofs.Premises.{AreGranted, granted-first}
+use Rattle.cx_laws_truth.specs.cx_laws_keys.proofs.Uses.{AreGenerated, AtDaemon, Connected, Grows, Uses, WholeRun, session_use}
 use Rattle.cx_laws_truth.specs.cx_laws_series.proofs.Frames.{frame-sealed}
 use Rattle.cx_laws_truth.specs.cx_rules.specs.Acceptor.{AwaitsBanner, AwaitsHello, AwaitsRequest, AwaitsProof, AwaitsSignature, AwaitsIdent, Open, Finished, denies, finished, joined, on_auth_request, on_banner, on_hello, on_signature}
 use Rattle.cx_laws_truth.specs.cx_rules.specs.Fronts.{ahead_of, banner_read, keys_behind, opened_parts, plain_read, sealed_ahead, secure_read, taking}
@@ -44,15 +44,15 @@ use Rattle.cx_laws_truth.specs.cx_rules_session.specs.Envelopes.{authorize_chall
 use Rattle.cx_laws_truth.specs.cx_rules_session.specs.Guests.{GuestArrival, GuestRow, GuestStage, authority_of, authorized_frame, authorizes, challenges, done_sent, on_auth_request_more, on_first, sealed_challenge_frame, turns_away, unless_turned_away}
 use Rattle.cx_laws_truth.specs.cx_rules_session.specs.Hosting.{Deciding, Hosted, decided_by, guest_turned, hosted_behind, no_session_moves, on_ident, on_open, turned_behind}
 use Rattle.cx_laws_truth.specs.cx_run.proofs.GuestTakes.{Always, always-map, always-weaker}
-use Rattle.cx_sealed.specs.declared.service_ticket.ServiceTicket.{ServiceTicket}
+use Rattle.cx_laws_truth.specs.cx_sealed.specs.declared.service_ticket.ServiceTicket.{ServiceTicket}
 use Rattle.cx_secure.specs.Plains.{plains}
 use Rattle.cx_secure.specs.declared.refusals.SecureRefusal.{SecureRefusal}
 use Rattle.cx_steps.specs.declared.seals.DrawMark.TheVariants as draw
 use Rattle.cx_steps.specs.declared.seals.Logged.{Logged}
 use Rattle.cx_steps.specs.declared.seals.SealEntry.TheVariants as seal
 use Rattle.cx_steps.specs.declared.seals.SealEntry.{SealEntry}
-use Rattle.cx_stream.specs.PlainStreams.{plain_frame_at}
-use Rattle.cx_stream.specs.SecureStreams.{secure_frame_at}
+use Rattle.cx_laws_truth.specs.cx_stream.specs.PlainStreams.{plain_frame_at}
+use Rattle.cx_laws_truth.specs.cx_stream.specs.SecureStreams.{secure_frame_at}
 use Rattle.std.proofs.Common.{◌≡◌, ◌==◌, ℕ, Bool, true, false, List, [], ◌∷◌, ◌++◌, take, Option, Some, None, Result, Ok, Err, inl, inr, ◌⊎◌, refl, sym, ap, subst}
 use Rattle.std.specs.List.{AllByRecursion, list_any}
 use Rattle.std.specs.Prelude.{not, if◌then◌else◌}

@@ -4,8 +4,8 @@ use Rattle.std.specs.Prelude.{IfSome}
 use Rattle.cx_base.specs.declared.nodes.NodeName.TheVariants as node
 use Rattle.cx_journal.specs.declared.entries.Entry.{Entry}
 use Rattle.cx_journal.specs.declared.faults.BytesFault.{BytesFault}
-use Rattle.cx_laws_keys.proofs.Premises.{behind}
-use Rattle.cx_laws_keys.proofs.Uses.{Uses, WholeRun}
+use Rattle.cx_laws_truth.specs.cx_laws_keys.proofs.Premises.{behind}
+use Rattle.cx_laws_truth.specs.cx_laws_keys.proofs.Uses.{Uses, WholeRun}
 use Rattle.cx_laws_truth.specs.cx_rules.specs.Acceptor.{AwaitsBanner, AwaitsHello, AwaitsIdent, AwaitsProof, AwaitsRequest, AwaitsSignature, Open}
 use Rattle.cx_laws_truth.specs.cx_rules.specs.Links.{Link}
 use Rattle.cx_laws_truth.specs.cx_rules.specs.Monitor.{Monitor, MonitorArrival, MonitorNode, MonitorRow, MonitorStage}

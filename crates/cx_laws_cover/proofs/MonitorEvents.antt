@@ -6,11 +6,11 @@ use Rattle.cx_base.specs.declared.kinds.EntityType.{EntityType}
 use Rattle.cx_base.specs.declared.nodes.NodeName.TheVariants as node
 use Rattle.cx_journal.specs.declared.entries.Entry.{Entry}
 use Rattle.cx_journal.specs.declared.outcomes.Reason.TheVariants.{LinksFull}
-use Rattle.cx_keyserver.specs.Servers.{generations_of}
-use Rattle.cx_laws_keys.proofs.Journal.{entered}
-use Rattle.cx_laws_keys.proofs.Lists.{found_all}
-use Rattle.cx_laws_keys.proofs.Premises.{behind}
-use Rattle.cx_laws_keys.proofs.Uses.{AreGenerated, Uses, WholeRun}
+use Rattle.cx_laws_truth.specs.cx_keyserver.specs.Servers.{generations_of}
+use Rattle.cx_laws_truth.specs.cx_laws_keys.proofs.Journal.{entered}
+use Rattle.cx_laws_truth.specs.cx_laws_keys.proofs.Lists.{found_all}
+use Rattle.cx_laws_truth.specs.cx_laws_keys.proofs.Premises.{behind}
+use Rattle.cx_laws_truth.specs.cx_laws_keys.proofs.Uses.{AreGenerated, Uses, WholeRun}
 use Rattle.cx_laws_truth.specs.cx_laws_login.proofs.Facts.{AreSecrets, StageOk}
 use Rattle.cx_laws_truth.specs.cx_laws_login.proofs.MonitorStep.{MonitorOk}
 use Rattle.cx_line_words.specs.declared.choices.LeftState.{LeftState}

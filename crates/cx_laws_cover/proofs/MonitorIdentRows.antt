@@ -11,9 +11,9 @@ use Rattle.cx_frame.specs.declared.frame.Frame.{Frame}
 use Rattle.cx_journal.specs.declared.entries.Entry.{Entry}
 use Rattle.cx_journal.specs.declared.faults.BytesFault.{BytesFault}
 use Rattle.cx_journal.specs.declared.faults.BytesFault.TheVariants.{Unexpected}
-use Rattle.cx_laws_keys.proofs.Lists.{all-append}
-use Rattle.cx_laws_keys.proofs.Premises.{behind, granted-first}
-use Rattle.cx_laws_keys.proofs.Uses.{AtMonitor, Connected, Use, Uses, WholeRun}
+use Rattle.cx_laws_truth.specs.cx_laws_keys.proofs.Lists.{all-append}
+use Rattle.cx_laws_truth.specs.cx_laws_keys.proofs.Premises.{behind, granted-first}
+use Rattle.cx_laws_truth.specs.cx_laws_keys.proofs.Uses.{AtMonitor, Connected, Use, Uses, WholeRun}
 use Rattle.cx_laws_truth.specs.cx_rules.specs.Acceptor.{AwaitsIdent, Open, missing_told, misses, server_ident}
 use Rattle.cx_laws_truth.specs.cx_rules.specs.Fronts.{keys_behind, opened_parts, sealed_ahead, secure_fault, secure_read, taking}
 use Rattle.cx_laws_truth.specs.cx_rules.specs.Links.{Link}
@@ -27,7 +27,7 @@ use Rattle.cx_laws_truth.specs.cx_run.specs.Points.{Point}
 use Rattle.cx_secure.specs.declared.refusals.SecureRefusal.{SecureRefusal}
 use Rattle.cx_steps.specs.declared.seals.Logged.{Logged}
 use Rattle.cx_steps.specs.declared.seals.SealEntry.{SealEntry}
-use Rattle.cx_stream.specs.SecureStreams.{secure_frame_at}
+use Rattle.cx_laws_truth.specs.cx_stream.specs.SecureStreams.{secure_frame_at}
 use Rattle.cx_laws_truth.specs.cx_laws_fetch.proofs.AskedKnown.{IsBearing, Told}
 use Rattle.cx_laws_truth.specs.cx_laws_fetch.proofs.AskedWords.{given_frame}
 use Rattle.cx_laws_truth.specs.cx_laws_fetch.proofs.HandedLogin.{no-login}

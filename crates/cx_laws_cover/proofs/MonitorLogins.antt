@@ -13,10 +13,10 @@ use Rattle.cx_enc.specs.declared.keys.Key.{Key}
 use Rattle.cx_journal.specs.declared.entries.Entry.{Entry}
 use Rattle.cx_keyring.specs.Entries.{is_named}
 use Rattle.cx_keyring.specs.declared.entries.Entry.{Entry as Principal}
-use Rattle.cx_keyserver.specs.Servers.{Server, generations_of}
-use Rattle.cx_laws_keys.proofs.Known.{HasLogin}
-use Rattle.cx_laws_keys.proofs.Premises.{behind}
-use Rattle.cx_laws_keys.proofs.Uses.{AreGenerated, AtMonitor, Connected, Grows, Login, Means, Secret, Use, Uses, WholeRun}
+use Rattle.cx_laws_truth.specs.cx_keyserver.specs.Servers.{Server, generations_of}
+use Rattle.cx_laws_truth.specs.cx_laws_keys.proofs.Known.{HasLogin}
+use Rattle.cx_laws_truth.specs.cx_laws_keys.proofs.Premises.{behind}
+use Rattle.cx_laws_truth.specs.cx_laws_keys.proofs.Uses.{AreGenerated, AtMonitor, Connected, Grows, Login, Means, Secret, Use, Uses, WholeRun}
 use Rattle.cx_laws_truth.specs.cx_laws_login.proofs.Facts.{BearerOk, StageOk}
 use Rattle.cx_laws_truth.specs.cx_laws_login.proofs.Named.{found_secret}
 use Rattle.cx_laws_truth.specs.cx_rules.specs.Acceptor.{AwaitsSignature}

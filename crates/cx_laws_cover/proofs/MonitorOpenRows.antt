@@ -11,11 +11,11 @@ use Rattle.cx_frame.specs.declared.frame.Frame.{Frame}
 use Rattle.cx_journal.specs.declared.entries.Entry.{Entry}
 use Rattle.cx_keyring.specs.Entries.{is_named}
 use Rattle.cx_keyring.specs.declared.entries.Entry.{Entry as Principal}
-use Rattle.cx_keyserver.specs.Servers.{Server, generations_of, rotated_server}
-use Rattle.cx_laws_keys.proofs.Known.{Inv}
-use Rattle.cx_laws_keys.proofs.Lists.{all-append}
-use Rattle.cx_laws_keys.proofs.Premises.{behind, behind-append, granted-first}
-use Rattle.cx_laws_keys.proofs.Uses.{AreGenerated, AtMonitor, Connected, Grows, Login, Means, Secret, Use, Uses, WholeRun}
+use Rattle.cx_laws_truth.specs.cx_keyserver.specs.Servers.{Server, generations_of, rotated_server}
+use Rattle.cx_laws_truth.specs.cx_laws_keys.proofs.Known.{Inv}
+use Rattle.cx_laws_truth.specs.cx_laws_keys.proofs.Lists.{all-append}
+use Rattle.cx_laws_truth.specs.cx_laws_keys.proofs.Premises.{behind, behind-append, granted-first}
+use Rattle.cx_laws_truth.specs.cx_laws_keys.proofs.Uses.{AreGenerated, AtMonitor, Connected, Grows, Login, Means, Secret, Use, Uses, WholeRun}
 use Rattle.cx_laws_truth.specs.cx_laws_login.proofs.Facts.{BearerOk}
 use Rattle.cx_laws_truth.specs.cx_laws_login.proofs.Named.{found_secret}
 use Rattle.cx_laws_truth.specs.cx_laws_series.proofs.Contents.{contents_by}
@@ -33,7 +33,7 @@ use Rattle.cx_laws_truth.specs.cx_rules.specs.declared.responses.Demand.{Demand}
 use Rattle.cx_laws_truth.specs.cx_run.specs.Points.{Point, stepped_at}
 use Rattle.cx_steps.specs.declared.seals.Logged.{Logged}
 use Rattle.cx_steps.specs.declared.seals.SealEntry.{SealEntry}
-use Rattle.cx_stream.specs.SecureStreams.{secure_frame_at}
+use Rattle.cx_laws_truth.specs.cx_stream.specs.SecureStreams.{secure_frame_at}
 use Rattle.cx_laws_truth.specs.cx_laws_fetch.proofs.AskedKnown.{IsBearing, Told}
 use Rattle.cx_laws_truth.specs.cx_laws_fetch.proofs.AskedMoving.{Quiets}
 use Rattle.cx_laws_truth.specs.cx_laws_fetch.proofs.AskedWords.{Given, given_frame}

@@ -11,8 +11,8 @@ use Rattle.cx_journal.specs.declared.faults.BytesFault.{BytesFault}
 use Rattle.cx_journal.specs.declared.faults.LoginFault.TheVariants.{SignatureWrong}
 use Rattle.cx_journal.specs.declared.outcomes.Reason.TheVariants as reason
 use Rattle.cx_journal.specs.declared.premises.KeyKind.TheVariants as kind
-use Rattle.cx_laws_keys.proofs.Premises.{behind}
-use Rattle.cx_laws_keys.proofs.Uses.{Uses, WholeRun}
+use Rattle.cx_laws_truth.specs.cx_laws_keys.proofs.Premises.{behind}
+use Rattle.cx_laws_truth.specs.cx_laws_keys.proofs.Uses.{Uses, WholeRun}
 use Rattle.cx_laws_truth.specs.cx_rules.proofs.Drawing.{monitor-logs}
 use Rattle.cx_laws_truth.specs.cx_rules.specs.Acceptor.{AwaitsIdent, AwaitsProof, AwaitsSignature, on_signature}
 use Rattle.cx_laws_truth.specs.cx_rules.specs.Fronts.{ahead_of, keys_behind, opened_parts, plain_fault, plain_read, sealed_ahead, secure_fault, secure_read, taking}
@@ -29,9 +29,9 @@ use Rattle.cx_secure.specs.declared.refusals.SecureRefusal.{SecureRefusal}
 use Rattle.cx_steps.specs.declared.seals.Logged.{Logged}
 use Rattle.cx_steps.specs.declared.seals.SealEntry.{SealEntry}
 use Rattle.cx_steps.specs.declared.seals.SealEntry.TheVariants as entry
-use Rattle.cx_stream.specs.Openings.{front_contents}
-use Rattle.cx_stream.specs.PlainStreams.{plain_frame_at}
-use Rattle.cx_stream.specs.SecureStreams.{Ahead, secure_frame_at}
+use Rattle.cx_laws_truth.specs.cx_stream.specs.Openings.{front_contents}
+use Rattle.cx_laws_truth.specs.cx_stream.specs.PlainStreams.{plain_frame_at}
+use Rattle.cx_laws_truth.specs.cx_stream.specs.SecureStreams.{Ahead, secure_frame_at}
 use Rattle.cx_laws_truth.specs.cx_laws_fetch.proofs.AskedKnown.{IsBearingFirst, Told}
 use Rattle.cx_laws_truth.specs.cx_laws_fetch.proofs.HandingFirst.{silent-quiet}
 use Rattle.cx_laws_truth.specs.cx_laws_fetch.proofs.Later.{of_acceptor, of_connector}

@@ -4,11 +4,11 @@ use Rattle.std.specs.List.{AllByRecursion}
 use Rattle.cx_base.specs.declared.kinds.EntityType.{EntityType}
 use Rattle.cx_base.specs.declared.nodes.NodeName.TheVariants as node
 use Rattle.cx_journal.specs.declared.entries.Entry.{Entry}
-use Rattle.cx_keyserver.specs.Servers.{generations_of}
-use Rattle.cx_laws_keys.proofs.Known.{Inv}
-use Rattle.cx_laws_keys.proofs.Lists.{all-map}
-use Rattle.cx_laws_keys.proofs.Premises.{AreGranted, behind}
-use Rattle.cx_laws_keys.proofs.Uses.{AreGenerated, Grows, Means, Use, Uses, WholeRun}
+use Rattle.cx_laws_truth.specs.cx_keyserver.specs.Servers.{generations_of}
+use Rattle.cx_laws_truth.specs.cx_laws_keys.proofs.Known.{Inv}
+use Rattle.cx_laws_truth.specs.cx_laws_keys.proofs.Lists.{all-map}
+use Rattle.cx_laws_truth.specs.cx_laws_keys.proofs.Premises.{AreGranted, behind}
+use Rattle.cx_laws_truth.specs.cx_laws_keys.proofs.Uses.{AreGenerated, Grows, Means, Use, Uses, WholeRun}
 use Rattle.cx_laws_truth.specs.cx_laws_login.proofs.Facts.{AreSecrets, Owner, StageOk}
 use Rattle.cx_laws_truth.specs.cx_rules.specs.Links.{Link}
 use Rattle.cx_laws_truth.specs.cx_rules.specs.Monitor.{Monitor, MonitorStage}

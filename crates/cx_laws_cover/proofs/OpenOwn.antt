@@ -7,9 +7,9 @@ use Rattle.cx_frame.specs.declared.frame.Frame.{Frame}
 use Rattle.cx_journal.specs.declared.faults.BytesFault.{BytesFault}
 use Rattle.cx_journal.specs.declared.faults.LoginFault.{LoginFault}
 use Rattle.cx_journal.specs.declared.outcomes.Reason.{Reason}
-use Rattle.cx_keyserver.specs.Servers.{Server, rotated_server, secrets_of}
-use Rattle.cx_keyserver.specs.declared.refusals.NotADaemon.{NotADaemon}
-use Rattle.cx_keyserver.specs.declared.tickets.Ticket.{Ticket}
+use Rattle.cx_laws_truth.specs.cx_keyserver.specs.Servers.{Server, rotated_server, secrets_of}
+use Rattle.cx_laws_truth.specs.cx_keyserver.specs.declared.refusals.NotADaemon.{NotADaemon}
+use Rattle.cx_laws_truth.specs.cx_keyserver.specs.declared.tickets.Ticket.{Ticket}
 use Rattle.cx_rotate.specs.declared.generations.Generation.{Generation}
 use Rattle.cx_laws_truth.specs.cx_rules.specs.Acceptor.{Open}
 use Rattle.cx_laws_truth.specs.cx_rules.specs.Monitor.{MonitorArrival, MonitorRow}
@@ -26,8 +26,8 @@ use Rattle.cx_laws_truth.specs.cx_rules.specs.declared.responses.ReplyMade.{Repl
 use Rattle.cx_laws_truth.specs.cx_rules.specs.declared.responses.Response.{Response}
 use Rattle.cx_laws_truth.specs.cx_rules.specs.declared.responses.Response.TheVariants as response
 use Rattle.cx_steps.specs.declared.seals.SealEntry.{SealEntry}
-use Rattle.cx_wire.specs.declared.bodies.Request.{Request}
-use Rattle.cx_wire.specs.declared.bodies.Request.TheVariants as asked
+use Rattle.cx_laws_truth.specs.cx_wire.specs.declared.bodies.Request.{Request}
+use Rattle.cx_laws_truth.specs.cx_wire.specs.declared.bodies.Request.TheVariants as asked
 use Rattle.cx_laws_truth.specs.cx_laws_fetch.proofs.RepliedMoments.{message-tag}
 
 -- ---- what is answered

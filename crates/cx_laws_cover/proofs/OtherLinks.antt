@@ -4,7 +4,7 @@ use Rattle.std.proofs.lemmas.Bool.{eq-eqb}
 use Rattle.std.proofs.lemmas.Bool.Decides.{nat_tests}
 use Rattle.std.specs.Prelude.{IfSome, nat_lt, not}
 use Rattle.std.specs.List.{AllByRecursion}
-use Rattle.cx_laws_keys.proofs.Lists.{all-append}
+use Rattle.cx_laws_truth.specs.cx_laws_keys.proofs.Lists.{all-append}
 use Rattle.cx_laws_truth.specs.cx_rules.specs.Links.{Link, put_link, without_link}
 use Rattle.cx_laws_truth.specs.cx_rules.specs.Rows.{links_behind}
 

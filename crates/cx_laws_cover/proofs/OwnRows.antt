@@ -26,9 +26,9 @@ use Rattle.cx_journal.specs.declared.faults.BytesFault.{BytesFault}
 use Rattle.cx_journal.specs.declared.faults.LoginFault.TheVariants.{Mode, SignatureWrong}
 use Rattle.cx_journal.specs.declared.outcomes.Reason.{Reason}
 use Rattle.cx_journal.specs.declared.outcomes.Reason.TheVariants as reason
-use Rattle.cx_laws_keys.proofs.Lists.{all-map}
-use Rattle.cx_login.specs.Unlocking.{login_in}
-use Rattle.cx_login.specs.declared.client.LoggedIn.{LoggedIn}
+use Rattle.cx_laws_truth.specs.cx_laws_keys.proofs.Lists.{all-map}
+use Rattle.cx_laws_truth.specs.cx_login.specs.Unlocking.{login_in}
+use Rattle.cx_laws_truth.specs.cx_login.specs.declared.client.LoggedIn.{LoggedIn}
 use Rattle.cx_laws_truth.specs.cx_rules.specs.Connector.{AskerArrival, AskerRow, AwaitsBanner, AwaitsHello, AwaitsChallenge, AwaitsDone, AwaitsSignature, AwaitsIdent, Login, Open, Stage, client_ident, holding, identifies, login_request, on_bad_method, on_banner, on_challenge, on_denial, on_done, on_hello, on_login_done, on_missing_features, on_opened, on_reply_more, on_signature, proves, signs, turned_at, while_challenged, while_identified, while_proved}
 use Rattle.cx_laws_truth.specs.cx_rules.specs.Fronts.{banner_next, keys_behind, opened_parts, plain_next, sealed_ahead, secure_next, secure_read, taking}
 use Rattle.cx_laws_truth.specs.cx_rules.specs.Greetings.{own_hello}
@@ -47,10 +47,10 @@ use Rattle.cx_secure.specs.declared.refusals.SecureRefusal.{SecureRefusal}
 use Rattle.cx_steps.specs.declared.seals.DrawMark.TheVariants as draw
 use Rattle.cx_steps.specs.declared.seals.SealEntry.{SealEntry}
 use Rattle.cx_steps.specs.declared.seals.SealEntry.TheVariants as entry
-use Rattle.cx_stream.specs.SecureStreams.{secure_frame_at}
-use Rattle.cx_wire.specs.declared.bodies.Request.TheVariants as asked
-use Rattle.cx_wire.specs.declared.logins.LoginDone.{LoginDone}
-use Rattle.cx_wire.specs.declared.logins.ServerChallenge.{ServerChallenge}
+use Rattle.cx_laws_truth.specs.cx_stream.specs.SecureStreams.{secure_frame_at}
+use Rattle.cx_laws_truth.specs.cx_wire.specs.declared.bodies.Request.TheVariants as asked
+use Rattle.cx_laws_truth.specs.cx_wire.specs.declared.logins.LoginDone.{LoginDone}
+use Rattle.cx_laws_truth.specs.cx_wire.specs.declared.logins.ServerChallenge.{ServerChallenge}
 
 -- what is entered as fetched is so
 abbrev pub EntersSo : (Fetched → Type 0) → Entry → Type 0

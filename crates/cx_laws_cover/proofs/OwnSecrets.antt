@@ -11,10 +11,10 @@ use Rattle.cx_enc.specs.declared.keys.Key.{Key}
 use Rattle.cx_journal.specs.declared.entries.Entry.{Entry}
 use Rattle.cx_keyring.specs.Entries.{is_named}
 use Rattle.cx_keyring.specs.declared.entries.Entry.{Entry as Principal}
-use Rattle.cx_keyserver.specs.Servers.{rotated_server}
+use Rattle.cx_laws_truth.specs.cx_keyserver.specs.Servers.{rotated_server}
 use Rattle.cx_laws_truth.specs.cx_laws_chain.proofs.Steps.{ComesOn, event-goes_on}
 use Rattle.cx_laws_truth.specs.cx_laws_chain.specs.Chain.{ring_in}
-use Rattle.cx_laws_keys.proofs.Lists.{found_passes}
+use Rattle.cx_laws_truth.specs.cx_laws_keys.proofs.Lists.{found_passes}
 use Rattle.cx_line_words.specs.declared.choices.LeftState.{LeftState}
 use Rattle.cx_laws_truth.specs.cx_rules.specs.Connector as connector
 use Rattle.cx_laws_truth.specs.cx_rules.specs.Inputs.{Input}
@@ -39,7 +39,7 @@ use Rattle.cx_laws_truth.specs.cx_run.specs.Happenings.{EntityNode, Happening, N
 use Rattle.cx_laws_truth.specs.cx_run.specs.Opening.{Declared, Setup, asker_of, daemon_opening, entity_in, nodes_of, principal_of, secret_of}
 use Rattle.cx_laws_truth.specs.cx_run.specs.Points.{EachPoint, Point, points, points_onto}
 use Rattle.cx_laws_truth.specs.cx_rules_session.specs.ClientRule.{opening_whole_client}
-use Rattle.cx_wire.specs.declared.bodies.Request.TheVariants as asked
+use Rattle.cx_laws_truth.specs.cx_wire.specs.declared.bodies.Request.TheVariants as asked
 use Rattle.cx_laws_cover.proofs.DaemonRests.{each-step}
 use Rattle.cx_laws_cover.proofs.OwnRows.{NoFetch, TurnOwn, request-own, turn-own}
 

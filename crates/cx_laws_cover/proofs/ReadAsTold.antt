@@ -14,14 +14,14 @@ use Rattle.cx_journal.specs.declared.entries.Fetched.{Fetched}
 use Rattle.cx_journal.specs.declared.premises.KeyKind.TheVariants as kind
 use Rattle.cx_laws_truth.specs.cx_laws_chain.proofs.Points.{spaced-behind}
 use Rattle.cx_laws_truth.specs.cx_laws_chain.specs.Chain.{Added, AreSpaced, Chain, HasChain, IsChained, life_in, saved_past, three_newest}
-use Rattle.cx_laws_keys.proofs.Uses.{Extends}
+use Rattle.cx_laws_truth.specs.cx_laws_keys.proofs.Uses.{Extends}
 use Rattle.cx_laws_truth.specs.cx_laws_run.proofs.Draws.{bytes-seed, length-seed}
 use Rattle.cx_laws_truth.specs.cx_laws_run.proofs.Good.{IsDraw, IsKnown, block-of, kept-blocks}
 use Rattle.cx_laws_truth.specs.cx_laws_run.proofs.Happening.{all-known}
 use Rattle.cx_laws_truth.specs.cx_laws_run.proofs.Whole.{run_of}
 use Rattle.cx_laws_truth.specs.cx_laws_run.specs.Laws.{MayBegin, MayHappen}
 use Rattle.cx_line_words.specs.Values.{is_life}
-use Rattle.cx_login.specs.Unlocking.{unlocked}
+use Rattle.cx_laws_truth.specs.cx_login.specs.Unlocking.{unlocked}
 use Rattle.cx_rotate.specs.Keeping.{IsLife}
 use Rattle.cx_rotate.specs.Rotation.{is_full}
 use Rattle.cx_rotate.specs.declared.generations.Generation.{Generation}
@@ -31,9 +31,9 @@ use Rattle.cx_laws_truth.specs.cx_run.proofs.PointsTell.{at-one}
 use Rattle.cx_laws_truth.specs.cx_run.specs.Happenings.{Happening, OfDaemon, entity_of}
 use Rattle.cx_laws_truth.specs.cx_run.specs.Opening.{Setup, first_state}
 use Rattle.cx_laws_truth.specs.cx_run.specs.Points.{Before, EachPoint, Point, points}
-use Rattle.cx_sealed.proofs.Rising.{rises}
-use Rattle.cx_sealed.specs.Records.{rotating_reply_layout}
-use Rattle.cx_sealed.specs.declared.rotating_reply.RotatingReply.{RotatingReply}
+use Rattle.cx_laws_truth.specs.cx_sealed.proofs.Rising.{rises}
+use Rattle.cx_laws_truth.specs.cx_sealed.specs.Records.{rotating_reply_layout}
+use Rattle.cx_laws_truth.specs.cx_sealed.specs.declared.rotating_reply.RotatingReply.{RotatingReply}
 use Rattle.cx_laws_truth.specs.cx_laws_fetch.proofs.AllCovered.{service-life}
 use Rattle.cx_laws_truth.specs.cx_laws_fetch.proofs.Arithmetic.{not-full}
 use Rattle.cx_laws_truth.specs.cx_laws_fetch.proofs.Kept.{MonitorUntil, kept-grows, kept-until}

@@ -17,8 +17,8 @@ use Rattle.cx_laws_truth.specs.cx_laws_fetch.proofs.PointEvents.{events_of}
 use Rattle.cx_laws_truth.specs.cx_laws_fetch.proofs.RepliedMoments.{AreReplied}
 use Rattle.cx_laws_truth.specs.cx_laws_fetch.proofs.Retied.{Handed, retied}
 use Rattle.cx_frame.specs.declared.frame.Frame.{Frame}
-use Rattle.cx_laws_keys.proofs.Journal.{entered}
-use Rattle.cx_laws_keys.proofs.Uses.{Uses, WholeRun}
+use Rattle.cx_laws_truth.specs.cx_laws_keys.proofs.Journal.{entered}
+use Rattle.cx_laws_truth.specs.cx_laws_keys.proofs.Uses.{Uses, WholeRun}
 use Rattle.cx_laws_truth.specs.cx_laws_run.proofs.Happening.{visited}
 use Rattle.cx_laws_truth.specs.cx_laws_run.proofs.Opening.{Begins, begins}
 use Rattle.cx_laws_truth.specs.cx_laws_run.proofs.Whole.{run_of}

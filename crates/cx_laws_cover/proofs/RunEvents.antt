@@ -31,10 +31,10 @@ use Rattle.cx_laws_truth.specs.cx_laws_fetch.proofs.PointEvents.{events_of, more
 use Rattle.cx_laws_truth.specs.cx_laws_fetch.proofs.RepliedMoments.{WasReplied}
 use Rattle.cx_laws_truth.specs.cx_laws_fetch.proofs.Retied.{Handed, grows-retied, inv-retied, retied}
 use Rattle.cx_laws_truth.specs.cx_laws_fetch.proofs.ToldStays.{told-stays}
-use Rattle.cx_laws_keys.proofs.Journal.{entered}
-use Rattle.cx_laws_keys.proofs.Known.{Inv}
-use Rattle.cx_laws_keys.proofs.Premises.{IsGranted, behind, granted-step}
-use Rattle.cx_laws_keys.proofs.Uses.{Grows, Means, Use, Uses, WholeRun}
+use Rattle.cx_laws_truth.specs.cx_laws_keys.proofs.Journal.{entered}
+use Rattle.cx_laws_truth.specs.cx_laws_keys.proofs.Known.{Inv}
+use Rattle.cx_laws_truth.specs.cx_laws_keys.proofs.Premises.{IsGranted, behind, granted-step}
+use Rattle.cx_laws_truth.specs.cx_laws_keys.proofs.Uses.{Grows, Means, Use, Uses, WholeRun}
 use Rattle.cx_laws_truth.specs.cx_laws_series.proofs.Contents.{contents_by}
 use Rattle.cx_laws_truth.specs.cx_laws_run.proofs.Events.{AllOccur, NodesOk, event-after, good-behind}
 use Rattle.cx_laws_truth.specs.cx_laws_run.proofs.Good.{each-before}

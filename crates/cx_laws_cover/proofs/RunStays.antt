@@ -15,10 +15,10 @@ use Rattle.cx_laws_truth.specs.cx_laws_fetch.proofs.AskedMoving.{IsNotAsked, IsN
 use Rattle.cx_laws_truth.specs.cx_laws_fetch.proofs.Later.{of_acceptor, of_connector}
 use Rattle.cx_laws_truth.specs.cx_laws_fetch.proofs.Retied.{Handed}
 use Rattle.cx_laws_truth.specs.cx_laws_fetch.proofs.Words.{IsIn}
-use Rattle.cx_laws_keys.proofs.Known.{Inv}
-use Rattle.cx_laws_keys.proofs.Lists.{all-map}
-use Rattle.cx_laws_keys.proofs.Premises.{behind}
-use Rattle.cx_laws_keys.proofs.Uses.{AtMonitor, Connected, Grows, Means, Use, Uses, WholeRun}
+use Rattle.cx_laws_truth.specs.cx_laws_keys.proofs.Known.{Inv}
+use Rattle.cx_laws_truth.specs.cx_laws_keys.proofs.Lists.{all-map}
+use Rattle.cx_laws_truth.specs.cx_laws_keys.proofs.Premises.{behind}
+use Rattle.cx_laws_truth.specs.cx_laws_keys.proofs.Uses.{AtMonitor, Connected, Grows, Means, Use, Uses, WholeRun}
 use Rattle.cx_laws_truth.specs.cx_laws_series.proofs.Contents.{contents_by}
 use Rattle.cx_laws_truth.specs.cx_rules.specs.Links.{Link}
 use Rattle.cx_laws_truth.specs.cx_rules.specs.Monitor.{MonitorStage}

@@ -15,7 +15,7 @@ use Rattle.cx_laws_truth.specs.cx_rules_session.specs.DaemonRule.{AsAcceptor, As
 use Rattle.cx_laws_truth.specs.cx_run.specs.Happenings.{EntityNode, Nodes, OfClient, OfDaemon}
 use Rattle.cx_laws_truth.specs.cx_run.specs.Points.{Point}
 use Rattle.cx_steps.specs.declared.seals.Logged.{Logged}
-use Rattle.cx_laws_keys.proofs.Uses.{AtMonitor, Connected, Means, Uses, WholeRun}
+use Rattle.cx_laws_truth.specs.cx_laws_keys.proofs.Uses.{AtMonitor, Connected, Means, Uses, WholeRun}
 use Rattle.cx_laws_truth.specs.cx_laws_fetch.proofs.AskedKnown.{AreTold, AskerTold, Events, IsBearing, IsBearingFirst, IsUnsaid, Told}
 use Rattle.cx_laws_truth.specs.cx_laws_fetch.proofs.AskedWords.{given_frame}
 use Rattle.cx_laws_truth.specs.cx_laws_fetch.proofs.AskerFacts.{HasAnswered}

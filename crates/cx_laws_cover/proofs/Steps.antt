@@ -9,10 +9,10 @@ use Rattle.cx_journal.specs.declared.entries.Entry.{Entry}
 use Rattle.cx_journal.specs.declared.entries.Entry.TheVariants as journal
 use Rattle.cx_journal.specs.declared.entries.Fetched.{Fetched}
 use Rattle.cx_laws_truth.specs.cx_laws_authorize.proofs.Backing.{AllGood}
-use Rattle.cx_laws_keys.proofs.Journal.{entered}
-use Rattle.cx_laws_keys.proofs.Known.{Inv}
-use Rattle.cx_laws_keys.proofs.Premises.{AreGranted, behind}
-use Rattle.cx_laws_keys.proofs.Uses.{AtMonitor, Connected, Grows, Means, Uses, WholeRun}
+use Rattle.cx_laws_truth.specs.cx_laws_keys.proofs.Journal.{entered}
+use Rattle.cx_laws_truth.specs.cx_laws_keys.proofs.Known.{Inv}
+use Rattle.cx_laws_truth.specs.cx_laws_keys.proofs.Premises.{AreGranted, behind}
+use Rattle.cx_laws_truth.specs.cx_laws_keys.proofs.Uses.{AtMonitor, Connected, Grows, Means, Uses, WholeRun}
 use Rattle.cx_laws_truth.specs.cx_laws_run.proofs.Events.{NodesOk}
 use Rattle.cx_laws_truth.specs.cx_laws_series.proofs.Contents.{contents_by}
 use Rattle.cx_laws_truth.specs.cx_rules.specs.Links.{Link}

@@ -23,9 +23,9 @@ use Rattle.cx_journal.specs.declared.faults.BytesFault.TheVariants.{Unexpected}
 use Rattle.cx_journal.specs.declared.faults.LoginFault.TheVariants.{Mode, SignatureWrong}
 use Rattle.cx_journal.specs.declared.outcomes.Reason.{Reason}
 use Rattle.cx_journal.specs.declared.outcomes.Reason.TheVariants as reason
-use Rattle.cx_login.specs.Held.{Held}
-use Rattle.cx_login.specs.Unlocking.{login_in, told_each}
-use Rattle.cx_login.specs.declared.client.LoggedIn.{LoggedIn}
+use Rattle.cx_laws_truth.specs.cx_login.specs.Held.{Held}
+use Rattle.cx_laws_truth.specs.cx_login.specs.Unlocking.{login_in, told_each}
+use Rattle.cx_laws_truth.specs.cx_login.specs.declared.client.LoggedIn.{LoggedIn}
 use Rattle.cx_laws_truth.specs.cx_rules.specs.Connector.{AskerArrival, AskerRow, Stage, AwaitsBanner, AwaitsHello, AwaitsChallenge, AwaitsDone, AwaitsSignature, AwaitsIdent, Login, Open, client_ident, holding, identifies, login_request, on_bad_method, on_banner, on_challenge, on_done, on_hello, on_login_done, on_missing_features, on_opened, on_reply_more, on_signature, proves, signs, turned_at, while_challenged, while_identified, while_proved}
 use Rattle.cx_laws_truth.specs.cx_rules.specs.Fronts.{banner_next, plain_next, secure_next}
 use Rattle.cx_laws_truth.specs.cx_rules.specs.Greetings.{own_hello}
@@ -48,13 +48,13 @@ use Rattle.cx_laws_truth.specs.cx_run.proofs.Taking.{EachRow, each-turned}
 use Rattle.cx_steps.specs.declared.seals.DrawMark.TheVariants as draw
 use Rattle.cx_steps.specs.declared.seals.SealEntry.{SealEntry}
 use Rattle.cx_steps.specs.declared.seals.SealEntry.TheVariants as entry
-use Rattle.cx_wire.specs.Bodies.{reply_layout}
-use Rattle.cx_wire.specs.Logins.{login_done_layout, server_challenge_layout}
-use Rattle.cx_wire.specs.declared.bodies.Reply.{Reply}
-use Rattle.cx_wire.specs.declared.bodies.Reply.TheVariants as given
-use Rattle.cx_wire.specs.declared.bodies.Request.TheVariants as asked
-use Rattle.cx_wire.specs.declared.logins.LoginDone.{LoginDone}
-use Rattle.cx_wire.specs.declared.logins.ServerChallenge.{ServerChallenge}
+use Rattle.cx_laws_truth.specs.cx_wire.specs.Bodies.{reply_layout}
+use Rattle.cx_laws_truth.specs.cx_wire.specs.Logins.{login_done_layout, server_challenge_layout}
+use Rattle.cx_laws_truth.specs.cx_wire.specs.declared.bodies.Reply.{Reply}
+use Rattle.cx_laws_truth.specs.cx_wire.specs.declared.bodies.Reply.TheVariants as given
+use Rattle.cx_laws_truth.specs.cx_wire.specs.declared.bodies.Request.TheVariants as asked
+use Rattle.cx_laws_truth.specs.cx_wire.specs.declared.logins.LoginDone.{LoginDone}
+use Rattle.cx_laws_truth.specs.cx_wire.specs.declared.logins.ServerChallenge.{ServerChallenge}
 use Rattle.cx_laws_cover.proofs.ClientAsks.{AskTickets, IsNoFetch, StageAsks, WantsTickets}
 
 -- a link that goes on asks for tickets alone, and nothing is fetched

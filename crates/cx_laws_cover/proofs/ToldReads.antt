@@ -10,17 +10,17 @@ use Rattle.cx_enc.specs.FieldLaws.{kind_fits, reading_fits}
 use Rattle.cx_enc.specs.Forms.{passed, u32_form, u64_form, u8_form}
 use Rattle.cx_enc.specs.Values.{kind_form, number_of, reading_form, secret_form}
 use Rattle.cx_journal.specs.declared.premises.KeyKind.TheVariants as kind
-use Rattle.cx_laws_keys.proofs.Reading.{secret_fits}
+use Rattle.cx_laws_truth.specs.cx_laws_keys.proofs.Reading.{secret_fits}
 use Rattle.cx_laws_truth.specs.cx_laws_run.proofs.Written.{both, bytes_1, bytes_4, bytes_8, reading-bytes, secret-bytes}
 use Rattle.cx_laws_truth.specs.cx_laws_run.specs.Laws.{AreBytes}
-use Rattle.cx_login.specs.Unlocking.{unlocked, unlocked_as}
+use Rattle.cx_laws_truth.specs.cx_login.specs.Unlocking.{unlocked, unlocked_as}
 use Rattle.cx_rotate.specs.declared.generations.Generation.{Generation}
 use Rattle.cx_laws_truth.specs.cx_rules.specs.Replies.{told_content}
-use Rattle.cx_sealed.proofs.Found.{unsealed_only}
-use Rattle.cx_sealed.specs.Lengths.{rotating_reply_short}
-use Rattle.cx_sealed.specs.Records.{generation_layout, is_none_or_three, is_rising, rotating_reply_layout}
-use Rattle.cx_sealed.specs.declared.rotating_reply.RotatingReply.{RotatingReply}
-use Rattle.cx_sealed.specs.declared.unsealed.Unsealed.{Unsealed}
+use Rattle.cx_laws_truth.specs.cx_sealed.proofs.Found.{unsealed_only}
+use Rattle.cx_laws_truth.specs.cx_sealed.specs.Lengths.{rotating_reply_short}
+use Rattle.cx_laws_truth.specs.cx_sealed.specs.Records.{generation_layout, is_none_or_three, is_rising, rotating_reply_layout}
+use Rattle.cx_laws_truth.specs.cx_sealed.specs.declared.rotating_reply.RotatingReply.{RotatingReply}
+use Rattle.cx_laws_truth.specs.cx_sealed.specs.declared.unsealed.Unsealed.{Unsealed}
 
 -- ---- what can be written
 

@@ -10,12 +10,12 @@ use Rattle.cx_laws_truth.specs.cx_laws_run.proofs.Schedules.{may-happen}
 use Rattle.cx_laws_truth.specs.cx_laws_fetch.proofs.RepliedMoments.{AreReplied}
 use Rattle.cx_laws_truth.specs.cx_laws_run.proofs.Whole.{run_of}
 use Rattle.cx_laws_truth.specs.cx_laws_run.specs.Laws.{MayHappen}
-use Rattle.cx_lines.specs.declared.lines.Numbered.{Numbered}
+use Rattle.cx_laws_truth.specs.cx_lines.specs.declared.lines.Numbered.{Numbered}
 use Rattle.cx_laws_truth.specs.cx_run.specs.Happenings.{Happening}
 use Rattle.cx_laws_truth.specs.cx_run.specs.Opening.{Setup, leaked_of}
 use Rattle.cx_laws_truth.specs.cx_run.specs.Points.{log_since, points}
 use Rattle.cx_laws_truth.specs.cx_run.specs.Runs.{IsFoundOf, setup_of, trace}
-use Rattle.cx_schedule.specs.Files.{Lines}
+use Rattle.cx_laws_truth.specs.cx_schedule.specs.Files.{Lines}
 use Rattle.cx_steps.specs.Premises.{IsFresh, IsSound}
 
 -- each fetch is what the monitor replied to that daemon behind its asking

@@ -5,12 +5,12 @@ ghost use Rattle.cx_base.specs.Names.{Name};
 ghost use Rattle.cx_desk.specs.Handlers.{Handlers};
 ghost use Rattle.cx_laws_truth.specs.cx_laws_fetch.specs.Covered.{FetchesPaced, IsCovered, IsSteadyFor};
 ghost use Rattle.cx_laws_truth.specs.cx_laws_run.specs.Laws.{MayHappen};
-ghost use Rattle.cx_lines.specs.declared.lines.Numbered.{Numbered};
+ghost use Rattle.cx_laws_truth.specs.cx_lines.specs.declared.lines.Numbered.{Numbered};
 ghost use Rattle.cx_laws_truth.specs.cx_run.specs.Happenings.{Happening};
 ghost use Rattle.cx_laws_truth.specs.cx_run.specs.Opening.{Setup, leaked_of};
 ghost use Rattle.cx_laws_truth.specs.cx_run.specs.Points.{log_since, points};
 ghost use Rattle.cx_laws_truth.specs.cx_run.specs.Runs.{IsFoundOf, setup_of, trace};
-ghost use Rattle.cx_schedule.specs.Files.{Lines};
+ghost use Rattle.cx_laws_truth.specs.cx_schedule.specs.Files.{Lines};
 ghost use Rattle.cx_steps.specs.Premises.{IsFresh, IsSound};
 
 /// Where nothing opens under a key that didn't seal it and no draw repeats, and the clocks of the monitor and of a daemon never fall, each look of that daemon lists the

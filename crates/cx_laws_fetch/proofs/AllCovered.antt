@@ -21,8 +21,8 @@ use Rattle.cx_laws_authorize.specs.cx_run.specs.Opening.{Setup, first_state, nod
 use Rattle.cx_laws_authorize.specs.cx_run.specs.Points.{Before, EachPoint, Point, WasEntered, entries_at, journal_since, points, points_onto}
 use Rattle.cx_laws_chain.proofs.Points.{spaced-behind}
 use Rattle.cx_laws_chain.specs.Chain.{AreSpaced, Chain, HasChain, IsChained, KeepsGenerations, life_in}
-use Rattle.cx_laws_keys.proofs.Uses.{Extends}
-use Rattle.cx_laws_keys.specs.LooksLast.{LooksLast, LooksLastBy}
+use Rattle.cx_laws_authorize.specs.cx_laws_keys.proofs.Uses.{Extends}
+use Rattle.cx_laws_authorize.specs.cx_laws_keys.specs.LooksLast.{LooksLast, LooksLastBy}
 use Rattle.cx_laws_fetch.proofs.Arithmetic.{three-paced}
 use Rattle.cx_laws_fetch.proofs.Covering.{daemon-either, monitor-either, not-before, view-lists}
 use Rattle.cx_laws_fetch.proofs.Kept.{MonitorUntil, StandsAt, kept-grows, kept-until, stands-at}

@@ -30,7 +30,7 @@ use Rattle.cx_laws_authorize.specs.cx_run.proofs.PointsTell.{each-map}
 use Rattle.cx_laws_authorize.specs.cx_run.specs.Happenings.{EntityNode, OfClient, OfDaemon, Happening, Nodes, Stepped, asker_in, entity_of, entity_rule, entity_steps, is_of, monitor_steps, steps, steps_of}
 use Rattle.cx_laws_authorize.specs.cx_run.specs.Opening.{Declared, Setup, asker_of, daemon_opening, entity_in, nodes_of}
 use Rattle.cx_laws_authorize.specs.cx_run.specs.Points.{Before, EachPoint, Point, points, points_onto, seals_at, stepped_at}
-use Rattle.cx_laws_keys.proofs.Lists.{all-map, found_all, found_passes}
+use Rattle.cx_laws_authorize.specs.cx_laws_keys.proofs.Lists.{all-map, found_all, found_passes}
 use Rattle.cx_laws_fetch.proofs.AskerFacts.{AreAskedAt, AskedBehind, DrewBehind, StageTold}
 use Rattle.cx_laws_fetch.proofs.ClientTells.{ClientLinkTold, client-map, client-tells}
 use Rattle.cx_laws_fetch.proofs.DaemonTells.{DaemonLinkTold, DaemonStageTold, daemon-map, daemon-tells}

@@ -4,7 +4,7 @@ use Rattle.std.specs.Prelude.{max, nat_lt, IsTrue, ◌||◌, if◌then◌else◌
 use Rattle.std.specs.List.{AllByRecursion}
 use Rattle.std.proofs.lemmas.Bool.Decides.{nat_tests}
 use Rattle.cx_journal.specs.KeepsKeys.{has_generation}
-use Rattle.cx_keyserver.specs.Issuing.{current_at}
+use Rattle.cx_laws_authorize.specs.cx_keyserver.specs.Issuing.{current_at}
 use Rattle.cx_rotate.proofs.Results.{never_full}
 use Rattle.cx_rotate.specs.Lawful.{IsPaced}
 use Rattle.cx_rotate.specs.Rotation.{is_current, is_full}

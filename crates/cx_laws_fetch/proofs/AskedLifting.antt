@@ -11,10 +11,10 @@ use Rattle.cx_base.specs.declared.nodes.NodeName.TheVariants as node
 use Rattle.cx_frame.specs.Frames.{total}
 use Rattle.cx_frame.specs.declared.frame.Frame.{Frame}
 use Rattle.cx_journal.specs.declared.entries.Entry.{Entry}
-use Rattle.cx_laws_keys.proofs.Known.{Inv, IsAllowed}
-use Rattle.cx_laws_keys.proofs.Lists.{all-append}
-use Rattle.cx_laws_keys.proofs.Premises.{behind}
-use Rattle.cx_laws_keys.proofs.Uses.{AtMonitor, Connected, Grows, Means, Use, Uses, WholeRun}
+use Rattle.cx_laws_authorize.specs.cx_laws_keys.proofs.Known.{Inv, IsAllowed}
+use Rattle.cx_laws_authorize.specs.cx_laws_keys.proofs.Lists.{all-append}
+use Rattle.cx_laws_authorize.specs.cx_laws_keys.proofs.Premises.{behind}
+use Rattle.cx_laws_authorize.specs.cx_laws_keys.proofs.Uses.{AtMonitor, Connected, Grows, Means, Use, Uses, WholeRun}
 use Rattle.cx_laws_series.proofs.Contents.{content_of, content_where, contents-behind, contents_by, contents_in}
 use Rattle.cx_secure.specs.Parts.{nonce_at}
 use Rattle.cx_steps.specs.Onto.{SomeOf}

@@ -7,8 +7,8 @@ use Rattle.cx_base.specs.Names.{Name}
 use Rattle.cx_base.specs.declared.nodes.NodeName.{NodeName}
 use Rattle.cx_base.specs.declared.nodes.NodeName.TheVariants as node
 use Rattle.cx_frame.specs.declared.frame.Frame.{Frame}
-use Rattle.cx_laws_keys.proofs.Premises.{behind}
-use Rattle.cx_laws_keys.proofs.Uses.{AtMonitor, Connected, Grows, Uses, WholeRun}
+use Rattle.cx_laws_authorize.specs.cx_laws_keys.proofs.Premises.{behind}
+use Rattle.cx_laws_authorize.specs.cx_laws_keys.proofs.Uses.{AtMonitor, Connected, Grows, Uses, WholeRun}
 use Rattle.cx_laws_series.proofs.Contents.{contents-behind, contents_by, contents_in}
 use Rattle.cx_laws_series.specs.cx_rules.specs.Secured.{Keys, Secured}
 use Rattle.cx_steps.specs.declared.seals.Logged.{Logged}

@@ -6,16 +6,16 @@ use Rattle.cx_base.specs.Names.{Name}
 use Rattle.cx_base.specs.declared.nodes.NodeName.{NodeName}
 use Rattle.cx_frame.specs.declared.frame.Frame.{Frame}
 use Rattle.cx_journal.specs.declared.entries.Entry.{Entry}
-use Rattle.cx_laws_keys.proofs.Known.{Inv}
-use Rattle.cx_laws_keys.proofs.Premises.{AreGranted}
-use Rattle.cx_laws_keys.proofs.Uses.{Connected, Means, Tie, Uses, WholeRun}
+use Rattle.cx_laws_authorize.specs.cx_laws_keys.proofs.Known.{Inv}
+use Rattle.cx_laws_authorize.specs.cx_laws_keys.proofs.Premises.{AreGranted}
+use Rattle.cx_laws_authorize.specs.cx_laws_keys.proofs.Uses.{Connected, Means, Tie, Uses, WholeRun}
 use Rattle.cx_laws_series.specs.cx_rules.specs.Fronts.{keys_behind, opened_parts, sealed_ahead}
 use Rattle.cx_laws_series.specs.cx_rules.specs.Links.{Link}
 use Rattle.cx_laws_series.specs.cx_rules.specs.Secured.{Keys}
 use Rattle.cx_steps.specs.Premises.{IsExcepted}
 use Rattle.cx_steps.specs.declared.seals.Logged.{Logged}
-use Rattle.cx_stream.specs.Openings.{front_contents}
-use Rattle.cx_stream.specs.SecureStreams.{secure_frame_at}
+use Rattle.cx_laws_series.specs.cx_stream.specs.Openings.{front_contents}
+use Rattle.cx_laws_series.specs.cx_stream.specs.SecureStreams.{secure_frame_at}
 use Rattle.cx_laws_fetch.proofs.AskedKnown.{AreSaid, HasTaken, IsLoginKey, Truth}
 use Rattle.cx_laws_fetch.proofs.Later.{IsEnd, IsLaterSeries}
 use Rattle.cx_laws_fetch.proofs.NextWord.{IsShaped, NextWord, next-word, opened-sealed, taken-counter}

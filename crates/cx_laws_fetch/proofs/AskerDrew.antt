@@ -10,7 +10,7 @@ use Rattle.cx_dice.specs.Draws.{challenge_of}
 use Rattle.cx_frame.specs.Frames.{frame_text}
 use Rattle.cx_frame.specs.declared.frame.Frame.{Frame}
 use Rattle.cx_journal.specs.declared.faults.BytesFault.{BytesFault}
-use Rattle.cx_laws_keys.proofs.Uses.{Means, Secret, Uses}
+use Rattle.cx_laws_authorize.specs.cx_laws_keys.proofs.Uses.{Means, Secret, Uses}
 use Rattle.cx_laws_authorize.specs.cx_rules_session.specs.cx_rules.specs.Connector.{AskerArrival, AskerRow, AwaitsDone, Stage, on_bad_method, on_challenge, on_reply_more, proves, while_challenged}
 use Rattle.cx_laws_authorize.specs.cx_rules_session.specs.cx_rules.specs.Judged.{LogsDraw}
 use Rattle.cx_laws_authorize.specs.cx_rules_session.specs.cx_rules.specs.Links.{Link}

@@ -21,8 +21,8 @@ use Rattle.cx_laws_authorize.specs.cx_rules_session.specs.cx_rules.specs.cx_logi
 use Rattle.cx_laws_authorize.specs.cx_rules_session.specs.cx_rules.specs.cx_steps.specs.declared.effects.Effects.{Effects}
 use Rattle.cx_laws_authorize.specs.cx_rules_session.specs.cx_rules.specs.cx_steps.specs.declared.seals.DrawMark.TheVariants as draw
 use Rattle.cx_laws_authorize.specs.cx_rules_session.specs.cx_rules.specs.cx_steps.specs.declared.seals.SealEntry.{SealEntry}
-use Rattle.cx_stream.specs.PlainStreams.{plain_frame_at}
-use Rattle.cx_laws_keys.proofs.Lists.{all-append, all-map, map-append}
+use Rattle.cx_laws_series.specs.cx_stream.specs.PlainStreams.{plain_frame_at}
+use Rattle.cx_laws_authorize.specs.cx_laws_keys.proofs.Lists.{all-append, all-map, map-append}
 use Rattle.cx_laws_fetch.proofs.Banners.{IsRead, read-frame, read-grows}
 use Rattle.cx_laws_fetch.proofs.WrittenFrames.{IsWritten, answer_frame, written-first}
 

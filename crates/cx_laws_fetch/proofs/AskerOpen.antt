@@ -7,7 +7,7 @@ use Rattle.cx_laws_series.specs.cx_rules.specs.declared.requests.Want.{Want}
 use Rattle.cx_laws_series.specs.cx_rules.specs.declared.requests.Want.TheVariants.{Tickets, Rotating}
 use Rattle.cx_wire.specs.declared.bodies.Request.{Request}
 use Rattle.cx_wire.specs.declared.bodies.Request.TheVariants as asked
-use Rattle.cx_laws_keys.proofs.Lists.{all-append, all-map}
+use Rattle.cx_laws_authorize.specs.cx_laws_keys.proofs.Lists.{all-append, all-map}
 use Rattle.cx_laws_fetch.proofs.AskedKnown.{IsAwaited, IsAwaitedAs}
 use Rattle.cx_laws_fetch.proofs.AskedWords.{Acknowledges, Asked, Asks, Idents, last-append, last_number}
 use Rattle.cx_laws_fetch.proofs.AskerMoves.{words_of}

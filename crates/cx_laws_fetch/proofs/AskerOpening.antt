@@ -7,9 +7,9 @@ use Rattle.cx_control.specs.Auth.{auth_signature_layout}
 use Rattle.cx_control.specs.declared.auth.AuthSignature.{AuthSignature}
 use Rattle.cx_frame.specs.declared.frame.Frame.{Frame}
 use Rattle.cx_journal.specs.declared.entries.Entry.{Entry}
-use Rattle.cx_laws_keys.proofs.Known.{Inv}
-use Rattle.cx_laws_keys.proofs.Premises.{AreGranted, behind}
-use Rattle.cx_laws_keys.proofs.Uses.{Grows, Means, Use, Uses, WholeRun}
+use Rattle.cx_laws_authorize.specs.cx_laws_keys.proofs.Known.{Inv}
+use Rattle.cx_laws_authorize.specs.cx_laws_keys.proofs.Premises.{AreGranted, behind}
+use Rattle.cx_laws_authorize.specs.cx_laws_keys.proofs.Uses.{Grows, Means, Use, Uses, WholeRun}
 use Rattle.cx_laws_series.specs.cx_rules.specs.Connector.{AskerArrival, AskerRow, AwaitsIdent, Login, Open, Stage, on_signature, while_identified}
 use Rattle.cx_laws_series.specs.cx_rules.specs.Fronts.{keys_behind, opened_parts, sealed_ahead, taking}
 use Rattle.cx_laws_series.specs.cx_rules.specs.Links.{Link}
@@ -20,7 +20,7 @@ use Rattle.cx_laws_series.specs.cx_rules.specs.Secured.{Secured, under}
 use Rattle.cx_steps.specs.Premises.{IsExcepted}
 use Rattle.cx_steps.specs.declared.seals.Logged.{Logged}
 use Rattle.cx_steps.specs.declared.seals.SealEntry.{SealEntry}
-use Rattle.cx_stream.specs.SecureStreams.{secure_frame_at}
+use Rattle.cx_laws_series.specs.cx_stream.specs.SecureStreams.{secure_frame_at}
 use Rattle.cx_laws_fetch.proofs.AskedKnown.{AreFirst, AreTold, AskerTold, Events, IsLoginKey, IsUnsaid, MoreEvents, Told}
 use Rattle.cx_laws_fetch.proofs.AskedWords.{asked_frame}
 use Rattle.cx_laws_fetch.proofs.AskerMoves.{AskerMoves, asker-moves, asker-taken, asker-takes}

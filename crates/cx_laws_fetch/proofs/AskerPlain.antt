@@ -20,10 +20,10 @@ use Rattle.cx_journal.specs.declared.faults.LoginFault.TheVariants.{SignatureWro
 use Rattle.cx_journal.specs.declared.outcomes.Reason.TheVariants as reason
 use Rattle.cx_journal.specs.declared.premises.KeyKind.{KeyKind}
 use Rattle.cx_journal.specs.declared.premises.KeyKind.TheVariants as kind
-use Rattle.cx_laws_keys.proofs.Lists.{all-append}
-use Rattle.cx_laws_keys.proofs.Uses.{Means, Use, Uses}
-use Rattle.cx_login.specs.Held.{Held, held_as}
-use Rattle.cx_login.specs.Unlocking.{Unlocked, ◌>>=◌, going_on, made, told, told_each, unlocked, unlocked_as}
+use Rattle.cx_laws_authorize.specs.cx_laws_keys.proofs.Lists.{all-append}
+use Rattle.cx_laws_authorize.specs.cx_laws_keys.proofs.Uses.{Means, Use, Uses}
+use Rattle.cx_laws_authorize.specs.cx_login.specs.Held.{Held, held_as}
+use Rattle.cx_laws_authorize.specs.cx_login.specs.Unlocking.{Unlocked, ◌>>=◌, going_on, made, told, told_each, unlocked, unlocked_as}
 use Rattle.cx_laws_series.specs.cx_rules.specs.Connector.{AskerArrival, AskerRow, AwaitsIdent, Login, Open, client_ident, holding, identifies, on_missing_features, on_signature, while_identified}
 use Rattle.cx_laws_series.specs.cx_rules.specs.Holdings.{Asker, held_login}
 use Rattle.cx_laws_series.specs.cx_rules.specs.Messages.{Message, body_as, message_in}
@@ -39,10 +39,10 @@ use Rattle.cx_laws_series.specs.cx_rules.specs.declared.requests.Taken.TheVarian
 use Rattle.cx_laws_series.specs.cx_rules.specs.declared.requests.Waiting.{Waiting}
 use Rattle.cx_laws_series.specs.cx_rules.specs.declared.requests.Want.{Want}
 use Rattle.cx_laws_series.specs.cx_rules.specs.declared.requests.Want.TheVariants as want
-use Rattle.cx_sealed.specs.Records.{rotating_reply_layout, ticket_info_layout}
-use Rattle.cx_sealed.specs.Unsealing.{unsealed}
-use Rattle.cx_sealed.specs.declared.rotating_reply.RotatingReply.{RotatingReply}
-use Rattle.cx_sealed.specs.declared.unsealed.Unsealed.{Unsealed}
+use Rattle.cx_laws_authorize.specs.cx_sealed.specs.Records.{rotating_reply_layout, ticket_info_layout}
+use Rattle.cx_laws_authorize.specs.cx_sealed.specs.Unsealing.{unsealed}
+use Rattle.cx_laws_authorize.specs.cx_sealed.specs.declared.rotating_reply.RotatingReply.{RotatingReply}
+use Rattle.cx_laws_authorize.specs.cx_sealed.specs.declared.unsealed.Unsealed.{Unsealed}
 use Rattle.cx_steps.specs.declared.seals.DrawMark.TheVariants as draw
 use Rattle.cx_steps.specs.declared.seals.SealEntry.{SealEntry}
 use Rattle.cx_steps.specs.declared.seals.SealEntry.TheVariants as entry

@@ -7,16 +7,16 @@ use Rattle.cx_base.specs.Names.{Name}
 use Rattle.cx_frame.specs.Frames.{total}
 use Rattle.cx_frame.specs.declared.frame.Frame.{Frame}
 use Rattle.cx_journal.specs.declared.premises.KeyKind.TheVariants as kind
-use Rattle.cx_laws_keys.proofs.Lists.{some-of}
-use Rattle.cx_laws_keys.proofs.Uses.{Means, Use, Uses, WholeRun}
-use Rattle.cx_login.specs.Unlocking.{unlocked}
+use Rattle.cx_laws_authorize.specs.cx_laws_keys.proofs.Lists.{some-of}
+use Rattle.cx_laws_authorize.specs.cx_laws_keys.proofs.Uses.{Means, Use, Uses, WholeRun}
+use Rattle.cx_laws_authorize.specs.cx_login.specs.Unlocking.{unlocked}
 use Rattle.cx_rotate.specs.declared.generations.Generation.{Generation}
 use Rattle.cx_laws_series.specs.cx_rules.specs.Requests.{Requests, taken}
 use Rattle.cx_laws_series.specs.cx_rules.specs.declared.requests.Taken.TheVariants as reply
 use Rattle.cx_laws_series.specs.cx_rules.specs.declared.requests.Waiting.{Waiting}
 use Rattle.cx_laws_series.specs.cx_rules.specs.declared.requests.Want.{Want}
-use Rattle.cx_sealed.specs.Records.{rotating_reply_layout}
-use Rattle.cx_sealed.specs.declared.rotating_reply.RotatingReply.{RotatingReply}
+use Rattle.cx_laws_authorize.specs.cx_sealed.specs.Records.{rotating_reply_layout}
+use Rattle.cx_laws_authorize.specs.cx_sealed.specs.declared.rotating_reply.RotatingReply.{RotatingReply}
 use Rattle.cx_steps.specs.declared.seals.Logged.{Logged}
 use Rattle.cx_steps.specs.declared.seals.SealEntry.{SealEntry}
 use Rattle.cx_wire.specs.declared.bodies.Reply.{Reply}

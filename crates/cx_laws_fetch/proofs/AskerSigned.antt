@@ -15,9 +15,9 @@ use Rattle.cx_journal.specs.declared.faults.LoginFault.TheVariants.{SignatureWro
 use Rattle.cx_journal.specs.declared.outcomes.Reason.{Reason}
 use Rattle.cx_journal.specs.declared.outcomes.Reason.TheVariants as reason
 use Rattle.cx_journal.specs.declared.premises.KeyKind.TheVariants as kind
-use Rattle.cx_laws_keys.proofs.Known.{Inv}
-use Rattle.cx_laws_keys.proofs.Premises.{AreGranted, behind, granted-rest}
-use Rattle.cx_laws_keys.proofs.Uses.{AtMonitor, Connected, Grows, Login, Means, Use, Uses, WholeRun}
+use Rattle.cx_laws_authorize.specs.cx_laws_keys.proofs.Known.{Inv}
+use Rattle.cx_laws_authorize.specs.cx_laws_keys.proofs.Premises.{AreGranted, behind, granted-rest}
+use Rattle.cx_laws_authorize.specs.cx_laws_keys.proofs.Uses.{AtMonitor, Connected, Grows, Login, Means, Use, Uses, WholeRun}
 use Rattle.cx_laws_authorize.specs.cx_laws_login.proofs.AskerRows.{NeverExcepted}
 use Rattle.cx_laws_series.specs.cx_rules.specs.Connector.{AskerArrival, AskerRow, AwaitsIdent, Login as Opening, Stage, client_ident, holding, identifies, on_signature}
 use Rattle.cx_laws_series.specs.cx_rules.specs.Fronts.{keys_behind, opened_parts, sealed_ahead, taking}
@@ -32,8 +32,8 @@ use Rattle.cx_steps.specs.declared.seals.DrawMark.TheVariants as draw
 use Rattle.cx_steps.specs.declared.seals.Logged.{Logged}
 use Rattle.cx_steps.specs.declared.seals.SealEntry.{SealEntry}
 use Rattle.cx_steps.specs.declared.seals.SealEntry.TheVariants as entry
-use Rattle.cx_stream.specs.Openings.{front_contents}
-use Rattle.cx_stream.specs.SecureStreams.{Ahead}
+use Rattle.cx_laws_series.specs.cx_stream.specs.Openings.{front_contents}
+use Rattle.cx_laws_series.specs.cx_stream.specs.SecureStreams.{Ahead}
 use Rattle.cx_laws_fetch.proofs.AskedKnown.{AreTold, Events, IsLoginKey, IsUnsaid, MoreEvents, Told}
 use Rattle.cx_laws_fetch.proofs.AskedMoving.{Quiets}
 use Rattle.cx_laws_fetch.proofs.AskerFacts.{HasAnswered}

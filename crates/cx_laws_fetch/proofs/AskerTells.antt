@@ -50,7 +50,7 @@ use Rattle.cx_wire.specs.declared.bodies.Request.TheVariants as asked
 use Rattle.cx_wire.specs.declared.logins.LoginDone.{LoginDone}
 use Rattle.cx_wire.specs.declared.logins.ServerChallenge.{ServerChallenge}
 use Rattle.cx_laws_authorize.specs.cx_run.proofs.Taking.{EachRow}
-use Rattle.cx_laws_keys.proofs.Lists.{all-append}
+use Rattle.cx_laws_authorize.specs.cx_laws_keys.proofs.Lists.{all-append}
 use Rattle.cx_laws_fetch.proofs.Banners.{IsRead, read-banner}
 use Rattle.cx_laws_fetch.proofs.Turns.{banner-each, plain-each, secure-each}
 use Rattle.cx_laws_fetch.proofs.WrittenFrames.{IsWritten, answer_frame, answer_text, due-tag, written-one}

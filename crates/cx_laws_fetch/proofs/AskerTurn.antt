@@ -6,9 +6,9 @@ use Rattle.cx_base.specs.Names.{Name}
 use Rattle.cx_base.specs.declared.nodes.NodeName.{NodeName}
 use Rattle.cx_frame.specs.declared.frame.Frame.{Frame}
 use Rattle.cx_journal.specs.declared.entries.Entry.{Entry}
-use Rattle.cx_laws_keys.proofs.Known.{Inv}
-use Rattle.cx_laws_keys.proofs.Premises.{AreGranted, behind}
-use Rattle.cx_laws_keys.proofs.Uses.{Grows, Means, Use, Uses, WholeRun}
+use Rattle.cx_laws_authorize.specs.cx_laws_keys.proofs.Known.{Inv}
+use Rattle.cx_laws_authorize.specs.cx_laws_keys.proofs.Premises.{AreGranted, behind}
+use Rattle.cx_laws_authorize.specs.cx_laws_keys.proofs.Uses.{Grows, Means, Use, Uses, WholeRun}
 use Rattle.cx_rotate.specs.declared.generations.Generation.{Generation}
 use Rattle.cx_laws_series.specs.cx_rules.specs.Connector.{AskerArrival, AskerRow, Open, Stage}
 use Rattle.cx_laws_series.specs.cx_rules.specs.Fronts.{keys_behind, opened_parts, sealed_ahead, taking}
@@ -20,7 +20,7 @@ use Rattle.cx_laws_series.specs.cx_rules.specs.declared.requests.Taken.TheVarian
 use Rattle.cx_steps.specs.Premises.{IsExcepted}
 use Rattle.cx_steps.specs.declared.seals.Logged.{Logged}
 use Rattle.cx_steps.specs.declared.seals.SealEntry.{SealEntry}
-use Rattle.cx_stream.specs.SecureStreams.{secure_frame_at}
+use Rattle.cx_laws_series.specs.cx_stream.specs.SecureStreams.{secure_frame_at}
 use Rattle.cx_laws_fetch.proofs.AskedKnown.{AreTold, AskerTold, Events, IsAsker, IsAwaited, MoreEvents, Told}
 use Rattle.cx_laws_fetch.proofs.AskedWords.{Asked, asked_frame, last_number}
 use Rattle.cx_laws_fetch.proofs.AskerMoves.{AskerMoves, asker-moves, asker-taken, asker-takes, words_of}

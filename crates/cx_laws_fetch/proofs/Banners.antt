@@ -13,7 +13,7 @@ use Rattle.cx_frame.specs.declared.banner.Banner.{Banner}
 use Rattle.cx_frame.specs.declared.frame.Frame.{Frame}
 use Rattle.cx_frame.specs.declared.refusals.BannerRefusal.{BannerRefusal}
 use Rattle.cx_frame.specs.declared.refusals.BannerRefusal.TheVariants.{BadBanner, Features}
-use Rattle.cx_stream.specs.PlainStreams.{IsPlain, plain_frame_at}
+use Rattle.cx_laws_series.specs.cx_stream.specs.PlainStreams.{IsPlain, plain_frame_at}
 use Rattle.cx_laws_fetch.proofs.Transcripts.{ReadsFrom, reads-all, reads-grow, reads-one, reads-written}
 
 abbrev BannerRead : Type 0

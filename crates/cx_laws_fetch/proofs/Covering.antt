@@ -9,7 +9,7 @@ use Rattle.cx_base.specs.declared.nodes.NodeName.TheVariants as node
 use Rattle.cx_journal.specs.KeepsKeys.{has_generation}
 use Rattle.cx_journal.specs.declared.entries.Entry.TheVariants as entry
 use Rattle.cx_journal.specs.declared.entries.Issued.{Issued}
-use Rattle.cx_keyserver.specs.Issuing.{current_at}
+use Rattle.cx_laws_authorize.specs.cx_keyserver.specs.Issuing.{current_at}
 use Rattle.cx_rotate.specs.Keeping.{IsLife}
 use Rattle.cx_rotate.specs.Rotation.{is_current, is_full}
 use Rattle.cx_rotate.specs.declared.generations.Generation.{Generation}
@@ -18,7 +18,7 @@ use Rattle.cx_laws_authorize.specs.cx_run.specs.Points.{Before, Point, entries_a
 use Rattle.cx_laws_authorize.specs.cx_run.specs.Wires.{same_node}
 use Rattle.cx_laws_chain.proofs.Points.{spaced-behind}
 use Rattle.cx_laws_chain.specs.Chain.{Added, AreSpaced, Chain, IsChained, IsUnderCurrent, MovesOn, life_in, three_newest}
-use Rattle.cx_laws_keys.proofs.Uses.{Extends, extends-then}
+use Rattle.cx_laws_authorize.specs.cx_laws_keys.proofs.Uses.{Extends, extends-then}
 use Rattle.cx_laws_fetch.proofs.Arithmetic.{IsSecond, is-second, listed-earlier, listed-later, newest-lives, not-full}
 use Rattle.cx_laws_fetch.proofs.Kept.{AreAddedUntil, StandsAt, added-behind, kept-grows, stands-at}
 use Rattle.cx_laws_fetch.proofs.Steady.{AreSteady, AreUntil}

@@ -35,7 +35,7 @@ use Rattle.cx_session.specs.declared.call.BookReply.TheVariants as reply
 use Rattle.cx_wire.specs.declared.bodies.Request.TheVariants as asked
 use Rattle.cx_laws_authorize.specs.cx_run.proofs.GuestTakes.{Always, always-book, always-map}
 use Rattle.cx_laws_authorize.specs.cx_run.proofs.Taking.{EachRow}
-use Rattle.cx_laws_keys.proofs.Lists.{all-map, found_all}
+use Rattle.cx_laws_authorize.specs.cx_laws_keys.proofs.Lists.{all-map, found_all}
 use Rattle.cx_laws_fetch.proofs.AskerFacts.{AskedBehind, Drew, DrewBehind, StageTold, first-told, found-open, kept-is, request-told, row-behind, told-grows, told-map}
 use Rattle.cx_laws_fetch.proofs.AskerTells.{RowTold, turned-told}
 use Rattle.cx_laws_fetch.proofs.Turns.{behind-row, filtered, left_out, placed}

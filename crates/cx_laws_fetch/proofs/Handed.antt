@@ -9,16 +9,16 @@ use Rattle.cx_control.specs.Auth.{auth_signature_layout}
 use Rattle.cx_frame.specs.declared.frame.Frame.{Frame}
 use Rattle.cx_journal.specs.declared.entries.Entry.{Entry}
 use Rattle.cx_journal.specs.declared.premises.KeyKind.TheVariants as kind
-use Rattle.cx_laws_keys.proofs.Known.{Inv, IsAllowed, counter_at}
-use Rattle.cx_laws_keys.proofs.Lists.{all-map, some-of}
-use Rattle.cx_laws_keys.proofs.Premises.{behind, logged}
-use Rattle.cx_laws_keys.proofs.Uses.{AtMonitor, Connected, Grows, Login, Means, Use, Uses, WholeRun}
+use Rattle.cx_laws_authorize.specs.cx_laws_keys.proofs.Known.{Inv, IsAllowed, counter_at}
+use Rattle.cx_laws_authorize.specs.cx_laws_keys.proofs.Lists.{all-map, some-of}
+use Rattle.cx_laws_authorize.specs.cx_laws_keys.proofs.Premises.{behind, logged}
+use Rattle.cx_laws_authorize.specs.cx_laws_keys.proofs.Uses.{AtMonitor, Connected, Grows, Login, Means, Use, Uses, WholeRun}
 use Rattle.cx_laws_series.proofs.Frames.{frame-sealed}
 use Rattle.cx_laws_series.specs.cx_rules.specs.Payloads.{control}
 use Rattle.cx_laws_series.specs.cx_rules.specs.Secured.{Keys, SealedFrame, connector_keys, sealed_under, secure_frame}
-use Rattle.cx_sealed.specs.Records.{connection_secret_layout}
-use Rattle.cx_sealed.specs.Unsealing.{spelled_by}
-use Rattle.cx_sealed.specs.declared.connection_secret.ConnectionSecret.{ConnectionSecret}
+use Rattle.cx_laws_authorize.specs.cx_sealed.specs.Records.{connection_secret_layout}
+use Rattle.cx_laws_authorize.specs.cx_sealed.specs.Unsealing.{spelled_by}
+use Rattle.cx_laws_authorize.specs.cx_sealed.specs.declared.connection_secret.ConnectionSecret.{ConnectionSecret}
 use Rattle.cx_secure.specs.Plains.{plains}
 use Rattle.cx_steps.specs.Premises.{HasSealed, HasSigned, Seals, Signs}
 use Rattle.cx_steps.specs.declared.seals.Logged.{Logged}

@@ -20,27 +20,27 @@ use Rattle.cx_journal.specs.declared.outcomes.Reason.{Reason}
 use Rattle.cx_journal.specs.declared.outcomes.Reason.TheVariants as reason
 use Rattle.cx_journal.specs.declared.premises.KeyKind.{KeyKind}
 use Rattle.cx_journal.specs.declared.premises.KeyKind.TheVariants as kind
-use Rattle.cx_laws_keys.proofs.Known.{Inv, IsAllowed}
-use Rattle.cx_laws_keys.proofs.Lists.{all-append}
-use Rattle.cx_laws_keys.proofs.Premises.{AreGranted, behind, granted-first, granted-rest}
-use Rattle.cx_laws_keys.proofs.Steps.{inv-all}
-use Rattle.cx_laws_keys.proofs.Uses.{AtMonitor, Connected, Login, Means, Secret, Tie, Use, Uses, WholeRun}
+use Rattle.cx_laws_authorize.specs.cx_laws_keys.proofs.Known.{Inv, IsAllowed}
+use Rattle.cx_laws_authorize.specs.cx_laws_keys.proofs.Lists.{all-append}
+use Rattle.cx_laws_authorize.specs.cx_laws_keys.proofs.Premises.{AreGranted, behind, granted-first, granted-rest}
+use Rattle.cx_laws_authorize.specs.cx_laws_keys.proofs.Steps.{inv-all}
+use Rattle.cx_laws_authorize.specs.cx_laws_keys.proofs.Uses.{AtMonitor, Connected, Login, Means, Secret, Tie, Use, Uses, WholeRun}
 use Rattle.cx_laws_authorize.specs.cx_laws_login.proofs.AskerRows.{NeverExcepted, auth-tells}
 use Rattle.cx_laws_series.proofs.Contents.{content_where, contents_by}
 use Rattle.cx_laws_series.proofs.Frames.{frame-sealed}
-use Rattle.cx_login.specs.Held.{Held, held_as}
-use Rattle.cx_login.specs.Unlocking.{Unlocked, ◌>>=◌, going_on, login_in, login_of_parts, made, told, told_each, unlocked, unlocked_as}
-use Rattle.cx_login.specs.declared.client.LoggedIn.{LoggedIn}
+use Rattle.cx_laws_authorize.specs.cx_login.specs.Held.{Held, held_as}
+use Rattle.cx_laws_authorize.specs.cx_login.specs.Unlocking.{Unlocked, ◌>>=◌, going_on, login_in, login_of_parts, made, told, told_each, unlocked, unlocked_as}
+use Rattle.cx_laws_authorize.specs.cx_login.specs.declared.client.LoggedIn.{LoggedIn}
 use Rattle.cx_laws_series.specs.cx_rules.proofs.Sizes.{length-code}
 use Rattle.cx_laws_series.specs.cx_rules.specs.Connector.{AskerArrival, AskerRow, AwaitsSignature, Login as Opening, Stage, on_bad_method, on_done, on_login_done, on_opened, signs, while_proved}
 use Rattle.cx_laws_series.specs.cx_rules.specs.Links.{Link}
 use Rattle.cx_laws_series.specs.cx_rules.specs.Payloads.{control, due, payload, whole as whole_form}
 use Rattle.cx_laws_series.specs.cx_rules.specs.Rows.{refuses}
 use Rattle.cx_laws_series.specs.cx_rules.specs.Secured.{Keys, SealedFrame, Secured, connector_keys, part_seals, secure_frame, signature, signed_frame, signing}
-use Rattle.cx_sealed.specs.Records.{connection_secret_layout, ticket_info_layout}
-use Rattle.cx_sealed.specs.Unsealing.{unsealed, unsealed_as}
-use Rattle.cx_sealed.specs.declared.connection_secret.ConnectionSecret.{ConnectionSecret}
-use Rattle.cx_sealed.specs.declared.unsealed.Unsealed.{Unsealed}
+use Rattle.cx_laws_authorize.specs.cx_sealed.specs.Records.{connection_secret_layout, ticket_info_layout}
+use Rattle.cx_laws_authorize.specs.cx_sealed.specs.Unsealing.{unsealed, unsealed_as}
+use Rattle.cx_laws_authorize.specs.cx_sealed.specs.declared.connection_secret.ConnectionSecret.{ConnectionSecret}
+use Rattle.cx_laws_authorize.specs.cx_sealed.specs.declared.unsealed.Unsealed.{Unsealed}
 use Rattle.cx_secure.specs.Parts.{nonce_at}
 use Rattle.cx_secure.specs.Plains.{plains}
 use Rattle.cx_steps.specs.Premises.{HasSealed, IsExcepted}

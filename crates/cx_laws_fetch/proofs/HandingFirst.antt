@@ -15,10 +15,10 @@ use Rattle.cx_enc.specs.declared.keys.Key.{Key}
 use Rattle.cx_frame.specs.declared.frame.Frame.{Frame}
 use Rattle.cx_journal.specs.declared.entries.Entry.{Entry}
 use Rattle.cx_journal.specs.declared.premises.KeyKind.TheVariants as kind
-use Rattle.cx_keyserver.specs.Servers.{generations_of}
-use Rattle.cx_laws_keys.proofs.Known.{Inv, IsAllowed}
-use Rattle.cx_laws_keys.proofs.Premises.{AreGranted, behind}
-use Rattle.cx_laws_keys.proofs.Uses.{AreGenerated, AtMonitor, Connected, Grows, Login, Means, Secret, Use, Uses, WholeRun}
+use Rattle.cx_laws_authorize.specs.cx_keyserver.specs.Servers.{generations_of}
+use Rattle.cx_laws_authorize.specs.cx_laws_keys.proofs.Known.{Inv, IsAllowed}
+use Rattle.cx_laws_authorize.specs.cx_laws_keys.proofs.Premises.{AreGranted, behind}
+use Rattle.cx_laws_authorize.specs.cx_laws_keys.proofs.Uses.{AreGenerated, AtMonitor, Connected, Grows, Login, Means, Secret, Use, Uses, WholeRun}
 use Rattle.cx_laws_authorize.specs.cx_laws_login.proofs.Issuing.{acceptor-counts, acceptor-sends, connector-counts, connector-sends}
 use Rattle.cx_laws_series.proofs.Contents.{content_of, content_where, contents-behind, contents_by, contents_in}
 use Rattle.cx_laws_series.proofs.Frames.{frame-sealed}

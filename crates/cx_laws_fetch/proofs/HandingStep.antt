@@ -13,12 +13,12 @@ use Rattle.cx_dice.specs.Draws.{connection_of, counter_0, nonce_start, part, ses
 use Rattle.cx_enc.specs.FieldLaws.{sized_fits}
 use Rattle.cx_journal.specs.declared.entries.Entry.{Entry}
 use Rattle.cx_journal.specs.declared.premises.KeyKind.TheVariants as kind
-use Rattle.cx_keyserver.specs.Servers.{generations_of}
-use Rattle.cx_laws_keys.proofs.Known.{HasLogin, Inv, Says, opened_says}
-use Rattle.cx_laws_keys.proofs.Lists.{all-append, all-map, some-left, some-map, some-right}
-use Rattle.cx_laws_keys.proofs.Premises.{AreGranted, DrawsKey, behind, logged, new-key}
-use Rattle.cx_laws_keys.proofs.Reading.{read_connection}
-use Rattle.cx_laws_keys.proofs.Uses.{AreGenerated, AtMonitor, Connected, DrawnAs, Grows, Login, Means, Use, Uses, WholeRun, whose}
+use Rattle.cx_laws_authorize.specs.cx_keyserver.specs.Servers.{generations_of}
+use Rattle.cx_laws_authorize.specs.cx_laws_keys.proofs.Known.{HasLogin, Inv, Says, opened_says}
+use Rattle.cx_laws_authorize.specs.cx_laws_keys.proofs.Lists.{all-append, all-map, some-left, some-map, some-right}
+use Rattle.cx_laws_authorize.specs.cx_laws_keys.proofs.Premises.{AreGranted, DrawsKey, behind, logged, new-key}
+use Rattle.cx_laws_authorize.specs.cx_laws_keys.proofs.Reading.{read_connection}
+use Rattle.cx_laws_authorize.specs.cx_laws_keys.proofs.Uses.{AreGenerated, AtMonitor, Connected, DrawnAs, Grows, Login, Means, Use, Uses, WholeRun, whose}
 use Rattle.cx_laws_authorize.specs.cx_laws_login.proofs.Generations.{length-part}
 use Rattle.cx_laws_authorize.specs.cx_laws_login.proofs.Issuing.{acceptor-counts, acceptor-sends, connector-counts, connector-sends, short-connection}
 use Rattle.cx_laws_series.proofs.Frames.{frame-sealed}
@@ -30,10 +30,10 @@ use Rattle.cx_laws_series.specs.cx_rules.specs.Payloads.{control}
 use Rattle.cx_laws_series.specs.cx_rules.specs.Secured.{Keys, SealedFrame, acceptor_keys, part_seals, signature}
 use Rattle.cx_laws_series.specs.cx_rules.specs.Tickets.{ticket_seals}
 use Rattle.cx_laws_series.specs.cx_rules.specs.Verdicts.{secret_seals}
-use Rattle.cx_sealed.proofs.Found.{spelled_only}
-use Rattle.cx_sealed.specs.Records.{connection_secret_layout}
-use Rattle.cx_sealed.specs.Unsealing.{spelled_by}
-use Rattle.cx_sealed.specs.declared.connection_secret.ConnectionSecret.{ConnectionSecret}
+use Rattle.cx_laws_authorize.specs.cx_sealed.proofs.Found.{spelled_only}
+use Rattle.cx_laws_authorize.specs.cx_sealed.specs.Records.{connection_secret_layout}
+use Rattle.cx_laws_authorize.specs.cx_sealed.specs.Unsealing.{spelled_by}
+use Rattle.cx_laws_authorize.specs.cx_sealed.specs.declared.connection_secret.ConnectionSecret.{ConnectionSecret}
 use Rattle.cx_secure.specs.Plains.{plains}
 use Rattle.cx_steps.specs.Draws.{key_of}
 use Rattle.cx_steps.specs.Onto.{SomeOf}

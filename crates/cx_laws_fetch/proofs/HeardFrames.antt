@@ -66,7 +66,7 @@ use Rattle.cx_laws_authorize.specs.cx_run.proofs.Taking.{EachRow}
 use Rattle.cx_laws_authorize.specs.cx_run.specs.Happenings.{EntityNode, Happening, Nodes, entity_of, entity_steps, monitor_steps, steps, steps_of}
 use Rattle.cx_laws_authorize.specs.cx_run.specs.Opening.{Setup, nodes_of}
 use Rattle.cx_laws_authorize.specs.cx_run.specs.Points.{EachPoint, Point, points, points_onto}
-use Rattle.cx_laws_keys.proofs.Lists.{found_all}
+use Rattle.cx_laws_authorize.specs.cx_laws_keys.proofs.Lists.{found_all}
 use Rattle.cx_laws_fetch.proofs.Banners.{IsRead, read-banner, read-frame, read-grows}
 use Rattle.cx_laws_fetch.proofs.Turns.{banner-each, behind-row, left_out, placed, plain-each, secure-each}
 

@@ -6,8 +6,8 @@ use Rattle.cx_base.specs.declared.nodes.NodeName.TheVariants as node
 use Rattle.cx_laws_authorize.specs.cx_run.specs.Opening.{Setup}
 use Rattle.cx_laws_authorize.specs.cx_run.specs.Points.{Before, EachPoint, Point}
 use Rattle.cx_laws_chain.specs.Chain.{Added, BecomesLost, BecomesSaved, Chain, Fate, IsAddedAt, IsChained, MovesOn, StaysInMemory, all_in, chain_behind}
-use Rattle.cx_laws_keys.proofs.Lists.{all-append, all-map}
-use Rattle.cx_laws_keys.proofs.Uses.{Extends, extends-itself, extends-then}
+use Rattle.cx_laws_authorize.specs.cx_laws_keys.proofs.Lists.{all-append, all-map}
+use Rattle.cx_laws_authorize.specs.cx_laws_keys.proofs.Uses.{Extends, extends-itself, extends-then}
 
 -- what was saved stays saved
 kept-behind : (fate : Fate) (added : List Added) (before : Chain) → Extends before.kept (chain_behind fate added before).kept

@@ -14,8 +14,8 @@ use Rattle.cx_base.specs.declared.nodes.NodeName.{NodeName}
 use Rattle.cx_frame.specs.Frames.{total}
 use Rattle.cx_frame.specs.declared.frame.Frame.{Frame}
 use Rattle.cx_journal.specs.declared.premises.KeyKind.TheVariants as kind
-use Rattle.cx_laws_keys.proofs.Known.{IsOfAcceptor, IsOfConnector}
-use Rattle.cx_laws_keys.proofs.Premises.{behind}
+use Rattle.cx_laws_authorize.specs.cx_laws_keys.proofs.Known.{IsOfAcceptor, IsOfConnector}
+use Rattle.cx_laws_authorize.specs.cx_laws_keys.proofs.Premises.{behind}
 use Rattle.cx_laws_series.proofs.Contents.{IsNumberedAt, content-at, content_where, contents-append, contents-behind, contents_by, contents_in, parts-others, sealed-content}
 use Rattle.cx_laws_series.proofs.Frames.{frame-sealed}
 use Rattle.cx_laws_series.proofs.Series.{IsAt, at-front}

@@ -7,7 +7,7 @@ use Rattle.cx_base.specs.declared.kinds.EntityType.TheVariants.{Auth}
 use Rattle.cx_base.specs.declared.nodes.NodeName.{NodeName}
 use Rattle.cx_base.specs.declared.nodes.NodeName.TheVariants as node
 use Rattle.cx_journal.specs.declared.entries.Entry.{Entry}
-use Rattle.cx_keyserver.specs.Servers.{life_of}
+use Rattle.cx_laws_authorize.specs.cx_keyserver.specs.Servers.{life_of}
 use Rattle.cx_rotate.specs.declared.states.KeptState.{KeptState}
 use Rattle.cx_laws_authorize.specs.cx_rules_session.specs.cx_rules.specs.Monitor.{Monitor}
 use Rattle.cx_laws_authorize.specs.cx_run.specs.Happenings.{EntityNode, Happening, Nodes, Stepped, entity_of, entity_steps, steps, steps_of}

@@ -15,7 +15,7 @@ use Rattle.cx_rotate.specs.declared.views.View.{View}
 use Rattle.cx_laws_authorize.specs.cx_run.proofs.PointsTell.{contains-first, entered-at}
 use Rattle.cx_laws_authorize.specs.cx_run.specs.Opening.{Setup}
 use Rattle.cx_laws_authorize.specs.cx_run.specs.Points.{Before, EachPoint, Point, entered_until, entries_at}
-use Rattle.cx_laws_keys.specs.LooksLast.{LooksLastBy, nothing_viewed, view_behind, viewed, viewed_all}
+use Rattle.cx_laws_authorize.specs.cx_laws_keys.specs.LooksLast.{LooksLastBy, nothing_viewed, view_behind, viewed, viewed_all}
 use Rattle.cx_laws_fetch.specs.Fetches.{AreOfMoments, IsOfMoment}
 
 -- ---- one look

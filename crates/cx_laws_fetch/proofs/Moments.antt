@@ -6,7 +6,7 @@ use Rattle.cx_base.specs.declared.kinds.EntityType.TheVariants.{Mon, Mds, Osd, C
 use Rattle.cx_base.specs.declared.nodes.NodeName.TheVariants as node
 use Rattle.cx_base.specs.Names.{is_daemon_type}
 use Rattle.cx_dice.specs.Draws.{rotation_of}
-use Rattle.cx_keyserver.specs.Servers.{generations_of}
+use Rattle.cx_laws_authorize.specs.cx_keyserver.specs.Servers.{generations_of}
 use Rattle.cx_rotate.proofs.Determined.{computed}
 use Rattle.cx_rotate.proofs.Opened.{opened}
 use Rattle.cx_rotate.proofs.Results.{gained, gained_two, kept}

@@ -17,9 +17,9 @@ use Rattle.cx_journal.specs.declared.faults.BytesFault.{BytesFault}
 use Rattle.cx_journal.specs.declared.faults.LoginFault.{LoginFault}
 use Rattle.cx_journal.specs.declared.outcomes.Reason.{Reason}
 use Rattle.cx_journal.specs.declared.outcomes.Reason.TheVariants.{Bytes}
-use Rattle.cx_keyserver.specs.Servers.{Server, generations_of, life_of, rotated_server, secrets_of}
-use Rattle.cx_keyserver.specs.declared.refusals.NotADaemon.{NotADaemon}
-use Rattle.cx_keyserver.specs.declared.tickets.Ticket.{Ticket}
+use Rattle.cx_laws_authorize.specs.cx_keyserver.specs.Servers.{Server, generations_of, life_of, rotated_server, secrets_of}
+use Rattle.cx_laws_authorize.specs.cx_keyserver.specs.declared.refusals.NotADaemon.{NotADaemon}
+use Rattle.cx_laws_authorize.specs.cx_keyserver.specs.declared.tickets.Ticket.{Ticket}
 use Rattle.cx_rotate.specs.Rotation.{additions}
 use Rattle.cx_rotate.specs.declared.generations.Generation.{Generation}
 use Rattle.cx_rotate.specs.declared.states.KeptState.{KeptState}

@@ -14,16 +14,16 @@ use Rattle.cx_frame.specs.declared.frame.Frame.{Frame}
 use Rattle.cx_journal.specs.declared.faults.BytesFault.{BytesFault}
 use Rattle.cx_journal.specs.declared.faults.LoginFault.{LoginFault}
 use Rattle.cx_journal.specs.declared.premises.KeyKind.TheVariants as kind
-use Rattle.cx_keyserver.specs.Issuing.{current_at, ticket_info_of}
-use Rattle.cx_keyserver.specs.Servers.{Server, generations_of, life_of, rotated_server}
-use Rattle.cx_keyserver.specs.declared.tickets.Ticket.{Ticket}
-use Rattle.cx_laws_keys.proofs.Lists.{all-append}
-use Rattle.cx_laws_keys.proofs.Reading.{info_no_connection}
-use Rattle.cx_laws_keys.proofs.Uses.{AreGenerated, Generated, Uses}
-use Rattle.cx_login.specs.Monitor.{Offer, Proven, kept_gid, proof_found, proving, reclaimed}
-use Rattle.cx_login.specs.Opening.{generation_key}
-use Rattle.cx_login.specs.Proving.{due_proof}
-use Rattle.cx_login.specs.Unlocking.{old_ticket, old_under, unlocked_as}
+use Rattle.cx_laws_authorize.specs.cx_keyserver.specs.Issuing.{current_at, ticket_info_of}
+use Rattle.cx_laws_authorize.specs.cx_keyserver.specs.Servers.{Server, generations_of, life_of, rotated_server}
+use Rattle.cx_laws_authorize.specs.cx_keyserver.specs.declared.tickets.Ticket.{Ticket}
+use Rattle.cx_laws_authorize.specs.cx_laws_keys.proofs.Lists.{all-append}
+use Rattle.cx_laws_authorize.specs.cx_laws_keys.proofs.Reading.{info_no_connection}
+use Rattle.cx_laws_authorize.specs.cx_laws_keys.proofs.Uses.{AreGenerated, Generated, Uses}
+use Rattle.cx_laws_authorize.specs.cx_login.specs.Monitor.{Offer, Proven, kept_gid, proof_found, proving, reclaimed}
+use Rattle.cx_laws_authorize.specs.cx_login.specs.Opening.{generation_key}
+use Rattle.cx_laws_authorize.specs.cx_login.specs.Proving.{due_proof}
+use Rattle.cx_laws_authorize.specs.cx_login.specs.Unlocking.{old_ticket, old_under, unlocked_as}
 use Rattle.cx_rotate.specs.Rotation.{additions}
 use Rattle.cx_rotate.specs.declared.generations.Generation.{Generation}
 use Rattle.cx_rotate.specs.declared.states.KeptState.{KeptState}
@@ -38,10 +38,10 @@ use Rattle.cx_laws_series.specs.cx_rules.specs.Tickets.{blob_sealed, drawn_for, 
 use Rattle.cx_laws_series.specs.cx_rules.specs.Verdicts.{Entrant, Numbered, asking_for, entrant, handed_out, issues, issues_to, key_of, numbered, numbers, rotates, secret_seals}
 use Rattle.cx_laws_series.specs.cx_rules.specs.declared.responses.Bearer.{Bearer}
 use Rattle.cx_laws_series.specs.cx_rules.specs.declared.verdicts.HandedOut.{HandedOut}
-use Rattle.cx_sealed.specs.Records.{service_ticket_layout}
-use Rattle.cx_sealed.specs.Unsealing.{unsealed}
-use Rattle.cx_sealed.specs.declared.service_ticket.ServiceTicket.{ServiceTicket}
-use Rattle.cx_sealed.specs.declared.unsealed.Unsealed.{Unsealed}
+use Rattle.cx_laws_authorize.specs.cx_sealed.specs.Records.{service_ticket_layout}
+use Rattle.cx_laws_authorize.specs.cx_sealed.specs.Unsealing.{unsealed}
+use Rattle.cx_laws_authorize.specs.cx_sealed.specs.declared.service_ticket.ServiceTicket.{ServiceTicket}
+use Rattle.cx_laws_authorize.specs.cx_sealed.specs.declared.unsealed.Unsealed.{Unsealed}
 use Rattle.cx_steps.specs.declared.seals.DrawMark.TheVariants as draw
 use Rattle.cx_steps.specs.declared.seals.SealEntry.{SealEntry}
 use Rattle.cx_steps.specs.declared.seals.SealEntry.TheVariants as entry

@@ -8,9 +8,9 @@ use Rattle.cx_base.specs.declared.nodes.NodeName.TheVariants as node
 use Rattle.cx_frame.specs.Frames.{total}
 use Rattle.cx_frame.specs.declared.frame.Frame.{Frame}
 use Rattle.cx_journal.specs.declared.entries.Entry.{Entry}
-use Rattle.cx_laws_keys.proofs.Known.{Inv}
-use Rattle.cx_laws_keys.proofs.Premises.{AreGranted, behind, behind-append}
-use Rattle.cx_laws_keys.proofs.Uses.{AtMonitor, Connected, Grows, Means, Use, Uses, WholeRun}
+use Rattle.cx_laws_authorize.specs.cx_laws_keys.proofs.Known.{Inv}
+use Rattle.cx_laws_authorize.specs.cx_laws_keys.proofs.Premises.{AreGranted, behind, behind-append}
+use Rattle.cx_laws_authorize.specs.cx_laws_keys.proofs.Uses.{AtMonitor, Connected, Grows, Means, Use, Uses, WholeRun}
 use Rattle.cx_laws_series.proofs.Contents.{contents_by}
 use Rattle.cx_laws_series.proofs.Frames.{frame-sealed}
 use Rattle.cx_laws_series.specs.cx_rules.specs.Fronts.{keys_behind, opened_parts, sealed_ahead}
@@ -20,7 +20,7 @@ use Rattle.cx_laws_series.specs.cx_rules.specs.Secured.{SealedFrame, Secured, se
 use Rattle.cx_secure.specs.Plains.{plains}
 use Rattle.cx_steps.specs.declared.seals.Logged.{Logged}
 use Rattle.cx_steps.specs.declared.seals.SealEntry.{SealEntry}
-use Rattle.cx_stream.specs.SecureStreams.{secure_frame_at}
+use Rattle.cx_laws_series.specs.cx_stream.specs.SecureStreams.{secure_frame_at}
 use Rattle.cx_laws_fetch.proofs.AskedKnown.{AreAnswers, AreSaid, AreTold, Events, HasTaken, IsBearing, IsLoginKey, IsSilent, IsTrueAsked, IsTrueGiven, MoreEvents, Told}
 use Rattle.cx_laws_fetch.proofs.AskedLifting.{login-grows, said-holds, said-more, said-stays, silent-stays}
 use Rattle.cx_laws_fetch.proofs.AskedMoving.{GivesMore, GivesUnder, Moved, Quiets, answers-append, asked-more, given-more, later-stays}

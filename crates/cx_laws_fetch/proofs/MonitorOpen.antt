@@ -8,9 +8,9 @@ use Rattle.cx_base.specs.Names.{Name}
 use Rattle.cx_base.specs.declared.nodes.NodeName.{NodeName}
 use Rattle.cx_frame.specs.declared.frame.Frame.{Frame}
 use Rattle.cx_journal.specs.declared.entries.Entry.{Entry}
-use Rattle.cx_laws_keys.proofs.Known.{Inv}
-use Rattle.cx_laws_keys.proofs.Premises.{AreGranted, behind}
-use Rattle.cx_laws_keys.proofs.Uses.{Grows, Means, Use, Uses, WholeRun}
+use Rattle.cx_laws_authorize.specs.cx_laws_keys.proofs.Known.{Inv}
+use Rattle.cx_laws_authorize.specs.cx_laws_keys.proofs.Premises.{AreGranted, behind}
+use Rattle.cx_laws_authorize.specs.cx_laws_keys.proofs.Uses.{Grows, Means, Use, Uses, WholeRun}
 use Rattle.cx_laws_series.specs.cx_rules.specs.Acceptor.{Open}
 use Rattle.cx_laws_series.specs.cx_rules.specs.Fronts.{keys_behind, opened_parts, sealed_ahead, taking}
 use Rattle.cx_laws_series.specs.cx_rules.specs.Links.{Link}
@@ -25,7 +25,7 @@ use Rattle.cx_laws_series.specs.cx_rules.specs.declared.responses.ReplyMade.{Rep
 use Rattle.cx_laws_series.specs.cx_rules.specs.declared.responses.Response.TheVariants as response
 use Rattle.cx_steps.specs.declared.seals.Logged.{Logged}
 use Rattle.cx_steps.specs.declared.seals.SealEntry.{SealEntry}
-use Rattle.cx_stream.specs.SecureStreams.{secure_frame_at}
+use Rattle.cx_laws_series.specs.cx_stream.specs.SecureStreams.{secure_frame_at}
 use Rattle.cx_wire.specs.declared.bodies.Reply.{Reply}
 use Rattle.cx_wire.specs.declared.bodies.Request.{Request}
 use Rattle.cx_laws_fetch.proofs.AskedHeard.{hears-request, made-at, numbered-low}

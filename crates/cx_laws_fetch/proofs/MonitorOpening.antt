@@ -12,9 +12,9 @@ use Rattle.cx_journal.specs.declared.entries.Entry.{Entry}
 use Rattle.cx_journal.specs.declared.faults.BytesFault.{BytesFault}
 use Rattle.cx_journal.specs.declared.faults.LoginFault.TheVariants.{SignatureWrong}
 use Rattle.cx_journal.specs.declared.outcomes.Reason.TheVariants as reason
-use Rattle.cx_laws_keys.proofs.Known.{Inv}
-use Rattle.cx_laws_keys.proofs.Premises.{AreGranted, behind}
-use Rattle.cx_laws_keys.proofs.Uses.{AtMonitor, Connected, Grows, Means, Use, Uses, WholeRun}
+use Rattle.cx_laws_authorize.specs.cx_laws_keys.proofs.Known.{Inv}
+use Rattle.cx_laws_authorize.specs.cx_laws_keys.proofs.Premises.{AreGranted, behind}
+use Rattle.cx_laws_authorize.specs.cx_laws_keys.proofs.Uses.{AtMonitor, Connected, Grows, Means, Use, Uses, WholeRun}
 use Rattle.cx_laws_series.specs.cx_rules.specs.Acceptor.{AwaitsIdent, on_signature}
 use Rattle.cx_laws_series.specs.cx_rules.specs.Fronts.{keys_behind, opened_parts, sealed_ahead, taking}
 use Rattle.cx_laws_series.specs.cx_rules.specs.Links.{Link}
@@ -26,7 +26,7 @@ use Rattle.cx_laws_series.specs.cx_rules.specs.Secured.{Secured, is_signed, sign
 use Rattle.cx_laws_series.specs.cx_rules.specs.declared.responses.Bearer.{Bearer}
 use Rattle.cx_steps.specs.declared.seals.Logged.{Logged}
 use Rattle.cx_steps.specs.declared.seals.SealEntry.{SealEntry}
-use Rattle.cx_stream.specs.SecureStreams.{secure_frame_at}
+use Rattle.cx_laws_series.specs.cx_stream.specs.SecureStreams.{secure_frame_at}
 use Rattle.cx_laws_fetch.proofs.AskedKnown.{AreAnswers, AreTold, Events, IsBearing, IsBearingFirst, MoreEvents, Told}
 use Rattle.cx_laws_fetch.proofs.AskedMoving.{Quiets, bearing-stays}
 use Rattle.cx_laws_fetch.proofs.AskedWords.{Asked, Confirms, Given, Greets, Lacks, Replies, Resets, given_frame}

@@ -21,10 +21,10 @@ use Rattle.cx_journal.specs.declared.faults.LoginFault.TheVariants.{SignatureWro
 use Rattle.cx_journal.specs.declared.outcomes.Reason.{Reason}
 use Rattle.cx_journal.specs.declared.outcomes.Reason.TheVariants as reason
 use Rattle.cx_journal.specs.declared.premises.KeyKind.TheVariants as kind
-use Rattle.cx_keyserver.specs.Servers.{Server, generations_of, secrets_of}
-use Rattle.cx_keyserver.specs.declared.tickets.Ticket.{Ticket}
-use Rattle.cx_laws_keys.proofs.Lists.{all-append}
-use Rattle.cx_laws_keys.proofs.Uses.{AreGenerated, Means, Secret, Use, Uses}
+use Rattle.cx_laws_authorize.specs.cx_keyserver.specs.Servers.{Server, generations_of, secrets_of}
+use Rattle.cx_laws_authorize.specs.cx_keyserver.specs.declared.tickets.Ticket.{Ticket}
+use Rattle.cx_laws_authorize.specs.cx_laws_keys.proofs.Lists.{all-append}
+use Rattle.cx_laws_authorize.specs.cx_laws_keys.proofs.Uses.{AreGenerated, Means, Secret, Use, Uses}
 use Rattle.cx_laws_series.proofs.Frames.{frame-sealed}
 use Rattle.cx_rotate.specs.declared.generations.Generation.{Generation}
 use Rattle.cx_laws_series.specs.cx_rules.specs.Acceptor.{AwaitsIdent, Open, missing_told, misses, on_signature, server_ident}
@@ -44,9 +44,9 @@ use Rattle.cx_laws_series.specs.cx_rules.specs.declared.responses.Response.TheVa
 use Rattle.cx_secure.specs.Plains.{plains}
 use Rattle.cx_steps.specs.declared.seals.SealEntry.{SealEntry}
 use Rattle.cx_steps.specs.declared.seals.SealEntry.TheVariants as entry
-use Rattle.cx_stream.specs.Openings.{front_contents}
-use Rattle.cx_stream.specs.SecureStreams.{Ahead}
-use Rattle.cx_keyserver.specs.declared.refusals.NotADaemon.{NotADaemon}
+use Rattle.cx_laws_series.specs.cx_stream.specs.Openings.{front_contents}
+use Rattle.cx_laws_series.specs.cx_stream.specs.SecureStreams.{Ahead}
+use Rattle.cx_laws_authorize.specs.cx_keyserver.specs.declared.refusals.NotADaemon.{NotADaemon}
 use Rattle.cx_laws_series.specs.cx_rules.specs.Replies.{answers, answers_by, asking_of, issues_tickets, on_rotating, on_tickets, others_for, tells_generations, tells_tickets}
 use Rattle.cx_laws_series.specs.cx_rules.specs.Tickets.{issued_for, rotation_drawn}
 use Rattle.cx_laws_series.specs.cx_rules.specs.Verdicts.{Occasion, key_of}

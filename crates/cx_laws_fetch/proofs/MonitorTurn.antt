@@ -5,10 +5,10 @@ use Rattle.cx_base.specs.declared.nodes.NodeName.TheVariants as node
 use Rattle.cx_enc.specs.declared.keys.Key.{Key}
 use Rattle.cx_frame.specs.declared.frame.Frame.{Frame}
 use Rattle.cx_journal.specs.declared.entries.Entry.{Entry}
-use Rattle.cx_keyserver.specs.Servers.{Server, generations_of, rotated_server}
-use Rattle.cx_laws_keys.proofs.Known.{Inv}
-use Rattle.cx_laws_keys.proofs.Premises.{AreGranted, behind}
-use Rattle.cx_laws_keys.proofs.Uses.{AreGenerated, Grows, Login, Means, Secret, Use, Uses, WholeRun}
+use Rattle.cx_laws_authorize.specs.cx_keyserver.specs.Servers.{Server, generations_of, rotated_server}
+use Rattle.cx_laws_authorize.specs.cx_laws_keys.proofs.Known.{Inv}
+use Rattle.cx_laws_authorize.specs.cx_laws_keys.proofs.Premises.{AreGranted, behind}
+use Rattle.cx_laws_authorize.specs.cx_laws_keys.proofs.Uses.{AreGenerated, Grows, Login, Means, Secret, Use, Uses, WholeRun}
 use Rattle.cx_laws_series.specs.cx_rules.specs.Acceptor.{Open}
 use Rattle.cx_laws_series.specs.cx_rules.specs.Fronts.{keys_behind, opened_parts, sealed_ahead, taking}
 use Rattle.cx_laws_series.specs.cx_rules.specs.Inputs.{Turn}
@@ -27,7 +27,7 @@ use Rattle.cx_laws_series.specs.cx_rules.specs.declared.responses.Response.TheVa
 use Rattle.cx_laws_authorize.specs.cx_run.specs.Points.{Point, stepped_at}
 use Rattle.cx_steps.specs.declared.seals.Logged.{Logged}
 use Rattle.cx_steps.specs.declared.seals.SealEntry.{SealEntry}
-use Rattle.cx_stream.specs.SecureStreams.{secure_frame_at}
+use Rattle.cx_laws_series.specs.cx_stream.specs.SecureStreams.{secure_frame_at}
 use Rattle.cx_wire.specs.declared.bodies.Request.{Request}
 use Rattle.cx_laws_fetch.proofs.AskedKnown.{AreTold, IsBearing, Told}
 use Rattle.cx_laws_fetch.proofs.MonitorGives.{IsReply, IsResponse, StaysOpen, response-is, rotation-quiet}

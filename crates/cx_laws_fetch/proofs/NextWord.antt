@@ -14,7 +14,7 @@ use Rattle.cx_frame.specs.Preambles.{IsAllowed, preamble_of}
 use Rattle.cx_frame.specs.declared.frame.Frame.{Frame}
 use Rattle.cx_frame.specs.declared.frame.Segment.{Segment}
 use Rattle.cx_journal.specs.declared.premises.KeyKind.TheVariants as kind
-use Rattle.cx_laws_keys.proofs.Premises.{AreGranted, logged}
+use Rattle.cx_laws_authorize.specs.cx_laws_keys.proofs.Premises.{AreGranted, logged}
 use Rattle.cx_laws_series.proofs.Fronts.{front-read}
 use Rattle.cx_laws_series.proofs.Series.{IsAt}
 use Rattle.cx_secure.specs.Parts.{nonce_at, opened}
@@ -24,8 +24,8 @@ use Rattle.cx_steps.specs.Premises.{HasSealed, IsExcepted}
 use Rattle.cx_steps.specs.declared.seals.Logged.{Logged}
 use Rattle.cx_steps.specs.declared.seals.SealEntry.TheVariants as entry
 use Rattle.cx_steps.specs.declared.seals.SealMark.{SealMark}
-use Rattle.cx_stream.specs.Openings.{contents_from, front_contents}
-use Rattle.cx_stream.specs.SecureStreams.{Ahead, secure_frame_at}
+use Rattle.cx_laws_series.specs.cx_stream.specs.Openings.{contents_from, front_contents}
+use Rattle.cx_laws_series.specs.cx_stream.specs.SecureStreams.{Ahead, secure_frame_at}
 use Rattle.cx_laws_fetch.proofs.Later.{IsEnd, IsLaterSeries, later-taken}
 use Rattle.cx_laws_fetch.proofs.Words.{AreFrames, parts-append, parts-one, parts_of}
 

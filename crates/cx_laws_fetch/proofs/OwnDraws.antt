@@ -9,8 +9,8 @@ use Rattle.cx_base.specs.declared.nodes.NodeName.TheVariants as node
 use Rattle.cx_frame.specs.Frames.{frame_text}
 use Rattle.cx_frame.specs.Preambles.{front_text, preamble_text}
 use Rattle.cx_frame.specs.declared.frame.Frame.{Frame}
-use Rattle.cx_laws_keys.proofs.Premises.{AreGranted, behind, logged}
-use Rattle.cx_laws_keys.proofs.Uses.{Grows, Means, Use, Uses, WholeRun}
+use Rattle.cx_laws_authorize.specs.cx_laws_keys.proofs.Premises.{AreGranted, behind, logged}
+use Rattle.cx_laws_authorize.specs.cx_laws_keys.proofs.Uses.{Grows, Means, Use, Uses, WholeRun}
 use Rattle.cx_laws_authorize.specs.cx_rules_session.specs.cx_rules.specs.Judged.{LogsDraw}
 use Rattle.cx_laws_authorize.specs.cx_rules_session.specs.cx_rules.specs.Rows.{piece}
 use Rattle.cx_laws_authorize.specs.cx_run.specs.Points.{Before, EachPoint, Point, seals_at}

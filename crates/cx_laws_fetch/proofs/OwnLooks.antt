@@ -18,7 +18,7 @@ use Rattle.cx_laws_authorize.specs.Admission.{EntryTold}
 use Rattle.cx_laws_chain.proofs.Rows.{IsOfMonitor}
 use Rattle.cx_laws_chain.proofs.Steps.{event-enters}
 use Rattle.cx_laws_chain.specs.cx_laws_calling.proofs.Entering.{IsOfClient, whole-enters}
-use Rattle.cx_laws_keys.proofs.Lists.{found_passes}
+use Rattle.cx_laws_authorize.specs.cx_laws_keys.proofs.Lists.{found_passes}
 
 one-of : (P : Entry → Type 0) (es : List Entry) (e : Entry) → AllByRecursion P es → Contains es e → P e
 one-of P es e all has = All-contains P es e (All-from_recursion P es all) has

@@ -7,7 +7,7 @@ use Rattle.cx_frame.specs.declared.frame.Frame.{Frame}
 use Rattle.cx_journal.specs.declared.entries.Fetched.{Fetched}
 use Rattle.cx_cbc.specs.Envelope.{sealed as enveloped}
 use Rattle.cx_enc.specs.declared.keys.Key.{Key}
-use Rattle.cx_keyserver.specs.Servers.{Server, rotated_server}
+use Rattle.cx_laws_authorize.specs.cx_keyserver.specs.Servers.{Server, rotated_server}
 use Rattle.cx_rotate.specs.declared.generations.Generation.{Generation}
 use Rattle.cx_laws_series.specs.cx_rules.specs.Acceptor.{Open}
 use Rattle.cx_laws_series.specs.cx_rules.specs.Fronts.{keys_behind, opened_parts, sealed_ahead, secure_read, taking}
@@ -23,7 +23,7 @@ use Rattle.cx_laws_series.specs.cx_rules.specs.declared.responses.Bearer.{Bearer
 use Rattle.cx_laws_series.specs.cx_rules.specs.declared.responses.Response.TheVariants as response
 use Rattle.cx_laws_authorize.specs.cx_run.specs.Points.{Before, Point, stepped_at}
 use Rattle.cx_secure.specs.declared.refusals.SecureRefusal.{SecureRefusal}
-use Rattle.cx_stream.specs.SecureStreams.{secure_frame_at}
+use Rattle.cx_laws_series.specs.cx_stream.specs.SecureStreams.{secure_frame_at}
 use Rattle.cx_wire.specs.Bodies.{reply_layout}
 use Rattle.cx_wire.specs.declared.bodies.Reply.{Reply}
 use Rattle.cx_wire.specs.declared.bodies.Reply.TheVariants as given

@@ -12,7 +12,7 @@ use Rattle.cx_journal.specs.declared.entries.Fetched.{Fetched}
 use Rattle.cx_journal.specs.declared.faults.BytesFault.{BytesFault}
 use Rattle.cx_journal.specs.declared.faults.BytesFault.TheVariants.{Unexpected}
 use Rattle.cx_journal.specs.declared.outcomes.Reason.{Reason}
-use Rattle.cx_keyserver.specs.Servers.{life_of, rotated_of, rotated_state}
+use Rattle.cx_laws_authorize.specs.cx_keyserver.specs.Servers.{life_of, rotated_of, rotated_state}
 use Rattle.cx_line_words.specs.declared.choices.LeftState.{LeftState}
 use Rattle.cx_rotate.specs.declared.generations.Generation.{Generation}
 use Rattle.cx_rotate.specs.declared.states.KeptState.{KeptState}

@@ -14,9 +14,9 @@ use Rattle.cx_journal.specs.declared.faults.BytesFault.{BytesFault}
 use Rattle.cx_journal.specs.declared.faults.BytesFault.TheVariants.{Unexpected}
 use Rattle.cx_journal.specs.declared.outcomes.Reason.TheVariants as reason
 use Rattle.cx_journal.specs.declared.premises.KeyKind.TheVariants as kind
-use Rattle.cx_laws_keys.proofs.Reading.{bind_ok, ok_is, unseen}
-use Rattle.cx_login.specs.Held.{Held}
-use Rattle.cx_login.specs.Unlocking.{told_each, unlocked}
+use Rattle.cx_laws_authorize.specs.cx_laws_keys.proofs.Reading.{bind_ok, ok_is, unseen}
+use Rattle.cx_laws_authorize.specs.cx_login.specs.Held.{Held}
+use Rattle.cx_laws_authorize.specs.cx_login.specs.Unlocking.{told_each, unlocked}
 use Rattle.cx_rotate.specs.declared.generations.Generation.{Generation}
 use Rattle.cx_laws_series.specs.cx_rules.proofs.Payloads.{spelled_is}
 use Rattle.cx_laws_series.specs.cx_rules.proofs.Sizes.{total-reply}
@@ -30,8 +30,8 @@ use Rattle.cx_laws_series.specs.cx_rules.specs.declared.requests.Taken.TheVarian
 use Rattle.cx_laws_series.specs.cx_rules.specs.declared.requests.Waiting.{Waiting}
 use Rattle.cx_laws_series.specs.cx_rules.specs.declared.requests.Want.{Want}
 use Rattle.cx_laws_series.specs.cx_rules.specs.declared.requests.Want.TheVariants.{Tickets, Rotating}
-use Rattle.cx_sealed.specs.Records.{rotating_reply_layout}
-use Rattle.cx_sealed.specs.declared.rotating_reply.RotatingReply.{RotatingReply}
+use Rattle.cx_laws_authorize.specs.cx_sealed.specs.Records.{rotating_reply_layout}
+use Rattle.cx_laws_authorize.specs.cx_sealed.specs.declared.rotating_reply.RotatingReply.{RotatingReply}
 use Rattle.cx_steps.specs.declared.seals.SealEntry.{SealEntry}
 use Rattle.cx_wire.specs.Bodies.{reply_content, reply_layout, reply_of, reply_parts}
 use Rattle.cx_wire.specs.CodeLaws.{coded}

@@ -9,11 +9,11 @@ use Rattle.cx_base.specs.declared.kinds.EntityType.TheVariants.{Mon, Mds, Osd, C
 use Rattle.cx_base.specs.declared.nodes.NodeName.{NodeName}
 use Rattle.cx_base.specs.declared.nodes.NodeName.TheVariants as node
 use Rattle.cx_journal.specs.declared.entries.Entry.{Entry}
-use Rattle.cx_laws_keys.proofs.Known.{HasLogin, HasReply, Inv, IsAllowed, IsPlaced, Says, SealedAt, SignedAt}
-use Rattle.cx_laws_keys.proofs.Lists.{all-map}
-use Rattle.cx_laws_keys.proofs.Uses.{AreGenerated, AtDaemon, AtMonitor, Connected, Generated, Grows, HasDrawn, Login, Means, Secret, Ticketed, Use, Uses, WholeRun, session_use, whose}
+use Rattle.cx_laws_authorize.specs.cx_laws_keys.proofs.Known.{HasLogin, HasReply, Inv, IsAllowed, IsPlaced, Says, SealedAt, SignedAt}
+use Rattle.cx_laws_authorize.specs.cx_laws_keys.proofs.Lists.{all-map}
+use Rattle.cx_laws_authorize.specs.cx_laws_keys.proofs.Uses.{AreGenerated, AtDaemon, AtMonitor, Connected, Generated, Grows, HasDrawn, Login, Means, Secret, Ticketed, Use, Uses, WholeRun, session_use, whose}
 use Rattle.cx_rotate.specs.declared.generations.Generation.{Generation}
-use Rattle.cx_sealed.specs.declared.authorize_reply.AuthorizeReply.{AuthorizeReply}
+use Rattle.cx_laws_authorize.specs.cx_sealed.specs.declared.authorize_reply.AuthorizeReply.{AuthorizeReply}
 use Rattle.cx_steps.specs.Onto.{SomeOf}
 use Rattle.cx_steps.specs.declared.seals.Logged.{Logged}
 use Rattle.cx_steps.specs.declared.seals.SealEntry.{SealEntry}

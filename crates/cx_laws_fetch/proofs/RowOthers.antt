@@ -6,7 +6,7 @@ use Rattle.cx_base.specs.Names.{Name}
 use Rattle.cx_base.specs.declared.nodes.NodeName.TheVariants as node
 use Rattle.cx_control.specs.Auth.{auth_signature_layout}
 use Rattle.cx_frame.specs.declared.frame.Frame.{Frame}
-use Rattle.cx_laws_keys.proofs.Uses.{AtMonitor, Connected, Means, Use, Uses}
+use Rattle.cx_laws_authorize.specs.cx_laws_keys.proofs.Uses.{AtMonitor, Connected, Means, Use, Uses}
 use Rattle.cx_laws_series.proofs.Contents.{contents_by, parts-others}
 use Rattle.cx_laws_series.proofs.Frames.{frame-sealed}
 use Rattle.cx_laws_series.specs.cx_rules.specs.Connector as connector
@@ -22,7 +22,7 @@ use Rattle.cx_laws_series.specs.cx_rules.specs.Secured.{SealedFrame, Secured}
 use Rattle.cx_laws_series.specs.cx_rules.specs.declared.responses.Bearer.{Bearer}
 use Rattle.cx_secure.specs.Plains.{plains}
 use Rattle.cx_steps.specs.declared.seals.SealEntry.{SealEntry}
-use Rattle.cx_stream.specs.SecureStreams.{Ahead}
+use Rattle.cx_laws_series.specs.cx_stream.specs.SecureStreams.{Ahead}
 use Rattle.cx_laws_fetch.proofs.AskedWords.{asked_frame, given_frame}
 use Rattle.cx_laws_fetch.proofs.AskerSays.{IsSaidAt, KeepsIdent, KeepsOpen, identified-says, open-says, signature-says}
 use Rattle.cx_laws_fetch.proofs.MonitorIdents.{IsNoReply, StaysBearing, ident-says}

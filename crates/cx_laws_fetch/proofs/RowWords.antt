@@ -14,8 +14,8 @@ use Rattle.cx_laws_series.specs.cx_rules.specs.Rows.{Arrival, Row, goes_on, refu
 use Rattle.cx_laws_series.specs.cx_rules.specs.Secured.{SealedFrame, Secured, secure_frame, under}
 use Rattle.cx_steps.specs.declared.seals.SealEntry.{SealEntry}
 use Rattle.cx_steps.specs.declared.seals.SealEntry.TheVariants as entry
-use Rattle.cx_stream.specs.Openings.{front_contents}
-use Rattle.cx_stream.specs.SecureStreams.{Ahead}
+use Rattle.cx_laws_series.specs.cx_stream.specs.Openings.{front_contents}
+use Rattle.cx_laws_series.specs.cx_stream.specs.SecureStreams.{Ahead}
 
 -- ---- what seals nothing
 

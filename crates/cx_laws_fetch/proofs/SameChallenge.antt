@@ -21,10 +21,10 @@ use Rattle.cx_laws_authorize.specs.cx_rules_session.specs.cx_rules.specs.Greetin
 use Rattle.cx_laws_authorize.specs.cx_rules_session.specs.cx_rules.specs.Payloads.{to_end, unless_left, whole}
 use Rattle.cx_laws_authorize.specs.cx_rules_session.specs.cx_rules.specs.cx_login.specs.Client.{Ask, authenticate, version_of}
 use Rattle.cx_laws_authorize.specs.cx_rules_session.specs.cx_rules.specs.cx_login.specs.Held.{Held}
-use Rattle.cx_stream.specs.PlainStreams.{IsPlain}
+use Rattle.cx_laws_series.specs.cx_stream.specs.PlainStreams.{IsPlain}
 use Rattle.cx_wire.specs.Logins.{authenticate_layout, is_version}
 use Rattle.cx_wire.specs.declared.logins.Authenticate.{Authenticate}
-use Rattle.cx_laws_keys.proofs.Reading.{front, unseen}
+use Rattle.cx_laws_authorize.specs.cx_laws_keys.proofs.Reading.{front, unseen}
 use Rattle.cx_laws_fetch.proofs.AskerFacts.{HasAnswered, HasHeard}
 use Rattle.cx_laws_fetch.proofs.Banners.{IsRead, read-written}
 use Rattle.cx_laws_fetch.proofs.HeardFrames.{HeardAnswer, IsAnswer}

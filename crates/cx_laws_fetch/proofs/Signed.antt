@@ -13,8 +13,8 @@ use Rattle.cx_frame.specs.declared.frame.Frame.{Frame}
 use Rattle.cx_frame.specs.declared.frame.Segment.{Segment}
 use Rattle.cx_journal.specs.declared.faults.BytesFault.{BytesFault}
 use Rattle.cx_journal.specs.declared.faults.BytesFault.TheVariants.{Unexpected}
-use Rattle.cx_laws_keys.proofs.Reading.{ok_is, unseen}
-use Rattle.cx_laws_keys.proofs.Uses.{Uses, WholeRun}
+use Rattle.cx_laws_authorize.specs.cx_laws_keys.proofs.Reading.{ok_is, unseen}
+use Rattle.cx_laws_authorize.specs.cx_laws_keys.proofs.Uses.{Uses, WholeRun}
 use Rattle.cx_laws_series.specs.cx_rules.specs.Fronts.{keys_behind}
 use Rattle.cx_laws_series.specs.cx_rules.specs.Payloads.{due, in_segments, payload, to_end, unless_left, whole}
 use Rattle.cx_laws_series.specs.cx_rules.specs.Secured.{Secured, under}

@@ -10,11 +10,11 @@ use Rattle.cx_base.specs.declared.kinds.EntityType.TheVariants.{Mon, Mds, Osd, C
 use Rattle.cx_base.specs.declared.nodes.NodeName.TheVariants as node
 use Rattle.cx_enc.specs.declared.keys.Key.{Key}
 use Rattle.cx_journal.specs.declared.faults.LoginFault.{LoginFault}
-use Rattle.cx_keyserver.specs.Issuing.{current_at}
-use Rattle.cx_keyserver.specs.Servers.{Server, generations_of, secrets_of}
-use Rattle.cx_keyserver.specs.declared.refusals.NotADaemon.{NotADaemon}
-use Rattle.cx_keyserver.specs.declared.tickets.Ticket.{Ticket}
-use Rattle.cx_laws_keys.proofs.Uses.{AreGenerated, AtMonitor, Connected, Generated, Login, Means, Secret, Ticketed, Use, Uses}
+use Rattle.cx_laws_authorize.specs.cx_keyserver.specs.Issuing.{current_at}
+use Rattle.cx_laws_authorize.specs.cx_keyserver.specs.Servers.{Server, generations_of, secrets_of}
+use Rattle.cx_laws_authorize.specs.cx_keyserver.specs.declared.refusals.NotADaemon.{NotADaemon}
+use Rattle.cx_laws_authorize.specs.cx_keyserver.specs.declared.tickets.Ticket.{Ticket}
+use Rattle.cx_laws_authorize.specs.cx_laws_keys.proofs.Uses.{AreGenerated, AtMonitor, Connected, Generated, Login, Means, Secret, Ticketed, Use, Uses}
 use Rattle.cx_laws_series.proofs.Contents.{content_of, content_where, contents_by}
 use Rattle.cx_rotate.specs.declared.generations.Generation.{Generation}
 use Rattle.cx_laws_series.specs.cx_rules.specs.Replies.{answers_by, asking_of, issues_tickets, on_rotating, on_tickets, others_for, tells_generations, tells_tickets}

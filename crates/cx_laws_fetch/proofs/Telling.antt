@@ -8,8 +8,8 @@ use Rattle.cx_base.specs.declared.nodes.NodeName.TheVariants as node
 use Rattle.cx_dice.specs.Draws.{rotation_of}
 use Rattle.cx_enc.specs.declared.keys.Key.{Key}
 use Rattle.cx_keyring.specs.Entries.{is_named}
-use Rattle.cx_keyserver.specs.Servers.{Server, generations_of, life_of, rotated_of, rotated_server, rotated_state, secrets_of}
-use Rattle.cx_keyserver.specs.declared.refusals.NotADaemon.{NotADaemon}
+use Rattle.cx_laws_authorize.specs.cx_keyserver.specs.Servers.{Server, generations_of, life_of, rotated_of, rotated_server, rotated_state, secrets_of}
+use Rattle.cx_laws_authorize.specs.cx_keyserver.specs.declared.refusals.NotADaemon.{NotADaemon}
 use Rattle.cx_rotate.specs.Rotation.{rotated}
 use Rattle.cx_rotate.specs.declared.generations.Generation.{Generation}
 use Rattle.cx_rotate.specs.declared.states.KeptState.{KeptState}

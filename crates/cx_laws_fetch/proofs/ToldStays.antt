@@ -6,9 +6,9 @@ use Rattle.cx_base.specs.Names.{Name}
 use Rattle.cx_base.specs.declared.nodes.NodeName.{NodeName}
 use Rattle.cx_base.specs.declared.nodes.NodeName.TheVariants as node
 use Rattle.cx_journal.specs.declared.entries.Entry.{Entry}
-use Rattle.cx_laws_keys.proofs.Known.{Inv}
-use Rattle.cx_laws_keys.proofs.Premises.{behind}
-use Rattle.cx_laws_keys.proofs.Uses.{AtMonitor, Connected, Grows, Means, Use, Uses, WholeRun}
+use Rattle.cx_laws_authorize.specs.cx_laws_keys.proofs.Known.{Inv}
+use Rattle.cx_laws_authorize.specs.cx_laws_keys.proofs.Premises.{behind}
+use Rattle.cx_laws_authorize.specs.cx_laws_keys.proofs.Uses.{AtMonitor, Connected, Grows, Means, Use, Uses, WholeRun}
 use Rattle.cx_laws_series.proofs.Contents.{contents_by}
 use Rattle.cx_laws_series.specs.cx_rules.specs.Acceptor as acceptor
 use Rattle.cx_laws_series.specs.cx_rules.specs.Connector as connector

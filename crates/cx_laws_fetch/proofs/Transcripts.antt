@@ -10,9 +10,9 @@ use Rattle.cx_frame.specs.Preambles.{preamble_at}
 use Rattle.cx_frame.specs.declared.frame.Frame.{Frame}
 use Rattle.cx_frame.specs.declared.preamble.Preamble.{Preamble}
 use Rattle.cx_frame.specs.declared.refusals.FrameRefusal.{FrameRefusal}
-use Rattle.cx_stream.proofs.PlainFronts.{plain_again, settled}
-use Rattle.cx_stream.specs.Fronts.{with_length}
-use Rattle.cx_stream.specs.PlainStreams.{IsPlain, behind_preamble, plain_frame_at}
+use Rattle.cx_laws_series.specs.cx_stream.proofs.PlainFronts.{plain_again, settled}
+use Rattle.cx_laws_series.specs.cx_stream.specs.Fronts.{with_length}
+use Rattle.cx_laws_series.specs.cx_stream.specs.PlainStreams.{IsPlain, behind_preamble, plain_frame_at}
 
 -- these frames were read, one behind the other, and have so many bytes together
 abbrev pub ReadsFrom : List ℕ → List Frame → ℕ → Type 0

@@ -8,7 +8,7 @@ use Rattle.cx_frame.specs.Frames.{total}
 use Rattle.cx_frame.specs.declared.frame.Frame.{Frame}
 use Rattle.cx_secure.specs.Plains.{plains}
 use Rattle.cx_steps.specs.Onto.{SomeOf}
-use Rattle.cx_laws_keys.proofs.Lists.{some-left, some-right}
+use Rattle.cx_laws_authorize.specs.cx_laws_keys.proofs.Lists.{some-left, some-right}
 
 -- ---- by key
 

@@ -16,7 +16,7 @@ use Rattle.cx_laws_authorize.specs.cx_rules_session.specs.cx_rules.specs.Greetin
 use Rattle.cx_laws_authorize.specs.cx_rules_session.specs.cx_rules.specs.Payloads.{due, payload}
 use Rattle.cx_laws_authorize.specs.cx_rules_session.specs.cx_rules.specs.Secured.{plain_frame}
 use Rattle.cx_laws_authorize.specs.cx_rules_session.specs.cx_rules.specs.cx_login.specs.Client.{Ask, authenticate}
-use Rattle.cx_stream.specs.PlainStreams.{IsPlain}
+use Rattle.cx_laws_series.specs.cx_stream.specs.PlainStreams.{IsPlain}
 use Rattle.cx_wire.specs.Logins.{authenticate_layout}
 
 -- ---- a frame

@@ -3,22 +3,22 @@ use Rattle.std.proofs.Common.{◌≡◌, ◌⊎◌, ℕ, false, true, List, [], 
 use Rattle.std.specs.Prelude.{Contains}
 use Rattle.std.proofs.lemmas.List.Elements.{Contains-push_cases}
 use Rattle.cx_base.specs.Names.{Name}
-use Rattle.cx_journal.specs.Behind.{EachBehind}
-use Rattle.cx_journal.specs.GidOnce.{GivesGidOnceBy}
-use Rattle.cx_journal.specs.declared.entries.Entry.{Entry}
-use Rattle.cx_journal.specs.declared.entries.Entry.TheVariants as journal
-use Rattle.cx_journal.specs.declared.entries.Issued.{Issued}
+use Rattle.cx_steps.specs.cx_journal.specs.Behind.{EachBehind}
+use Rattle.cx_steps.specs.cx_journal.specs.GidOnce.{GivesGidOnceBy}
+use Rattle.cx_steps.specs.cx_journal.specs.declared.entries.Entry.{Entry}
+use Rattle.cx_steps.specs.cx_journal.specs.declared.entries.Entry.TheVariants as journal
+use Rattle.cx_steps.specs.cx_journal.specs.declared.entries.Issued.{Issued}
 use Rattle.cx_base.specs.declared.nodes.NodeName.{NodeName}
 use Rattle.cx_base.specs.declared.nodes.NodeName.TheVariants as node
-use Rattle.cx_journal.specs.declared.outcomes.Reason.{Reason}
-use Rattle.cx_journal.specs.declared.outcomes.Reason.TheVariants as reason
+use Rattle.cx_steps.specs.cx_journal.specs.declared.outcomes.Reason.{Reason}
+use Rattle.cx_steps.specs.cx_journal.specs.declared.outcomes.Reason.TheVariants as reason
 use Rattle.cx_steps.specs.declared.seals.Logged.{Logged}
 use Rattle.cx_steps.specs.declared.seals.SealEntry.{SealEntry}
 use Rattle.cx_laws_keys.proofs.Known.{AreOwn, Inv}
 use Rattle.cx_laws_keys.proofs.Premises.{behind, behind-append}
 use Rattle.cx_laws_keys.proofs.Uses.{Grows, Uses, grows-then, WholeRun}
-use Rattle.cx_journal.specs.Backed.{IsBackedBy}
-use Rattle.cx_journal.specs.KeepsKeys.{KeepsKeysBy, NeedsFor}
+use Rattle.cx_steps.specs.cx_journal.specs.Backed.{IsBackedBy}
+use Rattle.cx_steps.specs.cx_journal.specs.KeepsKeys.{KeepsKeysBy, NeedsFor}
 use Rattle.cx_laws_keys.specs.KeepsExpiry.{KeepsExpiryBy, ExpiredFor}
 
 -- ---- which entries a login makes

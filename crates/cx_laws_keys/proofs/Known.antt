@@ -6,10 +6,10 @@ use Rattle.std.specs.List.{AllByRecursion}
 use Rattle.cx_base.specs.Names.{Name}
 use Rattle.cx_base.specs.declared.kinds.EntityType.{EntityType}
 use Rattle.cx_base.specs.declared.kinds.EntityType.TheVariants.{Mon, Mds, Osd, Client, Mgr, Auth}
-use Rattle.cx_cbc.specs.Envelope.{sealed as enveloped}
-use Rattle.cx_journal.specs.declared.entries.Entry.{Entry}
-use Rattle.cx_journal.specs.declared.entries.Entry.TheVariants as journal
-use Rattle.cx_journal.specs.declared.entries.Issued.{Issued}
+use Rattle.cx_sealed.specs.cx_cbc.specs.Envelope.{sealed as enveloped}
+use Rattle.cx_steps.specs.cx_journal.specs.declared.entries.Entry.{Entry}
+use Rattle.cx_steps.specs.cx_journal.specs.declared.entries.Entry.TheVariants as journal
+use Rattle.cx_steps.specs.cx_journal.specs.declared.entries.Issued.{Issued}
 use Rattle.cx_base.specs.declared.nodes.NodeName.{NodeName}
 use Rattle.cx_base.specs.declared.nodes.NodeName.TheVariants as node
 use Rattle.cx_sealed.specs.Records.{authorize_reply_layout, connection_secret_layout, rotating_reply_layout, service_ticket_layout, ticket_info_layout}
@@ -27,7 +27,7 @@ use Rattle.cx_steps.specs.declared.seals.SealEntry.TheVariants as entry
 use Rattle.cx_steps.specs.declared.seals.SealMark.{SealMark}
 use Rattle.cx_laws_keys.proofs.Lists.{some-of, some-with, all-map}
 use Rattle.cx_laws_keys.proofs.Uses.{Use, Secret, Generated, Login, Ticketed, Connected, AtDaemon, AtMonitor, Uses, IsConnected, Means, Grows, HasDrawn, HasSecret, session_use, whose, WholeRun, AreGenerated, IsSavedIn}
-use Rattle.cx_rotate.specs.declared.generations.Generation.{Generation}
+use Rattle.cx_sealed.specs.cx_rotate.specs.declared.generations.Generation.{Generation}
 
 -- ---- what is said under a key
 

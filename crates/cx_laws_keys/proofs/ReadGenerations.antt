@@ -2,11 +2,11 @@
 use Rattle.std.proofs.Common.{◌≡◌, ℕ, ◌+◌, ◌<◌, ◌≤◌, ◌^◌, Bool, true, false, cond, List, [], ◌∷◌, ◌++◌, length, Some, None, Ok, refl, sym, ap, ◌∙◌, subst, arith, append_assoc}
 use Rattle.std.specs.List.{AllByRecursion, flat_map}
 use Rattle.std.proofs.lemmas.List.Concat.{flat_map-cons}
-use Rattle.cx_enc.specs.FieldLaws.{kind_fits, kind-lawful, reading-lawful, secret-lawful}
-use Rattle.cx_enc.specs.FormLaws.{u32-lawful, u64-lawful}
-use Rattle.cx_enc.specs.Forms.{Spot, ◌>>=◌, Form, after, judged, or_bad, pair, passed, times, times_at, u32_form, u64_form, with_count}
-use Rattle.cx_enc.specs.Values.{kind_form, reading_form, secret_form}
-use Rattle.cx_rotate.specs.declared.generations.Generation.{Generation}
+use Rattle.cx_sealed.specs.cx_enc.specs.FieldLaws.{kind_fits, kind-lawful, reading-lawful, secret-lawful}
+use Rattle.cx_sealed.specs.cx_enc.specs.FormLaws.{u32-lawful, u64-lawful}
+use Rattle.cx_sealed.specs.cx_enc.specs.Forms.{Spot, ◌>>=◌, Form, after, judged, or_bad, pair, passed, times, times_at, u32_form, u64_form, with_count}
+use Rattle.cx_sealed.specs.cx_enc.specs.Values.{kind_form, reading_form, secret_form}
+use Rattle.cx_sealed.specs.cx_rotate.specs.declared.generations.Generation.{Generation}
 use Rattle.cx_sealed.specs.Records.{generation_layout, generations_layout, is_none_or_three, is_rising, rotating_reply_layout}
 use Rattle.cx_sealed.specs.Unsealing.{spelled_by}
 use Rattle.cx_sealed.specs.declared.rotating_reply.RotatingReply.{RotatingReply}

@@ -4,14 +4,14 @@ use Rattle.std.specs.Int.{w32}
 use Rattle.cx_base.specs.Names.{Name}
 use Rattle.cx_base.specs.Texts.{is_caps}
 use Rattle.cx_base.specs.declared.kinds.EntityType.{EntityType}
-use Rattle.cx_enc.specs.declared.faults.ReadFault.{ReadFault}
-use Rattle.cx_enc.specs.FieldLaws.{reading_fits, kind_fits}
-use Rattle.cx_enc.specs.FormLaws.{u8-lawful, u64-lawful, blob-lawful}
-use Rattle.cx_enc.specs.FieldLaws.{secret-lawful, name-lawful, kind-lawful, reading-lawful, fixed-lawful}
-use Rattle.cx_enc.specs.Forms.{Spot, ◌>>=◌, Form, IsLawful, little, pair, seen, or_bad, passed, judged, u8_form, u64_form, blob_form}
-use Rattle.cx_enc.specs.Values.{fixed, fixed_of, flag_form, key_form, kind_form, name_form, reading_form, secret_form, sized_form, time_form}
-use Rattle.cx_enc.specs.Whole.{start}
-use Rattle.cx_rotate.specs.declared.generations.Generation.{Generation}
+use Rattle.cx_sealed.specs.cx_enc.specs.declared.faults.ReadFault.{ReadFault}
+use Rattle.cx_sealed.specs.cx_enc.specs.FieldLaws.{reading_fits, kind_fits}
+use Rattle.cx_sealed.specs.cx_enc.specs.FormLaws.{u8-lawful, u64-lawful, blob-lawful}
+use Rattle.cx_sealed.specs.cx_enc.specs.FieldLaws.{secret-lawful, name-lawful, kind-lawful, reading-lawful, fixed-lawful}
+use Rattle.cx_sealed.specs.cx_enc.specs.Forms.{Spot, ◌>>=◌, Form, IsLawful, little, pair, seen, or_bad, passed, judged, u8_form, u64_form, blob_form}
+use Rattle.cx_sealed.specs.cx_enc.specs.Values.{fixed, fixed_of, flag_form, key_form, kind_form, name_form, reading_form, secret_form, sized_form, time_form}
+use Rattle.cx_sealed.specs.cx_enc.specs.Whole.{start}
+use Rattle.cx_sealed.specs.cx_rotate.specs.declared.generations.Generation.{Generation}
 use Rattle.cx_sealed.specs.Records.{authorize_layout, authorize_challenge_layout, authorize_reply_layout, connection_secret_layout, generations_layout, rotating_reply_layout, service_ticket_layout, ticket_info_layout}
 use Rattle.cx_sealed.specs.Unsealing.{read_to_end, spelled_by, unless_left}
 use Rattle.cx_sealed.specs.declared.authorize.Authorize.{Authorize}

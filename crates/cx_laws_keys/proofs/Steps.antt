@@ -4,7 +4,7 @@ use Rattle.std.specs.Prelude.{Contains}
 use Rattle.std.specs.List.{AllByRecursion}
 use Rattle.std.proofs.lemmas.List.Elements.{Contains-append_left}
 use Rattle.cx_base.specs.Names.{Name}
-use Rattle.cx_journal.specs.declared.entries.Entry.{Entry}
+use Rattle.cx_steps.specs.cx_journal.specs.declared.entries.Entry.{Entry}
 use Rattle.cx_base.specs.declared.nodes.NodeName.{NodeName}
 use Rattle.cx_steps.specs.Draws.{for_whom, key_of}
 use Rattle.cx_steps.specs.Premises.{IsLeakedKey}
@@ -17,7 +17,7 @@ use Rattle.cx_laws_keys.proofs.Lists.{all-map, some-map, some-right}
 use Rattle.cx_laws_keys.proofs.Known.{IsPlaced, AreOwn, Inv, IsAllowed, Within, allowed-grows}
 use Rattle.cx_laws_keys.proofs.Premises.{DrawsKey, IsGranted, behind, logged, new-key}
 use Rattle.cx_laws_keys.proofs.Uses.{DrawnAs, HasDrawn, HasSecret, Means, Secret, Use, Uses, grows-one, stays, whose, with_key, WholeRun, grows-saved}
-use Rattle.cx_rotate.specs.declared.generations.Generation.{Generation}
+use Rattle.cx_sealed.specs.cx_rotate.specs.declared.generations.Generation.{Generation}
 use Rattle.cx_base.specs.declared.kinds.EntityType.{EntityType}
 
 pub within-itself : (J : List Entry) → Within J J

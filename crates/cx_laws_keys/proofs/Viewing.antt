@@ -6,10 +6,10 @@ use Rattle.cx_base.specs.Names.{Name, same_name}
 use Rattle.cx_base.proofs.Names.{same_name_is, same_name_self}
 use Rattle.cx_base.specs.declared.nodes.NodeName.{NodeName}
 use Rattle.cx_base.specs.declared.nodes.NodeName.TheVariants as node
-use Rattle.cx_journal.specs.Behind.{EachBehind}
-use Rattle.cx_journal.specs.declared.entries.Entry.{Entry}
-use Rattle.cx_journal.specs.declared.entries.Entry.TheVariants as entry
-use Rattle.cx_rotate.specs.declared.views.View.{View}
+use Rattle.cx_steps.specs.cx_journal.specs.Behind.{EachBehind}
+use Rattle.cx_steps.specs.cx_journal.specs.declared.entries.Entry.{Entry}
+use Rattle.cx_steps.specs.cx_journal.specs.declared.entries.Entry.TheVariants as entry
+use Rattle.cx_sealed.specs.cx_rotate.specs.declared.views.View.{View}
 use Rattle.cx_laws_keys.specs.LooksLast.{LooksLastBy, nothing_viewed, view_behind, viewed, viewed_all}
 
 -- an entry of the entity of this name, which has this view: it is its own look, fetch or restart, or none of these

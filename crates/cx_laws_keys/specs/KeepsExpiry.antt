@@ -3,14 +3,14 @@ use Rattle.std.specs.Prelude.{◌≡◌, ◌≤◌, ℕ, List, [], Contains}
 use Rattle.cx_base.specs.Names.{Name}
 use Rattle.cx_base.specs.declared.nodes.NodeName.{NodeName}
 use Rattle.cx_base.specs.declared.nodes.NodeName.TheVariants as node
-use Rattle.cx_journal.specs.Behind.{EachBehind}
-use Rattle.cx_journal.specs.declared.entries.Entry.{Entry}
-use Rattle.cx_journal.specs.declared.entries.Entry.TheVariants as entry
-use Rattle.cx_journal.specs.declared.entries.Issued.{Issued}
-use Rattle.cx_journal.specs.declared.outcomes.Reason.{Reason}
-use Rattle.cx_journal.specs.declared.outcomes.Reason.TheVariants as reason
-use Rattle.cx_journal.specs.declared.outcomes.TicketFault.{TicketFault}
-use Rattle.cx_journal.specs.declared.outcomes.TicketFault.TheVariants as fault
+use Rattle.cx_steps.specs.cx_journal.specs.Behind.{EachBehind}
+use Rattle.cx_steps.specs.cx_journal.specs.declared.entries.Entry.{Entry}
+use Rattle.cx_steps.specs.cx_journal.specs.declared.entries.Entry.TheVariants as entry
+use Rattle.cx_steps.specs.cx_journal.specs.declared.entries.Issued.{Issued}
+use Rattle.cx_steps.specs.cx_journal.specs.declared.outcomes.Reason.{Reason}
+use Rattle.cx_steps.specs.cx_journal.specs.declared.outcomes.Reason.TheVariants as reason
+use Rattle.cx_steps.specs.cx_journal.specs.declared.outcomes.TicketFault.{TicketFault}
+use Rattle.cx_steps.specs.cx_journal.specs.declared.outcomes.TicketFault.TheVariants as fault
 
 -- one of the entries issued a ticket with this blob, for this daemon's type as its service, which expires then
 pub record WasIssuedUntil (entries : List Entry) (daemon : Name) (expires : ℕ) (blob : List ℕ) : Type 0 where

@@ -2,10 +2,10 @@
 use Rattle.std.specs.Prelude.{◌≡◌, List, [], ◌∷◌, Some, None, if◌then◌else◌}
 use Rattle.cx_base.specs.Names.{Name, same_name}
 use Rattle.cx_base.specs.declared.nodes.NodeName.TheVariants as node
-use Rattle.cx_journal.specs.Behind.{EachBehind}
-use Rattle.cx_journal.specs.declared.entries.Entry.{Entry}
-use Rattle.cx_journal.specs.declared.entries.Entry.TheVariants as entry
-use Rattle.cx_rotate.specs.declared.views.View.{View}
+use Rattle.cx_steps.specs.cx_journal.specs.Behind.{EachBehind}
+use Rattle.cx_steps.specs.cx_journal.specs.declared.entries.Entry.{Entry}
+use Rattle.cx_steps.specs.cx_journal.specs.declared.entries.Entry.TheVariants as entry
+use Rattle.cx_sealed.specs.cx_rotate.specs.declared.views.View.{View}
 
 -- a view of nothing
 abbrev pub nothing_viewed : View

@@ -12,8 +12,8 @@ use Rattle.cx_laws_series.specs.cx_rules.specs.Links.{Link}
 use Rattle.cx_laws_series.specs.cx_rules.specs.Payloads.{due}
 use Rattle.cx_laws_series.specs.cx_rules.specs.Rows.{Turned, Waits, Refuses, Handles, at}
 use Rattle.cx_laws_series.specs.cx_rules.specs.Secured.{Secured}
-use Rattle.cx_rules_session.specs.Presenter.{Caller, CallArrival, CallRow, CallStage, AwaitsBanner, AwaitsHello, AwaitsChallenge, AwaitsDone, AwaitsSignature, AwaitsIdent, AwaitsReconnect, Open, callee_of, on_banner, on_hello, presented, turned_at, while_answered, while_challenged}
-use Rattle.cx_rules_session.specs.Sessions.{Called, Callee, HeldSession}
+use Rattle.cx_run.specs.cx_rules_session.specs.Presenter.{Caller, CallArrival, CallRow, CallStage, AwaitsBanner, AwaitsHello, AwaitsChallenge, AwaitsDone, AwaitsSignature, AwaitsIdent, AwaitsReconnect, Open, callee_of, on_banner, on_hello, presented, turned_at, while_answered, while_challenged}
+use Rattle.cx_run.specs.cx_rules_session.specs.Sessions.{Called, Callee, HeldSession}
 use Rattle.cx_run.proofs.Taking.{EachRow}
 use Rattle.cx_laws_links.proofs.Authorizing.{ShowsAgain, ShowsFirst, ShowsNothing, ShutsQuietly, SpeaksFirst, answered-row_at, banner-row, challenged-row, hello-row}
 use Rattle.cx_laws_links.proofs.CallTurn.{TurnSays, keyed-turn}

@@ -4,8 +4,8 @@ use Rattle.std.proofs.Common.{◌≡◌, ℕ, ◌==◌, Bool, true, false, List,
 use Rattle.std.proofs.lemmas.Bool.{eqb-true}
 use Rattle.std.specs.Prelude.{not, if◌then◌else◌}
 use Rattle.std.specs.List.{AllByRecursion}
-use Rattle.cx_authorize.specs.Client.{Answered, Presented, challenge_in, reply_in}
-use Rattle.cx_authorize.specs.Verdict.{raised}
+use Rattle.cx_run.specs.cx_authorize.specs.Client.{Answered, Presented, challenge_in, reply_in}
+use Rattle.cx_run.specs.cx_authorize.specs.Verdict.{raised}
 use Rattle.cx_base.specs.Names.{Name}
 use Rattle.cx_base.specs.declared.operations.Operation.{Operation}
 use Rattle.cx_control.specs.Auth.{auth_done_layout, auth_reply_more_layout, auth_signature_layout}
@@ -28,24 +28,24 @@ use Rattle.cx_laws_series.specs.cx_rules.specs.Messages.{sealed_behind, sealed_t
 use Rattle.cx_laws_series.specs.cx_rules.specs.Payloads.{control, due, payload, whole}
 use Rattle.cx_laws_series.specs.cx_rules.specs.Rows.{at, goes_on, plain_sent, refuses, turned_by, unless_refused}
 use Rattle.cx_laws_series.specs.cx_rules.specs.Secured.{SealedFrame, Secured, connector_keys, plain_frame, secure_frame, signature, signed_frame, signing}
-use Rattle.cx_rules_session.specs.Envelopes.{authorize_content, sends_holding, session_sealed}
-use Rattle.cx_rules_session.specs.Presenter.{CallArrival, CallRow, CallStage, AwaitsBanner, AwaitsHello, AwaitsChallenge, AwaitsDone, AwaitsSignature, callee_of, answers_challenge, first_frame, on_authorize_reply, on_bad_method, on_banner, on_challenge, on_done, on_hello, on_reply_more, on_unlocked, presented, presents, second_frame, signs, turned_at, while_answered, while_challenged}
-use Rattle.cx_rules_session.specs.Sessions.{Called, Callee, HeldSession}
+use Rattle.cx_run.specs.cx_rules_session.specs.Envelopes.{authorize_content, sends_holding, session_sealed}
+use Rattle.cx_run.specs.cx_rules_session.specs.Presenter.{CallArrival, CallRow, CallStage, AwaitsBanner, AwaitsHello, AwaitsChallenge, AwaitsDone, AwaitsSignature, callee_of, answers_challenge, first_frame, on_authorize_reply, on_bad_method, on_banner, on_challenge, on_done, on_hello, on_reply_more, on_unlocked, presented, presents, second_frame, signs, turned_at, while_answered, while_challenged}
+use Rattle.cx_run.specs.cx_rules_session.specs.Sessions.{Called, Callee, HeldSession}
 use Rattle.cx_cbc.specs.Opened.{opened}
 use Rattle.cx_enc.specs.Forms.{Form}
 use Rattle.cx_journal.specs.declared.premises.KeyKind.{KeyKind}
 use Rattle.cx_journal.specs.declared.premises.KeyKind.TheVariants as kind
-use Rattle.cx_login.specs.Unlocking.{unlocked, unlocked_as}
-use Rattle.cx_sealed.specs.Records as records
-use Rattle.cx_sealed.specs.Unsealing.{unsealed_as}
-use Rattle.cx_sealed.specs.declared.authorize_challenge.AuthorizeChallenge.{AuthorizeChallenge}
-use Rattle.cx_sealed.specs.declared.authorize_reply.AuthorizeReply.{AuthorizeReply}
+use Rattle.cx_laws_login.specs.cx_login.specs.Unlocking.{unlocked, unlocked_as}
+use Rattle.cx_laws_login.specs.cx_sealed.specs.Records as records
+use Rattle.cx_laws_login.specs.cx_sealed.specs.Unsealing.{unsealed_as}
+use Rattle.cx_laws_login.specs.cx_sealed.specs.declared.authorize_challenge.AuthorizeChallenge.{AuthorizeChallenge}
+use Rattle.cx_laws_login.specs.cx_sealed.specs.declared.authorize_reply.AuthorizeReply.{AuthorizeReply}
 use Rattle.cx_steps.specs.declared.seals.DrawMark.TheVariants as draw
 use Rattle.cx_steps.specs.declared.seals.SealEntry.{SealEntry}
 use Rattle.cx_steps.specs.declared.seals.SealEntry.TheVariants as entry
-use Rattle.cx_wire.specs.Logins.{authorize_challenge_layout, authorize_reply_layout}
-use Rattle.cx_wire.specs.declared.authorizers.AuthorizeChallenge as shown_challenge
-use Rattle.cx_wire.specs.declared.authorizers.AuthorizeReply as shown_reply
+use Rattle.cx_laws_login.specs.cx_wire.specs.Logins.{authorize_challenge_layout, authorize_reply_layout}
+use Rattle.cx_laws_login.specs.cx_wire.specs.declared.authorizers.AuthorizeChallenge as shown_challenge
+use Rattle.cx_laws_login.specs.cx_wire.specs.declared.authorizers.AuthorizeReply as shown_reply
 use Rattle.cx_run.proofs.Taking.{EachRow, each-turned}
 use Rattle.cx_laws_links.proofs.CallWords.{AreQuiet, HeldAt, KeyedStage, OneWord, Says, SignedOn, quiet-append, pending_of}
 use Rattle.cx_laws_links.proofs.Spoken.{Signs, frame_of}

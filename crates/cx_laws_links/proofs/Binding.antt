@@ -3,14 +3,14 @@ use Rattle.std.proofs.Common.{◌≡◌, ℕ, ◌==◌, ◌<◌, ◌≤◌, ◌^
 use Rattle.std.proofs.lemmas.Bool.{eq-eqb, eqb-true}
 use Rattle.std.specs.Prelude.{Contains, if◌then◌else◌}
 use Rattle.std.specs.List.{AllByRecursion}
-use Rattle.cx_authorize.specs.Verdict.{raised}
+use Rattle.cx_run.specs.cx_authorize.specs.Verdict.{raised}
 use Rattle.cx_base.specs.Names.{Name}
 use Rattle.cx_journal.specs.declared.entries.Entry.{Entry}
-use Rattle.cx_laws_keys.proofs.Known.{HasReply}
-use Rattle.cx_laws_keys.proofs.Uses.{Means, Use, Uses, WholeRun}
+use Rattle.cx_laws_login.specs.cx_laws_keys.proofs.Known.{HasReply}
+use Rattle.cx_laws_login.specs.cx_laws_keys.proofs.Uses.{Means, Use, Uses, WholeRun}
 use Rattle.cx_laws_series.proofs.Contents.{contents_in}
 use Rattle.cx_laws_series.specs.cx_rules.specs.Secured.{Secured, connector_keys}
-use Rattle.cx_sealed.specs.declared.authorize_reply.AuthorizeReply.{AuthorizeReply}
+use Rattle.cx_laws_login.specs.cx_sealed.specs.declared.authorize_reply.AuthorizeReply.{AuthorizeReply}
 use Rattle.cx_secure.specs.Contents.{sealed_contents}
 use Rattle.cx_steps.specs.declared.seals.Logged.{Logged}
 use Rattle.cx_laws_links.proofs.Known.{AreTold, Bound, HasNonce, IsBound, IsKeyed, IsShown, IsSpoken, NoncePlace, Shown, Told, Unshown}

@@ -5,23 +5,23 @@ use Rattle.std.proofs.lemmas.List.Elements.{Contains-append_left, Contains-push_
 use Rattle.std.specs.Prelude.{Contains, if◌then◌else◌}
 use Rattle.std.specs.List.{AllByRecursion}
 use Rattle.std.specs.Str.{bytes_eq}
-use Rattle.cx_authorize.specs.Verdict.{raised}
+use Rattle.cx_run.specs.cx_authorize.specs.Verdict.{raised}
 use Rattle.cx_base.specs.Names.{Name}
 use Rattle.cx_base.specs.declared.nodes.NodeName.{NodeName}
 use Rattle.cx_base.specs.declared.operations.Operation.{Operation}
 use Rattle.cx_journal.specs.declared.entries.Admitted.{Admitted}
 use Rattle.cx_journal.specs.declared.entries.Entry.{Entry}
 use Rattle.cx_journal.specs.declared.entries.Entry.TheVariants as journal
-use Rattle.cx_laws_keys.proofs.Known.{Inv, IsOfConnector, Within}
-use Rattle.cx_laws_keys.proofs.Premises.{AreGranted, behind, behind-append}
-use Rattle.cx_laws_keys.proofs.Uses.{Grows, Means, Use, Uses, WholeRun}
+use Rattle.cx_laws_login.specs.cx_laws_keys.proofs.Known.{Inv, IsOfConnector, Within}
+use Rattle.cx_laws_login.specs.cx_laws_keys.proofs.Premises.{AreGranted, behind, behind-append}
+use Rattle.cx_laws_login.specs.cx_laws_keys.proofs.Uses.{Grows, Means, Use, Uses, WholeRun}
 use Rattle.cx_laws_series.proofs.Contents.{contents-behind, contents_by, contents_in}
 use Rattle.cx_laws_series.proofs.Frames.{HasParts, frames-parts}
 use Rattle.cx_laws_series.specs.cx_rules.specs.Holdings.{Asker}
 use Rattle.cx_laws_series.specs.cx_rules.specs.Links.{Link}
 use Rattle.cx_laws_series.specs.cx_rules.specs.Secured.{Keys, SealedFrame, Secured}
-use Rattle.cx_rules_session.specs.Presenter.{CallRow}
-use Rattle.cx_rules_session.specs.Sessions.{Callee}
+use Rattle.cx_run.specs.cx_rules_session.specs.Presenter.{CallRow}
+use Rattle.cx_run.specs.cx_rules_session.specs.Sessions.{Callee}
 use Rattle.cx_secure.specs.Parts.{nonce_at}
 use Rattle.cx_steps.specs.Onto.{SomeOf}
 use Rattle.cx_steps.specs.Premises.{RepeatsIn}

@@ -14,8 +14,8 @@ use Rattle.cx_journal.specs.declared.entries.Entry.{Entry}
 use Rattle.cx_journal.specs.declared.entries.Entry.TheVariants as journal
 use Rattle.cx_journal.specs.declared.faults.BytesFault.{BytesFault}
 use Rattle.cx_journal.specs.declared.faults.BytesFault.TheVariants.{CounterSpent, TooLong}
-use Rattle.cx_laws_keys.proofs.Premises.{AreGranted, IsGranted, behind, behind-append, logged}
-use Rattle.cx_laws_keys.proofs.Uses.{Uses}
+use Rattle.cx_laws_login.specs.cx_laws_keys.proofs.Premises.{AreGranted, IsGranted, behind, behind-append, logged}
+use Rattle.cx_laws_login.specs.cx_laws_keys.proofs.Uses.{Uses}
 use Rattle.cx_laws_series.proofs.Contents.{content_of, contents-behind, contents_by, contents_in, parts-others}
 use Rattle.cx_laws_series.proofs.Frames.{HasParts, frame-sealed, frames-parts}
 use Rattle.cx_laws_series.specs.cx_rules.specs.Messages.{sealed_behind, sealed_then, secure_frames}

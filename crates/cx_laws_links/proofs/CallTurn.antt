@@ -6,22 +6,22 @@ use Rattle.cx_base.specs.declared.operations.Operation.{Operation}
 use Rattle.cx_control.specs.Auth.{auth_signature_layout}
 use Rattle.cx_frame.specs.declared.frame.Frame.{Frame}
 use Rattle.cx_journal.specs.declared.premises.KeyKind.TheVariants as kind
-use Rattle.cx_laws_keys.proofs.Uses.{Uses}
+use Rattle.cx_laws_login.specs.cx_laws_keys.proofs.Uses.{Uses}
 use Rattle.cx_laws_series.specs.cx_rules.specs.Fronts.{keys_behind, opened_parts, sealed_ahead, secure_next, secure_read, taking}
 use Rattle.cx_laws_series.specs.cx_rules.specs.Links.{Link}
 use Rattle.cx_laws_series.specs.cx_rules.specs.Messages.{on_upkeep_or}
 use Rattle.cx_laws_series.specs.cx_rules.specs.Payloads.{due}
 use Rattle.cx_laws_series.specs.cx_rules.specs.Rows.{at, turned_by, with_opened}
 use Rattle.cx_laws_series.specs.cx_rules.specs.Secured.{Keys, Secured, under}
-use Rattle.cx_rules_session.specs.Presenter.{CallArrival, CallRow, CallStage, AwaitsSignature, AwaitsIdent, AwaitsReconnect, Open, callee_of, on_answer_or_ack, on_signature, turned_at, while_identified, while_reconnecting}
-use Rattle.cx_rules_session.specs.Sessions.{Callee}
+use Rattle.cx_run.specs.cx_rules_session.specs.Presenter.{CallArrival, CallRow, CallStage, AwaitsSignature, AwaitsIdent, AwaitsReconnect, Open, callee_of, on_answer_or_ack, on_signature, turned_at, while_identified, while_reconnecting}
+use Rattle.cx_run.specs.cx_rules_session.specs.Sessions.{Callee}
 use Rattle.cx_run.proofs.Taking.{EachRow}
 use Rattle.cx_secure.specs.declared.refusals.SecureRefusal.{SecureRefusal}
 use Rattle.cx_steps.specs.declared.seals.Logged.{Logged}
 use Rattle.cx_steps.specs.declared.seals.SealEntry.{SealEntry}
 use Rattle.cx_steps.specs.declared.seals.SealEntry.TheVariants as entry
-use Rattle.cx_stream.specs.Openings.{front_contents}
-use Rattle.cx_stream.specs.SecureStreams.{Ahead, secure_frame_at}
+use Rattle.cx_laws_login.specs.cx_stream.specs.Openings.{front_contents}
+use Rattle.cx_laws_login.specs.cx_stream.specs.SecureStreams.{Ahead, secure_frame_at}
 use Rattle.cx_laws_links.proofs.CallWords.{AreQuiet, Identified, IsHeldHere, KeyedStage, Opened, Reconnecting, Says, SignedOn, identified-says, open-says, opened-says, reconnecting-says, signature-says}
 use Rattle.cx_laws_links.proofs.Known.{IsKeyed, Told}
 

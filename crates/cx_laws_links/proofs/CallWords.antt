@@ -34,10 +34,10 @@ use Rattle.cx_laws_series.specs.cx_rules.specs.Payloads.{due, payload}
 use Rattle.cx_laws_series.specs.cx_rules.specs.Rows.{goes_on, refused_entry, refuses, refuses_bytes, secure_sent, with_opened}
 use Rattle.cx_laws_series.specs.cx_rules.specs.Secured.{SealedFrame, Secured, is_signed, secure_frame, signature_found}
 use Rattle.cx_laws_series.specs.cx_rules.specs.Upkeep.{on_keepalive, on_keepalive_ack}
-use Rattle.cx_rules_session.specs.Kinds.{entered_before}
-use Rattle.cx_rules_session.specs.Lossy.{lossy_flags}
-use Rattle.cx_rules_session.specs.Presenter.{CallArrival, CallRow, CallStage, AwaitsBanner, AwaitsHello, AwaitsChallenge, AwaitsDone, AwaitsSignature, AwaitsIdent, AwaitsReconnect, Open, OperationEnd, callee_of, acknowledges, counting, end_in, holding_session, identifies, on_ack, on_answer, on_answer_or_ack, on_missing_features, on_reconnect_ok, on_reset, on_retry, on_retry_global, on_server_ident, on_signature, on_signed, reconnects, resets, retries, retries_global, taken_up, takes_up, while_identified, while_reconnecting}
-use Rattle.cx_rules_session.specs.Sessions.{Callee, HeldSession, acknowledged_up_to, held_gid, new_session, operation_message, session_reconnect, waiting_messages}
+use Rattle.cx_run.specs.cx_rules_session.specs.Kinds.{entered_before}
+use Rattle.cx_run.specs.cx_rules_session.specs.Lossy.{lossy_flags}
+use Rattle.cx_run.specs.cx_rules_session.specs.Presenter.{CallArrival, CallRow, CallStage, AwaitsBanner, AwaitsHello, AwaitsChallenge, AwaitsDone, AwaitsSignature, AwaitsIdent, AwaitsReconnect, Open, OperationEnd, callee_of, acknowledges, counting, end_in, holding_session, identifies, on_ack, on_answer, on_answer_or_ack, on_missing_features, on_reconnect_ok, on_reset, on_retry, on_retry_global, on_server_ident, on_signature, on_signed, reconnects, resets, retries, retries_global, taken_up, takes_up, while_identified, while_reconnecting}
+use Rattle.cx_run.specs.cx_rules_session.specs.Sessions.{Callee, HeldSession, acknowledged_up_to, held_gid, new_session, operation_message, session_reconnect, waiting_messages}
 use Rattle.cx_steps.specs.declared.seals.DrawMark.TheVariants as draw
 use Rattle.cx_steps.specs.declared.seals.SealEntry.{SealEntry}
 use Rattle.cx_steps.specs.declared.seals.SealEntry.TheVariants as entry

@@ -3,23 +3,23 @@ use Rattle.std.proofs.Common.{◌≡◌, ℕ, Bool, false, List, [], ◌∷◌, 
 use Rattle.std.specs.Prelude.{Contains, ◌&&◌}
 use Rattle.std.specs.List.{cons_option}
 use Rattle.std.specs.Str.{bytes_eq}
-use Rattle.cx_authorize.specs.Verdict.{raised}
+use Rattle.cx_run.specs.cx_authorize.specs.Verdict.{raised}
 use Rattle.cx_base.specs.Names.{Name}
 use Rattle.cx_base.specs.declared.nodes.NodeName.{NodeName}
 use Rattle.cx_dice.specs.Draws.{connection_of}
 use Rattle.cx_journal.specs.declared.entries.Entry.{Entry}
 use Rattle.cx_journal.specs.declared.faults.BytesFault.{BytesFault}
-use Rattle.cx_laws_keys.proofs.Known.{Inv, IsOfConnector}
-use Rattle.cx_laws_keys.proofs.Lists.{some-map}
-use Rattle.cx_laws_keys.proofs.Premises.{AreGranted, DrawsKey, behind, granted-first, granted-rest, new-key}
-use Rattle.cx_laws_keys.proofs.Uses.{AtDaemon, Connected, DrawnAs, Means, Use, Uses, WholeRun}
+use Rattle.cx_laws_login.specs.cx_laws_keys.proofs.Known.{Inv, IsOfConnector}
+use Rattle.cx_laws_login.specs.cx_laws_keys.proofs.Lists.{some-map}
+use Rattle.cx_laws_login.specs.cx_laws_keys.proofs.Premises.{AreGranted, DrawsKey, behind, granted-first, granted-rest, new-key}
+use Rattle.cx_laws_login.specs.cx_laws_keys.proofs.Uses.{AtDaemon, Connected, DrawnAs, Means, Use, Uses, WholeRun}
 use Rattle.cx_laws_login.proofs.Issuing.{acceptor-sends, connector-counts, connector-sends}
 use Rattle.cx_laws_series.proofs.Contents.{content_where, contents_by}
 use Rattle.cx_laws_series.specs.cx_rules.specs.Acceptor.{Finished, finished, joined}
 use Rattle.cx_laws_series.specs.cx_rules.specs.Secured.{Keys, SealedFrame, Secured, Way, acceptor_keys, plain_frame, secure_frame, signed_frame, signing}
-use Rattle.cx_rules_session.specs.Envelopes.{authorize_reply_content, session_sealed}
-use Rattle.cx_rules_session.specs.Guests.{GuestArrival, authority_of, authorized_frame, authorizes, done_sent}
-use Rattle.cx_sealed.specs.declared.service_ticket.ServiceTicket.{ServiceTicket}
+use Rattle.cx_run.specs.cx_rules_session.specs.Envelopes.{authorize_reply_content, session_sealed}
+use Rattle.cx_run.specs.cx_rules_session.specs.Guests.{GuestArrival, authority_of, authorized_frame, authorizes, done_sent}
+use Rattle.cx_laws_login.specs.cx_sealed.specs.declared.service_ticket.ServiceTicket.{ServiceTicket}
 use Rattle.cx_steps.specs.declared.seals.DrawMark.TheVariants as draw
 use Rattle.cx_steps.specs.declared.seals.Logged.{Logged}
 use Rattle.cx_steps.specs.declared.seals.SealEntry.{SealEntry}

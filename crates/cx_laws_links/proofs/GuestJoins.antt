@@ -7,11 +7,11 @@ use Rattle.cx_base.specs.declared.nodes.NodeName.{NodeName}
 use Rattle.cx_journal.specs.declared.entries.Admitted.{Admitted}
 use Rattle.cx_journal.specs.declared.entries.Entry.{Entry}
 use Rattle.cx_journal.specs.declared.entries.Entry.TheVariants as journal
-use Rattle.cx_laws_keys.proofs.Known.{Within}
-use Rattle.cx_laws_keys.proofs.Uses.{AtDaemon, Connected, Means, Use, Uses, WholeRun}
+use Rattle.cx_laws_login.specs.cx_laws_keys.proofs.Known.{Within}
+use Rattle.cx_laws_login.specs.cx_laws_keys.proofs.Uses.{AtDaemon, Connected, Means, Use, Uses, WholeRun}
 use Rattle.cx_laws_series.specs.cx_rules.specs.Acceptor as acceptor
 use Rattle.cx_laws_series.specs.cx_rules.specs.Secured.{Secured}
-use Rattle.cx_rules_session.specs.Guests.{GuestStage}
+use Rattle.cx_run.specs.cx_rules_session.specs.Guests.{GuestStage}
 use Rattle.cx_steps.specs.declared.seals.Logged.{Logged}
 use Rattle.cx_laws_links.proofs.Known.{AreTold, AsksFor, GuestTold, HasTaken, IsAsked, IsGuest, IsJoined, IsSpoken, Told}
 use Rattle.cx_laws_links.proofs.Lifting.{words-grow}

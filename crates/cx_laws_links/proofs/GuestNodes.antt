@@ -7,16 +7,16 @@ use Rattle.std.specs.Option.{option_map}
 use Rattle.cx_base.specs.Names.{Name}
 use Rattle.cx_base.specs.declared.nodes.NodeName.{NodeName}
 use Rattle.cx_journal.specs.declared.entries.Entry.{Entry}
-use Rattle.cx_laws_keys.proofs.Journal.{entered}
-use Rattle.cx_laws_keys.proofs.Lists.{all-append, all-map}
-use Rattle.cx_laws_keys.proofs.Uses.{Means, Use, Uses, WholeRun, stays}
+use Rattle.cx_laws_login.specs.cx_laws_keys.proofs.Journal.{entered}
+use Rattle.cx_laws_login.specs.cx_laws_keys.proofs.Lists.{all-append, all-map}
+use Rattle.cx_laws_login.specs.cx_laws_keys.proofs.Uses.{Means, Use, Uses, WholeRun, stays}
 use Rattle.cx_laws_series.specs.cx_rules.specs.Acceptor as acceptor
 use Rattle.cx_laws_series.specs.cx_rules.specs.Links.{Link}
 use Rattle.cx_laws_series.specs.cx_rules.specs.Rows.{links_behind}
 use Rattle.cx_laws_series.specs.cx_rules.specs.Secured.{Secured}
-use Rattle.cx_rules_session.specs.DaemonRule.{AsAcceptor, AsConnector, DaemonStage}
-use Rattle.cx_rules_session.specs.Guests.{GuestRow, GuestStage}
-use Rattle.cx_rules_session.specs.Kinds.{of_kind}
+use Rattle.cx_run.specs.cx_rules_session.specs.DaemonRule.{AsAcceptor, AsConnector, DaemonStage}
+use Rattle.cx_run.specs.cx_rules_session.specs.Guests.{GuestRow, GuestStage}
+use Rattle.cx_run.specs.cx_rules_session.specs.Kinds.{of_kind}
 use Rattle.cx_laws_links.proofs.GuestJoins.{guests-apart}
 use Rattle.cx_laws_links.proofs.GuestSteps.{IsApartFrom, ServesOpen, heard-goes, others-told, serves-stays, stage-serves}
 use Rattle.cx_laws_links.proofs.Since.{Goes, since-within}

@@ -8,19 +8,19 @@ use Rattle.cx_base.specs.declared.nodes.NodeName.{NodeName}
 use Rattle.cx_journal.specs.declared.entries.Admitted.{Admitted}
 use Rattle.cx_journal.specs.declared.entries.Entry.{Entry}
 use Rattle.cx_journal.specs.declared.entries.Entry.TheVariants as journal
-use Rattle.cx_laws_keys.proofs.Journal.{entered}
-use Rattle.cx_laws_keys.proofs.Known.{Inv, Within}
-use Rattle.cx_laws_keys.proofs.Lists.{all-map}
-use Rattle.cx_laws_keys.proofs.Premises.{behind}
-use Rattle.cx_laws_keys.proofs.Uses.{Grows, Means, Use, Uses, WholeRun, stays}
+use Rattle.cx_laws_login.specs.cx_laws_keys.proofs.Journal.{entered}
+use Rattle.cx_laws_login.specs.cx_laws_keys.proofs.Known.{Inv, Within}
+use Rattle.cx_laws_login.specs.cx_laws_keys.proofs.Lists.{all-map}
+use Rattle.cx_laws_login.specs.cx_laws_keys.proofs.Premises.{behind}
+use Rattle.cx_laws_login.specs.cx_laws_keys.proofs.Uses.{Grows, Means, Use, Uses, WholeRun, stays}
 use Rattle.cx_laws_series.proofs.Contents.{contents-behind, contents_in}
 use Rattle.cx_laws_series.specs.cx_rules.specs.Acceptor as acceptor
 use Rattle.cx_laws_series.specs.cx_rules.specs.Links.{Link}
 use Rattle.cx_laws_series.specs.cx_rules.specs.Secured.{Secured}
-use Rattle.cx_rules_session.specs.ClientRule.{ClientStage, ToDaemon, ToMonitor, WholeClientNode}
-use Rattle.cx_rules_session.specs.Guests.{GuestRow, GuestStage, Served}
-use Rattle.cx_rules_session.specs.Presenter as call
-use Rattle.cx_rules_session.specs.Presenter.{CallStage}
+use Rattle.cx_run.specs.cx_rules_session.specs.ClientRule.{ClientStage, ToDaemon, ToMonitor, WholeClientNode}
+use Rattle.cx_run.specs.cx_rules_session.specs.Guests.{GuestRow, GuestStage, Served}
+use Rattle.cx_run.specs.cx_rules_session.specs.Presenter as call
+use Rattle.cx_run.specs.cx_rules_session.specs.Presenter.{CallStage}
 use Rattle.cx_steps.specs.declared.seals.Logged.{Logged}
 use Rattle.cx_steps.specs.declared.seals.SealEntry.{SealEntry}
 use Rattle.cx_laws_links.proofs.GuestJoins.{JoinsNone, guest-joins, told-joins}

@@ -7,7 +7,7 @@ use Rattle.std.proofs.lemmas.Bool.Decides.{nat_tests}
 use Rattle.std.proofs.lemmas.List.Elements.{Contains-append_right, Contains-push}
 use Rattle.std.specs.Prelude.{Contains, if◌then◌else◌}
 use Rattle.std.specs.List.{AllByRecursion}
-use Rattle.cx_authorize.specs.Daemon.{Authority}
+use Rattle.cx_run.specs.cx_authorize.specs.Daemon.{Authority}
 use Rattle.cx_base.specs.Names.{Name}
 use Rattle.cx_base.specs.declared.nodes.NodeName.{NodeName}
 use Rattle.cx_control.specs.Auth.{auth_signature_layout}
@@ -34,10 +34,10 @@ use Rattle.cx_journal.specs.declared.outcomes.Outcome.{Outcome}
 use Rattle.cx_journal.specs.declared.outcomes.Reason.{Reason}
 use Rattle.cx_journal.specs.declared.outcomes.Reason.TheVariants as reason
 use Rattle.cx_journal.specs.declared.premises.KeyKind.TheVariants as kind
-use Rattle.cx_laws_keys.proofs.Known.{Inv, IsOfAcceptor, IsOfConnector}
-use Rattle.cx_laws_keys.proofs.Lists.{all-of-map}
-use Rattle.cx_laws_keys.proofs.Premises.{AreGranted, granted-first}
-use Rattle.cx_laws_keys.proofs.Uses.{AtDaemon, Connected, Means, Uses, WholeRun}
+use Rattle.cx_laws_login.specs.cx_laws_keys.proofs.Known.{Inv, IsOfAcceptor, IsOfConnector}
+use Rattle.cx_laws_login.specs.cx_laws_keys.proofs.Lists.{all-of-map}
+use Rattle.cx_laws_login.specs.cx_laws_keys.proofs.Premises.{AreGranted, granted-first}
+use Rattle.cx_laws_login.specs.cx_laws_keys.proofs.Uses.{AtDaemon, Connected, Means, Uses, WholeRun}
 use Rattle.cx_laws_series.proofs.Contents.{contents_by, parts-others}
 use Rattle.cx_laws_series.proofs.Frames.{frame-sealed}
 use Rattle.cx_laws_series.specs.cx_rules.specs.Acceptor.{AwaitsBanner, AwaitsHello, AwaitsRequest, AwaitsProof, AwaitsSignature, AwaitsIdent, Open, missing_told, misses, on_signature, server_ident}
@@ -50,12 +50,12 @@ use Rattle.cx_laws_series.specs.cx_rules.specs.Payloads.{control, due, payload}
 use Rattle.cx_laws_series.specs.cx_rules.specs.Rows.{Turned, Waits, Refuses, Handles, at, goes_on, refused_entry, refuses, refuses_bytes, secure_sent, turned_by, with_opened}
 use Rattle.cx_laws_series.specs.cx_rules.specs.Secured.{Keys, SealedFrame, Secured, Way, is_signed, secure_frame, signature_found, under}
 use Rattle.cx_laws_series.specs.cx_rules.specs.Upkeep.{on_keepalive, on_keepalive_ack}
-use Rattle.cx_rules_session.specs.Asks.{Asks, Finished, Asking}
-use Rattle.cx_rules_session.specs.Guests.{GuestArrival, GuestRow, GuestStage, Served}
-use Rattle.cx_rules_session.specs.Hosting.{Deciding, Hosted, Instruction, admission_of, admits, answer_message, asks_admission, comes_to, cookie_drawn, decided_by, guest_turned, handled_entry, handles, hosted_behind, instruction_of, no_session_moves, on_admission, on_checked, on_client_ident, on_ident, on_message, on_open, on_reconnect, on_resumption, on_taken, on_untaken, outcome_of, reconnect_ok, resumes, served_as, session_retry, session_retry_global, tells_why}
-use Rattle.cx_rules_session.specs.Kinds.{entered_before}
-use Rattle.cx_rules_session.specs.Lossy.{is_lossy, lossy_flags}
-use Rattle.cx_rules_session.specs.Sessions.{HeldSession}
+use Rattle.cx_run.specs.cx_rules_session.specs.Asks.{Asks, Finished, Asking}
+use Rattle.cx_run.specs.cx_rules_session.specs.Guests.{GuestArrival, GuestRow, GuestStage, Served}
+use Rattle.cx_run.specs.cx_rules_session.specs.Hosting.{Deciding, Hosted, Instruction, admission_of, admits, answer_message, asks_admission, comes_to, cookie_drawn, decided_by, guest_turned, handled_entry, handles, hosted_behind, instruction_of, no_session_moves, on_admission, on_checked, on_client_ident, on_ident, on_message, on_open, on_reconnect, on_resumption, on_taken, on_untaken, outcome_of, reconnect_ok, resumes, served_as, session_retry, session_retry_global, tells_why}
+use Rattle.cx_run.specs.cx_rules_session.specs.Kinds.{entered_before}
+use Rattle.cx_run.specs.cx_rules_session.specs.Lossy.{is_lossy, lossy_flags}
+use Rattle.cx_run.specs.cx_rules_session.specs.Sessions.{HeldSession}
 use Rattle.cx_run.proofs.GuestTakes.{Always, always-map, always-weaker}
 use Rattle.cx_secure.specs.Parts.{nonce_at}
 use Rattle.cx_secure.specs.Plains.{plains}
@@ -66,8 +66,8 @@ use Rattle.cx_session.specs.declared.call.BookReply.TheVariants as reply
 use Rattle.cx_steps.specs.declared.seals.Logged.{Logged}
 use Rattle.cx_steps.specs.declared.seals.SealEntry.{SealEntry}
 use Rattle.cx_steps.specs.declared.seals.SealEntry.TheVariants as entry
-use Rattle.cx_stream.specs.Openings.{front_contents}
-use Rattle.cx_stream.specs.SecureStreams.{Ahead, secure_frame_at}
+use Rattle.cx_laws_login.specs.cx_stream.specs.Openings.{front_contents}
+use Rattle.cx_laws_login.specs.cx_stream.specs.SecureStreams.{Ahead, secure_frame_at}
 use Rattle.cx_laws_links.proofs.CallTells.{by-append, quiet-none}
 use Rattle.cx_laws_links.proofs.CallWords.{IsQuiet}
 use Rattle.cx_laws_links.proofs.GuestJoins.{guest-joins}

@@ -6,20 +6,20 @@ use Rattle.cx_base.specs.Names.{Name}
 use Rattle.cx_base.specs.declared.nodes.NodeName.{NodeName}
 use Rattle.cx_desk.specs.Handlers.{Handlers}
 use Rattle.cx_journal.specs.declared.entries.Entry.{Entry}
-use Rattle.cx_laws_keys.proofs.Journal.{entered}
-use Rattle.cx_laws_keys.proofs.Known.{Inv}
-use Rattle.cx_laws_keys.proofs.Premises.{AreGranted, behind}
-use Rattle.cx_laws_keys.proofs.Uses.{Uses, WholeRun}
+use Rattle.cx_laws_login.specs.cx_laws_keys.proofs.Journal.{entered}
+use Rattle.cx_laws_login.specs.cx_laws_keys.proofs.Known.{Inv}
+use Rattle.cx_laws_login.specs.cx_laws_keys.proofs.Premises.{AreGranted, behind}
+use Rattle.cx_laws_login.specs.cx_laws_keys.proofs.Uses.{Uses, WholeRun}
 use Rattle.cx_laws_series.specs.cx_rules.specs.Acceptor.{AwaitsBanner, AwaitsHello, AwaitsRequest, AwaitsProof, AwaitsSignature, AwaitsIdent, Open}
 use Rattle.cx_laws_series.specs.cx_rules.specs.Holdings.{Asker}
 use Rattle.cx_laws_series.specs.cx_rules.specs.Links.{Link}
 use Rattle.cx_laws_series.specs.cx_rules.specs.Rows.{Arrival, Outcome, Turned, Waits, Refuses, Handles, arrival, carried_out, refuses_bytes, turns}
 use Rattle.cx_laws_series.specs.cx_rules.specs.Secured.{Secured}
-use Rattle.cx_rules_session.specs.Asks.{Asks, Finished, Asking}
-use Rattle.cx_rules_session.specs.DaemonRule.{AsAcceptor, Daemon, DaemonNode, DaemonStage, hosts, is_older, me, moved_to, turned_at, with_asker}
-use Rattle.cx_rules_session.specs.Guests.{GuestArrival, GuestRow, GuestStage}
-use Rattle.cx_rules_session.specs.Hosting.{Deciding, Hosted, guest_turned}
-use Rattle.cx_rules_session.specs.Kinds.{arrival_in, row_of_kind, turn_of_kind}
+use Rattle.cx_run.specs.cx_rules_session.specs.Asks.{Asks, Finished, Asking}
+use Rattle.cx_run.specs.cx_rules_session.specs.DaemonRule.{AsAcceptor, Daemon, DaemonNode, DaemonStage, hosts, is_older, me, moved_to, turned_at, with_asker}
+use Rattle.cx_run.specs.cx_rules_session.specs.Guests.{GuestArrival, GuestRow, GuestStage}
+use Rattle.cx_run.specs.cx_rules_session.specs.Hosting.{Deciding, Hosted, guest_turned}
+use Rattle.cx_run.specs.cx_rules_session.specs.Kinds.{arrival_in, row_of_kind, turn_of_kind}
 use Rattle.cx_run.proofs.GuestTakes.{Always, TakesHosted, always-map, always-weaker, guest-takes}
 use Rattle.cx_run.proofs.Taking.{Takes, TurnTakes}
 use Rattle.cx_steps.specs.declared.seals.Logged.{Logged}

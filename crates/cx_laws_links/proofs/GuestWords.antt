@@ -9,20 +9,20 @@ use Rattle.cx_base.specs.Names.{Name}
 use Rattle.cx_base.specs.declared.nodes.NodeName.{NodeName}
 use Rattle.cx_frame.specs.declared.frame.Frame.{Frame}
 use Rattle.cx_journal.specs.declared.entries.Entry.{Entry}
-use Rattle.cx_laws_keys.proofs.Known.{Inv}
-use Rattle.cx_laws_keys.proofs.Premises.{AreGranted}
-use Rattle.cx_laws_keys.proofs.Uses.{AtDaemon, Connected, Means, Tie, Use, Uses, WholeRun}
+use Rattle.cx_laws_login.specs.cx_laws_keys.proofs.Known.{Inv}
+use Rattle.cx_laws_login.specs.cx_laws_keys.proofs.Premises.{AreGranted}
+use Rattle.cx_laws_login.specs.cx_laws_keys.proofs.Uses.{AtDaemon, Connected, Means, Tie, Use, Uses, WholeRun}
 use Rattle.cx_laws_series.specs.cx_rules.specs.Fronts.{keys_behind, opened_parts, sealed_ahead}
 use Rattle.cx_laws_series.specs.cx_rules.specs.Links.{Link}
 use Rattle.cx_laws_series.specs.cx_rules.specs.Secured.{Secured, under}
-use Rattle.cx_rules_session.specs.Guests.{GuestStage}
+use Rattle.cx_run.specs.cx_rules_session.specs.Guests.{GuestStage}
 use Rattle.cx_secure.specs.Contents.{sealed_contents}
 use Rattle.cx_secure.specs.Parts.{nonce_at}
 use Rattle.cx_secure.specs.Plains.{plains}
 use Rattle.cx_steps.specs.Premises.{IsExcepted}
 use Rattle.cx_steps.specs.declared.seals.Logged.{Logged}
-use Rattle.cx_stream.specs.Openings.{front_contents}
-use Rattle.cx_stream.specs.SecureStreams.{secure_frame_at}
+use Rattle.cx_laws_login.specs.cx_stream.specs.Openings.{front_contents}
+use Rattle.cx_laws_login.specs.cx_stream.specs.SecureStreams.{secure_frame_at}
 use Rattle.cx_laws_links.proofs.CallSteps.{passes-connector}
 use Rattle.cx_laws_links.proofs.Hearing.{IsSpelled}
 use Rattle.cx_laws_links.proofs.Known.{AreTold, AreTrueWords, HasTaken, IsGuest, IsSpoken, IsTrueWord, NoncePlace, Told}

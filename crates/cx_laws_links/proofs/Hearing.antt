@@ -25,15 +25,15 @@ use Rattle.cx_enc.specs.declared.faults.ReadFault.{ReadFault}
 use Rattle.cx_enc.specs.declared.faults.ReadFault.TheVariants.{Short}
 use Rattle.cx_frame.specs.declared.frame.Frame.{Frame}
 use Rattle.cx_journal.specs.declared.faults.BytesFault.{BytesFault}
-use Rattle.cx_laws_keys.proofs.Reading.{bind_ok, ok_is, pair_parts, unseen}
+use Rattle.cx_laws_login.specs.cx_laws_keys.proofs.Reading.{bind_ok, ok_is, pair_parts, unseen}
 use Rattle.cx_laws_series.specs.cx_rules.specs.Holdings.{Asker}
 use Rattle.cx_laws_series.specs.cx_rules.specs.Messages.{Message, message_by, message_in}
 use Rattle.cx_laws_series.specs.cx_rules.specs.Payloads.{payload, to_end, unless_left, whole}
-use Rattle.cx_rules_session.specs.Hosting.{Instruction, instruction_by, instruction_of}
-use Rattle.cx_rules_session.specs.Sessions.{HeldSession, operation_message}
-use Rattle.cx_wire.specs.Headers.{Fields, header_layout, written_header}
-use Rattle.cx_wire.specs.Operations.{IsWritable, access_field, is_data, operation_layout, part_field}
-use Rattle.cx_wire.specs.declared.headers.Header.{Header}
+use Rattle.cx_run.specs.cx_rules_session.specs.Hosting.{Instruction, instruction_by, instruction_of}
+use Rattle.cx_run.specs.cx_rules_session.specs.Sessions.{HeldSession, operation_message}
+use Rattle.cx_laws_login.specs.cx_wire.specs.Headers.{Fields, header_layout, written_header}
+use Rattle.cx_laws_login.specs.cx_wire.specs.Operations.{IsWritable, access_field, is_data, operation_layout, part_field}
+use Rattle.cx_laws_login.specs.cx_wire.specs.declared.headers.Header.{Header}
 use Rattle.cx_laws_links.proofs.Spoken.{Idents, KeepsUp, Orders, Reconnects, Signs, Spoken, cookie_after, frame_of}
 
 -- ---- forms that take as many bytes, whatever they read

@@ -3,7 +3,7 @@
 use Rattle.std.proofs.Common.{◌≡◌, ℕ, ◌<◌, ◌≤◌, ◌^◌, List, [], ◌∷◌, ◌++◌, length, Option, Some, None}
 use Rattle.std.specs.Prelude.{Contains}
 use Rattle.std.specs.List.{AllByRecursion}
-use Rattle.cx_authorize.specs.Verdict.{raised}
+use Rattle.cx_run.specs.cx_authorize.specs.Verdict.{raised}
 use Rattle.cx_base.specs.Names.{Name}
 use Rattle.cx_base.specs.declared.kinds.EntityType.{EntityType}
 use Rattle.cx_base.specs.declared.nodes.NodeName.{NodeName}
@@ -12,20 +12,20 @@ use Rattle.cx_base.specs.declared.operations.Operation.{Operation}
 use Rattle.cx_journal.specs.declared.entries.Admitted.{Admitted}
 use Rattle.cx_journal.specs.declared.entries.Entry.{Entry}
 use Rattle.cx_journal.specs.declared.entries.Entry.TheVariants as journal
-use Rattle.cx_laws_keys.proofs.Known.{IsOfConnector}
-use Rattle.cx_laws_keys.proofs.Uses.{AtDaemon, Connected, Means, Uses, WholeRun}
+use Rattle.cx_laws_login.specs.cx_laws_keys.proofs.Known.{IsOfConnector}
+use Rattle.cx_laws_login.specs.cx_laws_keys.proofs.Uses.{AtDaemon, Connected, Means, Uses, WholeRun}
 use Rattle.cx_laws_series.proofs.Contents.{contents_in}
 use Rattle.cx_laws_series.proofs.Frames.{HasParts}
 use Rattle.cx_laws_series.specs.cx_rules.specs.Acceptor as acceptor
 use Rattle.cx_laws_series.specs.cx_rules.specs.Holdings.{Asker}
 use Rattle.cx_laws_series.specs.cx_rules.specs.Links.{Link}
 use Rattle.cx_laws_series.specs.cx_rules.specs.Secured.{Secured}
-use Rattle.cx_rules_session.specs.ClientRule.{ClientStage, ToDaemon, ToMonitor, WholeClient, WholeClientNode}
-use Rattle.cx_rules_session.specs.DaemonRule.{AsAcceptor, AsConnector, DaemonNode, DaemonStage}
-use Rattle.cx_rules_session.specs.Guests.{GuestStage, Served}
-use Rattle.cx_rules_session.specs.Presenter as call
-use Rattle.cx_rules_session.specs.Presenter.{CallStage}
-use Rattle.cx_rules_session.specs.Sessions.{HeldSession, session_with}
+use Rattle.cx_run.specs.cx_rules_session.specs.ClientRule.{ClientStage, ToDaemon, ToMonitor, WholeClient, WholeClientNode}
+use Rattle.cx_run.specs.cx_rules_session.specs.DaemonRule.{AsAcceptor, AsConnector, DaemonNode, DaemonStage}
+use Rattle.cx_run.specs.cx_rules_session.specs.Guests.{GuestStage, Served}
+use Rattle.cx_run.specs.cx_rules_session.specs.Presenter as call
+use Rattle.cx_run.specs.cx_rules_session.specs.Presenter.{CallStage}
+use Rattle.cx_run.specs.cx_rules_session.specs.Sessions.{HeldSession, session_with}
 use Rattle.cx_steps.specs.Onto.{SomeOf}
 use Rattle.cx_steps.specs.declared.seals.DrawMark.TheVariants as draw
 use Rattle.cx_steps.specs.declared.seals.Logged.{Logged}

@@ -9,9 +9,9 @@ use Rattle.cx_base.specs.declared.nodes.NodeName.{NodeName}
 use Rattle.cx_journal.specs.declared.entries.Admitted.{Admitted}
 use Rattle.cx_journal.specs.declared.entries.Entry.{Entry}
 use Rattle.cx_journal.specs.declared.entries.Entry.TheVariants as journal
-use Rattle.cx_laws_keys.proofs.Known.{Inv, IsAllowed, Within}
-use Rattle.cx_laws_keys.proofs.Premises.{behind}
-use Rattle.cx_laws_keys.proofs.Uses.{AtDaemon, Connected, Grows, Means, Use, Uses, WholeRun}
+use Rattle.cx_laws_login.specs.cx_laws_keys.proofs.Known.{Inv, IsAllowed, Within}
+use Rattle.cx_laws_login.specs.cx_laws_keys.proofs.Premises.{behind}
+use Rattle.cx_laws_login.specs.cx_laws_keys.proofs.Uses.{AtDaemon, Connected, Grows, Means, Use, Uses, WholeRun}
 use Rattle.cx_laws_series.proofs.Contents.{content_of, content_where, contents-behind, contents_by, contents_in}
 use Rattle.cx_steps.specs.Onto.{SomeOf}
 use Rattle.cx_steps.specs.declared.seals.DrawMark.TheVariants as draw

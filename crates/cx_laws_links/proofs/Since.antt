@@ -8,8 +8,8 @@ use Rattle.cx_base.specs.Names.{Name}
 use Rattle.cx_journal.specs.Nodes.{is_node_of}
 use Rattle.cx_journal.specs.declared.entries.Entry.{Entry}
 use Rattle.cx_journal.specs.declared.entries.Entry.TheVariants as journal
-use Rattle.cx_laws_keys.proofs.Journal.{entered}
-use Rattle.cx_laws_keys.proofs.Known.{Within}
+use Rattle.cx_laws_login.specs.cx_laws_keys.proofs.Journal.{entered}
+use Rattle.cx_laws_login.specs.cx_laws_keys.proofs.Known.{Within}
 
 -- whether the entry says that the daemon began anew
 abbrev pub restarts : Name → Entry → Bool

@@ -7,8 +7,8 @@ use Rattle.std.specs.List.{list_any}
 use Rattle.cx_base.proofs.Names.{same_name_is, same_name_self}
 use Rattle.cx_base.specs.Names.{Name, same_name}
 use Rattle.cx_laws_series.specs.cx_rules.specs.Links.{Link, put_link, without_link}
-use Rattle.cx_rules_session.specs.ClientRule.{ClientStage, Dial, ForCall, ForLogin, ToDaemon, ToMonitor, WholeClientNode, dial_of, is_for, is_to, waits_for_call, waits_for_login}
-use Rattle.cx_rules_session.specs.Sessions.{Called}
+use Rattle.cx_run.specs.cx_rules_session.specs.ClientRule.{ClientStage, Dial, ForCall, ForLogin, ToDaemon, ToMonitor, WholeClientNode, dial_of, is_for, is_to, waits_for_call, waits_for_login}
+use Rattle.cx_run.specs.cx_rules_session.specs.Sessions.{Called}
 use Rattle.cx_steps.specs.declared.events.Peer.{Peer}
 use Rattle.cx_steps.specs.declared.events.Peer.TheVariants as peer
 

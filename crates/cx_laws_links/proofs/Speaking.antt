@@ -11,10 +11,10 @@ use Rattle.cx_frame.specs.Frames.{total}
 use Rattle.cx_journal.specs.declared.entries.Admitted.{Admitted}
 use Rattle.cx_journal.specs.declared.entries.Entry.{Entry}
 use Rattle.cx_journal.specs.declared.entries.Entry.TheVariants as journal
-use Rattle.cx_laws_keys.proofs.Known.{Inv, Within}
-use Rattle.cx_laws_keys.proofs.Lists.{all-append}
-use Rattle.cx_laws_keys.proofs.Premises.{behind}
-use Rattle.cx_laws_keys.proofs.Uses.{AtDaemon, Connected, Grows, Means, Use, Uses, WholeRun}
+use Rattle.cx_laws_login.specs.cx_laws_keys.proofs.Known.{Inv, Within}
+use Rattle.cx_laws_login.specs.cx_laws_keys.proofs.Lists.{all-append}
+use Rattle.cx_laws_login.specs.cx_laws_keys.proofs.Premises.{behind}
+use Rattle.cx_laws_login.specs.cx_laws_keys.proofs.Uses.{AtDaemon, Connected, Grows, Means, Use, Uses, WholeRun}
 use Rattle.cx_laws_series.proofs.Contents.{contents-behind, contents_by, contents_in}
 use Rattle.cx_laws_series.proofs.Frames.{HasParts}
 use Rattle.cx_laws_series.specs.cx_rules.specs.Holdings.{Asker}

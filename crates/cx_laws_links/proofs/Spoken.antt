@@ -12,7 +12,7 @@ use Rattle.cx_frame.specs.declared.frame.Frame.{Frame}
 use Rattle.cx_laws_series.specs.cx_rules.specs.Connector.{client_ident}
 use Rattle.cx_laws_series.specs.cx_rules.specs.Holdings.{Asker}
 use Rattle.cx_laws_series.specs.cx_rules.specs.Payloads.{control}
-use Rattle.cx_rules_session.specs.Sessions.{HeldSession, operation_message, session_reconnect}
+use Rattle.cx_run.specs.cx_rules_session.specs.Sessions.{HeldSession, operation_message, session_reconnect}
 use Rattle.cx_secure.specs.Plains.{plains}
 
 -- AUTH_SIGNATURE; CLIENT_IDENT under a global id, with flags and a cookie; SESSION_RECONNECT for a session; an operation with its seq; KEEPALIVE2_ACK

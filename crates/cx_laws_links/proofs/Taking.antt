@@ -12,7 +12,7 @@ use Rattle.cx_frame.specs.Preambles.{IsAllowed, preamble_of}
 use Rattle.cx_frame.specs.declared.frame.Frame.{Frame}
 use Rattle.cx_frame.specs.declared.frame.Segment.{Segment}
 use Rattle.cx_journal.specs.declared.premises.KeyKind.TheVariants as kind
-use Rattle.cx_laws_keys.proofs.Premises.{AreGranted, logged}
+use Rattle.cx_laws_login.specs.cx_laws_keys.proofs.Premises.{AreGranted, logged}
 use Rattle.cx_laws_series.proofs.Frames.{parts-taken}
 use Rattle.cx_laws_series.proofs.Fronts.{front-read}
 use Rattle.cx_laws_series.proofs.Series.{IsAt}
@@ -24,8 +24,8 @@ use Rattle.cx_steps.specs.declared.seals.Logged.{Logged}
 use Rattle.cx_steps.specs.declared.seals.SealEntry.{SealEntry}
 use Rattle.cx_steps.specs.declared.seals.SealEntry.TheVariants as entry
 use Rattle.cx_steps.specs.declared.seals.SealMark.{SealMark}
-use Rattle.cx_stream.specs.Openings.{front_contents}
-use Rattle.cx_stream.specs.SecureStreams.{Ahead, secure_frame_at}
+use Rattle.cx_laws_login.specs.cx_stream.specs.Openings.{front_contents}
+use Rattle.cx_laws_login.specs.cx_stream.specs.SecureStreams.{Ahead, secure_frame_at}
 use Rattle.cx_laws_links.proofs.Spoken.{Idents, KeepsUp, Orders, Reconnects, Signs, Spoken, frame_of, is_connectors, parts-append, parts_of, said_under}
 use Rattle.cx_laws_links.proofs.Written.{IsWritten}
 

@@ -11,9 +11,9 @@ use Rattle.cx_base.specs.declared.kinds.EntityType.{EntityType}
 use Rattle.cx_base.specs.declared.nodes.NodeName.{NodeName}
 use Rattle.cx_base.specs.declared.nodes.NodeName.TheVariants as node
 use Rattle.cx_journal.specs.declared.entries.Entry.{Entry}
-use Rattle.cx_laws_keys.proofs.Known.{Inv, IsAcceptorOr, IsAllowed, IsOfAcceptor, SealedAt}
-use Rattle.cx_laws_keys.proofs.Premises.{behind, logged}
-use Rattle.cx_laws_keys.proofs.Uses.{AtDaemon, Connected, Means, Use, Uses, WholeRun}
+use Rattle.cx_laws_login.specs.cx_laws_keys.proofs.Known.{Inv, IsAcceptorOr, IsAllowed, IsOfAcceptor, SealedAt}
+use Rattle.cx_laws_login.specs.cx_laws_keys.proofs.Premises.{behind, logged}
+use Rattle.cx_laws_login.specs.cx_laws_keys.proofs.Uses.{AtDaemon, Connected, Means, Use, Uses, WholeRun}
 use Rattle.cx_laws_series.proofs.Contents.{content_of, content_where, contents-behind, contents_by, contents_in}
 use Rattle.cx_laws_series.specs.cx_rules.specs.Secured.{Keys}
 use Rattle.cx_secure.specs.Contents.{sealed_contents}

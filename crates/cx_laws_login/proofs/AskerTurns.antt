@@ -2,9 +2,9 @@
 use Rattle.std.proofs.Common.{◌≡◌, ℕ, Bool, true, false, List, ◌++◌, Some, sym, ap, ◌∙◌, subst, inl, inr}
 use Rattle.std.specs.Prelude.{IsTrue, Contains, ◌⊎◌}
 use Rattle.cx_base.specs.Names.{Name}
-use Rattle.cx_control.specs.Auth.{auth_signature_layout}
-use Rattle.cx_control.specs.Hello.{hello_layout}
-use Rattle.cx_journal.specs.declared.entries.Entry.{Entry}
+use Rattle.cx_rules.specs.cx_control.specs.Auth.{auth_signature_layout}
+use Rattle.cx_rules.specs.cx_control.specs.Hello.{hello_layout}
+use Rattle.cx_laws_keys.specs.cx_journal.specs.declared.entries.Entry.{Entry}
 use Rattle.cx_base.specs.declared.nodes.NodeName.{NodeName}
 use Rattle.cx_base.specs.declared.nodes.NodeName.TheVariants as node
 use Rattle.cx_rules.specs.Connector.{Stage, AwaitsBanner, AwaitsHello, AwaitsChallenge, AwaitsDone, AwaitsSignature, AwaitsIdent, Open, AskerArrival, on_banner, on_hello, on_signature, turned_at, while_challenged, while_identified, while_proved, AskerRow}
@@ -12,8 +12,8 @@ use Rattle.cx_rules.specs.Holdings.{Asker}
 use Rattle.cx_rules.specs.Payloads.{due}
 use Rattle.cx_rules.specs.Rows.{at, with_opened}
 use Rattle.cx_rules.specs.Secured.{under, Secured}
-use Rattle.cx_steps.specs.Premises.{is_server}
-use Rattle.cx_steps.specs.declared.seals.Logged.{Logged}
+use Rattle.cx_rules.specs.cx_steps.specs.Premises.{is_server}
+use Rattle.cx_rules.specs.cx_steps.specs.declared.seals.Logged.{Logged}
 use Rattle.cx_laws_keys.proofs.Journal.{after-then}
 use Rattle.cx_laws_keys.proofs.Known.{Inv}
 use Rattle.cx_laws_keys.proofs.Premises.{AreGranted, behind, granted-rest}
@@ -23,8 +23,8 @@ use Rattle.cx_laws_login.proofs.Facts.{AskerOk, AskerStageOk, HasMonitorKey}
 use Rattle.cx_laws_login.proofs.Rows.{AfterRow, TurnOk, after-simple, reached-allowed, Allowed, RowOk}
 use Rattle.cx_laws_login.proofs.Turns.{turn-banner, turn-open, turn-plain, turn-secure}
 use Rattle.cx_rules.specs.Requests.{Requests, on_open}
-use Rattle.cx_frame.specs.declared.frame.Frame.{Frame}
-use Rattle.cx_steps.specs.declared.seals.SealEntry.{SealEntry}
+use Rattle.cx_rules.specs.cx_frame.specs.declared.frame.Frame.{Frame}
+use Rattle.cx_rules.specs.cx_steps.specs.declared.seals.SealEntry.{SealEntry}
 
 module _ (run : WholeRun) (whole : List Logged) (n : NodeName) (line : ℕ) (us : Uses) (log : List Logged) (J before : List Entry) where
   -- nothing is excepted here under its keys

@@ -5,26 +5,26 @@ use Rattle.std.specs.List.{AllByRecursion, flat_map}
 use Rattle.std.specs.Option.{option_map}
 use Rattle.cx_base.specs.Names.{Name}
 use Rattle.cx_base.specs.declared.kinds.EntityType.TheVariants.{Auth}
-use Rattle.cx_dice.specs.Draws.{connection_of, session_of}
-use Rattle.cx_enc.specs.Values.{name_form}
-use Rattle.cx_enc.specs.declared.keys.Key.{Key}
-use Rattle.cx_frame.specs.declared.frame.Frame.{Frame}
-use Rattle.cx_journal.specs.declared.entries.Entry.{Entry}
-use Rattle.cx_journal.specs.declared.faults.BytesFault.{BytesFault}
-use Rattle.cx_journal.specs.declared.faults.LoginFault.{LoginFault}
-use Rattle.cx_journal.specs.declared.faults.LoginFault.TheVariants as login
+use Rattle.cx_rules.specs.cx_dice.specs.Draws.{connection_of, session_of}
+use Rattle.cx_laws_keys.specs.cx_enc.specs.Values.{name_form}
+use Rattle.cx_laws_keys.specs.cx_enc.specs.declared.keys.Key.{Key}
+use Rattle.cx_rules.specs.cx_frame.specs.declared.frame.Frame.{Frame}
+use Rattle.cx_laws_keys.specs.cx_journal.specs.declared.entries.Entry.{Entry}
+use Rattle.cx_laws_keys.specs.cx_journal.specs.declared.faults.BytesFault.{BytesFault}
+use Rattle.cx_laws_keys.specs.cx_journal.specs.declared.faults.LoginFault.{LoginFault}
+use Rattle.cx_laws_keys.specs.cx_journal.specs.declared.faults.LoginFault.TheVariants as login
 use Rattle.cx_base.specs.declared.nodes.NodeName.{NodeName}
-use Rattle.cx_journal.specs.declared.premises.KeyKind.TheVariants as kind
-use Rattle.cx_keyring.specs.Entries.{is_named}
-use Rattle.cx_keyring.specs.declared.entries.Entry.{Entry as Principal}
-use Rattle.cx_keyserver.specs.Servers.{rotated_server, rotated_state, Server}
-use Rattle.cx_keyserver.specs.declared.tickets.Ticket.{Ticket}
-use Rattle.cx_login.specs.Monitor.{Offer, Proven, kept_gid, proof_found, proving, reclaimed}
-use Rattle.cx_login.specs.Opening.{generation_key}
-use Rattle.cx_login.specs.Proving.{due_proof}
-use Rattle.cx_login.specs.Unlocking.{old_ticket, old_under}
-use Rattle.cx_rotate.specs.declared.generations.Generation.{Generation}
-use Rattle.cx_rotate.specs.declared.states.KeptState.{KeptState}
+use Rattle.cx_laws_keys.specs.cx_journal.specs.declared.premises.KeyKind.TheVariants as kind
+use Rattle.cx_rules.specs.cx_keyring.specs.Entries.{is_named}
+use Rattle.cx_rules.specs.cx_keyring.specs.declared.entries.Entry.{Entry as Principal}
+use Rattle.cx_rules.specs.cx_keyserver.specs.Servers.{rotated_server, rotated_state, Server}
+use Rattle.cx_rules.specs.cx_keyserver.specs.declared.tickets.Ticket.{Ticket}
+use Rattle.cx_rules.specs.cx_login.specs.Monitor.{Offer, Proven, kept_gid, proof_found, proving, reclaimed}
+use Rattle.cx_rules.specs.cx_login.specs.Opening.{generation_key}
+use Rattle.cx_rules.specs.cx_login.specs.Proving.{due_proof}
+use Rattle.cx_rules.specs.cx_login.specs.Unlocking.{old_ticket, old_under}
+use Rattle.cx_rules.specs.cx_rotate.specs.declared.generations.Generation.{Generation}
+use Rattle.cx_rules.specs.cx_rotate.specs.declared.states.KeptState.{KeptState}
 use Rattle.cx_rules.proofs.Granting.{saved-changed}
 use Rattle.cx_rules.specs.Acceptor.{Finished, denies, finished, joined}
 use Rattle.cx_rules.specs.KeptStates.{changed, saved_behind}
@@ -36,17 +36,17 @@ use Rattle.cx_rules.specs.Rows.{refuses_bytes}
 use Rattle.cx_rules.specs.Secured.{Keys, SealedFrame, acceptor_keys, plain_frame, signed_frame, secure_frame}
 use Rattle.cx_rules.specs.Tickets.{issued_for, rotation_drawn, services_for, ticket_seals}
 use Rattle.cx_rules.specs.Verdicts.{Entrant, Numbered, asking_for, entrant, handed_out, issues, issues_to, login_entries, numbered, numbers, rotates, Occasion}
-use Rattle.cx_sealed.specs.Records.{connection_secret_layout, service_ticket_layout}
-use Rattle.cx_sealed.specs.declared.service_ticket.ServiceTicket.{ServiceTicket}
-use Rattle.cx_steps.specs.declared.seals.DrawMark.TheVariants as draw
-use Rattle.cx_steps.specs.declared.seals.Logged.{Logged}
-use Rattle.cx_steps.specs.declared.seals.SealEntry.{SealEntry}
-use Rattle.cx_steps.specs.declared.seals.SealEntry.TheVariants.{Sealed, Drawn}
-use Rattle.cx_control.specs.declared.auth.AuthRequestMore.{AuthRequestMore}
+use Rattle.cx_laws_keys.specs.cx_sealed.specs.Records.{connection_secret_layout, service_ticket_layout}
+use Rattle.cx_laws_keys.specs.cx_sealed.specs.declared.service_ticket.ServiceTicket.{ServiceTicket}
+use Rattle.cx_rules.specs.cx_steps.specs.declared.seals.DrawMark.TheVariants as draw
+use Rattle.cx_rules.specs.cx_steps.specs.declared.seals.Logged.{Logged}
+use Rattle.cx_rules.specs.cx_steps.specs.declared.seals.SealEntry.{SealEntry}
+use Rattle.cx_rules.specs.cx_steps.specs.declared.seals.SealEntry.TheVariants.{Sealed, Drawn}
+use Rattle.cx_rules.specs.cx_control.specs.declared.auth.AuthRequestMore.{AuthRequestMore}
 use Rattle.cx_rules.specs.MonitorRule.{on_auth_request_more}
-use Rattle.cx_wire.specs.Logins.{authenticate_layout}
-use Rattle.cx_wire.specs.declared.logins.Authenticate.{Authenticate}
-use Rattle.cx_journal.specs.Behind.{EachBehind}
+use Rattle.cx_rules.specs.cx_wire.specs.Logins.{authenticate_layout}
+use Rattle.cx_rules.specs.cx_wire.specs.declared.logins.Authenticate.{Authenticate}
+use Rattle.cx_laws_keys.specs.cx_journal.specs.Behind.{EachBehind}
 use Rattle.cx_laws_keys.proofs.Journal.{After, EntryLaw, Reached, after-then, entered, reached-then}
 use Rattle.cx_laws_keys.proofs.Known.{HasLogin, IsOfAcceptor, Inv}
 use Rattle.cx_laws_keys.proofs.Premises.{AreGranted, behind, behind-append, granted-first, granted-rest, logged}
@@ -63,9 +63,9 @@ use Rattle.cx_laws_login.proofs.Opens.{generation-free, generation_means, unlock
 use Rattle.cx_laws_login.proofs.Rows.{AfterRow, Allowed, FrameOk, after-refuses, after-simple, frame-ok, signing-ok, simple-refuses_bytes}
 use Rattle.cx_laws_login.proofs.Sealing.{connection-sealed, tickets-sealed}
 use Rattle.cx_laws_login.proofs.Under.{AreOfCurrent, IsOfCurrent, all-under}
-use Rattle.cx_journal.specs.declared.entries.Issued.{Issued}
+use Rattle.cx_laws_keys.specs.cx_journal.specs.declared.entries.Issued.{Issued}
 use Rattle.cx_rules.specs.declared.verdicts.HandedOut.{HandedOut}
-use Rattle.cx_journal.specs.declared.entries.Entry.TheVariants as journal
+use Rattle.cx_laws_keys.specs.cx_journal.specs.declared.entries.Entry.TheVariants as journal
 
 module _ (run : WholeRun) (whole_log : List Logged) (n : NodeName) (line : ℕ) (before : KeptState) (owner : Owner) (us : Uses) (log : List Logged) (J : List Entry) where
   abbrev pub AfterMonitor : MonitorRow → Type 0

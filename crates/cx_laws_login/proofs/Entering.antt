@@ -5,16 +5,16 @@ use Rattle.std.specs.List.{AllByRecursion}
 use Rattle.std.proofs.lemmas.List.Elements.{Contains-append_left, Contains-push}
 use Rattle.cx_base.specs.Names.{Name}
 use Rattle.cx_base.specs.declared.kinds.EntityType.TheVariants.{Auth}
-use Rattle.cx_journal.specs.Behind.{EachBehind}
-use Rattle.cx_journal.specs.GidOnce.{Renews, SharesGid}
-use Rattle.cx_journal.specs.declared.entries.Entry.{Entry}
-use Rattle.cx_journal.specs.declared.entries.Entry.TheVariants as journal
-use Rattle.cx_journal.specs.declared.entries.Issued.{Issued}
-use Rattle.cx_keyserver.specs.declared.tickets.Ticket.{Ticket}
-use Rattle.cx_rotate.specs.declared.states.KeptState.{KeptState}
+use Rattle.cx_laws_keys.specs.cx_journal.specs.Behind.{EachBehind}
+use Rattle.cx_laws_keys.specs.cx_journal.specs.GidOnce.{Renews, SharesGid}
+use Rattle.cx_laws_keys.specs.cx_journal.specs.declared.entries.Entry.{Entry}
+use Rattle.cx_laws_keys.specs.cx_journal.specs.declared.entries.Entry.TheVariants as journal
+use Rattle.cx_laws_keys.specs.cx_journal.specs.declared.entries.Issued.{Issued}
+use Rattle.cx_rules.specs.cx_keyserver.specs.declared.tickets.Ticket.{Ticket}
+use Rattle.cx_rules.specs.cx_rotate.specs.declared.states.KeptState.{KeptState}
 use Rattle.cx_rules.specs.Verdicts.{login_entries}
 use Rattle.cx_rules.specs.Tickets.{issued_entry}
-use Rattle.cx_steps.specs.declared.seals.Logged.{Logged}
+use Rattle.cx_rules.specs.cx_steps.specs.declared.seals.Logged.{Logged}
 use Rattle.cx_laws_keys.proofs.Journal.{EntryLaw, login-law, IsOf, entered, has-before, has-issued, own-issued, own-other}
 use Rattle.cx_laws_keys.proofs.Known.{Inv, Within}
 use Rattle.cx_laws_keys.proofs.Steps.{inv-entered}

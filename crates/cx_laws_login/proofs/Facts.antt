@@ -3,20 +3,20 @@ use Rattle.std.proofs.Common.{◌≡◌, ℕ, ◌+◌, ◌<◌, ◌≤◌, false
 use Rattle.std.specs.Prelude.{Contains, if◌then◌else◌, nat_lt}
 use Rattle.std.specs.List.{AllByRecursion}
 use Rattle.cx_base.specs.Names.{Name}
-use Rattle.cx_enc.specs.Values.{name_form}
-use Rattle.cx_journal.specs.declared.entries.Entry.{Entry}
-use Rattle.cx_journal.specs.declared.entries.Entry.TheVariants as journal
-use Rattle.cx_journal.specs.declared.entries.Issued.{Issued}
+use Rattle.cx_laws_keys.specs.cx_enc.specs.Values.{name_form}
+use Rattle.cx_laws_keys.specs.cx_journal.specs.declared.entries.Entry.{Entry}
+use Rattle.cx_laws_keys.specs.cx_journal.specs.declared.entries.Entry.TheVariants as journal
+use Rattle.cx_laws_keys.specs.cx_journal.specs.declared.entries.Issued.{Issued}
 use Rattle.cx_base.specs.declared.nodes.NodeName.{NodeName}
 use Rattle.cx_base.specs.declared.nodes.NodeName.TheVariants as node
-use Rattle.cx_keyring.specs.declared.entries.Entry.{Entry as Principal}
-use Rattle.cx_login.specs.Monitor.{Offer}
-use Rattle.cx_rotate.specs.declared.states.KeptState.{KeptState}
+use Rattle.cx_rules.specs.cx_keyring.specs.declared.entries.Entry.{Entry as Principal}
+use Rattle.cx_rules.specs.cx_login.specs.Monitor.{Offer}
+use Rattle.cx_rules.specs.cx_rotate.specs.declared.states.KeptState.{KeptState}
 use Rattle.cx_rules.specs.Acceptor.{AwaitsBanner, AwaitsHello, AwaitsRequest, AwaitsProof, AwaitsSignature, AwaitsIdent, Open}
 use Rattle.cx_rules.specs.Connector as connector
 use Rattle.cx_rules.specs.Holdings.{Asker}
 use Rattle.cx_rules.specs.Monitor.{Monitor, MonitorStage}
-use Rattle.cx_steps.specs.Premises.{is_server}
+use Rattle.cx_rules.specs.cx_steps.specs.Premises.{is_server}
 use Rattle.cx_laws_keys.proofs.Journal.{IsNotIssued, has-before, IsOf}
 use Rattle.cx_rules.specs.Secured.{Keys}
 use Rattle.cx_laws_keys.proofs.Known.{HasLogin, IsAcceptorOr, IsOfAcceptor, IsOfConnector, generated-grow, login-connected, login-grows}
@@ -24,8 +24,8 @@ use Rattle.cx_laws_keys.proofs.Lists.{all-map}
 use Rattle.cx_laws_keys.proofs.Uses.{AtMonitor, Grows, IsConnected, Means, Secret, Uses, connected-grows, Login, AreGenerated, IsSavedIn, WholeRun}
 use Rattle.cx_laws_login.proofs.Generations.{StateOk, state-grows}
 use Rattle.cx_rules.specs.declared.responses.Bearer.{Bearer}
-use Rattle.cx_rotate.specs.declared.generations.Generation.{Generation}
-use Rattle.cx_rotate.specs.declared.views.View.{View}
+use Rattle.cx_rules.specs.cx_rotate.specs.declared.generations.Generation.{Generation}
+use Rattle.cx_rules.specs.cx_rotate.specs.declared.views.View.{View}
 use Rattle.cx_base.specs.declared.kinds.EntityType.{EntityType}
 
 -- ---- the monitor

@@ -3,18 +3,18 @@ use Rattle.std.proofs.Common.{◌≡◌, ℕ, zero, suc, ◌+◌, ◌-◌, ◌<�
 use Rattle.std.specs.List.{AllByRecursion, flat_map}
 use Rattle.cx_base.specs.declared.kinds.EntityType.{EntityType}
 use Rattle.cx_base.specs.declared.kinds.EntityType.TheVariants.{Mon, Mds, Osd, Client, Mgr, Auth}
-use Rattle.cx_dice.specs.Draws.{rotation_of, three_keys, part}
-use Rattle.cx_journal.specs.declared.entries.Entry.{Entry}
+use Rattle.cx_rules.specs.cx_dice.specs.Draws.{rotation_of, three_keys, part}
+use Rattle.cx_laws_keys.specs.cx_journal.specs.declared.entries.Entry.{Entry}
 use Rattle.cx_base.specs.declared.nodes.NodeName.{NodeName}
-use Rattle.cx_keyserver.specs.Servers.{generations_of, life_of, rotated_of, rotated_state}
-use Rattle.cx_rotate.specs.Rotation.{added, additions, followers, openers, grown, is_current, is_full}
-use Rattle.cx_rotate.specs.declared.generations.Generation.{Generation}
-use Rattle.cx_rotate.specs.declared.states.KeptState.{KeptState}
+use Rattle.cx_rules.specs.cx_keyserver.specs.Servers.{generations_of, life_of, rotated_of, rotated_state}
+use Rattle.cx_rules.specs.cx_rotate.specs.Rotation.{added, additions, followers, openers, grown, is_current, is_full}
+use Rattle.cx_rules.specs.cx_rotate.specs.declared.generations.Generation.{Generation}
+use Rattle.cx_rules.specs.cx_rotate.specs.declared.states.KeptState.{KeptState}
 use Rattle.cx_rules.specs.Tickets.{drawn_for, rotation_drawn}
-use Rattle.cx_steps.specs.declared.seals.DrawMark.TheVariants as draw
-use Rattle.cx_steps.specs.declared.seals.Logged.{Logged}
-use Rattle.cx_steps.specs.declared.seals.SealEntry.{SealEntry}
-use Rattle.cx_steps.specs.declared.seals.SealEntry.TheVariants as entry
+use Rattle.cx_rules.specs.cx_steps.specs.declared.seals.DrawMark.TheVariants as draw
+use Rattle.cx_rules.specs.cx_steps.specs.declared.seals.Logged.{Logged}
+use Rattle.cx_rules.specs.cx_steps.specs.declared.seals.SealEntry.{SealEntry}
+use Rattle.cx_rules.specs.cx_steps.specs.declared.seals.SealEntry.TheVariants as entry
 use Rattle.cx_laws_keys.proofs.Journal.{Reached, reached-then}
 use Rattle.cx_laws_keys.proofs.Known.{Inv, generated-grow}
 use Rattle.cx_laws_keys.proofs.Lists.{all-append, all-map, some-left, some-right}

@@ -1,22 +1,22 @@
 -- What opens first of a frame that is taken: its first part, under the keys with which the link receives.
 use Rattle.std.proofs.Common.{◌≡◌, ℕ, ◌+◌, ◌-◌, ◌^◌, Bool, true, false, List, [], ◌∷◌, ◌++◌, length, map, take, drop, Option, Some, None, Result, Ok, Err, refl, sym, ap, ◌∙◌}
 use Rattle.std.specs.Prelude.{nat_lt, if◌then◌else◌}
-use Rattle.cx_frame.specs.Preambles.{preamble_at}
-use Rattle.cx_frame.specs.declared.frame.Frame.{Frame}
-use Rattle.cx_journal.specs.declared.premises.KeyKind.TheVariants as kind
+use Rattle.cx_rules.specs.cx_frame.specs.Preambles.{preamble_at}
+use Rattle.cx_rules.specs.cx_frame.specs.declared.frame.Frame.{Frame}
+use Rattle.cx_laws_keys.specs.cx_journal.specs.declared.premises.KeyKind.TheVariants as kind
 use Rattle.cx_rules.specs.Fronts.{Next, opened_parts, sealed_ahead, secure_next, secure_read}
 use Rattle.cx_rules.specs.Links.{Link}
 use Rattle.cx_rules.specs.Secured.{Keys}
-use Rattle.cx_secure.specs.Opening.{head_of, head_step}
-use Rattle.cx_secure.specs.Parts.{nonce_at, opened}
-use Rattle.cx_secure.specs.declared.refusals.SecureRefusal.{SecureRefusal}
-use Rattle.cx_secure.specs.declared.refusals.SecureRefusal.TheVariants.{CounterSpent}
-use Rattle.cx_secure.specs.declared.sealing.Head.{Head}
-use Rattle.cx_steps.specs.declared.seals.SealEntry.{SealEntry}
-use Rattle.cx_steps.specs.declared.seals.SealEntry.TheVariants as seal
-use Rattle.cx_steps.specs.declared.seals.SealMark.{SealMark}
-use Rattle.cx_stream.specs.Openings.{contents_behind, contents_from, front_contents}
-use Rattle.cx_stream.specs.SecureStreams.{Ahead, behind_head, secure_frame_at}
+use Rattle.cx_rules.specs.cx_secure.specs.Opening.{head_of, head_step}
+use Rattle.cx_rules.specs.cx_secure.specs.Parts.{nonce_at, opened}
+use Rattle.cx_rules.specs.cx_secure.specs.declared.refusals.SecureRefusal.{SecureRefusal}
+use Rattle.cx_rules.specs.cx_secure.specs.declared.refusals.SecureRefusal.TheVariants.{CounterSpent}
+use Rattle.cx_rules.specs.cx_secure.specs.declared.sealing.Head.{Head}
+use Rattle.cx_rules.specs.cx_steps.specs.declared.seals.SealEntry.{SealEntry}
+use Rattle.cx_rules.specs.cx_steps.specs.declared.seals.SealEntry.TheVariants as seal
+use Rattle.cx_rules.specs.cx_steps.specs.declared.seals.SealMark.{SealMark}
+use Rattle.cx_rules.specs.cx_stream.specs.Openings.{contents_behind, contents_from, front_contents}
+use Rattle.cx_rules.specs.cx_stream.specs.SecureStreams.{Ahead, behind_head, secure_frame_at}
 use Rattle.cx_laws_keys.proofs.Known.{IsOfConnector}
 
 -- ---- of a frame

@@ -6,17 +6,17 @@ use Rattle.std.specs.List.{AllByRecursion}
 use Rattle.cx_base.specs.Names.{Name}
 use Rattle.cx_base.specs.declared.kinds.EntityType.{EntityType}
 use Rattle.cx_base.specs.declared.kinds.EntityType.TheVariants.{Mon, Mds, Osd, Client, Mgr, Auth}
-use Rattle.cx_dice.specs.Draws.{connection_of, counter_0, has_keys, nonce_start, part, session_of}
-use Rattle.cx_enc.specs.Forms.{passed}
-use Rattle.cx_journal.specs.declared.faults.LoginFault.{LoginFault}
-use Rattle.cx_keyring.specs.Entries.{is_named}
-use Rattle.cx_keyring.specs.declared.entries.Entry.{Entry as Principal}
-use Rattle.cx_keyserver.specs.Issuing.{Asked, ◌>>=◌, asking, caps_for, current_at, fields_of, issued, or_else, sealed_by, telling_key}
-use Rattle.cx_keyserver.specs.Servers.{Server, generations_of}
-use Rattle.cx_keyserver.specs.declared.refusals.IssueRefusal.{IssueRefusal}
-use Rattle.cx_keyserver.specs.declared.refusals.IssueRefusal.TheVariants as issue
-use Rattle.cx_keyserver.specs.declared.tickets.Ticket.{Ticket}
-use Rattle.cx_rotate.specs.declared.generations.Generation.{Generation}
+use Rattle.cx_rules.specs.cx_dice.specs.Draws.{connection_of, counter_0, has_keys, nonce_start, part, session_of}
+use Rattle.cx_laws_keys.specs.cx_enc.specs.Forms.{passed}
+use Rattle.cx_laws_keys.specs.cx_journal.specs.declared.faults.LoginFault.{LoginFault}
+use Rattle.cx_rules.specs.cx_keyring.specs.Entries.{is_named}
+use Rattle.cx_rules.specs.cx_keyring.specs.declared.entries.Entry.{Entry as Principal}
+use Rattle.cx_rules.specs.cx_keyserver.specs.Issuing.{Asked, ◌>>=◌, asking, caps_for, current_at, fields_of, issued, or_else, sealed_by, telling_key}
+use Rattle.cx_rules.specs.cx_keyserver.specs.Servers.{Server, generations_of}
+use Rattle.cx_rules.specs.cx_keyserver.specs.declared.refusals.IssueRefusal.{IssueRefusal}
+use Rattle.cx_rules.specs.cx_keyserver.specs.declared.refusals.IssueRefusal.TheVariants as issue
+use Rattle.cx_rules.specs.cx_keyserver.specs.declared.tickets.Ticket.{Ticket}
+use Rattle.cx_rules.specs.cx_rotate.specs.declared.generations.Generation.{Generation}
 use Rattle.cx_rules.specs.Secured.{acceptor_keys}
 use Rattle.cx_rules.specs.Tickets.{is_asked, issued_before, issued_for, services_for}
 use Rattle.cx_laws_keys.proofs.Known.{IsOfAcceptor, IsOfConnector, counter_at}

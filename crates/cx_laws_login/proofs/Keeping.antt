@@ -5,18 +5,18 @@ use Rattle.std.proofs.lemmas.Bool.{and_parts, eqb-false, ltb-true}
 use Rattle.cx_base.proofs.Names.{same_name_is}
 use Rattle.cx_base.specs.Names.{Name, same_name}
 use Rattle.cx_base.specs.declared.kinds.EntityType.TheVariants.{Auth}
-use Rattle.cx_journal.specs.declared.entries.Entry.{Entry}
-use Rattle.cx_journal.specs.declared.entries.Entry.TheVariants as journal
-use Rattle.cx_journal.specs.declared.entries.Issued.{Issued}
-use Rattle.cx_journal.specs.declared.faults.LoginFault.{LoginFault}
-use Rattle.cx_journal.specs.declared.faults.LoginFault.TheVariants as login
-use Rattle.cx_keyserver.specs.Servers.{Server}
-use Rattle.cx_login.specs.Monitor.{kept_gid, reclaimed}
-use Rattle.cx_login.specs.declared.monitor.Reclaim.TheVariants.{Fresh, Denied}
-use Rattle.cx_rotate.specs.declared.states.KeptState.{KeptState}
+use Rattle.cx_laws_keys.specs.cx_journal.specs.declared.entries.Entry.{Entry}
+use Rattle.cx_laws_keys.specs.cx_journal.specs.declared.entries.Entry.TheVariants as journal
+use Rattle.cx_laws_keys.specs.cx_journal.specs.declared.entries.Issued.{Issued}
+use Rattle.cx_laws_keys.specs.cx_journal.specs.declared.faults.LoginFault.{LoginFault}
+use Rattle.cx_laws_keys.specs.cx_journal.specs.declared.faults.LoginFault.TheVariants as login
+use Rattle.cx_rules.specs.cx_keyserver.specs.Servers.{Server}
+use Rattle.cx_rules.specs.cx_login.specs.Monitor.{kept_gid, reclaimed}
+use Rattle.cx_rules.specs.cx_login.specs.declared.monitor.Reclaim.TheVariants.{Fresh, Denied}
+use Rattle.cx_rules.specs.cx_rotate.specs.declared.states.KeptState.{KeptState}
 use Rattle.cx_rules.specs.Monitor.{Monitor}
 use Rattle.cx_rules.specs.Verdicts.{Numbered, next_number, numbered}
-use Rattle.cx_sealed.specs.declared.service_ticket.ServiceTicket.{ServiceTicket}
+use Rattle.cx_laws_keys.specs.cx_sealed.specs.declared.service_ticket.ServiceTicket.{ServiceTicket}
 use Rattle.cx_laws_keys.proofs.Journal.{IsOf}
 use Rattle.cx_laws_keys.proofs.Known.{AreOwn, HasTicket}
 use Rattle.cx_laws_keys.proofs.Uses.{Uses}

@@ -3,32 +3,32 @@ use Rattle.std.proofs.Common.{◌≡◌, ℕ, ◌==◌, Bool, true, false, List,
 use Rattle.std.specs.Prelude.{find, not, if◌then◌else◌}
 use Rattle.std.specs.List.{list_any}
 use Rattle.cx_base.specs.declared.kinds.EntityType.TheVariants.{Mon}
-use Rattle.cx_control.specs.Auth.{auth_reply_more_layout}
-use Rattle.cx_control.specs.Idents.{client_ident_layout, ident_missing_features_layout}
-use Rattle.cx_control.specs.Reconnects.{session_reconnect_layout}
-use Rattle.cx_control.specs.Upkeep.{keepalive2_ack_layout}
-use Rattle.cx_control.specs.declared.auth.AuthRequest.{AuthRequest}
-use Rattle.cx_control.specs.declared.auth.AuthSignature.{AuthSignature}
-use Rattle.cx_control.specs.declared.hello.Hello.{Hello}
-use Rattle.cx_control.specs.declared.idents.ClientIdent.{ClientIdent}
-use Rattle.cx_control.specs.declared.reconnects.SessionReconnect.{SessionReconnect}
-use Rattle.cx_control.specs.declared.upkeep.Keepalive2.{Keepalive2}
-use Rattle.cx_control.specs.declared.upkeep.Keepalive2Ack.{Keepalive2Ack}
-use Rattle.cx_dice.specs.Draws.{challenge_of}
-use Rattle.cx_enc.specs.Values.{name_form}
-use Rattle.cx_frame.specs.declared.frame.Frame.{Frame}
-use Rattle.cx_journal.specs.declared.entries.Entry.{Entry}
-use Rattle.cx_journal.specs.declared.faults.BytesFault.{BytesFault}
-use Rattle.cx_journal.specs.declared.faults.BytesFault.TheVariants.{Unexpected}
-use Rattle.cx_journal.specs.declared.faults.LoginFault.{LoginFault}
-use Rattle.cx_journal.specs.declared.faults.LoginFault.TheVariants.{Method, Mode, SignatureWrong}
-use Rattle.cx_journal.specs.declared.faults.LoginFault.TheVariants as login
+use Rattle.cx_rules.specs.cx_control.specs.Auth.{auth_reply_more_layout}
+use Rattle.cx_rules.specs.cx_control.specs.Idents.{client_ident_layout, ident_missing_features_layout}
+use Rattle.cx_rules.specs.cx_control.specs.Reconnects.{session_reconnect_layout}
+use Rattle.cx_rules.specs.cx_control.specs.Upkeep.{keepalive2_ack_layout}
+use Rattle.cx_rules.specs.cx_control.specs.declared.auth.AuthRequest.{AuthRequest}
+use Rattle.cx_rules.specs.cx_control.specs.declared.auth.AuthSignature.{AuthSignature}
+use Rattle.cx_rules.specs.cx_control.specs.declared.hello.Hello.{Hello}
+use Rattle.cx_rules.specs.cx_control.specs.declared.idents.ClientIdent.{ClientIdent}
+use Rattle.cx_rules.specs.cx_control.specs.declared.reconnects.SessionReconnect.{SessionReconnect}
+use Rattle.cx_rules.specs.cx_control.specs.declared.upkeep.Keepalive2.{Keepalive2}
+use Rattle.cx_rules.specs.cx_control.specs.declared.upkeep.Keepalive2Ack.{Keepalive2Ack}
+use Rattle.cx_rules.specs.cx_dice.specs.Draws.{challenge_of}
+use Rattle.cx_laws_keys.specs.cx_enc.specs.Values.{name_form}
+use Rattle.cx_rules.specs.cx_frame.specs.declared.frame.Frame.{Frame}
+use Rattle.cx_laws_keys.specs.cx_journal.specs.declared.entries.Entry.{Entry}
+use Rattle.cx_laws_keys.specs.cx_journal.specs.declared.faults.BytesFault.{BytesFault}
+use Rattle.cx_laws_keys.specs.cx_journal.specs.declared.faults.BytesFault.TheVariants.{Unexpected}
+use Rattle.cx_laws_keys.specs.cx_journal.specs.declared.faults.LoginFault.{LoginFault}
+use Rattle.cx_laws_keys.specs.cx_journal.specs.declared.faults.LoginFault.TheVariants.{Method, Mode, SignatureWrong}
+use Rattle.cx_laws_keys.specs.cx_journal.specs.declared.faults.LoginFault.TheVariants as login
 use Rattle.cx_base.specs.declared.nodes.NodeName.{NodeName}
-use Rattle.cx_journal.specs.declared.outcomes.Reason.TheVariants.{Login}
-use Rattle.cx_keyring.specs.Entries.{is_named}
-use Rattle.cx_keyring.specs.declared.entries.Entry.{Entry as Principal}
-use Rattle.cx_login.specs.Monitor.{Offer}
-use Rattle.cx_rotate.specs.declared.states.KeptState.{KeptState}
+use Rattle.cx_laws_keys.specs.cx_journal.specs.declared.outcomes.Reason.TheVariants.{Login}
+use Rattle.cx_rules.specs.cx_keyring.specs.Entries.{is_named}
+use Rattle.cx_rules.specs.cx_keyring.specs.declared.entries.Entry.{Entry as Principal}
+use Rattle.cx_rules.specs.cx_login.specs.Monitor.{Offer}
+use Rattle.cx_rules.specs.cx_rotate.specs.declared.states.KeptState.{KeptState}
 use Rattle.cx_rules.specs.Acceptor.{AwaitsHello, AwaitsRequest, AwaitsProof, AwaitsIdent, Open, denies, misses, missing_told, on_auth_request, on_banner, on_hello, on_signature, server_ident}
 use Rattle.cx_rules.specs.Greetings.{own_hello}
 use Rattle.cx_rules.specs.Monitor.{Monitor, MonitorArrival, MonitorRow, MonitorStage}
@@ -38,11 +38,11 @@ use Rattle.cx_rules.specs.Payloads.{control, payload, whole}
 use Rattle.cx_rules.specs.Rows.{goes_on, refuses, refuses_bytes, sends_secure}
 use Rattle.cx_rules.specs.Secured.{Keys, SealedFrame, Secured, is_signed, secure_frame, signature_found}
 use Rattle.cx_rules.specs.Upkeep.{on_keepalive, on_keepalive_ack}
-use Rattle.cx_steps.specs.declared.seals.DrawMark.TheVariants as draw
-use Rattle.cx_steps.specs.declared.seals.SealEntry.{SealEntry}
-use Rattle.cx_steps.specs.declared.seals.SealEntry.TheVariants.{Drawn}
-use Rattle.cx_wire.specs.Logins.{login_hello_layout, server_challenge_layout}
-use Rattle.cx_wire.specs.declared.logins.LoginHello.{LoginHello}
+use Rattle.cx_rules.specs.cx_steps.specs.declared.seals.DrawMark.TheVariants as draw
+use Rattle.cx_rules.specs.cx_steps.specs.declared.seals.SealEntry.{SealEntry}
+use Rattle.cx_rules.specs.cx_steps.specs.declared.seals.SealEntry.TheVariants.{Drawn}
+use Rattle.cx_rules.specs.cx_wire.specs.Logins.{login_hello_layout, server_challenge_layout}
+use Rattle.cx_rules.specs.cx_wire.specs.declared.logins.LoginHello.{LoginHello}
 use Rattle.cx_laws_keys.proofs.Uses.{Means, Secret, Uses}
 use Rattle.cx_laws_login.proofs.Facts.{acceptor-seals, BearerOk, MaySeal, Owner, OwnOk, StageOk, bearer-moves, own-entered, stage-grows}
 use Rattle.cx_laws_login.proofs.Named.{found_secret, hello_named}

@@ -2,14 +2,14 @@
 use Rattle.std.proofs.Common.{◌≡◌, ℕ, ◌≤◌, Bool, true, false, List, [], ◌∷◌, ◌++◌, length, Option, Some, None, refl, sym, subst, arith, ◌<◌, ◌∙◌, Result, Ok, Err, lt-ltb, le-ltb}
 use Rattle.std.specs.Prelude.{nat_le, if◌then◌else◌, nat_lt}
 use Rattle.cx_base.specs.declared.kinds.EntityType.TheVariants.{Mon}
-use Rattle.cx_control.specs.Auth.{auth_request_layout, auth_request_more_layout, auth_signature_layout}
-use Rattle.cx_control.specs.Hello.{hello_layout}
-use Rattle.cx_journal.specs.declared.entries.Entry.{Entry}
-use Rattle.cx_journal.specs.declared.entries.Entry.TheVariants as journal
+use Rattle.cx_rules.specs.cx_control.specs.Auth.{auth_request_layout, auth_request_more_layout, auth_signature_layout}
+use Rattle.cx_rules.specs.cx_control.specs.Hello.{hello_layout}
+use Rattle.cx_laws_keys.specs.cx_journal.specs.declared.entries.Entry.{Entry}
+use Rattle.cx_laws_keys.specs.cx_journal.specs.declared.entries.Entry.TheVariants as journal
 use Rattle.cx_base.specs.declared.nodes.NodeName.{NodeName}
 use Rattle.cx_base.specs.declared.nodes.NodeName.TheVariants as node
-use Rattle.cx_journal.specs.declared.outcomes.Reason.TheVariants as reason
-use Rattle.cx_rotate.specs.declared.states.KeptState.{KeptState}
+use Rattle.cx_laws_keys.specs.cx_journal.specs.declared.outcomes.Reason.TheVariants as reason
+use Rattle.cx_rules.specs.cx_rotate.specs.declared.states.KeptState.{KeptState}
 use Rattle.cx_rules.specs.Acceptor.{AwaitsBanner, AwaitsHello, AwaitsRequest, AwaitsProof, AwaitsSignature, AwaitsIdent, Open, on_auth_request, on_banner, on_hello, on_signature}
 use Rattle.cx_rules.specs.Greetings.{own_banner}
 use Rattle.cx_rules.specs.Inputs.{Input, Opened, NoLink, Bytes, Turn, Gone, Look, Tick, Submit, Restart}
@@ -19,7 +19,7 @@ use Rattle.cx_rules.specs.MonitorRule.{monitor_rule, monitor_step, noted, on_aut
 use Rattle.cx_rules.specs.Payloads.{due}
 use Rattle.cx_rules.specs.Rows.{Outcome, arrival, at, carried_out, fed, forgotten, goes_on, idles, new_link, opens_none, refused_entry, refuses, turned_by, with_opened, turns, refuses_bytes, Turned}
 use Rattle.cx_rules.specs.Secured.{under, Secured, Keys}
-use Rattle.cx_steps.specs.declared.seals.Logged.{Logged}
+use Rattle.cx_rules.specs.cx_steps.specs.declared.seals.Logged.{Logged}
 use Rattle.cx_laws_keys.proofs.Journal.{After, IsNotIssued, after-then}
 use Rattle.cx_laws_keys.proofs.Known.{Inv, Within}
 use Rattle.cx_laws_keys.proofs.Premises.{AreGranted, behind, granted-rest}
@@ -33,14 +33,14 @@ use Rattle.cx_laws_login.proofs.Turns.{turn-banner, turn-plain, turn-secure}
 use Rattle.cx_rules.specs.declared.responses.Bearer.{Bearer}
 use Rattle.cx_rules.specs.MonitorRequests.{on_open}
 use Rattle.cx_rules.specs.Fronts.{ahead_of, plain_read, taking, opened_parts, sealed_ahead, secure_read, keys_behind}
-use Rattle.cx_frame.specs.declared.frame.Frame.{Frame}
+use Rattle.cx_rules.specs.cx_frame.specs.declared.frame.Frame.{Frame}
 use Rattle.cx_laws_login.proofs.Replying.{open-after}
 use Rattle.cx_laws_keys.proofs.Lists.{all-map}
-use Rattle.cx_steps.specs.declared.seals.SealEntry.{SealEntry}
-use Rattle.cx_frame.specs.declared.refusals.FrameRefusal.{FrameRefusal}
-use Rattle.cx_stream.specs.PlainStreams.{plain_frame_at}
-use Rattle.cx_secure.specs.declared.refusals.SecureRefusal.{SecureRefusal}
-use Rattle.cx_stream.specs.SecureStreams.{secure_frame_at}
+use Rattle.cx_rules.specs.cx_steps.specs.declared.seals.SealEntry.{SealEntry}
+use Rattle.cx_rules.specs.cx_frame.specs.declared.refusals.FrameRefusal.{FrameRefusal}
+use Rattle.cx_rules.specs.cx_stream.specs.PlainStreams.{plain_frame_at}
+use Rattle.cx_rules.specs.cx_secure.specs.declared.refusals.SecureRefusal.{SecureRefusal}
+use Rattle.cx_rules.specs.cx_stream.specs.SecureStreams.{secure_frame_at}
 
 -- behind a step: whose the global ids are then, and what is so of the monitor
 pub record MonitorAfter (run : WholeRun) (whole : List Logged) (n : NodeName) (line : ℕ) (before : KeptState) (us : Uses) (log : List Logged) (J : List Entry)

@@ -4,16 +4,16 @@ use Rattle.std.specs.Prelude.{find}
 use Rattle.cx_base.proofs.Names.{same_name_is}
 use Rattle.cx_base.specs.Names.{Name, is_id, with_id}
 use Rattle.cx_base.specs.declared.kinds.EntityType.{EntityType}
-use Rattle.cx_enc.proofs.Fitting.{name_fits}
-use Rattle.cx_enc.specs.Forms.{Spot, Form, blob_form, field, or_bad, pair, seen, u32_form, u64_form, u8_form}
-use Rattle.cx_enc.specs.Values.{fixed, kind_of, name_form, name_of}
-use Rattle.cx_enc.specs.Whole.{start}
-use Rattle.cx_enc.specs.declared.faults.ReadFault.{ReadFault}
-use Rattle.cx_keyring.specs.Entries.{is_named}
-use Rattle.cx_keyring.specs.declared.entries.Entry.{Entry as Principal}
+use Rattle.cx_laws_keys.specs.cx_enc.proofs.Fitting.{name_fits}
+use Rattle.cx_laws_keys.specs.cx_enc.specs.Forms.{Spot, Form, blob_form, field, or_bad, pair, seen, u32_form, u64_form, u8_form}
+use Rattle.cx_laws_keys.specs.cx_enc.specs.Values.{fixed, kind_of, name_form, name_of}
+use Rattle.cx_laws_keys.specs.cx_enc.specs.Whole.{start}
+use Rattle.cx_laws_keys.specs.cx_enc.specs.declared.faults.ReadFault.{ReadFault}
+use Rattle.cx_rules.specs.cx_keyring.specs.Entries.{is_named}
+use Rattle.cx_rules.specs.cx_keyring.specs.declared.entries.Entry.{Entry as Principal}
 use Rattle.cx_rules.specs.Payloads.{to_end, unless_left, whole}
-use Rattle.cx_wire.specs.Logins.{login_hello_layout}
-use Rattle.cx_wire.specs.declared.logins.LoginHello.{LoginHello}
+use Rattle.cx_rules.specs.cx_wire.specs.Logins.{login_hello_layout}
+use Rattle.cx_rules.specs.cx_wire.specs.declared.logins.LoginHello.{LoginHello}
 use Rattle.cx_laws_keys.proofs.Lists.{found_all, found_passes}
 use Rattle.cx_laws_keys.proofs.Reading.{bind_ok, pair_parts, unseen}
 use Rattle.cx_laws_keys.proofs.Uses.{Means, Secret, Uses}

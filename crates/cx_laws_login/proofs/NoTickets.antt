@@ -3,33 +3,33 @@ use Rattle.std.proofs.Common.{ℕ, ◌+◌, ◌-◌, ◌^◌, ◌==◌, Bool, tr
 use Rattle.std.specs.Prelude.{not, if◌then◌else◌}
 use Rattle.std.specs.List.{AllByRecursion}
 use Rattle.cx_base.specs.Names.{is_daemon_type}
-use Rattle.cx_control.specs.Auth.{auth_done_layout, auth_reply_more_layout, auth_request_more_layout, auth_signature_layout}
-use Rattle.cx_control.specs.BadMethod.{bad_method_layout, negated}
-use Rattle.cx_control.specs.Hello.{hello_layout}
-use Rattle.cx_control.specs.Idents.{ident_missing_features_layout, server_ident_layout}
-use Rattle.cx_control.specs.Upkeep.{keepalive2_layout, keepalive2_ack_layout}
-use Rattle.cx_control.specs.declared.auth.AuthDone.{AuthDone}
-use Rattle.cx_control.specs.declared.auth.AuthReplyMore.{AuthReplyMore}
-use Rattle.cx_control.specs.declared.auth.AuthSignature.{AuthSignature}
-use Rattle.cx_control.specs.declared.hello.Hello.{Hello}
-use Rattle.cx_control.specs.declared.idents.IdentMissingFeatures.{IdentMissingFeatures}
-use Rattle.cx_control.specs.declared.idents.ServerIdent.{ServerIdent}
-use Rattle.cx_control.specs.declared.upkeep.Keepalive2.{Keepalive2}
-use Rattle.cx_control.specs.declared.upkeep.Keepalive2Ack.{Keepalive2Ack}
-use Rattle.cx_dice.specs.Draws.{challenge_of, cookie_of}
-use Rattle.cx_frame.specs.declared.frame.Frame.{Frame}
-use Rattle.cx_journal.specs.declared.entries.Entry.{Entry}
-use Rattle.cx_journal.specs.declared.entries.Entry.TheVariants as journal
-use Rattle.cx_journal.specs.declared.faults.BytesFault.{BytesFault}
-use Rattle.cx_journal.specs.declared.faults.BytesFault.TheVariants as bytes
-use Rattle.cx_journal.specs.declared.faults.LoginFault.TheVariants.{Mode, SignatureWrong}
-use Rattle.cx_journal.specs.declared.outcomes.Reason.{Reason}
-use Rattle.cx_journal.specs.declared.premises.KeyKind.TheVariants as kind
-use Rattle.cx_login.specs.Held.{Held}
-use Rattle.cx_journal.specs.declared.outcomes.Reason.TheVariants as reason
-use Rattle.cx_login.specs.Client.{Ask, authenticate}
-use Rattle.cx_login.specs.Unlocking.{login_in, told_each, unlocked}
-use Rattle.cx_login.specs.declared.client.LoggedIn.{LoggedIn}
+use Rattle.cx_rules.specs.cx_control.specs.Auth.{auth_done_layout, auth_reply_more_layout, auth_request_more_layout, auth_signature_layout}
+use Rattle.cx_rules.specs.cx_control.specs.BadMethod.{bad_method_layout, negated}
+use Rattle.cx_rules.specs.cx_control.specs.Hello.{hello_layout}
+use Rattle.cx_rules.specs.cx_control.specs.Idents.{ident_missing_features_layout, server_ident_layout}
+use Rattle.cx_rules.specs.cx_control.specs.Upkeep.{keepalive2_layout, keepalive2_ack_layout}
+use Rattle.cx_rules.specs.cx_control.specs.declared.auth.AuthDone.{AuthDone}
+use Rattle.cx_rules.specs.cx_control.specs.declared.auth.AuthReplyMore.{AuthReplyMore}
+use Rattle.cx_rules.specs.cx_control.specs.declared.auth.AuthSignature.{AuthSignature}
+use Rattle.cx_rules.specs.cx_control.specs.declared.hello.Hello.{Hello}
+use Rattle.cx_rules.specs.cx_control.specs.declared.idents.IdentMissingFeatures.{IdentMissingFeatures}
+use Rattle.cx_rules.specs.cx_control.specs.declared.idents.ServerIdent.{ServerIdent}
+use Rattle.cx_rules.specs.cx_control.specs.declared.upkeep.Keepalive2.{Keepalive2}
+use Rattle.cx_rules.specs.cx_control.specs.declared.upkeep.Keepalive2Ack.{Keepalive2Ack}
+use Rattle.cx_rules.specs.cx_dice.specs.Draws.{challenge_of, cookie_of}
+use Rattle.cx_rules.specs.cx_frame.specs.declared.frame.Frame.{Frame}
+use Rattle.cx_laws_keys.specs.cx_journal.specs.declared.entries.Entry.{Entry}
+use Rattle.cx_laws_keys.specs.cx_journal.specs.declared.entries.Entry.TheVariants as journal
+use Rattle.cx_laws_keys.specs.cx_journal.specs.declared.faults.BytesFault.{BytesFault}
+use Rattle.cx_laws_keys.specs.cx_journal.specs.declared.faults.BytesFault.TheVariants as bytes
+use Rattle.cx_laws_keys.specs.cx_journal.specs.declared.faults.LoginFault.TheVariants.{Mode, SignatureWrong}
+use Rattle.cx_laws_keys.specs.cx_journal.specs.declared.outcomes.Reason.{Reason}
+use Rattle.cx_laws_keys.specs.cx_journal.specs.declared.premises.KeyKind.TheVariants as kind
+use Rattle.cx_rules.specs.cx_login.specs.Held.{Held}
+use Rattle.cx_laws_keys.specs.cx_journal.specs.declared.outcomes.Reason.TheVariants as reason
+use Rattle.cx_rules.specs.cx_login.specs.Client.{Ask, authenticate}
+use Rattle.cx_rules.specs.cx_login.specs.Unlocking.{login_in, told_each, unlocked}
+use Rattle.cx_rules.specs.cx_login.specs.declared.client.LoggedIn.{LoggedIn}
 use Rattle.cx_rules.specs.Connector.{Stage, AwaitsBanner, AwaitsHello, AwaitsChallenge, AwaitsDone, AwaitsSignature, AwaitsIdent, Open, AskerArrival, AskerRow, Login as Opening, client_ident, holding, identifies, login_request, on_bad_method, on_banner, on_challenge, on_done, on_hello, on_login_done, on_missing_features, on_opened, on_reply_more, on_signature, proves, signs, turned_at, while_challenged, while_identified, while_proved}
 use Rattle.cx_rules.specs.Fronts.{banner_next, plain_next, secure_next}
 use Rattle.cx_rules.specs.Greetings.{own_hello}
@@ -48,17 +48,17 @@ use Rattle.cx_rules.specs.declared.requests.Taken.TheVariants as taken
 use Rattle.cx_rules.specs.declared.requests.Waiting.{Waiting}
 use Rattle.cx_rules.specs.declared.requests.Want.{Want}
 use Rattle.cx_rules.specs.declared.requests.Want.TheVariants as want
-use Rattle.cx_steps.specs.declared.seals.SealEntry.{SealEntry}
-use Rattle.cx_sealed.specs.Records.{rotating_reply_layout}
-use Rattle.cx_sealed.specs.declared.rotating_reply.RotatingReply.{RotatingReply}
-use Rattle.cx_wire.specs.Bodies.{reply_layout}
-use Rattle.cx_wire.specs.declared.bodies.Reply.{Reply}
-use Rattle.cx_wire.specs.declared.bodies.Reply.TheVariants as given
-use Rattle.cx_wire.specs.declared.bodies.Request.{Request}
-use Rattle.cx_wire.specs.declared.bodies.Request.TheVariants as asked
-use Rattle.cx_wire.specs.Logins.{authenticate_layout, login_done_layout, server_challenge_layout}
-use Rattle.cx_wire.specs.declared.logins.LoginDone.{LoginDone}
-use Rattle.cx_wire.specs.declared.logins.ServerChallenge.{ServerChallenge}
+use Rattle.cx_rules.specs.cx_steps.specs.declared.seals.SealEntry.{SealEntry}
+use Rattle.cx_laws_keys.specs.cx_sealed.specs.Records.{rotating_reply_layout}
+use Rattle.cx_laws_keys.specs.cx_sealed.specs.declared.rotating_reply.RotatingReply.{RotatingReply}
+use Rattle.cx_rules.specs.cx_wire.specs.Bodies.{reply_layout}
+use Rattle.cx_rules.specs.cx_wire.specs.declared.bodies.Reply.{Reply}
+use Rattle.cx_rules.specs.cx_wire.specs.declared.bodies.Reply.TheVariants as given
+use Rattle.cx_rules.specs.cx_wire.specs.declared.bodies.Request.{Request}
+use Rattle.cx_rules.specs.cx_wire.specs.declared.bodies.Request.TheVariants as asked
+use Rattle.cx_rules.specs.cx_wire.specs.Logins.{authenticate_layout, login_done_layout, server_challenge_layout}
+use Rattle.cx_rules.specs.cx_wire.specs.declared.logins.LoginDone.{LoginDone}
+use Rattle.cx_rules.specs.cx_wire.specs.declared.logins.ServerChallenge.{ServerChallenge}
 use Rattle.cx_laws_keys.proofs.Journal.{IsOfLogin}
 use Rattle.cx_laws_keys.proofs.Viewing.{ShowsAlong, viewed-own}
 use Rattle.cx_laws_login.proofs.Proving.{RowOf, by-front}

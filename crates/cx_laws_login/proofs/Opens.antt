@@ -4,18 +4,18 @@ use Rattle.std.specs.Prelude.{find, ◌==◌}
 use Rattle.std.specs.Option.{option_map}
 use Rattle.cx_base.specs.Names.{Name}
 use Rattle.cx_base.specs.declared.kinds.EntityType.{EntityType}
-use Rattle.cx_cbc.specs.Opened.{opened}
-use Rattle.cx_enc.specs.Forms.{Form}
-use Rattle.cx_journal.specs.declared.entries.Entry.{Entry}
+use Rattle.cx_laws_keys.specs.cx_cbc.specs.Opened.{opened}
+use Rattle.cx_laws_keys.specs.cx_enc.specs.Forms.{Form}
+use Rattle.cx_laws_keys.specs.cx_journal.specs.declared.entries.Entry.{Entry}
 use Rattle.cx_base.specs.declared.nodes.NodeName.{NodeName}
-use Rattle.cx_journal.specs.declared.premises.KeyKind.{KeyKind}
-use Rattle.cx_login.specs.Opening.{generation_key}
-use Rattle.cx_login.specs.Unlocking.{unlocked, unlocked_as}
-use Rattle.cx_rotate.specs.declared.generations.Generation.{Generation}
-use Rattle.cx_sealed.specs.Unsealing.{spelled_by, unsealed_as}
-use Rattle.cx_steps.specs.Premises.{HasSealed, IsExcepted}
-use Rattle.cx_steps.specs.declared.seals.Logged.{Logged}
-use Rattle.cx_steps.specs.declared.seals.SealMark.{SealMark}
+use Rattle.cx_laws_keys.specs.cx_journal.specs.declared.premises.KeyKind.{KeyKind}
+use Rattle.cx_rules.specs.cx_login.specs.Opening.{generation_key}
+use Rattle.cx_rules.specs.cx_login.specs.Unlocking.{unlocked, unlocked_as}
+use Rattle.cx_rules.specs.cx_rotate.specs.declared.generations.Generation.{Generation}
+use Rattle.cx_laws_keys.specs.cx_sealed.specs.Unsealing.{spelled_by, unsealed_as}
+use Rattle.cx_rules.specs.cx_steps.specs.Premises.{HasSealed, IsExcepted}
+use Rattle.cx_rules.specs.cx_steps.specs.declared.seals.Logged.{Logged}
+use Rattle.cx_rules.specs.cx_steps.specs.declared.seals.SealMark.{SealMark}
 use Rattle.cx_laws_keys.proofs.Known.{Inv, Says, opened_says}
 use Rattle.cx_laws_keys.proofs.Premises.{AreGranted}
 use Rattle.cx_laws_keys.proofs.Uses.{Generated, Means, Use, Uses, whose, WholeRun}

@@ -8,44 +8,44 @@ use Rattle.cx_base.specs.Names.{Name}
 use Rattle.cx_base.specs.declared.kinds.EntityType.{EntityType}
 use Rattle.cx_base.specs.declared.kinds.EntityType.TheVariants.{Mds, Osd, Mgr, Auth, Mon}
 use Rattle.cx_base.specs.declared.nodes.NodeName.TheVariants as node
-use Rattle.cx_control.specs.Auth.{auth_reply_more_layout, auth_request_layout, auth_request_more_layout, auth_signature_layout}
-use Rattle.cx_control.specs.Hello.{hello_layout}
-use Rattle.cx_control.specs.Idents.{client_ident_layout, ident_missing_features_layout}
-use Rattle.cx_control.specs.Reconnects.{session_reconnect_layout}
-use Rattle.cx_control.specs.Upkeep.{keepalive2_layout, keepalive2_ack_layout}
-use Rattle.cx_control.specs.declared.auth.AuthRequest.{AuthRequest}
-use Rattle.cx_control.specs.declared.auth.AuthRequestMore.{AuthRequestMore}
-use Rattle.cx_control.specs.declared.auth.AuthSignature.{AuthSignature}
-use Rattle.cx_control.specs.declared.hello.Hello.{Hello}
-use Rattle.cx_control.specs.declared.idents.ClientIdent.{ClientIdent}
-use Rattle.cx_control.specs.declared.reconnects.SessionReconnect.{SessionReconnect}
-use Rattle.cx_control.specs.declared.upkeep.Keepalive2.{Keepalive2}
-use Rattle.cx_control.specs.declared.upkeep.Keepalive2Ack.{Keepalive2Ack}
-use Rattle.cx_dice.specs.Draws.{challenge_of, connection_of, session_of}
-use Rattle.cx_enc.specs.declared.keys.Key.{Key}
-use Rattle.cx_frame.specs.declared.frame.Frame.{Frame}
-use Rattle.cx_journal.specs.declared.entries.Entry.{Entry}
-use Rattle.cx_journal.specs.declared.entries.Entry.TheVariants as journal
-use Rattle.cx_journal.specs.declared.entries.Issued.{Issued}
-use Rattle.cx_journal.specs.declared.faults.BytesFault.{BytesFault}
-use Rattle.cx_journal.specs.declared.faults.BytesFault.TheVariants.{Unexpected}
-use Rattle.cx_journal.specs.declared.faults.LoginFault.{LoginFault}
-use Rattle.cx_journal.specs.declared.faults.LoginFault.TheVariants.{Method, Mode, SignatureWrong}
-use Rattle.cx_journal.specs.declared.faults.LoginFault.TheVariants as login
-use Rattle.cx_journal.specs.declared.outcomes.Reason.{Reason}
-use Rattle.cx_journal.specs.declared.outcomes.Reason.TheVariants.{LinksFull, Login}
-use Rattle.cx_keyring.specs.Entries.{is_named}
-use Rattle.cx_keyring.specs.declared.entries.Entry.{Entry as Principal}
-use Rattle.cx_keyserver.specs.Servers.{Server, rotated_server, secrets_of}
-use Rattle.cx_keyserver.specs.declared.refusals.NotADaemon.{NotADaemon}
-use Rattle.cx_keyserver.specs.declared.tickets.Ticket.{Ticket}
-use Rattle.cx_login.specs.Monitor.{Offer, Proven, kept_gid, proof_found, proving, reclaimed}
-use Rattle.cx_login.specs.Proving.{due_proof}
-use Rattle.cx_login.specs.Unlocking.{old_ticket}
-use Rattle.cx_login.specs.declared.monitor.Reclaim.{Reclaim}
-use Rattle.cx_login.specs.declared.monitor.Reclaim.TheVariants as reclaim
-use Rattle.cx_rotate.specs.declared.generations.Generation.{Generation}
-use Rattle.cx_rotate.specs.declared.states.KeptState.{KeptState}
+use Rattle.cx_rules.specs.cx_control.specs.Auth.{auth_reply_more_layout, auth_request_layout, auth_request_more_layout, auth_signature_layout}
+use Rattle.cx_rules.specs.cx_control.specs.Hello.{hello_layout}
+use Rattle.cx_rules.specs.cx_control.specs.Idents.{client_ident_layout, ident_missing_features_layout}
+use Rattle.cx_rules.specs.cx_control.specs.Reconnects.{session_reconnect_layout}
+use Rattle.cx_rules.specs.cx_control.specs.Upkeep.{keepalive2_layout, keepalive2_ack_layout}
+use Rattle.cx_rules.specs.cx_control.specs.declared.auth.AuthRequest.{AuthRequest}
+use Rattle.cx_rules.specs.cx_control.specs.declared.auth.AuthRequestMore.{AuthRequestMore}
+use Rattle.cx_rules.specs.cx_control.specs.declared.auth.AuthSignature.{AuthSignature}
+use Rattle.cx_rules.specs.cx_control.specs.declared.hello.Hello.{Hello}
+use Rattle.cx_rules.specs.cx_control.specs.declared.idents.ClientIdent.{ClientIdent}
+use Rattle.cx_rules.specs.cx_control.specs.declared.reconnects.SessionReconnect.{SessionReconnect}
+use Rattle.cx_rules.specs.cx_control.specs.declared.upkeep.Keepalive2.{Keepalive2}
+use Rattle.cx_rules.specs.cx_control.specs.declared.upkeep.Keepalive2Ack.{Keepalive2Ack}
+use Rattle.cx_rules.specs.cx_dice.specs.Draws.{challenge_of, connection_of, session_of}
+use Rattle.cx_laws_keys.specs.cx_enc.specs.declared.keys.Key.{Key}
+use Rattle.cx_rules.specs.cx_frame.specs.declared.frame.Frame.{Frame}
+use Rattle.cx_laws_keys.specs.cx_journal.specs.declared.entries.Entry.{Entry}
+use Rattle.cx_laws_keys.specs.cx_journal.specs.declared.entries.Entry.TheVariants as journal
+use Rattle.cx_laws_keys.specs.cx_journal.specs.declared.entries.Issued.{Issued}
+use Rattle.cx_laws_keys.specs.cx_journal.specs.declared.faults.BytesFault.{BytesFault}
+use Rattle.cx_laws_keys.specs.cx_journal.specs.declared.faults.BytesFault.TheVariants.{Unexpected}
+use Rattle.cx_laws_keys.specs.cx_journal.specs.declared.faults.LoginFault.{LoginFault}
+use Rattle.cx_laws_keys.specs.cx_journal.specs.declared.faults.LoginFault.TheVariants.{Method, Mode, SignatureWrong}
+use Rattle.cx_laws_keys.specs.cx_journal.specs.declared.faults.LoginFault.TheVariants as login
+use Rattle.cx_laws_keys.specs.cx_journal.specs.declared.outcomes.Reason.{Reason}
+use Rattle.cx_laws_keys.specs.cx_journal.specs.declared.outcomes.Reason.TheVariants.{LinksFull, Login}
+use Rattle.cx_rules.specs.cx_keyring.specs.Entries.{is_named}
+use Rattle.cx_rules.specs.cx_keyring.specs.declared.entries.Entry.{Entry as Principal}
+use Rattle.cx_rules.specs.cx_keyserver.specs.Servers.{Server, rotated_server, secrets_of}
+use Rattle.cx_rules.specs.cx_keyserver.specs.declared.refusals.NotADaemon.{NotADaemon}
+use Rattle.cx_rules.specs.cx_keyserver.specs.declared.tickets.Ticket.{Ticket}
+use Rattle.cx_rules.specs.cx_login.specs.Monitor.{Offer, Proven, kept_gid, proof_found, proving, reclaimed}
+use Rattle.cx_rules.specs.cx_login.specs.Proving.{due_proof}
+use Rattle.cx_rules.specs.cx_login.specs.Unlocking.{old_ticket}
+use Rattle.cx_rules.specs.cx_login.specs.declared.monitor.Reclaim.{Reclaim}
+use Rattle.cx_rules.specs.cx_login.specs.declared.monitor.Reclaim.TheVariants as reclaim
+use Rattle.cx_rules.specs.cx_rotate.specs.declared.generations.Generation.{Generation}
+use Rattle.cx_rules.specs.cx_rotate.specs.declared.states.KeptState.{KeptState}
 use Rattle.cx_rules.specs.Acceptor.{AwaitsBanner, AwaitsHello, AwaitsRequest, AwaitsProof, AwaitsSignature, AwaitsIdent, Open, Finished, denies, finished, misses, missing_told, on_auth_request, on_banner, on_hello, on_signature, server_ident}
 use Rattle.cx_rules.specs.Fronts.{Front, NotYet, Broken, Next, banner_next, plain_next, secure_next}
 use Rattle.cx_rules.specs.Greetings.{own_banner, own_hello}
@@ -68,14 +68,14 @@ use Rattle.cx_rules.specs.declared.responses.Demand.{Demand}
 use Rattle.cx_rules.specs.declared.responses.ReplyMade.{ReplyMade}
 use Rattle.cx_rules.specs.declared.responses.Response.{Response}
 use Rattle.cx_rules.specs.declared.responses.Response.TheVariants as response
-use Rattle.cx_steps.specs.declared.seals.DrawMark.TheVariants as draw
-use Rattle.cx_steps.specs.declared.seals.SealEntry.{SealEntry}
-use Rattle.cx_steps.specs.declared.seals.SealEntry.TheVariants.{Drawn}
-use Rattle.cx_wire.specs.Logins.{authenticate_layout, login_hello_layout, server_challenge_layout}
-use Rattle.cx_wire.specs.declared.bodies.Request.{Request}
-use Rattle.cx_wire.specs.declared.bodies.Request.TheVariants as asked
-use Rattle.cx_wire.specs.declared.logins.Authenticate.{Authenticate}
-use Rattle.cx_wire.specs.declared.logins.LoginHello.{LoginHello}
+use Rattle.cx_rules.specs.cx_steps.specs.declared.seals.DrawMark.TheVariants as draw
+use Rattle.cx_rules.specs.cx_steps.specs.declared.seals.SealEntry.{SealEntry}
+use Rattle.cx_rules.specs.cx_steps.specs.declared.seals.SealEntry.TheVariants.{Drawn}
+use Rattle.cx_rules.specs.cx_wire.specs.Logins.{authenticate_layout, login_hello_layout, server_challenge_layout}
+use Rattle.cx_rules.specs.cx_wire.specs.declared.bodies.Request.{Request}
+use Rattle.cx_rules.specs.cx_wire.specs.declared.bodies.Request.TheVariants as asked
+use Rattle.cx_rules.specs.cx_wire.specs.declared.logins.Authenticate.{Authenticate}
+use Rattle.cx_rules.specs.cx_wire.specs.declared.logins.LoginHello.{LoginHello}
 use Rattle.cx_laws_keys.proofs.Journal.{IsNotIssued, issued_is}
 use Rattle.cx_laws_login.proofs.Entering.{issued_of}
 use Rattle.cx_laws_login.proofs.Hearing.{HearsPart, hears-more, next-heard}

@@ -7,24 +7,24 @@ use Rattle.cx_base.specs.Names.{Name, is_daemon_type}
 use Rattle.cx_base.specs.declared.nodes.NodeName.{NodeName}
 use Rattle.cx_base.specs.declared.kinds.EntityType.{EntityType}
 use Rattle.cx_base.specs.declared.kinds.EntityType.TheVariants.{Auth, Mds, Osd, Mgr}
-use Rattle.cx_cbc.specs.Envelope.{sealed}
-use Rattle.cx_control.specs.Upkeep.{keepalive2_layout, keepalive2_ack_layout}
-use Rattle.cx_frame.specs.declared.frame.Frame.{Frame}
-use Rattle.cx_journal.specs.declared.entries.Entry.{Entry}
-use Rattle.cx_journal.specs.declared.faults.BytesFault.{BytesFault}
-use Rattle.cx_journal.specs.declared.faults.LoginFault.{LoginFault}
-use Rattle.cx_journal.specs.declared.faults.SessionFault.TheVariants.{Gap}
-use Rattle.cx_journal.specs.declared.outcomes.Reason.{Reason}
-use Rattle.cx_keyring.specs.Entries.{is_named}
-use Rattle.cx_keyserver.specs.Servers.{rotated_server, secrets_of, Server, generations_of}
-use Rattle.cx_keyserver.specs.declared.refusals.NotADaemon.{NotADaemon}
-use Rattle.cx_keyserver.specs.declared.tickets.Ticket.{Ticket}
-use Rattle.cx_rotate.specs.declared.generations.Generation.{Generation}
-use Rattle.cx_rotate.specs.declared.states.KeptState.{KeptState}
-use Rattle.cx_sealed.specs.declared.rotating_reply.RotatingReply.{RotatingReply}
-use Rattle.cx_steps.specs.declared.seals.Logged.{Logged}
-use Rattle.cx_steps.specs.declared.seals.SealEntry.{SealEntry}
-use Rattle.cx_wire.specs.declared.bodies.Request.{Request}
+use Rattle.cx_laws_keys.specs.cx_cbc.specs.Envelope.{sealed}
+use Rattle.cx_rules.specs.cx_control.specs.Upkeep.{keepalive2_layout, keepalive2_ack_layout}
+use Rattle.cx_rules.specs.cx_frame.specs.declared.frame.Frame.{Frame}
+use Rattle.cx_laws_keys.specs.cx_journal.specs.declared.entries.Entry.{Entry}
+use Rattle.cx_laws_keys.specs.cx_journal.specs.declared.faults.BytesFault.{BytesFault}
+use Rattle.cx_laws_keys.specs.cx_journal.specs.declared.faults.LoginFault.{LoginFault}
+use Rattle.cx_laws_keys.specs.cx_journal.specs.declared.faults.SessionFault.TheVariants.{Gap}
+use Rattle.cx_laws_keys.specs.cx_journal.specs.declared.outcomes.Reason.{Reason}
+use Rattle.cx_rules.specs.cx_keyring.specs.Entries.{is_named}
+use Rattle.cx_rules.specs.cx_keyserver.specs.Servers.{rotated_server, secrets_of, Server, generations_of}
+use Rattle.cx_rules.specs.cx_keyserver.specs.declared.refusals.NotADaemon.{NotADaemon}
+use Rattle.cx_rules.specs.cx_keyserver.specs.declared.tickets.Ticket.{Ticket}
+use Rattle.cx_rules.specs.cx_rotate.specs.declared.generations.Generation.{Generation}
+use Rattle.cx_rules.specs.cx_rotate.specs.declared.states.KeptState.{KeptState}
+use Rattle.cx_laws_keys.specs.cx_sealed.specs.declared.rotating_reply.RotatingReply.{RotatingReply}
+use Rattle.cx_rules.specs.cx_steps.specs.declared.seals.Logged.{Logged}
+use Rattle.cx_rules.specs.cx_steps.specs.declared.seals.SealEntry.{SealEntry}
+use Rattle.cx_rules.specs.cx_wire.specs.declared.bodies.Request.{Request}
 use Rattle.cx_rules.specs.Acceptor.{Open}
 use Rattle.cx_rules.specs.KeptStates.{changed, saved_behind}
 use Rattle.cx_rules.specs.Messages.{message_in}
@@ -55,17 +55,17 @@ use Rattle.cx_laws_login.proofs.MonitorRows.{keepalive-simple, keepalive_ack-sim
 use Rattle.cx_laws_login.proofs.Rows.{AfterRow, FrameOk, RowOk, after-refuses, after-simple, all-filter, frame-ok, simple-refuses}
 use Rattle.cx_laws_login.proofs.Sealing.{others-sealed}
 use Rattle.cx_laws_login.proofs.Under.{AreOfCurrent, IsOfCurrent, all-under}
-use Rattle.cx_journal.specs.declared.faults.LoginFault.TheVariants as login
-use Rattle.cx_journal.specs.declared.outcomes.Reason.TheVariants as reason
-use Rattle.cx_keyring.specs.declared.entries.Entry.{Entry as Principal}
-use Rattle.cx_wire.specs.declared.bodies.Reply.TheVariants as given
-use Rattle.cx_wire.specs.declared.bodies.Request.TheVariants as asked
+use Rattle.cx_laws_keys.specs.cx_journal.specs.declared.faults.LoginFault.TheVariants as login
+use Rattle.cx_laws_keys.specs.cx_journal.specs.declared.outcomes.Reason.TheVariants as reason
+use Rattle.cx_rules.specs.cx_keyring.specs.declared.entries.Entry.{Entry as Principal}
+use Rattle.cx_rules.specs.cx_wire.specs.declared.bodies.Reply.TheVariants as given
+use Rattle.cx_rules.specs.cx_wire.specs.declared.bodies.Request.TheVariants as asked
 use Rattle.cx_laws_login.proofs.Named.{found_secret}
 use Rattle.cx_laws_keys.proofs.ReadGenerations.{all-read, rotating_read}
 use Rattle.cx_laws_keys.proofs.Lists.{some-map}
 use Rattle.cx_rules.proofs.Granting.{saved-changed}
-use Rattle.cx_sealed.specs.Records.{rotating_reply_layout}
-use Rattle.cx_sealed.specs.Unsealing.{spelled_by}
+use Rattle.cx_laws_keys.specs.cx_sealed.specs.Records.{rotating_reply_layout}
+use Rattle.cx_laws_keys.specs.cx_sealed.specs.Unsealing.{spelled_by}
 
 -- ---- generations that are told
 

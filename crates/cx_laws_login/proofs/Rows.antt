@@ -3,28 +3,28 @@ use Rattle.std.proofs.Common.{◌≡◌, ℕ, ◌+◌, ◌-◌, ◌^◌, Bool, t
 use Rattle.std.specs.Prelude.{nat_lt, not, ◌==◌, if◌then◌else◌}
 use Rattle.std.specs.List.{AllByRecursion}
 use Rattle.cx_base.specs.Names.{Name}
-use Rattle.cx_frame.specs.Frames.{total}
-use Rattle.cx_frame.specs.declared.frame.Frame.{Frame}
-use Rattle.cx_journal.specs.Behind.{EachBehind}
-use Rattle.cx_journal.specs.declared.entries.Entry.{Entry}
-use Rattle.cx_journal.specs.declared.entries.Entry.TheVariants as journal
-use Rattle.cx_journal.specs.declared.faults.BytesFault.{BytesFault}
-use Rattle.cx_journal.specs.declared.faults.BytesFault.TheVariants.{CounterSpent, TooLong}
+use Rattle.cx_rules.specs.cx_frame.specs.Frames.{total}
+use Rattle.cx_rules.specs.cx_frame.specs.declared.frame.Frame.{Frame}
+use Rattle.cx_laws_keys.specs.cx_journal.specs.Behind.{EachBehind}
+use Rattle.cx_laws_keys.specs.cx_journal.specs.declared.entries.Entry.{Entry}
+use Rattle.cx_laws_keys.specs.cx_journal.specs.declared.entries.Entry.TheVariants as journal
+use Rattle.cx_laws_keys.specs.cx_journal.specs.declared.faults.BytesFault.{BytesFault}
+use Rattle.cx_laws_keys.specs.cx_journal.specs.declared.faults.BytesFault.TheVariants.{CounterSpent, TooLong}
 use Rattle.cx_base.specs.declared.nodes.NodeName.{NodeName}
 use Rattle.cx_base.specs.declared.nodes.NodeName.TheVariants as node
-use Rattle.cx_journal.specs.declared.outcomes.Reason.{Reason}
-use Rattle.cx_journal.specs.declared.premises.KeyKind.TheVariants as kind
+use Rattle.cx_laws_keys.specs.cx_journal.specs.declared.outcomes.Reason.{Reason}
+use Rattle.cx_laws_keys.specs.cx_journal.specs.declared.premises.KeyKind.TheVariants as kind
 use Rattle.cx_rules.specs.Fronts.{opened_parts}
 use Rattle.cx_rules.specs.Links.{Link, link_of, put_link, without_link}
 use Rattle.cx_rules.specs.Rows.{Arrival, Node, Outcome, Row, Turned, Waits, Refuses, Handles, carried_out, goes_on, idles, links_behind, plain_sent, refuses, refuses_bytes, secure_sent, sends_plain, sends_secure, turns, with_opened}
 use Rattle.cx_rules.specs.Secured.{Keys, SealedFrame, Secured, part_seals, plain_frame, sealed_under, secure_frame, signing}
-use Rattle.cx_secure.specs.Parts.{nonce_at}
-use Rattle.cx_secure.specs.Plains.{plains}
-use Rattle.cx_stream.specs.Openings.{front_contents}
-use Rattle.cx_stream.specs.SecureStreams.{Ahead}
-use Rattle.cx_steps.specs.declared.seals.Logged.{Logged}
-use Rattle.cx_steps.specs.declared.seals.SealEntry.{SealEntry}
-use Rattle.cx_steps.specs.declared.seals.SealEntry.TheVariants as entry
+use Rattle.cx_rules.specs.cx_secure.specs.Parts.{nonce_at}
+use Rattle.cx_rules.specs.cx_secure.specs.Plains.{plains}
+use Rattle.cx_rules.specs.cx_stream.specs.Openings.{front_contents}
+use Rattle.cx_rules.specs.cx_stream.specs.SecureStreams.{Ahead}
+use Rattle.cx_rules.specs.cx_steps.specs.declared.seals.Logged.{Logged}
+use Rattle.cx_rules.specs.cx_steps.specs.declared.seals.SealEntry.{SealEntry}
+use Rattle.cx_rules.specs.cx_steps.specs.declared.seals.SealEntry.TheVariants as entry
 use Rattle.cx_laws_keys.proofs.Journal.{After, EntryLaw, login-law, IsLoginEntry, IsNotIssued, IsOfLogin, Reached, entered, own-other}
 use Rattle.cx_laws_keys.proofs.Known.{Inv, IsAcceptorOr, IsAllowed, IsOfAcceptor}
 use Rattle.cx_laws_keys.proofs.Lists.{all-append, all-map, all-of-map}
@@ -32,7 +32,7 @@ use Rattle.cx_laws_keys.proofs.Premises.{AreGranted, behind}
 use Rattle.cx_laws_keys.proofs.Steps.{inv-all, inv-entered}
 use Rattle.cx_laws_keys.proofs.Uses.{Connected, Grows, Login, Means, Uses, stays, WholeRun}
 use Rattle.cx_laws_login.proofs.Facts.{IsSameWay, MaySeal}
-use Rattle.cx_journal.specs.GidOnce.{GivesGidOnceBy}
+use Rattle.cx_laws_keys.specs.cx_journal.specs.GidOnce.{GivesGidOnceBy}
 
 -- ---- entries of the log
 

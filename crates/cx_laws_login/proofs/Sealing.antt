@@ -5,25 +5,25 @@ use Rattle.std.specs.List.{AllByRecursion, flat_map}
 use Rattle.cx_base.specs.Names.{Name}
 use Rattle.cx_base.specs.declared.kinds.EntityType.{EntityType}
 use Rattle.cx_base.specs.declared.kinds.EntityType.TheVariants.{Mon, Mds, Osd, Client, Mgr, Auth}
-use Rattle.cx_cbc.specs.Envelope.{sealed as enveloped}
-use Rattle.cx_dice.specs.Draws.{connection_of, session_of}
-use Rattle.cx_enc.specs.Values.{name_form}
-use Rattle.cx_journal.specs.declared.entries.Entry.{Entry}
+use Rattle.cx_laws_keys.specs.cx_cbc.specs.Envelope.{sealed as enveloped}
+use Rattle.cx_rules.specs.cx_dice.specs.Draws.{connection_of, session_of}
+use Rattle.cx_laws_keys.specs.cx_enc.specs.Values.{name_form}
+use Rattle.cx_laws_keys.specs.cx_journal.specs.declared.entries.Entry.{Entry}
 use Rattle.cx_base.specs.declared.nodes.NodeName.{NodeName}
 use Rattle.cx_base.specs.declared.nodes.NodeName.TheVariants as node
-use Rattle.cx_journal.specs.declared.premises.KeyKind.TheVariants as kind
-use Rattle.cx_keyserver.specs.Issuing.{current_at, service_ticket_of, ticket_info_of}
-use Rattle.cx_keyserver.specs.Servers.{Server, generations_of}
-use Rattle.cx_keyserver.specs.declared.tickets.Ticket.{Ticket}
-use Rattle.cx_rotate.specs.declared.generations.Generation.{Generation}
+use Rattle.cx_laws_keys.specs.cx_journal.specs.declared.premises.KeyKind.TheVariants as kind
+use Rattle.cx_rules.specs.cx_keyserver.specs.Issuing.{current_at, service_ticket_of, ticket_info_of}
+use Rattle.cx_rules.specs.cx_keyserver.specs.Servers.{Server, generations_of}
+use Rattle.cx_rules.specs.cx_keyserver.specs.declared.tickets.Ticket.{Ticket}
+use Rattle.cx_rules.specs.cx_rotate.specs.declared.generations.Generation.{Generation}
 use Rattle.cx_rules.specs.Tickets.{blob_sealed, info_key, info_kind, issued_entry, ticket_seals}
-use Rattle.cx_sealed.specs.Records.{connection_secret_layout, service_ticket_layout, ticket_info_layout}
-use Rattle.cx_sealed.specs.Unsealing.{spelled_by}
-use Rattle.cx_sealed.specs.declared.ticket_info.TicketInfo.{TicketInfo}
-use Rattle.cx_steps.specs.declared.seals.DrawMark.TheVariants as draw
-use Rattle.cx_steps.specs.declared.seals.Logged.{Logged}
-use Rattle.cx_steps.specs.declared.seals.SealEntry.{SealEntry}
-use Rattle.cx_steps.specs.declared.seals.SealEntry.TheVariants as entry
+use Rattle.cx_laws_keys.specs.cx_sealed.specs.Records.{connection_secret_layout, service_ticket_layout, ticket_info_layout}
+use Rattle.cx_laws_keys.specs.cx_sealed.specs.Unsealing.{spelled_by}
+use Rattle.cx_laws_keys.specs.cx_sealed.specs.declared.ticket_info.TicketInfo.{TicketInfo}
+use Rattle.cx_rules.specs.cx_steps.specs.declared.seals.DrawMark.TheVariants as draw
+use Rattle.cx_rules.specs.cx_steps.specs.declared.seals.Logged.{Logged}
+use Rattle.cx_rules.specs.cx_steps.specs.declared.seals.SealEntry.{SealEntry}
+use Rattle.cx_rules.specs.cx_steps.specs.declared.seals.SealEntry.TheVariants as entry
 use Rattle.cx_laws_keys.proofs.Journal.{Reached, reached-then}
 use Rattle.cx_laws_keys.proofs.Known.{HasLogin, Inv, IsAllowed, Says, session-placed}
 use Rattle.cx_laws_keys.proofs.Lists.{all-append}

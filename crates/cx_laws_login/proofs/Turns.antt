@@ -1,21 +1,21 @@
 -- A turn of a link of any node: what stands next on it, and the row that handles it.
 use Rattle.std.proofs.Common.{ℕ, List, Option, Some, None, Result, Ok, Err, refl, ◌++◌}
-use Rattle.cx_frame.specs.Banners.{banner_at}
-use Rattle.cx_frame.specs.declared.banner.Banner.{Banner}
-use Rattle.cx_frame.specs.declared.frame.Frame.{Frame}
-use Rattle.cx_frame.specs.declared.refusals.BannerRefusal.{BannerRefusal}
-use Rattle.cx_frame.specs.declared.refusals.FrameRefusal.{FrameRefusal}
-use Rattle.cx_journal.specs.declared.entries.Entry.{Entry}
+use Rattle.cx_rules.specs.cx_frame.specs.Banners.{banner_at}
+use Rattle.cx_rules.specs.cx_frame.specs.declared.banner.Banner.{Banner}
+use Rattle.cx_rules.specs.cx_frame.specs.declared.frame.Frame.{Frame}
+use Rattle.cx_rules.specs.cx_frame.specs.declared.refusals.BannerRefusal.{BannerRefusal}
+use Rattle.cx_rules.specs.cx_frame.specs.declared.refusals.FrameRefusal.{FrameRefusal}
+use Rattle.cx_laws_keys.specs.cx_journal.specs.declared.entries.Entry.{Entry}
 use Rattle.cx_base.specs.declared.nodes.NodeName.{NodeName}
 use Rattle.cx_rules.specs.Fronts.{ahead_of, banner_next, banner_read, opened_parts, plain_next, plain_read, sealed_ahead, secure_next, secure_read}
 use Rattle.cx_rules.specs.Links.{Link}
 use Rattle.cx_rules.specs.Rows.{Arrival, Row, turned_by, with_opened}
 use Rattle.cx_rules.specs.Secured.{Keys}
-use Rattle.cx_secure.specs.declared.refusals.SecureRefusal.{SecureRefusal}
-use Rattle.cx_steps.specs.declared.seals.Logged.{Logged}
-use Rattle.cx_steps.specs.declared.seals.SealEntry.{SealEntry}
-use Rattle.cx_stream.specs.PlainStreams.{plain_frame_at}
-use Rattle.cx_stream.specs.SecureStreams.{secure_frame_at}
+use Rattle.cx_rules.specs.cx_secure.specs.declared.refusals.SecureRefusal.{SecureRefusal}
+use Rattle.cx_rules.specs.cx_steps.specs.declared.seals.Logged.{Logged}
+use Rattle.cx_rules.specs.cx_steps.specs.declared.seals.SealEntry.{SealEntry}
+use Rattle.cx_rules.specs.cx_stream.specs.PlainStreams.{plain_frame_at}
+use Rattle.cx_rules.specs.cx_stream.specs.SecureStreams.{secure_frame_at}
 use Rattle.cx_laws_keys.proofs.Known.{Inv}
 use Rattle.cx_laws_keys.proofs.Premises.{AreGranted}
 use Rattle.cx_laws_keys.proofs.Uses.{Uses, WholeRun}

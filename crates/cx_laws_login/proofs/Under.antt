@@ -4,20 +4,20 @@ use Rattle.std.proofs.Common.{◌≡◌, ℕ, ◌+◌, Bool, true, false, cond, 
 use Rattle.std.specs.Prelude.{find}
 use Rattle.std.specs.List.{AllByRecursion}
 use Rattle.cx_base.specs.declared.kinds.EntityType.{EntityType}
-use Rattle.cx_cbc.specs.Envelope.{sealed}
-use Rattle.cx_dice.specs.Draws.{has_keys, session_of}
-use Rattle.cx_enc.specs.Forms.{passed}
-use Rattle.cx_journal.specs.declared.faults.LoginFault.{LoginFault}
-use Rattle.cx_keyring.specs.Entries.{is_named}
-use Rattle.cx_keyring.specs.declared.entries.Entry.{Entry as Principal}
-use Rattle.cx_keyserver.specs.Issuing.{Asked, ◌>>=◌, caps_for, current_at, fields_of, issued, or_else, sealed_by, service_ticket_of, telling_key}
-use Rattle.cx_keyserver.specs.Servers.{Server, generations_of, life_of}
-use Rattle.cx_keyserver.specs.declared.refusals.IssueRefusal.{IssueRefusal}
-use Rattle.cx_keyserver.specs.declared.refusals.IssueRefusal.TheVariants as issue
-use Rattle.cx_keyserver.specs.declared.tickets.Ticket.{Ticket}
-use Rattle.cx_rotate.specs.declared.generations.Generation.{Generation}
+use Rattle.cx_laws_keys.specs.cx_cbc.specs.Envelope.{sealed}
+use Rattle.cx_rules.specs.cx_dice.specs.Draws.{has_keys, session_of}
+use Rattle.cx_laws_keys.specs.cx_enc.specs.Forms.{passed}
+use Rattle.cx_laws_keys.specs.cx_journal.specs.declared.faults.LoginFault.{LoginFault}
+use Rattle.cx_rules.specs.cx_keyring.specs.Entries.{is_named}
+use Rattle.cx_rules.specs.cx_keyring.specs.declared.entries.Entry.{Entry as Principal}
+use Rattle.cx_rules.specs.cx_keyserver.specs.Issuing.{Asked, ◌>>=◌, caps_for, current_at, fields_of, issued, or_else, sealed_by, service_ticket_of, telling_key}
+use Rattle.cx_rules.specs.cx_keyserver.specs.Servers.{Server, generations_of, life_of}
+use Rattle.cx_rules.specs.cx_keyserver.specs.declared.refusals.IssueRefusal.{IssueRefusal}
+use Rattle.cx_rules.specs.cx_keyserver.specs.declared.refusals.IssueRefusal.TheVariants as issue
+use Rattle.cx_rules.specs.cx_keyserver.specs.declared.tickets.Ticket.{Ticket}
+use Rattle.cx_rules.specs.cx_rotate.specs.declared.generations.Generation.{Generation}
 use Rattle.cx_rules.specs.Tickets.{issued_before, issued_for}
-use Rattle.cx_sealed.specs.Records.{service_ticket_layout}
+use Rattle.cx_laws_keys.specs.cx_sealed.specs.Records.{service_ticket_layout}
 
 -- made at this reading, with this draw
 pub record IsOfCurrent (server : Server) (reading : ℕ) (draw : List ℕ) (t : Ticket) : Type 0 where

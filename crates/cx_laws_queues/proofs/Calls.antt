@@ -3,8 +3,8 @@
 -- behind a row has it asked for under a cookie that is drawn there.
 use Rattle.std.proofs.Common.{ℕ, ◌==◌, ◌+◌, ◌-◌, ◌^◌, ◌++◌, Bool, true, false, inl, List, [], ◌∷◌, take, Option, Some, None, Result, Ok, Err, refl}
 use Rattle.std.specs.Prelude.{not, if◌then◌else◌}
-use Rattle.cx_authorize.specs.Client.{Answered, Presented, challenge_in, reply_in}
-use Rattle.cx_authorize.specs.Verdict.{raised}
+use Rattle.cx_laws_session.specs.cx_authorize.specs.Client.{Answered, Presented, challenge_in, reply_in}
+use Rattle.cx_laws_session.specs.cx_authorize.specs.Verdict.{raised}
 use Rattle.cx_control.specs.Auth.{auth_done_layout, auth_reply_more_layout, auth_signature_layout}
 use Rattle.cx_control.specs.BadMethod.{bad_method_layout}
 use Rattle.cx_control.specs.Hello.{hello_layout}
@@ -30,14 +30,14 @@ use Rattle.cx_journal.specs.declared.faults.BytesFault.{BytesFault}
 use Rattle.cx_journal.specs.declared.faults.BytesFault.TheVariants.{Unexpected}
 use Rattle.cx_journal.specs.declared.faults.LoginFault.TheVariants.{Mode, NonceWrong, SignatureWrong}
 use Rattle.cx_journal.specs.declared.outcomes.Reason.TheVariants as reason
-use Rattle.cx_sealed.specs.declared.authorize_challenge.AuthorizeChallenge.{AuthorizeChallenge}
-use Rattle.cx_sealed.specs.declared.authorize_reply.AuthorizeReply.{AuthorizeReply}
-use Rattle.cx_steps.specs.declared.seals.DrawMark.TheVariants as draw
-use Rattle.cx_steps.specs.declared.seals.SealEntry.{SealEntry}
-use Rattle.cx_steps.specs.declared.seals.SealEntry.TheVariants.{Drawn}
-use Rattle.cx_wire.specs.Logins.{authorize_challenge_layout, authorize_reply_layout}
-use Rattle.cx_wire.specs.declared.authorizers.AuthorizeChallenge as shown_challenge
-use Rattle.cx_wire.specs.declared.authorizers.AuthorizeReply as shown_reply
+use Rattle.cx_laws_session.specs.cx_sealed.specs.declared.authorize_challenge.AuthorizeChallenge.{AuthorizeChallenge}
+use Rattle.cx_laws_session.specs.cx_sealed.specs.declared.authorize_reply.AuthorizeReply.{AuthorizeReply}
+use Rattle.cx_laws_session.specs.cx_steps.specs.declared.seals.DrawMark.TheVariants as draw
+use Rattle.cx_laws_session.specs.cx_steps.specs.declared.seals.SealEntry.{SealEntry}
+use Rattle.cx_laws_session.specs.cx_steps.specs.declared.seals.SealEntry.TheVariants.{Drawn}
+use Rattle.cx_laws_session.specs.cx_wire.specs.Logins.{authorize_challenge_layout, authorize_reply_layout}
+use Rattle.cx_laws_session.specs.cx_wire.specs.declared.authorizers.AuthorizeChallenge as shown_challenge
+use Rattle.cx_laws_session.specs.cx_wire.specs.declared.authorizers.AuthorizeReply as shown_reply
 use Rattle.cx_laws_session.specs.cx_rules.specs.Connector.{client_ident}
 use Rattle.cx_laws_session.specs.cx_rules.specs.Fronts.{banner_next, plain_next, secure_next}
 use Rattle.cx_laws_session.specs.cx_rules.specs.Greetings.{own_hello}
@@ -56,7 +56,7 @@ use Rattle.cx_laws_session.specs.cx_run.proofs.Taking.{EachRow, each-turned}
 use Rattle.cx_laws_queues.proofs.Drawing.{DrawsCookie, some-right}
 use Rattle.cx_laws_queues.proofs.Sessions.{HeldIs}
 use Rattle.cx_laws_session.proofs.Lists.{some-left}
-use Rattle.cx_steps.specs.Onto.{SomeOf}
+use Rattle.cx_laws_session.specs.cx_steps.specs.Onto.{SomeOf}
 
 -- the cookie under which a session is asked for on a link
 abbrev pub awaited : CallStage → Option ℕ

@@ -43,9 +43,9 @@ use Rattle.cx_laws_session.specs.cx_run.proofs.CallKeeps.{IsCallEntry, Leaves, c
 use Rattle.cx_laws_session.specs.cx_run.proofs.Outcomes.{EachOutcome, asker_turn, call_turn, on_link, renewed, sent_in, step-keeps}
 use Rattle.cx_laws_session.specs.cx_run.proofs.Taking.{EachRow, Takes, TurnTakes}
 use Rattle.cx_session.specs.Queue.{pushed}
-use Rattle.cx_steps.specs.declared.events.Peer.{Peer}
-use Rattle.cx_steps.specs.declared.seals.SealEntry.{SealEntry}
-use Rattle.cx_wire.specs.declared.bodies.Request.TheVariants as asked
+use Rattle.cx_laws_session.specs.cx_steps.specs.declared.events.Peer.{Peer}
+use Rattle.cx_laws_session.specs.cx_steps.specs.declared.seals.SealEntry.{SealEntry}
+use Rattle.cx_laws_session.specs.cx_wire.specs.declared.bodies.Request.TheVariants as asked
 
 -- a link that goes on has its number
 abbrev IsNumber : {Stage : Type 0} → ℕ → Option (Link Stage) → Type 0

@@ -21,7 +21,7 @@ use Rattle.cx_laws_session.proofs.Askers.{asker-enters, EntersNone, fetch-enters
 use Rattle.cx_laws_session.proofs.Lists.{all-map, found-passes}
 use Rattle.cx_laws_session.proofs.Moves.{IsQuiet}
 use Rattle.cx_laws_session.proofs.Runs.{other-way}
-use Rattle.cx_login.specs.Held.{Held as Ticket}
+use Rattle.cx_laws_session.specs.cx_login.specs.Held.{Held as Ticket}
 use Rattle.cx_laws_session.specs.cx_rules.specs.Connector as connector
 use Rattle.cx_laws_session.specs.cx_rules.specs.Holdings.{Asker}
 use Rattle.cx_laws_session.specs.cx_rules.specs.Inputs.{Input, Opened, NoLink, Bytes, Turn, Gone, Look, Tick, Submit, Restart}
@@ -40,10 +40,10 @@ use Rattle.cx_laws_session.specs.cx_run.proofs.Taking.{EachRow}
 use Rattle.cx_session.specs.Queue.{pushed, push_reply}
 use Rattle.cx_session.specs.declared.outbox.QueueFault.{QueueFault}
 use Rattle.cx_session.specs.declared.outbox.QueueFault.TheVariants as queue
-use Rattle.cx_steps.specs.declared.events.Command.{Command}
-use Rattle.cx_steps.specs.declared.events.Command.TheVariants as command
-use Rattle.cx_steps.specs.declared.events.Peer.{Peer}
-use Rattle.cx_wire.specs.declared.bodies.Request.TheVariants as asked
+use Rattle.cx_laws_session.specs.cx_steps.specs.declared.events.Command.{Command}
+use Rattle.cx_laws_session.specs.cx_steps.specs.declared.events.Command.TheVariants as command
+use Rattle.cx_laws_session.specs.cx_steps.specs.declared.events.Peer.{Peer}
+use Rattle.cx_laws_session.specs.cx_wire.specs.declared.bodies.Request.TheVariants as asked
 
 -- what is so of a client's sessions behind this journal
 pub record ClientQueues (J : List Entry) (client : Name) (sessions : List HeldSession) : Type 0 where

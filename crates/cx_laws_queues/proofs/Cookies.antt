@@ -26,7 +26,7 @@ use Rattle.cx_laws_session.proofs.Monitors.{monitor-mute}
 use Rattle.cx_laws_session.proofs.Moves.{LinksServe}
 use Rattle.cx_laws_session.proofs.Runs.{behind-append, entries-by, other-way}
 use Rattle.cx_line_words.specs.declared.choices.LeftState.{LeftState}
-use Rattle.cx_lines.specs.declared.lines.Numbered.{Numbered}
+use Rattle.cx_laws_session.specs.cx_lines.specs.declared.lines.Numbered.{Numbered}
 use Rattle.cx_rotate.specs.declared.states.KeptState.{KeptState}
 use Rattle.cx_laws_session.specs.cx_rules.specs.Monitor.{MonitorNode}
 use Rattle.cx_laws_session.specs.cx_rules.specs.MonitorRule.{monitor_rule}
@@ -39,9 +39,9 @@ use Rattle.cx_laws_session.specs.cx_run.specs.Happenings.{Entered, EntityNode, O
 use Rattle.cx_laws_session.specs.cx_run.specs.Opening.{Declared, Setup, asker_of, daemon_opening, entity_in, leaks_entered, nodes_of, secrets_drawn}
 use Rattle.cx_laws_session.specs.cx_run.specs.Points.{journal_since, log_since, onto}
 use Rattle.cx_laws_session.specs.cx_run.specs.Runs.{run_journal, run_log, setup_of, trace}
-use Rattle.cx_steps.specs.Onto.{EachOnto}
-use Rattle.cx_steps.specs.Premises.{IsFresh}
-use Rattle.cx_steps.specs.declared.seals.Logged.{Logged}
+use Rattle.cx_laws_session.specs.cx_steps.specs.Onto.{EachOnto}
+use Rattle.cx_laws_session.specs.cx_steps.specs.Premises.{IsFresh}
+use Rattle.cx_laws_session.specs.cx_steps.specs.declared.seals.Logged.{Logged}
 
 -- ---- an entity
 

@@ -3,15 +3,15 @@ use Rattle.std.proofs.Common.{◌≡◌, inl, inr, ℕ, List, [], ◌∷◌, ◌
 use Rattle.cx_laws_session.proofs.Lists.{some-map}
 use Rattle.cx_laws_session.specs.cx_run.specs.Happenings.{Happening, logged_by}
 use Rattle.cx_laws_session.specs.cx_run.specs.Points.{onto}
-use Rattle.cx_steps.specs.Draws.{Repeats}
-use Rattle.cx_steps.specs.Onto.{EachOnto, SomeOf}
-use Rattle.cx_steps.specs.Premises.{IsNew, RepeatsIn}
-use Rattle.cx_steps.specs.declared.effects.Effects.{Effects}
-use Rattle.cx_steps.specs.declared.seals.DrawMark.{DrawMark}
-use Rattle.cx_steps.specs.declared.seals.DrawMark.TheVariants as draw
-use Rattle.cx_steps.specs.declared.seals.Logged.{Logged}
-use Rattle.cx_steps.specs.declared.seals.SealEntry.{SealEntry}
-use Rattle.cx_steps.specs.declared.seals.SealEntry.TheVariants as seal
+use Rattle.cx_laws_session.specs.cx_steps.specs.Draws.{Repeats}
+use Rattle.cx_laws_session.specs.cx_steps.specs.Onto.{EachOnto, SomeOf}
+use Rattle.cx_laws_session.specs.cx_steps.specs.Premises.{IsNew, RepeatsIn}
+use Rattle.cx_laws_session.specs.cx_steps.specs.declared.effects.Effects.{Effects}
+use Rattle.cx_laws_session.specs.cx_steps.specs.declared.seals.DrawMark.{DrawMark}
+use Rattle.cx_laws_session.specs.cx_steps.specs.declared.seals.DrawMark.TheVariants as draw
+use Rattle.cx_laws_session.specs.cx_steps.specs.declared.seals.Logged.{Logged}
+use Rattle.cx_laws_session.specs.cx_steps.specs.declared.seals.SealEntry.{SealEntry}
+use Rattle.cx_laws_session.specs.cx_steps.specs.declared.seals.SealEntry.TheVariants as seal
 
 -- ---- which entries draw a cookie
 

@@ -3,7 +3,7 @@ use Rattle.std.proofs.Common.{◌≡◌, Bool, true, false, List, [], ◌∷◌,
 use Rattle.std.proofs.lemmas.List.{append-nil, append_assoc}
 use Rattle.std.specs.Prelude.{if◌then◌else◌}
 use Rattle.std.specs.List.{AllByRecursion}
-use Rattle.cx_authorize.specs.Daemon.{Authority}
+use Rattle.cx_laws_session.specs.cx_authorize.specs.Daemon.{Authority}
 use Rattle.cx_base.proofs.Names.{same_name_is}
 use Rattle.cx_base.specs.Names.{Name, is_daemon_type, same_name}
 use Rattle.cx_base.specs.declared.nodes.NodeName.{NodeName}
@@ -25,7 +25,7 @@ use Rattle.cx_laws_session.proofs.Monitors.{monitor-mute}
 use Rattle.cx_laws_session.proofs.Moves.{LinksServe}
 use Rattle.cx_laws_session.proofs.Runs.{behind-append, entries-by, other-way}
 use Rattle.cx_line_words.specs.declared.choices.LeftState.{LeftState}
-use Rattle.cx_lines.specs.declared.lines.Numbered.{Numbered}
+use Rattle.cx_laws_session.specs.cx_lines.specs.declared.lines.Numbered.{Numbered}
 use Rattle.cx_rotate.specs.declared.states.KeptState.{KeptState}
 use Rattle.cx_laws_session.specs.cx_rules.specs.Monitor.{MonitorNode}
 use Rattle.cx_laws_session.specs.cx_rules.specs.MonitorRule.{monitor_rule}

@@ -8,12 +8,12 @@ ghost use Rattle.cx_journal.specs.PrefixOfSent.{sent_under};
 ghost use Rattle.cx_laws_queues.specs.Counting.{IsHandledInOrder};
 ghost use Rattle.cx_laws_queues.specs.Sending.{IsNumbered, IsSentInOrder};
 ghost use Rattle.cx_laws_queues.specs.Waiting.{AreQueuedAt};
-ghost use Rattle.cx_lines.specs.declared.lines.Numbered.{Numbered};
+ghost use Rattle.cx_laws_session.specs.cx_lines.specs.declared.lines.Numbered.{Numbered};
 ghost use Rattle.cx_laws_session.specs.cx_run.specs.Happenings.{Happening, nodes_behind};
 ghost use Rattle.cx_laws_session.specs.cx_run.specs.Opening.{Setup, nodes_of};
 ghost use Rattle.cx_laws_session.specs.cx_run.specs.Points.{journal_since, log_since};
 ghost use Rattle.cx_laws_session.specs.cx_run.specs.Runs.{run_journal, run_log};
-ghost use Rattle.cx_steps.specs.Premises.{IsFresh};
+ghost use Rattle.cx_laws_session.specs.cx_steps.specs.Premises.{IsFresh};
 
 /// Of every run, from every opening and with any handlers, whatever is delivered, lost, repeated, forged or cut, restarted, or failed at a save, and whatever
 /// opens or repeats: there is no premise, but that of the laws of cookies. Each operation that a client sends to a daemon is numbered next to what it sent

@@ -41,7 +41,7 @@ use Rattle.cx_steps.specs.declared.seals.DrawMark.TheVariants as draw
 use Rattle.cx_steps.specs.declared.seals.Logged.{Logged}
 use Rattle.cx_steps.specs.declared.seals.SealEntry.{SealEntry}
 use Rattle.cx_steps.specs.declared.seals.SealEntry.TheVariants as seal
-use Rattle.cx_laws_keys.proofs.Lists.{all-append, all-map, found_all, found_passes}
+use Rattle.cx_laws_authorize.specs.cx_laws_keys.proofs.Lists.{all-append, all-map, found_all, found_passes}
 use Rattle.cx_laws_authorize.specs.cx_laws_login.proofs.Hearing.{HearsPart, part_heard}
 use Rattle.cx_laws_chain.proofs.NoDaemonTickets.{entity-none}
 use Rattle.cx_laws_authorize.specs.cx_laws_login.proofs.Proving.{Bears, IsBehind, IsBehindProof, IsBehindReply, IsRinged, LinkTells, RowOf, RowTells, StageTells, none-issued, step-tells, turned-tells}

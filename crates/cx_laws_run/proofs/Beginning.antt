@@ -12,20 +12,20 @@ use Rattle.cx_desk.specs.Handlers.{Handlers}
 use Rattle.cx_line_words.specs.Named.{is_among, is_name}
 use Rattle.cx_line_words.specs.Values.{SpellsItems}
 use Rattle.cx_line_words.specs.declared.known.Known.{Known}
-use Rattle.cx_lines.specs.Knowing.{known_of}
-use Rattle.cx_lines.specs.Lines.{Spells}
-use Rattle.cx_lines.specs.Settings.{grant_items, setting_items}
-use Rattle.cx_lines.specs.declared.lines.Line.{Line}
-use Rattle.cx_lines.specs.declared.lines.Line.TheVariants as line
-use Rattle.cx_lines.specs.declared.lines.Numbered.{Numbered}
-use Rattle.cx_lines.specs.declared.settings.Setting.{Setting}
-use Rattle.cx_lines.specs.declared.settings.Setting.TheVariants as setting
+use Rattle.cx_schedule.specs.cx_lines.specs.Knowing.{known_of}
+use Rattle.cx_schedule.specs.cx_lines.specs.Lines.{Spells}
+use Rattle.cx_schedule.specs.cx_lines.specs.Settings.{grant_items, setting_items}
+use Rattle.cx_schedule.specs.cx_lines.specs.declared.lines.Line.{Line}
+use Rattle.cx_schedule.specs.cx_lines.specs.declared.lines.Line.TheVariants as line
+use Rattle.cx_schedule.specs.cx_lines.specs.declared.lines.Numbered.{Numbered}
+use Rattle.cx_schedule.specs.cx_lines.specs.declared.settings.Setting.{Setting}
+use Rattle.cx_schedule.specs.cx_lines.specs.declared.settings.Setting.TheVariants as setting
 use Rattle.cx_laws_authorize.specs.cx_run.specs.Opening.{Declared, Leak, Setup, changed, plain_setup, set_up, set_up_by, set_up_line}
 use Rattle.cx_laws_authorize.specs.cx_run.specs.Runs.{setup_of}
 use Rattle.cx_schedule.specs.Files.{Adds, Lines, Said, numbered}
 use Rattle.cx_schedule.specs.Grammars.{line_words}
 use Rattle.cx_words.specs.Cutting.{lines_of}
-use Rattle.cx_laws_keys.proofs.Lists.{all-append}
+use Rattle.cx_laws_authorize.specs.cx_laws_keys.proofs.Lists.{all-append}
 use Rattle.cx_laws_run.specs.Laws.{MayBegin}
 
 abbrev HasName : Declared → Type 0

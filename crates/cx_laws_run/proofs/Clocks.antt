@@ -6,16 +6,16 @@ use Rattle.cx_base.specs.declared.nodes.NodeName.{NodeName}
 use Rattle.cx_base.specs.declared.nodes.NodeName.TheVariants as node
 use Rattle.cx_desk.specs.Handlers.{Handlers}
 use Rattle.cx_enc.specs.FieldLaws.{both_true}
-use Rattle.cx_lines.specs.Lines.{is_in_range, is_numbered_in_range}
-use Rattle.cx_lines.specs.declared.commands.LineCommand.{LineCommand}
-use Rattle.cx_lines.specs.declared.commands.LineCommand.TheVariants as command
-use Rattle.cx_lines.specs.declared.lines.Line.{Line}
-use Rattle.cx_lines.specs.declared.lines.Line.TheVariants as line
-use Rattle.cx_lines.specs.declared.lines.Numbered.{Numbered}
-use Rattle.cx_lines.specs.declared.link_steps.LinkStep.{LinkStep}
-use Rattle.cx_lines.specs.declared.link_steps.LinkStep.TheVariants as link
-use Rattle.cx_lines.specs.declared.node_steps.NodeStep.{NodeStep}
-use Rattle.cx_lines.specs.declared.node_steps.NodeStep.TheVariants as step
+use Rattle.cx_schedule.specs.cx_lines.specs.Lines.{is_in_range, is_numbered_in_range}
+use Rattle.cx_schedule.specs.cx_lines.specs.declared.commands.LineCommand.{LineCommand}
+use Rattle.cx_schedule.specs.cx_lines.specs.declared.commands.LineCommand.TheVariants as command
+use Rattle.cx_schedule.specs.cx_lines.specs.declared.lines.Line.{Line}
+use Rattle.cx_schedule.specs.cx_lines.specs.declared.lines.Line.TheVariants as line
+use Rattle.cx_schedule.specs.cx_lines.specs.declared.lines.Numbered.{Numbered}
+use Rattle.cx_schedule.specs.cx_lines.specs.declared.link_steps.LinkStep.{LinkStep}
+use Rattle.cx_schedule.specs.cx_lines.specs.declared.link_steps.LinkStep.TheVariants as link
+use Rattle.cx_schedule.specs.cx_lines.specs.declared.node_steps.NodeStep.{NodeStep}
+use Rattle.cx_schedule.specs.cx_lines.specs.declared.node_steps.NodeStep.TheVariants as step
 use Rattle.cx_line_words.specs.declared.choices.Side.{Side}
 use Rattle.cx_line_words.specs.declared.choices.Side.TheVariants.{Connector, Acceptor}
 use Rattle.cx_laws_authorize.specs.cx_rules.specs.Inputs.{Input, Opened, Bytes, Turn, Gone, Restart, Tick, Submit}
@@ -26,7 +26,7 @@ use Rattle.cx_laws_authorize.specs.cx_run.specs.Opening.{Declared, opening_world
 use Rattle.cx_laws_authorize.specs.cx_run.specs.Runs.{setup_of, trace}
 use Rattle.cx_laws_authorize.specs.cx_run.specs.Wires.{same_node, Wire, end_of, ended, gone_at, has_end, node_at, other, owes_gone, pieces_from, wire_of, with_pieces, with_wire}
 use Rattle.cx_laws_authorize.specs.cx_run.specs.Worlds.{Post, World, carried, happening, opened_wires, post_of, with_post}
-use Rattle.cx_laws_keys.proofs.Lists.{all-append, found_all}
+use Rattle.cx_laws_authorize.specs.cx_laws_keys.proofs.Lists.{all-append, found_all}
 use Rattle.cx_laws_authorize.specs.cx_run.specs.Deliveries.{Given, arrives, arrives_from, came_at, comes, delivers, delivers_on, delivers_piece, drains, drains_side, far_side, first_of, followed, given, gives, gone_arrives, open_all, opens, restarts, round, rounds, settles, stay, tells, tells_gone, turns, under_way, vanish}
 use Rattle.cx_laws_authorize.specs.cx_run.specs.Schedules.{acts_on, after_line, after_lines, arrives_again, cuts, ever_sent, injects, loses, on_link, on_node, services_sum, submits, submitted, without_first}
 

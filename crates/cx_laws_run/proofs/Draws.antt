@@ -4,7 +4,7 @@ use Rattle.std.specs.Prelude.{length}
 use Rattle.std.specs.Int.{w32, to_le_bytes}
 use Rattle.std.specs.List.{AllByRecursion}
 use Rattle.cx_dice.specs.Rolls.{seed_draw, words_from}
-use Rattle.cx_lines.specs.declared.lines.Numbered.{Numbered}
+use Rattle.cx_schedule.specs.cx_lines.specs.declared.lines.Numbered.{Numbered}
 use Rattle.cx_laws_authorize.specs.cx_rules.specs.Inputs.{Input}
 use Rattle.cx_laws_authorize.specs.cx_run.specs.Deliveries.{given}
 use Rattle.cx_laws_authorize.specs.cx_run.specs.Happenings.{Happening}
@@ -12,7 +12,7 @@ use Rattle.cx_laws_authorize.specs.cx_run.specs.Schedules.{after_lines}
 use Rattle.cx_laws_authorize.specs.cx_run.specs.Visits.{IsNoLook}
 use Rattle.cx_laws_authorize.specs.cx_run.specs.Worlds.{Post, World, happening}
 use Rattle.cx_laws_authorize.specs.cx_run.proofs.Walking.{kept-after_lines}
-use Rattle.cx_laws_keys.proofs.Lists.{all-append}
+use Rattle.cx_laws_authorize.specs.cx_laws_keys.proofs.Lists.{all-append}
 use Rattle.cx_laws_run.specs.Laws.{AreBytes, AreDrawn}
 
 -- the draws of a seed have 384 bytes

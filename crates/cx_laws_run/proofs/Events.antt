@@ -21,12 +21,12 @@ use Rattle.cx_laws_authorize.specs.cx_run.specs.Happenings.{Entered, Happening, 
 use Rattle.cx_steps.specs.Nothing.{nothing}
 use Rattle.cx_steps.specs.Onto.{EachOnto}
 use Rattle.cx_steps.specs.declared.seals.Logged.{Logged}
-use Rattle.cx_laws_keys.proofs.Journal.{After, EntryLaw, entered}
-use Rattle.cx_laws_keys.proofs.Known.{Inv, Within}
-use Rattle.cx_laws_keys.proofs.Lists.{all-map, found_all, found_passes, map-append}
-use Rattle.cx_laws_keys.proofs.Premises.{AreGranted, IsGranted, behind, granted-step}
-use Rattle.cx_laws_keys.proofs.Uses.{Grows, Uses, WholeRun, grows-from, grows-saved, grows-then}
-use Rattle.cx_laws_keys.proofs.Uses.{stays as same_uses}
+use Rattle.cx_laws_authorize.specs.cx_laws_keys.proofs.Journal.{After, EntryLaw, entered}
+use Rattle.cx_laws_authorize.specs.cx_laws_keys.proofs.Known.{Inv, Within}
+use Rattle.cx_laws_authorize.specs.cx_laws_keys.proofs.Lists.{all-map, found_all, found_passes, map-append}
+use Rattle.cx_laws_authorize.specs.cx_laws_keys.proofs.Premises.{AreGranted, IsGranted, behind, granted-step}
+use Rattle.cx_laws_authorize.specs.cx_laws_keys.proofs.Uses.{Grows, Uses, WholeRun, grows-from, grows-saved, grows-then}
+use Rattle.cx_laws_authorize.specs.cx_laws_keys.proofs.Uses.{stays as same_uses}
 use Rattle.cx_laws_chain.specs.cx_laws_calling.proofs.Between.{ClientOk, client-grows, client-steps}
 use Rattle.cx_laws_authorize.specs.cx_run.specs.Calling.{IsNoCall}
 use Rattle.cx_laws_authorize.specs.cx_laws_login.proofs.Entering.{within-all}
@@ -45,7 +45,7 @@ use Rattle.cx_laws_authorize.specs.Coming.{IsNoGuest}
 use Rattle.cx_laws_authorize.proofs.DaemonRows.{DaemonHas, LinksHave, daemon_links-grow}
 use Rattle.cx_laws_authorize.proofs.DaemonStep.{daemon-after}
 use Rattle.cx_laws_authorize.proofs.Telling.{IsBackedLink}
-use Rattle.cx_laws_keys.proofs.Steps.{inv-saved, within-itself}
+use Rattle.cx_laws_authorize.specs.cx_laws_keys.proofs.Steps.{inv-saved, within-itself}
 use Rattle.std.proofs.lemmas.List.Elements.{Contains-append_cases}
 use Rattle.cx_base.specs.declared.kinds.EntityType.{EntityType}
 use Rattle.cx_rotate.specs.declared.generations.Generation.{Generation}

@@ -2,7 +2,7 @@
 use Rattle.std.proofs.Common.{◌≡◌, ◌⊎◌, ℕ, Bool, true, false, List, [], ◌∷◌, map, find, cond, Option, Some, None, inl, inr, refl, sym, ap, ◌∙◌, subst, eqb-true}
 use Rattle.std.specs.Prelude.{◌&&◌, if◌then◌else◌}
 use Rattle.std.specs.List.{AllByRecursion}
-use Rattle.cx_authorize.specs.Daemon.{Authority}
+use Rattle.cx_laws_authorize.specs.cx_authorize.specs.Daemon.{Authority}
 use Rattle.cx_base.proofs.Names.{same_name_is}
 use Rattle.cx_base.specs.Names.{Name, is_daemon_type}
 use Rattle.cx_base.specs.declared.nodes.NodeName.{NodeName}
@@ -22,8 +22,8 @@ use Rattle.cx_laws_authorize.specs.cx_run.specs.Wires.{same_node}
 use Rattle.cx_laws_authorize.proofs.Opening.{HasNoneAt, opens-bare}
 use Rattle.cx_laws_authorize.proofs.Steps.{all-authorize}
 use Rattle.cx_laws_authorize.specs.Admission.{GetsAuthority, HadAuthority, LinkAuthorized, StageHas, StepAuthorizes}
-use Rattle.cx_laws_keys.proofs.Lists.{all-map, found_all, found_passes, some-of}
-use Rattle.cx_laws_keys.proofs.Viewing.{other-way}
+use Rattle.cx_laws_authorize.specs.cx_laws_keys.proofs.Lists.{all-map, found_all, found_passes, some-of}
+use Rattle.cx_laws_authorize.specs.cx_laws_keys.proofs.Viewing.{other-way}
 use Rattle.cx_laws_run.proofs.Looks.{same-entities}
 use Rattle.cx_laws_run.specs.Origins.{GuestSince, is_guest_opened, opens_guest_at}
 

@@ -18,22 +18,22 @@ use Rattle.cx_journal.specs.declared.entries.Issued.{Issued}
 use Rattle.cx_journal.specs.declared.premises.KeyKind.TheVariants as kind
 use Rattle.cx_keyring.specs.Entries.{is_named}
 use Rattle.cx_keyring.specs.declared.entries.Entry.{Entry as Principal}
-use Rattle.cx_keyserver.specs.Issuing.{caps_for, current_at}
-use Rattle.cx_keyserver.specs.Servers.{generations_of}
+use Rattle.cx_laws_authorize.specs.cx_keyserver.specs.Issuing.{caps_for, current_at}
+use Rattle.cx_laws_authorize.specs.cx_keyserver.specs.Servers.{generations_of}
 use Rattle.cx_line_words.specs.Named.{is_name}
 use Rattle.cx_line_words.specs.Values.{is_life}
-use Rattle.cx_login.specs.Unlocking.{unlocked}
+use Rattle.cx_laws_authorize.specs.cx_login.specs.Unlocking.{unlocked}
 use Rattle.cx_rotate.specs.declared.generations.Generation.{Generation}
 use Rattle.cx_rotate.specs.declared.states.KeptState.{KeptState}
 use Rattle.cx_laws_authorize.specs.cx_run.specs.Happenings.{Happening, Nodes, steps}
 use Rattle.cx_laws_authorize.specs.cx_run.specs.Opening.{Declared, Setup, principal_of}
 use Rattle.cx_laws_authorize.specs.cx_run.specs.Points.{EachPoint, Point, nodes_past, points_onto}
-use Rattle.cx_sealed.specs.Records.{service_ticket_layout}
+use Rattle.cx_laws_authorize.specs.cx_sealed.specs.Records.{service_ticket_layout}
 use Rattle.cx_steps.specs.Onto.{SomeOf}
 use Rattle.cx_laws_authorize.proofs.Backing.{IsGood}
 use Rattle.cx_laws_chain.specs.Chain.{Added, BecomesLost, BecomesSaved, Chain, Fate, HasChain, IsAddedAt, IsChained, IsMadeUnder, IsOne, IsUnderCurrent, StaysInMemory, chain_behind, life_in, ring_in, said_by, saved_past, three_newest}
-use Rattle.cx_laws_keys.proofs.Lists.{all-append, found_all, found_passes}
-use Rattle.cx_laws_keys.proofs.Uses.{IsSavedIn, WholeRun}
+use Rattle.cx_laws_authorize.specs.cx_laws_keys.proofs.Lists.{all-append, found_all, found_passes}
+use Rattle.cx_laws_authorize.specs.cx_laws_keys.proofs.Uses.{IsSavedIn, WholeRun}
 use Rattle.cx_laws_authorize.specs.cx_laws_login.proofs.Generations.{length-part, tagged}
 use Rattle.cx_laws_authorize.specs.cx_laws_login.proofs.Issuing.{length-session}
 use Rattle.cx_laws_run.proofs.Whole.{saved_in}

@@ -3,7 +3,7 @@ use Rattle.std.proofs.Common.{◌≡◌, ◌<◌, Bool, true, false, List, [], �
 use Rattle.std.specs.List.{AllByRecursion}
 use Rattle.cx_base.specs.declared.kinds.EntityType.{EntityType}
 use Rattle.cx_journal.specs.Behind.{EachBehind}
-use Rattle.cx_keyserver.specs.Servers.{generations_of}
+use Rattle.cx_laws_authorize.specs.cx_keyserver.specs.Servers.{generations_of}
 use Rattle.cx_rotate.specs.declared.generations.Generation.{Generation}
 use Rattle.cx_rotate.specs.declared.states.KeptState.{KeptState}
 use Rattle.cx_laws_authorize.specs.cx_run.specs.Happenings.{Happening, Nodes, steps}
@@ -13,9 +13,9 @@ use Rattle.cx_laws_authorize.specs.cx_run.specs.Visits.{AreUntold, AreUnvisited}
 use Rattle.cx_steps.specs.Premises.{IsFresh, IsSound}
 use Rattle.cx_laws_chain.proofs.One.{all-kept}
 use Rattle.cx_laws_chain.specs.Chain.{KeepsGenerations}
-use Rattle.cx_laws_keys.proofs.Journal.{EntryLaw}
-use Rattle.cx_laws_keys.proofs.Lists.{all-map, some-left, some-right}
-use Rattle.cx_laws_keys.proofs.Uses.{IsSavedIn, WholeRun}
+use Rattle.cx_laws_authorize.specs.cx_laws_keys.proofs.Journal.{EntryLaw}
+use Rattle.cx_laws_authorize.specs.cx_laws_keys.proofs.Lists.{all-map, some-left, some-right}
+use Rattle.cx_laws_authorize.specs.cx_laws_keys.proofs.Uses.{IsSavedIn, WholeRun}
 use Rattle.cx_laws_authorize.specs.cx_laws_login.proofs.Generations.{AreRecorded, all-tagged, tagged}
 use Rattle.cx_laws_run.proofs.Events.{AllOccur}
 use Rattle.cx_laws_run.proofs.Good.{IsDraw, IsKnown, each-happening, good-point}

@@ -14,9 +14,9 @@ use Rattle.cx_journal.specs.PrefixOfSent.{IsPrefixOfSent, all_handled_under, han
 use Rattle.cx_journal.specs.Truthful.{IsTruthfulBy}
 use Rattle.cx_journal.specs.declared.entries.Entry.{Entry}
 use Rattle.cx_journal.specs.declared.entries.Entry.TheVariants as journal
-use Rattle.cx_laws_keys.proofs.Journal.{EntryLaw, IsLoginEntry, entered, login-told}
-use Rattle.cx_laws_keys.proofs.Uses.{WholeRun}
-use Rattle.cx_laws_keys.specs.KeepsExpiry.{KeepsExpiryBy}
+use Rattle.cx_laws_authorize.specs.cx_laws_keys.proofs.Journal.{EntryLaw, IsLoginEntry, entered, login-told}
+use Rattle.cx_laws_authorize.specs.cx_laws_keys.proofs.Uses.{WholeRun}
+use Rattle.cx_laws_authorize.specs.cx_laws_keys.specs.KeepsExpiry.{KeepsExpiryBy}
 use Rattle.cx_laws_run.specs.Laws.{KeepsLaws, KeepsTickets}
 
 behind-map : (P Q : List Entry → Entry → Type 0) → ((earlier : List Entry) (e : Entry) → P earlier e → Q earlier e) → (J es : List Entry) → EachBehind P J es → EachBehind Q J es

@@ -19,10 +19,10 @@ use Rattle.cx_steps.specs.declared.seals.Logged.{Logged}
 use Rattle.cx_steps.specs.declared.seals.SealEntry.{SealEntry}
 use Rattle.cx_steps.specs.declared.seals.SealEntry.TheVariants as seal
 use Rattle.cx_steps.specs.declared.seals.SealMark.{SealMark}
-use Rattle.cx_laws_keys.proofs.Journal.{entered}
-use Rattle.cx_laws_keys.proofs.Known.{Inv, IsOfConnector, login-connected, sealed_own, signed_own}
-use Rattle.cx_laws_keys.proofs.Premises.{AreGranted, IsGranted, behind, granted-step, logged}
-use Rattle.cx_laws_keys.proofs.Uses.{Connected, IsConnected, Means, Secret, Uses, WholeRun}
+use Rattle.cx_laws_authorize.specs.cx_laws_keys.proofs.Journal.{entered}
+use Rattle.cx_laws_authorize.specs.cx_laws_keys.proofs.Known.{Inv, IsOfConnector, login-connected, sealed_own, signed_own}
+use Rattle.cx_laws_authorize.specs.cx_laws_keys.proofs.Premises.{AreGranted, IsGranted, behind, granted-step, logged}
+use Rattle.cx_laws_authorize.specs.cx_laws_keys.proofs.Uses.{Connected, IsConnected, Means, Secret, Uses, WholeRun}
 use Rattle.cx_laws_authorize.specs.cx_laws_login.proofs.Facts.{BearerOk, OfferOk, StageOk}
 use Rattle.cx_laws_authorize.specs.cx_laws_login.proofs.Hearing.{HearsPart, heard-begins, part_heard}
 use Rattle.cx_laws_authorize.specs.cx_laws_login.proofs.MonitorRows.{monitor_says}

@@ -24,10 +24,10 @@ use Rattle.cx_laws_authorize.proofs.Viewing.{daemon-shows}
 use Rattle.cx_laws_authorize.specs.cx_run.specs.Visits.{AreUntold, IsNoLook}
 use Rattle.cx_laws_chain.proofs.Rows.{IsOfMonitor}
 use Rattle.cx_laws_chain.proofs.Steps.{event-enters}
-use Rattle.cx_laws_keys.proofs.Journal.{entered}
-use Rattle.cx_laws_keys.proofs.Lists.{all-map, found_all, found_passes, map-append}
-use Rattle.cx_laws_keys.proofs.Viewing.{ShowsAlong, ShowsNone, all-none-look, none-shown, shows-elsewhere, shows-last, shows-looks, viewed-append}
-use Rattle.cx_laws_keys.specs.LooksLast.{LooksLast, LooksLastBy, nothing_viewed, view_behind, viewed_all}
+use Rattle.cx_laws_authorize.specs.cx_laws_keys.proofs.Journal.{entered}
+use Rattle.cx_laws_authorize.specs.cx_laws_keys.proofs.Lists.{all-map, found_all, found_passes, map-append}
+use Rattle.cx_laws_authorize.specs.cx_laws_keys.proofs.Viewing.{ShowsAlong, ShowsNone, all-none-look, none-shown, shows-elsewhere, shows-last, shows-looks, viewed-append}
+use Rattle.cx_laws_authorize.specs.cx_laws_keys.specs.LooksLast.{LooksLast, LooksLastBy, nothing_viewed, view_behind, viewed_all}
 use Rattle.cx_laws_chain.specs.cx_laws_calling.proofs.Entering.{whole-enters}
 use Rattle.cx_laws_run.proofs.Events.{entered-append, entries-by}
 use Rattle.cx_laws_run.proofs.Journals.{behind-append}

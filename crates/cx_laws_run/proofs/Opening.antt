@@ -19,19 +19,19 @@ use Rattle.cx_steps.specs.Onto.{EachOnto}
 use Rattle.cx_steps.specs.Premises.{IsFresh, IsSound}
 use Rattle.cx_steps.specs.declared.seals.DrawMark.TheVariants as draw
 use Rattle.cx_steps.specs.declared.seals.Logged.{Logged}
-use Rattle.cx_laws_keys.proofs.Journal.{EntryLaw, entered, has-before}
-use Rattle.cx_laws_keys.proofs.Known.{Inv}
-use Rattle.cx_laws_keys.proofs.Lists.{map-append}
-use Rattle.cx_laws_keys.proofs.Premises.{IsGranted, all-granted}
-use Rattle.cx_laws_keys.proofs.Steps.{inv-drawn}
-use Rattle.cx_laws_keys.proofs.Uses.{Grows, Means, Secret, Uses, grows-one, grows-then, no_uses, stays, with_key, WholeRun}
+use Rattle.cx_laws_authorize.specs.cx_laws_keys.proofs.Journal.{EntryLaw, entered, has-before}
+use Rattle.cx_laws_authorize.specs.cx_laws_keys.proofs.Known.{Inv}
+use Rattle.cx_laws_authorize.specs.cx_laws_keys.proofs.Lists.{map-append}
+use Rattle.cx_laws_authorize.specs.cx_laws_keys.proofs.Premises.{IsGranted, all-granted}
+use Rattle.cx_laws_authorize.specs.cx_laws_keys.proofs.Steps.{inv-drawn}
+use Rattle.cx_laws_authorize.specs.cx_laws_keys.proofs.Uses.{Grows, Means, Secret, Uses, grows-one, grows-then, no_uses, stays, with_key, WholeRun}
 use Rattle.cx_laws_authorize.specs.cx_laws_login.proofs.Facts.{AreSecrets, none-fetched}
 use Rattle.cx_laws_authorize.specs.cx_laws_login.proofs.Generations.{IsGenerated, AreWritable, none-writable}
 use Rattle.cx_laws_authorize.specs.cx_laws_login.proofs.Rows.{IsQuietEntry, quiet-entries}
 use Rattle.cx_laws_run.proofs.Events.{NodesOk, events-law, AllOccur, EntityOk, EntitiesOk}
 use Rattle.cx_laws_run.proofs.Journals.{behind-append}
 use Rattle.cx_laws_authorize.specs.cx_run.specs.Points.{journal_since, log_since, onto}
-use Rattle.cx_keyserver.specs.Servers.{generations_of}
+use Rattle.cx_laws_authorize.specs.cx_keyserver.specs.Servers.{generations_of}
 use Rattle.std.proofs.lemmas.List.Elements.{Contains-append_cases, Contains-push_cases}
 
 -- ---- the entities' secrets

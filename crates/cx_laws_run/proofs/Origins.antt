@@ -3,7 +3,7 @@ use Rattle.std.proofs.Common.{◌≡◌, ◌<◌, ◌∙◌, ℕ, true, List, []
 use Rattle.std.specs.Prelude.{Contains, ◌==◌}
 use Rattle.std.specs.List.{AllByRecursion}
 use Rattle.std.proofs.lemmas.List.Elements.{All-contains, All-from_recursion}
-use Rattle.cx_authorize.specs.Daemon.{Authority}
+use Rattle.cx_laws_authorize.specs.cx_authorize.specs.Daemon.{Authority}
 use Rattle.cx_base.proofs.Names.{same_name_is}
 use Rattle.cx_base.specs.Names.{Name}
 use Rattle.cx_base.specs.declared.kinds.EntityType.TheVariants.{Client}
@@ -37,10 +37,10 @@ use Rattle.cx_laws_authorize.proofs.Steps.{all-authorize}
 use Rattle.cx_laws_authorize.specs.Admission.{EntryTold, IsOwned, StageHas}
 use Rattle.cx_laws_chain.proofs.Rows.{IsOfMonitor}
 use Rattle.cx_laws_chain.proofs.Steps.{event-enters}
-use Rattle.cx_laws_keys.proofs.Known.{Inv}
-use Rattle.cx_laws_keys.proofs.Lists.{found_all, found_passes}
-use Rattle.cx_laws_keys.proofs.Premises.{AreGranted}
-use Rattle.cx_laws_keys.proofs.Uses.{Uses, WholeRun}
+use Rattle.cx_laws_authorize.specs.cx_laws_keys.proofs.Known.{Inv}
+use Rattle.cx_laws_authorize.specs.cx_laws_keys.proofs.Lists.{found_all, found_passes}
+use Rattle.cx_laws_authorize.specs.cx_laws_keys.proofs.Premises.{AreGranted}
+use Rattle.cx_laws_authorize.specs.cx_laws_keys.proofs.Uses.{Uses, WholeRun}
 use Rattle.cx_laws_authorize.specs.cx_laws_login.proofs.Hearing.{HearsPart, part_heard}
 use Rattle.cx_laws_chain.specs.cx_laws_calling.proofs.Entering.{IsOfClient, whole-enters}
 use Rattle.cx_laws_run.proofs.Asked.{all-asked}

@@ -12,11 +12,11 @@ use Rattle.cx_steps.specs.declared.seals.Logged.{Logged}
 use Rattle.cx_steps.specs.declared.seals.SealEntry.{SealEntry}
 use Rattle.cx_steps.specs.declared.seals.SealEntry.TheVariants as entry
 use Rattle.cx_steps.specs.declared.seals.SealMark.{SealMark}
-use Rattle.cx_laws_keys.proofs.Known.{Inv, IsAllowed, allowed-grows}
-use Rattle.cx_laws_keys.proofs.Lists.{all-map}
-use Rattle.cx_laws_keys.proofs.Premises.{AreGranted, IsGranted, behind, logged}
-use Rattle.cx_laws_keys.proofs.Steps.{within-itself}
-use Rattle.cx_laws_keys.proofs.Uses.{DrawnAs, Grows, Uses, whose, WholeRun}
+use Rattle.cx_laws_authorize.specs.cx_laws_keys.proofs.Known.{Inv, IsAllowed, allowed-grows}
+use Rattle.cx_laws_authorize.specs.cx_laws_keys.proofs.Lists.{all-map}
+use Rattle.cx_laws_authorize.specs.cx_laws_keys.proofs.Premises.{AreGranted, IsGranted, behind, logged}
+use Rattle.cx_laws_authorize.specs.cx_laws_keys.proofs.Steps.{within-itself}
+use Rattle.cx_laws_authorize.specs.cx_laws_keys.proofs.Uses.{DrawnAs, Grows, Uses, whose, WholeRun}
 use Rattle.cx_base.specs.declared.kinds.EntityType.{EntityType}
 use Rattle.cx_rotate.specs.declared.generations.Generation.{Generation}
 

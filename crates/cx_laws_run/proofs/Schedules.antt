@@ -2,7 +2,7 @@
 use Rattle.std.proofs.Common.{ℕ, List, []}
 use Rattle.std.specs.Prelude.{refl}
 use Rattle.cx_desk.specs.Handlers.{Handlers}
-use Rattle.cx_lines.specs.declared.lines.Numbered.{Numbered}
+use Rattle.cx_schedule.specs.cx_lines.specs.declared.lines.Numbered.{Numbered}
 use Rattle.cx_laws_authorize.specs.cx_run.specs.Opening.{opening_world}
 use Rattle.cx_laws_authorize.specs.cx_run.specs.Runs.{setup_of, trace}
 use Rattle.cx_laws_authorize.specs.cx_run.proofs.Untold.{untold}

@@ -3,8 +3,8 @@ use Rattle.std.proofs.Common.{◌≡◌, ℕ, ◌+◌, true, List, [], ◌∷◌
 use Rattle.std.specs.List.{list_all}
 use Rattle.std.proofs.lemmas.List.Folds.{list_all-append}
 use Rattle.cx_desk.specs.Handlers.{Handlers}
-use Rattle.cx_lines.specs.Knowing.{known_of}
-use Rattle.cx_lines.specs.declared.lines.Numbered.{Numbered}
+use Rattle.cx_schedule.specs.cx_lines.specs.Knowing.{known_of}
+use Rattle.cx_schedule.specs.cx_lines.specs.declared.lines.Numbered.{Numbered}
 use Rattle.cx_laws_authorize.specs.cx_run.specs.Runs.{trace}
 use Rattle.cx_laws_authorize.specs.cx_run.specs.Sending.{AreWritten, is_numbered_written}
 use Rattle.cx_laws_authorize.specs.cx_run.proofs.Written.{line-written, written}

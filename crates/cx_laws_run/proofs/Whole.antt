@@ -5,7 +5,7 @@ use Rattle.cx_rotate.specs.declared.generations.Generation.{Generation}
 use Rattle.cx_laws_authorize.specs.cx_run.specs.Happenings.{Happening}
 use Rattle.cx_laws_authorize.specs.cx_run.specs.Opening.{Setup, leaked_of}
 use Rattle.cx_laws_authorize.specs.cx_run.specs.Points.{Point, nodes_past, points}
-use Rattle.cx_laws_keys.proofs.Uses.{WholeRun}
+use Rattle.cx_laws_authorize.specs.cx_laws_keys.proofs.Uses.{WholeRun}
 use Rattle.cx_laws_authorize.specs.cx_laws_login.proofs.Generations.{tagged}
 
 -- the generations that are saved behind these points

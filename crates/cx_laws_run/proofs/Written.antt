@@ -16,16 +16,16 @@ use Rattle.cx_enc.specs.Values.{key_form, kind_form, name_form, number_of, readi
 use Rattle.cx_enc.specs.Whole.{Spells}
 use Rattle.cx_journal.specs.declared.entries.Issued.{Issued}
 use Rattle.cx_journal.specs.declared.premises.KeyKind.TheVariants as kind
-use Rattle.cx_login.specs.Unlocking.{unlocked, unlocked_as}
+use Rattle.cx_laws_authorize.specs.cx_login.specs.Unlocking.{unlocked, unlocked_as}
 use Rattle.cx_rotate.specs.declared.generations.Generation.{Generation}
-use Rattle.cx_sealed.proofs.Found.{unsealed_only}
-use Rattle.cx_sealed.specs.Lengths.{service_ticket_short}
-use Rattle.cx_sealed.specs.Records.{service_ticket_layout}
-use Rattle.cx_sealed.specs.declared.service_ticket.ServiceTicket.{ServiceTicket}
-use Rattle.cx_sealed.specs.declared.unsealed.Unsealed.{Unsealed}
+use Rattle.cx_laws_authorize.specs.cx_sealed.proofs.Found.{unsealed_only}
+use Rattle.cx_laws_authorize.specs.cx_sealed.specs.Lengths.{service_ticket_short}
+use Rattle.cx_laws_authorize.specs.cx_sealed.specs.Records.{service_ticket_layout}
+use Rattle.cx_laws_authorize.specs.cx_sealed.specs.declared.service_ticket.ServiceTicket.{ServiceTicket}
+use Rattle.cx_laws_authorize.specs.cx_sealed.specs.declared.unsealed.Unsealed.{Unsealed}
 use Rattle.cx_laws_chain.specs.Chain.{IsSealedUnder, said_by}
-use Rattle.cx_laws_keys.proofs.Lists.{all-append}
-use Rattle.cx_laws_keys.proofs.Reading.{secret_fits}
+use Rattle.cx_laws_authorize.specs.cx_laws_keys.proofs.Lists.{all-append}
+use Rattle.cx_laws_authorize.specs.cx_laws_keys.proofs.Reading.{secret_fits}
 use Rattle.cx_laws_run.specs.Laws.{AreBytes}
 
 -- ---- bytes

@@ -17,8 +17,8 @@ use Rattle.cx_line_words.specs.Values.{is_life}
 use Rattle.cx_laws_authorize.specs.cx_run.specs.Happenings.{Happening}
 use Rattle.cx_laws_authorize.specs.cx_run.specs.Opening.{Declared, Leak, Setup}
 use Rattle.cx_laws_authorize.specs.cx_run.specs.Visits.{AreUntold}
-pub use Rattle.cx_laws_keys.specs.KeepsExpiry.{KeepsExpiry}
-pub use Rattle.cx_laws_keys.specs.LooksLast.{LooksLast}
+pub use Rattle.cx_laws_authorize.specs.cx_laws_keys.specs.KeepsExpiry.{KeepsExpiry}
+pub use Rattle.cx_laws_authorize.specs.cx_laws_keys.specs.LooksLast.{LooksLast}
 
 -- only clients leak
 abbrev pub AreClients : Setup → Type 0

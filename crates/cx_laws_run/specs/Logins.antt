@@ -7,7 +7,7 @@ use Rattle.cx_base.specs.declared.nodes.NodeName.TheVariants as node
 use Rattle.cx_journal.specs.declared.entries.Entry.TheVariants as entry
 use Rattle.cx_journal.specs.declared.entries.Issued.{Issued}
 use Rattle.cx_journal.specs.declared.premises.KeyKind.TheVariants as kind
-use Rattle.cx_login.specs.Monitor.{Offer}
+use Rattle.cx_laws_authorize.specs.cx_login.specs.Monitor.{Offer}
 use Rattle.cx_laws_authorize.specs.cx_rules.specs.Acceptor.{AwaitsProof, Open}
 use Rattle.cx_laws_authorize.specs.cx_rules.specs.Inputs.{Turn}
 use Rattle.cx_laws_authorize.specs.cx_rules.specs.Judged.{LogsDraw}

@@ -15,25 +15,25 @@ use Rattle.cx_frame.specs.declared.frame.Frame.{Frame}
 use Rattle.cx_journal.specs.declared.faults.BytesFault.{BytesFault}
 use Rattle.cx_journal.specs.declared.faults.LoginFault.TheVariants.{Mode, SignatureWrong}
 use Rattle.cx_journal.specs.declared.outcomes.Reason.TheVariants as reason
-use Rattle.cx_login.specs.declared.client.LoggedIn.{LoggedIn}
+use Rattle.cx_run.specs.cx_login.specs.declared.client.LoggedIn.{LoggedIn}
 use Rattle.cx_dice.specs.Draws.{cookie_of}
-use Rattle.cx_steps.specs.declared.seals.DrawMark.TheVariants as draw
-use Rattle.cx_steps.specs.declared.seals.SealEntry.{SealEntry}
-use Rattle.cx_steps.specs.declared.seals.SealEntry.TheVariants.{Drawn}
-use Rattle.cx_wire.specs.Logins.{login_done_layout}
-use Rattle.cx_wire.specs.declared.logins.LoginDone.{LoginDone}
-use Rattle.cx_wire.specs.declared.logins.ServerChallenge.{ServerChallenge}
-use Rattle.cx_rules.specs.Connector.{AskerArrival, Login, Stage, AwaitsBanner, AwaitsHello, AwaitsChallenge, AwaitsDone, AwaitsSignature, AwaitsIdent, Open, client_ident, holding, identifies, on_bad_method, on_banner, on_challenge, on_denial, on_done, on_hello, on_login_done, on_missing_features, on_opened, on_reply_more, on_signature, proves, signs, turned_at, while_challenged, while_identified, while_proved}
-use Rattle.cx_rules.specs.Holdings.{Asker, held_login}
-use Rattle.cx_rules.specs.Fronts.{banner_next, plain_next, secure_next}
-use Rattle.cx_rules.specs.Payloads.{due, payload, whole}
-use Rattle.cx_rules.specs.Rows.{Arrival, at, goes_on, plain_sent, refuses, secure_sent, with_opened}
-use Rattle.cx_rules.specs.Secured.{SealedFrame, Secured, is_signed, secure_frame, signature_found, under}
-use Rattle.cx_rules.specs.Upkeep.{on_keepalive, on_keepalive_ack}
-use Rattle.cx_rules.specs.Requests.{Requests, asks_rotating, no_requests, on_open, on_reply, on_server_ident, opens_to, sends_request, takes}
-use Rattle.cx_rules.specs.declared.requests.Taken.{Taken}
-use Rattle.cx_rules.specs.declared.requests.Taken.TheVariants as taken
-use Rattle.cx_rules.specs.declared.requests.Want.{Want}
+use Rattle.cx_run.specs.cx_steps.specs.declared.seals.DrawMark.TheVariants as draw
+use Rattle.cx_run.specs.cx_steps.specs.declared.seals.SealEntry.{SealEntry}
+use Rattle.cx_run.specs.cx_steps.specs.declared.seals.SealEntry.TheVariants.{Drawn}
+use Rattle.cx_run.specs.cx_wire.specs.Logins.{login_done_layout}
+use Rattle.cx_run.specs.cx_wire.specs.declared.logins.LoginDone.{LoginDone}
+use Rattle.cx_run.specs.cx_wire.specs.declared.logins.ServerChallenge.{ServerChallenge}
+use Rattle.cx_run.specs.cx_rules.specs.Connector.{AskerArrival, Login, Stage, AwaitsBanner, AwaitsHello, AwaitsChallenge, AwaitsDone, AwaitsSignature, AwaitsIdent, Open, client_ident, holding, identifies, on_bad_method, on_banner, on_challenge, on_denial, on_done, on_hello, on_login_done, on_missing_features, on_opened, on_reply_more, on_signature, proves, signs, turned_at, while_challenged, while_identified, while_proved}
+use Rattle.cx_run.specs.cx_rules.specs.Holdings.{Asker, held_login}
+use Rattle.cx_run.specs.cx_rules.specs.Fronts.{banner_next, plain_next, secure_next}
+use Rattle.cx_run.specs.cx_rules.specs.Payloads.{due, payload, whole}
+use Rattle.cx_run.specs.cx_rules.specs.Rows.{Arrival, at, goes_on, plain_sent, refuses, secure_sent, with_opened}
+use Rattle.cx_run.specs.cx_rules.specs.Secured.{SealedFrame, Secured, is_signed, secure_frame, signature_found, under}
+use Rattle.cx_run.specs.cx_rules.specs.Upkeep.{on_keepalive, on_keepalive_ack}
+use Rattle.cx_run.specs.cx_rules.specs.Requests.{Requests, asks_rotating, no_requests, on_open, on_reply, on_server_ident, opens_to, sends_request, takes}
+use Rattle.cx_run.specs.cx_rules.specs.declared.requests.Taken.{Taken}
+use Rattle.cx_run.specs.cx_rules.specs.declared.requests.Taken.TheVariants as taken
+use Rattle.cx_run.specs.cx_rules.specs.declared.requests.Want.{Want}
 use Rattle.cx_base.specs.Names.{is_daemon_type}
 use Rattle.cx_journal.specs.declared.outcomes.Reason.{Reason}
 use Rattle.cx_control.specs.Upkeep.{keepalive2_layout, keepalive2_ack_layout}

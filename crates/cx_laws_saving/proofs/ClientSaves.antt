@@ -3,22 +3,22 @@ use Rattle.std.proofs.Common.{◌≡◌, ℕ, List, [], Some, None, Result, Ok, 
 use Rattle.cx_base.specs.Names.{Name}
 use Rattle.cx_base.specs.declared.operations.Operation.{Operation}
 use Rattle.cx_journal.specs.declared.faults.BytesFault.{BytesFault}
-use Rattle.cx_rules.specs.Connector as connector
-use Rattle.cx_rules.specs.Holdings.{Asker}
-use Rattle.cx_rules.specs.Inputs.{Input}
-use Rattle.cx_rules.specs.Links.{Link}
-use Rattle.cx_rules.specs.Requests.{sealed_request}
-use Rattle.cx_rules.specs.Rows.{Outcome, Turned, Waits, Refuses, Handles, arrival, secure_sent, turns}
-use Rattle.cx_rules.specs.Secured.{SealedFrame, Secured, secure_frame}
-use Rattle.cx_rules.specs.declared.requests.Want.TheVariants.{Tickets}
-use Rattle.cx_rules_session.specs.ClientRule.{ClientStage, ToMonitor, ToDaemon, WholeClientNode, caller_to, having_session, me, open_to_ask, whole_client_rule, with_asker, with_caller}
-use Rattle.cx_rules_session.specs.Kinds.{arrival_in, turn_of_kind}
-use Rattle.cx_rules_session.specs.Presenter as call
-use Rattle.cx_rules_session.specs.Presenter.{CallStage, Caller, callee_of}
-use Rattle.cx_rules_session.specs.Sessions.{Callee, HeldSession, operation_message}
+use Rattle.cx_run.specs.cx_rules.specs.Connector as connector
+use Rattle.cx_run.specs.cx_rules.specs.Holdings.{Asker}
+use Rattle.cx_run.specs.cx_rules.specs.Inputs.{Input}
+use Rattle.cx_run.specs.cx_rules.specs.Links.{Link}
+use Rattle.cx_run.specs.cx_rules.specs.Requests.{sealed_request}
+use Rattle.cx_run.specs.cx_rules.specs.Rows.{Outcome, Turned, Waits, Refuses, Handles, arrival, secure_sent, turns}
+use Rattle.cx_run.specs.cx_rules.specs.Secured.{SealedFrame, Secured, secure_frame}
+use Rattle.cx_run.specs.cx_rules.specs.declared.requests.Want.TheVariants.{Tickets}
+use Rattle.cx_run.specs.cx_rules_session.specs.ClientRule.{ClientStage, ToMonitor, ToDaemon, WholeClientNode, caller_to, having_session, me, open_to_ask, whole_client_rule, with_asker, with_caller}
+use Rattle.cx_run.specs.cx_rules_session.specs.Kinds.{arrival_in, turn_of_kind}
+use Rattle.cx_run.specs.cx_rules_session.specs.Presenter as call
+use Rattle.cx_run.specs.cx_rules_session.specs.Presenter.{CallStage, Caller, callee_of}
+use Rattle.cx_run.specs.cx_rules_session.specs.Sessions.{Callee, HeldSession, operation_message}
 use Rattle.cx_run.proofs.Taking.{EachRow}
 use Rattle.cx_session.specs.Queue.{pushed}
-use Rattle.cx_wire.specs.declared.bodies.Request.TheVariants as asked
+use Rattle.cx_run.specs.cx_wire.specs.declared.bodies.Request.TheVariants as asked
 use Rattle.cx_run.proofs.CallKeeps.{Leaves, call-takes}
 use Rattle.cx_run.proofs.Outcomes.{EachOutcome, asker_turn, call_turn, on_link, sent_in, step-keeps}
 use Rattle.cx_laws_saving.proofs.AskerSaves.{asker-none, fetch-none}

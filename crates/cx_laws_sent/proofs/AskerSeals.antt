@@ -36,9 +36,9 @@ use Rattle.cx_journal.specs.declared.faults.LoginFault.TheVariants.{Mode, Signat
 use Rattle.cx_journal.specs.declared.outcomes.Reason.TheVariants as reason
 use Rattle.cx_journal.specs.declared.premises.KeyKind.{KeyKind}
 use Rattle.cx_journal.specs.declared.premises.KeyKind.TheVariants as kind
-use Rattle.cx_login.specs.Held.{Held, held_as}
-use Rattle.cx_login.specs.Unlocking.{Unlocked, ◌>>=◌, going_on, login_in, login_of_parts, made, told, told_each, unlocked, unlocked_as}
-use Rattle.cx_login.specs.declared.client.LoggedIn.{LoggedIn}
+use Rattle.cx_laws_queues.specs.cx_login.specs.Held.{Held, held_as}
+use Rattle.cx_laws_queues.specs.cx_login.specs.Unlocking.{Unlocked, ◌>>=◌, going_on, login_in, login_of_parts, made, told, told_each, unlocked, unlocked_as}
+use Rattle.cx_laws_queues.specs.cx_login.specs.declared.client.LoggedIn.{LoggedIn}
 use Rattle.cx_laws_queues.specs.cx_rules.specs.Connector.{AskerArrival, AskerRow, Login as Opening, Stage, AwaitsBanner, AwaitsHello, AwaitsChallenge, AwaitsDone, AwaitsSignature, AwaitsIdent, Open, client_ident, holding, identifies, on_bad_method, on_banner, on_challenge, on_done, on_hello, on_login_done, on_missing_features, on_opened, on_reply_more, on_signature, proves, signs, turned_at, while_challenged, while_identified, while_proved}
 use Rattle.cx_laws_queues.specs.cx_rules.specs.Fronts.{ahead_of, banner_next, banner_read, keys_behind, opened_parts, plain_next, plain_read, sealed_ahead, secure_next, secure_read, taking}
 use Rattle.cx_laws_queues.specs.cx_rules.specs.Holdings.{Asker, held_login}
@@ -56,28 +56,28 @@ use Rattle.cx_laws_queues.specs.cx_rules.specs.declared.requests.Taken.TheVarian
 use Rattle.cx_laws_queues.specs.cx_rules.specs.declared.requests.Waiting.{Waiting}
 use Rattle.cx_laws_queues.specs.cx_rules.specs.declared.requests.Want.{Want}
 use Rattle.cx_laws_queues.specs.cx_rules.specs.declared.requests.Want.TheVariants as want
-use Rattle.cx_sealed.specs.Records.{connection_secret_layout, rotating_reply_layout, ticket_info_layout}
-use Rattle.cx_sealed.specs.Unsealing.{unsealed}
-use Rattle.cx_sealed.specs.declared.rotating_reply.RotatingReply.{RotatingReply}
-use Rattle.cx_sealed.specs.declared.unsealed.Unsealed.{Unsealed}
-use Rattle.cx_secure.specs.Plains.{plains}
-use Rattle.cx_secure.specs.declared.refusals.SecureRefusal.{SecureRefusal}
+use Rattle.cx_laws_queues.specs.cx_sealed.specs.Records.{connection_secret_layout, rotating_reply_layout, ticket_info_layout}
+use Rattle.cx_laws_queues.specs.cx_sealed.specs.Unsealing.{unsealed}
+use Rattle.cx_laws_queues.specs.cx_sealed.specs.declared.rotating_reply.RotatingReply.{RotatingReply}
+use Rattle.cx_laws_queues.specs.cx_sealed.specs.declared.unsealed.Unsealed.{Unsealed}
+use Rattle.cx_laws_answers.specs.cx_secure.specs.Plains.{plains}
+use Rattle.cx_laws_answers.specs.cx_secure.specs.declared.refusals.SecureRefusal.{SecureRefusal}
 use Rattle.cx_steps.specs.declared.seals.DrawMark.TheVariants as draw
 use Rattle.cx_steps.specs.declared.seals.SealEntry.{SealEntry}
 use Rattle.cx_steps.specs.declared.seals.SealEntry.TheVariants as entry
-use Rattle.cx_stream.specs.PlainStreams.{plain_frame_at}
-use Rattle.cx_stream.specs.SecureStreams.{secure_frame_at}
-use Rattle.cx_wire.specs.Bodies.{reply_layout}
-use Rattle.cx_wire.specs.Logins.{login_done_layout}
-use Rattle.cx_wire.specs.declared.bodies.Reply.{Reply}
-use Rattle.cx_wire.specs.declared.bodies.Reply.TheVariants as given
-use Rattle.cx_wire.specs.declared.bodies.Request.{Request}
-use Rattle.cx_wire.specs.declared.bodies.Request.TheVariants as asked
-use Rattle.cx_wire.specs.declared.logins.LoginDone.{LoginDone}
-use Rattle.cx_wire.specs.declared.logins.ServerChallenge.{ServerChallenge}
-use Rattle.cx_wire.specs.declared.tickets.TicketPart.{TicketPart}
-use Rattle.cx_laws_keys.proofs.Lists.{all-append}
-use Rattle.cx_laws_keys.proofs.Uses.{AtDaemon, AtMonitor, Connected, Means, Use, Uses}
+use Rattle.cx_laws_queues.specs.cx_stream.specs.PlainStreams.{plain_frame_at}
+use Rattle.cx_laws_queues.specs.cx_stream.specs.SecureStreams.{secure_frame_at}
+use Rattle.cx_laws_queues.specs.cx_wire.specs.Bodies.{reply_layout}
+use Rattle.cx_laws_queues.specs.cx_wire.specs.Logins.{login_done_layout}
+use Rattle.cx_laws_queues.specs.cx_wire.specs.declared.bodies.Reply.{Reply}
+use Rattle.cx_laws_queues.specs.cx_wire.specs.declared.bodies.Reply.TheVariants as given
+use Rattle.cx_laws_queues.specs.cx_wire.specs.declared.bodies.Request.{Request}
+use Rattle.cx_laws_queues.specs.cx_wire.specs.declared.bodies.Request.TheVariants as asked
+use Rattle.cx_laws_queues.specs.cx_wire.specs.declared.logins.LoginDone.{LoginDone}
+use Rattle.cx_laws_queues.specs.cx_wire.specs.declared.logins.ServerChallenge.{ServerChallenge}
+use Rattle.cx_laws_queues.specs.cx_wire.specs.declared.tickets.TicketPart.{TicketPart}
+use Rattle.cx_laws_run.specs.cx_laws_keys.proofs.Lists.{all-append}
+use Rattle.cx_laws_run.specs.cx_laws_keys.proofs.Uses.{AtDaemon, AtMonitor, Connected, Means, Use, Uses}
 use Rattle.cx_laws_run.specs.cx_laws_login.proofs.Facts.{AskerStageOk, HasMonitorKey}
 use Rattle.cx_laws_answers.specs.cx_laws_series.proofs.Contents.{content_where, contents_by}
 use Rattle.cx_laws_answers.specs.cx_laws_links.proofs.CallTells.{quiet-none}

@@ -18,9 +18,9 @@ use Rattle.cx_laws_queues.specs.cx_rules_session.specs.DaemonRule as daemon
 use Rattle.cx_laws_queues.specs.cx_rules_session.specs.DaemonRule.{AsAcceptor, AsConnector, DaemonNode, Daemon, DaemonStage, asking_open, fetches, fetches_on, is_fetching, ticks}
 use Rattle.cx_laws_queues.specs.cx_rules_session.specs.Kinds.{arrival_in, of_kind, turn_of_kind}
 use Rattle.cx_laws_queues.specs.cx_run.proofs.Outcomes.{asker_turn, renewed}
-use Rattle.cx_wire.specs.declared.bodies.Request.TheVariants as asked
+use Rattle.cx_laws_queues.specs.cx_wire.specs.declared.bodies.Request.TheVariants as asked
 use Rattle.cx_laws_run.specs.cx_laws_chain.specs.cx_laws_calling.proofs.Sessions.{ClientStageOk}
-use Rattle.cx_laws_keys.proofs.Uses.{Means, Use, Uses, WholeRun}
+use Rattle.cx_laws_run.specs.cx_laws_keys.proofs.Uses.{Means, Use, Uses, WholeRun}
 use Rattle.cx_laws_run.specs.cx_laws_login.proofs.Facts.{AskerStageOk, HasMonitorKey}
 use Rattle.cx_laws_answers.specs.cx_laws_series.proofs.Contents.{contents_by}
 use Rattle.cx_laws_answers.specs.cx_laws_links.proofs.CallTells.{quiet-none}

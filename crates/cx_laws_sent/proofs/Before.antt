@@ -4,8 +4,8 @@ use Rattle.std.specs.List.{AllByRecursion}
 use Rattle.cx_base.specs.Names.{Name}
 use Rattle.cx_dice.specs.Draws.{challenge_of, cookie_of}
 use Rattle.cx_journal.specs.declared.entries.Entry.{Entry}
-use Rattle.cx_laws_keys.proofs.Known.{Inv}
-use Rattle.cx_laws_keys.proofs.Uses.{Grows, Means, Use, Uses, WholeRun}
+use Rattle.cx_laws_run.specs.cx_laws_keys.proofs.Known.{Inv}
+use Rattle.cx_laws_run.specs.cx_laws_keys.proofs.Uses.{Grows, Means, Use, Uses, WholeRun}
 use Rattle.cx_laws_run.specs.cx_laws_chain.specs.cx_laws_calling.proofs.Between.{ClientOk}
 use Rattle.cx_laws_queues.proofs.Clients.{ClientQueues}
 use Rattle.cx_laws_queues.specs.cx_rules_session.specs.ClientRule.{WholeClientNode}

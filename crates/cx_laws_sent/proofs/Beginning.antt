@@ -8,9 +8,9 @@ use Rattle.cx_journal.specs.Behind.{EachBehind}
 use Rattle.cx_journal.specs.declared.entries.Admitted.{Admitted}
 use Rattle.cx_journal.specs.declared.entries.Entry.{Entry}
 use Rattle.cx_journal.specs.declared.entries.Entry.TheVariants as journal
-use Rattle.cx_laws_keys.proofs.Journal.{entered}
-use Rattle.cx_laws_keys.proofs.Lists.{map-append}
-use Rattle.cx_laws_keys.proofs.Uses.{Uses, WholeRun}
+use Rattle.cx_laws_run.specs.cx_laws_keys.proofs.Journal.{entered}
+use Rattle.cx_laws_run.specs.cx_laws_keys.proofs.Lists.{map-append}
+use Rattle.cx_laws_run.specs.cx_laws_keys.proofs.Uses.{Uses, WholeRun}
 use Rattle.cx_laws_answers.specs.cx_laws_links.proofs.Known.{AreTold, Told, Unshown}
 use Rattle.cx_laws_answers.specs.cx_laws_links.proofs.Speaking.{cons-cases}
 use Rattle.cx_laws_answers.specs.cx_laws_links.proofs.Spoken.{Idents, is_connectors}

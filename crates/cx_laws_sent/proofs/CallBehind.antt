@@ -7,8 +7,8 @@ use Rattle.std.proofs.lemmas.Slice.Eq.{bytes_eq-Decides}
 use Rattle.std.specs.Prelude.{◌&&◌, Contains}
 use Rattle.std.specs.List.{AllByRecursion, cons_option}
 use Rattle.std.specs.Str.{bytes_eq}
-use Rattle.cx_authorize.specs.Client.{Answered, Presented, reply_in}
-use Rattle.cx_authorize.specs.Verdict.{raised}
+use Rattle.cx_laws_queues.specs.cx_authorize.specs.Client.{Answered, Presented, reply_in}
+use Rattle.cx_laws_queues.specs.cx_authorize.specs.Verdict.{raised}
 use Rattle.cx_base.specs.Names.{Name}
 use Rattle.cx_base.specs.declared.kinds.EntityType.{EntityType}
 use Rattle.cx_base.specs.declared.nodes.NodeName.{NodeName}
@@ -16,9 +16,9 @@ use Rattle.cx_base.specs.declared.operations.Operation.{Operation}
 use Rattle.cx_journal.specs.declared.entries.Admitted.{Admitted}
 use Rattle.cx_journal.specs.declared.entries.Entry.{Entry}
 use Rattle.cx_journal.specs.declared.entries.Entry.TheVariants as journal
-use Rattle.cx_laws_keys.proofs.Known.{HasReply, Inv, Within}
-use Rattle.cx_laws_keys.proofs.Premises.{AreGranted, behind, granted-first}
-use Rattle.cx_laws_keys.proofs.Uses.{AtDaemon, Connected, Grows, Login, Means, Ticketed, Use, Uses, WholeRun}
+use Rattle.cx_laws_run.specs.cx_laws_keys.proofs.Known.{HasReply, Inv, Within}
+use Rattle.cx_laws_run.specs.cx_laws_keys.proofs.Premises.{AreGranted, behind, granted-first}
+use Rattle.cx_laws_run.specs.cx_laws_keys.proofs.Uses.{AtDaemon, Connected, Grows, Login, Means, Ticketed, Use, Uses, WholeRun}
 use Rattle.cx_laws_answers.specs.cx_laws_series.proofs.Contents.{content_where, contents_by}
 use Rattle.cx_laws_queues.specs.cx_rules.specs.Fronts.{keys_behind}
 use Rattle.cx_laws_queues.specs.cx_rules.specs.Links.{Link}
@@ -26,7 +26,7 @@ use Rattle.cx_laws_queues.specs.cx_rules.specs.Secured.{Secured, connector_keys,
 use Rattle.cx_laws_queues.specs.cx_rules_session.specs.Envelopes.{authorize_content, session_sealed}
 use Rattle.cx_laws_queues.specs.cx_rules_session.specs.Presenter.{CallArrival, CallRow, CallStage, AwaitsChallenge, AwaitsDone, AwaitsHello, callee_of}
 use Rattle.cx_laws_queues.specs.cx_rules_session.specs.Sessions.{Called, Callee}
-use Rattle.cx_sealed.specs.declared.authorize_reply.AuthorizeReply.{AuthorizeReply}
+use Rattle.cx_laws_queues.specs.cx_sealed.specs.declared.authorize_reply.AuthorizeReply.{AuthorizeReply}
 use Rattle.cx_steps.specs.Onto.{SomeOf}
 use Rattle.cx_steps.specs.Premises.{RepeatsIn}
 use Rattle.cx_steps.specs.declared.seals.DrawMark.TheVariants as draw

@@ -2,8 +2,8 @@
 -- one that is shut has said nothing.
 use Rattle.std.proofs.Common.{ℕ, ◌==◌, ◌+◌, ◌-◌, ◌<◌, ◌^◌, Bool, true, false, List, [], ◌∷◌, ◌++◌, take, Option, Some, None, Result, Ok, Err}
 use Rattle.std.specs.Prelude.{not, if◌then◌else◌}
-use Rattle.cx_authorize.specs.Client.{Answered, reply_in}
-use Rattle.cx_authorize.specs.Verdict.{raised}
+use Rattle.cx_laws_queues.specs.cx_authorize.specs.Client.{Answered, reply_in}
+use Rattle.cx_laws_queues.specs.cx_authorize.specs.Verdict.{raised}
 use Rattle.cx_control.specs.Auth.{auth_done_layout, auth_signature_layout}
 use Rattle.cx_control.specs.BadMethod.{bad_method_layout}
 use Rattle.cx_control.specs.Idents.{ident_missing_features_layout, server_ident_layout}
@@ -27,7 +27,7 @@ use Rattle.cx_journal.specs.declared.faults.BytesFault.TheVariants.{Unexpected}
 use Rattle.cx_journal.specs.declared.faults.LoginFault.TheVariants.{Mode, NonceWrong, SignatureWrong}
 use Rattle.cx_journal.specs.declared.outcomes.Reason.TheVariants as reason
 use Rattle.cx_journal.specs.declared.premises.KeyKind.TheVariants as kind
-use Rattle.cx_login.specs.Unlocking.{unlocked_as}
+use Rattle.cx_laws_queues.specs.cx_login.specs.Unlocking.{unlocked_as}
 use Rattle.cx_laws_queues.specs.cx_rules.specs.Connector.{client_ident}
 use Rattle.cx_laws_queues.specs.cx_rules.specs.Fronts.{keys_behind, opened_parts, sealed_ahead, taking}
 use Rattle.cx_laws_queues.specs.cx_rules.specs.Links.{Link}
@@ -40,14 +40,14 @@ use Rattle.cx_laws_queues.specs.cx_rules_session.specs.Lossy.{lossy_flags}
 use Rattle.cx_laws_queues.specs.cx_rules_session.specs.Presenter.{CallArrival, CallRow, CallStage, AwaitsSignature, AwaitsIdent, AwaitsReconnect, Open, OperationEnd, acknowledges, counting, end_in, holding_session, identifies, on_ack, on_answer, on_answer_or_ack, on_authorize_reply, on_bad_method, on_done, on_missing_features, on_reconnect_ok, on_reset, on_retry, on_retry_global, on_server_ident, on_signature, on_signed, on_unlocked, reconnects, resets, retries, retries_global, signs, taken_up, takes_up, turned_at, while_answered, while_identified, while_reconnecting}
 use Rattle.cx_laws_queues.specs.cx_rules_session.specs.Sessions.{Callee, HeldSession, acknowledged_up_to, held_gid, session_reconnect, waiting_messages}
 use Rattle.cx_laws_queues.specs.cx_run.proofs.Taking.{EachRow}
-use Rattle.cx_sealed.specs.Records.{authorize_reply_layout}
-use Rattle.cx_sealed.specs.Unsealing.{unsealed_as}
-use Rattle.cx_sealed.specs.declared.authorize_reply.AuthorizeReply.{AuthorizeReply}
+use Rattle.cx_laws_queues.specs.cx_sealed.specs.Records.{authorize_reply_layout}
+use Rattle.cx_laws_queues.specs.cx_sealed.specs.Unsealing.{unsealed_as}
+use Rattle.cx_laws_queues.specs.cx_sealed.specs.declared.authorize_reply.AuthorizeReply.{AuthorizeReply}
 use Rattle.cx_steps.specs.declared.seals.DrawMark.TheVariants as draw
 use Rattle.cx_steps.specs.declared.seals.SealEntry.{SealEntry}
 use Rattle.cx_steps.specs.declared.seals.SealEntry.TheVariants.{Drawn}
-use Rattle.cx_wire.specs.Logins as shown_layout
-use Rattle.cx_wire.specs.declared.authorizers.AuthorizeReply as shown_reply
+use Rattle.cx_laws_queues.specs.cx_wire.specs.Logins as shown_layout
+use Rattle.cx_laws_queues.specs.cx_wire.specs.declared.authorizers.AuthorizeReply as shown_reply
 use Rattle.cx_laws_queues.proofs.Sessions.{HeldIs}
 use Rattle.cx_laws_answers.specs.cx_laws_links.proofs.CallTurn.{quiet-opened, secure-turned}
 use Rattle.cx_laws_answers.specs.cx_laws_links.proofs.CallWords.{AreQuiet, quiet-append}

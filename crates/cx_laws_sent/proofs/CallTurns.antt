@@ -1,7 +1,7 @@
 -- A turn of a client's link to a daemon, in any stage: what its row comes to, and that only what opened is told where it refuses.
 use Rattle.std.proofs.Common.{◌≡◌, ℕ, ◌<◌, ◌^◌, List, [], Option, Some, None, Result, Ok, Err, inl, inr, ◌⊎◌, refl, sym, ◌∙◌, subst}
 use Rattle.std.specs.Prelude.{Contains}
-use Rattle.cx_authorize.specs.Client.{Answered, Presented, reply_in}
+use Rattle.cx_laws_queues.specs.cx_authorize.specs.Client.{Answered, Presented, reply_in}
 use Rattle.cx_base.specs.Names.{Name}
 use Rattle.cx_base.specs.declared.kinds.EntityType.{EntityType}
 use Rattle.cx_base.specs.declared.nodes.NodeName.{NodeName}
@@ -11,10 +11,10 @@ use Rattle.cx_frame.specs.declared.frame.Frame.{Frame}
 use Rattle.cx_journal.specs.declared.entries.Admitted.{Admitted}
 use Rattle.cx_journal.specs.declared.entries.Entry.{Entry}
 use Rattle.cx_journal.specs.declared.entries.Entry.TheVariants as journal
-use Rattle.cx_laws_keys.proofs.Known.{HasReply, Inv, Within}
-use Rattle.cx_laws_keys.proofs.Premises.{AreGranted}
-use Rattle.cx_laws_keys.proofs.Uses.{Grows, Login, Means, Ticketed, Use, Uses, WholeRun}
-use Rattle.cx_login.specs.Held.{Held}
+use Rattle.cx_laws_run.specs.cx_laws_keys.proofs.Known.{HasReply, Inv, Within}
+use Rattle.cx_laws_run.specs.cx_laws_keys.proofs.Premises.{AreGranted}
+use Rattle.cx_laws_run.specs.cx_laws_keys.proofs.Uses.{Grows, Login, Means, Ticketed, Use, Uses, WholeRun}
+use Rattle.cx_laws_queues.specs.cx_login.specs.Held.{Held}
 use Rattle.cx_laws_queues.specs.cx_rules.specs.Fronts.{opened_parts, sealed_ahead, secure_next, secure_read, taking}
 use Rattle.cx_laws_queues.specs.cx_rules.specs.Links.{Link}
 use Rattle.cx_laws_queues.specs.cx_rules.specs.Holdings.{Asker}
@@ -24,11 +24,11 @@ use Rattle.cx_laws_queues.specs.cx_rules.specs.Secured.{Keys, Secured}
 use Rattle.cx_laws_queues.specs.cx_rules_session.specs.Presenter.{Caller, CallArrival, CallRow, CallStage, AwaitsBanner, AwaitsHello, AwaitsChallenge, AwaitsDone, AwaitsSignature, AwaitsIdent, AwaitsReconnect, Open, on_banner, on_hello, presented, presented_by, turned_at, while_answered, while_challenged}
 use Rattle.cx_laws_queues.specs.cx_rules_session.specs.Sessions.{Called, Callee, ticket_for}
 use Rattle.cx_laws_queues.specs.cx_run.proofs.Taking.{EachRow}
-use Rattle.cx_sealed.specs.declared.authorize_reply.AuthorizeReply.{AuthorizeReply}
-use Rattle.cx_secure.specs.declared.refusals.SecureRefusal.{SecureRefusal}
+use Rattle.cx_laws_queues.specs.cx_sealed.specs.declared.authorize_reply.AuthorizeReply.{AuthorizeReply}
+use Rattle.cx_laws_answers.specs.cx_secure.specs.declared.refusals.SecureRefusal.{SecureRefusal}
 use Rattle.cx_steps.specs.declared.seals.Logged.{Logged}
 use Rattle.cx_steps.specs.declared.seals.SealEntry.{SealEntry}
-use Rattle.cx_stream.specs.SecureStreams.{secure_frame_at}
+use Rattle.cx_laws_queues.specs.cx_stream.specs.SecureStreams.{secure_frame_at}
 use Rattle.cx_laws_queues.proofs.Sessions.{HeldIs}
 use Rattle.cx_laws_answers.specs.cx_laws_links.proofs.Authorizing.{ShowsAgain, ShowsFirst, ShutsQuietly, SpeaksFirst, answered-row_at, banner-row, challenged-row, hello-row}
 use Rattle.cx_laws_answers.specs.cx_laws_links.proofs.CallTurn.{IsHeldOn, quiet-opened}

@@ -15,7 +15,7 @@ use Rattle.cx_journal.specs.declared.entries.Entry.{Entry}
 use Rattle.cx_journal.specs.declared.entries.Entry.TheVariants as journal
 use Rattle.cx_journal.specs.declared.outcomes.Reason.{Reason}
 use Rattle.cx_journal.specs.declared.outcomes.Reason.TheVariants as reason
-use Rattle.cx_login.specs.Held.{Held}
+use Rattle.cx_laws_queues.specs.cx_login.specs.Held.{Held}
 use Rattle.cx_laws_queues.specs.cx_rules.specs.Connector as connector
 use Rattle.cx_laws_queues.specs.cx_rules.specs.Greetings.{own_banner}
 use Rattle.cx_laws_queues.specs.cx_rules.specs.Holdings.{Asker}
@@ -39,14 +39,14 @@ use Rattle.cx_steps.specs.declared.events.Command.TheVariants as command
 use Rattle.cx_steps.specs.declared.events.Peer.{Peer}
 use Rattle.cx_steps.specs.declared.events.Peer.TheVariants as peer
 use Rattle.cx_steps.specs.declared.seals.Logged.{Logged}
-use Rattle.cx_wire.specs.declared.bodies.Request.TheVariants as asked
+use Rattle.cx_laws_queues.specs.cx_wire.specs.declared.bodies.Request.TheVariants as asked
 use Rattle.cx_laws_run.specs.cx_laws_chain.specs.cx_laws_calling.proofs.Between.{ClientOk, node_of}
 use Rattle.cx_laws_run.specs.cx_laws_chain.specs.cx_laws_calling.proofs.Entering.{IsOfClient, whole-enters}
-use Rattle.cx_laws_keys.proofs.Journal.{entered}
-use Rattle.cx_laws_keys.proofs.Known.{Inv}
-use Rattle.cx_laws_keys.proofs.Lists.{all-append, all-map, found_all, found_passes}
-use Rattle.cx_laws_keys.proofs.Premises.{behind}
-use Rattle.cx_laws_keys.proofs.Uses.{Grows, Uses, WholeRun}
+use Rattle.cx_laws_run.specs.cx_laws_keys.proofs.Journal.{entered}
+use Rattle.cx_laws_run.specs.cx_laws_keys.proofs.Known.{Inv}
+use Rattle.cx_laws_run.specs.cx_laws_keys.proofs.Lists.{all-append, all-map, found_all, found_passes}
+use Rattle.cx_laws_run.specs.cx_laws_keys.proofs.Premises.{behind}
+use Rattle.cx_laws_run.specs.cx_laws_keys.proofs.Uses.{Grows, Uses, WholeRun}
 use Rattle.cx_laws_run.specs.cx_laws_login.proofs.Entering.{within-all}
 use Rattle.cx_laws_run.specs.cx_laws_login.proofs.Rows.{all-filter}
 use Rattle.cx_laws_answers.specs.cx_laws_series.proofs.Contents.{contents_by}

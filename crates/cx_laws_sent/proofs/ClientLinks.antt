@@ -11,7 +11,7 @@ use Rattle.cx_laws_queues.specs.cx_rules.specs.Links.{Link, put_link, without_li
 use Rattle.cx_laws_queues.specs.cx_rules_session.specs.ClientRule.{ClientStage, Dial, is_for}
 use Rattle.cx_laws_queues.specs.cx_rules_session.specs.Sessions.{HeldSession, put_session, session_with, with_session, without_session}
 use Rattle.cx_steps.specs.Onto.{SomeOf}
-use Rattle.cx_laws_keys.proofs.Lists.{all-append}
+use Rattle.cx_laws_run.specs.cx_laws_keys.proofs.Lists.{all-append}
 use Rattle.cx_laws_queues.proofs.Sessions.{HeldIs}
 use Rattle.cx_laws_answers.specs.cx_laws_links.proofs.Single.{IsSingle, count-append, count-filter, count_where, one_where, put-more, to_where}
 

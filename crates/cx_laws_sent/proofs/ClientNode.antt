@@ -5,9 +5,9 @@ use Rattle.std.specs.Option.{option_map}
 use Rattle.cx_base.proofs.Names.{same_name_self}
 use Rattle.cx_base.specs.Names.{Name, same_name}
 use Rattle.cx_base.specs.declared.nodes.NodeName.{NodeName}
-use Rattle.cx_laws_keys.proofs.Lists.{all-map}
-use Rattle.cx_laws_keys.proofs.Premises.{behind}
-use Rattle.cx_laws_keys.proofs.Uses.{Grows, Means, Use, Uses}
+use Rattle.cx_laws_run.specs.cx_laws_keys.proofs.Lists.{all-map}
+use Rattle.cx_laws_run.specs.cx_laws_keys.proofs.Premises.{behind}
+use Rattle.cx_laws_run.specs.cx_laws_keys.proofs.Uses.{Grows, Means, Use, Uses}
 use Rattle.cx_laws_answers.specs.cx_laws_series.proofs.Contents.{contents_by}
 use Rattle.cx_laws_queues.specs.cx_rules.specs.Links.{Link, put_link, without_link}
 use Rattle.cx_laws_queues.specs.cx_rules.specs.Rows.{links_behind}

@@ -4,15 +4,15 @@ use Rattle.cx_base.specs.Names.{Name}
 use Rattle.cx_base.specs.declared.nodes.NodeName.TheVariants as node
 use Rattle.cx_base.specs.declared.operations.Operation.{Operation}
 use Rattle.cx_journal.specs.declared.entries.Entry.{Entry}
-use Rattle.cx_laws_keys.proofs.Premises.{AreGranted}
-use Rattle.cx_laws_keys.proofs.Uses.{Uses, WholeRun}
+use Rattle.cx_laws_run.specs.cx_laws_keys.proofs.Premises.{AreGranted}
+use Rattle.cx_laws_run.specs.cx_laws_keys.proofs.Uses.{Uses, WholeRun}
 use Rattle.cx_laws_answers.specs.cx_laws_links.proofs.Known.{Told}
 use Rattle.cx_laws_queues.specs.cx_rules.specs.Inputs.{Input, Submit}
 use Rattle.cx_laws_queues.specs.cx_rules.specs.Rows.{Outcome}
 use Rattle.cx_laws_queues.specs.cx_rules_session.specs.ClientRule.{WholeClientNode, whole_client_rule}
 use Rattle.cx_steps.specs.declared.events.Command.TheVariants as command
 use Rattle.cx_steps.specs.declared.seals.Logged.{Logged}
-use Rattle.cx_wire.specs.Operations.{operation_layout}
+use Rattle.cx_laws_queues.specs.cx_wire.specs.Operations.{operation_layout}
 use Rattle.cx_laws_sent.proofs.Before.{ClientBefore, before-of}
 use Rattle.cx_laws_sent.proofs.ClientEvents.{each-behind, step-behind}
 use Rattle.cx_laws_sent.proofs.Presents.{presents-behind}

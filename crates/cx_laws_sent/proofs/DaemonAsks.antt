@@ -7,11 +7,11 @@ use Rattle.cx_base.specs.declared.nodes.NodeName.TheVariants as node
 use Rattle.cx_desk.specs.Handlers.{Handlers}
 use Rattle.cx_journal.specs.declared.entries.Entry.{Entry}
 use Rattle.cx_laws_run.specs.cx_laws_authorize.proofs.DaemonRows.{DaemonStageOk, LinksHave}
-use Rattle.cx_laws_keys.proofs.Journal.{entered}
-use Rattle.cx_laws_keys.proofs.Known.{Inv}
-use Rattle.cx_laws_keys.proofs.Lists.{all-map}
-use Rattle.cx_laws_keys.proofs.Premises.{AreGranted, behind}
-use Rattle.cx_laws_keys.proofs.Uses.{Grows, Uses, WholeRun}
+use Rattle.cx_laws_run.specs.cx_laws_keys.proofs.Journal.{entered}
+use Rattle.cx_laws_run.specs.cx_laws_keys.proofs.Known.{Inv}
+use Rattle.cx_laws_run.specs.cx_laws_keys.proofs.Lists.{all-map}
+use Rattle.cx_laws_run.specs.cx_laws_keys.proofs.Premises.{AreGranted, behind}
+use Rattle.cx_laws_run.specs.cx_laws_keys.proofs.Uses.{Grows, Uses, WholeRun}
 use Rattle.cx_laws_run.proofs.Events.{DaemonOk}
 use Rattle.cx_laws_queues.specs.cx_rules.specs.Inputs.{Input}
 use Rattle.cx_laws_queues.specs.cx_rules.specs.Links.{Link}

@@ -11,11 +11,11 @@ use Rattle.cx_journal.specs.declared.entries.Entry.{Entry}
 use Rattle.cx_journal.specs.declared.entries.Entry.TheVariants as journal
 use Rattle.cx_journal.specs.declared.entries.Handled.{Handled}
 use Rattle.cx_laws_run.specs.cx_laws_authorize.proofs.DaemonRows.{LinksHave}
-use Rattle.cx_laws_keys.proofs.Journal.{entered}
-use Rattle.cx_laws_keys.proofs.Known.{Inv, Within}
-use Rattle.cx_laws_keys.proofs.Lists.{all-map}
-use Rattle.cx_laws_keys.proofs.Premises.{AreGranted, behind}
-use Rattle.cx_laws_keys.proofs.Uses.{Grows, Means, Use, Uses, WholeRun}
+use Rattle.cx_laws_run.specs.cx_laws_keys.proofs.Journal.{entered}
+use Rattle.cx_laws_run.specs.cx_laws_keys.proofs.Known.{Inv, Within}
+use Rattle.cx_laws_run.specs.cx_laws_keys.proofs.Lists.{all-map}
+use Rattle.cx_laws_run.specs.cx_laws_keys.proofs.Premises.{AreGranted, behind}
+use Rattle.cx_laws_run.specs.cx_laws_keys.proofs.Uses.{Grows, Means, Use, Uses, WholeRun}
 use Rattle.cx_laws_run.specs.cx_laws_login.proofs.Entering.{within-all}
 use Rattle.cx_laws_answers.specs.cx_laws_series.proofs.Contents.{contents-behind, contents_by, contents_in}
 use Rattle.cx_laws_queues.specs.cx_rules.specs.Links.{Link}

@@ -1,7 +1,7 @@
 -- Each step of a daemon keeps what is known.
 use Rattle.cx_laws_sent.proofs.DaemonAsks.{daemon-stays}
 use Rattle.cx_laws_sent.proofs.Steps.{DaemonStep}
-use Rattle.cx_laws_keys.proofs.Uses.{WholeRun}
+use Rattle.cx_laws_run.specs.cx_laws_keys.proofs.Uses.{WholeRun}
 use Rattle.cx_steps.specs.declared.seals.Logged.{Logged}
 use Rattle.std.proofs.Common.{List}
 

@@ -12,15 +12,15 @@ use Rattle.cx_journal.specs.declared.entries.Entry.TheVariants as journal
 use Rattle.cx_journal.specs.declared.outcomes.Reason.{Reason}
 use Rattle.cx_journal.specs.declared.outcomes.Reason.TheVariants as reason
 use Rattle.cx_laws_run.specs.cx_laws_authorize.proofs.DaemonRows.{LinksHave}
-use Rattle.cx_laws_keys.proofs.Journal.{entered}
-use Rattle.cx_laws_keys.proofs.Known.{Inv, Within}
-use Rattle.cx_laws_keys.proofs.Lists.{all-append, all-map, found_all}
-use Rattle.cx_laws_keys.proofs.Premises.{AreGranted, behind}
-use Rattle.cx_laws_keys.proofs.Uses.{AreGenerated, Grows, Uses, WholeRun}
+use Rattle.cx_laws_run.specs.cx_laws_keys.proofs.Journal.{entered}
+use Rattle.cx_laws_run.specs.cx_laws_keys.proofs.Known.{Inv, Within}
+use Rattle.cx_laws_run.specs.cx_laws_keys.proofs.Lists.{all-append, all-map, found_all}
+use Rattle.cx_laws_run.specs.cx_laws_keys.proofs.Premises.{AreGranted, behind}
+use Rattle.cx_laws_run.specs.cx_laws_keys.proofs.Uses.{AreGenerated, Grows, Uses, WholeRun}
 use Rattle.cx_laws_run.proofs.Events.{DaemonOk}
 use Rattle.cx_laws_queues.specs.cx_laws_session.proofs.Daemons.{daemon-comes}
 use Rattle.cx_laws_queues.specs.cx_laws_session.proofs.Moves.{Admitting, Ending, IsQuiet, IsRight, LinksServe, Rested, Resuming, StepComes}
-use Rattle.cx_authorize.specs.Daemon.{Authority}
+use Rattle.cx_laws_queues.specs.cx_authorize.specs.Daemon.{Authority}
 use Rattle.cx_laws_queues.specs.cx_rules.specs.Acceptor.{AwaitsBanner, AwaitsHello, AwaitsRequest, AwaitsProof, AwaitsSignature, AwaitsIdent, Open}
 use Rattle.cx_laws_queues.specs.cx_rules.specs.Connector as connector
 use Rattle.cx_laws_queues.specs.cx_rules.specs.Greetings.{own_banner}
@@ -47,7 +47,7 @@ use Rattle.cx_steps.specs.declared.events.Peer.{Peer}
 use Rattle.cx_steps.specs.declared.events.Peer.TheVariants as peer
 use Rattle.cx_steps.specs.declared.seals.Logged.{Logged}
 use Rattle.cx_steps.specs.declared.seals.SealEntry.{SealEntry}
-use Rattle.cx_wire.specs.declared.bodies.Request.TheVariants as asked
+use Rattle.cx_laws_queues.specs.cx_wire.specs.declared.bodies.Request.TheVariants as asked
 use Rattle.cx_laws_answers.specs.cx_laws_links.proofs.GuestNodes.{HostKnown, LinksKnown}
 use Rattle.cx_laws_answers.specs.cx_laws_links.proofs.GuestWords.{AreSpelled}
 use Rattle.cx_laws_answers.specs.cx_laws_links.proofs.Known.{AreTold, Told}

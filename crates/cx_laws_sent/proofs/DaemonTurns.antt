@@ -4,7 +4,7 @@ use Rattle.std.proofs.lemmas.List.Elements.{Contains-push_cases}
 use Rattle.std.specs.Prelude.{Contains, not}
 use Rattle.std.specs.List.{AllByRecursion}
 use Rattle.std.specs.Option.{option_map}
-use Rattle.cx_authorize.specs.Daemon.{Authority}
+use Rattle.cx_laws_queues.specs.cx_authorize.specs.Daemon.{Authority}
 use Rattle.cx_base.specs.Names.{Name}
 use Rattle.cx_base.specs.declared.nodes.NodeName.{NodeName}
 use Rattle.cx_desk.specs.Handlers.{Handlers}
@@ -16,11 +16,11 @@ use Rattle.cx_laws_run.specs.cx_laws_authorize.proofs.Guests.{AuthorizedRow, Ent
 use Rattle.cx_laws_run.specs.cx_laws_authorize.proofs.Hosting.{AuthorizedHosted, guest-authorized}
 use Rattle.cx_laws_run.specs.cx_laws_authorize.proofs.Keys.{LinkKeys, StageKeys}
 use Rattle.cx_laws_run.specs.cx_laws_authorize.specs.Admission.{IsOwnedIn}
-use Rattle.cx_laws_keys.proofs.Journal.{entered}
-use Rattle.cx_laws_keys.proofs.Known.{Inv, Within}
-use Rattle.cx_laws_keys.proofs.Lists.{all-append, all-map, found_all}
-use Rattle.cx_laws_keys.proofs.Premises.{AreGranted, behind}
-use Rattle.cx_laws_keys.proofs.Uses.{AreGenerated, AtDaemon, Connected, Grows, Uses, WholeRun}
+use Rattle.cx_laws_run.specs.cx_laws_keys.proofs.Journal.{entered}
+use Rattle.cx_laws_run.specs.cx_laws_keys.proofs.Known.{Inv, Within}
+use Rattle.cx_laws_run.specs.cx_laws_keys.proofs.Lists.{all-append, all-map, found_all}
+use Rattle.cx_laws_run.specs.cx_laws_keys.proofs.Premises.{AreGranted, behind}
+use Rattle.cx_laws_run.specs.cx_laws_keys.proofs.Uses.{AreGenerated, AtDaemon, Connected, Grows, Uses, WholeRun}
 use Rattle.cx_laws_queues.specs.cx_laws_session.proofs.Askers.{EntersNone, asker-enters}
 use Rattle.cx_laws_queues.specs.cx_laws_session.proofs.Moves.{IsQuiet}
 use Rattle.cx_laws_run.specs.cx_laws_login.proofs.Proving.{RowOf}

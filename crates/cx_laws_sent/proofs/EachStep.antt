@@ -7,7 +7,7 @@ use Rattle.cx_base.specs.Names.{Name}
 use Rattle.cx_base.specs.declared.operations.Operation.{Operation}
 use Rattle.cx_journal.specs.declared.outcomes.Reason.{Reason}
 use Rattle.cx_journal.specs.declared.outcomes.Reason.TheVariants as reason
-use Rattle.cx_login.specs.Held.{Held}
+use Rattle.cx_laws_queues.specs.cx_login.specs.Held.{Held}
 use Rattle.cx_laws_queues.specs.cx_rules.specs.Connector as connector
 use Rattle.cx_laws_queues.specs.cx_rules.specs.Inputs.{Input, Opened, NoLink, Bytes, Turn, Gone, Look, Tick, Submit, Restart}
 use Rattle.cx_laws_queues.specs.cx_rules.specs.Links.{Link, link_of}

@@ -13,11 +13,11 @@ use Rattle.cx_journal.specs.declared.entries.Entry.{Entry}
 use Rattle.cx_journal.specs.declared.entries.Entry.TheVariants as journal
 use Rattle.cx_laws_run.specs.cx_laws_authorize.proofs.Backing.{AllGood}
 use Rattle.cx_laws_run.specs.cx_laws_chain.specs.cx_laws_calling.proofs.Between.{ClientOk}
-use Rattle.cx_laws_keys.proofs.Journal.{After, entered}
-use Rattle.cx_laws_keys.proofs.Known.{Inv, IsAllowed, Within}
-use Rattle.cx_laws_keys.proofs.Lists.{all-map, found_all, found_passes, map-append}
-use Rattle.cx_laws_keys.proofs.Premises.{AreGranted, IsGranted, behind, granted-step}
-use Rattle.cx_laws_keys.proofs.Uses.{Uses, WholeRun}
+use Rattle.cx_laws_run.specs.cx_laws_keys.proofs.Journal.{After, entered}
+use Rattle.cx_laws_run.specs.cx_laws_keys.proofs.Known.{Inv, IsAllowed, Within}
+use Rattle.cx_laws_run.specs.cx_laws_keys.proofs.Lists.{all-map, found_all, found_passes, map-append}
+use Rattle.cx_laws_run.specs.cx_laws_keys.proofs.Premises.{AreGranted, IsGranted, behind, granted-step}
+use Rattle.cx_laws_run.specs.cx_laws_keys.proofs.Uses.{Uses, WholeRun}
 use Rattle.cx_laws_answers.specs.cx_laws_links.proofs.GuestNodes.{LinksKnown}
 use Rattle.cx_laws_answers.specs.cx_laws_links.proofs.GuestWords.{AreSpelled}
 use Rattle.cx_laws_answers.specs.cx_laws_links.proofs.Known.{AreTold, Told}

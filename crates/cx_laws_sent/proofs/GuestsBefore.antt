@@ -5,11 +5,11 @@ use Rattle.std.proofs.lemmas.Slice.Eq.{bytes_eq-Decides}
 use Rattle.std.specs.Prelude.{◌&&◌, not, if◌then◌else◌}
 use Rattle.std.specs.List.{AllByRecursion, cons_option, list_any}
 use Rattle.std.specs.Str.{bytes_eq}
-use Rattle.cx_authorize.specs.Daemon.{Awaited}
-use Rattle.cx_authorize.specs.Judging.{judged_first, judged_second}
-use Rattle.cx_authorize.specs.Verdict.{raised}
-use Rattle.cx_authorize.specs.declared.refusals.AuthRefusal.{AuthRefusal}
-use Rattle.cx_authorize.specs.declared.refusals.AuthRefusal.TheVariants as refusal
+use Rattle.cx_laws_queues.specs.cx_authorize.specs.Daemon.{Awaited}
+use Rattle.cx_laws_queues.specs.cx_authorize.specs.Judging.{judged_first, judged_second}
+use Rattle.cx_laws_queues.specs.cx_authorize.specs.Verdict.{raised}
+use Rattle.cx_laws_queues.specs.cx_authorize.specs.declared.refusals.AuthRefusal.{AuthRefusal}
+use Rattle.cx_laws_queues.specs.cx_authorize.specs.declared.refusals.AuthRefusal.TheVariants as refusal
 use Rattle.cx_base.specs.Names.{Name}
 use Rattle.cx_base.specs.declared.kinds.EntityType.{EntityType}
 use Rattle.cx_base.specs.declared.kinds.EntityType.TheVariants.{Mon, Mds, Osd, Client, Mgr, Auth}
@@ -32,10 +32,10 @@ use Rattle.cx_journal.specs.declared.faults.LoginFault.TheVariants.{Method, Mode
 use Rattle.cx_laws_run.specs.cx_laws_authorize.proofs.Backing.{opened-issued}
 use Rattle.cx_laws_run.specs.cx_laws_authorize.proofs.Keys.{LinkKeys}
 use Rattle.cx_laws_run.specs.cx_laws_authorize.proofs.Opened.{IsOpening, ShowsTicket, first-all, first-opened, second-all, second-opened}
-use Rattle.cx_laws_keys.proofs.Known.{Inv}
-use Rattle.cx_laws_keys.proofs.Lists.{all-map}
-use Rattle.cx_laws_keys.proofs.Premises.{AreGranted, granted-first}
-use Rattle.cx_laws_keys.proofs.Uses.{AreGenerated, AtDaemon, Connected, Grows, Means, Tie, Use, Uses, WholeRun, session_use, with_key}
+use Rattle.cx_laws_run.specs.cx_laws_keys.proofs.Known.{Inv}
+use Rattle.cx_laws_run.specs.cx_laws_keys.proofs.Lists.{all-map}
+use Rattle.cx_laws_run.specs.cx_laws_keys.proofs.Premises.{AreGranted, granted-first}
+use Rattle.cx_laws_run.specs.cx_laws_keys.proofs.Uses.{AreGenerated, AtDaemon, Connected, Grows, Means, Tie, Use, Uses, WholeRun, session_use, with_key}
 use Rattle.cx_laws_answers.specs.cx_laws_series.proofs.Contents.{content_where, contents_by}
 use Rattle.cx_laws_queues.specs.cx_rules.specs.Acceptor.{AwaitsBanner, AwaitsHello, AwaitsRequest, AwaitsProof, AwaitsSignature, AwaitsIdent, Open, Finished, denies, finished, on_auth_request, on_banner, on_hello}
 use Rattle.cx_laws_queues.specs.cx_rules.specs.Fronts.{ahead_of, banner_read, plain_read, taking}
@@ -52,12 +52,12 @@ use Rattle.cx_laws_queues.specs.cx_rules_session.specs.Guests.{GuestArrival, Gue
 use Rattle.cx_laws_queues.specs.cx_rules_session.specs.Hosting.{Hosted, guest_turned, no_session_moves}
 use Rattle.cx_laws_queues.specs.cx_rules_session.specs.Kinds.{entered_before}
 use Rattle.cx_laws_queues.specs.cx_run.proofs.GuestTakes.{Always}
-use Rattle.cx_sealed.specs.declared.service_ticket.ServiceTicket.{ServiceTicket}
+use Rattle.cx_laws_queues.specs.cx_sealed.specs.declared.service_ticket.ServiceTicket.{ServiceTicket}
 use Rattle.cx_steps.specs.declared.seals.DrawMark.TheVariants as draw
 use Rattle.cx_steps.specs.declared.seals.Logged.{Logged}
 use Rattle.cx_steps.specs.declared.seals.SealEntry.{SealEntry}
 use Rattle.cx_steps.specs.declared.seals.SealEntry.TheVariants as entry
-use Rattle.cx_stream.specs.PlainStreams.{plain_frame_at}
+use Rattle.cx_laws_queues.specs.cx_stream.specs.PlainStreams.{plain_frame_at}
 use Rattle.cx_laws_answers.specs.cx_laws_links.proofs.CallTells.{by-append, quiet-none}
 use Rattle.cx_laws_answers.specs.cx_laws_links.proofs.CallWords.{AreQuiet, IsQuiet, quiet-append}
 use Rattle.cx_laws_answers.specs.cx_laws_links.proofs.GuestBegins.{authorizes-begins, authorizes-quiet}

@@ -8,10 +8,10 @@ use Rattle.cx_base.specs.Names.{Name, same_name}
 use Rattle.cx_base.specs.declared.nodes.NodeName.{NodeName}
 use Rattle.cx_base.specs.declared.nodes.NodeName.TheVariants as node
 use Rattle.cx_journal.specs.declared.entries.Entry.{Entry}
-use Rattle.cx_laws_keys.proofs.Known.{Within}
-use Rattle.cx_laws_keys.proofs.Lists.{all-map}
-use Rattle.cx_laws_keys.proofs.Premises.{behind}
-use Rattle.cx_laws_keys.proofs.Uses.{AtDaemon, Connected, Grows, Means, Use, Uses, WholeRun}
+use Rattle.cx_laws_run.specs.cx_laws_keys.proofs.Known.{Within}
+use Rattle.cx_laws_run.specs.cx_laws_keys.proofs.Lists.{all-map}
+use Rattle.cx_laws_run.specs.cx_laws_keys.proofs.Premises.{behind}
+use Rattle.cx_laws_run.specs.cx_laws_keys.proofs.Uses.{AtDaemon, Connected, Grows, Means, Use, Uses, WholeRun}
 use Rattle.cx_laws_answers.specs.cx_laws_links.proofs.GuestJoins.{JoinsNone, guest-joins}
 use Rattle.cx_laws_answers.specs.cx_laws_links.proofs.GuestNodes.{HostKnown, LinksKnown}
 use Rattle.cx_laws_answers.specs.cx_laws_links.proofs.Since.{since}

@@ -15,7 +15,7 @@ use Rattle.cx_journal.specs.declared.entries.Admitted.{Admitted}
 use Rattle.cx_journal.specs.declared.entries.Entry.{Entry}
 use Rattle.cx_journal.specs.declared.entries.Entry.TheVariants as journal
 use Rattle.cx_journal.specs.declared.entries.Handled.{Handled}
-use Rattle.cx_laws_keys.proofs.Uses.{WholeRun}
+use Rattle.cx_laws_run.specs.cx_laws_keys.proofs.Uses.{WholeRun}
 use Rattle.cx_laws_answers.specs.cx_laws_links.proofs.GuestTakes.{IsServedIn, WasSentAs}
 use Rattle.cx_laws_queues.proofs.Cookies.{cookies-numbered}
 use Rattle.cx_laws_queues.proofs.Runs.{all-handled-in-order}
@@ -28,7 +28,7 @@ use Rattle.cx_laws_sent.proofs.State.{HeardLaw}
 use Rattle.cx_laws_sent.proofs.Said.{IsSaid, WasSaidBy}
 use Rattle.cx_laws_queues.specs.cx_laws_session.proofs.Lists.{map-append}
 use Rattle.cx_laws_queues.specs.cx_laws_session.proofs.Standing.{standing-handles}
-use Rattle.cx_lines.specs.declared.lines.Numbered.{Numbered}
+use Rattle.cx_laws_queues.specs.cx_lines.specs.declared.lines.Numbered.{Numbered}
 use Rattle.cx_laws_queues.specs.cx_run.specs.Happenings.{Entered, Happening, journal_from}
 use Rattle.cx_laws_queues.specs.cx_run.specs.Opening.{Leak, Setup, leaked_of, leaks_entered, nodes_of}
 use Rattle.cx_laws_queues.specs.cx_run.specs.Points.{journal_since, log_since}

@@ -3,7 +3,7 @@ use Rattle.std.proofs.Common.{◌≡◌, ℕ, ◌==◌, ◌++◌, nat_lt, arith,
 use Rattle.std.proofs.lemmas.List.Elements.{Contains-push_cases}
 use Rattle.std.specs.Prelude.{Contains}
 use Rattle.std.specs.List.{AllByRecursion}
-use Rattle.cx_authorize.specs.Client.{reply_in}
+use Rattle.cx_laws_queues.specs.cx_authorize.specs.Client.{reply_in}
 use Rattle.cx_base.proofs.Names.{same_name_is}
 use Rattle.cx_base.specs.Names.{Name, same_name}
 use Rattle.cx_base.specs.declared.kinds.EntityType.{EntityType}
@@ -13,11 +13,11 @@ use Rattle.cx_dice.specs.Draws.{challenge_of}
 use Rattle.cx_journal.specs.declared.entries.Admitted.{Admitted}
 use Rattle.cx_journal.specs.declared.entries.Entry.{Entry}
 use Rattle.cx_journal.specs.declared.entries.Entry.TheVariants as journal
-use Rattle.cx_laws_keys.proofs.Journal.{entered}
-use Rattle.cx_laws_keys.proofs.Known.{HasReply, Within}
-use Rattle.cx_laws_keys.proofs.Lists.{all-map}
-use Rattle.cx_laws_keys.proofs.Premises.{AreGranted}
-use Rattle.cx_laws_keys.proofs.Uses.{Login, Means, Ticketed, Uses, WholeRun}
+use Rattle.cx_laws_run.specs.cx_laws_keys.proofs.Journal.{entered}
+use Rattle.cx_laws_run.specs.cx_laws_keys.proofs.Known.{HasReply, Within}
+use Rattle.cx_laws_run.specs.cx_laws_keys.proofs.Lists.{all-map}
+use Rattle.cx_laws_run.specs.cx_laws_keys.proofs.Premises.{AreGranted}
+use Rattle.cx_laws_run.specs.cx_laws_keys.proofs.Uses.{Login, Means, Ticketed, Uses, WholeRun}
 use Rattle.cx_laws_run.specs.cx_laws_chain.specs.cx_laws_calling.proofs.CallSeals.{reply-ties}
 use Rattle.cx_laws_run.specs.cx_laws_chain.specs.cx_laws_calling.proofs.Sessions.{CallKeys, ClientStageOk, HeldOk, IsSession, found-ticket, same-entity}
 use Rattle.cx_laws_run.specs.cx_laws_login.proofs.AskerTurns as asker_turns
@@ -27,7 +27,7 @@ use Rattle.cx_laws_queues.proofs.Calls.{Held, OpensFor, call-held}
 use Rattle.cx_laws_queues.proofs.Sessions.{HeldIs, all-filter, with-all}
 use Rattle.cx_laws_queues.specs.cx_laws_session.proofs.Lists.{found-all, found-passes, found-some}
 use Rattle.cx_laws_queues.specs.cx_laws_session.proofs.Runs.{other-way}
-use Rattle.cx_login.specs.Held.{Held as Ticket}
+use Rattle.cx_laws_queues.specs.cx_login.specs.Held.{Held as Ticket}
 use Rattle.cx_laws_queues.specs.cx_rules.specs.Holdings.{Asker}
 use Rattle.cx_laws_queues.specs.cx_rules.specs.Links.{Link, link_of}
 use Rattle.cx_laws_queues.specs.cx_rules.specs.Rows.{Outcome, Turned, Waits, Refuses, Handles, turns}
@@ -39,7 +39,7 @@ use Rattle.cx_laws_queues.specs.cx_rules_session.specs.Sessions.{Called, Callee,
 use Rattle.cx_laws_queues.specs.cx_run.proofs.CallKeeps.{IsCallEntry, Leaves, call-takes}
 use Rattle.cx_laws_queues.specs.cx_run.proofs.Outcomes.{call_turn, on_link}
 use Rattle.cx_laws_queues.specs.cx_run.proofs.Taking.{EachRow}
-use Rattle.cx_sealed.specs.declared.authorize_reply.AuthorizeReply.{AuthorizeReply}
+use Rattle.cx_laws_queues.specs.cx_sealed.specs.declared.authorize_reply.AuthorizeReply.{AuthorizeReply}
 use Rattle.cx_steps.specs.Onto.{SomeOf}
 use Rattle.cx_steps.specs.declared.seals.Logged.{Logged}
 use Rattle.cx_steps.specs.declared.seals.SealEntry.{SealEntry}

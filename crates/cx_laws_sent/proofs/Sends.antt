@@ -13,10 +13,10 @@ use Rattle.cx_journal.specs.declared.entries.Entry.{Entry}
 use Rattle.cx_journal.specs.declared.entries.Entry.TheVariants as journal
 use Rattle.cx_journal.specs.declared.faults.BytesFault.{BytesFault}
 use Rattle.cx_journal.specs.declared.outcomes.Reason.TheVariants as reason
-use Rattle.cx_laws_keys.proofs.Journal.{entered}
-use Rattle.cx_laws_keys.proofs.Lists.{all-append}
-use Rattle.cx_laws_keys.proofs.Premises.{AreGranted}
-use Rattle.cx_laws_keys.proofs.Uses.{Uses, WholeRun}
+use Rattle.cx_laws_run.specs.cx_laws_keys.proofs.Journal.{entered}
+use Rattle.cx_laws_run.specs.cx_laws_keys.proofs.Lists.{all-append}
+use Rattle.cx_laws_run.specs.cx_laws_keys.proofs.Premises.{AreGranted}
+use Rattle.cx_laws_run.specs.cx_laws_keys.proofs.Uses.{Uses, WholeRun}
 use Rattle.cx_laws_run.specs.cx_laws_login.proofs.Entering.{within-all}
 use Rattle.cx_laws_answers.specs.cx_laws_series.proofs.Frames.{frame-sealed}
 use Rattle.cx_laws_queues.proofs.Clients.{with-its}
@@ -37,7 +37,7 @@ use Rattle.cx_session.specs.declared.outbox.QueueFault.{QueueFault}
 use Rattle.cx_session.specs.declared.outbox.QueueFault.TheVariants as queue
 use Rattle.cx_steps.specs.Onto.{SomeOf}
 use Rattle.cx_steps.specs.declared.seals.Logged.{Logged}
-use Rattle.cx_wire.specs.Operations.{operation_layout}
+use Rattle.cx_laws_queues.specs.cx_wire.specs.Operations.{operation_layout}
 use Rattle.cx_laws_answers.specs.cx_laws_links.proofs.CallTold.{same-nonces}
 use Rattle.cx_laws_answers.specs.cx_laws_links.proofs.CallWords.{KeyedStage, Opened, Says, SomeOrders, pending_of}
 use Rattle.cx_laws_answers.specs.cx_laws_links.proofs.Known.{IsKeyed, IsOfSession, StageTold, Told}

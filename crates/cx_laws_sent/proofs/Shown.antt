@@ -2,13 +2,13 @@
 use Rattle.std.proofs.Common.{◌≡◌, ℕ, ◌<◌, ◌^◌, List, [], ◌∷◌, ◌++◌, Option, Some, None, inl, inr, ◌⊎◌, refl, sym, ap, ◌∙◌}
 use Rattle.std.specs.List.{AllByRecursion}
 use Rattle.std.specs.Option.{option_map}
-use Rattle.cx_authorize.specs.Verdict.{raised}
+use Rattle.cx_laws_queues.specs.cx_authorize.specs.Verdict.{raised}
 use Rattle.cx_base.specs.Names.{Name}
 use Rattle.cx_base.specs.declared.operations.Operation.{Operation}
 use Rattle.cx_journal.specs.declared.entries.Entry.{Entry}
-use Rattle.cx_laws_keys.proofs.Known.{HasReply}
-use Rattle.cx_laws_keys.proofs.Lists.{all-map, some-map}
-use Rattle.cx_laws_keys.proofs.Uses.{Uses}
+use Rattle.cx_laws_run.specs.cx_laws_keys.proofs.Known.{HasReply}
+use Rattle.cx_laws_run.specs.cx_laws_keys.proofs.Lists.{all-map, some-map}
+use Rattle.cx_laws_run.specs.cx_laws_keys.proofs.Uses.{Uses}
 use Rattle.cx_laws_queues.specs.cx_rules.specs.Links.{Link, without_link}
 use Rattle.cx_laws_queues.specs.cx_rules.specs.Rows.{Outcome, links_behind}
 use Rattle.cx_laws_queues.specs.cx_rules.specs.Secured.{Secured, connector_keys}
@@ -17,10 +17,10 @@ use Rattle.cx_laws_queues.specs.cx_rules_session.specs.Kinds.{of_kind}
 use Rattle.cx_laws_queues.specs.cx_rules_session.specs.Presenter as call
 use Rattle.cx_laws_queues.specs.cx_rules_session.specs.Presenter.{CallArrival, CallRow, CallStage}
 use Rattle.cx_laws_queues.specs.cx_rules_session.specs.Sessions.{Callee}
-use Rattle.cx_sealed.specs.declared.authorize_reply.AuthorizeReply.{AuthorizeReply}
+use Rattle.cx_laws_queues.specs.cx_sealed.specs.declared.authorize_reply.AuthorizeReply.{AuthorizeReply}
 use Rattle.cx_steps.specs.Onto.{SomeOf}
 use Rattle.cx_steps.specs.declared.seals.Logged.{Logged}
-use Rattle.cx_wire.specs.Operations.{operation_layout}
+use Rattle.cx_laws_queues.specs.cx_wire.specs.Operations.{operation_layout}
 use Rattle.cx_laws_answers.specs.cx_laws_links.proofs.CallSteps.{WasSent}
 use Rattle.cx_laws_answers.specs.cx_laws_links.proofs.CallWords.{KeyedStage, Says}
 use Rattle.cx_laws_answers.specs.cx_laws_links.proofs.Known.{IsShown, Told}

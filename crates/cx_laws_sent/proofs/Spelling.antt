@@ -3,21 +3,21 @@ use Rattle.std.proofs.Common.{ℕ, ◌+◌, List, [], ◌∷◌, ◌++◌, inl, 
 use Rattle.std.proofs.lemmas.Bool.{leb-true}
 use Rattle.std.specs.List.{AllByRecursion}
 use Rattle.cx_base.specs.declared.operations.Operation.{Operation}
-use Rattle.cx_laws_keys.proofs.Lists.{all-append}
+use Rattle.cx_laws_run.specs.cx_laws_keys.proofs.Lists.{all-append}
 use Rattle.cx_laws_answers.specs.cx_laws_links.proofs.Hearing.{writable-fits}
 use Rattle.cx_line_words.specs.Values.{SpellsItems}
 use Rattle.cx_line_words.specs.declared.known.Known.{Known}
-use Rattle.cx_lines.specs.Commands.{command_items, operation_items}
-use Rattle.cx_lines.specs.Knowing.{known_of}
-use Rattle.cx_lines.specs.Lines.{Spells}
-use Rattle.cx_lines.specs.declared.commands.LineCommand.{LineCommand}
-use Rattle.cx_lines.specs.declared.commands.LineCommand.TheVariants as command
-use Rattle.cx_lines.specs.declared.lines.Line.{Line}
-use Rattle.cx_lines.specs.declared.lines.Line.TheVariants as line
-use Rattle.cx_lines.specs.declared.lines.Numbered.{Numbered}
-use Rattle.cx_schedule.specs.Files.{Adds, Lines, Said, numbered}
-use Rattle.cx_schedule.specs.Grammars.{line_words}
-use Rattle.cx_wire.specs.Operations.{operation_layout}
+use Rattle.cx_laws_queues.specs.cx_lines.specs.Commands.{command_items, operation_items}
+use Rattle.cx_laws_queues.specs.cx_lines.specs.Knowing.{known_of}
+use Rattle.cx_laws_queues.specs.cx_lines.specs.Lines.{Spells}
+use Rattle.cx_laws_queues.specs.cx_lines.specs.declared.commands.LineCommand.{LineCommand}
+use Rattle.cx_laws_queues.specs.cx_lines.specs.declared.commands.LineCommand.TheVariants as command
+use Rattle.cx_laws_queues.specs.cx_lines.specs.declared.lines.Line.{Line}
+use Rattle.cx_laws_queues.specs.cx_lines.specs.declared.lines.Line.TheVariants as line
+use Rattle.cx_laws_queues.specs.cx_lines.specs.declared.lines.Numbered.{Numbered}
+use Rattle.cx_laws_run.specs.cx_schedule.specs.Files.{Adds, Lines, Said, numbered}
+use Rattle.cx_laws_run.specs.cx_schedule.specs.Grammars.{line_words}
+use Rattle.cx_laws_queues.specs.cx_wire.specs.Operations.{operation_layout}
 use Rattle.cx_words.specs.Cutting.{lines_of}
 
 -- an operation that a command sends has one

@@ -9,8 +9,8 @@ use Rattle.cx_journal.specs.Behind.{EachBehind}
 use Rattle.cx_journal.specs.declared.entries.Admitted.{Admitted}
 use Rattle.cx_journal.specs.declared.entries.Entry.{Entry}
 use Rattle.cx_journal.specs.declared.entries.Entry.TheVariants as journal
-use Rattle.cx_laws_keys.proofs.Premises.{behind}
-use Rattle.cx_laws_keys.proofs.Uses.{Connected, Means, Tie, Uses, WholeRun}
+use Rattle.cx_laws_run.specs.cx_laws_keys.proofs.Premises.{behind}
+use Rattle.cx_laws_run.specs.cx_laws_keys.proofs.Uses.{Connected, Means, Tie, Uses, WholeRun}
 use Rattle.cx_laws_answers.specs.cx_laws_series.proofs.Contents.{contents_by}
 use Rattle.cx_laws_queues.specs.cx_rules.specs.Links.{Link}
 use Rattle.cx_laws_queues.specs.cx_rules.specs.Rows.{Outcome}

@@ -6,10 +6,10 @@ use Rattle.cx_desk.specs.Handlers.{Handlers}
 use Rattle.cx_journal.specs.declared.entries.Entry.{Entry}
 use Rattle.cx_laws_run.specs.cx_laws_authorize.proofs.Backing.{AllGood}
 use Rattle.cx_laws_run.specs.cx_laws_chain.specs.cx_laws_calling.proofs.Between.{ClientOk}
-use Rattle.cx_laws_keys.proofs.Journal.{entered}
-use Rattle.cx_laws_keys.proofs.Known.{Inv}
-use Rattle.cx_laws_keys.proofs.Premises.{AreGranted, behind}
-use Rattle.cx_laws_keys.proofs.Uses.{Grows, Uses, WholeRun}
+use Rattle.cx_laws_run.specs.cx_laws_keys.proofs.Journal.{entered}
+use Rattle.cx_laws_run.specs.cx_laws_keys.proofs.Known.{Inv}
+use Rattle.cx_laws_run.specs.cx_laws_keys.proofs.Premises.{AreGranted, behind}
+use Rattle.cx_laws_run.specs.cx_laws_keys.proofs.Uses.{Grows, Uses, WholeRun}
 use Rattle.cx_laws_answers.specs.cx_laws_links.proofs.GuestNodes.{LinksKnown}
 use Rattle.cx_laws_answers.specs.cx_laws_links.proofs.GuestWords.{AreSpelled}
 use Rattle.cx_laws_answers.specs.cx_laws_links.proofs.Known.{AreTold, Told}

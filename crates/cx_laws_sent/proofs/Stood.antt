@@ -4,7 +4,7 @@ use Rattle.std.proofs.Common.{◌≡◌, ◌⊎◌, ◌+◌, ◌<◌, ◌≤◌,
 use Rattle.std.proofs.lemmas.Bool.{cases_eq}
 use Rattle.std.specs.Prelude.{◌==◌, ◌&&◌, Contains, if◌then◌else◌}
 use Rattle.std.specs.List.{AllByRecursion}
-use Rattle.cx_authorize.specs.Daemon.{Authority}
+use Rattle.cx_laws_queues.specs.cx_authorize.specs.Daemon.{Authority}
 use Rattle.cx_base.proofs.Names.{same_name_self}
 use Rattle.cx_base.specs.Names.{Name, same_name}
 use Rattle.cx_base.specs.declared.nodes.NodeName.{NodeName}

@@ -10,7 +10,7 @@ use Rattle.cx_base.specs.declared.operations.Operation.{Operation}
 use Rattle.cx_journal.specs.declared.entries.Entry.{Entry}
 use Rattle.cx_journal.specs.declared.entries.Entry.TheVariants as journal
 use Rattle.cx_journal.specs.declared.entries.Sent.{Sent}
-use Rattle.cx_laws_keys.proofs.Known.{Within}
+use Rattle.cx_laws_run.specs.cx_laws_keys.proofs.Known.{Within}
 use Rattle.cx_laws_queues.specs.cx_rules_session.specs.Sessions.{HeldSession, session_with}
 use Rattle.cx_laws_queues.specs.Sending.{all_sent_to, sent_to, under_cookie}
 use Rattle.cx_laws_queues.specs.Waiting.{IsQueued}

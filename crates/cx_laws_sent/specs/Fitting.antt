@@ -4,7 +4,7 @@ use Rattle.std.specs.List.{AllByRecursion}
 use Rattle.cx_laws_queues.specs.cx_rules.specs.Inputs.{Input, Submit}
 use Rattle.cx_laws_queues.specs.cx_run.specs.Happenings.{Happening}
 use Rattle.cx_steps.specs.declared.events.Command.TheVariants as command
-use Rattle.cx_wire.specs.Operations.{operation_layout}
+use Rattle.cx_laws_queues.specs.cx_wire.specs.Operations.{operation_layout}
 
 -- where a client is told to send an operation, that has one
 abbrev pub IsFit : Input → Type 0

@@ -5,12 +5,12 @@ ghost use Rattle.cx_desk.specs.Handlers.{Handlers};
 ghost use Rattle.cx_journal.specs.PrefixOfSent.{IsPrefixOfSent};
 ghost use Rattle.cx_laws_run.specs.Laws.{MayHappen};
 ghost use Rattle.cx_laws_sent.specs.Fitting.{AreFit};
-ghost use Rattle.cx_lines.specs.declared.lines.Numbered.{Numbered};
+ghost use Rattle.cx_laws_queues.specs.cx_lines.specs.declared.lines.Numbered.{Numbered};
 ghost use Rattle.cx_laws_queues.specs.cx_run.specs.Happenings.{Happening};
 ghost use Rattle.cx_laws_queues.specs.cx_run.specs.Opening.{Setup, leaked_of};
 ghost use Rattle.cx_laws_queues.specs.cx_run.specs.Points.{journal_since, log_since};
 ghost use Rattle.cx_laws_queues.specs.cx_run.specs.Runs.{IsFoundOf, run_journal};
-ghost use Rattle.cx_schedule.specs.Files.{Lines};
+ghost use Rattle.cx_laws_run.specs.cx_schedule.specs.Files.{Lines};
 ghost use Rattle.cx_steps.specs.Premises.{IsFresh, IsSound};
 
 /// Where nothing opens under a key that didn't seal it and no draw repeats, what daemons handle under a cookie for an entity that didn't leak is, at each place of

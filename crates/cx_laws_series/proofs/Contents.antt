@@ -11,14 +11,14 @@ use Rattle.cx_base.specs.declared.nodes.NodeName.{NodeName}
 use Rattle.cx_laws_keys.proofs.Premises.{behind, logged}
 use Rattle.cx_laws_series.proofs.Series.{IsAt}
 use Rattle.cx_rules.specs.Secured.{part_seals}
-use Rattle.cx_secure.specs.Contents.{sealed_contents}
-use Rattle.cx_secure.specs.Parts.{nonce_at}
-use Rattle.cx_steps.specs.Onto.{SomeOf}
-use Rattle.cx_steps.specs.Premises.{HasSealed, Seals}
-use Rattle.cx_steps.specs.declared.seals.Logged.{Logged}
-use Rattle.cx_steps.specs.declared.seals.SealEntry.{SealEntry}
-use Rattle.cx_steps.specs.declared.seals.SealEntry.TheVariants as entry
-use Rattle.cx_steps.specs.declared.seals.SealMark.{SealMark}
+use Rattle.cx_rules.specs.cx_secure.specs.Contents.{sealed_contents}
+use Rattle.cx_rules.specs.cx_secure.specs.Parts.{nonce_at}
+use Rattle.cx_rules.specs.cx_steps.specs.Onto.{SomeOf}
+use Rattle.cx_rules.specs.cx_steps.specs.Premises.{HasSealed, Seals}
+use Rattle.cx_rules.specs.cx_steps.specs.declared.seals.Logged.{Logged}
+use Rattle.cx_rules.specs.cx_steps.specs.declared.seals.SealEntry.{SealEntry}
+use Rattle.cx_rules.specs.cx_steps.specs.declared.seals.SealEntry.TheVariants as entry
+use Rattle.cx_rules.specs.cx_steps.specs.declared.seals.SealMark.{SealMark}
 
 -- ---- read off a log
 

@@ -5,22 +5,22 @@ use Rattle.std.specs.Prelude.{if◌then◌else◌}
 use Rattle.std.specs.List.{flat_map}
 use Rattle.cx_base.specs.declared.nodes.NodeName.{NodeName}
 use Rattle.cx_frame.specs.declared.frame.Frame.{Frame}
-use Rattle.cx_journal.specs.declared.faults.BytesFault.{BytesFault}
-use Rattle.cx_journal.specs.declared.faults.BytesFault.TheVariants.{CounterSpent, TooLong}
-use Rattle.cx_journal.specs.declared.premises.KeyKind.TheVariants as kind
+use Rattle.cx_laws_keys.specs.cx_journal.specs.declared.faults.BytesFault.{BytesFault}
+use Rattle.cx_laws_keys.specs.cx_journal.specs.declared.faults.BytesFault.TheVariants.{CounterSpent, TooLong}
+use Rattle.cx_laws_keys.specs.cx_journal.specs.declared.premises.KeyKind.TheVariants as kind
 use Rattle.cx_laws_keys.proofs.Premises.{behind, behind-append}
 use Rattle.cx_laws_series.proofs.Contents.{IsNumberedAt, content-at, contents-append, contents-behind, contents_by, contents_in, parts-contents, sealed-content}
 use Rattle.cx_laws_series.proofs.Series.{IsAt}
 use Rattle.cx_rules.specs.Messages.{sealed_behind, sealed_then, secure_frames}
 use Rattle.cx_frame.specs.Frames.{total}
 use Rattle.cx_rules.specs.Secured.{Keys, SealedFrame, sealed_under, secure_frame}
-use Rattle.cx_secure.specs.Contents.{sealed_contents}
-use Rattle.cx_secure.specs.Parts.{nonce_at}
-use Rattle.cx_secure.specs.Plains.{plains}
-use Rattle.cx_steps.specs.Onto.{SomeOf}
-use Rattle.cx_steps.specs.Premises.{HasSealed}
-use Rattle.cx_steps.specs.declared.seals.Logged.{Logged}
-use Rattle.cx_steps.specs.declared.seals.SealMark.{SealMark}
+use Rattle.cx_rules.specs.cx_secure.specs.Contents.{sealed_contents}
+use Rattle.cx_rules.specs.cx_secure.specs.Parts.{nonce_at}
+use Rattle.cx_rules.specs.cx_secure.specs.Plains.{plains}
+use Rattle.cx_rules.specs.cx_steps.specs.Onto.{SomeOf}
+use Rattle.cx_rules.specs.cx_steps.specs.Premises.{HasSealed}
+use Rattle.cx_rules.specs.cx_steps.specs.declared.seals.Logged.{Logged}
+use Rattle.cx_rules.specs.cx_steps.specs.declared.seals.SealMark.{SealMark}
 
 -- ---- sealed
 

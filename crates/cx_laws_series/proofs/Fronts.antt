@@ -12,21 +12,21 @@ use Rattle.cx_frame.specs.declared.frame.Segment.{Segment}
 use Rattle.cx_frame.specs.declared.preamble.Preamble.{Preamble}
 use Rattle.cx_frame.specs.declared.refusals.FrameRefusal.{FrameRefusal}
 use Rattle.cx_laws_series.proofs.Series.{IsAt}
-use Rattle.cx_secure.proofs.Lengths.{behind_len}
-use Rattle.cx_secure.proofs.PlainLaws.{preamble_len}
-use Rattle.cx_secure.proofs.RestLaws.{frame_again}
-use Rattle.cx_secure.proofs.SealedLaws.{last_is, parts_is, second_is}
-use Rattle.cx_secure.specs.Contents.{content_of, part_content, parts_contents, rest_contents, sealed_contents}
-use Rattle.cx_secure.specs.Opening.{head_of, head_step, rest_of, rest_step, with_inline, with_parts}
-use Rattle.cx_secure.specs.Parts.{nonce_at, opened, opened_some}
-use Rattle.cx_secure.specs.Plains.{frame_at, inline_of, last_plain, nonempty, one_if, plains, rest_len, rest_parts, second_len, second_plain, tagged}
-use Rattle.cx_secure.specs.declared.refusals.SecureRefusal.{SecureRefusal}
-use Rattle.cx_secure.specs.declared.refusals.SecureRefusal.TheVariants.{CounterSpent}
-use Rattle.cx_stream.specs.Fronts.{with_length}
-use Rattle.cx_secure.specs.declared.sealing.Head.{Head}
-use Rattle.cx_steps.specs.Onto.{SomeOf}
-use Rattle.cx_stream.specs.Openings.{contents_behind, contents_from, front_contents}
-use Rattle.cx_stream.specs.SecureStreams.{Ahead, behind_head, secure_frame_at}
+use Rattle.cx_rules.specs.cx_secure.proofs.Lengths.{behind_len}
+use Rattle.cx_rules.specs.cx_secure.proofs.PlainLaws.{preamble_len}
+use Rattle.cx_rules.specs.cx_secure.proofs.RestLaws.{frame_again}
+use Rattle.cx_rules.specs.cx_secure.proofs.SealedLaws.{last_is, parts_is, second_is}
+use Rattle.cx_rules.specs.cx_secure.specs.Contents.{content_of, part_content, parts_contents, rest_contents, sealed_contents}
+use Rattle.cx_rules.specs.cx_secure.specs.Opening.{head_of, head_step, rest_of, rest_step, with_inline, with_parts}
+use Rattle.cx_rules.specs.cx_secure.specs.Parts.{nonce_at, opened, opened_some}
+use Rattle.cx_rules.specs.cx_secure.specs.Plains.{frame_at, inline_of, last_plain, nonempty, one_if, plains, rest_len, rest_parts, second_len, second_plain, tagged}
+use Rattle.cx_rules.specs.cx_secure.specs.declared.refusals.SecureRefusal.{SecureRefusal}
+use Rattle.cx_rules.specs.cx_secure.specs.declared.refusals.SecureRefusal.TheVariants.{CounterSpent}
+use Rattle.cx_rules.specs.cx_stream.specs.Fronts.{with_length}
+use Rattle.cx_rules.specs.cx_secure.specs.declared.sealing.Head.{Head}
+use Rattle.cx_rules.specs.cx_steps.specs.Onto.{SomeOf}
+use Rattle.cx_rules.specs.cx_stream.specs.Openings.{contents_behind, contents_from, front_contents}
+use Rattle.cx_rules.specs.cx_stream.specs.SecureStreams.{Ahead, behind_head, secure_frame_at}
 
 -- the content of a part, where there is one
 abbrev pub made : List ℕ → List ℕ → List (List ℕ)

@@ -4,13 +4,13 @@ use Rattle.std.specs.Prelude.{◌==◌, ◌&&◌, nat_le, nat_lt, not, if◌then
 use Rattle.std.specs.List.{AllByRecursion}
 use Rattle.std.proofs.lemmas.Bool.{and_parts, eqb-false}
 use Rattle.std.proofs.lemmas.Bool.Decides.{nat_tests}
-use Rattle.cx_authorize.specs.Daemon.{Authority}
+use Rattle.cx_run.specs.cx_authorize.specs.Daemon.{Authority}
 use Rattle.cx_base.proofs.Names.{same_name_is}
 use Rattle.cx_base.specs.Names.{Name, same_name}
 use Rattle.cx_journal.specs.declared.entries.Admitted.{Admitted}
 use Rattle.cx_session.specs.Book.{Book, admission, admit_reply, admitted, changed, ended, opened, raised, renewed, resume_reply, resumption, same_owner, take_reply, taken, taking, with_client_cookie, with_cookies, with_number}
 use Rattle.cx_session.specs.declared.session.Session.{Session}
-use Rattle.cx_steps.specs.Onto.{SomeOf}
+use Rattle.cx_run.specs.cx_steps.specs.Onto.{SomeOf}
 use Rattle.cx_laws_session.proofs.Keeping.{same-book, same-lasts, same-self}
 use Rattle.cx_laws_session.proofs.Lists.{all-append, all-map, found-passes, found-some}
 use Rattle.cx_laws_session.proofs.Moves.{IsLive, IsRenewed, IsSame, KeepsLast, LivesOn, SameBook, StillBook, Tells}

@@ -14,24 +14,24 @@ use Rattle.cx_journal.specs.declared.entries.Entry.{Entry}
 use Rattle.cx_journal.specs.declared.entries.Entry.TheVariants as entry
 use Rattle.cx_journal.specs.declared.faults.BytesFault.{BytesFault}
 use Rattle.cx_journal.specs.declared.outcomes.Reason.TheVariants.{Lost}
-use Rattle.cx_rules.specs.Connector as connector
-use Rattle.cx_rules.specs.Holdings.{Asker}
-use Rattle.cx_rules.specs.Inputs.{Input}
-use Rattle.cx_rules.specs.Links.{Link}
-use Rattle.cx_rules.specs.Requests.{Requests, sealed_request, sends_request}
-use Rattle.cx_rules.specs.Rows.{Arrival, Outcome, Turned, Waits, Refuses, Handles, arrival, carried_out, refused_entry, secure_sent, turns}
-use Rattle.cx_rules.specs.Secured.{SealedFrame, Secured, secure_frame}
-use Rattle.cx_rules.specs.declared.requests.Want.TheVariants.{Tickets}
-use Rattle.cx_rules_session.specs.ClientRule.{ClientStage, ToMonitor, ToDaemon, WholeClientNode, caller_to, having_session, is_open, loses, me, open_to_ask, sent_entry, whole_client_rule, with_asker, with_caller}
-use Rattle.cx_rules_session.specs.Kinds.{arrival_in, entered_before, turn_of_kind}
-use Rattle.cx_rules_session.specs.Presenter as call
-use Rattle.cx_rules_session.specs.Presenter.{CallStage, Caller, callee_of}
-use Rattle.cx_rules_session.specs.Sessions.{Callee, HeldSession, operation_message}
+use Rattle.cx_run.specs.cx_rules.specs.Connector as connector
+use Rattle.cx_run.specs.cx_rules.specs.Holdings.{Asker}
+use Rattle.cx_run.specs.cx_rules.specs.Inputs.{Input}
+use Rattle.cx_run.specs.cx_rules.specs.Links.{Link}
+use Rattle.cx_run.specs.cx_rules.specs.Requests.{Requests, sealed_request, sends_request}
+use Rattle.cx_run.specs.cx_rules.specs.Rows.{Arrival, Outcome, Turned, Waits, Refuses, Handles, arrival, carried_out, refused_entry, secure_sent, turns}
+use Rattle.cx_run.specs.cx_rules.specs.Secured.{SealedFrame, Secured, secure_frame}
+use Rattle.cx_run.specs.cx_rules.specs.declared.requests.Want.TheVariants.{Tickets}
+use Rattle.cx_run.specs.cx_rules_session.specs.ClientRule.{ClientStage, ToMonitor, ToDaemon, WholeClientNode, caller_to, having_session, is_open, loses, me, open_to_ask, sent_entry, whole_client_rule, with_asker, with_caller}
+use Rattle.cx_run.specs.cx_rules_session.specs.Kinds.{arrival_in, entered_before, turn_of_kind}
+use Rattle.cx_run.specs.cx_rules_session.specs.Presenter as call
+use Rattle.cx_run.specs.cx_rules_session.specs.Presenter.{CallStage, Caller, callee_of}
+use Rattle.cx_run.specs.cx_rules_session.specs.Sessions.{Callee, HeldSession, operation_message}
 use Rattle.cx_run.proofs.CallKeeps.{IsCallEntry, Leaves, call-takes}
 use Rattle.cx_run.proofs.Outcomes.{EachOutcome, asker_turn, call_turn, on_link, renewed, sent_in, step-keeps}
 use Rattle.cx_run.proofs.Taking.{EachRow}
 use Rattle.cx_session.specs.Queue.{pushed}
-use Rattle.cx_wire.specs.declared.bodies.Request.TheVariants as asked
+use Rattle.cx_run.specs.cx_wire.specs.declared.bodies.Request.TheVariants as asked
 use Rattle.cx_laws_session.specs.Serving.{serves}
 use Rattle.cx_laws_session.proofs.Askers.{EntersNone, asker-enters, fetch-enters}
 use Rattle.cx_laws_session.proofs.Lists.{all-map}

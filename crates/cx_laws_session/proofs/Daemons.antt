@@ -3,35 +3,35 @@ use Rattle.std.proofs.Common.{◌≡◌, ◌⊎◌, ◌==◌, ℕ, Bool, true, f
 use Rattle.std.specs.Prelude.{is_some, nat_le, nat_lt, not, if◌then◌else◌}
 use Rattle.std.specs.List.{AllByRecursion}
 use Rattle.std.specs.Option.{option_map}
-use Rattle.cx_authorize.specs.Daemon.{Authority}
+use Rattle.cx_run.specs.cx_authorize.specs.Daemon.{Authority}
 use Rattle.cx_base.specs.Names.{Name}
 use Rattle.cx_desk.specs.Handlers.{Handlers}
 use Rattle.cx_journal.specs.declared.outcomes.Reason.{Reason}
 use Rattle.cx_journal.specs.declared.outcomes.Reason.TheVariants.{LinksFull, Lost}
-use Rattle.cx_rules.specs.Acceptor.{AwaitsBanner, AwaitsHello, AwaitsRequest, AwaitsProof, AwaitsSignature, AwaitsIdent, Open}
-use Rattle.cx_rules.specs.Connector as connector
-use Rattle.cx_rules.specs.Greetings.{own_banner}
-use Rattle.cx_rules.specs.Holdings.{Asker}
-use Rattle.cx_rules.specs.Inputs.{Input, Opened, NoLink, Bytes, Turn, Gone, Look, Tick, Submit, Restart}
-use Rattle.cx_rules.specs.Links.{Link, link_of, put_link, without_link}
-use Rattle.cx_rules.specs.Requests.{Requests, first_open, is_outdated, sealed_request, sends_request}
-use Rattle.cx_rules.specs.Rows.{Arrival, Outcome, Turned, Waits, Refuses, Handles, arrival, carried_out, fed, forgotten, goes_on, idles, links_behind, new_link, refused_entry, refuses, turns}
-use Rattle.cx_rules.specs.Secured.{SealedFrame, Secured}
-use Rattle.cx_rules.specs.declared.requests.Want.TheVariants.{Rotating}
-use Rattle.cx_rules_session.specs.Asks.{Finished, Asking, with_book}
-use Rattle.cx_rules_session.specs.DaemonRule.{AsAcceptor, AsConnector, Daemon, DaemonNode, DaemonStage, DaemonState, asking_open, book_after, book_reply, daemon_step, fetches, fetches_on, gone, gone_by_kind, guest_gone, hosts, is_fetching, is_in, is_older, looks, loses, lossy_gone, me, moved_to, on_dropped, open_to_ask, opens, opens_own, shut_where, submits, ticks, turn, turned_at, undialled, unreached, with_asker}
-use Rattle.cx_rules_session.specs.Guests.{GuestStage, Served}
-use Rattle.cx_rules_session.specs.Hosting.{Deciding, Hosted, guest_turned}
-use Rattle.cx_rules_session.specs.Kinds.{arrival_in, of_kind, turn_of_kind}
+use Rattle.cx_run.specs.cx_rules.specs.Acceptor.{AwaitsBanner, AwaitsHello, AwaitsRequest, AwaitsProof, AwaitsSignature, AwaitsIdent, Open}
+use Rattle.cx_run.specs.cx_rules.specs.Connector as connector
+use Rattle.cx_run.specs.cx_rules.specs.Greetings.{own_banner}
+use Rattle.cx_run.specs.cx_rules.specs.Holdings.{Asker}
+use Rattle.cx_run.specs.cx_rules.specs.Inputs.{Input, Opened, NoLink, Bytes, Turn, Gone, Look, Tick, Submit, Restart}
+use Rattle.cx_run.specs.cx_rules.specs.Links.{Link, link_of, put_link, without_link}
+use Rattle.cx_run.specs.cx_rules.specs.Requests.{Requests, first_open, is_outdated, sealed_request, sends_request}
+use Rattle.cx_run.specs.cx_rules.specs.Rows.{Arrival, Outcome, Turned, Waits, Refuses, Handles, arrival, carried_out, fed, forgotten, goes_on, idles, links_behind, new_link, refused_entry, refuses, turns}
+use Rattle.cx_run.specs.cx_rules.specs.Secured.{SealedFrame, Secured}
+use Rattle.cx_run.specs.cx_rules.specs.declared.requests.Want.TheVariants.{Rotating}
+use Rattle.cx_run.specs.cx_rules_session.specs.Asks.{Finished, Asking, with_book}
+use Rattle.cx_run.specs.cx_rules_session.specs.DaemonRule.{AsAcceptor, AsConnector, Daemon, DaemonNode, DaemonStage, DaemonState, asking_open, book_after, book_reply, daemon_step, fetches, fetches_on, gone, gone_by_kind, guest_gone, hosts, is_fetching, is_in, is_older, looks, loses, lossy_gone, me, moved_to, on_dropped, open_to_ask, opens, opens_own, shut_where, submits, ticks, turn, turned_at, undialled, unreached, with_asker}
+use Rattle.cx_run.specs.cx_rules_session.specs.Guests.{GuestStage, Served}
+use Rattle.cx_run.specs.cx_rules_session.specs.Hosting.{Deciding, Hosted, guest_turned}
+use Rattle.cx_run.specs.cx_rules_session.specs.Kinds.{arrival_in, of_kind, turn_of_kind}
 use Rattle.cx_session.specs.Book.{Book, ended, with_number}
 use Rattle.cx_session.specs.declared.call.BookCall.TheVariants.{End}
 use Rattle.cx_session.specs.declared.call.BookReply.TheVariants as reply
-use Rattle.cx_steps.specs.Onto.{SomeOf}
-use Rattle.cx_steps.specs.declared.events.Command.{Command}
-use Rattle.cx_steps.specs.declared.events.Command.TheVariants as command
-use Rattle.cx_steps.specs.declared.events.Peer.{Peer}
-use Rattle.cx_steps.specs.declared.events.Peer.TheVariants as peer
-use Rattle.cx_wire.specs.declared.bodies.Request.TheVariants as asked
+use Rattle.cx_run.specs.cx_steps.specs.Onto.{SomeOf}
+use Rattle.cx_run.specs.cx_steps.specs.declared.events.Command.{Command}
+use Rattle.cx_run.specs.cx_steps.specs.declared.events.Command.TheVariants as command
+use Rattle.cx_run.specs.cx_steps.specs.declared.events.Peer.{Peer}
+use Rattle.cx_run.specs.cx_steps.specs.declared.events.Peer.TheVariants as peer
+use Rattle.cx_run.specs.cx_wire.specs.declared.bodies.Request.TheVariants as asked
 use Rattle.cx_run.proofs.Taking.{EachRow}
 use Rattle.cx_laws_session.proofs.Askers.{EntersNone, asker-enters, fetch-enters}
 use Rattle.cx_laws_session.proofs.Books.{ended-lasts, ended-lives, ended-still}

@@ -2,10 +2,10 @@
 use Rattle.std.proofs.Common.{◌≡◌, ℕ, ◌==◌, Bool, true, false, List, [], ◌∷◌, ◌++◌, Result, Ok, Err, inl, inr, refl, subst, sym}
 use Rattle.std.specs.Prelude.{not, if◌then◌else◌}
 use Rattle.std.specs.List.{AllByRecursion, list_any}
-use Rattle.cx_authorize.specs.Daemon.{Authority, Awaited}
-use Rattle.cx_authorize.specs.Judging.{judged_first, judged_second}
-use Rattle.cx_authorize.specs.declared.refusals.AuthRefusal.{AuthRefusal}
-use Rattle.cx_authorize.specs.declared.refusals.AuthRefusal.TheVariants as refusal
+use Rattle.cx_run.specs.cx_authorize.specs.Daemon.{Authority, Awaited}
+use Rattle.cx_run.specs.cx_authorize.specs.Judging.{judged_first, judged_second}
+use Rattle.cx_run.specs.cx_authorize.specs.declared.refusals.AuthRefusal.{AuthRefusal}
+use Rattle.cx_run.specs.cx_authorize.specs.declared.refusals.AuthRefusal.TheVariants as refusal
 use Rattle.cx_control.specs.Auth.{auth_request_layout, auth_request_more_layout, auth_signature_layout}
 use Rattle.cx_control.specs.Hello.{hello_layout}
 use Rattle.cx_control.specs.Idents.{client_ident_layout, ident_missing_features_layout}
@@ -31,24 +31,24 @@ use Rattle.cx_journal.specs.declared.faults.LoginFault.TheVariants.{Method, Mode
 use Rattle.cx_journal.specs.declared.outcomes.Outcome.{Outcome}
 use Rattle.cx_journal.specs.declared.outcomes.Reason.{Reason}
 use Rattle.cx_journal.specs.declared.outcomes.Reason.TheVariants as reason
-use Rattle.cx_rules.specs.Acceptor.{AwaitsBanner, AwaitsHello, AwaitsRequest, AwaitsProof, AwaitsSignature, AwaitsIdent, Open, Finished as Done, denies, finished, missing_told, misses, on_auth_request, on_banner, on_hello, on_signature, server_ident}
-use Rattle.cx_rules.specs.Fronts.{Front, NotYet, Broken, Next, banner_next, plain_next, secure_next}
-use Rattle.cx_rules.specs.Greetings.{own_hello}
-use Rattle.cx_rules.specs.Holdings.{Asker}
-use Rattle.cx_rules.specs.Messages.{acknowledgement, message_in, secure_frames}
-use Rattle.cx_rules.specs.MonitorRule.{session_reset}
-use Rattle.cx_rules.specs.Payloads.{control, due, payload}
-use Rattle.cx_rules.specs.Rows.{Turned, Waits, Refuses, Handles, at, goes_on, plain_sent, refused_entry, refuses, refuses_bytes, secure_sent, sends_secure, turned_by, unless_refused, with_opened}
-use Rattle.cx_rules.specs.Secured.{SealedFrame, Secured, is_signed, plain_frame, secure_frame, signature_found, under}
-use Rattle.cx_rules.specs.Upkeep.{on_keepalive, on_keepalive_ack}
-use Rattle.cx_rules_session.specs.Asks.{Asks, Finished, Asking, asks_map, with_book}
-use Rattle.cx_rules_session.specs.DaemonRule.{book_after, book_reply, owner_entity, owner_gid}
-use Rattle.cx_rules_session.specs.Envelopes.{authorize_challenge_content, authorize_reply_content, session_sealed}
-use Rattle.cx_rules_session.specs.Guests.{GuestArrival, GuestRow, GuestStage, Served, authority_of, authorized_frame, challenges, done_sent, on_auth_request_more, on_first, on_second, sealed_challenge_frame, authorizes, turns_away, unless_turned_away}
-use Rattle.cx_rules_session.specs.Hosting.{Deciding, Hosted, Instruction, answer_message, admission_of, admits, asks_admission, comes_to, cookie_drawn, decided_by, guest_turned, handles, hosted_behind, instruction_of, on_admission, on_checked, on_client_ident, on_ident, on_message, on_open, on_reconnect, on_resumption, on_taken, on_untaken, outcome_of, reconnect_ok, resumes, served_as, session_retry, session_retry_global, tells_why, turned_behind}
-use Rattle.cx_rules_session.specs.Kinds.{entered_before}
-use Rattle.cx_rules_session.specs.Lossy.{is_lossy, lossy_flags}
-use Rattle.cx_sealed.specs.declared.service_ticket.ServiceTicket.{ServiceTicket}
+use Rattle.cx_run.specs.cx_rules.specs.Acceptor.{AwaitsBanner, AwaitsHello, AwaitsRequest, AwaitsProof, AwaitsSignature, AwaitsIdent, Open, Finished as Done, denies, finished, missing_told, misses, on_auth_request, on_banner, on_hello, on_signature, server_ident}
+use Rattle.cx_run.specs.cx_rules.specs.Fronts.{Front, NotYet, Broken, Next, banner_next, plain_next, secure_next}
+use Rattle.cx_run.specs.cx_rules.specs.Greetings.{own_hello}
+use Rattle.cx_run.specs.cx_rules.specs.Holdings.{Asker}
+use Rattle.cx_run.specs.cx_rules.specs.Messages.{acknowledgement, message_in, secure_frames}
+use Rattle.cx_run.specs.cx_rules.specs.MonitorRule.{session_reset}
+use Rattle.cx_run.specs.cx_rules.specs.Payloads.{control, due, payload}
+use Rattle.cx_run.specs.cx_rules.specs.Rows.{Turned, Waits, Refuses, Handles, at, goes_on, plain_sent, refused_entry, refuses, refuses_bytes, secure_sent, sends_secure, turned_by, unless_refused, with_opened}
+use Rattle.cx_run.specs.cx_rules.specs.Secured.{SealedFrame, Secured, is_signed, plain_frame, secure_frame, signature_found, under}
+use Rattle.cx_run.specs.cx_rules.specs.Upkeep.{on_keepalive, on_keepalive_ack}
+use Rattle.cx_run.specs.cx_rules_session.specs.Asks.{Asks, Finished, Asking, asks_map, with_book}
+use Rattle.cx_run.specs.cx_rules_session.specs.DaemonRule.{book_after, book_reply, owner_entity, owner_gid}
+use Rattle.cx_run.specs.cx_rules_session.specs.Envelopes.{authorize_challenge_content, authorize_reply_content, session_sealed}
+use Rattle.cx_run.specs.cx_rules_session.specs.Guests.{GuestArrival, GuestRow, GuestStage, Served, authority_of, authorized_frame, challenges, done_sent, on_auth_request_more, on_first, on_second, sealed_challenge_frame, authorizes, turns_away, unless_turned_away}
+use Rattle.cx_run.specs.cx_rules_session.specs.Hosting.{Deciding, Hosted, Instruction, answer_message, admission_of, admits, asks_admission, comes_to, cookie_drawn, decided_by, guest_turned, handles, hosted_behind, instruction_of, on_admission, on_checked, on_client_ident, on_ident, on_message, on_open, on_reconnect, on_resumption, on_taken, on_untaken, outcome_of, reconnect_ok, resumes, served_as, session_retry, session_retry_global, tells_why, turned_behind}
+use Rattle.cx_run.specs.cx_rules_session.specs.Kinds.{entered_before}
+use Rattle.cx_run.specs.cx_rules_session.specs.Lossy.{is_lossy, lossy_flags}
+use Rattle.cx_run.specs.cx_sealed.specs.declared.service_ticket.ServiceTicket.{ServiceTicket}
 use Rattle.cx_session.specs.Answers.{admission_reply, behind, message_reply, refused_message, resumption_reply}
 use Rattle.cx_session.specs.Book.{Book, admit_reply, admitted, resume_reply, resumed, take_reply, taken}
 use Rattle.cx_session.specs.declared.call.BookCall.{BookCall}
@@ -59,9 +59,9 @@ use Rattle.cx_session.specs.declared.faults.ResumeFault.{ResumeFault}
 use Rattle.cx_session.specs.declared.faults.ResumeFault.TheVariants as resume
 use Rattle.cx_session.specs.declared.faults.TakeRefusal.{TakeRefusal}
 use Rattle.cx_session.specs.declared.faults.TakeRefusal.TheVariants as message
-use Rattle.cx_steps.specs.declared.seals.DrawMark.TheVariants as draw
-use Rattle.cx_steps.specs.declared.seals.SealEntry.{SealEntry}
-use Rattle.cx_steps.specs.declared.seals.SealEntry.TheVariants.{Drawn}
+use Rattle.cx_run.specs.cx_steps.specs.declared.seals.DrawMark.TheVariants as draw
+use Rattle.cx_run.specs.cx_steps.specs.declared.seals.SealEntry.{SealEntry}
+use Rattle.cx_run.specs.cx_steps.specs.declared.seals.SealEntry.TheVariants.{Drawn}
 use Rattle.cx_run.proofs.Taking.{EachRow, each-turned}
 use Rattle.cx_laws_session.proofs.Books.{admit-given, admitted-lasts, admitted-lives, resume-given, resumed-lasts, resumed-lives, take-given, taken-lasts, taken-same}
 use Rattle.cx_laws_session.proofs.Keeping.{still-book}

@@ -4,7 +4,7 @@ use Rattle.std.proofs.Common.{◌≡◌, ◌⊎◌, ◌+◌, ◌<◌, ◌≤◌,
 use Rattle.std.specs.Prelude.{◌==◌, ◌&&◌, not, if◌then◌else◌}
 use Rattle.std.specs.List.{AllByRecursion}
 use Rattle.std.proofs.lemmas.Bool.{cases_eq}
-use Rattle.cx_authorize.specs.Daemon.{Authority}
+use Rattle.cx_run.specs.cx_authorize.specs.Daemon.{Authority}
 use Rattle.cx_base.specs.Names.{Name, same_name}
 use Rattle.cx_base.specs.declared.operations.Operation.{Operation}
 use Rattle.cx_caps.proofs.Laws.{allowed, denied}
@@ -18,11 +18,11 @@ use Rattle.cx_journal.specs.declared.entries.Entry.{Entry}
 use Rattle.cx_journal.specs.declared.entries.Entry.TheVariants as entry
 use Rattle.cx_journal.specs.declared.entries.Handled.{Handled}
 use Rattle.cx_journal.specs.declared.outcomes.Outcome.TheVariants as outcome
-use Rattle.cx_rules_session.specs.Guests.{Served}
-use Rattle.cx_rules_session.specs.Hosting.{outcome_of}
+use Rattle.cx_run.specs.cx_rules_session.specs.Guests.{Served}
+use Rattle.cx_run.specs.cx_rules_session.specs.Hosting.{outcome_of}
 use Rattle.cx_session.specs.Book.{Book}
 use Rattle.cx_session.specs.declared.session.Session.{Session}
-use Rattle.cx_steps.specs.Onto.{SomeOf}
+use Rattle.cx_run.specs.cx_steps.specs.Onto.{SomeOf}
 use Rattle.cx_laws_session.specs.Serving.{serves}
 use Rattle.cx_laws_session.proofs.Lists.{all-map, all-self, some-of}
 use Rattle.cx_laws_session.proofs.Moves.{AdmitsOne, Admitting, Comes, EndsOne, Ending, IsHandledRight, IsLive, IsQuiet, IsRenewed, IsRight, IsSame, IsServedAs, KeepsLast, LivesOn, Rested, Rests, ResumesOne, Resuming, SameBook, StepComes, StillBook, Tells, quiet-leaves, right-leaves}

@@ -1,7 +1,7 @@
 -- Some and each of the items of a list.
 use Rattle.std.proofs.Common.{◌≡◌, ◌⊎◌, Bool, true, false, cond, inl, inr, List, [], ◌∷◌, ◌++◌, filter, find, map, Some, refl, sym, ap, ◌∙◌, subst}
 use Rattle.std.specs.List.{AllByRecursion}
-use Rattle.cx_steps.specs.Onto.{SomeOf}
+use Rattle.cx_run.specs.cx_steps.specs.Onto.{SomeOf}
 
 module _ {X : Type 0} where
   pub all-map : (P Q : X → Type 0) → ((x : X) → P x → Q x) → (xs : List X) → AllByRecursion P xs → AllByRecursion Q xs

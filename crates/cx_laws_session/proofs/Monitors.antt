@@ -19,54 +19,54 @@ use Rattle.cx_journal.specs.declared.faults.LoginFault.TheVariants.{Method, Mode
 use Rattle.cx_journal.specs.declared.faults.LoginFault.{LoginFault}
 use Rattle.cx_journal.specs.declared.outcomes.Reason.TheVariants.{LinksFull, Login}
 use Rattle.cx_keyring.specs.declared.entries.Entry.{Entry as Principal}
-use Rattle.cx_login.specs.Monitor.{Proven, kept_gid, proof_found, reclaimed}
-use Rattle.cx_login.specs.Unlocking.{old_ticket}
-use Rattle.cx_login.specs.declared.refusals.WrongProof.{WrongProof}
-use Rattle.cx_wire.specs.declared.logins.Authenticate.{Authenticate}
-use Rattle.cx_wire.specs.declared.logins.LoginHello.{LoginHello}
-use Rattle.cx_rules.specs.Acceptor.{AwaitsBanner, AwaitsHello, AwaitsRequest, AwaitsProof, AwaitsSignature, AwaitsIdent, Open, Finished, denies, finished, misses, missing_told, on_auth_request, on_banner, on_hello, on_signature, server_ident}
-use Rattle.cx_rules.specs.Fronts.{banner_next, plain_next, secure_next}
-use Rattle.cx_rules.specs.Greetings.{own_banner}
-use Rattle.cx_rules.specs.Inputs.{Input, Opened, NoLink, Bytes, Turn, Gone, Look, Tick, Submit, Restart}
-use Rattle.cx_rules.specs.KeptStates.{changed}
-use Rattle.cx_rules.specs.Links.{Link, link_of}
-use Rattle.cx_rules.specs.Monitor.{Monitor, MonitorArrival, MonitorNode, MonitorStage, Offered}
-use Rattle.cx_rules.specs.MonitorLogin.{challenges, done_frame, hands_over, occasion, on_authenticate, on_login_hello, proves, row_by, with_server}
-use Rattle.cx_rules.specs.MonitorRule.{on_auth_request_more, on_client_ident, on_ident, on_request_payload, on_session_reconnect, monitor_rule, monitor_step, noted, opens, turn, turned_at}
-use Rattle.cx_rules.specs.Payloads.{due, payload}
-use Rattle.cx_rules.specs.Rows.{Outcome, Turned, Waits, Refuses, Handles, arrival, at, fed, goes_on, new_link, plain_sent, refuses, refuses_bytes, secure_sent, sends_secure, turns, with_opened}
-use Rattle.cx_rules.specs.Secured.{SealedFrame, Secured, is_signed, signature_found, under}
-use Rattle.cx_rules.specs.Tickets.{issued_entry, issued_for, rotation_drawn, services_for}
-use Rattle.cx_rules.specs.Verdicts.{Decided, Entrant, Numbered, Occasion, asking_for, entrant, issues, issues_to, key_of, login_entries, numbered, numbers, rotates}
-use Rattle.cx_rules.specs.declared.verdicts.HandedOut.{HandedOut}
-use Rattle.cx_rules.specs.declared.verdicts.Verdict.{Verdict}
-use Rattle.cx_rules.specs.declared.verdicts.Verdict.TheVariants.{Denied, Granted}
+use Rattle.cx_run.specs.cx_login.specs.Monitor.{Proven, kept_gid, proof_found, reclaimed}
+use Rattle.cx_run.specs.cx_login.specs.Unlocking.{old_ticket}
+use Rattle.cx_run.specs.cx_login.specs.declared.refusals.WrongProof.{WrongProof}
+use Rattle.cx_run.specs.cx_wire.specs.declared.logins.Authenticate.{Authenticate}
+use Rattle.cx_run.specs.cx_wire.specs.declared.logins.LoginHello.{LoginHello}
+use Rattle.cx_run.specs.cx_rules.specs.Acceptor.{AwaitsBanner, AwaitsHello, AwaitsRequest, AwaitsProof, AwaitsSignature, AwaitsIdent, Open, Finished, denies, finished, misses, missing_told, on_auth_request, on_banner, on_hello, on_signature, server_ident}
+use Rattle.cx_run.specs.cx_rules.specs.Fronts.{banner_next, plain_next, secure_next}
+use Rattle.cx_run.specs.cx_rules.specs.Greetings.{own_banner}
+use Rattle.cx_run.specs.cx_rules.specs.Inputs.{Input, Opened, NoLink, Bytes, Turn, Gone, Look, Tick, Submit, Restart}
+use Rattle.cx_run.specs.cx_rules.specs.KeptStates.{changed}
+use Rattle.cx_run.specs.cx_rules.specs.Links.{Link, link_of}
+use Rattle.cx_run.specs.cx_rules.specs.Monitor.{Monitor, MonitorArrival, MonitorNode, MonitorStage, Offered}
+use Rattle.cx_run.specs.cx_rules.specs.MonitorLogin.{challenges, done_frame, hands_over, occasion, on_authenticate, on_login_hello, proves, row_by, with_server}
+use Rattle.cx_run.specs.cx_rules.specs.MonitorRule.{on_auth_request_more, on_client_ident, on_ident, on_request_payload, on_session_reconnect, monitor_rule, monitor_step, noted, opens, turn, turned_at}
+use Rattle.cx_run.specs.cx_rules.specs.Payloads.{due, payload}
+use Rattle.cx_run.specs.cx_rules.specs.Rows.{Outcome, Turned, Waits, Refuses, Handles, arrival, at, fed, goes_on, new_link, plain_sent, refuses, refuses_bytes, secure_sent, sends_secure, turns, with_opened}
+use Rattle.cx_run.specs.cx_rules.specs.Secured.{SealedFrame, Secured, is_signed, signature_found, under}
+use Rattle.cx_run.specs.cx_rules.specs.Tickets.{issued_entry, issued_for, rotation_drawn, services_for}
+use Rattle.cx_run.specs.cx_rules.specs.Verdicts.{Decided, Entrant, Numbered, Occasion, asking_for, entrant, issues, issues_to, key_of, login_entries, numbered, numbers, rotates}
+use Rattle.cx_run.specs.cx_rules.specs.declared.verdicts.HandedOut.{HandedOut}
+use Rattle.cx_run.specs.cx_rules.specs.declared.verdicts.Verdict.{Verdict}
+use Rattle.cx_run.specs.cx_rules.specs.declared.verdicts.Verdict.TheVariants.{Denied, Granted}
 use Rattle.cx_run.proofs.Taking.{EachRow, each-turned}
 use Rattle.cx_base.specs.declared.kinds.EntityType.TheVariants.{Mon}
-use Rattle.cx_rules.specs.declared.responses.Bearer.{Bearer}
-use Rattle.cx_rules.specs.MonitorRequests.{heard, on_demand, on_message, on_open, responds, sends_reply, request_occasion, serving}
-use Rattle.cx_rules.specs.declared.responses.Demand.{Demand}
-use Rattle.cx_rules.specs.declared.responses.ReplyMade.{ReplyMade}
-use Rattle.cx_rules.specs.declared.responses.Response.{Response}
-use Rattle.cx_rules.specs.declared.responses.Response.TheVariants as response
+use Rattle.cx_run.specs.cx_rules.specs.declared.responses.Bearer.{Bearer}
+use Rattle.cx_run.specs.cx_rules.specs.MonitorRequests.{heard, on_demand, on_message, on_open, responds, sends_reply, request_occasion, serving}
+use Rattle.cx_run.specs.cx_rules.specs.declared.responses.Demand.{Demand}
+use Rattle.cx_run.specs.cx_rules.specs.declared.responses.ReplyMade.{ReplyMade}
+use Rattle.cx_run.specs.cx_rules.specs.declared.responses.Response.{Response}
+use Rattle.cx_run.specs.cx_rules.specs.declared.responses.Response.TheVariants as response
 use Rattle.cx_journal.specs.declared.outcomes.Reason.{Reason}
-use Rattle.cx_rules.specs.Replies.{Responded, answers, answers_by, asking_of, issues_tickets, others_for, tells_generations, tells_tickets}
+use Rattle.cx_run.specs.cx_rules.specs.Replies.{Responded, answers, answers_by, asking_of, issues_tickets, others_for, tells_generations, tells_tickets}
 use Rattle.cx_base.specs.declared.nodes.NodeName.TheVariants as node
 use Rattle.cx_control.specs.Upkeep.{keepalive2_layout, keepalive2_ack_layout}
 use Rattle.cx_control.specs.declared.upkeep.Keepalive2.{Keepalive2}
 use Rattle.cx_control.specs.declared.upkeep.Keepalive2Ack.{Keepalive2Ack}
 use Rattle.cx_enc.specs.declared.keys.Key.{Key}
-use Rattle.cx_keyserver.specs.Servers.{Server, rotated_server, secrets_of}
-use Rattle.cx_keyserver.specs.declared.refusals.NotADaemon.{NotADaemon}
-use Rattle.cx_keyserver.specs.declared.tickets.Ticket.{Ticket}
+use Rattle.cx_run.specs.cx_keyserver.specs.Servers.{Server, rotated_server, secrets_of}
+use Rattle.cx_run.specs.cx_keyserver.specs.declared.refusals.NotADaemon.{NotADaemon}
+use Rattle.cx_run.specs.cx_keyserver.specs.declared.tickets.Ticket.{Ticket}
 use Rattle.cx_line_words.specs.declared.choices.LeftState.{LeftState}
 use Rattle.cx_rotate.specs.declared.generations.Generation.{Generation}
 use Rattle.cx_rotate.specs.declared.states.KeptState.{KeptState}
-use Rattle.cx_rules.specs.Upkeep.{on_keepalive, on_keepalive_ack}
+use Rattle.cx_run.specs.cx_rules.specs.Upkeep.{on_keepalive, on_keepalive_ack}
 use Rattle.cx_run.specs.Happenings.{Nodes, monitor_steps}
-use Rattle.cx_steps.specs.declared.seals.SealEntry.{SealEntry}
-use Rattle.cx_wire.specs.declared.bodies.Request.{Request}
-use Rattle.cx_wire.specs.declared.bodies.Request.TheVariants as asked
+use Rattle.cx_run.specs.cx_steps.specs.declared.seals.SealEntry.{SealEntry}
+use Rattle.cx_run.specs.cx_wire.specs.declared.bodies.Request.{Request}
+use Rattle.cx_run.specs.cx_wire.specs.declared.bodies.Request.TheVariants as asked
 use Rattle.cx_laws_session.proofs.Askers.{EntersNone}
 use Rattle.cx_laws_session.proofs.Clients.{IsMute, quiet-mute}
 use Rattle.cx_laws_session.proofs.Lists.{all-map}

@@ -2,7 +2,7 @@
 -- kept of a session on one counts.
 use Rattle.std.proofs.Common.{◌≡◌, ◌⊎◌, ◌+◌, ℕ, List, [], ◌∷◌, Option, Some, None, inl, inr, refl}
 use Rattle.std.specs.List.{AllByRecursion}
-use Rattle.cx_authorize.specs.Daemon.{Authority}
+use Rattle.cx_run.specs.cx_authorize.specs.Daemon.{Authority}
 use Rattle.cx_base.specs.Names.{Name}
 use Rattle.cx_base.specs.declared.nodes.NodeName.TheVariants as node
 use Rattle.cx_desk.specs.Handlers.{Handlers}
@@ -10,14 +10,14 @@ use Rattle.cx_journal.specs.declared.entries.Admitted.{Admitted}
 use Rattle.cx_journal.specs.declared.entries.Entry.{Entry}
 use Rattle.cx_journal.specs.declared.entries.Entry.TheVariants as entry
 use Rattle.cx_journal.specs.declared.entries.Handled.{Handled}
-use Rattle.cx_rules.specs.Acceptor.{Open}
-use Rattle.cx_rules.specs.Links.{Link}
-use Rattle.cx_rules_session.specs.DaemonRule.{AsAcceptor, AsConnector, DaemonStage}
-use Rattle.cx_rules_session.specs.Guests.{GuestStage, Served}
-use Rattle.cx_rules_session.specs.Hosting.{outcome_of}
+use Rattle.cx_run.specs.cx_rules.specs.Acceptor.{Open}
+use Rattle.cx_run.specs.cx_rules.specs.Links.{Link}
+use Rattle.cx_run.specs.cx_rules_session.specs.DaemonRule.{AsAcceptor, AsConnector, DaemonStage}
+use Rattle.cx_run.specs.cx_rules_session.specs.Guests.{GuestStage, Served}
+use Rattle.cx_run.specs.cx_rules_session.specs.Hosting.{outcome_of}
 use Rattle.cx_session.specs.Book.{Book}
 use Rattle.cx_session.specs.declared.session.Session.{Session}
-use Rattle.cx_steps.specs.Onto.{SomeOf}
+use Rattle.cx_run.specs.cx_steps.specs.Onto.{SomeOf}
 use Rattle.cx_laws_session.proofs.Standing.{Leaves}
 
 -- ---- what links keep of sessions

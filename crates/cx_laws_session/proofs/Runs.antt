@@ -14,14 +14,14 @@ use Rattle.cx_journal.specs.InSession.{IsInSession, IsInSessionBy}
 use Rattle.cx_journal.specs.declared.entries.Entry.{Entry}
 use Rattle.cx_journal.specs.declared.entries.Entry.TheVariants as journal
 use Rattle.cx_line_words.specs.declared.choices.LeftState.{LeftState}
-use Rattle.cx_lines.specs.declared.lines.Numbered.{Numbered}
+use Rattle.cx_run.specs.cx_lines.specs.declared.lines.Numbered.{Numbered}
 use Rattle.cx_rotate.specs.declared.states.KeptState.{KeptState}
-use Rattle.cx_rules.specs.Monitor.{MonitorNode}
-use Rattle.cx_rules.specs.MonitorRule.{monitor_rule}
-use Rattle.cx_rules.specs.Rows.{Outcome}
-use Rattle.cx_rules_session.specs.ClientRule.{me, opening_whole_client}
-use Rattle.cx_rules_session.specs.DaemonRule.{daemon_step}
-use Rattle.cx_rules_session.specs.Guests.{Served}
+use Rattle.cx_run.specs.cx_rules.specs.Monitor.{MonitorNode}
+use Rattle.cx_run.specs.cx_rules.specs.MonitorRule.{monitor_rule}
+use Rattle.cx_run.specs.cx_rules.specs.Rows.{Outcome}
+use Rattle.cx_run.specs.cx_rules_session.specs.ClientRule.{me, opening_whole_client}
+use Rattle.cx_run.specs.cx_rules_session.specs.DaemonRule.{daemon_step}
+use Rattle.cx_run.specs.cx_rules_session.specs.Guests.{Served}
 use Rattle.cx_run.proofs.DaemonNamed.{daemon-named}
 use Rattle.cx_run.proofs.SetUp.{handlers-stay}
 use Rattle.cx_run.specs.Happenings.{Entered, EntityNode, OfClient, OfDaemon, Happening, Nodes, Stepped, asker_in, entered_by, entity_of, entity_rule, entity_steps, is_of, journal_from, monitor_steps, steps, steps_of}

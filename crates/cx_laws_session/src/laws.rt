@@ -5,7 +5,7 @@ ghost use Rattle.cx_desk.specs.Handlers.{Handlers};
 ghost use Rattle.cx_journal.specs.Enforced.{IsEnforced};
 ghost use Rattle.cx_journal.specs.InSession.{IsInSession};
 ghost use Rattle.cx_laws_session.specs.Serving.{serves};
-ghost use Rattle.cx_lines.specs.declared.lines.Numbered.{Numbered};
+ghost use Rattle.cx_run.specs.cx_lines.specs.declared.lines.Numbered.{Numbered};
 ghost use Rattle.cx_run.specs.Happenings.{Happening};
 ghost use Rattle.cx_run.specs.Opening.{Setup};
 ghost use Rattle.cx_run.specs.Points.{journal_since};

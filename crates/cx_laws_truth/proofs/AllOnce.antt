@@ -16,7 +16,7 @@ use Rattle.cx_journal.specs.declared.entries.Admitted.{Admitted}
 use Rattle.cx_journal.specs.declared.entries.Entry.{Entry}
 use Rattle.cx_journal.specs.declared.entries.Entry.TheVariants as journal
 use Rattle.cx_journal.specs.declared.entries.Handled.{Handled}
-use Rattle.cx_laws_keys.proofs.Uses.{WholeRun}
+use Rattle.cx_laws_sent.specs.cx_laws_keys.proofs.Uses.{WholeRun}
 use Rattle.cx_laws_sent.specs.cx_laws_links.proofs.GuestTakes.{IsServedIn}
 use Rattle.cx_laws_sent.specs.cx_laws_queues.specs.Counting.{IsHandledInOrderBy, handled_since}
 use Rattle.cx_laws_sent.specs.cx_laws_queues.specs.Sending.{IsNumbered}

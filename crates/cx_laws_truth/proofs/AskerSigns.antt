@@ -21,15 +21,15 @@ use Rattle.cx_journal.specs.declared.outcomes.Reason.TheVariants as reason
 use Rattle.cx_laws_sent.specs.cx_laws_fetch.proofs.AskerPlain.{identified-plain, open-plain, request-plain, signature-plain}
 use Rattle.cx_laws_sent.specs.cx_laws_fetch.proofs.Handed.{IsNoLogin, IsPlain}
 use Rattle.cx_laws_sent.specs.cx_laws_fetch.proofs.HandedLogin.{login-opened, opened-all}
-use Rattle.cx_laws_keys.proofs.Known.{Inv}
-use Rattle.cx_laws_keys.proofs.Lists.{all-append}
-use Rattle.cx_laws_keys.proofs.Premises.{AreGranted, granted-first}
-use Rattle.cx_laws_keys.proofs.Uses.{AtMonitor, Connected, Grows, Login, Means, Secret, Use, Uses, WholeRun}
+use Rattle.cx_laws_sent.specs.cx_laws_keys.proofs.Known.{Inv}
+use Rattle.cx_laws_sent.specs.cx_laws_keys.proofs.Lists.{all-append}
+use Rattle.cx_laws_sent.specs.cx_laws_keys.proofs.Premises.{AreGranted, granted-first}
+use Rattle.cx_laws_sent.specs.cx_laws_keys.proofs.Uses.{AtMonitor, Connected, Grows, Login, Means, Secret, Use, Uses, WholeRun}
 use Rattle.cx_laws_sent.specs.cx_laws_login.proofs.AskerRows.{NeverExcepted}
 use Rattle.cx_laws_sent.specs.cx_laws_login.proofs.Facts.{AskerStageOk, HasMonitorKey, monitor_key-grows}
 use Rattle.cx_laws_sent.specs.cx_laws_run.specs.cx_laws_chain.specs.cx_laws_calling.proofs.Told.{login-told}
-use Rattle.cx_login.specs.Unlocking.{Unlocked, login_in}
-use Rattle.cx_login.specs.declared.client.LoggedIn.{LoggedIn}
+use Rattle.cx_laws_sent.specs.cx_login.specs.Unlocking.{Unlocked, login_in}
+use Rattle.cx_laws_sent.specs.cx_login.specs.declared.client.LoggedIn.{LoggedIn}
 use Rattle.cx_laws_sent.specs.cx_rules.specs.Connector.{AskerArrival, AskerRow, AwaitsBanner, AwaitsChallenge, AwaitsDone, AwaitsHello, AwaitsIdent, AwaitsSignature, Open, Stage, login_request, on_bad_method, on_banner, on_challenge, on_done, on_hello, on_login_done, on_opened, on_reply_more, on_signature, proves, signs, turned_at, while_challenged, while_identified, while_proved}
 use Rattle.cx_laws_sent.specs.cx_rules.specs.Fronts.{keys_behind, opened_parts, sealed_ahead, taking}
 use Rattle.cx_laws_sent.specs.cx_rules.specs.Greetings.{own_hello}
@@ -41,10 +41,10 @@ use Rattle.cx_laws_sent.specs.cx_rules.specs.Secured.{SealedFrame, Secured, conn
 use Rattle.cx_laws_sent.specs.cx_rules.specs.declared.requests.Want.{Want}
 use Rattle.cx_steps.specs.declared.seals.Logged.{Logged}
 use Rattle.cx_steps.specs.declared.seals.SealEntry.{SealEntry}
-use Rattle.cx_wire.specs.Logins.{login_done_layout, server_challenge_layout}
-use Rattle.cx_wire.specs.declared.bodies.Request.{Request}
-use Rattle.cx_wire.specs.declared.logins.LoginDone.{LoginDone}
-use Rattle.cx_wire.specs.declared.logins.ServerChallenge.{ServerChallenge}
+use Rattle.cx_laws_sent.specs.cx_wire.specs.Logins.{login_done_layout, server_challenge_layout}
+use Rattle.cx_laws_sent.specs.cx_wire.specs.declared.bodies.Request.{Request}
+use Rattle.cx_laws_sent.specs.cx_wire.specs.declared.logins.LoginDone.{LoginDone}
+use Rattle.cx_laws_sent.specs.cx_wire.specs.declared.logins.ServerChallenge.{ServerChallenge}
 use Rattle.cx_laws_sent.specs.cx_laws_answers.proofs.Signed.{SignedSo}
 use Rattle.cx_laws_truth.proofs.Signing.{AllSigned, TurnSigns, alone, banner-turn, frame-signed, link-no_ticket, login-no_ticket, parts-signed, plain-signed, plain-turn, secret-no_ticket, secure-turn, under-signed}
 

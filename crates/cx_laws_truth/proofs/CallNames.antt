@@ -20,15 +20,15 @@ use Rattle.cx_journal.specs.declared.premises.KeyKind.TheVariants as kind
 use Rattle.cx_laws_sent.specs.cx_laws_fetch.proofs.AskerFacts.{HasHeard, heard-one, hears-one}
 use Rattle.cx_laws_sent.specs.cx_laws_fetch.proofs.Banners.{IsRead, read-banner}
 use Rattle.cx_laws_sent.specs.cx_laws_fetch.proofs.WrittenFrames.{due-tag}
-use Rattle.cx_laws_keys.proofs.Known.{Inv}
-use Rattle.cx_laws_keys.proofs.Lists.{all-append}
-use Rattle.cx_laws_keys.proofs.Premises.{AreGranted, behind, granted-rest}
-use Rattle.cx_laws_keys.proofs.Uses.{AtDaemon, Connected, Grows, Means, Ticketed, Use, Uses, WholeRun, stays}
+use Rattle.cx_laws_sent.specs.cx_laws_keys.proofs.Known.{Inv}
+use Rattle.cx_laws_sent.specs.cx_laws_keys.proofs.Lists.{all-append}
+use Rattle.cx_laws_sent.specs.cx_laws_keys.proofs.Premises.{AreGranted, behind, granted-rest}
+use Rattle.cx_laws_sent.specs.cx_laws_keys.proofs.Uses.{AtDaemon, Connected, Grows, Means, Ticketed, Use, Uses, WholeRun, stays}
 use Rattle.cx_laws_sent.specs.cx_laws_login.proofs.AskerRows.{NeverExcepted}
 use Rattle.cx_laws_sent.specs.cx_laws_login.proofs.Facts.{HasConnection, connection-grows}
 use Rattle.cx_laws_sent.specs.cx_laws_run.specs.cx_laws_chain.specs.cx_laws_calling.proofs.CallSeals.{Seals, identified-seals, open-seals, reconnecting-seals, signature-seals}
 use Rattle.cx_laws_sent.specs.cx_laws_run.specs.cx_laws_chain.specs.cx_laws_calling.proofs.Sessions.{CallKeys, HeldOk, HoldingsOk, IsRepliedFor, IsShownFor, found-ticket, replied-connection, same-entity}
-use Rattle.cx_login.specs.Held.{Held}
+use Rattle.cx_laws_sent.specs.cx_login.specs.Held.{Held}
 use Rattle.cx_laws_sent.specs.cx_rules.specs.Fronts.{ahead_of, keys_behind, opened_parts, sealed_ahead, taking}
 use Rattle.cx_laws_sent.specs.cx_rules.specs.Links.{Link}
 use Rattle.cx_laws_sent.specs.cx_rules.specs.Messages.{on_upkeep_or}
@@ -40,7 +40,7 @@ use Rattle.cx_laws_sent.specs.cx_rules_session.specs.Sessions.{Called, Callee, H
 use Rattle.cx_steps.specs.Premises.{HasSigned, IsExcepted}
 use Rattle.cx_steps.specs.declared.seals.Logged.{Logged}
 use Rattle.cx_steps.specs.declared.seals.SealEntry.{SealEntry}
-use Rattle.cx_stream.specs.PlainStreams.{plain_frame_at}
+use Rattle.cx_laws_sent.specs.cx_stream.specs.PlainStreams.{plain_frame_at}
 use Rattle.cx_laws_sent.specs.cx_laws_links.proofs.Alone.{Anything, here-of}
 use Rattle.cx_laws_sent.specs.cx_laws_links.proofs.CallTells.{are-sealed}
 use Rattle.cx_laws_sent.specs.cx_laws_links.proofs.CallWords.{Identified, IsHeldHere, KeyedStage, Opened, Reconnecting, Says, SignedOn, identified-says, open-says, reconnecting-says}

@@ -11,10 +11,10 @@ use Rattle.cx_journal.specs.declared.faults.BytesFault.{BytesFault}
 use Rattle.cx_journal.specs.declared.outcomes.Reason.{Reason}
 use Rattle.cx_laws_sent.specs.cx_laws_fetch.proofs.AskerFacts.{found-open, heard-grows}
 use Rattle.cx_laws_sent.specs.cx_laws_fetch.proofs.WrittenFrames.{written-first}
-use Rattle.cx_laws_keys.proofs.Known.{Inv}
-use Rattle.cx_laws_keys.proofs.Lists.{found_all, some-of}
-use Rattle.cx_laws_keys.proofs.Premises.{AreGranted}
-use Rattle.cx_laws_keys.proofs.Uses.{Grows, Means, Use, Uses, WholeRun}
+use Rattle.cx_laws_sent.specs.cx_laws_keys.proofs.Known.{Inv}
+use Rattle.cx_laws_sent.specs.cx_laws_keys.proofs.Lists.{found_all, some-of}
+use Rattle.cx_laws_sent.specs.cx_laws_keys.proofs.Premises.{AreGranted}
+use Rattle.cx_laws_sent.specs.cx_laws_keys.proofs.Uses.{Grows, Means, Use, Uses, WholeRun}
 use Rattle.cx_laws_sent.specs.cx_laws_links.proofs.Known.{IsOfSession, StageTold, Told}
 use Rattle.cx_laws_sent.specs.cx_laws_login.proofs.AskerRows.{NeverExcepted}
 use Rattle.cx_laws_sent.specs.cx_laws_login.proofs.AskerTurns as asker_turns
@@ -43,7 +43,7 @@ use Rattle.cx_steps.specs.Onto.{SomeOf}
 use Rattle.cx_steps.specs.declared.events.Peer.{Peer}
 use Rattle.cx_steps.specs.declared.seals.Logged.{Logged}
 use Rattle.cx_steps.specs.declared.seals.SealEntry.{SealEntry}
-use Rattle.cx_wire.specs.declared.bodies.Request.TheVariants as asked
+use Rattle.cx_laws_sent.specs.cx_wire.specs.declared.bodies.Request.TheVariants as asked
 use Rattle.cx_laws_sent.specs.cx_laws_answers.proofs.CallSent.{CallRead}
 use Rattle.cx_laws_sent.specs.cx_laws_answers.proofs.Signed.{AreSigned}
 use Rattle.cx_laws_sent.proofs.ClientEvents.{all-put}

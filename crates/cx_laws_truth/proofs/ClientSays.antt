@@ -2,8 +2,8 @@
 use Rattle.std.proofs.Common.{ℕ, List, ◌∙◌}
 use Rattle.cx_base.specs.Names.{Name}
 use Rattle.cx_journal.specs.declared.entries.Entry.{Entry}
-use Rattle.cx_laws_keys.proofs.Journal.{entered}
-use Rattle.cx_laws_keys.proofs.Uses.{Uses, WholeRun}
+use Rattle.cx_laws_sent.specs.cx_laws_keys.proofs.Journal.{entered}
+use Rattle.cx_laws_sent.specs.cx_laws_keys.proofs.Uses.{Uses, WholeRun}
 use Rattle.cx_laws_sent.specs.cx_laws_links.proofs.Known.{Told}
 use Rattle.cx_laws_sent.specs.cx_rules.specs.Inputs.{Input}
 use Rattle.cx_laws_sent.specs.cx_rules_session.specs.ClientRule.{WholeClientNode, whole_client_rule}

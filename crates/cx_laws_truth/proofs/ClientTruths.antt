@@ -3,7 +3,7 @@
 use Rattle.std.proofs.Common.{◌≡◌, ℕ, ◌<◌, List, [], ◌∷◌, ◌++◌, map, Option, Some, None, inl, inr, ◌⊎◌, refl, sym, ap, ◌∙◌, subst, arith, append-nil}
 use Rattle.std.specs.Prelude.{Contains}
 use Rattle.std.specs.List.{AllByRecursion}
-use Rattle.cx_authorize.specs.Verdict.{raised}
+use Rattle.cx_laws_sent.specs.cx_authorize.specs.Verdict.{raised}
 use Rattle.cx_base.specs.Names.{Name}
 use Rattle.cx_base.specs.declared.kinds.EntityType.{EntityType}
 use Rattle.cx_base.specs.declared.nodes.NodeName.{NodeName}
@@ -13,11 +13,11 @@ use Rattle.cx_journal.specs.Behind.{EachBehind}
 use Rattle.cx_journal.specs.declared.entries.Answered.{Answered}
 use Rattle.cx_journal.specs.declared.entries.Entry.{Entry}
 use Rattle.cx_journal.specs.declared.entries.Entry.TheVariants as journal
-use Rattle.cx_laws_keys.proofs.Journal.{entered}
-use Rattle.cx_laws_keys.proofs.Known.{HasReply, Inv}
-use Rattle.cx_laws_keys.proofs.Lists.{all-map, some-of}
-use Rattle.cx_laws_keys.proofs.Premises.{AreGranted, behind}
-use Rattle.cx_laws_keys.proofs.Uses.{AtDaemon, Connected, Grows, Means, Use, Uses, WholeRun}
+use Rattle.cx_laws_sent.specs.cx_laws_keys.proofs.Journal.{entered}
+use Rattle.cx_laws_sent.specs.cx_laws_keys.proofs.Known.{HasReply, Inv}
+use Rattle.cx_laws_sent.specs.cx_laws_keys.proofs.Lists.{all-map, some-of}
+use Rattle.cx_laws_sent.specs.cx_laws_keys.proofs.Premises.{AreGranted, behind}
+use Rattle.cx_laws_sent.specs.cx_laws_keys.proofs.Uses.{AtDaemon, Connected, Grows, Means, Use, Uses, WholeRun}
 use Rattle.cx_laws_sent.specs.cx_rules.specs.Fronts.{keys_behind}
 use Rattle.cx_laws_sent.specs.cx_rules.specs.Links.{Link}
 use Rattle.cx_laws_sent.specs.cx_rules.specs.Rows.{Outcome}
@@ -26,7 +26,7 @@ use Rattle.cx_laws_sent.specs.cx_rules_session.specs.ClientRule.{ClientStage, To
 use Rattle.cx_laws_sent.specs.cx_rules_session.specs.Presenter as call
 use Rattle.cx_laws_sent.specs.cx_rules_session.specs.Presenter.{CallArrival, CallRow, CallStage, callee_of}
 use Rattle.cx_laws_sent.specs.cx_rules_session.specs.Sessions.{Callee}
-use Rattle.cx_sealed.specs.declared.authorize_reply.AuthorizeReply.{AuthorizeReply}
+use Rattle.cx_laws_sent.specs.cx_sealed.specs.declared.authorize_reply.AuthorizeReply.{AuthorizeReply}
 use Rattle.cx_steps.specs.declared.seals.Logged.{Logged}
 use Rattle.cx_steps.specs.declared.seals.SealEntry.{SealEntry}
 use Rattle.cx_laws_sent.specs.cx_laws_links.proofs.Binding.{unspoken}

@@ -9,7 +9,7 @@ use Rattle.cx_journal.specs.Sessions.{session_of}
 use Rattle.cx_journal.specs.declared.entries.Admitted.{Admitted}
 use Rattle.cx_journal.specs.declared.entries.Entry.{Entry}
 use Rattle.cx_journal.specs.declared.entries.Entry.TheVariants as journal
-use Rattle.cx_laws_keys.proofs.Uses.{WholeRun}
+use Rattle.cx_laws_sent.specs.cx_laws_keys.proofs.Uses.{WholeRun}
 use Rattle.cx_laws_sent.specs.cx_laws_queues.specs.cx_laws_session.proofs.Standing.{OpensAt, standing-opens}
 use Rattle.cx_laws_sent.specs.cx_laws_links.proofs.Speaking.{cons-cases}
 use Rattle.cx_laws_sent.proofs.Fronted.{StandsBy}

@@ -3,7 +3,7 @@ use Rattle.std.proofs.Common.{◌≡◌, ℕ, ◌==◌, Bool, true, false, List,
 use Rattle.std.specs.Prelude.{Contains, if◌then◌else◌, not}
 use Rattle.std.specs.List.{AllByRecursion}
 use Rattle.std.specs.Option.{option_map}
-use Rattle.cx_authorize.specs.Daemon.{Authority}
+use Rattle.cx_laws_sent.specs.cx_authorize.specs.Daemon.{Authority}
 use Rattle.cx_base.specs.Names.{Name, is_daemon_type}
 use Rattle.cx_base.specs.declared.kinds.EntityType.{EntityType}
 use Rattle.cx_base.specs.declared.nodes.NodeName.{NodeName}
@@ -14,11 +14,11 @@ use Rattle.cx_frame.specs.declared.frame.Frame.{Frame}
 use Rattle.cx_journal.specs.declared.entries.Entry.{Entry}
 use Rattle.cx_journal.specs.declared.outcomes.Reason.{Reason}
 use Rattle.cx_laws_sent.specs.cx_laws_fetch.proofs.AskerFacts.{found-open}
-use Rattle.cx_laws_keys.proofs.Journal.{entered}
-use Rattle.cx_laws_keys.proofs.Known.{Inv, IsAllowed, IsOfKind, SignedAt}
-use Rattle.cx_laws_keys.proofs.Lists.{all-append, all-map, found_all}
-use Rattle.cx_laws_keys.proofs.Premises.{AreGranted}
-use Rattle.cx_laws_keys.proofs.Uses.{AtDaemon, Connected, Grows, Means, Ticketed, Use, Uses, WholeRun}
+use Rattle.cx_laws_sent.specs.cx_laws_keys.proofs.Journal.{entered}
+use Rattle.cx_laws_sent.specs.cx_laws_keys.proofs.Known.{Inv, IsAllowed, IsOfKind, SignedAt}
+use Rattle.cx_laws_sent.specs.cx_laws_keys.proofs.Lists.{all-append, all-map, found_all}
+use Rattle.cx_laws_sent.specs.cx_laws_keys.proofs.Premises.{AreGranted}
+use Rattle.cx_laws_sent.specs.cx_laws_keys.proofs.Uses.{AtDaemon, Connected, Grows, Means, Ticketed, Use, Uses, WholeRun}
 use Rattle.cx_laws_sent.specs.cx_laws_links.proofs.Known.{Told}
 use Rattle.cx_laws_sent.specs.cx_laws_links.proofs.Written.{all-behind}
 use Rattle.cx_laws_sent.specs.cx_laws_login.proofs.AskerRows.{NeverExcepted}
@@ -46,13 +46,13 @@ use Rattle.cx_laws_sent.specs.cx_rules_session.specs.Hosting.{Deciding, Hosted, 
 use Rattle.cx_laws_sent.specs.cx_rules_session.specs.Kinds.{arrival_in, of_kind, turn_of_kind}
 use Rattle.cx_laws_sent.specs.cx_run.proofs.DaemonNamed.{daemon-named}
 use Rattle.cx_laws_sent.specs.cx_run.proofs.GuestTakes.{Always, always-book, always-map, always-weaker}
-use Rattle.cx_secure.specs.declared.refusals.SecureRefusal.{SecureRefusal}
+use Rattle.cx_laws_sent.specs.cx_secure.specs.declared.refusals.SecureRefusal.{SecureRefusal}
 use Rattle.cx_steps.specs.declared.seals.Logged.{Logged}
 use Rattle.cx_steps.specs.declared.seals.SealEntry.{SealEntry}
 use Rattle.cx_steps.specs.declared.seals.SealEntry.TheVariants as entry
 use Rattle.cx_steps.specs.declared.seals.SealMark.{SealMark}
-use Rattle.cx_stream.specs.SecureStreams.{secure_frame_at}
-use Rattle.cx_wire.specs.declared.bodies.Request.TheVariants as asked
+use Rattle.cx_laws_sent.specs.cx_stream.specs.SecureStreams.{secure_frame_at}
+use Rattle.cx_laws_sent.specs.cx_wire.specs.declared.bodies.Request.TheVariants as asked
 use Rattle.cx_laws_sent.specs.cx_laws_answers.proofs.GuestFirst.{IsEarly}
 use Rattle.cx_laws_sent.specs.cx_laws_answers.proofs.GuestGives.{IdentGives, KeyedGuest, OpenGives, Serves, SignedGives, WaitsOn}
 use Rattle.cx_laws_sent.specs.cx_laws_answers.proofs.GuestHeard.{Signs}

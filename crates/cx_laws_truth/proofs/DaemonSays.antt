@@ -2,7 +2,7 @@
 use Rattle.std.proofs.Common.{◌≡◌, ℕ, List, [], ◌++◌, inl, inr, refl, sym, subst, append-nil}
 use Rattle.std.specs.Prelude.{Contains}
 use Rattle.std.specs.List.{AllByRecursion}
-use Rattle.cx_authorize.specs.Daemon.{Authority}
+use Rattle.cx_laws_sent.specs.cx_authorize.specs.Daemon.{Authority}
 use Rattle.cx_base.specs.Names.{Name}
 use Rattle.cx_base.specs.declared.nodes.NodeName.TheVariants as node
 use Rattle.cx_desk.specs.Handlers.{Handlers}
@@ -11,10 +11,10 @@ use Rattle.cx_journal.specs.declared.entries.Answered.{Answered}
 use Rattle.cx_journal.specs.declared.entries.Entry.{Entry}
 use Rattle.cx_journal.specs.declared.entries.Entry.TheVariants as journal
 use Rattle.cx_laws_sent.specs.cx_laws_run.specs.cx_laws_authorize.proofs.DaemonRows.{LinksHave}
-use Rattle.cx_laws_keys.proofs.Journal.{entered}
-use Rattle.cx_laws_keys.proofs.Lists.{all-map}
-use Rattle.cx_laws_keys.proofs.Premises.{behind}
-use Rattle.cx_laws_keys.proofs.Uses.{Uses, WholeRun, stays}
+use Rattle.cx_laws_sent.specs.cx_laws_keys.proofs.Journal.{entered}
+use Rattle.cx_laws_sent.specs.cx_laws_keys.proofs.Lists.{all-map}
+use Rattle.cx_laws_sent.specs.cx_laws_keys.proofs.Premises.{behind}
+use Rattle.cx_laws_sent.specs.cx_laws_keys.proofs.Uses.{Uses, WholeRun, stays}
 use Rattle.cx_laws_sent.specs.cx_laws_queues.specs.cx_laws_session.proofs.Daemons.{daemon-comes}
 use Rattle.cx_laws_sent.specs.cx_laws_queues.specs.cx_laws_session.proofs.Moves.{Admitting, Ending, IsQuiet, IsRight, LinksServe, Rested, Resuming, StepComes}
 use Rattle.cx_laws_sent.specs.cx_laws_series.proofs.Contents.{contents_by}

@@ -12,11 +12,11 @@ use Rattle.cx_journal.specs.declared.entries.Entry.{Entry}
 use Rattle.cx_journal.specs.declared.outcomes.Reason.{Reason}
 use Rattle.cx_laws_sent.specs.cx_laws_run.specs.cx_laws_authorize.proofs.DaemonRows.{DaemonStageOk, LinksHave}
 use Rattle.cx_laws_sent.specs.cx_laws_run.specs.cx_laws_authorize.proofs.Keys.{LinkKeys}
-use Rattle.cx_laws_keys.proofs.Journal.{entered}
-use Rattle.cx_laws_keys.proofs.Known.{Inv}
-use Rattle.cx_laws_keys.proofs.Lists.{found_all}
-use Rattle.cx_laws_keys.proofs.Premises.{AreGranted, behind}
-use Rattle.cx_laws_keys.proofs.Uses.{AreGenerated, AtDaemon, Connected, Grows, Uses, WholeRun}
+use Rattle.cx_laws_sent.specs.cx_laws_keys.proofs.Journal.{entered}
+use Rattle.cx_laws_sent.specs.cx_laws_keys.proofs.Known.{Inv}
+use Rattle.cx_laws_sent.specs.cx_laws_keys.proofs.Lists.{found_all}
+use Rattle.cx_laws_sent.specs.cx_laws_keys.proofs.Premises.{AreGranted, behind}
+use Rattle.cx_laws_sent.specs.cx_laws_keys.proofs.Uses.{AreGenerated, AtDaemon, Connected, Grows, Uses, WholeRun}
 use Rattle.cx_laws_sent.specs.cx_laws_series.proofs.Contents.{contents_by}
 use Rattle.cx_laws_sent.specs.cx_rules.specs.Acceptor.{AwaitsBanner, AwaitsHello, AwaitsRequest, AwaitsProof, AwaitsSignature, AwaitsIdent, Open}
 use Rattle.cx_laws_sent.specs.cx_rules.specs.Connector as connector
@@ -34,7 +34,7 @@ use Rattle.cx_laws_sent.specs.cx_rules_session.specs.Kinds.{arrival_in, of_kind,
 use Rattle.cx_laws_sent.specs.cx_run.proofs.GuestTakes.{Always, always-map, always-weaker}
 use Rattle.cx_steps.specs.declared.seals.Logged.{Logged}
 use Rattle.cx_steps.specs.declared.seals.SealEntry.{SealEntry}
-use Rattle.cx_wire.specs.declared.bodies.Request.TheVariants as asked
+use Rattle.cx_laws_sent.specs.cx_wire.specs.declared.bodies.Request.TheVariants as asked
 use Rattle.cx_laws_sent.specs.cx_laws_links.proofs.CallTells.{quiet-none}
 use Rattle.cx_laws_sent.specs.cx_laws_links.proofs.GuestNodes.{HostKnown, LinksKnown}
 use Rattle.cx_laws_sent.specs.cx_laws_links.proofs.GuestTakes.{OpenedFor}

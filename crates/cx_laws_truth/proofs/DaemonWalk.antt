@@ -6,7 +6,7 @@ use Rattle.std.proofs.lemmas.List.Elements.{Contains-append_left, Contains-appen
 use Rattle.std.specs.Prelude.{Contains, nat_le, not, if◌then◌else◌}
 use Rattle.std.specs.List.{AllByRecursion}
 use Rattle.cx_desk.specs.Handlers.{Handlers}
-use Rattle.cx_laws_keys.proofs.Lists.{all-append, found_all}
+use Rattle.cx_laws_sent.specs.cx_laws_keys.proofs.Lists.{all-append, found_all}
 use Rattle.cx_journal.specs.declared.outcomes.Reason.TheVariants as reason
 use Rattle.cx_laws_sent.specs.cx_rules.specs.Acceptor.{AwaitsBanner, AwaitsHello, AwaitsRequest, AwaitsProof, AwaitsSignature, AwaitsIdent, Open}
 use Rattle.cx_laws_sent.specs.cx_rules.specs.Connector as connector

@@ -14,9 +14,9 @@ use Rattle.cx_journal.specs.declared.entries.Entry.{Entry}
 use Rattle.cx_journal.specs.declared.faults.BytesFault.{BytesFault}
 use Rattle.cx_journal.specs.declared.outcomes.Outcome.{Outcome}
 use Rattle.cx_laws_sent.specs.cx_laws_run.specs.cx_laws_authorize.proofs.Keys.{LinkKeys}
-use Rattle.cx_laws_keys.proofs.Known.{Inv}
-use Rattle.cx_laws_keys.proofs.Premises.{AreGranted, behind, granted-first}
-use Rattle.cx_laws_keys.proofs.Uses.{AtDaemon, Connected, Generated, Grows, Login, Means, Secret, Ticketed, Use, Uses, WholeRun}
+use Rattle.cx_laws_sent.specs.cx_laws_keys.proofs.Known.{Inv}
+use Rattle.cx_laws_sent.specs.cx_laws_keys.proofs.Premises.{AreGranted, behind, granted-first}
+use Rattle.cx_laws_sent.specs.cx_laws_keys.proofs.Uses.{AtDaemon, Connected, Generated, Grows, Login, Means, Secret, Ticketed, Use, Uses, WholeRun}
 use Rattle.cx_laws_sent.specs.cx_laws_series.proofs.Contents.{contents_by}
 use Rattle.cx_laws_sent.specs.cx_laws_series.proofs.Series.{IsAt}
 use Rattle.cx_laws_sent.specs.cx_rules.specs.Acceptor.{AwaitsSignature, joined}
@@ -26,7 +26,7 @@ use Rattle.cx_laws_sent.specs.cx_rules_session.specs.DaemonRule.{DaemonStage}
 use Rattle.cx_laws_sent.specs.cx_rules_session.specs.Envelopes.{authorize_reply_content, session_sealed}
 use Rattle.cx_laws_sent.specs.cx_rules_session.specs.Guests.{GuestArrival, GuestRow, GuestStage, authority_of, authorized_frame, authorizes, done_sent}
 use Rattle.cx_laws_sent.specs.cx_rules_session.specs.Hosting.{Instruction}
-use Rattle.cx_sealed.specs.declared.service_ticket.ServiceTicket.{ServiceTicket}
+use Rattle.cx_laws_sent.specs.cx_sealed.specs.declared.service_ticket.ServiceTicket.{ServiceTicket}
 use Rattle.cx_steps.specs.declared.seals.DrawMark.TheVariants as draw
 use Rattle.cx_steps.specs.declared.seals.Logged.{Logged}
 use Rattle.cx_steps.specs.declared.seals.SealEntry.{SealEntry}

@@ -3,9 +3,9 @@ use Rattle.std.proofs.Common.{◌≡◌, ℕ, List, [], refl, sym, append-nil}
 use Rattle.cx_base.specs.Names.{Name}
 use Rattle.cx_base.specs.declared.nodes.NodeName.{NodeName}
 use Rattle.cx_journal.specs.declared.entries.Entry.{Entry}
-use Rattle.cx_laws_keys.proofs.Known.{Inv}
-use Rattle.cx_laws_keys.proofs.Premises.{behind}
-use Rattle.cx_laws_keys.proofs.Uses.{Grows, Means, Use, Uses, WholeRun}
+use Rattle.cx_laws_sent.specs.cx_laws_keys.proofs.Known.{Inv}
+use Rattle.cx_laws_sent.specs.cx_laws_keys.proofs.Premises.{behind}
+use Rattle.cx_laws_sent.specs.cx_laws_keys.proofs.Uses.{Grows, Means, Use, Uses, WholeRun}
 use Rattle.cx_laws_sent.specs.cx_laws_series.proofs.Contents.{contents_by}
 use Rattle.cx_laws_sent.specs.cx_rules.specs.Acceptor as acceptor
 use Rattle.cx_laws_sent.specs.cx_rules.specs.Secured.{Secured}

@@ -5,8 +5,8 @@ use Rattle.std.specs.List.{AllByRecursion}
 use Rattle.cx_base.specs.Names.{Name, is_daemon_type}
 use Rattle.cx_base.specs.declared.kinds.EntityType.{EntityType}
 use Rattle.cx_base.specs.declared.nodes.NodeName.{NodeName}
-use Rattle.cx_laws_keys.proofs.Lists.{all-map}
-use Rattle.cx_laws_keys.proofs.Uses.{AtDaemon, Connected, Grows, Means, Uses}
+use Rattle.cx_laws_sent.specs.cx_laws_keys.proofs.Lists.{all-map}
+use Rattle.cx_laws_sent.specs.cx_laws_keys.proofs.Uses.{AtDaemon, Connected, Grows, Means, Uses}
 use Rattle.cx_laws_sent.specs.cx_rules.specs.Links.{Link}
 use Rattle.cx_laws_sent.specs.cx_rules.specs.Secured.{Secured}
 use Rattle.cx_laws_sent.specs.cx_rules_session.specs.ClientRule.{ClientStage, ToDaemon, ToMonitor, WholeClientNode}

@@ -9,10 +9,10 @@ use Rattle.cx_base.specs.declared.kinds.EntityType.{EntityType}
 use Rattle.cx_base.specs.declared.nodes.NodeName.{NodeName}
 use Rattle.cx_base.specs.declared.nodes.NodeName.TheVariants as node
 use Rattle.cx_journal.specs.declared.entries.Entry.{Entry}
-use Rattle.cx_laws_keys.proofs.Known.{IsAcceptorOr, IsAllowed, IsOfAcceptor, IsOfKind, IsPlaced, SealedAt}
-use Rattle.cx_laws_keys.proofs.Lists.{all-map}
-use Rattle.cx_laws_keys.proofs.Premises.{behind}
-use Rattle.cx_laws_keys.proofs.Uses.{AtDaemon, Connected, Grows, Means, Use, Uses, WholeRun}
+use Rattle.cx_laws_sent.specs.cx_laws_keys.proofs.Known.{IsAcceptorOr, IsAllowed, IsOfAcceptor, IsOfKind, IsPlaced, SealedAt}
+use Rattle.cx_laws_sent.specs.cx_laws_keys.proofs.Lists.{all-map}
+use Rattle.cx_laws_sent.specs.cx_laws_keys.proofs.Premises.{behind}
+use Rattle.cx_laws_sent.specs.cx_laws_keys.proofs.Uses.{AtDaemon, Connected, Grows, Means, Use, Uses, WholeRun}
 use Rattle.cx_laws_sent.specs.cx_laws_series.proofs.Contents.{content_where, contents_by}
 use Rattle.cx_laws_sent.specs.cx_rules.specs.Links.{Link}
 use Rattle.cx_laws_sent.specs.cx_rules.specs.Rows.{Outcome}

@@ -5,9 +5,9 @@ use Rattle.cx_base.specs.Names.{Name}
 use Rattle.cx_base.specs.declared.nodes.NodeName.{NodeName}
 use Rattle.cx_base.specs.declared.nodes.NodeName.TheVariants as node
 use Rattle.cx_journal.specs.declared.entries.Entry.{Entry}
-use Rattle.cx_laws_keys.proofs.Lists.{all-map}
-use Rattle.cx_laws_keys.proofs.Premises.{behind}
-use Rattle.cx_laws_keys.proofs.Uses.{Grows, Means, Use, Uses, WholeRun}
+use Rattle.cx_laws_sent.specs.cx_laws_keys.proofs.Lists.{all-map}
+use Rattle.cx_laws_sent.specs.cx_laws_keys.proofs.Premises.{behind}
+use Rattle.cx_laws_sent.specs.cx_laws_keys.proofs.Uses.{Grows, Means, Use, Uses, WholeRun}
 use Rattle.cx_laws_sent.specs.cx_rules.specs.Links.{Link}
 use Rattle.cx_laws_sent.specs.cx_rules.specs.Rows.{Outcome}
 use Rattle.cx_laws_sent.specs.cx_rules_session.specs.ClientRule.{ClientStage, ToDaemon, ToMonitor, WholeClientNode}

@@ -14,21 +14,21 @@ use Rattle.cx_journal.specs.declared.entries.Entry.{Entry}
 use Rattle.cx_journal.specs.declared.premises.KeyKind.TheVariants as kind
 use Rattle.cx_laws_sent.specs.cx_laws_fetch.proofs.Handed.{IsPlain}
 use Rattle.cx_laws_sent.specs.cx_laws_fetch.proofs.SameChallenge.{TellsReply}
-use Rattle.cx_laws_keys.proofs.Known.{IsAllowed}
-use Rattle.cx_laws_keys.proofs.Uses.{Connected, Means, Secret, Login, Ticketed, Tie, Use, Uses}
+use Rattle.cx_laws_sent.specs.cx_laws_keys.proofs.Known.{IsAllowed}
+use Rattle.cx_laws_sent.specs.cx_laws_keys.proofs.Uses.{Connected, Means, Secret, Login, Ticketed, Tie, Use, Uses}
 use Rattle.cx_laws_sent.specs.cx_laws_series.proofs.Frames.{frame-sealed}
 use Rattle.cx_laws_sent.specs.cx_rules.specs.Fronts.{ahead_of, banner_next, banner_read, keys_behind, opened_parts, plain_next, plain_read, sealed_ahead, secure_next, secure_read, taking}
 use Rattle.cx_laws_sent.specs.cx_rules.specs.Links.{Link}
 use Rattle.cx_laws_sent.specs.cx_rules.specs.Rows.{Handles, Refuses, Row, Turned, Waits, turned_by}
 use Rattle.cx_laws_sent.specs.cx_rules.specs.Secured.{Keys, SealedFrame, part_seals, secure_frame}
-use Rattle.cx_secure.specs.Plains.{plains}
-use Rattle.cx_secure.specs.declared.refusals.SecureRefusal.{SecureRefusal}
+use Rattle.cx_laws_sent.specs.cx_secure.specs.Plains.{plains}
+use Rattle.cx_laws_sent.specs.cx_secure.specs.declared.refusals.SecureRefusal.{SecureRefusal}
 use Rattle.cx_steps.specs.declared.seals.SealEntry.{SealEntry}
 use Rattle.cx_steps.specs.declared.seals.SealEntry.TheVariants as entry
 use Rattle.cx_steps.specs.declared.seals.SealMark.{SealMark}
-use Rattle.cx_stream.specs.Openings.{front_contents}
-use Rattle.cx_stream.specs.PlainStreams.{plain_frame_at}
-use Rattle.cx_stream.specs.SecureStreams.{Ahead, secure_frame_at}
+use Rattle.cx_laws_sent.specs.cx_stream.specs.Openings.{front_contents}
+use Rattle.cx_laws_sent.specs.cx_stream.specs.PlainStreams.{plain_frame_at}
+use Rattle.cx_laws_sent.specs.cx_stream.specs.SecureStreams.{Ahead, secure_frame_at}
 use Rattle.cx_laws_sent.specs.cx_laws_answers.proofs.SameService.{HearsService}
 use Rattle.cx_laws_sent.specs.cx_laws_answers.proofs.Signed.{SignedSo}
 

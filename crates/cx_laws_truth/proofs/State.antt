@@ -2,7 +2,7 @@
 use Rattle.std.proofs.Common.{◌≡◌, ℕ, ◌<◌, ◌^◌, List, [], ◌++◌}
 use Rattle.std.specs.Prelude.{Contains}
 use Rattle.std.specs.List.{AllByRecursion}
-use Rattle.cx_authorize.specs.Verdict.{raised}
+use Rattle.cx_laws_sent.specs.cx_authorize.specs.Verdict.{raised}
 use Rattle.cx_base.specs.Names.{Name}
 use Rattle.cx_base.specs.declared.kinds.EntityType.{EntityType}
 use Rattle.cx_base.specs.declared.nodes.NodeName.{NodeName}
@@ -11,8 +11,8 @@ use Rattle.cx_journal.specs.Behind.{EachBehind}
 use Rattle.cx_journal.specs.declared.entries.Answered.{Answered}
 use Rattle.cx_journal.specs.declared.entries.Entry.{Entry}
 use Rattle.cx_journal.specs.declared.entries.Entry.TheVariants as journal
-use Rattle.cx_laws_keys.proofs.Premises.{behind}
-use Rattle.cx_laws_keys.proofs.Uses.{Uses, WholeRun}
+use Rattle.cx_laws_sent.specs.cx_laws_keys.proofs.Premises.{behind}
+use Rattle.cx_laws_sent.specs.cx_laws_keys.proofs.Uses.{Uses, WholeRun}
 use Rattle.cx_laws_sent.specs.cx_laws_series.proofs.Contents.{contents_by}
 use Rattle.cx_laws_sent.specs.cx_rules.specs.Links.{Link}
 use Rattle.cx_laws_sent.specs.cx_rules.specs.Rows.{Outcome}

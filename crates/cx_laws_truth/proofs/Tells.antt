@@ -12,7 +12,7 @@ use Rattle.cx_journal.specs.declared.entries.Answered.{Answered}
 use Rattle.cx_journal.specs.declared.entries.Entry.{Entry}
 use Rattle.cx_journal.specs.declared.entries.Entry.TheVariants as journal
 use Rattle.cx_journal.specs.declared.entries.Handled.{Handled}
-use Rattle.cx_laws_keys.proofs.Uses.{WholeRun}
+use Rattle.cx_laws_sent.specs.cx_laws_keys.proofs.Uses.{WholeRun}
 use Rattle.cx_laws_sent.specs.cx_laws_queues.specs.cx_laws_session.proofs.Standing.{standing-handles}
 use Rattle.cx_laws_sent.specs.cx_laws_links.proofs.GuestTakes.{IsServedIn}
 use Rattle.cx_laws_sent.specs.cx_laws_answers.proofs.CallAny.{IsToldSo}

@@ -11,11 +11,11 @@ use Rattle.cx_journal.specs.Behind.{EachBehind}
 use Rattle.cx_journal.specs.declared.entries.Entry.{Entry}
 use Rattle.cx_journal.specs.declared.entries.Entry.TheVariants as journal
 use Rattle.cx_laws_sent.specs.cx_laws_run.specs.cx_laws_authorize.proofs.Backing.{AllGood}
-use Rattle.cx_laws_keys.proofs.Journal.{After, entered}
-use Rattle.cx_laws_keys.proofs.Known.{Inv, IsAllowed, SignedAt}
-use Rattle.cx_laws_keys.proofs.Lists.{all-map, found_all, found_passes, map-append}
-use Rattle.cx_laws_keys.proofs.Premises.{AreGranted, IsGranted, behind, granted-step}
-use Rattle.cx_laws_keys.proofs.Uses.{Grows, Means, Ticketed, Use, Uses, WholeRun}
+use Rattle.cx_laws_sent.specs.cx_laws_keys.proofs.Journal.{After, entered}
+use Rattle.cx_laws_sent.specs.cx_laws_keys.proofs.Known.{Inv, IsAllowed, SignedAt}
+use Rattle.cx_laws_sent.specs.cx_laws_keys.proofs.Lists.{all-map, found_all, found_passes, map-append}
+use Rattle.cx_laws_sent.specs.cx_laws_keys.proofs.Premises.{AreGranted, IsGranted, behind, granted-step}
+use Rattle.cx_laws_sent.specs.cx_laws_keys.proofs.Uses.{Grows, Means, Ticketed, Use, Uses, WholeRun}
 use Rattle.cx_laws_sent.specs.cx_laws_links.proofs.Known.{Told}
 use Rattle.cx_laws_sent.specs.cx_laws_links.proofs.Written.{all-behind}
 use Rattle.cx_laws_sent.specs.cx_laws_queues.proofs.Runs.{AllQueues, node-run}

@@ -5,7 +5,7 @@ use Rattle.cx_journal.specs.Behind.{EachBehind}
 use Rattle.cx_journal.specs.Truthful.{IsTruthful}
 use Rattle.cx_journal.specs.declared.entries.Entry.{Entry}
 use Rattle.cx_journal.specs.declared.entries.Entry.TheVariants as journal
-use Rattle.cx_laws_keys.proofs.Uses.{WholeRun}
+use Rattle.cx_laws_sent.specs.cx_laws_keys.proofs.Uses.{WholeRun}
 use Rattle.cx_laws_sent.specs.cx_laws_queues.proofs.Cookies.{cookies-numbered}
 use Rattle.cx_laws_sent.specs.cx_laws_queues.proofs.Runs.{all-handled-in-order}
 use Rattle.cx_laws_sent.specs.cx_laws_run.proofs.Happening.{visited}

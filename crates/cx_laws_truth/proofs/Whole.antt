@@ -11,12 +11,12 @@ use Rattle.cx_laws_sent.specs.cx_laws_run.proofs.Journals.{keeps-tickets}
 use Rattle.cx_laws_sent.specs.cx_laws_run.proofs.Schedules.{may-happen}
 use Rattle.cx_laws_sent.specs.cx_laws_run.proofs.Whole.{run_of}
 use Rattle.cx_laws_sent.specs.cx_laws_run.specs.Laws.{KeepsLaws, KeepsTickets, MayHappen}
-use Rattle.cx_lines.specs.declared.lines.Numbered.{Numbered}
+use Rattle.cx_laws_sent.specs.cx_lines.specs.declared.lines.Numbered.{Numbered}
 use Rattle.cx_laws_sent.specs.cx_run.specs.Happenings.{Happening}
 use Rattle.cx_laws_sent.specs.cx_run.specs.Opening.{Setup, leaked_of}
 use Rattle.cx_laws_sent.specs.cx_run.specs.Points.{journal_since, log_since}
 use Rattle.cx_laws_sent.specs.cx_run.specs.Runs.{IsFoundOf, run_journal, setup_of, trace}
-use Rattle.cx_schedule.specs.Files.{Lines}
+use Rattle.cx_laws_sent.specs.cx_schedule.specs.Files.{Lines}
 use Rattle.cx_steps.specs.Premises.{IsFresh, IsSound}
 use Rattle.cx_laws_sent.proofs.Sending.{trace-fits}
 use Rattle.cx_laws_sent.proofs.Whole.{any-ordered}

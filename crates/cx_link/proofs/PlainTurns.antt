@@ -9,12 +9,12 @@ use Rattle.cx_frame.specs.declared.refusals.FrameRefusal.{FrameRefusal}
 use Rattle.cx_frame.specs.declared.refusals.FrameRefusal.TheVariants as plain
 use Rattle.cx_journal.specs.declared.faults.BytesFault.{BytesFault}
 use Rattle.cx_rules.specs.Fronts.{plain_fault}
-use Rattle.cx_stream.specs.Fronts.{frame_in}
-use Rattle.cx_stream.specs.PlainStreams.{AgreesPlain, IsPlainAt, Stands, Takes, plain_frame_at}
-use Rattle.cx_stream.specs.Received.{Received}
-use Rattle.cx_stream.specs.declared.faults.StreamFault.{StreamFault}
-use Rattle.cx_stream.specs.declared.faults.StreamFault.TheVariants.{Banner as OfBanner, Plain, Secure}
-use Rattle.cx_stream.proofs.PlainFronts.{Read, plain_again}
+use Rattle.cx_rules.specs.cx_stream.specs.Fronts.{frame_in}
+use Rattle.cx_rules.specs.cx_stream.specs.PlainStreams.{AgreesPlain, IsPlainAt, Stands, Takes, plain_frame_at}
+use Rattle.cx_rules.specs.cx_stream.specs.Received.{Received}
+use Rattle.cx_rules.specs.cx_stream.specs.declared.faults.StreamFault.{StreamFault}
+use Rattle.cx_rules.specs.cx_stream.specs.declared.faults.StreamFault.TheVariants.{Banner as OfBanner, Plain, Secure}
+use Rattle.cx_rules.specs.cx_stream.proofs.PlainFronts.{Read, plain_again}
 use Rattle.cx_link.specs.Refusing.{stream_refusal}
 use Rattle.cx_link.specs.Turning.{RefusesPlain, TakesBanner, TakesPlain}
 use Rattle.cx_link.specs.Wires.{Wire, plain_wire}

@@ -11,18 +11,18 @@ use Rattle.cx_frame.specs.declared.frame.Segment.{Segment}
 use Rattle.cx_journal.specs.declared.faults.BytesFault.{BytesFault}
 use Rattle.cx_journal.specs.declared.faults.BytesFault.TheVariants.{CounterSpent, TooLong}
 use Rattle.cx_rules.specs.Secured.{Keys, SealedFrame, part_seals, sealed_under, secure_frame}
-use Rattle.cx_secure.specs.Contents.{frame_contents, sealed_contents}
-use Rattle.cx_secure.specs.Parts.{nonce_at}
-use Rattle.cx_secure.specs.Plains.{plains, secure_text}
-use Rattle.cx_secure.specs.Sealings.{after_sealed, connection_key, first_refusal, put_refusal}
-use Rattle.cx_secure.specs.declared.refusals.SecureRefusal.{SecureRefusal}
-use Rattle.cx_secure.specs.declared.refusals.SecureRefusal.TheVariants as secure
-use Rattle.cx_secure.specs.declared.sealing.Head.{Head}
-use Rattle.cx_secure.specs.declared.sealing.Sealing.{Sealing}
-use Rattle.cx_secure.proofs.PlainLaws.{parts_counted}
+use Rattle.cx_rules.specs.cx_secure.specs.Contents.{frame_contents, sealed_contents}
+use Rattle.cx_rules.specs.cx_secure.specs.Parts.{nonce_at}
+use Rattle.cx_rules.specs.cx_secure.specs.Plains.{plains, secure_text}
+use Rattle.cx_rules.specs.cx_secure.specs.Sealings.{after_sealed, connection_key, first_refusal, put_refusal}
+use Rattle.cx_rules.specs.cx_secure.specs.declared.refusals.SecureRefusal.{SecureRefusal}
+use Rattle.cx_rules.specs.cx_secure.specs.declared.refusals.SecureRefusal.TheVariants as secure
+use Rattle.cx_rules.specs.cx_secure.specs.declared.sealing.Head.{Head}
+use Rattle.cx_rules.specs.cx_secure.specs.declared.sealing.Sealing.{Sealing}
+use Rattle.cx_rules.specs.cx_secure.proofs.PlainLaws.{parts_counted}
 use Rattle.cx_steps.specs.declared.seals.SealEntry.{SealEntry}
-use Rattle.cx_stream.specs.Held.{Held, sealed_head}
-use Rattle.cx_stream.specs.SecureStreams.{ahead}
+use Rattle.cx_rules.specs.cx_stream.specs.Held.{Held, sealed_head}
+use Rattle.cx_rules.specs.cx_stream.specs.SecureStreams.{ahead}
 use Rattle.cx_link.specs.Sending.{logged_behind, sealed_entry}
 use Rattle.cx_link.specs.Wires.{IsLive, held_keys}
 

@@ -4,19 +4,19 @@ use Rattle.std.proofs.lemmas.List.{take-append-drop, length-take-le}
 use Rattle.cx_frame.specs.declared.frame.Frame.{Frame}
 use Rattle.cx_journal.specs.declared.faults.BytesFault.{BytesFault}
 use Rattle.cx_rules.specs.Fronts.{opened_parts, secure_fault}
-use Rattle.cx_secure.specs.Plains.{secure_text}
-use Rattle.cx_secure.specs.Sealings.{connection_key, unless_kept}
-use Rattle.cx_secure.specs.declared.refusals.SecureRefusal.{SecureRefusal}
-use Rattle.cx_secure.specs.declared.refusals.SecureRefusal.TheVariants as secure
-use Rattle.cx_secure.specs.declared.sealing.Way.{Way}
+use Rattle.cx_rules.specs.cx_secure.specs.Plains.{secure_text}
+use Rattle.cx_rules.specs.cx_secure.specs.Sealings.{connection_key, unless_kept}
+use Rattle.cx_rules.specs.cx_secure.specs.declared.refusals.SecureRefusal.{SecureRefusal}
+use Rattle.cx_rules.specs.cx_secure.specs.declared.refusals.SecureRefusal.TheVariants as secure
+use Rattle.cx_rules.specs.cx_secure.specs.declared.sealing.Way.{Way}
 use Rattle.cx_steps.specs.declared.seals.SealEntry.{SealEntry}
-use Rattle.cx_stream.specs.Fronts.{frame_in}
-use Rattle.cx_stream.specs.Held.{Held}
-use Rattle.cx_stream.specs.Openings.{front_contents}
-use Rattle.cx_stream.specs.SecureStreams.{AgreesSecure, Ahead, IsKeyed, IsSecureAt, Passes, ahead, behind_frame, secure_frame_at}
-use Rattle.cx_stream.specs.declared.faults.StreamFault.{StreamFault}
-use Rattle.cx_stream.specs.declared.faults.StreamFault.TheVariants.{Banner, Plain, Secure}
-use Rattle.cx_stream.proofs.SecureFronts.{secure_again, stream_keyed}
+use Rattle.cx_rules.specs.cx_stream.specs.Fronts.{frame_in}
+use Rattle.cx_rules.specs.cx_stream.specs.Held.{Held}
+use Rattle.cx_rules.specs.cx_stream.specs.Openings.{front_contents}
+use Rattle.cx_rules.specs.cx_stream.specs.SecureStreams.{AgreesSecure, Ahead, IsKeyed, IsSecureAt, Passes, ahead, behind_frame, secure_frame_at}
+use Rattle.cx_rules.specs.cx_stream.specs.declared.faults.StreamFault.{StreamFault}
+use Rattle.cx_rules.specs.cx_stream.specs.declared.faults.StreamFault.TheVariants.{Banner, Plain, Secure}
+use Rattle.cx_rules.specs.cx_stream.proofs.SecureFronts.{secure_again, stream_keyed}
 use Rattle.cx_link.specs.Refusing.{stream_refusal}
 use Rattle.cx_link.specs.Sending.{opened_entry}
 use Rattle.cx_link.specs.Turning.{RefusesSecure, TakesSecure}

@@ -2,11 +2,11 @@
 use Rattle.std.proofs.Common.{◌≡◌, ℕ, Bool, true, false, List, length, None, refl, sym, ap, ◌∙◌}
 use Rattle.std.proofs.lemmas.List.{drop_at}
 use Rattle.cx_rules.specs.Secured.{Way as KeyWay, way_at}
-use Rattle.cx_secure.specs.Sealings.{IsWayAt, Starts, connection_key}
-use Rattle.cx_secure.specs.declared.sealing.Sealing.{Sealing}
-use Rattle.cx_secure.specs.declared.sealing.Way.{Way}
-use Rattle.cx_stream.specs.Held.{Held}
-use Rattle.cx_stream.specs.Received.{Received}
+use Rattle.cx_rules.specs.cx_secure.specs.Sealings.{IsWayAt, Starts, connection_key}
+use Rattle.cx_rules.specs.cx_secure.specs.declared.sealing.Sealing.{Sealing}
+use Rattle.cx_rules.specs.cx_secure.specs.declared.sealing.Way.{Way}
+use Rattle.cx_rules.specs.cx_stream.specs.Held.{Held}
+use Rattle.cx_rules.specs.cx_stream.specs.Received.{Received}
 use Rattle.cx_link.specs.Wires.{SecureWire, ahead_in, keys_of_side, plain_wire, secure_wire}
 
 abbrev seen : Way → KeyWay

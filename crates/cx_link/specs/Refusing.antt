@@ -4,10 +4,10 @@ use Rattle.cx_frame.specs.declared.refusals.FrameRefusal.{FrameRefusal}
 use Rattle.cx_frame.specs.declared.refusals.FrameRefusal.TheVariants as plain
 use Rattle.cx_journal.specs.declared.faults.BytesFault.{BytesFault}
 use Rattle.cx_rules.specs.Fronts.{banner_fault, plain_fault, secure_fault}
-use Rattle.cx_secure.specs.declared.refusals.SecureRefusal.{SecureRefusal}
-use Rattle.cx_secure.specs.declared.refusals.SecureRefusal.TheVariants as secure
-use Rattle.cx_stream.specs.declared.faults.StreamFault.{StreamFault}
-use Rattle.cx_stream.specs.declared.faults.StreamFault.TheVariants as stream
+use Rattle.cx_rules.specs.cx_secure.specs.declared.refusals.SecureRefusal.{SecureRefusal}
+use Rattle.cx_rules.specs.cx_secure.specs.declared.refusals.SecureRefusal.TheVariants as secure
+use Rattle.cx_rules.specs.cx_stream.specs.declared.faults.StreamFault.{StreamFault}
+use Rattle.cx_rules.specs.cx_stream.specs.declared.faults.StreamFault.TheVariants as stream
 use Rattle.cx_link.specs.declared.refusals.LinkRefusal.{LinkRefusal}
 use Rattle.cx_link.specs.declared.refusals.LinkRefusal.TheVariants.{Fault, OutOfMemory}
 

@@ -7,10 +7,10 @@ use Rattle.cx_frame.specs.declared.refusals.BannerRefusal.{BannerRefusal}
 use Rattle.cx_frame.specs.declared.refusals.FrameRefusal.{FrameRefusal}
 use Rattle.cx_journal.specs.declared.faults.BytesFault.{BytesFault}
 use Rattle.cx_rules.specs.Fronts.{banner_fault, plain_fault, secure_fault, keys_behind, opened_parts}
-use Rattle.cx_secure.specs.declared.refusals.SecureRefusal.{SecureRefusal}
+use Rattle.cx_rules.specs.cx_secure.specs.declared.refusals.SecureRefusal.{SecureRefusal}
 use Rattle.cx_steps.specs.declared.seals.SealEntry.{SealEntry}
-use Rattle.cx_stream.specs.PlainStreams.{plain_frame_at}
-use Rattle.cx_stream.specs.SecureStreams.{secure_frame_at}
+use Rattle.cx_rules.specs.cx_stream.specs.PlainStreams.{plain_frame_at}
+use Rattle.cx_rules.specs.cx_stream.specs.SecureStreams.{secure_frame_at}
 use Rattle.cx_link.specs.Wires.{SecureWire, Wire, ahead_in, secure_ahead}
 use Rattle.cx_link.specs.declared.links.Signing.{Signing}
 use Rattle.cx_link.specs.declared.turns.BannerTurn.{BannerTurn}

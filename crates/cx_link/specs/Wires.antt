@@ -2,10 +2,10 @@
 use Rattle.std.specs.Prelude.{ℕ, ◌≡◌, Bool, List, [], ◌++◌, length, drop, None, if◌then◌else◌}
 use Rattle.cx_rules.specs.Links.{Link}
 use Rattle.cx_rules.specs.Secured.{Keys, acceptor_keys, connector_keys}
-use Rattle.cx_secure.specs.Sealings.{connection_key}
-use Rattle.cx_stream.specs.Held.{Held}
-use Rattle.cx_stream.specs.Received.{Received}
-use Rattle.cx_stream.specs.SecureStreams.{Ahead, ahead}
+use Rattle.cx_rules.specs.cx_secure.specs.Sealings.{connection_key}
+use Rattle.cx_rules.specs.cx_stream.specs.Held.{Held}
+use Rattle.cx_rules.specs.cx_stream.specs.Received.{Received}
+use Rattle.cx_rules.specs.cx_stream.specs.SecureStreams.{Ahead, ahead}
 
 -- a link that isn't secured: all bytes that came on it, how many of these the banner and the frames took that were handled, and all bytes
 -- that were sent on it

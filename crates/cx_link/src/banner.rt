@@ -8,7 +8,7 @@ use crate::links::{BannerLink, PlainLink};
 use crate::refusals::banner_fault;
 use crate::turns::BannerTurn;
 use cx_base::Blob;
-use cx_stream::{Greeted, Greeting, StreamFault};
+use cx_rules::{Greeted, Greeting, StreamFault};
 use std::alloc::{AllocError, Global};
 
 impl BannerLink {

@@ -1,8 +1,8 @@
 //! The stages of a link, each a type of its own: a machine holds one of them by its own stage, and takes it out to go on.
 
 use cx_base::{Blob, Items};
+use cx_rules::{Greeting, Plain, Secure};
 use cx_steps::SealEntry;
-use cx_stream::{Greeting, Plain, Secure};
 use std::marker::Model;
 
 /// A link whose peer's banner isn't all there yet. It keeps all bytes that were sent, which a signature will have to cover.

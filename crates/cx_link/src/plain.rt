@@ -8,7 +8,7 @@ use crate::links::{PlainLink, SecureLink};
 use crate::refusals::LinkRefusal;
 use crate::turns::LinkTurn;
 use cx_base::Blob;
-use cx_secure::Sealing;
+use cx_rules::Sealing;
 use std::alloc::{AllocError, Global};
 
 impl PlainLink {

@@ -5,8 +5,7 @@ ghost use Rattle.cx_rules.specs.Fronts.{banner_fault};
 
 use cx_frame::{BannerRefusal, FrameRefusal};
 use cx_journal::BytesFault;
-use cx_secure::SecureRefusal;
-use cx_stream::StreamFault;
+use cx_rules::{SecureRefusal, StreamFault};
 use std::alloc::AllocError;
 
 /// Why something isn't sent on a link, or isn't taken from it. The link is given up.

@@ -14,8 +14,8 @@ use crate::turns::LinkTurn;
 use cx_base::{Blob, Duplicate, Items};
 use cx_frame::Frame;
 use cx_journal::{BytesFault, KeyKind};
+use cx_rules::Secure;
 use cx_steps::{SealEntry, SealMark};
-use cx_stream::Secure;
 use std::alloc::{AllocError, Global};
 
 /// The segments of a secure frame have at most so many bytes together.

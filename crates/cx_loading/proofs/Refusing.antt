@@ -6,7 +6,7 @@ use Rattle.cx_schedule.specs.declared.node_lines.NodeLine.{NodeLine}
 use Rattle.cx_schedule.specs.declared.node_names.NodeNames.{NodeNames}
 use Rattle.cx_schedule.specs.declared.refusals.ScheduleRefusal.{ScheduleRefusal}
 use Rattle.cx_schedule.specs.declared.refusals.ScheduleRefusal.TheVariants as schedule
-use Rattle.cx_words.specs.Cutting.{IsShort}
+use Rattle.cx_keyring.specs.cx_words.specs.Cutting.{IsShort}
 use Rattle.cx_loading.specs.Loading.{IsOrMemory, script_refusal}
 use Rattle.cx_loading.specs.Scripts.{IsScriptReason, IsServed}
 use Rattle.cx_loading.specs.declared.unloaded.Unloaded.{Unloaded}

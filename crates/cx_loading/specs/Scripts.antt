@@ -5,7 +5,7 @@ use Rattle.cx_schedule.specs.NodeFiles.{NodeLines}
 use Rattle.cx_schedule.specs.declared.node_lines.NodeLine.{NodeLine}
 use Rattle.cx_schedule.specs.declared.node_names.NodeNames.{NodeNames}
 use Rattle.cx_schedule.specs.declared.refusals.ScheduleRefusal.{ScheduleRefusal}
-use Rattle.cx_words.specs.Cutting.{IsShort}
+use Rattle.cx_keyring.specs.cx_words.specs.Cutting.{IsShort}
 use Rattle.cx_loading.specs.declared.unloaded.Unloaded.{Unloaded}
 use Rattle.cx_loading.specs.declared.unloaded.Unloaded.TheVariants.{Script, OutOfMemory}
 

@@ -3,13 +3,13 @@ use Rattle.std.proofs.Common.{◌≡◌, ℕ, ◌<◌, List, [], ◌∷◌, ◌+
 use Rattle.std.specs.List.{AllByRecursion}
 use Rattle.std.proofs.lemmas.List.{take_at}
 use Rattle.std.proofs.lemmas.List.Elements.{All-take, All-drop}
-use Rattle.cx_aes.specs.Cipher.{IsBlock}
-use Rattle.cx_aes.proofs.Keys.{IsBlock-array}
+use Rattle.cx_sealed.specs.cx_aes.specs.Cipher.{IsBlock}
+use Rattle.cx_sealed.specs.cx_aes.proofs.Keys.{IsBlock-array}
 use Rattle.cx_enc.specs.Forms.{Form, IsLawful, little}
 use Rattle.cx_enc.specs.Whole.{Spells}
 use Rattle.cx_enc.specs.Values.{kind_form, reading_form, secret_form, key_form, time_form}
-use Rattle.cx_journal.specs.declared.premises.KeyKind.{KeyKind}
-use Rattle.cx_journal.specs.declared.premises.KeyKind.TheVariants as kind
+use Rattle.cx_steps.specs.cx_journal.specs.declared.premises.KeyKind.{KeyKind}
+use Rattle.cx_steps.specs.cx_journal.specs.declared.premises.KeyKind.TheVariants as kind
 use Rattle.cx_sealed.specs.Records.{ticket_info_layout, connection_secret_layout}
 use Rattle.cx_sealed.specs.Sealing.{OpensTo}
 use Rattle.cx_sealed.specs.declared.ticket_info.TicketInfo.{TicketInfo}

@@ -3,8 +3,8 @@
 use Rattle.std.specs.Prelude.{ℕ, ◌≡◌, List, [], Option, Some, None, Result, Ok, Err, IfOk, IfErr}
 use Rattle.cx_enc.specs.Whole.{Spells}
 use Rattle.cx_enc.specs.declared.tickets.TicketBlob.{TicketBlob}
-use Rattle.cx_control.specs.Calls.{IsRefusedFor}
-use Rattle.cx_control.specs.declared.refusals.WireRefusal.TheVariants as wire
+use Rattle.cx_wire.specs.cx_control.specs.Calls.{IsRefusedFor}
+use Rattle.cx_wire.specs.cx_control.specs.declared.refusals.WireRefusal.TheVariants as wire
 use Rattle.cx_steps.specs.declared.seals.SealEntry.{SealEntry}
 use Rattle.cx_wire.specs.Logins.{server_challenge_layout, authenticate_layout, login_done_layout}
 use Rattle.cx_wire.specs.declared.logins.ServerChallenge.{ServerChallenge}

@@ -2,7 +2,7 @@
 use Rattle.std.specs.Prelude.{ℕ, ◌≡◌, ◌==◌, ◌&&◌, ◌++◌, not, List, Option, Some, None, Result, Ok, Err, nat_lt, if◌then◌else◌}
 use Rattle.std.specs.Int.{w64, to_le_bytes}
 use Rattle.cx_base.specs.Names.{Name, same_name}
-use Rattle.cx_journal.specs.declared.premises.KeyKind.TheVariants.{Proof}
+use Rattle.cx_steps.specs.cx_journal.specs.declared.premises.KeyKind.TheVariants.{Proof}
 use Rattle.cx_sealed.specs.declared.service_ticket.ServiceTicket.{ServiceTicket}
 use Rattle.cx_steps.specs.declared.seals.SealEntry.{SealEntry}
 use Rattle.cx_steps.specs.declared.seals.SealEntry.TheVariants.{Checked}

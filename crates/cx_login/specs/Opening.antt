@@ -2,7 +2,7 @@
 use Rattle.std.specs.Prelude.{ℕ, ◌≡◌, ◌==◌, List, Option, Some, IfSome, find}
 use Rattle.std.specs.Option.{option_map}
 use Rattle.cx_enc.specs.Forms.{Form}
-use Rattle.cx_rotate.specs.declared.generations.Generation.{Generation}
+use Rattle.cx_sealed.specs.cx_rotate.specs.declared.generations.Generation.{Generation}
 use Rattle.cx_sealed.specs.Sealing.{OpensTo}
 
 -- the bytes open to no spelling of the record

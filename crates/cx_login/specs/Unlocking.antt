@@ -4,9 +4,9 @@ use Rattle.std.specs.Prelude.{ℕ, ◌≡◌, List, [], ◌∷◌, ◌++◌, Opt
 use Rattle.std.specs.declared.alloc.AllocError.{AllocError}
 use Rattle.cx_enc.specs.Forms.{Form}
 use Rattle.cx_enc.specs.declared.tickets.TicketBlob.{TicketBlob}
-use Rattle.cx_journal.specs.declared.premises.KeyKind.{KeyKind}
-use Rattle.cx_journal.specs.declared.premises.KeyKind.TheVariants as kind
-use Rattle.cx_rotate.specs.declared.generations.Generation.{Generation}
+use Rattle.cx_steps.specs.cx_journal.specs.declared.premises.KeyKind.{KeyKind}
+use Rattle.cx_steps.specs.cx_journal.specs.declared.premises.KeyKind.TheVariants as kind
+use Rattle.cx_sealed.specs.cx_rotate.specs.declared.generations.Generation.{Generation}
 use Rattle.cx_sealed.specs.Records.{connection_secret_layout, service_ticket_layout, ticket_info_layout}
 use Rattle.cx_sealed.specs.Unsealing.{unsealed}
 use Rattle.cx_sealed.specs.declared.service_ticket.ServiceTicket.{ServiceTicket}

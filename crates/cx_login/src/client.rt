@@ -1,7 +1,7 @@
 //! The client's side of a login.
 
 ghost use Rattle.std.specs.Prelude.{◌≡◌, ◌≤◌, ◌<◌, ◌^◌, ◌∷◌, All, length, IsTrue, IfOk};
-ghost use Rattle.cx_aes.specs.Cipher.{IsBlock};
+ghost use Rattle.cx_sealed.specs.cx_aes.specs.Cipher.{IsBlock};
 ghost use Rattle.cx_enc.specs.Whole.{Spells};
 ghost use Rattle.cx_wire.specs.Logins.{authenticate_layout, login_done_layout, is_version};
 ghost use Rattle.cx_login.specs.Held.{IsShort};
@@ -15,8 +15,7 @@ use crate::proving::due_proof;
 use crate::refusals::LoginRefusal;
 use cx_base::{Blob, Duplicate, Items};
 use cx_enc::{Key, TicketBlob};
-use cx_journal::KeyKind;
-use cx_steps::SealEntry;
+use cx_steps::{KeyKind, SealEntry};
 use cx_wire::{
     Authenticate, LoginDone, TicketPart, WireRefusal, put_authenticate, read_login_done,
     read_server_challenge,

@@ -14,6 +14,10 @@ pub use monitor::{Offered, Proved, Reclaim};
 pub use opening::logged;
 pub use refusals::{LoginRefusal, WrongProof};
 
+// What crates above name through this one, and so needn't list.
+pub use cx_steps::{BytesFault, Entry, LoginFault, Reason, SealEntry};
+pub use cx_wire::Request;
+
 // Each public type may be sent to another thread and shared with one.
 fn is_sendable<T: Send + Sync>() {}
 

@@ -2,16 +2,15 @@
 //! of the log.
 
 ghost use Rattle.cx_sealed.specs.Records.{ticket_info_layout, connection_secret_layout};
-ghost use Rattle.cx_journal.specs.declared.premises.KeyKind.TheVariants.{Session};
+ghost use Rattle.cx_steps.specs.cx_journal.specs.declared.premises.KeyKind.TheVariants.{Session};
 ghost use Rattle.cx_login.specs.Unlocking.{unlocked_as, unlocked, old_under, Unlocks};
 
 use cx_base::Items;
-use cx_journal::KeyKind;
 use cx_sealed::{
     ConnectionSecret, ServiceTicket, TicketInfo, Unsealed, unseal_connection_secret,
     unseal_service_ticket, unseal_ticket_info,
 };
-use cx_steps::{SealEntry, SealMark};
+use cx_steps::{KeyKind, SealEntry, SealMark};
 use std::alloc::{AllocError, Global};
 
 /// What was found in bytes that are sealed by this key: what opened is appended to the log, and its record is answered, where there

@@ -1,7 +1,7 @@
 -- The frame of a message can be announced.
 use Rattle.std.proofs.Common.{◌≡◌, ℕ, ◌<◌, ◌^◌, List, [], ◌∷◌, length, sym, subst, arith}
 use Rattle.std.proofs.lemmas.List.Elements.{All-cons, All-nil}
-use Rattle.cx_enc.specs.Forms.{little}
+use Rattle.cx_control.specs.cx_enc.specs.Forms.{little}
 use Rattle.cx_frame.specs.Frames.{IsAnnounceable}
 use Rattle.cx_frame.specs.declared.frame.Frame.{Frame}
 use Rattle.cx_frame.specs.declared.frame.Segment.{Segment}

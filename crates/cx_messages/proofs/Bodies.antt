@@ -1,9 +1,9 @@
 -- What the readers of bodies read is what the rules read.
 use Rattle.std.proofs.Common.{◌≡◌, ℕ, List, Option, Some, None, Ok, Err, refl, ap, ◌∙◌}
 use Rattle.cx_control.specs.Calls.{stop_of}
-use Rattle.cx_enc.specs.Forms.{IsBytes}
-use Rattle.cx_enc.specs.Layouts.{Layout}
-use Rattle.cx_enc.specs.Whole.{start}
+use Rattle.cx_control.specs.cx_enc.specs.Forms.{IsBytes}
+use Rattle.cx_control.specs.cx_enc.specs.Layouts.{Layout}
+use Rattle.cx_control.specs.cx_enc.specs.Whole.{start}
 use Rattle.cx_journal.specs.declared.faults.BytesFault.TheVariants.{Malformed}
 use Rattle.cx_turns.specs.cx_rules.proofs.Payloads.{refused_is, spelled_is}
 use Rattle.cx_turns.specs.cx_rules.specs.Messages.{body_as, body_by}

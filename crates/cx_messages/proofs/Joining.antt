@@ -5,7 +5,7 @@ use Rattle.cx_frame.specs.declared.frame.Frame.{Frame}
 use Rattle.cx_journal.specs.declared.faults.BytesFault.{BytesFault}
 use Rattle.cx_turns.specs.cx_rules.specs.Messages.{sealed_behind, sealed_then, secure_frames}
 use Rattle.cx_turns.specs.cx_rules.specs.Secured.{Keys, SealedFrame, secure_frame}
-use Rattle.cx_steps.specs.declared.seals.SealEntry.{SealEntry}
+use Rattle.cx_turns.specs.cx_steps.specs.declared.seals.SealEntry.{SealEntry}
 
 abbrev Sealed : Type 0
 Sealed = Result SealedFrame BytesFault

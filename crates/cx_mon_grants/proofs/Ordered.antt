@@ -8,8 +8,8 @@ use Rattle.cx_base.specs.declared.kinds.EntityType.TheVariants.{Mds, Osd, Mgr, A
 use Rattle.cx_dice.specs.Draws.{has_keys}
 use Rattle.cx_enc.specs.Forms.{passed}
 use Rattle.cx_journal.specs.declared.faults.LoginFault.{LoginFault}
-use Rattle.cx_keyring.specs.Entries.{is_named}
-use Rattle.cx_keyring.specs.declared.entries.Entry.{Entry}
+use Rattle.cx_keyserver.specs.cx_keyring.specs.Entries.{is_named}
+use Rattle.cx_keyserver.specs.cx_keyring.specs.declared.entries.Entry.{Entry}
 use Rattle.cx_keyserver.specs.Issuing.{Asked, caps_for, current_at, fields_of, issued, or_else, sealed_by, telling_key, ◌>>=◌}
 use Rattle.cx_keyserver.specs.Servers.{Server, generations_of}
 use Rattle.cx_keyserver.specs.declared.refusals.IssueRefusal.{IssueRefusal}

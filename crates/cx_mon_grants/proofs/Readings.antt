@@ -4,7 +4,7 @@ use Rattle.std.specs.Prelude.{◌&&◌, find, is_some}
 use Rattle.cx_base.specs.Names.{Name, is_daemon_type}
 use Rattle.cx_base.specs.declared.kinds.EntityType.{EntityType}
 use Rattle.cx_base.specs.declared.kinds.EntityType.TheVariants.{Mon, Mds, Osd, Client, Mgr, Auth}
-use Rattle.cx_keyring.specs.Entries.{is_named}
+use Rattle.cx_keyserver.specs.cx_keyring.specs.Entries.{is_named}
 use Rattle.cx_keyserver.specs.Servers.{Server, generations_of, secrets_of}
 use Rattle.cx_keyserver.specs.declared.refusals.NotADaemon.{NotADaemon}
 use Rattle.cx_rotate.specs.Keeping.{IsKeptState, IsLasting}

@@ -1,5 +1,7 @@
 -- Behind `pub use`: what crates above name through this one, and so needn't list (`checks/ways`).
+pub use Rattle.cx_rules.specs.cx_login as cx_login
 pub use Rattle.cx_rules as cx_rules
+pub use Rattle.cx_rules.specs.cx_wire as cx_wire
 pub mod Made
 pub mod Parts
 pub mod Places

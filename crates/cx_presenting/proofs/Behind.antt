@@ -10,7 +10,7 @@ use Rattle.cx_authorize.specs.declared.refusals.PresentRefusal.{PresentRefusal}
 use Rattle.cx_authorize.specs.declared.refusals.PresentRefusal.TheVariants as refusal
 use Rattle.cx_control.specs.BadMethod.{bad_method_layout, kept_method}
 use Rattle.cx_control.specs.declared.bad_method.AuthBadMethod.{AuthBadMethod}
-use Rattle.cx_enc.specs.Forms.{IsBytes}
+use Rattle.cx_control.specs.cx_enc.specs.Forms.{IsBytes}
 use Rattle.cx_frame.specs.declared.frame.Frame.{Frame}
 use Rattle.cx_journal.specs.declared.faults.BytesFault.{BytesFault}
 use Rattle.cx_journal.specs.declared.faults.BytesFault.TheVariants.{Malformed}
@@ -18,11 +18,11 @@ use Rattle.cx_journal.specs.declared.faults.LoginFault.TheVariants.{NonceWrong, 
 use Rattle.cx_journal.specs.declared.outcomes.Reason.{Reason}
 use Rattle.cx_journal.specs.declared.outcomes.Reason.TheVariants as reason
 use Rattle.cx_node.specs.Parts.{part_of}
-use Rattle.cx_rules.proofs.Payloads.{refused_is, spelled_is}
-use Rattle.cx_rules.specs.Payloads as payload
-use Rattle.cx_rules.specs.Payloads.{whole}
-use Rattle.cx_rules.specs.Rows.{goes_on, refuses, refuses_bytes, unless_refused, with_opened}
-use Rattle.cx_rules.specs.Secured.{SealedFrame, connector_keys, plain_frame, signed_frame}
+use Rattle.cx_node.specs.cx_rules.proofs.Payloads.{refused_is, spelled_is}
+use Rattle.cx_node.specs.cx_rules.specs.Payloads as payload
+use Rattle.cx_node.specs.cx_rules.specs.Payloads.{whole}
+use Rattle.cx_node.specs.cx_rules.specs.Rows.{goes_on, refuses, refuses_bytes, unless_refused, with_opened}
+use Rattle.cx_node.specs.cx_rules.specs.Secured.{SealedFrame, connector_keys, plain_frame, signed_frame}
 use Rattle.cx_sending.specs.cx_rules_session.specs.Envelopes.{authorize_content, sends_holding, session_sealed}
 use Rattle.cx_sending.specs.cx_rules_session.specs.Forgets.{abridged_call_link}
 use Rattle.cx_sending.specs.cx_rules_session.specs.Presenter.{AwaitsDone, AwaitsSignature, CallArrival, CallRow, CallStage, agrees, answers_challenge, on_authorize_reply, on_bad_method, on_challenge, on_unlocked, second_frame, signs}
@@ -34,7 +34,7 @@ use Rattle.cx_turns.specs.Making.{IsRowOf}
 use Rattle.cx_turns.specs.declared.rows.NoRow.{NoRow}
 use Rattle.cx_turns.specs.declared.rows.NoRow.TheVariants.{Refused}
 use Rattle.cx_turns.specs.declared.rows.NodeRow.{NodeRow}
-use Rattle.cx_wire.specs.Logins.{authorize_challenge_layout, authorize_reply_layout}
+use Rattle.cx_login.specs.cx_wire.specs.Logins.{authorize_challenge_layout, authorize_reply_layout}
 use Rattle.cx_presenting.specs.Rows.{changed, denied, no_row}
 use Rattle.cx_presenting.specs.Stages.{CallLink}
 use Rattle.cx_presenting.specs.declared.rows.Change.{Change}

@@ -6,17 +6,17 @@ use Rattle.std.specs.Prelude.{nat_lt}
 use Rattle.cx_authorize.specs.Answers.{IsAuthorizer, authorizer_of, shown_as}
 use Rattle.cx_authorize.specs.Client.{Presented, Presents}
 use Rattle.cx_control.specs.Auth.{auth_request_layout, auth_request_more_layout}
-use Rattle.cx_enc.specs.Forms.{little}
+use Rattle.cx_control.specs.cx_enc.specs.Forms.{little}
 use Rattle.cx_frame.specs.Frames.{total}
 use Rattle.cx_frame.specs.declared.frame.Frame.{Frame}
 use Rattle.cx_journal.specs.declared.faults.BytesFault.TheVariants.{TooLong}
 use Rattle.cx_login.specs.Held.{Held}
-use Rattle.cx_rules.specs.Holdings.{Asker}
-use Rattle.cx_rules.specs.Payloads.{control}
-use Rattle.cx_rules.specs.Secured.{plain_frame}
+use Rattle.cx_node.specs.cx_rules.specs.Holdings.{Asker}
+use Rattle.cx_node.specs.cx_rules.specs.Payloads.{control}
+use Rattle.cx_node.specs.cx_rules.specs.Secured.{plain_frame}
 use Rattle.cx_sending.specs.cx_rules_session.specs.Presenter.{authorizer_bytes, presented}
 use Rattle.cx_sending.specs.cx_rules_session.specs.Sessions.{Called, held_gid, ticket_for}
-use Rattle.cx_wire.specs.Logins.{authorizer_layout}
+use Rattle.cx_login.specs.cx_wire.specs.Logins.{authorizer_layout}
 use Rattle.cx_presenting.specs.Rows.{IsShown}
 
 pub authorizer_is : (p : Presented) (challenge : Option ℕ) (bytes : List ℕ) → IsAuthorizer p.held p.gid (shown_as p.nonce challenge) bytes → bytes ≡ authorizer_bytes p challenge

@@ -12,9 +12,9 @@ use Rattle.cx_journal.specs.declared.outcomes.Reason.TheVariants as reason
 use Rattle.cx_link.specs.Wires.{new_wire, wired}
 use Rattle.cx_node.specs.Made.{going_on}
 use Rattle.cx_node.specs.declared.rows.Row.{Row as Made}
-use Rattle.cx_rules.specs.Greetings.{own_banner}
-use Rattle.cx_rules.specs.Holdings.{Asker}
-use Rattle.cx_rules.specs.Rows.{arrival, refuses, unless_refused}
+use Rattle.cx_node.specs.cx_rules.specs.Greetings.{own_banner}
+use Rattle.cx_node.specs.cx_rules.specs.Holdings.{Asker}
+use Rattle.cx_node.specs.cx_rules.specs.Rows.{arrival, refuses, unless_refused}
 use Rattle.cx_sending.specs.cx_rules_session.specs.Forgets.{abridged_call_link}
 use Rattle.cx_sending.specs.cx_rules_session.specs.Presenter.{AwaitsBanner, CallArrival, CallRow, Caller, authorizer_bytes, turned_at}
 use Rattle.cx_sending.specs.cx_rules_session.specs.Sessions.{Called, HeldSession}

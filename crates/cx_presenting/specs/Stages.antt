@@ -4,7 +4,7 @@ use Rattle.cx_authorize.specs.Client.{Answered, Presented}
 use Rattle.cx_link.specs.Sending.{secured_of}
 use Rattle.cx_link.specs.Wires.{SecureWire, Wire, secured_link, wired}
 use Rattle.cx_link.specs.declared.links.Signing.{Signing}
-use Rattle.cx_rules.specs.Links.{Link}
+use Rattle.cx_node.specs.cx_rules.specs.Links.{Link}
 use Rattle.cx_sending.specs.cx_rules_session.specs.Presenter.{CallStage, AwaitsBanner, AwaitsHello, AwaitsChallenge, AwaitsDone, AwaitsSignature, AwaitsIdent, AwaitsReconnect, Open}
 use Rattle.cx_sending.specs.cx_rules_session.specs.Sessions.{Callee}
 use Rattle.cx_turns.specs.Stages.{keys_alone}

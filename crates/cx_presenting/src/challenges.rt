@@ -2,10 +2,10 @@
 
 ghost use Rattle.std.specs.Prelude.{◌≡◌, [], ◌∷◌, Some, IfOk};
 ghost use Rattle.cx_link.specs.Wires.{wired};
-ghost use Rattle.cx_rules.specs.Payloads.{whole};
+ghost use Rattle.cx_node.specs.cx_rules.specs.Payloads.{whole};
 ghost use Rattle.cx_sending.specs.cx_rules_session.specs.Envelopes.{authorize_content, sends_holding, session_sealed};
 ghost use Rattle.cx_sending.specs.cx_rules_session.specs.Presenter.{AwaitsDone, CallStage, authorizer_bytes, on_challenge, on_reply_more, second_frame, while_challenged};
-ghost use Rattle.cx_wire.specs.Logins.{authorize_challenge_layout};
+ghost use Rattle.cx_login.specs.cx_wire.specs.Logins.{authorize_challenge_layout};
 ghost use Rattle.cx_presenting.specs.Rows.{Makes};
 ghost use Rattle.cx_presenting.specs.Stages.{awaiting_challenge};
 

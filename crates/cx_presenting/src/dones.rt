@@ -2,10 +2,10 @@
 
 ghost use Rattle.std.specs.Prelude.{ℕ, [], take};
 ghost use Rattle.cx_link.specs.Wires.{wired};
-ghost use Rattle.cx_rules.specs.Payloads.{whole};
-ghost use Rattle.cx_rules.specs.Secured.{connector_keys, signed_frame};
+ghost use Rattle.cx_node.specs.cx_rules.specs.Payloads.{whole};
+ghost use Rattle.cx_node.specs.cx_rules.specs.Secured.{connector_keys, signed_frame};
 ghost use Rattle.cx_sending.specs.cx_rules_session.specs.Presenter.{CallStage, on_authorize_reply, on_done, signs, while_answered};
-ghost use Rattle.cx_wire.specs.Logins.{authorize_reply_layout};
+ghost use Rattle.cx_login.specs.cx_wire.specs.Logins.{authorize_reply_layout};
 ghost use Rattle.cx_presenting.specs.Rows.{Makes};
 ghost use Rattle.cx_presenting.specs.Stages.{awaiting_done};
 

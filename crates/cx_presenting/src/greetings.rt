@@ -2,7 +2,7 @@
 
 ghost use Rattle.std.specs.Prelude.{◌≡◌, [], ◌∷◌, None, IfOk};
 ghost use Rattle.std.specs.Option.{option_copied};
-ghost use Rattle.cx_dice.specs.Draws.{challenge_of};
+ghost use Rattle.cx_turns.specs.cx_dice.specs.Draws.{challenge_of};
 ghost use Rattle.cx_link.specs.Wires.{wired};
 ghost use Rattle.cx_sending.specs.cx_rules_session.specs.Envelopes.{authorize_content, sends_holding, session_sealed};
 ghost use Rattle.cx_sending.specs.cx_rules_session.specs.Presenter.{AwaitsBanner, AwaitsChallenge, AwaitsHello, CallStage, authorizer_bytes, first_frame, on_banner, on_hello, presented, presents};

@@ -14,7 +14,7 @@ mod sending;
 mod turns;
 
 pub use called::Called;
-pub use cx_sending::{Callee, HeldSession, SessionChange};
+pub use cx_sending::{Callee, HeldSession, SessionChange, client_forgetting_laws};
 pub use greetings::{greeting, held_gid, ticket_for};
 pub use links::{Link, Stage};
 pub use making::{handles, unless_refused};

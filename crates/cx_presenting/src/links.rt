@@ -87,7 +87,7 @@ pub struct Link {
 }
 
 impl Model for Link {
-    ghost use Rattle.cx_rules.specs.Links.{Link};
+    ghost use Rattle.cx_node.specs.cx_rules.specs.Links.{Link};
     ghost use Rattle.cx_sending.specs.cx_rules_session.specs.Presenter.{CallStage};
 
     ghost Value = { Link CallStage };

@@ -2,8 +2,8 @@
 
 ghost use Rattle.std.specs.Prelude.{IfOk};
 ghost use Rattle.cx_control.specs.Auth.{auth_request_layout, auth_request_more_layout};
-ghost use Rattle.cx_rules.specs.Payloads.{control};
-ghost use Rattle.cx_rules.specs.Secured.{plain_frame};
+ghost use Rattle.cx_node.specs.cx_rules.specs.Payloads.{control};
+ghost use Rattle.cx_node.specs.cx_rules.specs.Secured.{plain_frame};
 ghost use Rattle.cx_turns.specs.Sending.{SendsPlain};
 
 use cx_base::Blob;

@@ -12,7 +12,7 @@ use Rattle.cx_laws_cover.specs.cx_laws_fetch.specs.Covered.{FetchesPaced, IsCove
 use Rattle.cx_laws_cover.specs.cx_laws_truth.specs.cx_laws_sent.specs.cx_laws_run.specs.Laws.{KeepsExpiry, KeepsLaws, LooksLast}
 use Rattle.cx_laws_cover.specs.cx_laws_truth.specs.cx_laws_sent.specs.cx_laws_run.specs.Logins.{LogIn, Stands}
 use Rattle.cx_laws_cover.specs.cx_laws_truth.specs.cx_laws_sent.specs.cx_laws_run.specs.Origins.{GoBack}
-use Rattle.cx_lines.specs.declared.lines.Numbered.{Numbered}
+use Rattle.cx_schedule.specs.cx_lines.specs.declared.lines.Numbered.{Numbered}
 use Rattle.cx_laws_cover.specs.cx_run.specs.Points.{points}
 use Rattle.cx_laws_cover.specs.cx_run.specs.Runs.{IsFoundOf, run_journal, setup_of, trace}
 pub use Rattle.cx_world.specs.Idle.{idle_lines}

@@ -4,8 +4,8 @@ use Rattle.std.specs.List.{AllByRecursion}
 use Rattle.std.proofs.lemmas.List.Elements.{All-from_recursion}
 use Rattle.cx_base.specs.declared.kinds.EntityType.{EntityType}
 use Rattle.cx_base.specs.declared.kinds.EntityType.TheVariants.{Auth}
-use Rattle.cx_enc.specs.Forms.{ChainFits, little}
-use Rattle.cx_enc.specs.Values.{ticket_form}
+use Rattle.cx_sealed.specs.cx_enc.specs.Forms.{ChainFits, little}
+use Rattle.cx_sealed.specs.cx_enc.specs.Values.{ticket_form}
 use Rattle.cx_login.specs.Held.{IsShort}
 use Rattle.cx_wire.specs.Bodies.{reply_layout, request_layout}
 use Rattle.cx_wire.specs.Services.{behind, ticket_part_layout}

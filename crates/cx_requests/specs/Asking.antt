@@ -1,8 +1,8 @@
 -- What comes of a request that is sent, apart from want of memory.
 use Rattle.std.specs.Prelude.{◌≡◌, Result, Ok, Err}
 use Rattle.cx_journal.specs.declared.outcomes.Reason.{Reason}
-use Rattle.cx_link.specs.Wires.{SecureWire}
-use Rattle.cx_link.specs.declared.links.SentFrame.{SentFrame}
+use Rattle.cx_messages.specs.cx_link.specs.Wires.{SecureWire}
+use Rattle.cx_messages.specs.cx_link.specs.declared.links.SentFrame.{SentFrame}
 use Rattle.cx_rules.specs.Requests.{Requests, behind_request}
 use Rattle.cx_rules.specs.Secured.{SealedFrame}
 use Rattle.cx_rules.specs.declared.requests.Want.{Want}

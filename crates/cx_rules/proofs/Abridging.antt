@@ -5,7 +5,7 @@ use Rattle.std.specs.Prelude.{not, nat_lt, filter, IfSome}
 use Rattle.std.specs.List.{AllByRecursion}
 use Rattle.std.specs.Option.{option_map}
 use Rattle.std.proofs.lemmas.List.{map-append}
-use Rattle.cx_steps.specs.declared.effects.Effects.{Effects}
+use Rattle.cx_login.specs.cx_steps.specs.declared.effects.Effects.{Effects}
 use Rattle.cx_rules.specs.Abridged.{IsWithin, StandsFor, abridged_node, abridged_row}
 use Rattle.cx_rules.specs.Links.{Link, link_of, put_link, without_link}
 use Rattle.cx_rules.specs.Rows.{Node, Outcome, Row, carried_out, fed, forgotten, idles, links_behind}

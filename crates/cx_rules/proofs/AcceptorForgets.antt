@@ -3,14 +3,14 @@ use Rattle.std.proofs.Common.{◌≡◌, ℕ, ◌==◌, ◌++◌, Bool, true, fa
 use Rattle.std.specs.Prelude.{not, if◌then◌else◌}
 use Rattle.std.specs.List.{list_any}
 use Rattle.std.specs.Option.{option_map}
-use Rattle.cx_control.specs.Idents.{ident_missing_features_layout}
-use Rattle.cx_control.specs.declared.auth.AuthRequest.{AuthRequest}
-use Rattle.cx_control.specs.declared.auth.AuthSignature.{AuthSignature}
-use Rattle.cx_control.specs.declared.hello.Hello.{Hello}
-use Rattle.cx_journal.specs.declared.faults.BytesFault.{BytesFault}
-use Rattle.cx_journal.specs.declared.faults.BytesFault.TheVariants.{Features}
-use Rattle.cx_journal.specs.declared.faults.LoginFault.TheVariants.{Method, Mode, SignatureWrong}
-use Rattle.cx_journal.specs.declared.outcomes.Reason.TheVariants as reason
+use Rattle.cx_login.specs.cx_control.specs.Idents.{ident_missing_features_layout}
+use Rattle.cx_login.specs.cx_control.specs.declared.auth.AuthRequest.{AuthRequest}
+use Rattle.cx_login.specs.cx_control.specs.declared.auth.AuthSignature.{AuthSignature}
+use Rattle.cx_login.specs.cx_control.specs.declared.hello.Hello.{Hello}
+use Rattle.cx_login.specs.cx_journal.specs.declared.faults.BytesFault.{BytesFault}
+use Rattle.cx_login.specs.cx_journal.specs.declared.faults.BytesFault.TheVariants.{Features}
+use Rattle.cx_login.specs.cx_journal.specs.declared.faults.LoginFault.TheVariants.{Method, Mode, SignatureWrong}
+use Rattle.cx_login.specs.cx_journal.specs.declared.outcomes.Reason.TheVariants as reason
 use Rattle.cx_rules.specs.Abridged.{IsWithin, abridged_at, abridged_link, unsigned}
 use Rattle.cx_rules.specs.Acceptor.{Stage, AwaitsBanner, AwaitsHello, AwaitsRequest, AwaitsProof, AwaitsSignature, AwaitsIdent, Open, denies, misses, missing_told, on_auth_request, on_hello, on_signature}
 use Rattle.cx_rules.specs.Links.{Link, link_of, put_link, without_link}

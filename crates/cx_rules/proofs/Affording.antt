@@ -10,11 +10,11 @@ use Rattle.cx_base.specs.Texts.{is_caps, is_caps_byte}
 use Rattle.cx_base.specs.declared.grants.Grant.{Grant}
 use Rattle.cx_base.specs.declared.kinds.EntityType.{EntityType}
 use Rattle.cx_base.specs.declared.kinds.EntityType.TheVariants.{Mon, Mds, Osd, Client, Mgr, Auth}
-use Rattle.cx_dice.specs.Draws.{has_keys, session_of}
-use Rattle.cx_enc.specs.FieldLaws.{both_true}
-use Rattle.cx_journal.specs.declared.entries.Entry.{Entry}
-use Rattle.cx_keyring.specs.Entries.{are_grants, is_named}
-use Rattle.cx_keyring.specs.declared.entries.Entry.{Entry as Principal}
+use Rattle.cx_keyserver.specs.cx_dice.specs.Draws.{has_keys, session_of}
+use Rattle.cx_login.specs.cx_enc.specs.FieldLaws.{both_true}
+use Rattle.cx_login.specs.cx_journal.specs.declared.entries.Entry.{Entry}
+use Rattle.cx_keyserver.specs.cx_keyring.specs.Entries.{are_grants, is_named}
+use Rattle.cx_keyserver.specs.cx_keyring.specs.declared.entries.Entry.{Entry as Principal}
 use Rattle.cx_keyserver.proofs.Grants.{is_caps_text}
 use Rattle.cx_keyserver.specs.Issuing.{Asked, asking, caps_for, current_at, fields_of, issued, sealed_by, service_ticket_of, telling_key, ticket_info_of}
 use Rattle.cx_keyserver.specs.Servers.{Server, generations_of}
@@ -23,8 +23,8 @@ use Rattle.cx_keyserver.specs.declared.tickets.Ticket.{Ticket}
 use Rattle.cx_rotate.specs.Rotation.{is_current}
 use Rattle.cx_rotate.specs.declared.generations.Generation.{Generation}
 use Rattle.cx_rotate.specs.declared.states.KeptState.{KeptState}
-use Rattle.cx_sealed.specs.Records.{service_ticket_layout, ticket_info_layout}
-use Rattle.cx_steps.specs.Onto.{SomeOf}
+use Rattle.cx_keyserver.specs.cx_sealed.specs.Records.{service_ticket_layout, ticket_info_layout}
+use Rattle.cx_login.specs.cx_steps.specs.Onto.{SomeOf}
 use Rattle.cx_rules.specs.Answering.{AreCurrent, AreIssuedFor, IsIssuedTo, is_wanted, services_granted}
 use Rattle.cx_rules.specs.Replies.{others_for}
 use Rattle.cx_rules.specs.Tickets.{is_asked, issued_before, issued_entry, issued_for, services_for}

@@ -3,20 +3,20 @@ use Rattle.std.proofs.Common.{◌≡◌, ℕ, ◌==◌, ◌≤◌, Bool, true, f
 use Rattle.std.specs.Prelude.{IfSome, if◌then◌else◌}
 use Rattle.std.specs.List.{AllByRecursion}
 use Rattle.std.proofs.lemmas.List.{drop-append-le, drop-drop}
-use Rattle.cx_control.specs.Upkeep.{keepalive2_layout, keepalive2_ack_layout}
-use Rattle.cx_control.specs.declared.upkeep.Keepalive2.{Keepalive2}
-use Rattle.cx_control.specs.declared.upkeep.Keepalive2Ack.{Keepalive2Ack}
-use Rattle.cx_frame.specs.Banners.{banner_at}
-use Rattle.cx_frame.specs.declared.banner.Banner.{Banner}
-use Rattle.cx_frame.specs.declared.frame.Frame.{Frame}
-use Rattle.cx_frame.specs.declared.refusals.BannerRefusal.{BannerRefusal}
-use Rattle.cx_frame.specs.declared.refusals.FrameRefusal.{FrameRefusal}
-use Rattle.cx_journal.specs.declared.entries.Entry.{Entry}
-use Rattle.cx_journal.specs.declared.faults.BytesFault.{BytesFault}
-use Rattle.cx_journal.specs.declared.outcomes.Reason.{Reason}
-use Rattle.cx_journal.specs.declared.outcomes.Reason.TheVariants.{Bytes}
-use Rattle.cx_secure.specs.declared.refusals.SecureRefusal.{SecureRefusal}
-use Rattle.cx_steps.specs.declared.seals.SealEntry.{SealEntry}
+use Rattle.cx_login.specs.cx_control.specs.Upkeep.{keepalive2_layout, keepalive2_ack_layout}
+use Rattle.cx_login.specs.cx_control.specs.declared.upkeep.Keepalive2.{Keepalive2}
+use Rattle.cx_login.specs.cx_control.specs.declared.upkeep.Keepalive2Ack.{Keepalive2Ack}
+use Rattle.cx_stream.specs.cx_frame.specs.Banners.{banner_at}
+use Rattle.cx_stream.specs.cx_frame.specs.declared.banner.Banner.{Banner}
+use Rattle.cx_stream.specs.cx_frame.specs.declared.frame.Frame.{Frame}
+use Rattle.cx_stream.specs.cx_frame.specs.declared.refusals.BannerRefusal.{BannerRefusal}
+use Rattle.cx_stream.specs.cx_frame.specs.declared.refusals.FrameRefusal.{FrameRefusal}
+use Rattle.cx_login.specs.cx_journal.specs.declared.entries.Entry.{Entry}
+use Rattle.cx_login.specs.cx_journal.specs.declared.faults.BytesFault.{BytesFault}
+use Rattle.cx_login.specs.cx_journal.specs.declared.outcomes.Reason.{Reason}
+use Rattle.cx_login.specs.cx_journal.specs.declared.outcomes.Reason.TheVariants.{Bytes}
+use Rattle.cx_stream.specs.cx_secure.specs.declared.refusals.SecureRefusal.{SecureRefusal}
+use Rattle.cx_login.specs.cx_steps.specs.declared.seals.SealEntry.{SealEntry}
 use Rattle.cx_stream.specs.PlainStreams.{plain_frame_at}
 use Rattle.cx_stream.specs.SecureStreams.{secure_frame_at}
 use Rattle.cx_rules.specs.Abridged.{IsWithin, abridged_node, cut, unsigned}

@@ -1,36 +1,36 @@
 -- What a turn draws is logged: at a connector.
 use Rattle.std.proofs.Common.{◌≡◌, ℕ, ◌==◌, inl, inr, Bool, true, false, List, [], ◌∷◌, ◌++◌, take, Option, Some, None, Result, Ok, Err, refl}
 use Rattle.std.specs.Prelude.{not, if◌then◌else◌}
-use Rattle.cx_control.specs.Auth.{auth_done_layout, auth_reply_more_layout, auth_request_more_layout, auth_signature_layout}
-use Rattle.cx_control.specs.BadMethod.{bad_method_layout}
-use Rattle.cx_control.specs.Hello.{hello_layout}
-use Rattle.cx_control.specs.Idents.{ident_missing_features_layout, server_ident_layout}
-use Rattle.cx_control.specs.Upkeep.{keepalive2_layout, keepalive2_ack_layout}
-use Rattle.cx_control.specs.declared.auth.AuthDone.{AuthDone}
-use Rattle.cx_control.specs.declared.auth.AuthReplyMore.{AuthReplyMore}
-use Rattle.cx_control.specs.declared.auth.AuthSignature.{AuthSignature}
-use Rattle.cx_control.specs.declared.hello.Hello.{Hello}
-use Rattle.cx_control.specs.declared.idents.IdentMissingFeatures.{IdentMissingFeatures}
-use Rattle.cx_control.specs.declared.idents.ServerIdent.{ServerIdent}
-use Rattle.cx_control.specs.declared.upkeep.Keepalive2.{Keepalive2}
-use Rattle.cx_control.specs.declared.upkeep.Keepalive2Ack.{Keepalive2Ack}
-use Rattle.cx_dice.specs.Draws.{challenge_of, cookie_of}
-use Rattle.cx_frame.specs.declared.frame.Frame.{Frame}
-use Rattle.cx_journal.specs.declared.faults.BytesFault.{BytesFault}
-use Rattle.cx_journal.specs.declared.faults.BytesFault.TheVariants.{Unexpected}
-use Rattle.cx_journal.specs.declared.faults.LoginFault.TheVariants.{Mode, SignatureWrong}
-use Rattle.cx_journal.specs.declared.outcomes.Reason.{Reason}
-use Rattle.cx_journal.specs.declared.outcomes.Reason.TheVariants as reason
+use Rattle.cx_login.specs.cx_control.specs.Auth.{auth_done_layout, auth_reply_more_layout, auth_request_more_layout, auth_signature_layout}
+use Rattle.cx_login.specs.cx_control.specs.BadMethod.{bad_method_layout}
+use Rattle.cx_login.specs.cx_control.specs.Hello.{hello_layout}
+use Rattle.cx_login.specs.cx_control.specs.Idents.{ident_missing_features_layout, server_ident_layout}
+use Rattle.cx_login.specs.cx_control.specs.Upkeep.{keepalive2_layout, keepalive2_ack_layout}
+use Rattle.cx_login.specs.cx_control.specs.declared.auth.AuthDone.{AuthDone}
+use Rattle.cx_login.specs.cx_control.specs.declared.auth.AuthReplyMore.{AuthReplyMore}
+use Rattle.cx_login.specs.cx_control.specs.declared.auth.AuthSignature.{AuthSignature}
+use Rattle.cx_login.specs.cx_control.specs.declared.hello.Hello.{Hello}
+use Rattle.cx_login.specs.cx_control.specs.declared.idents.IdentMissingFeatures.{IdentMissingFeatures}
+use Rattle.cx_login.specs.cx_control.specs.declared.idents.ServerIdent.{ServerIdent}
+use Rattle.cx_login.specs.cx_control.specs.declared.upkeep.Keepalive2.{Keepalive2}
+use Rattle.cx_login.specs.cx_control.specs.declared.upkeep.Keepalive2Ack.{Keepalive2Ack}
+use Rattle.cx_keyserver.specs.cx_dice.specs.Draws.{challenge_of, cookie_of}
+use Rattle.cx_stream.specs.cx_frame.specs.declared.frame.Frame.{Frame}
+use Rattle.cx_login.specs.cx_journal.specs.declared.faults.BytesFault.{BytesFault}
+use Rattle.cx_login.specs.cx_journal.specs.declared.faults.BytesFault.TheVariants.{Unexpected}
+use Rattle.cx_login.specs.cx_journal.specs.declared.faults.LoginFault.TheVariants.{Mode, SignatureWrong}
+use Rattle.cx_login.specs.cx_journal.specs.declared.outcomes.Reason.{Reason}
+use Rattle.cx_login.specs.cx_journal.specs.declared.outcomes.Reason.TheVariants as reason
 use Rattle.cx_login.specs.Client.{Ask, authenticate}
 use Rattle.cx_login.specs.Unlocking.{login_in}
 use Rattle.cx_login.specs.declared.client.LoggedIn.{LoggedIn}
-use Rattle.cx_steps.specs.Onto.{SomeOf}
-use Rattle.cx_steps.specs.declared.seals.DrawMark.TheVariants as draw
-use Rattle.cx_steps.specs.declared.seals.SealEntry.{SealEntry}
-use Rattle.cx_steps.specs.declared.seals.SealEntry.TheVariants.{Drawn}
-use Rattle.cx_wire.specs.Logins.{authenticate_layout, login_done_layout, server_challenge_layout}
-use Rattle.cx_wire.specs.declared.logins.LoginDone.{LoginDone}
-use Rattle.cx_wire.specs.declared.logins.ServerChallenge.{ServerChallenge}
+use Rattle.cx_login.specs.cx_steps.specs.Onto.{SomeOf}
+use Rattle.cx_login.specs.cx_steps.specs.declared.seals.DrawMark.TheVariants as draw
+use Rattle.cx_login.specs.cx_steps.specs.declared.seals.SealEntry.{SealEntry}
+use Rattle.cx_login.specs.cx_steps.specs.declared.seals.SealEntry.TheVariants.{Drawn}
+use Rattle.cx_login.specs.cx_wire.specs.Logins.{authenticate_layout, login_done_layout, server_challenge_layout}
+use Rattle.cx_login.specs.cx_wire.specs.declared.logins.LoginDone.{LoginDone}
+use Rattle.cx_login.specs.cx_wire.specs.declared.logins.ServerChallenge.{ServerChallenge}
 use Rattle.cx_rules.specs.Connector.{AskerArrival, AskerRow, Login, Stage, AwaitsBanner, AwaitsHello, AwaitsChallenge, AwaitsDone, AwaitsSignature, AwaitsIdent, Open, client_ident, identifies, login_request, on_bad_method, on_banner, on_challenge, on_done, on_hello, on_login_done, on_missing_features, on_opened, on_reply_more, on_signature, proves, signs, turned_at, while_challenged, while_identified, while_proved}
 use Rattle.cx_rules.specs.Fronts.{Front, NotYet, Broken, Next, banner_next, plain_next, secure_next}
 use Rattle.cx_rules.specs.Greetings.{own_hello}
@@ -42,7 +42,7 @@ use Rattle.cx_rules.specs.Rows.{at, goes_on, plain_sent, refuses, refuses_bytes,
 use Rattle.cx_rules.specs.Secured.{Keys, SealedFrame, Secured, connector_keys, is_signed, plain_frame, secure_frame, signature_found, signed_frame, under}
 use Rattle.cx_rules.specs.Upkeep.{on_keepalive, on_keepalive_ack}
 use Rattle.cx_base.specs.Names.{is_daemon_type}
-use Rattle.cx_wire.specs.declared.bodies.Request.TheVariants as asked
+use Rattle.cx_login.specs.cx_wire.specs.declared.bodies.Request.TheVariants as asked
 use Rattle.cx_rules.specs.Requests.{Requests, asks_rotating, no_requests, on_open, on_reply, on_server_ident, opens_to, sealed_request, sends_request, taken as reply_in, takes}
 use Rattle.cx_rules.specs.declared.requests.Taken.{Taken}
 use Rattle.cx_rules.specs.declared.requests.Taken.TheVariants as taken

@@ -2,31 +2,31 @@
 use Rattle.std.proofs.Common.{◌≡◌, ℕ, ◌==◌, ◌++◌, Bool, true, false, List, [], ◌∷◌, Option, Some, None, Result, Ok, Err, refl}
 use Rattle.std.specs.Prelude.{not, if◌then◌else◌}
 use Rattle.cx_base.specs.Names.{is_daemon_type}
-use Rattle.cx_control.specs.Auth.{auth_done_layout, auth_reply_more_layout, auth_signature_layout}
-use Rattle.cx_control.specs.BadMethod.{bad_method_layout}
-use Rattle.cx_control.specs.Hello.{hello_layout}
-use Rattle.cx_control.specs.Idents.{ident_missing_features_layout, server_ident_layout}
-use Rattle.cx_control.specs.declared.auth.AuthDone.{AuthDone}
-use Rattle.cx_control.specs.declared.auth.AuthReplyMore.{AuthReplyMore}
-use Rattle.cx_control.specs.declared.auth.AuthSignature.{AuthSignature}
-use Rattle.cx_control.specs.declared.hello.Hello.{Hello}
-use Rattle.cx_control.specs.declared.idents.IdentMissingFeatures.{IdentMissingFeatures}
-use Rattle.cx_control.specs.declared.idents.ServerIdent.{ServerIdent}
-use Rattle.cx_dice.specs.Draws.{cookie_of}
-use Rattle.cx_frame.specs.declared.frame.Frame.{Frame}
-use Rattle.cx_journal.specs.declared.faults.BytesFault.{BytesFault}
-use Rattle.cx_journal.specs.declared.faults.BytesFault.TheVariants.{Features}
-use Rattle.cx_journal.specs.declared.faults.LoginFault.TheVariants.{Mode, SignatureWrong}
-use Rattle.cx_journal.specs.declared.outcomes.Reason.{Reason}
-use Rattle.cx_journal.specs.declared.outcomes.Reason.TheVariants as reason
+use Rattle.cx_login.specs.cx_control.specs.Auth.{auth_done_layout, auth_reply_more_layout, auth_signature_layout}
+use Rattle.cx_login.specs.cx_control.specs.BadMethod.{bad_method_layout}
+use Rattle.cx_login.specs.cx_control.specs.Hello.{hello_layout}
+use Rattle.cx_login.specs.cx_control.specs.Idents.{ident_missing_features_layout, server_ident_layout}
+use Rattle.cx_login.specs.cx_control.specs.declared.auth.AuthDone.{AuthDone}
+use Rattle.cx_login.specs.cx_control.specs.declared.auth.AuthReplyMore.{AuthReplyMore}
+use Rattle.cx_login.specs.cx_control.specs.declared.auth.AuthSignature.{AuthSignature}
+use Rattle.cx_login.specs.cx_control.specs.declared.hello.Hello.{Hello}
+use Rattle.cx_login.specs.cx_control.specs.declared.idents.IdentMissingFeatures.{IdentMissingFeatures}
+use Rattle.cx_login.specs.cx_control.specs.declared.idents.ServerIdent.{ServerIdent}
+use Rattle.cx_keyserver.specs.cx_dice.specs.Draws.{cookie_of}
+use Rattle.cx_stream.specs.cx_frame.specs.declared.frame.Frame.{Frame}
+use Rattle.cx_login.specs.cx_journal.specs.declared.faults.BytesFault.{BytesFault}
+use Rattle.cx_login.specs.cx_journal.specs.declared.faults.BytesFault.TheVariants.{Features}
+use Rattle.cx_login.specs.cx_journal.specs.declared.faults.LoginFault.TheVariants.{Mode, SignatureWrong}
+use Rattle.cx_login.specs.cx_journal.specs.declared.outcomes.Reason.{Reason}
+use Rattle.cx_login.specs.cx_journal.specs.declared.outcomes.Reason.TheVariants as reason
 use Rattle.cx_login.specs.declared.client.LoggedIn.{LoggedIn}
-use Rattle.cx_steps.specs.declared.seals.DrawMark.TheVariants as draw
-use Rattle.cx_steps.specs.declared.seals.SealEntry.{SealEntry}
-use Rattle.cx_steps.specs.declared.seals.SealEntry.TheVariants.{Drawn}
-use Rattle.cx_wire.specs.Logins.{login_done_layout, server_challenge_layout}
-use Rattle.cx_wire.specs.declared.logins.LoginDone.{LoginDone}
-use Rattle.cx_wire.specs.declared.logins.ServerChallenge.{ServerChallenge}
-use Rattle.cx_wire.specs.declared.bodies.Request.TheVariants as asked
+use Rattle.cx_login.specs.cx_steps.specs.declared.seals.DrawMark.TheVariants as draw
+use Rattle.cx_login.specs.cx_steps.specs.declared.seals.SealEntry.{SealEntry}
+use Rattle.cx_login.specs.cx_steps.specs.declared.seals.SealEntry.TheVariants.{Drawn}
+use Rattle.cx_login.specs.cx_wire.specs.Logins.{login_done_layout, server_challenge_layout}
+use Rattle.cx_login.specs.cx_wire.specs.declared.logins.LoginDone.{LoginDone}
+use Rattle.cx_login.specs.cx_wire.specs.declared.logins.ServerChallenge.{ServerChallenge}
+use Rattle.cx_login.specs.cx_wire.specs.declared.bodies.Request.TheVariants as asked
 use Rattle.cx_rules.specs.Abridged.{IsWithin, abridged_asker_at, abridged_asker_link, unsigned}
 use Rattle.cx_rules.specs.Connector.{AskerArrival, AskerRow, Login, Stage, AwaitsBanner, AwaitsHello, AwaitsChallenge, AwaitsDone, AwaitsSignature, AwaitsIdent, Open, client_ident, holding, identifies, login_request, on_bad_method, on_banner, on_challenge, on_done, on_hello, on_login_done, on_missing_features, on_opened, on_reply_more, on_signature, proves, signs, turned_at, while_challenged, while_identified, while_proved}
 use Rattle.cx_rules.specs.Greetings.{own_hello}

@@ -4,28 +4,28 @@ use Rattle.std.specs.Prelude.{filter, find, not, nat_lt, ◌+◌, ◌-◌, ◌^�
 use Rattle.std.specs.List.{flat_map, list_any}
 use Rattle.cx_base.specs.Names.{Name}
 use Rattle.cx_base.specs.declared.kinds.EntityType.TheVariants.{Auth, Mds, Osd, Mgr, Mon}
-use Rattle.cx_cbc.specs.Envelope.{sealed}
-use Rattle.cx_control.specs.Auth.{auth_reply_more_layout, auth_request_layout, auth_request_more_layout, auth_signature_layout}
-use Rattle.cx_control.specs.Hello.{hello_layout}
-use Rattle.cx_control.specs.Idents.{client_ident_layout, ident_missing_features_layout}
-use Rattle.cx_control.specs.Reconnects.{session_reconnect_layout, session_reset_layout}
-use Rattle.cx_control.specs.Upkeep.{keepalive2_layout, keepalive2_ack_layout}
-use Rattle.cx_control.specs.declared.auth.AuthRequest.{AuthRequest}
-use Rattle.cx_control.specs.declared.auth.AuthRequestMore.{AuthRequestMore}
-use Rattle.cx_control.specs.declared.auth.AuthSignature.{AuthSignature}
-use Rattle.cx_control.specs.declared.hello.Hello.{Hello}
-use Rattle.cx_control.specs.declared.idents.ClientIdent.{ClientIdent}
-use Rattle.cx_control.specs.declared.reconnects.SessionReconnect.{SessionReconnect}
-use Rattle.cx_control.specs.declared.upkeep.Keepalive2.{Keepalive2}
-use Rattle.cx_control.specs.declared.upkeep.Keepalive2Ack.{Keepalive2Ack}
-use Rattle.cx_frame.specs.Banners.{banner_at}
-use Rattle.cx_frame.specs.declared.banner.Banner.{Banner}
-use Rattle.cx_frame.specs.declared.refusals.BannerRefusal.{BannerRefusal}
-use Rattle.cx_frame.specs.declared.refusals.FrameRefusal.{FrameRefusal}
-use Rattle.cx_journal.specs.declared.faults.LoginFault.TheVariants.{Method, Mode, SignatureWrong}
-use Rattle.cx_journal.specs.declared.outcomes.Reason.{Reason}
-use Rattle.cx_journal.specs.declared.outcomes.Reason.TheVariants.{Login}
-use Rattle.cx_secure.specs.declared.refusals.SecureRefusal.{SecureRefusal}
+use Rattle.cx_keyserver.specs.cx_cbc.specs.Envelope.{sealed}
+use Rattle.cx_login.specs.cx_control.specs.Auth.{auth_reply_more_layout, auth_request_layout, auth_request_more_layout, auth_signature_layout}
+use Rattle.cx_login.specs.cx_control.specs.Hello.{hello_layout}
+use Rattle.cx_login.specs.cx_control.specs.Idents.{client_ident_layout, ident_missing_features_layout}
+use Rattle.cx_login.specs.cx_control.specs.Reconnects.{session_reconnect_layout, session_reset_layout}
+use Rattle.cx_login.specs.cx_control.specs.Upkeep.{keepalive2_layout, keepalive2_ack_layout}
+use Rattle.cx_login.specs.cx_control.specs.declared.auth.AuthRequest.{AuthRequest}
+use Rattle.cx_login.specs.cx_control.specs.declared.auth.AuthRequestMore.{AuthRequestMore}
+use Rattle.cx_login.specs.cx_control.specs.declared.auth.AuthSignature.{AuthSignature}
+use Rattle.cx_login.specs.cx_control.specs.declared.hello.Hello.{Hello}
+use Rattle.cx_login.specs.cx_control.specs.declared.idents.ClientIdent.{ClientIdent}
+use Rattle.cx_login.specs.cx_control.specs.declared.reconnects.SessionReconnect.{SessionReconnect}
+use Rattle.cx_login.specs.cx_control.specs.declared.upkeep.Keepalive2.{Keepalive2}
+use Rattle.cx_login.specs.cx_control.specs.declared.upkeep.Keepalive2Ack.{Keepalive2Ack}
+use Rattle.cx_stream.specs.cx_frame.specs.Banners.{banner_at}
+use Rattle.cx_stream.specs.cx_frame.specs.declared.banner.Banner.{Banner}
+use Rattle.cx_stream.specs.cx_frame.specs.declared.refusals.BannerRefusal.{BannerRefusal}
+use Rattle.cx_stream.specs.cx_frame.specs.declared.refusals.FrameRefusal.{FrameRefusal}
+use Rattle.cx_login.specs.cx_journal.specs.declared.faults.LoginFault.TheVariants.{Method, Mode, SignatureWrong}
+use Rattle.cx_login.specs.cx_journal.specs.declared.outcomes.Reason.{Reason}
+use Rattle.cx_login.specs.cx_journal.specs.declared.outcomes.Reason.TheVariants.{Login}
+use Rattle.cx_stream.specs.cx_secure.specs.declared.refusals.SecureRefusal.{SecureRefusal}
 use Rattle.cx_stream.specs.PlainStreams.{plain_frame_at}
 use Rattle.cx_stream.specs.SecureStreams.{secure_frame_at}
 use Rattle.cx_rules.specs.Fronts.{Front, NotYet, Broken, Next, ahead_of, banner_next, banner_read, opened_parts, plain_next, plain_read, secure_next, secure_read, sealed_ahead}
@@ -34,15 +34,15 @@ use Rattle.cx_rules.specs.MonitorRule.{on_auth_request_more, on_client_ident, on
 use Rattle.cx_rules.specs.MonitorRequests.{heard, on_demand, on_message, on_open, reply_message, request_occasion, responds, sends_reply, serving}
 use Rattle.cx_rules.specs.Replies.{Responded, answers}
 use Rattle.cx_rules.specs.Upkeep.{on_keepalive, on_keepalive_ack}
-use Rattle.cx_dice.specs.Draws.{challenge_of, connection_of, session_of}
-use Rattle.cx_frame.specs.Frames.{total}
-use Rattle.cx_enc.specs.declared.keys.Key.{Key}
-use Rattle.cx_frame.specs.declared.frame.Frame.{Frame}
-use Rattle.cx_journal.specs.declared.faults.BytesFault.{BytesFault}
-use Rattle.cx_journal.specs.declared.faults.BytesFault.TheVariants.{CounterSpent, TooLong, Unexpected}
-use Rattle.cx_journal.specs.declared.faults.LoginFault.{LoginFault}
-use Rattle.cx_keyring.specs.Entries.{is_named}
-use Rattle.cx_keyring.specs.declared.entries.Entry.{Entry as Principal}
+use Rattle.cx_keyserver.specs.cx_dice.specs.Draws.{challenge_of, connection_of, session_of}
+use Rattle.cx_stream.specs.cx_frame.specs.Frames.{total}
+use Rattle.cx_login.specs.cx_enc.specs.declared.keys.Key.{Key}
+use Rattle.cx_stream.specs.cx_frame.specs.declared.frame.Frame.{Frame}
+use Rattle.cx_login.specs.cx_journal.specs.declared.faults.BytesFault.{BytesFault}
+use Rattle.cx_login.specs.cx_journal.specs.declared.faults.BytesFault.TheVariants.{CounterSpent, TooLong, Unexpected}
+use Rattle.cx_login.specs.cx_journal.specs.declared.faults.LoginFault.{LoginFault}
+use Rattle.cx_keyserver.specs.cx_keyring.specs.Entries.{is_named}
+use Rattle.cx_keyserver.specs.cx_keyring.specs.declared.entries.Entry.{Entry as Principal}
 use Rattle.cx_keyserver.specs.Issuing.{◌>>=◌, asking, current_at, fields_of, issued, or_else, sealed_by, telling_key}
 use Rattle.cx_keyserver.specs.Servers.{Server, generations_of, rotated_server}
 use Rattle.cx_keyserver.specs.declared.refusals.IssueRefusal.{IssueRefusal}
@@ -52,15 +52,15 @@ use Rattle.cx_login.specs.Monitor.{Offer, Proven, kept_gid, proof_found, proving
 use Rattle.cx_login.specs.Unlocking.{old_ticket}
 use Rattle.cx_login.specs.declared.refusals.WrongProof.{WrongProof}
 use Rattle.cx_rotate.specs.declared.generations.Generation.{Generation}
-use Rattle.cx_secure.specs.Plains.{plains}
-use Rattle.cx_steps.specs.Onto.{SomeOf}
-use Rattle.cx_steps.specs.declared.seals.DrawMark.{DrawMark}
-use Rattle.cx_steps.specs.declared.seals.DrawMark.TheVariants as draw
-use Rattle.cx_steps.specs.declared.seals.SealEntry.{SealEntry}
-use Rattle.cx_steps.specs.declared.seals.SealEntry.TheVariants.{Drawn}
-use Rattle.cx_wire.specs.Logins.{authenticate_layout, login_hello_layout, server_challenge_layout}
-use Rattle.cx_wire.specs.declared.logins.Authenticate.{Authenticate}
-use Rattle.cx_wire.specs.declared.logins.LoginHello.{LoginHello}
+use Rattle.cx_stream.specs.cx_secure.specs.Plains.{plains}
+use Rattle.cx_login.specs.cx_steps.specs.Onto.{SomeOf}
+use Rattle.cx_login.specs.cx_steps.specs.declared.seals.DrawMark.{DrawMark}
+use Rattle.cx_login.specs.cx_steps.specs.declared.seals.DrawMark.TheVariants as draw
+use Rattle.cx_login.specs.cx_steps.specs.declared.seals.SealEntry.{SealEntry}
+use Rattle.cx_login.specs.cx_steps.specs.declared.seals.SealEntry.TheVariants.{Drawn}
+use Rattle.cx_login.specs.cx_wire.specs.Logins.{authenticate_layout, login_hello_layout, server_challenge_layout}
+use Rattle.cx_login.specs.cx_wire.specs.declared.logins.Authenticate.{Authenticate}
+use Rattle.cx_login.specs.cx_wire.specs.declared.logins.LoginHello.{LoginHello}
 use Rattle.cx_rules.specs.Acceptor.{AwaitsBanner, AwaitsHello, AwaitsRequest, AwaitsProof, AwaitsSignature, AwaitsIdent, Open, Finished, denies, finished, joined, misses, missing_told, on_auth_request, on_banner, on_hello, on_signature, server_ident}
 use Rattle.cx_rules.specs.Judged.{LogsDraw, LogsLink, LogsStage, LogsTurn, has_key}
 use Rattle.cx_rules.specs.Links.{Link}

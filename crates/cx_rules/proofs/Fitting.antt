@@ -2,19 +2,19 @@
 use Rattle.std.proofs.Common.{◌≡◌, ℕ, ◌+◌, ◌≤◌, Bool, true, false, List, length, take, drop, Option, Some, None, Result, Ok, Err, refl, arith, length-drop}
 use Rattle.std.specs.Prelude.{◌||◌, ◌==◌, ◌-◌, ◌%◌, nat_lt, if◌then◌else◌}
 use Rattle.std.proofs.lemmas.Bool.{ltb-false}
-use Rattle.cx_frame.specs.declared.banner.Banner.{Banner}
-use Rattle.cx_frame.specs.declared.frame.Frame.{Frame}
-use Rattle.cx_frame.specs.declared.preamble.Preamble.{Preamble}
-use Rattle.cx_frame.specs.declared.refusals.BannerRefusal.{BannerRefusal}
-use Rattle.cx_frame.specs.declared.refusals.BannerRefusal.TheVariants.{BadBanner, Features}
-use Rattle.cx_frame.specs.declared.refusals.FrameRefusal.{FrameRefusal}
-use Rattle.cx_frame.specs.Banners.{bad_place, banner_at, behind_word, by_features, number64, sized}
-use Rattle.cx_frame.specs.Frames.{rest_at, rest_len}
-use Rattle.cx_frame.specs.Preambles.{number16, preamble_at}
-use Rattle.cx_secure.specs.Opening.{head_step, rest_step}
-use Rattle.cx_secure.specs.Plains as secure
-use Rattle.cx_secure.specs.declared.refusals.SecureRefusal.{SecureRefusal}
-use Rattle.cx_secure.specs.declared.sealing.Head.{Head}
+use Rattle.cx_stream.specs.cx_frame.specs.declared.banner.Banner.{Banner}
+use Rattle.cx_stream.specs.cx_frame.specs.declared.frame.Frame.{Frame}
+use Rattle.cx_stream.specs.cx_frame.specs.declared.preamble.Preamble.{Preamble}
+use Rattle.cx_stream.specs.cx_frame.specs.declared.refusals.BannerRefusal.{BannerRefusal}
+use Rattle.cx_stream.specs.cx_frame.specs.declared.refusals.BannerRefusal.TheVariants.{BadBanner, Features}
+use Rattle.cx_stream.specs.cx_frame.specs.declared.refusals.FrameRefusal.{FrameRefusal}
+use Rattle.cx_stream.specs.cx_frame.specs.Banners.{bad_place, banner_at, behind_word, by_features, number64, sized}
+use Rattle.cx_stream.specs.cx_frame.specs.Frames.{rest_at, rest_len}
+use Rattle.cx_stream.specs.cx_frame.specs.Preambles.{number16, preamble_at}
+use Rattle.cx_stream.specs.cx_secure.specs.Opening.{head_step, rest_step}
+use Rattle.cx_stream.specs.cx_secure.specs.Plains as secure
+use Rattle.cx_stream.specs.cx_secure.specs.declared.refusals.SecureRefusal.{SecureRefusal}
+use Rattle.cx_stream.specs.cx_secure.specs.declared.sealing.Head.{Head}
 use Rattle.cx_stream.specs.Fronts.{with_length}
 use Rattle.cx_stream.specs.PlainStreams.{behind_preamble, plain_frame_at}
 use Rattle.cx_stream.specs.SecureStreams.{Ahead, behind_head, secure_frame_at}

@@ -4,15 +4,15 @@ use Rattle.std.specs.Prelude.{◌&&◌, if◌then◌else◌}
 use Rattle.std.specs.Str.{bytes_eq}
 use Rattle.std.proofs.lemmas.Bool.{and_parts}
 use Rattle.std.proofs.lemmas.Slice.Eq.{bytes_eq-Decides}
-use Rattle.cx_enc.specs.declared.keys.Key.{Key}
-use Rattle.cx_journal.specs.declared.faults.BytesFault.{BytesFault}
-use Rattle.cx_journal.specs.declared.faults.LoginFault.{LoginFault}
+use Rattle.cx_login.specs.cx_enc.specs.declared.keys.Key.{Key}
+use Rattle.cx_login.specs.cx_journal.specs.declared.faults.BytesFault.{BytesFault}
+use Rattle.cx_login.specs.cx_journal.specs.declared.faults.LoginFault.{LoginFault}
 use Rattle.cx_keyserver.specs.declared.tickets.Ticket.{Ticket}
 use Rattle.cx_login.specs.Monitor.{Proven}
 use Rattle.cx_rotate.specs.declared.generations.Generation.{Generation}
 use Rattle.cx_rotate.specs.declared.states.KeptState.{KeptState}
-use Rattle.cx_steps.specs.Onto.{SomeOf}
-use Rattle.cx_steps.specs.declared.seals.SealEntry.{SealEntry}
+use Rattle.cx_login.specs.cx_steps.specs.Onto.{SomeOf}
+use Rattle.cx_login.specs.cx_steps.specs.declared.seals.SealEntry.{SealEntry}
 use Rattle.cx_rules.specs.Acceptor.{Finished, denies}
 use Rattle.cx_rules.specs.Judged.{IsEnvelopeSealed, IsProofFound, NoneOf}
 use Rattle.cx_rules.specs.KeptStates.{changed, saved_behind, same_generation, same_generations, same_state}

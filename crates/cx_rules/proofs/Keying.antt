@@ -5,7 +5,7 @@ use Rattle.std.specs.List.{AllByRecursion}
 use Rattle.std.proofs.lemmas.List.{length-drop, length-take}
 use Rattle.cx_base.specs.declared.kinds.EntityType.{EntityType}
 use Rattle.cx_base.specs.declared.kinds.EntityType.TheVariants.{Mon, Mds, Osd, Client, Mgr, Auth}
-use Rattle.cx_dice.specs.Draws.{rotation_of, three_keys}
+use Rattle.cx_keyserver.specs.cx_dice.specs.Draws.{rotation_of, three_keys}
 use Rattle.cx_keyserver.specs.Servers.{Server, life_of}
 use Rattle.cx_rotate.proofs.Results.{stands_current}
 use Rattle.cx_rotate.specs.Held.{IsRising}

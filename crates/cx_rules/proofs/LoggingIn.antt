@@ -8,17 +8,17 @@ use Rattle.std.proofs.lemmas.List.{get_or-append_right, length-drop, length-take
 use Rattle.cx_base.specs.declared.kinds.EntityType.{EntityType}
 use Rattle.cx_base.specs.declared.kinds.EntityType.TheVariants.{Mon, Mds, Osd, Client, Mgr, Auth}
 use Rattle.cx_base.specs.declared.nodes.NodeName.TheVariants as node
-use Rattle.cx_cbc.specs.Envelope.{sealed}
-use Rattle.cx_control.specs.Auth.{auth_request_layout, auth_request_more_layout, auth_signature_layout}
-use Rattle.cx_control.specs.declared.auth.AuthRequest.{AuthRequest}
-use Rattle.cx_dice.specs.Draws.{challenge_of, connection_of, counter_0, nonce_start, part, session_of}
-use Rattle.cx_digest.specs.Code.{hmac}
-use Rattle.cx_frame.specs.Banners.{number64}
-use Rattle.cx_frame.specs.Frames.{frame_text, total}
-use Rattle.cx_frame.specs.declared.frame.Frame.{Frame}
-use Rattle.cx_journal.specs.declared.faults.BytesFault.{BytesFault}
-use Rattle.cx_keyring.specs.Entries.{is_named}
-use Rattle.cx_keyring.specs.declared.entries.Entry.{Entry as Principal}
+use Rattle.cx_keyserver.specs.cx_cbc.specs.Envelope.{sealed}
+use Rattle.cx_login.specs.cx_control.specs.Auth.{auth_request_layout, auth_request_more_layout, auth_signature_layout}
+use Rattle.cx_login.specs.cx_control.specs.declared.auth.AuthRequest.{AuthRequest}
+use Rattle.cx_keyserver.specs.cx_dice.specs.Draws.{challenge_of, connection_of, counter_0, nonce_start, part, session_of}
+use Rattle.cx_stream.specs.cx_digest.specs.Code.{hmac}
+use Rattle.cx_stream.specs.cx_frame.specs.Banners.{number64}
+use Rattle.cx_stream.specs.cx_frame.specs.Frames.{frame_text, total}
+use Rattle.cx_stream.specs.cx_frame.specs.declared.frame.Frame.{Frame}
+use Rattle.cx_login.specs.cx_journal.specs.declared.faults.BytesFault.{BytesFault}
+use Rattle.cx_keyserver.specs.cx_keyring.specs.Entries.{is_named}
+use Rattle.cx_keyserver.specs.cx_keyring.specs.declared.entries.Entry.{Entry as Principal}
 use Rattle.cx_keyserver.specs.Servers.{Server, generations_of, rotated_server}
 use Rattle.cx_keyserver.specs.declared.tickets.Ticket.{Ticket}
 use Rattle.cx_login.specs.Monitor.{Offer, Proven, IsProved, proof_found, proving, reclaimed}
@@ -27,12 +27,12 @@ use Rattle.cx_login.specs.declared.monitor.Reclaim.{Reclaim}
 use Rattle.cx_login.specs.declared.monitor.Reclaim.TheVariants as reclaim
 use Rattle.cx_rotate.specs.Rotation.{is_current}
 use Rattle.cx_rotate.specs.declared.generations.Generation.{Generation}
-use Rattle.cx_steps.specs.declared.seals.DrawMark.TheVariants.{Challenge}
-use Rattle.cx_steps.specs.declared.seals.SealEntry.{SealEntry}
-use Rattle.cx_steps.specs.declared.seals.SealEntry.TheVariants.{Drawn}
-use Rattle.cx_wire.specs.Logins.{login_hello_layout}
-use Rattle.cx_wire.specs.declared.logins.Authenticate.{Authenticate}
-use Rattle.cx_wire.specs.declared.logins.LoginHello.{LoginHello}
+use Rattle.cx_login.specs.cx_steps.specs.declared.seals.DrawMark.TheVariants.{Challenge}
+use Rattle.cx_login.specs.cx_steps.specs.declared.seals.SealEntry.{SealEntry}
+use Rattle.cx_login.specs.cx_steps.specs.declared.seals.SealEntry.TheVariants.{Drawn}
+use Rattle.cx_login.specs.cx_wire.specs.Logins.{login_hello_layout}
+use Rattle.cx_login.specs.cx_wire.specs.declared.logins.Authenticate.{Authenticate}
+use Rattle.cx_login.specs.cx_wire.specs.declared.logins.LoginHello.{LoginHello}
 use Rattle.cx_rules.specs.Acceptor.{AwaitsProof, AwaitsSignature, Finished, finished, joined, on_auth_request}
 use Rattle.cx_rules.specs.Answering.{AreCurrent, GivesChallenge, GivesLogin, HearsHello, HearsProof, IsDue, challenge_frame, gid_kept, login_frame, login_signature, services_granted}
 use Rattle.cx_rules.specs.Inputs.{Turn}

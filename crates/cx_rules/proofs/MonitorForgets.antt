@@ -6,25 +6,25 @@ use Rattle.std.specs.Option.{option_map}
 use Rattle.std.proofs.lemmas.List.{length-map}
 use Rattle.cx_base.specs.declared.addresses.Addr.{Addr}
 use Rattle.cx_base.specs.declared.kinds.EntityType.TheVariants.{Mon}
-use Rattle.cx_control.specs.Auth.{auth_request_layout, auth_request_more_layout, auth_signature_layout}
-use Rattle.cx_control.specs.Hello.{hello_layout}
-use Rattle.cx_control.specs.Idents.{client_ident_layout}
-use Rattle.cx_control.specs.Reconnects.{session_reconnect_layout}
-use Rattle.cx_control.specs.declared.auth.AuthRequestMore.{AuthRequestMore}
-use Rattle.cx_control.specs.declared.idents.ClientIdent.{ClientIdent}
-use Rattle.cx_control.specs.declared.reconnects.SessionReconnect.{SessionReconnect}
-use Rattle.cx_frame.specs.declared.frame.Frame.{Frame}
-use Rattle.cx_journal.specs.declared.faults.BytesFault.{BytesFault}
-use Rattle.cx_journal.specs.declared.faults.BytesFault.TheVariants.{Unexpected}
+use Rattle.cx_login.specs.cx_control.specs.Auth.{auth_request_layout, auth_request_more_layout, auth_signature_layout}
+use Rattle.cx_login.specs.cx_control.specs.Hello.{hello_layout}
+use Rattle.cx_login.specs.cx_control.specs.Idents.{client_ident_layout}
+use Rattle.cx_login.specs.cx_control.specs.Reconnects.{session_reconnect_layout}
+use Rattle.cx_login.specs.cx_control.specs.declared.auth.AuthRequestMore.{AuthRequestMore}
+use Rattle.cx_login.specs.cx_control.specs.declared.idents.ClientIdent.{ClientIdent}
+use Rattle.cx_login.specs.cx_control.specs.declared.reconnects.SessionReconnect.{SessionReconnect}
+use Rattle.cx_stream.specs.cx_frame.specs.declared.frame.Frame.{Frame}
+use Rattle.cx_login.specs.cx_journal.specs.declared.faults.BytesFault.{BytesFault}
+use Rattle.cx_login.specs.cx_journal.specs.declared.faults.BytesFault.TheVariants.{Unexpected}
 use Rattle.cx_base.specs.declared.nodes.NodeName.TheVariants as node
-use Rattle.cx_journal.specs.declared.outcomes.Reason.{Reason}
-use Rattle.cx_journal.specs.declared.outcomes.Reason.TheVariants as reason
-use Rattle.cx_keyring.specs.declared.entries.Entry.{Entry as Principal}
+use Rattle.cx_login.specs.cx_journal.specs.declared.outcomes.Reason.{Reason}
+use Rattle.cx_login.specs.cx_journal.specs.declared.outcomes.Reason.TheVariants as reason
+use Rattle.cx_keyserver.specs.cx_keyring.specs.declared.entries.Entry.{Entry as Principal}
 use Rattle.cx_keyserver.specs.Servers.{Server}
 use Rattle.cx_login.specs.Monitor.{Proven}
 use Rattle.cx_login.specs.declared.refusals.WrongProof.{WrongProof}
-use Rattle.cx_wire.specs.declared.logins.Authenticate.{Authenticate}
-use Rattle.cx_wire.specs.declared.logins.LoginHello.{LoginHello}
+use Rattle.cx_login.specs.cx_wire.specs.declared.logins.Authenticate.{Authenticate}
+use Rattle.cx_login.specs.cx_wire.specs.declared.logins.LoginHello.{LoginHello}
 use Rattle.cx_rules.specs.Abridged.{IsWithin, MonitorStandsFor, abridged_link, abridged_monitor, unsigned}
 use Rattle.cx_rules.specs.Acceptor.{AwaitsBanner, AwaitsHello, AwaitsRequest, AwaitsProof, AwaitsSignature, AwaitsIdent, Open, Finished, finished, misses, on_auth_request, on_banner, on_hello, on_signature, server_ident}
 use Rattle.cx_rules.specs.Greetings.{own_banner, own_hello}

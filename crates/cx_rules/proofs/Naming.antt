@@ -3,8 +3,8 @@ use Rattle.std.proofs.Common.{◌≡◌, ℕ, ◌==◌, inl, inr, Bool, true, fa
 use Rattle.std.specs.Prelude.{IsSome, nat_le, length, if◌then◌else◌}
 use Rattle.std.specs.List.{AllByRecursion}
 use Rattle.cx_base.specs.declared.nodes.NodeName.TheVariants as node
-use Rattle.cx_journal.specs.declared.outcomes.Reason.TheVariants.{LinksFull}
-use Rattle.cx_steps.specs.declared.effects.Piece.{Piece}
+use Rattle.cx_login.specs.cx_journal.specs.declared.outcomes.Reason.TheVariants.{LinksFull}
+use Rattle.cx_login.specs.cx_steps.specs.declared.effects.Piece.{Piece}
 use Rattle.cx_rules.specs.Acceptor.{AwaitsBanner}
 use Rattle.cx_rules.specs.Inputs.{Input, Opened, NoLink, Bytes, Turn, Gone, Look, Tick, Submit, Restart}
 use Rattle.cx_rules.specs.Judged.{HearsFrame, IsJudged, IsThere, NamesLinks}

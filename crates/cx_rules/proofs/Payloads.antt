@@ -1,15 +1,15 @@
 -- What a reader of cx_control reads is what the rules read.
 use Rattle.std.proofs.Common.{◌≡◌, ℕ, List, [], ◌∷◌, Result, Ok, Err, refl, sym, ap, subst, ◌∙◌}
-use Rattle.cx_control.specs.Calls.{IsReadBy, IsRefusedFor, stop_of}
-use Rattle.cx_control.specs.declared.refusals.WireRefusal.TheVariants.{Malformed}
-use Rattle.cx_enc.specs.Forms.{Spot, Form, IsBytes}
-use Rattle.cx_enc.specs.Layouts.{Layout}
-use Rattle.cx_enc.specs.Faults.{fault_place}
-use Rattle.cx_enc.specs.Whole.{start, Spells}
-use Rattle.cx_enc.specs.declared.faults.ReadFault.{ReadFault}
-use Rattle.cx_enc.proofs.Wholes.{read_again, spelled}
-use Rattle.cx_journal.specs.declared.faults.BytesFault.{BytesFault}
-use Rattle.cx_journal.specs.declared.faults.BytesFault.TheVariants as bytes_fault
+use Rattle.cx_login.specs.cx_control.specs.Calls.{IsReadBy, IsRefusedFor, stop_of}
+use Rattle.cx_login.specs.cx_control.specs.declared.refusals.WireRefusal.TheVariants.{Malformed}
+use Rattle.cx_login.specs.cx_enc.specs.Forms.{Spot, Form, IsBytes}
+use Rattle.cx_login.specs.cx_enc.specs.Layouts.{Layout}
+use Rattle.cx_login.specs.cx_enc.specs.Faults.{fault_place}
+use Rattle.cx_login.specs.cx_enc.specs.Whole.{start, Spells}
+use Rattle.cx_login.specs.cx_enc.specs.declared.faults.ReadFault.{ReadFault}
+use Rattle.cx_login.specs.cx_enc.proofs.Wholes.{read_again, spelled}
+use Rattle.cx_login.specs.cx_journal.specs.declared.faults.BytesFault.{BytesFault}
+use Rattle.cx_login.specs.cx_journal.specs.declared.faults.BytesFault.TheVariants as bytes_fault
 use Rattle.cx_rules.specs.Payloads.{to_end, unless_left, whole}
 
 -- what all of the bytes spell is what is read

@@ -2,14 +2,14 @@
 use Rattle.std.proofs.Common.{◌≡◌, ℕ, zero, suc, ◌+◌, ◌/◌, ◌≤◌, List, [], ◌∷◌, ◌++◌, length, refl, arith, length-append}
 use Rattle.std.specs.List.{flat_map, range_with_len}
 use Rattle.std.proofs.lemmas.List.FromFn.{length-map-range_with_len}
-use Rattle.cx_aes.specs.Cipher.{add, aes, next_key, round_key, rounds, shift_rows, sub_bytes, turned_word, word}
-use Rattle.cx_frame.specs.Frames.{frame_text}
-use Rattle.cx_frame.specs.Preambles.{front_text, preamble_text}
-use Rattle.cx_frame.specs.declared.frame.Frame.{Frame}
-use Rattle.cx_frame.specs.declared.frame.Segment.{Segment}
-use Rattle.cx_gcm.specs.Gcm.{counter_block, gctr, nonce_block, raised, tag_of}
-use Rattle.cx_secure.specs.Parts.{ciphered, nonce_at, part, sealed_parts}
-use Rattle.cx_secure.specs.Plains.{parts_of, plains, plains_of}
+use Rattle.cx_stream.specs.cx_aes.specs.Cipher.{add, aes, next_key, round_key, rounds, shift_rows, sub_bytes, turned_word, word}
+use Rattle.cx_stream.specs.cx_frame.specs.Frames.{frame_text}
+use Rattle.cx_stream.specs.cx_frame.specs.Preambles.{front_text, preamble_text}
+use Rattle.cx_stream.specs.cx_frame.specs.declared.frame.Frame.{Frame}
+use Rattle.cx_stream.specs.cx_frame.specs.declared.frame.Segment.{Segment}
+use Rattle.cx_stream.specs.cx_gcm.specs.Gcm.{counter_block, gctr, nonce_block, raised, tag_of}
+use Rattle.cx_stream.specs.cx_secure.specs.Parts.{ciphered, nonce_at, part, sealed_parts}
+use Rattle.cx_stream.specs.cx_secure.specs.Plains.{parts_of, plains, plains_of}
 use Rattle.cx_rules.specs.Answering.{link_piece}
 use Rattle.cx_rules.specs.Rows.{piece}
 use Rattle.cx_rules.specs.Secured.{Keys, sealed_under}

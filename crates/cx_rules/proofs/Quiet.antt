@@ -2,14 +2,14 @@
 use Rattle.std.proofs.Common.{◌≡◌, ℕ, ◌+◌, Bool, true, false, List, [], ◌∷◌, ◌++◌, map, None, Result, Ok, Err, refl}
 use Rattle.std.specs.Prelude.{◌-◌, ◌^◌, length, nat_lt, if◌then◌else◌}
 use Rattle.std.specs.List.{flat_map}
-use Rattle.cx_frame.specs.Frames.{total}
-use Rattle.cx_secure.specs.Plains.{plains}
-use Rattle.cx_journal.specs.declared.faults.BytesFault.TheVariants.{CounterSpent, TooLong}
-use Rattle.cx_frame.specs.declared.frame.Frame.{Frame}
-use Rattle.cx_journal.specs.declared.faults.BytesFault.{BytesFault}
-use Rattle.cx_journal.specs.declared.outcomes.Reason.{Reason}
+use Rattle.cx_stream.specs.cx_frame.specs.Frames.{total}
+use Rattle.cx_stream.specs.cx_secure.specs.Plains.{plains}
+use Rattle.cx_login.specs.cx_journal.specs.declared.faults.BytesFault.TheVariants.{CounterSpent, TooLong}
+use Rattle.cx_stream.specs.cx_frame.specs.declared.frame.Frame.{Frame}
+use Rattle.cx_login.specs.cx_journal.specs.declared.faults.BytesFault.{BytesFault}
+use Rattle.cx_login.specs.cx_journal.specs.declared.outcomes.Reason.{Reason}
 use Rattle.cx_rotate.specs.declared.states.KeptState.{KeptState}
-use Rattle.cx_steps.specs.declared.seals.SealEntry.{SealEntry}
+use Rattle.cx_login.specs.cx_steps.specs.declared.seals.SealEntry.{SealEntry}
 use Rattle.cx_rules.specs.Judged.{IsHandedOut, IsEnvelopeSealed, NoneOf}
 use Rattle.cx_rules.specs.Monitor.{MonitorArrival, MonitorRow, MonitorStage}
 use Rattle.cx_rules.specs.Rows.{goes_on, refuses, refuses_bytes, plain_sent, sends_plain, secure_sent, sends_secure, with_opened}

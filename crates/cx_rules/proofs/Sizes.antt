@@ -5,42 +5,42 @@ use Rattle.std.specs.List.{AllByRecursion, concat, flat_map}
 use Rattle.std.proofs.lemmas.List.{length-replicate}
 use Rattle.std.proofs.lemmas.List.Concat.{flat_map-cons}
 use Rattle.sha2.proofs.Facts256.{length-sha256}
-use Rattle.cx_aes.specs.Cipher.{add, aes, next_key, round_key, shift_rows, sub_bytes, rounds, turned_word, word}
+use Rattle.cx_stream.specs.cx_aes.specs.Cipher.{add, aes, next_key, round_key, shift_rows, sub_bytes, rounds, turned_word, word}
 use Rattle.cx_base.specs.Names.{Name}
 use Rattle.cx_base.specs.declared.kinds.EntityType.{EntityType}
-use Rattle.cx_cbc.specs.Chain.{blocks_of, cbc}
-use Rattle.cx_cbc.specs.Envelope.{enveloped, head, initial_vector, padded, padding, sealed}
-use Rattle.cx_cbc.proofs.Blocks.{length-first_chunks}
-use Rattle.cx_digest.specs.Code.{hmac}
-use Rattle.cx_enc.specs.Forms.{blob_form, chain_text, little}
-use Rattle.cx_enc.specs.Layouts.{◌⊗◌, ◌⊳◌, blob_field, constant, ticket_field, u8_field}
-use Rattle.cx_enc.specs.declared.tickets.TicketBlob.{TicketBlob}
-use Rattle.cx_enc.specs.Values.{key_form, kind_form, name_form, reading_form, secret_form, sized_form, ticket_form, time_form}
+use Rattle.cx_keyserver.specs.cx_cbc.specs.Chain.{blocks_of, cbc}
+use Rattle.cx_keyserver.specs.cx_cbc.specs.Envelope.{enveloped, head, initial_vector, padded, padding, sealed}
+use Rattle.cx_keyserver.specs.cx_cbc.proofs.Blocks.{length-first_chunks}
+use Rattle.cx_stream.specs.cx_digest.specs.Code.{hmac}
+use Rattle.cx_login.specs.cx_enc.specs.Forms.{blob_form, chain_text, little}
+use Rattle.cx_login.specs.cx_enc.specs.Layouts.{◌⊗◌, ◌⊳◌, blob_field, constant, ticket_field, u8_field}
+use Rattle.cx_login.specs.cx_enc.specs.declared.tickets.TicketBlob.{TicketBlob}
+use Rattle.cx_login.specs.cx_enc.specs.Values.{key_form, kind_form, name_form, reading_form, secret_form, sized_form, ticket_form, time_form}
 use Rattle.cx_rotate.specs.declared.generations.Generation.{Generation}
-use Rattle.cx_sealed.specs.Records.{connection_secret_layout, generation_layout, service_ticket_layout, ticket_info_layout}
-use Rattle.cx_sealed.specs.declared.service_ticket.ServiceTicket.{ServiceTicket}
-use Rattle.cx_sealed.specs.declared.ticket_info.TicketInfo.{TicketInfo}
+use Rattle.cx_keyserver.specs.cx_sealed.specs.Records.{connection_secret_layout, generation_layout, service_ticket_layout, ticket_info_layout}
+use Rattle.cx_keyserver.specs.cx_sealed.specs.declared.service_ticket.ServiceTicket.{ServiceTicket}
+use Rattle.cx_keyserver.specs.cx_sealed.specs.declared.ticket_info.TicketInfo.{TicketInfo}
 use Rattle.cx_base.specs.declared.kinds.EntityType.TheVariants.{Auth}
 use Rattle.std.specs.Prelude.{Ok}
 use Rattle.std.proofs.lemmas.Bool.{le-ltb}
-use Rattle.cx_frame.specs.Frames.{frame_text, total}
-use Rattle.cx_frame.specs.Preambles.{preamble_of, preamble_text}
-use Rattle.cx_frame.specs.declared.frame.Frame.{Frame}
-use Rattle.cx_frame.specs.declared.frame.Segment.{Segment}
-use Rattle.cx_secure.specs.Plains.{filled, last_plain, nonempty, parts_of, plains, plains_of, second_plain, up16}
+use Rattle.cx_stream.specs.cx_frame.specs.Frames.{frame_text, total}
+use Rattle.cx_stream.specs.cx_frame.specs.Preambles.{preamble_of, preamble_text}
+use Rattle.cx_stream.specs.cx_frame.specs.declared.frame.Frame.{Frame}
+use Rattle.cx_stream.specs.cx_frame.specs.declared.frame.Segment.{Segment}
+use Rattle.cx_stream.specs.cx_secure.specs.Plains.{filled, last_plain, nonempty, parts_of, plains, plains_of, second_plain, up16}
 use Rattle.cx_rules.specs.Answering.{challenge_frame}
 use Rattle.cx_rules.specs.Messages.{segment}
 use Rattle.cx_rules.specs.MonitorRequests.{reply_message}
 use Rattle.cx_rules.specs.Secured.{Keys, plain_frame, sealed_under, secure_frame}
 use Rattle.cx_keyserver.specs.declared.tickets.Ticket.{Ticket}
-use Rattle.cx_wire.specs.Bodies.{reply_layout}
-use Rattle.cx_wire.specs.Logins.{login_done_layout}
-use Rattle.cx_wire.specs.declared.bodies.Reply.TheVariants as given
+use Rattle.cx_login.specs.cx_wire.specs.Bodies.{reply_layout}
+use Rattle.cx_login.specs.cx_wire.specs.Logins.{login_done_layout}
+use Rattle.cx_login.specs.cx_wire.specs.declared.bodies.Reply.TheVariants as given
 use Rattle.cx_rules.specs.Replies.{told_content}
 use Rattle.cx_rules.specs.Tickets.{ticket_part}
 use Rattle.cx_rules.specs.Verdicts.{done_payload, login_done}
-use Rattle.cx_wire.specs.Services.{behind, ticket_part_layout}
-use Rattle.cx_wire.specs.declared.tickets.TicketPart.{TicketPart}
+use Rattle.cx_login.specs.cx_wire.specs.Services.{behind, ticket_part_layout}
+use Rattle.cx_login.specs.cx_wire.specs.declared.tickets.TicketPart.{TicketPart}
 
 -- ---- envelopes
 

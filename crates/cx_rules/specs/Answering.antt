@@ -6,18 +6,18 @@ use Rattle.std.specs.List.{AllByRecursion, list_any}
 use Rattle.cx_base.specs.Names.{Name, is_daemon_type, is_id, same_kind}
 use Rattle.cx_base.specs.declared.kinds.EntityType.{EntityType}
 use Rattle.cx_base.specs.declared.kinds.EntityType.TheVariants.{Auth}
-use Rattle.cx_cbc.specs.Envelope.{sealed}
-use Rattle.cx_control.specs.Auth.{auth_done_layout, auth_reply_more_layout, auth_request_layout, auth_request_more_layout, auth_signature_layout}
-use Rattle.cx_control.specs.declared.auth.AuthRequest.{AuthRequest}
-use Rattle.cx_control.specs.declared.auth.AuthRequestMore.{AuthRequestMore}
-use Rattle.cx_dice.specs.Draws.{challenge_of, connection_of, has_keys, session_of}
-use Rattle.cx_digest.specs.Code.{hmac}
-use Rattle.cx_frame.specs.Frames.{frame_text}
-use Rattle.cx_frame.specs.declared.frame.Frame.{Frame}
-use Rattle.cx_journal.specs.declared.entries.Entry.{Entry}
-use Rattle.cx_journal.specs.declared.entries.Entry.TheVariants as entry
-use Rattle.cx_keyring.specs.Entries.{are_grants, is_named}
-use Rattle.cx_keyring.specs.declared.entries.Entry.{Entry as Principal}
+use Rattle.cx_keyserver.specs.cx_cbc.specs.Envelope.{sealed}
+use Rattle.cx_login.specs.cx_control.specs.Auth.{auth_done_layout, auth_reply_more_layout, auth_request_layout, auth_request_more_layout, auth_signature_layout}
+use Rattle.cx_login.specs.cx_control.specs.declared.auth.AuthRequest.{AuthRequest}
+use Rattle.cx_login.specs.cx_control.specs.declared.auth.AuthRequestMore.{AuthRequestMore}
+use Rattle.cx_keyserver.specs.cx_dice.specs.Draws.{challenge_of, connection_of, has_keys, session_of}
+use Rattle.cx_stream.specs.cx_digest.specs.Code.{hmac}
+use Rattle.cx_stream.specs.cx_frame.specs.Frames.{frame_text}
+use Rattle.cx_stream.specs.cx_frame.specs.declared.frame.Frame.{Frame}
+use Rattle.cx_login.specs.cx_journal.specs.declared.entries.Entry.{Entry}
+use Rattle.cx_login.specs.cx_journal.specs.declared.entries.Entry.TheVariants as entry
+use Rattle.cx_keyserver.specs.cx_keyring.specs.Entries.{are_grants, is_named}
+use Rattle.cx_keyserver.specs.cx_keyring.specs.declared.entries.Entry.{Entry as Principal}
 use Rattle.cx_keyserver.specs.Issuing.{Asked, asking, caps_for, issued}
 use Rattle.cx_keyserver.specs.Servers.{Server, generations_of, life_of, rotated_server}
 use Rattle.cx_keyserver.specs.declared.tickets.Ticket.{Ticket}
@@ -26,17 +26,17 @@ use Rattle.cx_login.specs.Unlocking.{old_ticket}
 use Rattle.cx_rotate.specs.Held.{IsRising}
 use Rattle.cx_rotate.specs.Rotation.{is_current, is_full}
 use Rattle.cx_rotate.specs.declared.generations.Generation.{Generation}
-use Rattle.cx_sealed.specs.Records.{connection_secret_layout, rotating_reply_layout}
-use Rattle.cx_steps.specs.Onto.{SomeOf}
-use Rattle.cx_steps.specs.declared.effects.Piece.{Piece}
-use Rattle.cx_steps.specs.declared.seals.SealEntry.{SealEntry}
-use Rattle.cx_wire.specs.Bodies.{reply_layout, request_layout}
-use Rattle.cx_wire.specs.Logins.{authenticate_layout, login_done_layout, login_hello_layout, server_challenge_layout}
-use Rattle.cx_wire.specs.declared.bodies.Reply.{Reply}
-use Rattle.cx_wire.specs.declared.bodies.Reply.TheVariants as given
-use Rattle.cx_wire.specs.declared.bodies.Request.{Request}
-use Rattle.cx_wire.specs.declared.logins.Authenticate.{Authenticate}
-use Rattle.cx_wire.specs.declared.logins.LoginHello.{LoginHello}
+use Rattle.cx_keyserver.specs.cx_sealed.specs.Records.{connection_secret_layout, rotating_reply_layout}
+use Rattle.cx_login.specs.cx_steps.specs.Onto.{SomeOf}
+use Rattle.cx_login.specs.cx_steps.specs.declared.effects.Piece.{Piece}
+use Rattle.cx_login.specs.cx_steps.specs.declared.seals.SealEntry.{SealEntry}
+use Rattle.cx_login.specs.cx_wire.specs.Bodies.{reply_layout, request_layout}
+use Rattle.cx_login.specs.cx_wire.specs.Logins.{authenticate_layout, login_done_layout, login_hello_layout, server_challenge_layout}
+use Rattle.cx_login.specs.cx_wire.specs.declared.bodies.Reply.{Reply}
+use Rattle.cx_login.specs.cx_wire.specs.declared.bodies.Reply.TheVariants as given
+use Rattle.cx_login.specs.cx_wire.specs.declared.bodies.Request.{Request}
+use Rattle.cx_login.specs.cx_wire.specs.declared.logins.Authenticate.{Authenticate}
+use Rattle.cx_login.specs.cx_wire.specs.declared.logins.LoginHello.{LoginHello}
 use Rattle.cx_rules.specs.Acceptor.{AwaitsRequest, AwaitsProof, AwaitsSignature, Open}
 use Rattle.cx_rules.specs.Fronts.{Next, plain_next, secure_next}
 use Rattle.cx_rules.specs.Links.{Link, link_of}

@@ -1,20 +1,20 @@
 -- What stands next on a link, behind what was taken ("msgr2 protocol": a banner, then plain frames, then secure ones).
 use Rattle.std.specs.Prelude.{ℕ, ◌+◌, List, [], map, drop, length, Option, Some, None, Result, Ok, Err}
-use Rattle.cx_frame.specs.Banners.{banner_at}
-use Rattle.cx_frame.specs.declared.banner.Banner.{Banner}
-use Rattle.cx_frame.specs.declared.frame.Frame.{Frame}
-use Rattle.cx_frame.specs.declared.refusals.BannerRefusal.{BannerRefusal}
-use Rattle.cx_frame.specs.declared.refusals.BannerRefusal.TheVariants as banner
-use Rattle.cx_frame.specs.declared.refusals.FrameRefusal.{FrameRefusal}
-use Rattle.cx_frame.specs.declared.refusals.FrameRefusal.TheVariants as plain
-use Rattle.cx_journal.specs.declared.faults.BytesFault.{BytesFault}
-use Rattle.cx_journal.specs.declared.faults.BytesFault.TheVariants as fault
-use Rattle.cx_journal.specs.declared.premises.KeyKind.TheVariants as kind
-use Rattle.cx_secure.specs.Plains.{plains}
-use Rattle.cx_secure.specs.declared.refusals.SecureRefusal.{SecureRefusal}
-use Rattle.cx_secure.specs.declared.refusals.SecureRefusal.TheVariants as secure
-use Rattle.cx_steps.specs.declared.seals.SealEntry.{SealEntry}
-use Rattle.cx_steps.specs.declared.seals.SealEntry.TheVariants as entry
+use Rattle.cx_stream.specs.cx_frame.specs.Banners.{banner_at}
+use Rattle.cx_stream.specs.cx_frame.specs.declared.banner.Banner.{Banner}
+use Rattle.cx_stream.specs.cx_frame.specs.declared.frame.Frame.{Frame}
+use Rattle.cx_stream.specs.cx_frame.specs.declared.refusals.BannerRefusal.{BannerRefusal}
+use Rattle.cx_stream.specs.cx_frame.specs.declared.refusals.BannerRefusal.TheVariants as banner
+use Rattle.cx_stream.specs.cx_frame.specs.declared.refusals.FrameRefusal.{FrameRefusal}
+use Rattle.cx_stream.specs.cx_frame.specs.declared.refusals.FrameRefusal.TheVariants as plain
+use Rattle.cx_login.specs.cx_journal.specs.declared.faults.BytesFault.{BytesFault}
+use Rattle.cx_login.specs.cx_journal.specs.declared.faults.BytesFault.TheVariants as fault
+use Rattle.cx_login.specs.cx_journal.specs.declared.premises.KeyKind.TheVariants as kind
+use Rattle.cx_stream.specs.cx_secure.specs.Plains.{plains}
+use Rattle.cx_stream.specs.cx_secure.specs.declared.refusals.SecureRefusal.{SecureRefusal}
+use Rattle.cx_stream.specs.cx_secure.specs.declared.refusals.SecureRefusal.TheVariants as secure
+use Rattle.cx_login.specs.cx_steps.specs.declared.seals.SealEntry.{SealEntry}
+use Rattle.cx_login.specs.cx_steps.specs.declared.seals.SealEntry.TheVariants as entry
 use Rattle.cx_stream.specs.Openings.{front_contents}
 use Rattle.cx_stream.specs.PlainStreams.{plain_frame_at}
 use Rattle.cx_stream.specs.SecureStreams.{Ahead, secure_frame_at}

@@ -2,9 +2,9 @@
 use Rattle.std.specs.Prelude.{ℕ, List, [], ◌∷◌}
 use Rattle.cx_base.specs.declared.addresses.Addr.{Addr}
 use Rattle.cx_base.specs.declared.kinds.EntityType.{EntityType}
-use Rattle.cx_control.specs.Hello.{hello_layout}
-use Rattle.cx_frame.specs.Banners.{banner_text}
-use Rattle.cx_frame.specs.declared.frame.Frame.{Frame}
+use Rattle.cx_login.specs.cx_control.specs.Hello.{hello_layout}
+use Rattle.cx_stream.specs.cx_frame.specs.Banners.{banner_text}
+use Rattle.cx_stream.specs.cx_frame.specs.declared.frame.Frame.{Frame}
 use Rattle.cx_rules.specs.Payloads.{control}
 
 -- the banner: REVISION_1 is supported and required

@@ -1,10 +1,10 @@
 -- What comes to a node, one event at a time, with its bytes as lists.
 use Rattle.std.specs.Prelude.{ℕ, List, Option}
 use Rattle.cx_rotate.specs.declared.views.View.{View}
-use Rattle.cx_steps.specs.declared.events.Command.{Command}
-use Rattle.cx_steps.specs.declared.events.Event.{Event}
-use Rattle.cx_steps.specs.declared.events.Event.TheVariants as event
-use Rattle.cx_steps.specs.declared.events.Peer.{Peer}
+use Rattle.cx_login.specs.cx_steps.specs.declared.events.Command.{Command}
+use Rattle.cx_login.specs.cx_steps.specs.declared.events.Event.{Event}
+use Rattle.cx_login.specs.cx_steps.specs.declared.events.Event.TheVariants as event
+use Rattle.cx_login.specs.cx_steps.specs.declared.events.Peer.{Peer}
 
 pub data Input : Type 0 where
   Opened : ℕ → Option Peer → Input

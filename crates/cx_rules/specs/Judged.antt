@@ -1,20 +1,20 @@
 -- What a step may answer at most, of every state, event, reading and draw.
 use Rattle.std.specs.Prelude.{ℕ, ◌≡◌, ◌⊎◌, List, [], take, Option, Some, None, IsSome}
 use Rattle.std.specs.List.{AllByRecursion}
-use Rattle.cx_journal.specs.declared.entries.Entry.{Entry}
-use Rattle.cx_journal.specs.declared.entries.Entry.TheVariants as entry
-use Rattle.cx_journal.specs.declared.premises.KeyKind.{KeyKind}
-use Rattle.cx_journal.specs.declared.premises.KeyKind.TheVariants as kind
-use Rattle.cx_frame.specs.declared.frame.Frame.{Frame}
-use Rattle.cx_steps.specs.Onto.{SomeOf}
-use Rattle.cx_steps.specs.declared.effects.Effects.{Effects}
-use Rattle.cx_steps.specs.declared.effects.Piece.{Piece}
-use Rattle.cx_steps.specs.declared.seals.SealEntry.{SealEntry}
-use Rattle.cx_steps.specs.declared.seals.SealEntry.TheVariants as seal
+use Rattle.cx_login.specs.cx_journal.specs.declared.entries.Entry.{Entry}
+use Rattle.cx_login.specs.cx_journal.specs.declared.entries.Entry.TheVariants as entry
+use Rattle.cx_login.specs.cx_journal.specs.declared.premises.KeyKind.{KeyKind}
+use Rattle.cx_login.specs.cx_journal.specs.declared.premises.KeyKind.TheVariants as kind
+use Rattle.cx_stream.specs.cx_frame.specs.declared.frame.Frame.{Frame}
+use Rattle.cx_login.specs.cx_steps.specs.Onto.{SomeOf}
+use Rattle.cx_login.specs.cx_steps.specs.declared.effects.Effects.{Effects}
+use Rattle.cx_login.specs.cx_steps.specs.declared.effects.Piece.{Piece}
+use Rattle.cx_login.specs.cx_steps.specs.declared.seals.SealEntry.{SealEntry}
+use Rattle.cx_login.specs.cx_steps.specs.declared.seals.SealEntry.TheVariants as seal
 use Rattle.cx_base.specs.declared.kinds.EntityType.TheVariants.{Auth}
-use Rattle.cx_dice.specs.Draws.{challenge_of, connection_of, cookie_of, session_of}
-use Rattle.cx_steps.specs.declared.seals.DrawMark.{DrawMark}
-use Rattle.cx_steps.specs.declared.seals.DrawMark.TheVariants as draw
+use Rattle.cx_keyserver.specs.cx_dice.specs.Draws.{challenge_of, connection_of, cookie_of, session_of}
+use Rattle.cx_login.specs.cx_steps.specs.declared.seals.DrawMark.{DrawMark}
+use Rattle.cx_login.specs.cx_steps.specs.declared.seals.DrawMark.TheVariants as draw
 use Rattle.cx_rules.specs.Acceptor.{AwaitsProof, AwaitsSignature, AwaitsIdent, Open}
 use Rattle.cx_rules.specs.Connector.{AskerArrival}
 use Rattle.cx_rules.specs.Connector as connector

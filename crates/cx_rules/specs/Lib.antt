@@ -1,6 +1,16 @@
 -- Behind `pub use`: what crates above name through this one, and so needn't list (`checks/ways`).
+pub use Rattle.cx_login.specs.cx_control as cx_control
+pub use Rattle.cx_keyserver.specs.cx_dice as cx_dice
+pub use Rattle.cx_stream.specs.cx_digest as cx_digest
+pub use Rattle.cx_stream.specs.cx_frame as cx_frame
+pub use Rattle.cx_keyserver.specs.cx_keyring as cx_keyring
+pub use Rattle.cx_keyserver as cx_keyserver
 pub use Rattle.cx_login as cx_login
-pub use Rattle.cx_steps as cx_steps
+pub use Rattle.cx_rotate as cx_rotate
+pub use Rattle.cx_stream.specs.cx_secure as cx_secure
+pub use Rattle.cx_login.specs.cx_steps as cx_steps
+pub use Rattle.cx_stream as cx_stream
+pub use Rattle.cx_login.specs.cx_wire as cx_wire
 pub mod Abridged
 pub mod Acceptor
 pub mod Answering

@@ -2,15 +2,15 @@
 -- read, and several frames in one piece.
 use Rattle.std.specs.Prelude.{ℕ, ◌==◌, Bool, List, [], ◌∷◌, ◌++◌, length, Option, Some, None, Result, Ok, Err, if◌then◌else◌}
 use Rattle.std.specs.List.{list_all}
-use Rattle.cx_control.specs.Upkeep.{ack_layout, keepalive2_layout, keepalive2_ack_layout}
-use Rattle.cx_enc.specs.Forms.{Form}
-use Rattle.cx_frame.specs.declared.frame.Frame.{Frame}
-use Rattle.cx_frame.specs.declared.frame.Segment.{Segment}
-use Rattle.cx_journal.specs.declared.faults.BytesFault.{BytesFault}
-use Rattle.cx_journal.specs.declared.faults.BytesFault.TheVariants.{Malformed, Unexpected}
-use Rattle.cx_wire.specs.Codes.{other_code}
-use Rattle.cx_wire.specs.Headers.{Fields, header_layout, kept_header, written_header}
-use Rattle.cx_wire.specs.declared.headers.Header.{Header}
+use Rattle.cx_login.specs.cx_control.specs.Upkeep.{ack_layout, keepalive2_layout, keepalive2_ack_layout}
+use Rattle.cx_login.specs.cx_enc.specs.Forms.{Form}
+use Rattle.cx_stream.specs.cx_frame.specs.declared.frame.Frame.{Frame}
+use Rattle.cx_stream.specs.cx_frame.specs.declared.frame.Segment.{Segment}
+use Rattle.cx_login.specs.cx_journal.specs.declared.faults.BytesFault.{BytesFault}
+use Rattle.cx_login.specs.cx_journal.specs.declared.faults.BytesFault.TheVariants.{Malformed, Unexpected}
+use Rattle.cx_login.specs.cx_wire.specs.Codes.{other_code}
+use Rattle.cx_login.specs.cx_wire.specs.Headers.{Fields, header_layout, kept_header, written_header}
+use Rattle.cx_login.specs.cx_wire.specs.declared.headers.Header.{Header}
 use Rattle.cx_rules.specs.Payloads.{control, payload, whole}
 use Rattle.cx_rules.specs.Rows.{Arrival, Row}
 use Rattle.cx_rules.specs.Secured.{Keys, SealedFrame, Secured, secure_frame}

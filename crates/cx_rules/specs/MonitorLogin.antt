@@ -1,22 +1,22 @@
 -- The monitor's rows of a login ("detailed cephx protocol": LoginHello is answered by a challenge, an Authenticate that proves the entity's
 -- secret by tickets): the row of the latter is made from what was decided.
 use Rattle.std.specs.Prelude.{ℕ, ◌+◌, List, [], ◌∷◌, ◌++◌, find, Option, Some, None, Result, Ok, Err}
-use Rattle.cx_cbc.specs.Envelope.{sealed}
-use Rattle.cx_control.specs.Auth.{auth_reply_more_layout}
-use Rattle.cx_dice.specs.Draws.{challenge_of}
-use Rattle.cx_frame.specs.declared.frame.Frame.{Frame}
-use Rattle.cx_journal.specs.declared.faults.BytesFault.{BytesFault}
-use Rattle.cx_journal.specs.declared.faults.LoginFault.TheVariants as login
-use Rattle.cx_keyring.specs.Entries.{is_named}
-use Rattle.cx_keyring.specs.declared.entries.Entry.{Entry as Principal}
+use Rattle.cx_keyserver.specs.cx_cbc.specs.Envelope.{sealed}
+use Rattle.cx_login.specs.cx_control.specs.Auth.{auth_reply_more_layout}
+use Rattle.cx_keyserver.specs.cx_dice.specs.Draws.{challenge_of}
+use Rattle.cx_stream.specs.cx_frame.specs.declared.frame.Frame.{Frame}
+use Rattle.cx_login.specs.cx_journal.specs.declared.faults.BytesFault.{BytesFault}
+use Rattle.cx_login.specs.cx_journal.specs.declared.faults.LoginFault.TheVariants as login
+use Rattle.cx_keyserver.specs.cx_keyring.specs.Entries.{is_named}
+use Rattle.cx_keyserver.specs.cx_keyring.specs.declared.entries.Entry.{Entry as Principal}
 use Rattle.cx_keyserver.specs.Servers.{Server}
 use Rattle.cx_login.specs.Monitor.{Offer, Proven, proving}
 use Rattle.cx_login.specs.declared.refusals.WrongProof.{WrongProof}
-use Rattle.cx_steps.specs.declared.seals.DrawMark.TheVariants as draw
-use Rattle.cx_steps.specs.declared.seals.SealEntry.TheVariants.{Drawn}
-use Rattle.cx_wire.specs.Logins.{server_challenge_layout}
-use Rattle.cx_wire.specs.declared.logins.Authenticate.{Authenticate}
-use Rattle.cx_wire.specs.declared.logins.LoginHello.{LoginHello}
+use Rattle.cx_login.specs.cx_steps.specs.declared.seals.DrawMark.TheVariants as draw
+use Rattle.cx_login.specs.cx_steps.specs.declared.seals.SealEntry.TheVariants.{Drawn}
+use Rattle.cx_login.specs.cx_wire.specs.Logins.{server_challenge_layout}
+use Rattle.cx_login.specs.cx_wire.specs.declared.logins.Authenticate.{Authenticate}
+use Rattle.cx_login.specs.cx_wire.specs.declared.logins.LoginHello.{LoginHello}
 use Rattle.cx_rules.specs.Acceptor.{AwaitsProof, AwaitsSignature, Finished, denies, finished}
 use Rattle.cx_rules.specs.KeptStates.{saved_behind}
 use Rattle.cx_rules.specs.Monitor.{MonitorArrival, MonitorRow, Offered}

@@ -1,14 +1,14 @@
 -- What the monitor does on an open link ("detailed cephx protocol"): a message of type 17 asks for tickets or for rotating secrets, and message
 -- 18 replies. How the open stage is called is left to whoever has the link; what it keeps beside its keys is the `Bearer`.
 use Rattle.std.specs.Prelude.{ℕ, ◌==◌, ◌+◌, ◌-◌, ◌^◌, List, [], ◌++◌, Option, Some, None, Result, Ok, Err, if◌then◌else◌}
-use Rattle.cx_frame.specs.declared.frame.Frame.{Frame}
-use Rattle.cx_journal.specs.declared.faults.BytesFault.{BytesFault}
-use Rattle.cx_journal.specs.declared.faults.SessionFault.TheVariants.{Gap}
-use Rattle.cx_journal.specs.declared.outcomes.Reason.{Reason}
-use Rattle.cx_journal.specs.declared.outcomes.Reason.TheVariants.{Bytes, Session, Spent}
+use Rattle.cx_stream.specs.cx_frame.specs.declared.frame.Frame.{Frame}
+use Rattle.cx_login.specs.cx_journal.specs.declared.faults.BytesFault.{BytesFault}
+use Rattle.cx_login.specs.cx_journal.specs.declared.faults.SessionFault.TheVariants.{Gap}
+use Rattle.cx_login.specs.cx_journal.specs.declared.outcomes.Reason.{Reason}
+use Rattle.cx_login.specs.cx_journal.specs.declared.outcomes.Reason.TheVariants.{Bytes, Session, Spent}
 use Rattle.cx_keyserver.specs.Servers.{Server}
-use Rattle.cx_wire.specs.Bodies.{request_layout}
-use Rattle.cx_wire.specs.declared.bodies.Request.{Request}
+use Rattle.cx_login.specs.cx_wire.specs.Bodies.{request_layout}
+use Rattle.cx_login.specs.cx_wire.specs.declared.bodies.Request.{Request}
 use Rattle.cx_rules.specs.KeptStates.{saved_behind}
 use Rattle.cx_rules.specs.Messages.{Message, body_as, message, message_in, on_upkeep_or}
 use Rattle.cx_rules.specs.Monitor.{Monitor}

@@ -1,13 +1,13 @@
 -- Payloads of control frames and of the method: read to their end or refused at a place, and written.
 use Rattle.std.specs.Prelude.{ℕ, ◌==◌, List, [], ◌∷◌, Result, Ok, Err, if◌then◌else◌}
-use Rattle.cx_enc.specs.Forms.{Spot, Form}
-use Rattle.cx_enc.specs.Faults.{fault_place}
-use Rattle.cx_enc.specs.Whole.{start}
-use Rattle.cx_enc.specs.declared.faults.ReadFault.{ReadFault}
-use Rattle.cx_frame.specs.declared.frame.Frame.{Frame}
-use Rattle.cx_frame.specs.declared.frame.Segment.{Segment}
-use Rattle.cx_journal.specs.declared.faults.BytesFault.{BytesFault}
-use Rattle.cx_journal.specs.declared.faults.BytesFault.TheVariants.{Malformed, Unexpected}
+use Rattle.cx_login.specs.cx_enc.specs.Forms.{Spot, Form}
+use Rattle.cx_login.specs.cx_enc.specs.Faults.{fault_place}
+use Rattle.cx_login.specs.cx_enc.specs.Whole.{start}
+use Rattle.cx_login.specs.cx_enc.specs.declared.faults.ReadFault.{ReadFault}
+use Rattle.cx_stream.specs.cx_frame.specs.declared.frame.Frame.{Frame}
+use Rattle.cx_stream.specs.cx_frame.specs.declared.frame.Segment.{Segment}
+use Rattle.cx_login.specs.cx_journal.specs.declared.faults.BytesFault.{BytesFault}
+use Rattle.cx_login.specs.cx_journal.specs.declared.faults.BytesFault.TheVariants.{Malformed, Unexpected}
 
 -- ---- read
 

@@ -4,27 +4,27 @@ use Rattle.std.specs.Prelude.{ℕ, List, [], ◌∷◌, filter, map, Option, Som
 use Rattle.std.specs.List.{flat_map}
 use Rattle.cx_base.specs.declared.kinds.EntityType.{EntityType}
 use Rattle.cx_base.specs.declared.kinds.EntityType.TheVariants.{Mds, Osd, Mgr}
-use Rattle.cx_cbc.specs.Envelope.{sealed}
-use Rattle.cx_enc.specs.declared.keys.Key.{Key}
-use Rattle.cx_journal.specs.declared.faults.LoginFault.{LoginFault}
-use Rattle.cx_journal.specs.declared.faults.LoginFault.TheVariants.{UnknownEntity}
-use Rattle.cx_journal.specs.declared.outcomes.Reason.{Reason}
-use Rattle.cx_journal.specs.declared.outcomes.Reason.TheVariants as reason
-use Rattle.cx_journal.specs.declared.premises.KeyKind.TheVariants.{Principal}
+use Rattle.cx_keyserver.specs.cx_cbc.specs.Envelope.{sealed}
+use Rattle.cx_login.specs.cx_enc.specs.declared.keys.Key.{Key}
+use Rattle.cx_login.specs.cx_journal.specs.declared.faults.LoginFault.{LoginFault}
+use Rattle.cx_login.specs.cx_journal.specs.declared.faults.LoginFault.TheVariants.{UnknownEntity}
+use Rattle.cx_login.specs.cx_journal.specs.declared.outcomes.Reason.{Reason}
+use Rattle.cx_login.specs.cx_journal.specs.declared.outcomes.Reason.TheVariants as reason
+use Rattle.cx_login.specs.cx_journal.specs.declared.premises.KeyKind.TheVariants.{Principal}
 use Rattle.cx_keyserver.specs.Issuing.{Asked, asking}
 use Rattle.cx_keyserver.specs.Servers.{Server, rotated_server, secrets_of}
 use Rattle.cx_keyserver.specs.declared.refusals.NotADaemon.{NotADaemon}
 use Rattle.cx_keyserver.specs.declared.tickets.Ticket.{Ticket}
 use Rattle.cx_rotate.specs.declared.generations.Generation.{Generation}
 use Rattle.cx_rotate.specs.declared.states.KeptState.{KeptState}
-use Rattle.cx_sealed.specs.Records.{rotating_reply_layout}
-use Rattle.cx_steps.specs.declared.seals.SealEntry.{SealEntry}
-use Rattle.cx_steps.specs.declared.seals.SealEntry.TheVariants.{Sealed}
-use Rattle.cx_wire.specs.Bodies.{reply_layout}
-use Rattle.cx_wire.specs.declared.bodies.Reply.{Reply}
-use Rattle.cx_wire.specs.declared.bodies.Reply.TheVariants as given
-use Rattle.cx_wire.specs.declared.bodies.Request.{Request}
-use Rattle.cx_wire.specs.declared.bodies.Request.TheVariants as asked
+use Rattle.cx_keyserver.specs.cx_sealed.specs.Records.{rotating_reply_layout}
+use Rattle.cx_login.specs.cx_steps.specs.declared.seals.SealEntry.{SealEntry}
+use Rattle.cx_login.specs.cx_steps.specs.declared.seals.SealEntry.TheVariants.{Sealed}
+use Rattle.cx_login.specs.cx_wire.specs.Bodies.{reply_layout}
+use Rattle.cx_login.specs.cx_wire.specs.declared.bodies.Reply.{Reply}
+use Rattle.cx_login.specs.cx_wire.specs.declared.bodies.Reply.TheVariants as given
+use Rattle.cx_login.specs.cx_wire.specs.declared.bodies.Request.{Request}
+use Rattle.cx_login.specs.cx_wire.specs.declared.bodies.Request.TheVariants as asked
 use Rattle.cx_rules.specs.KeptStates.{changed}
 use Rattle.cx_rules.specs.Tickets.{is_asked, issued_for, rotation_drawn, ticket_part, ticket_seals}
 use Rattle.cx_rules.specs.Verdicts.{Occasion, key_of, login_entries}

@@ -4,29 +4,29 @@
 use Rattle.std.specs.Prelude.{ℕ, ◌==◌, ◌+◌, ◌-◌, ◌^◌, Bool, true, false, List, [], ◌∷◌, ◌++◌, length, nat_lt, Option, Some, None, Result, Ok, Err, is_none, if◌then◌else◌}
 use Rattle.std.specs.List.{list_any}
 use Rattle.cx_base.specs.Names.{Name, is_daemon_type}
-use Rattle.cx_control.specs.declared.idents.ServerIdent.{ServerIdent}
-use Rattle.cx_frame.specs.declared.frame.Frame.{Frame}
-use Rattle.cx_journal.specs.declared.entries.Entry.{Entry}
-use Rattle.cx_journal.specs.declared.entries.Entry.TheVariants as entry
-use Rattle.cx_journal.specs.declared.faults.BytesFault.{BytesFault}
-use Rattle.cx_journal.specs.declared.faults.BytesFault.TheVariants.{Unexpected}
-use Rattle.cx_journal.specs.declared.faults.LoginFault.TheVariants.{Unopened}
-use Rattle.cx_journal.specs.declared.outcomes.Reason.{Reason}
-use Rattle.cx_journal.specs.declared.outcomes.Reason.TheVariants.{BadReply, Bytes, Login, Spent}
-use Rattle.cx_journal.specs.declared.premises.KeyKind.TheVariants.{Principal}
+use Rattle.cx_login.specs.cx_control.specs.declared.idents.ServerIdent.{ServerIdent}
+use Rattle.cx_stream.specs.cx_frame.specs.declared.frame.Frame.{Frame}
+use Rattle.cx_login.specs.cx_journal.specs.declared.entries.Entry.{Entry}
+use Rattle.cx_login.specs.cx_journal.specs.declared.entries.Entry.TheVariants as entry
+use Rattle.cx_login.specs.cx_journal.specs.declared.faults.BytesFault.{BytesFault}
+use Rattle.cx_login.specs.cx_journal.specs.declared.faults.BytesFault.TheVariants.{Unexpected}
+use Rattle.cx_login.specs.cx_journal.specs.declared.faults.LoginFault.TheVariants.{Unopened}
+use Rattle.cx_login.specs.cx_journal.specs.declared.outcomes.Reason.{Reason}
+use Rattle.cx_login.specs.cx_journal.specs.declared.outcomes.Reason.TheVariants.{BadReply, Bytes, Login, Spent}
+use Rattle.cx_login.specs.cx_journal.specs.declared.premises.KeyKind.TheVariants.{Principal}
 use Rattle.cx_keyserver.specs.Issuing.{current_at}
 use Rattle.cx_login.specs.Held.{Held}
 use Rattle.cx_login.specs.Unlocking.{told_each, unlocked}
 use Rattle.cx_rotate.specs.declared.generations.Generation.{Generation}
 use Rattle.cx_rotate.specs.declared.views.View.{View}
-use Rattle.cx_sealed.specs.Records.{rotating_reply_layout}
-use Rattle.cx_sealed.specs.declared.rotating_reply.RotatingReply.{RotatingReply}
-use Rattle.cx_steps.specs.declared.seals.SealEntry.{SealEntry}
-use Rattle.cx_wire.specs.Bodies.{reply_layout, request_layout}
-use Rattle.cx_wire.specs.declared.bodies.Reply.{Reply}
-use Rattle.cx_wire.specs.declared.bodies.Reply.TheVariants as given
-use Rattle.cx_wire.specs.declared.bodies.Request.{Request}
-use Rattle.cx_wire.specs.declared.bodies.Request.TheVariants as asked
+use Rattle.cx_keyserver.specs.cx_sealed.specs.Records.{rotating_reply_layout}
+use Rattle.cx_keyserver.specs.cx_sealed.specs.declared.rotating_reply.RotatingReply.{RotatingReply}
+use Rattle.cx_login.specs.cx_steps.specs.declared.seals.SealEntry.{SealEntry}
+use Rattle.cx_login.specs.cx_wire.specs.Bodies.{reply_layout, request_layout}
+use Rattle.cx_login.specs.cx_wire.specs.declared.bodies.Reply.{Reply}
+use Rattle.cx_login.specs.cx_wire.specs.declared.bodies.Reply.TheVariants as given
+use Rattle.cx_login.specs.cx_wire.specs.declared.bodies.Request.{Request}
+use Rattle.cx_login.specs.cx_wire.specs.declared.bodies.Request.TheVariants as asked
 use Rattle.cx_rules.specs.Holdings.{Asker, put_tickets}
 use Rattle.cx_rules.specs.Links.{Link}
 use Rattle.cx_rules.specs.Messages.{Message, body_as, message, message_in, on_upkeep_or}

@@ -1,17 +1,17 @@
 -- What a node is, what a step of it gives, and what one row of the rules says of the link on which something came.
 use Rattle.std.specs.Prelude.{ℕ, List, [], ◌∷◌, ◌++◌, Bool, true, false, Option, Some, None, Result, Ok, Err}
-use Rattle.cx_frame.specs.declared.frame.Frame.{Frame}
-use Rattle.cx_journal.specs.declared.entries.Entry.{Entry}
-use Rattle.cx_journal.specs.declared.entries.Entry.TheVariants as entry
-use Rattle.cx_journal.specs.declared.faults.BytesFault.{BytesFault}
+use Rattle.cx_stream.specs.cx_frame.specs.declared.frame.Frame.{Frame}
+use Rattle.cx_login.specs.cx_journal.specs.declared.entries.Entry.{Entry}
+use Rattle.cx_login.specs.cx_journal.specs.declared.entries.Entry.TheVariants as entry
+use Rattle.cx_login.specs.cx_journal.specs.declared.faults.BytesFault.{BytesFault}
 use Rattle.cx_base.specs.declared.nodes.NodeName.{NodeName}
-use Rattle.cx_journal.specs.declared.outcomes.Reason.{Reason}
-use Rattle.cx_journal.specs.declared.outcomes.Reason.TheVariants.{Bytes, NoLink}
+use Rattle.cx_login.specs.cx_journal.specs.declared.outcomes.Reason.{Reason}
+use Rattle.cx_login.specs.cx_journal.specs.declared.outcomes.Reason.TheVariants.{Bytes, NoLink}
 use Rattle.cx_rotate.specs.declared.states.KeptState.{KeptState}
-use Rattle.cx_steps.specs.Nothing.{nothing}
-use Rattle.cx_steps.specs.declared.effects.Effects.{Effects}
-use Rattle.cx_steps.specs.declared.effects.Piece.{Piece}
-use Rattle.cx_steps.specs.declared.seals.SealEntry.{SealEntry}
+use Rattle.cx_login.specs.cx_steps.specs.Nothing.{nothing}
+use Rattle.cx_login.specs.cx_steps.specs.declared.effects.Effects.{Effects}
+use Rattle.cx_login.specs.cx_steps.specs.declared.effects.Piece.{Piece}
+use Rattle.cx_login.specs.cx_steps.specs.declared.seals.SealEntry.{SealEntry}
 use Rattle.cx_rules.specs.Fronts.{Front, NotYet, Broken, Next}
 use Rattle.cx_rules.specs.Links.{Link, put_link, without_link}
 use Rattle.cx_rules.specs.Secured.{SealedFrame, Secured, plain_frame, secure_frame}

@@ -2,18 +2,18 @@
 -- ("msgr2 protocol": secure mode, and AUTH_SIGNATURE).
 use Rattle.std.specs.Prelude.{ℕ, ◌+◌, ◌-◌, ◌^◌, Bool, List, [], ◌∷◌, ◌++◌, length, slice_index, take, nat_lt, Result, Ok, Err, if◌then◌else◌}
 use Rattle.std.specs.Str.{bytes_eq}
-use Rattle.cx_control.specs.Auth.{auth_signature_layout}
-use Rattle.cx_digest.specs.Code.{hmac}
-use Rattle.cx_frame.specs.Banners.{number64}
-use Rattle.cx_frame.specs.Frames.{frame_text, total}
-use Rattle.cx_frame.specs.declared.frame.Frame.{Frame}
-use Rattle.cx_journal.specs.declared.faults.BytesFault.{BytesFault}
-use Rattle.cx_journal.specs.declared.faults.BytesFault.TheVariants.{CounterSpent, TooLong}
-use Rattle.cx_journal.specs.declared.premises.KeyKind.TheVariants as kind
-use Rattle.cx_secure.specs.Parts.{nonce_at}
-use Rattle.cx_secure.specs.Plains.{plains, secure_text}
-use Rattle.cx_steps.specs.declared.seals.SealEntry.{SealEntry}
-use Rattle.cx_steps.specs.declared.seals.SealEntry.TheVariants as entry
+use Rattle.cx_login.specs.cx_control.specs.Auth.{auth_signature_layout}
+use Rattle.cx_stream.specs.cx_digest.specs.Code.{hmac}
+use Rattle.cx_stream.specs.cx_frame.specs.Banners.{number64}
+use Rattle.cx_stream.specs.cx_frame.specs.Frames.{frame_text, total}
+use Rattle.cx_stream.specs.cx_frame.specs.declared.frame.Frame.{Frame}
+use Rattle.cx_login.specs.cx_journal.specs.declared.faults.BytesFault.{BytesFault}
+use Rattle.cx_login.specs.cx_journal.specs.declared.faults.BytesFault.TheVariants.{CounterSpent, TooLong}
+use Rattle.cx_login.specs.cx_journal.specs.declared.premises.KeyKind.TheVariants as kind
+use Rattle.cx_stream.specs.cx_secure.specs.Parts.{nonce_at}
+use Rattle.cx_stream.specs.cx_secure.specs.Plains.{plains, secure_text}
+use Rattle.cx_login.specs.cx_steps.specs.declared.seals.SealEntry.{SealEntry}
+use Rattle.cx_login.specs.cx_steps.specs.declared.seals.SealEntry.TheVariants as entry
 use Rattle.cx_rules.specs.Payloads.{control}
 
 -- the nonce of the next part that is sent or received: four fixed bytes and a counter

@@ -1,9 +1,9 @@
 -- The peer's AUTH_SIGNATURE, at either end of a link ("msgr2 protocol": authentication).
 use Rattle.std.specs.Prelude.{[], Result, if◌then◌else◌}
-use Rattle.cx_control.specs.declared.auth.AuthSignature.{AuthSignature}
-use Rattle.cx_journal.specs.declared.faults.BytesFault.{BytesFault}
-use Rattle.cx_journal.specs.declared.faults.LoginFault.TheVariants.{SignatureWrong}
-use Rattle.cx_journal.specs.declared.outcomes.Reason.TheVariants.{Login}
+use Rattle.cx_login.specs.cx_control.specs.declared.auth.AuthSignature.{AuthSignature}
+use Rattle.cx_login.specs.cx_journal.specs.declared.faults.BytesFault.{BytesFault}
+use Rattle.cx_login.specs.cx_journal.specs.declared.faults.LoginFault.TheVariants.{SignatureWrong}
+use Rattle.cx_login.specs.cx_journal.specs.declared.outcomes.Reason.TheVariants.{Login}
 use Rattle.cx_rules.specs.Rows.{Arrival, Row, refuses, unless_refused}
 use Rattle.cx_rules.specs.Secured.{Secured, is_signed}
 

@@ -4,14 +4,14 @@ use Rattle.std.specs.Prelude.{ℕ, ◌==◌, ◌%◌, ◌/◌, Bool, List, [], �
 use Rattle.std.specs.List.{flat_map}
 use Rattle.cx_base.specs.declared.kinds.EntityType.{EntityType}
 use Rattle.cx_base.specs.declared.kinds.EntityType.TheVariants.{Mds, Osd, Mgr, Auth}
-use Rattle.cx_dice.specs.Draws.{rotation_of}
-use Rattle.cx_enc.specs.Values.{number_of}
-use Rattle.cx_journal.specs.declared.entries.Entry.{Entry}
-use Rattle.cx_journal.specs.declared.entries.Entry.TheVariants as entry
-use Rattle.cx_journal.specs.declared.faults.LoginFault.{LoginFault}
-use Rattle.cx_journal.specs.declared.faults.LoginFault.TheVariants as login
-use Rattle.cx_journal.specs.declared.premises.KeyKind.{KeyKind}
-use Rattle.cx_journal.specs.declared.premises.KeyKind.TheVariants as kind
+use Rattle.cx_keyserver.specs.cx_dice.specs.Draws.{rotation_of}
+use Rattle.cx_login.specs.cx_enc.specs.Values.{number_of}
+use Rattle.cx_login.specs.cx_journal.specs.declared.entries.Entry.{Entry}
+use Rattle.cx_login.specs.cx_journal.specs.declared.entries.Entry.TheVariants as entry
+use Rattle.cx_login.specs.cx_journal.specs.declared.faults.LoginFault.{LoginFault}
+use Rattle.cx_login.specs.cx_journal.specs.declared.faults.LoginFault.TheVariants as login
+use Rattle.cx_login.specs.cx_journal.specs.declared.premises.KeyKind.{KeyKind}
+use Rattle.cx_login.specs.cx_journal.specs.declared.premises.KeyKind.TheVariants as kind
 use Rattle.cx_keyserver.specs.Issuing.{Asked, current_at, issued, service_ticket_of, ticket_info_of}
 use Rattle.cx_keyserver.specs.Servers.{Server, generations_of, life_of}
 use Rattle.cx_keyserver.specs.declared.refusals.IssueRefusal.{IssueRefusal}
@@ -20,11 +20,11 @@ use Rattle.cx_keyserver.specs.declared.tickets.Ticket.{Ticket}
 use Rattle.cx_rotate.specs.declared.generations.Generation.{Generation}
 use Rattle.cx_rotate.specs.Rotation.{additions}
 use Rattle.cx_rotate.specs.declared.states.KeptState.{KeptState}
-use Rattle.cx_sealed.specs.Records.{service_ticket_layout, ticket_info_layout}
-use Rattle.cx_steps.specs.declared.seals.DrawMark.TheVariants as draw
-use Rattle.cx_steps.specs.declared.seals.SealEntry.{SealEntry}
-use Rattle.cx_steps.specs.declared.seals.SealEntry.TheVariants.{Sealed, Drawn}
-use Rattle.cx_wire.specs.declared.tickets.TicketPart.{TicketPart}
+use Rattle.cx_keyserver.specs.cx_sealed.specs.Records.{service_ticket_layout, ticket_info_layout}
+use Rattle.cx_login.specs.cx_steps.specs.declared.seals.DrawMark.TheVariants as draw
+use Rattle.cx_login.specs.cx_steps.specs.declared.seals.SealEntry.{SealEntry}
+use Rattle.cx_login.specs.cx_steps.specs.declared.seals.SealEntry.TheVariants.{Sealed, Drawn}
+use Rattle.cx_login.specs.cx_wire.specs.declared.tickets.TicketPart.{TicketPart}
 
 -- ---- which tickets
 

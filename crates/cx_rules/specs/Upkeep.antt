@@ -1,9 +1,9 @@
 -- Frames that keep an open link alive ("msgr2 protocol", keepalive frames), at either end.
 use Rattle.std.specs.Prelude.{[], Result}
-use Rattle.cx_control.specs.Upkeep.{keepalive2_ack_layout}
-use Rattle.cx_control.specs.declared.upkeep.Keepalive2.{Keepalive2}
-use Rattle.cx_control.specs.declared.upkeep.Keepalive2Ack.{Keepalive2Ack}
-use Rattle.cx_journal.specs.declared.faults.BytesFault.{BytesFault}
+use Rattle.cx_login.specs.cx_control.specs.Upkeep.{keepalive2_ack_layout}
+use Rattle.cx_login.specs.cx_control.specs.declared.upkeep.Keepalive2.{Keepalive2}
+use Rattle.cx_login.specs.cx_control.specs.declared.upkeep.Keepalive2Ack.{Keepalive2Ack}
+use Rattle.cx_login.specs.cx_journal.specs.declared.faults.BytesFault.{BytesFault}
 use Rattle.cx_rules.specs.Payloads.{control}
 use Rattle.cx_rules.specs.Rows.{Arrival, Row, goes_on, sends_secure, unless_refused}
 use Rattle.cx_rules.specs.Secured.{Secured}

@@ -6,16 +6,16 @@ use Rattle.std.specs.Option.{option_map}
 use Rattle.cx_base.specs.Names.{Name}
 use Rattle.cx_base.specs.declared.kinds.EntityType.{EntityType}
 use Rattle.cx_base.specs.declared.kinds.EntityType.TheVariants.{Auth}
-use Rattle.cx_cbc.specs.Envelope.{sealed}
-use Rattle.cx_control.specs.Auth.{auth_done_layout}
-use Rattle.cx_dice.specs.Draws.{connection_of, session_of}
-use Rattle.cx_enc.specs.declared.keys.Key.{Key}
-use Rattle.cx_journal.specs.declared.entries.Entry.{Entry}
-use Rattle.cx_journal.specs.declared.entries.Entry.TheVariants as entry
-use Rattle.cx_journal.specs.declared.faults.LoginFault.{LoginFault}
-use Rattle.cx_journal.specs.declared.faults.LoginFault.TheVariants as login
-use Rattle.cx_journal.specs.declared.premises.KeyKind.TheVariants.{Session}
-use Rattle.cx_keyring.specs.Entries.{is_named}
+use Rattle.cx_keyserver.specs.cx_cbc.specs.Envelope.{sealed}
+use Rattle.cx_login.specs.cx_control.specs.Auth.{auth_done_layout}
+use Rattle.cx_keyserver.specs.cx_dice.specs.Draws.{connection_of, session_of}
+use Rattle.cx_login.specs.cx_enc.specs.declared.keys.Key.{Key}
+use Rattle.cx_login.specs.cx_journal.specs.declared.entries.Entry.{Entry}
+use Rattle.cx_login.specs.cx_journal.specs.declared.entries.Entry.TheVariants as entry
+use Rattle.cx_login.specs.cx_journal.specs.declared.faults.LoginFault.{LoginFault}
+use Rattle.cx_login.specs.cx_journal.specs.declared.faults.LoginFault.TheVariants as login
+use Rattle.cx_login.specs.cx_journal.specs.declared.premises.KeyKind.TheVariants.{Session}
+use Rattle.cx_keyserver.specs.cx_keyring.specs.Entries.{is_named}
 use Rattle.cx_keyserver.specs.Issuing.{Asked, asking}
 use Rattle.cx_keyserver.specs.Servers.{Server, rotated_server}
 use Rattle.cx_keyserver.specs.declared.tickets.Ticket.{Ticket}
@@ -24,13 +24,13 @@ use Rattle.cx_login.specs.Unlocking.{Unlocked, old_ticket}
 use Rattle.cx_login.specs.declared.monitor.Reclaim.{Reclaim}
 use Rattle.cx_login.specs.declared.monitor.Reclaim.TheVariants as reclaim
 use Rattle.cx_rotate.specs.declared.states.KeptState.{KeptState}
-use Rattle.cx_sealed.specs.Records.{connection_secret_layout}
-use Rattle.cx_sealed.specs.declared.service_ticket.ServiceTicket.{ServiceTicket}
-use Rattle.cx_steps.specs.declared.seals.DrawMark.TheVariants as draw
-use Rattle.cx_steps.specs.declared.seals.SealEntry.{SealEntry}
-use Rattle.cx_steps.specs.declared.seals.SealEntry.TheVariants.{Sealed, Drawn}
-use Rattle.cx_wire.specs.Logins.{login_done_layout}
-use Rattle.cx_wire.specs.declared.logins.LoginDone.{LoginDone}
+use Rattle.cx_keyserver.specs.cx_sealed.specs.Records.{connection_secret_layout}
+use Rattle.cx_keyserver.specs.cx_sealed.specs.declared.service_ticket.ServiceTicket.{ServiceTicket}
+use Rattle.cx_login.specs.cx_steps.specs.declared.seals.DrawMark.TheVariants as draw
+use Rattle.cx_login.specs.cx_steps.specs.declared.seals.SealEntry.{SealEntry}
+use Rattle.cx_login.specs.cx_steps.specs.declared.seals.SealEntry.TheVariants.{Sealed, Drawn}
+use Rattle.cx_login.specs.cx_wire.specs.Logins.{login_done_layout}
+use Rattle.cx_login.specs.cx_wire.specs.declared.logins.LoginDone.{LoginDone}
 use Rattle.cx_rules.specs.KeptStates.{changed}
 use Rattle.cx_rules.specs.Tickets.{issued_entry, issued_for, rotation_drawn, services_for, ticket_part, ticket_seals}
 use Rattle.cx_rules.specs.declared.verdicts.HandedOut.{HandedOut}

@@ -4,12 +4,12 @@
 ghost use Rattle.std.specs.Prelude.{◌≡◌, ℕ, List, Some, find};
 ghost use Rattle.cx_base.specs.declared.addresses.Addr.{Addr};
 ghost use Rattle.cx_base.specs.declared.kinds.EntityType.{EntityType};
-ghost use Rattle.cx_keyring.specs.Entries.{is_named};
-ghost use Rattle.cx_keyring.specs.declared.entries.Entry.{Entry as Principal};
+ghost use Rattle.cx_keyserver.specs.cx_keyring.specs.Entries.{is_named};
+ghost use Rattle.cx_keyserver.specs.cx_keyring.specs.declared.entries.Entry.{Entry as Principal};
 ghost use Rattle.cx_keyserver.specs.Servers.{Server};
-ghost use Rattle.cx_wire.specs.declared.bodies.Request.TheVariants as asked;
-ghost use Rattle.cx_wire.specs.declared.logins.Authenticate.{Authenticate};
-ghost use Rattle.cx_wire.specs.declared.logins.LoginHello.{LoginHello};
+ghost use Rattle.cx_login.specs.cx_wire.specs.declared.bodies.Request.TheVariants as asked;
+ghost use Rattle.cx_login.specs.cx_wire.specs.declared.logins.Authenticate.{Authenticate};
+ghost use Rattle.cx_login.specs.cx_wire.specs.declared.logins.LoginHello.{LoginHello};
 ghost use Rattle.cx_rules.specs.Abridged.{MonitorStandsFor, abridged_monitor};
 ghost use Rattle.cx_rules.specs.Answering.{AreGenerationsDue, AreTicketsDue, GivesChallenge, GivesGenerations, GivesLogin, GivesTickets, HearsHello, HearsProof, HearsRequest, IsDue, RotatesToCurrent, RotatesToThree};
 ghost use Rattle.cx_rules.specs.Connector as connector;

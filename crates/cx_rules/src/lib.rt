@@ -15,6 +15,7 @@ pub use verdicts::{HandedOut, Verdict};
 
 // What crates above name through this one, and so needn't list.
 pub use cx_login::{Asking, HeldTicket, LoggedIn, LoginRefusal, opened_login};
+pub use cx_stream::{Greeted, Greeting, Plain, Sealing, Secure, SecureRefusal, StreamFault};
 
 // Each public type may be sent to another thread and shared with one.
 fn is_sendable<T: Send + Sync>() {}

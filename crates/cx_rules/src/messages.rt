@@ -1,6 +1,6 @@
 //! What the body of a message says, of which the rules speak.
 
-use cx_journal::BytesFault;
+use cx_login::BytesFault;
 
 /// What the body of a message of type 17 or 18 says.
 #[derive(Drop)]

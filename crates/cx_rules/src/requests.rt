@@ -1,10 +1,8 @@
 //! What an entity asks the monitor for, and what comes of a reply, of which the rules speak.
 
 use cx_base::{Items, Reading};
-use cx_journal::Reason;
-use cx_login::HeldTicket;
+use cx_login::{HeldTicket, Reason, SealEntry};
 use cx_rotate::Generations;
-use cx_steps::SealEntry;
 
 /// What a request asks for.
 #[derive(Clone, Copy, Debug, PartialEq, Eq)]

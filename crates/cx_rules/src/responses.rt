@@ -1,10 +1,8 @@
 //! What comes of a request on an open link, of which the rules speak.
 
 use cx_base::{Blob, EntityName, Items};
-use cx_journal::{Entry, Reason};
+use cx_login::{Entry, Reason, Request, SealEntry};
 use cx_rotate::KeptState;
-use cx_steps::SealEntry;
-use cx_wire::Request;
 
 /// An entity on an open link, as the monitor knows it.
 #[derive(Drop)]

@@ -1,9 +1,8 @@
 //! What comes of a login, of which the rules speak.
 
 use cx_base::{Blob, EntityName, Items};
-use cx_journal::{Entry, LoginFault};
+use cx_login::{Entry, LoginFault, SealEntry};
 use cx_rotate::KeptState;
-use cx_steps::SealEntry;
 
 /// What the monitor hands out to an entity.
 #[derive(Drop)]

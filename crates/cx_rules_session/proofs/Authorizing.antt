@@ -7,28 +7,28 @@ use Rattle.cx_authorize.specs.Agreement.{IsWelcome}
 use Rattle.cx_authorize.specs.Judging.{first_terms, judged, judged_first, judged_second, second_terms}
 use Rattle.cx_authorize.proofs.Agreeing.{accepted}
 use Rattle.cx_authorize.proofs.Chain.{the_verdict}
-use Rattle.cx_base.specs.declared.kinds.EntityType.{EntityType}
-use Rattle.cx_rotate.specs.declared.views.View.{View}
+use Rattle.cx_session.specs.cx_base.specs.declared.kinds.EntityType.{EntityType}
+use Rattle.cx_rules.specs.cx_rotate.specs.declared.views.View.{View}
 use Rattle.cx_authorize.specs.declared.refusals.AuthRefusal.{AuthRefusal}
-use Rattle.cx_cbc.specs.Envelope.{sealed}
-use Rattle.cx_control.specs.Auth.{auth_done_layout, auth_reply_more_layout, auth_request_layout, auth_request_more_layout, auth_signature_layout}
-use Rattle.cx_control.specs.declared.auth.AuthRequest.{AuthRequest}
-use Rattle.cx_control.specs.declared.auth.AuthRequestMore.{AuthRequestMore}
+use Rattle.cx_authorize.specs.cx_cbc.specs.Envelope.{sealed}
+use Rattle.cx_authorize.specs.cx_control.specs.Auth.{auth_done_layout, auth_reply_more_layout, auth_request_layout, auth_request_more_layout, auth_signature_layout}
+use Rattle.cx_authorize.specs.cx_control.specs.declared.auth.AuthRequest.{AuthRequest}
+use Rattle.cx_authorize.specs.cx_control.specs.declared.auth.AuthRequestMore.{AuthRequestMore}
 use Rattle.cx_desk.specs.Handlers.{Handlers}
-use Rattle.cx_dice.specs.Draws.{challenge_of, connection_of}
-use Rattle.cx_digest.specs.Code.{hmac}
-use Rattle.cx_enc.specs.Forms.{little}
-use Rattle.cx_enc.specs.Values.{sized_form}
-use Rattle.cx_frame.specs.Frames.{frame_text, total}
-use Rattle.cx_frame.specs.declared.frame.Frame.{Frame}
-use Rattle.cx_journal.specs.declared.entries.Entry.{Entry}
-use Rattle.cx_journal.specs.declared.faults.BytesFault.{BytesFault}
-use Rattle.cx_journal.specs.declared.faults.LoginFault.TheVariants.{Method, Mode}
-use Rattle.cx_sealed.specs.declared.service_ticket.ServiceTicket.{ServiceTicket}
-use Rattle.cx_steps.specs.declared.seals.DrawMark.TheVariants as mark
-use Rattle.cx_steps.specs.declared.seals.SealEntry.{SealEntry}
-use Rattle.cx_steps.specs.declared.seals.SealEntry.TheVariants.{Drawn}
-use Rattle.cx_wire.specs.Logins as payload
+use Rattle.cx_rules.specs.cx_dice.specs.Draws.{challenge_of, connection_of}
+use Rattle.cx_rules.specs.cx_digest.specs.Code.{hmac}
+use Rattle.cx_authorize.specs.cx_enc.specs.Forms.{little}
+use Rattle.cx_authorize.specs.cx_enc.specs.Values.{sized_form}
+use Rattle.cx_rules.specs.cx_frame.specs.Frames.{frame_text, total}
+use Rattle.cx_rules.specs.cx_frame.specs.declared.frame.Frame.{Frame}
+use Rattle.cx_authorize.specs.cx_journal.specs.declared.entries.Entry.{Entry}
+use Rattle.cx_authorize.specs.cx_journal.specs.declared.faults.BytesFault.{BytesFault}
+use Rattle.cx_authorize.specs.cx_journal.specs.declared.faults.LoginFault.TheVariants.{Method, Mode}
+use Rattle.cx_authorize.specs.cx_sealed.specs.declared.service_ticket.ServiceTicket.{ServiceTicket}
+use Rattle.cx_rules.specs.cx_steps.specs.declared.seals.DrawMark.TheVariants as mark
+use Rattle.cx_rules.specs.cx_steps.specs.declared.seals.SealEntry.{SealEntry}
+use Rattle.cx_rules.specs.cx_steps.specs.declared.seals.SealEntry.TheVariants.{Drawn}
+use Rattle.cx_authorize.specs.cx_wire.specs.Logins as payload
 use Rattle.cx_rules.specs.Acceptor.{AwaitsProof, AwaitsRequest, Finished, denies, finished, joined, on_auth_request}
 use Rattle.cx_rules.specs.Fronts.{Front, plain_next, taking}
 use Rattle.cx_rules.specs.Inputs.{Turn}

@@ -3,37 +3,37 @@ use Rattle.std.proofs.Common.{◌≡◌, ℕ, ◌==◌, ◌+◌, ◌-◌, ◌^�
 use Rattle.std.specs.Prelude.{not, if◌then◌else◌}
 use Rattle.cx_authorize.specs.Client.{Answered, Presented, challenge_in, reply_in}
 use Rattle.cx_authorize.specs.Verdict.{raised}
-use Rattle.cx_control.specs.Auth.{auth_done_layout, auth_reply_more_layout, auth_signature_layout}
-use Rattle.cx_control.specs.BadMethod.{bad_method_layout}
-use Rattle.cx_control.specs.Hello.{hello_layout}
-use Rattle.cx_control.specs.Idents.{ident_missing_features_layout, server_ident_layout}
-use Rattle.cx_control.specs.Reconnects.{session_reconnect_ok_layout, session_reset_layout, session_retry_layout, session_retry_global_layout}
-use Rattle.cx_control.specs.Upkeep.{ack_layout}
-use Rattle.cx_control.specs.declared.auth.AuthDone.{AuthDone}
-use Rattle.cx_control.specs.declared.auth.AuthReplyMore.{AuthReplyMore}
-use Rattle.cx_control.specs.declared.auth.AuthSignature.{AuthSignature}
-use Rattle.cx_control.specs.declared.hello.Hello.{Hello}
-use Rattle.cx_control.specs.declared.idents.IdentMissingFeatures.{IdentMissingFeatures}
-use Rattle.cx_control.specs.declared.idents.ServerIdent.{ServerIdent}
-use Rattle.cx_control.specs.declared.reconnects.SessionReconnectOk.{SessionReconnectOk}
-use Rattle.cx_control.specs.declared.reconnects.SessionReset.{SessionReset}
-use Rattle.cx_control.specs.declared.reconnects.SessionRetry.{SessionRetry}
-use Rattle.cx_control.specs.declared.reconnects.SessionRetryGlobal.{SessionRetryGlobal}
-use Rattle.cx_control.specs.declared.upkeep.Ack.{Ack}
-use Rattle.cx_dice.specs.Draws.{challenge_of, cookie_of}
-use Rattle.cx_frame.specs.declared.frame.Frame.{Frame}
-use Rattle.cx_journal.specs.declared.faults.BytesFault.{BytesFault}
-use Rattle.cx_journal.specs.declared.faults.BytesFault.TheVariants.{Features, Unexpected}
-use Rattle.cx_journal.specs.declared.faults.LoginFault.TheVariants.{Mode, NonceWrong, SignatureWrong}
-use Rattle.cx_journal.specs.declared.outcomes.Reason.TheVariants as reason
-use Rattle.cx_sealed.specs.declared.authorize_challenge.AuthorizeChallenge.{AuthorizeChallenge}
-use Rattle.cx_sealed.specs.declared.authorize_reply.AuthorizeReply.{AuthorizeReply}
-use Rattle.cx_steps.specs.declared.seals.DrawMark.TheVariants as draw
-use Rattle.cx_steps.specs.declared.seals.SealEntry.{SealEntry}
-use Rattle.cx_steps.specs.declared.seals.SealEntry.TheVariants.{Drawn}
-use Rattle.cx_wire.specs.Logins.{authorize_challenge_layout, authorize_reply_layout}
-use Rattle.cx_wire.specs.declared.authorizers.AuthorizeChallenge as shown_challenge
-use Rattle.cx_wire.specs.declared.authorizers.AuthorizeReply as shown_reply
+use Rattle.cx_authorize.specs.cx_control.specs.Auth.{auth_done_layout, auth_reply_more_layout, auth_signature_layout}
+use Rattle.cx_authorize.specs.cx_control.specs.BadMethod.{bad_method_layout}
+use Rattle.cx_authorize.specs.cx_control.specs.Hello.{hello_layout}
+use Rattle.cx_authorize.specs.cx_control.specs.Idents.{ident_missing_features_layout, server_ident_layout}
+use Rattle.cx_authorize.specs.cx_control.specs.Reconnects.{session_reconnect_ok_layout, session_reset_layout, session_retry_layout, session_retry_global_layout}
+use Rattle.cx_authorize.specs.cx_control.specs.Upkeep.{ack_layout}
+use Rattle.cx_authorize.specs.cx_control.specs.declared.auth.AuthDone.{AuthDone}
+use Rattle.cx_authorize.specs.cx_control.specs.declared.auth.AuthReplyMore.{AuthReplyMore}
+use Rattle.cx_authorize.specs.cx_control.specs.declared.auth.AuthSignature.{AuthSignature}
+use Rattle.cx_authorize.specs.cx_control.specs.declared.hello.Hello.{Hello}
+use Rattle.cx_authorize.specs.cx_control.specs.declared.idents.IdentMissingFeatures.{IdentMissingFeatures}
+use Rattle.cx_authorize.specs.cx_control.specs.declared.idents.ServerIdent.{ServerIdent}
+use Rattle.cx_authorize.specs.cx_control.specs.declared.reconnects.SessionReconnectOk.{SessionReconnectOk}
+use Rattle.cx_authorize.specs.cx_control.specs.declared.reconnects.SessionReset.{SessionReset}
+use Rattle.cx_authorize.specs.cx_control.specs.declared.reconnects.SessionRetry.{SessionRetry}
+use Rattle.cx_authorize.specs.cx_control.specs.declared.reconnects.SessionRetryGlobal.{SessionRetryGlobal}
+use Rattle.cx_authorize.specs.cx_control.specs.declared.upkeep.Ack.{Ack}
+use Rattle.cx_rules.specs.cx_dice.specs.Draws.{challenge_of, cookie_of}
+use Rattle.cx_rules.specs.cx_frame.specs.declared.frame.Frame.{Frame}
+use Rattle.cx_authorize.specs.cx_journal.specs.declared.faults.BytesFault.{BytesFault}
+use Rattle.cx_authorize.specs.cx_journal.specs.declared.faults.BytesFault.TheVariants.{Features, Unexpected}
+use Rattle.cx_authorize.specs.cx_journal.specs.declared.faults.LoginFault.TheVariants.{Mode, NonceWrong, SignatureWrong}
+use Rattle.cx_authorize.specs.cx_journal.specs.declared.outcomes.Reason.TheVariants as reason
+use Rattle.cx_authorize.specs.cx_sealed.specs.declared.authorize_challenge.AuthorizeChallenge.{AuthorizeChallenge}
+use Rattle.cx_authorize.specs.cx_sealed.specs.declared.authorize_reply.AuthorizeReply.{AuthorizeReply}
+use Rattle.cx_rules.specs.cx_steps.specs.declared.seals.DrawMark.TheVariants as draw
+use Rattle.cx_rules.specs.cx_steps.specs.declared.seals.SealEntry.{SealEntry}
+use Rattle.cx_rules.specs.cx_steps.specs.declared.seals.SealEntry.TheVariants.{Drawn}
+use Rattle.cx_authorize.specs.cx_wire.specs.Logins.{authorize_challenge_layout, authorize_reply_layout}
+use Rattle.cx_authorize.specs.cx_wire.specs.declared.authorizers.AuthorizeChallenge as shown_challenge
+use Rattle.cx_authorize.specs.cx_wire.specs.declared.authorizers.AuthorizeReply as shown_reply
 use Rattle.cx_rules.specs.Abridged.{IsWithin, cut, unsigned}
 use Rattle.cx_rules.specs.Connector.{client_ident}
 use Rattle.cx_rules.specs.Greetings.{own_hello}

@@ -6,18 +6,18 @@ use Rattle.std.specs.Option.{option_map}
 use Rattle.std.proofs.lemmas.List.{length-map}
 use Rattle.cx_authorize.specs.Daemon.{Authority}
 use Rattle.cx_desk.specs.Handlers.{Handlers}
-use Rattle.cx_journal.specs.declared.outcomes.Reason.TheVariants.{LinksFull}
+use Rattle.cx_authorize.specs.cx_journal.specs.declared.outcomes.Reason.TheVariants.{LinksFull}
 use Rattle.cx_session.specs.Book.{Book}
 use Rattle.cx_session.specs.declared.call.BookCall.TheVariants.{End}
 use Rattle.cx_session.specs.declared.call.BookReply.{BookReply}
 use Rattle.cx_session.specs.declared.call.BookReply.TheVariants.{Ended}
-use Rattle.cx_steps.specs.Nothing.{nothing}
-use Rattle.cx_steps.specs.declared.effects.Effects.{Effects}
-use Rattle.cx_steps.specs.declared.events.Command.{Command}
-use Rattle.cx_steps.specs.declared.events.Command.TheVariants as command
-use Rattle.cx_steps.specs.declared.events.Peer.{Peer}
-use Rattle.cx_steps.specs.declared.events.Peer.TheVariants as peer
-use Rattle.cx_wire.specs.declared.bodies.Request.TheVariants as asked
+use Rattle.cx_rules.specs.cx_steps.specs.Nothing.{nothing}
+use Rattle.cx_rules.specs.cx_steps.specs.declared.effects.Effects.{Effects}
+use Rattle.cx_rules.specs.cx_steps.specs.declared.events.Command.{Command}
+use Rattle.cx_rules.specs.cx_steps.specs.declared.events.Command.TheVariants as command
+use Rattle.cx_rules.specs.cx_steps.specs.declared.events.Peer.{Peer}
+use Rattle.cx_rules.specs.cx_steps.specs.declared.events.Peer.TheVariants as peer
+use Rattle.cx_authorize.specs.cx_wire.specs.declared.bodies.Request.TheVariants as asked
 use Rattle.cx_rules.specs.Abridged.{IsWithin, abridged_asker_link, abridged_link, unsigned}
 use Rattle.cx_rules.specs.Acceptor as acceptor
 use Rattle.cx_rules.specs.Connector as connector

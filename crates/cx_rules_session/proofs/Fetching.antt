@@ -2,23 +2,23 @@
 use Rattle.std.proofs.Common.{◌≡◌, ℕ, ◌+◌, ◌-◌, ◌^◌, ◌==◌, Bool, true, false, List, [], ◌∷◌, Option, Some, None, Result, Ok, Err, refl, sym, ap, subst, ◌∙◌}
 use Rattle.std.specs.Prelude.{is_none, if◌then◌else◌}
 use Rattle.std.proofs.lemmas.Bool.{eq-eqb, le-ltb}
-use Rattle.cx_control.specs.Upkeep.{keepalive2_layout, keepalive2_ack_layout}
+use Rattle.cx_authorize.specs.cx_control.specs.Upkeep.{keepalive2_layout, keepalive2_ack_layout}
 use Rattle.cx_desk.specs.Handlers.{Handlers}
-use Rattle.cx_frame.specs.declared.frame.Frame.{Frame}
-use Rattle.cx_journal.specs.declared.faults.BytesFault.TheVariants.{Unexpected}
-use Rattle.cx_journal.specs.declared.outcomes.Reason.{Reason}
-use Rattle.cx_journal.specs.declared.outcomes.Reason.TheVariants as reason
-use Rattle.cx_journal.specs.declared.premises.KeyKind.TheVariants.{Principal}
-use Rattle.cx_keyserver.specs.Issuing.{current_at}
-use Rattle.cx_login.specs.Unlocking.{Unlocked, unlocked}
-use Rattle.cx_rotate.specs.declared.generations.Generation.{Generation}
-use Rattle.cx_sealed.specs.Records.{rotating_reply_layout}
-use Rattle.cx_sealed.specs.declared.rotating_reply.RotatingReply.{RotatingReply}
-use Rattle.cx_steps.specs.declared.events.Peer.TheVariants.{Monitor}
-use Rattle.cx_steps.specs.declared.seals.SealEntry.{SealEntry}
-use Rattle.cx_wire.specs.Bodies.{reply_layout}
-use Rattle.cx_wire.specs.declared.bodies.Reply.TheVariants as given
-use Rattle.cx_wire.specs.declared.bodies.Request.TheVariants as asked
+use Rattle.cx_rules.specs.cx_frame.specs.declared.frame.Frame.{Frame}
+use Rattle.cx_authorize.specs.cx_journal.specs.declared.faults.BytesFault.TheVariants.{Unexpected}
+use Rattle.cx_authorize.specs.cx_journal.specs.declared.outcomes.Reason.{Reason}
+use Rattle.cx_authorize.specs.cx_journal.specs.declared.outcomes.Reason.TheVariants as reason
+use Rattle.cx_authorize.specs.cx_journal.specs.declared.premises.KeyKind.TheVariants.{Principal}
+use Rattle.cx_rules.specs.cx_keyserver.specs.Issuing.{current_at}
+use Rattle.cx_rules.specs.cx_login.specs.Unlocking.{Unlocked, unlocked}
+use Rattle.cx_rules.specs.cx_rotate.specs.declared.generations.Generation.{Generation}
+use Rattle.cx_authorize.specs.cx_sealed.specs.Records.{rotating_reply_layout}
+use Rattle.cx_authorize.specs.cx_sealed.specs.declared.rotating_reply.RotatingReply.{RotatingReply}
+use Rattle.cx_rules.specs.cx_steps.specs.declared.events.Peer.TheVariants.{Monitor}
+use Rattle.cx_rules.specs.cx_steps.specs.declared.seals.SealEntry.{SealEntry}
+use Rattle.cx_authorize.specs.cx_wire.specs.Bodies.{reply_layout}
+use Rattle.cx_authorize.specs.cx_wire.specs.declared.bodies.Reply.TheVariants as given
+use Rattle.cx_authorize.specs.cx_wire.specs.declared.bodies.Request.TheVariants as asked
 use Rattle.cx_rules.specs.Connector as connector
 use Rattle.cx_rules.specs.Fronts.{Front, keys_behind, secure_next, taking}
 use Rattle.cx_rules.specs.Holdings.{Asker}

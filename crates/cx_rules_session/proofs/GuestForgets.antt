@@ -6,31 +6,31 @@ use Rattle.cx_authorize.specs.Daemon.{Authority, Awaited}
 use Rattle.cx_authorize.specs.Judging.{Judged, judged_first, judged_second}
 use Rattle.cx_authorize.specs.declared.refusals.AuthRefusal.{AuthRefusal}
 use Rattle.cx_authorize.specs.declared.refusals.AuthRefusal.TheVariants as refusal
-use Rattle.cx_control.specs.Auth.{auth_request_layout, auth_request_more_layout, auth_signature_layout}
-use Rattle.cx_control.specs.Hello.{hello_layout}
-use Rattle.cx_control.specs.Idents.{client_ident_layout}
-use Rattle.cx_control.specs.Reconnects.{session_reconnect_layout}
-use Rattle.cx_control.specs.Upkeep.{keepalive2_layout, keepalive2_ack_layout}
-use Rattle.cx_control.specs.declared.auth.AuthRequestMore.{AuthRequestMore}
-use Rattle.cx_control.specs.declared.idents.ClientIdent.{ClientIdent}
-use Rattle.cx_control.specs.declared.reconnects.SessionReconnect.{SessionReconnect}
-use Rattle.cx_control.specs.declared.upkeep.Keepalive2.{Keepalive2}
-use Rattle.cx_control.specs.declared.upkeep.Keepalive2Ack.{Keepalive2Ack}
+use Rattle.cx_authorize.specs.cx_control.specs.Auth.{auth_request_layout, auth_request_more_layout, auth_signature_layout}
+use Rattle.cx_authorize.specs.cx_control.specs.Hello.{hello_layout}
+use Rattle.cx_authorize.specs.cx_control.specs.Idents.{client_ident_layout}
+use Rattle.cx_authorize.specs.cx_control.specs.Reconnects.{session_reconnect_layout}
+use Rattle.cx_authorize.specs.cx_control.specs.Upkeep.{keepalive2_layout, keepalive2_ack_layout}
+use Rattle.cx_authorize.specs.cx_control.specs.declared.auth.AuthRequestMore.{AuthRequestMore}
+use Rattle.cx_authorize.specs.cx_control.specs.declared.idents.ClientIdent.{ClientIdent}
+use Rattle.cx_authorize.specs.cx_control.specs.declared.reconnects.SessionReconnect.{SessionReconnect}
+use Rattle.cx_authorize.specs.cx_control.specs.declared.upkeep.Keepalive2.{Keepalive2}
+use Rattle.cx_authorize.specs.cx_control.specs.declared.upkeep.Keepalive2Ack.{Keepalive2Ack}
 use Rattle.cx_desk.specs.Handlers.{Handlers}
-use Rattle.cx_frame.specs.declared.frame.Frame.{Frame}
-use Rattle.cx_journal.specs.declared.entries.Entry.TheVariants as entry
-use Rattle.cx_journal.specs.declared.faults.BytesFault.{BytesFault}
-use Rattle.cx_journal.specs.declared.faults.BytesFault.TheVariants.{Unexpected}
-use Rattle.cx_journal.specs.declared.faults.SessionFault.TheVariants as session
-use Rattle.cx_journal.specs.declared.outcomes.Outcome.{Outcome}
-use Rattle.cx_journal.specs.declared.outcomes.Reason.{Reason}
-use Rattle.cx_journal.specs.declared.outcomes.Reason.TheVariants as reason
-use Rattle.cx_secure.specs.declared.refusals.SecureRefusal.{SecureRefusal}
+use Rattle.cx_rules.specs.cx_frame.specs.declared.frame.Frame.{Frame}
+use Rattle.cx_authorize.specs.cx_journal.specs.declared.entries.Entry.TheVariants as entry
+use Rattle.cx_authorize.specs.cx_journal.specs.declared.faults.BytesFault.{BytesFault}
+use Rattle.cx_authorize.specs.cx_journal.specs.declared.faults.BytesFault.TheVariants.{Unexpected}
+use Rattle.cx_authorize.specs.cx_journal.specs.declared.faults.SessionFault.TheVariants as session
+use Rattle.cx_authorize.specs.cx_journal.specs.declared.outcomes.Outcome.{Outcome}
+use Rattle.cx_authorize.specs.cx_journal.specs.declared.outcomes.Reason.{Reason}
+use Rattle.cx_authorize.specs.cx_journal.specs.declared.outcomes.Reason.TheVariants as reason
+use Rattle.cx_rules.specs.cx_secure.specs.declared.refusals.SecureRefusal.{SecureRefusal}
 use Rattle.cx_session.specs.declared.call.BookFault.TheVariants as fault
 use Rattle.cx_session.specs.declared.call.BookReply.{BookReply}
 use Rattle.cx_session.specs.declared.call.BookReply.TheVariants as reply
-use Rattle.cx_steps.specs.declared.seals.SealEntry.{SealEntry}
-use Rattle.cx_stream.specs.SecureStreams.{secure_frame_at}
+use Rattle.cx_rules.specs.cx_steps.specs.declared.seals.SealEntry.{SealEntry}
+use Rattle.cx_rules.specs.cx_stream.specs.SecureStreams.{secure_frame_at}
 use Rattle.cx_rules.specs.Abridged.{IsWithin, abridged_link, cut, unsigned}
 use Rattle.cx_rules.specs.Acceptor.{AwaitsBanner, AwaitsHello, AwaitsRequest, AwaitsProof, AwaitsSignature, AwaitsIdent, Open, Finished as Done, finished, misses, on_auth_request, on_banner, on_hello, on_signature, server_ident}
 use Rattle.cx_rules.specs.Fronts.{ahead_of, keys_behind, opened_parts, sealed_ahead, secure_next, secure_read, taking}
@@ -52,10 +52,10 @@ use Rattle.cx_rules_session.specs.Forgets.{AskAlike}
 use Rattle.cx_rules_session.specs.Guests.{GuestArrival, GuestRow, GuestStage, Served, authority_of, authorized_frame, authorizes, sealed_challenge_frame, challenges, done_sent, on_judged, on_auth_request_more, on_first, on_second, turns_away, unless_turned_away}
 use Rattle.cx_rules_session.specs.Hosting.{Deciding, Hosted, Instruction, admission_of, admits, answer_message, asks_admission, cookie_drawn, comes_to, decided_by, guest_turned, handles, handled_entry, hosted_behind, instruction_of, on_admission, on_checked, on_client_ident, on_ident, on_message, on_open, on_reconnect, on_resumption, on_taken, on_untaken, outcome_of, reconnect_ok, served_as, session_retry, session_retry_global, tells_why, turned_behind, unless_unread}
 use Rattle.cx_rules_session.specs.Lossy.{is_lossy, lossy_flags}
-use Rattle.cx_dice.specs.Draws.{challenge_of, connection_of, cookie_of}
-use Rattle.cx_sealed.specs.declared.service_ticket.ServiceTicket.{ServiceTicket}
-use Rattle.cx_steps.specs.declared.seals.DrawMark.TheVariants as draw
-use Rattle.cx_steps.specs.declared.seals.SealEntry.TheVariants.{Drawn}
+use Rattle.cx_rules.specs.cx_dice.specs.Draws.{challenge_of, connection_of, cookie_of}
+use Rattle.cx_authorize.specs.cx_sealed.specs.declared.service_ticket.ServiceTicket.{ServiceTicket}
+use Rattle.cx_rules.specs.cx_steps.specs.declared.seals.DrawMark.TheVariants as draw
+use Rattle.cx_rules.specs.cx_steps.specs.declared.seals.SealEntry.TheVariants.{Drawn}
 use Rattle.cx_rules_session.proofs.AskingAlike.{asks_map-alike}
 use Rattle.cx_rules_session.proofs.KindsAlike.{entered-before-alike, refused-before-alike}
 

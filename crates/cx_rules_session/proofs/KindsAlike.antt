@@ -3,9 +3,9 @@ use Rattle.std.proofs.Common.{◌≡◌, ℕ, Bool, true, false, cond, List, [],
 use Rattle.std.specs.Prelude.{IfSome, filter, not}
 use Rattle.std.specs.List.{AllByRecursion, list_all, list_any}
 use Rattle.std.specs.Option.{option_map}
-use Rattle.cx_base.specs.declared.nodes.NodeName.{NodeName}
-use Rattle.cx_journal.specs.declared.entries.Entry.{Entry}
-use Rattle.cx_journal.specs.declared.outcomes.Reason.{Reason}
+use Rattle.cx_session.specs.cx_base.specs.declared.nodes.NodeName.{NodeName}
+use Rattle.cx_authorize.specs.cx_journal.specs.declared.entries.Entry.{Entry}
+use Rattle.cx_authorize.specs.cx_journal.specs.declared.outcomes.Reason.{Reason}
 use Rattle.cx_rules.specs.Abridged.{IsWithin, abridged_row, cut, unsigned}
 use Rattle.cx_rules.specs.Holdings.{Asker}
 use Rattle.cx_rules.specs.Links.{Link}

@@ -2,8 +2,8 @@
 use Rattle.std.proofs.Common.{◌≡◌, ℕ, ◌+◌, ◌≤◌, List, ◌++◌, length, drop, length-append, refl, sym, ap, subst, ◌∙◌, append_assoc, arith}
 use Rattle.std.specs.Prelude.{slice_index}
 use Rattle.std.proofs.lemmas.List.{get_or-append-add, length-drop, length-take}
-use Rattle.cx_dice.specs.Draws.{connection_of, counter_0, nonce_start, part}
-use Rattle.cx_frame.specs.Banners.{number64}
+use Rattle.cx_rules.specs.cx_dice.specs.Draws.{connection_of, counter_0, nonce_start, part}
+use Rattle.cx_rules.specs.cx_frame.specs.Banners.{number64}
 
 length-part : (place count : ℕ) (draw : List ℕ) → length (part place count draw) ≤ count
 length-part place count draw = omega (arith, length-take count (drop place draw))

@@ -2,26 +2,26 @@
 use Rattle.std.proofs.Common.{◌≡◌, ℕ, ◌+◌, ◌^◌, ◌≤◌, ◌<◌, List, [], ◌∷◌, ◌++◌, length, Result, Ok, refl, ap, ◌∙◌, append-nil, arith, length-append}
 use Rattle.std.specs.Int.{w16, w32, w64}
 use Rattle.std.proofs.lemmas.List.Sums.{sum_by-cons}
-use Rattle.cx_base.specs.declared.addresses.Addr.{Addr}
-use Rattle.cx_base.specs.declared.operations.Operation.{Operation}
-use Rattle.cx_control.specs.Idents.{server_ident_layout}
-use Rattle.cx_control.specs.Reconnects.{session_reconnect_ok_layout}
-use Rattle.cx_control.specs.Upkeep.{ack_layout}
-use Rattle.cx_control.specs.declared.idents.ServerIdent.{ServerIdent}
+use Rattle.cx_session.specs.cx_base.specs.declared.addresses.Addr.{Addr}
+use Rattle.cx_session.specs.cx_base.specs.declared.operations.Operation.{Operation}
+use Rattle.cx_authorize.specs.cx_control.specs.Idents.{server_ident_layout}
+use Rattle.cx_authorize.specs.cx_control.specs.Reconnects.{session_reconnect_ok_layout}
+use Rattle.cx_authorize.specs.cx_control.specs.Upkeep.{ack_layout}
+use Rattle.cx_authorize.specs.cx_control.specs.declared.idents.ServerIdent.{ServerIdent}
 use Rattle.cx_desk.specs.Handlers.{answer_of}
-use Rattle.cx_enc.specs.Forms.{Form, little}
-use Rattle.cx_enc.specs.Values.{addr_form}
-use Rattle.cx_frame.specs.Frames.{total}
-use Rattle.cx_frame.specs.Preambles.{length_of}
-use Rattle.cx_frame.specs.declared.frame.Frame.{Frame}
-use Rattle.cx_frame.specs.declared.frame.Segment.{Segment}
-use Rattle.cx_journal.specs.declared.faults.BytesFault.{BytesFault}
-use Rattle.cx_journal.specs.declared.outcomes.Outcome.TheVariants.{Done}
-use Rattle.cx_wire.specs.Bodies.{request_layout}
-use Rattle.cx_wire.specs.Headers.{header_layout, written_header}
-use Rattle.cx_wire.specs.Operations.{answer_layout, operation_layout}
-use Rattle.cx_wire.specs.declared.bodies.Request.TheVariants as asked
-use Rattle.cx_wire.specs.declared.headers.Header.{Header}
+use Rattle.cx_authorize.specs.cx_enc.specs.Forms.{Form, little}
+use Rattle.cx_authorize.specs.cx_enc.specs.Values.{addr_form}
+use Rattle.cx_rules.specs.cx_frame.specs.Frames.{total}
+use Rattle.cx_rules.specs.cx_frame.specs.Preambles.{length_of}
+use Rattle.cx_rules.specs.cx_frame.specs.declared.frame.Frame.{Frame}
+use Rattle.cx_rules.specs.cx_frame.specs.declared.frame.Segment.{Segment}
+use Rattle.cx_authorize.specs.cx_journal.specs.declared.faults.BytesFault.{BytesFault}
+use Rattle.cx_authorize.specs.cx_journal.specs.declared.outcomes.Outcome.TheVariants.{Done}
+use Rattle.cx_authorize.specs.cx_wire.specs.Bodies.{request_layout}
+use Rattle.cx_authorize.specs.cx_wire.specs.Headers.{header_layout, written_header}
+use Rattle.cx_authorize.specs.cx_wire.specs.Operations.{answer_layout, operation_layout}
+use Rattle.cx_authorize.specs.cx_wire.specs.declared.bodies.Request.TheVariants as asked
+use Rattle.cx_authorize.specs.cx_wire.specs.declared.headers.Header.{Header}
 use Rattle.cx_rules.specs.Acceptor.{server_ident}
 use Rattle.cx_rules.specs.Messages.{acknowledgement, message, sealed_behind, sealed_then, secure_frames}
 use Rattle.cx_rules.specs.Payloads.{control}

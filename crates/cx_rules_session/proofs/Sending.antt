@@ -2,23 +2,23 @@
 use Rattle.std.proofs.Common.{◌≡◌, ℕ, ◌+◌, ◌-◌, ◌^◌, ◌==◌, ◌<◌, Bool, false, List, [], ◌∷◌, length, Option, Some, None, Result, Ok, Err, refl, sym, ap, subst, ◌∙◌}
 use Rattle.std.specs.Prelude.{if◌then◌else◌}
 use Rattle.std.proofs.lemmas.Bool.{lt-leb}
-use Rattle.cx_base.specs.Names.{Name}
-use Rattle.cx_base.specs.declared.operations.Operation.{Operation}
-use Rattle.cx_control.specs.Auth.{auth_signature_layout}
-use Rattle.cx_control.specs.declared.auth.AuthSignature.{AuthSignature}
-use Rattle.cx_dice.specs.Draws.{cookie_of}
-use Rattle.cx_frame.specs.declared.frame.Frame.{Frame}
-use Rattle.cx_journal.specs.declared.entries.Entry.{Entry}
-use Rattle.cx_journal.specs.declared.faults.BytesFault.{BytesFault}
-use Rattle.cx_journal.specs.declared.faults.LoginFault.TheVariants.{SignatureWrong}
-use Rattle.cx_journal.specs.declared.outcomes.Reason.TheVariants as reason
+use Rattle.cx_session.specs.cx_base.specs.Names.{Name}
+use Rattle.cx_session.specs.cx_base.specs.declared.operations.Operation.{Operation}
+use Rattle.cx_authorize.specs.cx_control.specs.Auth.{auth_signature_layout}
+use Rattle.cx_authorize.specs.cx_control.specs.declared.auth.AuthSignature.{AuthSignature}
+use Rattle.cx_rules.specs.cx_dice.specs.Draws.{cookie_of}
+use Rattle.cx_rules.specs.cx_frame.specs.declared.frame.Frame.{Frame}
+use Rattle.cx_authorize.specs.cx_journal.specs.declared.entries.Entry.{Entry}
+use Rattle.cx_authorize.specs.cx_journal.specs.declared.faults.BytesFault.{BytesFault}
+use Rattle.cx_authorize.specs.cx_journal.specs.declared.faults.LoginFault.TheVariants.{SignatureWrong}
+use Rattle.cx_authorize.specs.cx_journal.specs.declared.outcomes.Reason.TheVariants as reason
 use Rattle.cx_session.specs.Queue.{Queue, push_reply, pushed}
 use Rattle.cx_session.specs.declared.outbox.QueueFault.{QueueFault}
 use Rattle.cx_session.specs.declared.outbox.QueueFault.TheVariants as queue
-use Rattle.cx_steps.specs.declared.events.Command.TheVariants.{Send}
-use Rattle.cx_steps.specs.declared.seals.DrawMark.TheVariants as draw
-use Rattle.cx_steps.specs.declared.seals.SealEntry.{SealEntry}
-use Rattle.cx_steps.specs.declared.seals.SealEntry.TheVariants.{Drawn}
+use Rattle.cx_rules.specs.cx_steps.specs.declared.events.Command.TheVariants.{Send}
+use Rattle.cx_rules.specs.cx_steps.specs.declared.seals.DrawMark.TheVariants as draw
+use Rattle.cx_rules.specs.cx_steps.specs.declared.seals.SealEntry.{SealEntry}
+use Rattle.cx_rules.specs.cx_steps.specs.declared.seals.SealEntry.TheVariants.{Drawn}
 use Rattle.cx_rules.specs.Connector as connector
 use Rattle.cx_rules.specs.Connector.{Login, client_ident, holding, identifies}
 use Rattle.cx_rules.specs.Fronts.{Front, keys_behind, secure_next, taking}

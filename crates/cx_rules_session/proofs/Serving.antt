@@ -5,21 +5,21 @@ use Rattle.std.specs.List.{AllByRecursion}
 use Rattle.std.proofs.lemmas.Bool.{lt-leb}
 use Rattle.std.proofs.lemmas.Bool.Decides.{eqb_tells}
 use Rattle.cx_authorize.specs.Daemon.{Authority}
-use Rattle.cx_caps.specs.Reading.{cap_allows}
-use Rattle.cx_control.specs.Idents.{client_ident_layout}
-use Rattle.cx_control.specs.Reconnects.{session_reconnect_layout}
-use Rattle.cx_control.specs.Upkeep.{keepalive2_layout, keepalive2_ack_layout}
-use Rattle.cx_control.specs.declared.idents.ClientIdent.{ClientIdent}
-use Rattle.cx_control.specs.declared.reconnects.SessionReconnect.{SessionReconnect}
+use Rattle.cx_desk.specs.cx_caps.specs.Reading.{cap_allows}
+use Rattle.cx_authorize.specs.cx_control.specs.Idents.{client_ident_layout}
+use Rattle.cx_authorize.specs.cx_control.specs.Reconnects.{session_reconnect_layout}
+use Rattle.cx_authorize.specs.cx_control.specs.Upkeep.{keepalive2_layout, keepalive2_ack_layout}
+use Rattle.cx_authorize.specs.cx_control.specs.declared.idents.ClientIdent.{ClientIdent}
+use Rattle.cx_authorize.specs.cx_control.specs.declared.reconnects.SessionReconnect.{SessionReconnect}
 use Rattle.cx_desk.specs.Handlers.{Handlers, answer_of, has_handler}
-use Rattle.cx_frame.specs.declared.frame.Frame.{Frame}
-use Rattle.cx_dice.specs.Draws.{cookie_of}
-use Rattle.cx_journal.specs.declared.entries.Entry.{Entry}
-use Rattle.cx_journal.specs.declared.entries.Entry.TheVariants as entry
-use Rattle.cx_journal.specs.declared.faults.BytesFault.{BytesFault}
-use Rattle.cx_journal.specs.declared.faults.BytesFault.TheVariants.{Unexpected}
-use Rattle.cx_journal.specs.declared.outcomes.Outcome.{Outcome}
-use Rattle.cx_journal.specs.declared.outcomes.Outcome.TheVariants.{Done, Denied, NoHandler}
+use Rattle.cx_rules.specs.cx_frame.specs.declared.frame.Frame.{Frame}
+use Rattle.cx_rules.specs.cx_dice.specs.Draws.{cookie_of}
+use Rattle.cx_authorize.specs.cx_journal.specs.declared.entries.Entry.{Entry}
+use Rattle.cx_authorize.specs.cx_journal.specs.declared.entries.Entry.TheVariants as entry
+use Rattle.cx_authorize.specs.cx_journal.specs.declared.faults.BytesFault.{BytesFault}
+use Rattle.cx_authorize.specs.cx_journal.specs.declared.faults.BytesFault.TheVariants.{Unexpected}
+use Rattle.cx_authorize.specs.cx_journal.specs.declared.outcomes.Outcome.{Outcome}
+use Rattle.cx_authorize.specs.cx_journal.specs.declared.outcomes.Outcome.TheVariants.{Done, Denied, NoHandler}
 use Rattle.cx_session.specs.Answers.{admission_reply, message_reply, resumption_reply}
 use Rattle.cx_session.specs.Book.{Book, admission, admit_reply, with_client_cookie}
 use Rattle.cx_session.specs.declared.call.BookCall.TheVariants.{Admit, Resume, Take}
@@ -28,7 +28,7 @@ use Rattle.cx_session.specs.declared.faults.AdmitFault.TheVariants.{BookFull, Sp
 use Rattle.cx_session.specs.declared.faults.ResumeFault.{ResumeFault}
 use Rattle.cx_session.specs.declared.faults.TakeRefusal.{TakeRefusal}
 use Rattle.cx_session.specs.declared.session.Session.{Session}
-use Rattle.cx_steps.specs.declared.seals.SealEntry.{SealEntry}
+use Rattle.cx_rules.specs.cx_steps.specs.declared.seals.SealEntry.{SealEntry}
 use Rattle.cx_rules.specs.Acceptor.{AwaitsIdent, Open, misses, server_ident}
 use Rattle.cx_rules.specs.Fronts.{Front, keys_behind, secure_next, taking}
 use Rattle.cx_rules.specs.Inputs.{Turn}

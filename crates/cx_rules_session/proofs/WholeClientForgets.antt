@@ -3,19 +3,19 @@ use Rattle.std.proofs.Common.{◌≡◌, ℕ, ◌-◌, ◌^◌, ◌==◌, ◌++�
 use Rattle.std.specs.Prelude.{IfSome, filter, find, not, if◌then◌else◌}
 use Rattle.std.specs.List.{AllByRecursion, list_any}
 use Rattle.std.specs.Option.{option_map}
-use Rattle.cx_base.specs.Names.{Name, same_name}
-use Rattle.cx_base.specs.declared.operations.Operation.{Operation}
-use Rattle.cx_journal.specs.declared.entries.Entry.{Entry}
-use Rattle.cx_journal.specs.declared.outcomes.Reason.{Reason}
-use Rattle.cx_journal.specs.declared.outcomes.Reason.TheVariants as reason
-use Rattle.cx_login.specs.Held.{Held}
+use Rattle.cx_session.specs.cx_base.specs.Names.{Name, same_name}
+use Rattle.cx_session.specs.cx_base.specs.declared.operations.Operation.{Operation}
+use Rattle.cx_authorize.specs.cx_journal.specs.declared.entries.Entry.{Entry}
+use Rattle.cx_authorize.specs.cx_journal.specs.declared.outcomes.Reason.{Reason}
+use Rattle.cx_authorize.specs.cx_journal.specs.declared.outcomes.Reason.TheVariants as reason
+use Rattle.cx_rules.specs.cx_login.specs.Held.{Held}
 use Rattle.cx_session.specs.Queue.{push_reply, pushed}
 use Rattle.cx_session.specs.declared.outbox.QueueFault.{QueueFault}
-use Rattle.cx_steps.specs.declared.effects.Effects.{Effects}
-use Rattle.cx_steps.specs.declared.events.Command.{Command}
-use Rattle.cx_steps.specs.declared.events.Command.TheVariants as command
-use Rattle.cx_steps.specs.declared.events.Peer.{Peer}
-use Rattle.cx_wire.specs.declared.bodies.Request.TheVariants as asked
+use Rattle.cx_rules.specs.cx_steps.specs.declared.effects.Effects.{Effects}
+use Rattle.cx_rules.specs.cx_steps.specs.declared.events.Command.{Command}
+use Rattle.cx_rules.specs.cx_steps.specs.declared.events.Command.TheVariants as command
+use Rattle.cx_rules.specs.cx_steps.specs.declared.events.Peer.{Peer}
+use Rattle.cx_authorize.specs.cx_wire.specs.declared.bodies.Request.TheVariants as asked
 use Rattle.cx_rules.specs.Abridged.{IsWithin, abridged_asker_link, unsigned}
 use Rattle.cx_rules.specs.Connector as connector
 use Rattle.cx_rules.specs.Greetings.{own_banner}

@@ -1,23 +1,23 @@
 -- What a client does at each event, with links to the monitor and to daemons.
 use Rattle.std.specs.Prelude.{ℕ, ◌==◌, ◌+◌, ◌-◌, ◌^◌, ◌&&◌, not, Bool, true, false, List, [], ◌∷◌, ◌++◌, filter, find, map, Option, Some, None, Result, Ok, Err, if◌then◌else◌}
 use Rattle.std.specs.List.{list_all, list_any}
-use Rattle.cx_base.specs.Names.{Name, same_name}
-use Rattle.cx_base.specs.declared.nodes.NodeName.{NodeName}
-use Rattle.cx_base.specs.declared.nodes.NodeName.TheVariants as node
-use Rattle.cx_base.specs.declared.operations.Operation.{Operation}
-use Rattle.cx_journal.specs.declared.entries.Entry.{Entry}
-use Rattle.cx_journal.specs.declared.entries.Entry.TheVariants as entry
-use Rattle.cx_journal.specs.declared.outcomes.Reason.{Reason}
-use Rattle.cx_journal.specs.declared.outcomes.Reason.TheVariants as reason
-use Rattle.cx_login.specs.Held.{Held}
+use Rattle.cx_session.specs.cx_base.specs.Names.{Name, same_name}
+use Rattle.cx_session.specs.cx_base.specs.declared.nodes.NodeName.{NodeName}
+use Rattle.cx_session.specs.cx_base.specs.declared.nodes.NodeName.TheVariants as node
+use Rattle.cx_session.specs.cx_base.specs.declared.operations.Operation.{Operation}
+use Rattle.cx_authorize.specs.cx_journal.specs.declared.entries.Entry.{Entry}
+use Rattle.cx_authorize.specs.cx_journal.specs.declared.entries.Entry.TheVariants as entry
+use Rattle.cx_authorize.specs.cx_journal.specs.declared.outcomes.Reason.{Reason}
+use Rattle.cx_authorize.specs.cx_journal.specs.declared.outcomes.Reason.TheVariants as reason
+use Rattle.cx_rules.specs.cx_login.specs.Held.{Held}
 use Rattle.cx_session.specs.Queue.{push_reply, pushed}
 use Rattle.cx_session.specs.declared.outbox.QueueFault.{QueueFault}
 use Rattle.cx_session.specs.declared.outbox.QueueFault.TheVariants as queue
-use Rattle.cx_steps.specs.Nothing.{nothing}
-use Rattle.cx_steps.specs.declared.events.Command.{Command}
-use Rattle.cx_steps.specs.declared.events.Command.TheVariants as command
-use Rattle.cx_steps.specs.declared.events.Peer.{Peer}
-use Rattle.cx_steps.specs.declared.events.Peer.TheVariants as peer
+use Rattle.cx_rules.specs.cx_steps.specs.Nothing.{nothing}
+use Rattle.cx_rules.specs.cx_steps.specs.declared.events.Command.{Command}
+use Rattle.cx_rules.specs.cx_steps.specs.declared.events.Command.TheVariants as command
+use Rattle.cx_rules.specs.cx_steps.specs.declared.events.Peer.{Peer}
+use Rattle.cx_rules.specs.cx_steps.specs.declared.events.Peer.TheVariants as peer
 use Rattle.cx_rules.specs.Connector as connector
 use Rattle.cx_rules.specs.Greetings.{own_banner}
 use Rattle.cx_rules.specs.Holdings.{Asker, afresh}

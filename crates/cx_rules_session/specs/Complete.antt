@@ -2,42 +2,42 @@
 -- counters are left for it; of a frame whose length isn't fixed it is said which lengths it may have.
 use Rattle.std.specs.Prelude.{ℕ, ◌≡◌, ◌≢◌, ◌==◌, ◌+◌, ◌*◌, ◌-◌, ◌^◌, ◌<◌, ◌≤◌, Bool, true, false, List, All, [], ◌∷◌, ◌++◌, length, take, Option, Some, None, Result, Ok, Err}
 use Rattle.std.specs.List.{AllByRecursion, list_any}
-use Rattle.cx_aes.specs.Cipher.{IsBlock}
+use Rattle.cx_authorize.specs.cx_aes.specs.Cipher.{IsBlock}
 use Rattle.cx_authorize.specs.Agreement.{HoldsTicket}
 use Rattle.cx_authorize.specs.Answers.{IsAuthorizer, shown_as}
 use Rattle.cx_authorize.specs.Daemon.{Authority, Awaited}
 use Rattle.cx_authorize.specs.Judging.{judged_first, judged_second}
 use Rattle.cx_authorize.specs.declared.refusals.AuthRefusal.{AuthRefusal}
-use Rattle.cx_base.specs.Names.{Name, same_kind}
-use Rattle.cx_base.specs.declared.kinds.EntityType.{EntityType}
-use Rattle.cx_base.specs.declared.operations.Operation.{Operation}
-use Rattle.cx_caps.specs.Reading.{cap_allows}
-use Rattle.cx_control.specs.Auth.{auth_request_layout, auth_request_more_layout, auth_signature_layout}
-use Rattle.cx_control.specs.declared.auth.AuthRequest.{AuthRequest}
-use Rattle.cx_control.specs.declared.auth.AuthRequestMore.{AuthRequestMore}
-use Rattle.cx_control.specs.Idents.{client_ident_layout}
-use Rattle.cx_control.specs.Reconnects.{session_reconnect_layout}
-use Rattle.cx_control.specs.declared.auth.AuthSignature.{AuthSignature}
-use Rattle.cx_control.specs.declared.idents.ClientIdent.{ClientIdent}
-use Rattle.cx_control.specs.declared.reconnects.SessionReconnect.{SessionReconnect}
+use Rattle.cx_session.specs.cx_base.specs.Names.{Name, same_kind}
+use Rattle.cx_session.specs.cx_base.specs.declared.kinds.EntityType.{EntityType}
+use Rattle.cx_session.specs.cx_base.specs.declared.operations.Operation.{Operation}
+use Rattle.cx_desk.specs.cx_caps.specs.Reading.{cap_allows}
+use Rattle.cx_authorize.specs.cx_control.specs.Auth.{auth_request_layout, auth_request_more_layout, auth_signature_layout}
+use Rattle.cx_authorize.specs.cx_control.specs.declared.auth.AuthRequest.{AuthRequest}
+use Rattle.cx_authorize.specs.cx_control.specs.declared.auth.AuthRequestMore.{AuthRequestMore}
+use Rattle.cx_authorize.specs.cx_control.specs.Idents.{client_ident_layout}
+use Rattle.cx_authorize.specs.cx_control.specs.Reconnects.{session_reconnect_layout}
+use Rattle.cx_authorize.specs.cx_control.specs.declared.auth.AuthSignature.{AuthSignature}
+use Rattle.cx_authorize.specs.cx_control.specs.declared.idents.ClientIdent.{ClientIdent}
+use Rattle.cx_authorize.specs.cx_control.specs.declared.reconnects.SessionReconnect.{SessionReconnect}
 use Rattle.cx_desk.specs.Handlers.{Handlers, has_handler}
-use Rattle.cx_digest.specs.Code.{hmac}
-use Rattle.cx_frame.specs.declared.frame.Frame.{Frame}
-use Rattle.cx_journal.specs.declared.entries.Entry.{Entry}
-use Rattle.cx_journal.specs.declared.premises.KeyKind.TheVariants.{Principal}
-use Rattle.cx_login.specs.Held.{Held}
-use Rattle.cx_login.specs.Opening.{generation_key}
-use Rattle.cx_login.specs.Unlocking.{unlocked}
-use Rattle.cx_rotate.specs.declared.generations.Generation.{Generation}
-use Rattle.cx_rotate.specs.declared.views.View.{View}
-use Rattle.cx_sealed.specs.Records.{rotating_reply_layout}
-use Rattle.cx_sealed.specs.declared.rotating_reply.RotatingReply.{RotatingReply}
-use Rattle.cx_sealed.specs.declared.service_ticket.ServiceTicket.{ServiceTicket}
+use Rattle.cx_rules.specs.cx_digest.specs.Code.{hmac}
+use Rattle.cx_rules.specs.cx_frame.specs.declared.frame.Frame.{Frame}
+use Rattle.cx_authorize.specs.cx_journal.specs.declared.entries.Entry.{Entry}
+use Rattle.cx_authorize.specs.cx_journal.specs.declared.premises.KeyKind.TheVariants.{Principal}
+use Rattle.cx_rules.specs.cx_login.specs.Held.{Held}
+use Rattle.cx_rules.specs.cx_login.specs.Opening.{generation_key}
+use Rattle.cx_rules.specs.cx_login.specs.Unlocking.{unlocked}
+use Rattle.cx_rules.specs.cx_rotate.specs.declared.generations.Generation.{Generation}
+use Rattle.cx_rules.specs.cx_rotate.specs.declared.views.View.{View}
+use Rattle.cx_authorize.specs.cx_sealed.specs.Records.{rotating_reply_layout}
+use Rattle.cx_authorize.specs.cx_sealed.specs.declared.rotating_reply.RotatingReply.{RotatingReply}
+use Rattle.cx_authorize.specs.cx_sealed.specs.declared.service_ticket.ServiceTicket.{ServiceTicket}
 use Rattle.cx_session.specs.Book.{resume_reply, take_reply, with_client_cookie}
-use Rattle.cx_steps.specs.declared.effects.Effects.{Effects}
-use Rattle.cx_steps.specs.declared.seals.SealEntry.{SealEntry}
-use Rattle.cx_wire.specs.Bodies.{reply_layout}
-use Rattle.cx_wire.specs.declared.bodies.Reply.TheVariants as given
+use Rattle.cx_rules.specs.cx_steps.specs.declared.effects.Effects.{Effects}
+use Rattle.cx_rules.specs.cx_steps.specs.declared.seals.SealEntry.{SealEntry}
+use Rattle.cx_authorize.specs.cx_wire.specs.Bodies.{reply_layout}
+use Rattle.cx_authorize.specs.cx_wire.specs.declared.bodies.Reply.TheVariants as given
 use Rattle.cx_rules.specs.Acceptor.{AwaitsIdent, AwaitsProof, AwaitsRequest, Open}
 use Rattle.cx_rules.specs.Connector as connector
 use Rattle.cx_rules.specs.Connector.{Login}

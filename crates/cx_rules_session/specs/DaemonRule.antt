@@ -2,25 +2,25 @@
 use Rattle.std.specs.Prelude.{ℕ, ◌==◌, ◌&&◌, ◌||◌, not, Bool, true, false, List, [], ◌∷◌, ◌++◌, filter, length, map, nat_le, Option, Some, None, if◌then◌else◌}
 use Rattle.std.specs.List.{list_any}
 use Rattle.cx_authorize.specs.Daemon.{Authority}
-use Rattle.cx_base.specs.Names.{Name}
-use Rattle.cx_base.specs.declared.nodes.NodeName.{NodeName}
-use Rattle.cx_base.specs.declared.nodes.NodeName.TheVariants as node
+use Rattle.cx_session.specs.cx_base.specs.Names.{Name}
+use Rattle.cx_session.specs.cx_base.specs.declared.nodes.NodeName.{NodeName}
+use Rattle.cx_session.specs.cx_base.specs.declared.nodes.NodeName.TheVariants as node
 use Rattle.cx_desk.specs.Handlers.{Handlers}
-use Rattle.cx_journal.specs.declared.entries.Entry.{Entry}
-use Rattle.cx_journal.specs.declared.entries.Entry.TheVariants as entry
-use Rattle.cx_journal.specs.declared.outcomes.Reason.TheVariants.{LinksFull, Lost}
-use Rattle.cx_rotate.specs.declared.views.View.{View}
+use Rattle.cx_authorize.specs.cx_journal.specs.declared.entries.Entry.{Entry}
+use Rattle.cx_authorize.specs.cx_journal.specs.declared.entries.Entry.TheVariants as entry
+use Rattle.cx_authorize.specs.cx_journal.specs.declared.outcomes.Reason.TheVariants.{LinksFull, Lost}
+use Rattle.cx_rules.specs.cx_rotate.specs.declared.views.View.{View}
 use Rattle.cx_session.specs.Answers.{after, replied}
 use Rattle.cx_session.specs.Book.{Book, empty_book}
 use Rattle.cx_session.specs.declared.call.BookCall.{BookCall}
 use Rattle.cx_session.specs.declared.call.BookCall.TheVariants.{End}
 use Rattle.cx_session.specs.declared.call.BookReply.{BookReply}
 use Rattle.cx_session.specs.declared.call.BookReply.TheVariants.{Ended}
-use Rattle.cx_steps.specs.Nothing.{nothing}
-use Rattle.cx_steps.specs.declared.events.Command.{Command}
-use Rattle.cx_steps.specs.declared.events.Command.TheVariants as command
-use Rattle.cx_steps.specs.declared.events.Peer.{Peer}
-use Rattle.cx_steps.specs.declared.events.Peer.TheVariants as peer
+use Rattle.cx_rules.specs.cx_steps.specs.Nothing.{nothing}
+use Rattle.cx_rules.specs.cx_steps.specs.declared.events.Command.{Command}
+use Rattle.cx_rules.specs.cx_steps.specs.declared.events.Command.TheVariants as command
+use Rattle.cx_rules.specs.cx_steps.specs.declared.events.Peer.{Peer}
+use Rattle.cx_rules.specs.cx_steps.specs.declared.events.Peer.TheVariants as peer
 use Rattle.cx_rules.specs.Acceptor as acceptor
 use Rattle.cx_rules.specs.Connector as connector
 use Rattle.cx_rules.specs.Greetings.{own_banner}

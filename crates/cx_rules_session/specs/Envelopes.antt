@@ -1,10 +1,10 @@
 -- What a client and a daemon seal for each other under the session key of a ticket ("detailed cephx protocol"), and plain frames that hold it.
 use Rattle.std.specs.Prelude.{ℕ, List, ◌++◌, Option}
-use Rattle.cx_frame.specs.declared.frame.Frame.{Frame}
-use Rattle.cx_journal.specs.declared.premises.KeyKind.TheVariants as kind
-use Rattle.cx_sealed.specs.Records.{authorize_layout, authorize_challenge_layout, authorize_reply_layout}
-use Rattle.cx_steps.specs.declared.seals.SealEntry.{SealEntry}
-use Rattle.cx_steps.specs.declared.seals.SealEntry.TheVariants as entry
+use Rattle.cx_rules.specs.cx_frame.specs.declared.frame.Frame.{Frame}
+use Rattle.cx_authorize.specs.cx_journal.specs.declared.premises.KeyKind.TheVariants as kind
+use Rattle.cx_authorize.specs.cx_sealed.specs.Records.{authorize_layout, authorize_challenge_layout, authorize_reply_layout}
+use Rattle.cx_rules.specs.cx_steps.specs.declared.seals.SealEntry.{SealEntry}
+use Rattle.cx_rules.specs.cx_steps.specs.declared.seals.SealEntry.TheVariants as entry
 use Rattle.cx_authorize.specs.Answers.{shown_as}
 use Rattle.cx_authorize.specs.Verdict.{raised}
 use Rattle.cx_rules.specs.Rows.{Arrival, Row, goes_on, unless_refused}

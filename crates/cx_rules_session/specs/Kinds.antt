@@ -2,7 +2,7 @@
 -- And what is entered before a row.
 use Rattle.std.specs.Prelude.{◌∷◌}
 use Rattle.std.specs.Option.{option_map}
-use Rattle.cx_journal.specs.declared.entries.Entry.{Entry}
+use Rattle.cx_authorize.specs.cx_journal.specs.declared.entries.Entry.{Entry}
 use Rattle.cx_rules.specs.Links.{Link}
 use Rattle.cx_rules.specs.Rows.{Arrival, Row, Turned, Waits, Refuses, Handles, arrival}
 

@@ -1,15 +1,15 @@
 -- A client's sessions with daemons ("msgr2 protocol": cookies, connect_seq, messages that wait for their acknowledgement), and what it is to a
 -- link that it calls a daemon: a ticket that it shows, and a session that it has.
 use Rattle.std.specs.Prelude.{ℕ, Bool, false, not, List, [], ◌∷◌, filter, find, map, nat_lt, length, Option, Some, None, unwrap_or, if◌then◌else◌}
-use Rattle.cx_base.specs.Names.{Name, same_name}
-use Rattle.cx_base.specs.declared.kinds.EntityType.{EntityType}
-use Rattle.cx_base.specs.declared.kinds.EntityType.TheVariants.{Mon, Mds, Osd, Client, Mgr, Auth}
-use Rattle.cx_base.specs.declared.operations.Operation.{Operation}
-use Rattle.cx_control.specs.Reconnects.{session_reconnect_layout}
-use Rattle.cx_frame.specs.declared.frame.Frame.{Frame}
-use Rattle.cx_login.specs.Held.{Held}
+use Rattle.cx_session.specs.cx_base.specs.Names.{Name, same_name}
+use Rattle.cx_session.specs.cx_base.specs.declared.kinds.EntityType.{EntityType}
+use Rattle.cx_session.specs.cx_base.specs.declared.kinds.EntityType.TheVariants.{Mon, Mds, Osd, Client, Mgr, Auth}
+use Rattle.cx_session.specs.cx_base.specs.declared.operations.Operation.{Operation}
+use Rattle.cx_authorize.specs.cx_control.specs.Reconnects.{session_reconnect_layout}
+use Rattle.cx_rules.specs.cx_frame.specs.declared.frame.Frame.{Frame}
+use Rattle.cx_rules.specs.cx_login.specs.Held.{Held}
 use Rattle.cx_session.specs.Queue.{Queue, acknowledged, empty_queue}
-use Rattle.cx_wire.specs.Operations.{operation_layout}
+use Rattle.cx_authorize.specs.cx_wire.specs.Operations.{operation_layout}
 use Rattle.cx_rules.specs.Holdings.{Asker, Holdings}
 use Rattle.cx_rules.specs.Messages.{message}
 use Rattle.cx_rules.specs.Payloads.{control}

@@ -3,7 +3,7 @@
 ghost use Rattle.std.specs.Prelude.{◌≡◌, ℕ, List};
 ghost use Rattle.cx_desk.specs.Handlers.{Handlers};
 ghost use Rattle.cx_session.specs.declared.call.BookReply.{BookReply};
-ghost use Rattle.cx_steps.specs.declared.events.Peer.{Peer};
+ghost use Rattle.cx_rules.specs.cx_steps.specs.declared.events.Peer.{Peer};
 ghost use Rattle.cx_rules.specs.Holdings.{Asker};
 ghost use Rattle.cx_rules.specs.Inputs.{Input};
 ghost use Rattle.cx_rules.specs.Rows.{forgotten};

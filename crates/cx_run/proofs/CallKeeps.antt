@@ -3,54 +3,54 @@
 use Rattle.std.proofs.Common.{◌≡◌, ℕ, ◌==◌, ◌+◌, ◌-◌, ◌^◌, ◌++◌, Bool, true, false, List, [], ◌∷◌, take, Option, Some, None, Result, Ok, Err, refl}
 use Rattle.std.specs.Prelude.{not, if◌then◌else◌}
 use Rattle.std.specs.List.{AllByRecursion}
-use Rattle.cx_authorize.specs.Client.{Answered, Presented, challenge_in, reply_in}
-use Rattle.cx_authorize.specs.Verdict.{raised}
-use Rattle.cx_control.specs.Auth.{auth_done_layout, auth_reply_more_layout, auth_signature_layout}
-use Rattle.cx_control.specs.BadMethod.{bad_method_layout}
-use Rattle.cx_control.specs.Hello.{hello_layout}
-use Rattle.cx_control.specs.Idents.{ident_missing_features_layout, server_ident_layout}
-use Rattle.cx_control.specs.Reconnects.{session_reconnect_ok_layout, session_reset_layout, session_retry_layout, session_retry_global_layout}
-use Rattle.cx_control.specs.Upkeep.{ack_layout, keepalive2_layout, keepalive2_ack_layout}
-use Rattle.cx_control.specs.declared.auth.AuthDone.{AuthDone}
-use Rattle.cx_control.specs.declared.auth.AuthReplyMore.{AuthReplyMore}
-use Rattle.cx_control.specs.declared.auth.AuthSignature.{AuthSignature}
-use Rattle.cx_control.specs.declared.hello.Hello.{Hello}
-use Rattle.cx_control.specs.declared.idents.IdentMissingFeatures.{IdentMissingFeatures}
-use Rattle.cx_control.specs.declared.idents.ServerIdent.{ServerIdent}
-use Rattle.cx_control.specs.declared.reconnects.SessionReconnectOk.{SessionReconnectOk}
-use Rattle.cx_control.specs.declared.reconnects.SessionReset.{SessionReset}
-use Rattle.cx_control.specs.declared.reconnects.SessionRetry.{SessionRetry}
-use Rattle.cx_control.specs.declared.reconnects.SessionRetryGlobal.{SessionRetryGlobal}
-use Rattle.cx_control.specs.declared.upkeep.Ack.{Ack}
-use Rattle.cx_control.specs.declared.upkeep.Keepalive2.{Keepalive2}
-use Rattle.cx_control.specs.declared.upkeep.Keepalive2Ack.{Keepalive2Ack}
-use Rattle.cx_dice.specs.Draws.{challenge_of, cookie_of}
-use Rattle.cx_frame.specs.declared.frame.Frame.{Frame}
-use Rattle.cx_journal.specs.declared.entries.Entry.{Entry}
-use Rattle.cx_journal.specs.declared.entries.Entry.TheVariants as entry
-use Rattle.cx_journal.specs.declared.faults.BytesFault.{BytesFault}
-use Rattle.cx_journal.specs.declared.faults.BytesFault.TheVariants.{Unexpected}
-use Rattle.cx_journal.specs.declared.faults.LoginFault.TheVariants.{Mode, NonceWrong, SignatureWrong}
-use Rattle.cx_journal.specs.declared.outcomes.Reason.{Reason}
-use Rattle.cx_journal.specs.declared.outcomes.Reason.TheVariants as reason
-use Rattle.cx_sealed.specs.declared.authorize_challenge.AuthorizeChallenge.{AuthorizeChallenge}
-use Rattle.cx_sealed.specs.declared.authorize_reply.AuthorizeReply.{AuthorizeReply}
-use Rattle.cx_steps.specs.declared.seals.DrawMark.TheVariants as draw
-use Rattle.cx_steps.specs.declared.seals.SealEntry.{SealEntry}
-use Rattle.cx_steps.specs.declared.seals.SealEntry.TheVariants.{Drawn}
-use Rattle.cx_wire.specs.Logins.{authorize_challenge_layout, authorize_reply_layout}
-use Rattle.cx_wire.specs.declared.authorizers.AuthorizeChallenge as shown_challenge
-use Rattle.cx_wire.specs.declared.authorizers.AuthorizeReply as shown_reply
-use Rattle.cx_rules.specs.Connector.{client_ident}
-use Rattle.cx_rules.specs.Fronts.{banner_next, plain_next, secure_next}
-use Rattle.cx_rules.specs.Greetings.{own_hello}
-use Rattle.cx_rules.specs.Holdings.{Asker}
-use Rattle.cx_rules.specs.Messages.{message_in, secure_frames}
-use Rattle.cx_rules.specs.Payloads.{due, payload, whole}
-use Rattle.cx_rules.specs.Rows.{Turned, at, goes_on, plain_sent, refuses, refuses_bytes, secure_sent, unless_refused, with_opened}
-use Rattle.cx_rules.specs.Secured.{SealedFrame, Secured, connector_keys, is_signed, plain_frame, secure_frame, signature_found, signed_frame, under}
-use Rattle.cx_rules.specs.Upkeep.{on_keepalive, on_keepalive_ack}
-use Rattle.cx_rules.specs.Messages.{on_upkeep_or}
+use Rattle.cx_rules_session.specs.cx_authorize.specs.Client.{Answered, Presented, challenge_in, reply_in}
+use Rattle.cx_rules_session.specs.cx_authorize.specs.Verdict.{raised}
+use Rattle.cx_rules_session.specs.cx_control.specs.Auth.{auth_done_layout, auth_reply_more_layout, auth_signature_layout}
+use Rattle.cx_rules_session.specs.cx_control.specs.BadMethod.{bad_method_layout}
+use Rattle.cx_rules_session.specs.cx_control.specs.Hello.{hello_layout}
+use Rattle.cx_rules_session.specs.cx_control.specs.Idents.{ident_missing_features_layout, server_ident_layout}
+use Rattle.cx_rules_session.specs.cx_control.specs.Reconnects.{session_reconnect_ok_layout, session_reset_layout, session_retry_layout, session_retry_global_layout}
+use Rattle.cx_rules_session.specs.cx_control.specs.Upkeep.{ack_layout, keepalive2_layout, keepalive2_ack_layout}
+use Rattle.cx_rules_session.specs.cx_control.specs.declared.auth.AuthDone.{AuthDone}
+use Rattle.cx_rules_session.specs.cx_control.specs.declared.auth.AuthReplyMore.{AuthReplyMore}
+use Rattle.cx_rules_session.specs.cx_control.specs.declared.auth.AuthSignature.{AuthSignature}
+use Rattle.cx_rules_session.specs.cx_control.specs.declared.hello.Hello.{Hello}
+use Rattle.cx_rules_session.specs.cx_control.specs.declared.idents.IdentMissingFeatures.{IdentMissingFeatures}
+use Rattle.cx_rules_session.specs.cx_control.specs.declared.idents.ServerIdent.{ServerIdent}
+use Rattle.cx_rules_session.specs.cx_control.specs.declared.reconnects.SessionReconnectOk.{SessionReconnectOk}
+use Rattle.cx_rules_session.specs.cx_control.specs.declared.reconnects.SessionReset.{SessionReset}
+use Rattle.cx_rules_session.specs.cx_control.specs.declared.reconnects.SessionRetry.{SessionRetry}
+use Rattle.cx_rules_session.specs.cx_control.specs.declared.reconnects.SessionRetryGlobal.{SessionRetryGlobal}
+use Rattle.cx_rules_session.specs.cx_control.specs.declared.upkeep.Ack.{Ack}
+use Rattle.cx_rules_session.specs.cx_control.specs.declared.upkeep.Keepalive2.{Keepalive2}
+use Rattle.cx_rules_session.specs.cx_control.specs.declared.upkeep.Keepalive2Ack.{Keepalive2Ack}
+use Rattle.cx_rules_session.specs.cx_dice.specs.Draws.{challenge_of, cookie_of}
+use Rattle.cx_rules_session.specs.cx_frame.specs.declared.frame.Frame.{Frame}
+use Rattle.cx_rules_session.specs.cx_journal.specs.declared.entries.Entry.{Entry}
+use Rattle.cx_rules_session.specs.cx_journal.specs.declared.entries.Entry.TheVariants as entry
+use Rattle.cx_rules_session.specs.cx_journal.specs.declared.faults.BytesFault.{BytesFault}
+use Rattle.cx_rules_session.specs.cx_journal.specs.declared.faults.BytesFault.TheVariants.{Unexpected}
+use Rattle.cx_rules_session.specs.cx_journal.specs.declared.faults.LoginFault.TheVariants.{Mode, NonceWrong, SignatureWrong}
+use Rattle.cx_rules_session.specs.cx_journal.specs.declared.outcomes.Reason.{Reason}
+use Rattle.cx_rules_session.specs.cx_journal.specs.declared.outcomes.Reason.TheVariants as reason
+use Rattle.cx_rules_session.specs.cx_sealed.specs.declared.authorize_challenge.AuthorizeChallenge.{AuthorizeChallenge}
+use Rattle.cx_rules_session.specs.cx_sealed.specs.declared.authorize_reply.AuthorizeReply.{AuthorizeReply}
+use Rattle.cx_rules_session.specs.cx_steps.specs.declared.seals.DrawMark.TheVariants as draw
+use Rattle.cx_rules_session.specs.cx_steps.specs.declared.seals.SealEntry.{SealEntry}
+use Rattle.cx_rules_session.specs.cx_steps.specs.declared.seals.SealEntry.TheVariants.{Drawn}
+use Rattle.cx_rules_session.specs.cx_wire.specs.Logins.{authorize_challenge_layout, authorize_reply_layout}
+use Rattle.cx_rules_session.specs.cx_wire.specs.declared.authorizers.AuthorizeChallenge as shown_challenge
+use Rattle.cx_rules_session.specs.cx_wire.specs.declared.authorizers.AuthorizeReply as shown_reply
+use Rattle.cx_rules_session.specs.cx_rules.specs.Connector.{client_ident}
+use Rattle.cx_rules_session.specs.cx_rules.specs.Fronts.{banner_next, plain_next, secure_next}
+use Rattle.cx_rules_session.specs.cx_rules.specs.Greetings.{own_hello}
+use Rattle.cx_rules_session.specs.cx_rules.specs.Holdings.{Asker}
+use Rattle.cx_rules_session.specs.cx_rules.specs.Messages.{message_in, secure_frames}
+use Rattle.cx_rules_session.specs.cx_rules.specs.Payloads.{due, payload, whole}
+use Rattle.cx_rules_session.specs.cx_rules.specs.Rows.{Turned, at, goes_on, plain_sent, refuses, refuses_bytes, secure_sent, unless_refused, with_opened}
+use Rattle.cx_rules_session.specs.cx_rules.specs.Secured.{SealedFrame, Secured, connector_keys, is_signed, plain_frame, secure_frame, signature_found, signed_frame, under}
+use Rattle.cx_rules_session.specs.cx_rules.specs.Upkeep.{on_keepalive, on_keepalive_ack}
+use Rattle.cx_rules_session.specs.cx_rules.specs.Messages.{on_upkeep_or}
 use Rattle.cx_rules_session.specs.Envelopes.{authorize_content, sends_holding, session_sealed}
 use Rattle.cx_rules_session.specs.Lossy.{lossy_flags}
 use Rattle.cx_rules_session.specs.Presenter.{CallArrival, CallRow, CallStage, AwaitsBanner, AwaitsHello, AwaitsChallenge, AwaitsDone, AwaitsSignature, AwaitsIdent, AwaitsReconnect, Open, Caller, OperationEnd, acknowledges, answers_challenge, counting, end_in, first_frame, holding_session, identifies, on_ack, on_answer, on_answer_or_ack, on_authorize_reply, on_bad_method, on_banner, on_challenge, on_done, on_hello, on_missing_features, on_reconnect_ok, on_reply_more, on_reset, on_retry, on_retry_global, on_server_ident, on_signature, on_signed, on_unlocked, presented, reconnects, resets, retries, retries_global, second_frame, signs, taken_up, takes_up, turned_at, while_answered, while_challenged, while_identified, while_reconnecting}

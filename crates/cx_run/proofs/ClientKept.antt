@@ -2,25 +2,25 @@
 use Rattle.std.proofs.Common.{◌≡◌, ℕ, Bool, List, [], Some, Result, Ok, Err, refl, ap, subst}
 use Rattle.cx_base.specs.Names.{Name}
 use Rattle.cx_base.specs.declared.operations.Operation.{Operation}
-use Rattle.cx_journal.specs.declared.outcomes.Reason.{Reason}
-use Rattle.cx_rules.specs.Connector as connector
-use Rattle.cx_rules.specs.Holdings.{Asker}
-use Rattle.cx_rules.specs.Inputs.{Input, Submit}
-use Rattle.cx_rules.specs.Links.{Link}
-use Rattle.cx_rules.specs.Requests.{Requests, sealed_request, sends_request}
-use Rattle.cx_rules.specs.Rows.{Arrival, Outcome, Turned, Waits, Refuses, Handles, arrival, turns}
-use Rattle.cx_rules.specs.Secured.{SealedFrame, Secured, secure_frame}
-use Rattle.cx_rules.specs.declared.requests.Want.{Want}
-use Rattle.cx_rules.specs.declared.requests.Want.TheVariants.{Tickets}
+use Rattle.cx_rules_session.specs.cx_journal.specs.declared.outcomes.Reason.{Reason}
+use Rattle.cx_rules_session.specs.cx_rules.specs.Connector as connector
+use Rattle.cx_rules_session.specs.cx_rules.specs.Holdings.{Asker}
+use Rattle.cx_rules_session.specs.cx_rules.specs.Inputs.{Input, Submit}
+use Rattle.cx_rules_session.specs.cx_rules.specs.Links.{Link}
+use Rattle.cx_rules_session.specs.cx_rules.specs.Requests.{Requests, sealed_request, sends_request}
+use Rattle.cx_rules_session.specs.cx_rules.specs.Rows.{Arrival, Outcome, Turned, Waits, Refuses, Handles, arrival, turns}
+use Rattle.cx_rules_session.specs.cx_rules.specs.Secured.{SealedFrame, Secured, secure_frame}
+use Rattle.cx_rules_session.specs.cx_rules.specs.declared.requests.Want.{Want}
+use Rattle.cx_rules_session.specs.cx_rules.specs.declared.requests.Want.TheVariants.{Tickets}
 use Rattle.cx_rules_session.specs.ClientRule.{ClientStage, ToMonitor, ToDaemon, WholeClient, WholeClientNode, caller_to, having_session, loses, me, open_to_ask, own_behind_gone, turned_at, whole_client_rule, with_asker, with_caller}
 use Rattle.cx_rules_session.specs.Kinds.{arrival_in, turn_of_kind}
 use Rattle.cx_rules_session.specs.Presenter as call
 use Rattle.cx_rules_session.specs.Presenter.{Caller, CallStage, callee_of}
 use Rattle.cx_rules_session.specs.Sessions.{Callee, HeldSession, operation_message}
-use Rattle.cx_session.specs.Queue.{pushed}
-use Rattle.cx_steps.specs.declared.events.Command.TheVariants as command
-use Rattle.cx_steps.specs.declared.events.Peer.TheVariants as peer
-use Rattle.cx_wire.specs.declared.bodies.Request.TheVariants as asked
+use Rattle.cx_rules_session.specs.cx_session.specs.Queue.{pushed}
+use Rattle.cx_rules_session.specs.cx_steps.specs.declared.events.Command.TheVariants as command
+use Rattle.cx_rules_session.specs.cx_steps.specs.declared.events.Peer.TheVariants as peer
+use Rattle.cx_rules_session.specs.cx_wire.specs.declared.bodies.Request.TheVariants as asked
 use Rattle.cx_run.proofs.ClientTakes.{KeepsName, asker-named, asker-takes}
 use Rattle.cx_run.proofs.Taking.{EachRow, TurnTakes, kind-takes, secure_sent-own}
 use Rattle.cx_run.proofs.CallKeeps.{Leaves, call-takes}

@@ -1,43 +1,43 @@
 -- The rows of one that logs in keep their link and its name, and a turn of it takes some of what is ahead.
 use Rattle.std.proofs.Common.{ℕ, ◌==◌, Bool, true, false, List, [], ◌∷◌, Option, Some, None, Result, Ok, Err, refl, ap, ◌≡◌}
 use Rattle.std.specs.Prelude.{not, if◌then◌else◌}
-use Rattle.cx_control.specs.Auth.{auth_done_layout, auth_reply_more_layout, auth_signature_layout}
-use Rattle.cx_control.specs.BadMethod.{bad_method_layout}
-use Rattle.cx_control.specs.Hello.{hello_layout}
-use Rattle.cx_control.specs.Idents.{ident_missing_features_layout, server_ident_layout}
-use Rattle.cx_control.specs.declared.auth.AuthDone.{AuthDone}
-use Rattle.cx_control.specs.declared.auth.AuthReplyMore.{AuthReplyMore}
-use Rattle.cx_control.specs.declared.auth.AuthSignature.{AuthSignature}
-use Rattle.cx_control.specs.declared.hello.Hello.{Hello}
-use Rattle.cx_control.specs.declared.idents.IdentMissingFeatures.{IdentMissingFeatures}
-use Rattle.cx_control.specs.declared.idents.ServerIdent.{ServerIdent}
-use Rattle.cx_frame.specs.declared.frame.Frame.{Frame}
-use Rattle.cx_journal.specs.declared.faults.BytesFault.{BytesFault}
-use Rattle.cx_journal.specs.declared.faults.LoginFault.TheVariants.{Mode, SignatureWrong}
-use Rattle.cx_journal.specs.declared.outcomes.Reason.TheVariants as reason
-use Rattle.cx_login.specs.declared.client.LoggedIn.{LoggedIn}
-use Rattle.cx_dice.specs.Draws.{cookie_of}
-use Rattle.cx_steps.specs.declared.seals.DrawMark.TheVariants as draw
-use Rattle.cx_steps.specs.declared.seals.SealEntry.{SealEntry}
-use Rattle.cx_steps.specs.declared.seals.SealEntry.TheVariants.{Drawn}
-use Rattle.cx_wire.specs.Logins.{login_done_layout}
-use Rattle.cx_wire.specs.declared.logins.LoginDone.{LoginDone}
-use Rattle.cx_wire.specs.declared.logins.ServerChallenge.{ServerChallenge}
-use Rattle.cx_rules.specs.Connector.{AskerArrival, AskerRow, Login, Stage, AwaitsBanner, AwaitsHello, AwaitsChallenge, AwaitsDone, AwaitsSignature, AwaitsIdent, Open, client_ident, holding, identifies, on_bad_method, on_banner, on_challenge, on_denial, on_done, on_hello, on_login_done, on_missing_features, on_opened, on_reply_more, on_signature, proves, signs, turned_at, while_challenged, while_identified, while_proved}
-use Rattle.cx_rules.specs.Holdings.{Asker, held_login, holds_nothing}
-use Rattle.cx_rules.specs.Fronts.{banner_next, plain_next, secure_next}
-use Rattle.cx_rules.specs.Payloads.{due, payload, whole}
-use Rattle.cx_rules.specs.Rows.{Turned, at, plain_sent, refuses, with_opened, goes_on}
-use Rattle.cx_rules.specs.Secured.{SealedFrame, Secured, is_signed, secure_frame, signature_found, under}
+use Rattle.cx_rules_session.specs.cx_control.specs.Auth.{auth_done_layout, auth_reply_more_layout, auth_signature_layout}
+use Rattle.cx_rules_session.specs.cx_control.specs.BadMethod.{bad_method_layout}
+use Rattle.cx_rules_session.specs.cx_control.specs.Hello.{hello_layout}
+use Rattle.cx_rules_session.specs.cx_control.specs.Idents.{ident_missing_features_layout, server_ident_layout}
+use Rattle.cx_rules_session.specs.cx_control.specs.declared.auth.AuthDone.{AuthDone}
+use Rattle.cx_rules_session.specs.cx_control.specs.declared.auth.AuthReplyMore.{AuthReplyMore}
+use Rattle.cx_rules_session.specs.cx_control.specs.declared.auth.AuthSignature.{AuthSignature}
+use Rattle.cx_rules_session.specs.cx_control.specs.declared.hello.Hello.{Hello}
+use Rattle.cx_rules_session.specs.cx_control.specs.declared.idents.IdentMissingFeatures.{IdentMissingFeatures}
+use Rattle.cx_rules_session.specs.cx_control.specs.declared.idents.ServerIdent.{ServerIdent}
+use Rattle.cx_rules_session.specs.cx_frame.specs.declared.frame.Frame.{Frame}
+use Rattle.cx_rules_session.specs.cx_journal.specs.declared.faults.BytesFault.{BytesFault}
+use Rattle.cx_rules_session.specs.cx_journal.specs.declared.faults.LoginFault.TheVariants.{Mode, SignatureWrong}
+use Rattle.cx_rules_session.specs.cx_journal.specs.declared.outcomes.Reason.TheVariants as reason
+use Rattle.cx_rules_session.specs.cx_login.specs.declared.client.LoggedIn.{LoggedIn}
+use Rattle.cx_rules_session.specs.cx_dice.specs.Draws.{cookie_of}
+use Rattle.cx_rules_session.specs.cx_steps.specs.declared.seals.DrawMark.TheVariants as draw
+use Rattle.cx_rules_session.specs.cx_steps.specs.declared.seals.SealEntry.{SealEntry}
+use Rattle.cx_rules_session.specs.cx_steps.specs.declared.seals.SealEntry.TheVariants.{Drawn}
+use Rattle.cx_rules_session.specs.cx_wire.specs.Logins.{login_done_layout}
+use Rattle.cx_rules_session.specs.cx_wire.specs.declared.logins.LoginDone.{LoginDone}
+use Rattle.cx_rules_session.specs.cx_wire.specs.declared.logins.ServerChallenge.{ServerChallenge}
+use Rattle.cx_rules_session.specs.cx_rules.specs.Connector.{AskerArrival, AskerRow, Login, Stage, AwaitsBanner, AwaitsHello, AwaitsChallenge, AwaitsDone, AwaitsSignature, AwaitsIdent, Open, client_ident, holding, identifies, on_bad_method, on_banner, on_challenge, on_denial, on_done, on_hello, on_login_done, on_missing_features, on_opened, on_reply_more, on_signature, proves, signs, turned_at, while_challenged, while_identified, while_proved}
+use Rattle.cx_rules_session.specs.cx_rules.specs.Holdings.{Asker, held_login, holds_nothing}
+use Rattle.cx_rules_session.specs.cx_rules.specs.Fronts.{banner_next, plain_next, secure_next}
+use Rattle.cx_rules_session.specs.cx_rules.specs.Payloads.{due, payload, whole}
+use Rattle.cx_rules_session.specs.cx_rules.specs.Rows.{Turned, at, plain_sent, refuses, with_opened, goes_on}
+use Rattle.cx_rules_session.specs.cx_rules.specs.Secured.{SealedFrame, Secured, is_signed, secure_frame, signature_found, under}
 use Rattle.cx_run.proofs.Taking.{EachRow, Keeps, TurnTakes, banner-takes, each-turned, plain-takes, plain_sent-keeps, plain_sent-own, secure-takes, secure_sent-keeps, secure_sent-own, keepalive-keeps, keepalive-own, keepalive_ack-keeps, keepalive_ack-own}
-use Rattle.cx_rules.specs.Upkeep.{on_keepalive, on_keepalive_ack}
-use Rattle.cx_rules.specs.Requests.{Requests, asks_rotating, no_requests, on_open, on_reply, on_server_ident, opens_to, sends_request, takes}
-use Rattle.cx_rules.specs.declared.requests.Taken.{Taken}
-use Rattle.cx_rules.specs.declared.requests.Taken.TheVariants as taken
-use Rattle.cx_rules.specs.declared.requests.Want.{Want}
+use Rattle.cx_rules_session.specs.cx_rules.specs.Upkeep.{on_keepalive, on_keepalive_ack}
+use Rattle.cx_rules_session.specs.cx_rules.specs.Requests.{Requests, asks_rotating, no_requests, on_open, on_reply, on_server_ident, opens_to, sends_request, takes}
+use Rattle.cx_rules_session.specs.cx_rules.specs.declared.requests.Taken.{Taken}
+use Rattle.cx_rules_session.specs.cx_rules.specs.declared.requests.Taken.TheVariants as taken
+use Rattle.cx_rules_session.specs.cx_rules.specs.declared.requests.Want.{Want}
 use Rattle.cx_base.specs.Names.{Name, is_daemon_type}
-use Rattle.cx_journal.specs.declared.outcomes.Reason.{Reason}
-use Rattle.cx_control.specs.Upkeep.{keepalive2_layout, keepalive2_ack_layout}
+use Rattle.cx_rules_session.specs.cx_journal.specs.declared.outcomes.Reason.{Reason}
+use Rattle.cx_rules_session.specs.cx_control.specs.Upkeep.{keepalive2_layout, keepalive2_ack_layout}
 
 -- what a row leaves of the link is as it was, but for what was sent and the stage, and the name stays
 abbrev KeepsAsker : AskerArrival → AskerRow → Type 0

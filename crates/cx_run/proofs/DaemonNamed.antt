@@ -1,33 +1,33 @@
 -- A daemon keeps its name, whatever comes to it and whatever its book replies.
 use Rattle.std.proofs.Common.{◌≡◌, ℕ, Bool, true, false, List, [], length, Option, Some, None, Result, Ok, Err, refl, ap, ◌∙◌}
 use Rattle.std.specs.Prelude.{nat_le, if◌then◌else◌}
-use Rattle.cx_desk.specs.Handlers.{Handlers}
-use Rattle.cx_journal.specs.declared.outcomes.Reason.{Reason}
-use Rattle.cx_journal.specs.declared.outcomes.Reason.TheVariants.{LinksFull}
-use Rattle.cx_rules.specs.Acceptor.{AwaitsBanner, AwaitsHello, AwaitsRequest, AwaitsProof, AwaitsSignature, AwaitsIdent, Open}
-use Rattle.cx_rules.specs.Connector as connector
-use Rattle.cx_rules.specs.Greetings.{own_banner}
-use Rattle.cx_rules.specs.Holdings.{Asker}
-use Rattle.cx_rules.specs.Inputs.{Input, Opened, NoLink, Bytes, Turn, Gone, Look, Tick, Submit, Restart}
-use Rattle.cx_rules.specs.Links.{Link, link_of}
-use Rattle.cx_rules.specs.Requests.{Requests, first_open, is_outdated, sealed_request, sends_request}
-use Rattle.cx_rules.specs.Rows.{Arrival, Outcome, Turned, Waits, Refuses, Handles, arrival, carried_out, fed, forgotten, goes_on, idles, new_link, refuses, turns}
-use Rattle.cx_rules.specs.Secured.{SealedFrame, Secured}
+use Rattle.cx_rules_session.specs.cx_desk.specs.Handlers.{Handlers}
+use Rattle.cx_rules_session.specs.cx_journal.specs.declared.outcomes.Reason.{Reason}
+use Rattle.cx_rules_session.specs.cx_journal.specs.declared.outcomes.Reason.TheVariants.{LinksFull}
+use Rattle.cx_rules_session.specs.cx_rules.specs.Acceptor.{AwaitsBanner, AwaitsHello, AwaitsRequest, AwaitsProof, AwaitsSignature, AwaitsIdent, Open}
+use Rattle.cx_rules_session.specs.cx_rules.specs.Connector as connector
+use Rattle.cx_rules_session.specs.cx_rules.specs.Greetings.{own_banner}
+use Rattle.cx_rules_session.specs.cx_rules.specs.Holdings.{Asker}
+use Rattle.cx_rules_session.specs.cx_rules.specs.Inputs.{Input, Opened, NoLink, Bytes, Turn, Gone, Look, Tick, Submit, Restart}
+use Rattle.cx_rules_session.specs.cx_rules.specs.Links.{Link, link_of}
+use Rattle.cx_rules_session.specs.cx_rules.specs.Requests.{Requests, first_open, is_outdated, sealed_request, sends_request}
+use Rattle.cx_rules_session.specs.cx_rules.specs.Rows.{Arrival, Outcome, Turned, Waits, Refuses, Handles, arrival, carried_out, fed, forgotten, goes_on, idles, new_link, refuses, turns}
+use Rattle.cx_rules_session.specs.cx_rules.specs.Secured.{SealedFrame, Secured}
 use Rattle.cx_rules_session.specs.Asks.{Finished, Asking}
 use Rattle.cx_rules_session.specs.DaemonRule.{AsAcceptor, AsConnector, Daemon, DaemonNode, DaemonStage, DaemonState, asking_open, book_after, book_reply, daemon_rule, daemon_step, fetches, fetches_on, gone, gone_by_kind, guest_gone, hosts, is_fetching, lossy_gone, me, moved_to, on_dropped, open_to_ask, opens, opens_own, submits, ticks, turn, turned_at, undialled, unreached, with_asker}
 use Rattle.cx_rules_session.specs.Guests.{GuestStage}
 use Rattle.cx_rules_session.specs.Hosting.{Hosted, guest_turned}
 use Rattle.cx_rules_session.specs.Kinds.{arrival_in, turn_of_kind}
-use Rattle.cx_session.specs.declared.call.BookCall.TheVariants.{End}
-use Rattle.cx_session.specs.declared.call.BookReply.{BookReply}
-use Rattle.cx_session.specs.declared.call.BookReply.TheVariants as reply
-use Rattle.cx_steps.specs.declared.events.Command.{Command}
-use Rattle.cx_steps.specs.declared.events.Command.TheVariants as command
-use Rattle.cx_steps.specs.declared.events.Peer.{Peer}
-use Rattle.cx_steps.specs.declared.events.Peer.TheVariants as peer
-use Rattle.cx_wire.specs.declared.bodies.Request.TheVariants as asked
-use Rattle.cx_rules.specs.declared.requests.Want.{Want}
-use Rattle.cx_rules.specs.declared.requests.Want.TheVariants.{Rotating}
+use Rattle.cx_rules_session.specs.cx_session.specs.declared.call.BookCall.TheVariants.{End}
+use Rattle.cx_rules_session.specs.cx_session.specs.declared.call.BookReply.{BookReply}
+use Rattle.cx_rules_session.specs.cx_session.specs.declared.call.BookReply.TheVariants as reply
+use Rattle.cx_rules_session.specs.cx_steps.specs.declared.events.Command.{Command}
+use Rattle.cx_rules_session.specs.cx_steps.specs.declared.events.Command.TheVariants as command
+use Rattle.cx_rules_session.specs.cx_steps.specs.declared.events.Peer.{Peer}
+use Rattle.cx_rules_session.specs.cx_steps.specs.declared.events.Peer.TheVariants as peer
+use Rattle.cx_rules_session.specs.cx_wire.specs.declared.bodies.Request.TheVariants as asked
+use Rattle.cx_rules_session.specs.cx_rules.specs.declared.requests.Want.{Want}
+use Rattle.cx_rules_session.specs.cx_rules.specs.declared.requests.Want.TheVariants.{Rotating}
 use Rattle.cx_run.proofs.ClientTakes.{KeepsName, asker-named}
 use Rattle.cx_run.proofs.GuestTakes.{Always, StaysGuest, TakesHosted, always-book, always-map, always-weaker, guest-takes}
 use Rattle.cx_run.proofs.Taking.{EachRow}

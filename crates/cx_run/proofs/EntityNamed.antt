@@ -1,7 +1,7 @@
 -- An entity keeps its name, whatever comes to it.
 use Rattle.std.proofs.Common.{◌≡◌, ℕ, List}
-use Rattle.cx_desk.specs.Handlers.{Handlers}
-use Rattle.cx_rules.specs.Inputs.{Input}
+use Rattle.cx_rules_session.specs.cx_desk.specs.Handlers.{Handlers}
+use Rattle.cx_rules_session.specs.cx_rules.specs.Inputs.{Input}
 use Rattle.cx_run.specs.Happenings.{EntityNode, OfClient, OfDaemon, asker_in, entity_rule}
 use Rattle.cx_run.proofs.ClientKept.{whole-named}
 use Rattle.cx_run.proofs.DaemonNamed.{daemon-named}

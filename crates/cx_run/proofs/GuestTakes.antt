@@ -3,61 +3,61 @@
 use Rattle.std.proofs.Common.{◌≡◌, ℕ, ◌<◌, ◌≤◌, ◌==◌, Bool, true, false, List, [], ◌∷◌, ◌++◌, length, Option, Some, None, Result, Ok, Err, refl}
 use Rattle.std.specs.Prelude.{not, if◌then◌else◌}
 use Rattle.std.specs.List.{AllByRecursion, list_any}
-use Rattle.cx_authorize.specs.Daemon.{Authority, Awaited}
-use Rattle.cx_authorize.specs.Judging.{judged_first, judged_second}
-use Rattle.cx_authorize.specs.declared.refusals.AuthRefusal.{AuthRefusal}
-use Rattle.cx_authorize.specs.declared.refusals.AuthRefusal.TheVariants as refusal
-use Rattle.cx_control.specs.Auth.{auth_request_layout, auth_request_more_layout, auth_signature_layout}
-use Rattle.cx_control.specs.Hello.{hello_layout}
-use Rattle.cx_control.specs.Idents.{client_ident_layout, ident_missing_features_layout}
-use Rattle.cx_control.specs.Reconnects.{session_reconnect_layout}
-use Rattle.cx_control.specs.Upkeep.{keepalive2_layout, keepalive2_ack_layout}
-use Rattle.cx_control.specs.declared.auth.AuthRequest.{AuthRequest}
-use Rattle.cx_control.specs.declared.auth.AuthRequestMore.{AuthRequestMore}
-use Rattle.cx_control.specs.declared.auth.AuthSignature.{AuthSignature}
-use Rattle.cx_control.specs.declared.hello.Hello.{Hello}
-use Rattle.cx_control.specs.declared.idents.ClientIdent.{ClientIdent}
-use Rattle.cx_control.specs.declared.reconnects.SessionReconnect.{SessionReconnect}
-use Rattle.cx_desk.specs.Handlers.{Handlers}
-use Rattle.cx_dice.specs.Draws.{challenge_of, connection_of, cookie_of}
-use Rattle.cx_frame.specs.declared.frame.Frame.{Frame}
+use Rattle.cx_rules_session.specs.cx_authorize.specs.Daemon.{Authority, Awaited}
+use Rattle.cx_rules_session.specs.cx_authorize.specs.Judging.{judged_first, judged_second}
+use Rattle.cx_rules_session.specs.cx_authorize.specs.declared.refusals.AuthRefusal.{AuthRefusal}
+use Rattle.cx_rules_session.specs.cx_authorize.specs.declared.refusals.AuthRefusal.TheVariants as refusal
+use Rattle.cx_rules_session.specs.cx_control.specs.Auth.{auth_request_layout, auth_request_more_layout, auth_signature_layout}
+use Rattle.cx_rules_session.specs.cx_control.specs.Hello.{hello_layout}
+use Rattle.cx_rules_session.specs.cx_control.specs.Idents.{client_ident_layout, ident_missing_features_layout}
+use Rattle.cx_rules_session.specs.cx_control.specs.Reconnects.{session_reconnect_layout}
+use Rattle.cx_rules_session.specs.cx_control.specs.Upkeep.{keepalive2_layout, keepalive2_ack_layout}
+use Rattle.cx_rules_session.specs.cx_control.specs.declared.auth.AuthRequest.{AuthRequest}
+use Rattle.cx_rules_session.specs.cx_control.specs.declared.auth.AuthRequestMore.{AuthRequestMore}
+use Rattle.cx_rules_session.specs.cx_control.specs.declared.auth.AuthSignature.{AuthSignature}
+use Rattle.cx_rules_session.specs.cx_control.specs.declared.hello.Hello.{Hello}
+use Rattle.cx_rules_session.specs.cx_control.specs.declared.idents.ClientIdent.{ClientIdent}
+use Rattle.cx_rules_session.specs.cx_control.specs.declared.reconnects.SessionReconnect.{SessionReconnect}
+use Rattle.cx_rules_session.specs.cx_desk.specs.Handlers.{Handlers}
+use Rattle.cx_rules_session.specs.cx_dice.specs.Draws.{challenge_of, connection_of, cookie_of}
+use Rattle.cx_rules_session.specs.cx_frame.specs.declared.frame.Frame.{Frame}
 use Rattle.cx_base.specs.declared.kinds.EntityType.{EntityType}
-use Rattle.cx_control.specs.declared.upkeep.Keepalive2.{Keepalive2}
-use Rattle.cx_control.specs.declared.upkeep.Keepalive2Ack.{Keepalive2Ack}
-use Rattle.cx_journal.specs.declared.entries.Entry.{Entry}
-use Rattle.cx_journal.specs.declared.entries.Entry.TheVariants as entry
-use Rattle.cx_journal.specs.declared.faults.BytesFault.{BytesFault}
-use Rattle.cx_journal.specs.declared.faults.SessionFault.TheVariants as session
-use Rattle.cx_journal.specs.declared.faults.BytesFault.TheVariants.{Unexpected}
-use Rattle.cx_journal.specs.declared.faults.LoginFault.TheVariants.{Method, Mode, SignatureWrong}
-use Rattle.cx_journal.specs.declared.outcomes.Reason.{Reason}
-use Rattle.cx_journal.specs.declared.outcomes.Reason.TheVariants as reason
-use Rattle.cx_rules.specs.Acceptor.{AwaitsBanner, AwaitsHello, AwaitsRequest, AwaitsProof, AwaitsSignature, AwaitsIdent, Open, Finished as Done, denies, finished, missing_told, misses, on_auth_request, on_banner, on_hello, on_signature, server_ident}
-use Rattle.cx_rules.specs.Fronts.{ahead_of, banner_next, keys_behind, opened_parts, plain_next, sealed_ahead, secure_next, secure_read, taking}
-use Rattle.cx_rules.specs.Greetings.{own_hello}
-use Rattle.cx_rules.specs.Holdings.{Asker}
-use Rattle.cx_rules.specs.Links.{Link}
-use Rattle.cx_rules.specs.Messages.{acknowledgement, message_in, secure_frames}
-use Rattle.cx_rules.specs.MonitorRule.{session_reset}
-use Rattle.cx_rules.specs.Payloads.{control, due, payload}
-use Rattle.cx_rules.specs.Rows.{Turned, Waits, Refuses, Handles, at, goes_on, plain_sent, refuses, refuses_bytes, secure_sent, unless_refused, with_opened}
-use Rattle.cx_rules.specs.Secured.{Keys, SealedFrame, Secured, is_signed, plain_frame, secure_frame, signature_found, under}
-use Rattle.cx_rules.specs.Upkeep.{on_keepalive, on_keepalive_ack}
+use Rattle.cx_rules_session.specs.cx_control.specs.declared.upkeep.Keepalive2.{Keepalive2}
+use Rattle.cx_rules_session.specs.cx_control.specs.declared.upkeep.Keepalive2Ack.{Keepalive2Ack}
+use Rattle.cx_rules_session.specs.cx_journal.specs.declared.entries.Entry.{Entry}
+use Rattle.cx_rules_session.specs.cx_journal.specs.declared.entries.Entry.TheVariants as entry
+use Rattle.cx_rules_session.specs.cx_journal.specs.declared.faults.BytesFault.{BytesFault}
+use Rattle.cx_rules_session.specs.cx_journal.specs.declared.faults.SessionFault.TheVariants as session
+use Rattle.cx_rules_session.specs.cx_journal.specs.declared.faults.BytesFault.TheVariants.{Unexpected}
+use Rattle.cx_rules_session.specs.cx_journal.specs.declared.faults.LoginFault.TheVariants.{Method, Mode, SignatureWrong}
+use Rattle.cx_rules_session.specs.cx_journal.specs.declared.outcomes.Reason.{Reason}
+use Rattle.cx_rules_session.specs.cx_journal.specs.declared.outcomes.Reason.TheVariants as reason
+use Rattle.cx_rules_session.specs.cx_rules.specs.Acceptor.{AwaitsBanner, AwaitsHello, AwaitsRequest, AwaitsProof, AwaitsSignature, AwaitsIdent, Open, Finished as Done, denies, finished, missing_told, misses, on_auth_request, on_banner, on_hello, on_signature, server_ident}
+use Rattle.cx_rules_session.specs.cx_rules.specs.Fronts.{ahead_of, banner_next, keys_behind, opened_parts, plain_next, sealed_ahead, secure_next, secure_read, taking}
+use Rattle.cx_rules_session.specs.cx_rules.specs.Greetings.{own_hello}
+use Rattle.cx_rules_session.specs.cx_rules.specs.Holdings.{Asker}
+use Rattle.cx_rules_session.specs.cx_rules.specs.Links.{Link}
+use Rattle.cx_rules_session.specs.cx_rules.specs.Messages.{acknowledgement, message_in, secure_frames}
+use Rattle.cx_rules_session.specs.cx_rules.specs.MonitorRule.{session_reset}
+use Rattle.cx_rules_session.specs.cx_rules.specs.Payloads.{control, due, payload}
+use Rattle.cx_rules_session.specs.cx_rules.specs.Rows.{Turned, Waits, Refuses, Handles, at, goes_on, plain_sent, refuses, refuses_bytes, secure_sent, unless_refused, with_opened}
+use Rattle.cx_rules_session.specs.cx_rules.specs.Secured.{Keys, SealedFrame, Secured, is_signed, plain_frame, secure_frame, signature_found, under}
+use Rattle.cx_rules_session.specs.cx_rules.specs.Upkeep.{on_keepalive, on_keepalive_ack}
 use Rattle.cx_rules_session.specs.Asks.{Asks, Finished, Asking, asks_map, with_book}
 use Rattle.cx_rules_session.specs.Envelopes.{authorize_challenge_content, authorize_reply_content, session_sealed}
 use Rattle.cx_rules_session.specs.Guests.{GuestArrival, GuestRow, GuestStage, Served, authority_of, authorized_frame, challenges, done_sent, on_auth_request_more, on_first, on_second, sealed_challenge_frame, authorizes, turns_away, unless_turned_away}
 use Rattle.cx_rules_session.specs.Hosting.{Deciding, Hosted, Instruction, answer_message, asks_admission, comes_to, cookie_drawn, decided_by, guest_turned, hosted_behind, instruction_of, on_admission, on_checked, on_client_ident, on_ident, on_message, on_open, on_reconnect, on_resumption, on_taken, on_untaken, outcome_of, reconnect_ok, served_as, session_retry, session_retry_global, tells_why}
 use Rattle.cx_rules_session.specs.Lossy.{is_lossy, lossy_flags}
-use Rattle.cx_sealed.specs.declared.service_ticket.ServiceTicket.{ServiceTicket}
-use Rattle.cx_secure.specs.declared.refusals.SecureRefusal.{SecureRefusal}
-use Rattle.cx_session.specs.declared.call.BookFault.TheVariants as fault
-use Rattle.cx_session.specs.declared.call.BookReply.{BookReply}
-use Rattle.cx_session.specs.declared.call.BookReply.TheVariants as reply
-use Rattle.cx_steps.specs.declared.seals.DrawMark.TheVariants as draw
-use Rattle.cx_steps.specs.declared.seals.SealEntry.{SealEntry}
-use Rattle.cx_steps.specs.declared.seals.SealEntry.TheVariants.{Drawn}
-use Rattle.cx_stream.specs.SecureStreams.{secure_frame_at}
-use Rattle.cx_rules.proofs.Fitting.{Fits, secure-fits}
+use Rattle.cx_rules_session.specs.cx_sealed.specs.declared.service_ticket.ServiceTicket.{ServiceTicket}
+use Rattle.cx_rules_session.specs.cx_secure.specs.declared.refusals.SecureRefusal.{SecureRefusal}
+use Rattle.cx_rules_session.specs.cx_session.specs.declared.call.BookFault.TheVariants as fault
+use Rattle.cx_rules_session.specs.cx_session.specs.declared.call.BookReply.{BookReply}
+use Rattle.cx_rules_session.specs.cx_session.specs.declared.call.BookReply.TheVariants as reply
+use Rattle.cx_rules_session.specs.cx_steps.specs.declared.seals.DrawMark.TheVariants as draw
+use Rattle.cx_rules_session.specs.cx_steps.specs.declared.seals.SealEntry.{SealEntry}
+use Rattle.cx_rules_session.specs.cx_steps.specs.declared.seals.SealEntry.TheVariants.{Drawn}
+use Rattle.cx_rules_session.specs.cx_stream.specs.SecureStreams.{secure_frame_at}
+use Rattle.cx_rules_session.specs.cx_rules.proofs.Fitting.{Fits, secure-fits}
 use Rattle.cx_run.proofs.Taking.{EachRow, HasBytes, Keeps, TurnTakes, banner-takes, each-turned, plain-takes, secure-has, secure-takes, taking-takes}
 
 -- ---- whatever a book replies

@@ -1,7 +1,7 @@
 -- The nodes of a world are those to which its events lead.
 use Rattle.std.proofs.Common.{◌≡◌, List, [], ◌∷◌, ◌++◌, Option, Some, None, refl, ap}
 use Rattle.cx_lines.specs.declared.lines.Numbered.{Numbered}
-use Rattle.cx_rules.specs.Inputs.{Input}
+use Rattle.cx_rules_session.specs.cx_rules.specs.Inputs.{Input}
 use Rattle.cx_run.specs.Deliveries.{given}
 use Rattle.cx_run.specs.Happenings.{Happening, Nodes, nodes_behind, steps}
 use Rattle.cx_run.specs.Schedules.{after_lines}

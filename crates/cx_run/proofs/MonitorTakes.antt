@@ -2,48 +2,48 @@
 use Rattle.std.proofs.Common.{ℕ, ◌==◌, Bool, true, false, [], ◌∷◌, Option, Some, None, Result, Ok, Err, refl}
 use Rattle.std.specs.Prelude.{not, if◌then◌else◌}
 use Rattle.std.specs.List.{list_any}
-use Rattle.cx_control.specs.Auth.{auth_request_layout, auth_request_more_layout, auth_signature_layout}
-use Rattle.cx_control.specs.Hello.{hello_layout}
-use Rattle.cx_control.specs.Idents.{client_ident_layout}
-use Rattle.cx_control.specs.Reconnects.{session_reconnect_layout}
-use Rattle.cx_control.specs.declared.auth.AuthRequest.{AuthRequest}
-use Rattle.cx_control.specs.declared.auth.AuthRequestMore.{AuthRequestMore}
-use Rattle.cx_control.specs.declared.auth.AuthSignature.{AuthSignature}
-use Rattle.cx_control.specs.declared.hello.Hello.{Hello}
-use Rattle.cx_control.specs.declared.idents.ClientIdent.{ClientIdent}
-use Rattle.cx_control.specs.declared.reconnects.SessionReconnect.{SessionReconnect}
-use Rattle.cx_frame.specs.declared.frame.Frame.{Frame}
-use Rattle.cx_journal.specs.declared.faults.BytesFault.{BytesFault}
-use Rattle.cx_journal.specs.declared.faults.BytesFault.TheVariants.{Unexpected}
-use Rattle.cx_journal.specs.declared.faults.LoginFault.TheVariants.{Method, Mode, SignatureWrong}
-use Rattle.cx_journal.specs.declared.outcomes.Reason.TheVariants.{Login}
-use Rattle.cx_keyring.specs.declared.entries.Entry.{Entry as Principal}
-use Rattle.cx_login.specs.Monitor.{Proven}
-use Rattle.cx_login.specs.declared.refusals.WrongProof.{WrongProof}
-use Rattle.cx_wire.specs.declared.logins.Authenticate.{Authenticate}
-use Rattle.cx_wire.specs.declared.logins.LoginHello.{LoginHello}
-use Rattle.cx_rules.specs.Acceptor.{AwaitsBanner, AwaitsHello, AwaitsRequest, AwaitsProof, AwaitsSignature, AwaitsIdent, Open, Finished, denies, finished, misses, missing_told, on_auth_request, on_banner, on_hello, on_signature, server_ident}
-use Rattle.cx_rules.specs.Monitor.{MonitorArrival, MonitorStage, Offered}
-use Rattle.cx_rules.specs.MonitorLogin.{challenges, done_frame, hands_over, occasion, on_authenticate, on_login_hello, proves, row_by, with_server}
-use Rattle.cx_rules.specs.MonitorRule.{on_auth_request_more, on_client_ident, on_ident, on_request_payload, on_session_reconnect, turned_at}
-use Rattle.cx_rules.specs.Payloads.{due, payload}
-use Rattle.cx_rules.specs.Rows.{at, goes_on, refuses, refuses_bytes, sends_secure, with_opened}
-use Rattle.cx_rules.specs.Secured.{SealedFrame, Secured, is_signed, signature_found, under}
-use Rattle.cx_rules.specs.Verdicts.{Decided, rotates}
-use Rattle.cx_rules.specs.declared.verdicts.HandedOut.{HandedOut}
-use Rattle.cx_rules.specs.declared.verdicts.Verdict.{Verdict}
-use Rattle.cx_rules.specs.declared.verdicts.Verdict.TheVariants.{Denied, Granted}
-use Rattle.cx_cbc.specs.Envelope.{sealed}
+use Rattle.cx_rules_session.specs.cx_control.specs.Auth.{auth_request_layout, auth_request_more_layout, auth_signature_layout}
+use Rattle.cx_rules_session.specs.cx_control.specs.Hello.{hello_layout}
+use Rattle.cx_rules_session.specs.cx_control.specs.Idents.{client_ident_layout}
+use Rattle.cx_rules_session.specs.cx_control.specs.Reconnects.{session_reconnect_layout}
+use Rattle.cx_rules_session.specs.cx_control.specs.declared.auth.AuthRequest.{AuthRequest}
+use Rattle.cx_rules_session.specs.cx_control.specs.declared.auth.AuthRequestMore.{AuthRequestMore}
+use Rattle.cx_rules_session.specs.cx_control.specs.declared.auth.AuthSignature.{AuthSignature}
+use Rattle.cx_rules_session.specs.cx_control.specs.declared.hello.Hello.{Hello}
+use Rattle.cx_rules_session.specs.cx_control.specs.declared.idents.ClientIdent.{ClientIdent}
+use Rattle.cx_rules_session.specs.cx_control.specs.declared.reconnects.SessionReconnect.{SessionReconnect}
+use Rattle.cx_rules_session.specs.cx_frame.specs.declared.frame.Frame.{Frame}
+use Rattle.cx_rules_session.specs.cx_journal.specs.declared.faults.BytesFault.{BytesFault}
+use Rattle.cx_rules_session.specs.cx_journal.specs.declared.faults.BytesFault.TheVariants.{Unexpected}
+use Rattle.cx_rules_session.specs.cx_journal.specs.declared.faults.LoginFault.TheVariants.{Method, Mode, SignatureWrong}
+use Rattle.cx_rules_session.specs.cx_journal.specs.declared.outcomes.Reason.TheVariants.{Login}
+use Rattle.cx_rules_session.specs.cx_keyring.specs.declared.entries.Entry.{Entry as Principal}
+use Rattle.cx_rules_session.specs.cx_login.specs.Monitor.{Proven}
+use Rattle.cx_rules_session.specs.cx_login.specs.declared.refusals.WrongProof.{WrongProof}
+use Rattle.cx_rules_session.specs.cx_wire.specs.declared.logins.Authenticate.{Authenticate}
+use Rattle.cx_rules_session.specs.cx_wire.specs.declared.logins.LoginHello.{LoginHello}
+use Rattle.cx_rules_session.specs.cx_rules.specs.Acceptor.{AwaitsBanner, AwaitsHello, AwaitsRequest, AwaitsProof, AwaitsSignature, AwaitsIdent, Open, Finished, denies, finished, misses, missing_told, on_auth_request, on_banner, on_hello, on_signature, server_ident}
+use Rattle.cx_rules_session.specs.cx_rules.specs.Monitor.{MonitorArrival, MonitorStage, Offered}
+use Rattle.cx_rules_session.specs.cx_rules.specs.MonitorLogin.{challenges, done_frame, hands_over, occasion, on_authenticate, on_login_hello, proves, row_by, with_server}
+use Rattle.cx_rules_session.specs.cx_rules.specs.MonitorRule.{on_auth_request_more, on_client_ident, on_ident, on_request_payload, on_session_reconnect, turned_at}
+use Rattle.cx_rules_session.specs.cx_rules.specs.Payloads.{due, payload}
+use Rattle.cx_rules_session.specs.cx_rules.specs.Rows.{at, goes_on, refuses, refuses_bytes, sends_secure, with_opened}
+use Rattle.cx_rules_session.specs.cx_rules.specs.Secured.{SealedFrame, Secured, is_signed, signature_found, under}
+use Rattle.cx_rules_session.specs.cx_rules.specs.Verdicts.{Decided, rotates}
+use Rattle.cx_rules_session.specs.cx_rules.specs.declared.verdicts.HandedOut.{HandedOut}
+use Rattle.cx_rules_session.specs.cx_rules.specs.declared.verdicts.Verdict.{Verdict}
+use Rattle.cx_rules_session.specs.cx_rules.specs.declared.verdicts.Verdict.TheVariants.{Denied, Granted}
+use Rattle.cx_rules_session.specs.cx_cbc.specs.Envelope.{sealed}
 use Rattle.cx_run.proofs.Taking.{Keeps, TurnTakes, banner-takes, plain-takes, plain_sent-keeps, secure-takes, secure_sent-keeps, upkeep-keeps}
 use Rattle.cx_base.specs.declared.kinds.EntityType.TheVariants.{Mon}
-use Rattle.cx_rules.specs.declared.responses.Bearer.{Bearer}
-use Rattle.cx_rules.specs.MonitorRequests.{heard, on_demand, on_message, on_open, responds, sends_reply, request_occasion, serving}
-use Rattle.cx_rules.specs.declared.responses.Demand.{Demand}
-use Rattle.cx_rules.specs.declared.responses.ReplyMade.{ReplyMade}
-use Rattle.cx_rules.specs.declared.responses.Response.{Response}
-use Rattle.cx_rules.specs.declared.responses.Response.TheVariants as response
-use Rattle.cx_journal.specs.declared.outcomes.Reason.{Reason}
-use Rattle.cx_rules.specs.Replies.{Responded, answers}
+use Rattle.cx_rules_session.specs.cx_rules.specs.declared.responses.Bearer.{Bearer}
+use Rattle.cx_rules_session.specs.cx_rules.specs.MonitorRequests.{heard, on_demand, on_message, on_open, responds, sends_reply, request_occasion, serving}
+use Rattle.cx_rules_session.specs.cx_rules.specs.declared.responses.Demand.{Demand}
+use Rattle.cx_rules_session.specs.cx_rules.specs.declared.responses.ReplyMade.{ReplyMade}
+use Rattle.cx_rules_session.specs.cx_rules.specs.declared.responses.Response.{Response}
+use Rattle.cx_rules_session.specs.cx_rules.specs.declared.responses.Response.TheVariants as response
+use Rattle.cx_rules_session.specs.cx_journal.specs.declared.outcomes.Reason.{Reason}
+use Rattle.cx_rules_session.specs.cx_rules.specs.Replies.{Responded, answers}
 
 -- ---- HELLO, AUTH_REQUEST
 

@@ -4,26 +4,26 @@ use Rattle.std.specs.List.{list_any}
 use Rattle.std.specs.Prelude.{find, if◌then◌else◌}
 use Rattle.cx_base.specs.Names.{Name}
 use Rattle.cx_base.specs.declared.operations.Operation.{Operation}
-use Rattle.cx_journal.specs.declared.outcomes.Reason.{Reason}
-use Rattle.cx_journal.specs.declared.outcomes.Reason.TheVariants as reason
-use Rattle.cx_login.specs.Held.{Held}
-use Rattle.cx_rules.specs.Connector as connector
-use Rattle.cx_rules.specs.Inputs.{Input, Opened, NoLink, Bytes, Turn, Gone, Look, Tick, Submit, Restart}
-use Rattle.cx_rules.specs.Links.{Link, link_of}
-use Rattle.cx_rules.specs.Requests.{Requests, asks_tickets, first_open}
-use Rattle.cx_rules.specs.Rows.{Arrival, Outcome, arrival, carried_out, fed, idles, lifted, turns}
-use Rattle.cx_rules.specs.Secured.{Secured}
+use Rattle.cx_rules_session.specs.cx_journal.specs.declared.outcomes.Reason.{Reason}
+use Rattle.cx_rules_session.specs.cx_journal.specs.declared.outcomes.Reason.TheVariants as reason
+use Rattle.cx_rules_session.specs.cx_login.specs.Held.{Held}
+use Rattle.cx_rules_session.specs.cx_rules.specs.Connector as connector
+use Rattle.cx_rules_session.specs.cx_rules.specs.Inputs.{Input, Opened, NoLink, Bytes, Turn, Gone, Look, Tick, Submit, Restart}
+use Rattle.cx_rules_session.specs.cx_rules.specs.Links.{Link, link_of}
+use Rattle.cx_rules_session.specs.cx_rules.specs.Requests.{Requests, asks_tickets, first_open}
+use Rattle.cx_rules_session.specs.cx_rules.specs.Rows.{Arrival, Outcome, arrival, carried_out, fed, idles, lifted, turns}
+use Rattle.cx_rules_session.specs.cx_rules.specs.Secured.{Secured}
 use Rattle.cx_rules_session.specs.ClientRule.{ClientStage, ToMonitor, ToDaemon, Dial, WholeClient, WholeClientNode, asking_open, caller_to, calls, calls_with, connects, dial_of, first_call, having_session, is_to, logs_in, loses, me, open_to_ask, opens, opens_dialled, pushes, queue_reason, refuses_command, renews, renews_on, restarted, sends, sends_in, sends_on, sent_entry, submits, turn, turned_at, unreached, whole_client_rule, with_asker, with_caller}
 use Rattle.cx_rules_session.specs.Kinds.{arrival_in, turn_of_kind}
 use Rattle.cx_rules_session.specs.Presenter as call
 use Rattle.cx_rules_session.specs.Presenter.{CallStage, callee_of}
 use Rattle.cx_rules_session.specs.Sessions.{Callee, HeldSession, held_gid, session_with, ticket_for}
-use Rattle.cx_session.specs.Queue.{pushed, push_reply}
-use Rattle.cx_session.specs.declared.outbox.QueueFault.{QueueFault}
-use Rattle.cx_session.specs.declared.outbox.QueueFault.TheVariants as queue
-use Rattle.cx_steps.specs.declared.events.Command.{Command}
-use Rattle.cx_steps.specs.declared.events.Command.TheVariants as command
-use Rattle.cx_steps.specs.declared.events.Peer.{Peer}
+use Rattle.cx_rules_session.specs.cx_session.specs.Queue.{pushed, push_reply}
+use Rattle.cx_rules_session.specs.cx_session.specs.declared.outbox.QueueFault.{QueueFault}
+use Rattle.cx_rules_session.specs.cx_session.specs.declared.outbox.QueueFault.TheVariants as queue
+use Rattle.cx_rules_session.specs.cx_steps.specs.declared.events.Command.{Command}
+use Rattle.cx_rules_session.specs.cx_steps.specs.declared.events.Command.TheVariants as command
+use Rattle.cx_rules_session.specs.cx_steps.specs.declared.events.Peer.{Peer}
 
 -- it says nothing of a ticket that is refused
 abbrev pub IsNoTicket : Reason → Type 0

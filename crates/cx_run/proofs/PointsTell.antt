@@ -3,13 +3,13 @@ use Rattle.std.proofs.Common.{◌≡◌, ◌⊎◌, ℕ, List, [], ◌∷◌, �
 use Rattle.std.specs.Prelude.{Contains}
 use Rattle.std.proofs.lemmas.List.Elements.{Contains-append_cases, Contains-push_cases}
 use Rattle.cx_base.specs.declared.nodes.NodeName.{NodeName}
-use Rattle.cx_journal.specs.declared.entries.Entry.{Entry}
-use Rattle.cx_journal.specs.declared.entries.Entry.TheVariants as entry
+use Rattle.cx_rules_session.specs.cx_journal.specs.declared.entries.Entry.{Entry}
+use Rattle.cx_rules_session.specs.cx_journal.specs.declared.entries.Entry.TheVariants as entry
 use Rattle.cx_run.specs.Happenings.{Entered, Happening, Nodes, Stepped, entered_by, journal_from, logged_by, seals_from, steps}
 use Rattle.cx_run.specs.Opening.{Leak, Setup, leaks_entered, nodes_of, secrets_drawn}
 use Rattle.cx_run.specs.Points.{Before, EachPoint, IsOfEvent, Point, Since, WasEntered, entered_until, entries_at, journal_since, log_since, logged_until, onto, points, points_onto, stepped_at}
-use Rattle.cx_steps.specs.Onto.{SomeOf}
-use Rattle.cx_steps.specs.declared.seals.Logged.{Logged}
+use Rattle.cx_rules_session.specs.cx_steps.specs.Onto.{SomeOf}
+use Rattle.cx_rules_session.specs.cx_steps.specs.declared.seals.Logged.{Logged}
 
 -- ---- the journal
 

@@ -2,36 +2,36 @@
 use Rattle.std.proofs.Common.{◌≡◌, ℕ, ◌+◌, ◌<◌, ◌≤◌, ◌==◌, Bool, true, false, List, [], length, take, drop, Option, Some, None, Result, Ok, Err, refl, ap, arith, length-drop}
 use Rattle.std.specs.Option.{option_map}
 use Rattle.std.specs.Prelude.{◌-◌, ◌%◌, ◌||◌, IfSome, nat_lt, if◌then◌else◌}
-use Rattle.cx_control.specs.Upkeep.{keepalive2_layout, keepalive2_ack_layout}
-use Rattle.cx_control.specs.declared.upkeep.Keepalive2.{Keepalive2}
-use Rattle.cx_control.specs.declared.upkeep.Keepalive2Ack.{Keepalive2Ack}
-use Rattle.cx_frame.specs.Banners.{bad_place, banner_at, behind_word, by_features, number64, sized}
-use Rattle.cx_frame.specs.Frames.{rest_at, rest_len}
-use Rattle.cx_frame.specs.Preambles.{number16, preamble_at}
-use Rattle.cx_frame.specs.declared.banner.Banner.{Banner}
-use Rattle.cx_frame.specs.declared.frame.Frame.{Frame}
-use Rattle.cx_frame.specs.declared.preamble.Preamble.{Preamble}
-use Rattle.cx_frame.specs.declared.refusals.BannerRefusal.{BannerRefusal}
-use Rattle.cx_frame.specs.declared.refusals.BannerRefusal.TheVariants.{BadBanner, Features}
-use Rattle.cx_frame.specs.declared.refusals.FrameRefusal.{FrameRefusal}
-use Rattle.cx_journal.specs.declared.faults.BytesFault.{BytesFault}
-use Rattle.cx_secure.specs.Opening.{head_step, rest_step}
-use Rattle.cx_secure.specs.Plains as secure
-use Rattle.cx_secure.specs.declared.refusals.SecureRefusal.{SecureRefusal}
-use Rattle.cx_secure.specs.declared.sealing.Head.{Head}
-use Rattle.cx_steps.specs.declared.seals.SealEntry.{SealEntry}
-use Rattle.cx_stream.specs.Fronts.{with_length}
-use Rattle.cx_stream.specs.PlainStreams.{behind_preamble, plain_frame_at}
-use Rattle.cx_stream.specs.SecureStreams.{Ahead, behind_head, secure_frame_at}
-use Rattle.cx_rules.specs.Fronts.{Front, NotYet, Broken, Next, ahead_of, banner_next, banner_read, keys_behind, opened_parts, plain_next, plain_read, sealed_ahead, secure_next, secure_read, taking}
-use Rattle.cx_rules.specs.Links.{Link}
-use Rattle.cx_rules.specs.Payloads.{payload}
-use Rattle.cx_rules.specs.Rows.{Arrival, Row, Turned, Waits, Refuses, Handles, plain_sent, secure_sent, turned_by}
-use Rattle.cx_rules.specs.Secured.{Keys, SealedFrame, Secured}
-use Rattle.cx_rules.specs.Upkeep.{on_keepalive, on_keepalive_ack}
-use Rattle.cx_rules.proofs.AlikeRows.{SameAhead}
-use Rattle.cx_rules.proofs.Fitting.{Fits, banner-fits, plain-fits, secure-fits}
-use Rattle.cx_rules.specs.Messages.{on_upkeep_or}
+use Rattle.cx_rules_session.specs.cx_control.specs.Upkeep.{keepalive2_layout, keepalive2_ack_layout}
+use Rattle.cx_rules_session.specs.cx_control.specs.declared.upkeep.Keepalive2.{Keepalive2}
+use Rattle.cx_rules_session.specs.cx_control.specs.declared.upkeep.Keepalive2Ack.{Keepalive2Ack}
+use Rattle.cx_rules_session.specs.cx_frame.specs.Banners.{bad_place, banner_at, behind_word, by_features, number64, sized}
+use Rattle.cx_rules_session.specs.cx_frame.specs.Frames.{rest_at, rest_len}
+use Rattle.cx_rules_session.specs.cx_frame.specs.Preambles.{number16, preamble_at}
+use Rattle.cx_rules_session.specs.cx_frame.specs.declared.banner.Banner.{Banner}
+use Rattle.cx_rules_session.specs.cx_frame.specs.declared.frame.Frame.{Frame}
+use Rattle.cx_rules_session.specs.cx_frame.specs.declared.preamble.Preamble.{Preamble}
+use Rattle.cx_rules_session.specs.cx_frame.specs.declared.refusals.BannerRefusal.{BannerRefusal}
+use Rattle.cx_rules_session.specs.cx_frame.specs.declared.refusals.BannerRefusal.TheVariants.{BadBanner, Features}
+use Rattle.cx_rules_session.specs.cx_frame.specs.declared.refusals.FrameRefusal.{FrameRefusal}
+use Rattle.cx_rules_session.specs.cx_journal.specs.declared.faults.BytesFault.{BytesFault}
+use Rattle.cx_rules_session.specs.cx_secure.specs.Opening.{head_step, rest_step}
+use Rattle.cx_rules_session.specs.cx_secure.specs.Plains as secure
+use Rattle.cx_rules_session.specs.cx_secure.specs.declared.refusals.SecureRefusal.{SecureRefusal}
+use Rattle.cx_rules_session.specs.cx_secure.specs.declared.sealing.Head.{Head}
+use Rattle.cx_rules_session.specs.cx_steps.specs.declared.seals.SealEntry.{SealEntry}
+use Rattle.cx_rules_session.specs.cx_stream.specs.Fronts.{with_length}
+use Rattle.cx_rules_session.specs.cx_stream.specs.PlainStreams.{behind_preamble, plain_frame_at}
+use Rattle.cx_rules_session.specs.cx_stream.specs.SecureStreams.{Ahead, behind_head, secure_frame_at}
+use Rattle.cx_rules_session.specs.cx_rules.specs.Fronts.{Front, NotYet, Broken, Next, ahead_of, banner_next, banner_read, keys_behind, opened_parts, plain_next, plain_read, sealed_ahead, secure_next, secure_read, taking}
+use Rattle.cx_rules_session.specs.cx_rules.specs.Links.{Link}
+use Rattle.cx_rules_session.specs.cx_rules.specs.Payloads.{payload}
+use Rattle.cx_rules_session.specs.cx_rules.specs.Rows.{Arrival, Row, Turned, Waits, Refuses, Handles, plain_sent, secure_sent, turned_by}
+use Rattle.cx_rules_session.specs.cx_rules.specs.Secured.{Keys, SealedFrame, Secured}
+use Rattle.cx_rules_session.specs.cx_rules.specs.Upkeep.{on_keepalive, on_keepalive_ack}
+use Rattle.cx_rules_session.specs.cx_rules.proofs.AlikeRows.{SameAhead}
+use Rattle.cx_rules_session.specs.cx_rules.proofs.Fitting.{Fits, banner-fits, plain-fits, secure-fits}
+use Rattle.cx_rules_session.specs.cx_rules.specs.Messages.{on_upkeep_or}
 use Rattle.cx_rules_session.specs.Kinds.{in_stage, of_kind, turn_of_kind}
 
 -- ---- what is read has bytes

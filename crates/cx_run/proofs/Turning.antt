@@ -6,19 +6,19 @@ use Rattle.cx_base.proofs.Names.{same_name_is}
 use Rattle.cx_base.specs.Names.{Name}
 use Rattle.cx_base.specs.declared.nodes.NodeName.{NodeName}
 use Rattle.cx_base.specs.declared.nodes.NodeName.TheVariants as node
-use Rattle.cx_line_words.specs.declared.choices.LeftState.{LeftState}
-use Rattle.cx_line_words.specs.declared.choices.LeftState.TheVariants as left
-use Rattle.cx_line_words.specs.declared.choices.Side.{Side}
-use Rattle.cx_rotate.specs.declared.states.KeptState.{KeptState}
-use Rattle.cx_desk.specs.Handlers.{Handlers}
-use Rattle.cx_rules.specs.Connector as connector
-use Rattle.cx_rules.specs.Fronts.{ahead_of}
-use Rattle.cx_rules.specs.Inputs.{Input, Turn, Gone, Restart}
-use Rattle.cx_rules.specs.Links.{Link, link_of, put_link, without_link}
-use Rattle.cx_rules.specs.Monitor.{MonitorArrival, MonitorNode, MonitorStage}
-use Rattle.cx_rules.specs.MonitorRule.{monitor_rule, noted, turn, turned_at}
-use Rattle.cx_rules.specs.Rows.{Arrival, Node, Outcome, Turned, Waits, Refuses, Handles, arrival, links_behind}
-use Rattle.cx_rules.specs.Rows as rows
+use Rattle.cx_lines.specs.cx_line_words.specs.declared.choices.LeftState.{LeftState}
+use Rattle.cx_lines.specs.cx_line_words.specs.declared.choices.LeftState.TheVariants as left
+use Rattle.cx_lines.specs.cx_line_words.specs.declared.choices.Side.{Side}
+use Rattle.cx_rules_session.specs.cx_rotate.specs.declared.states.KeptState.{KeptState}
+use Rattle.cx_rules_session.specs.cx_desk.specs.Handlers.{Handlers}
+use Rattle.cx_rules_session.specs.cx_rules.specs.Connector as connector
+use Rattle.cx_rules_session.specs.cx_rules.specs.Fronts.{ahead_of}
+use Rattle.cx_rules_session.specs.cx_rules.specs.Inputs.{Input, Turn, Gone, Restart}
+use Rattle.cx_rules_session.specs.cx_rules.specs.Links.{Link, link_of, put_link, without_link}
+use Rattle.cx_rules_session.specs.cx_rules.specs.Monitor.{MonitorArrival, MonitorNode, MonitorStage}
+use Rattle.cx_rules_session.specs.cx_rules.specs.MonitorRule.{monitor_rule, noted, turn, turned_at}
+use Rattle.cx_rules_session.specs.cx_rules.specs.Rows.{Arrival, Node, Outcome, Turned, Waits, Refuses, Handles, arrival, links_behind}
+use Rattle.cx_rules_session.specs.cx_rules.specs.Rows as rows
 use Rattle.cx_rules_session.specs.Asks.{with_book}
 use Rattle.cx_rules_session.specs.ClientRule as client
 use Rattle.cx_rules_session.specs.ClientRule.{ClientStage, WholeClient, WholeClientNode}
@@ -27,8 +27,8 @@ use Rattle.cx_rules_session.specs.DaemonRule.{AsAcceptor, AsConnector, Daemon, D
 use Rattle.cx_rules_session.specs.Guests.{GuestStage}
 use Rattle.cx_rules_session.specs.Hosting.{Deciding, Hosted, guest_turned}
 use Rattle.cx_rules_session.specs.Kinds.{arrival_in, turn_of_kind}
-use Rattle.cx_rules.specs.Holdings.{Asker}
-use Rattle.cx_steps.specs.declared.events.Peer.{Peer}
+use Rattle.cx_rules_session.specs.cx_rules.specs.Holdings.{Asker}
+use Rattle.cx_rules_session.specs.cx_steps.specs.declared.events.Peer.{Peer}
 use Rattle.cx_run.specs.Deliveries.{Given, came_at, came_on, came_to, far_side, followed, given, gives, open_all, restarts, tells, tells_gone, turns, vanish}
 use Rattle.cx_run.specs.Happenings.{EntityNode, OfClient, OfDaemon, Happening, Nodes, Stepped, entity_of, entity_rule, entity_steps, is_of, monitor_steps, steps, steps_of}
 use Rattle.cx_run.specs.Turning.{untaken_at, untaken_on, untaken_to}

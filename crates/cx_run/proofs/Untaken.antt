@@ -1,14 +1,14 @@
 -- Of what a machine holds of its links as much is left to be taken as of those for which they stand.
 use Rattle.std.proofs.Common.{◌≡◌, ℕ, Option, Some, None, refl, ap, ◌∙◌}
 use Rattle.std.specs.Option.{option_map}
-use Rattle.cx_rules.specs.Abridged.{MonitorStandsFor, abridged_link}
-use Rattle.cx_rules.specs.Acceptor.{AwaitsBanner, AwaitsHello, AwaitsRequest, AwaitsProof, AwaitsSignature, AwaitsIdent, Open}
-use Rattle.cx_rules.specs.Connector as connector
-use Rattle.cx_rules.specs.Fronts.{ahead_of}
-use Rattle.cx_rules.specs.Links.{Link, link_of}
-use Rattle.cx_rules.specs.Monitor.{MonitorNode, MonitorStage}
-use Rattle.cx_rules.proofs.AcceptorForgets.{acceptor_link_of}
-use Rattle.cx_rules.proofs.Abridging.{link_of_map}
+use Rattle.cx_rules_session.specs.cx_rules.specs.Abridged.{MonitorStandsFor, abridged_link}
+use Rattle.cx_rules_session.specs.cx_rules.specs.Acceptor.{AwaitsBanner, AwaitsHello, AwaitsRequest, AwaitsProof, AwaitsSignature, AwaitsIdent, Open}
+use Rattle.cx_rules_session.specs.cx_rules.specs.Connector as connector
+use Rattle.cx_rules_session.specs.cx_rules.specs.Fronts.{ahead_of}
+use Rattle.cx_rules_session.specs.cx_rules.specs.Links.{Link, link_of}
+use Rattle.cx_rules_session.specs.cx_rules.specs.Monitor.{MonitorNode, MonitorStage}
+use Rattle.cx_rules_session.specs.cx_rules.proofs.AcceptorForgets.{acceptor_link_of}
+use Rattle.cx_rules_session.specs.cx_rules.proofs.Abridging.{link_of_map}
 use Rattle.cx_rules_session.proofs.DaemonForgets.{daemon-forgets-links}
 use Rattle.cx_rules_session.proofs.WholeClientForgets.{client-forgets-links}
 use Rattle.cx_rules_session.specs.ClientRule.{ClientStage, ToMonitor, ToDaemon, WholeClientNode}

@@ -1,8 +1,8 @@
 -- No view is told by hand in the run of a schedule.
 use Rattle.std.proofs.Common.{◌≡◌, List, Option, Some, None, sym, subst}
-use Rattle.cx_desk.specs.Handlers.{Handlers}
+use Rattle.cx_rules_session.specs.cx_desk.specs.Handlers.{Handlers}
 use Rattle.cx_lines.specs.declared.lines.Numbered.{Numbered}
-use Rattle.cx_rules.specs.Inputs.{Input}
+use Rattle.cx_rules_session.specs.cx_rules.specs.Inputs.{Input}
 use Rattle.cx_run.specs.Deliveries.{given}
 use Rattle.cx_run.specs.Happenings.{Happening}
 use Rattle.cx_run.specs.Opening.{opening_world}

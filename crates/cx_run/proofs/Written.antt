@@ -5,10 +5,10 @@ use Rattle.std.proofs.lemmas.Bool.{leb-true}
 use Rattle.cx_base.specs.Names.{Name}
 use Rattle.cx_base.specs.Texts.{is_part}
 use Rattle.cx_base.specs.declared.operations.Operation.{Operation}
-use Rattle.cx_desk.specs.Handlers.{Handlers}
-use Rattle.cx_enc.specs.FieldLaws.{both_true}
-use Rattle.cx_line_words.specs.Values.{SpellsItems, is_fit}
-use Rattle.cx_line_words.specs.declared.known.Known.{Known}
+use Rattle.cx_rules_session.specs.cx_desk.specs.Handlers.{Handlers}
+use Rattle.cx_rules_session.specs.cx_enc.specs.FieldLaws.{both_true}
+use Rattle.cx_lines.specs.cx_line_words.specs.Values.{SpellsItems, is_fit}
+use Rattle.cx_lines.specs.cx_line_words.specs.declared.known.Known.{Known}
 use Rattle.cx_lines.specs.Commands.{command_items}
 use Rattle.cx_lines.specs.Lines.{Spells, items}
 use Rattle.cx_lines.specs.declared.commands.LineCommand.{LineCommand}
@@ -16,9 +16,9 @@ use Rattle.cx_lines.specs.declared.commands.LineCommand.TheVariants as command
 use Rattle.cx_lines.specs.declared.lines.Line.{Line}
 use Rattle.cx_lines.specs.declared.lines.Line.TheVariants as line
 use Rattle.cx_lines.specs.declared.lines.Numbered.{Numbered}
-use Rattle.cx_rules.specs.Inputs.{Input, Opened, NoLink, Bytes, Turn, Gone, Look, Restart, Tick, Submit}
-use Rattle.cx_steps.specs.declared.events.Command.TheVariants as told
-use Rattle.cx_wire.specs.Operations.{IsWritable}
+use Rattle.cx_rules_session.specs.cx_rules.specs.Inputs.{Input, Opened, NoLink, Bytes, Turn, Gone, Look, Restart, Tick, Submit}
+use Rattle.cx_rules_session.specs.cx_steps.specs.declared.events.Command.TheVariants as told
+use Rattle.cx_rules_session.specs.cx_wire.specs.Operations.{IsWritable}
 use Rattle.cx_run.specs.Deliveries.{given}
 use Rattle.cx_run.specs.Happenings.{Happening}
 use Rattle.cx_run.specs.Opening.{opening_world}

@@ -1,11 +1,11 @@
 -- What a client is told to do about daemons, and to whom its links lead.
 use Rattle.std.specs.Prelude.{◌≡◌}
 use Rattle.std.specs.List.{AllByRecursion}
-use Rattle.cx_rules.specs.Inputs.{Input, Submit}
-use Rattle.cx_steps.specs.declared.effects.Effects.{Effects}
-use Rattle.cx_steps.specs.declared.events.Command.TheVariants as command
-use Rattle.cx_steps.specs.declared.events.Peer.{Peer}
-use Rattle.cx_steps.specs.declared.events.Peer.TheVariants as peer
+use Rattle.cx_rules_session.specs.cx_rules.specs.Inputs.{Input, Submit}
+use Rattle.cx_rules_session.specs.cx_steps.specs.declared.effects.Effects.{Effects}
+use Rattle.cx_rules_session.specs.cx_steps.specs.declared.events.Command.TheVariants as command
+use Rattle.cx_rules_session.specs.cx_steps.specs.declared.events.Peer.{Peer}
+use Rattle.cx_rules_session.specs.cx_steps.specs.declared.events.Peer.TheVariants as peer
 
 -- no link to a daemon is asked for
 abbrev pub IsNoCall : Input → Type 0

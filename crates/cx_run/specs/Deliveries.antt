@@ -2,13 +2,13 @@
 use Rattle.std.specs.Prelude.{ℕ, ◌==◌, Bool, false, List, [], ◌∷◌, ◌++◌, drop, filter, length, replicate, take, Option, Some, None, if◌then◌else◌}
 use Rattle.cx_base.specs.declared.nodes.NodeName.{NodeName}
 use Rattle.cx_base.specs.declared.nodes.NodeName.TheVariants as node
-use Rattle.cx_line_words.specs.declared.choices.Side.{Side}
-use Rattle.cx_line_words.specs.declared.choices.Side.TheVariants.{Connector, Acceptor}
-use Rattle.cx_rules.specs.Inputs.{Input, Opened, Bytes, Turn, Gone, Restart}
-use Rattle.cx_rules.specs.Links.{Link, link_of}
-use Rattle.cx_steps.specs.Nothing.{nothing}
-use Rattle.cx_steps.specs.declared.effects.Effects.{Effects}
-use Rattle.cx_steps.specs.declared.events.Peer.{Peer}
+use Rattle.cx_lines.specs.cx_line_words.specs.declared.choices.Side.{Side}
+use Rattle.cx_lines.specs.cx_line_words.specs.declared.choices.Side.TheVariants.{Connector, Acceptor}
+use Rattle.cx_rules_session.specs.cx_rules.specs.Inputs.{Input, Opened, Bytes, Turn, Gone, Restart}
+use Rattle.cx_rules_session.specs.cx_rules.specs.Links.{Link, link_of}
+use Rattle.cx_rules_session.specs.cx_steps.specs.Nothing.{nothing}
+use Rattle.cx_rules_session.specs.cx_steps.specs.declared.effects.Effects.{Effects}
+use Rattle.cx_rules_session.specs.cx_steps.specs.declared.events.Peer.{Peer}
 use Rattle.cx_run.specs.Happenings.{EntityNode, OfClient, OfDaemon, Nodes, entity_of, steps}
 use Rattle.cx_run.specs.Wires.{Wire, end_of, ended, gone_at, has_end, node_at, other, owes_gone, pieces_from, same_node, wire_of, with_pieces, with_wire}
 use Rattle.cx_run.specs.Worlds.{Post, World, carried, happened, happening, opened_wires, post_of}

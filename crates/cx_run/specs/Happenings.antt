@@ -1,25 +1,25 @@
 -- What happens to the nodes of a run, one event of one node at a time, and what comes of it by the rules.
 use Rattle.std.specs.Prelude.{ℕ, Bool, true, false, List, [], ◌∷◌, ◌++◌, map, filter, find, Option, Some, None, if◌then◌else◌}
 use Rattle.cx_base.specs.Names.{Name, same_name}
-use Rattle.cx_journal.specs.declared.entries.Entry.{Entry}
+use Rattle.cx_rules_session.specs.cx_journal.specs.declared.entries.Entry.{Entry}
 use Rattle.cx_base.specs.declared.nodes.NodeName.{NodeName}
 use Rattle.cx_base.specs.declared.nodes.NodeName.TheVariants as node
-use Rattle.cx_line_words.specs.declared.choices.LeftState.{LeftState}
-use Rattle.cx_line_words.specs.declared.choices.LeftState.TheVariants as left
-use Rattle.cx_rotate.specs.declared.states.KeptState.{KeptState}
-use Rattle.cx_desk.specs.Handlers.{Handlers}
-use Rattle.cx_rules.specs.Holdings.{Asker}
-use Rattle.cx_rules.specs.Inputs.{Input}
-use Rattle.cx_rules.specs.Monitor.{MonitorNode}
-use Rattle.cx_rules.specs.MonitorRule.{monitor_rule, unsaved}
-use Rattle.cx_rules.specs.Rows.{Outcome}
+use Rattle.cx_lines.specs.cx_line_words.specs.declared.choices.LeftState.{LeftState}
+use Rattle.cx_lines.specs.cx_line_words.specs.declared.choices.LeftState.TheVariants as left
+use Rattle.cx_rules_session.specs.cx_rotate.specs.declared.states.KeptState.{KeptState}
+use Rattle.cx_rules_session.specs.cx_desk.specs.Handlers.{Handlers}
+use Rattle.cx_rules_session.specs.cx_rules.specs.Holdings.{Asker}
+use Rattle.cx_rules_session.specs.cx_rules.specs.Inputs.{Input}
+use Rattle.cx_rules_session.specs.cx_rules.specs.Monitor.{MonitorNode}
+use Rattle.cx_rules_session.specs.cx_rules.specs.MonitorRule.{monitor_rule, unsaved}
+use Rattle.cx_rules_session.specs.cx_rules.specs.Rows.{Outcome}
 use Rattle.cx_rules_session.specs.ClientRule.{WholeClientNode, whole_client_rule}
 use Rattle.cx_rules_session.specs.DaemonRule.{DaemonState, daemon_step}
-use Rattle.cx_steps.specs.Nothing.{nothing}
-use Rattle.cx_steps.specs.declared.effects.Effects.{Effects}
-use Rattle.cx_steps.specs.declared.seals.Logged.{Logged}
-use Rattle.cx_steps.specs.declared.seals.SealEntry.{SealEntry}
-use Rattle.cx_steps.specs.declared.seals.SealEntry.TheVariants as seal
+use Rattle.cx_rules_session.specs.cx_steps.specs.Nothing.{nothing}
+use Rattle.cx_rules_session.specs.cx_steps.specs.declared.effects.Effects.{Effects}
+use Rattle.cx_rules_session.specs.cx_steps.specs.declared.seals.Logged.{Logged}
+use Rattle.cx_rules_session.specs.cx_steps.specs.declared.seals.SealEntry.{SealEntry}
+use Rattle.cx_rules_session.specs.cx_steps.specs.declared.seals.SealEntry.TheVariants as seal
 
 -- one event: what comes to a node, at this reading of its clock, with this draw, by this line of the schedule; and which state a save of it
 -- leaves, where a save is to fail

@@ -2,30 +2,30 @@
 use Rattle.std.specs.Prelude.{ℕ, ◌+◌, ◌*◌, ◌^◌, suc, true, false, List, [], ◌∷◌, ◌++◌, length, map, take, Option, Some, None, unwrap_or, if◌then◌else◌}
 use Rattle.cx_base.specs.Names.{Name, is_daemon_type, same_name}
 use Rattle.cx_base.specs.declared.addresses.Addr.{Addr}
-use Rattle.cx_desk.specs.Handlers.{Handlers}
-use Rattle.cx_dice.specs.Rolls.{seed_draw}
-use Rattle.cx_journal.specs.declared.entries.Entry.TheVariants as entry
+use Rattle.cx_rules_session.specs.cx_desk.specs.Handlers.{Handlers}
+use Rattle.cx_rules_session.specs.cx_dice.specs.Rolls.{seed_draw}
+use Rattle.cx_rules_session.specs.cx_journal.specs.declared.entries.Entry.TheVariants as entry
 use Rattle.cx_base.specs.declared.nodes.NodeName.TheVariants as node
-use Rattle.cx_keyring.specs.declared.entries.Entry.{Entry as Principal}
+use Rattle.cx_rules_session.specs.cx_keyring.specs.declared.entries.Entry.{Entry as Principal}
 use Rattle.cx_base.specs.declared.grants.Grant.{Grant}
 use Rattle.cx_lines.specs.declared.lines.Line.{Line}
 use Rattle.cx_lines.specs.declared.lines.Line.TheVariants as line
 use Rattle.cx_lines.specs.declared.lines.Numbered.{Numbered}
 use Rattle.cx_lines.specs.declared.settings.Setting.{Setting}
 use Rattle.cx_lines.specs.declared.settings.Setting.TheVariants as setting
-use Rattle.cx_line_words.specs.declared.choices.Modes.{Modes}
-use Rattle.cx_line_words.specs.declared.choices.Modes.TheVariants.{Crc, Secure, Both}
+use Rattle.cx_lines.specs.cx_line_words.specs.declared.choices.Modes.{Modes}
+use Rattle.cx_lines.specs.cx_line_words.specs.declared.choices.Modes.TheVariants.{Crc, Secure, Both}
 use Rattle.cx_base.specs.declared.nodes.NodeName.{NodeName}
-use Rattle.cx_rotate.specs.declared.states.KeptState.{KeptState}
+use Rattle.cx_rules_session.specs.cx_rotate.specs.declared.states.KeptState.{KeptState}
 use Rattle.cx_rules_session.specs.ClientRule.{opening_whole_client}
-use Rattle.cx_rules.specs.Holdings.{Asker, holds_nothing, modes_of, no_view}
-use Rattle.cx_rules.specs.Monitor.{MonitorNode}
-use Rattle.cx_rules.specs.MonitorRule.{opening_monitor}
+use Rattle.cx_rules_session.specs.cx_rules.specs.Holdings.{Asker, holds_nothing, modes_of, no_view}
+use Rattle.cx_rules_session.specs.cx_rules.specs.Monitor.{MonitorNode}
+use Rattle.cx_rules_session.specs.cx_rules.specs.MonitorRule.{opening_monitor}
 use Rattle.cx_rules_session.specs.DaemonRule.{DaemonState, opening_daemon}
-use Rattle.cx_session.specs.Book.{empty_book}
-use Rattle.cx_steps.specs.declared.seals.DrawMark.TheVariants as draw
-use Rattle.cx_steps.specs.declared.seals.Logged.{Logged}
-use Rattle.cx_steps.specs.declared.seals.SealEntry.TheVariants as seal
+use Rattle.cx_rules_session.specs.cx_session.specs.Book.{empty_book}
+use Rattle.cx_rules_session.specs.cx_steps.specs.declared.seals.DrawMark.TheVariants as draw
+use Rattle.cx_rules_session.specs.cx_steps.specs.declared.seals.Logged.{Logged}
+use Rattle.cx_rules_session.specs.cx_steps.specs.declared.seals.SealEntry.TheVariants as seal
 use Rattle.cx_run.specs.Happenings.{Entered, EntityNode, OfClient, OfDaemon, Nodes}
 use Rattle.cx_run.specs.Worlds.{Post, World}
 

@@ -2,14 +2,14 @@
 -- "on that link" and "at that event" can be said.
 use Rattle.std.specs.Prelude.{ℕ, ◌≡◌, ◌==◌, ◌&&◌, ◌⊎◌, Bool, false, List, [], ◌∷◌, ◌++◌, map, Contains}
 use Rattle.cx_base.specs.declared.nodes.NodeName.{NodeName}
-use Rattle.cx_journal.specs.declared.entries.Entry.{Entry}
-use Rattle.cx_journal.specs.declared.entries.Entry.TheVariants as entry
-use Rattle.cx_rules.specs.Inputs.{Input, Opened, NoLink, Bytes, Turn, Gone, Look, Tick, Submit, Restart}
+use Rattle.cx_rules_session.specs.cx_journal.specs.declared.entries.Entry.{Entry}
+use Rattle.cx_rules_session.specs.cx_journal.specs.declared.entries.Entry.TheVariants as entry
+use Rattle.cx_rules_session.specs.cx_rules.specs.Inputs.{Input, Opened, NoLink, Bytes, Turn, Gone, Look, Tick, Submit, Restart}
 use Rattle.cx_run.specs.Happenings.{Happening, Nodes, Stepped, journal_from, logged_by, seals_from, steps}
 use Rattle.cx_run.specs.Opening.{Setup, leaks_entered, nodes_of, secrets_drawn}
 use Rattle.cx_run.specs.Wires.{same_node}
-use Rattle.cx_steps.specs.declared.seals.Logged.{Logged}
-use Rattle.cx_steps.specs.declared.seals.SealEntry.{SealEntry}
+use Rattle.cx_rules_session.specs.cx_steps.specs.declared.seals.Logged.{Logged}
+use Rattle.cx_rules_session.specs.cx_steps.specs.declared.seals.SealEntry.{SealEntry}
 
 -- ---- log and journal of a list of events
 

@@ -1,11 +1,11 @@
 -- The run of a schedule, whose daemons have handlers for these kinds of operation: what happens, the journal, the log, and whether the run kept its premises.
 use Rattle.std.specs.Prelude.{List, ◌++◌, map, Option}
-use Rattle.cx_desk.specs.Handlers.{Handlers}
-use Rattle.cx_journal.specs.declared.entries.Entry.{Entry}
-use Rattle.cx_journal.specs.declared.premises.Broken.{Broken}
+use Rattle.cx_rules_session.specs.cx_desk.specs.Handlers.{Handlers}
+use Rattle.cx_rules_session.specs.cx_journal.specs.declared.entries.Entry.{Entry}
+use Rattle.cx_rules_session.specs.cx_journal.specs.declared.premises.Broken.{Broken}
 use Rattle.cx_lines.specs.declared.lines.Numbered.{Numbered}
-use Rattle.cx_steps.specs.Breach.{IsFound}
-use Rattle.cx_steps.specs.declared.seals.Logged.{Logged}
+use Rattle.cx_rules_session.specs.cx_steps.specs.Breach.{IsFound}
+use Rattle.cx_rules_session.specs.cx_steps.specs.declared.seals.Logged.{Logged}
 use Rattle.cx_run.specs.Happenings.{Entered, Happening, journal_from, seals_from}
 use Rattle.cx_run.specs.Opening.{Setup, leaked_of, leaks_entered, nodes_of, opening_world, plain_setup, secrets_drawn, set_up}
 use Rattle.cx_run.specs.Schedules.{after_lines}

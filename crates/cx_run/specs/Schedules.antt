@@ -2,7 +2,7 @@
 use Rattle.std.specs.Prelude.{ℕ, zero, suc, List, [], ◌∷◌, map, sum_by, Option, Some, None, if◌then◌else◌}
 use Rattle.std.specs.List.{slice_get}
 use Rattle.cx_base.specs.declared.kinds.EntityType.{EntityType}
-use Rattle.cx_enc.specs.Values.{number_of}
+use Rattle.cx_rules_session.specs.cx_enc.specs.Values.{number_of}
 use Rattle.cx_base.specs.declared.nodes.NodeName.{NodeName}
 use Rattle.cx_base.specs.declared.nodes.NodeName.TheVariants as node
 use Rattle.cx_lines.specs.declared.commands.LineCommand.{LineCommand}
@@ -14,10 +14,10 @@ use Rattle.cx_lines.specs.declared.link_steps.LinkStep.{LinkStep}
 use Rattle.cx_lines.specs.declared.link_steps.LinkStep.TheVariants as link
 use Rattle.cx_lines.specs.declared.node_steps.NodeStep.{NodeStep}
 use Rattle.cx_lines.specs.declared.node_steps.NodeStep.TheVariants as step
-use Rattle.cx_line_words.specs.declared.choices.Side.{Side}
-use Rattle.cx_line_words.specs.declared.choices.Side.TheVariants.{Connector, Acceptor}
-use Rattle.cx_rules.specs.Inputs.{Tick, Submit}
-use Rattle.cx_steps.specs.declared.events.Command.TheVariants as told
+use Rattle.cx_lines.specs.cx_line_words.specs.declared.choices.Side.{Side}
+use Rattle.cx_lines.specs.cx_line_words.specs.declared.choices.Side.TheVariants.{Connector, Acceptor}
+use Rattle.cx_rules_session.specs.cx_rules.specs.Inputs.{Tick, Submit}
+use Rattle.cx_rules_session.specs.cx_steps.specs.declared.events.Command.TheVariants as told
 use Rattle.cx_run.specs.Deliveries.{arrives_from, comes, delivers, restarts, settles, tells_gone}
 use Rattle.cx_run.specs.Wires.{Wire, end_of, ended, pieces_from, same_node, wire_of, with_pieces, with_wire}
 use Rattle.cx_run.specs.Worlds.{Post, World}

@@ -3,15 +3,15 @@ use Rattle.std.specs.Prelude.{Bool, true, ◌&&◌, List}
 use Rattle.std.specs.List.{AllByRecursion}
 use Rattle.cx_base.specs.Texts.{is_part}
 use Rattle.cx_base.specs.declared.operations.Operation.{Operation}
-use Rattle.cx_line_words.specs.Values.{is_fit}
+use Rattle.cx_lines.specs.cx_line_words.specs.Values.{is_fit}
 use Rattle.cx_lines.specs.declared.commands.LineCommand.{LineCommand}
 use Rattle.cx_lines.specs.declared.commands.LineCommand.TheVariants as command
 use Rattle.cx_lines.specs.declared.lines.Line.{Line}
 use Rattle.cx_lines.specs.declared.lines.Line.TheVariants as line
 use Rattle.cx_lines.specs.declared.lines.Numbered.{Numbered}
-use Rattle.cx_rules.specs.Inputs.{Input, Look, Submit}
-use Rattle.cx_steps.specs.declared.events.Command.TheVariants as told
-use Rattle.cx_wire.specs.Operations.{IsWritable}
+use Rattle.cx_rules_session.specs.cx_rules.specs.Inputs.{Input, Look, Submit}
+use Rattle.cx_rules_session.specs.cx_steps.specs.declared.events.Command.TheVariants as told
+use Rattle.cx_rules_session.specs.cx_wire.specs.Operations.{IsWritable}
 use Rattle.cx_run.specs.Happenings.{Happening}
 
 -- ---- no others than these

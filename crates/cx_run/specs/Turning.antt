@@ -2,8 +2,8 @@
 use Rattle.std.specs.Prelude.{ℕ, List, [], Option, Some, None}
 use Rattle.cx_base.specs.declared.nodes.NodeName.{NodeName}
 use Rattle.cx_base.specs.declared.nodes.NodeName.TheVariants as node
-use Rattle.cx_rules.specs.Fronts.{ahead_of}
-use Rattle.cx_rules.specs.Links.{Link, link_of}
+use Rattle.cx_rules_session.specs.cx_rules.specs.Fronts.{ahead_of}
+use Rattle.cx_rules_session.specs.cx_rules.specs.Links.{Link, link_of}
 use Rattle.cx_run.specs.Happenings.{EntityNode, OfClient, OfDaemon, Nodes, entity_of}
 
 -- the bytes that came on a link and weren't taken

@@ -3,8 +3,8 @@ use Rattle.std.specs.Prelude.{List, None}
 use Rattle.std.specs.List.{AllByRecursion}
 use Rattle.cx_base.specs.declared.nodes.NodeName.{NodeName}
 use Rattle.cx_base.specs.declared.nodes.NodeName.TheVariants as node
-use Rattle.cx_rules.specs.Inputs.{Input, Opened, Look, Submit}
-use Rattle.cx_steps.specs.declared.events.Command.TheVariants as told
+use Rattle.cx_rules_session.specs.cx_rules.specs.Inputs.{Input, Opened, Look, Submit}
+use Rattle.cx_rules_session.specs.cx_steps.specs.declared.events.Command.TheVariants as told
 use Rattle.cx_run.specs.Happenings.{Happening}
 
 -- ---- views

@@ -1,15 +1,15 @@
 -- The world of a run: its nodes with their clocks and dice, the links between them, and all that happened. A step of a node is carried out
 -- here: what it sends goes under way, links are opened and shut.
 use Rattle.std.specs.Prelude.{ℕ, suc, List, [], ◌∷◌, ◌++◌, find, map, Option, Some, None, if◌then◌else◌}
-use Rattle.cx_dice.specs.Rolls.{seed_draw}
+use Rattle.cx_rules_session.specs.cx_dice.specs.Rolls.{seed_draw}
 use Rattle.cx_base.specs.declared.nodes.NodeName.{NodeName}
 use Rattle.cx_base.specs.declared.nodes.NodeName.TheVariants as node
-use Rattle.cx_line_words.specs.declared.choices.LeftState.{LeftState}
-use Rattle.cx_rules.specs.Inputs.{Input}
-use Rattle.cx_steps.specs.declared.effects.Effects.{Effects}
-use Rattle.cx_steps.specs.declared.effects.Piece.{Piece}
-use Rattle.cx_steps.specs.declared.events.Peer.{Peer}
-use Rattle.cx_steps.specs.declared.events.Peer.TheVariants as peer
+use Rattle.cx_lines.specs.cx_line_words.specs.declared.choices.LeftState.{LeftState}
+use Rattle.cx_rules_session.specs.cx_rules.specs.Inputs.{Input}
+use Rattle.cx_rules_session.specs.cx_steps.specs.declared.effects.Effects.{Effects}
+use Rattle.cx_rules_session.specs.cx_steps.specs.declared.effects.Piece.{Piece}
+use Rattle.cx_rules_session.specs.cx_steps.specs.declared.events.Peer.{Peer}
+use Rattle.cx_rules_session.specs.cx_steps.specs.declared.events.Peer.TheVariants as peer
 use Rattle.cx_run.specs.Happenings.{Happening, Nodes}
 use Rattle.cx_run.specs.Wires.{Wire, gone_at, new_wire, same_node, sent_from, side_of, wire_of, with_wire}
 

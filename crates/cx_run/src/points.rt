@@ -1,7 +1,7 @@
 //! Laws of the points of a run.
 
 ghost use Rattle.std.specs.Prelude.{◌≡◌, [], List, Contains};
-ghost use Rattle.cx_journal.specs.declared.entries.Entry.{Entry};
+ghost use Rattle.cx_rules_session.specs.cx_journal.specs.declared.entries.Entry.{Entry};
 ghost use Rattle.cx_run.specs.Happenings.{Happening};
 ghost use Rattle.cx_run.specs.Opening.{Setup};
 ghost use Rattle.cx_run.specs.Points.{IsOfEvent, Point, WasEntered, entered_until, journal_since, log_since, logged_until, onto, points};

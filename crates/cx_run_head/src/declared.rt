@@ -2,7 +2,7 @@
 
 ghost use Rattle.std.specs.Prelude.{◌≡◌, IfOk};
 ghost use Rattle.cx_run.specs.Opening.{local, modes_offered, principal_of, secret_of};
-ghost use Rattle.cx_rules.specs.Holdings.{modes_of};
+ghost use Rattle.cx_holdings.specs.cx_rules.specs.Holdings.{modes_of};
 
 use crate::secrets::secret_of_seed;
 use cx_base::{Addr, Duplicate, EntityName, Grant, Items, copy_items};

@@ -3,7 +3,7 @@
 ghost use Rattle.std.specs.Prelude.{◌≡◌, ◌∷◌, [], ◌++◌, None, find, map, IfOk, IsTrue, OnOk};
 ghost use Rattle.cx_keyring.specs.Entries.{are_grants, is_named};
 ghost use Rattle.cx_rotate.specs.Keeping.{IsKeptState};
-ghost use Rattle.cx_rules.specs.Abridged.{MonitorStandsFor};
+ghost use Rattle.cx_holdings.specs.cx_rules.specs.Abridged.{MonitorStandsFor};
 ghost use Rattle.cx_run.specs.Opening.{first_state, monitor_of, principal_of};
 
 use crate::setup::Setup;

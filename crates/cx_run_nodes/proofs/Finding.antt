@@ -7,10 +7,10 @@ use Rattle.cx_base.specs.Names.{Name, is_daemon_type, same_name}
 use Rattle.cx_base.specs.declared.nodes.NodeName.TheVariants as node
 use Rattle.cx_run_nodes.specs.Held.{MemberStands, member_of}
 use Rattle.cx_run_nodes.specs.declared.members.Member.{Member}
-use Rattle.cx_rules_session.specs.ClientRule.{opening_whole_client}
-use Rattle.cx_run.specs.Happenings.{OfClient, OfDaemon, asker_in, is_of}
-use Rattle.cx_run.specs.Opening.{Declared, asker_of, daemon_opening, entity_in, post_for}
-use Rattle.cx_run.specs.Worlds.{Post, post_of}
+use Rattle.cx_run_head.specs.cx_rules_session.specs.ClientRule.{opening_whole_client}
+use Rattle.cx_run_head.specs.cx_run.specs.Happenings.{OfClient, OfDaemon, asker_in, is_of}
+use Rattle.cx_run_head.specs.cx_run.specs.Opening.{Declared, asker_of, daemon_opening, entity_in, post_for}
+use Rattle.cx_run_head.specs.cx_run.specs.Worlds.{Post, post_of}
 use Rattle.cx_run_nodes.specs.Members.{AreMembersOf, IsMemberOf}
 
 -- the node of an entity has its name

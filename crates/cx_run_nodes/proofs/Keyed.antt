@@ -8,7 +8,7 @@ use Rattle.cx_base.specs.Names.{Name, same_name}
 use Rattle.cx_base.proofs.Names.{same_name_is, same_name_self}
 use Rattle.cx_base.specs.declared.nodes.NodeName.{NodeName}
 use Rattle.cx_base.specs.declared.nodes.NodeName.TheVariants as node
-use Rattle.cx_run.specs.Wires.{same_node}
+use Rattle.cx_run_head.specs.cx_run.specs.Wires.{same_node}
 
 pub same_node_is : (a b : NodeName) → same_node a b ≡ true → a ≡ b
 same_node_is node.Monitor node.Monitor e = refl

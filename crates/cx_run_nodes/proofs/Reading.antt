@@ -7,10 +7,10 @@ use Rattle.cx_base.proofs.Names.{same_name_is, same_name_self}
 use Rattle.cx_base.specs.declared.nodes.NodeName.{NodeName}
 use Rattle.cx_desk.specs.Handlers.{Handlers}
 use Rattle.cx_base.specs.declared.nodes.NodeName.TheVariants as node
-use Rattle.cx_run.specs.Happenings.{EntityNode, entity_of}
-use Rattle.cx_run.specs.Schedules.{all_read, one_reads}
-use Rattle.cx_run.specs.Wires.{same_node}
-use Rattle.cx_run.specs.Worlds.{Post, World, post_of}
+use Rattle.cx_run_head.specs.cx_run.specs.Happenings.{EntityNode, entity_of}
+use Rattle.cx_run_head.specs.cx_run.specs.Schedules.{all_read, one_reads}
+use Rattle.cx_run_head.specs.cx_run.specs.Wires.{same_node}
+use Rattle.cx_run_head.specs.cx_run.specs.Worlds.{Post, World, post_of}
 use Rattle.cx_run_nodes.specs.Held.{ArePlaced, MemberStands, StandFor, member_of, reads}
 use Rattle.cx_run_nodes.specs.Posts.{IsOf, IsPosted, Sitting}
 use Rattle.cx_run_nodes.specs.declared.members.Member.{Member}

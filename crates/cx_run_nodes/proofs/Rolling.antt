@@ -2,7 +2,7 @@
 use Rattle.std.proofs.Common.{◌≡◌, ℕ, ◌+◌, suc, List, Some, sym, ap, ◌∙◌, arith, add-zero}
 use Rattle.std.proofs.lemmas.Option.{same_Some}
 use Rattle.cx_dice.specs.Rolls.{draws_of, seed_draw}
-use Rattle.cx_run.specs.Worlds.{Post}
+use Rattle.cx_run_head.specs.cx_run.specs.Worlds.{Post}
 use Rattle.cx_run_nodes.specs.Posts.{IsOf, Sitting}
 
 pub drawn_now : (post : Post) (old : Sitting) (draw : List ℕ) → IsOf post old → draw ≡ draws_of old.dice.generator 0 → draw ≡ seed_draw post.seed post.rolled

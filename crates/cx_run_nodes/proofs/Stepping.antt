@@ -8,19 +8,19 @@ use Rattle.cx_base.specs.declared.nodes.NodeName.TheVariants as node
 use Rattle.cx_line_words.specs.declared.choices.LeftState.{LeftState}
 use Rattle.cx_rotate.specs.declared.states.KeptState.{KeptState}
 use Rattle.cx_desk.specs.Handlers.{Handlers}
-use Rattle.cx_rules.specs.Abridged.{MonitorStandsFor}
-use Rattle.cx_rules_session.specs.Forgets.{WholeClientStandsFor}
-use Rattle.cx_rules_session.specs.ClientRule.{WholeClientNode, whole_client_rule}
-use Rattle.cx_rules.specs.Inputs.{Input}
-use Rattle.cx_rules.specs.Monitor.{MonitorNode}
-use Rattle.cx_rules.specs.MonitorRule.{monitor_rule}
-use Rattle.cx_rules.specs.Rows.{Outcome}
-use Rattle.cx_rules_session.specs.DaemonRule.{DaemonState, daemon_step}
-use Rattle.cx_rules_session.specs.Forgets.{DaemonStandsFor}
-use Rattle.cx_run.specs.Deliveries.{Given, given}
-use Rattle.cx_run.specs.Happenings.{EntityNode, OfClient, OfDaemon, Nodes as RunNodes, Stepped, asker_in, entity_of, entity_steps, monitor_steps, steps, steps_of, with_entity}
-use Rattle.cx_run.specs.Wires.{same_node}
-use Rattle.cx_run.specs.Worlds.{Post, World, happened, happening, post_of, with_post}
+use Rattle.cx_run_head.specs.cx_rules.specs.Abridged.{MonitorStandsFor}
+use Rattle.cx_run_head.specs.cx_rules_session.specs.Forgets.{WholeClientStandsFor}
+use Rattle.cx_run_head.specs.cx_rules_session.specs.ClientRule.{WholeClientNode, whole_client_rule}
+use Rattle.cx_run_head.specs.cx_rules.specs.Inputs.{Input}
+use Rattle.cx_run_head.specs.cx_rules.specs.Monitor.{MonitorNode}
+use Rattle.cx_run_head.specs.cx_rules.specs.MonitorRule.{monitor_rule}
+use Rattle.cx_run_head.specs.cx_rules.specs.Rows.{Outcome}
+use Rattle.cx_run_head.specs.cx_rules_session.specs.DaemonRule.{DaemonState, daemon_step}
+use Rattle.cx_run_head.specs.cx_rules_session.specs.Forgets.{DaemonStandsFor}
+use Rattle.cx_run_head.specs.cx_run.specs.Deliveries.{Given, given}
+use Rattle.cx_run_head.specs.cx_run.specs.Happenings.{EntityNode, OfClient, OfDaemon, Nodes as RunNodes, Stepped, asker_in, entity_of, entity_steps, monitor_steps, steps, steps_of, with_entity}
+use Rattle.cx_run_head.specs.cx_run.specs.Wires.{same_node}
+use Rattle.cx_run_head.specs.cx_run.specs.Worlds.{Post, World, happened, happening, post_of, with_post}
 use Rattle.cx_steps.specs.Nothing.{nothing}
 use Rattle.cx_run_nodes.specs.Held.{IsGiven, MemberStands, NodeStands, StandFor, member_of}
 use Rattle.cx_run_nodes.specs.Posts.{IsOf, IsPosted, Sitting}
@@ -30,7 +30,7 @@ use Rattle.cx_run_nodes.specs.declared.members.Member.{Member}
 use Rattle.cx_run_nodes.specs.declared.members.MemberNode.{MemberNode}
 use Rattle.cx_run_nodes.specs.declared.members.MemberNode.TheVariants as held
 use Rattle.cx_run_nodes.specs.declared.nodes.Nodes.{Nodes}
-use Rattle.cx_run.proofs.EntityNamed.{entity-named}
+use Rattle.cx_run_head.specs.cx_run.proofs.EntityNamed.{entity-named}
 use Rattle.cx_run_nodes.proofs.Keyed.{key_found, replaced_elsewhere, replaced_here, same_node_is, same_node_self}
 use Rattle.cx_run_nodes.proofs.Placed.{placed-same, placed-set}
 use Rattle.cx_run_nodes.proofs.Placing.{IsFirst, found_first, member_elsewhere, member_here, old_name}

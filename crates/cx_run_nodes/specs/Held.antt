@@ -4,11 +4,11 @@ use Rattle.cx_base.specs.Names.{Name, same_name}
 use Rattle.cx_base.specs.declared.nodes.NodeName.TheVariants as node
 use Rattle.cx_desk.specs.Handlers.{Handlers}
 use Rattle.cx_name_index.specs.Indexed.{place_of}
-use Rattle.cx_rules.specs.Abridged.{MonitorStandsFor}
-use Rattle.cx_rules_session.specs.Forgets.{DaemonStandsFor, WholeClientStandsFor}
-use Rattle.cx_run.specs.Deliveries.{Given}
-use Rattle.cx_run.specs.Happenings.{EntityNode, OfClient, OfDaemon, Nodes as RunNodes, entity_of}
-use Rattle.cx_run.specs.Worlds.{Post, post_of}
+use Rattle.cx_run_head.specs.cx_rules.specs.Abridged.{MonitorStandsFor}
+use Rattle.cx_run_head.specs.cx_rules_session.specs.Forgets.{DaemonStandsFor, WholeClientStandsFor}
+use Rattle.cx_run_head.specs.cx_run.specs.Deliveries.{Given}
+use Rattle.cx_run_head.specs.cx_run.specs.Happenings.{EntityNode, OfClient, OfDaemon, Nodes as RunNodes, entity_of}
+use Rattle.cx_run_head.specs.cx_run.specs.Worlds.{Post, post_of}
 use Rattle.cx_run_nodes.specs.Posts.{IsOf, IsPosted}
 use Rattle.cx_run_nodes.specs.declared.made.Made.{Made}
 use Rattle.cx_run_nodes.specs.declared.members.Member.{Member}

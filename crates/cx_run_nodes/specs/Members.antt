@@ -3,7 +3,7 @@ use Rattle.std.specs.Prelude.{◌≡◌, List, [], ◌∷◌, Some}
 use Rattle.cx_run_nodes.specs.Held.{NodeStands}
 use Rattle.cx_run_nodes.specs.Posts.{IsOf}
 use Rattle.cx_run_nodes.specs.declared.members.Member.{Member}
-use Rattle.cx_run.specs.Opening.{Declared, entity_in, post_for}
+use Rattle.cx_run_head.specs.cx_run.specs.Opening.{Declared, entity_in, post_for}
 
 -- the member is this entity: it has its name, sits in its post, and its node is the opening one
 pub record IsMemberOf (e : Declared) (member : Member) : Type 0 where

@@ -1,7 +1,7 @@
 -- What a node goes by, as the code holds it: its dice, of which the next draws are to come.
 use Rattle.std.specs.Prelude.{ℕ, ◌≡◌, ◌+◌, ◌<◌, List, [], Option, Some, None}
 use Rattle.cx_dice.specs.Rolls.{Rolling, draws_of, seed_draw}
-use Rattle.cx_run.specs.Worlds.{Post}
+use Rattle.cx_run_head.specs.cx_run.specs.Worlds.{Post}
 
 -- the reading of its clock, and its dice
 pub record Sitting : Type 0 where

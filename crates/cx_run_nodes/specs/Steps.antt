@@ -2,14 +2,14 @@
 use Rattle.std.specs.Prelude.{ℕ, suc, ◌≡◌, true, false, Option, Some, None}
 use Rattle.cx_dice.specs.Rolls.{seed_draw}
 use Rattle.cx_line_words.specs.declared.choices.LeftState.{LeftState}
-use Rattle.cx_rules.specs.Abridged.{MonitorStandsFor}
+use Rattle.cx_run_head.specs.cx_rules.specs.Abridged.{MonitorStandsFor}
 use Rattle.cx_desk.specs.Handlers.{Handlers}
-use Rattle.cx_rules.specs.Inputs.{Input}
-use Rattle.cx_rules.specs.Monitor.{MonitorNode}
-use Rattle.cx_rules.specs.MonitorRule.{monitor_rule}
-use Rattle.cx_rules.specs.Rows.{Outcome}
-use Rattle.cx_run.specs.Happenings.{EntityNode, Nodes as RunNodes, Stepped, entity_rule, monitor_steps}
-use Rattle.cx_run.specs.Worlds.{Post}
+use Rattle.cx_run_head.specs.cx_rules.specs.Inputs.{Input}
+use Rattle.cx_run_head.specs.cx_rules.specs.Monitor.{MonitorNode}
+use Rattle.cx_run_head.specs.cx_rules.specs.MonitorRule.{monitor_rule}
+use Rattle.cx_run_head.specs.cx_rules.specs.Rows.{Outcome}
+use Rattle.cx_run_head.specs.cx_run.specs.Happenings.{EntityNode, Nodes as RunNodes, Stepped, entity_rule, monitor_steps}
+use Rattle.cx_run_head.specs.cx_run.specs.Worlds.{Post}
 use Rattle.cx_steps.specs.Nothing.{nothing}
 use Rattle.cx_steps.specs.declared.effects.Effects.{Effects}
 use Rattle.cx_run_nodes.specs.Held.{MemberStands}

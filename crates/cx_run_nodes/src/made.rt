@@ -1,7 +1,7 @@
 //! What an event came to.
 
 ghost use Rattle.std.specs.Prelude.{◌≡◌, true, false, filter, IfOk};
-ghost use Rattle.cx_run.specs.Happenings.{failed_out, stays};
+ghost use Rattle.cx_run_head.specs.cx_run.specs.Happenings.{failed_out, stays};
 ghost use Rattle.cx_steps.specs.Nothing.{nothing};
 
 use cx_base::{Duplicate, Items};

@@ -3,9 +3,9 @@
 ghost use Rattle.std.specs.Prelude.{◌≡◌, List, Option, Some, None, IfOk};
 ghost use Rattle.cx_run_nodes.specs.Held.{MemberStands, member_of};
 ghost use Rattle.cx_run_nodes.specs.Steps.{IsMemberStep};
-ghost use Rattle.cx_rules.specs.Inputs.{input_of};
-ghost use Rattle.cx_run.specs.Happenings.{EntityNode};
-ghost use Rattle.cx_run.specs.Worlds.{Post as RunPost};
+ghost use Rattle.cx_run_head.specs.cx_rules.specs.Inputs.{input_of};
+ghost use Rattle.cx_run_head.specs.cx_run.specs.Happenings.{EntityNode};
+ghost use Rattle.cx_run_head.specs.cx_run.specs.Worlds.{Post as RunPost};
 
 use crate::made::Made;
 use crate::posts::Post;
@@ -37,9 +37,9 @@ impl Member {
     ghost use Rattle.cx_run_nodes.specs.Coming.{IsWritableInput};
     ghost use Rattle.cx_run_nodes.specs.Held.{MemberStands};
     ghost use Rattle.cx_run_nodes.specs.Steps.{IsMemberStep};
-    ghost use Rattle.cx_rules.specs.Inputs.{input_of};
-    ghost use Rattle.cx_run.specs.Happenings.{EntityNode};
-    ghost use Rattle.cx_run.specs.Worlds.{Post as RunPost};
+    ghost use Rattle.cx_run_head.specs.cx_rules.specs.Inputs.{input_of};
+    ghost use Rattle.cx_run_head.specs.cx_run.specs.Happenings.{EntityNode};
+    ghost use Rattle.cx_run_head.specs.cx_run.specs.Worlds.{Post as RunPost};
 
     /// What comes to it. A daemon has the handlers of this desk.
     pub(crate) fn step(

@@ -4,7 +4,7 @@ ghost use Rattle.std.specs.Prelude.{Some, IfOk};
 ghost use Rattle.cx_desk.specs.Handlers.{Handlers};
 ghost use Rattle.cx_run_nodes.specs.Held.{NodeStands, StandFor};
 ghost use Rattle.cx_run_nodes.specs.Members.{AreMembersOf, IsMemberOf};
-ghost use Rattle.cx_run.specs.Opening.{entity_in, nodes_of, posts_of};
+ghost use Rattle.cx_run_head.specs.cx_run.specs.Opening.{entity_in, nodes_of, posts_of};
 ghost use Rattle.cx_run_head.specs.Beginning.{with_handlers};
 
 use crate::nodes::places_of;

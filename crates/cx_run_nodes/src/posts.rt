@@ -3,7 +3,7 @@
 ghost use Rattle.std.specs.Prelude.{ℕ, suc, ◌≡◌, ◌<◌};
 ghost use Rattle.cx_dice.specs.Rolls.{seed_draw};
 ghost use Rattle.cx_run_nodes.specs.Posts.{IsOf};
-ghost use Rattle.cx_run.specs.Worlds.{Post as RunPost};
+ghost use Rattle.cx_run_head.specs.cx_run.specs.Worlds.{Post as RunPost};
 
 use cx_base::{Blob, Reading};
 use cx_dice::{Dice, Draw, SeedDice, draw_laws};

@@ -3,7 +3,7 @@ use Rattle.std.proofs.Common.{◌≡◌, ◌≢◌, ℕ, ◌<◌, All, length, L
 use Rattle.std.proofs.lemmas.Bool.{cases_lt}
 use Rattle.std.proofs.lemmas.List.{get_or_past}
 use Rattle.std.proofs.lemmas.List.Elements.{All-get_or}
-use Rattle.cx_aes.specs.Cipher.{IsBlock}
+use Rattle.cx_cbc.specs.cx_aes.specs.Cipher.{IsBlock}
 use Rattle.cx_cbc.specs.Envelope.{Opens}
 use Rattle.cx_cbc.specs.Opened.{opened}
 use Rattle.cx_cbc.proofs.Contents.{opens_one}

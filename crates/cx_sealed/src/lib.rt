@@ -38,6 +38,9 @@ pub use unsealing::{
     unseal_rotating_reply, unseal_service_ticket, unseal_ticket_info,
 };
 
+// What crates above name through this one, and so needn't list.
+pub use cx_rotate::Generations;
+
 // Each public type may be sent to another thread and shared with one.
 fn is_sendable<T: Send + Sync>() {}
 

@@ -4,8 +4,7 @@ ghost use Rattle.std.specs.Prelude.{◌≡◌, ◌≤◌, ◌∷◌, take, drop}
 ghost use Rattle.std.specs.Int.{w64, from_le_bytes};
 ghost use Rattle.cx_sealed.specs.Proof.{login_proof};
 
-use cx_aes::Schedule;
-use cx_cbc::seal_16;
+use cx_cbc::{Schedule, seal_16};
 
 /// The proof that a client knows its key: both challenges, sealed as one content of 16 bytes, and of these bytes behind their
 /// length the exclusive or of the first four numbers.

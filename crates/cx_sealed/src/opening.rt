@@ -14,9 +14,8 @@ use crate::rotating_reply::RotatingReply;
 use crate::service_ticket::ServiceTicket;
 use crate::ticket_info::TicketInfo;
 use crate::unsealing::unseal;
-use cx_aes::Schedule;
 use cx_base::Blob;
-use cx_cbc::{SealRefusal, seal};
+use cx_cbc::{Schedule, SealRefusal, seal};
 use cx_enc::{Encoded, write_whole};
 use std::alloc::{AllocError, Global};
 

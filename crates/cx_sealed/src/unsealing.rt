@@ -13,8 +13,7 @@ use crate::rotating_reply::RotatingReply;
 use crate::service_ticket::ServiceTicket;
 use crate::ticket_info::TicketInfo;
 use crate::unsealed::Unsealed;
-use cx_aes::Schedule;
-use cx_cbc::{OpenRefusal, open};
+use cx_cbc::{OpenRefusal, Schedule, open};
 use cx_enc::{ReadRefusal, read_whole};
 use std::alloc::{AllocError, Global};
 

@@ -5,7 +5,7 @@ use Rattle.std.proofs.Common.{get_or}
 use Rattle.std.specs.Int.{w64, to_le_bytes}
 use Rattle.std.proofs.lemmas.List.Elements.{All-append, All-from_get_or, All-from_recursion}
 use Rattle.cx_gcm.proofs.KeyStream.{IsByte}
-use Rattle.cx_aes.specs.Cipher.{IsBlock}
+use Rattle.cx_gcm.specs.cx_aes.specs.Cipher.{IsBlock}
 use Rattle.cx_gcm.specs.Gcm.{IsNonce}
 use Rattle.cx_frame.specs.Preambles.{IsAllowed, preamble_at, preamble_text}
 use Rattle.cx_frame.proofs.FrameLaws.{length-preamble_text}

@@ -4,7 +4,7 @@ use Rattle.std.specs.Prelude.{if◌then◌else◌}
 use Rattle.std.specs.Str.{bytes_eq}
 use Rattle.std.proofs.lemmas.Slice.Eq.{bytes_eq-Decides}
 use Rattle.std.proofs.lemmas.List.{take_at, drop_at, take-append-drop}
-use Rattle.cx_aes.specs.Cipher.{IsBlock}
+use Rattle.cx_gcm.specs.cx_aes.specs.Cipher.{IsBlock}
 use Rattle.cx_gcm.specs.Gcm.{GcmSealed, IsNonce, counted, gctr, nonce_block, raised, tag_of}
 use Rattle.cx_gcm.proofs.KeyStream.{IsBlock-counted, length-gctr, plain_of, raised_nonce_block}
 use Rattle.cx_secure.specs.Parts.{ciphered, nonce_at, opened, opened_text, part, sealed_parts}

@@ -4,7 +4,7 @@ use Rattle.std.proofs.lemmas.List.Sums.{sum_by-cons}
 use Rattle.std.specs.Prelude.{◌==◌, if◌then◌else◌}
 use Rattle.std.proofs.lemmas.Bool.{cases_eq, ne_eqb}
 use Rattle.std.proofs.lemmas.List.{append-nil, nil_from_length, take_at, drop_at, take-append-drop}
-use Rattle.cx_aes.specs.Cipher.{IsBlock}
+use Rattle.cx_gcm.specs.cx_aes.specs.Cipher.{IsBlock}
 use Rattle.cx_gcm.specs.Blocks.{spelled}
 use Rattle.cx_gcm.proofs.Digits.{length-spelled}
 use Rattle.cx_gcm.specs.Gcm.{IsNonce, counted, gctr, ghash, hashed, subkey, tag_of}

@@ -1,6 +1,6 @@
 -- A secure frame is a head and what stands behind it, and one frame at most begins given bytes.
 use Rattle.std.proofs.Common.{◌≡◌, ℕ, ◌+◌, List, [], ◌∷◌, ◌++◌, length, Result, Ok, refl, sym, ap, ◌∙◌, arith, append_assoc, length-append}
-use Rattle.cx_aes.specs.Cipher.{IsBlock}
+use Rattle.cx_gcm.specs.cx_aes.specs.Cipher.{IsBlock}
 use Rattle.cx_frame.specs.declared.frame.Segment.{Segment}
 use Rattle.cx_frame.specs.declared.frame.Frame.{Frame}
 use Rattle.cx_frame.specs.declared.preamble.Preamble.{Preamble}

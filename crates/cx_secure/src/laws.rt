@@ -1,7 +1,7 @@
 //! Laws of secure frames, which crates above may rest on.
 
 ghost use Rattle.std.specs.Prelude.{◌≡◌, ℕ, List, ◌++◌};
-ghost use Rattle.cx_aes.specs.Cipher.{IsBlock};
+ghost use Rattle.cx_gcm.specs.cx_aes.specs.Cipher.{IsBlock};
 ghost use Rattle.cx_frame.specs.Preambles.{IsAllowed, preamble_of};
 ghost use Rattle.cx_frame.specs.declared.frame.Frame.{Frame};
 ghost use Rattle.cx_secure.specs.Opening.{IsSplit};

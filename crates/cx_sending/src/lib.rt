@@ -13,6 +13,9 @@ pub use frames::{operation_message, send_waiting, session_reconnect};
 pub use kept::HeldSession;
 pub use table::{SessionChange, Sessions};
 
+// What crates above name through this one, and so needn't list.
+pub use cx_rules_session::client_forgetting_laws;
+
 // Each public type may be sent to another thread and shared with one.
 fn is_sendable<T: Send + Sync>() {}
 

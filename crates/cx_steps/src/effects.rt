@@ -6,8 +6,7 @@ ghost use Rattle.cx_steps.specs.Nothing.{nothing};
 use crate::events::Peer;
 use crate::seals::SealEntry;
 use cx_base::{Blob, Duplicate, Items, copy_items};
-use cx_journal::Entry;
-use cx_rotate::KeptState;
+use cx_journal::{Entry, KeptState};
 use std::alloc::{AllocError, Global};
 
 /// All bytes that one step sends on one link.

@@ -1,7 +1,7 @@
 //! What comes to a node.
 
 use cx_base::{Duplicate, EntityName, Operation};
-use cx_rotate::View;
+use cx_journal::View;
 use std::alloc::{AllocError, Global};
 
 /// Whom a node opens a link to.

@@ -12,6 +12,9 @@ pub use events::{Command, Event, Peer};
 pub use laws::seal_laws;
 pub use seals::{DrawMark, Logged, SealEntry, SealMark};
 
+// What crates above name through this one, and so needn't list.
+pub use cx_journal::{BytesFault, Entry, KeyKind, LoginFault, Reason};
+
 // Each public type may be sent to another thread and shared with one.
 fn is_sendable<T: Send + Sync>() {}
 

@@ -7,7 +7,7 @@ use Rattle.cx_frame.specs.declared.refusals.FrameRefusal.{FrameRefusal}
 use Rattle.cx_frame.specs.Preambles.{preamble_at, preamble_text}
 use Rattle.cx_frame.proofs.FrameLaws.{length-preamble_text}
 use Rattle.cx_frame.proofs.PreambleLaws.{preamble_again}
-use Rattle.cx_gcm.specs.Gcm.{IsNonce}
+use Rattle.cx_secure.specs.cx_gcm.specs.Gcm.{IsNonce}
 use Rattle.cx_secure.specs.Contents.{content_of, head_contents, head_content, rest_contents}
 use Rattle.cx_secure.specs.Opening.{head_of, head_step, with_inline}
 use Rattle.cx_secure.specs.Parts.{nonce_at, opened}

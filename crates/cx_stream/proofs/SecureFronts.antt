@@ -5,8 +5,8 @@ use Rattle.std.specs.List.{flat_map}
 use Rattle.std.proofs.lemmas.Bool.{le-ltb, lt-ltb, cases_lt}
 use Rattle.std.proofs.lemmas.List.{take_at, drop_at, take-append-le, drop-append-le}
 use Rattle.std.proofs.lemmas.List.Elements.{All-head, All-tail}
-use Rattle.cx_aes.specs.Cipher.{IsBlock}
-use Rattle.cx_gcm.specs.Gcm.{IsNonce}
+use Rattle.cx_secure.specs.cx_aes.specs.Cipher.{IsBlock}
+use Rattle.cx_secure.specs.cx_gcm.specs.Gcm.{IsNonce}
 use Rattle.cx_frame.specs.declared.frame.Frame.{Frame}
 use Rattle.cx_frame.specs.declared.preamble.Preamble.{Preamble}
 use Rattle.cx_frame.specs.Preambles.{IsAllowed}

@@ -2,7 +2,7 @@
 -- fed and has given.
 use Rattle.std.specs.Prelude.{ℕ, ◌≡◌, ◌+◌, ◌-◌, ◌^◌, ◌<◌, ◌≤◌, List, ◌++◌, All, length, take, drop, nat_lt, Option, Some, None, Result, Ok, Err, if◌then◌else◌}
 use Rattle.std.specs.List.{flat_map}
-use Rattle.cx_aes.specs.Cipher.{IsBlock}
+use Rattle.cx_secure.specs.cx_aes.specs.Cipher.{IsBlock}
 use Rattle.cx_frame.specs.declared.frame.Frame.{Frame}
 use Rattle.cx_frame.specs.Preambles.{IsAllowed, preamble_of}
 use Rattle.cx_secure.specs.declared.sealing.Head.{Head}

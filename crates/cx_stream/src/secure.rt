@@ -17,8 +17,7 @@ ghost use Rattle.cx_stream.specs.Turning.{Finished, Readied};
 use crate::faults::StreamFault;
 use crate::stages::{Ended, Secure};
 use bytes::BytesMut;
-use cx_base::{Blob, Duplicate, Items};
-use cx_frame::Frame;
+use cx_frame::{Blob, Duplicate, Frame, Items};
 use cx_secure::{Head, SecureRefusal, rest_len};
 use std::alloc::{AllocError, Global};
 

@@ -5,18 +5,18 @@ use Rattle.cx_authorize.specs.Judging.{IsChecked, Judged}
 use Rattle.cx_authorize.specs.declared.judging.Shown.{Shown}
 use Rattle.cx_authorize.specs.declared.refusals.AuthRefusal.{AuthRefusal}
 use Rattle.cx_authorize.specs.declared.refusals.AuthRefusal.TheVariants as refusal
-use Rattle.cx_dice.specs.Draws.{challenge_of, connection_of}
+use Rattle.cx_rules_session.specs.cx_dice.specs.Draws.{challenge_of, connection_of}
 use Rattle.cx_journal.specs.declared.faults.BytesFault.{BytesFault}
 use Rattle.cx_journal.specs.declared.faults.BytesFault.TheVariants.{Malformed}
 use Rattle.cx_journal.specs.declared.outcomes.Reason.TheVariants as reason
-use Rattle.cx_rules.specs.Abridged.{abridged_link}
-use Rattle.cx_rules.specs.Acceptor.{AwaitsProof, Finished, denies_for, finished}
-use Rattle.cx_rules.specs.Rows.{goes_on, refuses_bytes, unless_refused, with_opened}
-use Rattle.cx_rules.specs.Secured.{plain_frame}
+use Rattle.cx_node.specs.cx_rules.specs.Abridged.{abridged_link}
+use Rattle.cx_node.specs.cx_rules.specs.Acceptor.{AwaitsProof, Finished, denies_for, finished}
+use Rattle.cx_node.specs.cx_rules.specs.Rows.{goes_on, refuses_bytes, unless_refused, with_opened}
+use Rattle.cx_node.specs.cx_rules.specs.Secured.{plain_frame}
 use Rattle.cx_rules_session.specs.Envelopes.{authorize_challenge_content, authorize_reply_content, sends_holding, session_sealed}
 use Rattle.cx_rules_session.specs.Guests.{GuestArrival, GuestRow, GuestStage, authority_of, authorized_frame, authorizes, challenges, done_sent, looked_entry, on_judged, sealed_challenge_frame, ticket_fault, turns_away, unless_turned_away}
 use Rattle.cx_rules_session.specs.Kinds.{entered_before}
-use Rattle.cx_sealed.specs.declared.service_ticket.ServiceTicket.{ServiceTicket}
+use Rattle.cx_authorize.specs.cx_sealed.specs.declared.service_ticket.ServiceTicket.{ServiceTicket}
 use Rattle.cx_steps.specs.declared.seals.DrawMark.TheVariants as draw
 use Rattle.cx_steps.specs.declared.seals.SealEntry.{SealEntry}
 use Rattle.cx_steps.specs.declared.seals.SealEntry.TheVariants.{Drawn}

@@ -1,9 +1,9 @@
 -- The rows of the rules, as a daemon makes them on a link of a guest. They change nothing of what the daemon has.
 use Rattle.std.specs.Prelude.{Result}
 use Rattle.cx_base.specs.declared.nodes.NodeName.TheVariants as node
-use Rattle.cx_rules.specs.Abridged.{abridged_link}
-use Rattle.cx_rules.specs.Holdings.{Asker}
-use Rattle.cx_rules.specs.Rows.{arrival}
+use Rattle.cx_node.specs.cx_rules.specs.Abridged.{abridged_link}
+use Rattle.cx_node.specs.cx_rules.specs.Holdings.{Asker}
+use Rattle.cx_node.specs.cx_rules.specs.Rows.{arrival}
 use Rattle.cx_rules_session.specs.Guests.{GuestArrival, GuestRow}
 use Rattle.cx_turns.specs.Making as making
 use Rattle.cx_turns.specs.declared.moments.Moment.{Moment}

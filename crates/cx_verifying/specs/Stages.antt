@@ -4,8 +4,8 @@ use Rattle.cx_authorize.specs.Daemon.{Authority, Awaited}
 use Rattle.cx_link.specs.Sending.{secured_of}
 use Rattle.cx_link.specs.Wires.{SecureWire, Wire, secured_link, wired}
 use Rattle.cx_link.specs.declared.links.Signing.{Signing}
-use Rattle.cx_rules.specs.Acceptor.{AwaitsBanner, AwaitsHello, AwaitsRequest, AwaitsProof, AwaitsSignature, AwaitsIdent, Open}
-use Rattle.cx_rules.specs.Links.{Link}
+use Rattle.cx_node.specs.cx_rules.specs.Acceptor.{AwaitsBanner, AwaitsHello, AwaitsRequest, AwaitsProof, AwaitsSignature, AwaitsIdent, Open}
+use Rattle.cx_node.specs.cx_rules.specs.Links.{Link}
 use Rattle.cx_rules_session.specs.Guests.{GuestStage, Served}
 use Rattle.cx_turns.specs.Stages.{keys_alone}
 use Rattle.cx_verifying.specs.declared.links.Stage.{Stage}

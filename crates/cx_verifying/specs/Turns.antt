@@ -1,9 +1,9 @@
 -- The turns of the rules, as a daemon makes them on a link of a guest until the peer has signed.
 use Rattle.std.specs.Prelude.{◌≡◌}
-use Rattle.cx_desk.specs.Handlers.{Handlers}
-use Rattle.cx_rules.specs.Abridged.{abridged_link}
-use Rattle.cx_rules.specs.Holdings.{Asker}
-use Rattle.cx_rules.specs.Rows.{Turned, Waits}
+use Rattle.cx_rules_session.specs.cx_desk.specs.Handlers.{Handlers}
+use Rattle.cx_node.specs.cx_rules.specs.Abridged.{abridged_link}
+use Rattle.cx_node.specs.cx_rules.specs.Holdings.{Asker}
+use Rattle.cx_node.specs.cx_rules.specs.Rows.{Turned, Waits}
 use Rattle.cx_rules_session.specs.Asks.{Finished, Asking}
 use Rattle.cx_rules_session.specs.Guests.{GuestStage}
 use Rattle.cx_rules_session.specs.Hosting.{Deciding, Hosted, guest_turned, no_session_moves}

@@ -3,9 +3,9 @@
 ghost use Rattle.std.specs.Prelude.{◌<◌, ◌^◌, [], ◌∷◌, length};
 ghost use Rattle.cx_authorize.specs.Passing.{IsChallenged};
 ghost use Rattle.cx_authorize.specs.declared.judging.Shown.{Shown};
-ghost use Rattle.cx_dice.specs.Draws.{challenge_of};
+ghost use Rattle.cx_rules_session.specs.cx_dice.specs.Draws.{challenge_of};
 ghost use Rattle.cx_link.specs.Wires.{wired};
-ghost use Rattle.cx_rules.specs.Acceptor.{AwaitsProof, AwaitsRequest};
+ghost use Rattle.cx_node.specs.cx_rules.specs.Acceptor.{AwaitsProof, AwaitsRequest};
 ghost use Rattle.cx_rules_session.specs.Envelopes.{authorize_challenge_content, sends_holding, session_sealed};
 ghost use Rattle.cx_rules_session.specs.Guests.{challenges, looked_entry, on_first, sealed_challenge_frame};
 ghost use Rattle.cx_rules_session.specs.Kinds.{entered_before};

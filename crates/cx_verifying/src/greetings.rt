@@ -3,9 +3,9 @@
 ghost use Rattle.std.specs.Prelude.{◌≡◌, IfOk};
 ghost use Rattle.cx_link.specs.Wires.{wired};
 ghost use Rattle.cx_node.specs.Made.{as_row};
-ghost use Rattle.cx_rules.specs.Abridged.{abridged_link};
-ghost use Rattle.cx_rules.specs.Acceptor.{AwaitsBanner, AwaitsHello, on_banner, on_hello};
-ghost use Rattle.cx_rules.specs.Rows.{new_link};
+ghost use Rattle.cx_node.specs.cx_rules.specs.Abridged.{abridged_link};
+ghost use Rattle.cx_node.specs.cx_rules.specs.Acceptor.{AwaitsBanner, AwaitsHello, on_banner, on_hello};
+ghost use Rattle.cx_node.specs.cx_rules.specs.Rows.{new_link};
 ghost use Rattle.cx_turns.specs.Greetings.{opening};
 ghost use Rattle.cx_turns.specs.Making.{row_due};
 ghost use Rattle.cx_verifying.specs.Rows.{Makes, arrived};

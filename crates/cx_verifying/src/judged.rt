@@ -3,8 +3,8 @@
 ghost use Rattle.std.specs.Prelude.{◌≡◌, [], Err, IfOk};
 ghost use Rattle.cx_authorize.specs.declared.refusals.AuthRefusal.TheVariants as refusal;
 ghost use Rattle.cx_link.specs.Wires.{Wire, wired};
-ghost use Rattle.cx_rules.specs.Acceptor.{denies_for};
-ghost use Rattle.cx_rules.specs.Rows.{with_opened};
+ghost use Rattle.cx_node.specs.cx_rules.specs.Acceptor.{denies_for};
+ghost use Rattle.cx_node.specs.cx_rules.specs.Rows.{with_opened};
 ghost use Rattle.cx_rules_session.specs.Guests.{GuestRow, GuestStage, looked_entry, ticket_fault, turns_away};
 ghost use Rattle.cx_rules_session.specs.Kinds.{entered_before};
 ghost use Rattle.cx_turns.specs.declared.rows.NoRow.TheVariants.{OutOfMemory};

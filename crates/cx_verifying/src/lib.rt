@@ -20,7 +20,9 @@ pub use served::Served;
 pub use turns::{GuestTurn, turned};
 
 // What crates above name through this one, and so needn't list.
+pub use cx_holdings::Asker;
 pub use cx_rules_session::daemon_forgetting_laws;
+pub use cx_turns::{Came, Moment, NoRow, NodeRow, entered_before, handles, unless_refused};
 
 // Each public type may be sent to another thread and shared with one.
 fn is_sendable<T: Send + Sync>() {}

@@ -94,7 +94,7 @@ impl Link {
 }
 
 impl Model for Link {
-    ghost use Rattle.cx_rules.specs.Links.{Link};
+    ghost use Rattle.cx_node.specs.cx_rules.specs.Links.{Link};
     ghost use Rattle.cx_rules_session.specs.Guests.{GuestStage};
 
     ghost Value = { Link GuestStage };
@@ -114,7 +114,7 @@ impl Numbered for Link {
 }
 
 impl Feeds for Link {
-    ghost use Rattle.cx_rules.specs.Abridged.{abridged_link};
+    ghost use Rattle.cx_node.specs.cx_rules.specs.Abridged.{abridged_link};
     ghost use Rattle.cx_turns.specs.Steps as steps;
 
     ghost IsFed = { steps.IsFed abridged_link };

@@ -2,7 +2,7 @@
 
 ghost use Rattle.std.specs.Prelude.{[]};
 ghost use Rattle.cx_link.specs.Wires.{Wire, wired};
-ghost use Rattle.cx_rules.specs.Acceptor.{AwaitsRequest, denies, on_auth_request};
+ghost use Rattle.cx_node.specs.cx_rules.specs.Acceptor.{AwaitsRequest, denies, on_auth_request};
 ghost use Rattle.cx_rules_session.specs.Guests.{GuestStage, on_auth_request_more, on_first};
 ghost use Rattle.cx_verifying.specs.Rows.{Makes};
 ghost use Rattle.cx_verifying.specs.Stages.{awaiting_proof};

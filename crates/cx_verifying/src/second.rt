@@ -4,9 +4,9 @@ ghost use Rattle.std.specs.Prelude.{◌≡◌, ◌<◌, ◌^◌, [], ◌∷◌, 
 ghost use Rattle.cx_authorize.specs.Daemon.{Awaited};
 ghost use Rattle.cx_authorize.specs.Passing.{IsAdmitted};
 ghost use Rattle.cx_authorize.specs.declared.judging.Shown.{Shown};
-ghost use Rattle.cx_dice.specs.Draws.{connection_of};
+ghost use Rattle.cx_rules_session.specs.cx_dice.specs.Draws.{connection_of};
 ghost use Rattle.cx_node.specs.Made.{going_on};
-ghost use Rattle.cx_rules.specs.Acceptor.{finished};
+ghost use Rattle.cx_node.specs.cx_rules.specs.Acceptor.{finished};
 ghost use Rattle.cx_rules_session.specs.Envelopes.{authorize_reply_content, session_sealed};
 ghost use Rattle.cx_rules_session.specs.Guests.{authority_of, authorized_frame, authorizes, done_sent, looked_entry, on_second};
 ghost use Rattle.cx_rules_session.specs.Kinds.{entered_before};

@@ -1,7 +1,7 @@
 //! AUTH_SIGNATURE.
 
 ghost use Rattle.cx_link.specs.Sending.{secured_of};
-ghost use Rattle.cx_rules.specs.Acceptor.{on_signature};
+ghost use Rattle.cx_node.specs.cx_rules.specs.Acceptor.{on_signature};
 ghost use Rattle.cx_verifying.specs.Rows.{Makes};
 ghost use Rattle.cx_verifying.specs.Stages.{awaiting_signature};
 

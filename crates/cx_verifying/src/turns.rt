@@ -2,9 +2,9 @@
 
 ghost use Rattle.std.specs.Prelude.{◌≡◌, IfOk};
 ghost use Rattle.cx_base.specs.declared.nodes.NodeName.TheVariants as node;
-ghost use Rattle.cx_desk.specs.Handlers.{Handlers};
+ghost use Rattle.cx_rules_session.specs.cx_desk.specs.Handlers.{Handlers};
 ghost use Rattle.cx_link.specs.Wires.{wired};
-ghost use Rattle.cx_rules.specs.Acceptor.{AwaitsBanner, AwaitsHello, AwaitsRequest};
+ghost use Rattle.cx_node.specs.cx_rules.specs.Acceptor.{AwaitsBanner, AwaitsHello, AwaitsRequest};
 ghost use Rattle.cx_turns.specs.Making.{IsHandled};
 ghost use Rattle.cx_verifying.specs.Stages.{awaiting_proof, awaiting_signature, link_held};
 ghost use Rattle.cx_verifying.specs.Turns.{IsGuestTurn, IsTurnedBy};

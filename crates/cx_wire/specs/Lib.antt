@@ -1,3 +1,5 @@
+-- Behind `pub use`: what crates above name through this one, and so needn't list (`checks/ways`).
+pub use Rattle.cx_control as cx_control
 pub mod Asked
 pub mod Bodies
 pub mod BodyCalls

@@ -7,11 +7,11 @@ use Rattle.cx_base.specs.declared.nodes.NodeName.{NodeName}
 use Rattle.cx_desk.specs.Handlers.{Handlers}
 use Rattle.cx_line_words.specs.declared.choices.Side.{Side}
 use Rattle.cx_line_words.specs.declared.choices.Side.TheVariants.{Connector, Acceptor}
-use Rattle.cx_rules.specs.Inputs.{Opened}
-use Rattle.cx_run.specs.Deliveries.{delivers, delivers_on, delivers_piece, far_side, first_of, stay, tells, under_way}
-use Rattle.cx_run.specs.Schedules.{cuts}
-use Rattle.cx_run.specs.Wires.{Wire, ended, gone_at, has_end, new_wire, other, owes_gone, pieces_from, wire_of, with_pieces, with_wire}
-use Rattle.cx_run.specs.Worlds.{World, node_of}
+use Rattle.cx_run_links.specs.cx_rules.specs.Inputs.{Opened}
+use Rattle.cx_run_links.specs.cx_run.specs.Deliveries.{delivers, delivers_on, delivers_piece, far_side, first_of, stay, tells, under_way}
+use Rattle.cx_run_links.specs.cx_run.specs.Schedules.{cuts}
+use Rattle.cx_run_links.specs.cx_run.specs.Wires.{Wire, ended, gone_at, has_end, new_wire, other, owes_gone, pieces_from, wire_of, with_pieces, with_wire}
+use Rattle.cx_run_links.specs.cx_run.specs.Worlds.{World, node_of}
 use Rattle.cx_steps.specs.declared.events.Peer.{Peer}
 use Rattle.cx_run_links.specs.Ends.{arriving}
 use Rattle.cx_run_links.specs.Tables.{changed_in, taken_from, taken_on, with_changed}

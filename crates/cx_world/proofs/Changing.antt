@@ -3,8 +3,8 @@ use Rattle.std.proofs.Common.{◌≡◌, ℕ, false, List, length, Option, Some,
 use Rattle.std.proofs.lemmas.Bool.Decides.{nat_tests}
 use Rattle.cx_desk.specs.Handlers.{Handlers}
 use Rattle.cx_line_words.specs.declared.choices.LeftState.{LeftState}
-use Rattle.cx_run.specs.Wires.{Wire}
-use Rattle.cx_run.specs.Worlds.{World}
+use Rattle.cx_run_links.specs.cx_run.specs.Wires.{Wire}
+use Rattle.cx_run_links.specs.cx_run.specs.Worlds.{World}
 use Rattle.cx_world.specs.Carried.{Began, Carries}
 use Rattle.cx_world.specs.declared.world.World.{World as Held}
 

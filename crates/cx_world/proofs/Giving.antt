@@ -11,11 +11,11 @@ use Rattle.cx_run_nodes.specs.Held.{IsGiven, is_posted}
 use Rattle.cx_run_nodes.specs.declared.made.Made.{Made}
 use Rattle.cx_run_nodes.specs.declared.nodes.Nodes.{Nodes as HeldNodes}
 use Rattle.cx_premises.specs.Ledgers.{StandsFor}
-use Rattle.cx_rules.specs.Inputs.{Input}
-use Rattle.cx_run.specs.Deliveries.{Given, given, gives}
-use Rattle.cx_run.specs.Happenings.{Entered, Happening, Nodes, Stepped, entered_by, journal_from, logged_by, nodes_behind, seals_from, steps}
-use Rattle.cx_run.specs.Wires.{same_node}
-use Rattle.cx_run.specs.Worlds.{Post, World, happened, happening, post_of}
+use Rattle.cx_run_links.specs.cx_rules.specs.Inputs.{Input}
+use Rattle.cx_run_links.specs.cx_run.specs.Deliveries.{Given, given, gives}
+use Rattle.cx_run_links.specs.cx_run.specs.Happenings.{Entered, Happening, Nodes, Stepped, entered_by, journal_from, logged_by, nodes_behind, seals_from, steps}
+use Rattle.cx_run_links.specs.cx_run.specs.Wires.{same_node}
+use Rattle.cx_run_links.specs.cx_run.specs.Worlds.{Post, World, happened, happening, post_of}
 use Rattle.cx_steps.specs.Nothing.{nothing}
 use Rattle.cx_steps.specs.declared.effects.Effects.{Effects}
 use Rattle.cx_steps.specs.declared.seals.Logged.{Logged}

@@ -8,24 +8,24 @@ use Rattle.cx_base.specs.declared.nodes.NodeName.TheVariants as node
 use Rattle.cx_line_words.specs.declared.choices.LeftState.{LeftState}
 use Rattle.std.specs.Prelude.{if◌then◌else◌}
 use Rattle.cx_desk.specs.Handlers.{Handlers}
-use Rattle.cx_rules.specs.Acceptor as acceptor
-use Rattle.cx_rules_session.specs.ClientRule.{ClientStage, WholeClientNode, loses}
-use Rattle.cx_rules.specs.Connector.{Stage}
-use Rattle.cx_rules.specs.Inputs.{Input, Gone, Opened}
-use Rattle.cx_rules.specs.Links.{Link, link_of}
-use Rattle.cx_rules.specs.MonitorRule.{monitor_rule}
-use Rattle.cx_rules.specs.Rows.{Outcome, forgotten, idles}
-use Rattle.cx_rules_session.specs.Asks.{Finished, Asking}
-use Rattle.cx_rules_session.specs.DaemonRule.{AsAcceptor, AsConnector, DaemonNode, DaemonStage, book_after, book_reply, gone, gone_by_kind, guest_gone, lossy_gone}
-use Rattle.cx_rules_session.specs.Guests.{GuestStage}
+use Rattle.cx_run_links.specs.cx_rules.specs.Acceptor as acceptor
+use Rattle.cx_run_links.specs.cx_rules_session.specs.ClientRule.{ClientStage, WholeClientNode, loses}
+use Rattle.cx_run_links.specs.cx_rules.specs.Connector.{Stage}
+use Rattle.cx_run_links.specs.cx_rules.specs.Inputs.{Input, Gone, Opened}
+use Rattle.cx_run_links.specs.cx_rules.specs.Links.{Link, link_of}
+use Rattle.cx_run_links.specs.cx_rules.specs.MonitorRule.{monitor_rule}
+use Rattle.cx_run_links.specs.cx_rules.specs.Rows.{Outcome, forgotten, idles}
+use Rattle.cx_run_links.specs.cx_rules_session.specs.Asks.{Finished, Asking}
+use Rattle.cx_run_links.specs.cx_rules_session.specs.DaemonRule.{AsAcceptor, AsConnector, DaemonNode, DaemonStage, book_after, book_reply, gone, gone_by_kind, guest_gone, lossy_gone}
+use Rattle.cx_run_links.specs.cx_rules_session.specs.Guests.{GuestStage}
 use Rattle.cx_session.specs.declared.call.BookCall.TheVariants.{End}
 use Rattle.cx_session.specs.declared.call.BookReply.{BookReply}
 use Rattle.cx_session.specs.declared.call.BookReply.TheVariants as reply
-use Rattle.cx_run.proofs.GuestTakes.{Always, always-book}
-use Rattle.cx_run.specs.Deliveries.{given, gives, open_all, opens, tells}
-use Rattle.cx_run.specs.Happenings.{EntityNode, OfClient, OfDaemon, Happening, Nodes, entity_of, entity_rule, entity_steps, monitor_steps, steps, steps_of}
-use Rattle.cx_run.specs.Wires.{Wire, gone_at, new_wire, sent_from, side_of, wire_of, with_wire}
-use Rattle.cx_run.specs.Worlds.{Post, World, carried, happening, node_of, opened_wires, post_of, sends_all, sends_piece, shuts_all, shuts_link}
+use Rattle.cx_run_links.specs.cx_run.proofs.GuestTakes.{Always, always-book}
+use Rattle.cx_run_links.specs.cx_run.specs.Deliveries.{given, gives, open_all, opens, tells}
+use Rattle.cx_run_links.specs.cx_run.specs.Happenings.{EntityNode, OfClient, OfDaemon, Happening, Nodes, entity_of, entity_rule, entity_steps, monitor_steps, steps, steps_of}
+use Rattle.cx_run_links.specs.cx_run.specs.Wires.{Wire, gone_at, new_wire, sent_from, side_of, wire_of, with_wire}
+use Rattle.cx_run_links.specs.cx_run.specs.Worlds.{Post, World, carried, happening, node_of, opened_wires, post_of, sends_all, sends_piece, shuts_all, shuts_link}
 use Rattle.cx_steps.specs.declared.effects.Effects.{Effects}
 use Rattle.cx_steps.specs.declared.effects.Piece.{Piece}
 use Rattle.cx_steps.specs.declared.events.Peer.{Peer}

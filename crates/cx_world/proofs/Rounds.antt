@@ -5,9 +5,9 @@ use Rattle.std.proofs.lemmas.Bool.Decides.{nat_tests}
 use Rattle.cx_desk.specs.Handlers.{Handlers}
 use Rattle.cx_line_words.specs.declared.choices.Side.{Side}
 use Rattle.cx_line_words.specs.declared.choices.Side.TheVariants.{Connector, Acceptor}
-use Rattle.cx_run.specs.Deliveries.{delivers, delivers_on, delivers_piece, drains, drains_side, gone_arrives, round, rounds, settles, under_way}
-use Rattle.cx_run.specs.Wires.{Wire, owes_gone, wire_of}
-use Rattle.cx_run.specs.Worlds.{World as RunWorld}
+use Rattle.cx_run_links.specs.cx_run.specs.Deliveries.{delivers, delivers_on, delivers_piece, drains, drains_side, gone_arrives, round, rounds, settles, under_way}
+use Rattle.cx_run_links.specs.cx_run.specs.Wires.{Wire, owes_gone, wire_of}
+use Rattle.cx_run_links.specs.cx_run.specs.Worlds.{World as RunWorld}
 use Rattle.cx_run_links.specs.Calm.{AreCalm, IsCalm, IsCalmAt}
 use Rattle.cx_run_links.specs.Tables.{AreNumbered}
 use Rattle.cx_world.specs.Carried.{Began, Carries, Makes}

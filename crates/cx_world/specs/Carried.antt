@@ -7,9 +7,9 @@ use Rattle.cx_base.specs.declared.nodes.NodeName.{NodeName}
 use Rattle.cx_run_nodes.specs.Held.{StandFor}
 use Rattle.cx_run_nodes.specs.declared.made.Made.{Made}
 use Rattle.cx_premises.specs.Ledgers.{StandsFor}
-use Rattle.cx_run.specs.Deliveries.{Given}
-use Rattle.cx_run.specs.Happenings.{Happening, Nodes, journal_from, nodes_behind, seals_from}
-use Rattle.cx_run.specs.Worlds.{World}
+use Rattle.cx_run_links.specs.cx_run.specs.Deliveries.{Given}
+use Rattle.cx_run_links.specs.cx_run.specs.Happenings.{Happening, Nodes, journal_from, nodes_behind, seals_from}
+use Rattle.cx_run_links.specs.cx_run.specs.Worlds.{World}
 use Rattle.cx_steps.specs.declared.seals.Logged.{Logged}
 use Rattle.cx_steps.specs.declared.seals.SealEntry.{SealEntry}
 use Rattle.cx_world.specs.Logs.{logged_at}

@@ -2,10 +2,10 @@
 use Rattle.std.specs.Prelude.{ℕ, Bool, List, if◌then◌else◌}
 use Rattle.cx_base.specs.declared.nodes.NodeName.{NodeName}
 use Rattle.cx_line_words.specs.declared.choices.Side.{Side}
-use Rattle.cx_rules.specs.Inputs.{Gone}
-use Rattle.cx_run.specs.Deliveries.{arrives, tells}
-use Rattle.cx_run.specs.Wires.{Wire, end_of, gone_at, node_at, other}
-use Rattle.cx_run.specs.Worlds.{World}
+use Rattle.cx_run_links.specs.cx_rules.specs.Inputs.{Gone}
+use Rattle.cx_run_links.specs.cx_run.specs.Deliveries.{arrives, tells}
+use Rattle.cx_run_links.specs.cx_run.specs.Wires.{Wire, end_of, gone_at, node_at, other}
+use Rattle.cx_run_links.specs.cx_run.specs.Worlds.{World}
 use Rattle.cx_run_links.specs.Tables.{with_changed}
 use Rattle.cx_world.specs.declared.ends.LinkEnd.{LinkEnd}
 

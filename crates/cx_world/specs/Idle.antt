@@ -8,11 +8,11 @@ use Rattle.cx_lines.specs.declared.lines.Line.TheVariants as line
 use Rattle.cx_lines.specs.declared.lines.Numbered.{Numbered}
 use Rattle.cx_lines.specs.declared.link_steps.LinkStep.{LinkStep}
 use Rattle.cx_lines.specs.declared.link_steps.LinkStep.TheVariants as link
-use Rattle.cx_run.specs.Opening.{opening_world}
-use Rattle.cx_run.specs.Runs.{setup_of}
-use Rattle.cx_run.specs.Schedules.{after_line, ever_sent}
-use Rattle.cx_run.specs.Wires.{Wire, end_of, other, owes_gone, pieces_from, wire_of}
-use Rattle.cx_run.specs.Worlds.{World}
+use Rattle.cx_run_links.specs.cx_run.specs.Opening.{opening_world}
+use Rattle.cx_run_links.specs.cx_run.specs.Runs.{setup_of}
+use Rattle.cx_run_links.specs.cx_run.specs.Schedules.{after_line, ever_sent}
+use Rattle.cx_run_links.specs.cx_run.specs.Wires.{Wire, end_of, other, owes_gone, pieces_from, wire_of}
+use Rattle.cx_run_links.specs.cx_run.specs.Worlds.{World}
 use Rattle.cx_world.specs.Carried.{Began, Carries}
 use Rattle.cx_world.specs.declared.world.World.{World as Held}
 

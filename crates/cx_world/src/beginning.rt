@@ -16,7 +16,7 @@ use std::alloc::{AllocError, Global};
 impl World {
     ghost use Rattle.std.specs.Prelude.{None, IfOk};
     ghost use Rattle.cx_desk.specs.Handlers.{Handlers};
-    ghost use Rattle.cx_run.specs.Opening.{opening_world};
+    ghost use Rattle.cx_run_links.specs.cx_run.specs.Opening.{opening_world};
     ghost use Rattle.cx_world.specs.Beginning.{began};
     ghost use Rattle.cx_world.specs.Carried.{Carries};
     ghost use Rattle.cx_world.specs.Heads.{with_handlers};

@@ -2,9 +2,9 @@
 
 ghost use Rattle.std.specs.Prelude.{ℕ, ◌≡◌, Option, OnOk};
 ghost use Rattle.cx_desk.specs.Held.{handlers_of};
-ghost use Rattle.cx_run.specs.Deliveries.{arrives, delivers};
-ghost use Rattle.cx_run.specs.Wires.{wire_of};
-ghost use Rattle.cx_run.specs.Worlds.{World as RunWorld};
+ghost use Rattle.cx_run_links.specs.cx_run.specs.Deliveries.{arrives, delivers};
+ghost use Rattle.cx_run_links.specs.cx_run.specs.Wires.{wire_of};
+ghost use Rattle.cx_run_links.specs.cx_run.specs.Worlds.{World as RunWorld};
 ghost use Rattle.cx_world.specs.Arriving.{arrives_there, delivers_gone, owed_on, tells_there, turns_all};
 ghost use Rattle.cx_world.specs.Carried.{Began, Carries, Makes};
 ghost use Rattle.cx_world.specs.Ends.{arrives_end};

@@ -2,7 +2,7 @@
 
 ghost use Rattle.std.specs.Prelude.{◌≡◌, IfOk};
 ghost use Rattle.std.specs.Option.{option_map};
-ghost use Rattle.cx_run.specs.Wires.{wire_of};
+ghost use Rattle.cx_run_links.specs.cx_run.specs.Wires.{wire_of};
 ghost use Rattle.cx_world.specs.Ends.{end_seen};
 
 use cx_base::{Duplicate, NodeName};

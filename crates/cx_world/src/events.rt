@@ -2,11 +2,11 @@
 
 ghost use Rattle.std.specs.Prelude.{ℕ, ◌≡◌, List, length, Option, IfOk, OnOk};
 ghost use Rattle.cx_desk.specs.Held.{handlers_of};
-ghost use Rattle.cx_rules.specs.Inputs.{input_of};
-ghost use Rattle.cx_run.specs.Deliveries.{comes, far_side, followed, open_all, restarts};
-ghost use Rattle.cx_run.specs.Wires.{wire_of};
-ghost use Rattle.cx_run.specs.Worlds.{World as RunWorld, opened_wires};
-ghost use Rattle.cx_run.specs.Deliveries.{Given};
+ghost use Rattle.cx_run_links.specs.cx_rules.specs.Inputs.{input_of};
+ghost use Rattle.cx_run_links.specs.cx_run.specs.Deliveries.{comes, far_side, followed, open_all, restarts};
+ghost use Rattle.cx_run_links.specs.cx_run.specs.Wires.{wire_of};
+ghost use Rattle.cx_run_links.specs.cx_run.specs.Worlds.{World as RunWorld, opened_wires};
+ghost use Rattle.cx_run_links.specs.cx_run.specs.Deliveries.{Given};
 ghost use Rattle.cx_world.specs.Carried.{Began, Carries, IsGivenTo, Makes};
 ghost use Rattle.cx_world.specs.Coming.{IsWritableInput};
 ghost use Rattle.cx_world.specs.Ends.{tells_end};

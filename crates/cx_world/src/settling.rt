@@ -2,8 +2,8 @@
 
 ghost use Rattle.std.specs.Prelude.{ℕ, ◌≡◌, Option, OnOk};
 ghost use Rattle.cx_desk.specs.Held.{handlers_of};
-ghost use Rattle.cx_run.specs.Deliveries.{drains_side, round, settles};
-ghost use Rattle.cx_run.specs.Worlds.{World as RunWorld};
+ghost use Rattle.cx_run_links.specs.cx_run.specs.Deliveries.{drains_side, round, settles};
+ghost use Rattle.cx_run_links.specs.cx_run.specs.Worlds.{World as RunWorld};
 ghost use Rattle.cx_world.specs.Carried.{Began, Carries, Makes, MakesAlone};
 ghost use Rattle.cx_world.specs.Settling.{drains_both};
 

@@ -33,9 +33,9 @@ impl World {
     ghost use Rattle.std.specs.Prelude.{ℕ, ◌≡◌, Option, IfOk, OnOk};
     ghost use Rattle.cx_desk.specs.Handlers.{Handlers};
     ghost use Rattle.cx_desk.specs.Held.{handlers_of};
-    ghost use Rattle.cx_rules.specs.Inputs.{input_of};
-    ghost use Rattle.cx_run.specs.Deliveries.{gives, tells};
-    ghost use Rattle.cx_run.specs.Worlds.{World as RunWorld, carried};
+    ghost use Rattle.cx_run_links.specs.cx_rules.specs.Inputs.{input_of};
+    ghost use Rattle.cx_run_links.specs.cx_run.specs.Deliveries.{gives, tells};
+    ghost use Rattle.cx_run_links.specs.cx_run.specs.Worlds.{World as RunWorld, carried};
     ghost use Rattle.cx_world.specs.Coming.{IsWritableInput};
     ghost use Rattle.cx_world.specs.Carried.{Began, Carries, IsGivenTo, IsNoted, Makes};
 

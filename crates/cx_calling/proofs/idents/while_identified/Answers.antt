@@ -1,7 +1,7 @@
 use Rattle.std.proofs.lemmas.Bool.{ne_eqb}
 use Rattle.std.proofs.Common.{◌==◌, Option, ap}
 use Rattle.cx_control.specs.Idents.{ident_missing_features_layout, server_ident_layout}
-use Rattle.cx_rules.specs.Payloads.{due, payload}
+use Rattle.cx_node.specs.cx_rules.specs.Payloads.{due, payload}
 use Rattle.cx_presenting.specs.cx_rules_session.specs.Forgets.{abridged_call_link}
 use Rattle.cx_presenting.specs.cx_rules_session.specs.Presenter.{AwaitsIdent, CallArrival, CallRow, on_missing_features, on_server_ident, while_identified}
 use Rattle.cx_presenting.specs.cx_rules_session.specs.Sessions.{HeldSession}

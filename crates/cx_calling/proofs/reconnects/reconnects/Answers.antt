@@ -1,4 +1,4 @@
-use Rattle.cx_rules.specs.Holdings.{Asker}
+use Rattle.cx_node.specs.cx_rules.specs.Holdings.{Asker}
 use Rattle.cx_presenting.specs.cx_rules_session.specs.Presenter.{CallStage}
 use Rattle.cx_presenting.specs.cx_sending.specs.Table.{taken_up}
 use Rattle.cx_calling.proofs.Sending.{reconnected}

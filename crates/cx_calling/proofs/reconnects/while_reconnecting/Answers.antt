@@ -2,9 +2,9 @@ use Rattle.std.proofs.Common.{ap, sym, []}
 use Rattle.std.specs.Option.{option_copied}
 use Rattle.cx_control.specs.Reconnects.{session_reconnect_ok_layout, session_reset_layout, session_retry_layout, session_retry_global_layout}
 use Rattle.cx_journal.specs.declared.faults.BytesFault.TheVariants.{Unexpected}
-use Rattle.cx_rules.specs.Payloads.{payload}
-use Rattle.cx_rules.specs.Rows.{refuses_bytes}
-use Rattle.cx_rules.specs.Secured.{Secured}
+use Rattle.cx_node.specs.cx_rules.specs.Payloads.{payload}
+use Rattle.cx_node.specs.cx_rules.specs.Rows.{refuses_bytes}
+use Rattle.cx_node.specs.cx_rules.specs.Secured.{Secured}
 use Rattle.cx_presenting.specs.cx_rules_session.specs.Forgets.{abridged_call_link}
 use Rattle.cx_presenting.specs.cx_rules_session.specs.Presenter.{AwaitsReconnect, CallArrival, CallRow, on_reconnect_ok, on_reset, on_retry, on_retry_global, while_reconnecting}
 use Rattle.cx_turns.proofs.MadeRows.{makes_as}

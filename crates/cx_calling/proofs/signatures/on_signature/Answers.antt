@@ -1,7 +1,7 @@
 use Rattle.std.proofs.Common.{ap, ◌∙◌}
 use Rattle.std.specs.Option.{option_copied}
 use Rattle.cx_link.specs.Sending.{secured_of}
-use Rattle.cx_rules.specs.Secured.{Secured, signature_found}
+use Rattle.cx_node.specs.cx_rules.specs.Secured.{Secured, signature_found}
 use Rattle.cx_presenting.specs.cx_rules_session.specs.Forgets.{abridged_call_link}
 use Rattle.cx_presenting.specs.cx_rules_session.specs.Presenter.{AwaitsSignature, CallArrival, CallRow, on_signature, on_signed}
 use Rattle.cx_turns.proofs.MadeRows.{makes_as, signature_right}

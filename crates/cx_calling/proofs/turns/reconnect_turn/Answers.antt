@@ -1,8 +1,8 @@
 use Rattle.std.proofs.Common.{ℕ}
 use Rattle.std.specs.Option.{option_copied}
 use Rattle.cx_frame.specs.declared.frame.Frame.{Frame}
-use Rattle.cx_rules.specs.Fronts.{keys_behind}
-use Rattle.cx_rules.specs.Secured.{Keys, under}
+use Rattle.cx_node.specs.cx_rules.specs.Fronts.{keys_behind}
+use Rattle.cx_node.specs.cx_rules.specs.Secured.{Keys, under}
 use Rattle.cx_presenting.specs.cx_rules_session.specs.Forgets.{abridged_call_link}
 use Rattle.cx_presenting.specs.cx_rules_session.specs.Presenter.{AwaitsReconnect, CallArrival, while_reconnecting}
 use Rattle.cx_turns.proofs.Handling.{secure_turn}

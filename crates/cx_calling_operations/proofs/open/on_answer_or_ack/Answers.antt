@@ -1,9 +1,9 @@
 use Rattle.std.proofs.lemmas.Bool.{ne_eqb}
 use Rattle.std.proofs.Common.{◌==◌, Option, ap}
 use Rattle.cx_control.specs.Upkeep.{ack_layout}
-use Rattle.cx_rules.specs.Messages.{message_in}
-use Rattle.cx_rules.specs.Payloads.{payload}
-use Rattle.cx_rules.specs.Secured.{Secured}
+use Rattle.cx_node.specs.cx_rules.specs.Messages.{message_in}
+use Rattle.cx_node.specs.cx_rules.specs.Payloads.{payload}
+use Rattle.cx_node.specs.cx_rules.specs.Secured.{Secured}
 use Rattle.cx_calling.specs.cx_rules_session.specs.Forgets.{abridged_call_link}
 use Rattle.cx_calling.specs.cx_rules_session.specs.Presenter.{CallArrival, CallRow, end_in, on_ack, on_answer, on_answer_or_ack}
 use Rattle.cx_calling.specs.cx_rules_session.specs.Sessions.{HeldSession}

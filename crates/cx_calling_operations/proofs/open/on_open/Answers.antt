@@ -1,5 +1,5 @@
 use Rattle.std.proofs.Common.{◌∙◌, [], Option, ap, sym}
-use Rattle.cx_rules.specs.Rows.{secure_sent}
+use Rattle.cx_node.specs.cx_rules.specs.Rows.{secure_sent}
 use Rattle.cx_calling.specs.cx_rules_session.specs.Forgets.{abridged_call_link}
 use Rattle.cx_calling.specs.cx_rules_session.specs.Presenter.{CallArrival, CallRow, Open, on_answer_or_ack}
 use Rattle.cx_calling.specs.cx_rules_session.specs.Sessions.{HeldSession}

@@ -1,5 +1,5 @@
 use Rattle.std.proofs.Common.{[], Option}
-use Rattle.cx_rules.specs.Secured.{secure_frame}
+use Rattle.cx_node.specs.cx_rules.specs.Secured.{secure_frame}
 use Rattle.cx_calling.specs.cx_rules_session.specs.Presenter.{Open}
 use Rattle.cx_calling.specs.cx_rules_session.specs.Sessions.{HeldSession, operation_message}
 use Rattle.cx_turns.specs.Stages.{keys_alone}

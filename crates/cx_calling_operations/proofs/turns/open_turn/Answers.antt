@@ -1,7 +1,7 @@
 use Rattle.std.proofs.Common.{ℕ, Option}
 use Rattle.cx_frame.specs.declared.frame.Frame.{Frame}
-use Rattle.cx_rules.specs.Fronts.{keys_behind}
-use Rattle.cx_rules.specs.Secured.{Keys, under}
+use Rattle.cx_node.specs.cx_rules.specs.Fronts.{keys_behind}
+use Rattle.cx_node.specs.cx_rules.specs.Secured.{Keys, under}
 use Rattle.cx_calling.specs.cx_rules_session.specs.Forgets.{abridged_call_link}
 use Rattle.cx_calling.specs.cx_rules_session.specs.Presenter.{Open, CallArrival}
 use Rattle.cx_calling.specs.cx_rules_session.specs.Sessions.{HeldSession}

@@ -1,6 +1,6 @@
 use Rattle.std.proofs.Common.{◌≡◌}
-use Rattle.cx_rules_session.specs.ClientRule.{WholeClient}
-use Rattle.cx_rules_session.specs.Presenter.{callee_of}
+use Rattle.cx_calling_operations.specs.cx_rules_session.specs.ClientRule.{WholeClient}
+use Rattle.cx_calling_operations.specs.cx_rules_session.specs.Presenter.{callee_of}
 use Rattle.cx_client_calls.proofs.ByKind.{daemon_come}
 use Rattle.cx_client_calls.proofs.links.daemon_turn.Goals as goal
 

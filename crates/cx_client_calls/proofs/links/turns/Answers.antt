@@ -1,8 +1,8 @@
 use Rattle.std.proofs.Common.{List, refl}
-use Rattle.cx_rules_session.specs.ClientRule as rule
-use Rattle.cx_rules_session.specs.ClientRule.{WholeClient, me}
-use Rattle.cx_rules_session.specs.Forgets.{abridged_client_link}
-use Rattle.cx_rules_session.proofs.WholeClientForgets.{client-forgets-links}
+use Rattle.cx_calling_operations.specs.cx_rules_session.specs.ClientRule as rule
+use Rattle.cx_calling_operations.specs.cx_rules_session.specs.ClientRule.{WholeClient, me}
+use Rattle.cx_calling_operations.specs.cx_rules_session.specs.Forgets.{abridged_client_link}
+use Rattle.cx_calling_operations.specs.cx_rules_session.proofs.WholeClientForgets.{client-forgets-links}
 use Rattle.cx_turns.proofs.Turning.{turn_held, turn_step}
 use Rattle.cx_turns.specs.Steps.{node_of}
 use Rattle.cx_client_events.specs.cx_client_links.specs.Kinds.{ClientLink}

@@ -1,7 +1,7 @@
 use Rattle.std.proofs.Common.{◌≡◌, ℕ, Ok}
 use Rattle.cx_journal.specs.declared.entries.Entry.{Entry}
-use Rattle.cx_rules_session.specs.ClientRule.{WholeClient}
-use Rattle.cx_rules_session.specs.Sessions.{session_with}
+use Rattle.cx_calling_operations.specs.cx_rules_session.specs.ClientRule.{WholeClient}
+use Rattle.cx_calling_operations.specs.cx_rules_session.specs.Sessions.{session_with}
 use Rattle.cx_client_calls.specs.Sending.{numbered}
 use Rattle.cx_client_calls.proofs.Sent.{pushed_step}
 use Rattle.cx_client_calls.proofs.sending.sends.Goals as goal

@@ -6,7 +6,7 @@ use Rattle.cx_desk.specs.Handlers.{Handlers}
 use Rattle.cx_desk.specs.Held.{handlers_of}
 use Rattle.cx_links.specs.Acts.{Listened}
 use Rattle.cx_rules_session.specs.DaemonRule.{daemon_step}
-use Rattle.cx_site.specs.Acts.{Linked}
+use Rattle.cx_command_nodes.specs.cx_site.specs.Acts.{Linked}
 use Rattle.cx_command_daemon.proofs.daemons.serves.Goals as goal
 
 pub returns-clause-ran : goal.returns-clause-ran

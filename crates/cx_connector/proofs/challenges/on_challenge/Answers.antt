@@ -1,10 +1,10 @@
 use Rattle.cx_control.specs.Auth.{auth_request_more_layout}
 use Rattle.cx_link.specs.Wires.{wired}
-use Rattle.cx_rules.specs.Abridged.{abridged_asker_link}
-use Rattle.cx_rules.specs.Connector.{AskerArrival, AwaitsChallenge, on_challenge, proves}
-use Rattle.cx_rules.specs.Payloads.{control, whole}
-use Rattle.cx_rules.specs.Secured.{plain_frame}
-use Rattle.cx_wire.specs.Logins.{server_challenge_layout}
+use Rattle.cx_node.specs.cx_rules.specs.Abridged.{abridged_asker_link}
+use Rattle.cx_node.specs.cx_rules.specs.Connector.{AskerArrival, AwaitsChallenge, on_challenge, proves}
+use Rattle.cx_node.specs.cx_rules.specs.Payloads.{control, whole}
+use Rattle.cx_node.specs.cx_rules.specs.Secured.{plain_frame}
+use Rattle.cx_login.specs.cx_wire.specs.Logins.{server_challenge_layout}
 use Rattle.cx_turns.proofs.MadeRows.{makes_as}
 use Rattle.cx_connector.specs.Rows.{arrived, changed}
 use Rattle.cx_connector.proofs.Choices.{challenge_answered}

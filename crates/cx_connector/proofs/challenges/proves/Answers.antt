@@ -1,12 +1,12 @@
 -- The proof is sent behind the entry of one's own challenge.
 use Rattle.std.proofs.Common.{◌≡◌, [], ◌∷◌, rules}
 use Rattle.cx_control.specs.Auth.{auth_request_more_layout}
-use Rattle.cx_dice.specs.Draws.{challenge_of}
+use Rattle.cx_turns.specs.cx_dice.specs.Draws.{challenge_of}
 use Rattle.cx_link.specs.Wires.{wired}
-use Rattle.cx_rules.specs.Abridged.{abridged_asker_link}
-use Rattle.cx_rules.specs.Connector.{AskerArrival, proves}
-use Rattle.cx_rules.specs.Payloads.{control}
-use Rattle.cx_rules.specs.Secured.{plain_frame}
+use Rattle.cx_node.specs.cx_rules.specs.Abridged.{abridged_asker_link}
+use Rattle.cx_node.specs.cx_rules.specs.Connector.{AskerArrival, proves}
+use Rattle.cx_node.specs.cx_rules.specs.Payloads.{control}
+use Rattle.cx_node.specs.cx_rules.specs.Secured.{plain_frame}
 use Rattle.cx_steps.specs.declared.seals.DrawMark.TheVariants as draw
 use Rattle.cx_steps.specs.declared.seals.SealEntry.{SealEntry}
 use Rattle.cx_steps.specs.declared.seals.SealEntry.TheVariants.{Drawn}

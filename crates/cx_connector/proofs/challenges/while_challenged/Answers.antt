@@ -1,6 +1,6 @@
 use Rattle.cx_link.specs.Wires.{wired}
-use Rattle.cx_rules.specs.Abridged.{abridged_asker_link}
-use Rattle.cx_rules.specs.Connector.{AskerArrival, AwaitsChallenge, while_challenged}
+use Rattle.cx_node.specs.cx_rules.specs.Abridged.{abridged_asker_link}
+use Rattle.cx_node.specs.cx_rules.specs.Connector.{AskerArrival, AwaitsChallenge, while_challenged}
 use Rattle.cx_turns.proofs.MadeRows.{makes_as}
 use Rattle.cx_connector.specs.Rows.{arrived, changed, denied}
 use Rattle.cx_connector.proofs.Choices.{challenge_denied}

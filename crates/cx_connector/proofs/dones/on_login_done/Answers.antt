@@ -1,11 +1,11 @@
 -- What opened is logged first.
 use Rattle.cx_link.specs.Wires.{wired}
 use Rattle.cx_login.specs.Unlocking.{login_in}
-use Rattle.cx_rules.specs.Abridged.{abridged_asker_link}
-use Rattle.cx_rules.specs.Connector.{AskerArrival, AwaitsDone, on_login_done, on_opened}
-use Rattle.cx_rules.specs.Payloads.{whole}
+use Rattle.cx_node.specs.cx_rules.specs.Abridged.{abridged_asker_link}
+use Rattle.cx_node.specs.cx_rules.specs.Connector.{AskerArrival, AwaitsDone, on_login_done, on_opened}
+use Rattle.cx_node.specs.cx_rules.specs.Payloads.{whole}
 use Rattle.cx_turns.proofs.MadeRows.{behind_as}
-use Rattle.cx_wire.specs.Logins.{login_done_layout}
+use Rattle.cx_login.specs.cx_wire.specs.Logins.{login_done_layout}
 use Rattle.std.proofs.Common.{[]}
 use Rattle.cx_connector.specs.Rows.{arrived, changed}
 use Rattle.cx_connector.proofs.Logged.{login_opened}

@@ -1,4 +1,4 @@
-use Rattle.cx_rules.specs.Connector.{AwaitsIdent}
+use Rattle.cx_node.specs.cx_rules.specs.Connector.{AwaitsIdent}
 use Rattle.cx_turns.specs.Stages.{keys_alone}
 use Rattle.cx_connector.proofs.idents.on_server_ident.Goals as goal
 

@@ -1,8 +1,8 @@
 use Rattle.std.proofs.Common.{◌∙◌, sym}
 use Rattle.cx_link.specs.Wires.{secured_link}
-use Rattle.cx_rules.specs.Abridged.{abridged_asker_link}
-use Rattle.cx_rules.specs.Connector.{AskerArrival, Open}
-use Rattle.cx_rules.specs.Requests.{asks_rotating, opens_to}
+use Rattle.cx_node.specs.cx_rules.specs.Abridged.{abridged_asker_link}
+use Rattle.cx_node.specs.cx_rules.specs.Connector.{AskerArrival, Open}
+use Rattle.cx_node.specs.cx_rules.specs.Requests.{asks_rotating, opens_to}
 use Rattle.cx_turns.proofs.MadeRows.{makes_as}
 use Rattle.cx_turns.specs.Stages.{keys_alone}
 use Rattle.cx_connector.specs.Rows.{arrived, changed}

@@ -1,5 +1,5 @@
-use Rattle.cx_rules.specs.Abridged.{abridged_asker_link}
-use Rattle.cx_rules.specs.Connector.{AskerArrival, AwaitsIdent, on_missing_features, while_identified}
+use Rattle.cx_node.specs.cx_rules.specs.Abridged.{abridged_asker_link}
+use Rattle.cx_node.specs.cx_rules.specs.Connector.{AskerArrival, AwaitsIdent, on_missing_features, while_identified}
 use Rattle.cx_turns.proofs.MadeRows.{makes_as}
 use Rattle.cx_turns.specs.Stages.{keys_alone}
 use Rattle.cx_connector.specs.Rows.{arrived, changed}

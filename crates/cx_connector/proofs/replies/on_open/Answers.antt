@@ -1,8 +1,8 @@
 use Rattle.std.proofs.Common.{◌∙◌, [], ap, sym}
-use Rattle.cx_rules.specs.Abridged.{abridged_asker_link}
-use Rattle.cx_rules.specs.Connector.{AskerArrival, AskerRow, Open}
-use Rattle.cx_rules.specs.Requests.{on_open, on_reply}
-use Rattle.cx_rules.specs.Rows.{secure_sent}
+use Rattle.cx_node.specs.cx_rules.specs.Abridged.{abridged_asker_link}
+use Rattle.cx_node.specs.cx_rules.specs.Connector.{AskerArrival, AskerRow, Open}
+use Rattle.cx_node.specs.cx_rules.specs.Requests.{on_open, on_reply}
+use Rattle.cx_node.specs.cx_rules.specs.Rows.{secure_sent}
 use Rattle.cx_turns.proofs.Keeping.{keepalive-row}
 use Rattle.cx_turns.proofs.MadeRows.{makes_as}
 use Rattle.cx_turns.specs.Making.{row_due}

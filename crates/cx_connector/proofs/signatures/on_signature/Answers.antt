@@ -1,8 +1,8 @@
 use Rattle.std.proofs.Common.{ap, ◌∙◌}
 use Rattle.cx_link.specs.Sending.{secured_of}
-use Rattle.cx_rules.specs.Abridged.{abridged_asker_link}
-use Rattle.cx_rules.specs.Connector.{AskerArrival, AskerRow, AwaitsSignature, identifies, on_signature}
-use Rattle.cx_rules.specs.Secured.{Secured, signature_found}
+use Rattle.cx_node.specs.cx_rules.specs.Abridged.{abridged_asker_link}
+use Rattle.cx_node.specs.cx_rules.specs.Connector.{AskerArrival, AskerRow, AwaitsSignature, identifies, on_signature}
+use Rattle.cx_node.specs.cx_rules.specs.Secured.{Secured, signature_found}
 use Rattle.cx_turns.proofs.MadeRows.{makes_as, signature_right}
 use Rattle.cx_turns.specs.Making.{row_due}
 use Rattle.cx_connector.specs.Rows.{arrived, changed, identified}

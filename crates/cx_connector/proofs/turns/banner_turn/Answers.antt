@@ -1,6 +1,6 @@
 use Rattle.cx_link.specs.Wires.{wired}
-use Rattle.cx_rules.specs.Abridged.{abridged_asker_link}
-use Rattle.cx_rules.specs.Connector.{AskerArrival, AwaitsBanner, on_banner}
+use Rattle.cx_node.specs.cx_rules.specs.Abridged.{abridged_asker_link}
+use Rattle.cx_node.specs.cx_rules.specs.Connector.{AskerArrival, AwaitsBanner, on_banner}
 use Rattle.cx_turns.proofs.Handling.{banner_turn}
 use Rattle.cx_connector.specs.Rows.{arrived, changed}
 use Rattle.cx_connector.proofs.turns.banner_turn.Goals as goal

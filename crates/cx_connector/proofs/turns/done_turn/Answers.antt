@@ -1,7 +1,7 @@
 use Rattle.cx_frame.specs.declared.frame.Frame.{Frame}
-use Rattle.cx_rules.specs.Connector.{AskerArrival, AwaitsDone, while_proved}
+use Rattle.cx_node.specs.cx_rules.specs.Connector.{AskerArrival, AwaitsDone, while_proved}
 use Rattle.cx_link.specs.Wires.{wired}
-use Rattle.cx_rules.specs.Abridged.{abridged_asker_link}
+use Rattle.cx_node.specs.cx_rules.specs.Abridged.{abridged_asker_link}
 use Rattle.cx_turns.proofs.Handling.{plain_turn}
 use Rattle.cx_connector.specs.Rows.{arrived, changed}
 use Rattle.cx_connector.proofs.turns.done_turn.Goals as goal

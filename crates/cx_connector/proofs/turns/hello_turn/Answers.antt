@@ -1,9 +1,9 @@
 use Rattle.cx_frame.specs.declared.frame.Frame.{Frame}
 use Rattle.cx_control.specs.Hello.{hello_layout}
-use Rattle.cx_rules.specs.Connector.{AskerArrival, AwaitsHello, on_hello}
-use Rattle.cx_rules.specs.Payloads.{due}
+use Rattle.cx_node.specs.cx_rules.specs.Connector.{AskerArrival, AwaitsHello, on_hello}
+use Rattle.cx_node.specs.cx_rules.specs.Payloads.{due}
 use Rattle.cx_link.specs.Wires.{wired}
-use Rattle.cx_rules.specs.Abridged.{abridged_asker_link}
+use Rattle.cx_node.specs.cx_rules.specs.Abridged.{abridged_asker_link}
 use Rattle.cx_turns.proofs.Handling.{plain_turn}
 use Rattle.cx_connector.specs.Rows.{arrived, changed}
 use Rattle.cx_connector.proofs.turns.hello_turn.Goals as goal

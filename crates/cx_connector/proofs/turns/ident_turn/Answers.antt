@@ -1,10 +1,10 @@
 use Rattle.std.proofs.Common.{ℕ}
 use Rattle.cx_frame.specs.declared.frame.Frame.{Frame}
-use Rattle.cx_rules.specs.Connector.{AskerArrival, AwaitsIdent, while_identified}
+use Rattle.cx_node.specs.cx_rules.specs.Connector.{AskerArrival, AwaitsIdent, while_identified}
 use Rattle.cx_connector.proofs.Behind.{ident-same}
-use Rattle.cx_rules.specs.Abridged.{abridged_asker_link}
-use Rattle.cx_rules.specs.Fronts.{keys_behind}
-use Rattle.cx_rules.specs.Secured.{Keys, under}
+use Rattle.cx_node.specs.cx_rules.specs.Abridged.{abridged_asker_link}
+use Rattle.cx_node.specs.cx_rules.specs.Fronts.{keys_behind}
+use Rattle.cx_node.specs.cx_rules.specs.Secured.{Keys, under}
 use Rattle.cx_turns.proofs.Handling.{secure_turn}
 use Rattle.cx_turns.specs.Stages.{keys_alone}
 use Rattle.cx_connector.specs.Rows.{arrived, changed}

@@ -2,10 +2,10 @@ use Rattle.std.proofs.Common.{ℕ}
 use Rattle.cx_control.specs.Auth.{auth_signature_layout}
 use Rattle.cx_frame.specs.declared.frame.Frame.{Frame}
 use Rattle.cx_link.specs.Sending.{secured_of}
-use Rattle.cx_rules.specs.Abridged.{abridged_asker_link}
-use Rattle.cx_rules.specs.Connector.{AskerArrival, AwaitsSignature, on_signature}
-use Rattle.cx_rules.specs.Payloads.{due}
-use Rattle.cx_rules.specs.Secured.{Secured}
+use Rattle.cx_node.specs.cx_rules.specs.Abridged.{abridged_asker_link}
+use Rattle.cx_node.specs.cx_rules.specs.Connector.{AskerArrival, AwaitsSignature, on_signature}
+use Rattle.cx_node.specs.cx_rules.specs.Payloads.{due}
+use Rattle.cx_node.specs.cx_rules.specs.Secured.{Secured}
 use Rattle.cx_turns.proofs.Signing.{signing_turn}
 use Rattle.cx_connector.specs.Rows.{arrived, changed}
 use Rattle.cx_connector.specs.Stages.{awaiting_signature}

@@ -1,7 +1,7 @@
 use Rattle.std.proofs.Common.{◌∙◌, List, ap}
 use Rattle.cx_desk.specs.Held.{handlers_of}
 use Rattle.cx_node.specs.Tables.{Table}
-use Rattle.cx_rules.specs.Links.{without_link}
+use Rattle.cx_node.specs.cx_rules.specs.Links.{without_link}
 use Rattle.cx_daemon_events.specs.Kinds.{DaemonLink}
 use Rattle.cx_daemon.proofs.Behind.{left_twice}
 use Rattle.cx_daemon.proofs.Guests.{guest_answer, guest_left}

@@ -1,6 +1,6 @@
 use Rattle.std.proofs.Common.{◌≡◌, ◌∙◌, List, ap}
 use Rattle.cx_node.specs.Tables.{Table}
-use Rattle.cx_rules.specs.Links.{without_link}
+use Rattle.cx_node.specs.cx_rules.specs.Links.{without_link}
 use Rattle.cx_daemon_events.specs.Kinds.{DaemonLink}
 use Rattle.cx_daemon_events.proofs.Steps.{without_held}
 use Rattle.cx_daemon.proofs.turns.turns.Goals as goal

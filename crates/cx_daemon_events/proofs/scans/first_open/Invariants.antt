@@ -1,6 +1,6 @@
 -- No link so far is an open one to the monitor.
 use Rattle.std.proofs.Common.{◌≡◌, drop}
-use Rattle.cx_rules.specs.Requests.{first_open}
+use Rattle.cx_node.specs.cx_rules.specs.Requests.{first_open}
 use Rattle.cx_verifying.specs.cx_rules_session.specs.DaemonRule.{asking_open}
 use Rattle.cx_daemon_events.proofs.scans.first_open.Given as goal
 

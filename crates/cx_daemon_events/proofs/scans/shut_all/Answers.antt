@@ -1,6 +1,6 @@
 use Rattle.std.proofs.Common.{◌∙◌, ℕ, ◌<◌, List, Option, get_or, length, refl, sym, ap, subst}
 use Rattle.cx_node.specs.Tables.{Table}
-use Rattle.cx_rules.specs.Links.{without_link}
+use Rattle.cx_node.specs.cx_rules.specs.Links.{without_link}
 use Rattle.cx_daemon_events.specs.Kinds.{DaemonLink}
 use Rattle.cx_daemon_events.proofs.Shutting.{left_more, none_named}
 use Rattle.cx_daemon_events.proofs.scans.shut_all.Goals as goal

@@ -3,8 +3,8 @@ use Rattle.std.proofs.Common.{[], ◌∷◌, refl, subst}
 use Rattle.cx_dice.specs.Draws.{cookie_of}
 use Rattle.cx_journal.specs.declared.entries.Admitted.{Admitted}
 use Rattle.cx_journal.specs.declared.entries.Entry.TheVariants as entry
-use Rattle.cx_rules.specs.Acceptor.{Open, server_ident}
-use Rattle.cx_rules.specs.Rows.{sends_secure}
+use Rattle.cx_node.specs.cx_rules.specs.Acceptor.{Open, server_ident}
+use Rattle.cx_node.specs.cx_rules.specs.Rows.{sends_secure}
 use Rattle.cx_guest_rows.specs.cx_rules_session.specs.Guests.{GuestArrival, GuestRow}
 use Rattle.cx_guest_rows.specs.cx_rules_session.specs.Hosting.{cookie_drawn, served_as}
 use Rattle.cx_guest_rows.specs.cx_rules_session.specs.Kinds.{entered_before}

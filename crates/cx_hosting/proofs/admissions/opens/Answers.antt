@@ -1,8 +1,8 @@
 -- SERVER_IDENT is sent behind the entry that its cookie was drawn.
 use Rattle.std.proofs.Common.{[], ◌∷◌}
-use Rattle.cx_authorize.specs.Daemon.{Authority}
+use Rattle.cx_guest_rows.specs.cx_authorize.specs.Daemon.{Authority}
 use Rattle.cx_dice.specs.Draws.{cookie_of}
-use Rattle.cx_rules.specs.Acceptor.{Open, server_ident}
+use Rattle.cx_node.specs.cx_rules.specs.Acceptor.{Open, server_ident}
 use Rattle.cx_guest_rows.specs.cx_rules_session.specs.Guests.{GuestArrival}
 use Rattle.cx_guest_rows.specs.cx_rules_session.specs.Hosting.{cookie_drawn}
 use Rattle.cx_guest_rows.specs.cx_rules_session.specs.Lossy.{lossy_flags}

@@ -1,6 +1,6 @@
 -- The link is refused behind the drawn cookie.
 use Rattle.std.proofs.Common.{◌≡◌, ◌∷◌, [], refl}
-use Rattle.cx_rules.specs.Rows.{refuses}
+use Rattle.cx_node.specs.cx_rules.specs.Rows.{refuses}
 use Rattle.cx_guest_rows.specs.cx_rules_session.specs.Guests.{GuestArrival}
 use Rattle.cx_guest_rows.specs.cx_rules_session.specs.Hosting.{cookie_drawn}
 use Rattle.cx_guest_rows.specs.cx_verifying.specs.Rows.{arrived}

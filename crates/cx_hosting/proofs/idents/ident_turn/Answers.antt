@@ -1,10 +1,10 @@
 -- A frame is decided from the link that holds what is left of the bytes.
 use Rattle.std.proofs.Common.{ℕ, refl}
-use Rattle.cx_desk.specs.Handlers.{Handlers}
+use Rattle.cx_guest_rows.specs.cx_desk.specs.Handlers.{Handlers}
 use Rattle.cx_frame.specs.declared.frame.Frame.{Frame}
-use Rattle.cx_rules.specs.Acceptor.{AwaitsIdent}
-use Rattle.cx_rules.specs.Fronts.{keys_behind}
-use Rattle.cx_rules.specs.Secured.{Keys, under}
+use Rattle.cx_node.specs.cx_rules.specs.Acceptor.{AwaitsIdent}
+use Rattle.cx_node.specs.cx_rules.specs.Fronts.{keys_behind}
+use Rattle.cx_node.specs.cx_rules.specs.Secured.{Keys, under}
 use Rattle.cx_guest_rows.specs.cx_rules_session.specs.Guests.{GuestArrival, GuestStage}
 use Rattle.cx_guest_rows.specs.cx_rules_session.specs.Hosting.{on_ident}
 use Rattle.cx_turns.specs.Stages.{keys_alone}

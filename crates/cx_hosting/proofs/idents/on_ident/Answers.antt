@@ -4,8 +4,8 @@ use Rattle.std.specs.Prelude.{if◌then◌else◌}
 use Rattle.cx_control.specs.Idents.{client_ident_layout}
 use Rattle.cx_control.specs.Reconnects.{session_reconnect_layout}
 use Rattle.cx_journal.specs.declared.faults.BytesFault.TheVariants.{Unexpected}
-use Rattle.cx_rules.specs.Payloads.{payload}
-use Rattle.cx_rules.specs.Rows.{refuses_bytes}
+use Rattle.cx_node.specs.cx_rules.specs.Payloads.{payload}
+use Rattle.cx_node.specs.cx_rules.specs.Rows.{refuses_bytes}
 use Rattle.cx_guest_rows.specs.cx_rules_session.specs.Guests.{GuestArrival, GuestRow}
 use Rattle.cx_guest_rows.specs.cx_rules_session.specs.Hosting.{Deciding, Hosted, comes_to, on_client_ident, on_ident, on_reconnect}
 use Rattle.cx_turns.specs.Stages.{keys_alone}

@@ -3,8 +3,8 @@ use Rattle.std.proofs.Common.{◌≡◌, ◌∙◌, ◌==◌, Bool, [], None, Re
 use Rattle.std.specs.Prelude.{if◌then◌else◌}
 use Rattle.cx_control.specs.declared.reconnects.SessionReconnect.{SessionReconnect}
 use Rattle.cx_journal.specs.declared.faults.BytesFault.{BytesFault}
-use Rattle.cx_rules.specs.Acceptor.{misses}
-use Rattle.cx_rules.specs.Rows.{refuses_bytes}
+use Rattle.cx_node.specs.cx_rules.specs.Acceptor.{misses}
+use Rattle.cx_node.specs.cx_rules.specs.Rows.{refuses_bytes}
 use Rattle.cx_guest_rows.specs.cx_rules_session.specs.Guests.{GuestArrival, GuestRow}
 use Rattle.cx_guest_rows.specs.cx_rules_session.specs.Hosting.{Deciding, Hosted, asks_admission, comes_to, on_reconnect}
 use Rattle.cx_turns.specs.Stages.{keys_alone}

@@ -2,8 +2,8 @@
 use Rattle.std.proofs.Common.{[], refl, subst}
 use Rattle.cx_journal.specs.declared.entries.Admitted.{Admitted}
 use Rattle.cx_journal.specs.declared.entries.Entry.TheVariants as entry
-use Rattle.cx_rules.specs.Acceptor.{Open}
-use Rattle.cx_rules.specs.Rows.{sends_secure}
+use Rattle.cx_node.specs.cx_rules.specs.Acceptor.{Open}
+use Rattle.cx_node.specs.cx_rules.specs.Rows.{sends_secure}
 use Rattle.cx_guest_rows.specs.cx_rules_session.specs.Guests.{GuestArrival, GuestRow}
 use Rattle.cx_guest_rows.specs.cx_rules_session.specs.Hosting.{admission_of, reconnect_ok, served_as}
 use Rattle.cx_guest_rows.specs.cx_rules_session.specs.Kinds.{entered_before}

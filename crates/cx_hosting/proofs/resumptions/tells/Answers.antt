@@ -4,9 +4,9 @@ use Rattle.cx_base.specs.declared.nodes.NodeName.TheVariants as node
 use Rattle.cx_frame.specs.declared.frame.Frame.{Frame}
 use Rattle.cx_journal.specs.declared.entries.Entry.{Entry}
 use Rattle.cx_link.specs.Wires.{SecureWire}
-use Rattle.cx_rules.specs.Acceptor.{AwaitsIdent}
-use Rattle.cx_rules.specs.Rows.{refused_entry, sends_secure}
-use Rattle.cx_rules.specs.Secured.{secure_frame}
+use Rattle.cx_node.specs.cx_rules.specs.Acceptor.{AwaitsIdent}
+use Rattle.cx_node.specs.cx_rules.specs.Rows.{refused_entry, sends_secure}
+use Rattle.cx_node.specs.cx_rules.specs.Secured.{secure_frame}
 use Rattle.cx_guest_rows.specs.cx_rules_session.specs.Guests.{GuestArrival, GuestRow}
 use Rattle.cx_guest_rows.specs.cx_rules_session.specs.Kinds.{entered_before}
 use Rattle.cx_turns.specs.Sending.{SendsSecure}

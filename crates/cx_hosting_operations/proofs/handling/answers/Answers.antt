@@ -1,9 +1,9 @@
 -- What ended is entered before the answer.
 use Rattle.std.proofs.Common.{[], ◌∷◌, refl, subst}
 use Rattle.cx_journal.specs.declared.entries.Entry.{Entry}
-use Rattle.cx_rules.specs.Acceptor.{Open}
-use Rattle.cx_rules.specs.Messages.{acknowledgement, secure_frames}
-use Rattle.cx_rules.specs.Rows.{secure_sent}
+use Rattle.cx_node.specs.cx_rules.specs.Acceptor.{Open}
+use Rattle.cx_node.specs.cx_rules.specs.Messages.{acknowledgement, secure_frames}
+use Rattle.cx_node.specs.cx_rules.specs.Rows.{secure_sent}
 use Rattle.cx_guest_rows.specs.cx_rules_session.specs.Guests.{GuestArrival, GuestRow}
 use Rattle.cx_guest_rows.specs.cx_rules_session.specs.Kinds.{entered_before}
 use Rattle.cx_turns.specs.Stages.{keys_alone}

@@ -1,5 +1,5 @@
 use Rattle.std.proofs.Common.{arith, sym}
-use Rattle.cx_rules.proofs.Payloads.{read_is, unread_is}
+use Rattle.cx_node.specs.cx_rules.proofs.Payloads.{read_is, unread_is}
 use Rattle.cx_wire.specs.Operations.{operation_layout}
 use Rattle.cx_hosting_operations.proofs.instructions.operation_in.Goals as goal
 

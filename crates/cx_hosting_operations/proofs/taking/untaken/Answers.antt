@@ -2,9 +2,9 @@
 use Rattle.std.proofs.Common.{[], refl}
 use Rattle.cx_journal.specs.declared.faults.SessionFault.TheVariants as session
 use Rattle.cx_journal.specs.declared.outcomes.Reason.TheVariants as reason
-use Rattle.cx_rules.specs.Acceptor.{Open}
-use Rattle.cx_rules.specs.Messages.{acknowledgement}
-use Rattle.cx_rules.specs.Rows.{refuses, sends_secure}
+use Rattle.cx_node.specs.cx_rules.specs.Acceptor.{Open}
+use Rattle.cx_node.specs.cx_rules.specs.Messages.{acknowledgement}
+use Rattle.cx_node.specs.cx_rules.specs.Rows.{refuses, sends_secure}
 use Rattle.cx_turns.specs.Stages.{keys_alone}
 use Rattle.cx_guest_rows.specs.cx_verifying.specs.Stages.{open_link}
 use Rattle.cx_hosting_operations.specs.Pending.{open_arrival}

@@ -2,8 +2,8 @@
 use Rattle.std.proofs.Common.{◌≡◌, ◌∙◌, [], None, Result, Err, refl, sym, ap}
 use Rattle.cx_desk.specs.Handlers.{Handlers}
 use Rattle.cx_journal.specs.declared.faults.BytesFault.{BytesFault}
-use Rattle.cx_rules.specs.Messages.{message_in}
-use Rattle.cx_rules.specs.Rows.{refuses_bytes}
+use Rattle.cx_node.specs.cx_rules.specs.Messages.{message_in}
+use Rattle.cx_node.specs.cx_rules.specs.Rows.{refuses_bytes}
 use Rattle.cx_guest_rows.specs.cx_rules_session.specs.Guests.{GuestArrival, GuestRow}
 use Rattle.cx_guest_rows.specs.cx_rules_session.specs.Hosting.{Deciding, Hosted, Instruction, instruction_of, on_message}
 use Rattle.cx_turns.specs.Stages.{keys_alone}

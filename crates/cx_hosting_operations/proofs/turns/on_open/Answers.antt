@@ -1,8 +1,8 @@
 -- A keepalive has the row of what is sent behind it.
 use Rattle.std.proofs.Common.{◌≡◌, ◌∙◌, [], None, true, refl, sym, ap}
 use Rattle.cx_desk.specs.Handlers.{Handlers}
-use Rattle.cx_rules.specs.Acceptor.{Open}
-use Rattle.cx_rules.specs.Rows.{secure_sent}
+use Rattle.cx_node.specs.cx_rules.specs.Acceptor.{Open}
+use Rattle.cx_node.specs.cx_rules.specs.Rows.{secure_sent}
 use Rattle.cx_guest_rows.specs.cx_rules_session.specs.Guests.{GuestArrival, GuestRow}
 use Rattle.cx_guest_rows.specs.cx_rules_session.specs.Hosting.{on_open}
 use Rattle.cx_turns.specs.Stages.{keys_alone}

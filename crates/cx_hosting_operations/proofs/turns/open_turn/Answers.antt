@@ -2,9 +2,9 @@
 use Rattle.std.proofs.Common.{ℕ, refl}
 use Rattle.cx_desk.specs.Handlers.{Handlers}
 use Rattle.cx_frame.specs.declared.frame.Frame.{Frame}
-use Rattle.cx_rules.specs.Acceptor.{Open}
-use Rattle.cx_rules.specs.Fronts.{keys_behind}
-use Rattle.cx_rules.specs.Secured.{Keys, under}
+use Rattle.cx_node.specs.cx_rules.specs.Acceptor.{Open}
+use Rattle.cx_node.specs.cx_rules.specs.Fronts.{keys_behind}
+use Rattle.cx_node.specs.cx_rules.specs.Secured.{Keys, under}
 use Rattle.cx_guest_rows.specs.cx_rules_session.specs.Guests.{GuestArrival, GuestStage}
 use Rattle.cx_guest_rows.specs.cx_rules_session.specs.Hosting.{on_open}
 use Rattle.cx_turns.specs.Stages.{keys_alone}

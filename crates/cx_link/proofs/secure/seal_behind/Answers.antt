@@ -1,7 +1,7 @@
 use Rattle.std.proofs.Common.{◌∙◌, ◌++◌, List, ℕ, ap, length, map}
-use Rattle.cx_secure.specs.Plains.{plains, secure_text}
-use Rattle.cx_secure.specs.Sealings.{connection_key}
-use Rattle.cx_secure.specs.declared.sealing.Sealing.{Sealing}
+use Rattle.cx_rules.specs.cx_secure.specs.Plains.{plains, secure_text}
+use Rattle.cx_rules.specs.cx_secure.specs.Sealings.{connection_key}
+use Rattle.cx_rules.specs.cx_secure.specs.declared.sealing.Sealing.{Sealing}
 use Rattle.cx_link.specs.Sending.{sealed_entry}
 use Rattle.cx_link.proofs.SealedFrames.{same_ahead, sends_frame}
 use Rattle.cx_link.proofs.secure.seal_behind.Goals as goal

@@ -1,5 +1,5 @@
 use Rattle.std.proofs.Common.{drop, ◌+◌, sym, ap, ◌∙◌}
-use Rattle.cx_journal.specs.declared.premises.KeyKind.TheVariants as kind
+use Rattle.cx_steps.specs.cx_journal.specs.declared.premises.KeyKind.TheVariants as kind
 use Rattle.cx_login.specs.Unlocking.{told, told_each}
 use Rattle.cx_login.proofs.Unlocking.{ahead, told_each_at, ahead_more, ahead_none, ahead_all}
 use Rattle.cx_login.proofs.held.told_each.Goals as goal

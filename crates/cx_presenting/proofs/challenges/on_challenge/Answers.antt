@@ -1,11 +1,11 @@
 -- What opened is logged first.
 use Rattle.std.proofs.Common.{Option, [], arith}
-use Rattle.cx_rules.specs.Payloads.{whole}
+use Rattle.cx_node.specs.cx_rules.specs.Payloads.{whole}
 use Rattle.cx_sending.specs.cx_rules_session.specs.Forgets.{abridged_call_link}
 use Rattle.cx_sending.specs.cx_rules_session.specs.Presenter.{AwaitsChallenge, CallArrival, on_challenge}
 use Rattle.cx_sending.specs.cx_rules_session.specs.Sessions.{HeldSession}
 use Rattle.cx_turns.proofs.MadeRows.{behind_as}
-use Rattle.cx_wire.specs.Logins.{authorize_challenge_layout}
+use Rattle.cx_login.specs.cx_wire.specs.Logins.{authorize_challenge_layout}
 use Rattle.cx_presenting.specs.Rows.{arrived, caller, changed}
 use Rattle.cx_presenting.specs.Stages.{awaiting_challenge}
 use Rattle.cx_presenting.proofs.Behind.{answered_row, challenge_refused, challenge_taken}

@@ -2,12 +2,12 @@
 use Rattle.std.proofs.Common.{List, Option, Err, [], arith, subst}
 use Rattle.cx_authorize.specs.Client.{IsAgreed}
 use Rattle.cx_steps.specs.declared.seals.SealEntry.{SealEntry}
-use Rattle.cx_rules.specs.Payloads.{whole}
+use Rattle.cx_node.specs.cx_rules.specs.Payloads.{whole}
 use Rattle.cx_sending.specs.cx_rules_session.specs.Forgets.{abridged_call_link}
 use Rattle.cx_sending.specs.cx_rules_session.specs.Presenter.{AwaitsDone, CallArrival, on_authorize_reply}
 use Rattle.cx_sending.specs.cx_rules_session.specs.Sessions.{HeldSession}
 use Rattle.cx_turns.proofs.MadeRows.{behind_as}
-use Rattle.cx_wire.specs.Logins.{authorize_reply_layout}
+use Rattle.cx_login.specs.cx_wire.specs.Logins.{authorize_reply_layout}
 use Rattle.cx_presenting.specs.Rows.{arrived, caller, changed}
 use Rattle.cx_presenting.specs.Stages.{awaiting_done}
 use Rattle.cx_presenting.proofs.Behind.{reply_refused, reply_taken, signed_row}

@@ -1,6 +1,6 @@
 use Rattle.std.proofs.Common.{Option, ap}
 use Rattle.cx_control.specs.Auth.{auth_done_layout}
-use Rattle.cx_rules.specs.Payloads.{due}
+use Rattle.cx_node.specs.cx_rules.specs.Payloads.{due}
 use Rattle.cx_sending.specs.cx_rules_session.specs.Forgets.{abridged_call_link}
 use Rattle.cx_sending.specs.cx_rules_session.specs.Presenter.{AwaitsDone, CallArrival, CallRow, on_done, while_answered}
 use Rattle.cx_sending.specs.cx_rules_session.specs.Sessions.{HeldSession}

@@ -2,11 +2,11 @@
 use Rattle.std.proofs.Common.{◌≡◌, ◌∙◌, ℕ, List, Option, Some, None, Result, Ok, refl, sym, ap}
 use Rattle.cx_authorize.specs.Client.{Presented}
 use Rattle.cx_control.specs.declared.hello.Hello.{Hello}
-use Rattle.cx_dice.specs.Draws.{challenge_of}
+use Rattle.cx_turns.specs.cx_dice.specs.Draws.{challenge_of}
 use Rattle.cx_journal.specs.declared.faults.BytesFault.{BytesFault}
 use Rattle.cx_link.specs.Wires.{wired}
 use Rattle.cx_login.specs.Held.{Held}
-use Rattle.cx_rules.specs.Holdings.{Asker}
+use Rattle.cx_node.specs.cx_rules.specs.Holdings.{Asker}
 use Rattle.cx_sending.specs.cx_rules_session.specs.Forgets.{abridged_call_link}
 use Rattle.cx_sending.specs.cx_rules_session.specs.Presenter.{AwaitsHello, CallArrival, CallRow, authorizer_bytes, on_hello, presented, presented_by, presents}
 use Rattle.cx_sending.specs.cx_rules_session.specs.Sessions.{Called, Callee, HeldSession, ticket_for}

@@ -1,8 +1,8 @@
 -- The ticket is shown behind the entry that the nonce was drawn.
 use Rattle.std.proofs.Common.{◌≡◌, Option, None, List, [], ◌∷◌, rules}
-use Rattle.cx_dice.specs.Draws.{challenge_of}
+use Rattle.cx_turns.specs.cx_dice.specs.Draws.{challenge_of}
 use Rattle.cx_link.specs.Wires.{wired}
-use Rattle.cx_rules.specs.Secured.{plain_frame}
+use Rattle.cx_node.specs.cx_rules.specs.Secured.{plain_frame}
 use Rattle.cx_sending.specs.cx_rules_session.specs.Envelopes.{authorize_content, sends_holding, session_sealed}
 use Rattle.cx_sending.specs.cx_rules_session.specs.Forgets.{abridged_call_link}
 use Rattle.cx_sending.specs.cx_rules_session.specs.Presenter.{AwaitsChallenge, CallArrival, CallStage, authorizer_bytes, first_frame, presents}

@@ -2,7 +2,7 @@ use Rattle.std.proofs.Common.{Option}
 use Rattle.cx_control.specs.Hello.{hello_layout}
 use Rattle.cx_frame.specs.declared.frame.Frame.{Frame}
 use Rattle.cx_link.specs.Wires.{wired}
-use Rattle.cx_rules.specs.Payloads.{due}
+use Rattle.cx_node.specs.cx_rules.specs.Payloads.{due}
 use Rattle.cx_sending.specs.cx_rules_session.specs.Forgets.{abridged_call_link}
 use Rattle.cx_sending.specs.cx_rules_session.specs.Presenter.{AwaitsHello, CallArrival, on_hello}
 use Rattle.cx_sending.specs.cx_rules_session.specs.Sessions.{HeldSession}

@@ -1,10 +1,10 @@
 use Rattle.std.proofs.Common.{◌≡◌, ℕ, List, subst, ap, ◌∙◌}
 use Rattle.cx_dice.specs.Rolls.{seed_draw}
-use Rattle.cx_rules.specs.Abridged.{MonitorStandsFor}
-use Rattle.cx_rules.specs.Inputs.{input_of}
-use Rattle.cx_rules.specs.Monitor.{MonitorNode}
-use Rattle.cx_rules.specs.MonitorRule.{monitor_rule}
-use Rattle.cx_rules.specs.Rows.{Outcome}
+use Rattle.cx_run_head.specs.cx_rules.specs.Abridged.{MonitorStandsFor}
+use Rattle.cx_run_head.specs.cx_rules.specs.Inputs.{input_of}
+use Rattle.cx_run_head.specs.cx_rules.specs.Monitor.{MonitorNode}
+use Rattle.cx_run_head.specs.cx_rules.specs.MonitorRule.{monitor_rule}
+use Rattle.cx_run_head.specs.cx_rules.specs.Rows.{Outcome}
 use Rattle.cx_run_nodes.proofs.nodes.take_step.Goals as goal
 
 pub returns : goal.returns

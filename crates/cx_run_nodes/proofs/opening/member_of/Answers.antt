@@ -1,6 +1,6 @@
 use Rattle.std.proofs.Common.{◌≡◌, ℕ, refl, sym, ap, ◌∙◌}
 use Rattle.std.specs.Prelude.{unwrap_or}
-use Rattle.cx_run.specs.Opening.{Declared, post_for}
+use Rattle.cx_run_head.specs.cx_run.specs.Opening.{Declared, post_for}
 use Rattle.cx_run_nodes.proofs.opening.member_of.Goals as goal
 
 pub returns : goal.returns

@@ -1,7 +1,7 @@
 use Rattle.std.proofs.Common.{◌≡◌, refl, sym, ap, List, ◌∙◌}
 use Rattle.std.specs.List.{position}
 use Rattle.cx_base.specs.Names.{same_name}
-use Rattle.cx_run.specs.Opening.{Declared}
+use Rattle.cx_run_head.specs.cx_run.specs.Opening.{Declared}
 use Rattle.cx_run_nodes.specs.Members.{AreMembersOf}
 use Rattle.cx_run_nodes.specs.declared.members.Member.{Member}
 use Rattle.cx_run_nodes.proofs.Finding.{all_stand}

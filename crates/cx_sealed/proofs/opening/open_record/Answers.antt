@@ -1,6 +1,6 @@
 -- The record that is opened is the one that the content spells.
 use Rattle.std.proofs.Common.{sym, ◌∙◌}
-use Rattle.cx_aes.proofs.Keys.{IsBlock-array}
+use Rattle.cx_cbc.specs.cx_aes.proofs.Keys.{IsBlock-array}
 use Rattle.cx_sealed.proofs.Found.{is_unopened, is_misread, is_found}
 use Rattle.cx_sealed.proofs.opening.open_record.Goals as goal
 

@@ -2,11 +2,11 @@
 use Rattle.std.proofs.Common.{◌≡◌, [], ◌∷◌, rules}
 use Rattle.cx_authorize.specs.Passing.{IsChallenged}
 use Rattle.cx_authorize.specs.declared.judging.Shown.{Shown}
-use Rattle.cx_dice.specs.Draws.{challenge_of}
+use Rattle.cx_rules_session.specs.cx_dice.specs.Draws.{challenge_of}
 use Rattle.cx_link.specs.Wires.{wired}
-use Rattle.cx_rules.specs.Abridged.{abridged_link}
-use Rattle.cx_rules.specs.Acceptor.{AwaitsProof, AwaitsRequest}
-use Rattle.cx_rules.specs.Secured.{plain_frame}
+use Rattle.cx_node.specs.cx_rules.specs.Abridged.{abridged_link}
+use Rattle.cx_node.specs.cx_rules.specs.Acceptor.{AwaitsProof, AwaitsRequest}
+use Rattle.cx_node.specs.cx_rules.specs.Secured.{plain_frame}
 use Rattle.cx_rules_session.specs.Envelopes.{authorize_challenge_content, session_sealed}
 use Rattle.cx_rules_session.specs.Guests.{GuestArrival, challenges, sealed_challenge_frame}
 use Rattle.cx_steps.specs.declared.seals.DrawMark.TheVariants as draw

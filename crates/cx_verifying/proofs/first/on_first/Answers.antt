@@ -4,9 +4,9 @@ use Rattle.cx_authorize.specs.Judging.{judged_first}
 use Rattle.cx_authorize.specs.Passing.{IsChallenged}
 use Rattle.cx_authorize.specs.declared.judging.Shown.{Shown}
 use Rattle.cx_base.specs.Names.{Name}
-use Rattle.cx_dice.specs.Draws.{challenge_of}
+use Rattle.cx_rules_session.specs.cx_dice.specs.Draws.{challenge_of}
 use Rattle.cx_link.specs.Wires.{wired}
-use Rattle.cx_rules.specs.Acceptor.{AwaitsRequest}
+use Rattle.cx_node.specs.cx_rules.specs.Acceptor.{AwaitsRequest}
 use Rattle.cx_rules_session.specs.Guests.{GuestArrival, challenges}
 use Rattle.cx_steps.specs.declared.seals.SealEntry.{SealEntry}
 use Rattle.cx_verifying.specs.Rows.{arrived}

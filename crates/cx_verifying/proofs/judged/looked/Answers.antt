@@ -1,7 +1,7 @@
 -- The row of what was made stands behind what opened, and behind the entry that the daemon looked.
 use Rattle.std.proofs.Common.{◌≡◌}
-use Rattle.cx_rules.specs.Abridged.{abridged_link}
-use Rattle.cx_rules.specs.Rows.{with_opened}
+use Rattle.cx_node.specs.cx_rules.specs.Abridged.{abridged_link}
+use Rattle.cx_node.specs.cx_rules.specs.Rows.{with_opened}
 use Rattle.cx_rules_session.specs.Guests.{GuestArrival, GuestRow, looked_entry}
 use Rattle.cx_turns.proofs.MadeRows.{behind_due, entered_as}
 use Rattle.cx_verifying.specs.Rows.{MakesRow, arrived, unchanged}

@@ -1,8 +1,8 @@
 -- The row of an authorizer that doesn't pass stands behind what opened of it.
 use Rattle.std.proofs.Common.{[], ap, refl, sym}
 use Rattle.cx_link.specs.Wires.{Wire, wired}
-use Rattle.cx_rules.specs.Abridged.{abridged_link}
-use Rattle.cx_rules.specs.Rows.{with_opened}
+use Rattle.cx_node.specs.cx_rules.specs.Abridged.{abridged_link}
+use Rattle.cx_node.specs.cx_rules.specs.Rows.{with_opened}
 use Rattle.cx_rules_session.specs.Guests.{GuestArrival, GuestRow, GuestStage, looked_entry, turns_away}
 use Rattle.cx_rules_session.specs.Kinds.{entered_before}
 use Rattle.cx_turns.proofs.MadeRows.{makes_as}

@@ -1,8 +1,8 @@
 -- A request of another method or mode is denied.
 use Rattle.std.proofs.Common.{◌≡◌, ◌∙◌, [], Some, Ok, ap, sym}
 use Rattle.cx_link.specs.Wires.{wired}
-use Rattle.cx_rules.specs.Abridged.{abridged_link}
-use Rattle.cx_rules.specs.Acceptor.{AwaitsRequest, denies, on_auth_request}
+use Rattle.cx_node.specs.cx_rules.specs.Abridged.{abridged_link}
+use Rattle.cx_node.specs.cx_rules.specs.Acceptor.{AwaitsRequest, denies, on_auth_request}
 use Rattle.cx_rules_session.specs.Guests.{GuestArrival, GuestRow, on_first}
 use Rattle.cx_turns.proofs.AuthRequests.{request-denied}
 use Rattle.cx_turns.proofs.MadeRows.{makes_as}

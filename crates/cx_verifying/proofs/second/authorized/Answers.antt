@@ -3,9 +3,9 @@ use Rattle.std.proofs.Common.{[], ap, refl, sym}
 use Rattle.cx_authorize.specs.Daemon.{Awaited}
 use Rattle.cx_authorize.specs.Passing.{IsAdmitted}
 use Rattle.cx_authorize.specs.declared.judging.Shown.{Shown}
-use Rattle.cx_dice.specs.Draws.{connection_of}
-use Rattle.cx_rules.specs.Abridged.{abridged_link}
-use Rattle.cx_rules.specs.Rows.{with_opened}
+use Rattle.cx_rules_session.specs.cx_dice.specs.Draws.{connection_of}
+use Rattle.cx_node.specs.cx_rules.specs.Abridged.{abridged_link}
+use Rattle.cx_node.specs.cx_rules.specs.Rows.{with_opened}
 use Rattle.cx_rules_session.specs.Guests.{GuestArrival, GuestRow, authorizes, looked_entry}
 use Rattle.cx_rules_session.specs.Kinds.{entered_before}
 use Rattle.cx_turns.proofs.MadeRows.{makes_as}

@@ -3,9 +3,9 @@ use Rattle.std.proofs.Common.{◌≡◌, ◌∙◌, List, [], ◌∷◌, ap}
 use Rattle.cx_authorize.specs.Daemon.{Authority, Awaited}
 use Rattle.cx_authorize.specs.Passing.{IsAdmitted}
 use Rattle.cx_authorize.specs.declared.judging.Shown.{Shown}
-use Rattle.cx_dice.specs.Draws.{connection_of}
-use Rattle.cx_rules.specs.Abridged.{abridged_link}
-use Rattle.cx_rules.specs.Acceptor.{finished}
+use Rattle.cx_rules_session.specs.cx_dice.specs.Draws.{connection_of}
+use Rattle.cx_node.specs.cx_rules.specs.Abridged.{abridged_link}
+use Rattle.cx_node.specs.cx_rules.specs.Acceptor.{finished}
 use Rattle.cx_rules_session.specs.Envelopes.{authorize_reply_content, session_sealed}
 use Rattle.cx_rules_session.specs.Guests.{GuestArrival, authority_of, authorized_frame, authorizes}
 use Rattle.cx_steps.specs.declared.seals.DrawMark.TheVariants as draw

@@ -3,8 +3,8 @@ use Rattle.std.proofs.Common.{List}
 use Rattle.cx_authorize.specs.Judging.{judged_second}
 use Rattle.cx_authorize.specs.Passing.{IsAdmitted}
 use Rattle.cx_authorize.specs.declared.judging.Shown.{Shown}
-use Rattle.cx_dice.specs.Draws.{connection_of}
-use Rattle.cx_rules.specs.Acceptor.{AwaitsProof}
+use Rattle.cx_rules_session.specs.cx_dice.specs.Draws.{connection_of}
+use Rattle.cx_node.specs.cx_rules.specs.Acceptor.{AwaitsProof}
 use Rattle.cx_rules_session.specs.Guests.{GuestArrival, authorizes}
 use Rattle.cx_steps.specs.declared.seals.SealEntry.{SealEntry}
 use Rattle.cx_verifying.specs.Rows.{arrived}

@@ -1,7 +1,7 @@
-use Rattle.cx_desk.specs.Handlers.{Handlers}
+use Rattle.cx_rules_session.specs.cx_desk.specs.Handlers.{Handlers}
 use Rattle.cx_link.specs.Wires.{wired}
-use Rattle.cx_rules.specs.Abridged.{abridged_link}
-use Rattle.cx_rules.specs.Acceptor.{AwaitsBanner, on_banner}
+use Rattle.cx_node.specs.cx_rules.specs.Abridged.{abridged_link}
+use Rattle.cx_node.specs.cx_rules.specs.Acceptor.{AwaitsBanner, on_banner}
 use Rattle.cx_rules_session.specs.Guests.{GuestArrival}
 use Rattle.cx_turns.proofs.Handling.{banner_turn}
 use Rattle.cx_verifying.specs.Rows.{arrived, unchanged}

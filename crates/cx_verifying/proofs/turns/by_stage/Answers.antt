@@ -1,6 +1,6 @@
 -- No book is asked by these turns.
 use Rattle.std.proofs.Common.{refl}
-use Rattle.cx_desk.specs.Handlers.{Handlers}
+use Rattle.cx_rules_session.specs.cx_desk.specs.Handlers.{Handlers}
 use Rattle.cx_verifying.proofs.turns.by_stage.Goals as goal
 
 pub returns-in_ok-banner_turn-in-AwaitsBanner : goal.returns-in_ok-banner_turn-in-AwaitsBanner

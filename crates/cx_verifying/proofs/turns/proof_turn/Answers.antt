@@ -1,11 +1,11 @@
 use Rattle.cx_control.specs.Auth.{auth_request_more_layout}
-use Rattle.cx_desk.specs.Handlers.{Handlers}
-use Rattle.cx_frame.specs.declared.frame.Frame.{Frame}
+use Rattle.cx_rules_session.specs.cx_desk.specs.Handlers.{Handlers}
+use Rattle.cx_rules_session.specs.cx_frame.specs.declared.frame.Frame.{Frame}
 use Rattle.cx_link.specs.Wires.{wired}
-use Rattle.cx_rules.specs.Abridged.{abridged_link}
-use Rattle.cx_rules.specs.Acceptor.{AwaitsProof}
+use Rattle.cx_node.specs.cx_rules.specs.Abridged.{abridged_link}
+use Rattle.cx_node.specs.cx_rules.specs.Acceptor.{AwaitsProof}
 use Rattle.cx_rules_session.specs.Guests.{GuestArrival, on_auth_request_more}
-use Rattle.cx_rules.specs.Payloads.{due}
+use Rattle.cx_node.specs.cx_rules.specs.Payloads.{due}
 use Rattle.cx_turns.proofs.Handling.{plain_turn}
 use Rattle.cx_verifying.specs.Rows.{arrived, unchanged}
 use Rattle.cx_verifying.proofs.turns.proof_turn.Goals as goal

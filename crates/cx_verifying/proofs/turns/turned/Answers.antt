@@ -1,6 +1,6 @@
 -- The link is the one of the event.
 use Rattle.std.proofs.Common.{◌≡◌, ◌∙◌, ap, sym}
-use Rattle.cx_desk.specs.Handlers.{Handlers}
+use Rattle.cx_rules_session.specs.cx_desk.specs.Handlers.{Handlers}
 use Rattle.cx_verifying.specs.Stages.{GuestLink}
 use Rattle.cx_verifying.proofs.Stages.{number_held}
 use Rattle.cx_verifying.proofs.turns.turned.Goals as goal

@@ -1,5 +1,5 @@
 use Rattle.std.proofs.Common.{◌≡◌, ◌∙◌, ap, subst}
-use Rattle.cx_stream.specs.Held.{Held}
+use Rattle.cx_rules.specs.cx_stream.specs.Held.{Held}
 use Rattle.cx_link.specs.Wires.{Wire, ahead_in, keys_of_side, secure_wire}
 use Rattle.cx_link.proofs.Securing.{secures}
 use Rattle.cx_link.proofs.links.PlainLink.secured.Goals as goal

@@ -1,6 +1,6 @@
 use Rattle.std.proofs.Common.{◌++◌, List, ℕ, map, ap, ◌∙◌, subst}
-use Rattle.cx_stream.specs.Openings.{front_contents}
-use Rattle.cx_stream.specs.SecureStreams.{ahead}
+use Rattle.cx_rules.specs.cx_stream.specs.Openings.{front_contents}
+use Rattle.cx_rules.specs.cx_stream.specs.SecureStreams.{ahead}
 use Rattle.cx_link.specs.Sending.{opened_entry}
 use Rattle.cx_link.specs.Turning.{RefusesSecure, TakesSecure}
 use Rattle.cx_link.specs.Wires.{SecureWire, secure_wire}

@@ -2,12 +2,12 @@ use Rattle.std.proofs.Common.{◌≡◌, ℕ, List, refl, subst, ap, ◌∙◌, 
 use Rattle.cx_desk.specs.Handlers.{Handlers}
 use Rattle.cx_desk.specs.Held.{handlers_of}
 use Rattle.cx_dice.specs.Rolls.{seed_draw}
-use Rattle.cx_rules_session.specs.Forgets.{WholeClientStandsFor}
-use Rattle.cx_rules_session.specs.ClientRule.{WholeClientNode, whole_client_rule}
-use Rattle.cx_rules.specs.Rows.{Outcome}
-use Rattle.cx_rules.specs.Inputs.{input_of}
-use Rattle.cx_rules_session.specs.DaemonRule.{DaemonState, daemon_step}
-use Rattle.cx_rules_session.specs.Forgets.{DaemonStandsFor}
+use Rattle.cx_run_head.specs.cx_rules_session.specs.Forgets.{WholeClientStandsFor}
+use Rattle.cx_run_head.specs.cx_rules_session.specs.ClientRule.{WholeClientNode, whole_client_rule}
+use Rattle.cx_run_head.specs.cx_rules.specs.Rows.{Outcome}
+use Rattle.cx_run_head.specs.cx_rules.specs.Inputs.{input_of}
+use Rattle.cx_run_head.specs.cx_rules_session.specs.DaemonRule.{DaemonState, daemon_step}
+use Rattle.cx_run_head.specs.cx_rules_session.specs.Forgets.{DaemonStandsFor}
 use Rattle.cx_steps.specs.declared.effects.Effects.{Effects}
 use Rattle.cx_run_nodes.specs.declared.made.Made.{Made}
 use Rattle.cx_run_nodes.specs.declared.members.Member.{Member}

@@ -2,7 +2,7 @@ use Rattle.std.proofs.Common.{◌≡◌, List, Option, Some, None, get_or, set, 
 use Rattle.std.specs.List.{position}
 use Rattle.cx_base.specs.Names.{same_name}
 use Rattle.cx_desk.specs.Handlers.{Handlers}
-use Rattle.cx_rules.specs.Inputs.{input_of}
+use Rattle.cx_run_head.specs.cx_rules.specs.Inputs.{input_of}
 use Rattle.cx_run_nodes.specs.Steps.{IsMemberStep}
 use Rattle.cx_run_nodes.specs.declared.members.Member.{Member}
 use Rattle.cx_run_nodes.specs.declared.nodes.Nodes.{Nodes}

@@ -1,6 +1,6 @@
 use Rattle.std.proofs.Common.{◌≡◌, Option, refl, subst}
 use Rattle.cx_line_words.specs.declared.choices.LeftState.{LeftState}
-use Rattle.cx_rules.specs.Inputs.{input_of}
+use Rattle.cx_run_head.specs.cx_rules.specs.Inputs.{input_of}
 use Rattle.cx_run_nodes.specs.Steps.{IsMonitorStep, monitor_made}
 use Rattle.cx_run_nodes.proofs.Stepping.{monitor_given}
 use Rattle.cx_run_nodes.proofs.nodes.Nodes.step_monitor.Goals as goal

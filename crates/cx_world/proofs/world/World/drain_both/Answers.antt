@@ -1,4 +1,4 @@
-use Rattle.cx_run.specs.Deliveries.{drains_side}
+use Rattle.cx_run_links.specs.cx_run.specs.Deliveries.{drains_side}
 use Rattle.cx_line_words.specs.declared.choices.Side.TheVariants.{Connector}
 use Rattle.cx_world.specs.Settling.{drains_both}
 use Rattle.cx_world.proofs.Rounds.{same_wires}

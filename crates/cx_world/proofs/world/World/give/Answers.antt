@@ -1,4 +1,4 @@
-use Rattle.cx_rules.specs.Inputs.{input_of}
+use Rattle.cx_run_links.specs.cx_rules.specs.Inputs.{input_of}
 use Rattle.cx_world.proofs.Giving.{given_to}
 use Rattle.cx_world.proofs.world.World.give.Goals as goal
 
