@@ -15,10 +15,10 @@ ghost use Rattle.cx_client_events.specs.Turns.{IsClientTurn, with_change};
 
 use cx_base::Duplicate;
 use cx_calling_operations as operations;
-use cx_client_events::{Change, Kind, Link, Own, came_of_daemon, came_of_monitor};
-use cx_connector as connector;
+use cx_client_events::{
+    CallLink, Change, Kind, Link, MonitorLink, Own, came_of_daemon, came_of_monitor, monitor_turned,
+};
 use cx_node::{Links, refuses_bytes};
-use cx_presenting as calls;
 use cx_steps::Effects;
 use cx_turns::{Came, Moment, NodeRow, carries};
 use std::alloc::{AllocError, Global};
@@ -114,13 +114,13 @@ fn monitor_turn(
     alloc: Global,
     own: &Own,
     at: &Moment<'_>,
-    link: connector::Link,
+    link: MonitorLink,
 ) -> Result<Came<Link, Change>, AllocError>
     requires { link.number ≡ at.now.number }
     ensures come { IfOk result (IsClientTurn own.now.client at.now.reading at.now.draw.now.bytes (of_kind ToMonitor link)) }
     ensures number { IfOk result (HasNumber (λ link. link.number) at.now.number) }
 {
-    let came = connector::turned(alloc, own.asker(), at, link)?;
+    let came = monitor_turned(alloc, own.asker(), at, link)?;
     Ok(came_of_monitor(came))
 }
 
@@ -130,7 +130,7 @@ fn daemon_turn(
     alloc: Global,
     own: &Own,
     at: &Moment<'_>,
-    link: calls::Link,
+    link: CallLink,
 ) -> Result<Came<Link, Change>, AllocError>
     requires { link.number ≡ at.now.number }
     ensures come { IfOk result (IsClientTurn own.now.client at.now.reading at.now.draw.now.bytes (of_kind ToDaemon link)) }

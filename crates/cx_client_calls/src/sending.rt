@@ -13,11 +13,10 @@ ghost use Rattle.cx_client_events.specs.Machine.{AreHeld, IsStep};
 ghost use Rattle.cx_client_calls.specs.Sending.{IsSentRow, numbered, with_pushed};
 
 use cx_base::{Duplicate, EntityName, Items, Operation, Reading};
-use cx_client_events::{HeldSession, Link, Own, first_call, of_daemon, refuses};
+use cx_client_events::{CallLink, HeldSession, Link, Own, first_call, of_daemon, refuses};
 use cx_dice::Draw;
 use cx_journal::{Entry, Reason, Sent};
 use cx_node::{Carried, Links, Numbered, Row, carried_out, enters};
-use cx_presenting as calls;
 use cx_session::QueueFault;
 use cx_steps::Effects;
 use cx_turns::Moment;
@@ -179,7 +178,7 @@ fn sent_row(
     alloc: Global,
     own: &Own,
     at: &Moment<'_>,
-    link: &calls::Link,
+    link: &CallLink,
     number: u64,
     operation: &Operation,
     sent: Entry,

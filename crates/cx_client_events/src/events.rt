@@ -13,10 +13,9 @@ ghost use Rattle.cx_turns.specs.Steps.{node_of};
 ghost use Rattle.cx_client_events.specs.Machine.{AreHeld, IsStep, banner_sent, lost};
 
 use crate::own::Own;
-use cx_client_links::{Dial, Kind, Link};
+use cx_client_links::{CallLink, Dial, Kind, Link};
 use cx_journal::{Entry, Reason};
 use cx_node::{Links, enters, refused_entry};
-use cx_presenting as calls;
 use cx_steps::{Effects, Peer};
 use cx_turns::{Moment, unopened};
 use std::alloc::{AllocError, Global};
@@ -139,7 +138,7 @@ fn call_gone(
     alloc: Global,
     own: &mut Own,
     number: u32,
-    link: &calls::Link,
+    link: &CallLink,
 ) -> Result<Effects, AllocError>
     ensures out { IfOk result (λ out. out ≡ record nothing { entries = if call.is_open link.now.stage then [] else rows.refused_entry (me own.old.client) number reason.Lost ∷ [] }) }
     ensures own { IfOk result (λ _. own.new.client ≡ rule.own_behind_gone own.old.client (rule.ToDaemon link.now.stage)) }

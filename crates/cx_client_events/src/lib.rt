@@ -12,8 +12,8 @@ pub use own::Own;
 
 // What crates above name through this one, and so needn't list.
 pub use cx_client_links::{
-    Change, HeldSession, Kind, Link, are_at_rest, came_of_daemon, came_of_monitor,
-    client_forgetting_laws, first_call, of_daemon,
+    CallLink, Change, HeldSession, Kind, Link, MonitorLink, are_at_rest, came_of_daemon,
+    came_of_monitor, client_forgetting_laws, first_call, monitor_turned, of_daemon,
 };
 pub use cx_holdings::{Asker, OfferedModes};
 

@@ -18,14 +18,13 @@ ghost use Rattle.cx_client_events.specs.Turns.{with_change};
 
 use cx_base::{Duplicate, EntityName, NodeName, Operation};
 use cx_client_links::{
-    Called, Callee, Change, Dial, Dials, HeldSession, Link, Purpose, Sessions, held_gid, of_daemon,
+    CallChange, Called, Callee, Change, Dial, Dials, HeldSession, Link, MonitorLink, Purpose,
+    Sessions, asks_tickets, call_greeting, held_gid, monitor_greeting, named, of_daemon,
     of_monitor, ticket_for,
 };
-use cx_connector as connector;
 use cx_holdings::Asker;
 use cx_journal::Reason;
 use cx_node::Row;
-use cx_presenting as calls;
 use cx_steps::Peer;
 use cx_turns::Moment;
 use std::alloc::{AllocError, Global};
@@ -88,7 +87,7 @@ impl Own {
     pub fn named(&self, alloc: Global) -> Result<NodeName, AllocError>
         ensures { IfOk result (λ named. named ≡ me self.now.client) }
     {
-        connector::named(alloc, &self.asker)
+        named(alloc, &self.asker)
     }
 
     // ---- links that are waited for
@@ -198,13 +197,13 @@ impl Own {
         }
     }
 
-    fn settle_call(&mut self, daemon: &EntityName, change: calls::Change)
+    fn settle_call(&mut self, daemon: &EntityName, change: CallChange)
         requires { 0 < self.old.room }
         ensures { self.new.client ≡ with_caller daemon.now self.old.client (call_rows.changed (caller_to daemon.now self.old.client) change) }
     {
         match change {
-            calls::Change::Session(change) => self.sessions.change(daemon, change),
-            calls::Change::Counts(count) => self.asker.put_global_seq(count),
+            CallChange::Session(change) => self.sessions.change(daemon, change),
+            CallChange::Counts(count) => self.asker.put_global_seq(count),
         }
     }
 
@@ -231,11 +230,11 @@ impl Own {
     {
         match dial.purpose {
             Purpose::Login(services) => {
-                let row = connector::greeting(alloc, at.number, services)?;
+                let row = monitor_greeting(alloc, at.number, services)?;
                 Ok(of_monitor(row))
             }
             Purpose::Call(called) => {
-                let row = calls::greeting(alloc, at.number, called)?;
+                let row = call_greeting(alloc, at.number, called)?;
                 Ok(of_daemon(row))
             }
         }
@@ -246,7 +245,7 @@ impl Own {
         &self,
         alloc: Global,
         at: &Moment<'_>,
-        link: &connector::Link,
+        link: &MonitorLink,
         services: u32,
     ) -> Result<Row<Link>, AllocError>
         requires number { link.now.number ≡ at.now.number }
@@ -254,7 +253,7 @@ impl Own {
         ensures { (s : Secured) (requests : Requests) → kept_open link.now.stage ≡ Some (s, requests) → IfOk result (λ row. as_row self.now.client row
             ≡ row_due abridged_client_link (tickets_asked self.now.client at.now.reading at.now.draw.now.bytes services link.now s requests)) }
     {
-        let row = connector::asks_tickets(alloc, &self.asker, at, link, services)?;
+        let row = asks_tickets(alloc, &self.asker, at, link, services)?;
         Ok(of_monitor(row))
     }
 }

@@ -12,8 +12,13 @@ pub use links::{Kind, Link};
 pub use scans::{are_at_rest, calls, first_call, first_open, numbers_to_monitor, shut_all};
 
 // What crates above name through this one, and so needn't list.
+pub use cx_connector::{
+    Link as MonitorLink, asks_tickets, greeting as monitor_greeting, named,
+    turned as monitor_turned,
+};
 pub use cx_presenting::{
-    Called, Callee, HeldSession, Sessions, client_forgetting_laws, held_gid, ticket_for,
+    Called, Callee, Change as CallChange, HeldSession, Link as CallLink, Sessions,
+    client_forgetting_laws, greeting as call_greeting, held_gid, ticket_for,
 };
 
 // Each public type may be sent to another thread and shared with one.

@@ -15,14 +15,15 @@ ghost use Rattle.cx_hosted.specs.Hosting.{behind_call};
 ghost use Rattle.cx_daemon.specs.Turned.{IsLinkTurned};
 
 use crate::moving::shuts_older;
-use cx_daemon_events::{Book, Kind, Link, Own, SessionOwner, came_of_guest, own_turns, settles};
+use cx_daemon_events::{
+    Book, GuestLink, Kind, Link, Own, SessionOwner, came_of_guest, own_turns, settles,
+};
 use cx_desk::Desk;
 use cx_hosted::{HostedTurn, hosts};
 use cx_node::Links;
 use cx_session::BookCall;
 use cx_steps::Effects;
 use cx_turns::Moment;
-use cx_verifying as guests;
 use std::alloc::{AllocError, Global};
 
 // One banner or frame of what came on a link is handled, if it lives.
@@ -93,7 +94,7 @@ fn guest_turns(
     links: &mut Links<Link>,
     desk: &Desk,
     at: &Moment<'_>,
-    link: guests::Link,
+    link: GuestLink,
 ) -> Result<Effects, AllocError>
     requires number { link.number ≡ at.now.number }
     requires room { links.old.room ≡ Some at.now.number }
