@@ -24,15 +24,18 @@ both_equal Less b e = cc
 both_equal Equal b e = (refl, e)
 both_equal Greater b e = cc
 
-both_parts : (made : List ℕ → List ℕ → Fact) (k l x y : List ℕ) → (slice_cmp nat_cmp k l ≡ Equal) × (slice_cmp nat_cmp x y ≡ Equal) → made k x ≡ made l y
-both_parts made k l x y e =
-    let keys : k ≡ l = exact_bytes k l e.0 in
-    let contents : x ≡ y = exact_bytes x y e.1 in
-    ap (λ a. made a x) keys ∙ ap (λ b. made l b) contents
+same_parts : (made : ℕ → List ℕ → List ℕ → Fact) (m n : ℕ) (x y k l : List ℕ) → ordering_then (nat_cmp m n) (ordering_then (slice_cmp nat_cmp x y) (slice_cmp nat_cmp k l)) ≡ Equal → made m x k ≡ made n y l
+same_parts made m n x y k l e =
+    let apart = both_equal (nat_cmp m n) (ordering_then (slice_cmp nat_cmp x y) (slice_cmp nat_cmp k l)) e in
+    let behind = both_equal (slice_cmp nat_cmp x y) (slice_cmp nat_cmp k l) apart.1 in
+    let counts : m ≡ n = exact_unsigned m n apart.0 in
+    let contents : x ≡ y = exact_bytes x y behind.0 in
+    let keys : k ≡ l = exact_bytes k l behind.1 in
+    ap (λ a. made a x k) counts ∙ ap (λ a. made n a k) contents ∙ ap (λ a. made n y a) keys
 
 exact : (a b : Fact) → order a b ≡ Equal → a ≡ b
-exact (fact.Sealed x k) (fact.Sealed y l) e = both_parts fact.Sealed x y k l (both_equal (slice_cmp nat_cmp x y) (slice_cmp nat_cmp k l) e)
-exact (fact.Signed x k) (fact.Signed y l) e = both_parts fact.Signed x y k l (both_equal (slice_cmp nat_cmp x y) (slice_cmp nat_cmp k l) e)
+exact (fact.Sealed m x k) (fact.Sealed n y l) e = same_parts fact.Sealed m n x y k l e
+exact (fact.Signed m x k) (fact.Signed n y l) e = same_parts fact.Signed m n x y k l e
 exact (fact.Key k) (fact.Key l) e = ap fact.Key (exact_bytes k l e)
 exact (fact.LeakedKey k) (fact.LeakedKey l) e = ap fact.LeakedKey (exact_bytes k l e)
 exact (fact.Challenge x) (fact.Challenge y) e = ap fact.Challenge (exact_unsigned x y e)

@@ -6,7 +6,7 @@ use Rattle.std.proofs.lemmas.Bool.{or_cases}
 use Rattle.cx_base.specs.Names.{Name}
 use Rattle.cx_premises.proofs.Leaving.{is_drawn, key_in, key_in_draw, undrawn}
 use Rattle.cx_premises.proofs.Walks.{behind, from_newest, some_from, to_newest}
-use Rattle.cx_premises.specs.Facts.{AreLeft, HasLeft, draw_fact, fact_of, is_kept, is_repeated}
+use Rattle.cx_premises.specs.Facts.{AreLeft, HasLeft, draw_fact, fact_of, is_kept, is_repeated, sealed_fact, signed_fact}
 use Rattle.cx_premises.specs.declared.facts.Fact.{Fact}
 use Rattle.cx_premises.specs.declared.facts.Fact.TheVariants as fact
 use Rattle.cx_steps.specs.Draws.{IsSameKey, Repeats, key_of}
@@ -147,11 +147,11 @@ module _ (leaked : List Name) where
       let same : left ≡ draw_fact leaked other = cc in
       twins_repeat other mark (subst (λ f. AreTwins f (draw_fact leaked mark)) same twins)
   twin_in mark left (entry.Sealed m) twins is =
-      let same : left ≡ fact.Sealed m.content m.key = cc in
-      no_twin mark (fact.Sealed m.content m.key) refl refl (subst (λ f. AreTwins f (draw_fact leaked mark)) same twins)
+      let same : left ≡ sealed_fact m = cc in
+      no_twin mark (sealed_fact m) refl refl (subst (λ f. AreTwins f (draw_fact leaked mark)) same twins)
   twin_in mark left (entry.Signed m) twins is =
-      let same : left ≡ fact.Signed m.content m.key = cc in
-      no_twin mark (fact.Signed m.content m.key) refl refl (subst (λ f. AreTwins f (draw_fact leaked mark)) same twins)
+      let same : left ≡ signed_fact m = cc in
+      no_twin mark (signed_fact m) refl refl (subst (λ f. AreTwins f (draw_fact leaked mark)) same twins)
   twin_in mark left _ twins is = cc
 
   left_twin : (mark : DrawMark) (e : SealEntry) → RepeatsIn mark e → (left : Fact) × (fact_of leaked e ≡ Some left) × AreTwins left (draw_fact leaked mark)

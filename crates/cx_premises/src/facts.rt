@@ -1,7 +1,7 @@
 //! What the ledger keeps of an entry, by which later entries are judged.
 
-ghost use Rattle.std.specs.Prelude.{◌≡◌, take, IfOk, true};
-ghost use Rattle.cx_premises.specs.Facts.{sealed_fact, signed_fact, key_fact, draw_fact};
+ghost use Rattle.std.specs.Prelude.{◌≡◌, slice_index, take, IfOk, true};
+ghost use Rattle.cx_premises.specs.Facts.{count_in, sealed_fact, signed_fact, key_fact, draw_fact};
 
 use cx_base::{Blob, Duplicate};
 use cx_line_words::Names;
@@ -11,9 +11,18 @@ use std::alloc::{AllocError, Global};
 /// What an entry of a log leaves behind.
 #[derive(PartialEq, Eq, PartialOrd, Ord, Drop)]
 pub enum Fact {
-    /// Contents come first, since they differ sooner: of one connection each begins with its own nonce, and all have one key.
-    Sealed { content: Blob, key: [u8; 16] },
-    Signed { content: Blob, key: [u8; 16] },
+    /// The count comes first, a number that is compared at once: of one connection each part has its own. Contents come next, since all
+    /// parts of a connection have one key.
+    Sealed {
+        count: u64,
+        content: Blob,
+        key: [u8; 16],
+    },
+    Signed {
+        count: u64,
+        content: Blob,
+        key: [u8; 16],
+    },
     /// A key was drawn, and not for a leaked client.
     Key([u8; 16]),
     /// A key was drawn for a leaked client.
@@ -30,6 +39,7 @@ impl Fact {
     {
         let content = mark.content.copy(alloc)?;
         Ok(Fact::Sealed {
+            count: count_in(content.bytes()),
             content,
             key: mark.key,
         })
@@ -41,6 +51,7 @@ impl Fact {
     {
         let content = mark.content.copy(alloc)?;
         Ok(Fact::Signed {
+            count: count_in(content.bytes()),
             content,
             key: mark.key,
         })
@@ -89,4 +100,28 @@ fn front_of(secret: &[u8; 64]) -> [u8; 16]
         unreachable!()
     };
     *key
+}
+
+// The number in the eight bytes behind the first four.
+fn count_in(bytes: &[u8]) -> u64
+    ensures { result ≡ count_in bytes.now }
+{
+    u64::from_le_bytes([
+        byte_at(bytes, 4),
+        byte_at(bytes, 5),
+        byte_at(bytes, 6),
+        byte_at(bytes, 7),
+        byte_at(bytes, 8),
+        byte_at(bytes, 9),
+        byte_at(bytes, 10),
+        byte_at(bytes, 11),
+    ])
+}
+
+// The byte at a place, 0 behind the end.
+#[inline(always)]
+fn byte_at(bytes: &[u8], place: usize) -> u8
+    ensures { result ≡ slice_index bytes.now place }
+{
+    bytes.get(place).copied().unwrap_or(0)
 }
