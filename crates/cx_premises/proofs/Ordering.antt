@@ -28,10 +28,10 @@ same_parts : (made : ℕ → List ℕ → List ℕ → Fact) (m n : ℕ) (x y k 
 same_parts made m n x y k l e =
     let apart = both_equal (nat_cmp m n) (ordering_then (slice_cmp nat_cmp x y) (slice_cmp nat_cmp k l)) e in
     let behind = both_equal (slice_cmp nat_cmp x y) (slice_cmp nat_cmp k l) apart.1 in
-    let counts : m ≡ n = exact_unsigned m n apart.0 in
+    let numbers : m ≡ n = exact_unsigned m n apart.0 in
     let contents : x ≡ y = exact_bytes x y behind.0 in
     let keys : k ≡ l = exact_bytes k l behind.1 in
-    ap (λ a. made a x k) counts ∙ ap (λ a. made n a k) contents ∙ ap (λ a. made n y a) keys
+    ap (λ a. made a x k) numbers ∙ ap (λ a. made n a k) contents ∙ ap (λ a. made n y a) keys
 
 exact : (a b : Fact) → order a b ≡ Equal → a ≡ b
 exact (fact.Sealed m x k) (fact.Sealed n y l) e = same_parts fact.Sealed m n x y k l e

@@ -1,5 +1,5 @@
 -- What an entry of a log leaves behind, by which later entries are judged.
-use Rattle.std.specs.Prelude.{ℕ, ◌≡◌, Bool, true, false, List, [], ◌∷◌, Option, Some, None, IsTrue, ◌↔◌, ◌||◌, take, slice_index}
+use Rattle.std.specs.Prelude.{ℕ, ◌≡◌, ◌+◌, ◌%◌, ◌^◌, Bool, true, false, List, [], ◌∷◌, Option, Some, None, IsTrue, ◌↔◌, ◌||◌, take, slice_index}
 use Rattle.std.specs.Int.{w64, from_le_bytes}
 use Rattle.std.specs.BTreeSet.{BTreeSet, contains, Updates}
 use Rattle.std.specs.declared.cmp.Ordering.{Ordering}
@@ -16,15 +16,22 @@ use Rattle.cx_steps.specs.declared.seals.SealEntry.{SealEntry}
 use Rattle.cx_steps.specs.declared.seals.SealEntry.TheVariants as entry
 use Rattle.cx_steps.specs.declared.seals.SealMark.{SealMark}
 
--- the number in the eight bytes behind the first four: the count in a nonce, where a content begins with one
-abbrev pub count_in : List ℕ → ℕ
-count_in bytes = from_le_bytes w64 (slice_index bytes 4 ∷ slice_index bytes 5 ∷ slice_index bytes 6 ∷ slice_index bytes 7 ∷ slice_index bytes 8 ∷ slice_index bytes 9 ∷ slice_index bytes 10 ∷ slice_index bytes 11 ∷ [])
+-- the number in the eight bytes from a place on
+abbrev pub eight_at : List ℕ → ℕ → ℕ
+eight_at bytes place =
+    from_le_bytes w64
+    (slice_index bytes place ∷ slice_index bytes (place + 1) ∷ slice_index bytes (place + 2) ∷ slice_index bytes (place + 3)
+    ∷ slice_index bytes (place + 4) ∷ slice_index bytes (place + 5) ∷ slice_index bytes (place + 6) ∷ slice_index bytes (place + 7) ∷ [])
+
+-- a number by which contents are soon told apart: the count in a nonce, where one begins with that, and bytes of a session key, where one has that
+abbrev pub number_in : List ℕ → ℕ
+number_in bytes = (eight_at bytes 4 + eight_at bytes 16) % 2 ^ 64
 
 abbrev pub sealed_fact : SealMark → Fact
-sealed_fact mark = fact.Sealed (count_in mark.content) mark.content mark.key
+sealed_fact mark = fact.Sealed (number_in mark.content) mark.content mark.key
 
 abbrev pub signed_fact : SealMark → Fact
-signed_fact mark = fact.Signed (count_in mark.content) mark.content mark.key
+signed_fact mark = fact.Signed (number_in mark.content) mark.content mark.key
 
 -- a key that was drawn, for a leaked client or not
 abbrev pub key_fact : Bool → List ℕ → Fact

@@ -1,7 +1,7 @@
 //! What the ledger keeps of an entry, by which later entries are judged.
 
-ghost use Rattle.std.specs.Prelude.{◌≡◌, slice_index, take, IfOk, true};
-ghost use Rattle.cx_premises.specs.Facts.{count_in, sealed_fact, signed_fact, key_fact, draw_fact};
+ghost use Rattle.std.specs.Prelude.{◌≡◌, ◌≤◌, slice_index, take, IfOk, true};
+ghost use Rattle.cx_premises.specs.Facts.{eight_at, number_in, sealed_fact, signed_fact, key_fact, draw_fact};
 
 use cx_base::{Blob, Duplicate};
 use cx_line_words::Names;
@@ -11,15 +11,15 @@ use std::alloc::{AllocError, Global};
 /// What an entry of a log leaves behind.
 #[derive(PartialEq, Eq, PartialOrd, Ord, Drop)]
 pub enum Fact {
-    /// The count comes first, a number that is compared at once: of one connection each part has its own. Contents come next, since all
-    /// parts of a connection have one key.
+    /// The number comes first, by which contents are soon told apart: of one connection each part has its own. Contents come next, since
+    /// all parts of a connection have one key.
     Sealed {
-        count: u64,
+        number: u64,
         content: Blob,
         key: [u8; 16],
     },
     Signed {
-        count: u64,
+        number: u64,
         content: Blob,
         key: [u8; 16],
     },
@@ -39,7 +39,7 @@ impl Fact {
     {
         let content = mark.content.copy(alloc)?;
         Ok(Fact::Sealed {
-            count: count_in(content.bytes()),
+            number: number_in(content.bytes()),
             content,
             key: mark.key,
         })
@@ -51,7 +51,7 @@ impl Fact {
     {
         let content = mark.content.copy(alloc)?;
         Ok(Fact::Signed {
-            count: count_in(content.bytes()),
+            number: number_in(content.bytes()),
             content,
             key: mark.key,
         })
@@ -102,19 +102,28 @@ fn front_of(secret: &[u8; 64]) -> [u8; 16]
     *key
 }
 
-// The number in the eight bytes behind the first four.
-fn count_in(bytes: &[u8]) -> u64
-    ensures { result ≡ count_in bytes.now }
+// A number by which contents are soon told apart.
+fn number_in(bytes: &[u8]) -> u64
+    ensures { result ≡ number_in bytes.now }
+{
+    eight_at(bytes, 4).wrapping_add(eight_at(bytes, 16))
+}
+
+// The number in the eight bytes from a place on.
+#[inline(always)]
+fn eight_at(bytes: &[u8], place: usize) -> u64
+    requires { place ≤ 16 }
+    ensures { result ≡ eight_at bytes.now place }
 {
     u64::from_le_bytes([
-        byte_at(bytes, 4),
-        byte_at(bytes, 5),
-        byte_at(bytes, 6),
-        byte_at(bytes, 7),
-        byte_at(bytes, 8),
-        byte_at(bytes, 9),
-        byte_at(bytes, 10),
-        byte_at(bytes, 11),
+        byte_at(bytes, place),
+        byte_at(bytes, place + 1),
+        byte_at(bytes, place + 2),
+        byte_at(bytes, place + 3),
+        byte_at(bytes, place + 4),
+        byte_at(bytes, place + 5),
+        byte_at(bytes, place + 6),
+        byte_at(bytes, place + 7),
     ])
 }
 
