@@ -56,10 +56,6 @@ impl Blob {
         ensures ok { OnOk result (self.new ≡ self.old ++ bytes.now) }
         ensures err { OnErr result (self.new ≡ self.old) }
     {
-        // Room is made for 64 bytes at least, so that what is written in small parts is seldom moved.
-        if self.held.capacity().saturating_sub(self.held.len()) < bytes.len() {
-            self.held.reserve(bytes.len().max(64))?;
-        }
         self.held.extend_from_slice(bytes)
     }
 }
