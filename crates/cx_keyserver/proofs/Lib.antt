@@ -1,2 +1,3 @@
 pub mod Behind
+pub mod Current
 pub mod Grants

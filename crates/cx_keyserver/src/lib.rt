@@ -9,6 +9,7 @@ mod services;
 mod tickets;
 
 pub use refusals::{GidsSpent, IssueRefusal, NotADaemon};
+pub use rotation::is_current;
 pub use server::KeyServer;
 pub use services::{generations_of, life_of};
 pub use tickets::Ticket;

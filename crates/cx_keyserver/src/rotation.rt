@@ -1,8 +1,8 @@
 //! Rotating the generations of all services.
 
-ghost use Rattle.std.specs.Prelude.{◌≡◌, ◌<◌, ◌||◌, true, nat_lt, IsTrue};
+ghost use Rattle.std.specs.Prelude.{ℕ, ◌≡◌, ◌<◌, ◌||◌, List, true, nat_lt, IsTrue};
 ghost use Rattle.cx_rotate.specs.Keeping.{IsKeptState, IsLasting, IsLife};
-ghost use Rattle.cx_rotate.specs.Rotation.{additions, rotated};
+ghost use Rattle.cx_rotate.specs.Rotation.{additions, is_current, rotated};
 ghost use Rattle.cx_dice.specs.Draws.{has_keys, rotation_of};
 ghost use Rattle.cx_keyserver.specs.Servers.{adds_any, rotated_state};
 
@@ -43,8 +43,26 @@ fn rotate_service(
     ensures added { result ≡ nat_lt 0 (additions now life (rotation_of service draw.now.bytes) generations.old) }
     ensures kept { IsLasting generations.new }
 {
+    if is_current(generations, now) {
+        return false;
+    }
     let keys = draw.rotation_keys(service);
     generations.rotate(now, life, &keys) > 0
+}
+
+/// Whether three generations stand of which the second is unexpired. A rotation adds none to these, and leaves them as they are: its keys
+/// needn't be drawn.
+#[tactic(auto, using(crate::proofs::Current::current_stays))]
+pub fn is_current(generations: &Generations, now: Reading) -> bool
+    ensures value { result ≡ is_current now generations.now }
+    ensures stays { IsTrue result → (life : ℕ) (keys : List (List ℕ)) → rotated now life keys generations.now ≡ generations.now }
+    ensures none { IsTrue result → (life : ℕ) (keys : List (List ℕ)) → additions now life keys generations.now ≡ 0 }
+{
+    let Some(all) = generations.all() else {
+        return false;
+    };
+    let [_, second, _] = all;
+    now < second.expires
 }
 
 fn any(mds: bool, osd: bool, mgr: bool, auth: bool) -> bool

@@ -12,7 +12,7 @@ ghost use Rattle.cx_mon_grants.specs.Issuing.{IsRotated};
 
 use cx_base::{EntityType, Items, Reading};
 use cx_dice::Draw;
-use cx_keyserver::{KeyServer, generations_of, life_of};
+use cx_keyserver::{KeyServer, generations_of, is_current, life_of};
 use cx_rotate::KeptState;
 use cx_steps::{DrawMark, SealEntry};
 use std::alloc::{AllocError, Global};
@@ -58,6 +58,27 @@ fn log_rotation(
 
 // Logs the keys that it adds for a service.
 fn log_added(
+    alloc: Global,
+    state: &KeptState,
+    service: EntityType,
+    now: Reading,
+    draw: &Draw,
+    seals: &mut Items<SealEntry>,
+) -> Result<(), AllocError>
+    requires now { now < 4000000000000000000 }
+    requires kept { IsKeptState state.now }
+    requires service { IsTrue (has_keys service) }
+    ensures { OnOk result (seals.new ≡ seals.old ++ drawn_for now draw.now.bytes state.now service) }
+{
+    let generations = generations_of(state, service);
+    if is_current(&generations, now) {
+        return Ok(());
+    }
+    log_taken(alloc, state, service, now, draw, seals)
+}
+
+// The same, with the keys of the draw, of which a copy takes those that it needs.
+fn log_taken(
     alloc: Global,
     state: &KeptState,
     service: EntityType,

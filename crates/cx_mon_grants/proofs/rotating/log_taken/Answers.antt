@@ -3,7 +3,7 @@ use Rattle.std.proofs.Common.{ap, ◌++◌, ◌∙◌, List}
 use Rattle.std.proofs.lemmas.Result.{on_ok_weaker}
 use Rattle.cx_steps.specs.declared.seals.SealEntry.{SealEntry}
 use Rattle.cx_mon_grants.proofs.Drawn.{added_is}
-use Rattle.cx_mon_grants.proofs.rotating.log_added.Goals as goal
+use Rattle.cx_mon_grants.proofs.rotating.log_taken.Goals as goal
 
 pub returns : goal.returns
 returns c =
