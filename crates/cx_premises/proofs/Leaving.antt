@@ -96,7 +96,7 @@ left_seals leaked mark (entry.Drawn other) e = undrawn leaked other (sealed_fact
 left_seals leaked mark _ e = cc
 
 pub seals_left : (leaked : List Name) (mark : SealMark) (e : SealEntry) → Seals mark e → fact_of leaked e ≡ Some (sealed_fact mark)
-seals_left leaked mark (entry.Sealed sealed) same = ap (λ key. Some (fact.Sealed (number_in sealed.content) sealed.content key)) same.key ∙ ap (λ content. Some (fact.Sealed (number_in content) content mark.key)) same.content
+seals_left leaked mark (entry.Sealed sealed) same = ap (λ key. Some (fact.Sealed (number_in key sealed.content) sealed.content key)) same.key ∙ ap (λ content. Some (fact.Sealed (number_in mark.key content) content mark.key)) same.content
 seals_left leaked mark _ none = absurd none
 
 pub left_signs : (leaked : List Name) (mark : SealMark) (e : SealEntry) → fact_of leaked e ≡ Some (signed_fact mark) → Signs mark e
@@ -105,7 +105,7 @@ left_signs leaked mark (entry.Drawn other) e = undrawn leaked other (signed_fact
 left_signs leaked mark _ e = cc
 
 pub signs_left : (leaked : List Name) (mark : SealMark) (e : SealEntry) → Signs mark e → fact_of leaked e ≡ Some (signed_fact mark)
-signs_left leaked mark (entry.Signed signed) same = ap (λ key. Some (fact.Signed (number_in signed.content) signed.content key)) same.key ∙ ap (λ content. Some (fact.Signed (number_in content) content mark.key)) same.content
+signs_left leaked mark (entry.Signed signed) same = ap (λ key. Some (fact.Signed (number_in key signed.content) signed.content key)) same.key ∙ ap (λ content. Some (fact.Signed (number_in mark.key content) content mark.key)) same.content
 signs_left leaked mark _ none = absurd none
 
 -- ---- leaked keys

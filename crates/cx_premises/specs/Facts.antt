@@ -23,15 +23,16 @@ eight_at bytes place =
     (slice_index bytes place ∷ slice_index bytes (place + 1) ∷ slice_index bytes (place + 2) ∷ slice_index bytes (place + 3)
     ∷ slice_index bytes (place + 4) ∷ slice_index bytes (place + 5) ∷ slice_index bytes (place + 6) ∷ slice_index bytes (place + 7) ∷ [])
 
--- a number by which contents are soon told apart: the count in a nonce, where one begins with that, and bytes of a session key, where one has that
-abbrev pub number_in : List ℕ → ℕ
-number_in bytes = (eight_at bytes 4 + eight_at bytes 16) % 2 ^ 64
+-- a number by which contents under keys are soon told apart: bytes of the key, the count in a nonce, where a content begins with that, and bytes of a
+-- session key, where one has that
+abbrev pub number_in : List ℕ → List ℕ → ℕ
+number_in key bytes = ((eight_at key 0 + eight_at bytes 4) % 2 ^ 64 + eight_at bytes 16) % 2 ^ 64
 
 abbrev pub sealed_fact : SealMark → Fact
-sealed_fact mark = fact.Sealed (number_in mark.content) mark.content mark.key
+sealed_fact mark = fact.Sealed (number_in mark.key mark.content) mark.content mark.key
 
 abbrev pub signed_fact : SealMark → Fact
-signed_fact mark = fact.Signed (number_in mark.content) mark.content mark.key
+signed_fact mark = fact.Signed (number_in mark.key mark.content) mark.content mark.key
 
 -- a key that was drawn, for a leaked client or not
 abbrev pub key_fact : Bool → List ℕ → Fact

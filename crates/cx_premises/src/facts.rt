@@ -11,8 +11,8 @@ use std::alloc::{AllocError, Global};
 /// What an entry of a log leaves behind.
 #[derive(PartialEq, Eq, PartialOrd, Ord, Drop)]
 pub enum Fact {
-    /// The number comes first, by which contents are soon told apart: of one connection each part has its own. Contents come next, since
-    /// all parts of a connection have one key.
+    /// The number comes first, by which contents under keys are soon told apart: of one connection each part has its own. Contents come
+    /// next, since all parts of a connection have one key.
     Sealed {
         number: u64,
         content: Blob,
@@ -39,7 +39,7 @@ impl Fact {
     {
         let content = mark.content.copy(alloc)?;
         Ok(Fact::Sealed {
-            number: number_in(content.bytes()),
+            number: number_in(&mark.key, content.bytes()),
             content,
             key: mark.key,
         })
@@ -51,7 +51,7 @@ impl Fact {
     {
         let content = mark.content.copy(alloc)?;
         Ok(Fact::Signed {
-            number: number_in(content.bytes()),
+            number: number_in(&mark.key, content.bytes()),
             content,
             key: mark.key,
         })
@@ -102,11 +102,13 @@ fn front_of(secret: &[u8; 64]) -> [u8; 16]
     *key
 }
 
-// A number by which contents are soon told apart.
-fn number_in(bytes: &[u8]) -> u64
-    ensures { result ≡ number_in bytes.now }
+// A number by which contents under keys are soon told apart.
+fn number_in(key: &[u8; 16], bytes: &[u8]) -> u64
+    ensures { result ≡ number_in key.now bytes.now }
 {
-    eight_at(bytes, 4).wrapping_add(eight_at(bytes, 16))
+    eight_at(key, 0)
+        .wrapping_add(eight_at(bytes, 4))
+        .wrapping_add(eight_at(bytes, 16))
 }
 
 // The number in the eight bytes from a place on.
