@@ -36,6 +36,14 @@ impl Blob {
         }
     }
 
+    /// No bytes, with room for so many.
+    pub fn with_room(alloc: Global, room: usize) -> Result<Blob, AllocError>
+        ensures { IfOk result (λ blob. blob ≡ []) }
+    {
+        let held = Vec::with_capacity(alloc, room)?;
+        Ok(Blob { held })
+    }
+
     /// A copy of these bytes.
     pub fn of(alloc: Global, bytes: &[u8]) -> Result<Blob, AllocError>
         ensures { IfOk result (λ blob. blob ≡ bytes.now) }
@@ -56,7 +64,38 @@ impl Blob {
         ensures ok { OnOk result (self.new ≡ self.old ++ bytes.now) }
         ensures err { OnErr result (self.new ≡ self.old) }
     {
+        self.make_room(bytes.len())?;
         self.held.extend_from_slice(bytes)
+    }
+
+    /// Puts these bytes behind those that are there, and others behind them, with room made once.
+    pub fn append_both(
+        &mut self,
+        alloc: Global,
+        first: &[u8],
+        second: &[u8],
+    ) -> Result<(), AllocError>
+        ensures ok { OnOk result (self.new ≡ self.old ++ first.now ++ second.now) }
+        ensures err { OnErr result (self.new ≡ self.old) }
+    {
+        let length = self.held.len();
+        self.make_room(first.len().saturating_add(second.len()))?;
+        self.append(alloc, first)?;
+        if self.append(alloc, second).is_err() {
+            self.held.truncate(length);
+            return Err(AllocError);
+        }
+        Ok(())
+    }
+
+    // Room for so many more bytes, and for 256 at least where it is made, so that what is written in small parts is seldom moved.
+    fn make_room(&mut self, more: usize) -> Result<(), AllocError>
+        ensures { self.new ≡ self.old }
+    {
+        if self.held.capacity().saturating_sub(self.held.len()) < more {
+            self.held.reserve(more.max(256))?;
+        }
+        Ok(())
     }
 }
 

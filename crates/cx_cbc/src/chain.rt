@@ -17,7 +17,7 @@ pub(crate) const INITIAL_VECTOR: [u8; 16] = *b"cephsageyudagreg";
 pub(crate) fn chained(alloc: Global, key: &Schedule, plain: &[u8]) -> Result<Blob, AllocError>
     ensures { IfOk result (λ sealed. sealed ≡ concat (cbc (key_of key.now) initial_vector (blocks_of plain.now))) }
 {
-    let mut sealed = Blob::new(alloc);
+    let mut sealed = Blob::with_room(alloc, plain.len())?;
     let mut before = INITIAL_VECTOR;
     let (blocks, _rest) = plain.as_chunks::<16>();
     for block in blocks {
@@ -31,7 +31,7 @@ pub(crate) fn chained(alloc: Global, key: &Schedule, plain: &[u8]) -> Result<Blo
 pub(crate) fn unchained(alloc: Global, key: &Schedule, sealed: &[u8]) -> Result<Blob, AllocError>
     ensures { IfOk result (λ plain. plain ≡ concat (uncbc (key_of key.now) initial_vector (blocks_of sealed.now))) }
 {
-    let mut plain = Blob::new(alloc);
+    let mut plain = Blob::with_room(alloc, sealed.len())?;
     let mut before = INITIAL_VECTOR;
     let (blocks, _rest) = sealed.as_chunks::<16>();
     let (fours, rest) = blocks.as_chunks::<4>();

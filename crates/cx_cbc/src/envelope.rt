@@ -20,8 +20,8 @@ const MOST: usize = 16;
 pub(crate) fn enveloped(alloc: Global, content: &[u8]) -> Result<Blob, AllocError>
     ensures { IfOk result (λ plain. plain ≡ enveloped content.now) }
 {
-    let mut plain = Blob::of(alloc, &HEAD)?;
-    plain.append(alloc, content)?;
+    let mut plain = Blob::with_room(alloc, content.len().saturating_add(25))?;
+    plain.append_both(alloc, &HEAD, content)?;
     let missing = 16 - plain.bytes().len() % 16;
     let fill = [missing as u8; 16];
     plain.append(alloc, &fill[..missing])?;

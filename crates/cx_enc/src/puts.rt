@@ -50,16 +50,14 @@ pub fn put_u64(alloc: Global, into: &mut Blob, value: u64) -> Result<(), AllocEr
 }
 
 /// Writes a length and so many bytes.
+#[tactic(auto, unfolding(crate::specs::Forms::little))]
 pub fn put_blob(alloc: Global, into: &mut Blob, bytes: &[u8]) -> Result<(), AllocError>
     requires { length bytes.now < 2 ^ 32 }
     ensures ok { OnOk result (into.new ≡ into.old ++ blob_form.text bytes.now) }
     ensures fits { OnOk result (blob_form.Fits bytes.now) }
     ensures err { OnErr result (into.new ≡ into.old) }
 {
-    let mut spelled = Blob::new(alloc);
-    put_u32(alloc, &mut spelled, bytes.len() as u32)?;
-    spelled.append(alloc, bytes)?;
-    into.append(alloc, spelled.bytes())
+    into.append_both(alloc, &(bytes.len() as u32).to_le_bytes(), bytes)
 }
 
 /// Writes a length and these bytes, of which there are below 2^32.
@@ -78,16 +76,13 @@ pub fn put_sized<const N: usize>(
 }
 
 /// Writes a time.
-#[tactic(auto, unfolding(crate::specs::Values::time_form))]
+#[tactic(auto, unfolding(crate::specs::Values::time_form, crate::specs::Forms::little))]
 pub fn put_time(alloc: Global, into: &mut Blob, time: &Time) -> Result<(), AllocError>
     ensures ok { OnOk result (into.new ≡ into.old ++ time_form.text time.now) }
     ensures fits { OnOk result (time_form.Fits time.now) }
     ensures err { OnErr result (into.new ≡ into.old) }
 {
-    let mut spelled = Blob::new(alloc);
-    put_u32(alloc, &mut spelled, time.secs)?;
-    put_u32(alloc, &mut spelled, time.nanos)?;
-    into.append(alloc, spelled.bytes())
+    into.append_both(alloc, &time.secs.to_le_bytes(), &time.nanos.to_le_bytes())
 }
 
 /// Writes a reading as a time.
@@ -123,11 +118,22 @@ pub fn put_ticket(alloc: Global, into: &mut Blob, ticket: &TicketBlob) -> Result
     ensures fits { OnOk result (ticket_form.Fits ticket.now) }
     ensures err { OnErr result (into.new ≡ into.old) }
 {
-    let mut spelled = Blob::new(alloc);
-    put_u8(alloc, &mut spelled, 1)?;
-    put_u64(alloc, &mut spelled, ticket.generation)?;
-    put_blob(alloc, &mut spelled, ticket.blob.bytes())?;
-    into.append(alloc, spelled.bytes())
+    let blob = ticket.blob.bytes();
+    into.append_both(
+        alloc,
+        &ticket_front(ticket.generation, blob.len() as u32),
+        blob,
+    )
+}
+
+// What stands before the bytes of so long a blob of a ticket.
+#[tactic(auto, unfolding(crate::specs::Forms::little))]
+fn ticket_front(generation: u64, length: u32) -> [u8; 13]
+    ensures { result ≡ u8_form.text 1 ++ (u64_form.text generation ++ u32_form.text length) }
+{
+    let [g0, g1, g2, g3, g4, g5, g6, g7] = generation.to_le_bytes();
+    let [n0, n1, n2, n3] = length.to_le_bytes();
+    [1, g0, g1, g2, g3, g4, g5, g6, g7, n0, n1, n2, n3]
 }
 
 /// Writes a key.
@@ -137,30 +143,35 @@ pub fn put_key(alloc: Global, into: &mut Blob, key: &Key) -> Result<(), AllocErr
     ensures fits { OnOk result (key_form.Fits key.now) }
     ensures err { OnErr result (into.new ≡ into.old) }
 {
-    let created = &key.created;
-    let mut spelled = Blob::new(alloc);
-    put_u16(alloc, &mut spelled, 1)?;
-    put_u32(alloc, &mut spelled, created.secs)?;
-    put_u32(alloc, &mut spelled, created.nanos)?;
-    put_u16(alloc, &mut spelled, 16)?;
-    spelled.append(alloc, &key.secret)?;
-    into.append(alloc, spelled.bytes())
+    into.append_both(
+        alloc,
+        &key_front(key.created.secs, key.created.nanos),
+        &key.secret,
+    )
+}
+
+// What stands before the bytes of a key that was made at this time.
+#[tactic(auto, unfolding(crate::specs::Forms::little))]
+fn key_front(secs: u32, nanos: u32) -> [u8; 12]
+    ensures { result ≡ u16_form.text 1 ++ (u32_form.text secs ++ (u32_form.text nanos ++ u16_form.text 16)) }
+{
+    let [s0, s1, s2, s3] = secs.to_le_bytes();
+    let [n0, n1, n2, n3] = nanos.to_le_bytes();
+    [1, 0, s0, s1, s2, s3, n0, n1, n2, n3, 16, 0]
 }
 
 /// Writes an address.
-#[tactic(auto, unfolding(crate::specs::Values::addr_form))]
+#[tactic(auto, unfolding(crate::specs::Values::addr_form, crate::specs::Forms::little))]
 pub fn put_addr(alloc: Global, into: &mut Blob, addr: &Addr) -> Result<(), AllocError>
     ensures ok { OnOk result (into.new ≡ into.old ++ addr_form.text addr.now) }
     ensures fits { OnOk result (addr_form.Fits addr.now) }
     ensures err { OnErr result (into.new ≡ into.old) }
 {
-    let mut spelled = Blob::new(alloc);
-    put_u8(alloc, &mut spelled, 1)?;
-    put_u32(alloc, &mut spelled, 2)?;
-    put_u32(alloc, &mut spelled, addr.nonce)?;
-    spelled.append(alloc, &addr.ip)?;
-    put_u16(alloc, &mut spelled, addr.port)?;
-    into.append(alloc, spelled.bytes())
+    let [n0, n1, n2, n3] = addr.nonce.to_le_bytes();
+    let [i0, i1, i2, i3] = addr.ip;
+    let [p0, p1] = addr.port.to_le_bytes();
+    let front = [1, 2, 0, 0, 0, n0, n1, n2, n3];
+    into.append_both(alloc, &front, &[i0, i1, i2, i3, p0, p1])
 }
 
 /// Writes the number of an entity type.
@@ -174,16 +185,16 @@ pub fn put_kind(alloc: Global, into: &mut Blob, kind: EntityType) -> Result<(), 
 }
 
 /// Writes a name.
-#[tactic(auto, using(crate::proofs::Fitting::name_fits), unfolding(crate::specs::Values::name_form))]
+#[tactic(auto, using(crate::proofs::Fitting::name_fits), unfolding(crate::specs::Values::name_form, crate::specs::Forms::little))]
 pub fn put_name(alloc: Global, into: &mut Blob, name: &EntityName) -> Result<(), AllocError>
     ensures ok { OnOk result (into.new ≡ into.old ++ name_form.text name.now) }
     ensures fits { OnOk result (name_form.Fits name.now) }
     ensures err { OnErr result (into.new ≡ into.old) }
 {
-    let mut spelled = Blob::new(alloc);
-    put_u32(alloc, &mut spelled, number_of(name.kind))?;
-    put_blob(alloc, &mut spelled, name.id.bytes())?;
-    into.append(alloc, spelled.bytes())
+    let id = name.id.bytes();
+    let [k0, k1, k2, k3] = number_of(name.kind).to_le_bytes();
+    let [n0, n1, n2, n3] = (id.len() as u32).to_le_bytes();
+    into.append_both(alloc, &[k0, k1, k2, k3, n0, n1, n2, n3], id)
 }
 
 /// Writes a flag.

@@ -1,5 +1,5 @@
 -- Bytes cut into segments.
-use Rattle.std.proofs.Common.{◌≡◌, ℕ, zero, suc, ◌+◌, ◌-◌, ◌<◌, ◌≤◌, List, [], ◌∷◌, ◌++◌, length, slice_index, take, drop, sum, refl, sym, ap, ◌∙◌, arith, add-one, length-take, length-drop, Bool, true, false, All, sum_by, ◌*◌, ◌^◌, ◌≢◌, append_assoc, map, inl, inr}
+use Rattle.std.proofs.Common.{◌≡◌, ℕ, zero, suc, ◌+◌, ◌-◌, ◌<◌, ◌≤◌, List, [], ◌∷◌, ◌++◌, length, slice_index, slice_index_or, take, drop, sum, refl, sym, ap, ◌∙◌, arith, add-one, length-take, length-drop, Bool, true, false, All, sum_by, ◌*◌, ◌^◌, ◌≢◌, append_assoc, map, inl, inr}
 use Rattle.std.proofs.Math.Seq.{drop-cons}
 use Rattle.std.specs.Prelude.{Result, Err}
 use Rattle.std.specs.List.{list_all}
@@ -62,32 +62,16 @@ pub room_more : (ns : List ℕ) (i : ℕ) → i < length ns → sum (drop i ns) 
 room_more ns i lt =
     ap sum (drop-cons ns i 0 lt ∙ ap (λ j. slice_index ns i ∷ drop j ns) (sym (add-one i))) ∙ sum-cons (slice_index ns i) (drop (i + 1) ns)
 
--- one descriptor more is written
-pub descriptors_more : (ns aligns : List ℕ) (i : ℕ) → i < length ns → length aligns ≡ length ns
-    → descriptors (drop i ns) (drop i aligns) ≡ to_le_bytes w32 (slice_index ns i) ++ (to_le_bytes w16 (slice_index aligns i) ++ descriptors (drop (i + 1) ns) (drop (i + 1) aligns))
+-- four descriptors, byte by byte
+pub all_described : (tag count : ℕ) (ns aligns a b c d : List ℕ) → length ns ≡ 4 → length aligns ≡ 4
+    → a ≡ to_le_bytes w32 (slice_index ns 0) ++ to_le_bytes w16 (slice_index aligns 0)
+    → b ≡ to_le_bytes w32 (slice_index ns 1) ++ to_le_bytes w16 (slice_index aligns 1)
+    → c ≡ to_le_bytes w32 (slice_index ns 2) ++ to_le_bytes w16 (slice_index aligns 2)
+    → d ≡ to_le_bytes w32 (slice_index ns 3) ++ to_le_bytes w16 (slice_index aligns 3)
+    → tag ∷ count ∷ slice_index_or a 0 0 ∷ slice_index_or a 1 0 ∷ slice_index_or a 2 0 ∷ slice_index_or a 3 0 ∷ slice_index_or a 4 0 ∷ slice_index_or a 5 0 ∷ slice_index_or b 0 0 ∷ slice_index_or b 1 0 ∷ slice_index_or b 2 0 ∷ slice_index_or b 3 0 ∷ slice_index_or b 4 0 ∷ slice_index_or b 5 0 ∷ slice_index_or c 0 0 ∷ slice_index_or c 1 0 ∷ slice_index_or c 2 0 ∷ slice_index_or c 3 0 ∷ slice_index_or c 4 0 ∷ slice_index_or c 5 0 ∷ slice_index_or d 0 0 ∷ slice_index_or d 1 0 ∷ slice_index_or d 2 0 ∷ slice_index_or d 3 0 ∷ slice_index_or d 4 0 ∷ slice_index_or d 5 0 ∷ 0 ∷ 0 ∷ [] ≡ tag ∷ count ∷ descriptors ns aligns ++ 0 ∷ 0 ∷ []
 unfolding descriptors
-descriptors_more ns aligns i lt same =
-    let too : i < length aligns = omega arith in
-    rw (drop-cons ns i 0, drop-cons aligns i 0, add-one) refl
-
-regroup : (a b c d : List ℕ) → ((a ++ b) ++ c) ++ d ≡ a ++ (b ++ (c ++ d))
-regroup a b c d = simp append_assoc
-
--- one descriptor more was written
-pub descriptor_on : (ns aligns : List ℕ) (i : ℕ) (before middle now whole : List ℕ) → i < length ns → length aligns ≡ length ns
-    → before ++ descriptors (drop i ns) (drop i aligns) ≡ whole
-    → middle ≡ before ++ to_le_bytes w32 (slice_index ns i) → now ≡ middle ++ to_le_bytes w16 (slice_index aligns i)
-    → now ++ descriptors (drop (i + 1) ns) (drop (i + 1) aligns) ≡ whole
-descriptor_on ns aligns i before middle now whole lt same so_far length_written align_written =
-    let rest : List ℕ = descriptors (drop (i + 1) ns) (drop (i + 1) aligns) in
-    ap (λ t. t ++ rest) (align_written ∙ ap (λ t. t ++ to_le_bytes w16 (slice_index aligns i)) length_written)
-    ∙ regroup before (to_le_bytes w32 (slice_index ns i)) (to_le_bytes w16 (slice_index aligns i)) rest
-    ∙ ap (λ t. before ++ t) (sym (descriptors_more ns aligns i lt same)) ∙ so_far
-
-pub all_described : (ns aligns : List ℕ) (i : ℕ) (now whole : List ℕ) → length ns ≤ i → now ++ descriptors (drop i ns) (drop i aligns) ≡ whole → now ≡ whole
-unfolding descriptors
-all_described ns aligns i now whole le so_far =
-    sym (append-nil now) ∙ sym (at_drop_all (λ xs. now ++ descriptors xs (drop i aligns)) ns i le) ∙ so_far
+all_described tag count (n ∷ m ∷ o ∷ p ∷ []) (q ∷ r ∷ s ∷ t ∷ []) a b c d e f first second third fourth = rw (first, second, third, fourth) refl
+all_described tag count _ _ a b c d e f first second third fourth = absurd (omega arith)
 
 -- one segment more was cut off and put behind the others
 pub segment_on : (ns aligns left behind : List ℕ) (i : ℕ) (before now whole : List Segment) → i < length ns → length aligns ≡ length ns

@@ -1,5 +1,6 @@
 //! What the preamble of a frame announces, and its bytes.
 
+ghost use Rattle.std.specs.Int.{to_le_bytes, w16, w32};
 ghost use Rattle.std.specs.Prelude.{◌≡◌, ℕ, ◌<◌, ◌≤◌, ◌^◌, ◌++◌, All, map, OnOk, OnErr, length, sum_by, slice_index};
 ghost use Rattle.cx_frame.specs.Preambles.{IsAllowed, align_of, descriptors, front_text, length_of, preamble_of, preamble_text};
 ghost use Rattle.cx_frame.specs.Frames.{IsAnnounceable, total};
@@ -82,36 +83,33 @@ pub fn put_preamble(alloc: Global, into: &mut Blob, head: &Preamble) -> Result<(
     ensures ok { OnOk result (into.new ≡ into.old ++ preamble_text head.now) }
     ensures err { OnErr result (into.new ≡ into.old) }
 {
-    let mut text = Blob::new(alloc);
-    put_front(alloc, &mut text, head)?;
-    let sum = crc32c(0, text.bytes());
-    text.append(alloc, &sum.to_le_bytes())?;
-    into.append(alloc, text.bytes())
+    let front = front(head);
+    let sum = crc32c(0, &front);
+    into.append_both(alloc, &front, &sum.to_le_bytes())
 }
 
 // The bytes that the check sum of a preamble covers.
-#[tactic(auto, unfolding(crate::specs::Preambles::front_text))]
-fn put_front(alloc: Global, into: &mut Blob, head: &Preamble) -> Result<(), AllocError>
-    ensures { OnOk result (into.new ≡ into.old ++ front_text head.now) }
+#[tactic(auto, unfolding(crate::specs::Preambles::front_text, crate::specs::Preambles::descriptors))]
+fn front(head: &Preamble) -> [u8; 28]
+    ensures { result ≡ front_text head.now }
 {
-    into.append(alloc, &[head.tag, head.count])?;
-    put_descriptors(alloc, into, &head.lengths, &head.aligns)?;
-    into.append(alloc, &[0, 0])
+    let [first, second, third, fourth] = head.lengths;
+    let [align, second_align, third_align, fourth_align] = head.aligns;
+    let [a0, a1, a2, a3, a4, a5] = descriptor(first, align);
+    let [b0, b1, b2, b3, b4, b5] = descriptor(second, second_align);
+    let [c0, c1, c2, c3, c4, c5] = descriptor(third, third_align);
+    let [d0, d1, d2, d3, d4, d5] = descriptor(fourth, fourth_align);
+    [
+        head.tag, head.count, a0, a1, a2, a3, a4, a5, b0, b1, b2, b3, b4, b5, c0, c1, c2, c3, c4,
+        c5, d0, d1, d2, d3, d4, d5, 0, 0,
+    ]
 }
 
-#[tactic(auto, using(crate::proofs::Cutting::descriptors_more))]
-fn put_descriptors(
-    alloc: Global,
-    into: &mut Blob,
-    lengths: &[u32],
-    aligns: &[u16],
-) -> Result<(), AllocError>
-    requires { length aligns.now ≡ length lengths.now }
-    ensures { OnOk result (into.new ≡ into.old ++ descriptors lengths.now aligns.now) }
+// The bytes that tell the length and the alignment of a segment.
+fn descriptor(length: u32, align: u16) -> [u8; 6]
+    ensures { result ≡ to_le_bytes w32 length ++ to_le_bytes w16 align }
 {
-    for i in 0..lengths.len() {
-        into.append(alloc, &lengths[i].to_le_bytes())?;
-        into.append(alloc, &aligns[i].to_le_bytes())?;
-    }
-    Ok(())
+    let [a, b, c, d] = length.to_le_bytes();
+    let [e, f] = align.to_le_bytes();
+    [a, b, c, d, e, f]
 }

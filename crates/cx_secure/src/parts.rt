@@ -40,8 +40,7 @@ pub(crate) fn seal_part(
     ensures { OnOk result (into.new ≡ into.old ++ part (gcm_key_of key.now) nonce text.old) }
 {
     let tag = key.seal_in_place(nonce, text);
-    into.append(alloc, text)?;
-    into.append(alloc, &tag)
+    into.append_both(alloc, text, &tag)
 }
 
 // The same, where there may be no part; the counter behind it.
@@ -184,7 +183,7 @@ pub(crate) fn hand_out(
     ensures ok { OnOk result (contents.new ≡ contents.old ++ (nonce.now ++ plain.now) ∷ []) }
     ensures err { OnErr result (contents.new ≡ contents.old) }
 {
-    let mut content = Blob::of(alloc, nonce)?;
-    content.append(alloc, plain)?;
+    let mut content = Blob::with_room(alloc, plain.len().saturating_add(12))?;
+    content.append_both(alloc, nonce, plain)?;
     contents.push(alloc, content)
 }

@@ -222,7 +222,8 @@ fn hand_out_nonempty(
 fn head_plain(alloc: Global, preamble: &[u8], first: &[u8]) -> Result<Vec<u8>, AllocError>
     ensures { IfOk result (λ plain. plain.items ≡ preamble.now ++ inline_of first.now) }
 {
-    let mut plain = Vec::from_slice(alloc, preamble)?;
+    let mut plain = Vec::with_capacity(alloc, 80)?;
+    plain.extend_from_slice(preamble)?;
     let (inline, _) = first.split_at(first.len().min(INLINE));
     put_filled(&mut plain, inline, INLINE)?;
     Ok(plain)
@@ -238,8 +239,9 @@ fn second_plain(alloc: Global, first: &[u8]) -> Result<Vec<u8>, AllocError>
         return Ok(Vec::new(alloc));
     }
     let (_, rest) = first.split_at(INLINE);
-    let mut plain = Vec::new(alloc);
-    put_filled(&mut plain, rest, up16(rest.len()))?;
+    let room = up16(rest.len());
+    let mut plain = Vec::with_capacity(alloc, room)?;
+    put_filled(&mut plain, rest, room)?;
     Ok(plain)
 }
 
@@ -249,10 +251,11 @@ fn last_plain(alloc: Global, others: &[Segment]) -> Result<Vec<u8>, AllocError>
     requires { sum_by length_of others.now ≤ 1048576 }
     ensures { IfOk result (λ plain. plain.items ≡ last_plain others.now) }
 {
-    let mut plain = Vec::new(alloc);
     if others.is_empty() {
-        return Ok(plain);
+        return Ok(Vec::new(alloc));
     }
+    // Room for small segments, so that these aren't moved as they come.
+    let mut plain = Vec::with_capacity(alloc, 128)?;
     put_bodies(&mut plain, others)?;
     put_filled(&mut plain, &[COMPLETE], END)?;
     Ok(plain)

@@ -17,7 +17,7 @@ loop-four-init c =
     ∙ ap (λ rest. flat_map (λ x. x) (first_chunks 4 (length blocks / 4) blocks) ++ rest) c.as_chunks-2.ensures.back
     ∙ fours-and-rest (length blocks / 4) blocks (omega arith) in
     ap (λ plain. plain ++ concat (uncbc (key_of c.args.key.now) initial_vector (flat_map (λ x. x) c.as_chunks-2.result.0.now ++ c.as_chunks-2.result.1.now)))
-    c.new-plain.ensures
+    c.in_ok-plain.ensures
     ∙ ap (λ left. concat (uncbc (key_of c.args.key.now) initial_vector left)) (all ∙ c.as_chunks.ensures.front)
 
 pub loop-four-preserved : goal.loop-four-preserved

@@ -6,8 +6,8 @@ use Rattle.cx_cbc.proofs.envelope.enveloped.Goals as goal
 pub returns : goal.returns
 unfolding enveloped
 returns c =
-    let front : c.append.new.self ≡ head ++ c.args.content.now =
-    c.in_ok-append.ensures.ok ∙ ap (λ xs. xs ++ c.args.content.now) c.in_ok-plain.ensures in
-    c.in_ok-append-2.ensures.ok
-    ∙ ap (λ xs. c.append.new.self ++ take (16 - length xs % 16) (replicate 16 (16 - length xs % 16))) c.bytes.ensures
+    let front : c.append_both.new.self ≡ head ++ c.args.content.now =
+    c.in_ok-append_both.ensures.ok ∙ ap (λ xs. xs ++ head ++ c.args.content.now) c.in_ok-plain.ensures in
+    c.in_ok-append.ensures.ok
+    ∙ ap (λ xs. c.append_both.new.self ++ take (16 - length xs % 16) (replicate 16 (16 - length xs % 16))) c.bytes.ensures
     ∙ ap (λ xs. xs ++ take (16 - length xs % 16) (replicate 16 (16 - length xs % 16))) front ∙ padded_by (head ++ c.args.content.now)
