@@ -5,7 +5,7 @@ use crate::turns::turned;
 use cx_base::{Addr, EntityName, NodeName};
 use cx_enc::Key;
 use cx_keyserver::KeyServer;
-use cx_rotate::KeptState;
+use cx_rotate::{BoxedState, KeptState};
 use cx_turns::{Came, Moment, Turner};
 use std::alloc::{AllocError, Global};
 use std::marker::Model;
@@ -105,7 +105,7 @@ impl Own {
     }
 
     /// A step saves the state of the key server, or nothing.
-    pub fn note_saved(&mut self, save: &Option<KeptState>)
+    pub fn note_saved(&mut self, save: &Option<BoxedState>)
         requires { (save.now ≡ None) ⊎ (save.now ≡ Some self.old.server.state) }
         ensures { self.new ≡ record self.old { saved = saved_behind self.old.saved save.now } }
     {

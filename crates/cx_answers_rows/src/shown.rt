@@ -4,7 +4,7 @@ ghost use Rattle.std.specs.Prelude.{IfSome};
 ghost use Rattle.cx_rotate.specs.Keeping.{IsKeptState};
 
 use cx_keep::encode_state;
-use cx_rotate::KeptState;
+use cx_rotate::BoxedState;
 use cx_steps::{DrawMark, Effects, Peer, SealEntry, SealMark};
 use std::alloc::{AllocError, Global};
 use std::fmt;
@@ -77,14 +77,14 @@ fn put_drawn(told: &mut String, kind: &str, value: &[u8]) -> Result<(), AllocErr
 pub fn put_saved(
     alloc: Global,
     told: &mut String,
-    save: &Option<KeptState>,
+    save: &Option<BoxedState>,
 ) -> Result<(), AllocError>
     requires { IfSome save.now IsKeptState }
 {
     match save {
         None => Ok(()),
         Some(state) => {
-            let bytes = encode_state(alloc, state)?;
+            let bytes = encode_state(alloc, state.state())?;
             let bytes = Hex(bytes.bytes());
             write!(told, "  save {bytes}\n")
         }

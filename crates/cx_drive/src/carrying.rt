@@ -82,7 +82,7 @@ fn save<S: Site>(alloc: Global, site: &mut S, out: &Effects) -> Result<(), Stop>
     ensures err { IfErr result (GivesUp S.follows out.now.save site.old site.new) }
 {
     match &out.save {
-        Some(state) => save_state(alloc, site, state),
+        Some(state) => save_state(alloc, site, state.state()),
         None => Ok(()),
     }
 }

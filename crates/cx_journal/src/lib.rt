@@ -26,4 +26,4 @@ pub use premises::{Broken, KeyKind, Premise};
 pub use texts::put_text;
 
 // What crates above name through this one, and so needn't list.
-pub use cx_rotate::{KeptState, View};
+pub use cx_rotate::{BoxedState, KeptState, View};

@@ -7,13 +7,13 @@ ghost use Rattle.cx_rules.specs.Tickets.{issued_entry};
 use cx_base::{Duplicate, Items};
 use cx_journal::{Entry, Issued};
 use cx_keyserver::Ticket;
-use cx_rotate::KeptState;
+use cx_rotate::BoxedState;
 use std::alloc::{AllocError, Global};
 
 /// That the state was saved, where it was, and then each ticket.
 pub(crate) fn login_entries(
     alloc: Global,
-    save: &Option<KeptState>,
+    save: &Option<BoxedState>,
     tickets: &[Ticket],
 ) -> Result<Items<Entry>, AllocError>
     ensures { IfOk result (λ entries. entries ≡ login_entries save.now tickets.now) }
@@ -21,7 +21,7 @@ pub(crate) fn login_entries(
     let mut entries = Items::new(alloc);
     match save {
         None => {}
-        Some(state) => entries.push(alloc, Entry::Saved(state.next_gid))?,
+        Some(state) => entries.push(alloc, Entry::Saved(state.state().next_gid))?,
     }
     push_issued(alloc, tickets, &mut entries)?;
     Ok(entries)

@@ -146,7 +146,7 @@ fn handed_out(
     let mut sealed = Items::new(alloc);
     log_tickets(alloc, server, own, &session, tickets, &mut sealed)?;
     log_secret(alloc, entrant.name, &session, &secret, &mut sealed)?;
-    let save = changed(at.saved, &server.state());
+    let save = changed(alloc, at.saved, &server.state())?;
     let entries = login_entries(alloc, &save, tickets)?;
     let name = entrant.name.copy(alloc)?;
     Ok(HandedOut {

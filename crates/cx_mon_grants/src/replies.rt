@@ -112,7 +112,7 @@ fn reply_made(
     ensures short { IfOk result IsBodyShort }
 {
     let body = reply_body(alloc, reply)?;
-    let save = changed(at.saved, state);
+    let save = changed(alloc, at.saved, state)?;
     let entries = login_entries(alloc, &save, tickets)?;
     Ok(ReplyMade {
         body,

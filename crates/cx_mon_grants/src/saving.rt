@@ -1,18 +1,24 @@
 //! When the kept state has changed.
 
-ghost use Rattle.std.specs.Prelude.{◌≡◌};
+ghost use Rattle.std.specs.Prelude.{◌≡◌, IfOk};
 ghost use Rattle.cx_rules.specs.KeptStates.{changed, same_generation, same_generations, same_state};
 
-use cx_rotate::{Generation, Generations, KeptState};
+use cx_rotate::{BoxedState, Generation, Generations, KeptState};
+use std::alloc::{AllocError, Global};
 
 /// The state that a step saves: what there is, where it differs from what was saved last.
-pub(crate) fn changed(saved: &KeptState, state: &KeptState) -> Option<KeptState>
-    ensures { result ≡ changed saved.now state.now }
+pub(crate) fn changed(
+    alloc: Global,
+    saved: &KeptState,
+    state: &KeptState,
+) -> Result<Option<BoxedState>, AllocError>
+    ensures { IfOk result (λ save. save ≡ changed saved.now state.now) }
 {
     if same_state(state, saved) {
-        None
+        Ok(None)
     } else {
-        Some(*state)
+        let boxed = BoxedState::of(alloc, state)?;
+        Ok(Some(boxed))
     }
 }
 

@@ -2,7 +2,7 @@
 
 use cx_base::{Blob, Items};
 use cx_journal::Entry;
-use cx_rotate::KeptState;
+use cx_rotate::BoxedState;
 use cx_steps::SealEntry;
 
 /// What a row says: the link as it goes on, or none where it is shut; the bytes that are sent on it; the state that is saved; and what
@@ -11,7 +11,7 @@ use cx_steps::SealEntry;
 pub struct Row<L> {
     pub link: Option<L>,
     pub sends: Blob,
-    pub save: Option<KeptState>,
+    pub save: Option<BoxedState>,
     pub entries: Items<Entry>,
     pub seals: Items<SealEntry>,
 }

@@ -2,11 +2,13 @@
 //! monitor keeps.
 #![tactic(auto)]
 
+mod boxes;
 mod generations;
 mod laws;
 mod states;
 mod views;
 
+pub use boxes::BoxedState;
 pub use generations::{Generation, Generations};
 pub use laws::rotation_laws;
 pub use states::KeptState;
@@ -19,5 +21,6 @@ fn are_sendable() {
     is_sendable::<Generation>();
     is_sendable::<Generations>();
     is_sendable::<KeptState>();
+    is_sendable::<BoxedState>();
     is_sendable::<View>();
 }

@@ -2,7 +2,7 @@
 
 use cx_base::{Blob, EntityName, Items};
 use cx_login::{Entry, Reason, Request, SealEntry};
-use cx_rotate::KeptState;
+use cx_rotate::BoxedState;
 
 /// An entity on an open link, as the monitor knows it.
 #[derive(Drop)]
@@ -34,7 +34,7 @@ pub struct ReplyMade {
     /// What is logged of the tickets, or of the generations that are told.
     pub sealed: Items<SealEntry>,
     /// The state that is to be saved before anything is sent, where it differs from what was saved last.
-    pub save: Option<KeptState>,
+    pub save: Option<BoxedState>,
     /// What is entered in the journal.
     pub entries: Items<Entry>,
 }

@@ -2,7 +2,7 @@
 
 use cx_base::{Blob, EntityName, Items};
 use cx_login::{Entry, LoginFault, SealEntry};
-use cx_rotate::KeptState;
+use cx_rotate::BoxedState;
 
 /// What the monitor hands out to an entity.
 #[derive(Drop)]
@@ -20,7 +20,7 @@ pub struct HandedOut {
     /// What is logged of the tickets and of the secret of the connection.
     pub sealed: Items<SealEntry>,
     /// The state that is to be saved before anything is sent, where it differs from what was saved last.
-    pub save: Option<KeptState>,
+    pub save: Option<BoxedState>,
     /// What is entered in the journal.
     pub entries: Items<Entry>,
 }

@@ -6,7 +6,7 @@ ghost use Rattle.cx_steps.specs.Nothing.{nothing};
 use crate::events::Peer;
 use crate::seals::SealEntry;
 use cx_base::{Blob, Duplicate, Items, copy_items};
-use cx_journal::{Entry, KeptState};
+use cx_journal::{BoxedState, Entry};
 use std::alloc::{AllocError, Global};
 
 /// All bytes that one step sends on one link.
@@ -27,10 +27,10 @@ impl Duplicate for Piece {
 }
 
 /// What one step gives. Whoever drives the node saves first, then sends, then opens, then shuts.
-#[derive(Debug, PartialEq, Eq, Drop)]
+#[derive(Drop)]
 pub struct Effects {
     pub opens: Items<Peer>,
-    pub save: Option<KeptState>,
+    pub save: Option<BoxedState>,
     pub sends: Items<Piece>,
     pub shuts: Items<u32>,
     pub entries: Items<Entry>,
@@ -62,13 +62,14 @@ impl Effects {
 impl Duplicate for Effects {
     fn copy(&self, alloc: Global) -> Result<Effects, AllocError> {
         let opens = copy_items(alloc, &self.opens)?;
+        let save = copy_save(alloc, &self.save)?;
         let sends = copy_items(alloc, &self.sends)?;
         let shuts = copy_links(alloc, &self.shuts)?;
         let entries = copy_items(alloc, &self.entries)?;
         let seals = copy_items(alloc, &self.seals)?;
         Ok(Effects {
             opens,
-            save: self.save,
+            save,
             sends,
             shuts,
             entries,
@@ -76,6 +77,15 @@ impl Duplicate for Effects {
             turned: self.turned,
             lost: self.lost,
         })
+    }
+}
+
+fn copy_save(alloc: Global, save: &Option<BoxedState>) -> Result<Option<BoxedState>, AllocError>
+    ensures { IfOk result (λ copied. copied ≡ save.now) }
+{
+    match save {
+        None => Ok(None),
+        Some(state) => Ok(Some(BoxedState::of(alloc, state.state())?)),
     }
 }
 
