@@ -10,11 +10,6 @@ fn blob(rt: &impl Abort, alloc: Global) -> Blob {
     Blob::of(alloc, b"hi").expect(rt, "memory is ample")
 }
 
-/// Whether a copy is what it was copied from.
-fn is_copied<T: Duplicate + PartialEq>(rt: &impl Abort, alloc: Global, value: &T) -> bool {
-    value.copy(alloc).expect(rt, "memory is ample") == *value
-}
-
 fn sealed(rt: &impl Abort, alloc: Global) -> SealEntry {
     SealEntry::Sealed(SealMark {
         key: [1; 16],
@@ -79,9 +74,20 @@ fn shut(effects: &Effects) -> usize {
     effects.shuts.all().len()
 }
 
+/// Whether all lists are the same, and whether a state is to be saved.
+fn is_same(first: &Effects, second: &Effects) -> bool {
+    first.opens == second.opens
+        && first.sends == second.sends
+        && first.shuts == second.shuts
+        && first.entries == second.entries
+        && first.seals == second.seals
+        && first.save.is_some() == second.save.is_some()
+}
+
 #[test]
 fn effects_are_copied(rt: HostRuntime) {
     let effects = effects(&rt, rt.alloc(), 70_000);
     assert!(rt; shut(&effects) == 70_000);
-    assert!(rt; is_copied(&rt, rt.alloc(), &effects));
+    let copied = effects.copy(rt.alloc()).expect(&rt, "memory is ample");
+    assert!(rt; is_same(&effects, &copied));
 }
