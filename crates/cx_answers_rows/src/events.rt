@@ -147,7 +147,7 @@ fn peer_of(alloc: Global, word: &str) -> Result<Option<Peer>, AllocError> {
 fn text_of(alloc: Global, word: &str) -> Result<Text, AllocError> {
     match Text::of(alloc, word.as_bytes()) {
         Ok(text) => Ok(text),
-        Err(TextRefusal::NotAscii(_)) => Ok(Text::new(alloc)),
+        Err(TextRefusal::NotAscii(_)) => Text::new(alloc),
         Err(TextRefusal::OutOfMemory) => Err(AllocError),
     }
 }

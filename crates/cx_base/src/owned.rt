@@ -11,6 +11,7 @@ use std::alloc::{AllocError, Global};
 use std::cmp::Ordering;
 use std::fmt;
 use std::marker::Model;
+use std::sync::ArcStr;
 
 /// Bytes.
 #[derive(Debug, Drop)]
@@ -168,31 +169,31 @@ impl Duplicate for Blob {
     }
 }
 
-/// ASCII text: no byte is above 0x7f.
+/// ASCII text: no byte is above 0x7f. It never changes, and its copies share one block of memory.
 #[derive(Debug, Drop)]
 pub struct Text {
-    held: String,
+    held: ArcStr,
 }
 
 impl Model for Text {
-    ghost use Rattle.std.specs.Prelude.{ℕ, List, string_bytes};
+    ghost use Rattle.std.specs.Prelude.{ℕ, List};
+    ghost use Rattle.std.specs.Arc.{arc_str_bytes};
     ghost use Rattle.std.specs.Str.{IsAscii};
 
     ghost Value = { List ℕ };
 
-    ghost view = { λ t. string_bytes t.held };
+    ghost view = { λ t. arc_str_bytes t.held };
 
-    ghost invariant = { λ t. IsAscii (string_bytes t.held) };
+    ghost invariant = { λ t. IsAscii (arc_str_bytes t.held) };
 }
 
 impl Text {
     /// The empty text.
-    pub fn new(alloc: Global) -> Text
-        ensures { result ≡ [] }
+    pub fn new(alloc: Global) -> Result<Text, AllocError>
+        ensures { IfOk result (λ text. text ≡ []) }
     {
-        Text {
-            held: String::new(alloc),
-        }
+        let held = ArcStr::from_str(alloc, "")?;
+        Ok(Text { held })
     }
 
     /// The text of these bytes.
@@ -203,7 +204,7 @@ impl Text {
         if let Some(place) = first_above_ascii(bytes) {
             return Err(TextRefusal::NotAscii(place));
         }
-        let held = String::from_str(alloc, ascii(bytes))?;
+        let held = ArcStr::from_str(alloc, ascii(bytes))?;
         Ok(Text { held })
     }
 
@@ -212,7 +213,7 @@ impl Text {
         requires { position is_above_ascii bytes.now ≡ None }
         ensures { IfOk result (λ text. text ≡ bytes.now) }
     {
-        let held = String::from_str(alloc, ascii(bytes))?;
+        let held = ArcStr::from_str(alloc, ascii(bytes))?;
         Ok(Text { held })
     }
 
@@ -221,7 +222,8 @@ impl Text {
         ensures value { result.now ≡ self.now }
         ensures ascii { IsAscii result.now }
     {
-        self.held.as_bytes()
+        let _ = &self.held;
+        self.as_str().as_bytes()
     }
 
     /// The text.
@@ -255,7 +257,7 @@ impl fmt::Display for Text {
     ghost output = { λ text. Some text };
 
     fn fmt<W: fmt::Write>(&self, f: &mut fmt::Formatter<W>) -> fmt::Result {
-        write!(f, "{}", self.held)
+        write!(f, "{}", self.as_str())
     }
 }
 
@@ -280,8 +282,8 @@ impl Eq for Text {
 }
 
 impl Duplicate for Text {
-    fn copy(&self, alloc: Global) -> Result<Text, AllocError> {
-        let held = String::from_str(alloc, self.held.as_str())?;
+    fn copy(&self, _alloc: Global) -> Result<Text, AllocError> {
+        let held = self.held.clone()?;
         Ok(Text { held })
     }
 }
@@ -315,6 +317,14 @@ impl<T> Items<T> {
         ensures { result.now ≡ self.now }
     {
         self.held.as_slice()
+    }
+
+    /// The items, each of which can be moved out.
+    pub fn into_vec(self) -> Vec<T>
+        ensures { result.items ≡ self }
+    {
+        let Items { held } = self;
+        held
     }
 }
 

@@ -48,7 +48,7 @@ fn owned_by(rt: &impl Abort, alloc: Global, id: u8) -> Holder {
     let id = Text::of(alloc, &[id]).expect(rt, "ASCII");
     Holder {
         entity: EntityName::new(EntityType::Client, id).expect(rt, "a name"),
-        caps: Text::new(alloc),
+        caps: Text::new(alloc).expect(rt, "memory"),
     }
 }
 

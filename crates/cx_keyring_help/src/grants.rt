@@ -145,7 +145,7 @@ fn part_in(alloc: Global, word: &[u8]) -> Result<Text, AllocError>
     if is_long_part(word) {
         return Text::from_ascii(alloc, word);
     }
-    Ok(Text::new(alloc))
+    Text::new(alloc)
 }
 
 /// The word behind the first of these texts in a clause.

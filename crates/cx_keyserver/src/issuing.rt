@@ -109,7 +109,8 @@ fn caps_for(alloc: Global, service: EntityType, entry: &Entry) -> Result<Option<
     ensures good { IfOk result (λ caps. IfSome caps (λ text. IsTrue (is_caps text))) }
 {
     if service.is(EntityType::Auth) {
-        return Ok(Some(Text::new(alloc)));
+        let none = Text::new(alloc)?;
+        return Ok(Some(none));
     }
     match grant_for(service, entry.caps.all()) {
         None => Ok(None),

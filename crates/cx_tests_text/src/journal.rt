@@ -164,7 +164,7 @@ fn operation(rt: &impl Abort, alloc: Global, access: Access, bytes: &[u8]) -> Op
     Operation {
         access,
         pool: text(rt, alloc, b"rbd"),
-        namespace: Text::new(alloc),
+        namespace: Text::new(alloc).expect(rt, "memory"),
         object: text(rt, alloc, b"obj1"),
         bytes: blob(rt, alloc, bytes),
     }

@@ -5,7 +5,7 @@ use cx_session::{
     AdmitFault, BookCall, BookFault, BookReply, Outbox, QueueFault, ResumeFault, SessionBook,
     book_laws, told_laws,
 };
-use std::alloc::Global;
+use std::alloc::{AllocError, Global};
 use std::process::Abort;
 
 #[derive(Drop)]
@@ -50,7 +50,7 @@ fn owned_by(rt: &impl Abort, alloc: Global, id: u8, gid: u64) -> Holder {
     Holder {
         entity: name(rt, alloc, id),
         gid,
-        caps: Text::new(alloc),
+        caps: Text::new(alloc).expect(rt, "memory"),
     }
 }
 
@@ -120,19 +120,22 @@ fn at_most_4096_sessions_live(rt: HostRuntime) {
     assert!(rt; is_admitted(&rt, rt.alloc(), &mut book, 70_001));
 }
 
-fn write(alloc: Global) -> Operation {
-    Operation {
+fn write(alloc: Global) -> Result<Operation, AllocError> {
+    Ok(Operation {
         access: Access::Write,
-        pool: Text::new(alloc),
-        namespace: Text::new(alloc),
-        object: Text::new(alloc),
+        pool: Text::new(alloc)?,
+        namespace: Text::new(alloc)?,
+        object: Text::new(alloc)?,
         bytes: Blob::new(alloc),
-    }
+    })
 }
 
 /// The number that an operation gets.
 fn pushed(alloc: Global, outbox: &mut Outbox) -> Result<u64, QueueFault> {
-    match outbox.push(alloc, write(alloc)) {
+    let Ok(operation) = write(alloc) else {
+        return Err(QueueFault::OutOfMemory);
+    };
+    match outbox.push(alloc, operation) {
         Ok(number) => Ok(number),
         Err(refusal) => Err(refusal.fault),
     }
@@ -164,7 +167,8 @@ fn outbox_of(rt: &impl Abort, alloc: Global, last: u64, waiting: u64) -> Outbox 
 fn pushed_reserved(rt: &impl Abort, alloc: Global, outbox: &mut Outbox) -> Result<u64, QueueFault> {
     outbox.push_reply()?;
     outbox.reserve(alloc).expect(rt, "memory is ample");
-    Ok(outbox.push_reserved(write(alloc)))
+    let operation = write(alloc).expect(rt, "memory is ample");
+    Ok(outbox.push_reserved(operation))
 }
 
 #[test]

@@ -39,7 +39,8 @@ pub fn part(alloc: Global, word: &[u8]) -> Result<Option<Text>, AllocError>
     ensures spelled { IfOk result (λ found. IfSome found (λ part. IsTrue (is_part part) × (word.now ≡ part_word part))) }
 {
     if is_word(word, "-") {
-        return Ok(Some(Text::new(alloc)));
+        let none = Text::new(alloc)?;
+        return Ok(Some(none));
     }
     if !is_long_part(word) {
         return Ok(None);
