@@ -42,13 +42,13 @@ impl SecureLink {
         let mut contents = Items::new(alloc);
         match stream.turn(alloc, &mut contents) {
             Ok(Some(frame)) => {
-                log_opened(alloc, &key, contents.all(), seals)?;
+                log_opened(alloc, &key, contents, seals)?;
                 Ok(LinkTurn::Takes(SecureLink { key, stream }, frame))
             }
             Ok(None) => Ok(LinkTurn::Waits(SecureLink { key, stream })),
             Err(fault) => match LinkRefusal::from(fault) {
                 LinkRefusal::Fault(why) => {
-                    log_opened(alloc, &key, contents.all(), seals)?;
+                    log_opened(alloc, &key, contents, seals)?;
                     Ok(LinkTurn::Refuses(why))
                 }
                 LinkRefusal::OutOfMemory => Err(AllocError),
@@ -124,7 +124,7 @@ fn seal_behind(
         Ok(()) => {
             let contents = stream.put_contents(alloc, frame)?;
             let mut seals = before;
-            log_sealed(alloc, &key, contents.all(), &mut seals)?;
+            log_sealed(alloc, &key, contents, &mut seals)?;
             let link = SecureLink { key, stream };
             Ok(SentFrame { link, bytes, seals })
         }
@@ -144,28 +144,27 @@ fn long_fault(parts_left: u64) -> BytesFault
 }
 
 // A content under the key of a connection.
-fn mark(alloc: Global, key: &[u8; 16], content: &Blob) -> Result<SealMark, AllocError>
-    ensures { IfOk result (λ mark. mark ≡ record { key = key.now; kind = KeyKind.Connection; content = content.now }) }
+fn mark(key: &[u8; 16], content: Blob) -> SealMark
+    ensures { result ≡ record { key = key.now; kind = KeyKind.Connection; content = content } }
 {
-    let content = content.copy(alloc)?;
-    Ok(SealMark {
+    SealMark {
         key: *key,
         kind: KeyKind::Connection,
         content,
-    })
+    }
 }
 
 // Logs what was sealed under the key of a connection.
 fn log_sealed(
     alloc: Global,
     key: &[u8; 16],
-    contents: &[Blob],
+    contents: Items<Blob>,
     seals: &mut Items<SealEntry>,
 ) -> Result<(), AllocError>
-    ensures { OnOk result (seals.new ≡ seals.old ++ map (sealed_entry key.now) contents.now) }
+    ensures { OnOk result (seals.new ≡ seals.old ++ map (sealed_entry key.now) contents) }
 {
-    for content in contents {
-        seals.push(alloc, SealEntry::Sealed(mark(alloc, key, content)?))?;
+    for content in contents.into_vec() {
+        seals.push(alloc, SealEntry::Sealed(mark(key, content)))?;
     }
     Ok(())
 }
@@ -174,13 +173,13 @@ fn log_sealed(
 fn log_opened(
     alloc: Global,
     key: &[u8; 16],
-    contents: &[Blob],
+    contents: Items<Blob>,
     seals: &mut Items<SealEntry>,
 ) -> Result<(), AllocError>
-    ensures { OnOk result (seals.new ≡ seals.old ++ map (opened_entry key.now) contents.now) }
+    ensures { OnOk result (seals.new ≡ seals.old ++ map (opened_entry key.now) contents) }
 {
-    for content in contents {
-        seals.push(alloc, SealEntry::Opened(mark(alloc, key, content)?))?;
+    for content in contents.into_vec() {
+        seals.push(alloc, SealEntry::Opened(mark(key, content)))?;
     }
     Ok(())
 }

@@ -1,6 +1,6 @@
-use Rattle.std.proofs.Common.{◌≡◌, ◌++◌, map, take}
+use Rattle.std.proofs.Common.{◌≡◌, ◌++◌, map}
 use Rattle.cx_link.specs.Sending.{opened_entry}
 use Rattle.cx_link.proofs.secure.log_opened.Given as goal
 
 abbrev pub invariant-loop-content : goal.invariant-loop-content
-invariant-loop-content l = l.seals ≡ l.initial.seals ++ map (opened_entry l.key) (take l.content-index l.contents)
+invariant-loop-content l = l.seals ≡ l.initial.seals ++ map (opened_entry l.key) l.yielded

@@ -1,8 +1,7 @@
-use Rattle.std.proofs.Common.{◌∙◌, ◌++◌, List, ℕ, ap, length, map}
+use Rattle.std.proofs.Common.{◌∙◌, ◌++◌, List, ℕ, ap, length}
 use Rattle.cx_rules.specs.cx_secure.specs.Plains.{plains, secure_text}
 use Rattle.cx_rules.specs.cx_secure.specs.Sealings.{connection_key}
 use Rattle.cx_rules.specs.cx_secure.specs.declared.sealing.Sealing.{Sealing}
-use Rattle.cx_link.specs.Sending.{sealed_entry}
 use Rattle.cx_link.proofs.SealedFrames.{same_ahead, sends_frame}
 use Rattle.cx_link.proofs.secure.seal_behind.Goals as goal
 
@@ -19,6 +18,6 @@ returns-in_ok-log_sealed-in-Ok c =
     let contents = rw c.deref.ensures at c.in_ok-contents-in-Ok.ensures in (
       sends_frame c.args.stream.value c.put.new.self c.args.frame.now key c.put.new.into c.in_ok-contents-in-Ok.contents c.args.before c.log_sealed.new.seals c.requires.live
           free (put ∙ ap (λ b. b ++ text) c.new-bytes.ensures) after contents
-          (c.in_ok-log_sealed-in-Ok.ensures ∙ ap (λ cs. c.args.before ++ map (sealed_entry key) cs) c.all.ensures),
+          c.in_ok-log_sealed-in-Ok.ensures,
       same_ahead c.args.stream.value c.put.new.self n after,
     )

@@ -1,7 +1,6 @@
-use Rattle.std.proofs.Common.{◌++◌, List, ℕ, map, ap, ◌∙◌, subst}
+use Rattle.std.proofs.Common.{◌++◌, List, ℕ, ap, ◌∙◌, subst}
 use Rattle.cx_rules.specs.cx_stream.specs.Openings.{front_contents}
 use Rattle.cx_rules.specs.cx_stream.specs.SecureStreams.{ahead}
-use Rattle.cx_link.specs.Sending.{opened_entry}
 use Rattle.cx_link.specs.Turning.{RefusesSecure, TakesSecure}
 use Rattle.cx_link.specs.Wires.{SecureWire, secure_wire}
 use Rattle.cx_link.proofs.SecureTurns.{refuses_secure, takes_secure}
@@ -17,7 +16,7 @@ returns-in-Ok-Some c =
     subst (λ (w : SecureWire). TakesSecure w (secure_wire c.turn.new.self) c.in-Ok-Some.frame c.args.seals.now c.log_opened.new.seals) c.self.view_is
     (takes_secure c.self.inside.stream.value c.turn.new.self key c.in-Ok-Some.frame c.turn.new.opened c.args.seals.now c.log_opened.new.seals c.self.invariant passes out
     (handed c.self.invariant.free (λ e. cc) (λ e. cc) ∙ ap (λ (cs : List (List ℕ)). cs ++ front_contents (ahead c.self.inside.stream.value)) c.new-contents.ensures)
-    (c.in_ok-log_opened-in-Ok-Some.ensures ∙ ap (λ cs. c.args.seals.now ++ map (opened_entry key) cs) c.all.ensures))
+    c.in_ok-log_opened-in-Ok-Some.ensures)
 
 pub returns-in-Fault : goal.returns-in-Fault
 returns-in-Fault c =
@@ -28,5 +27,5 @@ returns-in-Fault c =
     subst (λ (w : SecureWire). RefusesSecure w c.in-Fault.why c.args.seals.now c.log_opened-in-Fault.new.seals) c.self.view_is
     (refuses_secure c.self.inside.stream.value key c.in-Err.fault c.in-Fault.why c.turn.new.opened c.args.seals.now c.log_opened-in-Fault.new.seals c.self.invariant exact
     (λ free some not. opened free some not ∙ ap (λ (cs : List (List ℕ)). cs ++ front_contents (ahead c.self.inside.stream.value)) c.new-contents.ensures)
-    (c.in_ok-log_opened-in-Fault.ensures ∙ ap (λ cs. c.args.seals.now ++ map (opened_entry key) cs) c.all-in-Fault.ensures)
+    c.in_ok-log_opened-in-Fault.ensures
     c.in-Fault.ensures)
