@@ -6,6 +6,7 @@ pub mod Linear
 pub mod Digits
 pub mod ColumnProducts
 pub mod Steps
+pub mod Sums
 pub mod KeyStream
 pub mod Padding
 pub mod Passing

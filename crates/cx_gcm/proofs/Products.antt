@@ -79,14 +79,6 @@ from_last-mod z y =
     let b3 : z / 8 % 2 ≡ z % 16 / 8 % 2 = omega arith in
     cc (b0, b1, b2, b3)
 
-pub bit_set : (x y n : ℕ) → bit_at x n ≡ 1 → bit_xor (shifted (from_last x y n)) y ≡ from_last x y (n + 1)
-bit_set x y n one = sym (from_last_more x y n ∙ ap (λ b. bit_xor (shifted (from_last x y n)) (if b == 1 then y else 0)) one)
-
-pub bit_clear : (x y n : ℕ) → (bit_at x n ≡ 1 → ⊥) → bit_xor (shifted (from_last x y n)) 0 ≡ from_last x y (n + 1)
-bit_clear x y n not_one =
-    let zero : bit_at x n ≡ 0 = omega arith in
-    sym (from_last_more x y n ∙ ap (λ b. bit_xor (shifted (from_last x y n)) (if b == 1 then y else 0)) zero)
-
 -- the first of four bits gives the block itself
 pub from_last_first : (y : ℕ) → from_last 8 y 4 ≡ y
 unfolding from_last shifted

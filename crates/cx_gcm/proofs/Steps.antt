@@ -1,6 +1,5 @@
 -- What the loop over the columns keeps, and what its end gives.
 use Rattle.std.proofs.Common.{◌≡◌, ℕ, zero, suc, ◌<◌, ◌≤◌, ◌+◌, ◌-◌, ◌^◌, List, [], ◌∷◌, All, map, length, get_or, take, bit_xor, refl, sym, ap, ◌∙◌, inl, inr, subst, arith, length-take}
-use Rattle.std.specs.List.{range_with_len}
 use Rattle.std.proofs.lemmas.Bool.{cases_lt}
 use Rattle.std.proofs.lemmas.Nat.{xor_lt}
 use Rattle.std.proofs.lemmas.List.{get_or-take, get_or_past, length-map}
@@ -11,11 +10,10 @@ use Rattle.cx_aes.specs.Lookup.{IsSixteen, by_halves}
 use Rattle.cx_aes.proofs.Maps.{IsVector, bytes_of_vector}
 use Rattle.cx_gcm.specs.Blocks.{number, product, shifted, shifted_by, spelled}
 use Rattle.cx_gcm.specs.Fronts.{front}
-use Rattle.cx_gcm.specs.Multiples.{IsTable, byte_of, columns, from_last, table_block}
+use Rattle.cx_gcm.specs.Multiples.{IsTable, columns, from_last, table_block}
 use Rattle.cx_gcm.proofs.Fronts.{front-xor, next_front}
 use Rattle.cx_gcm.proofs.ColumnProducts.{column_at, horner, horner-xor, horner_all, horner_more, horner_one}
 use Rattle.cx_gcm.proofs.Digits.{bytes-spelled, front-lt, front-number, number-spelled}
-use Rattle.std.proofs.lemmas.List.FromFn.{fill_by_all, get_or-map-range_with_len}
 use Rattle.cx_gcm.proofs.Products.{from_last_first}
 use Rattle.cx_gcm.proofs.Linear.{from_last-lt}
 
@@ -169,26 +167,6 @@ one_of_four upper lower h x hx =
     product_of_columns upper lower h x hx.bytes ∙ ap (λ v. product v (table_block upper)) (number-front x hx)
 
 -- the tables that are made
-pub upper_tables : (h : ℕ) (rows upper : List (List ℕ)) → rows ≡ map (λ n. spelled (from_last n h 4)) (range_with_len 0 16)
-    → upper ≡ map (λ place. map (byte_of place) rows) (range_with_len 0 16) → upper ≡ columns (λ n. from_last n h 4)
-unfolding columns
-upper_tables h rows upper er eu = eu ∙ ap (λ r. map (λ place. map (byte_of place) r) (range_with_len 0 16)) er
-
-pub lower_tables : (h : ℕ) (rows shifted lower : List (List ℕ)) → h < 2 ^ 128
-    → rows ≡ map (λ n. spelled (from_last n h 4)) (range_with_len 0 16) → length shifted ≡ 16
-    → ((i : ℕ) → i < 16 → get_or shifted i [] ≡ spelled (shifted_by (number (get_or rows i [])) 4))
-    → lower ≡ map (λ place. map (byte_of place) shifted) (range_with_len 0 16) → lower ≡ columns (λ n. shifted_by (from_last n h 4) 4)
-unfolding columns
-lower_tables h rows shifted lower lh er len each el =
-    let row : (i : ℕ) → i < 16 → number (get_or rows i []) ≡ from_last i h 4 =
-    λ i lt.
-    ap number (ap (λ r. get_or r i []) er ∙ get_or-map-range_with_len (λ n. spelled (from_last n h 4)) 0 16 i i [] lt (omega arith))
-    ∙ number-spelled (from_last i h 4) (from_last-lt i h 4 lh) in
-    let all : shifted ≡ map (λ n. spelled (shifted_by (from_last n h 4) 4)) (range_with_len 0 16) =
-    fill_by_all (λ n. spelled (shifted_by (from_last n h 4) 4)) shifted 16 [] len
-    (λ i lt. each i lt ∙ ap (λ v. spelled (shifted_by v 4)) (row i lt)) in
-    el ∙ ap (λ r. map (λ place. map (byte_of place) r) (range_with_len 0 16)) all
-
 pub block_of_tables : (h : ℕ) (upper : List (List ℕ)) → h < 2 ^ 128 → upper ≡ columns (λ n. from_last n h 4) → table_block upper ≡ h
 block_of_tables h upper lh e =
     ap table_block e ∙ block_of_columns (λ n. from_last n h 4) ∙ ap (λ v. number (spelled v)) (from_last_first h) ∙ number-spelled h lh

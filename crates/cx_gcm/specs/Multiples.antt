@@ -9,6 +9,15 @@ unfoldable pub from_last : ℕ → ℕ → ℕ → ℕ
 from_last x y zero = 0
 from_last x y (suc n) = bit_xor (shifted (from_last x y n)) (if bit_at x n == 1 then y else 0)
 
+-- what the bit at a place chooses
+abbrev pub chosen_by : ℕ → ℕ → ℕ → ℕ
+chosen_by bits place v = if bit_at bits place == 1 then v else 0
+
+-- the sum of those of four that four bits choose
+unfoldable pub sum_of : ℕ → ℕ → ℕ → ℕ → ℕ → ℕ
+sum_of bits eight four two one =
+    bit_xor (bit_xor (chosen_by bits 3 eight) (chosen_by bits 2 four)) (bit_xor (chosen_by bits 1 two) (chosen_by bits 0 one))
+
 -- the byte at a place of a block
 abbrev pub byte_of : ℕ → List ℕ → ℕ
 byte_of place block = slice_index block place

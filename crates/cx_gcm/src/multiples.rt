@@ -1,10 +1,10 @@
 //! Products of blocks (SP 800-38D, 6.3), sixteen bytes at once, by look-ups in tables of sixteen.
 
-ghost use Rattle.std.specs.Prelude.{◌≡◌, ℕ, ◌<◌, List, map, bit_xor, slice_index};
+ghost use Rattle.std.specs.Prelude.{◌≡◌, ℕ, ◌<◌, List, map, bit_xor};
 ghost use Rattle.std.specs.List.{range_with_len};
 ghost use lib.Lanes.{zip2};
-ghost use Rattle.cx_gcm.specs.Blocks.{number, product, shifted, shifted_by, spelled};
-ghost use Rattle.cx_gcm.specs.Multiples.{IsTable, byte_of, columns, from_last};
+ghost use Rattle.cx_gcm.specs.Blocks.{number, product, shifted, spelled};
+ghost use Rattle.cx_gcm.specs.Multiples.{IsTable, chosen_by, columns, sum_of};
 
 use crate::blocks::{number, spelled};
 use crate::polynomials::{next_lower, next_upper, reduced};
@@ -26,18 +26,21 @@ pub struct Multiples {
 impl Multiples {
     ghost use Rattle.cx_gcm.specs.Key.{block_of, column_of};
 
-    /// The tables of a block.
+    /// The tables of a block. The multiples by one bit are shifts of the block, and all others are sums of these.
     pub fn new(h: &[u8; 16]) -> Multiples
         ensures { block_of result ≡ number h.now }
     {
-        let upper = sixteen_products(number(h));
-        let mut lower = [[0u8; 16]; 16];
-        for bits in 0..16usize {
-            lower[bits] = spelled(shifted_by_four(number(&upper[bits])));
-        }
+        let eight = number(h);
+        let four = shifted(eight);
+        let two = shifted(four);
+        let one = shifted(two);
+        let lower_eight = shifted(one);
+        let lower_four = shifted(lower_eight);
+        let lower_two = shifted(lower_four);
+        let lower_one = shifted(lower_two);
         Multiples {
-            upper: turned(&upper),
-            lower: turned(&lower),
+            upper: columns(eight, four, two, one),
+            lower: columns(lower_eight, lower_four, lower_two, lower_one),
         }
     }
 
@@ -83,52 +86,45 @@ fn shifted(v: u128) -> u128
     (v >> 1) ^ POLYNOMIAL * (v % 2)
 }
 
-fn shifted_by_four(v: u128) -> u128
-    ensures { result ≡ shifted_by v 4 }
+// Place by place the bytes of the sixteen sums of these four blocks.
+fn columns(eight: u128, four: u128, two: u128, one: u128) -> [[u8; 16]; 16]
+    ensures { result ≡ columns (λ bits. sum_of bits eight four two one) }
 {
-    shifted(shifted(shifted(shifted(v))))
-}
-
-// The products with the sixteen values of four bits.
-fn sixteen_products(h: u128) -> [[u8; 16]; 16]
-    ensures { result ≡ map (λ bits. spelled (from_last bits h 4)) (range_with_len 0 16) }
-{
-    let mut rows = [[0u8; 16]; 16];
-    for bits in 0..16usize {
-        rows[bits] = spelled(multiple(h, bits as u128));
-    }
-    rows
-}
-
-fn multiple(h: u128, bits: u128) -> u128
-    ensures { result ≡ from_last bits h 4 }
-{
-    let mut sum = 0u128;
-    for i in 0..4u32 {
-        let next = if (bits >> i) % 2 == 1 { h } else { 0 };
-        sum = shifted(sum) ^ next;
-    }
-    sum
-}
-
-// At each place the bytes that the rows have there.
-fn turned(rows: &[[u8; 16]; 16]) -> [[u8; 16]; 16]
-    ensures { result ≡ map (λ place. map (byte_of place) rows.now) (range_with_len 0 16) }
-{
-    let mut turned = [[0u8; 16]; 16];
+    let eight = spelled(eight);
+    let four = spelled(four);
+    let two = spelled(two);
+    let one = spelled(one);
+    let mut columns = [[0u8; 16]; 16];
     for place in 0..16usize {
-        turned[place] = bytes_at(rows, place);
+        columns[place] = sums(eight[place], four[place], two[place], one[place]);
     }
-    turned
+    columns
 }
 
-fn bytes_at(rows: &[[u8; 16]; 16], place: usize) -> [u8; 16]
-    requires { place < 16 }
-    ensures { result ≡ map (byte_of place) rows.now }
+// The sixteen sums of these four bytes.
+#[inline(always)]
+fn sums(eight: u8, four: u8, two: u8, one: u8) -> [u8; 16]
+    ensures { result ≡ map (λ bits. sum_of bits eight four two one) (range_with_len 0 16) }
 {
-    let mut bytes = [0u8; 16];
-    for n in 0..16usize {
-        bytes[n] = rows[n][place];
+    let mut sums = [0u8; 16];
+    for bits in 0..16usize {
+        sums[bits] = sum_of(bits, eight, four, two, one);
     }
-    bytes
+    sums
+}
+
+// The sum of those that the four bits choose.
+#[inline(always)]
+fn sum_of(bits: usize, eight: u8, four: u8, two: u8, one: u8) -> u8
+    ensures { result ≡ sum_of bits eight four two one }
+{
+    (chosen(bits, 3, eight) ^ chosen(bits, 2, four)) ^ (chosen(bits, 1, two) ^ chosen(bits, 0, one))
+}
+
+#[inline(always)]
+fn chosen(bits: usize, place: u32, byte: u8) -> u8
+    requires { place < 4 }
+    ensures { result ≡ chosen_by bits place byte }
+{
+    if (bits >> place) % 2 == 1 { byte } else { 0 }
 }
