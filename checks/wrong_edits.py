@@ -5,8 +5,8 @@ checks/wrong_edits.sh [--libraries TREE] [CRATE..] tries those of each crate, or
 below these crates as `rt ci` leaves them in crates/*/out/rlib, of this tree or of TREE, a clone of it. Of each crate it first has the
 functions proved that its edits change, with what they call, as they stand; over what that proved it then checks these functions with
 edits made, as many at once as stand in functions of their own. An edit is refused where the prover admits no proof of its function,
-and not only because that one calls another which is not proved: then it is tried again without the other's edit. Where an edit stands
-in no function, or its function is proved all the same, the whole crate is checked with it, and must not be proved. The last line says how many
+and not only because that one calls another which is not proved: then it is tried again without the other's edit. Where an edit changes
+no function, or its function is proved all the same, the whole crate is checked with it, and must not be proved. The last line says how many
 are refused; the status is 0 where all are."""
 
 import functools
@@ -76,6 +76,9 @@ class Edit:
                 stop(f"{self.label}: an 'old:' text stands in {path} {text.count(old)} times, and not once")
             self.functions[function_at(path, text, text.index(old))] = None
             texts[path] = text.replace(old, new)
+        if any(self.functions):
+            # (an import, say, which the function needs)
+            self.functions.pop((), None)
 
     def change(self, texts):
         """Returns the texts with the edit made too, or None where it can't be made after those that were made already."""
