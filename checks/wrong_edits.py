@@ -9,7 +9,6 @@ and not only because that one calls another which is not proved: then it is trie
 no function, or its function is proved all the same, the whole crate is checked with it, and must not be proved. The last line says how many
 are refused; the status is 0 where all are."""
 
-import functools
 import hashlib
 import os
 import re
@@ -44,12 +43,28 @@ def graph():
 
 
 def all_below(below, crate):
-    found = {}
-    for dep in below[crate]:
-        if dep in below:
-            found.update(all_below(below, dep))
-            found[dep] = None
-    return found
+    """Returns the crates below this one, as `crates.txt` orders them."""
+    found, left = set(), [crate]
+    while left:
+        for dep in below[left.pop()]:
+            if dep in below and dep not in found:
+                found.add(dep)
+                left.append(dep)
+    return [it for it in below if it in found]
+
+
+def library_of(libraries, crate):
+    return os.path.join(libraries, "crates", crate, "out", "rlib", f"{crate}.rlib")
+
+
+def stop_without(libraries, crates):
+    """Stops where the library of one of the crates isn't there, or was built of other texts."""
+    for crate in crates:
+        built = os.path.join(library_of(libraries, crate), "format")
+        if not os.path.isfile(built):
+            stop(f"the library of {crate} is needed, which `rt ci` leaves in crates/{crate}/out: run that first")
+        if texts_of(TOP, crate) != texts_of(libraries, crate) or newest(libraries, crate) > os.stat(built).st_mtime:
+            stop(f"{crate} isn't what its library in crates/{crate}/out was built of: run `rt ci` first")
 
 
 class Edit:
@@ -138,7 +153,6 @@ def newest(top, crate):
     return max(os.stat(it).st_mtime for it in files_of(top, crate))
 
 
-@functools.lru_cache(maxsize=None)
 def texts_of(top, crate):
     """Returns a sum of the crate's texts."""
     sum = hashlib.sha256()
@@ -154,19 +168,13 @@ class Trial:
     def __init__(self, below, crate, libraries, room):
         self.crate, self.room = crate, room
         self.folder = os.path.join(TOP, "crates", crate)
-        rlib = lambda it: os.path.join(libraries, "crates", it, "out", "rlib", f"{it}.rlib")
-        for dep in all_below(below, crate):
-            if not os.path.isfile(os.path.join(rlib(dep), "format")):
-                stop(f"{crate} needs the library of {dep}, which `rt ci` leaves in crates/{dep}/out: run that first")
-            if texts_of(TOP, dep) != texts_of(libraries, dep) or newest(libraries, dep) > os.stat(os.path.join(rlib(dep), "format")).st_mtime:
-                stop(f"{dep} isn't what its library in crates/{dep}/out was built of: run `rt ci` first")
         root = "src/main.rt" if os.path.isfile(os.path.join(self.folder, "src", "main.rt")) else "src/lib.rt"
         self.words = [os.path.join(KIT, "bin", "rattle"), "check", "--crate-name", crate, root]
         for dep in dict.fromkeys(["std", *below[crate]]):
-            self.words += ["--extern", f"{dep}={rlib(dep) if dep in below else os.path.join(KIT, 'rlibs', dep + '.rlib')}"]
+            self.words += ["--extern", f"{dep}={library_of(libraries, dep) if dep in below else os.path.join(KIT, 'rlibs', dep + '.rlib')}"]
         self.words += ["-L", f"dependency={KIT}/rlibs"]
         for dep in all_below(below, crate):
-            self.words += ["-L", f"dependency={os.path.dirname(rlib(dep))}"]
+            self.words += ["-L", f"dependency={os.path.dirname(library_of(libraries, dep))}"]
         self.words += ["--antt-project", f"{KIT}/rattle/logic/antt-project.json", "--logic-built", f"{KIT}/logic_built"]
         self.words += ["--links", f"{crate}=", "--jobs", "1", "--incremental", os.path.join(room, "kept")]
         os.mkdir(os.path.join(room, "kept"))
@@ -274,6 +282,8 @@ def main(words):
         if crate not in having:
             stop(f"no edits of {crate}")
     crates = words or [it for it in below if it in having]
+    needed = {dep for crate in crates for dep in all_below(below, crate)}
+    stop_without(libraries, [it for it in below if it in needed])
     with ThreadPoolExecutor(int(os.environ.get("RT_JOBS") or len(os.sched_getaffinity(0)))) as pool:
         done = list(pool.map(lambda it: tried_of(below, it, libraries), crates))
     tried, refused = (sum(it) for it in zip(*done))
