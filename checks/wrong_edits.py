@@ -240,9 +240,8 @@ def first_error(said):
     return next((it[:160] for it in said if re.match(r"\S+:\d+:\d+: error", it)), said[-1][:160])
 
 
-def tried_of(below, crate, libraries):
+def tried_of(below, crate, edits, libraries):
     """Tries the crate's edits, says what became of each, and returns how many there are and how many were refused."""
-    edits = [Edit(crate, it) for it in sorted(os.listdir(os.path.join(EDITS, crate)))]
     with tempfile.TemporaryDirectory(prefix="wrong-edits-") as room:
         trial = Trial(below, crate, libraries, room)
         named = trial.named(dict.fromkeys(it for edit in edits for it in edit.functions))
@@ -284,8 +283,9 @@ def main(words):
     crates = words or [it for it in below if it in having]
     needed = {dep for crate in crates for dep in all_below(below, crate)}
     stop_without(libraries, [it for it in below if it in needed])
+    edits = {crate: [Edit(crate, it) for it in sorted(os.listdir(os.path.join(EDITS, crate)))] for crate in crates}
     with ThreadPoolExecutor(int(os.environ.get("RT_JOBS") or len(os.sched_getaffinity(0)))) as pool:
-        done = list(pool.map(lambda it: tried_of(below, it, libraries), crates))
+        done = list(pool.map(lambda it: tried_of(below, it, edits[it], libraries), crates))
     tried, refused = (sum(it) for it in zip(*done))
     print(f"{refused} of {tried} wrong edits refused")
     return refused != tried
