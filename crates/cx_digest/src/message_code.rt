@@ -5,10 +5,10 @@ ghost use Rattle.cx_digest.specs.Code.{hmac, masked};
 use sha2::{Digest, Sha256};
 
 /// The pad of the inner hash.
-const INNER: u8 = 0x36;
+pub(crate) const INNER: u8 = 0x36;
 
 /// The pad of the outer hash.
-const OUTER: u8 = 0x5c;
+pub(crate) const OUTER: u8 = 0x5c;
 
 /// A code under way: HMAC with SHA-256 (RFC 2104) under one key, over a text that comes in parts.
 #[derive(Drop)]
@@ -58,8 +58,8 @@ impl Mac {
     }
 }
 
-// The key, filled with zeros to a block, with `pad` added to each byte.
-fn masked(pad: u8, key: &[u8]) -> [u8; 64]
+/// The key, filled with zeros to a block, with `pad` added to each byte.
+pub(crate) fn masked(pad: u8, key: &[u8]) -> [u8; 64]
     requires { length key.now ≤ 64 }
     ensures { result ≡ masked pad key.now }
 {

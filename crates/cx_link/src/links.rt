@@ -1,6 +1,7 @@
 //! The stages of a link, each a type of its own: a machine holds one of them by its own stage, and takes it out to go on.
 
 use cx_base::{Blob, Items};
+use cx_digest::SigningKey;
 use cx_rules::{Greeting, Plain, Secure};
 use cx_steps::SealEntry;
 use std::marker::Model;
@@ -59,7 +60,7 @@ impl Model for SecureLink {
 #[derive(Drop)]
 pub struct Signing {
     pub link: SecureLink,
-    pub session: [u8; 16],
+    pub session: SigningKey,
     pub covered: Blob,
 }
 

@@ -15,6 +15,9 @@ use std::alloc::{AllocError, Global};
 /// The segments of a plain frame have at most so many bytes together.
 const MAX_PLAIN: usize = 65_536;
 
+/// Room for what a plain frame has beside its segment, and for a sealed AUTH_SIGNATURE, which may be sent with it.
+const BESIDE: usize = 256;
+
 /// One's own banner: REVISION_1 is supported and required.
 pub fn own_banner(alloc: Global) -> Result<Blob, AllocError>
     ensures { IfOk result (λ bytes. bytes ≡ own_banner) }
@@ -33,10 +36,11 @@ pub fn plain_bytes(alloc: Global, frame: &Frame) -> Result<Blob, LinkRefusal>
     requires { IsControl frame.now }
     ensures { Agrees result (plain_frame frame.now) }
 {
-    if frame.segments.all()[0].bytes.bytes().len() > MAX_PLAIN {
+    let length = frame.segments.all()[0].bytes.bytes().len();
+    if length > MAX_PLAIN {
         return Err(LinkRefusal::Fault(BytesFault::TooLong));
     }
-    let mut bytes = Blob::new(alloc);
+    let mut bytes = Blob::with_room(alloc, length + BESIDE)?;
     put_frame(alloc, &mut bytes, frame)?;
     Ok(bytes)
 }

@@ -17,7 +17,7 @@ use crate::sending::plain_bytes;
 use crate::turns::LinkTurn;
 use cx_base::{Blob, Items};
 use cx_control::{AuthSignature, put_auth_signature};
-use cx_digest::Mac;
+use cx_digest::{SigningKey, mac};
 use cx_frame::{Frame, Segment};
 use cx_journal::KeyKind;
 use cx_steps::{SealEntry, SealMark};
@@ -36,7 +36,7 @@ impl SecureLink {
     ) -> Result<SentFrame, LinkRefusal>
         ensures { Sends self.ahead result (signed_frame self.keys session.now received.now) }
     {
-        let frame = signature_frame(alloc, session, received)?;
+        let frame = signature_frame(alloc, &mac(session, received))?;
         let signed = signed(alloc, session, received)?;
         self.put_behind(alloc, &frame, signed)
     }
@@ -94,13 +94,14 @@ impl PlainLink {
         ensures { Signs session.now self.sent (ahead_in self) result
             (signed_frame (keys_of_side connector secret.now) session.now (take self.taken self.received)) }
     {
-        let frame = signature_frame(alloc, session, self.taken())?;
+        let key = SigningKey::new(alloc, session)?;
+        let frame = signature_frame(alloc, &key.code(self.taken()))?;
         let signed = signed(alloc, session, self.taken())?;
         let (link, covered) = self.secured(alloc, secret, connector)?;
         let SentFrame { link, bytes, seals } = link.put_behind(alloc, &frame, signed)?;
         let signing = Signing {
             link,
-            session: *session,
+            session: key,
             covered,
         };
         Ok(Finished {
@@ -152,11 +153,11 @@ impl Signing {
             session,
             covered,
         } = self;
-        if *signature != code_of(&session, covered.bytes()) {
+        if *signature != session.code(covered.bytes()) {
             return None;
         }
         let entry = SealEntry::Checked(SealMark {
-            key: session,
+            key: session.bytes(),
             kind: KeyKind::Signature,
             content: covered,
         });
@@ -164,25 +165,13 @@ impl Signing {
     }
 }
 
-// The code of some bytes under a session key.
-fn code_of(session: &[u8; 16], bytes: &[u8]) -> [u8; 32]
-    ensures { result ≡ hmac session.now bytes.now }
-{
-    let mut code = Mac::new(session);
-    code.update(bytes);
-    code.finish()
-}
-
-// AUTH_SIGNATURE over these bytes.
-fn signature_frame(alloc: Global, session: &[u8; 16], received: &[u8]) -> Result<Frame, AllocError>
-    ensures value { IfOk result (λ f. f ≡ control 7 auth_signature_layout.form (record { signature = hmac session.now received.now })) }
+// AUTH_SIGNATURE with this code.
+fn signature_frame(alloc: Global, code: &[u8; 32]) -> Result<Frame, AllocError>
+    ensures value { IfOk result (λ f. f ≡ control 7 auth_signature_layout.form (record { signature = code.now })) }
     ensures control { IfOk result (λ f. IsControl f) }
 {
-    let signature = AuthSignature {
-        signature: code_of(session, received),
-    };
     let mut bytes = Blob::new(alloc);
-    put_auth_signature(alloc, &mut bytes, &signature)?;
+    put_auth_signature(alloc, &mut bytes, &AuthSignature { signature: *code })?;
     let mut segments = Items::new(alloc);
     segments.push(alloc, Segment { align: 8, bytes })?;
     Ok(Frame {
