@@ -1,6 +1,6 @@
 -- What an entry of a log leaves behind, by which later entries are judged.
-use Rattle.std.specs.Prelude.{ℕ, ◌≡◌, ◌+◌, ◌%◌, ◌^◌, Bool, true, false, List, [], ◌∷◌, Option, Some, None, IsTrue, ◌↔◌, ◌||◌, take, slice_index}
-use Rattle.std.specs.Int.{w64, from_le_bytes}
+use Rattle.std.specs.Prelude.{ℕ, ◌≡◌, ◌+◌, ◌*◌, ◌%◌, ◌^◌, Bool, true, false, List, [], ◌∷◌, Option, Some, None, IsTrue, ◌↔◌, ◌||◌, take, slice_index}
+use Rattle.std.specs.Int.{w32, from_le_bytes}
 use Rattle.std.specs.BTreeSet.{BTreeSet, contains, Updates}
 use Rattle.std.specs.declared.cmp.Ordering.{Ordering}
 use Rattle.cx_base.specs.Names.{Name}
@@ -16,17 +16,16 @@ use Rattle.cx_steps.specs.declared.seals.SealEntry.{SealEntry}
 use Rattle.cx_steps.specs.declared.seals.SealEntry.TheVariants as entry
 use Rattle.cx_steps.specs.declared.seals.SealMark.{SealMark}
 
--- the number in the eight bytes from a place on
-abbrev pub eight_at : List ℕ → ℕ → ℕ
-eight_at bytes place =
-    from_le_bytes w64
-    (slice_index bytes place ∷ slice_index bytes (place + 1) ∷ slice_index bytes (place + 2) ∷ slice_index bytes (place + 3)
-    ∷ slice_index bytes (place + 4) ∷ slice_index bytes (place + 5) ∷ slice_index bytes (place + 6) ∷ slice_index bytes (place + 7) ∷ [])
+-- the number in the four bytes from a place on
+abbrev pub four_at : List ℕ → ℕ → ℕ
+four_at bytes place =
+    from_le_bytes w32
+    (slice_index bytes place ∷ slice_index bytes (place + 1) ∷ slice_index bytes (place + 2) ∷ slice_index bytes (place + 3) ∷ [])
 
--- a number by which contents under keys are soon told apart: bytes of the key, the count in a nonce, where a content begins with that, and bytes of a
--- session key, where one has that
+-- a number by which contents under keys are soon told apart: bytes of the key, and below them the count in a nonce, where a content begins with that,
+-- and bytes of a session key, where one has that
 abbrev pub number_in : List ℕ → List ℕ → ℕ
-number_in key bytes = ((eight_at key 0 + eight_at bytes 4) % 2 ^ 64 + eight_at bytes 16) % 2 ^ 64
+number_in key bytes = four_at key 0 * 2 ^ 32 + (four_at bytes 4 + four_at bytes 16) % 2 ^ 32
 
 abbrev pub sealed_fact : SealMark → Fact
 sealed_fact mark = fact.Sealed (number_in mark.key mark.content) mark.content mark.key

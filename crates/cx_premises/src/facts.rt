@@ -1,7 +1,7 @@
 //! What the ledger keeps of an entry, by which later entries are judged.
 
 ghost use Rattle.std.specs.Prelude.{◌≡◌, ◌≤◌, slice_index, take, IfOk, true};
-ghost use Rattle.cx_premises.specs.Facts.{eight_at, number_in, sealed_fact, signed_fact, key_fact, draw_fact};
+ghost use Rattle.cx_premises.specs.Facts.{four_at, number_in, sealed_fact, signed_fact, key_fact, draw_fact};
 
 use cx_base::{Blob, Duplicate};
 use cx_line_words::Names;
@@ -11,8 +11,8 @@ use std::alloc::{AllocError, Global};
 /// What an entry of a log leaves behind.
 #[derive(PartialEq, Eq, PartialOrd, Ord, Drop)]
 pub enum Fact {
-    /// The number comes first, by which contents under keys are soon told apart: of one connection each part has its own. Contents come
-    /// next, since all parts of a connection have one key.
+    /// The number comes first, by which contents under keys are soon told apart: of one connection each part has its own, and all stand near
+    /// one another, so that a long log is looked up in few places. Contents come next, since all parts of a connection have one key.
     Sealed {
         number: u64,
         content: Blob,
@@ -102,30 +102,25 @@ fn front_of(secret: &[u8; 64]) -> [u8; 16]
     *key
 }
 
-// A number by which contents under keys are soon told apart.
+// A number by which contents under keys are soon told apart, and in whose order those under one key stand near one another.
 fn number_in(key: &[u8; 16], bytes: &[u8]) -> u64
     ensures { result ≡ number_in key.now bytes.now }
 {
-    eight_at(key, 0)
-        .wrapping_add(eight_at(bytes, 4))
-        .wrapping_add(eight_at(bytes, 16))
+    let within = four_at(bytes, 4).wrapping_add(four_at(bytes, 16));
+    u64::from(four_at(key, 0)) * 0x1_0000_0000 + u64::from(within)
 }
 
-// The number in the eight bytes from a place on.
+// The number in the four bytes from a place on.
 #[inline(always)]
-fn eight_at(bytes: &[u8], place: usize) -> u64
+fn four_at(bytes: &[u8], place: usize) -> u32
     requires { place ≤ 16 }
-    ensures { result ≡ eight_at bytes.now place }
+    ensures { result ≡ four_at bytes.now place }
 {
-    u64::from_le_bytes([
+    u32::from_le_bytes([
         byte_at(bytes, place),
         byte_at(bytes, place + 1),
         byte_at(bytes, place + 2),
         byte_at(bytes, place + 3),
-        byte_at(bytes, place + 4),
-        byte_at(bytes, place + 5),
-        byte_at(bytes, place + 6),
-        byte_at(bytes, place + 7),
     ])
 }
 
