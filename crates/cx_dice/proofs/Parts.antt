@@ -23,3 +23,9 @@ nonce_in place many more high draw within =
     get_or-take many (drop place draw) more 0 (omega arith) ∙ get_or-drop place draw more 0 in
     let e : place + (more + 1) ≡ (place + more) + 1 = omega arith in
     rw (first, part_part place many (more + 1) 3 draw (omega arith), e) refl
+
+-- a part of the first bytes
+pub part_first : (many place count : ℕ) (draw : List ℕ) → place + count ≤ many → part place count (part 0 many draw) ≡ part place count draw
+part_first many place count draw within =
+    let e : 0 + place ≡ place = omega arith in
+    part_part 0 many place count draw within ∙ ap (λ (n : ℕ). part n count draw) e

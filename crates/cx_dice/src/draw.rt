@@ -17,20 +17,23 @@ pub struct Draw {
     source: Source,
 }
 
-// Where the bytes of a draw come from: they are these, or those of a seed's draw of this number.
+// Where the bytes of a draw come from: they are these, or those of a seed's draw of this number, of which the first may be at hand.
 #[derive(Debug, Drop)]
 enum Source {
     Given([u8; 384]),
     Numbered(u64, u64),
+    AtHand(u64, u64, [u8; 256]),
 }
 
 impl Model for Draw {
     ghost use Rattle.cx_dice.specs.Draws.{Drawing};
-    ghost use Rattle.cx_dice.specs.Sources.{bytes_of};
+    ghost use Rattle.cx_dice.specs.Sources.{IsKept, bytes_of};
 
     ghost Value = { Drawing };
 
     ghost view = { λ d. record { bytes = bytes_of d.source } };
+
+    ghost invariant = { λ d. IsKept d.source };
 }
 
 impl Draw {
@@ -49,6 +52,21 @@ impl Draw {
     {
         Draw {
             source: Source::Numbered(seed, number),
+        }
+    }
+
+    /// The same draw, with its first 256 bytes at hand: where several parts of it are used, none of these is computed twice.
+    pub fn at_hand(&self) -> Draw
+        ensures { result ≡ self.now }
+    {
+        match &self.source {
+            Source::Given(bytes) => Draw::of(*bytes),
+            Source::Numbered(seed, number) => with_first(
+                *seed,
+                *number,
+                part_of(*seed, *number, 0),
+            ),
+            Source::AtHand(seed, number, first) => with_first(*seed, *number, *first),
         }
     }
 
@@ -127,14 +145,38 @@ impl Draw {
     {
         match &self.source {
             Source::Given(bytes) => piece(bytes, place),
-            Source::Numbered(seed, number) => {
-                let mut part = [0; N];
-                let word = 96 * u128::from(*number) + place as u128 / 4;
-                fill_bytes_via_u32(&mut generator_at(*seed, word), &mut part);
-                part
+            Source::Numbered(seed, number) => part_of(*seed, *number, place),
+            Source::AtHand(seed, number, first) => {
+                if place + N <= 256 {
+                    piece(first, place)
+                } else {
+                    part_of(*seed, *number, place)
+                }
             }
         }
     }
+}
+
+// A seed's draw of this number, with its first bytes at hand.
+fn with_first(seed: u64, number: u64, first: [u8; 256]) -> Draw
+    requires { first ≡ part 0 256 (seed_draw seed number) }
+    ensures { result ≡ record { bytes = seed_draw seed number } }
+{
+    Draw {
+        source: Source::AtHand(seed, number, first),
+    }
+}
+
+// The bytes of a seed's draw of this number from this place on, which is that of a word.
+fn part_of<const N: usize>(seed: u64, number: u64, place: usize) -> [u8; N]
+    requires word { place % 4 ≡ 0 }
+    requires within { place + N ≤ 384 }
+    ensures { result ≡ part place N (seed_draw seed number) }
+{
+    let mut part = [0; N];
+    let word = 96 * u128::from(number) + place as u128 / 4;
+    fill_bytes_via_u32(&mut generator_at(seed, word), &mut part);
+    part
 }
 
 // The generator of a seed before this word.

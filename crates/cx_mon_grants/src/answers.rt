@@ -88,12 +88,12 @@ fn answers_by(
 }
 
 // Tickets for the asked services for which the entity has capabilities, where the keyring has it.
-fn on_tickets(
+fn on_tickets<'a>(
     alloc: Global,
     server: &mut KeyServer,
-    bearer: &Bearer,
+    bearer: &'a Bearer,
     keys: u32,
-    at: &Occasion<'_>,
+    at: &Occasion<'a>,
     drawn: Items<SealEntry>,
 ) -> Result<Response, AllocError>
     requires now { at.now.reading < 4000000000000000000 }
@@ -105,12 +105,13 @@ fn on_tickets(
     let Some(own) = server.key_of(&bearer.name) else {
         return Ok(refuses(LoginFault::UnknownEntity, drawn));
     };
+    let draw = at.draw.at_hand();
     let entrant = Entrant {
         name: &bearer.name,
         gid: bearer.gid,
         session: bearer.session,
         asked: keys,
-        at: *at,
+        at: Occasion { draw: &draw, ..*at },
     };
     let services = others_for(alloc, keys)?;
     let tickets = issued_for(alloc, server, &entrant, services.all())?;

@@ -69,11 +69,11 @@ fn rotates(
     numbers(alloc, server, proved, at, reclaim, seals)
 }
 
-fn numbers(
+fn numbers<'a>(
     alloc: Global,
     server: &mut KeyServer,
-    proved: &Proved,
-    at: &Occasion<'_>,
+    proved: &'a Proved,
+    at: &Occasion<'a>,
     reclaim: Reclaim,
     seals: Items<SealEntry>,
 ) -> Result<Verdict, AllocError>
@@ -85,12 +85,13 @@ fn numbers(
     match numbered(server, reclaim) {
         Err(why) => Ok(Verdict::Denied { why, seals }),
         Ok(gid) => {
+            let draw = at.draw.at_hand();
             let entrant = Entrant {
                 name: proved.name(),
                 gid,
-                session: at.draw.session_key(EntityType::Auth),
+                session: draw.session_key(EntityType::Auth),
                 asked: proved.asked(),
-                at: *at,
+                at: Occasion { draw: &draw, ..*at },
             };
             issues_to(alloc, server, &entrant, seals)
         }
