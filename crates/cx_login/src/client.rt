@@ -15,6 +15,7 @@ use crate::proving::due_proof;
 use crate::refusals::LoginRefusal;
 use cx_base::{Blob, Duplicate, Items};
 use cx_enc::{Key, TicketBlob};
+use cx_sealed::SealKey;
 use cx_steps::{KeyKind, SealEntry};
 use cx_wire::{
     Authenticate, LoginDone, TicketPart, WireRefusal, put_authenticate, read_login_done,
@@ -243,13 +244,14 @@ fn login_of_parts(
     requires parts { All IsShort parts.now }
     ensures { Unlocks (login_of_parts own.now (auth.now ∷ parts.now) connection.now) seals.old seals.new result }
 {
-    let Some(auth) = told(alloc, KeyKind::Principal, own, auth, seals)? else {
+    let Some(auth) = told(alloc, KeyKind::Principal, &SealKey::new(own), auth, seals)? else {
         return Ok(None);
     };
-    let Some(tickets) = told_each(alloc, &auth.session, parts, seals)? else {
+    let session = SealKey::new(&auth.session);
+    let Some(tickets) = told_each(alloc, &session, parts, seals)? else {
         return Ok(None);
     };
-    let Some(opened) = unlocked_secret(alloc, &auth.session, connection, seals)? else {
+    let Some(opened) = unlocked_secret(alloc, &session, connection, seals)? else {
         return Ok(None);
     };
     let secret = opened.secret;

@@ -7,7 +7,7 @@ ghost use Rattle.cx_login.specs.Unlocking.{told, told_each, Unlocks, AreHeld};
 use crate::opening::unlocked_info;
 use crate::refusals::LoginRefusal;
 use cx_base::{Blob, Duplicate, EntityType, Items, Reading};
-use cx_sealed::TicketInfo;
+use cx_sealed::{SealKey, TicketInfo};
 use cx_steps::{KeyKind, SealEntry};
 use cx_wire::TicketPart;
 use std::alloc::{AllocError, Global};
@@ -79,7 +79,7 @@ pub fn held_tickets(
     requires { All IsShort parts.now }
     ensures { AreHeld key.now parts.now seals.old seals.new result }
 {
-    match told_each(alloc, key, parts, seals)? {
+    match told_each(alloc, &SealKey::new(key), parts, seals)? {
         Some(held) => Ok(held),
         None => Err(LoginRefusal::Unopened),
     }
@@ -89,7 +89,7 @@ pub fn held_tickets(
 pub(crate) fn told(
     alloc: Global,
     kind: KeyKind,
-    key: &[u8; 16],
+    key: &SealKey,
     part: &TicketPart,
     seals: &mut Items<SealEntry>,
 ) -> Result<Option<HeldTicket>, AllocError>
@@ -106,7 +106,7 @@ pub(crate) fn told(
 // The tickets of a list, or none where the TicketInfo of one of them doesn't open.
 pub(crate) fn told_each(
     alloc: Global,
-    key: &[u8; 16],
+    key: &SealKey,
     parts: &[TicketPart],
     seals: &mut Items<SealEntry>,
 ) -> Result<Option<Items<HeldTicket>>, AllocError>

@@ -7,8 +7,8 @@ ghost use Rattle.cx_login.specs.Unlocking.{unlocked_as, unlocked, old_under, Unl
 
 use cx_base::Items;
 use cx_sealed::{
-    ConnectionSecret, ServiceTicket, TicketInfo, Unsealed, unseal_connection_secret,
-    unseal_service_ticket, unseal_ticket_info,
+    ConnectionSecret, SealKey, ServiceTicket, TicketInfo, Unsealed, unseal_connection_secret_by,
+    unseal_service_ticket, unseal_ticket_info_by,
 };
 use cx_steps::{KeyKind, SealEntry, SealMark};
 use std::alloc::{AllocError, Global};
@@ -58,25 +58,25 @@ pub(crate) fn unlocked_ticket(
 pub(crate) fn unlocked_info(
     alloc: Global,
     kind: KeyKind,
-    key: &[u8; 16],
+    key: &SealKey,
     sealed: &[u8],
     seals: &mut Items<SealEntry>,
 ) -> Result<Option<TicketInfo>, AllocError>
     ensures { Unlocks (unlocked ticket_info_layout.form kind key.now sealed.now) seals.old seals.new result }
 {
-    let found = unseal_ticket_info(alloc, key, sealed)?;
-    logged(alloc, kind, key, found, seals)
+    let found = unseal_ticket_info_by(alloc, key, sealed)?;
+    logged(alloc, kind, key.bytes(), found, seals)
 }
 
 // The `ConnectionSecret` that these bytes open to under a session key.
 pub(crate) fn unlocked_secret(
     alloc: Global,
-    key: &[u8; 16],
+    key: &SealKey,
     sealed: &[u8],
     seals: &mut Items<SealEntry>,
 ) -> Result<Option<ConnectionSecret>, AllocError>
     ensures { Unlocks (unlocked connection_secret_layout.form Session key.now sealed.now) seals.old seals.new result }
 {
-    let found = unseal_connection_secret(alloc, key, sealed)?;
-    logged(alloc, KeyKind::Session, key, found, seals)
+    let found = unseal_connection_secret_by(alloc, key, sealed)?;
+    logged(alloc, KeyKind::Session, key.bytes(), found, seals)
 }

@@ -1,6 +1,7 @@
 //! Opening and sealing.
 
-ghost use Rattle.std.specs.Prelude.{IfOk};
+ghost use Rattle.std.specs.Prelude.{◌≡◌, IfOk};
+ghost use Rattle.cx_cbc.specs.cx_aes.specs.KeyOf.{key_of};
 ghost use Rattle.cx_sealed.specs.Records.{service_ticket_layout, ticket_info_layout, authorize_layout, authorize_challenge_layout, authorize_reply_layout, rotating_reply_layout, connection_secret_layout};
 ghost use Rattle.cx_sealed.specs.Sealing.{IsOpened, IsSealed};
 
@@ -11,6 +12,8 @@ use crate::connection_secret::ConnectionSecret;
 use crate::records::Record;
 use crate::refusals::SealedRefusal;
 use crate::rotating_reply::RotatingReply;
+use crate::seal_key::SealKey;
+use crate::sealed_record::SealedRecord;
 use crate::service_ticket::ServiceTicket;
 use crate::ticket_info::TicketInfo;
 use crate::unsealing::unseal;
@@ -42,9 +45,23 @@ fn seal_record<T: Record>(alloc: Global, key: &[u8; 16], value: &T) -> Result<Bl
     requires { T.Bound value.now }
     ensures { IfOk result (IsSealed T.layout.form key.now value.now) }
 {
+    let made = sealed_record(alloc, &Schedule::new(key), value)?;
+    Ok(made.envelope)
+}
+
+// Seals a record under a key of this schedule, and keeps its content.
+fn sealed_record<T: Record>(
+    alloc: Global,
+    key: &Schedule,
+    value: &T,
+) -> Result<SealedRecord, AllocError>
+    requires { T.Bound value.now }
+    ensures sealed { IfOk result (λ made. IsSealed T.layout.form (key_of key.now) value.now made.envelope) }
+    ensures content { IfOk result (λ made. made.content ≡ T.layout.form.text value.now) }
+{
     let content = write_whole(alloc, value)?;
-    match seal(alloc, &Schedule::new(key), content.bytes()) {
-        Ok(sealed) => Ok(sealed),
+    match seal(alloc, key, content.bytes()) {
+        Ok(envelope) => Ok(SealedRecord { content, envelope }),
         Err(SealRefusal::OutOfMemory) => Err(AllocError),
         Err(SealRefusal::TooLong) => unreachable!(),
     }
@@ -73,6 +90,19 @@ pub fn seal_service_ticket(
     seal_record(alloc, key, value)
 }
 
+/// Seals a `ServiceTicket`, and keeps its content.
+pub fn sealed_service_ticket(
+    alloc: Global,
+    key: &SealKey,
+    value: &ServiceTicket,
+) -> Result<SealedRecord, AllocError>
+    requires { ⟦<ServiceTicket as Encoded>⟧.Bound value.now }
+    ensures sealed { IfOk result (λ made. IsSealed service_ticket_layout.form key.now value.now made.envelope) }
+    ensures content { IfOk result (λ made. made.content ≡ service_ticket_layout.form.text value.now) }
+{
+    sealed_record(alloc, key.schedule(), value)
+}
+
 /// Opens a `TicketInfo`.
 pub fn open_ticket_info(
     alloc: Global,
@@ -94,6 +124,19 @@ pub fn seal_ticket_info(
     ensures { IfOk result (IsSealed ticket_info_layout.form key.now value.now) }
 {
     seal_record(alloc, key, value)
+}
+
+/// Seals a `TicketInfo`, and keeps its content.
+pub fn sealed_ticket_info(
+    alloc: Global,
+    key: &SealKey,
+    value: &TicketInfo,
+) -> Result<SealedRecord, AllocError>
+    requires { ⟦<TicketInfo as Encoded>⟧.Bound value.now }
+    ensures sealed { IfOk result (λ made. IsSealed ticket_info_layout.form key.now value.now made.envelope) }
+    ensures content { IfOk result (λ made. made.content ≡ ticket_info_layout.form.text value.now) }
+{
+    sealed_record(alloc, key.schedule(), value)
 }
 
 /// Opens an `Authorize`.
@@ -205,4 +248,17 @@ pub fn seal_connection_secret(
     ensures { IfOk result (IsSealed connection_secret_layout.form key.now value.now) }
 {
     seal_record(alloc, key, value)
+}
+
+/// Seals a `ConnectionSecret`, and keeps its content.
+pub fn sealed_connection_secret(
+    alloc: Global,
+    key: &SealKey,
+    value: &ConnectionSecret,
+) -> Result<SealedRecord, AllocError>
+    requires { ⟦<ConnectionSecret as Encoded>⟧.Bound value.now }
+    ensures sealed { IfOk result (λ made. IsSealed connection_secret_layout.form key.now value.now made.envelope) }
+    ensures content { IfOk result (λ made. made.content ≡ connection_secret_layout.form.text value.now) }
+{
+    sealed_record(alloc, key.schedule(), value)
 }

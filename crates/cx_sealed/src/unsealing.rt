@@ -1,6 +1,7 @@
 //! What sealed bytes open to, whether or not it is the record that is due.
 
 ghost use Rattle.std.specs.Prelude.{◌≡◌, IfOk};
+ghost use Rattle.cx_cbc.specs.cx_aes.specs.KeyOf.{key_of};
 ghost use Rattle.cx_sealed.specs.Records.{service_ticket_layout, ticket_info_layout, authorize_layout, authorize_challenge_layout, authorize_reply_layout, rotating_reply_layout, connection_secret_layout};
 ghost use Rattle.cx_sealed.specs.Unsealing.{spelled_by, unsealed};
 
@@ -10,6 +11,7 @@ use crate::authorize_reply::AuthorizeReply;
 use crate::connection_secret::ConnectionSecret;
 use crate::records::Record;
 use crate::rotating_reply::RotatingReply;
+use crate::seal_key::SealKey;
 use crate::service_ticket::ServiceTicket;
 use crate::ticket_info::TicketInfo;
 use crate::unsealed::Unsealed;
@@ -25,7 +27,18 @@ pub(crate) fn unseal<T: Record>(
 ) -> Result<Option<Unsealed<T>>, AllocError>
     ensures { IfOk result (λ found. found ≡ unsealed T.layout.form key.now sealed.now) }
 {
-    match open(alloc, &Schedule::new(key), sealed) {
+    unseal_by(alloc, &Schedule::new(key), sealed)
+}
+
+// The same under a key of this schedule.
+fn unseal_by<T: Record>(
+    alloc: Global,
+    key: &Schedule,
+    sealed: &[u8],
+) -> Result<Option<Unsealed<T>>, AllocError>
+    ensures { IfOk result (λ found. found ≡ unsealed T.layout.form (key_of key.now) sealed.now) }
+{
+    match open(alloc, key, sealed) {
         Ok(content) => {
             let value = spelled(alloc, content.bytes())?;
             Ok(Some(Unsealed { content, value }))
@@ -67,6 +80,17 @@ pub fn unseal_ticket_info(
     ensures { IfOk result (λ found. found ≡ unsealed ticket_info_layout.form key.now sealed.now) }
 {
     unseal(alloc, key, sealed)
+}
+
+/// The same under a key that opens more than one.
+pub fn unseal_ticket_info_by(
+    alloc: Global,
+    key: &SealKey,
+    sealed: &[u8],
+) -> Result<Option<Unsealed<TicketInfo>>, AllocError>
+    ensures { IfOk result (λ found. found ≡ unsealed ticket_info_layout.form key.now sealed.now) }
+{
+    unseal_by(alloc, key.schedule(), sealed)
 }
 
 /// What bytes open to that are to be an `Authorize`.
@@ -122,4 +146,15 @@ pub fn unseal_connection_secret(
     ensures { IfOk result (λ found. found ≡ unsealed connection_secret_layout.form key.now sealed.now) }
 {
     unseal(alloc, key, sealed)
+}
+
+/// The same under a key that opens more than one.
+pub fn unseal_connection_secret_by(
+    alloc: Global,
+    key: &SealKey,
+    sealed: &[u8],
+) -> Result<Option<Unsealed<ConnectionSecret>>, AllocError>
+    ensures { IfOk result (λ found. found ≡ unsealed connection_secret_layout.form key.now sealed.now) }
+{
+    unseal_by(alloc, key.schedule(), sealed)
 }
