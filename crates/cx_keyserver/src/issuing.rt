@@ -7,28 +7,34 @@ ghost use Rattle.cx_base.specs.Names.{same_kind};
 ghost use Rattle.cx_base.specs.Texts.{is_caps};
 ghost use Rattle.cx_keyring.specs.Entries.{are_grants};
 ghost use Rattle.cx_dice.specs.Draws.{has_keys};
+ghost use Rattle.cx_keyring.specs.cx_enc.specs.Moments.{IsReading};
+ghost use Rattle.cx_sealed.specs.Records.{service_ticket_layout, ticket_info_layout};
+ghost use Rattle.cx_sealed.specs.Sealing.{IsSealed};
 ghost use Rattle.cx_rotate.specs.Keeping.{IsKeptState};
 ghost use Rattle.cx_keyserver.specs.Issuing.{IsIssued, IsOpenable, OpensUnder, asked_for, caps_for, current_at, fields_of, issued, sealed_by, telling_key, wants_memory};
 ghost use Rattle.cx_keyserver.specs.Servers.{life_of};
 
+use crate::issuance::Issuance;
 use crate::refusals::IssueRefusal;
 use crate::services::{generations_of, life_of};
 use crate::tickets::Ticket;
-use cx_base::{Blob, Duplicate, EntityName, EntityType, Grant, Reading, Text};
+use cx_base::{Duplicate, EntityName, EntityType, Grant, Reading, Text};
 use cx_dice::Draw;
 use cx_keyring::{Entry, Keyring};
 use cx_rotate::{Generation, Generations, KeptState};
-use cx_sealed::{ServiceTicket, TicketInfo, seal_service_ticket, seal_ticket_info};
+use cx_sealed::{
+    SealKey, SealedRecord, ServiceTicket, TicketInfo, sealed_service_ticket, sealed_ticket_info,
+};
 use std::alloc::{AllocError, Global};
 
 // What is asked for: a ticket of an entity for a service, with the entity's global id and the session key of its AUTH ticket,
 // at a reading and with a draw.
-#[derive(Clone, Copy, Debug)]
+#[derive(Clone, Copy)]
 pub(crate) struct TicketRequest<'a> {
     pub(crate) name: &'a EntityName,
     pub(crate) service: EntityType,
     pub(crate) gid: u64,
-    pub(crate) auth_session: &'a [u8; 16],
+    pub(crate) auth_session: &'a SealKey,
     pub(crate) reading: Reading,
     pub(crate) draw: &'a Draw,
 }
@@ -39,7 +45,7 @@ pub(crate) fn issued(
     ring: &Keyring,
     state: &KeptState,
     asked: &TicketRequest<'_>,
-) -> Result<Ticket, IssueRefusal>
+) -> Result<Issuance, IssueRefusal>
     requires now { asked.now.reading < 4000000000000000000 }
     requires kept { IsKeptState state.now }
     ensures issued { IsIssued (issued (record { ring = ring.now; state = state.now }) (asked_for asked.now)) result }
@@ -63,7 +69,7 @@ pub(crate) fn issued(
 }
 
 /// Whether memory was wanting.
-pub(crate) fn wants_memory(answer: &Result<Ticket, IssueRefusal>) -> bool
+pub(crate) fn wants_memory(answer: &Result<Issuance, IssueRefusal>) -> bool
     ensures { result ≡ wants_memory answer.now }
 {
     match answer {
@@ -127,14 +133,22 @@ fn grant_for(service: EntityType, grants: &[Grant]) -> Option<&Grant>
     grants.iter().find(|grant| service.is(grant.service))
 }
 
-// The key under which the entity is told of its ticket.
-fn telling_key(entry: &Entry, asked: &TicketRequest<'_>) -> [u8; 16]
-    ensures { result ≡ telling_key entry.now (asked_for asked.now) }
+// Seals what the entity is told of its ticket, under the key that tells it.
+fn telling(
+    alloc: Global,
+    entry: &Entry,
+    asked: &TicketRequest<'_>,
+    told: &TicketInfo,
+) -> Result<SealedRecord, AllocError>
+    requires created { IsReading told.now.created }
+    requires expires { IsReading told.now.expires }
+    ensures sealed { IfOk result (λ made. IsSealed ticket_info_layout.form (telling_key entry.now (asked_for asked.now)) told.now made.envelope) }
+    ensures content { IfOk result (λ made. made.content ≡ ticket_info_layout.form.text told.now) }
 {
     if asked.service.is(EntityType::Auth) {
-        entry.key.secret
+        sealed_ticket_info(alloc, &SealKey::new(&entry.key.secret), told)
     } else {
-        *asked.auth_session
+        sealed_ticket_info(alloc, asked.auth_session, told)
     }
 }
 
@@ -146,7 +160,7 @@ fn ticket(
     entry: &Entry,
     caps: Text,
     generation: &Generation,
-) -> Result<Ticket, AllocError>
+) -> Result<Issuance, AllocError>
     requires service { IsTrue (has_keys asked.now.service) }
     requires caps { IsTrue (is_caps caps) }
     requires now { asked.now.reading < 4000000000000000000 }
@@ -163,7 +177,7 @@ fn ticket(
         created,
         expires,
     };
-    let info = seal_ticket_info(alloc, &telling_key(entry, asked), &told)?;
+    let info = telling(alloc, entry, asked, &told)?;
     let entity = asked.name.copy(alloc)?;
     let shown = ServiceTicket {
         session,
@@ -173,12 +187,21 @@ fn ticket(
         expires,
         caps,
     };
-    let blob = seal_service_ticket(alloc, &generation.key, &shown)?;
+    let blob = sealed_service_ticket(alloc, &SealKey::new(&generation.key), &shown)?;
     Ok(made(shown, told, generation.id, info, blob))
 }
 
-// A ticket of its parts.
-fn made(shown: ServiceTicket, told: TicketInfo, generation: u64, info: Blob, blob: Blob) -> Ticket
+// A ticket of its parts, and of what was sealed as these.
+fn made(
+    shown: ServiceTicket,
+    told: TicketInfo,
+    generation: u64,
+    info: SealedRecord,
+    blob: SealedRecord,
+) -> Issuance
+    requires info { info.content ≡ ticket_info_layout.form.text told }
+    requires blob { blob.content ≡ service_ticket_layout.form.text shown }
+    requires same { (told.session ≡ shown.session) × (told.created ≡ shown.created) × (told.expires ≡ shown.expires) }
     ensures { result ≡ record {
       entity = shown.name;
       service = told.service;
@@ -188,28 +211,22 @@ fn made(shown: ServiceTicket, told: TicketInfo, generation: u64, info: Blob, blo
       expires = shown.expires;
       generation = generation;
       session = shown.session;
-      info = info;
-      blob = blob;
+      info = info.envelope;
+      blob = blob.envelope;
     } }
 {
-    let ServiceTicket {
-        session,
-        name,
-        gid,
-        created,
-        expires,
-        caps,
-    } = shown;
-    Ticket {
-        entity: name,
+    let session = shown.session;
+    let ticket = Ticket {
+        entity: shown.name,
         service: told.service,
-        gid,
-        caps,
-        created,
-        expires,
+        gid: shown.gid,
+        caps: shown.caps,
+        created: shown.created,
+        expires: shown.expires,
         generation,
         session,
-        info,
-        blob,
-    }
+        info: info.envelope,
+        blob: blob.envelope,
+    };
+    Issuance::of(ticket, info.content, blob.content)
 }

@@ -5,15 +5,16 @@ ghost use Rattle.std.specs.Option.{option_map};
 ghost use Rattle.cx_keyring.specs.Entries.{is_named};
 ghost use Rattle.cx_rotate.specs.Keeping.{IsKeptState};
 
+use crate::issuance::Issuance;
 use crate::issuing::{TicketRequest, issued, wants_memory};
 use crate::refusals::{GidsSpent, IssueRefusal, NotADaemon};
 use crate::rotation::rotate;
 use crate::services::generations_of;
-use crate::tickets::Ticket;
 use cx_base::{EntityName, EntityType, Reading};
 use cx_dice::Draw;
 use cx_keyring::{Key, Keyring};
 use cx_rotate::{Generations, KeptState};
+use cx_sealed::SealKey;
 use std::alloc::Global;
 use std::marker::Model;
 
@@ -104,10 +105,10 @@ impl KeyServer {
         name: &EntityName,
         service: EntityType,
         gid: u64,
-        auth_session: &[u8; 16],
+        auth_session: &SealKey,
         now: Reading,
         draw: &Draw,
-    ) -> Result<Ticket, IssueRefusal>
+    ) -> Result<Issuance, IssueRefusal>
         requires { now < 4000000000000000000 }
         ensures issued { IsIssued (issued (rotated_server now draw.now.bytes self.old) (asking name.now service gid auth_session.now now draw.now.bytes)) result }
         ensures opens { IfOk result (IsOpenable (rotated_server now draw.now.bytes self.old) (asking name.now service gid auth_session.now now draw.now.bytes)) }

@@ -17,6 +17,7 @@ use cx_base::Items;
 use cx_journal::{LoginFault, Reason};
 use cx_keyserver::KeyServer;
 use cx_rules::{Bearer, Response};
+use cx_sealed::SealKey;
 use cx_steps::SealEntry;
 use cx_wire::Request;
 use std::alloc::{AllocError, Global};
@@ -109,7 +110,7 @@ fn on_tickets<'a>(
     let entrant = Entrant {
         name: &bearer.name,
         gid: bearer.gid,
-        session: bearer.session,
+        session: SealKey::new(&bearer.session),
         asked: keys,
         at: Occasion { draw: &draw, ..*at },
     };
@@ -118,7 +119,7 @@ fn on_tickets<'a>(
     match tickets {
         Err(why) => Ok(refuses(why, drawn)),
         Ok(tickets) => {
-            let made = tells_tickets(alloc, server, &entrant, &own.secret, tickets.all(), drawn)?;
+            let made = tells_tickets(alloc, server, &entrant, &own.secret, tickets, drawn)?;
             Ok(Response::Replies(made))
         }
     }

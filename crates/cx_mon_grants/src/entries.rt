@@ -6,7 +6,7 @@ ghost use Rattle.cx_rules.specs.Tickets.{issued_entry};
 
 use cx_base::{Duplicate, Items};
 use cx_journal::{Entry, Issued};
-use cx_keyserver::Ticket;
+use cx_keyserver::{Issuance, Ticket};
 use cx_rotate::BoxedState;
 use std::alloc::{AllocError, Global};
 
@@ -14,7 +14,7 @@ use std::alloc::{AllocError, Global};
 pub(crate) fn login_entries(
     alloc: Global,
     save: &Option<BoxedState>,
-    tickets: &[Ticket],
+    tickets: &[Issuance],
 ) -> Result<Items<Entry>, AllocError>
     ensures { IfOk result (λ entries. entries ≡ login_entries save.now tickets.now) }
 {
@@ -29,13 +29,13 @@ pub(crate) fn login_entries(
 
 fn push_issued(
     alloc: Global,
-    tickets: &[Ticket],
+    tickets: &[Issuance],
     entries: &mut Items<Entry>,
 ) -> Result<(), AllocError>
     ensures { OnOk result (entries.new ≡ entries.old ++ map issued_entry tickets.now) }
 {
     for ticket in tickets {
-        entries.push(alloc, issued_entry(alloc, ticket)?)?;
+        entries.push(alloc, issued_entry(alloc, ticket.ticket())?)?;
     }
     Ok(())
 }

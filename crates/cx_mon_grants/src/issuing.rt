@@ -12,7 +12,7 @@ use crate::occasions::Entrant;
 use cx_base::{EntityType, Items};
 use cx_enc::number_of;
 use cx_journal::LoginFault;
-use cx_keyserver::{IssueRefusal, KeyServer, Ticket};
+use cx_keyserver::{Issuance, IssueRefusal, KeyServer};
 use std::alloc::{AllocError, Global};
 
 /// AUTH, and of MDS, OSD and MGR those that are asked by the sum of their numbers.
@@ -74,7 +74,7 @@ pub(crate) fn issued_for(
     server: &mut KeyServer,
     entrant: &Entrant<'_>,
     services: &[EntityType],
-) -> Result<Result<Items<Ticket>, LoginFault>, AllocError>
+) -> Result<Result<Items<Issuance>, LoginFault>, AllocError>
     requires now { entrant.now.at.reading < 4000000000000000000 }
     requires rotated { IsRotated entrant.now.at.reading entrant.now.at.draw.now.bytes server.old }
     ensures issued { IfOk result (λ tickets. tickets ≡ issued_for server.old (asking_by entrant.now) services.now) }
@@ -96,8 +96,8 @@ pub(crate) fn issued_for(
 // Appends the ticket, where there is one.
 fn append(
     alloc: Global,
-    ticket: Option<Ticket>,
-    tickets: &mut Items<Ticket>,
+    ticket: Option<Issuance>,
+    tickets: &mut Items<Issuance>,
 ) -> Result<(), AllocError>
     ensures { OnOk result (tickets.new ≡ tickets.old ++ option_to_list ticket) }
 {
@@ -113,7 +113,7 @@ fn issue_one(
     server: &mut KeyServer,
     entrant: &Entrant<'_>,
     service: EntityType,
-) -> Result<Result<Option<Ticket>, LoginFault>, AllocError>
+) -> Result<Result<Option<Issuance>, LoginFault>, AllocError>
     requires now { entrant.now.at.reading < 4000000000000000000 }
     requires rotated { IsRotated entrant.now.at.reading entrant.now.at.draw.now.bytes server.old }
     ensures one { IfOk result (λ one. one ≡ one_of (issued server.old (asking_by entrant.now service))) }
@@ -135,8 +135,8 @@ fn issue_one(
 
 // The ticket of an answer; none where there is none for its service alone.
 fn one_of(
-    answer: Result<Ticket, IssueRefusal>,
-) -> Result<Result<Option<Ticket>, LoginFault>, AllocError>
+    answer: Result<Issuance, IssueRefusal>,
+) -> Result<Result<Option<Issuance>, LoginFault>, AllocError>
     ensures one { IfOk result (λ one. one ≡ one_of answer) }
     ensures memory { OnOk result (wants_memory answer ≡ false) }
 {

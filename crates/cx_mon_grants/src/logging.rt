@@ -1,39 +1,58 @@
 //! What is logged of the tickets and of the secret of the connection.
 
-ghost use Rattle.std.specs.Prelude.{◌≡◌, ◌++◌, All, IfOk, OnOk};
+ghost use Rattle.std.specs.Prelude.{◌≡◌, ◌++◌, ◌≤◌, length, map, IfOk, OnOk};
 ghost use Rattle.std.specs.List.{flat_map};
+ghost use Rattle.cx_cbc.specs.Envelope.{sealed};
 ghost use Rattle.cx_keyserver.specs.Issuing.{current_at, service_ticket_of, ticket_info_of};
-ghost use Rattle.cx_rules.specs.Tickets.{blob_kind, blob_sealed, info_key, info_kind, ticket_seals};
+ghost use Rattle.cx_rules.specs.Tickets.{blob_kind, blob_sealed, info_key, info_kind, ticket_part, ticket_seals};
 ghost use Rattle.cx_sealed.specs.Records.{service_ticket_layout, ticket_info_layout};
-ghost use Rattle.cx_mon_grants.specs.Handing.{IsWhole};
-ghost use Rattle.cx_mon_grants.specs.Logging.{drawn_seal, info_sealed};
+ghost use Rattle.cx_mon_grants.specs.Logging.{drawn_seal};
 ghost use Rattle.cx_rules.specs.Verdicts.{secret_content, secret_seals};
 
 use cx_base::{Blob, Duplicate, EntityName, EntityType, Items, Reading};
-use cx_enc::write_whole;
+use cx_enc::TicketBlob;
 use cx_journal::KeyKind;
-use cx_keyserver::{KeyServer, Ticket, generations_of};
+use cx_keyserver::{Contents, Issuance, KeyServer, Ticket, generations_of};
 use cx_rotate::{Generation, Generations};
-use cx_sealed::{ConnectionSecret, ServiceTicket, TicketInfo};
+use cx_sealed::{ConnectionSecret, SealKey, sealed_connection_secret};
 use cx_steps::{DrawMark, SealEntry, SealMark};
+use cx_wire::TicketPart;
 use std::alloc::{AllocError, Global};
 
-/// Logs the tickets, of which the one for AUTH is told by the entity's own secret and the others by the session key of that ticket.
-pub(crate) fn log_tickets(
+/// Logs the tickets, of which the one for AUTH is told by the entity's own secret and the others by the session key of that ticket, and gives
+/// them as they stand in a LoginDone or a reply.
+pub(crate) fn logged_parts(
     alloc: Global,
     server: &KeyServer,
     own: &[u8; 16],
     session: &[u8; 16],
-    tickets: &[Ticket],
+    tickets: Items<Issuance>,
     seals: &mut Items<SealEntry>,
-) -> Result<(), AllocError>
-    requires { All IsWhole tickets.now }
-    ensures { OnOk result (seals.new ≡ seals.old ++ flat_map (ticket_seals server.now own.now session.now) tickets.now) }
+) -> Result<Items<TicketPart>, AllocError>
+    ensures parts { IfOk result (λ parts. parts ≡ map ticket_part tickets) }
+    ensures seals { OnOk result (seals.new ≡ seals.old ++ flat_map (ticket_seals server.now own.now session.now) tickets) }
 {
-    for ticket in tickets {
-        log_ticket(alloc, server, own, session, ticket, seals)?;
+    let mut parts = Items::new(alloc);
+    for issuance in tickets.into_vec() {
+        let (ticket, contents) = issuance.into_parts();
+        log_ticket(alloc, server, own, session, &ticket, contents, seals)?;
+        parts.push(alloc, ticket_part(ticket))?;
     }
-    Ok(())
+    Ok(parts)
+}
+
+// A ticket as it stands in a LoginDone or a reply.
+fn ticket_part(ticket: Ticket) -> TicketPart
+    ensures { result ≡ ticket_part ticket }
+{
+    TicketPart {
+        service: ticket.service,
+        info: ticket.info,
+        ticket: TicketBlob {
+            generation: ticket.generation,
+            blob: ticket.blob,
+        },
+    }
 }
 
 // Logs a ticket: its session key is drawn, its blob is sealed by its generation, its TicketInfo by the key that tells the entity.
@@ -43,17 +62,25 @@ fn log_ticket(
     own: &[u8; 16],
     session: &[u8; 16],
     ticket: &Ticket,
+    contents: Contents,
     seals: &mut Items<SealEntry>,
 ) -> Result<(), AllocError>
-    requires { IsWhole ticket.now }
+    requires info { contents.info ≡ ticket_info_layout.form.text (ticket_info_of ticket.now) }
+    requires blob { contents.blob ≡ service_ticket_layout.form.text (service_ticket_of ticket.now) }
     ensures { OnOk result (seals.new ≡ seals.old ++ ticket_seals server.now own.now session.now ticket.now) }
 {
+    let Contents { info, blob } = contents;
     let generations = generations_of(&server.state(), ticket.service);
     let generation = current_at(ticket.created, &generations);
     let key = info_key(own, session, ticket.service);
     seals.push(alloc, drawn_seal(alloc, ticket)?)?;
-    log_blob(alloc, generation, ticket, seals)?;
-    seals.push(alloc, info_sealed(alloc, &key, ticket)?)
+    log_blob(alloc, generation, ticket, blob, seals)?;
+    let mark = SealMark {
+        key,
+        kind: info_kind(ticket.service),
+        content: info,
+    };
+    seals.push(alloc, SealEntry::Sealed(mark))
 }
 
 // That its session key was drawn.
@@ -67,21 +94,21 @@ fn drawn_seal(alloc: Global, ticket: &Ticket) -> Result<SealEntry, AllocError>
     }))
 }
 
-// Logs its blob, under its generation.
+// Logs its blob, of this content, under its generation.
 fn log_blob(
     alloc: Global,
     generation: Option<Generation>,
     ticket: &Ticket,
+    content: Blob,
     seals: &mut Items<SealEntry>,
 ) -> Result<(), AllocError>
-    requires { IsWhole ticket.now }
+    requires { content ≡ service_ticket_layout.form.text (service_ticket_of ticket.now) }
     ensures { OnOk result (seals.new ≡ seals.old ++ blob_sealed generation ticket.now) }
 {
     let Some(generation) = generation else {
         return Ok(());
     };
     let key = generation.key;
-    let content = ticket_content(alloc, ticket)?;
     let mark = SealMark {
         key,
         kind: blob_kind(ticket.service),
@@ -90,80 +117,32 @@ fn log_blob(
     seals.push(alloc, SealEntry::Sealed(mark))
 }
 
-// Its TicketInfo, sealed under this key.
-fn info_sealed(alloc: Global, key: &[u8; 16], ticket: &Ticket) -> Result<SealEntry, AllocError>
-    requires { IsWhole ticket.now }
-    ensures { IfOk result (λ entry. entry ≡ info_sealed key.now ticket.now) }
-{
-    let content = info_content(alloc, ticket)?;
-    Ok(SealEntry::Sealed(SealMark {
-        key: *key,
-        kind: info_kind(ticket.service),
-        content,
-    }))
-}
-
-// What the service finds in the ticket.
-fn ticket_content(alloc: Global, ticket: &Ticket) -> Result<Blob, AllocError>
-    requires { IsWhole ticket.now }
-    ensures { IfOk result (λ content. content ≡ service_ticket_layout.form.text (service_ticket_of ticket.now)) }
-{
-    let name = ticket.entity.copy(alloc)?;
-    let caps = ticket.caps.copy(alloc)?;
-    let shown = ServiceTicket {
-        session: ticket.session,
-        name,
-        gid: ticket.gid,
-        created: ticket.created,
-        expires: ticket.expires,
-        caps,
-    };
-    write_whole(alloc, &shown)
-}
-
-// What the entity is told of the ticket.
-fn info_content(alloc: Global, ticket: &Ticket) -> Result<Blob, AllocError>
-    requires { IsWhole ticket.now }
-    ensures { IfOk result (λ content. content ≡ ticket_info_layout.form.text (ticket_info_of ticket.now)) }
-{
-    let told = TicketInfo {
-        service: ticket.service,
-        session: ticket.session,
-        created: ticket.created,
-        expires: ticket.expires,
-    };
-    write_whole(alloc, &told)
-}
-
-/// Logs the secret of a connection: it is drawn for the entity, and sealed by the session key of its ticket for AUTH.
-pub(crate) fn log_secret(
+/// Seals the secret of a connection by the session key of the entity's ticket for AUTH, and logs that it was drawn for the entity and sealed.
+pub(crate) fn logged_secret(
     alloc: Global,
     name: &EntityName,
-    session: &[u8; 16],
+    session: &SealKey,
     secret: &[u8; 64],
     seals: &mut Items<SealEntry>,
-) -> Result<(), AllocError>
-    ensures { OnOk result (seals.new ≡ seals.old ++ secret_seals name.now session.now secret.now) }
+) -> Result<Blob, AllocError>
+    ensures sealed { IfOk result (λ told. told ≡ sealed session.now (secret_content secret.now)) }
+    ensures short { IfOk result (λ told. length told ≤ 1048601) }
+    ensures seals { OnOk result (seals.new ≡ seals.old ++ secret_seals name.now session.now secret.now) }
 {
     let for_whom = name.copy(alloc)?;
-    let content = secret_content(alloc, secret)?;
+    let told = sealed_connection_secret(alloc, session, &ConnectionSecret { secret: *secret })?;
     let drawn = DrawMark::Connection {
         secret: *secret,
         for_whom,
     };
     let mark = SealMark {
-        key: *session,
+        key: *session.bytes(),
         kind: KeyKind::Session,
-        content,
+        content: told.content,
     };
     seals.push(alloc, SealEntry::Drawn(drawn))?;
-    seals.push(alloc, SealEntry::Sealed(mark))
-}
-
-fn secret_content(alloc: Global, secret: &[u8; 64]) -> Result<Blob, AllocError>
-    ensures { IfOk result (λ content. content ≡ secret_content secret.now) }
-{
-    write_whole(alloc, &ConnectionSecret { secret: *secret })
+    seals.push(alloc, SealEntry::Sealed(mark))?;
+    Ok(told.envelope)
 }
 
 // The generation that was current at this reading.

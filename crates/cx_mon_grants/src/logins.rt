@@ -2,9 +2,8 @@
 
 ghost use Rattle.std.specs.Prelude.{◌≡◌, ◌<◌, IfOk, OnOk, OnErr};
 ghost use Rattle.cx_base.specs.declared.kinds.EntityType.TheVariants.{Auth};
-ghost use Rattle.cx_cbc.specs.Envelope.{sealed};
 ghost use Rattle.cx_dice.specs.Draws.{session_of};
-ghost use Rattle.cx_rules.specs.Verdicts.{done_payload, handed_out, issues_to, key_of, login_done, numbered, numbers, rotates, secret_content};
+ghost use Rattle.cx_rules.specs.Verdicts.{done_payload, handed_out, issues_to, key_of, numbered, numbers, rotates};
 ghost use Rattle.cx_mon_grants.specs.Handing.{CanBeHandedOut};
 ghost use Rattle.cx_mon_grants.specs.Issuing.{IsRotated};
 ghost use Rattle.cx_mon_grants.specs.Occasions.{entrant_of, occasion_of};
@@ -12,19 +11,20 @@ ghost use Rattle.cx_mon_grants.specs.Deciding.{Decides};
 
 use crate::entries::login_entries;
 use crate::issuing::{issued_for, services_for};
-use crate::logging::{log_secret, log_tickets};
+use crate::logging::{logged_parts, logged_secret};
 use crate::numbering::numbered;
 use crate::occasions::{Entrant, Occasion};
-use crate::payloads::{done_payload, login_done};
+use crate::payloads::done_payload;
 use crate::rotating::rotated;
 use crate::saving::changed;
-use cx_base::{Blob, Duplicate, EntityType, Items};
+use cx_base::{Duplicate, EntityType, Items};
 use cx_journal::LoginFault;
-use cx_keyserver::{KeyServer, Ticket};
+use cx_keyserver::{Issuance, KeyServer};
 use cx_login::{Proved, Reclaim};
 use cx_rules::{HandedOut, Verdict};
-use cx_sealed::{ConnectionSecret, seal_connection_secret};
+use cx_sealed::SealKey;
 use cx_steps::SealEntry;
+use cx_wire::LoginDone;
 use std::alloc::{AllocError, Global};
 
 /// Grants an entity that proved itself its global id and its tickets, or denies them. `hello_gid` is the global id of its LoginHello.
@@ -89,7 +89,7 @@ fn numbers<'a>(
             let entrant = Entrant {
                 name: proved.name(),
                 gid,
-                session: draw.session_key(EntityType::Auth),
+                session: SealKey::new(&draw.session_key(EntityType::Auth)),
                 asked: proved.asked(),
                 at: Occasion { draw: &draw, ..*at },
             };
@@ -122,38 +122,42 @@ fn issues_to(
     match tickets {
         Err(why) => Ok(Verdict::Denied { why, seals }),
         Ok(tickets) => {
-            let handed = handed_out(alloc, server, entrant, &own.secret, tickets.all(), seals)?;
+            let handed = handed_out(alloc, server, entrant, &own.secret, tickets, seals)?;
             Ok(Verdict::Granted(handed))
         }
     }
 }
 
+// What is handed out, with the secret of the connection sealed by the session key.
 fn handed_out(
     alloc: Global,
     server: &KeyServer,
     entrant: &Entrant<'_>,
     own: &[u8; 16],
-    tickets: &[Ticket],
+    tickets: Items<Issuance>,
     seals: Items<SealEntry>,
 ) -> Result<HandedOut, AllocError>
     requires session { entrant.now.session ≡ session_of Auth entrant.now.at.draw.now.bytes }
-    requires tickets { CanBeHandedOut tickets.now }
-    ensures { IfOk result (λ handed. handed ≡ handed_out (occasion_of entrant.now.at) server.now (entrant_of entrant.now seals) own.now tickets.now) }
+    requires tickets { CanBeHandedOut tickets }
+    ensures { IfOk result (λ handed. handed ≡ handed_out (occasion_of entrant.now.at) server.now (entrant_of entrant.now seals) own.now tickets) }
 {
     let at = entrant.at;
-    let session = entrant.session;
-    let secret = at.draw.connection_secret();
-    let payload = payload(alloc, entrant.gid, &session, &secret, tickets)?;
-    let mut sealed = Items::new(alloc);
-    log_tickets(alloc, server, own, &session, tickets, &mut sealed)?;
-    log_secret(alloc, entrant.name, &session, &secret, &mut sealed)?;
+    let session = &entrant.session;
     let save = changed(alloc, at.saved, &server.state())?;
-    let entries = login_entries(alloc, &save, tickets)?;
-    let name = entrant.name.copy(alloc)?;
+    let entries = login_entries(alloc, &save, tickets.all())?;
+    let mut sealed = Items::new(alloc);
+    let tickets = logged_parts(alloc, server, own, session.bytes(), tickets, &mut sealed)?;
+    let secret = at.draw.connection_secret();
+    let connection_secret = logged_secret(alloc, entrant.name, session, &secret, &mut sealed)?;
+    let done = LoginDone {
+        tickets,
+        connection_secret,
+    };
+    let payload = done_payload(alloc, entrant.gid, &done)?;
     Ok(HandedOut {
-        name,
+        name: entrant.name.copy(alloc)?,
         gid: entrant.gid,
-        session,
+        session: *session.bytes(),
         secret,
         payload,
         seals,
@@ -161,21 +165,4 @@ fn handed_out(
         save,
         entries,
     })
-}
-
-// The payload of AUTH_DONE with these tickets, and with the secret of the connection sealed by the session key.
-fn payload(
-    alloc: Global,
-    gid: u64,
-    session: &[u8; 16],
-    secret: &[u8; 64],
-    tickets: &[Ticket],
-) -> Result<Blob, AllocError>
-    requires { CanBeHandedOut tickets.now }
-    ensures { IfOk result (λ payload. payload ≡ done_payload gid (login_done tickets.now (sealed session.now (secret_content secret.now)))) }
-{
-    let content = ConnectionSecret { secret: *secret };
-    let connection_secret = seal_connection_secret(alloc, session, &content)?;
-    let done = login_done(alloc, tickets, connection_secret)?;
-    done_payload(alloc, gid, &done)
 }

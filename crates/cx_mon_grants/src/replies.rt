@@ -9,17 +9,17 @@ ghost use Rattle.cx_rules.specs.Tickets.{ticket_part, ticket_seals};
 ghost use Rattle.cx_sealed.specs.Records.{AreReadings};
 ghost use Rattle.cx_wire.specs.declared.bodies.Reply.TheVariants.{Tickets, Rotating};
 ghost use Rattle.cx_mon_grants.specs.Handing.{CanBeTold};
-ghost use Rattle.cx_mon_grants.specs.Telling.{IsBodyShort, IsTellable};
+ghost use Rattle.cx_mon_grants.specs.Telling.{IsBodyShort};
 
 use crate::entries::login_entries;
-use crate::logging::log_tickets;
+use crate::logging::logged_parts;
 use crate::occasions::{Entrant, Occasion};
-use crate::payloads::{reply_body, ticket_parts};
+use crate::payloads::reply_body;
 use crate::saving::changed;
 use cx_base::{EntityType, Items};
 use cx_enc::write_whole;
 use cx_journal::KeyKind;
-use cx_keyserver::{KeyServer, Ticket};
+use cx_keyserver::{Issuance, KeyServer};
 use cx_rotate::{Generations, KeptState};
 use cx_rules::ReplyMade;
 use cx_sealed::{RotatingReply, seal_rotating_reply};
@@ -33,26 +33,27 @@ pub(crate) fn tells_tickets(
     server: &KeyServer,
     entrant: &Entrant<'_>,
     own: &[u8; 16],
-    tickets: &[Ticket],
+    tickets: Items<Issuance>,
     drawn: Items<SealEntry>,
 ) -> Result<ReplyMade, AllocError>
-    requires { CanBeTold tickets.now }
+    requires { CanBeTold tickets }
     ensures made { IfOk result (λ made. made ≡ reply_made (changed entrant.now.at.saved.now server.now.state) drawn
-        (flat_map (ticket_seals server.now own.now entrant.now.session) tickets.now) tickets.now (Tickets (map ticket_part tickets.now))) }
+        (flat_map (ticket_seals server.now own.now entrant.now.session) tickets) tickets (Tickets (map ticket_part tickets))) }
     ensures short { IfOk result IsBodyShort }
 {
+    let save = changed(alloc, entrant.at.saved, &server.state())?;
+    let entries = login_entries(alloc, &save, tickets.all())?;
     let mut told = Items::new(alloc);
-    log_tickets(alloc, server, own, &entrant.session, tickets, &mut told)?;
-    let reply = Reply::Tickets(ticket_parts(alloc, tickets)?);
-    reply_made(
-        alloc,
-        &server.state(),
-        &entrant.at,
-        drawn,
-        told,
-        tickets,
-        &reply,
-    )
+    let session = entrant.session.bytes();
+    let parts = logged_parts(alloc, server, own, session, tickets, &mut told)?;
+    let body = reply_body(alloc, &Reply::Tickets(parts))?;
+    Ok(ReplyMade {
+        body,
+        seals: drawn,
+        sealed: told,
+        save,
+        entries,
+    })
 }
 
 /// A daemon is told these generations of its type under its own secret.
@@ -77,7 +78,16 @@ pub(crate) fn tells_generations(
     let mut told = Items::new(alloc);
     told.push(alloc, told_seal(alloc, own, &content)?)?;
     let reply = Reply::Rotating(seal_rotating_reply(alloc, own, &content)?);
-    reply_made(alloc, state, at, drawn, told, &[], &reply)
+    let body = reply_body(alloc, &reply)?;
+    let save = changed(alloc, at.saved, state)?;
+    let entries = login_entries(alloc, &save, &[])?;
+    Ok(ReplyMade {
+        body,
+        seals: drawn,
+        sealed: told,
+        save,
+        entries,
+    })
 }
 
 // That the generations were sealed under the daemon's secret.
@@ -95,30 +105,4 @@ fn told_seal(
         kind: KeyKind::Principal,
         content,
     }))
-}
-
-// The state is saved where it has changed, and that is entered before the tickets.
-fn reply_made(
-    alloc: Global,
-    state: &KeptState,
-    at: &Occasion<'_>,
-    drawn: Items<SealEntry>,
-    told: Items<SealEntry>,
-    tickets: &[Ticket],
-    reply: &Reply,
-) -> Result<ReplyMade, AllocError>
-    requires { IsTellable reply.now }
-    ensures made { IfOk result (λ made. made ≡ reply_made (changed at.now.saved.now state.now) drawn told tickets.now reply.now) }
-    ensures short { IfOk result IsBodyShort }
-{
-    let body = reply_body(alloc, reply)?;
-    let save = changed(alloc, at.saved, state)?;
-    let entries = login_entries(alloc, &save, tickets)?;
-    Ok(ReplyMade {
-        body,
-        seals: drawn,
-        sealed: told,
-        save,
-        entries,
-    })
 }

@@ -3,7 +3,7 @@
 use cx_base::{Blob, Duplicate, EntityName, EntityType, SECOND, Text};
 use cx_dice::Draw;
 use cx_keyring::{Keyring, parse};
-use cx_keyserver::{IssueRefusal, KeyServer, NotADaemon, Ticket};
+use cx_keyserver::{Issuance, IssueRefusal, KeyServer, NotADaemon, SealKey, Ticket};
 use cx_rotate::{Generations, KeptState};
 use std::alloc::Global;
 use std::process::Abort;
@@ -125,20 +125,24 @@ fn keys_and_global_ids_are_those_of_the_keyring_and_the_state(rt: HostRuntime) {
     assert!(rt; gives_first_again(&mut server));
 }
 
-fn issue(alloc: Global, server: &mut KeyServer, who: &EntityName) -> Result<Ticket, IssueRefusal> {
+fn issue(
+    alloc: Global,
+    server: &mut KeyServer,
+    who: &EntityName,
+) -> Result<Issuance, IssueRefusal> {
     server.issue(
         alloc,
         who,
         EntityType::Osd,
         1,
-        &[0; 16],
+        &SealKey::new(&[0; 16]),
         1000 * SECOND,
         &sevens(),
     )
 }
 
 /// A ticket of the client for the osds.
-fn issued(rt: &impl Abort, alloc: Global, server: &mut KeyServer) -> Ticket {
+fn issued(rt: &impl Abort, alloc: Global, server: &mut KeyServer) -> Issuance {
     let who = name(rt, alloc, EntityType::Client, b"a");
     issue(alloc, server, &who).expect(rt, "a ticket")
 }
@@ -155,8 +159,9 @@ fn length_of_copied_blob(rt: &impl Abort, alloc: Global, ticket: &Ticket) -> usi
 #[test]
 fn the_longest_caps_are_issued(rt: HostRuntime) {
     let mut server = server(&rt, rt.alloc(), 4096);
-    let ticket = issued(&rt, rt.alloc(), &mut server);
-    assert!(rt; length_of_caps(&ticket) == 4096);
+    let issuance = issued(&rt, rt.alloc(), &mut server);
+    let ticket = issuance.ticket();
+    assert!(rt; length_of_caps(ticket) == 4096);
     // 66 bytes besides the caps, a mark of 9 before them, and 5 that fill the last block of 16.
-    assert!(rt; length_of_copied_blob(&rt, rt.alloc(), &ticket) == 4176);
+    assert!(rt; length_of_copied_blob(&rt, rt.alloc(), ticket) == 4176);
 }

@@ -17,7 +17,7 @@ handed_out-requires-clause-tickets c =
     let ask : EntityType → Asked = asking_by e in
     let issued = sym c.in-Ok.is ∙ c.in_ok-tickets.ensures.issued ∙ ap (λ (services : List EntityType). issued_for c.args.server.now ask services) (c.all.ensures ∙ c.in_ok-services.ensures) in
     let whole = rw c.in-Ok.is at c.in_ok-tickets.ensures.whole in
-    rw c.all-in-Ok.ensures (can_be_handed_out c.args.server.now e e.asked c.in-Ok.tickets (sym issued) whole)
+    can_be_handed_out c.args.server.now e e.asked c.in-Ok.tickets (sym issued) whole
 
 pub returns-in-Err-clause-decides : goal.returns-in-Err-clause-decides
 returns-in-Err-clause-decides c =
@@ -27,8 +27,7 @@ returns-in-Err-clause-decides c =
 
 pub returns-clause-decides : goal.returns-clause-decides
 returns-clause-decides c =
-    let handed = rw c.all-in-Ok.ensures at c.in_ok-handed-in-Ok.ensures in
     issued_decides c.args.entrant.now c.args.server.now c.issued_for.new.server c.args.seals _ c.in-Some.own _ _ (Granted c.in_ok-handed-in-Ok.handed)
     c.requires.session (sym c.key_of.ensures ∙ c.in-Some.is) (c.all.ensures ∙ c.in_ok-services.ensures) (sym c.in-Ok.is ∙ c.in_ok-tickets.ensures.issued)
     c.issued_for.ensures.server
-    (ap (λ (h : HandedOut). decided c.args.server.now (Granted h)) (sym (rw c.issued_for.ensures.server at handed)))
+    (ap (λ (h : HandedOut). decided c.args.server.now (Granted h)) (sym (rw c.issued_for.ensures.server at c.in_ok-handed-in-Ok.ensures)))

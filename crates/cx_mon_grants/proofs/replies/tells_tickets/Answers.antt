@@ -2,5 +2,5 @@
 use Rattle.cx_mon_grants.proofs.Short.{short_parts}
 use Rattle.cx_mon_grants.proofs.replies.tells_tickets.Goals as goal
 
-pub reply_made-requires : goal.reply_made-requires
-reply_made-requires c = rw c.in_ok-ticket_parts.ensures (c.requires.ordered, short_parts c.args.tickets.now c.requires.whole)
+pub reply_body-requires : goal.reply_body-requires
+reply_body-requires c = rw c.in_ok-parts.ensures.parts (c.requires.ordered, short_parts c.args.tickets c.requires.whole)
