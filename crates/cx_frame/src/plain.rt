@@ -15,6 +15,9 @@ use crate::sums::check_sum;
 use cx_base::Blob;
 use std::alloc::{AllocError, Global};
 
+// A frame has at most so many bytes beside those of its segments: a preamble, a check sum and an epilogue.
+const AROUND: usize = 49;
+
 /// Writes a plain frame behind some bytes. After a refusal the bytes are as before.
 #[tactic(auto, unfolding(crate::specs::Frames::frame_text))]
 pub fn put_frame(alloc: Global, into: &mut Blob, frame: &Frame) -> Result<(), FrameRefusal>
@@ -29,7 +32,7 @@ pub fn put_frame(alloc: Global, into: &mut Blob, frame: &Frame) -> Result<(), Fr
     if total > MAX_PLAIN {
         return Err(FrameRefusal::TooLong(total));
     }
-    let mut text = Blob::new(alloc);
+    let mut text = Blob::with_room(alloc, total as usize + AROUND)?;
     put_preamble(alloc, &mut text, &preamble_of(frame))?;
     put_rest(alloc, &mut text, frame.segments.all())?;
     into.append(alloc, text.bytes())?;

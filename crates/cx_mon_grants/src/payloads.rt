@@ -12,6 +12,9 @@ use cx_control::{AuthDone, put_auth_done};
 use cx_wire::{LoginDone, Reply, put_login_done, put_reply};
 use std::alloc::{AllocError, Global};
 
+/// Room for four tickets with short caps, and the secret of a connection, so that they are seldom moved as they are written.
+const FOUR_TICKETS: usize = 1_008;
+
 /// The global id, the secure mode, and a LoginDone.
 pub(crate) fn done_payload(alloc: Global, gid: u64, done: &LoginDone) -> Result<Blob, AllocError>
     requires some { 1 ≤ length done.now.tickets }
@@ -20,9 +23,10 @@ pub(crate) fn done_payload(alloc: Global, gid: u64, done: &LoginDone) -> Result<
     requires secret { length done.now.connection_secret ≤ 1048601 }
     ensures { IfOk result (λ payload. payload ≡ done_payload gid done.now) }
 {
-    let mut payload = Blob::new(alloc);
+    let mut payload = Blob::with_room(alloc, FOUR_TICKETS)?;
     put_login_done(alloc, &mut payload, done)?;
-    let mut bytes = Blob::new(alloc);
+    let room = payload.bytes().len().saturating_add(16);
+    let mut bytes = Blob::with_room(alloc, room)?;
     put_auth_done(
         alloc,
         &mut bytes,
@@ -41,7 +45,7 @@ pub(crate) fn reply_body(alloc: Global, reply: &Reply) -> Result<Blob, AllocErro
     ensures body { IfOk result (λ body. body ≡ reply_layout.form.text reply.now) }
     ensures short { IfOk result (λ body. length body < 2 ^ 32) }
 {
-    let mut body = Blob::new(alloc);
+    let mut body = Blob::with_room(alloc, FOUR_TICKETS)?;
     put_reply(alloc, &mut body, reply)?;
     Ok(body)
 }

@@ -27,6 +27,9 @@ use std::alloc::{AllocError, Global};
 /// The bytes that the segments of a secure frame have together, at most.
 pub const MAX_SECURE: u64 = 1_048_576;
 
+// The bytes of a head's content: its nonce, its preamble and the front of its first segment.
+const HEAD_CONTENT: usize = 92;
+
 /// The number of bytes that stand behind the head of a secure frame.
 #[tactic(auto, unfolding(crate::specs::Plains::rest_len))]
 pub fn rest_len(head: &Head) -> usize
@@ -84,7 +87,8 @@ impl Sealing {
         ensures { IfOk result (λ content. content ≡ head_content self.now.into head.now) }
     {
         let nonce = nonce_at(&self.into.fixed, self.into.counter.saturating_sub(1));
-        let mut content = Blob::of(alloc, &nonce)?;
+        let mut content = Blob::with_room(alloc, HEAD_CONTENT)?;
+        content.append(alloc, &nonce)?;
         put_preamble(alloc, &mut content, &head.preamble)?;
         content.append(alloc, &head.inline)?;
         Ok(content)

@@ -11,7 +11,7 @@ ghost use Rattle.cx_secure.specs.Refusing.{IsRefusal};
 ghost use Rattle.cx_secure.specs.Sealings.{after_putting, connection_key, put_refusal};
 
 use crate::opening::MAX_SECURE;
-use crate::parts::{hand_out, nonce_at, seal_part, seal_some};
+use crate::parts::{TAG, hand_out, nonce_at, seal_part, seal_some};
 use crate::refusals::SecureRefusal;
 use crate::rooms::{COMPLETE, END, INLINE, one_if, up16};
 use crate::sealing::{Sealing, Way};
@@ -19,6 +19,9 @@ use cx_base::{Blob, Items};
 use cx_frame::{Frame, Segment, preamble_of, put_preamble, total};
 use cx_gcm::GcmKey;
 use std::alloc::{AllocError, Global};
+
+/// The bytes of a head, as it is sealed.
+const HEAD: usize = 96;
 
 impl Sealing {
     /// Seals a frame, and puts it behind some bytes. After a refusal the bytes are as before.
@@ -131,7 +134,7 @@ fn sealed_behind(
     let mut last = last_plain(alloc, others)?;
     let next = way.counter + 1;
     let behind = next + one_if(first.len().saturating_sub(INLINE));
-    let mut text = Blob::new(alloc);
+    let mut text = Blob::with_room(alloc, room_for(&second, &last))?;
     seal_part(
         alloc,
         &mut text,
@@ -142,6 +145,12 @@ fn sealed_behind(
     seal_some(alloc, &mut text, key, &way.fixed, next, &mut second)?;
     seal_some(alloc, &mut text, key, &way.fixed, behind, &mut last)?;
     Ok(text)
+}
+
+// Room for a sealed head, and for what is sealed behind it.
+fn room_for(second: &[u8], last: &[u8]) -> usize {
+    let behind = second.len().saturating_add(last.len());
+    behind.saturating_add(HEAD + 2 * TAG)
 }
 
 // The contents of a frame's parts.

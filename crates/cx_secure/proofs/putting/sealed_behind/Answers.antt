@@ -22,7 +22,7 @@ returns c =
     let fixed : List ℕ = c.args.way.now.fixed in
     let counter : ℕ = c.args.way.now.counter in
     three_sealed key fixed counter (counter + 1 + c.one_if.result) c.args.preamble.now c.args.first.now c.args.others.now c.seal_part.new.into c.seal_some.new.into c.seal_some-2.new.into
-    (c.in_ok-seal_part.ensures ∙ ap (λ t. t ++ part key c.nonce_at.result c.deref_mut.result.now) c.new-text.ensures ∙ ap (λ n. part key n c.deref_mut.result.now) c.nonce_at.ensures.value
+    (c.in_ok-seal_part.ensures ∙ ap (λ t. t ++ part key c.nonce_at.result c.deref_mut.result.now) c.in_ok-text.ensures ∙ ap (λ n. part key n c.deref_mut.result.now) c.nonce_at.ensures.value
     ∙ ap (part key (nonce_at fixed counter)) (c.deref_mut.ensures.value ∙ c.in_ok-head.ensures))
     (c.in_ok-seal_some.ensures ∙ ap (λ t. c.seal_part.new.into ++ sealed_parts key fixed (counter + 1) (nonempty t)) (c.deref_mut-2.ensures.value ∙ c.in_ok-second.ensures))
     (c.in_ok-seal_some-2.ensures ∙ ap (λ t. c.seal_some.new.into ++ sealed_parts key fixed (counter + 1 + c.one_if.result) (nonempty t)) (c.deref_mut-3.ensures.value ∙ c.in_ok-last.ensures))
