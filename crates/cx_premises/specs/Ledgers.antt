@@ -1,5 +1,5 @@
 -- What a ledger holds of a log, and what an entry changes in it.
-use Rattle.std.specs.Prelude.{◌≡◌, List}
+use Rattle.std.specs.Prelude.{ℕ, ◌≡◌, List}
 use Rattle.std.specs.BTreeSet.{IsUnchanged}
 use Rattle.cx_base.specs.Names.{Name}
 use Rattle.cx_journal.specs.declared.premises.Broken.{Broken}
@@ -7,7 +7,7 @@ use Rattle.cx_journal.specs.declared.premises.Premise.{Premise}
 use Rattle.cx_journal.specs.declared.premises.Premise.TheVariants as premise
 use Rattle.cx_premises.specs.Facts.{Adds, AreLeft, draw_fact, is_kept, is_repeated, sealed_fact, signed_fact}
 use Rattle.cx_premises.specs.Findings.{AreFound, demanded, drawn}
-use Rattle.cx_premises.specs.declared.ledger.Lent.{Lent}
+use Rattle.cx_premises.specs.declared.ledger.Stand.{Stand}
 use Rattle.cx_premises.specs.declared.facts.Fact.{Fact}
 use Rattle.cx_premises.specs.declared.facts.Fact.TheVariants as fact
 use Rattle.cx_premises.specs.declared.findings.Findings.{Findings}
@@ -45,6 +45,20 @@ findings_at ledger at mark due =
 abbrev pub findings_drawn : Ledger → Logged → Fact → Findings
 findings_drawn ledger at left = drawn ledger.findings (is_repeated ledger.kept.facts left) (breach_at at premise.Draw)
 
+-- the breach that an entry would be that stands there
+abbrev pub breach_there : Stand → Premise → Broken
+breach_there at why = record { why = why; node = at.node.now; kind = at.kind; line = at.line }
+
+-- the findings behind an entry there that owes this under a key to the earlier ones
+abbrev pub findings_owed : Ledger → Stand → List ℕ → Fact → Findings
+findings_owed ledger at key due =
+    demanded ledger.findings (is_kept ledger.kept.facts due) (is_server at.node.now) (is_kept ledger.kept.facts (fact.LeakedKey key))
+    (record { key = key; broken = breach_there at premise.Sealing })
+
+-- the findings behind a draw there
+abbrev pub findings_repeated : Ledger → Stand → Fact → Findings
+findings_repeated ledger at left = drawn ledger.findings (is_repeated ledger.kept.facts left) (breach_there at premise.Draw)
+
 -- the ledger holds one fact more, and these findings
 pub record Takes (old new : Ledger) (left : Fact) (findings : Findings) : Type 0 where
   pub names : new.leaked ≡ old.leaked
@@ -56,10 +70,6 @@ pub record Finds (old new : Ledger) (findings : Findings) : Type 0 where
   pub names : new.leaked ≡ old.leaked
   pub facts : IsUnchanged old.kept.facts new.kept.facts
   pub found : new.findings ≡ findings
-
--- an entry that is lent
-abbrev pub logged : Lent → Logged
-logged at = record { node = at.node.now; line = at.line; entry = at.seal.now }
 
 -- the ledger behind an entry
 abbrev pub EntersAt : Ledger → Ledger → Logged → SealEntry → Type 0

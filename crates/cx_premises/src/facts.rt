@@ -3,7 +3,7 @@
 ghost use Rattle.std.specs.Prelude.{◌≡◌, ◌≤◌, slice_index, take, IfOk, true};
 ghost use Rattle.cx_premises.specs.Facts.{four_at, number_in, sealed_fact, signed_fact, key_fact, draw_fact};
 
-use cx_base::{Blob, Duplicate};
+use cx_base::Blob;
 use cx_line_words::Names;
 use cx_steps::{DrawMark, SealMark};
 use std::alloc::{AllocError, Global};
@@ -34,27 +34,35 @@ pub enum Fact {
 
 impl Fact {
     /// What the sealing of this mark leaves.
-    pub fn sealed(alloc: Global, mark: &SealMark) -> Result<Fact, AllocError>
-        ensures { IfOk result (λ fact. fact ≡ sealed_fact mark.now) }
+    pub fn sealed(mark: SealMark) -> Fact
+        ensures { result ≡ sealed_fact mark }
     {
-        let content = mark.content.copy(alloc)?;
-        Ok(Fact::Sealed {
-            number: number_in(&mark.key, content.bytes()),
+        let SealMark {
+            key,
+            kind: _,
             content,
-            key: mark.key,
-        })
+        } = mark;
+        Fact::Sealed {
+            number: number_in(&key, content.bytes()),
+            content,
+            key,
+        }
     }
 
     /// What the signing of this mark leaves.
-    pub fn signed(alloc: Global, mark: &SealMark) -> Result<Fact, AllocError>
-        ensures { IfOk result (λ fact. fact ≡ signed_fact mark.now) }
+    pub fn signed(mark: SealMark) -> Fact
+        ensures { result ≡ signed_fact mark }
     {
-        let content = mark.content.copy(alloc)?;
-        Ok(Fact::Signed {
-            number: number_in(&mark.key, content.bytes()),
+        let SealMark {
+            key,
+            kind: _,
             content,
-            key: mark.key,
-        })
+        } = mark;
+        Fact::Signed {
+            number: number_in(&key, content.bytes()),
+            content,
+            key,
+        }
     }
 
     /// What a draw leaves where these clients leaked.

@@ -4,8 +4,8 @@ ghost use Rattle.std.specs.Prelude.{◌≡◌, List, [], ◌∷◌, ◌++◌, If
 ghost use Rattle.std.specs.Option.{option_copied};
 ghost use Rattle.cx_base.specs.Names.{Name};
 ghost use Rattle.cx_premises.specs.Facts.{draw_fact, sealed_fact, signed_fact};
-ghost use Rattle.cx_premises.specs.Ledgers.{Enters, Finds, StandsFor, Takes, breach_at, findings_at, findings_drawn, logged};
-ghost use Rattle.cx_steps.specs.Breach.{IsFound, drawn_kind, kind_of};
+ghost use Rattle.cx_premises.specs.Ledgers.{Enters, Finds, StandsFor, Takes, breach_there, findings_owed, findings_repeated};
+ghost use Rattle.cx_steps.specs.Breach.{IsFound, drawn_kind};
 ghost use Rattle.cx_steps.specs.Premises.{is_server};
 ghost use Rattle.cx_steps.specs.declared.seals.Logged.{Logged as Entry};
 
@@ -15,15 +15,15 @@ use crate::kept::Kept;
 use cx_base::{Duplicate, EntityName, NodeName};
 use cx_journal::{Broken, KeyKind, Premise};
 use cx_line_words::Names;
-use cx_steps::{DrawMark, Logged, SealEntry, SealMark};
+use cx_steps::{DrawMark, Logged, SealEntry};
 use std::alloc::{AllocError, Global};
 
-/// An entry of a log, lent: the node that logs it, the line, and what it logs.
+/// Where an entry of a log stands, and of which kind the key in it is: the node that logs it, and the line.
 #[derive(Clone, Copy)]
-struct Lent<'a> {
+struct Stand<'a> {
     node: &'a NodeName,
     line: u32,
-    seal: &'a SealEntry,
+    kind: KeyKind,
 }
 
 /// What has to be known of a log so as to go on with it and to name its first breach: the log itself isn't kept.
@@ -70,53 +70,65 @@ impl Ledger {
             → OnOk result (StandsFor self.new leaked (log ++ record { node = node.now; line = line; entry = entry.now } ∷ [])) }
         ensures err { (leaked : List Name) (log : List Entry) → StandsFor self.old leaked log → OnErr result (StandsFor self.new leaked log) }
     {
-        self.take(
-            alloc,
-            Lent {
-                node,
-                line,
-                seal: entry,
-            },
-        )
+        let copied = entry.copy(alloc)?;
+        self.take_over(alloc, node, line, copied)
     }
 
-    fn take(&mut self, alloc: Global, at: Lent<'_>) -> Result<(), AllocError>
-        ensures ok { OnOk result (Enters self.old self.new (logged at.entry)) }
+    /// The same of an entry that is given up to the ledger, which takes its content over.
+    pub fn take_over(
+        &mut self,
+        alloc: Global,
+        node: &NodeName,
+        line: u32,
+        entry: SealEntry,
+    ) -> Result<(), AllocError>
+        ensures ok { (leaked : List Name) (log : List Entry) → StandsFor self.old leaked log
+            → OnOk result (StandsFor self.new leaked (log ++ record { node = node.now; line = line; entry = entry } ∷ [])) }
+        ensures err { (leaked : List Name) (log : List Entry) → StandsFor self.old leaked log → OnErr result (StandsFor self.new leaked log) }
+    {
+        self.take(alloc, node, line, entry)
+    }
+
+    fn take(
+        &mut self,
+        alloc: Global,
+        node: &NodeName,
+        line: u32,
+        entry: SealEntry,
+    ) -> Result<(), AllocError>
+        ensures ok { OnOk result (Enters self.old self.new (record { node = node.now; line = line; entry = entry })) }
         ensures err { OnErr result (Finds self.old self.new self.old.findings) }
     {
-        match at.seal {
-            SealEntry::Sealed(mark) => {
-                let fact = Fact::sealed(alloc, mark)?;
-                self.kept.put(fact)
-            }
-            SealEntry::Signed(mark) => {
-                let fact = Fact::signed(alloc, mark)?;
-                self.kept.put(fact)
-            }
+        match entry {
+            SealEntry::Sealed(mark) => self.kept.put(Fact::sealed(mark)),
+            SealEntry::Signed(mark) => self.kept.put(Fact::signed(mark)),
             SealEntry::Opened(mark) => {
-                let due = Fact::sealed(alloc, mark)?;
-                self.demand(alloc, at, mark, &due)
+                let (key, kind) = (mark.key, mark.kind);
+                let due = Fact::sealed(mark);
+                self.demand(alloc, Stand { node, line, kind }, key, &due)
             }
             SealEntry::Checked(mark) => {
-                let due = Fact::signed(alloc, mark)?;
-                self.demand(alloc, at, mark, &due)
+                let (key, kind) = (mark.key, mark.kind);
+                let due = Fact::signed(mark);
+                self.demand(alloc, Stand { node, line, kind }, key, &due)
             }
             SealEntry::Drawn(mark) => {
-                let fact = Fact::drawn(alloc, &self.leaked, mark)?;
-                self.draw(alloc, at, fact)
+                let kind = drawn_kind(&mark);
+                let fact = Fact::drawn(alloc, &self.leaked, &mark)?;
+                self.draw(alloc, Stand { node, line, kind }, fact)
             }
         }
     }
 
-    // Something opened or was found equal, for which this fact is due.
+    // Something opened or was found equal under this key, for which this fact is due.
     fn demand(
         &mut self,
         alloc: Global,
-        at: Lent<'_>,
-        mark: &SealMark,
+        at: Stand<'_>,
+        key: [u8; 16],
         due: &Fact,
     ) -> Result<(), AllocError>
-        ensures ok { OnOk result (Finds self.old self.new (findings_at self.old (logged at.entry) mark.now due.now)) }
+        ensures ok { OnOk result (Finds self.old self.new (findings_owed self.old at.entry key due.now)) }
         ensures err { OnErr result (Finds self.old self.new self.old.findings) }
     {
         if self.kept.has(due) {
@@ -127,19 +139,15 @@ impl Ledger {
             self.findings.close(broken);
             return Ok(());
         }
-        if self.kept.has(&Fact::LeakedKey(mark.key)) {
+        if self.kept.has(&Fact::LeakedKey(key)) {
             return Ok(());
         }
-        let suspect = Suspect {
-            key: mark.key,
-            broken,
-        };
-        self.findings.suspect(alloc, suspect)
+        self.findings.suspect(alloc, Suspect { key, broken })
     }
 
     // Something was drawn, which leaves this fact.
-    fn draw(&mut self, alloc: Global, at: Lent<'_>, fact: Fact) -> Result<(), AllocError>
-        ensures ok { OnOk result (Takes self.old self.new fact (findings_drawn self.old (logged at.entry) fact)) }
+    fn draw(&mut self, alloc: Global, at: Stand<'_>, fact: Fact) -> Result<(), AllocError>
+        ensures ok { OnOk result (Takes self.old self.new fact (findings_repeated self.old at.entry fact)) }
         ensures err { OnErr result (Finds self.old self.new self.old.findings) }
     {
         if !self.kept.has_drawn(&fact) {
@@ -159,28 +167,16 @@ impl Ledger {
     }
 }
 
-fn breach_at(alloc: Global, at: Lent<'_>, why: Premise) -> Result<Broken, AllocError>
-    ensures { IfOk result (λ broken. broken ≡ breach_at (logged at.entry) why) }
+fn breach_at(alloc: Global, at: Stand<'_>, why: Premise) -> Result<Broken, AllocError>
+    ensures { IfOk result (λ broken. broken ≡ breach_there at.entry why) }
 {
     let node = at.node.copy(alloc)?;
     Ok(Broken {
         why,
         node,
-        kind: kind_of(at.seal),
+        kind: at.kind,
         line: at.line,
     })
-}
-
-fn kind_of(entry: &SealEntry) -> KeyKind
-    ensures { result ≡ kind_of entry.now }
-{
-    match entry {
-        SealEntry::Sealed(mark) => mark.kind,
-        SealEntry::Opened(mark) => mark.kind,
-        SealEntry::Signed(mark) => mark.kind,
-        SealEntry::Checked(mark) => mark.kind,
-        SealEntry::Drawn(mark) => drawn_kind(mark),
-    }
 }
 
 fn drawn_kind(mark: &DrawMark) -> KeyKind

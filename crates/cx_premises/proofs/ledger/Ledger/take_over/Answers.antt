@@ -1,6 +1,6 @@
 use Rattle.std.proofs.lemmas.Result.{on_ok_weaker}
 use Rattle.cx_premises.proofs.Entering.{stands_more}
-use Rattle.cx_premises.proofs.ledger.Ledger.enter_at.Goals as goal
+use Rattle.cx_premises.proofs.ledger.Ledger.take_over.Goals as goal
 
 pub returns-clause-ok : goal.returns-clause-ok
 returns-clause-ok c = λ leaked log stands.
