@@ -69,6 +69,12 @@ is_repeated facts (fact.Key key) = is_kept facts (fact.Key key) || is_kept facts
 is_repeated facts (fact.LeakedKey key) = is_kept facts (fact.Key key) || is_kept facts (fact.LeakedKey key)
 is_repeated facts drawn = is_kept facts drawn
 
+-- whether what is kept has the key of a draw in the other form
+abbrev pub has_twin : BTreeSet Fact → Fact → Bool
+has_twin facts (fact.Key key) = is_kept facts (fact.LeakedKey key)
+has_twin facts (fact.LeakedKey key) = is_kept facts (fact.Key key)
+has_twin facts _ = false
+
 -- the fact is among them now, and the others are those that were
 abbrev pub Adds : BTreeSet Fact → BTreeSet Fact → Fact → Type 0
 Adds old new added = Updates order old new added true

@@ -1,8 +1,8 @@
 //! What is kept of a log.
 
-ghost use Rattle.std.specs.Prelude.{◌≡◌, ◌||◌, OnOk, OnErr};
+ghost use Rattle.std.specs.Prelude.{◌≡◌, false, not, IfOk, OnOk, OnErr};
 ghost use Rattle.std.specs.BTreeSet.{IsUnchanged, IsEmpty};
-ghost use Rattle.cx_premises.specs.Facts.{Adds, is_kept, is_repeated};
+ghost use Rattle.cx_premises.specs.Facts.{Adds, has_twin, is_kept};
 
 use crate::facts::Fact;
 use std::alloc::{AllocError, Global};
@@ -31,33 +31,29 @@ impl Kept {
         self.facts.contains(fact)
     }
 
-    /// Whether a draw that left this repeats one that is there.
-    pub fn has_drawn(&self, fact: &Fact) -> bool
-        ensures { result ≡ is_repeated self.now.facts fact.now }
+    /// Whether a draw left the key of this one in the other form: leaked, where this one isn't, or the other way round.
+    pub fn has_twin(&self, fact: &Fact) -> bool
+        ensures { result ≡ has_twin self.now.facts fact.now }
     {
         match fact {
-            Fact::Key(key) => self.has_key(*key),
-            Fact::LeakedKey(key) => self.has_key(*key),
-            Fact::Sealed { .. } => self.has(fact),
-            Fact::Signed { .. } => self.has(fact),
-            Fact::Challenge(_) => self.has(fact),
-            Fact::Nonce(_) => self.has(fact),
-            Fact::Cookie(_) => self.has(fact),
+            Fact::Key(key) => self.has(&Fact::LeakedKey(*key)),
+            Fact::LeakedKey(key) => self.has(&Fact::Key(*key)),
+            Fact::Sealed { .. } => false,
+            Fact::Signed { .. } => false,
+            Fact::Challenge(_) => false,
+            Fact::Nonce(_) => false,
+            Fact::Cookie(_) => false,
         }
     }
 
-    fn has_key(&self, key: [u8; 16]) -> bool
-        ensures { result ≡ (is_kept self.now.facts (Fact.Key key) || is_kept self.now.facts (Fact.LeakedKey key)) }
-    {
-        self.has(&Fact::Key(key)) || self.has(&Fact::LeakedKey(key))
-    }
-
-    /// Puts the fact among the others.
-    pub fn put(&mut self, fact: Fact) -> Result<(), AllocError>
+    /// Puts the fact among the others, and tells whether it is new there.
+    pub fn put(&mut self, fact: Fact) -> Result<bool, AllocError>
+        ensures added { IfOk result (λ added. added ≡ not (is_kept self.old.facts fact)) }
+        ensures same { IfOk result (λ added. added ≡ false → IsUnchanged self.old.facts self.new.facts) }
         ensures ok { OnOk result (Adds self.old.facts self.new.facts fact) }
         ensures err { OnErr result (IsUnchanged self.old.facts self.new.facts) }
     {
-        self.facts.insert(fact)?;
-        Ok(())
+        let added = self.facts.insert(fact)?;
+        Ok(added)
     }
 }

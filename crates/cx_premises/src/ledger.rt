@@ -100,8 +100,14 @@ impl Ledger {
         ensures err { OnErr result (Finds self.old self.new self.old.findings) }
     {
         match entry {
-            SealEntry::Sealed(mark) => self.kept.put(Fact::sealed(mark)),
-            SealEntry::Signed(mark) => self.kept.put(Fact::signed(mark)),
+            SealEntry::Sealed(mark) => {
+                self.kept.put(Fact::sealed(mark))?;
+                Ok(())
+            }
+            SealEntry::Signed(mark) => {
+                self.kept.put(Fact::signed(mark))?;
+                Ok(())
+            }
             SealEntry::Opened(mark) => {
                 let (key, kind) = (mark.key, mark.kind);
                 let due = Fact::sealed(mark);
@@ -146,15 +152,22 @@ impl Ledger {
     }
 
     // Something was drawn, which leaves this fact.
+    #[tactic(auto, using(crate::proofs::Twins::repeated_by))]
     fn draw(&mut self, alloc: Global, at: Stand<'_>, fact: Fact) -> Result<(), AllocError>
         ensures ok { OnOk result (Takes self.old self.new fact (findings_repeated self.old at.entry fact)) }
         ensures err { OnErr result (Finds self.old self.new self.old.findings) }
     {
-        if !self.kept.has_drawn(&fact) {
-            return self.kept.put(fact);
+        if self.kept.has_twin(&fact) {
+            let broken = breach_at(alloc, at, Premise::Draw)?;
+            self.kept.put(fact)?;
+            self.findings.close(broken);
+            return Ok(());
         }
+        if self.kept.put(fact)? {
+            return Ok(());
+        }
+        // It was there before, so that nothing changed so far.
         let broken = breach_at(alloc, at, Premise::Draw)?;
-        self.kept.put(fact)?;
         self.findings.close(broken);
         Ok(())
     }
