@@ -41,7 +41,10 @@ impl Index {
     pub fn find(&self, name: &EntityName) -> Option<usize>
         ensures { result ≡ place_of self.now.ids name.now }
     {
-        self.at(name).get(name.kind)
+        match self.ids.get(name.id.as_str()) {
+            Some(places) => places.get(name.kind),
+            None => None,
+        }
     }
 
     /// The places of the names with this one's id.
@@ -91,8 +94,8 @@ impl PlacesByType {
         }
     }
 
-    fn get(self, kind: EntityType) -> Option<usize>
-        ensures { result ≡ place_at self kind }
+    fn get(&self, kind: EntityType) -> Option<usize>
+        ensures { result ≡ place_at self.now kind }
     {
         match kind {
             EntityType::Mon => self.mon,
