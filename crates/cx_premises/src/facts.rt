@@ -3,8 +3,8 @@
 ghost use Rattle.std.specs.Prelude.{◌≡◌, ◌≤◌, slice_index, take, IfOk, true};
 ghost use Rattle.cx_premises.specs.Facts.{four_at, number_in, sealed_fact, signed_fact, key_fact, draw_fact};
 
+use crate::leaks::Leaks;
 use cx_base::Blob;
-use cx_line_words::Names;
 use cx_steps::{DrawMark, SealMark};
 use std::alloc::{AllocError, Global};
 
@@ -66,7 +66,7 @@ impl Fact {
     }
 
     /// What a draw leaves where these clients leaked.
-    pub fn drawn(alloc: Global, leaked: &Names, mark: &DrawMark) -> Result<Fact, AllocError>
+    pub fn drawn(alloc: Global, leaked: &Leaks, mark: &DrawMark) -> Result<Fact, AllocError>
         ensures { IfOk result (λ fact. fact ≡ draw_fact leaked.now mark.now) }
     {
         match mark {

@@ -12,9 +12,9 @@ ghost use Rattle.cx_steps.specs.declared.seals.Logged.{Logged as Entry};
 use crate::facts::Fact;
 use crate::findings::{Findings, Suspect};
 use crate::kept::Kept;
+use crate::leaks::Leaks;
 use cx_base::{Duplicate, EntityName, NodeName};
 use cx_journal::{Broken, KeyKind, Premise};
-use cx_line_words::Names;
 use cx_steps::{DrawMark, Logged, SealEntry};
 use std::alloc::{AllocError, Global};
 
@@ -29,7 +29,7 @@ struct Stand<'a> {
 /// What has to be known of a log so as to go on with it and to name its first breach: the log itself isn't kept.
 #[derive(Drop)]
 pub struct Ledger {
-    leaked: Names,
+    leaked: Leaks,
     kept: Kept,
     findings: Findings,
 }
@@ -39,12 +39,9 @@ impl Ledger {
     pub fn new(alloc: Global, leaked: &[EntityName]) -> Result<Ledger, AllocError>
         ensures { IfOk result (λ ledger. StandsFor ledger leaked.now []) }
     {
-        let mut names = Names::new(alloc);
-        for name in leaked {
-            names.add(alloc, name)?;
-        }
+        let leaked = Leaks::of(alloc, leaked)?;
         Ok(Ledger {
-            leaked: names,
+            leaked,
             kept: Kept::new(alloc),
             findings: Findings::new(alloc),
         })

@@ -5,6 +5,7 @@ mod facts;
 mod findings;
 mod judge;
 mod kept;
+mod leaks;
 mod ledger;
 
 pub use judge::first_breach;
