@@ -1,6 +1,6 @@
 //! The line of each kind of entry. What a line says of the entries before it is given as a number.
 
-ghost use Rattle.std.specs.Prelude.{◌≡◌, IfOk, string_bytes};
+ghost use Rattle.std.specs.Prelude.{◌≡◌, [], IfOk, string_bytes};
 ghost use Rattle.cx_journal.specs.JournalText.{saved_line, issued_line, fetched_line, looked_line, admitted_line, resumed_line, session_text, sent_line, handled_line, answered_line, ticket_text, refused_line, ended_line, restarted_line, broken_line, leaked_line};
 
 use crate::entries::{Admitted, Answered, Ended, Fetched, Handled, Issued, Looked, Refused, Sent};
@@ -9,6 +9,16 @@ use crate::words::{Asked, Ids, Seconds, operation_text};
 use cx_base::{EntityName, NodeName};
 use std::alloc::{AllocError, Global};
 use std::fmt::Write;
+
+/// A line is seldom longer, so that it seldom moves while it is written.
+const LINE_ROOM: usize = 112;
+
+// No text yet, with room for that of a line.
+fn roomy(alloc: Global) -> Result<String, AllocError>
+    ensures { IfOk result (λ line. string_bytes line ≡ []) }
+{
+    String::with_capacity(alloc, LINE_ROOM)
+}
 
 pub fn saved_line(alloc: Global, next: u64) -> Result<String, AllocError>
     ensures { IfOk result (λ line. string_bytes line ≡ saved_line next) }
@@ -19,7 +29,12 @@ pub fn saved_line(alloc: Global, next: u64) -> Result<String, AllocError>
 pub fn issued_line(alloc: Global, number: u64, t: &Issued) -> Result<String, AllocError>
     ensures { IfOk result (λ line. string_bytes line ≡ issued_line number t.now) }
 {
-    let mut line = format!(in alloc; "issued {} {} {} {}", number, t.entity, t.service, t.gid)?;
+    let mut line = roomy(alloc)?;
+    write!(
+        line,
+        "issued {} {} {} {}",
+        number, t.entity, t.service, t.gid
+    )?;
     write!(
         line,
         " {} {} {} \"{}\"\n",
@@ -71,7 +86,9 @@ pub fn resumed_line(alloc: Global, rank: u64, a: &Admitted) -> Result<String, Al
 fn session_text(alloc: Global, rank: u64, a: &Admitted) -> Result<String, AllocError>
     ensures { IfOk result (λ text. string_bytes text ≡ session_text rank a.now) }
 {
-    let mut text = format!(in alloc;
+    let mut text = roomy(alloc)?;
+    write!(
+        text,
         "{} {} {} c{} {}",
         a.daemon, a.session, a.epoch, rank, a.entity
     )?;
@@ -93,7 +110,12 @@ pub fn handled_line(alloc: Global, rank: u64, h: &Handled) -> Result<String, All
     ensures { IfOk result (λ line. string_bytes line ≡ handled_line rank h.now) }
 {
     let operation = operation_text(alloc, &h.operation)?;
-    let mut line = format!(in alloc; "handled {} {} {} c{}", h.daemon, h.session, h.epoch, rank)?;
+    let mut line = roomy(alloc)?;
+    write!(
+        line,
+        "handled {} {} {} c{}",
+        h.daemon, h.session, h.epoch, rank
+    )?;
     write!(line, " {} {} {}\n", h.seq, operation, h.outcome)?;
     Ok(line)
 }
