@@ -174,9 +174,10 @@ fn logs_in(
     let mark = own.mark();
     own.go_back(&before);
     let row = made?;
+    let change = KeyChange::of(alloc, &mark)?;
     Ok(NodeRow {
         row,
-        change: Some(KeyChange { mark }),
+        change: Some(change),
     })
 }
 

@@ -57,9 +57,10 @@ fn on_demand(
     let mark = own.mark();
     own.go_back(&before);
     let row = made?;
+    let change = KeyChange::of(alloc, &mark)?;
     Ok(NodeRow {
         row,
-        change: Some(KeyChange { mark }),
+        change: Some(change),
     })
 }
 

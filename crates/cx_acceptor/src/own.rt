@@ -37,10 +37,11 @@ pub struct Mark {
     pub saved: KeptState,
 }
 
-/// What a turn changes of the monitor's own: what a login does. Both states may be kept.
+/// What a turn changes of the monitor's own: what a login does. Both states may be kept. It is boxed: a change goes by value from call to
+/// call, mostly where there is none, and has the secrets of four services twice.
 #[derive(Drop)]
 pub struct KeyChange {
-    pub(crate) mark: Mark,
+    mark: Box<Mark>,
 }
 
 impl Model for KeyChange {
@@ -49,9 +50,23 @@ impl Model for KeyChange {
 
     ghost Value = { Mark };
 
-    ghost view = { λ c. c.mark };
+    ghost view = { λ c. c.mark.value };
 
-    ghost invariant = { λ c. IsKeptState c.mark.state × IsKeptState c.mark.saved };
+    ghost invariant = { λ c. IsKeptState c.mark.value.state × IsKeptState c.mark.value.saved };
+}
+
+impl KeyChange {
+    ghost use Rattle.std.specs.Prelude.{◌≡◌, IfOk};
+    ghost use Rattle.cx_rotate.specs.Keeping.{IsKeptState};
+
+    // The change to this mark. Where memory is wanting it is given up.
+    pub(crate) fn of(alloc: Global, mark: &Mark) -> Result<KeyChange, AllocError>
+        requires { IsKeptState mark.now.state × IsKeptState mark.now.saved }
+        ensures { IfOk result (λ change. change ≡ mark.now) }
+    {
+        let mark = Box::new(alloc, *mark)?;
+        Ok(KeyChange { mark })
+    }
 }
 
 impl Own {
@@ -180,6 +195,6 @@ impl Turner<Link> for Own {
     }
 
     fn settle(&mut self, change: KeyChange) {
-        self.go_back(&change.mark);
+        self.go_back(change.mark.as_ref());
     }
 }
