@@ -42,7 +42,7 @@ pub fn greeting(
     let banner = own_banner(alloc)?;
     let mut wire = BannerLink::new(alloc);
     wire.send(alloc, banner.bytes())?;
-    let link = Link::new(at.number, Stage::AwaitsBanner(wire));
+    let link = Link::new(alloc, at.number, Stage::AwaitsBanner(wire))?;
     Ok(cx_node::goes_on(alloc, link, banner, seals))
 }
 
@@ -65,7 +65,7 @@ pub(crate) fn on_banner(
         addr: nothing_said,
     };
     let sent = send_plain(alloc, link, 1, &hello)??;
-    let link = Link::new(at.number, Stage::AwaitsHello(sent.link));
+    let link = Link::new(alloc, at.number, Stage::AwaitsHello(sent.link))?;
     Ok(goes_on(alloc, link, sent.bytes, Items::new(alloc)))
 }
 
@@ -79,6 +79,6 @@ pub(crate) fn on_hello(
     ensures { Makes own.now at.now (wired at.now.number link AwaitsHello) (λ a. on_hello a read) result }
 {
     let _ = read?;
-    let link = Link::new(at.number, Stage::AwaitsRequest(link));
+    let link = Link::new(alloc, at.number, Stage::AwaitsRequest(link))?;
     Ok(goes_on(alloc, link, Blob::new(alloc), Items::new(alloc)))
 }

@@ -84,7 +84,7 @@ fn opens_to(
         cookie: 0,
     };
     let sent = send_secure(alloc, link, 9, &ident)??;
-    let link = Link::new(at.number, Stage::Open(sent.link, bearer));
+    let link = Link::new(alloc, at.number, Stage::Open(sent.link, bearer))?;
     Ok(goes_on(alloc, link, sent.bytes, sent.seals))
 }
 
@@ -121,6 +121,6 @@ pub(crate) fn on_session_reconnect(
 {
     let _ = read?;
     let sent = send_secure(alloc, link, 12, &SessionReset { full: true })??;
-    let link = Link::new(at.number, Stage::AwaitsIdent(sent.link, bearer));
+    let link = Link::new(alloc, at.number, Stage::AwaitsIdent(sent.link, bearer))?;
     Ok(goes_on(alloc, link, sent.bytes, sent.seals))
 }

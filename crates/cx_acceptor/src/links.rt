@@ -42,22 +42,23 @@ impl Stage {
     }
 }
 
-/// A live link of the monitor.
+/// A live link of the monitor. Its stage is boxed: a link goes by value from call to call, and a stage has all that came on it.
 #[derive(Drop)]
 pub struct Link {
     pub number: u32,
-    pub stage: Stage,
+    pub stage: Box<Stage>,
 }
 
 impl Link {
-    ghost use Rattle.std.specs.Prelude.{◌≡◌};
+    ghost use Rattle.std.specs.Prelude.{◌≡◌, IfOk};
     ghost use Rattle.cx_acceptor.specs.Stages.{link_held};
 
-    // The link of this number, in a stage.
-    pub(crate) fn new(number: u32, stage: Stage) -> Link
-        ensures { result ≡ link_held number stage }
+    // The link of this number, in a stage. Where memory is wanting it is given up.
+    pub(crate) fn new(alloc: Global, number: u32, stage: Stage) -> Result<Link, AllocError>
+        ensures { IfOk result (λ link. link ≡ link_held number stage) }
     {
-        Link { number, stage }
+        let stage = Box::new(alloc, stage)?;
+        Ok(Link { number, stage })
     }
 }
 
@@ -69,7 +70,7 @@ impl Model for Link {
 
     ghost use Rattle.cx_acceptor.specs.Stages.{link_held};
 
-    ghost view = { λ l. link_held l.number l.stage };
+    ghost view = { λ l. link_held l.number l.stage.value };
 }
 
 impl Numbered for Link {

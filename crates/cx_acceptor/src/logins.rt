@@ -99,7 +99,11 @@ fn awaits_proof(
     let challenge = at.draw.challenge();
     let sent = send_challenge(alloc, link, challenge)??;
     let offered = Offered::new(hello.name, key, challenge);
-    let link = Link::new(at.number, Stage::AwaitsProof(sent.link, offered, hello.gid));
+    let link = Link::new(
+        alloc,
+        at.number,
+        Stage::AwaitsProof(sent.link, offered, hello.gid),
+    )?;
     Ok(goes_on(alloc, link, sent.bytes, Items::new(alloc)))
 }
 
@@ -274,7 +278,11 @@ fn awaits_signature(
         session,
         last: 0,
     };
-    let link = Link::new(at.number, Stage::AwaitsSignature(finished.signing, bearer));
+    let link = Link::new(
+        alloc,
+        at.number,
+        Stage::AwaitsSignature(finished.signing, bearer),
+    )?;
     Ok(Row {
         link: Some(link),
         sends: finished.bytes,

@@ -102,8 +102,9 @@ fn stays_open(
     bearer.last = seq;
     let mut seals = made.seals;
     logs(alloc, &mut seals, made.sealed, sent.seals)?;
+    let link = Link::new(alloc, at.number, Stage::Open(sent.link, bearer))?;
     Ok(Row {
-        link: Some(Link::new(at.number, Stage::Open(sent.link, bearer))),
+        link: Some(link),
         sends: sent.bytes,
         save: made.save,
         entries: made.entries,

@@ -38,7 +38,7 @@ pub fn turned(
     ensures same { own.new ≡ own.old }
 {
     let Link { number: _, stage } = link;
-    by_stage(alloc, own, at, stage)
+    by_stage(alloc, own, at, Box::into_inner(stage))
 }
 
 // The turn of a link in this stage.
@@ -72,7 +72,10 @@ fn banner_turn(
     ensures { IfOk result (IsMonitorTurn own.now at.now.reading at.now.draw.now.bytes (wired at.now.number link AwaitsBanner)) }
 {
     match link.turn() {
-        BannerTurn::Waits(link) => Ok(Came::Waits(Link::new(at.number, Stage::AwaitsBanner(link)))),
+        BannerTurn::Waits(link) => {
+            let link = Link::new(alloc, at.number, Stage::AwaitsBanner(link))?;
+            Ok(Came::Waits(link))
+        }
         BannerTurn::Refuses(why) => Ok(Came::Refuses(why, Items::new(alloc))),
         BannerTurn::Takes(link) => {
             let made = on_banner(alloc, own, at, link);
@@ -96,7 +99,10 @@ fn hello_turn(
     ensures { IfOk result (IsMonitorTurn own.now at.now.reading at.now.draw.now.bytes (wired at.now.number link AwaitsHello)) }
 {
     match link.turn(alloc)? {
-        LinkTurn::Waits(link) => Ok(Came::Waits(Link::new(at.number, Stage::AwaitsHello(link)))),
+        LinkTurn::Waits(link) => {
+            let link = Link::new(alloc, at.number, Stage::AwaitsHello(link))?;
+            Ok(Came::Waits(link))
+        }
         LinkTurn::Refuses(why) => Ok(Came::Refuses(why, Items::new(alloc))),
         LinkTurn::Takes(link, frame) => {
             let hello = due::<Hello>(alloc, 1, &frame)?;
@@ -121,7 +127,10 @@ fn request_turn(
     ensures { IfOk result (IsMonitorTurn own.now at.now.reading at.now.draw.now.bytes (wired at.now.number link AwaitsRequest)) }
 {
     match link.turn(alloc)? {
-        LinkTurn::Waits(link) => Ok(Came::Waits(Link::new(at.number, Stage::AwaitsRequest(link)))),
+        LinkTurn::Waits(link) => {
+            let link = Link::new(alloc, at.number, Stage::AwaitsRequest(link))?;
+            Ok(Came::Waits(link))
+        }
         LinkTurn::Refuses(why) => Ok(Came::Refuses(why, Items::new(alloc))),
         LinkTurn::Takes(link, frame) => {
             let request = due::<AuthRequest>(alloc, 2, &frame)?;
@@ -150,10 +159,10 @@ fn proof_turn(
     ensures same { own.new ≡ own.old }
 {
     match link.turn(alloc)? {
-        LinkTurn::Waits(link) => Ok(Came::Waits(Link::new(
-            at.number,
-            Stage::AwaitsProof(link, offered, gid),
-        ))),
+        LinkTurn::Waits(link) => {
+            let link = Link::new(alloc, at.number, Stage::AwaitsProof(link, offered, gid))?;
+            Ok(Came::Waits(link))
+        }
         LinkTurn::Refuses(why) => Ok(Came::Refuses(why, Items::new(alloc))),
         LinkTurn::Takes(link, frame) => {
             let more = due::<AuthRequestMore>(alloc, 5, &frame)?;
@@ -180,10 +189,10 @@ fn signature_turn(
 {
     let mut opened = Items::new(alloc);
     match signing.turn(alloc, &mut opened)? {
-        LinkTurn::Waits(signing) => Ok(Came::Waits(Link::new(
-            at.number,
-            Stage::AwaitsSignature(signing, bearer),
-        ))),
+        LinkTurn::Waits(signing) => {
+            let link = Link::new(alloc, at.number, Stage::AwaitsSignature(signing, bearer))?;
+            Ok(Came::Waits(link))
+        }
         LinkTurn::Refuses(why) => Ok(Came::Refuses(why, opened)),
         LinkTurn::Takes(signing, frame) => {
             let found = due::<AuthSignature>(alloc, 7, &frame)?;
@@ -204,10 +213,10 @@ fn ident_turn(
 {
     let mut opened = Items::new(alloc);
     match link.turn(alloc, &mut opened)? {
-        LinkTurn::Waits(link) => Ok(Came::Waits(Link::new(
-            at.number,
-            Stage::AwaitsIdent(link, bearer),
-        ))),
+        LinkTurn::Waits(link) => {
+            let link = Link::new(alloc, at.number, Stage::AwaitsIdent(link, bearer))?;
+            Ok(Came::Waits(link))
+        }
         LinkTurn::Refuses(why) => Ok(Came::Refuses(why, opened)),
         LinkTurn::Takes(link, frame) => {
             let made = on_ident(alloc, own, at, link, bearer, &frame);
@@ -229,7 +238,10 @@ fn open_turn(
 {
     let mut opened = Items::new(alloc);
     match link.turn(alloc, &mut opened)? {
-        LinkTurn::Waits(link) => Ok(Came::Waits(Link::new(at.number, Stage::Open(link, bearer)))),
+        LinkTurn::Waits(link) => {
+            let link = Link::new(alloc, at.number, Stage::Open(link, bearer))?;
+            Ok(Came::Waits(link))
+        }
         LinkTurn::Refuses(why) => Ok(Came::Refuses(why, opened)),
         LinkTurn::Takes(link, frame) => {
             let made = on_open(alloc, own, at, link, bearer, &frame);

@@ -51,6 +51,6 @@ fn stays_open(
         (λ a. secure_sent a (keys_alone link.keys) (λ behind. Open behind bearer) [] (upkept link.keys frame.now)) result }
 {
     let sent = upkept(alloc, link, frame)??;
-    let link = Link::new(at.number, Stage::Open(sent.link, bearer));
+    let link = Link::new(alloc, at.number, Stage::Open(sent.link, bearer))?;
     Ok(goes_on(alloc, link, sent.bytes, sent.seals))
 }
