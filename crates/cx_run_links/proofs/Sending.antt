@@ -1,20 +1,20 @@
 -- Pieces are sent, and links are shut, one after another.
-use Rattle.std.proofs.Common.{◌≡◌, ℕ, ◌+◌, ◌<◌, List, [], ◌∷◌, ◌++◌, length, get_or, take, refl, ap, ◌∙◌}
+use Rattle.std.proofs.Common.{◌≡◌, ℕ, ◌+◌, ◌<◌, List, [], ◌∷◌, ◌++◌, length, get_or, take, Result, Ok, Err, refl, ap, ◌∙◌}
+use Rattle.std.specs.Prelude.{OnErr}
 use Rattle.std.proofs.lemmas.List.{take_more}
 use Rattle.cx_base.specs.declared.nodes.NodeName.{NodeName}
 use Rattle.cx_run.specs.Wires.{Wire, wire_of}
 use Rattle.cx_run.specs.Worlds.{sends_all, sends_piece, shuts_all, shuts_link}
 use Rattle.cx_steps.specs.declared.effects.Piece.{Piece}
 
-sends_behind : (who : NodeName) (wires : List Wire) (pieces : List Piece) (piece : Piece)
+pub on_err : {X E A : Type 0} (r : Result X E) → A → OnErr r A
+on_err (Ok x) a = tt
+on_err (Err e) a = a
+
+pub sends_behind : (who : NodeName) (wires : List Wire) (pieces : List Piece) (piece : Piece)
     → sends_all who wires (pieces ++ piece ∷ []) ≡ sends_piece who (sends_all who wires pieces) piece (wire_of piece.link (sends_all who wires pieces))
 sends_behind who wires [] piece = refl
 sends_behind who wires (p ∷ pieces) piece = sends_behind who (sends_piece who wires p (wire_of p.link wires)) pieces piece
-
-pub sends_more : (who : NodeName) (wires : List Wire) (pieces : List Piece) (i : ℕ) (piece : Piece) → i < length pieces → get_or pieces i piece ≡ piece
-    → sends_all who wires (take (i + 1) pieces) ≡ sends_piece who (sends_all who wires (take i pieces)) piece (wire_of piece.link (sends_all who wires (take i pieces)))
-sends_more who wires pieces i piece h e =
-    ap (λ (ps : List Piece). sends_all who wires ps) (take_more pieces i piece h ∙ ap (λ (p : Piece). take i pieces ++ p ∷ []) e) ∙ sends_behind who wires (take i pieces) piece
 
 shuts_behind : (who : NodeName) (wires : List Wire) (numbers : List ℕ) (number : ℕ)
     → shuts_all who wires (numbers ++ number ∷ []) ≡ shuts_link who (shuts_all who wires numbers) (wire_of number (shuts_all who wires numbers))

@@ -5,7 +5,7 @@ ghost use Rattle.std.specs.Option.{option_copied};
 ghost use Rattle.cx_run.specs.Wires.{new_end};
 ghost use Rattle.cx_run_links.specs.Ends.{arriving, sent_by, staying};
 
-use cx_base::{Blob, Duplicate, Items};
+use cx_base::{Blob, Items};
 use std::alloc::{AllocError, Global};
 use std::marker::Model;
 
@@ -69,15 +69,14 @@ impl End {
     pub(crate) fn send(
         &mut self,
         alloc: Global,
-        piece: &Blob,
+        piece: Blob,
         reaches: bool,
     ) -> Result<(), AllocError>
         requires { reaches ≡ false → self.old.under_way ≡ [] }
-        ensures ok { OnOk result (self.new ≡ sent_by reaches self.old piece.now) }
+        ensures ok { OnOk result (self.new ≡ sent_by reaches self.old piece) }
         ensures err { OnErr result (self.new ≡ self.old) }
     {
-        let copied = piece.copy(alloc)?;
-        self.ever.push(alloc, copied)?;
+        self.ever.push(alloc, piece)?;
         if !reaches {
             self.came = self.ever.all().len();
             self.taken = 0;

@@ -150,8 +150,8 @@ impl Wire {
     }
 
     /// A piece is sent from a side.
-    pub(crate) fn send(&mut self, alloc: Global, side: Side, piece: &Blob) -> Result<(), AllocError>
-        ensures ok { OnOk result (self.new ≡ sent_from self.old side piece.now) }
+    pub(crate) fn send(&mut self, alloc: Global, side: Side, piece: Blob) -> Result<(), AllocError>
+        ensures ok { OnOk result (self.new ≡ sent_from self.old side piece) }
         ensures err { OnErr result (self.new ≡ self.old) }
         ensures number { self.new.number ≡ self.old.number }
     {

@@ -13,7 +13,7 @@ ghost use Rattle.cx_run_links.specs.Tables.{AreNumbered, IsSentInPart, IsShutInP
 use crate::busy_links::Busy;
 use crate::places::place_of;
 use crate::wire::Wire;
-use cx_base::{Blob, NodeName};
+use cx_base::{Blob, Items, NodeName};
 use cx_line_words::Side;
 use cx_steps::Piece;
 use std::alloc::{AllocError, Global};
@@ -148,27 +148,28 @@ impl Wires {
         &mut self,
         alloc: Global,
         who: &NodeName,
-        pieces: &[Piece],
+        pieces: Items<Piece>,
     ) -> Result<(), AllocError>
-        ensures ok { OnOk result (self.new ≡ sends_all who.now self.old pieces.now) }
-        ensures err { OnErr result (IsSentInPart who.now self.old pieces.now self.new) }
+        ensures ok { OnOk result (self.new ≡ sends_all who.now self.old pieces) }
+        ensures err { OnErr result (IsSentInPart who.now self.old pieces self.new) }
     {
-        for piece in pieces {
+        for piece in pieces.into_vec() {
             self.send_piece(alloc, who, piece)?;
         }
         Ok(())
     }
 
-    fn send_piece(&mut self, alloc: Global, who: &NodeName, piece: &Piece) -> Result<(), AllocError>
-        ensures ok { OnOk result (self.new ≡ sends_piece who.now self.old piece.now (wire_of piece.now.link self.old)) }
+    fn send_piece(&mut self, alloc: Global, who: &NodeName, piece: Piece) -> Result<(), AllocError>
+        ensures ok { OnOk result (self.new ≡ sends_piece who.now self.old piece (wire_of piece.link self.old)) }
         ensures err { OnErr result (self.new ≡ self.old) }
     {
-        match place_of(self.held.as_slice(), u64::from(piece.link)) {
+        let Piece { link, bytes } = piece;
+        match place_of(self.held.as_slice(), u64::from(link)) {
             Some(place) => {
-                self.busy.add(u64::from(piece.link))?;
+                self.busy.add(u64::from(link))?;
                 let wire = &mut self.held[place];
                 let side = wire.side_of(who);
-                wire.send(alloc, side, &piece.bytes)
+                wire.send(alloc, side, bytes)
             }
             None => Ok(()),
         }

@@ -20,7 +20,7 @@ use Rattle.cx_steps.specs.Nothing.{nothing}
 use Rattle.cx_steps.specs.declared.effects.Effects.{Effects}
 use Rattle.cx_steps.specs.declared.seals.Logged.{Logged}
 use Rattle.cx_steps.specs.declared.seals.SealEntry.{SealEntry}
-use Rattle.cx_world.specs.Carried.{Began, Carries, HasStirred, IsGivenTo, IsNoted}
+use Rattle.cx_world.specs.Carried.{Began, Carries, HasStirred, IsGivenTo, IsNoted, without_told}
 use Rattle.cx_world.specs.Logs.{logged_at}
 use Rattle.cx_world.specs.declared.world.World.{World as Held}
 
@@ -59,9 +59,13 @@ stirs_same : (seen : Option ℕ) (old new : Bool) (past : List Happening) → ne
 stirs_same None old new past e k = tt
 stirs_same (Some n) old new past e k = (k.0, e ∙ k.1)
 
+-- what an event came to, once it was told
+abbrev pub told : Made → Made
+told made = record made { out = without_told made.out }
+
 module _ {handlers : Handlers} (b : Began handlers) (seen : Option ℕ) (old new : Held) (nodes : HeldNodes) (who : NodeName) (made : Made)
     (noted : (let there : Held = record old { nodes = nodes } in IsNoted who made there new)) (w : World) (k : Carries b seen old w) (input : Input) where
-  nothing_came : IsGiven handlers nodes made None (given w input None) → IsGivenTo b seen new made (given w input None)
+  nothing_came : IsGiven handlers nodes made None (given w input None) → IsGivenTo b seen new (told made) (given w input None)
   nothing_came g =
       let out : made.out ≡ nothing = g.out in
       let quiet : made.happened ≡ false = g.happened in
@@ -83,11 +87,11 @@ module _ {handlers : Handlers} (b : Began handlers) (seen : Option ℕ) (old new
           };
           stirred = stirs_same seen old.stirred new.stirred w.past (noted.stirred ∙ ap (λ (x : Bool). x || old.stirred) quiet) k.stirred;
         };
-        out = g.out;
+        out = ap without_told g.out;
         failed = g.failed;
       }
 
-  something_came : (post : Post) → post_of who w.posts ≡ Some post → IsGiven handlers nodes made (Some post) (given w input (Some post)) → IsGivenTo b seen new made (given w input (Some post))
+  something_came : (post : Post) → post_of who w.posts ≡ Some post → IsGiven handlers nodes made (Some post) (given w input (Some post)) → IsGivenTo b seen new (told made) (given w input (Some post))
   something_came post found g =
       let h : Happening = happening w input post in
       let named : post.node ≡ who = same_node_is post.node who (key_found (λ (s : Post). s.node) same_node w.posts who post found) in
@@ -122,13 +126,13 @@ module _ {handlers : Handlers} (b : Began handlers) (seen : Option ℕ) (old new
           };
           stirred = stirs_more seen old.stirred new.stirred w.past h (noted.stirred ∙ ap (λ (x : Bool). x || old.stirred) happens) k.stirred;
         };
-        out = g.out;
+        out = ap without_told g.out;
         failed = g.failed;
       }
 
-  pub given_to : IsGiven handlers nodes made (post_of who w.posts) (gives w who input) → IsGivenTo b seen new made (gives w who input)
+  pub given_to : IsGiven handlers nodes made (post_of who w.posts) (gives w who input) → IsGivenTo b seen new (told made) (gives w who input)
   given_to g = by (post_of who w.posts) refl g
     where
-      by : (post : Option Post) → post_of who w.posts ≡ post → IsGiven handlers nodes made post (given w input post) → IsGivenTo b seen new made (given w input post)
+      by : (post : Option Post) → post_of who w.posts ≡ post → IsGiven handlers nodes made post (given w input post) → IsGivenTo b seen new (told made) (given w input post)
       by None e g = nothing_came g
       by (Some post) e g = something_came post e g

@@ -1,5 +1,5 @@
 -- What the code of a run holds, and which worlds of the rules it carries.
-use Rattle.std.specs.Prelude.{ℕ, ◌≡◌, ◌≤◌, ◌==◌, ◌||◌, not, Bool, List, ◌++◌, length, map, Option, Some, None}
+use Rattle.std.specs.Prelude.{ℕ, ◌≡◌, ◌≤◌, ◌==◌, ◌||◌, not, Bool, List, [], ◌++◌, length, map, Option, Some, None}
 use Rattle.cx_base.specs.Names.{Name}
 use Rattle.cx_desk.specs.Handlers.{Handlers}
 use Rattle.cx_journal.specs.declared.entries.Entry.{Entry}
@@ -10,6 +10,7 @@ use Rattle.cx_premises.specs.Ledgers.{StandsFor}
 use Rattle.cx_run_links.specs.cx_run.specs.Deliveries.{Given}
 use Rattle.cx_run_links.specs.cx_run.specs.Happenings.{Happening, Nodes, journal_from, nodes_behind, seals_from}
 use Rattle.cx_run_links.specs.cx_run.specs.Worlds.{World}
+use Rattle.cx_steps.specs.declared.effects.Effects.{Effects}
 use Rattle.cx_steps.specs.declared.seals.Logged.{Logged}
 use Rattle.cx_steps.specs.declared.seals.SealEntry.{SealEntry}
 use Rattle.cx_world.specs.Logs.{logged_at}
@@ -51,10 +52,14 @@ Makes handlers old new change = (b : Began handlers) (seen : Option ℕ) (w : Wo
 abbrev pub MakesAlone : Handlers → Held → Held → (World → World) → Type 0
 MakesAlone handlers old new change = (b : Began handlers) (w : World) → Carries b None old w → Carries b None new (change w)
 
--- what an event came to is what the definition gives, and the world behind it is carried
+-- the effects of an event without what is entered and logged
+abbrev pub without_told : Effects → Effects
+without_told out = record out { entries = []; seals = [] }
+
+-- what an event came to is what the definition gives, of which entries and seals were told, and the world behind it is carried
 pub record IsGivenTo {handlers : Handlers} (b : Began handlers) (seen : Option ℕ) (held : Held) (made : Made) (g : Given) : Type 0 where
   pub world : Carries b seen held g.world
-  pub out : made.out ≡ g.out
+  pub out : made.out ≡ without_told g.out
   pub failed : made.failed ≡ g.failed
 
 -- what an event came to is entered and logged; the nodes are those behind it

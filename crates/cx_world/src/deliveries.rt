@@ -40,9 +40,10 @@ impl World {
         ensures { OnOk result (Makes (handlers_of desk.now) self.old self.new (turns_all who.now number)) }
     {
         for _ in 0..u64::MAX {
-            let made = self.give(alloc, desk, who, Event::Turn(number))?;
-            self.follow(alloc, desk, who, &made)?;
-            if !made.out.turned {
+            let mut made = self.give(alloc, desk, who, Event::Turn(number))?;
+            let turned = made.out.turned;
+            self.follow(alloc, desk, who, &mut made)?;
+            if !turned {
                 return Ok(());
             }
         }

@@ -153,15 +153,15 @@ impl World {
         alloc: Global,
         desk: &Desk,
         who: &NodeName,
-        made: &Made,
+        made: &mut Made,
     ) -> Result<(), AllocError>
-        ensures { (b : Began (handlers_of desk.now)) (seen : Option ℕ) (g : Given) → IsGivenTo b seen self.old made.now g → OnOk result (Carries b seen self.new (followed who.now g)) }
+        ensures { (b : Began (handlers_of desk.now)) (seen : Option ℕ) (g : Given) → IsGivenTo b seen self.old made.old g → OnOk result (Carries b seen self.new (followed who.now g)) }
     {
         if made.failed {
             self.left = None;
             return self.restart(alloc, desk, who);
         }
-        self.carry(alloc, who, &made.out)?;
+        self.carry(alloc, who, &mut made.out)?;
         self.open_all(alloc, desk, who, made.out.opens.all())
     }
 
@@ -176,8 +176,8 @@ impl World {
         requires { IsWritableInput (input_of event) }
         ensures { OnOk result (Makes (handlers_of desk.now) self.old self.new (λ w. comes w who.now (input_of event.entry))) }
     {
-        let made = self.give(alloc, desk, who, event)?;
-        self.follow(alloc, desk, who, &made)?;
+        let mut made = self.give(alloc, desk, who, event)?;
+        self.follow(alloc, desk, who, &mut made)?;
         Ok(())
     }
 }

@@ -7,7 +7,7 @@ ghost use Rattle.cx_steps.specs.declared.seals.Logged.{Logged as LogEntry};
 ghost use Rattle.cx_steps.specs.declared.seals.SealEntry.{SealEntry as Seal};
 ghost use Rattle.cx_world.specs.Logs.{logged_at};
 
-use cx_base::{Duplicate, NodeName};
+use cx_base::{Items, NodeName};
 use cx_journal::{Entry, Journal};
 use cx_premises::Ledger;
 use cx_steps::{Logged, SealEntry};
@@ -24,30 +24,30 @@ pub struct Record {
 pub(crate) fn enter(
     alloc: Global,
     journal: &mut Journal,
-    entries: &[Entry],
+    entries: Items<Entry>,
 ) -> Result<(), AllocError>
-    ensures { OnOk result (journal.new ≡ journal.old ++ entries.now) }
+    ensures { OnOk result (journal.new ≡ journal.old ++ entries) }
 {
-    for entry in entries {
-        let copied = entry.copy(alloc)?;
-        journal.push(alloc, copied)?;
+    for entry in entries.into_vec() {
+        journal.push(alloc, entry)?;
     }
     Ok(())
 }
 
 // A node logs these at a line.
+#[tactic(auto, using(crate::proofs::Logging::logs_next))]
 pub(crate) fn log(
     alloc: Global,
     ledger: &mut Ledger,
     who: &NodeName,
     line: u32,
-    seals: &[SealEntry],
+    seals: Items<SealEntry>,
 ) -> Result<(), AllocError>
     ensures { (leaked : List Name) (log : List LogEntry) → StandsFor ledger.old leaked log
-        → OnOk result (StandsFor ledger.new leaked (log ++ map (λ (e : Seal). logged_at who.now line e) seals.now)) }
+        → OnOk result (StandsFor ledger.new leaked (log ++ map (λ (e : Seal). logged_at who.now line e) seals)) }
 {
-    for seal in seals {
-        ledger.enter_at(alloc, who, line, seal)?;
+    for seal in seals.into_vec() {
+        ledger.take_over(alloc, who, line, seal)?;
     }
     Ok(())
 }

@@ -3,13 +3,14 @@
 ghost use Rattle.std.specs.Prelude.{◌≡◌, ◌||◌};
 
 use crate::records::{Record, enter, log};
-use cx_base::NodeName;
+use cx_base::{Items, NodeName};
 use cx_desk::Desk;
 use cx_line_words::LeftState;
 use cx_run_links::Wires;
 use cx_run_nodes::{Made, Nodes};
 use cx_steps::{Effects, Event};
 use std::alloc::{AllocError, Global};
+use std::mem;
 
 fn either(a: bool, b: bool) -> bool
     ensures { result ≡ (a || b) }
@@ -37,7 +38,7 @@ impl World {
     ghost use Rattle.cx_run_links.specs.cx_run.specs.Deliveries.{gives, tells};
     ghost use Rattle.cx_run_links.specs.cx_run.specs.Worlds.{World as RunWorld, carried};
     ghost use Rattle.cx_world.specs.Coming.{IsWritableInput};
-    ghost use Rattle.cx_world.specs.Carried.{Began, Carries, IsGivenTo, IsNoted, Makes};
+    ghost use Rattle.cx_world.specs.Carried.{Began, Carries, IsGivenTo, IsNoted, Makes, without_told};
 
     /// One event of one node.
     pub(crate) fn give(
@@ -51,37 +52,36 @@ impl World {
         ensures { (b : Began (handlers_of desk.now)) (seen : Option ℕ) (w : RunWorld) → Carries b seen self.old w
             → IfOk result (λ made. IsGivenTo b seen self.new made (gives w who.now (input_of event.entry))) }
     {
-        let made = self.nodes.step(alloc, desk, who, event, self.left)?;
-        self.note(alloc, who, &made)?;
+        let mut made = self.nodes.step(alloc, desk, who, event, self.left)?;
+        self.note(alloc, who, &mut made)?;
         Ok(made)
     }
 
-    // What an event came to is entered and logged.
-    fn note(&mut self, alloc: Global, who: &NodeName, made: &Made) -> Result<(), AllocError>
-        ensures { OnOk result (IsNoted who.now made.now self.old self.new) }
+    // What an event came to is entered and logged: what that takes is moved out of it.
+    fn note(&mut self, alloc: Global, who: &NodeName, made: &mut Made) -> Result<(), AllocError>
+        ensures noted { OnOk result (IsNoted who.now made.old self.old self.new) }
+        ensures left { OnOk result (made.new ≡ record made.old { out = without_told made.old.out }) }
     {
         self.stirred = either(made.happened, self.stirred);
-        enter(alloc, &mut self.told.journal, made.out.entries.all())?;
-        log(
-            alloc,
-            &mut self.told.ledger,
-            who,
-            self.line,
-            made.out.seals.all(),
-        )?;
+        let entries = mem::replace(&mut made.out.entries, Items::new(alloc));
+        let seals = mem::replace(&mut made.out.seals, Items::new(alloc));
+        enter(alloc, &mut self.told.journal, entries)?;
+        log(alloc, &mut self.told.ledger, who, self.line, seals)?;
         Ok(())
     }
 
-    /// What an event sends and shuts is carried out.
+    /// What an event sends and shuts is carried out: the pieces are moved out of it.
     pub(crate) fn carry(
         &mut self,
         alloc: Global,
         who: &NodeName,
-        out: &Effects,
+        out: &mut Effects,
     ) -> Result<(), AllocError>
-        ensures { OnOk result ((handlers : Handlers) → Makes handlers self.old self.new (λ w. carried w who.now out.now)) }
+        ensures carried { OnOk result ((handlers : Handlers) → Makes handlers self.old self.new (λ w. carried w who.now out.old)) }
+        ensures opens { out.new.opens ≡ out.old.opens }
     {
-        self.wires.send(alloc, who, out.sends.all())?;
+        let sends = mem::replace(&mut out.sends, Items::new(alloc));
+        self.wires.send(alloc, who, sends)?;
         self.wires.shut(who, out.shuts.all())?;
         Ok(())
     }
@@ -97,7 +97,7 @@ impl World {
         requires { IsWritableInput (input_of event) }
         ensures { OnOk result (Makes (handlers_of desk.now) self.old self.new (λ w. tells w who.now (input_of event.entry))) }
     {
-        let made = self.give(alloc, desk, who, event)?;
-        self.carry(alloc, who, &made.out)
+        let mut made = self.give(alloc, desk, who, event)?;
+        self.carry(alloc, who, &mut made.out)
     }
 }

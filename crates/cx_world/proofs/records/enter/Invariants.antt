@@ -1,5 +1,5 @@
-use Rattle.std.proofs.Common.{◌≡◌, ◌++◌, take}
+use Rattle.std.proofs.Common.{◌≡◌, ◌++◌}
 use Rattle.cx_world.proofs.records.enter.Given as goal
 
 abbrev pub invariant-loop-entry : goal.invariant-loop-entry
-invariant-loop-entry l = l.journal ≡ l.initial.journal ++ take l.entry-index l.entries
+invariant-loop-entry l = l.journal ≡ l.initial.journal ++ l.yielded

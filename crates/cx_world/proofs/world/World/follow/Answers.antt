@@ -30,5 +30,5 @@ returns g c =
     let N : ℕ → Type 0 = λ n. Carries b seen new (open_all v (opened_wires who n out.opens)) in
     let O : List Peer → Type 0 = λ ps. Carries b seen new (open_all v (opened_wires who (length v.wires) ps)) in
     on_ok_weaker c.open_all.result
-    (λ makes. rw failed (subst P k.out (subst N (carried_count g.world who out) (subst O c.all.ensures (makes b seen v (c.in_ok-carry.ensures _ b seen g.world k.world))))))
+    (λ makes. rw failed (subst P k.out (subst N (carried_count g.world who out) (subst O (c.all.ensures ∙ c.carry.ensures.opens) (makes b seen v (c.in_ok-carry.ensures.carried _ b seen g.world k.world))))))
     c.open_all.ensures

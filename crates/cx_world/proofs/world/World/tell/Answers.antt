@@ -17,4 +17,4 @@ returns g c =
     let g = c.in_ok-made.ensures b seen w k in
     let P : Effects → Type 0 = λ out. Carries b seen c.carry.new.self (carried (gives w c.args.who.now input).world c.args.who.now out) in
     subst P g.out (makes (handlers_of c.args.desk.now) b seen (gives w c.args.who.now input).world g.world))
-    c.carry.ensures
+    c.carry.ensures.carried

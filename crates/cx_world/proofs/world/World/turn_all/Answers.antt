@@ -14,13 +14,13 @@ loop-preserved g c = λ b seen w k.
     let t : IsTurning b seen c.args.who.now c.args.number w c.loop.self = c.loop.invariant b seen w k in
     let given : IsGivenTo b seen c.give.new.self c.in_ok-made.made (gives t.world c.args.who.now (Turn c.args.number)) = c.in_ok-made.ensures b seen t.world t.carried in
     turned b seen c.args.who.now c.args.number w c.loop.self c.follow.new.self t
-    (sym (ap (λ (o : Effects). o.turned) given.out) ∙ c.if-not-made.false)
+    (sym (ap (λ (o : Effects). o.turned) given.out) ∙ c.if-not-turned.false)
     (c.in_ok-follow.ensures b seen (gives t.world c.args.who.now (Turn c.args.number)) given)
 
-pub returns-then-not-made : goal.returns-then-not-made
-returns-then-not-made g c = λ b seen w k.
+pub returns-then-not-turned : goal.returns-then-not-turned
+returns-then-not-turned g c = λ b seen w k.
     let t : IsTurning b seen c.args.who.now c.args.number w c.loop.self = c.loop.invariant b seen w k in
     let given : IsGivenTo b seen c.give.new.self c.in_ok-made.made (gives t.world c.args.who.now (Turn c.args.number)) = c.in_ok-made.ensures b seen t.world t.carried in
     rested b seen c.args.who.now c.args.number w c.loop.self c.follow.new.self t
-    (sym (ap (λ (o : Effects). o.turned) given.out) ∙ c.if-not-made.true)
+    (sym (ap (λ (o : Effects). o.turned) given.out) ∙ c.if-not-turned.true)
     (c.in_ok-follow.ensures b seen (gives t.world c.args.who.now (Turn c.args.number)) given)
