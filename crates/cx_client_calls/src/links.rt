@@ -104,7 +104,7 @@ fn by_kind(
 {
     match link.kind {
         Kind::Monitor(link) => monitor_turn(alloc, own, at, link),
-        Kind::Daemon(link) => daemon_turn(alloc, own, at, link),
+        Kind::Daemon(link) => daemon_turn(alloc, own, at, Box::into_inner(link)),
     }
 }
 
@@ -139,8 +139,9 @@ fn daemon_turn(
     let daemon = link.callee().daemon.copy(alloc)?;
     let asker = own.asker();
     let count = asker.global_seq();
-    let came = operations::turned(alloc, asker, count, own.session_with(&daemon), at, link)?;
-    Ok(came_of_daemon(daemon, came))
+    let made = operations::turned(alloc, asker, count, own.session_with(&daemon), at, link)?;
+    let came = came_of_daemon(alloc, daemon, made)?;
+    Ok(came)
 }
 
 // ---- what a turn came to is settled

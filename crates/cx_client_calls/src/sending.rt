@@ -190,7 +190,8 @@ fn sent_row(
     ensures number { IfOk result (λ row. IfSome row.link (λ link. link.number ≡ at.now.number)) }
 {
     let row = cx_calling_operations::sends(alloc, own.asker(), at, link, number, operation)?;
-    enters_first(alloc, sent, of_daemon(row))
+    let made = of_daemon(alloc, row)?;
+    enters_first(alloc, sent, made)
 }
 
 fn enters_first<L: Drop>(alloc: Global, first: Entry, row: Row<L>) -> Result<Row<L>, AllocError>

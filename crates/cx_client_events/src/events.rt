@@ -129,7 +129,7 @@ pub fn goes(
     links.give_up();
     match link.kind {
         Kind::Monitor(link) => told_lost(alloc, own, number, link.is_open()),
-        Kind::Daemon(link) => call_gone(alloc, own, number, &link),
+        Kind::Daemon(link) => call_gone(alloc, own, number, link.as_ref()),
     }
 }
 

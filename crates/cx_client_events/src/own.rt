@@ -193,7 +193,7 @@ impl Own {
     {
         match change {
             Change::Asked(change) => change.settle(&mut self.asker),
-            Change::Called(daemon, change) => self.settle_call(&daemon, change),
+            Change::Called(daemon, change) => self.settle_call(&daemon, change.unboxed()),
         }
     }
 
@@ -235,7 +235,7 @@ impl Own {
             }
             Purpose::Call(called) => {
                 let row = call_greeting(alloc, at.number, called)?;
-                Ok(of_daemon(row))
+                of_daemon(alloc, row)
             }
         }
     }

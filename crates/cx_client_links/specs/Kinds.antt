@@ -11,4 +11,4 @@ ClientLink = Link ClientStage
 -- a link as the rules have it
 abbrev pub link_held : Kind → ClientLink
 link_held (Monitor link) = of_kind ToMonitor link
-link_held (Daemon link) = of_kind ToDaemon link
+link_held (Daemon link) = of_kind ToDaemon link.value

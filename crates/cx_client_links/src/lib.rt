@@ -7,7 +7,7 @@ mod links;
 mod scans;
 
 pub use dials::{Dial, Dials, Purpose};
-pub use kinds::{Change, came_of_daemon, came_of_monitor, of_daemon, of_monitor};
+pub use kinds::{BoxedCallChange, Change, came_of_daemon, came_of_monitor, of_daemon, of_monitor};
 pub use links::{Kind, Link};
 pub use scans::{are_at_rest, calls, first_call, first_open, numbers_to_monitor, shut_all};
 
@@ -28,6 +28,7 @@ fn all_are_sendable() {
     is_sendable::<Kind>();
     is_sendable::<Link>();
     is_sendable::<Change>();
+    is_sendable::<BoxedCallChange>();
     is_sendable::<Purpose>();
     is_sendable::<Dial>();
     is_sendable::<Dials>();

@@ -16,7 +16,8 @@ use std::marker::Model;
 #[derive(Drop)]
 pub enum Kind {
     Monitor(connector::Link),
-    Daemon(calls::Link),
+    /// It is boxed: a link goes by value from call to call, also where it is to the monitor.
+    Daemon(Box<calls::Link>),
 }
 
 /// A live link of a client.
@@ -116,7 +117,7 @@ impl Link {
                     return None;
                 }
                 if link.callee().daemon == *daemon {
-                    Some(link)
+                    Some(link.as_ref())
                 } else {
                     None
                 }

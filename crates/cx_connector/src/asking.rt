@@ -13,7 +13,7 @@ ghost use Rattle.cx_connector.specs.Stages.{open_link};
 
 use crate::links::{Link, Stage};
 use crate::making::named;
-use crate::rows::Change;
+use crate::rows::BoxedChange;
 use cx_base::{Duplicate, Items};
 use cx_holdings::Asker;
 use cx_link::SecureLink;
@@ -35,7 +35,7 @@ pub fn asks_tickets(
     requires open { is_open link.now.stage ≡ true }
     ensures { IfOk result (AsksTickets asker.now at.now link.now services) }
 {
-    match &link.stage {
+    match link.stage.as_ref() {
         Stage::Open(secure, requests) => {
             let secure = secure.copy(alloc)?;
             let requests = requests.copy(alloc)?;
@@ -62,7 +62,7 @@ fn asks_tickets_on(
     ensures { IfOk result (AsksTickets asker.now at.now (open_link at.now.number link requests) services) }
 {
     match ask_tickets(alloc, link, requests, services)? {
-        Ok(asked) => Ok(goes_on_asking(alloc, at, asked)),
+        Ok(asked) => goes_on_asking(alloc, at, asked),
         Err(why) => {
             let me = named(alloc, asker)?;
             refuses(alloc, &me, at.number, why, Items::new(alloc))
@@ -82,7 +82,7 @@ pub fn asks_generations(
     requires open { is_open link.now.stage ≡ true }
     ensures { IfOk result (AsksGenerations asker.now at.now link.now) }
 {
-    match &link.stage {
+    match link.stage.as_ref() {
         Stage::Open(secure, requests) => {
             let secure = secure.copy(alloc)?;
             let requests = requests.copy(alloc)?;
@@ -108,7 +108,7 @@ fn asks_generations_on(
     ensures { IfOk result (AsksGenerations asker.now at.now (open_link at.now.number link requests)) }
 {
     match ask_rotating(alloc, link, requests, at.reading)? {
-        Ok(asked) => Ok(goes_on_asking(alloc, at, asked)),
+        Ok(asked) => goes_on_asking(alloc, at, asked),
         Err(why) => {
             let me = named(alloc, asker)?;
             refuses(alloc, &me, at.number, why, Items::new(alloc))
@@ -123,18 +123,21 @@ pub(crate) fn asks_rotating(
     at: &Moment<'_>,
     link: SecureLink,
     requests: Requests,
-) -> Result<NodeRow<Link, Change>, NoRow>
+) -> Result<NodeRow<Link, BoxedChange>, NoRow>
     ensures { (stage : connector.Stage) → Makes asker.now at.now (secured_link at.now.number link.ahead stage) (λ a. asks_rotating Open a (keys_alone link.keys) requests) result }
 {
     match ask_rotating(alloc, link, requests, at.reading)? {
-        Ok(asked) => Ok(NodeRow::keeping(goes_on_asking(alloc, at, asked))),
+        Ok(asked) => {
+            let row = goes_on_asking(alloc, at, asked)?;
+            Ok(NodeRow::keeping(row))
+        }
         Err(why) => Err(NoRow::Refused(why)),
     }
 }
 
 // The link goes on, and the request waits.
-fn goes_on_asking(alloc: Global, at: &Moment<'_>, asked: Asked) -> Row<Link>
-    ensures { result ≡ going_on (open_link at.now.number asked.link asked.requests) asked.bytes asked.seals }
+fn goes_on_asking(alloc: Global, at: &Moment<'_>, asked: Asked) -> Result<Row<Link>, AllocError>
+    ensures { IfOk result (λ row. row ≡ going_on (open_link at.now.number asked.link asked.requests) asked.bytes asked.seals) }
 {
     let Asked {
         link,
@@ -142,6 +145,6 @@ fn goes_on_asking(alloc: Global, at: &Moment<'_>, asked: Asked) -> Row<Link>
         bytes,
         seals,
     } = asked;
-    let link = Link::new(at.number, Stage::Open(link, requests));
-    cx_node::goes_on(alloc, link, bytes, seals)
+    let link = Link::new(alloc, at.number, Stage::Open(link, requests))?;
+    Ok(cx_node::goes_on(alloc, link, bytes, seals))
 }

@@ -14,7 +14,7 @@ ghost use Rattle.cx_turns.specs.Sending.{SendsPlain};
 use crate::denials::on_bad_method;
 use crate::links::{Link, Stage};
 use crate::making::unless_refused;
-use crate::rows::Change;
+use crate::rows::BoxedChange;
 use cx_base::{Blob, Items};
 use cx_control::{AuthBadMethod, AuthReplyMore, AuthRequestMore};
 use cx_frame::Frame;
@@ -37,7 +37,7 @@ pub(crate) fn while_challenged(
     link: PlainLink,
     asked: u32,
     frame: &Frame,
-) -> Result<NodeRow<Link, Change>, NoRow>
+) -> Result<NodeRow<Link, BoxedChange>, NoRow>
     ensures { Makes asker.now at.now (wired at.now.number link (AwaitsChallenge asked)) (λ a. while_challenged a asked frame.now) result }
 {
     if frame.tag == 3 {
@@ -57,7 +57,7 @@ fn on_reply_more(
     link: PlainLink,
     asked: u32,
     read: Result<AuthReplyMore, BytesFault>,
-) -> Result<NodeRow<Link, Change>, NoRow>
+) -> Result<NodeRow<Link, BoxedChange>, NoRow>
     ensures { Makes asker.now at.now (wired at.now.number link (AwaitsChallenge asked)) (λ a. on_reply_more a asked read) result }
 {
     let more = read?;
@@ -72,7 +72,7 @@ fn on_challenge(
     link: PlainLink,
     asked: u32,
     payload: &[u8],
-) -> Result<NodeRow<Link, Change>, NoRow>
+) -> Result<NodeRow<Link, BoxedChange>, NoRow>
     ensures { Makes asker.now at.now (wired at.now.number link (AwaitsChallenge asked)) (λ a. on_challenge a asked (whole server_challenge_layout.form payload.now)) result }
 {
     let challenge = at.draw.challenge();
@@ -87,7 +87,7 @@ fn proves(
     at: &Moment<'_>,
     link: PlainLink,
     answer: Answer,
-) -> Result<NodeRow<Link, Change>, NoRow>
+) -> Result<NodeRow<Link, BoxedChange>, NoRow>
     ensures { (stage : connector.Stage) → Makes asker.now at.now (wired at.now.number link stage) (λ a. proves a answer.server.challenge
         (plain_frame (control 5 auth_request_more_layout.form (record { payload = answer.bytes })))) result }
 {
@@ -106,7 +106,7 @@ fn awaits_done(
     at: &Moment<'_>,
     link: PlainLink,
     answer: Answer,
-) -> Result<NodeRow<Link, Change>, NoRow>
+) -> Result<NodeRow<Link, BoxedChange>, NoRow>
     ensures { (stage : connector.Stage) → Makes asker.now at.now (wired at.now.number link stage) (λ a. proof_sent a answer.server.challenge
         (plain_frame (control 5 auth_request_more_layout.form (record { payload = answer.bytes })))) result }
 {
@@ -114,7 +114,7 @@ fn awaits_done(
     let proof = proof_made(alloc, asker, answer.server.challenge, at.draw.challenge())?;
     let mut seals = Items::new(alloc);
     seals.push(alloc, proof)?;
-    let link = Link::new(at.number, Stage::AwaitsDone(sent.link));
+    let link = Link::new(alloc, at.number, Stage::AwaitsDone(sent.link))?;
     Ok(goes_on(alloc, link, sent.bytes, seals))
 }
 

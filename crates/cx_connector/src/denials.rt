@@ -5,8 +5,8 @@ ghost use Rattle.cx_node.specs.cx_rules.specs.Connector.{Stage, on_denial};
 ghost use Rattle.cx_connector.specs.Rows.{Makes, denied};
 
 use crate::links::Link;
-use crate::making::named;
-use crate::rows::Change;
+use crate::making::{changing, named};
+use crate::rows::{BoxedChange, Change};
 use cx_base::Items;
 use cx_control::AuthBadMethod;
 use cx_holdings::Asker;
@@ -21,7 +21,7 @@ pub(crate) fn on_bad_method(
     asker: &Asker,
     at: &Moment<'_>,
     read: Result<AuthBadMethod, BytesFault>,
-) -> Result<NodeRow<Link, Change>, NoRow>
+) -> Result<NodeRow<Link, BoxedChange>, NoRow>
     ensures { (wire : Wire) (stage : Stage) → Makes asker.now at.now (wired at.now.number wire stage) (λ a. denied a read) result }
 {
     let refusal = read?;
@@ -34,7 +34,7 @@ fn on_denial(
     asker: &Asker,
     at: &Moment<'_>,
     code: u32,
-) -> Result<NodeRow<Link, Change>, NoRow>
+) -> Result<NodeRow<Link, BoxedChange>, NoRow>
     ensures { (wire : Wire) (stage : Stage) → Makes asker.now at.now (wired at.now.number wire stage) (λ a. on_denial a code) result }
 {
     let why = Reason::Denied(code);
@@ -43,8 +43,5 @@ fn on_denial(
     }
     let me = named(alloc, asker)?;
     let row = refuses(alloc, &me, at.number, why, Items::new(alloc))?;
-    Ok(NodeRow {
-        row,
-        change: Some(Change::Forgets),
-    })
+    Ok(changing(alloc, row, Change::Forgets)?)
 }

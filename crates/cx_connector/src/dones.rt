@@ -11,7 +11,7 @@ ghost use Rattle.cx_connector.specs.Rows.{Makes};
 use crate::denials::on_bad_method;
 use crate::links::{Link, Stage};
 use crate::making::unless_refused;
-use crate::rows::Change;
+use crate::rows::BoxedChange;
 use cx_base::Items;
 use cx_control::{AuthBadMethod, AuthDone};
 use cx_frame::Frame;
@@ -30,7 +30,7 @@ pub(crate) fn while_proved(
     at: &Moment<'_>,
     link: PlainLink,
     frame: &Frame,
-) -> Result<NodeRow<Link, Change>, NoRow>
+) -> Result<NodeRow<Link, BoxedChange>, NoRow>
     ensures { Makes asker.now at.now (wired at.now.number link AwaitsDone) (λ a. while_proved a frame.now) result }
 {
     if frame.tag == 3 {
@@ -49,7 +49,7 @@ fn on_done(
     at: &Moment<'_>,
     link: PlainLink,
     read: Result<AuthDone, BytesFault>,
-) -> Result<NodeRow<Link, Change>, NoRow>
+) -> Result<NodeRow<Link, BoxedChange>, NoRow>
     ensures { Makes asker.now at.now (wired at.now.number link AwaitsDone) (λ a. on_done a read) result }
 {
     let done = read?;
@@ -68,7 +68,7 @@ fn on_login_done(
     link: PlainLink,
     gid: u64,
     payload: &[u8],
-) -> Result<NodeRow<Link, Change>, NoRow>
+) -> Result<NodeRow<Link, BoxedChange>, NoRow>
     ensures { Makes asker.now at.now (wired at.now.number link AwaitsDone) (λ a. on_login_done a gid (whole login_done_layout.form payload.now)) result }
 {
     let mut opened = Items::new(alloc);
@@ -86,7 +86,7 @@ fn on_opened(
     link: PlainLink,
     gid: u64,
     login: Option<LoggedIn>,
-) -> Result<NodeRow<Link, Change>, NoRow>
+) -> Result<NodeRow<Link, BoxedChange>, NoRow>
     ensures { Makes asker.now at.now (wired at.now.number link AwaitsDone) (λ a. on_opened a gid [] login) result }
 {
     match login {
@@ -105,11 +105,15 @@ fn signs(
     at: &Moment<'_>,
     link: PlainLink,
     login: Login,
-) -> Result<NodeRow<Link, Change>, NoRow>
+) -> Result<NodeRow<Link, BoxedChange>, NoRow>
     ensures { Makes asker.now at.now (wired at.now.number link AwaitsDone) (λ a. signs a login []
         (signed_frame (connector_keys login.opened.secret) login.opened.auth.session (take link.taken link.received))) result }
 {
     let finished = link.sign(alloc, &login.session(), &login.secret())?;
-    let link = Link::new(at.number, Stage::AwaitsSignature(finished.signing, login));
+    let link = Link::new(
+        alloc,
+        at.number,
+        Stage::AwaitsSignature(finished.signing, login),
+    )?;
     Ok(goes_on(alloc, link, finished.bytes, finished.seals))
 }

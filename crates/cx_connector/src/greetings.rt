@@ -7,7 +7,7 @@ ghost use Rattle.cx_node.specs.cx_rules.specs.Rows.{sends_plain};
 ghost use Rattle.cx_connector.specs.Rows.{Makes, opening_row};
 
 use crate::links::{Link, Stage};
-use crate::rows::Change;
+use crate::rows::BoxedChange;
 use cx_base::Items;
 use cx_control::Hello;
 use cx_holdings::Asker;
@@ -22,7 +22,7 @@ pub fn greeting(alloc: Global, number: u32, asked: u32) -> Result<Row<Link>, All
     ensures { IfOk result (λ row. row ≡ opening_row number asked) }
 {
     let sent = send_banner(alloc)?;
-    let link = Link::new(number, Stage::AwaitsBanner(sent.link, asked));
+    let link = Link::new(alloc, number, Stage::AwaitsBanner(sent.link, asked))?;
     Ok(cx_node::goes_on(alloc, link, sent.bytes, Items::new(alloc)))
 }
 
@@ -33,12 +33,12 @@ pub(crate) fn on_banner(
     at: &Moment<'_>,
     link: PlainLink,
     asked: u32,
-) -> Result<NodeRow<Link, Change>, NoRow>
+) -> Result<NodeRow<Link, BoxedChange>, NoRow>
     ensures { Makes asker.now at.now (wired at.now.number link (AwaitsBanner asked)) (λ a. on_banner a asked) result }
 {
     let name = asker.name();
     let sent = send_hello(alloc, link, name.kind)??;
-    let link = Link::new(at.number, Stage::AwaitsHello(sent.link, asked));
+    let link = Link::new(alloc, at.number, Stage::AwaitsHello(sent.link, asked))?;
     Ok(goes_on(alloc, link, sent.bytes, Items::new(alloc)))
 }
 
@@ -49,7 +49,7 @@ pub(crate) fn on_hello(
     link: PlainLink,
     asked: u32,
     read: Result<Hello, BytesFault>,
-) -> Result<NodeRow<Link, Change>, NoRow>
+) -> Result<NodeRow<Link, BoxedChange>, NoRow>
     ensures { Makes asker.now at.now (wired at.now.number link (AwaitsHello asked)) (λ a. on_hello a asked read) result }
 {
     let _ = read?;
@@ -63,11 +63,11 @@ fn requests(
     at: &Moment<'_>,
     link: PlainLink,
     asked: u32,
-) -> Result<NodeRow<Link, Change>, NoRow>
+) -> Result<NodeRow<Link, BoxedChange>, NoRow>
     ensures { Makes asker.now at.now (wired at.now.number link (AwaitsHello asked)) (λ a. sends_plain a (AwaitsChallenge asked) [] (login_request asker.now)) result }
 {
     let request = asker.login_request(alloc)?;
     let sent = send_plain(alloc, link, 2, &request)??;
-    let link = Link::new(at.number, Stage::AwaitsChallenge(sent.link, asked));
+    let link = Link::new(alloc, at.number, Stage::AwaitsChallenge(sent.link, asked))?;
     Ok(goes_on(alloc, link, sent.bytes, Items::new(alloc)))
 }

@@ -12,7 +12,7 @@ ghost use Rattle.cx_turns.specs.Stages.{keys_alone};
 
 use crate::asking::asks_rotating;
 use crate::links::{Link, Stage};
-use crate::rows::Change;
+use crate::rows::BoxedChange;
 use cx_base::{Blob, Items};
 use cx_control::{IdentMissingFeatures, ServerIdent};
 use cx_frame::Frame;
@@ -32,7 +32,7 @@ pub(crate) fn while_identified(
     link: SecureLink,
     session: [u8; 16],
     frame: &Frame,
-) -> Result<NodeRow<Link, Change>, NoRow>
+) -> Result<NodeRow<Link, BoxedChange>, NoRow>
     ensures { Makes asker.now at.now (awaiting_ident at.now.number link session) (λ a. while_identified a (keys_alone link.keys) session frame.now) result }
 {
     if frame.tag == 10 {
@@ -52,7 +52,7 @@ fn on_server_ident(
     link: SecureLink,
     session: [u8; 16],
     read: Result<ServerIdent, BytesFault>,
-) -> Result<NodeRow<Link, Change>, NoRow>
+) -> Result<NodeRow<Link, BoxedChange>, NoRow>
     ensures { Makes asker.now at.now (awaiting_ident at.now.number link session) (λ a. on_server_ident Open a (keys_alone link.keys) session read) result }
 {
     let _ = read?;
@@ -66,13 +66,13 @@ fn opens_to(
     at: &Moment<'_>,
     link: SecureLink,
     requests: Requests,
-) -> Result<NodeRow<Link, Change>, NoRow>
+) -> Result<NodeRow<Link, BoxedChange>, NoRow>
     ensures { (stage : connector.Stage) → Makes asker.now at.now (secured_link at.now.number link.ahead stage) (λ a. opens_to Open a (keys_alone link.keys) requests) result }
 {
     if is_daemon(asker) {
         asks_rotating(alloc, asker, at, link, requests)
     } else {
-        let link = Link::new(at.number, Stage::Open(link, requests));
+        let link = Link::new(alloc, at.number, Stage::Open(link, requests))?;
         Ok(goes_on(alloc, link, Blob::new(alloc), Items::new(alloc)))
     }
 }
@@ -90,7 +90,7 @@ fn on_missing_features(
     asker: &Asker,
     at: &Moment<'_>,
     read: Result<IdentMissingFeatures, BytesFault>,
-) -> Result<NodeRow<Link, Change>, NoRow>
+) -> Result<NodeRow<Link, BoxedChange>, NoRow>
     ensures { (ahead : List ℕ) (stage : connector.Stage) → Makes asker.now at.now (secured_link at.now.number ahead stage) (λ a. on_missing_features a read) result }
 {
     let missing = read?;

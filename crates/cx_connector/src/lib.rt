@@ -18,7 +18,7 @@ pub use asking::{asks_generations, asks_tickets};
 pub use greetings::greeting;
 pub use links::{Link, Stage};
 pub use making::named;
-pub use rows::Change;
+pub use rows::{BoxedChange, Change};
 pub use turns::turned;
 
 // Each public type may be sent to another thread and shared with one.
@@ -28,4 +28,5 @@ fn all_are_sendable() {
     is_sendable::<Stage>();
     is_sendable::<Link>();
     is_sendable::<Change>();
+    is_sendable::<BoxedChange>();
 }

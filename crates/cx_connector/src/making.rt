@@ -1,13 +1,14 @@
 //! Who makes a row, where the link is refused.
 
-ghost use Rattle.std.specs.Prelude.{◌≡◌, IfOk};
+ghost use Rattle.std.specs.Prelude.{◌≡◌, Some, IfOk};
 ghost use Rattle.cx_base.specs.declared.nodes.NodeName.TheVariants as node;
 ghost use Rattle.cx_turns.specs.Making.{IsHandled, IsRowOf};
 
 use crate::links::Link;
-use crate::rows::Change;
+use crate::rows::{BoxedChange, Change};
 use cx_base::{Items, NodeName};
 use cx_holdings::Asker;
+use cx_node::Row;
 use cx_steps::SealEntry;
 use cx_turns::{Came, Moment, NoRow, NodeRow};
 use std::alloc::{AllocError, Global};
@@ -19,14 +20,29 @@ pub fn named(alloc: Global, asker: &Asker) -> Result<NodeName, AllocError>
     asker.node_name(alloc)
 }
 
+// A row behind which what is held is changed so.
+pub(crate) fn changing(
+    alloc: Global,
+    row: Row<Link>,
+    change: Change,
+) -> Result<NodeRow<Link, BoxedChange>, AllocError>
+    ensures { IfOk result (λ made. made ≡ record { row = row; change = Some change }) }
+{
+    let change = BoxedChange::new(alloc, change)?;
+    Ok(NodeRow {
+        row,
+        change: Some(change),
+    })
+}
+
 // The row that was made, or that of the refusal, behind what was logged before.
 pub(crate) fn unless_refused(
     alloc: Global,
     asker: &Asker,
     at: &Moment<'_>,
     logged: Items<SealEntry>,
-    made: Result<NodeRow<Link, Change>, NoRow>,
-) -> Result<NodeRow<Link, Change>, AllocError>
+    made: Result<NodeRow<Link, BoxedChange>, NoRow>,
+) -> Result<NodeRow<Link, BoxedChange>, AllocError>
     ensures { IfOk result (IsRowOf (node.Entity asker.now.name) at.now.number logged made) }
 {
     let me = named(alloc, asker)?;
@@ -39,8 +55,8 @@ pub(crate) fn handles(
     asker: &Asker,
     at: &Moment<'_>,
     opened: Items<SealEntry>,
-    made: Result<NodeRow<Link, Change>, NoRow>,
-) -> Result<Came<Link, Change>, AllocError>
+    made: Result<NodeRow<Link, BoxedChange>, NoRow>,
+) -> Result<Came<Link, BoxedChange>, AllocError>
     ensures { IfOk result (IsHandled (node.Entity asker.now.name) at.now.number opened made) }
 {
     let me = named(alloc, asker)?;

@@ -11,8 +11,8 @@ ghost use Rattle.cx_connector.specs.Rows.{Makes};
 ghost use Rattle.cx_connector.specs.Stages.{open_link};
 
 use crate::links::{Link, Stage};
-use crate::making::named;
-use crate::rows::Change;
+use crate::making::{changing, named};
+use crate::rows::{BoxedChange, Change};
 use cx_base::{Blob, Duplicate, Items};
 use cx_frame::Frame;
 use cx_holdings::{Asker, Renewed};
@@ -33,7 +33,7 @@ pub(crate) fn on_open(
     link: SecureLink,
     requests: Requests,
     frame: &Frame,
-) -> Result<NodeRow<Link, Change>, NoRow>
+) -> Result<NodeRow<Link, BoxedChange>, NoRow>
     ensures { Makes asker.now at.now (open_link at.now.number link requests) (λ a. on_open Open a (keys_alone link.keys) requests frame.now) result }
 {
     if is_keepalive(frame) {
@@ -51,12 +51,12 @@ fn stays_open(
     link: SecureLink,
     requests: Requests,
     frame: &Frame,
-) -> Result<NodeRow<Link, Change>, NoRow>
+) -> Result<NodeRow<Link, BoxedChange>, NoRow>
     ensures { Makes asker.now at.now (open_link at.now.number link requests)
         (λ a. secure_sent a (keys_alone link.keys) (λ behind. Open behind requests) [] (upkept link.keys frame.now)) result }
 {
     let sent = upkept(alloc, link, frame)??;
-    let link = Link::new(at.number, Stage::Open(sent.link, requests));
+    let link = Link::new(alloc, at.number, Stage::Open(sent.link, requests))?;
     Ok(goes_on(alloc, link, sent.bytes, sent.seals))
 }
 
@@ -68,7 +68,7 @@ fn on_reply(
     link: SecureLink,
     requests: Requests,
     frame: &Frame,
-) -> Result<NodeRow<Link, Change>, NoRow>
+) -> Result<NodeRow<Link, BoxedChange>, NoRow>
     ensures { Makes asker.now at.now (open_link at.now.number link requests) (λ a. on_reply Open a (keys_alone link.keys) requests frame.now) result }
 {
     let taken = take_reply(alloc, &asker.secret(), &requests, frame)?;
@@ -84,7 +84,7 @@ fn takes(
     link: SecureLink,
     requests: Requests,
     taken: Taken,
-) -> Result<NodeRow<Link, Change>, AllocError>
+) -> Result<NodeRow<Link, BoxedChange>, AllocError>
     ensures { IfOk result (λ row. Makes asker.now at.now (open_link at.now.number link requests) (λ a. takes Open a (keys_alone link.keys) requests taken) (Ok row)) }
 {
     match taken {
@@ -95,26 +95,21 @@ fn takes(
         }
         Taken::Holds { held, opened } => {
             let renewed = Renewed::new(alloc, &held)?;
-            Ok(NodeRow {
-                row: answered(alloc, at, link, requests, opened),
-                change: Some(Change::Renews(renewed)),
-            })
+            let row = answered(alloc, at, link, requests, opened)?;
+            changing(alloc, row, Change::Renews(renewed))
         }
         Taken::Views {
             asked,
             generations,
             opened,
         } => {
-            let mut row = answered(alloc, at, link, requests, opened);
+            let mut row = answered(alloc, at, link, requests, opened)?;
             row.entries = fetched(alloc, asker, asked, generations)?;
             let view = View {
                 generations,
                 asked: Some(asked),
             };
-            Ok(NodeRow {
-                row,
-                change: Some(Change::Views(view)),
-            })
+            changing(alloc, row, Change::Views(view))
         }
     }
 }
@@ -126,13 +121,13 @@ fn answered(
     link: SecureLink,
     requests: Requests,
     opened: Items<SealEntry>,
-) -> Row<Link>
-    ensures { result ≡ going_on (open_link at.now.number link (behind_reply requests)) [] opened }
+) -> Result<Row<Link>, AllocError>
+    ensures { IfOk result (λ row. row ≡ going_on (open_link at.now.number link (behind_reply requests)) [] opened) }
 {
     let mut requests = requests;
     requests.answered();
-    let link = Link::new(at.number, Stage::Open(link, requests));
-    cx_node::goes_on(alloc, link, Blob::new(alloc), opened)
+    let link = Link::new(alloc, at.number, Stage::Open(link, requests))?;
+    Ok(cx_node::goes_on(alloc, link, Blob::new(alloc), opened))
 }
 
 // That generations were fetched, for which this entity had asked at this reading.

@@ -5,6 +5,8 @@ ghost use Rattle.cx_connector.specs.Rows.{changed};
 
 use cx_holdings::{Asker, Login, Renewed};
 use cx_rotate::View;
+use std::alloc::{AllocError, Global};
+use std::marker::Model;
 
 /// What a row changes of what is held.
 #[derive(Drop)]
@@ -20,8 +22,8 @@ pub enum Change {
 }
 
 impl Change {
-    /// Changes what is held. It wants no memory.
-    pub fn settle(self, asker: &mut Asker)
+    // Changes what is held.
+    fn settle(self, asker: &mut Asker)
         ensures { asker.new ≡ changed asker.old self }
     {
         match self {
@@ -30,5 +32,41 @@ impl Change {
             Change::Renews(renewed) => asker.renew(renewed),
             Change::Views(view) => asker.put_view(view),
         }
+    }
+}
+
+/// A change on its way to be settled. It is boxed: it goes by value from call to call, mostly where there is none, and has the secrets of a login.
+#[derive(Drop)]
+pub struct BoxedChange {
+    change: Box<Change>,
+}
+
+impl Model for BoxedChange {
+    ghost use Rattle.cx_connector.specs.declared.rows.Change.{Change};
+
+    ghost Value = { Change };
+
+    ghost view = { λ c. c.change.value };
+}
+
+impl BoxedChange {
+    ghost use Rattle.std.specs.Prelude.{◌≡◌, IfOk};
+    ghost use Rattle.cx_connector.specs.Rows.{changed};
+
+    // Boxes it. Where memory is wanting it is given up.
+    pub(crate) fn new(alloc: Global, change: Change) -> Result<BoxedChange, AllocError>
+        ensures { IfOk result (λ boxed. boxed ≡ change) }
+    {
+        let change = Box::new(alloc, change)?;
+        Ok(BoxedChange { change })
+    }
+
+    /// Changes what is held. It wants no memory.
+    pub fn settle(self, asker: &mut Asker)
+        ensures { asker.new ≡ changed asker.old self }
+    {
+        let BoxedChange { change } = self;
+        let change = Box::into_inner(change);
+        change.settle(asker);
     }
 }

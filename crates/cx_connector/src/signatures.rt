@@ -13,8 +13,8 @@ ghost use Rattle.cx_steps.specs.declared.seals.DrawMark.TheVariants.{Cookie};
 ghost use Rattle.cx_steps.specs.declared.seals.SealEntry.TheVariants.{Drawn};
 
 use crate::links::{Link, Stage};
-use crate::making::named;
-use crate::rows::Change;
+use crate::making::{changing, named};
+use crate::rows::{BoxedChange, Change};
 use cx_base::Items;
 use cx_control::AuthSignature;
 use cx_holdings::{Asker, Login};
@@ -33,7 +33,7 @@ pub(crate) fn on_signature(
     signing: Signing,
     login: Login,
     read: Result<AuthSignature, BytesFault>,
-) -> Result<NodeRow<Link, Change>, NoRow>
+) -> Result<NodeRow<Link, BoxedChange>, NoRow>
     ensures { Makes asker.now at.now (awaiting_signature at.now.number signing login) (λ a. on_signature a (secured_of signing) login read) result }
 {
     let found = checked(signing, read)?;
@@ -47,7 +47,7 @@ fn identifies(
     at: &Moment<'_>,
     checked: Checked,
     login: Login,
-) -> Result<NodeRow<Link, Change>, NoRow>
+) -> Result<NodeRow<Link, BoxedChange>, NoRow>
     ensures { (stage : connector.Stage) → Makes asker.now at.now (secured_link at.now.number checked.link.ahead stage) (λ a. identified a checked.link.keys checked.entry login) result }
 {
     let Checked { link, entry } = checked;
@@ -58,10 +58,7 @@ fn identifies(
         Err(why) => {
             let me = named(alloc, asker)?;
             let row = refuses_bytes(alloc, &me, at.number, why, seals)?;
-            Ok(NodeRow {
-                row,
-                change: Some(Change::Holds(login)),
-            })
+            Ok(changing(alloc, row, Change::Holds(login))?)
         }
     }
 }
@@ -83,14 +80,16 @@ fn awaits_ident(
     sent: SentFrame,
     login: Login,
     before: Items<SealEntry>,
-) -> Result<NodeRow<Link, Change>, AllocError>
+) -> Result<NodeRow<Link, BoxedChange>, AllocError>
     ensures { IfOk result (λ made. made ≡ record { row = going_on (awaiting_ident at.now.number sent.link login.opened.auth.session) sent.bytes (before ++ sent.seals); change = Some (Holds login) }) }
 {
     let mut seals = before;
     seals.append(alloc, sent.seals)?;
-    let link = Link::new(at.number, Stage::AwaitsIdent(sent.link, login.session()));
-    Ok(NodeRow {
-        row: goes_on(alloc, link, sent.bytes, seals),
-        change: Some(Change::Holds(login)),
-    })
+    let link = Link::new(
+        alloc,
+        at.number,
+        Stage::AwaitsIdent(sent.link, login.session()),
+    )?;
+    let row = goes_on(alloc, link, sent.bytes, seals);
+    changing(alloc, row, Change::Holds(login))
 }

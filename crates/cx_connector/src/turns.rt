@@ -14,7 +14,7 @@ use crate::idents::while_identified;
 use crate::links::{Link, Stage};
 use crate::making::handles;
 use crate::replies::on_open;
-use crate::rows::Change;
+use crate::rows::BoxedChange;
 use crate::signatures::on_signature;
 use cx_base::Items;
 use cx_control::{AuthSignature, Hello};
@@ -31,13 +31,13 @@ pub fn turned(
     asker: &Asker,
     at: &Moment<'_>,
     link: Link,
-) -> Result<Came<Link, Change>, AllocError>
+) -> Result<Came<Link, BoxedChange>, AllocError>
     requires { link.number ≡ at.now.number }
     ensures number { IfOk result (HasNumber (λ link. link.number) at.now.number) }
     ensures come { IfOk result (IsAskerTurn asker.now at.now link) }
 {
     let Link { number: _, stage } = link;
-    by_stage(alloc, asker, at, stage)
+    by_stage(alloc, asker, at, Box::into_inner(stage))
 }
 
 // The turn of a link in this stage.
@@ -46,7 +46,7 @@ fn by_stage(
     asker: &Asker,
     at: &Moment<'_>,
     stage: Stage,
-) -> Result<Came<Link, Change>, AllocError>
+) -> Result<Came<Link, BoxedChange>, AllocError>
     ensures { IfOk result (IsAskerTurn asker.now at.now (link_held at.now.number stage)) }
 {
     match stage {
@@ -66,14 +66,14 @@ fn banner_turn(
     at: &Moment<'_>,
     link: BannerLink,
     asked: u32,
-) -> Result<Came<Link, Change>, AllocError>
+) -> Result<Came<Link, BoxedChange>, AllocError>
     ensures { IfOk result (IsAskerTurn asker.now at.now (wired at.now.number link (AwaitsBanner asked))) }
 {
     match link.turn() {
-        BannerTurn::Waits(link) => Ok(Came::Waits(Link::new(
-            at.number,
-            Stage::AwaitsBanner(link, asked),
-        ))),
+        BannerTurn::Waits(link) => {
+            let link = Link::new(alloc, at.number, Stage::AwaitsBanner(link, asked))?;
+            Ok(Came::Waits(link))
+        }
         BannerTurn::Refuses(why) => Ok(Came::Refuses(why, Items::new(alloc))),
         BannerTurn::Takes(link) => {
             let made = on_banner(alloc, asker, at, link, asked);
@@ -88,14 +88,14 @@ fn hello_turn(
     at: &Moment<'_>,
     link: PlainLink,
     asked: u32,
-) -> Result<Came<Link, Change>, AllocError>
+) -> Result<Came<Link, BoxedChange>, AllocError>
     ensures { IfOk result (IsAskerTurn asker.now at.now (wired at.now.number link (AwaitsHello asked))) }
 {
     match link.turn(alloc)? {
-        LinkTurn::Waits(link) => Ok(Came::Waits(Link::new(
-            at.number,
-            Stage::AwaitsHello(link, asked),
-        ))),
+        LinkTurn::Waits(link) => {
+            let link = Link::new(alloc, at.number, Stage::AwaitsHello(link, asked))?;
+            Ok(Came::Waits(link))
+        }
         LinkTurn::Refuses(why) => Ok(Came::Refuses(why, Items::new(alloc))),
         LinkTurn::Takes(link, frame) => {
             let hello = due::<Hello>(alloc, 1, &frame)?;
@@ -111,14 +111,14 @@ fn challenge_turn(
     at: &Moment<'_>,
     link: PlainLink,
     asked: u32,
-) -> Result<Came<Link, Change>, AllocError>
+) -> Result<Came<Link, BoxedChange>, AllocError>
     ensures { IfOk result (IsAskerTurn asker.now at.now (wired at.now.number link (AwaitsChallenge asked))) }
 {
     match link.turn(alloc)? {
-        LinkTurn::Waits(link) => Ok(Came::Waits(Link::new(
-            at.number,
-            Stage::AwaitsChallenge(link, asked),
-        ))),
+        LinkTurn::Waits(link) => {
+            let link = Link::new(alloc, at.number, Stage::AwaitsChallenge(link, asked))?;
+            Ok(Came::Waits(link))
+        }
         LinkTurn::Refuses(why) => Ok(Came::Refuses(why, Items::new(alloc))),
         LinkTurn::Takes(link, frame) => {
             let made = while_challenged(alloc, asker, at, link, asked, &frame);
@@ -132,11 +132,14 @@ fn done_turn(
     asker: &Asker,
     at: &Moment<'_>,
     link: PlainLink,
-) -> Result<Came<Link, Change>, AllocError>
+) -> Result<Came<Link, BoxedChange>, AllocError>
     ensures { IfOk result (IsAskerTurn asker.now at.now (wired at.now.number link AwaitsDone)) }
 {
     match link.turn(alloc)? {
-        LinkTurn::Waits(link) => Ok(Came::Waits(Link::new(at.number, Stage::AwaitsDone(link)))),
+        LinkTurn::Waits(link) => {
+            let link = Link::new(alloc, at.number, Stage::AwaitsDone(link))?;
+            Ok(Came::Waits(link))
+        }
         LinkTurn::Refuses(why) => Ok(Came::Refuses(why, Items::new(alloc))),
         LinkTurn::Takes(link, frame) => {
             let made = while_proved(alloc, asker, at, link, &frame);
@@ -151,15 +154,15 @@ fn signature_turn(
     at: &Moment<'_>,
     signing: Signing,
     login: Login,
-) -> Result<Came<Link, Change>, AllocError>
+) -> Result<Came<Link, BoxedChange>, AllocError>
     ensures { IfOk result (IsAskerTurn asker.now at.now (awaiting_signature at.now.number signing login)) }
 {
     let mut opened = Items::new(alloc);
     match signing.turn(alloc, &mut opened)? {
-        LinkTurn::Waits(signing) => Ok(Came::Waits(Link::new(
-            at.number,
-            Stage::AwaitsSignature(signing, login),
-        ))),
+        LinkTurn::Waits(signing) => {
+            let link = Link::new(alloc, at.number, Stage::AwaitsSignature(signing, login))?;
+            Ok(Came::Waits(link))
+        }
         LinkTurn::Refuses(why) => Ok(Came::Refuses(why, opened)),
         LinkTurn::Takes(signing, frame) => {
             let found = due::<AuthSignature>(alloc, 7, &frame)?;
@@ -175,15 +178,15 @@ fn ident_turn(
     at: &Moment<'_>,
     link: SecureLink,
     session: [u8; 16],
-) -> Result<Came<Link, Change>, AllocError>
+) -> Result<Came<Link, BoxedChange>, AllocError>
     ensures { IfOk result (IsAskerTurn asker.now at.now (awaiting_ident at.now.number link session)) }
 {
     let mut opened = Items::new(alloc);
     match link.turn(alloc, &mut opened)? {
-        LinkTurn::Waits(link) => Ok(Came::Waits(Link::new(
-            at.number,
-            Stage::AwaitsIdent(link, session),
-        ))),
+        LinkTurn::Waits(link) => {
+            let link = Link::new(alloc, at.number, Stage::AwaitsIdent(link, session))?;
+            Ok(Came::Waits(link))
+        }
         LinkTurn::Refuses(why) => Ok(Came::Refuses(why, opened)),
         LinkTurn::Takes(link, frame) => {
             let made = while_identified(alloc, asker, at, link, session, &frame);
@@ -198,12 +201,15 @@ fn open_turn(
     at: &Moment<'_>,
     link: SecureLink,
     requests: Requests,
-) -> Result<Came<Link, Change>, AllocError>
+) -> Result<Came<Link, BoxedChange>, AllocError>
     ensures { IfOk result (IsAskerTurn asker.now at.now (open_link at.now.number link requests)) }
 {
     let mut opened = Items::new(alloc);
     match link.turn(alloc, &mut opened)? {
-        LinkTurn::Waits(link) => Ok(Came::Waits(Link::new(at.number, Stage::Open(link, requests)))),
+        LinkTurn::Waits(link) => {
+            let link = Link::new(alloc, at.number, Stage::Open(link, requests))?;
+            Ok(Came::Waits(link))
+        }
         LinkTurn::Refuses(why) => Ok(Came::Refuses(why, opened)),
         LinkTurn::Takes(link, frame) => {
             let made = on_open(alloc, asker, at, link, requests, &frame);

@@ -63,7 +63,7 @@ pub fn of_own(row: Row<connector::Link>) -> Row<Link>
 }
 
 /// What a turn of a guest's link came to: nothing of the daemon's own is changed.
-pub fn came_of_guest(came: Came<guests::Link, ()>) -> Came<Link, connector::Change>
+pub fn came_of_guest(came: Came<guests::Link, ()>) -> Came<Link, connector::BoxedChange>
     ensures { result ≡ came_of_kind AsAcceptor (λ _. None) came }
 {
     match came {
@@ -79,7 +79,9 @@ pub fn came_of_guest(came: Came<guests::Link, ()>) -> Came<Link, connector::Chan
 }
 
 /// What a turn of a link of the daemon's own came to.
-pub fn came_of_own(came: Came<connector::Link, connector::Change>) -> Came<Link, connector::Change>
+pub fn came_of_own(
+    came: Came<connector::Link, connector::BoxedChange>,
+) -> Came<Link, connector::BoxedChange>
     ensures { result ≡ came_of_kind AsConnector (λ change. change) came }
 {
     match came {

@@ -89,7 +89,7 @@ impl Own {
     }
 
     /// What a row of a link to the monitor changes.
-    pub fn settle(&mut self, change: connector::Change)
+    pub fn settle(&mut self, change: connector::BoxedChange)
         ensures { self.new ≡ with_asker self.old (changed self.old.asker change) }
     {
         change.settle(&mut self.asker);

@@ -25,7 +25,7 @@ pub fn settles(
     own: &mut Own,
     links: &mut Links<Link>,
     number: u32,
-    came: Came<Link, connector::Change>,
+    came: Came<Link, connector::BoxedChange>,
 ) -> Result<Effects, AllocError>
     requires numbered { HasNumber (λ link. link.number) number came }
     requires room { links.old.room ≡ Some number }
@@ -54,7 +54,7 @@ pub fn settles(
 }
 
 // What a row changes of the daemon's own, if anything, is changed.
-fn changes(own: &mut Own, change: Option<connector::Change>)
+fn changes(own: &mut Own, change: Option<connector::BoxedChange>)
     ensures { own.new ≡ own_behind with_change own.old change }
 {
     match change {
@@ -92,7 +92,7 @@ fn own_turned(
     own: &Own,
     at: &Moment<'_>,
     link: connector::Link,
-) -> Result<Came<Link, connector::Change>, AllocError>
+) -> Result<Came<Link, connector::BoxedChange>, AllocError>
     requires { link.number ≡ at.now.number }
     ensures come { IfOk result (IsOwnTurn own.now at.now.reading at.now.draw.now.bytes link) }
     ensures number { IfOk result (HasNumber (λ link. link.number) at.now.number) }

@@ -8,6 +8,6 @@ pub returns-clause-come : goal.returns-clause-come
 returns-clause-come c =
     let own : WholeClient = c.args.own.now.client in
     let named : c.in_ok-daemon.daemon ≡ (callee_of c.args.link.stage).daemon = cc (c.in_ok-daemon.ensures, c.behind-link.view_is, c.callee.ensures) in
-    rw c.came_of_daemon.ensures
-    (daemon_come own c.in_ok-daemon.daemon c.args.at.now c.args.link c.in_ok-came.came c.asker-asker.result.now _ named c.asker-asker.ensures c.session_with.ensures
-    c.in_ok-came.ensures)
+    rw c.in_ok-came.ensures
+    (daemon_come own c.in_ok-daemon.daemon c.args.at.now c.args.link c.in_ok-made.made c.asker-asker.result.now _ named c.asker-asker.ensures c.session_with.ensures
+    c.in_ok-made.ensures)

@@ -3,10 +3,10 @@ use Rattle.cx_client_calls.proofs.sending.sent_row.Goals as goal
 
 pub returns-clause-row : goal.returns-clause-row
 returns-clause-row c =
-    row_sent c.args.at.now c.args.link.now (c.args.number, c.args.operation.now) c.args.own.now.client c.asker.result.now c.in_ok-row.row c.of_daemon.result c.args.sent
-    c.asker.ensures c.in_ok-row.ensures c.of_daemon.ensures c.enters_first.result c.enters_first.ensures
+    row_sent c.args.at.now c.args.link.now (c.args.number, c.args.operation.now) c.args.own.now.client c.asker.result.now c.in_ok-row.row c.in_ok-made.made c.args.sent
+    c.asker.ensures c.in_ok-row.ensures c.in_ok-made.ensures c.enters_first.result c.enters_first.ensures
 
 pub returns-clause-number : goal.returns-clause-number
 returns-clause-number c =
-    row_number c.args.at.now c.args.link.now (c.args.number, c.args.operation.now) c.args.own.now.client c.asker.result.now c.in_ok-row.row c.of_daemon.result c.args.sent
-    c.asker.ensures c.in_ok-row.ensures c.of_daemon.ensures c.enters_first.result c.requires.open c.enters_first.ensures
+    row_number c.args.at.now c.args.link.now (c.args.number, c.args.operation.now) c.args.own.now.client c.asker.result.now c.in_ok-row.row c.in_ok-made.made c.args.sent
+    c.asker.ensures c.in_ok-row.ensures c.in_ok-made.ensures c.enters_first.result c.requires.open c.enters_first.ensures
