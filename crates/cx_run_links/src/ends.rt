@@ -76,7 +76,9 @@ impl End {
         ensures ok { OnOk result (self.new ≡ sent_by reaches self.old piece) }
         ensures err { OnErr result (self.new ≡ self.old) }
     {
-        self.ever.push(alloc, piece)?;
+        // It is kept for long, so with no more room than it needs.
+        let kept = Blob::of(alloc, piece.bytes())?;
+        self.ever.push(alloc, kept)?;
         if !reaches {
             self.came = self.ever.all().len();
             self.taken = 0;

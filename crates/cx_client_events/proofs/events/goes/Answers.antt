@@ -26,7 +26,7 @@ returns-in-Daemon-clause-step c =
     let is : c.in-Some.link ≡ of_kind ToDaemon c.in-Daemon.link.value = sym c.link.view_is ∙ ap link_held c.in-Daemon.is in
     gone_daemon c.args.own.now.client c.call_gone.new.own.client c.args.number c.args.links.now.links c.give_up.new.self.links _ c.call_gone.result c.requires.held
     (rw (c.give_up.ensures, c.in-Some.ensures.taken) refl) c.in-Daemon.link.value (sym c.in-Some.ensures.link ∙ ap some is)
-    (sym (ap number_of is) ∙ c.in-Some.ensures.number) (rw c.in-Daemon.link-is at c.call_gone.ensures.out) (rw c.in-Daemon.link-is at c.call_gone.ensures.own)
+    (sym (ap number_of is) ∙ c.in-Some.ensures.number) (rw (c.as_ref.ensures, c.in-Daemon.link-is) at c.call_gone.ensures.out) (rw (c.as_ref.ensures, c.in-Daemon.link-is) at c.call_gone.ensures.own)
 
 pub returns-in-Daemon-clause-held : goal.returns-in-Daemon-clause-held
 returns-in-Daemon-clause-held c =
