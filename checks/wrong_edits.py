@@ -63,7 +63,9 @@ def stop_without(libraries, crates):
         built = os.path.join(library_of(libraries, crate), "format")
         if not os.path.isfile(built):
             stop(f"the library of {crate} is needed, which `rt ci` leaves in crates/{crate}/out: run that first")
-        if texts_of(TOP, crate) != texts_of(libraries, crate) or newest(libraries, crate) > os.stat(built).st_mtime:
+        # (one that an earlier run kept is older than the clone, and was linked into it)
+        built_at = max(os.stat(built).st_mtime, os.stat(built).st_ctime)
+        if texts_of(TOP, crate) != texts_of(libraries, crate) or newest(libraries, crate) > built_at:
             stop(f"{crate} isn't what its library in crates/{crate}/out was built of: run `rt ci` first")
 
 
