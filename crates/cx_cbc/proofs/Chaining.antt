@@ -1,9 +1,12 @@
 -- Chaining is undone both ways, and goes block by block.
-use Rattle.std.proofs.Common.{◌≡◌, ℕ, suc, ◌+◌, ◌<◌, ◌≤◌, List, [], ◌∷◌, ◌++◌, length, drop, get_or, map, refl, ap, sym, subst, ◌∙◌, drop-cons, length-drop, arith, append_assoc}
+use Rattle.std.proofs.Common.{◌≡◌, ℕ, suc, ◌+◌, ◌<◌, ◌≤◌, List, [], ◌∷◌, ◌++◌, length, take, drop, get_or, map, refl, ap, sym, subst, ◌∙◌, drop-cons, length-append, length-drop, arith, append_assoc}
 use Rattle.std.specs.List.{concat, flat_map}
-use Rattle.std.proofs.lemmas.List.{nil_from_length, append-nil}
+use Rattle.std.specs.Simd.{first_chunks}
+use Rattle.std.specs.Simd.Lanes.{put_chunk}
+use Rattle.std.proofs.lemmas.List.{nil_from_length, append-nil, drop_at, length-take-le, take_all}
 use Rattle.std.proofs.lemmas.List.FromFn.{fill_by_all}
 use Rattle.std.proofs.lemmas.List.Folds.{concat-append}
+use Rattle.std.proofs.lemmas.Simd.{put_chunk_is, take_more_put_chunk}
 use Rattle.cx_aes.specs.Cipher.{IsBlock, add, aes}
 use Rattle.cx_aes.specs.Inverse.{inverse_aes}
 use Rattle.cx_aes.proofs.Blocks.{IsBlock-add}
@@ -56,16 +59,6 @@ AreBlocks-uncbc key before (sealed ∷ blocks) k b are = (
 
 -- ---- the loops: what is done, followed by what the blocks left give
 
-pub cbc_more : (out key before : List ℕ) (blocks : List (List ℕ)) (i : ℕ) → i < length blocks → (block : List ℕ) → get_or blocks i [] ≡ block →
-    (out ++ aes key (add block before)) ++ concat (cbc key (aes key (add block before)) (drop (i + 1) blocks)) ≡ out ++ concat (cbc key before (drop i blocks))
-unfolding cbc
-cbc_more out key before blocks i lt block is =
-    let e : i + 1 ≡ suc i = omega arith in
-    let sealed = aes key (add block before) in
-    append_assoc out sealed (concat (cbc key sealed (drop (i + 1) blocks)))
-    ∙ ap (λ n. out ++ (sealed ++ concat (cbc key sealed (drop n blocks)))) e
-    ∙ sym (rw (drop-cons blocks i [], is))
-
 pub uncbc_more : (out key before : List ℕ) (blocks : List (List ℕ)) (i : ℕ) → i < length blocks → (sealed : List ℕ) → get_or blocks i [] ≡ sealed →
     (out ++ add (inverse_aes key sealed) before) ++ concat (uncbc key sealed (drop (i + 1) blocks)) ≡ out ++ concat (uncbc key before (drop i blocks))
 unfolding uncbc
@@ -75,11 +68,6 @@ uncbc_more out key before blocks i lt sealed is =
     append_assoc out block (concat (uncbc key sealed (drop (i + 1) blocks)))
     ∙ ap (λ n. out ++ (block ++ concat (uncbc key sealed (drop n blocks)))) e
     ∙ sym (rw (drop-cons blocks i [], is))
-
-pub cbc_all : (out key before : List ℕ) (blocks : List (List ℕ)) (i : ℕ) → length blocks ≤ i → out ++ concat (cbc key before (drop i blocks)) ≡ out
-unfolding cbc
-cbc_all out key before blocks i le =
-    ap (λ left. out ++ concat (cbc key before left)) (nil_from_length (drop i blocks) (omega (arith, length-drop i blocks))) ∙ append-nil out
 
 pub uncbc_all : (out key before : List ℕ) (blocks : List (List ℕ)) (i : ℕ) → length blocks ≤ i → out ++ concat (uncbc key before (drop i blocks)) ≡ out
 unfolding uncbc
@@ -133,3 +121,33 @@ pub fours_all : (out key before : List ℕ) (fours : List (List (List ℕ))) (re
     out ++ concat (uncbc key before (flat_map (λ x. x) (drop i fours) ++ rest)) ≡ out ++ concat (uncbc key before rest)
 fours_all out key before fours rest i le =
     ap (λ left. out ++ concat (uncbc key before (flat_map (λ x. x) left ++ rest))) (nil_from_length (drop i fours) (omega (arith, length-drop i fours)))
+
+-- ---- in place: the cipher texts so far, followed by what the blocks behind them give
+
+-- one block more has made room for its cipher text
+pub in_place_more : (key before bytes sealed : List ℕ) (at next count left : ℕ) → at + 16 ≤ length bytes → next ≡ at + 16 → count ≡ suc left → length sealed ≡ 16 →
+    sealed ≡ aes key (add (take 16 (drop at bytes)) before) →
+    take next (put_chunk at bytes sealed) ++ concat (cbc key sealed (first_chunks 16 left (drop next (put_chunk at bytes sealed))))
+    ≡ take at bytes ++ concat (cbc key before (first_chunks 16 count (drop at bytes)))
+unfolding cbc
+in_place_more key before bytes sealed at next count left room on more len is =
+    let front : List ℕ = take at bytes in
+    let behind : List ℕ = drop 16 (drop at bytes) in
+    let front_len : length front ≡ at = length-take-le at bytes (omega arith) in
+    let done : length (front ++ sealed) ≡ next = omega (arith, length-append front sealed) in
+    let rest : drop next (put_chunk at bytes sealed) ≡ behind =
+    ap (drop next) (put_chunk_is at bytes sealed (omega arith) ∙ sym (append_assoc front sealed (drop (length sealed) (drop at bytes))))
+    ∙ drop_at (front ++ sealed) (drop (length sealed) (drop at bytes)) next done
+    ∙ ap (λ n. drop n (drop at bytes)) len in
+    ap (λ xs. xs ++ concat (cbc key sealed (first_chunks 16 left (drop next (put_chunk at bytes sealed)))))
+    (take_more_put_chunk at bytes sealed next (omega arith) (omega arith))
+    ∙ ap (λ xs. (front ++ sealed) ++ concat (cbc key sealed (first_chunks 16 left xs))) rest
+    ∙ append_assoc front sealed (concat (cbc key sealed (first_chunks 16 left behind)))
+    ∙ ap (λ s. front ++ (s ++ concat (cbc key s (first_chunks 16 left behind)))) is
+    ∙ ap (λ n. front ++ concat (cbc key before (first_chunks 16 n (drop at bytes)))) (sym more)
+
+pub in_place_all : (key before bytes rest : List ℕ) (n left : ℕ) → length bytes ≤ n → left ≡ 0 →
+    take n bytes ++ concat (cbc key before (first_chunks 16 left rest)) ≡ bytes
+unfolding cbc
+in_place_all key before bytes rest n left all none =
+    ap (λ k. take n bytes ++ concat (cbc key before (first_chunks 16 k rest))) none ∙ append-nil (take n bytes) ∙ take_all n bytes all

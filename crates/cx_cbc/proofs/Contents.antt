@@ -1,7 +1,9 @@
 -- What opens, and that it opens to one content.
-use Rattle.std.proofs.Common.{◌≡◌, ℕ, ◌+◌, ◌-◌, ◌/◌, ◌%◌, ◌<◌, ◌≤◌, List, [], ◌∷◌, ◌++◌, All, length, replicate, length-append, refl, ap, sym, ◌∙◌, subst, arith}
-use Rattle.std.specs.List.{AllByRecursion, concat}
+use Rattle.std.proofs.Common.{◌≡◌, ℕ, ◌+◌, ◌-◌, ◌/◌, ◌%◌, ◌<◌, ◌≤◌, List, [], ◌∷◌, ◌++◌, All, length, take, drop, replicate, length-append, length-drop, refl, ap, sym, ◌∙◌, subst, arith}
+use Rattle.std.specs.List.{AllByRecursion, concat, copy_within}
 use Rattle.std.proofs.lemmas.List.{append_cancel_left, take_at, length-replicate}
+use Rattle.std.proofs.Math.Seq.{paste}
+use Rattle.std.proofs.lemmas.List.Edits.{take-paste}
 use Rattle.std.proofs.lemmas.List.Elements.{All-append, All-take, All-drop, All-replicate, All-from_recursion}
 use Rattle.cx_aes.specs.Cipher.{IsBlock}
 use Rattle.cx_cbc.specs.Chain.{blocks_of, cbc, uncbc}
@@ -33,7 +35,7 @@ pub enveloped-one : (first second : List ℕ) → enveloped first ≡ enveloped 
 unfolding enveloped
 enveloped-one first second e = append_cancel_left head first second (padded-one (head ++ first) (head ++ second) e)
 
-whole-enveloped : (content : List ℕ) → length (enveloped content) % 16 ≡ 0
+pub whole-enveloped : (content : List ℕ) → length (enveloped content) % 16 ≡ 0
 unfolding enveloped
 whole-enveloped content = whole-padded (head ++ content)
 
@@ -61,6 +63,25 @@ unfolding enveloped padded padding
 length-enveloped content =
     let missing : ℕ = 16 - length (head ++ content) % 16 in
     omega (arith, length-append (head ++ content) (replicate missing missing), length-append head content, length-replicate missing missing)
+
+pub head-enveloped : (plain content : List ℕ) → plain ≡ enveloped content → length content + 9 ≤ length plain
+unfolding enveloped padded
+head-enveloped plain content e =
+    let nine : length head ≡ 9 = refl in
+    omega (arith, ap length e, length-append (head ++ content) (padding (length (head ++ content))), length-append head content)
+
+-- the content stands behind the head, and so at the front where it is copied there
+pub behind_head : (plain content : List ℕ) → plain ≡ enveloped content → take (length content) (copy_within plain 9 (9 + length content) 0) ≡ content
+unfolding enveloped padded
+behind_head plain content e =
+    let fill : List ℕ = padding (length (head ++ content)) in
+    let enough : length content + 9 ≤ length plain = head-enveloped plain content e in
+    let count : 9 + length content - 9 ≡ length content = omega arith in
+    let from_nothing : length content ≡ 0 + length content = omega arith in
+    ap (λ n. take (length content) (paste plain 0 (drop 9 plain) n)) count
+    ∙ ap (λ n. take n (paste plain 0 (drop 9 plain) (length content))) from_nothing
+    ∙ take-paste plain 0 (drop 9 plain) (length content) (omega arith) (omega (arith, length-drop 9 plain))
+    ∙ ap (λ xs. take (length content) (drop 9 xs)) e ∙ take_at content fill (length content) refl
 
 -- bytes that open are no longer than the longest envelope
 pub length-opens : (key bytes content : List ℕ) → IsBlock key → Opens key bytes content → length bytes ≤ 1048592

@@ -1,48 +1,48 @@
 //! Cipher block chaining, both ways.
 
-ghost use Rattle.std.specs.Prelude.{◌≡◌, IfOk, length};
+ghost use Rattle.std.specs.Prelude.{◌≡◌, ◌%◌, IfOk, length};
 ghost use Rattle.std.specs.List.{concat};
 ghost use Rattle.cx_aes.specs.KeyOf.{key_of};
 ghost use Rattle.cx_cbc.specs.Chain.{blocks_of, cbc, uncbc};
 ghost use Rattle.cx_cbc.specs.Envelope.{initial_vector};
 
 use cx_aes::{Schedule, add};
-use cx_base::Blob;
 use std::alloc::{AllocError, Global};
+use std::simd::prelude::*;
 
 /// The initial vector of every envelope.
 pub(crate) const INITIAL_VECTOR: [u8; 16] = *b"cephsageyudagreg";
 
-// The cipher texts of the whole blocks.
-pub(crate) fn chained(alloc: Global, key: &Schedule, plain: &[u8]) -> Result<Blob, AllocError>
-    ensures { IfOk result (λ sealed. sealed ≡ concat (cbc (key_of key.now) initial_vector (blocks_of plain.now))) }
+// Whole blocks, each of which makes room for its cipher text.
+pub(crate) fn chain_in_place(key: &Schedule, bytes: &mut [u8])
+    requires { length bytes.old % 16 ≡ 0 }
+    ensures sealed { bytes.new ≡ concat (cbc (key_of key.now) initial_vector (blocks_of bytes.old)) }
+    ensures len { length bytes.new ≡ length bytes.old }
 {
-    let mut sealed = Blob::with_room(alloc, plain.len())?;
     let mut before = INITIAL_VECTOR;
-    let (blocks, _rest) = plain.as_chunks::<16>();
-    for block in blocks {
-        before = key.encrypt(&add(block, &before));
-        sealed.append(alloc, &before)?;
+    for n in 0..bytes.len() / 16 {
+        let block = u8x16::from_slice(&bytes[16 * n..]).to_array();
+        before = key.encrypt(&add(&block, &before));
+        u8x16::from_array(before).copy_to_slice(&mut bytes[16 * n..]);
     }
-    Ok(sealed)
 }
 
 // The blocks whose cipher texts these whole blocks are: four at a time, and then one by one.
-pub(crate) fn unchained(alloc: Global, key: &Schedule, sealed: &[u8]) -> Result<Blob, AllocError>
-    ensures { IfOk result (λ plain. plain ≡ concat (uncbc (key_of key.now) initial_vector (blocks_of sealed.now))) }
+pub(crate) fn unchained(alloc: Global, key: &Schedule, sealed: &[u8]) -> Result<Vec<u8>, AllocError>
+    ensures { IfOk result (λ plain. plain.items ≡ concat (uncbc (key_of key.now) initial_vector (blocks_of sealed.now))) }
 {
-    let mut plain = Blob::with_room(alloc, sealed.len())?;
+    let mut plain = Vec::with_capacity(alloc, sealed.len())?;
     let mut before = INITIAL_VECTOR;
     let (blocks, _rest) = sealed.as_chunks::<16>();
     let (fours, rest) = blocks.as_chunks::<4>();
     for four in fours {
         let sums = four_unchained(key, &before, four);
-        plain.append(alloc, sums.as_flattened())?;
+        plain.extend_from_slice(sums.as_flattened())?;
         before = four[3];
     }
     for block in rest {
         let sum = add(&key.decrypt(block), &before);
-        plain.append(alloc, &sum)?;
+        plain.extend_from_slice(&sum)?;
         before = *block;
     }
     Ok(plain)

@@ -4,7 +4,6 @@ ghost use Rattle.std.specs.Prelude.{◌≡◌, ◌==◌, ℕ, ◌%◌, List, IfO
 ghost use Rattle.std.specs.List.{list_all};
 ghost use Rattle.cx_cbc.specs.Envelope.{enveloped, padded};
 
-use cx_base::Blob;
 use std::alloc::{AllocError, Global};
 
 /// Version 1, and the magic number 0xff009cad8826aa55, its lowest byte first.
@@ -17,14 +16,15 @@ const FEWEST: usize = 1;
 const MOST: usize = 16;
 
 // The envelope of a content.
-pub(crate) fn enveloped(alloc: Global, content: &[u8]) -> Result<Blob, AllocError>
-    ensures { IfOk result (λ plain. plain ≡ enveloped content.now) }
+pub(crate) fn enveloped(alloc: Global, content: &[u8]) -> Result<Vec<u8>, AllocError>
+    ensures { IfOk result (λ plain. plain.items ≡ enveloped content.now) }
 {
-    let mut plain = Blob::with_room(alloc, content.len().saturating_add(25))?;
-    plain.append_both(alloc, &HEAD, content)?;
-    let missing = 16 - plain.bytes().len() % 16;
+    let mut plain = Vec::with_capacity(alloc, content.len().saturating_add(25))?;
+    plain.extend_from_slice(&HEAD)?;
+    plain.extend_from_slice(content)?;
+    let missing = 16 - plain.len() % 16;
     let fill = [missing as u8; 16];
-    plain.append(alloc, &fill[..missing])?;
+    plain.extend_from_slice(&fill[..missing])?;
     Ok(plain)
 }
 

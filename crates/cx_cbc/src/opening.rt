@@ -8,7 +8,7 @@ ghost use Rattle.cx_cbc.specs.Opened.{opened};
 
 use crate::LONGEST;
 use crate::chain::unchained;
-use crate::envelope::content_of;
+use crate::envelope::{HEAD, content_of};
 use crate::refusals::OpenRefusal;
 use cx_aes::Schedule;
 use cx_base::Blob;
@@ -30,15 +30,17 @@ pub fn open(alloc: Global, key: &Schedule, sealed: &[u8]) -> Result<Blob, OpenRe
     if sealed.len() % 16 != 0 {
         return Err(OpenRefusal::Unopened);
     }
-    let plain = unchained(alloc, key, sealed)?;
-    let Some(content) = content_of(plain.bytes()) else {
+    let mut plain = unchained(alloc, key, sealed)?;
+    let Some(content) = content_of(plain.as_slice()) else {
         return Err(OpenRefusal::Unopened);
     };
-    if content.len() > LONGEST {
+    let length = content.len();
+    if length > LONGEST {
         return Err(OpenRefusal::Unopened);
     }
-    let content = Blob::of(alloc, content)?;
-    Ok(content)
+    plain.copy_within(HEAD.len()..HEAD.len() + length, 0);
+    plain.truncate(length);
+    Ok(Blob::from(plain))
 }
 
 /// Bytes open to one content at most, under a key of 16 bytes.

@@ -5,7 +5,7 @@ ghost use Rattle.cx_aes.specs.KeyOf.{key_of};
 ghost use Rattle.cx_cbc.specs.Envelope.{sealed, Opens};
 
 use crate::LONGEST;
-use crate::chain::{INITIAL_VECTOR, chained};
+use crate::chain::{INITIAL_VECTOR, chain_in_place};
 use crate::envelope::{HEAD, enveloped};
 use crate::refusals::SealRefusal;
 use cx_aes::{Schedule, add};
@@ -21,9 +21,9 @@ pub fn seal(alloc: Global, key: &Schedule, content: &[u8]) -> Result<Blob, SealR
     if content.len() > LONGEST {
         return Err(SealRefusal::TooLong);
     }
-    let plain = enveloped(alloc, content)?;
-    let sealed = chained(alloc, key, plain.bytes())?;
-    Ok(sealed)
+    let mut bytes = enveloped(alloc, content)?;
+    chain_in_place(key, bytes.as_mut_slice());
+    Ok(Blob::from(bytes))
 }
 
 /// The sealed envelope of a content of 16 bytes, as `seal` gives it.

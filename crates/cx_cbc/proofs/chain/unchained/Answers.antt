@@ -17,34 +17,34 @@ loop-four-init c =
     ∙ ap (λ rest. flat_map (λ x. x) (first_chunks 4 (length blocks / 4) blocks) ++ rest) c.as_chunks-2.ensures.back
     ∙ fours-and-rest (length blocks / 4) blocks (omega arith) in
     ap (λ plain. plain ++ concat (uncbc (key_of c.args.key.now) initial_vector (flat_map (λ x. x) c.as_chunks-2.result.0.now ++ c.as_chunks-2.result.1.now)))
-    c.in_ok-plain.ensures
+    c.in_ok-plain.ensures.items
     ∙ ap (λ left. concat (uncbc (key_of c.args.key.now) initial_vector left)) (all ∙ c.as_chunks.ensures.front)
 
 pub loop-four-preserved : goal.loop-four-preserved
 loop-four-preserved c =
     let fours : List (List (List ℕ)) = c.as_chunks-2.result.0.now in
     let four : List (List ℕ) = get_or fours c.loop-four.four-index [] in
-    let more = fours_more c.loop-four.plain (key_of c.args.key.now) c.loop-four.before fours c.as_chunks-2.result.1.now c.loop-four.four-index (omega arith)
+    let more = fours_more c.loop-four.plain.items (key_of c.args.key.now) c.loop-four.before fours c.as_chunks-2.result.1.now c.loop-four.four-index (omega arith)
     four refl c.four_unchained-sums.ensures.len in
-    let made : c.append.new.self ≡ c.loop-four.plain ++ concat (uncbc (key_of c.args.key.now) c.loop-four.before four) =
-    c.in_ok-append.ensures.ok ∙ ap (λ xs. c.loop-four.plain ++ xs)
+    let made : c.extend_from_slice.new.self.items ≡ c.loop-four.plain.items ++ concat (uncbc (key_of c.args.key.now) c.loop-four.before four) =
+    c.in_ok-extend_from_slice.ensures.items ∙ ap (λ xs. c.loop-four.plain.items ++ xs)
     (c.as_flattened.ensures.value ∙ sym (concat_is c.four_unchained-sums.result) ∙ ap concat c.four_unchained-sums.ensures.sums) in
     ap (λ out. out ++ concat (uncbc (key_of c.args.key.now) (get_or four 3 []) (flat_map (λ x. x) (drop (c.loop-four.four-index + 1) fours) ++ c.as_chunks-2.result.1.now))) made
     ∙ more ∙ c.loop-four.invariant
 
 pub loop-block-init : goal.loop-block-init
 loop-block-init c =
-    sym (fours_all c.loop-four.plain (key_of c.args.key.now) c.loop-four.before c.as_chunks-2.result.0.now c.as_chunks-2.result.1.now c.loop-four.four-index (omega arith))
+    sym (fours_all c.loop-four.plain.items (key_of c.args.key.now) c.loop-four.before c.as_chunks-2.result.0.now c.as_chunks-2.result.1.now c.loop-four.four-index (omega arith))
     ∙ c.loop-four.invariant
 
 pub loop-block-preserved : goal.loop-block-preserved
 loop-block-preserved c =
     let rest : List (List ℕ) = c.as_chunks-2.result.1.now in
-    let more = uncbc_more c.loop-block.plain (key_of c.args.key.now) c.loop-block.before rest c.loop-block.block-index (omega arith)
+    let more = uncbc_more c.loop-block.plain.items (key_of c.args.key.now) c.loop-block.before rest c.loop-block.block-index (omega arith)
     (get_or rest c.loop-block.block-index []) refl in
-    cc (more, c.add-sum.ensures, c.decrypt.ensures.value, c.in_ok-append-2.ensures.ok, c.loop-block.invariant)
+    cc (more, c.add-sum.ensures, c.decrypt.ensures.value, c.in_ok-extend_from_slice-2.ensures.items, c.loop-block.invariant)
 
 pub returns : goal.returns
 returns c =
-    sym (uncbc_all c.loop-block.plain (key_of c.args.key.now) c.loop-block.before c.as_chunks-2.result.1.now c.loop-block.block-index (omega arith))
+    sym (uncbc_all c.loop-block.plain.items (key_of c.args.key.now) c.loop-block.before c.as_chunks-2.result.1.now c.loop-block.block-index (omega arith))
     ∙ c.loop-block.invariant

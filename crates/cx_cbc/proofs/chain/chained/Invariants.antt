@@ -1,9 +1,0 @@
-use Rattle.std.proofs.Common.{◌≡◌, ◌++◌, drop}
-use Rattle.std.specs.List.{concat}
-use Rattle.cx_aes.specs.KeyOf.{key_of}
-use Rattle.cx_cbc.specs.Chain.{cbc}
-use Rattle.cx_cbc.specs.Envelope.{initial_vector}
-use Rattle.cx_cbc.proofs.chain.chained.Given as goal
-
-abbrev pub invariant-loop-block : goal.invariant-loop-block
-invariant-loop-block l = l.sealed ++ concat (cbc (key_of l.key) l.before (drop l.block-index l.blocks)) ≡ concat (cbc (key_of l.key) initial_vector l.blocks)
