@@ -78,14 +78,25 @@ fn align_at(segments: &[Segment], place: usize) -> u16
 }
 
 /// Writes the preamble of a frame behind some bytes. Where memory is wanting, the bytes stay as they were.
-#[tactic(auto, unfolding(crate::specs::Preambles::preamble_text))]
 pub fn put_preamble(alloc: Global, into: &mut Blob, head: &Preamble) -> Result<(), AllocError>
     ensures ok { OnOk result (into.new ≡ into.old ++ preamble_text head.now) }
     ensures err { OnErr result (into.new ≡ into.old) }
 {
+    into.append(alloc, &preamble_bytes(head))
+}
+
+/// The bytes of a preamble, made without memory.
+#[tactic(auto, unfolding(crate::specs::Preambles::preamble_text))]
+pub fn preamble_bytes(head: &Preamble) -> [u8; 32]
+    ensures { result ≡ preamble_text head.now }
+{
     let front = front(head);
-    let sum = crc32c(0, &front);
-    into.append_both(alloc, &front, &sum.to_le_bytes())
+    let sum = crc32c(0, &front).to_le_bytes();
+    let mut bytes = [0; 32];
+    let (covered, behind) = bytes.split_at_mut(28);
+    covered.copy_from_slice(&front);
+    behind.copy_from_slice(&sum);
+    bytes
 }
 
 // The bytes that the check sum of a preamble covers.

@@ -13,12 +13,12 @@ mod reading;
 mod refusals;
 mod sums;
 
-pub use announcing::{preamble_of, put_preamble, total};
+pub use announcing::{preamble_bytes, preamble_of, put_preamble, total};
 pub use banner::Banner;
 pub use banners::{put_banner, read_banner};
 pub use frame::{Frame, Segment};
 pub use laws::frame_laws;
-pub use plain::put_frame;
+pub use plain::{put_frame, put_text};
 pub use preamble::Preamble;
 pub use preambles::{MAX_PLAIN, read_preamble, read_preamble_within};
 pub use reading::{read_rest, rest_len};

@@ -35,8 +35,20 @@ pub fn put_frame(alloc: Global, into: &mut Blob, frame: &Frame) -> Result<(), Fr
     let mut text = Blob::with_room(alloc, total as usize + AROUND)?;
     put_preamble(alloc, &mut text, &preamble_of(frame))?;
     put_rest(alloc, &mut text, frame.segments.all())?;
-    into.append(alloc, text.bytes())?;
+    put_text(alloc, into, text)?;
     Ok(())
+}
+
+/// Puts a text behind some bytes. Where there are none yet, it is moved there as it stands. Where memory is wanting, the bytes stay as they were.
+pub fn put_text(alloc: Global, into: &mut Blob, text: Blob) -> Result<(), AllocError>
+    ensures ok { OnOk result (into.new ≡ into.old ++ text) }
+    ensures err { OnErr result (into.new ≡ into.old) }
+{
+    if into.bytes().is_empty() {
+        *into = text;
+        return Ok(());
+    }
+    into.append(alloc, text.bytes())
 }
 
 // What stands behind the preamble.

@@ -1,5 +1,5 @@
 -- The plain texts of a frame's parts.
-use Rattle.std.proofs.Common.{◌≡◌, ℕ, suc, ◌+◌, ◌-◌, ◌*◌, ◌/◌, ◌≤◌, false, List, [], ◌∷◌, ◌++◌, length, get_or, take, drop, refl, sym, ap, ◌∙◌, arith, inl, inr, sum_by, append_assoc, length-append, length-take, length-drop}
+use Rattle.std.proofs.Common.{◌≡◌, ◌≢◌, ℕ, suc, ◌+◌, ◌-◌, ◌*◌, ◌/◌, ◌<◌, ◌≤◌, false, List, [], ◌∷◌, ◌++◌, length, get_or, take, drop, refl, sym, ap, ◌∙◌, arith, inl, inr, sum_by, append_assoc, append-nil, length-append, length-take, length-drop}
 use Rattle.std.specs.Prelude.{replicate, ◌==◌}
 use Rattle.std.proofs.lemmas.Bool.{cases_eq, ne_eqb}
 use Rattle.std.proofs.lemmas.List.{length-replicate}
@@ -13,6 +13,7 @@ use Rattle.cx_secure.specs.Parts.{nonce_at, part, sealed_parts}
 use Rattle.cx_secure.proofs.PartLaws.{sealed-append}
 use Rattle.cx_secure.specs.Plains.{bodies, filled, inline_of, last_plain, nonempty, one_if, padded, parts_of, plains, plains_of, second_plain, up16}
 use Rattle.cx_secure.proofs.Lengths.{up16_least, up16_most}
+use Rattle.cx_secure.proofs.Lists.{nothing_filled}
 
 pub length-nonempty : (t : List ℕ) → length (nonempty t) ≡ one_if (length t)
 length-nonempty [] = refl
@@ -116,6 +117,41 @@ three_contents fixed counter behind preamble first others t u v et eu ev eb =
     ev ∙ ap (λ s. s ++ sealed_contents fixed behind last) (eu ∙ ap (λ s. s ++ sealed_contents fixed (counter + 1) second) et)
     ∙ ap (λ n. (head ∷ sealed_contents fixed (counter + 1) second) ++ sealed_contents fixed n last) count
     ∙ ap (λ s. head ∷ s) (sym (contents-append fixed (counter + 1) second last))
+
+-- the contents of a second part and of a last one, where there are such
+of_some : (fixed : List ℕ) (counter : ℕ) (t : List ℕ) → 1 ≤ length t → sealed_contents fixed counter (nonempty t) ≡ (nonce_at fixed counter ++ t) ∷ []
+unfolding sealed_contents
+of_some fixed counter [] some = absurd (omega arith)
+of_some fixed counter (b ∷ bs) some = refl
+
+of_none : (cs : List (List ℕ)) (fixed : List ℕ) (counter : ℕ) (t : List ℕ) → length t ≡ 0 → cs ≡ cs ++ sealed_contents fixed counter (nonempty t)
+unfolding sealed_contents
+of_none cs fixed counter [] none = sym (append-nil cs)
+of_none cs fixed counter (b ∷ bs) none = absurd (omega arith)
+
+pub no_second : (cs : List (List ℕ)) (fixed : List ℕ) (counter : ℕ) (first : List ℕ) → length first ≤ 48 → cs ≡ cs ++ sealed_contents fixed counter (nonempty (second_plain first))
+unfolding second_plain
+no_second cs fixed counter first le = of_none cs fixed counter (second_plain first) (ap length (nothing_filled first le))
+
+pub second_content : (fixed : List ℕ) (counter : ℕ) (first : List ℕ) → 48 < length first
+    → sealed_contents fixed counter (nonempty (second_plain first)) ≡ (nonce_at fixed counter ++ second_plain first) ∷ []
+second_content fixed counter first lt = of_some fixed counter (second_plain first) (omega (arith, length-second_plain first, up16_least (length first - 48)))
+
+pub no_last : (cs : List (List ℕ)) (fixed : List ℕ) (counter : ℕ) (others : List Segment) → length others ≡ 0 → cs ≡ cs ++ sealed_contents fixed counter (nonempty (last_plain others))
+unfolding last_plain
+no_last cs fixed counter others none = of_none cs fixed counter (last_plain others) (rw none refl)
+
+last_some : (others : List Segment) → length others ≢ 0 → 1 ≤ length (last_plain others)
+unfolding last_plain
+last_some others some =
+    let is : (length others == 0) ≡ false = ne_eqb (length others) 0 some in
+    let tail : length (filled 16 (0x0e ∷ [])) ≡ 16 = length-filled 16 (0x0e ∷ []) (omega arith) in
+    let long : 1 ≤ length (bodies others ++ filled 16 (0x0e ∷ [])) = omega (arith, length-append (bodies others) (filled 16 (0x0e ∷ []))) in
+    rw is long
+
+pub last_content : (fixed : List ℕ) (counter : ℕ) (others : List Segment) → length others ≢ 0
+    → sealed_contents fixed counter (nonempty (last_plain others)) ≡ (nonce_at fixed counter ++ last_plain others) ∷ []
+last_content fixed counter others some = of_some fixed counter (last_plain others) (last_some others some)
 
 pub inline_len : (bytes : List ℕ) → length (inline_of bytes) ≡ 48
 unfolding inline_of

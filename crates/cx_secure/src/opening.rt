@@ -10,7 +10,7 @@ ghost use Rattle.cx_secure.specs.Opening.{IsHead, IsPlainHead, IsRestBehind, hea
 ghost use Rattle.cx_secure.specs.Parts.{nonce_at, part};
 ghost use Rattle.cx_secure.specs.Plains.{rest_len, rest_parts};
 ghost use Rattle.cx_secure.specs.Refusing.{Agrees};
-ghost use Rattle.cx_secure.specs.Sealings.{after_opening, connection_key, open_head_at, open_rest_at};
+ghost use Rattle.cx_secure.specs.Sealings.{after_opened, after_opening, connection_key, open_head_at, open_rest_at};
 ghost use Rattle.cx_secure.specs.declared.refusals.SecureRefusal.{SecureRefusal};
 ghost use Rattle.cx_secure.specs.declared.refusals.SecureRefusal.TheVariants.{OutOfMemory};
 ghost use Rattle.cx_secure.specs.declared.sealing.Head.{Head};
@@ -54,16 +54,45 @@ impl Sealing {
         ensures exact { result ≡ open_head_at self.old bytes.now }
         ensures after { self.new ≡ after_opening self.old 1 result }
     {
+        let answer = self.read_head(bytes);
+        match answer {
+            Ok(_) => self.pass_head(),
+            Err(refusal) => self.keep(refusal),
+        }
+        answer
+    }
+
+    /// What `open_head` would answer. `pass_head` then goes on behind a head that is answered, and `keep` keeps why one is refused.
+    pub fn read_head(&self, bytes: &[u8; 96]) -> Result<Head, SecureRefusal>
+        ensures found { IfOk result (IsHead (connection_key self.now) (nonce_at self.now.into.fixed self.now.into.counter) bytes.now) }
+        ensures only { (h : Head) → self.now.kept ≡ None → self.now.into.counter + 1 < 2 ^ 64
+            → IsHead (connection_key self.now) (nonce_at self.now.into.fixed self.now.into.counter) bytes.now h → result ≡ Ok h }
+        ensures exact { result ≡ open_head_at self.now bytes.now }
+        // So `pass_head` can follow.
+        ensures below { IfOk result (λ _. self.now.into.counter + 1 < 2 ^ 64) }
+    {
         if let Some(refusal) = self.kept {
             return Err(refusal);
         }
-        let head = head_step(&self.key, &self.into, bytes);
-        match head {
-            Ok(_) => self.into.raise(1),
-            Err(SecureRefusal::OutOfMemory) => {}
-            Err(refusal) => self.kept = Some(refusal),
+        head_step(&self.key, &self.into, bytes)
+    }
+
+    /// Goes on behind a head that was read.
+    pub fn pass_head(&mut self)
+        requires { self.old.into.counter + 1 < 2 ^ 64 }
+        ensures { self.new ≡ after_opened self.old 1 }
+    {
+        self.into.raise(1);
+    }
+
+    /// Keeps why a part was refused, so that every later call answers it. Want of memory isn't kept.
+    pub fn keep(&mut self, refusal: SecureRefusal)
+        ensures { self.new ≡ after_opening {X = Head} self.old 1 (Err refusal) }
+    {
+        match refusal {
+            SecureRefusal::OutOfMemory => {}
+            refusal => self.kept = Some(refusal),
         }
-        head
     }
 
     /// Hands out the content of the head in these bytes, its nonce and its plain bytes, where its tag is right under the counter of this
@@ -125,9 +154,8 @@ impl Sealing {
                 self.into.raise(rest_parts(&head.preamble));
                 Ok(frame)
             }
-            Err(SecureRefusal::OutOfMemory) => Err(SecureRefusal::OutOfMemory),
             Err(refusal) => {
-                self.kept = Some(refusal);
+                self.keep(refusal);
                 Err(refusal)
             }
         }

@@ -16,7 +16,7 @@ use crate::refusals::SecureRefusal;
 use crate::rooms::{COMPLETE, END, INLINE, one_if, up16};
 use crate::sealing::{Sealing, Way};
 use cx_base::{Blob, Items};
-use cx_frame::{Frame, Segment, preamble_of, put_preamble, total};
+use cx_frame::{Frame, Segment, preamble_bytes, preamble_of, put_text, total};
 use cx_gcm::GcmKey;
 use std::alloc::{AllocError, Global};
 
@@ -54,7 +54,7 @@ impl Sealing {
             return Err(SecureRefusal::TooLong(total));
         }
         let text = sealed(alloc, &self.key, &self.out, frame)?;
-        into.append(alloc, text.bytes())?;
+        put_text(alloc, into, text)?;
         self.out.raise(parts);
         Ok(())
     }
@@ -97,19 +97,12 @@ fn sealed(alloc: Global, key: &GcmKey, way: &Way, frame: &Frame) -> Result<Blob,
     ensures allowed { OnOk result (IsAllowed 1048576 (preamble_of frame.now)) }
     ensures text { IfOk result (λ text. text ≡ secure_text (gcm_key_of key.now) way.now.fixed way.now.counter frame.now) }
 {
-    let mut preamble = Blob::new(alloc);
-    put_preamble(alloc, &mut preamble, &preamble_of(frame))?;
+    let preamble = preamble_bytes(&preamble_of(frame));
     let [first, others @ ..] = frame.segments.all() else {
-        return Ok(preamble);
+        return Ok(Blob::new(alloc));
     };
-    sealed_behind(
-        alloc,
-        key,
-        way,
-        preamble.bytes(),
-        first.bytes.bytes(),
-        others,
-    )
+    let first = first.bytes.bytes();
+    sealed_behind(alloc, key, way, &preamble, first, others)
 }
 
 // The parts of a frame with this preamble.
@@ -129,9 +122,9 @@ fn sealed_behind(
     requires counter { way.now.counter + length (parts_of preamble.now first.now others.now) < 2 ^ 64 }
     ensures { IfOk result (λ text. text ≡ sealed_parts (gcm_key_of key.now) way.now.fixed way.now.counter (parts_of preamble.now first.now others.now)) }
 {
-    let mut head = head_plain(alloc, preamble, first)?;
-    let mut second = second_plain(alloc, first)?;
-    let mut last = last_plain(alloc, others)?;
+    let mut head = head_plain(preamble, first);
+    let mut second = second_plain(alloc, &[], first)?;
+    let mut last = last_plain(alloc, &[], others)?;
     let next = way.counter + 1;
     let behind = next + one_if(first.len().saturating_sub(INLINE));
     let mut text = Blob::with_room(alloc, room_for(&second, &last))?;
@@ -166,19 +159,12 @@ fn contents(
     requires counter { counter + length (plains frame.now) < 2 ^ 64 }
     ensures { IfOk result (λ contents. contents ≡ sealed_contents fixed.now counter (plains frame.now)) }
 {
-    let mut preamble = Blob::new(alloc);
-    put_preamble(alloc, &mut preamble, &preamble_of(frame))?;
+    let preamble = preamble_bytes(&preamble_of(frame));
     let [first, others @ ..] = frame.segments.all() else {
         return Ok(Items::new(alloc));
     };
-    contents_behind(
-        alloc,
-        fixed,
-        counter,
-        preamble.bytes(),
-        first.bytes.bytes(),
-        others,
-    )
+    let first = first.bytes.bytes();
+    contents_behind(alloc, fixed, counter, &preamble, first, others)
 }
 
 // The contents of the parts of a frame with this preamble.
@@ -197,77 +183,110 @@ fn contents_behind(
     requires counter { counter + length (parts_of preamble.now first.now others.now) < 2 ^ 64 }
     ensures { IfOk result (λ contents. contents ≡ sealed_contents fixed.now counter (parts_of preamble.now first.now others.now)) }
 {
-    let head = head_plain(alloc, preamble, first)?;
-    let second = second_plain(alloc, first)?;
-    let last = last_plain(alloc, others)?;
+    let head = head_plain(preamble, first);
     let next = counter + 1;
     let behind = next + one_if(first.len().saturating_sub(INLINE));
     let mut contents = Items::new(alloc);
     hand_out(alloc, &nonce_at(fixed, counter), &head, &mut contents)?;
-    hand_out_nonempty(alloc, fixed, next, &second, &mut contents)?;
-    hand_out_nonempty(alloc, fixed, behind, &last, &mut contents)?;
+    hand_out_second(alloc, fixed, next, first, &mut contents)?;
+    hand_out_last(alloc, fixed, behind, others, &mut contents)?;
     Ok(contents)
 }
 
-// Hands out the content of a part with this counter, where there is one.
-#[tactic(auto, unfolding(crate::specs::Contents::sealed_contents))]
-fn hand_out_nonempty(
+// Hands out the content of the second part with this counter, where there is one.
+#[tactic(auto, using(crate::proofs::PlainLaws::no_second, crate::proofs::PlainLaws::second_content))]
+fn hand_out_second(
     alloc: Global,
     fixed: &[u8; 4],
     counter: u64,
-    plain: &[u8],
+    first: &[u8],
     contents: &mut Items<Blob>,
 ) -> Result<(), AllocError>
-    ensures { OnOk result (contents.new ≡ contents.old ++ sealed_contents fixed.now counter (nonempty plain.now)) }
+    requires { length first.now ≤ 1048576 }
+    ensures { OnOk result (contents.new ≡ contents.old ++ sealed_contents fixed.now counter (nonempty (second_plain first.now))) }
 {
-    if plain.is_empty() {
+    if first.len() <= INLINE {
         return Ok(());
     }
-    hand_out(alloc, &nonce_at(fixed, counter), plain, contents)
+    let content = second_plain(alloc, &nonce_at(fixed, counter), first)?;
+    contents.push(alloc, Blob::from(content))
+}
+
+// The same for the last part.
+#[tactic(auto, using(crate::proofs::PlainLaws::no_last, crate::proofs::PlainLaws::last_content))]
+fn hand_out_last(
+    alloc: Global,
+    fixed: &[u8; 4],
+    counter: u64,
+    others: &[Segment],
+    contents: &mut Items<Blob>,
+) -> Result<(), AllocError>
+    requires { sum_by length_of others.now ≤ 1048576 }
+    ensures { OnOk result (contents.new ≡ contents.old ++ sealed_contents fixed.now counter (nonempty (last_plain others.now))) }
+{
+    if others.is_empty() {
+        return Ok(());
+    }
+    let content = last_plain(alloc, &nonce_at(fixed, counter), others)?;
+    contents.push(alloc, Blob::from(content))
 }
 
 // The plain bytes of the first part.
-#[tactic(auto, using(crate::proofs::Lists::take_min), unfolding(crate::specs::Plains::inline_of))]
-fn head_plain(alloc: Global, preamble: &[u8], first: &[u8]) -> Result<Vec<u8>, AllocError>
-    ensures { IfOk result (λ plain. plain.items ≡ preamble.now ++ inline_of first.now) }
+fn head_plain(preamble: &[u8], first: &[u8]) -> [u8; 80]
+    requires { length preamble.now ≡ 32 }
+    ensures { result ≡ preamble.now ++ inline_of first.now }
 {
-    let mut plain = Vec::with_capacity(alloc, 80)?;
-    plain.extend_from_slice(preamble)?;
     let (inline, _) = first.split_at(first.len().min(INLINE));
-    put_filled(&mut plain, inline, INLINE)?;
-    Ok(plain)
+    let mut plain = [0; 80];
+    let (front, room) = plain.split_at_mut(32);
+    front.copy_from_slice(preamble);
+    let (filled, _) = room.split_at_mut(inline.len());
+    filled.copy_from_slice(inline);
+    plain
 }
 
-// The plain bytes of the second part.
-#[tactic(auto, using(crate::proofs::Lists::nothing_filled), unfolding(crate::specs::Plains::second_plain))]
-fn second_plain(alloc: Global, first: &[u8]) -> Result<Vec<u8>, AllocError>
+// The plain bytes of the second part, behind some bytes.
+#[tactic(auto, using(crate::proofs::Lists::front_alone), unfolding(crate::specs::Plains::second_plain))]
+fn second_plain(alloc: Global, front: &[u8], first: &[u8]) -> Result<Vec<u8>, AllocError>
     requires { length first.now ≤ 1048576 }
-    ensures { IfOk result (λ plain. plain.items ≡ second_plain first.now) }
+    ensures { IfOk result (λ plain. plain.items ≡ front.now ++ second_plain first.now) }
 {
     if first.len() <= INLINE {
-        return Ok(Vec::new(alloc));
+        return Vec::from_slice(alloc, front);
     }
     let (_, rest) = first.split_at(INLINE);
     let room = up16(rest.len());
-    let mut plain = Vec::with_capacity(alloc, room)?;
+    let mut plain = Vec::with_capacity(alloc, room.saturating_add(front.len()))?;
+    plain.extend_from_slice(front)?;
     put_filled(&mut plain, rest, room)?;
     Ok(plain)
 }
 
-// The plain bytes of the last part.
+// The plain bytes of the last part, behind some bytes.
 #[tactic(auto, unfolding(crate::specs::Plains::last_plain))]
-fn last_plain(alloc: Global, others: &[Segment]) -> Result<Vec<u8>, AllocError>
+fn last_plain(alloc: Global, front: &[u8], others: &[Segment]) -> Result<Vec<u8>, AllocError>
     requires { sum_by length_of others.now ≤ 1048576 }
-    ensures { IfOk result (λ plain. plain.items ≡ last_plain others.now) }
+    ensures { IfOk result (λ plain. plain.items ≡ front.now ++ last_plain others.now) }
 {
     if others.is_empty() {
-        return Ok(Vec::new(alloc));
+        return Vec::from_slice(alloc, front);
     }
-    // Room for small segments, so that these aren't moved as they come.
-    let mut plain = Vec::with_capacity(alloc, 128)?;
+    let mut plain = Vec::with_capacity(alloc, room_behind(front, others))?;
+    plain.extend_from_slice(front)?;
     put_bodies(&mut plain, others)?;
     put_filled(&mut plain, &[COMPLETE], END)?;
     Ok(plain)
+}
+
+// Room for some bytes, and for the last part behind them.
+fn room_behind(front: &[u8], others: &[Segment]) -> usize
+    requires { sum_by length_of others.now ≤ 1048576 }
+{
+    let mut room = front.len().saturating_add(END);
+    for segment in others {
+        room = room.saturating_add(up16(segment.bytes.bytes().len()));
+    }
+    room
 }
 
 // The segments, each filled to a multiple of 16.

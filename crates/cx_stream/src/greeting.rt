@@ -4,6 +4,7 @@ ghost use Rattle.std.specs.Prelude.{◌≡◌, [], ◌++◌, OnOk, OnErr};
 ghost use Rattle.cx_stream.specs.Greetings.{Greets};
 
 use crate::faults::StreamFault;
+use crate::room::put_behind;
 use crate::stages::{Ended, Greeted, Greeting, Plain};
 use bytes::BytesMut;
 use cx_frame::read_banner;
@@ -24,7 +25,7 @@ impl Greeting {
         ensures ok { OnOk result (self.new ≡ self.old ++ bytes.now) }
         ensures err { OnErr result (self.new ≡ self.old) }
     {
-        self.bytes.extend_from_slice(bytes)
+        put_behind(&mut self.bytes, bytes)
     }
 
     /// Goes on to plain frames, where the banner is all there. It wants no memory.

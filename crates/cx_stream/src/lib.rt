@@ -5,6 +5,7 @@ mod faults;
 mod greeting;
 mod laws;
 mod plain;
+mod room;
 mod secure;
 mod stages;
 

@@ -8,6 +8,7 @@ ghost use Rattle.cx_stream.specs.Fronts.{frame_in, given_by};
 ghost use Rattle.cx_stream.specs.PlainStreams.{AgreesPlain, BeginsNoPlain, IsPlainAt, IsPlainBehind, Stands, TakesGiven, behind_preamble, plain_frame_at};
 
 use crate::faults::StreamFault;
+use crate::room::put_behind;
 use crate::stages::{Ended, Plain, Secure};
 use cx_frame::{Frame, FrameRefusal, Preamble, read_preamble, read_rest, rest_len};
 use cx_secure::Sealing;
@@ -31,7 +32,7 @@ impl Plain {
         ensures ok { OnOk result (self.new ≡ record self.old { rest = self.old.rest ++ bytes.now }) }
         ensures err { OnErr result (self.new ≡ self.old) }
     {
-        self.bytes.extend_from_slice(bytes)
+        put_behind(&mut self.bytes, bytes)
     }
 
     /// Gives the next frame, where all of it is there. A fault is answered again by every later call; want of memory changes nothing.

@@ -15,6 +15,7 @@ ghost use Rattle.cx_stream.specs.SecureStreams.{AgreesSecure, BeginsNoSecure, Ho
 ghost use Rattle.cx_stream.specs.Turning.{Finished, Readied};
 
 use crate::faults::StreamFault;
+use crate::room::put_behind;
 use crate::stages::{Ended, Secure};
 use bytes::BytesMut;
 use cx_frame::{Blob, Duplicate, Frame, Items};
@@ -39,7 +40,7 @@ impl Secure {
         ensures ok { OnOk result (self.new ≡ record self.old { rest = self.old.rest ++ bytes.now }) }
         ensures err { OnErr result (self.new ≡ self.old) }
     {
-        self.rest.extend_from_slice(bytes)
+        put_behind(&mut self.rest, bytes)
     }
 
     /// Gives the next frame, where all of it is there. A fault is answered again by every later call; want of memory changes nothing of the
@@ -121,17 +122,16 @@ impl Secure {
         let Some((front, _)) = self.rest.as_slice().split_first_chunk::<HEAD>() else {
             return Ok(None);
         };
-        let mut sealing = self.sealing;
-        match sealing.open_head(front) {
+        match self.sealing.read_head(front) {
             Ok(head) => {
-                self.sealing = sealing;
+                self.sealing.pass_head();
                 self.rest.advance(HEAD);
                 self.head = Some(head);
                 Ok(Some(head))
             }
             Err(refusal) => {
                 self.sealing.hand_out_head(alloc, front, opened)?;
-                self.sealing = sealing;
+                self.sealing.keep(refusal);
                 Err(refusal)
             }
         }

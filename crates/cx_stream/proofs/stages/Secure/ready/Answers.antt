@@ -26,7 +26,7 @@ invariant_of-self c =
     let front : List ℕ = c.in-Some-split_first_chunk.front.now in
     let len : length front ≡ 96 = omega (arith, ap length parts.0, length-take 96 c.as_slice.result.now, parts.2) in
     let answer : Result Head SecureRefusal = Ok c.in-Ok.head in
-    subst (λ (x : Sealing). IsOpen x c.in-Ok.head) (sym c.in-Ok.ensures.after)
+    subst (λ (x : Sealing). IsOpen x c.in-Ok.head) (sym c.pass_head.ensures)
     (steady_now c.self.inside.sealing front c.in-Ok.head len (head_read c.self.inside.sealing front answer (sym c.in_default.ensures) (sym c.in-Ok.ensures.exact)) c.in-Ok.ensures.found)
 
 pub returns-in-Ok-clause-readied : goal.returns-in-Ok-clause-readied
@@ -39,8 +39,8 @@ returns-in-Ok-clause-readied c =
     let bytes_are : c.self.inside.rest.items ≡ front ++ left =
     sym (take-append-drop 96 c.self.inside.rest.items) ∙ ap (λ b. b ++ drop 96 c.self.inside.rest.items) (ap (take 96) (sym c.as_slice.ensures) ∙ sym parts.0) ∙ ap (λ b. front ++ b) (sym c.advance.ensures.items)
     in
-    now_open c.args.self.now _ c.self.inside.sealing c.open_head.new.self c.self.inside.head c.self.inside.rest.items front left c.in-Ok.head c.self.view_is c.in_default-head.is refl
-    bytes_are len (sym c.in_default.ensures) c.in-Ok.ensures.after
+    now_open c.args.self.now _ c.self.inside.sealing c.pass_head.new.self c.self.inside.head c.self.inside.rest.items front left c.in-Ok.head c.self.view_is c.in_default-head.is refl
+    bytes_are len (sym c.in_default.ensures) c.pass_head.ensures
     (head_read c.self.inside.sealing front answer (sym c.in_default.ensures) (sym c.in-Ok.ensures.exact)) c.in-Ok.ensures.found
 
 pub returns-in_ok-hand_out_head-in-Err-clause-readied : goal.returns-in_ok-hand_out_head-in-Err-clause-readied
@@ -50,8 +50,8 @@ returns-in_ok-hand_out_head-in-Err-clause-readied c =
     let front : List ℕ = c.in-Some-split_first_chunk.front.now in
     let len : length front ≡ 96 = omega (arith, ap length parts.0, length-take 96 c.as_slice.result.now, parts.2) in
     let bytes_are : rest ≡ front ++ drop 96 rest = sym (take-append-drop 96 rest) ∙ ap (λ b. b ++ drop 96 rest) (ap (take 96) (sym c.as_slice.ensures) ∙ sym parts.0) in
-    refuses_head c.args.self.now _ c.self.inside.sealing c.open_head.new.self c.self.inside.head rest front (drop 96 rest) c.in-Err.refusal c.self.view_is c.in_default-head.is refl
-    bytes_are len (sym c.in_default.ensures) c.in-Err.ensures.after (sym c.in-Err.ensures.exact)
+    refuses_head c.args.self.now _ c.self.inside.sealing c.keep.new.self c.self.inside.head rest front (drop 96 rest) c.in-Err.refusal c.self.view_is c.in_default-head.is refl
+    bytes_are len (sym c.in_default.ensures) c.keep.ensures (sym c.in-Err.ensures.exact)
 
 pub returns-in_ok-hand_out_head-in-Err-clause-handed : goal.returns-in_ok-hand_out_head-in-Err-clause-handed
 returns-in_ok-hand_out_head-in-Err-clause-handed c = λ refusal free is not.
