@@ -65,7 +65,7 @@ fn serve(rt: &HostRuntime, words: &[String]) -> Result<CommandEnd, AllocError> {
     let mut keeper = FolderKeeper::new(rt);
     let mut links = TcpLinks::new(rt.alloc(), rt)?;
     let mut clock = SystemClock::new(rt);
-    let mut dice = SystemDice::new(rt);
+    let mut dice = SystemDice::new(rt.alloc(), rt);
     let ended = run(
         rt.alloc(),
         &texts,

@@ -117,7 +117,9 @@ fn unanswered(
 {
     let mut server = server;
     let saved = server.state();
-    let draw = Draws::new(alloc, 1).draw(0);
+    let Some(draw) = Draws::new(alloc, 1).draw(0) else {
+        return Err(AllocError);
+    };
     let at = Occasion {
         saved: &saved,
         reading,

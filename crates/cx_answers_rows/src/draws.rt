@@ -20,13 +20,13 @@ impl Draws {
         }
     }
 
-    /// The draw of this number, which is none of the earlier ones.
-    pub fn draw(&mut self, number: u32) -> Draw {
-        let mut draw = Draw::of([0; 384]);
+    /// The draw of this number, where it is none of the earlier ones.
+    pub fn draw(&mut self, number: u32) -> Option<Draw> {
+        let mut draw = None;
         let end = number.saturating_add(1);
         for _ in self.next..end {
             if let Ok(next) = self.dice.block() {
-                draw = next;
+                draw = Some(next);
             }
         }
         self.next = end;

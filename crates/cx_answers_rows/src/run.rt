@@ -140,7 +140,7 @@ impl<O: Others> Run<O> {
     fn comes(&mut self, alloc: Global, coming: &Coming<'_>) -> Result<String, AllocError> {
         let mut told = coming.told(alloc)?;
         let bytes = coming.bytes(alloc);
-        let draw = self.draw(coming);
+        let draw = self.draw(alloc, coming)?;
         match coming.event(alloc, &bytes) {
             Ok(event) => self.happens(alloc, coming, event, &draw, &mut told)?,
             Err(error) => return Err(error),
@@ -152,7 +152,7 @@ impl<O: Others> Run<O> {
     fn drips(&mut self, alloc: Global, coming: &Coming<'_>) -> Result<String, AllocError> {
         let mut told = coming.told(alloc)?;
         let bytes = coming.bytes(alloc);
-        let draw = self.draw(coming);
+        let draw = self.draw(alloc, coming)?;
         for (place, byte) in bytes.iter().enumerate() {
             let given = self.turned(alloc, coming, &[*byte], &draw)?;
             if !given.is_empty() {
@@ -170,7 +170,7 @@ impl<O: Others> Run<O> {
         coming: &Coming<'_>,
         bytes: &[u8],
     ) -> Result<String, AllocError> {
-        let draw = self.draw(coming);
+        let draw = self.draw(alloc, coming)?;
         let mut told = self.turned(alloc, coming, bytes, &draw)?;
         self.happens(alloc, coming, Event::Gone(coming.link()), &draw, &mut told)?;
         Ok(told)
@@ -185,7 +185,7 @@ impl<O: Others> Run<O> {
         few: u32,
     ) -> Result<String, AllocError> {
         let mut told = String::new(alloc);
-        let draw = self.draw(coming);
+        let draw = self.draw(alloc, coming)?;
         let link = coming.link().saturating_add(place);
         self.happens(alloc, coming, Event::Opened(link, None), &draw, &mut told)?;
         if place >= few {
@@ -216,7 +216,14 @@ impl<O: Others> Run<O> {
     }
 
     // The draw of a row: a node's next one, unless that was drawn before.
-    fn draw(&mut self, coming: &Coming<'_>) -> Draw {
+    fn draw(&mut self, alloc: Global, coming: &Coming<'_>) -> Result<Draw, AllocError> {
+        match self.drawn(coming) {
+            Some(draw) => Ok(draw),
+            None => Draw::of(alloc, [0; 384]),
+        }
+    }
+
+    fn drawn(&mut self, coming: &Coming<'_>) -> Option<Draw> {
         let number = number_of(coming.draw);
         if coming.node == "mon" {
             if let Some(node) = &mut self.monitor {
@@ -228,10 +235,7 @@ impl<O: Others> Run<O> {
                 return node.draws.draw(number);
             }
         }
-        match self.others.draw(coming.node, number) {
-            Some(draw) => draw,
-            None => Draw::of([0; 384]),
-        }
+        self.others.draw(coming.node, number)
     }
 
     // An event comes to a node.

@@ -7,7 +7,7 @@ use Rattle.cx_dice.specs.declared.draw.Source.TheVariants.{Given, Numbered, AtHa
 
 -- the bytes that were given, or those of a seed's draw of this number
 abbrev pub bytes_of : Source → List ℕ
-bytes_of (Given bytes) = bytes
+bytes_of (Given bytes) = bytes.value
 bytes_of (Numbered seed number) = seed_draw seed number
 bytes_of (AtHand seed number first) = seed_draw seed number
 
@@ -15,4 +15,4 @@ bytes_of (AtHand seed number first) = seed_draw seed number
 abbrev pub IsKept : Source → Type 0
 IsKept (Given bytes) = Unit {0}
 IsKept (Numbered seed number) = Unit {0}
-IsKept (AtHand seed number first) = first ≡ part 0 256 (seed_draw seed number)
+IsKept (AtHand seed number first) = first.value ≡ part 0 256 (seed_draw seed number)

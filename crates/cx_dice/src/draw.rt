@@ -1,6 +1,6 @@
 //! Draws.
 
-ghost use Rattle.std.specs.Prelude.{◌≡◌, length, ◌+◌, ◌%◌, ◌≤◌, ◌<◌, IsTrue};
+ghost use Rattle.std.specs.Prelude.{◌≡◌, length, ◌+◌, ◌%◌, ◌≤◌, ◌<◌, IfOk, IsTrue};
 ghost use Rattle.cx_dice.specs.Draws.{Drawing, challenge_of, connection_of, cookie_of, has_keys, nonce_start, part, put_in, rotation_of, session_of, three_keys};
 ghost use Rattle.cx_dice.specs.Rolls.{generator_at, seed_bytes, seed_draw};
 
@@ -8,6 +8,7 @@ use cx_base::EntityType;
 use rand_chacha::ChaCha20Rng;
 use rand_core::SeedableRng;
 use rand_core::utils::fill_bytes_via_u32;
+use std::alloc::{AllocError, Global};
 use std::marker::Model;
 
 /// What a node draws for one event: 384 random bytes, of which each use has a place of its own. An event uses few of them, and
@@ -17,12 +18,13 @@ pub struct Draw {
     source: Source,
 }
 
-// Where the bytes of a draw come from: they are these, or those of a seed's draw of this number, of which the first may be at hand.
+// Where the bytes of a draw come from: they are these, or those of a seed's draw of this number, of which the first may be at hand. Bytes
+// stand in boxes, since most draws are of a seed and go through many hands.
 #[derive(Debug, Drop)]
 enum Source {
-    Given([u8; 384]),
+    Given(Box<[u8; 384]>),
     Numbered(u64, u64),
-    AtHand(u64, u64, [u8; 256]),
+    AtHand(u64, u64, Box<[u8; 256]>),
 }
 
 impl Model for Draw {
@@ -38,12 +40,13 @@ impl Model for Draw {
 
 impl Draw {
     /// The draw of these bytes.
-    pub fn of(bytes: [u8; 384]) -> Draw
-        ensures { result ≡ record { bytes = bytes } }
+    pub fn of(alloc: Global, bytes: [u8; 384]) -> Result<Draw, AllocError>
+        ensures { IfOk result (λ draw. draw ≡ record { bytes = bytes }) }
     {
-        Draw {
+        let bytes = Box::new(alloc, bytes)?;
+        Ok(Draw {
             source: Source::Given(bytes),
-        }
+        })
     }
 
     /// The draw of this number, from 0, of a seed.
@@ -56,17 +59,20 @@ impl Draw {
     }
 
     /// The same draw, with its first 256 bytes at hand: where several parts of it are used, none of these is computed twice.
-    pub fn at_hand(&self) -> Draw
-        ensures { result ≡ self.now }
+    pub fn at_hand(&self, alloc: Global) -> Result<Draw, AllocError>
+        ensures { IfOk result (λ draw. draw ≡ self.now) }
     {
         match &self.source {
-            Source::Given(bytes) => Draw::of(*bytes),
+            Source::Given(bytes) => Draw::of(alloc, *bytes.as_ref()),
             Source::Numbered(seed, number) => with_first(
+                alloc,
                 *seed,
                 *number,
                 part_of(*seed, *number, 0),
             ),
-            Source::AtHand(seed, number, first) => with_first(*seed, *number, *first),
+            Source::AtHand(seed, number, first) => {
+                with_first(alloc, *seed, *number, *first.as_ref())
+            }
         }
     }
 
@@ -144,11 +150,11 @@ impl Draw {
         ensures whole { length self.now.bytes ≡ 384 }
     {
         match &self.source {
-            Source::Given(bytes) => piece(bytes, place),
+            Source::Given(bytes) => piece(bytes.as_ref(), place),
             Source::Numbered(seed, number) => part_of(*seed, *number, place),
             Source::AtHand(seed, number, first) => {
                 if place + N <= 256 {
-                    piece(first, place)
+                    piece(first.as_ref(), place)
                 } else {
                     part_of(*seed, *number, place)
                 }
@@ -158,13 +164,14 @@ impl Draw {
 }
 
 // A seed's draw of this number, with its first bytes at hand.
-fn with_first(seed: u64, number: u64, first: [u8; 256]) -> Draw
+fn with_first(alloc: Global, seed: u64, number: u64, first: [u8; 256]) -> Result<Draw, AllocError>
     requires { first ≡ part 0 256 (seed_draw seed number) }
-    ensures { result ≡ record { bytes = seed_draw seed number } }
+    ensures { IfOk result (λ draw. draw ≡ record { bytes = seed_draw seed number }) }
 {
-    Draw {
+    let first = Box::new(alloc, first)?;
+    Ok(Draw {
         source: Source::AtHand(seed, number, first),
-    }
+    })
 }
 
 // The bytes of a seed's draw of this number from this place on, which is that of a word.

@@ -106,7 +106,7 @@ fn on_tickets<'a>(
     let Some(own) = server.key_of(&bearer.name) else {
         return Ok(refuses(LoginFault::UnknownEntity, drawn));
     };
-    let draw = at.draw.at_hand();
+    let draw = at.draw.at_hand(alloc)?;
     let entrant = Entrant {
         name: &bearer.name,
         gid: bearer.gid,

@@ -85,7 +85,7 @@ fn numbers<'a>(
     match numbered(server, reclaim) {
         Err(why) => Ok(Verdict::Denied { why, seals }),
         Ok(gid) => {
-            let draw = at.draw.at_hand();
+            let draw = at.draw.at_hand(alloc)?;
             let entrant = Entrant {
                 name: proved.name(),
                 gid,

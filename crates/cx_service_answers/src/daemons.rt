@@ -68,7 +68,7 @@ impl Others for Daemons<'_> {
     fn draw(&mut self, node: &str, number: u32) -> Option<Draw> {
         for own in self.nodes.iter_mut() {
             if own.name.as_str() == node {
-                return Some(own.draws.draw(number));
+                return own.draws.draw(number);
             }
         }
         None

@@ -2,6 +2,7 @@
 
 use cx_base::Failed;
 use cx_dice::{Dice, Draw};
+use std::alloc::{AllocError, Global};
 use std::random::RandomSource;
 
 // How many bytes are taken from the system at once: 16 draws. A call of the system for each draw would cost more than the rest of
@@ -11,6 +12,7 @@ const POOL: usize = 6_144;
 /// Dice over the system's random bytes. Each byte is given once, and overwritten when it is given.
 #[derive(Drop)]
 pub struct SystemDice<R> {
+    alloc: Global,
     rt: R,
     pool: [u8; POOL],
     place: usize,
@@ -19,8 +21,9 @@ pub struct SystemDice<R> {
 
 impl<R> SystemDice<R> {
     /// The dice of this runtime.
-    pub fn new(rt: R) -> SystemDice<R> {
+    pub fn new(alloc: Global, rt: R) -> SystemDice<R> {
         SystemDice {
+            alloc,
             rt,
             pool: [0; POOL],
             place: POOL,
@@ -36,7 +39,7 @@ impl<R: RandomSource> Dice for SystemDice<R> {
 
     ghost faults = { λ d. d.faults };
 
-    /// Fails where the system gives no random bytes. The next call then asks it again.
+    /// Fails where the system gives no random bytes, and the next call then asks it again; and where memory is wanting.
     fn block(&mut self) -> Result<Draw, Failed> {
         if self
             .pool
@@ -59,6 +62,12 @@ impl<R: RandomSource> Dice for SystemDice<R> {
             next.fill(0);
         }
         self.place = self.place.saturating_add(384);
-        Ok(Draw::of(bytes))
+        match Draw::of(self.alloc, bytes) {
+            Ok(draw) => Ok(draw),
+            Err(AllocError) => {
+                self.faults = self.faults.saturating_add(1);
+                Err(Failed)
+            }
+        }
     }
 }

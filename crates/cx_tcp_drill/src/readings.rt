@@ -38,7 +38,7 @@ pub fn differ(rt: &HostRuntime) -> bool {
 }
 
 fn seen(rt: &HostRuntime) -> Option<usize> {
-    let mut dice = SystemDice::new(rt);
+    let mut dice = SystemDice::new(rt.alloc(), rt);
     let mut seen = HashSet::new(rt.alloc());
     for _ in 0..2_000 {
         let draw = dice.block().ok()?;

@@ -53,12 +53,12 @@ fn name(rt: &impl Abort, alloc: Global, kind: EntityType, id: &[u8]) -> EntityNa
     EntityName::new(kind, id).expect(rt, "a name")
 }
 
-fn sevens() -> Draw {
-    Draw::of([7; 384])
+fn sevens(rt: &impl Abort, alloc: Global) -> Draw {
+    Draw::of(alloc, [7; 384]).expect(rt, "memory is ample")
 }
 
-fn rotate(server: &mut KeyServer) -> bool {
-    server.rotate(1000 * SECOND, &sevens())
+fn rotate(rt: &impl Abort, alloc: Global, server: &mut KeyServer) -> bool {
+    server.rotate(1000 * SECOND, &sevens(rt, alloc))
 }
 
 /// Whether a server tells this entity secrets, and doesn't say that it is no daemon.
@@ -92,8 +92,8 @@ fn expect_told(rt: &impl Abort, alloc: Global, server: &KeyServer) {
 #[test]
 fn a_daemon_of_the_keyring_is_told_rotated_secrets(rt: HostRuntime) {
     let mut server = server(&rt, rt.alloc(), 1);
-    assert!(rt; rotate(&mut server));
-    assert!(rt; !rotate(&mut server));
+    assert!(rt; rotate(&rt, rt.alloc(), &mut server));
+    assert!(rt; !rotate(&rt, rt.alloc(), &mut server));
     expect_told(&rt, rt.alloc(), &server);
 }
 
@@ -126,6 +126,7 @@ fn keys_and_global_ids_are_those_of_the_keyring_and_the_state(rt: HostRuntime) {
 }
 
 fn issue(
+    rt: &impl Abort,
     alloc: Global,
     server: &mut KeyServer,
     who: &EntityName,
@@ -137,14 +138,14 @@ fn issue(
         1,
         &SealKey::new(&[0; 16]),
         1000 * SECOND,
-        &sevens(),
+        &sevens(rt, alloc),
     )
 }
 
 /// A ticket of the client for the osds.
 fn issued(rt: &impl Abort, alloc: Global, server: &mut KeyServer) -> Issuance {
     let who = name(rt, alloc, EntityType::Client, b"a");
-    issue(alloc, server, &who).expect(rt, "a ticket")
+    issue(rt, alloc, server, &who).expect(rt, "a ticket")
 }
 
 fn length_of_caps(ticket: &Ticket) -> usize {
