@@ -15,14 +15,14 @@ use std::alloc::{AllocError, Global};
 /// The segments of a plain frame have at most so many bytes together.
 const MAX_PLAIN: usize = 65_536;
 
-/// Room for what a plain frame has beside its segment, and for a sealed AUTH_SIGNATURE, which may be sent with it.
-const BESIDE: usize = 256;
+/// The bytes of a banner.
+const BANNER: usize = 26;
 
 /// One's own banner: REVISION_1 is supported and required.
 pub fn own_banner(alloc: Global) -> Result<Blob, AllocError>
     ensures { IfOk result (λ bytes. bytes ≡ own_banner) }
 {
-    let mut bytes = Blob::new(alloc);
+    let mut bytes = Blob::with_room(alloc, BANNER)?;
     let banner = Banner {
         supported: 1,
         required: 1,
@@ -40,7 +40,7 @@ pub fn plain_bytes(alloc: Global, frame: &Frame) -> Result<Blob, LinkRefusal>
     if length > MAX_PLAIN {
         return Err(LinkRefusal::Fault(BytesFault::TooLong));
     }
-    let mut bytes = Blob::with_room(alloc, length + BESIDE)?;
+    let mut bytes = Blob::new(alloc);
     put_frame(alloc, &mut bytes, frame)?;
     Ok(bytes)
 }

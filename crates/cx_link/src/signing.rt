@@ -55,14 +55,14 @@ impl PlainLink {
         ensures { Finishes (ahead_in self) result
             (joined session.now self.sent (plain_frame done.now) (signed_frame (acceptor_keys secret.now) session.now (take self.taken self.received))) }
     {
-        let mut bytes = plain_bytes(alloc, done)?;
+        let bytes = plain_bytes(alloc, done)?;
         self.send(alloc, bytes.bytes())?;
         let Finished {
             bytes: signature,
             seals,
             signing,
         } = self.signed(alloc, session, secret, false)?;
-        bytes.append(alloc, signature.bytes())?;
+        let bytes = appended(alloc, bytes.bytes(), signature.bytes())?;
         Ok(Finished {
             bytes,
             seals,
@@ -163,6 +163,16 @@ impl Signing {
         });
         Some(Checked { link, entry })
     }
+}
+
+// Bytes and those behind them, with no more room than they need.
+fn appended(alloc: Global, first: &[u8], second: &[u8]) -> Result<Blob, AllocError>
+    ensures { IfOk result (λ bytes. bytes ≡ first.now ++ second.now) }
+{
+    let room = first.len().saturating_add(second.len());
+    let mut bytes = Blob::with_room(alloc, room)?;
+    bytes.append_both(alloc, first, second)?;
+    Ok(bytes)
 }
 
 // AUTH_SIGNATURE with this code.

@@ -5,15 +5,18 @@ ghost use Rattle.std.specs.Option.{option_copied};
 ghost use Rattle.cx_run.specs.Wires.{new_end};
 ghost use Rattle.cx_run_links.specs.Ends.{arriving, sent_by, staying};
 
-use cx_base::{Blob, Items};
+use cx_base::Blob;
 use std::alloc::{AllocError, Global};
 use std::marker::Model;
+
+/// Room for the pieces of a login, made at the first one.
+const ROOM: usize = 6;
 
 /// One end of a link.
 #[derive(Drop)]
 pub(crate) struct End {
     lives: bool,
-    ever: Items<Blob>,
+    ever: Vec<Blob>,
     came: usize,
     taken: usize,
 }
@@ -25,9 +28,9 @@ impl Model for End {
 
     ghost use Rattle.cx_run_links.specs.Ends.{end_with, IsEnd};
 
-    ghost view = { λ e. end_with e.lives e.ever e.came e.taken };
+    ghost view = { λ e. end_with e.lives e.ever.items e.came e.taken };
 
-    ghost invariant = { λ e. IsEnd e.ever e.came e.taken };
+    ghost invariant = { λ e. IsEnd e.ever.items e.came e.taken };
 }
 
 impl End {
@@ -37,7 +40,7 @@ impl End {
     {
         End {
             lives: true,
-            ever: Items::new(alloc),
+            ever: Vec::new(alloc),
             came: 0,
             taken: 0,
         }
@@ -55,32 +58,28 @@ impl End {
     pub(crate) fn under_way(&self) -> usize
         ensures { result ≡ length self.now.under_way }
     {
-        self.ever.all().len() - self.came
+        self.ever.len() - self.came
     }
 
     /// The piece at a place, from 0, among all that it ever sent.
     pub(crate) fn ever_sent(&self, place: usize) -> Option<&Blob>
         ensures { option_copied result ≡ slice_get self.now.ever place }
     {
-        self.ever.all().get(place)
+        self.ever.get(place)
     }
 
     /// It sends a piece, which reaches the other end or is lost.
-    pub(crate) fn send(
-        &mut self,
-        alloc: Global,
-        piece: Blob,
-        reaches: bool,
-    ) -> Result<(), AllocError>
+    pub(crate) fn send(&mut self, piece: Blob, reaches: bool) -> Result<(), AllocError>
         requires { reaches ≡ false → self.old.under_way ≡ [] }
         ensures ok { OnOk result (self.new ≡ sent_by reaches self.old piece) }
         ensures err { OnErr result (self.new ≡ self.old) }
     {
-        // It is kept for long, so with no more room than it needs.
-        let kept = Blob::of(alloc, piece.bytes())?;
-        self.ever.push(alloc, kept)?;
+        if self.ever.capacity() == 0 {
+            self.ever.reserve(ROOM)?;
+        }
+        self.ever.push(piece)?;
         if !reaches {
-            self.came = self.ever.all().len();
+            self.came = self.ever.len();
             self.taken = 0;
         }
         Ok(())
@@ -91,7 +90,7 @@ impl End {
     pub(crate) fn lose_first(&mut self)
         ensures { self.new ≡ record self.old { under_way = drop 1 self.old.under_way } }
     {
-        if self.came < self.ever.all().len() {
+        if self.came < self.ever.len() {
             self.came += 1;
             self.taken = 0;
         }
@@ -101,7 +100,7 @@ impl End {
     pub(crate) fn lose_all(&mut self)
         ensures { self.new ≡ record self.old { under_way = [] } }
     {
-        self.came = self.ever.all().len();
+        self.came = self.ever.len();
         self.taken = 0;
     }
 
@@ -118,7 +117,7 @@ impl End {
         ensures ok { OnOk result (self.new ≡ record self.old { under_way = staying n self.old.under_way }) }
         ensures err { OnErr result (self.new ≡ self.old) }
     {
-        let ever = self.ever.all();
+        let ever = self.ever.as_slice();
         if self.came >= ever.len() {
             return Ok(None);
         }

@@ -150,7 +150,7 @@ impl Wire {
     }
 
     /// A piece is sent from a side.
-    pub(crate) fn send(&mut self, alloc: Global, side: Side, piece: Blob) -> Result<(), AllocError>
+    pub(crate) fn send(&mut self, side: Side, piece: Blob) -> Result<(), AllocError>
         ensures ok { OnOk result (self.new ≡ sent_from self.old side piece) }
         ensures err { OnErr result (self.new ≡ self.old) }
         ensures number { self.new.number ≡ self.old.number }
@@ -158,11 +158,11 @@ impl Wire {
         match side {
             Side::Connector => {
                 let reaches = self.acceptor.lives();
-                self.connector.send(alloc, piece, reaches)
+                self.connector.send(piece, reaches)
             }
             Side::Acceptor => {
                 let reaches = self.connector.lives();
-                self.acceptor.send(alloc, piece, reaches)
+                self.acceptor.send(piece, reaches)
             }
         }
     }

@@ -144,22 +144,17 @@ impl Wires {
     }
 
     /// A node sends these pieces, each on its link. Where memory is wanting, some of the first ones were sent.
-    pub fn send(
-        &mut self,
-        alloc: Global,
-        who: &NodeName,
-        pieces: Items<Piece>,
-    ) -> Result<(), AllocError>
+    pub fn send(&mut self, who: &NodeName, pieces: Items<Piece>) -> Result<(), AllocError>
         ensures ok { OnOk result (self.new ≡ sends_all who.now self.old pieces) }
         ensures err { OnErr result (IsSentInPart who.now self.old pieces self.new) }
     {
         for piece in pieces.into_vec() {
-            self.send_piece(alloc, who, piece)?;
+            self.send_piece(who, piece)?;
         }
         Ok(())
     }
 
-    fn send_piece(&mut self, alloc: Global, who: &NodeName, piece: Piece) -> Result<(), AllocError>
+    fn send_piece(&mut self, who: &NodeName, piece: Piece) -> Result<(), AllocError>
         ensures ok { OnOk result (self.new ≡ sends_piece who.now self.old piece (wire_of piece.link self.old)) }
         ensures err { OnErr result (self.new ≡ self.old) }
     {
@@ -169,7 +164,7 @@ impl Wires {
                 self.busy.add(u64::from(link))?;
                 let wire = &mut self.held[place];
                 let side = wire.side_of(who);
-                wire.send(alloc, side, bytes)
+                wire.send(side, bytes)
             }
             None => Ok(()),
         }

@@ -81,7 +81,7 @@ impl World {
         ensures opens { out.new.opens ≡ out.old.opens }
     {
         let sends = mem::replace(&mut out.sends, Items::new(alloc));
-        self.wires.send(alloc, who, sends)?;
+        self.wires.send(who, sends)?;
         self.wires.shut(who, out.shuts.all())?;
         Ok(())
     }

@@ -8,11 +8,11 @@ returns-in_ok-bytes-in-Some-clause-ok c =
     let i = c.self.inside in
     let n = c.in-Some.n in
     let piece : List ℕ = c.index-ever-self.result in
-    let ever : c.all-ever.result.now ≡ i.ever = c.all-ever.ensures in
-    let within : i.came < length i.ever = rw (← ever) (omega arith) in
-    let read : piece ≡ get_or i.ever i.came piece = rw (← ever) c.index-ever-self.is in
+    let ever : c.as_slice-ever.result.now ≡ i.ever.items = c.as_slice-ever.ensures.value in
+    let within : i.came < length i.ever.items = rw (← ever) (omega arith) in
+    let read : piece ≡ get_or i.ever.items i.came piece = rw (← ever) c.index-ever-self.is in
     let bytes : c.bytes-piece.result.now ≡ piece = c.bytes-piece.ensures in
     let t = rw (bytes, length-take) at c.if-n-rest.true in
     let h : n < length (drop i.taken piece) = omega arith in
-    let k = taken_on i.ever i.came i.taken n piece within read h in
-    rw (← c.self.view_is, c.in-Some.is) (ap (λ (u : List (List ℕ)). let r : End = record { lives = i.lives; under_way = u; ever = i.ever } in r) k)
+    let k = taken_on i.ever.items i.came i.taken n piece within read h in
+    rw (← c.self.view_is, c.in-Some.is) (ap (λ (u : List (List ℕ)). let r : End = record { lives = i.lives; under_way = u; ever = i.ever.items } in r) k)
