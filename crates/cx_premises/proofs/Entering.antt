@@ -1,13 +1,12 @@
 -- A ledger behind one entry more, and what it tells in the end.
 use Rattle.std.proofs.Common.{◌≡◌, ℕ, Bool, true, false, cond, List, [], ◌∷◌, ◌++◌, Option, Some, None, ◌⊎◌, inl, inr, refl, sym, ap, ◌∙◌, subst}
-use Rattle.std.specs.BTreeSet.{BTreeSet}
 use Rattle.cx_base.specs.Names.{Name}
 use Rattle.cx_base.specs.declared.nodes.NodeName.{NodeName}
 use Rattle.cx_journal.specs.declared.premises.Broken.{Broken}
 use Rattle.cx_journal.specs.declared.premises.Premise.TheVariants as premise
 use Rattle.cx_premises.proofs.Concluding.{found_broken, found_kept, found_suspect}
 use Rattle.cx_premises.proofs.Leaving.{leaks_left, left_leaks, left_seals, left_signs, seals_left, signs_left}
-use Rattle.cx_premises.proofs.Ordering.{left_more, left_same}
+use Rattle.cx_premises.proofs.Growing.{left_more, left_same}
 use Rattle.cx_premises.proofs.Repeating.{is_then_repeated, repeated_is}
 use Rattle.cx_premises.proofs.Walks.{behind, from_newest, some_from, some_stays, to_newest}
 use Rattle.cx_premises.specs.Facts.{AreLeft, draw_fact, fact_of, is_kept, is_repeated, sealed_fact, signed_fact}
@@ -26,7 +25,7 @@ use Rattle.cx_steps.specs.declared.seals.SealEntry.{SealEntry}
 use Rattle.cx_steps.specs.declared.seals.SealEntry.TheVariants as entry
 use Rattle.cx_steps.specs.declared.seals.SealMark.{SealMark}
 
-module _ (leaked : List Name) (log : List Logged) (facts : BTreeSet Fact) (held : AreLeft leaked log facts) where
+module _ (leaked : List Name) (log : List Logged) (facts : List Fact) (held : AreLeft leaked log facts) where
   -- ---- what is kept, and what the premises ask
 
   leaked_is : (key : List ℕ) → is_kept facts (fact.LeakedKey key) ≡ true → IsLeakedKey leaked log key
@@ -122,22 +121,22 @@ enters_at old new node line (entry.Sealed mark) entered leaked log stands =
     let at : Logged = record { node = node; line = line; entry = entry.Sealed mark } in
     record {
       names = entered.names ∙ stands.names;
-      left = left_more leaked log at old.kept.facts new.kept.facts (sealed_fact mark) refl entered.facts stands.left;
+      left = left_more leaked log at old.kept new.kept (sealed_fact mark) refl entered.facts stands.left;
       found = subst (AreFound leaked (log ++ at ∷ [])) (sym entered.found) (found_kept leaked log at old.findings stands.found (λ whole leak. record { owed = tt; new = tt }));
     }
 enters_at old new node line (entry.Signed mark) entered leaked log stands =
     let at : Logged = record { node = node; line = line; entry = entry.Signed mark } in
     record {
       names = entered.names ∙ stands.names;
-      left = left_more leaked log at old.kept.facts new.kept.facts (signed_fact mark) refl entered.facts stands.left;
+      left = left_more leaked log at old.kept new.kept (signed_fact mark) refl entered.facts stands.left;
       found = subst (AreFound leaked (log ++ at ∷ [])) (sym entered.found) (found_kept leaked log at old.findings stands.found (λ whole leak. record { owed = tt; new = tt }));
     }
 enters_at old new node line (entry.Opened mark) entered leaked log stands =
     let at : Logged = record { node = node; line = line; entry = entry.Opened mark } in
-    let facts = old.kept.facts in
+    let facts = old.kept in
     record {
       names = entered.names ∙ stands.names;
-      left = left_same leaked log at old.kept.facts new.kept.facts refl entered.facts stands.left;
+      left = left_same leaked log at old.kept new.kept refl entered.facts stands.left;
       found = subst (AreFound leaked (log ++ at ∷ [])) (sym entered.found)
           (found_demanded leaked log facts stands.left at mark (sealed_fact mark) (HasSealed (behind [] log) mark) (λ whole owed. owed) (λ whole owed. owed) tt
           (sealed_is leaked log facts stands.left mark) (is_then_sealed leaked log facts stands.left mark) old.findings stands.found
@@ -145,10 +144,10 @@ enters_at old new node line (entry.Opened mark) entered leaked log stands =
     }
 enters_at old new node line (entry.Checked mark) entered leaked log stands =
     let at : Logged = record { node = node; line = line; entry = entry.Checked mark } in
-    let facts = old.kept.facts in
+    let facts = old.kept in
     record {
       names = entered.names ∙ stands.names;
-      left = left_same leaked log at old.kept.facts new.kept.facts refl entered.facts stands.left;
+      left = left_same leaked log at old.kept new.kept refl entered.facts stands.left;
       found = subst (AreFound leaked (log ++ at ∷ [])) (sym entered.found)
           (found_demanded leaked log facts stands.left at mark (signed_fact mark) (HasSigned (behind [] log) mark) (λ whole owed. owed) (λ whole owed. owed) tt
           (signed_is leaked log facts stands.left mark) (is_then_signed leaked log facts stands.left mark) old.findings stands.found
@@ -159,9 +158,9 @@ enters_at old new node line (entry.Drawn mark) entered leaked log stands =
     let same : draw_fact leaked mark ≡ draw_fact old.leaked mark = ap (λ names. draw_fact names mark) (sym stands.names) in
     record {
       names = entered.names ∙ stands.names;
-      left = left_more leaked log at old.kept.facts new.kept.facts (draw_fact old.leaked mark) (ap Some same) entered.facts stands.left;
+      left = left_more leaked log at old.kept new.kept (draw_fact old.leaked mark) (ap Some same) entered.facts stands.left;
       found = subst (AreFound leaked (log ++ at ∷ [])) (sym entered.found)
-          (found_drawn leaked log old.kept.facts stands.left node line mark old.findings stands.found (is_repeated old.kept.facts (draw_fact old.leaked mark)) (ap (is_repeated old.kept.facts) same));
+          (found_drawn leaked log old.kept stands.left node line mark old.findings stands.found (is_repeated old.kept (draw_fact old.leaked mark)) (ap (is_repeated old.kept) same));
     }
 
 pub stands_more : (old new : Ledger) (at : Logged) → Enters old new at → (leaked : List Name) (log : List Logged) → StandsFor old leaked log → StandsFor new leaked (log ++ at ∷ [])
@@ -169,7 +168,7 @@ stands_more old new at entered leaked log stands = enters_at old new at.node at.
 
 -- ---- the end of a log
 
-come_to_first : (leaked : List Name) (log : List Logged) (facts : BTreeSet Fact) → AreLeft leaked log facts → (suspects : List Suspect) (breach : Option Broken) → ComeTo leaked log suspects breach (first_of facts suspects breach)
+come_to_first : (leaked : List Name) (log : List Logged) (facts : List Fact) → AreLeft leaked log facts → (suspects : List Suspect) (breach : Option Broken) → ComeTo leaked log suspects breach (first_of facts suspects breach)
 come_to_first leaked log facts held [] breach = refl
 come_to_first leaked log facts held (s ∷ suspects) breach = at_one (is_kept facts (fact.LeakedKey s.key)) refl (come_to_first leaked log facts held suspects breach)
   where
@@ -182,8 +181,8 @@ found_as_whole : (leaked : List Name) (log : List Logged) (found : Option Broken
 found_as_whole leaked log None held = held
 found_as_whole leaked log (Some broken) held = held
 
-pub told_in_the_end : (ledger : Ledger) (leaked : List Name) (log : List Logged) → StandsFor ledger leaked log → IsFound leaked log (first_of ledger.kept.facts ledger.findings.suspects ledger.findings.breach)
+pub told_in_the_end : (ledger : Ledger) (leaked : List Name) (log : List Logged) → StandsFor ledger leaked log → IsFound leaked log (first_of ledger.kept ledger.findings.suspects ledger.findings.breach)
 told_in_the_end ledger leaked log stands =
-    let found = first_of ledger.kept.facts ledger.findings.suspects ledger.findings.breach in
+    let found = first_of ledger.kept ledger.findings.suspects ledger.findings.breach in
     found_as_whole leaked log found
-    (stands.found.each log found (record { each = λ key leaks. leaks }) (come_to_first leaked log ledger.kept.facts stands.left ledger.findings.suspects ledger.findings.breach))
+    (stands.found.each log found (record { each = λ key leaks. leaks }) (come_to_first leaked log ledger.kept stands.left ledger.findings.suspects ledger.findings.breach))

@@ -7,7 +7,7 @@ use Rattle.std.proofs.lemmas.Map.Views.{Contains-from_any, list_any-from_Contain
 use Rattle.cx_base.specs.Names.{Name, same_name}
 use Rattle.cx_base.proofs.Names.{same_name_is, same_name_self}
 use Rattle.cx_line_words.specs.Named.{is_among}
-use Rattle.cx_premises.specs.Facts.{number_in, draw_fact, fact_of, key_fact, sealed_fact, signed_fact}
+use Rattle.cx_premises.specs.Facts.{draw_fact, fact_of, key_fact, sealed_fact, signed_fact}
 use Rattle.cx_premises.specs.declared.facts.Fact.{Fact}
 use Rattle.cx_premises.specs.declared.facts.Fact.TheVariants as fact
 use Rattle.cx_steps.specs.Draws.{for_whom, key_of}
@@ -52,8 +52,8 @@ key_in _ = None
 
 -- whether a draw leaves such a fact
 abbrev pub is_drawn : Fact → Bool
-is_drawn (fact.Sealed number content key) = false
-is_drawn (fact.Signed number content key) = false
+is_drawn (fact.Sealed content key) = false
+is_drawn (fact.Signed content key) = false
 is_drawn _ = true
 
 key_is_drawn : (leaks : Bool) (key : List ℕ) → is_drawn (key_fact leaks key) ≡ true
@@ -96,7 +96,7 @@ left_seals leaked mark (entry.Drawn other) e = undrawn leaked other (sealed_fact
 left_seals leaked mark _ e = cc
 
 pub seals_left : (leaked : List Name) (mark : SealMark) (e : SealEntry) → Seals mark e → fact_of leaked e ≡ Some (sealed_fact mark)
-seals_left leaked mark (entry.Sealed sealed) same = ap (λ key. Some (fact.Sealed (number_in key sealed.content) sealed.content key)) same.key ∙ ap (λ content. Some (fact.Sealed (number_in mark.key content) content mark.key)) same.content
+seals_left leaked mark (entry.Sealed sealed) same = ap (λ key. Some (fact.Sealed sealed.content key)) same.key ∙ ap (λ content. Some (fact.Sealed content mark.key)) same.content
 seals_left leaked mark _ none = absurd none
 
 pub left_signs : (leaked : List Name) (mark : SealMark) (e : SealEntry) → fact_of leaked e ≡ Some (signed_fact mark) → Signs mark e
@@ -105,7 +105,7 @@ left_signs leaked mark (entry.Drawn other) e = undrawn leaked other (signed_fact
 left_signs leaked mark _ e = cc
 
 pub signs_left : (leaked : List Name) (mark : SealMark) (e : SealEntry) → Signs mark e → fact_of leaked e ≡ Some (signed_fact mark)
-signs_left leaked mark (entry.Signed signed) same = ap (λ key. Some (fact.Signed (number_in key signed.content) signed.content key)) same.key ∙ ap (λ content. Some (fact.Signed (number_in mark.key content) content mark.key)) same.content
+signs_left leaked mark (entry.Signed signed) same = ap (λ key. Some (fact.Signed signed.content key)) same.key ∙ ap (λ content. Some (fact.Signed content mark.key)) same.content
 signs_left leaked mark _ none = absurd none
 
 -- ---- leaked keys

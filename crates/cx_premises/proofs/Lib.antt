@@ -1,7 +1,7 @@
 pub mod Concluding
 pub mod Entering
+pub mod Growing
 pub mod Leaving
-pub mod Ordering
 pub mod Repeating
 pub mod Twins
 pub mod Walks

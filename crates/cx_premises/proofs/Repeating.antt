@@ -1,7 +1,6 @@
 -- A draw repeats an earlier one exactly where what it leaves is there, or the same key in the other form.
 use Rattle.std.proofs.Common.{◌≡◌, ℕ, Bool, true, false, List, [], ◌∷◌, Option, Some, None, ◌⊎◌, inl, inr, refl, sym, ap, ◌∙◌, subst, take}
 use Rattle.std.specs.Prelude.{◌||◌}
-use Rattle.std.specs.BTreeSet.{BTreeSet}
 use Rattle.std.proofs.lemmas.Bool.{or_cases}
 use Rattle.cx_base.specs.Names.{Name}
 use Rattle.cx_premises.proofs.Leaving.{is_drawn, key_in, key_in_draw, undrawn}
@@ -24,7 +23,7 @@ AreTwins a b = (a ≡ b) ⊎ ((key : List ℕ) × (key_in a ≡ Some key) × (ke
 
 -- ---- among the facts
 
-module _ (facts : BTreeSet Fact) where
+module _ (facts : List Fact) where
   key_there : (key : List ℕ) (left : Fact) → (is_kept facts (fact.Key key) ≡ true) ⊎ (is_kept facts (fact.LeakedKey key) ≡ true) → key_in left ≡ Some key → (other : Fact) × (is_kept facts other ≡ true) × AreTwins other left
   key_there key left (inl kept) is = (fact.Key key, kept, inr (key, refl, is))
   key_there key left (inr kept) is = (fact.LeakedKey key, kept, inr (key, refl, is))
@@ -163,7 +162,7 @@ module _ (leaked : List Name) where
   has_twin mark (at ∷ log) (inl here) = let found = left_twin mark at.entry here in (found.0, inl found.1, found.2)
   has_twin mark (at ∷ log) (inr there) = let found = has_twin mark log there in (found.0, inr found.1, found.2)
 
-  module _ (log : List Logged) (facts : BTreeSet Fact) (held : AreLeft leaked log facts) (mark : DrawMark) where
+  module _ (log : List Logged) (facts : List Fact) (held : AreLeft leaked log facts) (mark : DrawMark) where
     -- what is repeated was drawn
     pub repeated_is : is_repeated facts (draw_fact leaked mark) ≡ true → SomeOf (λ at. RepeatsIn mark at.entry) (behind [] log)
     repeated_is e =

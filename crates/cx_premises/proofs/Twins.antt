@@ -1,7 +1,6 @@
 -- What is there, or there in the other form, is repeated.
-use Rattle.std.proofs.Common.{◌≡◌, Bool, true, false, refl}
+use Rattle.std.proofs.Common.{◌≡◌, Bool, true, false, List, refl}
 use Rattle.std.specs.Prelude.{◌||◌}
-use Rattle.std.specs.BTreeSet.{BTreeSet}
 use Rattle.cx_premises.specs.Facts.{has_twin, is_kept, is_repeated}
 use Rattle.cx_premises.specs.declared.facts.Fact.{Fact}
 use Rattle.cx_premises.specs.declared.facts.Fact.TheVariants as fact
@@ -16,11 +15,11 @@ or_none : (a : Bool) → a ≡ (a || false)
 or_none true = refl
 or_none false = refl
 
-pub repeated_by : (facts : BTreeSet Fact) (left : Fact) → is_repeated facts left ≡ (is_kept facts left || has_twin facts left)
+pub repeated_by : (facts : List Fact) (left : Fact) → is_repeated facts left ≡ (is_kept facts left || has_twin facts left)
 repeated_by facts (fact.Key key) = refl
 repeated_by facts (fact.LeakedKey key) = or_turned (is_kept facts (fact.Key key)) (is_kept facts (fact.LeakedKey key))
-repeated_by facts (fact.Sealed number content key) = or_none (is_kept facts (fact.Sealed number content key))
-repeated_by facts (fact.Signed number content key) = or_none (is_kept facts (fact.Signed number content key))
+repeated_by facts (fact.Sealed content key) = or_none (is_kept facts (fact.Sealed content key))
+repeated_by facts (fact.Signed content key) = or_none (is_kept facts (fact.Signed content key))
 repeated_by facts (fact.Challenge value) = or_none (is_kept facts (fact.Challenge value))
 repeated_by facts (fact.Nonce value) = or_none (is_kept facts (fact.Nonce value))
 repeated_by facts (fact.Cookie value) = or_none (is_kept facts (fact.Cookie value))

@@ -1,13 +1,12 @@
 -- What an entry of a log leaves behind, by which later entries are judged.
-use Rattle.std.specs.Prelude.{ℕ, ◌≡◌, ◌+◌, ◌*◌, ◌%◌, ◌^◌, Bool, true, false, List, [], ◌∷◌, Option, Some, None, IsTrue, ◌↔◌, ◌||◌, take, slice_index}
+use Rattle.std.specs.Prelude.{ℕ, ◌≡◌, ◌+◌, ◌*◌, ◌%◌, ◌^◌, Bool, true, false, List, [], ◌∷◌, Option, Some, None, IsTrue, ◌↔◌, ◌||◌, cond, take, slice_index}
 use Rattle.std.specs.Int.{w32, from_le_bytes}
-use Rattle.std.specs.BTreeSet.{BTreeSet, contains, Updates}
-use Rattle.std.specs.declared.cmp.Ordering.{Ordering}
+use Rattle.std.specs.List.{list_any}
 use Rattle.cx_base.specs.Names.{Name}
 use Rattle.cx_line_words.specs.Named.{is_among}
 use Rattle.cx_premises.specs.declared.facts.Fact.{Fact}
 use Rattle.cx_premises.specs.declared.facts.Fact.TheVariants as fact
-use Rattle.cx_premises.specs.contracts.facts.FactOrd.TheImpl as fact_order
+use Rattle.cx_premises.specs.contracts.facts.FactPartialEq.TheImpl as fact_equality
 use Rattle.cx_steps.specs.Onto.{SomeOf}
 use Rattle.cx_steps.specs.declared.seals.DrawMark.{DrawMark}
 use Rattle.cx_steps.specs.declared.seals.DrawMark.TheVariants as draw
@@ -27,11 +26,21 @@ four_at bytes place =
 abbrev pub number_in : List ℕ → List ℕ → ℕ
 number_in key bytes = four_at key 0 * 2 ^ 32 + (four_at bytes 4 + four_at bytes 16) % 2 ^ 32
 
+-- a number by which facts are soon told apart
+abbrev pub number_of : Fact → ℕ
+number_of (fact.Sealed content key) = number_in key content
+number_of (fact.Signed content key) = number_in key content
+number_of (fact.Key key) = number_in key key
+number_of (fact.LeakedKey key) = number_in key key
+number_of (fact.Challenge value) = value
+number_of (fact.Nonce value) = value
+number_of (fact.Cookie value) = value
+
 abbrev pub sealed_fact : SealMark → Fact
-sealed_fact mark = fact.Sealed (number_in mark.key mark.content) mark.content mark.key
+sealed_fact mark = fact.Sealed mark.content mark.key
 
 abbrev pub signed_fact : SealMark → Fact
-signed_fact mark = fact.Signed (number_in mark.key mark.content) mark.content mark.key
+signed_fact mark = fact.Signed mark.content mark.key
 
 -- a key that was drawn, for a leaked client or not
 abbrev pub key_fact : Bool → List ℕ → Fact
@@ -57,32 +66,32 @@ fact_of leaked _ = None
 
 -- ---- what is kept of a log
 
-abbrev pub order : Fact → Fact → Ordering
-order = (fact_order.ghosts).cmp
+abbrev pub is_same : Fact → Fact → Bool
+is_same = (fact_equality.ghosts).eq
 
-abbrev pub is_kept : BTreeSet Fact → Fact → Bool
-is_kept facts wanted = contains order facts wanted
+abbrev pub is_kept : List Fact → Fact → Bool
+is_kept facts wanted = list_any (is_same wanted) facts
 
 -- whether what is kept has a draw that this one repeats
-abbrev pub is_repeated : BTreeSet Fact → Fact → Bool
+abbrev pub is_repeated : List Fact → Fact → Bool
 is_repeated facts (fact.Key key) = is_kept facts (fact.Key key) || is_kept facts (fact.LeakedKey key)
 is_repeated facts (fact.LeakedKey key) = is_kept facts (fact.Key key) || is_kept facts (fact.LeakedKey key)
 is_repeated facts drawn = is_kept facts drawn
 
 -- whether what is kept has the key of a draw in the other form
-abbrev pub has_twin : BTreeSet Fact → Fact → Bool
+abbrev pub has_twin : List Fact → Fact → Bool
 has_twin facts (fact.Key key) = is_kept facts (fact.LeakedKey key)
 has_twin facts (fact.LeakedKey key) = is_kept facts (fact.Key key)
 has_twin facts _ = false
 
 -- the fact is among them now, and the others are those that were
-abbrev pub Adds : BTreeSet Fact → BTreeSet Fact → Fact → Type 0
-Adds old new added = Updates order old new added true
+pub record Adds (old new : List Fact) (added : Fact) : Type 0 where
+  pub each : (left : Fact) → is_kept new left ≡ cond (is_same added left) true (is_kept old left)
 
 -- an entry of the log left this
 abbrev pub HasLeft : List Name → List Logged → Fact → Type 0
 HasLeft leaked log left = SomeOf (λ at. fact_of leaked at.entry ≡ Some left) log
 
 -- what is kept is what the log left: what was sealed and signed, the keys that were drawn, and the other draws by their kinds
-pub record AreLeft (leaked : List Name) (log : List Logged) (facts : BTreeSet Fact) : Type 0 where
+pub record AreLeft (leaked : List Name) (log : List Logged) (facts : List Fact) : Type 0 where
   pub each : (left : Fact) → IsTrue (is_kept facts left) ↔ HasLeft leaked log left

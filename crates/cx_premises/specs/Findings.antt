@@ -1,6 +1,5 @@
 -- What was found in a log so far, while keys may still leak.
 use Rattle.std.specs.Prelude.{ℕ, ◌≡◌, Bool, true, false, List, [], ◌∷◌, ◌++◌, ◌⊎◌, Option, Some, None, is_some, if◌then◌else◌}
-use Rattle.std.specs.BTreeSet.{BTreeSet}
 use Rattle.cx_base.specs.Names.{Name}
 use Rattle.cx_journal.specs.declared.premises.Broken.{Broken}
 use Rattle.cx_premises.specs.Facts.{is_kept}
@@ -42,7 +41,7 @@ drawn findings true broken = closed findings broken
 drawn findings false broken = findings
 
 -- the first suspect whose key didn't leak, else the breach
-abbrev pub first_of : BTreeSet Fact → List Suspect → Option Broken → Option Broken
+abbrev pub first_of : List Fact → List Suspect → Option Broken → Option Broken
 first_of facts [] breach = breach
 first_of facts (suspect ∷ suspects) breach =
     if is_kept facts (fact.LeakedKey suspect.key) then first_of facts suspects breach else Some suspect.broken

@@ -1,6 +1,5 @@
 -- What a ledger holds of a log, and what an entry changes in it.
 use Rattle.std.specs.Prelude.{ℕ, ◌≡◌, List}
-use Rattle.std.specs.BTreeSet.{IsUnchanged}
 use Rattle.cx_base.specs.Names.{Name}
 use Rattle.cx_journal.specs.declared.premises.Broken.{Broken}
 use Rattle.cx_journal.specs.declared.premises.Premise.{Premise}
@@ -24,7 +23,7 @@ use Rattle.cx_steps.specs.declared.seals.SealMark.{SealMark}
 -- found in them
 pub record StandsFor (ledger : Ledger) (leaked : List Name) (log : List Logged) : Type 0 where
   pub names : ledger.leaked ≡ leaked
-  pub left : AreLeft leaked log ledger.kept.facts
+  pub left : AreLeft leaked log ledger.kept
   pub found : AreFound leaked log ledger.findings
 
 -- ---- what an entry changes
@@ -39,11 +38,11 @@ suspect_at at mark = record { key = mark.key; broken = breach_at at premise.Seal
 -- the findings behind an entry that owes this to the earlier ones
 abbrev pub findings_at : Ledger → Logged → SealMark → Fact → Findings
 findings_at ledger at mark due =
-    demanded ledger.findings (is_kept ledger.kept.facts due) (is_server at.node) (is_kept ledger.kept.facts (fact.LeakedKey mark.key)) (suspect_at at mark)
+    demanded ledger.findings (is_kept ledger.kept due) (is_server at.node) (is_kept ledger.kept (fact.LeakedKey mark.key)) (suspect_at at mark)
 
 -- the findings behind a draw
 abbrev pub findings_drawn : Ledger → Logged → Fact → Findings
-findings_drawn ledger at left = drawn ledger.findings (is_repeated ledger.kept.facts left) (breach_at at premise.Draw)
+findings_drawn ledger at left = drawn ledger.findings (is_repeated ledger.kept left) (breach_at at premise.Draw)
 
 -- the breach that an entry would be that stands there
 abbrev pub breach_there : Stand → Premise → Broken
@@ -52,23 +51,23 @@ breach_there at why = record { why = why; node = at.node.now; kind = at.kind; li
 -- the findings behind an entry there that owes this under a key to the earlier ones
 abbrev pub findings_owed : Ledger → Stand → List ℕ → Fact → Findings
 findings_owed ledger at key due =
-    demanded ledger.findings (is_kept ledger.kept.facts due) (is_server at.node.now) (is_kept ledger.kept.facts (fact.LeakedKey key))
+    demanded ledger.findings (is_kept ledger.kept due) (is_server at.node.now) (is_kept ledger.kept (fact.LeakedKey key))
     (record { key = key; broken = breach_there at premise.Sealing })
 
 -- the findings behind a draw there
 abbrev pub findings_repeated : Ledger → Stand → Fact → Findings
-findings_repeated ledger at left = drawn ledger.findings (is_repeated ledger.kept.facts left) (breach_there at premise.Draw)
+findings_repeated ledger at left = drawn ledger.findings (is_repeated ledger.kept left) (breach_there at premise.Draw)
 
 -- the ledger holds one fact more, and these findings
 pub record Takes (old new : Ledger) (left : Fact) (findings : Findings) : Type 0 where
   pub names : new.leaked ≡ old.leaked
-  pub facts : Adds old.kept.facts new.kept.facts left
+  pub facts : Adds old.kept new.kept left
   pub found : new.findings ≡ findings
 
 -- the ledger holds the same facts, and these findings
 pub record Finds (old new : Ledger) (findings : Findings) : Type 0 where
   pub names : new.leaked ≡ old.leaked
-  pub facts : IsUnchanged old.kept.facts new.kept.facts
+  pub facts : new.kept ≡ old.kept
   pub found : new.findings ≡ findings
 
 -- the ledger behind an entry

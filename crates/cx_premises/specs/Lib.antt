@@ -1,3 +1,4 @@
+pub mod Alike
 pub mod Facts
 pub mod Findings
 pub mod Leaks

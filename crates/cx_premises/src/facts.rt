@@ -1,28 +1,19 @@
 //! What the ledger keeps of an entry, by which later entries are judged.
 
 ghost use Rattle.std.specs.Prelude.{◌≡◌, ◌≤◌, slice_index, take, IfOk, true};
-ghost use Rattle.cx_premises.specs.Facts.{four_at, number_in, sealed_fact, signed_fact, key_fact, draw_fact};
+ghost use Rattle.cx_premises.specs.Facts.{four_at, number_in, number_of, sealed_fact, signed_fact, key_fact, draw_fact};
 
 use crate::leaks::Leaks;
 use cx_base::Blob;
 use cx_steps::{DrawMark, SealMark};
 use std::alloc::{AllocError, Global};
+use std::hash::{Hash, Hasher};
 
 /// What an entry of a log leaves behind.
-#[derive(PartialEq, Eq, PartialOrd, Ord, Drop)]
+#[derive(PartialEq, Eq, Drop)]
 pub enum Fact {
-    /// The number comes first, by which contents under keys are soon told apart: of one connection each part has its own, and all stand near
-    /// one another, so that a long log is looked up in few places. Contents come next, since all parts of a connection have one key.
-    Sealed {
-        number: u64,
-        content: Blob,
-        key: [u8; 16],
-    },
-    Signed {
-        number: u64,
-        content: Blob,
-        key: [u8; 16],
-    },
+    Sealed { content: Blob, key: [u8; 16] },
+    Signed { content: Blob, key: [u8; 16] },
     /// A key was drawn, and not for a leaked client.
     Key([u8; 16]),
     /// A key was drawn for a leaked client.
@@ -30,6 +21,21 @@ pub enum Fact {
     Challenge(u64),
     Nonce(u64),
     Cookie(u64),
+}
+
+impl Hash for Fact {
+    ghost use Rattle.std.specs.Hash as fed;
+    ghost use Rattle.cx_premises.specs.Facts.{number_of};
+    ghost use Rattle.cx_premises.specs.Alike.{hashed_alike};
+
+    ghost hash_input = { λ left. fed.u64 (number_of left) };
+
+    ghost respects_eq = { hashed_alike };
+
+    /// By its number alone, since contents are long.
+    fn hash<H: Hasher>(&self, state: &mut H) {
+        state.write_u64(self.number());
+    }
 }
 
 impl Fact {
@@ -42,11 +48,7 @@ impl Fact {
             kind: _,
             content,
         } = mark;
-        Fact::Sealed {
-            number: number_in(&key, content.bytes()),
-            content,
-            key,
-        }
+        Fact::Sealed { content, key }
     }
 
     /// What the signing of this mark leaves.
@@ -58,11 +60,7 @@ impl Fact {
             kind: _,
             content,
         } = mark;
-        Fact::Signed {
-            number: number_in(&key, content.bytes()),
-            content,
-            key,
-        }
+        Fact::Signed { content, key }
     }
 
     /// What a draw leaves where these clients leaked.
@@ -98,6 +96,21 @@ impl Fact {
             Fact::Key(key)
         }
     }
+
+    // A number by which facts are soon told apart.
+    fn number(&self) -> u64
+        ensures { result ≡ number_of self.now }
+    {
+        match self {
+            Fact::Sealed { content, key } => number_in(key, content.bytes()),
+            Fact::Signed { content, key } => number_in(key, content.bytes()),
+            Fact::Key(key) => number_in(key, key),
+            Fact::LeakedKey(key) => number_in(key, key),
+            Fact::Challenge(value) => *value,
+            Fact::Nonce(value) => *value,
+            Fact::Cookie(value) => *value,
+        }
+    }
 }
 
 /// The key of a connection: the first 16 bytes of its secret.
@@ -110,7 +123,7 @@ fn front_of(secret: &[u8; 64]) -> [u8; 16]
     *key
 }
 
-// A number by which contents under keys are soon told apart, and in whose order those under one key stand near one another.
+// A number by which contents under keys are soon told apart.
 fn number_in(key: &[u8; 16], bytes: &[u8]) -> u64
     ensures { result ≡ number_in key.now bytes.now }
 {

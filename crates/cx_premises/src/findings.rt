@@ -58,7 +58,7 @@ impl Findings {
 
     /// The first suspect whose key didn't leak, else the breach.
     pub fn first(&self, kept: &Kept) -> Option<&Broken>
-        ensures { option_copied result ≡ first_of kept.now.facts self.now.suspects self.now.breach }
+        ensures { option_copied result ≡ first_of kept.now self.now.suspects self.now.breach }
     {
         for suspect in self.suspects.all() {
             if !kept.has(&Fact::LeakedKey(suspect.key)) {

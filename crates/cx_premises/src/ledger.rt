@@ -40,9 +40,10 @@ impl Ledger {
         ensures { IfOk result (λ ledger. StandsFor ledger leaked.now []) }
     {
         let leaked = Leaks::of(alloc, leaked)?;
+        let kept = Kept::new(alloc)?;
         Ok(Ledger {
             leaked,
-            kept: Kept::new(alloc),
+            kept,
             findings: Findings::new(alloc),
         })
     }
