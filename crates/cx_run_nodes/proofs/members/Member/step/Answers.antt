@@ -15,8 +15,8 @@ use Rattle.cx_run_nodes.specs.declared.members.MemberNode.TheVariants as held
 use Rattle.cx_run_nodes.proofs.Stepping.{client_step, daemon_steps}
 use Rattle.cx_run_nodes.proofs.members.Member.step.Goals as goal
 
-pub returns-in_ok-step-in-Client : goal.returns-in_ok-step-in-Client
-returns-in_ok-step-in-Client g c =
+pub returns-in-Client : goal.returns-in-Client
+returns-in-Client g c =
     λ post entity k.
     let new : Member = record { name = c.args.self.now.name; post = c.roll-draw.new.self; node = held.Client c.step.new.self } in
     let input = input_of c.args.event in
@@ -32,8 +32,8 @@ returns-in_ok-step-in-Client g c =
       subst P step (c.in_ok-step-in-Client.ensures.stands x s),
     ))
 
-pub returns-in_ok-step-in-Daemon : goal.returns-in_ok-step-in-Daemon
-returns-in_ok-step-in-Daemon g c =
+pub returns : goal.returns
+returns g c =
     λ post entity k.
     let new : Member = record { name = c.args.self.now.name; post = c.roll-draw.new.self; node = held.Daemon c.step-in-Daemon.new.self } in
     let input = input_of c.args.event in
