@@ -51,19 +51,6 @@ sbox-inverse_sbox a lt =
     sym (sbox-table (inverse_sbox a) (inverse_sbox-lt a lt)) ∙ ap (λ x. get_or SBOX x 0) (sym (inverse_sbox-table a lt))
     ∙ same_at_bytes (λ x. get_or SBOX (get_or INVERSE_SBOX x 0) 0) (λ x. x) refl a lt
 
--- products by the constants of the two matrices
-pub times-1 : (a : ℕ) → a < 256 → times a 1 ≡ a
-unfolding xtimes product times
-times-1 a lt = same_at_bytes (λ x. times x 1) (λ x. x) refl a lt
-
-pub times-2 : (a : ℕ) → a < 256 → times a 2 ≡ xtimes a
-unfolding xtimes product times
-times-2 a lt = same_at_bytes (λ x. times x 2) xtimes refl a lt
-
-pub times-3 : (a : ℕ) → a < 256 → times a 3 ≡ bit_xor (xtimes a) a
-unfolding xtimes product times
-times-3 a lt = same_at_bytes (λ x. times x 3) (λ x. bit_xor (xtimes x) x) refl a lt
-
 pub times-9 : (a : ℕ) → a < 256 → times a 9 ≡ bit_xor (xtimes (xtimes (xtimes a))) a
 unfolding xtimes product times
 times-9 a lt = same_at_bytes (λ x. times x 9) (λ x. bit_xor (xtimes (xtimes (xtimes x))) x) refl a lt

@@ -5,15 +5,15 @@ use crate::bounds::{fits_blob_field, is_few, is_reading};
 use crate::shown::{Hex, Numbers, ShownAddr};
 use cx_base::Blob;
 use cx_control::{
-    put_ack, put_auth_bad_method, put_auth_done, put_auth_reply_more, put_auth_request,
-    put_auth_request_more, put_auth_signature, put_client_ident, put_hello,
-    put_ident_missing_features, put_keepalive2, put_keepalive2_ack, put_server_ident,
-    put_session_reconnect, put_session_reconnect_ok, put_session_reset, put_session_retry,
-    put_session_retry_global, put_wait, read_ack, read_auth_bad_method, read_auth_done,
-    read_auth_reply_more, read_auth_request, read_auth_request_more, read_auth_signature,
-    read_client_ident, read_hello, read_ident_missing_features, read_keepalive2,
-    read_keepalive2_ack, read_server_ident, read_session_reconnect, read_session_reconnect_ok,
-    read_session_reset, read_session_retry, read_session_retry_global, read_wait,
+    Hello, put_ack, put_auth_bad_method, put_auth_done, put_auth_reply_more, put_auth_request,
+    put_auth_request_more, put_auth_signature, put_client_ident, put_ident_missing_features,
+    put_keepalive2, put_keepalive2_ack, put_payload, put_server_ident, put_session_reconnect,
+    put_session_reconnect_ok, put_session_reset, put_session_retry, put_session_retry_global,
+    put_wait, read_ack, read_auth_bad_method, read_auth_done, read_auth_reply_more,
+    read_auth_request, read_auth_request_more, read_auth_signature, read_client_ident,
+    read_ident_missing_features, read_keepalive2, read_keepalive2_ack, read_payload,
+    read_server_ident, read_session_reconnect, read_session_reconnect_ok, read_session_reset,
+    read_session_retry, read_session_retry_global, read_wait,
 };
 use std::alloc::Global;
 
@@ -52,8 +52,8 @@ fn upkeep(alloc: Global, kind: &str, bytes: &[u8]) -> Result<Answered, Refused> 
 fn hello(alloc: Global, bytes: &[u8]) -> Result<Answered, Refused> {
     answered!(
         alloc,
-        x = read_hello(alloc, bytes)?,
-        put_hello,
+        x = read_payload::<Hello>(alloc, bytes)?,
+        put_payload,
         "kind {} addr {}",
         x.kind,
         ShownAddr(&x.addr)

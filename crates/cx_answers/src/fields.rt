@@ -4,7 +4,7 @@ use crate::answered::{Answered, Refused, spelled};
 use crate::bounds::fits_blob_field;
 use crate::shown::{Hex, Numbers, ShownAddr, Ticket};
 use cx_base::{Addr, Blob, EntityName, EntityType, Items};
-use cx_enc::{Key, TicketBlob, Time, read_whole, read_whole_in_place, write_whole};
+use cx_enc::{Key, TicketBlob, Time, read_whole, write_whole};
 use std::alloc::Global;
 
 /// What bytes of the kind of this name mean.
@@ -50,7 +50,7 @@ fn entity_type(alloc: Global, bytes: &[u8]) -> Result<Answered, Refused> {
 }
 
 fn flag(alloc: Global, bytes: &[u8]) -> Result<Answered, Refused> {
-    spelled!(alloc, x = read_whole_in_place::<bool>(bytes)?, "{x}")
+    spelled!(alloc, x = read_whole::<bool>(alloc, bytes)?, "{x}")
 }
 
 fn time(alloc: Global, bytes: &[u8]) -> Result<Answered, Refused> {

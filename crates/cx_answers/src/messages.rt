@@ -4,10 +4,11 @@ use crate::answered::{Answered, Refused, answered, copied, told};
 use crate::bounds::is_operation;
 use crate::shown::{Hex, Tickets};
 use cx_base::{Blob, Duplicate};
+use cx_control::read_payload_part;
 use cx_enc::put_blob;
 use cx_wire::{
-    Reply, Request, put_answer, put_header, put_operation, put_reply, put_request, read_answer,
-    read_header, read_operation, read_reply, read_request, take_empty,
+    Header, Reply, Request, put_answer, put_header, put_operation, put_reply, put_request,
+    read_answer, read_operation, read_reply, read_request, take_empty,
 };
 use std::alloc::{AllocError, Global};
 
@@ -30,7 +31,7 @@ pub fn message(alloc: Global, kind: &str, bytes: &[u8]) -> Result<Answered, Refu
 fn header(alloc: Global, bytes: &[u8]) -> Result<Answered, Refused> {
     answered!(
         alloc,
-        x = read_header(alloc, bytes)?,
+        x = read_payload_part::<Header>(alloc, bytes)?,
         put_header,
         "seq {} tid {} type {}",
         x.seq,

@@ -51,10 +51,14 @@ fn opened<'a>(alloc: Global, opening: &mut Sealing, bytes: &'a [u8]) -> Outcome<
     let Some((front, behind)) = bytes.split_first_chunk::<96>() else {
         return Outcome::Short;
     };
-    let head = match opening.open_head(front) {
+    let head = match opening.read_head(front) {
         Ok(head) => head,
-        Err(refusal) => return Outcome::Refused(refusal),
+        Err(refusal) => {
+            opening.keep(refusal);
+            return Outcome::Refused(refusal);
+        }
     };
+    opening.pass_head();
     let wanted = rest_len(&head);
     if behind.len() < wanted {
         return Outcome::Short;

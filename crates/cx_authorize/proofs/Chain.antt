@@ -1,5 +1,5 @@
 -- What the steps of the chain say, one behind the other, and that the chain is the verdict.
-use Rattle.std.proofs.Common.{◌≡◌, ℕ, ◌<◌, Bool, true, false, cond, List, [], ◌∷◌, ◌++◌, All, Option, Some, None, Result, Ok, Err, refl, sym, ap, subst, ◌∙◌, inl, inr, append_assoc}
+use Rattle.std.proofs.Common.{◌≡◌, ℕ, ◌<◌, Bool, true, false, cond, List, [], ◌∷◌, All, Option, Some, None, Result, Ok, Err, refl, sym, ap, subst, ◌∙◌, inl, inr}
 use Rattle.std.specs.Prelude.{MatchBool, find, ◌==◌}
 use Rattle.std.specs.List.{AllByRecursion}
 use Rattle.std.specs.Option.{option_map}
@@ -31,22 +31,12 @@ use Rattle.cx_authorize.specs.declared.refusals.AuthRefusal.TheVariants.{Malform
 use Rattle.cx_authorize.specs.declared.judging.Terms.{Terms}
 use Rattle.cx_authorize.specs.declared.judging.Shown.{Shown}
 use Rattle.cx_authorize.specs.Verdict.{fault_of, with_blob, IsJudgedByFault, IsJudgedByTicket, IsJudgedByKey, IsVerdict}
-use Rattle.cx_authorize.specs.Judging.{Judged, behind, refused_as, judged_by_fault, judged_by_ticket, judged_by_key, judged_with, judged_by_service, judged_by_payload, judged, Judges}
+use Rattle.cx_authorize.specs.Judging.{refused_as, judged_by_fault, judged_by_ticket, judged_by_key, judged_with, judged_by_service, judged_by_payload, judged, Judges}
 use Rattle.cx_authorize.specs.Agreement.{IsTheVerdict}
 use Rattle.cx_authorize.proofs.Opened.{opens_of, session_block, tried_of}
 use Rattle.cx_authorize.proofs.Verdicts.{verdict_one}
 
 -- ---- the steps
-
--- what is judged behind what opened
-pub judges_behind : {E X : Type 0} (seals : List SealEntry) (j : Judged E X) (old mid new : List SealEntry) (result : Result (Result X E) AllocError)
-    → mid ≡ old ++ seals → Judges j mid new result → Judges (behind seals j) old new result
-judges_behind seals j old mid new (Ok value) opened is = (is.0, is.1 ∙ ap (λ (s : List SealEntry). s ++ j.seals) opened ∙ append_assoc old seals j.seals)
-judges_behind seals j old mid new (Err e) opened is = tt
-
--- a refusal before anything opens
-pub judges_none : {E X : Type 0} (why : E) (old new : List SealEntry) → new ≡ old → Judges {E = E} {X = X} (refused_as why) old new (Ok (Err why))
-judges_none why old new same = (refl, same ∙ sym (append-nil old))
 
 -- ---- the payload
 

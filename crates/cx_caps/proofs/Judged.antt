@@ -67,24 +67,6 @@ judged_next seen more ask condition (Some conditions) fresh met is_more =
     rw (fresh, met, is_more, seen_one_more seen condition.kind conditions)
     (regroup (none_seen seen conditions) (list_any (λ other. same_condition_kind condition.kind other.kind) conditions) (repeats conditions) (list_all (is_met ask) conditions))
 
--- a condition of a kind that was seen
-pub judged_again : (seen : Seen) (ask : Operation) (condition : Condition) (rest : Option (List Condition))
-    → has_seen seen condition.kind ≡ true → judged seen ask (in_front (Some condition) rest) ≡ false
-judged_again seen ask condition None again = refl
-judged_again seen ask condition (Some conditions) again = rw again refl
-
-and_false : (a b : Bool) → (a && (b && false)) ≡ false
-and_false true true = refl
-and_false true false = refl
-and_false false b = refl
-
--- a condition that isn't met
-pub judged_unmet : (seen : Seen) (ask : Operation) (condition : Condition) (rest : Option (List Condition))
-    → is_met ask condition ≡ false → judged seen ask (in_front (Some condition) rest) ≡ false
-judged_unmet seen ask condition None unmet = refl
-judged_unmet seen ask condition (Some conditions) unmet =
-    rw unmet (and_false (none_seen seen (condition ∷ conditions)) (not (repeats (condition ∷ conditions))))
-
 -- before the first condition none was seen
 fresh_kind : (seen : Seen) (kind : ConditionKind) → seen.pool ≡ false → seen.namespace ≡ false → seen.object_prefix ≡ false → not (has_seen seen kind) ≡ true
 fresh_kind seen Pool p n o = ap not p

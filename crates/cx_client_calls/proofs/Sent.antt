@@ -10,8 +10,6 @@ use Rattle.cx_calling_operations.specs.Frames.{IsSent, kept_open}
 use Rattle.cx_calling_operations.specs.cx_calling.specs.Sent.{IsRowAt}
 use Rattle.cx_journal.specs.declared.entries.Entry.{Entry}
 use Rattle.cx_journal.specs.declared.faults.BytesFault.{BytesFault}
-use Rattle.cx_journal.specs.declared.outcomes.Reason.{Reason}
-use Rattle.cx_journal.specs.declared.outcomes.Reason.TheVariants as reason
 use Rattle.cx_client_events.specs.cx_kinds.specs.Made.{made_of_kind}
 use Rattle.cx_client_events.specs.cx_kinds.proofs.OfKinds.{made_due}
 use Rattle.cx_node.specs.Made.{as_row}
@@ -21,9 +19,9 @@ use Rattle.cx_calling_operations.specs.cx_presenting.specs.Rows.{arrived, caller
 use Rattle.cx_calling_operations.specs.cx_presenting.specs.Stages.{CallLink}
 use Rattle.cx_node.specs.cx_rules.specs.Holdings.{Asker}
 use Rattle.cx_node.specs.cx_rules.specs.Links.{Link}
-use Rattle.cx_node.specs.cx_rules.specs.Rows.{Outcome, Row, arrival, refused_entry, secure_sent, sends_secure}
+use Rattle.cx_node.specs.cx_rules.specs.Rows.{Outcome, Row, arrival, secure_sent, sends_secure}
 use Rattle.cx_node.specs.cx_rules.specs.Secured.{SealedFrame, Secured, secure_frame}
-use Rattle.cx_calling_operations.specs.cx_rules_session.specs.ClientRule.{ClientStage, ToDaemon, WholeClient, WholeClientNode, call_open, call_or, first_call, me, pushes, queue_reason, refuses_command, sends, sends_in, sends_on, sent_entry}
+use Rattle.cx_calling_operations.specs.cx_rules_session.specs.ClientRule.{ClientStage, ToDaemon, WholeClient, WholeClientNode, call_open, call_or, first_call, me, pushes, sends, sends_in, sends_on, sent_entry}
 use Rattle.cx_calling_operations.specs.cx_rules_session.specs.Forgets.{abridged_call_link, abridged_client_link}
 use Rattle.cx_calling_operations.specs.cx_rules_session.specs.Kinds.{entered_before, of_kind, row_of_kind}
 use Rattle.cx_calling_operations.specs.cx_rules_session.specs.Presenter as call
@@ -33,7 +31,6 @@ use Rattle.cx_calling_operations.specs.cx_rules_session.proofs.WholeClientForget
 use Rattle.cx_client_events.specs.cx_sending.specs.Table.{having_pushed, in_session}
 use Rattle.cx_session.specs.Queue.{push_reply, pushed}
 use Rattle.cx_session.specs.declared.outbox.QueueFault.{QueueFault}
-use Rattle.cx_steps.specs.Nothing.{nothing}
 use Rattle.cx_steps.specs.declared.effects.Effects.{Effects}
 use Rattle.cx_turns.specs.Making.{row_due}
 use Rattle.cx_turns.specs.Steps.{node_of}
@@ -46,7 +43,6 @@ use Rattle.cx_client_events.specs.cx_client_links.proofs.Calling.{opened_keeps}
 use Rattle.cx_client_events.specs.cx_client_links.proofs.OfKinds.{daemon_follows}
 use Rattle.cx_client_events.specs.Machine.{AreHeld, ClientRow, IsStep}
 use Rattle.cx_client_events.proofs.Kept.{found_passes}
-use Rattle.cx_client_events.proofs.Steps.{refused_step}
 use Rattle.cx_client_calls.specs.Sending.{IsSentRow, numbered, numbered_in, operation_sent, with_pushed}
 
 -- ---- what an open link keeps
@@ -77,25 +73,6 @@ abbrev Kept : Type 0
 Kept = Secured × (Callee × ℕ)
 
 module _ (own : WholeClient) (all : List ClientLink) (daemon : Name) (operation : Operation) (reading : ℕ) (draw : List ℕ) where
-  -- a command is refused for this
-  abbrev refuses_for : Reason → Outcome WholeClientNode
-  refuses_for why = refuses_command (node_of own all) why
-
-  refused_by : (session : HeldSession) (reply : Result ℕ QueueFault) (why : Reason) → numbered_in own session operation reply ≡ Err why
-      → pushes (node_of own all) session operation reading draw reply ≡ refuses_for why
-  refused_by session (Ok seq) why e = absurd (cc)
-  refused_by session (Err fault) why e = let same : queue_reason fault ≡ why = cc in ap (λ w. refuses_for w) same
-
-  refused_in : (o : Option HeldSession) (why : Reason) → numbered own operation o ≡ Err why → sends_in (node_of own all) operation reading draw o ≡ refuses_for why
-  refused_in None why e = let same : reason.NoSession ≡ why = cc in ap (λ w. refuses_for w) same
-  refused_in (Some session) why e = refused_by session (push_reply session.queue) why e
-
-  -- it can't wait
-  pub refused : {E : Type 0} (why : Reason) (r : Result Effects E) → AreHeld all → Err why ≡ numbered own operation (session_with daemon own.sessions)
-      → IfOk r (λ out. out ≡ record nothing { entries = refused_entry (me own) 0 why ∷ [] })
-      → IfOk r (IsStep (node_of own all) (sends (node_of own all) daemon operation reading draw))
-  refused why r h e g = rw (refused_in (session_with daemon own.sessions) why (sym e)) (refused_step own all why r h g)
-
   -- what the rules have of one that waits under a number
   abbrev due_of : Entry → ℕ → Outcome WholeClientNode
   due_of sent seq = sends_on (node_of (with_pushed daemon operation own) all) sent (seq, operation) reading draw (first_call daemon all)
@@ -222,20 +199,8 @@ links_same old new (Ok out) t = tt
 links_same old new (Err e) t = let links_of : Table ClientLink → List ClientLink = λ table. table.links in ap links_of t
 
 module _ (own new : WholeClient) (all : List ClientLink) (daemon : Name) (operation : Operation) (seq : ℕ) (sent : Entry) (reading : ℕ) (draw : List ℕ) (h : AreHeld all) where
-  abbrev behind_push : WholeClient
-  behind_push = with_pushed daemon operation own
-
   abbrev due_to : Outcome WholeClientNode
   due_to = sends_on (node_of (with_pushed daemon operation own) all) sent (seq, operation) reading draw (first_call daemon all)
-
-  -- no link is open
-  pub waits_step : {E : Type 0} (r : Result Effects E) → first_call daemon all ≡ None → IfOk r (λ out. out ≡ record nothing { entries = sent ∷ [] })
-      → IfOk r (λ _. new ≡ with_pushed daemon operation own) → IfOk r (IsStep (node_of new all) due_to)
-  waits_step (Err e) none g n = tt
-  waits_step (Ok out) none g n =
-      let owns : WholeClient → WholeClientNode = λ o. node_of o all in
-      let tables : List ClientLink → WholeClientNode = λ ls. node_of (with_pushed daemon operation own) ls in
-      rw none (record { out = g; state = ap owns n ∙ ap tables (sym h.whole) })
 
   module _ (links : List ClientLink) (link : Link CallStage) (row : Made ClientLink) (first : IsFirstCall daemon all link)
       (is : IsSentRow own reading draw sent (seq, operation) link row) where

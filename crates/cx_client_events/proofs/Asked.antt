@@ -1,17 +1,15 @@
 -- Login and Renew, over plain values: each step is that of the rules, abridged, and the links are held behind it as before.
 use Rattle.std.proofs.Common.{◌≡◌, ◌∙◌, ℕ, false, List, [], ◌∷◌, map, Option, Some, None, Result, Ok, Err, IfOk, refl, sym, ap}
 use Rattle.std.specs.Prelude.{IsOkAnd, OnErr, filter, not}
-use Rattle.cx_journal.specs.declared.outcomes.Reason.TheVariants.{NoSession}
 use Rattle.cx_node.specs.Made.{as_row}
 use Rattle.cx_node.specs.Tables.{Table}
 use Rattle.cx_node.specs.declared.rows.Row.{Row as Made}
 use Rattle.cx_node.specs.cx_rules.specs.Connector as connector
 use Rattle.cx_node.specs.cx_rules.specs.Connector.{kept_open}
 use Rattle.cx_node.specs.cx_rules.specs.Links.{Link}
-use Rattle.cx_node.specs.cx_rules.specs.Requests.{Requests, first_open}
-use Rattle.cx_node.specs.cx_rules.specs.Rows.{refused_entry}
+use Rattle.cx_node.specs.cx_rules.specs.Requests.{Requests}
 use Rattle.cx_node.specs.cx_rules.specs.Secured.{Secured}
-use Rattle.cx_client_links.specs.cx_rules_session.specs.ClientRule.{ClientStage, ToDaemon, ToMonitor, WholeClient, WholeClientNode, asking_open, is_to_monitor, logs_in, me, renews, waits_for_login}
+use Rattle.cx_client_links.specs.cx_rules_session.specs.ClientRule.{ClientStage, ToDaemon, ToMonitor, WholeClient, WholeClientNode, is_to_monitor, logs_in, renews, waits_for_login}
 use Rattle.cx_client_links.specs.cx_rules_session.specs.Forgets.{abridged_client_at, abridged_client_link}
 use Rattle.cx_client_links.specs.cx_rules_session.proofs.WholeClientForgets.{client-forgets-links}
 use Rattle.cx_steps.specs.Nothing.{nothing}
@@ -61,15 +59,6 @@ module _ (all links : List ClientLink) (numbers : List ℕ) (h : AreHeld all) (p
       record { out = g ∙ ap shut picked; state = ap owns n ∙ ap tables (sym login_held.whole ∙ ap cut left) }
 
 -- ---- Renew
-
--- no link to the monitor is open
-pub no_session_step : {E : Type 0} (own : WholeClient) (all : List ClientLink) (services reading : ℕ) (draw : List ℕ) (r : Result Effects E) → AreHeld all
-    → first_open asking_open all ≡ None → IfOk r (λ out. out ≡ record nothing { entries = refused_entry (me own) 0 NoSession ∷ [] })
-    → IfOk r (IsStep (node_of own all) (renews (node_of own all) services reading draw))
-no_session_step own all services reading draw (Err e) h none g = tt
-no_session_step own all services reading draw (Ok given) h none g =
-    let tables : List ClientLink → WholeClientNode = λ ls. node_of own ls in
-    rw none (record { out = g; state = ap tables (sym h.whole) })
 
 -- the row by which tickets are asked for on this link
 abbrev pub IsAsked : {E : Type 0} → WholeClient → ℕ → List ℕ → ℕ → Link connector.Stage → Result (Made ClientLink) E → Type 0

@@ -1,5 +1,5 @@
 -- A link that is gone, over plain values: the step is that of the rules, abridged.
-use Rattle.std.proofs.Common.{◌≡◌, ◌∙◌, ℕ, Bool, List, [], ◌∷◌, map, Option, Some, None, Result, Ok, Err, IfOk, sym, ap}
+use Rattle.std.proofs.Common.{◌≡◌, ◌∙◌, ℕ, Bool, List, [], ◌∷◌, map, Option, Some, Result, Ok, Err, IfOk, sym, ap}
 use Rattle.std.specs.Prelude.{if◌then◌else◌}
 use Rattle.cx_journal.specs.declared.outcomes.Reason.TheVariants.{Lost}
 use Rattle.cx_node.specs.cx_rules.specs.Connector as connector
@@ -15,12 +15,7 @@ use Rattle.cx_steps.specs.declared.effects.Effects.{Effects}
 use Rattle.cx_turns.specs.Steps.{node_of}
 use Rattle.cx_client_links.specs.Kinds.{ClientLink}
 use Rattle.cx_client_events.specs.Machine.{AreHeld, IsStep}
-use Rattle.cx_client_events.proofs.Steps.{idles_step, without_held}
-
--- none lived
-pub gone_none : (own : WholeClient) (all links : List ClientLink) (o : Option ClientLink) (given : Effects) → AreHeld all → o ≡ None → links ≡ all → given ≡ nothing
-    → IsStep (node_of own links) (loses (node_of own all) o) given
-gone_none own all links o given h n l g = rw n (idles_step own all links given h l g)
+use Rattle.cx_client_events.proofs.Steps.{without_held}
 
 -- what is told of a link of this number that is lost, which was open or wasn't
 abbrev pub telling : WholeClient → ℕ → Bool → Effects

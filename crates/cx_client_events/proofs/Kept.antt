@@ -1,5 +1,5 @@
 -- What a link to a daemon changes of a client, put back as it is, leaves the client as it is.
-use Rattle.std.proofs.Common.{◌≡◌, ◌∙◌, ℕ, ◌<◌, Bool, true, false, cond, List, [], ◌∷◌, Option, Some, None, refl, sym, ap}
+use Rattle.std.proofs.Common.{◌≡◌, ◌∙◌, ℕ, Bool, true, false, cond, List, [], ◌∷◌, Option, Some, None, refl, sym, ap}
 use Rattle.std.specs.Prelude.{IfSome}
 use Rattle.cx_base.specs.Names.{Name, same_name}
 use Rattle.cx_client_links.specs.cx_presenting.specs.Rows.{changed}
@@ -9,17 +9,8 @@ use Rattle.cx_node.specs.cx_rules.specs.Holdings.{Asker}
 use Rattle.cx_base.proofs.Names.{same_name_is, same_name_self}
 use Rattle.cx_client_links.specs.cx_rules_session.specs.ClientRule.{Dial, WholeClient, caller_to, with_caller}
 use Rattle.cx_client_links.specs.cx_rules_session.specs.Sessions.{HeldSession, session_with, with_session}
-use Rattle.cx_client_links.specs.cx_sending.specs.Table.{IsReady, KeptSessions, is_with}
-use Rattle.cx_client_links.specs.cx_sending.specs.declared.table.SessionChange.{SessionChange}
-use Rattle.cx_client_links.specs.cx_sending.specs.declared.table.SessionChange.TheVariants.{Forgets, Opens, TakesUp, Acknowledges}
+use Rattle.cx_client_links.specs.cx_sending.specs.Table.{is_with}
 use Rattle.cx_client_events.specs.Machine.{KeptClient}
-
--- memory for one more session serves any change
-pub ready : (kept : KeptSessions) (change : SessionChange) → 0 < kept.room → IsReady kept change
-ready kept Forgets room = tt
-ready kept (Opens session) room = room
-ready kept (TakesUp count) room = tt
-ready kept (Acknowledges seq) room = tt
 
 module _ (daemon : Name) where
   passes_by : (x : HeldSession) (rest : Option HeldSession) (t : Bool) → is_with daemon x ≡ t → IfSome rest (λ s. is_with daemon s ≡ true)

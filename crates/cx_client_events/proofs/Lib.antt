@@ -1,5 +1,4 @@
 pub mod Asked
-pub mod Called
 pub mod Gone
 pub mod Kept
 pub mod Steps

@@ -1,5 +1,4 @@
 pub mod Behind
 pub mod Choices
-pub mod Controls
 pub mod Logged
 pub mod Stages

@@ -1,10 +1,7 @@
 //! The first frame of both sides.
 
-ghost use Rattle.cx_control.specs.Calls.{IsReadBy, IsPutBy};
 ghost use Rattle.cx_control.specs.Hello.{hello_layout};
 
-use crate::payloads::{put_payload, read_payload};
-use crate::refusals::WireRefusal;
 use cx_base::{Addr, Blob, EntityType};
 use cx_enc::{Cut, Encoded, ReadFault, ReadRefusal, kind_of, number_of, put_addr, put_u8};
 use std::alloc::{AllocError, Global};
@@ -35,18 +32,4 @@ impl Encoded for Hello {
         put_u8(alloc, into, number_of(self.kind) as u8)?;
         put_addr(alloc, into, &self.addr)
     }
-}
-
-/// Reads the payload of HELLO.
-pub fn read_hello(alloc: Global, bytes: &[u8]) -> Result<Hello, WireRefusal>
-    ensures { IsReadBy hello_layout.form bytes.now result }
-{
-    read_payload(alloc, bytes)
-}
-
-/// Writes the payload of HELLO behind some bytes.
-pub fn put_hello(alloc: Global, into: &mut Blob, value: &Hello) -> Result<(), AllocError>
-    ensures { IsPutBy hello_layout.form value.now into.old into.new result }
-{
-    put_payload(alloc, into, value)
 }

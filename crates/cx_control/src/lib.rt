@@ -18,7 +18,7 @@ pub use auth::{
     read_auth_signature,
 };
 pub use bad_method::{AuthBadMethod, put_auth_bad_method, read_auth_bad_method};
-pub use hello::{Hello, put_hello, read_hello};
+pub use hello::Hello;
 pub use idents::{
     ClientIdent, IdentMissingFeatures, ServerIdent, put_client_ident, put_ident_missing_features,
     put_server_ident, read_client_ident, read_ident_missing_features, read_server_ident,

@@ -19,12 +19,6 @@ module _ {Stage : Type 0} where
       let first : nat_lt n l.number ≡ true = (let up : n < l.number = omega (arith, h.0) in grind (arith, nat_tests)) in
       rw first (ap (λ ls. l ∷ ls) (all_above n (l.number + 1) links (omega (arith, h.0)) h.1))
 
-  left_above : (n low : ℕ) (links : List (Link Stage)) → n < low → AreRising low links → without_link n links ≡ links
-  left_above n low [] lt h = refl
-  left_above n low (l ∷ links) lt h =
-      let first : (l.number == n) ≡ false = (let up : n < l.number = omega (arith, h.0) in grind (arith, nat_tests)) in
-      rw first (ap (λ ls. l ∷ ls) (left_above n (l.number + 1) links (omega (arith, h.0)) h.1))
-
   left_put : (link : Link Stage) (low : ℕ) (links : List (Link Stage)) → AreRising low links → without_link link.number (put_link link links) ≡ without_link link.number links
   left_put link low [] h = let same : (link.number == link.number) ≡ true = grind (arith, nat_tests) in rw same refl
   left_put link low (l ∷ links) h =

@@ -1,5 +1,5 @@
 -- Generations are asked for on the first open link to the monitor; where there is none, one is opened.
-use Rattle.std.proofs.Common.{◌≡◌, ◌∙◌, ℕ, true, false, List, [], ◌∷◌, Option, Some, None, Result, Ok, Err, IfOk, refl, sym, ap}
+use Rattle.std.proofs.Common.{◌≡◌, ℕ, false, List, Option, Some, None, Result, Ok, Err, IfOk, refl}
 use Rattle.std.specs.Prelude.{IsOkAnd, OnErr}
 use Rattle.cx_node.specs.Made.{as_row}
 use Rattle.cx_node.specs.Tables.{Table}
@@ -9,12 +9,10 @@ use Rattle.cx_node.specs.cx_rules.specs.Connector.{is_open, kept_open}
 use Rattle.cx_node.specs.cx_rules.specs.Links.{Link}
 use Rattle.cx_node.specs.cx_rules.specs.Requests.{Requests, first_open}
 use Rattle.cx_node.specs.cx_rules.specs.Secured.{Secured}
-use Rattle.cx_verifying.specs.cx_rules_session.specs.DaemonRule.{Daemon, DaemonNode, asking_open, fetches_on}
+use Rattle.cx_verifying.specs.cx_rules_session.specs.DaemonRule.{Daemon, asking_open, fetches_on}
 use Rattle.cx_verifying.specs.cx_rules_session.specs.Forgets.{abridged_daemon_link}
 use Rattle.cx_verifying.specs.cx_rules_session.proofs.DaemonForgets.{daemon-forgets-links}
-use Rattle.cx_steps.specs.Nothing.{nothing}
 use Rattle.cx_steps.specs.declared.effects.Effects.{Effects}
-use Rattle.cx_steps.specs.declared.events.Peer.TheVariants.{Monitor}
 use Rattle.cx_turns.specs.Making.{row_due}
 use Rattle.cx_turns.specs.Steps.{node_of}
 use Rattle.cx_turns.specs.Turns.{IsCarried}
@@ -22,15 +20,6 @@ use Rattle.cx_turns.proofs.Steps as steps
 use Rattle.cx_daemon_events.specs.Kinds.{DaemonLink}
 use Rattle.cx_daemon_events.specs.Machine.{AreHeld, IsFirstOpen, IsStep, generations_asked}
 use Rattle.cx_daemon_events.proofs.Scanning.{open_keeps}
-
--- no link is open: one is waited for from now on
-pub dials_step : (own new : Daemon) (all links : List DaemonLink) (reading : ℕ) (draw : List ℕ) (given : Effects) → AreHeld all → first_open asking_open all ≡ None
-    → links ≡ all → new ≡ record own { dials = true } → given ≡ record nothing { opens = Monitor ∷ [] }
-    → IsStep (node_of new links) (fetches_on (node_of own all) reading draw (first_open asking_open all)) given
-dials_step own new all links reading draw given h none l n g =
-    let tables : List DaemonLink → DaemonNode = λ ls. node_of (record own { dials = true }) ls in
-    let owns : Daemon → DaemonNode = λ o. node_of o links in
-    rw none (record { out = g; state = ap owns n ∙ ap tables (l ∙ sym h.whole) })
 
 -- the row by which generations are asked for on this link
 abbrev pub IsAsked : {E : Type 0} → Daemon → ℕ → List ℕ → Link connector.Stage → Result (Made DaemonLink) E → Type 0

@@ -120,11 +120,6 @@ module _ (own : Daemon) (number : ℕ) (all links : List DaemonLink) (old new : 
       let told : Bool → Effects = λ t. record nothing { entries = if t then [] else refused_entry (me own) number Lost ∷ [] } in
       (forgets (told (connector.is_open stage)) (g ∙ ap told o), b)
 
--- none lived
-pub gone_none : (own : Daemon) (all links : List DaemonLink) (o : Option DaemonLink) (old new : Book Authority) (given : Effects) → AreHeld all → o ≡ None → links ≡ all
-    → new ≡ old → given ≡ nothing → IsBookStep (node_of own links) old new (gone (node_of own all) o) given
-gone_none own all links o old new given h n l b g = rw n (idles_step own all links given h l g, b)
-
 module _ {E : Type 0} (own : Daemon) (number : ℕ) (all links : List DaemonLink) (o : Option DaemonLink) (old new : Book Authority) (h : AreHeld all)
     (l : links ≡ without_link number all) where
   abbrev IsGoneBy : Result Effects E → Type 0

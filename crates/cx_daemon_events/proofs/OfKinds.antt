@@ -3,7 +3,6 @@ use Rattle.std.proofs.Common.{◌≡◌, ◌∙◌, ℕ, List, ◌++◌, Option,
 use Rattle.std.specs.Prelude.{IfSome, OnOk}
 use Rattle.std.specs.Option.{option_map}
 use Rattle.cx_node.specs.Made.{as_row}
-use Rattle.cx_node.specs.declared.rows.Row.{Row as Made}
 use Rattle.cx_node.specs.cx_rules.specs.Abridged.{abridged_asker_link, abridged_link}
 use Rattle.cx_node.specs.cx_rules.specs.Connector as connector
 use Rattle.cx_node.specs.cx_rules.specs.Links.{Link}
@@ -60,11 +59,6 @@ module _ {Part Own S : Type 0} (put : Part → Own) (kind : S → DaemonStage) (
   due_of_kind : (R : Row Part S) → row_of_kind put kind (row_due own R) ≡ row_due abridged_daemon_link (row_of_kind put kind R)
   due_of_kind R =
       let with : Option DaemonLink → Row Own DaemonStage = λ link. record (row_of_kind put kind R) { link = link } in ap with (link_due R.sends R.link)
-
-  -- a row that was made as it is due of its kind was made as it is due
-  pub made_due : (part : Part) (row : Made (Link S)) (R : Row Part S) → as_row part row ≡ row_due own R
-      → as_row (put part) (made_of_kind kind row) ≡ row_due abridged_daemon_link (row_of_kind put kind R)
-  made_due part row R is = let as_one : Row Part S → Row Own DaemonStage = λ r. row_of_kind put kind r in ap as_one is ∙ due_of_kind R
 
 -- ---- turns
 

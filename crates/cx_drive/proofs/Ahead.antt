@@ -1,18 +1,12 @@
 -- What comes to a node next.
 use Rattle.std.proofs.Common.{ℕ, ◌≡◌, Bool, true, false, List, [], ◌∷◌, ◌++◌, map, Option, Some, None, refl, sym, ap, ◌∙◌}
-use Rattle.cx_drive.specs.Agendas.{Agenda, at_quiet, due_behind, next_input, next_of, noting, turning_behind, with_due, without_next}
+use Rattle.cx_drive.specs.Agendas.{Agenda, at_quiet, due_behind, next_input, next_of, noting, turning_behind, without_next}
 use Rattle.cx_drive.specs.Steps.{input_due}
 use Rattle.cx_drive.specs.declared.dues.Due.{Due}
 use Rattle.cx_drive.specs.declared.flow.Order.{Order}
 use Rattle.cx_drive.specs.declared.flow.Order.TheVariants as order
 use Rattle.cx_rules.specs.Inputs as input
 use Rattle.cx_rules.specs.Inputs.{Input}
-
--- the first that is due was popped
-pub popped : (a : Agenda) (ev : Input) (first : Due) (rest all : List Due) → ev ≡ input_due first → all ≡ first ∷ rest
-    → with_due ev (record a { due = map input_due rest }) ≡ record a { due = map input_due all }
-popped a ev first rest all is items =
-    ap (λ (i : Input). with_due i (record a { due = map input_due rest })) is ∙ ap (λ (ds : List Due). record a { due = map input_due ds }) (sym items)
 
 -- nothing is next
 pub none_next : (a : Agenda) → a.due ≡ [] → a.turning ≡ None → next_input a ≡ None

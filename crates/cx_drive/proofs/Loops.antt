@@ -1,13 +1,11 @@
 -- Sends, opens and shuts grow one by one.
-use Rattle.std.proofs.Common.{ℕ, ◌≡◌, ◌<◌, ◌+◌, Bool, List, [], ◌∷◌, ◌++◌, map, take, drop, length, get_or, Option, refl, sym, ap, ◌∙◌, subst, append_assoc, append-nil, arith}
+use Rattle.std.proofs.Common.{ℕ, ◌≡◌, ◌<◌, ◌+◌, Bool, List, [], ◌∷◌, ◌++◌, map, take, length, get_or, Option, refl, sym, ap, ◌∙◌, subst, append_assoc, append-nil}
 use Rattle.std.proofs.lemmas.List.{take_more}
 use Rattle.cx_drive.specs.Steps.{Opening, Sending, address_of, carried_dues, gone_behind, gone_dues, is_gone, lost_acts, open_act, open_acts, open_due, open_dues, opening, saved_acts, send_act, send_acts, sending, shut_acts, with_send}
 use Rattle.cx_drive.specs.Stops.{Carried, HandedOut, Opens, Sends}
 use Rattle.cx_drive.specs.declared.dues.Due.{Due}
-use Rattle.cx_drive.specs.declared.dues.Due.TheVariants as due
 use Rattle.cx_drive.specs.declared.peers.Peers.{Peers}
-use Rattle.cx_links.specs.Acts.{Shut}
-use Rattle.cx_site.specs.Acts.{Act, Linked}
+use Rattle.cx_site.specs.Acts.{Act}
 use Rattle.cx_steps.specs.declared.effects.Effects.{Effects}
 use Rattle.cx_steps.specs.declared.effects.Piece.{Piece}
 use Rattle.cx_steps.specs.declared.events.Peer.{Peer}
@@ -15,11 +13,6 @@ use Rattle.cx_steps.specs.declared.events.Peer.{Peer}
 map_push : {X Y : Type 0} → (f : X → Y) (xs : List X) (x : X) → map f (xs ++ x ∷ []) ≡ map f xs ++ f x ∷ []
 map_push f [] x = refl
 map_push f (y ∷ xs) x = ap (λ k. f y ∷ k) (map_push f xs x)
-
--- a list that is as long without its first item has none
-pub none_first : {X : Type 0} → (xs : List X) → xs ≡ drop 1 xs → xs ≡ []
-none_first [] p = refl
-none_first (x ∷ xs) p = let q : length (x ∷ xs) ≡ length (drop 1 (x ∷ xs)) = ap length p in absurd (omega arith)
 
 gone_push : (gone : List ℕ) (ss : List Sending) (s : Sending)
     → gone_behind gone (ss ++ s ∷ []) ≡ with_send (is_gone (gone_behind gone ss) s.piece.link) (gone_behind gone ss) s
@@ -43,14 +36,6 @@ opens_push peers (x ∷ os) o =
 open_dues_push : (peers : Peers) (os : List Opening) (o : Opening) → open_dues peers (os ++ o ∷ []) ≡ open_dues peers os ++ open_due (address_of peers o.peer) o ∷ []
 open_dues_push peers [] o = refl
 open_dues_push peers (x ∷ os) o = ap (λ k. open_due (address_of peers x.peer) x ∷ k) (open_dues_push peers os o)
-
--- one link more is gone
-pub gone_on : (gone : List ℕ) (i link : ℕ) (dues old new : List Due) → i < length gone → link ≡ get_or gone i link → old ≡ dues ++ gone_dues (take i gone)
-    → new ≡ old ++ due.Gone link ∷ [] → new ≡ dues ++ gone_dues (take (i + 1) gone)
-gone_on gone i link dues old new lt is so more =
-    more ∙ ap (λ ds. ds ++ due.Gone link ∷ []) so ∙ append_assoc dues (gone_dues (take i gone)) (due.Gone link ∷ [])
-    ∙ ap (λ ds. dues ++ ds) (sym (map_push (λ l. due.Gone l) (take i gone) link)
-    ∙ ap gone_dues (ap (λ q. take i gone ++ q ∷ []) is ∙ sym (take_more gone i link lt)))
 
 module _ {D : Type 0} (follows : D → D → List Act → Type 0)
     (goes_on : (a b c : D) (xs ys : List Act) → follows a b xs → follows b c ys → follows a c (xs ++ ys)) where
@@ -76,12 +61,6 @@ module _ {D : Type 0} (follows : D → D → List Act → Type 0)
         ∙ append_assoc old (open_dues peers so.opens) (open_due (address_of peers p) (opening p number) ∷ [])
         ∙ ap (λ ds. old ++ ds) (sym (open_dues_push peers so.opens (opening p number)));
   }
-
-  pub shuts_on : (links : List ℕ) (i l : ℕ) (from mid to : D) → i < length links → l ≡ get_or links i l
-      → follows from mid (shut_acts (take i links)) → follows mid to (Linked (Shut l) ∷ []) → follows from to (shut_acts (take (i + 1) links))
-  shuts_on links i l from mid to lt is so act =
-      subst (λ ls. follows from to (shut_acts ls)) (ap (λ q. take i links ++ q ∷ []) is ∙ sym (take_more links i l lt))
-      (subst (follows from to) (sym (map_push (λ link. Linked (Shut link)) (take i links) l)) (goes_on from mid to _ _ so act))
 
   -- what was handed out: sends, opens, shuts, and the link that is lost
   pub handed : (peers : Peers) (out : Effects) (a b c d e : D) (gone : List ℕ) (old mid new : List Due) → Sends follows out.sends a b gone → mid ≡ old ++ gone_dues gone

@@ -63,9 +63,6 @@ module _ {D S : Type 0} (follows : D → D → List Act → Type 0) (rule : S �
     (stays : (s : D) → follows s s []) (goes_on : (a b c : D) (xs ys : List Act) → follows a b xs → follows b c ys → follows a c (xs ++ ys)) (peers : Peers) where
   -- ---- a run of one thing, and of none
 
-  pub ran_none : (a : Scene D S) (x : Agenda) → Ran follows rule lost rests peers a a x x
-  ran_none a x = record { trace = []; course = tt; acts = stays a.site; node = refl; entries = sym (append-nil a.entries); agenda = refl }
-
   pub ran_step : (input : Input) (went : Went) (a b : Scene D S) (x y : Agenda) → next_input x ≡ Some input → StepGoes follows rule lost peers input went a b
       → y ≡ after_took rule lost peers a.node input went x → Ran follows rule lost rests peers a b x y
   ran_step input went a b x y next goes noted = record {

@@ -6,7 +6,6 @@ use Rattle.cx_drive.specs.Steps.{IsCarried, Went, carried_acts, carried_dues, ef
 use Rattle.cx_drive.specs.declared.ends.Driven.{Driven}
 use Rattle.cx_drive.specs.declared.ends.Ended.{Ended}
 use Rattle.cx_drive.specs.declared.peers.Peers.{Peers}
-use Rattle.cx_drive.specs.Written.{IsWritten}
 use Rattle.cx_journal.specs.declared.entries.Entry.{Entry}
 use Rattle.cx_rules.specs.Inputs.{Input}
 use Rattle.cx_rules.specs.Rows.{Outcome}
@@ -86,16 +85,6 @@ module _ {S T : Type 0} (held : S → Input → ℕ → List ℕ → Outcome S) 
     courses (went_node held held_lost m input w) (went_node written lost s input w) (after_took written lost peers s input w a) ts (behind m s st input w)
         (subst (λ (b : Agenda). IsCourse held held_lost held_rests peers (went_node held held_lost m input w) b ts) (after m s st input w a) p),
   )
-
-  pub is_written : (m : S) (s : T) (a : Agenda) (ts : List Taken) → StandsFor m s → IsCourse held held_lost held_rests peers m a ts
-      → IsWritten held held_lost held_rests written lost rests StandsFor peers m s a ts
-  is_written m s a ts st p = record {
-    course = courses m s a ts st p;
-    acts = acts m s ts st;
-    entries = entries m s ts st;
-    agenda = agendas m s a ts st;
-    stands = stands_after m s ts st;
-  }
 
   -- ---- its end
 

@@ -4,4 +4,3 @@ pub mod Held
 pub mod Order
 pub mod Steps
 pub mod Stops
-pub mod Written

@@ -1,30 +1,23 @@
-//! What drives any node: each step is saved before anything of it is sent. The monitor and a client, driven: what they do is what their written
-//! rules give.
+//! What drives any node: each step is saved before anything of it is sent.
 #![tactic(auto)]
 
-mod by_rules;
 mod carrying;
-mod clients;
 mod driving;
 mod dues;
 mod ends;
 mod flow;
 mod laws;
 mod machine;
-mod monitors;
 mod peers;
 mod steps;
 mod stops;
 
-pub use by_rules::written_laws;
-pub use clients::drive_client;
 pub use driving::drive;
 pub use dues::Due;
 pub use ends::{Driven, Ended};
 pub use flow::{Order, Told};
 pub use laws::order_law;
 pub use machine::Machine;
-pub use monitors::drive_monitor;
 pub use peers::{DaemonAt, Peers};
 pub use steps::{Stepped, perform};
 pub use stops::Stop;

@@ -1,20 +1,16 @@
 -- What a sink took into the bytes that its writer holds.
-use Rattle.std.proofs.Common.{◌≡◌, ℕ, ◌-◌, List, [], ◌++◌, length, take, drop, Option, Some, None, Ok, Err, refl, sym, ap, ◌∙◌, append_assoc, append-nil, length-drop}
+use Rattle.std.proofs.Common.{◌≡◌, ℕ, ◌-◌, List, ◌++◌, length, take, drop, Option, Some, None, Ok, Err, refl, sym, ap, ◌∙◌, append_assoc, length-drop}
 use Rattle.std.specs.Prelude.{OnErr, Result}
 use Rattle.std.proofs.lemmas.List.{take-append-drop}
 use Rattle.std.proofs.Math.Seq.{take-append_seam, take-length}
 use Rattle.std.specs.Io.KnownBytes.{Appends, Keeps}
-use Rattle.cx_base.specs.Streams.{Takes, TakesFront}
+use Rattle.cx_base.specs.Streams.{TakesFront}
 
 -- the writer has taken all of the bytes but the rest
 pub record Wrote (old now : Option (List ℕ)) (bytes rest : List ℕ) : Type 0 where
   pub done : List ℕ
   pub whole : bytes ≡ done ++ rest
   pub took : Appends old now done
-
-pub wrote_none : (known : Option (List ℕ)) (bytes : List ℕ) → Wrote known known bytes bytes
-wrote_none None bytes = record { done = []; whole = refl; took = tt }
-wrote_none (Some xs) bytes = record { done = []; whole = refl; took = sym (append-nil xs) }
 
 appends_again : (old now new : Option (List ℕ)) (done more : List ℕ) → Appends old now done → Appends now new more → Appends old new (done ++ more)
 appends_again None now new done more took took' = tt
@@ -41,14 +37,6 @@ wrote_more old now new bytes rest after n w took is = record {
 
 pub wrote_kept : (old now new : Option (List ℕ)) (bytes rest : List ℕ) → Wrote old now bytes rest → Keeps now new → Wrote old new bytes rest
 wrote_kept old now new bytes rest w kept = record { done = w.done; whole = w.whole; took = appends_kept old now new w.done w.took kept }
-
--- all is written where nothing is left
-pub takes_all : (old now : Option (List ℕ)) (bytes rest : List ℕ) → Wrote old now bytes rest → rest ≡ [] → Takes old now bytes
-takes_all None now bytes rest w none = tt
-takes_all (Some xs) None bytes rest w none = absurd w.took
-takes_all (Some xs) (Some ys) bytes rest w none =
-    let is : bytes ≡ w.done = w.whole ∙ ap (λ k. w.done ++ k) none ∙ append-nil w.done in
-    ap Some (w.took ∙ ap (λ k. xs ++ k) (sym is))
 
 -- what is written is a front
 pub takes_front : (old now : Option (List ℕ)) (bytes rest : List ℕ) → Wrote old now bytes rest → TakesFront old now bytes

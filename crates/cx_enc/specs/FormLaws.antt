@@ -278,9 +278,6 @@ list-lawful count f hc hf = with_count-lawful count (λ n. times n f) hc (λ n. 
 pub many-lawful : {X : Type 0} (f : Form X) → IsLawful f → IsLawful (many f)
 many-lawful f h = list-lawful u32_form f u32-lawful h
 
-pub counted-lawful : {X : Type 0} (good : ℕ → Bool) (f : Form X) → IsLawful f → IsLawful (counted good f)
-counted-lawful good f h = list-lawful (judged good u32_form) f (judged-lawful good u32_form u32-lawful) h
-
 -- ---- lists whose form goes on from item to item
 
 chain_takes : {S X : Type 0} (f : S → Form X) (next : S → X → S) → ((b : S) → IsLawful (f b)) → (n : ℕ) (before : S) (s : Spot) (xs : List X × Spot) → IsBytes s.left

@@ -6,9 +6,9 @@ use Rattle.cx_base.specs.Names.{Name}
 use Rattle.cx_enc.specs.Moments.{Moment}
 use Rattle.cx_enc.specs.declared.keys.Key.{Key}
 use Rattle.cx_enc.specs.declared.tickets.TicketBlob.{TicketBlob}
-use Rattle.cx_enc.specs.Forms.{Form, IsLawful, u8_form, u16_form, u32_form, u64_form, bytes_form, blob_form, pair, after, seen, checked, judged, field, times, with_count, many, chain}
+use Rattle.cx_enc.specs.Forms.{Form, IsLawful, u8_form, u16_form, u32_form, u64_form, bytes_form, blob_form, pair, after, seen, checked, judged, times, with_count, many, chain}
 use Rattle.cx_enc.specs.Values.{time_form, reading_form, key_form, secret_form, sized_form, ticket_form, count_form, addr_form, kind_form, name_form, flag_form, fixed}
-use Rattle.cx_enc.specs.FormLaws.{u8-lawful, u16-lawful, u32-lawful, u64-lawful, bytes-lawful, blob-lawful, pair-lawful, after-lawful, seen-lawful, checked-lawful, judged-lawful, field-lawful, times-lawful, with_count-lawful, list-lawful, many-lawful, chain-lawful}
+use Rattle.cx_enc.specs.FormLaws.{u8-lawful, u16-lawful, u32-lawful, u64-lawful, bytes-lawful, blob-lawful, pair-lawful, after-lawful, seen-lawful, checked-lawful, judged-lawful, times-lawful, with_count-lawful, list-lawful, many-lawful, chain-lawful}
 use Rattle.cx_enc.specs.FieldLaws.{time-lawful, reading-lawful, key-lawful, secret-lawful, sized-lawful, ticket-lawful, count-lawful, addr-lawful, kind-lawful, name-lawful, flag-lawful, fixed-lawful}
 
 -- a form, and that it is lawful
@@ -96,10 +96,6 @@ checked_as f made parts back = record { form = checked made parts f.form; lawful
 -- a field of which only some values are good
 abbrev pub only_if : {A : Type 0} → (A → Bool) → Layout A → Layout A
 only_if good f = record { form = judged good f.form; lawful = judged-lawful good f.form f.lawful }
-
--- several parts as one field, which falls short at its own place
-abbrev pub one_field : {A : Type 0} → Layout A → Layout A
-one_field f = record { form = field f.form; lawful = field-lawful f.form f.lawful }
 
 -- a layout that depends on what was read before it
 abbrev pub before : {A B : Type 0} → Layout A → (A → Layout B) → Layout (A × B)

@@ -1,11 +1,11 @@
 //! Values that own nothing, which are read with no memory.
 
-ghost use Rattle.std.specs.Prelude.{◌≡◌, IfOk, IfErr};
+ghost use Rattle.std.specs.Prelude.{◌≡◌};
 ghost use Rattle.cx_enc.specs.Forms.{times};
 ghost use Rattle.cx_enc.specs.Reading.{spot, Reads, Passes};
-ghost use Rattle.cx_enc.specs.Whole.{GivesInPlace, Spells, IsMisspelled};
+ghost use Rattle.cx_enc.specs.Whole.{GivesInPlace};
 
-use crate::{Cut, Encoded, Key, Misspelling, ReadFault, Time};
+use crate::{Cut, Encoded, Key, ReadFault, Time};
 use cx_base::{Addr, EntityType};
 
 /// A type with a layout whose values own nothing, so that reading one wants no memory.
@@ -23,23 +23,6 @@ pub trait EncodedInPlace: Encoded {
         *cut = at;
         Ok(value)
     }
-}
-
-/// The value that all of these bytes spell, read with no memory.
-pub fn read_whole_in_place<T: EncodedInPlace>(bytes: &[u8]) -> Result<T, Misspelling>
-    // What is read is spelled so.
-    ensures found { IfOk result (Spells T.layout.form bytes.now) }
-    // What is spelled so is read.
-    ensures only { (x : T) → Spells T.layout.form bytes.now x → result ≡ Ok x }
-    // Why bytes are refused.
-    ensures refused { IfErr result (IsMisspelled T.layout.form bytes.now) }
-{
-    let mut cut = Cut::new(bytes);
-    let value = T::read_in_place(&mut cut)?;
-    if cut.left() > 0 {
-        return Err(Misspelling::LeftOver(cut.place()));
-    }
-    Ok(value)
 }
 
 /// Passes so many values, which are read and not kept. After a fault the cut stands as before.

@@ -26,10 +26,10 @@ pub use composed::kind_of;
 pub use cut::Cut;
 pub use encoded::{Encoded, read_whole, write_whole};
 pub use faults::{Misspelling, ReadFault, ReadRefusal};
-pub use in_place::{EncodedInPlace, pass_items, read_whole_in_place};
+pub use in_place::{EncodedInPlace, pass_items};
 pub use keys::Key;
 pub use laws::{encoding_laws, fault_laws};
-pub use lists::{put_items, put_many, take_counted, take_items, take_many};
+pub use lists::{put_items, put_many, take_items, take_many};
 pub use names::NameRef;
 pub use parts::{ReadsPart, read_whole_part};
 pub use puts::{

@@ -2,9 +2,8 @@
 
 ghost use Rattle.std.specs.Prelude.{◌≡◌, ◌++◌, ◌<◌, ◌^◌, length, All, OnOk, OnErr};
 ghost use Rattle.std.specs.List.{AllByRecursion, flat_map};
-ghost use Rattle.cx_enc.specs.Forms.{times, with_count, many};
+ghost use Rattle.cx_enc.specs.Forms.{times, many};
 ghost use Rattle.cx_enc.specs.Reading.{spot};
-ghost use Rattle.cx_enc.specs.Values.{count_form};
 ghost use Rattle.cx_enc.specs.Whole.{Takes};
 
 use crate::encoded::Encoded;
@@ -26,23 +25,6 @@ pub fn take_items<T: Encoded>(
         let item = T::read(alloc, &mut at)?;
         items.push(alloc, item)?;
     }
-    *cut = at;
-    Ok(items)
-}
-
-/// Takes a count of four bytes, at least `least` and at most `most`, and so many values. What is wrong with the count is
-/// found before the values. After a refusal the cut stands as before.
-pub fn take_counted<T: Encoded>(
-    alloc: Global,
-    cut: &mut Cut<'_>,
-    least: u32,
-    most: u32,
-) -> Result<Items<T>, ReadRefusal>
-    ensures { Takes (spot cut.old) (spot cut.new) result ((with_count (count_form least most) (λ n. times n T.layout.form)).at (spot cut.old)) }
-{
-    let mut at = *cut;
-    let count = at.take_count(least, most)?;
-    let items = take_items(alloc, &mut at, count)?;
     *cut = at;
     Ok(items)
 }

@@ -1,5 +1,5 @@
 -- The key stream is added from the front on.
-use Rattle.std.proofs.Common.{◌≡◌, ℕ, ◌<◌, ◌≤◌, ◌+◌, ◌-◌, ◌/◌, ◌%◌, List, [], length, map, get_or, bit_xor, refl, sym, ap, ◌∙◌, inl, inr, arith, get_or-set_other, get_or-set_same, length-set, slice_set}
+use Rattle.std.proofs.Common.{◌≡◌, ℕ, ◌<◌, ◌≤◌, ◌+◌, ◌-◌, ◌/◌, ◌%◌, List, [], length, map, get_or, bit_xor, sym, ap, ◌∙◌, inl, inr, arith, get_or-set_other, get_or-set_same, length-set, slice_set}
 use Rattle.std.specs.List.{range_with_len}
 use Rattle.std.proofs.lemmas.Bool.{cases_lt}
 use Rattle.std.proofs.lemmas.List.FromFn.{get_or-map-range_with_len}
@@ -15,9 +15,6 @@ pub record IsPassed (k nonce : List ℕ) (first : ℕ) (before after : List ℕ)
   pub len : length after ≡ length before
   pub done : (j : ℕ) → j < n → get_or after j 0 ≡ bit_xor (get_or before j 0) (stream_at k nonce first j)
   pub left : (j : ℕ) → n ≤ j → get_or after j 0 ≡ get_or before j 0
-
-pub none_passed : (k nonce : List ℕ) (first : ℕ) (before : List ℕ) (n : ℕ) → n ≡ 0 → IsPassed k nonce first before before n
-none_passed k nonce first before n e = record { len = refl; done = λ j lt. absurd (omega (arith, e)); left = λ j le. refl }
 
 -- a mask in a list of four
 pub mask_at : (k nonce : List ℕ) (count i : ℕ) (masks : List (List ℕ)) → i < 4

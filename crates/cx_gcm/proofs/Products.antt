@@ -46,10 +46,6 @@ pub from_last_none : (x y : ℕ) → from_last x y 0 ≡ 0
 unfolding from_last
 from_last_none x y = refl
 
-pub from_last_more : (x y n : ℕ) → from_last x y (n + 1) ≡ bit_xor (shifted (from_last x y n)) (if bit_at x n == 1 then y else 0)
-unfolding from_last
-from_last_more x y n = let e : n + 1 ≡ suc n = omega arith in rw e refl
-
 bit_at-shr : (x m n : ℕ) → bit_at x (m + n) ≡ bit_at (x / 2 ^ m) n
 bit_at-shr x m n = ap (λ v. v % 2) (sym (shr-shr x m n))
 

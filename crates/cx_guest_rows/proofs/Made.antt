@@ -1,49 +1,19 @@
 -- Rows that were made, behind what is entered first and what opened.
-use Rattle.std.proofs.Common.{◌≡◌, ◌∙◌, ℕ, Bool, true, false, List, [], None, Result, Ok, Err, IfOk, ap, subst, sym}
+use Rattle.std.proofs.Common.{◌≡◌, ◌∙◌, ℕ, Bool, true, false, List, Result, Ok, Err, IfOk, ap, subst, sym}
 use Rattle.std.specs.Prelude.{IfSome}
-use Rattle.cx_journal.specs.declared.entries.Entry.{Entry}
-use Rattle.cx_verifying.specs.cx_rules.specs.Abridged.{abridged_link}
 use Rattle.cx_verifying.specs.cx_rules.specs.Rows.{Handles, Refuses, Turned, Waits, with_opened}
 use Rattle.cx_verifying.specs.cx_rules.specs.Holdings.{Asker}
 use Rattle.cx_verifying.specs.cx_rules_session.specs.Asks.{Asking, Finished}
-use Rattle.cx_verifying.specs.cx_rules_session.specs.Guests.{GuestArrival, GuestRow, GuestStage}
+use Rattle.cx_verifying.specs.cx_rules_session.specs.Guests.{GuestRow, GuestStage}
 use Rattle.cx_verifying.specs.cx_rules_session.specs.Hosting.{Deciding, Hosted, comes_to}
-use Rattle.cx_verifying.specs.cx_rules_session.specs.Kinds.{entered_before}
 use Rattle.cx_steps.specs.declared.seals.SealEntry.{SealEntry}
-use Rattle.cx_verifying.specs.cx_turns.proofs.MadeRows.{behind_due, entered_as}
 use Rattle.cx_verifying.specs.cx_turns.specs.Steps.{Stays}
 use Rattle.cx_verifying.specs.cx_turns.specs.Turns.{HasNumber}
-use Rattle.cx_verifying.specs.cx_turns.specs.Making.{IsHandled, IsRowOf, entering, row_due}
+use Rattle.cx_verifying.specs.cx_turns.specs.Making.{row_due}
 use Rattle.cx_verifying.specs.cx_turns.specs.declared.came.Came.{Came}
 use Rattle.cx_verifying.specs.cx_turns.specs.declared.came.Came.TheVariants as came
-use Rattle.cx_verifying.specs.cx_turns.specs.declared.rows.NoRow.{NoRow}
-use Rattle.cx_verifying.specs.cx_turns.specs.declared.rows.NodeRow.{NodeRow}
-use Rattle.cx_verifying.specs.Rows.{MakesRow, unchanged}
 use Rattle.cx_verifying.specs.Stages.{GuestLink}
 use Rattle.cx_guest_rows.specs.Hosted.{IsCome}
-
-abbrev Made : Type 0
-Made = Result (NodeRow GuestLink (Unit {0})) NoRow
-
--- what is entered first stands before the row that was made
-pub entered_made : (a : GuestArrival) (first : Entry) (due : GuestRow) (made : Made) (row : NodeRow GuestLink (Unit {0}))
-    → MakesRow a due made → IsRowOf a.me a.link.number [] made row
-    → MakesRow a (entered_before first due) (let behind : Made = Ok (entering first row) in behind)
-entered_made a first due made row m is = entered_as abridged_link unchanged a first due row (behind_due abridged_link unchanged a [] due made row m is)
-
-handled_come : (a : GuestArrival) (opened : List SealEntry) (due : GuestRow) (made : Made) (came : Came GuestLink (Unit {0}))
-    → MakesRow a due made → IsHandled a.me a.link.number opened made came → IsCome a.own a.link.number opened (comes_to due) came
-handled_come a opened due made (came.Waits link) m h = absurd h
-handled_come a opened due made (came.Refuses why seals) m h = absurd h
-handled_come a opened due made (came.Handles row) m h =
-    let whole = behind_due abridged_link unchanged a opened due made row m h in
-    let done : GuestRow → Deciding Hosted = λ r. Finished (record { turned = Handles r; moved = None }) in
-    record { made = ap done whole.row; number_is = whole.number_is }
-
-pub comes_made : {E : Type 0} (a : GuestArrival) (opened : List SealEntry) (due : GuestRow) (made : Made) (r : Result (Came GuestLink (Unit {0})) E)
-    → MakesRow a due made → IfOk r (IsHandled a.me a.link.number opened made) → IfOk r (IsCome a.own a.link.number opened (comes_to due))
-comes_made a opened due made (Ok came) m h = handled_come a opened due made came m h
-comes_made a opened due made (Err e) m h = tt
 
 -- whether a turn waits
 waiting : Turned Asker GuestStage → Bool

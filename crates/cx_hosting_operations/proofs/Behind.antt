@@ -111,18 +111,9 @@ module _ (handlers : Handlers) (a : GuestArrival) (served : Served) (f : Frame) 
   kept_by s false true is = refl
   kept_by s false false is = absurd (cc)
 
-  left_by : (s : Secured) (ask ack : Bool) → (ask || ack) ≡ false → decided s ask ack ≡ on_message handlers a s served (instruction_of (message_in f))
-  left_by s true ack is = absurd (cc)
-  left_by s false true is = absurd (cc)
-  left_by s false false is = refl
-
   -- a keepalive has the row of what is sent behind it
   pub open-kept : (keys : Keys) → is_keepalive f ≡ true
       → on_open handlers a (keys_alone keys) served f ≡ comes_to (secure_sent a (keys_alone keys) open_under [] (upkept keys f))
   open-kept keys is =
       let done : GuestRow → Deciding Hosted = λ row. comes_to row in
       kept_by (keys_alone keys) (f.tag == 18) (f.tag == 19) is ∙ ap done (keepalive-row a keys open_under (λ g. refuses_bytes a (Unexpected g.tag) []) f is)
-
-  -- any other frame has to hold a message
-  pub open-left : (s : Secured) → is_keepalive f ≡ false → on_open handlers a s served f ≡ on_message handlers a s served (instruction_of (message_in f))
-  open-left s is = left_by s (f.tag == 18) (f.tag == 19) is

@@ -1,4 +1,3 @@
 pub mod Answering
 pub mod Behind
 pub mod Bounded
-pub mod Reading

@@ -1,5 +1,5 @@
 -- Words that are good at all places, and lines one more.
-use Rattle.std.proofs.Common.{◌≡◌, ℕ, ◌+◌, ◌≤◌, ◌<◌, Bool, true, false, cond, List, [], ◌∷◌, ◌++◌, length, Some, None, inl, inr, refl, sym, ◌∙◌, ◌&&◌, arith, append-nil, append_assoc, eq-eqb}
+use Rattle.std.proofs.Common.{◌≡◌, ℕ, ◌+◌, ◌≤◌, ◌<◌, Bool, true, false, cond, List, [], ◌∷◌, ◌++◌, length, Some, None, inr, refl, sym, ◌∙◌, ◌&&◌, arith, append-nil, append_assoc, eq-eqb}
 use Rattle.cx_journal.specs.declared.entries.Entry.TheVariants as entry
 use Rattle.cx_words.specs.Cutting.{lines_of, words_of}
 use Rattle.cx_journal_words.specs.Items.{are_good, is_good, is_whole}
@@ -8,11 +8,10 @@ use Rattle.cx_journal_words.specs.declared.judge.WrongWord.TheVariants as wrong
 use Rattle.cx_journal_words.specs.declared.places.CountedAbove.{CountedAbove}
 use Rattle.cx_journal_words.specs.declared.places.JournalPlace.{JournalPlace}
 use Rattle.cx_journal_lines.specs.Lines.{Spells}
-use Rattle.cx_journal_lines.specs.Reading.{IsFirstBad, IsLineCause, Say, counted_behind, nothing}
+use Rattle.cx_journal_lines.specs.Reading.{IsFirstBad, Say, counted_behind, nothing}
 use Rattle.cx_journal_lines.specs.declared.entries.JournalLine.{JournalLine}
 use Rattle.cx_journal_lines.specs.declared.entries.JournalLine.TheVariants as line
 use Rattle.cx_journal_lines.specs.declared.refusals.WrongLine.{WrongLine}
-use Rattle.cx_journal_lines.specs.declared.refusals.LineRefusal.TheVariants as line_refusal
 
 -- where what stands in front is not all good, neither is the whole
 pub front_bad : (a b c d e r : Bool) → (a && (b && (c && (d && (e && true))))) ≡ false → (a && (b && (c && (d && (e && r))))) ≡ false
@@ -59,15 +58,6 @@ issued_more counted (line.Entry (entry.Issued t)) = omega arith
 issued_more counted (line.Entry e) = omega arith
 issued_more counted (line.Administered a) = omega arith
 
--- at the start nothing is read
-pub reads_none : (bytes : List ℕ) → Reads bytes [] nothing 0 bytes
-reads_none bytes = record {
-  said = λ tail say. say;
-  bad = λ n bad first. let same : 0 + n ≡ n = omega arith in rw same first;
-  few = omega arith;
-  issued = omega arith;
-}
-
 -- one line more
 pub reads_more : (bytes : List ℕ) (old said : List JournalLine) (counted : CountedAbove) (number : ℕ) (rest first after : List ℕ) (s : JournalLine) → Reads bytes old counted number rest
     → lines_of rest ≡ first ∷ lines_of after → length after < length rest → Spells counted s (words_of true first) → said ≡ old ++ s ∷ []
@@ -80,11 +70,6 @@ reads_more bytes old said counted number rest first after s reads cut shorter sp
   few = omega (arith, shorter, reads.few);
   issued = let low = issued_more counted s in omega (arith, low, reads.issued);
 }
-
--- the next line is the first bad one
-pub bad_here : (bytes : List ℕ) (said : List JournalLine) (counted : CountedAbove) (number : ℕ) (rest first after : List ℕ) (bad : WrongLine) → Reads bytes said counted number rest
-    → lines_of rest ≡ first ∷ lines_of after → IsLineCause counted (words_of true first) (line_refusal.Wrong bad) → IsFirstBad nothing (lines_of bytes) (number + 1) bad
-bad_here bytes said counted number rest first after bad reads cut cause = reads.bad 1 bad (rw cut (inl (refl, cause)))
 
 ends : (counted : CountedAbove) → Say counted (lines_of []) []
 unfolding lines_of

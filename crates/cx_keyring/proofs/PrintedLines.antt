@@ -70,9 +70,6 @@ front_kept (b ∷ text) all = rw (no_blank b (and_parts (is_ink b) (list_all is_
 
 -- ---- a section
 
-middle : (a b c : Bool) → a ≡ true → b ≡ true → c ≡ true → ((a && b) && c) ≡ true
-middle a b c p q r = rw (p, q, r) refl
-
 bracketed : (text : List ℕ) → is_bracketed (91 ∷ (text ++ 93 ∷ [])) ≡ true
 bracketed text =
     let long : nat_le 2 (length (91 ∷ (text ++ 93 ∷ []))) ≡ true = grind (arith, nat_tests, length-append text (93 ∷ [])) in

@@ -21,9 +21,8 @@ use Rattle.cx_laws_links.specs.cx_laws_keys.proofs.Premises.{AreGranted, behind}
 use Rattle.cx_laws_links.specs.cx_laws_keys.proofs.Uses.{AtDaemon, Connected, Grows, Means, Use, Uses, WholeRun, stays}
 use Rattle.cx_laws_links.specs.cx_laws_series.proofs.Contents.{contents_by}
 use Rattle.cx_laws_links.specs.cx_rules.specs.Acceptor as acceptor
-use Rattle.cx_laws_links.specs.cx_rules.specs.Fronts.{keys_behind}
 use Rattle.cx_laws_links.specs.cx_rules.specs.Links.{Link}
-use Rattle.cx_laws_links.specs.cx_rules.specs.Secured.{Secured, under}
+use Rattle.cx_laws_links.specs.cx_rules.specs.Secured.{Secured}
 use Rattle.cx_laws_links.specs.cx_rules_session.specs.Guests.{GuestRow, GuestStage}
 use Rattle.cx_laws_links.specs.cx_rules_session.specs.Presenter as call
 use Rattle.cx_laws_links.specs.cx_rules_session.specs.Presenter.{CallArrival, CallRow, CallStage, callee_of}
@@ -39,7 +38,7 @@ use Rattle.cx_laws_links.proofs.Speaking.{cons-cases, said-append, said-other}
 use Rattle.cx_laws_links.proofs.Spoken.{Spoken, asked, said_under, tagged}
 use Rattle.cx_laws_links.proofs.Written.{IsLinkKey}
 use Rattle.cx_laws_answers.proofs.CallHeard.{CallHeard, Hears, IsTrueEnd, ends-read, ends-true, turn-heard}
-use Rattle.cx_laws_answers.proofs.CallHears.{EndsSo, OneEnd}
+use Rattle.cx_laws_answers.proofs.CallHears.{EndsSo}
 use Rattle.cx_laws_answers.proofs.CallTurns.{TurnHears}
 use Rattle.cx_laws_answers.proofs.Given.{Given, gives_under, is_acceptors}
 use Rattle.cx_laws_answers.proofs.Growing.{given-stays}
@@ -48,7 +47,6 @@ use Rattle.cx_laws_answers.proofs.Keyed.{given-other}
 use Rattle.cx_laws_answers.proofs.Known.{WasServed, Continues, AreGiven}
 use Rattle.cx_laws_answers.proofs.Moving.{AsksNoMore, Longer, QuietAt, QuietUnder, call-stays, guest-stays, in-step-gives, in-step-speaks}
 use Rattle.cx_laws_answers.proofs.Once.{AnswersAnew, AreOnce, once-gives, once-stays}
-use Rattle.cx_laws_answers.proofs.Quiet.{says-none}
 use Rattle.cx_laws_answers.proofs.EndsRead.{AreRead, IsRead, ReadsAt, ReadsOn, not-before, read-grows}
 use Rattle.cx_laws_answers.proofs.Replied.{AreInStep, GuestGiven, IsGiver}
 
@@ -95,12 +93,6 @@ still-given run whole us vs told next given log J K n line es one f w i longer q
   step = in-step-speaks run us vs told next given log J one f longer h.known h.step;
   once = once-stays run us vs given log J one f h.known h.once;
 }
-
--- and so it does where more was spoken
-pub all-longer : (run : WholeRun) (us : Uses) (told next : Told) (given : List (List ℕ × Given)) (log : List Logged) (J : List Entry) → ((k : List ℕ) (u v : Use) → Means us k u → Means us k v → u ≡ v)
-    → Longer told next → AllGiven run us told given log J → AllGiven run us next given log J
-all-longer run us told next given log J one longer h =
-    record { known = h.known; step = in-step-speaks run us us told next given log J one (stays us) longer h.known h.step; once = h.once }
 
 -- what a step on one link of a client does: more is spoken
 pub moved-longer : (us vs : Uses) (told : Told) (log : List Logged) (es : List SealEntry) (name : Name) (number : ℕ) (next : Told) → Moved us vs told log es name number next → Longer told next
@@ -160,10 +152,6 @@ module _ (run : WholeRun) (whole : List Logged) (us vs : Uses) (told : Told) (gi
     (name : Name) (a : CallArrival) (W : ℕ → ℕ × Operation → Type 0) (stage : CallStage) (s : Secured) (before : Option ℕ) (keyed : KeyedStage stage s before)
     (k : IsKeyed us told log name a.link.number s before) (hears : Hears run told given name s (pending_of stage)) (row : CallRow) (turn : TurnHears W a stage s before row)
     (g : AreGranted run.leaked whole n line log row.seals) where
-  -- it seals nothing as an acceptor
-  pub call-quiet : (key : List ℕ) → contents_by key is_acceptors row.seals ≡ []
-  call-quiet key = says-none W a.link.number (callee_of stage) (under s (keys_behind s.keys turn.frame)) before row turn.says k.connector key
-
   -- the link has heard what was given, where what it waits for was asked for in this step
   pub call-heard : (next : Told) → ((link : Link CallStage) → row.link ≡ Some link → AsksOn told next link.stage) → (link : Link CallStage) → row.link ≡ Some link
       → CallHeard run next given name link.stage
@@ -182,10 +170,6 @@ module _ (run : WholeRun) (whole : List Logged) (us vs : Uses) (told : Told) (gi
       → ReadsAt us given s.keys.key s.keys.into.counter x → Contains J (journal.Answered y) → x.client ≡ y.client → x.cookie ≡ y.cookie → x.tid ≡ y.tid → ⊥
   call-once reads all on x y free now was client cookie tid =
       not-before run us given reads s x y h.once free on now (all y was (subst (λ (m : Name). Contains run.leaked m → ⊥) client free)) client cookie tid
-
-  -- only the first entry may be one of an answer
-  pub call-alone : OneEnd row.entries
-  call-alone = turn.hears.alone
 
   -- where all that are entered were entered before, or are entered by the row, all of them are read
   pub call-read : (reads : List (List ℕ × ℕ)) → AreRead run us given reads J → a.own.asker.name ≡ name
@@ -228,20 +212,6 @@ module _ (run : WholeRun) (whole : List Logged) (us : Uses) (told : Told) (given
       }
 
   -- ---- other links
-
-  -- of clients
-  pub guest-calls : (whose : Name) (st : CallStage) → CallHeard run told given whose st → CallHeard run told (given ++ gives_under key s.words) whose st
-  guest-calls whose st heard = call-stays run told told given (gives_under key s.words) whose st (asks st) heard
-    where
-      asks : (x : CallStage) → AsksNoMore run told told given (gives_under key s.words) whose x
-      asks (call.AwaitsSignature r callee) = refl
-      asks (call.AwaitsIdent r callee cookie) = refl
-      asks (call.AwaitsReconnect r callee cookie) = refl
-      asks (call.Open r callee cookie) = refl
-      asks (call.AwaitsBanner called) = tt
-      asks (call.AwaitsHello called) = tt
-      asks (call.AwaitsChallenge callee p) = tt
-      asks (call.AwaitsDone callee answered) = tt
 
   same-told : Longer told told
   same-told = record { more = []; is = sym (append-nil told.said) }

@@ -158,14 +158,6 @@ reads-on reads s t frame x is key into on number has =
         let more = some in
         omega (arith, here, now, more)
 
--- and one with another key
-pub reads-other : (reads : List (List ℕ × ℕ)) (key : List ℕ) (number : ℕ) (s : Secured) → (key ≡ s.keys.key → ⊥) → ReadsOn reads s → ReadsOn (reads ++ (key, number) ∷ []) s
-reads-other reads key number s apart on second has = by_place (Contains-push_cases reads (key, number) (s.keys.key, second) has)
-  where
-    by_place : Contains reads (s.keys.key, second) ⊎ (let p : List ℕ × ℕ = (key, number) in let q : List ℕ × ℕ = (s.keys.key, second) in p ≡ q) → second < s.keys.into.counter
-    by_place (inl was) = on second was
-    by_place (inr same) = absurd (apart (ap (λ (p : List ℕ × ℕ). p.0) same))
-
 -- ---- keys under which something was read
 
 -- a reply gave such a key its link

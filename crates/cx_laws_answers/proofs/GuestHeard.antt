@@ -86,10 +86,6 @@ part-signs service key fixed counter [] = tt
 part-signs service key fixed counter (part ∷ parts) = (tt, part-signs service key fixed (counter + 1) parts)
 
 module _ (b : GuestArrival) (service : EntityType) where
-  -- all that was taken of the link
-  abbrev covered : List ℕ
-  covered = take b.link.taken b.link.received
-
   authorizes-signs : (opened : List SealEntry) (ticket : ServiceTicket) (nonce : ℕ) → Signs service opened → HearsService service (take b.link.taken b.link.received) → Signs service (authorizes b opened ticket nonce).seals
   authorizes-signs opened ticket nonce quiet heard =
       by_frames (plain_frame (authorized_frame ticket nonce (connection_of b.draw)))

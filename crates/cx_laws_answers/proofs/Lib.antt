@@ -9,7 +9,6 @@ pub mod Replied
 pub mod GuestSteps
 pub mod GuestKnown
 pub mod AnswerHears
-pub mod ReplyHears
 pub mod CallHears
 pub mod CallTurns
 pub mod Once
@@ -21,7 +20,6 @@ pub mod Begins
 pub mod AllGiven
 pub mod CallSilent
 pub mod CallAny
-pub mod BeginsAll
 pub mod GuestFirst
 pub mod SameService
 pub mod GuestHeard

@@ -1,19 +1,11 @@
 -- What a client's link seals behind authentication is nothing of an acceptor: so what was given stays known behind its turns.
-use Rattle.std.proofs.Common.{◌≡◌, ℕ, Bool, true, false, List, [], ◌∷◌, ◌++◌, map, Option, None, Result, Ok, Err, inr, refl, sym, ap, ◌∙◌, subst, arith}
+use Rattle.std.proofs.Common.{◌≡◌, ℕ, false, List, [], ◌∷◌, ◌++◌, map, Option, Result, Ok, Err, inr, refl, sym, ap, ◌∙◌, subst, arith}
 use Rattle.std.proofs.lemmas.Bool.Decides.{nat_tests}
-use Rattle.std.proofs.lemmas.Slice.Eq.{bytes_eq-Decides}
-use Rattle.std.specs.Prelude.{◌&&◌}
-use Rattle.std.specs.List.{AllByRecursion, cons_option}
-use Rattle.std.specs.Str.{bytes_eq}
-use Rattle.cx_base.specs.Names.{Name}
-use Rattle.cx_base.specs.declared.kinds.EntityType.{EntityType}
-use Rattle.cx_base.specs.declared.nodes.NodeName.{NodeName}
 use Rattle.cx_base.specs.declared.operations.Operation.{Operation}
 use Rattle.cx_frame.specs.declared.frame.Frame.{Frame}
 use Rattle.cx_journal.specs.declared.faults.BytesFault.{BytesFault}
 use Rattle.cx_laws_links.specs.cx_laws_keys.proofs.Known.{IsOfConnector}
-use Rattle.cx_laws_links.specs.cx_laws_keys.proofs.Uses.{AtDaemon, Connected, Means, Use, Uses}
-use Rattle.cx_laws_links.specs.cx_laws_series.proofs.Contents.{content_where, contents_by, parts-others}
+use Rattle.cx_laws_links.specs.cx_laws_series.proofs.Contents.{contents_by, parts-others}
 use Rattle.cx_laws_links.specs.cx_laws_series.proofs.Frames.{frame-sealed}
 use Rattle.cx_laws_links.specs.cx_rules.specs.Messages.{sealed_behind, sealed_then, secure_frames}
 use Rattle.cx_laws_links.specs.cx_rules.specs.Secured.{Keys, SealedFrame, Secured, secure_frame}
@@ -22,11 +14,9 @@ use Rattle.cx_laws_links.specs.cx_rules_session.specs.Sessions.{Callee}
 use Rattle.cx_secure.specs.Parts.{nonce_at}
 use Rattle.cx_secure.specs.Plains.{plains}
 use Rattle.cx_steps.specs.declared.seals.SealEntry.{SealEntry}
-use Rattle.cx_steps.specs.declared.seals.SealEntry.TheVariants as entry
 use Rattle.cx_laws_links.proofs.CallTells.{by-append, quiet-none}
 use Rattle.cx_laws_links.proofs.CallWords.{Says}
 use Rattle.cx_laws_links.proofs.Spoken.{frame_of}
-use Rattle.cx_laws_links.proofs.Written.{IsLinkKey}
 use Rattle.cx_laws_answers.proofs.Given.{is_acceptors}
 
 -- what begins with the nonce of a connector is nothing of an acceptor
@@ -74,30 +64,3 @@ says-none W number callee s before row h connector key =
     ((subst (λ (r : Result SealedFrame BytesFault). SealsNone s.keys r) h.made (some-none s.keys (map frame_of h.words) connector)).1 key)
 
 -- ---- what is sealed under keys of other uses
-
--- what is sealed is so under a key that is for no link to a daemon
-abbrev pub IsForeign : Uses → SealEntry → Type 0
-IsForeign us (entry.Sealed mark) =
-    (u : Use) × Means us mark.key u × ((at : NodeName) (number : ℕ) (name : Name) (service : EntityType) (tie : ℕ) → u ≡ Connected at number name (AtDaemon service tie) → ⊥)
-IsForeign us (entry.Signed mark) = Unit {0}
-IsForeign us (entry.Opened mark) = Unit {0}
-IsForeign us (entry.Checked mark) = Unit {0}
-IsForeign us (entry.Drawn mark) = Unit {0}
-
--- so nothing is sealed under the key of a link
-pub foreign-none : (us : Uses) (one : (k : List ℕ) (u v : Use) → Means us k u → Means us k v → u ≡ v) (test : List ℕ → Bool) (es : List SealEntry) → AllByRecursion (IsForeign us) es
-    → (key : List ℕ) (name : Name) (tie : ℕ) → IsLinkKey us key name tie → contents_by key test es ≡ []
-foreign-none us one test [] h key name tie is = refl
-foreign-none us one test (entry.Sealed mark ∷ es) h key name tie is =
-    ap (λ (o : Option (List ℕ)). cons_option o (contents_by key test es)) (by_test (bytes_eq mark.key key) refl) ∙ foreign-none us one test es h.1 key name tie is
-  where
-    by_test : (there : Bool) → bytes_eq mark.key key ≡ there → content_where (there && test mark.content) mark.content ≡ None
-    by_test false e = refl
-    by_test true e =
-        let same : mark.key ≡ key = (bytes_eq-Decides mark.key key).0 e in
-        let means : Means us key h.0.0 = subst (λ (k : List ℕ). Means us k h.0.0) same h.0.1 in
-        absurd (h.0.2 is.acceptor is.number name is.service tie (one key h.0.0 (Connected is.acceptor is.number name (AtDaemon is.service tie)) means is.means))
-foreign-none us one test (entry.Signed mark ∷ es) h key name tie is = foreign-none us one test es h.1 key name tie is
-foreign-none us one test (entry.Opened mark ∷ es) h key name tie is = foreign-none us one test es h.1 key name tie is
-foreign-none us one test (entry.Checked mark ∷ es) h key name tie is = foreign-none us one test es h.1 key name tie is
-foreign-none us one test (entry.Drawn mark ∷ es) h key name tie is = foreign-none us one test es h.1 key name tie is

@@ -22,10 +22,6 @@ pub record Rotates (now life : ℕ) (keys : List (List ℕ)) (xs : List Added) :
   pub three : AreThree (more ++ xs)
   pub newest : three_newest (more ++ xs) ≡ rotated now life keys (three_newest xs)
 
--- for MON and CLIENT there are no keys, and no generations
-pub rotates-none : (now life : ℕ) → rotated now life [] [] ≡ []
-rotates-none now life = refl
-
 module _ (now life : ℕ) (j k l : List ℕ) where
   abbrev three_keys : List (List ℕ)
   three_keys = j ∷ k ∷ l ∷ []

@@ -57,9 +57,6 @@ module _ (run : WholeRun) (whole : List Logged) (us vs : Uses) (logins : List Ha
   abbrev HasBehind : Told → List Logged → List ℕ → Stage → Type 0
   HasBehind next later sent stage = first.HasBehind run whole us vs logins told past p name log J r link next later sent stage
 
-  abbrev Behind : AskerRow → Type 0
-  Behind row = first.Behind run whole us vs logins told past p name log J r link row
-
   abbrev BehindAt : AskerRow → Type 0
   BehindAt row = first.BehindAt run whole us vs logins told past p name log J r link row
 

@@ -17,7 +17,7 @@ use Rattle.cx_steps.specs.declared.seals.SealEntry.TheVariants as entry
 use Rattle.cx_laws_truth.specs.cx_laws_fetch.proofs.AskerFacts.{HasHeard, heard-grows}
 use Rattle.cx_laws_truth.specs.cx_laws_fetch.proofs.Handed.{IsNoLogin, IsPlain}
 use Rattle.cx_laws_truth.specs.cx_laws_fetch.proofs.Later.{of_acceptor, of_connector}
-use Rattle.cx_laws_truth.specs.cx_laws_fetch.proofs.Retied.{Handed, means-retied, retied, retied_use}
+use Rattle.cx_laws_truth.specs.cx_laws_fetch.proofs.Retied.{Handed, means-retied, retied}
 use Rattle.cx_laws_truth.specs.cx_laws_fetch.proofs.SameChallenge.{TellsReply}
 use Rattle.cx_laws_truth.specs.cx_laws_fetch.proofs.ToldStays.{SealsNone}
 use Rattle.cx_laws_truth.specs.cx_laws_keys.proofs.Lists.{all-map}
@@ -124,30 +124,6 @@ harmless-grow us vs f (entry.Drawn mark) h = tt
 
 pub harmless-grows : (us vs : Uses) → Grows us vs → (es : List SealEntry) → AreHarmless us es → AreHarmless vs es
 harmless-grows us vs f es h = all-map (IsHarmless us) (IsHarmless vs) (harmless-grow us vs f) es h
-
--- and with what was handed over
-still-apart : (logins : List Handed) (key : List ℕ) (u : Use) → IsApart u → retied_use logins key u ≡ u
-still-apart logins key (Connected acceptor number name (AtMonitor challenge)) h = absurd h
-still-apart logins key (Connected acceptor number name (AtDaemon service tie)) h = refl
-still-apart logins key (Secret name) h = refl
-still-apart logins key (Generated service id) h = refl
-still-apart logins key (Login name) h = refl
-still-apart logins key (Ticketed name service) h = refl
-
-harmless-retie : (logins : List Handed) (us : Uses) (e : SealEntry) → IsHarmless us e → IsHarmless (retied logins us) e
-harmless-retie logins us (entry.Sealed mark) h = record {
-  use_of = h.use_of;
-  means = subst (λ (u : Use). Means (retied logins us) mark.key u) (still-apart logins mark.key h.use_of h.apart) (means-retied logins us mark.key h.use_of h.means);
-  apart = h.apart;
-  plain = h.plain;
-}
-harmless-retie logins us (entry.Signed mark) h = h
-harmless-retie logins us (entry.Opened mark) h = tt
-harmless-retie logins us (entry.Checked mark) h = tt
-harmless-retie logins us (entry.Drawn mark) h = tt
-
-pub harmless-retied : (logins : List Handed) (us : Uses) (es : List SealEntry) → AreHarmless us es → AreHarmless (retied logins us) es
-harmless-retied logins us es h = all-map (IsHarmless us) (IsHarmless (retied logins us)) (harmless-retie logins us) es h
 
 -- ---- it has nothing to do with logins
 

@@ -91,9 +91,6 @@ module _ (run : WholeRun) (whole : List Logged) (us vs : Uses) (logins : List Ha
     abbrev line : ℕ
     line = p.happening.line
 
-    abbrev later : List Logged
-    later = behind node.Monitor line es log
-
     -- what the monitor has behind its rotation, where a message is heard
     uses : (demand : Demand) → heard bearer g ≡ Ok demand → HasUses xs rotated bearer
     uses demand heard_as =

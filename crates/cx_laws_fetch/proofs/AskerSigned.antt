@@ -35,17 +35,11 @@ use Rattle.cx_steps.specs.declared.seals.SealEntry.TheVariants as entry
 use Rattle.cx_laws_series.specs.cx_stream.specs.Openings.{front_contents}
 use Rattle.cx_laws_series.specs.cx_stream.specs.SecureStreams.{Ahead}
 use Rattle.cx_laws_fetch.proofs.AskedKnown.{AreTold, Events, IsLoginKey, IsUnsaid, MoreEvents, Told}
-use Rattle.cx_laws_fetch.proofs.AskedMoving.{Quiets}
 use Rattle.cx_laws_fetch.proofs.AskerFacts.{HasAnswered}
-use Rattle.cx_laws_fetch.proofs.AskerMoves.{AskerMoves}
-use Rattle.cx_laws_fetch.proofs.AskerOpening.{signature-moves}
-use Rattle.cx_laws_fetch.proofs.AskerSays.{KeepsIdent}
 use Rattle.cx_laws_fetch.proofs.Handed.{AllKnown, AreHanded, IsHanded, IsKnownSo, all-onto, handed-challenge, handed-in}
 use Rattle.cx_laws_fetch.proofs.HandedLogin.{HasHandedKeys}
-use Rattle.cx_laws_fetch.proofs.Later.{of_acceptor, of_connector}
 use Rattle.cx_laws_fetch.proofs.Retied.{Handed}
-use Rattle.cx_laws_fetch.proofs.RowWords.{AreQuiet, opened-quiet, quiet-none}
-use Rattle.cx_laws_fetch.proofs.ToldStays.{told-stays}
+use Rattle.cx_laws_fetch.proofs.RowWords.{AreQuiet, opened-quiet}
 
 same-login : (a b : Name) → Login a ≡ Login b → a ≡ b
 same-login a b e = cc
@@ -103,23 +97,8 @@ module _ (run : WholeRun) (whole : List Logged) (us vs : Uses) (log : List Logge
   abbrev row_of : Result AuthSignature BytesFault → AskerRow
   row_of read = with_opened opened (on_signature b k login read)
 
-  abbrev Moves : AskerRow → Type 0
-  Moves row = AskerMoves (KeepsIdent l.number) run F vs told (behind n line row.seals log) name link s.keys.key row
-
   abbrev Granted : AskerRow → Type 0
   Granted row = AreGranted run.leaked whole n line log row.seals
-
-  refuses-moves : (why : Reason) → Moves (with_opened opened (refuses b why []))
-  refuses-moves why =
-      let es : List SealEntry = opened ++ [] in
-      let quiet : AreQuiet es = quiet-append opened [] (opened-quiet (sealed_ahead s.keys l)) tt in
-      record {
-        next = told;
-        moved = Quiets;
-        only = tt;
-        known = told-stays run whole us vs log J n line es one f i E F more told t (λ key is. (quiet-none key of_connector es quiet, quiet-none key of_acceptor es quiet));
-        link_is = tt;
-      }
 
   -- what is checked was signed
   checked : Granted (with_opened opened (identifies b k login)) → HasSigned (behind n line opened log) (record { key = s.session; kind = kind.Signature; content = s.covered })
@@ -151,29 +130,6 @@ module _ (run : WholeRun) (whole : List Logged) (us vs : Uses) (log : List Logge
   right-key granted =
       let known : AllKnown us logins (behind n line opened log) = all-onto (IsKnownSo us logins) n line opened log handed.known (parts-known us logins (sealed_ahead s.keys l)) in
       own-key run whole us log J i logins (behind n line opened log) known handed name s keys (checked granted) (λ (c : ℕ) (_ : Frame). E.drew name link c) answered small
-
-  right-moves : (found : AuthSignature) → due 7 auth_signature_layout.form g ≡ Ok found → is_signed k found.signature ≡ true → Granted (with_opened opened (identifies b k login))
-      → Moves (with_opened opened (identifies b k login))
-  right-moves found read is granted =
-      let key : IsLoginKey us s.keys.key name answered.challenge = right-key granted in
-      let moves : Moves (row_of (due 7 auth_signature_layout.form g)) =
-      signature-moves run whole us vs log J n line one f i E F more told t name link s l g m answered.challenge key unsaid keys.first login a now found read in
-      let there : Moves (row_of (Ok found)) = subst (λ (r : Result AuthSignature BytesFault). Moves (row_of r)) read moves in
-      subst (λ (t : Bool). Moves (with_opened opened (if t then identifies b k login else refuses b (reason.Login SignatureWrong) []))) is there
-
-  by_test : (found : AuthSignature) → due 7 auth_signature_layout.form g ≡ Ok found → (t : Bool) → is_signed k found.signature ≡ t
-      → Granted (with_opened opened (if t then identifies b k login else refuses b (reason.Login SignatureWrong) []))
-      → Moves (with_opened opened (if t then identifies b k login else refuses b (reason.Login SignatureWrong) []))
-  by_test found read true is granted = right-moves found read is granted
-  by_test found read false is granted = refuses-moves (reason.Login SignatureWrong)
-
-  by_read : (r : Result AuthSignature BytesFault) → due 7 auth_signature_layout.form g ≡ r → Granted (row_of r) → Moves (row_of r)
-  by_read (Err why) read granted = refuses-moves (reason.Bytes why)
-  by_read (Ok found) read granted = by_test found read (is_signed k found.signature) refl granted
-
-  -- whatever is read, all stays known
-  pub signed-turn : Granted (row_of (due 7 auth_signature_layout.form g)) → Moves (row_of (due 7 auth_signature_layout.form g))
-  signed-turn granted = by_read (due 7 auth_signature_layout.form g) refl granted
 
   -- ---- whether it is found right
 

@@ -63,9 +63,7 @@ use Rattle.cx_wire.specs.declared.logins.LoginHello.{LoginHello}
 use Rattle.cx_line_words.specs.declared.choices.LeftState.{LeftState}
 use Rattle.cx_line_words.specs.declared.choices.LeftState.TheVariants as left
 use Rattle.cx_laws_authorize.specs.cx_run.proofs.Taking.{EachRow}
-use Rattle.cx_laws_authorize.specs.cx_run.specs.Happenings.{EntityNode, Happening, Nodes, entity_of, entity_steps, monitor_steps, steps, steps_of}
-use Rattle.cx_laws_authorize.specs.cx_run.specs.Opening.{Setup, nodes_of}
-use Rattle.cx_laws_authorize.specs.cx_run.specs.Points.{EachPoint, Point, points, points_onto}
+use Rattle.cx_laws_authorize.specs.cx_run.specs.Happenings.{EntityNode, Happening, Nodes, entity_of, entity_steps, monitor_steps, steps_of}
 use Rattle.cx_laws_authorize.specs.cx_laws_keys.proofs.Lists.{found_all}
 use Rattle.cx_laws_fetch.proofs.Banners.{IsRead, read-banner, read-frame, read-grows}
 use Rattle.cx_laws_fetch.proofs.Turns.{banner-each, behind-row, left_out, placed, plain-each, secure-each}
@@ -406,16 +404,3 @@ node-heard nodes h node.Monitor ok =
     let o : Outcome MonitorNode = monitor_rule nodes.monitor h.input h.reading h.draw in
     subst AllHeard (sym (saved-links nodes o h.left o.out.save)) (rule-heard nodes.monitor h.input h.reading h.draw ok)
 node-heard nodes h (node.Entity name) ok = entity-heard nodes h name (entity_of name nodes) ok
-
--- so it is before each event
-abbrev pub MonitorHeard : List Point → Point → Type 0
-MonitorHeard older p = AllHeard p.nodes.monitor.links
-
-heard-onto : (hs : List Happening) (past : List Point) (nodes : Nodes) → AllHeard nodes.monitor.links → EachPoint MonitorHeard past → EachPoint MonitorHeard (points_onto past nodes hs)
-heard-onto [] past nodes ok each = each
-heard-onto (h ∷ hs) past nodes ok each =
-    heard-onto hs (record { nodes = nodes; happening = h } ∷ past) (steps nodes h).nodes (node-heard nodes h h.node ok) (ok, each)
-
--- before each event each link of the monitor heard what its stage says, whatever was forged
-pub all-heard : (setup : Setup) (hs : List Happening) → EachPoint MonitorHeard (points setup hs)
-all-heard setup hs = heard-onto hs [] (nodes_of setup) tt tt

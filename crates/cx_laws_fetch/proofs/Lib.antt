@@ -19,7 +19,6 @@ pub mod ClientTells
 pub mod DaemonTells
 pub mod AllTold
 pub mod SameChallenge
-pub mod OwnChallenges
 pub mod RepliedMoments
 pub mod Words
 pub mod Later

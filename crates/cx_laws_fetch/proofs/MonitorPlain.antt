@@ -7,7 +7,6 @@ use Rattle.cx_base.specs.declared.kinds.EntityType.{EntityType}
 use Rattle.cx_control.specs.Idents.{client_ident_layout, ident_missing_features_layout}
 use Rattle.cx_control.specs.Reconnects.{session_reconnect_layout}
 use Rattle.cx_control.specs.Upkeep.{keepalive2_ack_layout, keepalive2_layout}
-use Rattle.cx_control.specs.declared.auth.AuthSignature.{AuthSignature}
 use Rattle.cx_control.specs.declared.idents.ClientIdent.{ClientIdent}
 use Rattle.cx_control.specs.declared.reconnects.SessionReconnect.{SessionReconnect}
 use Rattle.cx_control.specs.declared.upkeep.Keepalive2.{Keepalive2}
@@ -17,9 +16,7 @@ use Rattle.cx_frame.specs.declared.frame.Frame.{Frame}
 use Rattle.cx_journal.specs.declared.faults.BytesFault.{BytesFault}
 use Rattle.cx_journal.specs.declared.faults.BytesFault.TheVariants.{Unexpected}
 use Rattle.cx_journal.specs.declared.faults.LoginFault.{LoginFault}
-use Rattle.cx_journal.specs.declared.faults.LoginFault.TheVariants.{SignatureWrong}
 use Rattle.cx_journal.specs.declared.outcomes.Reason.{Reason}
-use Rattle.cx_journal.specs.declared.outcomes.Reason.TheVariants as reason
 use Rattle.cx_journal.specs.declared.premises.KeyKind.TheVariants as kind
 use Rattle.cx_laws_authorize.specs.cx_keyserver.specs.Servers.{Server, generations_of, secrets_of}
 use Rattle.cx_laws_authorize.specs.cx_keyserver.specs.declared.tickets.Ticket.{Ticket}
@@ -27,14 +24,14 @@ use Rattle.cx_laws_authorize.specs.cx_laws_keys.proofs.Lists.{all-append}
 use Rattle.cx_laws_authorize.specs.cx_laws_keys.proofs.Uses.{AreGenerated, Means, Secret, Use, Uses}
 use Rattle.cx_laws_series.proofs.Frames.{frame-sealed}
 use Rattle.cx_rotate.specs.declared.generations.Generation.{Generation}
-use Rattle.cx_laws_series.specs.cx_rules.specs.Acceptor.{AwaitsIdent, Open, missing_told, misses, on_signature, server_ident}
+use Rattle.cx_laws_series.specs.cx_rules.specs.Acceptor.{AwaitsIdent, Open, missing_told, misses, server_ident}
 use Rattle.cx_laws_series.specs.cx_rules.specs.Fronts.{opened_parts}
 use Rattle.cx_laws_series.specs.cx_rules.specs.Monitor.{MonitorArrival, MonitorRow}
 use Rattle.cx_laws_series.specs.cx_rules.specs.MonitorRequests.{heard, on_demand, on_message, on_open, reply_message, request_occasion, responds, sends_reply, serving}
 use Rattle.cx_laws_series.specs.cx_rules.specs.MonitorRule.{on_client_ident, on_ident, on_session_reconnect, session_reset}
 use Rattle.cx_laws_series.specs.cx_rules.specs.Payloads.{control, payload}
-use Rattle.cx_laws_series.specs.cx_rules.specs.Rows.{Arrival, goes_on, refuses, refuses_bytes, secure_sent, sends_secure}
-use Rattle.cx_laws_series.specs.cx_rules.specs.Secured.{SealedFrame, Secured, is_signed, secure_frame, signature_found}
+use Rattle.cx_laws_series.specs.cx_rules.specs.Rows.{Arrival, refuses_bytes, secure_sent, sends_secure}
+use Rattle.cx_laws_series.specs.cx_rules.specs.Secured.{SealedFrame, Secured, secure_frame}
 use Rattle.cx_laws_series.specs.cx_rules.specs.Upkeep.{on_keepalive, on_keepalive_ack}
 use Rattle.cx_laws_series.specs.cx_rules.specs.declared.responses.Bearer.{Bearer}
 use Rattle.cx_laws_series.specs.cx_rules.specs.declared.responses.Demand.{Demand}
@@ -121,15 +118,6 @@ module _ (us : Uses) (s : Secured) (linked : Use) (means : Means us s.keys.key l
       by_sealed (Ok sealed) made = all-append (IsPlain us) before sealed.seals plain (frame-plain f sealed made)
 
   module _ (a : MonitorArrival) (bearer : Bearer) where
-    -- AUTH_SIGNATURE
-    pub signature-plain : (read : Result AuthSignature BytesFault) → AllPlain (on_signature a s bearer read).seals
-    signature-plain (Err why) = tt
-    signature-plain (Ok found) = by_test (is_signed s found.signature)
-      where
-        by_test : (t : Bool) → AllPlain (let row : MonitorRow = (if t then goes_on a (AwaitsIdent s bearer) [] (signature_found s ∷ []) else refuses a (reason.Login SignatureWrong) []) in row.seals)
-        by_test true = (tt, tt)
-        by_test false = tt
-
     -- an ident
     misses-plain : (features : ℕ) → AllPlain (misses a s features).seals
     misses-plain features = by_sealed (secure_frame s.keys (control 10 ident_missing_features_layout.form (record { features = features }))) refl

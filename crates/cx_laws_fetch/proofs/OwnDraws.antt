@@ -23,13 +23,12 @@ use Rattle.cx_steps.specs.declared.seals.Logged.{Logged}
 use Rattle.cx_steps.specs.declared.seals.SealEntry.{SealEntry}
 use Rattle.cx_steps.specs.declared.seals.SealEntry.TheVariants as entry
 use Rattle.cx_laws_fetch.proofs.AllTold.{IsChallenging, WasDrawn}
-use Rattle.cx_laws_fetch.proofs.AskedKnown.{AreTold, Events, IsAsker, IsLoginKey, IsSaid, IsTrueAsked, IsUnsaid, Told}
+use Rattle.cx_laws_fetch.proofs.AskedKnown.{AreTold, Events, IsLoginKey, IsSaid, IsTrueAsked, IsUnsaid, Told}
 use Rattle.cx_laws_fetch.proofs.AskedLifting.{login-grows, login-one}
 use Rattle.cx_laws_fetch.proofs.AskedWords.{Asked, asked_frame}
 use Rattle.cx_laws_fetch.proofs.Later.{of_connector}
 use Rattle.cx_laws_fetch.proofs.PointEvents.{events_of}
 use Rattle.cx_laws_fetch.proofs.Words.{said-has, said_under}
-use Rattle.cx_laws_authorize.specs.cx_rules_session.specs.cx_rules.specs.Secured.{Secured}
 
 -- ---- in the log
 
@@ -157,13 +156,6 @@ keys-apart vs one past fresh name link challenge own key here m other apart its 
         let there : IsLoginKey vs second name challenge = subst (λ (k : List ℕ). IsLoginKey vs k name challenge) ((bytes_eq-Decides key second).0 e) here in
         let same = login-one vs one second name m challenge its there is in
         absurd (apart (drew-once past fresh name m link other its (subst (λ (c : ℕ). (events_of past).drew name link c) same.1 own) drew))
-
--- a link says its words under a key of its own challenge: so under no key of a challenge of another link
-pub words-apart : (us vs : Uses) → ((k : List ℕ) (u v : Use) → Means vs k u → Means vs k v → u ≡ v) → Grows us vs → (past : List Point) → EachPoint DrawsNew past → (told : Told) (log : List Logged)
-    → (name : Name) (link : ℕ) (s : Secured) → IsAsker (events_of past) us told log name link s → (m : Name) (other : ℕ) → ((name ≡ m) × (link ≡ other) → ⊥) → (challenge : ℕ)
-    → (events_of past).drew m other challenge → (key : List ℕ) → IsLoginKey vs key m challenge → bytes_eq s.keys.key key ≡ false
-words-apart us vs one f past fresh told log name link s a m other apart challenge drew key is =
-    keys-apart vs one past fresh name link a.challenge a.drew s.keys.key (login-grows us vs s.keys.key name a.challenge f a.is) m other apart challenge drew key is
 
 -- so it is behind the point at which a link draws its challenge
 pub unsaid-now : (run : WholeRun) (us vs : Uses) → ((k : List ℕ) (u v : Use) → Means vs k u → Means vs k v → u ≡ v) → Grows us vs → (past : List Point) (p : Point) → DrawsNew past p

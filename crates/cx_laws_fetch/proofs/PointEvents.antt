@@ -1,10 +1,9 @@
 -- What happened at the points of a run, as links to the monitor need it: at which readings an entity had an event, which challenges its links drew, and which
 -- generations the monitor replied to it.
-use Rattle.std.proofs.Common.{◌≡◌, ℕ, false, List, [], ◌∷◌, Option, Some, Result, Ok, inl, inr, sym, ap, ◌∙◌, subst}
+use Rattle.std.proofs.Common.{◌≡◌, ℕ, false, List, ◌∷◌, Option, Some, Result, Ok, inl, inr, sym, ap, ◌∙◌, subst}
 use Rattle.cx_base.specs.Names.{Name}
 use Rattle.cx_base.specs.declared.nodes.NodeName.TheVariants as node
 use Rattle.cx_frame.specs.declared.frame.Frame.{Frame}
-use Rattle.cx_journal.specs.declared.entries.Fetched.{Fetched}
 use Rattle.cx_cbc.specs.Envelope.{sealed as enveloped}
 use Rattle.cx_enc.specs.declared.keys.Key.{Key}
 use Rattle.cx_laws_authorize.specs.cx_keyserver.specs.Servers.{Server, rotated_server}
@@ -34,7 +33,7 @@ use Rattle.cx_laws_fetch.proofs.AllTold.{WasDrawn}
 use Rattle.cx_laws_fetch.proofs.AskedKnown.{Events, MoreEvents}
 use Rattle.cx_laws_fetch.proofs.AskedWords.{Replies, given_frame}
 use Rattle.cx_laws_fetch.proofs.MonitorGives.{IsReplyTo, IsToldBy}
-use Rattle.cx_laws_fetch.proofs.RepliedMoments.{RepliesRotating, WasReplied, occasion_at, told_at}
+use Rattle.cx_laws_fetch.proofs.RepliedMoments.{RepliesRotating, occasion_at, told_at}
 use Rattle.cx_laws_fetch.proofs.Telling.{secrets-are, service-rotated}
 use Rattle.cx_laws_fetch.specs.Fetches.{IsAsking}
 
@@ -141,11 +140,3 @@ replied-tells name reading blob older p h =
     subst (λ (m : Name). IsTelling m blob p) h.to here
 
 -- ---- fetches
-
--- where such a reply is read as what it tells at its point, a fetch that was taken from it is what the monitor replied
-pub replied-fetched : (f : Fetched) (blob : List ℕ)
-    → ((older : List Point) (q : Point) → RepliedAt f.daemon f.asked blob older q → f.generations ≡ told_at q f.daemon.kind) → (past : List Point)
-    → Before (RepliedAt f.daemon f.asked blob) past → Before (WasReplied f) past
-replied-fetched f blob reads [] h = absurd h
-replied-fetched f blob reads (q ∷ past) (inl h) = inl (record { replies = h.replies; to = h.to; told = reads past q h; asked = h.asked_before })
-replied-fetched f blob reads (q ∷ past) (inr h) = inr (replied-fetched f blob reads past h)

@@ -100,14 +100,6 @@ module _ (logins : List Handed) where
   secret-before key name (Connected acceptor number other (AtMonitor challenge)) e = absurd cc
   secret-before key name (Connected acceptor number other (AtDaemon service nonce)) e = absurd cc
 
-  pub login-before : (key : List ℕ) (name : Name) (u : Use) → Login name ≡ retied_use logins key u → u ≡ Login name
-  login-before key name (Secret other) e = absurd cc
-  login-before key name (Generated service id) e = absurd cc
-  login-before key name (Login other) e = sym e
-  login-before key name (Ticketed other service) e = absurd cc
-  login-before key name (Connected acceptor number other (AtMonitor challenge)) e = absurd cc
-  login-before key name (Connected acceptor number other (AtDaemon service nonce)) e = absurd cc
-
   -- ---- what is said under a key
 
   module _ (us : Uses) (J : List Entry) where

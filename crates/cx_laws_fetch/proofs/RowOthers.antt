@@ -1,33 +1,20 @@
--- A turn of a link to the monitor, at either end, seals nothing under the key of another login; and two links of the monitor have no key in common.
+-- A frame that is spoken seals nothing under the key of another login; and two links of the monitor have no key in common.
 use Rattle.std.proofs.Common.{◌≡◌, ℕ, Bool, true, false, List, [], Option, inl, inr, refl, ap, ◌∙◌, subst}
 use Rattle.std.proofs.lemmas.Slice.Eq.{bytes_eq-Decides}
 use Rattle.std.specs.Str.{bytes_eq}
 use Rattle.cx_base.specs.Names.{Name}
 use Rattle.cx_base.specs.declared.nodes.NodeName.TheVariants as node
-use Rattle.cx_control.specs.Auth.{auth_signature_layout}
 use Rattle.cx_frame.specs.declared.frame.Frame.{Frame}
 use Rattle.cx_laws_authorize.specs.cx_laws_keys.proofs.Uses.{AtMonitor, Connected, Means, Use, Uses}
 use Rattle.cx_laws_series.proofs.Contents.{contents_by, parts-others}
 use Rattle.cx_laws_series.proofs.Frames.{frame-sealed}
-use Rattle.cx_laws_series.specs.cx_rules.specs.Connector as connector
-use Rattle.cx_laws_series.specs.cx_rules.specs.Connector.{AskerArrival, Login}
-use Rattle.cx_laws_series.specs.cx_rules.specs.Fronts.{opened_parts}
 use Rattle.cx_laws_series.specs.cx_rules.specs.Links.{Link}
-use Rattle.cx_laws_series.specs.cx_rules.specs.Monitor.{MonitorArrival}
-use Rattle.cx_laws_series.specs.cx_rules.specs.MonitorRule.{on_ident}
-use Rattle.cx_laws_series.specs.cx_rules.specs.Payloads.{due}
-use Rattle.cx_laws_series.specs.cx_rules.specs.Requests.{Requests, no_requests, on_open}
-use Rattle.cx_laws_series.specs.cx_rules.specs.Rows.{Row, with_opened}
+use Rattle.cx_laws_series.specs.cx_rules.specs.Rows.{Row}
 use Rattle.cx_laws_series.specs.cx_rules.specs.Secured.{SealedFrame, Secured}
-use Rattle.cx_laws_series.specs.cx_rules.specs.declared.responses.Bearer.{Bearer}
 use Rattle.cx_secure.specs.Plains.{plains}
 use Rattle.cx_steps.specs.declared.seals.SealEntry.{SealEntry}
-use Rattle.cx_laws_series.specs.cx_stream.specs.SecureStreams.{Ahead}
-use Rattle.cx_laws_fetch.proofs.AskedWords.{asked_frame, given_frame}
-use Rattle.cx_laws_fetch.proofs.AskerSays.{IsSaidAt, KeepsIdent, KeepsOpen, identified-says, open-says, signature-says}
-use Rattle.cx_laws_fetch.proofs.MonitorIdents.{IsNoReply, StaysBearing, ident-says}
 use Rattle.cx_laws_fetch.proofs.MonitorMoves.{both-none}
-use Rattle.cx_laws_fetch.proofs.RowWords.{RowSays, opened-quiet, opened-says}
+use Rattle.cx_laws_fetch.proofs.RowWords.{RowSays}
 
 -- ---- a row
 
@@ -40,39 +27,6 @@ row-others frame_of P Kept Tells s row (inr h) other p apart test =
     ap (λ (es : List SealEntry). contents_by other test es) h.seals
     ∙ both-none other test h.before h.sealed.seals (h.still other test p)
     (ap (λ (es : List SealEntry). contents_by other test es) seals ∙ parts-others other test s.keys.key s.keys.out.fixed (inl apart) s.keys.out.counter (plains (frame_of h.word)))
-
-module _ (P : List ℕ → Type 0) (ahead : Ahead) (s : Secured) (other : List ℕ) (p : P other) (apart : bytes_eq s.keys.key other ≡ false) (test : List ℕ → Bool) where
-  abbrev opened : List SealEntry
-  opened = opened_parts ahead
-
-  -- ---- of one that logs in
-
-  module _ (a : AskerArrival) where
-    pub signature-others : (login : Login) (f : Frame)
-        → contents_by other test (with_opened opened (connector.on_signature a s login (due 7 auth_signature_layout.form f))).seals ≡ []
-    signature-others login f =
-        row-others asked_frame P (KeepsIdent a.link.number) (IsSaidAt a.reading 0) s (with_opened opened (connector.on_signature a s login (due 7 auth_signature_layout.form f)))
-        (opened-says asked_frame P (KeepsIdent a.link.number) (IsSaidAt a.reading 0) opened s (connector.on_signature a s login (due 7 auth_signature_layout.form f)) (opened-quiet ahead)
-        (signature-says P a s login (due 7 auth_signature_layout.form f))) other p apart test
-
-    pub identified-others : (session : List ℕ) (f : Frame) → contents_by other test (with_opened opened (connector.while_identified a s session f)).seals ≡ []
-    identified-others session f =
-        row-others asked_frame P (KeepsOpen connector.Open a.link.number (no_requests session)) (IsSaidAt a.reading 0) s (with_opened opened (connector.while_identified a s session f))
-        (opened-says asked_frame P (KeepsOpen connector.Open a.link.number (no_requests session)) (IsSaidAt a.reading 0) opened s (connector.while_identified a s session f) (opened-quiet ahead)
-        (identified-says P a s session f)) other p apart test
-
-    pub open-others : (r : Requests) (f : Frame) → contents_by other test (with_opened opened (on_open connector.Open a s r f)).seals ≡ []
-    open-others r f =
-        row-others asked_frame P (KeepsOpen connector.Open a.link.number r) (IsSaidAt a.reading r.count) s (with_opened opened (on_open connector.Open a s r f))
-        (opened-says asked_frame P (KeepsOpen connector.Open a.link.number r) (IsSaidAt a.reading r.count) opened s (on_open connector.Open a s r f) (opened-quiet ahead)
-        (open-says connector.Open P a s r f)) other p apart test
-
-  -- ---- of the monitor
-
-  pub ident-others : (a : MonitorArrival) (bearer : Bearer) (f : Frame) → contents_by other test (with_opened opened (on_ident a s bearer f)).seals ≡ []
-  ident-others a bearer f =
-      row-others given_frame P (StaysBearing a.link.number bearer) IsNoReply s (with_opened opened (on_ident a s bearer f))
-      (opened-says given_frame P (StaysBearing a.link.number bearer) IsNoReply opened s (on_ident a s bearer f) (opened-quiet ahead) (ident-says P a s bearer f)) other p apart test
 
 -- ---- links of the monitor
 

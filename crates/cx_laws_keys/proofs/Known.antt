@@ -72,9 +72,6 @@ pub record HasReply (us : Uses) (name : Name) (x : AuthorizeReply) : Type 0 wher
 abbrev pub RepliesFor : Uses → Name → EntityType → List ℕ → Type 0
 RepliesFor us name service content = (x : AuthorizeReply) → spelled_by authorize_reply_layout.form content ≡ Some x → (h : HasReply us name x) × (h.service ≡ service)
 
-pub reply-connected : (us : Uses) (name : Name) (x : AuthorizeReply) → HasReply us name x → IsConnected us (take 16 x.secret) name
-reply-connected us name x h = record { acceptor = h.acceptor; number = h.number; tie = AtDaemon h.service x.nonce_plus_one; means = h.means }
-
 -- the key is that of a link of the monitor to this entity, tied to the challenge of its proof
 pub record HasLogin (us : Uses) (name : Name) (key : List ℕ) : Type 0 where
   pub number : ℕ
@@ -186,9 +183,6 @@ pub record Within (J K : List Entry) : Type 0 where
 -- what was saved still was
 abbrev pub KeepsSaved : Uses → Uses → Type 0
 KeepsSaved us vs = (service : EntityType) (g : Generation) → IsSavedIn us.saved service g → IsSavedIn vs.saved service g
-
-pub same-saved : (us vs : Uses) → us.saved ≡ vs.saved → KeepsSaved us vs
-same-saved us vs same = λ service g h. subst (λ (saved : List (EntityType × Generation)). IsSavedIn saved service g) same h
 
 pub generated-grow : (us vs : Uses) (service : EntityType) (gs : List Generation) → Grows us vs → AreGenerated us service gs → AreGenerated vs service gs
 generated-grow us vs service gs f h =

@@ -318,12 +318,6 @@ pub rotating_no_info : (t : RotatingReply) (x : TicketInfo) → spelled_by ticke
 rotating_no_info t x e =
     kinds_differ 2 6 info_made info_parts info_form ((pair kind_form generations_layout.form).text (t.service, t.generations)) x (omega arith) refl e
 
-pub rotating_service : (t x : RotatingReply) → spelled_by rotating_reply_layout.form (rotating_reply_layout.form.text t) ≡ Some x → x.service ≡ t.service
-rotating_service t x e =
-    let b = behind_kind 6 rotating_made (λ (r : RotatingReply). (r.service, r.generations)) (pair kind_form generations_layout.form) t x (omega arith) refl e in
-    let p = front kind_form generations_layout.form kind-lawful t.service _ (generations_layout.form.text t.generations) b.0 b.3 (kind_fits t.service) b.4 in
-    ap (λ (r : RotatingReply). r.service) (sym b.1) ∙ p.0
-
 -- ---- what a client and a daemon seal for each other
 
 abbrev reply_form : Form (ℕ × List ℕ)

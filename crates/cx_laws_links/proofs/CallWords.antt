@@ -66,16 +66,6 @@ pub data KeyedStage : CallStage → Secured → Option ℕ → Type 0 where
   Reconnecting : (s : Secured) (callee : Callee) (cookie : ℕ) → KeyedStage (AwaitsReconnect s callee cookie) s (Some cookie)
   Opened : (s : Secured) (callee : Callee) (cookie : ℕ) → KeyedStage (Open s callee cookie) s (Some cookie)
 
--- the operations that wait in a session were sent in it
-abbrev pub WaitsFor : (ℕ → ℕ × Operation → Type 0) → Option HeldSession → Type 0
-WaitsFor W None = Unit {0}
-WaitsFor W (Some session) = AllByRecursion (W session.client_cookie) session.queue.waiting
-
--- a word is said in the session that was spoken of last
-abbrev pub IsInPlace : (ℕ → ℕ × Operation → Type 0) → Option ℕ → Spoken → Type 0
-IsInPlace W before (Orders order) = (cookie : ℕ) × (before ≡ Some cookie) × W cookie order
-IsInPlace W before _ = Unit {0}
-
 -- it is no order; and where it asks for a session, the cookie of that was drawn with it
 abbrev pub IsDrawnIn : List SealEntry → Spoken → Type 0
 IsDrawnIn quiet (Idents asker gid flags cookie) = Contains quiet (entry.Drawn (draw.Cookie cookie))

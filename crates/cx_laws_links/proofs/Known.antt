@@ -7,7 +7,6 @@ use Rattle.cx_run.specs.cx_authorize.specs.Verdict.{raised}
 use Rattle.cx_base.specs.Names.{Name}
 use Rattle.cx_base.specs.declared.kinds.EntityType.{EntityType}
 use Rattle.cx_base.specs.declared.nodes.NodeName.{NodeName}
-use Rattle.cx_base.specs.declared.nodes.NodeName.TheVariants as node
 use Rattle.cx_base.specs.declared.operations.Operation.{Operation}
 use Rattle.cx_journal.specs.declared.entries.Admitted.{Admitted}
 use Rattle.cx_journal.specs.declared.entries.Entry.{Entry}
@@ -21,7 +20,6 @@ use Rattle.cx_laws_series.specs.cx_rules.specs.Holdings.{Asker}
 use Rattle.cx_laws_series.specs.cx_rules.specs.Links.{Link}
 use Rattle.cx_laws_series.specs.cx_rules.specs.Secured.{Secured}
 use Rattle.cx_run.specs.cx_rules_session.specs.ClientRule.{ClientStage, ToDaemon, ToMonitor, WholeClient, WholeClientNode}
-use Rattle.cx_run.specs.cx_rules_session.specs.DaemonRule.{AsAcceptor, AsConnector, DaemonNode, DaemonStage}
 use Rattle.cx_run.specs.cx_rules_session.specs.Guests.{GuestStage, Served}
 use Rattle.cx_run.specs.cx_rules_session.specs.Presenter as call
 use Rattle.cx_run.specs.cx_rules_session.specs.Presenter.{CallStage}
@@ -195,10 +193,3 @@ GuestTold run us told n number (acceptor.AwaitsIdent s owner) =
 GuestTold run us told n number (acceptor.Open s served) =
     (name : Name) × IsGuest run us told n number s name × ((Contains run.leaked name → ⊥) → HasTaken told s (Some served.cookie))
 GuestTold run us told n number _ = Unit {0}
-
-abbrev pub HostTold : WholeRun → Uses → Told → NodeName → ℕ → DaemonStage → Type 0
-HostTold run us told n number (AsAcceptor stage) = GuestTold run us told n number stage
-HostTold run us told n number (AsConnector stage) = Unit {0}
-
-pub record DaemonTold (run : WholeRun) (us : Uses) (told : Told) (d : DaemonNode) : Type 0 where
-  pub links : AllByRecursion (λ (link : Link DaemonStage). HostTold run us told (node.Entity d.own.asker.name) link.number link.stage) d.links

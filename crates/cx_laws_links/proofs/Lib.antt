@@ -24,4 +24,3 @@ pub mod GuestBegins
 pub mod GuestJoins
 pub mod GuestSteps
 pub mod GuestNodes
-pub mod GuestTurns

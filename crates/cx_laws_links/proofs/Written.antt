@@ -11,10 +11,10 @@ use Rattle.cx_base.specs.declared.kinds.EntityType.{EntityType}
 use Rattle.cx_base.specs.declared.nodes.NodeName.{NodeName}
 use Rattle.cx_base.specs.declared.nodes.NodeName.TheVariants as node
 use Rattle.cx_journal.specs.declared.entries.Entry.{Entry}
-use Rattle.cx_laws_login.specs.cx_laws_keys.proofs.Known.{Inv, IsAcceptorOr, IsAllowed, IsOfAcceptor, SealedAt}
+use Rattle.cx_laws_login.specs.cx_laws_keys.proofs.Known.{IsAcceptorOr, IsAllowed, IsOfAcceptor, SealedAt}
 use Rattle.cx_laws_login.specs.cx_laws_keys.proofs.Premises.{behind, logged}
-use Rattle.cx_laws_login.specs.cx_laws_keys.proofs.Uses.{AtDaemon, Connected, Means, Use, Uses, WholeRun}
-use Rattle.cx_laws_series.proofs.Contents.{content_of, content_where, contents-behind, contents_by, contents_in}
+use Rattle.cx_laws_login.specs.cx_laws_keys.proofs.Uses.{AtDaemon, Connected, Means, Use, Uses}
+use Rattle.cx_laws_series.proofs.Contents.{content_where, contents-behind, contents_by, contents_in}
 use Rattle.cx_laws_series.specs.cx_rules.specs.Secured.{Keys}
 use Rattle.cx_secure.specs.Contents.{sealed_contents}
 use Rattle.cx_secure.specs.Parts.{nonce_at}
@@ -89,26 +89,3 @@ all-behind P n line [] log h = (tt, h)
 all-behind P n line (e ∷ es) log h = let rest = all-behind P n line es (logged n line e ∷ log) h in ((rest.1.0, rest.0), rest.1.1)
 
 -- ---- keys that are new
-
--- under a key that has no use nothing was sealed
-pub unknown-none : (run : WholeRun) (whole : List Logged) (us : Uses) (log : List Logged) (J : List Entry) (key : List ℕ) → Inv run whole us log J
-    → ((u : Use) → Means us key u → ⊥) → contents_in key is_connectors log ≡ []
-unknown-none run whole us log J key i unknown = over log i.allowed
-  where
-    none-of : (n : NodeName) (other : SealMark) → IsAllowed us J n (entry.Sealed other) → (there : Bool) → bytes_eq other.key key ≡ there
-        → content_where (there && is_connectors other.content) other.content ≡ None
-    none-of n other a false e = refl
-    none-of n other a true e = absurd (unknown a.0 (subst (λ (k : List ℕ). Means us k a.0) ((bytes_eq-Decides other.key key).0 e) a.1))
-
-    by_entry : (n : NodeName) (e : SealEntry) → IsAllowed us J n e → content_of key is_connectors e ≡ None
-    by_entry n (entry.Sealed other) a = none-of n other a (bytes_eq other.key key) refl
-    by_entry n (entry.Signed other) a = refl
-    by_entry n (entry.Opened other) a = refl
-    by_entry n (entry.Checked other) a = refl
-    by_entry n (entry.Drawn other) a = refl
-
-    over : (earlier : List Logged) → AllByRecursion (λ (at : Logged). IsAllowed us J at.node at.entry) earlier → contents_in key is_connectors earlier ≡ []
-    over [] h = refl
-    over (at ∷ earlier) h =
-        ap (λ (o : Option (List ℕ)). contents_in key is_connectors earlier ++ cons_option o []) (by_entry at.node at.entry h.0)
-        ∙ append-nil (contents_in key is_connectors earlier) ∙ over earlier h.1

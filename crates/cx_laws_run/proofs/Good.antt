@@ -154,10 +154,6 @@ module _ (setup : Setup) (service : EntityType) where
 
 -- ---- what was saved with an id
 
--- generations that were saved with an id and a key
-abbrev Like : Generation → Generation → Type 0
-Like g x = (x.id ≡ g.id) × (x.key ≡ g.key)
-
 abbrev IsAs : EntityType → Generation → EntityType × Generation → Type 0
 IsAs service g p = (p.0 ≡ service) × (p.1.id ≡ g.id) × (p.1.key ≡ g.key)
 

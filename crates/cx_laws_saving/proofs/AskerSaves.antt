@@ -23,7 +23,7 @@ use Rattle.cx_run.specs.cx_steps.specs.declared.seals.SealEntry.TheVariants.{Dra
 use Rattle.cx_run.specs.cx_wire.specs.Logins.{login_done_layout}
 use Rattle.cx_run.specs.cx_wire.specs.declared.logins.LoginDone.{LoginDone}
 use Rattle.cx_run.specs.cx_wire.specs.declared.logins.ServerChallenge.{ServerChallenge}
-use Rattle.cx_run.specs.cx_rules.specs.Connector.{AskerArrival, Login, Stage, AwaitsBanner, AwaitsHello, AwaitsChallenge, AwaitsDone, AwaitsSignature, AwaitsIdent, Open, client_ident, holding, identifies, on_bad_method, on_banner, on_challenge, on_denial, on_done, on_hello, on_login_done, on_missing_features, on_opened, on_reply_more, on_signature, proves, signs, turned_at, while_challenged, while_identified, while_proved}
+use Rattle.cx_run.specs.cx_rules.specs.Connector.{AskerArrival, Login, Stage, AwaitsBanner, AwaitsHello, AwaitsChallenge, AwaitsDone, AwaitsSignature, AwaitsIdent, Open, client_ident, holding, identifies, on_bad_method, on_banner, on_challenge, on_done, on_hello, on_login_done, on_missing_features, on_opened, on_reply_more, on_signature, proves, signs, turned_at, while_challenged, while_identified, while_proved}
 use Rattle.cx_run.specs.cx_rules.specs.Holdings.{Asker, held_login}
 use Rattle.cx_run.specs.cx_rules.specs.Fronts.{banner_next, plain_next, secure_next}
 use Rattle.cx_run.specs.cx_rules.specs.Payloads.{due, payload, whole}
@@ -69,9 +69,6 @@ challenge-none a asked (Ok server) = proves-none a server.challenge _
 reply_more-none : (a : AskerArrival) (asked : ℕ) (more : Result AuthReplyMore BytesFault) → SavesNone (on_reply_more a asked more)
 reply_more-none a asked (Err why) = refl
 reply_more-none a asked (Ok more) = challenge-none a asked _
-
-denial-none : (a : AskerArrival) (code : ℕ) → SavesNone (on_denial a code)
-denial-none a code = refl
 
 bad_method-none : (a : AskerArrival) (fields : Result (ℕ × (ℕ × (List ℕ × List ℕ))) BytesFault) → SavesNone (on_bad_method a fields)
 bad_method-none a (Err why) = refl

@@ -8,14 +8,14 @@ use Rattle.cx_base.specs.declared.nodes.NodeName.{NodeName}
 use Rattle.cx_laws_queues.specs.cx_rules.specs.Connector.{AskerArrival, Stage, Open, turned_at}
 use Rattle.cx_laws_queues.specs.cx_rules.specs.Holdings.{Asker}
 use Rattle.cx_laws_queues.specs.cx_rules.specs.Links.{Link, put_link}
-use Rattle.cx_laws_queues.specs.cx_rules.specs.Requests.{Requests, first_open, is_outdated}
+use Rattle.cx_laws_queues.specs.cx_rules.specs.Requests.{Requests, first_open}
 use Rattle.cx_laws_queues.specs.cx_rules.specs.Rows.{Arrival, Node, Row, Turned, Waits, Refuses, Handles, arrival, carried_out, idles, lifted, links_behind, turns}
 use Rattle.cx_laws_queues.specs.cx_rules.specs.Secured.{Secured}
 use Rattle.cx_laws_queues.specs.cx_rules.specs.declared.requests.Want.TheVariants as want
 use Rattle.cx_laws_queues.specs.cx_rules_session.specs.ClientRule as client
 use Rattle.cx_laws_queues.specs.cx_rules_session.specs.ClientRule.{ClientStage, ToMonitor, WholeClientNode}
 use Rattle.cx_laws_queues.specs.cx_rules_session.specs.DaemonRule as daemon
-use Rattle.cx_laws_queues.specs.cx_rules_session.specs.DaemonRule.{AsAcceptor, AsConnector, DaemonNode, Daemon, DaemonStage, asking_open, fetches, fetches_on, is_fetching, ticks}
+use Rattle.cx_laws_queues.specs.cx_rules_session.specs.DaemonRule.{AsAcceptor, AsConnector, DaemonNode, Daemon, DaemonStage, asking_open, fetches, fetches_on, is_fetching}
 use Rattle.cx_laws_queues.specs.cx_rules_session.specs.Kinds.{arrival_in, of_kind, turn_of_kind}
 use Rattle.cx_laws_queues.specs.cx_run.proofs.Outcomes.{asker_turn, renewed}
 use Rattle.cx_laws_queues.specs.cx_wire.specs.declared.bodies.Request.TheVariants as asked
@@ -127,11 +127,3 @@ module _ (vs : Uses) (n : NodeName) (one : (k : List ℕ) (u v : Use) → Means 
             → contents_by other test (if under_way then idles d else fetches_on d reading draw (first_open asking_open d.links)).out.seals ≡ []
         by_test true all = refl
         by_test false all = fetches_on-none (first_open asking_open d.links) all
-
-    pub ticks-none : DaemonStands (ticks d reading draw).state.links → contents_by other test (ticks d reading draw).out.seals ≡ []
-    ticks-none all = by_test (is_outdated reading d.own.asker.view) all
-      where
-        by_test : (outdated : Bool) → DaemonStands (if outdated then fetches d reading draw else idles d).state.links
-            → contents_by other test (if outdated then fetches d reading draw else idles d).out.seals ≡ []
-        by_test true all = fetches-none all
-        by_test false all = refl

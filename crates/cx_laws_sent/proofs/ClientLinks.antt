@@ -148,9 +148,6 @@ single-shut links dials number h daemon =
 
 -- ---- sessions
 
-abbrev with_test : Name → HeldSession → Bool
-with_test daemon session = same_name session.daemon daemon
-
 -- none is with a daemon without which they are kept
 find-without : (daemon : Name) (sessions : List HeldSession) (session : HeldSession) → session_with daemon (without_session daemon sessions) ≡ Some session → ⊥
 find-without daemon [] session e = absurd cc

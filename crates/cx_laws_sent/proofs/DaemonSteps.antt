@@ -58,9 +58,6 @@ use Rattle.cx_laws_sent.proofs.State.{DaemonBehind}
 
 module _ (run : WholeRun) (whole : List Logged) (us vs : Uses) (told : Told) (log : List Logged) (J : List Entry) (n : NodeName) (line : ℕ)
     (i : Inv run whole us log J) (f : Grows us vs) (t : AreTold run us told log J) (d : DaemonNode) (known : LinksKnown run us told J d.own.asker.name n d.links) (reading : ℕ) (draw : List ℕ) where
-  abbrev daemon : Name
-  daemon = d.own.asker.name
-
   abbrev Stays : Outcome DaemonNode → Type 0
   Stays o = Keeps run whole us vs told log J n line d.own.asker.name o
 

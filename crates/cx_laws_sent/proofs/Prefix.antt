@@ -5,7 +5,6 @@ use Rattle.std.specs.Prelude.{◌||◌, Contains}
 use Rattle.std.specs.List.{list_any}
 use Rattle.cx_base.proofs.Names.{same_name_self}
 use Rattle.cx_base.specs.Names.{Name, same_name}
-use Rattle.cx_desk.specs.Handlers.{Handlers}
 use Rattle.cx_journal.proofs.SessionLemmas.{session_is}
 use Rattle.cx_journal.specs.Behind.{EachBehind}
 use Rattle.cx_journal.specs.Leaks.{IsUnleaked, is_leak}
@@ -25,14 +24,12 @@ use Rattle.cx_laws_sent.proofs.Fronted.{StandsBy, all-fronts}
 use Rattle.cx_laws_sent.proofs.Fronts.{cons-cases}
 use Rattle.cx_laws_sent.proofs.Lives.{OnceBy}
 use Rattle.cx_laws_sent.proofs.State.{HeardLaw}
-use Rattle.cx_laws_sent.proofs.Said.{IsSaid, WasSaidBy}
+use Rattle.cx_laws_sent.proofs.Said.{WasSaidBy}
 use Rattle.cx_laws_queues.specs.cx_laws_session.proofs.Lists.{map-append}
 use Rattle.cx_laws_queues.specs.cx_laws_session.proofs.Standing.{standing-handles}
-use Rattle.cx_laws_queues.specs.cx_lines.specs.declared.lines.Numbered.{Numbered}
 use Rattle.cx_laws_queues.specs.cx_run.specs.Happenings.{Entered, Happening, journal_from}
 use Rattle.cx_laws_queues.specs.cx_run.specs.Opening.{Leak, Setup, leaked_of, leaks_entered, nodes_of}
 use Rattle.cx_laws_queues.specs.cx_run.specs.Points.{journal_since, log_since}
-use Rattle.cx_laws_queues.specs.cx_run.specs.Runs.{run_journal, run_log, setup_of, trace}
 use Rattle.cx_steps.specs.Premises.{IsFresh}
 
 -- ---- who leaked
@@ -77,15 +74,6 @@ pub prefix-of-said : (setup : Setup) (hs : List Happening) → IsFresh (log_sinc
     → IsPrefixOfSent (journal_since setup hs)
 prefix-of-said setup hs fresh said =
     all-fronts (DidntLeak (leaked_of setup)) (journal_since setup hs) (all-stand setup hs) said (all-handled-in-order setup hs) (cookies-numbered setup hs fresh) (none-leaked setup hs)
-
--- or in which the journal says so
-pub fronts-of-said : (setup : Setup) (hs : List Happening) → IsFresh (log_since setup hs) → IsSaid (journal_since setup hs) → IsPrefixOfSent (journal_since setup hs)
-fronts-of-said setup hs fresh said =
-    all-fronts (IsUnleaked (journal_since setup hs)) (journal_since setup hs) (all-stand setup hs) said (all-handled-in-order setup hs) (cookies-numbered setup hs fresh) (λ entity unleaked. unleaked)
-
-pub schedule-fronts-of-said : (handlers : Handlers) (script : List Numbered) → IsFresh (run_log handlers script) → IsSaid (run_journal handlers script)
-    → IsPrefixOfSent (run_journal handlers script)
-schedule-fronts-of-said handlers script = fronts-of-said (setup_of handlers script) (trace handlers script)
 
 -- ---- what is heard
 

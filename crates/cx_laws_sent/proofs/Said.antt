@@ -1,8 +1,6 @@
 -- What a journal says of sessions: under a cookie an entity is admitted once, and what is handled in a session of an entity was sent by it under the session's cookie.
-use Rattle.std.specs.Prelude.{◌≡◌, List, [], Some, Contains}
+use Rattle.std.specs.Prelude.{◌≡◌, List, Some, Contains}
 use Rattle.cx_base.specs.Names.{Name}
-use Rattle.cx_journal.specs.Behind.{EachBehind}
-use Rattle.cx_journal.specs.Leaks.{IsUnleaked}
 use Rattle.cx_journal.specs.Sessions.{session_at}
 use Rattle.cx_journal.specs.declared.entries.Admitted.{Admitted}
 use Rattle.cx_journal.specs.declared.entries.Entry.{Entry}
@@ -16,7 +14,3 @@ WasSaidBy Free earlier (entry.Handled h) =
     (a : Admitted) → session_at earlier h ≡ Some a → Free a.entity
     → (daemon : Name) × Contains earlier (entry.Sent (record { client = a.entity; daemon = daemon; cookie = h.cookie; seq = h.seq; operation = h.operation }))
 WasSaidBy Free earlier _ = Unit {0}
-
--- so it is of all that didn't leak
-abbrev pub IsSaid : List Entry → Type 0
-IsSaid entries = EachBehind (WasSaidBy (IsUnleaked entries)) [] entries

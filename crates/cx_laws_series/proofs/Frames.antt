@@ -103,24 +103,6 @@ module _ {X : Type 0} where
   StandAt whole place [] = Unit {0}
   StandAt whole place (x ∷ xs) = IsAt whole place x × StandAt whole (place + 1) xs
 
-  -- so behind what stands in front of that place the list goes on with them
-  pub stand-front : (whole front xs : List X) → StandAt whole (length front) xs → (more : List X) × (whole ≡ front ++ more) → (rest : List X) × (whole ≡ front ++ (xs ++ rest))
-  stand-front whole front [] h (more, is) = (more, is)
-  stand-front whole front (x ∷ xs) h (more, is) =
-      let split = first-of more (at-behind-front front more (subst (λ (l : List X). IsAt l (length front) x) is h.0)) in
-      let longer : whole ≡ (front ++ x ∷ []) ++ split.0 = is ∙ ap (λ (l : List X). front ++ l) split.1 ∙ sym (append_assoc front (x ∷ []) split.0) in
-      let there : StandAt whole (length (front ++ x ∷ [])) xs = subst (λ (n : ℕ). StandAt whole n xs) (sym (length-append front (x ∷ []))) h.1 in
-      let rest = stand-front whole (front ++ x ∷ []) xs there (split.0, longer) in
-      (rest.0, rest.1 ∙ append_assoc front (x ∷ []) (xs ++ rest.0))
-    where
-      at-behind-front : (front more : List X) → IsAt (front ++ more) (length front) x → IsAt more 0 x
-      at-behind-front [] more h = h
-      at-behind-front (y ∷ front) more h = at-behind-front front more h
-
-      first-of : (more : List X) → IsAt more 0 x → (rest : List X) × (more ≡ x ∷ rest)
-      first-of [] h = absurd h
-      first-of (y ∷ more) h = (more, ap (λ (z : X). z ∷ more) h)
-
 -- where an end has sealed these parts under a key, parts that were sealed there, by this end, from a number on, are those of these numbers
 module _ (test : List ℕ → Bool) (key fixed other : List ℕ) (parts : List (List ℕ)) (log : List Logged) (sealed : contents_in key test log ≡ sealed_contents fixed 0 parts)
     (four : length fixed ≡ 4) (four_too : length other ≡ 4) (fits : length parts ≤ 2 ^ 64) (passes : (m : ℕ) (plain : List ℕ) → test (nonce_at other m ++ plain) ≡ true) where

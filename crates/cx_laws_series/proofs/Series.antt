@@ -1,5 +1,5 @@
 -- Items by number: the item of a list that has a number stands for ever, whatever comes behind.
-use Rattle.std.proofs.Common.{◌≡◌, ℕ, ◌+◌, zero, suc, List, [], ◌∷◌, ◌++◌, length, sym, ◌∙◌, subst, arith}
+use Rattle.std.proofs.Common.{◌≡◌, ℕ, ◌+◌, zero, suc, List, [], ◌∷◌, ◌++◌, length, subst, arith}
 
 -- ---- items by number
 
@@ -20,8 +20,3 @@ module _ {X : Type 0} where
   at-behind (y ∷ xs) ys i x h =
       let same : suc (length xs + i) ≡ length (y ∷ xs) + i = omega arith in
       subst (λ (n : ℕ). IsAt (y ∷ (xs ++ ys)) n x) same (at-behind xs ys i x h)
-
-  pub at-one : (xs : List X) (i : ℕ) (x y : X) → IsAt xs i x → IsAt xs i y → x ≡ y
-  at-one [] i x y h g = absurd h
-  at-one (z ∷ xs) zero x y h g = sym h ∙ g
-  at-one (z ∷ xs) (suc i) x y h g = at-one xs i x y h g

@@ -24,7 +24,7 @@ use Rattle.cx_run.specs.cx_steps.specs.declared.seals.SealEntry.TheVariants.{Dra
 use Rattle.cx_run.specs.cx_wire.specs.Logins.{login_done_layout}
 use Rattle.cx_run.specs.cx_wire.specs.declared.logins.LoginDone.{LoginDone}
 use Rattle.cx_run.specs.cx_wire.specs.declared.logins.ServerChallenge.{ServerChallenge}
-use Rattle.cx_run.specs.cx_rules.specs.Connector.{AskerArrival, Login, Stage, AwaitsBanner, AwaitsHello, AwaitsChallenge, AwaitsDone, AwaitsSignature, AwaitsIdent, Open, client_ident, holding, identifies, on_bad_method, on_banner, on_challenge, on_denial, on_done, on_hello, on_login_done, on_missing_features, on_opened, on_reply_more, on_signature, proves, signs, turned_at, while_challenged, while_identified, while_proved}
+use Rattle.cx_run.specs.cx_rules.specs.Connector.{AskerArrival, Login, Stage, AwaitsBanner, AwaitsHello, AwaitsChallenge, AwaitsDone, AwaitsSignature, AwaitsIdent, Open, client_ident, holding, identifies, on_bad_method, on_banner, on_challenge, on_done, on_hello, on_login_done, on_missing_features, on_opened, on_reply_more, on_signature, proves, signs, turned_at, while_challenged, while_identified, while_proved}
 use Rattle.cx_run.specs.cx_rules.specs.Holdings.{Asker, held_login}
 use Rattle.cx_run.specs.cx_rules.specs.Fronts.{banner_next, plain_next, secure_next}
 use Rattle.cx_run.specs.cx_rules.specs.Payloads.{due, payload, whole}
@@ -73,9 +73,6 @@ challenge-enters a asked (Ok server) = proves-enters a server.challenge _
 reply_more-enters : (a : AskerArrival) (asked : ℕ) (more : Result AuthReplyMore BytesFault) → EntersNone (on_reply_more a asked more)
 reply_more-enters a asked (Err why) = (tt, tt)
 reply_more-enters a asked (Ok more) = challenge-enters a asked _
-
-denial-enters : (a : AskerArrival) (code : ℕ) → EntersNone (on_denial a code)
-denial-enters a code = (tt, tt)
 
 bad_method-enters : (a : AskerArrival) (fields : Result (ℕ × (ℕ × (List ℕ × List ℕ))) BytesFault) → EntersNone (on_bad_method a fields)
 bad_method-enters a (Err why) = (tt, tt)

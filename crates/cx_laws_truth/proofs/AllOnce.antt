@@ -66,9 +66,6 @@ handled-there cookie entity K (x ∷ before) e after v is =
 
 module _ (run : WholeRun) (entries : List Entry) (stands : EachBehind StandsBy [] entries) (once : EachBehind OnceBy [] entries) (said : EachBehind (WasSaidBy (DidntLeak run.leaked)) [] entries)
     (order : EachBehind IsHandledInOrderBy [] entries) (numbered : (client : Name) (cookie : ℕ) → IsNumbered (filter_map (sent_under cookie client) entries)) where
-  abbrev Free : Name → Type 0
-  Free name = DidntLeak run.leaked name
-
   -- the session in which an operation is handled
   pub record IsHeldIn (J : List Entry) (h : Handled) (name : Name) : Type 0 where
     pub session : Admitted
@@ -112,10 +109,6 @@ module _ (run : WholeRun) (entries : List Entry) (stands : EachBehind StandsBy [
     born : Unborn (DidntLeak run.leaked) name free x.cookie J ⊎ Born (DidntLeak run.leaked) name free x.cookie J → Born (DidntLeak run.leaked) name free x.cookie J
     born (inl u) = absurd (u.stands x.daemon x.session held.session held.stood (held.entity, held.cookie))
     born (inr b) = b
-
-    -- the session was admitted
-    pub first-admitted : (first : Admitted) × Contains J (journal.Admitted first) × (first.entity ≡ name) × (first.cookie ≡ x.cookie)
-    first-admitted = let b = born front.state in (b.first, b.here, b.its.0, b.its.1)
 
     -- its seq is above those of all that were
     above : x.seq ≡ length (handled (DidntLeak run.leaked) name free x.cookie J) + 1

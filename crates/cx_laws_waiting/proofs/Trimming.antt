@@ -18,10 +18,6 @@ all-above seq last (first ∷ asks) run low =
     let others : filter (λ (ask : ℕ × Operation). nat_lt seq ask.0) asks ≡ asks = all-above seq last asks run.1 (omega arith) in
     grind (arith, nat_tests)
 
-each-above : (seq last : ℕ) (asks : Asks) → IsRun last asks → seq + length asks ≤ last → AllByRecursion (λ (ask : ℕ × Operation). seq < ask.0) asks
-each-above seq last [] run low = tt
-each-above seq last (first ∷ asks) run low = (omega arith, each-above seq last asks run.1 (omega arith))
-
 -- what an acknowledgement leaves of a run are those above its number, and those that it covers were the front
 pub run-left : (seq last : ℕ) (asks : Asks) → IsRun last asks → IsLeft seq asks (above seq asks)
 run-left seq last [] run = record { taken = []; split = refl; covered = tt; above = tt }

@@ -1,5 +1,5 @@
 -- Words have no fault exactly where each is good at its place and the line may stand there.
-use Rattle.std.proofs.Common.{◌≡◌, ℕ, ◌+◌, Bool, true, false, cond, List, [], ◌∷◌, ◌++◌, length, Option, Some, None, refl, sym, ◌∙◌, arith}
+use Rattle.std.proofs.Common.{◌≡◌, ℕ, ◌+◌, Bool, true, false, cond, List, [], ◌∷◌, ◌++◌, length, Option, Some, None, refl, arith}
 use Rattle.std.specs.Prelude.{◌==◌, is_none, is_some, nat_lt, codes}
 use Rattle.std.specs.List.{list_any}
 use Rattle.std.specs.Str.{bytes_eq}
@@ -197,12 +197,3 @@ faultless k spent late ps ws none =
     }
 
 -- ---- why words have a fault
-
-pub not_whole : (known : Known) (spent late : Bool) (places : List WordPlace) (words : List (List ℕ)) → is_whole known [] places words ≡ false → fault_among known spent late places words ≡ None → ⊥
-not_whole k spent late ps ws is none = absurd (let x : true ≡ false = sym (faultless k spent late ps ws none).whole ∙ is in cc)
-
-pub not_again : (known : Known) (late : Bool) (places : List WordPlace) (words : List (List ℕ)) → fault_among known true late places words ≡ None → ⊥
-not_again k late ps ws none = absurd (let x : true ≡ false = (faultless k true late ps ws none).once in cc)
-
-pub not_late : (known : Known) (spent : Bool) (places : List WordPlace) (words : List (List ℕ)) → fault_among known spent true places words ≡ None → ⊥
-not_late k spent ps ws none = absurd (let x : true ≡ false = (faultless k spent true ps ws none).early in cc)

@@ -13,14 +13,6 @@ use Rattle.cx_lines.specs.declared.link_steps.LinkForm.TheVariants as form
 use Rattle.cx_lines.specs.Found.{SpellsIn}
 use Rattle.cx_lines.specs.LinkSteps.{link_form, link_form_of, link_items, link_places, link_steps, link_word}
 
-pub link_form_of-word : (f : LinkForm) → link_form_of (link_word f) ≡ Some f
-unfolding link_form_of
-link_form_of-word form.Carry = refl
-link_form_of-word form.Lose = refl
-link_form_of-word form.Inject = refl
-link_form_of-word form.Again = refl
-link_form_of-word form.Cut = refl
-
 pub link_form_of-is : (word : List ℕ) (f : LinkForm) → link_form_of word ≡ Some f → word ≡ link_word f
 unfolding link_form_of
 link_form_of-is word f some = chosen-is link_word (form.Carry ∷ form.Lose ∷ form.Inject ∷ form.Again ∷ form.Cut ∷ []) word f some

@@ -13,15 +13,6 @@ use Rattle.cx_lines.specs.declared.node_steps.NodeForm.TheVariants as form
 use Rattle.cx_lines.specs.Found.{SpellsIn}
 use Rattle.cx_lines.specs.NodeSteps.{node_form, node_form_of, node_items, node_places, node_step_word, node_steps}
 
-pub node_form_of-word : (f : NodeForm) → node_form_of (node_step_word f) ≡ Some f
-unfolding node_form_of
-node_form_of-word form.Clock = refl
-node_form_of-word form.DropSession = refl
-node_form_of-word form.Tick = refl
-node_form_of-word form.Restart = refl
-node_form_of-word form.FailSave = refl
-node_form_of-word form.Settle = refl
-
 pub node_form_of-is : (word : List ℕ) (f : NodeForm) → node_form_of word ≡ Some f → word ≡ node_step_word f
 unfolding node_form_of
 node_form_of-is word f some =

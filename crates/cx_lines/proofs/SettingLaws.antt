@@ -14,15 +14,6 @@ use Rattle.cx_lines.specs.declared.settings.SettingForm.TheVariants as form
 use Rattle.cx_lines.specs.Found.{SpellsIn}
 use Rattle.cx_lines.specs.Settings.{grant_items, pair_places, setting_form, setting_form_of, setting_items, setting_places, setting_word, settings}
 
-pub setting_form_of-word : (f : SettingForm) → setting_form_of (setting_word f) ≡ Some f
-unfolding setting_form_of
-setting_form_of-word form.Lifetime = refl
-setting_form_of-word form.AuthLifetime = refl
-setting_form_of-word form.Entity = refl
-setting_form_of-word form.Seed = refl
-setting_form_of-word form.Modes = refl
-setting_form_of-word form.Leak = refl
-
 pub setting_form_of-is : (word : List ℕ) (f : SettingForm) → setting_form_of word ≡ Some f → word ≡ setting_word f
 unfolding setting_form_of
 setting_form_of-is word f some =

@@ -36,10 +36,6 @@ wire a out = record {
   ahead = a.bytes;
 }
 
-same_wire : (old new : Held) → ahead new ≡ ahead old → new.sealing.out ≡ old.sealing.out → secure_wire new ≡ secure_wire old
-unfolding wire
-same_wire old new same out = ap (λ (a : Ahead). wire a new.sealing.out) same ∙ ap (wire (ahead old)) out
-
 front_of : (a : Ahead) (f : Frame) (n : ℕ) → IsKeyed a → IsSecureAt a f n → secure_frame_at a ≡ Ok (Some (f, n))
 front_of a f n keyed is =
     let text : List ℕ = secure_text a.key a.fixed a.counter f in

@@ -36,7 +36,8 @@ impl Model for PlainLink {
     ghost view = { λ l. plain_wire l.stream l.sent };
 }
 
-/// A link of secure frames. It gives up the bytes that it took and those that it sent. It isn't copied: two that send use a nonce twice.
+/// A link of secure frames. It gives up the bytes that it took and those that it sent. A copy is made to seal a frame before it is certain that it
+/// is sent (`copy`), and one of both is given up then: two that send use a nonce twice.
 #[derive(Drop)]
 pub struct SecureLink {
     /// The key of the connection, under which parts are logged.

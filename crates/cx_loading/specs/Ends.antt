@@ -29,9 +29,3 @@ number_of end.Links = 9
 number_of end.Dice = 10
 number_of end.Keeper = 8
 number_of end.OutOfMemory = 5
-
--- memory was wanting, before the node ran or in its run
-abbrev pub IsMemory : NodeEnd → Type 0
-IsMemory end.OutOfMemory = Unit {0}
-IsMemory (end.Unloaded OutOfMemory) = Unit {0}
-IsMemory _ = ⊥

@@ -8,30 +8,6 @@ use Rattle.cx_wire.specs.declared.tickets.TicketPart.{TicketPart}
 use Rattle.cx_login.specs.Held.{Held}
 use Rattle.cx_login.specs.Unlocking.{Unlocked, made, going_on, ◌>>=◌, told, told_each, Made}
 
--- nothing more opens
-pub made_now : {X : Type 0} (old new : List SealEntry) (x : X) → new ≡ old → Made (made x) old new (Some x)
-made_now old new x is = (refl, is ∙ sym (append-nil old))
-
--- the first part doesn't open to its record
-pub none_first : {A B : Type 0} (u : Unlocked A) (next : A → Unlocked B) (old new : List SealEntry) → Made u old new None → Made (u >>= next) old new None
-none_first {A} {B} u next old new is = by_value u.value is.0
-  where
-    by_value : (v : Option A) → None ≡ v → Made (going_on u.seals v next) old new None
-    by_value None e = (refl, is.1)
-    by_value (Some a) e = absurd cc
-
--- it does, and then the others are opened
-pub some_first : {A B : Type 0} (u : Unlocked A) (next : A → Unlocked B) (a : A) (old mid new : List SealEntry) (value : Option B) → Made u old mid (Some a) → Made (next a) mid new value → Made (u >>= next) old new value
-some_first {A} {B} u next a old mid new value first then = by_value u.value first.0
-  where
-    by_value : (v : Option A) → Some a ≡ v → Made (going_on u.seals v next) old new value
-    by_value None e = absurd cc
-    by_value (Some b) e =
-        let same : a ≡ b = cc in
-        let whole : Made (going_on u.seals (Some a) next) old new value =
-        (then.0, then.1 ∙ ap (λ (s : List SealEntry). s ++ (next a).seals) first.1 ∙ append_assoc old u.seals (next a).seals) in
-        subst (λ (x : A). Made (going_on u.seals (Some x) next) old new value) same whole
-
 -- ---- the tickets of a list
 
 -- the log and the tickets, where these stand before what is still to be opened

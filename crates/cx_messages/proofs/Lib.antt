@@ -1,4 +1,3 @@
 pub mod Announcing
 pub mod Bodies
-pub mod Headers
 pub mod Joining

@@ -36,10 +36,6 @@ went_on : {A : Type 0} (why : IssueRefusal) (o : Option A) (next : A → Result 
 went_on why None next ticket P e then_so = absurd cc
 went_on why (Some a) next ticket P e then_so = then_so a refl e
 
-passed_is : {A : Type 0} (good : Bool) (a x : A) → cond good (Some a) None ≡ Some x → a ≡ x
-passed_is true a x e = cc
-passed_is false a x e = absurd cc
-
 -- it is for the service that is asked
 issued_service : (server : Server) (asked : Asked) (ticket : Ticket) → issued server asked ≡ Ok ticket → ticket.service ≡ asked.service
 issued_service server asked ticket e =

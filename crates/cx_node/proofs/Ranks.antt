@@ -89,13 +89,3 @@ module _ {L : Type 0} where
         below = below;
         above = above_first n part.0 s (drop i slots) (drop (i + 1) slots) split part.1 least other;
       }
-
-  pub missing_at_end : (n : ℕ) (slots : List (Slot L)) (i : ℕ) → AreBelow n (take i slots) → i ≡ length slots → IsMissingAt n slots i
-  missing_at_end n slots i below end =
-      record { within = omega arith; below = below; above = none_left n slots i end }
-    where
-      none_left : (n : ℕ) (slots : List (Slot L)) (i : ℕ) → i ≡ length slots → AreFrom (n + 1) (drop i slots)
-      none_left n [] zero end = tt
-      none_left n [] (suc i) end = tt
-      none_left n (s ∷ slots) zero end = absurd (omega arith)
-      none_left n (s ∷ slots) (suc i) end = none_left n slots i (omega arith)

@@ -1,7 +1,6 @@
 -- Places that are changed, taken away or put between others.
-use Rattle.std.proofs.Common.{ℕ, zero, suc, get_or, take, slice_get, sym, ◌≡◌, ◌+◌, ◌<◌, ◌≤◌, List, [], ◌∷◌, ◌++◌, length, Option, Some, None, IfSome, arith, refl, ap, ◌∙◌}
+use Rattle.std.proofs.Common.{ℕ, zero, suc, get_or, slice_get, ◌≡◌, ◌+◌, ◌<◌, ◌≤◌, List, [], ◌∷◌, ◌++◌, length, Option, Some, None, IfSome, arith, refl, ap, ◌∙◌}
 use Rattle.std.specs.Prelude.{option_to_list}
-use Rattle.std.proofs.lemmas.List.{append-nil, take_more}
 use Rattle.std.proofs.lemmas.Option.{slice_get_past}
 use Rattle.std.proofs.lemmas.Grind.{flat_map-append}
 use Rattle.cx_node.specs.Places.{Slot, links_in, room_of, rooms_in, IsRising, AreBelow, AreFrom, AreNumbered, AreKept}
@@ -151,11 +150,6 @@ module _ {L : Type 0} where
 
   pub none_past : (slots : List (Slot L)) (i : ℕ) → length slots ≤ i → slice_get (links_in slots) i ≡ None
   none_past slots i past = let all = length_rooms slots in slice_get_past (links_in slots) i (omega (arith, all))
-
-  pub links_more : (slots : List (Slot L)) (i : ℕ) (s : Slot L) → i < length slots → s ≡ get_or slots i s → links_in (take (i + 1) slots) ≡ links_in (take i slots) ++ option_to_list s.link
-  links_more slots i s within read =
-      ap (λ (front : List (Slot L)). links_in front) (take_more slots i s within ∙ ap (λ (x : Slot L). take i slots ++ x ∷ []) (sym read))
-      ∙ links_joined (take i slots) (s ∷ []) ∙ ap (λ (rest : List L). links_in (take i slots) ++ rest) (append-nil (option_to_list s.link))
 
 module _ {L : Type 0} (f : L → ℕ) where
   numbered_front : (a b : List (Slot L)) → AreNumbered f (a ++ b) → AreNumbered f a

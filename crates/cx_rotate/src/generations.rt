@@ -122,13 +122,6 @@ impl Generations {
         None
     }
 
-    /// The current generation, which is the second. There is none where no three stand.
-    pub fn current(&self) -> Option<Generation>
-        ensures { result ≡ slice_get self.now 1 }
-    {
-        self.held.map(|three| three.current)
-    }
-
     /// The generation at this place, from 0.
     pub fn get(&self, place: u8) -> Option<Generation>
         ensures { result ≡ slice_get self.now place }

@@ -13,11 +13,11 @@ use Rattle.cx_login.specs.cx_journal.specs.declared.faults.LoginFault.TheVariant
 use Rattle.cx_login.specs.cx_journal.specs.declared.outcomes.Reason.TheVariants as reason
 use Rattle.cx_rules.specs.Abridged.{IsWithin, abridged_at, abridged_link, unsigned}
 use Rattle.cx_rules.specs.Acceptor.{Stage, AwaitsBanner, AwaitsHello, AwaitsRequest, AwaitsProof, AwaitsSignature, AwaitsIdent, Open, denies, misses, missing_told, on_auth_request, on_hello, on_signature}
-use Rattle.cx_rules.specs.Links.{Link, link_of, put_link, without_link}
+use Rattle.cx_rules.specs.Links.{Link, link_of}
 use Rattle.cx_rules.specs.Payloads.{control}
 use Rattle.cx_rules.specs.Rows.{Arrival, Row, at, goes_on, refused_entry, refuses}
 use Rattle.cx_rules.specs.Secured.{SealedFrame, Secured, is_signed, secure_frame, signature_found}
-use Rattle.cx_rules.proofs.Abridging.{Alike, Forgets, link_of_map, put_link_map, without_link_map}
+use Rattle.cx_rules.proofs.Abridging.{Alike, Forgets, link_of_map}
 use Rattle.cx_rules.proofs.AlikeRows.{RowWithin, SameAhead, cut-fed, goes-alike, refuses-alike}
 
 module _ {Pending Proven Peer : Type 0} where
@@ -74,12 +74,6 @@ module _ {Pending Proven Peer : Type 0} where
 
   pub acceptor_link_of : (n : ℕ) (links : List (Link (Stage Pending Proven Peer))) → link_of n (map abridged_link links) ≡ option_map abridged_link (link_of n links)
   acceptor_link_of n links = link_of_map abridged_link acceptor-forgets.number n links
-
-  pub acceptor_put_link : (l : Link (Stage Pending Proven Peer)) (links : List (Link (Stage Pending Proven Peer))) → put_link (abridged_link l) (map abridged_link links) ≡ map abridged_link (put_link l links)
-  acceptor_put_link l links = put_link_map abridged_link acceptor-forgets.number l links
-
-  pub acceptor_without_link : (n : ℕ) (links : List (Link (Stage Pending Proven Peer))) → without_link n (map abridged_link links) ≡ map abridged_link (without_link n links)
-  acceptor_without_link n links = without_link_map abridged_link acceptor-forgets.number n links
 
 module _ {Own Pending Proven Peer : Type 0} where
   -- ---- rows with plain frames

@@ -56,11 +56,6 @@ some-right : {X : Type 0} (P : X → Type 0) (xs ys : List X) → SomeOf P ys �
 some-right P [] ys h = h
 some-right P (x ∷ xs) ys h = inr (some-right P xs ys h)
 
-some-left : {X : Type 0} (P : X → Type 0) (xs ys : List X) → SomeOf P xs → SomeOf P (xs ++ ys)
-some-left P [] ys h = absurd h
-some-left P (x ∷ xs) ys (inl h) = inl h
-some-left P (x ∷ xs) ys (inr h) = inr (some-left P xs ys h)
-
 stage-behind : (a : AskerArrival) (opened seals : List SealEntry) (stage : Stage) → AskerLogsStage a seals stage → AskerLogsStage a (opened ++ seals) stage
 stage-behind a opened seals (AwaitsBanner asked) h = tt
 stage-behind a opened seals (AwaitsHello asked) h = tt

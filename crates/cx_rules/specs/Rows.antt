@@ -188,8 +188,3 @@ module _ {Part Own Stage : Type 0} where
   -- the row as one of the node, of which the part is put in its place
   abbrev pub lifted : (Part → Own) → Row Part Stage → Row Own Stage
   lifted whole row = record { own = whole row.own; link = row.link; sends = row.sends; save = row.save; entries = row.entries; seals = row.seals }
-
-  abbrev pub lifted_turn : (Part → Own) → Turned Part Stage → Turned Own Stage
-  lifted_turn whole Waits = Waits
-  lifted_turn whole (Refuses why opened) = Refuses why opened
-  lifted_turn whole (Handles row) = Handles (lifted whole row)

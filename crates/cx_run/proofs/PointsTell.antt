@@ -2,12 +2,11 @@
 use Rattle.std.proofs.Common.{◌≡◌, ◌⊎◌, ℕ, List, [], ◌∷◌, ◌++◌, map, inl, inr, refl, sym, ap, ◌∙◌, subst, append-nil, append_assoc, arith}
 use Rattle.std.specs.Prelude.{Contains}
 use Rattle.std.proofs.lemmas.List.Elements.{Contains-append_cases, Contains-push_cases}
-use Rattle.cx_base.specs.declared.nodes.NodeName.{NodeName}
 use Rattle.cx_rules_session.specs.cx_journal.specs.declared.entries.Entry.{Entry}
 use Rattle.cx_rules_session.specs.cx_journal.specs.declared.entries.Entry.TheVariants as entry
 use Rattle.cx_run.specs.Happenings.{Entered, Happening, Nodes, Stepped, entered_by, journal_from, logged_by, seals_from, steps}
 use Rattle.cx_run.specs.Opening.{Leak, Setup, leaks_entered, nodes_of, secrets_drawn}
-use Rattle.cx_run.specs.Points.{Before, EachPoint, IsOfEvent, Point, Since, WasEntered, entered_until, entries_at, journal_since, log_since, logged_until, onto, points, points_onto, stepped_at}
+use Rattle.cx_run.specs.Points.{Before, EachPoint, IsOfEvent, Point, WasEntered, entered_until, entries_at, journal_since, log_since, logged_until, onto, points, points_onto, stepped_at}
 use Rattle.cx_rules_session.specs.cx_steps.specs.Onto.{SomeOf}
 use Rattle.cx_rules_session.specs.cx_steps.specs.declared.seals.Logged.{Logged}
 
@@ -103,18 +102,7 @@ at-one P Q [] each q = q
 at-one P Q (p ∷ older) each (inl now) = inl (now, each.0)
 at-one P Q (p ∷ older) each (inr q) = inr (at-one P Q older each.1 q)
 
--- what was so since then was so before
-pub since-before : (who : NodeName) (number : ℕ) (P : List Point → Point → Type 0) (past : List Point) → Since who number P past → Before P past
-since-before who number P [] s = s
-since-before who number P (p ∷ older) (inl now) = inl now
-since-before who number P (p ∷ older) (inr s) = inr (since-before who number P older s.1)
-
 -- of what is so at each point something follows at each
 pub each-map : (P Q : List Point → Point → Type 0) → ((older : List Point) (p : Point) → P older p → Q older p) → (past : List Point) → EachPoint P past → EachPoint Q past
 each-map P Q f [] h = tt
 each-map P Q f (p ∷ older) h = (f older p h.0, each-map P Q f older h.1)
-
-pub each-both : (P Q R : List Point → Point → Type 0) → ((older : List Point) (p : Point) → P older p → Q older p → R older p) → (past : List Point)
-    → EachPoint P past → EachPoint Q past → EachPoint R past
-each-both P Q R f [] h g = tt
-each-both P Q R f (p ∷ older) h g = (f older p h.0 g.0, each-both P Q R f older h.1 g.1)

@@ -3,5 +3,4 @@ pub mod Enrolling
 pub mod Following
 pub mod Handling
 pub mod Held
-pub mod Leaking
 pub mod Naming

@@ -1,5 +1,5 @@
 -- Links that stay calm, and a table whose numbers still name all others.
-use Rattle.std.proofs.Common.{◌≡◌, ℕ, ◌+◌, ◌<◌, ◌≤◌, Bool, true, false, suc, List, [], ◌∷◌, ◌++◌, length, set, drop, Option, Some, None, Result, Ok, Err, refl, sym, ap, ◌∙◌, subst, arith}
+use Rattle.std.proofs.Common.{◌≡◌, ℕ, ◌+◌, Bool, true, false, List, [], ◌∷◌, ◌++◌, length, set, drop, Option, Some, None, Result, Ok, Err, refl, sym, ap, ◌∙◌, subst, arith}
 use Rattle.std.specs.Prelude.{◌==◌, ◌&&◌, not, IfSome, OnOk, OnErr, if◌then◌else◌}
 use Rattle.std.proofs.lemmas.Bool.Decides.{nat_tests}
 use Rattle.cx_base.specs.declared.nodes.NodeName.{NodeName}
@@ -7,7 +7,7 @@ use Rattle.cx_line_words.specs.declared.choices.Side.{Side}
 use Rattle.cx_line_words.specs.declared.choices.Side.TheVariants.{Connector, Acceptor}
 use Rattle.cx_run.specs.Wires.{Wire, ended, new_wire, owes_gone, pieces_from, wire_of, with_pieces}
 use Rattle.cx_run_links.proofs.Numbers.{Stands, one_more}
-use Rattle.cx_run_links.specs.Calm.{AreCalm, IsCalm, IsCalmAt, IsTable, has, is_quiet}
+use Rattle.cx_run_links.specs.Calm.{IsCalm, IsCalmAt, IsTable, has, is_quiet}
 use Rattle.cx_run_links.specs.Ends.{staying}
 use Rattle.cx_run_links.specs.declared.busy_links.Busy.{Busy}
 
@@ -106,24 +106,12 @@ calm_more n (w ∷ wires) wire c k = by (w.number == n) (calm_more n wires wire 
 pub table_opened : (busy : Busy) (wires : List Wire) (wire : Wire) → IsTable busy wires → IsCalm wire → wire.number ≡ 1 + length wires → IsTable busy (wires ++ wire ∷ [])
 table_opened busy wires wire t c n = record { numbered = one_more 1 wires wire t.numbered n; others = λ m h. calm_more m wires wire c (t.others m h) }
 
--- a number more, and a number less
-pub table_added : (busy after : Busy) (wires : List Wire) → IsTable busy wires → ((n : ℕ) → has n after ≡ false → has n busy ≡ false) → IsTable after wires
-table_added busy after wires t k = record { numbered = t.numbered; others = λ n h. t.others n (k n h) }
-
 refused : {A : Type 0} (t : Bool) → t ≡ true → t ≡ false → A
 refused true e k = cc
 refused false e k = cc
 
 same_number : (a b : ℕ) → (a == b) ≡ true → a ≡ b
 same_number a b e = grind (arith, nat_tests)
-
-pub table_rested : (busy after : Busy) (wires : List Wire) (number : ℕ) → IsTable busy wires → IsCalmAt number wires
-    → ((n : ℕ) → (n == number) ≡ false → has n after ≡ false → has n busy ≡ false) → IsTable after wires
-table_rested busy after wires number t c k = record { numbered = t.numbered; others = λ n h. by n (n == number) refl h }
-  where
-    by : (n : ℕ) (e : Bool) → (n == number) ≡ e → has n after ≡ false → IsCalmAt n wires
-    by n true e h = subst (λ (m : ℕ). IsCalmAt m wires) (sym (same_number n number e)) c
-    by n false e h = t.others n (k n e h)
 
 module _ (wires : List Wire) (number place : ℕ) (old new : Wire) (at : Stands wires number place old new) where
   -- a link is changed, and its number is there or was added
@@ -149,6 +137,3 @@ module _ (wires : List Wire) (number place : ℕ) (old new : Wire) (at : Stands 
       by n false e h = subst (λ (o : Option Wire). IfSome o IsCalm) (sym (at.elsewhere n e)) (t.others n h)
 
 -- ---- between two numbers
-
-pub none_between : (busy : Busy) (wires : List Wire) (after below : ℕ) → IsTable busy wires → ((n : ℕ) → suc after ≤ n → n < below → has n busy ≡ false) → AreCalm after below wires
-none_between busy wires after below t k = λ n a b. t.others n (k n (omega arith) b)

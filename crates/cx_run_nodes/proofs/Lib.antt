@@ -1,6 +1,5 @@
 pub mod Finding
 pub mod Keyed
-pub mod Leaking
 pub mod Passing
 pub mod Placing
 pub mod Placed

@@ -1,9 +1,7 @@
 -- The first place of one that passes, where a list is changed.
-use Rattle.std.proofs.Common.{◌≡◌, ℕ, ◌+◌, ◌<◌, ◌≤◌, Bool, true, false, cond, suc, zero, List, [], ◌∷◌, ◌++◌, length, get_or, set, Option, Some, None, refl, sym, ap, ◌∙◌, subst, arith}
-use Rattle.std.specs.Prelude.{nat_lt, map}
+use Rattle.std.proofs.Common.{◌≡◌, ℕ, ◌+◌, ◌≤◌, Bool, true, false, cond, suc, zero, List, [], ◌∷◌, ◌++◌, length, get_or, set, Option, None, refl, ap, ◌∙◌, subst}
+use Rattle.std.specs.Prelude.{map}
 use Rattle.std.specs.List.{position, position_or_len}
-use Rattle.std.proofs.lemmas.Bool.Decides.{nat_tests}
-use Rattle.std.proofs.lemmas.Option.{cond_some}
 
 -- a list in which one is replaced by another that passes where it did has its first at the same place
 module _ {X : Type 0} (p : X → Bool) where
@@ -35,10 +33,3 @@ module _ {X : Type 0} (p : X → Bool) (f : X → X) (same : (x : X) → p (f x)
 
   pub position-map : (xs : List X) → position p (map f xs) ≡ position p xs
   position-map xs = let e = map_passes xs in let n = map_length xs in rw (e, n) refl
-
--- a place of the first is within the list
-pub position-within : {X : Type 0} (p : X → Bool) (xs : List X) (i : ℕ) → position p xs ≡ Some i → i < length xs
-position-within p xs i e =
-    let k = cond_some (nat_lt (position_or_len p xs) (length xs)) (position_or_len p xs) i e in
-    let n : i ≡ position_or_len p xs = sym k.1 in
-    grind (arith, nat_tests)

@@ -19,9 +19,6 @@ use Rattle.cx_run_nodes.proofs.Keyed.{changed_all, key_found, same_node_is, same
 use Rattle.cx_run_nodes.proofs.Placed.{placed-read, placed-same, placed-set}
 use Rattle.cx_run_nodes.proofs.Placing.{IsFirst, found_first, member_elsewhere, member_here}
 
-post_reads : ℕ → Post → Post
-post_reads reading post = record post { reading = reading }
-
 sits_behind : (reading : ℕ) (old new : Sitting) (post : Option Post) → new ≡ record old { reading = reading } → IsPosted old post
     → IsPosted new (option_map (λ (s : Post). record s { reading = reading }) post)
 sits_behind reading old new None e k = absurd k

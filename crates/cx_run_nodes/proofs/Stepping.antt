@@ -17,7 +17,7 @@ use Rattle.cx_run_head.specs.cx_rules.specs.MonitorRule.{monitor_rule}
 use Rattle.cx_run_head.specs.cx_rules.specs.Rows.{Outcome}
 use Rattle.cx_run_head.specs.cx_rules_session.specs.DaemonRule.{DaemonState, daemon_step}
 use Rattle.cx_run_head.specs.cx_rules_session.specs.Forgets.{DaemonStandsFor}
-use Rattle.cx_run_head.specs.cx_run.specs.Deliveries.{Given, given}
+use Rattle.cx_run_head.specs.cx_run.specs.Deliveries.{given}
 use Rattle.cx_run_head.specs.cx_run.specs.Happenings.{EntityNode, OfClient, OfDaemon, Nodes as RunNodes, Stepped, asker_in, entity_of, entity_steps, monitor_steps, steps, steps_of, with_entity}
 use Rattle.cx_run_head.specs.cx_run.specs.Wires.{same_node}
 use Rattle.cx_run_head.specs.cx_run.specs.Worlds.{Post, World, happened, happening, post_of, with_post}
@@ -116,9 +116,6 @@ module _ {handlers : Handlers} (held new : Nodes) (nodes after : RunNodes) (post
 
 post_at : (who : NodeName) (posts : List Post) (post : Post) → post_of who posts ≡ Some post → post.node ≡ who
 post_at who posts post e = same_node_is post.node who (key_found (λ (s : Post). s.node) same_node posts who post e)
-
-abbrev as_made : Given → Made
-as_made g = record { out = g.out; failed = g.failed; happened = true }
 
 module _ {handlers : Handlers} (input : Input) (w : World) (name : Name) (held new : Nodes) (place : ℕ) (old next : Member) (made : Made)
     (k : StandFor handlers held w.nodes w.posts) (at : IsFirst (λ (m : Member). same_name m.name name) held.members.items place) (read : old ≡ get_or held.members.items place old)

@@ -1,6 +1,6 @@
 -- The lines of the script of a node: what is spelled has no fault, words without a fault spell a line, and words spell one line.
-use Rattle.std.proofs.Common.{◌≡◌, ℕ, ◌≤◌, ◌⊎◌, Bool, true, false, cond, List, [], ◌∷◌, map, length, Option, Some, None, Result, Ok, Err, refl, sym, subst, ap, ◌∙◌}
-use Rattle.std.specs.Prelude.{codes, IfErr, IfOk}
+use Rattle.std.proofs.Common.{◌≡◌, ℕ, ◌≤◌, ◌⊎◌, Bool, true, false, cond, List, [], ◌∷◌, map, length, Option, Some, None, refl, sym, subst, ap, ◌∙◌}
+use Rattle.std.specs.Prelude.{codes}
 use Rattle.std.specs.Option.{option_map}
 use Rattle.std.specs.Str.{bytes_eq}
 use Rattle.std.proofs.lemmas.Slice.Eq.{bytes_eq-Decides}
@@ -24,11 +24,9 @@ use Rattle.cx_lines.specs.declared.lines.Line.{Line}
 use Rattle.cx_lines.specs.declared.lines.Line.TheVariants as line
 use Rattle.cx_lines.specs.declared.node_steps.NodeForm.TheVariants as node
 use Rattle.cx_lines.specs.declared.node_steps.NodeStep.TheVariants as step
-use Rattle.cx_lines.specs.declared.refusals.LineRefusal.{LineRefusal}
-use Rattle.cx_lines.specs.declared.refusals.LineRefusal.TheVariants.{Fault, OutOfMemory}
+use Rattle.cx_lines.specs.declared.refusals.LineRefusal.TheVariants.{OutOfMemory}
 use Rattle.cx_lines.specs.Commands.{command_form}
 use Rattle.cx_lines.specs.Lines.{form_of, head_of, head_word, or_head, Spells}
-use Rattle.cx_lines.specs.Refusals.{IsLineCause}
 use Rattle.cx_lines.proofs.Laws.{head_back, seen_clean, seen_spelled, unique}
 use Rattle.cx_schedule.specs.declared.node_lines.NodeLine.{NodeLine}
 use Rattle.cx_schedule.specs.declared.node_lines.NodeLine.TheVariants.{Submit, DropSession, Gone, Stop}
@@ -39,7 +37,7 @@ use Rattle.cx_schedule.specs.declared.refusals.ScheduleRefusal.{ScheduleRefusal}
 use Rattle.cx_schedule.specs.declared.refusals.ScheduleRefusal.TheVariants as refusal
 use Rattle.cx_schedule.specs.Files.{IsRefusalAt}
 use Rattle.cx_schedule.specs.NodeFiles.{bad_anywhere, itself, IsFirstOutsideScript, IsScriptCause, IsScriptReason, NodeLines, SpellsAnywhere}
-use Rattle.cx_schedule.specs.NodeLines.{bad_in, bad_in_script, bad_own, bad_shared, described_at, is_shared, known_at, script_form_of, script_places, script_word, shared_form_of, shared_line, unknown_first, BeginsShared, IsNodeLineCause, IsOwnCause, IsSharedCause, SpellsNodeLine, SpellsOwn, SpellsOwnLine, SpellsShared, SpellsSharedAs}
+use Rattle.cx_schedule.specs.NodeLines.{bad_in, bad_in_script, bad_own, bad_shared, described_at, is_shared, known_at, script_form_of, script_places, script_word, shared_form_of, shared_line, unknown_first, BeginsShared, SpellsNodeLine, SpellsOwn, SpellsShared, SpellsSharedAs}
 use Rattle.cx_schedule.proofs.Grammars.{IsGrammar}
 use Rattle.cx_schedule.proofs.Grammars as grammars
 
@@ -321,36 +319,3 @@ pub script_few : (n : Option NodeNames) (bytes : List ℕ) (found : List NodeLin
 script_few n bytes found short p = grammars.few_in_all (SpellsAnywhere n) itself (bad_anywhere n) (scripts n) bytes found short p
 
 -- ---- what the code finds
-
-own_one : (names : Option NodeNames) (form : ScriptForm) (l : NodeLine) (words : List (List ℕ)) → SpellsOwnLine form l words → SpellsNodeLine names l words
-own_one names own.Gone (Submit c) ws p = absurd p
-own_one names own.Gone (DropSession d n) ws p = absurd p
-own_one names own.Gone (Gone links) ws p = p
-own_one names own.Gone Stop ws p = absurd p
-own_one names own.Stop (Submit c) ws p = absurd p
-own_one names own.Stop (DropSession d n) ws p = absurd p
-own_one names own.Stop (Gone links) ws p = absurd p
-own_one names own.Stop Stop ws p = p
-
-pub own_spelled : {E : Type 0} (names : Option NodeNames) (form : ScriptForm) (words : List (List ℕ)) (r : Result NodeLine E) → IfOk r (λ l. SpellsOwnLine form l words) → IfOk r (λ l. SpellsNodeLine names l words)
-own_spelled names form words (Ok l) p = own_one names form l words p
-own_spelled names form words (Err e) p = tt
-
-pub own_caused : (names : Option NodeNames) (form : ScriptForm) (w : List ℕ) (ws : List (List ℕ)) (r : Result NodeLine LineRefusal) → script_form_of w ≡ Some form → w ≡ script_word form → IfErr r (IsOwnCause form ws) → IfErr r (IsNodeLineCause names (w ∷ ws))
-own_caused names form w ws (Ok l) some is p = tt
-own_caused names form w ws (Err (Fault bad)) some is p = ap (bad_in names w ws) some ∙ ap (λ v. bad_own form v ws) is ∙ p
-own_caused names form w ws (Err OutOfMemory) some is p = tt
-
-pub shared_caused : (names : Option NodeNames) (w : List ℕ) (ws : List (List ℕ)) (form : Option Head) (r : Result NodeLine LineRefusal) → script_form_of w ≡ None → form ≡ shared_form_of w → IfErr r (IsSharedCause names (w ∷ ws) form) → IfErr r (IsNodeLineCause names (w ∷ ws))
-shared_caused names w ws form (Ok l) none is p = tt
-shared_caused names w ws form (Err (Fault bad)) none is p = ap (bad_in names w ws) none ∙ ap (bad_shared names (w ∷ ws)) (sym is) ∙ p
-shared_caused names w ws form (Err OutOfMemory) none is p = tt
-
-pub as_spelled : {E : Type 0} (names : NodeNames) (form : Head) (words : List (List ℕ)) (r : Result NodeLine E) → IfOk r (λ l. SpellsSharedAs (known_at names form) form l words) → IfOk r (λ l. SpellsNodeLine (Some names) l words)
-as_spelled names form words (Ok l) p = spelled_as names form l words p
-as_spelled names form words (Err e) p = tt
-
-pub as_caused : (names : NodeNames) (form : Head) (words : List (List ℕ)) (r : Result NodeLine LineRefusal) → IfErr r (IsLineCause (known_at names form) words) → IfErr r (IsSharedCause (Some names) words (Some form))
-as_caused names form words (Ok l) p = tt
-as_caused names form words (Err (Fault bad)) p = p
-as_caused names form words (Err OutOfMemory) p = tt

@@ -1,5 +1,5 @@
 -- What bytes open to, as a function, and as the record that they are opened as.
-use Rattle.std.proofs.Common.{◌≡◌, ◌≢◌, ℕ, ◌<◌, All, length, List, [], ◌∷◌, Option, Some, None, Result, Ok, Err, refl, sym, ap, ◌∙◌, inl, inr, subst, arith}
+use Rattle.std.proofs.Common.{◌≡◌, ℕ, ◌<◌, All, length, List, [], ◌∷◌, Option, Some, None, Result, Ok, Err, refl, sym, ap, ◌∙◌, inl, inr, subst, arith}
 use Rattle.std.proofs.lemmas.Bool.{cases_lt}
 use Rattle.std.proofs.lemmas.List.{get_or_past}
 use Rattle.std.proofs.lemmas.List.Elements.{All-get_or}
@@ -9,10 +9,8 @@ use Rattle.cx_cbc.specs.Opened.{opened}
 use Rattle.cx_cbc.proofs.Contents.{opens_one}
 use Rattle.cx_cbc.proofs.OpeningLaws.{opened-Opens, Opens-opened}
 use Rattle.cx_enc.specs.declared.faults.ReadFault.{ReadFault}
-use Rattle.cx_enc.specs.declared.faults.ReadRefusal.{ReadRefusal}
-use Rattle.cx_enc.specs.declared.faults.ReadRefusal.TheVariants as refusals
 use Rattle.cx_enc.specs.Forms.{Spot, Form, IsBytes, IsLawful}
-use Rattle.cx_enc.specs.Whole.{start, Spells, IsRefusedBy}
+use Rattle.cx_enc.specs.Whole.{start, Spells}
 use Rattle.cx_enc.proofs.Wholes.{spelled, read_again}
 use Rattle.cx_sealed.specs.declared.refusals.SealedRefusal.TheVariants.{Unopened, Misread}
 use Rattle.cx_sealed.specs.declared.unsealed.Unsealed.{Unsealed}
@@ -43,16 +41,6 @@ spelled_found {X} form lawful content x octets e = by_read (form.at (start conte
     by_read : (r : Result (X × Spot) ReadFault) → form.at (start content) ≡ r → read_to_end r ≡ Some x → Spells form content x
     by_read (Ok (y, next)) read is = by_left y next next.left refl read is
     by_read (Err fault) read is = absurd cc
-
--- bytes that a reader refuses spell none
-pub spelled_none : {X : Type 0} (form : Form X) (content : List ℕ) (why : ReadRefusal) → why ≢ refusals.OutOfMemory → IsRefusedBy form content why → None ≡ spelled_by form content
-spelled_none form content (refusals.Fault fault) not is = sym (ap read_to_end is)
-spelled_none {X} form content (refusals.LeftOver place) not (x, next, read, some, at) = sym (ap read_to_end read ∙ by_left next.left some)
-  where
-    by_left : (left : List ℕ) → left ≢ [] → unless_left x left ≡ None
-    by_left [] some = absurd (some refl)
-    by_left (b ∷ left) some = refl
-spelled_none form content refusals.OutOfMemory not is = absurd (not refl)
 
 -- ---- the record that bytes are opened as
 

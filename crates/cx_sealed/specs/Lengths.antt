@@ -37,10 +37,6 @@ length-kind : (k : EntityType) → length (kind_form.text k) ≡ 4
 unfolding kind_form little
 length-kind k = refl
 
-length-flag : (b : Bool) → length (flag_form.text b) ≡ 1
-unfolding flag_form little
-length-flag b = refl
-
 length-sized : (n : ℕ) (bytes : List ℕ) → length bytes ≡ n → length ((sized_form n).text bytes) ≡ 4 + n
 unfolding sized_form little
 length-sized n bytes len = omega (arith, len)

@@ -39,8 +39,8 @@ pub use service_ticket::ServiceTicket;
 pub use ticket_info::TicketInfo;
 pub use unsealed::Unsealed;
 pub use unsealing::{
-    unseal_authorize, unseal_authorize_challenge, unseal_authorize_reply, unseal_connection_secret,
-    unseal_connection_secret_by, unseal_rotating_reply, unseal_service_ticket, unseal_ticket_info,
+    unseal_authorize, unseal_authorize_challenge, unseal_authorize_reply,
+    unseal_connection_secret_by, unseal_rotating_reply, unseal_service_ticket,
     unseal_ticket_info_by,
 };
 

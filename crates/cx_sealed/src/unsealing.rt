@@ -71,18 +71,7 @@ pub fn unseal_service_ticket(
     unseal(alloc, key, sealed)
 }
 
-/// What bytes open to that are to be a `TicketInfo`.
-pub fn unseal_ticket_info(
-    alloc: Global,
-    key: &[u8; 16],
-    sealed: &[u8],
-) -> Result<Option<Unsealed<TicketInfo>>, AllocError>
-    ensures { IfOk result (λ found. found ≡ unsealed ticket_info_layout.form key.now sealed.now) }
-{
-    unseal(alloc, key, sealed)
-}
-
-/// The same under a key that opens more than one.
+/// What bytes open to that are to be a `TicketInfo`, under a key that opens more than one.
 pub fn unseal_ticket_info_by(
     alloc: Global,
     key: &SealKey,
@@ -137,18 +126,7 @@ pub fn unseal_rotating_reply(
     unseal(alloc, key, sealed)
 }
 
-/// What bytes open to that are to be a `ConnectionSecret`.
-pub fn unseal_connection_secret(
-    alloc: Global,
-    key: &[u8; 16],
-    sealed: &[u8],
-) -> Result<Option<Unsealed<ConnectionSecret>>, AllocError>
-    ensures { IfOk result (λ found. found ≡ unsealed connection_secret_layout.form key.now sealed.now) }
-{
-    unseal(alloc, key, sealed)
-}
-
-/// The same under a key that opens more than one.
+/// What bytes open to that are to be a `ConnectionSecret`, under a key that opens more than one.
 pub fn unseal_connection_secret_by(
     alloc: Global,
     key: &SealKey,

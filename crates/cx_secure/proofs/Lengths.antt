@@ -1,8 +1,7 @@
 -- How long parts are.
 use Rattle.std.proofs.Common.{◌≡◌, ℕ, ◌+◌, ◌-◌, ◌*◌, ◌<◌, ◌≤◌, List, [], ◌∷◌, length, slice_index, take, drop, sum, sum_by, refl, sym, ap, ◌∙◌, arith, length-take, length-drop}
 use Rattle.std.specs.List.{slice_range}
-use Rattle.std.proofs.lemmas.List.Sums.{sum_by-cons, sum_by_push}
-use Rattle.std.proofs.lemmas.List.{take_more}
+use Rattle.std.proofs.lemmas.List.Sums.{sum_by-cons}
 use Rattle.cx_frame.specs.declared.preamble.Preamble.{Preamble}
 use Rattle.cx_frame.specs.Preambles.{IsAllowed}
 use Rattle.cx_frame.proofs.Cutting.{range_le, sum-cons}
@@ -32,10 +31,6 @@ sum_most (n ∷ ns) = omega (arith, sum_by-cons up16 n ns, sum-cons n ns, up16_m
 pub few_last : (p : Preamble) → IsAllowed 1048576 p → sum_by up16 (slice_range p.lengths 1 p.count) ≤ 1048621
 few_last p fine =
     omega (arith, sum_most (slice_range p.lengths 1 p.count), range_le p.lengths p.count, fine.total, length-take (p.count - 1) (drop 1 p.lengths), length-drop 1 p.lengths, fine.four_lengths)
-
--- the sum so far, and the next one
-pub sum_more : (ns : List ℕ) (i : ℕ) → i < length ns → sum_by up16 (take (i + 1) ns) ≡ sum_by up16 (take i ns) + up16 (slice_index ns i)
-sum_more ns i lt = ap (sum_by up16) (take_more ns i 0 lt) ∙ sum_by_push up16 (take i ns) (slice_index ns i)
 
 -- what is left, one room later
 pub room_more : (ns : List ℕ) (i : ℕ) → i < length ns → sum_by up16 (drop i ns) ≡ up16 (slice_index ns i) + sum_by up16 (drop (i + 1) ns)
@@ -102,13 +97,6 @@ tagged_large n some = elim (cases_eq n 0) [ inl e ↦ absurd (some (rw e refl)) 
 pub tagged_text : (n : ℕ) → tagged n - 16 ≡ n
 unfolding tagged
 tagged_text n = elim (cases_eq n 0) [ inl e ↦ rw e refl | inr ne ↦ rw (ne_eqb n 0 ne) (omega arith) ]
-
-pub one_if_tagged : (n : ℕ) → one_if (tagged n) ≡ one_if n
-unfolding tagged
-one_if_tagged n = elim (cases_eq n 0) [ inl e ↦ rw e refl | inr ne ↦ some n ne ]
-  where
-    some : (n : ℕ) → (n ≡ 0 → ⊥) → one_if (if n == 0 then 0 else n + 16) ≡ one_if n
-    some n ne = let big : (n + 16 == 0) ≡ false = ne_eqb (n + 16) 0 (λ e. omega arith) in rw (ne_eqb n 0 ne, big) refl
 
 pub tagged_most : (n : ℕ) → tagged n ≤ n + 16
 unfolding tagged

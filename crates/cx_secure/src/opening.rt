@@ -41,32 +41,16 @@ pub fn rest_len(head: &Head) -> usize
 }
 
 impl Sealing {
-    /// Opens the head of a frame. It takes no memory. Its content is `head_content` where it is answered, and where it is refused
-    /// `hand_out_head` hands it out.
-    pub fn open_head(&mut self, bytes: &[u8; 96]) -> Result<Head, SecureRefusal>
-        // What is read was sealed so, under the counter of this direction.
-        ensures found { IfOk result (IsHead (connection_key self.old) (nonce_at self.old.into.fixed self.old.into.counter) bytes.now) }
-        // What was sealed so is read.
-        ensures only { (h : Head) → self.old.kept ≡ None → self.old.into.counter + 1 < 2 ^ 64
-            → IsHead (connection_key self.old) (nonce_at self.old.into.fixed self.old.into.counter) bytes.now h → result ≡ Ok h }
-        // It is refused for what was refused before, then for the counter, the tag, and the first check of the preamble that fails: always,
-        // since no memory can be wanting.
-        ensures exact { result ≡ open_head_at self.old bytes.now }
-        ensures after { self.new ≡ after_opening self.old 1 result }
-    {
-        let answer = self.read_head(bytes);
-        match answer {
-            Ok(_) => self.pass_head(),
-            Err(refusal) => self.keep(refusal),
-        }
-        answer
-    }
-
-    /// What `open_head` would answer. `pass_head` then goes on behind a head that is answered, and `keep` keeps why one is refused.
+    /// Reads the head of a frame and changes nothing. It takes no memory. `pass_head` then goes on behind a head that is answered, and `keep`
+    /// keeps why one is refused. Its content is `head_content` where it is answered, and where it is refused `hand_out_head` hands it out.
     pub fn read_head(&self, bytes: &[u8; 96]) -> Result<Head, SecureRefusal>
+        // What is read was sealed so, under the counter of this direction.
         ensures found { IfOk result (IsHead (connection_key self.now) (nonce_at self.now.into.fixed self.now.into.counter) bytes.now) }
+        // What was sealed so is read.
         ensures only { (h : Head) → self.now.kept ≡ None → self.now.into.counter + 1 < 2 ^ 64
             → IsHead (connection_key self.now) (nonce_at self.now.into.fixed self.now.into.counter) bytes.now h → result ≡ Ok h }
+        // It is refused for what was refused before, then for the counter, the tag, and the first check of the preamble that fails: always,
+        // since no memory can be wanting.
         ensures exact { result ≡ open_head_at self.now bytes.now }
         // So `pass_head` can follow.
         ensures below { IfOk result (λ _. self.now.into.counter + 1 < 2 ^ 64) }

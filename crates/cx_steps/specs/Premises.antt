@@ -63,7 +63,11 @@ Owes leaked log at earlier (entry.Opened mark) = IsExcepted leaked log at mark.k
 Owes leaked log at earlier (entry.Checked mark) = IsExcepted leaked log at mark.key ⊎ HasSigned earlier mark
 Owes leaked log at earlier _ = Unit {0}
 
--- each entry of the log has what it owes, where these clients leaked
+-- Each entry of the log has what it owes, where these clients leaked. No key has to be known, and no cipher broken, for a run to lack this: the envelope
+-- in which cephx seals its records is AES-CBC with a fixed initial vector and no code over it, so where a byte of a middle block is changed it opens to
+-- a content that nobody sealed. Envelopes stand in plain frames until authentication has ended; whoever changes bytes on the link till then, or has
+-- a ticket of its own to change, can bring that about. Such a run isn't sound, and what is claimed of sound runs isn't claimed of it
+-- (docs/security.md says what the nodes do then).
 abbrev pub IsSound : List Name → List Logged → Type 0
 IsSound leaked log = EachOnto (λ earlier at. Owes leaked log at.node earlier at.entry) [] log
 

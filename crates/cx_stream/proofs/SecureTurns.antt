@@ -11,22 +11,20 @@ use Rattle.cx_frame.specs.declared.frame.Frame.{Frame}
 use Rattle.cx_frame.specs.Preambles.{IsAllowed, preamble_text}
 use Rattle.cx_secure.specs.declared.sealing.Head.{Head}
 use Rattle.cx_secure.specs.declared.sealing.Sealing.{Sealing}
-use Rattle.cx_secure.specs.declared.sealing.Way.{Way}
 use Rattle.cx_secure.specs.declared.refusals.SecureRefusal.{SecureRefusal}
 use Rattle.cx_secure.specs.declared.refusals.SecureRefusal.TheVariants.{CounterSpent, BadTag, BadCrc, BadShape, TooLong, Aborted, OutOfMemory}
 use Rattle.cx_secure.specs.Opening.{IsHead, IsRestBehind, head_step, rest_of, rest_step}
 use Rattle.cx_secure.specs.Parts.{nonce_at, part, sealed_parts}
 use Rattle.cx_secure.specs.Plains.{one_if, plains, rest_len, rest_parts, second_len}
-use Rattle.cx_secure.specs.Refusing.{Agrees, IsRefusal}
-use Rattle.cx_secure.specs.Sealings.{after_opened, after_opening, after_putting, after_sealed, connection_key, open_head_at, open_rest_at, unless_kept}
+use Rattle.cx_secure.specs.Refusing.{Agrees}
+use Rattle.cx_secure.specs.Sealings.{after_opened, after_opening, connection_key, open_head_at, open_rest_at, unless_kept}
 use Rattle.cx_stream.specs.Fronts.{frame_in, given_by, with_length}
 use Rattle.cx_stream.specs.Held.{Held, IsOpen, IsSteady, sealed_head}
-use Rattle.cx_stream.specs.SecureStreams.{Ahead, Holds, IsPutFault, IsSecure, IsSecureAt, Passes, PassesGiven, after_put, ahead, behind_frame, behind_head, secure_frame_at}
+use Rattle.cx_stream.specs.SecureStreams.{Ahead, Holds, IsSecure, IsSecureAt, Passes, PassesGiven, ahead, behind_frame, behind_head, secure_frame_at}
 use Rattle.cx_stream.specs.Turning.{Finished, Given, Opened, Readied, behind_open, refusing}
 use Rattle.cx_secure.proofs.PartLaws.{sealed-append}
 use Rattle.cx_stream.proofs.Sealed.{parts_behind}
 use Rattle.cx_stream.specs.declared.faults.StreamFault.{StreamFault}
-use Rattle.cx_stream.specs.declared.faults.StreamFault.TheVariants.{Secure}
 
 abbrev pub Read : Type 0
 Read = Result (Option (Frame × ℕ)) SecureRefusal
@@ -329,46 +327,3 @@ turned_holds old new (Ok None) same fed given s = as_before new old fed given sa
 turned_holds old new (Err e) same fed given s = as_before new old fed given same s
 
 -- ---- a frame that is put
-
-same_into : (s t : Sealing) (o : Option Head) → connection_key s ≡ connection_key t → s.into ≡ t.into → IsSteady s o → IsSteady t o
-same_into s t None key into is = tt
-same_into s t (Some h) key into is =
-    let with : List ℕ → Way → List ℕ = λ k w. part k (nonce_at w.fixed (w.counter - 1)) (preamble_text h.preamble ++ h.inline) in
-    record {
-      low = subst (λ (w : Way). 1 ≤ w.counter) into is.low;
-      allowed = is.allowed;
-      inline = is.inline;
-      len = ap length (sym (ap (λ k. with k s.into) key ∙ ap (with (connection_key t)) into)) ∙ is.len;
-      read =
-          sym (ap (λ k. head_step k s.into.fixed (s.into.counter - 1) (with k s.into)) key ∙ ap (λ (w : Way). head_step (connection_key t) w.fixed (w.counter - 1) (with (connection_key t) w)) into)
-          ∙ is.read;
-    }
-
-pub steady_behind : (s t : Sealing) (o : Option Head) (f : Frame) (r : Result (Unit {0}) SecureRefusal) → IsSteady s o → t ≡ after_putting s f r → IsSteady t o
-steady_behind s t o f (Ok x) is after = subst (λ (y : Sealing). IsSteady y o) (sym after) (same_into s (after_sealed s (length (plains f))) o refl refl is)
-steady_behind s t o f (Err OutOfMemory) is after = subst (λ (y : Sealing). IsSteady y o) (sym after) is
-steady_behind s t o f (Err (TooLong n)) is after = subst (λ (y : Sealing). IsSteady y o) (sym after) is
-steady_behind s t o f (Err CounterSpent) is after = subst (λ (y : Sealing). IsSteady y o) (sym after) (same_into s (record s { kept = Some CounterSpent }) o refl refl is)
-steady_behind s t o f (Err BadTag) is after = subst (λ (y : Sealing). IsSteady y o) (sym after) (same_into s (record s { kept = Some BadTag }) o refl refl is)
-steady_behind s t o f (Err BadCrc) is after = subst (λ (y : Sealing). IsSteady y o) (sym after) (same_into s (record s { kept = Some BadCrc }) o refl refl is)
-steady_behind s t o f (Err BadShape) is after = subst (λ (y : Sealing). IsSteady y o) (sym after) (same_into s (record s { kept = Some BadShape }) o refl refl is)
-steady_behind s t o f (Err Aborted) is after = subst (λ (y : Sealing). IsSteady y o) (sym after) (same_into s (record s { kept = Some Aborted }) o refl refl is)
-
-pub put_fault : (o : Option SecureRefusal) (e : SecureRefusal) → IsRefusal o e → IsPutFault o (Secure e)
-put_fault o CounterSpent is = is
-put_fault o BadTag is = is
-put_fault o BadCrc is = is
-put_fault o BadShape is = is
-put_fault o (TooLong n) is = is
-put_fault o Aborted is = is
-put_fault o OutOfMemory is = tt
-
-pub put_after : (s : Sealing) (f : Frame) (e : SecureRefusal)
-    → (let r : Result (Unit {0}) SecureRefusal = Err e in let q : Result (Unit {0}) StreamFault = Err (Secure e) in after_putting s f r ≡ after_put s f q)
-put_after s f CounterSpent = refl
-put_after s f BadTag = refl
-put_after s f BadCrc = refl
-put_after s f BadShape = refl
-put_after s f (TooLong n) = refl
-put_after s f Aborted = refl
-put_after s f OutOfMemory = refl

@@ -64,7 +64,7 @@ fn rotate(rt: &impl Abort, alloc: Global, server: &mut KeyServer) -> bool {
 /// Whether a server tells this entity secrets, and doesn't say that it is no daemon.
 fn tells(server: &KeyServer, name: &EntityName) -> bool {
     match server.secrets_for(name) {
-        Ok(generations) => generations.current().is_some(),
+        Ok(generations) => generations.get(1).is_some(),
         Err(NotADaemon) => false,
     }
 }

@@ -21,7 +21,7 @@ fn generation(id: u64, byte: u8, seconds: u32) -> Generation {
 #[test]
 fn the_first_rotation_adds_three(rt: HostRuntime) {
     let mut held = Generations::empty();
-    assert!(rt; held.current().is_none());
+    assert!(rt; held.get(1).is_none());
     assert_eq!(rt; held.rotate(1000 * SECOND, HOUR, &KEYS), 3);
     let first = generation(1, 1, 4600);
     let second = generation(2, 2, 8200);
@@ -30,7 +30,7 @@ fn the_first_rotation_adds_three(rt: HostRuntime) {
     assert!(rt; held.get(1) == Some(second));
     assert!(rt; held.get(2) == Some(third));
     assert!(rt; held.get(3).is_none());
-    assert!(rt; held.current() == Some(second));
+    assert!(rt; held.get(1) == Some(second));
     assert!(rt; held.find(1) == Some([1; 16]));
     assert!(rt; held.find(3) == Some([3; 16]));
     assert!(rt; held.find(4).is_none());

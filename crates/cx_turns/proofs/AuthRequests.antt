@@ -1,5 +1,5 @@
 -- The row of AUTH_REQUEST, by what is wrong with the request.
-use Rattle.std.proofs.Common.{◌≡◌, ◌==◌, Bool, true, false, List, [], ℕ, Option, Some, None, Ok, refl, ap}
+use Rattle.std.proofs.Common.{◌≡◌, ◌==◌, Bool, true, false, List, [], ℕ, Option, Some, None, Ok, ap}
 use Rattle.std.specs.List.{list_any}
 use Rattle.std.specs.Prelude.{not, if◌then◌else◌}
 use Rattle.cx_control.specs.declared.auth.AuthRequest.{AuthRequest}
@@ -25,15 +25,6 @@ module _ {Own Pending Proven Peer : Type 0} (by_role : Arrival Own (Stage Pendin
   denied_by true false why e = ap (λ (w : LoginFault). denies a 95 w []) (fault_is Mode why e)
   denied_by true true why e = absurd (cc)
 
-  taken_by : (method mode : Bool) → fault_by method mode ≡ None → row_by method mode ≡ by_role a request.payload
-  taken_by false mode e = absurd (cc)
-  taken_by true false e = absurd (cc)
-  taken_by true true e = refl
-
   -- it is denied for that
   pub request-denied : (why : LoginFault) → request_fault request ≡ Some why → on_auth_request by_role a (Ok request) ≡ denies a 95 why []
   request-denied why e = denied_by (request.method == 2) (list_any (λ mode. mode == 2) request.modes) why e
-
-  -- where nothing is, the payload is for the role
-  pub request-taken : request_fault request ≡ None → on_auth_request by_role a (Ok request) ≡ by_role a request.payload
-  request-taken e = taken_by (request.method == 2) (list_any (λ mode. mode == 2) request.modes) e

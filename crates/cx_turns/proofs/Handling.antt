@@ -80,13 +80,6 @@ module _ {Own Stage Change : Type 0} (abridged : Link Stage → Link Stage) (cha
       let k = rw t.behind at whole.row in
       record { made = rw t.front (ap handled k); stays = tt; number_is = whole.number_is }
 
-  -- what is left on a secured link behind a frame
-  abbrev pub left_behind : SecureWire → Frame → ℕ → SecureWire
-  left_behind link f len = record { keys = keys_behind link.keys f; ahead = drop len link.ahead }
-
-  abbrev opening : List SealEntry → Row Own Stage → Turned Own Stage
-  opening opened row = Handles (with_opened opened row)
-
   -- a secure frame: the row is made on the link that holds what is left of the bytes, in the stage with the keys behind it
   secure_handled : (old new : SecureWire) (stage next : Stage) (f : Frame) (opened : List SealEntry) (rule : Arrival Own Stage → Frame → Keys → Row Own Stage)
       (made : Made) (row : NodeRow (Link Stage) Change) → TakesSecure old new f [] opened

@@ -3,7 +3,6 @@ pub mod Carrying
 pub mod Controls
 pub mod Handling
 pub mod Keeping
-pub mod Lifting
 pub mod MadeRows
 pub mod Rising
 pub mod Signing

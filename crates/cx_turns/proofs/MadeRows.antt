@@ -7,14 +7,12 @@ use Rattle.cx_journal.specs.declared.faults.BytesFault.{BytesFault}
 use Rattle.cx_journal.specs.declared.faults.LoginFault.TheVariants.{SignatureWrong}
 use Rattle.cx_journal.specs.declared.outcomes.Reason.{Reason}
 use Rattle.cx_journal.specs.declared.outcomes.Reason.TheVariants.{Bytes, Login}
-use Rattle.cx_link.specs.Sending.{secured_of}
-use Rattle.cx_link.specs.declared.links.Signing.{Signing}
 use Rattle.cx_node.specs.cx_rules.specs.Links.{Link}
 use Rattle.cx_node.specs.cx_rules.specs.Rows.{Arrival, Row, refuses, unless_refused, with_opened}
 use Rattle.cx_node.specs.cx_rules.specs.Secured.{Secured, is_signed}
 use Rattle.cx_steps.specs.declared.seals.SealEntry.{SealEntry}
 use Rattle.cx_turns.specs.Making.{IsRow, IsRowOf, Makes, entering, own_behind, row_due}
-use Rattle.cx_turns.specs.Signatures.{Checks, signature_refusal}
+use Rattle.cx_turns.specs.Signatures.{signature_refusal}
 use Rattle.cx_turns.specs.declared.rows.NoRow.{NoRow}
 use Rattle.cx_turns.specs.declared.rows.NoRow.TheVariants.{Refused, OutOfMemory}
 use Rattle.cx_turns.specs.declared.rows.NodeRow.{NodeRow}
@@ -79,23 +77,3 @@ module _ {Own Stage Change : Type 0} (abridged : Link Stage → Link Stage) (cha
       → signed_row a s read next ≡ next
   signature_right a s (Ok found) next e = found_right a next (is_signed s found.signature) e
   signature_right a s (Err why) next e = absurd (cc)
-
-  refusal_is : (x y : Reason) → (let some : Option Reason = Some x in some) ≡ Some y → x ≡ y
-  refusal_is x y e = cc
-
-  found_wrong : (a : Arrival Own Stage) (next : Row Own Stage) (why : Reason) (b : Bool)
-      → (let one : Option Reason = if b then None else Some (Login SignatureWrong) in one) ≡ Some why
-      → refuses a why [] ≡ (if b then next else refuses a (Login SignatureWrong) [])
-  found_wrong a next why true e = absurd (cc)
-  found_wrong a next why false e = ap (λ (w : Reason). refuses a w []) (sym (refusal_is (Login SignatureWrong) why e))
-
-  wrong_row : (a : Arrival Own Stage) (s : Secured) (read : Result AuthSignature BytesFault) (next : Row Own Stage) (why : Reason)
-      → signature_refusal s read ≡ Some why → refuses a why [] ≡ signed_row a s read next
-  wrong_row a s (Ok found) next why e = found_wrong a next why (is_signed s found.signature) e
-  wrong_row a s (Err fault) next why e = ap (λ (w : Reason). refuses a w []) (sym (refusal_is (Bytes fault) why e))
-
-  -- where it is refused, so is the link
-  pub signature_refused : (a : Arrival Own Stage) (signing : Signing) (read : Result AuthSignature BytesFault) (next : Row Own Stage) (no : NoRow)
-      → Checks signing read (Err no) → Makes abridged changed a (signed_row a (secured_of signing) read next) (Err no)
-  signature_refused a signing read next (Refused why) e = ap (row_due abridged) (wrong_row a (secured_of signing) read next why e)
-  signature_refused a signing read next OutOfMemory e = absurd e

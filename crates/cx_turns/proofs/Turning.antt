@@ -11,7 +11,7 @@ use Rattle.cx_steps.specs.declared.effects.Effects.{Effects}
 use Rattle.cx_steps.specs.declared.seals.SealEntry.{SealEntry}
 use Rattle.cx_turns.specs.Making.{own_behind, row_due}
 use Rattle.cx_turns.specs.Steps.{AreHeld, IsStep, IsTurn, node_of, turn_due, turn_made}
-use Rattle.cx_turns.specs.Turns.{HasNumber, IsSettled, Turning}
+use Rattle.cx_turns.specs.Turns.{IsSettled, Turning}
 use Rattle.cx_turns.specs.declared.came.Came.{Came}
 use Rattle.cx_turns.specs.declared.came.Came.TheVariants as came
 use Rattle.cx_turns.specs.declared.rows.NodeRow.{NodeRow}
@@ -114,10 +114,3 @@ module _ {Own Stage Change : Type 0} (abridged : Link Stage → Link Stage) (for
   turn_held is (Err e) h s l = without_held abridged forgets number all links h l
 
 -- ---- a turn that came to what it is to come to, on the link of its number
-
-pub turn_number : {Own Stage Change E : Type 0} (abridged : Link Stage → Link Stage) (changed : Own → Change → Own) (own : Own) (link : Link Stage) (due : Turned Own Stage)
-    (number : ℕ) (r : Result (Came (Link Stage) Change) E) → link.number ≡ number → IfOk r (IsTurn abridged changed own link due)
-    → IfOk r (HasNumber (λ (l : Link Stage). l.number) number)
-turn_number {Stage = Stage} abridged changed own link due number (Ok come) e t =
-    subst (λ (n : ℕ). HasNumber (λ (l : Link Stage). l.number) n come) e t.number_is
-turn_number abridged changed own link due number (Err error) e t = tt

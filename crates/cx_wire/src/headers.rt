@@ -1,12 +1,12 @@
 //! The header of a message, and the segments behind its body.
 
 ghost use Rattle.std.specs.Prelude.{◌≡◌, ◌++◌, ◌↔◌, [], IsOk, IfErr, OnOk};
-ghost use Rattle.cx_control.specs.Calls.{IsPartReadBy, IsWholePutBy};
+ghost use Rattle.cx_control.specs.Calls.{IsWholePutBy};
 ghost use Rattle.cx_control.specs.declared.refusals.WireRefusal.TheVariants.{Malformed};
 ghost use Rattle.cx_wire.specs.Headers.{header_layout, kept_header, written_header, rest_layout, written_rest, Fields};
 
 use cx_base::Blob;
-use cx_control::{WireRefusal, WritesWhole, put_payload_whole, read_payload_part};
+use cx_control::{WireRefusal, WritesWhole, put_payload_whole};
 use cx_enc::{Cut, ReadRefusal, ReadsPart, put_u16, put_u64};
 use std::alloc::{AllocError, Global};
 
@@ -83,13 +83,6 @@ fn put_rest(alloc: Global, into: &mut Blob) -> Result<(), AllocError>
             127, 0, 1, 0, 0, 0, 0, 0, 0, 0, 0, 0, 0, 0, 0, 0, 0, 0, 0, 1, 0, 0, 0,
         ],
     )
-}
-
-/// Reads the header of a message.
-pub fn read_header(alloc: Global, bytes: &[u8]) -> Result<Header, WireRefusal>
-    ensures { IsPartReadBy header_layout.form kept_header bytes.now result }
-{
-    read_payload_part(alloc, bytes)
 }
 
 /// Writes the header of a message behind some bytes.

@@ -19,7 +19,7 @@ pub use authorizers::{
 };
 pub use bodies::{Reply, Request, put_reply, put_request, read_reply, read_request};
 pub use cx_control::WireRefusal;
-pub use headers::{ANSWER, Header, OPERATION, REPLY, REQUEST, put_header, read_header, take_empty};
+pub use headers::{ANSWER, Header, OPERATION, REPLY, REQUEST, put_header, take_empty};
 pub use logins::{
     Authenticate, LoginDone, LoginHello, ServerChallenge, put_authenticate, put_login_done,
     put_login_hello, put_server_challenge, read_authenticate, read_login_done, read_login_hello,

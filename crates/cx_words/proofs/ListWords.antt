@@ -1,5 +1,5 @@
 -- Lists of services: what is read was spelled so, and what is spelled is read again.
-use Rattle.std.proofs.Common.{◌≡◌, ℕ, ◌+◌, ◌-◌, ◌<◌, ◌≤◌, Bool, true, false, cond, List, [], ◌∷◌, ◌++◌, take, drop, length, map, nat_le, Option, Some, None, IsTrue, IfSome, refl, sym, ap, ◌∙◌, arith, append_assoc, lit<, length-drop}
+use Rattle.std.proofs.Common.{◌≡◌, ℕ, ◌+◌, ◌-◌, ◌<◌, ◌≤◌, Bool, true, false, cond, List, [], ◌∷◌, ◌++◌, take, drop, length, map, nat_le, Option, Some, None, IsTrue, refl, sym, ap, ◌∙◌, arith, append_assoc, lit<, length-drop}
 use Rattle.std.specs.Prelude.{option_map, option_and_then}
 use Rattle.std.specs.List.{list_all, list_any, join_with_byte, position_from}
 use Rattle.std.proofs.lemmas.Bool.{and_parts, and_from, not-true}
@@ -137,11 +137,6 @@ services_of-word (kind ∷ kinds) h =
     ∙ ap (λ t. cond t None (Some (kind ∷ kinds))) once
 
 -- ---- what the readers of words say
-
-pub services_spelled : (word : List ℕ) (read : Option (List EntityType)) → read ≡ services_of word
-    → IfSome read (λ kinds. IsTrue (is_service_list kinds) × (word ≡ services_word kinds))
-services_spelled word None e = tt
-services_spelled word (Some kinds) e = services_of-is word kinds (sym e)
 
 moved : (found more : List EntityType) (kind : EntityType) (first : Option EntityType) (rest : Option (List EntityType))
     → Some kind ≡ first → more ≡ found ++ kind ∷ []

@@ -112,8 +112,3 @@ pub caps_spelled : (word : List ℕ) (read : Option (List ℕ)) → read ≡ cap
     → IfSome read (λ caps. IsTrue (is_caps caps) × (word ≡ quoted caps))
 caps_spelled word None e = tt
 caps_spelled word (Some caps) e = caps_of-is word caps (sym e)
-
-pub part_spelled : (word : List ℕ) (read : Option (List ℕ)) → read ≡ part_of word
-    → IfSome read (λ part. IsTrue (is_part part) × (word ≡ part_word part))
-part_spelled word None e = tt
-part_spelled word (Some part) e = part_of-is word part (sym e)

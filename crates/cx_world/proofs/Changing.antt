@@ -1,6 +1,5 @@
 -- A world whose links, or whose failing save or line, are changed.
-use Rattle.std.proofs.Common.{◌≡◌, ℕ, false, List, length, Option, Some, None, refl, arith}
-use Rattle.std.proofs.lemmas.Bool.Decides.{nat_tests}
+use Rattle.std.proofs.Common.{◌≡◌, ℕ, List, Option, refl}
 use Rattle.cx_desk.specs.Handlers.{Handlers}
 use Rattle.cx_line_words.specs.declared.choices.LeftState.{LeftState}
 use Rattle.cx_run_links.specs.cx_run.specs.Wires.{Wire}
@@ -14,13 +13,3 @@ module _ {handlers : Handlers} (b : Began handlers) (seen : Option ℕ) (held : 
 
   pub leaves : (left : Option LeftState) → (let h : Held = record held { left = left } in let v : World = record w { left = left } in Carries b seen h v)
   leaves left = record { nodes = k.nodes; led = k.led; wires = k.wires; left = refl; line = k.line; told = k.told; stirred = k.stirred }
-
-  pub at_line : (line : ℕ) → (let h : Held = record held { line = line } in let v : World = record w { line = line } in Carries b seen h v)
-  at_line line = record { nodes = k.nodes; led = k.led; wires = k.wires; left = k.left; line = refl; told = k.told; stirred = k.stirred }
-
-  pub unasked : Carries b None held w
-  unasked = record { nodes = k.nodes; led = k.led; wires = k.wires; left = k.left; line = k.line; told = k.told; stirred = tt }
-
-  -- from here on it is asked whether something happens
-  pub asked : (let h : Held = record held { stirred = false } in Carries b (Some (length w.past)) h w)
-  asked = record { nodes = k.nodes; led = k.led; wires = k.wires; left = k.left; line = k.line; told = k.told; stirred = (omega arith, grind (arith, nat_tests)) }

@@ -1,5 +1,5 @@
 -- How many lines do nothing, counted one by one.
-use Rattle.std.proofs.Common.{◌≡◌, ℕ, ◌+◌, ◌<◌, ◌≤◌, List, [], ◌∷◌, ◌++◌, length, get_or, take, None, refl, sym, subst, ap, ◌∙◌, arith}
+use Rattle.std.proofs.Common.{◌≡◌, ℕ, ◌+◌, ◌<◌, ◌≤◌, List, [], ◌∷◌, ◌++◌, length, get_or, take, None, sym, subst, ap, ◌∙◌, arith}
 use Rattle.std.proofs.lemmas.List.{take_all, take_more}
 use Rattle.cx_desk.specs.Handlers.{Handlers}
 use Rattle.cx_lines.specs.declared.lines.Numbered.{Numbered}
@@ -30,10 +30,6 @@ counted_more {handlers} old mid lines i line n more h e acts counts is =
     let there : more ≡ idle_at (after_lines w (take i lines)).wires line.line = is ∙ ap (λ (wires : List Wire). idle_at wires line.line) (acts b w k).wires in
     let first : n ≡ idle_among w (take i lines) = counts b w k in
     ap (λ (m : ℕ). m + more) first ∙ ap (λ (m : ℕ). idle_among w (take i lines) + m) there ∙ sym (idle_more w (take i lines) line) ∙ ap (idle_among w) (sym longer)
-
--- of none
-pub counted_none : (handlers : Handlers) (old : Held) (lines : List Numbered) → CountsIdle handlers old (take 0 lines) 0
-counted_none handlers old lines = λ (b : Began handlers) (w : World) (k : Carries b None old w). refl
 
 -- of all
 pub counted_all : {handlers : Handlers} (old : Held) (lines : List Numbered) (i n : ℕ) → length lines ≤ i → CountsIdle handlers old (take i lines) n → CountsIdle handlers old lines n

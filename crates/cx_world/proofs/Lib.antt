@@ -3,7 +3,6 @@ pub mod Carrying
 pub mod Changing
 pub mod Giving
 pub mod Idling
-pub mod Leaking
 pub mod Logging
 pub mod Making
 pub mod Quiet

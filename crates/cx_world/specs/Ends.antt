@@ -1,12 +1,11 @@
 -- The end of a link, as it is told of what comes.
-use Rattle.std.specs.Prelude.{ℕ, Bool, List, if◌then◌else◌}
+use Rattle.std.specs.Prelude.{ℕ, List, if◌then◌else◌}
 use Rattle.cx_base.specs.declared.nodes.NodeName.{NodeName}
 use Rattle.cx_line_words.specs.declared.choices.Side.{Side}
 use Rattle.cx_run_links.specs.cx_rules.specs.Inputs.{Gone}
 use Rattle.cx_run_links.specs.cx_run.specs.Deliveries.{arrives, tells}
-use Rattle.cx_run_links.specs.cx_run.specs.Wires.{Wire, end_of, gone_at, node_at, other}
+use Rattle.cx_run_links.specs.cx_run.specs.Wires.{Wire, end_of, node_at}
 use Rattle.cx_run_links.specs.cx_run.specs.Worlds.{World}
-use Rattle.cx_run_links.specs.Tables.{with_changed}
 use Rattle.cx_world.specs.declared.ends.LinkEnd.{LinkEnd}
 
 -- an end of a link as it is now
@@ -20,8 +19,3 @@ tells_end w end = if end.lives then tells w end.node (Gone end.number) else w
 -- bytes come to it, where it lives
 abbrev pub arrives_end : World → LinkEnd → List ℕ → World
 arrives_end w end bytes = if end.lives then arrives w end.node end.number bytes else w
-
--- where it is owed, that a side of the link of a number is gone arrives at its other end
-abbrev pub gone_arriving : Bool → ℕ → Side → LinkEnd → World → World
-gone_arriving owed number side far w =
-    if owed then tells_end (record w { wires = with_changed (λ wire. gone_at wire (other side)) number w.wires }) far else w

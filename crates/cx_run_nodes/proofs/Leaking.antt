@@ -1,2 +1,0 @@
--- Whom a schedule leaks.
-pub use Rattle.cx_run_head.proofs.Leaking.{schedule_leaks}
