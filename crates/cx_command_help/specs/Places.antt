@@ -1,25 +1,12 @@
 -- What the words behind that of a command are to spell, place by place.
-use Rattle.std.specs.Prelude.{ℕ, ◌==◌, Bool, nat_lt, codes, Option, Some, None, is_some, if◌then◌else◌}
-use Rattle.std.specs.Str.{bytes_eq}
+use Rattle.std.specs.Prelude.{ℕ, ◌==◌, Bool, nat_lt, Option, Some, None, is_some, if◌then◌else◌}
 use Rattle.cx_command_line.specs.Commands.{events, lifetime}
 use Rattle.cx_command_line.specs.Words.{Word, address, bounded, client_name, daemon_name, is_peer}
+use Rattle.cx_command_line.specs.declared.forms.Form.{Form}
+use Rattle.cx_command_line.specs.declared.forms.Form.TheVariants as form
 use Rattle.cx_words.specs.Words.{number_of}
-use Rattle.cx_command_help.specs.declared.places.Form.{Form}
-use Rattle.cx_command_help.specs.declared.places.Form.TheVariants as form
 use Rattle.cx_command_help.specs.declared.places.Place.{Place}
 use Rattle.cx_command_help.specs.declared.places.Place.TheVariants.{Clients, Seed, Events, Address, Lifetime, Daemon, Client, Peer}
-
--- the form of a command, by its word
-abbrev pub form_of : Word → Option Form
-form_of word =
-    if bytes_eq word (codes "replay") then Some form.Text
-    else if bytes_eq word (codes "keyring") then Some form.Text
-    else if bytes_eq word (codes "audit") then Some form.Text
-    else if bytes_eq word (codes "drill") then Some form.Drill
-    else if bytes_eq word (codes "mon") then Some form.Monitor
-    else if bytes_eq word (codes "daemon") then Some form.Daemon
-    else if bytes_eq word (codes "client") then Some form.Client
-    else None
 
 -- what stands at the place of this number, from 0, behind the word of the command; nothing where no word may stand
 abbrev pub drill_place : ℕ → Option Place
@@ -38,7 +25,9 @@ client_place n =
     if n == 0 then Some Client else if n == 1 then Some Events else if n == 2 then Some Address else Some Peer
 
 abbrev pub place_at : Form → ℕ → Option Place
-place_at form.Text n = None
+place_at form.Replay n = None
+place_at form.Keyring n = None
+place_at form.Audit n = None
 place_at form.Drill n = drill_place n
 place_at form.Monitor n = monitor_place n
 place_at form.Daemon n = daemon_place n
@@ -46,7 +35,9 @@ place_at form.Client n = client_place n
 
 -- how many words must stand there, where so many do: a monitor's lifetimes are two or none
 abbrev pub least_of : Form → ℕ → ℕ
-least_of form.Text n = 0
+least_of form.Replay n = 0
+least_of form.Keyring n = 0
+least_of form.Audit n = 0
 least_of form.Drill n = 2
 least_of form.Monitor n = if nat_lt 2 n then 4 else 2
 least_of form.Daemon n = 4

@@ -1,7 +1,10 @@
 -- What a user reads of a word of a command line that is wrong.
-use Rattle.std.specs.Prelude.{ℕ, List, codes}
+use Rattle.std.specs.Prelude.{ℕ, Bool, true, false, List, codes, if◌then◌else◌}
 use Rattle.std.specs.Fmt.{decimal}
 use Rattle.cx_base.specs.Joined.{◌<>◌}
+use Rattle.cx_command_line.specs.Forms.{commands_text, words_text}
+use Rattle.cx_command_line.specs.declared.forms.Form.{Form}
+use Rattle.cx_command_line.specs.declared.forms.Form.TheVariants as form
 use Rattle.cx_line_help.specs.Words.{word_text}
 use Rattle.cx_line_words.specs.Sights.{shown_of}
 use Rattle.cx_command_help.specs.declared.places.Place.{Place}
@@ -20,12 +23,28 @@ place_text Daemon = codes "a daemon's name: mds, osd or mgr, a point and an id, 
 place_text Client = codes "a client's name, as client.admin"
 place_text Peer = codes "a daemon's name with its address, as osd.0@127.0.0.1:6800"
 
+-- whether a command of this form reads a file, and has one word
+abbrev pub reads_a_file : Form → Bool
+reads_a_file form.Replay = true
+reads_a_file form.Keyring = true
+reads_a_file form.Audit = true
+reads_a_file form.Drill = false
+reads_a_file form.Monitor = false
+reads_a_file form.Daemon = false
+reads_a_file form.Client = false
+
+-- how a command of this form is to be written
+abbrev pub hint_text : Form → List ℕ
+hint_text form =
+    if reads_a_file form then codes "what a command reads is given by <, as in: cephx_cli " <> words_text form <> codes " < FILE"
+    else codes "its form is: cephx_cli " <> words_text form
+
 -- the word of this number, as it is shown
 abbrev pub shown_text : ℕ → List ℕ → List ℕ
 shown_text number word = codes "word " <> decimal number <> codes ", " <> word_text (shown_of word)
 
 abbrev pub why_text : ℕ → Why → List ℕ → List ℕ
-why_text number Unknown word = shown_text number word <> codes ", begins no command; those that are served are replay, keyring, audit, mon, daemon and client"
+why_text number Unknown word = shown_text number word <> codes ", begins no command; those that are served are " <> commands_text
 why_text number (Bad place) word = shown_text number word <> codes ", is wrong there; it is to be " <> place_text place
 why_text number (Missing place) word = codes "word " <> decimal number <> codes " is missing; it is to be " <> place_text place
-why_text number Extra word = shown_text number word <> codes ", is one too many; what a command reads is given by <, as in: cephx_cli replay < FILE"
+why_text number (Extra form) word = shown_text number word <> codes ", is one too many; " <> hint_text form

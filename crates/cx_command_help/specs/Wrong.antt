@@ -1,17 +1,21 @@
 -- Which word of a command line is wrong, and why.
 use Rattle.std.specs.Prelude.{ℕ, ◌+◌, nat_lt, List, [], ◌∷◌, length, Option, Some, None, if◌then◌else◌}
 use Rattle.std.specs.Borrow.{Bor}
+use Rattle.cx_command_line.specs.Forms.{form_of}
 use Rattle.cx_command_line.specs.Words.{Word}
-use Rattle.cx_command_help.specs.Places.{fits, form_of, least_of, place_at}
-use Rattle.cx_command_help.specs.declared.places.Form.{Form}
+use Rattle.cx_command_line.specs.declared.forms.Form.{Form}
+use Rattle.cx_command_help.specs.Places.{fits, least_of, place_at}
 use Rattle.cx_command_help.specs.declared.places.Place.{Place}
 use Rattle.cx_command_help.specs.declared.wrong.Why.TheVariants.{Unknown, Bad, Missing, Extra}
 use Rattle.cx_command_help.specs.declared.wrong.Wrong.{Wrong}
 
 -- the word of this number, from 0 behind that of the command; of all words it is the second or a later one
-abbrev pub wrong_at : Option Place → ℕ → Word → Option Wrong
-wrong_at None n word = Some (record { number = n + 2; why = Extra })
-wrong_at (Some place) n word = if fits place word then None else Some (record { number = n + 2; why = Bad place })
+abbrev pub wrong_there : Form → Option Place → ℕ → Word → Option Wrong
+wrong_there form None n word = Some (record { number = n + 2; why = Extra form })
+wrong_there form (Some place) n word = if fits place word then None else Some (record { number = n + 2; why = Bad place })
+
+abbrev pub wrong_at : Form → ℕ → Word → Option Wrong
+wrong_at form n word = wrong_there form (place_at form n) n word
 
 abbrev pub or_later : Option Wrong → Option Wrong → Option Wrong
 or_later (Some wrong) later = Some wrong
@@ -20,12 +24,12 @@ or_later None later = later
 -- the first of these, of which the first has this number
 abbrev pub wrong_from : Form → ℕ → List Word → Option Wrong
 wrong_from form n [] = None
-wrong_from form n (word ∷ words) = or_later (wrong_at (place_at form n) n word) (wrong_from form (n + 1) words)
+wrong_from form n (word ∷ words) = or_later (wrong_at form n word) (wrong_from form (n + 1) words)
 
 -- the same of words, wherever they lie
 abbrev pub wrong_seen : Form → ℕ → List (Bor Word) → Option Wrong
 wrong_seen form n [] = None
-wrong_seen form n (word ∷ words) = or_later (wrong_at (place_at form n) n word.now) (wrong_seen form (n + 1) words)
+wrong_seen form n (word ∷ words) = or_later (wrong_at form n word.now) (wrong_seen form (n + 1) words)
 
 abbrev pub missing_at : Option Place → ℕ → Option Wrong
 missing_at None n = None

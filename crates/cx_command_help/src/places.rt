@@ -1,23 +1,11 @@
 //! What the words behind that of a command are to spell, place by place.
 
 ghost use Rattle.std.specs.Prelude.{◌≡◌};
-ghost use Rattle.std.specs.Str.{bytes_eq};
 ghost use Rattle.cx_command_help.specs.declared.places.Place.{Place};
-ghost use Rattle.cx_command_help.specs.Places.{client_place, daemon_place, drill_place, fits, form_of, least_of, monitor_place, place_at};
+ghost use Rattle.cx_command_help.specs.Places.{client_place, daemon_place, drill_place, fits, least_of, monitor_place, place_at};
 
-use cx_command_line::{address, bounded, client_name, daemon_name, peer};
+use cx_command_line::{Form, address, bounded, client_name, daemon_name, peer};
 use cx_words::number;
-
-/// The form of a command.
-#[derive(Clone, Copy, Debug, PartialEq, Eq)]
-pub enum Form {
-    /// It has no words behind its own.
-    Text,
-    Drill,
-    Monitor,
-    Daemon,
-    Client,
-}
 
 /// What a word is to spell at its place.
 #[derive(Clone, Copy, Debug, PartialEq, Eq)]
@@ -40,46 +28,12 @@ pub enum Place {
     Peer,
 }
 
-/// The form of the command that begins with this word.
-pub(crate) fn form_of(word: &str) -> Option<Form>
-    ensures { result ≡ form_of word.now }
-{
-    if is_text(word, "replay") {
-        return Some(Form::Text);
-    }
-    if is_text(word, "keyring") {
-        return Some(Form::Text);
-    }
-    if is_text(word, "audit") {
-        return Some(Form::Text);
-    }
-    if is_text(word, "drill") {
-        return Some(Form::Drill);
-    }
-    if is_text(word, "mon") {
-        return Some(Form::Monitor);
-    }
-    if is_text(word, "daemon") {
-        return Some(Form::Daemon);
-    }
-    if is_text(word, "client") {
-        return Some(Form::Client);
-    }
-    None
-}
-
-fn is_text(word: &str, text: &str) -> bool
-    ensures { result ≡ bytes_eq word.now text.now }
-{
-    word.as_bytes() == text.as_bytes()
-}
-
 /// What stands at the place of this number, from 0, behind the word of a command of this form.
 pub(crate) fn place_at(form: Form, number: usize) -> Option<Place>
     ensures { result ≡ place_at form number }
 {
     match form {
-        Form::Text => None,
+        Form::Replay | Form::Keyring | Form::Audit => None,
         Form::Drill => drill_place(number),
         Form::Monitor => monitor_place(number),
         Form::Daemon => daemon_place(number),
@@ -149,7 +103,7 @@ pub(crate) fn least_of(form: Form, count: usize) -> usize
     ensures { result ≡ least_of form count }
 {
     match form {
-        Form::Text => 0,
+        Form::Replay | Form::Keyring | Form::Audit => 0,
         Form::Drill => 2,
         Form::Monitor => { if 2 < count { 4 } else { 2 } }
         Form::Daemon => 4,

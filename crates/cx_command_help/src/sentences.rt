@@ -1,10 +1,11 @@
 //! What a user reads of a word of a command line that is wrong.
 
 ghost use Rattle.std.specs.Prelude.{◌≡◌};
-ghost use Rattle.cx_command_help.specs.Sentences.{place_text};
+ghost use Rattle.cx_command_help.specs.Sentences.{place_text, reads_a_file};
 
 use crate::places::Place;
 use crate::wrong::{Why, Wrong};
+use cx_command_line::{Commands, Form};
 use cx_line_help::Word;
 use cx_line_words::shown_of;
 use std::fmt;
@@ -27,8 +28,8 @@ impl fmt::Display for WrongWords<'_> {
         match self.wrong.why {
             Why::Unknown => write!(
                 f,
-                "{}, begins no command; those that are served are replay, keyring, audit, mon, daemon and client",
-                shown
+                "{}, begins no command; those that are served are {}",
+                shown, Commands
             ),
             Why::Bad(place) => write!(
                 f,
@@ -42,11 +43,7 @@ impl fmt::Display for WrongWords<'_> {
                 self.wrong.number,
                 place_text(place)
             ),
-            Why::Extra => write!(
-                f,
-                "{}, is one too many; what a command reads is given by <, as in: cephx_cli replay < FILE",
-                shown
-            ),
+            Why::Extra(form) => write!(f, "{}, is one too many; {}", shown, Hint(form)),
         }
     }
 }
@@ -65,6 +62,35 @@ impl fmt::Display for Shown<'_> {
         let shown = shown_of(self.1.as_bytes());
         write!(f, "word {}, {}", self.0, Word(&shown))
     }
+}
+
+/// How a command of this form is to be written, behind whose words there is one too many.
+#[derive(Clone, Copy)]
+struct Hint(Form);
+
+impl fmt::Display for Hint {
+    ghost use Rattle.std.specs.Prelude.{Some};
+    ghost use Rattle.cx_command_help.specs.Sentences.{hint_text};
+
+    ghost output = { λ hint. Some (hint_text hint.0) };
+
+    fn fmt<W: fmt::Write>(&self, f: &mut fmt::Formatter<W>) -> fmt::Result {
+        if reads_a_file(self.0) {
+            return write!(
+                f,
+                "what a command reads is given by <, as in: cephx_cli {} < FILE",
+                self.0
+            );
+        }
+        write!(f, "its form is: cephx_cli {}", self.0)
+    }
+}
+
+// Whether a command of this form reads a file, and has one word.
+fn reads_a_file(form: Form) -> bool
+    ensures { result ≡ reads_a_file form }
+{
+    matches!(form, Form::Replay | Form::Keyring | Form::Audit)
 }
 
 fn place_text(place: Place) -> &'static str

@@ -4,7 +4,8 @@ ghost use Rattle.std.specs.Prelude.{◌≡◌, ◌<◌, ◌≤◌, length, map};
 ghost use Rattle.cx_command_help.specs.Places.{place_at};
 ghost use Rattle.cx_command_help.specs.Wrong.{missing, wrong_at, wrong_by, wrong_from, wrong_of, wrong_seen};
 
-use crate::places::{Form, Place, fits, form_of, least_of, place_at};
+use crate::places::{Place, fits, least_of, place_at};
+use cx_command_line::{Form, form_of};
 
 /// What is wrong with a word.
 #[derive(Clone, Copy, Debug, PartialEq, Eq)]
@@ -15,8 +16,8 @@ pub enum Why {
     Bad(Place),
     /// It isn't there.
     Missing(Place),
-    /// No word stands at its place.
-    Extra,
+    /// No word stands at its place in a command of this form.
+    Extra(Form),
 }
 
 /// A word of the command line that is wrong, by its number from 1.
@@ -64,7 +65,7 @@ fn wrong_seen(form: Form, values: &[&str]) -> Option<Wrong>
 {
     let mut number: usize = 0;
     for word in values {
-        let wrong = wrong_at(place_at(form, number), number, word);
+        let wrong = wrong_at(form, number, word);
         if wrong.is_some() {
             return wrong;
         }
@@ -73,14 +74,14 @@ fn wrong_seen(form: Form, values: &[&str]) -> Option<Wrong>
     None
 }
 
-fn wrong_at(place: Option<Place>, number: usize, word: &str) -> Option<Wrong>
+fn wrong_at(form: Form, number: usize, word: &str) -> Option<Wrong>
     requires { number < 4611686018427387904 }
-    ensures { result ≡ wrong_at place number word.now }
+    ensures { result ≡ wrong_at form number word.now }
 {
-    let Some(place) = place else {
+    let Some(place) = place_at(form, number) else {
         return Some(Wrong {
             number: number + 2,
-            why: Why::Extra,
+            why: Why::Extra(form),
         });
     };
     if fits(place, word) {

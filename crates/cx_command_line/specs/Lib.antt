@@ -1,2 +1,3 @@
 pub mod Commands
+pub mod Forms
 pub mod Words

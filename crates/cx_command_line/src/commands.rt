@@ -2,12 +2,12 @@
 
 ghost use Rattle.std.specs.Prelude.{◌≡◌, [], ◌∷◌, map, MatchOption};
 ghost use Rattle.std.specs.Option.{option_map};
-ghost use Rattle.std.specs.Str.{bytes_eq};
 ghost use Rattle.cx_command_line.specs.Commands as told;
 ghost use Rattle.cx_command_line.specs.Commands.{asked, asked_client, asked_daemon, spelled, spelled_by};
 ghost use Rattle.cx_command_line.specs.Words.{address, bounded};
 
 use crate::addresses::address;
+use crate::forms::{Form, is_text};
 use crate::names::{client_name, daemon_name};
 use crate::numbers::bounded;
 use crate::peers::are_peers;
@@ -92,34 +92,28 @@ fn first<'a>(words: &'a [&'a str]) -> Option<(&'a str, &'a [&'a str])>
 fn spelled_by<'a>(command: &str, values: &'a [&'a str]) -> Option<Invocation<'a>>
     ensures { option_map asked result ≡ spelled_by command.now (map (λ w. w.now) values.now) }
 {
-    if is_text(command, "replay") {
+    if is_text(command, Form::Replay.word()) {
         return alone(Invocation::Replay, values);
     }
-    if is_text(command, "keyring") {
+    if is_text(command, Form::Keyring.word()) {
         return alone(Invocation::Keyring, values);
     }
-    if is_text(command, "audit") {
+    if is_text(command, Form::Audit.word()) {
         return alone(Invocation::Audit, values);
     }
-    if is_text(command, "drill") {
+    if is_text(command, Form::Drill.word()) {
         return drill(values).map(|c| Invocation::Drill(c));
     }
-    if is_text(command, "mon") {
+    if is_text(command, Form::Monitor.word()) {
         return monitor(values).map(|c| Invocation::Monitor(c));
     }
-    if is_text(command, "daemon") {
+    if is_text(command, Form::Daemon.word()) {
         return daemon(values).map(|c| Invocation::Daemon(c));
     }
-    if is_text(command, "client") {
+    if is_text(command, Form::Client.word()) {
         return client(values).map(|c| Invocation::Client(c));
     }
     None
-}
-
-fn is_text(word: &str, text: &str) -> bool
-    ensures { result ≡ bytes_eq word.now text.now }
-{
-    word.as_bytes() == text.as_bytes()
 }
 
 fn alone<'a>(invocation: Invocation<'a>, values: &[&str]) -> Option<Invocation<'a>>

@@ -3,6 +3,7 @@
 
 mod addresses;
 mod commands;
+mod forms;
 mod names;
 mod numbers;
 mod peers;
@@ -13,6 +14,7 @@ pub use addresses::address;
 pub use commands::{
     ClientCommand, DaemonCommand, DrillCommand, Invocation, MonitorCommand, invocation_of,
 };
+pub use forms::{Commands, Form, Help, form_of};
 pub use names::{client_name, daemon_name};
 pub use numbers::bounded;
 pub use peers::peer;
@@ -24,4 +26,7 @@ fn is_sendable<T: Send + Sync>() {}
 fn all_are_sendable() {
     is_sendable::<Invocation<'static>>();
     is_sendable::<Misread>();
+    is_sendable::<Form>();
+    is_sendable::<Commands>();
+    is_sendable::<Help>();
 }

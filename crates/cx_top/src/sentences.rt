@@ -1,10 +1,8 @@
 //! What a user reads of each status: what was wrong, and what to try; and what is said of an input or a run besides.
 
-ghost use Rattle.std.specs.Prelude.{◌≡◌};
-ghost use Rattle.cx_top.specs.Sentences.{usage_text};
-
 use crate::status::Status;
 use cx_audit_help::WrongInJournal;
+use cx_command_line::Help;
 use cx_journal::{Broken, Premise};
 use cx_keyring_help::{Detail, WrongInKeyring};
 use cx_line_help::{LineSight, Word, Wrong};
@@ -22,7 +20,7 @@ impl fmt::Display for Status {
     fn fmt<W: fmt::Write>(&self, f: &mut fmt::Formatter<W>) -> fmt::Result {
         match self {
             Status::Done => Ok(()),
-            Status::Usage => write!(f, "{}", usage()),
+            Status::Usage => write!(f, "{}", Help),
             Status::BadSchedule { line, bad } => {
                 let sight = LineSight {
                     bad: *bad,
@@ -256,38 +254,4 @@ impl fmt::Display for Idle {
             self.0
         )
     }
-}
-
-fn usage() -> &'static str
-    ensures { result.now ≡ usage_text }
-{
-    "the commands are:
-
-  cephx_cli replay
-      reads a schedule from standard input, and writes the journal of its run to standard output, as in:
-      printf 'entity client.a\\nclock 1000\\nlogin client.a\\n' | cephx_cli replay
-      cephx_cli replay < examples/first_login.schedule
-
-  cephx_cli keyring
-      reads a keyring from standard input, and writes it to standard output in its printed form, as in:
-      cephx_cli keyring < /etc/ceph/ceph.client.admin.keyring
-      cephx_cli keyring < examples/keyrings/two_entities.keyring
-
-  cephx_cli audit
-      reads a journal from standard input, and writes whether it is legal, or which line breaks which rule first, as in:
-      cephx_cli audit < examples/first_login.journal
-
-  cephx_cli mon EVENTS LISTEN [LIFE AUTHLIFE]
-      runs the monitor of this folder, which has the file keyring, until so many events came, or as its script, from standard input, says:
-      cephx_cli mon 1000000 127.0.0.1:6789 < /dev/null
-
-  cephx_cli daemon NAME EVENTS LISTEN MON
-      runs a daemon of the keyring of this folder at an address, until so many events came, or as its script, from standard input, says:
-      printf 'fetch osd.0\\nstop\\n' | cephx_cli daemon osd.0 1000 127.0.0.1:6800 127.0.0.1:6789
-
-  cephx_cli client NAME EVENTS MON [PEER ..]
-      runs a client of the keyring of this folder, as its script, from standard input, says, and writes its journal to standard output:
-      printf 'login client.a osd\\nstop\\n' | cephx_cli client client.a 1000 127.0.0.1:6789
-
-docs/guide.md says what the lines of a schedule, of a script, of a journal and of a keyring mean"
 }
