@@ -1,1 +1,4 @@
+mod NodeEnds
+mod Spelled
 mod Words
+mod WrongWords

@@ -1,5 +1,5 @@
 -- What words spell that are a command's.
-use Rattle.std.proofs.Common.{ℕ, ◌≡◌, ◌≤◌, Bool, true, false, List, [], ◌∷◌, Option, Some, None, inl, inr, refl, sym, ap, ◌∙◌, subst, arith}
+use Rattle.std.proofs.Common.{ℕ, ◌≡◌, ◌≤◌, Bool, true, false, List, [], ◌∷◌, Option, Some, None, string_bytes, inl, inr, refl, sym, ◌∙◌, subst, arith}
 use Rattle.std.specs.Prelude.{◌&&◌, nat_le, if◌then◌else◌, codes, option_and_then, option_map}
 use Rattle.std.specs.Str.{bytes_eq}
 use Rattle.std.proofs.lemmas.Bool.Decides.{nat_tests}
@@ -11,34 +11,27 @@ use Rattle.cx_command_line.specs.declared.commands.DrillCommand.{DrillCommand}
 use Rattle.cx_command_line.specs.declared.commands.MonitorCommand.{MonitorCommand}
 use Rattle.cx_command_daemon.specs.cx_command_nodes.specs.Monitors.{IsMonitorCommand}
 use Rattle.cx_top.specs.Commands.{command_word}
+use Rattle.cx_top.specs.Statuses.{IsServed}
 use Rattle.cx_top.specs.declared.commands.Subcommand.{Subcommand}
 use Rattle.cx_top.specs.declared.program_end.ProgramEnd.{ProgramEnd}
-use Rattle.cx_top.specs.declared.commands.Subcommand.TheVariants as text
+use Rattle.cx_top.specs.declared.status.Status.TheVariants.{Broken, Done, OutOfMemory, Usage, WriteFault}
 use Rattle.cx_words.specs.Words.{number_of}
 use Rattle.cx_command_line.specs.declared.reading.Misread.{Misread}
 use Rattle.cx_command_line.specs.declared.reading.Misread.TheVariants as misread
 use Rattle.cx_desk.specs.Handlers.{Handlers}
 use Rattle.cx_journal.specs.declared.entries.Entry.{Entry}
 use Rattle.cx_loading.specs.declared.ends.NodeEnd.{NodeEnd}
+use Rattle.cx_commands.proofs.WrongWords.{unused}
+use Rattle.cx_commands.proofs.NodeEnds.{node_is_none, says_plain}
+use Rattle.cx_commands.proofs.Spelled.{asked_text, spelled_text, text_spelled}
 use Rattle.cx_commands.specs.Drills.{DrillAnswers, DrillEnds, IsDrillCommand}
-use Rattle.cx_commands.specs.Misread.{misread_status}
+use Rattle.cx_commands.specs.Lent.{Lent, Streams}
+use Rattle.cx_commands.specs.Misread.{IsMisreadTold, IsUnbegun, UsageAnswers, misread_status}
 use Rattle.cx_commands.specs.Nodes.{IsUnreadStatus, NodeAnswers}
-use Rattle.cx_commands.specs.Texts.{TextAnswers}
+use Rattle.cx_commands.specs.Texts.{TextAnswers, TextEnds}
 use Rattle.cx_commands.specs.declared.ends.CommandEnd.{CommandEnd}
 use Rattle.cx_commands.specs.declared.ends.CommandStatus.{CommandStatus}
 use Rattle.cx_commands.specs.declared.ends.CommandStatus.TheVariants.{Text}
-
--- ---- those that read a text
-
-abbrev pub asked_text : Subcommand → Asked
-asked_text text.Replay = Replay
-asked_text text.Keyring = Keyring
-asked_text text.Audit = Audit
-
-pub spelled_text : (command : Subcommand) (words : List Word) → words ≡ command_word command ∷ [] → spelled words ≡ Some (asked_text command)
-spelled_text text.Replay words is = ap spelled is
-spelled_text text.Keyring words is = ap spelled is
-spelled_text text.Audit words is = ap spelled is
 
 -- ---- the monitor's lives are within bounds
 
@@ -183,32 +176,72 @@ spelled_drill (command ∷ values) c is =
     by_tests false false false false false false true is = absurd (client_no_drill (client values) c is)
     by_tests false false false false false false false is = absurd (let no : None ≡ Some (Drill c) = is in cc)
 
--- the command that ran is the one that was asked for
-pub drill_ended : {O : Type 0} (taken after : Option (List ℕ)) (misses missed : ℕ) (handlers : Handlers) (ran command : DrillCommand) (out written : O) (result : CommandEnd)
-    (ended : ProgramEnd) → Drill ran ≡ Drill command → result.status ≡ Text ended.status → result.told ≡ ended.told
-    → DrillEnds handlers ran taken after misses missed out written ended → DrillAnswers handlers command taken after misses missed out written result
-drill_ended taken after misses missed handlers ran command out written result ended is status told ends =
-    let same : ran ≡ command = cc in inr (ended, status, told, subst (λ c. DrillEnds handlers c taken after misses missed out written ended) same ends)
+-- ---- words that aren't read, as those of each command
 
--- ---- words that aren't read
+-- memory was wanting
+unbegun : {I O K L C D : Type 0} (a : Streams I O) (v : Lent K L C D) (result : CommandEnd) → result.status ≡ Text OutOfMemory → string_bytes result.told ≡ [] → IsUnbegun a a v v result
+unbegun a v result status told = record { status = status; told = told; unread = refl; unwritten = refl; stood = refl }
 
-module _ (words : List Word) (left now taken after : Option (List ℕ)) (faults faulted misses missed : ℕ) where
-  -- as those of a command that reads a text: memory was wanting
-  pub misread_text : {O : Type 0} (handlers : Handlers) (command : Subcommand) (out : O) (why : Misread) (result : CommandEnd) → words ≡ command_word command ∷ []
-      → IsMisread words why → result.status ≡ Text (misread_status why) → TextAnswers handlers command left now taken after faults faulted misses missed out out result
-  misread_text handlers command out misread.OutOfMemory result is err status = inl (status, refl)
-  misread_text handlers command out misread.Usage result is err status =
+module _ {I O K L C D : Type 0} (words : List Word) (a : Streams I O) (v : Lent K L C D) where
+  pub misread_text : (handlers : Handlers) (command : Subcommand) (why : Misread) (result : CommandEnd) → words ≡ command_word command ∷ [] → IsMisread words why
+      → result.status ≡ Text (misread_status why) → IsMisreadTold words why (string_bytes result.told) → TextAnswers handlers command a a v v result
+  misread_text handlers command misread.OutOfMemory result is err status told = inl (unbegun a v result status told)
+  misread_text handlers command misread.Usage result is err status told =
       absurd (let no : None ≡ Some (asked_text command) = sym err ∙ spelled_text command words is in cc)
 
-  -- as those of a command that runs a node
-  pub misread_node : (Ends : List ℕ → NodeEnd → List Entry → Type 0) (asked : Asked) (why : Misread) (status : CommandStatus) → spelled words ≡ Some asked
-      → IsMisread words why → status ≡ Text (misread_status why) → NodeAnswers Ends left now taken after faults faulted misses missed status
-  misread_node Ends asked misread.OutOfMemory status is err ended = inr (subst (λ s. IsUnreadStatus left now faults faulted s) (sym ended) tt)
-  misread_node Ends asked misread.Usage status is err ended = absurd (let no : None ≡ Some asked = sym err ∙ is in cc)
+  pub misread_drill : (handlers : Handlers) (command : DrillCommand) (why : Misread) (result : CommandEnd) → spelled words ≡ Some (Drill command) → IsMisread words why
+      → result.status ≡ Text (misread_status why) → IsMisreadTold words why (string_bytes result.told) → DrillAnswers handlers command a a v v result
+  misread_drill handlers command misread.OutOfMemory result is err status told = inl (unbegun a v result status told)
+  misread_drill handlers command misread.Usage result is err status told = absurd (let no : None ≡ Some (Drill command) = sym err ∙ is in cc)
 
--- as those of a drill
-pub misread_drill : {O : Type 0} (words : List Word) (taken after : Option (List ℕ)) (misses missed : ℕ) (handlers : Handlers) (command : DrillCommand) (out : O) (why : Misread) (result : CommandEnd)
-    → spelled words ≡ Some (Drill command) → IsMisread words why → result.status ≡ Text (misread_status why)
-    → DrillAnswers handlers command taken after misses missed out out result
-misread_drill words taken after misses missed handlers command out misread.OutOfMemory result is err status = inl (status, refl)
-misread_drill words taken after misses missed handlers command out misread.Usage result is err status = absurd (let no : None ≡ Some (Drill command) = sym err ∙ is in cc)
+  pub misread_node : (Ran : List ℕ → NodeEnd → List Entry → Type 0) (asked : Asked) (why : Misread) (result : CommandEnd) → spelled words ≡ Some asked → IsMisread words why
+      → result.status ≡ Text (misread_status why) → IsMisreadTold words why (string_bytes result.told) → NodeAnswers Ran a a v v result
+  misread_node Ran asked misread.OutOfMemory result is err status told = record {
+    ends = inr (record { why = subst (λ (s : CommandStatus). IsUnreadStatus a.left a.left a.faults a.faults s) (sym status) tt; untaken = refl; stood = refl });
+    says = says_plain result told;
+  }
+  misread_node Ran asked misread.Usage result is err status told = absurd (let no : None ≡ Some asked = sym err ∙ is in cc)
+
+-- ---- words that are read: the status isn't that of wrong ones
+
+module _ {I O K L C D : Type 0} (words : List Word) (a b : Streams I O) (v w : Lent K L C D) (result : CommandEnd) where
+  pub text_usage : (handlers : Handlers) (command : Subcommand) (ended : ProgramEnd) → spelled words ≡ Some (asked_text command) → result.status ≡ Text ended.status
+      → ((c : Subcommand) → words ≡ command_word c ∷ [] → TextEnds handlers c a b ended) → UsageAnswers a b v w words result
+  text_usage handlers command ended is status ends =
+      unused words a b v w result (asked_text command) is (λ usage. (ends command (text_spelled command words is)).usage (let same : Text ended.status ≡ Text Usage = sym status ∙ usage in cc))
+
+  pub node_usage : (Ran : List ℕ → NodeEnd → List Entry → Type 0) (asked : Asked) → spelled words ≡ Some asked → NodeAnswers Ran a b v w result → UsageAnswers a b v w words result
+  node_usage Ran asked is answers = unused words a b v w result asked is (node_is_none Ran a b v w result answers)
+
+  -- a drill's is only where its output's count rose, and then nothing is written
+  pub drill_usage : (handlers : Handlers) (command : DrillCommand) (ended : ProgramEnd) → spelled words ≡ Some (Drill command) → result.status ≡ Text ended.status
+      → DrillEnds handlers command a.taken b.taken a.misses b.misses a.out b.out ended → b.input ≡ a.input → w ≡ v → UsageAnswers a b v w words result
+  drill_usage handlers command ended is status ends unread stood = record {
+    status = λ none. absurd (let no : None ≡ Some (Drill command) = sym none ∙ is in cc);
+    told = λ none. absurd (let no : None ≡ Some (Drill command) = sym none ∙ is in cc);
+    only = λ usage up. absurd (subst IsServed (ended_so usage) (ends.complete up));
+    unread = λ usage. unread;
+    unwritten = λ usage. ends.untouched
+        (λ done. let no : Usage ≡ Done = sym (ended_so usage) ∙ done in cc)
+        (λ broken. let no : Usage ≡ Broken = sym (ended_so usage) ∙ broken in cc)
+        (λ write. let no : Usage ≡ WriteFault = sym (ended_so usage) ∙ write in cc);
+    stood = λ usage. stood;
+  }
+    where
+      ended_so : result.status ≡ Text Usage → ended.status ≡ Usage
+      ended_so usage = let same : Text ended.status ≡ Text Usage = sym status ∙ usage in cc
+
+-- ---- the drill that ran is the one that was asked for
+
+pub drill_ended : {I O K L C D : Type 0} (handlers : Handlers) (a b : Streams I O) (v w : Lent K L C D) (result : CommandEnd) (ran command : DrillCommand) (ended : ProgramEnd) → Drill ran ≡ Drill command
+    → result.status ≡ Text ended.status → result.told ≡ ended.told → DrillEnds handlers ran a.taken b.taken a.misses b.misses a.out b.out ended → b.input ≡ a.input → w ≡ v
+    → DrillAnswers handlers command a b v w result
+drill_ended handlers a b v w result ran command ended is status told ends unread stood =
+    let same : ran ≡ command = cc in inr (record {
+      ended = ended;
+      status = status;
+      told = told;
+      ends = subst (λ (c : DrillCommand). DrillEnds handlers c a.taken b.taken a.misses b.misses a.out b.out ended) same ends;
+      unread = unread;
+      stood = stood;
+    })

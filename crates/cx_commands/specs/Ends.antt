@@ -1,11 +1,12 @@
 -- How the program ended, whichever command it ran.
-use Rattle.std.specs.Prelude.{ℕ, Bool, true, false, List, [], if◌then◌else◌}
+use Rattle.std.specs.Prelude.{ℕ, Bool, true, false, List, [], if◌then◌else◌, string_bytes}
 use Rattle.cx_loading.specs.Ends as node
 use Rattle.cx_loading.specs.declared.ends.NodeEnd.{NodeEnd}
 use Rattle.cx_loading.specs.declared.ends.NodeEnd.TheVariants as end
 use Rattle.cx_node_help.specs.Sentences.{end_text}
 use Rattle.cx_top.specs.Statuses as text
-use Rattle.cx_top.specs.Told.{line_told, status_told}
+use Rattle.cx_top.specs.Told.{line_told, or_told, status_told}
+use Rattle.cx_commands.specs.declared.ends.CommandEnd.{CommandEnd}
 use Rattle.cx_commands.specs.declared.ends.CommandStatus.{CommandStatus}
 use Rattle.cx_commands.specs.declared.ends.CommandStatus.TheVariants.{Text, Node}
 
@@ -26,3 +27,7 @@ is_node_done (end.Unloaded why) = false
 abbrev pub sentence_of : CommandStatus → List ℕ
 sentence_of (Text status) = status_told status
 sentence_of (Node end) = if is_node_done end then [] else line_told (end_text end)
+
+-- what is printed of an end: what is told, or else the sentence of its status
+abbrev pub printed : CommandEnd → List ℕ
+printed ended = or_told (string_bytes ended.told) (sentence_of ended.status)

@@ -1,5 +1,7 @@
 pub mod Drills
 pub mod Ends
+pub mod Lent
 pub mod Misread
+pub mod NodeRuns
 pub mod Nodes
 pub mod Texts

@@ -8,6 +8,9 @@ use Rattle.cx_loading.specs.declared.ends.NodeEnd.TheVariants as end
 use Rattle.cx_top.specs.Inputs.{IsPastLimit}
 use Rattle.cx_top.specs.Replays.{GaveAll}
 use Rattle.cx_top.specs.declared.status.Status.TheVariants.{ReadFault, TooLong, OutOfMemory, WriteFault}
+use Rattle.cx_commands.specs.Ends.{printed, sentence_of}
+use Rattle.cx_commands.specs.Lent.{Lent, Streams}
+use Rattle.cx_commands.specs.declared.ends.CommandEnd.{CommandEnd}
 use Rattle.cx_commands.specs.declared.ends.CommandStatus.{CommandStatus}
 use Rattle.cx_commands.specs.declared.ends.CommandStatus.TheVariants.{Text, Node}
 
@@ -20,12 +23,12 @@ unwritten end.Keeper = Node end.Keeper
 unwritten end.OutOfMemory = Node end.OutOfMemory
 unwritten (end.Unloaded why) = Node (end.Unloaded why)
 
--- what the node entered is written, or a front of it, or memory was wanting for its text
-abbrev pub IsAnswered : NodeEnd → List Entry → Option (List ℕ) → Option (List ℕ) → ℕ → ℕ → CommandStatus → Type 0
-IsAnswered ending entries taken after misses missed status =
+-- what the node entered is written, or a front of it; or memory was wanting for its text, and nothing is written
+abbrev pub IsAnswered : {O : Type 0} → NodeEnd → List Entry → Option (List ℕ) → Option (List ℕ) → ℕ → ℕ → O → O → CommandStatus → Type 0
+IsAnswered ending entries taken after misses missed out written status =
     ((status ≡ Node ending) × Takes taken after (journal_text entries))
     ⊎ ((status ≡ unwritten ending) × TakesFront taken after (journal_text entries) × Rose misses missed)
-    ⊎ (status ≡ Text OutOfMemory)
+    ⊎ ((status ≡ Text OutOfMemory) × (written ≡ out))
 
 -- why the script wasn't read: the input failed or is too long, or memory was wanting
 abbrev pub IsUnreadStatus : Option (List ℕ) → Option (List ℕ) → ℕ → ℕ → CommandStatus → Type 0
@@ -34,16 +37,23 @@ IsUnreadStatus left now faults faulted (Text TooLong) = IsPastLimit left now
 IsUnreadStatus left now faults faulted (Text OutOfMemory) = Unit {0}
 IsUnreadStatus left now faults faulted _ = ⊥
 
-module _ (Ends : List ℕ → NodeEnd → List Entry → Type 0) (left now taken after : Option (List ℕ)) (faults faulted misses missed : ℕ) where
-  -- its script was read to its end, the node ended so, and what it entered was written, or a front of it
-  pub record HasRun (status : CommandStatus) : Type 0 where
+module _ {I O K L C D : Type 0} (Ran : List ℕ → NodeEnd → List Entry → Type 0) (a b : Streams I O) (v w : Lent K L C D) (result : CommandEnd) where
+  -- its script was read to its end, the node ran so, and what it entered was written, or a front of it
+  pub record HasRun : Type 0 where
     pub bytes : List ℕ
-    pub read : GaveAll left now bytes
+    pub read : GaveAll a.left b.left bytes
     pub ending : NodeEnd
     pub entries : List Entry
-    pub ends : Ends bytes ending entries
-    pub answers : IsAnswered ending entries taken after misses missed status
+    pub ran : Ran bytes ending entries
+    pub answers : IsAnswered ending entries a.taken b.taken a.misses b.misses a.out b.out result.status
 
-  -- how it ended
-  abbrev pub NodeAnswers : CommandStatus → Type 0
-  NodeAnswers status = HasRun status ⊎ IsUnreadStatus left now faults faulted status
+  -- its script wasn't read, and nothing was written or done
+  pub record HasNotRun : Type 0 where
+    pub why : IsUnreadStatus a.left b.left a.faults b.faults result.status
+    pub untaken : b.out ≡ a.out
+    pub stood : w ≡ v
+
+  -- one of the two, and what is printed is the sentence of the status
+  pub record NodeAnswers : Type 0 where
+    pub ends : HasRun ⊎ HasNotRun
+    pub says : printed result ≡ sentence_of result.status

@@ -1,5 +1,5 @@
--- What the commands that read a text and write one answer: the clauses of `run` of cx_top, as one.
-use Rattle.std.specs.Prelude.{ℕ, ◌≡◌, ◌≢◌, ◌⊎◌, true, false, List, Option, string_bytes}
+-- What the commands answer that read a text and write one.
+use Rattle.std.specs.Prelude.{ℕ, ◌≡◌, ◌≢◌, ◌≤◌, ◌⊎◌, true, false, string_bytes}
 use Rattle.cx_base.specs.Streams.{Rose}
 use Rattle.cx_desk.specs.Handlers.{Handlers}
 use Rattle.cx_top.specs.Causes.{HasAnswer, HasReason, IsRefusedStatus}
@@ -8,25 +8,36 @@ use Rattle.cx_top.specs.Statuses.{IsOrMemory, IsServed}
 use Rattle.cx_top.specs.declared.commands.Subcommand.{Subcommand}
 use Rattle.cx_top.specs.declared.program_end.ProgramEnd.{ProgramEnd}
 use Rattle.cx_top.specs.declared.status.Status.{Status}
-use Rattle.cx_top.specs.declared.status.Status.TheVariants.{Done, Broken, OutOfMemory, ReadFault, WriteFault}
+use Rattle.cx_top.specs.declared.status.Status.TheVariants.{Done, Usage, Broken, ReadFault, WriteFault}
+use Rattle.cx_commands.specs.Lent.{Lent, Streams}
+use Rattle.cx_commands.specs.Misread.{IsUnbegun}
 use Rattle.cx_commands.specs.declared.ends.CommandEnd.{CommandEnd}
 use Rattle.cx_commands.specs.declared.ends.CommandStatus.TheVariants.{Text}
 
-pub record TextEnds {O : Type 0} (handlers : Handlers) (command : Subcommand) (left now taken after : Option (List ℕ)) (faults faulted misses missed : ℕ) (out written : O)
-    (ended : ProgramEnd) : Type 0 where
-  pub read : ended.status ≡ ReadFault → Rose faults faulted
-  pub refused : IsRefusedStatus command left now ended.status (string_bytes ended.told)
-  pub write : ended.status ≡ WriteFault → Rose misses missed
-  pub done : ended.status ≡ Done → Writes handlers command false left now taken after (string_bytes ended.told)
-  pub broken : ended.status ≡ Broken → Writes handlers command true left now taken after (string_bytes ended.told)
-  pub front : ended.status ≡ WriteFault → WritesFront handlers command left now taken after
-  pub untouched : ended.status ≢ Done → ended.status ≢ Broken → ended.status ≢ WriteFault → written ≡ out
-  pub complete : HasAnswer command left → ¬ Rose faults faulted → ¬ Rose misses missed → IsServed ended.status
-  pub exact : (why : Status) → HasReason command left why → ¬ Rose faults faulted → IsOrMemory why ended.status
+-- the clauses of `run` of cx_top, of the word of a command, as one
+pub record TextEnds {I O : Type 0} (handlers : Handlers) (command : Subcommand) (a b : Streams I O) (ended : ProgramEnd) : Type 0 where
+  pub usage : ended.status ≢ Usage
+  pub read : ended.status ≡ ReadFault → Rose a.faults b.faults
+  pub refused : IsRefusedStatus command a.left b.left ended.status (string_bytes ended.told)
+  pub write : ended.status ≡ WriteFault → Rose a.misses b.misses
+  pub done : ended.status ≡ Done → Writes handlers command false a.left b.left a.taken b.taken (string_bytes ended.told)
+  pub broken : ended.status ≡ Broken → Writes handlers command true a.left b.left a.taken b.taken (string_bytes ended.told)
+  pub front : ended.status ≡ WriteFault → WritesFront handlers command a.left b.left a.taken b.taken
+  pub untouched : ended.status ≢ Done → ended.status ≢ Broken → ended.status ≢ WriteFault → b.out ≡ a.out
+  pub complete : HasAnswer command a.left → ¬ Rose a.faults b.faults → ¬ Rose a.misses b.misses → IsServed ended.status
+  pub exact : (why : Status) → HasReason command a.left why → ¬ Rose a.faults b.faults → IsOrMemory why ended.status
+  pub reads : a.faults ≤ b.faults
+  pub writes : a.misses ≤ b.misses
 
--- how the program ended; or memory was wanting to read its words
-abbrev pub TextAnswers : {O : Type 0} → Handlers → Subcommand → Option (List ℕ) → Option (List ℕ) → Option (List ℕ) → Option (List ℕ) → ℕ → ℕ → ℕ → ℕ → O → O → CommandEnd → Type 0
-TextAnswers handlers command left now taken after faults faulted misses missed out written result =
-    ((result.status ≡ Text OutOfMemory) × (written ≡ out))
-    ⊎ ((ended : ProgramEnd) × (result.status ≡ Text ended.status) × (result.told ≡ ended.told)
-    × TextEnds handlers command left now taken after faults faulted misses missed out written ended)
+module _ {I O K L C D : Type 0} (handlers : Handlers) (command : Subcommand) (a b : Streams I O) (v w : Lent K L C D) (result : CommandEnd) where
+  -- it ended as that call did, and left keeper, links, clock and dice as they were
+  pub record HasAnswered : Type 0 where
+    pub ended : ProgramEnd
+    pub status : result.status ≡ Text ended.status
+    pub told : result.told ≡ ended.told
+    pub ends : TextEnds handlers command a b ended
+    pub stood : w ≡ v
+
+  -- it did so, or memory was wanting to read its words
+  abbrev pub TextAnswers : Type 0
+  TextAnswers = IsUnbegun a b v w result ⊎ HasAnswered

@@ -64,11 +64,10 @@ impl CommandEnd {
 
 /// The lines for standard error: those that are told, or else the sentence of the status.
 impl fmt::Display for CommandEnd {
-    ghost use Rattle.std.specs.Prelude.{Some, string_bytes};
-    ghost use Rattle.cx_top.specs.Told.{or_told};
-    ghost use Rattle.cx_commands.specs.Ends.{sentence_of};
+    ghost use Rattle.std.specs.Prelude.{Some};
+    ghost use Rattle.cx_commands.specs.Ends.{printed};
 
-    ghost output = { λ ended. Some (or_told (string_bytes ended.told) (sentence_of ended.status)) };
+    ghost output = { λ ended. Some (printed ended) };
 
     fn fmt<W: fmt::Write>(&self, f: &mut fmt::Formatter<W>) -> fmt::Result {
         match self.told.as_bytes() {

@@ -1,12 +1,12 @@
 //! The commands that run a node: the script is read before it, and what it entered is written behind it.
 
-ghost use Rattle.std.specs.Prelude.{◌≡◌, ◌≤◌};
-ghost use Rattle.cx_command_daemon.specs.cx_command_nodes.specs.Clients.{ClientEnds};
-ghost use Rattle.cx_command_daemon.specs.cx_command_nodes.specs.Monitors.{IsMonitorCommand, MonitorEnds};
+ghost use Rattle.std.specs.Prelude.{◌≡◌, ◌≤◌, [], string_bytes};
+ghost use Rattle.cx_command_daemon.specs.cx_command_nodes.specs.Monitors.{IsMonitorCommand};
 ghost use Rattle.cx_command_daemon.specs.cx_command_nodes.specs.Outside.{outside};
-ghost use Rattle.cx_command_daemon.specs.Daemons.{DaemonEnds};
 ghost use Rattle.cx_command_line.specs.Commands.{asked_client, asked_daemon};
 ghost use Rattle.cx_desk.specs.Held.{handlers_of};
+ghost use Rattle.cx_commands.specs.Lent.{lent, streams};
+ghost use Rattle.cx_commands.specs.NodeRuns.{ClientRun, DaemonRun, MonitorRun};
 ghost use Rattle.cx_commands.specs.Nodes.{IsAnswered, NodeAnswers, unwritten};
 
 use crate::ends::{CommandEnd, CommandStatus};
@@ -35,11 +35,15 @@ pub(crate) fn monitor<I: Source, O: Sink, K: Keeper, L: Links, C: Clock, D: Dice
     dice: &mut D,
 ) -> CommandEnd
     requires { IsMonitorCommand command.now }
-    ensures ends { NodeAnswers (λ bytes. MonitorEnds L.follows command.now bytes
+    ensures ends { NodeAnswers (MonitorRun L.follows (lent keeper.old links.old clock.old dice.old) (lent keeper.new links.new clock.new dice.new)
         (outside (K.kept keeper.old) (K.faults keeper.old) links.old (L.faults links.old) (L.misses links.old) (C.coming clock.old) (D.coming dice.old) (D.faults dice.old))
-        (outside (K.kept keeper.new) (K.faults keeper.new) links.new (L.faults links.new) (L.misses links.new) (C.coming clock.new) (D.coming dice.new) (D.faults dice.new)))
-        (I.left input.old) (I.left input.new) (O.taken out.old) (O.taken out.new) (I.faults input.old) (I.faults input.new) (O.faults out.old) (O.faults out.new)
-        result.status }
+        (outside (K.kept keeper.new) (K.faults keeper.new) links.new (L.faults links.new) (L.misses links.new) (C.coming clock.new) (D.coming dice.new) (D.faults dice.new))
+        command.now)
+        (streams input.old (I.left input.old) (I.faults input.old) out.old (O.taken out.old) (O.faults out.old))
+        (streams input.new (I.left input.new) (I.faults input.new) out.new (O.taken out.new) (O.faults out.new))
+        (lent keeper.old links.old clock.old dice.old) (lent keeper.new links.new clock.new dice.new) result }
+    ensures reads { I.faults input.old ≤ I.faults input.new }
+    ensures writes { O.faults out.old ≤ O.faults out.new }
 {
     let bytes = match read_all(alloc, input) {
         Ok(bytes) => bytes,
@@ -60,11 +64,15 @@ pub(crate) fn client<I: Source, O: Sink, K: Keeper, L: Links, C: Clock, D: Dice>
     clock: &mut C,
     dice: &mut D,
 ) -> CommandEnd
-    ensures ends { NodeAnswers (λ bytes. ClientEnds L.follows (asked_client command.now) bytes
+    ensures ends { NodeAnswers (ClientRun L.follows (lent keeper.old links.old clock.old dice.old) (lent keeper.new links.new clock.new dice.new)
         (outside (K.kept keeper.old) (K.faults keeper.old) links.old (L.faults links.old) (L.misses links.old) (C.coming clock.old) (D.coming dice.old) (D.faults dice.old))
-        (outside (K.kept keeper.new) (K.faults keeper.new) links.new (L.faults links.new) (L.misses links.new) (C.coming clock.new) (D.coming dice.new) (D.faults dice.new)))
-        (I.left input.old) (I.left input.new) (O.taken out.old) (O.taken out.new) (I.faults input.old) (I.faults input.new) (O.faults out.old) (O.faults out.new)
-        result.status }
+        (outside (K.kept keeper.new) (K.faults keeper.new) links.new (L.faults links.new) (L.misses links.new) (C.coming clock.new) (D.coming dice.new) (D.faults dice.new))
+        (asked_client command.now))
+        (streams input.old (I.left input.old) (I.faults input.old) out.old (O.taken out.old) (O.faults out.old))
+        (streams input.new (I.left input.new) (I.faults input.new) out.new (O.taken out.new) (O.faults out.new))
+        (lent keeper.old links.old clock.old dice.old) (lent keeper.new links.new clock.new dice.new) result }
+    ensures reads { I.faults input.old ≤ I.faults input.new }
+    ensures writes { O.faults out.old ≤ O.faults out.new }
 {
     let bytes = match read_all(alloc, input) {
         Ok(bytes) => bytes,
@@ -86,11 +94,15 @@ pub(crate) fn daemon<I: Source, O: Sink, K: Keeper, L: Links, C: Clock, D: Dice>
     dice: &mut D,
     desk: &Desk,
 ) -> CommandEnd
-    ensures ends { NodeAnswers (λ bytes. DaemonEnds L.follows (handlers_of desk.now) (asked_daemon command.now) bytes
+    ensures ends { NodeAnswers (DaemonRun L.follows (lent keeper.old links.old clock.old dice.old) (lent keeper.new links.new clock.new dice.new)
         (outside (K.kept keeper.old) (K.faults keeper.old) links.old (L.faults links.old) (L.misses links.old) (C.coming clock.old) (D.coming dice.old) (D.faults dice.old))
-        (outside (K.kept keeper.new) (K.faults keeper.new) links.new (L.faults links.new) (L.misses links.new) (C.coming clock.new) (D.coming dice.new) (D.faults dice.new)))
-        (I.left input.old) (I.left input.new) (O.taken out.old) (O.taken out.new) (I.faults input.old) (I.faults input.new) (O.faults out.old) (O.faults out.new)
-        result.status }
+        (outside (K.kept keeper.new) (K.faults keeper.new) links.new (L.faults links.new) (L.misses links.new) (C.coming clock.new) (D.coming dice.new) (D.faults dice.new))
+        (handlers_of desk.now) (asked_daemon command.now))
+        (streams input.old (I.left input.old) (I.faults input.old) out.old (O.taken out.old) (O.faults out.old))
+        (streams input.new (I.left input.new) (I.faults input.new) out.new (O.taken out.new) (O.faults out.new))
+        (lent keeper.old links.old clock.old dice.old) (lent keeper.new links.new clock.new dice.new) result }
+    ensures reads { I.faults input.old ≤ I.faults input.new }
+    ensures writes { O.faults out.old ≤ O.faults out.new }
 {
     let bytes = match read_all(alloc, input) {
         Ok(bytes) => bytes,
@@ -111,8 +123,9 @@ pub(crate) fn daemon<I: Source, O: Sink, K: Keeper, L: Links, C: Clock, D: Dice>
 
 // What the node entered is written.
 fn answers<O: Sink>(alloc: Global, report: NodeReport, out: &mut O) -> CommandEnd
-    ensures ends { IsAnswered report.end report.journal (O.taken out.old) (O.taken out.new) (O.faults out.old) (O.faults out.new) result.status }
-    ensures later { O.faults out.old ≤ O.faults out.new }
+    ensures ends { IsAnswered report.end report.journal (O.taken out.old) (O.taken out.new) (O.faults out.old) (O.faults out.new) out.old out.new result.status }
+    ensures told { string_bytes result.told ≡ [] }
+    ensures writes { O.faults out.old ≤ O.faults out.new }
 {
     let mut text = Blob::new(alloc);
     if put_text(alloc, &report.journal, &mut text).is_err() {

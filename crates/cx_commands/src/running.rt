@@ -1,22 +1,20 @@
 //! The top call.
 
-ghost use Rattle.std.specs.Prelude.{◌≡◌, [], ◌∷◌, map, None, Some};
+ghost use Rattle.std.specs.Prelude.{◌≡◌, ◌≤◌, [], ◌∷◌, map, Some};
 ghost use Rattle.cx_command_line.specs.Commands as asked;
-ghost use Rattle.cx_command_daemon.specs.Daemons.{DaemonEnds};
 ghost use Rattle.cx_command_line.specs.Commands.{AskedClient, AskedDaemon, spelled};
 ghost use Rattle.cx_command_line.specs.declared.commands.DrillCommand.{DrillCommand};
 ghost use Rattle.cx_command_line.specs.declared.commands.MonitorCommand.{MonitorCommand};
-ghost use Rattle.cx_command_daemon.specs.cx_command_nodes.specs.Clients.{ClientEnds};
-ghost use Rattle.cx_command_daemon.specs.cx_command_nodes.specs.Monitors.{MonitorEnds};
 ghost use Rattle.cx_command_daemon.specs.cx_command_nodes.specs.Outside.{outside};
 ghost use Rattle.cx_desk.specs.Held.{handlers_of};
 ghost use Rattle.cx_top.specs.Commands.{command_word};
 ghost use Rattle.cx_top.specs.declared.commands.Subcommand.{Subcommand};
-ghost use Rattle.cx_top.specs.declared.status.Status.TheVariants as text;
 ghost use Rattle.cx_commands.specs.Drills.{DrillAnswers};
+ghost use Rattle.cx_commands.specs.Lent.{lent, streams};
+ghost use Rattle.cx_commands.specs.Misread.{UsageAnswers};
+ghost use Rattle.cx_commands.specs.NodeRuns.{ClientRun, DaemonRun, MonitorRun};
 ghost use Rattle.cx_commands.specs.Nodes.{NodeAnswers};
 ghost use Rattle.cx_commands.specs.Texts.{TextAnswers};
-ghost use Rattle.cx_commands.specs.declared.ends.CommandStatus.TheVariants.{Text};
 
 use crate::drills::drill;
 use crate::ends::CommandEnd;
@@ -46,38 +44,52 @@ pub fn run<I: Source, O: Sink, K: Keeper, L: Links, C: Clock, D: Dice>(
     dice: &mut D,
     desk: &Desk,
 ) -> CommandEnd
-    // Words that spell no command, and no others, are wrong; nothing is done then.
-    ensures usage { spelled (map (λ w. w.now) words.now) ≡ None
-        → (result.status ≡ Text text.Usage) × (input.new ≡ input.old) × (out.new ≡ out.old) × (keeper.new ≡ keeper.old) × (links.new ≡ links.old)
-        × (clock.new ≡ clock.old) × (dice.new ≡ dice.old) }
+    // Words that spell no command, and no others, are wrong, and which of them is told; nothing is done then.
+    ensures usage { UsageAnswers
+        (streams input.old (I.left input.old) (I.faults input.old) out.old (O.taken out.old) (O.faults out.old))
+        (streams input.new (I.left input.new) (I.faults input.new) out.new (O.taken out.new) (O.faults out.new))
+        (lent keeper.old links.old clock.old dice.old) (lent keeper.new links.new clock.new dice.new) (map (λ w. w.now) words.now) result }
     // `replay`, `keyring` and `audit`.
     ensures texts { (command : Subcommand) → map (λ w. w.now) words.now ≡ command_word command ∷ []
-        → TextAnswers (handlers_of desk.now) command (I.left input.old) (I.left input.new) (O.taken out.old) (O.taken out.new)
-        (I.faults input.old) (I.faults input.new) (O.faults out.old) (O.faults out.new) out.old out.new result }
+        → TextAnswers (handlers_of desk.now) command
+        (streams input.old (I.left input.old) (I.faults input.old) out.old (O.taken out.old) (O.faults out.old))
+        (streams input.new (I.left input.new) (I.faults input.new) out.new (O.taken out.new) (O.faults out.new))
+        (lent keeper.old links.old clock.old dice.old) (lent keeper.new links.new clock.new dice.new) result }
     // `drill`.
     ensures drill { (command : DrillCommand) → spelled (map (λ w. w.now) words.now) ≡ Some (asked.Drill command)
-        → DrillAnswers (handlers_of desk.now) command (O.taken out.old) (O.taken out.new) (O.faults out.old) (O.faults out.new) out.old out.new result }
+        → DrillAnswers (handlers_of desk.now) command
+        (streams input.old (I.left input.old) (I.faults input.old) out.old (O.taken out.old) (O.faults out.old))
+        (streams input.new (I.left input.new) (I.faults input.new) out.new (O.taken out.new) (O.faults out.new))
+        (lent keeper.old links.old clock.old dice.old) (lent keeper.new links.new clock.new dice.new) result }
     // `mon`.
     ensures mon { (command : MonitorCommand) → spelled (map (λ w. w.now) words.now) ≡ Some (asked.Monitor command)
-        → NodeAnswers (λ bytes. MonitorEnds L.follows command bytes
+        → NodeAnswers (MonitorRun L.follows (lent keeper.old links.old clock.old dice.old) (lent keeper.new links.new clock.new dice.new)
         (outside (K.kept keeper.old) (K.faults keeper.old) links.old (L.faults links.old) (L.misses links.old) (C.coming clock.old) (D.coming dice.old) (D.faults dice.old))
-        (outside (K.kept keeper.new) (K.faults keeper.new) links.new (L.faults links.new) (L.misses links.new) (C.coming clock.new) (D.coming dice.new) (D.faults dice.new)))
-        (I.left input.old) (I.left input.new) (O.taken out.old) (O.taken out.new) (I.faults input.old) (I.faults input.new) (O.faults out.old) (O.faults out.new)
-        result.status }
+        (outside (K.kept keeper.new) (K.faults keeper.new) links.new (L.faults links.new) (L.misses links.new) (C.coming clock.new) (D.coming dice.new) (D.faults dice.new))
+        command)
+        (streams input.old (I.left input.old) (I.faults input.old) out.old (O.taken out.old) (O.faults out.old))
+        (streams input.new (I.left input.new) (I.faults input.new) out.new (O.taken out.new) (O.faults out.new))
+        (lent keeper.old links.old clock.old dice.old) (lent keeper.new links.new clock.new dice.new) result }
     // `daemon`.
     ensures daemon { (command : AskedDaemon) → spelled (map (λ w. w.now) words.now) ≡ Some (asked.Daemon command)
-        → NodeAnswers (λ bytes. DaemonEnds L.follows (handlers_of desk.now) command bytes
+        → NodeAnswers (DaemonRun L.follows (lent keeper.old links.old clock.old dice.old) (lent keeper.new links.new clock.new dice.new)
         (outside (K.kept keeper.old) (K.faults keeper.old) links.old (L.faults links.old) (L.misses links.old) (C.coming clock.old) (D.coming dice.old) (D.faults dice.old))
-        (outside (K.kept keeper.new) (K.faults keeper.new) links.new (L.faults links.new) (L.misses links.new) (C.coming clock.new) (D.coming dice.new) (D.faults dice.new)))
-        (I.left input.old) (I.left input.new) (O.taken out.old) (O.taken out.new) (I.faults input.old) (I.faults input.new) (O.faults out.old) (O.faults out.new)
-        result.status }
+        (outside (K.kept keeper.new) (K.faults keeper.new) links.new (L.faults links.new) (L.misses links.new) (C.coming clock.new) (D.coming dice.new) (D.faults dice.new))
+        (handlers_of desk.now) command)
+        (streams input.old (I.left input.old) (I.faults input.old) out.old (O.taken out.old) (O.faults out.old))
+        (streams input.new (I.left input.new) (I.faults input.new) out.new (O.taken out.new) (O.faults out.new))
+        (lent keeper.old links.old clock.old dice.old) (lent keeper.new links.new clock.new dice.new) result }
     // `client`.
     ensures client { (command : AskedClient) → spelled (map (λ w. w.now) words.now) ≡ Some (asked.Client command)
-        → NodeAnswers (λ bytes. ClientEnds L.follows command bytes
+        → NodeAnswers (ClientRun L.follows (lent keeper.old links.old clock.old dice.old) (lent keeper.new links.new clock.new dice.new)
         (outside (K.kept keeper.old) (K.faults keeper.old) links.old (L.faults links.old) (L.misses links.old) (C.coming clock.old) (D.coming dice.old) (D.faults dice.old))
-        (outside (K.kept keeper.new) (K.faults keeper.new) links.new (L.faults links.new) (L.misses links.new) (C.coming clock.new) (D.coming dice.new) (D.faults dice.new)))
-        (I.left input.old) (I.left input.new) (O.taken out.old) (O.taken out.new) (I.faults input.old) (I.faults input.new) (O.faults out.old) (O.faults out.new)
-        result.status }
+        (outside (K.kept keeper.new) (K.faults keeper.new) links.new (L.faults links.new) (L.misses links.new) (C.coming clock.new) (D.coming dice.new) (D.faults dice.new))
+        command)
+        (streams input.old (I.left input.old) (I.faults input.old) out.old (O.taken out.old) (O.faults out.old))
+        (streams input.new (I.left input.new) (I.faults input.new) out.new (O.taken out.new) (O.faults out.new))
+        (lent keeper.old links.old clock.old dice.old) (lent keeper.new links.new clock.new dice.new) result }
+    // No count of faults falls.
+    ensures counts { (I.faults input.old ≤ I.faults input.new) × (O.faults out.old ≤ O.faults out.new) }
 {
     match read(alloc, words) {
         Ok(invocation) => invoked(
@@ -101,29 +113,45 @@ fn invoked<I: Source, O: Sink, K: Keeper, L: Links, C: Clock, D: Dice>(
     desk: &Desk,
 ) -> CommandEnd
     requires { spelled (map (λ w. w.now) words.now) ≡ Some (asked.asked invocation) }
+    ensures usage { UsageAnswers
+        (streams input.old (I.left input.old) (I.faults input.old) out.old (O.taken out.old) (O.faults out.old))
+        (streams input.new (I.left input.new) (I.faults input.new) out.new (O.taken out.new) (O.faults out.new))
+        (lent keeper.old links.old clock.old dice.old) (lent keeper.new links.new clock.new dice.new) (map (λ w. w.now) words.now) result }
     ensures texts { (command : Subcommand) → map (λ w. w.now) words.now ≡ command_word command ∷ []
-        → TextAnswers (handlers_of desk.now) command (I.left input.old) (I.left input.new) (O.taken out.old) (O.taken out.new)
-        (I.faults input.old) (I.faults input.new) (O.faults out.old) (O.faults out.new) out.old out.new result }
+        → TextAnswers (handlers_of desk.now) command
+        (streams input.old (I.left input.old) (I.faults input.old) out.old (O.taken out.old) (O.faults out.old))
+        (streams input.new (I.left input.new) (I.faults input.new) out.new (O.taken out.new) (O.faults out.new))
+        (lent keeper.old links.old clock.old dice.old) (lent keeper.new links.new clock.new dice.new) result }
     ensures drill { (command : DrillCommand) → asked.asked invocation.entry ≡ asked.Drill command
-        → DrillAnswers (handlers_of desk.now) command (O.taken out.old) (O.taken out.new) (O.faults out.old) (O.faults out.new) out.old out.new result }
+        → DrillAnswers (handlers_of desk.now) command
+        (streams input.old (I.left input.old) (I.faults input.old) out.old (O.taken out.old) (O.faults out.old))
+        (streams input.new (I.left input.new) (I.faults input.new) out.new (O.taken out.new) (O.faults out.new))
+        (lent keeper.old links.old clock.old dice.old) (lent keeper.new links.new clock.new dice.new) result }
     ensures mon { (command : MonitorCommand) → asked.asked invocation.entry ≡ asked.Monitor command
-        → NodeAnswers (λ bytes. MonitorEnds L.follows command bytes
+        → NodeAnswers (MonitorRun L.follows (lent keeper.old links.old clock.old dice.old) (lent keeper.new links.new clock.new dice.new)
         (outside (K.kept keeper.old) (K.faults keeper.old) links.old (L.faults links.old) (L.misses links.old) (C.coming clock.old) (D.coming dice.old) (D.faults dice.old))
-        (outside (K.kept keeper.new) (K.faults keeper.new) links.new (L.faults links.new) (L.misses links.new) (C.coming clock.new) (D.coming dice.new) (D.faults dice.new)))
-        (I.left input.old) (I.left input.new) (O.taken out.old) (O.taken out.new) (I.faults input.old) (I.faults input.new) (O.faults out.old) (O.faults out.new)
-        result.status }
+        (outside (K.kept keeper.new) (K.faults keeper.new) links.new (L.faults links.new) (L.misses links.new) (C.coming clock.new) (D.coming dice.new) (D.faults dice.new))
+        command)
+        (streams input.old (I.left input.old) (I.faults input.old) out.old (O.taken out.old) (O.faults out.old))
+        (streams input.new (I.left input.new) (I.faults input.new) out.new (O.taken out.new) (O.faults out.new))
+        (lent keeper.old links.old clock.old dice.old) (lent keeper.new links.new clock.new dice.new) result }
     ensures daemon { (command : AskedDaemon) → asked.asked invocation.entry ≡ asked.Daemon command
-        → NodeAnswers (λ bytes. DaemonEnds L.follows (handlers_of desk.now) command bytes
+        → NodeAnswers (DaemonRun L.follows (lent keeper.old links.old clock.old dice.old) (lent keeper.new links.new clock.new dice.new)
         (outside (K.kept keeper.old) (K.faults keeper.old) links.old (L.faults links.old) (L.misses links.old) (C.coming clock.old) (D.coming dice.old) (D.faults dice.old))
-        (outside (K.kept keeper.new) (K.faults keeper.new) links.new (L.faults links.new) (L.misses links.new) (C.coming clock.new) (D.coming dice.new) (D.faults dice.new)))
-        (I.left input.old) (I.left input.new) (O.taken out.old) (O.taken out.new) (I.faults input.old) (I.faults input.new) (O.faults out.old) (O.faults out.new)
-        result.status }
+        (outside (K.kept keeper.new) (K.faults keeper.new) links.new (L.faults links.new) (L.misses links.new) (C.coming clock.new) (D.coming dice.new) (D.faults dice.new))
+        (handlers_of desk.now) command)
+        (streams input.old (I.left input.old) (I.faults input.old) out.old (O.taken out.old) (O.faults out.old))
+        (streams input.new (I.left input.new) (I.faults input.new) out.new (O.taken out.new) (O.faults out.new))
+        (lent keeper.old links.old clock.old dice.old) (lent keeper.new links.new clock.new dice.new) result }
     ensures client { (command : AskedClient) → asked.asked invocation.entry ≡ asked.Client command
-        → NodeAnswers (λ bytes. ClientEnds L.follows command bytes
+        → NodeAnswers (ClientRun L.follows (lent keeper.old links.old clock.old dice.old) (lent keeper.new links.new clock.new dice.new)
         (outside (K.kept keeper.old) (K.faults keeper.old) links.old (L.faults links.old) (L.misses links.old) (C.coming clock.old) (D.coming dice.old) (D.faults dice.old))
-        (outside (K.kept keeper.new) (K.faults keeper.new) links.new (L.faults links.new) (L.misses links.new) (C.coming clock.new) (D.coming dice.new) (D.faults dice.new)))
-        (I.left input.old) (I.left input.new) (O.taken out.old) (O.taken out.new) (I.faults input.old) (I.faults input.new) (O.faults out.old) (O.faults out.new)
-        result.status }
+        (outside (K.kept keeper.new) (K.faults keeper.new) links.new (L.faults links.new) (L.misses links.new) (C.coming clock.new) (D.coming dice.new) (D.faults dice.new))
+        command)
+        (streams input.old (I.left input.old) (I.faults input.old) out.old (O.taken out.old) (O.faults out.old))
+        (streams input.new (I.left input.new) (I.faults input.new) out.new (O.taken out.new) (O.faults out.new))
+        (lent keeper.old links.old clock.old dice.old) (lent keeper.new links.new clock.new dice.new) result }
+    ensures counts { (I.faults input.old ≤ I.faults input.new) × (O.faults out.old ≤ O.faults out.new) }
 {
     match invocation {
         Invocation::Replay => CommandEnd::of_text(text(alloc, words, input, out, desk)),
