@@ -1,1 +1,4 @@
+pub mod Dials
+pub mod Limits
+pub mod Loads
 pub mod Serving

@@ -10,8 +10,8 @@ use std::time::SystemTime;
 // The last reading that a clock may give: a nanosecond below 4,000,000,000 s.
 const LAST: u64 = 3_999_999_999_999_999_999;
 
-/// The system's clock: nanoseconds since 1970. It reads 0 before 1970 and where the system doesn't tell, and the last reading that a
-/// clock may give from the year 2096 on.
+/// The system's clock: nanoseconds since 1970. It gives the last reading that a clock may give from the year 2096 on, before 1970 and
+/// where the system doesn't tell: at that reading no ticket is good any more.
 #[derive(Drop)]
 pub struct SystemClock<R> {
     rt: R,
@@ -31,10 +31,10 @@ impl<R: time::Clock> Clock for SystemClock<R> {
 
     fn read(&mut self) -> Reading {
         let Ok(now) = SystemTime::now(&self.rt) else {
-            return 0;
+            return LAST;
         };
         let Ok(since) = now.duration_since(SystemTime::UNIX_EPOCH) else {
-            return 0;
+            return LAST;
         };
         u64::try_from(since.as_nanos()).unwrap_or(LAST).min(LAST)
     }

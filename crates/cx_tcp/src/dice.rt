@@ -1,15 +1,21 @@
 //! The system's random bytes.
 
+ghost use Rattle.std.specs.Prelude.{◌≤◌};
+ghost use Rattle.cx_base.specs.Streams.{Rose};
+
 use cx_base::Failed;
 use cx_dice::{Dice, Draw};
-use std::alloc::{AllocError, Global};
+use std::alloc::Global;
+use std::io;
+use std::io::Eprint;
 use std::random::RandomSource;
 
 // How many bytes are taken from the system at once: 16 draws. A call of the system for each draw would cost more than the rest of
 // a step.
 const POOL: usize = 6_144;
 
-/// Dice over the system's random bytes. Each byte is given once, and overwritten when it is given.
+/// Dice over the system's random bytes. Each byte is given once, and overwritten when it is given. Why a call fails is printed on
+/// standard error: what the system refused, or that memory is wanting.
 #[derive(Drop)]
 pub struct SystemDice<R> {
     alloc: Global,
@@ -32,7 +38,18 @@ impl<R> SystemDice<R> {
     }
 }
 
-impl<R: RandomSource> Dice for SystemDice<R> {
+impl<R: RandomSource + Eprint> SystemDice<R> {
+    // A draw that can't be made, which is told and counted.
+    fn failed(&mut self, error: &io::Error) -> Failed
+        ensures { (self.old.faults ≤ self.new.faults) × Rose self.old.faults self.new.faults }
+    {
+        let _ = eprintln!(self.rt; "cephx_cli: random bytes: {error}");
+        self.faults = self.faults.saturating_add(1);
+        Failed
+    }
+}
+
+impl<R: RandomSource + Eprint> Dice for SystemDice<R> {
     ghost use Rattle.std.specs.Prelude.{None};
 
     ghost coming = { λ _. None };
@@ -46,10 +63,9 @@ impl<R: RandomSource> Dice for SystemDice<R> {
             .get(self.place..self.place.saturating_add(384))
             .is_none()
         {
-            if self.rt.fill_bytes(&mut self.pool).is_err() {
+            if let Err(error) = self.rt.fill_bytes(&mut self.pool) {
                 self.pool.fill(0);
-                self.faults = self.faults.saturating_add(1);
-                return Err(Failed);
+                return Err(self.failed(&error));
             }
             self.place = 0;
         }
@@ -64,10 +80,7 @@ impl<R: RandomSource> Dice for SystemDice<R> {
         self.place = self.place.saturating_add(384);
         match Draw::of(self.alloc, bytes) {
             Ok(draw) => Ok(draw),
-            Err(AllocError) => {
-                self.faults = self.faults.saturating_add(1);
-                Err(Failed)
-            }
+            Err(error) => Err(self.failed(&io::Error::from(error))),
         }
     }
 }

@@ -2,6 +2,7 @@
 
 ghost use Rattle.std.specs.Prelude.{◌≡◌, ◌≤◌, length, IfOk};
 
+use crate::limits::others_write;
 use cx_base::{Blob, Failed};
 use cx_keep::{KeepError, Keeper, Slot};
 use std::alloc::Global;
@@ -14,13 +15,17 @@ use std::{fs, io};
 const MOST: u64 = 16 << 20;
 
 /// The folder in which the program runs, with the files `keyring` and `state`. A monitor holds it alone: whoever loads the state
-/// locks the folder until it ends, and another load of it fails. A state is written to `state.new` beside the old one, with rights
-/// for its owner alone, brought to the disk and then renamed, so that a stop at any time leaves the old one or the new one. What
-/// the system refuses is printed on standard error.
+/// locks the folder until it ends, and another load of it fails. A state is written to `state.new` beside the old one, a new file
+/// with rights for its owner alone, brought to the disk and then renamed, so that a stop at any time leaves the old one or the new
+/// one. One that is loaded is brought to the disk first. What others may write, file or folder, isn't loaded.
+///
+/// From the first load on the folder is held open, and beside it a spare file, which is given up where a save needs one: so no save
+/// fails because links have taken all files that the process may open. What the system refuses is printed on standard error.
 #[derive(Drop)]
 pub struct FolderKeeper<R> {
     rt: R,
     folder: Option<File>,
+    spare: Option<File>,
     faults: u64,
 }
 
@@ -30,6 +35,7 @@ impl<R> FolderKeeper<R> {
         FolderKeeper {
             rt,
             folder: None,
+            spare: None,
             faults: 0,
         }
     }
@@ -50,12 +56,13 @@ impl<R: Files<File = File> + Eprint> Keeper for FolderKeeper<R> {
 
     ghost faults = { λ k. k.faults };
 
-    /// A file that isn't there is nothing kept. One of over 16 MiB isn't loaded.
+    /// A file that isn't there is nothing kept. One of over 16 MiB isn't loaded, nor one that others may write.
     fn load(&mut self, alloc: Global, slot: Slot) -> Result<Option<Blob>, KeepError> {
-        let loaded = hold(&self.rt, &mut self.folder, slot).and_then(|()| read(
-            &self.rt, alloc, slot,
-        ));
-        match loaded {
+        let held = hold(&self.rt, &mut self.folder, slot);
+        if self.spare.is_none() {
+            self.spare = fs::open(&self.rt, ".").ok();
+        }
+        match held.and_then(|()| read(&self.rt, alloc, slot)) {
             Ok(bytes) => Ok(bytes),
             Err(error) if error.kind() == ErrorKind::OutOfMemory => Err(KeepError::OutOfMemory),
             Err(error) => {
@@ -67,7 +74,10 @@ impl<R: Files<File = File> + Eprint> Keeper for FolderKeeper<R> {
     }
 
     fn save(&mut self, slot: Slot, bytes: &[u8]) -> Result<(), Failed> {
-        match replace(&self.rt, &mut self.folder, slot, bytes) {
+        self.spare = None;
+        let saved = replace(&self.rt, &mut self.folder, slot, bytes);
+        self.spare = fs::open(&self.rt, ".").ok();
+        match saved {
             Ok(()) => Ok(()),
             Err(error) => {
                 tell(&self.rt, name_of(slot), &error);
@@ -78,13 +88,20 @@ impl<R: Files<File = File> + Eprint> Keeper for FolderKeeper<R> {
     }
 }
 
-// Opens the folder where that wasn't done yet. Whoever loads the state locks it.
+// Opens the folder where that wasn't done yet. Whoever loads the state locks it, and brings to the disk which files it has.
 fn hold<R: Files<File = File>>(rt: &R, folder: &mut Option<File>, slot: Slot) -> io::Result<()> {
     if folder.is_none() {
-        *folder = Some(fs::open(rt, ".")?);
+        let opened = fs::open(rt, ".")?;
+        if others_write(opened.metadata()?.mode()) {
+            return Err(io::Error::other("others may write this folder: chmod go-w ."));
+        }
+        *folder = Some(opened);
     }
     match (slot, folder) {
-        (Slot::State, Some(held)) => lock(held),
+        (Slot::State, Some(held)) => {
+            lock(held)?;
+            held.sync_all()
+        }
         _ => Ok(()),
     }
 }
@@ -114,9 +131,15 @@ fn read<R: Files<File = File> + Eprint>(
     if told.len() > MOST {
         return Err(io::Error::other("more than 16 MiB"));
     }
+    if others_write(told.mode()) {
+        return Err(io::Error::other("others may write this file: chmod 600"));
+    }
     if told.mode() % 0o100 != 0 {
         let name = name_of(slot);
         let _ = eprintln!(rt; "cephx_cli: {name}: others may read this file: chmod 600 {name}");
+    }
+    if slot == Slot::State {
+        file.sync_all()?;
     }
     whole(&mut file, alloc)
 }
@@ -163,16 +186,33 @@ fn replace<R: Files<File = File>>(
         Slot::Keyring => ("keyring", "keyring.new"),
         Slot::State => ("state", "state.new"),
     };
-    let mut options = OpenOptions::new();
-    options.write(true).create(true).truncate(true).mode(0o600);
-    let mut file = options.open(rt, fresh)?;
-    file.write_all(bytes)?;
-    file.sync_all()?;
+    write_new(rt, fresh, bytes)?;
     fs::rename(rt, fresh, name)?;
     hold(rt, folder, Slot::Keyring)?;
     match folder {
         Some(held) => held.sync_all(),
         None => Ok(()),
+    }
+}
+
+// Brings the bytes to the disk in a new file of this name.
+fn write_new<R: Files<File = File>>(rt: &R, name: &str, bytes: &[u8]) -> io::Result<()> {
+    let mut file = create(rt, name)?;
+    file.write_all(bytes)?;
+    file.sync_all()
+}
+
+// A new file that its owner alone may read and write. What has this name, a link or what a stop left there, is removed and not
+// opened.
+fn create<R: Files<File = File>>(rt: &R, name: &str) -> io::Result<File> {
+    let mut options = OpenOptions::new();
+    options.write(true).create_new(true).mode(0o600);
+    match options.open(rt, name) {
+        Err(error) if error.kind() == ErrorKind::AlreadyExists => {
+            fs::remove_file(rt, name)?;
+            options.open(rt, name)
+        }
+        opened => opened,
     }
 }
 

@@ -1,10 +1,14 @@
 //! What lies outside of a node, of the system's: sockets, a folder, the time and random bytes.
 #![tactic(auto)]
 
+mod arrivals;
 mod clock;
+mod dials;
 mod dice;
 mod folder;
+mod limits;
 mod links;
+mod sending;
 mod socket;
 mod table;
 

@@ -10,13 +10,18 @@ use std::alloc::{AllocError, Global};
 use std::io;
 use std::io::Eprint;
 use std::net::Net;
+use std::random::RandomSource;
 use std::time::Clock;
 
-/// Links over TCP, at most 2,048 at a time, with a wait of 50 ms for what comes next, or, where the node
-/// listens nowhere, of 1 ms at first, doubled up to 50. Links are served in turn. A peer that was
-/// accepted and says nothing for 10 s is gone, and so is one for which more than 4 MiB wait. A link that is shut still sends what
-/// waits, for at most 2 s. While all places are taken nothing is accepted, and peers wait with the system. What the system refuses
-/// is printed on standard error, and at which address the node listens.
+/// Links over TCP, at most 2,048 at a time and 32 fewer than the process may open files, with a wait of 50 ms for what comes next, or,
+/// where the node listens nowhere, of 1 ms at first, doubled up to 50. Links are served in turn.
+///
+/// A dial to an address to which the last one failed waits: the link is opened at once and takes what is sent, the connect is made
+/// when it is due, and where it fails the link is gone. A peer that was accepted and sent no whole banner for 10 s is gone; where
+/// 1,024 links stand, or all places are taken, the one that stands longest goes for a newcomer. So does one for which more than
+/// 4 MiB wait, and, where more than 256 MiB wait in all, that for which the most do. A link that is shut still sends what waits, for
+/// at most 2 s. While all places are taken nothing is accepted, and peers wait with the system. What the system refuses is printed on
+/// standard error, and at which address the node listens.
 #[derive(Drop)]
 pub struct TcpLinks<R> {
     table: Table<R>,
@@ -24,7 +29,7 @@ pub struct TcpLinks<R> {
     misses: u64,
 }
 
-impl<R: Net + Eprint + Clock + Drop> TcpLinks<R> {
+impl<R: Net + Eprint + Clock + RandomSource + Drop> TcpLinks<R> {
     /// No links yet.
     pub fn new(alloc: Global, rt: R) -> Result<TcpLinks<R>, AllocError> {
         Ok(TcpLinks {
@@ -59,7 +64,7 @@ impl<R: Net + Eprint + Clock + Drop> TcpLinks<R> {
     }
 }
 
-impl<R: Net + Eprint + Clock + Drop> Links for TcpLinks<R> {
+impl<R: Net + Eprint + Clock + RandomSource + Drop> Links for TcpLinks<R> {
     ghost follows = { λ _ _ _. Unit {0} };
 
     ghost stays = { λ _. tt };

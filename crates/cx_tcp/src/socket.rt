@@ -4,10 +4,10 @@ ghost use Rattle.std.specs.Prelude.{◌≡◌, ◌≤◌, length, IfOk};
 ghost use Rattle.cx_tcp.specs.Serving.{IsServedWithin};
 
 use bytes::{Buf, BytesMut};
-use cx_base::Failed;
+use cx_base::Addr;
 use mio::event::Event;
 use mio::net::TcpStream;
-use std::alloc::Global;
+use std::alloc::{AllocError, Global};
 use std::io;
 use std::io::{ErrorKind, Read, Write};
 use std::net::Shutdown;
@@ -16,19 +16,26 @@ use std::time::{Duration, Instant};
 // The most bytes that wait for a peer that doesn't read.
 const MOST: usize = 4 << 20;
 
-// How many seconds a peer may say nothing after it was accepted, and how many a link may take to end.
-const SILENCE: u64 = 10;
+// How many bytes a banner has. A peer of which fewer came is a stranger.
+const BANNER: usize = 26;
+
+// How many seconds a stranger may stay after it was accepted, how many a connect may take, and how many the end of a link.
+const STRANGE: u64 = 10;
+
+const CONNECTING: u64 = 30;
 
 const CLOSING: u64 = 2;
 
-/// How far a link is: the system hasn't said yet whether its connect goes well; it was accepted and nothing came yet; it is open; the
-/// node shut it.
+/// How far a link is: its dial still waits; the system hasn't said yet whether its connect goes well; it was accepted, and no whole
+/// banner came yet; it is open; the node shut it; it was given up, which the node hasn't heard yet.
 #[derive(Clone, Copy, PartialEq, Eq)]
 pub enum Stage {
+    Waiting,
     Connecting,
-    Silent,
+    Strange,
     Open,
     Closing,
+    Lost,
 }
 
 /// What is there on a link: nothing, so many bytes, or its end.
@@ -39,36 +46,110 @@ pub enum Served {
     Ended,
 }
 
-/// A link: its stream and number, how far it is and since when, whether the system told that it may be read or written, and what
-/// waits to be sent.
+/// Why bytes aren't sent: the link has ended, too many wait for a peer that doesn't read, or memory is wanting.
+#[derive(Clone, Copy, PartialEq, Eq)]
+pub enum Unsent {
+    Ended,
+    Full,
+    OutOfMemory,
+}
+
+impl From<AllocError> for Unsent {
+    fn from(_error: AllocError) -> Unsent {
+        Unsent::OutOfMemory
+    }
+}
+
+/// A link: its stream, which one whose dial waits hasn't yet, its number, the address to which the node opened it, how far it is
+/// and since when (of a dial that waits: until when), how many bytes came, whether the system told that it may be read or
+/// written, and what waits to be sent.
 #[derive(Drop)]
 pub struct Socket {
-    stream: TcpStream,
+    stream: Option<TcpStream>,
     pub number: u32,
+    pub to: Option<Addr>,
     stage: Stage,
-    since: Instant,
+    pub since: Instant,
+    heard: usize,
     may_read: bool,
     may_write: bool,
     waiting: BytesMut,
 }
 
 impl Socket {
-    pub fn new(
+    /// A link that a peer opened.
+    pub fn accepted(alloc: Global, stream: TcpStream, number: u32, now: Instant) -> Socket {
+        Socket::new(alloc, Some(stream), number, None, Stage::Strange, now)
+    }
+
+    /// A link that the node opens, of which the connect is under way.
+    pub fn dialled(
         alloc: Global,
         stream: TcpStream,
         number: u32,
+        to: Addr,
+        now: Instant,
+    ) -> Socket {
+        Socket::new(
+            alloc,
+            Some(stream),
+            number,
+            Some(to),
+            Stage::Connecting,
+            now,
+        )
+    }
+
+    /// A link that the node opens, and that is to be dialled at this time.
+    pub fn postponed(alloc: Global, number: u32, to: Addr, due: Instant) -> Socket {
+        Socket::new(alloc, None, number, Some(to), Stage::Waiting, due)
+    }
+
+    fn new(
+        alloc: Global,
+        stream: Option<TcpStream>,
+        number: u32,
+        to: Option<Addr>,
         stage: Stage,
         since: Instant,
     ) -> Socket {
         Socket {
             stream,
             number,
+            to,
             stage,
             since,
+            heard: 0,
             may_read: false,
             may_write: false,
             waiting: BytesMut::new(alloc),
         }
+    }
+
+    /// The connect of a link that was to be dialled is under way.
+    pub fn connects(&mut self, stream: TcpStream, now: Instant) {
+        self.stream = Some(stream);
+        self.stage = Stage::Connecting;
+        self.since = now;
+    }
+
+    /// Where it is to be dialled now: to which address.
+    pub fn due(&self, now: Instant) -> Option<Addr> {
+        if self.stage == Stage::Waiting && self.since <= now {
+            self.to
+        } else {
+            None
+        }
+    }
+
+    /// The address to which the node opened it, where no byte came from there.
+    pub fn unanswered(&self) -> Option<Addr> {
+        if self.heard == 0 { self.to } else { None }
+    }
+
+    /// Whether a peer opened it and no whole banner came yet.
+    pub fn is_stranger(&self) -> bool {
+        self.stage == Stage::Strange
     }
 
     pub fn is_closing(&self) -> bool {
@@ -76,7 +157,7 @@ impl Socket {
     }
 
     pub fn is_connected(&self) -> bool {
-        self.stage != Stage::Connecting
+        matches!(self.stage, Stage::Strange | Stage::Open | Stage::Closing)
     }
 
     /// Whether bytes wait to be sent.
@@ -84,13 +165,21 @@ impl Socket {
         !self.waiting.is_empty()
     }
 
-    /// Whether nothing came of a link that was accepted long ago, or it was shut long ago.
+    /// How many bytes wait to be sent.
+    pub fn load(&self) -> usize
+        ensures { result ≡ length self.now.waiting.items }
+    {
+        self.waiting.len()
+    }
+
+    /// Whether no whole banner came of a link that was accepted long ago, its connect takes too long, or it was shut long ago.
     pub fn is_overdue(&self, now: Instant) -> bool {
         let age = now.duration_since(self.since);
         match self.stage {
-            Stage::Silent => age >= Duration::from_secs(SILENCE),
+            Stage::Strange => age >= Duration::from_secs(STRANGE),
+            Stage::Connecting => age >= Duration::from_secs(CONNECTING),
             Stage::Closing => age >= Duration::from_secs(CLOSING),
-            Stage::Connecting | Stage::Open => false,
+            Stage::Waiting | Stage::Open | Stage::Lost => false,
         }
     }
 
@@ -111,13 +200,16 @@ impl Socket {
         ensures bound { IsServedWithin (length into.old) result }
         ensures room { length into.new ≡ length into.old }
     {
+        if self.stage == Stage::Lost {
+            return Served::Ended;
+        }
         if self.may_write {
             self.may_write = false;
             if self.go_on().is_err() {
                 return Served::Ended;
             }
         }
-        if !self.may_read || self.stage == Stage::Connecting {
+        if !self.may_read || !self.is_connected() {
             return Served::Nothing;
         }
         self.read(into)
@@ -128,12 +220,13 @@ impl Socket {
         ensures bound { IsServedWithin (length into.old) result }
         ensures room { length into.new ≡ length into.old }
     {
-        match self.stream.read(into) {
+        let Some(stream) = &mut self.stream else {
+            return Served::Nothing;
+        };
+        match stream.read(into) {
             Ok(0) => Served::Ended,
             Ok(count) => {
-                if self.stage == Stage::Silent {
-                    self.stage = Stage::Open;
-                }
+                self.hears(count);
                 Served::Bytes(count)
             }
             Err(error) if error.kind() == ErrorKind::WouldBlock => {
@@ -145,13 +238,24 @@ impl Socket {
         }
     }
 
+    // So many bytes came. A peer of which a whole banner came is no stranger any more.
+    fn hears(&mut self, count: usize) {
+        self.heard = self.heard.saturating_add(count);
+        if self.stage == Stage::Strange && self.heard >= BANNER {
+            self.stage = Stage::Open;
+        }
+    }
+
     // At a writable edge: a connect that was under way has gone well or not, and what waits is sent on.
     fn go_on(&mut self) -> io::Result<()> {
+        let Some(stream) = &self.stream else {
+            return Ok(());
+        };
         if self.stage == Stage::Connecting {
-            if let Some(error) = self.stream.take_error()? {
+            if let Some(error) = stream.take_error()? {
                 return Err(error);
             }
-            match self.stream.peer_addr() {
+            match stream.peer_addr() {
                 Ok(_) => self.stage = Stage::Open,
                 Err(error) if error.kind() == ErrorKind::NotConnected => return Ok(()),
                 Err(error) => return Err(error),
@@ -161,16 +265,28 @@ impl Socket {
     }
 
     /// Sends what goes at once, and keeps the rest until the peer reads on. Beyond 4 MiB that wait it fails.
-    pub fn send(&mut self, bytes: &[u8]) -> Result<(), Failed> {
+    pub fn send(&mut self, bytes: &[u8]) -> Result<(), Unsent> {
+        if self.stage == Stage::Lost {
+            return Err(Unsent::Ended);
+        }
         let mut sent = 0;
         if self.is_connected() && !self.waits() {
-            sent = write_front(&mut self.stream, bytes).map_err(|_| Failed)?;
+            sent = self.write(bytes)?;
         }
-        let rest = &bytes[sent..];
+        let rest = bytes.get(sent..).unwrap_or(&[]);
         if rest.len() > MOST.saturating_sub(self.waiting.len()) {
-            return Err(Failed);
+            return Err(Unsent::Full);
         }
-        self.waiting.extend_from_slice(rest).map_err(|_| Failed)
+        self.waiting.extend_from_slice(rest)?;
+        Ok(())
+    }
+
+    // Writes of these bytes what the system takes, and answers how many that are.
+    fn write(&mut self, bytes: &[u8]) -> Result<usize, Unsent> {
+        match &mut self.stream {
+            Some(stream) => write_front(stream, bytes).map_err(|_| Unsent::Ended),
+            None => Ok(0),
+        }
     }
 
     /// Sends on of what waits. Where the link was shut and nothing waits any more, the peer is told of the end.
@@ -178,10 +294,13 @@ impl Socket {
         if !self.is_connected() {
             return Ok(());
         }
-        let sent = write_front(&mut self.stream, &self.waiting)?;
+        let Some(stream) = &mut self.stream else {
+            return Ok(());
+        };
+        let sent = write_front(stream, &self.waiting)?;
         self.waiting.advance(sent);
-        if self.is_closing() && !self.waits() {
-            return self.stream.shutdown(Shutdown::Write);
+        if self.stage == Stage::Closing && self.waiting.is_empty() {
+            return stream.shutdown(Shutdown::Write);
         }
         Ok(())
     }
@@ -192,6 +311,13 @@ impl Socket {
         self.since = now;
         self.may_read = true;
         self.may_write = true;
+    }
+
+    /// The system closes the link at once, and what waits is dropped. The node hears of its end at the next look.
+    pub fn give_up(&mut self, alloc: Global) {
+        self.stream = None;
+        self.stage = Stage::Lost;
+        self.waiting = BytesMut::new(alloc);
     }
 }
 

@@ -3,53 +3,58 @@
 ghost use Rattle.std.specs.Prelude.{ℕ, ◌≡◌, ◌<◌, length, IfOk, IfSome};
 ghost use Rattle.cx_links.specs.Events.{IsWithin};
 
-use crate::socket::{Served, Socket, Stage};
-use cx_base::{Addr, Failed};
+use crate::dials::Dials;
+use crate::limits;
+use crate::socket::{Served, Socket};
+use cx_base::Addr;
 use cx_links::LinkEvent;
 use mio::net::{TcpListener, TcpStream};
 use mio::{Events, Interest, Poll, Token};
 use std::alloc::{AllocError, Global};
 use std::io;
-use std::io::{Eprint, ErrorKind};
+use std::io::Eprint;
 use std::net::{Ipv4Addr, Net, SocketAddr};
+use std::random::RandomSource;
 use std::time::{Clock, Duration, Instant};
-
-// How many links there may be at a time.
-const MOST: usize = 2_048;
 
 // How many pieces of news are taken from the system at once.
 const NEWS: usize = 256;
 
-// The place of the listener, behind those of the links. A token is a place.
-const LISTENER: usize = MOST;
+/// The place of the listener, behind those of the links. A token is a place.
+pub const LISTENER: usize = limits::MOST;
 
-// How many milliseconds are waited for news. A node that listens nowhere begins with fewer and doubles them, since it goes on by its
-// orders where nothing comes.
-const WAIT: u64 = 50;
+/// How many milliseconds are waited for news. A node that listens nowhere begins with fewer and doubles them, since it goes on by its
+/// orders where nothing comes.
+pub const WAIT: u64 = 50;
 
 const FIRST_WAIT: u64 = 1;
 
 // How many milliseconds lie between two looks for links that are overdue.
 const SWEEP: u64 = 250;
 
-/// All links of a node by their places, of which there are as many as there ever were links at a time, and the listener. The place at
-/// which the last look ended goes round.
+/// All links of a node by their places, of which there are as many as there ever were links at a time, and at most `most`; the
+/// listener, and a peer that came and for which a stranger went. The place at which the last look ended goes round.
 #[derive(Drop)]
 pub struct Table<R> {
-    rt: R,
-    alloc: Global,
+    pub rt: R,
+    pub alloc: Global,
     poll: Option<Poll>,
     news: Events,
-    listener: Option<TcpListener>,
-    may_accept: bool,
-    places: Vec<Option<Socket>>,
+    pub listener: Option<TcpListener>,
+    pub may_accept: bool,
+    pub newcomer: Option<TcpStream>,
+    pub places: Vec<Option<Socket>>,
+    pub most: usize,
+    pub is_limit_told: bool,
+    dials: Dials,
+    dropped: u64,
     last_number: u32,
     place: usize,
     wait: u64,
     swept: Option<Instant>,
 }
 
-impl<R: Net + Eprint + Clock + Drop> Table<R> {
+impl<R: Net + Eprint + Clock + RandomSource + Drop> Table<R> {
     pub fn new(alloc: Global, rt: R) -> Result<Table<R>, AllocError> {
         Ok(Table {
             rt,
@@ -58,7 +63,12 @@ impl<R: Net + Eprint + Clock + Drop> Table<R> {
             news: Events::with_capacity(alloc, NEWS)?,
             listener: None,
             may_accept: false,
-            places: Vec::with_capacity(alloc, MOST)?,
+            newcomer: None,
+            places: Vec::with_capacity(alloc, limits::MOST)?,
+            most: limits::places_within(limits::most_files()),
+            is_limit_told: false,
+            dials: Dials::new(alloc)?,
+            dropped: 0,
             last_number: 0,
             place: 0,
             wait: FIRST_WAIT,
@@ -71,21 +81,56 @@ impl<R: Net + Eprint + Clock + Drop> Table<R> {
         let _ = eprintln!(self.rt; "cephx_cli: {what}: {error}");
     }
 
-    pub fn listen(&mut self, at: &Addr) -> io::Result<()> {
-        let address = address_of(at);
-        let mut listener = TcpListener::bind(&self.rt, address)?;
-        let poll = self.poll()?;
-        poll.registry()
-            .register(&mut listener, Token(LISTENER), Interest::READABLE)?;
-        self.listener = Some(listener);
-        self.may_accept = true;
-        let _ = eprintln!(self.rt; "cephx_cli: listens on {address}");
-        Ok(())
+    /// A link couldn't be kept, and was closed. That is counted, and said of the first one and whenever there are twice as many.
+    pub fn drops(&mut self, error: &io::Error) {
+        self.dropped = self.dropped.saturating_add(1);
+        if self.dropped.is_power_of_two() {
+            let count = self.dropped;
+            let _ = eprintln!(self.rt;
+                "cephx_cli: links: {count} so far could not be kept: {error}"
+            );
+        }
     }
 
+    /// Opens a link: it is dialled now, or, where the last dial to this address failed, when the next one is due.
     pub fn open(&mut self, to: &Addr) -> io::Result<u32> {
-        let stream = TcpStream::connect(&self.rt, address_of(to))?;
-        self.add(stream, Stage::Connecting)
+        let now = Instant::now(&self.rt)?;
+        match self.dials.due(to) {
+            Some(due) if now < due => {
+                let (place, number) = self.free_place()?;
+                self.put(place, Socket::postponed(self.alloc, number, *to, due))
+            }
+            _ => self.dial(to, now),
+        }
+    }
+
+    fn dial(&mut self, to: &Addr, now: Instant) -> io::Result<u32> {
+        let (place, number) = self.free_place()?;
+        let stream = self.connect(place, to, now)?;
+        self.put(place, Socket::dialled(self.alloc, stream, number, *to, now))
+    }
+
+    // A connect to this address, of a link at this place.
+    fn connect(&mut self, place: usize, to: &Addr, now: Instant) -> io::Result<TcpStream> {
+        match TcpStream::connect(&self.rt, address_of(to)) {
+            Ok(mut stream) => {
+                self.register(&mut stream, place)?;
+                Ok(stream)
+            }
+            Err(error) => {
+                self.fails(to, now);
+                Err(error)
+            }
+        }
+    }
+
+    // A dial to this address failed.
+    fn fails(&mut self, to: &Addr, now: Instant) {
+        let mut roll = [0; 1];
+        // Without a random byte the wait is the whole one.
+        let _ = self.rt.fill_bytes(&mut roll);
+        let [roll] = roll;
+        self.dials.fails(to, now, roll);
     }
 
     /// What is there, or what comes within 50 ms.
@@ -121,56 +166,8 @@ impl<R: Net + Eprint + Clock + Drop> Table<R> {
         }
     }
 
-    /// A link on which bytes can't be sent is closed at once.
-    pub fn send(&mut self, link: u32, bytes: &[u8]) -> Result<(), Failed> {
-        let slot = self.slot_of(link).ok_or(Failed)?;
-        let sent = match slot {
-            Some(socket) => socket.send(bytes),
-            None => Err(Failed),
-        };
-        if sent.is_err() {
-            *slot = None;
-        }
-        sent
-    }
-
-    /// Sends what waits, and then tells the peer of the end. Where the connect is still under way, nothing was sent.
-    pub fn shut(&mut self, link: u32) {
-        let now = Instant::now(&self.rt);
-        if let Some(slot) = self.slot_of(link) {
-            match (slot.as_mut(), now) {
-                (Some(socket), Ok(now)) if socket.is_connected() => socket.shut(now),
-                _ => *slot = None,
-            }
-        }
-    }
-
-    /// Sends on what waits, for at most 1 s.
-    pub fn finish(&mut self) {
-        for _ in 0..20 {
-            if !self.send_on() || self.hear(Duration::from_millis(WAIT)).is_err() {
-                return;
-            }
-        }
-    }
-
-    // Sends on what waits, and answers whether anything still does.
-    fn send_on(&mut self) -> bool {
-        let mut waits = false;
-        for slot in &mut self.places {
-            if let Some(socket) = slot {
-                if socket.send_on().is_err() {
-                    *slot = None;
-                } else if socket.waits() {
-                    waits = true;
-                }
-            }
-        }
-        waits
-    }
-
-    // The poll, which is made where it is first asked for.
-    fn poll(&mut self) -> io::Result<&mut Poll> {
+    /// The poll, which is made where it is first asked for.
+    pub fn poll(&mut self) -> io::Result<&mut Poll> {
         if self.poll.is_none() {
             self.poll = Some(Poll::new(&self.rt)?);
         }
@@ -180,8 +177,8 @@ impl<R: Net + Eprint + Clock + Drop> Table<R> {
         }
     }
 
-    // The place of the link of this number, which isn't shut.
-    fn slot_of(&mut self, link: u32) -> Option<&mut Option<Socket>> {
+    /// The place of the link of this number, which isn't shut.
+    pub fn slot_of(&mut self, link: u32) -> Option<&mut Option<Socket>> {
         for slot in &mut self.places {
             if let Some(socket) = slot {
                 if socket.number == link && !socket.is_closing() {
@@ -192,36 +189,59 @@ impl<R: Net + Eprint + Clock + Drop> Table<R> {
         None
     }
 
-    // A place without a link, which may be a new one behind the others; none where all are taken.
-    fn free_place(&self) -> Option<usize> {
-        let behind = self.places.len();
-        let free = self.places.iter().position(|slot| slot.is_none());
-        free.or(if behind < MOST { Some(behind) } else { None })
+    /// How many links stand.
+    pub fn count(&self) -> usize {
+        self.places.iter().filter(|slot| slot.is_some()).count()
     }
 
-    // Puts a new link into a free place.
-    fn add(&mut self, mut stream: TcpStream, stage: Stage) -> io::Result<u32> {
+    /// A place without a link, which may be a new one behind the others, and the number of the next link; an error where as many stand as
+    /// may.
+    pub fn free_place(&self) -> io::Result<(usize, u32)> {
         let full = || io::Error::other("all places for links are taken");
-        let place = self.free_place().ok_or_else(full)?;
+        if self.count() >= self.most {
+            return Err(full());
+        }
         let number = self.last_number.checked_add(1).ok_or_else(full)?;
-        let now = Instant::now(&self.rt)?;
+        let free = self.places.iter().position(|slot| slot.is_none());
+        Ok((free.unwrap_or(self.places.len()), number))
+    }
+
+    /// The system tells from now on of a stream what comes on it, by its place.
+    pub fn register(&mut self, stream: &mut TcpStream, place: usize) -> io::Result<()> {
         // A stream that can't be told so is a slower one.
         let _ = stream.set_nodelay(true);
         let both = Interest::READABLE | Interest::WRITABLE;
-        self.poll()?
-            .registry()
-            .register(&mut stream, Token(place), both)?;
-        let socket = Some(Socket::new(self.alloc, stream, number, stage, now));
+        self.poll()?.registry().register(stream, Token(place), both)
+    }
+
+    /// Puts a new link into its place.
+    pub fn put(&mut self, place: usize, socket: Socket) -> io::Result<u32> {
+        let number = socket.number;
         match self.places.get_mut(place) {
-            Some(slot) => *slot = socket,
-            None => self.places.push(socket)?,
+            Some(slot) => *slot = Some(socket),
+            None => self.places.push(Some(socket))?,
         }
         self.last_number = number;
         Ok(number)
     }
 
-    // Waits for news of links that is not known yet, at most so long, and notes it.
-    fn hear(&mut self, wait: Duration) -> io::Result<()> {
+    /// Takes the link at this place away. Of one that the node didn't shut it hears that it is gone. A link that the node opened and on
+    /// which nothing came is a dial that failed.
+    pub fn close(&mut self, place: usize, now: Instant) -> Option<LinkEvent>
+        ensures { IfSome result (λ event. (room : ℕ) → IsWithin event room) }
+    {
+        let socket = self.places.get_mut(place)?.take()?;
+        if socket.is_closing() {
+            return None;
+        }
+        if let Some(to) = socket.unanswered() {
+            self.fails(&to, now);
+        }
+        Some(LinkEvent::Gone(socket.number))
+    }
+
+    /// Waits for news of links that is not known yet, at most so long, and notes it.
+    pub fn hear(&mut self, wait: Duration) -> io::Result<()> {
         self.poll()?;
         let Some(poll) = &mut self.poll else {
             return Ok(());
@@ -243,7 +263,8 @@ impl<R: Net + Eprint + Clock + Drop> Table<R> {
         ensures bound { IfOk result (λ event. IfSome event (λ event. IsWithin event (length into.old))) }
         ensures room { length into.new ≡ length into.old }
     {
-        if let Some(gone) = self.sweep()? {
+        let now = Instant::now(&self.rt)?;
+        if let Some(gone) = self.sweep(now) {
             return Ok(Some(gone));
         }
         let count = self.places.len();
@@ -253,7 +274,7 @@ impl<R: Net + Eprint + Clock + Drop> Table<R> {
             } else {
                 0
             };
-            let event = self.serve(into);
+            let event = self.serve(into, now);
             if event.is_some() {
                 return Ok(event);
             }
@@ -262,75 +283,81 @@ impl<R: Net + Eprint + Clock + Drop> Table<R> {
     }
 
     // What is there at the place of this look.
-    fn serve(&mut self, into: &mut [u8]) -> Option<LinkEvent>
+    fn serve(&mut self, into: &mut [u8], now: Instant) -> Option<LinkEvent>
         ensures bound { IfSome result (λ event. IsWithin event (length into.old)) }
         ensures room { length into.new ≡ length into.old }
     {
-        if self.place == self.places.len() {
-            return self.accept();
+        let place = self.place;
+        if place == self.places.len() {
+            return self.accept(now);
         }
-        let slot = self.places.get_mut(self.place)?;
-        let socket = slot.as_mut()?;
+        let socket = self.places.get_mut(place)?.as_mut()?;
+        if let Some(to) = socket.due(now) {
+            return self.redial(place, &to, now);
+        }
         let number = socket.number;
-        let is_closing = socket.is_closing();
+        let is_first = socket.unanswered();
         match socket.serve(into) {
-            Served::Bytes(count) if !is_closing => return Some(LinkEvent::Bytes(number, count)),
-            Served::Bytes(_) | Served::Nothing => return None,
-            Served::Ended => {}
-        }
-        *slot = None;
-        if is_closing {
-            None
-        } else {
-            Some(LinkEvent::Gone(number))
+            Served::Bytes(count) if !socket.is_closing() => {
+                if let Some(to) = is_first {
+                    self.dials.goes_well(&to);
+                }
+                Some(LinkEvent::Bytes(number, count))
+            }
+            Served::Bytes(_) | Served::Nothing => None,
+            Served::Ended => self.close(place, now),
         }
     }
 
-    // A link that a peer opened. A peer that is gone again, or for which the system has no room now, is no fault.
-    fn accept(&mut self) -> Option<LinkEvent>
+    // Dials for the link at this place, which waited for that.
+    fn redial(&mut self, place: usize, to: &Addr, now: Instant) -> Option<LinkEvent>
         ensures { IfSome result (λ event. (room : ℕ) → IsWithin event room) }
     {
-        let listener = self.listener.as_ref()?;
-        if !self.may_accept || self.free_place().is_none() {
-            return None;
-        }
-        match listener.accept() {
-            Ok((stream, _)) => self.add(stream, Stage::Silent).ok().map(LinkEvent::Opened),
-            Err(error) => {
-                self.may_accept = error.kind() != ErrorKind::WouldBlock;
-                None
+        match TcpStream::connect(&self.rt, address_of(to)) {
+            Ok(mut stream) => {
+                let registered = self.register(&mut stream, place);
+                let socket = self.places.get_mut(place)?.as_mut()?;
+                socket.connects(stream, now);
+                if registered.is_ok() {
+                    None
+                } else {
+                    self.close(place, now)
+                }
             }
+            Err(_) => self.close(place, now),
         }
     }
 
-    // Now and then: closes the next link that was shut long ago, or of which nothing was ever heard; the latter is gone.
-    fn sweep(&mut self) -> io::Result<Option<LinkEvent>>
-        ensures { IfOk result (λ event. IfSome event (λ event. (room : ℕ) → IsWithin event room)) }
+    // Now and then: closes the next link that is overdue.
+    fn sweep(&mut self, now: Instant) -> Option<LinkEvent>
+        ensures { IfSome result (λ event. (room : ℕ) → IsWithin event room) }
     {
-        let now = Instant::now(&self.rt)?;
         if let Some(swept) = self.swept {
             if now.duration_since(swept) < Duration::from_millis(SWEEP) {
-                return Ok(None);
+                return None;
             }
         }
-        for slot in &mut self.places {
-            if let Some(socket) = slot {
-                if socket.is_overdue(now) {
-                    let number = socket.number;
-                    let is_closing = socket.is_closing();
-                    *slot = None;
-                    if !is_closing {
-                        return Ok(Some(LinkEvent::Gone(number)));
-                    }
+        for place in 0..self.places.len() {
+            if self.is_overdue(place, now) {
+                let gone = self.close(place, now);
+                if gone.is_some() {
+                    return gone;
                 }
             }
         }
         self.swept = Some(now);
-        Ok(None)
+        None
+    }
+
+    fn is_overdue(&self, place: usize, now: Instant) -> bool {
+        match self.places.get(place) {
+            Some(Some(socket)) => socket.is_overdue(now),
+            _ => false,
+        }
     }
 }
 
-fn address_of(address: &Addr) -> SocketAddr {
+pub fn address_of(address: &Addr) -> SocketAddr {
     let [first, second, third, fourth] = address.ip;
     SocketAddr::from((Ipv4Addr::new(first, second, third, fourth), address.port))
 }

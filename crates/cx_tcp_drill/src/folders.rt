@@ -3,10 +3,14 @@
 use cx_keep::{KeepError, Keeper, Slot};
 use cx_tcp::FolderKeeper;
 use std::fs;
-use std::os::unix::fs::MetadataExt;
+use std::fs::Permissions;
+use std::os::unix::fs::{MetadataExt, PermissionsExt, symlink};
 
-/// Neither a keyring nor a state stands in a new folder.
+/// Neither a keyring nor a state stands in a new folder, which is its owner's alone.
 pub fn is_empty(rt: &HostRuntime) -> bool {
+    if !lets(rt, ".", 0o700) {
+        return false;
+    }
     let mut keeper = FolderKeeper::new(rt);
     let keyring = keeper.load(rt.alloc(), Slot::Keyring);
     let state = keeper.load(rt.alloc(), Slot::State);
@@ -44,6 +48,62 @@ pub fn is_private(rt: &HostRuntime) -> bool {
     match fs::metadata(rt, "state") {
         Ok(told) => told.mode() % 0o1000 == 0o600,
         Err(_) => false,
+    }
+}
+
+// Gives the file or the folder these rights.
+fn lets(rt: &HostRuntime, name: &str, mode: u32) -> bool {
+    fs::set_permissions(rt, name, Permissions::from_mode(mode)).is_ok()
+}
+
+/// What stands as `state.new` is not written: a file that others may write is removed, and so is a link, whose file stays.
+pub fn is_written_anew(rt: &HostRuntime) -> bool {
+    let is_open = fs::write(rt, "state.new", b"left").is_ok() && lets(rt, "state.new", 0o666);
+    let saved = saves_privately(rt);
+    let is_linked = fs::write(rt, "another", b"as before").is_ok()
+        && symlink(rt, "another", "state.new").is_ok();
+    let saved_again = saves_privately(rt);
+    let is_same = fs::read_to_string(rt, "another").is_ok_and(|text| text.as_str() == "as before");
+    is_open
+        && saved
+        && is_linked
+        && saved_again
+        && is_same
+        && fs::remove_file(rt, "another").is_ok()
+}
+
+fn saves_privately(rt: &HostRuntime) -> bool {
+    let mut keeper = FolderKeeper::new(rt);
+    keeper.save(Slot::State, b"the second").is_ok()
+        && is_private(rt)
+        && holds(rt, &mut keeper, Slot::State, b"the second")
+}
+
+/// A state, a keyring or a folder that others may write isn't loaded.
+pub fn is_guarded(rt: &HostRuntime) -> bool {
+    is_refused_at(rt, "state", Slot::State, 0o602)
+        && is_refused_at(rt, "state", Slot::State, 0o620)
+        && is_refused_at(rt, "keyring", Slot::Keyring, 0o602)
+        && is_refused_at(rt, ".", Slot::State, 0o702)
+        && is_refused_at(rt, ".", Slot::Keyring, 0o720)
+}
+
+// Whether the slot isn't loaded while the file or the folder has these rights, and is with rights for its owner alone.
+fn is_refused_at(rt: &HostRuntime, name: &str, slot: Slot, mode: u32) -> bool {
+    let is_open = lets(rt, name, mode);
+    let refused = loads(rt, slot);
+    let is_shut = lets(rt, name, 0o700);
+    let taken = loads(rt, slot);
+    is_open && is_shut && refused == Some(false) && taken == Some(true)
+}
+
+// Whether a new keeper loads something there; none where that ends otherwise.
+fn loads(rt: &HostRuntime, slot: Slot) -> Option<bool> {
+    let mut keeper = FolderKeeper::new(rt);
+    match keeper.load(rt.alloc(), slot) {
+        Ok(Some(_)) => Some(true),
+        Err(KeepError::Failed) => Some(false),
+        _ => None,
     }
 }
 

@@ -21,6 +21,10 @@ fn main(rt: HostRuntime) -> io::Result<()> {
         sockets::is_refused(rt)
     )?;
     println!(rt;
+        "a dial behind one that failed waits: {}",
+        sockets::waits(rt)
+    )?;
+    println!(rt;
         "a port that is taken is a fault: {}",
         sockets::is_taken(rt)
     )?;
@@ -46,7 +50,7 @@ fn main(rt: HostRuntime) -> io::Result<()> {
         readings::waits(rt)
     )?;
     println!(rt;
-        "a peer that says nothing is gone after 10 s: {}",
+        "peers that send no whole banner are gone after 10 s: {}",
         traffic::tires(rt)
     )?;
     println!(rt; "nothing is kept at first: {}", folders::is_empty(rt))?;
@@ -54,6 +58,14 @@ fn main(rt: HostRuntime) -> io::Result<()> {
     println!(rt;
         "the state is its owner's alone: {}",
         folders::is_private(rt)
+    )?;
+    println!(rt;
+        "what stands as state.new is not written: {}",
+        folders::is_written_anew(rt)
+    )?;
+    println!(rt;
+        "what others may write isn't loaded: {}",
+        folders::is_guarded(rt)
     )?;
     println!(rt; "one monitor a folder: {}", folders::is_locked(rt))?;
     println!(rt;
@@ -65,5 +77,9 @@ fn main(rt: HostRuntime) -> io::Result<()> {
         folders::is_no_file(rt)
     )?;
     println!(rt; "the clock reads on: {}", readings::goes_on(rt))?;
+    println!(rt;
+        "a clock that is refused reads the last reading: {}",
+        readings::is_late()
+    )?;
     println!(rt; "two thousand draws differ: {}", readings::differ(rt))
 }

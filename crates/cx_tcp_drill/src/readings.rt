@@ -8,6 +8,7 @@ use cx_links::{LinkEvent, Links};
 use cx_tcp::{SystemClock, SystemDice};
 use std::collections::HashSet;
 use std::time::{Duration, Instant};
+use std::{io, time};
 
 /// Where nothing comes, a wait takes 50 ms or more.
 pub fn waits(rt: &HostRuntime) -> bool {
@@ -30,6 +31,25 @@ pub fn goes_on(rt: &HostRuntime) -> bool {
     let first = clock.read();
     let second = clock.read();
     first > 1_767_225_600_000_000_000 && second >= first
+}
+
+// A clock that the system refuses.
+#[derive(Drop)]
+struct Refused;
+
+impl time::Clock for Refused {
+    fn monotonic(&self) -> io::Result<Duration> {
+        Err(io::Error::other("refused"))
+    }
+
+    fn since_1970(&self) -> io::Result<Duration> {
+        Err(io::Error::other("refused"))
+    }
+}
+
+/// A clock that the system refuses reads the last reading, at which no ticket is good.
+pub fn is_late() -> bool {
+    SystemClock::new(Refused).read() == 3_999_999_999_999_999_999
 }
 
 /// No 8 bytes come twice in 2,000 draws.

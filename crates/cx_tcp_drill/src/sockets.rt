@@ -1,8 +1,9 @@
 //! One link at a time.
 
 use crate::lines::{Pair, address, come, comes, goes};
-use cx_links::Links;
+use cx_links::{LinkEvent, Links};
 use cx_tcp::TcpLinks;
+use std::time::{Duration, Instant};
 
 /// A word goes to the server and back, and when the one ends the link, the other is told.
 pub fn echoes(rt: &HostRuntime) -> bool {
@@ -59,6 +60,35 @@ fn is_refused_by<L: Links>(links: &mut L) -> bool {
         Ok(link) => goes(links, link),
         Err(_) => true,
     }
+}
+
+/// Dials to where nobody listens wait, once one failed: the second at least 80 ms, the third at least 160 more.
+pub fn waits(rt: &HostRuntime) -> bool {
+    match TcpLinks::new(rt.alloc(), rt) {
+        Ok(mut links) => wait(rt, &mut links).is_some(),
+        Err(_) => false,
+    }
+}
+
+fn wait(rt: &HostRuntime, links: &mut TcpLinks<&HostRuntime>) -> Option<()> {
+    let began = Instant::now(rt).ok()?;
+    right(is_refused_by(links))?;
+    let second = links.open(&address(1)).ok()?;
+    right(goes_later(links, second))?;
+    right(began.elapsed(rt).ok()? >= Duration::from_millis(80))?;
+    let third = links.open(&address(1)).ok()?;
+    right(goes_later(links, third))?;
+    right(began.elapsed(rt).ok()? >= Duration::from_millis(240))
+}
+
+// Whether the next that comes, within some seconds, is the end of this link.
+fn goes_later<L: Links>(links: &mut L, link: u32) -> bool {
+    for _ in 0..20 {
+        if let Some(event) = come(links, &mut [0; 16]) {
+            return event == LinkEvent::Gone(link);
+        }
+    }
+    false
 }
 
 /// Two can't listen at one port.

@@ -126,7 +126,7 @@ fn many(pair: &mut Pair<'_>) -> Option<()> {
     right(came == 400)
 }
 
-/// A peer that was accepted and says nothing is gone between 10 and 12 s later; one that spoke stays.
+/// Peers that were accepted and send nothing, or less than a banner, are gone between 10 and 12 s later; one that sent one stays.
 pub fn tires(rt: &HostRuntime) -> bool {
     match Pair::new(rt) {
         Some(mut pair) => tire(rt, &mut pair).is_some(),
@@ -136,17 +136,27 @@ pub fn tires(rt: &HostRuntime) -> bool {
 
 fn tire(rt: &HostRuntime, pair: &mut Pair<'_>) -> Option<()> {
     let (speaks, hears) = pair.open()?;
+    let (begins, slow) = pair.open()?;
     let (_, silent) = pair.open()?;
     pair.settle()?;
-    pair.client.send(speaks, b"here").ok()?;
-    right(come(&mut pair.server, &mut [0; 16])? == LinkEvent::Bytes(hears, 4))?;
+    pair.client.send(speaks, &[7; 26]).ok()?;
+    right(come(&mut pair.server, &mut [0; 32])? == LinkEvent::Bytes(hears, 26))?;
+    pair.client.send(begins, &[7; 25]).ok()?;
+    right(come(&mut pair.server, &mut [0; 32])? == LinkEvent::Bytes(slow, 25))?;
     let began = Instant::now(rt).ok()?;
+    right(ends(rt, pair, began)? == LinkEvent::Gone(slow))?;
+    right(ends(rt, pair, began)? == LinkEvent::Gone(silent))?;
+    right(come(&mut pair.server, &mut [0; 16]).is_none())
+}
+
+// What comes next at the server, 9 to 12 s behind the beginning.
+fn ends(rt: &HostRuntime, pair: &mut Pair<'_>, began: Instant) -> Option<LinkEvent> {
     for _ in 0..400 {
         let event = pair.server.next(&mut [0; 16]).ok()?;
         if event != LinkEvent::Quiet {
             let took = began.elapsed(rt).ok()?;
-            let is_due = took >= Duration::from_secs(9) && took <= Duration::from_secs(12);
-            return right(is_due && event == LinkEvent::Gone(silent));
+            right(took >= Duration::from_secs(9) && took <= Duration::from_secs(12))?;
+            return Some(event);
         }
     }
     None
