@@ -5,7 +5,7 @@ import struct
 
 from answering import blob, header, parts_of, ticket_info, ticket_list, ticket_part, time
 from asked import LAST
-from calling import BANNER, DAEMON, FIRST, MOST, NODE, SECOND, THIRD, Shown, answer, done, hello, plain_frame, reads, reply_content, server_ident
+from calling import BANNER, DAEMON, FIRST, MOST, NODE, SECOND, THIRD, Operation, Shown, answer, done, hello, plain_frame, reads, reply_content, server_ident
 from ciphers import enveloped
 from hosted import number
 from runs import place_of
@@ -492,6 +492,21 @@ def spent_behind(run):
 # ---- so many that a call that gives up beyond a round number would show
 
 
+def largest_operations(run):
+    """An operation with the most bytes of data is sent, and sent again behind a reconnect; its answer has as many."""
+    data = bytes(range(256)) * 256
+    play = run.behind(run.unit(FIRST, 9).event, "an operation with 65,536 bytes of data, and its answer with as many")
+    play.sends(Operation(["exec", "rbd", "", "o1", data.hex()]))
+    play.gone(FIRST)
+    play.calls(SECOND)
+    play.is_taken_up(SECOND, 0)
+    play.hears(SECOND, 17, header(0, 1, 43), answer(0, data))
+    play.at_answer(SECOND, 1)
+    play.hears(SECOND, 20, number(1))
+    play.at_ack(SECOND, 1)
+    yield from play.end()
+
+
 def many_frames(run):
     """200 frames in one piece: answers, ACK and keepalives in turn."""
     play = run.behind(run.unit(FIRST, 9).event, "200 frames in one piece")
@@ -544,7 +559,7 @@ def many_links(run):
 
 TOLD = (
     busy, no_tickets, no_links, no_sessions, full_queues, acknowledgements, retries, resets, lossy_sessions, several_daemons, shown_tickets, spent_counters, spent_behind,
-    many_frames, many_links,
+    many_frames, many_links, largest_operations,
 )  # fmt: skip
 
 

@@ -1,9 +1,11 @@
 """What is tried of a daemon's links to guests, behind the run with a message that was lost: rows, each with what has to be printed for it. The frames
 that come and those that have to be sent are made by docs/formats.md and docs/rules.md."""
 
+import hashlib
+import hmac
 import struct
 
-from answering import blob, header, ticket_blob, time
+from answering import Way, blob, header, ticket_blob, time
 from asked import LAST, Play, Scene, given, wrong_headers, wrong_tags
 from broken import byte_by_byte, changed, denial, flipped, plain, tried_unit, units_of
 from ciphers import enveloped
@@ -488,6 +490,15 @@ def taken_messages(guest):
     yield from finished(play, [handled(1)])
 
 
+def largest_operations(guest):
+    """An operation with the most bytes of data, which its answer has too."""
+    data = bytes(range(256)) * 256
+    play = guest.play(guest.unit(FIRST, 17), "an operation with 65,536 bytes of data, and its answer with as many")
+    play.comes(DAEMON, FIRST, play.frame(DAEMON, FIRST, 17, header(1, 1, 42), operation(access=4, data=data)))
+    play.turns(DAEMON, FIRST, given(FIRST, None, [None], sends(play, FIRST, *answered(1, 1, data))))
+    yield from finished(play, [f"handled osd.0 1 1 c1 1 exec rbd - o1 {data.hex()} done"])
+
+
 def stale_epochs(guest):
     """A session is taken up on a second link while the first one lives: that is shut, and what comes on it is nothing."""
     unit = guest.unit(SECOND, 11)
@@ -555,18 +566,16 @@ def many_links(guest):
 # ---- two clients at one daemon
 
 
-def tried_foreign(run):
-    """The second client of a daemon shows the cookies of the first one's session: it is told to begin anew, and does."""
-    guest = Guest(run, ("5", "6"))
-    mine, other = guest.unit("6", 8), guest.unit("5", 8)
+def takes_up(guest, play, gid):
+    """The second client shows the cookies of the first one's session, which has this global id: it is told to begin anew, and does."""
+    run, mine, other = guest.run, guest.unit("6", 8), guest.unit("5", 8)
     (ident,), (theirs,) = segments_of(mine.parts), segments_of(other.parts)
     drawn = next(line for line in run.blocks[other.event][1] if line.startswith("drawn cookie"))
     cookies = theirs[74:82] + bytes.fromhex(drawn.split()[2])
-    play = guest.play(mine, "a_session_of_another_entity_is_reset")
     play.numbers[DAEMON] -= 1
     asks = ident[:19] + cookies + number(2) + number(1) + number(0)
     play.comes(DAEMON, "6", play.frame(DAEMON, "6", 11, asks) + play.frame(DAEMON, "6", 8, ident))
-    reason = "owner-differs client.a 3"
+    reason = f"owner-differs client.a {gid}"
     play.turns(DAEMON, "6", given("6", None, [reason], sends(play, "6", (12, b"\x01"))))
     play.journal.append(f"refused {DAEMON} 6 {reason}")
     # The cookie is that of the draw at which CLIENT_IDENT was handled.
@@ -574,6 +583,104 @@ def tried_foreign(run):
     ((tag, (answer,)),) = guest.sent(mine)
     play.turns(DAEMON, "6", given("6", None, guest.entered(mine), sends(play, "6", (tag, answer))))
     yield from finished(play, guest.entered(mine))
+
+
+class NumberedGuest:
+    """The first client with a ticket that has another global id: what comes to its daemon then, and what that gives."""
+
+    def __init__(self, guest, gid):
+        self.guest, self.run, self.gid = guest, guest.run, gid
+        self.units = {unit.came: unit for unit in guest.units if guest.run.blocks[unit.event][0][2] == "5"}
+        self.came, self.sent = b"", b""
+        for words, told in self.run.blocks[: guest.unit("5", 2).came]:
+            if words[:3] == [DAEMON, "bytes", "5"]:
+                self.came += bytes.fromhex(words[3])
+            self.sent += self.piece(words, told)
+
+    def piece(self, words, told):
+        """What was sent on its link."""
+        return b"".join(bytes.fromhex(line.split()[2]) for line in told if words[0] == DAEMON and line.startswith("send 5 "))
+
+    def authorizer(self, unit):
+        """An authorizer with such a ticket, which is sealed anew."""
+        shown = Shown(self.guest, unit)
+        opened = next(line.split() for line in self.run.blocks[unit.event][1] if line.startswith("opened service"))
+        key, content = bytes.fromhex(opened[3]), bytes.fromhex(opened[5])
+        # Its version, the session key and the name stand before it.
+        place = 1 + 28 + 4 + 4 + len("a")
+        assert content[place : place + 8] == shown.payload[1:9] == number(3) and enveloped(key, content) in shown.payload
+        ticket = enveloped(key, changed(content, place, number(self.gid)))
+        payload = changed(changed(shown.payload, 1, number(self.gid)), shown.ends[3] - len(ticket), ticket)
+        return shown.frame(payload)
+
+    def signed(self, unit, content):
+        """A signature under the session key of the ticket."""
+        opened = next(line.split() for line in self.run.blocks[unit.event][1] if line.startswith(("opened session", "checked signature")))
+        return hmac.new(bytes.fromhex(opened[3]), content, hashlib.sha256).digest()
+
+    def frame(self, unit):
+        """What comes in the place of a frame."""
+        if unit.kind == "plain":
+            return self.authorizer(unit)
+        if unit.tag() == 7:
+            return unit.way.copy().frame(7, self.signed(unit, self.sent))
+        return unit.bytes
+
+    def done(self, unit, piece):
+        """AUTH_DONE with the global id, and AUTH_SIGNATURE behind it, in the place of what was recorded."""
+        length = 36 + struct.unpack("<I", piece[2:6])[0]
+        head, segment = piece[:28], piece[32 : length - 4]
+        assert piece[:length] == plain(head, segment) and segment[:8] == number(3)
+        answer = plain(head, changed(segment, 0, number(self.gid)))
+        self.sent += answer
+        line = next(line.split() for line in self.run.blocks[unit.event][1] if line.startswith("sealed connection"))
+        way = Way(bytes.fromhex(line[3]), bytes.fromhex(line[5])[:12])
+        return answer + way.frame(7, self.signed(unit, self.came))
+
+    def told(self, unit):
+        """What is printed for the turn of a frame."""
+        words, told = self.run.blocks[unit.event]
+        shown, piece = event_told(words, told), self.piece(words, told)
+        if unit.kind == "plain" and unit.tag() == 5:
+            return [f"  send 5 {self.done(unit, piece).hex()}" if line.startswith("  send") else line for line in shown]
+        if unit.kind == "plain":
+            self.sent += piece
+        return shown
+
+    def plays(self, play, last):
+        """All that comes to the daemons until this event."""
+        turned = {unit.event: unit for unit in self.units.values()}
+        for event in range(self.guest.unit("5", 2).came, last):
+            words, told = self.run.blocks[event]
+            entered = self.run.entered(event + 1)[len(self.run.entered(event)) :]
+            play.journal += [line.replace("client.a 3 ", f"client.a {self.gid} ") for line in entered]
+            if event in self.units:
+                frame = self.frame(self.units[event])
+                self.came += frame
+                play.lines.append((row_of(words, frame.hex()), event_told(words, told)))
+            else:
+                play.lines.append((row_of(words), self.told(turned[event]) if event in turned else event_told(words, told)))
+
+
+def as_recorded(guest, play):
+    """With the global id that it had all is as it was recorded."""
+    blocks = guest.run.blocks[guest.unit("5", 2).came : guest.unit("6", 8).came]
+    return play.lines[1:] == [(row_of(words), event_told(words, told)) for words, told in blocks]
+
+
+def tried_foreign(run):
+    """A session of another entity isn't taken up, also where its global id is as large as can be."""
+    guest = Guest(run, ("5", "6"))
+    mine = guest.unit("6", 8)
+    yield from takes_up(guest, guest.play(mine, "a_session_of_another_entity_is_reset"), 3)
+    for gid in 3, 2**32, 2**63 - 1, LAST:
+        play = guest.play(guest.unit("5", 2), f"a_session_of_another_entity_is_reset: its global id is {gid}")
+        NumberedGuest(guest, gid).plays(play, mine.came)
+        assert gid > 3 or as_recorded(guest, play)
+        if gid > 3:
+            behind = guest.play(mine, "")
+            play.ways, play.numbers = behind.ways, behind.numbers
+            yield from takes_up(guest, play, gid)
 
 
 # ---- all of it
@@ -595,5 +702,5 @@ def tried_alone(run):
         is_open = run.blocks[unit.event][0][2] == SECOND
         if not is_open or (unit.kind == "sealed" and unit.tag() in (11, 17)):
             yield from tried_unit(run, run.blocks, unit, is_open=True, wrong=None)
-    for tried in wrong_signatures, wrong_idents, wrong_reconnects, wrong_messages, taken_messages, stale_epochs, many_frames:
+    for tried in wrong_signatures, wrong_idents, wrong_reconnects, wrong_messages, taken_messages, stale_epochs, many_frames, largest_operations:
         yield from tried(guest)

@@ -4,6 +4,8 @@ use crate::rule::Sees;
 use crate::{Look, SecretsReader, SecretsWriter, Told, share};
 use cx_base::SECOND;
 use cx_rotate::{Generations, View};
+use std::alloc::Global;
+use std::process::Abort;
 use std::sync::Wait;
 use std::sync::atomic::{AtomicU64, Ordering};
 use std::thread;
@@ -60,6 +62,61 @@ fn a_telling_that_was_learned_makes_room_for_another(rt: HostRuntime) {
     reader.learn(again);
     assert!(rt; reader.look().count == 1);
     writer.end(&rt);
+}
+
+// The look behind so many renewals, each of which was asked for at the second of its number.
+fn look_behind(renewals: u16) -> Look {
+    Look {
+        view: fetched(renewals),
+        count: u64::from(renewals),
+    }
+}
+
+// Publishes a view, which an untold reader sees at once.
+fn expect_renewed<R: Wait + Abort>(
+    rt: &R,
+    writer: &mut SecretsWriter,
+    untold: &mut SecretsReader,
+    second: u16,
+) {
+    assert!(rt; writer.renew(rt, fetched(second)).is_ok());
+    assert!(rt; untold.look() == look_behind(second));
+}
+
+// What a reader looks at that learns one telling, and then another.
+fn looks_behind(reader: &mut SecretsReader, one: Told, other: Told) -> (Look, Look) {
+    reader.learn(one);
+    let look = reader.look();
+    reader.learn(other);
+    (look, reader.look())
+}
+
+// What a reader looks at behind each of two tellings that are out at a time, of one renewal and of three, which it learns once
+// the writer has ended: the earlier one first, or the later one.
+fn looks_behind_two<R: Wait + Abort>(rt: &R, alloc: Global, is_later_first: bool) -> (Look, Look) {
+    let (mut writer, mut readers) = share(rt, alloc, 2, 2).expect(rt, "ample memory");
+    let mut untold = readers.pop().expect(rt, "two readers");
+    let mut reader = readers.pop().expect(rt, "one more reader");
+    expect_renewed(rt, &mut writer, &mut untold, 1);
+    let earlier = writer.tell().expect(rt, "a place for the first");
+    expect_renewed(rt, &mut writer, &mut untold, 2);
+    expect_renewed(rt, &mut writer, &mut untold, 3);
+    let later = writer.tell().expect(rt, "a place for the second");
+    assert!(rt; writer.tell().is_err());
+    writer.end(rt);
+    if is_later_first {
+        looks_behind(&mut reader, later, earlier)
+    } else {
+        looks_behind(&mut reader, earlier, later)
+    }
+}
+
+#[test]
+fn two_tellings_are_out_and_learned_in_either_order(rt: HostRuntime) {
+    let in_order = looks_behind_two(&rt, rt.alloc(), false);
+    assert!(rt; in_order == (look_behind(1), look_behind(3)));
+    let later_first = looks_behind_two(&rt, rt.alloc(), true);
+    assert!(rt; later_first == (look_behind(3), look_behind(3)));
 }
 
 // Whether so many renewals were published.
