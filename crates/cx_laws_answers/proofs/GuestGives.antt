@@ -1,20 +1,13 @@
 -- What each row of a guest's link gives behind authentication, whatever the book of sessions replies: some words, each sealed in its order, behind what opened
 -- and was drawn; an ident is replied to with its cookie, and an answer tells what was handled in the same row. The link goes on under the keys behind them.
-use Rattle.std.proofs.Common.{◌≡◌, ℕ, ◌==◌, Bool, true, false, List, [], ◌∷◌, ◌++◌, map, Option, Some, None, Result, Ok, Err, refl, sym, ap, ◌∙◌, subst, arith, append-nil, append_assoc}
-use Rattle.std.proofs.lemmas.Bool.{eqb-true}
-use Rattle.std.specs.Prelude.{if◌then◌else◌}
+use Rattle.std.proofs.Common.{◌≡◌, ℕ, Bool, List, [], ◌∷◌, ◌++◌, map, Option, Some, None, Result, Ok, Err, refl, sym, ap, ◌∙◌, subst, append-nil, append_assoc}
 use Rattle.std.specs.List.{AllByRecursion}
-use Rattle.cx_laws_links.specs.cx_authorize.specs.Daemon.{Authority}
 use Rattle.cx_base.specs.Names.{Name}
 use Rattle.cx_control.specs.Auth.{auth_signature_layout}
 use Rattle.cx_control.specs.Idents.{client_ident_layout}
 use Rattle.cx_control.specs.Reconnects.{session_reconnect_layout}
-use Rattle.cx_control.specs.Upkeep.{keepalive2_layout, keepalive2_ack_layout}
-use Rattle.cx_control.specs.declared.auth.AuthSignature.{AuthSignature}
 use Rattle.cx_control.specs.declared.idents.ClientIdent.{ClientIdent}
 use Rattle.cx_control.specs.declared.reconnects.SessionReconnect.{SessionReconnect}
-use Rattle.cx_control.specs.declared.upkeep.Keepalive2.{Keepalive2}
-use Rattle.cx_control.specs.declared.upkeep.Keepalive2Ack.{Keepalive2Ack}
 use Rattle.cx_desk.specs.Handlers.{Handlers}
 use Rattle.cx_dice.specs.Draws.{cookie_of}
 use Rattle.cx_frame.specs.declared.frame.Frame.{Frame}
@@ -22,32 +15,27 @@ use Rattle.cx_journal.specs.declared.entries.Entry.{Entry}
 use Rattle.cx_journal.specs.declared.entries.Entry.TheVariants as journal
 use Rattle.cx_journal.specs.declared.entries.Handled.{Handled}
 use Rattle.cx_journal.specs.declared.faults.BytesFault.{BytesFault}
-use Rattle.cx_journal.specs.declared.faults.BytesFault.TheVariants.{Unexpected}
-use Rattle.cx_journal.specs.declared.faults.LoginFault.TheVariants.{SignatureWrong}
 use Rattle.cx_journal.specs.declared.faults.SessionFault.TheVariants as session
 use Rattle.cx_journal.specs.declared.outcomes.Outcome.{Outcome}
 use Rattle.cx_journal.specs.declared.outcomes.Reason.{Reason}
 use Rattle.cx_journal.specs.declared.outcomes.Reason.TheVariants as reason
+use Rattle.cx_laws_answers.proofs.Given.{Acks, Admits, Answers, Given, KeepsUp, Misses, Replies, Reply, Resets, Resumes, Retries, RetriesGlobal, given_frame, reply_frame}
+use Rattle.cx_laws_links.proofs.CallWords.{AreQuiet, quiet-append}
+use Rattle.cx_laws_links.specs.cx_authorize.specs.Daemon.{Authority}
 use Rattle.cx_laws_links.specs.cx_rules.specs.Acceptor.{AwaitsIdent, Open, missing_told, misses, on_signature}
 use Rattle.cx_laws_links.specs.cx_rules.specs.Holdings.{Asker}
 use Rattle.cx_laws_links.specs.cx_rules.specs.Links.{Link}
-use Rattle.cx_laws_links.specs.cx_rules.specs.Messages.{message_in, message_of, sealed_behind, sealed_then, secure_frames}
+use Rattle.cx_laws_links.specs.cx_rules.specs.Messages.{message_in, sealed_behind, sealed_then, secure_frames}
 use Rattle.cx_laws_links.specs.cx_rules.specs.Payloads.{due, payload}
-use Rattle.cx_laws_links.specs.cx_rules.specs.Rows.{goes_on, refused_entry, refuses, refuses_bytes, secure_sent, with_opened}
-use Rattle.cx_laws_links.specs.cx_rules.specs.Secured.{SealedFrame, Secured, is_signed, secure_frame, signature_found}
-use Rattle.cx_laws_links.specs.cx_rules.specs.Upkeep.{on_keepalive, on_keepalive_ack}
+use Rattle.cx_laws_links.specs.cx_rules.specs.Rows.{goes_on, refused_entry, refuses, secure_sent, sends_secure, with_opened, Turned}
+use Rattle.cx_laws_links.specs.cx_rules.specs.Secured.{SealedFrame, Secured, secure_frame, signature_found}
 use Rattle.cx_laws_links.specs.cx_rules_session.specs.Guests.{GuestArrival, GuestRow, GuestStage, Served}
-use Rattle.cx_laws_links.specs.cx_rules_session.specs.Hosting.{Deciding, Hosted, Instruction, admission_of, admits, asks_admission, comes_to, cookie_drawn, handled_entry, handles, instruction_of, on_admission, on_checked, on_client_ident, on_ident, on_message, on_open, on_reconnect, on_resumption, on_taken, on_untaken, outcome_of, resumes, served_as, tells_why}
+use Rattle.cx_laws_links.specs.cx_rules_session.specs.Hosting.{Deciding, Hosted, Instruction, admission_of, admits, cookie_drawn, handled_entry, handles, instruction_of, on_ident, on_open, outcome_of, resumes, served_as}
 use Rattle.cx_laws_links.specs.cx_rules_session.specs.Kinds.{entered_before}
 use Rattle.cx_laws_links.specs.cx_rules_session.specs.Lossy.{is_lossy, lossy_flags}
-use Rattle.cx_laws_links.specs.cx_rules.specs.Rows.{Turned, Waits, Refuses, Handles}
-use Rattle.cx_laws_links.specs.cx_run.proofs.GuestTakes.{Always}
-use Rattle.cx_session.specs.declared.call.BookFault.TheVariants as fault
-use Rattle.cx_session.specs.declared.call.BookReply.{BookReply}
-use Rattle.cx_session.specs.declared.call.BookReply.TheVariants as reply
+use Rattle.cx_laws_links.specs.cx_run.proofs.Always.{Always, TurnOf}
+use Rattle.cx_laws_links.specs.cx_run.proofs.GuestWalk.{Acknowledges, IsNoIdent, IsUpkeep, SendsBack, ShutsIdent, TellsReset, TellsRetry, TellsRetryGlobal, TellsWhy, Unadmitted, UnreadIdent, ident-so, open-so, signature-so}
 use Rattle.cx_steps.specs.declared.seals.SealEntry.{SealEntry}
-use Rattle.cx_laws_links.proofs.CallWords.{AreQuiet, quiet-append}
-use Rattle.cx_laws_answers.proofs.Given.{Acks, Admits, Answers, Given, KeepsUp, Misses, Replies, Reply, Resets, Resumes, Retries, RetriesGlobal, given_frame, reply_frame}
 
 -- the keys of a link that goes on behind authentication
 pub data KeyedGuest : GuestStage → Secured → Type 0 where
@@ -167,9 +155,7 @@ module _ (P : List Given → List Entry → Option (Link GuestStage) → Type 0)
   }
 
 abbrev pub TurnedGives : (List Given → List Entry → Option (Link GuestStage) → Type 0) → ℕ → Secured → Turned Asker GuestStage → Type 0
-TurnedGives P number s Waits = Unit {0}
-TurnedGives P number s (Refuses why opened) = AreQuiet opened
-TurnedGives P number s (Handles row) = RowGives P number s row
+TurnedGives P number s turned = TurnOf AreQuiet (RowGives P number s) turned
 
 abbrev pub AlwaysGives : (List Given → List Entry → Option (Link GuestStage) → Type 0) → ℕ → Secured → Deciding Hosted → Type 0
 AlwaysGives P number s rule = Always (λ (h : Hosted). TurnedGives P number s h.turned) rule
@@ -187,22 +173,12 @@ pub data SignedGives (owner : Authority) (f : Frame) : List Given → List Entry
   SignedOn : (link : Link GuestStage) → f.tag ≡ 7 → WaitsFor owner link.stage → SignedGives owner f [] [] (Some link)
 
 pub signature-gives : (b : GuestArrival) (s : Secured) (owner : Authority) (f : Frame) → RowGives (SignedGives owner f) b.link.number s (on_signature b s owner (due 7 auth_signature_layout.form f))
-signature-gives b s owner f = by_tag (f.tag == 7) refl
-  where
-    by_test : f.tag ≡ 7 → (right : Bool) → RowGives (SignedGives owner f) b.link.number s (if right then goes_on b (AwaitsIdent s owner) [] (signature_found s ∷ []) else refuses b (reason.Login SignatureWrong) [])
-    by_test tag true =
-        goes-gives (SignedGives owner f) b s (AwaitsIdent s owner) (signature_found s ∷ []) (WaitsOn s owner) (tt, tt)
-        (SignedOn (record b.link { stage = AwaitsIdent s owner }) tag refl)
-    by_test tag false = shuts-gives (SignedGives owner f) b s (reason.Login SignatureWrong) [] tt (SignedShut _)
-
-    by_read : f.tag ≡ 7 → (read : Result AuthSignature BytesFault) → RowGives (SignedGives owner f) b.link.number s (on_signature b s owner read)
-    by_read tag (Err why) = shuts-gives (SignedGives owner f) b s (reason.Bytes why) [] tt (SignedShut _)
-    by_read tag (Ok found) = by_test tag (is_signed s found.signature)
-
-    by_tag : (due_now : Bool) → (f.tag == 7) ≡ due_now
-        → RowGives (SignedGives owner f) b.link.number s (on_signature b s owner (if due_now then payload auth_signature_layout.form f else Err (Unexpected f.tag)))
-    by_tag true e = by_read (eqb-true f.tag 7 e) (payload auth_signature_layout.form f)
-    by_tag false e = shuts-gives (SignedGives owner f) b s (reason.Bytes (Unexpected f.tag)) [] tt (SignedShut _)
+signature-gives b s owner f =
+    signature-so b s owner f (RowGives (SignedGives owner f) b.link.number s) (record {
+      shut = λ why by. shuts-gives (SignedGives owner f) b s why [] tt (SignedShut _);
+      waits = λ tag. goes-gives (SignedGives owner f) b s (AwaitsIdent s owner) (signature_found s ∷ []) (WaitsOn s owner) (tt, tt)
+          (SignedOn (record b.link { stage = AwaitsIdent s owner }) tag refl);
+    })
 
 -- ---- a link that waits for an ident
 
@@ -228,9 +204,6 @@ module _ (b : GuestArrival) (s : Secured) (owner : Authority) (f : Frame) where
   abbrev I : GuestRow → Type 0
   I row = RowGives (IdentGives owner f) b.link.number s row
 
-  abbrev StaysI : Deciding Hosted → Type 0
-  StaysI rule = AlwaysGives (IdentGives owner f) b.link.number s rule
-
   refuses-ident : (why : Reason) (seals : List SealEntry) → AreQuiet seals → I (refuses b why seals)
   refuses-ident why seals quiet = shuts-gives (IdentGives owner f) b s why seals quiet (IdentShut _)
 
@@ -242,26 +215,6 @@ module _ (b : GuestArrival) (s : Secured) (owner : Authority) (f : Frame) where
       (Replies ident.cookie (Admits b.own.address (lossy_flags (is_lossy ident.flags)) (cookie_of b.draw)))
       (λ t. Serves t (served_as owner number epoch ident.cookie (is_lossy ident.flags))) (tt, tt)
       (λ t. IdentReplies ident.cookie _ _ _ asks refl) (λ why. IdentShut _))
-
-  refuses-drawn : (why : Reason) → I (refuses b why (cookie_drawn b ∷ []))
-  refuses-drawn why = refuses-ident why (cookie_drawn b ∷ []) (tt, tt)
-
-  admission-gives : (ident : ClientIdent) → AsksWith f ident.cookie → (r : BookReply) → StaysI (on_admission b s owner ident r)
-  admission-gives ident asks (reply.Admitted number epoch) = admits-gives ident number epoch asks
-  admission-gives ident asks (reply.Refused (fault.CookieInUse number)) = refuses-drawn (reason.Session (session.CookieInUse number))
-  admission-gives ident asks (reply.Refused (fault.BookFull limit)) = refuses-drawn (reason.Session session.BookFull)
-  admission-gives ident asks (reply.Refused fault.Spent) = refuses-drawn reason.Spent
-  admission-gives ident asks (reply.Refused fault.Unknown) = tt
-  admission-gives ident asks (reply.Refused (fault.OwnerDiffers entity gid)) = tt
-  admission-gives ident asks (reply.Refused (fault.StaleConnect kept)) = tt
-  admission-gives ident asks (reply.Refused (fault.StaleGlobal kept)) = tt
-  admission-gives ident asks (reply.Refused (fault.Stale epoch)) = tt
-  admission-gives ident asks (reply.Refused (fault.Repeat last)) = tt
-  admission-gives ident asks (reply.Refused (fault.Gap expected)) = tt
-  admission-gives ident asks (reply.Resumed number epoch last lossy) = tt
-  admission-gives ident asks reply.Fine = tt
-  admission-gives ident asks (reply.Ended lived) = tt
-  admission-gives ident asks reply.OutOfMemory = tt
 
   misses-gives : (features : ℕ) → I (misses b s features)
   misses-gives features = by_sealed (secure_frame s.keys (given_frame (Misses features))) refl
@@ -279,15 +232,8 @@ module _ (b : GuestArrival) (s : Secured) (owner : Authority) (f : Frame) where
         so = IdentMisses features _;
       }
 
-  client_ident-gives : f.tag ≡ 8 → (read : Result ClientIdent BytesFault) → payload client_ident_layout.form f ≡ read → StaysI (on_client_ident b s owner read)
-  client_ident-gives tag (Err why) is = refuses-ident (reason.Bytes why) [] tt
-  client_ident-gives tag (Ok ident) is = by_test (ident.required == 0)
-    where
-      by_test : (plain : Bool) → StaysI (if plain then asks_admission b s owner ident else comes_to (misses b s ident.required))
-      by_test true = λ r. admission-gives ident (ByIdent ident tag is refl) r
-      by_test false = misses-gives ident.required
-
-  tells-gives : (cookie : ℕ) → AsksWith f cookie → (why : Reason) (told : Reply) → StaysI (tells_why b s owner why (reply_frame told))
+  tells-gives : (cookie : ℕ) → AsksWith f cookie → (why : Reason) (told : Reply)
+      → I (entered_before (refused_entry b.me b.link.number why) (sends_secure b s (λ behind. AwaitsIdent behind owner) [] (reply_frame told)))
   tells-gives cookie asks why told =
       entered-gives (IdentGives owner f) b s (refused_entry b.me b.link.number why) _
       (one-gives (λ words es link. IdentGives owner f words (refused_entry b.me b.link.number why ∷ es) link) b s (λ behind. AwaitsIdent behind owner) [] (Replies cookie told)
@@ -300,35 +246,24 @@ module _ (b : GuestArrival) (s : Secured) (owner : Authority) (f : Frame) where
       (λ behind. Open behind (served_as owner number epoch again.client_cookie lossy)) [] (Replies again.client_cookie (Resumes last))
       (λ t. Serves t (served_as owner number epoch again.client_cookie lossy)) tt (λ t. IdentReplies again.client_cookie (Resumes last) _ _ asks refl) (λ why. IdentShut _))
 
-  resumption-gives : (again : SessionReconnect) → AsksWith f again.client_cookie → (r : BookReply) → StaysI (on_resumption b s owner again r)
-  resumption-gives again asks (reply.Resumed number epoch last lossy) = resumes-gives again number epoch last lossy asks
-  resumption-gives again asks (reply.Refused fault.Unknown) = tells-gives again.client_cookie asks (reason.Session session.UnknownSession) Resets
-  resumption-gives again asks (reply.Refused (fault.OwnerDiffers entity gid)) = tells-gives again.client_cookie asks (reason.Session (session.OwnerDiffers entity gid)) Resets
-  resumption-gives again asks (reply.Refused fault.Spent) = tells-gives again.client_cookie asks reason.Spent Resets
-  resumption-gives again asks (reply.Refused (fault.StaleConnect kept)) = tells-gives again.client_cookie asks (reason.Session (session.StaleConnect kept)) (Retries kept)
-  resumption-gives again asks (reply.Refused (fault.StaleGlobal kept)) = tells-gives again.client_cookie asks (reason.Session (session.StaleGlobal kept)) (RetriesGlobal kept)
-  resumption-gives again asks (reply.Refused (fault.CookieInUse number)) = tt
-  resumption-gives again asks (reply.Refused (fault.BookFull limit)) = tt
-  resumption-gives again asks (reply.Refused (fault.Stale epoch)) = tt
-  resumption-gives again asks (reply.Refused (fault.Repeat last)) = tt
-  resumption-gives again asks (reply.Refused (fault.Gap expected)) = tt
-  resumption-gives again asks (reply.Admitted number epoch) = tt
-  resumption-gives again asks reply.Fine = tt
-  resumption-gives again asks (reply.Ended lived) = tt
-  resumption-gives again asks reply.OutOfMemory = tt
+  told-gives : (again : SessionReconnect) → AsksWith f again.client_cookie → (why : Reason) (x : Frame) → TellsWhy why x
+      → I (entered_before (refused_entry b.me b.link.number why) (sends_secure b s (λ behind. AwaitsIdent behind owner) [] x))
+  told-gives again asks _ _ (TellsReset why of) = tells-gives again.client_cookie asks why Resets
+  told-gives again asks _ _ (TellsRetry kept) = tells-gives again.client_cookie asks (reason.Session (session.StaleConnect kept)) (Retries kept)
+  told-gives again asks _ _ (TellsRetryGlobal kept) = tells-gives again.client_cookie asks (reason.Session (session.StaleGlobal kept)) (RetriesGlobal kept)
 
-  reconnect-gives : f.tag ≡ 11 → (read : Result SessionReconnect BytesFault) → payload session_reconnect_layout.form f ≡ read → StaysI (on_reconnect b s owner read)
-  reconnect-gives tag (Err why) is = refuses-ident (reason.Bytes why) [] tt
-  reconnect-gives tag (Ok again) is = λ r. resumption-gives again (ByReconnect again tag is refl) r
+  shut-gives : (why : Reason) (seals : List SealEntry) → ShutsIdent b why seals → I (refuses b why seals)
+  shut-gives _ _ (UnreadIdent why) = refuses-ident (reason.Bytes why) [] tt
+  shut-gives _ _ (Unadmitted why of) = refuses-ident why (cookie_drawn b ∷ []) (tt, tt)
 
-  pub ident-gives : StaysI (on_ident b s owner f)
-  ident-gives = by_tests (f.tag == 8) (f.tag == 11) refl refl
-    where
-      by_tests : (client again : Bool) → (f.tag == 8) ≡ client → (f.tag == 11) ≡ again → StaysI (if client then on_client_ident b s owner (payload client_ident_layout.form f)
-          else if again then on_reconnect b s owner (payload session_reconnect_layout.form f) else comes_to (refuses_bytes b (Unexpected f.tag) []))
-      by_tests true again e d = client_ident-gives (eqb-true f.tag 8 e) (payload client_ident_layout.form f) refl
-      by_tests false true e d = reconnect-gives (eqb-true f.tag 11 d) (payload session_reconnect_layout.form f) refl
-      by_tests false false e d = refuses-ident (reason.Bytes (Unexpected f.tag)) [] tt
+  pub ident-gives : AlwaysGives (IdentGives owner f) b.link.number s (on_ident b s owner f)
+  ident-gives = ident-so b s owner f AreQuiet I (record {
+    shut = shut-gives;
+    missed = misses-gives;
+    admitted = λ ident tag is number epoch. admits-gives ident number epoch (ByIdent ident tag is refl);
+    resumed = λ again tag is number epoch last lossy. resumes-gives again number epoch last lossy (ByReconnect again tag is refl);
+    told = λ again tag is why x by. told-gives again (ByReconnect again tag is refl) why x by;
+  })
 
 -- ---- an open link
 
@@ -338,13 +273,13 @@ StillServes served (Open s other) = other ≡ served
 StillServes served _ = ⊥
 
 -- an acknowledgement, or KEEPALIVE2_ACK
-abbrev pub IsUpkeep : Given → Type 0
-IsUpkeep (Acks seq) = Unit {0}
-IsUpkeep (KeepsUp ack) = Unit {0}
-IsUpkeep _ = ⊥
+abbrev pub IsUpkeepWord : Given → Type 0
+IsUpkeepWord (Acks seq) = Unit {0}
+IsUpkeepWord (KeepsUp ack) = Unit {0}
+IsUpkeepWord _ = ⊥
 
 abbrev pub AreUpkeep : List Given → Type 0
-AreUpkeep xs = AllByRecursion IsUpkeep xs
+AreUpkeep xs = AllByRecursion IsUpkeepWord xs
 
 -- what is entered of an operation that a daemon handles in a session
 abbrev pub handled_by : Name → Served → Instruction → Outcome → Handled
@@ -371,35 +306,12 @@ module _ (handlers : Handlers) (b : GuestArrival) (s : Secured) (served : Served
   abbrev O : GuestRow → Type 0
   O row = RowGives (OpenGives b.own.name served f) b.link.number s row
 
-  abbrev StaysO : Deciding Hosted → Type 0
-  StaysO rule = AlwaysGives (OpenGives b.own.name served f) b.link.number s rule
-
-  abbrev IsElse : Type 0
-  IsElse = (f.tag ≡ 8 → ⊥) × (f.tag ≡ 11 → ⊥)
-
   refuses-open : (why : Reason) → O (refuses b why [])
   refuses-open why = shuts-gives (OpenGives b.own.name served f) b s why [] tt (OpenShut _)
 
-  upkeep-gives : IsElse → (x : Given) → IsUpkeep x → O (secure_sent b s (λ behind. Open behind served) [] (secure_frame s.keys (given_frame x)))
+  upkeep-gives : IsNoIdent f → (x : Given) → IsUpkeepWord x → O (secure_sent b s (λ behind. Open behind served) [] (secure_frame s.keys (given_frame x)))
   upkeep-gives other x keeps =
       one-gives (OpenGives b.own.name served f) b s (λ behind. Open behind served) [] x (λ t. Serves t served) tt (λ t. OpenUpkeep (x ∷ []) _ (keeps, tt) other.0 other.1 refl) (λ why. OpenShut _)
-
-  untaken-gives : IsElse → (r : BookReply) → StaysO (on_untaken b s served r)
-  untaken-gives other (reply.Refused (fault.Repeat last)) = upkeep-gives other (Acks last) tt
-  untaken-gives other (reply.Refused (fault.Gap expected)) = refuses-open (reason.Session (session.Gap expected))
-  untaken-gives other (reply.Refused (fault.Stale epoch)) = refuses-open (reason.Session (session.Stale epoch))
-  untaken-gives other (reply.Refused (fault.CookieInUse number)) = tt
-  untaken-gives other (reply.Refused (fault.BookFull limit)) = tt
-  untaken-gives other (reply.Refused fault.Spent) = tt
-  untaken-gives other (reply.Refused fault.Unknown) = tt
-  untaken-gives other (reply.Refused (fault.OwnerDiffers entity gid)) = tt
-  untaken-gives other (reply.Refused (fault.StaleConnect kept)) = tt
-  untaken-gives other (reply.Refused (fault.StaleGlobal kept)) = tt
-  untaken-gives other (reply.Admitted number epoch) = tt
-  untaken-gives other (reply.Resumed number epoch last lossy) = tt
-  untaken-gives other reply.Fine = tt
-  untaken-gives other (reply.Ended lived) = tt
-  untaken-gives other reply.OutOfMemory = tt
 
   handles-gives : f.tag ≡ 17 → (i : Instruction) (outcome : Outcome) → instruction_of (message_in f) ≡ Ok i → O (handles b s served i outcome)
   handles-gives tag i outcome read =
@@ -407,54 +319,14 @@ module _ (handlers : Handlers) (b : GuestArrival) (s : Secured) (served : Served
       (sends-gives (λ words es link. OpenGives b.own.name served f words (handled_entry b served i outcome ∷ es) link) b s (λ behind. Open behind served) []
       (Answers served.cookie i outcome ∷ Acks i.seq ∷ []) (λ t. Serves t served) tt (λ t. OpenAnswers i outcome _ tag read refl) (λ why. OpenShut _))
 
-  taken-gives : IsElse → f.tag ≡ 17 → (i : Instruction) → instruction_of (message_in f) ≡ Ok i → (r : BookReply) → StaysO (on_taken handlers b s served i r)
-  taken-gives other tag i read reply.Fine = handles-gives tag i (outcome_of handlers served.caps i.operation) read
-  taken-gives other tag i read (reply.Refused why) = untaken-gives other (reply.Refused why)
-  taken-gives other tag i read (reply.Admitted number epoch) = tt
-  taken-gives other tag i read (reply.Resumed number epoch last lossy) = tt
-  taken-gives other tag i read (reply.Ended lived) = tt
-  taken-gives other tag i read reply.OutOfMemory = tt
+  kept-gives : IsNoIdent f → (x : Frame) → IsUpkeep x → O (sends_secure b s (λ behind. Open behind served) [] x)
+  kept-gives other _ (Acknowledges last) = upkeep-gives other (Acks last) tt
+  kept-gives other _ (SendsBack ack) = upkeep-gives other (KeepsUp ack) tt
 
-  checked-gives : IsElse → f.tag ≡ 17 → (i : Instruction) → instruction_of (message_in f) ≡ Ok i → (r : BookReply) → StaysO (on_checked handlers b s served i r)
-  checked-gives other tag i read reply.Fine = λ r. taken-gives other tag i read r
-  checked-gives other tag i read (reply.Refused why) = untaken-gives other (reply.Refused why)
-  checked-gives other tag i read (reply.Admitted number epoch) = tt
-  checked-gives other tag i read (reply.Resumed number epoch last lossy) = tt
-  checked-gives other tag i read (reply.Ended lived) = tt
-  checked-gives other tag i read reply.OutOfMemory = tt
-
-  -- a message stands in a frame of tag 17
-  message-tag : (i : Instruction) → instruction_of (message_in f) ≡ Ok i → f.tag ≡ 17
-  message-tag i = by_test (f.tag == 17) refl
-    where
-      by_test : (message : Bool) → (f.tag == 17) ≡ message → instruction_of (if message then message_of f.segments else Err (Unexpected f.tag)) ≡ Ok i → f.tag ≡ 17
-      by_test true e is = eqb-true f.tag 17 e
-      by_test false e is = absurd cc
-
-  message-gives : (read : Result Instruction BytesFault) → instruction_of (message_in f) ≡ read → StaysO (on_message handlers b s served read)
-  message-gives (Err why) is = refuses-open (reason.Bytes why)
-  message-gives (Ok i) is =
-      let tag : f.tag ≡ 17 = message-tag i is in
-      λ r. checked-gives ((λ e. omega (arith, e, tag)), (λ e. omega (arith, e, tag))) tag i is r
-
-  keepalive-gives : IsElse → (read : Result Keepalive2 BytesFault) → O (on_keepalive b s (λ behind. Open behind served) read)
-  keepalive-gives other (Err why) = refuses-open (reason.Bytes why)
-  keepalive-gives other (Ok keepalive) = upkeep-gives other (KeepsUp (record { time = keepalive.time })) tt
-
-  ack-gives : IsElse → (read : Result Keepalive2Ack BytesFault) → O (on_keepalive_ack b s (λ behind. Open behind served) read)
-  ack-gives other (Err why) = refuses-open (reason.Bytes why)
-  ack-gives other (Ok ack) = goes-gives (OpenGives b.own.name served f) b s (Open s served) [] (Serves s served) tt (OpenUpkeep [] _ tt other.0 other.1 refl)
-
-  pub open-gives : StaysO (on_open handlers b s served f)
-  open-gives = by_tests (f.tag == 18) (f.tag == 19) refl refl
-    where
-      by_tests : (ask ack : Bool) → (f.tag == 18) ≡ ask → (f.tag == 19) ≡ ack → StaysO (if ask then comes_to (on_keepalive b s (λ behind. Open behind served) (payload keepalive2_layout.form f))
-          else if ack then comes_to (on_keepalive_ack b s (λ behind. Open behind served) (payload keepalive2_ack_layout.form f))
-          else on_message handlers b s served (instruction_of (message_in f)))
-      by_tests true ack e d =
-          let tag : f.tag ≡ 18 = eqb-true f.tag 18 e in
-          keepalive-gives ((λ t. omega (arith, t, tag)), (λ t. omega (arith, t, tag))) (payload keepalive2_layout.form f)
-      by_tests false true e d =
-          let tag : f.tag ≡ 19 = eqb-true f.tag 19 d in
-          ack-gives ((λ t. omega (arith, t, tag)), (λ t. omega (arith, t, tag))) (payload keepalive2_ack_layout.form f)
-      by_tests false false e d = message-gives (instruction_of (message_in f)) refl
+  pub open-gives : AlwaysGives (OpenGives b.own.name served f) b.link.number s (on_open handlers b s served f)
+  open-gives = open-so handlers b s served f AreQuiet O (record {
+    shut = λ why by. refuses-open why;
+    kept_up = kept-gives;
+    idled = λ other. goes-gives (OpenGives b.own.name served f) b s (Open s served) [] (Serves s served) tt (OpenUpkeep [] _ tt other.0 other.1 refl);
+    handled = λ tag i is. handles-gives tag i (outcome_of handlers served.caps i.operation) is;
+  })

@@ -35,7 +35,7 @@ use Rattle.cx_laws_links.proofs.Known.{AreTold, Told}
 use Rattle.cx_laws_links.proofs.Since.{since}
 use Rattle.cx_laws_links.proofs.Spoken.{Orders, Spoken, asked, asked_by, frame_of, said_under}
 use Rattle.cx_laws_answers.proofs.Given.{Acks, Answers, Given, KeepsUp, Misses, Replies, given_under, gives_under, is_acceptors, replied, replied-append, served-append, served_behind}
-use Rattle.cx_laws_answers.proofs.GuestGives.{AreUpkeep, IdentGives, IdentMisses, IdentReplies, IdentShut, IsServedAs, IsUpkeep, KeyedGuest, OpenAnswers, OpenGives, OpenShut, OpenUpkeep, RowGives, Serves, SignedGives, SignedOn, SignedShut, StillServes, WaitsFor, WaitsOn, handled_by}
+use Rattle.cx_laws_answers.proofs.GuestGives.{AreUpkeep, IdentGives, IdentMisses, IdentReplies, IdentShut, IsServedAs, IsUpkeepWord, KeyedGuest, OpenAnswers, OpenGives, OpenShut, OpenUpkeep, RowGives, Serves, SignedGives, SignedOn, SignedShut, StillServes, WaitsFor, WaitsOn, handled_by}
 use Rattle.cx_laws_answers.proofs.GuestSteps.{asks-for, asks-none, given-is, in-step, replied-more, row-given, row-giver, row-others, row-into, row-key}
 use Rattle.cx_laws_answers.proofs.GuestTurn.{TurnGives}
 use Rattle.cx_laws_answers.proofs.Known.{AreGiven, AreTrueGiven, IsTrueAnswer, WasServed}
@@ -258,12 +258,12 @@ module _ (run : WholeRun) (whole : List Logged) (us : Uses) (told : Told) (given
 
       upkeep-tells : (es : List Entry) (words : List Given) → AreUpkeep words → TellsOf (Contains run.leaked name → ⊥) J name es words
       upkeep-tells es [] keeps p cookie instruction outcome at = absurd at
-      upkeep-tells es (x ∷ words) keeps zero cookie instruction outcome at = absurd (subst IsUpkeep at keeps.0)
+      upkeep-tells es (x ∷ words) keeps zero cookie instruction outcome at = absurd (subst IsUpkeepWord at keeps.0)
       upkeep-tells es (x ∷ words) keeps (suc p) cookie instruction outcome at = absurd (none words keeps.1 p at)
         where
           none : (ws : List Given) → AreUpkeep ws → (q : ℕ) → IsAt ws q (Answers cookie instruction outcome) → ⊥
           none [] k q there = there
-          none (y ∷ ws) k zero there = subst IsUpkeep there k.0
+          none (y ∷ ws) k zero there = subst IsUpkeepWord there k.0
           none (y ∷ ws) k (suc q) there = none ws k.1 q there
 
       -- an operation that is handled ended as its answer tells

@@ -40,7 +40,7 @@ use Rattle.cx_laws_links.specs.cx_rules_session.specs.Envelopes.{authorize_chall
 use Rattle.cx_laws_links.specs.cx_rules_session.specs.Guests.{GuestArrival, GuestRow, GuestStage, authority_of, authorized_frame, authorizes, challenges, done_sent, looked_entry, on_auth_request_more, on_first, on_second, sealed_challenge_frame, turns_away, unless_turned_away}
 use Rattle.cx_laws_links.specs.cx_rules_session.specs.Hosting.{Hosted, guest_turned}
 use Rattle.cx_laws_links.specs.cx_rules_session.specs.Kinds.{entered_before}
-use Rattle.cx_laws_links.specs.cx_run.proofs.GuestTakes.{Always}
+use Rattle.cx_laws_links.specs.cx_run.proofs.Always.{Always}
 use Rattle.cx_laws_links.specs.cx_sealed.specs.declared.service_ticket.ServiceTicket.{ServiceTicket}
 use Rattle.cx_steps.specs.declared.seals.DrawMark.TheVariants as draw
 use Rattle.cx_steps.specs.declared.seals.SealEntry.{SealEntry}

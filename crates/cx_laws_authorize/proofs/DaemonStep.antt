@@ -6,10 +6,26 @@ use Rattle.std.specs.Option.{option_map}
 use Rattle.cx_base.specs.Names.{is_daemon_type}
 use Rattle.cx_base.specs.declared.nodes.NodeName.{NodeName}
 use Rattle.cx_base.specs.declared.nodes.NodeName.TheVariants as node
-use Rattle.cx_run.specs.cx_desk.specs.Handlers.{Handlers}
 use Rattle.cx_journal.specs.declared.entries.Entry.{Entry}
 use Rattle.cx_journal.specs.declared.entries.Entry.TheVariants as journal
 use Rattle.cx_journal.specs.declared.outcomes.Reason.TheVariants as reason
+use Rattle.cx_laws_authorize.proofs.Backing.{AllGood}
+use Rattle.cx_laws_authorize.proofs.DaemonRows.{DaemonHas, DaemonStageOk, GuestsCome, LinkHas, RowAfter, RowHas, StepAfter, TurnHas, daemon_says, kind_says, link-found, links-filtered, links-put, links-without, open-found, row-anywhere, row-carried, stays-idle, turn-carried}
+use Rattle.cx_laws_authorize.proofs.HostingKeys.{KeepsHosted, KeepsTurned, guest-keeps}
+use Rattle.cx_laws_authorize.proofs.Keys.{KeptKeys, LinkKeys}
+use Rattle.cx_laws_authorize.proofs.Steps.{all-authorize}
+use Rattle.cx_laws_authorize.proofs.Telling.{IsBackedLink, backed-behind, told-laws}
+use Rattle.cx_laws_authorize.specs.Admission.{Authorizes, EntryTold}
+use Rattle.cx_laws_authorize.specs.Coming.{IsNoGuest}
+use Rattle.cx_laws_login.proofs.AskerRows.{asker_says, request-sends}
+use Rattle.cx_laws_login.proofs.AskerTurns as asker_turns
+use Rattle.cx_laws_login.proofs.Facts.{AskerKnown, AskerOk, AskerStageOk, HasMonitorKey, asker-entered, known-grows, none-fetched}
+use Rattle.cx_laws_login.proofs.Rows.{AfterRow, IsQuietEntry, LinkOk, Saying, TurnOk, after-quiet, after-simple, none-given, reached-allowed, simple-goes_on, simple-refuses}
+use Rattle.cx_laws_login.specs.cx_laws_keys.proofs.Journal.{After, EntryLaw, IsNotIssued, entered, login-law, own-other}
+use Rattle.cx_laws_login.specs.cx_laws_keys.proofs.Known.{Inv, IsOfKind}
+use Rattle.cx_laws_login.specs.cx_laws_keys.proofs.Premises.{AreGranted, behind}
+use Rattle.cx_laws_login.specs.cx_laws_keys.proofs.Steps.{inv-entered}
+use Rattle.cx_laws_login.specs.cx_laws_keys.proofs.Uses.{Uses, WholeRun, stays}
 use Rattle.cx_laws_login.specs.cx_rules.specs.Acceptor.{AwaitsBanner, AwaitsHello, AwaitsRequest, AwaitsProof, AwaitsSignature, AwaitsIdent, Open}
 use Rattle.cx_laws_login.specs.cx_rules.specs.Connector as connector
 use Rattle.cx_laws_login.specs.cx_rules.specs.Connector.{AskerArrival}
@@ -20,6 +36,18 @@ use Rattle.cx_laws_login.specs.cx_rules.specs.Links.{Link, link_of}
 use Rattle.cx_laws_login.specs.cx_rules.specs.Requests.{Requests, asks_rotating, first_open, is_outdated}
 use Rattle.cx_laws_login.specs.cx_rules.specs.Rows.{Arrival, Outcome, Row, Turned, Waits, Refuses, Handles, arrival, carried_out, fed, forgotten, goes_on, idles, lifted, new_link, refused_entry, refuses, refuses_bytes, turns}
 use Rattle.cx_laws_login.specs.cx_rules.specs.Secured.{Secured}
+use Rattle.cx_laws_login.specs.cx_rules.specs.declared.requests.Want.TheVariants as want
+use Rattle.cx_laws_login.specs.cx_steps.specs.declared.events.Command.{Command}
+use Rattle.cx_laws_login.specs.cx_steps.specs.declared.events.Command.TheVariants as command
+use Rattle.cx_laws_login.specs.cx_steps.specs.declared.events.Peer.{Peer}
+use Rattle.cx_laws_login.specs.cx_steps.specs.declared.events.Peer.TheVariants as peer
+use Rattle.cx_laws_login.specs.cx_steps.specs.declared.seals.Logged.{Logged}
+use Rattle.cx_laws_login.specs.cx_wire.specs.declared.bodies.Request.TheVariants as asked
+use Rattle.cx_run.proofs.Always.{Always, always-book, always-both, always-map, always-weaker}
+use Rattle.cx_run.proofs.GuestTakes.{StaysGuest, TakesHosted, guest-takes}
+use Rattle.cx_run.proofs.Taking.{EachRow}
+use Rattle.cx_run.specs.Visits.{IsNoLook}
+use Rattle.cx_run.specs.cx_desk.specs.Handlers.{Handlers}
 use Rattle.cx_run.specs.cx_rules_session.specs.Asks.{Finished, Asking}
 use Rattle.cx_run.specs.cx_rules_session.specs.DaemonRule.{AsAcceptor, AsConnector, Daemon, DaemonNode, DaemonStage, DaemonState, asking_open, book_after, book_reply, daemon_rule, daemon_step, ended_entry, fetches, fetches_on, gone, gone_by_kind, guest_gone, hosts, is_fetching, is_in, is_older, loses, lossy_gone, me, moved_to, on_dropped, open_to_ask, opens, restarted, opens_guest, opens_own, shut_where, submits, ticks, turn, turned_at, undialled, unreached, with_asker}
 use Rattle.cx_run.specs.cx_rules_session.specs.Guests.{GuestRow, GuestStage}
@@ -28,34 +56,6 @@ use Rattle.cx_run.specs.cx_rules_session.specs.Kinds.{arrival_in, of_kind, row_o
 use Rattle.cx_session.specs.declared.call.BookCall.TheVariants.{End}
 use Rattle.cx_session.specs.declared.call.BookReply.{BookReply}
 use Rattle.cx_session.specs.declared.call.BookReply.TheVariants as reply
-use Rattle.cx_laws_login.specs.cx_steps.specs.declared.events.Command.{Command}
-use Rattle.cx_laws_login.specs.cx_steps.specs.declared.events.Command.TheVariants as command
-use Rattle.cx_laws_login.specs.cx_steps.specs.declared.events.Peer.{Peer}
-use Rattle.cx_laws_login.specs.cx_steps.specs.declared.events.Peer.TheVariants as peer
-use Rattle.cx_laws_login.specs.cx_steps.specs.declared.seals.Logged.{Logged}
-use Rattle.cx_laws_login.specs.cx_rules.specs.declared.requests.Want.TheVariants as want
-use Rattle.cx_laws_login.specs.cx_wire.specs.declared.bodies.Request.TheVariants as asked
-use Rattle.cx_run.proofs.GuestTakes.{StaysGuest, TakesHosted, guest-takes}
-use Rattle.cx_run.proofs.Taking.{EachRow}
-use Rattle.cx_laws_authorize.proofs.Backing.{AllGood}
-use Rattle.cx_laws_authorize.proofs.Hosting.{Always, always-both, always-map, always-weaker}
-use Rattle.cx_laws_authorize.proofs.HostingKeys.{KeepsHosted, KeepsTurned, guest-keeps}
-use Rattle.cx_laws_authorize.proofs.DaemonRows.{DaemonHas, DaemonStageOk, GuestsCome, LinkHas, LinksHave, RowAfter, RowHas, StepAfter, TurnHas, daemon_says, kind_says, link-found, links-filtered, links-put, links-without, open-found, row-anywhere, row-carried, stays-idle, turn-carried}
-use Rattle.cx_laws_authorize.proofs.Keys.{KeptKeys, LinkKeys}
-use Rattle.cx_laws_authorize.proofs.Steps.{all-authorize, always-book}
-use Rattle.cx_laws_authorize.proofs.Telling.{IsBackedLink, backed-behind, told-laws}
-use Rattle.cx_laws_authorize.specs.Admission.{Authorizes, EntryTold}
-use Rattle.cx_run.specs.Visits.{IsNoLook}
-use Rattle.cx_laws_authorize.specs.Coming.{IsNoGuest}
-use Rattle.cx_laws_login.specs.cx_laws_keys.proofs.Journal.{After, EntryLaw, IsNotIssued, entered, login-law, own-other}
-use Rattle.cx_laws_login.specs.cx_laws_keys.proofs.Known.{Inv, IsOfKind}
-use Rattle.cx_laws_login.specs.cx_laws_keys.proofs.Premises.{AreGranted, behind}
-use Rattle.cx_laws_login.specs.cx_laws_keys.proofs.Steps.{inv-entered}
-use Rattle.cx_laws_login.specs.cx_laws_keys.proofs.Uses.{Grows, Uses, WholeRun, stays}
-use Rattle.cx_laws_login.proofs.AskerRows.{asker_says, request-sends}
-use Rattle.cx_laws_login.proofs.AskerTurns as asker_turns
-use Rattle.cx_laws_login.proofs.Facts.{AskerKnown, AskerOk, AskerStageOk, HasMonitorKey, asker-entered, known-grows, none-fetched}
-use Rattle.cx_laws_login.proofs.Rows.{AfterRow, IsQuietEntry, LinkOk, Saying, TurnOk, after-quiet, after-simple, none-given, reached-allowed, simple-goes_on, simple-refuses}
 
 -- ---- entries that issue nothing, under their laws
 

@@ -2,10 +2,6 @@
 use Rattle.std.proofs.Common.{◌≡◌, ◌⊎◌, ◌==◌, ℕ, Bool, true, false, List, [], ◌∷◌, ◌++◌, Option, Some, None, Result, Ok, Err, inl, inr, refl, subst, arith}
 use Rattle.std.specs.Prelude.{not, if◌then◌else◌}
 use Rattle.std.specs.List.{AllByRecursion, list_any}
-use Rattle.cx_run.specs.cx_authorize.specs.Daemon.{Authority, Awaited}
-use Rattle.cx_run.specs.cx_authorize.specs.Judging.{judged_first, judged_second}
-use Rattle.cx_run.specs.cx_authorize.specs.declared.refusals.AuthRefusal.{AuthRefusal}
-use Rattle.cx_run.specs.cx_authorize.specs.declared.refusals.AuthRefusal.TheVariants as refusal
 use Rattle.cx_base.specs.declared.kinds.EntityType.{EntityType}
 use Rattle.cx_base.specs.declared.nodes.NodeName.{NodeName}
 use Rattle.cx_control.specs.declared.auth.AuthRequest.{AuthRequest}
@@ -19,33 +15,33 @@ use Rattle.cx_journal.specs.declared.entries.Refused.{Refused}
 use Rattle.cx_journal.specs.declared.faults.BytesFault.{BytesFault}
 use Rattle.cx_journal.specs.declared.faults.LoginFault.TheVariants.{Method, Mode, SignatureWrong}
 use Rattle.cx_journal.specs.declared.outcomes.Reason.{Reason}
-use Rattle.cx_journal.specs.declared.outcomes.Reason.TheVariants.{Login}
 use Rattle.cx_journal.specs.declared.outcomes.Reason.TheVariants as reason
+use Rattle.cx_journal.specs.declared.outcomes.Reason.TheVariants.{Login}
+use Rattle.cx_laws_authorize.proofs.Judging.{second-shows, shown-more}
+use Rattle.cx_laws_authorize.proofs.Refusing.{RefusalTells, first-tells, second-tells}
+use Rattle.cx_laws_authorize.specs.Admission.{GuestHas, IsAuthorizedAt, IsOwnedIn, IsShown, IsToldAt}
+use Rattle.cx_laws_login.specs.cx_laws_keys.proofs.Lists.{all-map}
 use Rattle.cx_laws_login.specs.cx_rules.specs.Acceptor.{AwaitsHello, AwaitsRequest, AwaitsProof, AwaitsSignature, AwaitsIdent, Finished, denies, finished, on_auth_request, on_banner, on_hello, on_signature}
 use Rattle.cx_laws_login.specs.cx_rules.specs.Greetings.{own_hello}
 use Rattle.cx_laws_login.specs.cx_rules.specs.Holdings.{Asker}
 use Rattle.cx_laws_login.specs.cx_rules.specs.Links.{Link}
 use Rattle.cx_laws_login.specs.cx_rules.specs.Rows.{goes_on, plain_sent, refuses, secure_sent, unless_refused}
 use Rattle.cx_laws_login.specs.cx_rules.specs.Secured.{SealedFrame, Secured, is_signed, plain_frame, signature_found}
-use Rattle.cx_run.specs.cx_rules_session.specs.Complete.{judged_by}
-use Rattle.cx_run.specs.cx_rules_session.specs.Envelopes.{authorize_challenge_content, authorize_reply_content, session_sealed}
-use Rattle.cx_run.specs.cx_rules_session.specs.Guests.{GuestArrival, GuestRow, GuestStage, authority_of, authorized_frame, authorizes, challenges, done_sent, looked_entry, on_auth_request_more, on_first, on_second, sealed_challenge_frame, turns_away, unless_turned_away}
-use Rattle.cx_run.specs.cx_rules_session.specs.Kinds.{entered_before}
 use Rattle.cx_laws_login.specs.cx_sealed.specs.declared.service_ticket.ServiceTicket.{ServiceTicket}
 use Rattle.cx_laws_login.specs.cx_steps.specs.declared.seals.DrawMark.TheVariants as draw
 use Rattle.cx_laws_login.specs.cx_steps.specs.declared.seals.SealEntry.{SealEntry}
 use Rattle.cx_laws_login.specs.cx_steps.specs.declared.seals.SealEntry.TheVariants.{Drawn}
-use Rattle.cx_laws_authorize.proofs.Judging.{second-shows, shown-more}
-use Rattle.cx_laws_authorize.proofs.Refusing.{RefusalTells, first-tells, second-tells}
-use Rattle.cx_laws_login.specs.cx_laws_keys.proofs.Lists.{all-map}
-use Rattle.cx_laws_authorize.specs.Admission.{GuestHas, IsAuthorizedAt, IsOwnedIn, IsShown, IsToldAt}
+use Rattle.cx_run.proofs.Outcomes.{IsNoTicket}
+use Rattle.cx_run.specs.cx_authorize.specs.Daemon.{Authority, Awaited}
+use Rattle.cx_run.specs.cx_authorize.specs.Judging.{judged_first, judged_second}
+use Rattle.cx_run.specs.cx_authorize.specs.declared.refusals.AuthRefusal.{AuthRefusal}
+use Rattle.cx_run.specs.cx_authorize.specs.declared.refusals.AuthRefusal.TheVariants as refusal
+use Rattle.cx_run.specs.cx_rules_session.specs.Complete.{judged_by}
+use Rattle.cx_run.specs.cx_rules_session.specs.Envelopes.{authorize_challenge_content, authorize_reply_content, session_sealed}
+use Rattle.cx_run.specs.cx_rules_session.specs.Guests.{GuestArrival, GuestRow, GuestStage, authority_of, authorized_frame, authorizes, challenges, done_sent, looked_entry, on_auth_request_more, on_first, on_second, sealed_challenge_frame, turns_away, unless_turned_away}
+use Rattle.cx_run.specs.cx_rules_session.specs.Kinds.{entered_before}
 
 -- ---- rows
-
--- what is refused is no ticket
-abbrev pub IsNoTicket : Reason → Type 0
-IsNoTicket (reason.Ticket why blob) = ⊥
-IsNoTicket _ = Unit {0}
 
 -- a session that is entered is owned by the link in this stage; a look is at the daemon's own view, which stays; and no ticket is refused
 abbrev pub EntryOwnedIn : Asker → GuestStage → Entry → Type 0

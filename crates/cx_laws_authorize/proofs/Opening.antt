@@ -3,12 +3,13 @@ use Rattle.std.proofs.Common.{◌≡◌, ◌<◌, ◌==◌, ◌⊎◌, inl, inr,
 use Rattle.std.specs.Prelude.{Contains, nat_le, nat_lt, not, if◌then◌else◌}
 use Rattle.std.proofs.lemmas.List.Elements.{Contains-push_cases}
 use Rattle.std.specs.List.{AllByRecursion}
-use Rattle.cx_run.specs.cx_authorize.specs.Daemon.{Authority}
-use Rattle.cx_run.specs.cx_desk.specs.Handlers.{Handlers}
 use Rattle.cx_frame.specs.declared.frame.Frame.{Frame}
 use Rattle.cx_journal.specs.declared.entries.Entry.{Entry}
 use Rattle.cx_journal.specs.declared.entries.Entry.TheVariants as entry
 use Rattle.cx_journal.specs.declared.outcomes.Reason.TheVariants.{LinksFull}
+use Rattle.cx_laws_authorize.specs.Admission.{StageHas}
+use Rattle.cx_laws_login.proofs.Hearing.{HearsPart, hears-more, next-heard}
+use Rattle.cx_laws_login.specs.cx_laws_keys.proofs.Lists.{all-append, all-map}
 use Rattle.cx_laws_login.specs.cx_rules.specs.Acceptor.{AwaitsBanner, AwaitsIdent}
 use Rattle.cx_laws_login.specs.cx_rules.specs.Fronts.{Front, NotYet, Broken, Next, secure_next}
 use Rattle.cx_laws_login.specs.cx_rules.specs.Greetings.{own_banner}
@@ -17,17 +18,14 @@ use Rattle.cx_laws_login.specs.cx_rules.specs.Inputs.{Turn}
 use Rattle.cx_laws_login.specs.cx_rules.specs.Links.{Link, link_of, put_link, without_link}
 use Rattle.cx_laws_login.specs.cx_rules.specs.Rows.{Arrival, Outcome, Turned, Waits, Refuses, Handles, arrival, at, carried_out, goes_on, new_link, refuses, turns}
 use Rattle.cx_laws_login.specs.cx_rules.specs.Secured.{Keys, Secured, under}
+use Rattle.cx_laws_login.specs.cx_steps.specs.declared.seals.SealEntry.{SealEntry}
+use Rattle.cx_run.proofs.Always.{Always, always-book, always-map, always-unit, always-weaker}
+use Rattle.cx_run.specs.cx_authorize.specs.Daemon.{Authority}
+use Rattle.cx_run.specs.cx_desk.specs.Handlers.{Handlers}
 use Rattle.cx_run.specs.cx_rules_session.specs.DaemonRule.{AsAcceptor, Daemon, DaemonNode, DaemonStage, DaemonState, book_after, book_reply, daemon_step, hosts, me, moved_to, opens_guest, turn, turned_at, with_asker}
 use Rattle.cx_run.specs.cx_rules_session.specs.Guests.{GuestArrival, GuestStage}
 use Rattle.cx_run.specs.cx_rules_session.specs.Hosting.{Deciding, Hosted, decided_by, guest_turned, hosted_behind, on_ident}
 use Rattle.cx_run.specs.cx_rules_session.specs.Kinds.{arrival_in, turn_of_kind}
-use Rattle.cx_run.specs.cx_rules_session.specs.Asks.{Asks, Finished, Asking}
-use Rattle.cx_laws_login.specs.cx_steps.specs.declared.seals.SealEntry.{SealEntry}
-use Rattle.cx_laws_authorize.proofs.Hosting.{Always, always-map, always-weaker}
-use Rattle.cx_laws_authorize.proofs.Steps.{always-book}
-use Rattle.cx_laws_authorize.specs.Admission.{StageHas}
-use Rattle.cx_laws_login.specs.cx_laws_keys.proofs.Lists.{all-append, all-map}
-use Rattle.cx_laws_login.proofs.Hearing.{HearsPart, hears-more, next-heard}
 
 -- ---- links that open
 
@@ -88,10 +86,6 @@ HearsTurned keys Waits = Unit {0}
 HearsTurned keys (Refuses why opened) = Unit {0}
 HearsTurned keys (Handles row) = HearsPart keys row.seals
 
-any-reply : {C R X : Type 0} (rule : Asks C R X) → Always (λ (x : X). Unit {0}) rule
-any-reply (Finished x) = tt
-any-reply (Asking call next) = λ r. any-reply (next r)
-
 behind-hears : (keys : Keys) (opened : List SealEntry) (hosted : Hosted) → HearsPart keys opened → HearsTurned keys (hosted_behind opened hosted).turned
 behind-hears keys opened hosted heard = by_turned hosted.turned
   where
@@ -111,7 +105,7 @@ ident-hears handlers a s owner = by_next (secure_next s.keys a.link) refl
         let rule : Deciding Hosted = on_ident (at a link) (under s keys) owner f in
         always-map (λ (h : Hosted). HearsTurned s.keys h.turned) (hosted_behind opened) rule
         (always-weaker (λ (h : Hosted). Unit {0}) (λ (h : Hosted). HearsTurned s.keys (hosted_behind opened h).turned)
-        (λ h any. behind-hears s.keys opened h (next-heard s.keys a.link (link, f, keys) opened is)) rule (any-reply rule))
+        (λ h any. behind-hears s.keys opened h (next-heard s.keys a.link (link, f, keys) opened is)) rule (always-unit rule))
 
 -- the entry admits or resumes a session
 abbrev pub IsOfSession : Entry → Type 0

@@ -1,51 +1,44 @@
 -- What each step of a daemon keeps, whatever comes.
-use Rattle.std.proofs.Common.{◌≡◌, ◌⊎◌, ◌==◌, ℕ, Bool, true, false, cond, List, [], ◌∷◌, ◌++◌, filter, length, Option, Some, None, Result, Ok, Err, inl, inr, refl, sym, ◌∙◌, subst}
-use Rattle.std.specs.Prelude.{find, nat_le, nat_lt, not, if◌then◌else◌}
+use Rattle.std.proofs.Common.{◌≡◌, ◌⊎◌, ◌==◌, ℕ, Bool, true, false, cond, List, [], ◌∷◌, ◌++◌, filter, Option, Some, None, Result, Ok, Err, inl, inr, refl, sym, ◌∙◌, subst, arith}
+use Rattle.std.specs.Prelude.{find, nat_lt, not, Contains}
 use Rattle.std.specs.List.{AllByRecursion}
 use Rattle.std.specs.Option.{option_map}
-use Rattle.cx_run.specs.cx_authorize.specs.Daemon.{Authority}
-use Rattle.cx_run.specs.cx_desk.specs.Handlers.{Handlers}
+use Rattle.std.proofs.lemmas.List.Elements.{Contains-append_cases, Contains-push_cases}
 use Rattle.cx_journal.specs.declared.entries.Entry.{Entry}
 use Rattle.cx_journal.specs.declared.entries.Entry.TheVariants as entry
 use Rattle.cx_journal.specs.declared.entries.Refused.{Refused}
 use Rattle.cx_journal.specs.declared.outcomes.Reason.{Reason}
 use Rattle.cx_journal.specs.declared.outcomes.Reason.TheVariants as reason
-use Rattle.cx_journal.specs.declared.outcomes.Reason.TheVariants.{LinksFull, Lost}
-use Rattle.cx_laws_login.specs.cx_rules.specs.Acceptor.{AwaitsBanner, AwaitsHello, AwaitsRequest, AwaitsProof, AwaitsSignature, AwaitsIdent, Open}
-use Rattle.cx_laws_login.specs.cx_rules.specs.Connector as connector
-use Rattle.cx_laws_login.specs.cx_rules.specs.Greetings.{own_banner}
-use Rattle.cx_laws_login.specs.cx_rules.specs.Holdings.{Asker}
-use Rattle.cx_laws_login.specs.cx_rules.specs.Inputs.{Input, Opened, NoLink, Bytes, Turn, Gone, Look, Tick, Submit, Restart}
-use Rattle.cx_laws_login.specs.cx_rules.specs.Links.{Link, link_of, put_link, without_link}
-use Rattle.cx_laws_login.specs.cx_rules.specs.Requests.{Requests, first_open, is_outdated, sealed_request, sends_request}
-use Rattle.cx_laws_login.specs.cx_rules.specs.Rows.{Arrival, Outcome, Turned, Waits, Refuses, Handles, arrival, carried_out, fed, forgotten, goes_on, idles, lifted, links_behind, new_link, refused_entry, refuses, turns}
-use Rattle.cx_laws_login.specs.cx_rules.specs.Secured.{SealedFrame, Secured}
-use Rattle.cx_laws_login.specs.cx_rules.specs.declared.requests.Want.TheVariants as want
-use Rattle.cx_run.specs.cx_rules_session.specs.Asks.{Asks, Finished, Asking, with_book}
-use Rattle.cx_run.specs.cx_rules_session.specs.DaemonRule.{AsAcceptor, AsConnector, Daemon, DaemonNode, DaemonStage, DaemonState, asking_open, book_after, book_reply, daemon_rule, ended_entry, fetches, fetches_on, gone, gone_by_kind, guest_gone, hosts, is_fetching, is_in, is_older, loses, lossy_gone, me, moved_to, on_dropped, open_to_ask, opens, opens_guest, opens_own, shut_where, submits, ticks, turn, turned_at, undialled, unreached, with_asker}
-use Rattle.cx_run.specs.cx_rules_session.specs.Guests.{GuestRow, GuestStage}
-use Rattle.cx_run.specs.cx_rules_session.specs.Hosting.{Deciding, Hosted, guest_turned}
-use Rattle.cx_run.specs.cx_rules_session.specs.Kinds.{arrival_in, of_kind, turn_of_kind}
-use Rattle.cx_session.specs.declared.call.BookCall.TheVariants.{End}
-use Rattle.cx_session.specs.declared.call.BookReply.{BookReply}
-use Rattle.cx_session.specs.declared.call.BookReply.TheVariants as reply
-use Rattle.cx_laws_login.specs.cx_steps.specs.Nothing.{nothing}
-use Rattle.cx_laws_login.specs.cx_steps.specs.Onto.{SomeOf}
-use Rattle.cx_laws_login.specs.cx_steps.specs.declared.events.Command.{Command}
-use Rattle.cx_laws_login.specs.cx_steps.specs.declared.events.Command.TheVariants as command
-use Rattle.cx_laws_login.specs.cx_steps.specs.declared.events.Peer.{Peer}
-use Rattle.cx_laws_login.specs.cx_steps.specs.declared.events.Peer.TheVariants as peer
-use Rattle.cx_laws_login.specs.cx_steps.specs.declared.seals.SealEntry.{SealEntry}
-use Rattle.cx_laws_login.specs.cx_wire.specs.declared.bodies.Request.TheVariants as asked
 use Rattle.cx_laws_authorize.proofs.Guests.{AuthorizedRow, EntryToldIn, GainsWith, ReasonTold}
-use Rattle.cx_laws_authorize.proofs.Hosting.{Always, AuthorizedHosted, always-map, always-weaker, guest-authorized}
+use Rattle.cx_laws_authorize.proofs.Hosting.{AuthorizedHosted, guest-authorized}
 use Rattle.cx_laws_authorize.specs.Admission.{Authorizes, EntryTold, GetsAuthority, GuestHas, HadAuthority, IsAuthorizedAt, IsToldAt, IsTurnOf, LinkAuthorized, RefusalTold, StageHas, StepAuthorizes}
-use Rattle.cx_laws_login.specs.cx_laws_keys.proofs.Journal.{IsOfLogin}
-use Rattle.cx_laws_login.specs.cx_laws_keys.proofs.Lists.{all-append, all-map, found_all}
-use Rattle.cx_laws_login.proofs.NoTickets.{IsMadeOfLogin, IsOfAsker, RowOfAsker, none-turned, sealed-of_login}
+use Rattle.cx_laws_login.proofs.NoTickets.{IsOfAsker, RowOfAsker, none-turned}
 use Rattle.cx_laws_login.proofs.Proving.{RowOf}
 use Rattle.cx_laws_login.proofs.Rows.{all-filter}
+use Rattle.cx_laws_login.specs.cx_laws_keys.proofs.Journal.{IsOfLogin}
+use Rattle.cx_laws_login.specs.cx_laws_keys.proofs.Lists.{all-append, all-map}
+use Rattle.cx_laws_login.specs.cx_rules.specs.Acceptor.{AwaitsBanner}
+use Rattle.cx_laws_login.specs.cx_rules.specs.Connector as connector
+use Rattle.cx_laws_login.specs.cx_rules.specs.Holdings.{Asker}
+use Rattle.cx_laws_login.specs.cx_rules.specs.Inputs.{Input, Turn}
+use Rattle.cx_laws_login.specs.cx_rules.specs.Links.{Link, link_of, put_link, without_link}
+use Rattle.cx_laws_login.specs.cx_rules.specs.Requests.{Requests, sealed_request, sends_request}
+use Rattle.cx_laws_login.specs.cx_rules.specs.Rows.{Arrival, Outcome, Turned, Waits, Refuses, Handles, arrival, carried_out, lifted, links_behind, turns}
+use Rattle.cx_laws_login.specs.cx_rules.specs.Secured.{SealedFrame, Secured}
+use Rattle.cx_laws_login.specs.cx_rules.specs.declared.requests.Want.TheVariants as want
+use Rattle.cx_laws_login.specs.cx_steps.specs.Onto.{SomeOf}
+use Rattle.cx_laws_login.specs.cx_steps.specs.declared.seals.SealEntry.{SealEntry}
+use Rattle.cx_laws_login.specs.cx_wire.specs.declared.bodies.Request.TheVariants as asked
+use Rattle.cx_run.proofs.Always.{always-book, always-weaker}
+use Rattle.cx_run.proofs.DaemonOutcomes.{IsNew, IsRest, RestEntry, RestsAndTurns, came, guest_rule, rested-all, rests-keep}
+use Rattle.cx_run.specs.cx_rules.proofs.AskerWalk.{IsNoTicket, MadeOrNoTicket, request-no_ticket}
 use Rattle.cx_run.proofs.Turning.{found-number}
+use Rattle.cx_run.specs.cx_authorize.specs.Daemon.{Authority}
+use Rattle.cx_run.specs.cx_desk.specs.Handlers.{Handlers}
+use Rattle.cx_run.specs.cx_rules_session.specs.DaemonRule.{AsAcceptor, AsConnector, Daemon, DaemonNode, DaemonStage, DaemonState, book_after, book_reply, daemon_rule, hosts, is_older, looks, me, moved_to, open_to_ask, restarted, shut_where, with_asker}
+use Rattle.cx_run.specs.cx_rules_session.specs.Guests.{GuestRow, GuestStage}
+use Rattle.cx_run.specs.cx_rules_session.specs.Hosting.{Hosted}
+use Rattle.cx_run.specs.cx_rules_session.specs.Kinds.{arrival_in, of_kind, turn_of_kind}
 
 -- ---- lists
 
@@ -57,6 +50,19 @@ some-found {X} P test (y ∷ ys) x e p = by_test (test y) e (λ found. some-foun
     by_test : (t : Bool) → cond t (Some y) (find test ys) ≡ Some x → (find test ys ≡ Some x → SomeOf P ys) → SomeOf P (y ∷ ys)
     by_test true found rest = let same : y ≡ x = cc in inl (subst P (sym same) p)
     by_test false found rest = inr (rest found)
+
+-- what is so of one of them
+some-of : {X : Type 0} (P : X → Type 0) (xs : List X) (x : X) → Contains xs x → P x → SomeOf P xs
+some-of P [] x has p = absurd (omega (arith, has.1))
+some-of {X} P (y ∷ ys) x has p = by_place (Contains-append_cases (y ∷ []) ys x has) (λ there. some-of P ys x there p)
+  where
+    by_here : Contains {X = X} [] x ⊎ (y ≡ x) → P y
+    by_here (inl none) = absurd (omega (arith, none.1))
+    by_here (inr same) = subst P (sym same) p
+
+    by_place : Contains (y ∷ []) x ⊎ Contains ys x → (Contains ys x → SomeOf P ys) → SomeOf P (y ∷ ys)
+    by_place (inl here) rest = inl (by_here (Contains-push_cases [] y x here))
+    by_place (inr there) rest = inr (rest there)
 
 -- ---- a step
 
@@ -197,172 +203,56 @@ module _ (d : DaemonState) (input : Input) (reading : ℕ) where
       told = all-map IsOfAsker (EntryTold d input reading row.entries row.seals) (asker-told row.entries row.seals) row.entries h.enters;
     }
 
-    stage-turns : (handlers : Handlers) (draw : List ℕ) (stage : DaemonStage) → link.stage ≡ stage
-        → Always Fits (turned_at handlers d.node (arrival (me d.node.own) d.node.own link reading draw) stage)
-    stage-turns handlers draw (AsAcceptor stage) is =
-        let a : Arrival Daemon DaemonStage = arrival (me d.node.own) d.node.own link reading draw in
-        let rule : Deciding Hosted = guest_turned handlers (arrival_in a d.node.own.asker stage) stage in
-        always-map Fits (hosts d.node a) rule
-        (always-weaker (AuthorizedHosted d.node.own.asker (me d.node.own) link.number reading stage) (λ (h : Hosted). Fits (hosts d.node a h)) (λ h ok. hosted-fits stage is draw h ok) rule
-        (guest-authorized handlers (arrival_in a d.node.own.asker stage) stage))
-    stage-turns handlers draw (AsConnector stage) is =
-        own-fits draw (connector.turned_at (arrival_in (arrival (me d.node.own) d.node.own link reading draw) d.node.own.asker stage) stage)
-        (none-turned (arrival_in (arrival (me d.node.own) d.node.own link reading draw) d.node.own.asker stage) stage)
-
-  turn-fits : (handlers : Handlers) (draw : List ℕ) (number : ℕ) → input ≡ Turn number → (found : Option (Link DaemonStage)) → link_of number links ≡ found
-      → Always Fits (turn handlers d.node reading draw found)
-  turn-fits handlers draw number is None at_link = record { authorized = had [] []; told = tt }
-  turn-fits handlers draw number is (Some link) at_link = stage-turns number is link at_link handlers draw link.stage refl
-
   -- ---- the other events
 
-  -- nothing happens to its links
-  still-fits : (o : Outcome DaemonNode) → o.state.links ≡ links → AllByRecursion (EntryTold d input reading o.out.entries o.out.seals) o.out.entries → Fits o
-  still-fits o same entries =
-      record { authorized = subst (λ (ls : List (Link DaemonStage)). AllByRecursion (LinkAuthorized d input reading o.out.entries o.out.seals) ls) (sym same) (had o.out.entries o.out.seals); told = entries }
-
-  idle-fits : Fits (idles d.node)
-  idle-fits = still-fits (idles d.node) refl tt
-
-  guest-opens : (draw : List ℕ) (number : ℕ) → Fits (opens_guest d.node reading draw number)
-  guest-opens draw number = by_test (nat_le 1024 (length links))
-    where
-      by_test : (full : Bool) → Fits (carried_out d.node number false
-          (if full then refuses (arrival (me d.node.own) d.node.own (new_link number (AsAcceptor AwaitsBanner)) reading draw) LinksFull []
-          else goes_on (arrival (me d.node.own) d.node.own (new_link number (AsAcceptor AwaitsBanner)) reading draw) (AsAcceptor AwaitsBanner) own_banner []))
-      by_test true = record { authorized = without-fits _ [] number; told = (tt, tt) }
-      by_test false =
-          record { authorized = put-fits [] [] (record { number = number; received = []; taken = 0; sent = [] ++ own_banner; stage = AsAcceptor AwaitsBanner }) (λ x has. absurd has); told = tt }
-
-  opens-fits : (draw : List ℕ) (number : ℕ) (to : Option Peer) → Fits (opens d.node reading draw number to)
-  opens-fits draw number None = guest-opens draw number
-  opens-fits draw number (Some peer.Monitor) = by_test d.node.own.dials
-    where
-      by_test : (dials : Bool) → Fits (if dials then opens_own (undialled d.node) reading draw number else idles d.node)
-      by_test true = record {
-        authorized = put-fits [] [] (record { number = number; received = []; taken = 0; sent = [] ++ own_banner; stage = AsConnector (connector.AwaitsBanner 0) }) (λ x has. absurd has);
-        told = tt;
-      }
-      by_test false = idle-fits
-  opens-fits draw number (Some (peer.Daemon daemon)) = idle-fits
-
-  unreached-fits : (to : Peer) → Fits (unreached d.node to)
-  unreached-fits peer.Monitor = still-fits (unreached d.node peer.Monitor) refl (tt, tt)
-  unreached-fits (peer.Daemon daemon) = still-fits (unreached d.node (peer.Daemon daemon)) refl (tt, tt)
-
-  fed-fits : (bytes : List ℕ) (number : ℕ) (found : Option (Link DaemonStage)) → link_of number links ≡ found → Fits (fed d.node bytes found)
-  fed-fits bytes number None is = idle-fits
-  fed-fits bytes number (Some link) is = record {
-    authorized = put-fits [] [] (record link { received = link.received ++ bytes })
-        (found_all (LinkAuthorized d input reading [] []) (λ (l : Link DaemonStage). l.number == number) links link (had [] []) is);
-    told = tt;
+  rests-fit : (o : Outcome DaemonNode) → IsRest d.node o → Fits o
+  rests-fit o r = record {
+    authorized = rested-all (λ (n : ℕ) (sent : List ℕ) (st : DaemonStage). (x : Authority) → StageHas st x → HadAuthority d n x ⊎ GetsAuthority d input n reading x o.out.entries o.out.seals)
+        (λ n sent st new x has. absurd (bare st new x has)) links o.state.links r.links
+        (λ l among x has. inl (some-of (λ (k : Link DaemonStage). (k.number ≡ l.number) × StageHas k.stage x) links l among (refl, has)));
+    told = all-map RestEntry (EntryTold d input reading o.out.entries o.out.seals) (rest-told o.out.entries o.out.seals) o.out.entries r.entries;
   }
-
-  forgotten-fits : (number : ℕ) → Fits (idles (forgotten d.node number))
-  forgotten-fits number = record { authorized = without-fits [] [] number; told = tt }
-
-  ended-fits : (number session : ℕ) (r : BookReply) → Always Fits (lossy_gone d.node number session r)
-  ended-fits number session (reply.Ended true) = record { authorized = without-fits _ [] number; told = (tt, tt) }
-  ended-fits number session (reply.Ended false) = forgotten-fits number
-  ended-fits number session (reply.Admitted n epoch) = idle-fits
-  ended-fits number session (reply.Resumed n epoch last lossy) = idle-fits
-  ended-fits number session reply.Fine = idle-fits
-  ended-fits number session (reply.Refused why) = idle-fits
-  ended-fits number session reply.OutOfMemory = idle-fits
-
-  guest-gone : (number : ℕ) (stage : GuestStage) → Always Fits (guest_gone d.node number stage)
-  guest-gone number AwaitsBanner = forgotten-fits number
-  guest-gone number AwaitsHello = forgotten-fits number
-  guest-gone number AwaitsRequest = forgotten-fits number
-  guest-gone number (AwaitsProof awaited) = forgotten-fits number
-  guest-gone number (AwaitsSignature s owner) = forgotten-fits number
-  guest-gone number (AwaitsIdent s owner) = forgotten-fits number
-  guest-gone number (Open s served) = by_test served.lossy
     where
-      by_test : (lossy : Bool) → Always Fits (if lossy then Asking (End served.number) (lossy_gone d.node number served.number) else Finished (idles (forgotten d.node number)))
-      by_test true = λ r. ended-fits number served.number r
-      by_test false = forgotten-fits number
+      bare : (st : DaemonStage) → IsNew st → (x : Authority) → StageHas st x → ⊥
+      bare (AsAcceptor AwaitsBanner) new x has = has
+      bare (AsConnector (connector.AwaitsBanner asked)) new x has = has
+      bare _ new x has = absurd new
 
-  loses-fits : (number : ℕ) (stage : connector.Stage) → Fits (loses d.node number stage)
-  loses-fits number stage = by_test (connector.is_open stage)
+      refusal-told : (es : List Entry) (ss : List SealEntry) (r : Refused) (why : Reason) → IsNoTicket why → RefusalTold d input reading es ss r why
+      refusal-told es ss r (reason.Ticket why blob) h = absurd h
+      refusal-told es ss r _ h = tt
+
+      rest-told : (es : List Entry) (ss : List SealEntry) (e : Entry) → RestEntry e → EntryTold d input reading es ss e
+      rest-told es ss (entry.Refused r) h = refusal-told es ss r r.reason h
+      rest-told es ss (entry.Ended x) h = tt
+      rest-told es ss (entry.Restarted x) h = tt
+      rest-told es ss _ h = absurd h
+
+  sent-fits : (draw : List ℕ) (link : Link DaemonStage) (s : Secured) (requests : Requests) (made : Result SealedFrame Reason) → MadeOrNoTicket made → Fits (carried_out d.node link.number false
+      (lifted (with_asker d.node.own) (sends_request open_to_ask (arrival (me d.node.own) d.node.own.asker link reading draw) s requests (want.Rotating reading) made)))
+  sent-fits draw link s requests (Ok sealed) h = record { authorized = put-fits [] sealed.seals _ (λ x has. absurd has); told = tt }
+  sent-fits draw link s requests (Err why) h = record { authorized = without-fits _ [] link.number; told = (of_login _ _ _ why h, tt) }
     where
-      by_test : (is_open : Bool) → Authorizes d input reading (if is_open then [] else refused_entry (me d.node.own) number Lost ∷ []) [] (without_link number links)
-      by_test true = record { authorized = without-fits [] [] number; told = tt }
-      by_test false = record { authorized = without-fits _ [] number; told = (tt, tt) }
+      of_login : (es : List Entry) (ss : List SealEntry) (r : Refused) (x : Reason) → IsNoTicket x → RefusalTold d input reading es ss r x
+      of_login es ss r (reason.Ticket w blob) k = absurd k
+      of_login es ss r _ k = tt
 
-  gone-fits : (found : Option (Link DaemonStage)) → Always Fits (gone d.node found)
-  gone-fits None = idle-fits
-  gone-fits (Some link) = by_kind link.stage
-    where
-      by_kind : (stage : DaemonStage) → Always Fits (gone_by_kind d.node link.number stage)
-      by_kind (AsAcceptor stage) = guest-gone link.number stage
-      by_kind (AsConnector stage) = loses-fits link.number stage
-
-  fetches-fits : (draw : List ℕ) → Fits (fetches d.node reading draw)
-  fetches-fits draw = by_test (is_fetching d.node)
-    where
-      sent-fits : (link : Link DaemonStage) (s : Secured) (requests : Requests) (made : Result SealedFrame Reason) → IsMadeOfLogin made → Fits (carried_out d.node link.number false
-          (lifted (with_asker d.node.own) (sends_request open_to_ask (arrival (me d.node.own) d.node.own.asker link reading draw) s requests (want.Rotating reading) made)))
-      sent-fits link s requests (Ok sealed) h = record { authorized = put-fits [] sealed.seals _ (λ x has. absurd has); told = tt }
-      sent-fits link s requests (Err why) h = record { authorized = without-fits _ [] link.number; told = (of_login _ _ _ why h, tt) }
-        where
-          of_login : (es : List Entry) (ss : List SealEntry) (r : Refused) (x : Reason) → IsOfLogin x → RefusalTold d input reading es ss r x
-          of_login es ss r (reason.Ticket w blob) k = absurd k
-          of_login es ss r _ k = tt
-
-      by_open : (found : Option (Link DaemonStage × (Secured × Requests))) → Fits (fetches_on d.node reading draw found)
-      by_open None = still-fits (fetches_on d.node reading draw None) refl tt
-      by_open (Some (link, (s, requests))) =
-          sent-fits link s requests (sealed_request s.keys requests asked.Rotating) (sealed-of_login s.keys requests asked.Rotating)
-
-      by_test : (under_way : Bool) → Fits (if under_way then idles d.node else fetches_on d.node reading draw (first_open asking_open links))
-      by_test true = idle-fits
-      by_test false = by_open (first_open asking_open links)
-
-  ticks-fits : (draw : List ℕ) → Fits (ticks d.node reading draw)
-  ticks-fits draw = by_test (is_outdated reading d.node.own.asker.view)
-    where
-      by_test : (outdated : Bool) → Fits (if outdated then fetches d.node reading draw else idles d.node)
-      by_test true = fetches-fits draw
-      by_test false = idle-fits
-
-  dropped-fits : (session : ℕ) (r : BookReply) → Always Fits (on_dropped d.node session r)
-  dropped-fits session (reply.Ended true) =
-      shut-fits (λ (l : Link DaemonStage). is_in session l.stage) (record { state = d.node; out = record nothing { entries = ended_entry d.node session ∷ [] } })
-      (still-fits (record { state = d.node; out = record nothing { entries = ended_entry d.node session ∷ [] } }) refl (tt, tt))
-  dropped-fits session (reply.Ended false) = idle-fits
-  dropped-fits session (reply.Admitted n epoch) = idle-fits
-  dropped-fits session (reply.Resumed n epoch last lossy) = idle-fits
-  dropped-fits session reply.Fine = idle-fits
-  dropped-fits session (reply.Refused why) = idle-fits
-  dropped-fits session reply.OutOfMemory = idle-fits
-
-  submits-fits : (draw : List ℕ) (said : Command) → Always Fits (submits d.node reading draw said)
-  submits-fits draw command.Fetch = fetches-fits draw
-  submits-fits draw (command.Drop session) = λ r. dropped-fits session r
-  submits-fits draw (command.Login services) = idle-fits
-  submits-fits draw (command.Renew services) = idle-fits
-  submits-fits draw (command.Connect daemon lossy) = idle-fits
-  submits-fits draw (command.Send daemon operation) = idle-fits
-
--- ---- any event
-
-rule-fits : (handlers : Handlers) (d : DaemonState) (input : Input) (reading : ℕ) (draw : List ℕ) → Always (Fits d input reading) (daemon_rule handlers d.node input reading draw)
-rule-fits handlers d (Opened number to) reading draw = opens-fits d (Opened number to) reading draw number to
-rule-fits handlers d (NoLink to) reading draw = unreached-fits d (NoLink to) reading to
-rule-fits handlers d (Bytes number bytes) reading draw = fed-fits d (Bytes number bytes) reading bytes number (link_of number d.node.links) refl
-rule-fits handlers d (Turn number) reading draw = turn-fits d (Turn number) reading handlers draw number refl (link_of number d.node.links) refl
-rule-fits handlers d (Gone number) reading draw = gone-fits d (Gone number) reading (link_of number d.node.links)
-rule-fits handlers d (Submit said) reading draw = submits-fits d (Submit said) reading draw said
-rule-fits handlers d Tick reading draw = ticks-fits d Tick reading draw
-rule-fits handlers d (Look view) reading draw = still-fits d (Look view) reading (idles (record d.node { own = record d.node.own { asker = record d.node.own.asker { view = view } } })) refl tt
-rule-fits handlers d Restart reading draw = record { authorized = tt; told = (tt, tt) }
-
--- with whatever book
-pub always-book : {B C R X : Type 0} (P : X → Type 0) (replies : B → C → R) (behind : B → C → B) (book : B) (rule : Asks C R X) → Always P rule → P (with_book replies behind book rule).0
-always-book P replies behind book (Finished x) h = h
-always-book P replies behind book (Asking call next) h = always-book P replies behind (behind book call) (next (replies book call)) (h (replies book call))
+  each-fits : (handlers : Handlers) (draw : List ℕ) → RestsAndTurns handlers d.node reading draw input Fits
+  each-fits handlers draw = record {
+    rests = λ o r own. rests-fit o r;
+    shown = λ view is r. rests-fit (looks d.node view) r;
+    restarts = λ r. rests-fit (restarted d.node) r;
+    hosting = λ number link stage at found is.
+        always-weaker (AuthorizedHosted d.node.own.asker (me d.node.own) link.number reading stage) (λ (h : Hosted). Fits (hosts d.node (came handlers d.node reading draw link) h))
+        (λ h ok. hosted-fits number at link found stage is draw h ok) (guest_rule handlers d.node reading draw link stage)
+        (guest-authorized handlers (arrival_in (came handlers d.node reading draw link) d.node.own.asker stage) stage);
+    asking = λ number link stage at found is. own-fits number at link found draw _
+        (none-turned (arrival_in (came handlers d.node reading draw link) d.node.own.asker stage) stage);
+    fetches_there = λ link s requests is.
+        sent-fits draw link s requests (sealed_request s.keys requests asked.Rotating) (request-no_ticket s.keys requests asked.Rotating);
+  }
 
 pub all-authorize : (handlers : Handlers) (d : DaemonState) (input : Input) (reading : ℕ) (draw : List ℕ) → StepAuthorizes handlers d input reading draw
 all-authorize handlers d input reading draw =
-    always-book (Fits d input reading) book_reply book_after d.book (daemon_rule handlers d.node input reading draw) (rule-fits handlers d input reading draw)
+    always-book (Fits d input reading) book_reply book_after d.book (daemon_rule handlers d.node input reading draw)
+    (rests-keep handlers d.node reading draw input (Fits d input reading) (each-fits d input reading handlers draw))

@@ -21,7 +21,6 @@ use Rattle.cx_dice.specs.Draws.{challenge_of, connection_of, session_of}
 use Rattle.cx_enc.specs.declared.keys.Key.{Key}
 use Rattle.cx_frame.specs.declared.frame.Frame.{Frame}
 use Rattle.cx_laws_calling.specs.cx_journal.specs.declared.entries.Entry.{Entry}
-use Rattle.cx_base.specs.declared.nodes.NodeName.TheVariants as node
 use Rattle.cx_laws_calling.specs.cx_journal.specs.declared.entries.Entry.TheVariants as journal
 use Rattle.cx_laws_calling.specs.cx_journal.specs.declared.entries.Issued.{Issued}
 use Rattle.cx_laws_calling.specs.cx_journal.specs.declared.faults.BytesFault.{BytesFault}
@@ -56,7 +55,7 @@ use Rattle.cx_laws_calling.specs.cx_rules.specs.Payloads.{control, due, payload,
 use Rattle.cx_laws_calling.specs.cx_rules.specs.Replies.{Responded, answers, answers_by, asking_of, issues_tickets, others_for, tells_generations, tells_tickets}
 use Rattle.cx_laws_calling.specs.cx_rules.specs.Rows.{at, goes_on, plain_sent, refuses, refuses_bytes, secure_sent, sends_secure, with_opened}
 use Rattle.cx_laws_calling.specs.cx_rules.specs.Secured.{SealedFrame, Secured, is_signed, plain_frame, secure_frame, signature_found, under}
-use Rattle.cx_laws_calling.specs.cx_rules.specs.Tickets.{issued_entry, issued_for, rotation_drawn, services_for}
+use Rattle.cx_laws_calling.specs.cx_rules.specs.Tickets.{issued_for, rotation_drawn, services_for}
 use Rattle.cx_laws_calling.specs.cx_rules.specs.Upkeep.{on_keepalive, on_keepalive_ack}
 use Rattle.cx_laws_calling.specs.cx_rules.specs.Verdicts.{Entrant, Numbered, asking_for, entrant, handed_out, issues, issues_to, key_of, login_entries, numbered, numbers, rotates}
 use Rattle.cx_laws_calling.specs.cx_rules.specs.declared.responses.Bearer.{Bearer}
@@ -74,10 +73,10 @@ use Rattle.cx_laws_calling.specs.cx_wire.specs.declared.logins.Authenticate.{Aut
 use Rattle.cx_laws_calling.specs.cx_wire.specs.declared.logins.LoginHello.{LoginHello}
 use Rattle.cx_laws_chain.specs.Chain.{IsMadeUnder}
 use Rattle.cx_laws_calling.specs.cx_laws_keys.proofs.Journal.{IsNotIssued}
-use Rattle.cx_laws_calling.specs.cx_laws_keys.proofs.Lists.{all-map, all-of-map}
 use Rattle.cx_laws_calling.specs.cx_laws_login.proofs.Entering.{issued_of}
-use Rattle.cx_laws_calling.specs.cx_laws_login.proofs.Proving.{RowOf, by-front, of-login}
+use Rattle.cx_laws_calling.specs.cx_laws_login.proofs.Proving.{RowOf, of-login}
 use Rattle.cx_laws_calling.specs.cx_laws_login.proofs.Under.{AreOfCurrent, IsOfCurrent, all-under}
+use Rattle.cx_laws_calling.specs.cx_run.proofs.Taking.{each-turned}
 
 -- ---- states
 
@@ -107,60 +106,6 @@ rotated-is reading draw old = record { life = refl; auth_life = refl; generation
     by_service Mon = refl
     by_service Client = refl
 
--- ---- entries
-
--- what the monitor enters: that it saved its state, a ticket, a refusal, or that it began anew
-abbrev pub IsOfMonitor : Entry → Type 0
-IsOfMonitor (journal.Saved gid) = Unit {0}
-IsOfMonitor (journal.Issued ticket) = Unit {0}
-IsOfMonitor (journal.Refused r) = Unit {0}
-IsOfMonitor (journal.Restarted at) = at ≡ node.Monitor
-IsOfMonitor _ = ⊥
-
--- and where it issues nothing
-abbrev pub IsBare : Entry → Type 0
-IsBare (journal.Saved gid) = Unit {0}
-IsBare (journal.Refused r) = Unit {0}
-IsBare (journal.Restarted at) = at ≡ node.Monitor
-IsBare _ = ⊥
-
-pub bare-not_issued : (e : Entry) → IsBare e → IsNotIssued e
-bare-not_issued (journal.Saved x) h = tt
-bare-not_issued (journal.Issued x) h = absurd h
-bare-not_issued (journal.Fetched x) h = absurd h
-bare-not_issued (journal.Looked x) h = absurd h
-bare-not_issued (journal.Admitted x) h = absurd h
-bare-not_issued (journal.Resumed x) h = absurd h
-bare-not_issued (journal.Sent x) h = absurd h
-bare-not_issued (journal.Handled x) h = absurd h
-bare-not_issued (journal.Answered x) h = absurd h
-bare-not_issued (journal.Refused x) h = tt
-bare-not_issued (journal.Ended x) h = absurd h
-bare-not_issued (journal.Restarted x) h = tt
-bare-not_issued (journal.Broken x) h = absurd h
-bare-not_issued (journal.Leaked x) h = absurd h
-
-bare-of : (e : Entry) → IsBare e → IsOfMonitor e
-bare-of (journal.Saved x) h = tt
-bare-of (journal.Issued x) h = absurd h
-bare-of (journal.Fetched x) h = absurd h
-bare-of (journal.Looked x) h = absurd h
-bare-of (journal.Admitted x) h = absurd h
-bare-of (journal.Resumed x) h = absurd h
-bare-of (journal.Sent x) h = absurd h
-bare-of (journal.Handled x) h = absurd h
-bare-of (journal.Answered x) h = absurd h
-bare-of (journal.Refused x) h = tt
-bare-of (journal.Ended x) h = absurd h
-bare-of (journal.Restarted x) h = h
-bare-of (journal.Broken x) h = absurd h
-bare-of (journal.Leaked x) h = absurd h
-
--- so are those of tickets
-login-of : (save : Option KeptState) (ts : List Ticket) → AllByRecursion IsOfMonitor (login_entries save ts)
-login-of None ts = all-of-map IsOfMonitor issued_entry ts (λ t. tt)
-login-of (Some state) ts = (tt, all-of-map IsOfMonitor issued_entry ts (λ t. tt))
-
 -- ---- rows
 
 -- each ticket of these entries is under the current generation of its service in this server, and is made by its keyring at this reading, with this draw
@@ -174,7 +119,6 @@ pub record GoesOn (reading : ℕ) (draw : List ℕ) (before behind : Monitor) (e
   pub state : StateGoesOn reading draw before.server.state behind.server.state
   pub ring : behind.server.ring ≡ before.server.ring
   pub before_is : behind.saved_before ≡ before.saved_before
-  pub of : AllByRecursion IsOfMonitor entries
   pub saves : ((behind.saved ≡ before.saved) × AllByRecursion IsNotIssued entries) ⊎ ((behind.saved ≡ behind.server.state) × AreUnder reading draw behind.server entries)
 
 abbrev pub RowGoesOn : MonitorArrival → MonitorRow → Type 0
@@ -182,9 +126,9 @@ RowGoesOn a row = GoesOn a.reading a.draw a.own row.own row.entries
 
 -- the monitor's own is what it was, and no ticket is issued and no view told
 abbrev IsStill : MonitorArrival → MonitorRow → Type 0
-IsStill a row = (row.own ≡ a.own) × AllByRecursion IsBare row.entries
+IsStill a row = (row.own ≡ a.own) × AllByRecursion IsNotIssued row.entries
 
-pub still-goes_on : (reading : ℕ) (draw : List ℕ) (before behind : Monitor) (entries : List Entry) → behind ≡ before → AllByRecursion IsBare entries
+pub still-goes_on : (reading : ℕ) (draw : List ℕ) (before behind : Monitor) (entries : List Entry) → behind ≡ before → AllByRecursion IsNotIssued entries
     → GoesOn reading draw before behind entries
 still-goes_on reading draw before behind entries same none = record {
   state = record {
@@ -194,8 +138,7 @@ still-goes_on reading draw before behind entries same none = record {
   };
   ring = ap (λ (m : Monitor). m.server.ring) same;
   before_is = ap (λ (m : Monitor). m.saved_before) same;
-  of = all-map IsBare IsOfMonitor bare-of entries none;
-  saves = inl (ap (λ (m : Monitor). m.saved) same, all-map IsBare IsNotIssued bare-not_issued entries none);
+  saves = inl (ap (λ (m : Monitor). m.saved) same, none);
 }
 
 still-row : (a : MonitorArrival) (row : MonitorRow) → IsStill a row → RowGoesOn a row
@@ -308,23 +251,21 @@ module _ (a : MonitorArrival) where
   Rotates server = IsRotated a.reading a.draw a.own.server.state server.state × (server.ring ≡ a.own.server.ring)
 
   -- nothing is saved
-  unsaved-row : (server : Server) (row : MonitorRow) → Rotates server → row.own ≡ record a.own { server = server } → AllByRecursion IsBare row.entries → RowGoesOn a row
+  unsaved-row : (server : Server) (row : MonitorRow) → Rotates server → row.own ≡ record a.own { server = server } → AllByRecursion IsNotIssued row.entries → RowGoesOn a row
   unsaved-row server row h same none = subst (λ (m : Monitor). GoesOn a.reading a.draw a.own m row.entries) (sym same) (record {
     state = rotated-goes_on a.reading a.draw a.own.server.state server.state h.0;
     ring = h.1;
     before_is = refl;
-    of = all-map IsBare IsOfMonitor bare-of row.entries none;
-    saves = inl (refl, all-map IsBare IsNotIssued bare-not_issued row.entries none);
+    saves = inl (refl, none);
   })
 
   -- what there is now is saved
-  saved-goes_on : (server : Server) (saved : KeptState) (entries : List Entry) → Rotates server → saved ≡ server.state → AreUnder a.reading a.draw server entries → AllByRecursion IsOfMonitor entries
+  saved-goes_on : (server : Server) (saved : KeptState) (entries : List Entry) → Rotates server → saved ≡ server.state → AreUnder a.reading a.draw server entries
       → GoesOn a.reading a.draw a.own (record a.own { server = server; saved = saved }) entries
-  saved-goes_on server saved entries h same tickets entered = record {
+  saved-goes_on server saved entries h same tickets = record {
     state = rotated-goes_on a.reading a.draw a.own.server.state server.state h.0;
     ring = h.1;
     before_is = refl;
-    of = entered;
     saves = inr (same, tickets);
   }
 
@@ -337,7 +278,6 @@ module _ (a : MonitorArrival) where
       unsaved-row a server (refuses_bytes (with_server a server) why (handed_out (occasion a) server e own ts).seals) h refl (tt, tt)
   handed-row server e own ts (Ok done) h tickets =
       saved-goes_on a server _ (login_entries (changed a.own.saved server.state) ts) h (saved-changed a.own.saved server.state) (entered-under a.reading a.draw server (changed a.own.saved server.state) ts tickets)
-      (login-of (changed a.own.saved server.state) ts)
 
   issued-row : (server : Server) (e : Entrant) (own : List ℕ) (tickets : Result (List Ticket) LoginFault) → Rotates a server → AreOfCurrent server a.reading a.draw tickets
       → RowGoesOn a (row_of a (issues (occasion a) server e own tickets))
@@ -413,7 +353,6 @@ module _ (a : MonitorArrival) (s : Secured) (bearer : Bearer) where
   record RepliesUnder (server : Server) (made : ReplyMade) : Type 0 where
     save : made.save ≡ changed a.own.saved server.state
     tickets : AreUnder a.reading a.draw server made.entries
-    of : AllByRecursion IsOfMonitor made.entries
 
   abbrev AnswersUnder : Server → Response → Type 0
   AnswersUnder server (response.Refuses why drawn) = Unit {0}
@@ -425,7 +364,7 @@ module _ (a : MonitorArrival) (s : Secured) (bearer : Bearer) where
   tickets-answer : (server : Server) (drawn : List SealEntry) (own : List ℕ) (tickets : Result (List Ticket) LoginFault) → AreOfCurrent server a.reading a.draw tickets
       → RespondsUnder server (tells_tickets (request_occasion a) server bearer drawn own tickets)
   tickets-answer server drawn own (Err why) h = (refl, tt)
-  tickets-answer server drawn own (Ok ts) h = (refl, record { save = refl; tickets = entered-under a.reading a.draw server (changed a.own.saved server.state) ts h; of = login-of (changed a.own.saved server.state) ts })
+  tickets-answer server drawn own (Ok ts) h = (refl, record { save = refl; tickets = entered-under a.reading a.draw server (changed a.own.saved server.state) ts h })
 
   issues-answer : (server : Server) (drawn : List SealEntry) (keys : ℕ) (own : Option Key)
       → RespondsUnder server (issues_tickets (request_occasion a) server bearer drawn keys own)
@@ -437,7 +376,7 @@ module _ (a : MonitorArrival) (s : Secured) (bearer : Bearer) where
   generations-answer : (server : Server) (drawn : List SealEntry) (own : Option Key) (found : Result (List Generation) NotADaemon)
       → RespondsUnder server (tells_generations (request_occasion a) server bearer drawn own found)
   generations-answer server drawn (Some own) (Ok generations) =
-      (refl, record { save = refl; tickets = entered-under a.reading a.draw server (changed a.own.saved server.state) [] tt; of = login-of (changed a.own.saved server.state) [] })
+      (refl, record { save = refl; tickets = entered-under a.reading a.draw server (changed a.own.saved server.state) [] tt })
   generations-answer server drawn (Some own) (Err why) = (refl, tt)
   generations-answer server drawn None (Ok generations) = (refl, tt)
   generations-answer server drawn None (Err why) = (refl, tt)
@@ -451,7 +390,7 @@ module _ (a : MonitorArrival) (s : Secured) (bearer : Bearer) where
       → RowGoesOn a (sends_reply Open (serving a server) s bearer seq made sealing)
   reply-row server seq made (Err why) h reply = unsaved-row a server (refuses_bytes (serving a server) why made.seals) h refl (tt, tt)
   reply-row server seq made (Ok sent) h reply =
-      saved-goes_on a server _ made.entries h (subst (λ (save : Option KeptState). saved_behind a.own.saved save ≡ server.state) (sym reply.save) (saved-changed a.own.saved server.state)) reply.tickets reply.of
+      saved-goes_on a server _ made.entries h (subst (λ (save : Option KeptState). saved_behind a.own.saved save ≡ server.state) (sym reply.save) (saved-changed a.own.saved server.state)) reply.tickets
 
   responds-row : (server : Server) (demand : Demand) (r : Response) → Rotates a server → AnswersUnder server r → RowGoesOn a (responds Open (serving a server) s bearer demand r)
   responds-row server demand (response.Refuses why drawn) h under = unsaved-row a server (refuses (serving a server) why drawn) h refl (tt, tt)
@@ -479,29 +418,29 @@ module _ (a : MonitorArrival) (s : Secured) (bearer : Bearer) where
 -- ---- turns
 
 opened-row : (a : MonitorArrival) (opened : List SealEntry) (row : MonitorRow) → RowGoesOn a row → RowGoesOn a (with_opened opened row)
-opened-row a opened row h = record { state = h.state; ring = h.ring; before_is = h.before_is; of = h.of; saves = h.saves }
+opened-row a opened row h = record { state = h.state; ring = h.ring; before_is = h.before_is; saves = h.saves }
 
 pub turned-row : (a : MonitorArrival) (stage : MonitorStage) → RowOf (RowGoesOn a) (turned_at a stage)
 turned-row a AwaitsBanner =
-    by-front (RowGoesOn a) (λ link _. on_banner Mon (at a link)) (banner_next a.link)
-    (λ link opened. still-row a (on_banner Mon (at a link)) (still-plain (at a link) AwaitsHello [] (plain_frame (own_hello Mon))))
+    each-turned (RowGoesOn a) (λ link _. on_banner Mon (at a link))
+    (λ link opened. still-row a (on_banner Mon (at a link)) (still-plain (at a link) AwaitsHello [] (plain_frame (own_hello Mon)))) (banner_next a.link)
 turned-row a AwaitsHello =
-    by-front (RowGoesOn a) (λ (link, f) _. on_hello (at a link) (due 1 hello_layout.form f)) (plain_next a.link)
-    (λ (link, f) opened. still-row a (on_hello (at a link) (due 1 hello_layout.form f)) (still-hello (at a link) (due 1 hello_layout.form f)))
+    each-turned (RowGoesOn a) (λ (link, f) _. on_hello (at a link) (due 1 hello_layout.form f))
+    (λ (link, f) opened. still-row a (on_hello (at a link) (due 1 hello_layout.form f)) (still-hello (at a link) (due 1 hello_layout.form f))) (plain_next a.link)
 turned-row a AwaitsRequest =
-    by-front (RowGoesOn a) (λ (link, f) _. on_auth_request on_request_payload (at a link) (due 2 auth_request_layout.form f)) (plain_next a.link)
-    (λ (link, f) opened. still-row a (on_auth_request on_request_payload (at a link) (due 2 auth_request_layout.form f)) (still-request (at a link) (due 2 auth_request_layout.form f)))
+    each-turned (RowGoesOn a) (λ (link, f) _. on_auth_request on_request_payload (at a link) (due 2 auth_request_layout.form f))
+    (λ (link, f) opened. still-row a (on_auth_request on_request_payload (at a link) (due 2 auth_request_layout.form f)) (still-request (at a link) (due 2 auth_request_layout.form f))) (plain_next a.link)
 turned-row a (AwaitsProof offered) =
-    by-front (RowGoesOn a) (λ (link, f) _. on_auth_request_more (at a link) offered (due 5 auth_request_more_layout.form f)) (plain_next a.link)
-    (λ (link, f) opened. more-row (at a link) offered (due 5 auth_request_more_layout.form f))
+    each-turned (RowGoesOn a) (λ (link, f) _. on_auth_request_more (at a link) offered (due 5 auth_request_more_layout.form f))
+    (λ (link, f) opened. more-row (at a link) offered (due 5 auth_request_more_layout.form f)) (plain_next a.link)
 turned-row a (AwaitsSignature s bearer) =
-    by-front (RowGoesOn a) (λ (link, f, keys) opened. with_opened opened (on_signature (at a link) (under s keys) bearer (due 7 auth_signature_layout.form f))) (secure_next s.keys a.link)
+    each-turned (RowGoesOn a) (λ (link, f, keys) opened. with_opened opened (on_signature (at a link) (under s keys) bearer (due 7 auth_signature_layout.form f)))
     (λ (link, f, keys) opened. opened-row a opened (on_signature (at a link) (under s keys) bearer (due 7 auth_signature_layout.form f))
-    (still-row a (on_signature (at a link) (under s keys) bearer (due 7 auth_signature_layout.form f)) (still-signature bearer (at a link) (under s keys) (due 7 auth_signature_layout.form f))))
+    (still-row a (on_signature (at a link) (under s keys) bearer (due 7 auth_signature_layout.form f)) (still-signature bearer (at a link) (under s keys) (due 7 auth_signature_layout.form f)))) (secure_next s.keys a.link)
 turned-row a (AwaitsIdent s bearer) =
-    by-front (RowGoesOn a) (λ (link, f, keys) opened. with_opened opened (on_ident (at a link) (under s keys) bearer f)) (secure_next s.keys a.link)
+    each-turned (RowGoesOn a) (λ (link, f, keys) opened. with_opened opened (on_ident (at a link) (under s keys) bearer f))
     (λ (link, f, keys) opened. opened-row a opened (on_ident (at a link) (under s keys) bearer f)
-    (still-row a (on_ident (at a link) (under s keys) bearer f) (still-ident bearer (at a link) (under s keys) f)))
+    (still-row a (on_ident (at a link) (under s keys) bearer f) (still-ident bearer (at a link) (under s keys) f))) (secure_next s.keys a.link)
 turned-row a (Open s bearer) =
-    by-front (RowGoesOn a) (λ (link, f, keys) opened. with_opened opened (on_open Open (at a link) (under s keys) bearer f)) (secure_next s.keys a.link)
-    (λ (link, f, keys) opened. opened-row a opened (on_open Open (at a link) (under s keys) bearer f) (open-row (at a link) (under s keys) bearer f))
+    each-turned (RowGoesOn a) (λ (link, f, keys) opened. with_opened opened (on_open Open (at a link) (under s keys) bearer f))
+    (λ (link, f, keys) opened. opened-row a opened (on_open Open (at a link) (under s keys) bearer f) (open-row (at a link) (under s keys) bearer f)) (secure_next s.keys a.link)

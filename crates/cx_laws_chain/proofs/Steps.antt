@@ -16,7 +16,7 @@ use Rattle.cx_laws_calling.specs.cx_rules.specs.Monitor.{Monitor, MonitorArrival
 use Rattle.cx_laws_calling.specs.cx_rules.specs.MonitorRule.{monitor_rule, monitor_step, noted, opens, turn, turned_at}
 use Rattle.cx_laws_calling.specs.cx_rules.specs.Rows.{Outcome, Turned, Waits, Refuses, Handles, arrival, carried_out, fed, goes_on, new_link, refuses, turns}
 use Rattle.cx_laws_calling.specs.cx_run.specs.Happenings.{Nodes, monitor_steps}
-use Rattle.cx_laws_chain.proofs.Rows.{AreUnder, GoesOn, IsBare, IsOfMonitor, RowGoesOn, StateGoesOn, still-goes_on, turned-row}
+use Rattle.cx_laws_chain.proofs.Rows.{AreUnder, GoesOn, RowGoesOn, StateGoesOn, still-goes_on, turned-row}
 use Rattle.cx_laws_calling.specs.cx_laws_keys.proofs.Journal.{IsNotIssued}
 use Rattle.cx_laws_calling.specs.cx_laws_login.proofs.Proving.{RowOf, none-issued}
 
@@ -29,13 +29,12 @@ pub record BeginsAnew (before behind : Monitor) (entries : List Entry) : Type 0 
   pub saved : behind.saved ≡ before.saved
   pub before_is : behind.saved_before ≡ before.saved_before
   pub none : AllByRecursion IsNotIssued entries
-  pub of : AllByRecursion IsOfMonitor entries
 
 abbrev StepGoesOn : ℕ → List ℕ → Monitor → Outcome MonitorNode → Type 0
 StepGoesOn reading draw before o = GoesOn reading draw before o.state.own o.out.entries ⊎ BeginsAnew before o.state.own o.out.entries
 
 module _ (m : MonitorNode) (reading : ℕ) (draw : List ℕ) where
-  still-step : (o : Outcome MonitorNode) → o.state.own ≡ m.own → AllByRecursion IsBare o.out.entries → StepGoesOn reading draw m.own o
+  still-step : (o : Outcome MonitorNode) → o.state.own ≡ m.own → AllByRecursion IsNotIssued o.out.entries → StepGoesOn reading draw m.own o
   still-step o same none = inl (still-goes_on reading draw m.own o.state.own o.out.entries same none)
 
   turn-step : (link : Option (Link MonitorStage)) → StepGoesOn reading draw m.own (turn m reading draw link)
@@ -67,7 +66,7 @@ module _ (m : MonitorNode) (reading : ℕ) (draw : List ℕ) where
   step-goes_on (Bytes number bytes) = fed-step bytes (link_of number m.links)
   step-goes_on (Turn number) = turn-step (link_of number m.links)
   step-goes_on (Gone number) = still-step (monitor_step m (Gone number) reading draw) refl tt
-  step-goes_on Restart = inr (record { state = refl; ring = refl; saved = refl; before_is = refl; none = (tt, tt); of = (refl, tt) })
+  step-goes_on Restart = inr (record { state = refl; ring = refl; saved = refl; before_is = refl; none = (tt, tt) })
   step-goes_on (NoLink peer) = still-step (monitor_step m (NoLink peer) reading draw) refl (tt, tt)
   step-goes_on (Look view) = still-step (monitor_step m (Look view) reading draw) refl tt
   step-goes_on Tick = still-step (monitor_step m Tick reading draw) refl tt
@@ -79,7 +78,6 @@ module _ (m : MonitorNode) (reading : ℕ) (draw : List ℕ) where
 pub record EventGoesOn (reading : ℕ) (draw : List ℕ) (before behind : Monitor) (entries : List Entry) : Type 0 where
   pub state : StateGoesOn reading draw before.server.state behind.server.state
   pub ring : behind.server.ring ≡ before.server.ring
-  pub of : AllByRecursion IsOfMonitor entries
   pub saves : ((behind.saved ≡ before.saved) × AllByRecursion IsNotIssued entries) ⊎ ((behind.saved ≡ behind.server.state) × AreUnder reading draw behind.server entries)
 
 pub record EventBegins (before behind : Monitor) (entries : List Entry) : Type 0 where
@@ -87,7 +85,6 @@ pub record EventBegins (before behind : Monitor) (entries : List Entry) : Type 0
   pub ring : behind.server.ring ≡ before.server.ring
   pub saved : behind.saved ≡ before.saved
   pub none : AllByRecursion IsNotIssued entries
-  pub of : AllByRecursion IsOfMonitor entries
 
 abbrev pub ComesOn : ℕ → List ℕ → Monitor → Monitor → List Entry → Type 0
 ComesOn reading draw before behind entries = EventGoesOn reading draw before behind entries ⊎ EventBegins before behind entries
@@ -95,21 +92,21 @@ ComesOn reading draw before behind entries = EventGoesOn reading draw before beh
 -- no save fails
 goes-saved : (reading : ℕ) (draw : List ℕ) (m : MonitorNode) (o : Outcome MonitorNode) → StepGoesOn reading draw (noted m).own o
     → ComesOn reading draw m.own o.state.own o.out.entries
-goes-saved reading draw m o (inl h) = inl (record { state = h.state; ring = h.ring; of = h.of; saves = h.saves })
-goes-saved reading draw m o (inr h) = inr (record { state = h.state; ring = h.ring; saved = h.saved; none = h.none; of = h.of })
+goes-saved reading draw m o (inl h) = inl (record { state = h.state; ring = h.ring; saves = h.saves })
+goes-saved reading draw m o (inr h) = inr (record { state = h.state; ring = h.ring; saved = h.saved; none = h.none })
 
 -- one fails: nothing is entered, and what was saved last is the state of before, or the new one
 goes-failed : (reading : ℕ) (draw : List ℕ) (m : MonitorNode) (o : Outcome MonitorNode) (l : LeftState) (saved : KeptState) (nodes : Nodes) → StepGoesOn reading draw (noted m).own o
     → ComesOn reading draw m.own (monitor_steps nodes o (Some l) (Some saved)).nodes.monitor.own (monitor_steps nodes o (Some l) (Some saved)).out.entries
-goes-failed reading draw m o left.Old saved nodes (inl h) = inl (record { state = h.state; ring = h.ring; of = tt; saves = inl (h.before_is, tt) })
+goes-failed reading draw m o left.Old saved nodes (inl h) = inl (record { state = h.state; ring = h.ring; saves = inl (h.before_is, tt) })
 goes-failed reading draw m o left.New saved nodes (inl h) = by_saves h.saves
   where
     by_saves : ((o.state.own.saved ≡ m.own.saved) × AllByRecursion IsNotIssued o.out.entries) ⊎ ((o.state.own.saved ≡ o.state.own.server.state) × AreUnder reading draw o.state.own.server o.out.entries)
         → ComesOn reading draw m.own (monitor_steps nodes o (Some left.New) (Some saved)).nodes.monitor.own (monitor_steps nodes o (Some left.New) (Some saved)).out.entries
-    by_saves (inl (same, none)) = inl (record { state = h.state; ring = h.ring; of = tt; saves = inl (same, tt) })
-    by_saves (inr (same, tickets)) = inl (record { state = h.state; ring = h.ring; of = tt; saves = inr (same, λ t has. absurd (none-issued [] tt t has)) })
-goes-failed reading draw m o left.Old saved nodes (inr h) = inr (record { state = h.state; ring = h.ring; saved = h.before_is; none = tt; of = tt })
-goes-failed reading draw m o left.New saved nodes (inr h) = inr (record { state = h.state; ring = h.ring; saved = h.saved; none = tt; of = tt })
+    by_saves (inl (same, none)) = inl (record { state = h.state; ring = h.ring; saves = inl (same, tt) })
+    by_saves (inr (same, tickets)) = inl (record { state = h.state; ring = h.ring; saves = inr (same, λ t has. absurd (none-issued [] tt t has)) })
+goes-failed reading draw m o left.Old saved nodes (inr h) = inr (record { state = h.state; ring = h.ring; saved = h.before_is; none = tt })
+goes-failed reading draw m o left.New saved nodes (inr h) = inr (record { state = h.state; ring = h.ring; saved = h.saved; none = tt })
 
 goes-either : (reading : ℕ) (draw : List ℕ) (nodes : Nodes) (o : Outcome MonitorNode) (l : Option LeftState) (saved : Option KeptState) → StepGoesOn reading draw (noted nodes.monitor).own o
     → ComesOn reading draw nodes.monitor.own (monitor_steps nodes o l saved).nodes.monitor.own (monitor_steps nodes o l saved).out.entries
@@ -125,13 +122,3 @@ pub event-goes_on : (nodes : Nodes) (input : Input) (reading : ℕ) (draw : List
 event-goes_on nodes input reading draw l =
     let o : Outcome MonitorNode = monitor_rule nodes.monitor input reading draw in
     goes-either reading draw nodes o l o.out.save (step-goes_on (noted nodes.monitor) reading draw input)
-
--- what it enters is the monitor's own
-pub event-enters : (nodes : Nodes) (input : Input) (reading : ℕ) (draw : List ℕ) (l : Option LeftState) →
-    let o = monitor_rule nodes.monitor input reading draw in AllByRecursion IsOfMonitor (monitor_steps nodes o l o.out.save).out.entries
-event-enters nodes input reading draw l =
-    by_way (event-goes_on nodes input reading draw l)
-  where
-    by_way : {own next : Monitor} {entries : List Entry} → ComesOn reading draw own next entries → AllByRecursion IsOfMonitor entries
-    by_way (inl e) = e.of
-    by_way (inr e) = e.of

@@ -1,14 +1,14 @@
 -- A turn of a guest's link of a daemon, whatever its book replies, says nothing on links to the monitor.
+use Rattle.std.proofs.Common.{ℕ, Bool, true, false, List, [], ◌∷◌, ◌++◌, Option, Some, None, inl, inr, refl, sym, subst}
+use Rattle.std.specs.List.{AllByRecursion}
+use Rattle.std.specs.Option.{option_map}
+use Rattle.std.specs.Prelude.{IfSome, not}
 use Rattle.cx_base.specs.Names.{Name}
-use Rattle.cx_base.specs.declared.nodes.NodeName.TheVariants as node
 use Rattle.cx_base.specs.declared.nodes.NodeName.{NodeName}
+use Rattle.cx_base.specs.declared.nodes.NodeName.TheVariants as node
 use Rattle.cx_desk.specs.Handlers.{Handlers}
-use Rattle.cx_journal.specs.declared.entries.Entry.TheVariants as journal
 use Rattle.cx_journal.specs.declared.entries.Entry.{Entry}
-use Rattle.cx_laws_truth.specs.cx_laws_authorize.proofs.DaemonRows.{DaemonStageOk, LinksHave}
-use Rattle.cx_laws_truth.specs.cx_laws_authorize.proofs.Guests.{AuthorizedRow, EntryToldIn}
-use Rattle.cx_laws_truth.specs.cx_laws_authorize.proofs.Hosting.{AuthorizedHosted, always-both, guest-authorized}
-use Rattle.cx_laws_truth.specs.cx_laws_authorize.proofs.Keys.{LinkKeys, StageKeys}
+use Rattle.cx_journal.specs.declared.entries.Entry.TheVariants as journal
 use Rattle.cx_laws_cover.proofs.DaemonQuiet.{all-stay, idle, nothing-none, quiet-node}
 use Rattle.cx_laws_cover.proofs.DaemonReady.{DaemonReady, Keeps, NodeBehind}
 use Rattle.cx_laws_cover.proofs.Elsewhere.{ArePutElsewhere, IsElsewhere, IsPutElsewhere, IsUsedElsewhere, elsewhere-none, elsewhere-plain}
@@ -17,6 +17,10 @@ use Rattle.cx_laws_cover.proofs.GuestPuts.{HostedPuts, TurnedPuts, guest-puts}
 use Rattle.cx_laws_cover.proofs.OtherLinks.{put-itself}
 use Rattle.cx_laws_cover.proofs.OwnRows.{EntersSo, NoFetch}
 use Rattle.cx_laws_cover.proofs.State.{DaemonStageHas}
+use Rattle.cx_laws_truth.specs.cx_laws_authorize.proofs.DaemonRows.{DaemonStageOk, LinksHave}
+use Rattle.cx_laws_truth.specs.cx_laws_authorize.proofs.Guests.{AuthorizedRow, EntryToldIn}
+use Rattle.cx_laws_truth.specs.cx_laws_authorize.proofs.Hosting.{AuthorizedHosted, guest-authorized}
+use Rattle.cx_laws_truth.specs.cx_laws_authorize.proofs.Keys.{LinkKeys, StageKeys}
 use Rattle.cx_laws_truth.specs.cx_laws_fetch.proofs.AskedKnown.{Told}
 use Rattle.cx_laws_truth.specs.cx_laws_fetch.proofs.PointEvents.{events_of}
 use Rattle.cx_laws_truth.specs.cx_laws_fetch.proofs.Retied.{Handed, means-retied, retied, retied_use}
@@ -29,19 +33,15 @@ use Rattle.cx_laws_truth.specs.cx_laws_login.proofs.Proving.{RowOf}
 use Rattle.cx_laws_truth.specs.cx_rules.specs.Holdings.{Asker}
 use Rattle.cx_laws_truth.specs.cx_rules.specs.Links.{Link}
 use Rattle.cx_laws_truth.specs.cx_rules.specs.Rows.{Arrival, Outcome, Turned, Waits, Refuses, Handles, arrival, carried_out, idles, links_behind, refuses_bytes, turns}
-use Rattle.cx_laws_truth.specs.cx_rules_session.specs.DaemonRule.{AsAcceptor, Daemon, DaemonNode, DaemonStage, hosts, is_older, me, moved_to, turned_at, with_asker}
+use Rattle.cx_laws_truth.specs.cx_rules_session.specs.DaemonRule.{AsAcceptor, Daemon, DaemonNode, DaemonStage, hosts, is_older, me, moved_to, with_asker}
 use Rattle.cx_laws_truth.specs.cx_rules_session.specs.Guests.{GuestArrival, GuestRow, GuestStage}
 use Rattle.cx_laws_truth.specs.cx_rules_session.specs.Hosting.{Deciding, Hosted, guest_turned}
 use Rattle.cx_laws_truth.specs.cx_rules_session.specs.Kinds.{arrival_in, of_kind, row_of_kind, turn_of_kind}
-use Rattle.cx_laws_truth.specs.cx_run.proofs.GuestTakes.{Always, always-map, always-weaker}
+use Rattle.cx_laws_truth.specs.cx_run.proofs.Always.{Always, always-both, always-weaker}
 use Rattle.cx_laws_truth.specs.cx_run.specs.Points.{Point}
 use Rattle.cx_steps.specs.declared.seals.Logged.{Logged}
-use Rattle.cx_steps.specs.declared.seals.SealEntry.TheVariants as seal
 use Rattle.cx_steps.specs.declared.seals.SealEntry.{SealEntry}
-use Rattle.std.proofs.Common.{ℕ, Bool, true, false, List, [], ◌∷◌, ◌++◌, Option, Some, None, inl, inr, refl, sym, subst}
-use Rattle.std.specs.List.{AllByRecursion}
-use Rattle.std.specs.Option.{option_map}
-use Rattle.std.specs.Prelude.{IfSome, not}
+use Rattle.cx_steps.specs.declared.seals.SealEntry.TheVariants as seal
 
 -- ---- with what was handed over
 
@@ -104,19 +104,7 @@ module _ (run : WholeRun) (whole : List Logged) (us vs : Uses) (logins : List Ha
   told-none : (link : Link DaemonStage) (stage : GuestStage) (es : List Entry) (ss : List SealEntry) (e : Entry)
       → EntryToldIn d.own.asker (me d.own) link.number p.happening.reading stage es ss e → EntersSo NoFetch e
   told-none link stage es ss (journal.Fetched f) h = absurd h
-  told-none link stage es ss (journal.Saved x) h = tt
-  told-none link stage es ss (journal.Issued x) h = tt
-  told-none link stage es ss (journal.Looked x) h = tt
-  told-none link stage es ss (journal.Admitted x) h = tt
-  told-none link stage es ss (journal.Resumed x) h = tt
-  told-none link stage es ss (journal.Sent x) h = tt
-  told-none link stage es ss (journal.Handled x) h = tt
-  told-none link stage es ss (journal.Answered x) h = tt
-  told-none link stage es ss (journal.Refused x) h = tt
-  told-none link stage es ss (journal.Ended x) h = tt
-  told-none link stage es ss (journal.Restarted x) h = tt
-  told-none link stage es ss (journal.Broken x) h = tt
-  told-none link stage es ss (journal.Leaked x) h = tt
+  told-none link stage es ss _ h = tt
 
   -- a guest's row, of what it puts and enters
   guest-node : (link : Link DaemonStage) (turned : Bool) (row : GuestRow) → ArePutElsewhere vs row.seals → AllByRecursion (EntersSo NoFetch) row.entries
@@ -179,12 +167,12 @@ module _ (run : WholeRun) (whole : List Logged) (us vs : Uses) (logins : List Ha
       by_turned (Handles row) h o = λ at g had. guest-node link true row (h g (had-keys link row.sends row.link had))
           (all-map (EntryToldIn d.own.asker (me d.own) link.number p.happening.reading stage row.entries row.seals) (EntersSo NoFetch) (told-none link stage row.entries row.seals) row.entries o.entries)
 
-  pub guest-turn : (handlers : Handlers) (link : Link DaemonStage) (stage : GuestStage) → StageKeys vs n link.number stage → Always Keeps_ (turned_at handlers d (at_link link) (AsAcceptor stage))
+  pub guest-turn : (handlers : Handlers) (link : Link DaemonStage) (stage : GuestStage) → StageKeys vs n link.number stage
+      → Always (λ (h : Hosted). Keeps_ (hosts d (at_link link) h)) (guest_turned handlers (guest_at link stage) stage)
   guest-turn handlers link stage keys =
       let a : GuestArrival = guest_at link stage in
       let rule : Deciding Hosted = guest_turned handlers a stage in
       let Puts : Hosted → Type 0 = HostedPuts run whole n line us vs log J r.inv r.grows in
       let Owned : Hosted → Type 0 = AuthorizedHosted d.own.asker (me d.own) link.number p.happening.reading stage in
-      always-map Keeps_ (hosts d (at_link link)) rule
-      (always-weaker (λ (h : Hosted). Puts h × Owned h) (λ (h : Hosted). Keeps_ (hosts d (at_link link) h)) (λ h both. hosted-node link stage h both.0 both.1) rule
-      (always-both Puts Owned rule (guest-puts run whole n line us vs log J r.inv r.grows a r.of r.known.fetched.generated handlers stage keys) (guest-authorized handlers a stage)))
+      always-weaker (λ (h : Hosted). Puts h × Owned h) (λ (h : Hosted). Keeps_ (hosts d (at_link link) h)) (λ h both. hosted-node link stage h both.0 both.1) rule
+      (always-both Puts Owned rule (guest-puts run whole n line us vs log J r.inv r.grows a r.of r.known.fetched.generated handlers stage keys) (guest-authorized handlers a stage))

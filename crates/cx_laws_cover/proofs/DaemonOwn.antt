@@ -1,21 +1,24 @@
 -- A turn of a daemon's own link to the monitor, and its asking for generations, keep what is known of links to the monitor; and each fetch that is entered is what
 -- the monitor replied behind its asking.
+use Rattle.std.proofs.Common.{◌≡◌, ℕ, Bool, true, false, List, ◌∷◌, ◌++◌, Option, Some, None, refl, sym, ap, subst}
+use Rattle.std.specs.Option.{option_map}
+use Rattle.std.specs.Prelude.{Contains, IfSome}
 use Rattle.cx_base.specs.Names.{Name}
-use Rattle.cx_base.specs.declared.nodes.NodeName.TheVariants as node
 use Rattle.cx_base.specs.declared.nodes.NodeName.{NodeName}
-use Rattle.cx_journal.specs.declared.entries.Entry.TheVariants as journal
+use Rattle.cx_base.specs.declared.nodes.NodeName.TheVariants as node
 use Rattle.cx_journal.specs.declared.entries.Entry.{Entry}
+use Rattle.cx_journal.specs.declared.entries.Entry.TheVariants as journal
 use Rattle.cx_journal.specs.declared.entries.Fetched.{Fetched}
 use Rattle.cx_laws_cover.proofs.AskerAsks.{rotating-behind}
 use Rattle.cx_laws_cover.proofs.AskerBehind.{AskerBehind}
 use Rattle.cx_laws_cover.proofs.AskerFirst.{HasBehind, TurnBehind}
 use Rattle.cx_laws_cover.proofs.AskerTurned.{asker-turned}
-use Rattle.cx_laws_cover.proofs.DaemonQuiet.{idle, link-stays, rests}
+use Rattle.cx_laws_cover.proofs.DaemonQuiet.{idle, link-stays}
 use Rattle.cx_laws_cover.proofs.DaemonReady.{DaemonReady, Keeps, NodeBehind}
-use Rattle.cx_laws_cover.proofs.DaemonRests.{one-of, still-same}
 use Rattle.cx_laws_cover.proofs.OtherLinks.{behind-others}
 use Rattle.cx_laws_cover.proofs.OwnRows.{EntersSo, FetchedAt, FetchedNext, NoFetch, TurnOwn, request-own, turn-own}
 use Rattle.cx_laws_cover.proofs.State.{AskerHas, DaemonStageHas}
+use Rattle.cx_laws_truth.proofs.DaemonWalk.{one-of}
 use Rattle.cx_laws_truth.specs.cx_laws_fetch.proofs.AllTold.{WasAsked, WasDrawn}
 use Rattle.cx_laws_truth.specs.cx_laws_fetch.proofs.AskedKnown.{AskerTold, Told}
 use Rattle.cx_laws_truth.specs.cx_laws_fetch.proofs.AskerFacts.{StageTold, found-open, kept-is}
@@ -32,20 +35,17 @@ use Rattle.cx_laws_truth.specs.cx_rules.specs.Fronts.{opened_parts, sealed_ahead
 use Rattle.cx_laws_truth.specs.cx_rules.specs.Holdings.{Asker}
 use Rattle.cx_laws_truth.specs.cx_rules.specs.Links.{Link}
 use Rattle.cx_laws_truth.specs.cx_rules.specs.Requests.{Requests, asks_rotating, first_open, sealed_request}
-use Rattle.cx_laws_truth.specs.cx_rules.specs.Rows.{Arrival, Outcome, Row, Turned, Waits, Refuses, Handles, arrival, carried_out, idles, lifted, refuses_bytes, turns}
+use Rattle.cx_laws_truth.specs.cx_rules.specs.Rows.{Arrival, Outcome, Row, Turned, Waits, Refuses, Handles, arrival, carried_out, lifted, refuses_bytes, turns}
 use Rattle.cx_laws_truth.specs.cx_rules.specs.Secured.{Secured}
 use Rattle.cx_laws_truth.specs.cx_rules.specs.declared.requests.Want.TheVariants as want
-use Rattle.cx_laws_truth.specs.cx_rules_session.specs.DaemonRule.{AsAcceptor, AsConnector, Daemon, DaemonNode, DaemonStage, asking_open, fetches, fetches_on, is_fetching, me, open_to_ask, with_asker}
+use Rattle.cx_laws_truth.specs.cx_rules_session.specs.DaemonRule.{AsAcceptor, AsConnector, Daemon, DaemonNode, DaemonStage, asking_open, fetches_on, me, open_to_ask, with_asker}
 use Rattle.cx_laws_truth.specs.cx_rules_session.specs.Kinds.{arrival_in, of_kind, row_of_kind, turn_of_kind}
 use Rattle.cx_laws_truth.specs.cx_run.proofs.Taking.{EachRow}
 use Rattle.cx_laws_truth.specs.cx_run.specs.Points.{Before, Point}
+use Rattle.cx_laws_truth.specs.cx_wire.specs.declared.bodies.Request.TheVariants as asked
 use Rattle.cx_steps.specs.declared.effects.Effects.{Effects}
 use Rattle.cx_steps.specs.declared.seals.Logged.{Logged}
 use Rattle.cx_steps.specs.declared.seals.SealEntry.{SealEntry}
-use Rattle.cx_laws_truth.specs.cx_wire.specs.declared.bodies.Request.TheVariants as asked
-use Rattle.std.proofs.Common.{◌≡◌, ℕ, Bool, true, false, List, ◌∷◌, ◌++◌, Option, Some, None, refl, sym, ap, subst}
-use Rattle.std.specs.Option.{option_map}
-use Rattle.std.specs.Prelude.{Contains, IfSome, if◌then◌else◌}
 
 module _ (run : WholeRun) (whole : List Logged) (us vs : Uses) (logins : List Handed) (told : Told) (past : List Point) (p : Point) (log : List Logged) (J : List Entry) (d : DaemonNode)
     (r : DaemonReady run whole us vs logins told past p log J d) where
@@ -191,15 +191,8 @@ module _ (run : WholeRun) (whole : List Logged) (us vs : Uses) (logins : List Ha
             (subst (λ (k : ℕ). AskerTold (events_of (p ∷ past)) behind_us next (later seals) name k (connector.Open u w)) (sym number) has),
       )
 
-  pub asks-keeps : Keeps_ (fetches d p.happening.reading p.happening.draw)
-  asks-keeps = by_test (is_fetching d)
-    where
-      by_open : (found : Option (Link DaemonStage × (Secured × Requests))) → first_open asking_open d.links ≡ found → Keeps_ (fetches_on d p.happening.reading p.happening.draw found)
-      by_open None is = rests run whole us vs logins told past p log J d r (fetches_on d p.happening.reading p.happening.draw None) (record { seals = refl; entries = tt; secret = refl; links = still-same d.links })
-      by_open (Some (link, (s, q))) is = λ at g had.
-          let o = found-open (λ (l : Link DaemonStage). DaemonStageHas (events_of past) before_us logins told log name l.number l.sent l.stage) asking_open d.links link s q is r.links in
-          request-node link s q (open-so link s q link.stage o.1 o.0)
-
-      by_test : (under_way : Bool) → Keeps_ (if under_way then idles d else fetches_on d p.happening.reading p.happening.draw (first_open asking_open d.links))
-      by_test true = idle run whole us vs logins told past p log J d r
-      by_test false = by_open (first_open asking_open d.links) refl
+  pub asks-keeps : (link : Link DaemonStage) (s : Secured) (q : Requests) → first_open asking_open d.links ≡ Some (link, (s, q))
+      → Keeps_ (fetches_on d p.happening.reading p.happening.draw (Some (link, (s, q))))
+  asks-keeps link s q is = λ at g had.
+      let o = found-open (λ (l : Link DaemonStage). DaemonStageHas (events_of past) before_us logins told log name l.number l.sent l.stage) asking_open d.links link s q is r.links in
+      request-node link s q (open-so link s q link.stage o.1 o.0)

@@ -1,14 +1,16 @@
 -- An outcome of a daemon that says nothing, on no link, keeps what is known of links to the monitor, and of its own links.
+use Rattle.std.proofs.Common.{◌≡◌, ℕ, List, [], ◌∷◌, refl, sym, ap, subst}
+use Rattle.std.specs.List.{AllByRecursion}
 use Rattle.cx_base.specs.Names.{Name}
-use Rattle.cx_base.specs.declared.nodes.NodeName.TheVariants as node
 use Rattle.cx_base.specs.declared.nodes.NodeName.{NodeName}
-use Rattle.cx_journal.specs.declared.entries.Entry.TheVariants as journal
+use Rattle.cx_base.specs.declared.nodes.NodeName.TheVariants as node
 use Rattle.cx_journal.specs.declared.entries.Entry.{Entry}
+use Rattle.cx_journal.specs.declared.entries.Entry.TheVariants as journal
 use Rattle.cx_laws_cover.proofs.AskerStays.{asker_has-stays}
 use Rattle.cx_laws_cover.proofs.DaemonReady.{DaemonReady, Keeps, NodeBehind}
-use Rattle.cx_laws_cover.proofs.DaemonRests.{IsNew, IsRest, one-of, still-all, still-same}
 use Rattle.cx_laws_cover.proofs.OwnRows.{EntersSo, NoFetch}
 use Rattle.cx_laws_cover.proofs.State.{DaemonLinksHave, DaemonStageHas}
+use Rattle.cx_laws_truth.proofs.DaemonWalk.{one-of}
 use Rattle.cx_laws_truth.specs.cx_laws_fetch.proofs.AskedKnown.{IsLoginKey, Told}
 use Rattle.cx_laws_truth.specs.cx_laws_fetch.proofs.AskedMoving.{IsNotAsked, Moved, Quiets}
 use Rattle.cx_laws_truth.specs.cx_laws_fetch.proofs.Handed.{IsPlain, handed-stays}
@@ -24,11 +26,10 @@ use Rattle.cx_laws_truth.specs.cx_rules.specs.Connector as connector
 use Rattle.cx_laws_truth.specs.cx_rules.specs.Links.{Link}
 use Rattle.cx_laws_truth.specs.cx_rules.specs.Rows.{Outcome, idles}
 use Rattle.cx_laws_truth.specs.cx_rules_session.specs.DaemonRule.{AsAcceptor, AsConnector, DaemonNode, DaemonStage}
+use Rattle.cx_laws_truth.specs.cx_run.proofs.DaemonOutcomes.{IsNew, IsRest, RestEntry, rested, rested-all}
 use Rattle.cx_laws_truth.specs.cx_run.specs.Points.{Point}
 use Rattle.cx_steps.specs.declared.seals.Logged.{Logged}
 use Rattle.cx_steps.specs.declared.seals.SealEntry.{SealEntry}
-use Rattle.std.proofs.Common.{◌≡◌, ℕ, List, [], ◌∷◌, refl, sym, ap, subst}
-use Rattle.std.specs.List.{AllByRecursion}
 
 module _ (run : WholeRun) (whole : List Logged) (us vs : Uses) (logins : List Handed) (told : Told) (past : List Point) (p : Point) (log : List Logged) (J : List Entry) (d : DaemonNode)
     (r : DaemonReady run whole us vs logins told past p log J d) where
@@ -104,12 +105,19 @@ module _ (run : WholeRun) (whole : List Logged) (us vs : Uses) (logins : List Ha
   new-has es number sent (AsConnector (connector.AwaitsIdent s session)) is = absurd is
   new-has es number sent (AsConnector (connector.Open s requests)) is = absurd is
 
+  no-fetch : (e : Entry) → RestEntry e → EntersSo NoFetch e
+  no-fetch (journal.Fetched f) h = absurd h
+  no-fetch _ h = tt
+
   pub rests : (o : Outcome DaemonNode) → IsRest d o → Keeps_ o
   rests o rest at g had =
       let none : SealsNone behind_us o.out.seals = nothing-none o.out.seals rest.seals in
-      quiet-node o none (subst (λ (es : List SealEntry). AllByRecursion (IsPlain behind_us) es) (sym rest.seals) tt) rest.entries
-      (still-all (λ (number : ℕ) (sent : List ℕ) (stage : DaemonStage). DaemonStageHas (events_of (p ∷ past)) behind_us logins told (later o.out.seals) name number sent stage)
-      (new-has o.out.seals) d.links o.state.links rest.links (all-stay o.out.seals none))
+      quiet-node o none (subst (λ (es : List SealEntry). AllByRecursion (IsPlain behind_us) es) (sym rest.seals) tt)
+      (all-map RestEntry (EntersSo NoFetch) no-fetch o.out.entries rest.entries)
+      (rested-all (λ (number : ℕ) (sent : List ℕ) (stage : DaemonStage). DaemonStageHas (events_of (p ∷ past)) behind_us logins told (later o.out.seals) name number sent stage)
+      (new-has o.out.seals) d.links o.state.links rest.links
+      (λ l has. one-of (λ (x : Link DaemonStage). DaemonStageHas (events_of (p ∷ past)) behind_us logins told (later o.out.seals) name x.number x.sent x.stage) d.links l
+      (all-stay o.out.seals none) has))
 
   pub idle : Keeps_ (idles d)
-  idle = rests (idles d) (record { seals = refl; entries = tt; secret = refl; links = still-same d.links })
+  idle = rests (idles d) (record { seals = refl; save = refl; entries = tt; name = refl; secret = refl; links = rested d.links })

@@ -28,7 +28,7 @@ use Rattle.cx_laws_truth.specs.cx_laws_run.proofs.Events.{DaemonOk, EntityOk}
 use Rattle.cx_laws_truth.specs.cx_rules.specs.Rows.{Outcome}
 use Rattle.cx_laws_truth.specs.cx_rules_session.specs.DaemonRule.{DaemonState, book_after, book_reply, daemon_rule, daemon_step}
 use Rattle.cx_laws_truth.specs.cx_run.proofs.DaemonNamed.{daemon-named}
-use Rattle.cx_laws_truth.specs.cx_run.proofs.GuestTakes.{always-book}
+use Rattle.cx_laws_truth.specs.cx_run.proofs.Always.{always-book}
 use Rattle.cx_laws_truth.specs.cx_run.specs.Happenings.{OfDaemon, Stepped, entity_of, entity_steps, is_of}
 use Rattle.cx_laws_truth.specs.cx_run.specs.Points.{Point}
 use Rattle.cx_steps.specs.Premises.{is_server}

@@ -43,7 +43,7 @@ use Rattle.cx_laws_truth.specs.cx_rules_session.specs.Complete.{judged_by}
 use Rattle.cx_laws_truth.specs.cx_rules_session.specs.Envelopes.{authorize_challenge_content, authorize_reply_content, session_sealed}
 use Rattle.cx_laws_truth.specs.cx_rules_session.specs.Guests.{GuestArrival, GuestRow, GuestStage, authority_of, authorized_frame, authorizes, challenges, done_sent, on_auth_request_more, on_first, sealed_challenge_frame, turns_away, unless_turned_away}
 use Rattle.cx_laws_truth.specs.cx_rules_session.specs.Hosting.{Deciding, Hosted, decided_by, guest_turned, hosted_behind, no_session_moves, on_ident, on_open, turned_behind}
-use Rattle.cx_laws_truth.specs.cx_run.proofs.GuestTakes.{Always, always-map, always-weaker}
+use Rattle.cx_laws_truth.specs.cx_run.proofs.Always.{Always, always-map, always-weaker}
 use Rattle.cx_laws_truth.specs.cx_sealed.specs.declared.service_ticket.ServiceTicket.{ServiceTicket}
 use Rattle.cx_secure.specs.Plains.{plains}
 use Rattle.cx_secure.specs.declared.refusals.SecureRefusal.{SecureRefusal}

@@ -20,7 +20,6 @@ pub mod DaemonGuests
 pub mod DaemonOwn
 pub mod DaemonQuiet
 pub mod DaemonReady
-pub mod DaemonRests
 pub mod DaemonStep
 pub mod DaemonSteps
 pub mod EarlyRows

@@ -11,37 +11,36 @@ use Rattle.cx_enc.specs.declared.keys.Key.{Key}
 use Rattle.cx_journal.specs.declared.entries.Entry.{Entry}
 use Rattle.cx_keyring.specs.Entries.{is_named}
 use Rattle.cx_keyring.specs.declared.entries.Entry.{Entry as Principal}
+use Rattle.cx_laws_cover.proofs.OwnRows.{NoFetch, TurnOwn, request-own, turn-own}
 use Rattle.cx_laws_truth.specs.cx_keyserver.specs.Servers.{rotated_server}
 use Rattle.cx_laws_truth.specs.cx_laws_chain.proofs.Steps.{ComesOn, event-goes_on}
 use Rattle.cx_laws_truth.specs.cx_laws_chain.specs.Chain.{ring_in}
 use Rattle.cx_laws_truth.specs.cx_laws_keys.proofs.Lists.{found_passes}
-use Rattle.cx_line_words.specs.declared.choices.LeftState.{LeftState}
 use Rattle.cx_laws_truth.specs.cx_rules.specs.Connector as connector
+use Rattle.cx_laws_truth.specs.cx_rules.specs.Holdings.{Asker}
 use Rattle.cx_laws_truth.specs.cx_rules.specs.Inputs.{Input}
-use Rattle.cx_laws_truth.specs.cx_rules.specs.Links.{Link, link_of}
-use Rattle.cx_rotate.specs.declared.states.KeptState.{KeptState}
+use Rattle.cx_laws_truth.specs.cx_rules.specs.Links.{Link}
 use Rattle.cx_laws_truth.specs.cx_rules.specs.Monitor.{Monitor, MonitorNode}
 use Rattle.cx_laws_truth.specs.cx_rules.specs.MonitorRule.{monitor_rule}
-use Rattle.cx_laws_truth.specs.cx_rules.specs.Requests.{Requests, first_open, sealed_request}
-use Rattle.cx_laws_truth.specs.cx_rules.specs.Rows.{Arrival, Outcome, Turned, Waits, Refuses, Handles, arrival, idles, turns}
-use Rattle.cx_laws_truth.specs.cx_rules.specs.Secured.{Secured}
+use Rattle.cx_laws_truth.specs.cx_rules.specs.Requests.{sealed_request}
+use Rattle.cx_laws_truth.specs.cx_rules.specs.Rows.{Arrival, Outcome, Turned, Waits, Refuses, Handles, arrival, turns}
 use Rattle.cx_laws_truth.specs.cx_rules.specs.Verdicts.{key_of}
 use Rattle.cx_laws_truth.specs.cx_rules.specs.declared.requests.Want.TheVariants as want
-use Rattle.cx_laws_truth.specs.cx_rules_session.specs.DaemonRule.{AsAcceptor, AsConnector, Daemon, DaemonNode, DaemonStage, DaemonState, asking_open, book_after, book_reply, daemon_rule, daemon_step, fetches, fetches_on, hosts, is_fetching, me, moved_to, open_to_ask, turn, turned_at, with_asker}
-use Rattle.cx_laws_truth.specs.cx_rules_session.specs.Guests.{GuestStage}
-use Rattle.cx_laws_truth.specs.cx_rules_session.specs.Hosting.{Deciding, Hosted, guest_turned}
+use Rattle.cx_laws_truth.specs.cx_rules_session.specs.ClientRule.{opening_whole_client}
+use Rattle.cx_laws_truth.specs.cx_rules_session.specs.DaemonRule.{AsConnector, Daemon, DaemonNode, DaemonStage, DaemonState, book_after, book_reply, daemon_rule, daemon_step, hosts, me, open_to_ask, turned_at, with_asker}
+use Rattle.cx_laws_truth.specs.cx_rules_session.specs.Hosting.{Hosted}
 use Rattle.cx_laws_truth.specs.cx_rules_session.specs.Kinds.{arrival_in, turn_of_kind}
-use Rattle.cx_laws_truth.specs.cx_rules.specs.Holdings.{Asker}
-use Rattle.cx_laws_truth.specs.cx_run.proofs.GuestTakes.{Always, StaysGuest, TakesHosted, always-book, always-map, always-weaker, guest-takes}
+use Rattle.cx_laws_truth.specs.cx_run.proofs.Always.{always-book, always-weaker}
+use Rattle.cx_laws_truth.specs.cx_run.proofs.DaemonOutcomes.{ByRows, RestsAndTurns, guest_rule, hosted-by-rows, rests-keep}
 use Rattle.cx_laws_truth.specs.cx_run.proofs.EntityNamed.{entity-named}
+use Rattle.cx_laws_truth.specs.cx_run.proofs.GuestTakes.{StaysGuest, TakesHosted, guest-takes}
 use Rattle.cx_laws_truth.specs.cx_run.proofs.Taking.{EachRow}
 use Rattle.cx_laws_truth.specs.cx_run.specs.Happenings.{EntityNode, Happening, Nodes, OfClient, OfDaemon, Stepped, asker_in, entity_of, entity_rule, entity_steps, is_of, monitor_steps, steps, steps_of}
 use Rattle.cx_laws_truth.specs.cx_run.specs.Opening.{Declared, Setup, asker_of, daemon_opening, entity_in, nodes_of, principal_of, secret_of}
 use Rattle.cx_laws_truth.specs.cx_run.specs.Points.{EachPoint, Point, points, points_onto}
-use Rattle.cx_laws_truth.specs.cx_rules_session.specs.ClientRule.{opening_whole_client}
 use Rattle.cx_laws_truth.specs.cx_wire.specs.declared.bodies.Request.TheVariants as asked
-use Rattle.cx_laws_cover.proofs.DaemonRests.{each-step}
-use Rattle.cx_laws_cover.proofs.OwnRows.{NoFetch, TurnOwn, request-own, turn-own}
+use Rattle.cx_line_words.specs.declared.choices.LeftState.{LeftState}
+use Rattle.cx_rotate.specs.declared.states.KeptState.{KeptState}
 
 -- ---- a daemon
 
@@ -51,20 +50,6 @@ module _ (d : DaemonNode) (reading : ℕ) (draw : List ℕ) where
 
   abbrev at_link : Link DaemonStage → Arrival Daemon DaemonStage
   at_link link = arrival (me d.own) d.own link reading draw
-
-  moved-kept : (number : ℕ) (moved : Option ℕ) (o : Outcome DaemonNode) → Kept o → Kept (moved_to number moved o)
-  moved-kept number None o h = h
-  moved-kept number (Some session) o h = h
-
-  guest-kept : (link : Link DaemonStage) (stage : GuestStage) (hosted : Hosted) → TakesHosted (arrival_in (at_link link) d.own.asker stage) hosted → Kept (hosts d (at_link link) hosted)
-  guest-kept link stage hosted h =
-      moved-kept link.number hosted.moved (turns d (at_link link) (turn_of_kind (with_asker d.own) AsAcceptor hosted.turned)) (by_turned hosted.turned h.stays)
-    where
-      by_turned : (t : Turned Asker GuestStage) → EachRow (StaysGuest (arrival_in (arrival (me d.own) d.own link reading draw) d.own.asker stage)) t
-          → Kept (turns d (arrival (me d.own) d.own link reading draw) (turn_of_kind (with_asker d.own) AsAcceptor t))
-      by_turned Waits k = refl
-      by_turned (Refuses why opened) k = refl
-      by_turned (Handles row) k = ap (λ (asker : Asker). asker.secret) k.0
 
   own-kept : (link : Link DaemonStage) (stage : connector.Stage)
       → Kept (turns d (at_link link) (turn_of_kind (with_asker d.own) AsConnector (connector.turned_at (arrival_in (at_link link) d.own.asker stage) stage)))
@@ -78,39 +63,34 @@ module _ (d : DaemonNode) (reading : ℕ) (draw : List ℕ) where
       by_turned (Refuses why opened) k = refl
       by_turned (Handles row) k = k.0
 
-  turn-kept : (handlers : Handlers) (found : Option (Link DaemonStage)) → Always Kept (turn handlers d reading draw found)
-  turn-kept handlers None = refl
-  turn-kept handlers (Some link) = by_stage link.stage
-    where
-      by_stage : (stage : DaemonStage) → Always Kept (turned_at handlers d (arrival (me d.own) d.own link reading draw) stage)
-      by_stage (AsAcceptor stage) =
-          let a = arrival_in (arrival (me d.own) d.own link reading draw) d.own.asker stage in
-          let rule : Deciding Hosted = guest_turned handlers a stage in
-          always-map Kept (hosts d (at_link link)) rule
-          (always-weaker (TakesHosted a) (λ (h : Hosted). Kept (hosts d (at_link link) h)) (guest-kept link stage) rule (guest-takes handlers a stage))
-      by_stage (AsConnector stage) = own-kept link stage
+  by-rows : (handlers : Handlers) → ByRows handlers d reading draw Kept (λ link stage. StaysGuest (arrival_in (at_link link) d.own.asker stage))
+  by-rows handlers = record {
+    idle = refl;
+    moves = λ number session o h. h;
+    broken = λ link why opened. refl;
+    rows = λ link stage row h. ap (λ (asker : Asker). asker.secret) h.0;
+  }
 
-  asks-kept : Kept (fetches d reading draw)
-  asks-kept = by_test (is_fetching d)
-    where
-      by_open : (found : Option (Link DaemonStage × (Secured × Requests))) → Kept (fetches_on d reading draw found)
-      by_open None = refl
-      by_open (Some (link, (s, requests))) =
-          (request-own NoFetch (arrival (me d.own) d.own.asker link reading draw) open_to_ask s requests (want.Rotating reading) (sealed_request s.keys requests asked.Rotating)).0
-
-      by_test : (under_way : Bool) → Kept (if under_way then idles d else fetches_on d reading draw (first_open asking_open d.links))
-      by_test true = refl
-      by_test false = by_open (first_open asking_open d.links)
-
-  rule-kept : (handlers : Handlers) (input : Input) → Always Kept (daemon_rule handlers d input reading draw)
-  rule-kept handlers input =
-      each-step d reading draw handlers Kept (λ o r. r.secret) (λ number. turn-kept handlers (link_of number d.links)) asks-kept input
+  each-kept : (handlers : Handlers) (input : Input) → RestsAndTurns handlers d reading draw input Kept
+  each-kept handlers input = record {
+    rests = λ o r own. r.secret;
+    shown = λ view is r. r.secret;
+    restarts = λ r. r.secret;
+    hosting = λ number link stage at is of.
+        always-weaker (TakesHosted (arrival_in (at_link link) d.own.asker stage)) (λ (h : Hosted). Kept (hosts d (at_link link) h))
+        (λ h takes. hosted-by-rows handlers d reading draw Kept _ (by-rows handlers) link stage h takes.stays) (guest_rule handlers d reading draw link stage)
+        (guest-takes handlers (arrival_in (at_link link) d.own.asker stage) stage);
+    asking = λ number link stage at is of. own-kept link stage;
+    fetches_there = λ link s requests is.
+        (request-own NoFetch (arrival (me d.own) d.own.asker link reading draw) open_to_ask s requests (want.Rotating reading) (sealed_request s.keys requests asked.Rotating)).0;
+  }
 
 -- with its book
 pub daemon-secret : (handlers : Handlers) (d : DaemonState) (input : Input) (reading : ℕ) (draw : List ℕ)
     → (daemon_step handlers d input reading draw).state.node.own.asker.secret ≡ d.node.own.asker.secret
 daemon-secret handlers d input reading draw =
-    always-book (Kept d.node reading draw) book_reply book_after d.book (daemon_rule handlers d.node input reading draw) (rule-kept d.node reading draw handlers input)
+    always-book (Kept d.node reading draw) book_reply book_after d.book (daemon_rule handlers d.node input reading draw)
+    (rests-keep handlers d.node reading draw input (Kept d.node reading draw) (each-kept d.node reading draw handlers input))
 
 -- ---- nodes
 

@@ -12,8 +12,8 @@ use Rattle.cx_journal.specs.declared.entries.Fetched.{Fetched}
 use Rattle.cx_line_words.specs.declared.choices.LeftState.{LeftState}
 use Rattle.cx_rotate.specs.declared.states.KeptState.{KeptState}
 use Rattle.cx_laws_truth.specs.cx_laws_authorize.proofs.Backing.{AllGood}
-use Rattle.cx_laws_truth.specs.cx_laws_chain.proofs.Rows.{IsOfMonitor}
-use Rattle.cx_laws_truth.specs.cx_laws_chain.proofs.Steps.{event-enters}
+use Rattle.cx_laws_truth.specs.cx_rules.proofs.MonitorEnters.{IsOfMonitor}
+use Rattle.cx_laws_truth.specs.cx_run.proofs.MonitorEnters.{monitor-enters}
 use Rattle.cx_laws_cover.proofs.ClientSteps.{client-step}
 use Rattle.cx_laws_cover.proofs.DaemonStep.{daemon-step}
 use Rattle.cx_laws_cover.proofs.ReadAsTold.{AreReadAsTold}
@@ -190,7 +190,7 @@ module _ (run : WholeRun) (whole : List Logged) (monitor_step : MonitorStep run 
   node-goes vs node.Monitor r =
       let o : Outcome MonitorNode = monitor_rule nodes.monitor h.input h.reading h.draw in
       monitor-goes vs node.Monitor (monitor_steps nodes o h.left o.out.save) r refl (monitor_step us vs logins told past p log J r) (same-entities o h.left o.out.save)
-      (event-enters nodes h.input h.reading h.draw h.left)
+      (monitor-enters nodes h.input h.reading h.draw h.left)
   node-goes vs (node.Entity name) r = found-goes vs name (entity_of name nodes) refl r
 
 -- ---- every list of events

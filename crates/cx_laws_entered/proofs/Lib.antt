@@ -1,6 +1,5 @@
 pub mod Shown
 pub mod ReadParts
-pub mod GuestEarly
 pub mod GuestParts
 pub mod DaemonParts
 pub mod MonitorHands

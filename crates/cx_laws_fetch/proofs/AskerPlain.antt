@@ -1,6 +1,6 @@
 -- What a link to the monitor of one that logs in logs behind its AUTH_SIGNATURE has nothing to do with logins: frames are sealed under the link's key, and a reply is
 -- opened.
-use Rattle.std.proofs.Common.{◌≡◌, ◌==◌, ◌+◌, ◌-◌, ◌^◌, ℕ, Bool, true, false, List, [], ◌∷◌, Option, Some, None, Result, Ok, Err, refl}
+use Rattle.std.proofs.Common.{◌≡◌, ◌==◌, ◌+◌, ◌-◌, ◌^◌, ℕ, Bool, true, false, List, [], ◌∷◌, Result, Ok, Err, refl}
 use Rattle.std.specs.Prelude.{if◌then◌else◌}
 use Rattle.std.specs.List.{AllByRecursion}
 use Rattle.cx_base.specs.Names.{is_daemon_type}
@@ -12,117 +12,31 @@ use Rattle.cx_control.specs.declared.idents.ServerIdent.{ServerIdent}
 use Rattle.cx_control.specs.declared.upkeep.Keepalive2.{Keepalive2}
 use Rattle.cx_control.specs.declared.upkeep.Keepalive2Ack.{Keepalive2Ack}
 use Rattle.cx_dice.specs.Draws.{cookie_of}
-use Rattle.cx_enc.specs.Forms.{Form}
 use Rattle.cx_frame.specs.declared.frame.Frame.{Frame}
 use Rattle.cx_journal.specs.declared.faults.BytesFault.{BytesFault}
-use Rattle.cx_journal.specs.declared.faults.BytesFault.TheVariants.{Unexpected}
 use Rattle.cx_journal.specs.declared.faults.LoginFault.TheVariants.{SignatureWrong}
 use Rattle.cx_journal.specs.declared.outcomes.Reason.TheVariants as reason
-use Rattle.cx_journal.specs.declared.premises.KeyKind.{KeyKind}
-use Rattle.cx_journal.specs.declared.premises.KeyKind.TheVariants as kind
-use Rattle.cx_laws_authorize.specs.cx_laws_keys.proofs.Lists.{all-append}
 use Rattle.cx_laws_authorize.specs.cx_laws_keys.proofs.Uses.{Means, Use, Uses}
-use Rattle.cx_laws_authorize.specs.cx_login.specs.Held.{Held, held_as}
-use Rattle.cx_laws_authorize.specs.cx_login.specs.Unlocking.{Unlocked, ◌>>=◌, going_on, made, told, told_each, unlocked, unlocked_as}
 use Rattle.cx_laws_series.specs.cx_rules.specs.Connector.{AskerArrival, AskerRow, AwaitsIdent, Login, Open, client_ident, holding, identifies, on_missing_features, on_signature, while_identified}
 use Rattle.cx_laws_series.specs.cx_rules.specs.Holdings.{Asker, held_login}
-use Rattle.cx_laws_series.specs.cx_rules.specs.Messages.{Message, body_as, message_in}
 use Rattle.cx_laws_series.specs.cx_rules.specs.Payloads.{due, payload}
-use Rattle.cx_laws_series.specs.cx_rules.specs.Requests.{Requests, asks_rotating, body_taken, message_taken, no_requests, on_open, on_reply, on_server_ident, reply_taken, request_message, rotating_taken, sealed_request, sends_request, takes, tickets_taken, unless_unsealed, waiting_taken}
+use Rattle.cx_laws_series.specs.cx_rules.specs.Requests.{Requests, asks_rotating, no_requests, on_open, on_reply, on_server_ident, request_message, taken as reply_in, sealed_request, sends_request, takes, unless_unsealed}
 use Rattle.cx_laws_series.specs.cx_rules.specs.Rows.{Arrival, goes_on, refuses}
 use Rattle.cx_laws_series.specs.cx_rules.specs.Secured.{SealedFrame, Secured, is_signed, secure_frame, signature_found}
 use Rattle.cx_laws_series.specs.cx_rules.specs.Upkeep.{on_keepalive, on_keepalive_ack}
-use Rattle.cx_laws_series.specs.cx_rules.specs.declared.messages.Body.{Body}
-use Rattle.cx_laws_series.specs.cx_rules.specs.declared.messages.Body.TheVariants as body
 use Rattle.cx_laws_series.specs.cx_rules.specs.declared.requests.Taken.{Taken}
 use Rattle.cx_laws_series.specs.cx_rules.specs.declared.requests.Taken.TheVariants as taken
-use Rattle.cx_laws_series.specs.cx_rules.specs.declared.requests.Waiting.{Waiting}
 use Rattle.cx_laws_series.specs.cx_rules.specs.declared.requests.Want.{Want}
 use Rattle.cx_laws_series.specs.cx_rules.specs.declared.requests.Want.TheVariants as want
-use Rattle.cx_laws_authorize.specs.cx_sealed.specs.Records.{rotating_reply_layout, ticket_info_layout}
-use Rattle.cx_laws_authorize.specs.cx_sealed.specs.Unsealing.{unsealed}
-use Rattle.cx_laws_authorize.specs.cx_sealed.specs.declared.rotating_reply.RotatingReply.{RotatingReply}
-use Rattle.cx_laws_authorize.specs.cx_sealed.specs.declared.unsealed.Unsealed.{Unsealed}
 use Rattle.cx_steps.specs.declared.seals.DrawMark.TheVariants as draw
 use Rattle.cx_steps.specs.declared.seals.SealEntry.{SealEntry}
 use Rattle.cx_steps.specs.declared.seals.SealEntry.TheVariants as entry
-use Rattle.cx_wire.specs.Bodies.{reply_layout}
-use Rattle.cx_wire.specs.declared.bodies.Reply.{Reply}
-use Rattle.cx_wire.specs.declared.bodies.Reply.TheVariants as given
 use Rattle.cx_wire.specs.declared.bodies.Request.{Request}
 use Rattle.cx_wire.specs.declared.bodies.Request.TheVariants as asked
-use Rattle.cx_wire.specs.declared.tickets.TicketPart.{TicketPart}
 use Rattle.cx_laws_fetch.proofs.Handed.{IsNoLogin, IsPlain}
 use Rattle.cx_laws_fetch.proofs.MonitorHands.{AreSilent, IsSilent, silent-plain}
 use Rattle.cx_laws_fetch.proofs.MonitorPlain.{frame-plain, secure-plain}
-
--- ---- what a reply is taken for
-
-unlocked-silent : {X : Type 0} (form : Form X) (k : KeyKind) (key bytes : List ℕ) → AreSilent (unlocked form k key bytes).seals
-unlocked-silent {X} form k key bytes = by_opened (unsealed form key bytes)
-  where
-    by_opened : (found : Option (Unsealed X)) → AreSilent (unlocked_as k key found).seals
-    by_opened None = tt
-    by_opened (Some u) = (tt, tt)
-
-silent-then : {A B : Type 0} (first : Unlocked A) (next : A → Unlocked B) → AreSilent first.seals → ((a : A) → AreSilent (next a).seals) → AreSilent (first >>= next).seals
-silent-then {A} {B} first next silent more = by_value first.value
-  where
-    by_value : (v : Option A) → AreSilent (going_on first.seals v next).seals
-    by_value None = silent
-    by_value (Some a) = all-append IsSilent first.seals (next a).seals silent (more a)
-
-told-silent : (k : KeyKind) (key : List ℕ) (part : TicketPart) → AreSilent (told k key part).seals
-told-silent k key part = silent-then (unlocked ticket_info_layout.form k key part.info) (λ info. made (held_as part info)) (unlocked-silent ticket_info_layout.form k key part.info) (λ info. tt)
-
-each-silent : (key : List ℕ) (parts : List TicketPart) → AreSilent (told_each key parts).seals
-each-silent key [] = tt
-each-silent key (part ∷ parts) =
-    silent-then (told kind.Session key part) (λ held. told_each key parts >>= λ rest. made (held ∷ rest)) (told-silent kind.Session key part)
-    (λ held. silent-then (told_each key parts) (λ rest. made (held ∷ rest)) (each-silent key parts) (λ rest. tt))
-
-abbrev SilentlyTaken : Taken → Type 0
-SilentlyTaken (taken.Refuses why opened) = AreSilent opened
-SilentlyTaken (taken.Holds held opened) = AreSilent opened
-SilentlyTaken (taken.Views reading generations opened) = AreSilent opened
-
-tickets-silent : (opened : List SealEntry) (value : Option (List Held)) → AreSilent opened → SilentlyTaken (tickets_taken opened value)
-tickets-silent opened None silent = silent
-tickets-silent opened (Some held) silent = silent
-
-rotating-silent : (reading : ℕ) (opened : List SealEntry) (value : Option RotatingReply) → AreSilent opened → SilentlyTaken (rotating_taken reading opened value)
-rotating-silent reading opened None silent = silent
-rotating-silent reading opened (Some reply) silent = silent
-
-module _ (secret : List ℕ) where
-  reply-silent : (session : List ℕ) (asked : Want) (reply : Reply) → SilentlyTaken (reply_taken secret session asked reply)
-  reply-silent session want.Tickets (given.Tickets parts) = tickets-silent (told_each session parts).seals (told_each session parts).value (each-silent session parts)
-  reply-silent session want.Tickets (given.Rotating sealed) = tt
-  reply-silent session (want.Rotating reading) (given.Rotating sealed) =
-      let opened = unlocked rotating_reply_layout.form kind.Principal secret sealed in
-      rotating-silent reading opened.seals opened.value (unlocked-silent rotating_reply_layout.form kind.Principal secret sealed)
-  reply-silent session (want.Rotating reading) (given.Tickets parts) = tt
-
-  waiting-silent : (session : List ℕ) (waiting : List Waiting) (tid : ℕ) (reply : Reply) → SilentlyTaken (waiting_taken secret session waiting tid reply)
-  waiting-silent session [] tid reply = tt
-  waiting-silent session (first ∷ rest) tid reply = by_test (tid == first.tid)
-    where
-      by_test : (t : Bool) → SilentlyTaken (if t then reply_taken secret session first.want reply else taken.Refuses reason.BadReply [])
-      by_test true = reply-silent session first.want reply
-      by_test false = tt
-
-  body-silent : (requests : Requests) (tid : ℕ) (b : Body Reply) → SilentlyTaken (body_taken secret requests tid b)
-  body-silent requests tid (body.Spelled reply) = waiting-silent requests.session requests.waiting tid reply
-  body-silent requests tid body.OtherCode = tt
-  body-silent requests tid (body.Misspelled why) = tt
-
-  message-silent : (requests : Requests) (m : Result Message BytesFault) → SilentlyTaken (message_taken secret requests m)
-  message-silent requests (Err why) = tt
-  message-silent requests (Ok m) = by_test (m.header.type_ == 18)
-    where
-      by_test : (t : Bool) → SilentlyTaken (if t then body_taken secret requests m.header.tid (body_as reply_layout.form m.body) else taken.Refuses (reason.Bytes (Unexpected 17)) [])
-      by_test true = body-silent requests m.header.tid (body_as reply_layout.form m.body)
-      by_test false = tt
+use Rattle.cx_laws_fetch.proofs.Opens.{opened-all, seals_of, taken-opened}
 
 -- ---- rows
 
@@ -189,7 +103,7 @@ module _ (us : Uses) (s : Secured) (linked : Use) (means : Means us s.keys.key l
     keepalive_ack-plain requests (Err why) = tt
     keepalive_ack-plain requests (Ok ack) = tt
 
-    takes-plain : (requests : Requests) (t : Taken) → SilentlyTaken t → AllPlain (takes Open a s requests t).seals
+    takes-plain : (requests : Requests) (t : Taken) → AreSilent (seals_of t) → AllPlain (takes Open a s requests t).seals
     takes-plain requests (taken.Refuses why opened) silent = silent-plain us opened silent
     takes-plain requests (taken.Holds held opened) silent = silent-plain us opened silent
     takes-plain requests (taken.Views reading generations opened) silent = silent-plain us opened silent
@@ -201,4 +115,4 @@ module _ (us : Uses) (s : Secured) (linked : Use) (means : Means us s.keys.key l
             else if ack then on_keepalive_ack a s (λ behind. Open behind requests) (payload keepalive2_ack_layout.form f) else on_reply Open a s requests f) in row.seals)
         by_tests true ack = keepalive-plain requests (payload keepalive2_layout.form f)
         by_tests false true = keepalive_ack-plain requests (payload keepalive2_ack_layout.form f)
-        by_tests false false = takes-plain requests (message_taken a.own.secret requests (message_in f)) (message-silent a.own.secret requests (message_in f))
+        by_tests false false = takes-plain requests (reply_in a.own.secret requests f) (opened-all IsSilent (λ mark. tt) (seals_of (reply_in a.own.secret requests f)) (taken-opened a.own.secret requests f))

@@ -11,123 +11,32 @@ use Rattle.cx_control.specs.declared.idents.ServerIdent.{ServerIdent}
 use Rattle.cx_control.specs.declared.upkeep.Keepalive2.{Keepalive2}
 use Rattle.cx_control.specs.declared.upkeep.Keepalive2Ack.{Keepalive2Ack}
 use Rattle.cx_dice.specs.Draws.{cookie_of}
-use Rattle.cx_enc.specs.Forms.{Form}
 use Rattle.cx_frame.specs.declared.frame.Frame.{Frame}
 use Rattle.cx_journal.specs.declared.faults.BytesFault.{BytesFault}
-use Rattle.cx_journal.specs.declared.faults.BytesFault.TheVariants.{Features, Unexpected}
+use Rattle.cx_journal.specs.declared.faults.BytesFault.TheVariants.{Features}
 use Rattle.cx_journal.specs.declared.faults.LoginFault.TheVariants.{SignatureWrong}
 use Rattle.cx_journal.specs.declared.outcomes.Reason.{Reason}
 use Rattle.cx_journal.specs.declared.outcomes.Reason.TheVariants as reason
-use Rattle.cx_journal.specs.declared.premises.KeyKind.{KeyKind}
-use Rattle.cx_journal.specs.declared.premises.KeyKind.TheVariants as kind
-use Rattle.cx_laws_authorize.specs.cx_login.specs.Held.{Held, held_as}
-use Rattle.cx_laws_authorize.specs.cx_login.specs.Unlocking.{Unlocked, ◌>>=◌, going_on, made, told, told_each, unlocked, unlocked_as}
+use Rattle.cx_laws_authorize.specs.cx_login.specs.Unlocking.{made, told}
 use Rattle.cx_laws_series.specs.cx_rules.specs.Connector.{AskerArrival, AskerRow, Stage, AwaitsIdent, Login, Open, holding, identifies, on_missing_features, on_signature, while_identified}
 use Rattle.cx_laws_series.specs.cx_rules.specs.Holdings.{Asker, held_login}
 use Rattle.cx_laws_series.specs.cx_rules.specs.Links.{Link}
-use Rattle.cx_laws_series.specs.cx_rules.specs.Messages.{Message, body_as, message_in}
 use Rattle.cx_laws_series.specs.cx_rules.specs.Payloads.{due, payload}
-use Rattle.cx_laws_series.specs.cx_rules.specs.Requests.{Requests, asks_rotating, asks_tickets, behind_reply, behind_request, body_taken, later, message_taken, no_requests, on_open, on_reply, on_server_ident, reply_taken, request_message, rotating_taken, sealed_request, sends_request, taken, takes, tickets_taken, unless_unsealed, waiting_taken}
+use Rattle.cx_laws_series.specs.cx_rules.specs.Requests.{Requests, asks_rotating, asks_tickets, behind_reply, behind_request, later, no_requests, on_open, on_reply, on_server_ident, request_message, sealed_request, sends_request, taken, takes, unless_unsealed}
 use Rattle.cx_laws_series.specs.cx_rules.specs.Rows.{Arrival, Row, goes_on, refuses}
 use Rattle.cx_laws_series.specs.cx_rules.specs.Secured.{Keys, SealedFrame, Secured, is_signed, secure_frame, signature_found}
 use Rattle.cx_laws_series.specs.cx_rules.specs.Upkeep.{on_keepalive, on_keepalive_ack}
-use Rattle.cx_laws_series.specs.cx_rules.specs.declared.messages.Body.{Body}
-use Rattle.cx_laws_series.specs.cx_rules.specs.declared.messages.Body.TheVariants.{Spelled, OtherCode, Misspelled}
 use Rattle.cx_laws_series.specs.cx_rules.specs.declared.requests.Taken.{Taken}
 use Rattle.cx_laws_series.specs.cx_rules.specs.declared.requests.Taken.TheVariants as reply
-use Rattle.cx_laws_series.specs.cx_rules.specs.declared.requests.Waiting.{Waiting}
 use Rattle.cx_laws_series.specs.cx_rules.specs.declared.requests.Want.{Want}
 use Rattle.cx_laws_series.specs.cx_rules.specs.declared.requests.Want.TheVariants.{Tickets, Rotating}
-use Rattle.cx_laws_authorize.specs.cx_sealed.specs.Records.{rotating_reply_layout, ticket_info_layout}
-use Rattle.cx_laws_authorize.specs.cx_sealed.specs.Unsealing.{unsealed}
-use Rattle.cx_laws_authorize.specs.cx_sealed.specs.declared.rotating_reply.RotatingReply.{RotatingReply}
-use Rattle.cx_laws_authorize.specs.cx_sealed.specs.declared.unsealed.Unsealed.{Unsealed}
 use Rattle.cx_steps.specs.declared.seals.DrawMark.TheVariants as draw
-use Rattle.cx_steps.specs.declared.seals.SealEntry.{SealEntry}
 use Rattle.cx_steps.specs.declared.seals.SealEntry.TheVariants as entry
-use Rattle.cx_wire.specs.Bodies.{reply_layout}
-use Rattle.cx_wire.specs.declared.bodies.Reply.{Reply}
-use Rattle.cx_wire.specs.declared.bodies.Reply.TheVariants as given
 use Rattle.cx_wire.specs.declared.bodies.Request.{Request}
 use Rattle.cx_wire.specs.declared.bodies.Request.TheVariants as asked
-use Rattle.cx_wire.specs.declared.tickets.TicketPart.{TicketPart}
 use Rattle.cx_laws_fetch.proofs.AskedWords.{Acknowledges, Asked, Asks, Idents, asked_frame}
-use Rattle.cx_laws_fetch.proofs.RowWords.{AreQuiet, RowSays, goes-says, quiet-still, refuses-says, secure-says}
-
--- ---- what opens of a reply seals nothing
-
-quiet-append : (xs ys : List SealEntry) → AreQuiet xs → AreQuiet ys → AreQuiet (xs ++ ys)
-quiet-append [] ys h g = g
-quiet-append (x ∷ xs) ys h g = (h.0, quiet-append xs ys h.1 g)
-
-going-quiet : {A B : Type 0} (seals : List SealEntry) (value : Option A) (next : A → Unlocked B) → AreQuiet seals → ((x : A) → AreQuiet (next x).seals) → AreQuiet (going_on seals value next).seals
-going-quiet seals None next h g = h
-going-quiet seals (Some x) next h g = quiet-append seals (next x).seals h (g x)
-
-unlocked-quiet : {X : Type 0} (form : Form X) (k : KeyKind) (key bytes : List ℕ) → AreQuiet (unlocked form k key bytes).seals
-unlocked-quiet {X} form k key bytes = by_found (unsealed form key bytes)
-  where
-    by_found : (found : Option (Unsealed X)) → AreQuiet (unlocked_as k key found).seals
-    by_found None = tt
-    by_found (Some u) = (tt, tt)
-
-told-quiet : (k : KeyKind) (key : List ℕ) (part : TicketPart) → AreQuiet (told k key part).seals
-told-quiet k key part =
-    let first = unlocked ticket_info_layout.form k key part.info in
-    going-quiet first.seals first.value (λ info. made (held_as part info)) (unlocked-quiet ticket_info_layout.form k key part.info) (λ info. tt)
-
-each-quiet : (key : List ℕ) (parts : List TicketPart) → AreQuiet (told_each key parts).seals
-each-quiet key [] = tt
-each-quiet key (part ∷ parts) =
-    let first = told kind.Session key part in
-    let rest = told_each key parts in
-    going-quiet first.seals first.value (λ held. told_each key parts >>= λ more. made (held ∷ more)) (told-quiet kind.Session key part)
-    (λ held. going-quiet rest.seals rest.value (λ more. made (held ∷ more)) (each-quiet key parts) (λ more. tt))
-
--- what opened
-abbrev seals_of : Taken → List SealEntry
-seals_of (reply.Refuses why opened) = opened
-seals_of (reply.Holds held opened) = opened
-seals_of (reply.Views reading generations opened) = opened
-
-module _ (secret : List ℕ) where
-  reply-quiet : (session : List ℕ) (want : Want) (x : Reply) → AreQuiet (seals_of (reply_taken secret session want x))
-  reply-quiet session Tickets (given.Tickets parts) = by_value (told_each session parts).value
-    where
-      by_value : (value : Option (List Held)) → AreQuiet (seals_of (tickets_taken (told_each session parts).seals value))
-      by_value None = each-quiet session parts
-      by_value (Some held) = each-quiet session parts
-  reply-quiet session (Rotating reading) (given.Rotating blob) = by_value (unlocked rotating_reply_layout.form kind.Principal secret blob).value
-    where
-      by_value : (value : Option RotatingReply) → AreQuiet (seals_of (rotating_taken reading (unlocked rotating_reply_layout.form kind.Principal secret blob).seals value))
-      by_value None = unlocked-quiet rotating_reply_layout.form kind.Principal secret blob
-      by_value (Some told) = unlocked-quiet rotating_reply_layout.form kind.Principal secret blob
-  reply-quiet session Tickets (given.Rotating blob) = tt
-  reply-quiet session (Rotating reading) (given.Tickets parts) = tt
-
-  waiting-quiet : (session : List ℕ) (waiting : List Waiting) (tid : ℕ) (x : Reply) → AreQuiet (seals_of (waiting_taken secret session waiting tid x))
-  waiting-quiet session [] tid x = tt
-  waiting-quiet session (first ∷ rest) tid x = by_test (tid == first.tid)
-    where
-      by_test : (t : Bool) → AreQuiet (seals_of (if t then reply_taken secret session first.want x else reply.Refuses reason.BadReply []))
-      by_test true = reply-quiet session first.want x
-      by_test false = tt
-
-  body-quiet : (r : Requests) (tid : ℕ) (body : Body Reply) → AreQuiet (seals_of (body_taken secret r tid body))
-  body-quiet r tid (Spelled x) = waiting-quiet r.session r.waiting tid x
-  body-quiet r tid OtherCode = tt
-  body-quiet r tid (Misspelled why) = tt
-
-  taken-quiet : (r : Requests) (f : Frame) → AreQuiet (seals_of (taken secret r f))
-  taken-quiet r f = by_read (message_in f)
-    where
-      by_read : (read : Result Message BytesFault) → AreQuiet (seals_of (message_taken secret r read))
-      by_read (Err why) = tt
-      by_read (Ok m) = by_test (m.header.type_ == 18)
-        where
-          by_test : (t : Bool) → AreQuiet (seals_of (if t then body_taken secret r m.header.tid (body_as reply_layout.form m.body) else reply.Refuses (reason.Bytes (Unexpected 17)) []))
-          by_test true = body-quiet r m.header.tid (body_as reply_layout.form m.body)
-          by_test false = tt
+use Rattle.cx_laws_fetch.proofs.RowWords.{AreQuiet, IsQuiet, RowSays, goes-says, quiet-still, refuses-says, secure-says}
+use Rattle.cx_laws_fetch.proofs.Opens.{opened-all, seals_of, taken-opened}
 
 -- ---- what is kept
 
@@ -240,7 +149,7 @@ module _ {S : Type 0} (open_with : Secured → Requests → S) (P : List ℕ →
           else if ack then on_keepalive_ack a s (λ behind. open_with behind r) (payload keepalive2_ack_layout.form f) else on_reply open_with a s r f)
       by_tests true ack = keepalive-says (payload keepalive2_layout.form f)
       by_tests false true = keepalive_ack-says (payload keepalive2_ack_layout.form f)
-      by_tests false false = takes-says (taken a.own.secret r f) (taken-quiet a.own.secret r f)
+      by_tests false false = takes-says (taken a.own.secret r f) (opened-all IsQuiet (λ mark. tt) (seals_of (taken a.own.secret r f)) (taken-opened a.own.secret r f))
 
 -- ---- AUTH_SIGNATURE, SERVER_IDENT
 

@@ -11,14 +11,12 @@ use Rattle.cx_cbc.specs.Opened.{opened}
 use Rattle.cx_control.specs.Auth.{auth_done_layout, auth_signature_layout}
 use Rattle.cx_control.specs.BadMethod.{bad_method_layout}
 use Rattle.cx_control.specs.declared.auth.AuthDone.{AuthDone}
-use Rattle.cx_enc.specs.Forms.{Form}
 use Rattle.cx_frame.specs.declared.frame.Frame.{Frame}
 use Rattle.cx_journal.specs.declared.entries.Entry.{Entry}
 use Rattle.cx_journal.specs.declared.faults.BytesFault.{BytesFault}
 use Rattle.cx_journal.specs.declared.faults.LoginFault.TheVariants.{Mode, Unopened}
 use Rattle.cx_journal.specs.declared.outcomes.Reason.{Reason}
 use Rattle.cx_journal.specs.declared.outcomes.Reason.TheVariants as reason
-use Rattle.cx_journal.specs.declared.premises.KeyKind.{KeyKind}
 use Rattle.cx_journal.specs.declared.premises.KeyKind.TheVariants as kind
 use Rattle.cx_laws_authorize.specs.cx_laws_keys.proofs.Known.{Inv, IsAllowed}
 use Rattle.cx_laws_authorize.specs.cx_laws_keys.proofs.Lists.{all-append}
@@ -28,7 +26,7 @@ use Rattle.cx_laws_authorize.specs.cx_laws_keys.proofs.Uses.{AtMonitor, Connecte
 use Rattle.cx_laws_authorize.specs.cx_laws_login.proofs.AskerRows.{NeverExcepted, auth-tells}
 use Rattle.cx_laws_series.proofs.Contents.{content_where, contents_by}
 use Rattle.cx_laws_series.proofs.Frames.{frame-sealed}
-use Rattle.cx_laws_authorize.specs.cx_login.specs.Held.{Held, held_as}
+use Rattle.cx_laws_authorize.specs.cx_login.specs.Held.{Held}
 use Rattle.cx_laws_authorize.specs.cx_login.specs.Unlocking.{Unlocked, ◌>>=◌, going_on, login_in, login_of_parts, made, told, told_each, unlocked, unlocked_as}
 use Rattle.cx_laws_authorize.specs.cx_login.specs.declared.client.LoggedIn.{LoggedIn}
 use Rattle.cx_laws_series.specs.cx_rules.proofs.Sizes.{length-code}
@@ -37,10 +35,9 @@ use Rattle.cx_laws_series.specs.cx_rules.specs.Links.{Link}
 use Rattle.cx_laws_series.specs.cx_rules.specs.Payloads.{control, due, payload, whole as whole_form}
 use Rattle.cx_laws_series.specs.cx_rules.specs.Rows.{refuses}
 use Rattle.cx_laws_series.specs.cx_rules.specs.Secured.{Keys, SealedFrame, Secured, connector_keys, part_seals, secure_frame, signature, signed_frame, signing}
-use Rattle.cx_laws_authorize.specs.cx_sealed.specs.Records.{connection_secret_layout, ticket_info_layout}
-use Rattle.cx_laws_authorize.specs.cx_sealed.specs.Unsealing.{unsealed, unsealed_as}
+use Rattle.cx_laws_authorize.specs.cx_sealed.specs.Records.{connection_secret_layout}
+use Rattle.cx_laws_authorize.specs.cx_sealed.specs.Unsealing.{unsealed_as}
 use Rattle.cx_laws_authorize.specs.cx_sealed.specs.declared.connection_secret.ConnectionSecret.{ConnectionSecret}
-use Rattle.cx_laws_authorize.specs.cx_sealed.specs.declared.unsealed.Unsealed.{Unsealed}
 use Rattle.cx_secure.specs.Parts.{nonce_at}
 use Rattle.cx_secure.specs.Plains.{plains}
 use Rattle.cx_steps.specs.Premises.{HasSealed, IsExcepted}
@@ -55,78 +52,11 @@ use Rattle.cx_laws_fetch.proofs.AskedKnown.{AreFirst}
 use Rattle.cx_laws_fetch.proofs.Handed.{AllKnown, IsHanded, IsKnownSo, IsNoLogin, IsPlain, TellsHanded, all-onto, first-keys, handed-in, secret-told}
 use Rattle.cx_laws_fetch.proofs.Later.{IsEnd, connector-end, connectors-apart, of_acceptor, of_connector}
 use Rattle.cx_laws_fetch.proofs.Retied.{Handed}
-use Rattle.cx_laws_fetch.proofs.RowWords.{AreQuiet, by-append, quiet-none}
+use Rattle.cx_laws_fetch.proofs.RowWords.{IsQuiet, by-append, quiet-none}
 use Rattle.cx_laws_fetch.proofs.SameChallenge.{TellsReply}
 use Rattle.cx_laws_fetch.proofs.Signed.{one-segment}
 use Rattle.cx_laws_fetch.proofs.Words.{IsIn}
-
--- ---- what opens
-
-abbrev pub IsOpened : SealEntry → Type 0
-IsOpened (entry.Opened mark) = Unit {0}
-IsOpened (entry.Sealed mark) = ⊥
-IsOpened (entry.Signed mark) = ⊥
-IsOpened (entry.Checked mark) = ⊥
-IsOpened (entry.Drawn mark) = ⊥
-
-abbrev pub AreOpened : List SealEntry → Type 0
-AreOpened es = AllByRecursion IsOpened es
-
-opened-quiet : (es : List SealEntry) → AreOpened es → AreQuiet es
-opened-quiet [] h = tt
-opened-quiet (entry.Opened mark ∷ es) h = (tt, opened-quiet es h.1)
-opened-quiet (entry.Sealed mark ∷ es) h = absurd h.0
-opened-quiet (entry.Signed mark ∷ es) h = absurd h.0
-opened-quiet (entry.Checked mark ∷ es) h = absurd h.0
-opened-quiet (entry.Drawn mark ∷ es) h = absurd h.0
-
--- whatever is so of what opens
-pub opened-all : (P : SealEntry → Type 0) → ((mark : SealMark) → P (entry.Opened mark)) → (es : List SealEntry) → AreOpened es → AllByRecursion P es
-opened-all P each [] h = tt
-opened-all P each (entry.Opened mark ∷ es) h = (each mark, opened-all P each es h.1)
-opened-all P each (entry.Sealed mark ∷ es) h = absurd h.0
-opened-all P each (entry.Signed mark ∷ es) h = absurd h.0
-opened-all P each (entry.Checked mark ∷ es) h = absurd h.0
-opened-all P each (entry.Drawn mark ∷ es) h = absurd h.0
-
-unlocked-opened : {X : Type 0} (form : Form X) (k : KeyKind) (key bytes : List ℕ) → AreOpened (unlocked form k key bytes).seals
-unlocked-opened {X} form k key bytes = by_opened (unsealed form key bytes)
-  where
-    by_opened : (found : Option (Unsealed X)) → AreOpened (unlocked_as k key found).seals
-    by_opened None = tt
-    by_opened (Some u) = (tt, tt)
-
-opened-then : {A B : Type 0} (first : Unlocked A) (next : A → Unlocked B) → AreOpened first.seals → ((a : A) → AreOpened (next a).seals) → AreOpened (first >>= next).seals
-opened-then {A} {B} first next h more = by_value first.value
-  where
-    by_value : (v : Option A) → AreOpened (going_on first.seals v next).seals
-    by_value None = h
-    by_value (Some a) = all-append IsOpened first.seals (next a).seals h (more a)
-
-told-opened : (k : KeyKind) (key : List ℕ) (part : TicketPart) → AreOpened (told k key part).seals
-told-opened k key part = opened-then (unlocked ticket_info_layout.form k key part.info) (λ info. made (held_as part info)) (unlocked-opened ticket_info_layout.form k key part.info) (λ info. tt)
-
-each-opened : (key : List ℕ) (parts : List TicketPart) → AreOpened (told_each key parts).seals
-each-opened key [] = tt
-each-opened key (part ∷ parts) =
-    opened-then (told kind.Session key part) (λ held. told_each key parts >>= λ rest. made (held ∷ rest)) (told-opened kind.Session key part)
-    (λ held. opened-then (told_each key parts) (λ rest. made (held ∷ rest)) (each-opened key parts) (λ rest. tt))
-
--- the secret of the connection, behind the tickets
-abbrev with_secret : Held → List Held → List ℕ → Unlocked LoggedIn
-with_secret auth tickets connection =
-    unlocked connection_secret_layout.form kind.Session auth.session connection >>= λ opened. made (record { auth = auth; tickets = tickets; secret = opened.secret })
-
-secret-opened : (auth : Held) (tickets : List Held) (connection : List ℕ) → AreOpened (with_secret auth tickets connection).seals
-secret-opened auth tickets connection =
-    opened-then (unlocked connection_secret_layout.form kind.Session auth.session connection) (λ opened. made (record { auth = auth; tickets = tickets; secret = opened.secret }))
-    (unlocked-opened connection_secret_layout.form kind.Session auth.session connection) (λ opened. tt)
-
-pub login-opened : (secret : List ℕ) (parts : List TicketPart) (connection : List ℕ) → AreOpened (login_of_parts secret parts connection).seals
-login-opened secret [] connection = tt
-login-opened secret (first ∷ parts) connection =
-    opened-then (told kind.Principal secret first) (λ auth. told_each auth.session parts >>= λ tickets. with_secret auth tickets connection) (told-opened kind.Principal secret first)
-    (λ auth. opened-then (told_each auth.session parts) (λ tickets. with_secret auth tickets connection) (each-opened auth.session parts) (λ tickets. secret-opened auth tickets connection))
+use Rattle.cx_laws_fetch.proofs.Opens.{AreOpened, each-opened, login-opened, opened-all, told-opened, unlocked-opened, with_secret}
 
 -- ---- what is read of it
 
@@ -231,7 +161,7 @@ both-nothing xs ys h g key = (
 )
 
 opened-nothing : (es : List SealEntry) → AreOpened es → SealsNothing es
-opened-nothing es h key = (quiet-none key of_connector es (opened-quiet es h), quiet-none key of_acceptor es (opened-quiet es h))
+opened-nothing es h key = (quiet-none key of_connector es (opened-all IsQuiet (λ mark. tt) es h), quiet-none key of_acceptor es (opened-all IsQuiet (λ mark. tt) es h))
 
 and-false : (b : Bool) → (b && false) ≡ false
 and-false true = refl

@@ -28,6 +28,7 @@ pub mod AskedKnown
 pub mod AskedLifting
 pub mod AskedTaking
 pub mod RowWords
+pub mod Opens
 pub mod MonitorGives
 pub mod AskerSays
 pub mod AskedHeard

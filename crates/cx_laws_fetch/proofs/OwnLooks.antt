@@ -15,8 +15,8 @@ use Rattle.cx_laws_authorize.specs.cx_run.specs.Happenings.{EntityNode, OfClient
 use Rattle.cx_laws_authorize.specs.cx_run.specs.Points.{Point, entries_at}
 use Rattle.cx_laws_authorize.proofs.Steps.{all-authorize}
 use Rattle.cx_laws_authorize.specs.Admission.{EntryTold}
-use Rattle.cx_laws_chain.proofs.Rows.{IsOfMonitor}
-use Rattle.cx_laws_chain.proofs.Steps.{event-enters}
+use Rattle.cx_laws_authorize.specs.cx_rules.proofs.MonitorEnters.{IsOfMonitor}
+use Rattle.cx_laws_authorize.specs.cx_run.proofs.MonitorEnters.{monitor-enters}
 use Rattle.cx_laws_chain.specs.cx_laws_calling.proofs.Entering.{IsOfClient, whole-enters}
 use Rattle.cx_laws_authorize.specs.cx_laws_keys.proofs.Lists.{found_passes}
 
@@ -53,7 +53,7 @@ module _ (nodes : Nodes) (h : Happening) (look : Looked) where
   by-node node.Monitor here has =
       let there : Contains (steps_of nodes h node.Monitor).out.entries (journal.Looked look) =
       subst (λ (n : NodeName). Contains (steps_of nodes h n).out.entries (journal.Looked look)) here has in
-      absurd (one-of IsOfMonitor _ (journal.Looked look) (event-enters nodes h.input h.reading h.draw h.left) there)
+      absurd (one-of IsOfMonitor _ (journal.Looked look) (monitor-enters nodes h.input h.reading h.draw h.left) there)
   by-node (node.Entity name) here has = by-entity name (entity_of name nodes) here refl has
 
 pub look-own : (p : Point) (look : Looked) → Contains (entries_at p) (journal.Looked look) → p.happening.node ≡ node.Entity look.daemon

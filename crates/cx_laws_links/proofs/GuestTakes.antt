@@ -1,24 +1,17 @@
 -- What a row of a daemon's link to a guest does behind authentication, whatever the book of sessions replies: the link has taken the next of what its guest
 -- spoke, where that one didn't leak; a session is admitted or resumed under the cookie that was spoken of; an operation is handled that was sent in the
 -- session; and nothing is sealed as by a connector.
-use Rattle.std.proofs.Common.{◌≡◌, ℕ, ◌==◌, Bool, true, false, List, [], ◌∷◌, ◌++◌, length, Option, Some, None, Result, Ok, Err, inl, inr, ◌⊎◌, refl, sym, ap, ◌∙◌, subst, arith}
-use Rattle.std.proofs.lemmas.Bool.{eqb-true}
+use Rattle.std.proofs.Common.{◌≡◌, ℕ, Bool, false, List, [], ◌∷◌, ◌++◌, length, Option, Some, None, Result, Ok, Err, inl, inr, ◌⊎◌, refl, sym, ap, ◌∙◌, subst, arith}
 use Rattle.std.proofs.lemmas.Bool.Decides.{nat_tests}
 use Rattle.std.proofs.lemmas.List.Elements.{Contains-append_right, Contains-push}
-use Rattle.std.specs.Prelude.{Contains, if◌then◌else◌}
+use Rattle.std.specs.Prelude.{Contains}
 use Rattle.std.specs.List.{AllByRecursion}
-use Rattle.cx_run.specs.cx_authorize.specs.Daemon.{Authority}
 use Rattle.cx_base.specs.Names.{Name}
 use Rattle.cx_base.specs.declared.nodes.NodeName.{NodeName}
-use Rattle.cx_control.specs.Auth.{auth_signature_layout}
 use Rattle.cx_control.specs.Idents.{client_ident_layout, ident_missing_features_layout}
 use Rattle.cx_control.specs.Reconnects.{session_reconnect_layout}
-use Rattle.cx_control.specs.Upkeep.{keepalive2_layout, keepalive2_ack_layout}
-use Rattle.cx_control.specs.declared.auth.AuthSignature.{AuthSignature}
 use Rattle.cx_control.specs.declared.idents.ClientIdent.{ClientIdent}
 use Rattle.cx_control.specs.declared.reconnects.SessionReconnect.{SessionReconnect}
-use Rattle.cx_control.specs.declared.upkeep.Keepalive2.{Keepalive2}
-use Rattle.cx_control.specs.declared.upkeep.Keepalive2Ack.{Keepalive2Ack}
 use Rattle.cx_desk.specs.Handlers.{Handlers}
 use Rattle.cx_dice.specs.Draws.{cookie_of}
 use Rattle.cx_frame.specs.declared.frame.Frame.{Frame}
@@ -27,47 +20,10 @@ use Rattle.cx_journal.specs.declared.entries.Entry.{Entry}
 use Rattle.cx_journal.specs.declared.entries.Entry.TheVariants as journal
 use Rattle.cx_journal.specs.declared.entries.Handled.{Handled}
 use Rattle.cx_journal.specs.declared.faults.BytesFault.{BytesFault}
-use Rattle.cx_journal.specs.declared.faults.BytesFault.TheVariants.{Unexpected}
-use Rattle.cx_journal.specs.declared.faults.LoginFault.TheVariants.{SignatureWrong}
 use Rattle.cx_journal.specs.declared.faults.SessionFault.TheVariants as session
 use Rattle.cx_journal.specs.declared.outcomes.Outcome.{Outcome}
 use Rattle.cx_journal.specs.declared.outcomes.Reason.{Reason}
-use Rattle.cx_journal.specs.declared.outcomes.Reason.TheVariants as reason
 use Rattle.cx_journal.specs.declared.premises.KeyKind.TheVariants as kind
-use Rattle.cx_laws_login.specs.cx_laws_keys.proofs.Known.{Inv, IsOfAcceptor, IsOfConnector}
-use Rattle.cx_laws_login.specs.cx_laws_keys.proofs.Lists.{all-of-map}
-use Rattle.cx_laws_login.specs.cx_laws_keys.proofs.Premises.{AreGranted, granted-first}
-use Rattle.cx_laws_login.specs.cx_laws_keys.proofs.Uses.{AtDaemon, Connected, Means, Uses, WholeRun}
-use Rattle.cx_laws_series.proofs.Contents.{contents_by, parts-others}
-use Rattle.cx_laws_series.proofs.Frames.{frame-sealed}
-use Rattle.cx_laws_series.specs.cx_rules.specs.Acceptor.{AwaitsBanner, AwaitsHello, AwaitsRequest, AwaitsProof, AwaitsSignature, AwaitsIdent, Open, missing_told, misses, on_signature, server_ident}
-use Rattle.cx_laws_series.specs.cx_rules.specs.Fronts.{keys_behind, opened_parts, sealed_ahead, secure_read, taking}
-use Rattle.cx_laws_series.specs.cx_rules.specs.Holdings.{Asker}
-use Rattle.cx_laws_series.specs.cx_rules.specs.Links.{Link}
-use Rattle.cx_laws_series.specs.cx_rules.specs.Messages.{acknowledgement, message_in, message_of, sealed_behind, sealed_then, secure_frames}
-use Rattle.cx_laws_series.specs.cx_rules.specs.MonitorRule.{session_reset}
-use Rattle.cx_laws_series.specs.cx_rules.specs.Payloads.{control, due, payload}
-use Rattle.cx_laws_series.specs.cx_rules.specs.Rows.{Turned, Waits, Refuses, Handles, at, goes_on, refused_entry, refuses, refuses_bytes, secure_sent, turned_by, with_opened}
-use Rattle.cx_laws_series.specs.cx_rules.specs.Secured.{Keys, SealedFrame, Secured, Way, is_signed, secure_frame, signature_found, under}
-use Rattle.cx_laws_series.specs.cx_rules.specs.Upkeep.{on_keepalive, on_keepalive_ack}
-use Rattle.cx_run.specs.cx_rules_session.specs.Asks.{Asks, Finished, Asking}
-use Rattle.cx_run.specs.cx_rules_session.specs.Guests.{GuestArrival, GuestRow, GuestStage, Served}
-use Rattle.cx_run.specs.cx_rules_session.specs.Hosting.{Deciding, Hosted, Instruction, admission_of, admits, answer_message, asks_admission, comes_to, cookie_drawn, decided_by, guest_turned, handled_entry, handles, hosted_behind, instruction_of, no_session_moves, on_admission, on_checked, on_client_ident, on_ident, on_message, on_open, on_reconnect, on_resumption, on_taken, on_untaken, outcome_of, reconnect_ok, resumes, served_as, session_retry, session_retry_global, tells_why}
-use Rattle.cx_run.specs.cx_rules_session.specs.Kinds.{entered_before}
-use Rattle.cx_run.specs.cx_rules_session.specs.Lossy.{is_lossy, lossy_flags}
-use Rattle.cx_run.specs.cx_rules_session.specs.Sessions.{HeldSession}
-use Rattle.cx_run.proofs.GuestTakes.{Always, always-map, always-weaker}
-use Rattle.cx_secure.specs.Parts.{nonce_at}
-use Rattle.cx_secure.specs.Plains.{plains}
-use Rattle.cx_secure.specs.declared.refusals.SecureRefusal.{SecureRefusal}
-use Rattle.cx_session.specs.declared.call.BookFault.TheVariants as fault
-use Rattle.cx_session.specs.declared.call.BookReply.{BookReply}
-use Rattle.cx_session.specs.declared.call.BookReply.TheVariants as reply
-use Rattle.cx_steps.specs.declared.seals.Logged.{Logged}
-use Rattle.cx_steps.specs.declared.seals.SealEntry.{SealEntry}
-use Rattle.cx_steps.specs.declared.seals.SealEntry.TheVariants as entry
-use Rattle.cx_laws_login.specs.cx_stream.specs.Openings.{front_contents}
-use Rattle.cx_laws_login.specs.cx_stream.specs.SecureStreams.{Ahead, secure_frame_at}
 use Rattle.cx_laws_links.proofs.CallTells.{by-append, quiet-none}
 use Rattle.cx_laws_links.proofs.CallWords.{IsQuiet}
 use Rattle.cx_laws_links.proofs.GuestJoins.{guest-joins}
@@ -76,6 +32,35 @@ use Rattle.cx_laws_links.proofs.Hearing.{hears-else, hears-ident, hears-order, h
 use Rattle.cx_laws_links.proofs.Known.{AreTold, AsksFor, GuestTold, HasTaken, IsGuest, IsTrueWord, Told}
 use Rattle.cx_laws_links.proofs.Since.{since}
 use Rattle.cx_laws_links.proofs.Spoken.{Orders, Reconnects, Spoken, cookie_after, is_connectors, said_under}
+use Rattle.cx_laws_login.specs.cx_laws_keys.proofs.Known.{Inv, IsOfAcceptor, IsOfConnector}
+use Rattle.cx_laws_login.specs.cx_laws_keys.proofs.Lists.{all-of-map}
+use Rattle.cx_laws_login.specs.cx_laws_keys.proofs.Premises.{AreGranted, granted-first}
+use Rattle.cx_laws_login.specs.cx_laws_keys.proofs.Uses.{AtDaemon, Connected, Means, Uses, WholeRun}
+use Rattle.cx_laws_login.specs.cx_stream.specs.Openings.{front_contents}
+use Rattle.cx_laws_login.specs.cx_stream.specs.SecureStreams.{Ahead}
+use Rattle.cx_laws_series.proofs.Contents.{contents_by, parts-others}
+use Rattle.cx_laws_series.proofs.Frames.{frame-sealed}
+use Rattle.cx_laws_series.specs.cx_rules.specs.Acceptor.{AwaitsBanner, AwaitsHello, AwaitsRequest, AwaitsProof, AwaitsSignature, AwaitsIdent, Open, missing_told, server_ident}
+use Rattle.cx_laws_series.specs.cx_rules.specs.Fronts.{keys_behind, opened_parts, sealed_ahead, taking}
+use Rattle.cx_laws_series.specs.cx_rules.specs.Holdings.{Asker}
+use Rattle.cx_laws_series.specs.cx_rules.specs.Links.{Link}
+use Rattle.cx_laws_series.specs.cx_rules.specs.Messages.{acknowledgement, message_in, sealed_behind, sealed_then, secure_frames}
+use Rattle.cx_laws_series.specs.cx_rules.specs.Payloads.{control, payload}
+use Rattle.cx_laws_series.specs.cx_rules.specs.Rows.{Turned, Waits, Refuses, Handles, at, refused_entry, refuses, secure_sent, with_opened}
+use Rattle.cx_laws_series.specs.cx_rules.specs.Secured.{Keys, SealedFrame, Secured, Way, secure_frame, under}
+use Rattle.cx_run.proofs.Always.{Always, always-weaker, TurnOf, always-unit, turn-weaker}
+use Rattle.cx_run.proofs.GuestWalk.{ClosesIdent, ClosesOpen, ClosesSignature, ClosesTurn, IsNoIdent, ShutsIdent, Unadmitted, UnreadIdent, guest-turn, ident-so, open-so, signature-so}
+use Rattle.cx_run.specs.cx_authorize.specs.Daemon.{Authority}
+use Rattle.cx_run.specs.cx_rules_session.specs.Guests.{GuestArrival, GuestRow, GuestStage, Served}
+use Rattle.cx_run.specs.cx_rules_session.specs.Hosting.{Deciding, Hosted, Instruction, admission_of, admits, answer_message, cookie_drawn, guest_turned, handled_entry, handles, instruction_of, on_ident, on_open, outcome_of, reconnect_ok, resumes, served_as}
+use Rattle.cx_run.specs.cx_rules_session.specs.Kinds.{entered_before}
+use Rattle.cx_run.specs.cx_rules_session.specs.Lossy.{is_lossy, lossy_flags}
+use Rattle.cx_run.specs.cx_rules_session.specs.Sessions.{HeldSession}
+use Rattle.cx_secure.specs.Parts.{nonce_at}
+use Rattle.cx_secure.specs.Plains.{plains}
+use Rattle.cx_steps.specs.declared.seals.Logged.{Logged}
+use Rattle.cx_steps.specs.declared.seals.SealEntry.{SealEntry}
+use Rattle.cx_steps.specs.declared.seals.SealEntry.TheVariants as entry
 
 -- ---- keys of a link that goes on
 
@@ -321,9 +306,6 @@ module _ (run : WholeRun) (us : Uses) (told : Told) (J : List Entry) (n : NodeNa
   abbrev HI : GuestRow → Type 0
   HI row = HearsRow run us told J n b.own.name s.keys.key name Given row
 
-  abbrev StaysI : Deciding Hosted → Type 0
-  StaysI d = Always (λ (h : Hosted). HearsTurned run us told J n b.own.name s.keys.key name Given h.turned) d
-
   -- it waits on, with what it has taken
   waits : Given → (t : Secured) → IsTakenSo t.keys s.keys → GuestTold run us told n b.link.number (AwaitsIdent t owner)
   waits given t same = (
@@ -335,13 +317,11 @@ module _ (run : WholeRun) (us : Uses) (told : Told) (J : List Entry) (n : NodeNa
   itself : IsTakenSo s.keys s.keys
   itself = record { key = refl; into = refl; out = refl }
 
-  pub signature-heard : (found : Result AuthSignature BytesFault) → HI (on_signature b s owner found)
-  signature-heard (Err why) = record { link = λ given. tt; serves = tt; entries = λ given. (tt, tt); seals = λ k. refl }
-  signature-heard (Ok found) = by_test (is_signed s found.signature)
-    where
-      by_test : (right : Bool) → HI (if right then goes_on b (AwaitsIdent s owner) [] (signature_found s ∷ []) else refuses b (reason.Login SignatureWrong) [])
-      by_test true = record { link = λ given. waits given s itself; serves = tt; entries = λ given. tt; seals = λ k. refl }
-      by_test false = record { link = λ given. tt; serves = tt; entries = λ given. (tt, tt); seals = λ k. refl }
+  closes-signature : ClosesSignature b s owner f HI
+  closes-signature = record {
+    shut = λ why by. record { link = λ given. tt; serves = tt; entries = λ given. (tt, tt); seals = λ k. refl };
+    waits = λ tag. record { link = λ given. waits given s itself; serves = tt; entries = λ given. tt; seals = λ k. refl };
+  }
 
   sealed-frame : (x : Frame) → IsSealedSo s.keys (secure_frame s.keys x)
   sealed-frame x = frame-so s.keys x own
@@ -390,39 +370,9 @@ module _ (run : WholeRun) (us : Uses) (told : Told) (J : List Entry) (n : NodeNa
       }
       by_sealed (Err why) ok = record { link = λ given. tt; serves = tt; entries = λ given. ((refl, λ free. (asks given free).1), (tt, tt)); seals = λ k. refl }
 
-  refuses-drawn : (why : Reason) → HI (refuses b why (cookie_drawn b ∷ []))
-  refuses-drawn why = heard-refuses run us told J n b.own.name s.keys.key name Given b why (cookie_drawn b ∷ []) (λ k. refl)
-
-  admission-stays : (ident : ClientIdent) → (Given → Free → HasTaken told s (Some ident.cookie) × AsksFor told.said s.keys.key ident.cookie) → (r : BookReply) → StaysI (on_admission b s owner ident r)
-  admission-stays ident asks (reply.Admitted number epoch) = admits-heard ident number epoch asks
-  admission-stays ident asks (reply.Refused (fault.CookieInUse number)) = refuses-drawn (reason.Session (session.CookieInUse number))
-  admission-stays ident asks (reply.Refused (fault.BookFull limit)) = refuses-drawn (reason.Session session.BookFull)
-  admission-stays ident asks (reply.Refused fault.Spent) = refuses-drawn reason.Spent
-  admission-stays ident asks (reply.Refused fault.Unknown) = tt
-  admission-stays ident asks (reply.Refused (fault.OwnerDiffers entity gid)) = tt
-  admission-stays ident asks (reply.Refused (fault.StaleConnect kept)) = tt
-  admission-stays ident asks (reply.Refused (fault.StaleGlobal kept)) = tt
-  admission-stays ident asks (reply.Refused (fault.Stale epoch)) = tt
-  admission-stays ident asks (reply.Refused (fault.Repeat last)) = tt
-  admission-stays ident asks (reply.Refused (fault.Gap expected)) = tt
-  admission-stays ident asks (reply.Resumed number epoch last lossy) = tt
-  admission-stays ident asks reply.Fine = tt
-  admission-stays ident asks (reply.Ended lived) = tt
-  admission-stays ident asks reply.OutOfMemory = tt
-
   missing-heard : (features : ℕ) (r : Result SealedFrame BytesFault) → IsSealedSo s.keys r → HI (missing_told b features r)
   missing-heard features (Err why) ok = record { link = λ given. tt; serves = tt; entries = λ given. (tt, tt); seals = λ k. refl }
   missing-heard features (Ok sealed) ok = record { link = λ given. tt; serves = tt; entries = λ given. (tt, tt); seals = ok.1 }
-
-  ident-stays : f.tag ≡ 8 → (read : Result ClientIdent BytesFault) → payload client_ident_layout.form f ≡ read → StaysI (on_client_ident b s owner read)
-  ident-stays tag (Err why) is = record { link = λ given. tt; serves = tt; entries = λ given. (tt, tt); seals = λ k. refl }
-  ident-stays tag (Ok ident) is = by_test (ident.required == 0)
-    where
-      by_test : (plain : Bool) → StaysI (if plain then asks_admission b s owner ident else comes_to (misses b s ident.required))
-      by_test true = λ r. admission-stays ident (ident-asks ident tag is) r
-      by_test false =
-          missing-heard ident.required (secure_frame s.keys (control 10 ident_missing_features_layout.form (record { features = ident.required })))
-          (sealed-frame (control 10 ident_missing_features_layout.form (record { features = ident.required })))
 
   -- ---- SESSION_RECONNECT
 
@@ -435,11 +385,6 @@ module _ (run : WholeRun) (us : Uses) (told : Told) (J : List Entry) (n : NodeNa
         subst (λ (o : Option ℕ). HasTaken told s o) cookie h.1.taken,
         record { asker = w.0; session = w.1; is = w.3; says = subst (λ (x : Spoken). Contains told.said (s.keys.key, x)) w.2 h.1.said },
       )
-
-  told-stays : (why : Reason) (x : Frame) → StaysI (tells_why b s owner why x)
-  told-stays why x =
-      heard-entered run us told J n b.own.name s.keys.key name Given (refused_entry b.me b.link.number why) _ (λ joins. refl) (λ given. tt)
-      (heard-secure run us told J n b.own.name s.keys.key name Given b s (λ behind. AwaitsIdent behind owner) [] (secure_frame s.keys x) (sealed-frame x) waits (λ t same. tt) (λ k. refl))
 
   resumes-heard : (reconnect : SessionReconnect) (number epoch last : ℕ) (lossy : Bool)
       → (Given → Free → HasTaken told s (Some reconnect.client_cookie) × TakesUp told.said s.keys.key reconnect.client_cookie) → HI (resumes b s owner reconnect number epoch last lossy)
@@ -469,36 +414,20 @@ module _ (run : WholeRun) (us : Uses) (told : Told) (J : List Entry) (n : NodeNa
       }
       by_sealed (Err why) ok = record { link = λ given. tt; serves = tt; entries = λ given. ((refl, λ free. (takes given free).1), (tt, tt)); seals = λ k. refl }
 
-  resumption-stays : (reconnect : SessionReconnect) → (Given → Free → HasTaken told s (Some reconnect.client_cookie) × TakesUp told.said s.keys.key reconnect.client_cookie) → (r : BookReply)
-      → StaysI (on_resumption b s owner reconnect r)
-  resumption-stays reconnect takes (reply.Resumed number epoch last lossy) = resumes-heard reconnect number epoch last lossy takes
-  resumption-stays reconnect takes (reply.Refused fault.Unknown) = told-stays (reason.Session session.UnknownSession) session_reset
-  resumption-stays reconnect takes (reply.Refused (fault.OwnerDiffers entity gid)) = told-stays (reason.Session (session.OwnerDiffers entity gid)) session_reset
-  resumption-stays reconnect takes (reply.Refused fault.Spent) = told-stays reason.Spent session_reset
-  resumption-stays reconnect takes (reply.Refused (fault.StaleConnect kept)) = told-stays (reason.Session (session.StaleConnect kept)) (session_retry kept)
-  resumption-stays reconnect takes (reply.Refused (fault.StaleGlobal kept)) = told-stays (reason.Session (session.StaleGlobal kept)) (session_retry_global kept)
-  resumption-stays reconnect takes (reply.Refused (fault.CookieInUse number)) = tt
-  resumption-stays reconnect takes (reply.Refused (fault.BookFull limit)) = tt
-  resumption-stays reconnect takes (reply.Refused (fault.Stale epoch)) = tt
-  resumption-stays reconnect takes (reply.Refused (fault.Repeat last)) = tt
-  resumption-stays reconnect takes (reply.Refused (fault.Gap expected)) = tt
-  resumption-stays reconnect takes (reply.Admitted number epoch) = tt
-  resumption-stays reconnect takes reply.Fine = tt
-  resumption-stays reconnect takes (reply.Ended lived) = tt
-  resumption-stays reconnect takes reply.OutOfMemory = tt
-
-  reconnect-stays : f.tag ≡ 11 → (read : Result SessionReconnect BytesFault) → payload session_reconnect_layout.form f ≡ read → StaysI (on_reconnect b s owner read)
-  reconnect-stays tag (Err why) is = record { link = λ given. tt; serves = tt; entries = λ given. (tt, tt); seals = λ k. refl }
-  reconnect-stays tag (Ok reconnect) is = λ r. resumption-stays reconnect (reconnect-takes reconnect tag is) r
-
-  pub ident-heard : StaysI (on_ident b s owner f)
-  ident-heard = by_tests (f.tag == 8) (f.tag == 11) refl refl
+  closes-ident : ClosesIdent b s owner f HI
+  closes-ident = record {
+    shut = λ why seals by. heard-refuses run us told J n b.own.name s.keys.key name Given b why seals (drawn-quiet why seals by);
+    missed = λ features. missing-heard features _ (sealed-frame (control 10 ident_missing_features_layout.form (record { features = features })));
+    admitted = λ ident tag is number epoch. admits-heard ident number epoch (ident-asks ident tag is);
+    resumed = λ again tag is number epoch last lossy. resumes-heard again number epoch last lossy (reconnect-takes again tag is);
+    told = λ again tag is why x by.
+        heard-entered run us told J n b.own.name s.keys.key name Given (refused_entry b.me b.link.number why) _ (λ joins. refl) (λ given. tt)
+        (heard-secure run us told J n b.own.name s.keys.key name Given b s (λ behind. AwaitsIdent behind owner) [] (secure_frame s.keys x) (sealed-frame x) waits (λ t same. tt) (λ k. refl));
+  }
     where
-      by_tests : (client again : Bool) → (f.tag == 8) ≡ client → (f.tag == 11) ≡ again → StaysI (if client then on_client_ident b s owner (payload client_ident_layout.form f)
-          else if again then on_reconnect b s owner (payload session_reconnect_layout.form f) else comes_to (refuses_bytes b (Unexpected f.tag) []))
-      by_tests true again e d = ident-stays (eqb-true f.tag 8 e) (payload client_ident_layout.form f) refl
-      by_tests false true e d = reconnect-stays (eqb-true f.tag 11 d) (payload session_reconnect_layout.form f) refl
-      by_tests false false e d = record { link = λ given. tt; serves = tt; entries = λ given. (tt, tt); seals = λ k. refl }
+      drawn-quiet : (why : Reason) (seals : List SealEntry) → ShutsIdent b why seals → IsOfNoConnector seals
+      drawn-quiet _ _ (UnreadIdent why) = λ k. refl
+      drawn-quiet _ _ (Unadmitted why of) = λ k. refl
 
 -- ---- an open link
 
@@ -511,14 +440,7 @@ module _ (run : WholeRun) (us : Uses) (told : Told) (J : List Entry) (n : NodeNa
   abbrev HO : GuestRow → Type 0
   HO row = HearsRow run us told J n b.own.name s.keys.key name Given row
 
-  abbrev StaysO : Deciding Hosted → Type 0
-  StaysO d = Always (λ (h : Hosted). HearsTurned run us told J n b.own.name s.keys.key name Given h.turned) d
-
-  -- what is no ident leaves the session
-  abbrev IsElse : Type 0
-  IsElse = (f.tag ≡ 8 → ⊥) × (f.tag ≡ 11 → ⊥)
-
-  still : IsElse → Given → (t : Secured) → IsTakenSo t.keys s.keys → GuestTold run us told n b.link.number (Open t served)
+  still : IsNoIdent f → Given → (t : Secured) → IsTakenSo t.keys s.keys → GuestTold run us told n b.link.number (Open t served)
   still other given t same = (
     name,
     guest-so run us told n b.link.number t s name same g,
@@ -527,31 +449,14 @@ module _ (run : WholeRun) (us : Uses) (told : Told) (J : List Entry) (n : NodeNa
         (subst (λ (o : Option ℕ). HasTaken told s o) (hears-else h.word f (Some served.cookie) h.frame other.0 other.1) h.taken),
   )
 
-  sends-heard : IsElse → (r : Result SealedFrame BytesFault) → IsSealedSo s.keys r → HO (secure_sent b s (λ behind. Open behind served) [] r)
+  sends-heard : IsNoIdent f → (r : Result SealedFrame BytesFault) → IsSealedSo s.keys r → HO (secure_sent b s (λ behind. Open behind served) [] r)
   sends-heard other r ok = heard-secure run us told J n b.own.name s.keys.key name Given b s (λ behind. Open behind served) [] r ok (still other) (λ t same. (same.key, serves)) (λ k. refl)
 
-  one-heard : IsElse → (x : Frame) → HO (secure_sent b s (λ behind. Open behind served) [] (secure_frame s.keys x))
+  one-heard : IsNoIdent f → (x : Frame) → HO (secure_sent b s (λ behind. Open behind served) [] (secure_frame s.keys x))
   one-heard other x = sends-heard other (secure_frame s.keys x) (frame-so s.keys x own)
 
   shut-heard : (why : Reason) → HO (refuses b why [])
   shut-heard why = heard-refuses run us told J n b.own.name s.keys.key name Given b why [] (λ k. refl)
-
-  untaken-stays : IsElse → (r : BookReply) → StaysO (on_untaken b s served r)
-  untaken-stays other (reply.Refused (fault.Repeat last)) = one-heard other (acknowledgement last)
-  untaken-stays other (reply.Refused (fault.Gap expected)) = shut-heard (reason.Session (session.Gap expected))
-  untaken-stays other (reply.Refused (fault.Stale epoch)) = shut-heard (reason.Session (session.Stale epoch))
-  untaken-stays other (reply.Refused (fault.CookieInUse number)) = tt
-  untaken-stays other (reply.Refused (fault.BookFull limit)) = tt
-  untaken-stays other (reply.Refused fault.Spent) = tt
-  untaken-stays other (reply.Refused fault.Unknown) = tt
-  untaken-stays other (reply.Refused (fault.OwnerDiffers entity gid)) = tt
-  untaken-stays other (reply.Refused (fault.StaleConnect kept)) = tt
-  untaken-stays other (reply.Refused (fault.StaleGlobal kept)) = tt
-  untaken-stays other (reply.Admitted number epoch) = tt
-  untaken-stays other (reply.Resumed number epoch last lossy) = tt
-  untaken-stays other reply.Fine = tt
-  untaken-stays other (reply.Ended lived) = tt
-  untaken-stays other reply.OutOfMemory = tt
 
   -- an operation that was read was sent in the session
   was-sent : (i : Instruction) (outcome : Outcome) → f.tag ≡ 17 → instruction_of (message_in f) ≡ Ok i → Given → FreeO
@@ -588,62 +493,19 @@ module _ (run : WholeRun) (us : Uses) (told : Told) (J : List Entry) (n : NodeNa
       by_kind (inl has) = inl (stood (journal.Admitted serves.session) has)
       by_kind (inr has) = inr (stood (journal.Resumed serves.session) has)
 
-  handles-heard : IsElse → f.tag ≡ 17 → (i : Instruction) (outcome : Outcome) → instruction_of (message_in f) ≡ Ok i → HO (handles b s served i outcome)
+  handles-heard : IsNoIdent f → f.tag ≡ 17 → (i : Instruction) (outcome : Outcome) → instruction_of (message_in f) ≡ Ok i → HO (handles b s served i outcome)
   handles-heard other tag i outcome read =
       heard-entered run us told J n b.own.name s.keys.key name Given (handled_entry b served i outcome) _ (λ joins. refl) (λ given. (is-served i outcome, was-sent i outcome tag read given))
       (sends-heard other (secure_frames s.keys (answer_message i outcome ∷ acknowledgement i.seq ∷ [])) (frames-so s.keys (answer_message i outcome ∷ acknowledgement i.seq ∷ []) own))
 
-  taken-stays : IsElse → f.tag ≡ 17 → (i : Instruction) → instruction_of (message_in f) ≡ Ok i → (r : BookReply) → StaysO (on_taken handlers b s served i r)
-  taken-stays other tag i read reply.Fine = handles-heard other tag i (outcome_of handlers served.caps i.operation) read
-  taken-stays other tag i read (reply.Refused why) = untaken-stays other (reply.Refused why)
-  taken-stays other tag i read (reply.Admitted number epoch) = tt
-  taken-stays other tag i read (reply.Resumed number epoch last lossy) = tt
-  taken-stays other tag i read (reply.Ended lived) = tt
-  taken-stays other tag i read reply.OutOfMemory = tt
-
-  checked-stays : IsElse → f.tag ≡ 17 → (i : Instruction) → instruction_of (message_in f) ≡ Ok i → (r : BookReply) → StaysO (on_checked handlers b s served i r)
-  checked-stays other tag i read reply.Fine = λ r. taken-stays other tag i read r
-  checked-stays other tag i read (reply.Refused why) = untaken-stays other (reply.Refused why)
-  checked-stays other tag i read (reply.Admitted number epoch) = tt
-  checked-stays other tag i read (reply.Resumed number epoch last lossy) = tt
-  checked-stays other tag i read (reply.Ended lived) = tt
-  checked-stays other tag i read reply.OutOfMemory = tt
-
-  -- a message stands in a frame of tag 17
-  message-tag : (i : Instruction) → instruction_of (message_in f) ≡ Ok i → f.tag ≡ 17
-  message-tag i = by_test (f.tag == 17) refl
-    where
-      by_test : (message : Bool) → (f.tag == 17) ≡ message → instruction_of (if message then message_of f.segments else Err (Unexpected f.tag)) ≡ Ok i → f.tag ≡ 17
-      by_test true e is = eqb-true f.tag 17 e
-      by_test false e is = absurd cc
-
-  message-stays : (read : Result Instruction BytesFault) → instruction_of (message_in f) ≡ read → StaysO (on_message handlers b s served read)
-  message-stays (Err why) is = record { link = λ given. tt; serves = tt; entries = λ given. (tt, tt); seals = λ k. refl }
-  message-stays (Ok i) is =
-      let tag : f.tag ≡ 17 = message-tag i is in
-      λ r. checked-stays ((λ e. omega (arith, e, tag)), (λ e. omega (arith, e, tag))) tag i is r
-
-  keepalive-heard : IsElse → (read : Result Keepalive2 BytesFault) → HO (on_keepalive b s (λ behind. Open behind served) read)
-  keepalive-heard other (Err why) = record { link = λ given. tt; serves = tt; entries = λ given. (tt, tt); seals = λ k. refl }
-  keepalive-heard other (Ok keepalive) = one-heard other (control 19 keepalive2_ack_layout.form (record { time = keepalive.time }))
-
-  ack-heard : IsElse → (read : Result Keepalive2Ack BytesFault) → HO (on_keepalive_ack b s (λ behind. Open behind served) read)
-  ack-heard other (Err why) = record { link = λ given. tt; serves = tt; entries = λ given. (tt, tt); seals = λ k. refl }
-  ack-heard other (Ok ack) = record { link = λ given. still other given s (record { key = refl; into = refl; out = refl }); serves = (refl, serves); entries = λ given. tt; seals = λ k. refl }
-
-  pub open-heard : StaysO (on_open handlers b s served f)
-  open-heard = by_tests (f.tag == 18) (f.tag == 19) refl refl
-    where
-      by_tests : (ask ack : Bool) → (f.tag == 18) ≡ ask → (f.tag == 19) ≡ ack → StaysO (if ask then comes_to (on_keepalive b s (λ behind. Open behind served) (payload keepalive2_layout.form f))
-          else if ack then comes_to (on_keepalive_ack b s (λ behind. Open behind served) (payload keepalive2_ack_layout.form f))
-          else on_message handlers b s served (instruction_of (message_in f)))
-      by_tests true ack e d =
-          let tag : f.tag ≡ 18 = eqb-true f.tag 18 e in
-          keepalive-heard ((λ t. omega (arith, t, tag)), (λ t. omega (arith, t, tag))) (payload keepalive2_layout.form f)
-      by_tests false true e d =
-          let tag : f.tag ≡ 19 = eqb-true f.tag 19 d in
-          ack-heard ((λ t. omega (arith, t, tag)), (λ t. omega (arith, t, tag))) (payload keepalive2_ack_layout.form f)
-      by_tests false false e d = message-stays (instruction_of (message_in f)) refl
+  closes-open : ClosesOpen handlers b s served f HO
+  closes-open = record {
+    shut = λ why by. shut-heard why;
+    kept_up = λ other x by. one-heard other x;
+    idled = λ other.
+        record { link = λ given. still other given s (record { key = refl; into = refl; out = refl }); serves = (refl, serves); entries = λ given. tt; seals = λ k. refl };
+    handled = λ tag i is. handles-heard ((λ e. omega (arith, e, tag)), (λ e. omega (arith, e, tag))) tag i (outcome_of handlers served.caps i.operation) is;
+  }
 
 -- ---- a turn
 
@@ -667,70 +529,71 @@ module _ (run : WholeRun) (whole : List Logged) (us : Uses) (told : Told) (log :
       quiet-none k is_connectors (opened_parts ahead)
       (all-of-map IsQuiet (λ (content : List ℕ). entry.Opened (record { key = ahead.key; kind = kind.Connection; content = content })) (front_contents ahead) (λ content. tt))
 
-  behind-opened : (key : List ℕ) (name : Name) (opened : List SealEntry) (hosted : Hosted) → IsOfNoConnector opened → HearsTurned run us told J n a.own.name key name (Granted opened) hosted.turned
-      → HearsHosted key name (hosted_behind opened hosted)
-  behind-opened key name opened hosted quiet h = by_turned hosted.turned h
-    where
-      by_turned : (turned : Turned Asker GuestStage) → HearsTurned run us told J n a.own.name key name (Granted opened) turned → HearsHosted key name (hosted_behind opened (record { turned = turned; moved = hosted.moved }))
-      by_turned Waits h = tt
-      by_turned (Refuses why broken) h = h
-      by_turned (Handles row) h =
-          heard-opened run us told J n a.own.name key name (Granted opened) (Granted (opened ++ row.seals)) opened row (granted-first run.leaked whole n line log opened row.seals) quiet h
+  -- of a row, and of one behind what opened
+  abbrev Row_ : List ℕ → Name → GuestRow → Type 0
+  Row_ key name row = HearsRow run us told J n a.own.name key name (Granted row.seals) row
 
-  pub signature-turn : (s : Secured) (owner : Authority) → GuestTold run us told n a.link.number (AwaitsSignature s owner) → IsOfAcceptor s.keys.out.fixed
-      → (r : Result (Option (Frame × ℕ)) SecureRefusal) → secure_frame_at (sealed_ahead s.keys a.link) ≡ r
-      → Always (HearsHosted s.keys.key owner.ticket.name) (no_session_moves (turned_by
-      (λ (link, f, keys) parts. with_opened parts (on_signature (at a link) (under s keys) owner (due 7 auth_signature_layout.form f)))
-      (secure_read s.keys a.link (opened_parts (sealed_ahead s.keys a.link)) r)))
-  signature-turn s owner h own (Ok None) read = tt
-  signature-turn s owner h own (Ok (Some (f, m))) read =
-      let opened : List SealEntry = opened_parts (sealed_ahead s.keys a.link) in
+  abbrev parts : Secured → List SealEntry
+  parts s = opened_parts (sealed_ahead s.keys a.link)
+
+  behind-opened : (s : Secured) (key : List ℕ) (name : Name) (row : GuestRow) → HearsRow run us told J n a.own.name key name (Granted (parts s)) row → Row_ key name (with_opened (parts s) row)
+  behind-opened s key name row h =
+      heard-opened run us told J n a.own.name key name (Granted (parts s)) (Granted (parts s ++ row.seals)) (parts s) row
+      (granted-first run.leaked whole n line log (parts s) row.seals) (opened-quiet (sealed_ahead s.keys a.link)) h
+
+  behind-rule : (s : Secured) (key : List ℕ) (name : Name) (rule : Deciding Hosted)
+      → Always (λ (x : Hosted). TurnOf IsOfNoConnector (HearsRow run us told J n a.own.name key name (Granted (parts s))) x.turned) rule
+      → Always (λ (x : Hosted). TurnOf IsOfNoConnector (λ (row : GuestRow). Row_ key name (with_opened (parts s) row)) x.turned) rule
+  behind-rule s key name rule =
+      always-weaker (λ (x : Hosted). TurnOf IsOfNoConnector (HearsRow run us told J n a.own.name key name (Granted (parts s))) x.turned)
+      (λ (x : Hosted). TurnOf IsOfNoConnector (λ (row : GuestRow). Row_ key name (with_opened (parts s) row)) x.turned)
+      (λ x. turn-weaker IsOfNoConnector (HearsRow run us told J n a.own.name key name (Granted (parts s))) (λ (row : GuestRow). Row_ key name (with_opened (parts s) row))
+      (behind-opened s key name) x.turned) rule
+
+  signature-turn : (handlers : Handlers) (s : Secured) (owner : Authority) → GuestTold run us told n a.link.number (AwaitsSignature s owner) → IsOfAcceptor s.keys.out.fixed
+      → ClosesTurn handlers a IsOfNoConnector (Row_ s.keys.key owner.ticket.name) (AwaitsSignature s owner)
+  signature-turn handlers s owner h own f m is =
       let name : Name = owner.ticket.name in
       let k : Secured = under s (keys_behind s.keys f) in
       let b : GuestArrival = at a (taking a.link m) in
-      let row : GuestRow = on_signature b k owner (due 7 auth_signature_layout.form f) in
-      heard-opened run us told J n a.own.name s.keys.key name (Granted opened) (Granted (opened ++ row.seals)) opened row (granted-first run.leaked whole n line log opened row.seals)
-      (opened-quiet (sealed_ahead s.keys a.link))
-      (signature-heard run us told J n b k owner f (guest-moves run us told n a.link.number k s name refl refl h.0) own (Granted opened)
-      (λ given free. let so = h.1 free in (so.0, heard-next run whole us told log J n line i t spelled a.link.number name s h.0 free a.link so.0 f m so.1 given read))
-      h.2 (due 7 auth_signature_layout.form f))
-  signature-turn s owner h own (Err e) read = opened-quiet (sealed_ahead s.keys a.link)
+      behind-opened s s.keys.key name _
+      (signature-so b k owner f (HearsRow run us told J n a.own.name s.keys.key name (Granted (parts s)))
+      (closes-signature run us told J n b k owner f (guest-moves run us told n a.link.number k s name refl refl h.0) own (Granted (parts s))
+      (λ given free. let so = h.1 free in (so.0, heard-next run whole us told log J n line i t spelled a.link.number name s h.0 free a.link so.0 f m so.1 given is.read)) h.2))
 
-  pub ident-turn : (s : Secured) (owner : Authority) → GuestTold run us told n a.link.number (AwaitsIdent s owner) → IsOfAcceptor s.keys.out.fixed
-      → (r : Result (Option (Frame × ℕ)) SecureRefusal) → secure_frame_at (sealed_ahead s.keys a.link) ≡ r
-      → Always (HearsHosted s.keys.key owner.ticket.name) (decided_by (λ (link, f, keys). on_ident (at a link) (under s keys) owner f)
-      (secure_read s.keys a.link (opened_parts (sealed_ahead s.keys a.link)) r))
-  ident-turn s owner h own (Ok None) read = tt
-  ident-turn s owner h own (Ok (Some (f, m))) read =
-      let opened : List SealEntry = opened_parts (sealed_ahead s.keys a.link) in
+  ident-turn : (handlers : Handlers) (s : Secured) (owner : Authority) → GuestTold run us told n a.link.number (AwaitsIdent s owner) → IsOfAcceptor s.keys.out.fixed
+      → ClosesTurn handlers a IsOfNoConnector (Row_ s.keys.key owner.ticket.name) (AwaitsIdent s owner)
+  ident-turn handlers s owner h own f m is =
       let name : Name = owner.ticket.name in
       let k : Secured = under s (keys_behind s.keys f) in
       let b : GuestArrival = at a (taking a.link m) in
-      let rule : Deciding Hosted = on_ident b k owner f in
-      always-map (HearsHosted s.keys.key name) (hosted_behind opened) rule
-      (always-weaker (λ (x : Hosted). HearsTurned run us told J n a.own.name s.keys.key name (Granted opened) x.turned) (λ (x : Hosted). HearsHosted s.keys.key name (hosted_behind opened x))
-      (λ x ok. behind-opened s.keys.key name opened x (opened-quiet (sealed_ahead s.keys a.link)) ok) rule
-      (ident-heard run us told J n b k owner f (guest-moves run us told n a.link.number k s name refl refl h.0) own (Granted opened)
-      (λ given free. let so = h.1 free in (so.0, heard-next run whole us told log J n line i t spelled a.link.number name s h.0 free a.link so.0 f m so.1 given read)) h.2))
-  ident-turn s owner h own (Err e) read = opened-quiet (sealed_ahead s.keys a.link)
+      behind-rule s s.keys.key name (on_ident b k owner f)
+      (ident-so b k owner f IsOfNoConnector (HearsRow run us told J n a.own.name s.keys.key name (Granted (parts s)))
+      (closes-ident run us told J n b k owner f (guest-moves run us told n a.link.number k s name refl refl h.0) own (Granted (parts s))
+      (λ given free. let so = h.1 free in (so.0, heard-next run whole us told log J n line i t spelled a.link.number name s h.0 free a.link so.0 f m so.1 given is.read)) h.2))
 
-  pub open-turn : (handlers : Handlers) (s : Secured) (served : Served) → (h : GuestTold run us told n a.link.number (Open s served)) → OpenedFor J [] a.own.name h.0 served → IsOfAcceptor s.keys.out.fixed
-      → (r : Result (Option (Frame × ℕ)) SecureRefusal) → secure_frame_at (sealed_ahead s.keys a.link) ≡ r
-      → Always (HearsHosted s.keys.key h.0) (decided_by (λ (link, f, keys). on_open handlers (at a link) (under s keys) served f)
-      (secure_read s.keys a.link (opened_parts (sealed_ahead s.keys a.link)) r))
-  open-turn handlers s served h serves own (Ok None) read = tt
-  open-turn handlers s served h serves own (Ok (Some (f, m))) read =
-      let opened : List SealEntry = opened_parts (sealed_ahead s.keys a.link) in
+  open-turn : (handlers : Handlers) (s : Secured) (served : Served) → (h : GuestTold run us told n a.link.number (Open s served)) → OpenedFor J [] a.own.name h.0 served → IsOfAcceptor s.keys.out.fixed
+      → ClosesTurn handlers a IsOfNoConnector (Row_ s.keys.key h.0) (Open s served)
+  open-turn handlers s served h serves own f m is =
       let name : Name = h.0 in
       let k : Secured = under s (keys_behind s.keys f) in
       let b : GuestArrival = at a (taking a.link m) in
-      let rule : Deciding Hosted = on_open handlers b k served f in
-      always-map (HearsHosted s.keys.key name) (hosted_behind opened) rule
-      (always-weaker (λ (x : Hosted). HearsTurned run us told J n a.own.name s.keys.key name (Granted opened) x.turned) (λ (x : Hosted). HearsHosted s.keys.key name (hosted_behind opened x))
-      (λ x ok. behind-opened s.keys.key name opened x (opened-quiet (sealed_ahead s.keys a.link)) ok) rule
-      (open-heard run us told J n handlers b k served name f (guest-moves run us told n a.link.number k s name refl refl h.1) own serves (Granted opened)
-      (λ given free. heard-next run whole us told log J n line i t spelled a.link.number name s h.1 free a.link (Some served.cookie) f m (h.2 free) given read)))
-  open-turn handlers s served h serves own (Err e) read = opened-quiet (sealed_ahead s.keys a.link)
+      behind-rule s s.keys.key name (on_open handlers b k served f)
+      (open-so handlers b k served f IsOfNoConnector (HearsRow run us told J n a.own.name s.keys.key name (Granted (parts s)))
+      (closes-open run us told J n handlers b k served name f (guest-moves run us told n a.link.number k s name refl refl h.1) own serves (Granted (parts s))
+      (λ given free. heard-next run whole us told log J n line i t spelled a.link.number name s h.1 free a.link (Some served.cookie) f m (h.2 free) given is.read)))
+
+  of-turned : (key : List ℕ) (name : Name) (turned : Turned Asker GuestStage) → TurnOf IsOfNoConnector (Row_ key name) turned
+      → HearsTurned run us told J n a.own.name key name (Granted (turned_seals turned)) turned
+  of-turned key who Waits h = tt
+  of-turned key who (Refuses why opened) h = h
+  of-turned key who (Handles row) h = h
+
+  keyed-turn : (handlers : Handlers) (stage : GuestStage) (key : List ℕ) (name : Name) → ClosesTurn handlers a IsOfNoConnector (Row_ key name) stage
+      → Always (HearsHosted key name) (guest_turned handlers a stage)
+  keyed-turn handlers stage key name closes =
+      always-weaker (λ (x : Hosted). TurnOf IsOfNoConnector (Row_ key name) x.turned) (HearsHosted key name) (λ x. of-turned key name x.turned) (guest_turned handlers a stage)
+      (guest-turn handlers a IsOfNoConnector (Row_ key name) (λ k. refl) (λ keys. opened-quiet (sealed_ahead keys a.link)) stage closes)
 
   -- a link behind authentication seals as an acceptor
   abbrev pub SealsAsAcceptor : GuestStage → Type 0
@@ -751,10 +614,6 @@ module _ (run : WholeRun) (whole : List Logged) (us : Uses) (told : Told) (log :
   ServesAt (Open s served) h = OpenedFor J [] a.own.name h.0 served
   ServesAt _ h = Unit {0}
 
-  always-unit : {C R X : Type 0} (rule : Asks C R X) → Always (λ (x : X). Unit {0}) rule
-  always-unit (Finished x) = tt
-  always-unit (Asking call next) = λ r. always-unit (next r)
-
   -- so it is at each turn
   pub guest-hears : (handlers : Handlers) (stage : GuestStage) → (h : GuestTold run us told n a.link.number stage) → ServesAt stage h → SealsAsAcceptor stage
       → Always (HearsAt stage h) (guest_turned handlers a stage)
@@ -762,6 +621,6 @@ module _ (run : WholeRun) (whole : List Logged) (us : Uses) (told : Told) (log :
   guest-hears handlers AwaitsHello h serves own = always-unit (guest_turned handlers a AwaitsHello)
   guest-hears handlers AwaitsRequest h serves own = always-unit (guest_turned handlers a AwaitsRequest)
   guest-hears handlers (AwaitsProof awaited) h serves own = always-unit (guest_turned handlers a (AwaitsProof awaited))
-  guest-hears handlers (AwaitsSignature s owner) h serves own = signature-turn s owner h own (secure_frame_at (sealed_ahead s.keys a.link)) refl
-  guest-hears handlers (AwaitsIdent s owner) h serves own = ident-turn s owner h own (secure_frame_at (sealed_ahead s.keys a.link)) refl
-  guest-hears handlers (Open s served) h serves own = open-turn handlers s served h serves own (secure_frame_at (sealed_ahead s.keys a.link)) refl
+  guest-hears handlers (AwaitsSignature s owner) h serves own = keyed-turn handlers (AwaitsSignature s owner) s.keys.key owner.ticket.name (signature-turn handlers s owner h own)
+  guest-hears handlers (AwaitsIdent s owner) h serves own = keyed-turn handlers (AwaitsIdent s owner) s.keys.key owner.ticket.name (ident-turn handlers s owner h own)
+  guest-hears handlers (Open s served) h serves own = keyed-turn handlers (Open s served) s.keys.key h.0 (open-turn handlers s served h serves own)

@@ -81,6 +81,7 @@ use Rattle.cx_laws_login.proofs.Entering.{issued_of}
 use Rattle.cx_laws_login.proofs.Hearing.{HearsPart, hears-more, next-heard}
 use Rattle.cx_laws_login.proofs.Issuing.{AreIssued, AreOthers, IsOther, all-issued, others-issued}
 use Rattle.cx_laws_login.proofs.Rows.{all-filter}
+use Rattle.cx_rules.proofs.RowWalk.{EachRow, each-turned}
 
 -- ---- entries
 
@@ -539,15 +540,7 @@ more-tells a offered (Ok more) = authenticate-tells a offered (whole authenticat
 
 -- what is said of the row of a turn, if there is one
 abbrev pub RowOf : {Own Stage : Type 0} → (Row Own Stage → Type 0) → Turned Own Stage → Type 0
-RowOf P Waits = Unit {0}
-RowOf P (Refuses why opened) = Unit {0}
-RowOf P (Handles row) = P row
-
-pub by-front : {Own Stage X : Type 0} (P : Row Own Stage → Type 0) (row : X → List SealEntry → Row Own Stage) (front : Front X) → ((x : X) (opened : List SealEntry) → P (row x opened))
-    → RowOf P (turned_by row front)
-by-front P row NotYet each = tt
-by-front P row (Broken why opened) each = tt
-by-front P row (Next x opened) each = each x opened
+RowOf P turned = EachRow P turned
 
 -- a row that issues no ticket behind a proof, behind what opened
 opened-tells : (stage : MonitorStage) (a : MonitorArrival) (opened : List SealEntry) (row : MonitorRow) → HearsFirst stage opened → IsProofless stage a row
@@ -568,29 +561,29 @@ open-front a s bearer (Next (link, f, keys) opened) next =
 
 pub turned-tells : (a : MonitorArrival) (stage : MonitorStage) → RowOf (RowTells a.own.server.ring stage) (turned_at a stage)
 turned-tells a AwaitsBanner =
-    by-front (RowTells a.own.server.ring AwaitsBanner) (λ link _. on_banner Mon (at a link)) (banner_next a.link)
+    each-turned (RowTells a.own.server.ring AwaitsBanner) (λ link _. on_banner Mon (at a link))
     (λ link opened. proofless-tells AwaitsBanner a.own.server.ring (on_banner Mon (at a link)) (λ s bearer is. absurd cc)
-    (proofless-plain AwaitsBanner (at a link) AwaitsHello [] (plain_frame (own_hello Mon)) (λ logged. tt)))
+    (proofless-plain AwaitsBanner (at a link) AwaitsHello [] (plain_frame (own_hello Mon)) (λ logged. tt))) (banner_next a.link)
 turned-tells a AwaitsHello =
-    by-front (RowTells a.own.server.ring AwaitsHello) (λ (link, f) _. on_hello (at a link) (due 1 hello_layout.form f)) (plain_next a.link)
+    each-turned (RowTells a.own.server.ring AwaitsHello) (λ (link, f) _. on_hello (at a link) (due 1 hello_layout.form f))
     (λ (link, f) opened. proofless-tells AwaitsHello a.own.server.ring (on_hello (at a link) (due 1 hello_layout.form f)) (λ s bearer is. absurd cc)
-    (proofless-hello AwaitsHello (at a link) (due 1 hello_layout.form f)))
+    (proofless-hello AwaitsHello (at a link) (due 1 hello_layout.form f))) (plain_next a.link)
 turned-tells a AwaitsRequest =
-    by-front (RowTells a.own.server.ring AwaitsRequest) (λ (link, f) _. on_auth_request on_request_payload (at a link) (due 2 auth_request_layout.form f)) (plain_next a.link)
+    each-turned (RowTells a.own.server.ring AwaitsRequest) (λ (link, f) _. on_auth_request on_request_payload (at a link) (due 2 auth_request_layout.form f))
     (λ (link, f) opened. proofless-tells AwaitsRequest a.own.server.ring (on_auth_request on_request_payload (at a link) (due 2 auth_request_layout.form f)) (λ s bearer is. absurd cc)
-    (proofless-request AwaitsRequest (at a link) (due 2 auth_request_layout.form f)))
+    (proofless-request AwaitsRequest (at a link) (due 2 auth_request_layout.form f))) (plain_next a.link)
 turned-tells a (AwaitsProof offered) =
-    by-front (RowTells a.own.server.ring (AwaitsProof offered)) (λ (link, f) _. on_auth_request_more (at a link) offered (due 5 auth_request_more_layout.form f)) (plain_next a.link)
-    (λ (link, f) opened. more-tells (at a link) offered (due 5 auth_request_more_layout.form f))
+    each-turned (RowTells a.own.server.ring (AwaitsProof offered)) (λ (link, f) _. on_auth_request_more (at a link) offered (due 5 auth_request_more_layout.form f))
+    (λ (link, f) opened. more-tells (at a link) offered (due 5 auth_request_more_layout.form f)) (plain_next a.link)
 turned-tells a (AwaitsSignature s bearer) =
-    by-front (RowTells a.own.server.ring (AwaitsSignature s bearer))
-    (λ (link, f, keys) opened. with_opened opened (on_signature (at a link) (under s keys) bearer (due 7 auth_signature_layout.form f))) (secure_next s.keys a.link)
+    each-turned (RowTells a.own.server.ring (AwaitsSignature s bearer))
+    (λ (link, f, keys) opened. with_opened opened (on_signature (at a link) (under s keys) bearer (due 7 auth_signature_layout.form f)))
     (λ (link, f, keys) opened. opened-tells (AwaitsSignature s bearer) (at a link) opened (on_signature (at a link) (under s keys) bearer (due 7 auth_signature_layout.form f)) (λ t b is. absurd cc)
-    (proofless-signature (AwaitsSignature s bearer) bearer (same-bearer bearer) (at a link) (under s keys) (due 7 auth_signature_layout.form f)))
+    (proofless-signature (AwaitsSignature s bearer) bearer (same-bearer bearer) (at a link) (under s keys) (due 7 auth_signature_layout.form f))) (secure_next s.keys a.link)
 turned-tells a (AwaitsIdent s bearer) =
-    by-front (RowTells a.own.server.ring (AwaitsIdent s bearer)) (λ (link, f, keys) opened. with_opened opened (on_ident (at a link) (under s keys) bearer f)) (secure_next s.keys a.link)
+    each-turned (RowTells a.own.server.ring (AwaitsIdent s bearer)) (λ (link, f, keys) opened. with_opened opened (on_ident (at a link) (under s keys) bearer f))
     (λ (link, f, keys) opened. opened-tells (AwaitsIdent s bearer) (at a link) opened (on_ident (at a link) (under s keys) bearer f) (λ t b is. absurd cc)
-    (proofless-ident (AwaitsIdent s bearer) bearer (same-bearer bearer) (at a link) (under s keys) f))
+    (proofless-ident (AwaitsIdent s bearer) bearer (same-bearer bearer) (at a link) (under s keys) f)) (secure_next s.keys a.link)
 turned-tells a (Open s bearer) = open-front a s bearer (secure_next s.keys a.link) refl
 
 -- ---- steps

@@ -22,8 +22,8 @@ use Rattle.cx_laws_authorize.specs.cx_run.specs.Opening.{Declared, Leak, Setup, 
 use Rattle.cx_laws_authorize.specs.cx_run.specs.Points.{journal_since}
 use Rattle.cx_laws_authorize.proofs.Viewing.{daemon-shows}
 use Rattle.cx_laws_authorize.specs.cx_run.specs.Visits.{AreUntold, IsNoLook}
-use Rattle.cx_laws_chain.proofs.Rows.{IsOfMonitor}
-use Rattle.cx_laws_chain.proofs.Steps.{event-enters}
+use Rattle.cx_laws_authorize.specs.cx_rules.proofs.MonitorEnters.{IsOfMonitor}
+use Rattle.cx_laws_authorize.specs.cx_run.proofs.MonitorEnters.{monitor-enters}
 use Rattle.cx_laws_authorize.specs.cx_laws_keys.proofs.Journal.{entered}
 use Rattle.cx_laws_authorize.specs.cx_laws_keys.proofs.Lists.{all-map, found_all, found_passes, map-append}
 use Rattle.cx_laws_authorize.specs.cx_laws_keys.proofs.Viewing.{ShowsAlong, ShowsNone, all-none-look, none-shown, shows-elsewhere, shows-last, shows-looks, viewed-append}
@@ -136,7 +136,7 @@ node-looks : (J : List Entry) (nodes : Nodes) (h : Happening) (n : NodeName) →
 node-looks J nodes h node.Monitor looks views =
     let o : Outcome MonitorNode = monitor_rule nodes.monitor h.input h.reading h.draw in
     let es : List Entry = (monitor_steps nodes o h.left o.out.save).out.entries in
-    let shows : AllByRecursion ShowsNone es = all-map IsOfMonitor ShowsNone monitor-shows es (event-enters nodes h.input h.reading h.draw h.left) in
+    let shows : AllByRecursion ShowsNone es = all-map IsOfMonitor ShowsNone monitor-shows es (monitor-enters nodes h.input h.reading h.draw h.left) in
     record {
       looks = all-none-look J es shows;
       views = subst (λ (entities : List EntityNode). AllViews (J ++ es) entities) (sym (same-entities nodes o h.left o.out.save)) (shown-stay J es nodes.entities shows views);

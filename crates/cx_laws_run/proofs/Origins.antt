@@ -35,8 +35,8 @@ use Rattle.cx_laws_authorize.proofs.Keys.{HostKeys, host-connected}
 use Rattle.cx_laws_authorize.proofs.Opening.{IsOfSession, step-hears}
 use Rattle.cx_laws_authorize.proofs.Steps.{all-authorize}
 use Rattle.cx_laws_authorize.specs.Admission.{EntryTold, IsOwned, StageHas}
-use Rattle.cx_laws_chain.proofs.Rows.{IsOfMonitor}
-use Rattle.cx_laws_chain.proofs.Steps.{event-enters}
+use Rattle.cx_laws_authorize.specs.cx_rules.proofs.MonitorEnters.{IsOfMonitor}
+use Rattle.cx_laws_authorize.specs.cx_run.proofs.MonitorEnters.{monitor-enters}
 use Rattle.cx_laws_authorize.specs.cx_laws_keys.proofs.Known.{Inv}
 use Rattle.cx_laws_authorize.specs.cx_laws_keys.proofs.Lists.{found_all, found_passes}
 use Rattle.cx_laws_authorize.specs.cx_laws_keys.proofs.Premises.{AreGranted}
@@ -269,7 +269,7 @@ module _ (setup : Setup) (older : List Point) (nodes : Nodes) (h : Happening) (g
   owed-node : (n : NodeName) → h.node ≡ n → Contains (entries_at point) e → IsOwed setup older point session
   owed-node node.Monitor here has =
       let there : Contains (steps_of nodes h node.Monitor).out.entries e = subst (λ (n : NodeName). Contains (steps_of nodes h n).out.entries e) here has in
-      absurd (monitor-none e (one-of IsOfMonitor _ e (event-enters nodes h.input h.reading h.draw h.left) there) of)
+      absurd (monitor-none e (one-of IsOfMonitor _ e (monitor-enters nodes h.input h.reading h.draw h.left) there) of)
   owed-node (node.Entity name) here has = owed-entity name (entity_of name nodes) here refl has
 
 goes-back : (setup : Setup) (older : List Point) (p : Point) → Gained older p → Knows setup older p → EachPoint (Knows setup) older → EachPoint (Asks setup) older

@@ -35,7 +35,7 @@ use Rattle.cx_laws_queues.specs.cx_rules_session.specs.Asks.{Finished, Asking}
 use Rattle.cx_laws_queues.specs.cx_rules_session.specs.DaemonRule.{AsAcceptor, AsConnector, Daemon, DaemonNode, DaemonStage, DaemonState, asking_open, book_after, book_reply, daemon_rule, daemon_step, ended_entry, fetches, fetches_on, gone, gone_by_kind, guest_gone, is_fetching, is_in, looks, loses, lossy_gone, me, on_dropped, open_to_ask, opens, opens_own, restarted, shut_where, submits, ticks, undialled, unreached, with_asker}
 use Rattle.cx_laws_queues.specs.cx_rules_session.specs.Guests.{GuestStage, Served}
 use Rattle.cx_laws_queues.specs.cx_run.proofs.DaemonNamed.{daemon-named}
-use Rattle.cx_laws_queues.specs.cx_run.proofs.GuestTakes.{Always, always-book}
+use Rattle.cx_laws_queues.specs.cx_run.proofs.Always.{Always, always-book}
 use Rattle.cx_session.specs.Book.{Book}
 use Rattle.cx_session.specs.declared.call.BookCall.TheVariants.{End}
 use Rattle.cx_session.specs.declared.call.BookReply.{BookReply}

@@ -36,7 +36,8 @@ use Rattle.cx_laws_queues.specs.cx_rules_session.specs.DaemonRule.{AsAcceptor, A
 use Rattle.cx_laws_queues.specs.cx_rules_session.specs.Guests.{GuestArrival, GuestRow, GuestStage, Served}
 use Rattle.cx_laws_queues.specs.cx_rules_session.specs.Hosting.{Deciding, Hosted, guest_turned}
 use Rattle.cx_laws_queues.specs.cx_rules_session.specs.Kinds.{arrival_in, of_kind, row_of_kind, turn_of_kind}
-use Rattle.cx_laws_queues.specs.cx_run.proofs.GuestTakes.{Always, TakesHosted, always-map, always-weaker, guest-takes}
+use Rattle.cx_laws_queues.specs.cx_run.proofs.Always.{Always, always-map, always-weaker}
+use Rattle.cx_laws_queues.specs.cx_run.proofs.GuestTakes.{TakesHosted, guest-takes}
 use Rattle.cx_laws_queues.specs.cx_run.proofs.Taking.{EachRow, Takes, TurnTakes}
 use Rattle.cx_steps.specs.declared.seals.Logged.{Logged}
 use Rattle.cx_steps.specs.declared.seals.SealEntry.{SealEntry}

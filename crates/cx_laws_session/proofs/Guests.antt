@@ -1,54 +1,49 @@
 -- What each turn of a guest's link comes to for a daemon's sessions, with the replies of its book.
-use Rattle.std.proofs.Common.{◌≡◌, ℕ, ◌==◌, Bool, true, false, List, [], ◌∷◌, ◌++◌, Result, Ok, Err, inl, inr, refl, subst, sym}
-use Rattle.std.specs.Prelude.{not, if◌then◌else◌}
-use Rattle.std.specs.List.{AllByRecursion, list_any}
-use Rattle.cx_run.specs.cx_authorize.specs.Daemon.{Authority, Awaited}
-use Rattle.cx_run.specs.cx_authorize.specs.Judging.{judged_first, judged_second}
-use Rattle.cx_run.specs.cx_authorize.specs.declared.refusals.AuthRefusal.{AuthRefusal}
-use Rattle.cx_run.specs.cx_authorize.specs.declared.refusals.AuthRefusal.TheVariants as refusal
+use Rattle.std.proofs.Common.{◌≡◌, ℕ, ◌==◌, Bool, true, false, List, [], ◌∷◌, Result, Ok, Err, inl, inr, refl, subst, sym}
+use Rattle.std.specs.Prelude.{if◌then◌else◌}
+use Rattle.std.specs.List.{AllByRecursion}
+use Rattle.cx_base.specs.Names.{Name}
 use Rattle.cx_control.specs.Auth.{auth_request_layout, auth_request_more_layout, auth_signature_layout}
 use Rattle.cx_control.specs.Hello.{hello_layout}
 use Rattle.cx_control.specs.Idents.{client_ident_layout, ident_missing_features_layout}
 use Rattle.cx_control.specs.Reconnects.{session_reconnect_layout}
 use Rattle.cx_control.specs.Upkeep.{keepalive2_layout, keepalive2_ack_layout}
-use Rattle.cx_control.specs.declared.auth.AuthRequest.{AuthRequest}
-use Rattle.cx_control.specs.declared.auth.AuthRequestMore.{AuthRequestMore}
-use Rattle.cx_control.specs.declared.auth.AuthSignature.{AuthSignature}
-use Rattle.cx_control.specs.declared.hello.Hello.{Hello}
 use Rattle.cx_control.specs.declared.idents.ClientIdent.{ClientIdent}
 use Rattle.cx_control.specs.declared.reconnects.SessionReconnect.{SessionReconnect}
-use Rattle.cx_desk.specs.Handlers.{Handlers}
-use Rattle.cx_dice.specs.Draws.{challenge_of, connection_of, cookie_of}
-use Rattle.cx_frame.specs.declared.frame.Frame.{Frame}
-use Rattle.cx_base.specs.Names.{Name}
-use Rattle.cx_base.specs.declared.kinds.EntityType.{EntityType}
 use Rattle.cx_control.specs.declared.upkeep.Keepalive2.{Keepalive2}
 use Rattle.cx_control.specs.declared.upkeep.Keepalive2Ack.{Keepalive2Ack}
+use Rattle.cx_desk.specs.Handlers.{Handlers}
+use Rattle.cx_dice.specs.Draws.{cookie_of}
+use Rattle.cx_frame.specs.declared.frame.Frame.{Frame}
 use Rattle.cx_journal.specs.declared.faults.BytesFault.{BytesFault}
-use Rattle.cx_journal.specs.declared.faults.SessionFault.TheVariants as session
 use Rattle.cx_journal.specs.declared.faults.BytesFault.TheVariants.{Unexpected}
-use Rattle.cx_journal.specs.declared.faults.LoginFault.TheVariants.{Method, Mode, SignatureWrong}
+use Rattle.cx_journal.specs.declared.faults.SessionFault.TheVariants as session
 use Rattle.cx_journal.specs.declared.outcomes.Outcome.{Outcome}
 use Rattle.cx_journal.specs.declared.outcomes.Reason.{Reason}
 use Rattle.cx_journal.specs.declared.outcomes.Reason.TheVariants as reason
-use Rattle.cx_run.specs.cx_rules.specs.Acceptor.{AwaitsBanner, AwaitsHello, AwaitsRequest, AwaitsProof, AwaitsSignature, AwaitsIdent, Open, Finished as Done, denies, finished, missing_told, misses, on_auth_request, on_banner, on_hello, on_signature, server_ident}
+use Rattle.cx_laws_session.proofs.Books.{admit-given, admitted-lasts, admitted-lives, resume-given, resumed-lasts, resumed-lives, take-given, taken-lasts, taken-same}
+use Rattle.cx_laws_session.proofs.Keeping.{still-book}
+use Rattle.cx_laws_session.proofs.Lists.{all-map}
+use Rattle.cx_laws_session.proofs.Moves.{Admitting, Comes, HasServed, IsQuiet, IsRight, IsServedAs, LinkServes, Rested, Resuming, StillBook, quiet-right}
+use Rattle.cx_run.proofs.GuestWalk.{ClosesEarly, banner-so, hello-so, more-so, request-so, signature-so}
+use Rattle.cx_run.proofs.Taking.{EachRow, each-turned}
+use Rattle.cx_run.specs.cx_authorize.specs.Daemon.{Authority}
+use Rattle.cx_run.specs.cx_rules.specs.Acceptor.{AwaitsBanner, AwaitsHello, AwaitsRequest, AwaitsProof, AwaitsSignature, AwaitsIdent, Open, missing_told, misses, on_auth_request, on_banner, on_hello, on_signature, server_ident}
 use Rattle.cx_run.specs.cx_rules.specs.Fronts.{Front, NotYet, Broken, Next, banner_next, plain_next, secure_next}
-use Rattle.cx_run.specs.cx_rules.specs.Greetings.{own_hello}
 use Rattle.cx_run.specs.cx_rules.specs.Holdings.{Asker}
 use Rattle.cx_run.specs.cx_rules.specs.Messages.{acknowledgement, message_in, secure_frames}
 use Rattle.cx_run.specs.cx_rules.specs.MonitorRule.{session_reset}
 use Rattle.cx_run.specs.cx_rules.specs.Payloads.{control, due, payload}
-use Rattle.cx_run.specs.cx_rules.specs.Rows.{Turned, Waits, Refuses, Handles, at, goes_on, plain_sent, refused_entry, refuses, refuses_bytes, secure_sent, sends_secure, turned_by, unless_refused, with_opened}
-use Rattle.cx_run.specs.cx_rules.specs.Secured.{SealedFrame, Secured, is_signed, plain_frame, secure_frame, signature_found, under}
+use Rattle.cx_run.specs.cx_rules.specs.Rows.{Turned, Waits, Refuses, Handles, at, refused_entry, refuses, refuses_bytes, secure_sent, sends_secure, turned_by, with_opened}
+use Rattle.cx_run.specs.cx_rules.specs.Secured.{SealedFrame, Secured, secure_frame, under}
 use Rattle.cx_run.specs.cx_rules.specs.Upkeep.{on_keepalive, on_keepalive_ack}
 use Rattle.cx_run.specs.cx_rules_session.specs.Asks.{Asks, Finished, Asking, asks_map, with_book}
 use Rattle.cx_run.specs.cx_rules_session.specs.DaemonRule.{book_after, book_reply, owner_entity, owner_gid}
-use Rattle.cx_run.specs.cx_rules_session.specs.Envelopes.{authorize_challenge_content, authorize_reply_content, session_sealed}
-use Rattle.cx_run.specs.cx_rules_session.specs.Guests.{GuestArrival, GuestRow, GuestStage, Served, authority_of, authorized_frame, challenges, done_sent, on_auth_request_more, on_first, on_second, sealed_challenge_frame, authorizes, turns_away, unless_turned_away}
+use Rattle.cx_run.specs.cx_rules_session.specs.Guests.{GuestArrival, GuestRow, GuestStage, Served, on_auth_request_more, on_first}
 use Rattle.cx_run.specs.cx_rules_session.specs.Hosting.{Deciding, Hosted, Instruction, answer_message, admission_of, admits, asks_admission, comes_to, cookie_drawn, decided_by, guest_turned, handles, hosted_behind, instruction_of, on_admission, on_checked, on_client_ident, on_ident, on_message, on_open, on_reconnect, on_resumption, on_taken, on_untaken, outcome_of, reconnect_ok, resumes, served_as, session_retry, session_retry_global, tells_why, turned_behind}
 use Rattle.cx_run.specs.cx_rules_session.specs.Kinds.{entered_before}
 use Rattle.cx_run.specs.cx_rules_session.specs.Lossy.{is_lossy, lossy_flags}
-use Rattle.cx_run.specs.cx_sealed.specs.declared.service_ticket.ServiceTicket.{ServiceTicket}
+use Rattle.cx_run.specs.cx_steps.specs.declared.seals.SealEntry.{SealEntry}
 use Rattle.cx_session.specs.Answers.{admission_reply, behind, message_reply, refused_message, resumption_reply}
 use Rattle.cx_session.specs.Book.{Book, admit_reply, admitted, resume_reply, resumed, take_reply, taken}
 use Rattle.cx_session.specs.declared.call.BookCall.{BookCall}
@@ -59,14 +54,6 @@ use Rattle.cx_session.specs.declared.faults.ResumeFault.{ResumeFault}
 use Rattle.cx_session.specs.declared.faults.ResumeFault.TheVariants as resume
 use Rattle.cx_session.specs.declared.faults.TakeRefusal.{TakeRefusal}
 use Rattle.cx_session.specs.declared.faults.TakeRefusal.TheVariants as message
-use Rattle.cx_run.specs.cx_steps.specs.declared.seals.DrawMark.TheVariants as draw
-use Rattle.cx_run.specs.cx_steps.specs.declared.seals.SealEntry.{SealEntry}
-use Rattle.cx_run.specs.cx_steps.specs.declared.seals.SealEntry.TheVariants.{Drawn}
-use Rattle.cx_run.proofs.Taking.{EachRow, each-turned}
-use Rattle.cx_laws_session.proofs.Books.{admit-given, admitted-lasts, admitted-lives, resume-given, resumed-lasts, resumed-lives, take-given, taken-lasts, taken-same}
-use Rattle.cx_laws_session.proofs.Keeping.{still-book}
-use Rattle.cx_laws_session.proofs.Lists.{all-map}
-use Rattle.cx_laws_session.proofs.Moves.{Admitting, Comes, HasServed, IsQuiet, IsRight, IsServedAs, LinkServes, Rested, Resuming, StillBook, quiet-right}
 
 -- ---- rows
 
@@ -83,80 +70,24 @@ secure-still : (had : Served → Type 0) (a : GuestArrival) (s : Secured) (stage
 secure-still had a s stage has seals (Ok sealed) = (tt, λ x here. has (record s { keys = sealed.keys }) x here)
 secure-still had a s stage has seals (Err why) = ((tt, tt), λ x here. absurd here)
 
-banner-bare : (a : GuestArrival) (kind : EntityType) → IsBare (on_banner kind a)
-banner-bare a kind = by_sent (plain_frame (own_hello kind))
-  where
-    by_sent : (r : Result (List ℕ) BytesFault) → IsBare (plain_sent a AwaitsHello [] r)
-    by_sent (Ok bytes) = (tt, λ x here. absurd here)
-    by_sent (Err why) = ((tt, tt), λ x here. absurd here)
+-- until the daemon signs, a link has none of them
+abbrev Bare : GuestArrival → GuestRow → Type 0
+Bare a row = IsBare row
 
-hello-bare : (a : GuestArrival) (hello : Result Hello BytesFault) → IsBare (on_hello a hello)
-hello-bare a (Ok hello) = (tt, λ x here. absurd here)
-hello-bare a (Err why) = ((tt, tt), λ x here. absurd here)
+closes-bare : ClosesEarly Bare
+closes-bare = record {
+  shut = λ a why seals. ((tt, tt), λ x here. absurd here);
+  denied = λ a code why seals. ((tt, tt), λ x here. absurd here);
+  greeted = λ a bytes. (tt, λ x here. absurd here);
+  heard = λ a. (tt, λ x here. absurd here);
+  challenged = λ a awaited bytes seals. (tt, λ x here. absurd here);
+  authorized = λ a s owner bytes seals. (tt, λ x here. absurd here);
+  looked = λ a row h. ((tt, h.0), h.1);
+}
 
--- ---- authorizers
-
-away-bare : (a : GuestArrival) (opened : List SealEntry) (why : AuthRefusal) → IsBare (turns_away a opened why)
-away-bare a opened (refusal.Malformed place) = ((tt, tt), λ x here. absurd here)
-away-bare a opened (refusal.WrongService kept got) = ((tt, tt), λ x here. absurd here)
-away-bare a opened (refusal.Ticket why blob) = ((tt, tt), λ x here. absurd here)
-away-bare a opened refusal.OutOfMemory = ((tt, tt), λ x here. absurd here)
-
-judged-bare : {X : Type 0} (a : GuestArrival) (opened : List SealEntry) (value : Result X AuthRefusal) (next : X → GuestRow) → ((x : X) → IsBare (next x))
-    → IsBare (unless_turned_away a opened value next)
-judged-bare a opened (Ok x) next each = each x
-judged-bare a opened (Err why) next each = away-bare a opened why
-
-challenges-bare : (a : GuestArrival) (opened : List SealEntry) (ticket : ServiceTicket) → IsBare (challenges a opened ticket)
-challenges-bare a opened ticket = by_sent (plain_frame (sealed_challenge_frame ticket.session (challenge_of a.draw)))
-  where
-    by_sent : (r : Result (List ℕ) BytesFault) → IsBare (unless_refused a (opened ++ Drawn (draw.Challenge (challenge_of a.draw)) ∷ []) r
-        (λ bytes. goes_on a (AwaitsProof (record { service = a.own.name.kind; challenge = challenge_of a.draw })) bytes
-        ((opened ++ Drawn (draw.Challenge (challenge_of a.draw)) ∷ []) ++ session_sealed ticket.session (authorize_challenge_content (challenge_of a.draw)) ∷ [])))
-    by_sent (Ok bytes) = (tt, λ x here. absurd here)
-    by_sent (Err why) = ((tt, tt), λ x here. absurd here)
-
-first-bare : (a : GuestArrival) (payload : List ℕ) → IsBare (on_first a payload)
-first-bare a payload =
-    let j = judged_first a.own.name.kind a.own.view a.reading payload in
-    let h = judged-bare a j.seals j.value (λ shown. challenges a j.seals shown.ticket) (λ shown. challenges-bare a j.seals shown.ticket) in ((tt, h.0), h.1)
-
-request-bare : (a : GuestArrival) (request : Result AuthRequest BytesFault) → IsBare (on_auth_request on_first a request)
-request-bare a (Err why) = ((tt, tt), λ x here. absurd here)
-request-bare a (Ok request) = by_tests (not (request.method == 2)) (not (list_any (λ mode. mode == 2) request.modes))
-  where
-    by_tests : (other plain : Bool) → IsBare (if other then denies a 95 Method [] else if plain then denies a 95 Mode [] else on_first a request.payload)
-    by_tests true plain = ((tt, tt), λ x here. absurd here)
-    by_tests false true = ((tt, tt), λ x here. absurd here)
-    by_tests false false = first-bare a request.payload
-
-done-bare : (a : GuestArrival) (before held : List SealEntry) (authority : Authority) (r : Result Done BytesFault) → IsBare (done_sent a before held authority r)
-done-bare a before held authority (Err why) = ((tt, tt), λ x here. absurd here)
-done-bare a before held authority (Ok done) = (tt, λ x here. absurd here)
-
-authorizes-bare : (a : GuestArrival) (opened : List SealEntry) (ticket : ServiceTicket) (nonce : ℕ) → IsBare (authorizes a opened ticket nonce)
-authorizes-bare a opened ticket nonce =
-    let secret : List ℕ = connection_of a.draw in
-    done-bare a (opened ++ Drawn (draw.Connection secret ticket.name) ∷ []) (session_sealed ticket.session (authorize_reply_content nonce secret) ∷ []) (authority_of a ticket)
-    (finished a.link ticket.session secret (authorized_frame ticket nonce secret))
-
-second-bare : (a : GuestArrival) (awaited : Awaited) (payload : List ℕ) → IsBare (on_second a awaited payload)
-second-bare a awaited payload =
-    let j = judged_second awaited a.own.view a.reading payload in
-    let h = judged-bare a j.seals j.value (λ shown. authorizes a j.seals shown.ticket shown.authorize.nonce) (λ shown. authorizes-bare a j.seals shown.ticket shown.authorize.nonce) in
-    ((tt, h.0), h.1)
-
-more-bare : (a : GuestArrival) (awaited : Awaited) (more : Result AuthRequestMore BytesFault) → IsBare (on_auth_request_more a awaited more)
-more-bare a awaited (Err why) = ((tt, tt), λ x here. absurd here)
-more-bare a awaited (Ok more) = second-bare a awaited more.payload
-
-signature-bare : (a : GuestArrival) (s : Secured) (owner : Authority) (found : Result AuthSignature BytesFault) → IsBare (on_signature a s owner found)
-signature-bare a s owner (Err why) = ((tt, tt), λ x here. absurd here)
-signature-bare a s owner (Ok found) = by_test (is_signed s found.signature)
-  where
-    by_test : (right : Bool) → IsBare (if right then goes_on a (AwaitsIdent s owner) [] (signature_found s ∷ []) else refuses a (reason.Login SignatureWrong) [])
-    by_test true = (tt, λ x here. absurd here)
-    by_test false = ((tt, tt), λ x here. absurd here)
+signature-bare : (a : GuestArrival) (s : Secured) (owner : Authority) (f : Frame) → IsBare (on_signature a s owner (due 7 auth_signature_layout.form f))
+signature-bare a s owner f =
+    signature-so a s owner f IsBare (record { shut = λ why by. ((tt, tt), λ x here. absurd here); waits = λ tag. (tt, λ x here. absurd here) })
 
 -- ---- with a book
 
@@ -450,22 +381,22 @@ pub guest-comes : (handlers : Handlers) (book : Book Authority) (a : GuestArriva
     → HostedComes handlers a.own.name book (HasServed stage) (with_book book_reply book_after book (guest_turned handlers a stage))
 guest-comes handlers book a AwaitsBanner =
     each-comes handlers a.own.name book (λ (x : Served). ⊥) (turned_by (λ link _. on_banner a.own.name.kind (at a link)) (banner_next a.link))
-    (each-turned IsBare (λ link _. on_banner a.own.name.kind (at a link)) (λ link opened. banner-bare (at a link) a.own.name.kind) (banner_next a.link))
+    (each-turned IsBare (λ link _. on_banner a.own.name.kind (at a link)) (λ link opened. banner-so Bare closes-bare (at a link)) (banner_next a.link))
 guest-comes handlers book a AwaitsHello =
     each-comes handlers a.own.name book (λ (x : Served). ⊥) (turned_by (λ (link, f) _. on_hello (at a link) (due 1 hello_layout.form f)) (plain_next a.link))
-    (each-turned IsBare (λ (link, f) _. on_hello (at a link) (due 1 hello_layout.form f)) (λ (link, f) opened. hello-bare (at a link) (due 1 hello_layout.form f)) (plain_next a.link))
+    (each-turned IsBare (λ (link, f) _. on_hello (at a link) (due 1 hello_layout.form f)) (λ (link, f) opened. hello-so Bare closes-bare (at a link) (due 1 hello_layout.form f)) (plain_next a.link))
 guest-comes handlers book a AwaitsRequest =
     each-comes handlers a.own.name book (λ (x : Served). ⊥) (turned_by (λ (link, f) _. on_auth_request on_first (at a link) (due 2 auth_request_layout.form f)) (plain_next a.link))
     (each-turned IsBare (λ (link, f) _. on_auth_request on_first (at a link) (due 2 auth_request_layout.form f))
-    (λ (link, f) opened. request-bare (at a link) (due 2 auth_request_layout.form f)) (plain_next a.link))
+    (λ (link, f) opened. request-so Bare closes-bare (at a link) (due 2 auth_request_layout.form f)) (plain_next a.link))
 guest-comes handlers book a (AwaitsProof awaited) =
     each-comes handlers a.own.name book (λ (x : Served). ⊥) (turned_by (λ (link, f) _. on_auth_request_more (at a link) awaited (due 5 auth_request_more_layout.form f)) (plain_next a.link))
     (each-turned IsBare (λ (link, f) _. on_auth_request_more (at a link) awaited (due 5 auth_request_more_layout.form f))
-    (λ (link, f) opened. more-bare (at a link) awaited (due 5 auth_request_more_layout.form f)) (plain_next a.link))
+    (λ (link, f) opened. more-so Bare closes-bare (at a link) awaited (due 5 auth_request_more_layout.form f)) (plain_next a.link))
 guest-comes handlers book a (AwaitsSignature s owner) =
     each-comes handlers a.own.name book (λ (x : Served). ⊥) (turned_by (λ (link, f, keys) opened. with_opened opened (on_signature (at a link) (under s keys) owner (due 7 auth_signature_layout.form f))) (secure_next s.keys a.link))
     (each-turned IsBare (λ (link, f, keys) opened. with_opened opened (on_signature (at a link) (under s keys) owner (due 7 auth_signature_layout.form f)))
-    (λ (link, f, keys) opened. signature-bare (at a link) (under s keys) owner (due 7 auth_signature_layout.form f)) (secure_next s.keys a.link))
+    (λ (link, f, keys) opened. signature-bare (at a link) (under s keys) owner f) (secure_next s.keys a.link))
 guest-comes handlers book a (AwaitsIdent s owner) =
     decided-comes handlers a.own.name book (λ (x : Served). ⊥) (λ (link, f, keys). on_ident (at a link) (under s keys) owner f)
     (λ (link, f, keys). ident-comes handlers book (at a link) (under s keys) owner f) (secure_next s.keys a.link)

@@ -20,7 +20,7 @@ use Rattle.cx_journal.specs.declared.faults.LoginFault.TheVariants.{Mode}
 use Rattle.cx_journal.specs.declared.outcomes.Reason.TheVariants as reason
 use Rattle.cx_laws_sent.specs.cx_laws_fetch.proofs.AskerPlain.{identified-plain, open-plain, request-plain, signature-plain}
 use Rattle.cx_laws_sent.specs.cx_laws_fetch.proofs.Handed.{IsNoLogin, IsPlain}
-use Rattle.cx_laws_sent.specs.cx_laws_fetch.proofs.HandedLogin.{login-opened, opened-all}
+use Rattle.cx_laws_sent.specs.cx_laws_fetch.proofs.Opens.{login-opened, opened-all}
 use Rattle.cx_laws_sent.specs.cx_laws_keys.proofs.Known.{Inv}
 use Rattle.cx_laws_sent.specs.cx_laws_keys.proofs.Lists.{all-append}
 use Rattle.cx_laws_sent.specs.cx_laws_keys.proofs.Premises.{AreGranted, granted-first}

@@ -45,7 +45,7 @@ use Rattle.cx_laws_sent.specs.cx_rules_session.specs.Guests.{GuestArrival, Guest
 use Rattle.cx_laws_sent.specs.cx_rules_session.specs.Hosting.{Deciding, Hosted, decided_by, guest_turned, hosted_behind, no_session_moves, on_ident, on_open}
 use Rattle.cx_laws_sent.specs.cx_rules_session.specs.Kinds.{arrival_in, of_kind, turn_of_kind}
 use Rattle.cx_laws_sent.specs.cx_run.proofs.DaemonNamed.{daemon-named}
-use Rattle.cx_laws_sent.specs.cx_run.proofs.GuestTakes.{Always, always-book, always-map, always-weaker}
+use Rattle.cx_laws_sent.specs.cx_run.proofs.Always.{Always, always-book, always-map, always-weaker}
 use Rattle.cx_laws_sent.specs.cx_secure.specs.declared.refusals.SecureRefusal.{SecureRefusal}
 use Rattle.cx_steps.specs.declared.seals.Logged.{Logged}
 use Rattle.cx_steps.specs.declared.seals.SealEntry.{SealEntry}

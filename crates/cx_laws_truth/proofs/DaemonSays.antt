@@ -23,7 +23,7 @@ use Rattle.cx_laws_sent.specs.cx_rules.specs.Links.{Link}
 use Rattle.cx_laws_sent.specs.cx_rules.specs.Rows.{Outcome}
 use Rattle.cx_laws_sent.specs.cx_rules_session.specs.DaemonRule.{DaemonStage, DaemonState, book_after, book_reply, daemon_rule, daemon_step}
 use Rattle.cx_laws_sent.specs.cx_rules_session.specs.Guests.{Served}
-use Rattle.cx_laws_sent.specs.cx_run.proofs.GuestTakes.{always-book}
+use Rattle.cx_laws_sent.specs.cx_run.proofs.Always.{always-book}
 use Rattle.cx_laws_sent.specs.cx_run.proofs.DaemonNamed.{daemon-named}
 use Rattle.cx_session.specs.Book.{Book}
 use Rattle.cx_steps.specs.declared.seals.Logged.{Logged}

@@ -31,7 +31,7 @@ use Rattle.cx_laws_sent.specs.cx_rules_session.specs.DaemonRule.{AsAcceptor, AsC
 use Rattle.cx_laws_sent.specs.cx_rules_session.specs.Guests.{GuestArrival, GuestRow, GuestStage, Served}
 use Rattle.cx_laws_sent.specs.cx_rules_session.specs.Hosting.{Deciding, Hosted, guest_turned}
 use Rattle.cx_laws_sent.specs.cx_rules_session.specs.Kinds.{arrival_in, of_kind, row_of_kind, turn_of_kind}
-use Rattle.cx_laws_sent.specs.cx_run.proofs.GuestTakes.{Always, always-map, always-weaker}
+use Rattle.cx_laws_sent.specs.cx_run.proofs.Always.{Always, always-map, always-weaker}
 use Rattle.cx_steps.specs.declared.seals.Logged.{Logged}
 use Rattle.cx_steps.specs.declared.seals.SealEntry.{SealEntry}
 use Rattle.cx_laws_sent.specs.cx_wire.specs.declared.bodies.Request.TheVariants as asked

@@ -18,7 +18,7 @@ use Rattle.cx_laws_sent.specs.cx_rules.specs.Rows.{Arrival, Outcome, arrival, ca
 use Rattle.cx_laws_sent.specs.cx_rules_session.specs.Asks.{Finished, Asking}
 use Rattle.cx_laws_sent.specs.cx_rules_session.specs.DaemonRule.{AsAcceptor, AsConnector, Daemon, DaemonNode, DaemonStage, daemon_rule, ended_entry, fetches, gone, gone_by_kind, guest_gone, is_in, looks, loses, lossy_gone, me, on_dropped, opens, opens_own, restarted, shut_where, submits, ticks, turn, undialled, unreached}
 use Rattle.cx_laws_sent.specs.cx_rules_session.specs.Guests.{GuestStage}
-use Rattle.cx_laws_sent.specs.cx_run.proofs.GuestTakes.{Always}
+use Rattle.cx_laws_sent.specs.cx_run.proofs.Always.{Always}
 use Rattle.cx_session.specs.declared.call.BookCall.TheVariants.{End}
 use Rattle.cx_session.specs.declared.call.BookReply.{BookReply}
 use Rattle.cx_session.specs.declared.call.BookReply.TheVariants as reply

@@ -1,47 +1,39 @@
 -- What may be forgotten of the link of one that logs in, and its rows.
-use Rattle.std.proofs.Common.{◌≡◌, ℕ, ◌==◌, ◌++◌, Bool, true, false, List, [], ◌∷◌, Option, Some, None, Result, Ok, Err, refl}
-use Rattle.std.specs.Prelude.{not, if◌then◌else◌}
+use Rattle.std.proofs.Common.{◌≡◌, ℕ, ◌==◌, ◌++◌, Bool, true, false, List, [], ◌∷◌, Result, Ok, Err, refl}
+use Rattle.std.specs.Prelude.{if◌then◌else◌}
 use Rattle.cx_base.specs.Names.{is_daemon_type}
-use Rattle.cx_login.specs.cx_control.specs.Auth.{auth_done_layout, auth_reply_more_layout, auth_signature_layout}
-use Rattle.cx_login.specs.cx_control.specs.BadMethod.{bad_method_layout}
+use Rattle.cx_login.specs.cx_control.specs.Auth.{auth_signature_layout}
 use Rattle.cx_login.specs.cx_control.specs.Hello.{hello_layout}
 use Rattle.cx_login.specs.cx_control.specs.Idents.{ident_missing_features_layout, server_ident_layout}
-use Rattle.cx_login.specs.cx_control.specs.declared.auth.AuthDone.{AuthDone}
-use Rattle.cx_login.specs.cx_control.specs.declared.auth.AuthReplyMore.{AuthReplyMore}
 use Rattle.cx_login.specs.cx_control.specs.declared.auth.AuthSignature.{AuthSignature}
-use Rattle.cx_login.specs.cx_control.specs.declared.hello.Hello.{Hello}
 use Rattle.cx_login.specs.cx_control.specs.declared.idents.IdentMissingFeatures.{IdentMissingFeatures}
 use Rattle.cx_login.specs.cx_control.specs.declared.idents.ServerIdent.{ServerIdent}
 use Rattle.cx_keyserver.specs.cx_dice.specs.Draws.{cookie_of}
 use Rattle.cx_stream.specs.cx_frame.specs.declared.frame.Frame.{Frame}
 use Rattle.cx_login.specs.cx_journal.specs.declared.faults.BytesFault.{BytesFault}
 use Rattle.cx_login.specs.cx_journal.specs.declared.faults.BytesFault.TheVariants.{Features}
-use Rattle.cx_login.specs.cx_journal.specs.declared.faults.LoginFault.TheVariants.{Mode, SignatureWrong}
+use Rattle.cx_login.specs.cx_journal.specs.declared.faults.LoginFault.TheVariants.{SignatureWrong}
 use Rattle.cx_login.specs.cx_journal.specs.declared.outcomes.Reason.{Reason}
 use Rattle.cx_login.specs.cx_journal.specs.declared.outcomes.Reason.TheVariants as reason
-use Rattle.cx_login.specs.declared.client.LoggedIn.{LoggedIn}
 use Rattle.cx_login.specs.cx_steps.specs.declared.seals.DrawMark.TheVariants as draw
 use Rattle.cx_login.specs.cx_steps.specs.declared.seals.SealEntry.{SealEntry}
 use Rattle.cx_login.specs.cx_steps.specs.declared.seals.SealEntry.TheVariants.{Drawn}
-use Rattle.cx_login.specs.cx_wire.specs.Logins.{login_done_layout, server_challenge_layout}
-use Rattle.cx_login.specs.cx_wire.specs.declared.logins.LoginDone.{LoginDone}
-use Rattle.cx_login.specs.cx_wire.specs.declared.logins.ServerChallenge.{ServerChallenge}
 use Rattle.cx_login.specs.cx_wire.specs.declared.bodies.Request.TheVariants as asked
 use Rattle.cx_rules.specs.Abridged.{IsWithin, abridged_asker_at, abridged_asker_link, unsigned}
-use Rattle.cx_rules.specs.Connector.{AskerArrival, AskerRow, Login, Stage, AwaitsBanner, AwaitsHello, AwaitsChallenge, AwaitsDone, AwaitsSignature, AwaitsIdent, Open, client_ident, holding, identifies, login_request, on_bad_method, on_banner, on_challenge, on_done, on_hello, on_login_done, on_missing_features, on_opened, on_reply_more, on_signature, proves, signs, turned_at, while_challenged, while_identified, while_proved}
-use Rattle.cx_rules.specs.Greetings.{own_hello}
+use Rattle.cx_rules.specs.Connector.{AskerArrival, AskerRow, Login, Stage, AwaitsBanner, AwaitsHello, AwaitsChallenge, AwaitsDone, AwaitsSignature, AwaitsIdent, Open, client_ident, holding, identifies, on_banner, on_hello, on_missing_features, on_signature, turned_at, while_challenged, while_identified, while_proved}
 use Rattle.cx_rules.specs.Holdings.{held_login}
 use Rattle.cx_rules.specs.Links.{Link}
-use Rattle.cx_rules.specs.Payloads.{due, payload, whole}
+use Rattle.cx_rules.specs.Payloads.{due, payload}
 use Rattle.cx_rules.specs.Requests.{Requests, asks_rotating, behind_reply, behind_request, fetched_entry, having, no_requests, on_open, on_reply, on_server_ident, opens_to, sealed_request, sends_request, taken, takes, with_tickets, with_view}
 use Rattle.cx_rules.specs.Rows.{at, goes_on, refuses}
-use Rattle.cx_rules.specs.Secured.{Keys, SealedFrame, Secured, is_signed, plain_frame, secure_frame, signature_found, under}
+use Rattle.cx_rules.specs.Secured.{Keys, SealedFrame, Secured, is_signed, secure_frame, signature_found, under}
 use Rattle.cx_rules.specs.declared.requests.Taken.{Taken}
 use Rattle.cx_rules.specs.declared.requests.Taken.TheVariants.{Refuses, Holds, Views}
 use Rattle.cx_rules.specs.declared.requests.Want.{Want}
 use Rattle.cx_rules.specs.declared.requests.Want.TheVariants.{Rotating}
 use Rattle.cx_rules.proofs.Abridging.{Alike, Forgets}
-use Rattle.cx_rules.proofs.AlikeRows.{RowWithin, SameAhead, SameTurn, banner-turn, cut-fed, entered-alike, goes-alike, plain-turn, plain_sent-within, refuses-alike, same-turn, secure-alike, secure-turn, upkeep-alike}
+use Rattle.cx_rules.proofs.AlikeRows.{RowWithin, SameAhead, SameTurn, banner-turn, cut-fed, entered-alike, goes-alike, plain-turn, refuses-alike, same-turn, secure-alike, secure-turn, upkeep-alike}
+use Rattle.cx_rules.proofs.AskerWalk.{AskerWays, banner-row, challenged-row, hello-row, proved-row}
 
 -- ---- a link
 
@@ -95,59 +87,16 @@ asker-forgets = record {
 
 -- ---- rows with plain frames: their links are whole
 
-hello-within : (a : AskerArrival) (asked : ℕ) (hello : Result Hello BytesFault) → IsWithin a.link → RowWithin (on_hello a asked hello)
-hello-within a asked (Err why) w = tt
-hello-within a asked (Ok hello) w = plain_sent-within a (AwaitsChallenge asked) [] (plain_frame (login_request a.own)) w
+abbrev Within : AskerArrival → AskerRow → Type 0
+Within a row = IsWithin a.link → RowWithin row
 
-proves-within : (a : AskerArrival) (server : ℕ) (r : Result (List ℕ) BytesFault) → IsWithin a.link → RowWithin (proves a server r)
-proves-within a server (Err why) w = tt
-proves-within a server (Ok bytes) w = w
-
-challenge-within : (a : AskerArrival) (asked : ℕ) (server : Result ServerChallenge BytesFault) → IsWithin a.link → RowWithin (on_challenge a asked server)
-challenge-within a asked (Err why) w = tt
-challenge-within a asked (Ok server) w = proves-within a server.challenge _ w
-
-reply_more-within : (a : AskerArrival) (asked : ℕ) (more : Result AuthReplyMore BytesFault) → IsWithin a.link → RowWithin (on_reply_more a asked more)
-reply_more-within a asked (Err why) w = tt
-reply_more-within a asked (Ok more) w = challenge-within a asked (whole server_challenge_layout.form more.payload) w
-
-bad_method-within : (a : AskerArrival) (fields : Result (ℕ × (ℕ × (List ℕ × List ℕ))) BytesFault) → RowWithin (on_bad_method a fields)
-bad_method-within a (Err why) = tt
-bad_method-within a (Ok fields) = tt
-
-challenged-within : (a : AskerArrival) (asked : ℕ) (f : Frame) → IsWithin a.link → RowWithin (while_challenged a asked f)
-challenged-within a asked f w = by_test (f.tag == 3)
-  where
-    by_test : (denied : Bool) → RowWithin (if denied then on_bad_method a (payload bad_method_layout.form f) else on_reply_more a asked (due 4 auth_reply_more_layout.form f))
-    by_test true = bad_method-within a (payload bad_method_layout.form f)
-    by_test false = reply_more-within a asked (due 4 auth_reply_more_layout.form f) w
-
-signs-within : (a : AskerArrival) (login : Login) (opened : List SealEntry) (r : Result SealedFrame BytesFault) → IsWithin a.link → RowWithin (signs a login opened r)
-signs-within a login opened (Err why) w = tt
-signs-within a login opened (Ok sealed) w = w
-
-opened-within : (a : AskerArrival) (gid : ℕ) (opened : List SealEntry) (value : Option LoggedIn) → IsWithin a.link → RowWithin (on_opened a gid opened value)
-opened-within a gid opened None w = tt
-opened-within a gid opened (Some logged_in) w = signs-within a _ opened _ w
-
-login_done-within : (a : AskerArrival) (gid : ℕ) (done : Result LoginDone BytesFault) → IsWithin a.link → RowWithin (on_login_done a gid done)
-login_done-within a gid (Err why) w = tt
-login_done-within a gid (Ok done) w = opened-within a gid _ _ w
-
-done-within : (a : AskerArrival) (done : Result AuthDone BytesFault) → IsWithin a.link → RowWithin (on_done a done)
-done-within a (Err why) w = tt
-done-within a (Ok done) w = by_test (not (done.mode == 2))
-  where
-    by_test : (other : Bool) → RowWithin (if other then refuses a (reason.Login Mode) [] else on_login_done a done.gid (whole login_done_layout.form done.payload))
-    by_test true = tt
-    by_test false = login_done-within a done.gid (whole login_done_layout.form done.payload) w
-
-proved-within : (a : AskerArrival) (f : Frame) → IsWithin a.link → RowWithin (while_proved a f)
-proved-within a f w = by_test (f.tag == 3)
-  where
-    by_test : (denied : Bool) → RowWithin (if denied then on_bad_method a (payload bad_method_layout.form f) else on_done a (due 6 auth_done_layout.form f))
-    by_test true = bad_method-within a (payload bad_method_layout.form f)
-    by_test false = done-within a (due 6 auth_done_layout.form f) w
+within-ways : AskerWays Within
+within-ways = record {
+  refused = λ a why seals fine w. tt;
+  gone_on = λ a stage bytes seals logs w. w;
+  held = λ a holdings row h w. h w;
+  behind = λ a opened row h w. h w;
+}
 
 -- ---- AUTH_SIGNATURE
 
@@ -237,18 +186,18 @@ pub turned-alike : (a : AskerArrival) (stage : Stage) → IsWithin a.link → Tu
 turned-alike a (AwaitsBanner asked) w =
     let k : Link Stage = record a.link { stage = AwaitsBanner asked } in
     same-turn abridged_asker_link (turned_at (at a k) (AwaitsBanner asked))
-    (banner-turn (at a k) (λ b. on_banner b asked) w (λ l v. plain_sent-within (at a l) (AwaitsHello asked) [] (plain_frame (own_hello a.own.name.kind)) v))
+    (banner-turn (at a k) (λ b. on_banner b asked) w (λ l. banner-row Within within-ways (at a l) asked))
 turned-alike a (AwaitsHello asked) w =
     let k : Link Stage = record a.link { stage = AwaitsHello asked } in
     same-turn abridged_asker_link (turned_at (at a k) (AwaitsHello asked))
-    (plain-turn (at a k) (λ b f. on_hello b asked (due 1 hello_layout.form f)) w (λ l f v. hello-within (at a l) asked (due 1 hello_layout.form f) v))
+    (plain-turn (at a k) (λ b f. on_hello b asked (due 1 hello_layout.form f)) w (λ l f. hello-row Within within-ways (at a l) asked (due 1 hello_layout.form f)))
 turned-alike a (AwaitsChallenge asked) w =
     let k : Link Stage = record a.link { stage = AwaitsChallenge asked } in
     same-turn abridged_asker_link (turned_at (at a k) (AwaitsChallenge asked))
-    (plain-turn (at a k) (λ b f. while_challenged b asked f) w (λ l f v. challenged-within (at a l) asked f v))
+    (plain-turn (at a k) (λ b f. while_challenged b asked f) w (λ l f. challenged-row Within within-ways (at a l) asked f))
 turned-alike a AwaitsDone w =
     let k : Link Stage = record a.link { stage = AwaitsDone } in
-    same-turn abridged_asker_link (turned_at (at a k) AwaitsDone) (plain-turn (at a k) (λ b f. while_proved b f) w (λ l f v. proved-within (at a l) f v))
+    same-turn abridged_asker_link (turned_at (at a k) AwaitsDone) (plain-turn (at a k) (λ b f. while_proved b f) w (λ l f. proved-row Within within-ways (at a l) f))
 turned-alike a (AwaitsSignature s login) w =
     let k : Link Stage = record a.link { stage = AwaitsSignature s login } in
     let row : AskerArrival → Keys → Frame → AskerRow = λ b keys f. on_signature b (under s keys) login (due 7 auth_signature_layout.form f) in

@@ -10,7 +10,6 @@ use Rattle.cx_login.specs.cx_control.specs.Auth.{auth_request_layout, auth_reque
 use Rattle.cx_login.specs.cx_control.specs.Hello.{hello_layout}
 use Rattle.cx_login.specs.cx_control.specs.Idents.{client_ident_layout}
 use Rattle.cx_login.specs.cx_control.specs.Reconnects.{session_reconnect_layout}
-use Rattle.cx_login.specs.cx_control.specs.declared.auth.AuthRequestMore.{AuthRequestMore}
 use Rattle.cx_login.specs.cx_control.specs.declared.idents.ClientIdent.{ClientIdent}
 use Rattle.cx_login.specs.cx_control.specs.declared.reconnects.SessionReconnect.{SessionReconnect}
 use Rattle.cx_stream.specs.cx_frame.specs.declared.frame.Frame.{Frame}
@@ -19,70 +18,46 @@ use Rattle.cx_login.specs.cx_journal.specs.declared.faults.BytesFault.TheVariant
 use Rattle.cx_base.specs.declared.nodes.NodeName.TheVariants as node
 use Rattle.cx_login.specs.cx_journal.specs.declared.outcomes.Reason.{Reason}
 use Rattle.cx_login.specs.cx_journal.specs.declared.outcomes.Reason.TheVariants as reason
-use Rattle.cx_keyserver.specs.cx_keyring.specs.declared.entries.Entry.{Entry as Principal}
 use Rattle.cx_keyserver.specs.Servers.{Server}
-use Rattle.cx_login.specs.Monitor.{Proven}
-use Rattle.cx_login.specs.declared.refusals.WrongProof.{WrongProof}
-use Rattle.cx_login.specs.cx_wire.specs.declared.logins.Authenticate.{Authenticate}
-use Rattle.cx_login.specs.cx_wire.specs.declared.logins.LoginHello.{LoginHello}
 use Rattle.cx_rules.specs.Abridged.{IsWithin, MonitorStandsFor, abridged_link, abridged_monitor, unsigned}
-use Rattle.cx_rules.specs.Acceptor.{AwaitsBanner, AwaitsHello, AwaitsRequest, AwaitsProof, AwaitsSignature, AwaitsIdent, Open, Finished, finished, misses, on_auth_request, on_banner, on_hello, on_signature, server_ident}
-use Rattle.cx_rules.specs.Greetings.{own_banner, own_hello}
+use Rattle.cx_rules.specs.Acceptor.{AwaitsBanner, AwaitsHello, AwaitsRequest, AwaitsProof, AwaitsSignature, AwaitsIdent, Open, misses, on_auth_request, on_banner, on_hello, on_signature, server_ident}
+use Rattle.cx_rules.specs.Greetings.{own_banner}
 use Rattle.cx_rules.specs.Inputs.{Input, Opened, NoLink, Bytes, Turn, Gone, Look, Tick, Submit, Restart}
 use Rattle.cx_rules.specs.Links.{Link, link_of}
-use Rattle.cx_rules.specs.Monitor.{MonitorArrival, MonitorNode, MonitorRow, MonitorStage, Offered}
-use Rattle.cx_rules.specs.MonitorLogin.{challenges, done_frame, hands_over, occasion, on_authenticate, on_login_hello, proves, row_by, with_server}
+use Rattle.cx_rules.specs.Monitor.{MonitorArrival, MonitorNode, MonitorRow, MonitorStage}
 use Rattle.cx_rules.specs.MonitorRule.{monitor_rule, noted, on_auth_request_more, on_client_ident, on_ident, on_request_payload, on_session_reconnect, opening_monitor, session_reset, turn, turned_at, unsaved}
 use Rattle.cx_rules.specs.KeptStates.{saved_behind}
 use Rattle.cx_rules.specs.MonitorRequests.{heard, on_demand, on_message, on_open, reply_message, request_occasion, responds, sends_reply, serving}
 use Rattle.cx_rules.specs.Payloads.{due, payload}
 use Rattle.cx_rules.specs.Replies.{Responded, answers}
 use Rattle.cx_rules.specs.Rows.{Outcome, arrival, at, carried_out, forgotten, goes_on, new_link, refuses, refuses_bytes, sends_secure}
-use Rattle.cx_rules.specs.Secured.{Keys, SealedFrame, Secured, plain_frame, secure_frame, under}
-use Rattle.cx_rules.specs.Verdicts.{Decided, rotates}
-use Rattle.cx_rules.specs.declared.verdicts.HandedOut.{HandedOut}
-use Rattle.cx_rules.specs.declared.verdicts.Verdict.{Verdict}
-use Rattle.cx_rules.specs.declared.verdicts.Verdict.TheVariants.{Denied, Granted}
+use Rattle.cx_rules.specs.Secured.{Keys, SealedFrame, Secured, secure_frame, under}
 use Rattle.cx_rules.specs.declared.responses.Bearer.{Bearer}
 use Rattle.cx_rules.specs.declared.responses.Demand.{Demand}
 use Rattle.cx_rules.specs.declared.responses.ReplyMade.{ReplyMade}
 use Rattle.cx_rules.specs.declared.responses.Response.{Response}
 use Rattle.cx_rules.specs.declared.responses.Response.TheVariants.{Refuses, Replies}
 use Rattle.cx_rules.proofs.Abridging.{Agree, Alike, carried-alike, fed-agree, found-within, gone-held, gone-stands, idles-agree, node-twice, without-within}
-use Rattle.cx_rules.proofs.AcceptorForgets.{acceptor-forgets, acceptor_link_of, hello-within, misses-alike, request-within, signature-alike}
-use Rattle.cx_rules.proofs.AlikeRows.{RowWithin, SameAhead, SameTurn, banner-turn, goes-alike, plain-turn, plain_sent-within, refuses-alike, same-turn, secure-alike, secure-turn, turns-agree, upkeep-alike}
+use Rattle.cx_rules.proofs.AcceptorForgets.{acceptor-forgets, acceptor_link_of, misses-alike, signature-alike}
+use Rattle.cx_rules.proofs.AlikeRows.{RowWithin, SameAhead, SameTurn, banner-turn, goes-alike, plain-turn, refuses-alike, same-turn, secure-alike, secure-turn, turns-agree, upkeep-alike}
+use Rattle.cx_rules.proofs.MonitorWalk.{MonitorWays, banner-row, hello-row, more-row, request-row}
 
 -- ---- rows with plain frames: their links are whole
 
-login_hello-within : (a : MonitorArrival) (hello : Result LoginHello BytesFault) → IsWithin a.link → RowWithin (on_login_hello a hello)
-login_hello-within a (Err why) w = tt
-login_hello-within a (Ok hello) w = by_entity _
-  where
-    by_entity : (principal : Option Principal) → RowWithin (challenges a hello principal)
-    by_entity None = tt
-    by_entity (Some principal) = plain_sent-within a _ _ _ w
+abbrev Within : MonitorArrival → MonitorRow → Type 0
+Within a row = IsWithin a.link → RowWithin row
 
-hands_over-within : (a : MonitorArrival) (h : HandedOut) (done : Result Finished BytesFault) → IsWithin a.link → RowWithin (hands_over a h done)
-hands_over-within a h (Err why) w = tt
-hands_over-within a h (Ok done) w = w
-
-verdict-within : (a : MonitorArrival) (v : Verdict) → IsWithin a.link → RowWithin (row_by a v)
-verdict-within a (Denied why seals) w = tt
-verdict-within a (Granted h) w = hands_over-within a h (finished a.link h.session h.secret (done_frame h.payload)) w
-
-proves-within : (a : MonitorArrival) (gid : ℕ) (r : Result Proven WrongProof) → IsWithin a.link → RowWithin (proves a gid r)
-proves-within a gid (Err wrong) w = tt
-proves-within a gid (Ok proven) w =
-    let d : Decided = rotates (occasion a) a.own.server gid proven in
-    verdict-within (with_server a d.server) d.verdict w
-
-authenticate-within : (a : MonitorArrival) (offered : Offered) (ask : Result Authenticate BytesFault) → IsWithin a.link → RowWithin (on_authenticate a offered ask)
-authenticate-within a offered (Err why) w = tt
-authenticate-within a offered (Ok ask) w = proves-within a offered.gid _ w
-
-request_more-within : (a : MonitorArrival) (offered : Offered) (more : Result AuthRequestMore BytesFault) → IsWithin a.link → RowWithin (on_auth_request_more a offered more)
-request_more-within a offered (Err why) w = tt
-request_more-within a offered (Ok more) w = authenticate-within a offered _ w
+within-ways : MonitorWays Within
+within-ways = record {
+  refused = λ a why seals fine w. tt;
+  denied = λ a code why seals w. tt;
+  missed = λ a features sealed w. tt;
+  gone_on = λ a stage bytes seals w. w;
+  granted = λ a h done handed w. w;
+  replied = λ a s bearer seq made sent handed w. w;
+  served = λ a server row h w. h w;
+  behind = λ a opened row h w. h w;
+}
 
 -- ---- CLIENT_IDENT, SESSION_RECONNECT
 
@@ -168,21 +143,21 @@ turned-alike : (a : MonitorArrival) (stage : MonitorStage) → IsWithin a.link �
 turned-alike a AwaitsBanner w =
     let k : Link MonitorStage = record a.link { stage = AwaitsBanner } in
     same-turn abridged_link (turned_at (at a k) AwaitsBanner)
-    (banner-turn (at a k) (on_banner Mon) w (λ l v. plain_sent-within (at a l) AwaitsHello [] (plain_frame (own_hello Mon)) v))
+    (banner-turn (at a k) (on_banner Mon) w (λ l. banner-row Within within-ways (at a l)))
 turned-alike a AwaitsHello w =
     let k : Link MonitorStage = record a.link { stage = AwaitsHello } in
     same-turn abridged_link (turned_at (at a k) AwaitsHello)
-    (plain-turn (at a k) (λ b f. on_hello b (due 1 hello_layout.form f)) w (λ l f v. hello-within (at a l) (due 1 hello_layout.form f) v))
+    (plain-turn (at a k) (λ b f. on_hello b (due 1 hello_layout.form f)) w (λ l f. hello-row Within within-ways (at a l) (due 1 hello_layout.form f)))
 turned-alike a AwaitsRequest w =
     let k : Link MonitorStage = record a.link { stage = AwaitsRequest } in
     same-turn abridged_link (turned_at (at a k) AwaitsRequest)
     (plain-turn (at a k) (λ b f. on_auth_request on_request_payload b (due 2 auth_request_layout.form f)) w
-    (λ l f v. request-within on_request_payload (at a l) (due 2 auth_request_layout.form f) (λ bytes. login_hello-within (at a l) _ v)))
+    (λ l f. request-row Within within-ways (at a l) (due 2 auth_request_layout.form f)))
 turned-alike a (AwaitsProof offered) w =
     let k : Link MonitorStage = record a.link { stage = AwaitsProof offered } in
     same-turn abridged_link (turned_at (at a k) (AwaitsProof offered))
     (plain-turn (at a k) (λ b f. on_auth_request_more b offered (due 5 auth_request_more_layout.form f)) w
-    (λ l f v. request_more-within (at a l) offered (due 5 auth_request_more_layout.form f) v))
+    (λ l f. more-row Within within-ways (at a l) offered (due 5 auth_request_more_layout.form f)))
 turned-alike a (AwaitsSignature s bearer) w =
     let k : Link MonitorStage = record a.link { stage = AwaitsSignature s bearer } in
     let row : MonitorArrival → Keys → Frame → MonitorRow = λ b keys f. on_signature b (under s keys) bearer (due 7 auth_signature_layout.form f) in

@@ -3,10 +3,15 @@ pub mod Led
 pub mod Taking
 pub mod MonitorTakes
 pub mod ClientTakes
+pub mod MonitorEnters
 pub mod Outcomes
+pub mod CallWalk
 pub mod CallKeeps
 pub mod ClientKept
+pub mod Always
+pub mod GuestWalk
 pub mod GuestTakes
+pub mod DaemonOutcomes
 pub mod DaemonNamed
 pub mod EntityNamed
 pub mod Turning

@@ -6,6 +6,7 @@ use Rattle.cx_base.specs.Names.{Name}
 use Rattle.cx_base.specs.declared.operations.Operation.{Operation}
 use Rattle.cx_rules_session.specs.cx_journal.specs.declared.outcomes.Reason.{Reason}
 use Rattle.cx_rules_session.specs.cx_journal.specs.declared.outcomes.Reason.TheVariants as reason
+pub use Rattle.cx_rules_session.specs.cx_rules.proofs.AskerWalk.{IsNoTicket}
 use Rattle.cx_rules_session.specs.cx_login.specs.Held.{Held}
 use Rattle.cx_rules_session.specs.cx_rules.specs.Connector as connector
 use Rattle.cx_rules_session.specs.cx_rules.specs.Inputs.{Input, Opened, NoLink, Bytes, Turn, Gone, Look, Tick, Submit, Restart}
@@ -24,11 +25,6 @@ use Rattle.cx_rules_session.specs.cx_session.specs.declared.outbox.QueueFault.Th
 use Rattle.cx_rules_session.specs.cx_steps.specs.declared.events.Command.{Command}
 use Rattle.cx_rules_session.specs.cx_steps.specs.declared.events.Command.TheVariants as command
 use Rattle.cx_rules_session.specs.cx_steps.specs.declared.events.Peer.{Peer}
-
--- it says nothing of a ticket that is refused
-abbrev pub IsNoTicket : Reason → Type 0
-IsNoTicket (reason.Ticket why blob) = ⊥
-IsNoTicket _ = Unit {0}
 
 module _ (c : WholeClientNode) (reading : ℕ) (draw : List ℕ) where
   -- what comes on a link of the client

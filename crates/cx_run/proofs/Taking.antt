@@ -2,9 +2,6 @@
 use Rattle.std.proofs.Common.{◌≡◌, ℕ, ◌+◌, ◌<◌, ◌≤◌, ◌==◌, Bool, true, false, List, [], length, take, drop, Option, Some, None, Result, Ok, Err, refl, ap, arith, length-drop}
 use Rattle.std.specs.Option.{option_map}
 use Rattle.std.specs.Prelude.{◌-◌, ◌%◌, ◌||◌, IfSome, nat_lt, if◌then◌else◌}
-use Rattle.cx_rules_session.specs.cx_control.specs.Upkeep.{keepalive2_layout, keepalive2_ack_layout}
-use Rattle.cx_rules_session.specs.cx_control.specs.declared.upkeep.Keepalive2.{Keepalive2}
-use Rattle.cx_rules_session.specs.cx_control.specs.declared.upkeep.Keepalive2Ack.{Keepalive2Ack}
 use Rattle.cx_rules_session.specs.cx_frame.specs.Banners.{bad_place, banner_at, behind_word, by_features, number64, sized}
 use Rattle.cx_rules_session.specs.cx_frame.specs.Frames.{rest_at, rest_len}
 use Rattle.cx_rules_session.specs.cx_frame.specs.Preambles.{number16, preamble_at}
@@ -23,16 +20,15 @@ use Rattle.cx_rules_session.specs.cx_steps.specs.declared.seals.SealEntry.{SealE
 use Rattle.cx_rules_session.specs.cx_stream.specs.Fronts.{with_length}
 use Rattle.cx_rules_session.specs.cx_stream.specs.PlainStreams.{behind_preamble, plain_frame_at}
 use Rattle.cx_rules_session.specs.cx_stream.specs.SecureStreams.{Ahead, behind_head, secure_frame_at}
-use Rattle.cx_rules_session.specs.cx_rules.specs.Fronts.{Front, NotYet, Broken, Next, ahead_of, banner_next, banner_read, keys_behind, opened_parts, plain_next, plain_read, sealed_ahead, secure_next, secure_read, taking}
+use Rattle.cx_rules_session.specs.cx_rules.specs.Fronts.{ahead_of, banner_next, banner_read, keys_behind, opened_parts, plain_next, plain_read, sealed_ahead, secure_next, secure_read, taking}
 use Rattle.cx_rules_session.specs.cx_rules.specs.Links.{Link}
-use Rattle.cx_rules_session.specs.cx_rules.specs.Payloads.{payload}
-use Rattle.cx_rules_session.specs.cx_rules.specs.Rows.{Arrival, Row, Turned, Waits, Refuses, Handles, plain_sent, secure_sent, turned_by}
+use Rattle.cx_rules_session.specs.cx_rules.specs.Rows.{Arrival, Row, Turned, Waits, Refuses, Handles, secure_sent, turned_by}
 use Rattle.cx_rules_session.specs.cx_rules.specs.Secured.{Keys, SealedFrame, Secured}
-use Rattle.cx_rules_session.specs.cx_rules.specs.Upkeep.{on_keepalive, on_keepalive_ack}
 use Rattle.cx_rules_session.specs.cx_rules.proofs.AlikeRows.{SameAhead}
 use Rattle.cx_rules_session.specs.cx_rules.proofs.Fitting.{Fits, banner-fits, plain-fits, secure-fits}
-use Rattle.cx_rules_session.specs.cx_rules.specs.Messages.{on_upkeep_or}
+pub use Rattle.cx_rules_session.specs.cx_rules.proofs.RowWalk.{EachRow, each-turned}
 use Rattle.cx_rules_session.specs.Kinds.{in_stage, of_kind, turn_of_kind}
+use Rattle.cx_run.proofs.Always.{Anything, TurnOf}
 
 -- ---- what is read has bytes
 
@@ -71,7 +67,7 @@ word-has bytes None = by_test (nat_lt (length bytes) 10)
     by_test true = tt
     by_test false = sized-has bytes (number16 bytes 8)
 
-banner-has : (bytes : List ℕ) → HasBytes (banner_at bytes)
+pub banner-has : (bytes : List ℕ) → HasBytes (banner_at bytes)
 unfolding banner_at
 banner-has bytes = word-has bytes (bad_place bytes)
 
@@ -90,7 +86,7 @@ preamble-has bytes (Ok p) = by_test (nat_lt (length bytes) (rest_len p))
     by_test true = tt
     by_test false = length-has (32 + rest_len p) (rest_at p (take (rest_len p) bytes)) (omega arith)
 
-plain-has : (bytes : List ℕ) → HasBytes (plain_frame_at bytes)
+pub plain-has : (bytes : List ℕ) → HasBytes (plain_frame_at bytes)
 unfolding plain_frame_at
 plain-has bytes = by_test (nat_lt (length bytes) 32)
   where
@@ -135,67 +131,20 @@ TurnTakes link Waits = Unit {0}
 TurnTakes link (Refuses why opened) = Unit {0}
 TurnTakes link (Handles row) = Takes link row.link
 
+-- this row leaves what the node has of its own
 module _ {Own Stage : Type 0} where
-  pub plain_sent-keeps : (a : Arrival Own Stage) (stage : Stage) (seals : List SealEntry) (r : Result (List ℕ) BytesFault) → Keeps a.link (plain_sent a stage seals r)
-  plain_sent-keeps a stage seals (Ok bytes) = record { number = refl; ahead = refl }
-  plain_sent-keeps a stage seals (Err why) = tt
-
-  pub secure_sent-keeps : (a : Arrival Own Stage) (s : Secured) (stage : Secured → Stage) (seals : List SealEntry) (r : Result SealedFrame BytesFault)
-      → Keeps a.link (secure_sent a s stage seals r)
-  secure_sent-keeps a s stage seals (Ok sealed) = record { number = refl; ahead = refl }
-  secure_sent-keeps a s stage seals (Err why) = tt
-
-  pub keepalive-keeps : (a : Arrival Own Stage) (s : Secured) (open_under : Secured → Stage) (r : Result Keepalive2 BytesFault) → Keeps a.link (on_keepalive a s open_under r)
-  keepalive-keeps a s open_under (Err why) = tt
-  keepalive-keeps a s open_under (Ok keepalive) = secure_sent-keeps a s open_under [] _
-
-  pub keepalive_ack-keeps : (a : Arrival Own Stage) (s : Secured) (open_under : Secured → Stage) (r : Result Keepalive2Ack BytesFault) → Keeps a.link (on_keepalive_ack a s open_under r)
-  keepalive_ack-keeps a s open_under (Err why) = tt
-  keepalive_ack-keeps a s open_under (Ok ack) = record { number = refl; ahead = refl }
-
-  pub upkeep-keeps : (other : Frame → Row Own Stage) (a : Arrival Own Stage) (s : Secured) (open_under : Secured → Stage) (f : Frame) → Keeps a.link (other f)
-      → Keeps a.link (on_upkeep_or other a s open_under f)
-  upkeep-keeps other a s open_under f h = by_tests (f.tag == 18) (f.tag == 19)
-    where
-      by_tests : (ask ack : Bool) → Keeps a.link
-          (if ask then on_keepalive a s open_under (payload keepalive2_layout.form f)
-          else if ack then on_keepalive_ack a s open_under (payload keepalive2_ack_layout.form f) else other f)
-      by_tests true ack = keepalive-keeps a s open_under (payload keepalive2_layout.form f)
-      by_tests false true = keepalive_ack-keeps a s open_under (payload keepalive2_ack_layout.form f)
-      by_tests false false = h
-
--- these rows leave what the node has of its own
-module _ {Own Stage : Type 0} where
-  pub plain_sent-own : (a : Arrival Own Stage) (stage : Stage) (seals : List SealEntry) (r : Result (List ℕ) BytesFault) → (plain_sent a stage seals r).own ≡ a.own
-  plain_sent-own a stage seals (Ok bytes) = refl
-  plain_sent-own a stage seals (Err why) = refl
-
   pub secure_sent-own : (a : Arrival Own Stage) (s : Secured) (stage : Secured → Stage) (seals : List SealEntry) (r : Result SealedFrame BytesFault)
       → (secure_sent a s stage seals r).own ≡ a.own
   secure_sent-own a s stage seals (Ok sealed) = refl
   secure_sent-own a s stage seals (Err why) = refl
 
-  pub keepalive-own : (a : Arrival Own Stage) (s : Secured) (open_under : Secured → Stage) (r : Result Keepalive2 BytesFault) → (on_keepalive a s open_under r).own ≡ a.own
-  keepalive-own a s open_under (Err why) = refl
-  keepalive-own a s open_under (Ok keepalive) = secure_sent-own a s open_under [] _
-
-  pub keepalive_ack-own : (a : Arrival Own Stage) (s : Secured) (open_under : Secured → Stage) (r : Result Keepalive2Ack BytesFault) → (on_keepalive_ack a s open_under r).own ≡ a.own
-  keepalive_ack-own a s open_under (Err why) = refl
-  keepalive_ack-own a s open_under (Ok ack) = refl
-
 -- ---- turns
 
--- where a turn is handled by a row, this holds of the row
-abbrev pub EachRow : {Own Stage : Type 0} → (Row Own Stage → Type 0) → Turned Own Stage → Type 0
-EachRow P Waits = Unit {0}
-EachRow P (Refuses why opened) = Unit {0}
-EachRow P (Handles row) = P row
-
-module _ {Own Stage X : Type 0} (P : Row Own Stage → Type 0) (row : X → List SealEntry → Row Own Stage) where
-  pub each-turned : ((x : X) (opened : List SealEntry) → P (row x opened)) → (front : Front X) → EachRow P (turned_by row front)
-  each-turned each NotYet = tt
-  each-turned each (Broken why opened) = tt
-  each-turned each (Next x opened) = each x opened
+-- of a turn of which nothing else is known this holds where a row handles it
+pub each-row : {Own Stage : Type 0} (P : Row Own Stage → Type 0) (turned : Turned Own Stage) → TurnOf Anything P turned → EachRow P turned
+each-row P Waits h = tt
+each-row P (Refuses why opened) h = tt
+each-row P (Handles row) h = h
 
 pub taking-takes : {Stage : Type 0} (link : Link Stage) (n : ℕ) (left : Option (Link Stage)) → 0 < n → n ≤ length (ahead_of link) → IfSome left (λ l. SameAhead l (taking link n)) → Takes link left
 taking-takes link n None some le same = omega arith

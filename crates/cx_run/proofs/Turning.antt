@@ -36,7 +36,8 @@ use Rattle.cx_run.specs.Wires.{Wire, end_of, ended, has_end, node_at, same_node,
 use Rattle.cx_run.specs.Worlds.{Post, World, carried, happening, opened_wires, post_of}
 use Rattle.cx_run.proofs.ClientKept.{whole-takes}
 use Rattle.cx_run.proofs.ClientTakes.{asker-takes}
-use Rattle.cx_run.proofs.GuestTakes.{Always, TakesHosted, always-book, always-map, always-weaker, guest-takes}
+use Rattle.cx_run.proofs.Always.{Always, always-book, always-map, always-weaker}
+use Rattle.cx_run.proofs.GuestTakes.{TakesHosted, guest-takes}
 use Rattle.cx_run.proofs.MonitorTakes.{monitor-takes}
 use Rattle.cx_run.proofs.Taking.{Takes, TurnTakes, kind-takes}
 

@@ -31,17 +31,23 @@ pub all-push : {X : Type 0} (P : X → Type 0) (xs : List X) (x : X) → AllByRe
 all-push P [] x h p = (p, tt)
 all-push P (y ∷ ys) x h p = (h.0, all-push P ys x h.1 p)
 
--- where no operation is sent but these:
-module _ (Sends : Operation → Type 0) (P : World → Type 0)
-    -- the same nodes and the same past
-    (like : (w v : World) → v.nodes ≡ w.nodes → v.past ≡ w.past → P w → P v)
-    -- one event more, which tells no view
-    (given-keeps : (w : World) (input : Input) (post : Option Post) → ComesWith Sends input → P w → P (given w input post).world) where
-  kept-gives : (w : World) (who : NodeName) (input : Input) → ComesWith Sends input → P w → P (gives w who input).world
-  kept-gives w who input untold k = given-keeps w input (post_of who w.posts) untold k
+-- clocks are told no readings but these
+abbrev pub ReadsOnlyAt : (ℕ → Type 0) → Line → Type 0
+ReadsOnlyAt Reads (line.Node (step.Clock reading)) = Reads reading
+ReadsOnlyAt Reads (line.Node (step.ClockOf who reading)) = Reads reading
+ReadsOnlyAt Reads _ = Unit {0}
 
+-- where no operation is sent but these, and clocks are told no readings but these:
+module _ (Sends : Operation → Type 0) (Reads : ℕ → Type 0) (P : World → Type 0)
+    -- the same nodes, the same clocks and the same past
+    (like : (w v : World) → v.nodes ≡ w.nodes → v.posts ≡ w.posts → v.past ≡ w.past → P w → P v)
+    -- one event more, which tells no view
+    (kept-gives : (w : World) (who : NodeName) (input : Input) → ComesWith Sends input → P w → P (gives w who input).world)
+    -- a clock, or all of them, told a reading
+    (kept-clock : (w : World) (reading : ℕ) → Reads reading → P w → P (on_node w (step.Clock reading)))
+    (kept-clock_of : (w : World) (who : NodeName) (reading : ℕ) → Reads reading → P w → P (on_node w (step.ClockOf who reading))) where
   kept-tells : (w : World) (who : NodeName) (input : Input) → ComesWith Sends input → P w → P (tells w who input)
-  kept-tells w who input untold k = like (gives w who input).world (tells w who input) refl refl (kept-gives w who input untold k)
+  kept-tells w who input untold k = like (gives w who input).world (tells w who input) refl refl refl (kept-gives w who input untold k)
 
   kept-if : (b : Bool) (v w : World) → P v → P w → P (if b then v else w)
   kept-if true v w kv kw = kv
@@ -54,7 +60,7 @@ module _ (Sends : Operation → Type 0) (P : World → Type 0)
   kept-vanish who w [] k = k
   kept-vanish who w (wire ∷ wires) k =
       let away : World = record w { wires = with_wire w.wires (ended wire) } in
-      kept-vanish who (tells_gone away wire (far_side who wire)) wires (kept-tells_gone away wire (far_side who wire) (like w away refl refl k))
+      kept-vanish who (tells_gone away wire (far_side who wire)) wires (kept-tells_gone away wire (far_side who wire) (like w away refl refl refl k))
 
   kept-restarts : (w : World) (who : NodeName) → P w → P (restarts w who)
   kept-restarts w who k =
@@ -65,7 +71,7 @@ module _ (Sends : Operation → Type 0) (P : World → Type 0)
   kept-opens w wire to k =
       let there : World = record w { wires = w.wires ++ wire ∷ [] } in
       kept-tells (tells there wire.connecting (Opened wire.number (Some to))) wire.accepting (Opened wire.number None) tt
-      (kept-tells there wire.connecting (Opened wire.number (Some to)) tt (like w there refl refl k))
+      (kept-tells there wire.connecting (Opened wire.number (Some to)) tt (like w there refl refl refl k))
 
   kept-open_all : (w : World) (links : List (Wire × Peer)) → P w → P (open_all w links)
   kept-open_all w [] k = k
@@ -76,8 +82,8 @@ module _ (Sends : Operation → Type 0) (P : World → Type 0)
       let free : World = record g.world { left = None } in
       let done = carried g.world who g.out in
       kept-if g.failed _ _
-      (kept-restarts free who (like g.world free refl refl k))
-      (kept-open_all done (opened_wires who (length g.world.wires) g.out.opens) (like g.world done refl refl k))
+      (kept-restarts free who (like g.world free refl refl refl k))
+      (kept-open_all done (opened_wires who (length g.world.wires) g.out.opens) (like g.world done refl refl refl k))
 
   kept-comes : (w : World) (who : NodeName) (input : Input) → ComesWith Sends input → P w → P (comes w who input)
   kept-comes w who input untold k = kept-followed who (gives w who input) (kept-gives w who input untold k)
@@ -101,13 +107,13 @@ module _ (Sends : Operation → Type 0) (P : World → Type 0)
   kept-gone_arrives : (w : World) (wire : Wire) (side : Side) → P w → P (gone_arrives w wire side)
   kept-gone_arrives w wire side k =
       let away : World = record w { wires = with_wire w.wires (gone_at wire (other side)) } in
-      kept-tells_gone away wire (other side) (like w away refl refl k)
+      kept-tells_gone away wire (other side) (like w away refl refl refl k)
 
   kept-delivers_piece : (w : World) (wire : Wire) (side : Side) (n : Option ℕ) (pieces : List (List ℕ)) → P w → P (delivers_piece w wire side n pieces)
   kept-delivers_piece w wire side n [] k = kept-if (owes_gone wire side) _ _ (kept-gone_arrives w wire side k) k
   kept-delivers_piece w wire side n (piece ∷ pieces) k =
       let away : World = record w { wires = with_wire w.wires (with_pieces wire side (stay n piece pieces)) } in
-      kept-arrives_from away wire side (first_of n piece) (like w away refl refl k)
+      kept-arrives_from away wire side (first_of n piece) (like w away refl refl refl k)
 
   kept-delivers_on : (w : World) (side : Side) (n : Option ℕ) (wire : Option Wire) → P w → P (delivers_on w side n wire)
   kept-delivers_on w side n None k = k
@@ -154,7 +160,7 @@ module _ (Sends : Operation → Type 0) (P : World → Type 0)
 
   kept-without_first : (w : World) (wire : Wire) (side : Side) (pieces : List (List ℕ)) → P w → P (without_first w wire side pieces)
   kept-without_first w wire side [] k = k
-  kept-without_first w wire side (piece ∷ pieces) k = like w (without_first w wire side (piece ∷ pieces)) refl refl k
+  kept-without_first w wire side (piece ∷ pieces) k = like w (without_first w wire side (piece ∷ pieces)) refl refl refl k
 
   kept-loses : (w : World) (side : Side) (wire : Option Wire) → P w → P (loses w side wire)
   kept-loses w side None k = k
@@ -172,7 +178,7 @@ module _ (Sends : Operation → Type 0) (P : World → Type 0)
   kept-cuts w None k = k
   kept-cuts w (Some wire) k =
       let away : World = record w { wires = with_wire w.wires (ended wire) } in
-      kept-tells_gone (tells_gone away wire Connector) wire Acceptor (kept-tells_gone away wire Connector (like w away refl refl k))
+      kept-tells_gone (tells_gone away wire Connector) wire Acceptor (kept-tells_gone away wire Connector (like w away refl refl refl k))
 
   kept-on_link : (w : World) (s : LinkStep) → P w → P (on_link w s)
   kept-on_link w (link.Carry number side n) k = kept-delivers w number side n k
@@ -181,28 +187,54 @@ module _ (Sends : Operation → Type 0) (P : World → Type 0)
   kept-on_link w (link.Again number side n other) k = kept-arrives_again w side (ever_sent n side (wire_of number w.wires)) (wire_of other w.wires) k
   kept-on_link w (link.Cut number) k = kept-cuts w (wire_of number w.wires) k
 
-  kept-on_node : (w : World) (s : NodeStep) → P w → P (on_node w s)
-  kept-on_node w (step.Clock reading) k = like w (on_node w (step.Clock reading)) refl refl k
-  kept-on_node w (step.ClockOf who reading) k = like w (on_node w (step.ClockOf who reading)) refl refl k
-  kept-on_node w (step.Restart who) k = kept-restarts w who k
-  kept-on_node w (step.FailSave left) k = like w (on_node w (step.FailSave left)) refl refl k
-  kept-on_node w step.Settle k = kept-settles w k
-  kept-on_node w (step.DropSession daemon number) k = kept-comes w (node.Entity daemon) (Submit (told.Drop number)) tt k
-  kept-on_node w (step.Tick who) k = kept-settles (comes w who Tick) (kept-comes w who Tick tt k)
+  kept-on_node : (w : World) (s : NodeStep) → ReadsOnlyAt Reads (line.Node s) → P w → P (on_node w s)
+  kept-on_node w (step.Clock reading) reads k = kept-clock w reading reads k
+  kept-on_node w (step.ClockOf who reading) reads k = kept-clock_of w who reading reads k
+  kept-on_node w (step.Restart who) reads k = kept-restarts w who k
+  kept-on_node w (step.FailSave left) reads k = like w (on_node w (step.FailSave left)) refl refl refl k
+  kept-on_node w step.Settle reads k = kept-settles w k
+  kept-on_node w (step.DropSession daemon number) reads k = kept-comes w (node.Entity daemon) (Submit (told.Drop number)) tt k
+  kept-on_node w (step.Tick who) reads k = kept-settles (comes w who Tick) (kept-comes w who Tick tt k)
 
-  kept-acts_on : (w : World) (l : Line) → SendsOnlyAt Sends l → P w → P (acts_on w l)
-  kept-acts_on w (line.Setting setting) sends k = k
-  kept-acts_on w (line.Submit c) sends k = kept-submits w c sends k
-  kept-acts_on w (line.Do c) sends k = kept-submitted w c sends k
-  kept-acts_on w (line.Link s) sends k = kept-on_link w s k
-  kept-acts_on w (line.Node s) sends k = kept-on_node w s k
+  kept-acts_on : (w : World) (l : Line) → SendsOnlyAt Sends l → ReadsOnlyAt Reads l → P w → P (acts_on w l)
+  kept-acts_on w (line.Setting setting) sends reads k = k
+  kept-acts_on w (line.Submit c) sends reads k = kept-submits w c sends k
+  kept-acts_on w (line.Do c) sends reads k = kept-submitted w c sends k
+  kept-acts_on w (line.Link s) sends reads k = kept-on_link w s k
+  kept-acts_on w (line.Node s) sends reads k = kept-on_node w s reads k
 
-  kept-after_line : (w : World) (l : Numbered) → SendsOnlyAt Sends l.line → P w → P (after_line w l)
-  kept-after_line w l sends k = let there : World = record w { line = l.number } in kept-acts_on there l.line sends (like w there refl refl k)
+  kept-after_line : (w : World) (l : Numbered) → SendsOnlyAt Sends l.line → ReadsOnlyAt Reads l.line → P w → P (after_line w l)
+  kept-after_line w l sends reads k = let there : World = record w { line = l.number } in kept-acts_on there l.line sends reads (like w there refl refl refl k)
 
+  pub kept-after_told : (w : World) (lines : List Numbered) → AllByRecursion (λ (l : Numbered). SendsOnlyAt Sends l.line) lines
+      → AllByRecursion (λ (l : Numbered). ReadsOnlyAt Reads l.line) lines → P w → P (after_lines w lines)
+  kept-after_told w [] sends reads k = k
+  kept-after_told w (l ∷ lines) sends reads k = kept-after_told (after_line w l) lines sends.1 reads.1 (kept-after_line w l sends.0 reads.0 k)
+
+-- ---- whatever clocks tell
+
+-- any reading
+abbrev AnyReading : ℕ → Type 0
+AnyReading reading = Unit {0}
+
+any-reads : (lines : List Numbered) → AllByRecursion (λ (l : Numbered). ReadsOnlyAt AnyReading l.line) lines
+any-reads [] = tt
+any-reads (l ∷ lines) = (by_line l.line, any-reads lines)
+  where
+    by_line : (l : Line) → ReadsOnlyAt AnyReading l
+    by_line (line.Node (step.Clock reading)) = tt
+    by_line (line.Node (step.ClockOf who reading)) = tt
+    by_line _ = tt
+
+module _ (Sends : Operation → Type 0) (P : World → Type 0)
+    -- the same nodes and the same past
+    (like : (w v : World) → v.nodes ≡ w.nodes → v.past ≡ w.past → P w → P v)
+    -- one event more, which tells no view
+    (given-keeps : (w : World) (input : Input) (post : Option Post) → ComesWith Sends input → P w → P (given w input post).world) where
   pub kept-after_sends : (w : World) (lines : List Numbered) → AllByRecursion (λ (l : Numbered). SendsOnlyAt Sends l.line) lines → P w → P (after_lines w lines)
-  kept-after_sends w [] sends k = k
-  kept-after_sends w (l ∷ lines) sends k = kept-after_sends (after_line w l) lines sends.1 (kept-after_line w l sends.0 k)
+  kept-after_sends w lines sends k =
+      kept-after_told Sends AnyReading P (λ v u nodes posts past. like v u nodes past) (λ v who input comes. given-keeps v input (post_of who v.posts) comes)
+      (λ v reading reads. like v (on_node v (step.Clock reading)) refl refl) (λ v who reading reads. like v (on_node v (step.ClockOf who reading)) refl refl) w lines sends (any-reads lines) k
 
 -- ---- whatever is sent
 

@@ -21,7 +21,7 @@ use Rattle.cx_run_links.specs.cx_rules_session.specs.Guests.{GuestStage}
 use Rattle.cx_session.specs.declared.call.BookCall.TheVariants.{End}
 use Rattle.cx_session.specs.declared.call.BookReply.{BookReply}
 use Rattle.cx_session.specs.declared.call.BookReply.TheVariants as reply
-use Rattle.cx_run_links.specs.cx_run.proofs.GuestTakes.{Always, always-book}
+use Rattle.cx_run_links.specs.cx_run.proofs.Always.{Always, always-book}
 use Rattle.cx_run_links.specs.cx_run.specs.Deliveries.{given, gives, open_all, opens, tells}
 use Rattle.cx_run_links.specs.cx_run.specs.Happenings.{EntityNode, OfClient, OfDaemon, Happening, Nodes, entity_of, entity_rule, entity_steps, monitor_steps, steps, steps_of}
 use Rattle.cx_run_links.specs.cx_run.specs.Wires.{Wire, gone_at, new_wire, sent_from, side_of, wire_of, with_wire}
