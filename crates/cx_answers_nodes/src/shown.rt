@@ -22,7 +22,7 @@ pub fn told_run(alloc: Global, record: &Record, taken: &[u8]) -> Result<String, 
     Ok(told)
 }
 
-// What was done, but for readings and rolls that went well. Answers the bytes behind those that were sent.
+// What was done, but for readings, rolls that went well, and how links are regarded. Answers the bytes behind those that were sent.
 fn put_did<'a>(told: &mut String, did: Did, taken: &'a [u8]) -> Result<&'a [u8], AllocError> {
     match did {
         Did::Came(event) => put_came(told, event)?,
@@ -38,6 +38,7 @@ fn put_did<'a>(told: &mut String, did: Did, taken: &'a [u8]) -> Result<&'a [u8],
         Did::Rolled(true) => {}
         Did::Read(_) => {}
         Did::Listened(_) => {}
+        Did::Regarded(_, _) => {}
     }
     Ok(taken)
 }

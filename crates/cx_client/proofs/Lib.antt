@@ -1,3 +1,4 @@
 pub mod Idling
 pub mod Kept
+pub mod Regarding
 pub mod Standing

@@ -1,17 +1,19 @@
 //! A client.
 
-ghost use Rattle.std.specs.Prelude.{◌≡◌, OnOk, OnErr};
+ghost use Rattle.std.specs.Prelude.{◌≡◌, OnOk, OnErr, if◌then◌else◌};
 ghost use Rattle.cx_node.specs.cx_rules.specs.Inputs.{input_of};
 ghost use Rattle.cx_client_calls.specs.cx_rules_session.specs.ClientRule.{WholeClientNode, is_idle, opening_whole_client, whole_client_rule};
 ghost use Rattle.cx_client_calls.specs.cx_rules_session.specs.Forgets.{WholeClientStandsFor, abridged_whole_client};
 ghost use Rattle.cx_turns.specs.Events.{losing};
 ghost use Rattle.cx_client.specs.Machine.{IsWritableInput, lost, opening_asker};
+ghost use Rattle.cx_client.specs.Regards.{regard_of};
 
 use crate::steps::steps;
 use cx_base::{Addr, EntityName, Reading};
 use cx_client_calls::{Asker, Link, OfferedModes, Own, are_at_rest, client_forgetting_laws};
 use cx_dice::Draw;
 use cx_enc::Key;
+use cx_links::Regard;
 use cx_node::Links;
 use cx_steps::{Effects, Event};
 use cx_turns::{link_in, wanting};
@@ -112,5 +114,34 @@ impl Client {
     {
         client_forgetting_laws();
         are_at_rest(&self.links, self.own.sessions())
+    }
+
+    /// How it regards a link, where that lives. Since it opened the link, it awaits an answer there until the link is open, and while a request
+    /// waits on it, or an operation of the session with its daemon.
+    pub fn regard(&self, link: u32) -> Option<Regard>
+        ensures value { result ≡ regard_of self.now link }
+        ensures stands { (s : WholeClientNode) → WholeClientStandsFor self.now s → result ≡ regard_of s link }
+    {
+        self.regarded(link)
+    }
+
+    fn regarded(&self, number: u32) -> Option<Regard>
+        ensures { result ≡ regard_of self.now number }
+    {
+        match self.links.get(number) {
+            Some(link) => Some(regard_by(link.is_at_rest(self.own.sessions()))),
+            None => None,
+        }
+    }
+}
+
+// How it regards a link on which nothing is awaited, or something is.
+fn regard_by(is_at_rest: bool) -> Regard
+    ensures { result ≡ (if is_at_rest then Regard.Known else Regard.Awaited) }
+{
+    if is_at_rest {
+        Regard::Known
+    } else {
+        Regard::Awaited
     }
 }

@@ -1,7 +1,8 @@
 -- What a daemon with its desk stands for.
 use Rattle.std.proofs.Common.{ℕ, ◌≡◌, List, Option, Some, None, sym, subst}
-use Rattle.cx_command_daemon.specs.Held.{lost_daemon, rests_daemon, serving_lost, serving_rests, serving_rule}
+use Rattle.cx_command_daemon.specs.Held.{lost_daemon, regard_daemon, rests_daemon, serving_lost, serving_regards, serving_rests, serving_rule}
 use Rattle.cx_command_daemon.specs.declared.serving.Serving.{Serving}
+use Rattle.cx_daemon.proofs.Regarding.{regard_stands}
 use Rattle.cx_daemon.specs.cx_daemon_events.specs.Machine.{undialled_at}
 use Rattle.cx_desk.specs.Handlers.{Handlers}
 use Rattle.cx_desk.specs.Held.{handlers_of}
@@ -68,3 +69,7 @@ serving_loses handlers loses gives_up m s i (same, st) = (same, daemon_loses los
 pub serving_rests_so : {X : Type 0} {F : X → Type 0} {g : _} (handlers : Handlers) → ((m s : DaemonNode) → DaemonNodeStandsFor m s → is_idle m ≡ is_idle s)
     → (m : Serving X F g) (s : DaemonState) → ServingStandsFor handlers m s → serving_rests m ≡ rests_daemon s
 serving_rests_so handlers idle m s (same, st) = idle m.daemon.node s.node st.node
+
+pub serving_regards_so : {X : Type 0} {F : X → Type 0} {g : _} (handlers : Handlers) (m : Serving X F g) (s : DaemonState) (link : ℕ) → ServingStandsFor handlers m s
+    → serving_regards m link ≡ regard_daemon s link
+serving_regards_so handlers m s link (same, st) = regard_stands m.daemon.node s.node link st.node

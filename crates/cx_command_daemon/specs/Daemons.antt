@@ -2,7 +2,7 @@
 use Rattle.std.specs.Prelude.{ℕ, ◌≡◌, ◌<◌, true, false, List, [], vec_len, Option, Some}
 use Rattle.cx_base.specs.Names.{Name}
 use Rattle.cx_base.specs.declared.addresses.Addr.{Addr}
-use Rattle.cx_command_daemon.specs.Held.{lost_daemon, rests_daemon}
+use Rattle.cx_command_daemon.specs.Held.{lost_daemon, regard_daemon, rests_daemon}
 use Rattle.cx_command_line.specs.Commands.{AskedDaemon}
 use Rattle.cx_command_nodes.specs.Driving.{Order, Peers}
 use Rattle.cx_command_nodes.specs.Named.{IsNamedRefusal, NamedLoad}
@@ -48,7 +48,7 @@ module _ {L : Type 0} (follows : L → L → List LinkAct → Type 0) (handlers 
     pub orders : List Order
     pub key : Key
     pub load : NamedLoad asked.name [] bytes a.kept orders key
-    pub listens : Listens follows (daemon_step handlers) lost_daemon rests_daemon (monitor_at asked.monitor) asked.listen a b
+    pub listens : Listens follows (daemon_step handlers) lost_daemon rests_daemon regard_daemon (monitor_at asked.monitor) asked.listen a b
         (daemon_with asked.name key asked.listen) orders asked.events ending entries
 
   -- how the command ends, and what was entered

@@ -1,12 +1,14 @@
 -- What a daemon does at a step, on what it holds: its written rule, and behind each step it forgets of its links what no later step reads; and a
 -- daemon with the desk by which it serves.
-use Rattle.std.specs.Prelude.{ℕ, Bool, List}
+use Rattle.std.specs.Prelude.{ℕ, Bool, List, Option}
 use Rattle.cx_command_daemon.specs.declared.serving.Serving.{Serving}
 use Rattle.cx_daemon.specs.cx_daemon_events.specs.Machine.{lost_state}
+use Rattle.cx_daemon.specs.cx_daemon_events.specs.Regards.{regard_of}
 use Rattle.cx_desk.specs.Handlers.{Handlers}
 use Rattle.cx_desk.specs.Held.{handlers_of}
 use Rattle.cx_holdings.specs.cx_rules.specs.Inputs.{Input}
 use Rattle.cx_holdings.specs.cx_rules.specs.Rows.{Outcome}
+use Rattle.cx_links.specs.declared.regard.Regard.{Regard}
 use Rattle.cx_rules_session.specs.DaemonRule.{DaemonState, daemon_step, is_idle}
 use Rattle.cx_rules_session.specs.Forgets.{abridged_state}
 
@@ -25,6 +27,10 @@ lost_daemon s input = lost_state input s
 abbrev pub rests_daemon : DaemonState → Bool
 rests_daemon s = is_idle s.node
 
+-- how it regards a link
+abbrev pub regard_daemon : DaemonState → ℕ → Option Regard
+regard_daemon s link = regard_of s.node link
+
 -- ---- with its desk, which stays
 
 abbrev pub serving_rule : {X : Type 0} {F : X → Type 0} {g : _} → Serving X F g → Input → ℕ → List ℕ → Outcome (Serving X F g)
@@ -38,3 +44,6 @@ serving_lost s input = record s { daemon = lost_daemon s.daemon input }
 
 abbrev pub serving_rests : {X : Type 0} {F : X → Type 0} {g : _} → Serving X F g → Bool
 serving_rests s = rests_daemon s.daemon
+
+abbrev pub serving_regards : {X : Type 0} {F : X → Type 0} {g : _} → Serving X F g → ℕ → Option Regard
+serving_regards s link = regard_daemon s.daemon link

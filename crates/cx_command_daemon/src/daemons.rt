@@ -3,7 +3,7 @@
 ghost use Rattle.std.specs.Prelude.{◌≡◌, ◌<◌, [], vec_len, IfErr, IfOk, MatchResult, OnOk};
 ghost use Rattle.cx_base.specs.Streams.{Rose};
 ghost use Rattle.cx_command_daemon.specs.Daemons.{DaemonEnds, IsDaemonReady, daemon_with, monitor_at};
-ghost use Rattle.cx_command_daemon.specs.Held.{lost_daemon, rests_daemon};
+ghost use Rattle.cx_command_daemon.specs.Held.{lost_daemon, regard_daemon, rests_daemon};
 ghost use Rattle.cx_command_line.specs.Commands.{asked_daemon};
 ghost use Rattle.cx_command_nodes.specs.Named.{IsNamedReason, IsNamedRefusal, IsNamedServed};
 ghost use Rattle.cx_command_nodes.specs.Outside.{outside};
@@ -150,7 +150,7 @@ fn serves<K: Keeper, L: Links, C: Clock, D: Dice>(
     requires room { 0 < vec_len ready.room }
     requires stands { DaemonStandsFor ready.node ready.node }
     requires empty { journal.old ≡ [] }
-    ensures ran { Listens L.follows (daemon_step (handlers_of desk.now)) lost_daemon rests_daemon ready.peers command.now.listen
+    ensures ran { Listens L.follows (daemon_step (handlers_of desk.now)) lost_daemon rests_daemon regard_daemon ready.peers command.now.listen
         (outside (K.kept keeper.old) (K.faults keeper.old) links.old (L.faults links.old) (L.misses links.old) (C.coming clock.old) (D.coming dice.old) (D.faults dice.old))
         (outside (K.kept keeper.new) (K.faults keeper.new) links.new (L.faults links.new) (L.misses links.new) (C.coming clock.new) (D.coming dice.new) (D.faults dice.new))
         ready.node ready.orders ready.events result journal.new }

@@ -5,6 +5,7 @@ use cx_command_nodes::{Machine, saving_laws};
 use cx_daemon::Daemon;
 use cx_desk::Desk;
 use cx_dice::Draw;
+use cx_links::Regard;
 use cx_steps::{Effects, Event};
 use std::alloc::{AllocError, Global};
 
@@ -16,13 +17,15 @@ pub struct Serving<'a> {
 }
 
 impl<'a> Machine for Serving<'a> {
-    ghost use Rattle.cx_command_daemon.specs.Held.{serving_lost, serving_rests, serving_rule};
+    ghost use Rattle.cx_command_daemon.specs.Held.{serving_lost, serving_regards, serving_rests, serving_rule};
 
     ghost rule = { serving_rule };
 
     ghost lost = { serving_lost };
 
     ghost rests = { serving_rests };
+
+    ghost regards = { serving_regards };
 
     fn step(
         &mut self,
@@ -38,5 +41,9 @@ impl<'a> Machine for Serving<'a> {
 
     fn idle(&self) -> bool {
         self.daemon.idle()
+    }
+
+    fn regard(&self, link: u32) -> Option<Regard> {
+        self.daemon.regard(link)
     }
 }

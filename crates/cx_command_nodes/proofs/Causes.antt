@@ -11,6 +11,7 @@ use Rattle.cx_drive.specs.declared.peers.Peers.{Peers}
 use Rattle.cx_journal.specs.declared.entries.Entry.{Entry}
 use Rattle.cx_links.specs.Acts as link
 use Rattle.cx_links.specs.Acts.{LinkAct}
+use Rattle.cx_links.specs.declared.regard.Regard.{Regard}
 use Rattle.cx_loading.specs.Loading.{Rises}
 use Rattle.cx_loading.specs.declared.ends.NodeEnd.{NodeEnd}
 use Rattle.cx_loading.specs.declared.ends.NodeEnd.TheVariants as end
@@ -36,6 +37,7 @@ waits_fall_not m n (Linked (link.Opened to number)) p = omega (arith, p)
 waits_fall_not m n (Linked (link.Gave event bytes)) p = omega (arith, p)
 waits_fall_not m n (Linked (link.Sent number bytes ok)) p = omega (arith, p)
 waits_fall_not m n (Linked (link.Shut number)) p = omega (arith, p)
+waits_fall_not m n (Linked (link.Regarded number regard)) p = omega (arith, p)
 waits_fall_not m n (Read reading) p = omega (arith, p)
 waits_fall_not m n (Rolled draw) p = omega (arith, p)
 waits_fall_not m n (Saved state ok) p = omega (arith, p)
@@ -73,7 +75,7 @@ unsaved_rises k n draw reading state (l, first, (m, second, up)) = rises_since k
 
 -- ---- the end of a run
 
-module _ {L S : Type 0} (follows : L → L → List LinkAct → Type 0) (rule : S → Input → ℕ → List ℕ → Outcome S) (lost : S → Input → S) (rests : S → Bool) (peers : Peers) where
+module _ {L S : Type 0} (follows : L → L → List LinkAct → Type 0) (rule : S → Input → ℕ → List ℕ → Outcome S) (lost : S → Input → S) (rests : S → Bool) (regards : S → ℕ → Option Regard) (peers : Peers) where
   by_ending : (a b : Outside L) (first xs : List Act) (s : S) (agenda : Agenda) (e : Ending) (how : Ended) → IsEnding rule lost s agenda e how
       → Tells follows a b (first ++ (xs ++ ending_acts e)) → HasCause a b (end_by how)
   by_ending a b first xs s agenda Through how (is, over) told = subst (λ h. HasCause a b (end_by h)) (sym is) tt
@@ -95,9 +97,9 @@ module _ {L S : Type 0} (follows : L → L → List LinkAct → Type 0) (rule : 
   by_short false how a b cause = cause
 
   pub runs_cause : (first : List Act) (a b : Outside L) (s : S) (orders : List Order) (events : ℕ) (ending : NodeEnd) (entries : List Entry)
-      → Runs follows rule lost rests peers first a b s orders events ending entries → HasCause a b ending
+      → Runs follows rule lost rests regards peers first a b s orders events ending entries → HasCause a b ending
   runs_cause first a b s orders events ending entries r =
       subst (λ e. HasCause a b e) (sym r.ended)
       (by_short r.driven.short r.driven.ended a b
-      (by_ending a b first (acts_from rule lost peers s r.run.trace) (node_after rule lost peers s r.run.trace)
+      (by_ending a b first (acts_from rule lost regards peers s r.run.trace) (node_after rule lost peers s r.run.trace)
       (agenda_after rule lost rests peers s (opening_agenda orders events) r.run.trace) r.run.ending r.driven.ended r.run.ends r.run.acts))

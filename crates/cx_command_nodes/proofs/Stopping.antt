@@ -6,8 +6,8 @@ use Rattle.cx_base.specs.declared.addresses.Addr.{Addr}
 use Rattle.cx_command_line.specs.declared.commands.MonitorCommand.{MonitorCommand}
 use Rattle.cx_drive.specs.Agendas.{opening_agenda}
 use Rattle.cx_drive.specs.Courses.{Came, Ending, IsCourse, IsEnding, Taken, Through, Took, Undrawn, Unlinked, Unsaved, Wanting, WantingIn, acts_from, agenda_after, ending_acts, entries_from, node_after}
-use Rattle.cx_drive.specs.Held.{lost_monitor, no_peers}
-use Rattle.cx_drive.specs.Steps.{Opening, Sending, address_of, handed_acts, is_gone, lost_acts, open_act, open_acts, saved_acts, send_act, send_acts, shut_acts, went_effects, went_node, with_send}
+use Rattle.cx_drive.specs.Held.{lost_monitor, no_peers, regard_monitor}
+use Rattle.cx_drive.specs.Steps.{Opening, Sending, address_of, carried_acts, handed_acts, is_gone, lost_acts, open_act, open_acts, regard_act, regard_acts, saved_acts, send_act, send_acts, shut_acts, told_acts, went_effects, went_node, with_send}
 use Rattle.cx_drive.specs.declared.ends.Ended.{Ended}
 use Rattle.cx_drive.specs.declared.ends.Ended.TheVariants as ended
 use Rattle.cx_drive.specs.declared.flow.Order.{Order}
@@ -21,6 +21,7 @@ use Rattle.cx_keep.specs.Slots.{Kept, with_slot}
 use Rattle.cx_keep.specs.declared.keeper.Slot.TheVariants.{State}
 use Rattle.cx_keyserver.specs.Servers.{Server}
 use Rattle.cx_links.specs.Acts.{LinkAct, Listened}
+use Rattle.cx_links.specs.declared.regard.Regard.{Regard}
 use Rattle.cx_loading.specs.Loading.{HasState, IsStateOf}
 use Rattle.cx_loading.specs.declared.ends.NodeEnd.{NodeEnd}
 use Rattle.cx_loading.specs.declared.ends.NodeEnd.TheVariants as end
@@ -94,18 +95,33 @@ handed_well peers out ss os =
     (both_well (open_acts peers os) (shut_acts out.shuts ++ lost_acts out.lost) (opens_well peers os)
     (both_well (shut_acts out.shuts) (lost_acts out.lost) (shuts_well out.shuts) (lost_well out.lost)))
 
-module _ {S : Type 0} (rule : S → Input → ℕ → List ℕ → Outcome S) (lost : S → Input → S) (peers : Peers) where
-  acts_well : (s : S) (ts : List Taken) → AllWell (acts_from rule lost peers s ts)
+regard_well : (link : ℕ) (regard : Option Regard) → AllWell (regard_act link regard)
+regard_well link None = tt
+regard_well link (Some regard) = (tt, tt)
+
+regards_well : (regards : ℕ → Option Regard) (links : List ℕ) → AllWell (regard_acts regards links)
+regards_well regards [] = tt
+regards_well regards (link ∷ links) =
+    both_well (regard_act link (regards link)) (regard_acts regards links) (regard_well link (regards link)) (regards_well regards links)
+
+carried_well : (peers : Peers) (out : Effects) (ss : List Sending) (os : List Opening) → AllWell (carried_acts peers out ss os)
+carried_well peers out ss os = both_well (saved_acts out.save) (handed_acts peers out ss os) (save_well out.save) (handed_well peers out ss os)
+
+module _ {S : Type 0} (rule : S → Input → ℕ → List ℕ → Outcome S) (lost : S → Input → S) (regards : S → ℕ → Option Regard) (peers : Peers) where
+  acts_well : (s : S) (ts : List Taken) → AllWell (acts_from rule lost regards peers s ts)
   acts_well s [] = tt
   acts_well s (Came event bytes ∷ ts) = (tt, acts_well s ts)
   acts_well s (Took input went ∷ ts) =
-      let out : Effects = went_effects rule lost s input went in (
+      let out : Effects = went_effects rule lost s input went in
+      let next : S = went_node rule lost s input went in
+      let told : List Act = told_acts (regards next) input out in (
         tt,
         (
           tt,
-          both_well (saved_acts out.save ++ handed_acts peers out went.sends went.opens) (acts_from rule lost peers (went_node rule lost s input went) ts)
-              (both_well (saved_acts out.save) (handed_acts peers out went.sends went.opens) (save_well out.save) (handed_well peers out went.sends went.opens))
-              (acts_well (went_node rule lost s input went) ts),
+          both_well (carried_acts peers out went.sends went.opens ++ told) (acts_from rule lost regards peers next ts)
+              (both_well (carried_acts peers out went.sends went.opens) told (carried_well peers out went.sends went.opens)
+              (regards_well (regards next) _))
+              (acts_well next ts),
         ),
       )
 
@@ -185,13 +201,13 @@ module _ {L : Type 0} (follows : L → L → List LinkAct → Type 0) (command :
 
   -- the run of a monitor keeps what it saved
   pub run_keeps : (server : Server) (trace : List Taken) (ending : Ending) → HasServer command a.kept server
-      → Tells follows a b (Linked (Listened command.listen true) ∷ (acts_from monitor_rule lost_monitor no_peers (opening_monitor server command.listen) trace ++ ending_acts ending))
-      → KeepsUp (lives_of command) kept server.state (acts_from monitor_rule lost_monitor no_peers (opening_monitor server command.listen) trace)
+      → Tells follows a b (Linked (Listened command.listen true) ∷ (acts_from monitor_rule lost_monitor regard_monitor no_peers (opening_monitor server command.listen) trace ++ ending_acts ending))
+      → KeepsUp (lives_of command) kept server.state (acts_from monitor_rule lost_monitor regard_monitor no_peers (opening_monitor server command.listen) trace)
   run_keeps server trace ending has told =
       let node : MonitorNode = opening_monitor server command.listen in
-      let acts : List Act = acts_from monitor_rule lost_monitor no_peers node trace in
+      let acts : List Act = acts_from monitor_rule lost_monitor regard_monitor no_peers node trace in
       let parts = apart Keeps (Some kept) b.kept acts (ending_acts ending) (told_kept (acts ++ ending_acts ending) told) in
-      keeps_up (lives_of command) kept server.state acts parts.0 (acts_well monitor_rule lost_monitor no_peers node trace)
+      keeps_up (lives_of command) kept server.state acts parts.0 (acts_well monitor_rule lost_monitor regard_monitor no_peers node trace)
       (loaded_state (lives_of command) kept a.kept server.state is_kept has.state) parts.1
 
 module _ {L : Type 0} (follows : L → L → List LinkAct → Type 0) (command : MonitorCommand) (bytes : List ℕ) (a b : Outside L) (kept : Kept) (is_kept : a.kept ≡ Some kept) where
@@ -202,7 +218,7 @@ module _ {L : Type 0} (follows : L → L → List LinkAct → Type 0) (command :
       → IsEnding monitor_rule lost_monitor (node_after monitor_rule lost_monitor no_peers (opening_monitor server command.listen) trace)
       (agenda_after monitor_rule lost_monitor is_idle no_peers (opening_monitor server command.listen) (opening_agenda orders command.events) trace) ending how
       → entries ≡ entries_from monitor_rule lost_monitor no_peers (opening_monitor server command.listen) trace
-      → Tells follows a b (Linked (Listened command.listen true) ∷ (acts_from monitor_rule lost_monitor no_peers (opening_monitor server command.listen) trace ++ ending_acts ending))
+      → Tells follows a b (Linked (Listened command.listen true) ∷ (acts_from monitor_rule lost_monitor regard_monitor no_peers (opening_monitor server command.listen) trace ++ ending_acts ending))
       → IsStopped follows command bytes a b kept entries
   by_ending orders server load trace course Through how entries is (other, over) entered told = absurd (differ how other is)
     where
@@ -226,10 +242,10 @@ module _ {L : Type 0} (follows : L → L → List LinkAct → Type 0) (command :
       differ how p q = cc
   by_ending orders server load trace course (Unsaved input reading draw state) how entries is (same, turn, due) entered told =
       let node : MonitorNode = opening_monitor server command.listen in
-      let acts : List Act = acts_from monitor_rule lost_monitor no_peers node trace in
+      let acts : List Act = acts_from monitor_rule lost_monitor regard_monitor no_peers node trace in
       let tail : List Act = Rolled (Some draw) ∷ Read reading ∷ Saved state false ∷ [] in
       let parts = apart Keeps (Some kept) b.kept acts tail (told_kept follows command a b kept is_kept (acts ++ tail) told) in
-      let stands = kept_on (lives_of command) kept server.state acts parts.0 (acts_well monitor_rule lost_monitor no_peers node trace)
+      let stands = kept_on (lives_of command) kept server.state acts parts.0 (acts_well monitor_rule lost_monitor regard_monitor no_peers node trace)
       (loaded_state (lives_of command) kept a.kept server.state is_kept load.is_server.state) parts.1 in
       let last = failed (kept_behind kept acts) b.kept (Some draw) reading state (subst (λ (k : Option Kept). Walk Keeps k tail b.kept) stands.0 parts.2) in
       record {
@@ -252,7 +268,7 @@ module _ {L : Type 0} (follows : L → L → List LinkAct → Type 0) (command :
       }
 
   by_listens : (orders : List Order) (server : Server) (entries : List Entry) → MonitorLoad command bytes a.kept orders server
-      → Listens follows monitor_rule lost_monitor is_idle no_peers command.listen a b (opening_monitor server command.listen) orders command.events end.Keeper entries
+      → Listens follows monitor_rule lost_monitor is_idle regard_monitor no_peers command.listen a b (opening_monitor server command.listen) orders command.events end.Keeper entries
       → IsStopped follows command bytes a b kept entries
   by_listens orders server entries load (inr deaf) = absurd (differ deaf.ended)
     where
@@ -305,11 +321,11 @@ kept_is left other now p q = cc
 
 module _ {L : Type 0} (follows : L → L → List LinkAct → Type 0) (first second : MonitorCommand) (bytes : List ℕ) (a b : Outside L) (kept left : Kept) (entries : List Entry) where
   pub begins_with : (stopped : IsStopped follows first bytes a b kept entries) → b.kept ≡ Some left → AreAlike first second left → (server : Server) → HasServer second (Some left) server
-      → BeginsWith server (last_saved stopped.server.state (acts_from monitor_rule lost_monitor no_peers (opening_monitor stopped.server first.listen) stopped.trace)) stopped.state
+      → BeginsWith server (last_saved stopped.server.state (acts_from monitor_rule lost_monitor regard_monitor no_peers (opening_monitor stopped.server first.listen) stopped.trace)) stopped.state
   begins_with stopped is alike server has = by_left stopped.left
     where
       acts : List Act
-      acts = acts_from monitor_rule lost_monitor no_peers (opening_monitor stopped.server first.listen) stopped.trace
+      acts = acts_from monitor_rule lost_monitor regard_monitor no_peers (opening_monitor stopped.server first.listen) stopped.trace
 
       before : Kept
       before = kept_behind kept acts

@@ -3,7 +3,7 @@ use Rattle.std.specs.Prelude.{ℕ, ◌≡◌, ◌<◌, true, List, [], ◌∷◌
 use Rattle.std.specs.List.{flat_map}
 use Rattle.cx_base.specs.Names.{Name}
 use Rattle.cx_base.specs.declared.addresses.Addr.{Addr}
-use Rattle.cx_drive.specs.Held.{lost_client, opening_asker}
+use Rattle.cx_drive.specs.Held.{lost_client, opening_asker, regard_client}
 use Rattle.cx_command_line.specs.Commands.{AskedClient}
 use Rattle.cx_command_line.specs.Words.{Word, peer}
 use Rattle.cx_drive.specs.declared.flow.Order.{Order}
@@ -71,7 +71,7 @@ module _ {L : Type 0} (follows : L → L → List LinkAct → Type 0) (asked : A
     pub orders : List Order
     pub key : Key
     pub load : NamedLoad asked.name (client_peers asked) bytes a.kept orders key
-    pub runs : Runs follows whole_client_rule lost_client is_idle (peers_of asked) [] a b (client_with asked.name key) orders asked.events ending entries
+    pub runs : Runs follows whole_client_rule lost_client is_idle regard_client (peers_of asked) [] a b (client_with asked.name key) orders asked.events ending entries
 
   -- how the command ends, and what was entered
   abbrev pub ClientEnds : NodeEnd → List JournalEntry → Type 0

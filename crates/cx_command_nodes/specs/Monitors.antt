@@ -3,7 +3,7 @@ use Rattle.std.specs.Prelude.{ℕ, ◌*◌, ◌≡◌, ◌≤◌, ◌<◌, ◌�
 use Rattle.cx_base.specs.Names.{Name}
 use Rattle.cx_command_line.specs.declared.commands.MonitorCommand.{MonitorCommand}
 use Rattle.cx_drive.specs.declared.flow.Order.{Order}
-use Rattle.cx_drive.specs.Held.{lost_monitor, no_peers}
+use Rattle.cx_drive.specs.Held.{lost_monitor, no_peers, regard_monitor}
 use Rattle.cx_command_nodes.specs.Orders.{order_of}
 use Rattle.cx_journal.specs.declared.entries.Entry.{Entry as JournalEntry}
 use Rattle.cx_keep.specs.Slots.{Kept}
@@ -93,7 +93,7 @@ module _ {L : Type 0} (follows : L → L → List LinkAct → Type 0) (command :
     pub orders : List Order
     pub server : Server
     pub load : MonitorLoad command bytes a.kept orders server
-    pub listens : Listens follows monitor_rule lost_monitor is_idle no_peers command.listen a b (opening_monitor server command.listen) orders command.events ending entries
+    pub listens : Listens follows monitor_rule lost_monitor is_idle regard_monitor no_peers command.listen a b (opening_monitor server command.listen) orders command.events ending entries
 
   -- how the command ends, and what was entered
   abbrev pub MonitorEnds : NodeEnd → List JournalEntry → Type 0

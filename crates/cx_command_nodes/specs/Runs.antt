@@ -1,5 +1,5 @@
 -- How a node command runs its node, and how it ends.
-use Rattle.std.specs.Prelude.{ℕ, ◌≡◌, ◌⊎◌, Bool, true, false, if◌then◌else◌, List, [], ◌∷◌, ◌++◌}
+use Rattle.std.specs.Prelude.{ℕ, ◌≡◌, ◌⊎◌, Bool, true, false, if◌then◌else◌, List, [], ◌∷◌, ◌++◌, Option}
 use Rattle.cx_base.specs.Streams.{Rose}
 use Rattle.cx_base.specs.declared.addresses.Addr.{Addr}
 use Rattle.cx_drive.specs.Agendas.{opening_agenda}
@@ -12,6 +12,7 @@ use Rattle.cx_drive.specs.declared.peers.Peers.{Peers}
 use Rattle.cx_drive.specs.declared.stops.Stop.TheVariants as stop
 use Rattle.cx_journal.specs.declared.entries.Entry.{Entry}
 use Rattle.cx_links.specs.Acts.{LinkAct, Listened}
+use Rattle.cx_links.specs.declared.regard.Regard.{Regard}
 use Rattle.cx_loading.specs.Loading.{Rises}
 use Rattle.cx_loading.specs.declared.ends.NodeEnd.{NodeEnd}
 use Rattle.cx_loading.specs.declared.ends.NodeEnd.TheVariants as end
@@ -77,13 +78,13 @@ pub record IsDeaf {L : Type 0} (follows : L → L → List LinkAct → Type 0) (
   pub acts : Tells follows a b (Linked (Listened at false) ∷ [])
   pub none : entries ≡ []
 
-module _ {L S : Type 0} (follows : L → L → List LinkAct → Type 0) (rule : S → Input → ℕ → List ℕ → Outcome S) (lost : S → Input → S) (rests : S → Bool) (peers : Peers) where
+module _ {L S : Type 0} (follows : L → L → List LinkAct → Type 0) (rule : S → Input → ℕ → List ℕ → Outcome S) (lost : S → Input → S) (rests : S → Bool) (regards : S → ℕ → Option Regard) (peers : Peers) where
   -- from a state, by its orders, for so many events: all that was told behind these first acts is the run of its rule, and so is what was entered
   pub record Runs (first : List Act) (a b : Outside L) (s : S) (orders : List Order) (events : ℕ) (ending : NodeEnd) (entries : List Entry) : Type 0 where
     pub node : S
     pub driven : Driven
     pub ended : ending ≡ end_of driven
-    pub run : IsNodeRun rule lost rests peers (λ acts. Tells follows a b (first ++ acts)) s node [] entries (opening_agenda orders events) driven
+    pub run : IsNodeRun rule lost rests regards peers (λ acts. Tells follows a b (first ++ acts)) s node [] entries (opening_agenda orders events) driven
 
   -- it listens there, and runs if it can
   abbrev pub Listens : Addr → Outside L → Outside L → S → List Order → ℕ → NodeEnd → List Entry → Type 0

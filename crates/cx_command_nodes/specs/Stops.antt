@@ -3,7 +3,7 @@ use Rattle.std.specs.Prelude.{ℕ, ◌≡◌, ◌⊎◌, true, false, List, [], 
 use Rattle.cx_command_line.specs.declared.commands.MonitorCommand.{MonitorCommand}
 use Rattle.cx_drive.specs.Agendas.{next_input, opening_agenda}
 use Rattle.cx_drive.specs.Courses.{IsCourse, Taken, acts_from, agenda_after, entries_from, node_after}
-use Rattle.cx_drive.specs.Held.{lost_monitor, no_peers}
+use Rattle.cx_drive.specs.Held.{lost_monitor, no_peers, regard_monitor}
 use Rattle.cx_drive.specs.declared.flow.Order.{Order}
 use Rattle.cx_enc.specs.Whole.{Spells}
 use Rattle.cx_journal.specs.declared.entries.Entry.{Entry as JournalEntry}
@@ -69,14 +69,14 @@ module _ {L : Type 0} (follows : L → L → List LinkAct → Type 0) (command :
     -- what was done and entered is that of the steps before, and of this step nothing but the save that failed
     pub acts : Tells follows a b
         (Linked (Listened command.listen true)
-        ∷ (acts_from monitor_rule lost_monitor no_peers (opening_monitor server command.listen) trace ++ (Rolled (Some draw) ∷ Read reading ∷ Saved state false ∷ [])))
+        ∷ (acts_from monitor_rule lost_monitor regard_monitor no_peers (opening_monitor server command.listen) trace ++ (Rolled (Some draw) ∷ Read reading ∷ Saved state false ∷ [])))
     pub entered : entries ≡ entries_from monitor_rule lost_monitor no_peers (opening_monitor server command.listen) trace
     -- until then what is kept spelled the state that was saved last
-    pub keeps : KeepsUp (lives_of command) kept server.state (acts_from monitor_rule lost_monitor no_peers (opening_monitor server command.listen) trace)
+    pub keeps : KeepsUp (lives_of command) kept server.state (acts_from monitor_rule lost_monitor regard_monitor no_peers (opening_monitor server command.listen) trace)
     -- and it does so now, or it spells the state of this step
     pub left :
-        (b.kept ≡ Some (kept_behind kept (acts_from monitor_rule lost_monitor no_peers (opening_monitor server command.listen) trace)))
-        ⊎ (b.kept ≡ Some (with_slot State (state_text state) (kept_behind kept (acts_from monitor_rule lost_monitor no_peers (opening_monitor server command.listen) trace))))
+        (b.kept ≡ Some (kept_behind kept (acts_from monitor_rule lost_monitor regard_monitor no_peers (opening_monitor server command.listen) trace)))
+        ⊎ (b.kept ≡ Some (with_slot State (state_text state) (kept_behind kept (acts_from monitor_rule lost_monitor regard_monitor no_peers (opening_monitor server command.listen) trace))))
 
 -- ---- the monitor that starts behind it
 

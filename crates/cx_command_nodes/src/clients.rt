@@ -3,7 +3,7 @@
 ghost use Rattle.std.specs.Prelude.{◌≡◌, ◌<◌, [], ◌++◌, map, vec_len, IfErr, IfOk, MatchResult, OnOk};
 ghost use Rattle.std.specs.List.{flat_map};
 ghost use Rattle.cx_base.specs.Streams.{Rose};
-ghost use Rattle.cx_drive.specs.Held.{lost_client};
+ghost use Rattle.cx_drive.specs.Held.{lost_client, regard_client};
 ghost use Rattle.cx_command_line.specs.Commands.{asked_client};
 ghost use Rattle.cx_command_line.specs.Words.{peer};
 ghost use Rattle.cx_command_nodes.specs.Clients.{ClientEnds, IsClientReady, at_peer, client_peers, client_with, daemons_of, names_of};
@@ -177,7 +177,7 @@ fn serves<K: Keeper, L: Links, C: Clock, D: Dice>(
     requires room { 0 < vec_len ready.room }
     requires stands { WholeClientStandsFor ready.node ready.node }
     requires empty { journal.old ≡ [] }
-    ensures ran { Runs L.follows whole_client_rule lost_client is_idle ready.peers []
+    ensures ran { Runs L.follows whole_client_rule lost_client is_idle regard_client ready.peers []
         (outside (K.kept keeper.old) (K.faults keeper.old) links.old (L.faults links.old) (L.misses links.old) (C.coming clock.old) (D.coming dice.old) (D.faults dice.old))
         (outside (K.kept keeper.new) (K.faults keeper.new) links.new (L.faults links.new) (L.misses links.new) (C.coming clock.new) (D.coming dice.new) (D.faults dice.new))
         ready.node ready.orders ready.events result journal.new }

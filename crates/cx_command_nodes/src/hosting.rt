@@ -44,7 +44,7 @@ pub fn listens<K: Keeper, L: Links, C: Clock, D: Dice, M: Machine + Drop>(
 ) -> NodeEnd
     requires room { 0 < vec_len ready.room }
     requires empty { journal.old ≡ [] }
-    ensures ran { Listens L.follows M.rule M.lost M.rests ready.peers at.now
+    ensures ran { Listens L.follows M.rule M.lost M.rests M.regards ready.peers at.now
         (outside (K.kept keeper.old) (K.faults keeper.old) links.old (L.faults links.old) (L.misses links.old) (C.coming clock.old) (D.coming dice.old) (D.faults dice.old))
         (outside (K.kept keeper.new) (K.faults keeper.new) links.new (L.faults links.new) (L.misses links.new) (C.coming clock.new) (D.coming dice.new) (D.faults dice.new))
         ready.node ready.orders ready.events result journal.new }
@@ -71,7 +71,7 @@ pub(crate) fn runs<K: Keeper, L: Links, C: Clock, D: Dice, M: Machine + Drop>(
 ) -> NodeEnd
     requires room { 0 < vec_len ready.room }
     requires empty { journal.old ≡ [] }
-    ensures ran { Runs L.follows M.rule M.lost M.rests ready.peers []
+    ensures ran { Runs L.follows M.rule M.lost M.rests M.regards ready.peers []
         (outside (K.kept keeper.old) (K.faults keeper.old) links.old (L.faults links.old) (L.misses links.old) (C.coming clock.old) (D.coming dice.old) (D.faults dice.old))
         (outside (K.kept keeper.new) (K.faults keeper.new) links.new (L.faults links.new) (L.misses links.new) (C.coming clock.new) (D.coming dice.new) (D.faults dice.new))
         ready.node ready.orders ready.events result journal.new }
@@ -118,7 +118,7 @@ fn hosts<K: Keeper, L: Links, C: Clock, D: Dice, M: Machine>(
     journal: &mut Journal,
 ) -> Driven
     requires { 0 < length room.old }
-    ensures { IsNodeRun M.rule M.lost M.rests peers.now (Tells L.follows
+    ensures { IsNodeRun M.rule M.lost M.rests M.regards peers.now (Tells L.follows
         (outside (K.kept keeper.old) (K.faults keeper.old) links.old (L.faults links.old) (L.misses links.old) (C.coming clock.old) (D.coming dice.old) (D.faults dice.old))
         (outside (K.kept keeper.new) (K.faults keeper.new) links.new (L.faults links.new) (L.misses links.new) (C.coming clock.new) (D.coming dice.new) (D.faults dice.new)))
         node.old node.new journal.old journal.new (opening_agenda orders.now events) result }

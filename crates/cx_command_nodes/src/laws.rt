@@ -7,7 +7,7 @@ ghost use Rattle.cx_command_nodes.specs.Outside.{Outside};
 ghost use Rattle.cx_command_nodes.specs.Runs.{Runs};
 ghost use Rattle.cx_command_nodes.specs.Stops.{AreAlike, BeginsWith, IsStopped, KeepsUp, last_saved};
 ghost use Rattle.cx_drive.specs.Courses.{acts_from};
-ghost use Rattle.cx_drive.specs.Held.{lost_monitor, no_peers};
+ghost use Rattle.cx_drive.specs.Held.{lost_monitor, no_peers, regard_monitor};
 ghost use Rattle.cx_drive.specs.declared.flow.Order.{Order};
 ghost use Rattle.cx_journal.specs.declared.entries.Entry.{Entry as JournalEntry};
 ghost use Rattle.cx_keep.specs.Slots.{Kept};
@@ -24,8 +24,8 @@ use cx_links::Links;
 pub fn kept_law<L: Links>()
     ensures { (command : MonitorCommand) (a b : Outside L) (kept : Kept) (server : Server) (orders : List Order) (ending : NodeEnd) (entries : List JournalEntry) → a.kept ≡ Some kept
         → HasServer command a.kept server
-        → (ran : Runs L.follows monitor_rule lost_monitor is_idle no_peers (Linked (Listened command.listen true) ∷ []) a b (opening_monitor server command.listen) orders command.events ending entries)
-        → KeepsUp (lives_of command) kept server.state (acts_from monitor_rule lost_monitor no_peers (opening_monitor server command.listen) ran.run.trace) }
+        → (ran : Runs L.follows monitor_rule lost_monitor is_idle regard_monitor no_peers (Linked (Listened command.listen true) ∷ []) a b (opening_monitor server command.listen) orders command.events ending entries)
+        → KeepsUp (lives_of command) kept server.state (acts_from monitor_rule lost_monitor regard_monitor no_peers (opening_monitor server command.listen) ran.run.trace) }
 {}
 
 /// The monitor that starts in the same folder behind one whose save failed, with the same lifetimes or a state that holds its own: it begins with
@@ -33,5 +33,5 @@ pub fn kept_law<L: Links>()
 pub fn second_monitor_law<L: Links>()
     ensures { (first second : MonitorCommand) (bytes : List ℕ) (a b : Outside L) (kept left : Kept) (entries : List JournalEntry)
         (stopped : IsStopped L.follows first bytes a b kept entries) → b.kept ≡ Some left → AreAlike first second left → (server : Server) → HasServer second (Some left) server
-        → BeginsWith server (last_saved stopped.server.state (acts_from monitor_rule lost_monitor no_peers (opening_monitor stopped.server first.listen) stopped.trace)) stopped.state }
+        → BeginsWith server (last_saved stopped.server.state (acts_from monitor_rule lost_monitor regard_monitor no_peers (opening_monitor stopped.server first.listen) stopped.trace)) stopped.state }
 {}

@@ -7,7 +7,7 @@ ghost use Rattle.cx_command_nodes.specs.Outside.{outside};
 ghost use Rattle.cx_command_nodes.specs.Stops.{IsStopped};
 ghost use Rattle.cx_keep.specs.Slots.{Kept};
 ghost use Rattle.cx_command_nodes.specs.Runs.{HasCause, IsFaultless, IsRefusedFor, IsServed, IsStateless, IsStatelessCause, Listens};
-ghost use Rattle.cx_drive.specs.Held.{lost_monitor, no_peers};
+ghost use Rattle.cx_drive.specs.Held.{lost_monitor, no_peers, regard_monitor};
 ghost use Rattle.cx_loading.specs.Loading.{IsOrMemory, TellsNoState, TellsRing, TellsRingReason, TellsState};
 ghost use Rattle.cx_rules.specs.Abridged.{MonitorStandsFor};
 ghost use Rattle.cx_rules.specs.MonitorRule.{is_idle, monitor_rule};
@@ -158,7 +158,7 @@ fn serves<K: Keeper, L: Links, C: Clock, D: Dice>(
     requires room { 0 < vec_len ready.room }
     requires stands { MonitorStandsFor ready.node ready.node }
     requires empty { journal.old ≡ [] }
-    ensures ran { Listens L.follows monitor_rule lost_monitor is_idle ready.peers command.now.listen
+    ensures ran { Listens L.follows monitor_rule lost_monitor is_idle regard_monitor ready.peers command.now.listen
         (outside (K.kept keeper.old) (K.faults keeper.old) links.old (L.faults links.old) (L.misses links.old) (C.coming clock.old) (D.coming dice.old) (D.faults dice.old))
         (outside (K.kept keeper.new) (K.faults keeper.new) links.new (L.faults links.new) (L.misses links.new) (C.coming clock.new) (D.coming dice.new) (D.faults dice.new))
         ready.node ready.orders ready.events result journal.new }

@@ -7,10 +7,11 @@ ghost use Rattle.cx_daemon_events.specs.cx_rules_session.specs.DaemonRule.{Daemo
 ghost use Rattle.cx_daemon_events.specs.cx_rules_session.specs.Forgets.{DaemonStandsFor, abridged_state};
 ghost use Rattle.cx_turns.specs.Events.{losing};
 ghost use Rattle.cx_daemon_events.specs.Machine.{lost_state, opening_asker, opening_state};
+ghost use Rattle.cx_daemon_events.specs.Regards.{regard_of};
 
 use crate::steps::steps;
 use cx_base::{Addr, EntityName, Reading};
-use cx_daemon_events::{Book, Link, OfferedModes, Own, daemon_forgetting_laws, is_busy};
+use cx_daemon_events::{Book, Link, OfferedModes, Own, Regard, daemon_forgetting_laws, is_busy};
 use cx_desk::Desk;
 use cx_dice::Draw;
 use cx_enc::Key;
@@ -127,5 +128,23 @@ impl Daemon {
     {
         daemon_forgetting_laws();
         !is_busy(&self.own, &self.links)
+    }
+
+    /// How it regards a link, where that lives: a guest is a stranger until the daemon found its signature right, and on its own link to the monitor
+    /// the daemon awaits an answer until that is open, and while a request waits there.
+    pub fn regard(&self, link: u32) -> Option<Regard>
+        ensures value { result ≡ regard_of self.now.node link }
+        ensures stands { (s : DaemonState) → DaemonStandsFor self.now s → result ≡ regard_of s.node link }
+    {
+        self.regarded(link)
+    }
+
+    fn regarded(&self, number: u32) -> Option<Regard>
+        ensures { result ≡ regard_of self.now.node number }
+    {
+        match self.links.get(number) {
+            Some(link) => Some(link.regard()),
+            None => None,
+        }
     }
 }

@@ -6,5 +6,6 @@ pub use Rattle.cx_verifying as cx_verifying
 pub mod Ending
 pub mod Kinds
 pub mod Machine
+pub mod Regards
 pub mod Shutting
 pub mod Turns

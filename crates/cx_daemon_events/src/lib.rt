@@ -22,6 +22,7 @@ pub use turns::{own_turns, settles};
 
 // What crates above name through this one, and so needn't list.
 pub use cx_holdings::OfferedModes;
+pub use cx_links::Regard;
 pub use cx_verifying::{Link as GuestLink, SessionOwner, daemon_forgetting_laws};
 
 // Each public type may be sent to another thread and shared with one.

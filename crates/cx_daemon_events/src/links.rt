@@ -1,6 +1,11 @@
 //! The links of a daemon: those of its guests, and its own to the monitor.
 
+ghost use Rattle.std.specs.Prelude.{ℕ, ◌≡◌};
+ghost use Rattle.cx_daemon_events.specs.Regards.{regard_guest};
+ghost use Rattle.cx_verifying.specs.Stages as guest;
+
 use cx_connector as connector;
+use cx_links::Regard;
 use cx_node::Numbered;
 use cx_turns::Feeds;
 use cx_verifying as guests;
@@ -37,6 +42,7 @@ impl Link {
     ghost use Rattle.cx_node.specs.cx_rules.specs.Connector.{is_open};
     ghost use Rattle.cx_verifying.specs.cx_rules_session.specs.DaemonRule.{AsConnector, asking_open, is_for_fetch, is_in};
     ghost use Rattle.cx_verifying.specs.cx_rules_session.specs.Kinds.{of_kind};
+    ghost use Rattle.cx_daemon_events.specs.Regards.{regard_at};
 
     /// Whether a fetch is under way on it.
     pub fn is_for_fetch(&self) -> bool
@@ -67,6 +73,37 @@ impl Link {
             Kind::Guest(_) => None,
             Kind::Own(link) => { if link.is_open() { Some(link) } else { None } }
         }
+    }
+
+    /// How the daemon regards it.
+    pub fn regard(&self) -> Regard
+        ensures { result ≡ regard_at self.now.stage }
+    {
+        match &self.kind {
+            Kind::Guest(link) => regard_guest(&link.stage),
+            Kind::Own(link) => {
+                if link.is_quiet() {
+                    Regard::Known
+                } else {
+                    Regard::Awaited
+                }
+            }
+        }
+    }
+}
+
+// How a daemon regards a guest.
+fn regard_guest(stage: &guests::Stage) -> Regard
+    ensures { (number : ℕ) → result ≡ regard_guest (guest.link_held number stage.now).stage }
+{
+    match stage {
+        guests::Stage::AwaitsBanner(_) => Regard::Stranger,
+        guests::Stage::AwaitsHello(_) => Regard::Stranger,
+        guests::Stage::AwaitsRequest(_) => Regard::Stranger,
+        guests::Stage::AwaitsProof(_, _) => Regard::Stranger,
+        guests::Stage::AwaitsSignature(_, _) => Regard::Stranger,
+        guests::Stage::AwaitsIdent(_, _) => Regard::Known,
+        guests::Stage::Open(_, _) => Regard::Known,
     }
 }
 

@@ -1,10 +1,11 @@
 -- Sends, opens and shuts grow one by one.
 use Rattle.std.proofs.Common.{ℕ, ◌≡◌, ◌<◌, ◌+◌, Bool, List, [], ◌∷◌, ◌++◌, map, take, length, get_or, Option, refl, sym, ap, ◌∙◌, subst, append_assoc, append-nil}
 use Rattle.std.proofs.lemmas.List.{take_more}
-use Rattle.cx_drive.specs.Steps.{Opening, Sending, address_of, carried_dues, gone_behind, gone_dues, is_gone, lost_acts, open_act, open_acts, open_due, open_dues, opening, saved_acts, send_act, send_acts, sending, shut_acts, with_send}
+use Rattle.cx_drive.specs.Steps.{Opening, Sending, address_of, carried_dues, gone_behind, gone_dues, is_gone, lost_acts, open_act, open_acts, open_due, open_dues, opening, regard_act, regard_acts, saved_acts, send_act, send_acts, sending, shut_acts, with_send}
 use Rattle.cx_drive.specs.Stops.{Carried, HandedOut, Opens, Sends}
 use Rattle.cx_drive.specs.declared.dues.Due.{Due}
 use Rattle.cx_drive.specs.declared.peers.Peers.{Peers}
+use Rattle.cx_links.specs.declared.regard.Regard.{Regard}
 use Rattle.cx_site.specs.Acts.{Act}
 use Rattle.cx_steps.specs.declared.effects.Effects.{Effects}
 use Rattle.cx_steps.specs.declared.effects.Piece.{Piece}
@@ -37,6 +38,20 @@ open_dues_push : (peers : Peers) (os : List Opening) (o : Opening) → open_dues
 open_dues_push peers [] o = refl
 open_dues_push peers (x ∷ os) o = ap (λ k. open_due (address_of peers x.peer) x ∷ k) (open_dues_push peers os o)
 
+regards_push : (regards : ℕ → Option Regard) (links : List ℕ) (link : ℕ)
+    → regard_acts regards (links ++ link ∷ []) ≡ regard_acts regards links ++ regard_act link (regards link)
+regards_push regards [] link = append-nil (regard_act link (regards link))
+regards_push regards (x ∷ links) link =
+    ap (λ k. regard_act x (regards x) ++ k) (regards_push regards links link)
+    ∙ sym (append_assoc (regard_act x (regards x)) (regard_acts regards links) (regard_act link (regards link)))
+
+-- the links of one piece more
+more_links : (pieces : List Piece) (i : ℕ) (p : Piece) → i < length pieces → p ≡ get_or pieces i p
+    → map (λ (q : Piece). q.link) (take (i + 1) pieces) ≡ map (λ (q : Piece). q.link) (take i pieces) ++ p.link ∷ []
+more_links pieces i p lt is =
+    ap (λ (ps : List Piece). map (λ (q : Piece). q.link) ps) (take_more pieces i p lt ∙ ap (λ (q : Piece). take i pieces ++ q ∷ []) (sym is))
+    ∙ map_push (λ (q : Piece). q.link) (take i pieces) p
+
 module _ {D : Type 0} (follows : D → D → List Act → Type 0)
     (goes_on : (a b c : D) (xs ys : List Act) → follows a b xs → follows b c ys → follows a c (xs ++ ys)) where
   pub sends_on : (pieces : List Piece) (i : ℕ) (p : Piece) (ok : Bool) (from mid to : D) (gone gone' : List ℕ) → i < length pieces → p ≡ get_or pieces i p
@@ -61,6 +76,13 @@ module _ {D : Type 0} (follows : D → D → List Act → Type 0)
         ∙ append_assoc old (open_dues peers so.opens) (open_due (address_of peers p) (opening p number) ∷ [])
         ∙ ap (λ ds. old ++ ds) (sym (open_dues_push peers so.opens (opening p number)));
   }
+
+  pub regards_on : (regards : ℕ → Option Regard) (pieces : List Piece) (i : ℕ) (p : Piece) (from mid to : D) → i < length pieces → p ≡ get_or pieces i p
+      → follows from mid (regard_acts regards (map (λ q. q.link) (take i pieces))) → follows mid to (regard_act p.link (regards p.link))
+      → follows from to (regard_acts regards (map (λ q. q.link) (take (i + 1) pieces)))
+  regards_on regards pieces i p from mid to lt is so told =
+      subst (λ (links : List ℕ). follows from to (regard_acts regards links)) (sym (more_links pieces i p lt is))
+      (subst (follows from to) (sym (regards_push regards (map (λ q. q.link) (take i pieces)) p.link)) (goes_on from mid to _ _ so told))
 
   -- what was handed out: sends, opens, shuts, and the link that is lost
   pub handed : (peers : Peers) (out : Effects) (a b c d e : D) (gone : List ℕ) (old mid new : List Due) → Sends follows out.sends a b gone → mid ≡ old ++ gone_dues gone

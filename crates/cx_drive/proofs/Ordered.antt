@@ -3,8 +3,10 @@ use Rattle.std.proofs.Common.{ℕ, Bool, true, false, List, [], ◌∷◌, ◌++
 use Rattle.cx_base.specs.declared.addresses.Addr.{Addr}
 use Rattle.cx_drive.specs.Courses.{Came, Taken, Took, acts_from}
 use Rattle.cx_drive.specs.Order.{SavesFirst}
-use Rattle.cx_drive.specs.Steps.{Opening, Sending, address_of, handed_acts, is_gone, lost_acts, open_act, open_acts, saved_acts, send_act, send_acts, shut_acts, went_effects, went_node, with_send}
+use Rattle.cx_drive.specs.Steps.{Opening, Sending, address_of, carried_acts, handed_acts, is_gone, lost_acts, open_act, open_acts, regard_act, regard_acts, saved_acts, send_act, send_acts, shut_acts, step_links, told_acts, went_effects, went_node, with_send}
 use Rattle.cx_drive.specs.declared.peers.Peers.{Peers}
+use Rattle.cx_links.specs.declared.regard.Regard.{Regard}
+use Rattle.cx_mon.specs.cx_turns.specs.Events.{link_in}
 use Rattle.cx_rotate.specs.declared.states.KeptState.{KeptState}
 use Rattle.cx_rules.specs.Inputs.{Input}
 use Rattle.cx_rules.specs.Rows.{Outcome}
@@ -54,17 +56,32 @@ hands peers out ss os rest h sent =
     (opens peers os ((shut ++ lost) ++ rest) (λ b. joined b shut lost rest
     (shuts out.shuts (lost ++ rest) (losts out.lost rest h) b)) b)) sent)
 
+one_regard : (link : ℕ) (regard : Option Regard) (rest : List Act) → ((sent : Bool) → SavesFirst sent rest) → (sent : Bool) → SavesFirst sent (regard_act link regard ++ rest)
+one_regard link None rest h sent = h sent
+one_regard link (Some regard) rest h sent = h sent
+
+regarding : (regards : ℕ → Option Regard) (links : List ℕ) (rest : List Act) → ((sent : Bool) → SavesFirst sent rest)
+    → (sent : Bool) → SavesFirst sent (regard_acts regards links ++ rest)
+regarding regards [] rest h sent = h sent
+regarding regards (link ∷ links) rest h sent =
+    joined sent (regard_act link (regards link)) (regard_acts regards links) rest
+    (one_regard link (regards link) (regard_acts regards links ++ rest) (regarding regards links rest h) sent)
+
 saves : (save : Option KeptState) (rest : List Act) → ((sent : Bool) → SavesFirst sent rest) → SavesFirst false (saved_acts save ++ rest)
 saves None rest h = h false
 saves (Some state) rest h = (refl, h false)
 
-module _ {S : Type 0} (rule : S → Input → ℕ → List ℕ → Outcome S) (lost : S → Input → S) (peers : Peers) where
-  pub saves_first : (s : S) (ts : List Taken) (sent : Bool) → SavesFirst sent (acts_from rule lost peers s ts)
+module _ {S : Type 0} (rule : S → Input → ℕ → List ℕ → Outcome S) (lost : S → Input → S) (regards : S → ℕ → Option Regard) (peers : Peers) where
+  pub saves_first : (s : S) (ts : List Taken) (sent : Bool) → SavesFirst sent (acts_from rule lost regards peers s ts)
   saves_first s [] sent = tt
   saves_first s (Came event bytes ∷ ts) sent = saves_first s ts sent
   saves_first s (Took input went ∷ ts) sent =
       let out : Effects = went_effects rule lost s input went in
-      let rest : List Act = acts_from rule lost peers (went_node rule lost s input went) ts in
-      joined false (saved_acts out.save) (handed_acts peers out went.sends went.opens) rest
-      (saves out.save (handed_acts peers out went.sends went.opens ++ rest)
-      (hands peers out went.sends went.opens rest (saves_first (went_node rule lost s input went) ts)))
+      let next : S = went_node rule lost s input went in
+      let told : List Act = told_acts (regards next) input out in
+      let rest : List Act = acts_from rule lost regards peers next ts in
+      joined false (carried_acts peers out went.sends went.opens) told rest
+      (joined false (saved_acts out.save) (handed_acts peers out went.sends went.opens) (told ++ rest)
+      (saves out.save (handed_acts peers out went.sends went.opens ++ (told ++ rest))
+      (hands peers out went.sends went.opens (told ++ rest)
+      (regarding (regards next) (step_links (link_in input) out.sends) rest (saves_first next ts)))))

@@ -13,6 +13,7 @@ use Rattle.cx_drive.specs.declared.stops.Stop.TheVariants as stop
 use Rattle.cx_journal.specs.declared.entries.Entry.{Entry}
 use Rattle.cx_links.specs.Acts.{Broke, Gave}
 use Rattle.cx_links.specs.declared.events.LinkEvent.{LinkEvent}
+use Rattle.cx_links.specs.declared.regard.Regard.{Regard}
 use Rattle.cx_rules.specs.Inputs.{Input}
 use Rattle.cx_rules.specs.Rows.{Outcome}
 use Rattle.cx_site.specs.Acts.{Act, Linked}
@@ -26,15 +27,6 @@ module _ {S : Type 0} (rule : S → Input → ℕ → List ℕ → Outcome S) (l
   node_on s (Came event bytes ∷ ts) us = node_on s ts us
   node_on s (Took input went ∷ ts) us = node_on (went_node rule lost s input went) ts us
 
-  acts_on : (s : S) (ts us : List Taken)
-      → acts_from rule lost peers s (ts ++ us) ≡ acts_from rule lost peers s ts ++ acts_from rule lost peers (node_after rule lost peers s ts) us
-  acts_on s [] us = refl
-  acts_on s (Came event bytes ∷ ts) us = ap (λ k. Linked (Gave event bytes) ∷ k) (acts_on s ts us)
-  acts_on s (Took input went ∷ ts) us =
-      let next : S = went_node rule lost s input went in
-      ap (λ k. step_acts rule lost peers s input went ++ k) (acts_on next ts us)
-      ∙ sym (append_assoc (step_acts rule lost peers s input went) (acts_from rule lost peers next ts) (acts_from rule lost peers (node_after rule lost peers next ts) us))
-
   entries_on : (s : S) (ts us : List Taken)
       → entries_from rule lost peers s (ts ++ us) ≡ entries_from rule lost peers s ts ++ entries_from rule lost peers (node_after rule lost peers s ts) us
   entries_on s [] us = refl
@@ -43,6 +35,16 @@ module _ {S : Type 0} (rule : S → Input → ℕ → List ℕ → Outcome S) (l
       let next : S = went_node rule lost s input went in
       ap (λ k. (went_effects rule lost s input went).entries ++ k) (entries_on next ts us)
       ∙ sym (append_assoc (went_effects rule lost s input went).entries (entries_from rule lost peers next ts) (entries_from rule lost peers (node_after rule lost peers next ts) us))
+
+module _ {S : Type 0} (rule : S → Input → ℕ → List ℕ → Outcome S) (lost : S → Input → S) (regards : S → ℕ → Option Regard) (peers : Peers) where
+  acts_on : (s : S) (ts us : List Taken)
+      → acts_from rule lost regards peers s (ts ++ us) ≡ acts_from rule lost regards peers s ts ++ acts_from rule lost regards peers (node_after rule lost peers s ts) us
+  acts_on s [] us = refl
+  acts_on s (Came event bytes ∷ ts) us = ap (λ k. Linked (Gave event bytes) ∷ k) (acts_on s ts us)
+  acts_on s (Took input went ∷ ts) us =
+      let next : S = went_node rule lost s input went in
+      ap (λ k. step_acts rule lost regards peers s input went ++ k) (acts_on next ts us)
+      ∙ sym (append_assoc (step_acts rule lost regards peers s input went) (acts_from rule lost regards peers next ts) (acts_from rule lost regards peers (node_after rule lost peers next ts) us))
 
 module _ {S : Type 0} (rule : S → Input → ℕ → List ℕ → Outcome S) (lost : S → Input → S) (rests : S → Bool) (peers : Peers) where
   agenda_on : (s : S) (a : Agenda) (ts us : List Taken)
@@ -59,16 +61,16 @@ module _ {S : Type 0} (rule : S → Input → ℕ → List ℕ → Outcome S) (l
   course_on s a (Took input went ∷ ts) us (next, is, p) q =
       (next, is, course_on (went_node rule lost s input went) (after_took rule lost peers s input went a) ts us p q)
 
-module _ {D S : Type 0} (follows : D → D → List Act → Type 0) (rule : S → Input → ℕ → List ℕ → Outcome S) (lost : S → Input → S) (rests : S → Bool)
+module _ {D S : Type 0} (follows : D → D → List Act → Type 0) (rule : S → Input → ℕ → List ℕ → Outcome S) (lost : S → Input → S) (rests : S → Bool) (regards : S → ℕ → Option Regard)
     (stays : (s : D) → follows s s []) (goes_on : (a b c : D) (xs ys : List Act) → follows a b xs → follows b c ys → follows a c (xs ++ ys)) (peers : Peers) where
   -- ---- a run of one thing, and of none
 
-  pub ran_step : (input : Input) (went : Went) (a b : Scene D S) (x y : Agenda) → next_input x ≡ Some input → StepGoes follows rule lost peers input went a b
-      → y ≡ after_took rule lost peers a.node input went x → Ran follows rule lost rests peers a b x y
+  pub ran_step : (input : Input) (went : Went) (a b : Scene D S) (x y : Agenda) → next_input x ≡ Some input → StepGoes follows rule lost regards peers input went a b
+      → y ≡ after_took rule lost peers a.node input went x → Ran follows rule lost rests regards peers a b x y
   ran_step input went a b x y next goes noted = record {
     trace = Took input went ∷ [];
     course = (next, goes.carried, tt);
-    acts = subst (follows a.site b.site) (sym (append-nil (step_acts rule lost peers a.node input went))) goes.acts;
+    acts = subst (follows a.site b.site) (sym (append-nil (step_acts rule lost regards peers a.node input went))) goes.acts;
     node = goes.node;
     entries = goes.entries ∙ ap (λ es. a.entries ++ es) (sym (append-nil (went_effects rule lost a.node input went).entries));
     agenda = noted;
@@ -76,7 +78,7 @@ module _ {D S : Type 0} (follows : D → D → List Act → Type 0) (rule : S �
 
   pub ran_came : (event : LinkEvent) (bytes : List ℕ) (a b : D) (node : S) (entries : List Entry) (x : Agenda) → AwaitsLinks x
       → follows a b (Linked (Gave event bytes) ∷ [])
-      → Ran follows rule lost rests peers (scene a node entries) (scene b node entries) x (after_event (rests node) event bytes x)
+      → Ran follows rule lost rests regards peers (scene a node entries) (scene b node entries) x (after_event (rests node) event bytes x)
   ran_came event bytes a b node entries x waits p = record {
     trace = Came event bytes ∷ [];
     course = (waits, tt);
@@ -89,7 +91,7 @@ module _ {D S : Type 0} (follows : D → D → List Act → Type 0) (rule : S �
   -- ---- how a run ends, behind nothing
 
   -- all came
-  pub done : (a : Scene D S) (x : Agenda) → IsOver x → RanTo follows rule lost rests peers a a x (driven ended.Done x.short)
+  pub done : (a : Scene D S) (x : Agenda) → IsOver x → RanTo follows rule lost rests regards peers a a x (driven ended.Done x.short)
   done a x over = record {
     trace = [];
     course = tt;
@@ -102,7 +104,7 @@ module _ {D S : Type 0} (follows : D → D → List Act → Type 0) (rule : S �
   }
 
   -- memory was wanting
-  pub wants : (a : Scene D S) (x : Agenda) (short : Bool) → short ≡ x.short → RanTo follows rule lost rests peers a a x (driven (ended.Stopped stop.Memory) short)
+  pub wants : (a : Scene D S) (x : Agenda) (short : Bool) → short ≡ x.short → RanTo follows rule lost rests regards peers a a x (driven (ended.Stopped stop.Memory) short)
   wants a x short told = record {
     trace = [];
     course = tt;
@@ -116,7 +118,7 @@ module _ {D S : Type 0} (follows : D → D → List Act → Type 0) (rule : S �
 
   -- a wait failed
   pub breaks : (a b : D) (node : S) (entries : List Entry) (x : Agenda) → AwaitsLinks x → follows a b (Linked Broke ∷ [])
-      → RanTo follows rule lost rests peers (scene a node entries) (scene b node entries) x (driven ended.Links x.short)
+      → RanTo follows rule lost rests regards peers (scene a node entries) (scene b node entries) x (driven ended.Links x.short)
   breaks a b node entries x waits p = record {
     trace = [];
     course = tt;
@@ -130,7 +132,7 @@ module _ {D S : Type 0} (follows : D → D → List Act → Type 0) (rule : S �
 
   -- it stopped in a step
   pub stops : (input : Input) (a b : Scene D S) (x : Agenda) (short : Bool) (why : Stop) → next_input x ≡ Some input → short ≡ x.short
-      → Stopped follows rule lost input a b why → RanTo follows rule lost rests peers a b x (driven (ended.Stopped why) short)
+      → Stopped follows rule lost input a b why → RanTo follows rule lost rests regards peers a b x (driven (ended.Stopped why) short)
   stops input a b x short stop.Dice next told p = record {
     trace = [];
     course = tt;
@@ -164,7 +166,7 @@ module _ {D S : Type 0} (follows : D → D → List Act → Type 0) (rule : S �
 
   -- ---- a run behind another
 
-  module _ (a b c : Scene D S) (x y : Agenda) (p : Ran follows rule lost rests peers a b x y) where
+  module _ (a b c : Scene D S) (x y : Agenda) (p : Ran follows rule lost rests regards peers a b x y) where
     -- the node and the agenda behind both, told from the first
     both_nodes : (us : List Taken) → node_after rule lost peers b.node us ≡ node_after rule lost peers a.node (p.trace ++ us)
     both_nodes us = ap (λ s. node_after rule lost peers s us) p.node ∙ sym (node_on rule lost peers a.node p.trace us)
@@ -180,9 +182,9 @@ module _ {D S : Type 0} (follows : D → D → List Act → Type 0) (rule : S �
         (subst (λ s. IsCourse rule lost rests peers s (agenda_after rule lost rests peers a.node x p.trace) us) p.node
         (subst (λ z. IsCourse rule lost rests peers b.node z us) p.agenda q))
 
-    both_acts : (us : List Taken) → acts_from rule lost peers a.node p.trace ++ acts_from rule lost peers b.node us ≡ acts_from rule lost peers a.node (p.trace ++ us)
+    both_acts : (us : List Taken) → acts_from rule lost regards peers a.node p.trace ++ acts_from rule lost regards peers b.node us ≡ acts_from rule lost regards peers a.node (p.trace ++ us)
     both_acts us =
-        ap (λ s. acts_from rule lost peers a.node p.trace ++ acts_from rule lost peers s us) p.node ∙ sym (acts_on rule lost peers a.node p.trace us)
+        ap (λ s. acts_from rule lost regards peers a.node p.trace ++ acts_from rule lost regards peers s us) p.node ∙ sym (acts_on rule lost regards peers a.node p.trace us)
 
     both_entries : (us : List Taken) (es : List Entry) → es ≡ b.entries ++ entries_from rule lost peers b.node us
         → es ≡ a.entries ++ entries_from rule lost peers a.node (p.trace ++ us)
@@ -191,7 +193,7 @@ module _ {D S : Type 0} (follows : D → D → List Act → Type 0) (rule : S �
         ∙ ap (λ s. a.entries ++ (entries_from rule lost peers a.node p.trace ++ entries_from rule lost peers s us)) p.node
         ∙ ap (λ k. a.entries ++ k) (sym (entries_on rule lost peers a.node p.trace us))
 
-    ran_ran : (z : Agenda) → Ran follows rule lost rests peers b c y z → Ran follows rule lost rests peers a c x z
+    ran_ran : (z : Agenda) → Ran follows rule lost rests regards peers b c y z → Ran follows rule lost rests regards peers a c x z
     ran_ran z q = record {
       trace = p.trace ++ q.trace;
       course = both_courses q.trace q.course;
@@ -201,7 +203,7 @@ module _ {D S : Type 0} (follows : D → D → List Act → Type 0) (rule : S �
       agenda = q.agenda ∙ both_agendas q.trace;
     }
 
-    ran_end : (how : Driven) → RanTo follows rule lost rests peers b c y how → RanTo follows rule lost rests peers a c x how
+    ran_end : (how : Driven) → RanTo follows rule lost rests regards peers b c y how → RanTo follows rule lost rests regards peers a c x how
     ran_end how q = record {
       trace = p.trace ++ q.trace;
       course = both_courses q.trace q.course;
@@ -209,7 +211,7 @@ module _ {D S : Type 0} (follows : D → D → List Act → Type 0) (rule : S �
       ends = subst (λ s. IsEnding rule lost s (agenda_after rule lost rests peers a.node x (p.trace ++ q.trace)) q.ending how.ended) (both_nodes q.trace)
           (subst (λ z. IsEnding rule lost (node_after rule lost peers b.node q.trace) z q.ending how.ended) (both_agendas q.trace) q.ends);
       acts = subst (follows a.site c.site)
-          (sym (append_assoc (acts_from rule lost peers a.node p.trace) (acts_from rule lost peers b.node q.trace) (ending_acts q.ending))
+          (sym (append_assoc (acts_from rule lost regards peers a.node p.trace) (acts_from rule lost regards peers b.node q.trace) (ending_acts q.ending))
           ∙ ap (λ k. k ++ ending_acts q.ending) (both_acts q.trace))
           (goes_on a.site b.site c.site _ _ p.acts q.acts);
       node = q.node ∙ ap (λ s. ending_node rule lost s q.ending) (both_nodes q.trace);
@@ -217,15 +219,15 @@ module _ {D S : Type 0} (follows : D → D → List Act → Type 0) (rule : S �
       short = q.short ∙ ap (λ z. z.short) (both_agendas q.trace);
     }
 
-  pub ran_on : (a b c : Scene D S) (x y z : Agenda) → Ran follows rule lost rests peers a b x y → Ran follows rule lost rests peers b c y z
-      → Ran follows rule lost rests peers a c x z
+  pub ran_on : (a b c : Scene D S) (x y z : Agenda) → Ran follows rule lost rests regards peers a b x y → Ran follows rule lost rests regards peers b c y z
+      → Ran follows rule lost rests regards peers a c x z
   ran_on a b c x y z p q = ran_ran a b c x y p z q
 
-  pub ran_to : (a b c : Scene D S) (x y : Agenda) (how : Driven) → Ran follows rule lost rests peers a b x y → RanTo follows rule lost rests peers b c y how
-      → RanTo follows rule lost rests peers a c x how
+  pub ran_to : (a b c : Scene D S) (x y : Agenda) (how : Driven) → Ran follows rule lost rests regards peers a b x y → RanTo follows rule lost rests regards peers b c y how
+      → RanTo follows rule lost rests regards peers a c x how
   ran_to a b c x y how p q = ran_end a b c x y p how q
 
-  pub on : (a b c : Scene D S) (x y z : Agenda) (how : Option Ended) → Ran follows rule lost rests peers a b x y → RanOn follows rule lost rests peers b c y z how
-      → RanOn follows rule lost rests peers a c x z how
+  pub on : (a b c : Scene D S) (x y z : Agenda) (how : Option Ended) → Ran follows rule lost rests regards peers a b x y → RanOn follows rule lost rests regards peers b c y z how
+      → RanOn follows rule lost rests regards peers a c x z how
   on a b c x y z None p q = ran_on a b c x y z p q
   on a b c x y z (Some how) p q = ran_to a b c x y (driven how z.short) p q

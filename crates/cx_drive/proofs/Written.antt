@@ -1,8 +1,8 @@
 -- What a machine does that stands for states of its written rule is what that rule gives.
-use Rattle.std.proofs.Common.{ℕ, ◌≡◌, Bool, true, false, List, [], ◌∷◌, ◌++◌, Some, refl, sym, ap, ◌∙◌, subst}
+use Rattle.std.proofs.Common.{ℕ, ◌≡◌, Bool, true, false, List, [], ◌∷◌, ◌++◌, Option, Some, refl, sym, ap, ◌∙◌, subst}
 use Rattle.cx_drive.specs.Agendas.{Agenda, after_event, after_step}
 use Rattle.cx_drive.specs.Courses.{Came, Ending, IsCourse, IsEnding, IsNodeRun, Taken, Through, Took, Undrawn, Unlinked, Unsaved, Wanting, WantingIn, acts_from, after_took, agenda_after, ending_acts, ending_node, entries_from, node_after}
-use Rattle.cx_drive.specs.Steps.{IsCarried, Went, carried_acts, carried_dues, effects_of, node_behind, step_acts, went_effects, went_node}
+use Rattle.cx_drive.specs.Steps.{IsCarried, Went, carried_acts, carried_dues, effects_of, node_behind, regard_act, regard_acts, step_acts, step_links, told_acts, went_effects, went_node}
 use Rattle.cx_drive.specs.declared.ends.Driven.{Driven}
 use Rattle.cx_drive.specs.declared.ends.Ended.{Ended}
 use Rattle.cx_drive.specs.declared.peers.Peers.{Peers}
@@ -10,15 +10,24 @@ use Rattle.cx_journal.specs.declared.entries.Entry.{Entry}
 use Rattle.cx_rules.specs.Inputs.{Input}
 use Rattle.cx_rules.specs.Rows.{Outcome}
 use Rattle.cx_links.specs.Acts.{Gave}
+use Rattle.cx_links.specs.declared.regard.Regard.{Regard}
+use Rattle.cx_mon.specs.cx_turns.specs.Events.{link_in}
 use Rattle.cx_site.specs.Acts.{Act, Linked, Read, Rolled}
 use Rattle.cx_steps.specs.declared.effects.Effects.{Effects}
 
-module _ {S T : Type 0} (held : S → Input → ℕ → List ℕ → Outcome S) (held_lost : S → Input → S) (held_rests : S → Bool)
-    (written : T → Input → ℕ → List ℕ → Outcome T) (lost : T → Input → T) (rests : T → Bool) (StandsFor : S → T → Type 0)
+-- what regards links alike tells alike
+same_regards : (f g : ℕ → Option Regard) → ((link : ℕ) → f link ≡ g link) → (links : List ℕ) → regard_acts f links ≡ regard_acts g links
+same_regards f g same [] = refl
+same_regards f g same (link ∷ links) =
+    ap (λ (r : Option Regard). regard_act link r ++ regard_acts f links) (same link) ∙ ap (λ (k : List Act). regard_act link (g link) ++ k) (same_regards f g same links)
+
+module _ {S T : Type 0} (held : S → Input → ℕ → List ℕ → Outcome S) (held_lost : S → Input → S) (held_rests : S → Bool) (held_regards : S → ℕ → Option Regard)
+    (written : T → Input → ℕ → List ℕ → Outcome T) (lost : T → Input → T) (rests : T → Bool) (regards : T → ℕ → Option Regard) (StandsFor : S → T → Type 0)
     (forgets : (m : S) (s : T) (input : Input) (reading : ℕ) (draw : List ℕ) → StandsFor m s
     → ((held m input reading draw).out ≡ (written s input reading draw).out) × StandsFor (held m input reading draw).state (written s input reading draw).state)
     (loses : (m : S) (s : T) (input : Input) → StandsFor m s → StandsFor (held_lost m input) (lost s input))
     (idles : (m : S) (s : T) → StandsFor m s → held_rests m ≡ rests s)
+    (regarding : (m : S) (s : T) (link : ℕ) → StandsFor m s → held_regards m link ≡ regards s link)
     (peers : Peers) where
   -- ---- one step
 
@@ -49,12 +58,26 @@ module _ {S T : Type 0} (held : S → Input → ℕ → List ℕ → Outcome S) 
   stands_after m s (Came event bytes ∷ ts) st = stands_after m s ts st
   stands_after m s (Took input w ∷ ts) st = stands_after (went_node held held_lost m input w) (went_node written lost s input w) ts (behind m s st input w)
 
-  acts : (m : S) (s : T) (ts : List Taken) → StandsFor m s → acts_from held held_lost peers m ts ≡ acts_from written lost peers s ts
+  told : (m : S) (s : T) → StandsFor m s → (input : Input) (out : Effects) → told_acts (held_regards m) input out ≡ told_acts (regards s) input out
+  told m s st input out = same_regards (held_regards m) (regards s) (λ link. regarding m s link st) (step_links (link_in input) out.sends)
+
+  -- the acts of a step, by what it gives and by what is told of its links
+  abbrev acts_by : Went → Effects → List Act → List Act
+  acts_by w out tell = Rolled (Some w.draw) ∷ Read w.reading ∷ (carried_acts peers out w.sends w.opens ++ tell)
+
+  step : (m : S) (s : T) → StandsFor m s → (input : Input) (w : Went)
+      → step_acts held held_lost held_regards peers m input w ≡ step_acts written lost regards peers s input w
+  step m s st input w =
+      ap (λ (out : Effects). acts_by w out (told_acts (held_regards (went_node held held_lost m input w)) input out)) (went m s st input w)
+      ∙ ap (acts_by w (went_effects written lost s input w))
+      (told (went_node held held_lost m input w) (went_node written lost s input w) (behind m s st input w) input (went_effects written lost s input w))
+
+  acts : (m : S) (s : T) (ts : List Taken) → StandsFor m s → acts_from held held_lost held_regards peers m ts ≡ acts_from written lost regards peers s ts
   acts m s [] st = refl
   acts m s (Came event bytes ∷ ts) st = ap (λ (k : List Act). Linked (Gave event bytes) ∷ k) (acts m s ts st)
   acts m s (Took input w ∷ ts) st =
-      ap (λ (out : Effects). (Rolled (Some w.draw) ∷ Read w.reading ∷ carried_acts peers out w.sends w.opens) ++ acts_from held held_lost peers (went_node held held_lost m input w) ts) (went m s st input w)
-      ∙ ap (λ (k : List Act). step_acts written lost peers s input w ++ k) (acts (went_node held held_lost m input w) (went_node written lost s input w) ts (behind m s st input w))
+      ap (λ (k : List Act). k ++ acts_from held held_lost held_regards peers (went_node held held_lost m input w) ts) (step m s st input w)
+      ∙ ap (λ (k : List Act). step_acts written lost regards peers s input w ++ k) (acts (went_node held held_lost m input w) (went_node written lost s input w) ts (behind m s st input w))
 
   entries : (m : S) (s : T) (ts : List Taken) → StandsFor m s → entries_from held held_lost peers m ts ≡ entries_from written lost peers s ts
   entries m s [] st = refl
@@ -106,7 +129,7 @@ module _ {S T : Type 0} (held : S → Input → ℕ → List ℕ → Outcome S) 
   stands_ending m s (WantingIn input reading draw short) st = nodes m s st input reading draw short
 
   pub run_written : (tells : List Act → Type 0) (m n : S) (s : T) (es fs : List Entry) (a : Agenda) (how : Driven) → StandsFor m s
-      → IsNodeRun held held_lost held_rests peers tells m n es fs a how → (t : T) × StandsFor n t × IsNodeRun written lost rests peers tells s t es fs a how
+      → IsNodeRun held held_lost held_rests held_regards peers tells m n es fs a how → (t : T) × StandsFor n t × IsNodeRun written lost rests regards peers tells s t es fs a how
   run_written tells m n s es fs a how st q =
       let ts : List Taken = q.trace in
       let t : T = ending_node written lost (node_after written lost peers s ts) q.ending in (

@@ -11,6 +11,7 @@ use Rattle.cx_drive.specs.declared.stops.Stop.TheVariants as stop
 use Rattle.cx_journal.specs.declared.entries.Entry.{Entry}
 use Rattle.cx_links.specs.Acts.{Broke, Gave}
 use Rattle.cx_links.specs.declared.events.LinkEvent.{LinkEvent}
+use Rattle.cx_links.specs.declared.regard.Regard.{Regard}
 use Rattle.cx_rotate.specs.declared.states.KeptState.{KeptState}
 use Rattle.cx_rules.specs.Inputs.{Input}
 use Rattle.cx_rules.specs.Rows.{Outcome}
@@ -66,12 +67,6 @@ module _ {S : Type 0} (rule : S → Input → ℕ → List ℕ → Outcome S) (l
   IsEnding s a (WantingIn input reading draw short) how = (how ≡ ended.Stopped stop.Memory) × (next_input a ≡ Some input)
 
 module _ {S : Type 0} (rule : S → Input → ℕ → List ℕ → Outcome S) (lost : S → Input → S) (peers : Peers) where
-  -- the acts of all of it, in their order
-  abbrev pub acts_from : S → List Taken → List Act
-  acts_from s [] = []
-  acts_from s (Came event bytes ∷ ts) = Linked (Gave event bytes) ∷ acts_from s ts
-  acts_from s (Took input went ∷ ts) = step_acts rule lost peers s input went ++ acts_from (went_node rule lost s input went) ts
-
   -- the node behind it
   abbrev pub node_after : S → List Taken → S
   node_after s [] = s
@@ -88,6 +83,13 @@ module _ {S : Type 0} (rule : S → Input → ℕ → List ℕ → Outcome S) (l
   abbrev pub after_took : S → Input → Went → Agenda → Agenda
   after_took s input went a =
       after_step input went.short (went_effects rule lost s input went).turned (carried_dues peers went.sends went.opens) a
+
+module _ {S : Type 0} (rule : S → Input → ℕ → List ℕ → Outcome S) (lost : S → Input → S) (regards : S → ℕ → Option Regard) (peers : Peers) where
+  -- the acts of all of it, in their order
+  abbrev pub acts_from : S → List Taken → List Act
+  acts_from s [] = []
+  acts_from s (Came event bytes ∷ ts) = Linked (Gave event bytes) ∷ acts_from s ts
+  acts_from s (Took input went ∷ ts) = step_acts rule lost regards peers s input went ++ acts_from (went_node rule lost s input went) ts
 
 module _ {S : Type 0} (rule : S → Input → ℕ → List ℕ → Outcome S) (lost : S → Input → S) (rests : S → Bool) (peers : Peers) where
   -- what is to come behind it
@@ -106,24 +108,25 @@ module _ {S : Type 0} (rule : S → Input → ℕ → List ℕ → Outcome S) (l
       × IsCarried (went_effects rule lost s input went) went.sends went.opens
       × IsCourse (went_node rule lost s input went) (after_took rule lost peers s input went a) ts
 
+module _ {S : Type 0} (rule : S → Input → ℕ → List ℕ → Outcome S) (lost : S → Input → S) (rests : S → Bool) (regards : S → ℕ → Option Regard) (peers : Peers) where
   -- the run of a node to its end: what was told of its acts, the node and the entries before and behind it, what was to come at first, and how it
   -- ended
   pub record IsNodeRun (tells : List Act → Type 0) (s t : S) (entries entered : List Entry) (from : Agenda) (driven : Driven) : Type 0 where
     pub trace : List Taken
-    pub course : IsCourse s from trace
+    pub course : IsCourse rule lost rests peers s from trace
     pub ending : Ending
-    pub ends : IsEnding rule lost (node_after rule lost peers s trace) (agenda_after s from trace) ending driven.ended
-    pub acts : tells (acts_from rule lost peers s trace ++ ending_acts ending)
+    pub ends : IsEnding rule lost (node_after rule lost peers s trace) (agenda_after rule lost rests peers s from trace) ending driven.ended
+    pub acts : tells (acts_from rule lost regards peers s trace ++ ending_acts ending)
     pub node : t ≡ ending_node rule lost (node_after rule lost peers s trace) ending
     pub more : entered ≡ entries ++ entries_from rule lost peers s trace
     -- whether memory was wanting in one of its steps
-    pub short : driven.short ≡ (agenda_after s from trace).short
+    pub short : driven.short ≡ (agenda_after rule lost rests peers s from trace).short
 
-module _ {D S : Type 0} (follows : D → D → List Act → Type 0) (rule : S → Input → ℕ → List ℕ → Outcome S) (lost : S → Input → S) (rests : S → Bool) (peers : Peers) where
+module _ {D S : Type 0} (follows : D → D → List Act → Type 0) (rule : S → Input → ℕ → List ℕ → Outcome S) (lost : S → Input → S) (rests : S → Bool) (regards : S → ℕ → Option Regard) (peers : Peers) where
   -- a step was taken at this input, and what comes of it is noted
   pub record StepsOn (input : Input) (old new : Scene D S) (from to : Agenda) (turned : Bool) : Type 0 where
     pub went : Went
-    pub goes : StepGoes follows rule lost peers input went old new
+    pub goes : StepGoes follows rule lost regards peers input went old new
     pub handles : turned ≡ (went_effects rule lost old.node input went).turned
     pub agenda : to ≡ noting input went.short (carried_dues peers went.sends went.opens) from
 
@@ -131,7 +134,7 @@ module _ {D S : Type 0} (follows : D → D → List Act → Type 0) (rule : S �
   pub record Ran (old new : Scene D S) (from to : Agenda) : Type 0 where
     pub trace : List Taken
     pub course : IsCourse rule lost rests peers old.node from trace
-    pub acts : follows old.site new.site (acts_from rule lost peers old.node trace)
+    pub acts : follows old.site new.site (acts_from rule lost regards peers old.node trace)
     pub node : new.node ≡ node_after rule lost peers old.node trace
     pub entries : new.entries ≡ old.entries ++ entries_from rule lost peers old.node trace
     pub agenda : to ≡ agenda_after rule lost rests peers old.node from trace
@@ -139,7 +142,7 @@ module _ {D S : Type 0} (follows : D → D → List Act → Type 0) (rule : S �
   -- a run to its end
   abbrev pub RanTo : Scene D S → Scene D S → Agenda → Driven → Type 0
   RanTo old new from driven =
-      IsNodeRun rule lost rests peers (follows old.site new.site) old.node new.node old.entries new.entries from driven
+      IsNodeRun rule lost rests regards peers (follows old.site new.site) old.node new.node old.entries new.entries from driven
 
   -- the run goes on, or ended so
   abbrev pub RanOn : Scene D S → Scene D S → Agenda → Agenda → Option Ended → Type 0

@@ -1,9 +1,12 @@
 -- What the machines do at a step, on what they hold: their written rules, and behind each step they forget of their links what no later step reads.
-use Rattle.std.specs.Prelude.{ℕ, List, [], None}
+use Rattle.std.specs.Prelude.{ℕ, List, [], Option, None}
 use Rattle.cx_client.specs.Machine as client
+use Rattle.cx_client.specs.Regards as client_links
 pub use Rattle.cx_client.specs.Machine.{opening_asker}
 use Rattle.cx_drive.specs.declared.peers.Peers.{Peers}
+use Rattle.cx_links.specs.declared.regard.Regard.{Regard}
 use Rattle.cx_mon.specs.Machine as monitor
+use Rattle.cx_mon.specs.Regards as monitor_links
 use Rattle.cx_rules.specs.Abridged.{abridged_monitor}
 use Rattle.cx_rules_session.specs.Forgets.{abridged_whole_client}
 use Rattle.cx_rules_session.specs.ClientRule.{WholeClientNode, whole_client_rule}
@@ -34,3 +37,10 @@ lost_monitor node input = monitor.lost node input
 
 abbrev pub lost_client : WholeClientNode → Input → WholeClientNode
 lost_client node input = client.lost node input
+
+-- how either regards a link
+abbrev pub regard_monitor : MonitorNode → ℕ → Option Regard
+regard_monitor node link = monitor_links.regard_of node link
+
+abbrev pub regard_client : WholeClientNode → ℕ → Option Regard
+regard_client node link = client_links.regard_of node link

@@ -1,6 +1,6 @@
 -- In which order a node saves and sends.
 use Rattle.std.specs.Prelude.{◌≡◌, Bool, true, false, List, [], ◌∷◌}
-use Rattle.cx_links.specs.Acts.{Listened, Opened, Gave, Broke, Sent, Shut}
+use Rattle.cx_links.specs.Acts.{Listened, Opened, Gave, Broke, Sent, Shut, Regarded}
 use Rattle.cx_site.specs.Acts.{Act, Linked, Read, Rolled, Saved}
 
 -- behind a send no save comes before the next step begins, with its roll
@@ -14,4 +14,5 @@ SavesFirst sent (Linked (Opened at number) ∷ acts) = SavesFirst sent acts
 SavesFirst sent (Linked (Gave event bytes) ∷ acts) = SavesFirst sent acts
 SavesFirst sent (Linked Broke ∷ acts) = SavesFirst sent acts
 SavesFirst sent (Linked (Shut link) ∷ acts) = SavesFirst sent acts
+SavesFirst sent (Linked (Regarded link regard) ∷ acts) = SavesFirst sent acts
 SavesFirst sent (Read reading ∷ acts) = SavesFirst sent acts

@@ -7,8 +7,9 @@ use Rattle.cx_base.specs.declared.addresses.Addr.{Addr}
 use Rattle.cx_drive.specs.declared.dues.Due.{Due}
 use Rattle.cx_drive.specs.declared.dues.Due.TheVariants as due
 use Rattle.cx_drive.specs.declared.peers.Peers.{Peers}
-use Rattle.cx_mon.specs.cx_turns.specs.Events.{losing}
-use Rattle.cx_links.specs.Acts.{Opened, Sent, Shut}
+use Rattle.cx_mon.specs.cx_turns.specs.Events.{link_in, losing}
+use Rattle.cx_links.specs.Acts.{Opened, Sent, Shut, Regarded}
+use Rattle.cx_links.specs.declared.regard.Regard.{Regard}
 use Rattle.cx_rotate.specs.declared.states.KeptState.{KeptState}
 use Rattle.cx_rules.specs.Inputs as input
 use Rattle.cx_rules.specs.Inputs.{Input}
@@ -100,6 +101,24 @@ abbrev pub open_dues : Peers → List Opening → List Due
 open_dues peers [] = []
 open_dues peers (o ∷ os) = open_due (address_of peers o.peer) o ∷ open_dues peers os
 
+-- ---- regards: behind a step it is told how the node regards the links that it was on, where they live
+
+-- the link of its event; where that is about none, those on which the step sends
+abbrev pub step_links : Option ℕ → List Piece → List ℕ
+step_links (Some link) pieces = link ∷ []
+step_links None pieces = map (λ piece. piece.link) pieces
+
+abbrev pub regard_act : ℕ → Option Regard → List Act
+regard_act link None = []
+regard_act link (Some regard) = Linked (Regarded link regard) ∷ []
+
+abbrev pub regard_acts : (ℕ → Option Regard) → List ℕ → List Act
+regard_acts regards [] = []
+regard_acts regards (link ∷ links) = regard_act link (regards link) ++ regard_acts regards links
+
+abbrev pub told_acts : (ℕ → Option Regard) → Input → Effects → List Act
+told_acts regards input out = regard_acts regards (step_links (link_in input) out.sends)
+
 -- ---- all of a step
 
 abbrev pub shut_acts : List ℕ → List Act
@@ -159,7 +178,10 @@ module _ {S : Type 0} (rule : S → Input → ℕ → List ℕ → Outcome S) (l
   abbrev pub went_node : S → Input → Went → S
   went_node node input went = node_behind node input went.reading went.draw went.short
 
-  -- the acts of a step
+module _ {S : Type 0} (rule : S → Input → ℕ → List ℕ → Outcome S) (lost : S → Input → S) (regards : S → ℕ → Option Regard) where
+  -- the acts of a step: last it is told how the node behind it regards the links that it was on
   abbrev pub step_acts : Peers → S → Input → Went → List Act
   step_acts peers node input went =
-      Rolled (Some went.draw) ∷ Read went.reading ∷ carried_acts peers (went_effects node input went) went.sends went.opens
+      Rolled (Some went.draw) ∷ Read went.reading
+      ∷ (carried_acts peers (went_effects rule lost node input went) went.sends went.opens
+      ++ told_acts (regards (went_node rule lost node input went)) input (went_effects rule lost node input went))

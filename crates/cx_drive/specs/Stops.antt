@@ -7,6 +7,7 @@ use Rattle.cx_drive.specs.declared.steps.Stepped.{Stepped}
 use Rattle.cx_drive.specs.declared.stops.Stop.{Stop}
 use Rattle.cx_drive.specs.declared.stops.Stop.TheVariants as stop
 use Rattle.cx_journal.specs.declared.entries.Entry.{Entry}
+use Rattle.cx_links.specs.declared.regard.Regard.{Regard}
 use Rattle.cx_rotate.specs.declared.states.KeptState.{KeptState}
 use Rattle.cx_rules.specs.Inputs.{Input}
 use Rattle.cx_rules.specs.Rows.{Outcome}
@@ -68,21 +69,6 @@ abbrev pub scene : {D S : Type 0} → D → S → List Entry → Scene D S
 scene site node entries = record { site = site; node = node; entries = entries }
 
 module _ {D S : Type 0} (follows : D → D → List Act → Type 0) (rule : S → Input → ℕ → List ℕ → Outcome S) (lost : S → Input → S) where
-  -- a step at this input went so: its acts came, the node is behind it, and its entries were entered
-  pub record StepGoes (peers : Peers) (input : Input) (went : Went) (old new : Scene D S) : Type 0 where
-    pub carried : IsCarried (went_effects rule lost old.node input went) went.sends went.opens
-    pub acts : follows old.site new.site (step_acts rule lost peers old.node input went)
-    pub node : new.node ≡ went_node rule lost old.node input went
-    pub entries : new.entries ≡ old.entries ++ (went_effects rule lost old.node input went).entries
-
-  -- a step was carried out, and what is due of it stands behind what was due before
-  pub record Performed (peers : Peers) (input : Input) (old new : Scene D S) (before behind : List Due) (stepped : Stepped) : Type 0 where
-    pub went : Went
-    pub goes : StepGoes peers input went old new
-    pub short : stepped.short ≡ went.short
-    pub turned : stepped.turned ≡ (went_effects rule lost old.node input went).turned
-    pub dues : behind ≡ before ++ carried_dues peers went.sends went.opens
-
   -- the dice failed: nothing else came, and nothing changed
   pub record FailsToRoll (old new : Scene D S) : Type 0 where
     pub acts : follows old.site new.site (Rolled None ∷ [])
@@ -113,3 +99,19 @@ module _ {D S : Type 0} (follows : D → D → List Act → Type 0) (rule : S �
   Stopped input old new stop.Dice = FailsToRoll old new
   Stopped input old new stop.Keeper = FailsInStep input old new
   Stopped input old new stop.Memory = WantsInStep input old new
+
+module _ {D S : Type 0} (follows : D → D → List Act → Type 0) (rule : S → Input → ℕ → List ℕ → Outcome S) (lost : S → Input → S) (regards : S → ℕ → Option Regard) where
+  -- a step at this input went so: its acts came, the node is behind it, and its entries were entered
+  pub record StepGoes (peers : Peers) (input : Input) (went : Went) (old new : Scene D S) : Type 0 where
+    pub carried : IsCarried (went_effects rule lost old.node input went) went.sends went.opens
+    pub acts : follows old.site new.site (step_acts rule lost regards peers old.node input went)
+    pub node : new.node ≡ went_node rule lost old.node input went
+    pub entries : new.entries ≡ old.entries ++ (went_effects rule lost old.node input went).entries
+
+  -- a step was carried out, and what is due of it stands behind what was due before
+  pub record Performed (peers : Peers) (input : Input) (old new : Scene D S) (before behind : List Due) (stepped : Stepped) : Type 0 where
+    pub went : Went
+    pub goes : StepGoes peers input went old new
+    pub short : stepped.short ≡ went.short
+    pub turned : stepped.turned ≡ (went_effects rule lost old.node input went).turned
+    pub dues : behind ≡ before ++ carried_dues peers went.sends went.opens

@@ -36,7 +36,7 @@ pub fn drive<S: Site, M: Machine>(
     buffer: &mut [u8],
 ) -> Driven
     requires { 0 < length buffer.old }
-    ensures { RanTo S.follows M.rule M.lost M.rests peers.now (scene site.old node.old journal.old) (scene site.new node.new journal.new)
+    ensures { RanTo S.follows M.rule M.lost M.rests M.regards peers.now (scene site.old node.old journal.old) (scene site.new node.new journal.new)
         (opening_agenda orders.now events) result }
 {
     let mut flow = Flow::new(alloc, orders, events);
@@ -57,7 +57,7 @@ fn run<S: Site, M: Machine>(
     buffer: &mut [u8],
 ) -> Ended
     requires { 0 < length buffer.old }
-    ensures { RanOn S.follows M.rule M.lost M.rests peers.now (scene site.old node.old journal.old) (scene site.new node.new journal.new)
+    ensures { RanOn S.follows M.rule M.lost M.rests M.regards peers.now (scene site.old node.old journal.old) (scene site.new node.new journal.new)
         (agenda_of flow.old) (agenda_of flow.new) (Some result) }
 {
     for _ in 0..u64::MAX {
@@ -80,7 +80,7 @@ fn go_on<S: Site, M: Machine>(
     buffer: &mut [u8],
 ) -> Option<Ended>
     requires { 0 < length buffer.old }
-    ensures ran { RanOn S.follows M.rule M.lost M.rests peers.now (scene site.old node.old journal.old) (scene site.new node.new journal.new)
+    ensures ran { RanOn S.follows M.rule M.lost M.rests M.regards peers.now (scene site.old node.old journal.old) (scene site.new node.new journal.new)
         (agenda_of flow.old) (agenda_of flow.new) result }
     ensures room { length buffer.new ≡ length buffer.old }
 {
@@ -104,7 +104,7 @@ fn comes<S: Site, M: Machine>(
     event: Event<'_>,
 ) -> Option<Ended>
     requires { IsWritableInput (input_of event) }
-    ensures { RanOn S.follows M.rule M.lost M.rests peers.now (scene site.old node.old journal.old) (scene site.new node.new journal.new)
+    ensures { RanOn S.follows M.rule M.lost M.rests M.regards peers.now (scene site.old node.old journal.old) (scene site.new node.new journal.new)
         (with_due (input_of event.entry) (agenda_of flow.old)) (agenda_of flow.new) result }
 {
     match step_on(alloc, site, node, peers, journal, flow, event) {
@@ -125,7 +125,7 @@ fn turn<S: Site, M: Machine>(
 ) -> Option<Ended>
     requires due { (agenda_of flow.old).due ≡ [] }
     requires turning { flow.old.turning ≡ Some link }
-    ensures { RanOn S.follows M.rule M.lost M.rests peers.now (scene site.old node.old journal.old) (scene site.new node.new journal.new)
+    ensures { RanOn S.follows M.rule M.lost M.rests M.regards peers.now (scene site.old node.old journal.old) (scene site.new node.new journal.new)
         (agenda_of flow.old) (agenda_of flow.new) result }
 {
     match step_on(alloc, site, node, peers, journal, flow, Event::Turn(link)) {
@@ -148,7 +148,7 @@ fn step_on<S: Site, M: Machine>(
     event: Event<'_>,
 ) -> Result<bool, Stop>
     requires { IsWritableInput (input_of event) }
-    ensures ok { IfOk result (StepsOn S.follows M.rule M.lost M.rests peers.now (input_of event.entry)
+    ensures ok { IfOk result (StepsOn S.follows M.rule M.lost M.rests M.regards peers.now (input_of event.entry)
         (scene site.old node.old journal.old) (scene site.new node.new journal.new) (agenda_of flow.old) (agenda_of flow.new)) }
     ensures err { IfErr result (Stopped S.follows M.rule M.lost (input_of event.entry)
         (scene site.old node.old journal.old) (scene site.new node.new journal.new)) }
@@ -177,7 +177,7 @@ fn wait<S: Site, M: Machine>(
     requires holds { 0 < length buffer.old }
     requires due { (agenda_of flow.old).due ≡ [] }
     requires turning { flow.old.turning ≡ None }
-    ensures ran { RanOn S.follows M.rule M.lost M.rests peers.now (scene site.old node.old journal.old) (scene site.new node.new journal.new)
+    ensures ran { RanOn S.follows M.rule M.lost M.rests M.regards peers.now (scene site.old node.old journal.old) (scene site.new node.new journal.new)
         (agenda_of flow.old) (agenda_of flow.new) result }
     ensures room { length buffer.new ≡ length buffer.old }
 {
@@ -208,7 +208,7 @@ fn happens<S: Site, M: Machine>(
     buffer: &[u8],
 ) -> Option<Ended>
     requires { IsWithin event (length buffer.now) }
-    ensures { RanOn S.follows M.rule M.lost M.rests peers.now (scene site.old node.old journal.old) (scene site.new node.new journal.new)
+    ensures { RanOn S.follows M.rule M.lost M.rests M.regards peers.now (scene site.old node.old journal.old) (scene site.new node.new journal.new)
         (after_came (M.rests node.old) event (came event buffer.now) (agenda_of flow.old)) (agenda_of flow.new) result }
 {
     match event {
@@ -239,7 +239,7 @@ fn bytes_come<S: Site, M: Machine>(
     number: u32,
     bytes: &[u8],
 ) -> Option<Ended>
-    ensures { RanOn S.follows M.rule M.lost M.rests peers.now (scene site.old node.old journal.old) (scene site.new node.new journal.new)
+    ensures { RanOn S.follows M.rule M.lost M.rests M.regards peers.now (scene site.old node.old journal.old) (scene site.new node.new journal.new)
         (with_due (input.Bytes number bytes.now) (record (agenda_of flow.old) { turning = Some number })) (agenda_of flow.new) result }
 {
     flow.turning = Some(number);
@@ -263,7 +263,7 @@ fn quiet<S: Site, M: Machine>(
     journal: &mut Journal,
     flow: &mut Flow<'_>,
 ) -> Option<Ended>
-    ensures { RanOn S.follows M.rule M.lost M.rests peers.now (scene site.old node.old journal.old) (scene site.new node.new journal.new)
+    ensures { RanOn S.follows M.rule M.lost M.rests M.regards peers.now (scene site.old node.old journal.old) (scene site.new node.new journal.new)
         (at_quiet (passed (agenda_of flow.old).gone (agenda_of flow.old).orders) (M.rests node.old) (agenda_of flow.old)) (agenda_of flow.new) result }
 {
     let idle = node.idle();

@@ -9,5 +9,5 @@ use crate::machine::Machine;
 
 /// In each run of a node no save stands behind a send of its step.
 pub fn order_law<M: Machine>()
-    ensures { (peers : Peers) (node : M) (trace : List Taken) → SavesFirst false (acts_from M.rule M.lost peers node trace) }
+    ensures { (peers : Peers) (node : M) (trace : List Taken) → SavesFirst false (acts_from M.rule M.lost M.regards peers node trace) }
 {}

@@ -9,6 +9,7 @@ mod flow;
 mod laws;
 mod machine;
 mod peers;
+mod regarding;
 mod steps;
 mod stops;
 

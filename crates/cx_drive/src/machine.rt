@@ -11,13 +11,15 @@ use cx_base::Reading;
 use cx_client::Client;
 use cx_dice::Draw;
 use cx_laws_saving::saving_laws;
+use cx_links::Regard;
 use cx_mon::Monitor;
 use cx_steps::{Effects, Event};
 use std::alloc::{AllocError, Global};
 
 /// A node that can be driven: each step is one of a rule, on what the node holds.
 pub trait Machine {
-    ghost use Rattle.std.specs.Prelude.{ℕ, Bool, List};
+    ghost use Rattle.std.specs.Prelude.{ℕ, Bool, List, Option};
+    ghost use Rattle.cx_links.specs.declared.regard.Regard.{Regard};
     ghost use Rattle.cx_rules.specs.Inputs.{Input};
     ghost use Rattle.cx_rules.specs.Rows.{Outcome};
 
@@ -29,6 +31,9 @@ pub trait Machine {
 
     // whether it waits for nothing
     ghost rests: { Self → Bool };
+
+    // how it regards a link, where that lives
+    ghost regards: { Self → ℕ → Option Regard };
 
     /// What the node does at an event.
     fn step(
@@ -53,12 +58,17 @@ pub trait Machine {
     /// Whether it waits for nothing.
     fn idle(&self) -> bool
         ensures { result ≡ rests self.now };
+
+    /// How it regards a link, where that lives.
+    fn regard(&self, link: u32) -> Option<Regard>
+        ensures { result ≡ regards self.now link };
 }
 
 impl Machine for Monitor {
     ghost use Rattle.cx_rules.specs.Abridged.{abridged_monitor};
     ghost use Rattle.cx_rules.specs.MonitorRule.{is_idle, monitor_rule};
     ghost use Rattle.cx_mon.specs.Machine as machine;
+    ghost use Rattle.cx_mon.specs.Regards as monitor;
 
     ghost rule = { λ node input reading draw. record {
       state = abridged_monitor (monitor_rule node input reading draw).state;
@@ -68,6 +78,8 @@ impl Machine for Monitor {
     ghost lost = { machine.lost };
 
     ghost rests = { is_idle };
+
+    ghost regards = { monitor.regard_of };
 
     fn step(
         &mut self,
@@ -83,12 +95,17 @@ impl Machine for Monitor {
     fn idle(&self) -> bool {
         self.idle()
     }
+
+    fn regard(&self, link: u32) -> Option<Regard> {
+        self.regard(link)
+    }
 }
 
 impl Machine for Client {
     ghost use Rattle.cx_rules_session.specs.Forgets.{abridged_whole_client};
     ghost use Rattle.cx_rules_session.specs.ClientRule.{is_idle, whole_client_rule};
     ghost use Rattle.cx_client.specs.Machine as machine;
+    ghost use Rattle.cx_client.specs.Regards as client;
 
     ghost rule = { λ node input reading draw. record {
       state = abridged_whole_client (whole_client_rule node input reading draw).state;
@@ -98,6 +115,8 @@ impl Machine for Client {
     ghost lost = { machine.lost };
 
     ghost rests = { is_idle };
+
+    ghost regards = { client.regard_of };
 
     fn step(
         &mut self,
@@ -113,5 +132,9 @@ impl Machine for Client {
 
     fn idle(&self) -> bool {
         self.idle()
+    }
+
+    fn regard(&self, link: u32) -> Option<Regard> {
+        self.regard(link)
     }
 }

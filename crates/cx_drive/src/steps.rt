@@ -11,10 +11,12 @@ use crate::carrying::carry;
 use crate::dues::Due;
 use crate::machine::Machine;
 use crate::peers::Peers;
+use crate::regarding::tell;
 use crate::stops::Stop;
 use cx_base::{Duplicate, Reading};
 use cx_dice::Draw;
 use cx_journal::{Entry, Journal};
+use cx_mon::link_in;
 use cx_site::Site;
 use cx_steps::{Effects, Event};
 use std::alloc::{AllocError, Global};
@@ -27,8 +29,8 @@ pub struct Stepped {
     pub turned: bool,
 }
 
-/// One step of a node: the dice are rolled and the clock is read, the node takes its step, and that is carried out, saved first. What is due
-/// of it stands behind what was due before. A step for which memory was wanting loses its link, and the run may go on. An operation that is to be
+/// One step of a node: the dice are rolled and the clock is read, the node takes its step, and that is carried out, saved first; last it is told how
+/// the node regards the links that it was on. What is due of it stands behind what was due before. A step for which memory was wanting loses its link, and the run may go on. An operation that is to be
 /// sent has to be one that can be written.
 pub fn perform<S: Site, M: Machine>(
     alloc: Global,
@@ -40,7 +42,7 @@ pub fn perform<S: Site, M: Machine>(
     dues: &mut VecDeque<Due>,
 ) -> Result<Stepped, Stop>
     requires { IsWritableInput (input_of event) }
-    ensures ok { IfOk result (Performed S.follows M.rule M.lost peers.now (input_of event.entry)
+    ensures ok { IfOk result (Performed S.follows M.rule M.lost M.regards peers.now (input_of event.entry)
         (scene site.old node.old journal.old) (scene site.new node.new journal.new) dues.old.items dues.new.items) }
     ensures err { IfErr result (Stopped S.follows M.rule M.lost (input_of event.entry)
         (scene site.old node.old journal.old) (scene site.new node.new journal.new)) }
@@ -49,13 +51,17 @@ pub fn perform<S: Site, M: Machine>(
         return Err(Stop::Dice);
     };
     let now = site.read();
+    let link = link_in(&event);
     let mut out = Effects::new(alloc);
     let short = take_step(alloc, node, event, now, &draw, &mut out);
     match settle(alloc, site, peers, journal, &out, dues) {
-        Ok(()) => Ok(Stepped {
-            short,
-            turned: out.turned,
-        }),
+        Ok(()) => {
+            tell(site, node, link, out.sends.all());
+            Ok(Stepped {
+                short,
+                turned: out.turned,
+            })
+        }
         Err(stop) => Err(stop),
     }
 }

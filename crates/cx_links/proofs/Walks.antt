@@ -4,7 +4,7 @@ use Rattle.std.specs.Prelude.{◌==◌, if◌then◌else◌, Some, None}
 use Rattle.std.specs.List.{flat_map}
 use Rattle.std.specs.Option.{option_to_list}
 use Rattle.cx_links.proofs.Living.{none_less}
-use Rattle.cx_links.specs.Acts.{LinkAct, Listened, Opened, Gave, Broke, Sent, Shut}
+use Rattle.cx_links.specs.Acts.{LinkAct, Listened, Opened, Gave, Broke, Sent, Shut, Regarded}
 use Rattle.cx_links.specs.Events.{came, new_link}
 use Rattle.cx_links.specs.Laws.{begun_by, come_by, living_after, numbers_from, sent_by, AreOnLiving, IsActOnLiving}
 use Rattle.cx_links.specs.Living.{lives, living_behind, without, IsOnLiving}
@@ -38,6 +38,7 @@ taken_act s t Broke leads = let e = leads.1 in search rules
 taken_act s t (Sent link bytes true) leads = let e = leads.1 in let ok = leads.0 in search rules
 taken_act s t (Sent link bytes false) leads = let e = leads.1 in let ok = leads.0 in search rules
 taken_act s t (Shut link) leads = search (rules, leads)
+taken_act s t (Regarded link regard) leads = ap (λ k. k.taken) leads ∙ sym (append-nil s.taken)
 
 room_act : (s t : Scripted) (act : LinkAct) → Leads s act t → length (sent_by act) + t.room ≡ s.room
 room_act s t (Listened at ok) leads = let e = leads.1 in search rules
@@ -47,6 +48,7 @@ room_act s t Broke leads = let e = leads.1 in search rules
 room_act s t (Sent link bytes true) leads = let e = leads.1 in let ok = leads.0 in search rules
 room_act s t (Sent link bytes false) leads = let e = leads.1 in let ok = leads.0 in search rules
 room_act s t (Shut link) leads = search (rules, leads)
+room_act s t (Regarded link regard) leads = zero-add t.room ∙ ap (λ k. k.room) leads
 
 pub taken_path : (s t : Scripted) (acts : List LinkAct) → Path s acts t
     → (t.taken ≡ s.taken ++ flat_map sent_by acts) × (length (flat_map sent_by acts) + t.room ≡ s.room)
@@ -81,6 +83,7 @@ bytes_act s t (Gave event bytes) (well, room, some, is, with', e) =
 bytes_act s t Broke leads = let e = leads.1 in search rules
 bytes_act s t (Sent link bytes ok) leads = let e = leads.1 in search rules
 bytes_act s t (Shut link) leads = search (rules, leads)
+bytes_act s t (Regarded link regard) leads = ap (λ k. k.bytes) leads
 
 pub bytes_path : (s t : Scripted) (acts : List LinkAct) → Path s acts t → s.bytes ≡ flat_map come_by acts ++ t.bytes
 bytes_path s t [] p = sym (ap (λ k. k.bytes) p)
@@ -132,6 +135,7 @@ number_act s t (Gave event bytes) (well, room, some, is, with', e) = rw (e, is) 
 number_act s t Broke leads = let e = leads.1 in none_begun s.links t.links (search rules)
 number_act s t (Sent link bytes ok) leads = let e = leads.1 in none_begun s.links t.links (search rules)
 number_act s t (Shut link) leads = none_begun s.links t.links (search (rules, leads))
+number_act s t (Regarded link regard) leads = none_begun s.links t.links (ap (λ k. k.links) leads)
 
 pub number_path : (s t : Scripted) (acts : List LinkAct) → Path s acts t → Numbers s.links t.links (flat_map begun_by acts)
 number_path s t [] p = none_begun s.links t.links (ap (λ k. k.links) p)
@@ -180,6 +184,7 @@ living_act s t (Shut link) leads = rw leads (tt, shut (lives link s.living) refl
   shut : (b : Bool) → lives link s.living ≡ b → (if b then record s { calls = s.calls ++ call.Shut link ∷ []; living = without link s.living } else s).living ≡ without link s.living
   shut true is = refl
   shut false is = sym (none_less link s.living is)
+living_act s t (Regarded link regard) leads = (tt, ap (λ k. k.living) leads)
 
 pub living_path : (s t : Scripted) (acts : List LinkAct) → Path s acts t → AreOnLiving s.living acts
 living_path s t [] p = tt

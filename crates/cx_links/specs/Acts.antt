@@ -2,6 +2,7 @@
 use Rattle.std.specs.Prelude.{ℕ, Bool, List, Option}
 use Rattle.cx_base.specs.declared.addresses.Addr.{Addr}
 use Rattle.cx_links.specs.declared.events.LinkEvent.{LinkEvent}
+use Rattle.cx_links.specs.declared.regard.Regard.{Regard}
 
 pub data LinkAct : Type 0 where
   -- it listened at an address, or failed to
@@ -16,3 +17,5 @@ pub data LinkAct : Type 0 where
   Sent : ℕ → List ℕ → Bool → LinkAct
   -- it shut a link
   Shut : ℕ → LinkAct
+  -- it told how it regards a link
+  Regarded : ℕ → Regard → LinkAct

@@ -2,7 +2,7 @@
 use Rattle.std.specs.Prelude.{ℕ, zero, suc, ◌≡◌, ◌≤◌, true, false, List, [], ◌∷◌, ◌++◌, length}
 use Rattle.std.specs.List.{flat_map}
 use Rattle.std.specs.Option.{option_to_list}
-use Rattle.cx_links.specs.Acts.{LinkAct, Listened, Opened, Gave, Broke, Sent, Shut}
+use Rattle.cx_links.specs.Acts.{LinkAct, Listened, Opened, Gave, Broke, Sent, Shut, Regarded}
 use Rattle.cx_links.specs.Events.{new_link}
 use Rattle.cx_links.specs.Living.{IsOnLiving, living_behind, without}
 use Rattle.cx_links.specs.Paths.{Path}
@@ -17,6 +17,7 @@ begun_by (Gave event bytes) = new_link event
 begun_by Broke = []
 begun_by (Sent link bytes ok) = []
 begun_by (Shut link) = []
+begun_by (Regarded link regard) = []
 
 -- so many numbers in order
 abbrev pub numbers_from : ℕ → ℕ → List ℕ
@@ -36,6 +37,7 @@ come_by (Gave event bytes) = bytes
 come_by Broke = []
 come_by (Sent link bytes ok) = []
 come_by (Shut link) = []
+come_by (Regarded link regard) = []
 
 -- the bytes that came are the first ones, and the others are left
 abbrev pub ComeInOrder : Type 0
@@ -51,6 +53,7 @@ sent_by Broke = []
 sent_by (Sent link bytes true) = bytes
 sent_by (Sent link bytes false) = []
 sent_by (Shut link) = []
+sent_by (Regarded link regard) = []
 
 -- what was sent was taken, in order, and was no more than there was room for
 abbrev pub AreTaken : Type 0
@@ -65,6 +68,7 @@ living_after (Gave event bytes) living = living_behind event living
 living_after Broke living = living
 living_after (Sent link bytes ok) living = living
 living_after (Shut link) living = without link living
+living_after (Regarded link regard) living = living
 
 -- what comes, comes on links that live: they began, and weren't gone or shut since
 abbrev pub IsActOnLiving : LinkAct → List ℕ → Type 0
@@ -74,6 +78,7 @@ IsActOnLiving (Gave event bytes) living = IsOnLiving event living
 IsActOnLiving Broke living = Unit {0}
 IsActOnLiving (Sent link bytes ok) living = Unit {0}
 IsActOnLiving (Shut link) living = Unit {0}
+IsActOnLiving (Regarded link regard) living = Unit {0}
 
 abbrev pub AreOnLiving : List ℕ → List LinkAct → Type 0
 AreOnLiving living [] = Unit {0}

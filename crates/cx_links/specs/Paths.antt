@@ -1,7 +1,7 @@
 -- The paths of links in memory: what they do, act by act.
 use Rattle.std.specs.Prelude.{ℕ, ◌≡◌, ◌<◌, true, false, List, [], ◌∷◌, ◌++◌, length}
 use Rattle.std.proofs.Common.{subst}
-use Rattle.cx_links.specs.Acts.{LinkAct, Listened, Opened, Gave, Broke, Sent, Shut}
+use Rattle.cx_links.specs.Acts.{LinkAct, Listened, Opened, Gave, Broke, Sent, Shut, Regarded}
 use Rattle.cx_links.specs.Events.{came}
 use Rattle.cx_links.specs.Scripts.{Scripted, after_fault, after_listen, after_next, after_open, after_send, after_shut, event_next, fails_next, number_next, takes_next}
 
@@ -13,6 +13,8 @@ Leads s (Gave event bytes) t = (fails_next s ≡ false) × (room : ℕ) × (0 < 
 Leads s Broke t = (fails_next s ≡ true) × (t ≡ after_fault s)
 Leads s (Sent link bytes ok) t = (ok ≡ takes_next s (length bytes)) × (t ≡ after_send link bytes s)
 Leads s (Shut link) t = t ≡ after_shut link s
+-- how a link is regarded changes nothing of what comes and nothing of what is kept
+Leads s (Regarded link regard) t = t ≡ s
 
 -- the acts lead from one moment to the other, one behind the other
 abbrev pub Path : Scripted → List LinkAct → Scripted → Type 0

@@ -3,10 +3,11 @@
 ghost use Rattle.std.specs.Prelude.{ℕ, ◌≡◌, ◌<◌, List, [], ◌∷◌, ◌++◌, length, IfOk, MatchResult, is_ok};
 ghost use Rattle.std.specs.Result.{result_ok};
 ghost use Rattle.cx_base.specs.Streams.{Counts};
-ghost use Rattle.cx_links.specs.Acts.{LinkAct, Listened, Opened, Gave, Broke, Sent, Shut};
+ghost use Rattle.cx_links.specs.Acts.{LinkAct, Listened, Opened, Gave, Broke, Sent, Shut, Regarded};
 ghost use Rattle.cx_links.specs.Events.{IsWithin, came};
 
 use crate::events::LinkEvent;
+use crate::regard::Regard;
 use cx_base::{Addr, Failed};
 
 /// Links to other nodes. `follows`: between the one moment and the other just these acts came, in their order. `faults` counts
@@ -55,6 +56,12 @@ pub trait Links {
     /// Shuts a link.
     fn shut(&mut self, link: u32)
         ensures did { follows self.old self.new (Shut link ∷ []) }
+        ensures cause { faults self.new ≡ faults self.old }
+        ensures other { misses self.new ≡ misses self.old };
+
+    /// Tells how the node regards a link, which may decide how long it stays. That it is gone comes as any end of a link.
+    fn regard(&mut self, link: u32, regard: Regard)
+        ensures did { follows self.old self.new (Regarded link regard ∷ []) }
         ensures cause { faults self.new ≡ faults self.old }
         ensures other { misses self.new ≡ misses self.old };
 }

@@ -4,7 +4,7 @@ ghost use Rattle.std.specs.Prelude.{◌≡◌, ◌+◌, ◌^◌, ◌<◌, ◌≤
 ghost use Rattle.std.specs.Result.{result_ok};
 ghost use Rattle.std.specs.VecDeque.{deque_len, deque_capacity};
 ghost use Rattle.cx_base.specs.Streams.{Counts, is_listed};
-ghost use Rattle.cx_links.specs.Acts.{Listened, Opened, Gave, Broke, Sent, Shut};
+ghost use Rattle.cx_links.specs.Acts.{Listened, Opened, Gave, Broke, Sent, Shut, Regarded};
 ghost use Rattle.cx_links.specs.Events.{IsWithin, came};
 ghost use Rattle.cx_links.specs.Living.{lives, without};
 ghost use Rattle.cx_links.specs.Paths.{Path};
@@ -12,6 +12,7 @@ ghost use Rattle.cx_links.specs.Scripts.{after_fault, after_listen, after_next, 
 
 use crate::events::{LinkCall, LinkEvent};
 use crate::links::Links;
+use crate::regard::Regard;
 use cx_base::{Addr, Blob, Failed, Items};
 use std::alloc::{AllocError, Global};
 use std::collections::VecDeque;
@@ -304,6 +305,14 @@ impl Links for ScriptLinks {
             self.calls.push_reserved(LinkCall::Shut(link));
         }
     }
+
+    /// Changes nothing of what comes and nothing of what is kept.
+    fn regard(&mut self, link: u32, regard: Regard)
+        ensures did { Path self.old (Regarded link regard ∷ []) self.new }
+        ensures cause { self.new.faults ≡ self.old.faults }
+        ensures other { self.new.misses ≡ self.old.misses }
+        ensures state { self.new ≡ self.old }
+    {}
 }
 
 fn is_listed(fails: &[u8], call: u64) -> bool

@@ -1,2 +1,4 @@
 pub mod Kept
+pub mod Regarding
+pub mod Standing
 pub mod Steps

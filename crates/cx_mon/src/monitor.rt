@@ -8,12 +8,15 @@ ghost use Rattle.cx_rules.specs.Monitor.{MonitorNode};
 ghost use Rattle.cx_rules.specs.MonitorRule.{is_idle, monitor_rule, opening_monitor, unsaved};
 ghost use Rattle.cx_turns.specs.Events.{losing};
 ghost use Rattle.cx_mon.specs.Machine.{lost};
+ghost use Rattle.cx_mon.specs.Regards.{regard_of};
 
 use crate::events::steps;
+use crate::regards::regard_at;
 use cx_acceptor::{Link, Own};
 use cx_base::{Addr, Reading};
 use cx_dice::Draw;
 use cx_keyserver::KeyServer;
+use cx_links::Regard;
 use cx_node::{Links, loses};
 use cx_rules::forgetting_laws;
 use cx_steps::{Effects, Event};
@@ -78,6 +81,7 @@ impl Monitor {
         // Where memory is wanting, the event's link is forgotten, and nothing else happens.
         ensures losing { OnErr result (out.new ≡ losing (input_of event.entry)) }
         ensures lost { OnErr result (self.new ≡ lost self.old (input_of event.entry)) }
+        ensures lost_stands { (s : MonitorNode) → MonitorStandsFor self.old s → OnErr result (MonitorStandsFor self.new (lost s (input_of event.entry))) }
     {
         forgetting_laws();
         self.take_step(alloc, event, now, draw, out)
@@ -128,5 +132,22 @@ impl Monitor {
         ensures { result ≡ is_idle self.now }
     {
         true
+    }
+
+    /// How it regards a link, where that lives: its peer is a stranger until the monitor found its signature right. It awaits nothing of a peer.
+    pub fn regard(&self, link: u32) -> Option<Regard>
+        ensures value { result ≡ regard_of self.now link }
+        ensures stands { (s : MonitorNode) → MonitorStandsFor self.now s → result ≡ regard_of s link }
+    {
+        self.regarded(link)
+    }
+
+    fn regarded(&self, number: u32) -> Option<Regard>
+        ensures { result ≡ regard_of self.now number }
+    {
+        match self.links.get(number) {
+            Some(link) => Some(regard_at(link)),
+            None => None,
+        }
     }
 }

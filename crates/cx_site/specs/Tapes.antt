@@ -1,7 +1,7 @@
 -- What a tape keeps of acts.
 use Rattle.std.specs.Prelude.{◌≡◌, Bool, false, List, [], ◌∷◌, ◌++◌, map, length}
 use Rattle.std.proofs.Common.{refl, ap, sym, ◌∙◌, append_assoc, append-nil}
-use Rattle.cx_links.specs.Acts.{Listened, Opened, Gave, Broke, Sent, Shut}
+use Rattle.cx_links.specs.Acts.{Listened, Opened, Gave, Broke, Sent, Shut, Regarded}
 use Rattle.cx_site.specs.Acts.{Act, Linked, Read, Rolled, Saved}
 use Rattle.cx_site.specs.Telling.{is_there}
 use Rattle.cx_site.specs.declared.taped.Did.{Did}
@@ -15,6 +15,7 @@ did_of (Linked (Gave event bytes)) = did.Came event
 did_of (Linked Broke) = did.Broke
 did_of (Linked (Sent link bytes ok)) = did.Sent link (length bytes) ok
 did_of (Linked (Shut link)) = did.Shut link
+did_of (Linked (Regarded link regard)) = did.Regarded link regard
 did_of (Read reading) = did.Read reading
 did_of (Rolled draw) = did.Rolled (is_there draw)
 did_of (Saved state ok) = did.Saved ok

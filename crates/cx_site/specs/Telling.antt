@@ -8,7 +8,7 @@ use Rattle.cx_keep.specs.Formats.{SpellsState, state_text}
 use Rattle.cx_keep.specs.Slots.{Kept, Saves, SavesOrNot}
 use Rattle.cx_keep.specs.declared.keeper.Slot.TheVariants.{State}
 use Rattle.cx_rotate.specs.declared.states.KeptState.{KeptState}
-use Rattle.cx_links.specs.Acts.{LinkAct, Listened, Opened, Gave, Broke, Sent, Shut}
+use Rattle.cx_links.specs.Acts.{LinkAct, Listened, Opened, Gave, Broke, Sent, Shut, Regarded}
 use Rattle.cx_site.specs.Acts.{Act, Linked, Read, Rolled, Saved}
 
 -- ---- acts that lead on, one behind the other
@@ -101,6 +101,7 @@ CountsWaits old (Linked (Opened to number)) new = new ≡ old
 CountsWaits old (Linked (Gave event bytes)) new = new ≡ old
 CountsWaits old (Linked (Sent link bytes ok)) new = new ≡ old
 CountsWaits old (Linked (Shut link)) new = new ≡ old
+CountsWaits old (Linked (Regarded link regard)) new = new ≡ old
 CountsWaits old (Read reading) new = new ≡ old
 CountsWaits old (Rolled draw) new = new ≡ old
 CountsWaits old (Saved state ok) new = new ≡ old
@@ -113,6 +114,7 @@ CountsMisses old (Linked (Listened at ok)) new = new ≡ old
 CountsMisses old (Linked Broke) new = new ≡ old
 CountsMisses old (Linked (Gave event bytes)) new = new ≡ old
 CountsMisses old (Linked (Shut link)) new = new ≡ old
+CountsMisses old (Linked (Regarded link regard)) new = new ≡ old
 CountsMisses old (Read reading) new = new ≡ old
 CountsMisses old (Rolled draw) new = new ≡ old
 CountsMisses old (Saved state ok) new = new ≡ old

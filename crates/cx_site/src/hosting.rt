@@ -5,7 +5,7 @@ use cx_base::{Addr, Failed, Reading};
 use cx_clock::Clock;
 use cx_dice::{Dice, Draw};
 use cx_keep::{CommitRefusal, Keeper, commit};
-use cx_links::{LinkEvent, Links};
+use cx_links::{LinkEvent, Links, Regard};
 use cx_rotate::KeptState;
 use std::alloc::Global;
 
@@ -86,5 +86,9 @@ impl<'k, 'l, 'c, 'd, K: Keeper, L: Links, C: Clock, D: Dice> Site
 
     fn shut(&mut self, link: u32) {
         self.links.shut(link)
+    }
+
+    fn regard(&mut self, link: u32, regard: Regard) {
+        self.links.regard(link, regard)
     }
 }

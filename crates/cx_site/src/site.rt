@@ -3,7 +3,7 @@
 ghost use Rattle.std.specs.Prelude.{◌≡◌, ◌<◌, [], ◌∷◌, length, IfOk, MatchResult, is_ok};
 ghost use Rattle.std.specs.Option.{option_map};
 ghost use Rattle.std.specs.Result.{result_ok};
-ghost use Rattle.cx_links.specs.Acts.{Opened, Gave, Broke, Sent, Shut};
+ghost use Rattle.cx_links.specs.Acts.{Opened, Gave, Broke, Sent, Shut, Regarded};
 ghost use Rattle.cx_links.specs.Events.{IsWithin, came};
 ghost use Rattle.cx_rotate.specs.Keeping.{IsKeptState};
 ghost use Rattle.cx_site.specs.Acts.{Linked, Read, Rolled, saving};
@@ -11,7 +11,7 @@ ghost use Rattle.cx_site.specs.Acts.{Linked, Read, Rolled, saving};
 use cx_base::{Addr, Failed, Reading};
 use cx_dice::Draw;
 use cx_keep::CommitRefusal;
-use cx_links::LinkEvent;
+use cx_links::{LinkEvent, Regard};
 use cx_rotate::KeptState;
 use std::alloc::Global;
 
@@ -59,4 +59,8 @@ pub trait Site {
     /// Shuts a link.
     fn shut(&mut self, link: u32)
         ensures did { follows self.old self.new (Linked (Shut link) ∷ []) };
+
+    /// Tells how the node regards a link.
+    fn regard(&mut self, link: u32, regard: Regard)
+        ensures did { follows self.old self.new (Linked (Regarded link regard) ∷ []) };
 }

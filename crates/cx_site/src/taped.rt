@@ -7,7 +7,7 @@ use crate::site::Site;
 use cx_base::{Addr, Failed, Reading};
 use cx_dice::Draw;
 use cx_keep::CommitRefusal;
-use cx_links::LinkEvent;
+use cx_links::{LinkEvent, Regard};
 use cx_rotate::KeptState;
 use std::alloc::{AllocError, Global};
 
@@ -32,6 +32,8 @@ pub enum Did {
     Opened(Option<u32>),
     /// A link was shut.
     Shut(u32),
+    /// It was told how a link is regarded.
+    Regarded(u32, Regard),
 }
 
 /// A site with a tape, which keeps one after the other what is done at the site. Where the tape is full, it tells nothing.
@@ -173,5 +175,10 @@ impl<S: Site> Site for Taped<S> {
     fn shut(&mut self, link: u32) {
         self.site.shut(link);
         self.note(Did::Shut(link));
+    }
+
+    fn regard(&mut self, link: u32, regard: Regard) {
+        self.site.regard(link, regard);
+        self.note(Did::Regarded(link, regard));
     }
 }

@@ -11,7 +11,7 @@ use mio::net::{TcpListener, TcpStream};
 use mio::{Interest, Token};
 use std::io;
 use std::io::{Eprint, ErrorKind};
-use std::net::Net;
+use std::net::{IpAddr, Net};
 use std::random::RandomSource;
 use std::time::{Clock, Instant};
 
@@ -21,8 +21,19 @@ const CROWD: usize = 1_024;
 // How many places are left to links that the node opens.
 const OWN: usize = 16;
 
+// How many newcomers are turned away at one look.
+const TURNED_AWAY: usize = 64;
+
 // What the system answers where the process has opened as many files as it may.
 const TOO_MANY_FILES: i32 = 24;
+
+// Who goes for a newcomer: a stranger at a place, the newcomer itself, or nobody.
+#[derive(Clone, Copy)]
+enum Displaced {
+    Stranger(usize),
+    Newcomer,
+    Nobody,
+}
 
 impl<R: Net + Eprint + Clock + RandomSource + Drop> Table<R> {
     pub fn listen(&mut self, at: &Addr) -> io::Result<()> {
@@ -37,25 +48,33 @@ impl<R: Net + Eprint + Clock + RandomSource + Drop> Table<R> {
         Ok(())
     }
 
-    /// A link that a peer opened. Where many stand, the stranger that stands longest goes first, and the newcomer is taken behind that.
-    /// A peer that is gone again, or for which the system has no room now, is no fault.
+    /// A link that a peer opened. Where many stand, a stranger goes first, and the newcomer is taken behind that. A peer that is gone
+    /// again, or for which the system has no room now, is no fault.
     pub fn accept(&mut self, now: Instant) -> Option<LinkEvent>
         ensures { IfSome result (λ event. (room : ℕ) → IsWithin event room) }
     {
-        if self.newcomer.is_none() && !self.meets() {
-            return None;
-        }
-        let is_full = self.is_full();
-        if is_full || self.count() >= CROWD {
-            if let Some(place) = self.oldest_stranger() {
-                return self.close(place, now);
+        for _ in 0..TURNED_AWAY {
+            if self.newcomer.is_none() && !self.meets() {
+                return None;
+            }
+            match self.displaced(now) {
+                Displaced::Stranger(place) => return self.close(place, now),
+                Displaced::Newcomer => self.newcomer = None,
+                Displaced::Nobody => return self.let_in(now),
             }
         }
-        if is_full {
+        None
+    }
+
+    // The newcomer's link, if there is a place for it.
+    fn let_in(&mut self, now: Instant) -> Option<LinkEvent>
+        ensures { IfSome result (λ event. (room : ℕ) → IsWithin event room) }
+    {
+        if self.is_full() {
             return None;
         }
-        let stream = self.newcomer.take()?;
-        match self.take_in(stream, now) {
+        let (stream, peer) = self.newcomer.take()?;
+        match self.take_in(stream, peer, now) {
             Ok(number) => Some(LinkEvent::Opened(number)),
             Err(error) => {
                 self.drops(&error);
@@ -71,7 +90,7 @@ impl<R: Net + Eprint + Clock + RandomSource + Drop> Table<R> {
         }
         if self.is_full() {
             self.tell_limit();
-            if self.oldest_stranger().is_none() {
+            if self.oldest_stranger(None).is_none() {
                 return false;
             }
         }
@@ -79,7 +98,7 @@ impl<R: Net + Eprint + Clock + RandomSource + Drop> Table<R> {
             return false;
         };
         match listener.accept() {
-            Ok((stream, _)) => self.newcomer = Some(stream),
+            Ok((stream, peer)) => self.newcomer = Some((stream, peer.ip())),
             Err(error) => self.meets_none(&error),
         }
         self.newcomer.is_some()
@@ -111,13 +130,33 @@ impl<R: Net + Eprint + Clock + RandomSource + Drop> Table<R> {
         self.count().saturating_add(OWN) >= self.most
     }
 
-    // The place of the stranger that was accepted first of all that stand.
-    fn oldest_stranger(&self) -> Option<usize> {
+    // Who goes for the newcomer, where many stand: the stranger that stands longest, at most once in 50 ms for newcomers of one address;
+    // in between the one of its own address that does, or, where none stands, the newcomer.
+    fn displaced(&mut self, now: Instant) -> Displaced {
+        if !self.is_full() && self.count() < CROWD {
+            return Displaced::Nobody;
+        }
+        let (Some((_, peer)), Some(oldest)) = (&self.newcomer, self.oldest_stranger(None)) else {
+            return Displaced::Nobody;
+        };
+        let peer = *peer;
+        if self.displacing.takes(peer, now) {
+            return Displaced::Stranger(oldest);
+        }
+        match self.oldest_stranger(Some(peer)) {
+            Some(own) => Displaced::Stranger(own),
+            None => Displaced::Newcomer,
+        }
+    }
+
+    // The place of the stranger that was accepted first of all that stand, or of those of one address.
+    fn oldest_stranger(&self, of: Option<IpAddr>) -> Option<usize> {
         let mut oldest: Option<(usize, Instant)> = None;
         for (place, slot) in self.places.iter().enumerate() {
             if let Some(socket) = slot {
                 let is_older = oldest.is_none_or(|(_, since)| socket.since < since);
-                if socket.is_stranger() && is_older {
+                let is_theirs = of.is_none() || socket.peer == of;
+                if socket.is_stranger() && is_theirs && is_older {
                     oldest = Some((place, socket.since));
                 }
             }
@@ -126,12 +165,12 @@ impl<R: Net + Eprint + Clock + RandomSource + Drop> Table<R> {
     }
 
     // Puts the link of a peer into a free place.
-    fn take_in(&mut self, mut stream: TcpStream, now: Instant) -> io::Result<u32> {
+    fn take_in(&mut self, mut stream: TcpStream, peer: IpAddr, now: Instant) -> io::Result<u32> {
         let (place, number) = self.free_place()?;
         self.register(&mut stream, place)?;
         self.put(
             place,
-            crate::socket::Socket::accepted(self.alloc, stream, number, now),
+            crate::socket::Socket::accepted(self.alloc, stream, number, peer, now),
         )
     }
 }

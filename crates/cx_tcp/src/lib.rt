@@ -5,6 +5,7 @@ mod arrivals;
 mod clock;
 mod dials;
 mod dice;
+mod displacing;
 mod folder;
 mod limits;
 mod links;

@@ -5,7 +5,7 @@ ghost use Rattle.cx_base.specs.Streams.{Rose};
 
 use crate::table::Table;
 use cx_base::{Addr, Failed};
-use cx_links::{LinkEvent, Links};
+use cx_links::{LinkEvent, Links, Regard};
 use std::alloc::{AllocError, Global};
 use std::io;
 use std::io::Eprint;
@@ -17,10 +17,11 @@ use std::time::Clock;
 /// where the node listens nowhere, of 1 ms at first, doubled up to 50. Links are served in turn.
 ///
 /// A dial to an address to which the last one failed waits: the link is opened at once and takes what is sent, the connect is made
-/// when it is due, and where it fails the link is gone. A peer that was accepted and sent no whole banner for 10 s is gone; where
-/// 1,024 links stand, or all places are taken, the one that stands longest goes for a newcomer. So does one for which more than
-/// 4 MiB wait, and, where more than 256 MiB wait in all, that for which the most do. A link that is shut still sends what waits, for
-/// at most 2 s. While all places are taken nothing is accepted, and peers wait with the system. What the system refuses is printed on
+/// when it is due, and where it fails the link is gone. A stranger is gone 10 s after it was accepted; where 1,024 links stand, or all
+/// places are taken, the one that stands longest goes for a newcomer, at most once in 50 ms for those of one address, and else one of
+/// theirs. A link on which nothing came for 30 s while the node awaits an answer there is gone; one that is known never is for its
+/// time. So does one for which more than 4 MiB wait, and, where more than 256 MiB wait in all, that for which the most do. A link that
+/// is shut still sends what waits, for at most 2 s. While all places are taken nothing is accepted, and peers wait with the system. What the system refuses is printed on
 /// standard error, and at which address the node listens.
 #[derive(Drop)]
 pub struct TcpLinks<R> {
@@ -105,5 +106,9 @@ impl<R: Net + Eprint + Clock + RandomSource + Drop> Links for TcpLinks<R> {
 
     fn shut(&mut self, link: u32) {
         self.table.shut(link);
+    }
+
+    fn regard(&mut self, link: u32, regard: Regard) {
+        self.table.regard(link, regard);
     }
 }

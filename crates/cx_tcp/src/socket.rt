@@ -5,34 +5,34 @@ ghost use Rattle.cx_tcp.specs.Serving.{IsServedWithin};
 
 use bytes::{Buf, BytesMut};
 use cx_base::Addr;
+use cx_links::Regard;
 use mio::event::Event;
 use mio::net::TcpStream;
 use std::alloc::{AllocError, Global};
 use std::io;
 use std::io::{ErrorKind, Read, Write};
-use std::net::Shutdown;
+use std::net::{IpAddr, Shutdown};
 use std::time::{Duration, Instant};
 
 // The most bytes that wait for a peer that doesn't read.
 const MOST: usize = 4 << 20;
 
-// How many bytes a banner has. A peer of which fewer came is a stranger.
-const BANNER: usize = 26;
-
-// How many seconds a stranger may stay after it was accepted, how many a connect may take, and how many the end of a link.
+// How many seconds a stranger may stay after it was accepted, how many nothing may come where the node awaits an answer, how many a
+// connect may take, and how many the end of a link.
 const STRANGE: u64 = 10;
+
+const AWAITING: u64 = 30;
 
 const CONNECTING: u64 = 30;
 
 const CLOSING: u64 = 2;
 
-/// How far a link is: its dial still waits; the system hasn't said yet whether its connect goes well; it was accepted, and no whole
-/// banner came yet; it is open; the node shut it; it was given up, which the node hasn't heard yet.
+/// How far a link is: its dial still waits; the system hasn't said yet whether its connect goes well; it is open; the node shut it;
+/// it was given up, which the node hasn't heard yet.
 #[derive(Clone, Copy, PartialEq, Eq)]
 pub enum Stage {
     Waiting,
     Connecting,
-    Strange,
     Open,
     Closing,
     Lost,
@@ -60,17 +60,21 @@ impl From<AllocError> for Unsent {
     }
 }
 
-/// A link: its stream, which one whose dial waits hasn't yet, its number, the address to which the node opened it, how far it is
-/// and since when (of a dial that waits: until when), how many bytes came, whether the system told that it may be read or
-/// written, and what waits to be sent.
+/// A link: its stream, which one whose dial waits hasn't yet, its number, the address to which the node opened it, or that of the peer
+/// which did, how far it is and since when (of a dial that waits: until when), how the node regards it, since when nothing came (or
+/// nothing was awaited), whether anything ever came, whether the system told that it may be read or written, and what waits to be
+/// sent.
 #[derive(Drop)]
 pub struct Socket {
     stream: Option<TcpStream>,
     pub number: u32,
-    pub to: Option<Addr>,
+    to: Option<Addr>,
+    pub peer: Option<IpAddr>,
     stage: Stage,
     pub since: Instant,
-    heard: usize,
+    regard: Regard,
+    silent: Instant,
+    is_heard: bool,
     may_read: bool,
     may_write: bool,
     waiting: BytesMut,
@@ -78,8 +82,17 @@ pub struct Socket {
 
 impl Socket {
     /// A link that a peer opened.
-    pub fn accepted(alloc: Global, stream: TcpStream, number: u32, now: Instant) -> Socket {
-        Socket::new(alloc, Some(stream), number, None, Stage::Strange, now)
+    pub fn accepted(
+        alloc: Global,
+        stream: TcpStream,
+        number: u32,
+        peer: IpAddr,
+        now: Instant,
+    ) -> Socket {
+        let mut socket = Socket::new(alloc, Some(stream), number, None, Stage::Open, now);
+        socket.peer = Some(peer);
+        socket.regard = Regard::Stranger;
+        socket
     }
 
     /// A link that the node opens, of which the connect is under way.
@@ -117,9 +130,12 @@ impl Socket {
             stream,
             number,
             to,
+            peer: None,
             stage,
             since,
-            heard: 0,
+            regard: Regard::Awaited,
+            silent: since,
+            is_heard: false,
             may_read: false,
             may_write: false,
             waiting: BytesMut::new(alloc),
@@ -131,6 +147,7 @@ impl Socket {
         self.stream = Some(stream);
         self.stage = Stage::Connecting;
         self.since = now;
+        self.silent = now;
     }
 
     /// Where it is to be dialled now: to which address.
@@ -144,12 +161,20 @@ impl Socket {
 
     /// The address to which the node opened it, where no byte came from there.
     pub fn unanswered(&self) -> Option<Addr> {
-        if self.heard == 0 { self.to } else { None }
+        if self.is_heard { None } else { self.to }
     }
 
-    /// Whether a peer opened it and no whole banner came yet.
+    /// The node regards it so from now on. An answer that is awaited already is awaited since then.
+    pub fn regards(&mut self, regard: Regard, now: Instant) {
+        if regard == Regard::Awaited && self.regard != Regard::Awaited {
+            self.silent = now;
+        }
+        self.regard = regard;
+    }
+
+    /// Whether a peer opened it that hasn't proved itself.
     pub fn is_stranger(&self) -> bool {
-        self.stage == Stage::Strange
+        self.stage == Stage::Open && self.regard == Regard::Stranger
     }
 
     pub fn is_closing(&self) -> bool {
@@ -157,7 +182,7 @@ impl Socket {
     }
 
     pub fn is_connected(&self) -> bool {
-        matches!(self.stage, Stage::Strange | Stage::Open | Stage::Closing)
+        matches!(self.stage, Stage::Open | Stage::Closing)
     }
 
     /// Whether bytes wait to be sent.
@@ -172,14 +197,24 @@ impl Socket {
         self.waiting.len()
     }
 
-    /// Whether no whole banner came of a link that was accepted long ago, its connect takes too long, or it was shut long ago.
+    /// Whether it should go: its connect takes too long, or it was shut long ago, or, of an open one, what the node regards it as may stay no
+    /// longer.
     pub fn is_overdue(&self, now: Instant) -> bool {
         let age = now.duration_since(self.since);
         match self.stage {
-            Stage::Strange => age >= Duration::from_secs(STRANGE),
             Stage::Connecting => age >= Duration::from_secs(CONNECTING),
             Stage::Closing => age >= Duration::from_secs(CLOSING),
-            Stage::Waiting | Stage::Open | Stage::Lost => false,
+            Stage::Open => self.outstays(age, now.duration_since(self.silent)),
+            Stage::Waiting | Stage::Lost => false,
+        }
+    }
+
+    // Whether an open link outstays its time: a stranger that is so old, or one on which nothing came for so long while an answer is awaited.
+    fn outstays(&self, age: Duration, silence: Duration) -> bool {
+        match self.regard {
+            Regard::Stranger => age >= Duration::from_secs(STRANGE),
+            Regard::Awaited => silence >= Duration::from_secs(AWAITING),
+            Regard::Known => false,
         }
     }
 
@@ -196,7 +231,7 @@ impl Socket {
     }
 
     /// Sends on where that was told to go, and reads once where that was.
-    pub fn serve(&mut self, into: &mut [u8]) -> Served
+    pub fn serve(&mut self, into: &mut [u8], now: Instant) -> Served
         ensures bound { IsServedWithin (length into.old) result }
         ensures room { length into.new ≡ length into.old }
     {
@@ -212,11 +247,11 @@ impl Socket {
         if !self.may_read || !self.is_connected() {
             return Served::Nothing;
         }
-        self.read(into)
+        self.read(into, now)
     }
 
     // Reads once. A read that a signal interrupts is made at the next look.
-    fn read(&mut self, into: &mut [u8]) -> Served
+    fn read(&mut self, into: &mut [u8], now: Instant) -> Served
         ensures bound { IsServedWithin (length into.old) result }
         ensures room { length into.new ≡ length into.old }
     {
@@ -226,7 +261,8 @@ impl Socket {
         match stream.read(into) {
             Ok(0) => Served::Ended,
             Ok(count) => {
-                self.hears(count);
+                self.is_heard = true;
+                self.silent = now;
                 Served::Bytes(count)
             }
             Err(error) if error.kind() == ErrorKind::WouldBlock => {
@@ -235,14 +271,6 @@ impl Socket {
             }
             Err(error) if error.kind() == ErrorKind::Interrupted => Served::Nothing,
             Err(_) => Served::Ended,
-        }
-    }
-
-    // So many bytes came. A peer of which a whole banner came is no stranger any more.
-    fn hears(&mut self, count: usize) {
-        self.heard = self.heard.saturating_add(count);
-        if self.stage == Stage::Strange && self.heard >= BANNER {
-            self.stage = Stage::Open;
         }
     }
 

@@ -4,16 +4,17 @@ ghost use Rattle.std.specs.Prelude.{ℕ, ◌≡◌, ◌<◌, length, IfOk, IfSom
 ghost use Rattle.cx_links.specs.Events.{IsWithin};
 
 use crate::dials::Dials;
+use crate::displacing::Displacing;
 use crate::limits;
 use crate::socket::{Served, Socket};
 use cx_base::Addr;
-use cx_links::LinkEvent;
+use cx_links::{LinkEvent, Regard};
 use mio::net::{TcpListener, TcpStream};
 use mio::{Events, Interest, Poll, Token};
 use std::alloc::{AllocError, Global};
 use std::io;
 use std::io::Eprint;
-use std::net::{Ipv4Addr, Net, SocketAddr};
+use std::net::{IpAddr, Ipv4Addr, Net, SocketAddr};
 use std::random::RandomSource;
 use std::time::{Clock, Duration, Instant};
 
@@ -42,7 +43,8 @@ pub struct Table<R> {
     news: Events,
     pub listener: Option<TcpListener>,
     pub may_accept: bool,
-    pub newcomer: Option<TcpStream>,
+    pub newcomer: Option<(TcpStream, IpAddr)>,
+    pub displacing: Displacing,
     pub places: Vec<Option<Socket>>,
     pub most: usize,
     pub is_limit_told: bool,
@@ -64,6 +66,7 @@ impl<R: Net + Eprint + Clock + RandomSource + Drop> Table<R> {
             listener: None,
             may_accept: false,
             newcomer: None,
+            displacing: Displacing::new(alloc)?,
             places: Vec::with_capacity(alloc, limits::MOST)?,
             most: limits::places_within(limits::most_files()),
             is_limit_told: false,
@@ -189,6 +192,14 @@ impl<R: Net + Eprint + Clock + RandomSource + Drop> Table<R> {
         None
     }
 
+    /// The node regards a link so from now on.
+    pub fn regard(&mut self, link: u32, regard: Regard) {
+        let now = Instant::now(&self.rt);
+        if let (Some(Some(socket)), Ok(now)) = (self.slot_of(link), now) {
+            socket.regards(regard, now);
+        }
+    }
+
     /// How many links stand.
     pub fn count(&self) -> usize {
         self.places.iter().filter(|slot| slot.is_some()).count()
@@ -297,7 +308,7 @@ impl<R: Net + Eprint + Clock + RandomSource + Drop> Table<R> {
         }
         let number = socket.number;
         let is_first = socket.unanswered();
-        match socket.serve(into) {
+        match socket.serve(into, now) {
             Served::Bytes(count) if !socket.is_closing() => {
                 if let Some(to) = is_first {
                     self.dials.goes_well(&to);

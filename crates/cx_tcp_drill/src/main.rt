@@ -1,16 +1,25 @@
-//! Sockets, files, the clock and the dice of the system, tried on this machine: a line for each thing that is seen.
+//! Sockets, files, the clock and the dice of the system, tried on this machine: a line for each thing that is seen. With a word it tries what takes
+//! much memory, and nothing else.
 #![tactic(auto)]
 
 mod folders;
+mod heavy;
 mod lines;
 mod readings;
 mod sockets;
 mod traffic;
 
-use std::io;
+use std::{env, io};
 
 fn main(rt: HostRuntime) -> io::Result<()> {
     let rt = &rt;
+    let words: Vec<String> = env::args(rt)?.skip(1).collect(rt.alloc())?;
+    if !words.is_empty() {
+        return println!(rt;
+            "where more than 256 MiB wait, the link with the most is gone: {}",
+            heavy::relieves(rt)
+        );
+    }
     println!(rt; "a word goes and comes back: {}", sockets::echoes(rt))?;
     println!(rt;
         "what is sent before the connect is done comes: {}",
@@ -50,7 +59,7 @@ fn main(rt: HostRuntime) -> io::Result<()> {
         readings::waits(rt)
     )?;
     println!(rt;
-        "peers that send no whole banner are gone after 10 s: {}",
+        "strangers are gone after 10 s, and who is known stays: {}",
         traffic::tires(rt)
     )?;
     println!(rt; "nothing is kept at first: {}", folders::is_empty(rt))?;

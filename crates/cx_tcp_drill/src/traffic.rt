@@ -2,7 +2,7 @@
 
 use crate::lines::{Pair, come};
 use crate::sockets::right;
-use cx_links::{LinkEvent, Links};
+use cx_links::{LinkEvent, Links, Regard};
 use std::time::{Duration, Instant};
 
 const PIECE: usize = 65_536;
@@ -126,7 +126,7 @@ fn many(pair: &mut Pair<'_>) -> Option<()> {
     right(came == 400)
 }
 
-/// Peers that were accepted and send nothing, or less than a banner, are gone between 10 and 12 s later; one that sent one stays.
+/// Peers that were accepted and didn't prove themselves are gone between 10 and 12 s later, whatever they sent; one that is known stays.
 pub fn tires(rt: &HostRuntime) -> bool {
     match Pair::new(rt) {
         Some(mut pair) => tire(rt, &mut pair).is_some(),
@@ -135,14 +135,15 @@ pub fn tires(rt: &HostRuntime) -> bool {
 }
 
 fn tire(rt: &HostRuntime, pair: &mut Pair<'_>) -> Option<()> {
-    let (speaks, hears) = pair.open()?;
+    let (speaks, known) = pair.open()?;
     let (begins, slow) = pair.open()?;
     let (_, silent) = pair.open()?;
     pair.settle()?;
     pair.client.send(speaks, &[7; 26]).ok()?;
-    right(come(&mut pair.server, &mut [0; 32])? == LinkEvent::Bytes(hears, 26))?;
-    pair.client.send(begins, &[7; 25]).ok()?;
-    right(come(&mut pair.server, &mut [0; 32])? == LinkEvent::Bytes(slow, 25))?;
+    right(come(&mut pair.server, &mut [0; 32])? == LinkEvent::Bytes(known, 26))?;
+    pair.server.regard(known, Regard::Known);
+    pair.client.send(begins, &[7; 26]).ok()?;
+    right(come(&mut pair.server, &mut [0; 32])? == LinkEvent::Bytes(slow, 26))?;
     let began = Instant::now(rt).ok()?;
     right(ends(rt, pair, began)? == LinkEvent::Gone(slow))?;
     right(ends(rt, pair, began)? == LinkEvent::Gone(silent))?;

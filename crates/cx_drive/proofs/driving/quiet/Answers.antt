@@ -7,7 +7,7 @@ use Rattle.cx_drive.proofs.driving.quiet.Goals as goal
 
 pub returns-in-Err : goal.returns-in-Err
 returns-in-Err g c =
-    wants g.S.Site.follows g.M.Machine.rule g.M.Machine.lost g.M.Machine.rests g.S.Site.stays g.S.Site.goes_on c.args.peers.now
+    wants g.S.Site.follows g.M.Machine.rule g.M.Machine.lost g.M.Machine.rests g.M.Machine.regards g.S.Site.stays g.S.Site.goes_on c.args.peers.now
     (scene c.args.site.now c.args.node.now c.args.journal.now)
     (at_quiet (passed c.args.flow.now.gone c.args.flow.now.orders.now) (g.M.Machine.rests c.args.node.now) (agenda_of c.args.flow.now)) c.quiet.new.self.short
     (c.in-Err.ensures.err ∙ quiet_short (passed c.args.flow.now.gone c.args.flow.now.orders.now) (g.M.Machine.rests c.args.node.now) (agenda_of c.args.flow.now))

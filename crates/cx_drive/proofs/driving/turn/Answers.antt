@@ -10,7 +10,7 @@ use Rattle.cx_drive.proofs.driving.turn.Goals as goal
 pub returns-in-Ok : goal.returns-in-Ok
 returns-in-Ok g c =
     let ok = c.in-Ok.ensures.ok in
-    ran_step g.S.Site.follows g.M.Machine.rule g.M.Machine.lost g.M.Machine.rests g.S.Site.stays g.S.Site.goes_on c.args.peers.now (input.Turn c.args.link) ok.went
+    ran_step g.S.Site.follows g.M.Machine.rule g.M.Machine.lost g.M.Machine.rests g.M.Machine.regards g.S.Site.stays g.S.Site.goes_on c.args.peers.now (input.Turn c.args.link) ok.went
     (scene c.args.site.now c.args.node.now c.args.journal.now) (scene c.step_on.new.site c.step_on.new.node c.step_on.new.journal)
     (agenda_of c.args.flow.now) (record (agenda_of c.step_on.new.flow) { turning = c.turned_again-flow.result })
     (turn_next (agenda_of c.args.flow.now) c.args.link c.requires.due c.requires.turning) ok.goes
@@ -20,7 +20,7 @@ returns-in-Ok g c =
 
 pub returns-in-Err : goal.returns-in-Err
 returns-in-Err g c =
-    stops g.S.Site.follows g.M.Machine.rule g.M.Machine.lost g.M.Machine.rests g.S.Site.stays g.S.Site.goes_on c.args.peers.now (input.Turn c.args.link)
+    stops g.S.Site.follows g.M.Machine.rule g.M.Machine.lost g.M.Machine.rests g.M.Machine.regards g.S.Site.stays g.S.Site.goes_on c.args.peers.now (input.Turn c.args.link)
     (scene c.args.site.now c.args.node.now c.args.journal.now) (scene c.step_on.new.site c.step_on.new.node c.step_on.new.journal)
     (agenda_of c.args.flow.now) c.step_on.new.flow.short c.in-Err.stop (turn_next (agenda_of c.args.flow.now) c.args.link c.requires.due c.requires.turning)
     c.in-Err.ensures.short c.in-Err.ensures.err

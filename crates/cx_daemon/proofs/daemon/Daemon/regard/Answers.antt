@@ -1,0 +1,7 @@
+-- What it tells of what it holds is what it tells of the rules' state.
+use Rattle.std.proofs.Common.{◌∙◌}
+use Rattle.cx_daemon.proofs.Regarding.{regard_stands}
+use Rattle.cx_daemon.proofs.daemon.Daemon.regard.Goals as goal
+
+pub returns-clause-stands : goal.returns-clause-stands
+returns-clause-stands c = λ s st. c.regarded.ensures ∙ regard_stands c.args.self.now.node s.node c.args.link st.node
