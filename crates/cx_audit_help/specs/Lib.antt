@@ -1,3 +1,5 @@
+pub mod Asides
+pub mod Forms
 pub mod Places
 pub mod Rules
 pub mod Said

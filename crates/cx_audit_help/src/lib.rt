@@ -1,6 +1,8 @@
 //! What a user reads of a journal: of its first line that is none, and of a rule that it breaks.
 #![tactic(auto)]
 
+mod asides;
+mod forms;
 mod places;
 mod rules;
 mod said;

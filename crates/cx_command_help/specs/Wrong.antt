@@ -1,13 +1,30 @@
--- Which word of a command line is wrong, and why.
-use Rattle.std.specs.Prelude.{ℕ, ◌+◌, nat_lt, List, [], ◌∷◌, length, Option, Some, None, if◌then◌else◌}
+-- Which word of a command line is wrong, and why; and which ask for help.
+use Rattle.std.specs.Prelude.{ℕ, ◌+◌, ◌||◌, Bool, nat_lt, List, [], ◌∷◌, length, codes, Option, Some, None, if◌then◌else◌}
 use Rattle.std.specs.Borrow.{Bor}
+use Rattle.std.specs.Str.{bytes_eq}
 use Rattle.cx_command_line.specs.Forms.{form_of}
 use Rattle.cx_command_line.specs.Words.{Word}
 use Rattle.cx_command_line.specs.declared.forms.Form.{Form}
 use Rattle.cx_command_help.specs.Places.{fits, least_of, place_at}
 use Rattle.cx_command_help.specs.declared.places.Place.{Place}
-use Rattle.cx_command_help.specs.declared.wrong.Why.TheVariants.{Unknown, Bad, Missing, Extra}
+use Rattle.cx_command_help.specs.declared.wrong.Why.TheVariants.{Unknown, Bad, Missing, Extra, Asked, Version}
 use Rattle.cx_command_help.specs.declared.wrong.Wrong.{Wrong}
+
+-- ---- words that ask for help
+
+-- behind the word of a command they ask for its form
+abbrev pub is_help : Word → Bool
+is_help word = bytes_eq word (codes "--help") || bytes_eq word (codes "-h")
+
+-- as a first word for all of them
+abbrev pub asks_help : Word → Bool
+asks_help word = bytes_eq word (codes "help") || is_help word
+
+-- a first word that asks which program this is
+abbrev pub asks_version : Word → Bool
+asks_version word = bytes_eq word (codes "--version")
+
+-- ---- words that are wrong
 
 -- the word of this number, from 0 behind that of the command; of all words it is the second or a later one
 abbrev pub wrong_there : Form → Option Place → ℕ → Word → Option Wrong
@@ -15,7 +32,9 @@ wrong_there form None n word = Some (record { number = n + 2; why = Extra form }
 wrong_there form (Some place) n word = if fits place word then None else Some (record { number = n + 2; why = Bad place })
 
 abbrev pub wrong_at : Form → ℕ → Word → Option Wrong
-wrong_at form n word = wrong_there form (place_at form n) n word
+wrong_at form n word =
+    if is_help word then Some (record { number = n + 2; why = Asked form })
+    else wrong_there form (place_at form n) n word
 
 abbrev pub or_later : Option Wrong → Option Wrong → Option Wrong
 or_later (Some wrong) later = Some wrong
@@ -43,7 +62,15 @@ abbrev pub wrong_by : Option Form → List Word → Option Wrong
 wrong_by None values = Some (record { number = 1; why = Unknown })
 wrong_by (Some form) values = or_later (wrong_from form 0 values) (missing form (length values))
 
--- the first word of the command line that is wrong, or behind which one is missing
+-- of words with this first one
+abbrev pub wrong_behind : Word → List Word → Option Wrong
+wrong_behind command values =
+    if asks_help command then None
+    else if asks_version command then Some (record { number = 1; why = Version })
+    else wrong_by (form_of command) values
+
+-- the first word of the command line that is wrong, or behind which one is missing, or that asks for the form of its command or for the version; none
+-- where there are no words, or all commands are asked for
 abbrev pub wrong_of : List Word → Option Wrong
 wrong_of [] = None
-wrong_of (command ∷ values) = wrong_by (form_of command) values
+wrong_of (command ∷ values) = wrong_behind command values

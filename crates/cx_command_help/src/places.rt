@@ -33,7 +33,7 @@ pub(crate) fn place_at(form: Form, number: usize) -> Option<Place>
     ensures { result ≡ place_at form number }
 {
     match form {
-        Form::Replay | Form::Keyring | Form::Audit => None,
+        Form::Replay | Form::Keyring | Form::Audit | Form::Key => None,
         Form::Drill => drill_place(number),
         Form::Monitor => monitor_place(number),
         Form::Daemon => daemon_place(number),
@@ -103,7 +103,7 @@ pub(crate) fn least_of(form: Form, count: usize) -> usize
     ensures { result ≡ least_of form count }
 {
     match form {
-        Form::Replay | Form::Keyring | Form::Audit => 0,
+        Form::Replay | Form::Keyring | Form::Audit | Form::Key => 0,
         Form::Drill => 2,
         Form::Monitor => { if 2 < count { 4 } else { 2 } }
         Form::Daemon => 4,

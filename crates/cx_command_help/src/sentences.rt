@@ -1,11 +1,11 @@
 //! What a user reads of a word of a command line that is wrong.
 
 ghost use Rattle.std.specs.Prelude.{◌≡◌};
-ghost use Rattle.cx_command_help.specs.Sentences.{place_text, reads_a_file};
+ghost use Rattle.cx_command_help.specs.Sentences.{place_text, reads_a_file, version_text};
 
 use crate::places::Place;
 use crate::wrong::{Why, Wrong};
-use cx_command_line::{Commands, Form};
+use cx_command_line::{Commands, Form, FormHelp, Guide};
 use cx_line_help::Word;
 use cx_line_words::shown_of;
 use std::fmt;
@@ -44,6 +44,8 @@ impl fmt::Display for WrongWords<'_> {
                 place_text(place)
             ),
             Why::Extra(form) => write!(f, "{}, is one too many; {}", shown, Hint(form)),
+            Why::Asked(form) => write!(f, "the command is:\n\n{}{}", FormHelp(form), Guide),
+            Why::Version => write!(f, "{}", version()),
         }
     }
 }
@@ -93,21 +95,31 @@ fn reads_a_file(form: Form) -> bool
     matches!(form, Form::Replay | Form::Keyring | Form::Audit)
 }
 
+// What the program is.
+fn version() -> &'static str
+    ensures { result.now ≡ version_text }
+{
+    "version 0.1.0, proved with rattle-kit-13f, logic dac8208d650f15bf"
+}
+
 fn place_text(place: Place) -> &'static str
     ensures { result.now ≡ place_text place }
 {
     match place {
-        Place::Clients => "how many clients a drill has: a number from 1 to 1,000",
-        Place::Seed => "the seed of a drill: a number",
-        Place::Events => "how many events the node takes: a number from 1 to 1,000,000",
+        Place::Clients =>
+            "how many clients a drill has: a number from 1 to 1,000, in digits alone, as 1000",
+        Place::Seed =>
+            "the seed of a drill: a number below 18,446,744,073,709,551,616, in digits alone, as 0",
+        Place::Events =>
+            "how many events the node takes: a number from 1 to 1,000,000, in digits alone, as 1000000",
         Place::Address => {
             "an address: four numbers from 0 to 255 with points, a colon and a port from 1 to 65,535, as 127.0.0.1:6789"
         }
         Place::Lifetime => {
-            "a lifetime: a number of seconds from 1 to 31,536,000; a monitor is given two of them, or none"
+            "a lifetime: a number of seconds from 1 to 31,536,000, in digits alone, as 3600; a monitor is given two of them, or none"
         }
         Place::Daemon => "a daemon's name: mds, osd or mgr, a point and an id, as osd.0",
-        Place::Client => "a client's name, as client.admin",
+        Place::Client => "a client's name: client, a point and an id, as client.admin",
         Place::Peer => "a daemon's name with its address, as osd.0@127.0.0.1:6800",
     }
 }

@@ -1,8 +1,9 @@
-//! Which word of a command line is wrong, and why.
+//! Which word of a command line is wrong, and why; and which ask for help.
 
 ghost use Rattle.std.specs.Prelude.{◌≡◌, ◌<◌, ◌≤◌, length, map};
+ghost use Rattle.std.specs.Str.{bytes_eq};
 ghost use Rattle.cx_command_help.specs.Places.{place_at};
-ghost use Rattle.cx_command_help.specs.Wrong.{missing, wrong_at, wrong_by, wrong_from, wrong_of, wrong_seen};
+ghost use Rattle.cx_command_help.specs.Wrong.{asks_help, asks_version, is_help, missing, wrong_at, wrong_behind, wrong_by, wrong_from, wrong_of, wrong_seen};
 
 use crate::places::{Place, fits, least_of, place_at};
 use cx_command_line::{Form, form_of};
@@ -18,6 +19,10 @@ pub enum Why {
     Missing(Place),
     /// No word stands at its place in a command of this form.
     Extra(Form),
+    /// It asks for this form.
+    Asked(Form),
+    /// It asks for the version.
+    Version,
 }
 
 /// A word of the command line that is wrong, by its number from 1.
@@ -27,14 +32,56 @@ pub struct Wrong {
     pub why: Why,
 }
 
-/// The first word that is wrong, or that is missing; none where there are no words.
+/// The first word that is wrong, or that is missing, or that asks for the form of its command or for the version; none where there are
+/// no words, or all commands are asked for.
 pub fn wrong_of(words: &[&str]) -> Option<Wrong>
     ensures { result ≡ wrong_of (map (λ w. w.now) words.now) }
 {
     match words {
-        [command, values @ ..] => wrong_by(form_of(command), values),
+        [command, values @ ..] => wrong_behind(command, values),
         [] => None,
     }
+}
+
+fn wrong_behind(command: &str, values: &[&str]) -> Option<Wrong>
+    ensures { result ≡ wrong_behind command.now (map (λ w. w.now) values.now) }
+{
+    if asks_help(command) {
+        return None;
+    }
+    if asks_version(command) {
+        return Some(Wrong {
+            number: 1,
+            why: Why::Version,
+        });
+    }
+    wrong_by(form_of(command), values)
+}
+
+/// Whether a first word asks for all commands.
+fn asks_help(word: &str) -> bool
+    ensures { result ≡ asks_help word.now }
+{
+    is_text(word, "help") || is_help(word)
+}
+
+/// Whether a word behind that of a command asks for its form.
+fn is_help(word: &str) -> bool
+    ensures { result ≡ is_help word.now }
+{
+    is_text(word, "--help") || is_text(word, "-h")
+}
+
+fn asks_version(word: &str) -> bool
+    ensures { result ≡ asks_version word.now }
+{
+    is_text(word, "--version")
+}
+
+fn is_text(word: &str, text: &str) -> bool
+    ensures { result ≡ bytes_eq word.now text.now }
+{
+    word.as_bytes() == text.as_bytes()
 }
 
 fn wrong_by(form: Option<Form>, values: &[&str]) -> Option<Wrong>
@@ -78,6 +125,12 @@ fn wrong_at(form: Form, number: usize, word: &str) -> Option<Wrong>
     requires { number < 4611686018427387904 }
     ensures { result ≡ wrong_at form number word.now }
 {
+    if is_help(word) {
+        return Some(Wrong {
+            number: number + 2,
+            why: Why::Asked(form),
+        });
+    }
     let Some(place) = place_at(form, number) else {
         return Some(Wrong {
             number: number + 2,

@@ -36,6 +36,7 @@ pub data Asked : Type 0 where
   Keyring : Asked
   Audit : Asked
   Drill : DrillCommand → Asked
+  Key : Asked
   Monitor : MonitorCommand → Asked
   Daemon : AskedDaemon → Asked
   Client : AskedClient → Asked
@@ -52,6 +53,7 @@ asked words.Replay = Replay
 asked words.Keyring = Keyring
 asked words.Audit = Audit
 asked (words.Drill c) = Drill c
+asked words.Key = Key
 asked (words.Monitor c) = Monitor c
 asked (words.Daemon c) = Daemon (asked_daemon c)
 asked (words.Client c) = Client (asked_client c)
@@ -117,6 +119,7 @@ spelled_by command values =
     else if bytes_eq command (codes "keyring") then alone Keyring values
     else if bytes_eq command (codes "audit") then alone Audit values
     else if bytes_eq command (codes "drill") then option_map (λ c. Drill c) (drill values)
+    else if bytes_eq command (codes "key") then alone Key values
     else if bytes_eq command (codes "mon") then option_map (λ c. Monitor c) (monitor values)
     else if bytes_eq command (codes "daemon") then option_map (λ c. Daemon c) (daemon values)
     else if bytes_eq command (codes "client") then option_map (λ c. Client c) (client values)

@@ -62,6 +62,8 @@ pub enum Invocation<'a> {
     Audit,
     /// Runs the schedule of a drill, and writes how many entries of five kinds its journal has.
     Drill(DrillCommand),
+    /// Writes a new key.
+    Key,
     /// Runs the monitor.
     Monitor(MonitorCommand),
     /// Runs a daemon.
@@ -103,6 +105,9 @@ fn spelled_by<'a>(command: &str, values: &'a [&'a str]) -> Option<Invocation<'a>
     }
     if is_text(command, Form::Drill.word()) {
         return drill(values).map(|c| Invocation::Drill(c));
+    }
+    if is_text(command, Form::Key.word()) {
+        return alone(Invocation::Key, values);
     }
     if is_text(command, Form::Monitor.word()) {
         return monitor(values).map(|c| Invocation::Monitor(c));

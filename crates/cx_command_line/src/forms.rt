@@ -1,8 +1,8 @@
-//! The table of the commands: the word of each, what stands behind it, what it does, and examples.
+//! The table of the commands: the word of each, what stands behind it, what it does, and an example.
 
 ghost use Rattle.std.specs.Prelude.{◌≡◌};
 ghost use Rattle.std.specs.Str.{bytes_eq};
-ghost use Rattle.cx_command_line.specs.Forms.{examples_text, form_of, form_values, form_word, purpose_text};
+ghost use Rattle.cx_command_line.specs.Forms.{example_text, form_of, form_values, form_word, purpose_text};
 
 use std::fmt;
 
@@ -13,6 +13,7 @@ pub enum Form {
     Keyring,
     Audit,
     Drill,
+    Key,
     Monitor,
     Daemon,
     Client,
@@ -28,6 +29,7 @@ impl Form {
             Form::Keyring => "keyring",
             Form::Audit => "audit",
             Form::Drill => "drill",
+            Form::Key => "key",
             Form::Monitor => "mon",
             Form::Daemon => "daemon",
             Form::Client => "client",
@@ -43,6 +45,7 @@ impl Form {
             Form::Keyring => "",
             Form::Audit => "",
             Form::Drill => " CLIENTS SEED",
+            Form::Key => "",
             Form::Monitor => " EVENTS LISTEN [LIFE AUTHLIFE]",
             Form::Daemon => " NAME EVENTS LISTEN MON",
             Form::Client => " NAME EVENTS MON [PEER ..]",
@@ -55,52 +58,45 @@ impl Form {
     {
         match self {
             Form::Replay => {
-                "reads a schedule from standard input, and writes the journal of its run to standard output, as in:"
+                "reads a schedule from standard input, runs it, and writes its journal to standard output, as in:"
             }
             Form::Keyring => {
-                "reads a keyring from standard input, and writes it to standard output in its printed form, as in:"
+                "reads a keyring from standard input, writes it in its printed form, and says who may do what where, as in:"
             }
             Form::Audit => {
-                "reads a journal from standard input, and writes whether it is legal, or which line breaks which rule \
-                first, as in:"
+                "reads a journal from standard input, and writes whether it is legal, or which line breaks which rule, as in:"
             }
             Form::Drill => {
-                "makes a schedule of so many clients, 1 to 1,000, who log in, connect and send by the seed, replays \
-                it, and writes five counts of its journal, as in:"
+                "runs a schedule of 1 to 1,000 clients that the seed makes, and writes five counts of its journal, as in:"
+            }
+            Form::Key => {
+                "writes a new key, of the system's random bytes, as key = TEXT of a keyring takes it, as in:"
             }
             Form::Monitor => {
-                "runs the monitor of this folder, which has the file keyring, until so many events came, or as its \
-                script, from standard input, says:"
+                "runs the monitor of this folder's files keyring and state, until so many events came or its script stops it, as in:"
             }
             Form::Daemon => {
-                "runs a daemon of the keyring of this folder at an address, until so many events came, or as its \
-                script, from standard input, says:"
+                "runs a daemon of this folder's keyring, until so many events came or its script stops it, as in:"
             }
             Form::Client => {
-                "runs a client of the keyring of this folder, as its script, from standard input, says, and writes \
-                its journal to standard output:"
+                "runs a client of this folder's keyring by its script, from standard input, and writes its journal, as in:"
             }
         }
     }
 
-    // Examples of the command, each on a line of its own.
-    fn examples(self) -> &'static str
-        ensures { result.now ≡ examples_text self }
+    // An example of the command.
+    fn example(self) -> &'static str
+        ensures { result.now ≡ example_text self }
     {
         match self {
-            Form::Replay => {
-                "printf 'entity client.a\\nclock 1000\\nlogin client.a\\n' | cephx_cli replay
-      cephx_cli replay < examples/first_login.schedule"
-            }
-            Form::Keyring => {
-                "cephx_cli keyring < /etc/ceph/ceph.client.admin.keyring
-      cephx_cli keyring < examples/keyrings/two_entities.keyring"
-            }
+            Form::Replay => "cephx_cli replay < examples/first_login.schedule",
+            Form::Keyring => "cephx_cli keyring < examples/keyrings/two_entities.keyring",
             Form::Audit => "cephx_cli audit < examples/first_login.journal",
             Form::Drill => "cephx_cli drill 3 0",
+            Form::Key => { "printf '[client.a]\\nkey = %s\\n' \"$(cephx_cli key)\" >> keyring" }
             Form::Monitor => "cephx_cli mon 1000000 127.0.0.1:6789 < /dev/null",
             Form::Daemon => {
-                "printf 'fetch osd.0\\nstop\\n' | cephx_cli daemon osd.0 1000 127.0.0.1:6800 127.0.0.1:6789"
+                "printf 'fetch osd.0\\n' | cephx_cli daemon osd.0 1000000 127.0.0.1:6800 127.0.0.1:6789"
             }
             Form::Client => {
                 "printf 'login client.a osd\\nstop\\n' | cephx_cli client client.a 1000 127.0.0.1:6789"
@@ -124,6 +120,9 @@ pub fn form_of(word: &str) -> Option<Form>
     }
     if is_text(word, Form::Drill.word()) {
         return Some(Form::Drill);
+    }
+    if is_text(word, Form::Key.word()) {
+        return Some(Form::Key);
     }
     if is_text(word, Form::Monitor.word()) {
         return Some(Form::Monitor);
@@ -168,11 +167,12 @@ impl fmt::Display for Commands {
     fn fmt<W: fmt::Write>(&self, f: &mut fmt::Formatter<W>) -> fmt::Result {
         write!(
             f,
-            "{}, {}, {}, {}, {}, {} and {}",
+            "{}, {}, {}, {}, {}, {}, {} and {}",
             Form::Replay.word(),
             Form::Keyring.word(),
             Form::Audit.word(),
             Form::Drill.word(),
+            Form::Key.word(),
             Form::Monitor.word(),
             Form::Daemon.word(),
             Form::Client.word()
@@ -193,22 +193,23 @@ impl fmt::Display for Help {
     fn fmt<W: fmt::Write>(&self, f: &mut fmt::Formatter<W>) -> fmt::Result {
         write!(
             f,
-            "the commands are:\n\n{}{}{}{}{}{}{}docs/guide.md says what the lines of a schedule, of a script, of a journal \
-            and of a keyring mean",
+            "the commands are:\n\n{}{}{}{}{}{}{}{}{}",
             FormHelp(Form::Replay),
             FormHelp(Form::Keyring),
             FormHelp(Form::Audit),
             FormHelp(Form::Drill),
+            FormHelp(Form::Key),
             FormHelp(Form::Monitor),
             FormHelp(Form::Daemon),
-            FormHelp(Form::Client)
+            FormHelp(Form::Client),
+            Guide
         )
     }
 }
 
-/// A command, what it does, and its examples.
+/// A command, what it does, and an example.
 #[derive(Clone, Copy)]
-struct FormHelp(Form);
+pub struct FormHelp(pub Form);
 
 impl fmt::Display for FormHelp {
     ghost use Rattle.std.specs.Prelude.{Some};
@@ -222,7 +223,26 @@ impl fmt::Display for FormHelp {
             "  cephx_cli {}\n      {}\n      {}\n\n",
             self.0,
             self.0.purpose(),
-            self.0.examples()
+            self.0.example()
+        )
+    }
+}
+
+/// Where more is told.
+#[derive(Clone, Copy)]
+pub struct Guide;
+
+impl fmt::Display for Guide {
+    ghost use Rattle.std.specs.Prelude.{Some};
+    ghost use Rattle.cx_command_line.specs.Forms.{guide_text};
+
+    ghost output = { λ guide. Some guide_text };
+
+    fn fmt<W: fmt::Write>(&self, f: &mut fmt::Formatter<W>) -> fmt::Result {
+        write!(
+            f,
+            "man/cephx_cli.1 says what each word is; docs/guide.md says what the lines of a schedule, of a script, of a journal and \
+            of a keyring mean"
         )
     }
 }

@@ -14,7 +14,7 @@ pub use addresses::address;
 pub use commands::{
     ClientCommand, DaemonCommand, DrillCommand, Invocation, MonitorCommand, invocation_of,
 };
-pub use forms::{Commands, Form, Help, form_of};
+pub use forms::{Commands, Form, FormHelp, Guide, Help, form_of};
 pub use names::{client_name, daemon_name};
 pub use numbers::bounded;
 pub use peers::peer;
@@ -28,5 +28,7 @@ fn all_are_sendable() {
     is_sendable::<Misread>();
     is_sendable::<Form>();
     is_sendable::<Commands>();
+    is_sendable::<FormHelp>();
+    is_sendable::<Guide>();
     is_sendable::<Help>();
 }

@@ -4,7 +4,7 @@ use Rattle.std.specs.Prelude.{codes, if◌then◌else◌, option_map}
 use Rattle.std.specs.Str.{bytes_eq}
 use Rattle.std.proofs.lemmas.Slice.Eq.{bytes_eq-Decides}
 use Rattle.cx_command_line.specs.Commands as told
-use Rattle.cx_command_line.specs.Commands.{Asked, AskedClient, AskedDaemon, Replay, Keyring, Audit, Drill, Monitor, Daemon, Client, alone, client, daemon, drill, spelled}
+use Rattle.cx_command_line.specs.Commands.{Asked, AskedClient, AskedDaemon, Replay, Keyring, Audit, Drill, Key, Monitor, Daemon, Client, alone, client, daemon, drill, spelled}
 use Rattle.cx_command_line.specs.Words.{Word}
 use Rattle.cx_command_line.specs.declared.commands.DrillCommand.{DrillCommand}
 use Rattle.cx_command_line.specs.declared.commands.MonitorCommand.{MonitorCommand}
@@ -30,6 +30,7 @@ is_text Replay = true
 is_text Keyring = true
 is_text Audit = true
 is_text (Drill c) = false
+is_text Key = false
 is_text (Monitor c) = false
 is_text (Daemon c) = false
 is_text (Client c) = false
@@ -45,6 +46,10 @@ no_other asked command other is = let no : false ≡ true = sym other ∙ ap is_
 no_drill : (o : Option DrillCommand) (command : Subcommand) → option_map (λ c. Drill c) o ≡ Some (asked_text command) → ⊥
 no_drill (Some c) command is = no_other (Drill c) command refl cc
 no_drill None command is = let no : None ≡ Some (asked_text command) = is in cc
+
+no_key : (values : List Word) (command : Subcommand) → alone Key values ≡ Some (asked_text command) → ⊥
+no_key [] command is = no_other Key command refl cc
+no_key (word ∷ words) command is = let no : None ≡ Some (asked_text command) = is in cc
 
 no_monitor : (o : Option MonitorCommand) (command : Subcommand) → option_map (λ c. Monitor c) o ≡ Some (asked_text command) → ⊥
 no_monitor (Some c) command is = no_other (Monitor c) command refl cc
@@ -80,18 +85,20 @@ alone_is word (value ∷ values) first second named is = absurd (let no : None �
 pub text_spelled : (command : Subcommand) (words : List Word) → spelled words ≡ Some (asked_text command) → words ≡ command_word command ∷ []
 text_spelled command [] is = absurd (let no : None ≡ Some (asked_text command) = is in cc)
 text_spelled command (word ∷ values) is =
-    by_tests (bytes_eq word (codes "replay")) (bytes_eq word (codes "keyring")) (bytes_eq word (codes "audit")) (bytes_eq word (codes "drill")) (bytes_eq word (codes "mon"))
+    by_tests (bytes_eq word (codes "replay")) (bytes_eq word (codes "keyring")) (bytes_eq word (codes "audit")) (bytes_eq word (codes "drill")) (bytes_eq word (codes "key")) (bytes_eq word (codes "mon"))
     (bytes_eq word (codes "daemon")) (bytes_eq word (codes "client")) refl refl refl is
   where
-    by_tests : (r k a d m n l : Bool) → bytes_eq word (codes "replay") ≡ r → bytes_eq word (codes "keyring") ≡ k → bytes_eq word (codes "audit") ≡ a
+    by_tests : (r k a d y m n l : Bool) → bytes_eq word (codes "replay") ≡ r → bytes_eq word (codes "keyring") ≡ k → bytes_eq word (codes "audit") ≡ a
         → (if r then alone Replay values else if k then alone Keyring values else if a then alone Audit values else if d then option_map (λ c. Drill c) (drill values)
+        else if y then alone Key values
         else if m then option_map (λ c. Monitor c) (told.monitor values) else if n then option_map (λ c. Daemon c) (daemon values)
         else if l then option_map (λ c. Client c) (client values) else None) ≡ Some (asked_text command) → word ∷ values ≡ command_word command ∷ []
-    by_tests true k a d m n l e f g is = alone_is word values text.Replay command e is
-    by_tests false true a d m n l e f g is = alone_is word values text.Keyring command f is
-    by_tests false false true d m n l e f g is = alone_is word values text.Audit command g is
-    by_tests false false false true m n l e f g is = absurd (no_drill (drill values) command is)
-    by_tests false false false false true n l e f g is = absurd (no_monitor (told.monitor values) command is)
-    by_tests false false false false false true l e f g is = absurd (no_daemon (daemon values) command is)
-    by_tests false false false false false false true e f g is = absurd (no_client (client values) command is)
-    by_tests false false false false false false false e f g is = absurd (let no : None ≡ Some (asked_text command) = is in cc)
+    by_tests true k a d y m n l e f g is = alone_is word values text.Replay command e is
+    by_tests false true a d y m n l e f g is = alone_is word values text.Keyring command f is
+    by_tests false false true d y m n l e f g is = alone_is word values text.Audit command g is
+    by_tests false false false true y m n l e f g is = absurd (no_drill (drill values) command is)
+    by_tests false false false false true m n l e f g is = absurd (no_key values command is)
+    by_tests false false false false false true n l e f g is = absurd (no_monitor (told.monitor values) command is)
+    by_tests false false false false false false true l e f g is = absurd (no_daemon (daemon values) command is)
+    by_tests false false false false false false false true e f g is = absurd (no_client (client values) command is)
+    by_tests false false false false false false false false e f g is = absurd (let no : None ≡ Some (asked_text command) = is in cc)

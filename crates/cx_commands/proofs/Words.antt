@@ -5,7 +5,7 @@ use Rattle.std.specs.Str.{bytes_eq}
 use Rattle.std.proofs.lemmas.Bool.Decides.{nat_tests}
 use Rattle.cx_base.specs.declared.addresses.Addr.{Addr}
 use Rattle.cx_command_line.specs.Commands as told
-use Rattle.cx_command_line.specs.Commands.{Asked, AskedClient, AskedDaemon, Replay, Keyring, Audit, Drill, Monitor, Daemon, Client, IsMisread, alone, client, daemon, drill, events, lifetime, lives, spelled}
+use Rattle.cx_command_line.specs.Commands.{Asked, AskedClient, AskedDaemon, Replay, Keyring, Audit, Drill, Key, Monitor, Daemon, Client, IsMisread, alone, client, daemon, drill, events, lifetime, lives, spelled}
 use Rattle.cx_command_line.specs.Words.{Word, address, both, bounded, within}
 use Rattle.cx_command_line.specs.declared.commands.DrillCommand.{DrillCommand}
 use Rattle.cx_command_line.specs.declared.commands.MonitorCommand.{MonitorCommand}
@@ -15,16 +15,18 @@ use Rattle.cx_top.specs.Statuses.{IsServed}
 use Rattle.cx_top.specs.declared.commands.Subcommand.{Subcommand}
 use Rattle.cx_top.specs.declared.program_end.ProgramEnd.{ProgramEnd}
 use Rattle.cx_top.specs.declared.status.Status.TheVariants.{Broken, Done, OutOfMemory, Usage, WriteFault}
-use Rattle.cx_words.specs.Words.{number_of}
+use Rattle.cx_node_help.specs.cx_line_help.specs.declared.scripts.NodeKind.{NodeKind}
+use Rattle.cx_keyring.specs.cx_words.specs.Words.{number_of}
 use Rattle.cx_command_line.specs.declared.reading.Misread.{Misread}
 use Rattle.cx_command_line.specs.declared.reading.Misread.TheVariants as misread
 use Rattle.cx_desk.specs.Handlers.{Handlers}
 use Rattle.cx_journal.specs.declared.entries.Entry.{Entry}
 use Rattle.cx_loading.specs.declared.ends.NodeEnd.{NodeEnd}
 use Rattle.cx_commands.proofs.WrongWords.{unused}
-use Rattle.cx_commands.proofs.NodeEnds.{node_is_none, says_plain}
+use Rattle.cx_commands.proofs.NodeEnds.{node_is_none}
 use Rattle.cx_commands.proofs.Spelled.{asked_text, spelled_text, text_spelled}
 use Rattle.cx_commands.specs.Drills.{DrillAnswers, DrillEnds, IsDrillCommand}
+use Rattle.cx_commands.specs.Keys.{IsKeyEnd, KeyAnswers, Rolled}
 use Rattle.cx_commands.specs.Lent.{Lent, Streams}
 use Rattle.cx_commands.specs.Misread.{IsMisreadTold, IsUnbegun, UsageAnswers, misread_status}
 use Rattle.cx_commands.specs.Nodes.{IsUnreadStatus, NodeAnswers}
@@ -105,21 +107,23 @@ monitor_told None c is = absurd (let no : None ≡ Some (Monitor c) = is in cc)
 pub spelled_monitor : (words : List Word) (c : MonitorCommand) → spelled words ≡ Some (Monitor c) → IsMonitorCommand c
 spelled_monitor [] c is = absurd (let no : None ≡ Some (Monitor c) = is in cc)
 spelled_monitor (command ∷ values) c is =
-    by_tests (bytes_eq command (codes "replay")) (bytes_eq command (codes "keyring")) (bytes_eq command (codes "audit")) (bytes_eq command (codes "drill")) (bytes_eq command (codes "mon"))
+    by_tests (bytes_eq command (codes "replay")) (bytes_eq command (codes "keyring")) (bytes_eq command (codes "audit")) (bytes_eq command (codes "drill")) (bytes_eq command (codes "key")) (bytes_eq command (codes "mon"))
     (bytes_eq command (codes "daemon")) (bytes_eq command (codes "client")) is
   where
-    by_tests : (r k a d m n l : Bool)
+    by_tests : (r k a d y m n l : Bool)
         → (if r then alone Replay values else if k then alone Keyring values else if a then alone Audit values else if d then option_map (λ c. Drill c) (drill values)
+        else if y then alone Key values
         else if m then option_map (λ c. Monitor c) (told.monitor values) else if n then option_map (λ c. Daemon c) (daemon values)
         else if l then option_map (λ c. Client c) (client values) else None) ≡ Some (Monitor c) → IsMonitorCommand c
-    by_tests true k a d m n l is = absurd (let no : Replay ≡ Monitor c = alone_not Replay values c is in cc)
-    by_tests false true a d m n l is = absurd (let no : Keyring ≡ Monitor c = alone_not Keyring values c is in cc)
-    by_tests false false true d m n l is = absurd (let no : Audit ≡ Monitor c = alone_not Audit values c is in cc)
-    by_tests false false false true m n l is = absurd (drill_not (drill values) c is)
-    by_tests false false false false true n l is = monitor_is values c (monitor_told (told.monitor values) c is)
-    by_tests false false false false false true l is = absurd (daemon_not (daemon values) c is)
-    by_tests false false false false false false true is = absurd (client_not (client values) c is)
-    by_tests false false false false false false false is = absurd (let no : None ≡ Some (Monitor c) = is in cc)
+    by_tests true k a d y m n l is = absurd (let no : Replay ≡ Monitor c = alone_not Replay values c is in cc)
+    by_tests false true a d y m n l is = absurd (let no : Keyring ≡ Monitor c = alone_not Keyring values c is in cc)
+    by_tests false false true d y m n l is = absurd (let no : Audit ≡ Monitor c = alone_not Audit values c is in cc)
+    by_tests false false false true y m n l is = absurd (drill_not (drill values) c is)
+    by_tests false false false false true m n l is = absurd (let no : Key ≡ Monitor c = alone_not Key values c is in cc)
+    by_tests false false false false false true n l is = monitor_is values c (monitor_told (told.monitor values) c is)
+    by_tests false false false false false false true l is = absurd (daemon_not (daemon values) c is)
+    by_tests false false false false false false false true is = absurd (client_not (client values) c is)
+    by_tests false false false false false false false false is = absurd (let no : None ≡ Some (Monitor c) = is in cc)
 
 -- ---- a drill has 1 to 1,000 clients
 
@@ -160,21 +164,23 @@ client_no_drill None c is = let no : None ≡ Some (Drill c) = is in cc
 pub spelled_drill : (words : List Word) (c : DrillCommand) → spelled words ≡ Some (Drill c) → IsDrillCommand c
 spelled_drill [] c is = absurd (let no : None ≡ Some (Drill c) = is in cc)
 spelled_drill (command ∷ values) c is =
-    by_tests (bytes_eq command (codes "replay")) (bytes_eq command (codes "keyring")) (bytes_eq command (codes "audit")) (bytes_eq command (codes "drill")) (bytes_eq command (codes "mon"))
+    by_tests (bytes_eq command (codes "replay")) (bytes_eq command (codes "keyring")) (bytes_eq command (codes "audit")) (bytes_eq command (codes "drill")) (bytes_eq command (codes "key")) (bytes_eq command (codes "mon"))
     (bytes_eq command (codes "daemon")) (bytes_eq command (codes "client")) is
   where
-    by_tests : (r k a d m n l : Bool)
+    by_tests : (r k a d y m n l : Bool)
         → (if r then alone Replay values else if k then alone Keyring values else if a then alone Audit values else if d then option_map (λ c. Drill c) (drill values)
+        else if y then alone Key values
         else if m then option_map (λ c. Monitor c) (told.monitor values) else if n then option_map (λ c. Daemon c) (daemon values)
         else if l then option_map (λ c. Client c) (client values) else None) ≡ Some (Drill c) → IsDrillCommand c
-    by_tests true k a d m n l is = absurd (let no : Replay ≡ Drill c = alone_no_drill Replay values c is in cc)
-    by_tests false true a d m n l is = absurd (let no : Keyring ≡ Drill c = alone_no_drill Keyring values c is in cc)
-    by_tests false false true d m n l is = absurd (let no : Audit ≡ Drill c = alone_no_drill Audit values c is in cc)
-    by_tests false false false true m n l is = drill_is values c (drill_told (drill values) c is)
-    by_tests false false false false true n l is = absurd (monitor_no_drill (told.monitor values) c is)
-    by_tests false false false false false true l is = absurd (daemon_no_drill (daemon values) c is)
-    by_tests false false false false false false true is = absurd (client_no_drill (client values) c is)
-    by_tests false false false false false false false is = absurd (let no : None ≡ Some (Drill c) = is in cc)
+    by_tests true k a d y m n l is = absurd (let no : Replay ≡ Drill c = alone_no_drill Replay values c is in cc)
+    by_tests false true a d y m n l is = absurd (let no : Keyring ≡ Drill c = alone_no_drill Keyring values c is in cc)
+    by_tests false false true d y m n l is = absurd (let no : Audit ≡ Drill c = alone_no_drill Audit values c is in cc)
+    by_tests false false false true y m n l is = drill_is values c (drill_told (drill values) c is)
+    by_tests false false false false true m n l is = absurd (let no : Key ≡ Drill c = alone_no_drill Key values c is in cc)
+    by_tests false false false false false true n l is = absurd (monitor_no_drill (told.monitor values) c is)
+    by_tests false false false false false false true l is = absurd (daemon_no_drill (daemon values) c is)
+    by_tests false false false false false false false true is = absurd (client_no_drill (client values) c is)
+    by_tests false false false false false false false false is = absurd (let no : None ≡ Some (Drill c) = is in cc)
 
 -- ---- words that aren't read, as those of each command
 
@@ -194,13 +200,27 @@ module _ {I O K L C D : Type 0} (words : List Word) (a : Streams I O) (v : Lent 
   misread_drill handlers command misread.OutOfMemory result is err status told = inl (unbegun a v result status told)
   misread_drill handlers command misread.Usage result is err status told = absurd (let no : None ≡ Some (Drill command) = sym err ∙ is in cc)
 
-  pub misread_node : (Ran : List ℕ → NodeEnd → List Entry → Type 0) (asked : Asked) (why : Misread) (result : CommandEnd) → spelled words ≡ Some asked → IsMisread words why
-      → result.status ≡ Text (misread_status why) → IsMisreadTold words why (string_bytes result.told) → NodeAnswers Ran a a v v result
-  misread_node Ran asked misread.OutOfMemory result is err status told = record {
-    ends = inr (record { why = subst (λ (s : CommandStatus). IsUnreadStatus a.left a.left a.faults a.faults s) (sym status) tt; untaken = refl; stood = refl });
-    says = says_plain result told;
+  pub misread_node : (kind : NodeKind) (Ran : List ℕ → NodeEnd → List Entry → Type 0) (asked : Asked) (why : Misread) (result : CommandEnd) → spelled words ≡ Some asked → IsMisread words why
+      → result.status ≡ Text (misread_status why) → IsMisreadTold words why (string_bytes result.told) → NodeAnswers kind Ran a a v v result
+  misread_node kind Ran asked misread.OutOfMemory result is err status told = inr (record {
+    why = subst (λ (s : CommandStatus). IsUnreadStatus a.left a.left a.faults a.faults s) (sym status) tt;
+    untaken = refl;
+    stood = refl;
+    says = told;
+  })
+  misread_node kind Ran asked misread.Usage result is err status told = absurd (let no : None ≡ Some asked = sym err ∙ is in cc)
+
+  pub misread_key : (dice : Rolled) (why : Misread) (result : CommandEnd) → spelled words ≡ Some Key → IsMisread words why
+      → result.status ≡ Text (misread_status why) → IsMisreadTold words why (string_bytes result.told) → KeyAnswers dice a a v v result
+  misread_key dice misread.OutOfMemory result is err status told = record {
+    ends = subst (λ (s : CommandStatus). IsKeyEnd dice a.taken a.taken a.misses a.misses a.out a.out s) (sym status) refl;
+    told = told;
+    unread = refl;
+    keeper = refl;
+    links = refl;
+    clock = refl;
   }
-  misread_node Ran asked misread.Usage result is err status told = absurd (let no : None ≡ Some asked = sym err ∙ is in cc)
+  misread_key dice misread.Usage result is err status told = absurd (let no : None ≡ Some Key = sym err ∙ is in cc)
 
 -- ---- words that are read: the status isn't that of wrong ones
 
@@ -210,8 +230,13 @@ module _ {I O K L C D : Type 0} (words : List Word) (a b : Streams I O) (v w : L
   text_usage handlers command ended is status ends =
       unused words a b v w result (asked_text command) is (λ usage. (ends command (text_spelled command words is)).usage (let same : Text ended.status ≡ Text Usage = sym status ∙ usage in cc))
 
-  pub node_usage : (Ran : List ℕ → NodeEnd → List Entry → Type 0) (asked : Asked) → spelled words ≡ Some asked → NodeAnswers Ran a b v w result → UsageAnswers a b v w words result
-  node_usage Ran asked is answers = unused words a b v w result asked is (node_is_none Ran a b v w result answers)
+  -- nor is a key's
+  pub key_usage : (dice : Rolled) → spelled words ≡ Some Key → IsKeyEnd dice a.taken b.taken a.misses b.misses a.out b.out result.status → UsageAnswers a b v w words result
+  key_usage dice is ends =
+      unused words a b v w result Key is (λ usage. subst (λ (s : CommandStatus). IsKeyEnd dice a.taken b.taken a.misses b.misses a.out b.out s) usage ends)
+
+  pub node_usage : (kind : NodeKind) (Ran : List ℕ → NodeEnd → List Entry → Type 0) (asked : Asked) → spelled words ≡ Some asked → NodeAnswers kind Ran a b v w result → UsageAnswers a b v w words result
+  node_usage kind Ran asked is answers = unused words a b v w result asked is (node_is_none kind Ran a b v w result answers)
 
   -- a drill's is only where its output's count rose, and then nothing is written
   pub drill_usage : (handlers : Handlers) (command : DrillCommand) (ended : ProgramEnd) → spelled words ≡ Some (Drill command) → result.status ≡ Text ended.status

@@ -1,5 +1,6 @@
 pub mod Drills
 pub mod Ends
+pub mod Keys
 pub mod Lent
 pub mod Misread
 pub mod NodeRuns

@@ -1,14 +1,15 @@
 -- What a command answers that runs a node.
-use Rattle.std.specs.Prelude.{ℕ, ◌≡◌, ◌⊎◌, List, Option}
+use Rattle.std.specs.Prelude.{ℕ, ◌≡◌, ◌⊎◌, List, [], Option, string_bytes}
 use Rattle.cx_base.specs.Streams.{Rose, Takes, TakesFront}
 use Rattle.cx_journal.specs.JournalText.{journal_text}
 use Rattle.cx_journal.specs.declared.entries.Entry.{Entry}
 use Rattle.cx_loading.specs.declared.ends.NodeEnd.{NodeEnd}
 use Rattle.cx_loading.specs.declared.ends.NodeEnd.TheVariants as end
+use Rattle.cx_node_help.specs.Told.{script_told}
+use Rattle.cx_node_help.specs.cx_line_help.specs.declared.scripts.NodeKind.{NodeKind}
 use Rattle.cx_top.specs.Inputs.{IsPastLimit}
 use Rattle.cx_top.specs.Replays.{GaveAll}
 use Rattle.cx_top.specs.declared.status.Status.TheVariants.{ReadFault, TooLong, OutOfMemory, WriteFault}
-use Rattle.cx_commands.specs.Ends.{printed, sentence_of}
 use Rattle.cx_commands.specs.Lent.{Lent, Streams}
 use Rattle.cx_commands.specs.declared.ends.CommandEnd.{CommandEnd}
 use Rattle.cx_commands.specs.declared.ends.CommandStatus.{CommandStatus}
@@ -37,8 +38,13 @@ IsUnreadStatus left now faults faulted (Text TooLong) = IsPastLimit left now
 IsUnreadStatus left now faults faulted (Text OutOfMemory) = Unit {0}
 IsUnreadStatus left now faults faulted _ = ⊥
 
-module _ {I O K L C D : Type 0} (Ran : List ℕ → NodeEnd → List Entry → Type 0) (a b : Streams I O) (v w : Lent K L C D) (result : CommandEnd) where
-  -- its script was read to its end, the node ran so, and what it entered was written, or a front of it
+-- what is told of a node of this kind with this script that ended so: what is said of its script, or, where memory was wanting for that, nothing
+abbrev pub IsNodeTold : NodeKind → List ℕ → NodeEnd → List ℕ → Type 0
+IsNodeTold kind script ending told = (told ≡ []) ⊎ (told ≡ script_told kind script ending)
+
+module _ {I O K L C D : Type 0} (kind : NodeKind) (Ran : List ℕ → NodeEnd → List Entry → Type 0) (a b : Streams I O) (v w : Lent K L C D) (result : CommandEnd) where
+  -- its script was read to its end, the node ran so, and what it entered was written, or a front of it; what is printed is the sentence of the
+  -- status, or what is said of its script
   pub record HasRun : Type 0 where
     pub bytes : List ℕ
     pub read : GaveAll a.left b.left bytes
@@ -46,14 +52,15 @@ module _ {I O K L C D : Type 0} (Ran : List ℕ → NodeEnd → List Entry → T
     pub entries : List Entry
     pub ran : Ran bytes ending entries
     pub answers : IsAnswered ending entries a.taken b.taken a.misses b.misses a.out b.out result.status
+    pub says : IsNodeTold kind bytes ending (string_bytes result.told)
 
-  -- its script wasn't read, and nothing was written or done
+  -- its script wasn't read, and nothing was written or done; what is printed is the sentence of the status
   pub record HasNotRun : Type 0 where
     pub why : IsUnreadStatus a.left b.left a.faults b.faults result.status
     pub untaken : b.out ≡ a.out
     pub stood : w ≡ v
+    pub says : string_bytes result.told ≡ []
 
-  -- one of the two, and what is printed is the sentence of the status
-  pub record NodeAnswers : Type 0 where
-    pub ends : HasRun ⊎ HasNotRun
-    pub says : printed result ≡ sentence_of result.status
+  -- one of the two
+  abbrev pub NodeAnswers : Type 0
+  NodeAnswers = HasRun ⊎ HasNotRun

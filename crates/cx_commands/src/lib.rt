@@ -3,6 +3,7 @@
 
 mod drills;
 mod ends;
+mod keys;
 mod misread;
 mod nodes;
 mod running;

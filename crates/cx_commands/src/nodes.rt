@@ -7,7 +7,9 @@ ghost use Rattle.cx_command_line.specs.Commands.{asked_client, asked_daemon};
 ghost use Rattle.cx_desk.specs.Held.{handlers_of};
 ghost use Rattle.cx_commands.specs.Lent.{lent, streams};
 ghost use Rattle.cx_commands.specs.NodeRuns.{ClientRun, DaemonRun, MonitorRun};
-ghost use Rattle.cx_commands.specs.Nodes.{IsAnswered, NodeAnswers, unwritten};
+ghost use Rattle.cx_commands.specs.declared.ends.CommandStatus.{CommandStatus};
+ghost use Rattle.cx_commands.specs.Nodes.{IsAnswered, IsNodeTold, NodeAnswers, unwritten};
+ghost use Rattle.cx_node_help.specs.cx_line_help.specs.declared.scripts.NodeKind.TheVariants as kind;
 
 use crate::ends::{CommandEnd, CommandStatus};
 use cx_base::{Blob, Sink, Source};
@@ -20,6 +22,7 @@ use cx_journal::put_text;
 use cx_keep::Keeper;
 use cx_links::Links;
 use cx_loading::NodeEnd;
+use cx_node_help::{NodeKind, script_told};
 use cx_top::{Status, read_all};
 use std::alloc::Global;
 
@@ -35,7 +38,7 @@ pub(crate) fn monitor<I: Source, O: Sink, K: Keeper, L: Links, C: Clock, D: Dice
     dice: &mut D,
 ) -> CommandEnd
     requires { IsMonitorCommand command.now }
-    ensures ends { NodeAnswers (MonitorRun L.follows (lent keeper.old links.old clock.old dice.old) (lent keeper.new links.new clock.new dice.new)
+    ensures ends { NodeAnswers kind.Monitor (MonitorRun L.follows (lent keeper.old links.old clock.old dice.old) (lent keeper.new links.new clock.new dice.new)
         (outside (K.kept keeper.old) (K.faults keeper.old) links.old (L.faults links.old) (L.misses links.old) (C.coming clock.old) (D.coming dice.old) (D.faults dice.old))
         (outside (K.kept keeper.new) (K.faults keeper.new) links.new (L.faults links.new) (L.misses links.new) (C.coming clock.new) (D.coming dice.new) (D.faults dice.new))
         command.now)
@@ -49,8 +52,9 @@ pub(crate) fn monitor<I: Source, O: Sink, K: Keeper, L: Links, C: Clock, D: Dice
         Ok(bytes) => bytes,
         Err(unread) => return CommandEnd::plain(alloc, CommandStatus::Text(Status::from(unread))),
     };
-    let report = run_monitor(alloc, command, bytes.bytes(), keeper, links, clock, dice);
-    answers(alloc, report, out)
+    let script = bytes.bytes();
+    let report = run_monitor(alloc, command, script, keeper, links, clock, dice);
+    answers(alloc, NodeKind::Monitor, script, report, out)
 }
 
 /// Runs a client.
@@ -64,7 +68,7 @@ pub(crate) fn client<I: Source, O: Sink, K: Keeper, L: Links, C: Clock, D: Dice>
     clock: &mut C,
     dice: &mut D,
 ) -> CommandEnd
-    ensures ends { NodeAnswers (ClientRun L.follows (lent keeper.old links.old clock.old dice.old) (lent keeper.new links.new clock.new dice.new)
+    ensures ends { NodeAnswers kind.Client (ClientRun L.follows (lent keeper.old links.old clock.old dice.old) (lent keeper.new links.new clock.new dice.new)
         (outside (K.kept keeper.old) (K.faults keeper.old) links.old (L.faults links.old) (L.misses links.old) (C.coming clock.old) (D.coming dice.old) (D.faults dice.old))
         (outside (K.kept keeper.new) (K.faults keeper.new) links.new (L.faults links.new) (L.misses links.new) (C.coming clock.new) (D.coming dice.new) (D.faults dice.new))
         (asked_client command.now))
@@ -78,8 +82,9 @@ pub(crate) fn client<I: Source, O: Sink, K: Keeper, L: Links, C: Clock, D: Dice>
         Ok(bytes) => bytes,
         Err(unread) => return CommandEnd::plain(alloc, CommandStatus::Text(Status::from(unread))),
     };
-    let report = run_client(alloc, command, bytes.bytes(), keeper, links, clock, dice);
-    answers(alloc, report, out)
+    let script = bytes.bytes();
+    let report = run_client(alloc, command, script, keeper, links, clock, dice);
+    answers(alloc, NodeKind::Client, script, report, out)
 }
 
 /// Runs a daemon, whose operations are served by `desk`.
@@ -94,7 +99,7 @@ pub(crate) fn daemon<I: Source, O: Sink, K: Keeper, L: Links, C: Clock, D: Dice>
     dice: &mut D,
     desk: &Desk,
 ) -> CommandEnd
-    ensures ends { NodeAnswers (DaemonRun L.follows (lent keeper.old links.old clock.old dice.old) (lent keeper.new links.new clock.new dice.new)
+    ensures ends { NodeAnswers kind.Daemon (DaemonRun L.follows (lent keeper.old links.old clock.old dice.old) (lent keeper.new links.new clock.new dice.new)
         (outside (K.kept keeper.old) (K.faults keeper.old) links.old (L.faults links.old) (L.misses links.old) (C.coming clock.old) (D.coming dice.old) (D.faults dice.old))
         (outside (K.kept keeper.new) (K.faults keeper.new) links.new (L.faults links.new) (L.misses links.new) (C.coming clock.new) (D.coming dice.new) (D.faults dice.new))
         (handlers_of desk.now) (asked_daemon command.now))
@@ -108,23 +113,21 @@ pub(crate) fn daemon<I: Source, O: Sink, K: Keeper, L: Links, C: Clock, D: Dice>
         Ok(bytes) => bytes,
         Err(unread) => return CommandEnd::plain(alloc, CommandStatus::Text(Status::from(unread))),
     };
-    let report = run_daemon(
-        alloc,
-        command,
-        desk,
-        bytes.bytes(),
-        keeper,
-        links,
-        clock,
-        dice,
-    );
-    answers(alloc, report, out)
+    let script = bytes.bytes();
+    let report = run_daemon(alloc, command, desk, script, keeper, links, clock, dice);
+    answers(alloc, NodeKind::Daemon, script, report, out)
 }
 
 // What the node entered is written.
-fn answers<O: Sink>(alloc: Global, report: NodeReport, out: &mut O) -> CommandEnd
+fn answers<O: Sink>(
+    alloc: Global,
+    kind: NodeKind,
+    script: &[u8],
+    report: NodeReport,
+    out: &mut O,
+) -> CommandEnd
     ensures ends { IsAnswered report.end report.journal (O.taken out.old) (O.taken out.new) (O.faults out.old) (O.faults out.new) out.old out.new result.status }
-    ensures told { string_bytes result.told ≡ [] }
+    ensures told { IsNodeTold kind script.now report.end (string_bytes result.told) }
     ensures writes { O.faults out.old ≤ O.faults out.new }
 {
     let mut text = Blob::new(alloc);
@@ -132,8 +135,22 @@ fn answers<O: Sink>(alloc: Global, report: NodeReport, out: &mut O) -> CommandEn
         return CommandEnd::plain(alloc, CommandStatus::Text(Status::OutOfMemory));
     }
     match out.push(text.bytes()) {
-        Ok(()) => CommandEnd::plain(alloc, CommandStatus::Node(report.end)),
+        Ok(()) => node_ended(alloc, kind, script, report.end),
         Err(_) => CommandEnd::plain(alloc, unwritten(report.end)),
+    }
+}
+
+// With what is said of its script.
+fn node_ended(alloc: Global, kind: NodeKind, script: &[u8], end: NodeEnd) -> CommandEnd
+    ensures status { result.status ≡ CommandStatus.Node end }
+    ensures told { IsNodeTold kind script.now end (string_bytes result.told) }
+{
+    match script_told(alloc, kind, script, end) {
+        Ok(told) => CommandEnd {
+            status: CommandStatus::Node(end),
+            told,
+        },
+        Err(_) => CommandEnd::plain(alloc, CommandStatus::Node(end)),
     }
 }
 

@@ -12,12 +12,15 @@ ghost use Rattle.cx_top.specs.declared.commands.Subcommand.{Subcommand};
 ghost use Rattle.cx_commands.specs.Drills.{DrillAnswers};
 ghost use Rattle.cx_commands.specs.Lent.{lent, streams};
 ghost use Rattle.cx_commands.specs.Misread.{UsageAnswers};
+ghost use Rattle.cx_commands.specs.Keys.{KeyAnswers, rolled_from};
 ghost use Rattle.cx_commands.specs.NodeRuns.{ClientRun, DaemonRun, MonitorRun};
 ghost use Rattle.cx_commands.specs.Nodes.{NodeAnswers};
 ghost use Rattle.cx_commands.specs.Texts.{TextAnswers};
+ghost use Rattle.cx_node_help.specs.cx_line_help.specs.declared.scripts.NodeKind.TheVariants as kind;
 
 use crate::drills::drill;
 use crate::ends::CommandEnd;
+use crate::keys::key;
 use crate::misread::misread;
 use crate::nodes::{client, daemon, monitor};
 use crate::texts::text;
@@ -31,7 +34,7 @@ use cx_links::Links;
 use std::alloc::Global;
 
 /// Does what these words of the command line ask for. `replay`, `keyring` and `audit` read a text from `input` and write another to `out`; `drill` reads nothing,
-/// and writes how many entries of five kinds the journal of its schedule has; `mon`, `daemon` and `client` read a script from `input`, run a node over `keeper`, `links`, `clock` and `dice`, and write what it entered to `out`. The operations of a
+/// and writes how many entries of five kinds the journal of its schedule has; `key` writes a new key of `dice`; `mon`, `daemon` and `client` read a script from `input`, run a node over `keeper`, `links`, `clock` and `dice`, and write what it entered to `out`. The operations of a
 /// schedule, and those that come to a daemon, are served by `desk`.
 pub fn run<I: Source, O: Sink, K: Keeper, L: Links, C: Clock, D: Dice>(
     alloc: Global,
@@ -61,9 +64,15 @@ pub fn run<I: Source, O: Sink, K: Keeper, L: Links, C: Clock, D: Dice>(
         (streams input.old (I.left input.old) (I.faults input.old) out.old (O.taken out.old) (O.faults out.old))
         (streams input.new (I.left input.new) (I.faults input.new) out.new (O.taken out.new) (O.faults out.new))
         (lent keeper.old links.old clock.old dice.old) (lent keeper.new links.new clock.new dice.new) result }
+    // `key`.
+    ensures key { spelled (map (λ w. w.now) words.now) ≡ Some asked.Key
+        → KeyAnswers (rolled_from (D.coming dice.old) (D.coming dice.new) (D.faults dice.old) (D.faults dice.new))
+        (streams input.old (I.left input.old) (I.faults input.old) out.old (O.taken out.old) (O.faults out.old))
+        (streams input.new (I.left input.new) (I.faults input.new) out.new (O.taken out.new) (O.faults out.new))
+        (lent keeper.old links.old clock.old dice.old) (lent keeper.new links.new clock.new dice.new) result }
     // `mon`.
     ensures mon { (command : MonitorCommand) → spelled (map (λ w. w.now) words.now) ≡ Some (asked.Monitor command)
-        → NodeAnswers (MonitorRun L.follows (lent keeper.old links.old clock.old dice.old) (lent keeper.new links.new clock.new dice.new)
+        → NodeAnswers kind.Monitor (MonitorRun L.follows (lent keeper.old links.old clock.old dice.old) (lent keeper.new links.new clock.new dice.new)
         (outside (K.kept keeper.old) (K.faults keeper.old) links.old (L.faults links.old) (L.misses links.old) (C.coming clock.old) (D.coming dice.old) (D.faults dice.old))
         (outside (K.kept keeper.new) (K.faults keeper.new) links.new (L.faults links.new) (L.misses links.new) (C.coming clock.new) (D.coming dice.new) (D.faults dice.new))
         command)
@@ -72,7 +81,7 @@ pub fn run<I: Source, O: Sink, K: Keeper, L: Links, C: Clock, D: Dice>(
         (lent keeper.old links.old clock.old dice.old) (lent keeper.new links.new clock.new dice.new) result }
     // `daemon`.
     ensures daemon { (command : AskedDaemon) → spelled (map (λ w. w.now) words.now) ≡ Some (asked.Daemon command)
-        → NodeAnswers (DaemonRun L.follows (lent keeper.old links.old clock.old dice.old) (lent keeper.new links.new clock.new dice.new)
+        → NodeAnswers kind.Daemon (DaemonRun L.follows (lent keeper.old links.old clock.old dice.old) (lent keeper.new links.new clock.new dice.new)
         (outside (K.kept keeper.old) (K.faults keeper.old) links.old (L.faults links.old) (L.misses links.old) (C.coming clock.old) (D.coming dice.old) (D.faults dice.old))
         (outside (K.kept keeper.new) (K.faults keeper.new) links.new (L.faults links.new) (L.misses links.new) (C.coming clock.new) (D.coming dice.new) (D.faults dice.new))
         (handlers_of desk.now) command)
@@ -81,7 +90,7 @@ pub fn run<I: Source, O: Sink, K: Keeper, L: Links, C: Clock, D: Dice>(
         (lent keeper.old links.old clock.old dice.old) (lent keeper.new links.new clock.new dice.new) result }
     // `client`.
     ensures client { (command : AskedClient) → spelled (map (λ w. w.now) words.now) ≡ Some (asked.Client command)
-        → NodeAnswers (ClientRun L.follows (lent keeper.old links.old clock.old dice.old) (lent keeper.new links.new clock.new dice.new)
+        → NodeAnswers kind.Client (ClientRun L.follows (lent keeper.old links.old clock.old dice.old) (lent keeper.new links.new clock.new dice.new)
         (outside (K.kept keeper.old) (K.faults keeper.old) links.old (L.faults links.old) (L.misses links.old) (C.coming clock.old) (D.coming dice.old) (D.faults dice.old))
         (outside (K.kept keeper.new) (K.faults keeper.new) links.new (L.faults links.new) (L.misses links.new) (C.coming clock.new) (D.coming dice.new) (D.faults dice.new))
         command)
@@ -127,8 +136,13 @@ fn invoked<I: Source, O: Sink, K: Keeper, L: Links, C: Clock, D: Dice>(
         (streams input.old (I.left input.old) (I.faults input.old) out.old (O.taken out.old) (O.faults out.old))
         (streams input.new (I.left input.new) (I.faults input.new) out.new (O.taken out.new) (O.faults out.new))
         (lent keeper.old links.old clock.old dice.old) (lent keeper.new links.new clock.new dice.new) result }
+    ensures key { asked.asked invocation.entry ≡ asked.Key
+        → KeyAnswers (rolled_from (D.coming dice.old) (D.coming dice.new) (D.faults dice.old) (D.faults dice.new))
+        (streams input.old (I.left input.old) (I.faults input.old) out.old (O.taken out.old) (O.faults out.old))
+        (streams input.new (I.left input.new) (I.faults input.new) out.new (O.taken out.new) (O.faults out.new))
+        (lent keeper.old links.old clock.old dice.old) (lent keeper.new links.new clock.new dice.new) result }
     ensures mon { (command : MonitorCommand) → asked.asked invocation.entry ≡ asked.Monitor command
-        → NodeAnswers (MonitorRun L.follows (lent keeper.old links.old clock.old dice.old) (lent keeper.new links.new clock.new dice.new)
+        → NodeAnswers kind.Monitor (MonitorRun L.follows (lent keeper.old links.old clock.old dice.old) (lent keeper.new links.new clock.new dice.new)
         (outside (K.kept keeper.old) (K.faults keeper.old) links.old (L.faults links.old) (L.misses links.old) (C.coming clock.old) (D.coming dice.old) (D.faults dice.old))
         (outside (K.kept keeper.new) (K.faults keeper.new) links.new (L.faults links.new) (L.misses links.new) (C.coming clock.new) (D.coming dice.new) (D.faults dice.new))
         command)
@@ -136,7 +150,7 @@ fn invoked<I: Source, O: Sink, K: Keeper, L: Links, C: Clock, D: Dice>(
         (streams input.new (I.left input.new) (I.faults input.new) out.new (O.taken out.new) (O.faults out.new))
         (lent keeper.old links.old clock.old dice.old) (lent keeper.new links.new clock.new dice.new) result }
     ensures daemon { (command : AskedDaemon) → asked.asked invocation.entry ≡ asked.Daemon command
-        → NodeAnswers (DaemonRun L.follows (lent keeper.old links.old clock.old dice.old) (lent keeper.new links.new clock.new dice.new)
+        → NodeAnswers kind.Daemon (DaemonRun L.follows (lent keeper.old links.old clock.old dice.old) (lent keeper.new links.new clock.new dice.new)
         (outside (K.kept keeper.old) (K.faults keeper.old) links.old (L.faults links.old) (L.misses links.old) (C.coming clock.old) (D.coming dice.old) (D.faults dice.old))
         (outside (K.kept keeper.new) (K.faults keeper.new) links.new (L.faults links.new) (L.misses links.new) (C.coming clock.new) (D.coming dice.new) (D.faults dice.new))
         (handlers_of desk.now) command)
@@ -144,7 +158,7 @@ fn invoked<I: Source, O: Sink, K: Keeper, L: Links, C: Clock, D: Dice>(
         (streams input.new (I.left input.new) (I.faults input.new) out.new (O.taken out.new) (O.faults out.new))
         (lent keeper.old links.old clock.old dice.old) (lent keeper.new links.new clock.new dice.new) result }
     ensures client { (command : AskedClient) → asked.asked invocation.entry ≡ asked.Client command
-        → NodeAnswers (ClientRun L.follows (lent keeper.old links.old clock.old dice.old) (lent keeper.new links.new clock.new dice.new)
+        → NodeAnswers kind.Client (ClientRun L.follows (lent keeper.old links.old clock.old dice.old) (lent keeper.new links.new clock.new dice.new)
         (outside (K.kept keeper.old) (K.faults keeper.old) links.old (L.faults links.old) (L.misses links.old) (C.coming clock.old) (D.coming dice.old) (D.faults dice.old))
         (outside (K.kept keeper.new) (K.faults keeper.new) links.new (L.faults links.new) (L.misses links.new) (C.coming clock.new) (D.coming dice.new) (D.faults dice.new))
         command)
@@ -158,6 +172,7 @@ fn invoked<I: Source, O: Sink, K: Keeper, L: Links, C: Clock, D: Dice>(
         Invocation::Keyring => CommandEnd::of_text(text(alloc, words, input, out, desk)),
         Invocation::Audit => CommandEnd::of_text(text(alloc, words, input, out, desk)),
         Invocation::Drill(command) => CommandEnd::of_text(drill(alloc, &command, out, desk)),
+        Invocation::Key => key(alloc, out, dice),
         Invocation::Monitor(command) => monitor(
             alloc, &command, input, out, keeper, links, clock, dice,
         ),

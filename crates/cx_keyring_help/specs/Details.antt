@@ -8,7 +8,7 @@ use Rattle.cx_line_help.specs.Sights.{line_at}
 use Rattle.cx_line_words.specs.Sights.{shown_of}
 use Rattle.cx_keyring_help.specs.declared.details.Detail.{Detail}
 use Rattle.cx_keyring_help.specs.declared.details.Detail.TheVariants as detail
-use Rattle.cx_keyring_help.specs.Settings.{behind_blanks, behind_caps, behind_word, caps_count, column, looks_like_key, looks_like_schedule, opens_section, service_word, value_of, without_return, word_count}
+use Rattle.cx_keyring_help.specs.Settings.{behind_blanks, behind_caps, behind_word, caps_count, column, has_return, looks_like_auid, looks_like_caps, looks_like_journal, looks_like_key, looks_like_schedule, opens_section, service_word, value_of, without_return, word_count}
 use Rattle.cx_keyring_help.specs.Standing.{key_like_from, label_of, stood_from}
 
 -- ']' (93)
@@ -24,14 +24,24 @@ abbrev pub front_detail : List ℕ → Detail
 front_detail line =
     if is_no_text line then detail.NoText
     else if starts (239 ∷ 187 ∷ 191 ∷ []) line then detail.ByteOrderMark
+    else if has_return line then detail.ReturnInside
     else if opens_section line then bracket_detail (list_any is_closing line)
     else if looks_like_schedule line then detail.Schedule
+    else if looks_like_journal line then detail.Journal
+    else detail.Nothing
+
+-- what a line of a section may be meant for
+abbrev pub meant_for : List ℕ → Detail
+meant_for line =
+    if looks_like_key line then detail.LooksLikeKey
+    else if looks_like_caps line then detail.LooksLikeCaps
+    else if looks_like_auid line then detail.Auid
     else detail.Nothing
 
 -- the same in a section
-abbrev pub or_key_like : Detail → List ℕ → Detail
-or_key_like detail.Nothing line = if looks_like_key line then detail.LooksLikeKey else detail.Nothing
-or_key_like found line = found
+abbrev pub or_meant : Detail → List ℕ → Detail
+or_meant detail.Nothing line = meant_for line
+or_meant found line = found
 
 -- a comment begins with '#' or ';'
 abbrev pub begins_comment : List ℕ → Bool
@@ -100,7 +110,7 @@ detail_in lines number line BadService = detail.Standing (shown_of (service_word
 detail_in lines number line BadCaps = caps_in line (value_of line)
 detail_in lines number line Repeated = stood_detail line (stood_from (label_of line) number 1 0 lines)
 detail_in lines number line NoKey = meant_detail (key_like_from number 1 lines)
-detail_in lines number line Unreadable = or_key_like (front_detail line) line
+detail_in lines number line Unreadable = or_meant (front_detail line) line
 
 -- of the line of this number, from 1, in these lines, which has this fault
 abbrev pub detail_of : List (List ℕ) → ℕ → KeyringFault → Detail

@@ -1,13 +1,13 @@
--- Caps of a keyring that grant nothing.
-use Rattle.std.specs.Prelude.{ℕ, ◌==◌, Bool, false, not, ◌&&◌, ◌||◌, List, [], ◌∷◌, length, drop, codes, if◌then◌else◌}
+-- Whether a clause of caps grants something.
+use Rattle.std.specs.Prelude.{ℕ, ◌==◌, Bool, not, ◌||◌, List, [], ◌∷◌, length, drop, codes, if◌then◌else◌}
 use Rattle.std.specs.List.{take_while}
-use Rattle.cx_base.specs.Texts.{is_caps_byte, is_long_part}
+use Rattle.cx_base.specs.Texts.{is_long_part}
 use Rattle.cx_base.specs.declared.kinds.Access.{Access}
 use Rattle.cx_base.specs.declared.kinds.Access.TheVariants.{Read, Write, Exec}
 use Rattle.cx_base.specs.declared.operations.Operation.{Operation}
 use Rattle.cx_caps.specs.Reading.{cap_allows}
 use Rattle.cx_line_help.specs.Remarks.{starts}
-use Rattle.cx_keyring_help.specs.Settings.{behind_blanks, is_filling, value_of}
+use Rattle.cx_keyring_help.specs.Settings.{behind_blanks, is_filling}
 
 -- the first word of a text
 abbrev pub first_word : List ℕ → List ℕ
@@ -43,27 +43,3 @@ is_of_clause b = not (b == 44)
 
 abbrev pub clause_at : List ℕ → List ℕ
 clause_at text = take_while is_of_clause text
-
--- the byte is a comma, and the clause behind it grants something
-abbrev pub begins_granting : ℕ → List ℕ → Bool
-begins_granting b bs = (b == 44) && clause_grants (clause_at bs)
-
--- one of the clauses behind the commas of a text does
-abbrev pub grants_behind : List ℕ → Bool
-grants_behind [] = false
-grants_behind (b ∷ bs) = begins_granting b bs || grants_behind bs
-
--- some clause of a text does
-abbrev pub grants : List ℕ → Bool
-grants text = clause_grants (clause_at text) || grants_behind text
-
--- the caps of a line of caps: between quotation marks, or plain
-abbrev pub without_mark : List ℕ → List ℕ
-without_mark text = if starts (codes "\"") text then drop 1 text else text
-
-abbrev pub caps_of_line : List ℕ → List ℕ
-caps_of_line line = take_while is_caps_byte (without_mark (value_of line))
-
--- it is a line of caps that grant nothing
-abbrev pub grants_nothing : List ℕ → Bool
-grants_nothing line = starts (codes "caps") (behind_blanks line) && not (grants (caps_of_line line))

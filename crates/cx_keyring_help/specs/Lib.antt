@@ -1,3 +1,4 @@
+pub mod Clauses
 pub mod Details
 pub mod Grants
 pub mod Sentences

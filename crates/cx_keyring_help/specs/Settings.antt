@@ -1,6 +1,6 @@
 -- What stands where in a line of a keyring.
 use Rattle.std.specs.Prelude.{ℕ, ◌+◌, ◌-◌, ◌==◌, Bool, not, ◌&&◌, ◌||◌, nat_le, List, [], ◌∷◌, length, take, drop, codes, slice_index, if◌then◌else◌}
-use Rattle.std.specs.List.{take_while}
+use Rattle.std.specs.List.{list_any, take_while}
 use Rattle.cx_base.specs.Texts.{is_caps_byte}
 use Rattle.cx_keyring.specs.Lines.{is_blank}
 use Rattle.cx_line_help.specs.Remarks.{starts}
@@ -70,6 +70,29 @@ has_key_letters text =
 
 abbrev pub looks_like_key : List ℕ → Bool
 looks_like_key line = has_key_letters (behind_blanks line)
+
+-- it begins with "cap", in letters of either case
+abbrev pub has_caps_letters : List ℕ → Bool
+has_caps_letters text =
+    nat_le 3 (length text) && is_either 99 67 (slice_index text 0) && is_either 97 65 (slice_index text 1) && is_either 112 80 (slice_index text 2)
+
+abbrev pub looks_like_caps : List ℕ → Bool
+looks_like_caps line = has_caps_letters (behind_blanks line)
+
+-- it begins with a word of older keyrings
+abbrev pub looks_like_auid : List ℕ → Bool
+looks_like_auid line = starts (codes "auid") (behind_blanks line)
+
+-- a CR (13) stands in it
+abbrev pub is_return : ℕ → Bool
+is_return b = b == 13
+
+abbrev pub has_return : List ℕ → Bool
+has_return line = list_any is_return line
+
+-- it begins as lines do that stand first in a journal
+abbrev pub looks_like_journal : List ℕ → Bool
+looks_like_journal line = starts (codes "saved ") line || starts (codes "issued ") line
 
 -- it begins as lines do that stand first in a schedule: head lines, or others
 abbrev pub is_head_line : List ℕ → Bool

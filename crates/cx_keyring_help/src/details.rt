@@ -3,12 +3,13 @@
 ghost use Rattle.std.specs.Prelude.{ℕ, ◌≡◌, ◌==◌, IfOk};
 ghost use Rattle.std.specs.List.{list_any};
 ghost use Rattle.cx_words.specs.Cutting.{lines_of};
-ghost use Rattle.cx_keyring_help.specs.Details.{begins_comment, bracket_detail, caps_in, closed_detail, detail_of, front_detail, is_closing, key_behind, key_in, marked_behind, meant_detail, or_key_like, plain_behind, stood_detail};
+ghost use Rattle.cx_keyring_help.specs.Details.{begins_comment, bracket_detail, caps_in, closed_detail, detail_of, front_detail, is_closing, key_behind, key_in, marked_behind, meant_detail, meant_for, or_meant, plain_behind, stood_detail};
 ghost use Rattle.cx_keyring_help.specs.Standing.{label_of, stood_from};
 
 use crate::settings::{
-    behind, behind_blanks, behind_caps, behind_word, caps_count, column, looks_like_key,
-    looks_like_schedule, opens_section, service_word, value_of, without_return, word_count,
+    behind, behind_blanks, behind_caps, behind_word, caps_count, column, has_return,
+    looks_like_auid, looks_like_caps, looks_like_journal, looks_like_key, looks_like_schedule,
+    opens_section, service_word, value_of, without_return, word_count,
 };
 use crate::standing::{key_like_behind, label_of, stood_before};
 use cx_keyring::KeyringFault;
@@ -31,8 +32,16 @@ pub enum Detail {
     OpenSection,
     /// Something stands behind the bracket of a section.
     BehindSection,
+    /// It begins as a journal does.
+    Journal,
+    /// A CR stands in it.
+    ReturnInside,
     /// It begins as a key does.
     LooksLikeKey,
+    /// It begins as caps do.
+    LooksLikeCaps,
+    /// It begins with a word of older keyrings.
+    Auid,
     /// What stands in place of a name or a service.
     Standing(Shown),
     /// A key in quotation marks.
@@ -77,7 +86,7 @@ pub fn detail_of(
         KeyringFault::BadCaps => Ok(caps_in(line, value_of(line))),
         KeyringFault::Repeated => stood_detail(alloc, bytes, number, line),
         KeyringFault::NoKey => Ok(meant_detail(key_like_behind(bytes, number))),
-        KeyringFault::Unreadable => Ok(or_key_like(front_detail(line), line)),
+        KeyringFault::Unreadable => Ok(or_meant(front_detail(line), line)),
     }
 }
 
@@ -91,11 +100,17 @@ fn front_detail(line: &[u8]) -> Detail
     if line.starts_with(&[0xef, 0xbb, 0xbf]) {
         return Detail::ByteOrderMark;
     }
+    if has_return(line) {
+        return Detail::ReturnInside;
+    }
     if opens_section(line) {
         return bracket_detail(has_closing(line));
     }
     if looks_like_schedule(line) {
         return Detail::Schedule;
+    }
+    if looks_like_journal(line) {
+        return Detail::Journal;
     }
     Detail::Nothing
 }
@@ -118,19 +133,29 @@ fn bracket_detail(closed: bool) -> Detail
 }
 
 /// The same in a section.
-fn or_key_like(found: Detail, line: &[u8]) -> Detail
-    ensures { result ≡ or_key_like found line.now }
+fn or_meant(found: Detail, line: &[u8]) -> Detail
+    ensures { result ≡ or_meant found line.now }
 {
     match found {
-        Detail::Nothing => {
-            if looks_like_key(line) {
-                Detail::LooksLikeKey
-            } else {
-                Detail::Nothing
-            }
-        }
+        Detail::Nothing => meant_for(line),
         other => other,
     }
+}
+
+/// What a line of a section may be meant for.
+fn meant_for(line: &[u8]) -> Detail
+    ensures { result ≡ meant_for line.now }
+{
+    if looks_like_key(line) {
+        return Detail::LooksLikeKey;
+    }
+    if looks_like_caps(line) {
+        return Detail::LooksLikeCaps;
+    }
+    if looks_like_auid(line) {
+        return Detail::Auid;
+    }
+    Detail::Nothing
 }
 
 fn begins_comment(text: &[u8]) -> bool

@@ -1,76 +1,16 @@
-//! Caps of a keyring that grant nothing.
+//! Whether a clause of caps grants something.
 
 ghost use Rattle.std.specs.Prelude.{◌≡◌, length, IfOk};
-ghost use Rattle.cx_keyring_help.specs.Grants.{ask_for, begins_granting, caps_of_line, clause_at, clause_grants, first_word, grants, grants_behind, grants_nothing, is_of_clause, part_in, without_mark, word_behind};
+ghost use Rattle.cx_keyring_help.specs.Grants.{ask_for, clause_at, clause_grants, first_word, is_of_clause, part_in, word_behind};
 ghost use Rattle.cx_caps.specs.Reading.{cap_allows};
 
-use crate::settings::{behind, behind_blanks, caps_count, front, starts, value_of, word_count};
+use crate::settings::{behind, behind_blanks, front, starts, word_count};
 use cx_base::{Access, Blob, Operation, Text, is_long_part};
 use cx_caps::CapText;
 use std::alloc::{AllocError, Global};
 
-/// Whether a line of a keyring has caps that grant nothing.
-pub fn grants_nothing(alloc: Global, line: &[u8]) -> Result<bool, AllocError>
-    ensures { IfOk result (λ is. is ≡ grants_nothing line.now) }
-{
-    if !behind_blanks(line).starts_with(b"caps") {
-        return Ok(false);
-    }
-    let granted = grants(alloc, caps_of_line(line))?;
-    Ok(!granted)
-}
-
-/// The caps of a line of caps: between quotation marks, or plain.
-fn caps_of_line(line: &[u8]) -> &[u8]
-    ensures { result.now ≡ caps_of_line line.now }
-{
-    let text = without_mark(value_of(line));
-    front(text, caps_count(text))
-}
-
-fn without_mark(text: &[u8]) -> &[u8]
-    ensures { result.now ≡ without_mark text.now }
-{
-    if text.starts_with(b"\"") {
-        return behind(text, 1);
-    }
-    text
-}
-
-/// Whether some clause of a text grants something.
-fn grants(alloc: Global, text: &[u8]) -> Result<bool, AllocError>
-    ensures { IfOk result (λ is. is ≡ grants text.now) }
-{
-    if clause_grants(alloc, clause_at(text))? {
-        return Ok(true);
-    }
-    grants_behind(alloc, text)
-}
-
-fn grants_behind(alloc: Global, text: &[u8]) -> Result<bool, AllocError>
-    ensures { IfOk result (λ is. is ≡ grants_behind text.now) }
-{
-    let mut rest = text;
-    while let [b, after @ ..] = rest {
-        if begins_granting(alloc, *b, after)? {
-            return Ok(true);
-        }
-        rest = after;
-    }
-    Ok(false)
-}
-
-fn begins_granting(alloc: Global, b: u8, after: &[u8]) -> Result<bool, AllocError>
-    ensures { IfOk result (λ is. is ≡ begins_granting b after.now) }
-{
-    if b != b',' {
-        return Ok(false);
-    }
-    clause_grants(alloc, clause_at(after))
-}
-
 /// The clause with which a text begins, up to a comma.
-fn clause_at(text: &[u8]) -> &[u8]
+pub(crate) fn clause_at(text: &[u8]) -> &[u8]
     ensures { result.now ≡ clause_at text.now }
 {
     front(text, clause_count(text))
@@ -89,7 +29,7 @@ fn is_of_clause(b: u8) -> bool
 }
 
 /// Whether the clause grants something: a read, a write or an exec that meets its conditions.
-fn clause_grants(alloc: Global, clause: &[u8]) -> Result<bool, AllocError>
+pub(crate) fn clause_grants(alloc: Global, clause: &[u8]) -> Result<bool, AllocError>
     ensures { IfOk result (λ is. is ≡ clause_grants clause.now) }
 {
     let caps = caps_text(alloc, clause)?;
@@ -102,7 +42,12 @@ fn clause_grants(alloc: Global, clause: &[u8]) -> Result<bool, AllocError>
     allows(alloc, &caps, clause, Access::Exec)
 }
 
-fn allows(alloc: Global, caps: &CapText, clause: &[u8], access: Access) -> Result<bool, AllocError>
+pub(crate) fn allows(
+    alloc: Global,
+    caps: &CapText,
+    clause: &[u8],
+    access: Access,
+) -> Result<bool, AllocError>
     ensures { IfOk result (λ is. is ≡ cap_allows caps.now (ask_for clause.now access)) }
 {
     let ask = ask_for(alloc, clause, access)?;
@@ -110,7 +55,7 @@ fn allows(alloc: Global, caps: &CapText, clause: &[u8], access: Access) -> Resul
 }
 
 /// The capability text of a clause. Where it were none, the answer would be want of memory: a keyring that is read has no other.
-fn caps_text(alloc: Global, clause: &[u8]) -> Result<CapText, AllocError>
+pub(crate) fn caps_text(alloc: Global, clause: &[u8]) -> Result<CapText, AllocError>
     ensures { IfOk result (λ caps. caps ≡ clause.now) }
 {
     let Ok(text) = Text::of(alloc, clause) else {
@@ -149,7 +94,7 @@ fn part_in(alloc: Global, word: &[u8]) -> Result<Text, AllocError>
 }
 
 /// The word behind the first of these texts in a clause.
-fn word_behind<'a>(key: &str, clause: &'a [u8]) -> &'a [u8]
+pub(crate) fn word_behind<'a>(key: &str, clause: &'a [u8]) -> &'a [u8]
     ensures { result.now ≡ word_behind key.now clause.now }
 {
     let mut rest = clause;
@@ -163,7 +108,7 @@ fn word_behind<'a>(key: &str, clause: &'a [u8]) -> &'a [u8]
 }
 
 /// The first word of a text.
-fn first_word(text: &[u8]) -> &[u8]
+pub(crate) fn first_word(text: &[u8]) -> &[u8]
     ensures { result.now ≡ first_word text.now }
 {
     let filled = behind_blanks(text);

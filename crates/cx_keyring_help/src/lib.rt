@@ -1,14 +1,15 @@
-//! What a user reads of a line of a keyring that is wrong.
+//! What a user reads of a line of a keyring that is wrong, and of the caps of entities.
 #![tactic(auto)]
 
+mod clauses;
 mod details;
 mod grants;
 mod sentences;
 mod settings;
 mod standing;
 
+pub use clauses::{caps_told, ring_told};
 pub use details::{Detail, detail_of};
-pub use grants::grants_nothing;
 pub use sentences::WrongInKeyring;
 pub use settings::starts;
 

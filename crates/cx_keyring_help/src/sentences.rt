@@ -59,7 +59,29 @@ impl fmt::Display for Detail {
                 " (something stands behind the bracket, which ends the line of a section; a comment stands on a line of its \
                 own)"
             ),
-            Detail::LooksLikeKey => write!(f, " (it looks like a key; write key = before it)"),
+            Detail::Journal => {
+                write!(
+                    f,
+                    " (this looks like a journal, which cephx_cli audit reads)"
+                )
+            }
+            Detail::ReturnInside => write!(
+                f,
+                " (a CR stands in it, as the line ends of an old Mac; end each line with an LF)"
+            ),
+            Detail::LooksLikeKey => write!(
+                f,
+                " (it looks like a key, whose line is key = TEXT, with small letters and an equals sign)"
+            ),
+            Detail::LooksLikeCaps => write!(
+                f,
+                " (it looks like caps, whose line is caps SERVICE = TEXT, with small letters and an equals sign, as in caps osd = \
+                \"allow rw pool=rbd\")"
+            ),
+            Detail::Auid => write!(
+                f,
+                " (auid is of older keyrings, and isn't kept here; leave the line out)"
+            ),
             Detail::Standing(shown) => write!(f, " (there stands {})", Word(shown)),
             Detail::KeyInMarks => {
                 write!(f, " (it stands in quotation marks; write it without them)")
@@ -83,7 +105,10 @@ impl fmt::Display for Detail {
             }
             Detail::CapsAt(shown, number) => write!(f, "{}", CapsAt(shown, *number)),
             Detail::KeyLikeAt(number) => {
-                write!(f, " (line {number} looks like one; write key = before it)")
+                write!(
+                    f,
+                    " (line {number} looks like one; its form is key = TEXT, with small letters and an equals sign)"
+                )
             }
         }
     }
@@ -120,6 +145,15 @@ impl fmt::Display for KeyLength {
                 f,
                 " (it has 40 characters, as a key has, and one of them or more was changed)"
             );
+        }
+        if self.0 == 60 {
+            return write!(
+                f,
+                " (it has 60 characters, as keys of AES-256 have, which aren't served; cephx_cli key writes one of AES-128)"
+            );
+        }
+        if self.0 == 1 {
+            return write!(f, " (it has 1 character)");
         }
         write!(f, " (it has {} characters)", self.0)
     }

@@ -1,11 +1,11 @@
 //! What stands where in a line of a keyring.
 
 ghost use Rattle.std.specs.Prelude.{◌≡◌, ◌≤◌, ◌==◌, not, ◌&&◌, drop, length, take};
-ghost use Rattle.std.specs.List.{take_while};
+ghost use Rattle.std.specs.List.{list_any, take_while};
 ghost use Rattle.cx_base.specs.Texts.{is_caps_byte};
 ghost use Rattle.cx_keyring.specs.Lines.{is_blank};
 ghost use Rattle.cx_line_help.specs.Remarks.{starts};
-ghost use Rattle.cx_keyring_help.specs.Settings.{behind_blanks, behind_caps, behind_word, blanks, caps_count, column, first_name, has_key_letters, is_before_equals, is_either, is_filling, is_first_step, is_head_line, is_of_name, looks_like_key, looks_like_schedule, opens_section, service_word, value_of, without_return, word_count};
+ghost use Rattle.cx_keyring_help.specs.Settings.{behind_blanks, behind_caps, behind_word, blanks, caps_count, column, first_name, has_caps_letters, has_key_letters, has_return, is_return, looks_like_auid, looks_like_caps, looks_like_journal, is_before_equals, is_either, is_filling, is_first_step, is_head_line, is_of_name, looks_like_key, looks_like_schedule, opens_section, service_word, value_of, without_return, word_count};
 
 use cx_base::is_caps_byte;
 
@@ -176,6 +176,49 @@ fn is_either(small: u8, large: u8, b: u8) -> bool
     ensures { result ≡ is_either small large b }
 {
     b == small || b == large
+}
+
+/// Whether it begins with `cap`, in letters of either case.
+pub(crate) fn looks_like_caps(line: &[u8]) -> bool
+    ensures { result ≡ looks_like_caps line.now }
+{
+    has_caps_letters(behind_blanks(line))
+}
+
+fn has_caps_letters(text: &[u8]) -> bool
+    ensures { result ≡ has_caps_letters text.now }
+{
+    text.len() >= 3
+        && is_either(b'c', b'C', text[0])
+        && is_either(b'a', b'A', text[1])
+        && is_either(b'p', b'P', text[2])
+}
+
+/// Whether it begins with a word of older keyrings.
+pub(crate) fn looks_like_auid(line: &[u8]) -> bool
+    ensures { result ≡ looks_like_auid line.now }
+{
+    starts(behind_blanks(line), "auid")
+}
+
+/// Whether a CR stands in it.
+pub(crate) fn has_return(line: &[u8]) -> bool
+    ensures { result ≡ has_return line.now }
+{
+    line.iter().any(|b| is_return(*b))
+}
+
+fn is_return(b: u8) -> bool
+    ensures { result ≡ is_return b }
+{
+    b == b'\r'
+}
+
+/// Whether it begins as lines do that stand first in a journal.
+pub(crate) fn looks_like_journal(line: &[u8]) -> bool
+    ensures { result ≡ looks_like_journal line.now }
+{
+    starts(line, "saved ") || starts(line, "issued ")
 }
 
 /// Whether it begins as lines do that stand first in a schedule.

@@ -1,5 +1,6 @@
 pub mod Forms
 pub mod Hints
+pub mod Kin
 pub mod Misfits
 pub mod Problems
 pub mod Remarks

@@ -7,6 +7,7 @@ use Rattle.cx_lines.specs.declared.sight.BadWord.{BadWord}
 use Rattle.cx_line_words.specs.declared.faults.LineFault.{LineFault}
 use Rattle.cx_line_words.specs.declared.faults.LineFault.TheVariants.{UnknownWord, Missing, Extra, Order}
 use Rattle.cx_line_help.specs.Forms.{form_text}
+use Rattle.cx_line_help.specs.Kin.{or_kin}
 use Rattle.cx_line_help.specs.Problems.{problem_as}
 use Rattle.cx_line_help.specs.Remarks.{beside_text}
 use Rattle.cx_line_help.specs.Words.{word_text}
@@ -42,7 +43,7 @@ problem_text bad problem beside form =
 
 -- by the fault
 abbrev pub wrong_as : LineFault → BadWord → List ℕ → List ℕ
-wrong_as UnknownWord bad beside = unknown_text bad beside first_words_text
+wrong_as UnknownWord bad beside = unknown_text bad (or_kin beside bad.shown) first_words_text
 wrong_as Missing bad beside = missing_text bad beside (form_text bad.form)
 wrong_as Extra bad beside = extra_text bad beside (form_text bad.form)
 wrong_as Order bad beside = order_text bad

@@ -3,6 +3,7 @@
 
 mod forms;
 mod hints;
+mod kin;
 mod misfits;
 mod problems;
 mod remarks;
@@ -11,10 +12,11 @@ mod sights;
 mod words;
 mod wrong;
 
+pub use kin::or_kin;
 pub use remarks::{Remark, beside, is_no_text};
-pub use scripts::WrongInScript;
+pub use scripts::{NodeKind, WrongInScript};
 pub use sights::{LineSight, line_at, sight_of};
-pub use words::{Byte, Word};
+pub use words::{Byte, Word, has_leading_zero};
 pub use wrong::Wrong;
 
 // It goes to another thread, and is seen by several.
@@ -23,6 +25,7 @@ fn is_sendable<T: Send + Sync>() {}
 fn sentences_are_sendable() {
     is_sendable::<Wrong<'_>>();
     is_sendable::<WrongInScript<'_>>();
+    is_sendable::<NodeKind>();
     is_sendable::<Byte>();
     is_sendable::<Word<'_>>();
     is_sendable::<LineSight>();

@@ -89,7 +89,8 @@ fn hex_digit(n: u8) -> u8
     if n < 10 { 48 + n } else { 87 + n }
 }
 
-pub(crate) fn has_leading_zero(shown: &Shown) -> bool
+/// Whether it is a number of two digits or more that begins with 0.
+pub fn has_leading_zero(shown: &Shown) -> bool
     ensures { result ≡ has_leading_zero shown.now }
 {
     shown.length > 1 && shown.bytes[0] == b'0' && are_digits(shown)
@@ -144,7 +145,7 @@ pub(crate) fn is_monitor_word(shown: &Shown) -> bool
 }
 
 /// The bytes that are shown.
-fn front(shown: &Shown) -> &[u8]
+pub(crate) fn front(shown: &Shown) -> &[u8]
     ensures { result.now ≡ front shown.now }
 {
     let length = shown.length.min(40);

@@ -4,6 +4,7 @@ ghost use Rattle.std.specs.Prelude.{◌≡◌};
 ghost use Rattle.cx_line_help.specs.Wrong.{first_words_text};
 
 use crate::forms::form;
+use crate::kin::or_kin;
 use crate::problems::problem;
 use crate::remarks::beside;
 use crate::sights::LineSight;
@@ -27,7 +28,10 @@ impl fmt::Display for Wrong<'_> {
         let bad = &self.0.bad;
         let beside = beside(self.0.remark, bad.hint);
         match bad.fault.why {
-            LineFault::UnknownWord => write!(f, "{}", Unknown(bad, beside, first_words())),
+            LineFault::UnknownWord => {
+                let beside = or_kin(beside, &bad.shown);
+                write!(f, "{}", Unknown(bad, beside, first_words()))
+            }
             LineFault::Missing => write!(f, "{}", Missing(bad, beside, form(bad.form))),
             LineFault::Extra => write!(f, "{}", Extra(bad, beside, form(bad.form))),
             LineFault::Order => write!(

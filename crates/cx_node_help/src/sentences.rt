@@ -5,7 +5,7 @@ ghost use Rattle.cx_node_help.specs.Sentences.{no_memory};
 
 use cx_keyring::KeyringRefusal;
 use cx_keyring_help::{Detail, WrongInKeyring};
-use cx_line_help::WrongInScript;
+use cx_line_help::{LineSight, NodeKind, WrongInScript};
 use cx_loading::{NodeEnd, Unloaded};
 use cx_schedule::ScheduleRefusal;
 use std::fmt;
@@ -29,7 +29,7 @@ impl fmt::Display for Ending {
                 "links failed: the node could not listen at its address, or the system gave no news of its links; see whether \
                 another program listens there"
             ),
-            NodeEnd::Dice => write!(f, "the system gave no random bytes, and the node ended"),
+            NodeEnd::Dice => write!(f, "the system gave no random bytes, and the command ended"),
             NodeEnd::Keeper => write!(
                 f,
                 "the monitor's state could not be saved, and nothing of that step was sent; see that this folder may be written and \
@@ -97,10 +97,33 @@ impl fmt::Display for OfScript<'_> {
                 "the script is too long: at most 1,048,576 bytes and 20,000 lines are read"
             ),
             ScheduleRefusal::BadLine { line, bad } => {
-                write!(f, "line {} of the script: {}", line, WrongInScript(bad))
+                let sight = LineSight {
+                    bad: *bad,
+                    remark: None,
+                };
+                write!(f, "{}", WrongScript(None, *line, &sight))
             }
             ScheduleRefusal::OutOfMemory => write!(f, "{}", no_memory()),
         }
+    }
+}
+
+/// A line of the script of a node of this kind, where that is told, that is none, by its number and what is told of it.
+#[derive(Clone, Copy)]
+pub struct WrongScript<'a>(pub Option<NodeKind>, pub u32, pub &'a LineSight);
+
+impl fmt::Display for WrongScript<'_> {
+    ghost use Rattle.std.specs.Prelude.{Some};
+    ghost use Rattle.cx_node_help.specs.Sentences.{script_line_text};
+
+    ghost output = { λ wrong. Some (script_line_text wrong.0 wrong.1 wrong.2.now) };
+
+    fn fmt<W: fmt::Write>(&self, f: &mut fmt::Formatter<W>) -> fmt::Result {
+        let wrong = WrongInScript {
+            kind: self.0,
+            sight: self.2,
+        };
+        write!(f, "line {} of the script: {}", self.1, wrong)
     }
 }
 

@@ -1,7 +1,7 @@
 //! Scripts of nodes: that those of each kind of node are read, and which fault of which word a bad line has, with its sentence.
 
 use cx_base::{Duplicate, EntityName};
-use cx_line_help::WrongInScript;
+use cx_line_help::{LineSight, WrongInScript};
 use cx_line_words::LineFault;
 use cx_schedule::{NodeLine, NodeScript, ScheduleRefusal, read_node};
 use std::alloc::Global;
@@ -110,7 +110,7 @@ static BAD_SCRIPTS: [Bad; 24] = [
         3,
         LineFault::UnknownWord,
         1,
-        "its first word, `fetch`, begins no line; a line of a node's script begins with fetch, login, renew, connect, send, drop, \
+        "its first word, `fetch`, begins no line (a daemon's script has such lines, which cephx_cli daemon reads); a line of a node's script begins with fetch, login, renew, connect, send, drop, \
         gone or stop, one of the monitor's with gone or stop, and a comment with #",
     ),
     (
@@ -119,7 +119,7 @@ static BAD_SCRIPTS: [Bad; 24] = [
         1,
         LineFault::UnknownWord,
         1,
-        "its first word, `tick`, begins no line; a line of a node's script begins with fetch, login, renew, connect, send, drop, \
+        "its first word, `tick`, begins no line (a schedule has such lines, which cephx_cli replay reads); a line of a node's script begins with fetch, login, renew, connect, send, drop, \
         gone or stop, one of the monitor's with gone or stop, and a comment with #",
     ),
     (
@@ -128,7 +128,7 @@ static BAD_SCRIPTS: [Bad; 24] = [
         1,
         LineFault::UnknownWord,
         1,
-        "its first word, `do`, begins no line; a line of a node's script begins with fetch, login, renew, connect, send, drop, \
+        "its first word, `do`, begins no line (a schedule has such lines, which cephx_cli replay reads); a line of a node's script begins with fetch, login, renew, connect, send, drop, \
         gone or stop, one of the monitor's with gone or stop, and a comment with #",
     ),
     (
@@ -324,7 +324,12 @@ fn is_bad(rt: &impl Abort, alloc: Global, row: &Bad) -> bool {
     let (node, text, number, why, word, sentence) = *row;
     match refusal(rt, alloc, node, text) {
         Some(ScheduleRefusal::BadLine { line, bad }) => {
-            let told = format!(in alloc; "{}", WrongInScript(&bad)).expect(rt, "memory is ample");
+            let sight = LineSight { bad, remark: None };
+            let wrong = WrongInScript {
+                kind: None,
+                sight: &sight,
+            };
+            let told = format!(in alloc; "{}", wrong).expect(rt, "memory is ample");
             line == number
                 && bad.fault.why == why
                 && bad.fault.word == word

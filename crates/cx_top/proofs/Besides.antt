@@ -11,6 +11,7 @@ use Rattle.cx_lines.specs.declared.sight.BadWord.{BadWord}
 use Rattle.cx_replay.specs.Serving.{IsReplayOf, idle_lines, told}
 use Rattle.cx_schedule.specs.Files.{Lines}
 use Rattle.cx_words.specs.Cutting.{IsShort, lines_of}
+use Rattle.cx_top.specs.Notes.{schedule_told}
 use Rattle.cx_top.specs.Replays.{Replays}
 use Rattle.cx_top.specs.Sentences.{bad_line_text}
 use Rattle.cx_top.specs.Told.{line_told, refusal_told, run_told}
@@ -24,7 +25,7 @@ bad_line_told bytes line bad sight said says is = says ∙ ap (λ (s : LineSight
 -- a replay with what is said of it
 pub replay_made : (handlers : Handlers) (bytes : List ℕ) (is_broken : Bool) (text said : List ℕ) (script : List Numbered) (journal : List Entry) (found : Option Broken) (idle : ℕ)
     → Lines bytes script → IsShort bytes → IsReplayOf handlers script journal found → is_broken ≡ is_some found
-    → text ≡ journal_text (told journal found) → said ≡ run_told found idle → idle ≡ idle_lines handlers script → Replays handlers bytes is_broken text said
+    → text ≡ journal_text (told journal found) → said ≡ schedule_told script ++ run_told found idle → idle ≡ idle_lines handlers script → Replays handlers bytes is_broken text said
 replay_made handlers bytes is_broken text said script journal found idle lines short replayed tells written says is = record {
   script = script;
   lines = lines;
@@ -34,5 +35,5 @@ replay_made handlers bytes is_broken text said script journal found idle lines s
   replayed = replayed;
   tells = tells;
   written = written;
-  besides = says ∙ ap (λ (n : ℕ). run_told found n) is;
+  besides = says ∙ ap (λ (n : ℕ). schedule_told script ++ run_told found n) is;
 }

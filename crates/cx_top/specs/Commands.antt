@@ -7,7 +7,7 @@ use Rattle.cx_base.specs.Streams.{Takes, TakesFront}
 use Rattle.cx_desk.specs.Handlers.{Handlers}
 use Rattle.cx_keyring.specs.declared.entries.Entry.{Entry}
 use Rattle.cx_keyring.specs.Rings.{KeyringText, printed_keyring}
-use Rattle.cx_words.specs.Cutting.{IsShort, lines_of}
+use Rattle.cx_words.specs.Cutting.{IsShort}
 use Rattle.cx_top.specs.Audits.{verdict_told}
 use Rattle.cx_top.specs.Notes.{ring_told}
 use Rattle.cx_top.specs.declared.commands.Subcommand.{Subcommand}
@@ -20,15 +20,15 @@ command_word Replay = codes "replay"
 command_word Keyring = codes "keyring"
 command_word Audit = codes "audit"
 
--- the bytes are a keyring within the limits, of at most 4,096 entries, and the text is its printed form; each line whose caps
--- grant nothing is said besides
+-- the bytes are a keyring within the limits, of at most 4,096 entries, and the text is its printed form; what each clause of its caps
+-- grants, or why it grants nothing, is said besides
 pub record Prints (bytes text told : List ℕ) : Type 0 where
   pub ring : List Entry
   pub keyring : KeyringText bytes ring
   pub few : length ring ≤ 4096
   pub short : IsShort bytes
   pub written : text ≡ printed_keyring ring
-  pub besides : told ≡ ring_told 1 (lines_of bytes)
+  pub besides : told ≡ ring_told bytes
 
 -- the bytes are the text of a journal within the limits, this is the line of what is said of it, and the rule that it breaks is said besides
 pub record Audits (bytes text told : List ℕ) : Type 0 where

@@ -1,18 +1,25 @@
--- What is said on standard error of a keyring that is read: each line of it whose caps grant nothing.
-use Rattle.std.specs.Prelude.{ℕ, ◌+◌, List, [], ◌∷◌, ◌++◌, codes, if◌then◌else◌}
-use Rattle.std.specs.Fmt.{decimal}
-use Rattle.cx_base.specs.Joined.{◌<>◌}
-use Rattle.cx_keyring_help.specs.Grants.{grants_nothing}
-use Rattle.cx_top.specs.Told.{line_told}
+-- What is said on standard error of the caps of entities: of a keyring that is read each clause, of a schedule those that grant nothing.
+use Rattle.std.specs.Prelude.{ℕ, true, false, List, []}
+use Rattle.std.specs.List.{flat_map}
+use Rattle.cx_keyring_help.specs.Clauses.{caps_told, lines_told}
+use Rattle.cx_lines.specs.declared.lines.Line.{Line}
+use Rattle.cx_lines.specs.declared.lines.Line.TheVariants as line
+use Rattle.cx_lines.specs.declared.lines.Numbered.{Numbered}
+use Rattle.cx_lines.specs.declared.settings.Setting.TheVariants as setting
+use Rattle.cx_words.specs.Cutting.{lines_of}
 
-abbrev pub ungranting_text : ℕ → List ℕ
-ungranting_text number =
-    codes "line " <> decimal number <> codes " of the keyring has caps that grant nothing: none of their clauses is one of those that docs/caps.md says"
+-- of each clause of a keyring of these bytes: what it grants, or why it grants nothing
+abbrev pub ring_told : List ℕ → List ℕ
+ring_told bytes = lines_told true [] (lines_of bytes)
 
-abbrev pub note_of : ℕ → List ℕ → List ℕ
-note_of number line = if grants_nothing line then line_told (ungranting_text number) else []
+-- of the clauses of a line that grant nothing: why
+abbrev pub dead_in : Line → List ℕ
+dead_in (line.Setting (setting.Entity name grants)) = caps_told false name grants
+dead_in _ = []
 
--- of these lines, of which the first has this number
-abbrev pub ring_told : ℕ → List (List ℕ) → List ℕ
-ring_told number [] = []
-ring_told number (line ∷ lines) = note_of number line ++ ring_told (number + 1) lines
+abbrev pub dead_at : Numbered → List ℕ
+dead_at numbered = dead_in numbered.line
+
+-- of those of a schedule
+abbrev pub schedule_told : List Numbered → List ℕ
+schedule_told script = flat_map dead_at script

@@ -8,6 +8,7 @@ use Rattle.cx_journal.specs.declared.entries.Entry.{Entry}
 use Rattle.cx_journal.specs.declared.premises.Broken.{Broken}
 use Rattle.cx_journal.specs.JournalText.{journal_text}
 use Rattle.cx_replay.specs.Serving.{IsReplayOf, idle_lines, told}
+use Rattle.cx_top.specs.Notes.{schedule_told}
 use Rattle.cx_top.specs.Told.{run_told}
 
 -- where the source tells what it had and has left: it gave these bytes in between
@@ -22,7 +23,8 @@ GaveAll None now bytes = Unit {0}
 GaveAll (Some left) now bytes = (bytes ≡ left) × (now ≡ Some [])
 
 -- the bytes are a schedule within the limits. The text is that of the journal of its run over these handlers, and behind it, where
--- a premise is broken, the first breach; what is said besides tells that breach, and how many lines of the schedule did nothing
+-- a premise is broken, the first breach; what is said besides tells each clause of caps that grants nothing, that breach, and how many lines of the
+-- schedule did nothing
 pub record Replays (handlers : Handlers) (bytes : List ℕ) (is_broken : Bool) (text told_besides : List ℕ) : Type 0 where
   pub script : List Numbered
   pub lines : Lines bytes script
@@ -32,4 +34,4 @@ pub record Replays (handlers : Handlers) (bytes : List ℕ) (is_broken : Bool) (
   pub replayed : IsReplayOf handlers script journal found
   pub tells : is_broken ≡ is_some found
   pub written : text ≡ journal_text (told journal found)
-  pub besides : told_besides ≡ run_told found (idle_lines handlers script)
+  pub besides : told_besides ≡ schedule_told script ++ run_told found (idle_lines handlers script)

@@ -30,5 +30,5 @@ status_text OutOfMemory =
     codes "memory was wanting, and nothing was written; give the program more memory, or a shorter input"
 status_text TooLong =
     codes "the input is too long: at most 1,048,576 bytes and 20,000 lines are read; cut it into files of their own"
-status_text (BadJournal line bad) = wrong_in_journal_text line bad
+status_text (BadJournal line bad) = wrong_in_journal_text line [] bad
 status_text Broken = codes "a premise of the run is broken"

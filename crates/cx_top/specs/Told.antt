@@ -3,6 +3,7 @@
 use Rattle.std.specs.Prelude.{ℕ, ◌==◌, Bool, true, false, List, [], ◌∷◌, codes, Option, Some, None, if◌then◌else◌}
 use Rattle.std.specs.Fmt.{decimal}
 use Rattle.std.specs.Str.{bytes_eq}
+use Rattle.cx_audit_help.specs.Wrong.{wrong_in_journal_text}
 use Rattle.cx_base.specs.Joined.{◌<>◌}
 use Rattle.cx_base.specs.Nodes.{node_text}
 use Rattle.cx_journal.specs.Words.{key_kind_word}
@@ -37,7 +38,7 @@ refusal_told bytes WriteFault = []
 refusal_told bytes OutOfMemory = []
 refusal_told bytes BrokenStatus = []
 refusal_told bytes TooLong = []
-refusal_told bytes (BadJournal line bad) = []
+refusal_told bytes (BadJournal line bad) = line_told (wrong_in_journal_text line (line_at (lines_of bytes) line) bad)
 
 -- ---- wrong words of the command line
 

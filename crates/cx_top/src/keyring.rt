@@ -8,9 +8,9 @@ ghost use Rattle.cx_top.specs.declared.commands.Subcommand.TheVariants.{Keyring}
 ghost use Rattle.cx_top.specs.declared.status.Status.{Status};
 
 use crate::commands::Made;
-use crate::notes::ring_told;
 use crate::status::Status;
 use cx_keyring::{parse, print};
+use cx_keyring_help::ring_told;
 use cx_words::is_short;
 use std::alloc::Global;
 
@@ -26,7 +26,7 @@ pub fn printed(alloc: Global, bytes: &[u8]) -> Result<Made, Status>
     }
     let ring = parse(alloc, bytes)?;
     let text = print(alloc, &ring)?;
-    let told = ring_told(alloc, bytes)?;
+    let told = ring_told(alloc, true, bytes)?;
     Ok(Made {
         text,
         is_broken: false,

@@ -1,41 +1,47 @@
-//! What is said of a keyring that is read.
+//! What is said of the caps of a schedule.
 
-ghost use Rattle.std.specs.Prelude.{◌≡◌, ◌++◌, IfOk, OnOk, string_bytes};
-ghost use Rattle.cx_words.specs.Cutting.{lines_of};
-ghost use Rattle.cx_top.specs.Notes.{note_of, ring_told};
+ghost use Rattle.std.specs.Prelude.{◌≡◌, ◌++◌, IfOk, string_bytes};
+ghost use Rattle.cx_top.specs.Notes.{dead_in, schedule_told};
+ghost use Rattle.cx_top.specs.Told.{run_told};
 
-use crate::sentences::Ungranting;
-use cx_keyring_help::grants_nothing;
-use cx_words::first_line;
+use crate::told::run_told;
+use cx_journal::Broken;
+use cx_keyring_help::caps_told;
+use cx_lines::{Line, Numbered, Setting};
 use std::alloc::{AllocError, Global};
 
-/// What is said of a keyring that is read: each line of it whose caps grant nothing.
-pub fn ring_told(alloc: Global, bytes: &[u8]) -> Result<String, AllocError>
-    ensures { IfOk result (λ told. string_bytes told ≡ ring_told 1 (lines_of bytes.now)) }
+/// What is said of a schedule and its run: the clauses of caps that grant nothing, the first breach of its premises, and how many of its lines did
+/// nothing.
+pub fn replay_told(
+    alloc: Global,
+    lines: &[Numbered],
+    broken: &Option<Broken>,
+    idle: u64,
+) -> Result<String, AllocError>
+    ensures { IfOk result (λ told. string_bytes told ≡ schedule_told lines.now ++ run_told broken.now idle) }
+{
+    let mut told = schedule_told(alloc, lines)?;
+    let run = run_told(alloc, broken, idle)?;
+    told.push_str(&run)?;
+    Ok(told)
+}
+
+fn schedule_told(alloc: Global, lines: &[Numbered]) -> Result<String, AllocError>
+    ensures { IfOk result (λ told. string_bytes told ≡ schedule_told lines.now) }
 {
     let mut told = String::new(alloc);
-    let mut number: u64 = 1;
-    let mut rest = bytes;
-    'lines: while let Some((line, after)) = first_line(rest) {
-        push_note(alloc, &mut told, number, line)?;
-        number += 1;
-        rest = after;
+    for numbered in lines {
+        let dead = dead_in(alloc, &numbered.line)?;
+        told.push_str(&dead)?;
     }
     Ok(told)
 }
 
-fn push_note(alloc: Global, into: &mut String, number: u64, line: &[u8]) -> Result<(), AllocError>
-    ensures { OnOk result (string_bytes into.new ≡ string_bytes into.old ++ note_of number line.now) }
+fn dead_in(alloc: Global, line: &Line) -> Result<String, AllocError>
+    ensures { IfOk result (λ told. string_bytes told ≡ dead_in line.now) }
 {
-    let note = note_of(alloc, number, line)?;
-    into.push_str(&note)
-}
-
-fn note_of(alloc: Global, number: u64, line: &[u8]) -> Result<String, AllocError>
-    ensures { IfOk result (λ note. string_bytes note ≡ note_of number line.now) }
-{
-    if grants_nothing(alloc, line)? {
-        return format!(in alloc; "cephx_cli: {}\n", Ungranting(number));
+    match line {
+        Line::Setting(Setting::Entity(name, grants)) => caps_told(alloc, false, name, grants.all()),
+        _ => Ok(String::new(alloc)),
     }
-    Ok(String::new(alloc))
 }

@@ -9,8 +9,8 @@ ghost use Rattle.cx_top.specs.declared.commands.Subcommand.TheVariants.{Replay};
 ghost use Rattle.cx_top.specs.declared.status.Status.{Status};
 
 use crate::commands::Made;
+use crate::notes::replay_told;
 use crate::status::Status;
-use crate::told::run_told;
 use cx_base::Blob;
 use cx_desk::Desk;
 use cx_replay::put_report;
@@ -26,7 +26,7 @@ pub fn replayed(alloc: Global, bytes: &[u8], desk: &Desk) -> Result<Made, Status
     let script = cx_schedule::read(alloc, bytes)?;
     let report = cx_replay::replay(alloc, &script, desk)?;
     let is_broken = report.broken.is_some();
-    let told = run_told(alloc, &report.broken, report.idle)?;
+    let told = replay_told(alloc, script.lines(), &report.broken, report.idle)?;
     let mut text = Blob::new(alloc);
     put_report(alloc, report, &mut text)?;
     Ok(Made {

@@ -64,7 +64,8 @@ impl fmt::Display for Status {
             ),
             Status::BadJournal { line, bad } => {
                 let wrong = WrongInJournal {
-                    line: *line,
+                    number: *line,
+                    line: &[],
                     bad: *bad,
                 };
                 write!(f, "{}", wrong)
@@ -209,25 +210,6 @@ impl fmt::Display for IdleTold {
             return Ok(());
         }
         write!(f, "cephx_cli: {}\n", Idle(self.0))
-    }
-}
-
-/// A line of a keyring whose caps grant nothing.
-#[derive(Clone, Copy)]
-pub(crate) struct Ungranting(pub(crate) u64);
-
-impl fmt::Display for Ungranting {
-    ghost use Rattle.std.specs.Prelude.{Some};
-    ghost use Rattle.cx_top.specs.Notes.{ungranting_text};
-
-    ghost output = { λ line. Some (ungranting_text line.0) };
-
-    fn fmt<W: fmt::Write>(&self, f: &mut fmt::Formatter<W>) -> fmt::Result {
-        write!(
-            f,
-            "line {} of the keyring has caps that grant nothing: none of their clauses is one of those that docs/caps.md says",
-            self.0
-        )
     }
 }
 

@@ -12,8 +12,9 @@ use crate::program_end::ProgramEnd;
 use crate::sentences::{BreachTold, ExtraWord, IdleTold, OfSchedule};
 use crate::status::Status;
 use cx_audit::Verdict;
-use cx_audit_help::BreachInJournal;
+use cx_audit_help::{BreachInJournal, WrongInJournal};
 use cx_journal::Broken;
+use cx_journal_lines::WrongLine;
 use cx_keyring::KeyringFault;
 use cx_keyring_help::{WrongInKeyring, detail_of};
 use cx_line_help::{LineSight, line_at, sight_of};
@@ -40,6 +41,7 @@ fn refusal_told(alloc: Global, bytes: &[u8], status: Status) -> Result<String, A
             line,
             why: Some(why),
         } => bad_keyring(alloc, bytes, line, why),
+        Status::BadJournal { line, bad } => bad_journal(alloc, bytes, line, bad),
         _ => Ok(String::new(alloc)),
     }
 }
@@ -68,6 +70,17 @@ fn bad_keyring(
 {
     let detail = detail_of(alloc, bytes, line, why)?;
     format!(in alloc; "cephx_cli: {}\n", WrongInKeyring { line, why, detail })
+}
+
+fn bad_journal(alloc: Global, bytes: &[u8], line: u64, bad: WrongLine) -> Result<String, AllocError>
+    ensures { IfOk result (λ told. string_bytes told ≡ refusal_told bytes.now (Status.BadJournal line bad)) }
+{
+    let wrong = WrongInJournal {
+        number: line,
+        line: line_at(bytes, line),
+        bad,
+    };
+    format!(in alloc; "cephx_cli: {}\n", wrong)
 }
 
 #[tactic(auto, using(crate::proofs::Causes::says_it, crate::proofs::Causes::says_nothing))]

@@ -1,9 +1,10 @@
 use Rattle.std.proofs.Common.{Some, ap, inr, map, refl, sym, ◌∙◌}
 use Rattle.cx_command_line.specs.Commands as asked
 use Rattle.cx_desk.specs.Held.{handlers_of}
+use Rattle.cx_node_help.specs.cx_line_help.specs.declared.scripts.NodeKind.TheVariants as kind
 use Rattle.cx_top.specs.declared.commands.Subcommand.TheVariants as text
 use Rattle.cx_commands.proofs.NodeEnds.{client_ended, daemon_ended, monitor_ended}
-use Rattle.cx_commands.proofs.Words.{drill_ended, drill_usage, node_usage, spelled_drill, spelled_monitor, text_usage}
+use Rattle.cx_commands.proofs.Words.{drill_ended, drill_usage, key_usage, node_usage, spelled_drill, spelled_monitor, text_usage}
 use Rattle.cx_commands.proofs.running.invoked.Goals as goal
 
 -- ---- those that read a text
@@ -66,6 +67,22 @@ returns-in-Drill-clause-drill g c = λ command is.
     drill_ended (handlers_of c.args.desk.now) _ _ _ _ c.of_text-in-Drill.result c.in-Drill.command command c.drill.result
     (sym (ap asked.asked c.in-Drill.is) ∙ is) c.of_text-in-Drill.ensures.status c.of_text-in-Drill.ensures.told c.drill.ensures.ends refl refl
 
+-- ---- a key
+
+pub returns-in-Key-clause-usage : goal.returns-in-Key-clause-usage
+returns-in-Key-clause-usage g c =
+    key_usage (map (λ w. w.now) c.args.words.now) _ _ _ _ c.key.result _ (c.requires ∙ ap (λ i. Some (asked.asked i)) c.in-Key.is) c.key.ensures.ends
+
+pub returns-in-Key-clause-key : goal.returns-in-Key-clause-key
+returns-in-Key-clause-key g c = λ is. record {
+  ends = c.key.ensures.ends;
+  told = c.key.ensures.told;
+  unread = refl;
+  keeper = refl;
+  links = refl;
+  clock = refl;
+}
+
 -- ---- nodes
 
 pub monitor-requires : goal.monitor-requires
@@ -74,17 +91,17 @@ monitor-requires g c =
 
 pub returns-in-Monitor-clause-usage : goal.returns-in-Monitor-clause-usage
 returns-in-Monitor-clause-usage g c =
-    node_usage (map (λ w. w.now) c.args.words.now) _ _ _ _ c.monitor.result _ (asked.Monitor c.in-Monitor.command)
+    node_usage (map (λ w. w.now) c.args.words.now) _ _ _ _ c.monitor.result kind.Monitor _ (asked.Monitor c.in-Monitor.command)
     (c.requires ∙ ap (λ i. Some (asked.asked i)) c.in-Monitor.is) c.monitor.ensures.ends
 
 pub returns-in-Daemon-clause-usage : goal.returns-in-Daemon-clause-usage
 returns-in-Daemon-clause-usage g c =
-    node_usage (map (λ w. w.now) c.args.words.now) _ _ _ _ c.daemon.result _ (asked.Daemon (asked.asked_daemon c.in-Daemon.command))
+    node_usage (map (λ w. w.now) c.args.words.now) _ _ _ _ c.daemon.result kind.Daemon _ (asked.Daemon (asked.asked_daemon c.in-Daemon.command))
     (c.requires ∙ ap (λ i. Some (asked.asked i)) c.in-Daemon.is) c.daemon.ensures.ends
 
 pub returns-in-Client-clause-usage : goal.returns-in-Client-clause-usage
 returns-in-Client-clause-usage g c =
-    node_usage (map (λ w. w.now) c.args.words.now) _ _ _ _ c.client.result _ (asked.Client (asked.asked_client c.in-Client.command))
+    node_usage (map (λ w. w.now) c.args.words.now) _ _ _ _ c.client.result kind.Client _ (asked.Client (asked.asked_client c.in-Client.command))
     (c.requires ∙ ap (λ i. Some (asked.asked i)) c.in-Client.is) c.client.ensures.ends
 
 pub returns-in-Monitor-clause-mon : goal.returns-in-Monitor-clause-mon

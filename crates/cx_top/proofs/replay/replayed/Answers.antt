@@ -22,4 +22,4 @@ returns-clause-makes g c =
     c.in_ok-script.script c.in_ok-report.report.journal c.in_ok-report.report.broken c.in_ok-report.report.idle
     c.in_ok-script.ensures.found c.in_ok-script.ensures.short c.in_ok-report.ensures.replayed c.is_some-is_broken.ensures
     (c.in_ok-put_report.ensures.ok ∙ ap (λ (text : List ℕ). text ++ journal_text (told c.in_ok-report.report.journal c.in_ok-report.report.broken)) c.new-text.ensures)
-    c.in_ok-told.ensures c.in_ok-report.ensures.idle
+    (rw c.lines.ensures at c.in_ok-told.ensures) c.in_ok-report.ensures.idle
